@@ -1,0 +1,53 @@
+-- The order of use with an object taken out and put at its end.
+use Rattle.std.proofs.Common.{◌≡◌, ℕ, Bool, true, false, cond, not, ◌&&◌, ◌||◌, ◌==◌, List, [], ◌∷◌, ◌++◌, refl, sym, ap, ◌∙◌, AllPairs, eqb-true, eq-eqb}
+use Rattle.std.proofs.lemmas.Bool.{false≢true, not-true}
+use Rattle.std.proofs.lemmas.List.Quantifiers.{all_pairs_push}
+use Rattle.w16_model.specs.Prefix.{is_member}
+use Rattle.w16_model.specs.Edit.{without}
+use Rattle.w16_model.proofs.Gaps.{Each-from, All-from_Each, EachPair-from_AllPairs, AllPairs-from_EachPair, member_filter, pairs_filter}
+
+member_end : (q id : ℕ) (ids : List ℕ) → is_member q (ids ++ id ∷ []) ≡ (is_member q ids || (id == q))
+member_end q id [] = or_none (id == q)
+  where
+    or_none : (b : Bool) → (b || false) ≡ b
+    or_none true = refl
+    or_none false = refl
+member_end q id (x ∷ ids) = ap (λ b. (x == q) || b) (member_end q id ids) ∙ or_assoc (x == q) (is_member q ids) (id == q)
+  where
+    or_assoc : (a b c : Bool) → (a || (b || c)) ≡ ((a || b) || c)
+    or_assoc true b c = refl
+    or_assoc false b c = refl
+
+truth : (a b c d e : Bool) → c ≡ (d && not e) → (a ≡ true → b ≡ true → e ≡ true) → (b ≡ true → e ≡ true → a ≡ true) → cond (not a) (b || c) c ≡ ((b || d) && not e)
+truth true true c d e h f g = h ∙ ap (λ v. d && not v) (f refl refl) ∙ none d ∙ sym (ap not (f refl refl))
+  where
+    none : (d : Bool) → (d && not true) ≡ false
+    none true = refl
+    none false = refl
+truth true false c d e h f g = h
+truth false true c d true h f g = absurd (false≢true (g refl refl))
+truth false true c d false h f g = refl
+truth false false c d e h f g = h
+
+member_choice : (q x : ℕ) (w : List ℕ) (t : Bool) → is_member q (cond {A = List ℕ} t (x ∷ w) w) ≡ cond t ((x == q) || is_member q w) (is_member q w)
+member_choice q x w true = refl
+member_choice q x w false = refl
+
+pub member_without : (q id : ℕ) (ids : List ℕ) → is_member q (without id ids) ≡ (is_member q ids && not (q == id))
+member_without q id [] = refl
+member_without q id (x ∷ ids) =
+    member_choice q x (without id ids) (not (x == id))
+    ∙ truth (x == id) (x == q) (is_member q (without id ids)) (is_member q ids) (q == id) (member_without q id ids)
+    (λ e f. eq-eqb q id (sym (eqb-true x q f) ∙ eqb-true x id e)) (λ e f. eq-eqb x id (eqb-true x q e ∙ eqb-true q id f))
+
+-- at the end of the order, and only there
+pub member_newest : (q id : ℕ) (ids : List ℕ) → is_member q (without id ids ++ id ∷ []) ≡ ((is_member q ids && not (q == id)) || (id == q))
+member_newest q id ids = member_end q id (without id ids) ∙ ap (λ b. b || (id == q)) (member_without q id ids)
+
+-- taken out and put at the end, none stands twice
+pub newest_differ : (id : ℕ) (ids : List ℕ) → AllPairs (λ a b. a ≡ b → ⊥) ids → AllPairs (λ a b. a ≡ b → ⊥) (without id ids ++ id ∷ [])
+newest_differ id ids h =
+    all_pairs_push (λ a b. a ≡ b → ⊥) (without id ids) id
+    (AllPairs-from_EachPair (λ a b. a ≡ b → ⊥) (without id ids) (pairs_filter (λ a b. a ≡ b → ⊥) (λ q. not (q == id)) ids (EachPair-from_AllPairs (λ a b. a ≡ b → ⊥) ids h)))
+    (All-from_Each (λ q. q ≡ id → ⊥) (without id ids) (Each-from (λ q. q ≡ id → ⊥) (without id ids) (λ q m e.
+    false≢true (sym (not-true (q == id) (member_filter (λ q. not (q == id)) ids q m).1) ∙ eq-eqb q id e))))

@@ -1,0 +1,102 @@
+-- The heap of a table has the table's blocks.
+use Rattle.std.proofs.Common.{◌≡◌, ℕ, zero, suc, get_or, ◌+◌, ◌≤◌, ◌<◌, true, false, cond, ◌==◌, IsSomeAnd, List, [], ◌∷◌, map, length, slice_range, Option, Some, None, option_map, unwrap_or, refl, sym, ap, ◌∙◌, subst, arith, inl, inr, eqb-true, eq-eqb, ne_eqb, length-take, length-drop}
+use Rattle.std.specs.Ordering.{nat_cmp, eq_by_cmp}
+use Rattle.std.specs.Cmp.{nat_cmp_total}
+use Rattle.std.specs.FinMap as finmap
+use Rattle.std.specs.FinMap.{get-from_entries}
+use Rattle.std.specs.FinMap.Entries.{find as find_key}
+use Rattle.std.proofs.lemmas.Bool.{false≢true}
+use Rattle.w16_model.specs.declared.Block.{Block}
+use Rattle.w16_model.specs.Gap.{block_end}
+use Rattle.w16_model.specs.Heap.{Object, object_at}
+use Rattle.w16_model.specs.Table.{Table, IsTable, heap_in, object_in, block_with, entry_at, hold_in, objects_from}
+use Rattle.w16_model.specs.declared.Entry.{Entry}
+use Rattle.w16_model.proofs.Gaps.{EachPair, Member, Each-at, Each-from_All, EachPair-from_AllPairs}
+use Rattle.w16_model.proofs.Heaps.{IsBlockOf, tied_itself, untied}
+use Rattle.w16_model.proofs.Places.{same_id}
+use Rattle.w16_model.proofs.Laid.{laid_each}
+
+-- a member is the block with its id
+pub with_member : (xs : List Block) (x : Block) → EachPair (λ x y. x.id ≡ y.id → ⊥) xs → Member x xs → block_with xs x.id ≡ Some x
+with_member [] x d m = absurd m
+with_member (y ∷ xs) x d (inl e) = ap (λ b. cond b (Some y) (block_with xs x.id)) (eq-eqb y.id x.id (ap (λ (z : Block). z.id) (sym e))) ∙ ap Some (sym e)
+with_member (y ∷ xs) x d (inr m) =
+    ap (λ b. cond b (Some y) (block_with xs x.id)) (ne_eqb y.id x.id (Each-at (λ (z : Block). y.id ≡ z.id → ⊥) xs d.0 x m)) ∙ with_member xs x d.1 m
+
+pub member_with : (xs : List Block) (id : ℕ) (x : Block) → block_with xs id ≡ Some x → Member x xs × (x.id ≡ id)
+member_with [] id x h = cc
+member_with (y ∷ xs) id x h =
+    elim (y.id == id) as (λ b. (y.id == id) ≡ b → cond b (Some y) (block_with xs id) ≡ Some x → Member x (y ∷ xs) × (x.id ≡ id)) [
+      | true ↦ λ t e. let same : y ≡ x = cc in (inl (sym same), ap (λ (z : Block). z.id) (sym same) ∙ eqb-true y.id id t)
+      | false ↦ λ t e. let r : Member x xs × (x.id ≡ id) = member_with xs id x e in (inr r.0, r.1)
+    ] refl h
+
+place_with : (xs : List Block) (id : ℕ) → find_key nat_cmp id (map (λ (x : Block). (x.id, x.at)) xs) ≡ option_map (λ (x : Block). x.at) (block_with xs id)
+place_with [] id = refl
+place_with (y ∷ xs) id =
+    elim (y.id == id) as (λ b. (y.id == id) ≡ b → cond (eq_by_cmp nat_cmp id y.id) (Some y.at) (find_key nat_cmp id (map (λ (x : Block). (x.id, x.at)) xs)) ≡ option_map (λ (x : Block). x.at) (cond b (Some y) (block_with xs id))) [
+      | true ↦ λ t. ap (λ b. cond b (Some y.at) (find_key nat_cmp id (map (λ (x : Block). (x.id, x.at)) xs))) (ap (λ k. eq_by_cmp nat_cmp id k) (eqb-true y.id id t) ∙ tied_itself id)
+      | false ↦ λ t. ap (λ b. cond b (Some y.at) (find_key nat_cmp id (map (λ (x : Block). (x.id, x.at)) xs))) (untied id y.id (λ e. false≢true (sym t ∙ eq-eqb y.id id (sym e)))) ∙ place_with xs id
+    ] refl
+
+pub length_range : (xs : List ℕ) (a n : ℕ) → a + n ≤ length xs → length (slice_range xs a (a + n)) ≡ n
+length_range xs a n h = simp (length-take, length-drop) (omega arith)
+
+module _ (xs : List Block) (memory : List ℕ) where
+  objects_above : (i : ℕ) (es : List (Option Entry)) (q : ℕ) → q < i → find_key nat_cmp q (objects_from xs memory i es) ≡ None
+  objects_above i [] q lt = refl
+  objects_above i (None ∷ es) q lt = objects_above (i + 1) es q (omega arith)
+  objects_above i (Some e ∷ es) q lt = ap (λ b. cond b (Some (object_in xs memory i e)) (find_key nat_cmp q (objects_from xs memory (i + 1) es))) (untied q i (λ f. absurd (omega arith))) ∙ objects_above (i + 1) es q (omega arith)
+
+  objects_found : (i : ℕ) (es : List (Option Entry)) (q j : ℕ) → q ≡ i + j → find_key nat_cmp q (objects_from xs memory i es) ≡ option_map (object_in xs memory q) (get_or es j None)
+  objects_found i [] q j e = refl
+  objects_found i (None ∷ es) q zero e = objects_above (i + 1) es q (omega arith)
+  objects_found i (Some d ∷ es) q zero e =
+      ap (λ b. cond b (Some (object_in xs memory i d)) (find_key nat_cmp q (objects_from xs memory (i + 1) es))) (ap (λ k. eq_by_cmp nat_cmp q k) (let s : i ≡ q = omega arith in s) ∙ tied_itself q)
+      ∙ ap (λ (k : ℕ). Some (object_in xs memory k d)) (let s : i ≡ q = omega arith in s)
+  objects_found i (None ∷ es) q (suc j) e = objects_found (i + 1) es q j (omega arith)
+  objects_found i (Some d ∷ es) q (suc j) e =
+      ap (λ b. cond b (Some (object_in xs memory i d)) (find_key nat_cmp q (objects_from xs memory (i + 1) es))) (untied q i (λ f. absurd (omega arith))) ∙ objects_found (i + 1) es q j (omega arith)
+
+module _ (t : Table) (is : IsTable t) (memory : List ℕ) (whole : t.hi ≤ length memory) where
+  pub object_is : (id : ℕ) → object_at (heap_in t memory) id ≡ option_map (object_in t.blocks memory id) (entry_at t id)
+  object_is id = get-from_entries nat_cmp_total (objects_from t.blocks memory 0 t.entries) id ∙ objects_found t.blocks memory 0 t.entries id id (omega arith)
+
+  pub place_is : (id : ℕ) → finmap.get (heap_in t memory).places id ≡ option_map (λ (x : Block). x.at) (block_with t.blocks id)
+  place_is id = get-from_entries nat_cmp_total (map (λ (x : Block). (x.id, x.at)) t.blocks) id ∙ place_with t.blocks id
+
+  pairs : EachPair (λ x y. x.id ≡ y.id → ⊥) t.blocks
+  pairs = EachPair-from_AllPairs (λ x y. x.id ≡ y.id → ⊥) t.blocks is.ids
+
+  pub table_block : (x : Block) → Member x t.blocks → IsBlockOf (heap_in t memory) x
+  table_block x m = from (entry_at t x.id) refl (Each-at (λ x. IsSomeAnd (entry_at t x.id) (λ e. x.hold ≡ hold_in e)) t.blocks (Each-from_All _ t.blocks is.holds) x m)
+    where
+      here : block_with t.blocks x.id ≡ Some x
+      here = with_member t.blocks x pairs m
+
+      high : block_end x ≤ t.hi
+      high = (Each-at (λ x. (t.lo ≤ x.at) × (0 < x.size) × (block_end x ≤ t.hi)) t.blocks (laid_each t.lo t.hi t.blocks is.laid) x m).2
+
+      from : (o : Option Entry) → entry_at t x.id ≡ o → IsSomeAnd o (λ e. x.hold ≡ hold_in e) → IsBlockOf (heap_in t memory) x
+      from None e h = absurd h
+      from (Some e) is_e h = record {
+        object = object_in t.blocks memory x.id e;
+        bytes = slice_range memory x.at (x.at + x.size);
+        is_there = object_is x.id ∙ ap (option_map (object_in t.blocks memory x.id)) is_e;
+        has_bytes = ap (option_map (λ (x : Block). slice_range memory x.at (x.at + x.size))) here;
+        place = sym (ap (λ p. unwrap_or p 0) (place_is x.id ∙ ap (option_map (λ (x : Block). x.at)) here));
+        size = sym (length_range memory x.at x.size (omega (arith, high, whole)));
+        hold = h;
+      }
+
+  pub block_table : (x : Block) → IsBlockOf (heap_in t memory) x → Member x t.blocks
+  block_table x b = from (entry_at t x.id) (block_with t.blocks x.id) refl refl
+    where
+      from : (o : Option Entry) (y : Option Block) → entry_at t x.id ≡ o → block_with t.blocks x.id ≡ y → Member x t.blocks
+      from None y p q = let none : ◌≡◌ {A = Option Object} None (Some b.object) = sym (object_is x.id ∙ ap (option_map (object_in t.blocks memory x.id)) p) ∙ b.is_there in cc
+      from (Some e) None p q =
+          let same : object_in t.blocks memory x.id e ≡ b.object = (let some : ◌≡◌ {A = Option Object} (Some (object_in t.blocks memory x.id e)) (Some b.object) = sym (object_is x.id ∙ ap (option_map (object_in t.blocks memory x.id)) p) ∙ b.is_there in cc) in
+          let none : ◌≡◌ {A = Option (List ℕ)} None (Some b.bytes) = sym (ap (option_map (λ (x : Block). slice_range memory x.at (x.at + x.size))) q) ∙ ap (λ (o : Object). o.bytes) same ∙ b.has_bytes in cc
+      from (Some e) (Some y) p q =
+          let found : Member y t.blocks × (y.id ≡ x.id) = member_with t.blocks x.id y q in
+          subst (λ z. Member z t.blocks) (same_id (heap_in t memory) y x (table_block y found.0) b found.1) found.0

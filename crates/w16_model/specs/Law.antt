@@ -1,0 +1,131 @@
+-- The laws that show the definitions to be the right ones. Each is the contract of a function of the module `laws`.
+use Rattle.std.specs.Prelude.{◌≡◌, ◌≢◌, ℕ, ◌+◌, ◌-◌, ◌<◌, ◌≤◌, ◌↔◌, Bool, true, IsSomeAnd, List, take, map, length, All, Contains, Option, Some, None, is_some}
+use Rattle.w16_model.specs.declared.Block.{Block}
+use Rattle.w16_model.specs.declared.Span.{Span}
+use Rattle.w16_model.specs.declared.Way.{Way}
+use Rattle.w16_model.specs.declared.Hold.TheVariants.{Pinned}
+use Rattle.w16_model.specs.declared.Kind.TheVariants.{Discardable}
+use Rattle.w16_model.specs.Gap.{is_pinned, is_any, room, longest_hole, hole_after, gaps, holes, loose_bytes, block_end, IsGap, IsHole, IsGapOf, ArePlaced}
+use Rattle.w16_model.specs.Arrangement.{IsArrangement, IsFreeStretch}
+use Rattle.w16_model.specs.Prefix.{eligible, is_member, blocks_without, needed, room_for}
+use Rattle.w16_model.specs.Heap.{Heap, Object, IsHeap, blocks, object_at}
+use Rattle.w16_model.specs.Edit.{with_ordered}
+use Rattle.w16_model.specs.Request.{Settles, discarded, stays_for}
+use Rattle.w16_model.specs.Table.{Table, IsTable, IsSound, heap_in, IsSameOutside}
+use Rattle.w16_model.specs.World.{World, IsWorld, slot_of_handle, slot_of_selector, handle_of, selector_of}
+use Rattle.w16_model.specs.Machine.{Command, Reply, Step, IsCommand}
+
+-- Gaps and holes.
+
+-- the list has each maximal interval without a block that passes the test, and nothing else
+pub record AreAllOf (test : Block → Bool) (lo hi : ℕ) (xs : List Block) (spans : List Span) : Type 0 where
+  pub each : (a b : ℕ) → IsGapOf test lo hi xs a b → Contains spans (record { from = a; to = b })
+  pub only : All (λ s. IsGapOf test lo hi xs s.from s.to) spans
+
+abbrev pub GapListLaw : Type 0
+GapListLaw = (lo hi : ℕ) (xs : List Block) → ArePlaced lo hi xs → AreAllOf is_pinned lo hi xs (gaps lo hi xs) × AreAllOf is_any lo hi xs (holes lo hi xs)
+
+-- no hole is longer than the longest, and one is as long; it is 0 where there is none
+pub record HoleIsLongest (lo hi : ℕ) (xs : List Block) : Type 0 where
+  pub none_longer : (a b : ℕ) → IsHole lo hi xs a b → b - a ≤ longest_hole lo hi xs
+  pub one_as_long : 0 < longest_hole lo hi xs → (a : ℕ) × (b : ℕ) × IsHole lo hi xs a b × (b - a ≡ longest_hole lo hi xs)
+
+abbrev pub LongestHoleLaw : Type 0
+LongestHoleLaw = (lo hi : ℕ) (xs : List Block) → ArePlaced lo hi xs → HoleIsLongest lo hi xs
+
+-- the hole directly after a block is the one that begins at its end
+abbrev pub HoleAfterLaw : Type 0
+HoleAfterLaw = (lo hi : ℕ) (xs : List Block) → ArePlaced lo hi xs →
+    All (λ x. (n : ℕ) → 0 < n → IsHole lo hi xs (block_end x) (block_end x + n) ↔ (hole_after hi xs (block_end x) ≡ n)) xs
+
+-- the longest hole is the room where every block is pinned
+abbrev pub all_pinned : List Block → List Block
+all_pinned xs = map (λ (x : Block). record x { hold = Pinned }) xs
+
+abbrev pub PinnedLaw : Type 0
+PinnedLaw = (lo hi : ℕ) (xs : List Block) → longest_hole lo hi xs ≡ room lo hi (all_pinned xs)
+
+-- Room.
+
+-- room is the largest, over all gaps, of a gap's length less the sizes of its loose blocks, and 0 where there is no gap
+pub record RoomIsLargest (lo hi : ℕ) (xs : List Block) : Type 0 where
+  pub each_gap : (a b : ℕ) → IsGap lo hi xs a b → b - a - loose_bytes xs a b ≤ room lo hi xs
+  pub some_gap : 0 < room lo hi xs → (a : ℕ) × (b : ℕ) × IsGap lo hi xs a b × (b - a - loose_bytes xs a b ≡ room lo hi xs)
+
+abbrev pub LargestLaw : Type 0
+LargestLaw = (lo hi : ℕ) (xs : List Block) → ArePlaced lo hi xs → RoomIsLargest lo hi xs
+
+-- room is the length of the longest free stretch of any arrangement, and 0 where there is none
+pub record RoomIsLongest (lo hi : ℕ) (xs : List Block) : Type 0 where
+  pub none_longer : (place : Block → ℕ) (a b : ℕ) → IsArrangement lo hi xs place → IsFreeStretch lo hi xs place a b → b - a ≤ room lo hi xs
+  pub one_as_long : 0 < room lo hi xs → (place : Block → ℕ) × (a : ℕ) × (b : ℕ) × IsArrangement lo hi xs place × IsFreeStretch lo hi xs place a b × (b - a ≡ room lo hi xs)
+
+abbrev pub RoomLaw : Type 0
+RoomLaw = (lo hi : ℕ) (xs : List Block) → ArePlaced lo hi xs → RoomIsLongest lo hi xs
+
+-- there is no less room in a longer range
+abbrev pub LongerLaw : Type 0
+LongerLaw = (lo hi end : ℕ) (xs : List Block) → ArePlaced lo hi xs → hi ≤ end → room lo hi xs ≤ room lo end xs
+
+-- Discards.
+
+-- no way to slide the blocks that k discards leave, without h, gives n free bytes in a row
+abbrev pub NoStretch : ℕ → ℕ → List Block → List ℕ → ℕ → Option ℕ → ℕ → Type 0
+NoStretch lo hi xs order k h n =
+    let left = blocks_without xs (take k (eligible xs order h)) h in
+    (place : Block → ℕ) (a b : ℕ) → IsArrangement lo hi left place → IsFreeStretch lo hi left place a b → b - a < n
+
+-- fewer discards than are needed never serve, and where none are enough no number serves
+pub record DiscardsAreLeast (lo hi : ℕ) (xs : List Block) (order : List ℕ) (n : ℕ) (h : Option ℕ) : Type 0 where
+  pub fewer : (k j : ℕ) → needed lo hi xs order n h ≡ Some k → j < k → NoStretch lo hi xs order j h n
+  pub none : (j : ℕ) → needed lo hi xs order n h ≡ None → NoStretch lo hi xs order j h n
+
+abbrev pub LeastLaw : Type 0
+LeastLaw = (lo hi : ℕ) (xs : List Block) (order : List ℕ) → ArePlaced lo hi xs → (n : ℕ) (h : Option ℕ) → DiscardsAreLeast lo hi xs order n h
+
+-- more discards never leave less room
+abbrev pub MoreDiscardsLaw : Type 0
+MoreDiscardsLaw = (lo hi : ℕ) (xs : List Block) (order : List ℕ) (h : Option ℕ) (j k : ℕ) → j ≤ k → room_for lo hi xs order j h ≤ room_for lo hi xs order k h
+
+-- once the first k are discarded the room is what was promised
+abbrev pub DiscardedLaw : Type 0
+DiscardedLaw = (heap : Heap) (k : ℕ) (h : Option ℕ) →
+    let new = discarded heap k h in
+    room_for new.lo new.hi (blocks new) new.order 0 h ≡ room_for heap.lo heap.hi (blocks heap) heap.order k h
+
+-- Requests.
+
+-- What a step leaves of each object that it isn't about: those that it discards are discardable and not locked, and lose their bytes alone;
+-- every other keeps its kind, its locks and its bytes.
+pub record KeepsOthers (old : Heap) (h : Option ℕ) (k : ℕ) (new : Heap) : Type 0 where
+  pub kept : (q : ℕ) → h ≢ Some q → is_member q (take k (eligible (blocks old) old.order h)) ≢ true → object_at new q ≡ object_at old q
+  pub discarded : (q : ℕ) → is_member q (take k (eligible (blocks old) old.order h)) ≡ true →
+      IsSomeAnd (object_at old q) (λ o. (o.kind ≡ Discardable) × (o.locks ≡ 0) × (is_some o.bytes ≡ true) × (object_at new q ≡ Some (record o { bytes = None })))
+
+-- a request about h, and a compaction, leave every other object so
+abbrev pub OthersLaw : Type 0
+OthersLaw = (old new : Heap) → IsHeap old → (k : ℕ)
+    → ((h : ℕ) (way : Way) (o : Object) (order : List ℕ → List ℕ) → Settles old (stays_for h way) (with_ordered (discarded old k (Some h)) h o order) new → KeepsOthers old (Some h) k new)
+    × (Settles old is_pinned (discarded old k None) new → KeepsOthers old None k new)
+
+-- Tables and memories.
+
+-- a sound table stands for a heap, in any memory of bytes that has its range
+abbrev pub SoundLaw : Type 0
+SoundLaw = (t : Table) (memory : List ℕ) → IsSound t → t.hi ≤ length memory → All (λ b. b < 256) memory → IsHeap (heap_in t memory)
+
+-- a heap isn't touched where memory changes outside its range alone
+abbrev pub RangeLaw : Type 0
+RangeLaw = (t : Table) (lo hi : ℕ) (memory after : List ℕ) → IsTable t → IsSameOutside lo hi memory after → (t.hi ≤ lo → heap_in t after ≡ heap_in t memory) × (hi ≤ t.lo → heap_in t after ≡ heap_in t memory)
+
+-- The world.
+
+-- the look-ups of handles and selectors find the object that has them, and no other
+abbrev pub NamesLaw : Type 0
+NamesLaw = (world : World) (name slot : ℕ)
+    → ((slot_of_handle world name ≡ Some slot) ↔ IsSomeAnd (object_at world.heap slot) (λ o. name ≡ handle_of o.kind slot))
+    × ((slot_of_selector world name ≡ Some slot) ↔ IsSomeAnd (object_at world.heap slot) (λ _. name ≡ selector_of slot))
+
+-- each step keeps what holds of every world: no two objects share a byte, and the rest
+abbrev pub WorldLaw : Type 0
+WorldLaw = (old new : World) (command : Command) (reply : Reply) → IsWorld old → IsCommand command → Step old command reply new → IsWorld new

@@ -1,0 +1,11 @@
+pub mod Gap
+pub mod Arrangement
+pub mod Prefix
+pub mod Heap
+pub mod Edit
+pub mod Request
+pub mod Single
+pub mod World
+pub mod Machine
+pub mod Law
+pub mod Table

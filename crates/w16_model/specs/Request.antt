@@ -1,0 +1,141 @@
+-- The steps of a heap that ask for room. They may choose addresses, and what new bytes are where they needn't be zero.
+use Rattle.std.specs.Prelude.{◌≡◌, ℕ, ◌+◌, ◌-◌, ◌<◌, ◌⊎◌, Bool, true, false, not, ◌&&◌, ◌||◌, ◌==◌, if◌then◌else◌, nat_le, IsTrue, List, ◌++◌, length, take, filter, fold, sum_by, All, Option, Some, None, MatchOption, MatchBool, IsSomeAnd, replicate, option_map, unwrap_or}
+use Rattle.std.specs.FinMap as finmap
+use Rattle.w16_model.specs.declared.Block.{Block}
+use Rattle.w16_model.specs.declared.Kind.{Kind}
+use Rattle.w16_model.specs.declared.Way.{Way}
+use Rattle.w16_model.specs.Gap.{is_pinned, is_any, longest_hole, hole_after, block_end, IsClear}
+use Rattle.w16_model.specs.Prefix.{eligible, room_for, needed, prefix_for, none_discarded_if}
+use Rattle.w16_model.specs.Heap.{Heap, Object, IsHeap, IsMultiple, blocks, object_at, bytes_at, size_of, is_pinned_object}
+use Rattle.w16_model.specs.Edit.{with_newest, with_object, with_ordered, absent}
+
+-- the number of discards by which a request of n bytes about h is answered, if it is
+abbrev pub prefix_of : Heap → ℕ → Option ℕ → Way → Option ℕ
+prefix_of heap n h way = prefix_for heap.lo heap.hi (blocks heap) heap.order n h way
+
+-- the first k that a request about h may discard, discarded
+abbrev pub discarded : Heap → ℕ → Option ℕ → Heap
+discarded heap k h = fold absent heap (take k (eligible (blocks heap) heap.order h))
+
+-- n new bytes: zeros where they are asked for (GMEM_ZEROINIT), else any
+abbrev pub AreNew : Bool → ℕ → List ℕ → Type 0
+AreNew zero n bytes = (length bytes ≡ n) × All (λ b. b < 256) bytes × (IsTrue zero → bytes ≡ replicate n 0)
+
+-- new is this heap at any addresses that keep its objects apart, but for the blocks of old that stay, which keep theirs
+pub record Settles (old : Heap) (stays : Block → Bool) (heap new : Heap) : Type 0 where
+  pub same : new ≡ record heap { places = new.places }
+  pub sound : IsHeap new
+  pub kept : All (λ x. IsTrue (stays x) → finmap.get new.places x.id ≡ Some x.at) (blocks old)
+
+-- which blocks keep their address while room is made for h: the pinned ones, and with GMEM_NOCOMPACT all
+abbrev pub stays_for : ℕ → Way → Block → Bool
+stays_for h way x = not (x.id == h) && (is_pinned x || not way.compact)
+
+-- A request for room for h. With no prefix it is refused, in the same heap. Else that many of the eligible are discarded and no others, h
+-- becomes an object such as the request asks for, and the rest is as it was but for addresses.
+abbrev pub Request : Heap → ℕ → Way → Option ℕ → (Object → Type 0) → (Object → List ℕ → List ℕ) → Bool → Heap → Type 0
+Request old h way prefix Asked order answered new =
+    MatchOption prefix
+    ((answered ≡ false) × (new ≡ old))
+    (λ k. (answered ≡ true) × ((o : Object) × Asked o × Settles old (stays_for h way) (with_ordered (discarded old k (Some h)) h o (order o)) new))
+
+-- Allocation and revival.
+
+-- an object of this kind and lock count with n new bytes
+pub record IsNew (zero : Bool) (n : ℕ) (kind : Kind) (locks : ℕ) (o : Object) : Type 0 where
+  pub same_kind : o.kind ≡ kind
+  pub same_locks : o.locks ≡ locks
+  pub new_bytes : IsSomeAnd o.bytes (AreNew zero n)
+
+-- An id without bytes gets n, a whole number of grains above 0: a new object, or an absent one again. A discardable one becomes the newest
+-- (GlobalAlloc; GlobalReAlloc of a discarded object).
+pub record Allocates (old : Heap) (id n : ℕ) (kind : Kind) (locks : ℕ) (way : Way) (answered : Bool) (new : Heap) : Type 0 where
+  pub some : 0 < n
+  pub rounded : IsMultiple old.grain n
+  pub without_bytes : bytes_at old id ≡ None
+  pub request : Request old id way (prefix_of old n (Some id) way) (IsNew way.zero n kind locks) (with_newest id) answered new
+
+-- Reallocation (GlobalReAlloc), where it asks for a size above 0.
+
+-- the object with new bytes after its own
+pub record IsGrown (zero : Bool) (n : ℕ) (before o : Object) : Type 0 where
+  pub same_kind : o.kind ≡ before.kind
+  pub same_locks : o.locks ≡ before.locks
+  pub grown : (more : List ℕ) × AreNew zero (n - size_of before) more × (o.bytes ≡ option_map (λ bytes. bytes ++ more) before.bytes)
+
+-- the length of the hole directly after an object
+abbrev pub hole_behind : Heap → ℕ → ℕ
+hole_behind heap id = sum_by (λ x. hole_after heap.hi (blocks heap) (block_end x)) (filter (λ x. x.id == id) (blocks heap))
+
+-- whether an object may grow to n bytes where it stands
+abbrev pub fits_in_place : Heap → ℕ → Object → ℕ → Bool
+fits_in_place heap id o n = nat_le n (size_of o + hole_behind heap id)
+
+-- the number of discards by which an object grows to n bytes by a request, if it does; h is loose for this, and not counted
+abbrev pub growth_prefix : Heap → ℕ → Object → ℕ → Way → Option ℕ
+growth_prefix heap id o n way =
+    if way.compact then prefix_of heap n (Some id) way
+    else none_discarded_if (fits_in_place heap id o n || nat_le n (longest_hole heap.lo heap.hi (blocks heap)))
+
+-- with GMEM_NOCOMPACT an object grows where it stands, or stands in a hole of the new size, which has none of its own bytes
+abbrev pub StaysOrMovesToHole : Heap → ℕ → ℕ → Heap → Type 0
+StaysOrMovesToHole old id n new = IsSomeAnd (finmap.get new.places id) (λ at. (finmap.get old.places id ≡ Some at) ⊎ IsClear is_any old.lo old.hi (blocks old) at (at + n))
+
+-- An object that is shorter than n grows. A pinned one that may not move (no GMEM_MOVEABLE) keeps its address and needs the hole directly
+-- after it; every other grows by a request for room, and keeps its place in the order.
+abbrev pub Grows : Heap → ℕ → Object → ℕ → Way → Bool → Heap → Type 0
+Grows old id o n way answered new =
+    MatchBool (is_pinned_object o && not way.may_move)
+    (MatchBool (fits_in_place old id o n)
+    ((answered ≡ true) × ((grown : Object) × IsGrown way.zero n o grown × (new ≡ with_object old id grown)))
+    ((answered ≡ false) × (new ≡ old)))
+    (Request old id way (growth_prefix old id o n way) (IsGrown way.zero n o) (λ _ order. order) answered new
+    × (way.compact ≡ false → answered ≡ true → StaysOrMovesToHole old id n new))
+
+-- The object o of an id to n bytes: an absent one is revived; one that is as long or longer is cut, at its address; another grows.
+abbrev pub ReallocatesObject : Heap → ℕ → Object → ℕ → Way → Bool → Heap → Type 0
+ReallocatesObject old id o n way answered new =
+    MatchOption o.bytes
+    (Allocates old id n o.kind o.locks way answered new)
+    (λ bytes. MatchBool (nat_le n (length bytes))
+    ((answered ≡ true) × (new ≡ with_object old id (record o { bytes = Some (take n bytes) })))
+    (Grows old id o n way answered new))
+
+-- the same of an id whose object is there, to a whole number of grains above 0
+pub record Reallocates (old : Heap) (id n : ℕ) (way : Way) (answered : Bool) (new : Heap) : Type 0 where
+  pub some : 0 < n
+  pub rounded : IsMultiple old.grain n
+  pub object : IsSomeAnd (object_at old id) (λ o. ReallocatesObject old id o n way answered new)
+
+-- Compaction (GlobalCompact).
+
+-- how many objects may be discarded
+abbrev pub eligible_count : Heap → ℕ
+eligible_count heap = length (eligible (blocks heap) heap.order None)
+
+-- what compaction could make free: the room with all that may be discarded left out
+abbrev pub most_room : Heap → ℕ
+most_room heap = room_for heap.lo heap.hi (blocks heap) heap.order (eligible_count heap) None
+
+-- how many are discarded for n bytes: as many as are needed, or all
+abbrev pub compaction_prefix : Heap → ℕ → ℕ
+compaction_prefix heap n = unwrap_or (needed heap.lo heap.hi (blocks heap) heap.order n None) (eligible_count heap)
+
+-- Room is made for n bytes, n above 0: these are discarded, the others slide, and the answer is the room there was without the first, which
+-- is the length of the longest hole that there is now.
+pub record MakesRoom (old : Heap) (n answer : ℕ) (new : Heap) : Type 0 where
+  pub settled : Settles old is_pinned (discarded old (compaction_prefix old n) None) new
+  pub promised : answer ≡ room_for old.lo old.hi (blocks old) old.order (compaction_prefix old n) None
+  pub longest : answer ≡ longest_hole new.lo new.hi (blocks new)
+
+-- Compaction for 0 bytes only answers what could be made free.
+abbrev pub Compacts : Heap → ℕ → ℕ → Heap → Type 0
+Compacts old n answer new = MatchBool (n == 0) ((answer ≡ most_room old) × (new ≡ old)) (MakesRoom old n answer new)
+
+-- What a step moved (profile): the sizes before it of the objects that have bytes before and after it, at another address.
+abbrev pub is_elsewhere : ℕ → Option ℕ → Bool
+is_elsewhere at (Some now) = not (now == at)
+is_elsewhere at None = false
+
+abbrev pub moved_bytes : Heap → Heap → ℕ
+moved_bytes old new = sum_by (λ x. x.size) (filter (λ x. is_elsewhere x.at (finmap.get new.places x.id)) (blocks old))

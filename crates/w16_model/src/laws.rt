@@ -1,0 +1,67 @@
+//! The laws of the definitions. Each function does nothing: its contract is the law.
+ghost use Rattle.w16_model.specs.Law.{GapListLaw, LongestHoleLaw, HoleAfterLaw, PinnedLaw, LargestLaw, RoomLaw, LongerLaw, LeastLaw, MoreDiscardsLaw, DiscardedLaw, OthersLaw, SoundLaw, RangeLaw};
+
+/// The lists of gaps and of holes have each maximal interval, and nothing else.
+pub fn lists_of_gaps_and_holes()
+    ensures { GapListLaw }
+{}
+
+/// No hole is longer than the longest, and one is as long.
+pub fn longest_hole_is_a_hole()
+    ensures { LongestHoleLaw }
+{}
+
+/// The hole directly after a block is the one that begins at its end.
+pub fn hole_after_a_block()
+    ensures { HoleAfterLaw }
+{}
+
+/// The longest hole is the room where every block is pinned.
+pub fn longest_hole_is_room_of_pinned()
+    ensures { PinnedLaw }
+{}
+
+/// Room is the largest, over all gaps, of a gap's length less the sizes of its loose blocks.
+pub fn room_is_largest()
+    ensures { LargestLaw }
+{}
+
+/// Room is the length of the longest free stretch of any arrangement.
+pub fn room_is_longest_stretch()
+    ensures { RoomLaw }
+{}
+
+/// A longer range has no less room.
+pub fn longer_range_has_no_less_room()
+    ensures { LongerLaw }
+{}
+
+/// Fewer discards than are needed never make room, whichever way the others slide; where none are enough, no number makes room.
+pub fn fewer_discards_never_serve()
+    ensures { LeastLaw }
+{}
+
+/// More discards never leave less room.
+pub fn more_discards_leave_no_less_room()
+    ensures { MoreDiscardsLaw }
+{}
+
+/// Once the first are discarded the room is what was promised.
+pub fn discards_keep_their_promise()
+    ensures { DiscardedLaw }
+{}
+
+/// A request discards objects that are discardable and not locked, and leaves every other object its kind, its locks and its bytes.
+pub fn others_are_kept()
+    ensures { OthersLaw }
+{}
+
+/// A sound table stands for a heap.
+pub fn sound_table_stands_for_a_heap()
+    ensures { SoundLaw }
+{}
+
+/// A heap isn't touched where memory changes outside its range alone.
+pub fn ranges_are_apart()
+    ensures { RangeLaw }
+{}

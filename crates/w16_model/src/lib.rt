@@ -1,0 +1,97 @@
+//! The heap's blocks, gaps and room, by their definitions.
+#![tactic(auto)]
+
+/// Whether a block may be moved.
+#[derive(Clone, Copy, Debug, PartialEq, Eq)]
+pub enum Hold {
+    Pinned,
+    Loose,
+}
+
+/// An object with bytes, by where it stands.
+#[derive(Clone, Copy, Debug, PartialEq, Eq)]
+pub struct Block {
+    pub id: u32,
+    pub at: u32,
+    pub size: u32,
+    pub hold: Hold,
+}
+
+/// An interval of memory, `[from, to)`.
+#[derive(Clone, Copy, Debug, PartialEq, Eq)]
+pub struct Span {
+    pub from: u32,
+    pub to: u32,
+}
+
+/// What may happen to an object's place and bytes.
+#[derive(Clone, Copy, Debug, PartialEq, Eq)]
+pub enum Kind {
+    Fixed,
+    Moveable,
+    Discardable,
+}
+
+/// What is known of an object beside its block.
+#[derive(Clone, Copy, Debug, PartialEq, Eq)]
+pub struct Entry {
+    pub kind: Kind,
+    pub locks: u8,
+}
+
+/// What a request for room may do: move others, discard others, fill with zeros, move a pinned object.
+#[derive(Clone, Copy, Debug, PartialEq, Eq)]
+pub struct Way {
+    pub compact: bool,
+    pub discard: bool,
+    pub zero: bool,
+    pub may_move: bool,
+}
+
+/// Why a step on one object is refused. A refused step changes nothing.
+#[derive(Clone, Copy, Debug, PartialEq, Eq)]
+pub enum Refusal {
+    /// No gap could hold the bytes asked for.
+    NoRoom,
+    /// The object is locked.
+    Locked,
+    /// The object is not discardable.
+    NotDiscardable,
+    /// The object has no bytes.
+    Absent,
+    /// The object is fixed.
+    Fixed,
+    /// The lock count is 255.
+    LockFull,
+}
+
+/// Why a far access is refused. A refused access changes nothing.
+#[derive(Clone, Copy, Debug, PartialEq, Eq)]
+pub enum FarFault {
+    /// No object has the selector.
+    BadSelector,
+    /// The object has no bytes.
+    NotPresent,
+    /// The access goes past the object's end.
+    Limit,
+}
+
+/// The number of the first slot.
+pub const FIRST_SLOT: u32 = 32;
+
+/// Addresses and sizes in the global heap are multiples of so many bytes.
+pub const GRAIN: u32 = 32;
+
+/// The most bytes that `GlobalAlloc` gives.
+pub const LARGEST_SIZE: u32 = 65_536;
+
+/// `GlobalAlloc`: the object may be moved while it isn't locked.
+pub const GMEM_MOVEABLE: u16 = 0x0002;
+
+/// `GlobalAlloc`: the new bytes are zeros.
+pub const GMEM_ZEROINIT: u16 = 0x0040;
+
+pub mod laws;
+mod plain;
+
+pub use plain::{gap_end, loose_between};
