@@ -16,3 +16,4 @@ pub mod Places
 pub mod Tables
 pub mod Sound
 pub mod Ranges
+pub mod Names

@@ -1,5 +1,5 @@
 //! The laws of the definitions. Each function does nothing: its contract is the law.
-ghost use Rattle.w16_model.specs.Law.{GapListLaw, LongestHoleLaw, HoleAfterLaw, PinnedLaw, LargestLaw, RoomLaw, LongerLaw, LeastLaw, MoreDiscardsLaw, DiscardedLaw, OthersLaw, SoundLaw, RangeLaw};
+ghost use Rattle.w16_model.specs.Law.{GapListLaw, LongestHoleLaw, HoleAfterLaw, PinnedLaw, LargestLaw, RoomLaw, LongerLaw, LeastLaw, MoreDiscardsLaw, DiscardedLaw, OthersLaw, SoundLaw, RangeLaw, NamesLaw};
 
 /// The lists of gaps and of holes have each maximal interval, and nothing else.
 pub fn lists_of_gaps_and_holes()
@@ -64,4 +64,9 @@ pub fn sound_table_stands_for_a_heap()
 /// A heap isn't touched where memory changes outside its range alone.
 pub fn ranges_are_apart()
     ensures { RangeLaw }
+{}
+
+/// A handle or a selector names the object that has it, and no other.
+pub fn names_are_exact()
+    ensures { NamesLaw }
 {}

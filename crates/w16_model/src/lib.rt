@@ -1,14 +1,15 @@
-//! The heap's blocks, gaps and room, by their definitions.
+//! The meaning of a Windows 3.1 heap: gaps, room, requests, handles and steps as definitions (`specs/`), their laws, and a plain slow
+//! program that computes them. docs/DEFINITIONS.md of the repository reads the definitions aloud.
 #![tactic(auto)]
 
-/// Whether a block may be moved.
+/// Whether a block keeps its address: it does while its object is fixed or locked.
 #[derive(Clone, Copy, Debug, PartialEq, Eq)]
 pub enum Hold {
     Pinned,
     Loose,
 }
 
-/// An object with bytes, by where it stands.
+/// An object that has bytes, by where it stands. The size is in bytes.
 #[derive(Clone, Copy, Debug, PartialEq, Eq)]
 pub struct Block {
     pub id: u32,
@@ -17,14 +18,14 @@ pub struct Block {
     pub hold: Hold,
 }
 
-/// An interval of memory, `[from, to)`.
+/// An interval of memory, from a place up to the place behind its last byte.
 #[derive(Clone, Copy, Debug, PartialEq, Eq)]
 pub struct Span {
     pub from: u32,
     pub to: u32,
 }
 
-/// What may happen to an object's place and bytes.
+/// What may happen to an object: a fixed one keeps its address and its bytes, a moveable one its bytes (GlobalAlloc).
 #[derive(Clone, Copy, Debug, PartialEq, Eq)]
 pub enum Kind {
     Fixed,
@@ -32,19 +33,23 @@ pub enum Kind {
     Discardable,
 }
 
-/// What is known of an object beside its block.
+/// What is known of an object beside its block. The lock count is at most 255, and 0 for a fixed object.
 #[derive(Clone, Copy, Debug, PartialEq, Eq)]
 pub struct Entry {
     pub kind: Kind,
     pub locks: u8,
 }
 
-/// What a request for room may do: move others, discard others, fill with zeros, move a pinned object.
+/// How a request may make room (the flags of GlobalAlloc and GlobalReAlloc).
 #[derive(Clone, Copy, Debug, PartialEq, Eq)]
 pub struct Way {
+    /// Others may be moved or discarded (no `GMEM_NOCOMPACT`).
     pub compact: bool,
+    /// Others may be discarded (no `GMEM_NODISCARD`).
     pub discard: bool,
+    /// New bytes are zeros (`GMEM_ZEROINIT`).
     pub zero: bool,
+    /// A fixed or locked object may be moved for its own growth (`GMEM_MOVEABLE` of a reallocation).
     pub may_move: bool,
 }
 

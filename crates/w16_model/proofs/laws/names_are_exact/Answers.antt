@@ -1,0 +1,5 @@
+use Rattle.w16_model.proofs.Names.{names_law}
+use Rattle.w16_model.proofs.laws.names_are_exact.Goals as goal
+
+pub returns : goal.returns
+returns c = names_law
