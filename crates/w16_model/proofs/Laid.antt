@@ -1,8 +1,11 @@
 -- Blocks that are laid out by address.
 use Rattle.std.specs.List.{AllByRecursion as Each}
-use Rattle.std.proofs.Common.{ℕ, ◌<◌, ◌≤◌, inl, List, [], ◌∷◌, arith}
+use Rattle.std.proofs.Common.{◌≡◌, ℕ, ◌+◌, ◌<◌, ◌≤◌, inl, min, Bool, true, false, cond, if◌then◌else◌, nat_le, nat_lt, List, [], ◌∷◌, map, filter, refl, sym, ◌∙◌, subst, arith, le-leb}
+use Rattle.std.proofs.lemmas.Bool.{cond-true, cond-false, lt-leb}
+use Rattle.w16_model.specs.declared.Span.{Span}
 use Rattle.w16_model.specs.declared.Block.{Block}
-use Rattle.w16_model.specs.Gap.{block_end, Misses, ArePlaced, IsLaid}
+use Rattle.w16_model.specs.Gap.{block_end, is_any, first_from, spans_from, holes, Misses, ArePlaced, IsLaid}
+use Rattle.w16_model.specs.Law.{RisingLaw}
 use Rattle.w16_model.proofs.Gaps.{Each-map, EachPair, All-from_Each, AllPairs-from_EachPair}
 
 -- all blocks of a laid list begin at or after its low end, and the low end is at most the high one
@@ -27,3 +30,63 @@ laid_pairs lo hi (x ∷ xs) h = (
 
 pub laid_placed : (lo hi : ℕ) (xs : List Block) → IsLaid lo hi xs → ArePlaced lo hi xs
 laid_placed lo hi xs h = record { inside = All-from_Each _ xs (laid_each lo hi xs h); apart = AllPairs-from_EachPair _ xs (laid_pairs lo hi xs h) }
+
+-- The holes of laid blocks: the one below the first block, and those of the rest.
+pub first_after : (lo hi : ℕ) (xs : List Block) (a m : ℕ) → IsLaid lo hi xs → m ≤ lo → m ≤ first_from is_any hi xs a
+first_after lo hi [] a m h k = omega arith
+first_after lo hi (x ∷ xs) a m h k =
+    let rest : m ≤ first_from is_any hi xs a = first_after (block_end x) hi xs a m h.2 (omega (arith, h)) in
+    elim (nat_le a x.at) as (λ b. m ≤ cond b (min x.at (first_from is_any hi xs a)) (first_from is_any hi xs a)) [ true ↦ omega (arith, h.0, rest, k) | false ↦ rest ]
+
+ends_after : (lo hi : ℕ) (xs : List Block) → IsLaid lo hi xs → Each (λ s. lo ≤ s) (map block_end (filter is_any xs))
+ends_after lo hi [] h = tt
+ends_after lo hi (x ∷ xs) h = (omega (arith, h), Each-map (λ s. block_end x ≤ s) (λ s. lo ≤ s) (λ s l. omega (arith, l, h)) (map block_end (filter is_any xs)) (ends_after (block_end x) hi xs h.2))
+
+same_spans : (hi : ℕ) (xs ys : List Block) (places : List ℕ) → Each (λ a. first_from is_any hi xs a ≡ first_from is_any hi ys a) places → spans_from is_any hi xs places ≡ spans_from is_any hi ys places
+same_spans hi xs ys [] h = refl
+same_spans hi xs ys (a ∷ places) h = λ i. let s : Span = record { from = a; to = h.0 i } in cond (nat_lt s.from s.to) (s ∷ same_spans hi xs ys places h.1 i) (same_spans hi xs ys places h.1 i)
+
+module _ (lo hi : ℕ) (x : Block) (xs : List Block) (laid : IsLaid lo hi (x ∷ xs)) where
+  pub first_hole_end : first_from is_any hi (x ∷ xs) lo ≡ x.at
+  first_hole_end =
+      let far : x.at ≤ first_from is_any hi xs lo = first_after (block_end x) hi xs lo x.at laid.2 (omega arith) in
+      cond-true (nat_le lo x.at) _ _ (le-leb lo x.at laid.0) ∙ smaller x.at (first_from is_any hi xs lo) far
+    where
+      smaller : (a b : ℕ) → a ≤ b → min a b ≡ a
+      smaller a b h = omega arith
+
+  pub first_behind : (s : ℕ) → block_end x ≤ s → first_from is_any hi (x ∷ xs) s ≡ first_from is_any hi xs s
+  first_behind s h = cond-false (nat_le s x.at) _ _ (lt-leb s x.at (omega (arith, laid.1)))
+
+  pub holes-cons : holes lo hi (x ∷ xs) ≡ (if nat_lt lo x.at then record { from = lo; to = x.at } ∷ holes (block_end x) hi xs else holes (block_end x) hi xs)
+  holes-cons =
+      let behind : spans_from is_any hi (x ∷ xs) (block_end x ∷ map block_end (filter is_any xs)) ≡ holes (block_end x) hi xs =
+      same_spans hi (x ∷ xs) xs (block_end x ∷ map block_end (filter is_any xs)) (first_behind (block_end x) (omega arith), Each-map (λ s. block_end x ≤ s) (λ s. first_from is_any hi (x ∷ xs) s ≡ first_from is_any hi xs s) (λ s l. first_behind s l) (map block_end (filter is_any xs)) (ends_after (block_end x) hi xs laid.2)) in
+      λ i. let s : Span = record { from = lo; to = first_hole_end i } in cond (nat_lt s.from s.to) (s ∷ behind i) (behind i)
+
+-- by address, each before the next
+one_span : (P : Span → Type 0) (t : Bool) (s : Span) (ss : List Span) → P s → Each P ss → Each P (cond {A = List Span} t (s ∷ ss) ss)
+one_span P true s ss h k = (h, k)
+one_span P false s ss h k = k
+
+two_spans : (R : Span → Span → Type 0) (t : Bool) (s : Span) (ss : List Span) → Each (R s) ss → EachPair R ss → EachPair R (cond {A = List Span} t (s ∷ ss) ss)
+two_spans R true s ss h k = (h, k)
+two_spans R false s ss h k = k
+
+holes_from : (lo hi : ℕ) (xs : List Block) → IsLaid lo hi xs → Each (λ s. lo ≤ s.from) (holes lo hi xs)
+holes_from lo hi [] laid = one_span (λ s. lo ≤ s.from) (nat_lt lo hi) (record { from = lo; to = hi }) [] (omega arith) tt
+holes_from lo hi (x ∷ xs) laid =
+    subst (Each (λ s. lo ≤ s.from)) (sym (holes-cons lo hi x xs laid))
+    (one_span (λ s. lo ≤ s.from) (nat_lt lo x.at) (record { from = lo; to = x.at }) (holes (block_end x) hi xs) (omega arith)
+    (Each-map (λ (s : Span). block_end x ≤ s.from) (λ (s : Span). lo ≤ s.from) (λ s l. omega (arith, l, laid)) (holes (block_end x) hi xs) (holes_from (block_end x) hi xs laid.2)))
+
+holes_rise : (lo hi : ℕ) (xs : List Block) → IsLaid lo hi xs → EachPair (λ s t. s.to < t.from) (holes lo hi xs)
+holes_rise lo hi [] laid = two_spans (λ s t. s.to < t.from) (nat_lt lo hi) (record { from = lo; to = hi }) [] tt tt
+holes_rise lo hi (x ∷ xs) laid =
+    subst (EachPair (λ s t. s.to < t.from)) (sym (holes-cons lo hi x xs laid))
+    (two_spans (λ s t. s.to < t.from) (nat_lt lo x.at) (record { from = lo; to = x.at }) (holes (block_end x) hi xs)
+    (Each-map (λ (s : Span). block_end x ≤ s.from) (λ (s : Span). x.at < s.from) (λ s l. omega (arith, l, laid)) (holes (block_end x) hi xs) (holes_from (block_end x) hi xs laid.2))
+    (holes_rise (block_end x) hi xs laid.2))
+
+pub rising_law : RisingLaw
+rising_law lo hi xs laid = AllPairs-from_EachPair (λ s t. s.to < t.from) (holes lo hi xs) (holes_rise lo hi xs laid)

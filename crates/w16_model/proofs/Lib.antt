@@ -17,3 +17,6 @@ pub mod Tables
 pub mod Sound
 pub mod Ranges
 pub mod Names
+pub mod Kept
+pub mod Worlds
+pub mod Empty

@@ -1,18 +1,19 @@
 -- The laws that show the definitions to be the right ones. Each is the contract of a function of the module `laws`.
-use Rattle.std.specs.Prelude.{◌≡◌, ◌≢◌, ℕ, ◌+◌, ◌-◌, ◌<◌, ◌≤◌, ◌↔◌, Bool, true, IsSomeAnd, List, take, map, length, All, Contains, Option, Some, None, is_some}
+use Rattle.std.specs.Prelude.{◌≡◌, ◌≢◌, ℕ, ◌+◌, ◌-◌, ◌<◌, ◌≤◌, ◌↔◌, Bool, true, IsSomeAnd, List, take, map, length, All, AllPairs, Contains, Option, Some, None, is_some}
 use Rattle.w16_model.specs.declared.Block.{Block}
 use Rattle.w16_model.specs.declared.Span.{Span}
 use Rattle.w16_model.specs.declared.Way.{Way}
 use Rattle.w16_model.specs.declared.Hold.TheVariants.{Pinned}
 use Rattle.w16_model.specs.declared.Kind.TheVariants.{Discardable}
-use Rattle.w16_model.specs.Gap.{is_pinned, is_any, room, longest_hole, hole_after, gaps, holes, loose_bytes, block_end, IsGap, IsHole, IsGapOf, ArePlaced}
+use Rattle.w16_model.specs.declared.TheConstants.{MOST_SLOTS}
+use Rattle.w16_model.specs.Gap.{is_pinned, is_any, room, longest_hole, hole_after, gaps, holes, loose_bytes, block_end, IsGap, IsHole, IsGapOf, ArePlaced, IsLaid}
 use Rattle.w16_model.specs.Arrangement.{IsArrangement, IsFreeStretch}
 use Rattle.w16_model.specs.Prefix.{eligible, is_member, blocks_without, needed, room_for}
 use Rattle.w16_model.specs.Heap.{Heap, Object, IsHeap, blocks, object_at}
 use Rattle.w16_model.specs.Edit.{with_ordered}
 use Rattle.w16_model.specs.Request.{Settles, discarded, stays_for}
 use Rattle.w16_model.specs.Table.{Table, IsTable, IsSound, heap_in, IsSameOutside}
-use Rattle.w16_model.specs.World.{World, IsWorld, slot_of_handle, slot_of_selector, handle_of, selector_of}
+use Rattle.w16_model.specs.World.{World, IsWorld, empty_world, slot_of_handle, slot_of_selector, handle_of, selector_of}
 use Rattle.w16_model.specs.Machine.{Command, Reply, Step, IsCommand}
 
 -- Gaps and holes.
@@ -24,6 +25,10 @@ pub record AreAllOf (test : Block → Bool) (lo hi : ℕ) (xs : List Block) (spa
 
 abbrev pub GapListLaw : Type 0
 GapListLaw = (lo hi : ℕ) (xs : List Block) → ArePlaced lo hi xs → AreAllOf is_pinned lo hi xs (gaps lo hi xs) × AreAllOf is_any lo hi xs (holes lo hi xs)
+
+-- where the blocks are by address, so are the holes, each before the next
+abbrev pub RisingLaw : Type 0
+RisingLaw = (lo hi : ℕ) (xs : List Block) → IsLaid lo hi xs → AllPairs (λ s t. s.to < t.from) (holes lo hi xs)
 
 -- no hole is longer than the longest, and one is as long; it is 0 where there is none
 pub record HoleIsLongest (lo hi : ℕ) (xs : List Block) : Type 0 where
@@ -125,6 +130,10 @@ abbrev pub NamesLaw : Type 0
 NamesLaw = (world : World) (name slot : ℕ)
     → ((slot_of_handle world name ≡ Some slot) ↔ IsSomeAnd (object_at world.heap slot) (λ o. name ≡ handle_of o.kind slot))
     × ((slot_of_selector world name ≡ Some slot) ↔ IsSomeAnd (object_at world.heap slot) (λ _. name ≡ selector_of slot))
+
+-- the world in which nothing is allocated is one
+abbrev pub EmptyLaw : Type 0
+EmptyLaw = (memory slots : ℕ) → slots ≤ MOST_SLOTS → IsWorld (empty_world memory slots)
 
 -- each step keeps what holds of every world: no two objects share a byte, and the rest
 abbrev pub WorldLaw : Type 0

@@ -5,7 +5,7 @@ use Rattle.std.specs.FinMap as finmap
 use Rattle.std.specs.FinMap.{FinMap}
 use Rattle.w16_model.specs.declared.Kind.{Kind}
 use Rattle.w16_model.specs.declared.Kind.TheVariants.{Fixed, Moveable, Discardable}
-use Rattle.w16_model.specs.declared.TheConstants.{FIRST_SLOT, GRAIN}
+use Rattle.w16_model.specs.declared.TheConstants.{FIRST_SLOT, MOST_SLOTS, GRAIN}
 use Rattle.w16_model.specs.Heap.{Heap, IsHeap, empty_heap, object_at}
 
 -- what the world keeps of an object beside its heap's part: whether other tasks share it (GMEM_DDESHARE)
@@ -60,10 +60,12 @@ selector_in pointer = pointer / 65536
 abbrev pub offset_in : ℕ → ℕ
 offset_in pointer = pointer % 65536
 
--- what holds of every world: its heap is one, over memory from 0, its objects have slots, and each object has its attributes
+-- what holds of every world: its heap is one, over memory from 0; its slots are few enough for their selectors to be words, its objects
+-- have slots, and each object has its attributes
 pub record IsWorld (world : World) : Type 0 where
   pub heap : IsHeap world.heap
   pub low : world.heap.lo ≡ 0
   pub grain : world.heap.grain ≡ GRAIN
-  pub slots : (slot : ℕ) → IfSome (object_at world.heap slot) (λ _. IsSlot world slot)
+  pub few : world.slots ≤ MOST_SLOTS
+  pub slotted : (slot : ℕ) → IfSome (object_at world.heap slot) (λ _. IsSlot world slot)
   pub attributed : (slot : ℕ) → finmap.contains_key world.attributes slot ≡ is_some (object_at world.heap slot)

@@ -1,9 +1,14 @@
 //! The laws of the definitions. Each function does nothing: its contract is the law.
-ghost use Rattle.w16_model.specs.Law.{GapListLaw, LongestHoleLaw, HoleAfterLaw, PinnedLaw, LargestLaw, RoomLaw, LongerLaw, LeastLaw, MoreDiscardsLaw, DiscardedLaw, OthersLaw, SoundLaw, RangeLaw, NamesLaw};
+ghost use Rattle.w16_model.specs.Law.{GapListLaw, RisingLaw, LongestHoleLaw, HoleAfterLaw, PinnedLaw, LargestLaw, RoomLaw, LongerLaw, LeastLaw, MoreDiscardsLaw, DiscardedLaw, OthersLaw, SoundLaw, RangeLaw, NamesLaw, EmptyLaw, WorldLaw};
 
 /// The lists of gaps and of holes have each maximal interval, and nothing else.
 pub fn lists_of_gaps_and_holes()
     ensures { GapListLaw }
+{}
+
+/// Where the blocks are by address, so are the holes.
+pub fn holes_are_by_address()
+    ensures { RisingLaw }
 {}
 
 /// No hole is longer than the longest, and one is as long.
@@ -69,4 +74,11 @@ pub fn ranges_are_apart()
 /// A handle or a selector names the object that has it, and no other.
 pub fn names_are_exact()
     ensures { NamesLaw }
+{}
+
+/// The world in which nothing is allocated is one, and each step keeps what holds of every world: no two objects share a byte, each stands
+/// in memory, and the rest.
+pub fn steps_keep_worlds()
+    ensures begin { EmptyLaw }
+    ensures step { WorldLaw }
 {}

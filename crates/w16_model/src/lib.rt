@@ -56,8 +56,6 @@ pub struct Way {
 /// Why a step on one object is refused. A refused step changes nothing.
 #[derive(Clone, Copy, Debug, PartialEq, Eq)]
 pub enum Refusal {
-    /// No gap could hold the bytes asked for.
-    NoRoom,
     /// The object is locked.
     Locked,
     /// The object is not discardable.
@@ -83,6 +81,9 @@ pub enum FarFault {
 
 /// The number of the first slot.
 pub const FIRST_SLOT: u32 = 32;
+
+/// The most slots that there may be: the selectors of more would not be words.
+pub const MOST_SLOTS: u32 = 8160;
 
 /// Addresses and sizes in the global heap are multiples of so many bytes.
 pub const GRAIN: u32 = 32;

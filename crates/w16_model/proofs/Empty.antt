@@ -1,0 +1,37 @@
+-- The world in which nothing is allocated.
+use Rattle.std.proofs.Common.{◌≡◌, ℕ, ◌<◌, ◌≤◌, IsTrue, IfSome, All, List, Option, Some, None, is_some, refl, sym, ap, ◌∙◌, subst, arith}
+use Rattle.std.specs.Ordering.{nat_cmp}
+use Rattle.std.specs.FinMap.{get-empty}
+use Rattle.w16_model.specs.declared.Block.{Block}
+use Rattle.w16_model.specs.declared.TheConstants.{GRAIN}
+use Rattle.w16_model.specs.Heap.{Heap, Object, IsHeap, IsMultiple, empty_heap, blocks, is_fixed, is_in_order}
+use Rattle.w16_model.specs.World.{IsWorld, IsSlot, empty_world}
+use Rattle.w16_model.specs.Law.{EmptyLaw}
+use Rattle.w16_model.proofs.Gaps.{Each-from, All-from_Each}
+use Rattle.w16_model.proofs.Heaps.{IsBlockOf, member_block}
+use Rattle.w16_model.proofs.Places.{placed_from}
+
+no_block : (lo hi grain : ℕ) (x : Block) → IsBlockOf (empty_heap lo hi grain) x → ⊥
+no_block lo hi grain x b = let none : ◌≡◌ {A = Option Object} None (Some b.object) = sym (get-empty nat_cmp x.id) ∙ b.is_there in cc
+
+empty_heap_is : (hi grain : ℕ) → IsHeap (empty_heap 0 hi grain)
+empty_heap_is hi grain = record {
+  placed = placed_from (empty_heap 0 hi grain) (λ x b. absurd (no_block 0 hi grain x b)) (λ x y b c d. absurd (no_block 0 hi grain x b));
+  grained = All-from_Each (λ x. IsMultiple grain x.at × IsMultiple grain x.size) (blocks (empty_heap 0 hi grain)) (Each-from (λ x. IsMultiple grain x.at × IsMultiple grain x.size) (blocks (empty_heap 0 hi grain)) (λ x m. absurd (no_block 0 hi grain x (member_block (empty_heap 0 hi grain) x m))));
+  low_grained = (0, omega arith);
+  at_bytes = λ id. ap is_some (get-empty nat_cmp id) ∙ ap (λ (o : Option Object). is_some (elim o [ Some o ↦ o.bytes | None ↦ None ])) (sym (get-empty nat_cmp id));
+  are_bytes = λ id. subst (λ (o : Option Object). IfSome (elim o [ Some o ↦ o.bytes | None ↦ None ]) (All (λ b. b < 256))) (sym (get-empty nat_cmp id)) tt;
+  in_order = λ id. ap is_in_order (sym (get-empty nat_cmp id));
+  no_repeats = λ i j d l m. absurd (omega arith);
+  fixed = λ id. subst (λ (o : Option Object). IfSome o (λ (o : Object). (o.locks ≤ 255) × (IsTrue (is_fixed o.kind) → o.locks ≡ 0))) (sym (get-empty nat_cmp id)) tt;
+}
+
+pub empty_law : EmptyLaw
+empty_law memory slots few = record {
+  heap = empty_heap_is memory GRAIN;
+  low = refl;
+  grain = refl;
+  few = few;
+  slotted = λ q. subst (λ (o : Option Object). IfSome o (λ _. IsSlot (empty_world memory slots) q)) (sym (get-empty nat_cmp q)) tt;
+  attributed = λ q. ap is_some (get-empty nat_cmp q) ∙ ap (λ (o : Option Object). is_some o) (sym (get-empty nat_cmp q));
+}

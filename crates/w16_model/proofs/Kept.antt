@@ -1,0 +1,309 @@
+-- Changes of a heap that leave it one: each object stays where it stands, or goes.
+use Rattle.std.proofs.Common.{◌≡◌, ◌≢◌, ℕ, ◌+◌, ◌-◌, ◌*◌, ◌<◌, ◌≤◌, inl, inr, Bool, true, false, cond, not, ◌&&◌, ◌||◌, ◌==◌, IsTrue, IfSome, List, [], ◌∷◌, ◌++◌, length, take, drop, All, AllPairs, Option, Some, None, option_map, is_some, unwrap_or, refl, sym, ap, ◌∙◌, subst, arith, length-append, eq-eqb, ne_eqb}
+use Rattle.std.specs.Cmp.{nat_cmp_total}
+use Rattle.std.specs.Ordering.{nat_cmp, eq_by_cmp}
+use Rattle.std.specs.FinMap as finmap
+use Rattle.std.specs.FinMap.{FinMap, get-insert, get-remove}
+use Rattle.std.proofs.lemmas.Bool.{false≢true, cases_eq, eqb-false}
+use Rattle.std.proofs.lemmas.List.{length-take-le, length-drop}
+use Rattle.std.proofs.lemmas.List.Elements.{All-take, All-drop, All-append}
+use Rattle.w16_model.specs.declared.Block.{Block}
+use Rattle.w16_model.specs.Gap.{Misses, block_end, ArePlaced}
+use Rattle.w16_model.specs.Prefix.{is_member}
+use Rattle.w16_model.specs.Heap.{Heap, Object, IsHeap, IsMultiple, blocks, object_at, hold_of, is_in_order, is_fixed, is_discardable}
+use Rattle.w16_model.specs.Edit.{with_object, with_ordered, without, touched, removed}
+use Rattle.w16_model.specs.Single.{after_touch}
+use Rattle.w16_model.specs.Machine.{after_write, with_slice}
+use Rattle.w16_model.proofs.Gaps.{Each-at, Each-from, Each-from_All, All-from_Each, EachPair-from_AllPairs, AllPairs-from_EachPair, pairs_filter}
+use Rattle.w16_model.proofs.Heaps.{IsBlockOf, block_member, member_block, tied_itself, untied}
+use Rattle.w16_model.proofs.Orders.{member_without, member_newest, newest_differ}
+use Rattle.w16_model.proofs.Places.{placed_from, two_placed, same_id}
+
+-- a block of the heap with x's id, address and size
+abbrev pub Stands : Heap → Block → Type 0
+Stands heap x = (w : Block) × IsBlockOf heap w × (w.id ≡ x.id) × (w.at ≡ x.at) × (w.size ≡ x.size)
+
+-- A heap over old's range where each block stands as one of old's does.
+module _ (old : Heap) (is : IsHeap old) (objects : FinMap nat_cmp Object) (places : FinMap nat_cmp ℕ) (order : List ℕ) where
+  -- old with other objects, addresses and order
+  abbrev pub changed : Heap
+  changed = record old { objects = objects; places = places; order = order }
+
+  -- what the heap says of where a block lies, and of its grains
+  abbrev Lies : Block → Type 0
+  Lies x = (old.lo ≤ x.at) × (0 < x.size) × (block_end x ≤ old.hi)
+
+  abbrev IsGrained : Block → Type 0
+  IsGrained x = ((n : ℕ) × (x.at ≡ old.grain * n)) × ((n : ℕ) × (x.size ≡ old.grain * n))
+
+  -- its blocks are placed
+  pub same_placed : ((x : Block) → IsBlockOf changed x → Stands old x) → ArePlaced old.lo old.hi (blocks changed)
+  same_placed stands = placed_from changed
+      (λ x b. let w : Stands old x = stands x b in
+      lies w.0 x w.3 w.4 (Each-at Lies (blocks old) (Each-from_All _ (blocks old) is.placed.inside) w.0 (block_member old w.0 w.1)))
+      (λ x y b c d.
+      let w : Stands old x = stands x b in
+      let v : Stands old y = stands y c in
+      misses w.0 x v.0 y w.3 w.4 v.3 v.4 (two_placed old is w.0 v.0 w.1 v.1 (λ e. d (same_id changed x y b c (sym w.2 ∙ ap (λ (z : Block). z.id) e ∙ v.2)))))
+    where
+      lies : (w x : Block) → w.at ≡ x.at → w.size ≡ x.size → Lies w → Lies x
+      lies w x at size h = (omega arith, omega arith, omega arith)
+
+      misses : (w x v y : Block) → w.at ≡ x.at → w.size ≡ x.size → v.at ≡ y.at → v.size ≡ y.size → Misses w.at w.size v.at (block_end v) → Misses x.at x.size y.at (block_end y)
+      misses w x v y a b c d h = grind arith
+
+  -- and have whole grains
+  pub same_grained : ((x : Block) → IsBlockOf changed x → Stands old x) → All (λ x. IsMultiple old.grain x.at × IsMultiple old.grain x.size) (blocks changed)
+  same_grained stands = All-from_Each _ (blocks changed) (Each-from IsGrained (blocks changed) (λ x m.
+      let w : Stands old x = stands x (member_block changed x m) in
+      let g : IsGrained w.0 = Each-at IsGrained (blocks old) (Each-from_All _ (blocks old) is.grained) w.0 (block_member old w.0 w.1) in
+      ((g.0.0, sym w.3 ∙ g.0.1), (g.1.0, sym w.4 ∙ g.1.1))))
+
+-- A map once a key is put in, or taken out.
+module _ {X : Type 0} (m : FinMap nat_cmp X) (id : ℕ) where
+  -- the key put in has its new value
+  pub inserted_here : (x : X) (q : ℕ) → q ≡ id → finmap.get (finmap.insert m id x) q ≡ Some x
+  inserted_here x q e = get-insert nat_cmp_total m id x q ∙ ap (λ b. cond b (Some x) (finmap.get m q)) (ap (λ k. eq_by_cmp nat_cmp k id) e ∙ tied_itself id)
+
+  -- and another has its own
+  pub inserted_other : (x : X) (q : ℕ) → q ≢ id → finmap.get (finmap.insert m id x) q ≡ finmap.get m q
+  inserted_other x q d = get-insert nat_cmp_total m id x q ∙ ap (λ b. cond b (Some x) (finmap.get m q)) (untied q id d)
+
+  -- the key taken out has none
+  pub taken_here : (q : ℕ) → q ≡ id → finmap.get (finmap.remove m id) q ≡ None
+  taken_here q e = get-remove nat_cmp_total m id q ∙ ap (λ b. cond b None (finmap.get m q)) (ap (λ k. eq_by_cmp nat_cmp k id) e ∙ tied_itself id)
+
+  -- and another has its own
+  pub taken_other : (q : ℕ) → q ≢ id → finmap.get (finmap.remove m id) q ≡ finmap.get m q
+  taken_other q d = get-remove nat_cmp_total m id q ∙ ap (λ b. cond b None (finmap.get m q)) (untied q id d)
+
+-- the bytes of an object, if it is there and has any
+abbrev pub bytes_in : Option Object → Option (List ℕ)
+bytes_in o = elim o [ Some o ↦ o.bytes | None ↦ None ]
+
+-- what a heap has of them
+abbrev pub AreBytes : Option (List ℕ) → Type 0
+AreBytes bytes = IfSome bytes (All (λ b. b < 256))
+
+-- and of an object's locks
+abbrev pub IsCounted : Object → Type 0
+IsCounted o = (o.locks ≤ 255) × (IsTrue (is_fixed o.kind) → o.locks ≡ 0)
+
+-- a heap with another order of the same members is one
+pub reordered : (old : Heap) → IsHeap old → (order : List ℕ) → ((q : ℕ) → is_member q order ≡ is_member q old.order) → AllPairs (λ a b. a ≡ b → ⊥) order → IsHeap (record old { order = order })
+reordered old is order members once = record {
+  placed = is.placed;
+  grained = is.grained;
+  low_grained = is.low_grained;
+  at_bytes = is.at_bytes;
+  are_bytes = is.are_bytes;
+  in_order = λ q. members q ∙ is.in_order q;
+  no_repeats = once;
+  fixed = is.fixed;
+}
+
+-- An object that is there is changed, and keeps its kind and the number of its bytes.
+module _ (old : Heap) (is : IsHeap old) (id : ℕ) (before o : Object) (there : object_at old id ≡ Some before)
+    (kind : o.kind ≡ before.kind) (size : option_map length o.bytes ≡ option_map length before.bytes) where
+  -- each block stands where it stood
+  block_stands : (x : Block) → IsBlockOf (with_object old id o) x → Stands old x
+  block_stands x b = elim (cases_eq x.id id) [
+    | inl e ↦
+        let same : b.object ≡ o = (let some : ◌≡◌ {A = Option Object} (Some b.object) (Some o) = sym b.is_there ∙ inserted_here old.objects id o x.id e in cc) in
+        from e before.bytes refl (sym size ∙ ap (λ (p : Object). option_map length p.bytes) (sym same) ∙ ap (option_map length) b.has_bytes)
+    | inr d ↦ (
+      x,
+      record {
+        object = b.object;
+        bytes = b.bytes;
+        is_there = sym (inserted_other old.objects id o x.id d) ∙ b.is_there;
+        has_bytes = b.has_bytes;
+        place = b.place;
+        size = b.size;
+        hold = b.hold;
+      },
+      refl,
+      refl,
+      refl,
+    )
+  ]
+    where
+      from : x.id ≡ id → (bytes : Option (List ℕ)) → before.bytes ≡ bytes → option_map length bytes ≡ Some (length b.bytes) → Stands old x
+      from e None has long = cc
+      from e (Some bytes) has long = (
+        record { id = x.id; at = x.at; size = length bytes; hold = hold_of before },
+        record { object = before; bytes = bytes; is_there = ap (object_at old) e ∙ there; has_bytes = has; place = b.place; size = refl; hold = refl },
+        refl,
+        refl,
+        (let same : length bytes ≡ length b.bytes = cc in same ∙ sym b.size),
+      )
+
+  -- the object has bytes just where it had some
+  some_length : (b : Option (List ℕ)) → is_some (option_map length b) ≡ is_some b
+  some_length None = refl
+  some_length (Some b) = refl
+
+  -- before and after
+  same_some : is_some o.bytes ≡ is_some before.bytes
+  same_some = sym (some_length o.bytes) ∙ ap is_some size ∙ some_length before.bytes
+
+  -- the heap with it is one
+  pub other_heap : AreBytes o.bytes → IsCounted o → IsHeap (with_object old id o)
+  other_heap are_bytes locks = record {
+    placed = same_placed old is (finmap.insert old.objects id o) old.places old.order block_stands;
+    grained = same_grained old is (finmap.insert old.objects id o) old.places old.order block_stands;
+    low_grained = is.low_grained;
+    at_bytes = λ q. elim (cases_eq q id) [
+      | inl e ↦ is.at_bytes q ∙ ap (λ p. is_some (bytes_in p)) (ap (object_at old) e ∙ there) ∙ sym same_some ∙ ap (λ p. is_some (bytes_in p)) (sym (inserted_here old.objects id o q e))
+      | inr d ↦ is.at_bytes q ∙ ap (λ p. is_some (bytes_in p)) (sym (inserted_other old.objects id o q d))
+    ];
+    are_bytes = λ q. elim (cases_eq q id) [
+      | inl e ↦ subst (λ p. AreBytes (bytes_in p)) (sym (inserted_here old.objects id o q e)) are_bytes
+      | inr d ↦ subst (λ p. AreBytes (bytes_in p)) (sym (inserted_other old.objects id o q d)) (is.are_bytes q)
+    ];
+    in_order = λ q. elim (cases_eq q id) [
+      | inl e ↦ is.in_order q ∙ ap is_in_order (ap (object_at old) e ∙ there) ∙ (λ i. is_discardable (sym kind i) && sym same_some i) ∙ ap is_in_order (sym (inserted_here old.objects id o q e))
+      | inr d ↦ is.in_order q ∙ ap is_in_order (sym (inserted_other old.objects id o q d))
+    ];
+    no_repeats = is.no_repeats;
+    fixed = λ q. elim (cases_eq q id) [
+      | inl e ↦ subst (λ p. IfSome p IsCounted) (sym (inserted_here old.objects id o q e)) locks
+      | inr d ↦ subst (λ p. IfSome p IsCounted) (sym (inserted_other old.objects id o q d)) (is.fixed q)
+    ];
+  }
+
+-- a use of an object leaves the order its members
+pub member_touched : (id : ℕ) (order : List ℕ) (q : ℕ) → is_member q (touched id order) ≡ is_member q order
+member_touched id order q = turn (is_member id order) refl
+  where
+    kept : (m e f : Bool) → (e ≡ true → m ≡ true) → (e ≡ f) → ((m && not e) || f) ≡ m
+    kept m true true h k = (λ i. (h refl i && false) || true) ∙ sym (h refl)
+    kept m true false h k = cc
+    kept m false true h k = cc
+    kept true false false h k = refl
+    kept false false false h k = refl
+
+    turn : (t : Bool) → is_member id order ≡ t → is_member q (cond {A = List ℕ} t (without id order ++ id ∷ []) order) ≡ is_member q order
+    turn true t = member_newest q id order ∙ elim (cases_eq q id) [
+      | inl e ↦ kept (is_member q order) (q == id) (id == q) (λ _. ap (λ k. is_member k order) e ∙ t) (eq-eqb q id e ∙ sym (eq-eqb id q (sym e)))
+      | inr d ↦ kept (is_member q order) (q == id) (id == q) (λ f. absurd (false≢true (sym (ne_eqb q id d) ∙ f))) (ne_eqb q id d ∙ sym (ne_eqb id q (λ e. d (sym e))))
+    ]
+    turn false t = refl
+
+-- and none stands twice
+once_touched : (id : ℕ) (order : List ℕ) → AllPairs (λ a b. a ≡ b → ⊥) order → AllPairs (λ a b. a ≡ b → ⊥) (touched id order)
+once_touched id order h = turn (is_member id order)
+  where
+    turn : (t : Bool) → AllPairs (λ a b. a ≡ b → ⊥) (cond {A = List ℕ} t (without id order ++ id ∷ []) order)
+    turn true = newest_differ id order h
+    turn false = h
+
+-- the heap once an object was used is one
+pub touched_heap : (old : Heap) → IsHeap old → (id : ℕ) → IsHeap (after_touch old id)
+touched_heap old is id = reordered old is (touched id old.order) (member_touched id old.order) (once_touched id old.order is.no_repeats)
+
+-- An object goes.
+module _ (old : Heap) (is : IsHeap old) (id : ℕ) where
+  -- each block that is left stands where it stood
+  left_stands : (x : Block) → IsBlockOf (removed old id) x → Stands old x
+  left_stands x b = elim (cases_eq x.id id) [
+    | inl e ↦ absurd (none (sym (taken_here old.objects id x.id e) ∙ b.is_there))
+    | inr d ↦ (
+      x,
+      record {
+        object = b.object;
+        bytes = b.bytes;
+        is_there = sym (taken_other old.objects id x.id d) ∙ b.is_there;
+        has_bytes = b.has_bytes;
+        place = b.place ∙ ap (λ p. unwrap_or p 0) (taken_other old.places id x.id d);
+        size = b.size;
+        hold = b.hold;
+      },
+      refl,
+      refl,
+      refl,
+    )
+  ]
+    where
+      none : ◌≡◌ {A = Option Object} None (Some b.object) → ⊥
+      none e = cc
+
+  -- the heap without it is one
+  pub removed_heap : IsHeap (removed old id)
+  removed_heap = record {
+    placed = same_placed old is (finmap.remove old.objects id) (finmap.remove old.places id) (without id old.order) left_stands;
+    grained = same_grained old is (finmap.remove old.objects id) (finmap.remove old.places id) (without id old.order) left_stands;
+    low_grained = is.low_grained;
+    at_bytes = λ q. elim (cases_eq q id) [
+      | inl e ↦ ap is_some (taken_here old.places id q e) ∙ ap (λ p. is_some (bytes_in p)) (sym (taken_here old.objects id q e))
+      | inr d ↦ ap is_some (taken_other old.places id q d) ∙ is.at_bytes q ∙ ap (λ p. is_some (bytes_in p)) (sym (taken_other old.objects id q d))
+    ];
+    are_bytes = λ q. elim (cases_eq q id) [
+      | inl e ↦ subst (λ p. AreBytes (bytes_in p)) (sym (taken_here old.objects id q e)) tt
+      | inr d ↦ subst (λ p. AreBytes (bytes_in p)) (sym (taken_other old.objects id q d)) (is.are_bytes q)
+    ];
+    in_order = λ q. elim (cases_eq q id) [
+      | inl e ↦ member_without q id old.order ∙ ap (λ b. is_member q old.order && not b) (eq-eqb q id e) ∙ out (is_member q old.order) ∙ ap is_in_order (sym (taken_here old.objects id q e))
+      | inr d ↦ member_without q id old.order ∙ ap (λ b. is_member q old.order && not b) (ne_eqb q id d) ∙ still (is_member q old.order) ∙ is.in_order q ∙ ap is_in_order (sym (taken_other old.objects id q d))
+    ];
+    no_repeats = AllPairs-from_EachPair (λ a b. a ≡ b → ⊥) (without id old.order) (pairs_filter (λ a b. a ≡ b → ⊥) (λ q. not (q == id)) old.order (EachPair-from_AllPairs (λ a b. a ≡ b → ⊥) old.order is.no_repeats));
+    fixed = λ q. elim (cases_eq q id) [
+      | inl e ↦ subst (λ p. IfSome p IsCounted) (sym (taken_here old.objects id q e)) tt
+      | inr d ↦ subst (λ p. IfSome p IsCounted) (sym (taken_other old.objects id q d)) (is.fixed q)
+    ];
+  }
+    where
+      out : (b : Bool) → (b && false) ≡ false
+      out true = refl
+      out false = refl
+
+      still : (b : Bool) → (b && true) ≡ b
+      still true = refl
+      still false = refl
+
+-- Steps on an object that is there.
+module _ (old : Heap) (is : IsHeap old) (id : ℕ) (o : Object) (there : object_at old id ≡ Some o) where
+  -- what the heap has of it
+  counted : IsCounted o
+  counted = subst (λ p. IfSome p IsCounted) there (is.fixed id)
+
+  -- and of its bytes
+  are_bytes_there : AreBytes o.bytes
+  are_bytes_there = subst (λ p. AreBytes (bytes_in p)) there (is.are_bytes id)
+
+  -- the heap with another count of locks is one
+  pub counted_heap : (n : ℕ) → n ≤ 255 → is_fixed o.kind ≡ false → IsHeap (with_object old id (record o { locks = n }))
+  counted_heap n le loose = other_heap old is id o (record o { locks = n }) there refl refl are_bytes_there (le, λ f. absurd (false≢true (sym loose ∙ f)))
+
+  -- with one lock more, and used
+  pub locked_heap : is_fixed o.kind ≡ false → (o.locks == 255) ≡ false → IsHeap (with_ordered old id (record o { locks = o.locks + 1 }) (touched id))
+  locked_heap loose some = touched_heap (with_object old id (record o { locks = o.locks + 1 })) (counted_heap (o.locks + 1) (omega (arith, counted.0, eqb-false o.locks 255 some)) loose) id
+
+  -- with one lock less
+  pub unlocked_heap : is_fixed o.kind ≡ false → IsHeap (with_object old id (record o { locks = o.locks - 1 }))
+  unlocked_heap loose = counted_heap (o.locks - 1) (omega (arith, counted.0)) loose
+
+  -- A slice of its bytes is replaced.
+  module _ (bytes : List ℕ) (has : o.bytes ≡ Some bytes) (at : ℕ) (slice : List ℕ) (inside : at + length slice ≤ length bytes) (new_bytes : All (λ b. b < 256) slice) where
+    -- there are as many bytes
+    same_length : length (with_slice bytes at slice) ≡ length bytes
+    same_length = omega (arith, length-append (take at bytes ++ slice) (drop (at + length slice) bytes), length-append (take at bytes) slice, length-take-le at bytes (omega arith), length-drop (at + length slice) bytes)
+
+    -- and they are bytes
+    all_bytes : All (λ b. b < 256) (with_slice bytes at slice)
+    all_bytes = let before : All (λ b. b < 256) bytes = subst AreBytes has are_bytes_there in
+        All-append (λ b. b < 256) (take at bytes ++ slice) (drop (at + length slice) bytes)
+        (All-append (λ b. b < 256) (take at bytes) slice (All-take (λ b. b < 256) at bytes before) new_bytes) (All-drop (λ b. b < 256) (at + length slice) bytes before)
+
+    -- the object with them
+    abbrev written : Object
+    written = record o { bytes = option_map (λ bytes. with_slice bytes at slice) o.bytes }
+
+    -- the heap with them is one
+    pub written_heap : IsHeap (after_write old id at slice)
+    written_heap = subst (λ objects. IsHeap (record old { objects = objects }))
+        (λ i. elim (sym there i) [ Some p ↦ finmap.insert old.objects id (record p { bytes = option_map (λ bytes. with_slice bytes at slice) p.bytes }) | None ↦ old.objects ])
+        (other_heap old is id o written there refl
+        (ap (λ p. option_map length (option_map (λ bytes. with_slice bytes at slice) p)) has ∙ ap Some same_length ∙ ap (option_map length) (sym has))
+        (subst (λ p. AreBytes (option_map (λ bytes. with_slice bytes at slice) p)) (sym has) all_bytes)
+        counted)

@@ -1,0 +1,340 @@
+-- Each step of the machine keeps what holds of every world.
+use Rattle.std.proofs.Common.{◌≡◌, ◌≢◌, ℕ, ◌+◌, ◌-◌, ◌<◌, ◌≤◌, inl, inr, Bool, true, false, cond, not, ◌==◌, if◌then◌else◌, nat_lt, IfSome, IfOk, List, [], ◌∷◌, length, fold, take, All, Option, Some, None, Result, Ok, Err, option_map, is_some, unwrap_or, refl, sym, ap, ◌∙◌, subst, ltb-false}
+use Rattle.std.specs.Ordering.{nat_cmp}
+use Rattle.std.specs.FinMap as finmap
+use Rattle.std.specs.FinMap.{FinMap}
+use Rattle.std.proofs.lemmas.Bool.{false≢true, cases_eq}
+use Rattle.w16_model.specs.declared.Block.{Block}
+use Rattle.w16_model.specs.declared.Way.{Way}
+use Rattle.w16_model.specs.declared.Refusal.{Refusal}
+use Rattle.w16_model.specs.declared.Refusal.TheVariants as refusals
+use Rattle.w16_model.specs.declared.FarFault.{FarFault}
+use Rattle.w16_model.specs.declared.FarFault.TheVariants.{BadSelector, NotPresent, Limit}
+use Rattle.w16_model.specs.Prefix.{eligible}
+use Rattle.w16_model.specs.Heap.{Heap, Object, IsHeap, blocks, object_at, bytes_at, is_fixed}
+use Rattle.w16_model.specs.Edit.{absent, with_object, with_ordered, removed, touched, update, with_newest}
+use Rattle.w16_model.specs.Single.{after_lock, after_unlock, after_free, after_touch}
+use Rattle.w16_model.specs.Request.{Request, IsNew, Settles, discarded, stays_for, prefix_of}
+use Rattle.w16_model.specs.World.{World, IsWorld, IsSlot, slot_of_handle, slot_of_selector, selector_of, far_pointer, selector_in, offset_in}
+use Rattle.w16_model.specs.Machine.{Reply, AnswersAlloc, global_free, global_lock, global_unlock, locks_at, far_fault, far_slot, far_bytes, slice_at, far_read, far_write, after_write, with_slice, way_asked, kind_asked, rounded_size}
+use Rattle.w16_model.specs.Machine.Command.{GlobalAlloc, GlobalFree, GlobalLock, GlobalUnlock, Read, Write}
+use Rattle.w16_model.specs.Machine.Reply.{Word, Dword, Bytes, Done, Fault}
+use Rattle.w16_model.specs.Law.{WorldLaw}
+use Rattle.w16_model.proofs.Heaps.{get-update_same, get-update_other}
+use Rattle.w16_model.proofs.Kept.{bytes_in, inserted_here, inserted_other, taken_here, taken_other, touched_heap, removed_heap, locked_heap, unlocked_heap, written_heap}
+
+-- Which ids have an object.
+
+-- a changed object is there where it was
+some_mapped : (f : Object → Object) (p : Option Object) → is_some (option_map f p) ≡ is_some p
+some_mapped f None = refl
+some_mapped f (Some o) = refl
+
+-- the same ids have an object after an update
+same_updated : (m : FinMap nat_cmp Object) (id : ℕ) (f : Object → Object) (q : ℕ) → is_some (finmap.get (update m id f) q) ≡ is_some (finmap.get m q)
+same_updated m id f q = elim (cases_eq q id) [
+  | inl e ↦ ap (λ k. is_some (finmap.get (update m id f) k)) e ∙ ap is_some (get-update_same m id f) ∙ some_mapped f (finmap.get m id) ∙ ap (λ k. is_some (finmap.get m k)) (sym e)
+  | inr d ↦ ap is_some (get-update_other m id f q d)
+]
+
+-- and with another object in place of one
+same_replaced : (m : FinMap nat_cmp Object) (id : ℕ) (before o : Object) → finmap.get m id ≡ Some before → (q : ℕ) → is_some (finmap.get (finmap.insert m id o) q) ≡ is_some (finmap.get m q)
+same_replaced m id before o there q = elim (cases_eq q id) [
+  | inl e ↦ ap is_some (inserted_here m id o q e) ∙ sym (ap is_some (ap (λ k. finmap.get m k) e ∙ there))
+  | inr d ↦ ap is_some (inserted_other m id o q d)
+]
+
+-- and after discards
+absents_same : (ids : List ℕ) (heap : Heap) (q : ℕ) → is_some (object_at (fold absent heap ids) q) ≡ is_some (object_at heap q)
+absents_same [] heap q = refl
+absents_same (id ∷ ids) heap q = absents_same ids (absent heap id) q ∙ same_updated heap.objects id (λ o. record o { bytes = None }) q
+
+-- which leave the range and the grain
+absents_range : (ids : List ℕ) (heap : Heap) → ((fold absent heap ids).lo ≡ heap.lo) × ((fold absent heap ids).grain ≡ heap.grain)
+absents_range [] heap = (refl, refl)
+absents_range (id ∷ ids) heap = absents_range ids (absent heap id)
+
+-- what holds anyway, and what holds where there is an object
+if_some : (p : Option Object) (P : Type 0) → P → IfSome p (λ _. P)
+if_some None P h = tt
+if_some (Some o) P h = h
+
+if_there : (p q : Option Object) (P : Type 0) → is_some p ≡ is_some q → IfSome q (λ _. P) → IfSome p (λ _. P)
+if_there None q P e h = tt
+if_there (Some o) None P e h = absurd (false≢true (sym e))
+if_there (Some o) (Some r) P e h = h
+
+-- what an answered request has settled
+settled : (old : Heap) (h : ℕ) (way : Way) (prefix : Option ℕ) (Asked : Object → Type 0) (order : Object → List ℕ → List ℕ) (new : Heap) → Request old h way prefix Asked order true new
+    → (k : ℕ) × (o : Object) × Settles old (stays_for h way) (with_ordered (discarded old k (Some h)) h o (order o)) new
+settled old h way None Asked order new r = absurd (false≢true (sym r.0))
+settled old h way (Some k) Asked order new r = (k, r.1.0, r.1.2)
+
+-- a choice of two results is good where each is that may be chosen
+if_ok : (P : Heap → Type 0) (b : Bool) (r s : Result Heap Refusal) → (b ≡ true → IfOk r P) → (b ≡ false → IfOk s P) → IfOk (cond b r s) P
+if_ok P true r s f g = f refl
+if_ok P false r s f g = g refl
+
+-- what an answer leaves is a world
+abbrev Leaves : Reply × World → Type 0
+Leaves outcome = IsWorld outcome.1
+
+-- an access that isn't refused
+abbrev HasNoFault : Option FarFault → Type 0
+HasNoFault fault = fault ≡ None
+
+module _ (old : World) (is : IsWorld old) where
+  -- another heap over the same memory, with objects at the same slots
+  other_world : (heap : Heap) → IsHeap heap → heap.lo ≡ old.heap.lo → heap.grain ≡ old.heap.grain → ((q : ℕ) → is_some (object_at heap q) ≡ is_some (object_at old.heap q)) → IsWorld (record old { heap = heap })
+  other_world heap sound lo grain same = record {
+    heap = sound;
+    low = lo ∙ is.low;
+    grain = grain ∙ is.grain;
+    few = is.few;
+    slotted = λ q. if_there (object_at heap q) (object_at old.heap q) (IsSlot old q) (same q) (is.slotted q);
+    attributed = λ q. is.attributed q ∙ sym (same q);
+  }
+
+  -- A slot gets an object, in a heap that settles.
+  module _ (slot k : ℕ) (o : Object) (order : List ℕ → List ℕ) (stays : Block → Bool) (new : Heap) (numbered : IsSlot old slot) (settles : Settles old.heap stays (with_ordered (discarded old.heap k (Some slot)) slot o order) new) where
+    -- what was discarded for it
+    abbrev ids : List ℕ
+    ids = take k (eligible (blocks old.heap) old.heap.order (Some slot))
+
+    -- the other slots have an object where they had one
+    same_other : (q : ℕ) → q ≢ slot → is_some (object_at new q) ≡ is_some (object_at old.heap q)
+    same_other q d = ap is_some (ap (λ (h : Heap). object_at h q) settles.same ∙ inserted_other (fold absent old.heap ids).objects slot o q d) ∙ absents_same ids old.heap q
+
+    -- the world with it
+    with_new_object : IsWorld (record old { heap = new; attributes = finmap.insert old.attributes slot (record { shared = false }) })
+    with_new_object = record {
+      heap = settles.sound;
+      low = ap (λ (h : Heap). h.lo) settles.same ∙ (absents_range ids old.heap).0 ∙ is.low;
+      grain = ap (λ (h : Heap). h.grain) settles.same ∙ (absents_range ids old.heap).1 ∙ is.grain;
+      few = is.few;
+      slotted = λ q. elim (cases_eq q slot) [
+        | inl e ↦ if_some (object_at new q) (IsSlot old q) (subst (IsSlot old) (sym e) numbered)
+        | inr d ↦ if_there (object_at new q) (object_at old.heap q) (IsSlot old q) (same_other q d) (is.slotted q)
+      ];
+      attributed = λ q. elim (cases_eq q slot) [
+        | inl e ↦ ap is_some (inserted_here old.attributes slot (record { shared = false }) q e) ∙ sym (ap is_some (ap (λ (h : Heap). object_at h q) settles.same ∙ inserted_here (fold absent old.heap ids).objects slot o q e))
+        | inr d ↦ ap is_some (inserted_other old.attributes slot (record { shared = false }) q d) ∙ is.attributed q ∙ sym (same_other q d)
+      ];
+    }
+
+  -- GlobalAlloc, answered
+  allocated_world : (flags size handle : ℕ) (new : World) → AnswersAlloc old flags size handle new → IsWorld new
+  allocated_world flags size handle new a =
+      let way : Way = way_asked flags in
+      let s : (k : ℕ) × (o : Object) × Settles old.heap (stays_for a.slot way) (with_ordered (discarded old.heap k (Some a.slot)) a.slot o (with_newest a.slot o)) new.heap =
+      settled old.heap a.slot way (prefix_of old.heap (rounded_size size) (Some a.slot) way) (IsNew way.zero (rounded_size size) (kind_asked flags) 0) (with_newest a.slot) new.heap a.allocated.request in
+      subst IsWorld (sym a.rest) (with_new_object a.slot s.0 s.1 (with_newest a.slot s.1) (stays_for a.slot way) new.heap a.free.0 s.2)
+
+  -- the world without an object
+  without_object : (slot : ℕ) → IsWorld (record old { heap = removed old.heap slot; attributes = finmap.remove old.attributes slot })
+  without_object slot = record {
+    heap = removed_heap old.heap is.heap slot;
+    low = is.low;
+    grain = is.grain;
+    few = is.few;
+    slotted = λ q. elim (cases_eq q slot) [
+      | inl e ↦ subst (λ p. IfSome p (λ _. IsSlot old q)) (sym (taken_here old.heap.objects slot q e)) tt
+      | inr d ↦ subst (λ p. IfSome p (λ _. IsSlot old q)) (sym (taken_other old.heap.objects slot q d)) (is.slotted q)
+    ];
+    attributed = λ q. elim (cases_eq q slot) [
+      | inl e ↦ ap is_some (taken_here old.attributes slot q e) ∙ sym (ap is_some (taken_here old.heap.objects slot q e))
+      | inr d ↦ ap is_some (taken_other old.attributes slot q d) ∙ is.attributed q ∙ sym (ap is_some (taken_other old.heap.objects slot q d))
+    ];
+  }
+
+  -- and without the attributes of a slot that has none
+  without_attributes : (slot : ℕ) → object_at old.heap slot ≡ None → IsWorld (record old { attributes = finmap.remove old.attributes slot })
+  without_attributes slot none = record {
+    heap = is.heap;
+    low = is.low;
+    grain = is.grain;
+    few = is.few;
+    slotted = is.slotted;
+    attributed = λ q. elim (cases_eq q slot) [
+      | inl e ↦ ap is_some (taken_here old.attributes slot q e) ∙ sym (ap is_some (ap (object_at old.heap) e ∙ none))
+      | inr d ↦ ap is_some (taken_other old.attributes slot q d) ∙ is.attributed q
+    ];
+  }
+
+  -- the world with this heap, and without a slot's attributes
+  abbrev Freed : ℕ → Heap → Type 0
+  Freed slot heap = IsWorld (record old { heap = heap; attributes = finmap.remove old.attributes slot })
+
+  -- what GlobalFree leaves is such a one
+  free_ok : (slot : ℕ) → IfOk (after_free old.heap slot) (Freed slot)
+  free_ok slot = turn (object_at old.heap slot) refl
+    where
+      turn : (p : Option Object) → object_at old.heap slot ≡ p → IfOk (elim p [ None ↦ Ok old.heap | Some o ↦ if nat_lt 0 o.locks then Err refusals.Locked else Ok (removed old.heap slot) ]) (Freed slot)
+      turn None e = without_attributes slot e
+      turn (Some o) e = if_ok (Freed slot) (nat_lt 0 o.locks) (Err refusals.Locked) (Ok (removed old.heap slot)) (λ _. tt) (λ _. without_object slot)
+
+  -- what it answers and leaves
+  abbrev free_outcome : ℕ → ℕ → Result Heap Refusal → Reply × World
+  free_outcome handle slot r = elim r [ Ok heap ↦ (Word 0, record old { heap = heap; attributes = finmap.remove old.attributes slot }) | Err _ ↦ (Word handle, old) ]
+
+  -- GlobalFree
+  freed_world : (handle : ℕ) → IsWorld (global_free old handle).1
+  freed_world handle = turn (slot_of_handle old handle)
+    where
+      outcome : (slot : ℕ) (r : Result Heap Refusal) → IfOk r (Freed slot) → Leaves (free_outcome handle slot r)
+      outcome slot (Ok heap) h = h
+      outcome slot (Err _) h = is
+
+      turn : (s : Option ℕ) → Leaves (elim s [ None ↦ (Word handle, old) | Some slot ↦ free_outcome handle slot (after_free old.heap slot) ])
+      turn None = is
+      turn (Some slot) = outcome slot (after_free old.heap slot) (free_ok slot)
+
+  -- the world with this heap
+  abbrev Kept : Heap → Type 0
+  Kept heap = IsWorld (record old { heap = heap })
+
+  -- what GlobalLock leaves is such a one
+  lock_ok : (slot : ℕ) → IfOk (after_lock old.heap slot) Kept
+  lock_ok slot = turn (object_at old.heap slot) refl
+    where
+      turn : (p : Option Object) → object_at old.heap slot ≡ p → IfOk (elim p [
+        | None ↦ Err refusals.Absent
+        | Some o ↦ if not (is_some o.bytes) then Err refusals.Absent
+            else (if is_fixed o.kind then Err refusals.Fixed
+            else (if o.locks == 255 then Err refusals.LockFull
+            else Ok (with_ordered old.heap slot (record o { locks = o.locks + 1 }) (touched slot))))
+      ]) Kept
+      turn None e = tt
+      turn (Some o) e =
+          let locked : Result Heap Refusal = Ok (with_ordered old.heap slot (record o { locks = o.locks + 1 }) (touched slot)) in
+          if_ok Kept (not (is_some o.bytes)) (Err refusals.Absent) (cond (is_fixed o.kind) (Err refusals.Fixed) (cond (o.locks == 255) (Err refusals.LockFull) locked)) (λ _. tt) (λ _.
+          if_ok Kept (is_fixed o.kind) (Err refusals.Fixed) (cond (o.locks == 255) (Err refusals.LockFull) locked) (λ _. tt) (λ loose.
+          if_ok Kept (o.locks == 255) (Err refusals.LockFull) locked (λ _. tt) (λ some.
+          other_world (with_ordered old.heap slot (record o { locks = o.locks + 1 }) (touched slot)) (locked_heap old.heap is.heap slot o e loose some) refl refl
+          (same_replaced old.heap.objects slot o (record o { locks = o.locks + 1 }) e))))
+
+  -- what it answers and leaves
+  abbrev lock_outcome : ℕ → Result Heap Refusal → Reply × World
+  lock_outcome slot r = elim r [
+    | Ok heap ↦ (Dword (far_pointer (selector_of slot) 0), record old { heap = heap })
+    | Err refusals.Fixed ↦ (Dword (far_pointer (selector_of slot) 0), old)
+    | Err _ ↦ (Dword 0, old)
+  ]
+
+  -- GlobalLock
+  locked_world : (handle : ℕ) → IsWorld (global_lock old handle).1
+  locked_world handle = turn (slot_of_handle old handle)
+    where
+      outcome : (slot : ℕ) (r : Result Heap Refusal) → IfOk r Kept → Leaves (lock_outcome slot r)
+      outcome slot (Ok heap) h = h
+      outcome slot (Err refusals.Fixed) h = is
+      outcome slot (Err _) h = is
+
+      turn : (s : Option ℕ) → Leaves (elim s [ None ↦ (Dword 0, old) | Some slot ↦ lock_outcome slot (after_lock old.heap slot) ])
+      turn None = is
+      turn (Some slot) = outcome slot (after_lock old.heap slot) (lock_ok slot)
+
+  -- and what GlobalUnlock leaves
+  unlock_ok : (slot : ℕ) → IfOk (after_unlock old.heap slot) Kept
+  unlock_ok slot = turn (object_at old.heap slot) refl
+    where
+      turn : (p : Option Object) → object_at old.heap slot ≡ p
+          → IfOk (elim p [ None ↦ Ok old.heap | Some o ↦ if is_fixed o.kind then Err refusals.Fixed else Ok (with_object old.heap slot (record o { locks = o.locks - 1 })) ]) Kept
+      turn None e = is
+      turn (Some o) e = if_ok Kept (is_fixed o.kind) (Err refusals.Fixed) (Ok (with_object old.heap slot (record o { locks = o.locks - 1 }))) (λ _. tt) (λ loose.
+          other_world (with_object old.heap slot (record o { locks = o.locks - 1 })) (unlocked_heap old.heap is.heap slot o e loose) refl refl
+          (same_replaced old.heap.objects slot o (record o { locks = o.locks - 1 }) e))
+
+  -- what it answers and leaves
+  abbrev unlock_outcome : ℕ → Result Heap Refusal → Reply × World
+  unlock_outcome slot r = elim r [ Ok heap ↦ (Word (if nat_lt 0 (locks_at heap slot) then 1 else 0), record old { heap = heap }) | Err _ ↦ (Word 0, old) ]
+
+  -- GlobalUnlock
+  unlocked_world : (handle : ℕ) → IsWorld (global_unlock old handle).1
+  unlocked_world handle = turn (slot_of_handle old handle)
+    where
+      outcome : (slot : ℕ) (r : Result Heap Refusal) → IfOk r Kept → Leaves (unlock_outcome slot r)
+      outcome slot (Ok heap) h = h
+      outcome slot (Err _) h = is
+
+      turn : (s : Option ℕ) → Leaves (elim s [ None ↦ (Word 0, old) | Some slot ↦ unlock_outcome slot (after_unlock old.heap slot) ])
+      turn None = is
+      turn (Some slot) = outcome slot (after_unlock old.heap slot) (unlock_ok slot)
+
+  -- the world once an object was used
+  touched_world : (slot : ℕ) → IsWorld (record old { heap = after_touch old.heap slot })
+  touched_world slot = other_world (after_touch old.heap slot) (touched_heap old.heap is.heap slot) refl refl (λ _. refl)
+
+  -- Read
+  read_world : (pointer n : ℕ) → IsWorld (far_read old pointer n).1
+  read_world pointer n = turn (far_fault old pointer n)
+    where
+      turn : (f : Option FarFault) → Leaves (elim f [
+        | Some fault ↦ (Fault fault, old)
+        | None ↦ (Bytes (slice_at (far_bytes old pointer) (offset_in pointer) n), record old { heap = after_touch old.heap (far_slot old pointer) })
+      ])
+      turn (Some fault) = is
+      turn None = touched_world (far_slot old pointer)
+
+  -- the world with a slice of an object's bytes replaced
+  written_world : (slot at : ℕ) (slice : List ℕ) (o : Object) (bytes : List ℕ) → object_at old.heap slot ≡ Some o → o.bytes ≡ Some bytes → at + length slice ≤ length bytes → All (λ b. b < 256) slice
+      → IsWorld (record old { heap = after_touch (after_write old.heap slot at slice) slot })
+  written_world slot at slice o bytes there has inside new_bytes =
+      other_world (after_touch (after_write old.heap slot at slice) slot)
+      (touched_heap (after_write old.heap slot at slice) (written_heap old.heap is.heap slot o there bytes has at slice inside new_bytes) slot) refl refl
+      (same_updated old.heap.objects slot (λ o. record o { bytes = option_map (λ bytes. with_slice bytes at slice) o.bytes }))
+
+  -- a slot's object has so many bytes or more
+  abbrev Reaches : ℕ → ℕ → Type 0
+  Reaches slot end = (o : Object) × (bytes : List ℕ) × (object_at old.heap slot ≡ Some o) × (o.bytes ≡ Some bytes) × (end ≤ length bytes)
+
+  -- the fault of an access up to an end in these bytes, and in those there are
+  abbrev limit_fault : ℕ → List ℕ → Option FarFault
+  limit_fault end bytes = if nat_lt (length bytes) end then Some Limit else None
+
+  abbrev bytes_fault : ℕ → Option (List ℕ) → Option FarFault
+  bytes_fault end b = elim b [ None ↦ Some NotPresent | Some bytes ↦ limit_fault end bytes ]
+
+  -- an access without a fault reaches one
+  reached : (pointer n : ℕ) → far_fault old pointer n ≡ None → Reaches (far_slot old pointer) (offset_in pointer + n)
+  reached pointer n = turn (slot_of_selector old (selector_in pointer))
+    where
+      inside : (end : ℕ) (bytes : List ℕ) (b : Bool) → nat_lt (length bytes) end ≡ b → HasNoFault (if b then Some Limit else None) → end ≤ length bytes
+      inside end bytes true t e = cc
+      inside end bytes false t e = ltb-false (length bytes) end t
+
+      of_bytes : (slot end : ℕ) (o : Object) → object_at old.heap slot ≡ Some o → (b : Option (List ℕ)) → o.bytes ≡ b → HasNoFault (bytes_fault end b) → Reaches slot end
+      of_bytes slot end o there None has e = cc
+      of_bytes slot end o there (Some bytes) has e = (o, bytes, there, has, inside end bytes (nat_lt (length bytes) end) refl e)
+
+      of_object : (slot end : ℕ) (p : Option Object) → object_at old.heap slot ≡ p → HasNoFault (bytes_fault end (bytes_in p)) → Reaches slot end
+      of_object slot end None there e = cc
+      of_object slot end (Some o) there e = of_bytes slot end o there o.bytes refl e
+
+      turn : (s : Option ℕ) → HasNoFault (elim s [ None ↦ Some BadSelector | Some slot ↦ bytes_fault (offset_in pointer + n) (bytes_at old.heap slot) ]) → Reaches (unwrap_or s 0) (offset_in pointer + n)
+      turn None e = cc
+      turn (Some slot) e = of_object slot (offset_in pointer + n) (object_at old.heap slot) refl e
+
+  -- Write
+  write_world : (pointer : ℕ) (slice : List ℕ) → All (λ b. b < 256) slice → IsWorld (far_write old pointer slice).1
+  write_world pointer slice new_bytes = turn (far_fault old pointer (length slice)) refl
+    where
+      turn : (f : Option FarFault) → far_fault old pointer (length slice) ≡ f → Leaves (elim f [
+        | Some fault ↦ (Fault fault, old)
+        | None ↦ (Done, record old { heap = after_touch (after_write old.heap (far_slot old pointer) (offset_in pointer) slice) (far_slot old pointer) })
+      ])
+      turn (Some fault) e = is
+      turn None e = let r : Reaches (far_slot old pointer) (offset_in pointer + length slice) = reached pointer (length slice) e in
+          written_world (far_slot old pointer) (offset_in pointer) slice r.0 r.1 r.2 r.3 r.4 new_bytes
+
+-- each step keeps what holds of every world
+pub world_law : WorldLaw
+world_law old new (GlobalAlloc flags size) reply is command step = elim step.2 [
+  | inl refused ↦ subst IsWorld (sym refused.2) is
+  | inr answered ↦ allocated_world old is flags size step.0 new answered
+]
+world_law old new (GlobalFree handle) reply is command step = subst IsWorld (sym step.1) (freed_world old is handle)
+world_law old new (GlobalLock handle) reply is command step = subst IsWorld (sym step.1) (locked_world old is handle)
+world_law old new (GlobalUnlock handle) reply is command step = subst IsWorld (sym step.1) (unlocked_world old is handle)
+world_law old new (Read pointer count) reply is command step = subst IsWorld (sym step.1) (read_world old is pointer count)
+world_law old new (Write pointer bytes) reply is command step = subst IsWorld (sym step.1) (write_world old is pointer bytes command)
