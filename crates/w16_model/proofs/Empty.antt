@@ -1,11 +1,11 @@
 -- The world in which nothing is allocated.
-use Rattle.std.proofs.Common.{◌≡◌, ℕ, ◌<◌, ◌≤◌, IsTrue, IfSome, All, List, Option, Some, None, is_some, refl, sym, ap, ◌∙◌, subst, arith}
+use Rattle.std.proofs.Common.{◌≡◌, ℕ, ◌<◌, ◌≤◌, IsTrue, IfSome, All, Option, Some, None, is_some, refl, sym, ap, ◌∙◌, subst, arith}
 use Rattle.std.specs.Ordering.{nat_cmp}
 use Rattle.std.specs.FinMap.{get-empty}
 use Rattle.w16_model.specs.declared.Block.{Block}
 use Rattle.w16_model.specs.declared.TheConstants.{GRAIN}
-use Rattle.w16_model.specs.Heap.{Heap, Object, IsHeap, IsMultiple, empty_heap, blocks, is_fixed, is_in_order}
-use Rattle.w16_model.specs.World.{IsWorld, IsSlot, empty_world}
+use Rattle.w16_model.specs.Heap.{Object, IsHeap, IsMultiple, empty_heap, blocks, is_fixed, is_in_order}
+use Rattle.w16_model.specs.World.{IsSlot, empty_world}
 use Rattle.w16_model.specs.Law.{EmptyLaw}
 use Rattle.w16_model.proofs.Gaps.{Each-from, All-from_Each}
 use Rattle.w16_model.proofs.Heaps.{IsBlockOf, member_block}

@@ -1,6 +1,6 @@
 -- Blocks that are laid out by address.
 use Rattle.std.specs.List.{AllByRecursion as Each}
-use Rattle.std.proofs.Common.{◌≡◌, ℕ, ◌+◌, ◌<◌, ◌≤◌, inl, min, Bool, true, false, cond, if◌then◌else◌, nat_le, nat_lt, List, [], ◌∷◌, map, filter, refl, sym, ◌∙◌, subst, arith, le-leb}
+use Rattle.std.proofs.Common.{◌≡◌, ℕ, ◌<◌, ◌≤◌, inl, min, Bool, true, false, cond, if◌then◌else◌, nat_le, nat_lt, List, [], ◌∷◌, map, filter, refl, sym, ◌∙◌, subst, arith, le-leb}
 use Rattle.std.proofs.lemmas.Bool.{cond-true, cond-false, lt-leb}
 use Rattle.w16_model.specs.declared.Span.{Span}
 use Rattle.w16_model.specs.declared.Block.{Block}

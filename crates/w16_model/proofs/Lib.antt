@@ -20,3 +20,5 @@ pub mod Names
 pub mod Kept
 pub mod Worlds
 pub mod Empty
+pub mod Folds
+pub mod Trials

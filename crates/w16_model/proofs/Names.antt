@@ -1,6 +1,6 @@
 -- The look-ups of handles and selectors.
-use Rattle.std.proofs.Common.{◌≡◌, ℕ, ◌+◌, ◌*◌, ◌/◌, ◌<◌, ◌≤◌, Bool, true, false, cond, ◌&&◌, ◌==◌, IsTrue, IsSomeAnd, Option, Some, None, is_some, refl, sym, ap, ◌∙◌, subst, arith, eq-eqb, eqb-true}
-use Rattle.std.proofs.lemmas.Bool.{false≢true, cases_Bool, and_parts}
+use Rattle.std.proofs.Common.{◌≡◌, ℕ, ◌/◌, Bool, true, false, cond, ◌&&◌, ◌==◌, IsTrue, IsSomeAnd, Option, Some, None, is_some, refl, sym, ap, ◌∙◌, subst, arith, eq-eqb, eqb-true}
+use Rattle.std.proofs.lemmas.Bool.{false≢true, and_parts}
 use Rattle.w16_model.specs.declared.Kind.{Kind}
 use Rattle.w16_model.specs.declared.Kind.TheVariants.{Fixed, Moveable, Discardable}
 use Rattle.w16_model.specs.Heap.{Object, object_at}

@@ -100,4 +100,4 @@ pub const GMEM_ZEROINIT: u16 = 0x0040;
 pub mod laws;
 mod plain;
 
-pub use plain::{gap_end, loose_between};
+pub use plain::Snapshot;

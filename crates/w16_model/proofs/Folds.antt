@@ -1,0 +1,156 @@
+-- What the plain program's loops compute.
+use Rattle.std.specs.List.{AllByRecursion as Each}
+use Rattle.std.proofs.Common.{◌≡◌, ◌↔◌, ℕ, ◌+◌, ◌<◌, ◌≤◌, min, max, Bool, true, false, cond, ◌&&◌, nat_le, nat_lt, IsTrue, List, [], ◌∷◌, ◌++◌, append_assoc, length, drop, get_or, add-one, drop-cons, drop_of_length-le, map, filter, sum_by, All, AllPairs, refl, sym, ap, ◌∙◌, subst, arith, le-leb, lt-ltb}
+use Rattle.std.proofs.lemmas.Bool.{and_from, cond-true, cond-false}
+use Rattle.std.proofs.lemmas.Bool.Decides.{nat_tests}
+use Rattle.std.proofs.lemmas.List.{append-nil}
+use Rattle.w16_model.specs.declared.Block.{Block}
+use Rattle.w16_model.specs.declared.Hold.TheVariants.{Pinned}
+use Rattle.w16_model.specs.declared.Span.{Span}
+use Rattle.w16_model.specs.Gap.{Misses, block_end, first_from, is_loose, begins_in, loose_bytes, largest, spans_from, ArePlaced}
+use Rattle.w16_model.proofs.Gaps.{Each-map, Each-from_All, All-from_Each, EachPair-from_AllPairs, AllPairs-from_EachPair, pack}
+use Rattle.w16_model.proofs.Longest.{sum_filter}
+use Rattle.w16_model.proofs.Least.{placed_filter}
+
+-- what a read past the end of a list of blocks gives
+abbrev pub no_block : Block
+no_block = record { id = 0; at = 0; size = 0; hold = Pinned }
+
+-- the heap's end stands for one block more
+first_from-min : (test : Block → Bool) (hi e a : ℕ) (xs : List Block) → first_from test (min hi e) xs a ≡ min e (first_from test hi xs a)
+first_from-min test hi e a [] = omega arith
+first_from-min test hi e a (x ∷ xs) = turn (test x && nat_le a x.at) x.at _ _ (first_from-min test hi e a xs)
+  where
+    turn : (t : Bool) (at v w : ℕ) → v ≡ min e w → cond t (min at v) v ≡ min e (cond t (min at w) w)
+    turn true at v w h = omega arith
+    turn false at v w h = h
+
+-- the first interval, and the others
+spans_from-first : (test : Block → Bool) (hi : ℕ) (xs : List Block) (a : ℕ) (places : List ℕ) → spans_from test hi xs (a ∷ []) ++ spans_from test hi xs places ≡ spans_from test hi xs (a ∷ places)
+spans_from-first test hi xs a places = turn (nat_lt a (first_from test hi xs a)) (record { from = a; to = first_from test hi xs a }) (spans_from test hi xs places)
+  where
+    turn : (b : Bool) (s : Span) (rest : List Span) → cond {A = List Span} b (s ∷ []) [] ++ rest ≡ cond b (s ∷ rest) rest
+    turn true s rest = refl
+    turn false s rest = refl
+
+-- One turn of a loop over the blocks, from the front.
+module _ (xs : List Block) (i : ℕ) (d : Block) (h : i < length xs) where
+  -- the block of this turn
+  abbrev here : Block
+  here = get_or xs i d
+
+  cut_here : drop i xs ≡ here ∷ drop (i + 1) xs
+  cut_here = rw (add-one, drop-cons xs i d)
+
+  pub first_from-taken : (test : Block → Bool) (e e' a total : ℕ) → first_from test e (drop i xs) a ≡ total → IsTrue (test here) → a ≤ here.at → e' ≡ min e here.at → first_from test e' (drop (i + 1) xs) a ≡ total
+  first_from-taken test e e' a total k t l m =
+      ap (λ v. first_from test v (drop (i + 1) xs) a) m ∙ first_from-min test e here.at a (drop (i + 1) xs)
+      ∙ sym (cond-true (test here && nat_le a here.at) _ _ (and_from _ _ t (le-leb a here.at l))) ∙ sym (ap (λ ys. first_from test e ys a) cut_here) ∙ k
+
+  pub first_from-passed : (test : Block → Bool) (e e' a total : ℕ) → first_from test e (drop i xs) a ≡ total → (test here && nat_le a here.at) ≡ false → e' ≡ e → first_from test e' (drop (i + 1) xs) a ≡ total
+  first_from-passed test e e' a total k f m =
+      ap (λ v. first_from test v (drop (i + 1) xs) a) m ∙ sym (cond-false (test here && nat_le a here.at) _ _ f) ∙ sym (ap (λ ys. first_from test e ys a) cut_here) ∙ k
+
+  pub loose_bytes-here : (a b : ℕ) → loose_bytes (drop i xs) a b ≡ cond (is_loose here && begins_in a b here) here.size 0 + loose_bytes (drop (i + 1) xs) a b
+  loose_bytes-here a b = ap (λ ys. loose_bytes ys a b) cut_here ∙ sum_filter (λ y. is_loose y && begins_in a b y) here (drop (i + 1) xs)
+
+-- no block begins at the heap's end or past it
+pub loose_bytes-end : (lo hi a b : ℕ) (xs : List Block) → ArePlaced lo hi xs → loose_bytes xs a (min b hi) ≡ loose_bytes xs a b
+loose_bytes-end lo hi a b xs placed = go xs (Each-map (λ x. (lo ≤ x.at) × (0 < x.size) × (block_end x ≤ hi)) (λ x. x.at < hi) (λ x f. omega (arith, f.1, f.2)) xs (Each-from_All _ xs placed.inside))
+  where
+    same : (t : Bool) (p n : ℕ) → p < hi → cond (t && (nat_le a p && nat_lt p (min b hi))) n 0 ≡ cond (t && (nat_le a p && nat_lt p b)) n 0
+    same t p n h = grind (arith, nat_tests)
+
+    go : (xs : List Block) → Each (λ x. x.at < hi) xs → loose_bytes xs a (min b hi) ≡ loose_bytes xs a b
+    go [] each = refl
+    go (x ∷ xs) each = omega (arith, sum_filter (λ y. is_loose y && begins_in a (min b hi) y) x xs, sum_filter (λ y. is_loose y && begins_in a b y) x xs, same (is_loose x) x.at x.size each.0, go xs each.1)
+
+-- a fact of each two blocks, split off the first
+module _ {X : Type 0} (R : X → X → Type 0) where
+  pub AllPairs-head : (x : X) (xs : List X) → AllPairs R (x ∷ xs) → All (R x) xs
+  AllPairs-head x xs h = All-from_Each (R x) xs (EachPair-from_AllPairs R (x ∷ xs) h).0
+
+  pub AllPairs-both : (x : X) (xs : List X) → All (R x) xs → AllPairs R xs → AllPairs R (x ∷ xs)
+  AllPairs-both x xs h k = AllPairs-from_EachPair R (x ∷ xs) (Each-from_All (R x) xs h, EachPair-from_AllPairs R xs k)
+
+  pub AllPairs-tail : (x : X) (xs : List X) → AllPairs R (x ∷ xs) → AllPairs R xs
+  AllPairs-tail x xs h = AllPairs-from_EachPair R xs (EachPair-from_AllPairs R (x ∷ xs) h).1
+
+-- the fact of all pairs, where what is left of the list decides it
+pub pairs_left : {X : Type 0} (R : X → X → Type 0) (x : X) (xs rest all : List X) → rest ≡ x ∷ xs → All (R x) xs → AllPairs R rest ↔ AllPairs R all → AllPairs R xs ↔ AllPairs R all
+pairs_left R x xs rest all e h k = (
+  (λ pairs. k.0 (subst (AllPairs R) (sym e) (AllPairs-both R x xs h pairs))),
+  (λ pairs. AllPairs-tail R x xs (subst (AllPairs R) e (k.1 pairs))),
+)
+
+pub pairs_fail : {X : Type 0} (R : X → X → Type 0) (x : X) (xs rest all : List X) → rest ≡ x ∷ xs → ¬ All (R x) xs → AllPairs R rest ↔ AllPairs R all → ¬ AllPairs R all
+pairs_fail R x xs rest all e h k pairs = h (AllPairs-head R x xs (subst (AllPairs R) e (k.1 pairs)))
+
+-- some of the blocks are together no longer than the heap
+pub sizes_fit : (lo hi : ℕ) (p : Block → Bool) (xs : List Block) → ArePlaced lo hi xs → sum_by (λ x. x.size) (filter p xs) ≤ hi
+sizes_fit lo hi p xs placed =
+    let some : ArePlaced lo hi (filter p xs) = placed_filter lo hi p xs placed in
+    let packed : 0 + sum_by (λ x. x.size) (filter p xs) ≤ hi = pack (λ x. x.size) (filter p xs) (λ x. x.at) 0 hi (omega arith)
+    (Each-map (λ x. (lo ≤ x.at) × (0 < x.size) × (block_end x ≤ hi)) (λ x. (0 ≤ x.at) × (x.at + x.size ≤ hi)) (λ x f. (omega arith, f.2)) (filter p xs) (Each-from_All _ (filter p xs) some.inside))
+    (EachPair-from_AllPairs (λ x y. Misses x.at x.size y.at (block_end y)) (filter p xs) some.apart) in
+    omega (arith, packed)
+
+-- one block more beside those before it
+pub loose_bytes-fit : (lo hi a b bytes i : ℕ) (d : Block) (xs : List Block) → ArePlaced lo hi xs → i < length xs → bytes + loose_bytes (drop i xs) a b ≡ loose_bytes xs a b
+    → IsTrue (is_loose (get_or xs i d)) → a ≤ (get_or xs i d).at → (get_or xs i d).at < b → bytes + (get_or xs i d).size ≤ hi
+loose_bytes-fit lo hi a b bytes i d xs placed h k t l m =
+    let counted : IsTrue (is_loose (get_or xs i d) && begins_in a b (get_or xs i d)) = and_from _ _ t (and_from _ _ (le-leb a _ l) (lt-ltb _ b m)) in
+    let one : loose_bytes (drop i xs) a b ≡ (get_or xs i d).size + loose_bytes (drop (i + 1) xs) a b = loose_bytes-here xs i d h a b ∙ ap (λ v. v + loose_bytes (drop (i + 1) xs) a b) (cond-true _ _ _ counted) in
+    let whole : loose_bytes xs a b ≤ hi = sizes_fit lo hi (λ y. is_loose y && begins_in a b y) xs placed in
+    omega (arith, k, one, whole)
+
+pub loose_bytes-all : (lo hi a b end bytes i : ℕ) (xs : List Block) → ArePlaced lo hi xs → length xs ≤ i → end ≡ min b hi → bytes + loose_bytes (drop i xs) a end ≡ loose_bytes xs a end → bytes ≡ loose_bytes xs a b
+loose_bytes-all lo hi a b end bytes i xs placed h e k =
+    let none : loose_bytes (drop i xs) a end ≡ 0 = ap (λ ys. loose_bytes ys a end) (drop_of_length-le xs h) in
+    let same : loose_bytes xs a end ≡ loose_bytes xs a b = ap (loose_bytes xs a) e ∙ loose_bytes-end lo hi a b xs placed in
+    omega (arith, k, none, same)
+
+-- where the blocks that pass a test end
+abbrev pub ends_of : (Block → Bool) → List Block → List ℕ
+ends_of test xs = map block_end (filter test xs)
+
+-- the same, one turn of a loop on: the ends of the blocks from this one on
+module _ (test : Block → Bool) (xs : List Block) (i : ℕ) (d : Block) (h : i < length xs) where
+  pub ends_of-taken : IsTrue (test (get_or xs i d)) → ends_of test (drop i xs) ≡ block_end (get_or xs i d) ∷ ends_of test (drop (i + 1) xs)
+  ends_of-taken t = ap (ends_of test) (cut_here xs i d h) ∙ ap (map block_end) (cond-true (test (get_or xs i d)) _ _ t)
+
+  pub ends_of-passed : test (get_or xs i d) ≡ false → ends_of test (drop i xs) ≡ ends_of test (drop (i + 1) xs)
+  ends_of-passed t = ap (ends_of test) (cut_here xs i d h) ∙ ap (map block_end) (cond-false (test (get_or xs i d)) _ _ t)
+
+  pub largest-taken : (f : ℕ → ℕ) (most most' total : ℕ) → IsTrue (test (get_or xs i d)) → max most (largest (map f (ends_of test (drop i xs)))) ≡ total
+      → most' ≡ max most (f (block_end (get_or xs i d))) → max most' (largest (map f (ends_of test (drop (i + 1) xs)))) ≡ total
+  largest-taken f most most' total t k e =
+      let one : largest (map f (ends_of test (drop i xs))) ≡ max (f (block_end (get_or xs i d))) (largest (map f (ends_of test (drop (i + 1) xs)))) = ap (λ ends. largest (map f ends)) (ends_of-taken t) in
+      omega (arith, k, e, one)
+
+  pub largest-passed : (f : ℕ → ℕ) (most most' total : ℕ) → test (get_or xs i d) ≡ false → max most (largest (map f (ends_of test (drop i xs)))) ≡ total
+      → most' ≡ most → max most' (largest (map f (ends_of test (drop (i + 1) xs)))) ≡ total
+  largest-passed f most most' total t k e =
+      let one : largest (map f (ends_of test (drop i xs))) ≡ largest (map f (ends_of test (drop (i + 1) xs))) = ap (λ ends. largest (map f ends)) (ends_of-passed t) in
+      omega (arith, k, e, one)
+
+  pub spans-taken : (hi : ℕ) (spans spans' total : List Span) → IsTrue (test (get_or xs i d)) → spans ++ spans_from test hi xs (ends_of test (drop i xs)) ≡ total
+      → spans' ≡ spans ++ spans_from test hi xs (block_end (get_or xs i d) ∷ []) → spans' ++ spans_from test hi xs (ends_of test (drop (i + 1) xs)) ≡ total
+  spans-taken hi spans spans' total t k e =
+      ap (λ ss. ss ++ rest) e ∙ append_assoc spans _ rest ∙ ap (λ ss. spans ++ ss) (spans_from-first test hi xs (block_end (get_or xs i d)) (ends_of test (drop (i + 1) xs))) ∙ ap (λ ends. spans ++ spans_from test hi xs ends) (sym (ends_of-taken t)) ∙ k
+    where
+      rest : List Span
+      rest = spans_from test hi xs (ends_of test (drop (i + 1) xs))
+
+  pub spans-passed : (hi : ℕ) (spans spans' total : List Span) → test (get_or xs i d) ≡ false → spans ++ spans_from test hi xs (ends_of test (drop i xs)) ≡ total
+      → spans' ≡ spans → spans' ++ spans_from test hi xs (ends_of test (drop (i + 1) xs)) ≡ total
+  spans-passed hi spans spans' total t k e = ap (λ ss. ss ++ spans_from test hi xs (ends_of test (drop (i + 1) xs))) e ∙ ap (λ ends. spans ++ spans_from test hi xs ends) (sym (ends_of-passed t)) ∙ k
+
+-- at the loop's end
+pub largest-all : (f : ℕ → ℕ) (test : Block → Bool) (xs : List Block) (i most total : ℕ) → length xs ≤ i → max most (largest (map f (ends_of test (drop i xs)))) ≡ total → most ≡ total
+largest-all f test xs i most total h k =
+    let none : largest (map f (ends_of test (drop i xs))) ≡ 0 = ap (λ ys. largest (map f (ends_of test ys))) (drop_of_length-le xs h) in
+    omega (arith, k, none)
+
+pub spans-all : (hi : ℕ) (test : Block → Bool) (xs : List Block) (i : ℕ) (spans total : List Span) → length xs ≤ i → spans ++ spans_from test hi xs (ends_of test (drop i xs)) ≡ total → spans ≡ total
+spans-all hi test xs i spans total h k = sym (append-nil spans) ∙ sym (ap (λ ys. spans ++ spans_from test hi xs (ends_of test ys)) (drop_of_length-le xs h)) ∙ k

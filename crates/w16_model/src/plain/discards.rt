@@ -1,0 +1,135 @@
+//! How many discards make room, by trying each number.
+ghost use Rattle.std.specs.Prelude.{◌≡◌, IfOk};
+ghost use Rattle.w16_model.specs.Gap.{ArePlaced};
+ghost use Rattle.w16_model.specs.Prefix as prefix;
+
+use super::{Snapshot, is_pinned};
+use crate::{Block, Way};
+use std::alloc::{AllocError, Global};
+
+impl<'a> Snapshot<'a> {
+    /// The ids of what a request about an object, or about none, may discard, the one used longest
+    /// ago first. An error says that memory for the list is missing.
+    pub fn eligible(&self, alloc: Global, about: Option<u32>) -> Result<Vec<u32>, AllocError>
+        ensures { IfOk result
+            (λ ids. ids.items ≡ prefix.eligible self.now.blocks.now self.now.order.now about) }
+    {
+        self.order
+            .iter()
+            .copied()
+            .filter(|&id| !self.is_pinned_id(id) && !is_about(about, id))
+            .collect(alloc)
+    }
+
+    /// The room where the object that the request is about and the first `count` eligible ones
+    /// aren't counted. An error says that memory is missing.
+    pub fn room_for(
+        &self,
+        alloc: Global,
+        count: usize,
+        about: Option<u32>,
+    ) -> Result<u32, AllocError>
+        requires { ArePlaced self.now.lo self.now.hi self.now.blocks.now }
+        ensures { IfOk result
+            (λ room. room
+            ≡ prefix.room_for self.now.lo self.now.hi self.now.blocks.now self.now.order.now
+            count about) }
+    {
+        let eligible = self.eligible(alloc, about)?;
+        let discarded = &eligible[..count.min(eligible.len())];
+        let blocks = self.blocks_without(alloc, discarded, about)?;
+        let left = Snapshot {
+            blocks: &blocks,
+            ..*self
+        };
+        Ok(left.room())
+    }
+
+    /// The least number of discards that makes room for `size` bytes, if there is one.
+    /// An error says that memory is missing.
+    pub fn needed(
+        &self,
+        alloc: Global,
+        size: u32,
+        about: Option<u32>,
+    ) -> Result<Option<usize>, AllocError>
+        requires { ArePlaced self.now.lo self.now.hi self.now.blocks.now }
+        ensures { IfOk result
+            (λ count. count
+            ≡ prefix.needed self.now.lo self.now.hi self.now.blocks.now self.now.order.now
+            size about) }
+    {
+        let most = self.eligible(alloc, about)?.len();
+        for count in 0..=most {
+            if size <= self.room_for(alloc, count, about)? {
+                return Ok(Some(count));
+            }
+        }
+        Ok(None)
+    }
+
+    /// The number of discards by which a request for `size` bytes is answered, or `None` where it
+    /// is refused. An error says that memory is missing.
+    pub fn prefix(
+        &self,
+        alloc: Global,
+        size: u32,
+        about: Option<u32>,
+        way: Way,
+    ) -> Result<Option<usize>, AllocError>
+        requires { ArePlaced self.now.lo self.now.hi self.now.blocks.now }
+        ensures { IfOk result
+            (λ count. count
+            ≡ prefix.prefix_for self.now.lo self.now.hi self.now.blocks.now self.now.order.now
+            size about way) }
+    {
+        if !way.compact {
+            return Ok((size <= self.longest_hole()).then_some(0));
+        }
+        if !way.discard {
+            return Ok((size <= self.room_for(alloc, 0, about)?).then_some(0));
+        }
+        self.needed(alloc, size, about)
+    }
+
+    /// Whether this is the id of a pinned block.
+    fn is_pinned_id(&self, id: u32) -> bool
+        ensures { result ≡ prefix.is_pinned_id self.now.blocks.now id }
+    {
+        self.blocks
+            .iter()
+            .any(|block| block.id == id && is_pinned(block))
+    }
+
+    /// The blocks without those of these ids, and without that of the request's object.
+    fn blocks_without(
+        &self,
+        alloc: Global,
+        ids: &[u32],
+        about: Option<u32>,
+    ) -> Result<Vec<Block>, AllocError>
+        ensures { IfOk result
+            (λ blocks. blocks.items
+            ≡ prefix.blocks_without self.now.blocks.now ids.now about) }
+    {
+        self.blocks
+            .iter()
+            .copied()
+            .filter(|block| !is_member(block.id, ids) && !is_about(about, block.id))
+            .collect(alloc)
+    }
+}
+
+/// Whether the id is one of these.
+fn is_member(id: u32, ids: &[u32]) -> bool
+    ensures { result ≡ prefix.is_member id ids.now }
+{
+    ids.contains(&id)
+}
+
+/// Whether the request is about this object.
+fn is_about(about: Option<u32>, id: u32) -> bool
+    ensures { result ≡ prefix.is_about about id }
+{
+    about == Some(id)
+}
