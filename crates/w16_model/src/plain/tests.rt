@@ -644,103 +644,102 @@ const CASES: &[Case] = &[
 ];
 
 #[test]
-fn decides(rt: HostRuntime) -> Result<(), Fail> {
+fn finds_holes(rt: HostRuntime) -> Result<(), Fail> {
+    for case in CASES {
+        let name = case.name;
+        let heap = case.heap;
+        assert!(rt; heap.is_placed(), "{name}");
+
+        let holes = heap.holes(rt.alloc())?;
+        assert_eq!(rt; holes.as_slice(), case.holes, "{name}: holes");
+        for hole in case.holes {
+            assert_eq!(rt; heap.hole_end(hole.from), hole.to, "{name}: a hole's end");
+        }
+        let longest = heap.longest_hole();
+        assert_eq!(rt; longest, case.longest_hole, "{name}: longest hole");
+    }
+    Ok(())
+}
+
+#[test]
+fn finds_gaps(rt: HostRuntime) -> Result<(), Fail> {
+    for case in CASES {
+        let name = case.name;
+        let heap = case.heap;
+        assert!(rt; heap.is_placed(), "{name}");
+
+        let gaps = heap.gaps(rt.alloc())?;
+        let expected = case.gaps.iter().map(|(gap, _)| gap);
+        assert!(rt; gaps.iter().eq(expected), "{name}: gaps");
+        for (gap, loose) in case.gaps {
+            assert_eq!(rt; heap.gap_end(gap.from), gap.to, "{name}: a gap's end");
+            let bytes = heap.loose_between(gap.from, gap.to);
+            assert_eq!(rt; bytes, *loose, "{name}: loose bytes");
+        }
+        assert_eq!(rt; heap.room(), case.room, "{name}: room");
+    }
+    Ok(())
+}
+
+#[test]
+fn counts_discards(rt: HostRuntime) -> Result<(), Fail> {
     for case in CASES {
         let name = case.name;
         let heap = case.heap;
         let (size, about, way) = case.asked;
         assert!(rt; heap.is_placed(), "{name}");
 
-        assert_eq!(rt;
-            heap.holes(rt.alloc())?.as_slice(),
-            case.holes,
-            "{name}: holes"
-        );
-        for hole in case.holes {
-            assert_eq!(rt; heap.hole_end(hole.from), hole.to, "{name}: a hole's end");
+        let eligible = heap.eligible(rt.alloc(), about)?;
+        assert_eq!(rt; eligible.as_slice(), case.eligible, "{name}: eligible");
+        for (count, expected) in case.rooms.iter().enumerate() {
+            let room = heap.room_for(rt.alloc(), count, about)?;
+            assert_eq!(rt; room, *expected, "{name}: room after {count}");
         }
-        assert_eq!(rt;
-            heap.longest_hole(),
-            case.longest_hole,
-            "{name}: longest hole"
-        );
-
-        let gaps = heap.gaps(rt.alloc())?;
-        assert!(rt;
-            gaps.iter().eq(case.gaps.iter().map(|(gap, _)| gap)),
-            "{name}: gaps"
-        );
-        for (gap, loose) in case.gaps {
-            assert_eq!(rt; heap.gap_end(gap.from), gap.to, "{name}: a gap's end");
-            assert_eq!(rt;
-                heap.loose_between(gap.from, gap.to),
-                *loose,
-                "{name}: loose bytes"
-            );
-        }
-        assert_eq!(rt; heap.room(), case.room, "{name}: room");
-
-        assert_eq!(rt;
-            heap.eligible(rt.alloc(), about)?.as_slice(),
-            case.eligible,
-            "{name}: eligible"
-        );
-        for (count, room) in case.rooms.iter().enumerate() {
-            assert_eq!(rt;
-                heap.room_for(rt.alloc(), count, about)?,
-                *room,
-                "{name}: room after {count}"
-            );
-        }
-        assert_eq!(rt;
-            heap.needed(rt.alloc(), size, about)?,
-            case.needed,
-            "{name}: needed"
-        );
-        assert_eq!(rt;
-            heap.prefix(rt.alloc(), size, about, way)?,
-            case.prefix,
-            "{name}: prefix"
-        );
+        let needed = heap.needed(rt.alloc(), size, about)?;
+        assert_eq!(rt; needed, case.needed, "{name}: needed");
+        let prefix = heap.prefix(rt.alloc(), size, about, way)?;
+        assert_eq!(rt; prefix, case.prefix, "{name}: prefix");
     }
     Ok(())
 }
 
+/// Blocks between 32 and 128, and whether they are placed there.
+const PLACED: &[(&str, &[Block], bool)] = &[
+    ("no blocks", &[], true),
+    (
+        "two that touch",
+        &[loose!(33, 64, 32), pinned!(32, 32, 32)],
+        true,
+    ),
+    ("one as long as the heap", &[loose!(32, 32, 96)], true),
+    ("one without bytes", &[loose!(32, 32, 0)], false),
+    ("one that begins too low", &[loose!(32, 28, 32)], false),
+    ("one that ends too high", &[loose!(32, 100, 32)], false),
+    (
+        "one whose end is no address",
+        &[loose!(32, 32, 4_294_967_295)],
+        false,
+    ),
+    (
+        "two that share a byte",
+        &[loose!(32, 32, 32), loose!(33, 63, 32)],
+        false,
+    ),
+    (
+        "one inside another",
+        &[loose!(32, 32, 96), loose!(33, 64, 4)],
+        false,
+    ),
+    (
+        "one that is listed twice",
+        &[loose!(32, 32, 32), loose!(32, 32, 32)],
+        false,
+    ),
+];
+
 #[test]
 fn tells_what_is_placed(rt: HostRuntime) {
-    let cases: &[(&str, &[Block], bool)] = &[
-        ("no blocks", &[], true),
-        (
-            "two that touch",
-            &[loose!(33, 64, 32), pinned!(32, 32, 32)],
-            true,
-        ),
-        ("one as long as the heap", &[loose!(32, 32, 96)], true),
-        ("one without bytes", &[loose!(32, 32, 0)], false),
-        ("one that begins too low", &[loose!(32, 28, 32)], false),
-        ("one that ends too high", &[loose!(32, 100, 32)], false),
-        (
-            "one whose end is no address",
-            &[loose!(32, 32, 4_294_967_295)],
-            false,
-        ),
-        (
-            "two that share a byte",
-            &[loose!(32, 32, 32), loose!(33, 63, 32)],
-            false,
-        ),
-        (
-            "one inside another",
-            &[loose!(32, 32, 96), loose!(33, 64, 4)],
-            false,
-        ),
-        (
-            "one that is listed twice",
-            &[loose!(32, 32, 32), loose!(32, 32, 32)],
-            false,
-        ),
-    ];
-    for (name, blocks, placed) in cases {
+    for (name, blocks, placed) in PLACED {
         let heap = Snapshot {
             lo: 32,
             hi: 128,
