@@ -1,0 +1,46 @@
+//! Loops over blocks.
+ghost use Rattle.std.specs.Prelude.{◌≡◌, ◌≤◌, ◌<◌, IfOk};
+
+use crate::{COUNT, SIZE, STRIDE, UNIT};
+use std::alloc::{AllocError, Global};
+use w16_blocks::{Block, Blocks, Hold};
+
+/// As many blocks as there may be, each of one unit, so that there is no hole.
+pub fn full(alloc: Global) -> Result<Blocks, AllocError>
+    ensures { IfOk result (λ blocks. blocks.cap ≡ COUNT) }
+{
+    let mut blocks = Blocks::with_room(alloc, COUNT, 0, SIZE, UNIT)?;
+    for id in 0..COUNT {
+        blocks.insert(Block {
+            id,
+            at: id * UNIT,
+            size: UNIT,
+            hold: Hold::Loose,
+        });
+    }
+    Ok(blocks)
+}
+
+/// Finds blocks by their ids, `turns` times, and adds up their addresses.
+pub fn find(blocks: &Blocks, turns: u32) -> u64
+    requires { COUNT ≤ blocks.now.cap }
+{
+    let mut total = 0u64;
+    for turn in 0..turns {
+        let id = turn.wrapping_mul(STRIDE) % COUNT;
+        if let Some(block) = blocks.find(id) {
+            total = total.wrapping_add(u64::from(block.at));
+        }
+    }
+    total
+}
+
+/// Looks for the place of blocks by their addresses, `turns` times, and adds up their ranks.
+pub fn rank(blocks: &Blocks, turns: u32) -> u64 {
+    let mut total = 0u64;
+    for turn in 0..turns {
+        let at = turn.wrapping_mul(STRIDE) % SIZE;
+        total = total.wrapping_add(blocks.rank(at) as u64);
+    }
+    total
+}

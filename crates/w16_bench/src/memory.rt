@@ -1,0 +1,41 @@
+//! Loops over the bytes of a space.
+ghost use Rattle.std.specs.Prelude.{◌≡◌, length};
+
+use crate::{COUNT, SIZE, STRIDE, UNIT};
+use w16_region::Space;
+
+/// Slides one unit to the place of another, `turns` times.
+pub fn slide<S: Space>(space: &mut S, turns: u32)
+    requires { length (S.bytes space.old) ≡ SIZE }
+    ensures { length (S.bytes space.new) ≡ SIZE }
+{
+    for turn in 0..turns {
+        let from = turn.wrapping_mul(STRIDE) % COUNT;
+        let to = turn % COUNT;
+        space.slide(from * UNIT, to * UNIT, UNIT);
+    }
+}
+
+/// Fills one unit, `turns` times.
+pub fn fill<S: Space>(space: &mut S, turns: u32)
+    requires { length (S.bytes space.old) ≡ SIZE }
+    ensures { length (S.bytes space.new) ≡ SIZE }
+{
+    for turn in 0..turns {
+        let at = turn.wrapping_mul(STRIDE) % COUNT;
+        space.fill(at * UNIT, UNIT, (turn % 251) as u8);
+    }
+}
+
+/// Views one unit, `turns` times, and adds up the first bytes.
+pub fn view<S: Space>(space: &S, turns: u32) -> u64
+    requires { length (S.bytes space.now) ≡ SIZE }
+{
+    let mut total = 0u64;
+    for turn in 0..turns {
+        let at = turn.wrapping_mul(STRIDE) % COUNT;
+        let unit = space.view(at * UNIT, UNIT);
+        total = total.wrapping_add(u64::from(unit[0]));
+    }
+    total
+}

@@ -1,0 +1,9 @@
+pub mod Rank
+pub mod Find
+pub mod Place
+pub mod Remove
+pub mod Kept
+pub mod Room
+pub mod Replace
+pub mod Hole
+pub mod Itself

@@ -1,0 +1,3 @@
+mod Lends
+mod Pairs
+mod Frames
