@@ -1,13 +1,12 @@
 -- The table of blocks has an id's block.
-use Rattle.std.proofs.Common.{ℕ, zero, suc, ◌≡◌, ◌≢◌, ◌+◌, ◌<◌, ◌≤◌, List, [], ◌∷◌, length, get_or, cond, ltb, eqb, true, false, Some, None, Option, arith, refl, sym, ◌∙◌, ap, inl, inr}
-use Rattle.std.proofs.lemmas.Bool.Decides.{nat_tests, eqb_tells}
+use Rattle.std.proofs.Common.{ℕ, ◌≡◌, ◌<◌, ◌≤◌, List, [], ◌∷◌, length, Some, None, arith, refl, ap, inl, inr}
+use Rattle.std.proofs.lemmas.Bool.Decides.{eqb_tells}
 use Rattle.std.proofs.lemmas.Bool.{lt-ltb, le-ltb}
-use Rattle.std.specs.List.{AllByRecursion}
 use Rattle.w16_model.specs.declared.Block.{Block}
 use Rattle.w16_model.specs.Gap.{IsLaid, block_end}
 use Rattle.w16_model.specs.Table.{block_with}
 use Rattle.w16_blocks.specs.Layout.{rank}
-use Rattle.w16_blocks.specs.Kept.{entry_of, no_block}
+use Rattle.w16_blocks.specs.Kept.{entry_of}
 
 -- an entry with bytes is at or above the first bound
 pub entry_from : (low high id : ℕ) (x : Block) (bs : List Block) → IsLaid low high bs → entry_of id bs ≡ x → 0 < x.size → low ≤ x.at

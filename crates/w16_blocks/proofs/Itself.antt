@@ -1,10 +1,9 @@
 -- A block with another hold stands where it stood.
-use Rattle.std.proofs.Common.{◌≡◌, ◌≢◌, ℕ, ◌+◌, ◌<◌, ◌≤◌, ◌⊎◌, inl, inr, Bool, true, false, not, ◌==◌, IsTrue, List, [], ◌∷◌, Option, Some, None, refl, sym, ap, ◌∙◌, subst, arith, eq-eqb}
-use Rattle.std.specs.List.{AllByRecursion}
+use Rattle.std.proofs.Common.{◌≡◌, ◌≢◌, ℕ, ◌<◌, ◌≤◌, inl, inr, not, ◌==◌, IsTrue, List, [], ◌∷◌, Some, sym, ap, ◌∙◌, subst, eq-eqb}
 use Rattle.std.proofs.lemmas.Bool.{false≢true, not-true}
 use Rattle.w16_model.specs.declared.Block.{Block}
 use Rattle.w16_model.specs.declared.Hold.{Hold}
-use Rattle.w16_model.specs.Gap.{IsLaid, Misses, block_end}
+use Rattle.w16_model.specs.Gap.{block_end}
 use Rattle.w16_model.specs.Table.{block_with}
 use Rattle.w16_model.proofs.Gaps.{Member, Each-at, Each-from, member_filter}
 use Rattle.w16_model.proofs.Starts.{two}

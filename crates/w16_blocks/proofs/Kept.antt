@@ -1,8 +1,7 @@
 -- What the table of places tells of a block.
-use Rattle.std.proofs.Common.{ℕ, suc, ◌≡◌, ◌≢◌, ◌+◌, ◌-◌, ◌^◌, ◌<◌, ◌≤◌, List, [], ◌∷◌, length, get_or, set, drop, Some, None, IsSome, is_some, arith, refl, sym, ◌∙◌, ap, subst}
+use Rattle.std.proofs.Common.{ℕ, ◌≡◌, ◌≢◌, ◌+◌, ◌<◌, ◌≤◌, List, ◌∷◌, length, get_or, set, drop, Some, None, IsSome, is_some, arith, sym, ◌∙◌, ap, subst}
 use Rattle.std.proofs.lemmas.List.{get_or_read, drop_more}
 use Rattle.w16_model.specs.declared.Block.{Block}
-use Rattle.w16_model.specs.declared.Hold.TheVariants.{Pinned}
 use Rattle.w16_model.specs.Gap.{IsLaid, block_end}
 use Rattle.w16_model.specs.Table.{block_with}
 use Rattle.w16_blocks.specs.Layout.{rank, without, replaced}

@@ -1,13 +1,13 @@
 -- What adding a block keeps.
-use Rattle.std.proofs.Common.{ℕ, zero, suc, ◌≡◌, ◌≢◌, ◌+◌, ◌<◌, ◌≤◌, List, [], ◌∷◌, ◌++◌, length, get_or, set, cond, ltb, eqb, true, false, arith, refl, sym, ap, inl, inr, ◌⊎◌}
-use Rattle.std.proofs.lemmas.Bool.Decides.{nat_tests, eqb_tells}
+use Rattle.std.proofs.Common.{ℕ, ◌≡◌, ◌≢◌, ◌<◌, ◌≤◌, List, [], ◌∷◌, length, set, cond, eqb, arith, refl, sym, ap, inl, inr}
+use Rattle.std.proofs.lemmas.Bool.Decides.{eqb_tells}
 use Rattle.std.proofs.lemmas.Bool.{lt-ltb, le-ltb, cases_lt}
 use Rattle.std.proofs.lemmas.List.{get_or-set_same, get_or-set_other}
 use Rattle.std.specs.List.{AllByRecursion, insert}
 use Rattle.w16_model.specs.declared.Block.{Block}
 use Rattle.w16_model.specs.Gap.{IsLaid, block_end}
-use Rattle.w16_blocks.specs.Layout.{Layout, Fits, IsApart, rank, placed, AreNamed, IsGrained}
-use Rattle.w16_blocks.specs.Kept.{HasEachId, IsKept, entry_of, no_block}
+use Rattle.w16_blocks.specs.Layout.{Fits, IsApart, rank, placed, AreNamed, IsGrained}
+use Rattle.w16_blocks.specs.Kept.{IsKept, entry_of, no_block}
 
 pub insert-rank : (b : Block) (bs : List Block) → insert bs (rank b.at bs) b ≡ placed b bs
 insert-rank b [] = refl

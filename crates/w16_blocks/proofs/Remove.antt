@@ -1,13 +1,13 @@
 -- What taking a block away keeps.
-use Rattle.std.proofs.Common.{ℕ, zero, suc, ◌≡◌, ◌≢◌, ◌+◌, ◌<◌, ◌≤◌, List, [], ◌∷◌, ◌++◌, length, get_or, set, cond, not, ltb, eqb, true, false, arith, refl, sym, ◌∙◌, subst, ap, inl, inr, ◌⊎◌}
-use Rattle.std.proofs.lemmas.Bool.Decides.{nat_tests, eqb_tells}
-use Rattle.std.proofs.lemmas.Bool.{lt-ltb, le-ltb, cases_lt, ne_eqb, eq-eqb}
+use Rattle.std.proofs.Common.{ℕ, ◌≡◌, ◌≢◌, ◌<◌, ◌≤◌, List, [], ◌∷◌, length, set, cond, eqb, arith, refl, sym, subst, ap, inl, inr}
+use Rattle.std.proofs.lemmas.Bool.Decides.{eqb_tells}
+use Rattle.std.proofs.lemmas.Bool.{lt-ltb, le-ltb, ne_eqb}
 use Rattle.std.proofs.lemmas.List.{get_or-set_same, get_or-set_other}
 use Rattle.std.specs.List.{AllByRecursion, remove}
 use Rattle.w16_model.specs.declared.Block.{Block}
 use Rattle.w16_model.specs.Gap.{IsLaid, block_end}
 use Rattle.w16_blocks.specs.Layout.{rank, without, AreNamed, IsGrained}
-use Rattle.w16_blocks.specs.Kept.{HasEachId, IsKept, entry_of, no_block}
+use Rattle.w16_blocks.specs.Kept.{IsKept, entry_of, no_block}
 use Rattle.w16_blocks.proofs.Find.{entry_from}
 
 pub without_absent : (id : ℕ) (bs : List Block) → AllByRecursion (λ c. c.id ≢ id) bs → without id bs ≡ bs

@@ -1,14 +1,14 @@
 -- A block in place of the one of its id.
-use Rattle.std.proofs.Common.{ℕ, zero, suc, ◌≡◌, ◌≢◌, ◌+◌, ◌<◌, ◌≤◌, List, [], ◌∷◌, ◌++◌, length, get_or, set, cond, not, ltb, eqb, true, false, Some, None, IsSome, is_some, arith, refl, sym, ◌∙◌, subst, ap, inl, inr, ◌⊎◌}
-use Rattle.std.proofs.lemmas.Bool.Decides.{nat_tests, eqb_tells}
-use Rattle.std.proofs.lemmas.Bool.{lt-ltb, le-ltb, cases_lt, ne_eqb, eq-eqb, false≢true}
+use Rattle.std.proofs.Common.{ℕ, zero, suc, ◌≡◌, ◌≢◌, ◌<◌, ◌≤◌, List, [], ◌∷◌, length, get_or, set, ltb, true, false, Some, is_some, arith, refl, sym, ◌∙◌, subst, ap, inl, inr, ◌⊎◌}
+use Rattle.std.proofs.lemmas.Bool.Decides.{eqb_tells}
+use Rattle.std.proofs.lemmas.Bool.{lt-ltb, le-ltb, false≢true}
 use Rattle.std.proofs.lemmas.List.{set-set, length-set}
 use Rattle.std.specs.List.{AllByRecursion}
 use Rattle.w16_model.specs.declared.Block.{Block}
 use Rattle.w16_model.specs.Gap.{IsLaid, block_end}
 use Rattle.w16_model.specs.Table.{block_with}
-use Rattle.w16_blocks.specs.Layout.{Layout, Fits, FitsFor, rank, without, replaced, placed, AreNamed}
-use Rattle.w16_blocks.specs.Kept.{Stays, IsRising, HasEachId, IsKept, entry_of, no_block}
+use Rattle.w16_blocks.specs.Layout.{FitsFor, rank, without, replaced, placed, AreNamed}
+use Rattle.w16_blocks.specs.Kept.{Stays, IsRising, IsKept, entry_of, no_block}
 use Rattle.w16_blocks.proofs.Rank.{each_at}
 use Rattle.w16_blocks.proofs.Find.{entry_from}
 use Rattle.w16_blocks.proofs.Place.{IsKept-placed}

@@ -1,6 +1,5 @@
 -- The layout that the tests begin with.
 use Rattle.std.specs.Prelude.{[], ◌∷◌}
-use Rattle.w16_model.specs.declared.Block.{Block}
 use Rattle.w16_model.specs.declared.Hold.TheVariants.{Pinned, Loose}
 use Rattle.w16_blocks.specs.Layout.{Layout}
 

@@ -1,4 +1,4 @@
-use Rattle.std.proofs.Common.{◌≡◌, ◌≤◌, ◌-◌, Some, None, sym, ap, ◌∙◌, subst, arith}
+use Rattle.std.proofs.Common.{◌≡◌, ◌-◌, Some, None, sym, ap, ◌∙◌, arith}
 use Rattle.w16_model.specs.Gap.{first_from, is_any}
 use Rattle.w16_blocks.specs.Layout.{Layout}
 use Rattle.w16_blocks.proofs.Hole.{behind, first_above}

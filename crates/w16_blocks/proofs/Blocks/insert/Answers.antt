@@ -1,4 +1,4 @@
-use Rattle.std.proofs.Common.{◌≡◌, ◌<◌, ◌≤◌, sym, ◌∙◌, ap, subst, arith, length, is_ok, true, set}
+use Rattle.std.proofs.Common.{◌≡◌, sym, ◌∙◌, ap, arith, is_ok, true, set}
 use Rattle.std.proofs.lemmas.Bool.{false≢true}
 use Rattle.w16_blocks.specs.Layout.{Layout, Fits, rank, placed}
 use Rattle.w16_blocks.proofs.Rank.{IsRising-from_apart}

@@ -1,7 +1,6 @@
-use Rattle.std.proofs.Common.{◌≡◌, ◌<◌, ◌≤◌, ◌≢◌, sym, ◌∙◌, ap, arith, set}
+use Rattle.std.proofs.Common.{◌≡◌, sym, ◌∙◌, ap, arith, set}
 use Rattle.std.specs.List.{remove}
 use Rattle.w16_blocks.specs.Layout.{Layout, rank, without}
-use Rattle.w16_blocks.specs.Kept.{IsKept}
 use Rattle.w16_blocks.proofs.Rank.{IsRising-from_apart}
 use Rattle.w16_blocks.specs.Kept.{no_block}
 use Rattle.w16_blocks.proofs.Room.{ordered_of}

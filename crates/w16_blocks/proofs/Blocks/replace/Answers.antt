@@ -1,7 +1,7 @@
-use Rattle.std.proofs.Common.{ℕ, ◌≡◌, ◌<◌, ◌≤◌, ◌≢◌, refl, sym, ◌∙◌, ap, subst, arith, set, List}
+use Rattle.std.proofs.Common.{ℕ, ◌≡◌, refl, sym, ◌∙◌, ap, subst, arith, set, List}
 use Rattle.w16_model.specs.declared.Block.{Block}
 use Rattle.w16_blocks.specs.Layout.{Layout, FitsFor, rank, replaced}
-use Rattle.w16_blocks.specs.Kept.{IsKept, Stays}
+use Rattle.w16_blocks.specs.Kept.{Stays}
 use Rattle.w16_blocks.proofs.Rank.{IsRising-from_apart}
 use Rattle.w16_blocks.proofs.Kept.{entry_known, found_rank, set_found}
 use Rattle.w16_blocks.proofs.Room.{ordered_of}

@@ -1,4 +1,4 @@
-use Rattle.std.proofs.Common.{sym, ap, subst, IsSome, ℕ}
+use Rattle.std.proofs.Common.{sym, subst, IsSome, ℕ}
 use Rattle.w16_model.specs.Table.{block_with}
 use Rattle.w16_model.proofs.Tables.{member_with}
 use Rattle.w16_blocks.proofs.Itself.{fits_itself}

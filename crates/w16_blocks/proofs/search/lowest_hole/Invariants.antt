@@ -1,4 +1,4 @@
-use Rattle.std.proofs.Common.{◌≡◌, length, drop}
+use Rattle.std.proofs.Common.{◌≡◌, drop}
 use Rattle.std.specs.List.{find}
 use Rattle.w16_model.specs.Gap.{IsLaid, holes}
 use Rattle.w16_blocks.proofs.Hole.{is_long}

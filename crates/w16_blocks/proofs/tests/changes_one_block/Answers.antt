@@ -1,7 +1,7 @@
-use Rattle.std.proofs.Common.{◌≡◌, [], ◌∷◌, inl, inr, Some, arith, refl, sym, subst}
+use Rattle.std.proofs.Common.{◌≡◌, inl, inr, arith, refl, subst}
 use Rattle.w16_model.specs.declared.Block.{Block}
 use Rattle.w16_model.specs.declared.Hold.TheVariants.{Loose}
-use Rattle.w16_blocks.specs.Layout.{Layout, Fits, without}
+use Rattle.w16_blocks.specs.Layout.{Fits, without}
 use Rattle.w16_blocks.specs.Sample.{three_blocks}
 use Rattle.w16_blocks.proofs.tests.changes_one_block.Goals as goal
 

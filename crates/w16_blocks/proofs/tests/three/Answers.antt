@@ -1,5 +1,4 @@
-use Rattle.std.proofs.Common.{[], ◌∷◌, inl, inr, arith, refl}
-use Rattle.w16_model.specs.declared.Block.{Block}
+use Rattle.std.proofs.Common.{[], ◌∷◌, inr, arith, refl}
 use Rattle.w16_model.specs.declared.Hold.TheVariants.{Pinned, Loose}
 use Rattle.w16_blocks.specs.Layout.{Layout, Fits}
 use Rattle.w16_blocks.proofs.tests.three.Goals as goal
@@ -18,4 +17,4 @@ third_fits = record {
 }
 
 pub insert-requires-3 : goal.insert-requires-3
-insert-requires-3 g c = rw (c.insert-2.ensures, c.insert.ensures, c.block-2.ensures, c.block.ensures, c.in_ok-blocks.ensures, c.block-3.ensures) third_fits
+insert-requires-3 g c = rw (c.insert-2.ensures.value, c.insert.ensures.value, c.block-2.ensures, c.block.ensures, c.in_ok-blocks.ensures, c.block-3.ensures) third_fits
