@@ -11,7 +11,8 @@ use Rattle.std.proofs.lemmas.Bool.{false≢true, cases_Bool, cases_eq}
 use Rattle.w16_model.specs.declared.Block.{Block}
 use Rattle.w16_model.specs.Heap.{Heap, Object, blocks, block_of, object_at, hold_of}
 use Rattle.w16_model.proofs.Gaps.{EachPair, Member, Each-at, Each-from, EachPair-map}
-use Rattle.w16_model.proofs.Members.{AllDiffer}
+use Rattle.w16_model.proofs.Members.{AllDiffer, permutation_from}
+use Rattle.std.proofs.Common.{IsPermutation}
 use Rattle.w16_model.specs.Edit.{absent, update}
 
 pub tied : (q k : ℕ) → eq_by_cmp nat_cmp q k ≡ true → q ≡ k
@@ -155,6 +156,10 @@ blocks_rise places (e ∷ es) h =
 pub blocks_differ : (heap : Heap) → AllDiffer (blocks heap)
 blocks_differ heap = EachPair-map (λ x y. x.id < y.id) (λ x y. x ≢ y) (λ x y l e. let same : x.id ≡ y.id = ap (λ (z : Block). z.id) e in omega (arith, l, same)) (blocks heap)
     (blocks_rise heap.places (finmap.entries heap.objects) (keys_rise (finmap.entries heap.objects) (entries_sorted heap.objects)))
+
+-- Any list of blocks that says what the heap says is the heap's, in another order.
+pub blocks_permutation : (heap : Heap) (xs : List Block) → AllDiffer xs → ((x : Block) → Member x xs → IsBlockOf heap x) → ((x : Block) → IsBlockOf heap x → Member x xs) → IsPermutation xs (blocks heap)
+blocks_permutation heap xs differ into back = permutation_from xs (blocks heap) differ (blocks_differ heap) (λ x m. block_member heap x (into x m)) (λ x m. back x (member_block heap x m))
 
 pub untied : (q k : ℕ) → q ≢ k → eq_by_cmp nat_cmp q k ≡ false
 untied q k h = elim (cases_Bool (eq_by_cmp nat_cmp q k)) [ inl t ↦ absurd (h (tied q k t)) | inr t ↦ t ]

@@ -1,8 +1,13 @@
 -- The longest hole as the room where every block is pinned.
 use Rattle.std.specs.List.{AllByRecursion as Each}
 use Rattle.std.proofs.Common.{◌≡◌, ℕ, ◌-◌, min, max, cond, nat_le, map, filter, List, [], ◌∷◌, refl, sym, ap, ◌∙◌, arith}
+use Rattle.std.proofs.Common.{IsPermutation}
+use Rattle.std.proofs.lemmas.List.Sorted.{IsPermutation-map}
+use Rattle.w16_model.specs.declared.Hold.TheVariants.{Pinned}
+use Rattle.w16_model.proofs.Members.{room-permutation}
 use Rattle.w16_model.specs.declared.Block.{Block}
 use Rattle.w16_model.specs.Gap.{block_end, first_from, is_any, is_pinned, loose_bytes, largest, room_from}
+use Rattle.w16_model.specs.Gap.{longest_hole}
 use Rattle.w16_model.specs.Law.{PinnedLaw, all_pinned}
 
 largest_same : (f g : ℕ → ℕ) (ns : List ℕ) → Each (λ n. f n ≡ g n) ns → largest (map f ns) ≡ largest (map g ns)
@@ -35,3 +40,7 @@ pinned_law lo hi xs =
     every : (ns : List ℕ) → Each (λ n. room_from hi (all_pinned xs) n ≡ first_from is_any hi xs n - n) ns
     every [] = tt
     every (n ∷ ns) = (room_pinned hi xs n, every ns)
+
+-- no order of the blocks changes the longest hole
+pub longest_hole-permutation : (lo hi : ℕ) (xs ys : List Block) → IsPermutation xs ys → longest_hole lo hi ys ≡ longest_hole lo hi xs
+longest_hole-permutation lo hi xs ys perm = pinned_law lo hi ys ∙ room-permutation lo hi (all_pinned xs) (all_pinned ys) (IsPermutation-map (λ (x : Block). record x { hold = Pinned }) xs ys perm) ∙ sym (pinned_law lo hi xs)

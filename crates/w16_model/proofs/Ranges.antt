@@ -5,7 +5,7 @@ use Rattle.std.proofs.lemmas.List.{drop-take, take-take, drop-drop}
 use Rattle.w16_model.specs.declared.Block.{Block}
 use Rattle.w16_model.specs.declared.Entry.{Entry}
 use Rattle.w16_model.specs.Gap.{block_end}
-use Rattle.w16_model.specs.Table.{Table, IsTable, heap_in, object_in, objects_from, block_with}
+use Rattle.w16_model.specs.Table.{Table, IsTable, heap_in, object_in, by_id, block_with}
 use Rattle.w16_model.specs.Law.{RangeLaw}
 use Rattle.w16_model.proofs.Gaps.{Member, Each-at}
 use Rattle.w16_model.proofs.Laid.{laid_each}
@@ -29,7 +29,7 @@ module _ (t : Table) (is : IsTable t) (memory after : List ℕ) (same : (x : Blo
   same_object : (id : ℕ) (e : Entry) → object_in t.blocks after id e ≡ object_in t.blocks memory id e
   same_object id e = λ i. record { kind = e.kind; locks = e.locks; bytes = same_bytes id (block_with t.blocks id) refl i }
 
-  same_objects : (id : ℕ) (es : List (Option Entry)) → objects_from t.blocks after id es ≡ objects_from t.blocks memory id es
+  same_objects : (id : ℕ) (es : List (Option Entry)) → by_id (object_in t.blocks after) id es ≡ by_id (object_in t.blocks memory) id es
   same_objects id [] = refl
   same_objects id (None ∷ es) = same_objects (id + 1) es
   same_objects id (Some e ∷ es) = λ i. (id, same_object id e i) ∷ same_objects (id + 1) es i

@@ -9,10 +9,16 @@ use Rattle.std.proofs.lemmas.Bool.{false≢true}
 use Rattle.w16_model.specs.declared.Block.{Block}
 use Rattle.w16_model.specs.Gap.{block_end}
 use Rattle.w16_model.specs.Heap.{Object, object_at}
-use Rattle.w16_model.specs.Table.{Table, IsTable, heap_in, object_in, block_with, entry_at, hold_in, objects_from}
+use Rattle.w16_model.specs.Table.{Table, IsTable, heap_in, object_in, block_with, entry_at, hold_in, by_id}
 use Rattle.w16_model.specs.declared.Entry.{Entry}
 use Rattle.w16_model.proofs.Gaps.{EachPair, Member, Each-at, Each-from_All, EachPair-from_AllPairs}
 use Rattle.w16_model.proofs.Heaps.{IsBlockOf, tied_itself, untied}
+use Rattle.std.proofs.Common.{◌≢◌}
+use Rattle.w16_model.proofs.Pinned.{longest_hole-permutation}
+use Rattle.w16_model.proofs.Heaps.{blocks_permutation}
+use Rattle.w16_model.proofs.Gaps.{EachPair-map}
+use Rattle.w16_model.specs.Heap.{blocks}
+use Rattle.w16_model.specs.Gap.{longest_hole}
 use Rattle.w16_model.proofs.Places.{same_id}
 use Rattle.w16_model.proofs.Laid.{laid_each}
 
@@ -42,25 +48,29 @@ place_with (y ∷ xs) id =
 pub length_range : (xs : List ℕ) (a n : ℕ) → a + n ≤ length xs → length (slice_range xs a (a + n)) ≡ n
 length_range xs a n h = simp (length-take, length-drop) (omega arith)
 
-module _ (xs : List Block) (memory : List ℕ) where
-  objects_above : (i : ℕ) (es : List (Option Entry)) (q : ℕ) → q < i → find_key nat_cmp q (objects_from xs memory i es) ≡ None
-  objects_above i [] q lt = refl
-  objects_above i (None ∷ es) q lt = objects_above (i + 1) es q (omega arith)
-  objects_above i (Some e ∷ es) q lt = ap (λ b. cond b (Some (object_in xs memory i e)) (find_key nat_cmp q (objects_from xs memory (i + 1) es))) (untied q i (λ f. absurd (omega arith))) ∙ objects_above (i + 1) es q (omega arith)
+module _ {X : Type 0} (give : ℕ → Entry → X) where
+  given_above : (i : ℕ) (es : List (Option Entry)) (q : ℕ) → q < i → find_key nat_cmp q (by_id give i es) ≡ None
+  given_above i [] q lt = refl
+  given_above i (None ∷ es) q lt = given_above (i + 1) es q (omega arith)
+  given_above i (Some e ∷ es) q lt = ap (λ b. cond b (Some (give i e)) (find_key nat_cmp q (by_id give (i + 1) es))) (untied q i (λ f. absurd (omega arith))) ∙ given_above (i + 1) es q (omega arith)
 
-  objects_found : (i : ℕ) (es : List (Option Entry)) (q j : ℕ) → q ≡ i + j → find_key nat_cmp q (objects_from xs memory i es) ≡ option_map (object_in xs memory q) (get_or es j None)
-  objects_found i [] q j e = refl
-  objects_found i (None ∷ es) q zero e = objects_above (i + 1) es q (omega arith)
-  objects_found i (Some d ∷ es) q zero e =
-      ap (λ b. cond b (Some (object_in xs memory i d)) (find_key nat_cmp q (objects_from xs memory (i + 1) es))) (ap (λ k. eq_by_cmp nat_cmp q k) (let s : i ≡ q = omega arith in s) ∙ tied_itself q)
-      ∙ ap (λ (k : ℕ). Some (object_in xs memory k d)) (let s : i ≡ q = omega arith in s)
-  objects_found i (None ∷ es) q (suc j) e = objects_found (i + 1) es q j (omega arith)
-  objects_found i (Some d ∷ es) q (suc j) e =
-      ap (λ b. cond b (Some (object_in xs memory i d)) (find_key nat_cmp q (objects_from xs memory (i + 1) es))) (untied q i (λ f. absurd (omega arith))) ∙ objects_found (i + 1) es q j (omega arith)
+  given_found : (i : ℕ) (es : List (Option Entry)) (q j : ℕ) → q ≡ i + j → find_key nat_cmp q (by_id give i es) ≡ option_map (give q) (get_or es j None)
+  given_found i [] q j e = refl
+  given_found i (None ∷ es) q zero e = given_above (i + 1) es q (omega arith)
+  given_found i (Some d ∷ es) q zero e =
+      ap (λ b. cond b (Some (give i d)) (find_key nat_cmp q (by_id give (i + 1) es))) (ap (λ k. eq_by_cmp nat_cmp q k) (let s : i ≡ q = omega arith in s) ∙ tied_itself q)
+      ∙ ap (λ (k : ℕ). Some (give k d)) (let s : i ≡ q = omega arith in s)
+  given_found i (None ∷ es) q (suc j) e = given_found (i + 1) es q j (omega arith)
+  given_found i (Some d ∷ es) q (suc j) e =
+      ap (λ b. cond b (Some (give i d)) (find_key nat_cmp q (by_id give (i + 1) es))) (untied q i (λ f. absurd (omega arith))) ∙ given_found (i + 1) es q j (omega arith)
+
+  -- what a map of them has at an id
+  pub get-by_id : (es : List (Option Entry)) (id : ℕ) → finmap.get (finmap.from_entries {R = nat_cmp} (by_id give 0 es)) id ≡ option_map (give id) (get_or es id None)
+  get-by_id es id = get-from_entries nat_cmp_total (by_id give 0 es) id ∙ given_found 0 es id id (omega arith)
 
 module _ (t : Table) (is : IsTable t) (memory : List ℕ) (whole : t.hi ≤ length memory) where
   pub object_is : (id : ℕ) → object_at (heap_in t memory) id ≡ option_map (object_in t.blocks memory id) (entry_at t id)
-  object_is id = get-from_entries nat_cmp_total (objects_from t.blocks memory 0 t.entries) id ∙ objects_found t.blocks memory 0 t.entries id id (omega arith)
+  object_is id = get-by_id (object_in t.blocks memory) t.entries id
 
   pub place_is : (id : ℕ) → finmap.get (heap_in t memory).places id ≡ option_map (λ (x : Block). x.at) (block_with t.blocks id)
   place_is id = get-from_entries nat_cmp_total (map (λ (x : Block). (x.id, x.at)) t.blocks) id ∙ place_with t.blocks id
@@ -100,3 +110,8 @@ module _ (t : Table) (is : IsTable t) (memory : List ℕ) (whole : t.hi ≤ leng
       from (Some e) (Some y) p q =
           let found : Member y t.blocks × (y.id ≡ x.id) = member_with t.blocks x.id y q in
           subst (λ z. Member z t.blocks) (same_id (heap_in t memory) y x (table_block y found.0) b found.1) found.0
+
+  -- the heap's longest hole is the table's
+  pub table_longest : longest_hole t.lo t.hi (blocks (heap_in t memory)) ≡ longest_hole t.lo t.hi t.blocks
+  table_longest = longest_hole-permutation t.lo t.hi t.blocks (blocks (heap_in t memory))
+      (blocks_permutation (heap_in t memory) t.blocks (EachPair-map (λ x y. x.id ≡ y.id → ⊥) (λ x y. x ≢ y) (λ x y d e. d (ap (λ (z : Block). z.id) e)) t.blocks pairs) table_block block_table)

@@ -9,3 +9,4 @@ pub mod World
 pub mod Machine
 pub mod Law
 pub mod Table
+pub mod Code

@@ -29,11 +29,11 @@ block_with xs id = find (λ x. x.id == id) xs
 abbrev pub object_in : List Block → List ℕ → ℕ → Entry → Object
 object_in xs memory id e = record { kind = e.kind; locks = e.locks; bytes = option_map (λ x. slice_range memory x.at (x.at + x.size)) (block_with xs id) }
 
--- the objects of the entries from an id on
-abbrev pub objects_from : List Block → List ℕ → ℕ → List (Option Entry) → List (ℕ × Object)
-objects_from xs memory id [] = []
-objects_from xs memory id (None ∷ es) = objects_from xs memory (id + 1) es
-objects_from xs memory id (Some e ∷ es) = (id, object_in xs memory id e) ∷ objects_from xs memory (id + 1) es
+-- what the entries from an id on give, each by its id
+abbrev pub by_id : {X : Type 0} → (ℕ → Entry → X) → ℕ → List (Option Entry) → List (ℕ × X)
+by_id give id [] = []
+by_id give id (None ∷ es) = by_id give (id + 1) es
+by_id give id (Some e ∷ es) = (id, give id e) ∷ by_id give (id + 1) es
 
 -- the heap that the table stands for in this memory
 abbrev pub heap_in : Table → List ℕ → Heap
@@ -41,7 +41,7 @@ heap_in t memory = record {
   lo = t.lo;
   hi = t.hi;
   grain = t.grain;
-  objects = finmap.from_entries (objects_from t.blocks memory 0 t.entries);
+  objects = finmap.from_entries (by_id (object_in t.blocks memory) 0 t.entries);
   places = finmap.from_entries (map (λ x. (x.id, x.at)) t.blocks);
   order = t.order;
 }

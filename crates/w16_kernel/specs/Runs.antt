@@ -1,0 +1,42 @@
+-- Calls and replies as the machine sees them, and runs of the machine.
+use Rattle.std.specs.Prelude.{◌≡◌, ◌≤◌, List, [], ◌∷◌}
+use Rattle.w16_model.specs.World.{World}
+use Rattle.w16_model.specs.Machine as machine
+use Rattle.w16_model.specs.Machine.{Command, Step}
+use Rattle.w16_kernel.specs.declared.call.Call.{Call}
+use Rattle.w16_kernel.specs.declared.call.Call.TheVariants.{GlobalAlloc, GlobalFree, GlobalLock, GlobalUnlock, Read, Write}
+use Rattle.w16_kernel.specs.declared.call.Reply.{Reply}
+use Rattle.w16_kernel.specs.declared.call.Reply.TheVariants.{Word, Dword, Bytes, Done, Fault}
+
+-- the command of a call
+abbrev pub command_of : Call → Command
+command_of (GlobalAlloc flags size) = machine.Command.GlobalAlloc flags size
+command_of (GlobalFree handle) = machine.Command.GlobalFree handle
+command_of (GlobalLock handle) = machine.Command.GlobalLock handle
+command_of (GlobalUnlock handle) = machine.Command.GlobalUnlock handle
+command_of (Read pointer count) = machine.Command.Read pointer count
+command_of (Write pointer bytes) = machine.Command.Write pointer bytes.items
+
+-- the machine's reply
+abbrev pub reply_of : Reply → machine.Reply
+reply_of (Word n) = machine.Reply.Word n
+reply_of (Dword n) = machine.Reply.Dword n
+reply_of (Bytes bytes) = machine.Reply.Bytes bytes.items
+reply_of Done = machine.Reply.Done
+reply_of (Fault fault) = machine.Reply.Fault fault
+
+-- a call's numbers are those that a command may have
+abbrev pub IsCall : Call → Type 0
+IsCall (Read pointer count) = count ≤ 1024
+IsCall call = Unit {0}
+
+-- a step of a run: the command, its reply, and the world after it
+pub record Event : Type 0 where
+  pub command : Command
+  pub reply : machine.Reply
+  pub after : World
+
+-- the machine may take these steps, one after another, from old to new
+abbrev pub Run : World → List Event → World → Type 0
+Run old [] new = new ≡ old
+Run old (event ∷ events) new = Step old event.command event.reply event.after × Run event.after events new

@@ -1,0 +1,28 @@
+//! What the machine is asked, and what it answers.
+use arrayvec::ArrayVec;
+use w16_model::FarFault;
+
+/// At most 1,024 bytes, in place.
+pub type Chunk = ArrayVec<u8, 1024>;
+
+/// One command.
+#[derive(Debug, Drop)]
+pub enum Call {
+    GlobalAlloc { flags: u16, size: u32 },
+    GlobalFree { handle: u16 },
+    GlobalLock { handle: u16 },
+    GlobalUnlock { handle: u16 },
+    /// The pointer has a selector in its high word. At most 1,024 bytes are read.
+    Read { pointer: u32, count: u16 },
+    Write { pointer: u32, bytes: Chunk },
+}
+
+/// The answer to one command.
+#[derive(Debug, Drop)]
+pub enum Reply {
+    Word(u16),
+    Dword(u32),
+    Bytes(Chunk),
+    Done,
+    Fault(FarFault),
+}

@@ -1,0 +1,235 @@
+ghost use Rattle.w16_kernel.specs.Runs.{IsCall};
+
+use crate::{Call, Chunk, Kernel, Reply};
+use std::alloc::{AllocError, Global};
+use std::test::Fail;
+use w16_model::FarFault;
+
+/// A machine over 4,096 bytes and 16 selectors.
+fn small(alloc: Global) -> Result<Kernel, AllocError> {
+    Kernel::new(alloc, 4096, 16)
+}
+
+/// The reply to a call.
+fn answer(kernel: &mut Kernel, call: &Call) -> Option<Reply>
+    requires { IsCall call.now }
+{
+    kernel.call(call).ok()
+}
+
+/// The word that a call is answered, or none.
+fn word(kernel: &mut Kernel, call: Call) -> Option<u16>
+    requires { IsCall call }
+{
+    match answer(kernel, &call) {
+        Some(Reply::Word(word)) => Some(word),
+        _ => None,
+    }
+}
+
+/// The double word that a call is answered, or none.
+fn dword(kernel: &mut Kernel, call: Call) -> Option<u32>
+    requires { IsCall call }
+{
+    match answer(kernel, &call) {
+        Some(Reply::Dword(dword)) => Some(dword),
+        _ => None,
+    }
+}
+
+#[test]
+fn names_by_kind(rt: HostRuntime) -> Result<(), Fail> {
+    let mut kernel = small(rt.alloc())?;
+    assert_eq!(rt;
+        word(&mut kernel, Call::GlobalAlloc { flags: 0, size: 1 }),
+        Some(0x107)
+    );
+    assert_eq!(rt;
+        word(&mut kernel, Call::GlobalAlloc { flags: 2, size: 1 }),
+        Some(0x10E)
+    );
+    assert_eq!(rt;
+        word(&mut kernel, Call::GlobalFree { handle: 0x106 }),
+        Some(0x106)
+    );
+    assert_eq!(rt;
+        word(&mut kernel, Call::GlobalFree { handle: 0x10F }),
+        Some(0x10F)
+    );
+    assert_eq!(rt;
+        word(&mut kernel, Call::GlobalFree { handle: 0x107 }),
+        Some(0)
+    );
+    assert_eq!(rt;
+        word(&mut kernel, Call::GlobalFree { handle: 0x10E }),
+        Some(0)
+    );
+    assert_eq!(rt;
+        word(&mut kernel, Call::GlobalFree { handle: 0x10E }),
+        Some(0x10E)
+    );
+    Ok(())
+}
+
+#[test]
+fn counts_255_locks(rt: HostRuntime) -> Result<(), Fail> {
+    let mut kernel = small(rt.alloc())?;
+    assert_eq!(rt;
+        word(&mut kernel, Call::GlobalAlloc { flags: 2, size: 1 }),
+        Some(0x106)
+    );
+    for _ in 0..255u32 {
+        assert_eq!(rt;
+            dword(&mut kernel, Call::GlobalLock { handle: 0x106 }),
+            Some(0x0107_0000)
+        );
+    }
+    assert_eq!(rt;
+        dword(&mut kernel, Call::GlobalLock { handle: 0x106 }),
+        Some(0)
+    );
+    for _ in 0..254u32 {
+        assert_eq!(rt;
+            word(&mut kernel, Call::GlobalUnlock { handle: 0x106 }),
+            Some(1)
+        );
+    }
+    assert_eq!(rt;
+        word(&mut kernel, Call::GlobalFree { handle: 0x106 }),
+        Some(0x106)
+    );
+    assert_eq!(rt;
+        word(&mut kernel, Call::GlobalUnlock { handle: 0x106 }),
+        Some(0)
+    );
+    assert_eq!(rt;
+        word(&mut kernel, Call::GlobalUnlock { handle: 0x106 }),
+        Some(0)
+    );
+    assert_eq!(rt;
+        word(&mut kernel, Call::GlobalFree { handle: 0x106 }),
+        Some(0)
+    );
+    Ok(())
+}
+
+#[test]
+fn refuses_what_has_no_room(rt: HostRuntime) -> Result<(), Fail> {
+    let mut kernel = small(rt.alloc())?;
+    assert_eq!(rt;
+        word(&mut kernel, Call::GlobalAlloc { flags: 2, size: 0 }),
+        Some(0)
+    );
+    assert_eq!(rt;
+        word(
+            &mut kernel,
+            Call::GlobalAlloc {
+                flags: 2,
+                size: 65_537
+            }
+        ),
+        Some(0)
+    );
+    assert_eq!(rt;
+        word(
+            &mut kernel,
+            Call::GlobalAlloc {
+                flags: 2,
+                size: 4097
+            }
+        ),
+        Some(0)
+    );
+    assert_eq!(rt;
+        word(
+            &mut kernel,
+            Call::GlobalAlloc {
+                flags: 2,
+                size: 4065
+            }
+        ),
+        Some(0x106)
+    );
+    assert_eq!(rt;
+        word(&mut kernel, Call::GlobalAlloc { flags: 2, size: 1 }),
+        Some(0)
+    );
+    assert_eq!(rt;
+        word(&mut kernel, Call::GlobalFree { handle: 0x106 }),
+        Some(0)
+    );
+    for slot in 0..16u16 {
+        assert_eq!(rt;
+            word(&mut kernel, Call::GlobalAlloc { flags: 2, size: 1 }),
+            Some(0x106 + 8 * slot)
+        );
+    }
+    assert_eq!(rt;
+        word(&mut kernel, Call::GlobalAlloc { flags: 2, size: 1 }),
+        Some(0)
+    );
+    Ok(())
+}
+
+/// A write of one byte.
+fn one_byte(pointer: u32, byte: u8) -> Call
+    ensures { IsCall result }
+{
+    let mut bytes = Chunk::new();
+    let _ = bytes.try_push(byte);
+    Call::Write { pointer, bytes }
+}
+
+/// Whether the four bytes at a far pointer are these.
+fn has(kernel: &mut Kernel, pointer: u32, wanted: [u8; 4]) -> bool {
+    match answer(kernel, &Call::Read { pointer, count: 4 }) {
+        Some(Reply::Bytes(bytes)) => bytes.as_slice() == wanted.as_slice(),
+        _ => false,
+    }
+}
+
+#[test]
+fn reads_what_was_written(rt: HostRuntime) -> Result<(), Fail> {
+    let mut kernel = small(rt.alloc())?;
+    assert_eq!(rt;
+        word(
+            &mut kernel,
+            Call::GlobalAlloc {
+                flags: 0x42,
+                size: 32
+            }
+        ),
+        Some(0x106)
+    );
+    assert_eq!(rt;
+        word(
+            &mut kernel,
+            Call::GlobalAlloc {
+                flags: 0x42,
+                size: 32
+            }
+        ),
+        Some(0x10E)
+    );
+    assert!(rt;
+        matches!(
+            answer(&mut kernel, &one_byte(0x0107_001F, 7)),
+            Some(Reply::Done)
+        )
+    );
+    assert!(rt;
+        matches!(
+            answer(&mut kernel, &one_byte(0x0107_0020, 8)),
+            Some(Reply::Fault(FarFault::Limit))
+        )
+    );
+    assert!(rt;
+        matches!(
+            answer(&mut kernel, &one_byte(0x0106_0000, 8)),
+            Some(Reply::Fault(FarFault::BadSelector))
+        )
+    );
+    assert!(rt; has(&mut kernel, 0x0107_001C, [0, 0, 0, 7]));
+    assert!(rt; has(&mut kernel, 0x010F_0000, [0, 0, 0, 0]));
+    Ok(())
+}

@@ -1,0 +1,123 @@
+//! The table of rows.
+use w16_script::RunFault;
+
+/// A script on a new machine, what is printed, and how it ends.
+#[derive(Debug, Clone, Copy, Drop)]
+pub struct Row {
+    pub name: &'static str,
+    /// Bytes of the global heap.
+    pub memory: u32,
+    pub selectors: u32,
+    pub script: &'static [u8],
+    /// So many letters `a` behind the script.
+    pub letters: u32,
+    pub output: &'static [u8],
+    /// All lines and those with a reply, or the fault.
+    pub ended: Result<(u32, u32), RunFault>,
+}
+
+/// One object's life: allocated, locked, written, read, unlocked and freed.
+pub const LIFE: &[u8] =
+    b"GlobalAlloc 0x42 100\nGlobalLock 0x106\nWrite 0x01070000 4e45\nRead 0x01070000 4\nGlobalUnlock 0x106\nGlobalFree 0x106\n";
+
+/// What is printed of it.
+pub const LIFE_OUTPUT: &[u8] = b"0106\n01070000\nok\nbytes 4e450000\n0000\n0000\n";
+
+/// A row over 4,096 bytes and 16 selectors.
+const fn small(
+    name: &'static str,
+    script: &'static [u8],
+    output: &'static [u8],
+    lines: u32,
+    replies: u32,
+) -> Row {
+    Row {
+        name,
+        memory: 4096,
+        selectors: 16,
+        script,
+        letters: 0,
+        output,
+        ended: Ok((lines, replies)),
+    }
+}
+
+/// All rows.
+pub fn rows() -> [Row; 12] {
+    [
+        small("an empty script", b"", b"", 0, 0),
+        small("silent lines", b"\n; a comment\n \t\n\t ;x\n\n", b"", 5, 0),
+        small(
+            "the whole memory",
+            b"GlobalAlloc 2 4096\nGlobalAlloc 2 1\nGlobalFree 0x106\nGlobalAlloc 2 4097\nGlobalAlloc 2 1\n",
+            b"0106\n0000\n0000\n0000\n0106\n",
+            5,
+            5,
+        ),
+        small(
+            "far reads and their faults",
+            b"GlobalAlloc 0x42 32\nRead 0x01070020 0\nRead 0x01070020 1\nRead 0 1\nGlobalFree 0x106\nRead 0x01070000 1\n",
+            b"0106\nbytes\nfault limit\nfault selector\n0000\nfault selector\n",
+            6,
+            6,
+        ),
+        small("one object's life", LIFE, LIFE_OUTPUT, 6, 6),
+        Row {
+            memory: 1_048_576,
+            selectors: 1024,
+            ..small(
+                "one object's life in a large memory",
+                LIFE,
+                LIFE_OUTPUT,
+                6,
+                6,
+            )
+        },
+        Row {
+            letters: 4097,
+            ended: Err(RunFault::TooLong),
+            ..small(
+                "bad lines, and one that is too long",
+                b"Frob\nGlobalAlloc 2\nRead 0 1025\n",
+                b"error syntax\nerror syntax\nerror syntax\n",
+                3,
+                3,
+            )
+        },
+        Row {
+            letters: 4096,
+            ..small("the longest line", b"", b"error syntax\n", 1, 1)
+        },
+        small(
+            "locks are counted",
+            b"GlobalAlloc 2 1\nGlobalLock 0x106\nGlobalLock 0x106\nGlobalFree 0x106\nGlobalUnlock 0x106\nGlobalUnlock 0x106\nGlobalUnlock 0x106\nGlobalFree 0x106\n",
+            b"0106\n01070000\n01070000\n0106\n0001\n0000\n0000\n0000\n",
+            8,
+            8,
+        ),
+        small(
+            "a fixed object",
+            b"GlobalAlloc 0 1\nGlobalLock 0x107\nGlobalUnlock 0x107\nGlobalFree 0x106\nGlobalFree 0x107\nGlobalFree 0x107\n",
+            b"0107\n01070000\n0000\n0106\n0000\n0107\n",
+            6,
+            6,
+        ),
+        small(
+            "two objects apart",
+            b"GlobalAlloc 0x42 32\r\nGlobalAlloc 0x42 32\r\nWrite 0x0107001e 0102\r\nWrite 0x0107001f 0102\r\nRead 0x010f0000 2\r\nRead 0x0107001c 4",
+            b"0106\n010e\nok\nfault limit\nbytes 0000\nbytes 00000102\n",
+            6,
+            6,
+        ),
+        Row {
+            selectors: 1,
+            ..small(
+                "one selector",
+                b"GlobalAlloc 2 0\nGlobalAlloc 2 65537\nGlobalAlloc 2 32\nGlobalAlloc 2 32\nGlobalFree 0x106\nGlobalAlloc 0 32\n",
+                b"0000\n0000\n0106\n0000\n0000\n0107\n",
+                6,
+                6,
+            )
+        },
+    ]
+}

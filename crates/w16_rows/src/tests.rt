@@ -1,0 +1,161 @@
+ghost use Rattle.std.specs.Prelude.{All};
+ghost use Rattle.w16_kernel.specs.Runs.{IsCall};
+
+use crate::hosts::{Broken, Endless, Short};
+use crate::rows::{LIFE, LIFE_OUTPUT, Row, rows};
+use arrayvec::ArrayVec;
+use std::alloc::{AllocError, Global};
+use std::process::Abort;
+use std::test::Fail;
+use w16_kernel::{Call, Chunk, Kernel, Reply};
+use w16_model::MOST_SLOTS;
+use w16_script::{RunFault, run};
+
+/// The bytes of a row's script.
+fn script_of(alloc: Global, row: &Row) -> Result<Vec<u8>, AllocError> {
+    let mut script = Vec::new(alloc);
+    script.extend_from_slice(row.script)?;
+    for _ in 0..row.letters {
+        script.push(b'a')?;
+    }
+    Ok(script)
+}
+
+/// Runs a row, and answers how it ended.
+fn play(
+    alloc: Global,
+    row: &Row,
+    output: &mut Vec<u8>,
+) -> Result<Result<(u32, u32), RunFault>, AllocError> {
+    let script = script_of(alloc, row)?;
+    let mut kernel = Kernel::new(alloc, row.memory, row.selectors.min(MOST_SLOTS))?;
+    let mut reader = script.as_slice();
+    let ended = run(alloc, &mut reader, output, &mut kernel);
+    Ok(ended.map(|counts| (counts.lines, counts.replies)))
+}
+
+#[test]
+fn rows_are_answered(rt: HostRuntime) -> Result<(), Fail> {
+    for row in rows() {
+        let mut output = Vec::new(rt.alloc());
+        let ended = play(rt.alloc(), &row, &mut output)?;
+        assert!(rt; ended == row.ended, "the end of: {}", row.name);
+        assert_eq!(rt;
+            output.as_slice(),
+            row.output,
+            "the replies of: {}",
+            row.name
+        );
+    }
+    Ok(())
+}
+
+/// One object's life as calls.
+fn life() -> [Call; 6]
+    ensures { All IsCall result }
+{
+    let mut bytes = Chunk::new();
+    let _ = bytes.try_extend_from_slice(b"NE");
+    [
+        Call::GlobalAlloc {
+            flags: 0x42,
+            size: 100,
+        },
+        Call::GlobalLock { handle: 0x106 },
+        Call::Write {
+            pointer: 0x0107_0000,
+            bytes,
+        },
+        Call::Read {
+            pointer: 0x0107_0000,
+            count: 4,
+        },
+        Call::GlobalUnlock { handle: 0x106 },
+        Call::GlobalFree { handle: 0x106 },
+    ]
+}
+
+#[test]
+fn a_life_by_calls(rt: HostRuntime) -> Result<(), Fail> {
+    let mut kernel = Kernel::new(rt.alloc(), 4096, 16)?;
+    let calls = life();
+    let replies = kernel.run_calls(calls.as_slice())?;
+    let [
+        Reply::Word(handle),
+        Reply::Dword(pointer),
+        Reply::Done,
+        Reply::Bytes(bytes),
+        Reply::Word(locks),
+        Reply::Word(freed),
+    ] = replies.as_slice()
+    else {
+        return rt.abort();
+    };
+    assert!(rt; *handle == 0x106 && *pointer == 0x0107_0000 && *locks == 0 && *freed == 0);
+    assert_eq!(rt; bytes.as_slice(), b"NE\0\0".as_slice());
+    Ok(())
+}
+
+#[test]
+fn a_reader_fails_in_a_line(rt: HostRuntime) -> Result<(), Fail> {
+    let mut kernel = Kernel::new(rt.alloc(), 4096, 16)?;
+    let mut reader = Broken {
+        bytes: b"GlobalAlloc 0x42 100\nGlobalLock 0x106\nWrite 0x01070000 4e45\nRead 0x0107",
+    };
+    let mut output = Vec::new(rt.alloc());
+    let ended = run(rt.alloc(), &mut reader, &mut output, &mut kernel);
+    assert!(rt; ended == Err(RunFault::Read));
+    assert_eq!(rt; output.as_slice(), b"0106\n01070000\nok\n".as_slice());
+    Ok(())
+}
+
+#[test]
+fn a_reader_fails_after_the_deciding_byte(rt: HostRuntime) -> Result<(), Fail> {
+    let mut kernel = Kernel::new(rt.alloc(), 4096, 16)?;
+    let row = Row {
+        script: b"",
+        letters: 4097,
+        ..rows()[0]
+    };
+    let script = script_of(rt.alloc(), &row)?;
+    let mut reader = Broken {
+        bytes: script.as_slice(),
+    };
+    let mut output = Vec::new(rt.alloc());
+    let ended = run(rt.alloc(), &mut reader, &mut output, &mut kernel);
+    assert!(rt; ended == Err(RunFault::TooLong));
+    assert!(rt; output.is_empty());
+    Ok(())
+}
+
+#[test]
+fn a_writer_fails_at_each_byte(rt: HostRuntime) -> Result<(), Fail> {
+    for left in 0..LIFE_OUTPUT.len() {
+        let mut kernel = Kernel::new(rt.alloc(), 4096, 16)?;
+        let mut reader = LIFE;
+        let mut writer = Short {
+            taken: ArrayVec::new(),
+            left,
+        };
+        let ended = run(rt.alloc(), &mut reader, &mut writer, &mut kernel);
+        assert!(rt; ended == Err(RunFault::Write), "at {left}");
+        assert!(rt;
+            writer.taken.len() == left && LIFE_OUTPUT.starts_with(writer.taken.as_slice()),
+            "at {left}"
+        );
+    }
+    Ok(())
+}
+
+#[test]
+fn endless_readers_are_too_long(rt: HostRuntime) -> Result<(), Fail> {
+    for byte in [b'\n', b'a'] {
+        let mut kernel = Kernel::new(rt.alloc(), 4096, 16)?;
+        let mut reader = Endless { byte };
+        let mut output = Vec::new(rt.alloc());
+        let ended = run(rt.alloc(), &mut reader, &mut output, &mut kernel);
+        assert!(rt; ended == Err(RunFault::TooLong), "of {byte}");
+        assert!(rt; output.is_empty(), "of {byte}");
+    }
+    Ok(())
+}

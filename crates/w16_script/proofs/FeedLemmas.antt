@@ -1,0 +1,155 @@
+-- Lemmas on bytes that are fed.
+use Rattle.std.proofs.Common.{◌≡◌, ◌≢◌, ℕ, ◌+◌, ◌≤◌, Bool, List, [], ◌∷◌, ◌++◌, Option, length, length-append, map, refl, sym, ap, ◌∙◌, append-nil, append_assoc, subst, inl, inr, arith}
+use Rattle.std.specs.Prelude.{count_by, if◌then◌else◌}
+use Rattle.std.specs.List.{flat_map, AllByRecursion}
+use Rattle.std.proofs.KnownBytes.{Keeps-refl}
+use Rattle.std.proofs.lemmas.List.{map-append}
+use Rattle.std.proofs.lemmas.List.Sums.{sum_by-append}
+use Rattle.std.proofs.lemmas.Grind.{flat_map-append}
+use Rattle.w16_model.specs.World.{World}
+use Rattle.w16_script.specs.declared.outcome.RunFault.{RunFault}
+use Rattle.w16_script.specs.declared.outcome.RunFault.TheVariants.{Read, Write, Memory, TooLong}
+use Rattle.w16_script.specs.Output.{RunsLines, has_reply}
+use Rattle.w16_script.specs.Text.{ended, HasNoLf, IsRaw, without_cr}
+use Rattle.w16_script.specs.Progress.{Progress, with_bytes, IsWithinLimits, IsOver, Overflows}
+use Rattle.w16_script.specs.Feeding.{FailsAt, Feeds, StopsHere, Stops}
+use Rattle.w16_script.proofs.RunLemmas.{RunsLines-none, RunsLines-append}
+
+-- Lists.
+
+pub AllByRecursion-append : {X : Type 0} (P : X → Type 0) (xs ys : List X) → AllByRecursion P xs → AllByRecursion P ys → AllByRecursion P (xs ++ ys)
+AllByRecursion-append P [] ys p q = q
+AllByRecursion-append P (x ∷ xs) ys p q = (p.0, AllByRecursion-append P xs ys p.1 q)
+
+AllByRecursion-front : {X : Type 0} (P : X → Type 0) (xs ys : List X) → AllByRecursion P (xs ++ ys) → AllByRecursion P xs
+AllByRecursion-front P [] ys p = tt
+AllByRecursion-front P (x ∷ xs) ys p = (p.0, AllByRecursion-front P xs ys p.1)
+
+pub count-append : {X : Type 0} (p : X → Bool) (xs ys : List X) → count_by p (xs ++ ys) ≡ count_by p xs + count_by p ys
+count-append p xs ys = sum_by-append (λ x. if p x then 1 else 0) xs ys
+
+joined : (before front back mid after : List ℕ) (raw more : List (List ℕ)) → before ++ front ≡ flat_map ended raw ++ mid → mid ++ back ≡ flat_map ended more ++ after
+    → before ++ (front ++ back) ≡ flat_map ended (raw ++ more) ++ after
+joined before front back mid after raw more p q =
+    sym (append_assoc before front back) ∙ ap (λ (l : List ℕ). l ++ back) p ∙ append_assoc (flat_map ended raw) mid back
+    ∙ ap (λ (l : List ℕ). flat_map ended raw ++ l) q ∙ sym (append_assoc (flat_map ended raw) (flat_map ended more) after)
+    ∙ ap (λ (l : List ℕ). l ++ after) (sym (flat_map-append ended raw more))
+
+-- What is fed.
+
+-- bytes, and then further bytes
+pub Feeds-trans : (a b c : Option (List ℕ)) (s t u : Progress) (v w x : World) (front back : List ℕ)
+    → Feeds a s v front b t w → Feeds b t w back c u x → Feeds a s v (front ++ back) c u x
+Feeds-trans a b c s t u v w x front back p q = record {
+  raw = p.raw ++ q.raw;
+  whole = joined s.line front back t.line u.line p.raw q.raw p.whole q.whole;
+  parts = λ none. let (raw, mid) = p.parts none in let (more, after) = q.parts mid in (AllByRecursion-append IsRaw p.raw q.raw raw more, after);
+  runs = subst (λ (l : List (List ℕ)). RunsLines a v l c x) (sym (map-append without_cr p.raw q.raw))
+      (RunsLines-append a b c v w x (map without_cr p.raw) (map without_cr q.raw) p.runs q.runs);
+  lines = omega (arith, p.lines, q.lines, length-append p.raw q.raw);
+  replies = omega (arith, p.replies, q.replies, ap (count_by has_reply) (map-append without_cr p.raw q.raw), count-append has_reply (map without_cr p.raw) (map without_cr q.raw));
+}
+
+-- bytes of one line
+pub Feeds-held : (a : Option (List ℕ)) (s t : Progress) (v : World) (bytes : List ℕ) → HasNoLf bytes → t ≡ with_bytes s bytes → Feeds a s v bytes a t v
+Feeds-held a s t v bytes one_line is =
+    subst (λ (u : Progress). Feeds a s v bytes a u v) (sym is) (record {
+      raw = [];
+      whole = refl;
+      parts = λ none. (tt, AllByRecursion-append (λ byte. byte ≢ 10) s.line bytes none one_line);
+      runs = RunsLines-none a v;
+      lines = omega arith;
+      replies = omega arith;
+    })
+
+-- the LF that ends a line, which was run
+pub Feeds-ends : (a b : Option (List ℕ)) (s t : Progress) (v w : World) (line : List ℕ) → line ≡ without_cr s.line → RunsLines a v (line ∷ []) b w
+    → length s.line ≤ 4096 → t.line ≡ [] → t.lines ≡ s.lines + 1 → t.replies ≡ s.replies + (if has_reply line then 1 else 0) → Feeds a s v (10 ∷ []) b t w
+Feeds-ends a b s t v w line same ran short empty lines replies =
+    record {
+      raw = s.line ∷ [];
+      whole = sym (ap (λ (l : List ℕ). (ended s.line ++ []) ++ l) empty ∙ append-nil (ended s.line ++ []) ∙ append-nil (ended s.line));
+      parts = λ none. (((none, short), tt), subst HasNoLf (sym empty) tt);
+      runs = subst (λ (l : List ℕ). RunsLines a v (l ∷ []) b w) same ran;
+      lines = lines;
+      replies = replies ∙ ap (λ (l : List ℕ). s.replies + (if has_reply l then 1 else 0)) same ∙ omega arith;
+    }
+
+-- Where it stops.
+
+-- bytes of one line pass a limit
+pub Stops-overflow : (a : Option (List ℕ)) (s : Progress) (v : World) (bytes more : List ℕ) (fault : RunFault) → HasNoLf bytes → fault ≡ TooLong → Overflows s bytes
+    → Stops a s v (bytes ++ more) fault a v
+Stops-overflow a s v bytes more fault one_line is over =
+    let front : HasNoLf over.front = AllByRecursion-front (λ byte. byte ≢ 10) over.front (over.byte ∷ over.more) (subst HasNoLf over.whole one_line) in
+    subst (λ (f : RunFault). Stops a s v (bytes ++ more) f a v) (sym is) (record {
+      front = over.front;
+      byte = over.byte;
+      more = over.more ++ more;
+      whole = ap (λ (l : List ℕ). l ++ more) over.whole ∙ append_assoc over.front (over.byte ∷ over.more) more;
+      between = a;
+      here = with_bytes s over.front;
+      world = v;
+      feeds = Feeds-held a s (with_bytes s over.front) v over.front front refl;
+      fits = over.fits;
+      stops = (over.over, refl, Keeps-refl a);
+    })
+
+-- the LF stands behind the last line that may be
+pub Stops-full : (a : Option (List ℕ)) (s t : Progress) (v : World) (line : List ℕ) → HasNoLf line → t ≡ with_bytes s line → IsWithinLimits t → t.lines ≡ 1000000
+    → Stops a s v (ended line) TooLong a v
+Stops-full a s t v line one_line is fits full = record {
+  front = line;
+  byte = 10;
+  more = [];
+  whole = refl;
+  between = a;
+  here = t;
+  world = v;
+  feeds = Feeds-held a s t v line one_line is;
+  fits = fits;
+  stops = (inl full, refl, Keeps-refl a);
+}
+
+not_over : (t : Progress) → t.lines ≢ 1000000 → IsOver t 10 → ⊥
+not_over t few (inl full) = few full
+not_over t few (inr (long, other)) = other refl
+
+StopsHere-line : (a b : Option (List ℕ)) (t : Progress) (v w : World) (fault : RunFault) → t.lines ≢ 1000000 → FailsAt a v (without_cr t.line) fault b w → StopsHere a t v 10 fault b w
+StopsHere-line a b t v w Read few h = absurd h
+StopsHere-line a b t v w Write few h = (not_over t few, refl, h)
+StopsHere-line a b t v w Memory few h = (not_over t few, refl, h)
+StopsHere-line a b t v w TooLong few h = absurd h
+
+-- the line that the LF ends met a fault
+pub Stops-line : (a b : Option (List ℕ)) (s t : Progress) (v w : World) (line : List ℕ) (fault : RunFault) → HasNoLf line → t ≡ with_bytes s line → IsWithinLimits t → t.lines ≢ 1000000
+    → FailsAt a v (without_cr t.line) fault b w → Stops a s v (ended line) fault b w
+Stops-line a b s t v w line fault one_line is fits few fails = record {
+  front = line;
+  byte = 10;
+  more = [];
+  whole = refl;
+  between = a;
+  here = t;
+  world = v;
+  feeds = Feeds-held a s t v line one_line is;
+  fits = fits;
+  stops = StopsHere-line a b t v w fault few fails;
+}
+
+-- bytes were fed before, and others follow
+pub Stops-later : (a b c : Option (List ℕ)) (s t : Progress) (v w x : World) (whole done bytes behind : List ℕ) (fault : RunFault) → whole ≡ done ++ (bytes ++ behind)
+    → Feeds a s v done b t w → Stops b t w bytes fault c x → Stops a s v whole fault c x
+Stops-later a b c s t v w x whole done bytes behind fault is p q = record {
+  front = done ++ q.front;
+  byte = q.byte;
+  more = q.more ++ behind;
+  whole = is ∙ ap (λ (l : List ℕ). done ++ (l ++ behind)) q.whole ∙ ap (λ (l : List ℕ). done ++ l) (append_assoc q.front (q.byte ∷ q.more) behind)
+      ∙ sym (append_assoc done q.front (q.byte ∷ (q.more ++ behind)));
+  between = q.between;
+  here = q.here;
+  world = q.world;
+  feeds = Feeds-trans a b q.between s t q.here v w q.world done q.front p q.feeds;
+  fits = q.fits;
+  stops = q.stops;
+}

@@ -1,0 +1,11 @@
+pub mod WordsLemmas
+pub mod NumberLemmas
+pub mod ArgumentLemmas
+pub mod ReadingLemmas
+pub mod PrintLemmas
+pub mod WriteLemmas
+pub mod RunLemmas
+pub mod LimitLemmas
+pub mod FeedLemmas
+pub mod WholeLemmas
+pub mod PlainLemmas

@@ -1,0 +1,115 @@
+-- A line that says a command has plain bytes alone.
+use Rattle.std.proofs.Common.{◌≡◌, ℕ, ◌≤◌, Bool, true, false, List, [], ◌∷◌, refl, arith, inl, inr, cond}
+use Rattle.std.specs.Prelude.{◌&&◌}
+use Rattle.std.specs.List.{list_all}
+use Rattle.std.proofs.lemmas.Bool.Decides.{nat_tests}
+use Rattle.std.proofs.lemmas.List.Sums.{list_all-from_AllPass}
+use Rattle.hex.specs.Hex.{is_hex_digit}
+use Rattle.hex.proofs.HexLemmas.{decode_of-ok}
+use Rattle.w16_model.specs.Machine.{Command}
+use Rattle.w16_script.specs.declared.name.Name.{Name}
+use Rattle.w16_script.specs.declared.name.Name.TheVariants as name
+use Rattle.w16_script.specs.declared.arguments.Shape.{Shape}
+use Rattle.w16_script.specs.declared.arguments.Shape.TheVariants as shape
+use Rattle.w16_script.specs.Words.{is_blank, with_byte, words_of}
+use Rattle.w16_script.specs.Numbers.{is_digit, IsNumber}
+use Rattle.w16_script.specs.Grammar.{Arguments, IsBytes, IsArguments, Spells, Said, Reads, text_of, name_of, shape_of, arguments_of}
+use Rattle.w16_script.specs.Laws.{is_plain}
+
+both : (a b : Bool) → (a && b) ≡ true → (a ≡ true) × (b ≡ true)
+both true b e = (refl, e)
+both false b e = cc
+
+joined : (a b : Bool) → a ≡ true → b ≡ true → (a && b) ≡ true
+joined true b p q = q
+joined false b p q = cc
+
+-- The bytes of words.
+
+blank_plain : (byte : ℕ) → is_blank byte ≡ true → is_plain byte ≡ true
+blank_plain byte e = grind (arith, nat_tests)
+
+digit_plain : (base byte : ℕ) → base ≤ 16 → is_digit base byte ≡ true → is_plain byte ≡ true
+digit_plain base byte h e = grind (arith, nat_tests)
+
+hex_plain : (byte : ℕ) → is_hex_digit byte ≡ true → is_plain byte ≡ true
+hex_plain byte e = grind (arith, nat_tests)
+
+-- where each byte with p has q, and all have p
+all_weaker : (p q : ℕ → Bool) (xs : List ℕ) → ((x : ℕ) → p x ≡ true → q x ≡ true) → list_all p xs ≡ true → list_all q xs ≡ true
+all_weaker p q [] f e = refl
+all_weaker p q (x ∷ xs) f e =
+    let parts = both (p x) (list_all p xs) e in
+    joined (q x) (list_all q xs) (f x parts.0) (all_weaker p q xs f parts.1)
+
+number_plain : (word : List ℕ) (n : ℕ) → IsNumber word n → list_all is_plain word ≡ true
+number_plain word n (inl decimal, small) = all_weaker (is_digit 10) is_plain word (λ x. digit_plain 10 x (omega arith)) decimal.1.digits
+number_plain word n (inr (tail, is, some, few, digits), small) =
+    rw is (all_weaker (is_digit 16) is_plain tail (λ x. digit_plain 16 x (omega arith)) digits.digits)
+
+bytes_plain : (word bytes : List ℕ) → IsBytes word bytes → list_all is_plain word ≡ true
+bytes_plain word bytes h =
+    all_weaker is_hex_digit is_plain word hex_plain (list_all-from_AllPass is_hex_digit word (decode_of-ok word bytes h.0).1)
+
+name_plain : (n : Name) → list_all is_plain (text_of n) ≡ true
+name_plain name.GlobalAlloc = refl
+name_plain name.GlobalFree = refl
+name_plain name.GlobalLock = refl
+name_plain name.GlobalUnlock = refl
+name_plain name.Read = refl
+name_plain name.Write = refl
+
+-- Words and lines.
+
+-- each byte of each word is plain
+abbrev are_plain : List (List ℕ) → Bool
+are_plain words = list_all (list_all is_plain) words
+
+pair_plain : (u v : List ℕ) → list_all is_plain u ≡ true → list_all is_plain v ≡ true → are_plain (u ∷ v ∷ []) ≡ true
+pair_plain u v p q = joined (list_all is_plain u) (are_plain (v ∷ [])) p (joined (list_all is_plain v) true q refl)
+
+arguments_plain : (words : List (List ℕ)) (s : Shape) (a : Arguments) → IsArguments words s a → are_plain words ≡ true
+arguments_plain (u ∷ []) shape.Word (Arguments.Word w) h = joined (list_all is_plain u) true (number_plain u w h.0) refl
+arguments_plain (u ∷ v ∷ []) shape.WordDword (Arguments.WordDword w d) h = pair_plain u v (number_plain u w h.0.0) (number_plain v d h.1.0)
+arguments_plain (u ∷ v ∷ []) shape.DwordCount (Arguments.DwordCount d n) h = pair_plain u v (number_plain u d h.0.0) (number_plain v n h.1.0)
+arguments_plain (u ∷ v ∷ []) shape.DwordBytes (Arguments.DwordBytes d bytes) h = pair_plain u v (number_plain u d h.0.0) (bytes_plain v bytes h.1)
+arguments_plain words s a h = absurd h
+
+spelled_plain : (words : List (List ℕ)) (command : Command) → Spells words command → are_plain words ≡ true
+spelled_plain words command h =
+    let arguments = arguments_plain h.arguments (shape_of (name_of command)) (arguments_of command) h.right in
+    rw h.whole (joined (list_all is_plain (text_of (name_of command))) (are_plain h.arguments) (name_plain (name_of command)) arguments)
+
+-- a byte that was put before words is plain, and so are the words
+with_byte-parts : (byte : ℕ) (rest : List ℕ) (words : List (List ℕ)) → are_plain (with_byte byte rest words) ≡ true → (is_plain byte ≡ true) × (are_plain words ≡ true)
+with_byte-parts byte [] words e =
+    let parts = both (list_all is_plain (byte ∷ [])) (are_plain words) e in
+    ((both (is_plain byte) true parts.0).0, parts.1)
+with_byte-parts byte (next ∷ rest) [] e =
+    let parts = both (list_all is_plain (byte ∷ [])) true e in
+    ((both (is_plain byte) true parts.0).0, refl)
+with_byte-parts byte (next ∷ rest) (word ∷ words) e =
+    elim (is_blank next) as (λ b. are_plain (cond b ((byte ∷ []) ∷ word ∷ words) ((byte ∷ word) ∷ words)) ≡ true → (is_plain byte ≡ true) × (are_plain (word ∷ words) ≡ true)) [
+      | true ↦ λ h.
+          let parts = both (list_all is_plain (byte ∷ [])) (are_plain (word ∷ words)) h in
+          ((both (is_plain byte) true parts.0).0, parts.1)
+      | false ↦ λ h.
+          let parts = both (list_all is_plain (byte ∷ word)) (are_plain words) h in
+          let first = both (is_plain byte) (list_all is_plain word) parts.0 in
+          (first.0, joined (list_all is_plain word) (are_plain words) first.1 parts.1)
+    ] e
+
+line_plain : (line : List ℕ) → are_plain (words_of line) ≡ true → list_all is_plain line ≡ true
+line_plain [] e = refl
+line_plain (byte ∷ rest) e =
+    let step : (b : Bool) → is_blank byte ≡ b → list_all is_plain (byte ∷ rest) ≡ true =
+    λ b is. elim b as (λ x. is_blank byte ≡ x → list_all is_plain (byte ∷ rest) ≡ true) [
+      | true ↦ λ blank. joined (is_plain byte) (list_all is_plain rest) (blank_plain byte blank) (line_plain rest (rw blank at e))
+      | false ↦ λ word.
+          let parts = with_byte-parts byte rest (words_of rest) (rw word at e) in
+          joined (is_plain byte) (list_all is_plain rest) parts.0 (line_plain rest parts.1)
+    ] is in
+    step (is_blank byte) refl
+
+pub plain : (line : List ℕ) (command : Command) → Reads line (Said.Says command) → list_all is_plain line ≡ true
+plain line command h = line_plain line (spelled_plain (words_of line) command h.1)

@@ -1,0 +1,122 @@
+-- Lemmas on whole runs.
+use Rattle.std.proofs.Common.{◌≡◌, ℕ, ◌+◌, ◌≤◌, ◌<◌, List, [], ◌∷◌, ◌++◌, Option, length, length-append, map, take, refl, sym, ap, ◌∙◌, append-nil, append_assoc, subst, arith, inl, inr, suc, Bool, true}
+use Rattle.std.specs.Prelude.{◌==◌, count_by}
+use Rattle.std.proofs.lemmas.Bool.Decides.{nat_tests}
+use Rattle.std.specs.Io.KnownBytes.{Consumes, IsAtEnd}
+use Rattle.std.proofs.KnownBytes.{Consumes-trans}
+use Rattle.w16_model.specs.World.{World}
+use Rattle.w16_script.specs.declared.outcome.Ended.{Ended}
+use Rattle.w16_script.specs.declared.outcome.RunFault.{RunFault}
+use Rattle.w16_script.specs.declared.outcome.RunFault.TheVariants.{Read, Write, Memory, TooLong}
+use Rattle.w16_script.specs.Output.{RunsLines, has_reply}
+use Rattle.w16_script.specs.Text.{without_cr, last_of}
+use Rattle.w16_script.specs.Progress.{Progress, fresh, IsWithinLimits}
+use Rattle.w16_script.specs.Feeding.{FailsAt, Feeds, Stops}
+use Rattle.w16_script.specs.Whole.{Finishes, Script, StopsWithin, StopsLast, FailsLater, Fails}
+use Rattle.w16_script.proofs.RunLemmas.{RunsLines-none, RunsLines-append}
+use Rattle.w16_script.proofs.FeedLemmas.{Feeds-trans, count-append}
+
+length-mapped : (f : List ℕ → List ℕ) (xs : List (List ℕ)) → length (map f xs) ≡ length xs
+length-mapped f [] = refl
+length-mapped f (x ∷ xs) = ap (λ (n : ℕ). suc n) (length-mapped f xs)
+
+-- before the first byte no limit is passed
+pub fresh-fits : IsWithinLimits fresh
+fresh-fits = record { replies = omega arith; lines = omega arith; last = λ filled. omega arith; short = omega arith }
+
+-- What a test of the length says.
+
+pub empty-from : (xs ys : List ℕ) (test : Bool) → test ≡ (length xs == 0) → test ≡ true → xs ≡ ys → ys ≡ []
+empty-from xs [] test h e same = refl
+empty-from xs (y ∷ ys) test h e same =
+    let none : length xs ≡ 0 = grind (arith, nat_tests) in
+    absurd (omega (arith, none, ap (length {A = ℕ}) same))
+
+-- The last line.
+
+length-last_of : (line : List ℕ) (n : ℕ) → (0 < length line → n < 1000000) → n ≤ 1000000 → n + length (last_of line) ≤ 1000000
+length-last_of [] n h k = omega arith
+length-last_of (x ∷ xs) n h k = let small : n < 1000000 = h (omega arith) in omega arith
+
+-- there is none
+pub Finishes-none : (a : Option (List ℕ)) (s : Progress) (v : World) (counts : Ended) → s.line ≡ [] → counts.lines ≡ s.lines → counts.replies ≡ s.replies → Finishes a s v a v counts
+Finishes-none a s v counts empty lines replies = record {
+  runs = subst (λ (l : List ℕ). RunsLines a v (last_of l) a v) (sym empty) (RunsLines-none a v);
+  lines = omega (arith, lines, ap (λ (l : List ℕ). length (last_of l)) empty);
+  replies = omega (arith, replies, ap (λ (l : List ℕ). count_by has_reply (last_of l)) empty);
+}
+
+-- the text was fed, and its end came
+pub Script-from : (a b c : Option (List ℕ)) (t : Progress) (v w x : World) (text : List ℕ) (counts : Ended) → Feeds a fresh v text b t w → IsWithinLimits t
+    → Finishes b t w c x counts → Script a v text c x counts
+Script-from a b c t v w x text counts p small q =
+    let bound = length-last_of t.line t.lines small.last small.lines in
+    let joined = length-append (map without_cr p.raw) (last_of t.line) in
+    let mapped = length-mapped without_cr p.raw in
+    let (raw, rest) = p.parts tt in
+    record {
+      raw = p.raw;
+      rest = t.line;
+      whole = p.whole;
+      parts = (raw, (rest, small.short));
+      few = omega (arith, bound, joined, mapped, p.lines);
+      runs = RunsLines-append a b c v w x (map without_cr p.raw) (last_of t.line) p.runs q.runs;
+      lines = omega (arith, q.lines, p.lines, joined, mapped);
+      replies = omega (arith, q.replies, p.replies, count-append has_reply (map without_cr p.raw) (last_of t.line));
+    }
+
+-- Faults.
+
+-- a piece met a fault
+StopsWithin-piece : (a b c : Option (List ℕ)) (t : Progress) (v w x : World) (text piece : List ℕ) (fault : RunFault) → Feeds a fresh v text b t w → length piece ≤ 65536
+    → Stops b t w piece fault c x → StopsWithin a v (text ++ piece) fault c x
+StopsWithin-piece a b c t v w x text piece fault p small q =
+    let size : length piece ≡ length q.front + length (q.byte ∷ q.more) = ap (length {A = ℕ}) q.whole ∙ length-append q.front (q.byte ∷ q.more) in
+    record {
+      stops = record {
+        front = text ++ q.front;
+        byte = q.byte;
+        more = q.more;
+        whole = ap (λ (l : List ℕ). text ++ l) q.whole ∙ sym (append_assoc text q.front (q.byte ∷ q.more));
+        between = q.between;
+        here = q.here;
+        world = q.world;
+        feeds = Feeds-trans a b q.between fresh t q.here v w q.world text q.front p q.feeds;
+        fits = q.fits;
+        stops = q.stops;
+      };
+      near = omega (arith, size, small);
+    }
+
+pub FailsLater-piece : (left a b c : Option (List ℕ)) (t : Progress) (v w x : World) (text piece : List ℕ) (fault : RunFault) → Feeds a fresh v text b t w → length piece ≤ 65536
+    → Stops b t w piece fault c x → FailsLater left a v (text ++ piece) fault c x
+FailsLater-piece left a b c t v w x text piece Read p small q = absurd q.stops.2
+FailsLater-piece left a b c t v w x text piece Write p small q = inl (StopsWithin-piece a b c t v w x text piece Write p small q)
+FailsLater-piece left a b c t v w x text piece Memory p small q = inl (StopsWithin-piece a b c t v w x text piece Memory p small q)
+FailsLater-piece left a b c t v w x text piece TooLong p small q = StopsWithin-piece a b c t v w x text piece TooLong p small q
+
+StopsLast-from : (left a b c : Option (List ℕ)) (t : Progress) (v w x : World) (text : List ℕ) (fault : RunFault) → IsAtEnd left → Feeds a fresh v text b t w → IsWithinLimits t
+    → 0 < length t.line → FailsAt b w t.line fault c x → StopsLast left a v text fault c x
+StopsLast-from left a b c t v w x text fault end p small filled q =
+    record { at_end = end; between = b; here = t; world = w; feeds = p; fits = small; filled = filled; fails = q }
+
+-- the last line met a fault
+pub FailsLater-last : (left a b c : Option (List ℕ)) (t : Progress) (v w x : World) (text : List ℕ) (fault : RunFault) → IsAtEnd left → Feeds a fresh v text b t w → IsWithinLimits t
+    → 0 < length t.line → FailsAt b w t.line fault c x → FailsLater left a v text fault c x
+FailsLater-last left a b c t v w x text Read end p small filled q = absurd q
+FailsLater-last left a b c t v w x text Write end p small filled q = inr (StopsLast-from left a b c t v w x text Write end p small filled q)
+FailsLater-last left a b c t v w x text Memory end p small filled q = inr (StopsLast-from left a b c t v w x text Memory end p small filled q)
+FailsLater-last left a b c t v w x text TooLong end p small filled q = absurd q
+
+-- any fault behind the start is one of the run
+pub Fails-later : (left held : Option (List ℕ)) (old : World) (text : List ℕ) (fault : RunFault) (holds : Option (List ℕ)) (new : World) → FailsLater left held old text fault holds new
+    → Fails left held old text fault holds new
+Fails-later left held old text Read holds new h = h
+Fails-later left held old text Write holds new h = h
+Fails-later left held old text Memory holds new h = inr h
+Fails-later left held old text TooLong holds new h = h
+
+-- a read of nothing consumed nothing
+pub Consumes-none : (a b c : Option (List ℕ)) (text bytes : List ℕ) (n : ℕ) → n ≡ 0 → Consumes a b text → Consumes b c (take n bytes) → Consumes a c text
+Consumes-none a b c text bytes n none p q =
+    subst (Consumes a c) (ap (λ (k : ℕ). text ++ take k bytes) none ∙ append-nil text) (Consumes-trans a b c text (take n bytes) p q)

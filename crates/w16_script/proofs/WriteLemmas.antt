@@ -1,0 +1,21 @@
+-- Lemmas on writes.
+use Rattle.std.proofs.Common.{◌≡◌, ℕ, ◌+◌, ◌<◌, List, Option, length, length-drop, take, drop, sym, subst, take-append-drop, arith}
+use Rattle.std.specs.Io.KnownBytes.{Appends}
+use Rattle.std.proofs.KnownBytes.{Appends-trans}
+use Rattle.std.proofs.Math.Seq.{take-add}
+use Rattle.w16_script.specs.Written.{AppendsFront}
+
+-- a further front of what is left
+pub Appends-take : (a b c : Option (List ℕ)) (xs ys : List ℕ) (n m : ℕ) → Appends a b (take n xs) → ys ≡ drop n xs → Appends b c (take m ys) → Appends a c (take (n + m) xs)
+Appends-take a b c xs ys n m p e q =
+    subst (Appends a c) (sym (take-add n m xs)) (Appends-trans a b c _ _ p (subst (λ (l : List ℕ). Appends b c (take m l)) e q))
+
+-- a front that is not all
+pub AppendsFront-take : (a b : Option (List ℕ)) (xs : List ℕ) (n : ℕ) → n < length xs → Appends a b (take n xs) → AppendsFront a b xs
+AppendsFront-take a b xs n h p = record {
+  front = take n xs;
+  back = drop n xs;
+  whole = sym (take-append-drop n xs);
+  left = omega (arith, length-drop n xs);
+  appends = p;
+}

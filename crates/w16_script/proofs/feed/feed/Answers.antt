@@ -1,0 +1,35 @@
+use Rattle.std.proofs.Common.{ℕ, List, ◌++◌, [], length-append, sym, ap, ◌∙◌, append-nil, append_assoc, arith}
+use Rattle.std.proofs.lemmas.Result.{IfErr-weaker}
+use Rattle.w16_script.specs.Text.{ended}
+use Rattle.w16_script.specs.Unfinished.{progress_of}
+use Rattle.w16_script.proofs.FeedLemmas.{Feeds-trans, Stops-overflow, Stops-later}
+use Rattle.w16_script.proofs.feed.feed.Goals as goal
+
+pub returns-in-Err-clause-err : goal.returns-in-Err-clause-err
+returns-in-Err-clause-err g c =
+    let (done, whole, feeds, room) = c.lines.invariant.fed in
+    Stops-later _ _ _ (progress_of c.args.state.now) (progress_of c.lines.state) _ _ _ c.args.piece.now done (ended c.in-Some.line.now) c.in-Some.behind.now c.in-Err.fault
+    (whole ∙ ap (λ (l : List ℕ). done ++ l) c.in-Some.ensures.some) feeds c.in-Err.ensures.err
+
+pub lines-preserved : goal.lines-preserved
+lines-preserved g c =
+    let (done, whole, feeds, room) = c.lines.invariant.fed in
+    let line = ended c.in-Some.line.now in
+    record {
+      fed = (
+        done ++ line,
+        whole ∙ ap (λ (l : List ℕ). done ++ l) c.in-Some.ensures.some ∙ sym (append_assoc done line c.in-Some.behind.now),
+        Feeds-trans _ _ _ _ _ _ _ _ _ done line feeds c.in_default-take_line.ensures.ok,
+        omega (arith, room, c.in_default-take_line.ensures.room, length-append done line),
+      );
+      fits = c.in_default-take_line.ensures.within;
+    }
+
+pub returns-clause-err : goal.returns-clause-err
+returns-clause-err g c =
+    let (done, whole, feeds, room) = c.lines.invariant.fed in
+    IfErr-weaker c.hold.result _ _
+    (λ fault over. Stops-later _ _ _ (progress_of c.args.state.now) (progress_of c.lines.state) _ _ _ c.args.piece.now done (c.lines.rest.now ++ []) [] fault
+    (whole ∙ ap (λ (l : List ℕ). done ++ l) (sym (append-nil (c.lines.rest.now ++ []) ∙ append-nil c.lines.rest.now))) feeds
+    (Stops-overflow _ (progress_of c.lines.state) _ c.lines.rest.now [] fault c.in_default.ensures.none over.0 over.1))
+    c.hold.ensures.err

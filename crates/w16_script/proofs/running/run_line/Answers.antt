@@ -1,0 +1,54 @@
+use Rattle.std.proofs.Common.{[], ◌∷◌, refl}
+use Rattle.std.proofs.KnownBytes.{Appends-nil}
+use Rattle.w16_kernel.specs.Runs.{Event, command_of, reply_of}
+use Rattle.w16_script.specs.Grammar.{Said}
+use Rattle.w16_script.specs.Printed.{reply_text, error_text}
+use Rattle.w16_script.proofs.RunLemmas.{Prints-one}
+use Rattle.w16_script.proofs.running.run_line.Goals as goal
+
+pub returns-in-Silent-clause-ok : goal.returns-in-Silent-clause-ok
+returns-in-Silent-clause-ok g c = record {
+  events = [];
+  output = [];
+  run = refl;
+  prints = Prints-one c.args.line.now Said.Silent [] [] c.in-Silent.ensures.reads refl;
+  appends = Appends-nil _;
+}
+
+pub returns-in-Ok-clause-ok : goal.returns-in-Ok-clause-ok
+returns-in-Ok-clause-ok g c = record {
+  events = [];
+  output = error_text;
+  run = refl;
+  prints = Prints-one c.args.line.now Said.Bad [] error_text c.in-Bad.ensures.reads refl;
+  appends = c.in-Ok.ensures.ok;
+}
+
+pub returns-in-Err-clause-err : goal.returns-in-Err-clause-err
+returns-in-Err-clause-err g c =
+    ([], error_text, refl, Prints-one c.args.line.now Said.Bad [] error_text c.in-Bad.ensures.reads refl, c.in-Err.ensures.err)
+
+pub returns-in-Ok-print_reply-clause-ok : goal.returns-in-Ok-print_reply-clause-ok
+returns-in-Ok-print_reply-clause-ok g c =
+    let command = command_of c.in-Command.call in
+    let event : Event = record { command = command; reply = reply_of c.in-Ok-call.reply; after = c.call.new.self } in
+    let text = reply_text (reply_of c.in-Ok-call.reply) in
+    record {
+      events = event ∷ [];
+      output = text;
+      run = (c.in-Ok-call.ensures.step, refl);
+      prints = Prints-one c.args.line.now (Said.Says command) (event ∷ []) text c.in-Command.ensures.reads (refl, refl);
+      appends = c.in-Ok-print_reply.ensures.ok;
+    }
+
+pub returns-in-Err-print_reply-clause-err : goal.returns-in-Err-print_reply-clause-err
+returns-in-Err-print_reply-clause-err g c =
+    let command = command_of c.in-Command.call in
+    let event : Event = record { command = command; reply = reply_of c.in-Ok-call.reply; after = c.call.new.self } in
+    let text = reply_text (reply_of c.in-Ok-call.reply) in (
+      event ∷ [],
+      text,
+      (c.in-Ok-call.ensures.step, refl),
+      Prints-one c.args.line.now (Said.Says command) (event ∷ []) text c.in-Command.ensures.reads (refl, refl),
+      c.in-Err-print_reply.ensures.err,
+    )

@@ -1,0 +1,56 @@
+-- What bytes of a script do, one after another.
+use Rattle.std.specs.Prelude.{◌≡◌, ℕ, ◌+◌, List, [], ◌∷◌, ◌++◌, length, map, count_by, Option}
+use Rattle.std.specs.List.{flat_map, AllByRecursion}
+use Rattle.std.specs.Io.KnownBytes.{Keeps}
+use Rattle.w16_model.specs.Machine.{Command}
+use Rattle.w16_model.specs.World.{World}
+use Rattle.w16_kernel.specs.Runs.{Event, Run}
+use Rattle.w16_script.specs.declared.outcome.RunFault.{RunFault}
+use Rattle.w16_script.specs.declared.outcome.RunFault.TheVariants.{Write, Memory, TooLong}
+use Rattle.w16_script.specs.Grammar.{Said, Reads}
+use Rattle.w16_script.specs.Written.{AppendsFront}
+use Rattle.w16_script.specs.Output.{Prints, RunsLines, has_reply}
+use Rattle.w16_script.specs.Text.{ended, HasNoLf, IsRaw, without_cr}
+use Rattle.w16_script.specs.Progress.{Progress, IsWithinLimits, IsOver}
+
+-- which commands may want memory of the host: none
+abbrev pub Allocates : Command → Type 0
+Allocates command = ⊥
+
+-- the line met a fault
+abbrev pub FailsAt : Option (List ℕ) → World → List ℕ → RunFault → Option (List ℕ) → World → Type 0
+-- its command was done, and a front of its reply was written
+FailsAt held old line Write holds new =
+    (events : List Event) × (output : List ℕ) × Run old events new × Prints (line ∷ []) events output × AppendsFront held holds output
+-- its command wants memory, and nothing was done
+FailsAt held old line Memory holds new =
+    (command : Command) × Reads line (Said.Says command) × Allocates command × (new ≡ old) × Keeps held holds
+-- no line meets another
+FailsAt held old line fault holds new = ⊥
+
+-- The bytes were taken: they ended some lines, which were run, and the rest is unfinished.
+pub record Feeds (held : Option (List ℕ)) (before : Progress) (old : World) (bytes : List ℕ) (holds : Option (List ℕ)) (after : Progress) (new : World) : Type 0 where
+  pub raw : List (List ℕ)
+  pub whole : before.line ++ bytes ≡ flat_map ended raw ++ after.line
+  pub parts : HasNoLf before.line → AllByRecursion IsRaw raw × HasNoLf after.line
+  pub runs : RunsLines held old (map without_cr raw) holds new
+  pub lines : after.lines ≡ before.lines + length raw
+  pub replies : after.replies ≡ before.replies + count_by has_reply (map without_cr raw)
+
+-- what the next byte meets: it passes a limit, or it passes none and ends a line that meets a fault
+abbrev pub StopsHere : Option (List ℕ) → Progress → World → ℕ → RunFault → Option (List ℕ) → World → Type 0
+StopsHere held here old byte TooLong holds new = IsOver here byte × (new ≡ old) × Keeps held holds
+StopsHere held here old byte fault holds new = (IsOver here byte → ⊥) × (byte ≡ 10) × FailsAt held old (without_cr here.line) fault holds new
+
+-- The bytes met a fault: a front of them was taken, and then one stopped the run.
+pub record Stops (held : Option (List ℕ)) (before : Progress) (old : World) (bytes : List ℕ) (fault : RunFault) (holds : Option (List ℕ)) (new : World) : Type 0 where
+  pub front : List ℕ
+  pub byte : ℕ
+  pub more : List ℕ
+  pub whole : bytes ≡ front ++ byte ∷ more
+  pub between : Option (List ℕ)
+  pub here : Progress
+  pub world : World
+  pub feeds : Feeds held before old front between here world
+  pub fits : IsWithinLimits here
+  pub stops : StopsHere between here world byte fault holds new

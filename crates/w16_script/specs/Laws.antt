@@ -1,0 +1,21 @@
+-- Laws of the language.
+use Rattle.std.specs.Prelude.{◌≡◌, ℕ, Bool, true, ◌||◌, ◌&&◌, ◌==◌, nat_le, List}
+use Rattle.std.specs.List.{list_all}
+use Rattle.w16_model.specs.Machine.{Command}
+use Rattle.w16_script.specs.Grammar.{HasShape, arguments_of, shape_of, name_of, Said, Reads}
+
+-- each command's arguments have its command's shape
+abbrev pub EachFits : Type 0
+EachFits = (command : Command) → HasShape (arguments_of command) (shape_of (name_of command))
+
+-- what a line says is one thing
+abbrev pub OneReading : Type 0
+OneReading = (line : List ℕ) (a b : Said) → Reads line a → Reads line b → a ≡ b
+
+-- a byte from 20 to 7E in hexadecimal, or a tab
+abbrev pub is_plain : ℕ → Bool
+is_plain byte = (byte == 9) || (nat_le 32 byte && nat_le byte 126)
+
+-- no other byte stands in a line that says a command
+abbrev pub EachIsPlain : Type 0
+EachIsPlain = (line : List ℕ) (command : Command) → Reads line (Said.Says command) → list_all is_plain line ≡ true

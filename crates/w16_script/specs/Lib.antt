@@ -1,0 +1,15 @@
+pub mod Words
+pub mod Numbers
+pub mod Grammar
+pub mod Values
+pub mod Lines
+pub mod Laws
+pub mod Written
+pub mod Printed
+pub mod Output
+pub mod Text
+pub mod Progress
+pub mod Feeding
+pub mod Whole
+pub mod Unfinished
+pub mod Status

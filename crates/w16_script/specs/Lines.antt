@@ -1,0 +1,16 @@
+-- What the code says of a line.
+use Rattle.w16_kernel.specs.Runs.{command_of, IsCall}
+use Rattle.w16_script.specs.declared.line.Line.{Line}
+use Rattle.w16_script.specs.declared.line.Line.TheVariants as line
+use Rattle.w16_script.specs.Grammar.{Said}
+
+-- what a line says, seen as the machine sees it
+abbrev pub said_of : Line → Said
+said_of line.Silent = Said.Silent
+said_of line.Bad = Said.Bad
+said_of (line.Command call) = Said.Says (command_of call)
+
+-- a command is one that the machine takes
+abbrev pub IsRunnable : Line → Type 0
+IsRunnable (line.Command call) = IsCall call
+IsRunnable other = Unit {0}

@@ -1,0 +1,168 @@
+//! The arguments of commands.
+ghost use Rattle.std.specs.Prelude.{◌≡◌, ℕ, ◌^◌, ◌<◌, ◌≤◌, ◌↔◌, IsTrue, IfSome, IfNone, List, [], ◌∷◌};
+ghost use Rattle.w16_script.specs.Words.{words_of};
+ghost use Rattle.w16_script.specs.Grammar.{Arguments as Values, IsNumberBelow, IsBytes, IsArguments};
+ghost use Rattle.w16_script.specs.Values.{values_of};
+
+use crate::bytes::bytes;
+use crate::number::number;
+use crate::words::split_word;
+use w16_kernel::Chunk;
+
+/// Which arguments a command has.
+#[derive(Clone, Copy)]
+pub enum Shape {
+    Word,
+    WordDword,
+    DwordCount,
+    DwordBytes,
+}
+
+/// The arguments of a command.
+#[derive(Drop)]
+pub enum Arguments {
+    Word(u16),
+    WordDword(u16, u32),
+    DwordCount(u32, u16),
+    DwordBytes(u32, Chunk),
+}
+
+/// Whether there are only blanks.
+fn no_word(text: &[u8]) -> bool
+    ensures { IsTrue result ↔ (words_of text.now ≡ []) }
+{
+    split_word(text).is_none()
+}
+
+/// The only word.
+fn only_word(text: &[u8]) -> Option<&[u8]>
+    ensures found { IfSome result (λ word. words_of text.now ≡ word.now ∷ []) }
+    ensures none { IfNone result ((word : List ℕ) → words_of text.now ≡ word ∷ [] → ⊥) }
+{
+    let (word, behind) = split_word(text)?;
+    if no_word(behind) { Some(word) } else { None }
+}
+
+/// A number below the limit.
+fn number_below(word: &[u8], limit: u64) -> Option<u32>
+    ensures found { IfSome result (λ n. IsNumberBelow word.now limit n) }
+    ensures none { IfNone result ((n : ℕ) → IsNumberBelow word.now limit n → ⊥) }
+{
+    let Some(number) = number(word) else {
+        return None;
+    };
+    if (number as u64) < limit {
+        Some(number)
+    } else {
+        None
+    }
+}
+
+/// The first word as a number below the limit, and what stands behind it.
+#[tactic(auto, using(crate::proofs::ArgumentLemmas::no_first))]
+fn first_number(text: &[u8], limit: u64) -> Option<(u32, &[u8])>
+    ensures found { IfSome result (λ first. (word : List ℕ) × (words_of text.now ≡ word ∷ words_of first.1.now) × IsNumberBelow word limit first.0) }
+    ensures none { IfNone result ((word : List ℕ) (words : List (List ℕ)) (n : ℕ) → words_of text.now ≡ word ∷ words → IsNumberBelow word limit n → ⊥) }
+{
+    let Some((word, behind)) = split_word(text) else {
+        return None;
+    };
+    match number_below(word, limit) {
+        Some(number) => Some((number, behind)),
+        None => None,
+    }
+}
+
+/// The only word, as a number below the limit.
+#[tactic(auto, using(crate::proofs::ArgumentLemmas::no_number))]
+fn only_number(text: &[u8], limit: u64) -> Option<u32>
+    ensures found { IfSome result (λ n. (word : List ℕ) × (words_of text.now ≡ word ∷ []) × IsNumberBelow word limit n) }
+    ensures none { IfNone result ((word : List ℕ) (n : ℕ) → words_of text.now ≡ word ∷ [] → IsNumberBelow word limit n → ⊥) }
+{
+    let Some(word) = only_word(text) else {
+        return None;
+    };
+    number_below(word, limit)
+}
+
+/// The only word, as bytes.
+#[tactic(auto, using(crate::proofs::ArgumentLemmas::no_bytes))]
+fn only_bytes(text: &[u8]) -> Option<Chunk>
+    ensures found { IfSome result (λ bytes. (word : List ℕ) × (words_of text.now ≡ word ∷ []) × IsBytes word bytes.items) }
+    ensures none { IfNone result ((word : List ℕ) (bytes : List ℕ) → words_of text.now ≡ word ∷ [] → IsBytes word bytes → ⊥) }
+{
+    let Some(word) = only_word(text) else {
+        return None;
+    };
+    bytes(word)
+}
+
+/// A word.
+#[tactic(auto, using(crate::proofs::ArgumentLemmas::word_steps))]
+fn word(text: &[u8]) -> Option<Arguments>
+    ensures found { IfSome result (λ a. IsArguments (words_of text.now) Shape.Word (values_of a)) }
+    ensures none { IfNone result ((a : Values) → IsArguments (words_of text.now) Shape.Word a → ⊥) }
+{
+    let Some(word) = only_number(text, 1 << 16) else {
+        return None;
+    };
+    Some(Arguments::Word(word as u16))
+}
+
+/// A word, and a double word.
+#[tactic(auto, using(crate::proofs::ArgumentLemmas::word_dword_steps))]
+fn word_dword(text: &[u8]) -> Option<Arguments>
+    ensures found { IfSome result (λ a. IsArguments (words_of text.now) Shape.WordDword (values_of a)) }
+    ensures none { IfNone result ((a : Values) → IsArguments (words_of text.now) Shape.WordDword a → ⊥) }
+{
+    let Some((word, behind)) = first_number(text, 1 << 16) else {
+        return None;
+    };
+    let Some(dword) = only_number(behind, 1 << 32) else {
+        return None;
+    };
+    Some(Arguments::WordDword(word as u16, dword))
+}
+
+/// A double word, and a count of at most 1,024.
+#[tactic(auto, using(crate::proofs::ArgumentLemmas::dword_count_steps))]
+fn dword_count(text: &[u8]) -> Option<Arguments>
+    ensures found { IfSome result (λ a. IsArguments (words_of text.now) Shape.DwordCount (values_of a)) }
+    ensures none { IfNone result ((a : Values) → IsArguments (words_of text.now) Shape.DwordCount a → ⊥) }
+{
+    let Some((dword, behind)) = first_number(text, 1 << 32) else {
+        return None;
+    };
+    let Some(count) = only_number(behind, 1025) else {
+        return None;
+    };
+    Some(Arguments::DwordCount(dword, count as u16))
+}
+
+/// A double word, and bytes.
+#[tactic(auto, using(crate::proofs::ArgumentLemmas::dword_bytes_steps))]
+fn dword_bytes(text: &[u8]) -> Option<Arguments>
+    ensures found { IfSome result (λ a. IsArguments (words_of text.now) Shape.DwordBytes (values_of a)) }
+    ensures none { IfNone result ((a : Values) → IsArguments (words_of text.now) Shape.DwordBytes a → ⊥) }
+{
+    let Some((dword, behind)) = first_number(text, 1 << 32) else {
+        return None;
+    };
+    let Some(bytes) = only_bytes(behind) else {
+        return None;
+    };
+    Some(Arguments::DwordBytes(dword, bytes))
+}
+
+/// The arguments of this shape that the words of the text are.
+pub fn read_arguments(text: &[u8], shape: Shape) -> Option<Arguments>
+    ensures found { IfSome result (λ a. IsArguments (words_of text.now) shape (values_of a)) }
+    ensures none { IfNone result ((a : Values) → IsArguments (words_of text.now) shape a → ⊥) }
+{
+    match shape {
+        Shape::Word => word(text),
+        Shape::WordDword => word_dword(text),
+        Shape::DwordCount => dword_count(text),
+        Shape::DwordBytes => dword_bytes(text),
+    }
+}

@@ -1,0 +1,159 @@
+//! Bytes of a script, in pieces.
+ghost use Rattle.std.specs.Prelude.{◌≡◌, ◌+◌, ◌<◌, ◌≤◌, [], ◌∷◌, ◌++◌, length, OnOk, OnErr, IfOk, IfErr, IfSome, IfNone, if◌then◌else◌};
+ghost use Rattle.std.specs.Io.BufRead.{strip_last};
+ghost use Rattle.w16_script.specs.Text.{ended, HasNoLf};
+ghost use Rattle.w16_script.specs.Progress.{with_bytes, IsWithinLimits, Overflows, room_of};
+ghost use Rattle.w16_script.specs.Feeding.{Feeds, FailsAt, Stops};
+ghost use Rattle.w16_script.specs.Unfinished.{progress_of};
+
+use crate::outcome::RunFault;
+use crate::running::run_line;
+use arrayvec::ArrayVec;
+use memchr::memchr;
+use std::io::Write;
+use w16_kernel::Kernel;
+
+/// How many bytes a line may have before its LF.
+const LONGEST_LINE: usize = 4096;
+
+/// How many lines may end.
+const MOST_LINES: u32 = 1_000_000;
+
+/// What is known between two bytes: the line so far, how many lines ended before it, and how many of those
+/// had a reply.
+#[derive(Drop)]
+pub struct Unfinished {
+    pub line: ArrayVec<u8, LONGEST_LINE>,
+    pub lines: u32,
+    pub replies: u32,
+}
+
+impl Unfinished {
+    ghost use Rattle.w16_script.specs.Progress.{fresh};
+
+    /// Before the first byte.
+    pub fn new() -> Self
+        ensures { progress_of result ≡ fresh }
+    {
+        Unfinished {
+            line: ArrayVec::new(),
+            lines: 0,
+            replies: 0,
+        }
+    }
+
+    #[tactic(auto, using(crate::proofs::LimitLemmas::overflows))]
+    /// Takes bytes of one line, which are too long or all taken.
+    fn hold(&mut self, bytes: &[u8]) -> Result<(), RunFault>
+        requires fits { IsWithinLimits (progress_of self.old) }
+        requires one_line { HasNoLf bytes.now }
+        ensures ok { OnOk result (progress_of self.new ≡ with_bytes (progress_of self.old) bytes.now) }
+        ensures within { OnOk result (IsWithinLimits (progress_of self.new)) }
+        ensures err { IfErr result (λ fault. (fault ≡ RunFault.TooLong) × Overflows (progress_of self.old) bytes.now) }
+    {
+        if bytes.is_empty() {
+            return Ok(());
+        }
+        if self.lines == MOST_LINES {
+            return Err(RunFault::TooLong);
+        }
+        if self.line.try_extend_from_slice(bytes).is_err() {
+            return Err(RunFault::TooLong);
+        }
+        Ok(())
+    }
+}
+
+/// The line up to the first LF, and what stands behind it.
+fn split_line(text: &[u8]) -> Option<(&[u8], &[u8])>
+    ensures some { IfSome result (λ split. text.now ≡ ended split.0.now ++ split.1.now) }
+    ensures one_line { IfSome result (λ split. HasNoLf split.0.now) }
+    ensures none { IfNone result (HasNoLf text.now) }
+{
+    match memchr(b'\n', text) {
+        Some(at) => Some((&text[..at], &text[at + 1..])),
+        None => None,
+    }
+}
+
+/// The line without a CR at its end.
+fn without_cr(line: &[u8]) -> &[u8]
+    ensures { result.now ≡ strip_last 13 line.now }
+{
+    match line {
+        [front @ .., b'\r'] => front,
+        _ => line,
+    }
+}
+
+/// Runs the line that an LF ends.
+fn end_line<W: Write>(
+    state: &mut Unfinished,
+    writer: &mut W,
+    kernel: &mut Kernel,
+) -> Result<(), RunFault>
+    requires fits { IsWithinLimits (progress_of state.old) }
+    requires few { state.old.lines < 1000000 }
+    ensures ok { OnOk result (Feeds (W.contents writer.old) (progress_of state.old) kernel.old (10 ∷ []) (W.contents writer.new) (progress_of state.new) kernel.new) }
+    ensures within { OnOk result (IsWithinLimits (progress_of state.new)) }
+    ensures room { OnOk result (room_of (progress_of state.new) < room_of (progress_of state.old)) }
+    ensures err { IfErr result (λ fault. FailsAt (W.contents writer.old) kernel.old (strip_last 13 state.old.line.items) fault (W.contents writer.new) kernel.new) }
+{
+    match run_line(writer, kernel, without_cr(state.line.as_slice())) {
+        Ok(replied) => {
+            state.line.clear();
+            state.lines += 1;
+            if replied {
+                state.replies += 1;
+            }
+            Ok(())
+        }
+        Err(fault) => Err(fault),
+    }
+}
+
+/// Takes the bytes of a line and the LF that ends it, and runs it.
+fn take_line<W: Write>(
+    state: &mut Unfinished,
+    writer: &mut W,
+    kernel: &mut Kernel,
+    line: &[u8],
+) -> Result<(), RunFault>
+    requires fits { IsWithinLimits (progress_of state.old) }
+    requires one_line { HasNoLf line.now }
+    ensures ok { OnOk result (Feeds (W.contents writer.old) (progress_of state.old) kernel.old (ended line.now) (W.contents writer.new) (progress_of state.new) kernel.new) }
+    ensures within { OnOk result (IsWithinLimits (progress_of state.new)) }
+    ensures room { OnOk result (room_of (progress_of state.new) + length (ended line.now) ≤ room_of (progress_of state.old)) }
+    ensures err { IfErr result (λ fault. Stops (W.contents writer.old) (progress_of state.old) kernel.old (ended line.now) fault (W.contents writer.new) kernel.new) }
+{
+    if let Err(fault) = state.hold(line) {
+        return Err(fault);
+    }
+    if state.lines == MOST_LINES {
+        return Err(RunFault::TooLong);
+    }
+    end_line(state, writer, kernel)
+}
+
+/// Takes a piece of the script, and runs the lines that end in it.
+pub fn feed<W: Write>(
+    state: &mut Unfinished,
+    writer: &mut W,
+    kernel: &mut Kernel,
+    piece: &[u8],
+) -> Result<(), RunFault>
+    requires { IsWithinLimits (progress_of state.old) }
+    ensures ok { OnOk result (Feeds (W.contents writer.old) (progress_of state.old) kernel.old piece.now (W.contents writer.new) (progress_of state.new) kernel.new) }
+    ensures within { OnOk result (IsWithinLimits (progress_of state.new)) }
+    ensures room { OnOk result (room_of (progress_of state.new) + length piece.now ≤ room_of (progress_of state.old)) }
+    ensures err { IfErr result (λ fault. Stops (W.contents writer.old) (progress_of state.old) kernel.old piece.now fault (W.contents writer.new) kernel.new) }
+{
+    let mut rest = piece;
+    'lines: while let Some((line, behind)) = split_line(rest) {
+        if let Err(fault) = take_line(state, writer, kernel, line) {
+            return Err(fault);
+        }
+        rest = behind;
+    }
+    state.hold(rest)
+}

@@ -1,0 +1,26 @@
+//! Scripts of the machine of handles: lines of commands in, lines of replies out.
+#![tactic(auto)]
+
+mod arguments;
+mod bytes;
+mod feed;
+mod laws;
+mod line;
+mod name;
+mod number;
+mod outcome;
+mod print;
+mod read;
+mod running;
+mod script;
+mod words;
+mod write;
+
+pub use laws::{arguments_fit, one_reading, plain_bytes};
+pub use line::{Line, read_line};
+pub use outcome::{Ended, RunFault};
+pub use print::{print_error, print_reply};
+pub use script::run;
+
+#[cfg(test)]
+mod tests;

@@ -1,0 +1,55 @@
+//! The names of commands.
+ghost use Rattle.std.specs.Prelude.{◌≡◌, IfSome, IfNone};
+
+use crate::arguments::Shape;
+
+/// A command, without its arguments.
+#[derive(Clone, Copy)]
+pub enum Name {
+    GlobalAlloc,
+    GlobalFree,
+    GlobalLock,
+    GlobalUnlock,
+    Read,
+    Write,
+}
+
+impl Name {
+    ghost use Rattle.w16_script.specs.Grammar.{text_of, shape_of};
+
+    /// The command of this name, whose case counts.
+    pub fn find(word: &[u8]) -> Option<Name>
+        ensures found { IfSome result (λ name. word.now ≡ text_of name) }
+        ensures none { IfNone result ((name : _) → word.now ≡ text_of name → ⊥) }
+    {
+        if word == b"GlobalAlloc".as_slice() {
+            Some(Name::GlobalAlloc)
+        } else if word == b"GlobalFree".as_slice() {
+            Some(Name::GlobalFree)
+        } else if word == b"GlobalLock".as_slice() {
+            Some(Name::GlobalLock)
+        } else if word == b"GlobalUnlock".as_slice() {
+            Some(Name::GlobalUnlock)
+        } else if word == b"Read".as_slice() {
+            Some(Name::Read)
+        } else if word == b"Write".as_slice() {
+            Some(Name::Write)
+        } else {
+            None
+        }
+    }
+
+    /// Which arguments the command has.
+    pub fn shape(self) -> Shape
+        ensures { result ≡ shape_of self }
+    {
+        match self {
+            Name::GlobalAlloc => Shape::WordDword,
+            Name::GlobalFree => Shape::Word,
+            Name::GlobalLock => Shape::Word,
+            Name::GlobalUnlock => Shape::Word,
+            Name::Read => Shape::DwordCount,
+            Name::Write => Shape::DwordBytes,
+        }
+    }
+}

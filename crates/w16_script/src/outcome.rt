@@ -1,0 +1,39 @@
+//! How a run ends.
+ghost use Rattle.std.specs.Prelude.{◌≡◌};
+
+/// Why a run ended before its script did.
+#[derive(Debug, Clone, Copy, PartialEq, Eq)]
+pub enum RunFault {
+    /// The reader failed. All that was read before was run, and its replies were written.
+    Read,
+    /// The writer failed, or took nothing. The line that it failed at was run; a front of its reply was
+    /// written, and the replies of all earlier lines.
+    Write,
+    /// The host has no memory for the buffer that a run needs at its start; nothing was read.
+    Memory,
+    /// A line has more than 4,096 bytes before its LF, or a byte stands behind the millionth line end. All
+    /// lines that ended before were run, and their replies were written.
+    TooLong,
+}
+
+impl RunFault {
+    ghost use Rattle.w16_script.specs.Status.{status_of};
+
+    /// The exit status that stands for the fault.
+    pub fn status(self) -> u8
+        ensures { result ≡ status_of self }
+    {
+        match self {
+            RunFault::Read | RunFault::Write => 1,
+            RunFault::Memory => 3,
+            RunFault::TooLong => 4,
+        }
+    }
+}
+
+/// How a whole script ended: all its lines, and those that had a reply.
+#[derive(Debug, Clone, Copy, PartialEq, Eq)]
+pub struct Ended {
+    pub lines: u32,
+    pub replies: u32,
+}

@@ -1,0 +1,95 @@
+//! Runs of whole scripts.
+ghost use Rattle.std.specs.Prelude.{◌≡◌, ◌<◌, ℕ, List, length, IfOk, IfErr};
+ghost use Rattle.std.specs.Io.KnownBytes.{Consumes, IsAtEnd};
+ghost use Rattle.w16_script.specs.Progress.{IsWithinLimits};
+ghost use Rattle.w16_script.specs.Feeding.{FailsAt};
+ghost use Rattle.w16_script.specs.Unfinished.{progress_of};
+ghost use Rattle.w16_script.specs.Whole.{Finishes, Script, FailsLater, Fails};
+
+use crate::feed::{Unfinished, feed};
+use crate::outcome::{Ended, RunFault};
+use crate::read::read_some;
+use crate::running::run_line;
+use std::alloc::Global;
+use std::io::{Read, Write};
+use w16_kernel::Kernel;
+
+/// How many bytes are read at once.
+const PIECE: usize = 65_536;
+
+/// Runs the last line, if there is one.
+fn finish<W: Write>(
+    state: &Unfinished,
+    writer: &mut W,
+    kernel: &mut Kernel,
+) -> Result<Ended, RunFault>
+    requires { IsWithinLimits (progress_of state.now) }
+    ensures ok { IfOk result (λ counts. Finishes (W.contents writer.old) (progress_of state.now) kernel.old (W.contents writer.new) kernel.new counts) }
+    ensures err { IfErr result (λ fault. (0 < length state.now.line.items)
+        × FailsAt (W.contents writer.old) kernel.old state.now.line.items fault (W.contents writer.new) kernel.new) }
+{
+    let line = state.line.as_slice();
+    if line.is_empty() {
+        return Ok(Ended {
+            lines: state.lines,
+            replies: state.replies,
+        });
+    }
+    match run_line(writer, kernel, line) {
+        Ok(replied) => Ok(Ended {
+            lines: state.lines + 1,
+            replies: state.replies + u32::from(replied),
+        }),
+        Err(fault) => Err(fault),
+    }
+}
+
+/// Reads a script by pieces of the buffer's length, and runs it.
+fn run_over<R: Read, W: Write>(
+    reader: &mut R,
+    writer: &mut W,
+    kernel: &mut Kernel,
+    buffer: &mut [u8],
+) -> Result<Ended, RunFault>
+    requires { length buffer.old ≡ 65536 }
+    ensures ok { IfOk result (λ counts. (text : List ℕ) × Consumes (R.remaining reader.old) (R.remaining reader.new) text × IsAtEnd (R.remaining reader.new)
+        × Script (W.contents writer.old) kernel.old text (W.contents writer.new) kernel.new counts) }
+    ensures err { IfErr result (λ fault. (text : List ℕ) × Consumes (R.remaining reader.old) (R.remaining reader.new) text
+        × FailsLater (R.remaining reader.new) (W.contents writer.old) kernel.old text fault (W.contents writer.new) kernel.new) }
+{
+    let mut state = Unfinished::new();
+    'pieces: loop {
+        let count = match read_some(reader, buffer) {
+            Ok(count) => count,
+            Err(_) => return Err(RunFault::Read),
+        };
+        if count == 0 {
+            return finish(&state, writer, kernel);
+        }
+        if let Err(fault) = feed(&mut state, writer, kernel, &buffer[..count]) {
+            return Err(fault);
+        }
+    }
+}
+
+/// Reads a script to its end, runs each line on the machine, and writes its replies and nothing else. It takes
+/// memory at its start alone, and reads by pieces of 64 KiB.
+///
+/// `RunFault` says when each fault comes. Where the reader or the writer doesn't tell its bytes, nothing is
+/// claimed of them.
+pub fn run<R: Read, W: Write>(
+    alloc: Global,
+    reader: &mut R,
+    writer: &mut W,
+    kernel: &mut Kernel,
+) -> Result<Ended, RunFault>
+    ensures ok { IfOk result (λ counts. (text : List ℕ) × Consumes (R.remaining reader.old) (R.remaining reader.new) text × IsAtEnd (R.remaining reader.new)
+        × Script (W.contents writer.old) kernel.old text (W.contents writer.new) kernel.new counts) }
+    ensures err { IfErr result (λ fault. (text : List ℕ) × Consumes (R.remaining reader.old) (R.remaining reader.new) text
+        × Fails (R.remaining reader.new) (W.contents writer.old) kernel.old text fault (W.contents writer.new) kernel.new) }
+{
+    let Ok(mut buffer) = vec![in alloc; 0u8; PIECE] else {
+        return Err(RunFault::Memory);
+    };
+    run_over(reader, writer, kernel, buffer.as_mut_slice())
+}

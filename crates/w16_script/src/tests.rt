@@ -1,0 +1,307 @@
+mod runs;
+
+use crate::{Line, RunFault, print_error, print_reply, read_line};
+use arrayvec::ArrayVec;
+use std::io::{Error, ErrorKind, Result, Write};
+use std::process::Abort;
+use std::test::Fail;
+use w16_kernel::{Call, Chunk, Reply};
+use w16_model::FarFault;
+
+/// A writer that takes so many bytes, at most so many at once, and then fails.
+#[derive(Drop)]
+pub struct Short {
+    pub taken: ArrayVec<u8, 64>,
+    pub left: usize,
+    pub at_once: usize,
+}
+
+impl Write for Short {
+    fn write(&mut self, buf: &[u8]) -> Result<usize> {
+        let count = buf.len().min(self.left).min(self.at_once);
+        if count == 0 || self.taken.try_extend_from_slice(&buf[..count]).is_err() {
+            return Err(Error::from(ErrorKind::Other));
+        }
+        self.left -= count;
+        Ok(count)
+    }
+
+    fn flush(&mut self) -> Result<()> {
+        Ok(())
+    }
+}
+
+/// A writer that takes `left` bytes.
+pub fn limited(left: usize, at_once: usize) -> Short {
+    Short {
+        taken: ArrayVec::new(),
+        left,
+        at_once,
+    }
+}
+
+/// The handle of a line that frees one.
+fn freed(line: &[u8]) -> Option<u16> {
+    match read_line(line) {
+        Line::Command(Call::GlobalFree { handle }) => Some(handle),
+        _ => None,
+    }
+}
+
+#[test]
+fn reads_each_command(rt: HostRuntime) {
+    assert!(rt;
+        matches!(
+            read_line(b"GlobalAlloc 0x42 100"),
+            Line::Command(Call::GlobalAlloc {
+                flags: 0x42,
+                size: 100
+            })
+        )
+    );
+    assert!(rt;
+        matches!(
+            read_line(b"GlobalFree 0x106"),
+            Line::Command(Call::GlobalFree { handle: 0x106 })
+        )
+    );
+    assert!(rt;
+        matches!(
+            read_line(b"GlobalLock 262"),
+            Line::Command(Call::GlobalLock { handle: 262 })
+        )
+    );
+    assert!(rt;
+        matches!(
+            read_line(b"GlobalUnlock 0x0106"),
+            Line::Command(Call::GlobalUnlock { handle: 0x106 })
+        )
+    );
+    assert!(rt;
+        matches!(
+            read_line(b"Read 0x01070000 4"),
+            Line::Command(Call::Read {
+                pointer: 0x0107_0000,
+                count: 4
+            })
+        )
+    );
+    let Line::Command(Call::Write { pointer, bytes }) = read_line(b"Write 0x01070000 4e45Ff") else {
+        return rt.abort();
+    };
+    assert_eq!(rt; pointer, 0x0107_0000);
+    assert_eq!(rt; bytes.as_slice(), [0x4e, 0x45, 0xff].as_slice());
+}
+
+#[test]
+fn reads_numbers(rt: HostRuntime) {
+    let words: [(&[u8], u16); 9] = [
+        (b"GlobalFree 0", 0),
+        (b"GlobalFree 65535", 65535),
+        (b"GlobalFree 0000000000000000000000000000262", 262),
+        (b"GlobalFree 0x0", 0),
+        (b"GlobalFree 0xfFfF", 65535),
+        (b"GlobalFree 0x00000106", 262),
+        (b" \t GlobalFree\t\t262 \t", 262),
+        (b"GlobalFree 0x1", 1),
+        (b"GlobalFree 00", 0),
+    ];
+    for (line, handle) in words {
+        assert_eq!(rt; freed(line), Some(handle), "at {handle}");
+    }
+    assert!(rt;
+        matches!(
+            read_line(b"GlobalAlloc 0xffff 4294967295"),
+            Line::Command(Call::GlobalAlloc {
+                flags: 65535,
+                size: 4_294_967_295
+            })
+        )
+    );
+    assert!(rt;
+        matches!(
+            read_line(b"Read 0xffffffff 1024"),
+            Line::Command(Call::Read {
+                pointer: 0xffff_ffff,
+                count: 1024
+            })
+        )
+    );
+    assert!(rt;
+        matches!(
+            read_line(b"Read 0 0x0"),
+            Line::Command(Call::Read {
+                pointer: 0,
+                count: 0
+            })
+        )
+    );
+}
+
+#[test]
+fn refuses_other_numbers(rt: HostRuntime) {
+    let lines: [&[u8]; 19] = [
+        b"GlobalFree 65536",
+        b"GlobalFree 0x10000",
+        b"GlobalFree 4294967296",
+        b"GlobalFree 18446744073709551616",
+        b"GlobalFree 0x",
+        b"GlobalFree 0X10",
+        b"GlobalFree 0x000000106",
+        b"GlobalFree 10a",
+        b"GlobalFree 0x10g",
+        b"GlobalFree -1",
+        b"GlobalFree +1",
+        b"GlobalFree 1_0",
+        b"GlobalFree a",
+        b"GlobalFree r0",
+        b"GlobalFree r0.lo",
+        b"GlobalFree r0+1",
+        b"GlobalAlloc 2 4294967296",
+        b"Read 0 1025",
+        b"Read 4294967296 0",
+    ];
+    for (at, line) in lines.iter().enumerate() {
+        assert!(rt; matches!(read_line(line), Line::Bad), "at {at}");
+    }
+}
+
+#[test]
+fn refuses_other_lines(rt: HostRuntime) {
+    let lines: [&[u8]; 25] = [
+        b"Frob",
+        b"globalfree 1",
+        b"GLOBALFREE 1",
+        b"GlobalFre 1",
+        b"GlobalFreeX 1",
+        b"GlobalFree",
+        b"GlobalFree 1 2",
+        b"GlobalFree 1 ; a comment",
+        b"GlobalAlloc 2",
+        b"GlobalAlloc 2 1 0",
+        b"r0 = GlobalAlloc 2 1",
+        b"r1=GlobalLock 262",
+        b"r1 =",
+        b"=",
+        b"GlobalFree 1\r",
+        b"\r",
+        b"\x0b",
+        b"GlobalFree\x0b1",
+        b"GlobalFree \x0c1",
+        b"GlobalFree 1\x00",
+        b"GlobalFree 1\xff",
+        b"x ;",
+        b"Write 0",
+        b"Write 0 0x12",
+        b"Write 0 12 34",
+    ];
+    for (at, line) in lines.iter().enumerate() {
+        assert!(rt; matches!(read_line(line), Line::Bad), "at {at}");
+    }
+}
+
+#[test]
+fn passes_over_silent_lines(rt: HostRuntime) {
+    let lines: [&[u8]; 8] = [
+        b"",
+        b" ",
+        b"\t \t",
+        b";",
+        b" \t; a comment",
+        b";GlobalFree 1",
+        b";\x00\x0b\xff\r",
+        b";;",
+    ];
+    for (at, line) in lines.iter().enumerate() {
+        assert!(rt; matches!(read_line(line), Line::Silent), "at {at}");
+    }
+}
+
+/// How many bytes are written by a line that writes so many digits.
+fn written(digits: usize) -> Option<usize> {
+    let mut line: ArrayVec<u8, 2100> = ArrayVec::new();
+    let _ = line.try_extend_from_slice(b"Write 0 ");
+    let _ = line.try_extend_from_slice([b'a'; 2080].split_at(digits.min(2080)).0);
+    match read_line(line.as_slice()) {
+        Line::Command(Call::Write { bytes, .. }) => Some(bytes.len()),
+        _ => None,
+    }
+}
+
+#[test]
+fn reads_bytes(rt: HostRuntime) {
+    assert_eq!(rt; written(0), None);
+    assert_eq!(rt; written(1), None);
+    assert_eq!(rt; written(2), Some(1));
+    assert_eq!(rt; written(3), None);
+    assert_eq!(rt; written(2048), Some(1024));
+    assert_eq!(rt; written(2049), None);
+    assert_eq!(rt; written(2050), None);
+}
+
+fn assert_prints(rt: &impl Abort, reply: &Reply, text: &[u8]) {
+    let mut writer = limited(64, 64);
+    assert!(rt; print_reply(&mut writer, reply).is_ok());
+    assert_eq!(rt; writer.taken.as_slice(), text);
+}
+
+#[test]
+fn prints_each_reply(rt: HostRuntime) {
+    assert_prints(&rt, &Reply::Word(0), b"0000\n");
+    assert_prints(&rt, &Reply::Word(0xa1F), b"0a1f\n");
+    assert_prints(&rt, &Reply::Dword(0x0107_0000), b"01070000\n");
+    assert_prints(&rt, &Reply::Dword(0xffff_ffff), b"ffffffff\n");
+    assert_prints(&rt, &Reply::Done, b"ok\n");
+    assert_prints(&rt, &Reply::Bytes(Chunk::new()), b"bytes\n");
+    let mut bytes = Chunk::new();
+    bytes.push(0x4e);
+    bytes.push(0x05);
+    bytes.push(0xab);
+    assert_prints(&rt, &Reply::Bytes(bytes), b"bytes 4e05ab\n");
+    assert_prints(
+        &rt,
+        &Reply::Fault(FarFault::BadSelector),
+        b"fault selector\n",
+    );
+    assert_prints(
+        &rt,
+        &Reply::Fault(FarFault::NotPresent),
+        b"fault notpresent\n",
+    );
+    assert_prints(&rt, &Reply::Fault(FarFault::Limit), b"fault limit\n");
+}
+
+#[test]
+fn prints_1024_bytes(rt: HostRuntime) -> std::result::Result<(), Fail> {
+    let mut bytes = Chunk::new();
+    for _ in 0..1024u32 {
+        let _ = bytes.try_push(0x5a);
+    }
+    let mut text = Vec::new(rt.alloc());
+    print_reply(&mut text, &Reply::Bytes(bytes))?;
+    assert_eq!(rt; text.len(), 6 + 2048 + 1);
+    Ok(())
+}
+
+#[test]
+fn fails_after_each_number_of_bytes(rt: HostRuntime) {
+    let text = b"fault notpresent\n";
+    for left in 0..text.len() {
+        for at_once in [1, 3, 64] {
+            let mut writer = limited(left, at_once);
+            assert!(rt; print_reply(&mut writer, &Reply::Fault(FarFault::NotPresent)).is_err());
+            assert_eq!(rt; writer.taken.as_slice(), &text[..left]);
+        }
+    }
+    let mut slow = limited(64, 1);
+    assert!(rt; print_error(&mut slow).is_ok());
+    assert_eq!(rt; slow.taken.as_slice(), b"error syntax\n".as_slice());
+}
+
+#[test]
+fn has_a_status_for_each_fault(rt: HostRuntime) {
+    assert_eq!(rt; RunFault::Read.status(), 1);
+    assert_eq!(rt; RunFault::Write.status(), 1);
+    assert_eq!(rt; RunFault::Memory.status(), 3);
+    assert_eq!(rt; RunFault::TooLong.status(), 4);
+}

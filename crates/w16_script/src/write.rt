@@ -1,0 +1,45 @@
+//! Writes whose failure leaves a known front.
+ghost use Rattle.std.specs.Prelude.{◌≤◌, OnOk, OnErr, IfOk, take, length};
+ghost use Rattle.std.specs.Io.KnownBytes.{Appends, Keeps};
+ghost use Rattle.w16_script.specs.Written.{AppendsFront};
+
+use std::io::{Error, ErrorKind, Result, Write};
+
+/// One write. An interruption has written nothing, and is no fault.
+fn write_some<W: Write>(writer: &mut W, bytes: &[u8]) -> Result<usize>
+    ensures ok { IfOk result (λ n. (n ≤ length bytes.now) × Appends (W.contents writer.old) (W.contents writer.new) (take n bytes.now)) }
+    ensures err { OnErr result (Keeps (W.contents writer.old) (W.contents writer.new)) }
+{
+    match writer.write(bytes) {
+        Ok(0) => Err(Error::from(ErrorKind::WriteZero)),
+        Ok(count) => Ok(count),
+        Err(error) => {
+            if error.kind() == ErrorKind::Interrupted {
+                Ok(0)
+            } else {
+                Err(error)
+            }
+        }
+    }
+}
+
+/// Writes all the bytes, or fails after a front of them: where the writer failed, or took nothing.
+pub fn write_whole<W: Write>(writer: &mut W, bytes: &[u8]) -> Result<()>
+    ensures ok { OnOk result (Appends (W.contents writer.old) (W.contents writer.new) bytes.now) }
+    ensures err { OnErr result (AppendsFront (W.contents writer.old) (W.contents writer.new) bytes.now) }
+{
+    let mut at = 0;
+    'tries: for _ in 0..u64::MAX {
+        if at == bytes.len() {
+            return Ok(());
+        }
+        match write_some(writer, &bytes[at..]) {
+            Ok(count) => at += count,
+            Err(error) => return Err(error),
+        }
+    }
+    if at == bytes.len() {
+        return Ok(());
+    }
+    Err(Error::from(ErrorKind::TimedOut))
+}

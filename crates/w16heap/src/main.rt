@@ -1,0 +1,42 @@
+//! `w16heap`: runs a script of calls on a new machine of handles, and prints one reply for each.
+#![tactic(auto)]
+
+mod fault;
+mod options;
+mod play;
+
+use clap::Error;
+use std::process::ExitCode;
+use std::rt::Env;
+
+/// The words of the command line, the program's name first.
+fn words_of(rt: &(impl Env + AllocGlobal)) -> std::io::Result<Vec<String>> {
+    let words = std::env::args(rt)?;
+    Ok(words.collect(rt.alloc())?)
+}
+
+/// Prints what `clap` says, and answers its status; 3 where it had no memory, and 1 where help couldn't be printed.
+fn refuse(rt: &HostRuntime, error: &Error) -> ExitCode {
+    if error.kind() == clap::error::ErrorKind::OutOfMemory {
+        return fault::report(rt, fault::Fault::Memory);
+    }
+    match error.print(rt) {
+        Ok(()) => ExitCode::from(error.exit_code() as u8),
+        Err(_) => fault::report(rt, fault::Fault::Write),
+    }
+}
+
+fn main(rt: HostRuntime) -> ExitCode {
+    let words = match words_of(&rt) {
+        Ok(words) => words,
+        Err(_) => return fault::report(&rt, fault::Fault::Memory),
+    };
+    let options = match options::parse(rt.alloc(), words.as_slice()) {
+        Ok(options) => options,
+        Err(error) => return refuse(&rt, &error),
+    };
+    match play::play(&rt, &options) {
+        Ok(()) => ExitCode::SUCCESS,
+        Err(fault) => fault::report(&rt, fault),
+    }
+}

@@ -1,0 +1,54 @@
+//! The command line.
+use clap::{Arg, Command, Error, value_parser};
+use std::alloc::Global;
+
+/// What the command line asks for.
+#[derive(Debug, Clone, Copy, Drop)]
+pub struct Options<'a> {
+    /// Bytes of the global heap.
+    pub memory: u32,
+    /// How many objects may be there at once.
+    pub selectors: u32,
+    /// The script's path; standard input without one.
+    pub script: Option<&'a str>,
+}
+
+/// The memory's size where none is asked for, in bytes.
+const MEMORY: u32 = 1_048_576;
+
+/// The number of selectors where none is asked for.
+const SELECTORS: u32 = 1024;
+
+/// The command line that the program takes.
+fn command<'a>(alloc: Global) -> Result<Command<'a>, Error> {
+    let memory = Arg::new(alloc, "memory")
+        .long("memory")
+        .value_name("N")
+        .value_parser(value_parser!(u32))
+        .default_value("1048576")
+        .help("Bytes of the global heap, a multiple of 32 from 32 to 16777216");
+    let selectors = Arg::new(alloc, "selectors")
+        .long("selectors")
+        .value_name("N")
+        .value_parser(value_parser!(u32))
+        .default_value("1024")
+        .help("How many objects there may be at once, from 1 to 8160");
+    let script = Arg::new(alloc, "SCRIPT").help("The script; standard input without it");
+    Ok(
+        Command::new(alloc, "w16heap")
+            .about("Runs a script of memory calls of Windows 3.1 and prints one reply for each")
+            .arg(memory)?
+            .arg(selectors)?
+            .arg(script)?,
+    )
+}
+
+/// Reads the words of a command line, the program's name first. An error is `clap`'s, also where help is asked for.
+pub fn parse<'a>(alloc: Global, words: &'a [String]) -> Result<Options<'a>, Error> {
+    let matches = command(alloc)?.try_get_matches_from(words)?;
+    Ok(Options {
+        memory: matches.get_one::<u32>("memory").unwrap_or(MEMORY),
+        selectors: matches.get_one::<u32>("selectors").unwrap_or(SELECTORS),
+        script: matches.get_str("SCRIPT"),
+    })
+}
