@@ -37,17 +37,16 @@ fn dword(kernel: &mut Kernel, call: Call) -> Option<u32>
     }
 }
 
+/// The handle of a new object.
+fn allocated(kernel: &mut Kernel, flags: u16, size: u32) -> Option<u16> {
+    word(kernel, Call::GlobalAlloc { flags, size })
+}
+
 #[test]
 fn names_by_kind(rt: HostRuntime) -> Result<(), Fail> {
     let mut kernel = small(rt.alloc())?;
-    assert_eq!(rt;
-        word(&mut kernel, Call::GlobalAlloc { flags: 0, size: 1 }),
-        Some(0x107)
-    );
-    assert_eq!(rt;
-        word(&mut kernel, Call::GlobalAlloc { flags: 2, size: 1 }),
-        Some(0x10E)
-    );
+    assert_eq!(rt; allocated(&mut kernel, 0, 1), Some(0x107));
+    assert_eq!(rt; allocated(&mut kernel, 2, 1), Some(0x10E));
     assert_eq!(rt;
         word(&mut kernel, Call::GlobalFree { handle: 0x106 }),
         Some(0x106)
@@ -74,10 +73,7 @@ fn names_by_kind(rt: HostRuntime) -> Result<(), Fail> {
 #[test]
 fn counts_255_locks(rt: HostRuntime) -> Result<(), Fail> {
     let mut kernel = small(rt.alloc())?;
-    assert_eq!(rt;
-        word(&mut kernel, Call::GlobalAlloc { flags: 2, size: 1 }),
-        Some(0x106)
-    );
+    assert_eq!(rt; allocated(&mut kernel, 2, 1), Some(0x106));
     for _ in 0..255u32 {
         assert_eq!(rt;
             dword(&mut kernel, Call::GlobalLock { handle: 0x106 }),
@@ -116,58 +112,25 @@ fn counts_255_locks(rt: HostRuntime) -> Result<(), Fail> {
 #[test]
 fn refuses_what_has_no_room(rt: HostRuntime) -> Result<(), Fail> {
     let mut kernel = small(rt.alloc())?;
-    assert_eq!(rt;
-        word(&mut kernel, Call::GlobalAlloc { flags: 2, size: 0 }),
-        Some(0)
-    );
-    assert_eq!(rt;
-        word(
-            &mut kernel,
-            Call::GlobalAlloc {
-                flags: 2,
-                size: 65_537
-            }
-        ),
-        Some(0)
-    );
-    assert_eq!(rt;
-        word(
-            &mut kernel,
-            Call::GlobalAlloc {
-                flags: 2,
-                size: 4097
-            }
-        ),
-        Some(0)
-    );
-    assert_eq!(rt;
-        word(
-            &mut kernel,
-            Call::GlobalAlloc {
-                flags: 2,
-                size: 4065
-            }
-        ),
-        Some(0x106)
-    );
-    assert_eq!(rt;
-        word(&mut kernel, Call::GlobalAlloc { flags: 2, size: 1 }),
-        Some(0)
-    );
+    assert_eq!(rt; allocated(&mut kernel, 2, 0), Some(0));
+    assert_eq!(rt; allocated(&mut kernel, 2, 65_537), Some(0));
+    assert_eq!(rt; allocated(&mut kernel, 2, 4097), Some(0));
+    assert_eq!(rt; allocated(&mut kernel, 2, 4065), Some(0x106));
+    assert_eq!(rt; allocated(&mut kernel, 2, 1), Some(0));
     assert_eq!(rt;
         word(&mut kernel, Call::GlobalFree { handle: 0x106 }),
         Some(0)
     );
+    Ok(())
+}
+
+#[test]
+fn has_16_slots(rt: HostRuntime) -> Result<(), Fail> {
+    let mut kernel = small(rt.alloc())?;
     for slot in 0..16u16 {
-        assert_eq!(rt;
-            word(&mut kernel, Call::GlobalAlloc { flags: 2, size: 1 }),
-            Some(0x106 + 8 * slot)
-        );
+        assert_eq!(rt; allocated(&mut kernel, 2, 1), Some(0x106 + 8 * slot));
     }
-    assert_eq!(rt;
-        word(&mut kernel, Call::GlobalAlloc { flags: 2, size: 1 }),
-        Some(0)
-    );
+    assert_eq!(rt; allocated(&mut kernel, 2, 1), Some(0));
     Ok(())
 }
 
@@ -191,26 +154,8 @@ fn has(kernel: &mut Kernel, pointer: u32, wanted: [u8; 4]) -> bool {
 #[test]
 fn reads_what_was_written(rt: HostRuntime) -> Result<(), Fail> {
     let mut kernel = small(rt.alloc())?;
-    assert_eq!(rt;
-        word(
-            &mut kernel,
-            Call::GlobalAlloc {
-                flags: 0x42,
-                size: 32
-            }
-        ),
-        Some(0x106)
-    );
-    assert_eq!(rt;
-        word(
-            &mut kernel,
-            Call::GlobalAlloc {
-                flags: 0x42,
-                size: 32
-            }
-        ),
-        Some(0x10E)
-    );
+    assert_eq!(rt; allocated(&mut kernel, 0x42, 32), Some(0x106));
+    assert_eq!(rt; allocated(&mut kernel, 0x42, 32), Some(0x10E));
     assert!(rt;
         matches!(
             answer(&mut kernel, &one_byte(0x0107_001F, 7)),

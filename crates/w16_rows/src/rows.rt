@@ -42,37 +42,11 @@ const fn small(
     }
 }
 
-/// All rows.
-pub fn rows() -> [Row; 12] {
+/// Rows on lines: silent, bad and too long.
+pub fn of_lines() -> [Row; 4] {
     [
         small("an empty script", b"", b"", 0, 0),
         small("silent lines", b"\n; a comment\n \t\n\t ;x\n\n", b"", 5, 0),
-        small(
-            "the whole memory",
-            b"GlobalAlloc 2 4096\nGlobalAlloc 2 1\nGlobalFree 0x106\nGlobalAlloc 2 4097\nGlobalAlloc 2 1\n",
-            b"0106\n0000\n0000\n0000\n0106\n",
-            5,
-            5,
-        ),
-        small(
-            "far reads and their faults",
-            b"GlobalAlloc 0x42 32\nRead 0x01070020 0\nRead 0x01070020 1\nRead 0 1\nGlobalFree 0x106\nRead 0x01070000 1\n",
-            b"0106\nbytes\nfault limit\nfault selector\n0000\nfault selector\n",
-            6,
-            6,
-        ),
-        small("one object's life", LIFE, LIFE_OUTPUT, 6, 6),
-        Row {
-            memory: 1_048_576,
-            selectors: 1024,
-            ..small(
-                "one object's life in a large memory",
-                LIFE,
-                LIFE_OUTPUT,
-                6,
-                6,
-            )
-        },
         Row {
             letters: 4097,
             ended: Err(RunFault::TooLong),
@@ -88,17 +62,23 @@ pub fn rows() -> [Row; 12] {
             letters: 4096,
             ..small("the longest line", b"", b"error syntax\n", 1, 1)
         },
+    ]
+}
+
+/// Rows on objects and the memory that they have.
+pub fn of_memory() -> [Row; 4] {
+    [
         small(
-            "locks are counted",
-            b"GlobalAlloc 2 1\nGlobalLock 0x106\nGlobalLock 0x106\nGlobalFree 0x106\nGlobalUnlock 0x106\nGlobalUnlock 0x106\nGlobalUnlock 0x106\nGlobalFree 0x106\n",
-            b"0106\n01070000\n01070000\n0106\n0001\n0000\n0000\n0000\n",
-            8,
-            8,
+            "the whole memory",
+            b"GlobalAlloc 2 4096\nGlobalAlloc 2 1\nGlobalFree 0x106\nGlobalAlloc 2 4097\nGlobalAlloc 2 1\n",
+            b"0106\n0000\n0000\n0000\n0106\n",
+            5,
+            5,
         ),
         small(
-            "a fixed object",
-            b"GlobalAlloc 0 1\nGlobalLock 0x107\nGlobalUnlock 0x107\nGlobalFree 0x106\nGlobalFree 0x107\nGlobalFree 0x107\n",
-            b"0107\n01070000\n0000\n0106\n0000\n0107\n",
+            "far reads and their faults",
+            b"GlobalAlloc 0x42 32\nRead 0x01070020 0\nRead 0x01070020 1\nRead 0 1\nGlobalFree 0x106\nRead 0x01070000 1\n",
+            b"0106\nbytes\nfault limit\nfault selector\n0000\nfault selector\n",
             6,
             6,
         ),
@@ -119,5 +99,37 @@ pub fn rows() -> [Row; 12] {
                 6,
             )
         },
+    ]
+}
+
+/// Rows on one object's life.
+pub fn of_objects() -> [Row; 4] {
+    [
+        small("one object's life", LIFE, LIFE_OUTPUT, 6, 6),
+        Row {
+            memory: 1_048_576,
+            selectors: 1024,
+            ..small(
+                "one object's life in a large memory",
+                LIFE,
+                LIFE_OUTPUT,
+                6,
+                6,
+            )
+        },
+        small(
+            "locks are counted",
+            b"GlobalAlloc 2 1\nGlobalLock 0x106\nGlobalLock 0x106\nGlobalFree 0x106\nGlobalUnlock 0x106\nGlobalUnlock 0x106\nGlobalUnlock 0x106\nGlobalFree 0x106\n",
+            b"0106\n01070000\n01070000\n0106\n0001\n0000\n0000\n0000\n",
+            8,
+            8,
+        ),
+        small(
+            "a fixed object",
+            b"GlobalAlloc 0 1\nGlobalLock 0x107\nGlobalUnlock 0x107\nGlobalFree 0x106\nGlobalFree 0x107\nGlobalFree 0x107\n",
+            b"0107\n01070000\n0000\n0106\n0000\n0107\n",
+            6,
+            6,
+        ),
     ]
 }

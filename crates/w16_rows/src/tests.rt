@@ -2,7 +2,7 @@ ghost use Rattle.std.specs.Prelude.{All};
 ghost use Rattle.w16_kernel.specs.Runs.{IsCall};
 
 use crate::hosts::{Broken, Endless, Short};
-use crate::rows::{LIFE, LIFE_OUTPUT, Row, rows};
+use crate::rows::{LIFE, LIFE_OUTPUT, Row, of_lines, of_memory, of_objects};
 use arrayvec::ArrayVec;
 use std::alloc::{AllocError, Global};
 use std::process::Abort;
@@ -34,18 +34,40 @@ fn play(
     Ok(ended.map(|counts| (counts.lines, counts.replies)))
 }
 
+/// Plays a row, and compares.
+fn expect_answered(rt: &(impl Abort + AllocGlobal), row: &Row) -> Result<(), AllocError> {
+    let mut output = Vec::new(rt.alloc());
+    let ended = play(rt.alloc(), row, &mut output)?;
+    assert!(rt; ended == row.ended, "the end of: {}", row.name);
+    assert_eq!(rt;
+        output.as_slice(),
+        row.output,
+        "the replies of: {}",
+        row.name
+    );
+    Ok(())
+}
+
 #[test]
-fn rows_are_answered(rt: HostRuntime) -> Result<(), Fail> {
-    for row in rows() {
-        let mut output = Vec::new(rt.alloc());
-        let ended = play(rt.alloc(), &row, &mut output)?;
-        assert!(rt; ended == row.ended, "the end of: {}", row.name);
-        assert_eq!(rt;
-            output.as_slice(),
-            row.output,
-            "the replies of: {}",
-            row.name
-        );
+fn lines_are_answered(rt: HostRuntime) -> Result<(), Fail> {
+    for row in of_lines() {
+        expect_answered(&rt, &row)?;
+    }
+    Ok(())
+}
+
+#[test]
+fn memory_is_answered_for(rt: HostRuntime) -> Result<(), Fail> {
+    for row in of_memory() {
+        expect_answered(&rt, &row)?;
+    }
+    Ok(())
+}
+
+#[test]
+fn objects_are_answered_for(rt: HostRuntime) -> Result<(), Fail> {
+    for row in of_objects() {
+        expect_answered(&rt, &row)?;
     }
     Ok(())
 }
@@ -115,7 +137,7 @@ fn a_reader_fails_after_the_deciding_byte(rt: HostRuntime) -> Result<(), Fail> {
     let row = Row {
         script: b"",
         letters: 4097,
-        ..rows()[0]
+        ..of_lines()[0]
     };
     let script = script_of(rt.alloc(), &row)?;
     let mut reader = Broken {

@@ -3,9 +3,10 @@ ghost use Rattle.std.specs.Prelude.{◌≡◌, ◌+◌, ◌*◌, ◌≤◌, ◌+
 ghost use Rattle.std.specs.Io.KnownBytes.{Appends};
 ghost use Rattle.hex.specs.Hex.{encode_lower};
 ghost use Rattle.arrayvec.specs.ArrayVec.{array_vec_len};
+ghost use Rattle.w16_model.specs.Machine as machine;
 ghost use Rattle.w16_kernel.specs.Runs.{reply_of};
 ghost use Rattle.w16_script.specs.Written.{AppendsFront};
-ghost use Rattle.w16_script.specs.Printed.{body_of, reply_text, digits_behind, fault_text, error_text};
+ghost use Rattle.w16_script.specs.Printed.{reply_text, digits_behind, error_text};
 
 use crate::write::write_whole;
 use arrayvec::ArrayVec;
@@ -17,8 +18,8 @@ use w16_model::FarFault;
 type Text = ArrayVec<u8, 2055>;
 
 /// Appends bytes for which there is room.
-fn append(text: &mut Text, bytes: &[u8])
-    requires { array_vec_len text.old + length bytes.now ≤ 2055 }
+fn append<const N: usize>(text: &mut ArrayVec<u8, N>, bytes: &[u8])
+    requires { array_vec_len text.old + length bytes.now ≤ N }
     ensures items { text.new.items ≡ text.old.items ++ bytes.now }
     ensures len { array_vec_len text.new ≡ array_vec_len text.old + length bytes.now }
 {
@@ -53,38 +54,44 @@ fn append_bytes(text: &mut Text, bytes: &[u8])
     append_hex(text, bytes);
 }
 
-/// A fault's name.
-fn fault_name(fault: FarFault) -> &'static [u8]
-    ensures name { result.now ≡ fault_text fault }
-    ensures short { length result.now ≤ 10 }
+/// Prints the digits of a word or a double word.
+#[tactic(auto, using(crate::proofs::PrintLemmas::hex_lengths))]
+fn print_digits<W: Write>(writer: &mut W, bytes: &[u8]) -> Result<()>
+    requires few { length bytes.now ≤ 4 }
+    ensures ok { OnOk result (Appends (W.contents writer.old) (W.contents writer.new) (encode_lower bytes.now ++ 10 ∷ [])) }
+    ensures err { OnErr result (AppendsFront (W.contents writer.old) (W.contents writer.new) (encode_lower bytes.now ++ 10 ∷ [])) }
 {
-    match fault {
-        FarFault::BadSelector => b"selector",
-        FarFault::NotPresent => b"notpresent",
-        FarFault::Limit => b"limit",
-    }
+    let mut buffer = [0; 8];
+    let digits = &mut buffer[..2 * bytes.len()];
+    let _ = hex::encode_to_slice(bytes, digits);
+    let mut text: ArrayVec<u8, 9> = ArrayVec::new();
+    append(&mut text, digits);
+    append(&mut text, b"\n");
+    write_whole(writer, text.as_slice())
 }
 
-/// A reply without the end of its line.
-fn body_text(reply: &Reply) -> Text
-    ensures items { result.items ≡ body_of (reply_of reply.now) }
-    ensures short { array_vec_len result ≤ 2054 }
+/// Prints bytes that were read.
+fn print_bytes<W: Write>(writer: &mut W, bytes: &[u8]) -> Result<()>
+    requires few { length bytes.now ≤ 1024 }
+    ensures ok { OnOk result (Appends (W.contents writer.old) (W.contents writer.new) (reply_text (machine.Reply.Bytes bytes.now))) }
+    ensures err { OnErr result (AppendsFront (W.contents writer.old) (W.contents writer.new) (reply_text (machine.Reply.Bytes bytes.now))) }
 {
     let mut text = Text::new();
-    match reply {
-        Reply::Word(word) => append_hex(&mut text, &word.to_be_bytes()),
-        Reply::Dword(dword) => append_hex(&mut text, &dword.to_be_bytes()),
-        Reply::Bytes(bytes) => {
-            append(&mut text, b"bytes");
-            append_bytes(&mut text, bytes.as_slice());
-        }
-        Reply::Done => append(&mut text, b"ok"),
-        Reply::Fault(fault) => {
-            append(&mut text, b"fault ");
-            append(&mut text, fault_name(*fault));
-        }
+    append(&mut text, b"bytes");
+    append_bytes(&mut text, bytes);
+    append(&mut text, b"\n");
+    write_whole(writer, text.as_slice())
+}
+
+/// A fault's line.
+fn fault_line(fault: FarFault) -> &'static [u8]
+    ensures { result.now ≡ reply_text (machine.Reply.Fault fault) }
+{
+    match fault {
+        FarFault::BadSelector => b"fault selector\n",
+        FarFault::NotPresent => b"fault notpresent\n",
+        FarFault::Limit => b"fault limit\n",
     }
-    text
 }
 
 /// Prints a reply as one line. It fails where the writer failed or took nothing, after a front of the line.
@@ -92,9 +99,13 @@ pub fn print_reply<W: Write>(writer: &mut W, reply: &Reply) -> Result<()>
     ensures ok { OnOk result (Appends (W.contents writer.old) (W.contents writer.new) (reply_text (reply_of reply.now))) }
     ensures err { OnErr result (AppendsFront (W.contents writer.old) (W.contents writer.new) (reply_text (reply_of reply.now))) }
 {
-    let mut text = body_text(reply);
-    append(&mut text, b"\n");
-    write_whole(writer, text.as_slice())
+    match reply {
+        Reply::Word(word) => print_digits(writer, &word.to_be_bytes()),
+        Reply::Dword(dword) => print_digits(writer, &dword.to_be_bytes()),
+        Reply::Bytes(bytes) => print_bytes(writer, bytes.as_slice()),
+        Reply::Done => write_whole(writer, b"ok\n"),
+        Reply::Fault(fault) => write_whole(writer, fault_line(*fault)),
+    }
 }
 
 /// Prints the reply to a bad line. It fails as `print_reply` does.

@@ -1,12 +1,18 @@
 //! Why the program ends before its script does.
-use std::fmt;
+ghost use Rattle.std.specs.Prelude.{◌≡◌};
+ghost use Rattle.w16heap.specs.Faults.{status_of};
+
 use std::process::ExitCode;
+use std::{fmt, io};
 use thiserror::Error;
 use w16_script::RunFault;
 
 /// A fault of a run of the program, but for those of its command line.
 #[derive(Debug, Clone, Copy, PartialEq, Eq, Drop, Error)]
 pub enum Fault {
+    /// A word of the command line is no UTF-8.
+    #[error("bad argument")]
+    Argument,
     /// The memory's size is no multiple of 32 from 32 to 16,777,216.
     #[error("bad memory size")]
     MemorySize,
@@ -27,7 +33,21 @@ pub enum Fault {
     TooLong,
 }
 
+/// Why the words of the command line could not be had.
+impl From<io::Error> for Fault {
+    fn from(error: io::Error) -> Fault {
+        match error.kind() {
+            io::ErrorKind::OutOfMemory => Fault::Memory,
+            _ => Fault::Argument,
+        }
+    }
+}
+
 impl From<RunFault> for Fault {
+    ghost use Rattle.w16heap.specs.Faults.{of_run};
+
+    ghost from_gives = { λ fault e. e ≡ of_run fault };
+
     fn from(fault: RunFault) -> Fault {
         match fault {
             RunFault::Read => Fault::Read,
@@ -39,13 +59,16 @@ impl From<RunFault> for Fault {
 }
 
 impl Fault {
-    /// The exit status: 1 for the outside world's faults, 2 for sizes, 3 for want of memory, 4 for a script that is too long.
-    fn status(self) -> u8 {
+    /// The exit status: 2 for what the command line asks for, and for a run's fault the one that it has.
+    fn status(self) -> u8
+        ensures { result ≡ status_of self }
+    {
         match self {
-            Fault::Read | Fault::Write => 1,
-            Fault::MemorySize | Fault::SelectorCount => 2,
-            Fault::Memory => 3,
-            Fault::TooLong => 4,
+            Fault::Argument | Fault::MemorySize | Fault::SelectorCount => 2,
+            Fault::Read => RunFault::Read.status(),
+            Fault::Write => RunFault::Write.status(),
+            Fault::Memory => RunFault::Memory.status(),
+            Fault::TooLong => RunFault::TooLong.status(),
         }
     }
 }

@@ -6,6 +6,8 @@ mod options;
 mod play;
 
 use clap::Error;
+use clap::error::ErrorKind;
+use fault::Fault;
 use std::process::ExitCode;
 use std::rt::Env;
 
@@ -17,19 +19,19 @@ fn words_of(rt: &(impl Env + AllocGlobal)) -> std::io::Result<Vec<String>> {
 
 /// Prints what `clap` says, and answers its status; 3 where it had no memory, and 1 where help couldn't be printed.
 fn refuse(rt: &HostRuntime, error: &Error) -> ExitCode {
-    if error.kind() == clap::error::ErrorKind::OutOfMemory {
-        return fault::report(rt, fault::Fault::Memory);
+    if error.kind() == ErrorKind::OutOfMemory {
+        return fault::report(rt, Fault::Memory);
     }
     match error.print(rt) {
         Ok(()) => ExitCode::from(error.exit_code() as u8),
-        Err(_) => fault::report(rt, fault::Fault::Write),
+        Err(_) => fault::report(rt, Fault::Write),
     }
 }
 
 fn main(rt: HostRuntime) -> ExitCode {
     let words = match words_of(&rt) {
         Ok(words) => words,
-        Err(_) => return fault::report(&rt, fault::Fault::Memory),
+        Err(error) => return fault::report(&rt, Fault::from(error)),
     };
     let options = match options::parse(rt.alloc(), words.as_slice()) {
         Ok(options) => options,
