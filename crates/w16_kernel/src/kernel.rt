@@ -44,15 +44,16 @@ impl Kernel {
         ensures step { IfOk result (λ reply. Step self.old (command_of call.now) (reply_of reply) self.new) }
         ensures answers { IsOk result }
     {
-        let reply = match call {
-            Call::GlobalAlloc { flags, size } => Reply::Word(self.heap.global_alloc(*flags, *size)),
-            Call::GlobalFree { handle } => Reply::Word(self.heap.global_free(*handle)),
-            Call::GlobalLock { handle } => Reply::Dword(self.heap.global_lock(*handle)),
-            Call::GlobalUnlock { handle } => Reply::Word(self.heap.global_unlock(*handle)),
-            Call::Read { pointer, count } => self.heap.far_read(*pointer, *count),
-            Call::Write { pointer, bytes } => self.heap.far_write(*pointer, bytes),
-        };
-        Ok(reply)
+        match call {
+            Call::GlobalAlloc { flags, size } => Ok(Reply::Word(
+                self.heap.global_alloc(*flags, *size),
+            )),
+            Call::GlobalFree { handle } => Ok(Reply::Word(self.heap.global_free(*handle))),
+            Call::GlobalLock { handle } => Ok(Reply::Dword(self.heap.global_lock(*handle))),
+            Call::GlobalUnlock { handle } => Ok(Reply::Word(self.heap.global_unlock(*handle))),
+            Call::Read { pointer, count } => Ok(self.heap.far_read(*pointer, *count)),
+            Call::Write { pointer, bytes } => Ok(self.heap.far_write(*pointer, bytes)),
+        }
     }
 
     /// Calls one after another, and their replies: a run of the machine. Where there is no memory for the replies, nothing was done.

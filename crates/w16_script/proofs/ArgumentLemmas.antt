@@ -7,7 +7,7 @@ use Rattle.w16_model.specs.Machine.{Command}
 use Rattle.w16_script.specs.declared.name.Name.{Name}
 use Rattle.w16_script.specs.declared.arguments.Shape.{Shape}
 use Rattle.w16_script.specs.declared.arguments.Shape.TheVariants as shape
-use Rattle.w16_script.specs.Grammar.{Arguments, IsNumberBelow, IsBytes, IsArguments, HasShape, HasArguments, name_of, shape_of, arguments_of}
+use Rattle.w16_script.specs.Grammar.{Arguments, IsNumberBelow, IsBytes, IsArguments, HasShape, HasFewBytes, HasArguments, name_of, shape_of, arguments_of}
 
 -- a word of another length has no so many bytes
 pub length-bytes : (word bytes : List ℕ) → decode_of word ≡ Ok bytes → length word ≡ 2 * length bytes
@@ -113,6 +113,14 @@ HasShape-from words s a h = absurd h
 
 pub shaped : (words : List (List ℕ)) (name : Name) (s : Shape) (a : Arguments) → s ≡ shape_of name → IsArguments words s a → HasShape a (shape_of name)
 shaped words name s a e h = subst (HasShape a) e (HasShape-from words s a h)
+
+-- a command's arguments have few bytes
+pub few : (words : List (List ℕ)) (s : Shape) (a : Arguments) → IsArguments words s a → HasFewBytes a
+few (u ∷ []) shape.Word (Arguments.Word w) h = tt
+few (u ∷ v ∷ []) shape.WordDword (Arguments.WordDword w d) h = tt
+few (u ∷ v ∷ []) shape.DwordCount (Arguments.DwordCount d count) h = tt
+few (u ∷ v ∷ []) shape.DwordBytes (Arguments.DwordBytes d bytes) h = h.1.2
+few words s a h = absurd h
 
 -- the command of these arguments has them
 pub built : (words : List (List ℕ)) (name : Name) (s : Shape) (a : Arguments) (command : Command) → s ≡ shape_of name → name_of command ≡ name → arguments_of command ≡ a

@@ -77,6 +77,11 @@ HasShape (DwordCount d count) shape.DwordCount = Unit {0}
 HasShape (DwordBytes d bytes) shape.DwordBytes = Unit {0}
 HasShape arguments shape = ⊥
 
+-- no more bytes than a command takes
+abbrev pub HasFewBytes : Arguments → Type 0
+HasFewBytes (DwordBytes d bytes) = length bytes ≤ 1024
+HasFewBytes other = Unit {0}
+
 -- Lines.
 
 -- the words behind a name are the command's arguments
@@ -99,6 +104,12 @@ pub data Said : Type 0 where
   Silent : Said
   Bad : Said
   Says : (command : Command) → Said
+
+-- what is said by words behind a name: the command whose arguments they are, or nothing that is known
+abbrev pub IsCommand : Name → List (List ℕ) → Said → Type 0
+IsCommand name words Silent = ⊥
+IsCommand name words Bad = (command : Command) → name_of command ≡ name → HasArguments words command → ⊥
+IsCommand name words (Says command) = (name_of command ≡ name) × HasArguments words command
 
 -- what a line says
 abbrev pub Reads : List ℕ → Said → Type 0

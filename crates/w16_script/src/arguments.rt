@@ -7,7 +7,6 @@ ghost use Rattle.w16_script.specs.Values.{values_of};
 use crate::bytes::bytes;
 use crate::number::number;
 use crate::words::split_word;
-use w16_kernel::Chunk;
 
 /// Which arguments a command has.
 #[derive(Clone, Copy)]
@@ -18,13 +17,13 @@ pub enum Shape {
     DwordBytes,
 }
 
-/// The arguments of a command.
-#[derive(Drop)]
-pub enum Arguments {
+/// The arguments of a command. Bytes are in room that is lent.
+#[derive(Clone, Copy)]
+pub enum Arguments<'a> {
     Word(u16),
     WordDword(u16, u32),
     DwordCount(u32, u16),
-    DwordBytes(u32, Chunk),
+    DwordBytes(u32, &'a [u8]),
 }
 
 /// Whether there are only blanks.
@@ -87,19 +86,19 @@ fn only_number(text: &[u8], limit: u64) -> Option<u32>
 
 /// The only word, as bytes.
 #[tactic(auto, using(crate::proofs::ArgumentLemmas::no_bytes))]
-fn only_bytes(text: &[u8]) -> Option<Chunk>
-    ensures found { IfSome result (λ bytes. (word : List ℕ) × (words_of text.now ≡ word ∷ []) × IsBytes word bytes.items) }
+fn only_bytes<'a>(text: &[u8], room: &'a mut [u8; 1024]) -> Option<&'a [u8]>
+    ensures found { IfSome result (λ bytes. (word : List ℕ) × (words_of text.now ≡ word ∷ []) × IsBytes word bytes.now) }
     ensures none { IfNone result ((word : List ℕ) (bytes : List ℕ) → words_of text.now ≡ word ∷ [] → IsBytes word bytes → ⊥) }
 {
     let Some(word) = only_word(text) else {
         return None;
     };
-    bytes(word)
+    bytes(word, room)
 }
 
 /// A word.
 #[tactic(auto, using(crate::proofs::ArgumentLemmas::word_steps))]
-fn word(text: &[u8]) -> Option<Arguments>
+fn word(text: &[u8]) -> Option<Arguments<'static>>
     ensures found { IfSome result (λ a. IsArguments (words_of text.now) Shape.Word (values_of a)) }
     ensures none { IfNone result ((a : Values) → IsArguments (words_of text.now) Shape.Word a → ⊥) }
 {
@@ -111,7 +110,7 @@ fn word(text: &[u8]) -> Option<Arguments>
 
 /// A word, and a double word.
 #[tactic(auto, using(crate::proofs::ArgumentLemmas::word_dword_steps))]
-fn word_dword(text: &[u8]) -> Option<Arguments>
+fn word_dword(text: &[u8]) -> Option<Arguments<'static>>
     ensures found { IfSome result (λ a. IsArguments (words_of text.now) Shape.WordDword (values_of a)) }
     ensures none { IfNone result ((a : Values) → IsArguments (words_of text.now) Shape.WordDword a → ⊥) }
 {
@@ -126,7 +125,7 @@ fn word_dword(text: &[u8]) -> Option<Arguments>
 
 /// A double word, and a count of at most 1,024.
 #[tactic(auto, using(crate::proofs::ArgumentLemmas::dword_count_steps))]
-fn dword_count(text: &[u8]) -> Option<Arguments>
+fn dword_count(text: &[u8]) -> Option<Arguments<'static>>
     ensures found { IfSome result (λ a. IsArguments (words_of text.now) Shape.DwordCount (values_of a)) }
     ensures none { IfNone result ((a : Values) → IsArguments (words_of text.now) Shape.DwordCount a → ⊥) }
 {
@@ -141,21 +140,25 @@ fn dword_count(text: &[u8]) -> Option<Arguments>
 
 /// A double word, and bytes.
 #[tactic(auto, using(crate::proofs::ArgumentLemmas::dword_bytes_steps))]
-fn dword_bytes(text: &[u8]) -> Option<Arguments>
+fn dword_bytes<'a>(text: &[u8], room: &'a mut [u8; 1024]) -> Option<Arguments<'a>>
     ensures found { IfSome result (λ a. IsArguments (words_of text.now) Shape.DwordBytes (values_of a)) }
     ensures none { IfNone result ((a : Values) → IsArguments (words_of text.now) Shape.DwordBytes a → ⊥) }
 {
     let Some((dword, behind)) = first_number(text, 1 << 32) else {
         return None;
     };
-    let Some(bytes) = only_bytes(behind) else {
+    let Some(bytes) = only_bytes(behind, room) else {
         return None;
     };
     Some(Arguments::DwordBytes(dword, bytes))
 }
 
-/// The arguments of this shape that the words of the text are.
-pub fn read_arguments(text: &[u8], shape: Shape) -> Option<Arguments>
+/// The arguments of this shape that the words of the text are. The room is for their bytes.
+pub fn read_arguments<'a>(
+    text: &[u8],
+    shape: Shape,
+    room: &'a mut [u8; 1024],
+) -> Option<Arguments<'a>>
     ensures found { IfSome result (λ a. IsArguments (words_of text.now) shape (values_of a)) }
     ensures none { IfNone result ((a : Values) → IsArguments (words_of text.now) shape a → ⊥) }
 {
@@ -163,6 +166,6 @@ pub fn read_arguments(text: &[u8], shape: Shape) -> Option<Arguments>
         Shape::Word => word(text),
         Shape::WordDword => word_dword(text),
         Shape::DwordCount => dword_count(text),
-        Shape::DwordBytes => dword_bytes(text),
+        Shape::DwordBytes => dword_bytes(text, room),
     }
 }

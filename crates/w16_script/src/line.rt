@@ -1,16 +1,15 @@
 //! Lines of a script.
-ghost use Rattle.std.specs.Prelude.{◌≡◌, IfSome, IfNone};
-ghost use Rattle.w16_model.specs.Machine.{Command as MachineCommand};
+ghost use Rattle.std.specs.Prelude.{◌≡◌, ◌≤◌, length};
 ghost use Rattle.w16_kernel.specs.Runs.{command_of};
 ghost use Rattle.w16_script.specs.Words.{words_of};
-ghost use Rattle.w16_script.specs.Grammar.{Reads, shape_of, name_of, arguments_of, HasShape, HasArguments};
+ghost use Rattle.w16_script.specs.Grammar.{Reads, IsCommand, shape_of, name_of, arguments_of, HasShape, HasFewBytes};
 ghost use Rattle.w16_script.specs.Values.{values_of};
 ghost use Rattle.w16_script.specs.Lines.{said_of, IsRunnable};
 
 use crate::arguments::{Arguments, read_arguments};
 use crate::name::Name;
 use crate::words::split_word;
-use w16_kernel::Call;
+use w16_kernel::{Call, Chunk};
 
 /// What a line says: nothing, nothing that is known, or a command.
 #[derive(Debug, Drop)]
@@ -20,11 +19,22 @@ pub enum Line {
     Command(Call),
 }
 
+/// Bytes, of which there are at most 1,024.
+fn chunk_of(bytes: &[u8]) -> Chunk
+    requires { length bytes.now ≤ 1024 }
+    ensures { result.items ≡ bytes.now }
+{
+    let mut chunk = Chunk::new();
+    let _ = chunk.try_extend_from_slice(bytes);
+    chunk
+}
+
 /// The call of a command with these arguments.
-fn build(name: Name, arguments: Arguments) -> Call
-    requires { HasShape (values_of arguments) (shape_of name) }
+fn build(name: Name, arguments: Arguments<'_>) -> Call
+    requires shape { HasShape (values_of arguments) (shape_of name) }
+    requires few { HasFewBytes (values_of arguments) }
     ensures name { name_of (command_of result) ≡ name }
-    ensures arguments { arguments_of (command_of result) ≡ values_of arguments }
+    ensures arguments { arguments_of (command_of result) ≡ values_of arguments.entry }
 {
     match (name, arguments) {
         (Name::GlobalAlloc, Arguments::WordDword(flags, size)) => Call::GlobalAlloc { flags, size },
@@ -32,20 +42,25 @@ fn build(name: Name, arguments: Arguments) -> Call
         (Name::GlobalLock, Arguments::Word(handle)) => Call::GlobalLock { handle },
         (Name::GlobalUnlock, Arguments::Word(handle)) => Call::GlobalUnlock { handle },
         (Name::Read, Arguments::DwordCount(pointer, count)) => Call::Read { pointer, count },
-        (Name::Write, Arguments::DwordBytes(pointer, bytes)) => Call::Write { pointer, bytes },
+        (Name::Write, Arguments::DwordBytes(pointer, bytes)) => Call::Write {
+            pointer,
+            bytes: chunk_of(bytes),
+        },
         _ => unreachable!(),
     }
 }
 
-/// The command of this name with the arguments in this text.
-#[tactic(auto, using(crate::proofs::ArgumentLemmas::shaped, crate::proofs::ArgumentLemmas::built, crate::proofs::ArgumentLemmas::refused))]
-fn call_of(name: Name, text: &[u8]) -> Option<Call>
-    ensures found { IfSome result (λ call. (name_of (command_of call) ≡ name) × HasArguments (words_of text.now) (command_of call)) }
-    ensures none { IfNone result ((command : MachineCommand) → name_of command ≡ name → HasArguments (words_of text.now) command → ⊥) }
+/// The command of this name with the arguments in this text, or a bad line. The call is built in place: it is
+/// large.
+#[tactic(auto, using(crate::proofs::ArgumentLemmas::shaped, crate::proofs::ArgumentLemmas::few, crate::proofs::ArgumentLemmas::built, crate::proofs::ArgumentLemmas::refused))]
+fn command(name: Name, text: &[u8]) -> Line
+    ensures says { IsCommand name (words_of text.now) (said_of result) }
+    ensures runnable { IsRunnable result }
 {
-    match read_arguments(text, name.shape()) {
-        Some(arguments) => Some(build(name, arguments)),
-        None => None,
+    let mut room = [0; 1024];
+    match read_arguments(text, name.shape(), &mut room) {
+        Some(arguments) => Line::Command(build(name, arguments)),
+        None => Line::Bad,
     }
 }
 
@@ -64,8 +79,5 @@ pub fn read_line(line: &[u8]) -> Line
     let Some(name) = Name::find(name) else {
         return Line::Bad;
     };
-    match call_of(name, behind) {
-        Some(call) => Line::Command(call),
-        None => Line::Bad,
-    }
+    command(name, behind)
 }

@@ -1,5 +1,6 @@
 //! Runs of a script on a new machine.
-ghost use Rattle.std.specs.Prelude.{◌≡◌, ◌≤◌, ◌%◌, OnOk};
+ghost use Rattle.std.specs.Prelude.{◌≤◌, OnOk, IfErr};
+ghost use Rattle.w16heap.specs.Faults.{IsMemorySize, IsSelectorCount, IsSizeFault};
 
 use crate::fault::Fault;
 use crate::options::Options;
@@ -12,9 +13,10 @@ use w16_script::run;
 /// The most bytes that a heap may have: 16 MiB.
 const MOST_MEMORY: u32 = 16_777_216;
 
-/// Checks the sizes that were asked for.
+/// Checks the sizes that were asked for: a memory's size that can't be is told first.
 fn check(options: &Options<'_>) -> Result<(), Fault>
-    ensures ok { OnOk result ((1 ≤ options.now.selectors) × (options.now.selectors ≤ MOST_SLOTS) × (32 ≤ options.now.memory) × (options.now.memory ≤ MOST_MEMORY) × (options.now.memory % GRAIN ≡ 0)) }
+    ensures ok { OnOk result (IsMemorySize options.now.memory × IsSelectorCount options.now.selectors) }
+    ensures err { IfErr result (IsSizeFault options.now.memory options.now.selectors) }
 {
     if options.memory == 0 || options.memory > MOST_MEMORY || options.memory % GRAIN != 0 {
         return Err(Fault::MemorySize);
