@@ -1,14 +1,1 @@
-pub mod With
-pub mod Lookups
-pub mod Changed
-pub mod Singles
-pub mod SetEntry
-pub mod Fresh
-pub mod Slices
-pub mod Written
-pub mod Holes
-pub mod Cleared
-pub mod Allocated
-pub mod Placing
-pub mod Outcomes
 pub mod Running

@@ -4,7 +4,7 @@ use Rattle.w16_model.specs.World.{World}
 use Rattle.w16_model.specs.Machine as machine
 use Rattle.w16_model.specs.Machine.{Command, Step}
 use Rattle.w16_kernel.specs.declared.call.Call.{Call}
-use Rattle.w16_kernel.specs.declared.call.Call.TheVariants.{GlobalAlloc, GlobalFree, GlobalLock, GlobalUnlock, Read, Write}
+use Rattle.w16_kernel.specs.declared.call.Call.TheVariants.{GlobalAlloc, GlobalFree, GlobalLock, GlobalUnlock, GlobalSize, GlobalFlags, GlobalHandle, GetSelectorBase, GetSelectorLimit, Read, Write, Fill}
 use Rattle.w16_kernel.specs.declared.call.Reply.{Reply}
 use Rattle.w16_kernel.specs.declared.call.Reply.TheVariants.{Word, Dword, Bytes, Done, Fault}
 
@@ -14,8 +14,14 @@ command_of (GlobalAlloc flags size) = machine.Command.GlobalAlloc flags size
 command_of (GlobalFree handle) = machine.Command.GlobalFree handle
 command_of (GlobalLock handle) = machine.Command.GlobalLock handle
 command_of (GlobalUnlock handle) = machine.Command.GlobalUnlock handle
+command_of (GlobalSize handle) = machine.Command.GlobalSize handle
+command_of (GlobalFlags handle) = machine.Command.GlobalFlags handle
+command_of (GlobalHandle selector) = machine.Command.GlobalHandle selector
+command_of (GetSelectorBase selector) = machine.Command.GetSelectorBase selector
+command_of (GetSelectorLimit selector) = machine.Command.GetSelectorLimit selector
 command_of (Read pointer count) = machine.Command.Read pointer count
 command_of (Write pointer bytes) = machine.Command.Write pointer bytes.items
+command_of (Fill pointer count byte) = machine.Command.Fill pointer count byte
 
 -- the machine's reply
 abbrev pub reply_of : Reply → machine.Reply
@@ -28,6 +34,7 @@ reply_of (Fault fault) = machine.Reply.Fault fault
 -- a call's numbers are those that a command may have
 abbrev pub IsCall : Call → Type 0
 IsCall (Read pointer count) = count ≤ 1024
+IsCall (Fill pointer count byte) = count ≤ 65536
 IsCall call = Unit {0}
 
 -- a step of a run: the command, its reply, and the world after it

@@ -12,9 +12,16 @@ pub enum Call {
     GlobalFree { handle: u16 },
     GlobalLock { handle: u16 },
     GlobalUnlock { handle: u16 },
+    GlobalSize { handle: u16 },
+    GlobalFlags { handle: u16 },
+    GlobalHandle { selector: u16 },
+    GetSelectorBase { selector: u16 },
+    GetSelectorLimit { selector: u16 },
     /// The pointer has a selector in its high word. At most 1,024 bytes are read.
     Read { pointer: u32, count: u16 },
     Write { pointer: u32, bytes: Chunk },
+    /// At most 65,536 bytes are filled.
+    Fill { pointer: u32, count: u32, byte: u8 },
 }
 
 /// The answer to one command.

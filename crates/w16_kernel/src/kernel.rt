@@ -1,20 +1,20 @@
 //! The machine's state, and its steps.
 ghost use Rattle.std.specs.Prelude.{◌≡◌, ◌≤◌, List, map, All, IfOk, IsOk, OnErr};
 ghost use Rattle.w16_model.specs.World.{World, empty_world};
-ghost use Rattle.w16_model.specs.Machine.{Step};
+ghost use Rattle.w16_model.specs.Machine.{Step, Gives, far_read, far_write};
 ghost use Rattle.w16_kernel.specs.Runs.{command_of, reply_of, IsCall, Event, Run};
 
-use crate::call::{Call, Reply};
-use crate::heap::GlobalHeap;
+use crate::call::{Call, Chunk, Reply};
 use std::alloc::{AllocError, Global};
 use std::marker::Model;
+use w16_global::Global16;
 use w16_model::MOST_SLOTS;
 
 /// The machine of handles. Its value is the world that a script sees.
 #[derive(Drop)]
 pub struct Kernel {
     alloc: Global,
-    heap: GlobalHeap,
+    global: Global16,
 }
 
 impl Model for Kernel {
@@ -25,17 +25,53 @@ impl Model for Kernel {
 
     ghost coded = { world_code };
 
-    ghost view = { λ k. k.heap };
+    ghost view = { λ k. k.global };
 }
 
 impl Kernel {
+    ghost use Rattle.w16_model.specs.World.{selector_in, offset_in};
+    ghost use Rattle.std.specs.Prelude.{replicate};
+
     /// A machine over `memory` bytes and so many selectors, at most 8,160, in which nothing is allocated. It takes all its memory here.
     pub fn new(alloc: Global, memory: u32, slots: u32) -> Result<Kernel, AllocError>
         requires { slots ≤ MOST_SLOTS }
         ensures { IfOk result (λ kernel. kernel ≡ empty_world memory slots) }
     {
-        let heap = GlobalHeap::new(alloc, memory, slots)?;
-        Ok(Kernel { alloc, heap })
+        let global = Global16::new(alloc, memory, slots)?;
+        Ok(Kernel { alloc, global })
+    }
+
+    /// A far read of at most 1,024 bytes.
+    fn read(&mut self, pointer: u32, count: u16) -> Reply
+        requires { count ≤ 1024 }
+        ensures { Gives (far_read self.old (selector_in pointer) (offset_in pointer) count) (reply_of result) self.new }
+    {
+        let mut buffer = [0; 1024];
+        let bytes = &mut buffer[..count as usize];
+        match self.global.far_read(selector_of(pointer), offset_of(pointer), bytes) {
+            Ok(()) => Reply::Bytes(chunk_of(bytes)),
+            Err(fault) => Reply::Fault(fault),
+        }
+    }
+
+    /// A far write.
+    fn write(&mut self, pointer: u32, bytes: &[u8]) -> Reply
+        ensures { Gives (far_write self.old (selector_in pointer) (offset_in pointer) bytes.now) (reply_of result) self.new }
+    {
+        match self.global.far_write(selector_of(pointer), offset_of(pointer), bytes) {
+            Ok(()) => Reply::Done,
+            Err(fault) => Reply::Fault(fault),
+        }
+    }
+
+    /// A far write of one byte many times.
+    fn fill(&mut self, pointer: u32, count: u32, byte: u8) -> Reply
+        ensures { Gives (far_write self.old (selector_in pointer) (offset_in pointer) (replicate count byte)) (reply_of result) self.new }
+    {
+        match self.global.far_fill(selector_of(pointer), offset_of(pointer), count, byte) {
+            Ok(()) => Reply::Done,
+            Err(fault) => Reply::Fault(fault),
+        }
     }
 
     /// One step of the machine. It takes no memory, and always answers.
@@ -44,15 +80,20 @@ impl Kernel {
         ensures step { IfOk result (λ reply. Step self.old (command_of call.now) (reply_of reply) self.new) }
         ensures answers { IsOk result }
     {
+        let global = &mut self.global;
         match call {
-            Call::GlobalAlloc { flags, size } => Ok(Reply::Word(
-                self.heap.global_alloc(*flags, *size),
-            )),
-            Call::GlobalFree { handle } => Ok(Reply::Word(self.heap.global_free(*handle))),
-            Call::GlobalLock { handle } => Ok(Reply::Dword(self.heap.global_lock(*handle))),
-            Call::GlobalUnlock { handle } => Ok(Reply::Word(self.heap.global_unlock(*handle))),
-            Call::Read { pointer, count } => Ok(self.heap.far_read(*pointer, *count)),
-            Call::Write { pointer, bytes } => Ok(self.heap.far_write(*pointer, bytes)),
+            Call::GlobalAlloc { flags, size } => Ok(Reply::Word(global.global_alloc(*flags, *size))),
+            Call::GlobalFree { handle } => Ok(Reply::Word(global.global_free(*handle))),
+            Call::GlobalLock { handle } => Ok(Reply::Dword(global.global_lock(*handle))),
+            Call::GlobalUnlock { handle } => Ok(Reply::Word(global.global_unlock(*handle))),
+            Call::GlobalSize { handle } => Ok(Reply::Dword(global.global_size(*handle))),
+            Call::GlobalFlags { handle } => Ok(Reply::Word(global.global_flags(*handle))),
+            Call::GlobalHandle { selector } => Ok(Reply::Dword(global.global_handle(*selector))),
+            Call::GetSelectorBase { selector } => Ok(Reply::Dword(global.get_selector_base(*selector))),
+            Call::GetSelectorLimit { selector } => Ok(Reply::Dword(global.get_selector_limit(*selector))),
+            Call::Read { pointer, count } => Ok(self.read(*pointer, *count)),
+            Call::Write { pointer, bytes } => Ok(self.write(*pointer, bytes)),
+            Call::Fill { pointer, count, byte } => Ok(self.fill(*pointer, *count, *byte)),
         }
     }
 
@@ -70,4 +111,28 @@ impl Kernel {
         }
         Ok(replies)
     }
+}
+
+/// The selector of a far pointer: its high word.
+fn selector_of(pointer: u32) -> u16
+    ensures { result ≡ selector_in pointer }
+{
+    (pointer >> 16) as u16
+}
+
+/// The offset of a far pointer: its low word.
+fn offset_of(pointer: u32) -> u16
+    ensures { result ≡ offset_in pointer }
+{
+    pointer as u16
+}
+
+/// Bytes in place, of which there are at most 1,024.
+fn chunk_of(bytes: &[u8]) -> Chunk
+    requires { length bytes.now ≤ 1024 }
+    ensures { result.items ≡ bytes.now }
+{
+    let mut chunk = Chunk::new();
+    let _ = chunk.try_extend_from_slice(bytes);
+    chunk
 }

@@ -2,8 +2,8 @@
 #![tactic(auto)]
 
 mod call;
-mod calls;
-mod heap;
+
+
 mod kernel;
 
 pub use call::{Call, Chunk, Reply};

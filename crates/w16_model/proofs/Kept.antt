@@ -8,6 +8,8 @@ use Rattle.std.proofs.lemmas.Bool.{false≢true, cases_eq, eqb-false}
 use Rattle.std.proofs.lemmas.List.{length-take-le, length-drop}
 use Rattle.std.proofs.lemmas.List.Elements.{All-take, All-drop, All-append}
 use Rattle.w16_model.specs.declared.Block.{Block}
+use Rattle.w16_model.specs.declared.Kind.{Kind}
+use Rattle.w16_model.specs.declared.Kind.TheVariants.{Fixed, Moveable, Discardable}
 use Rattle.w16_model.specs.Gap.{Misses, block_end, ArePlaced}
 use Rattle.w16_model.specs.Prefix.{is_member}
 use Rattle.w16_model.specs.Heap.{Heap, Object, IsHeap, IsMultiple, blocks, object_at, hold_of, is_in_order, is_fixed, is_discardable}
@@ -169,6 +171,66 @@ module _ (old : Heap) (is : IsHeap old) (id : ℕ) (before o : Object) (there : 
     fixed = λ q. elim (cases_eq q id) [
       | inl e ↦ subst (λ p. IfSome p IsCounted) (sym (inserted_here old.objects id o q e)) locks
       | inr d ↦ subst (λ p. IfSome p IsCounted) (sym (inserted_other old.objects id o q d)) (is.fixed q)
+    ];
+  }
+
+-- A new object without bytes, at an id that has none.
+module _ (old : Heap) (is : IsHeap old) (id : ℕ) (kind : Kind) (unused : object_at old id ≡ None) where
+  abbrev entered : Object
+  entered = record { kind = kind; locks = 0; bytes = None }
+
+  -- it has no block
+  entered_stands : (x : Block) → IsBlockOf (with_object old id entered) x → Stands old x
+  entered_stands x b = elim (cases_eq x.id id) [
+    | inl e ↦
+        let same : b.object ≡ entered = (let some : ◌≡◌ {A = Option Object} (Some b.object) (Some entered) = sym b.is_there ∙ inserted_here old.objects id entered x.id e in cc) in
+        let none : ◌≡◌ {A = Option (List ℕ)} (Some b.bytes) None = sym b.has_bytes ∙ ap (λ (p : Object). p.bytes) same in
+        cc
+    | inr d ↦ (
+      x,
+      record {
+        object = b.object;
+        bytes = b.bytes;
+        is_there = sym (inserted_other old.objects id entered x.id d) ∙ b.is_there;
+        has_bytes = b.has_bytes;
+        place = b.place;
+        size = b.size;
+        hold = b.hold;
+      },
+      refl,
+      refl,
+      refl,
+    )
+  ]
+
+  -- nor a place in the order
+  unlisted : (k : Kind) → (is_discardable k && false) ≡ false
+  unlisted Fixed = refl
+  unlisted Moveable = refl
+  unlisted Discardable = refl
+
+  -- the heap with it is one
+  pub entered_heap : IsHeap (with_object old id entered)
+  entered_heap = record {
+    placed = same_placed old is (finmap.insert old.objects id entered) old.places old.order entered_stands;
+    grained = same_grained old is (finmap.insert old.objects id entered) old.places old.order entered_stands;
+    low_grained = is.low_grained;
+    at_bytes = λ q. elim (cases_eq q id) [
+      | inl e ↦ is.at_bytes q ∙ ap (λ p. is_some (bytes_in p)) (ap (object_at old) e ∙ unused) ∙ ap (λ p. is_some (bytes_in p)) (sym (inserted_here old.objects id entered q e))
+      | inr d ↦ is.at_bytes q ∙ ap (λ p. is_some (bytes_in p)) (sym (inserted_other old.objects id entered q d))
+    ];
+    are_bytes = λ q. elim (cases_eq q id) [
+      | inl e ↦ subst (λ p. AreBytes (bytes_in p)) (sym (inserted_here old.objects id entered q e)) tt
+      | inr d ↦ subst (λ p. AreBytes (bytes_in p)) (sym (inserted_other old.objects id entered q d)) (is.are_bytes q)
+    ];
+    in_order = λ q. elim (cases_eq q id) [
+      | inl e ↦ is.in_order q ∙ ap is_in_order (ap (object_at old) e ∙ unused) ∙ sym (unlisted kind) ∙ ap is_in_order (sym (inserted_here old.objects id entered q e))
+      | inr d ↦ is.in_order q ∙ ap is_in_order (sym (inserted_other old.objects id entered q d))
+    ];
+    no_repeats = is.no_repeats;
+    fixed = λ q. elim (cases_eq q id) [
+      | inl e ↦ subst (λ p. IfSome p IsCounted) (sym (inserted_here old.objects id entered q e)) (omega arith, λ _. refl)
+      | inr d ↦ subst (λ p. IfSome p IsCounted) (sym (inserted_other old.objects id entered q d)) (is.fixed q)
     ];
   }
 

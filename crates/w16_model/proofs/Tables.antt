@@ -48,13 +48,13 @@ place_with (y ∷ xs) id =
 pub length_range : (xs : List ℕ) (a n : ℕ) → a + n ≤ length xs → length (slice_range xs a (a + n)) ≡ n
 length_range xs a n h = simp (length-take, length-drop) (omega arith)
 
-module _ {X : Type 0} (give : ℕ → Entry → X) where
-  given_above : (i : ℕ) (es : List (Option Entry)) (q : ℕ) → q < i → find_key nat_cmp q (by_id give i es) ≡ None
+module _ {E X : Type 0} (give : ℕ → E → X) where
+  given_above : (i : ℕ) (es : List (Option E)) (q : ℕ) → q < i → find_key nat_cmp q (by_id give i es) ≡ None
   given_above i [] q lt = refl
   given_above i (None ∷ es) q lt = given_above (i + 1) es q (omega arith)
   given_above i (Some e ∷ es) q lt = ap (λ b. cond b (Some (give i e)) (find_key nat_cmp q (by_id give (i + 1) es))) (untied q i (λ f. absurd (omega arith))) ∙ given_above (i + 1) es q (omega arith)
 
-  given_found : (i : ℕ) (es : List (Option Entry)) (q j : ℕ) → q ≡ i + j → find_key nat_cmp q (by_id give i es) ≡ option_map (give q) (get_or es j None)
+  given_found : (i : ℕ) (es : List (Option E)) (q j : ℕ) → q ≡ i + j → find_key nat_cmp q (by_id give i es) ≡ option_map (give q) (get_or es j None)
   given_found i [] q j e = refl
   given_found i (None ∷ es) q zero e = given_above (i + 1) es q (omega arith)
   given_found i (Some d ∷ es) q zero e =
@@ -65,7 +65,7 @@ module _ {X : Type 0} (give : ℕ → Entry → X) where
       ap (λ b. cond b (Some (give i d)) (find_key nat_cmp q (by_id give (i + 1) es))) (untied q i (λ f. absurd (omega arith))) ∙ given_found (i + 1) es q j (omega arith)
 
   -- what a map of them has at an id
-  pub get-by_id : (es : List (Option Entry)) (id : ℕ) → finmap.get (finmap.from_entries {R = nat_cmp} (by_id give 0 es)) id ≡ option_map (give id) (get_or es id None)
+  pub get-by_id : (es : List (Option E)) (id : ℕ) → finmap.get (finmap.from_entries {R = nat_cmp} (by_id give 0 es)) id ≡ option_map (give id) (get_or es id None)
   get-by_id es id = get-from_entries nat_cmp_total (by_id give 0 es) id ∙ given_found 0 es id id (omega arith)
 
 module _ (t : Table) (is : IsTable t) (memory : List ℕ) (whole : t.hi ≤ length memory) where

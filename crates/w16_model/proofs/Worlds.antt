@@ -1,9 +1,10 @@
 -- Each step of the machine keeps what holds of every world.
-use Rattle.std.proofs.Common.{◌≡◌, ◌≢◌, ℕ, ◌+◌, ◌-◌, ◌<◌, ◌≤◌, inl, inr, Bool, true, false, cond, not, ◌==◌, if◌then◌else◌, nat_lt, IfSome, IfOk, List, [], ◌∷◌, length, fold, take, All, Option, Some, None, Result, Ok, Err, option_map, is_some, unwrap_or, refl, sym, ap, ◌∙◌, subst, ltb-false}
+use Rattle.std.proofs.Common.{◌≡◌, ◌≢◌, ℕ, ◌+◌, ◌-◌, ◌<◌, ◌≤◌, inl, inr, Bool, true, false, cond, not, ◌==◌, if◌then◌else◌, MatchBool, nat_lt, replicate, IfSome, IfOk, List, [], ◌∷◌, length, fold, take, All, Option, Some, None, Result, Ok, Err, option_map, is_some, unwrap_or, refl, sym, ap, ◌∙◌, subst, ltb-false}
 use Rattle.std.specs.Ordering.{nat_cmp}
 use Rattle.std.specs.FinMap as finmap
 use Rattle.std.specs.FinMap.{FinMap}
 use Rattle.std.proofs.lemmas.Bool.{false≢true, cases_eq}
+use Rattle.std.proofs.lemmas.List.Elements.{All-replicate}
 use Rattle.w16_model.specs.declared.Block.{Block}
 use Rattle.w16_model.specs.declared.Way.{Way}
 use Rattle.w16_model.specs.declared.Refusal.{Refusal}
@@ -13,15 +14,18 @@ use Rattle.w16_model.specs.declared.FarFault.TheVariants.{BadSelector, NotPresen
 use Rattle.w16_model.specs.Prefix.{eligible}
 use Rattle.w16_model.specs.Heap.{Heap, Object, IsHeap, blocks, object_at, bytes_at, is_fixed}
 use Rattle.w16_model.specs.Edit.{absent, with_object, with_ordered, removed, touched, update, with_newest}
-use Rattle.w16_model.specs.Single.{after_lock, after_unlock, after_free, after_touch}
-use Rattle.w16_model.specs.Request.{Request, IsNew, Settles, discarded, stays_for, prefix_of}
-use Rattle.w16_model.specs.World.{World, IsWorld, IsSlot, slot_of_handle, slot_of_selector, selector_of, far_pointer, selector_in, offset_in}
-use Rattle.w16_model.specs.Machine.{Reply, AnswersAlloc, global_free, global_lock, global_unlock, locks_at, far_fault, far_slot, far_bytes, slice_at, far_read, far_write, after_write, with_slice, way_asked, kind_asked, rounded_size}
-use Rattle.w16_model.specs.Machine.Command.{GlobalAlloc, GlobalFree, GlobalLock, GlobalUnlock, Read, Write}
+use Rattle.w16_model.specs.declared.Kind.{Kind}
+use Rattle.w16_model.specs.declared.TheConstants.{GMEM_DDESHARE}
+use Rattle.w16_model.specs.Single.{Enters, after_lock, after_unlock, after_free, after_touch}
+use Rattle.w16_model.specs.Request.{Request, Allocates, IsNew, Settles, discarded, stays_for, prefix_of}
+use Rattle.w16_model.specs.declared.Attributes.{Attributes}
+use Rattle.w16_model.specs.World.{World, IsWorld, IsSlot, IsFreeSlot, slot_of_handle, slot_of_selector, selector_of, far_pointer, selector_in, offset_in}
+use Rattle.w16_model.specs.Machine.{Reply, AnswersAlloc, global_free, global_lock, global_unlock, locks_at, far_fault, far_slot, far_bytes, slice_at, far_read, far_write, after_write, with_slice, way_asked, kind_asked, rounded_size, is_absent_asked, has_flag}
+use Rattle.w16_model.specs.Machine.Command.{GlobalAlloc, GlobalFree, GlobalLock, GlobalUnlock, GlobalSize, GlobalFlags, GlobalHandle, GetSelectorBase, GetSelectorLimit, Read, Write, Fill}
 use Rattle.w16_model.specs.Machine.Reply.{Word, Dword, Bytes, Done, Fault}
 use Rattle.w16_model.specs.Law.{WorldLaw}
 use Rattle.w16_model.proofs.Heaps.{get-update_same, get-update_other}
-use Rattle.w16_model.proofs.Kept.{bytes_in, inserted_here, inserted_other, taken_here, taken_other, touched_heap, removed_heap, locked_heap, unlocked_heap, written_heap}
+use Rattle.w16_model.proofs.Kept.{bytes_in, inserted_here, inserted_other, entered_heap, taken_here, taken_other, touched_heap, removed_heap, locked_heap, unlocked_heap, written_heap}
 
 -- Which ids have an object.
 
@@ -31,7 +35,7 @@ some_mapped f None = refl
 some_mapped f (Some o) = refl
 
 -- the same ids have an object after an update
-same_updated : (m : FinMap nat_cmp Object) (id : ℕ) (f : Object → Object) (q : ℕ) → is_some (finmap.get (update m id f) q) ≡ is_some (finmap.get m q)
+pub same_updated : (m : FinMap nat_cmp Object) (id : ℕ) (f : Object → Object) (q : ℕ) → is_some (finmap.get (update m id f) q) ≡ is_some (finmap.get m q)
 same_updated m id f q = elim (cases_eq q id) [
   | inl e ↦ ap (λ k. is_some (finmap.get (update m id f) k)) e ∙ ap is_some (get-update_same m id f) ∙ some_mapped f (finmap.get m id) ∙ ap (λ k. is_some (finmap.get m k)) (sym e)
   | inr d ↦ ap is_some (get-update_other m id f q d)
@@ -65,7 +69,7 @@ if_there (Some o) None P e h = absurd (false≢true (sym e))
 if_there (Some o) (Some r) P e h = h
 
 -- what an answered request has settled
-settled : (old : Heap) (h : ℕ) (way : Way) (prefix : Option ℕ) (Asked : Object → Type 0) (order : Object → List ℕ → List ℕ) (new : Heap) → Request old h way prefix Asked order true new
+pub settled : (old : Heap) (h : ℕ) (way : Way) (prefix : Option ℕ) (Asked : Object → Type 0) (order : Object → List ℕ → List ℕ) (new : Heap) → Request old h way prefix Asked order true new
     → (k : ℕ) × (o : Object) × Settles old (stays_for h way) (with_ordered (discarded old k (Some h)) h o (order o)) new
 settled old h way None Asked order new r = absurd (false≢true (sym r.0))
 settled old h way (Some k) Asked order new r = (k, r.1.0, r.1.2)
@@ -85,7 +89,7 @@ HasNoFault fault = fault ≡ None
 
 module _ (old : World) (is : IsWorld old) where
   -- another heap over the same memory, with objects at the same slots
-  other_world : (heap : Heap) → IsHeap heap → heap.lo ≡ old.heap.lo → heap.grain ≡ old.heap.grain → ((q : ℕ) → is_some (object_at heap q) ≡ is_some (object_at old.heap q)) → IsWorld (record old { heap = heap })
+  pub other_world : (heap : Heap) → IsHeap heap → heap.lo ≡ old.heap.lo → heap.grain ≡ old.heap.grain → ((q : ℕ) → is_some (object_at heap q) ≡ is_some (object_at old.heap q)) → IsWorld (record old { heap = heap })
   other_world heap sound lo grain same = record {
     heap = sound;
     low = lo ∙ is.low;
@@ -96,9 +100,9 @@ module _ (old : World) (is : IsWorld old) where
   }
 
   -- A slot gets an object, in a heap that settles.
-  module _ (slot k : ℕ) (o : Object) (order : List ℕ → List ℕ) (stays : Block → Bool) (new : Heap) (numbered : IsSlot old slot) (settles : Settles old.heap stays (with_ordered (discarded old.heap k (Some slot)) slot o order) new) where
+  module _ (attributes : Attributes) (slot k : ℕ) (o : Object) (order : List ℕ → List ℕ) (stays : Block → Bool) (new : Heap) (numbered : IsSlot old slot) (settles : Settles old.heap stays (with_ordered (discarded old.heap k (Some slot)) slot o order) new) where
     -- what was discarded for it
-    abbrev ids : List ℕ
+    abbrev pub ids : List ℕ
     ids = take k (eligible (blocks old.heap) old.heap.order (Some slot))
 
     -- the other slots have an object where they had one
@@ -106,7 +110,7 @@ module _ (old : World) (is : IsWorld old) where
     same_other q d = ap is_some (ap (λ (h : Heap). object_at h q) settles.same ∙ inserted_other (fold absent old.heap ids).objects slot o q d) ∙ absents_same ids old.heap q
 
     -- the world with it
-    with_new_object : IsWorld (record old { heap = new; attributes = finmap.insert old.attributes slot (record { shared = false }) })
+    pub with_new_object : IsWorld (record old { heap = new; attributes = finmap.insert old.attributes slot attributes })
     with_new_object = record {
       heap = settles.sound;
       low = ap (λ (h : Heap). h.lo) settles.same ∙ (absents_range ids old.heap).0 ∙ is.low;
@@ -117,21 +121,49 @@ module _ (old : World) (is : IsWorld old) where
         | inr d ↦ if_there (object_at new q) (object_at old.heap q) (IsSlot old q) (same_other q d) (is.slotted q)
       ];
       attributed = λ q. elim (cases_eq q slot) [
-        | inl e ↦ ap is_some (inserted_here old.attributes slot (record { shared = false }) q e) ∙ sym (ap is_some (ap (λ (h : Heap). object_at h q) settles.same ∙ inserted_here (fold absent old.heap ids).objects slot o q e))
-        | inr d ↦ ap is_some (inserted_other old.attributes slot (record { shared = false }) q d) ∙ is.attributed q ∙ sym (same_other q d)
+        | inl e ↦ ap is_some (inserted_here old.attributes slot attributes q e) ∙ sym (ap is_some (ap (λ (h : Heap). object_at h q) settles.same ∙ inserted_here (fold absent old.heap ids).objects slot o q e))
+        | inr d ↦ ap is_some (inserted_other old.attributes slot attributes q d) ∙ is.attributed q ∙ sym (same_other q d)
       ];
     }
 
+  -- and a slot gets an object without bytes
+  pub with_absent_object : (attributes : Attributes) (slot : ℕ) (kind : Kind) (new : Heap) → IsFreeSlot old slot → Enters old.heap slot kind new
+      → IsWorld (record old { heap = new; attributes = finmap.insert old.attributes slot attributes })
+  with_absent_object attributes slot kind new free enters =
+      let o : Object = record { kind = kind; locks = 0; bytes = None } in
+      subst (λ (h : Heap). IsWorld (record old { heap = h; attributes = finmap.insert old.attributes slot attributes })) (sym enters.entered) (record {
+        heap = entered_heap old.heap is.heap slot kind enters.unused;
+        low = is.low;
+        grain = is.grain;
+        few = is.few;
+        slotted = λ q. elim (cases_eq q slot) [
+          | inl e ↦ if_some (finmap.get (finmap.insert old.heap.objects slot o) q) (IsSlot old q) (subst (IsSlot old) (sym e) free.0)
+          | inr d ↦ subst (λ p. IfSome p (λ _. IsSlot old q)) (sym (inserted_other old.heap.objects slot o q d)) (is.slotted q)
+        ];
+        attributed = λ q. elim (cases_eq q slot) [
+          | inl e ↦ ap is_some (inserted_here old.attributes slot attributes q e) ∙ sym (ap is_some (inserted_here old.heap.objects slot o q e))
+          | inr d ↦ ap is_some (inserted_other old.attributes slot attributes q d) ∙ is.attributed q ∙ sym (ap is_some (inserted_other old.heap.objects slot o q d))
+        ];
+      })
+
   -- GlobalAlloc, answered
   allocated_world : (flags size handle : ℕ) (new : World) → AnswersAlloc old flags size handle new → IsWorld new
-  allocated_world flags size handle new a =
-      let way : Way = way_asked flags in
-      let s : (k : ℕ) × (o : Object) × Settles old.heap (stays_for a.slot way) (with_ordered (discarded old.heap k (Some a.slot)) a.slot o (with_newest a.slot o)) new.heap =
-      settled old.heap a.slot way (prefix_of old.heap (rounded_size size) (Some a.slot) way) (IsNew way.zero (rounded_size size) (kind_asked flags) 0) (with_newest a.slot) new.heap a.allocated.request in
-      subst IsWorld (sym a.rest) (with_new_object a.slot s.0 s.1 (with_newest a.slot s.1) (stays_for a.slot way) new.heap a.free.0 s.2)
+  allocated_world flags size handle new a = subst IsWorld (sym a.rest) (made (is_absent_asked flags size) a.made)
+    where
+      attributes : Attributes
+      attributes = record { shared = has_flag flags GMEM_DDESHARE }
+
+      made : (b : Bool) → MatchBool b (Enters old.heap a.slot (kind_asked flags) new.heap) (Allocates old.heap a.slot (rounded_size size) (kind_asked flags) 0 (way_asked flags) true new.heap)
+          → IsWorld (record old { heap = new.heap; attributes = finmap.insert old.attributes a.slot attributes })
+      made true enters = with_absent_object attributes a.slot (kind_asked flags) new.heap a.free enters
+      made false allocated =
+          let way : Way = way_asked flags in
+          let s : (k : ℕ) × (o : Object) × Settles old.heap (stays_for a.slot way) (with_ordered (discarded old.heap k (Some a.slot)) a.slot o (with_newest a.slot o)) new.heap =
+          settled old.heap a.slot way (prefix_of old.heap (rounded_size size) (Some a.slot) way) (IsNew way.zero (rounded_size size) (kind_asked flags) 0) (with_newest a.slot) new.heap allocated.request in
+          with_new_object attributes a.slot s.0 s.1 (with_newest a.slot s.1) (stays_for a.slot way) new.heap a.free.0 s.2
 
   -- the world without an object
-  without_object : (slot : ℕ) → IsWorld (record old { heap = removed old.heap slot; attributes = finmap.remove old.attributes slot })
+  pub without_object : (slot : ℕ) → IsWorld (record old { heap = removed old.heap slot; attributes = finmap.remove old.attributes slot })
   without_object slot = record {
     heap = removed_heap old.heap is.heap slot;
     low = is.low;
@@ -190,11 +222,11 @@ module _ (old : World) (is : IsWorld old) where
       turn (Some slot) = outcome slot (after_free old.heap slot) (free_ok slot)
 
   -- the world with this heap
-  abbrev Kept : Heap → Type 0
+  abbrev pub Kept : Heap → Type 0
   Kept heap = IsWorld (record old { heap = heap })
 
   -- what GlobalLock leaves is such a one
-  lock_ok : (slot : ℕ) → IfOk (after_lock old.heap slot) Kept
+  pub lock_ok : (slot : ℕ) → IfOk (after_lock old.heap slot) Kept
   lock_ok slot = turn (object_at old.heap slot) refl
     where
       turn : (p : Option Object) → object_at old.heap slot ≡ p → IfOk (elim p [
@@ -235,7 +267,7 @@ module _ (old : World) (is : IsWorld old) where
       turn (Some slot) = outcome slot (after_lock old.heap slot) (lock_ok slot)
 
   -- and what GlobalUnlock leaves
-  unlock_ok : (slot : ℕ) → IfOk (after_unlock old.heap slot) Kept
+  pub unlock_ok : (slot : ℕ) → IfOk (after_unlock old.heap slot) Kept
   unlock_ok slot = turn (object_at old.heap slot) refl
     where
       turn : (p : Option Object) → object_at old.heap slot ≡ p
@@ -266,18 +298,18 @@ module _ (old : World) (is : IsWorld old) where
   touched_world slot = other_world (after_touch old.heap slot) (touched_heap old.heap is.heap slot) refl refl (λ _. refl)
 
   -- Read
-  read_world : (pointer n : ℕ) → IsWorld (far_read old pointer n).1
-  read_world pointer n = turn (far_fault old pointer n)
+  read_world : (selector offset n : ℕ) → IsWorld (far_read old selector offset n).1
+  read_world selector offset n = turn (far_fault old selector offset n)
     where
       turn : (f : Option FarFault) → Leaves (elim f [
         | Some fault ↦ (Fault fault, old)
-        | None ↦ (Bytes (slice_at (far_bytes old pointer) (offset_in pointer) n), record old { heap = after_touch old.heap (far_slot old pointer) })
+        | None ↦ (Bytes (slice_at (far_bytes old selector) offset n), record old { heap = after_touch old.heap (far_slot old selector) })
       ])
       turn (Some fault) = is
-      turn None = touched_world (far_slot old pointer)
+      turn None = touched_world (far_slot old selector)
 
   -- the world with a slice of an object's bytes replaced
-  written_world : (slot at : ℕ) (slice : List ℕ) (o : Object) (bytes : List ℕ) → object_at old.heap slot ≡ Some o → o.bytes ≡ Some bytes → at + length slice ≤ length bytes → All (λ b. b < 256) slice
+  pub written_world : (slot at : ℕ) (slice : List ℕ) (o : Object) (bytes : List ℕ) → object_at old.heap slot ≡ Some o → o.bytes ≡ Some bytes → at + length slice ≤ length bytes → All (λ b. b < 256) slice
       → IsWorld (record old { heap = after_touch (after_write old.heap slot at slice) slot })
   written_world slot at slice o bytes there has inside new_bytes =
       other_world (after_touch (after_write old.heap slot at slice) slot)
@@ -296,8 +328,8 @@ module _ (old : World) (is : IsWorld old) where
   bytes_fault end b = elim b [ None ↦ Some NotPresent | Some bytes ↦ limit_fault end bytes ]
 
   -- an access without a fault reaches one
-  reached : (pointer n : ℕ) → far_fault old pointer n ≡ None → Reaches (far_slot old pointer) (offset_in pointer + n)
-  reached pointer n = turn (slot_of_selector old (selector_in pointer))
+  reached : (selector offset n : ℕ) → far_fault old selector offset n ≡ None → Reaches (far_slot old selector) (offset + n)
+  reached selector offset n = turn (slot_of_selector old selector)
     where
       inside : (end : ℕ) (bytes : List ℕ) (b : Bool) → nat_lt (length bytes) end ≡ b → HasNoFault (if b then Some Limit else None) → end ≤ length bytes
       inside end bytes true t e = cc
@@ -311,21 +343,21 @@ module _ (old : World) (is : IsWorld old) where
       of_object slot end None there e = cc
       of_object slot end (Some o) there e = of_bytes slot end o there o.bytes refl e
 
-      turn : (s : Option ℕ) → HasNoFault (elim s [ None ↦ Some BadSelector | Some slot ↦ bytes_fault (offset_in pointer + n) (bytes_at old.heap slot) ]) → Reaches (unwrap_or s 0) (offset_in pointer + n)
+      turn : (s : Option ℕ) → HasNoFault (elim s [ None ↦ Some BadSelector | Some slot ↦ bytes_fault (offset + n) (bytes_at old.heap slot) ]) → Reaches (unwrap_or s 0) (offset + n)
       turn None e = cc
-      turn (Some slot) e = of_object slot (offset_in pointer + n) (object_at old.heap slot) refl e
+      turn (Some slot) e = of_object slot (offset + n) (object_at old.heap slot) refl e
 
   -- Write
-  write_world : (pointer : ℕ) (slice : List ℕ) → All (λ b. b < 256) slice → IsWorld (far_write old pointer slice).1
-  write_world pointer slice new_bytes = turn (far_fault old pointer (length slice)) refl
+  write_world : (selector offset : ℕ) (slice : List ℕ) → All (λ b. b < 256) slice → IsWorld (far_write old selector offset slice).1
+  write_world selector offset slice new_bytes = turn (far_fault old selector offset (length slice)) refl
     where
-      turn : (f : Option FarFault) → far_fault old pointer (length slice) ≡ f → Leaves (elim f [
+      turn : (f : Option FarFault) → far_fault old selector offset (length slice) ≡ f → Leaves (elim f [
         | Some fault ↦ (Fault fault, old)
-        | None ↦ (Done, record old { heap = after_touch (after_write old.heap (far_slot old pointer) (offset_in pointer) slice) (far_slot old pointer) })
+        | None ↦ (Done, record old { heap = after_touch (after_write old.heap (far_slot old selector) offset slice) (far_slot old selector) })
       ])
       turn (Some fault) e = is
-      turn None e = let r : Reaches (far_slot old pointer) (offset_in pointer + length slice) = reached pointer (length slice) e in
-          written_world (far_slot old pointer) (offset_in pointer) slice r.0 r.1 r.2 r.3 r.4 new_bytes
+      turn None e = let r : Reaches (far_slot old selector) (offset + length slice) = reached selector offset (length slice) e in
+          written_world (far_slot old selector) offset slice r.0 r.1 r.2 r.3 r.4 new_bytes
 
 -- each step keeps what holds of every world
 pub world_law : WorldLaw
@@ -336,5 +368,12 @@ world_law old new (GlobalAlloc flags size) reply is command step = elim step.2 [
 world_law old new (GlobalFree handle) reply is command step = subst IsWorld (sym step.1) (freed_world old is handle)
 world_law old new (GlobalLock handle) reply is command step = subst IsWorld (sym step.1) (locked_world old is handle)
 world_law old new (GlobalUnlock handle) reply is command step = subst IsWorld (sym step.1) (unlocked_world old is handle)
-world_law old new (Read pointer count) reply is command step = subst IsWorld (sym step.1) (read_world old is pointer count)
-world_law old new (Write pointer bytes) reply is command step = subst IsWorld (sym step.1) (write_world old is pointer bytes command)
+world_law old new (GlobalSize handle) reply is command step = subst IsWorld (sym step.1) is
+world_law old new (GlobalFlags handle) reply is command step = subst IsWorld (sym step.1) is
+world_law old new (GlobalHandle selector) reply is command step = subst IsWorld (sym step.1) is
+world_law old new (GetSelectorBase selector) reply is command step = subst IsWorld (sym step.1) is
+world_law old new (GetSelectorLimit selector) reply is command step = subst IsWorld (sym step.1) is
+world_law old new (Read pointer count) reply is command step = subst IsWorld (sym step.1) (read_world old is (selector_in pointer) (offset_in pointer) count)
+world_law old new (Write pointer bytes) reply is command step = subst IsWorld (sym step.1) (write_world old is (selector_in pointer) (offset_in pointer) bytes command)
+world_law old new (Fill pointer count byte) reply is command step =
+    subst IsWorld (sym step.1) (write_world old is (selector_in pointer) (offset_in pointer) (replicate count byte) (All-replicate (λ b. b < 256) count byte command))

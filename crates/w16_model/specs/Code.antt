@@ -7,7 +7,8 @@ use Rattle.std.specs.FinMap.{FinMap}
 use Rattle.w16_model.specs.declared.Kind.{Kind}
 use Rattle.w16_model.specs.declared.Kind.TheVariants.{Fixed, Moveable, Discardable}
 use Rattle.w16_model.specs.Heap.{Heap, Object}
-use Rattle.w16_model.specs.World.{World, Attributes}
+use Rattle.w16_model.specs.declared.Attributes.{Attributes}
+use Rattle.w16_model.specs.World.{World}
 
 abbrev pub number_of_kind : Kind → ℕ
 number_of_kind Fixed = 0

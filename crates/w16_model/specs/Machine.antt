@@ -1,5 +1,5 @@
 -- The machine of handles: what each command answers, and the world that it leaves.
-use Rattle.std.specs.Prelude.{◌≡◌, ℕ, ◌+◌, ◌-◌, ◌*◌, ◌/◌, ◌<◌, ◌≤◌, ◌⊎◌, Bool, true, false, not, ◌==◌, if◌then◌else◌, nat_lt, bit_and, All, List, [], ◌++◌, length, take, drop, unwrap_or, Option, Some, None, Ok, Err, option_map}
+use Rattle.std.specs.Prelude.{◌≡◌, ℕ, ◌+◌, ◌-◌, ◌*◌, ◌/◌, ◌<◌, ◌≤◌, ◌⊎◌, Bool, true, false, not, ◌==◌, ◌&&◌, if◌then◌else◌, MatchBool, nat_lt, bit_and, All, List, [], ◌++◌, length, take, drop, replicate, unwrap_or, is_some, Option, Some, None, Ok, Err, option_map}
 use Rattle.std.specs.FinMap as finmap
 use Rattle.w16_model.specs.declared.Kind.{Kind}
 use Rattle.w16_model.specs.declared.Kind.TheVariants.{Fixed, Moveable}
@@ -7,12 +7,13 @@ use Rattle.w16_model.specs.declared.Way.{Way}
 use Rattle.w16_model.specs.declared.Refusal.TheVariants as refusals
 use Rattle.w16_model.specs.declared.FarFault.{FarFault}
 use Rattle.w16_model.specs.declared.FarFault.TheVariants.{BadSelector, NotPresent, Limit}
-use Rattle.w16_model.specs.declared.TheConstants.{GRAIN, LARGEST_SIZE, GMEM_MOVEABLE, GMEM_ZEROINIT}
-use Rattle.w16_model.specs.Heap.{Heap, Object, object_at, bytes_at}
+use Rattle.w16_model.specs.declared.TheConstants.{GRAIN, LARGEST_SIZE, GMEM_MOVEABLE, GMEM_ZEROINIT, GMEM_DISCARDABLE, GMEM_DDESHARE, GMEM_DISCARDED}
+use Rattle.w16_model.specs.Heap.{Heap, Object, object_at, bytes_at, is_discardable}
 use Rattle.w16_model.specs.Edit.{update}
 use Rattle.w16_model.specs.Request.{Allocates, prefix_of}
-use Rattle.w16_model.specs.Single.{after_lock, after_unlock, after_free, after_touch}
-use Rattle.w16_model.specs.World.{World, IsFreeSlot, slot_of_handle, slot_of_selector, handle_of, selector_of, far_pointer, selector_in, offset_in}
+use Rattle.w16_model.specs.Single.{Enters, after_lock, after_unlock, after_free, after_touch}
+use Rattle.w16_model.specs.declared.Attributes.{Attributes}
+use Rattle.w16_model.specs.World.{World, IsFreeSlot, slot_of_handle, slot_of_selector, handle_of, selector_of, far_pointer, dword_of, selector_in, offset_in}
 
 -- a command, with its arguments as numbers and bytes
 pub data Command : Type 0 where
@@ -20,17 +21,20 @@ pub data Command : Type 0 where
   GlobalFree : (handle : ℕ) → Command
   GlobalLock : (handle : ℕ) → Command
   GlobalUnlock : (handle : ℕ) → Command
+  GlobalSize : (handle : ℕ) → Command
+  GlobalFlags : (handle : ℕ) → Command
+  GlobalHandle : (selector : ℕ) → Command
+  GetSelectorBase : (selector : ℕ) → Command
+  GetSelectorLimit : (selector : ℕ) → Command
   Read : (pointer count : ℕ) → Command
   Write : (pointer : ℕ) (bytes : List ℕ) → Command
+  Fill : (pointer count byte : ℕ) → Command
 
 -- what is written are bytes
 abbrev pub IsCommand : Command → Type 0
-IsCommand (GlobalAlloc flags size) = Unit {0}
-IsCommand (GlobalFree handle) = Unit {0}
-IsCommand (GlobalLock handle) = Unit {0}
-IsCommand (GlobalUnlock handle) = Unit {0}
-IsCommand (Read pointer count) = Unit {0}
 IsCommand (Write pointer bytes) = All (λ b. b < 256) bytes
+IsCommand (Fill pointer count byte) = byte < 256
+IsCommand other = Unit {0}
 
 pub data Reply : Type 0 where
   Word : (value : ℕ) → Reply
@@ -55,18 +59,26 @@ kind_asked flags = if has_flag flags GMEM_MOVEABLE then Moveable else Fixed
 abbrev pub way_asked : ℕ → Way
 way_asked flags = record { compact = false; discard = false; zero = has_flag flags GMEM_ZEROINIT; may_move = false }
 
--- when an allocation is NULL: a size of 0 or over the limit, no free slot, or no hole that is long enough
-abbrev pub IsRefusedAlloc : World → ℕ → ℕ → Type 0
-IsRefusedAlloc old flags size = (size ≡ 0) ⊎ (LARGEST_SIZE < size) ⊎ ((slot : ℕ) → IsFreeSlot old slot → ⊥) ⊎ (prefix_of old.heap (rounded_size size) None (way_asked flags) ≡ None)
+-- whether an object is asked for that has no bytes yet
+abbrev pub is_absent_asked : ℕ → ℕ → Bool
+is_absent_asked flags size = (size == 0) && has_flag flags GMEM_MOVEABLE
 
--- else the object gets a free slot, whichever, and bytes as the heap allocates them
+-- when an allocation is NULL: a fixed object of no bytes, a size over the limit, no free slot, or no hole that is long enough
+abbrev pub IsRefusedAlloc : World → ℕ → ℕ → Type 0
+IsRefusedAlloc old flags size =
+    ((size ≡ 0) × (has_flag flags GMEM_MOVEABLE ≡ false)) ⊎ (LARGEST_SIZE < size) ⊎ ((slot : ℕ) → IsFreeSlot old slot → ⊥)
+    ⊎ ((0 < size) × (prefix_of old.heap (rounded_size size) None (way_asked flags) ≡ None))
+
+-- else the object gets a free slot, whichever, and bytes as the heap allocates them; a moveable one of size 0 is absent
 pub record AnswersAlloc (old : World) (flags size handle : ℕ) (new : World) : Type 0 where
   pub small : size ≤ LARGEST_SIZE
   pub slot : ℕ
   pub free : IsFreeSlot old slot
   pub named : handle ≡ handle_of (kind_asked flags) slot
-  pub allocated : Allocates old.heap slot (rounded_size size) (kind_asked flags) 0 (way_asked flags) true new.heap
-  pub rest : new ≡ record old { heap = new.heap; attributes = finmap.insert old.attributes slot (record { shared = false }) }
+  pub made : MatchBool (is_absent_asked flags size)
+      (Enters old.heap slot (kind_asked flags) new.heap)
+      (Allocates old.heap slot (rounded_size size) (kind_asked flags) 0 (way_asked flags) true new.heap)
+  pub rest : new ≡ record old { heap = new.heap; attributes = finmap.insert old.attributes slot (record { shared = has_flag flags GMEM_DDESHARE }) }
 
 -- GlobalAlloc
 abbrev pub GlobalAllocs : World → ℕ → ℕ → ℕ → World → Type 0
@@ -109,24 +121,69 @@ global_unlock old handle = elim (slot_of_handle old handle) [
   ]
 ]
 
+-- What objects and selectors are asked. These change nothing.
+
+-- GlobalSize: the size; 0 for a bad handle or an absent object
+abbrev pub global_size : World → ℕ → ℕ
+global_size world handle = elim (slot_of_handle world handle) [
+  | None ↦ 0
+  | Some slot ↦ unwrap_or (option_map length (bytes_at world.heap slot)) 0
+]
+
+-- whether other tasks share a slot's object
+abbrev pub is_shared : World → ℕ → Bool
+is_shared world slot = unwrap_or (option_map (λ (a : Attributes). a.shared) (finmap.get world.attributes slot)) false
+
+-- an object's lock count, and bits that say whether it is discardable, shared, and absent
+abbrev pub flags_of : Bool → Object → ℕ
+flags_of shared o = o.locks + (if is_discardable o.kind then GMEM_DISCARDABLE else 0) + (if shared then GMEM_DDESHARE else 0) + (if is_some o.bytes then 0 else GMEM_DISCARDED)
+
+-- GlobalFlags: 0 for a bad handle
+abbrev pub global_flags : World → ℕ → ℕ
+global_flags world handle = elim (slot_of_handle world handle) [
+  | None ↦ 0
+  | Some slot ↦ unwrap_or (option_map (flags_of (is_shared world slot)) (object_at world.heap slot)) 0
+]
+
+-- GlobalHandle: the selector in the high word, and its object's handle in the low one; 0 where there is none
+abbrev pub global_handle : World → ℕ → ℕ
+global_handle world selector = elim (slot_of_selector world selector) [
+  | None ↦ 0
+  | Some slot ↦ unwrap_or (option_map (λ (o : Object). dword_of selector (handle_of o.kind slot)) (object_at world.heap slot)) 0
+]
+
+-- GetSelectorBase: the object's address; 0 for a bad selector or an absent object
+abbrev pub selector_base : World → ℕ → ℕ
+selector_base world selector = elim (slot_of_selector world selector) [
+  | None ↦ 0
+  | Some slot ↦ unwrap_or (finmap.get world.heap.places slot) 0
+]
+
+-- GetSelectorLimit: the offset of the object's last byte; 0 for a bad selector or an absent object
+abbrev pub selector_limit : World → ℕ → ℕ
+selector_limit world selector = elim (slot_of_selector world selector) [
+  | None ↦ 0
+  | Some slot ↦ unwrap_or (option_map (λ bytes. length bytes - 1) (bytes_at world.heap slot)) 0
+]
+
 -- Far access: to n bytes at selector:offset. An answered one, of no bytes too, makes a discardable object the newest.
 
--- the first fault: a selector of no object, an object without bytes, or bytes past its end
-abbrev pub far_fault : World → ℕ → ℕ → Option FarFault
-far_fault world pointer n = elim (slot_of_selector world (selector_in pointer)) [
+-- the first fault: a selector of no object, an object without bytes, or bytes past its end; there is no code yet that couldn't be written
+abbrev pub far_fault : World → ℕ → ℕ → ℕ → Option FarFault
+far_fault world selector offset n = elim (slot_of_selector world selector) [
   | None ↦ Some BadSelector
   | Some slot ↦ elim (bytes_at world.heap slot) [
     | None ↦ Some NotPresent
-    | Some bytes ↦ if nat_lt (length bytes) (offset_in pointer + n) then Some Limit else None
+    | Some bytes ↦ if nat_lt (length bytes) (offset + n) then Some Limit else None
   ]
 ]
 
--- the object that a far pointer reaches, where there is no fault, and its bytes
+-- the object that an access reaches, where there is no fault, and its bytes
 abbrev pub far_slot : World → ℕ → ℕ
-far_slot world pointer = unwrap_or (slot_of_selector world (selector_in pointer)) 0
+far_slot world selector = unwrap_or (slot_of_selector world selector) 0
 
 abbrev pub far_bytes : World → ℕ → List ℕ
-far_bytes world pointer = unwrap_or (bytes_at world.heap (far_slot world pointer)) []
+far_bytes world selector = unwrap_or (bytes_at world.heap (far_slot world selector)) []
 
 -- n bytes from a place on
 abbrev pub slice_at : List ℕ → ℕ → ℕ → List ℕ
@@ -137,21 +194,21 @@ abbrev pub with_slice : List ℕ → ℕ → List ℕ → List ℕ
 with_slice bytes at slice = take at bytes ++ slice ++ drop (at + length slice) bytes
 
 -- Read
-abbrev pub far_read : World → ℕ → ℕ → Reply × World
-far_read old pointer n = elim (far_fault old pointer n) [
+abbrev pub far_read : World → ℕ → ℕ → ℕ → Reply × World
+far_read old selector offset n = elim (far_fault old selector offset n) [
   | Some fault ↦ (Fault fault, old)
-  | None ↦ (Bytes (slice_at (far_bytes old pointer) (offset_in pointer) n), record old { heap = after_touch old.heap (far_slot old pointer) })
+  | None ↦ (Bytes (slice_at (far_bytes old selector) offset n), record old { heap = after_touch old.heap (far_slot old selector) })
 ]
 
 -- the heap with an object's bytes from a place on replaced
 abbrev pub after_write : Heap → ℕ → ℕ → List ℕ → Heap
 after_write heap slot at slice = record heap { objects = update heap.objects slot (λ o. record o { bytes = option_map (λ bytes. with_slice bytes at slice) o.bytes }) }
 
--- Write
-abbrev pub far_write : World → ℕ → List ℕ → Reply × World
-far_write old pointer slice = elim (far_fault old pointer (length slice)) [
+-- Write; Fill is a write of one byte many times
+abbrev pub far_write : World → ℕ → ℕ → List ℕ → Reply × World
+far_write old selector offset slice = elim (far_fault old selector offset (length slice)) [
   | Some fault ↦ (Fault fault, old)
-  | None ↦ (Done, record old { heap = after_touch (after_write old.heap (far_slot old pointer) (offset_in pointer) slice) (far_slot old pointer) })
+  | None ↦ (Done, record old { heap = after_touch (after_write old.heap (far_slot old selector) offset slice) (far_slot old selector) })
 ]
 
 -- One step: from old, the machine may give this reply to the command and go on to new.
@@ -164,5 +221,11 @@ Step old (GlobalAlloc flags size) reply new = (handle : ℕ) × (reply ≡ Word 
 Step old (GlobalFree handle) reply new = Gives (global_free old handle) reply new
 Step old (GlobalLock handle) reply new = Gives (global_lock old handle) reply new
 Step old (GlobalUnlock handle) reply new = Gives (global_unlock old handle) reply new
-Step old (Read pointer count) reply new = Gives (far_read old pointer count) reply new
-Step old (Write pointer bytes) reply new = Gives (far_write old pointer bytes) reply new
+Step old (GlobalSize handle) reply new = Gives (Dword (global_size old handle), old) reply new
+Step old (GlobalFlags handle) reply new = Gives (Word (global_flags old handle), old) reply new
+Step old (GlobalHandle selector) reply new = Gives (Dword (global_handle old selector), old) reply new
+Step old (GetSelectorBase selector) reply new = Gives (Dword (selector_base old selector), old) reply new
+Step old (GetSelectorLimit selector) reply new = Gives (Dword (selector_limit old selector), old) reply new
+Step old (Read pointer count) reply new = Gives (far_read old (selector_in pointer) (offset_in pointer) count) reply new
+Step old (Write pointer bytes) reply new = Gives (far_write old (selector_in pointer) (offset_in pointer) bytes) reply new
+Step old (Fill pointer count byte) reply new = Gives (far_write old (selector_in pointer) (offset_in pointer) (replicate count byte)) reply new

@@ -30,7 +30,7 @@ abbrev pub object_in : List Block → List ℕ → ℕ → Entry → Object
 object_in xs memory id e = record { kind = e.kind; locks = e.locks; bytes = option_map (λ x. slice_range memory x.at (x.at + x.size)) (block_with xs id) }
 
 -- what the entries from an id on give, each by its id
-abbrev pub by_id : {X : Type 0} → (ℕ → Entry → X) → ℕ → List (Option Entry) → List (ℕ × X)
+abbrev pub by_id : {E X : Type 0} → (ℕ → E → X) → ℕ → List (Option E) → List (ℕ × X)
 by_id give id [] = []
 by_id give id (None ∷ es) = by_id give (id + 1) es
 by_id give id (Some e ∷ es) = (id, give id e) ∷ by_id give (id + 1) es

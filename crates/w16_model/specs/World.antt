@@ -1,16 +1,13 @@
 -- The world that a script sees: a global heap whose objects are named by handles and reached by selectors.
-use Rattle.std.specs.Prelude.{◌≡◌, ℕ, ◌+◌, ◌*◌, ◌/◌, ◌%◌, ◌<◌, ◌≤◌, Bool, ◌&&◌, ◌==◌, if◌then◌else◌, is_some, IfSome, Option, Some, None}
+use Rattle.std.specs.Prelude.{◌≡◌, ℕ, ◌+◌, ◌*◌, ◌/◌, ◌%◌, ◌<◌, ◌≤◌, ◌&&◌, ◌==◌, if◌then◌else◌, is_some, IfSome, Option, Some, None}
 use Rattle.std.specs.Ordering.{nat_cmp}
 use Rattle.std.specs.FinMap as finmap
 use Rattle.std.specs.FinMap.{FinMap}
 use Rattle.w16_model.specs.declared.Kind.{Kind}
 use Rattle.w16_model.specs.declared.Kind.TheVariants.{Fixed, Moveable, Discardable}
+use Rattle.w16_model.specs.declared.Attributes.{Attributes}
 use Rattle.w16_model.specs.declared.TheConstants.{FIRST_SLOT, MOST_SLOTS, GRAIN}
 use Rattle.w16_model.specs.Heap.{Heap, IsHeap, empty_heap, object_at}
-
--- what the world keeps of an object beside its heap's part: whether other tasks share it (GMEM_DDESHARE)
-pub record Attributes : Type 0 where
-  pub shared : Bool
 
 -- An object's id in the heap is its slot, of which there are so many, numbered from the first one on.
 pub record World : Type 0 where
@@ -50,9 +47,13 @@ slot_of_handle world handle = elim (object_at world.heap (handle / 8)) [
 abbrev pub slot_of_selector : World → ℕ → Option ℕ
 slot_of_selector world selector = if is_some (object_at world.heap (selector / 8)) && (selector == selector_of (selector / 8)) then Some (selector / 8) else None
 
+-- a double word of two words
+abbrev pub dword_of : ℕ → ℕ → ℕ
+dword_of high low = 65536 * high + low
+
 -- A far pointer is a double word: a selector in its high word, an offset in its low one.
 abbrev pub far_pointer : ℕ → ℕ → ℕ
-far_pointer selector offset = 65536 * selector + offset
+far_pointer selector offset = dword_of selector offset
 
 abbrev pub selector_in : ℕ → ℕ
 selector_in pointer = pointer / 65536

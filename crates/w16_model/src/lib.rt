@@ -40,6 +40,13 @@ pub struct Entry {
     pub locks: u8,
 }
 
+/// What is known of an object's handle beside the heap's part.
+#[derive(Clone, Copy, Debug, PartialEq, Eq)]
+pub struct Attributes {
+    /// Other tasks share the object (`GMEM_DDESHARE`).
+    pub shared: bool,
+}
+
 /// How a request may make room (the flags of GlobalAlloc and GlobalReAlloc).
 #[derive(Clone, Copy, Debug, PartialEq, Eq)]
 pub struct Way {
@@ -73,6 +80,8 @@ pub enum Refusal {
 pub enum FarFault {
     /// No object has the selector.
     BadSelector,
+    /// The access would write to code.
+    ReadOnly,
     /// The object has no bytes.
     NotPresent,
     /// The access goes past the object's end.
@@ -96,6 +105,15 @@ pub const GMEM_MOVEABLE: u16 = 0x0002;
 
 /// `GlobalAlloc`: the new bytes are zeros.
 pub const GMEM_ZEROINIT: u16 = 0x0040;
+
+/// `GlobalFlags`: the object is discardable.
+pub const GMEM_DISCARDABLE: u16 = 0x0100;
+
+/// `GlobalAlloc`, `GlobalFlags`: other tasks share the object.
+pub const GMEM_DDESHARE: u16 = 0x2000;
+
+/// `GlobalFlags`: the object has no bytes.
+pub const GMEM_DISCARDED: u16 = 0x4000;
 
 pub mod laws;
 mod plain;

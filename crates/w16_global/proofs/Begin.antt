@@ -1,0 +1,56 @@
+-- Nothing is allocated at the start.
+use Rattle.std.proofs.Common.{◌≡◌, ℕ, zero, suc, ◌+◌, ◌-◌, ◌≤◌, List, [], length, get_or, replicate, Option, Some, None, option_map, refl, sym, ap, ◌∙◌, subst, arith}
+use Rattle.std.specs.Cmp.{nat_cmp_total}
+use Rattle.std.specs.Ordering.{nat_cmp}
+use Rattle.std.specs.FinMap as finmap
+use Rattle.std.specs.FinMap.{same_map, nat_cmp-IsAntisymmetric, get-empty}
+use Rattle.std.proofs.lemmas.List.{length-replicate}
+use Rattle.w16_model.specs.declared.Attributes.{Attributes}
+use Rattle.w16_model.specs.declared.TheConstants.{FIRST_SLOT, MOST_SLOTS, GRAIN}
+use Rattle.w16_model.specs.Heap.{Object, empty_heap}
+use Rattle.w16_model.specs.World.{World, IsWorld, empty_world}
+use Rattle.w16_model.proofs.Empty.{empty_law}
+use Rattle.w16_selectors.specs.Descriptors as selectors
+use Rattle.w16_selectors.specs.declared.Descriptor.{Descriptor}
+use Rattle.w16_global.specs.Parts.{Holding}
+use Rattle.w16_global.specs.Joined.{attributes_in, world_of, descriptor_for, described, AreJoined}
+use Rattle.w16_global.proofs.Joined.{attributes_at}
+
+-- a list of nothing has nothing at each place
+none_at : {X : Type 0} (n q : ℕ) → ◌≡◌ {A = Option X} (get_or (replicate n None) q None) None
+none_at zero q = refl
+none_at (suc n) zero = refl
+none_at (suc n) (suc q) = none_at n q
+
+module _ (memory slots : ℕ) (few : slots ≤ MOST_SLOTS) where
+  abbrev holding : Holding
+  holding = record { cap = FIRST_SLOT + slots; heap = empty_heap 0 memory GRAIN }
+
+  abbrev attributes : List (Option Attributes)
+  attributes = replicate (FIRST_SLOT + slots) None
+
+  abbrev table : selectors.Table
+  table = replicate (FIRST_SLOT + slots) None
+
+  world_is : world_of holding attributes ≡ empty_world memory slots
+  world_is =
+      let all : FIRST_SLOT + slots - FIRST_SLOT ≡ slots = omega arith in
+      let none : attributes_in attributes ≡ finmap.empty = same_map nat_cmp_total nat_cmp-IsAntisymmetric (attributes_in attributes) finmap.empty (λ q. attributes_at attributes q ∙ none_at (FIRST_SLOT + slots) q ∙ sym (get-empty nat_cmp q)) in
+      λ i. record { slots = all i; heap = empty_heap 0 memory GRAIN; attributes = none i }
+
+  joined : AreJoined holding attributes table
+  joined = record {
+    world = subst IsWorld (sym world_is) (empty_law memory slots few);
+    described = λ q. none_at (FIRST_SLOT + slots) q ∙ sym (ap (option_map (descriptor_for (empty_heap 0 memory GRAIN) q)) (get-empty nat_cmp q));
+    attributes_many = length-replicate (FIRST_SLOT + slots) None;
+    selectors_many = length-replicate (FIRST_SLOT + slots) None;
+    some = omega arith;
+  }
+
+  -- the parts that were made
+  module _ (h : Holding) (xs : List (Option Attributes)) (t : selectors.Table) (h_is : h ≡ record { cap = FIRST_SLOT + slots; heap = empty_heap 0 memory GRAIN }) (xs_is : xs ≡ replicate (FIRST_SLOT + slots) None) where
+    pub begin_joined : t ≡ replicate (FIRST_SLOT + slots) None → AreJoined h xs t
+    begin_joined t_is = subst (λ t. AreJoined h xs t) (sym t_is) (subst (λ xs. AreJoined h xs table) (sym xs_is) (subst (λ h. AreJoined h attributes table) (sym h_is) joined))
+
+    pub begin_world : world_of h xs ≡ empty_world memory slots
+    begin_world = (λ i. world_of (h_is i) (xs_is i)) ∙ world_is

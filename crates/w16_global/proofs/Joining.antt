@@ -1,0 +1,128 @@
+-- What the steps that calls are made of leave joined, and what they say of the world.
+use Rattle.std.proofs.Common.{◌≡◌, ◌≢◌, ℕ, ◌+◌, ◌-◌, ◌*◌, ◌<◌, ◌≤◌, inl, inr, Bool, true, false, cond, if◌then◌else◌, IfSome, IfOk, OnOk, IfErr, IsSomeAnd, List, length, get_or, set, replicate, Option, Some, None, Result, Ok, Err, option_map, is_some, unwrap_or, refl, sym, ap, ◌∙◌, subst, arith}
+use Rattle.std.specs.FinMap as finmap
+use Rattle.std.proofs.lemmas.Bool.{false≢true, cases_eq}
+use Rattle.std.proofs.lemmas.List.{get_or-set_same, get_or-set_other, length-set}
+use Rattle.w16_model.specs.declared.Attributes.{Attributes}
+use Rattle.w16_model.specs.declared.Kind.{Kind}
+use Rattle.w16_model.specs.declared.Refusal.{Refusal}
+use Rattle.w16_model.specs.declared.TheConstants.{FIRST_SLOT}
+use Rattle.w16_model.specs.Heap.{Heap, Object, object_at, bytes_at}
+use Rattle.w16_model.specs.Edit.{with_object, removed}
+use Rattle.w16_model.specs.Single.{Enters, after_lock, after_unlock, after_free}
+use Rattle.w16_model.specs.World.{World, IsWorld, IsFreeSlot}
+use Rattle.w16_model.specs.Machine.{is_shared}
+use Rattle.w16_model.specs.declared.Way.{Way}
+use Rattle.w16_model.specs.Edit.{with_newest}
+use Rattle.w16_model.specs.Request.{Allocates, IsNew, prefix_of, stays_for}
+use Rattle.w16_model.proofs.Worlds.{lock_ok, unlock_ok, without_object, with_absent_object, with_new_object, settled, Kept}
+use Rattle.w16_selectors.specs.Descriptors as selectors
+use Rattle.w16_selectors.specs.Descriptors.{descriptor_at, unset}
+use Rattle.w16_selectors.specs.declared.Descriptor.{Descriptor}
+use Rattle.w16_selectors.specs.declared.SelKind.TheVariants.{Data}
+use Rattle.w16_global.specs.Parts.{Holding}
+use Rattle.w16_global.specs.Joined.{attributes_in, world_of, described, AreJoined}
+use Rattle.w16_global.proofs.Joined.{attributes_at, attributes_set, attributes_unset, joined_same, joined_set, slot_there}
+use Rattle.w16_global.proofs.Described.{lock_same, unlock_same, free_is, removed_here, removed_other, entered_here, entered_other, made_here, same_described}
+
+-- an answer that is good is good of what it answers
+good : (r : Result Heap Refusal) (P : Heap → Type 0) (heap : Heap) → IfOk r P → r ≡ Ok heap → P heap
+good (Ok x) P heap h e = subst P (let same : x ≡ heap = cc in same) h
+good (Err x) P heap h e = cc
+
+module _ {h : Holding} {xs : List (Option Attributes)} {t : selectors.Table} {w : World} (are : AreJoined h xs t) (shown : world_of h xs ≡ w) where
+  -- a slot's attributes are the world's
+  pub attributes_shown : (slot : ℕ) → get_or xs slot None ≡ finmap.get w.attributes slot
+  attributes_shown slot = sym (attributes_at xs slot) ∙ ap (λ (v : World). finmap.get v.attributes slot) shown
+
+module _ {h : Holding} {xs : List (Option Attributes)} {t : selectors.Table} (are : AreJoined h xs t) (new : Holding) (cap : new.cap ≡ h.cap) where
+  -- another heap under the same attributes
+  same_slots : record (world_of h xs) { heap = new.heap } ≡ world_of new xs
+  same_slots = λ i. record { slots = sym cap i - FIRST_SLOT; heap = new.heap; attributes = attributes_in xs }
+
+  -- GlobalLock leaves what is joined
+  pub lock_joined : {U : Type 0} (slot : ℕ) (r : Result U Refusal) → OnOk r (after_lock h.heap slot ≡ Ok new.heap) → IfErr r (λ e. (after_lock h.heap slot ≡ Err e) × (new ≡ h)) → AreJoined new xs t
+  lock_joined slot (Ok u) done refused =
+      joined_same h xs t are new cap (subst IsWorld same_slots (good (after_lock h.heap slot) (Kept (world_of h xs) are.world) new.heap (lock_ok (world_of h xs) are.world slot) done)) (lock_same h.heap slot new.heap done)
+  lock_joined slot (Err e) done refused = subst (λ k. AreJoined k xs t) (sym refused.1) are
+
+  -- and so does GlobalUnlock
+  pub unlock_joined : {U : Type 0} (slot : ℕ) (r : Result U Refusal) → OnOk r (after_unlock h.heap slot ≡ Ok new.heap) → IfErr r (λ e. (after_unlock h.heap slot ≡ Err e) × (new ≡ h)) → AreJoined new xs t
+  unlock_joined slot (Ok u) done refused =
+      joined_same h xs t are new cap (subst IsWorld same_slots (good (after_unlock h.heap slot) (Kept (world_of h xs) are.world) new.heap (unlock_ok (world_of h xs) are.world slot) done)) (unlock_same h.heap slot new.heap done)
+  unlock_joined slot (Err e) done refused = subst (λ k. AreJoined k xs t) (sym refused.1) are
+
+  -- a slot's object goes
+  module _ (slot : ℕ) {w : World} (shown : world_of h xs ≡ w) (known : is_some (object_at w.heap slot) ≡ true) (done : after_free h.heap slot ≡ Ok new.heap) where
+    there : is_some (object_at h.heap slot) ≡ true
+    there = subst (λ (v : World). is_some (object_at v.heap slot) ≡ true) (sym shown) known
+
+    gone : removed h.heap slot ≡ new.heap
+    gone = free_is h.heap slot new.heap there done
+
+    left : slot < length xs
+    left = subst (λ n. slot < n) (sym are.attributes_many) (slot_there h xs t are slot there).1
+
+    -- the world without it
+    pub released_ok : (after_free w.heap slot ≡ Ok new.heap) × (world_of new (set xs slot None) ≡ record w { heap = new.heap; attributes = finmap.remove w.attributes slot })
+    released_ok = (
+      subst (λ (v : World). after_free v.heap slot ≡ Ok new.heap) shown done,
+      (λ i. record { slots = cap i - FIRST_SLOT; heap = new.heap; attributes = attributes_unset xs slot left i }) ∙ ap (λ (v : World). record v { heap = new.heap; attributes = finmap.remove v.attributes slot }) shown,
+    )
+
+    pub released_joined : (after : selectors.Table) → after ≡ set t slot None → AreJoined new (set xs slot None) after
+    released_joined after is = joined_set h xs t are new slot None None after cap
+        (subst IsWorld ((λ i. record { slots = sym cap i - FIRST_SLOT; heap = gone i; attributes = sym (attributes_unset xs slot left) i })) (without_object (world_of h xs) are.world slot))
+        (λ q n. ap (λ (k : Heap). described k q) (sym gone) ∙ removed_other h.heap slot q n)
+        (ap (λ (k : Heap). described k slot) (sym gone) ∙ removed_here h.heap slot)
+        (ap length is ∙ length-set t slot None)
+        (ap (λ (l : selectors.Table). get_or l slot None) is ∙ get_or-set_same t slot None None (subst (λ n. slot < n) (sym are.selectors_many) (slot_there h xs t are slot there).1))
+        (λ q n. ap (λ (l : selectors.Table). get_or l q None) is ∙ get_or-set_other t slot q None None n)
+
+-- A free slot gets an object.
+module _ {h : Holding} {xs : List (Option Attributes)} {t : selectors.Table} (are : AreJoined h xs t) (new : Holding) (cap : new.cap ≡ h.cap) (slot : ℕ) (a : Attributes)
+    {w : World} (shown : world_of h xs ≡ w) (known : IsFreeSlot w slot) where
+  free : IsFreeSlot (world_of h xs) slot
+  free = subst (λ v. IsFreeSlot v slot) (sym shown) known
+
+  within : slot < length xs
+  within = subst (λ n. slot < n) (sym are.attributes_many) (let some = are.some in let below = free.0.1 in omega arith)
+
+  in_table : slot < length t
+  in_table = subst (λ n. slot < n) (sym are.selectors_many) (let some = are.some in let below = free.0.1 in omega arith)
+
+  -- the world with an object there
+  pub given_world : world_of new (set xs slot (Some a)) ≡ record w { heap = new.heap; attributes = finmap.insert w.attributes slot a }
+  given_world =
+      (λ i. record { slots = cap i - FIRST_SLOT; heap = new.heap; attributes = attributes_set xs slot a within i })
+      ∙ ap (λ (v : World). record v { heap = new.heap; attributes = finmap.insert v.attributes slot a }) shown
+
+  -- an absent one
+  pub entered_joined : (kind : Kind) (after : selectors.Table) → new.heap ≡ with_object h.heap slot (record { kind = kind; locks = 0; bytes = None }) → after ≡ set t slot (Some unset) → AreJoined new (set xs slot (Some a)) after
+  entered_joined kind after is taken =
+      let entered : Heap = with_object h.heap slot (record { kind = kind; locks = 0; bytes = None }) in
+      let enters : Enters h.heap slot kind entered = record { unused = free.1; entered = refl } in
+      joined_set h xs t are new slot (Some a) (Some unset) after cap
+      (subst IsWorld (λ i. record { slots = sym cap i - FIRST_SLOT; heap = sym is i; attributes = sym (attributes_set xs slot a within) i }) (with_absent_object (world_of h xs) are.world a slot kind entered free enters))
+      (λ q n. ap (λ (k : Heap). described k q) is ∙ entered_other h.heap slot kind q n)
+      (ap (λ (k : Heap). described k slot) is ∙ entered_here h.heap slot kind)
+      (ap length taken ∙ length-set t slot (Some unset))
+      (ap (λ (l : selectors.Table). get_or l slot None) taken ∙ get_or-set_same t slot (Some unset) None in_table)
+      (λ q n. ap (λ (l : selectors.Table). get_or l q None) taken ∙ get_or-set_other t slot q (Some unset) None n)
+
+  -- one with bytes
+  pub allocated_joined : (n at : ℕ) (kind : Kind) (way : Way) (after : selectors.Table) → Allocates h.heap slot n kind 0 way true new.heap
+      → ((q : ℕ) → q ≢ slot → (object_at new.heap q ≡ object_at h.heap q) × (finmap.get new.heap.places q ≡ finmap.get h.heap.places q))
+      → IsSomeAnd (bytes_at new.heap slot) (λ bytes. length bytes ≡ n) → finmap.get new.heap.places slot ≡ Some at
+      → (first : selectors.Table) → first ≡ set t slot (Some unset) → after ≡ set first slot (Some (record { base = at; limit = n - 1; present = true; kind = Data })) → AreJoined new (set xs slot (Some a)) after
+  allocated_joined n at kind way after allocated others sized placed first first_is taken =
+      let d : Descriptor = record { base = at; limit = n - 1; present = true; kind = Data } in
+      let many : length first ≡ length t = ap length first_is ∙ length-set t slot (Some unset) in
+      let s = settled h.heap slot way (prefix_of h.heap n (Some slot) way) (IsNew way.zero n kind 0) (with_newest slot) new.heap allocated.request in
+      joined_set h xs t are new slot (Some a) (Some d) after cap
+      (subst IsWorld (λ i. record { slots = sym cap i - FIRST_SLOT; heap = new.heap; attributes = sym (attributes_set xs slot a within) i }) (with_new_object (world_of h xs) are.world a slot s.0 s.1 (with_newest slot s.1) (stays_for slot way) new.heap free.0 s.2))
+      (λ q n. same_described h.heap new.heap q (others q n).0 (others q n).1)
+      (made_here new.heap slot n at (bytes_at new.heap slot) refl sized placed)
+      (ap length taken ∙ length-set first slot (Some d) ∙ many)
+      (ap (λ (l : selectors.Table). get_or l slot None) taken ∙ get_or-set_same first slot (Some d) None (subst (λ k. slot < k) (sym many) in_table))
+      (λ q n. ap (λ (l : selectors.Table). get_or l q None) taken ∙ get_or-set_other first slot q (Some d) None n ∙ ap (λ (l : selectors.Table). get_or l q None) first_is ∙ get_or-set_other t slot q (Some unset) None n)

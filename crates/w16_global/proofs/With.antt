@@ -1,0 +1,60 @@
+-- An id's block, in a list that was changed.
+use Rattle.std.proofs.Common.{◌≡◌, ◌≢◌, ℕ, ◌==◌, List, [], ◌∷◌, cond, Option, Some, None, refl, ap, ◌∙◌, inl, inr}
+use Rattle.std.specs.List.{AllByRecursion}
+use Rattle.std.proofs.lemmas.Bool.{ne_eqb, cases_lt, lt-ltb, le-ltb}
+use Rattle.std.proofs.lemmas.Bool.Decides.{eqb_tells}
+use Rattle.w16_model.specs.declared.Block.{Block}
+use Rattle.w16_model.specs.Table.{block_with}
+use Rattle.w16_blocks.specs.Layout.{placed, without, replaced}
+
+-- no id has one that no block has
+pub with_none : (id : ℕ) (bs : List Block) → AllByRecursion (λ c. c.id ≢ id) bs → block_with bs id ≡ None
+with_none id [] all = refl
+with_none id (b ∷ bs) all = rw (ne_eqb b.id id all.0) (with_none id bs all.1)
+
+pub with-without : (id : ℕ) (bs : List Block) (q : ℕ) → block_with (without id bs) q ≡ cond (id == q) None (block_with bs q)
+with-without id [] q = elim (eqb_tells id q) [ inl same ↦ rw same.0 refl | inr other ↦ rw other.0 refl ]
+with-without id (b ∷ bs) q =
+    let ih = with-without id bs q in
+    elim (eqb_tells b.id id) [
+      | inl same ↦ rw same.0 (elim (eqb_tells id q) [
+        | inl both ↦ rw both.0 (rw both.0 at ih)
+        | inr other ↦ let e : b.id ≢ q = λ h. other.1 (cc) in rw (other.0, ne_eqb b.id q e) (rw other.0 at ih)
+      ])
+      | inr apart ↦ rw apart.0 (elim (eqb_tells b.id q) [
+        | inl here ↦ let e : id ≢ q = λ h. apart.1 (cc) in rw (here.0, ne_eqb id q e) refl
+        | inr there ↦ rw there.0 ih
+      ])
+    ]
+
+pub with-placed : (b : Block) (bs : List Block) (q : ℕ) → AllByRecursion (λ c. c.id ≢ b.id) bs → block_with (placed b bs) q ≡ cond (b.id == q) (Some b) (block_with bs q)
+with-placed b [] q free = refl
+with-placed b (c ∷ cs) q free = elim (cases_lt c.at b.at) [
+  | inr above ↦ rw (le-ltb c.at b.at above) refl
+  | inl below ↦ rw (lt-ltb c.at b.at below) (elim (eqb_tells c.id q) [
+    | inl here ↦ let e : b.id ≢ q = λ h. free.0 (cc) in rw (here.0, ne_eqb b.id q e) refl
+    | inr there ↦ rw there.0 (with-placed b cs q free.1)
+  ])
+]
+
+-- none of the others has its id
+pub others_differ : (id : ℕ) (bs : List Block) → AllByRecursion (λ c. c.id ≢ id) (without id bs)
+others_differ id [] = tt
+others_differ id (b ∷ bs) = elim (eqb_tells b.id id) [
+  | inl same ↦ rw same.0 (others_differ id bs)
+  | inr other ↦ rw other.0 (other.1, others_differ id bs)
+]
+
+pub with-replaced : (b : Block) (bs : List Block) (q : ℕ) → block_with (replaced b bs) q ≡ cond (b.id == q) (Some b) (block_with bs q)
+with-replaced b bs q = with-placed b (without b.id bs) q (others_differ b.id bs) ∙ elim (eqb_tells b.id q) [
+  | inl same ↦ rw same.0 refl
+  | inr other ↦ rw other.0 (with-without b.id bs q ∙ rw other.0 refl)
+]
+
+-- where an id has no block, none is taken away
+pub without_absent : (id : ℕ) (bs : List Block) → block_with bs id ≡ None → without id bs ≡ bs
+without_absent id [] none = refl
+without_absent id (b ∷ bs) none = elim (eqb_tells b.id id) [
+  | inl same ↦ let some : ◌≡◌ {A = Option Block} (Some b) None = rw same.0 at none in cc
+  | inr other ↦ rw other.0 (ap (λ cs. b ∷ cs) (without_absent id bs (rw other.0 at none)))
+]

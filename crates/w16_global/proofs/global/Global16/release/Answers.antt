@@ -1,0 +1,8 @@
+use Rattle.w16_global.proofs.Joining.{released_joined, released_ok}
+use Rattle.w16_global.proofs.global.Global16.release.Goals as goal
+
+pub invariant_of-self-2 : goal.invariant_of-self-2
+invariant_of-self-2 c = released_joined c.self.invariant c.free.new.self c.in_ok-free.ensures.kept c.args.slot c.self.view_is c.requires c.in_ok-free.ensures.ok c.give.new.self c.give.ensures
+
+pub returns-clause-ok : goal.returns-clause-ok
+returns-clause-ok c = released_ok c.self.invariant c.free.new.self c.in_ok-free.ensures.kept c.args.slot c.self.view_is c.requires c.in_ok-free.ensures.ok

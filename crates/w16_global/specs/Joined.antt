@@ -1,0 +1,49 @@
+-- The objects, their attributes and their selectors together, and the world that they stand for.
+use Rattle.std.specs.Prelude.{◌≡◌, ℕ, ◌+◌, ◌-◌, ◌<◌, ◌≤◌, true, List, length, slice_index_or, is_some, IsSomeAnd, Option, Some, None, option_map, unwrap_or}
+use Rattle.std.specs.Ordering.{nat_cmp}
+use Rattle.std.specs.FinMap as finmap
+use Rattle.std.specs.FinMap.{FinMap}
+use Rattle.w16_model.specs.declared.Attributes.{Attributes}
+use Rattle.w16_model.specs.declared.TheConstants.{FIRST_SLOT}
+use Rattle.w16_model.specs.Heap.{Heap, Object, object_at}
+use Rattle.w16_model.specs.Table.{by_id}
+use Rattle.w16_model.specs.World.{World, IsWorld}
+use Rattle.w16_model.specs.Machine.{far_fault, far_slot}
+use Rattle.w16_selectors.specs.Descriptors as selectors
+use Rattle.w16_selectors.specs.Descriptors.{descriptor_at, unset}
+use Rattle.w16_selectors.specs.declared.Descriptor.{Descriptor}
+use Rattle.w16_selectors.specs.declared.SelKind.TheVariants.{Data}
+use Rattle.w16_global.specs.Parts.{Holding, IsInside}
+
+-- the attributes that a list by slot has
+abbrev pub attributes_in : List (Option Attributes) → FinMap nat_cmp Attributes
+attributes_in attributes = finmap.from_entries (by_id (λ _ a. a) 0 attributes)
+
+-- the world that they stand for; an object's id is its slot
+abbrev pub world_of : Holding → List (Option Attributes) → World
+world_of holding attributes = record { slots = holding.cap - FIRST_SLOT; heap = holding.heap; attributes = attributes_in attributes }
+
+-- the descriptor of an object: where it stands, and the offset of its last byte
+abbrev pub descriptor_for : Heap → ℕ → Object → Descriptor
+descriptor_for heap slot o = elim o.bytes [
+  | None ↦ unset
+  | Some bytes ↦ record { base = unwrap_or (finmap.get heap.places slot) 0; limit = length bytes - 1; present = true; kind = Data }
+]
+
+-- what a slot's selector has to say of its object, if it has one
+abbrev pub described : Heap → ℕ → Option Descriptor
+described heap slot = option_map (descriptor_for heap slot) (object_at heap slot)
+
+-- what holds of them: they stand for a world, and each selector says its object's base and limit
+pub record AreJoined (holding : Holding) (attributes : List (Option Attributes)) (table : selectors.Table) : Type 0 where
+  pub world : IsWorld (world_of holding attributes)
+  pub described : (slot : ℕ) → descriptor_at table slot ≡ described holding.heap slot
+  pub attributes_many : length attributes ≡ holding.cap
+  pub selectors_many : length table ≡ holding.cap
+  pub some : FIRST_SLOT ≤ holding.cap
+
+-- A far access without a fault, and where its bytes begin in memory.
+pub record Reaches (world : World) (selector offset n at : ℕ) : Type 0 where
+  pub no_fault : far_fault world selector offset n ≡ None
+  pub inside : IsInside world.heap (far_slot world selector) at n
+  pub place : IsSomeAnd (finmap.get world.heap.places (far_slot world selector)) (λ place. at ≡ place + offset)

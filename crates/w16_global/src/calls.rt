@@ -1,0 +1,253 @@
+//! The calls of programs, as the manual of Windows 3.1 names them.
+ghost use Rattle.std.specs.Prelude.{◌≡◌, ◌+◌, ◌<◌, ℕ, if◌then◌else◌, IfSome, IfNone};
+ghost use Rattle.std.specs.FinMap as finmap;
+ghost use Rattle.w16_model.specs.Heap.{is_discardable};
+ghost use Rattle.w16_model.specs.Machine.{GlobalAllocs, Gives, locks_at, is_shared};
+ghost use Rattle.w16_model.specs.Machine as machine;
+ghost use Rattle.w16_model.specs.World as world;
+ghost use Rattle.w16_model.specs.World.{IsFreeSlot};
+
+use crate::global::Global16;
+use w16_model::{
+    Attributes, Entry, GMEM_DDESHARE, GMEM_DISCARDABLE, GMEM_DISCARDED, GMEM_MOVEABLE,
+    GMEM_ZEROINIT, GRAIN, Kind, LARGEST_SIZE, Refusal,
+};
+
+impl Global16 {
+    /// The slot of the object whose handle this is: a call takes the exact handle.
+    fn slot_of_handle(&self, handle: u16) -> Option<u16>
+        ensures { result ≡ world.slot_of_handle self.now handle }
+    {
+        let slot = handle / 8;
+        let entry = self.objects.entry(slot as u32)?;
+        if handle == handle_of(entry.kind, slot) {
+            Some(slot)
+        } else {
+            None
+        }
+    }
+
+    /// The slot of the object whose selector this is.
+    fn slot_of_selector(&self, selector: u16) -> Option<u16>
+        ensures { result ≡ world.slot_of_selector self.now selector }
+    {
+        match self.selectors.find(selector) {
+            Some(_) => Some(selector / 8),
+            None => None,
+        }
+    }
+
+    /// The lowest slot that no object has.
+    fn free_slot(&self) -> Option<u16>
+        ensures found { IfSome result (λ slot. IsFreeSlot self.now slot) }
+        ensures few { IfSome result (λ slot. slot < 8192) }
+        ensures none { IfNone result ((slot : ℕ) → IsFreeSlot self.now slot → ⊥) }
+    {
+        self.selectors.find_run(1)
+    }
+
+    /// The lock count of a slot's object.
+    fn locks(&self, slot: u16) -> u8
+        ensures { result ≡ locks_at self.now.heap slot }
+    {
+        match self.objects.entry(slot as u32) {
+            Some(entry) => entry.locks,
+            None => 0,
+        }
+    }
+
+    /// The attributes of a slot's object.
+    fn attributes_of(&self, slot: u16) -> Option<Attributes>
+        ensures { result ≡ finmap.get self.now.attributes slot }
+    {
+        match self.attributes.get(slot as usize) {
+            Some(attributes) => *attributes,
+            None => None,
+        }
+    }
+
+    /// Whether other tasks share a slot's object.
+    fn is_shared(&self, slot: u16) -> bool
+        ensures { result ≡ is_shared self.now slot }
+    {
+        match self.attributes_of(slot) {
+            Some(attributes) => attributes.shared,
+            None => false,
+        }
+    }
+
+    /// `GlobalAlloc`: a new object's handle, or 0: for a fixed object of size 0, a size over 65,536 bytes, where no slot is free, and where no
+    /// hole is long enough. The size is rounded up to 32 bytes; a moveable object of size 0 has no bytes. Of the flags `GMEM_MOVEABLE`,
+    /// `GMEM_ZEROINIT` and `GMEM_DDESHARE` count so far.
+    pub fn global_alloc(&mut self, flags: u16, size: u32) -> u16
+        ensures { GlobalAllocs self.old flags size result self.new }
+    {
+        if size > LARGEST_SIZE {
+            return 0;
+        }
+        let Some(slot) = self.free_slot() else {
+            return 0;
+        };
+        let kind = kind_asked(flags);
+        let attributes = Attributes {
+            shared: flags & GMEM_DDESHARE != 0,
+        };
+        if size == 0 {
+            if flags & GMEM_MOVEABLE == 0 {
+                return 0;
+            }
+            self.enter(slot, kind, attributes);
+            return handle_of(kind, slot);
+        }
+        let zero = flags & GMEM_ZEROINIT != 0;
+        if self.allocate(slot, size.div_ceil(GRAIN) * GRAIN, kind, zero, attributes) {
+            handle_of(kind, slot)
+        } else {
+            0
+        }
+    }
+
+    /// `GlobalFree`: 0, or the handle where it is bad or the object locked.
+    pub fn global_free(&mut self, handle: u16) -> u16
+        ensures { Gives (machine.global_free self.old handle) (machine.Reply.Word result) self.new }
+    {
+        let Some(slot) = self.slot_of_handle(handle) else {
+            return handle;
+        };
+        match self.release(slot) {
+            Ok(()) => 0,
+            Err(_) => handle,
+        }
+    }
+
+    /// `GlobalLock`: a far pointer to the object's first byte, or 0 for a bad handle, an absent object and a count of 255 locks. A fixed object
+    /// counts none.
+    pub fn global_lock(&mut self, handle: u16) -> u32
+        ensures { Gives (machine.global_lock self.old handle) (machine.Reply.Dword result) self.new }
+    {
+        let Some(slot) = self.slot_of_handle(handle) else {
+            return 0;
+        };
+        match self.lock(slot) {
+            Ok(()) | Err(Refusal::Fixed) => far_pointer(slot),
+            Err(_) => 0,
+        }
+    }
+
+    /// `GlobalUnlock`: 1 where locks are left, else 0, also for a fixed object and a bad handle.
+    pub fn global_unlock(&mut self, handle: u16) -> u16
+        ensures { Gives (machine.global_unlock self.old handle) (machine.Reply.Word result) self.new }
+    {
+        let Some(slot) = self.slot_of_handle(handle) else {
+            return 0;
+        };
+        match self.unlock(slot) {
+            Ok(()) => (self.locks(slot) > 0) as u16,
+            Err(_) => 0,
+        }
+    }
+
+    /// `GlobalSize`: the object's size in bytes; 0 for a bad handle or an absent object.
+    pub fn global_size(&self, handle: u16) -> u32
+        ensures { result ≡ machine.global_size self.now handle }
+    {
+        let Some(slot) = self.slot_of_handle(handle) else {
+            return 0;
+        };
+        self.objects.size(slot as u32).unwrap_or(0)
+    }
+
+    /// `GlobalFlags`: the lock count in the low byte, and the bits `GMEM_DISCARDABLE`, `GMEM_DDESHARE` and `GMEM_DISCARDED`, the last for an
+    /// absent object; 0 for a bad handle.
+    pub fn global_flags(&self, handle: u16) -> u16
+        ensures { result ≡ machine.global_flags self.now handle }
+    {
+        let Some(slot) = self.slot_of_handle(handle) else {
+            return 0;
+        };
+        let Some(entry) = self.objects.entry(slot as u32) else {
+            return 0;
+        };
+        let absent = self.objects.size(slot as u32).is_none();
+        flags_of(entry, self.is_shared(slot), absent)
+    }
+
+    /// `GlobalHandle`: the selector in the high word and its object's handle in the low word; 0 where there is none.
+    pub fn global_handle(&self, selector: u16) -> u32
+        ensures { result ≡ machine.global_handle self.now selector }
+    {
+        let Some(slot) = self.slot_of_selector(selector) else {
+            return 0;
+        };
+        match self.objects.entry(slot as u32) {
+            Some(entry) => selector as u32 * 65_536 + handle_of(entry.kind, slot) as u32,
+            None => 0,
+        }
+    }
+
+    /// `GetSelectorBase`: the address of the selector's object; 0 where it is absent or there is none.
+    pub fn get_selector_base(&self, selector: u16) -> u32
+        ensures { result ≡ machine.selector_base self.now selector }
+    {
+        match self.selectors.find(selector) {
+            Some(descriptor) => descriptor.base,
+            None => 0,
+        }
+    }
+
+    /// `GetSelectorLimit`: the offset of the last byte of the selector's object; 0 where it is absent or there is none.
+    pub fn get_selector_limit(&self, selector: u16) -> u32
+        ensures { result ≡ machine.selector_limit self.now selector }
+    {
+        match self.selectors.find(selector) {
+            Some(descriptor) => descriptor.limit,
+            None => 0,
+        }
+    }
+}
+
+/// The kind of object that flags ask for.
+fn kind_asked(flags: u16) -> Kind
+    ensures { result ≡ machine.kind_asked flags }
+{
+    if flags & GMEM_MOVEABLE != 0 {
+        Kind::Moveable
+    } else {
+        Kind::Fixed
+    }
+}
+
+/// The handle of an object in a slot.
+fn handle_of(kind: Kind, slot: u16) -> u16
+    requires { slot < 8192 }
+    ensures { result ≡ world.handle_of kind slot }
+{
+    let selector = slot * 8 + 7;
+    match kind {
+        Kind::Fixed => selector,
+        Kind::Moveable | Kind::Discardable => selector - 1,
+    }
+}
+
+/// A far pointer to the first byte of a slot's object.
+fn far_pointer(slot: u16) -> u32
+    requires { slot < 8192 }
+    ensures { result ≡ world.far_pointer (world.selector_of slot) 0 }
+{
+    (slot as u32 * 8 + 7) * 65_536
+}
+
+/// A bit, where it is set.
+fn bit_if(set: bool, bit: u16) -> u16
+    ensures { result ≡ if set then bit else 0 }
+{
+    if set { bit } else { 0 }
+}
+
+/// What `GlobalFlags` says of an object.
+fn flags_of(entry: Entry, shared: bool, absent: bool) -> u16
+    ensures { result ≡ entry.locks + (if is_discardable entry.kind then 256 else 0) + (if shared then 8192 else 0) + (if absent then 16384 else 0) }
+{
+    let discardable = bit_if(entry.kind == Kind::Discardable, GMEM_DISCARDABLE);
+    entry.locks as u16 + discardable + bit_if(shared, GMEM_DDESHARE) + bit_if(absent, GMEM_DISCARDED)
+}

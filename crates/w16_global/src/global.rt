@@ -1,0 +1,129 @@
+//! The global heap's state, and the steps that its calls are made of.
+ghost use Rattle.std.specs.Prelude.{◌≡◌, ◌≤◌, ◌<◌, IfOk, IfErr, OnOk, IsSome, Ok, Err, false, true, if◌then◌else◌};
+ghost use Rattle.std.specs.FinMap as finmap;
+ghost use Rattle.w16_model.specs.Heap.{Heap, object_at, is_discardable, IsMultiple};
+ghost use Rattle.w16_model.specs.Edit.{removed};
+ghost use Rattle.w16_model.specs.Request.{Allocates};
+ghost use Rattle.w16_model.specs.Single.{Enters, after_lock, after_unlock, after_free};
+ghost use Rattle.w16_model.specs.World.{IsFreeSlot, empty_world};
+
+use crate::objects::Objects;
+use std::alloc::{AllocError, Global};
+use std::marker::Model;
+use w16_model::{Attributes, FIRST_SLOT, GRAIN, Kind, MOST_SLOTS, Refusal};
+use w16_selectors::{Descriptor, SelKind, Selectors};
+
+/// The global heap: objects that are named by handles, and whose bytes are reached through selectors. Its value is the world of handles.
+#[derive(Drop)]
+pub struct Global16 {
+    pub(crate) objects: Objects,
+    /// By slot.
+    pub(crate) attributes: Vec<Option<Attributes>>,
+    pub(crate) selectors: Selectors,
+}
+
+impl Model for Global16 {
+    ghost use Rattle.w16_model.specs.World.{World};
+    ghost use Rattle.w16_model.specs.Code.{world_code};
+    ghost use Rattle.w16_global.specs.Joined.{world_of, AreJoined};
+
+    ghost Value = { World };
+
+    ghost coded = { world_code };
+
+    ghost view = { λ g. world_of g.objects g.attributes.items };
+
+    ghost invariant = { λ g. AreJoined g.objects g.attributes.items g.selectors };
+}
+
+impl Global16 {
+    /// A heap over `memory` bytes, a multiple of 32, with so many selectors, at most 8,160, in which nothing is allocated. It takes all its
+    /// memory here; an error is that there was none.
+    pub fn new(alloc: Global, memory: u32, slots: u32) -> Result<Global16, AllocError>
+        requires { slots ≤ MOST_SLOTS }
+        ensures { IfOk result (λ made. made ≡ empty_world memory slots) }
+    {
+        let cap = FIRST_SLOT + slots;
+        let objects = Objects::new(alloc, cap, memory)?;
+        let attributes = vec![in alloc; None; cap as usize]?;
+        let selectors = Selectors::with_room(alloc, slots)?;
+        Ok(Global16 {
+            objects,
+            attributes,
+            selectors,
+        })
+    }
+
+    /// A new object without bytes in a free slot.
+    pub(crate) fn enter(&mut self, slot: u16, kind: Kind, attributes: Attributes)
+        requires free { IsFreeSlot self.old slot }
+        requires kind { is_discardable kind ≡ false }
+        ensures entered { Enters self.old.heap slot kind self.new.heap }
+        ensures rest { self.new ≡ record self.old { heap = self.new.heap; attributes = finmap.insert self.old.attributes slot attributes } }
+    {
+        self.objects.enter(slot as u32, kind);
+        self.attributes[slot as usize] = Some(attributes);
+        self.selectors.take(slot);
+    }
+
+    /// A new object in a free slot, of so many bytes, a multiple of the grain, in the first hole that is long enough, if there is one.
+    pub(crate) fn allocate(
+        &mut self,
+        slot: u16,
+        size: u32,
+        kind: Kind,
+        zero: bool,
+        attributes: Attributes,
+    ) -> bool
+        requires free { IsFreeSlot self.old slot }
+        requires some { 0 < size }
+        requires rounded { IsMultiple GRAIN size }
+        requires kind { is_discardable kind ≡ false }
+        ensures allocated { Allocates self.old.heap slot size kind 0 (record { compact = false; discard = false; zero = zero; may_move = false }) result self.new.heap }
+        ensures rest { self.new ≡ record self.old { heap = self.new.heap; attributes = if result then finmap.insert self.old.attributes slot attributes else self.old.attributes } }
+    {
+        let Some(base) = self.objects.alloc(slot as u32, size, kind, zero) else {
+            return false;
+        };
+        self.attributes[slot as usize] = Some(attributes);
+        self.selectors.take(slot);
+        self.selectors.set(
+            slot,
+            Descriptor {
+                base,
+                limit: size - 1,
+                present: true,
+                kind: SelKind::Data,
+            },
+        );
+        true
+    }
+
+    /// Frees an object that isn't locked.
+    pub(crate) fn release(&mut self, slot: u16) -> Result<(), Refusal>
+        requires { IsSome (object_at self.old.heap slot) }
+        ensures ok { OnOk result ((after_free self.old.heap slot ≡ Ok self.new.heap) × (self.new ≡ record self.old { heap = self.new.heap; attributes = finmap.remove self.old.attributes slot })) }
+        ensures err { IfErr result (λ refusal. (after_free self.old.heap slot ≡ Err refusal) × (self.new ≡ self.old)) }
+    {
+        self.objects.free(slot as u32)?;
+        self.attributes[slot as usize] = None;
+        self.selectors.give(slot);
+        Ok(())
+    }
+
+    /// One lock more.
+    pub(crate) fn lock(&mut self, slot: u16) -> Result<(), Refusal>
+        ensures ok { OnOk result ((after_lock self.old.heap slot ≡ Ok self.new.heap) × (self.new ≡ record self.old { heap = self.new.heap })) }
+        ensures err { IfErr result (λ refusal. (after_lock self.old.heap slot ≡ Err refusal) × (self.new ≡ self.old)) }
+    {
+        self.objects.lock(slot as u32)
+    }
+
+    /// One lock less.
+    pub(crate) fn unlock(&mut self, slot: u16) -> Result<(), Refusal>
+        ensures ok { OnOk result ((after_unlock self.old.heap slot ≡ Ok self.new.heap) × (self.new ≡ record self.old { heap = self.new.heap })) }
+        ensures err { IfErr result (λ refusal. (after_unlock self.old.heap slot ≡ Err refusal) × (self.new ≡ self.old)) }
+    {
+        self.objects.unlock(slot as u32)
+    }
+}

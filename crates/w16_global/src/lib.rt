@@ -1,0 +1,10 @@
+//! The global heap of Windows 3.1: objects by handle and by selector in one memory. No call but the constructor takes memory.
+#![tactic(auto)]
+
+mod calls;
+mod far;
+mod global;
+mod objects;
+
+pub use global::Global16;
+pub use w16_model::FarFault;

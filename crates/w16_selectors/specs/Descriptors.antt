@@ -1,0 +1,46 @@
+-- Descriptors by slot, and what a far access finds by them.
+use Rattle.std.specs.Prelude.{◌≡◌, ℕ, ◌+◌, ◌/◌, ◌%◌, ◌<◌, ◌≤◌, Bool, false, true, not, ◌&&◌, ◌==◌, if◌then◌else◌, nat_lt, List, length, slice_index_or, Option, Some, None, Result, Ok, Err}
+use Rattle.w16_model.specs.declared.FarFault.{FarFault}
+use Rattle.w16_model.specs.declared.FarFault.TheVariants.{BadSelector, ReadOnly, NotPresent, Limit}
+use Rattle.w16_model.specs.declared.TheConstants.{FIRST_SLOT}
+use Rattle.w16_selectors.specs.declared.SelKind.{SelKind}
+use Rattle.w16_selectors.specs.declared.SelKind.TheVariants.{Data, Code}
+use Rattle.w16_selectors.specs.declared.Descriptor.{Descriptor}
+
+-- the descriptors by slot, none where the slot isn't taken
+abbrev pub Table : Type 0
+Table = List (Option Descriptor)
+
+abbrev pub descriptor_at : Table → ℕ → Option Descriptor
+descriptor_at table slot = slice_index_or table slot None
+
+-- a slot that isn't taken; slots are numbered from the first one on
+abbrev pub IsFree : Table → ℕ → Type 0
+IsFree table slot = (FIRST_SLOT ≤ slot) × (slot < length table) × (descriptor_at table slot ≡ None)
+
+-- so many slots in a row that aren't taken
+abbrev pub IsFreeRun : Table → ℕ → ℕ → Type 0
+IsFreeRun table first count = (k : ℕ) → k < count → IsFree table (first + k)
+
+-- a slot's descriptor before its segment has bytes
+abbrev pub unset : Descriptor
+unset = record { base = 0; limit = 0; present = false; kind = Data }
+
+-- the descriptor that a selector names: its low three bits are set, and the rest is a slot that is taken
+abbrev pub descriptor_of : Table → ℕ → Option Descriptor
+descriptor_of table selector = if selector % 8 == 7 then descriptor_at table (selector / 8) else None
+
+abbrev pub is_code : SelKind → Bool
+is_code Data = false
+is_code Code = true
+
+-- Where an access to n bytes at selector:offset begins in memory, or its first fault: a bad selector, a write to code, a segment without
+-- bytes, bytes past the limit, which is the offset of the segment's last byte.
+abbrev pub place_of : Table → ℕ → ℕ → ℕ → Bool → Result ℕ FarFault
+place_of table selector offset n write = elim (descriptor_of table selector) [
+  | None ↦ Err BadSelector
+  | Some d ↦ if write && is_code d.kind then Err ReadOnly
+      else (if not d.present then Err NotPresent
+      else (if nat_lt (d.limit + 1) (offset + n) then Err Limit
+      else Ok (d.base + offset)))
+]

@@ -1,0 +1,193 @@
+//! The descriptors behind selectors: a table from slots to segments of memory, and where a far access finds its bytes. It knows nothing of
+//! objects. No call but the constructor takes memory.
+#![tactic(auto)]
+
+ghost use Rattle.std.specs.Prelude.{◌≡◌, ◌+◌, ◌^◌, ◌<◌, ◌≤◌, ℕ, length, IfOk, OnOk, IfSome, IfNone, IsSome, Some, None, replicate, slice_set};
+ghost use Rattle.memchr.specs.Find.{IsFirst};
+ghost use Rattle.w16_selectors.specs.Descriptors.{descriptor_at, descriptor_of, IsFree, IsFreeRun, unset, place_of};
+
+#[cfg(test)]
+mod tests;
+
+use memchr::memchr;
+use std::alloc::{AllocError, Global};
+use std::marker::Model;
+pub use w16_model::FarFault;
+use w16_model::{FIRST_SLOT, MOST_SLOTS};
+
+/// The mark of a slot that isn't taken.
+const FREE: u8 = 0;
+
+/// The mark of a slot that is.
+const TAKEN: u8 = 1;
+
+/// A slot's descriptor before its segment has bytes.
+const UNSET: Descriptor = Descriptor {
+    base: 0,
+    limit: 0,
+    present: false,
+    kind: SelKind::Data,
+};
+
+/// What a segment holds. Code can't be written through its selector.
+#[derive(Clone, Copy, Debug, PartialEq, Eq)]
+pub enum SelKind {
+    Data,
+    Code,
+}
+
+/// What is behind a selector: the base, where its segment begins in memory, and the limit, the offset of the segment's last byte, both in
+/// bytes. A segment that isn't present has no bytes.
+#[derive(Clone, Copy, Debug, PartialEq, Eq)]
+pub struct Descriptor {
+    pub base: u32,
+    pub limit: u32,
+    pub present: bool,
+    pub kind: SelKind,
+}
+
+/// Descriptors by slot. Its value is the list of them, none where a slot isn't taken; slots below 32 never are.
+#[derive(Drop)]
+pub struct Selectors {
+    descriptors: Vec<Option<Descriptor>>,
+    marks: Vec<u8>,
+}
+
+impl Model for Selectors {
+    ghost use Rattle.w16_selectors.specs.Descriptors.{Table};
+    ghost use Rattle.w16_selectors.specs.Kept.{IsKept};
+
+    ghost Value = { Table };
+
+    ghost view = { λ s. s.descriptors.items };
+
+    ghost invariant = { λ s. IsKept s.descriptors.items s.marks.items };
+}
+
+impl Selectors {
+    /// So many slots from slot 32 on, at most 8,160, none of them taken. An error is that memory ran out.
+    pub fn with_room(alloc: Global, slots: u32) -> Result<Selectors, AllocError>
+        requires { slots ≤ MOST_SLOTS }
+        ensures { IfOk result (λ made. made ≡ replicate (FIRST_SLOT + slots) None) }
+    {
+        let count = (FIRST_SLOT + slots) as usize;
+        let descriptors = vec![in alloc; None; count]?;
+        let marks = vec![in alloc; FREE; count]?;
+        Ok(Selectors { descriptors, marks })
+    }
+
+    /// The first slot of the lowest run of `count` free slots, none where no run is so long. It goes over the slots once.
+    pub fn find_run(&self, count: u32) -> Option<u16>
+        requires { 0 < count }
+        ensures found { IfSome result (λ first. IsFreeRun self.now first count) }
+        ensures lowest { IfSome result (λ first. (lower : ℕ) → lower < first → IsFreeRun self.now lower count → ⊥) }
+        ensures none { IfNone result ((first : ℕ) → IsFreeRun self.now first count → ⊥) }
+        ensures few { IfSome result (λ first. first + count ≤ 8192) }
+    {
+        let slots = self.descriptors.len();
+        let wanted = count as usize;
+        let mut from = FIRST_SLOT as usize;
+        while let Some(first) = self.next_free(from) {
+            if slots - first < wanted {
+                return None;
+            }
+            // Marks behind the run don't matter. For a run of one slot there is none to read.
+            match self.next_taken(first + 1, first + wanted) {
+                Some(taken) => from = taken + 1,
+                None => return Some(first as u16),
+            }
+        }
+        None
+    }
+
+    // The first free slot from a slot on.
+    fn next_free(&self, from: usize) -> Option<usize>
+        requires first { FIRST_SLOT ≤ from }
+        requires inside { from ≤ length self.now }
+        ensures { IsFirst (IsFree self.now) from (length self.now) result }
+    {
+        let behind = memchr(FREE, &self.marks[from..])?;
+        Some(from + behind)
+    }
+
+    // The first taken slot from a slot up to another.
+    fn next_taken(&self, from: usize, to: usize) -> Option<usize>
+        requires order { from ≤ to }
+        requires inside { to ≤ length self.now }
+        ensures { IsFirst (λ slot. IsSome (descriptor_at self.now slot)) from to result }
+    {
+        let behind = memchr(TAKEN, &self.marks[from..to])?;
+        Some(from + behind)
+    }
+
+    /// Takes a free slot. Its segment has no bytes yet: its descriptor isn't present.
+    pub fn take(&mut self, slot: u16)
+        requires { IsFree self.old slot }
+        ensures { self.new ≡ slice_set self.old slot (Some unset) }
+    {
+        self.descriptors[slot as usize] = Some(UNSET);
+        self.marks[slot as usize] = TAKEN;
+    }
+
+    /// Gives a taken slot back: it is free again.
+    pub fn give(&mut self, slot: u16)
+        requires { IsSome (descriptor_at self.old slot) }
+        ensures { self.new ≡ slice_set self.old slot None }
+    {
+        self.descriptors[slot as usize] = None;
+        self.marks[slot as usize] = FREE;
+    }
+
+    /// Gives a taken slot another descriptor. Its segment must end where an address of 32 bits can reach.
+    pub fn set(&mut self, slot: u16, descriptor: Descriptor)
+        requires taken { IsSome (descriptor_at self.old slot) }
+        requires inside { descriptor.base + descriptor.limit + 1 < 2 ^ 32 }
+        ensures { self.new ≡ slice_set self.old slot (Some descriptor) }
+    {
+        self.descriptors[slot as usize] = Some(descriptor);
+    }
+
+    /// The descriptor that a selector names, none where its low three bits aren't set or its slot isn't taken.
+    pub fn find(&self, selector: u16) -> Option<Descriptor>
+        ensures value { result ≡ descriptor_of self.now selector }
+        ensures inside { IfSome result (λ descriptor. descriptor.base + descriptor.limit + 1 < 2 ^ 32) }
+    {
+        if selector % 8 != 7 {
+            return None;
+        }
+        self.descriptors
+            .get((selector / 8) as usize)
+            .copied()
+            .flatten()
+    }
+
+    /// The address of an access to `n` bytes at selector:offset. It tells the first fault of these: `BadSelector` where the selector names
+    /// no descriptor, `ReadOnly` at a write to code, `NotPresent` where the segment has no bytes, `Limit` where a byte is past its limit.
+    pub fn resolve(&self, selector: u16, offset: u16, n: u32, write: bool) -> Result<u32, FarFault>
+        ensures value { result ≡ place_of self.now selector offset n write }
+        ensures inside { IfOk result (λ at. at + n < 2 ^ 32) }
+        ensures below { OnOk result (IfSome (descriptor_of self.now selector) (λ descriptor. descriptor.base + descriptor.limit + 1 < 2 ^ 32)) }
+    {
+        let Some(descriptor) = self.find(selector) else {
+            return Err(FarFault::BadSelector);
+        };
+        if write && descriptor.kind == SelKind::Code {
+            return Err(FarFault::ReadOnly);
+        }
+        if !descriptor.present {
+            return Err(FarFault::NotPresent);
+        }
+        // In 64 bits neither sum wraps.
+        if offset as u64 + n as u64 > descriptor.limit as u64 + 1 {
+            return Err(FarFault::Limit);
+        }
+        Ok(descriptor.base + offset as u32)
+    }
+
+    /// How many slots there are, with the first 32, which are never taken.
+    pub fn len(&self) -> usize
+        ensures { result ≡ length self.now }
+    {
+        self.descriptors.len()
+    }
+}
