@@ -8,3 +8,6 @@ mod objects;
 
 pub use global::Global16;
 pub use w16_model::FarFault;
+
+#[cfg(test)]
+mod tests;

@@ -1,6 +1,6 @@
 //! The machine's state, and its steps.
-ghost use Rattle.std.specs.Prelude.{◌≡◌, ◌≤◌, List, map, All, IfOk, IsOk, OnErr};
-ghost use Rattle.w16_model.specs.World.{World, empty_world};
+ghost use Rattle.std.specs.Prelude.{◌≡◌, ◌≤◌, List, length, map, replicate, All, IfOk, IsOk, OnErr};
+ghost use Rattle.w16_model.specs.World.{World, empty_world, selector_in, offset_in};
 ghost use Rattle.w16_model.specs.Machine.{Step, Gives, far_read, far_write};
 ghost use Rattle.w16_kernel.specs.Runs.{command_of, reply_of, IsCall, Event, Run};
 
@@ -29,9 +29,6 @@ impl Model for Kernel {
 }
 
 impl Kernel {
-    ghost use Rattle.w16_model.specs.World.{selector_in, offset_in};
-    ghost use Rattle.std.specs.Prelude.{replicate};
-
     /// A machine over `memory` bytes and so many selectors, at most 8,160, in which nothing is allocated. It takes all its memory here.
     pub fn new(alloc: Global, memory: u32, slots: u32) -> Result<Kernel, AllocError>
         requires { slots ≤ MOST_SLOTS }
@@ -124,7 +121,7 @@ fn selector_of(pointer: u32) -> u16
 fn offset_of(pointer: u32) -> u16
     ensures { result ≡ offset_in pointer }
 {
-    pointer as u16
+    (pointer % 65_536) as u16
 }
 
 /// Bytes in place, of which there are at most 1,024.

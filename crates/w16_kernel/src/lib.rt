@@ -3,7 +3,6 @@
 
 mod call;
 
-
 mod kernel;
 
 pub use call::{Call, Chunk, Reply};

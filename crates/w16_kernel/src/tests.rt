@@ -112,7 +112,7 @@ fn counts_255_locks(rt: HostRuntime) -> Result<(), Fail> {
 #[test]
 fn refuses_what_has_no_room(rt: HostRuntime) -> Result<(), Fail> {
     let mut kernel = small(rt.alloc())?;
-    assert_eq!(rt; allocated(&mut kernel, 2, 0), Some(0));
+    assert_eq!(rt; allocated(&mut kernel, 0, 0), Some(0));
     assert_eq!(rt; allocated(&mut kernel, 2, 65_537), Some(0));
     assert_eq!(rt; allocated(&mut kernel, 2, 4097), Some(0));
     assert_eq!(rt; allocated(&mut kernel, 2, 4065), Some(0x106));

@@ -93,12 +93,80 @@ pub fn of_memory() -> [Row; 4] {
             selectors: 1,
             ..small(
                 "one selector",
-                b"GlobalAlloc 2 0\nGlobalAlloc 2 65537\nGlobalAlloc 2 32\nGlobalAlloc 2 32\nGlobalFree 0x106\nGlobalAlloc 0 32\n",
+                b"GlobalAlloc 0 0\nGlobalAlloc 2 65537\nGlobalAlloc 2 32\nGlobalAlloc 2 32\nGlobalFree 0x106\nGlobalAlloc 0 32\n",
                 b"0000\n0000\n0106\n0000\n0000\n0107\n",
                 6,
                 6,
             )
         },
+    ]
+}
+
+/// Rows on what objects and selectors are asked.
+pub fn of_questions() -> [Row; 5] {
+    [
+        small(
+            "a moveable object is asked for",
+            b"r0 = GlobalAlloc 0x42 100\nGlobalSize r0\nr1 = GlobalLock r0\nGlobalFlags r0\nRead r1 4\nGlobalUnlock r0\n",
+            b"0106\n00000080\n01070000\n0001\nbytes 00000000\n0000\n",
+            6,
+            6,
+        ),
+        small(
+            "a fixed object is asked for",
+            b"GlobalAlloc 0x40 1\nGlobalHandle 0x107\nGlobalSize 0x107\nGlobalLock 0x107\nGlobalFlags 0x107\n",
+            b"0107\n01070107\n00000020\n01070000\n0000\n",
+            5,
+            5,
+        ),
+        small(
+            "an absent object",
+            b"GlobalAlloc 2 0\nGlobalFlags 0x106\nGlobalLock 0x106\nRead 0x01070000 0\nGetSelectorLimit 0x107\nGlobalHandle 0x107\nGlobalFree 0x106\n",
+            b"0106\n4000\n00000000\nfault notpresent\n00000000\n01070106\n0000\n",
+            7,
+            7,
+        ),
+        small(
+            "shared objects and their selectors",
+            b"GlobalAlloc 0x2000 32\nGlobalAlloc 0x2002 100\nGlobalAlloc 2 1\nGlobalFlags 0x107\nGlobalFlags 0x10e\nGlobalFlags 0x116\nGetSelectorBase 0x10f\nGetSelectorLimit 0x10f\nGetSelectorBase 0x117\nGetSelectorBase 0x10e\nGlobalHandle 0x10e\nGlobalSize 0x10f\nGlobalFlags 0x11e\n",
+            b"0107\n010e\n0116\n2000\n2000\n0000\n00000020\n0000007f\n000000a0\n00000000\n00000000\n00000000\n0000\n",
+            13,
+            13,
+        ),
+        small(
+            "bytes that are filled",
+            b"GlobalAlloc 0x42 64\nFill 0x01070002 4 255\nRead 0x01070000 8\nFill 0x01070000 64 0x5a\nRead 0x0107003e 2\nFill 0x01070000 65 0\nFill 0x01070040 0 0\nFill 0x01070000 65537 0\nFill 0x01070000 1 256\nFill 0 0 0\n",
+            b"0106\nok\nbytes 0000ffffffff0000\nok\nbytes 5a5a\nfault limit\nok\nerror syntax\nerror syntax\nfault selector\n",
+            10,
+            10,
+        ),
+    ]
+}
+
+/// Rows on registers.
+pub fn of_registers() -> [Row; 3] {
+    [
+        small(
+            "one object's life by registers",
+            b"r0 = GlobalAlloc 0x42 100\nr1 = GlobalLock r0\nWrite r1+2 4e45\nRead r1 4\nRead r1+2 2\nGlobalUnlock r0\nGlobalFree r0\n",
+            b"0106\n01070000\nok\nbytes 00004e45\nbytes 4e45\n0000\n0000\n",
+            7,
+            7,
+        ),
+        small(
+            "what registers keep",
+            b"GlobalFree r1\nr1 = GlobalAlloc 0x42 32\nr1 = GlobalAlloc 0x42 32\nr99 = GlobalLock r1\nr1 = Read r99 1\nr1 = Read r99+32 1\nr1 = Write r99 00\nr1 = Frob\nr1 = GlobalFree\n; r1 = GlobalFree r1\nGlobalFree r99.hi\nGlobalAlloc r99.lo 1\nr1 = GlobalUnlock r1\nGlobalFree r1+0x10e\nRead r1 1",
+            b"0000\n0106\n010e\n010f0000\nbytes 00\nfault limit\nok\nerror syntax\nerror syntax\n010f\n0117\n0000\n0000\nfault selector\n",
+            15,
+            14,
+        ),
+        small(
+            "registers out of place",
+            b"r1 = GlobalAlloc 0x42 32\nr2 = GlobalLock r1\nRead r2 r1\nRead r2 r2\nGlobalFree r2\nRead r2+0xffffffff 1\nRead r2.lo+1 0\nRead r100 0\nRead r07 0\nr100 = GlobalFree r1\nr07 = GlobalFree r1\nr1=GlobalFree r1\nr1 =\nGlobalUnlock r1\nGlobalFree r1\n",
+            b"0106\n01070000\nfault limit\nerror syntax\nerror syntax\nerror syntax\nerror syntax\nerror syntax\nerror syntax\nerror syntax\nerror syntax\nerror syntax\nerror syntax\n0000\n0000\n",
+            15,
+            15,
+        ),
     ]
 }
 

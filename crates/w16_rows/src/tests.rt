@@ -2,7 +2,7 @@ ghost use Rattle.std.specs.Prelude.{All};
 ghost use Rattle.w16_kernel.specs.Runs.{IsCall};
 
 use crate::hosts::{Broken, Endless, Short};
-use crate::rows::{LIFE, LIFE_OUTPUT, Row, of_lines, of_memory, of_objects};
+use crate::rows::{LIFE, LIFE_OUTPUT, Row, of_lines, of_memory, of_objects, of_questions, of_registers};
 use arrayvec::ArrayVec;
 use std::alloc::{AllocError, Global};
 use std::process::Abort;
@@ -67,6 +67,57 @@ fn memory_is_answered_for(rt: HostRuntime) -> Result<(), Fail> {
 #[test]
 fn objects_are_answered_for(rt: HostRuntime) -> Result<(), Fail> {
     for row in of_objects() {
+        expect_answered(&rt, &row)?;
+    }
+    Ok(())
+}
+
+#[test]
+fn questions_are_answered(rt: HostRuntime) -> Result<(), Fail> {
+    for row in of_questions() {
+        expect_answered(&rt, &row)?;
+    }
+    Ok(())
+}
+
+/// A text, so many times.
+fn append_times(text: &mut Vec<u8>, part: &[u8], times: u32) -> Result<(), AllocError> {
+    for _ in 0..times {
+        text.extend_from_slice(part)?;
+    }
+    Ok(())
+}
+
+#[test]
+fn locks_up_to_the_full_count(rt: HostRuntime) -> Result<(), Fail> {
+    let mut script = Vec::new(rt.alloc());
+    let mut wanted = Vec::new(rt.alloc());
+    append_times(&mut script, b"GlobalAlloc 2 32\n", 1)?;
+    append_times(&mut script, b"GlobalLock 0x106\n", 256)?;
+    append_times(&mut script, b"GlobalFlags 0x106\nGlobalFree 0x106\n", 1)?;
+    append_times(&mut script, b"GlobalUnlock 0x106\n", 256)?;
+    append_times(&mut script, b"GlobalFree 0x106\n", 1)?;
+    append_times(&mut wanted, b"0106\n", 1)?;
+    append_times(&mut wanted, b"01070000\n", 255)?;
+    append_times(&mut wanted, b"00000000\n00ff\n0106\n", 1)?;
+    append_times(&mut wanted, b"0001\n", 254)?;
+    append_times(&mut wanted, b"0000\n", 3)?;
+    let mut kernel = Kernel::new(rt.alloc(), 4096, 16)?;
+    let mut output = Vec::new(rt.alloc());
+    let ended = run(
+        rt.alloc(),
+        &mut script.as_slice(),
+        &mut output,
+        &mut kernel,
+    );
+    assert!(rt; ended.is_ok());
+    assert_eq!(rt; output.as_slice(), wanted.as_slice());
+    Ok(())
+}
+
+#[test]
+fn registers_are_answered_for(rt: HostRuntime) -> Result<(), Fail> {
+    for row in of_registers() {
         expect_answered(&rt, &row)?;
     }
     Ok(())

@@ -6,9 +6,9 @@ use Rattle.std.proofs.KnownBytes.{Keeps-refl}
 use Rattle.std.proofs.lemmas.List.{map-append}
 use Rattle.std.proofs.lemmas.List.Sums.{sum_by-append}
 use Rattle.std.proofs.lemmas.Grind.{flat_map-append}
-use Rattle.w16_model.specs.World.{World}
 use Rattle.w16_script.specs.declared.outcome.RunFault.{RunFault}
 use Rattle.w16_script.specs.declared.outcome.RunFault.TheVariants.{Read, Write, Memory, TooLong}
+use Rattle.w16_script.specs.State.{State}
 use Rattle.w16_script.specs.Output.{RunsLines, has_reply}
 use Rattle.w16_script.specs.Text.{ended, HasNoLf, IsRaw, without_cr}
 use Rattle.w16_script.specs.Progress.{Progress, with_bytes, IsWithinLimits, IsOver, Overflows}
@@ -38,7 +38,7 @@ joined before front back mid after raw more p q =
 -- What is fed.
 
 -- bytes, and then further bytes
-pub Feeds-trans : (a b c : Option (List ℕ)) (s t u : Progress) (v w x : World) (front back : List ℕ)
+pub Feeds-trans : (a b c : Option (List ℕ)) (s t u : Progress) (v w x : State) (front back : List ℕ)
     → Feeds a s v front b t w → Feeds b t w back c u x → Feeds a s v (front ++ back) c u x
 Feeds-trans a b c s t u v w x front back p q = record {
   raw = p.raw ++ q.raw;
@@ -51,19 +51,20 @@ Feeds-trans a b c s t u v w x front back p q = record {
 }
 
 -- bytes of one line
-pub Feeds-held : (a : Option (List ℕ)) (s t : Progress) (v : World) (bytes : List ℕ) → HasNoLf bytes → t ≡ with_bytes s bytes → Feeds a s v bytes a t v
-Feeds-held a s t v bytes one_line is =
-    subst (λ (u : Progress). Feeds a s v bytes a u v) (sym is) (record {
+pub Feeds-held : (a : Option (List ℕ)) (s t : Progress) (v w : State) (bytes : List ℕ) → HasNoLf bytes → t ≡ with_bytes s bytes → w ≡ v → Feeds a s v bytes a t w
+Feeds-held a s t v w bytes one_line is same =
+    subst (λ (x : State). Feeds a s v bytes a t x) (sym same)
+    (subst (λ (u : Progress). Feeds a s v bytes a u v) (sym is) (record {
       raw = [];
       whole = refl;
       parts = λ none. (tt, AllByRecursion-append (λ byte. byte ≢ 10) s.line bytes none one_line);
       runs = RunsLines-none a v;
       lines = omega arith;
       replies = omega arith;
-    })
+    }))
 
 -- the LF that ends a line, which was run
-pub Feeds-ends : (a b : Option (List ℕ)) (s t : Progress) (v w : World) (line : List ℕ) → line ≡ without_cr s.line → RunsLines a v (line ∷ []) b w
+pub Feeds-ends : (a b : Option (List ℕ)) (s t : Progress) (v w : State) (line : List ℕ) → line ≡ without_cr s.line → RunsLines a v (line ∷ []) b w
     → length s.line ≤ 4096 → t.line ≡ [] → t.lines ≡ s.lines + 1 → t.replies ≡ s.replies + (if has_reply line then 1 else 0) → Feeds a s v (10 ∷ []) b t w
 Feeds-ends a b s t v w line same ran short empty lines replies =
     record {
@@ -78,67 +79,67 @@ Feeds-ends a b s t v w line same ran short empty lines replies =
 -- Where it stops.
 
 -- bytes of one line pass a limit
-pub Stops-overflow : (a : Option (List ℕ)) (s : Progress) (v : World) (bytes more : List ℕ) (fault : RunFault) → HasNoLf bytes → fault ≡ TooLong → Overflows s bytes
-    → Stops a s v (bytes ++ more) fault a v
-Stops-overflow a s v bytes more fault one_line is over =
+pub Stops-overflow : (a : Option (List ℕ)) (s : Progress) (v w : State) (bytes more : List ℕ) (fault : RunFault) → HasNoLf bytes → w ≡ v → fault ≡ TooLong → Overflows s bytes
+    → Stops a s v (bytes ++ more) fault a w
+Stops-overflow a s v w bytes more fault one_line same is over =
     let front : HasNoLf over.front = AllByRecursion-front (λ byte. byte ≢ 10) over.front (over.byte ∷ over.more) (subst HasNoLf over.whole one_line) in
-    subst (λ (f : RunFault). Stops a s v (bytes ++ more) f a v) (sym is) (record {
+    subst (λ (f : RunFault). Stops a s v (bytes ++ more) f a w) (sym is) (record {
       front = over.front;
       byte = over.byte;
       more = over.more ++ more;
       whole = ap (λ (l : List ℕ). l ++ more) over.whole ∙ append_assoc over.front (over.byte ∷ over.more) more;
       between = a;
       here = with_bytes s over.front;
-      world = v;
-      feeds = Feeds-held a s (with_bytes s over.front) v over.front front refl;
+      state = v;
+      feeds = Feeds-held a s (with_bytes s over.front) v v over.front front refl refl;
       fits = over.fits;
-      stops = (over.over, refl, Keeps-refl a);
+      stops = (over.over, same, Keeps-refl a);
     })
 
 -- the LF stands behind the last line that may be
-pub Stops-full : (a : Option (List ℕ)) (s t : Progress) (v : World) (line : List ℕ) → HasNoLf line → t ≡ with_bytes s line → IsWithinLimits t → t.lines ≡ 1000000
-    → Stops a s v (ended line) TooLong a v
-Stops-full a s t v line one_line is fits full = record {
+pub Stops-full : (a : Option (List ℕ)) (s t : Progress) (v w : State) (line : List ℕ) → HasNoLf line → t ≡ with_bytes s line → w ≡ v → IsWithinLimits t → t.lines ≡ 1000000
+    → Stops a s v (ended line) TooLong a w
+Stops-full a s t v w line one_line is same fits full = record {
   front = line;
   byte = 10;
   more = [];
   whole = refl;
   between = a;
   here = t;
-  world = v;
-  feeds = Feeds-held a s t v line one_line is;
+  state = v;
+  feeds = Feeds-held a s t v v line one_line is refl;
   fits = fits;
-  stops = (inl full, refl, Keeps-refl a);
+  stops = (inl full, same, Keeps-refl a);
 }
 
 not_over : (t : Progress) → t.lines ≢ 1000000 → IsOver t 10 → ⊥
 not_over t few (inl full) = few full
 not_over t few (inr (long, other)) = other refl
 
-StopsHere-line : (a b : Option (List ℕ)) (t : Progress) (v w : World) (fault : RunFault) → t.lines ≢ 1000000 → FailsAt a v (without_cr t.line) fault b w → StopsHere a t v 10 fault b w
+StopsHere-line : (a b : Option (List ℕ)) (t : Progress) (v w : State) (fault : RunFault) → t.lines ≢ 1000000 → FailsAt a v (without_cr t.line) fault b w → StopsHere a t v 10 fault b w
 StopsHere-line a b t v w Read few h = absurd h
 StopsHere-line a b t v w Write few h = (not_over t few, refl, h)
 StopsHere-line a b t v w Memory few h = (not_over t few, refl, h)
 StopsHere-line a b t v w TooLong few h = absurd h
 
 -- the line that the LF ends met a fault
-pub Stops-line : (a b : Option (List ℕ)) (s t : Progress) (v w : World) (line : List ℕ) (fault : RunFault) → HasNoLf line → t ≡ with_bytes s line → IsWithinLimits t → t.lines ≢ 1000000
-    → FailsAt a v (without_cr t.line) fault b w → Stops a s v (ended line) fault b w
-Stops-line a b s t v w line fault one_line is fits few fails = record {
+pub Stops-line : (a b : Option (List ℕ)) (s t : Progress) (v w x : State) (line : List ℕ) (fault : RunFault) → HasNoLf line → t ≡ with_bytes s line → w ≡ v → IsWithinLimits t → t.lines ≢ 1000000
+    → FailsAt a w (without_cr t.line) fault b x → Stops a s v (ended line) fault b x
+Stops-line a b s t v w x line fault one_line is same fits few fails = record {
   front = line;
   byte = 10;
   more = [];
   whole = refl;
   between = a;
   here = t;
-  world = v;
-  feeds = Feeds-held a s t v line one_line is;
+  state = w;
+  feeds = Feeds-held a s t v w line one_line is same;
   fits = fits;
-  stops = StopsHere-line a b t v w fault few fails;
+  stops = StopsHere-line a b t w x fault few fails;
 }
 
 -- bytes were fed before, and others follow
-pub Stops-later : (a b c : Option (List ℕ)) (s t : Progress) (v w x : World) (whole done bytes behind : List ℕ) (fault : RunFault) → whole ≡ done ++ (bytes ++ behind)
+pub Stops-later : (a b c : Option (List ℕ)) (s t : Progress) (v w x : State) (whole done bytes behind : List ℕ) (fault : RunFault) → whole ≡ done ++ (bytes ++ behind)
     → Feeds a s v done b t w → Stops b t w bytes fault c x → Stops a s v whole fault c x
 Stops-later a b c s t v w x whole done bytes behind fault is p q = record {
   front = done ++ q.front;
@@ -148,8 +149,8 @@ Stops-later a b c s t v w x whole done bytes behind fault is p q = record {
       ∙ sym (append_assoc done q.front (q.byte ∷ (q.more ++ behind)));
   between = q.between;
   here = q.here;
-  world = q.world;
-  feeds = Feeds-trans a b q.between s t q.here v w q.world done q.front p q.feeds;
+  state = q.state;
+  feeds = Feeds-trans a b q.between s t q.here v w q.state done q.front p q.feeds;
   fits = q.fits;
   stops = q.stops;
 }

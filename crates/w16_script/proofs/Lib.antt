@@ -1,7 +1,10 @@
 pub mod WordsLemmas
 pub mod NumberLemmas
+pub mod RegisterLemmas
+pub mod OneNumberLemmas
 pub mod ArgumentLemmas
 pub mod ReadingLemmas
+pub mod SpellingLemmas
 pub mod PrintLemmas
 pub mod WriteLemmas
 pub mod RunLemmas

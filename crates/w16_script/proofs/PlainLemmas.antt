@@ -1,6 +1,8 @@
 -- A line that says a command has plain bytes alone.
-use Rattle.std.proofs.Common.{◌≡◌, ℕ, ◌≤◌, Bool, true, false, List, [], ◌∷◌, refl, arith, inl, inr, cond}
-use Rattle.std.specs.Prelude.{◌&&◌}
+use Rattle.std.proofs.Common.{◌≡◌, ℕ, ◌≤◌, Bool, true, false, List, [], ◌∷◌, ◌++◌, refl, arith, inl, inr, cond, Option, Some, None, ◌+◌, ◌/◌, ◌%◌, ap, ◌∙◌}
+use Rattle.std.proofs.lemmas.Bool.{cases_lt}
+use Rattle.std.proofs.lemmas.Fmt.{decimal_digit}
+use Rattle.std.specs.Prelude.{◌&&◌, codes, slice_index}
 use Rattle.std.specs.List.{list_all}
 use Rattle.std.proofs.lemmas.Bool.Decides.{nat_tests}
 use Rattle.std.proofs.lemmas.List.Sums.{list_all-from_AllPass}
@@ -11,14 +13,13 @@ use Rattle.w16_script.specs.declared.name.Name.{Name}
 use Rattle.w16_script.specs.declared.name.Name.TheVariants as name
 use Rattle.w16_script.specs.declared.arguments.Shape.{Shape}
 use Rattle.w16_script.specs.declared.arguments.Shape.TheVariants as shape
+use Rattle.w16_script.specs.Registers.{IsRegister}
 use Rattle.w16_script.specs.Words.{is_blank, with_byte, words_of}
-use Rattle.w16_script.specs.Numbers.{is_digit, IsNumber}
-use Rattle.w16_script.specs.Grammar.{Arguments, IsBytes, IsArguments, Spells, Said, Reads, text_of, name_of, shape_of, arguments_of}
+use Rattle.w16_script.specs.Numbers.{is_digit, IsLiteral, IsForm, IsNumber}
+use Rattle.w16_script.specs.Grammar.{Arguments, IsBytes, IsArguments, GoesTo, Spells, Said, Reads, text_of, name_of, shape_of, arguments_of}
 use Rattle.w16_script.specs.Laws.{is_plain}
-
-both : (a b : Bool) → (a && b) ≡ true → (a ≡ true) × (b ≡ true)
-both true b e = (refl, e)
-both false b e = cc
+use Rattle.w16_script.proofs.RegisterLemmas.{two_digits}
+use Rattle.w16_script.proofs.OneNumberLemmas.{both}
 
 joined : (a b : Bool) → a ≡ true → b ≡ true → (a && b) ≡ true
 joined true b p q = q
@@ -42,10 +43,15 @@ all_weaker p q (x ∷ xs) f e =
     let parts = both (p x) (list_all p xs) e in
     joined (q x) (list_all q xs) (f x parts.0) (all_weaker p q xs f parts.1)
 
-number_plain : (word : List ℕ) (n : ℕ) → IsNumber word n → list_all is_plain word ≡ true
-number_plain word n (inl decimal, small) = all_weaker (is_digit 10) is_plain word (λ x. digit_plain 10 x (omega arith)) decimal.1.digits
-number_plain word n (inr (tail, is, some, few, digits), small) =
+literal_plain : (word : List ℕ) (n : ℕ) → IsLiteral word n → list_all is_plain word ≡ true
+literal_plain word n (inl decimal, small) = all_weaker (is_digit 10) is_plain word (λ x. digit_plain 10 x (omega arith)) decimal.1.digits
+literal_plain word n (inr (tail, is, some, few, digits), small) =
     rw is (all_weaker (is_digit 16) is_plain tail (λ x. digit_plain 16 x (omega arith)) digits.digits)
+
+digit_plain_at : (byte : ℕ) → 48 ≤ byte → byte ≤ 57 → (rest : List ℕ) → list_all is_plain rest ≡ true → list_all is_plain (byte ∷ rest) ≡ true
+digit_plain_at byte low high rest e =
+    let plain_byte : is_plain byte ≡ true = grind (arith, nat_tests) in
+    joined (is_plain byte) (list_all is_plain rest) plain_byte e
 
 bytes_plain : (word bytes : List ℕ) → IsBytes word bytes → list_all is_plain word ≡ true
 bytes_plain word bytes h =
@@ -56,8 +62,14 @@ name_plain name.GlobalAlloc = refl
 name_plain name.GlobalFree = refl
 name_plain name.GlobalLock = refl
 name_plain name.GlobalUnlock = refl
+name_plain name.GlobalSize = refl
+name_plain name.GlobalFlags = refl
+name_plain name.GlobalHandle = refl
+name_plain name.GetSelectorBase = refl
+name_plain name.GetSelectorLimit = refl
 name_plain name.Read = refl
 name_plain name.Write = refl
+name_plain name.Fill = refl
 
 -- Words and lines.
 
@@ -68,17 +80,47 @@ are_plain words = list_all (list_all is_plain) words
 pair_plain : (u v : List ℕ) → list_all is_plain u ≡ true → list_all is_plain v ≡ true → are_plain (u ∷ v ∷ []) ≡ true
 pair_plain u v p q = joined (list_all is_plain u) (are_plain (v ∷ [])) p (joined (list_all is_plain v) true q refl)
 
-arguments_plain : (words : List (List ℕ)) (s : Shape) (a : Arguments) → IsArguments words s a → are_plain words ≡ true
-arguments_plain (u ∷ []) shape.Word (Arguments.Word w) h = joined (list_all is_plain u) true (number_plain u w h.0) refl
-arguments_plain (u ∷ v ∷ []) shape.WordDword (Arguments.WordDword w d) h = pair_plain u v (number_plain u w h.0.0) (number_plain v d h.1.0)
-arguments_plain (u ∷ v ∷ []) shape.DwordCount (Arguments.DwordCount d n) h = pair_plain u v (number_plain u d h.0.0) (number_plain v n h.1.0)
-arguments_plain (u ∷ v ∷ []) shape.DwordBytes (Arguments.DwordBytes d bytes) h = pair_plain u v (number_plain u d h.0.0) (bytes_plain v bytes h.1)
-arguments_plain words s a h = absurd h
+register_plain : (word : List ℕ) (r : ℕ) → IsRegister word r → list_all is_plain word ≡ true
+register_plain word r (small, is) = elim (cases_lt r 10) [
+  | inl one ↦ let whole : word ≡ 114 ∷ (48 + r) ∷ [] = is ∙ ap (λ (l : List ℕ). 114 ∷ l) (decimal_digit r one) in rw whole (digit_plain_at (48 + r) (omega arith) (omega arith) [] refl)
+  | inr two ↦
+      let whole : word ≡ 114 ∷ (48 + r / 10) ∷ (48 + r % 10) ∷ [] = is ∙ ap (λ (l : List ℕ). 114 ∷ l) (two_digits r two small) in
+      rw whole (digit_plain_at (48 + r / 10) (omega arith) (omega arith) ((48 + r % 10) ∷ []) (digit_plain_at (48 + r % 10) (omega arith) (omega arith) [] refl))
+]
 
-spelled_plain : (words : List (List ℕ)) (command : Command) → Spells words command → are_plain words ≡ true
-spelled_plain words command h =
-    let arguments = arguments_plain h.arguments (shape_of (name_of command)) (arguments_of command) h.right in
-    rw h.whole (joined (list_all is_plain (text_of (name_of command))) (are_plain h.arguments) (name_plain (name_of command)) arguments)
+form_plain : (value : ℕ) (suffix : List ℕ) (n : ℕ) → IsForm value suffix n → list_all is_plain suffix ≡ true
+form_plain value suffix n (inl (is, same)) = rw is refl
+form_plain value suffix n (inr (inl (is, same))) = rw is refl
+form_plain value suffix n (inr (inr (inl (is, same)))) = rw is refl
+form_plain value suffix n (inr (inr (inr (tail, more, is, literal, same)))) = rw is (literal_plain tail more literal)
+
+all_append : (p : ℕ → Bool) (xs ys : List ℕ) → list_all p xs ≡ true → list_all p ys ≡ true → list_all p (xs ++ ys) ≡ true
+all_append p [] ys d e = e
+all_append p (x ∷ xs) ys d e = let parts = both (p x) (list_all p xs) d in joined (p x) (list_all p (xs ++ ys)) parts.0 (all_append p xs ys parts.1 e)
+
+number_plain : (registers word : List ℕ) (n : ℕ) → IsNumber registers word n → list_all is_plain word ≡ true
+number_plain registers word n (inl literal, small) = literal_plain word n literal
+number_plain registers word n (inr h, small) =
+    rw h.whole (all_append is_plain h.name h.suffix (register_plain h.name h.register h.named) (form_plain (slice_index registers h.register) h.suffix n h.form))
+
+arguments_plain : (registers : List ℕ) (words : List (List ℕ)) (s : Shape) (a : Arguments) → IsArguments registers words s a → are_plain words ≡ true
+arguments_plain registers (u ∷ []) shape.Word (Arguments.Word w) h = joined (list_all is_plain u) true (number_plain registers u w h.0) refl
+arguments_plain registers (u ∷ v ∷ []) shape.WordDword (Arguments.WordDword w d) h = pair_plain u v (number_plain registers u w h.0.0) (number_plain registers v d h.1.0)
+arguments_plain registers (u ∷ v ∷ []) shape.DwordCount (Arguments.DwordCount d n) h = pair_plain u v (number_plain registers u d h.0.0) (number_plain registers v n h.1.0)
+arguments_plain registers (u ∷ v ∷ []) shape.DwordBytes (Arguments.DwordBytes d bytes) h = pair_plain u v (number_plain registers u d h.0.0) (bytes_plain v bytes h.1)
+arguments_plain registers (u ∷ v ∷ w ∷ []) shape.DwordCountByte (Arguments.DwordCountByte d n b) h =
+    joined (list_all is_plain u) (are_plain (v ∷ w ∷ [])) (number_plain registers u d h.0.0) (pair_plain v w (number_plain registers v n h.1.0) (number_plain registers w b h.2.0))
+arguments_plain registers words s a h = absurd h
+
+goes_plain : (words : List (List ℕ)) (target : Option ℕ) (rest : List (List ℕ)) → GoesTo words target rest → are_plain rest ≡ true → are_plain words ≡ true
+goes_plain words None rest e h = rw e h
+goes_plain words (Some r) rest (word, named, whole) h = rw whole (joined (list_all is_plain word) (are_plain (codes "=" ∷ rest)) (register_plain word r named) h)
+
+spelled_plain : (registers : List ℕ) (words : List (List ℕ)) (target : Option ℕ) (command : Command) → Spells registers words target command → are_plain words ≡ true
+spelled_plain registers words target command h =
+    let arguments = arguments_plain registers h.arguments (shape_of (name_of command)) (arguments_of command) h.right in
+    goes_plain words target (text_of (name_of command) ∷ h.arguments) h.goes
+    (joined (list_all is_plain (text_of (name_of command))) (are_plain h.arguments) (name_plain (name_of command)) arguments)
 
 -- a byte that was put before words is plain, and so are the words
 with_byte-parts : (byte : ℕ) (rest : List ℕ) (words : List (List ℕ)) → are_plain (with_byte byte rest words) ≡ true → (is_plain byte ≡ true) × (are_plain words ≡ true)
@@ -111,5 +153,5 @@ line_plain (byte ∷ rest) e =
     ] is in
     step (is_blank byte) refl
 
-pub plain : (line : List ℕ) (command : Command) → Reads line (Said.Says command) → list_all is_plain line ≡ true
-plain line command h = line_plain line (spelled_plain (words_of line) command h.1)
+pub plain : (registers line : List ℕ) (target : Option ℕ) (command : Command) → Reads registers line (Said.Says target command) → list_all is_plain line ≡ true
+plain registers line target command h = line_plain line (spelled_plain registers (words_of line) target command h.1)

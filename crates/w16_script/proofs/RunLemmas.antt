@@ -3,7 +3,9 @@ use Rattle.std.proofs.Common.{◌≡◌, ℕ, List, [], ◌∷◌, ◌++◌, Opt
 use Rattle.std.proofs.KnownBytes.{Appends-nil, Appends-trans}
 use Rattle.w16_model.specs.World.{World}
 use Rattle.w16_kernel.specs.Runs.{Event, Run}
-use Rattle.w16_script.specs.Grammar.{Said, Reads}
+use Rattle.w16_script.specs.Registers.{stored_all}
+use Rattle.w16_script.specs.State.{State}
+use Rattle.w16_script.specs.Grammar.{Said, Reads, target_of}
 use Rattle.w16_script.specs.Output.{Prints, PrintsLine, RunsLines}
 
 -- one run goes on with another
@@ -12,13 +14,14 @@ Run-append old mid new [] more p q = subst (λ (w : World). Run w more new) p q
 Run-append old mid new (event ∷ events) more p q = (p.0, Run-append event.after mid new events more p.1 q)
 
 -- and so does what lines print
-Prints-append : (lines others : List (List ℕ)) (events more : List Event) (output rest : List ℕ) → Prints lines events output → Prints others more rest
-    → Prints (lines ++ others) (events ++ more) (output ++ rest)
-Prints-append [] others events more output rest p q =
+Prints-append : (a b c : List ℕ) (lines others : List (List ℕ)) (events more : List Event) (output rest : List ℕ) → Prints a lines events output b → Prints b others more rest c
+    → Prints a (lines ++ others) (events ++ more) (output ++ rest) c
+Prints-append a b c [] others events more output rest p q =
     let e : more ≡ events ++ more = ap (λ (l : List Event). l ++ more) (sym p.0) in
     let o : rest ≡ output ++ rest = ap (λ (l : List ℕ). l ++ rest) (sym p.1) in
-    subst (λ (l : List Event). Prints others l (output ++ rest)) e (subst (λ (l : List ℕ). Prints others more l) o q)
-Prints-append (line ∷ lines) others events more output rest (said, first, later, front, back, reads, prints, is_events, is_output, p) q = (
+    subst (λ (l : List ℕ). Prints l others (events ++ more) (output ++ rest) c) p.2
+    (subst (λ (l : List Event). Prints b others l (output ++ rest) c) e (subst (λ (l : List ℕ). Prints b others more l c) o q))
+Prints-append a b c (line ∷ lines) others events more output rest (said, first, later, front, back, reads, prints, is_events, is_output, p) q = (
   said,
   first,
   later ++ more,
@@ -28,23 +31,25 @@ Prints-append (line ∷ lines) others events more output rest (said, first, late
   prints,
   ap (λ (l : List Event). l ++ more) is_events ∙ append_assoc first later more,
   ap (λ (l : List ℕ). l ++ rest) is_output ∙ append_assoc front back rest,
-  Prints-append lines others later more back rest p q,
+  Prints-append (stored_all a (target_of said) first) b c lines others later more back rest p q,
 )
 
 -- one line
-pub Prints-one : (line : List ℕ) (said : Said) (events : List Event) (output : List ℕ) → Reads line said → PrintsLine said events output → Prints (line ∷ []) events output
-Prints-one line said events output reads prints = (said, events, [], output, [], reads, prints, sym (append-nil events), sym (append-nil output), (refl, refl))
+pub Prints-one : (registers line : List ℕ) (said : Said) (events : List Event) (output new : List ℕ) → Reads registers line said → PrintsLine said events output
+    → new ≡ stored_all registers (target_of said) events → Prints registers (line ∷ []) events output new
+Prints-one registers line said events output new reads prints is =
+    (said, events, [], output, [], reads, prints, sym (append-nil events), sym (append-nil output), (refl, refl, is))
 
 -- no line
-pub RunsLines-none : (a : Option (List ℕ)) (v : World) → RunsLines a v [] a v
-RunsLines-none a v = record { events = []; output = []; run = refl; prints = (refl, refl); appends = Appends-nil a }
+pub RunsLines-none : (a : Option (List ℕ)) (v : State) → RunsLines a v [] a v
+RunsLines-none a v = record { events = []; output = []; run = refl; prints = (refl, refl, refl); appends = Appends-nil a }
 
 -- lines, and then others
-pub RunsLines-append : (a b c : Option (List ℕ)) (v w x : World) (lines others : List (List ℕ)) → RunsLines a v lines b w → RunsLines b w others c x → RunsLines a v (lines ++ others) c x
+pub RunsLines-append : (a b c : Option (List ℕ)) (v w x : State) (lines others : List (List ℕ)) → RunsLines a v lines b w → RunsLines b w others c x → RunsLines a v (lines ++ others) c x
 RunsLines-append a b c v w x lines others p q = record {
   events = p.events ++ q.events;
   output = p.output ++ q.output;
-  run = Run-append v w x p.events q.events p.run q.run;
-  prints = Prints-append lines others p.events q.events p.output q.output p.prints q.prints;
+  run = Run-append v.world w.world x.world p.events q.events p.run q.run;
+  prints = Prints-append v.registers w.registers x.registers lines others p.events q.events p.output q.output p.prints q.prints;
   appends = Appends-trans a b c p.output q.output p.appends q.appends;
 }

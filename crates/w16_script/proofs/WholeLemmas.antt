@@ -8,6 +8,7 @@ use Rattle.w16_model.specs.World.{World}
 use Rattle.w16_script.specs.declared.outcome.Ended.{Ended}
 use Rattle.w16_script.specs.declared.outcome.RunFault.{RunFault}
 use Rattle.w16_script.specs.declared.outcome.RunFault.TheVariants.{Read, Write, Memory, TooLong}
+use Rattle.w16_script.specs.State.{State, state_with, start}
 use Rattle.w16_script.specs.Output.{RunsLines, has_reply}
 use Rattle.w16_script.specs.Text.{without_cr, last_of}
 use Rattle.w16_script.specs.Progress.{Progress, fresh, IsWithinLimits}
@@ -39,7 +40,7 @@ length-last_of [] n h k = omega arith
 length-last_of (x ∷ xs) n h k = let small : n < 1000000 = h (omega arith) in omega arith
 
 -- there is none
-pub Finishes-none : (a : Option (List ℕ)) (s : Progress) (v : World) (counts : Ended) → s.line ≡ [] → counts.lines ≡ s.lines → counts.replies ≡ s.replies → Finishes a s v a v counts
+pub Finishes-none : (a : Option (List ℕ)) (s : Progress) (v : State) (counts : Ended) → s.line ≡ [] → counts.lines ≡ s.lines → counts.replies ≡ s.replies → Finishes a s v a v counts
 Finishes-none a s v counts empty lines replies = record {
   runs = subst (λ (l : List ℕ). RunsLines a v (last_of l) a v) (sym empty) (RunsLines-none a v);
   lines = omega (arith, lines, ap (λ (l : List ℕ). length (last_of l)) empty);
@@ -47,9 +48,9 @@ Finishes-none a s v counts empty lines replies = record {
 }
 
 -- the text was fed, and its end came
-pub Script-from : (a b c : Option (List ℕ)) (t : Progress) (v w x : World) (text : List ℕ) (counts : Ended) → Feeds a fresh v text b t w → IsWithinLimits t
-    → Finishes b t w c x counts → Script a v text c x counts
-Script-from a b c t v w x text counts p small q =
+pub Script-from : (a b c : Option (List ℕ)) (t : Progress) (v x : World) (w : State) (registers text : List ℕ) (counts : Ended) → Feeds a fresh (start v) text b t w → IsWithinLimits t
+    → Finishes b t w c (state_with x registers) counts → Script a v text c x counts
+Script-from a b c t v x w registers text counts p small q =
     let bound = length-last_of t.line t.lines small.last small.lines in
     let joined = length-append (map without_cr p.raw) (last_of t.line) in
     let mapped = length-mapped without_cr p.raw in
@@ -60,7 +61,8 @@ Script-from a b c t v w x text counts p small q =
       whole = p.whole;
       parts = (raw, (rest, small.short));
       few = omega (arith, bound, joined, mapped, p.lines);
-      runs = RunsLines-append a b c v w x (map without_cr p.raw) (last_of t.line) p.runs q.runs;
+      registers = registers;
+      runs = RunsLines-append a b c (start v) w (state_with x registers) (map without_cr p.raw) (last_of t.line) p.runs q.runs;
       lines = omega (arith, q.lines, p.lines, joined, mapped);
       replies = omega (arith, q.replies, p.replies, count-append has_reply (map without_cr p.raw) (last_of t.line));
     }
@@ -68,11 +70,12 @@ Script-from a b c t v w x text counts p small q =
 -- Faults.
 
 -- a piece met a fault
-StopsWithin-piece : (a b c : Option (List ℕ)) (t : Progress) (v w x : World) (text piece : List ℕ) (fault : RunFault) → Feeds a fresh v text b t w → length piece ≤ 65536
-    → Stops b t w piece fault c x → StopsWithin a v (text ++ piece) fault c x
-StopsWithin-piece a b c t v w x text piece fault p small q =
+StopsWithin-piece : (a b c : Option (List ℕ)) (t : Progress) (v x : World) (w : State) (registers text piece : List ℕ) (fault : RunFault) → Feeds a fresh (start v) text b t w
+    → length piece ≤ 65536 → Stops b t w piece fault c (state_with x registers) → StopsWithin a v (text ++ piece) fault c x
+StopsWithin-piece a b c t v x w registers text piece fault p small q =
     let size : length piece ≡ length q.front + length (q.byte ∷ q.more) = ap (length {A = ℕ}) q.whole ∙ length-append q.front (q.byte ∷ q.more) in
     record {
+      registers = registers;
       stops = record {
         front = text ++ q.front;
         byte = q.byte;
@@ -80,33 +83,33 @@ StopsWithin-piece a b c t v w x text piece fault p small q =
         whole = ap (λ (l : List ℕ). text ++ l) q.whole ∙ sym (append_assoc text q.front (q.byte ∷ q.more));
         between = q.between;
         here = q.here;
-        world = q.world;
-        feeds = Feeds-trans a b q.between fresh t q.here v w q.world text q.front p q.feeds;
+        state = q.state;
+        feeds = Feeds-trans a b q.between fresh t q.here (start v) w q.state text q.front p q.feeds;
         fits = q.fits;
         stops = q.stops;
       };
       near = omega (arith, size, small);
     }
 
-pub FailsLater-piece : (left a b c : Option (List ℕ)) (t : Progress) (v w x : World) (text piece : List ℕ) (fault : RunFault) → Feeds a fresh v text b t w → length piece ≤ 65536
-    → Stops b t w piece fault c x → FailsLater left a v (text ++ piece) fault c x
-FailsLater-piece left a b c t v w x text piece Read p small q = absurd q.stops.2
-FailsLater-piece left a b c t v w x text piece Write p small q = inl (StopsWithin-piece a b c t v w x text piece Write p small q)
-FailsLater-piece left a b c t v w x text piece Memory p small q = inl (StopsWithin-piece a b c t v w x text piece Memory p small q)
-FailsLater-piece left a b c t v w x text piece TooLong p small q = StopsWithin-piece a b c t v w x text piece TooLong p small q
+pub FailsLater-piece : (left a b c : Option (List ℕ)) (t : Progress) (v x : World) (w : State) (registers text piece : List ℕ) (fault : RunFault) → Feeds a fresh (start v) text b t w
+    → length piece ≤ 65536 → Stops b t w piece fault c (state_with x registers) → FailsLater left a v (text ++ piece) fault c x
+FailsLater-piece left a b c t v x w registers text piece Read p small q = absurd q.stops.2
+FailsLater-piece left a b c t v x w registers text piece Write p small q = inl (StopsWithin-piece a b c t v x w registers text piece Write p small q)
+FailsLater-piece left a b c t v x w registers text piece Memory p small q = inl (StopsWithin-piece a b c t v x w registers text piece Memory p small q)
+FailsLater-piece left a b c t v x w registers text piece TooLong p small q = StopsWithin-piece a b c t v x w registers text piece TooLong p small q
 
-StopsLast-from : (left a b c : Option (List ℕ)) (t : Progress) (v w x : World) (text : List ℕ) (fault : RunFault) → IsAtEnd left → Feeds a fresh v text b t w → IsWithinLimits t
-    → 0 < length t.line → FailsAt b w t.line fault c x → StopsLast left a v text fault c x
-StopsLast-from left a b c t v w x text fault end p small filled q =
-    record { at_end = end; between = b; here = t; world = w; feeds = p; fits = small; filled = filled; fails = q }
+StopsLast-from : (left a b c : Option (List ℕ)) (t : Progress) (v x : World) (w : State) (registers text : List ℕ) (fault : RunFault) → IsAtEnd left → Feeds a fresh (start v) text b t w
+    → IsWithinLimits t → 0 < length t.line → FailsAt b w t.line fault c (state_with x registers) → StopsLast left a v text fault c x
+StopsLast-from left a b c t v x w registers text fault end p small filled q =
+    record { at_end = end; between = b; here = t; state = w; feeds = p; fits = small; filled = filled; registers = registers; fails = q }
 
 -- the last line met a fault
-pub FailsLater-last : (left a b c : Option (List ℕ)) (t : Progress) (v w x : World) (text : List ℕ) (fault : RunFault) → IsAtEnd left → Feeds a fresh v text b t w → IsWithinLimits t
-    → 0 < length t.line → FailsAt b w t.line fault c x → FailsLater left a v text fault c x
-FailsLater-last left a b c t v w x text Read end p small filled q = absurd q
-FailsLater-last left a b c t v w x text Write end p small filled q = inr (StopsLast-from left a b c t v w x text Write end p small filled q)
-FailsLater-last left a b c t v w x text Memory end p small filled q = inr (StopsLast-from left a b c t v w x text Memory end p small filled q)
-FailsLater-last left a b c t v w x text TooLong end p small filled q = absurd q
+pub FailsLater-last : (left a b c : Option (List ℕ)) (t : Progress) (v x : World) (w : State) (registers text : List ℕ) (fault : RunFault) → IsAtEnd left → Feeds a fresh (start v) text b t w
+    → IsWithinLimits t → 0 < length t.line → FailsAt b w t.line fault c (state_with x registers) → FailsLater left a v text fault c x
+FailsLater-last left a b c t v x w registers text Read end p small filled q = absurd q
+FailsLater-last left a b c t v x w registers text Write end p small filled q = inr (StopsLast-from left a b c t v x w registers text Write end p small filled q)
+FailsLater-last left a b c t v x w registers text Memory end p small filled q = inr (StopsLast-from left a b c t v x w registers text Memory end p small filled q)
+FailsLater-last left a b c t v x w registers text TooLong end p small filled q = absurd q
 
 -- any fault behind the start is one of the run
 pub Fails-later : (left held : Option (List ℕ)) (old : World) (text : List ℕ) (fault : RunFault) (holds : Option (List ℕ)) (new : World) → FailsLater left held old text fault holds new

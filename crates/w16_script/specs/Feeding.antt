@@ -3,10 +3,10 @@ use Rattle.std.specs.Prelude.{◌≡◌, ℕ, ◌+◌, List, [], ◌∷◌, ◌+
 use Rattle.std.specs.List.{flat_map, AllByRecursion}
 use Rattle.std.specs.Io.KnownBytes.{Keeps}
 use Rattle.w16_model.specs.Machine.{Command}
-use Rattle.w16_model.specs.World.{World}
 use Rattle.w16_kernel.specs.Runs.{Event, Run}
 use Rattle.w16_script.specs.declared.outcome.RunFault.{RunFault}
 use Rattle.w16_script.specs.declared.outcome.RunFault.TheVariants.{Write, Memory, TooLong}
+use Rattle.w16_script.specs.State.{State}
 use Rattle.w16_script.specs.Grammar.{Said, Reads}
 use Rattle.w16_script.specs.Written.{AppendsFront}
 use Rattle.w16_script.specs.Output.{Prints, RunsLines, has_reply}
@@ -18,18 +18,18 @@ abbrev pub Allocates : Command → Type 0
 Allocates command = ⊥
 
 -- the line met a fault
-abbrev pub FailsAt : Option (List ℕ) → World → List ℕ → RunFault → Option (List ℕ) → World → Type 0
+abbrev pub FailsAt : Option (List ℕ) → State → List ℕ → RunFault → Option (List ℕ) → State → Type 0
 -- its command was done, and a front of its reply was written
 FailsAt held old line Write holds new =
-    (events : List Event) × (output : List ℕ) × Run old events new × Prints (line ∷ []) events output × AppendsFront held holds output
+    (events : List Event) × (output : List ℕ) × Run old.world events new.world × Prints old.registers (line ∷ []) events output new.registers × AppendsFront held holds output
 -- its command wants memory, and nothing was done
 FailsAt held old line Memory holds new =
-    (command : Command) × Reads line (Said.Says command) × Allocates command × (new ≡ old) × Keeps held holds
+    (target : Option ℕ) × (command : Command) × Reads old.registers line (Said.Says target command) × Allocates command × (new ≡ old) × Keeps held holds
 -- no line meets another
 FailsAt held old line fault holds new = ⊥
 
 -- The bytes were taken: they ended some lines, which were run, and the rest is unfinished.
-pub record Feeds (held : Option (List ℕ)) (before : Progress) (old : World) (bytes : List ℕ) (holds : Option (List ℕ)) (after : Progress) (new : World) : Type 0 where
+pub record Feeds (held : Option (List ℕ)) (before : Progress) (old : State) (bytes : List ℕ) (holds : Option (List ℕ)) (after : Progress) (new : State) : Type 0 where
   pub raw : List (List ℕ)
   pub whole : before.line ++ bytes ≡ flat_map ended raw ++ after.line
   pub parts : HasNoLf before.line → AllByRecursion IsRaw raw × HasNoLf after.line
@@ -38,19 +38,19 @@ pub record Feeds (held : Option (List ℕ)) (before : Progress) (old : World) (b
   pub replies : after.replies ≡ before.replies + count_by has_reply (map without_cr raw)
 
 -- what the next byte meets: it passes a limit, or it passes none and ends a line that meets a fault
-abbrev pub StopsHere : Option (List ℕ) → Progress → World → ℕ → RunFault → Option (List ℕ) → World → Type 0
+abbrev pub StopsHere : Option (List ℕ) → Progress → State → ℕ → RunFault → Option (List ℕ) → State → Type 0
 StopsHere held here old byte TooLong holds new = IsOver here byte × (new ≡ old) × Keeps held holds
 StopsHere held here old byte fault holds new = (IsOver here byte → ⊥) × (byte ≡ 10) × FailsAt held old (without_cr here.line) fault holds new
 
 -- The bytes met a fault: a front of them was taken, and then one stopped the run.
-pub record Stops (held : Option (List ℕ)) (before : Progress) (old : World) (bytes : List ℕ) (fault : RunFault) (holds : Option (List ℕ)) (new : World) : Type 0 where
+pub record Stops (held : Option (List ℕ)) (before : Progress) (old : State) (bytes : List ℕ) (fault : RunFault) (holds : Option (List ℕ)) (new : State) : Type 0 where
   pub front : List ℕ
   pub byte : ℕ
   pub more : List ℕ
   pub whole : bytes ≡ front ++ byte ∷ more
   pub between : Option (List ℕ)
   pub here : Progress
-  pub world : World
-  pub feeds : Feeds held before old front between here world
+  pub state : State
+  pub feeds : Feeds held before old front between here state
   pub fits : IsWithinLimits here
-  pub stops : StopsHere between here world byte fault holds new
+  pub stops : StopsHere between here state byte fault holds new

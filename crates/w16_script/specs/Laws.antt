@@ -1,5 +1,5 @@
 -- Laws of the language.
-use Rattle.std.specs.Prelude.{◌≡◌, ℕ, Bool, true, ◌||◌, ◌&&◌, ◌==◌, nat_le, List}
+use Rattle.std.specs.Prelude.{◌≡◌, ℕ, Bool, true, ◌||◌, ◌&&◌, ◌==◌, nat_le, List, Option}
 use Rattle.std.specs.List.{list_all}
 use Rattle.w16_model.specs.Machine.{Command}
 use Rattle.w16_script.specs.Grammar.{HasShape, arguments_of, shape_of, name_of, Said, Reads}
@@ -8,9 +8,9 @@ use Rattle.w16_script.specs.Grammar.{HasShape, arguments_of, shape_of, name_of, 
 abbrev pub EachFits : Type 0
 EachFits = (command : Command) → HasShape (arguments_of command) (shape_of (name_of command))
 
--- what a line says is one thing
+-- what a line says is one thing, whatever the registers have
 abbrev pub OneReading : Type 0
-OneReading = (line : List ℕ) (a b : Said) → Reads line a → Reads line b → a ≡ b
+OneReading = (registers line : List ℕ) (a b : Said) → Reads registers line a → Reads registers line b → a ≡ b
 
 -- a byte from 20 to 7E in hexadecimal, or a tab
 abbrev pub is_plain : ℕ → Bool
@@ -18,4 +18,4 @@ is_plain byte = (byte == 9) || (nat_le 32 byte && nat_le byte 126)
 
 -- no other byte stands in a line that says a command
 abbrev pub EachIsPlain : Type 0
-EachIsPlain = (line : List ℕ) (command : Command) → Reads line (Said.Says command) → list_all is_plain line ≡ true
+EachIsPlain = (registers line : List ℕ) (target : Option ℕ) (command : Command) → Reads registers line (Said.Says target command) → list_all is_plain line ≡ true

@@ -1,3 +1,5 @@
+pub mod Registers
+pub mod State
 pub mod Words
 pub mod Numbers
 pub mod Grammar

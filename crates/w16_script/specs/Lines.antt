@@ -1,4 +1,5 @@
 -- What the code says of a line.
+use Rattle.std.specs.Prelude.{◌<◌, IfSome}
 use Rattle.w16_kernel.specs.Runs.{command_of, IsCall}
 use Rattle.w16_script.specs.declared.line.Line.{Line}
 use Rattle.w16_script.specs.declared.line.Line.TheVariants as line
@@ -8,9 +9,9 @@ use Rattle.w16_script.specs.Grammar.{Said}
 abbrev pub said_of : Line → Said
 said_of line.Silent = Said.Silent
 said_of line.Bad = Said.Bad
-said_of (line.Command call) = Said.Says (command_of call)
+said_of (line.Command target call) = Said.Says target (command_of call)
 
--- a command is one that the machine takes
+-- a command is one that the machine takes, and its reply goes to one of the registers, if to any
 abbrev pub IsRunnable : Line → Type 0
-IsRunnable (line.Command call) = IsCall call
+IsRunnable (line.Command target call) = IsCall call × IfSome target (λ r. r < 100)
 IsRunnable other = Unit {0}

@@ -3,12 +3,13 @@ use Rattle.std.specs.Prelude.{ℕ, List, [], ◌∷◌, ◌++◌, codes}
 use Rattle.std.specs.Int.{w16, w32, to_be_bytes}
 use Rattle.hex.specs.Hex.{encode_lower}
 use Rattle.w16_model.specs.declared.FarFault.{FarFault}
-use Rattle.w16_model.specs.declared.FarFault.TheVariants.{BadSelector, NotPresent, Limit}
+use Rattle.w16_model.specs.declared.FarFault.TheVariants.{BadSelector, ReadOnly, NotPresent, Limit}
 use Rattle.w16_model.specs.Machine as machine
 
 -- a fault's name
 abbrev pub fault_text : FarFault → List ℕ
 fault_text BadSelector = codes "selector"
+fault_text ReadOnly = codes "readonly"
 fault_text NotPresent = codes "notpresent"
 fault_text Limit = codes "limit"
 

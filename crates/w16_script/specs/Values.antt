@@ -7,4 +7,5 @@ abbrev pub values_of : code.Arguments → Arguments
 values_of (given.Word w) = Arguments.Word w
 values_of (given.WordDword w d) = Arguments.WordDword w d
 values_of (given.DwordCount d count) = Arguments.DwordCount d count
+values_of (given.DwordCountByte d count byte) = Arguments.DwordCountByte d count byte
 values_of (given.DwordBytes d bytes) = Arguments.DwordBytes d bytes.now

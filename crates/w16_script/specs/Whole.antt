@@ -6,24 +6,27 @@ use Rattle.w16_model.specs.World.{World}
 use Rattle.w16_script.specs.declared.outcome.Ended.{Ended}
 use Rattle.w16_script.specs.declared.outcome.RunFault.{RunFault}
 use Rattle.w16_script.specs.declared.outcome.RunFault.TheVariants.{Read, Write, Memory, TooLong}
+use Rattle.w16_script.specs.State.{State, state_with, start}
 use Rattle.w16_script.specs.Output.{RunsLines, has_reply}
 use Rattle.w16_script.specs.Text.{ended, IsRaw, last_of, lines_of}
 use Rattle.w16_script.specs.Progress.{Progress, fresh, IsWithinLimits}
 use Rattle.w16_script.specs.Feeding.{Feeds, FailsAt, Stops}
 
 -- The script of this text, whole: it is within the limits, its lines were run, what they print was written, and these are its counts.
+-- It left these registers.
 pub record Script (held : Option (List ℕ)) (old : World) (text : List ℕ) (holds : Option (List ℕ)) (new : World) (counts : Ended) : Type 0 where
   pub raw : List (List ℕ)
   pub rest : List ℕ
   pub whole : text ≡ flat_map ended raw ++ rest
   pub parts : AllByRecursion IsRaw raw × IsRaw rest
   pub few : length (lines_of raw rest) ≤ 1000000
-  pub runs : RunsLines held old (lines_of raw rest) holds new
+  pub registers : List ℕ
+  pub runs : RunsLines held (start old) (lines_of raw rest) holds (state_with new registers)
   pub lines : counts.lines ≡ length (lines_of raw rest)
   pub replies : counts.replies ≡ count_by has_reply (lines_of raw rest)
 
 -- The end of the text came, and the unfinished line, if there is one, was run.
-pub record Finishes (held : Option (List ℕ)) (here : Progress) (old : World) (holds : Option (List ℕ)) (new : World) (counts : Ended) : Type 0 where
+pub record Finishes (held : Option (List ℕ)) (here : Progress) (old : State) (holds : Option (List ℕ)) (new : State) (counts : Ended) : Type 0 where
   pub runs : RunsLines held old (last_of here.line) holds new
   pub lines : counts.lines ≡ here.lines + length (last_of here.line)
   pub replies : counts.replies ≡ here.replies + count_by has_reply (last_of here.line)
@@ -37,12 +40,14 @@ pub record StopsAtStart (held : Option (List ℕ)) (old : World) (text : List �
 -- all that was read was taken, within the limits
 pub record StopsReading (held : Option (List ℕ)) (old : World) (text : List ℕ) (holds : Option (List ℕ)) (new : World) : Type 0 where
   pub here : Progress
-  pub feeds : Feeds held fresh old text holds here new
+  pub registers : List ℕ
+  pub feeds : Feeds held fresh (start old) text holds here (state_with new registers)
   pub fits : IsWithinLimits here
 
 -- a byte of what was read last met the fault: fewer than 65,536 bytes were read behind it
 pub record StopsWithin (held : Option (List ℕ)) (old : World) (text : List ℕ) (fault : RunFault) (holds : Option (List ℕ)) (new : World) : Type 0 where
-  pub stops : Stops held fresh old text fault holds new
+  pub registers : List ℕ
+  pub stops : Stops held fresh (start old) text fault holds (state_with new registers)
   pub near : length stops.more < 65536
 
 -- the reader was at its end, and the last line, which has no LF, met the fault
@@ -50,11 +55,12 @@ pub record StopsLast (left held : Option (List ℕ)) (old : World) (text : List 
   pub at_end : IsAtEnd left
   pub between : Option (List ℕ)
   pub here : Progress
-  pub world : World
-  pub feeds : Feeds held fresh old text between here world
+  pub state : State
+  pub feeds : Feeds held fresh (start old) text between here state
   pub fits : IsWithinLimits here
   pub filled : 0 < length here.line
-  pub fails : FailsAt between world here.line fault holds new
+  pub registers : List ℕ
+  pub fails : FailsAt between state here.line fault holds (state_with new registers)
 
 -- once reading began: text is what was read, and left what the reader has left
 abbrev pub FailsLater : Option (List ℕ) → Option (List ℕ) → World → List ℕ → RunFault → Option (List ℕ) → World → Type 0

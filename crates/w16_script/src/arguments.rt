@@ -6,6 +6,7 @@ ghost use Rattle.w16_script.specs.Values.{values_of};
 
 use crate::bytes::bytes;
 use crate::number::number;
+use crate::registers::Registers;
 use crate::words::split_word;
 
 /// Which arguments a command has.
@@ -15,6 +16,7 @@ pub enum Shape {
     WordDword,
     DwordCount,
     DwordBytes,
+    DwordCountByte,
 }
 
 /// The arguments of a command. Bytes are in room that is lent.
@@ -24,6 +26,7 @@ pub enum Arguments<'a> {
     WordDword(u16, u32),
     DwordCount(u32, u16),
     DwordBytes(u32, &'a [u8]),
+    DwordCountByte(u32, u32, u8),
 }
 
 /// Whether there are only blanks.
@@ -43,11 +46,11 @@ fn only_word(text: &[u8]) -> Option<&[u8]>
 }
 
 /// A number below the limit.
-fn number_below(word: &[u8], limit: u64) -> Option<u32>
-    ensures found { IfSome result (λ n. IsNumberBelow word.now limit n) }
-    ensures none { IfNone result ((n : ℕ) → IsNumberBelow word.now limit n → ⊥) }
+fn number_below(word: &[u8], limit: u64, registers: &Registers) -> Option<u32>
+    ensures found { IfSome result (λ n. IsNumberBelow registers.now word.now limit n) }
+    ensures none { IfNone result ((n : ℕ) → IsNumberBelow registers.now word.now limit n → ⊥) }
 {
-    let Some(number) = number(word) else {
+    let Some(number) = number(word, registers) else {
         return None;
     };
     if (number as u64) < limit {
@@ -59,14 +62,14 @@ fn number_below(word: &[u8], limit: u64) -> Option<u32>
 
 /// The first word as a number below the limit, and what stands behind it.
 #[tactic(auto, using(crate::proofs::ArgumentLemmas::no_first))]
-fn first_number(text: &[u8], limit: u64) -> Option<(u32, &[u8])>
-    ensures found { IfSome result (λ first. (word : List ℕ) × (words_of text.now ≡ word ∷ words_of first.1.now) × IsNumberBelow word limit first.0) }
-    ensures none { IfNone result ((word : List ℕ) (words : List (List ℕ)) (n : ℕ) → words_of text.now ≡ word ∷ words → IsNumberBelow word limit n → ⊥) }
+fn first_number<'a>(text: &'a [u8], limit: u64, registers: &Registers) -> Option<(u32, &'a [u8])>
+    ensures found { IfSome result (λ first. (word : List ℕ) × (words_of text.now ≡ word ∷ words_of first.1.now) × IsNumberBelow registers.now word limit first.0) }
+    ensures none { IfNone result ((word : List ℕ) (words : List (List ℕ)) (n : ℕ) → words_of text.now ≡ word ∷ words → IsNumberBelow registers.now word limit n → ⊥) }
 {
     let Some((word, behind)) = split_word(text) else {
         return None;
     };
-    match number_below(word, limit) {
+    match number_below(word, limit, registers) {
         Some(number) => Some((number, behind)),
         None => None,
     }
@@ -74,14 +77,14 @@ fn first_number(text: &[u8], limit: u64) -> Option<(u32, &[u8])>
 
 /// The only word, as a number below the limit.
 #[tactic(auto, using(crate::proofs::ArgumentLemmas::no_number))]
-fn only_number(text: &[u8], limit: u64) -> Option<u32>
-    ensures found { IfSome result (λ n. (word : List ℕ) × (words_of text.now ≡ word ∷ []) × IsNumberBelow word limit n) }
-    ensures none { IfNone result ((word : List ℕ) (n : ℕ) → words_of text.now ≡ word ∷ [] → IsNumberBelow word limit n → ⊥) }
+fn only_number(text: &[u8], limit: u64, registers: &Registers) -> Option<u32>
+    ensures found { IfSome result (λ n. (word : List ℕ) × (words_of text.now ≡ word ∷ []) × IsNumberBelow registers.now word limit n) }
+    ensures none { IfNone result ((word : List ℕ) (n : ℕ) → words_of text.now ≡ word ∷ [] → IsNumberBelow registers.now word limit n → ⊥) }
 {
     let Some(word) = only_word(text) else {
         return None;
     };
-    number_below(word, limit)
+    number_below(word, limit, registers)
 }
 
 /// The only word, as bytes.
@@ -98,11 +101,11 @@ fn only_bytes<'a>(text: &[u8], room: &'a mut [u8; 1024]) -> Option<&'a [u8]>
 
 /// A word.
 #[tactic(auto, using(crate::proofs::ArgumentLemmas::word_steps))]
-fn word(text: &[u8]) -> Option<Arguments<'static>>
-    ensures found { IfSome result (λ a. IsArguments (words_of text.now) Shape.Word (values_of a)) }
-    ensures none { IfNone result ((a : Values) → IsArguments (words_of text.now) Shape.Word a → ⊥) }
+fn word(text: &[u8], registers: &Registers) -> Option<Arguments<'static>>
+    ensures found { IfSome result (λ a. IsArguments registers.now (words_of text.now) Shape.Word (values_of a)) }
+    ensures none { IfNone result ((a : Values) → IsArguments registers.now (words_of text.now) Shape.Word a → ⊥) }
 {
-    let Some(word) = only_number(text, 1 << 16) else {
+    let Some(word) = only_number(text, 1 << 16, registers) else {
         return None;
     };
     Some(Arguments::Word(word as u16))
@@ -110,14 +113,14 @@ fn word(text: &[u8]) -> Option<Arguments<'static>>
 
 /// A word, and a double word.
 #[tactic(auto, using(crate::proofs::ArgumentLemmas::word_dword_steps))]
-fn word_dword(text: &[u8]) -> Option<Arguments<'static>>
-    ensures found { IfSome result (λ a. IsArguments (words_of text.now) Shape.WordDword (values_of a)) }
-    ensures none { IfNone result ((a : Values) → IsArguments (words_of text.now) Shape.WordDword a → ⊥) }
+fn word_dword(text: &[u8], registers: &Registers) -> Option<Arguments<'static>>
+    ensures found { IfSome result (λ a. IsArguments registers.now (words_of text.now) Shape.WordDword (values_of a)) }
+    ensures none { IfNone result ((a : Values) → IsArguments registers.now (words_of text.now) Shape.WordDword a → ⊥) }
 {
-    let Some((word, behind)) = first_number(text, 1 << 16) else {
+    let Some((word, behind)) = first_number(text, 1 << 16, registers) else {
         return None;
     };
-    let Some(dword) = only_number(behind, 1 << 32) else {
+    let Some(dword) = only_number(behind, 1 << 32, registers) else {
         return None;
     };
     Some(Arguments::WordDword(word as u16, dword))
@@ -125,14 +128,14 @@ fn word_dword(text: &[u8]) -> Option<Arguments<'static>>
 
 /// A double word, and a count of at most 1,024.
 #[tactic(auto, using(crate::proofs::ArgumentLemmas::dword_count_steps))]
-fn dword_count(text: &[u8]) -> Option<Arguments<'static>>
-    ensures found { IfSome result (λ a. IsArguments (words_of text.now) Shape.DwordCount (values_of a)) }
-    ensures none { IfNone result ((a : Values) → IsArguments (words_of text.now) Shape.DwordCount a → ⊥) }
+fn dword_count(text: &[u8], registers: &Registers) -> Option<Arguments<'static>>
+    ensures found { IfSome result (λ a. IsArguments registers.now (words_of text.now) Shape.DwordCount (values_of a)) }
+    ensures none { IfNone result ((a : Values) → IsArguments registers.now (words_of text.now) Shape.DwordCount a → ⊥) }
 {
-    let Some((dword, behind)) = first_number(text, 1 << 32) else {
+    let Some((dword, behind)) = first_number(text, 1 << 32, registers) else {
         return None;
     };
-    let Some(count) = only_number(behind, 1025) else {
+    let Some(count) = only_number(behind, 1025, registers) else {
         return None;
     };
     Some(Arguments::DwordCount(dword, count as u16))
@@ -140,11 +143,15 @@ fn dword_count(text: &[u8]) -> Option<Arguments<'static>>
 
 /// A double word, and bytes.
 #[tactic(auto, using(crate::proofs::ArgumentLemmas::dword_bytes_steps))]
-fn dword_bytes<'a>(text: &[u8], room: &'a mut [u8; 1024]) -> Option<Arguments<'a>>
-    ensures found { IfSome result (λ a. IsArguments (words_of text.now) Shape.DwordBytes (values_of a)) }
-    ensures none { IfNone result ((a : Values) → IsArguments (words_of text.now) Shape.DwordBytes a → ⊥) }
+fn dword_bytes<'a>(
+    text: &[u8],
+    registers: &Registers,
+    room: &'a mut [u8; 1024],
+) -> Option<Arguments<'a>>
+    ensures found { IfSome result (λ a. IsArguments registers.now (words_of text.now) Shape.DwordBytes (values_of a)) }
+    ensures none { IfNone result ((a : Values) → IsArguments registers.now (words_of text.now) Shape.DwordBytes a → ⊥) }
 {
-    let Some((dword, behind)) = first_number(text, 1 << 32) else {
+    let Some((dword, behind)) = first_number(text, 1 << 32, registers) else {
         return None;
     };
     let Some(bytes) = only_bytes(behind, room) else {
@@ -153,19 +160,39 @@ fn dword_bytes<'a>(text: &[u8], room: &'a mut [u8; 1024]) -> Option<Arguments<'a
     Some(Arguments::DwordBytes(dword, bytes))
 }
 
+/// A double word, a count of at most 65,536, and a byte.
+#[tactic(auto, using(crate::proofs::ArgumentLemmas::dword_count_byte_steps))]
+fn dword_count_byte(text: &[u8], registers: &Registers) -> Option<Arguments<'static>>
+    ensures found { IfSome result (λ a. IsArguments registers.now (words_of text.now) Shape.DwordCountByte (values_of a)) }
+    ensures none { IfNone result ((a : Values) → IsArguments registers.now (words_of text.now) Shape.DwordCountByte a → ⊥) }
+{
+    let Some((dword, behind)) = first_number(text, 1 << 32, registers) else {
+        return None;
+    };
+    let Some((count, last)) = first_number(behind, 65_537, registers) else {
+        return None;
+    };
+    let Some(byte) = only_number(last, 256, registers) else {
+        return None;
+    };
+    Some(Arguments::DwordCountByte(dword, count, byte as u8))
+}
+
 /// The arguments of this shape that the words of the text are. The room is for their bytes.
 pub fn read_arguments<'a>(
     text: &[u8],
     shape: Shape,
+    registers: &Registers,
     room: &'a mut [u8; 1024],
 ) -> Option<Arguments<'a>>
-    ensures found { IfSome result (λ a. IsArguments (words_of text.now) shape (values_of a)) }
-    ensures none { IfNone result ((a : Values) → IsArguments (words_of text.now) shape a → ⊥) }
+    ensures found { IfSome result (λ a. IsArguments registers.now (words_of text.now) shape (values_of a)) }
+    ensures none { IfNone result ((a : Values) → IsArguments registers.now (words_of text.now) shape a → ⊥) }
 {
     match shape {
-        Shape::Word => word(text),
-        Shape::WordDword => word_dword(text),
-        Shape::DwordCount => dword_count(text),
-        Shape::DwordBytes => dword_bytes(text, room),
+        Shape::Word => word(text, registers),
+        Shape::WordDword => word_dword(text, registers),
+        Shape::DwordCount => dword_count(text, registers),
+        Shape::DwordBytes => dword_bytes(text, registers, room),
+        Shape::DwordCountByte => dword_count_byte(text, registers),
     }
 }

@@ -4,9 +4,10 @@ ghost use Rattle.std.specs.Io.BufRead.{strip_last};
 ghost use Rattle.w16_script.specs.Text.{ended, HasNoLf};
 ghost use Rattle.w16_script.specs.Progress.{with_bytes, IsWithinLimits, Overflows, room_of};
 ghost use Rattle.w16_script.specs.Feeding.{Feeds, FailsAt, Stops};
-ghost use Rattle.w16_script.specs.Unfinished.{progress_of};
+ghost use Rattle.w16_script.specs.Unfinished.{progress_of, state_of};
 
 use crate::outcome::RunFault;
+use crate::registers::Registers;
 use crate::running::run_line;
 use arrayvec::ArrayVec;
 use memchr::memchr;
@@ -19,26 +20,30 @@ const LONGEST_LINE: usize = 4096;
 /// How many lines may end.
 const MOST_LINES: u32 = 1_000_000;
 
-/// What is known between two bytes: the line so far, how many lines ended before it, and how many of those
-/// had a reply.
+/// What is known between two bytes: the line so far, how many lines ended before it, how many of those had a
+/// reply, and the registers.
 #[derive(Drop)]
 pub struct Unfinished {
     pub line: ArrayVec<u8, LONGEST_LINE>,
     pub lines: u32,
     pub replies: u32,
+    pub registers: Registers,
 }
 
 impl Unfinished {
+    ghost use Rattle.w16_script.specs.Registers.{zeros};
     ghost use Rattle.w16_script.specs.Progress.{fresh};
 
     /// Before the first byte.
     pub fn new() -> Self
-        ensures { progress_of result ≡ fresh }
+        ensures progress { progress_of result ≡ fresh }
+        ensures registers { result.registers ≡ zeros }
     {
         Unfinished {
             line: ArrayVec::new(),
             lines: 0,
             replies: 0,
+            registers: Registers::new(),
         }
     }
 
@@ -48,6 +53,7 @@ impl Unfinished {
         requires fits { IsWithinLimits (progress_of self.old) }
         requires one_line { HasNoLf bytes.now }
         ensures ok { OnOk result (progress_of self.new ≡ with_bytes (progress_of self.old) bytes.now) }
+        ensures registers { self.new.registers ≡ self.old.registers }
         ensures within { OnOk result (IsWithinLimits (progress_of self.new)) }
         ensures err { IfErr result (λ fault. (fault ≡ RunFault.TooLong) × Overflows (progress_of self.old) bytes.now) }
     {
@@ -94,12 +100,17 @@ fn end_line<W: Write>(
 ) -> Result<(), RunFault>
     requires fits { IsWithinLimits (progress_of state.old) }
     requires few { state.old.lines < 1000000 }
-    ensures ok { OnOk result (Feeds (W.contents writer.old) (progress_of state.old) kernel.old (10 ∷ []) (W.contents writer.new) (progress_of state.new) kernel.new) }
+    ensures ok { OnOk result (Feeds (W.contents writer.old) (progress_of state.old) (state_of state.old kernel.old) (10 ∷ []) (W.contents writer.new) (progress_of state.new) (state_of state.new kernel.new)) }
     ensures within { OnOk result (IsWithinLimits (progress_of state.new)) }
     ensures room { OnOk result (room_of (progress_of state.new) < room_of (progress_of state.old)) }
-    ensures err { IfErr result (λ fault. FailsAt (W.contents writer.old) kernel.old (strip_last 13 state.old.line.items) fault (W.contents writer.new) kernel.new) }
+    ensures err { IfErr result (λ fault. FailsAt (W.contents writer.old) (state_of state.old kernel.old) (strip_last 13 state.old.line.items) fault (W.contents writer.new) (state_of state.new kernel.new)) }
 {
-    match run_line(writer, kernel, without_cr(state.line.as_slice())) {
+    match run_line(
+        writer,
+        kernel,
+        &mut state.registers,
+        without_cr(state.line.as_slice()),
+    ) {
         Ok(replied) => {
             state.line.clear();
             state.lines += 1;
@@ -121,10 +132,10 @@ fn take_line<W: Write>(
 ) -> Result<(), RunFault>
     requires fits { IsWithinLimits (progress_of state.old) }
     requires one_line { HasNoLf line.now }
-    ensures ok { OnOk result (Feeds (W.contents writer.old) (progress_of state.old) kernel.old (ended line.now) (W.contents writer.new) (progress_of state.new) kernel.new) }
+    ensures ok { OnOk result (Feeds (W.contents writer.old) (progress_of state.old) (state_of state.old kernel.old) (ended line.now) (W.contents writer.new) (progress_of state.new) (state_of state.new kernel.new)) }
     ensures within { OnOk result (IsWithinLimits (progress_of state.new)) }
     ensures room { OnOk result (room_of (progress_of state.new) + length (ended line.now) ≤ room_of (progress_of state.old)) }
-    ensures err { IfErr result (λ fault. Stops (W.contents writer.old) (progress_of state.old) kernel.old (ended line.now) fault (W.contents writer.new) kernel.new) }
+    ensures err { IfErr result (λ fault. Stops (W.contents writer.old) (progress_of state.old) (state_of state.old kernel.old) (ended line.now) fault (W.contents writer.new) (state_of state.new kernel.new)) }
 {
     if let Err(fault) = state.hold(line) {
         return Err(fault);
@@ -143,10 +154,10 @@ pub fn feed<W: Write>(
     piece: &[u8],
 ) -> Result<(), RunFault>
     requires { IsWithinLimits (progress_of state.old) }
-    ensures ok { OnOk result (Feeds (W.contents writer.old) (progress_of state.old) kernel.old piece.now (W.contents writer.new) (progress_of state.new) kernel.new) }
+    ensures ok { OnOk result (Feeds (W.contents writer.old) (progress_of state.old) (state_of state.old kernel.old) piece.now (W.contents writer.new) (progress_of state.new) (state_of state.new kernel.new)) }
     ensures within { OnOk result (IsWithinLimits (progress_of state.new)) }
     ensures room { OnOk result (room_of (progress_of state.new) + length piece.now ≤ room_of (progress_of state.old)) }
-    ensures err { IfErr result (λ fault. Stops (W.contents writer.old) (progress_of state.old) kernel.old piece.now fault (W.contents writer.new) kernel.new) }
+    ensures err { IfErr result (λ fault. Stops (W.contents writer.old) (progress_of state.old) (state_of state.old kernel.old) piece.now fault (W.contents writer.new) (state_of state.new kernel.new)) }
 {
     let mut rest = piece;
     'lines: while let Some((line, behind)) = split_line(rest) {

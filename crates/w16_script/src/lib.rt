@@ -11,6 +11,7 @@ mod number;
 mod outcome;
 mod print;
 mod read;
+mod registers;
 mod running;
 mod script;
 mod words;
@@ -20,6 +21,7 @@ pub use laws::{arguments_fit, one_reading, plain_bytes};
 pub use line::{Line, read_line};
 pub use outcome::{Ended, RunFault};
 pub use print::{print_error, print_reply};
+pub use registers::Registers;
 pub use script::run;
 
 #[cfg(test)]

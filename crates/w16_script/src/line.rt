@@ -1,22 +1,24 @@
 //! Lines of a script.
-ghost use Rattle.std.specs.Prelude.{◌≡◌, ◌≤◌, length};
+ghost use Rattle.std.specs.Prelude.{◌≡◌, ◌≤◌, ◌<◌, ◌∷◌, ℕ, List, length, IfSome, IfNone, Option, Some};
 ghost use Rattle.w16_kernel.specs.Runs.{command_of};
 ghost use Rattle.w16_script.specs.Words.{words_of};
-ghost use Rattle.w16_script.specs.Grammar.{Reads, IsCommand, shape_of, name_of, arguments_of, HasShape, HasFewBytes};
+ghost use Rattle.w16_script.specs.Grammar.{Reads, GoesTo, IsCommand, text_of, shape_of, name_of, arguments_of, HasShape, HasFewBytes};
 ghost use Rattle.w16_script.specs.Values.{values_of};
 ghost use Rattle.w16_script.specs.Lines.{said_of, IsRunnable};
 
 use crate::arguments::{Arguments, read_arguments};
 use crate::name::Name;
+use crate::registers::{Registers, register};
 use crate::words::split_word;
 use w16_kernel::{Call, Chunk};
 
-/// What a line says: nothing, nothing that is known, or a command.
+/// What a line says: nothing, nothing that is known, or a command, whose reply goes to the target, if there
+/// is one.
 #[derive(Debug, Drop)]
 pub enum Line {
     Silent,
     Bad,
-    Command(Call),
+    Command { target: Option<u8>, call: Call },
 }
 
 /// Bytes, of which there are at most 1,024.
@@ -41,10 +43,20 @@ fn build(name: Name, arguments: Arguments<'_>) -> Call
         (Name::GlobalFree, Arguments::Word(handle)) => Call::GlobalFree { handle },
         (Name::GlobalLock, Arguments::Word(handle)) => Call::GlobalLock { handle },
         (Name::GlobalUnlock, Arguments::Word(handle)) => Call::GlobalUnlock { handle },
+        (Name::GlobalSize, Arguments::Word(handle)) => Call::GlobalSize { handle },
+        (Name::GlobalFlags, Arguments::Word(handle)) => Call::GlobalFlags { handle },
+        (Name::GlobalHandle, Arguments::Word(selector)) => Call::GlobalHandle { selector },
+        (Name::GetSelectorBase, Arguments::Word(selector)) => Call::GetSelectorBase { selector },
+        (Name::GetSelectorLimit, Arguments::Word(selector)) => Call::GetSelectorLimit { selector },
         (Name::Read, Arguments::DwordCount(pointer, count)) => Call::Read { pointer, count },
         (Name::Write, Arguments::DwordBytes(pointer, bytes)) => Call::Write {
             pointer,
             bytes: chunk_of(bytes),
+        },
+        (Name::Fill, Arguments::DwordCountByte(pointer, count, byte)) => Call::Fill {
+            pointer,
+            count,
+            byte,
         },
         _ => unreachable!(),
     }
@@ -53,31 +65,71 @@ fn build(name: Name, arguments: Arguments<'_>) -> Call
 /// The command of this name with the arguments in this text, or a bad line. The call is built in place: it is
 /// large.
 #[tactic(auto, using(crate::proofs::ArgumentLemmas::shaped, crate::proofs::ArgumentLemmas::few, crate::proofs::ArgumentLemmas::built, crate::proofs::ArgumentLemmas::refused))]
-fn command(name: Name, text: &[u8]) -> Line
-    ensures says { IsCommand name (words_of text.now) (said_of result) }
+fn command(target: Option<u8>, name: Name, text: &[u8], registers: &Registers) -> Line
+    requires { IfSome target (λ r. r < 100) }
+    ensures says { IsCommand registers.now target name (words_of text.now) (said_of result) }
     ensures runnable { IsRunnable result }
 {
     let mut room = [0; 1024];
-    match read_arguments(text, name.shape(), &mut room) {
-        Some(arguments) => Line::Command(build(name, arguments)),
+    match read_arguments(text, name.shape(), registers, &mut room) {
+        Some(arguments) => Line::Command {
+            target,
+            call: build(name, arguments),
+        },
         None => Line::Bad,
     }
 }
 
-/// Reads a line, from which its LF and a CR directly before it were taken off. It allocates nothing, and
-/// always answers: what is neither silent nor a command is `Bad`.
-pub fn read_line(line: &[u8]) -> Line
-    ensures reads { Reads line.now (said_of result) }
+/// The register before a command, `rN =`, and what stands behind it.
+fn split_target<'a>(word: &[u8], text: &'a [u8]) -> Option<(u8, &'a [u8])>
+    ensures found { IfSome result (λ split. GoesTo (word.now ∷ words_of text.now) (Some split.0) (words_of split.1.now)) }
+    ensures small { IfSome result (λ split. split.0 < 100) }
+    ensures none { IfNone result ((r : ℕ) (rest : List (List ℕ)) → GoesTo (word.now ∷ words_of text.now) (Some r) rest → ⊥) }
+{
+    let Some(register) = register(word) else {
+        return None;
+    };
+    match split_word(text) {
+        Some((b"=", behind)) => Some((register, behind)),
+        _ => None,
+    }
+}
+
+/// The register before a command, if there is one, the command's name, and what stands behind it.
+fn head<'a>(word: &[u8], text: &'a [u8]) -> Option<(Option<u8>, Name, &'a [u8])>
+    ensures found { IfSome result (λ head. GoesTo (word.now ∷ words_of text.now) head.0 (text_of head.1 ∷ words_of head.2.now)) }
+    ensures small { IfSome result (λ head. IfSome head.0 (λ r. r < 100)) }
+    ensures none { IfNone result ((target : Option ℕ) (name : Name) (rest : List (List ℕ)) → GoesTo (word.now ∷ words_of text.now) target (text_of name ∷ rest) → ⊥) }
+{
+    let Some((register, command)) = split_target(word, text) else {
+        let Some(name) = Name::find(word) else {
+            return None;
+        };
+        return Some((None, name, text));
+    };
+    let Some((word, behind)) = split_word(command) else {
+        return None;
+    };
+    let Some(name) = Name::find(word) else {
+        return None;
+    };
+    Some((Some(register), name, behind))
+}
+
+/// Reads a line, from which its LF and a CR directly before it were taken off, with what the registers have.
+/// It allocates nothing, and always answers: what is neither silent nor a command is `Bad`.
+pub fn read_line(line: &[u8], registers: &Registers) -> Line
+    ensures reads { Reads registers.now line.now (said_of result) }
     ensures runnable { IsRunnable result }
 {
-    let Some((name, behind)) = split_word(line) else {
+    let Some((word, behind)) = split_word(line) else {
         return Line::Silent;
     };
-    if name[0] == b';' {
+    if word[0] == b';' {
         return Line::Silent;
     }
-    let Some(name) = Name::find(name) else {
-        return Line::Bad;
-    };
-    command(name, behind)
+    match head(word, behind) {
+        Some((target, name, text)) => command(target, name, text, registers),
+        None => Line::Bad,
+    }
 }

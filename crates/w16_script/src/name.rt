@@ -10,8 +10,14 @@ pub enum Name {
     GlobalFree,
     GlobalLock,
     GlobalUnlock,
+    GlobalSize,
+    GlobalFlags,
+    GlobalHandle,
+    GetSelectorBase,
+    GetSelectorLimit,
     Read,
     Write,
+    Fill,
 }
 
 impl Name {
@@ -30,10 +36,22 @@ impl Name {
             Some(Name::GlobalLock)
         } else if word == b"GlobalUnlock".as_slice() {
             Some(Name::GlobalUnlock)
+        } else if word == b"GlobalSize".as_slice() {
+            Some(Name::GlobalSize)
+        } else if word == b"GlobalFlags".as_slice() {
+            Some(Name::GlobalFlags)
+        } else if word == b"GlobalHandle".as_slice() {
+            Some(Name::GlobalHandle)
+        } else if word == b"GetSelectorBase".as_slice() {
+            Some(Name::GetSelectorBase)
+        } else if word == b"GetSelectorLimit".as_slice() {
+            Some(Name::GetSelectorLimit)
         } else if word == b"Read".as_slice() {
             Some(Name::Read)
         } else if word == b"Write".as_slice() {
             Some(Name::Write)
+        } else if word == b"Fill".as_slice() {
+            Some(Name::Fill)
         } else {
             None
         }
@@ -48,8 +66,14 @@ impl Name {
             Name::GlobalFree => Shape::Word,
             Name::GlobalLock => Shape::Word,
             Name::GlobalUnlock => Shape::Word,
+            Name::GlobalSize => Shape::Word,
+            Name::GlobalFlags => Shape::Word,
+            Name::GlobalHandle => Shape::Word,
+            Name::GetSelectorBase => Shape::Word,
+            Name::GetSelectorLimit => Shape::Word,
             Name::Read => Shape::DwordCount,
             Name::Write => Shape::DwordBytes,
+            Name::Fill => Shape::DwordCountByte,
         }
     }
 }

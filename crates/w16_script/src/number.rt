@@ -1,7 +1,9 @@
 //! Numbers in text.
 ghost use Rattle.std.specs.Prelude.{◌≡◌, ℕ, ◌+◌, ◌*◌, ◌^◌, ◌<◌, ◌≤◌, IfSome, IfNone, Some};
 ghost use Rattle.hex.specs.Hex.{hex_digit_value};
-ghost use Rattle.w16_script.specs.Numbers.{IsDigits, IsNumber};
+ghost use Rattle.w16_script.specs.Numbers.{IsDigits, IsLiteral, IsForm, IsOfRegister, IsNumber};
+
+use crate::registers::{Registers, split_register};
 
 /// The value of a hexadecimal digit of either case.
 fn digit(byte: u8) -> Option<u32>
@@ -39,10 +41,10 @@ fn digits(text: &[u8], base: u32) -> Option<u32>
     Some(value)
 }
 
-/// The number that a word is, in one of the two forms.
-pub fn number(word: &[u8]) -> Option<u32>
-    ensures found { IfSome result (λ n. IsNumber word.now n) }
-    ensures none { IfNone result ((n : ℕ) → IsNumber word.now n → ⊥) }
+/// A number that stands as it is, in one of the two forms.
+fn literal(word: &[u8]) -> Option<u32>
+    ensures found { IfSome result (λ n. IsLiteral word.now n) }
+    ensures none { IfNone result ((n : ℕ) → IsLiteral word.now n → ⊥) }
 {
     match word {
         [] => None,
@@ -54,5 +56,52 @@ pub fn number(word: &[u8]) -> Option<u32>
             }
         }
         _ => digits(word, 10),
+    }
+}
+
+/// A register's value and a number that stands as it is.
+fn sum(value: u32, tail: &[u8]) -> Option<u32>
+    ensures found { IfSome result (λ n. (more : ℕ) × IsLiteral tail.now more × (n ≡ value + more)) }
+    ensures none { IfNone result ((more : ℕ) → IsLiteral tail.now more → value + more < 2 ^ 32 → ⊥) }
+{
+    let Some(more) = literal(tail) else {
+        return None;
+    };
+    value.checked_add(more)
+}
+
+/// The number that a register's value makes with this behind the register's name.
+fn form(value: u32, suffix: &[u8]) -> Option<u32>
+    ensures found { IfSome result (λ n. IsForm value suffix.now n) }
+    ensures none { IfNone result ((n : ℕ) → n < 2 ^ 32 → IsForm value suffix.now n → ⊥) }
+{
+    match suffix.split_first() {
+        None => Some(value),
+        Some((b'+', tail)) => sum(value, tail),
+        Some((b'.', b"lo")) => Some(value % 65_536),
+        Some((b'.', b"hi")) => Some(value / 65_536),
+        Some(_) => None,
+    }
+}
+
+/// The number of a word that begins with a register's name.
+fn of_register(word: &[u8], registers: &Registers) -> Option<u32>
+    ensures found { IfSome result (λ n. IsOfRegister registers.now word.now n) }
+    ensures none { IfNone result ((n : ℕ) → n < 2 ^ 32 → IsOfRegister registers.now word.now n → ⊥) }
+{
+    let Some((register, suffix)) = split_register(word) else {
+        return None;
+    };
+    form(registers.get(register), suffix)
+}
+
+/// The number that a word is: from a register, or as it stands.
+pub fn number(word: &[u8], registers: &Registers) -> Option<u32>
+    ensures found { IfSome result (λ n. IsNumber registers.now word.now n) }
+    ensures none { IfNone result ((n : ℕ) → IsNumber registers.now word.now n → ⊥) }
+{
+    match of_register(word, registers) {
+        Some(number) => Some(number),
+        None => literal(word),
     }
 }

@@ -89,6 +89,7 @@ fn fault_line(fault: FarFault) -> &'static [u8]
 {
     match fault {
         FarFault::BadSelector => b"fault selector\n",
+        FarFault::ReadOnly => b"fault readonly\n",
         FarFault::NotPresent => b"fault notpresent\n",
         FarFault::Limit => b"fault limit\n",
     }

@@ -1,35 +1,41 @@
 //! One line of a script.
 ghost use Rattle.std.specs.Prelude.{◌≡◌, [], ◌∷◌, IfOk, IfErr, OnOk};
+ghost use Rattle.w16_script.specs.State.{state_with};
 ghost use Rattle.w16_script.specs.Output.{RunsLines, has_reply};
 ghost use Rattle.w16_script.specs.Feeding.{FailsAt};
 
 use crate::line::{Line, read_line};
 use crate::outcome::RunFault;
 use crate::print::{print_error, print_reply};
+use crate::registers::Registers;
 use std::io::Write;
 use w16_kernel::Kernel;
 
-/// Runs a line, and says whether it has a reply.
+/// Runs a line, stores its reply where it says so, and says whether it has one.
 pub fn run_line<W: Write>(
     writer: &mut W,
     kernel: &mut Kernel,
+    registers: &mut Registers,
     line: &[u8],
 ) -> Result<bool, RunFault>
-    ensures ok { OnOk result (RunsLines (W.contents writer.old) kernel.old (line.now ∷ []) (W.contents writer.new) kernel.new) }
+    ensures ok { OnOk result (RunsLines (W.contents writer.old) (state_with kernel.old registers.old) (line.now ∷ []) (W.contents writer.new) (state_with kernel.new registers.new)) }
     ensures replied { IfOk result (λ replied. replied ≡ has_reply line.now) }
-    ensures err { IfErr result (λ fault. FailsAt (W.contents writer.old) kernel.old line.now fault (W.contents writer.new) kernel.new) }
+    ensures err { IfErr result (λ fault. FailsAt (W.contents writer.old) (state_with kernel.old registers.old) line.now fault (W.contents writer.new) (state_with kernel.new registers.new)) }
 {
-    match read_line(line) {
+    match read_line(line, registers) {
         Line::Silent => Ok(false),
         Line::Bad => match print_error(writer) {
             Ok(()) => Ok(true),
             Err(_) => Err(RunFault::Write),
         },
-        Line::Command(call) => match kernel.call(&call) {
-            Ok(reply) => match print_reply(writer, &reply) {
-                Ok(()) => Ok(true),
-                Err(_) => Err(RunFault::Write),
-            },
+        Line::Command { target, call } => match kernel.call(&call) {
+            Ok(reply) => {
+                registers.store(target, &reply);
+                match print_reply(writer, &reply) {
+                    Ok(()) => Ok(true),
+                    Err(_) => Err(RunFault::Write),
+                }
+            }
             Err(_) => Err(RunFault::Memory),
         },
     }

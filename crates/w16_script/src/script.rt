@@ -3,7 +3,7 @@ ghost use Rattle.std.specs.Prelude.{◌≡◌, ◌<◌, ℕ, List, length, IfOk,
 ghost use Rattle.std.specs.Io.KnownBytes.{Consumes, IsAtEnd};
 ghost use Rattle.w16_script.specs.Progress.{IsWithinLimits};
 ghost use Rattle.w16_script.specs.Feeding.{FailsAt};
-ghost use Rattle.w16_script.specs.Unfinished.{progress_of};
+ghost use Rattle.w16_script.specs.Unfinished.{progress_of, state_of};
 ghost use Rattle.w16_script.specs.Whole.{Finishes, Script, FailsLater, Fails};
 
 use crate::feed::{Unfinished, feed};
@@ -19,14 +19,14 @@ const PIECE: usize = 65_536;
 
 /// Runs the last line, if there is one.
 fn finish<W: Write>(
-    state: &Unfinished,
+    state: &mut Unfinished,
     writer: &mut W,
     kernel: &mut Kernel,
 ) -> Result<Ended, RunFault>
-    requires { IsWithinLimits (progress_of state.now) }
-    ensures ok { IfOk result (λ counts. Finishes (W.contents writer.old) (progress_of state.now) kernel.old (W.contents writer.new) kernel.new counts) }
-    ensures err { IfErr result (λ fault. (0 < length state.now.line.items)
-        × FailsAt (W.contents writer.old) kernel.old state.now.line.items fault (W.contents writer.new) kernel.new) }
+    requires { IsWithinLimits (progress_of state.old) }
+    ensures ok { IfOk result (λ counts. Finishes (W.contents writer.old) (progress_of state.old) (state_of state.old kernel.old) (W.contents writer.new) (state_of state.new kernel.new) counts) }
+    ensures err { IfErr result (λ fault. (0 < length state.old.line.items)
+        × FailsAt (W.contents writer.old) (state_of state.old kernel.old) state.old.line.items fault (W.contents writer.new) (state_of state.new kernel.new)) }
 {
     let line = state.line.as_slice();
     if line.is_empty() {
@@ -35,7 +35,7 @@ fn finish<W: Write>(
             replies: state.replies,
         });
     }
-    match run_line(writer, kernel, line) {
+    match run_line(writer, kernel, &mut state.registers, line) {
         Ok(replied) => Ok(Ended {
             lines: state.lines + 1,
             replies: state.replies + u32::from(replied),
@@ -64,7 +64,7 @@ fn run_over<R: Read, W: Write>(
             Err(_) => return Err(RunFault::Read),
         };
         if count == 0 {
-            return finish(&state, writer, kernel);
+            return finish(&mut state, writer, kernel);
         }
         if let Err(fault) = feed(&mut state, writer, kernel, &buffer[..count]) {
             return Err(fault);
@@ -72,8 +72,8 @@ fn run_over<R: Read, W: Write>(
     }
 }
 
-/// Reads a script to its end, runs each line on the machine, and writes its replies and nothing else. It takes
-/// memory at its start alone, and reads by pieces of 64 KiB.
+/// Reads a script to its end, runs each line on the machine, and writes its replies and nothing else. Its
+/// registers begin as 0. It takes memory at its start alone, and reads by pieces of 64 KiB.
 ///
 /// `RunFault` says when each fault comes. Where the reader or the writer doesn't tell its bytes, nothing is
 /// claimed of them.

@@ -1,6 +1,7 @@
+mod registers;
 mod runs;
 
-use crate::{Line, RunFault, print_error, print_reply, read_line};
+use crate::{Line, Registers, RunFault, print_error, print_reply, read_line};
 use arrayvec::ArrayVec;
 use std::io::{Error, ErrorKind, Result, Write};
 use std::process::Abort;
@@ -42,51 +43,44 @@ pub fn limited(left: usize, at_once: usize) -> Short {
 
 /// The handle of a line that frees one.
 fn freed(line: &[u8]) -> Option<u16> {
-    match read_line(line) {
-        Line::Command(Call::GlobalFree { handle }) => Some(handle),
+    match read_line(line, &Registers::new()) {
+        Line::Command {
+            call: Call::GlobalFree { handle },
+            ..
+        } => Some(handle),
+        _ => None,
+    }
+}
+
+/// The call of a line that has one and goes to no register.
+fn call_of(line: &[u8]) -> Option<Call> {
+    match read_line(line, &Registers::new()) {
+        Line::Command { target: None, call } => Some(call),
         _ => None,
     }
 }
 
 #[test]
-fn reads_each_command(rt: HostRuntime) {
-    assert!(rt;
-        matches!(
-            read_line(b"GlobalAlloc 0x42 100"),
-            Line::Command(Call::GlobalAlloc {
-                flags: 0x42,
-                size: 100
-            })
-        )
-    );
-    assert!(rt;
-        matches!(
-            read_line(b"GlobalFree 0x106"),
-            Line::Command(Call::GlobalFree { handle: 0x106 })
-        )
-    );
-    assert!(rt;
-        matches!(
-            read_line(b"GlobalLock 262"),
-            Line::Command(Call::GlobalLock { handle: 262 })
-        )
-    );
-    assert!(rt;
-        matches!(
-            read_line(b"GlobalUnlock 0x0106"),
-            Line::Command(Call::GlobalUnlock { handle: 0x106 })
-        )
-    );
-    assert!(rt;
-        matches!(
-            read_line(b"Read 0x01070000 4"),
-            Line::Command(Call::Read {
-                pointer: 0x0107_0000,
-                count: 4
-            })
-        )
-    );
-    let Line::Command(Call::Write { pointer, bytes }) = read_line(b"Write 0x01070000 4e45Ff") else {
+fn reads_each_call(rt: HostRuntime) {
+    assert!(rt; matches!(call_of(b"GlobalAlloc 0x42 100"), Some(Call::GlobalAlloc { flags: 0x42, size: 100 })));
+    assert!(rt; matches!(call_of(b"GlobalFree 0x106"), Some(Call::GlobalFree { handle: 0x106 })));
+    assert!(rt; matches!(call_of(b"GlobalLock 262"), Some(Call::GlobalLock { handle: 262 })));
+    assert!(rt; matches!(call_of(b"GlobalUnlock 0x0106"), Some(Call::GlobalUnlock { handle: 0x106 })));
+    assert!(rt; matches!(call_of(b"GlobalSize 0x106"), Some(Call::GlobalSize { handle: 0x106 })));
+    assert!(rt; matches!(call_of(b"GlobalFlags 0x106"), Some(Call::GlobalFlags { handle: 0x106 })));
+    assert!(rt; matches!(call_of(b"GlobalHandle 0x107"), Some(Call::GlobalHandle { selector: 0x107 })));
+    assert!(rt; matches!(call_of(b"GetSelectorBase 0x107"), Some(Call::GetSelectorBase { selector: 0x107 })));
+    assert!(rt; matches!(call_of(b"GetSelectorLimit 0x107"), Some(Call::GetSelectorLimit { selector: 0x107 })));
+}
+
+#[test]
+fn reads_far_accesses(rt: HostRuntime) {
+    assert!(rt; matches!(call_of(b"Read 0x01070000 4"), Some(Call::Read { pointer: 0x0107_0000, count: 4 })));
+    assert!(rt; matches!(call_of(b"Fill 0x01070000 65536 255"), Some(Call::Fill { pointer: 0x0107_0000, count: 65_536, byte: 255 })));
+    assert!(rt; call_of(b"Fill 0x01070000 65537 255").is_none());
+    assert!(rt; call_of(b"Fill 0x01070000 1 256").is_none());
+    assert!(rt; call_of(b"Fill 0x01070000 1").is_none());
+    let Some(Call::Write { pointer, bytes }) = call_of(b"Write 0x01070000 4e45Ff") else {
         return rt.abort();
     };
     assert_eq!(rt; pointer, 0x0107_0000);
@@ -111,36 +105,45 @@ fn reads_numbers(rt: HostRuntime) {
     }
     assert!(rt;
         matches!(
-            read_line(b"GlobalAlloc 0xffff 4294967295"),
-            Line::Command(Call::GlobalAlloc {
-                flags: 65535,
-                size: 4_294_967_295
-            })
+            read_line(b"GlobalAlloc 0xffff 4294967295", &Registers::new()),
+            Line::Command {
+                target: None,
+                call: Call::GlobalAlloc {
+                    flags: 65535,
+                    size: 4_294_967_295
+                }
+            }
         )
     );
     assert!(rt;
         matches!(
-            read_line(b"Read 0xffffffff 1024"),
-            Line::Command(Call::Read {
-                pointer: 0xffff_ffff,
-                count: 1024
-            })
+            read_line(b"Read 0xffffffff 1024", &Registers::new()),
+            Line::Command {
+                target: None,
+                call: Call::Read {
+                    pointer: 0xffff_ffff,
+                    count: 1024
+                }
+            }
         )
     );
     assert!(rt;
         matches!(
-            read_line(b"Read 0 0x0"),
-            Line::Command(Call::Read {
-                pointer: 0,
-                count: 0
-            })
+            read_line(b"Read 0 0x0", &Registers::new()),
+            Line::Command {
+                target: None,
+                call: Call::Read {
+                    pointer: 0,
+                    count: 0
+                }
+            }
         )
     );
 }
 
 #[test]
 fn refuses_other_numbers(rt: HostRuntime) {
-    let lines: [&[u8]; 19] = [
+    let lines: [&[u8]; 16] = [
         b"GlobalFree 65536",
         b"GlobalFree 0x10000",
         b"GlobalFree 4294967296",
@@ -154,15 +157,15 @@ fn refuses_other_numbers(rt: HostRuntime) {
         b"GlobalFree +1",
         b"GlobalFree 1_0",
         b"GlobalFree a",
-        b"GlobalFree r0",
-        b"GlobalFree r0.lo",
-        b"GlobalFree r0+1",
         b"GlobalAlloc 2 4294967296",
         b"Read 0 1025",
         b"Read 4294967296 0",
     ];
     for (at, line) in lines.iter().enumerate() {
-        assert!(rt; matches!(read_line(line), Line::Bad), "at {at}");
+        assert!(rt;
+            matches!(read_line(line, &Registers::new()), Line::Bad),
+            "at {at}"
+        );
     }
 }
 
@@ -179,7 +182,7 @@ fn refuses_other_lines(rt: HostRuntime) {
         b"GlobalFree 1 ; a comment",
         b"GlobalAlloc 2",
         b"GlobalAlloc 2 1 0",
-        b"r0 = GlobalAlloc 2 1",
+        b"r100 = GlobalAlloc 2 1",
         b"r1=GlobalLock 262",
         b"r1 =",
         b"=",
@@ -196,7 +199,10 @@ fn refuses_other_lines(rt: HostRuntime) {
         b"Write 0 12 34",
     ];
     for (at, line) in lines.iter().enumerate() {
-        assert!(rt; matches!(read_line(line), Line::Bad), "at {at}");
+        assert!(rt;
+            matches!(read_line(line, &Registers::new()), Line::Bad),
+            "at {at}"
+        );
     }
 }
 
@@ -213,7 +219,10 @@ fn passes_over_silent_lines(rt: HostRuntime) {
         b";;",
     ];
     for (at, line) in lines.iter().enumerate() {
-        assert!(rt; matches!(read_line(line), Line::Silent), "at {at}");
+        assert!(rt;
+            matches!(read_line(line, &Registers::new()), Line::Silent),
+            "at {at}"
+        );
     }
 }
 
@@ -222,8 +231,11 @@ fn written(digits: usize) -> Option<usize> {
     let mut line: ArrayVec<u8, 2100> = ArrayVec::new();
     let _ = line.try_extend_from_slice(b"Write 0 ");
     let _ = line.try_extend_from_slice([b'a'; 2080].split_at(digits.min(2080)).0);
-    match read_line(line.as_slice()) {
-        Line::Command(Call::Write { bytes, .. }) => Some(bytes.len()),
+    match read_line(line.as_slice(), &Registers::new()) {
+        Line::Command {
+            call: Call::Write { bytes, .. },
+            ..
+        } => Some(bytes.len()),
         _ => None,
     }
 }

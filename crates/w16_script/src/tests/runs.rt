@@ -101,7 +101,11 @@ fn counts_lines_and_replies(rt: HostRuntime) -> Tested {
         (b"\r", 1, 1),
         (b";\r", 1, 0),
         (b" ", 1, 0),
-        (b"Read 0 1025\nGlobalAlloc 2\n\nr0 = GlobalAlloc 2 1", 4, 3),
+        (
+            b"Read 0 1025\nGlobalAlloc 2\n\nr100 = GlobalAlloc 2 1",
+            4,
+            3,
+        ),
         (b"\n\r\n\rFrob\n", 3, 1),
         (b"; Frob\nFrob ; Frob\n", 2, 1),
     ];

@@ -1,5 +1,6 @@
 use Rattle.std.proofs.Common.{ℕ, List, ◌++◌, [], length-append, sym, ap, ◌∙◌, append-nil, append_assoc, arith}
 use Rattle.std.proofs.lemmas.Result.{IfErr-weaker}
+use Rattle.w16_script.specs.State.{state_with}
 use Rattle.w16_script.specs.Text.{ended}
 use Rattle.w16_script.specs.Unfinished.{progress_of}
 use Rattle.w16_script.proofs.FeedLemmas.{Feeds-trans, Stops-overflow, Stops-later}
@@ -31,5 +32,5 @@ returns-clause-err g c =
     IfErr-weaker c.hold.result _ _
     (λ fault over. Stops-later _ _ _ (progress_of c.args.state.now) (progress_of c.lines.state) _ _ _ c.args.piece.now done (c.lines.rest.now ++ []) [] fault
     (whole ∙ ap (λ (l : List ℕ). done ++ l) (sym (append-nil (c.lines.rest.now ++ []) ∙ append-nil c.lines.rest.now))) feeds
-    (Stops-overflow _ (progress_of c.lines.state) _ c.lines.rest.now [] fault c.in_default.ensures.none over.0 over.1))
+    (Stops-overflow _ (progress_of c.lines.state) _ _ c.lines.rest.now [] fault c.in_default.ensures.none (ap (state_with c.lines.kernel) c.hold.ensures.registers) over.0 over.1))
     c.hold.ensures.err

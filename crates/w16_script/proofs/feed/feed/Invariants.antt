@@ -1,14 +1,14 @@
 use Rattle.std.proofs.Common.{◌≡◌, ℕ, ◌+◌, ◌≤◌, List, ◌++◌, length}
 use Rattle.w16_script.specs.Progress.{IsWithinLimits, room_of}
 use Rattle.w16_script.specs.Feeding.{Feeds}
-use Rattle.w16_script.specs.Unfinished.{progress_of}
+use Rattle.w16_script.specs.Unfinished.{progress_of, state_of}
 use Rattle.w16_script.proofs.feed.feed.Given as goal
 
 -- the front of the piece was fed
 abbrev pub invariant-lines : goal.invariant-lines
 invariant-lines g l = record {
   fed : (done : List ℕ) × (l.piece ≡ done ++ l.rest)
-      × Feeds (g.W.Write.contents l.initial.writer) (progress_of l.initial.state) l.initial.kernel done (g.W.Write.contents l.writer) (progress_of l.state) l.kernel
+      × Feeds (g.W.Write.contents l.initial.writer) (progress_of l.initial.state) (state_of l.initial.state l.initial.kernel) done (g.W.Write.contents l.writer) (progress_of l.state) (state_of l.state l.kernel)
       × (room_of (progress_of l.state) + length done ≤ room_of (progress_of l.initial.state));
   fits : IsWithinLimits (progress_of l.state);
 }

@@ -11,7 +11,7 @@ returns-in-Silent-clause-ok g c = record {
   events = [];
   output = [];
   run = refl;
-  prints = Prints-one c.args.line.now Said.Silent [] [] c.in-Silent.ensures.reads refl;
+  prints = Prints-one c.args.registers.now c.args.line.now Said.Silent [] [] c.args.registers.now c.in-Silent.ensures.reads refl refl;
   appends = Appends-nil _;
 }
 
@@ -20,13 +20,13 @@ returns-in-Ok-clause-ok g c = record {
   events = [];
   output = error_text;
   run = refl;
-  prints = Prints-one c.args.line.now Said.Bad [] error_text c.in-Bad.ensures.reads refl;
+  prints = Prints-one c.args.registers.now c.args.line.now Said.Bad [] error_text c.args.registers.now c.in-Bad.ensures.reads refl refl;
   appends = c.in-Ok.ensures.ok;
 }
 
 pub returns-in-Err-clause-err : goal.returns-in-Err-clause-err
 returns-in-Err-clause-err g c =
-    ([], error_text, refl, Prints-one c.args.line.now Said.Bad [] error_text c.in-Bad.ensures.reads refl, c.in-Err.ensures.err)
+    ([], error_text, refl, Prints-one c.args.registers.now c.args.line.now Said.Bad [] error_text c.args.registers.now c.in-Bad.ensures.reads refl refl, c.in-Err.ensures.err)
 
 pub returns-in-Ok-print_reply-clause-ok : goal.returns-in-Ok-print_reply-clause-ok
 returns-in-Ok-print_reply-clause-ok g c =
@@ -36,8 +36,8 @@ returns-in-Ok-print_reply-clause-ok g c =
     record {
       events = event ∷ [];
       output = text;
-      run = (c.in-Ok-call.ensures.step, refl);
-      prints = Prints-one c.args.line.now (Said.Says command) (event ∷ []) text c.in-Command.ensures.reads (refl, refl);
+      run = (c.in-Ok-call.ensures.step, refl {a = c.call.new.self});
+      prints = Prints-one c.args.registers.now c.args.line.now (Said.Says c.in-Command.target command) (event ∷ []) text c.store.new.self c.in-Command.ensures.reads (refl, refl) c.store.ensures;
       appends = c.in-Ok-print_reply.ensures.ok;
     }
 
@@ -48,7 +48,7 @@ returns-in-Err-print_reply-clause-err g c =
     let text = reply_text (reply_of c.in-Ok-call.reply) in (
       event ∷ [],
       text,
-      (c.in-Ok-call.ensures.step, refl),
-      Prints-one c.args.line.now (Said.Says command) (event ∷ []) text c.in-Command.ensures.reads (refl, refl),
+      (c.in-Ok-call.ensures.step, refl {a = c.call.new.self}),
+      Prints-one c.args.registers.now c.args.line.now (Said.Says c.in-Command.target command) (event ∷ []) text c.store.new.self c.in-Command.ensures.reads (refl, refl) c.store.ensures,
       c.in-Err-print_reply.ensures.err,
     )

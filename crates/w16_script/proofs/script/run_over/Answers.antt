@@ -1,6 +1,7 @@
-use Rattle.std.proofs.Common.{[], ◌++◌, take, length-take, arith, subst, sym}
+use Rattle.std.proofs.Common.{[], ◌++◌, take, length-take, arith, subst, sym, ap}
 use Rattle.std.proofs.lemmas.Result.{IfOk-weaker, IfErr-weaker}
 use Rattle.std.proofs.KnownBytes.{Consumes-nil, Consumes-trans}
+use Rattle.w16_script.specs.State.{state_with}
 use Rattle.w16_script.specs.Progress.{fresh, IsWithinLimits}
 use Rattle.w16_script.specs.Unfinished.{progress_of}
 use Rattle.w16_script.proofs.FeedLemmas.{Feeds-held, Feeds-trans}
@@ -9,8 +10,8 @@ use Rattle.w16_script.proofs.script.run_over.Goals as goal
 
 pub pieces-init : goal.pieces-init
 pieces-init g c = record {
-  fed = ([], Consumes-nil _, Feeds-held _ fresh (progress_of c.new-state.result) _ [] tt c.new-state.ensures);
-  fits = subst IsWithinLimits (sym c.new-state.ensures) fresh-fits;
+  fed = ([], Consumes-nil _, Feeds-held _ fresh (progress_of c.new-state.result) _ _ [] tt c.new-state.ensures.progress (ap (state_with c.args.kernel.now) c.new-state.ensures.registers));
+  fits = subst IsWithinLimits (sym c.new-state.ensures.progress) fresh-fits;
   size = c.requires;
 }
 
@@ -32,7 +33,7 @@ returns-in-Err-feed-clause-err g c =
     let (text, consumed, feeds) = c.pieces.invariant.fed in (
       text ++ take c.in-Ok.count c.read_some.new.buffer,
       Consumes-trans _ _ _ _ _ consumed c.in-Ok.ensures.ok,
-      FailsLater-piece _ _ _ _ _ _ _ _ text _ c.in-Err-feed.fault feeds (omega (arith, c.pieces.invariant.size, c.read_some.auto.buffer, length-take c.in-Ok.count c.read_some.new.buffer)) c.in-Err-feed.ensures.err,
+      FailsLater-piece _ _ _ _ _ _ _ _ _ text _ c.in-Err-feed.fault feeds (omega (arith, c.pieces.invariant.size, c.read_some.auto.buffer, length-take c.in-Ok.count c.read_some.new.buffer)) c.in-Err-feed.ensures.err,
     )
 
 pub returns-then-count-eq0-clause-ok : goal.returns-then-count-eq0-clause-ok
@@ -43,7 +44,7 @@ returns-then-count-eq0-clause-ok g c =
       text,
       Consumes-none _ _ _ _ _ _ c.if-count-eq0.true consumed c.in-Ok.ensures.ok,
       c.in-Ok.ensures.end c.if-count-eq0.true,
-      Script-from _ _ _ _ _ _ _ text counts feeds c.pieces.invariant.fits finishes,
+      Script-from _ _ _ _ _ _ _ _ text counts feeds c.pieces.invariant.fits finishes,
     ))
     c.finish.ensures.ok
 
@@ -54,6 +55,6 @@ returns-then-count-eq0-clause-err g c =
     (λ fault (filled, fails). (
       text,
       Consumes-none _ _ _ _ _ _ c.if-count-eq0.true consumed c.in-Ok.ensures.ok,
-      FailsLater-last _ _ _ _ _ _ _ _ text fault (c.in-Ok.ensures.end c.if-count-eq0.true) feeds c.pieces.invariant.fits filled fails,
+      FailsLater-last _ _ _ _ _ _ _ _ _ text fault (c.in-Ok.ensures.end c.if-count-eq0.true) feeds c.pieces.invariant.fits filled fails,
     ))
     c.finish.ensures.err

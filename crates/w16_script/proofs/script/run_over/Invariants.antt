@@ -1,15 +1,16 @@
 use Rattle.std.proofs.Common.{◌≡◌, ℕ, List, length}
 use Rattle.std.specs.Io.KnownBytes.{Consumes}
+use Rattle.w16_script.specs.State.{start}
 use Rattle.w16_script.specs.Progress.{fresh, IsWithinLimits, room_of}
 use Rattle.w16_script.specs.Feeding.{Feeds}
-use Rattle.w16_script.specs.Unfinished.{progress_of}
+use Rattle.w16_script.specs.Unfinished.{progress_of, state_of}
 use Rattle.w16_script.proofs.script.run_over.Given as goal
 
 -- what was read so far was fed
 abbrev pub invariant-pieces : goal.invariant-pieces
 invariant-pieces g l = record {
   fed : (text : List ℕ) × Consumes (g.R.Read.remaining l.initial.reader) (g.R.Read.remaining l.reader) text
-      × Feeds (g.W.Write.contents l.initial.writer) fresh l.initial.kernel text (g.W.Write.contents l.writer) (progress_of l.state) l.kernel;
+      × Feeds (g.W.Write.contents l.initial.writer) fresh (start l.initial.kernel) text (g.W.Write.contents l.writer) (progress_of l.state) (state_of l.state l.kernel);
   fits : IsWithinLimits (progress_of l.state);
   size : length l.buffer ≡ 65536;
 }
