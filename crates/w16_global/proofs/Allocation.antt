@@ -1,8 +1,8 @@
 -- What an allocation answers.
-use Rattle.std.proofs.Common.{◌≡◌, ℕ, ◌+◌, ◌<◌, ◌≤◌, inr, Bool, true, false, ◌==◌, ◌&&◌, MatchBool, IfSome, IfNone, List, Option, Some, None, refl, sym, ap, ◌∙◌, subst, arith}
+use Rattle.std.proofs.Common.{◌≡◌, ℕ, ◌+◌, inr, true, ◌==◌, ◌&&◌, MatchBool, IfSome, IfNone, List, Option, Some, None, refl, sym, subst, arith}
 use Rattle.std.specs.FinMap as finmap
 use Rattle.w16_model.specs.declared.Attributes.{Attributes}
-use Rattle.w16_model.specs.declared.TheConstants.{LARGEST_SIZE, GMEM_MOVEABLE, GMEM_DDESHARE}
+use Rattle.w16_model.specs.declared.TheConstants.{GMEM_MOVEABLE, GMEM_DDESHARE}
 use Rattle.w16_model.specs.Request.{Allocates}
 use Rattle.w16_model.specs.Single.{Enters}
 use Rattle.w16_model.specs.World.{World, IsFreeSlot, handle_of}

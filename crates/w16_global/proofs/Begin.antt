@@ -1,5 +1,5 @@
 -- Nothing is allocated at the start.
-use Rattle.std.proofs.Common.{◌≡◌, ℕ, zero, suc, ◌+◌, ◌-◌, ◌≤◌, List, [], length, get_or, replicate, Option, Some, None, option_map, refl, sym, ap, ◌∙◌, subst, arith}
+use Rattle.std.proofs.Common.{◌≡◌, ℕ, zero, suc, ◌+◌, ◌-◌, ◌≤◌, List, get_or, replicate, Option, None, option_map, refl, sym, ap, ◌∙◌, subst, arith}
 use Rattle.std.specs.Cmp.{nat_cmp_total}
 use Rattle.std.specs.Ordering.{nat_cmp}
 use Rattle.std.specs.FinMap as finmap
@@ -7,13 +7,12 @@ use Rattle.std.specs.FinMap.{same_map, nat_cmp-IsAntisymmetric, get-empty}
 use Rattle.std.proofs.lemmas.List.{length-replicate}
 use Rattle.w16_model.specs.declared.Attributes.{Attributes}
 use Rattle.w16_model.specs.declared.TheConstants.{FIRST_SLOT, MOST_SLOTS, GRAIN}
-use Rattle.w16_model.specs.Heap.{Object, empty_heap}
-use Rattle.w16_model.specs.World.{World, IsWorld, empty_world}
+use Rattle.w16_model.specs.Heap.{empty_heap}
+use Rattle.w16_model.specs.World.{IsWorld, empty_world}
 use Rattle.w16_model.proofs.Empty.{empty_law}
 use Rattle.w16_selectors.specs.Descriptors as selectors
-use Rattle.w16_selectors.specs.declared.Descriptor.{Descriptor}
 use Rattle.w16_global.specs.Parts.{Holding}
-use Rattle.w16_global.specs.Joined.{attributes_in, world_of, descriptor_for, described, AreJoined}
+use Rattle.w16_global.specs.Joined.{attributes_in, world_of, descriptor_for, AreJoined}
 use Rattle.w16_global.proofs.Joined.{attributes_at}
 
 -- a list of nothing has nothing at each place

@@ -1,12 +1,12 @@
 -- What each step of the heap leaves of what selectors say.
-use Rattle.std.proofs.Common.{◌≡◌, ◌≢◌, ℕ, ◌+◌, ◌-◌, ◌*◌, ◌<◌, ◌≤◌, ◌==◌, inl, inr, Bool, true, false, IsSomeAnd, cond, if◌then◌else◌, not, nat_lt, List, length, take, drop, ◌++◌, Option, Some, None, Result, Ok, Err, option_map, is_some, unwrap_or, refl, sym, ap, ◌∙◌, subst, arith, length-append, length-take, length-drop}
+use Rattle.std.proofs.Common.{◌≡◌, ◌≢◌, ℕ, ◌+◌, ◌-◌, ◌≤◌, ◌==◌, inl, inr, Bool, true, false, IsSomeAnd, if◌then◌else◌, not, nat_lt, List, length, Option, Some, None, Result, Ok, Err, option_map, is_some, unwrap_or, refl, sym, ap, ◌∙◌, subst, arith, length-append, length-take, length-drop}
 use Rattle.std.specs.FinMap as finmap
 use Rattle.std.proofs.lemmas.Bool.{cases_eq, false≢true}
 use Rattle.w16_model.specs.declared.Kind.{Kind}
 use Rattle.w16_model.specs.declared.Refusal.{Refusal}
 use Rattle.w16_model.specs.declared.Refusal.TheVariants as refusals
 use Rattle.w16_model.specs.Heap.{Heap, Object, object_at, bytes_at, is_fixed}
-use Rattle.w16_model.specs.Edit.{with_object, with_ordered, removed, touched, update}
+use Rattle.w16_model.specs.Edit.{with_object, with_ordered, removed, touched}
 use Rattle.w16_model.specs.Single.{after_lock, after_unlock, after_free}
 use Rattle.w16_model.specs.Machine.{after_write, with_slice}
 use Rattle.w16_model.proofs.Kept.{inserted_here, inserted_other, taken_here, taken_other}

@@ -1,15 +1,14 @@
 -- The objects, their attributes and their selectors, where one slot or none has changed.
-use Rattle.std.proofs.Common.{◌≡◌, ◌≢◌, ℕ, zero, suc, ◌+◌, ◌-◌, ◌<◌, ◌≤◌, inl, inr, Bool, true, false, cond, IfSome, List, [], ◌∷◌, length, get_or, set, Option, Some, None, option_map, is_some, unwrap_or, refl, sym, ap, ◌∙◌, subst, arith}
+use Rattle.std.proofs.Common.{◌≡◌, ◌≢◌, ℕ, zero, suc, ◌<◌, ◌≤◌, inl, inr, true, false, IfSome, List, [], ◌∷◌, length, get_or, set, Option, Some, None, option_map, is_some, refl, sym, ap, ◌∙◌, subst, arith}
 use Rattle.std.specs.Cmp.{nat_cmp_total}
-use Rattle.std.specs.Ordering.{nat_cmp, eq_by_cmp}
 use Rattle.std.specs.FinMap as finmap
-use Rattle.std.specs.FinMap.{FinMap, same_map, nat_cmp-IsAntisymmetric, get-insert, get-remove}
+use Rattle.std.specs.FinMap.{same_map, nat_cmp-IsAntisymmetric}
 use Rattle.std.proofs.lemmas.Bool.{false≢true, cases_eq}
 use Rattle.std.proofs.lemmas.List.{get_or-set_same, get_or-set_other, length-set}
 use Rattle.w16_model.specs.declared.Attributes.{Attributes}
 use Rattle.w16_model.specs.declared.TheConstants.{FIRST_SLOT}
 use Rattle.w16_model.specs.Heap.{Heap, Object, object_at}
-use Rattle.w16_model.specs.World.{World, IsWorld, IsSlot, IsFreeSlot}
+use Rattle.w16_model.specs.World.{IsWorld, IsSlot, IsFreeSlot}
 use Rattle.w16_model.proofs.Tables.{get-by_id}
 use Rattle.w16_model.proofs.Kept.{inserted_here, inserted_other, taken_here, taken_other}
 use Rattle.w16_selectors.specs.Descriptors as selectors

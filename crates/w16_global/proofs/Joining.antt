@@ -1,17 +1,15 @@
 -- What the steps that calls are made of leave joined, and what they say of the world.
-use Rattle.std.proofs.Common.{◌≡◌, ◌≢◌, ℕ, ◌+◌, ◌-◌, ◌*◌, ◌<◌, ◌≤◌, inl, inr, Bool, true, false, cond, if◌then◌else◌, IfSome, IfOk, OnOk, IfErr, IsSomeAnd, List, length, get_or, set, replicate, Option, Some, None, Result, Ok, Err, option_map, is_some, unwrap_or, refl, sym, ap, ◌∙◌, subst, arith}
+use Rattle.std.proofs.Common.{◌≡◌, ◌≢◌, ℕ, ◌-◌, ◌<◌, true, IfOk, OnOk, IfErr, IsSomeAnd, List, length, get_or, set, Option, Some, None, Result, Ok, Err, is_some, refl, sym, ap, ◌∙◌, subst, arith}
 use Rattle.std.specs.FinMap as finmap
-use Rattle.std.proofs.lemmas.Bool.{false≢true, cases_eq}
 use Rattle.std.proofs.lemmas.List.{get_or-set_same, get_or-set_other, length-set}
 use Rattle.w16_model.specs.declared.Attributes.{Attributes}
 use Rattle.w16_model.specs.declared.Kind.{Kind}
 use Rattle.w16_model.specs.declared.Refusal.{Refusal}
 use Rattle.w16_model.specs.declared.TheConstants.{FIRST_SLOT}
-use Rattle.w16_model.specs.Heap.{Heap, Object, object_at, bytes_at}
+use Rattle.w16_model.specs.Heap.{Heap, object_at, bytes_at}
 use Rattle.w16_model.specs.Edit.{with_object, removed}
 use Rattle.w16_model.specs.Single.{Enters, after_lock, after_unlock, after_free}
 use Rattle.w16_model.specs.World.{World, IsWorld, IsFreeSlot}
-use Rattle.w16_model.specs.Machine.{is_shared}
 use Rattle.w16_model.specs.declared.Way.{Way}
 use Rattle.w16_model.specs.Edit.{with_newest}
 use Rattle.w16_model.specs.Request.{Allocates, IsNew, prefix_of, stays_for}

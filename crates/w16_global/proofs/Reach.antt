@@ -1,8 +1,7 @@
 -- A far access by descriptors is one by objects.
-use Rattle.std.proofs.Common.{◌≡◌, ◌≢◌, ℕ, ◌+◌, ◌-◌, ◌*◌, ◌/◌, ◌%◌, ◌<◌, ◌≤◌, ◌⊎◌, ◌==◌, inl, inr, Bool, true, false, cond, if◌then◌else◌, not, ◌&&◌, nat_lt, IsSomeAnd, List, [], length, Option, Some, None, Result, Ok, Err, option_map, is_some, unwrap_or, refl, sym, ap, ◌∙◌, subst, arith, min, IfErr, IfOk, OnOk, IfSome, ◌^◌, ltb-false, ltb-true}
+use Rattle.std.proofs.Common.{◌≡◌, ℕ, ◌+◌, ◌-◌, ◌*◌, ◌/◌, ◌%◌, ◌<◌, ◌≤◌, ◌⊎◌, ◌==◌, inl, inr, Bool, true, false, if◌then◌else◌, not, ◌&&◌, nat_lt, IsSomeAnd, List, length, Option, Some, None, Result, Ok, Err, option_map, is_some, unwrap_or, refl, sym, ap, ◌∙◌, subst, arith, min, IfErr, IfOk, OnOk, IfSome, ltb-false, ltb-true}
 use Rattle.std.specs.FinMap as finmap
-use Rattle.std.specs.List.{AllByRecursion as Each}
-use Rattle.std.proofs.lemmas.Bool.{false≢true, cases_eq}
+use Rattle.std.proofs.lemmas.Bool.{false≢true}
 use Rattle.std.proofs.lemmas.Bool.Decides.{nat_tests}
 use Rattle.w16_model.specs.declared.Attributes.{Attributes}
 use Rattle.w16_model.specs.declared.Block.{Block}
@@ -10,8 +9,8 @@ use Rattle.w16_model.specs.declared.FarFault.{FarFault}
 use Rattle.w16_model.specs.declared.FarFault.TheVariants.{BadSelector, ReadOnly, NotPresent, Limit}
 use Rattle.w16_model.specs.Gap.{block_end}
 use Rattle.w16_model.specs.Heap.{Heap, Object, IsHeap, IsMultiple, blocks, object_at, bytes_at, hold_of}
-use Rattle.w16_model.specs.World.{World, slot_of_selector, selector_of}
-use Rattle.w16_model.specs.Machine.{far_fault, far_slot, selector_base}
+use Rattle.w16_model.specs.World.{World, slot_of_selector}
+use Rattle.w16_model.specs.Machine.{far_fault, far_slot}
 use Rattle.w16_model.proofs.Gaps.{Each-at, Each-from_All}
 use Rattle.w16_model.proofs.Heaps.{IsBlockOf, block_member}
 use Rattle.w16_selectors.specs.Descriptors as selectors
@@ -19,7 +18,7 @@ use Rattle.w16_selectors.specs.Descriptors.{descriptor_at, descriptor_of, place_
 use Rattle.w16_selectors.specs.declared.Descriptor.{Descriptor}
 use Rattle.w16_selectors.specs.declared.SelKind.TheVariants.{Data}
 use Rattle.w16_global.specs.Parts.{Holding, IsInside}
-use Rattle.w16_global.specs.Joined.{world_of, descriptor_for, described, AreJoined, Reaches}
+use Rattle.w16_global.specs.Joined.{world_of, descriptor_for, AreJoined, Reaches}
 
 -- a selector is its slot's where its low three bits are set
 pub same_test : (s : ℕ) → (s == 8 * (s / 8) + 7) ≡ (s % 8 == 7)

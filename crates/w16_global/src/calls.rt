@@ -249,5 +249,8 @@ fn flags_of(entry: Entry, shared: bool, absent: bool) -> u16
     ensures { result ≡ entry.locks + (if is_discardable entry.kind then 256 else 0) + (if shared then 8192 else 0) + (if absent then 16384 else 0) }
 {
     let discardable = bit_if(entry.kind == Kind::Discardable, GMEM_DISCARDABLE);
-    entry.locks as u16 + discardable + bit_if(shared, GMEM_DDESHARE) + bit_if(absent, GMEM_DISCARDED)
+    entry.locks as u16
+        + discardable
+        + bit_if(shared, GMEM_DDESHARE)
+        + bit_if(absent, GMEM_DISCARDED)
 }

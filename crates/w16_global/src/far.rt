@@ -14,8 +14,7 @@ impl Global16 {
         ensures few { OnOk result (n < 2 ^ 32) }
         ensures err { IfErr result (λ fault. far_fault self.now selector offset n ≡ Some fault) }
     {
-        self.selectors
-            .resolve(selector, offset, count_of(n), write)
+        self.selectors.resolve(selector, offset, count_of(n), write)
     }
 
     /// Reads as many bytes as the buffer has. It tells the first fault: `BadSelector` where no object has the selector, `NotPresent` where it is
@@ -48,13 +47,7 @@ impl Global16 {
     }
 
     /// Writes one byte `n` times. It tells the first fault as `far_write` does.
-    pub fn far_fill(
-        &mut self,
-        selector: u16,
-        offset: u16,
-        n: u32,
-        byte: u8,
-    ) -> Result<(), FarFault>
+    pub fn far_fill(&mut self, selector: u16, offset: u16, n: u32, byte: u8) -> Result<(), FarFault>
         ensures ok { OnOk result (Gives (machine.far_write self.old selector offset (replicate n byte)) machine.Reply.Done self.new) }
         ensures err { IfErr result (λ fault. Gives (machine.far_write self.old selector offset (replicate n byte)) (machine.Reply.Fault fault) self.new) }
     {

@@ -45,7 +45,10 @@ impl Kernel {
     {
         let mut buffer = [0; 1024];
         let bytes = &mut buffer[..count as usize];
-        match self.global.far_read(selector_of(pointer), offset_of(pointer), bytes) {
+        match self
+            .global
+            .far_read(selector_of(pointer), offset_of(pointer), bytes)
+        {
             Ok(()) => Reply::Bytes(chunk_of(bytes)),
             Err(fault) => Reply::Fault(fault),
         }
@@ -55,7 +58,10 @@ impl Kernel {
     fn write(&mut self, pointer: u32, bytes: &[u8]) -> Reply
         ensures { Gives (far_write self.old (selector_in pointer) (offset_in pointer) bytes.now) (reply_of result) self.new }
     {
-        match self.global.far_write(selector_of(pointer), offset_of(pointer), bytes) {
+        match self
+            .global
+            .far_write(selector_of(pointer), offset_of(pointer), bytes)
+        {
             Ok(()) => Reply::Done,
             Err(fault) => Reply::Fault(fault),
         }
@@ -65,7 +71,10 @@ impl Kernel {
     fn fill(&mut self, pointer: u32, count: u32, byte: u8) -> Reply
         ensures { Gives (far_write self.old (selector_in pointer) (offset_in pointer) (replicate count byte)) (reply_of result) self.new }
     {
-        match self.global.far_fill(selector_of(pointer), offset_of(pointer), count, byte) {
+        match self
+            .global
+            .far_fill(selector_of(pointer), offset_of(pointer), count, byte)
+        {
             Ok(()) => Reply::Done,
             Err(fault) => Reply::Fault(fault),
         }
@@ -79,18 +88,28 @@ impl Kernel {
     {
         let global = &mut self.global;
         match call {
-            Call::GlobalAlloc { flags, size } => Ok(Reply::Word(global.global_alloc(*flags, *size))),
+            Call::GlobalAlloc { flags, size } => Ok(Reply::Word(global.global_alloc(
+                *flags, *size,
+            ))),
             Call::GlobalFree { handle } => Ok(Reply::Word(global.global_free(*handle))),
             Call::GlobalLock { handle } => Ok(Reply::Dword(global.global_lock(*handle))),
             Call::GlobalUnlock { handle } => Ok(Reply::Word(global.global_unlock(*handle))),
             Call::GlobalSize { handle } => Ok(Reply::Dword(global.global_size(*handle))),
             Call::GlobalFlags { handle } => Ok(Reply::Word(global.global_flags(*handle))),
             Call::GlobalHandle { selector } => Ok(Reply::Dword(global.global_handle(*selector))),
-            Call::GetSelectorBase { selector } => Ok(Reply::Dword(global.get_selector_base(*selector))),
-            Call::GetSelectorLimit { selector } => Ok(Reply::Dword(global.get_selector_limit(*selector))),
+            Call::GetSelectorBase { selector } => Ok(Reply::Dword(global.get_selector_base(
+                *selector,
+            ))),
+            Call::GetSelectorLimit { selector } => Ok(Reply::Dword(global.get_selector_limit(
+                *selector,
+            ))),
             Call::Read { pointer, count } => Ok(self.read(*pointer, *count)),
             Call::Write { pointer, bytes } => Ok(self.write(*pointer, bytes)),
-            Call::Fill { pointer, count, byte } => Ok(self.fill(*pointer, *count, *byte)),
+            Call::Fill {
+                pointer,
+                count,
+                byte,
+            } => Ok(self.fill(*pointer, *count, *byte)),
         }
     }
 

@@ -2,7 +2,6 @@
 #![tactic(auto)]
 
 mod call;
-
 mod kernel;
 
 pub use call::{Call, Chunk, Reply};

@@ -2,7 +2,9 @@ ghost use Rattle.std.specs.Prelude.{All};
 ghost use Rattle.w16_kernel.specs.Runs.{IsCall};
 
 use crate::hosts::{Broken, Endless, Short};
-use crate::rows::{LIFE, LIFE_OUTPUT, Row, of_lines, of_memory, of_objects, of_questions, of_registers};
+use crate::rows::{
+    LIFE, LIFE_OUTPUT, Row, of_lines, of_memory, of_objects, of_questions, of_registers,
+};
 use arrayvec::ArrayVec;
 use std::alloc::{AllocError, Global};
 use std::process::Abort;
@@ -104,12 +106,7 @@ fn locks_up_to_the_full_count(rt: HostRuntime) -> Result<(), Fail> {
     append_times(&mut wanted, b"0000\n", 3)?;
     let mut kernel = Kernel::new(rt.alloc(), 4096, 16)?;
     let mut output = Vec::new(rt.alloc());
-    let ended = run(
-        rt.alloc(),
-        &mut script.as_slice(),
-        &mut output,
-        &mut kernel,
-    );
+    let ended = run(rt.alloc(), &mut script.as_slice(), &mut output, &mut kernel);
     assert!(rt; ended.is_ok());
     assert_eq!(rt; output.as_slice(), wanted.as_slice());
     Ok(())

@@ -62,21 +62,90 @@ fn call_of(line: &[u8]) -> Option<Call> {
 
 #[test]
 fn reads_each_call(rt: HostRuntime) {
-    assert!(rt; matches!(call_of(b"GlobalAlloc 0x42 100"), Some(Call::GlobalAlloc { flags: 0x42, size: 100 })));
-    assert!(rt; matches!(call_of(b"GlobalFree 0x106"), Some(Call::GlobalFree { handle: 0x106 })));
-    assert!(rt; matches!(call_of(b"GlobalLock 262"), Some(Call::GlobalLock { handle: 262 })));
-    assert!(rt; matches!(call_of(b"GlobalUnlock 0x0106"), Some(Call::GlobalUnlock { handle: 0x106 })));
-    assert!(rt; matches!(call_of(b"GlobalSize 0x106"), Some(Call::GlobalSize { handle: 0x106 })));
-    assert!(rt; matches!(call_of(b"GlobalFlags 0x106"), Some(Call::GlobalFlags { handle: 0x106 })));
-    assert!(rt; matches!(call_of(b"GlobalHandle 0x107"), Some(Call::GlobalHandle { selector: 0x107 })));
-    assert!(rt; matches!(call_of(b"GetSelectorBase 0x107"), Some(Call::GetSelectorBase { selector: 0x107 })));
-    assert!(rt; matches!(call_of(b"GetSelectorLimit 0x107"), Some(Call::GetSelectorLimit { selector: 0x107 })));
+    assert!(rt;
+        matches!(
+            call_of(b"GlobalAlloc 0x42 100"),
+            Some(Call::GlobalAlloc {
+                flags: 0x42,
+                size: 100
+            })
+        )
+    );
+    assert!(rt;
+        matches!(
+            call_of(b"GlobalFree 0x106"),
+            Some(Call::GlobalFree { handle: 0x106 })
+        )
+    );
+    assert!(rt;
+        matches!(
+            call_of(b"GlobalLock 262"),
+            Some(Call::GlobalLock { handle: 262 })
+        )
+    );
+    assert!(rt;
+        matches!(
+            call_of(b"GlobalUnlock 0x0106"),
+            Some(Call::GlobalUnlock { handle: 0x106 })
+        )
+    );
+}
+
+#[test]
+fn reads_each_question(rt: HostRuntime) {
+    assert!(rt;
+        matches!(
+            call_of(b"GlobalSize 0x106"),
+            Some(Call::GlobalSize { handle: 0x106 })
+        )
+    );
+    assert!(rt;
+        matches!(
+            call_of(b"GlobalFlags 0x106"),
+            Some(Call::GlobalFlags { handle: 0x106 })
+        )
+    );
+    assert!(rt;
+        matches!(
+            call_of(b"GlobalHandle 0x107"),
+            Some(Call::GlobalHandle { selector: 0x107 })
+        )
+    );
+    assert!(rt;
+        matches!(
+            call_of(b"GetSelectorBase 0x107"),
+            Some(Call::GetSelectorBase { selector: 0x107 })
+        )
+    );
+    assert!(rt;
+        matches!(
+            call_of(b"GetSelectorLimit 0x107"),
+            Some(Call::GetSelectorLimit { selector: 0x107 })
+        )
+    );
 }
 
 #[test]
 fn reads_far_accesses(rt: HostRuntime) {
-    assert!(rt; matches!(call_of(b"Read 0x01070000 4"), Some(Call::Read { pointer: 0x0107_0000, count: 4 })));
-    assert!(rt; matches!(call_of(b"Fill 0x01070000 65536 255"), Some(Call::Fill { pointer: 0x0107_0000, count: 65_536, byte: 255 })));
+    assert!(rt;
+        matches!(
+            call_of(b"Read 0x01070000 4"),
+            Some(Call::Read {
+                pointer: 0x0107_0000,
+                count: 4
+            })
+        )
+    );
+    assert!(rt;
+        matches!(
+            call_of(b"Fill 0x01070000 65536 255"),
+            Some(Call::Fill {
+                pointer: 0x0107_0000,
+                count: 65_536,
+                byte: 255
+            })
+        )
+    );
     assert!(rt; call_of(b"Fill 0x01070000 65537 255").is_none());
     assert!(rt; call_of(b"Fill 0x01070000 1 256").is_none());
     assert!(rt; call_of(b"Fill 0x01070000 1").is_none());
@@ -103,40 +172,35 @@ fn reads_numbers(rt: HostRuntime) {
     for (line, handle) in words {
         assert_eq!(rt; freed(line), Some(handle), "at {handle}");
     }
+}
+
+#[test]
+fn reads_the_largest_numbers(rt: HostRuntime) {
     assert!(rt;
         matches!(
-            read_line(b"GlobalAlloc 0xffff 4294967295", &Registers::new()),
-            Line::Command {
-                target: None,
-                call: Call::GlobalAlloc {
-                    flags: 65535,
-                    size: 4_294_967_295
-                }
-            }
+            call_of(b"GlobalAlloc 0xffff 4294967295"),
+            Some(Call::GlobalAlloc {
+                flags: 65535,
+                size: 4_294_967_295
+            })
         )
     );
     assert!(rt;
         matches!(
-            read_line(b"Read 0xffffffff 1024", &Registers::new()),
-            Line::Command {
-                target: None,
-                call: Call::Read {
-                    pointer: 0xffff_ffff,
-                    count: 1024
-                }
-            }
+            call_of(b"Read 0xffffffff 1024"),
+            Some(Call::Read {
+                pointer: 0xffff_ffff,
+                count: 1024
+            })
         )
     );
     assert!(rt;
         matches!(
-            read_line(b"Read 0 0x0", &Registers::new()),
-            Line::Command {
-                target: None,
-                call: Call::Read {
-                    pointer: 0,
-                    count: 0
-                }
-            }
+            call_of(b"Read 0 0x0"),
+            Some(Call::Read {
+                pointer: 0,
+                count: 0
+            })
         )
     );
 }

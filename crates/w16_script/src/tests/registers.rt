@@ -64,7 +64,7 @@ fn refuses_other_targets(rt: HostRuntime) {
         b"r07 = GlobalLock 1",
         b"r00 = GlobalLock 1",
         b"r = GlobalLock 1",
-        b"R1 = GlobalLock 1",
+        b"x1 = GlobalLock 1",
         b"r1x = GlobalLock 1",
         b"r1.lo = GlobalLock 1",
         b"r1+1 = GlobalLock 1",

@@ -1,4 +1,4 @@
-use Rattle.std.proofs.Common.{length, sym, ap, subst}
+use Rattle.std.proofs.Common.{length, sym, subst}
 use Rattle.w16_model.specs.Machine.{Gives, far_read}
 use Rattle.w16_model.specs.Machine as machine
 use Rattle.w16_global.proofs.Access.{inside_some, read_known, read_length}
