@@ -68,38 +68,38 @@ said_of_place : (P : ℕ → Type 0) (heap : Heap) (slot place : ℕ) → finmap
 said_of_place P heap slot place e h = subst (λ p. IfSome p P) e h
 
 -- A far access that is reached.
-module _ {h : Holding} {xs : List (Option Attributes)} {t : selectors.Table} {w : World} (are : AreJoined h xs t) (shown : world_of h xs ≡ w) (selector offset n at : ℕ) (known : Reaches w selector offset n at) where
-  r : Reaches (world_of h xs) selector offset n at
+module _ {h : Holding} {xs : List (Option Attributes)} {t : selectors.Table} {m : ℕ} {w : World} (are : AreJoined h xs t) (shown : world_of h xs m ≡ w) (selector offset n at : ℕ) (known : Reaches w selector offset n at) where
+  r : Reaches (world_of h xs m) selector offset n at
   r = subst (λ v. Reaches v selector offset n at) (sym shown) known
 
   slot : ℕ
-  slot = far_slot (world_of h xs) selector
+  slot = far_slot (world_of h xs m) selector
 
   -- the range lies in an object
   pub inside_some : (id : ℕ) × IsInside h.heap id at n
-  inside_some = (far_slot (world_of h xs) selector, r.inside)
+  inside_some = (far_slot (world_of h xs m) selector, r.inside)
 
-  found : Reached h.heap (far_slot (world_of h xs) selector) offset n at
-  found = reached h.heap (far_slot (world_of h xs) selector) offset n at r.inside r.place
+  found : Reached h.heap (far_slot (world_of h xs m) selector) offset n at
+  found = reached h.heap (far_slot (world_of h xs m) selector) offset n at r.inside r.place
 
   -- Read
   pub read_known : h.heap.order ≡ [] → (view : List ℕ)
       → ((id : ℕ) → IsInside h.heap id at n → IfSome (bytes_at h.heap id) (λ bytes. IfSome (finmap.get h.heap.places id) (λ place. view ≡ slice_at bytes (at - place) n))) → Gives (far_read w selector offset n) (machine.Reply.Bytes view) w
   read_known none view said =
       let f = found in
-      let q : ℕ = far_slot (world_of h xs) selector in
+      let q : ℕ = far_slot (world_of h xs m) selector in
       let of_bytes : IfSome (finmap.get h.heap.places q) (λ place. view ≡ slice_at f.bytes (at - place) n) = subst (λ b. IfSome b (λ bytes. IfSome (finmap.get h.heap.places q) (λ place. view ≡ slice_at bytes (at - place) n))) f.here (said q r.inside) in
       let is : view ≡ slice_at f.bytes (at - f.place) n = said_of_place _ h.heap q f.place f.stands of_bytes in
       let begin : at - f.place ≡ offset = (let b = f.begins in omega (arith, b)) in
-      let all : far_bytes (world_of h xs) selector ≡ f.bytes = ap (λ (b : Option (List ℕ)). unwrap_or b []) f.here in
+      let all : far_bytes (world_of h xs m) selector ≡ f.bytes = ap (λ (b : Option (List ℕ)). unwrap_or b []) f.here in
       subst (λ v. Gives (far_read v selector offset n) (machine.Reply.Bytes view) v) shown
-      (rw (r.no_fault, far_read) (ap machine.Reply.Bytes (is ∙ (λ i. slice_at (sym all i) (begin i) n)), λ i. record (world_of h xs) { heap = record h.heap { order = unordered h.heap q none i } }))
+      (rw (r.no_fault, far_read) (ap machine.Reply.Bytes (is ∙ (λ i. slice_at (sym all i) (begin i) n)), λ i. record (world_of h xs m) { heap = record h.heap { order = unordered h.heap q none i } }))
 
   -- how much is read
   pub read_length : (view : List ℕ) → ((id : ℕ) → IsInside h.heap id at n → IfSome (bytes_at h.heap id) (λ bytes. IfSome (finmap.get h.heap.places id) (λ place. view ≡ slice_at bytes (at - place) n))) → length view ≡ n
   read_length view said =
       let f = found in
-      let q : ℕ = far_slot (world_of h xs) selector in
+      let q : ℕ = far_slot (world_of h xs m) selector in
       let of_bytes : IfSome (finmap.get h.heap.places q) (λ place. view ≡ slice_at f.bytes (at - place) n) = subst (λ b. IfSome b (λ bytes. IfSome (finmap.get h.heap.places q) (λ place. view ≡ slice_at bytes (at - place) n))) f.here (said q r.inside) in
       let is : view ≡ slice_at f.bytes (at - f.place) n = said_of_place _ h.heap q f.place f.stands of_bytes in
       let b = f.begins in
@@ -109,33 +109,33 @@ module _ {h : Holding} {xs : List (Option Attributes)} {t : selectors.Table} {w 
   -- Write
   module _ (slice : List ℕ) (long : length slice ≡ n) (none : h.heap.order ≡ []) (new : Holding)
       (said : (id : ℕ) → IsInside h.heap id at (length slice) → IfSome (finmap.get h.heap.places id) (λ place. new ≡ record h { heap = after_write h.heap id (at - place) slice })) where
-    written : new ≡ record h { heap = after_write h.heap (far_slot (world_of h xs) selector) offset slice }
+    written : new ≡ record h { heap = after_write h.heap (far_slot (world_of h xs m) selector) offset slice }
     written =
         let f = found in
-        let q : ℕ = far_slot (world_of h xs) selector in
+        let q : ℕ = far_slot (world_of h xs m) selector in
         let begin : at - f.place ≡ offset = (let b = f.begins in omega (arith, b)) in
         said_of_place _ h.heap q f.place f.stands (said q (subst (λ k. IsInside h.heap q at k) (sym long) r.inside)) ∙ (λ i. record h { heap = after_write h.heap q (begin i) slice })
 
     pub written_joined : All (λ b. b < 256) slice → AreJoined new xs t
     written_joined bytes =
         let f = found in
-        let q : ℕ = far_slot (world_of h xs) selector in
+        let q : ℕ = far_slot (world_of h xs m) selector in
         let fits : offset + length slice ≤ length f.bytes = (let l = f.fits in omega (arith, long, l)) in
         let after : Heap = after_write h.heap q offset slice in
-        let world : IsWorld (record (world_of h xs) { heap = after }) =
-        other_world (world_of h xs) are.world after (written_heap h.heap are.world.heap q f.object f.there f.bytes f.has offset slice fits bytes) refl refl
+        let world : IsWorld (record (world_of h xs 0) { heap = after }) =
+        other_world (world_of h xs 0) are.world after (written_heap h.heap are.world.heap q f.object f.there f.bytes f.has offset slice fits bytes) refl refl
         (same_updated h.heap.objects q (λ (o : Object). record o { bytes = option_map (λ (b : List ℕ). with_slice b offset slice) o.bytes })) in
         subst (λ k. AreJoined k xs t) (sym written) (joined_same h xs t are (record h { heap = after }) refl world (write_same h.heap q offset slice f.bytes f.object f.there f.has fits))
 
-    pub write_known : Gives (far_write w selector offset slice) machine.Reply.Done (world_of new xs)
+    pub write_known : Gives (far_write w selector offset slice) machine.Reply.Done (world_of new xs m)
     write_known =
-        let q : ℕ = far_slot (world_of h xs) selector in
-        let fine = ap (machine.far_fault (world_of h xs) selector offset) long ∙ r.no_fault in
-        subst (λ v. Gives (far_write v selector offset slice) machine.Reply.Done (world_of new xs)) shown
-        (rw (fine, far_write) (refl, ap (λ k. world_of k xs) written ∙ (λ i. record (world_of h xs) { heap = record (after_write h.heap q offset slice) { order = unordered h.heap q none i } })))
+        let q : ℕ = far_slot (world_of h xs m) selector in
+        let fine = ap (machine.far_fault (world_of h xs m) selector offset) long ∙ r.no_fault in
+        subst (λ v. Gives (far_write v selector offset slice) machine.Reply.Done (world_of new xs m)) shown
+        (rw (fine, far_write) (refl, ap (λ k. world_of k xs m) written ∙ (λ i. record (world_of h xs m) { heap = record (after_write h.heap q offset slice) { order = unordered h.heap q none i } })))
 
 -- Fill
-module _ {h : Holding} {xs : List (Option Attributes)} {t : selectors.Table} {w : World} (are : AreJoined h xs t) (shown : world_of h xs ≡ w) (selector offset n at : ℕ) (known : Reaches w selector offset n at)
+module _ {h : Holding} {xs : List (Option Attributes)} {t : selectors.Table} {m : ℕ} {w : World} (are : AreJoined h xs t) (shown : world_of h xs m ≡ w) (selector offset n at : ℕ) (known : Reaches w selector offset n at)
     (byte : ℕ) (none : h.heap.order ≡ []) (new : Holding)
     (said : (id : ℕ) → IsInside h.heap id at n → IfSome (finmap.get h.heap.places id) (λ place. new ≡ record h { heap = after_write h.heap id (at - place) (repeated n byte) })) where
   long : length (repeated n byte) ≡ n
@@ -149,6 +149,6 @@ module _ {h : Holding} {xs : List (Option Attributes)} {t : selectors.Table} {w 
   unfolding repeated
   filled_joined small = written_joined are shown selector offset n at known (repeated n byte) long none new said_long (All-replicate (λ b. b < 256) n byte small)
 
-  pub fill_known : Gives (far_write w selector offset (replicate n byte)) machine.Reply.Done (world_of new xs)
+  pub fill_known : Gives (far_write w selector offset (replicate n byte)) machine.Reply.Done (world_of new xs m)
   unfolding repeated
   fill_known = write_known are shown selector offset n at known (repeated n byte) long none new said_long

@@ -13,7 +13,7 @@ use Rattle.w16_global.specs.Parts.{Holding}
 use Rattle.w16_global.specs.Joined.{world_of, AreJoined}
 use Rattle.w16_global.proofs.Joined.{free_slot, free_selector}
 
-module _ {h : Holding} {xs : List (Option Attributes)} {t : selectors.Table} {w : World} (are : AreJoined h xs t) (shown : world_of h xs ≡ w) where
+module _ {h : Holding} {xs : List (Option Attributes)} {t : selectors.Table} {m : ℕ} {w : World} (are : AreJoined h xs t) (shown : world_of h xs m ≡ w) where
   -- a free run of one slot is a free slot
   pub found_free : (r : Option ℕ) → IfSome r (λ first. IsFreeRun t first 1) → IfSome r (λ slot. IsFreeSlot w slot)
   found_free None run = tt

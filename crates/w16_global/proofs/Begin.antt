@@ -31,11 +31,11 @@ module _ (memory slots : ℕ) (few : slots ≤ MOST_SLOTS) where
   abbrev table : selectors.Table
   table = replicate (FIRST_SLOT + slots) None
 
-  world_is : world_of holding attributes ≡ empty_world memory slots
+  world_is : world_of holding attributes 0 ≡ empty_world memory slots
   world_is =
       let all : FIRST_SLOT + slots - FIRST_SLOT ≡ slots = omega arith in
       let none : attributes_in attributes ≡ finmap.empty = same_map nat_cmp_total nat_cmp-IsAntisymmetric (attributes_in attributes) finmap.empty (λ q. attributes_at attributes q ∙ none_at (FIRST_SLOT + slots) q ∙ sym (get-empty nat_cmp q)) in
-      λ i. record { slots = all i; heap = empty_heap 0 memory GRAIN; attributes = none i }
+      λ i. record { slots = all i; heap = empty_heap 0 memory GRAIN; attributes = none i; moved = 0 }
 
   joined : AreJoined holding attributes table
   joined = record {
@@ -51,5 +51,5 @@ module _ (memory slots : ℕ) (few : slots ≤ MOST_SLOTS) where
     pub begin_joined : t ≡ replicate (FIRST_SLOT + slots) None → AreJoined h xs t
     begin_joined t_is = subst (λ t. AreJoined h xs t) (sym t_is) (subst (λ xs. AreJoined h xs table) (sym xs_is) (subst (λ h. AreJoined h attributes table) (sym h_is) joined))
 
-    pub begin_world : world_of h xs ≡ empty_world memory slots
-    begin_world = (λ i. world_of (h_is i) (xs_is i)) ∙ world_is
+    pub begin_world : world_of h xs 0 ≡ empty_world memory slots
+    begin_world = (λ i. world_of (h_is i) (xs_is i) 0) ∙ world_is

@@ -64,7 +64,7 @@ nothing (Some x) h = absurd (false≢true (sym h))
 
 module _ (holding : Holding) (attributes : List (Option Attributes)) (table : selectors.Table) (are : AreJoined holding attributes table) where
   -- where each slot's descriptor is what it was
-  pub joined_same : (new : Holding) → new.cap ≡ holding.cap → IsWorld (world_of new attributes) → ((q : ℕ) → described new.heap q ≡ described holding.heap q) → AreJoined new attributes table
+  pub joined_same : (new : Holding) → new.cap ≡ holding.cap → IsWorld (world_of new attributes 0) → ((q : ℕ) → described new.heap q ≡ described holding.heap q) → AreJoined new attributes table
   joined_same new cap world same = record {
     world = world;
     described = λ q. are.described q ∙ sym (same q);
@@ -74,7 +74,7 @@ module _ (holding : Holding) (attributes : List (Option Attributes)) (table : se
   }
 
   -- and where one slot's is another
-  pub joined_set : (new : Holding) (slot : ℕ) (a : Option Attributes) (d : Option Descriptor) (after : selectors.Table) → new.cap ≡ holding.cap → IsWorld (world_of new (set attributes slot a))
+  pub joined_set : (new : Holding) (slot : ℕ) (a : Option Attributes) (d : Option Descriptor) (after : selectors.Table) → new.cap ≡ holding.cap → IsWorld (world_of new (set attributes slot a) 0)
       → ((q : ℕ) → q ≢ slot → described new.heap q ≡ described holding.heap q) → described new.heap slot ≡ d
       → length after ≡ length table → get_or after slot None ≡ d → ((q : ℕ) → q ≢ slot → get_or after q None ≡ get_or table q None) → AreJoined new (set attributes slot a) after
   joined_set new slot a d after cap world same here many there others = record {
@@ -89,14 +89,14 @@ module _ (holding : Holding) (attributes : List (Option Attributes)) (table : se
   }
 
   -- a slot is free just where its selector is
-  pub free_slot : (slot : ℕ) → IsFree table slot → IsFreeSlot (world_of holding attributes) slot
+  pub free_slot : (slot : ℕ) → IsFree table slot → IsFreeSlot (world_of holding attributes 0) slot
   free_slot slot free =
       let many = are.selectors_many in
       let some = are.some in
       let gone : is_some (object_at holding.heap slot) ≡ false = sym (described_some holding.heap slot) ∙ ap is_some (sym (are.described slot) ∙ free.2) in
       ((free.0, (let below = free.1 in omega arith)), nothing (object_at holding.heap slot) gone)
 
-  pub free_selector : (slot : ℕ) → IsFreeSlot (world_of holding attributes) slot → IsFree table slot
+  pub free_selector : (slot : ℕ) → IsFreeSlot (world_of holding attributes 0) slot → IsFree table slot
   free_selector slot free =
       let many = are.selectors_many in
       let some = are.some in
@@ -106,6 +106,6 @@ module _ (holding : Holding) (attributes : List (Option Attributes)) (table : se
   pub slot_there : (slot : ℕ) → is_some (object_at holding.heap slot) ≡ true → (FIRST_SLOT ≤ slot) × (slot < holding.cap)
   slot_there slot there = from (object_at holding.heap slot) there (are.world.slotted slot)
     where
-      from : (p : Option Object) → is_some p ≡ true → IfSome p (λ _. IsSlot (world_of holding attributes) slot) → (FIRST_SLOT ≤ slot) × (slot < holding.cap)
+      from : (p : Option Object) → is_some p ≡ true → IfSome p (λ _. IsSlot (world_of holding attributes 0) slot) → (FIRST_SLOT ≤ slot) × (slot < holding.cap)
       from None t h = absurd (false≢true t)
       from (Some o) t h = (h.0, (let some = are.some in let below = h.1 in omega arith))

@@ -28,30 +28,30 @@ good : (r : Result Heap Refusal) (P : Heap → Type 0) (heap : Heap) → IfOk r 
 good (Ok x) P heap h e = subst P (let same : x ≡ heap = cc in same) h
 good (Err x) P heap h e = cc
 
-module _ {h : Holding} {xs : List (Option Attributes)} {t : selectors.Table} {w : World} (are : AreJoined h xs t) (shown : world_of h xs ≡ w) where
+module _ {h : Holding} {xs : List (Option Attributes)} {t : selectors.Table} {m : ℕ} {w : World} (are : AreJoined h xs t) (shown : world_of h xs m ≡ w) where
   -- a slot's attributes are the world's
   pub attributes_shown : (slot : ℕ) → get_or xs slot None ≡ finmap.get w.attributes slot
   attributes_shown slot = sym (attributes_at xs slot) ∙ ap (λ (v : World). finmap.get v.attributes slot) shown
 
 module _ {h : Holding} {xs : List (Option Attributes)} {t : selectors.Table} (are : AreJoined h xs t) (new : Holding) (cap : new.cap ≡ h.cap) where
   -- another heap under the same attributes
-  same_slots : record (world_of h xs) { heap = new.heap } ≡ world_of new xs
-  same_slots = λ i. record { slots = sym cap i - FIRST_SLOT; heap = new.heap; attributes = attributes_in xs }
+  same_slots : record (world_of h xs 0) { heap = new.heap } ≡ world_of new xs 0
+  same_slots = λ i. record { slots = sym cap i - FIRST_SLOT; heap = new.heap; attributes = attributes_in xs; moved = 0 }
 
   -- GlobalLock leaves what is joined
   pub lock_joined : {U : Type 0} (slot : ℕ) (r : Result U Refusal) → OnOk r (after_lock h.heap slot ≡ Ok new.heap) → IfErr r (λ e. (after_lock h.heap slot ≡ Err e) × (new ≡ h)) → AreJoined new xs t
   lock_joined slot (Ok u) done refused =
-      joined_same h xs t are new cap (subst IsWorld same_slots (good (after_lock h.heap slot) (Kept (world_of h xs) are.world) new.heap (lock_ok (world_of h xs) are.world slot) done)) (lock_same h.heap slot new.heap done)
+      joined_same h xs t are new cap (subst IsWorld same_slots (good (after_lock h.heap slot) (Kept (world_of h xs 0) are.world) new.heap (lock_ok (world_of h xs 0) are.world slot) done)) (lock_same h.heap slot new.heap done)
   lock_joined slot (Err e) done refused = subst (λ k. AreJoined k xs t) (sym refused.1) are
 
   -- and so does GlobalUnlock
   pub unlock_joined : {U : Type 0} (slot : ℕ) (r : Result U Refusal) → OnOk r (after_unlock h.heap slot ≡ Ok new.heap) → IfErr r (λ e. (after_unlock h.heap slot ≡ Err e) × (new ≡ h)) → AreJoined new xs t
   unlock_joined slot (Ok u) done refused =
-      joined_same h xs t are new cap (subst IsWorld same_slots (good (after_unlock h.heap slot) (Kept (world_of h xs) are.world) new.heap (unlock_ok (world_of h xs) are.world slot) done)) (unlock_same h.heap slot new.heap done)
+      joined_same h xs t are new cap (subst IsWorld same_slots (good (after_unlock h.heap slot) (Kept (world_of h xs 0) are.world) new.heap (unlock_ok (world_of h xs 0) are.world slot) done)) (unlock_same h.heap slot new.heap done)
   unlock_joined slot (Err e) done refused = subst (λ k. AreJoined k xs t) (sym refused.1) are
 
   -- a slot's object goes
-  module _ (slot : ℕ) {w : World} (shown : world_of h xs ≡ w) (known : is_some (object_at w.heap slot) ≡ true) (done : after_free h.heap slot ≡ Ok new.heap) where
+  module _ (slot : ℕ) {m : ℕ} {w : World} (shown : world_of h xs m ≡ w) (known : is_some (object_at w.heap slot) ≡ true) (done : after_free h.heap slot ≡ Ok new.heap) where
     there : is_some (object_at h.heap slot) ≡ true
     there = subst (λ (v : World). is_some (object_at v.heap slot) ≡ true) (sym shown) known
 
@@ -62,15 +62,15 @@ module _ {h : Holding} {xs : List (Option Attributes)} {t : selectors.Table} (ar
     left = subst (λ n. slot < n) (sym are.attributes_many) (slot_there h xs t are slot there).1
 
     -- the world without it
-    pub released_ok : (after_free w.heap slot ≡ Ok new.heap) × (world_of new (set xs slot None) ≡ record w { heap = new.heap; attributes = finmap.remove w.attributes slot })
+    pub released_ok : (after_free w.heap slot ≡ Ok new.heap) × (world_of new (set xs slot None) m ≡ record w { heap = new.heap; attributes = finmap.remove w.attributes slot })
     released_ok = (
       subst (λ (v : World). after_free v.heap slot ≡ Ok new.heap) shown done,
-      (λ i. record { slots = cap i - FIRST_SLOT; heap = new.heap; attributes = attributes_unset xs slot left i }) ∙ ap (λ (v : World). record v { heap = new.heap; attributes = finmap.remove v.attributes slot }) shown,
+      (λ i. record { slots = cap i - FIRST_SLOT; heap = new.heap; attributes = attributes_unset xs slot left i; moved = m }) ∙ ap (λ (v : World). record v { heap = new.heap; attributes = finmap.remove v.attributes slot }) shown,
     )
 
     pub released_joined : (after : selectors.Table) → after ≡ set t slot None → AreJoined new (set xs slot None) after
     released_joined after is = joined_set h xs t are new slot None None after cap
-        (subst IsWorld ((λ i. record { slots = sym cap i - FIRST_SLOT; heap = gone i; attributes = sym (attributes_unset xs slot left) i })) (without_object (world_of h xs) are.world slot))
+        (subst IsWorld ((λ i. record { slots = sym cap i - FIRST_SLOT; heap = gone i; attributes = sym (attributes_unset xs slot left) i; moved = 0 })) (without_object (world_of h xs 0) are.world slot))
         (λ q n. ap (λ (k : Heap). described k q) (sym gone) ∙ removed_other h.heap slot q n)
         (ap (λ (k : Heap). described k slot) (sym gone) ∙ removed_here h.heap slot)
         (ap length is ∙ length-set t slot None)
@@ -79,8 +79,8 @@ module _ {h : Holding} {xs : List (Option Attributes)} {t : selectors.Table} (ar
 
 -- A free slot gets an object.
 module _ {h : Holding} {xs : List (Option Attributes)} {t : selectors.Table} (are : AreJoined h xs t) (new : Holding) (cap : new.cap ≡ h.cap) (slot : ℕ) (a : Attributes)
-    {w : World} (shown : world_of h xs ≡ w) (known : IsFreeSlot w slot) where
-  free : IsFreeSlot (world_of h xs) slot
+    {m : ℕ} {w : World} (shown : world_of h xs m ≡ w) (known : IsFreeSlot w slot) where
+  free : IsFreeSlot (world_of h xs m) slot
   free = subst (λ v. IsFreeSlot v slot) (sym shown) known
 
   within : slot < length xs
@@ -90,10 +90,10 @@ module _ {h : Holding} {xs : List (Option Attributes)} {t : selectors.Table} (ar
   in_table = subst (λ n. slot < n) (sym are.selectors_many) (let some = are.some in let below = free.0.1 in omega arith)
 
   -- the world with an object there
-  pub given_world : world_of new (set xs slot (Some a)) ≡ record w { heap = new.heap; attributes = finmap.insert w.attributes slot a }
-  given_world =
-      (λ i. record { slots = cap i - FIRST_SLOT; heap = new.heap; attributes = attributes_set xs slot a within i })
-      ∙ ap (λ (v : World). record v { heap = new.heap; attributes = finmap.insert v.attributes slot a }) shown
+  pub given_world : (moved : ℕ) → world_of new (set xs slot (Some a)) moved ≡ record w { heap = new.heap; attributes = finmap.insert w.attributes slot a; moved = moved }
+  given_world moved =
+      (λ i. record { slots = cap i - FIRST_SLOT; heap = new.heap; attributes = attributes_set xs slot a within i; moved = moved })
+      ∙ ap (λ (v : World). record v { heap = new.heap; attributes = finmap.insert v.attributes slot a; moved = moved }) shown
 
   -- an absent one
   pub entered_joined : (kind : Kind) (after : selectors.Table) → new.heap ≡ with_object h.heap slot (record { kind = kind; locks = 0; bytes = None }) → after ≡ set t slot (Some unset) → AreJoined new (set xs slot (Some a)) after
@@ -101,7 +101,7 @@ module _ {h : Holding} {xs : List (Option Attributes)} {t : selectors.Table} (ar
       let entered : Heap = with_object h.heap slot (record { kind = kind; locks = 0; bytes = None }) in
       let enters : Enters h.heap slot kind entered = record { unused = free.1; entered = refl } in
       joined_set h xs t are new slot (Some a) (Some unset) after cap
-      (subst IsWorld (λ i. record { slots = sym cap i - FIRST_SLOT; heap = sym is i; attributes = sym (attributes_set xs slot a within) i }) (with_absent_object (world_of h xs) are.world a slot kind entered free enters))
+      (subst IsWorld (λ i. record { slots = sym cap i - FIRST_SLOT; heap = sym is i; attributes = sym (attributes_set xs slot a within) i; moved = 0 }) (with_absent_object (world_of h xs 0) are.world a slot kind entered free enters))
       (λ q n. ap (λ (k : Heap). described k q) is ∙ entered_other h.heap slot kind q n)
       (ap (λ (k : Heap). described k slot) is ∙ entered_here h.heap slot kind)
       (ap length taken ∙ length-set t slot (Some unset))
@@ -118,7 +118,7 @@ module _ {h : Holding} {xs : List (Option Attributes)} {t : selectors.Table} (ar
       let many : length first ≡ length t = ap length first_is ∙ length-set t slot (Some unset) in
       let s = settled h.heap slot way (prefix_of h.heap n (Some slot) way) (IsNew way.zero n kind 0) (with_newest slot) new.heap allocated.request in
       joined_set h xs t are new slot (Some a) (Some d) after cap
-      (subst IsWorld (λ i. record { slots = sym cap i - FIRST_SLOT; heap = new.heap; attributes = sym (attributes_set xs slot a within) i }) (with_new_object (world_of h xs) are.world a slot s.0 s.1 (with_newest slot s.1) (stays_for slot way) new.heap free.0 s.2))
+      (subst IsWorld (λ i. record { slots = sym cap i - FIRST_SLOT; heap = new.heap; attributes = sym (attributes_set xs slot a within) i; moved = 0 }) (with_new_object (world_of h xs 0) are.world a slot s.0 s.1 (with_newest slot s.1) (stays_for slot way) new.heap free.0 s.2))
       (λ q n. same_described h.heap new.heap q (others q n).0 (others q n).1)
       (made_here new.heap slot n at (bytes_at new.heap slot) refl sized placed)
       (ap length taken ∙ length-set first slot (Some d) ∙ many)

@@ -17,3 +17,5 @@ pub mod Described
 pub mod Access
 pub mod Allocation
 pub mod Begin
+pub mod Moved
+pub mod Refused

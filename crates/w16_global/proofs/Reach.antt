@@ -62,9 +62,9 @@ bytes_fault end b = elim b [ None ↦ Some NotPresent | Some bytes ↦ limit_fau
 abbrev slot_fault : World → ℕ → Option ℕ → Option FarFault
 slot_fault w end s = elim s [ None ↦ Some BadSelector | Some slot ↦ bytes_fault end (bytes_at w.heap slot) ]
 
-module _ (holding : Holding) (attributes : List (Option Attributes)) (table : selectors.Table) (are : AreJoined holding attributes table) where
+module _ (holding : Holding) (attributes : List (Option Attributes)) (table : selectors.Table) (moved : ℕ) (are : AreJoined holding attributes table) where
   abbrev world : World
-  world = world_of holding attributes
+  world = world_of holding attributes moved
 
   -- what a selector names
   abbrev slot_by : ℕ → Option Object → Bool → Option ℕ
@@ -195,9 +195,9 @@ longer_fault w selector offset n m fault le = at_slot (slot_of_selector w select
     at_slot (Some slot) h = at_bytes (bytes_at w.heap slot) h
 
 -- The address or the first fault of an access, by that of as many bytes, or of 4,294,967,295 where there are more.
-module _ {h : Holding} {xs : List (Option Attributes)} {t : selectors.Table} {w : World} (are : AreJoined h xs t) (shown : world_of h xs ≡ w) (write : Bool) (selector offset n count : ℕ) (count_is : count ≡ min n 4294967295) where
+module _ {h : Holding} {xs : List (Option Attributes)} {t : selectors.Table} {m : ℕ} {w : World} (are : AreJoined h xs t) (shown : world_of h xs m ≡ w) (write : Bool) (selector offset n count : ℕ) (count_is : count ≡ min n 4294967295) where
   told : (r : Result ℕ FarFault) → r ≡ place_of t selector offset count write → Tells w selector offset count r
-  told r is = subst (λ v. Tells v selector offset count r) shown (subst (Tells (world_of h xs) selector offset count) (sym is) (resolved h xs t are are.world.heap write selector offset count))
+  told r is = subst (λ v. Tells v selector offset count r) shown (subst (Tells (world_of h xs m) selector offset count) (sym is) (resolved h xs t m are are.world.heap write selector offset count))
 
   -- a fault
   pub fault_known : (r : Result ℕ FarFault) → r ≡ place_of t selector offset count write → IfErr r (λ fault. far_fault w selector offset n ≡ Some fault)
@@ -209,7 +209,7 @@ module _ {h : Holding} {xs : List (Option Attributes)} {t : selectors.Table} {w 
       → IfSome (descriptor_of t selector) (λ d. d.base + d.limit + 1 < 4294967296) → length bytes < 4294967295
   short o bytes there has low bound =
       let place : ℕ = unwrap_or (finmap.get h.heap.places (selector / 8)) 0 in
-      let d : descriptor_of t selector ≡ Some (descriptor_for h.heap (selector / 8) o) = (names h xs t are selector o low there).1 in
+      let d : descriptor_of t selector ≡ Some (descriptor_for h.heap (selector / 8) o) = (names h xs t m are selector o low there).1 in
       let whole : descriptor_for h.heap (selector / 8) o ≡ record { base = place; limit = length bytes - 1; present = true; kind = Data } = ap (λ (b : Option (List ℕ)). descriptor_for h.heap (selector / 8) (record o { bytes = b })) has in
       let near : place + (length bytes - 1) + 1 < 4294967296 = subst (λ (x : Descriptor). x.base + x.limit + 1 < 4294967296) whole (subst (λ d. IfSome d (λ d. d.base + d.limit + 1 < 4294967296)) d bound) in
       let at : Stands h.heap place bytes = stands h.heap are.world.heap (selector / 8) o bytes there has in
@@ -219,27 +219,27 @@ module _ {h : Holding} {xs : List (Option Attributes)} {t : selectors.Table} {w 
       multiple len m e lt = omega arith
 
   -- where an access has no fault its object is as short
-  reached_short : IfSome (descriptor_of t selector) (λ d. d.base + d.limit + 1 < 4294967296) → (bytes : List ℕ) → far_fault (world_of h xs) selector offset count ≡ None
-      → bytes_at h.heap (far_slot (world_of h xs) selector) ≡ Some bytes → length bytes < 4294967295
+  reached_short : IfSome (descriptor_of t selector) (λ d. d.base + d.limit + 1 < 4294967296) → (bytes : List ℕ) → far_fault (world_of h xs m) selector offset count ≡ None
+      → bytes_at h.heap (far_slot (world_of h xs m) selector) ≡ Some bytes → length bytes < 4294967295
   reached_short bound bytes fine here = turn (selector % 8 == 7) refl (object_at h.heap (selector / 8)) refl
     where
-      bad : (slot_of_selector (world_of h xs) selector ≡ None) × (descriptor_of t selector ≡ None) → length bytes < 4294967295
-      bad g = let fault : Some BadSelector ≡ None = sym (ap (slot_fault (world_of h xs) (offset + count)) g.0) ∙ fine in cc
+      bad : (slot_of_selector (world_of h xs m) selector ≡ None) × (descriptor_of t selector ≡ None) → length bytes < 4294967295
+      bad g = let fault : Some BadSelector ≡ None = sym (ap (slot_fault (world_of h xs m) (offset + count)) g.0) ∙ fine in cc
 
       of_bytes : (o : Object) → object_at h.heap (selector / 8) ≡ Some o → (selector % 8 == 7) ≡ true → (b : Option (List ℕ)) → o.bytes ≡ b → b ≡ Some bytes → length bytes < 4294967295
       of_bytes o there low None has is = cc
       of_bytes o there low (Some c) has is = short o bytes there (has ∙ is) low bound
 
       turn : (b : Bool) → (selector % 8 == 7) ≡ b → (p : Option Object) → object_at h.heap (selector / 8) ≡ p → length bytes < 4294967295
-      turn false low p there = bad (names_none h xs t are selector (inl low))
-      turn true low None there = bad (names_none h xs t are selector (inr there))
+      turn false low p there = bad (names_none h xs t m are selector (inl low))
+      turn true low None there = bad (names_none h xs t m are selector (inr there))
       turn true low (Some o) there =
-          let slot_is : far_slot (world_of h xs) selector ≡ selector / 8 = ap (λ (p : Option ℕ). unwrap_or p 0) (names h xs t are selector o low there).0 in
+          let slot_is : far_slot (world_of h xs m) selector ≡ selector / 8 = ap (λ (p : Option ℕ). unwrap_or p 0) (names h xs t m are selector o low there).0 in
           of_bytes o there low o.bytes refl (sym (ap (λ (p : Option Object). elim p as (λ _. Option (List ℕ)) [ Some o ↦ o.bytes | None ↦ None ]) there) ∙ ap (bytes_at h.heap) (sym slot_is) ∙ here)
 
   -- so it was of all the bytes
-  all_counted : (at : ℕ) → Reaches (world_of h xs) selector offset count at → IfSome (descriptor_of t selector) (λ d. d.base + d.limit + 1 < 4294967296) → (count ≡ n) × (n < 4294967296)
-  all_counted at r bound = of_bytes (bytes_at h.heap (far_slot (world_of h xs) selector)) refl r.inside
+  all_counted : (at : ℕ) → Reaches (world_of h xs m) selector offset count at → IfSome (descriptor_of t selector) (λ d. d.base + d.limit + 1 < 4294967296) → (count ≡ n) × (n < 4294967296)
+  all_counted at r bound = of_bytes (bytes_at h.heap (far_slot (world_of h xs m) selector)) refl r.inside
     where
       few : (len place : ℕ) → len < 4294967295 → at + count ≤ place + len → at ≡ place + offset → (count ≡ n) × (n < 4294967296)
       few len place lt fits e = (omega (arith, count_is), omega (arith, count_is))
@@ -248,20 +248,20 @@ module _ {h : Holding} {xs : List (Option Attributes)} {t : selectors.Table} {w 
       of_place len lt None i e = absurd i
       of_place len lt (Some place) i e = few len place lt i.1 e
 
-      of_bytes : (b : Option (List ℕ)) → bytes_at h.heap (far_slot (world_of h xs) selector) ≡ b
-          → IsSomeAnd b (λ bytes. IsSomeAnd (finmap.get h.heap.places (far_slot (world_of h xs) selector)) (λ place. (place ≤ at) × (at + count ≤ place + length bytes))) → (count ≡ n) × (n < 4294967296)
+      of_bytes : (b : Option (List ℕ)) → bytes_at h.heap (far_slot (world_of h xs m) selector) ≡ b
+          → IsSomeAnd b (λ bytes. IsSomeAnd (finmap.get h.heap.places (far_slot (world_of h xs m) selector)) (λ place. (place ≤ at) × (at + count ≤ place + length bytes))) → (count ≡ n) × (n < 4294967296)
       of_bytes None here i = absurd i
-      of_bytes (Some bytes) here i = of_place (length bytes) (reached_short bound bytes r.no_fault here) (finmap.get h.heap.places (far_slot (world_of h xs) selector)) i r.place
+      of_bytes (Some bytes) here i = of_place (length bytes) (reached_short bound bytes r.no_fault here) (finmap.get h.heap.places (far_slot (world_of h xs m) selector)) i r.place
 
   -- where there is none, the address
   pub place_known : (r : Result ℕ FarFault) → r ≡ place_of t selector offset count write → OnOk r (IfSome (descriptor_of t selector) (λ d. d.base + d.limit + 1 < 4294967296)) → IfOk r (λ at. Reaches w selector offset n at)
   place_known (Err fault) is bound = tt
   place_known (Ok at) is bound =
-      let here : Reaches (world_of h xs) selector offset count at = subst (Tells (world_of h xs) selector offset count) (sym is) (resolved h xs t are are.world.heap write selector offset count) in
-      subst (λ v. Reaches v selector offset n at) shown (subst (λ k. Reaches (world_of h xs) selector offset k at) (all_counted at here bound).0 here)
+      let here : Reaches (world_of h xs m) selector offset count at = subst (Tells (world_of h xs m) selector offset count) (sym is) (resolved h xs t m are are.world.heap write selector offset count) in
+      subst (λ v. Reaches v selector offset n at) shown (subst (λ k. Reaches (world_of h xs m) selector offset k at) (all_counted at here bound).0 here)
 
   pub few_known : (r : Result ℕ FarFault) → r ≡ place_of t selector offset count write → OnOk r (IfSome (descriptor_of t selector) (λ d. d.base + d.limit + 1 < 4294967296)) → OnOk r (n < 4294967296)
   few_known (Err fault) is bound = tt
   few_known (Ok at) is bound =
-      let here : Reaches (world_of h xs) selector offset count at = subst (Tells (world_of h xs) selector offset count) (sym is) (resolved h xs t are are.world.heap write selector offset count) in
+      let here : Reaches (world_of h xs m) selector offset count at = subst (Tells (world_of h xs m) selector offset count) (sym is) (resolved h xs t m are are.world.heap write selector offset count) in
       (all_counted at here bound).1

@@ -19,9 +19,9 @@ use Rattle.w16_global.specs.Parts.{Holding, IsInside}
 abbrev pub attributes_in : List (Option Attributes) → FinMap nat_cmp Attributes
 attributes_in attributes = finmap.from_entries (by_id (λ _ a. a) 0 attributes)
 
--- the world that they stand for; an object's id is its slot
-abbrev pub world_of : Holding → List (Option Attributes) → World
-world_of holding attributes = record { slots = holding.cap - FIRST_SLOT; heap = holding.heap; attributes = attributes_in attributes }
+-- the world that they stand for, with so many bytes moved last; an object's id is its slot
+abbrev pub world_of : Holding → List (Option Attributes) → ℕ → World
+world_of holding attributes moved = record { slots = holding.cap - FIRST_SLOT; heap = holding.heap; attributes = attributes_in attributes; moved = moved }
 
 -- the descriptor of an object: where it stands, and the offset of its last byte
 abbrev pub descriptor_for : Heap → ℕ → Object → Descriptor
@@ -34,9 +34,9 @@ descriptor_for heap slot o = elim o.bytes [
 abbrev pub described : Heap → ℕ → Option Descriptor
 described heap slot = option_map (descriptor_for heap slot) (object_at heap slot)
 
--- what holds of them: they stand for a world, and each selector says its object's base and limit
+-- what holds of them: they stand for a world, whatever was moved last, and each selector says its object's base and limit
 pub record AreJoined (holding : Holding) (attributes : List (Option Attributes)) (table : selectors.Table) : Type 0 where
-  pub world : IsWorld (world_of holding attributes)
+  pub world : IsWorld (world_of holding attributes 0)
   pub described : (slot : ℕ) → descriptor_at table slot ≡ described holding.heap slot
   pub attributes_many : length attributes ≡ holding.cap
   pub selectors_many : length table ≡ holding.cap

@@ -10,7 +10,7 @@ ghost use Rattle.w16_model.specs.World.{IsFreeSlot};
 use crate::global::Global16;
 use w16_model::{
     Attributes, Entry, GMEM_DDESHARE, GMEM_DISCARDABLE, GMEM_DISCARDED, GMEM_MOVEABLE,
-    GMEM_ZEROINIT, GRAIN, Kind, LARGEST_SIZE, Refusal,
+    GMEM_NOCOMPACT, GMEM_ZEROINIT, GRAIN, Kind, LARGEST_SIZE, Refusal,
 };
 
 impl Global16 {
@@ -76,12 +76,13 @@ impl Global16 {
         }
     }
 
-    /// `GlobalAlloc`: a new object's handle, or 0: for a fixed object of size 0, a size over 65,536 bytes, where no slot is free, and where no
-    /// hole is long enough. The size is rounded up to 32 bytes; a moveable object of size 0 has no bytes. Of the flags `GMEM_MOVEABLE`,
-    /// `GMEM_ZEROINIT` and `GMEM_DDESHARE` count so far.
+    /// `GlobalAlloc`: a new object's handle, or 0: for a fixed object of size 0, a size over 65,536 bytes, where no slot is free, and where
+    /// there is no room. The size is rounded up to 32 bytes; a moveable object of size 0 has no bytes. Unlocked moveable objects slide where
+    /// that makes room, but not with `GMEM_NOCOMPACT`. Beside it `GMEM_MOVEABLE`, `GMEM_ZEROINIT` and `GMEM_DDESHARE` count so far.
     pub fn global_alloc(&mut self, flags: u16, size: u32) -> u16
         ensures { GlobalAllocs self.old flags size result self.new }
     {
+        self.moved = 0;
         if size > LARGEST_SIZE {
             return 0;
         }
@@ -99,8 +100,10 @@ impl Global16 {
             self.enter(slot, kind, attributes);
             return handle_of(kind, slot);
         }
+        let compact = flags & GMEM_NOCOMPACT == 0;
         let zero = flags & GMEM_ZEROINIT != 0;
-        if self.allocate(slot, size.div_ceil(GRAIN) * GRAIN, kind, zero, attributes) {
+        let size = size.div_ceil(GRAIN) * GRAIN;
+        if self.allocate(slot, size, kind, compact, zero, attributes) {
             handle_of(kind, slot)
         } else {
             0

@@ -3,7 +3,7 @@ ghost use Rattle.std.specs.Prelude.{◌≡◌, ◌≤◌, ◌<◌, IfOk, IfErr, 
 ghost use Rattle.std.specs.FinMap as finmap;
 ghost use Rattle.w16_model.specs.Heap.{Heap, object_at, is_discardable, IsMultiple};
 ghost use Rattle.w16_model.specs.Edit.{removed};
-ghost use Rattle.w16_model.specs.Request.{Allocates};
+ghost use Rattle.w16_model.specs.Request.{Allocates, moved_bytes};
 ghost use Rattle.w16_model.specs.Single.{Enters, after_lock, after_unlock, after_free};
 ghost use Rattle.w16_model.specs.World.{IsFreeSlot, empty_world};
 
@@ -20,6 +20,8 @@ pub struct Global16 {
     /// By slot.
     pub(crate) attributes: Vec<Option<Attributes>>,
     pub(crate) selectors: Selectors,
+    /// The bytes that the last allocation or compaction moved.
+    pub(crate) moved: u32,
 }
 
 impl Model for Global16 {
@@ -31,7 +33,7 @@ impl Model for Global16 {
 
     ghost coded = { world_code };
 
-    ghost view = { λ g. world_of g.objects g.attributes.items };
+    ghost view = { λ g. world_of g.objects g.attributes.items g.moved };
 
     ghost invariant = { λ g. AreJoined g.objects g.attributes.items g.selectors };
 }
@@ -51,6 +53,7 @@ impl Global16 {
             objects,
             attributes,
             selectors,
+            moved: 0,
         })
     }
 
@@ -72,6 +75,7 @@ impl Global16 {
         slot: u16,
         size: u32,
         kind: Kind,
+        compact: bool,
         zero: bool,
         attributes: Attributes,
     ) -> bool
@@ -79,8 +83,12 @@ impl Global16 {
         requires some { 0 < size }
         requires rounded { IsMultiple GRAIN size }
         requires kind { is_discardable kind ≡ false }
-        ensures allocated { Allocates self.old.heap slot size kind 0 (record { compact = false; discard = false; zero = zero; may_move = false }) result self.new.heap }
-        ensures rest { self.new ≡ record self.old { heap = self.new.heap; attributes = if result then finmap.insert self.old.attributes slot attributes else self.old.attributes } }
+        ensures allocated { Allocates self.old.heap slot size kind 0 (record { compact = compact; discard = false; zero = zero; may_move = false }) result self.new.heap }
+        ensures rest { self.new ≡ record self.old {
+          heap = self.new.heap;
+          attributes = if result then finmap.insert self.old.attributes slot attributes else self.old.attributes;
+          moved = if result then moved_bytes self.old.heap self.new.heap else self.old.moved;
+        } }
     {
         let Some(base) = self.objects.alloc(slot as u32, size, kind, zero) else {
             return false;

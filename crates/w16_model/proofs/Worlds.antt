@@ -11,17 +11,18 @@ use Rattle.w16_model.specs.declared.Refusal.{Refusal}
 use Rattle.w16_model.specs.declared.Refusal.TheVariants as refusals
 use Rattle.w16_model.specs.declared.FarFault.{FarFault}
 use Rattle.w16_model.specs.declared.FarFault.TheVariants.{BadSelector, NotPresent, Limit}
+use Rattle.w16_model.specs.Gap.{is_pinned}
 use Rattle.w16_model.specs.Prefix.{eligible}
 use Rattle.w16_model.specs.Heap.{Heap, Object, IsHeap, blocks, object_at, bytes_at, is_fixed}
 use Rattle.w16_model.specs.Edit.{absent, with_object, with_ordered, removed, touched, update, with_newest}
 use Rattle.w16_model.specs.declared.Kind.{Kind}
 use Rattle.w16_model.specs.declared.TheConstants.{GMEM_DDESHARE}
 use Rattle.w16_model.specs.Single.{Enters, after_lock, after_unlock, after_free, after_touch}
-use Rattle.w16_model.specs.Request.{Request, Allocates, IsNew, Settles, discarded, stays_for, prefix_of}
+use Rattle.w16_model.specs.Request.{Request, Allocates, IsNew, Settles, MakesRoom, most_room, compaction_prefix, moved_bytes, discarded, stays_for, prefix_of}
 use Rattle.w16_model.specs.declared.Attributes.{Attributes}
 use Rattle.w16_model.specs.World.{World, IsWorld, IsSlot, IsFreeSlot, slot_of_handle, slot_of_selector, selector_of, far_pointer, selector_in, offset_in}
-use Rattle.w16_model.specs.Machine.{Reply, AnswersAlloc, global_free, global_lock, global_unlock, locks_at, far_fault, far_slot, far_bytes, slice_at, far_read, far_write, after_write, with_slice, way_asked, kind_asked, rounded_size, is_absent_asked, has_flag}
-use Rattle.w16_model.specs.Machine.Command.{GlobalAlloc, GlobalFree, GlobalLock, GlobalUnlock, GlobalSize, GlobalFlags, GlobalHandle, GetSelectorBase, GetSelectorLimit, Read, Write, Fill}
+use Rattle.w16_model.specs.Machine.{Reply, AnswersAlloc, GlobalCompacts, global_free, global_lock, global_unlock, locks_at, far_fault, far_slot, far_bytes, slice_at, far_read, far_write, after_write, with_slice, way_asked, kind_asked, rounded_size, is_absent_asked, has_flag}
+use Rattle.w16_model.specs.Machine.Command.{GlobalAlloc, GlobalFree, GlobalLock, GlobalUnlock, GlobalSize, GlobalFlags, GlobalHandle, GetSelectorBase, GetSelectorLimit, GlobalCompact, Moved, Read, Write, Fill}
 use Rattle.w16_model.specs.Machine.Reply.{Word, Dword, Bytes, Done, Fault}
 use Rattle.w16_model.specs.Law.{WorldLaw}
 use Rattle.w16_model.proofs.Heaps.{get-update_same, get-update_other}
@@ -87,6 +88,10 @@ Leaves outcome = IsWorld outcome.1
 abbrev HasNoFault : Option FarFault → Type 0
 HasNoFault fault = fault ≡ None
 
+-- the count of bytes moved is any
+pub moved_world : (old : World) → IsWorld old → (moved : ℕ) → IsWorld (record old { moved = moved })
+moved_world old is moved = record { heap = is.heap; low = is.low; grain = is.grain; few = is.few; slotted = is.slotted; attributed = is.attributed }
+
 module _ (old : World) (is : IsWorld old) where
   -- another heap over the same memory, with objects at the same slots
   pub other_world : (heap : Heap) → IsHeap heap → heap.lo ≡ old.heap.lo → heap.grain ≡ old.heap.grain → ((q : ℕ) → is_some (object_at heap q) ≡ is_some (object_at old.heap q)) → IsWorld (record old { heap = heap })
@@ -148,7 +153,8 @@ module _ (old : World) (is : IsWorld old) where
 
   -- GlobalAlloc, answered
   allocated_world : (flags size handle : ℕ) (new : World) → AnswersAlloc old flags size handle new → IsWorld new
-  allocated_world flags size handle new a = subst IsWorld (sym a.rest) (made (is_absent_asked flags size) a.made)
+  allocated_world flags size handle new a =
+      subst IsWorld (sym a.rest) (moved_world (record old { heap = new.heap; attributes = finmap.insert old.attributes a.slot (record { shared = has_flag flags GMEM_DDESHARE }) }) (made (is_absent_asked flags size) a.made) (moved_bytes old.heap new.heap))
     where
       attributes : Attributes
       attributes = record { shared = has_flag flags GMEM_DDESHARE }
@@ -161,6 +167,20 @@ module _ (old : World) (is : IsWorld old) where
           let s : (k : ℕ) × (o : Object) × Settles old.heap (stays_for a.slot way) (with_ordered (discarded old.heap k (Some a.slot)) a.slot o (with_newest a.slot o)) new.heap =
           settled old.heap a.slot way (prefix_of old.heap (rounded_size size) (Some a.slot) way) (IsNew way.zero (rounded_size size) (kind_asked flags) 0) (with_newest a.slot) new.heap allocated.request in
           with_new_object attributes a.slot s.0 s.1 (with_newest a.slot s.1) (stays_for a.slot way) new.heap a.free.0 s.2
+
+  -- GlobalCompact
+  compacted_world : (size answer : ℕ) (new : World) → GlobalCompacts old size answer new → IsWorld new
+  compacted_world size answer new c = subst IsWorld (sym c.rest) (moved_world (record old { heap = new.heap }) (turn (size == 0) c.compacted) (moved_bytes old.heap new.heap))
+    where
+      turn : (b : Bool) → MatchBool b ((answer ≡ most_room old.heap) × (new.heap ≡ old.heap)) (MakesRoom old.heap size answer new.heap) → IsWorld (record old { heap = new.heap })
+      turn true h = subst (λ (k : Heap). IsWorld (record old { heap = k })) (sym h.1) is
+      turn false h = settled_world (compaction_prefix old.heap size) h.settled
+        where
+          settled_world : (k : ℕ) → Settles old.heap is_pinned (discarded old.heap k None) new.heap → IsWorld (record old { heap = new.heap })
+          settled_world k s =
+              let ids : List ℕ = take k (eligible (blocks old.heap) old.heap.order None) in
+              other_world new.heap s.sound (ap (λ (h : Heap). h.lo) s.same ∙ (absents_range ids old.heap).0) (ap (λ (h : Heap). h.grain) s.same ∙ (absents_range ids old.heap).1)
+              (λ q. ap is_some (ap (λ (h : Heap). object_at h q) s.same) ∙ absents_same ids old.heap q)
 
   -- the world without an object
   pub without_object : (slot : ℕ) → IsWorld (record old { heap = removed old.heap slot; attributes = finmap.remove old.attributes slot })
@@ -362,7 +382,7 @@ module _ (old : World) (is : IsWorld old) where
 -- each step keeps what holds of every world
 pub world_law : WorldLaw
 world_law old new (GlobalAlloc flags size) reply is command step = elim step.2 [
-  | inl refused ↦ subst IsWorld (sym refused.2) is
+  | inl refused ↦ subst IsWorld (sym refused.2) (moved_world old is 0)
   | inr answered ↦ allocated_world old is flags size step.0 new answered
 ]
 world_law old new (GlobalFree handle) reply is command step = subst IsWorld (sym step.1) (freed_world old is handle)
@@ -373,6 +393,8 @@ world_law old new (GlobalFlags handle) reply is command step = subst IsWorld (sy
 world_law old new (GlobalHandle selector) reply is command step = subst IsWorld (sym step.1) is
 world_law old new (GetSelectorBase selector) reply is command step = subst IsWorld (sym step.1) is
 world_law old new (GetSelectorLimit selector) reply is command step = subst IsWorld (sym step.1) is
+world_law old new (GlobalCompact size) reply is command step = compacted_world old is size step.0 new step.2
+world_law old new Moved reply is command step = subst IsWorld (sym step.1) is
 world_law old new (Read pointer count) reply is command step = subst IsWorld (sym step.1) (read_world old is (selector_in pointer) (offset_in pointer) count)
 world_law old new (Write pointer bytes) reply is command step = subst IsWorld (sym step.1) (write_world old is (selector_in pointer) (offset_in pointer) bytes command)
 world_law old new (Fill pointer count byte) reply is command step =

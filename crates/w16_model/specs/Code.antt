@@ -40,5 +40,5 @@ abbrev pub attributes_code : Coded Attributes
 attributes_code = code_by _ coded_bool (λ a. a.shared) (λ b. record { shared = b }) (λ _. refl)
 
 abbrev pub world_code : Coded World
-world_code = code_by (ℕ × (Heap × FinMap nat_cmp Attributes)) (coded× coded_ℕ (coded× heap_code (finmap.code coded_ℕ attributes_code)))
-    (λ w. (w.slots, (w.heap, w.attributes))) (λ p. record { slots = p.0; heap = p.1.0; attributes = p.1.1 }) (λ _. refl)
+world_code = code_by (ℕ × (Heap × (FinMap nat_cmp Attributes × ℕ))) (coded× coded_ℕ (coded× heap_code (coded× (finmap.code coded_ℕ attributes_code) coded_ℕ)))
+    (λ w. (w.slots, (w.heap, (w.attributes, w.moved)))) (λ p. record { slots = p.0; heap = p.1.0; attributes = p.1.1.0; moved = p.1.1.1 }) (λ _. refl)

@@ -7,10 +7,10 @@ use Rattle.w16_model.specs.declared.Way.{Way}
 use Rattle.w16_model.specs.declared.Refusal.TheVariants as refusals
 use Rattle.w16_model.specs.declared.FarFault.{FarFault}
 use Rattle.w16_model.specs.declared.FarFault.TheVariants.{BadSelector, NotPresent, Limit}
-use Rattle.w16_model.specs.declared.TheConstants.{GRAIN, LARGEST_SIZE, GMEM_MOVEABLE, GMEM_ZEROINIT, GMEM_DISCARDABLE, GMEM_DDESHARE, GMEM_DISCARDED}
+use Rattle.w16_model.specs.declared.TheConstants.{GRAIN, LARGEST_SIZE, GMEM_MOVEABLE, GMEM_NOCOMPACT, GMEM_ZEROINIT, GMEM_DISCARDABLE, GMEM_DDESHARE, GMEM_DISCARDED}
 use Rattle.w16_model.specs.Heap.{Heap, Object, object_at, bytes_at, is_discardable}
 use Rattle.w16_model.specs.Edit.{update}
-use Rattle.w16_model.specs.Request.{Allocates, prefix_of}
+use Rattle.w16_model.specs.Request.{Allocates, Compacts, prefix_of, moved_bytes}
 use Rattle.w16_model.specs.Single.{Enters, after_lock, after_unlock, after_free, after_touch}
 use Rattle.w16_model.specs.declared.Attributes.{Attributes}
 use Rattle.w16_model.specs.World.{World, IsFreeSlot, slot_of_handle, slot_of_selector, handle_of, selector_of, far_pointer, dword_of, selector_in, offset_in}
@@ -26,6 +26,8 @@ pub data Command : Type 0 where
   GlobalHandle : (selector : ℕ) → Command
   GetSelectorBase : (selector : ℕ) → Command
   GetSelectorLimit : (selector : ℕ) → Command
+  GlobalCompact : (size : ℕ) → Command
+  Moved : Command
   Read : (pointer count : ℕ) → Command
   Write : (pointer : ℕ) (bytes : List ℕ) → Command
   Fill : (pointer count byte : ℕ) → Command
@@ -55,15 +57,16 @@ rounded_size size = GRAIN * ((size + (GRAIN - 1)) / GRAIN)
 abbrev pub kind_asked : ℕ → Kind
 kind_asked flags = if has_flag flags GMEM_MOVEABLE then Moveable else Fixed
 
--- nothing moves yet and nothing is discarded: a request needs a hole
+-- nothing is discarded yet; without GMEM_NOCOMPACT others may be moved
 abbrev pub way_asked : ℕ → Way
-way_asked flags = record { compact = false; discard = false; zero = has_flag flags GMEM_ZEROINIT; may_move = false }
+way_asked flags = record { compact = not (has_flag flags GMEM_NOCOMPACT); discard = false; zero = has_flag flags GMEM_ZEROINIT; may_move = false }
 
 -- whether an object is asked for that has no bytes yet
 abbrev pub is_absent_asked : ℕ → ℕ → Bool
 is_absent_asked flags size = (size == 0) && has_flag flags GMEM_MOVEABLE
 
--- when an allocation is NULL: a fixed object of no bytes, a size over the limit, no free slot, or no hole that is long enough
+-- when an allocation is NULL: a fixed object of no bytes, a size over the limit, no free slot, or no room: no hole that is long enough, or no
+-- gap that could hold it, as the flags have it
 abbrev pub IsRefusedAlloc : World → ℕ → ℕ → Type 0
 IsRefusedAlloc old flags size =
     ((size ≡ 0) × (has_flag flags GMEM_MOVEABLE ≡ false)) ⊎ (LARGEST_SIZE < size) ⊎ ((slot : ℕ) → IsFreeSlot old slot → ⊥)
@@ -78,11 +81,20 @@ pub record AnswersAlloc (old : World) (flags size handle : ℕ) (new : World) : 
   pub made : MatchBool (is_absent_asked flags size)
       (Enters old.heap slot (kind_asked flags) new.heap)
       (Allocates old.heap slot (rounded_size size) (kind_asked flags) 0 (way_asked flags) true new.heap)
-  pub rest : new ≡ record old { heap = new.heap; attributes = finmap.insert old.attributes slot (record { shared = has_flag flags GMEM_DDESHARE }) }
+  pub rest : new ≡ record old {
+    heap = new.heap;
+    attributes = finmap.insert old.attributes slot (record { shared = has_flag flags GMEM_DDESHARE });
+    moved = moved_bytes old.heap new.heap;
+  }
 
--- GlobalAlloc
+-- GlobalAlloc; a refused one has moved nothing
 abbrev pub GlobalAllocs : World → ℕ → ℕ → ℕ → World → Type 0
-GlobalAllocs old flags size handle new = (IsRefusedAlloc old flags size × (handle ≡ 0) × (new ≡ old)) ⊎ AnswersAlloc old flags size handle new
+GlobalAllocs old flags size handle new = (IsRefusedAlloc old flags size × (handle ≡ 0) × (new ≡ record old { moved = 0 })) ⊎ AnswersAlloc old flags size handle new
+
+-- GlobalCompact
+pub record GlobalCompacts (old : World) (size answer : ℕ) (new : World) : Type 0 where
+  pub compacted : Compacts old.heap size answer new.heap
+  pub rest : new ≡ record old { heap = new.heap; moved = moved_bytes old.heap new.heap }
 
 -- The calls that name an object. Each answers and leaves what is written here.
 
@@ -226,6 +238,8 @@ Step old (GlobalFlags handle) reply new = Gives (Word (global_flags old handle),
 Step old (GlobalHandle selector) reply new = Gives (Dword (global_handle old selector), old) reply new
 Step old (GetSelectorBase selector) reply new = Gives (Dword (selector_base old selector), old) reply new
 Step old (GetSelectorLimit selector) reply new = Gives (Dword (selector_limit old selector), old) reply new
+Step old (GlobalCompact size) reply new = (answer : ℕ) × (reply ≡ Dword answer) × GlobalCompacts old size answer new
+Step old Moved reply new = Gives (Dword old.moved, old) reply new
 Step old (Read pointer count) reply new = Gives (far_read old (selector_in pointer) (offset_in pointer) count) reply new
 Step old (Write pointer bytes) reply new = Gives (far_write old (selector_in pointer) (offset_in pointer) bytes) reply new
 Step old (Fill pointer count byte) reply new = Gives (far_write old (selector_in pointer) (offset_in pointer) (replicate count byte)) reply new

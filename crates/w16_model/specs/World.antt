@@ -14,10 +14,12 @@ pub record World : Type 0 where
   pub slots : ℕ
   pub heap : Heap
   pub attributes : FinMap nat_cmp Attributes
+  -- the bytes that the last allocation or compaction moved (profile)
+  pub moved : ℕ
 
 -- the world over a memory, and with so many slots, in which nothing is allocated
 abbrev pub empty_world : ℕ → ℕ → World
-empty_world memory slots = record { slots = slots; heap = empty_heap 0 memory GRAIN; attributes = finmap.empty }
+empty_world memory slots = record { slots = slots; heap = empty_heap 0 memory GRAIN; attributes = finmap.empty; moved = 0 }
 
 abbrev pub IsSlot : World → ℕ → Type 0
 IsSlot world slot = (FIRST_SLOT ≤ slot) × (slot < FIRST_SLOT + world.slots)

@@ -103,6 +103,9 @@ pub const LARGEST_SIZE: u32 = 65_536;
 /// `GlobalAlloc`: the object may be moved while it isn't locked.
 pub const GMEM_MOVEABLE: u16 = 0x0002;
 
+/// `GlobalAlloc`: no other object is moved or discarded.
+pub const GMEM_NOCOMPACT: u16 = 0x0010;
+
 /// `GlobalAlloc`: the new bytes are zeros.
 pub const GMEM_ZEROINIT: u16 = 0x0040;
 
