@@ -1,5 +1,6 @@
 pub mod With
 pub mod Lookups
+pub mod Next
 pub mod Fresh
 pub mod Slices
 pub mod Written

@@ -1,5 +1,5 @@
 //! The objects of the global heap by id, the blocks by address, and the memory.
-ghost use Rattle.std.specs.Prelude.{◌≡◌, ◌≢◌, ◌+◌, ◌-◌, ◌^◌, ◌<◌, ◌≤◌, ℕ, [], length, IfOk, IfErr, OnOk, IfSome, IfNone, IsSome, IsSomeAnd, IsTrue, option_map, is_some, false, if◌then◌else◌};
+ghost use Rattle.std.specs.Prelude.{◌≡◌, ◌≢◌, ◌+◌, ◌-◌, ◌^◌, ◌<◌, ◌≤◌, ◌⊎◌, ℕ, [], length, IfOk, IfErr, OnOk, IfSome, IfNone, IsSome, IsSomeAnd, IsTrue, option_map, is_some, false, if◌then◌else◌};
 ghost use Rattle.std.specs.FinMap as finmap;
 ghost use Rattle.w16_model.specs.Heap.{IsHeap, object_at, bytes_at, empty_heap, is_fixed, is_discardable, IsMultiple};
 ghost use Rattle.w16_model.specs.Edit.{removed, with_object};
@@ -77,6 +77,15 @@ impl Objects {
             return None;
         }
         self.blocks.find(id).map(|block| block.size)
+    }
+
+    /// The lowest block at or above an address, if there is one.
+    pub fn next_block(&self, from: u32) -> Option<Block>
+        ensures found { IfSome result (λ b. (from ≤ b.at) × (finmap.get self.now.heap.places b.id ≡ Some b.at) × (option_map length (bytes_at self.now.heap b.id) ≡ Some b.size)) }
+        ensures lowest { IfSome result (λ b. (q : ℕ) → IfSome (finmap.get self.now.heap.places q) (λ at. (at < from) ⊎ (b.at ≤ at))) }
+        ensures none { IfNone result ((q : ℕ) → IfSome (finmap.get self.now.heap.places q) (λ at. at < from)) }
+    {
+        self.blocks.at_index(self.blocks.rank(from))
     }
 
     /// A new object's address: so many bytes, a multiple of the grain, in the lowest hole that is long enough, if there is one.

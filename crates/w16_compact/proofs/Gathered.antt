@@ -1,0 +1,135 @@
+-- A gather from its start, by a step, to its end.
+use Rattle.std.proofs.Common.{ℕ, zero, suc, ◌≡◌, ◌+◌, ◌<◌, ◌≤◌, ◌⊎◌, List, [], ◌∷◌, ◌++◌, length, set, take, drop, cond, eqb, Some, None, is_some, arith, refl, sym, ◌∙◌, subst, ap, inl, inr, slice_get}
+use Rattle.std.proofs.lemmas.Bool.{lt-ltb, le-ltb, cases_lt, eq-eqb, false≢true}
+use Rattle.std.proofs.lemmas.Bool.Decides.{eqb_tells}
+use Rattle.std.specs.List.{AllByRecursion}
+use Rattle.w16_model.specs.declared.Block.{Block}
+use Rattle.w16_model.specs.declared.Hold.TheVariants.{Loose}
+use Rattle.w16_model.specs.Gap.{IsLaid, block_end}
+use Rattle.w16_blocks.specs.Layout.{rank}
+use Rattle.w16_compact.specs.Gather.{gathered, packed, moved_size}
+
+abbrev InGap : ℕ → ℕ → Block → Type 0
+InGap low high b = (block_end b ≤ low) ⊎ ((high ≤ b.at) ⊎ ((low ≤ b.at) × (block_end b ≤ high) × (b.hold ≡ Loose)))
+
+-- at the start
+pub list_start : (low high : ℕ) (bs : List Block) → take (rank low bs) bs ++ packed high low (drop (rank low bs) bs) ≡ gathered low high bs
+list_start low high [] = refl
+list_start low high (b ∷ bs) = elim (cases_lt b.at low) [
+  | inl lt ↦ rw (lt-ltb b.at low lt) (ap (λ ys. b ∷ ys) (list_start low high bs))
+  | inr le ↦ rw (le-ltb b.at low le) refl
+]
+
+pub below_start : (low high : ℕ) (bs : List Block) → low ≤ high → AllByRecursion (InGap low high) bs → AllByRecursion (λ c. block_end c ≤ low) (take (rank low bs) bs)
+below_start low high [] le gap = tt
+below_start low high (b ∷ bs) le gap = elim (cases_lt b.at low) [
+  | inl lt ↦ rw (lt-ltb b.at low lt) (
+    elim gap.0 [
+      | inl end ↦ end
+      | inr other ↦ elim other [ inl above ↦ absurd (omega arith) | inr inside ↦ let from = inside.0 in absurd (omega arith) ]
+    ],
+    below_start low high bs le gap.1,
+  )
+  | inr ge ↦ rw (le-ltb b.at low ge) tt
+]
+
+pub apart_start : (bound top low : ℕ) (bs : List Block) → IsLaid bound top bs → low ≤ top → IsLaid low top (drop (rank low bs) bs)
+apart_start bound top low [] apart le = le
+apart_start bound top low (b ∷ bs) apart le = elim (cases_lt b.at low) [
+  | inl lt ↦ rw (lt-ltb b.at low lt) (apart_start (block_end b) top low bs apart.2 le)
+  | inr ge ↦ rw (le-ltb b.at low ge) (ge, apart.1, apart.2)
+]
+
+pub moved_start : (low high : ℕ) (bs : List Block) → moved_size (drop (rank low bs) bs) (packed high low (drop (rank low bs) bs)) ≡ moved_size bs (gathered low high bs)
+moved_start low high [] = refl
+moved_start low high (b ∷ bs) = elim (cases_lt b.at low) [
+  | inl lt ↦ rw (lt-ltb b.at low lt, eq-eqb b.at b.at refl) (let ih = moved_start low high bs in omega (arith, ih))
+  | inr ge ↦ rw (le-ltb b.at low ge) refl
+]
+
+-- the i-th block and the rest
+pub drop_got : (bs : List Block) (i : ℕ) (b : Block) → slice_get bs i ≡ Some b → drop i bs ≡ b ∷ drop (suc i) bs
+drop_got [] i b e = absurd (false≢true (ap is_some e))
+drop_got (c ∷ cs) zero b e = let same : c ≡ b = cc in ap (λ x. x ∷ cs) same
+drop_got (c ∷ cs) (suc i) b e = drop_got cs i b e
+
+pub inside_got : (bs : List Block) (i : ℕ) (b : Block) → slice_get bs i ≡ Some b → i < length bs
+inside_got [] i b e = absurd (false≢true (ap is_some e))
+inside_got (c ∷ cs) zero b e = omega arith
+inside_got (c ∷ cs) (suc i) b e = let ih = inside_got cs i b e in omega arith
+
+pub past_got : (bs : List Block) (i : ℕ) → slice_get bs i ≡ None → drop i bs ≡ []
+past_got [] zero e = refl
+past_got [] (suc i) e = refl
+past_got (c ∷ cs) zero e = absurd (false≢true (sym (ap is_some e)))
+past_got (c ∷ cs) (suc i) e = past_got cs i e
+
+-- after a write at i
+pub take_written : (bs : List Block) (i : ℕ) (x : Block) (ys : List Block) → i < length bs → take (suc i) (set bs i x) ++ ys ≡ take i bs ++ (x ∷ ys)
+take_written [] i x ys lt = absurd (omega arith)
+take_written (c ∷ cs) zero x ys lt = refl
+take_written (c ∷ cs) (suc i) x ys lt = ap (λ zs. c ∷ zs) (take_written cs i x ys (omega arith))
+
+pub drop_written : (bs : List Block) (i : ℕ) (x : Block) → drop (suc i) (set bs i x) ≡ drop (suc i) bs
+drop_written [] zero x = refl
+drop_written [] (suc i) x = refl
+drop_written (c ∷ cs) zero x = refl
+drop_written (c ∷ cs) (suc i) x = drop_written cs i x
+
+pub below_written : (bs : List Block) (i : ℕ) (x : Block) (to : ℕ) → to ≤ block_end x → AllByRecursion (λ c. block_end c ≤ to) (take i bs) → AllByRecursion (λ c. block_end c ≤ block_end x) (take (suc i) (set bs i x))
+below_written [] zero x to le all = tt
+below_written [] (suc i) x to le all = tt
+below_written (c ∷ cs) zero x to le all = (omega arith, tt)
+below_written (c ∷ cs) (suc i) x to le all = let one = all.0 in (omega arith, below_written cs i x to le all.1)
+
+-- a step
+packed_step : (high to : ℕ) (b : Block) (bs : List Block) → b.at < high → packed high to (b ∷ bs) ≡ record b { at = to } ∷ packed high (to + b.size) bs
+packed_step high to b bs lt = rw (lt-ltb b.at high lt) refl
+
+pub list_step : (high to i : ℕ) (b : Block) (bs gathered_bs : List Block) → slice_get bs i ≡ Some b → b.at < high → take i bs ++ packed high to (drop i bs) ≡ gathered_bs
+    → take (suc i) (set bs i (record b { at = to })) ++ packed high (to + b.size) (drop (suc i) (set bs i (record b { at = to }))) ≡ gathered_bs
+list_step high to i b bs gathered_bs got lt e =
+    ap (λ ys. take (suc i) (set bs i (record b { at = to })) ++ packed high (to + b.size) ys) (drop_written bs i (record b { at = to }))
+    ∙ take_written bs i (record b { at = to }) (packed high (to + b.size) (drop (suc i) bs)) (inside_got bs i b got)
+    ∙ ap (λ ys. take i bs ++ ys) (sym (packed_step high to b (drop (suc i) bs) lt))
+    ∙ ap (λ ys. take i bs ++ packed high to ys) (sym (drop_got bs i b got))
+    ∙ e
+
+pub apart_step : (top to i : ℕ) (b : Block) (bs : List Block) → slice_get bs i ≡ Some b → IsLaid to top (drop i bs) → (to ≤ b.at) × (block_end b ≤ top) × IsLaid (to + b.size) top (drop (suc i) (set bs i (record b { at = to })))
+apart_step top to i b bs got apart =
+    let now : IsLaid to top (b ∷ drop (suc i) bs) = subst (λ (ys : List Block). IsLaid to top ys) (drop_got bs i b got) apart in
+    let one = now.0 in
+    (now.0, ends (block_end b) (drop (suc i) bs) now.2, subst (λ (ys : List Block). IsLaid (to + b.size) top ys) (sym (drop_written bs i (record b { at = to }))) (from (block_end b) (drop (suc i) bs) (omega arith) now.2))
+  where
+    ends : (k : ℕ) (cs : List Block) → IsLaid k top cs → k ≤ top
+    ends k [] a = a
+    ends k (c ∷ cs) a = let one = a.0 in let two = a.1 in let h = ends (block_end c) cs a.2 in omega arith
+
+    from : (k : ℕ) (cs : List Block) → to + b.size ≤ k → IsLaid k top cs → IsLaid (to + b.size) top cs
+    from k [] le a = omega arith
+    from k (c ∷ cs) le a = let one = a.0 in (omega arith, a.1, a.2)
+
+pub moved_step : (high to i moved total step : ℕ) (b : Block) (bs : List Block) → slice_get bs i ≡ Some b → b.at < high → step ≡ cond (eqb b.at to) 0 b.size
+    → moved + moved_size (drop i bs) (packed high to (drop i bs)) ≡ total
+    → moved + step + moved_size (drop (suc i) (set bs i (record b { at = to }))) (packed high (to + b.size) (drop (suc i) (set bs i (record b { at = to })))) ≡ total
+moved_step high to i moved total step b bs got lt s e =
+    let rest : List Block = drop (suc i) bs in
+    let at : moved_size (drop i bs) (packed high to (drop i bs)) ≡ cond (eqb b.at to) 0 b.size + moved_size rest (packed high (to + b.size) rest) =
+    ap (λ ys. moved_size ys (packed high to ys)) (drop_got bs i b got) ∙ ap (moved_size (b ∷ rest)) (packed_step high to b rest lt) in
+    let after : moved_size (drop (suc i) (set bs i (record b { at = to }))) (packed high (to + b.size) (drop (suc i) (set bs i (record b { at = to })))) ≡ moved_size rest (packed high (to + b.size) rest) =
+    ap (λ ys. moved_size ys (packed high (to + b.size) ys)) (drop_written bs i (record b { at = to })) in
+    omega (arith, at, after, s, e)
+
+pub step-le : (to step : ℕ) (b : Block) → step ≡ cond (eqb b.at to) 0 b.size → step ≤ b.size
+step-le to step b e = elim (eqb_tells b.at to) [
+  | inl same ↦ let h : step ≡ 0 = rw same.0 at e in omega arith
+  | inr other ↦ let h : step ≡ b.size = rw other.0 at e in omega arith
+]
+
+-- at the end
+pub packed_end : (high to i : ℕ) (b : Block) (bs : List Block) → slice_get bs i ≡ Some b → high ≤ b.at → packed high to (drop i bs) ≡ drop i bs
+packed_end high to i b bs got le = rw (drop_got bs i b got) (rw (le-ltb b.at high le) refl)
+
+pub moved_same : (bs : List Block) → moved_size bs bs ≡ 0
+moved_same [] = refl
+moved_same (b ∷ bs) = rw (eq-eqb b.at b.at refl) (let ih = moved_same bs in omega (arith, ih))

@@ -1,0 +1,9 @@
+pub mod Parts
+pub mod OnePass
+pub mod Order
+pub mod Slid
+pub mod Steps
+pub mod Gathered
+pub mod Skips
+pub mod Walked
+pub mod Cleared

@@ -1,0 +1,135 @@
+-- Room by one pass over the blocks by address.
+use Rattle.std.proofs.Common.{◌≡◌, ℕ, ◌+◌, ◌-◌, ◌<◌, ◌≤◌, max, min, Bool, true, false, cond, not, ◌&&◌, nat_le, nat_lt, IsTrue, List, [], ◌∷◌, map, filter, sum_by, refl, ap, ◌∙◌, arith, zero-add, le-leb, lt-ltb}
+use Rattle.std.proofs.lemmas.Bool.{and_left, lt-leb, le-ltb, and_right, cond-true, cond-false, and_from}
+use Rattle.std.specs.Ordering.{ord_max, nat_cmp}
+use Rattle.std.proofs.lemmas.Bool.Decides.{nat_tests}
+use Rattle.w16_model.specs.declared.Block.{Block}
+use Rattle.std.specs.List.{AllByRecursion as Each}
+use Rattle.w16_model.proofs.Gaps.{Each-map, Each-of_map, Each-filter}
+use Rattle.w16_model.proofs.Longest.{sum_filter}
+use Rattle.w16_model.specs.Gap.{is_pinned, is_loose, block_end, begins_in, first_from, loose_bytes, largest, room_from, room, IsLaid}
+
+-- the best gap so far, where the present gap begins, and the loose bytes in it
+abbrev pub scan : ℕ → ℕ → ℕ → ℕ → List Block → ℕ
+scan hi best start used [] = max best (hi - start - used)
+scan hi best start used (x ∷ xs) = cond (is_pinned x) (scan hi (max best (x.at - start - used)) (block_end x) 0 xs) (scan hi best start (used + x.size) xs)
+
+abbrev pub ends : List Block → List ℕ
+ends xs = map block_end (filter is_pinned xs)
+
+-- all blocks of a laid list begin at or after its low end, and the low end is at most the high one
+laid_le : (lo hi : ℕ) (xs : List Block) → IsLaid lo hi xs → lo ≤ hi
+laid_le lo hi [] h = h
+laid_le lo hi (x ∷ xs) h = omega (arith, h, laid_le (x.at + x.size) hi xs h.2)
+
+first_after : (lo hi : ℕ) (xs : List Block) (a m : ℕ) → IsLaid lo hi xs → m ≤ lo → m ≤ first_from is_pinned hi xs a
+first_after lo hi [] a m h k = omega arith
+first_after lo hi (x ∷ xs) a m h k =
+    let rest : m ≤ first_from is_pinned hi xs a = first_after (x.at + x.size) hi xs a m h.2 (omega (arith, h)) in
+    elim (is_pinned x && nat_le a x.at) as (λ b. m ≤ cond b (min x.at (first_from is_pinned hi xs a)) (first_from is_pinned hi xs a)) [ true ↦ omega (arith, h.0, rest, k) | false ↦ rest ]
+
+-- no block of it begins below its low end
+none_below : (lo hi : ℕ) (xs : List Block) (a b : ℕ) → IsLaid lo hi xs → b ≤ lo → loose_bytes xs a b ≡ 0
+none_below lo hi [] a b h k = refl
+none_below lo hi (x ∷ xs) a b h k =
+    let out : (is_loose x && begins_in a b x) ≡ false = and_right (is_loose x) (begins_in a b x) (and_right (nat_le a x.at) (nat_lt x.at b) (le-ltb x.at b (omega (arith, h.0)))) in
+    ap (λ v. sum_by (λ (y : Block). y.size) (cond {A = List Block} v (x ∷ filter (λ y. is_loose y && begins_in a b y) xs) (filter (λ y. is_loose y && begins_in a b y) xs))) out
+    ∙ none_below (x.at + x.size) hi xs a b h.2 (omega (arith, h))
+
+ends_after : (lo hi : ℕ) (xs : List Block) → IsLaid lo hi xs → Each (λ s. lo ≤ s) (ends xs)
+ends_after lo hi xs h = Each-of_map (λ s. lo ≤ s) block_end (filter is_pinned xs) (Each-filter (λ x. lo ≤ block_end x) is_pinned xs (all lo hi xs h))
+  where
+    all : (lo hi : ℕ) (xs : List Block) → IsLaid lo hi xs → Each (λ x. IsTrue (is_pinned x) → lo ≤ block_end x) xs
+    all lo hi [] h = tt
+    all lo hi (x ∷ xs) h = ((λ _. omega (arith, h.0)), Each-map _ _ (λ y f t. omega (arith, f t, h.0)) xs (all (x.at + x.size) hi xs h.2))
+
+pub largest_same : (f g : ℕ → ℕ) (ns : List ℕ) → Each (λ n. f n ≡ g n) ns → largest (map f ns) ≡ largest (map g ns)
+largest_same f g [] h = refl
+largest_same f g (n ∷ ns) h = λ i. max (h.0 i) (largest_same f g ns h.1 i)
+
+-- what the first block changes
+module _ (hi : ℕ) (x : Block) (xs : List Block) (laid : IsLaid (x.at + x.size) hi xs) (some : 0 < x.size) where
+  first_head : (t : Bool) (s : ℕ) → is_pinned x ≡ t → first_from is_pinned hi (x ∷ xs) s ≡ cond (t && nat_le s x.at) (min x.at (first_from is_pinned hi xs s)) (first_from is_pinned hi xs s)
+  first_head t s e = ap (λ (b : Bool). cond (b && nat_le s x.at) (min x.at (first_from is_pinned hi xs s)) (first_from is_pinned hi xs s)) e
+
+  loose_head : (a b : ℕ) (t : Bool) → (is_loose x && begins_in a b x) ≡ t → loose_bytes (x ∷ xs) a b ≡ cond t x.size 0 + loose_bytes xs a b
+  loose_head a b t e = sum_filter (λ y. is_loose y && begins_in a b y) x xs ∙ ap (λ (v : Bool). cond v x.size 0 + loose_bytes xs a b) e
+
+  not_loose : is_pinned x ≡ true → is_loose x ≡ false
+  not_loose e = ap not e
+
+  pinned_here : (lo : ℕ) → is_pinned x ≡ true → lo ≤ x.at → room_from hi (x ∷ xs) lo ≡ x.at - lo
+  pinned_here lo t h =
+      let far : x.at ≤ first_from is_pinned hi xs lo = first_after (x.at + x.size) hi xs lo x.at laid (omega arith) in
+      let first : first_from is_pinned hi (x ∷ xs) lo ≡ x.at = first_head true lo t ∙ cond-true (nat_le lo x.at) _ _ (le-leb lo x.at h) ∙ smaller x.at _ far in
+      let none : loose_bytes (x ∷ xs) lo x.at ≡ 0 = loose_head lo x.at false (and_left _ _ (not_loose t)) ∙ zero-add _ ∙ none_below (x.at + x.size) hi xs lo x.at laid (omega arith) in
+      (λ i. first i - lo - loose_bytes (x ∷ xs) lo (first i)) ∙ (λ i. x.at - lo - none i) ∙ less_none (x.at - lo)
+    where
+      less_none : (a : ℕ) → a - 0 ≡ a
+      less_none a = omega arith
+
+      smaller : (a b : ℕ) → a ≤ b → min a b ≡ a
+      smaller a b h = omega arith
+
+  later : (s : ℕ) → block_end x ≤ s → room_from hi (x ∷ xs) s ≡ room_from hi xs s
+  later s h =
+      let past : nat_le s x.at ≡ false = lt-leb s x.at (omega arith) in
+      let first : first_from is_pinned hi (x ∷ xs) s ≡ first_from is_pinned hi xs s = cond-false (is_pinned x && nat_le s x.at) _ _ (and_right (is_pinned x) (nat_le s x.at) past) in
+      let out : (b : ℕ) → loose_bytes (x ∷ xs) s b ≡ loose_bytes xs s b = λ b. loose_head s b false (and_right (is_loose x) (begins_in s b x) (and_left (nat_le s x.at) (nat_lt x.at b) past)) ∙ zero-add _ in
+      (λ i. first i - s - out (first i) i)
+
+  loose_here : (lo : ℕ) → is_pinned x ≡ false → lo ≤ x.at → room_from hi (x ∷ xs) lo ≡ room_from hi xs lo - x.size
+  loose_here lo t h =
+      let e : ℕ = first_from is_pinned hi xs lo in
+      let first : first_from is_pinned hi (x ∷ xs) lo ≡ e = first_head false lo t in
+      let far : x.at + 1 ≤ e = first_after (x.at + x.size) hi xs lo (x.at + 1) laid (omega arith) in
+      let is : is_loose x ≡ true = ap not t in
+      let more : loose_bytes (x ∷ xs) lo e ≡ x.size + loose_bytes xs lo e = loose_head lo e true (and_from _ _ is (and_from _ _ (le-leb lo x.at h) (lt-ltb x.at e (omega (arith, far))))) in
+      (λ i. first i - lo - loose_bytes (x ∷ xs) lo (first i)) ∙ (λ i. e - lo - more i) ∙ regroup (e - lo) x.size (loose_bytes xs lo e)
+    where
+      regroup : (a b c : ℕ) → a - (b + c) ≡ a - c - b
+      regroup a b c = omega arith
+
+-- the room of laid blocks, where some bytes of the first gap are used
+abbrev pub room_beside : ℕ → ℕ → ℕ → List Block → ℕ
+room_beside hi used lo xs = max (room_from hi xs lo - used) (largest (map (room_from hi xs) (ends xs)))
+
+lower : (lo m hi : ℕ) (xs : List Block) → lo ≤ m → IsLaid m hi xs → IsLaid lo hi xs
+lower lo m hi [] l h = omega arith
+lower lo m hi (x ∷ xs) l h = (omega (arith, h.0), h.1, h.2)
+
+more_ends : (f : ℕ → ℕ) (x : Block) (xs : List Block) (t : Bool) → is_pinned x ≡ t → largest (map f (ends (x ∷ xs))) ≡ cond t (max (f (block_end x)) (largest (map f (ends xs)))) (largest (map f (ends xs)))
+more_ends f x xs true e = ap (λ (b : Bool). largest (map f (map block_end (cond {A = List Block} b (x ∷ filter is_pinned xs) (filter is_pinned xs))))) e
+more_ends f x xs false e = ap (λ (b : Bool). largest (map f (map block_end (cond {A = List Block} b (x ∷ filter is_pinned xs) (filter is_pinned xs))))) e
+
+pub scan_is : (hi best lo used : ℕ) (xs : List Block) → IsLaid lo hi xs → scan hi best lo used xs ≡ max best (room_beside hi used lo xs)
+scan_is hi best lo used [] h = omega arith
+scan_is hi best lo used (x ∷ xs) h =
+    let f : ℕ → ℕ = room_from hi (x ∷ xs) in
+    let same_ends : largest (map f (ends xs)) ≡ largest (map (room_from hi xs) (ends xs)) =
+    largest_same f (room_from hi xs) (ends xs) (Each-map _ _ (λ s l. later hi x xs h.2 h.1 s l) (ends xs) (ends_after (x.at + x.size) hi xs h.2)) in
+    let next : ℕ → ℕ → ℕ → ℕ = λ best start used. scan hi best start used xs in
+    elim (is_pinned x) as (λ t. is_pinned x ≡ t → cond t (next (max best (x.at - lo - used)) (block_end x) 0) (next best lo (used + x.size)) ≡ max best (max (f lo - used) (largest (map f (ends (x ∷ xs)))))) [
+      | true ↦ λ e.
+          let rest : next (max best (x.at - lo - used)) (block_end x) 0 ≡ max (max best (x.at - lo - used)) (max (room_from hi xs (block_end x) - 0) (largest (map (room_from hi xs) (ends xs)))) =
+          scan_is hi (max best (x.at - lo - used)) (block_end x) 0 xs h.2 in
+          rest ∙ joined best (x.at - lo) used _ _ _ _ _ _ (pinned_here hi x xs h.2 h.1 lo e h.0) (later hi x xs h.2 h.1 (block_end x) (omega arith)) same_ends (more_ends f x xs true e)
+      | false ↦ λ e.
+          let rest : next best lo (used + x.size) ≡ max best (max (room_from hi xs lo - (used + x.size)) (largest (map (room_from hi xs) (ends xs)))) =
+          scan_is hi best lo (used + x.size) xs (lower lo (x.at + x.size) hi xs (omega (arith, h.0)) h.2) in
+          rest ∙ passed best used x.size _ _ _ _ _ (loose_here hi x xs h.2 h.1 lo e h.0) same_ends (more_ends f x xs false e)
+    ] refl
+  where
+    joined : (best here used lo_room last_room last_room2 ends_room ends_room2 all_room : ℕ) → lo_room ≡ here → last_room ≡ last_room2 → ends_room ≡ ends_room2 → all_room ≡ max last_room ends_room
+        → max (max best (here - used)) (max (last_room2 - 0) ends_room2) ≡ max best (max (lo_room - used) all_room)
+    joined best here used a b c d e f p q r s = omega arith
+
+    passed : (best used size lo_room lo_room2 ends_room ends_room2 all_room : ℕ) → lo_room ≡ lo_room2 - size → ends_room ≡ ends_room2 → all_room ≡ ends_room
+        → max best (max (lo_room2 - (used + size)) ends_room2) ≡ max best (max (lo_room - used) all_room)
+    passed best used size a b c d e p q r = omega arith
+
+pub scan-room : (lo hi : ℕ) (xs : List Block) → IsLaid lo hi xs → scan hi 0 lo 0 xs ≡ room lo hi xs
+scan-room lo hi xs h = scan_is hi 0 lo 0 xs h ∙ omega arith
+
+pub ord_max-max : (a b : ℕ) → ord_max nat_cmp a b ≡ max a b
+ord_max-max a b = grind (arith, nat_tests)

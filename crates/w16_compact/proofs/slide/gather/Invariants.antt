@@ -1,0 +1,27 @@
+use Rattle.std.proofs.Common.{◌≡◌, ◌+◌, ◌-◌, ◌≤◌, ◌++◌, length, take, drop}
+use Rattle.std.specs.List.{AllByRecursion}
+use Rattle.w16_region.specs.Bytes.{counted}
+use Rattle.w16_model.specs.Gap.{IsLaid, block_end}
+use Rattle.w16_model.specs.Heap.{IsMultiple}
+use Rattle.w16_compact.specs.Gather.{gathered, packed, contents, moved_size}
+use Rattle.w16_compact.proofs.slide.gather.Given as goal
+
+abbrev pub invariant-loop-block : goal.invariant-loop-block
+invariant-loop-block g l =
+    let bytes = g.S.Space.bytes in
+    record {
+      bounds : (l.blocks.cap ≡ l.fn.blocks.cap) × (l.blocks.lo ≡ l.fn.blocks.lo) × (l.blocks.hi ≡ l.fn.blocks.hi) × (l.blocks.grain ≡ l.fn.blocks.grain);
+      grained : IsMultiple l.fn.blocks.grain l.to;
+      list : take l.i l.blocks.blocks ++ packed l.high l.to (drop l.i l.blocks.blocks) ≡ gathered l.low l.high l.fn.blocks.blocks;
+      below : AllByRecursion (λ c. block_end c ≤ l.to) (take l.i l.blocks.blocks);
+      apart : IsLaid l.to l.blocks.hi (drop l.i l.blocks.blocks);
+      from : l.low ≤ l.to;
+      sum : l.moved + moved_size (drop l.i l.blocks.blocks) (packed l.high l.to (drop l.i l.blocks.blocks)) ≡ moved_size l.fn.blocks.blocks (gathered l.low l.high l.fn.blocks.blocks);
+      small : l.moved ≤ l.to;
+      contents : contents (bytes l.space) l.blocks.blocks ≡ contents (bytes l.fn.space) l.fn.blocks.blocks;
+      size : length (bytes l.space) ≡ length (bytes l.fn.space);
+      written : g.S.Space.written l.space ≡ counted (g.S.Space.written l.fn.space) l.moved;
+    }
+
+abbrev pub decreases-loop-block : goal.decreases-loop-block
+decreases-loop-block g l = length l.blocks.blocks - l.i
