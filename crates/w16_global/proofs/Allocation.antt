@@ -1,9 +1,13 @@
 -- What an allocation answers.
-use Rattle.std.proofs.Common.{◌≡◌, ℕ, ◌+◌, inr, true, ◌==◌, ◌&&◌, MatchBool, IfSome, IfNone, List, Option, Some, None, refl, sym, subst, arith}
+use Rattle.std.proofs.Common.{◌≡◌, ℕ, ◌+◌, inr, true, ◌==◌, ◌&&◌, not, MatchBool, MatchOption, inl, ne_eqb, IfSome, IfNone, List, Option, Some, None, refl, sym, subst, arith, ◌<◌, ◌≤◌, ◌∙◌, Bool, false, ap}
 use Rattle.std.specs.FinMap as finmap
 use Rattle.w16_model.specs.declared.Attributes.{Attributes}
-use Rattle.w16_model.specs.declared.TheConstants.{GMEM_MOVEABLE, GMEM_DDESHARE}
-use Rattle.w16_model.specs.Request.{Allocates}
+use Rattle.w16_model.specs.declared.Kind.{Kind}
+use Rattle.w16_model.specs.declared.TheConstants.{LARGEST_SIZE, GMEM_MOVEABLE, GMEM_NOCOMPACT, GMEM_ZEROINIT, GMEM_DDESHARE}
+use Rattle.std.proofs.lemmas.Bool.{false≢true, cases_lt}
+use Rattle.w16_model.specs.Heap.{Heap, Object}
+use Rattle.w16_model.specs.Edit.{with_ordered, with_newest}
+use Rattle.w16_model.specs.Request.{Allocates, IsNew, Settles, discarded, stays_for, prefix_of, moved_bytes}
 use Rattle.w16_model.specs.Single.{Enters}
 use Rattle.w16_model.specs.World.{World, IsFreeSlot, handle_of}
 use Rattle.w16_model.specs.Machine.{GlobalAllocs, has_flag, kind_asked, way_asked, rounded_size}
@@ -12,6 +16,8 @@ use Rattle.w16_selectors.specs.Descriptors.{IsFreeRun}
 use Rattle.w16_global.specs.Parts.{Holding}
 use Rattle.w16_global.specs.Joined.{world_of, AreJoined}
 use Rattle.w16_global.proofs.Joined.{free_slot, free_selector}
+use Rattle.w16_global.proofs.Moved.{unmoved}
+use Rattle.w16_global.proofs.Refused.{prefix_about_none}
 
 module _ {h : Holding} {xs : List (Option Attributes)} {t : selectors.Table} {m : ℕ} {w : World} (are : AreJoined h xs t) (shown : world_of h xs m ≡ w) where
   -- a free run of one slot is a free slot
@@ -24,14 +30,106 @@ module _ {h : Holding} {xs : List (Option Attributes)} {t : selectors.Table} {m 
   none_free (Some first) none = tt
   none_free None none = λ slot free. none slot (λ k lt. let first : slot ≡ slot + k = omega arith in subst (selectors.IsFree t) first (free_selector h xs t are slot (subst (λ v. IsFreeSlot v slot) (sym shown) free)))
 
-module _ (w : World) (flags slot : ℕ) (new : World) (free : IsFreeSlot w slot) (rest : new ≡ record w { heap = new.heap; attributes = finmap.insert w.attributes slot (record { shared = has_flag flags GMEM_DDESHARE }) }) where
+-- What GlobalAlloc answers, from a world in which nothing was moved last.
+module _ (w : World) (flags slot size : ℕ) (new : World) (free : IsFreeSlot w slot) where
   -- an absent object
-  pub answers_absent : (size : ℕ) → size ≡ 0 → has_flag flags GMEM_MOVEABLE ≡ true → Enters w.heap slot (kind_asked flags) new.heap → GlobalAllocs w flags size (handle_of (kind_asked flags) slot) new
-  answers_absent size none moveable enters = subst (λ n. GlobalAllocs w flags n (handle_of (kind_asked flags) slot) new) (sym none) (inr (record {
+  pub answers_absent : size ≡ 0 → has_flag flags GMEM_MOVEABLE ≡ true → Enters w.heap slot (kind_asked flags) new.heap
+      → new ≡ record w { heap = new.heap; attributes = finmap.insert w.attributes slot (record { shared = has_flag flags GMEM_DDESHARE }); moved = 0 } → GlobalAllocs w flags size (handle_of (kind_asked flags) slot) new
+  answers_absent none moveable enters rest = subst (λ n. GlobalAllocs w flags n (handle_of (kind_asked flags) slot) new) (sym none) (inr (record {
     small = omega arith;
     slot = slot;
     free = free;
     named = refl;
     made = subst (λ b. MatchBool ((0 == 0) && b) (Enters w.heap slot (kind_asked flags) new.heap) (Allocates w.heap slot (rounded_size 0) (kind_asked flags) 0 (way_asked flags) true new.heap)) (sym moveable) enters;
-    rest = rest;
+    rest = rest ∙ (λ i. record w {
+      heap = new.heap;
+      attributes = finmap.insert w.attributes slot (record { shared = has_flag flags GMEM_DDESHARE });
+      moved = sym (unmoved w.heap new.heap (ap (λ (h : Heap). h.places) enters.entered)) i;
+    });
   }))
+
+  -- an object with bytes
+  pub answers_bytes : 0 < size → size ≤ LARGEST_SIZE → Allocates w.heap slot (rounded_size size) (kind_asked flags) 0 (way_asked flags) true new.heap
+      → new ≡ record w { heap = new.heap; attributes = finmap.insert w.attributes slot (record { shared = has_flag flags GMEM_DDESHARE }); moved = moved_bytes w.heap new.heap }
+      → GlobalAllocs w flags size (handle_of (kind_asked flags) slot) new
+  answers_bytes some small allocated rest = inr (record {
+    small = small;
+    slot = slot;
+    free = free;
+    named = refl;
+    made = subst (λ b. MatchBool (b && has_flag flags GMEM_MOVEABLE) (Enters w.heap slot (kind_asked flags) new.heap) (Allocates w.heap slot (rounded_size size) (kind_asked flags) 0 (way_asked flags) true new.heap))
+        (sym (ne_eqb size 0 (λ e. absurd (omega arith)))) allocated;
+    rest = rest;
+  })
+
+  -- no room
+  pub refuses_bytes : 0 < size → Allocates w.heap slot (rounded_size size) (kind_asked flags) 0 (way_asked flags) false new.heap → new ≡ record w { heap = new.heap; moved = 0 } → GlobalAllocs w flags size 0 new
+  refuses_bytes some allocated rest =
+      let (none, same) = no_prefix (prefix_of w.heap (rounded_size size) (Some slot) (way_asked flags)) allocated.request in
+      inl (inr (inr (inr (some, sym (prefix_about_none w.heap slot (rounded_size size) (not (has_flag flags GMEM_NOCOMPACT)) (has_flag flags GMEM_ZEROINIT) allocated.without_bytes) ∙ none))), refl, rest ∙ (λ i. record w { heap = same i; moved = 0 }))
+    where
+      no_prefix : (p : Option ℕ)
+          → MatchOption p ((false ≡ false) × (new.heap ≡ w.heap)) (λ k. (false ≡ true) × ((o : Object) × IsNew (has_flag flags GMEM_ZEROINIT) (rounded_size size) (kind_asked flags) 0 o × Settles w.heap (stays_for slot (way_asked flags)) (with_ordered (discarded w.heap k (Some slot)) slot o (with_newest slot o)) new.heap))
+          → (p ≡ None) × (new.heap ≡ w.heap)
+      no_prefix None h = (refl, h.1)
+      no_prefix (Some k) h = absurd (false≢true h.0)
+
+-- The same of what the code has computed.
+
+-- an allocation of these numbers
+abbrev AllocatesBy : World → ℕ → Heap → ℕ → Kind → Bool → Bool → Bool → Type 0
+AllocatesBy w slot heap n kind compact zero answered = Allocates w.heap slot n kind 0 (record { compact = compact; discard = false; zero = zero; may_move = false }) answered heap
+
+module _ (w : World) (flags slot size : ℕ) (new : World) (free : IsFreeSlot w slot) (kind : Kind) (kind_is : kind ≡ kind_asked flags) (a : Attributes) (a_is : a ≡ record { shared = has_flag flags GMEM_DDESHARE })
+    (handle : ℕ) (handle_is : handle ≡ handle_of kind slot) where
+  named : (x : ℕ) → x ≡ handle_of (kind_asked flags) slot → GlobalAllocs w flags size x new → GlobalAllocs w flags size handle new
+  named x e h = subst (λ y. GlobalAllocs w flags size y new) (e ∙ ap (λ k. handle_of k slot) (sym kind_is) ∙ sym handle_is) h
+
+  pub absent_known : size ≡ 0 → has_flag flags GMEM_MOVEABLE ≡ true → Enters w.heap slot kind new.heap → new ≡ record w { heap = new.heap; attributes = finmap.insert w.attributes slot a; moved = 0 } → GlobalAllocs w flags size handle new
+  absent_known none moveable enters rest = named (handle_of (kind_asked flags) slot) refl
+      (answers_absent w flags slot size new free none moveable (subst (λ k. Enters w.heap slot k new.heap) kind_is enters) (rest ∙ (λ i. record w { heap = new.heap; attributes = finmap.insert w.attributes slot (a_is i); moved = 0 })))
+
+  module _ (n : ℕ) (n_is : n ≡ rounded_size size) (none none_compact zero : Bool) (compact_is : none_compact ≡ not none) (none_is : none ≡ has_flag flags GMEM_NOCOMPACT) (zero_is : zero ≡ has_flag flags GMEM_ZEROINIT)
+      (some : size ≡ 0 → ⊥) where
+    asked : (answered : Bool) → AllocatesBy w slot new.heap n kind none_compact zero answered → Allocates w.heap slot (rounded_size size) (kind_asked flags) 0 (way_asked flags) answered new.heap
+    asked answered h =
+        subst (λ k. AllocatesBy w slot new.heap k (kind_asked flags) (not (has_flag flags GMEM_NOCOMPACT)) (has_flag flags GMEM_ZEROINIT) answered) n_is
+        (subst (λ k. AllocatesBy w slot new.heap n k (not (has_flag flags GMEM_NOCOMPACT)) (has_flag flags GMEM_ZEROINIT) answered) kind_is
+        (subst (λ b. AllocatesBy w slot new.heap n kind b (has_flag flags GMEM_ZEROINIT) answered) (compact_is ∙ ap not none_is)
+        (subst (λ b. AllocatesBy w slot new.heap n kind none_compact b answered) zero_is h)))
+
+    filled : (m : ℕ) → (m ≡ 0 → ⊥) → 0 < m
+    filled m h = elim (cases_lt 0 m) [
+      | inl some ↦ some
+      | inr none ↦ absurd (h (omega (arith, none)))
+    ]
+
+    pub bytes_known : size ≤ LARGEST_SIZE → AllocatesBy w slot new.heap n kind none_compact zero true → new ≡ record w { heap = new.heap; attributes = finmap.insert w.attributes slot a; moved = moved_bytes w.heap new.heap }
+        → GlobalAllocs w flags size handle new
+    bytes_known small allocated rest = named (handle_of (kind_asked flags) slot) refl
+        (answers_bytes w flags slot size new free (filled size some) small (asked true allocated) (rest ∙ (λ i. record w { heap = new.heap; attributes = finmap.insert w.attributes slot (a_is i); moved = moved_bytes w.heap new.heap })))
+
+    pub refusal_known : AllocatesBy w slot new.heap n kind none_compact zero false → new ≡ record w { heap = new.heap; moved = 0 } → GlobalAllocs w flags size 0 new
+    refusal_known allocated rest = refuses_bytes w flags slot size new free (filled size some) (asked false allocated) rest
+
+-- And from the world v, which is w with nothing moved last.
+module _ (w v : World) (v_is : v ≡ record w { moved = 0 }) (flags slot size : ℕ) (new : World) (free : IsFreeSlot v slot) (kind : Kind) (kind_is : kind ≡ kind_asked flags)
+    (a : Attributes) (a_is : a ≡ record { shared = has_flag flags GMEM_DDESHARE }) (handle : ℕ) (handle_is : handle ≡ handle_of kind slot) where
+  free_in : IsFreeSlot w slot
+  free_in = subst (λ x. IsFreeSlot x slot) v_is free
+
+  pub absent_answered : size ≡ 0 → has_flag flags GMEM_MOVEABLE ≡ true → Enters v.heap slot kind new.heap → new ≡ record v { heap = new.heap; attributes = finmap.insert v.attributes slot a } → GlobalAllocs w flags size handle new
+  absent_answered none moveable enters rest = absent_known w flags slot size new free_in kind kind_is a a_is handle handle_is none moveable (subst (λ (x : World). Enters x.heap slot kind new.heap) v_is enters)
+      (rest ∙ ap (λ (x : World). record x { heap = new.heap; attributes = finmap.insert x.attributes slot a }) v_is)
+
+  module _ (n : ℕ) (n_is : n ≡ rounded_size size) (none none_compact zero : Bool) (compact_is : none_compact ≡ not none) (none_is : none ≡ has_flag flags GMEM_NOCOMPACT) (zero_is : zero ≡ has_flag flags GMEM_ZEROINIT)
+      (some : size ≡ 0 → ⊥) where
+    pub bytes_answered : size ≤ LARGEST_SIZE → AllocatesBy v slot new.heap n kind none_compact zero true
+        → new ≡ record v { heap = new.heap; attributes = finmap.insert v.attributes slot a; moved = moved_bytes v.heap new.heap } → GlobalAllocs w flags size handle new
+    bytes_answered small allocated rest = bytes_known w flags slot size new free_in kind kind_is a a_is handle handle_is n n_is none none_compact zero compact_is none_is zero_is some small
+        (subst (λ (x : World). AllocatesBy x slot new.heap n kind none_compact zero true) v_is allocated)
+        (rest ∙ ap (λ (x : World). record x { heap = new.heap; attributes = finmap.insert x.attributes slot a; moved = moved_bytes x.heap new.heap }) v_is)
+
+    pub bytes_refused : AllocatesBy v slot new.heap n kind none_compact zero false → new ≡ record v { heap = new.heap } → GlobalAllocs w flags size 0 new
+    bytes_refused allocated rest = refusal_known w flags slot size new free_in kind kind_is a a_is handle handle_is n n_is none none_compact zero compact_is none_is zero_is some
+        (subst (λ (x : World). AllocatesBy x slot new.heap n kind none_compact zero false) v_is allocated) (rest ∙ ap (λ (x : World). record x { heap = new.heap }) v_is)

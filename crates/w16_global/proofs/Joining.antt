@@ -95,6 +95,11 @@ module _ {h : Holding} {xs : List (Option Attributes)} {t : selectors.Table} (ar
       (λ i. record { slots = cap i - FIRST_SLOT; heap = new.heap; attributes = attributes_set xs slot a within i; moved = moved })
       ∙ ap (λ (v : World). record v { heap = new.heap; attributes = finmap.insert v.attributes slot a; moved = moved }) shown
 
+  pub given_unmoved : world_of new (set xs slot (Some a)) m ≡ record w { heap = new.heap; attributes = finmap.insert w.attributes slot a }
+  given_unmoved =
+      (λ i. record { slots = cap i - FIRST_SLOT; heap = new.heap; attributes = attributes_set xs slot a within i; moved = m })
+      ∙ ap (λ (v : World). record v { heap = new.heap; attributes = finmap.insert v.attributes slot a }) shown
+
   -- an absent one
   pub entered_joined : (kind : Kind) (after : selectors.Table) → new.heap ≡ with_object h.heap slot (record { kind = kind; locks = 0; bytes = None }) → after ≡ set t slot (Some unset) → AreJoined new (set xs slot (Some a)) after
   entered_joined kind after is taken =

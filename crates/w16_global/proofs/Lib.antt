@@ -20,3 +20,5 @@ pub mod Allocation
 pub mod Begin
 pub mod Moved
 pub mod Refused
+pub mod Following
+pub mod Sliding

@@ -13,7 +13,7 @@ use Rattle.w16_model.proofs.Tables.{with_member, member_with}
 use Rattle.w16_blocks.specs.Layout.{Layout, rank}
 use Rattle.w16_blocks.proofs.Rank.{IsRising-from_apart}
 use Rattle.w16_global.specs.Parts.{AreParts, Holding, heap_of, holding_of}
-use Rattle.w16_global.proofs.Lookups.{IsArranged, sound_arranged, place_here, size_here}
+use Rattle.w16_global.proofs.Lookups.{IsArranged, sound_arranged, place_here, size_here, ends_in_memory}
 
 -- what the block of a rank is to an address
 abbrev IsNext : ℕ → List Block → Option Block → Type 0
@@ -73,3 +73,14 @@ module _ {entries : List (Option Entry)} {layout : Layout} {memory : List ℕ} (
         turn : (b : Option Block) → IsNext from layout.blocks b → IfNone b ((q : ℕ) → IfSome (finmap.get (heap_of entries layout memory).places q) (λ at. at < from))
         turn None is = each_place (λ at. at < from) is
         turn (Some b) is = tt
+
+    -- it ends where a double word can tell
+    pub next_inside : length memory < 4294967296 → IfSome found (λ b. (0 < b.size) × (b.at + b.size < 4294967296))
+    next_inside small = turn found is_next
+      where
+        turn : (b : Option Block) → IsNext from layout.blocks b → IfSome b (λ b. (0 < b.size) × (b.at + b.size < 4294967296))
+        turn None is = tt
+        turn (Some b) is =
+            let here : block_with layout.blocks b.id ≡ Some b = with_member layout.blocks b (EachPair-from_AllPairs (λ x y. x.id ≡ y.id → ⊥) layout.blocks parts.sound.table.ids) is.0 in
+            let end : (0 < b.size) × (b.at + b.size ≤ length memory) = ends_in_memory parts b.id b here in
+            (end.0, omega (arith, end.1, small))

@@ -1,5 +1,5 @@
 -- The objects, their attributes and their selectors together, and the world that they stand for.
-use Rattle.std.specs.Prelude.{◌≡◌, ℕ, ◌+◌, ◌-◌, ◌≤◌, true, List, length, IsSomeAnd, Option, Some, None, option_map, unwrap_or}
+use Rattle.std.specs.Prelude.{◌≡◌, ℕ, ◌+◌, ◌-◌, ◌≤◌, true, ◌&&◌, if◌then◌else◌, nat_le, nat_lt, List, length, IsSomeAnd, Option, Some, None, option_map, unwrap_or}
 use Rattle.std.specs.Ordering.{nat_cmp}
 use Rattle.std.specs.FinMap as finmap
 use Rattle.std.specs.FinMap.{FinMap}
@@ -33,6 +33,13 @@ descriptor_for heap slot o = elim o.bytes [
 -- what a slot's selector has to say of its object, if it has one
 abbrev pub described : Heap → ℕ → Option Descriptor
 described heap slot = option_map (descriptor_for heap slot) (object_at heap slot)
+
+-- the table in which the selectors of the objects that begin in [from, to) say what they have to
+abbrev pub followed : Heap → ℕ → ℕ → selectors.Table → ℕ → Option Descriptor
+followed heap from to table slot = elim (finmap.get heap.places slot) [
+  | None ↦ descriptor_at table slot
+  | Some at ↦ if nat_le from at && nat_lt at to then described heap slot else descriptor_at table slot
+]
 
 -- what holds of them: they stand for a world, whatever was moved last, and each selector says its object's base and limit
 pub record AreJoined (holding : Holding) (attributes : List (Option Attributes)) (table : selectors.Table) : Type 0 where

@@ -1,8 +1,8 @@
 //! The calls of programs, as the manual of Windows 3.1 names them.
-ghost use Rattle.std.specs.Prelude.{◌≡◌, ◌+◌, ◌<◌, ℕ, if◌then◌else◌, IfSome, IfNone};
+ghost use Rattle.std.specs.Prelude.{◌≡◌, ◌+◌, ◌^◌, ◌<◌, ◌≤◌, ℕ, if◌then◌else◌, IfSome, IfNone};
 ghost use Rattle.std.specs.FinMap as finmap;
 ghost use Rattle.w16_model.specs.Heap.{is_discardable};
-ghost use Rattle.w16_model.specs.Machine.{GlobalAllocs, Gives, locks_at, is_shared};
+ghost use Rattle.w16_model.specs.Machine.{GlobalAllocs, GlobalCompacts, Gives, locks_at, is_shared};
 ghost use Rattle.w16_model.specs.Machine as machine;
 ghost use Rattle.w16_model.specs.World as world;
 ghost use Rattle.w16_model.specs.World.{IsFreeSlot};
@@ -90,20 +90,17 @@ impl Global16 {
             return 0;
         };
         let kind = kind_asked(flags);
-        let attributes = Attributes {
-            shared: flags & GMEM_DDESHARE != 0,
-        };
+        let attributes = attributes_asked(flags);
         if size == 0 {
-            if flags & GMEM_MOVEABLE == 0 {
+            if !has_flag(flags, GMEM_MOVEABLE) {
                 return 0;
             }
             self.enter(slot, kind, attributes);
             return handle_of(kind, slot);
         }
-        let compact = flags & GMEM_NOCOMPACT == 0;
-        let zero = flags & GMEM_ZEROINIT != 0;
-        let size = size.div_ceil(GRAIN) * GRAIN;
-        if self.allocate(slot, size, kind, compact, zero, attributes) {
+        let compact = !has_flag(flags, GMEM_NOCOMPACT);
+        let zero = has_flag(flags, GMEM_ZEROINIT);
+        if self.allocate(slot, rounded(size), kind, compact, zero, attributes) {
             handle_of(kind, slot)
         } else {
             0
@@ -148,6 +145,22 @@ impl Global16 {
             Ok(()) => (self.locks(slot) > 0) as u16,
             Err(_) => 0,
         }
+    }
+
+    /// `GlobalCompact`: for `size` bytes above 0, unlocked moveable objects slide until a hole is as long as it can be, where none is yet; the
+    /// answer is the length of the longest hole, 0 where there is none. For 0 it answers that length, and changes nothing.
+    pub fn global_compact(&mut self, size: u32) -> u32
+        ensures { GlobalCompacts self.old size result self.new }
+    {
+        self.make_room(size)
+    }
+
+    /// How many bytes the last `global_alloc` or `global_compact` moved: the sizes of the objects that stand at another address since.
+    pub fn moved(&self) -> u64
+        ensures value { result ≡ self.now.moved }
+        ensures few { result < 2 ^ 32 }
+    {
+        self.moved as u64
     }
 
     /// `GlobalSize`: the object's size in bytes; 0 for a bad handle or an absent object.
@@ -209,15 +222,39 @@ impl Global16 {
     }
 }
 
+/// Whether a flag is given.
+fn has_flag(flags: u16, flag: u16) -> bool
+    ensures { result ≡ machine.has_flag flags flag }
+{
+    flags & flag != 0
+}
+
 /// The kind of object that flags ask for.
 fn kind_asked(flags: u16) -> Kind
     ensures { result ≡ machine.kind_asked flags }
 {
-    if flags & GMEM_MOVEABLE != 0 {
+    if has_flag(flags, GMEM_MOVEABLE) {
         Kind::Moveable
     } else {
         Kind::Fixed
     }
+}
+
+/// The attributes that flags ask for.
+fn attributes_asked(flags: u16) -> Attributes
+    ensures { result ≡ record { shared = machine.has_flag flags GMEM_DDESHARE } }
+{
+    Attributes {
+        shared: has_flag(flags, GMEM_DDESHARE),
+    }
+}
+
+/// A size rounded up to whole grains.
+fn rounded(size: u32) -> u32
+    requires { size ≤ LARGEST_SIZE }
+    ensures { result ≡ machine.rounded_size size }
+{
+    size.div_ceil(GRAIN) * GRAIN
 }
 
 /// The handle of an object in a slot.

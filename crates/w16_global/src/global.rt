@@ -6,7 +6,9 @@ ghost use Rattle.w16_model.specs.Edit.{removed};
 ghost use Rattle.w16_model.specs.Request.{Allocates, moved_bytes};
 ghost use Rattle.w16_model.specs.Single.{Enters, after_lock, after_unlock, after_free};
 ghost use Rattle.w16_model.specs.World.{IsFreeSlot, empty_world};
+ghost use Rattle.w16_model.specs.Machine.{GlobalCompacts};
 
+use crate::follow::follow;
 use crate::objects::Objects;
 use std::alloc::{AllocError, Global};
 use std::marker::Model;
@@ -69,7 +71,8 @@ impl Global16 {
         self.selectors.take(slot);
     }
 
-    /// A new object in a free slot, of so many bytes, a multiple of the grain, in the first hole that is long enough, if there is one.
+    /// A new object in a free slot, of so many bytes, a multiple of the grain, if there is room: in a hole, or where `compact` lets others
+    /// slide. The selectors of those that slid follow.
     pub(crate) fn allocate(
         &mut self,
         slot: u16,
@@ -90,21 +93,36 @@ impl Global16 {
           moved = if result then moved_bytes self.old.heap self.new.heap else self.old.moved;
         } }
     {
-        let Some(base) = self.objects.alloc(slot as u32, size, kind, zero) else {
+        let Some(placed) = self
+            .objects
+            .alloc(slot as u32, size, kind, compact, zero)
+        else {
             return false;
         };
+        self.moved = placed.moved as u32;
         self.attributes[slot as usize] = Some(attributes);
         self.selectors.take(slot);
+        follow(&self.objects, &mut self.selectors, placed.slid);
         self.selectors.set(
             slot,
             Descriptor {
-                base,
+                base: placed.at,
                 limit: size - 1,
                 present: true,
                 kind: SelKind::Data,
             },
         );
         true
+    }
+
+    /// Compaction for so many bytes: the longest hole there is then, or what it could be for 0 bytes.
+    pub(crate) fn make_room(&mut self, size: u32) -> u32
+        ensures { GlobalCompacts self.old size result self.new }
+    {
+        let compacted = self.objects.compact(size);
+        follow(&self.objects, &mut self.selectors, compacted.slid);
+        self.moved = compacted.moved as u32;
+        compacted.room
     }
 
     /// Frees an object that isn't locked.

@@ -3,6 +3,7 @@
 
 mod calls;
 mod far;
+mod follow;
 mod global;
 mod objects;
 

@@ -84,6 +84,8 @@ impl Objects {
         ensures found { IfSome result (λ b. (from ≤ b.at) × (finmap.get self.now.heap.places b.id ≡ Some b.at) × (option_map length (bytes_at self.now.heap b.id) ≡ Some b.size)) }
         ensures lowest { IfSome result (λ b. (q : ℕ) → IfSome (finmap.get self.now.heap.places q) (λ at. (at < from) ⊎ (b.at ≤ at))) }
         ensures none { IfNone result ((q : ℕ) → IfSome (finmap.get self.now.heap.places q) (λ at. at < from)) }
+        ensures inside { IfSome result (λ b. (0 < b.size) × (b.at + b.size < 2 ^ 32)) }
+        ensures sound { IsHeap self.now.heap }
     {
         self.blocks.at_index(self.blocks.rank(from))
     }

@@ -4,7 +4,7 @@ use Rattle.w16_model.specs.World.{World}
 use Rattle.w16_model.specs.Machine as machine
 use Rattle.w16_model.specs.Machine.{Command, Step}
 use Rattle.w16_kernel.specs.declared.call.Call.{Call}
-use Rattle.w16_kernel.specs.declared.call.Call.TheVariants.{GlobalAlloc, GlobalFree, GlobalLock, GlobalUnlock, GlobalSize, GlobalFlags, GlobalHandle, GetSelectorBase, GetSelectorLimit, Read, Write, Fill}
+use Rattle.w16_kernel.specs.declared.call.Call.TheVariants.{GlobalAlloc, GlobalFree, GlobalLock, GlobalUnlock, GlobalSize, GlobalFlags, GlobalHandle, GetSelectorBase, GetSelectorLimit, GlobalCompact, Moved, Read, Write, Fill}
 use Rattle.w16_kernel.specs.declared.call.Reply.{Reply}
 use Rattle.w16_kernel.specs.declared.call.Reply.TheVariants.{Word, Dword, Bytes, Done, Fault}
 
@@ -19,6 +19,8 @@ command_of (GlobalFlags handle) = machine.Command.GlobalFlags handle
 command_of (GlobalHandle selector) = machine.Command.GlobalHandle selector
 command_of (GetSelectorBase selector) = machine.Command.GetSelectorBase selector
 command_of (GetSelectorLimit selector) = machine.Command.GetSelectorLimit selector
+command_of (GlobalCompact size) = machine.Command.GlobalCompact size
+command_of Moved = machine.Command.Moved
 command_of (Read pointer count) = machine.Command.Read pointer count
 command_of (Write pointer bytes) = machine.Command.Write pointer bytes.items
 command_of (Fill pointer count byte) = machine.Command.Fill pointer count byte

@@ -17,6 +17,8 @@ pub enum Call {
     GlobalHandle { selector: u16 },
     GetSelectorBase { selector: u16 },
     GetSelectorLimit { selector: u16 },
+    GlobalCompact { size: u32 },
+    Moved,
     /// The pointer has a selector in its high word. At most 1,024 bytes are read.
     Read { pointer: u32, count: u16 },
     Write { pointer: u32, bytes: Chunk },

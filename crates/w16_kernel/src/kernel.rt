@@ -103,6 +103,8 @@ impl Kernel {
             Call::GetSelectorLimit { selector } => Ok(Reply::Dword(global.get_selector_limit(
                 *selector,
             ))),
+            Call::GlobalCompact { size } => Ok(Reply::Dword(global.global_compact(*size))),
+            Call::Moved => Ok(Reply::Dword(global.moved() as u32)),
             Call::Read { pointer, count } => Ok(self.read(*pointer, *count)),
             Call::Write { pointer, bytes } => Ok(self.write(*pointer, bytes)),
             Call::Fill {

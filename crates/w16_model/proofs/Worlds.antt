@@ -169,7 +169,7 @@ module _ (old : World) (is : IsWorld old) where
           with_new_object attributes a.slot s.0 s.1 (with_newest a.slot s.1) (stays_for a.slot way) new.heap a.free.0 s.2
 
   -- GlobalCompact
-  compacted_world : (size answer : ℕ) (new : World) → GlobalCompacts old size answer new → IsWorld new
+  pub compacted_world : (size answer : ℕ) (new : World) → GlobalCompacts old size answer new → IsWorld new
   compacted_world size answer new c = subst IsWorld (sym c.rest) (moved_world (record old { heap = new.heap }) (turn (size == 0) c.compacted) (moved_bytes old.heap new.heap))
     where
       turn : (b : Bool) → MatchBool b ((answer ≡ most_room old.heap) × (new.heap ≡ old.heap)) (MakesRoom old.heap size answer new.heap) → IsWorld (record old { heap = new.heap })

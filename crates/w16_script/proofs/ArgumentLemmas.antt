@@ -40,6 +40,12 @@ IfNone-weaker (Some x) f h = h
 
 -- Words that are a shape's arguments.
 
+pub IsArguments-Nothing : (registers : List ℕ) (words : List (List ℕ)) → words ≡ [] → IsArguments registers words shape.Nothing Arguments.Nothing
+IsArguments-Nothing registers words e = rw e tt
+
+pub IsArguments-Dword : (registers : List ℕ) (words : List (List ℕ)) (u : List ℕ) (d : ℕ) → words ≡ u ∷ [] → IsNumberBelow registers u (2 ^ 32) d → IsArguments registers words shape.Dword (Arguments.Dword d)
+IsArguments-Dword registers words u d e h = rw e h
+
 pub IsArguments-Word : (registers : List ℕ) (words : List (List ℕ)) (u : List ℕ) (w : ℕ) → words ≡ u ∷ [] → IsNumberBelow registers u (2 ^ 16) w → IsArguments registers words shape.Word (Arguments.Word w)
 IsArguments-Word registers words u w e h = rw e h
 
@@ -60,6 +66,20 @@ pub IsArguments-DwordCountByte : (registers : List ℕ) (words rest last : List 
 IsArguments-DwordCountByte registers words rest last u v w d count byte e h e' h' e'' h'' = rw (e, e', e'') (h, h', h'')
 
 -- No words that are a shape's arguments: the first is wrong, or what stands behind it.
+
+pub no_Nothing : (registers : List ℕ) (words : List (List ℕ)) → (words ≡ [] → ⊥) → (a : Arguments) → IsArguments registers words shape.Nothing a → ⊥
+no_Nothing registers [] none a h = none refl
+no_Nothing registers (u ∷ []) none a h = absurd h
+no_Nothing registers (u ∷ v ∷ []) none a h = absurd h
+no_Nothing registers (u ∷ v ∷ w ∷ []) none a h = absurd h
+no_Nothing registers (u ∷ v ∷ w ∷ x ∷ rest) none a h = absurd h
+
+pub no_Dword : (registers : List ℕ) (words : List (List ℕ)) → ((u : List ℕ) (n : ℕ) → words ≡ u ∷ [] → IsNumberBelow registers u (2 ^ 32) n → ⊥) → (a : Arguments) → IsArguments registers words shape.Dword a → ⊥
+no_Dword registers (u ∷ []) none (Arguments.Dword d) h = none u d refl h
+no_Dword registers (u ∷ v ∷ []) none a h = absurd h
+no_Dword registers (u ∷ v ∷ w ∷ []) none a h = absurd h
+no_Dword registers (u ∷ v ∷ w ∷ x ∷ rest) none a h = absurd h
+no_Dword registers words none a h = absurd h
 
 pub no_Word : (registers : List ℕ) (words : List (List ℕ)) → ((u : List ℕ) (n : ℕ) → words ≡ u ∷ [] → IsNumberBelow registers u (2 ^ 16) n → ⊥) → (a : Arguments) → IsArguments registers words shape.Word a → ⊥
 no_Word registers (u ∷ []) none (Arguments.Word w) h = none u w refl h
@@ -125,6 +145,10 @@ pub no_DwordCountByte : (registers : List ℕ) (words rest last : List (List ℕ
 no_DwordCountByte registers (u ∷ v ∷ w ∷ []) rest last first second e f none (Arguments.DwordCountByte d count byte) h = none w byte (cc) h.2
 no_DwordCountByte registers words rest last first second e f none a h = absurd h
 
+pub ruleset nothing_steps = (IsArguments-Nothing, no_Nothing)
+
+pub ruleset dword_steps = (IsArguments-Dword, no_Dword)
+
 pub ruleset word_steps = (IsArguments-Word, no_Word)
 
 pub ruleset word_dword_steps = (IsArguments-WordDword, no_WordDword-first, no_WordDword)
@@ -139,6 +163,8 @@ pub ruleset dword_bytes_steps = (IsArguments-DwordBytes, no_DwordBytes-first, no
 
 -- arguments that the words are have their shape
 HasShape-from : (registers : List ℕ) (words : List (List ℕ)) (s : Shape) (a : Arguments) → IsArguments registers words s a → HasShape a s
+HasShape-from registers [] shape.Nothing Arguments.Nothing h = tt
+HasShape-from registers (u ∷ []) shape.Dword (Arguments.Dword d) h = tt
 HasShape-from registers (u ∷ []) shape.Word (Arguments.Word w) h = tt
 HasShape-from registers (u ∷ v ∷ []) shape.WordDword (Arguments.WordDword w d) h = tt
 HasShape-from registers (u ∷ v ∷ []) shape.DwordCount (Arguments.DwordCount d count) h = tt
@@ -151,6 +177,8 @@ shaped registers words name s a e h = subst (HasShape a) e (HasShape-from regist
 
 -- a command's arguments have few bytes
 pub few : (registers : List ℕ) (words : List (List ℕ)) (s : Shape) (a : Arguments) → IsArguments registers words s a → HasFewBytes a
+few registers [] shape.Nothing Arguments.Nothing h = tt
+few registers (u ∷ []) shape.Dword (Arguments.Dword d) h = tt
 few registers (u ∷ []) shape.Word (Arguments.Word w) h = tt
 few registers (u ∷ v ∷ []) shape.WordDword (Arguments.WordDword w d) h = tt
 few registers (u ∷ v ∷ []) shape.DwordCount (Arguments.DwordCount d count) h = tt

@@ -67,6 +67,8 @@ name_plain name.GlobalFlags = refl
 name_plain name.GlobalHandle = refl
 name_plain name.GetSelectorBase = refl
 name_plain name.GetSelectorLimit = refl
+name_plain name.GlobalCompact = refl
+name_plain name.Moved = refl
 name_plain name.Read = refl
 name_plain name.Write = refl
 name_plain name.Fill = refl
@@ -104,6 +106,8 @@ number_plain registers word n (inr h, small) =
     rw h.whole (all_append is_plain h.name h.suffix (register_plain h.name h.register h.named) (form_plain (slice_index registers h.register) h.suffix n h.form))
 
 arguments_plain : (registers : List ℕ) (words : List (List ℕ)) (s : Shape) (a : Arguments) → IsArguments registers words s a → are_plain words ≡ true
+arguments_plain registers [] shape.Nothing Arguments.Nothing h = refl
+arguments_plain registers (u ∷ []) shape.Dword (Arguments.Dword d) h = joined (list_all is_plain u) true (number_plain registers u d h.0) refl
 arguments_plain registers (u ∷ []) shape.Word (Arguments.Word w) h = joined (list_all is_plain u) true (number_plain registers u w h.0) refl
 arguments_plain registers (u ∷ v ∷ []) shape.WordDword (Arguments.WordDword w d) h = pair_plain u v (number_plain registers u w h.0.0) (number_plain registers v d h.1.0)
 arguments_plain registers (u ∷ v ∷ []) shape.DwordCount (Arguments.DwordCount d n) h = pair_plain u v (number_plain registers u d h.0.0) (number_plain registers v n h.1.0)

@@ -21,6 +21,8 @@ number-one registers word limit m n p q = number-same registers word m n p.0 q.0
 -- Arguments.
 
 arguments-one : (registers : List ℕ) (words : List (List ℕ)) (s : Shape) (a b : Arguments) → IsArguments registers words s a → IsArguments registers words s b → a ≡ b
+arguments-one registers [] shape.Nothing Arguments.Nothing Arguments.Nothing p q = refl
+arguments-one registers (u ∷ []) shape.Dword (Arguments.Dword w) (Arguments.Dword x) p q = ap Arguments.Dword (number-one registers u (2 ^ 32) w x p q)
 arguments-one registers (u ∷ []) shape.Word (Arguments.Word w) (Arguments.Word x) p q = ap Arguments.Word (number-one registers u (2 ^ 16) w x p q)
 arguments-one registers (u ∷ v ∷ []) shape.WordDword (Arguments.WordDword w d) (Arguments.WordDword x e) p q =
     let first = number-one registers u (2 ^ 16) w x p.0 q.0 in
@@ -54,6 +56,8 @@ command_with name.GlobalFlags (Arguments.Word handle) = Some (Command.GlobalFlag
 command_with name.GlobalHandle (Arguments.Word selector) = Some (Command.GlobalHandle selector)
 command_with name.GetSelectorBase (Arguments.Word selector) = Some (Command.GetSelectorBase selector)
 command_with name.GetSelectorLimit (Arguments.Word selector) = Some (Command.GetSelectorLimit selector)
+command_with name.GlobalCompact (Arguments.Dword size) = Some (Command.GlobalCompact size)
+command_with name.Moved Arguments.Nothing = Some Command.Moved
 command_with name.Read (Arguments.DwordCount pointer count) = Some (Command.Read pointer count)
 command_with name.Write (Arguments.DwordBytes pointer bytes) = Some (Command.Write pointer bytes)
 command_with name.Fill (Arguments.DwordCountByte pointer count byte) = Some (Command.Fill pointer count byte)
@@ -71,6 +75,8 @@ command_with-own (Command.GlobalHandle selector) = refl
 command_with-own (Command.GetSelectorBase selector) = refl
 command_with-own (Command.GetSelectorLimit selector) = refl
 command_with-own (Command.Fill pointer count byte) = refl
+command_with-own (Command.GlobalCompact size) = refl
+command_with-own Command.Moved = refl
 command_with-own (Command.Read pointer count) = refl
 command_with-own (Command.Write pointer bytes) = refl
 
@@ -92,6 +98,8 @@ found text =
     else if bytes_eq text (codes "GlobalHandle") then Some name.GlobalHandle
     else if bytes_eq text (codes "GetSelectorBase") then Some name.GetSelectorBase
     else if bytes_eq text (codes "GetSelectorLimit") then Some name.GetSelectorLimit
+    else if bytes_eq text (codes "GlobalCompact") then Some name.GlobalCompact
+    else if bytes_eq text (codes "Moved") then Some name.Moved
     else if bytes_eq text (codes "Read") then Some name.Read
     else if bytes_eq text (codes "Write") then Some name.Write
     else if bytes_eq text (codes "Fill") then Some name.Fill
@@ -109,6 +117,8 @@ found-own name.GlobalHandle = refl
 found-own name.GetSelectorBase = refl
 found-own name.GetSelectorLimit = refl
 found-own name.Fill = refl
+found-own name.GlobalCompact = refl
+found-own name.Moved = refl
 found-own name.Read = refl
 found-own name.Write = refl
 
@@ -135,6 +145,8 @@ not_register name.GlobalHandle r e = other_start 71 (text_of name.GlobalHandle) 
 not_register name.GetSelectorBase r e = other_start 71 (text_of name.GetSelectorBase) r (lit< tt) refl e
 not_register name.GetSelectorLimit r e = other_start 71 (text_of name.GetSelectorLimit) r (lit< tt) refl e
 not_register name.Fill r e = other_start 70 (text_of name.Fill) r (lit< tt) refl e
+not_register name.GlobalCompact r e = other_start 71 (text_of name.GlobalCompact) r (lit< tt) refl e
+not_register name.Moved r e = other_start 77 (text_of name.Moved) r (lit< tt) refl e
 not_register name.Read r e = other_start 82 (text_of name.Read) r (lit< tt) refl e
 not_register name.Write r e = other_start 87 (text_of name.Write) r (lit< tt) refl e
 

@@ -23,6 +23,8 @@ text_of name.GlobalFlags = codes "GlobalFlags"
 text_of name.GlobalHandle = codes "GlobalHandle"
 text_of name.GetSelectorBase = codes "GetSelectorBase"
 text_of name.GetSelectorLimit = codes "GetSelectorLimit"
+text_of name.GlobalCompact = codes "GlobalCompact"
+text_of name.Moved = codes "Moved"
 text_of name.Read = codes "Read"
 text_of name.Write = codes "Write"
 text_of name.Fill = codes "Fill"
@@ -38,13 +40,17 @@ shape_of name.GlobalFlags = shape.Word
 shape_of name.GlobalHandle = shape.Word
 shape_of name.GetSelectorBase = shape.Word
 shape_of name.GetSelectorLimit = shape.Word
+shape_of name.GlobalCompact = shape.Dword
+shape_of name.Moved = shape.Nothing
 shape_of name.Read = shape.DwordCount
 shape_of name.Write = shape.DwordBytes
 shape_of name.Fill = shape.DwordCountByte
 
 -- arguments as values
 pub data Arguments : Type 0 where
+  Nothing : Arguments
   Word : (value : ℕ) → Arguments
+  Dword : (value : ℕ) → Arguments
   WordDword : (word dword : ℕ) → Arguments
   DwordCount : (dword count : ℕ) → Arguments
   DwordBytes : (dword : ℕ) (bytes : List ℕ) → Arguments
@@ -60,6 +66,8 @@ name_of (Command.GlobalFlags handle) = name.GlobalFlags
 name_of (Command.GlobalHandle selector) = name.GlobalHandle
 name_of (Command.GetSelectorBase selector) = name.GetSelectorBase
 name_of (Command.GetSelectorLimit selector) = name.GetSelectorLimit
+name_of (Command.GlobalCompact size) = name.GlobalCompact
+name_of Command.Moved = name.Moved
 name_of (Command.Read pointer count) = name.Read
 name_of (Command.Write pointer bytes) = name.Write
 name_of (Command.Fill pointer count byte) = name.Fill
@@ -74,6 +82,8 @@ arguments_of (Command.GlobalFlags handle) = Word handle
 arguments_of (Command.GlobalHandle selector) = Word selector
 arguments_of (Command.GetSelectorBase selector) = Word selector
 arguments_of (Command.GetSelectorLimit selector) = Word selector
+arguments_of (Command.GlobalCompact size) = Dword size
+arguments_of Command.Moved = Nothing
 arguments_of (Command.Read pointer count) = DwordCount pointer count
 arguments_of (Command.Write pointer bytes) = DwordBytes pointer bytes
 arguments_of (Command.Fill pointer count byte) = DwordCountByte pointer count byte
@@ -89,6 +99,8 @@ IsBytes word bytes = (decode_of word ≡ Ok bytes) × (0 < length bytes) × (len
 
 -- the words are arguments of the shape, with these values
 abbrev pub IsArguments : List ℕ → List (List ℕ) → Shape → Arguments → Type 0
+IsArguments registers [] shape.Nothing Nothing = Unit {0}
+IsArguments registers (word ∷ []) shape.Dword (Dword d) = IsNumberBelow registers word (2 ^ 32) d
 IsArguments registers (word ∷ []) shape.Word (Word w) = IsNumberBelow registers word (2 ^ 16) w
 IsArguments registers (first ∷ second ∷ []) shape.WordDword (WordDword w d) = IsNumberBelow registers first (2 ^ 16) w × IsNumberBelow registers second (2 ^ 32) d
 IsArguments registers (first ∷ second ∷ []) shape.DwordCount (DwordCount d count) = IsNumberBelow registers first (2 ^ 32) d × IsNumberBelow registers second 1025 count
@@ -99,7 +111,9 @@ IsArguments registers words shape arguments = ⊥
 
 -- the values are those of arguments of the shape
 abbrev pub HasShape : Arguments → Shape → Type 0
+HasShape Nothing shape.Nothing = Unit {0}
 HasShape (Word w) shape.Word = Unit {0}
+HasShape (Dword d) shape.Dword = Unit {0}
 HasShape (WordDword w d) shape.WordDword = Unit {0}
 HasShape (DwordCount d count) shape.DwordCount = Unit {0}
 HasShape (DwordBytes d bytes) shape.DwordBytes = Unit {0}

@@ -12,7 +12,9 @@ use crate::words::split_word;
 /// Which arguments a command has.
 #[derive(Clone, Copy)]
 pub enum Shape {
+    Nothing,
     Word,
+    Dword,
     WordDword,
     DwordCount,
     DwordBytes,
@@ -22,7 +24,9 @@ pub enum Shape {
 /// The arguments of a command. Bytes are in room that is lent.
 #[derive(Clone, Copy)]
 pub enum Arguments<'a> {
+    Nothing,
     Word(u16),
+    Dword(u32),
     WordDword(u16, u32),
     DwordCount(u32, u16),
     DwordBytes(u32, &'a [u8]),
@@ -97,6 +101,31 @@ fn only_bytes<'a>(text: &[u8], room: &'a mut [u8; 1024]) -> Option<&'a [u8]>
         return None;
     };
     bytes(word, room)
+}
+
+/// Nothing.
+#[tactic(auto, using(crate::proofs::ArgumentLemmas::nothing_steps))]
+fn nothing(text: &[u8], registers: &Registers) -> Option<Arguments<'static>>
+    ensures found { IfSome result (λ a. IsArguments registers.now (words_of text.now) Shape.Nothing (values_of a)) }
+    ensures none { IfNone result ((a : Values) → IsArguments registers.now (words_of text.now) Shape.Nothing a → ⊥) }
+{
+    if no_word(text) {
+        Some(Arguments::Nothing)
+    } else {
+        None
+    }
+}
+
+/// A double word.
+#[tactic(auto, using(crate::proofs::ArgumentLemmas::dword_steps))]
+fn dword(text: &[u8], registers: &Registers) -> Option<Arguments<'static>>
+    ensures found { IfSome result (λ a. IsArguments registers.now (words_of text.now) Shape.Dword (values_of a)) }
+    ensures none { IfNone result ((a : Values) → IsArguments registers.now (words_of text.now) Shape.Dword a → ⊥) }
+{
+    let Some(dword) = only_number(text, 1 << 32, registers) else {
+        return None;
+    };
+    Some(Arguments::Dword(dword))
 }
 
 /// A word.
@@ -189,7 +218,9 @@ pub fn read_arguments<'a>(
     ensures none { IfNone result ((a : Values) → IsArguments registers.now (words_of text.now) shape a → ⊥) }
 {
     match shape {
+        Shape::Nothing => nothing(text, registers),
         Shape::Word => word(text, registers),
+        Shape::Dword => dword(text, registers),
         Shape::WordDword => word_dword(text, registers),
         Shape::DwordCount => dword_count(text, registers),
         Shape::DwordBytes => dword_bytes(text, registers, room),

@@ -48,6 +48,8 @@ fn build(name: Name, arguments: Arguments<'_>) -> Call
         (Name::GlobalHandle, Arguments::Word(selector)) => Call::GlobalHandle { selector },
         (Name::GetSelectorBase, Arguments::Word(selector)) => Call::GetSelectorBase { selector },
         (Name::GetSelectorLimit, Arguments::Word(selector)) => Call::GetSelectorLimit { selector },
+        (Name::GlobalCompact, Arguments::Dword(size)) => Call::GlobalCompact { size },
+        (Name::Moved, Arguments::Nothing) => Call::Moved,
         (Name::Read, Arguments::DwordCount(pointer, count)) => Call::Read { pointer, count },
         (Name::Write, Arguments::DwordBytes(pointer, bytes)) => Call::Write {
             pointer,

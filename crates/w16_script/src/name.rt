@@ -15,6 +15,8 @@ pub enum Name {
     GlobalHandle,
     GetSelectorBase,
     GetSelectorLimit,
+    GlobalCompact,
+    Moved,
     Read,
     Write,
     Fill,
@@ -46,6 +48,10 @@ impl Name {
             Some(Name::GetSelectorBase)
         } else if word == b"GetSelectorLimit".as_slice() {
             Some(Name::GetSelectorLimit)
+        } else if word == b"GlobalCompact".as_slice() {
+            Some(Name::GlobalCompact)
+        } else if word == b"Moved".as_slice() {
+            Some(Name::Moved)
         } else if word == b"Read".as_slice() {
             Some(Name::Read)
         } else if word == b"Write".as_slice() {
@@ -71,6 +77,8 @@ impl Name {
             Name::GlobalHandle => Shape::Word,
             Name::GetSelectorBase => Shape::Word,
             Name::GetSelectorLimit => Shape::Word,
+            Name::GlobalCompact => Shape::Dword,
+            Name::Moved => Shape::Nothing,
             Name::Read => Shape::DwordCount,
             Name::Write => Shape::DwordBytes,
             Name::Fill => Shape::DwordCountByte,

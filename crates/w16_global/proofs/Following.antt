@@ -1,0 +1,136 @@
+-- Selectors that follow their objects, one object further.
+use Rattle.std.proofs.Common.{◌≡◌, ◌≢◌, ℕ, ◌+◌, ◌-◌, ◌<◌, ◌≤◌, ◌⊎◌, inl, inr, Bool, true, false, cond, ◌&&◌, nat_le, nat_lt, if◌then◌else◌, IfSome, IsSomeAnd, List, [], ◌∷◌, zero, suc, length, get_or, set, Option, Some, None, option_map, is_some, unwrap_or, refl, sym, ap, ◌∙◌, subst, arith, leb-true, ltb-true, leb-false, ltb-false}
+use Rattle.std.specs.FinMap as finmap
+use Rattle.std.proofs.lemmas.Bool.{false≢true, cases_eq}
+use Rattle.std.proofs.lemmas.Bool.Decides.{nat_tests}
+use Rattle.std.proofs.lemmas.List.{get_or-set_same, get_or-set_other, length-set}
+use Rattle.w16_model.specs.declared.Block.{Block}
+use Rattle.w16_model.specs.Gap.{Misses, block_end}
+use Rattle.w16_model.specs.Heap.{Heap, Object, IsHeap, object_at, bytes_at, hold_of}
+use Rattle.w16_model.proofs.Heaps.{IsBlockOf}
+use Rattle.w16_model.proofs.Places.{two_placed}
+use Rattle.w16_selectors.specs.Descriptors as selectors
+use Rattle.w16_selectors.specs.Descriptors.{descriptor_at}
+use Rattle.w16_selectors.specs.declared.Descriptor.{Descriptor}
+use Rattle.w16_selectors.specs.declared.SelKind.TheVariants.{Data}
+use Rattle.w16_global.specs.Joined.{described, followed}
+use Rattle.w16_global.proofs.Described.{made_here}
+use Rattle.w16_global.proofs.Reach.{stands}
+
+-- what `followed` is by an address, if there is one
+abbrev followed_by : Heap → ℕ → ℕ → selectors.Table → ℕ → Option ℕ → Option Descriptor
+followed_by heap from to table slot p = elim p [
+  | None ↦ descriptor_at table slot
+  | Some at ↦ if nat_le from at && nat_lt at to then described heap slot else descriptor_at table slot
+]
+
+-- An object with bytes, where the look-ups found it.
+record Found (heap : Heap) (slot at size : ℕ) : Type 0 where
+  pub object : Object
+  pub bytes : List ℕ
+  pub there : object_at heap slot ≡ Some object
+  pub has : object.bytes ≡ Some bytes
+  pub long : length bytes ≡ size
+  pub stands : finmap.get heap.places slot ≡ Some at
+
+found_at : (heap : Heap) (slot at size : ℕ) → option_map (length {A = ℕ}) (bytes_at heap slot) ≡ Some size → finmap.get heap.places slot ≡ Some at → Found heap slot at size
+found_at heap slot at size sized stands = of_object (object_at heap slot) refl sized
+  where
+    of_bytes : (o : Object) → object_at heap slot ≡ Some o → (b : Option (List ℕ)) → o.bytes ≡ b → option_map (length {A = ℕ}) b ≡ Some size → Found heap slot at size
+    of_bytes o there None has h = cc
+    of_bytes o there (Some bytes) has h = record { object = o; bytes = bytes; there = there; has = has; long = (let same : length bytes ≡ size = cc in same); stands = stands }
+
+    of_object : (p : Option Object) → object_at heap slot ≡ p → option_map (length {A = ℕ}) (elim p as (λ _. Option (List ℕ)) [ Some o ↦ o.bytes | None ↦ None ]) ≡ Some size → Found heap slot at size
+    of_object None there h = cc
+    of_object (Some o) there h = of_bytes o there o.bytes refl h
+
+-- two objects with bytes at one place are one
+abbrev block_for : (heap : Heap) (slot at size : ℕ) → Found heap slot at size → (x : Block) × IsBlockOf heap x × (x.id ≡ slot) × (x.at ≡ at) × (x.size ≡ size)
+block_for heap slot at size f = (
+  record { id = slot; at = at; size = size; hold = hold_of f.object },
+  record { object = f.object; bytes = f.bytes; is_there = f.there; has_bytes = f.has; place = sym (ap (λ (p : Option ℕ). unwrap_or p 0) f.stands); size = sym f.long; hold = refl },
+  refl,
+  refl,
+  refl,
+)
+
+one_place : (heap : Heap) → IsHeap heap → (slot other at size more : ℕ) → 0 < size → 0 < more → Found heap slot at size → Found heap other at more → other ≢ slot → ⊥
+one_place heap is slot other at size more some some_too f g n =
+    let x = block_for heap slot at size f in
+    let y = block_for heap other at more g in
+    let apart : Misses x.0.at x.0.size y.0.at (block_end y.0) = two_placed heap is x.0 y.0 x.1 y.1 (λ e. n (ap (λ (b : Block). b.id) (sym e))) in
+    meets at size more some some_too apart
+  where
+    meets : (at size more : ℕ) → 0 < size → 0 < more → Misses at size at (at + more) → ⊥
+    meets at size more a b m = grind arith
+
+-- an object with bytes has some
+stands_filled : (heap : Heap) → IsHeap heap → (slot : ℕ) (o : Object) (bytes : List ℕ) → object_at heap slot ≡ Some o → o.bytes ≡ Some bytes → 0 < length bytes
+stands_filled heap is slot o bytes there has = let s = stands heap is slot o bytes there has in s.some
+
+module _ (heap : Heap) (is : IsHeap heap) (old : selectors.Table) (begin from : ℕ) (block : Block) (above : begin ≤ from) (at_least : from ≤ block.at) (some : 0 < block.size)
+    (placed : finmap.get heap.places block.id ≡ Some block.at) (sized : option_map (length {A = ℕ}) (bytes_at heap block.id) ≡ Some block.size)
+    (lowest : (q : ℕ) → IfSome (finmap.get heap.places q) (λ at. (at < from) ⊎ (block.at ≤ at)))
+    (now : selectors.Table) (so_far : (slot : ℕ) → descriptor_at now slot ≡ followed heap begin from old slot) where
+  f : Found heap block.id block.at block.size
+  f = found_at heap block.id block.at block.size sized placed
+
+  d : Descriptor
+  d = record { base = block.at; limit = block.size - 1; present = true; kind = Data }
+
+  says : described heap block.id ≡ Some (record { base = block.at; limit = block.size - 1; present = true; kind = Data })
+  says = made_here heap block.id block.size block.at (Some f.bytes) (ap (λ (p : Option Object). elim p as (λ _. Option (List ℕ)) [ Some o ↦ o.bytes | None ↦ None ]) f.there ∙ f.has) f.long placed
+
+  -- the block's own selector is a taken one
+  pub taken : ((slot : ℕ) → is_some (object_at heap slot) ≡ true → is_some (descriptor_at old slot) ≡ true) → is_some (descriptor_at now block.id) ≡ true
+  taken known = ap is_some (so_far block.id) ∙ ap (λ p. is_some (followed_by heap begin from old block.id p)) placed ∙ either (nat_le begin block.at && nat_lt block.at from)
+    where
+      either : (b : Bool) → is_some (if b then described heap block.id else descriptor_at old block.id) ≡ true
+      either true = ap is_some says
+      either false = known block.id (ap is_some f.there)
+
+  -- one block further
+  pub further : block.id < length now → (slot : ℕ) → descriptor_at (set now block.id (Some (record { base = block.at; limit = block.size - 1; present = true; kind = Data }))) slot ≡ followed heap begin (block.at + 1) old slot
+  further within slot = elim (cases_eq slot block.id) [
+    | inl e ↦ ap (λ k. descriptor_at (set now block.id (Some (record { base = block.at; limit = block.size - 1; present = true; kind = Data }))) k) e
+        ∙ get_or-set_same now block.id (Some (record { base = block.at; limit = block.size - 1; present = true; kind = Data })) None within ∙ sym says
+        ∙ sym (ap (λ k. followed heap begin (block.at + 1) old k) e ∙ ap (followed_by heap begin (block.at + 1) old block.id) placed ∙ ap (λ b. if b then described heap block.id else descriptor_at old block.id) inside)
+    | inr n ↦ get_or-set_other now block.id slot (Some (record { base = block.at; limit = block.size - 1; present = true; kind = Data })) None n ∙ so_far slot ∙ other n (finmap.get heap.places slot) refl (lowest slot)
+  ]
+    where
+      inside : (nat_le begin block.at && nat_lt block.at (block.at + 1)) ≡ true
+      inside = grind (arith, nat_tests)
+
+      same_test : (at : ℕ) → (at < from) ⊎ (block.at < at) → (nat_le begin at && nat_lt at from) ≡ (nat_le begin at && nat_lt at (block.at + 1))
+      same_test at (inl low) = grind (arith, nat_tests)
+      same_test at (inr high) = grind (arith, nat_tests)
+
+      clash : slot ≢ block.id → finmap.get heap.places slot ≡ Some block.at → (b : Option (List ℕ)) → bytes_at heap slot ≡ b → ⊥
+      clash n here None h = absurd (false≢true (sym (ap is_some h) ∙ sym (is.at_bytes slot) ∙ ap is_some here))
+      clash n here (Some bytes) h =
+          let g : Found heap slot block.at (length bytes) = found_at heap slot block.at (length bytes) (ap (option_map (length {A = ℕ})) h) here in
+          let filled : 0 < length g.bytes = (stands_filled heap is slot g.object g.bytes g.there g.has) in
+          one_place heap is block.id slot block.at block.size (length bytes) some (subst (λ k. 0 < k) g.long filled) f g n
+
+      strictly : (at : ℕ) → slot ≢ block.id → finmap.get heap.places slot ≡ Some at → (at < from) ⊎ (block.at ≤ at) → (at < from) ⊎ (block.at < at)
+      strictly at n there (inl low) = inl low
+      strictly at n there (inr high) = elim (cases_eq at block.at) [
+        | inr more ↦ inr (omega (arith, more, high))
+        | inl e ↦ absurd (clash n (there ∙ ap Some e) (bytes_at heap slot) refl)
+      ]
+
+      other : slot ≢ block.id → (p : Option ℕ) → finmap.get heap.places slot ≡ p → IfSome p (λ at. (at < from) ⊎ (block.at ≤ at)) → followed heap begin from old slot ≡ followed heap begin (block.at + 1) old slot
+      other n None there low = ap (followed_by heap begin from old slot) there ∙ sym (ap (followed_by heap begin (block.at + 1) old slot) there)
+      other n (Some at) there low =
+          ap (followed_by heap begin from old slot) there ∙ ap (λ b. if b then described heap slot else descriptor_at old slot) (same_test at (strictly at n there low)) ∙ sym (ap (followed_by heap begin (block.at + 1) old slot) there)
+
+-- a slot that is taken is in the table
+pub in_table : (t : selectors.Table) (slot : ℕ) → is_some (descriptor_at t slot) ≡ true → slot < length t
+in_table [] slot e = absurd (false≢true e)
+in_table (d ∷ t) zero e = omega arith
+in_table (d ∷ t) (suc slot) e = let rest : slot < length t = in_table t slot e in omega arith
+
+-- a table that was set
+pub set_is : (after table : selectors.Table) (block : Block) (d : Descriptor) → after ≡ set table block.id (Some d) → d ≡ record { base = block.at; limit = block.size - 1; present = true; kind = Data }
+    → (slot : ℕ) → descriptor_at after slot ≡ descriptor_at (set table block.id (Some (record { base = block.at; limit = block.size - 1; present = true; kind = Data }))) slot
+set_is after table block d is says slot = ap (λ (t : selectors.Table). descriptor_at t slot) is ∙ (λ i. descriptor_at (set table block.id (Some (says i))) slot)

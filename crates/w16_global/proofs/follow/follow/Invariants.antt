@@ -1,0 +1,16 @@
+use Rattle.std.proofs.Common.{◌≡◌, ℕ, ◌-◌, ◌≤◌, ◌⊎◌, length}
+use Rattle.w16_selectors.specs.Descriptors.{descriptor_at}
+use Rattle.w16_global.specs.Joined.{followed}
+use Rattle.w16_global.proofs.follow.follow.Given as goal
+
+-- the selectors of all objects below have followed
+abbrev pub invariant-objects : goal.invariant-objects
+invariant-objects l = record {
+  above : l.slid.from ≤ l.from;
+  ends : (l.from ≡ l.slid.from) ⊎ (l.from ≤ l.slid.to);
+  so_far : (slot : ℕ) → descriptor_at l.selectors slot ≡ followed l.objects.heap l.slid.from l.from l.initial.selectors slot;
+  many : length l.selectors ≡ length l.initial.selectors;
+}
+
+abbrev pub decreases-objects : goal.decreases-objects
+decreases-objects l = l.slid.to - l.from

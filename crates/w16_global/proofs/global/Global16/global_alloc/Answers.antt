@@ -1,0 +1,28 @@
+use Rattle.std.proofs.Common.{◌≡◌, ◌∙◌, false, true, not, if◌then◌else◌, refl, sym, ap, subst, arith}
+use Rattle.std.specs.FinMap as finmap
+use Rattle.w16_model.specs.World.{World}
+use Rattle.w16_global.specs.Joined.{world_of}
+use Rattle.w16_global.proofs.Allocation.{absent_answered, bytes_answered, bytes_refused}
+use Rattle.w16_global.proofs.global.Global16.global_alloc.Goals as goal
+
+pub returns-then-size-eq0 : goal.returns-then-size-eq0
+returns-then-size-eq0 c =
+    absent_answered c.args.self.now (world_of c.self.inside.objects c.self.inside.attributes.items 0) (ap (λ (x : World). record x { moved = 0 }) c.self.view_is) c.args.flags c.in-Some.slot c.args.size c.enter.new.self
+    c.in-Some.ensures.found c.kind_asked-kind.result c.kind_asked-kind.ensures c.attributes_asked-attributes.result c.attributes_asked-attributes.ensures c.handle_of.result c.handle_of.ensures c.if-size-eq0.true
+    (sym c.if-not-has_flag.ensures) c.enter.ensures.entered c.enter.ensures.rest
+
+pub returns-then-allocate : goal.returns-then-allocate
+returns-then-allocate c =
+    let s = c.if-allocate.ensures in
+    bytes_answered c.args.self.now (world_of c.self.inside.objects c.self.inside.attributes.items 0) (ap (λ (x : World). record x { moved = 0 }) c.self.view_is) c.args.flags c.in-Some.slot c.args.size c.allocate.new.self
+    c.in-Some.ensures.found c.kind_asked-kind.result c.kind_asked-kind.ensures c.attributes_asked-attributes.result c.attributes_asked-attributes.ensures c.handle_of-then-allocate.result c.handle_of-then-allocate.ensures
+    c.rounded.result c.rounded.ensures c.has_flag-compact.result (not c.has_flag-compact.result) c.has_flag-zero.result refl c.has_flag-compact.ensures c.has_flag-zero.ensures c.if-size-eq0.false
+    (omega (arith, c.if-size-gt-LARGEST_SIZE.false)) s.allocated s.rest
+
+pub returns-else-allocate : goal.returns-else-allocate
+returns-else-allocate c =
+    let s = c.if-allocate.ensures in
+    bytes_refused c.args.self.now (world_of c.self.inside.objects c.self.inside.attributes.items 0) (ap (λ (x : World). record x { moved = 0 }) c.self.view_is) c.args.flags c.in-Some.slot c.args.size c.allocate.new.self
+    c.in-Some.ensures.found c.kind_asked-kind.result c.kind_asked-kind.ensures c.attributes_asked-attributes.result c.attributes_asked-attributes.ensures _ refl
+    c.rounded.result c.rounded.ensures c.has_flag-compact.result (not c.has_flag-compact.result) c.has_flag-zero.result refl c.has_flag-compact.ensures c.has_flag-zero.ensures c.if-size-eq0.false
+    s.allocated s.rest

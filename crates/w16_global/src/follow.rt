@@ -1,0 +1,53 @@
+//! Selectors follow the objects that slid.
+ghost use Rattle.std.specs.Prelude.{◌≡◌, ◌+◌, ◌<◌, ◌≤◌, ◌-◌, ◌^◌, ◌⊎◌, ℕ, true, length, is_some, option_map, IfSome, IfNone, Some};
+ghost use Rattle.std.specs.FinMap as finmap;
+ghost use Rattle.w16_model.specs.Heap.{IsHeap, object_at, bytes_at};
+ghost use Rattle.w16_selectors.specs.Descriptors.{descriptor_at};
+ghost use Rattle.w16_selectors.specs.declared.SelKind.TheVariants.{Data};
+ghost use Rattle.w16_global.specs.Joined.{followed};
+
+use crate::objects::Objects;
+use w16_model::{Block, Span};
+use w16_selectors::{Descriptor, SelKind, Selectors};
+
+/// The lowest block from an address on that begins below another.
+fn next_within(objects: &Objects, from: u32, to: u32) -> Option<Block>
+    ensures inside { IfSome result (λ b. (from ≤ b.at) × (b.at < to)) }
+    ensures there { IfSome result (λ b. (finmap.get objects.now.heap.places b.id ≡ Some b.at) × (option_map length (bytes_at objects.now.heap b.id) ≡ Some b.size)) }
+    ensures real { IfSome result (λ b. (0 < b.size) × (b.at + b.size < 2 ^ 32)) }
+    ensures sound { IsHeap objects.now.heap }
+    ensures lowest { IfSome result (λ b. (q : ℕ) → IfSome (finmap.get objects.now.heap.places q) (λ at. (at < from) ⊎ (b.at ≤ at))) }
+    ensures none { IfNone result ((q : ℕ) → IfSome (finmap.get objects.now.heap.places q) (λ at. (at < from) ⊎ (to ≤ at))) }
+{
+    match objects.next_block(from) {
+        Some(block) if block.at < to => Some(block),
+        _ => None,
+    }
+}
+
+/// The descriptor of an object with bytes.
+fn descriptor_of(block: Block) -> Descriptor
+    requires { 0 < block.size }
+    ensures { result ≡ record { base = block.at; limit = block.size - 1; present = true; kind = Data } }
+{
+    Descriptor {
+        base: block.at,
+        limit: block.size - 1,
+        present: true,
+        kind: SelKind::Data,
+    }
+}
+
+/// Gives the selector of each object that begins in a range of memory the object's address.
+pub(crate) fn follow(objects: &Objects, selectors: &mut Selectors, slid: Span)
+    requires known { (slot : ℕ) → is_some (object_at objects.now.heap slot) ≡ true → is_some (descriptor_at selectors.old slot) ≡ true }
+    requires few { length selectors.old ≤ 8192 }
+    ensures followed { (slot : ℕ) → descriptor_at selectors.new slot ≡ followed objects.now.heap slid.from slid.to selectors.old slot }
+    ensures many { length selectors.new ≡ length selectors.old }
+{
+    let mut from = slid.from;
+    'objects: while let Some(block) = next_within(objects, from, slid.to) {
+        selectors.set(block.id as u16, descriptor_of(block));
+        from = block.at + 1;
+    }
+}
