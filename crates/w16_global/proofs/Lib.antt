@@ -1,11 +1,15 @@
 pub mod With
 pub mod Lookups
 pub mod Next
+pub mod Pairs
 pub mod Fresh
 pub mod Slices
 pub mod Written
 pub mod Changed
 pub mod Singles
+pub mod Slid
+pub mod Arranged
+pub mod Moved
 pub mod Steps
 pub mod Holes
 pub mod Cleared
