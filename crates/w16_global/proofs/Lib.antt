@@ -10,8 +10,10 @@ pub mod Singles
 pub mod Slid
 pub mod Arranged
 pub mod Moved
+pub mod Gathering
 pub mod Steps
 pub mod Holes
+pub mod Rooms
 pub mod Cleared
 pub mod Allocated
 pub mod Placing

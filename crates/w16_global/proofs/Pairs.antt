@@ -61,10 +61,10 @@ two_contents memory after (b ∷ bs) (c ∷ cs) e =
     (ap (λ (p : ℕ × List ℕ). p.1) heads, two_contents memory after bs cs rest)
 
 -- what may stand between two addresses that are gathered
-abbrev InGap : ℕ → ℕ → Block → Type 0
+abbrev pub InGap : ℕ → ℕ → Block → Type 0
 InGap low high b = (block_end b ≤ low) ⊎ ((high ≤ b.at) ⊎ ((low ≤ b.at) × (block_end b ≤ high) × (b.hold ≡ Loose)))
 
-inside_is : (low high : ℕ) (b : Block) → 0 < b.size → low ≤ b.at → b.at < high → InGap low high b → (block_end b ≤ high) × (b.hold ≡ Loose)
+pub inside_is : (low high : ℕ) (b : Block) → 0 < b.size → low ≤ b.at → b.at < high → InGap low high b → (block_end b ≤ high) × (b.hold ≡ Loose)
 inside_is low high b some le lt (inl e) = absurd (omega arith)
 inside_is low high b some le lt (inr (inl e)) = absurd (omega arith)
 inside_is low high b some le lt (inr (inr e)) = (e.1, e.2)

@@ -4,6 +4,7 @@
 mod calls;
 mod far;
 mod global;
+mod making;
 mod objects;
 
 pub use global::Global16;
