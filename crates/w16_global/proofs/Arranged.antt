@@ -30,6 +30,7 @@ same_moved low layout memory ordered = record {
   unpinned = λ lt. absurd (omega arith);
   ordered = ordered;
   size = refl;
+  bytes = λ all. all;
 }
 
 module _ {low high : ℕ} {old : Layout} {memory : List ℕ} {new : Layout} {after : List ℕ} (ordered : IsOrdered old) (moved : AreMoved low high old memory new after) where

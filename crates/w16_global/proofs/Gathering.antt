@@ -1,6 +1,6 @@
 -- The blocks of a gap that was gathered: how they lie, and the place that they leave.
 use Rattle.std.specs.List.{AllByRecursion as Each}
-use Rattle.std.proofs.Common.{◌≡◌, ◌≢◌, ℕ, ◌+◌, ◌-◌, ◌*◌, ◌^◌, ◌<◌, ◌≤◌, ◌⊎◌, inl, inr, Bool, true, false, cond, ◌&&◌, IsTrue, List, [], ◌∷◌, length, refl, sym, ap, ◌∙◌, subst, arith}
+use Rattle.std.proofs.Common.{◌≡◌, ◌≢◌, ℕ, ◌+◌, ◌-◌, ◌*◌, ◌^◌, ◌<◌, ◌≤◌, ◌⊎◌, inl, inr, Bool, true, false, cond, ◌&&◌, IsTrue, List, [], ◌∷◌, length, All, refl, sym, ap, ◌∙◌, subst, arith}
 use Rattle.std.proofs.lemmas.Bool.{cases_lt, lt-ltb, le-ltb, false≢true}
 use Rattle.w16_model.specs.declared.Block.{Block}
 use Rattle.w16_model.specs.declared.Hold.TheVariants.{Loose}
@@ -118,13 +118,14 @@ module _ {l : Layout} {n : ℕ} {gap : Gap} (ordered : IsOrdered l) (has : HasRo
   }
 
   module _ {new : Layout} (value : new ≡ after_gather) where
-    pub gathered_moved : {memory after : List ℕ} → contents after new.blocks ≡ contents memory l.blocks → length after ≡ length memory → AreMoved gap.low gap.high l memory new after
-    gathered_moved {memory} {after} bytes size = record {
+    pub gathered_moved : {memory after : List ℕ} → contents after new.blocks ≡ contents memory l.blocks → length after ≡ length memory → All (λ b. b < 256) after → AreMoved gap.low gap.high l memory new after
+    gathered_moved {memory} {after} bytes size all = record {
       same = value ∙ ap (λ bs. record l { blocks = bs }) (sym (ap (λ (x : Layout). x.blocks) value));
       blocks = two_slides gap.low gap.high memory after l.blocks new.blocks (subst (EachTwo (Stands gap.low gap.high) l.blocks) (sym (ap (λ (x : Layout). x.blocks) value)) stand) bytes;
       unpinned = λ _. unpinned_gap;
       ordered = subst IsOrdered (sym value) ordered_gathered;
       size = size;
+      bytes = λ _. all;
     }
 
     pub gathered_free : IsClear is_any l.lo l.hi new.blocks (gap.low + loose_bytes l.blocks gap.low gap.high) gap.high → IsFree new n (gap.low + gap.loose)

@@ -16,6 +16,7 @@ pub mod Holes
 pub mod Rooms
 pub mod Cleared
 pub mod Allocated
+pub mod Granted
 pub mod Placing
 pub mod Joined
 pub mod Reach

@@ -1,5 +1,5 @@
 -- The heap of parts whose blocks slid: the same objects at other addresses.
-use Rattle.std.proofs.Common.{◌≡◌, ◌≢◌, ℕ, ◌+◌, ◌-◌, ◌<◌, ◌≤◌, ◌⊎◌, inl, inr, true, false, IsTrue, IfSome, IsSomeAnd, List, length, get_or, take, drop, slice_range, All, Option, Some, None, option_map, refl, sym, ap, ◌∙◌, subst, arith}
+use Rattle.std.proofs.Common.{◌≡◌, ◌≢◌, ℕ, ◌+◌, ◌-◌, ◌<◌, ◌≤◌, ◌⊎◌, inl, inr, true, false, IsTrue, IfSome, IsSomeAnd, List, length, get_or, take, drop, slice_range, Option, Some, None, option_map, refl, sym, ap, ◌∙◌, subst, arith}
 use Rattle.std.specs.FinMap as finmap
 use Rattle.std.proofs.lemmas.Bool.{false≢true}
 use Rattle.w16_region.specs.Bytes.{part}
@@ -25,7 +25,7 @@ pub pinned_stands : (low high : ℕ) (memory after : List ℕ) (b c : Block) →
 pinned_stands low high memory after b c s t = elim s.place [ inl e ↦ e | inr f ↦ absurd (false≢true (sym (ap holds_still f.0) ∙ t)) ]
 
 module _ {entries : List (Option Entry)} {layout : Layout} {memory : List ℕ} (parts : AreParts entries layout memory)
-    {low high : ℕ} {new : Layout} {after : List ℕ} (moved : AreMoved low high layout memory new after) (bytes : All (λ b. b < 256) after) where
+    {low high : ℕ} {new : Layout} {after : List ℕ} (moved : AreMoved low high layout memory new after) where
   abbrev R : Block → Block → Type 0
   R = Slides low high memory after
 
@@ -43,7 +43,7 @@ module _ {entries : List (Option Entry)} {layout : Layout} {memory : List ℕ} (
     low = ap (λ (l : Layout). l.lo) moved.same ∙ parts.low;
     grain = ap (λ (l : Layout). l.grain) moved.same ∙ parts.grain;
     high = ap (λ (l : Layout). l.hi) moved.same ∙ parts.high ∙ sym moved.size;
-    bytes = bytes;
+    bytes = moved.bytes parts.bytes;
     few = parts.few;
     plain = parts.plain;
   }

@@ -1,5 +1,5 @@
 -- Room that is made for new bytes: the blocks that slid for it, and the place that it leaves.
-use Rattle.std.specs.Prelude.{ℕ, ◌+◌, ◌<◌, ◌≤◌, ◌≡◌, ◌⊎◌, Bool, if◌then◌else◌, List, [], ◌∷◌, length}
+use Rattle.std.specs.Prelude.{ℕ, ◌+◌, ◌<◌, ◌≤◌, ◌≡◌, ◌⊎◌, Bool, if◌then◌else◌, List, [], ◌∷◌, length, All}
 use Rattle.std.specs.List.{AllByRecursion}
 use Rattle.w16_region.specs.Bytes.{part}
 use Rattle.w16_model.specs.declared.Block.{Block}
@@ -28,6 +28,7 @@ pub record AreMoved (low high : ℕ) (old : Layout) (memory : List ℕ) (new : L
   pub unpinned : low < high → IsClear is_pinned old.lo old.hi old.blocks low high
   pub ordered : IsOrdered new
   pub size : length after ≡ length memory
+  pub bytes : All (λ b. b < 256) memory → All (λ b. b < 256) after
 
 -- n bytes from an address on are no block's
 pub record IsFree (l : Layout) (n at : ℕ) : Type 0 where

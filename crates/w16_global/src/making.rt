@@ -1,14 +1,15 @@
 //! Room for new bytes, by a hole that is there or by sliding the blocks of a gap.
-ghost use Rattle.std.specs.Prelude.{◌≡◌, ◌<◌, ◌≤◌, false, true, length, IfSome, IfNone};
+ghost use Rattle.std.specs.Prelude.{◌≡◌, ◌<◌, ◌≤◌, false, true, length, All, IfSome, IfNone};
 ghost use Rattle.w16_blocks.specs.Layout.{IsOrdered};
 ghost use Rattle.w16_compact.specs.Gather.{moved_size};
 ghost use Rattle.w16_global.specs.Making.{AreMoved, IsFree, most_for};
 
 use w16_blocks::{Blocks, Span};
 use w16_compact::{gap_for, gather};
-use w16_region::Region;
+use w16_region::{Region, Space};
 
 /// Where new bytes stand, the range whose blocks slid for them, and how many bytes were moved.
+#[derive(Clone, Copy)]
 pub(crate) struct Placed {
     pub at: u32,
     /// Empty where no block slid.
@@ -62,6 +63,7 @@ fn gather_for(blocks: &mut Blocks, memory: &mut Region, size: u32) -> Option<Pla
 {
     let gap = gap_for(blocks, size)?;
     let moved = gather(blocks, memory, gap.low, gap.high);
+    are_bytes(memory.view(0, memory.len()));
     Some(Placed {
         at: gap.low + gap.loose,
         slid: Span {
@@ -70,4 +72,10 @@ fn gather_for(blocks: &mut Blocks, memory: &mut Region, size: u32) -> Option<Pla
         },
         moved,
     })
+}
+
+/// Says that each item of a slice of bytes is one. It has no effect.
+fn are_bytes(bytes: &[u8])
+    ensures { All (λ b. b < 256) bytes.now }
+{
 }
