@@ -1,16 +1,12 @@
 -- A gather from its start, by a step, to its end.
-use Rattle.std.proofs.Common.{ℕ, zero, suc, ◌≡◌, ◌+◌, ◌<◌, ◌≤◌, ◌⊎◌, List, [], ◌∷◌, ◌++◌, length, set, take, drop, cond, eqb, Some, None, is_some, arith, refl, sym, ◌∙◌, subst, ap, inl, inr, slice_get}
+use Rattle.std.proofs.Common.{ℕ, zero, suc, ◌≡◌, ◌+◌, ◌<◌, ◌≤◌, List, [], ◌∷◌, ◌++◌, length, set, take, drop, cond, eqb, Some, is_some, arith, refl, sym, ◌∙◌, subst, ap, inl, inr, slice_get, IfSome}
 use Rattle.std.proofs.lemmas.Bool.{lt-ltb, le-ltb, cases_lt, eq-eqb, false≢true}
 use Rattle.std.proofs.lemmas.Bool.Decides.{eqb_tells}
 use Rattle.std.specs.List.{AllByRecursion}
 use Rattle.w16_model.specs.declared.Block.{Block}
-use Rattle.w16_model.specs.declared.Hold.TheVariants.{Loose}
 use Rattle.w16_model.specs.Gap.{IsLaid, block_end}
 use Rattle.w16_blocks.specs.Layout.{rank}
-use Rattle.w16_compact.specs.Gather.{gathered, packed, moved_size}
-
-abbrev InGap : ℕ → ℕ → Block → Type 0
-InGap low high b = (block_end b ≤ low) ⊎ ((high ≤ b.at) ⊎ ((low ≤ b.at) × (block_end b ≤ high) × (b.hold ≡ Loose)))
+use Rattle.w16_compact.specs.Gather.{gathered, packed, moved_size, FitsGap}
 
 -- at the start
 pub list_start : (low high : ℕ) (bs : List Block) → take (rank low bs) bs ++ packed high low (drop (rank low bs) bs) ≡ gathered low high bs
@@ -20,25 +16,33 @@ list_start low high (b ∷ bs) = elim (cases_lt b.at low) [
   | inr le ↦ rw (le-ltb b.at low le) refl
 ]
 
-pub below_start : (low high : ℕ) (bs : List Block) → low ≤ high → AllByRecursion (InGap low high) bs → AllByRecursion (λ c. block_end c ≤ low) (take (rank low bs) bs)
-below_start low high [] le gap = tt
-below_start low high (b ∷ bs) le gap = elim (cases_lt b.at low) [
+pub settled_start : (low high : ℕ) (bs : List Block) → low ≤ high → AllByRecursion (FitsGap low high) bs → AllByRecursion (λ c. block_end c ≤ low) (take (rank low bs) bs)
+settled_start low high [] le gap = tt
+settled_start low high (b ∷ bs) le gap = elim (cases_lt b.at low) [
   | inl lt ↦ rw (lt-ltb b.at low lt) (
     elim gap.0 [
       | inl end ↦ end
       | inr other ↦ elim other [ inl above ↦ absurd (omega arith) | inr inside ↦ let from = inside.0 in absurd (omega arith) ]
     ],
-    below_start low high bs le gap.1,
+    settled_start low high bs le gap.1,
   )
   | inr ge ↦ rw (le-ltb b.at low ge) tt
 ]
 
-pub apart_start : (bound top low : ℕ) (bs : List Block) → IsLaid bound top bs → low ≤ top → IsLaid low top (drop (rank low bs) bs)
-apart_start bound top low [] apart le = le
-apart_start bound top low (b ∷ bs) apart le = elim (cases_lt b.at low) [
-  | inl lt ↦ rw (lt-ltb b.at low lt) (apart_start (block_end b) top low bs apart.2 le)
+pub laid_start : (bound top low : ℕ) (bs : List Block) → IsLaid bound top bs → low ≤ top → IsLaid low top (drop (rank low bs) bs)
+laid_start bound top low [] apart le = le
+laid_start bound top low (b ∷ bs) apart le = elim (cases_lt b.at low) [
+  | inl lt ↦ rw (lt-ltb b.at low lt) (laid_start (block_end b) top low bs apart.2 le)
   | inr ge ↦ rw (le-ltb b.at low ge) (ge, apart.1, apart.2)
 ]
+
+pub rest_start : (low high : ℕ) (bs : List Block) → AllByRecursion (FitsGap low high) bs → AllByRecursion (FitsGap low high) (drop (rank low bs) bs)
+rest_start low high bs all = each_drop (FitsGap low high) (rank low bs) bs all
+  where
+    each_drop : (P : Block → Type 0) (i : ℕ) (bs : List Block) → AllByRecursion P bs → AllByRecursion P (drop i bs)
+    each_drop P zero bs all = all
+    each_drop P (suc i) [] all = tt
+    each_drop P (suc i) (b ∷ bs) all = each_drop P i bs all.1
 
 pub moved_start : (low high : ℕ) (bs : List Block) → moved_size (drop (rank low bs) bs) (packed high low (drop (rank low bs) bs)) ≡ moved_size bs (gathered low high bs)
 moved_start low high [] = refl
@@ -58,12 +62,6 @@ inside_got [] i b e = absurd (false≢true (ap is_some e))
 inside_got (c ∷ cs) zero b e = omega arith
 inside_got (c ∷ cs) (suc i) b e = let ih = inside_got cs i b e in omega arith
 
-pub past_got : (bs : List Block) (i : ℕ) → slice_get bs i ≡ None → drop i bs ≡ []
-past_got [] zero e = refl
-past_got [] (suc i) e = refl
-past_got (c ∷ cs) zero e = absurd (false≢true (sym (ap is_some e)))
-past_got (c ∷ cs) (suc i) e = past_got cs i e
-
 -- after a write at i
 pub take_written : (bs : List Block) (i : ℕ) (x : Block) (ys : List Block) → i < length bs → take (suc i) (set bs i x) ++ ys ≡ take i bs ++ (x ∷ ys)
 take_written [] i x ys lt = absurd (omega arith)
@@ -76,11 +74,11 @@ drop_written [] (suc i) x = refl
 drop_written (c ∷ cs) zero x = refl
 drop_written (c ∷ cs) (suc i) x = drop_written cs i x
 
-pub below_written : (bs : List Block) (i : ℕ) (x : Block) (to : ℕ) → to ≤ block_end x → AllByRecursion (λ c. block_end c ≤ to) (take i bs) → AllByRecursion (λ c. block_end c ≤ block_end x) (take (suc i) (set bs i x))
-below_written [] zero x to le all = tt
-below_written [] (suc i) x to le all = tt
-below_written (c ∷ cs) zero x to le all = (omega arith, tt)
-below_written (c ∷ cs) (suc i) x to le all = let one = all.0 in (omega arith, below_written cs i x to le all.1)
+pub settled_step : (bs : List Block) (i : ℕ) (x : Block) (to : ℕ) → to ≤ block_end x → AllByRecursion (λ c. block_end c ≤ to) (take i bs) → AllByRecursion (λ c. block_end c ≤ block_end x) (take (suc i) (set bs i x))
+settled_step [] zero x to le all = tt
+settled_step [] (suc i) x to le all = tt
+settled_step (c ∷ cs) zero x to le all = (omega arith, tt)
+settled_step (c ∷ cs) (suc i) x to le all = let one = all.0 in (omega arith, settled_step cs i x to le all.1)
 
 -- a step
 packed_step : (high to : ℕ) (b : Block) (bs : List Block) → b.at < high → packed high to (b ∷ bs) ≡ record b { at = to } ∷ packed high (to + b.size) bs
@@ -95,8 +93,8 @@ list_step high to i b bs gathered_bs got lt e =
     ∙ ap (λ ys. take i bs ++ packed high to ys) (sym (drop_got bs i b got))
     ∙ e
 
-pub apart_step : (top to i : ℕ) (b : Block) (bs : List Block) → slice_get bs i ≡ Some b → IsLaid to top (drop i bs) → (to ≤ b.at) × (block_end b ≤ top) × IsLaid (to + b.size) top (drop (suc i) (set bs i (record b { at = to })))
-apart_step top to i b bs got apart =
+pub laid_step : (top to i : ℕ) (b : Block) (bs : List Block) → slice_get bs i ≡ Some b → IsLaid to top (drop i bs) → (to ≤ b.at) × (block_end b ≤ top) × IsLaid (to + b.size) top (drop (suc i) (set bs i (record b { at = to })))
+laid_step top to i b bs got apart =
     let now : IsLaid to top (b ∷ drop (suc i) bs) = subst (λ (ys : List Block). IsLaid to top ys) (drop_got bs i b got) apart in
     let one = now.0 in
     (now.0, ends (block_end b) (drop (suc i) bs) now.2, subst (λ (ys : List Block). IsLaid (to + b.size) top ys) (sym (drop_written bs i (record b { at = to }))) (from (block_end b) (drop (suc i) bs) (omega arith) now.2))
@@ -108,6 +106,11 @@ apart_step top to i b bs got apart =
     from : (k : ℕ) (cs : List Block) → to + b.size ≤ k → IsLaid k top cs → IsLaid (to + b.size) top cs
     from k [] le a = omega arith
     from k (c ∷ cs) le a = let one = a.0 in (omega arith, a.1, a.2)
+
+pub rest_step : (P : Block → Type 0) (to i : ℕ) (b : Block) (bs : List Block) → slice_get bs i ≡ Some b → AllByRecursion P (drop i bs) → P b × AllByRecursion P (drop (suc i) (set bs i (record b { at = to })))
+rest_step P to i b bs got all =
+    let now : AllByRecursion P (b ∷ drop (suc i) bs) = subst (AllByRecursion P) (drop_got bs i b got) all in
+    (now.0, subst (AllByRecursion P) (sym (drop_written bs i (record b { at = to }))) now.1)
 
 pub moved_step : (high to i moved total step : ℕ) (b : Block) (bs : List Block) → slice_get bs i ≡ Some b → b.at < high → step ≡ cond (eqb b.at to) 0 b.size
     → moved + moved_size (drop i bs) (packed high to (drop i bs)) ≡ total
@@ -127,8 +130,11 @@ step-le to step b e = elim (eqb_tells b.at to) [
 ]
 
 -- at the end
-pub packed_end : (high to i : ℕ) (b : Block) (bs : List Block) → slice_get bs i ≡ Some b → high ≤ b.at → packed high to (drop i bs) ≡ drop i bs
-packed_end high to i b bs got le = rw (drop_got bs i b got) (rw (le-ltb b.at high le) refl)
+pub packed_rest : (high to i : ℕ) (bs : List Block) → IfSome (slice_get bs i) (λ b. high ≤ b.at) → packed high to (drop i bs) ≡ drop i bs
+packed_rest high to zero [] le = refl
+packed_rest high to (suc i) [] le = refl
+packed_rest high to zero (b ∷ bs) le = rw (le-ltb b.at high le) refl
+packed_rest high to (suc i) (b ∷ bs) le = packed_rest high to i bs le
 
 pub moved_same : (bs : List Block) → moved_size bs bs ≡ 0
 moved_same [] = refl

@@ -4,6 +4,8 @@ pub mod Order
 pub mod Slid
 pub mod Steps
 pub mod Gathered
+pub mod Loose
+pub mod Bounded
 pub mod Skips
 pub mod Walked
 pub mod Cleared

@@ -1,54 +1,25 @@
 -- A walk to the lowest gap with room.
-use Rattle.std.proofs.Common.{◌≡◌, ℕ, zero, suc, ◌+◌, ◌-◌, ◌<◌, ◌≤◌, ◌⊎◌, inl, inr, max, Bool, true, false, cond, not, ◌&&◌, nat_le, nat_lt, filter, List, [], ◌∷◌, ◌++◌, length, take, drop, get_or, add-one, drop-cons, drop_of_length-le, refl, sym, ap, ◌∙◌, subst, arith, le-leb, lt-ltb, zero-add}
+use Rattle.std.proofs.Common.{◌≡◌, ℕ, ◌+◌, ◌<◌, ◌≤◌, ◌^◌, ◌⊎◌, inl, inr, true, false, IsTrue, List, [], ◌∷◌, ◌++◌, length, take, drop, get_or, add-one, drop_of_length-le, zero, suc, refl, sym, ap, ◌∙◌, subst, arith}
 use Rattle.std.proofs.lemmas.List.{take-append-drop}
 use Rattle.std.specs.List.{AllByRecursion}
-use Rattle.std.proofs.lemmas.Bool.{cond-true, cond-false, and_from, and_left, and_right, le-ltb, lt-leb}
+use Rattle.std.proofs.lemmas.Bool.{cases_Bool, cases_lt, cond-true, cond-false}
 use Rattle.w16_model.specs.declared.Block.{Block}
+use Rattle.w16_model.specs.declared.Hold.{Hold}
 use Rattle.w16_model.specs.declared.Hold.TheVariants.{Pinned, Loose}
-use Rattle.w16_model.specs.Gap.{IsLaid, room, is_loose, holds_still, begins_in, loose_bytes, block_end}
-use Rattle.w16_model.proofs.Longest.{sum_filter}
-use Rattle.w16_blocks.specs.Layout.{Layout, IsGrained}
+use Rattle.w16_model.specs.Gap.{IsLaid, IsGap, Misses, room, is_pinned, holds_still, loose_bytes, block_end}
 use Rattle.w16_model.specs.Heap.{IsMultiple}
+use Rattle.w16_model.proofs.Gaps.{Member, Each-at, Each-from, Each-map, Each-from_All}
+use Rattle.w16_model.proofs.Laid.{laid_placed}
+use Rattle.w16_model.proofs.Longest.{each_gap, some_gap}
+use Rattle.w16_blocks.specs.Layout.{Layout, IsOrdered, IsGrained}
 use Rattle.w16_blocks.proofs.Find.{laid_le}
-use Rattle.w16_compact.specs.Gap.{HasRoom}
-use Rattle.w16_compact.proofs.Skips.{IsPassed, passed_start, passed_end, turn_pinned, turn_loose}
-
-abbrev pub each : Block → Bool
-each x = true
-
-filter_each : (xs : List Block) → filter each xs ≡ xs
-filter_each [] = refl
-filter_each (x ∷ xs) = ap (λ ys. x ∷ ys) (filter_each xs)
-
-pub loose_one : (x : Block) (xs : List Block) (a b : ℕ) → loose_bytes (x ∷ xs) a b ≡ cond (is_loose x && begins_in a b x) x.size 0 + loose_bytes xs a b
-loose_one x xs a b = sum_filter (λ y. is_loose y && begins_in a b y) x xs
-
-pub loose_append : (xs ys : List Block) (a b : ℕ) → loose_bytes (xs ++ ys) a b ≡ loose_bytes xs a b + loose_bytes ys a b
-loose_append [] ys a b = sym (zero-add _)
-loose_append (x ∷ xs) ys a b = let one = loose_one x (xs ++ ys) a b in let two = loose_one x xs a b in let ih = loose_append xs ys a b in omega (arith, one, two, ih)
-
--- blocks that begin below a, or from b on, have no byte counted
-pub loose_none : (xs : List Block) (a b : ℕ) → AllByRecursion (λ x. (x.at < a) ⊎ (b ≤ x.at)) xs → loose_bytes xs a b ≡ 0
-loose_none [] a b all = refl
-loose_none (x ∷ xs) a b all =
-    let out : (is_loose x && begins_in a b x) ≡ false = and_right (is_loose x) (begins_in a b x) (elim all.0 [
-      | inl lt ↦ and_left (nat_le a x.at) (nat_lt x.at b) (lt-leb a x.at lt)
-      | inr le ↦ and_right (nat_le a x.at) (nat_lt x.at b) (le-ltb x.at b le)
-    ]) in
-    let one = loose_one x xs a b in
-    let two = cond-false (is_loose x && begins_in a b x) x.size 0 out in
-    let ih = loose_none xs a b all.1 in
-    omega (arith, one, two, ih)
-
-pub loose_here : (x : Block) (xs : List Block) (a b : ℕ) → x.hold ≡ Loose → a ≤ x.at → x.at < b → loose_bytes (x ∷ xs) a b ≡ x.size + loose_bytes xs a b
-loose_here x xs a b e le lt =
-    let in_it : (is_loose x && begins_in a b x) ≡ true = and_from (is_loose x) (begins_in a b x) (ap (λ h. not (holds_still h)) e) (and_from (nat_le a x.at) (nat_lt x.at b) (le-leb a x.at le) (lt-ltb x.at b lt)) in
-    let one = loose_one x xs a b in let two = cond-true (is_loose x && begins_in a b x) x.size 0 in_it in
-    omega (arith, one, two)
-
-pub each_map : (P Q : Block → Type 0) → ((x : Block) → P x → Q x) → (xs : List Block) → AllByRecursion P xs → AllByRecursion Q xs
-each_map P Q f [] all = tt
-each_map P Q f (x ∷ xs) all = (f x all.0, each_map P Q f xs all.1)
+use Rattle.w16_compact.specs.Gather.{MayGather}
+use Rattle.w16_compact.specs.declared.gaps.Gap.{Gap}
+use Rattle.w16_compact.specs.declared.reach.Reached.{Reached}
+use Rattle.w16_compact.specs.Gap.{HasRoom, IsLowest}
+use Rattle.w16_compact.proofs.Loose.{loose_append, loose_none, loose_here}
+use Rattle.w16_compact.proofs.Bounded.{IsFloor, IsCeiling, between, clear_pinned}
+use Rattle.w16_compact.proofs.Skips.{passed, cut_at, each_at}
 
 pub each_append : (P : Block → Type 0) (xs ys : List Block) → AllByRecursion P xs → AllByRecursion P ys → AllByRecursion P (xs ++ ys)
 each_append P [] ys all more = more
@@ -58,150 +29,204 @@ pub laid_from : (low hi : ℕ) (xs : List Block) → IsLaid low hi xs → AllByR
 laid_from low hi [] laid = tt
 laid_from low hi (x ∷ xs) laid =
     let one = laid.0 in
-    ((laid.0, laid.1), each_map (λ y. (x.at + x.size ≤ y.at) × (0 < y.size)) (λ y. (low ≤ y.at) × (0 < y.size)) (λ y f. let k = f.0 in (omega arith, f.1)) xs (laid_from (x.at + x.size) hi xs laid.2))
+    ((laid.0, laid.1), Each-map (λ y. (block_end x ≤ y.at) × (0 < y.size)) (λ y. (low ≤ y.at) × (0 < y.size)) (λ y f. let k = f.0 in (omega arith, f.1)) xs (laid_from (block_end x) hi xs laid.2))
+
+not_pinned : (h : Hold) → holds_still h ≡ false → h ≡ Loose
+not_pinned Pinned e = cc
+not_pinned Loose e = refl
 
 -- where a block lies that the walk has passed
-abbrev pub IsBehind : ℕ → ℕ → Block → Type 0
-IsBehind start mid x = (0 < x.size) × ((block_end x ≤ start) ⊎ ((start ≤ x.at) × (block_end x ≤ mid) × (x.hold ≡ Loose)))
+abbrev IsBehind : ℕ → ℕ → Block → Type 0
+IsBehind low mid x = (0 < x.size) × ((block_end x ≤ low) ⊎ ((low ≤ x.at) × (block_end x ≤ mid) × (x.hold ≡ Loose)))
 
-module _ (l : Layout) (n : ℕ) where
+module _ (l : Layout) (n : ℕ) (ordered : IsOrdered l) where
   abbrev xs : List Block
   xs = l.blocks
 
-  pub record IsWalked (i start used : ℕ) : Type 0 where
-    pub best : ℕ
-    pub less : best < n
-    pub passed : IsPassed each l.hi xs (room l.lo l.hi (filter each xs)) i best start used
-    pub from : l.lo ≤ start
-    pub grained : IsMultiple l.grain start
+  -- what holds before the i-th block, where those before it end at or below `mid`
+  pub record IsWalked (i : ℕ) (r : Reached) : Type 0 where
     pub mid : ℕ
     pub laid : IsLaid mid l.hi (drop i xs)
-    pub above : start ≤ mid
-    pub before : AllByRecursion (IsBehind start mid) (take i xs)
-    pub sizes : (b : ℕ) → mid ≤ b → loose_bytes (take i xs) start b ≡ used
+    pub fits : r.low + r.loose ≤ mid
+    pub from : l.lo ≤ r.low
+    pub grained : IsMultiple l.grain r.low
+    pub floor : IsFloor (λ x. IsTrue (is_pinned x)) l.lo xs r.low
+    pub before : AllByRecursion (IsBehind r.low mid) (take i xs)
+    pub sizes : (b : ℕ) → mid ≤ b → loose_bytes (take i xs) r.low b ≡ r.loose
+    pub lowest : IsLowest l n r.low
 
-  pub walked_start : IsLaid l.lo l.hi xs → IsMultiple l.grain l.lo → 0 < n → IsWalked 0 l.lo 0
-  walked_start laid grained some = record {
-    best = 0;
-    less = some;
-    passed = passed_start each l.lo l.hi xs laid;
-    from = omega arith;
-    grained = grained;
+  pub walked_start : (low : ℕ) → low ≡ l.lo → IsWalked 0 (record { low = low; loose = 0 })
+  walked_start low e = record {
     mid = l.lo;
-    laid = laid;
-    above = omega arith;
+    laid = ordered.laid;
+    fits = omega arith;
+    from = omega arith;
+    grained = (ordered.from.0, e ∙ ordered.from.1);
+    floor = inl e;
     before = tt;
     sizes = λ b le. refl;
+    lowest = λ a b gap enough. let above = gap.clear.above in omega arith;
   }
 
-  module _ (i start used : ℕ) (d : Block) (lt : i < length xs) (now : IsWalked i start used) where
+  -- the gap reached, where it ends at a place and the blocks from here on begin at it or behind
+  module _ (i : ℕ) (r : Reached) (now : IsWalked i r) (high : ℕ) (far : now.mid ≤ high) (inside : high ≤ l.hi) (ahead : AllByRecursion (λ x. high ≤ x.at) (drop i xs)) where
+    pub may_here : MayGather l r.low high
+    may_here = let one = now.fits in record {
+      inside = (now.from, omega arith, inside);
+      loose = subst (AllByRecursion _) (take-append-drop i xs) (each_append _ (take i xs) (drop i xs)
+          (Each-map (IsBehind r.low now.mid) _ (λ b f. elim f.1 [ inl e ↦ inl e | inr k ↦ let m = k.1 in inr (inr (k.0, omega arith, k.2)) ]) (take i xs) now.before)
+          (Each-map (λ x. high ≤ x.at) _ (λ b f. inr (inl f)) (drop i xs) ahead));
+    }
+
+    pub loose_is : r.loose ≡ loose_bytes xs r.low high
+    loose_is =
+        let none : loose_bytes (drop i xs) r.low high ≡ 0 = loose_none (drop i xs) r.low high (Each-map (λ x. high ≤ x.at) _ (λ b f. inr f) (drop i xs) ahead) in
+        let front = now.sizes high far in
+        let whole : loose_bytes (take i xs ++ drop i xs) r.low high ≡ r.loose = loose_append (take i xs) (drop i xs) r.low high ∙ omega (arith, none, front) in
+        sym (ap (λ ys. loose_bytes ys r.low high) (sym (take-append-drop i xs)) ∙ whole)
+
+    pub room_here : 0 < n → r.low + r.loose + n ≤ high → IsCeiling (λ x. IsTrue (is_pinned x)) l.hi xs high → HasRoom l n (record { low = r.low; high = high; loose = r.loose })
+    room_here some enough ceiling = record {
+      gap = between l.lo l.hi xs ordered.laid is_pinned r.low high (omega arith) (clear_pinned l r.low high may_here) now.floor ceiling;
+      loose = loose_is;
+      room = enough;
+      grained = now.grained;
+      may = may_here;
+    }
+
+    -- a gap inside it is the same, and has no room where this one has none
+    pub no_room : high < r.low + r.loose + n → (a b : ℕ) → IsGap l.lo l.hi xs a b → r.low ≤ a → b ≤ high → a + loose_bytes xs a b + n ≤ b → ⊥
+    no_room less a b gap low_below b_below enough =
+        let same : (r.low ≡ a) × (high ≡ b) = gap.maximal r.low high low_below b_below (clear_pinned l r.low high may_here) in
+        let k : loose_bytes xs a b ≡ r.loose = ap (λ v. loose_bytes xs v b) (sym same.0) ∙ ap (loose_bytes xs r.low) (sym same.1) ∙ sym loose_is in
+        let one = same.0 in let two = same.1 in
+        omega arith
+
+  -- a turn of the walk, over a slice of these blocks
+  module _ (all : List Block) (same : all ≡ xs) (d : Block) (i : ℕ) (lt : i < length all) (r : Reached) (now : IsWalked i r) where
     abbrev x : Block
-    x = get_or xs i d
+    x = get_or all i d
 
-    cut_here : drop i xs ≡ x ∷ drop (i + 1) xs
-    cut_here = rw (add-one, drop-cons xs i d)
+    cut : drop i xs ≡ x ∷ drop (i + 1) xs
+    cut = cut_at all xs d i same lt
 
-    taken_here : take (i + 1) xs ≡ take i xs ++ x ∷ []
-    taken_here = turn i xs d lt
+    taken : take (i + 1) xs ≡ take i xs ++ x ∷ []
+    taken = turn i xs (drop (i + 1) xs) cut
       where
-        turn : (i : ℕ) (ys : List Block) (d : Block) → i < length ys → take (i + 1) ys ≡ take i ys ++ get_or ys i d ∷ []
-        turn i ys d lt = rw add-one (step i ys d lt)
+        turn : (i : ℕ) (ys rest : List Block) → drop i ys ≡ x ∷ rest → take (i + 1) ys ≡ take i ys ++ x ∷ []
+        turn i ys rest e = rw add-one (step i ys rest e)
           where
-            step : (i : ℕ) (ys : List Block) (d : Block) → i < length ys → take (suc i) ys ≡ take i ys ++ get_or ys i d ∷ []
-            step i [] d lt = absurd (omega arith)
-            step zero (y ∷ ys) d lt = refl
-            step (suc i) (y ∷ ys) d lt = ap (λ zs. y ∷ zs) (step i ys d (omega arith))
+            step : (i : ℕ) (ys rest : List Block) → drop i ys ≡ x ∷ rest → take (suc i) ys ≡ take i ys ++ x ∷ []
+            step zero [] rest e = cc
+            step zero (y ∷ ys) rest e = let h : y ≡ x = cc in ap (λ (z : Block). z ∷ []) h
+            step (suc i) [] rest e = cc
+            step (suc i) (y ∷ ys) rest e = ap (λ zs. y ∷ zs) (step i ys rest e)
 
     laid_here : (now.mid ≤ x.at) × (0 < x.size) × IsLaid (block_end x) l.hi (drop (i + 1) xs)
-    laid_here = subst (IsLaid now.mid l.hi) cut_here now.laid
+    laid_here = subst (IsLaid now.mid l.hi) cut now.laid
+
+    ends_here : block_end x ≤ l.hi
+    ends_here = laid_le (block_end x) l.hi (drop (i + 1) xs) laid_here.2
+
+    pub reaches : r.low + r.loose ≤ x.at
+    reaches = let one = laid_here.0 in let two = now.fits in omega arith
+
+    pub fits_here : (block_end x < 2 ^ 32) × (r.loose + x.size < 2 ^ 32)
+    fits_here = let one = ends_here in let two = reaches in let small = ordered.small in (omega arith, omega arith)
+
+    ahead : AllByRecursion (λ y. x.at ≤ y.at) (drop i xs)
+    ahead = subst (AllByRecursion (λ y. x.at ≤ y.at)) (sym cut) (Each-map (λ y. (x.at ≤ y.at) × (0 < y.size)) (λ y. x.at ≤ y.at) (λ y f. f.0) (x ∷ drop (i + 1) xs) (laid_from x.at l.hi (x ∷ drop (i + 1) xs) (omega arith, laid_here.1, laid_here.2)))
+
+    member : Member x xs
+    member = each_at (λ y. Member y xs) all xs d i same lt (Each-from (λ y. Member y xs) xs (λ y m. m))
 
     -- the gap that ends here
-    pub gap_here : n ≤ x.at - start - used → 0 < n → HasRoom l n (record { low = start; high = x.at; loose = used })
-    gap_here room some =
-        let far = laid_here.0 in let above = now.above in
-        let all : AllByRecursion (λ b. (block_end b ≤ start) ⊎ ((x.at ≤ b.at) ⊎ ((start ≤ b.at) × (block_end b ≤ x.at) × (b.hold ≡ Loose)))) (take i xs ++ drop i xs) =
-        each_append _ (take i xs) (drop i xs)
-        (each_map (IsBehind start now.mid) _ (λ b f. elim f.1 [ inl e ↦ inl e | inr k ↦ let m = k.1 in inr (inr (k.0, omega arith, k.2)) ]) (take i xs) now.before)
-        (each_map (λ y. (x.at ≤ y.at) × (0 < y.size)) _ (λ b f. inr (inl f.0)) (drop i xs) (subst (AllByRecursion (λ y. (x.at ≤ y.at) × (0 < y.size))) (sym cut_here) (laid_from x.at l.hi (x ∷ drop (i + 1) xs) (omega arith, laid_here.1, laid_here.2)))) in
-        let ahead : loose_bytes (drop i xs) start x.at ≡ 0 =
-        loose_none (drop i xs) start x.at (each_map (λ y. (x.at ≤ y.at) × (0 < y.size)) _ (λ b f. inr f.0) (drop i xs) (subst (AllByRecursion (λ y. (x.at ≤ y.at) × (0 < y.size))) (sym cut_here) (laid_from x.at l.hi (x ∷ drop (i + 1) xs) (omega arith, laid_here.1, laid_here.2)))) in
-        let behind = now.sizes x.at far in
-        let whole : loose_bytes (take i xs ++ drop i xs) start x.at ≡ used = loose_append (take i xs) (drop i xs) start x.at ∙ omega (arith, ahead, behind) in
-        let some_here = laid_here.1 in
-        let end = laid_le (block_end x) l.hi (drop (i + 1) xs) laid_here.2 in
+    pub gap_here : IsTrue (is_pinned x) → 0 < n → r.low + r.loose + n ≤ x.at → HasRoom l n (record { low = r.low; high = x.at; loose = r.loose })
+    gap_here pinned some enough = let end = ends_here in room_here i r now x.at laid_here.0 (omega arith) ahead some enough (inr (x, member, pinned, refl))
+
+    walked_pinned : is_pinned x ≡ true → x.at < r.low + r.loose + n → IsWalked (i + 1) (record { low = block_end x; loose = 0 })
+    walked_pinned pinned less =
+        let far = laid_here.0 in let fit = now.fits in let from = now.from in let end = ends_here in
         record {
-          may = record { inside = (now.from, omega arith, omega arith); loose = subst (AllByRecursion _) (take-append-drop i xs) all };
-          loose = sym (ap (λ ys. loose_bytes ys start x.at) (sym (take-append-drop i xs)) ∙ whole);
-          room = omega arith;
+          mid = block_end x;
+          laid = laid_here.2;
+          fits = omega arith;
+          from = omega arith;
+          grained = let grained = each_at (IsGrained l.grain) all xs d i same lt ordered.grained in let g = grained.0 in let h = grained.1 in (g.0 + h.0, let u = g.1 in let v = h.1 in omega (arith, u, v));
+          floor = inr (x, member, pinned, refl);
+          before = subst (AllByRecursion (IsBehind (block_end x) (block_end x))) (sym taken) (each_append _ (take i xs) (x ∷ [])
+              (Each-map (IsBehind r.low now.mid) _ (λ b f. (f.0, elim f.1 [ inl k ↦ inl (omega arith) | inr k ↦ let m = k.1 in inl (omega arith) ])) (take i xs) now.before)
+              ((laid_here.1, inl (omega arith)), tt));
+          sizes = λ b le. ap (λ ys. loose_bytes ys (block_end x) b) taken ∙ loose_none (take i xs ++ x ∷ []) (block_end x) b (each_append _ (take i xs) (x ∷ [])
+              (Each-map (IsBehind r.low now.mid) _ (λ b f. let s = f.0 in inl (elim f.1 [ inl k ↦ omega arith | inr k ↦ let m = k.1 in omega arith ])) (take i xs) now.before)
+              (inl (let s = laid_here.1 in omega arith), tt));
+          lowest = λ a b gap enough. elim (Each-at (λ y. IsTrue (is_pinned y) → Misses y.at y.size a b) xs (Each-from_All _ xs gap.clear.misses) x member pinned) [
+            | inl k ↦ k
+            | inr k ↦ absurd (no_room i r now x.at far (omega arith) ahead less a b gap (now.lowest a b gap enough) k enough)
+          ];
+        }
+
+    walked_loose : is_pinned x ≡ false → IsWalked (i + 1) (record { low = r.low; loose = r.loose + x.size })
+    walked_loose loose =
+        let far = laid_here.0 in let fit = now.fits in
+        let e = not_pinned x.hold loose in
+        record {
+          mid = block_end x;
+          laid = laid_here.2;
+          fits = omega arith;
+          from = now.from;
           grained = now.grained;
-        }
-
-    pub walked_pinned : IsGrained l.grain x → x.hold ≡ Pinned → (x.at - start - used < n) → (start' used' : ℕ) → start' ≡ x.at + x.size → used' ≡ 0 → IsWalked (i + 1) start' used'
-    walked_pinned grained e less start' used' q r =
-        let far = laid_here.0 in let above = now.above in let some = laid_here.1 in let from = now.from in let l1 = now.less in
-        record {
-          best = max now.best (x.at - start - used);
-          less = omega arith;
-          passed = turn_pinned each l.hi xs _ i d lt now.best start used now.passed refl e (max now.best (x.at - start - used)) start' used' refl q r;
-          from = omega arith;
-          grained = let g = grained.0 in let h = grained.1 in (g.0 + h.0, let u = g.1 in let v = h.1 in omega (arith, u, v, q));
-          mid = block_end x;
-          laid = laid_here.2;
-          above = omega arith;
-          before = subst (AllByRecursion (IsBehind start' (block_end x))) (sym taken_here) (each_append _ (take i xs) (x ∷ [])
-              (each_map (IsBehind start now.mid) _ (λ b f. (f.0, elim f.1 [ inl k ↦ inl (omega arith) | inr k ↦ let m = k.1 in inl (omega arith) ])) (take i xs) now.before)
-              ((some, inl (omega arith)), tt));
-          sizes = λ b le. ap (λ ys. loose_bytes ys start' b) taken_here ∙ loose_none (take i xs ++ x ∷ []) start' b (each_append _ (take i xs) (x ∷ [])
-              (each_map (IsBehind start now.mid) _ (λ b f. let s = f.0 in inl (elim f.1 [ inl k ↦ omega arith | inr k ↦ let m = k.1 in omega arith ])) (take i xs) now.before)
-              (inl (omega arith), tt)) ∙ sym r;
-        }
-
-    pub walked_loose : x.hold ≡ Loose → (start' used' : ℕ) → start' ≡ start → used' ≡ used + x.size → IsWalked (i + 1) start' used'
-    walked_loose e start' used' q r =
-        let far = laid_here.0 in let above = now.above in let some = laid_here.1 in let from = now.from in
-        record {
-          best = now.best;
-          less = now.less;
-          passed = turn_loose each l.hi xs _ i d lt now.best start used now.passed refl e now.best start' used' refl q r;
-          from = omega arith;
-          grained = (now.grained.0, q ∙ now.grained.1);
-          mid = block_end x;
-          laid = laid_here.2;
-          above = omega arith;
-          before = subst (AllByRecursion (IsBehind start' (block_end x))) (sym taken_here) (each_append _ (take i xs) (x ∷ [])
-              (each_map (IsBehind start now.mid) _ (λ b f. (f.0, elim f.1 [ inl k ↦ inl (omega arith) | inr k ↦ let j = k.0 in let m = k.1 in inr (omega arith, omega arith, k.2) ])) (take i xs) now.before)
-              ((some, inr (omega arith, omega arith, e)), tt));
+          floor = now.floor;
+          before = subst (AllByRecursion (IsBehind r.low (block_end x))) (sym taken) (each_append _ (take i xs) (x ∷ [])
+              (Each-map (IsBehind r.low now.mid) _ (λ b f. (f.0, elim f.1 [ inl k ↦ inl k | inr k ↦ let m = k.1 in inr (k.0, omega arith, k.2) ])) (take i xs) now.before)
+              ((laid_here.1, inr (omega arith, omega arith, e)), tt));
           sizes = λ b le.
-              let one = loose_append (take i xs) (x ∷ []) start b in
-              let two = loose_here x [] start b e (omega arith) (omega arith) in
-              let none : loose_bytes [] start b ≡ 0 = refl in
+              let s = laid_here.1 in
+              let one = loose_append (take i xs) (x ∷ []) r.low b in
+              let two = loose_here x [] r.low b e (omega arith) (omega arith) in
+              let none : loose_bytes [] r.low b ≡ 0 = refl in
               let old = now.sizes b (omega arith) in
-              (λ j. loose_bytes (taken_here j) (q j) b) ∙ omega (arith, one, two, none, old, r);
+              ap (λ ys. loose_bytes ys r.low b) taken ∙ omega (arith, one, two, none, old);
+          lowest = now.lowest;
         }
 
-  pub gap_last : (i start used : ℕ) → length xs ≤ i → IsWalked i start used → n ≤ l.hi - start - used → 0 < n → HasRoom l n (record { low = start; high = l.hi; loose = used })
-  gap_last i start used long now room some =
-      let none : drop i xs ≡ [] = drop_of_length-le xs long in
-      let high : now.mid ≤ l.hi = subst (IsLaid now.mid l.hi) none now.laid in
-      let above = now.above in
-      let whole : take i xs ≡ xs = sym (append_nil (take i xs)) ∙ ap (λ ys. take i xs ++ ys) (sym none) ∙ take-append-drop i xs in
-      record {
-        may = record {
-          inside = (now.from, omega arith, omega arith);
-          loose = subst (AllByRecursion _) whole (each_map (IsBehind start now.mid) _ (λ b f. elim f.1 [ inl e ↦ inl e | inr k ↦ let m = k.1 in inr (inr (k.0, omega arith, k.2)) ]) (take i xs) now.before);
-        };
-        loose = sym (ap (λ ys. loose_bytes ys start l.hi) (sym whole) ∙ now.sizes l.hi high);
-        room = omega arith;
-        grained = now.grained;
-      }
-    where
-      append_nil : (ys : List Block) → ys ++ [] ≡ ys
-      append_nil [] = refl
-      append_nil (y ∷ ys) = ap (λ zs. y ∷ zs) (append_nil ys)
+    -- behind a block that ends no gap with room
+    pub walked_next : (IsTrue (is_pinned x) → x.at < r.low + r.loose + n) → (r' : Reached) → r' ≡ passed r x → IsWalked (i + 1) r'
+    walked_next less r' e = elim (cases_Bool (is_pinned x)) [
+      | inl t ↦ subst (IsWalked (i + 1)) (sym (e ∙ cond-true (is_pinned x) _ _ t)) (walked_pinned t (less t))
+      | inr t ↦ subst (IsWalked (i + 1)) (sym (e ∙ cond-false (is_pinned x) _ _ t)) (walked_loose t)
+    ]
 
-  pub none_found : (i start used : ℕ) → length xs ≤ i → IsWalked i start used → l.hi - start - used < n → room l.lo l.hi xs < n
-  none_found i start used long now less =
-      let end = (passed_end each l.hi xs _ i now.best start used long now.passed).0 in
-      let l1 = now.less in
-      let k : room l.lo l.hi (filter each xs) < n = omega (arith, end) in
-      subst (λ ys. room l.lo l.hi ys < n) (filter_each xs) k
+  -- at the end
+  module _ (i : ℕ) (r : Reached) (now : IsWalked i r) (long : length xs ≤ i) where
+    none : drop i xs ≡ []
+    none = drop_of_length-le xs long
+
+    high : now.mid ≤ l.hi
+    high = subst (IsLaid now.mid l.hi) none now.laid
+
+    pub reaches_end : r.low + r.loose ≤ l.hi
+    reaches_end = let one = high in let two = now.fits in omega arith
+
+    ahead_none : AllByRecursion (λ x. l.hi ≤ x.at) (drop i xs)
+    ahead_none = subst (AllByRecursion (λ x. l.hi ≤ x.at)) (sym none) tt
+
+    pub gap_last : 0 < n → r.low + r.loose + n ≤ l.hi → HasRoom l n (record { low = r.low; high = l.hi; loose = r.loose })
+    gap_last some enough = room_here i r now l.hi high (omega arith) ahead_none some enough (inl refl)
+
+    pub none_found : 0 < n → l.hi < r.low + r.loose + n → room l.lo l.hi xs < n
+    none_found some less = elim (cases_lt (room l.lo l.hi xs) n) [
+      | inl lt ↦ lt
+      | inr ge ↦
+          let best = some_gap l.lo l.hi xs (laid_placed l.lo l.hi xs ordered.laid) (omega arith) in
+          let is = best.3 in
+          let enough : best.0 + loose_bytes xs best.0 best.1 + n ≤ best.1 = omega arith in
+          absurd (no_room i r now l.hi high (omega arith) ahead_none less best.0 best.1 best.2 (now.lowest best.0 best.1 best.2 enough) best.2.clear.below enough)
+    ]
+
+  -- what is found is no more than the room
+  pub enough_room : (g : Gap) → HasRoom l n g → n ≤ room l.lo l.hi xs
+  enough_room g found =
+      let most = each_gap l.lo l.hi xs (laid_placed l.lo l.hi xs ordered.laid) g.low g.high found.gap in
+      let one = found.loose in let two = found.room in
+      omega arith

@@ -1,5 +1,5 @@
 -- Blocks slid to the low end of a gap.
-use Rattle.std.specs.Prelude.{ℕ, IsTrue, ◌+◌, ◌≤◌, ◌≡◌, ◌==◌, ◌⊎◌, nat_lt, cond, List, [], ◌∷◌, map}
+use Rattle.std.specs.Prelude.{ℕ, IsTrue, ◌+◌, ◌≤◌, ◌≡◌, ◌==◌, ◌⊎◌, nat_lt, if◌then◌else◌, List, [], ◌∷◌, map}
 use Rattle.std.specs.List.{AllByRecursion}
 use Rattle.w16_region.specs.Bytes.{part}
 use Rattle.w16_model.specs.declared.Block.{Block}
@@ -7,30 +7,34 @@ use Rattle.w16_model.specs.declared.Hold.TheVariants.{Loose}
 use Rattle.w16_model.specs.Gap.{block_end, is_pinned}
 use Rattle.w16_blocks.specs.Layout.{Layout}
 
--- the blocks up to an address, one after another from `to` on, and the others as they are
+-- blocks by address, those below `high` one after another from `to` on, and the others as they are
 abbrev pub packed : ℕ → ℕ → List Block → List Block
 packed high to [] = []
-packed high to (b ∷ bs) = cond (nat_lt b.at high) (record b { at = to } ∷ packed high (to + b.size) bs) (b ∷ bs)
+packed high to (b ∷ bs) = if nat_lt b.at high then record b { at = to } ∷ packed high (to + b.size) bs else b ∷ bs
 
--- the blocks, those from `low` to `high` slid to `low`
+-- blocks by address, those of [low, high) one after another from `low` on, and the others as they are
 abbrev pub gathered : ℕ → ℕ → List Block → List Block
 gathered low high [] = []
-gathered low high (b ∷ bs) = cond (nat_lt b.at low) (b ∷ gathered low high bs) (packed high low (b ∷ bs))
+gathered low high (b ∷ bs) = if nat_lt b.at low then b ∷ gathered low high bs else packed high low (b ∷ bs)
 
 -- each block's id and bytes
 abbrev pub contents : List ℕ → List Block → List (ℕ × List ℕ)
 contents bytes bs = map (λ b. (b.id, part bytes b.at b.size)) bs
 
--- the sizes of the blocks whose place changed
+-- the sizes of the blocks whose address changed, together
 abbrev pub moved_size : List Block → List Block → ℕ
 moved_size [] cs = 0
 moved_size (b ∷ bs) [] = 0
-moved_size (b ∷ bs) (c ∷ cs) = cond (b.at == c.at) 0 b.size + moved_size bs cs
+moved_size (b ∷ bs) (c ∷ cs) = (if b.at == c.at then 0 else b.size) + moved_size bs cs
 
--- no pinned byte lies from `low` to `high`, and no block reaches over an end
+-- a block that lies below [low, high), or above it, or inside and may slide
+abbrev pub FitsGap : ℕ → ℕ → Block → Type 0
+FitsGap low high b = (block_end b ≤ low) ⊎ ((high ≤ b.at) ⊎ ((low ≤ b.at) × (block_end b ≤ high) × (b.hold ≡ Loose)))
+
+-- [low, high) has no pinned byte, and no block reaches over an end of it
 pub record MayGather (l : Layout) (low high : ℕ) : Type 0 where
   pub inside : (l.lo ≤ low) × (low ≤ high) × (high ≤ l.hi)
-  pub loose : AllByRecursion (λ b. (block_end b ≤ low) ⊎ ((high ≤ b.at) ⊎ ((low ≤ b.at) × (block_end b ≤ high) × (b.hold ≡ Loose)))) l.blocks
+  pub loose : AllByRecursion (FitsGap low high) l.blocks
 
 -- the same blocks in the same order, at any addresses, the pinned ones where they were
 abbrev pub AreSlid : List Block → List Block → Type 0

@@ -1,12 +1,14 @@
 // The lowest gap with room.
-ghost use Rattle.std.specs.Prelude.{◌≡◌, ◌<◌, MatchOption};
-ghost use Rattle.w16_model.specs.Gap.{room};
+ghost use Rattle.std.specs.Prelude.{◌≡◌, ◌+◌, ◌<◌, ◌≤◌, IsTrue, IsSome, IfSome, MatchOption};
+ghost use Rattle.w16_model.specs.Gap.{room, is_pinned};
 ghost use Rattle.w16_blocks.specs.Layout.{IsOrdered};
-ghost use Rattle.w16_compact.specs.Gap.{HasRoom};
+ghost use Rattle.w16_compact.specs.Gap.{HasRoom, IsLowest};
 
-use w16_blocks::{Blocks, Hold};
+use crate::reach::Reached;
+use w16_blocks::{Block, Blocks, Hold};
 
-/// A gap, from its first byte up to the place behind its last one, with the bytes of its loose blocks.
+/// A gap: a longest interval without a byte of a pinned block, from `low` up to `high`, the place
+/// behind its last byte. `loose` is the bytes of its loose blocks together.
 #[derive(Clone, Copy, Debug, PartialEq, Eq)]
 pub struct Gap {
     pub low: u32,
@@ -14,37 +16,58 @@ pub struct Gap {
     pub loose: u32,
 }
 
-/// The lowest gap that has room for `n` bytes beside its loose blocks.
+/// The lowest gap that has room for `n` bytes beside its loose blocks (lowest: profile). There is
+/// one just where the room is at least `n`.
 pub fn gap_for(blocks: &Blocks, n: u32) -> Option<Gap>
     requires { 0 < n }
-    ensures found { MatchOption result (room blocks.now.lo blocks.now.hi blocks.now.blocks < n) (HasRoom blocks.now n) }
+    ensures found { MatchOption result
+        (room blocks.now.lo blocks.now.hi blocks.now.blocks < n)
+        (HasRoom blocks.now n) }
+    ensures enough { IsSome result → n ≤ room blocks.now.lo blocks.now.hi blocks.now.blocks }
+    ensures lowest { IfSome result (λ g. IsLowest blocks.now n g.low) }
     ensures ordered { IsOrdered blocks.now }
 {
     let bounds = blocks.bounds();
-    let all = blocks.as_slice();
-    let mut start = bounds.from;
-    let mut used = 0;
-    for block in all {
-        match block.hold {
-            Hold::Pinned => {
-                if n <= block.at - start - used {
-                    return Some(Gap {
-                        low: start,
-                        high: block.at,
-                        loose: used,
-                    });
-                }
-                start = block.at + block.size;
-                used = 0;
-            }
-            Hold::Loose => used += block.size,
+    let mut reached = Reached {
+        low: bounds.from,
+        loose: 0,
+    };
+    for block in blocks.as_slice() {
+        if let Some(gap) = gap_before(reached, block, n) {
+            return Some(gap);
         }
+        reached = reached.passing(block);
     }
-    if n <= bounds.to - start - used {
+    gap_to(reached, bounds.to, n)
+}
+
+/// The gap that ends where a block begins, if the block is pinned and the gap has room.
+fn gap_before(reached: Reached, block: &Block, n: u32) -> Option<Gap>
+    requires { reached.low + reached.loose ≤ block.now.at }
+    ensures { MatchOption result
+        (IsTrue (is_pinned block.now) → block.now.at < reached.low + reached.loose + n)
+        (λ g. (g ≡ record { low = reached.low; high = block.now.at; loose = reached.loose })
+        × (reached.low + reached.loose + n ≤ block.now.at) × IsTrue (is_pinned block.now)) }
+{
+    match block.hold {
+        Hold::Pinned => gap_to(reached, block.at, n),
+        Hold::Loose => None,
+    }
+}
+
+/// The gap that ends at a place, if it has room.
+fn gap_to(reached: Reached, high: u32, n: u32) -> Option<Gap>
+    requires { reached.low + reached.loose ≤ high }
+    ensures { MatchOption result
+        (high < reached.low + reached.loose + n)
+        (λ g. (g ≡ record { low = reached.low; high = high; loose = reached.loose })
+        × (reached.low + reached.loose + n ≤ high)) }
+{
+    if n <= reached.room_to(high) {
         return Some(Gap {
-            low: start,
-            high: bounds.to,
-            loose: used,
+            low: reached.low,
+            high,
+            loose: reached.loose,
         });
     }
     None

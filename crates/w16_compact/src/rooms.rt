@@ -1,34 +1,43 @@
 // The room of blocks, some of them not counted.
-ghost use Rattle.std.specs.Prelude.{◌≡◌, ◌≤◌, length};
+ghost use Rattle.std.specs.Prelude.{◌≡◌, ◌<◌, ◌≤◌, length};
 ghost use Rattle.w16_model.specs.Gap.{room};
 ghost use Rattle.w16_blocks.specs.Layout.{IsOrdered};
-ghost use Rattle.w16_compact.specs.Skip.{counted_of};
+ghost use Rattle.w16_compact.specs.Skip.{is_counted, counted_of};
 
-use w16_blocks::{Blocks, Hold};
+use crate::reach::{Reached, is_pinned};
+use w16_blocks::{Block, Blocks};
 
-/// The largest, over all gaps, of a gap's length less the sizes of its loose blocks. The blocks of skipped ids stand for free bytes.
+/// The longest stretch that sliding can free: the largest, over all gaps, of a gap's length less
+/// the bytes of its loose blocks, 0 where there is no gap. The blocks of the ids that `skip` marks
+/// are left out, pinned ones too: their bytes are free ones.
 pub fn room(blocks: &Blocks, skip: &[bool]) -> u32
     requires { blocks.now.cap ≤ length skip.now }
-    ensures value { result ≡ room blocks.now.lo blocks.now.hi (counted_of skip.now blocks.now.blocks) }
+    ensures value { result
+        ≡ room blocks.now.lo blocks.now.hi (counted_of skip.now blocks.now.blocks) }
     ensures ordered { IsOrdered blocks.now }
 {
     let bounds = blocks.bounds();
-    let all = blocks.as_slice();
-    let mut best = 0;
-    let mut start = bounds.from;
-    let mut used = 0;
-    for block in all {
-        if skip[block.id as usize] {
+    let mut reached = Reached {
+        low: bounds.from,
+        loose: 0,
+    };
+    let mut most = 0;
+    for block in blocks.as_slice() {
+        if !is_counted(block, skip) {
             continue;
         }
-        match block.hold {
-            Hold::Pinned => {
-                best = best.max(block.at - start - used);
-                start = block.at + block.size;
-                used = 0;
-            }
-            Hold::Loose => used += block.size,
+        if is_pinned(block) {
+            most = most.max(reached.room_to(block.at));
         }
+        reached = reached.passing(block);
     }
-    best.max(bounds.to - start - used)
+    most.max(reached.room_to(bounds.to))
+}
+
+/// Whether a block's id isn't marked.
+fn is_counted(block: &Block, skip: &[bool]) -> bool
+    requires { block.now.id < length skip.now }
+    ensures { result ≡ is_counted skip.now block.now }
+{
+    !skip[block.id as usize]
 }

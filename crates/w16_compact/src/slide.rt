@@ -1,8 +1,8 @@
 // Loose blocks slide to the low end of a gap.
-ghost use Rattle.std.specs.Prelude.{◌≡◌, ◌+◌, ◌<◌, ◌≤◌, ◌==◌, length, take, slice_get, slice_set, if◌then◌else◌};
+ghost use Rattle.std.specs.Prelude.{◌≡◌, ℕ, ◌+◌, ◌<◌, ◌≤◌, ◌⊎◌, ◌==◌, length, take, drop, slice_get, slice_set, if◌then◌else◌, MatchOption, IfSome};
 ghost use Rattle.std.specs.List.{AllByRecursion};
 ghost use Rattle.w16_region.specs.Bytes.{counted};
-ghost use Rattle.w16_model.specs.Gap.{block_end, is_any, IsClear, loose_bytes};
+ghost use Rattle.w16_model.specs.Gap.{block_end, is_any, IsClear, IsGap, IsHole, loose_bytes};
 ghost use Rattle.w16_model.specs.Heap.{IsMultiple};
 ghost use Rattle.w16_blocks.specs.Layout.{IsOrdered};
 ghost use Rattle.w16_compact.specs.Gather.{gathered, contents, moved_size, MayGather, AreSlid};
@@ -10,34 +10,60 @@ ghost use Rattle.w16_compact.specs.Gather.{gathered, contents, moved_size, MayGa
 use w16_blocks::{Block, Blocks};
 use w16_region::Space;
 
-/// Slides the blocks between two addresses to the lower one, in their order. Answers how many bytes were moved.
+/// Slides the loose blocks between two addresses to the lower one, in their order, so that what is
+/// free there is behind them. Of a gap one hole is left, or none where the blocks fill it.
+///
+/// Answers how many bytes were moved: the sizes of the blocks whose address changed. No other byte
+/// was written, and none twice.
 pub fn gather<S: Space>(blocks: &mut Blocks, space: &mut S, low: u32, high: u32) -> u64
     requires gap { MayGather blocks.old low high }
     requires grained { IsMultiple blocks.old.grain low }
     requires inside { blocks.old.hi ≤ length (S.bytes space.old) }
     ensures blocks { blocks.new ≡ record blocks.old { blocks = gathered low high blocks.old.blocks } }
+    ensures ordered { IsOrdered blocks.new }
     ensures slid { AreSlid blocks.old.blocks blocks.new.blocks }
-    ensures clear { IsClear is_any blocks.old.lo blocks.old.hi blocks.new.blocks (low + loose_bytes blocks.old.blocks low high) high }
-    ensures bytes { contents (S.bytes space.new) blocks.new.blocks ≡ contents (S.bytes space.old) blocks.old.blocks }
-    ensures size { length (S.bytes space.new) ≡ length (S.bytes space.old) }
+    ensures contents { contents (S.bytes space.new) blocks.new.blocks
+        ≡ contents (S.bytes space.old) blocks.old.blocks }
+    ensures clear { IsClear is_any blocks.old.lo blocks.old.hi blocks.new.blocks
+        (low + loose_bytes blocks.old.blocks low high) high }
+    ensures hole { let free = low + loose_bytes blocks.old.blocks low high in
+        IsGap blocks.old.lo blocks.old.hi blocks.old.blocks low high
+        → free < high → IsHole blocks.old.lo blocks.old.hi blocks.new.blocks free high }
+    ensures alone { let free = low + loose_bytes blocks.old.blocks low high in
+        IsGap blocks.old.lo blocks.old.hi blocks.old.blocks low high
+        → (a b : ℕ) → IsHole blocks.old.lo blocks.old.hi blocks.new.blocks a b
+        → (b ≤ low) ⊎ ((high ≤ a) ⊎ ((a ≡ free) × (b ≡ high))) }
     ensures moved { result ≡ moved_size blocks.old.blocks blocks.new.blocks }
     ensures written { S.written space.new ≡ counted (S.written space.old) result }
+    ensures length { length (S.bytes space.new) ≡ length (S.bytes space.old) }
+    ensures below { take low (S.bytes space.new) ≡ take low (S.bytes space.old) }
+    ensures above { drop high (S.bytes space.new) ≡ drop high (S.bytes space.old) }
+    ensures lenders { S.lenders space.new ≡ S.lenders space.old }
 {
     let mut i = blocks.rank(low);
     let mut to = low;
     let mut moved = 0;
-    while let Some(block) = blocks.at_index(i) {
-        if block.at >= high {
-            break;
-        }
-        moved += settle(blocks, space, i, block, to) as u64;
+    while let Some(block) = block_below(blocks, i, high) {
+        moved += u64::from(settle(blocks, space, i, block, to));
         to += block.size;
         i += 1;
     }
     moved
 }
 
-// Slides the i-th block down to `to`. Answers how many bytes were moved.
+/// The i-th block, if it begins below a place.
+fn block_below(blocks: &Blocks, i: usize, high: u32) -> Option<Block>
+    ensures value { MatchOption result
+        (IfSome (slice_get blocks.now.blocks i) (λ b. high ≤ b.at))
+        (λ b. (slice_get blocks.now.blocks i ≡ Some b) × (b.at < high)) }
+    ensures ordered { IsOrdered blocks.now }
+{
+    let block = blocks.at_index(i)?;
+    if block.at < high { Some(block) } else { None }
+}
+
+/// Slides the i-th block down to a place that the blocks before it leave free. Answers how many
+/// bytes were moved, which is none where it stands there.
 fn settle<S: Space>(blocks: &mut Blocks, space: &mut S, i: usize, block: Block, to: u32) -> u32
     requires at { slice_get blocks.old.blocks i ≡ Some block }
     requires ordered { IsOrdered blocks.old }
@@ -45,11 +71,17 @@ fn settle<S: Space>(blocks: &mut Blocks, space: &mut S, i: usize, block: Block, 
     requires grained { IsMultiple blocks.old.grain to }
     requires down { (blocks.old.lo ≤ to) × (to ≤ block.at) }
     requires inside { blocks.old.hi ≤ length (S.bytes space.old) }
-    ensures blocks { blocks.new ≡ record blocks.old { blocks = slice_set blocks.old.blocks i (record block { at = to }) } }
-    ensures bytes { contents (S.bytes space.new) blocks.new.blocks ≡ contents (S.bytes space.old) blocks.old.blocks }
-    ensures size { length (S.bytes space.new) ≡ length (S.bytes space.old) }
+    ensures blocks { blocks.new
+        ≡ record blocks.old { blocks = slice_set blocks.old.blocks i (record block { at = to }) } }
+    ensures ordered { IsOrdered blocks.new }
+    ensures contents { contents (S.bytes space.new) blocks.new.blocks
+        ≡ contents (S.bytes space.old) blocks.old.blocks }
     ensures moved { result ≡ (if block.at == to then 0 else block.size) }
     ensures written { S.written space.new ≡ counted (S.written space.old) result }
+    ensures length { length (S.bytes space.new) ≡ length (S.bytes space.old) }
+    ensures below { take to (S.bytes space.new) ≡ take to (S.bytes space.old) }
+    ensures above { drop (block_end block) (S.bytes space.new) ≡ drop (block_end block) (S.bytes space.old) }
+    ensures lenders { S.lenders space.new ≡ S.lenders space.old }
 {
     if block.at == to {
         return 0;

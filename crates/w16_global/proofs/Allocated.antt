@@ -1,4 +1,4 @@
--- The heap after a new object was given a free id and a hole.
+-- The heap after a new object was given a free id and a free place.
 use Rattle.std.specs.List.{AllByRecursion as Each}
 use Rattle.std.proofs.Common.{◌≡◌, ◌≢◌, ℕ, ◌+◌, ◌<◌, ◌≤◌, inl, inr, Bool, true, false, cond, IsTrue, IsSomeAnd, List, [], length, set, slice_range, nat_le, Option, Some, None, MatchOption, option_map, refl, sym, ap, ◌∙◌, subst, arith}
 use Rattle.std.specs.Ordering.{nat_cmp, eq_by_cmp}
@@ -17,56 +17,35 @@ use Rattle.w16_model.specs.Heap.{Heap, Object, IsMultiple, object_at, bytes_at, 
 use Rattle.w16_model.specs.Edit.{with_ordered, with_newest}
 use Rattle.w16_model.specs.Request.{Allocates, Settles, IsNew, prefix_of, stays_for, discarded}
 use Rattle.w16_model.specs.Table.{block_with, hold_in}
-use Rattle.w16_model.proofs.Gaps.{Member, Each-from, Each-at, Each-map, All-from_Each}
+use Rattle.w16_model.proofs.Gaps.{Each-from, Each-at, Each-map, EachPair-from_AllPairs}
 use Rattle.w16_model.proofs.Heaps.{tied_itself, untied, member_block}
 use Rattle.w16_model.proofs.Tables.{block_table, member_with, with_member, table_longest}
 use Rattle.w16_blocks.specs.Layout.{Layout, IsOrdered, Fits, IsApart, placed}
-use Rattle.w16_global.specs.Parts.{AreParts, table_of, heap_of}
+use Rattle.w16_global.specs.Parts.{AreParts, heap_of}
+use Rattle.w16_global.specs.Making.{IsFree}
 use Rattle.w16_global.proofs.With.{with-placed}
 use Rattle.w16_global.proofs.Lookups.{ordered_arranged, named_pairs, is_heap, no_entry, no_block, place_here, bytes_here}
 use Rattle.w16_global.proofs.Changed.{GoTogether, ChangesOne, changed_parts, object_at_id, object_at_other, place_at_id, place_at_other}
 use Rattle.w16_global.proofs.Cleared.{Makes}
 
--- nothing moves and nothing is discarded
-abbrev pub in_hole : Bool → Way
-in_hole zero = record { compact = false; discard = false; zero = zero; may_move = false }
-
 module _ {entries : List (Option Entry)} {layout : Layout} {memory : List ℕ} (parts : AreParts entries layout memory) where
   abbrev before : Heap
   before = heap_of entries layout memory
 
-  -- a request needs a hole, by the blocks as they are listed
-  prefix_is : (n : ℕ) (zero : Bool) (h : Option ℕ) → prefix_of before n h (in_hole zero) ≡ none_discarded_if (nat_le n (longest_hole layout.lo layout.hi layout.blocks))
-  prefix_is n zero h = ap (λ m. none_discarded_if (nat_le n m)) (table_longest (table_of entries layout) parts.sound.table memory (let e = parts.high in omega arith))
-
-  module _ (ordered_before : IsOrdered layout) (id n : ℕ) (kind : Kind) (lt : id < length entries) (free : object_at before id ≡ None)
+  module _ (id n : ℕ) (kind : Kind) (lt : id < length entries) (free : object_at before id ≡ None)
       (some : 0 < n) (rounded : IsMultiple GRAIN n) (plain : is_discardable kind ≡ false) where
-    absent : block_with layout.blocks id ≡ None
+    pub absent : block_with layout.blocks id ≡ None
     absent = no_block parts id (no_entry parts id free)
 
     -- no block has its id
-    differ : Each (λ c. c.id ≢ id) layout.blocks
-    differ = Each-from (λ c. c.id ≢ id) layout.blocks (λ c m e. no c (with_member layout.blocks c (named_pairs layout.cap layout.blocks ordered_before.named) m) e)
+    pub differ : Each (λ c. c.id ≢ id) layout.blocks
+    differ = Each-from (λ c. c.id ≢ id) layout.blocks (λ c m e. no c (with_member layout.blocks c (EachPair-from_AllPairs (λ x y. x.id ≡ y.id → ⊥) layout.blocks parts.sound.table.ids) m) e)
       where
         no : (c : Block) → block_with layout.blocks c.id ≡ Some c → c.id ≢ id
         no c here e = let none : ◌≡◌ {A = Option Block} None (Some c) = sym absent ∙ ap (block_with layout.blocks) (sym e) ∙ here in cc
 
-    without_bytes : bytes_at before id ≡ None
-    without_bytes = bytes_here parts id ∙ ap (option_map (λ (x : Block). slice_range memory x.at (x.at + x.size))) absent
-
-    -- Where no hole is long enough, nothing is done.
-    pub refused : (zero : Bool) → longest_hole layout.lo layout.hi layout.blocks < n → Allocates before id n kind 0 (in_hole zero) false before
-    refused zero short = record {
-      some = some;
-      rounded = subst (λ g. IsMultiple g n) (sym parts.grain) rounded;
-      without_bytes = without_bytes;
-      request = subst (λ p. MatchOption p ((false ≡ false) × (before ≡ before))
-          (λ k. (false ≡ true) × ((o : Object) × IsNew zero n kind 0 o × Settles before (stays_for id (in_hole zero)) (with_ordered (discarded before k (Some id)) id o (with_newest id o)) before)))
-          (sym (prefix_is n zero (Some id) ∙ ap none_discarded_if (lt-leb n (longest_hole layout.lo layout.hi layout.blocks) short))) (refl, refl);
-    }
-
-    -- Where one is, the object gets its bytes there.
-    module _ (at : ℕ) (above : layout.lo ≤ at) (below : at + n ≤ layout.hi) (grained : IsMultiple GRAIN at) (clear : Each (λ x. Misses x.at x.size at (at + n)) layout.blocks) where
+    -- The object gets its bytes at a free place.
+    module _ (at : ℕ) (place : IsFree layout n at) where
       abbrev entry : Entry
       entry = record { kind = kind; locks = 0 }
 
@@ -77,9 +56,9 @@ module _ {entries : List (Option Entry)} {layout : Layout} {memory : List ℕ} (
       fits = record {
         id = let ids = parts.ids in omega arith;
         free = differ;
-        inside = (above, some, below);
-        apart = Each-map (λ x. Misses x.at x.size at (at + n)) (λ c. IsApart block c) (λ c m. turned c m) layout.blocks clear;
-        grained = (subst (λ g. IsMultiple g at) (sym parts.grain) grained, subst (λ g. IsMultiple g n) (sym parts.grain) rounded);
+        inside = (place.above, some, place.below);
+        apart = Each-map (λ x. Misses x.at x.size at (at + n)) (λ c. IsApart block c) (λ c m. turned c m) layout.blocks place.misses;
+        grained = (place.grained, subst (λ g. IsMultiple g n) (sym parts.grain) rounded);
       }
         where
           turned : (c : Block) → Misses c.at c.size at (at + n) → IsApart block c
@@ -103,10 +82,10 @@ module _ {entries : List (Option Entry)} {layout : Layout} {memory : List ℕ} (
         pub new_parts : AreParts (set entries id (Some entry)) with_block after
         new_parts = changed_parts parts (Some entry) after lt together changes (ordered_arranged with_block ordered) made.long made.bytes
 
-        abbrev new : Heap
+        abbrev pub new : Heap
         new = heap_of (set entries id (Some entry)) with_block after
 
-        abbrev object : Object
+        abbrev pub object : Object
         object = record { kind = kind; locks = 0; bytes = Some (slice_range after at (at + n)) }
 
         -- the bytes of the others stay
@@ -115,7 +94,7 @@ module _ {entries : List (Option Entry)} {layout : Layout} {memory : List ℕ} (
           where
             from : (b : Option Block) → block_with layout.blocks q ≡ b → option_map (λ (x : Block). slice_range after x.at (x.at + x.size)) b ≡ option_map (λ (x : Block). slice_range memory x.at (x.at + x.size)) b
             from None e = refl
-            from (Some x) e = ap Some (made.others x.at x.size (Each-at (λ (y : Block). Misses y.at y.size at (at + n)) layout.blocks clear x (member_with layout.blocks q x e).0))
+            from (Some x) e = ap Some (made.others x.at x.size (Each-at (λ (y : Block). Misses y.at y.size at (at + n)) layout.blocks place.misses x (member_with layout.blocks q x e).0))
 
         -- the object is there, at its place, and the others stay
         object_new : object_at new id ≡ Some object
@@ -133,7 +112,7 @@ module _ {entries : List (Option Entry)} {layout : Layout} {memory : List ℕ} (
           place_at_other parts (Some entry) after lt together changes (ordered_arranged with_block ordered) made.long made.bytes q (λ i. d (sym i)),
         )
 
-        objects : (q : ℕ) → object_at new q ≡ finmap.get (finmap.insert before.objects id object) q
+        pub objects : (q : ℕ) → object_at new q ≡ finmap.get (finmap.insert before.objects id object) q
         objects q = elim (cases_eq q id) [
           | inl i ↦ ap (object_at new) i ∙ object_new
               ∙ sym (get-insert nat_cmp_total before.objects id object q ∙ ap (λ b. cond b (Some object) (object_at before q)) (ap (λ k. eq_by_cmp nat_cmp k id) i ∙ tied_itself id))
@@ -142,33 +121,8 @@ module _ {entries : List (Option Entry)} {layout : Layout} {memory : List ℕ} (
         ]
 
         -- it is in no order of use
-        no_order : with_newest id object [] ≡ []
+        pub no_order : with_newest id object [] ≡ []
         no_order = from kind plain
           where
             from : (k : Kind) → is_discardable k ≡ false → with_newest id (record { kind = k; locks = 0; bytes = Some (slice_range after at (at + n)) }) [] ≡ []
             from k e = rw e refl
-
-        settled : Settles before (stays_for id (in_hole zero)) (with_ordered before id object (with_newest id object)) new
-        settled = record {
-          same = let o : new.objects ≡ finmap.insert before.objects id object = same_map nat_cmp_total nat_cmp-IsAntisymmetric new.objects (finmap.insert before.objects id object) objects in
-              λ i. record { lo = layout.lo; hi = layout.hi; grain = layout.grain; objects = o i; places = new.places; order = sym no_order i };
-          sound = is_heap new_parts;
-          kept = All-from_Each (λ x. IsTrue (stays_for id (in_hole zero) x) → finmap.get new.places x.id ≡ Some x.at) (blocks before)
-              (Each-from (λ x. IsTrue (stays_for id (in_hole zero) x) → finmap.get new.places x.id ≡ Some x.at) (blocks before) (λ x m _. place_of x (block_table (table_of entries layout) parts.sound.table memory (let e = parts.high in omega arith) x (member_block before x m))));
-        }
-          where
-            place_of : (x : Block) → Member x layout.blocks → finmap.get new.places x.id ≡ Some x.at
-            place_of x m =
-                let other : x.id ≢ id = Each-at (λ (c : Block). c.id ≢ id) layout.blocks differ x m in
-                (others_stay x.id other).1 ∙ place_here parts x.id ∙ ap (option_map (λ (y : Block). y.at)) (with_member layout.blocks x (named_pairs layout.cap layout.blocks ordered_before.named) m)
-
-        pub allocated : n ≤ longest_hole layout.lo layout.hi layout.blocks → Allocates before id n kind 0 (in_hole zero) true new
-        allocated long = record {
-          some = some;
-          rounded = subst (λ g. IsMultiple g n) (sym parts.grain) rounded;
-          without_bytes = without_bytes;
-          request = subst (λ p. MatchOption p ((true ≡ false) × (new ≡ before))
-              (λ k. (true ≡ true) × ((o : Object) × IsNew zero n kind 0 o × Settles before (stays_for id (in_hole zero)) (with_ordered (discarded before k (Some id)) id o (with_newest id o)) new)))
-              (sym (prefix_is n zero (Some id) ∙ ap none_discarded_if (le-leb n (longest_hole layout.lo layout.hi layout.blocks) long)))
-              (refl, (object, record { same_kind = refl; same_locks = refl; new_bytes = made.fresh }, settled));
-        }

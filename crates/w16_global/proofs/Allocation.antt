@@ -16,7 +16,7 @@ use Rattle.w16_selectors.specs.Descriptors.{IsFreeRun}
 use Rattle.w16_global.specs.Parts.{Holding}
 use Rattle.w16_global.specs.Joined.{world_of, AreJoined}
 use Rattle.w16_global.proofs.Joined.{free_slot, free_selector}
-use Rattle.w16_global.proofs.Moved.{unmoved}
+use Rattle.w16_global.proofs.Unmoved.{unmoved}
 use Rattle.w16_global.proofs.Refused.{prefix_about_none}
 
 module _ {h : Holding} {xs : List (Option Attributes)} {t : selectors.Table} {m : ℕ} {w : World} (are : AreJoined h xs t) (shown : world_of h xs m ≡ w) where

@@ -1,15 +1,22 @@
 pub mod With
 pub mod Lookups
 pub mod Next
+pub mod Pairs
 pub mod Fresh
 pub mod Slices
 pub mod Written
 pub mod Changed
 pub mod Singles
+pub mod Slid
+pub mod Arranged
+pub mod Moved
+pub mod Gathering
 pub mod Steps
 pub mod Holes
+pub mod Rooms
 pub mod Cleared
 pub mod Allocated
+pub mod Granted
 pub mod Placing
 pub mod Joined
 pub mod Reach
@@ -22,3 +29,4 @@ pub mod Moved
 pub mod Refused
 pub mod Following
 pub mod Sliding
+pub mod Unmoved

@@ -1,36 +1,66 @@
--- Where each object stands as it stood, nothing was moved.
-use Rattle.std.proofs.Common.{◌≡◌, ℕ, ◌==◌, Bool, true, false, cond, not, List, [], ◌∷◌, filter, sum_by, Option, Some, None, option_map, unwrap_or, refl, sym, ap, ◌∙◌, subst, eq-eqb}
-use Rattle.std.specs.Ordering.{nat_cmp}
+-- The bytes that were moved, by the blocks and by the heap.
+use Rattle.std.proofs.Common.{◌≡◌, ◌≢◌, ℕ, ◌+◌, ◌==◌, inl, inr, Bool, true, false, cond, not, eqb, List, [], ◌∷◌, filter, sum_by, Option, Some, option_map, refl, sym, ap, ◌∙◌, arith, eq-eqb, ne_eqb}
+use Rattle.std.proofs.Common.{IsPermutation}
+use Rattle.std.proofs.lemmas.Bool.Decides.{eqb_tells}
+use Rattle.std.proofs.lemmas.List.Sorted.{sum_by-IsPermutation}
+use Rattle.std.proofs.lemmas.List.Sums.{sum_by-cons}
 use Rattle.std.specs.FinMap as finmap
-use Rattle.std.specs.FinMap.{FinMap}
-use Rattle.std.specs.List.{AllByRecursion as Each, filter_map}
 use Rattle.w16_model.specs.declared.Block.{Block}
-use Rattle.w16_model.specs.Heap.{Heap, Object, blocks, block_of}
+use Rattle.w16_model.specs.declared.Entry.{Entry}
+use Rattle.w16_model.specs.Heap.{Heap, blocks}
 use Rattle.w16_model.specs.Request.{is_elsewhere, moved_bytes}
+use Rattle.w16_model.specs.Table.{block_with}
+use Rattle.w16_model.proofs.Gaps.{Member, EachPair-map, EachPair-from_AllPairs}
+use Rattle.w16_model.proofs.Heaps.{blocks_permutation}
+use Rattle.w16_model.proofs.Longest.{sum_filter}
+use Rattle.w16_model.proofs.Tables.{table_block, block_table, with_member}
+use Rattle.w16_blocks.specs.Layout.{Layout}
+use Rattle.w16_compact.specs.Gather.{moved_size}
+use Rattle.w16_global.specs.Parts.{AreParts, table_of, heap_of}
+use Rattle.w16_global.specs.Making.{EachTwo, Slides, AreMoved}
+use Rattle.w16_global.proofs.Lookups.{named_pairs, place_here}
+use Rattle.w16_global.proofs.Slid.{slid_parts}
 
--- an address that is looked up is the one that was
-here : (p : Option ℕ) → is_elsewhere (unwrap_or p 0) p ≡ false
-here None = refl
-here (Some at) = ap not (eq-eqb at at refl)
+-- no order of the blocks changes the bytes of those that pass a test
+bytes_by : (p : Block → Bool) (xs : List Block) → sum_by (λ x. x.size) (filter p xs) ≡ sum_by (λ x. cond (p x) x.size 0) xs
+bytes_by p [] = refl
+bytes_by p (x ∷ xs) = omega (arith, sum_filter p x xs, bytes_by p xs, sum_by-cons (λ (y : Block). cond (p y) y.size 0) x xs)
 
--- none of the blocks is elsewhere
-abbrev AreHere : Heap → Heap → List Block → Type 0
-AreHere heap new xs = Each (λ (x : Block). is_elsewhere x.at (finmap.get new.places x.id) ≡ false) xs
+pub bytes_permutation : (p : Block → Bool) (xs ys : List Block) → IsPermutation xs ys → sum_by (λ x. x.size) (filter p ys) ≡ sum_by (λ x. x.size) (filter p xs)
+bytes_permutation p xs ys perm = bytes_by p ys ∙ sum_by-IsPermutation (λ (x : Block). cond (p x) x.size 0) xs ys perm ∙ sym (bytes_by p xs)
 
-more_here : (heap new : Heap) → new.places ≡ heap.places → (id : ℕ) (o : Object) (es : List (ℕ × Object)) (b : Option (List ℕ)) → AreHere heap new (filter_map (block_of heap.places) es)
-    → AreHere heap new (filter_map (block_of heap.places) ((id, record o { bytes = b }) ∷ es))
-more_here heap new same id o es None rest = rest
-more_here heap new same id o es (Some bytes) rest =
-    (ap (λ (places : FinMap nat_cmp ℕ). is_elsewhere (unwrap_or (finmap.get heap.places id) 0) (finmap.get places id)) same ∙ here (finmap.get heap.places id), rest)
+-- those that are elsewhere then, block by block
+moved_by : (places : ℕ → Option ℕ) (bs cs : List Block) → EachTwo (λ b c. places b.id ≡ Some c.at) bs cs → sum_by (λ x. x.size) (filter (λ x. is_elsewhere x.at (places x.id)) bs) ≡ moved_size bs cs
+moved_by places [] [] two = refl
+moved_by places [] (c ∷ cs) two = absurd two
+moved_by places (b ∷ bs) [] two = absurd two
+moved_by places (b ∷ bs) (c ∷ cs) two =
+    let head : cond (is_elsewhere b.at (places b.id)) b.size 0 ≡ cond (b.at == c.at) 0 b.size = ap (λ p. cond (is_elsewhere b.at p) b.size 0) two.0 ∙ elim (eqb_tells b.at c.at) [
+      | inl same ↦ rw (same.0, eq-eqb c.at b.at (sym same.1)) refl
+      | inr other ↦ rw (other.0, ne_eqb c.at b.at (λ e. other.1 (sym e))) refl
+    ] in
+    omega (arith, sum_filter (λ x. is_elsewhere x.at (places x.id)) b bs, moved_by places bs cs two.1, head)
 
-none_elsewhere : (heap new : Heap) → new.places ≡ heap.places → (es : List (ℕ × Object)) → AreHere heap new (filter_map (block_of heap.places) es)
-none_elsewhere heap new same [] = tt
-none_elsewhere heap new same ((id, o) ∷ es) = more_here heap new same id o es o.bytes (none_elsewhere heap new same es)
+-- by the members of the two lists
+two_of : (R S : Block → Block → Type 0) (bs cs : List Block) → ((b c : Block) → Member b bs → Member c cs → R b c → S b c) → EachTwo R bs cs → EachTwo S bs cs
+two_of R S [] [] f two = tt
+two_of R S [] (c ∷ cs) f two = absurd two
+two_of R S (b ∷ bs) [] f two = absurd two
+two_of R S (b ∷ bs) (c ∷ cs) f two = (f b c (inl refl) (inl refl) two.0, two_of R S bs cs (λ x y m n. f x y (inr m) (inr n)) two.1)
 
--- a sum over none
-none_summed : (p : Block → Bool) (xs : List Block) → Each (λ x. p x ≡ false) xs → sum_by (λ (x : Block). x.size) (filter p xs) ≡ 0
-none_summed p [] all = refl
-none_summed p (x ∷ xs) all = ap (λ b. sum_by (λ (x : Block). x.size) (cond b (x ∷ filter p xs) (filter p xs))) all.0 ∙ none_summed p xs all.1
-
-pub unmoved : (heap new : Heap) → new.places ≡ heap.places → moved_bytes heap new ≡ 0
-unmoved heap new same = none_summed (λ x. is_elsewhere x.at (finmap.get new.places x.id)) (blocks heap) (none_elsewhere heap new same (finmap.entries heap.objects))
+module _ {entries : List (Option Entry)} {layout : Layout} {memory : List ℕ} (parts : AreParts entries layout memory)
+    {low high : ℕ} {new : Layout} {after : List ℕ} (moved : AreMoved low high layout memory new after) (parts_new : AreParts entries new after) where
+  -- a heap in which each of them stands where it slid to
+  pub moved_is : (h : Heap) → ((b : Block) → Member b layout.blocks → finmap.get h.places b.id ≡ finmap.get (heap_of entries new after).places b.id) → moved_size layout.blocks new.blocks ≡ moved_bytes (heap_of entries layout memory) h
+  moved_is h same =
+      let perm : IsPermutation layout.blocks (blocks (heap_of entries layout memory)) = blocks_permutation (heap_of entries layout memory) layout.blocks
+      (EachPair-map (λ x y. x.id ≡ y.id → ⊥) (λ x y. x ≢ y) (λ x y d e. d (ap (λ (z : Block). z.id) e)) layout.blocks (EachPair-from_AllPairs (λ x y. x.id ≡ y.id → ⊥) layout.blocks parts.sound.table.ids))
+      (table_block (table_of entries layout) parts.sound.table memory (let e = parts.high in omega arith)) (block_table (table_of entries layout) parts.sound.table memory (let e = parts.high in omega arith)) in
+      sym (moved_by (λ q. finmap.get h.places q) layout.blocks new.blocks (two_of (Slides low high memory after) (λ b c. finmap.get h.places b.id ≡ Some c.at) layout.blocks new.blocks stands moved.blocks))
+      ∙ sym (bytes_permutation (λ x. is_elsewhere x.at (finmap.get h.places x.id)) layout.blocks (blocks (heap_of entries layout memory)) perm)
+    where
+      stands : (b c : Block) → Member b layout.blocks → Member c new.blocks → Slides low high memory after b c → finmap.get h.places b.id ≡ Some c.at
+      stands b c m n s =
+          same b m ∙ place_here parts_new b.id
+          ∙ ap (λ q. option_map (λ (x : Block). x.at) (block_with new.blocks q)) (sym (ap (λ (z : Block). z.id) s.same))
+          ∙ ap (option_map (λ (x : Block). x.at)) (with_member new.blocks c (named_pairs new.cap new.blocks moved.ordered.named) n)

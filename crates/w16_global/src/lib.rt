@@ -5,6 +5,7 @@ mod calls;
 mod far;
 mod follow;
 mod global;
+mod making;
 mod objects;
 
 pub use global::Global16;

@@ -4,13 +4,14 @@ ghost use Rattle.std.specs.FinMap as finmap;
 ghost use Rattle.w16_model.specs.Heap.{IsHeap, object_at, bytes_at, empty_heap, is_fixed, is_discardable, IsMultiple};
 ghost use Rattle.w16_model.specs.Edit.{removed, with_object};
 ghost use Rattle.w16_model.specs.Table.{block_with, hold_in};
-ghost use Rattle.w16_model.specs.Request.{Allocates};
+ghost use Rattle.w16_model.specs.Request.{Allocates, moved_bytes};
 ghost use Rattle.w16_model.specs.Single.{after_free, after_lock, after_unlock};
 ghost use Rattle.w16_model.specs.Machine.{slice_at, after_write};
 ghost use Rattle.w16_blocks.specs.Layout.{IsOrdered, without, replaced};
 ghost use Rattle.w16_region.specs.Bytes.{put_part, repeated};
 ghost use Rattle.w16_global.specs.Parts.{IsInside, entry_of};
 
+use crate::making::{Placed, make_room};
 use std::alloc::{AllocError, Global};
 use std::marker::Model;
 use w16_blocks::{Block, Blocks, Hold};
@@ -90,30 +91,44 @@ impl Objects {
         self.blocks.at_index(self.blocks.rank(from))
     }
 
-    /// A new object's address: so many bytes, a multiple of the grain, in the lowest hole that is long enough, if there is one.
-    pub fn alloc(&mut self, id: u32, size: u32, kind: Kind, zero: bool) -> Option<u32>
+    /// A new object of so many bytes, a multiple of the grain: in the lowest hole that is long enough, or else, where the others may slide,
+    /// behind the blocks of the lowest gap with room. Nothing is changed where there is no such place.
+    pub fn alloc(
+        &mut self,
+        id: u32,
+        size: u32,
+        kind: Kind,
+        compact: bool,
+        zero: bool,
+    ) -> Option<Placed>
         requires id { id < self.old.cap }
         requires free { object_at self.old.heap id ≡ None }
         requires some { 0 < size }
         requires rounded { IsMultiple GRAIN size }
         requires kind { is_discardable kind ≡ false }
-        ensures allocated { Allocates self.old.heap id size kind 0 (record { compact = false; discard = false; zero = zero; may_move = false }) (is_some result) self.new.heap }
-        ensures placed { IfSome result (λ at. finmap.get self.new.heap.places id ≡ Some at) }
-        ensures others { IfSome result (λ _. (q : ℕ) → q ≢ id → (object_at self.new.heap q ≡ object_at self.old.heap q) × (finmap.get self.new.heap.places q ≡ finmap.get self.old.heap.places q)) }
+        ensures allocated { Allocates self.old.heap id size kind 0 (record { compact = compact; discard = false; zero = zero; may_move = false }) (is_some result) self.new.heap }
+        ensures placed { IfSome result (λ p. finmap.get self.new.heap.places id ≡ Some p.at) }
         ensures sized { IfSome result (λ _. IsSomeAnd (bytes_at self.new.heap id) (λ bytes. length bytes ≡ size)) }
-        ensures inside { IfSome result (λ at. at + size < 2 ^ 32) }
-        ensures kept { self.new.cap ≡ self.old.cap }
+        ensures inside { IfSome result (λ p. p.at + size < 2 ^ 32) }
+        ensures kept { IfSome result (λ _. (q : ℕ) → q ≢ id → object_at self.new.heap q ≡ object_at self.old.heap q) }
+        ensures still { IfSome result (λ p. (q : ℕ) → q ≢ id → IfSome (finmap.get self.new.heap.places q) (λ at. ((at < p.slid.from) ⊎ (p.slid.to ≤ at)) → finmap.get self.old.heap.places q ≡ Some at)) }
+        ensures moved { IfSome result (λ p. p.moved ≡ moved_bytes self.old.heap self.new.heap) }
+        ensures unmoved { compact ≡ false → IfSome result (λ _. (q : ℕ) → q ≢ id → finmap.get self.new.heap.places q ≡ finmap.get self.old.heap.places q) }
+        ensures cap { self.new.cap ≡ self.old.cap }
         ensures refused { IfNone result (self.new ≡ self.old) }
     {
-        let Some(at) = self.blocks.hole_for(size) else {
-            return None;
-        };
-        clear_if(zero, &mut self.memory, at, size);
+        let placed = make_room(&mut self.blocks, &mut self.memory, size, compact)?;
+        clear_if(zero, &mut self.memory, placed.at, size);
         let entry = Entry { kind, locks: 0 };
         let hold = hold(entry);
-        self.blocks.insert(Block { id, at, size, hold });
+        self.blocks.insert(Block {
+            id,
+            at: placed.at,
+            size,
+            hold,
+        });
         self.entries[id as usize] = Some(entry);
-        Some(at)
+        Some(placed)
     }
 
     /// A new object that is absent.

@@ -1,15 +1,15 @@
-use Rattle.std.proofs.Common.{ℕ, suc, ◌≡◌, ◌+◌, ◌<◌, ◌++◌, List, [], length, take, drop, set, Some, refl, sym, ◌∙◌, ap, subst, arith, add-one, slice_get}
+use Rattle.std.proofs.Common.{ℕ, suc, ◌≡◌, ◌+◌, ◌≤◌, ◌<◌, ◌++◌, List, [], ◌∷◌, length, take, drop, set, Some, refl, sym, ◌∙◌, ap, subst, arith, add-one, slice_get}
 use Rattle.std.proofs.lemmas.List.{take-append-drop, length-set}
+use Rattle.std.specs.List.{AllByRecursion}
 use Rattle.w16_model.specs.declared.Block.{Block}
-use Rattle.w16_model.specs.Gap.{IsLaid}
-use Rattle.w16_blocks.specs.Layout.{Layout, IsGrained}
+use Rattle.w16_model.specs.Gap.{IsLaid, IsClear, IsHole, is_any, block_end, loose_bytes}
 use Rattle.w16_model.specs.Heap.{IsMultiple}
-use Rattle.w16_compact.specs.Gather.{gathered, packed, moved_size}
-use Rattle.w16_model.specs.Gap.{is_any, IsClear, loose_bytes}
-use Rattle.w16_compact.specs.Gather.{AreSlid}
-use Rattle.w16_compact.proofs.Cleared.{slid_gathered, clear_gathered}
+use Rattle.w16_blocks.specs.Layout.{Layout, IsGrained}
+use Rattle.w16_compact.specs.Gather.{gathered, packed, moved_size, FitsGap, AreSlid}
+use Rattle.w16_compact.proofs.Cleared.{inside_is, slid_gathered, clear_gathered, hole_gathered, alone_gathered}
 use Rattle.w16_compact.proofs.Order.{each_got}
-use Rattle.w16_compact.proofs.Gathered.{list_start, below_start, apart_start, moved_start, list_step, apart_step, moved_step, step-le, packed_end, moved_same, past_got, inside_got, below_written}
+use Rattle.w16_compact.proofs.Parts.{take_lower, drop_higher}
+use Rattle.w16_compact.proofs.Gathered.{list_start, settled_start, laid_start, rest_start, moved_start, list_step, laid_step, rest_step, moved_step, step-le, packed_rest, moved_same, inside_got, settled_step}
 use Rattle.w16_compact.proofs.slide.gather.Given as Given
 use Rattle.w16_compact.proofs.slide.gather.Goals as goal
 
@@ -21,21 +21,26 @@ loop-block-init g c =
     let gap = c.requires.gap in
     record {
       bounds = (refl, refl, refl, refl);
-      grained = c.requires.grained;
+      ordered = c.rank-i.ensures.ordered;
       list = rw e (list_start low high l.blocks);
-      below = rw e (below_start low high l.blocks gap.inside.1 gap.loose);
-      apart = rw e (apart_start l.lo l.hi low l.blocks c.rank-i.ensures.ordered.laid (let one = gap.inside.1 in let two = gap.inside.2 in omega arith));
+      settled = rw e (settled_start low high l.blocks gap.inside.1 gap.loose);
+      laid = rw e (laid_start l.lo l.hi low l.blocks c.rank-i.ensures.ordered.laid (let one = gap.inside.1 in let two = gap.inside.2 in omega arith));
+      rest = rw e (rest_start low high l.blocks gap.loose);
       from = omega arith;
+      grained = c.requires.grained;
       sum = rw e (let h = moved_start low high l.blocks in omega (arith, h));
       small = omega arith;
-      contents = refl;
-      size = refl;
       written = omega arith;
+      contents = refl;
+      length = refl;
+      below = refl;
+      above = refl;
+      lenders = refl;
     }
 
--- grains and grains are grains
-sum_grains : (g a b : ℕ) → IsMultiple g a → IsMultiple g b → IsMultiple g (a + b)
-sum_grains g a b p q = (p.0 + q.0, let e = p.1 in let f = q.1 in omega (arith, e, f))
+-- multiples make a multiple
+sum_multiple : (g a b : ℕ) → IsMultiple g a → IsMultiple g b → IsMultiple g (a + b)
+sum_multiple g a b p q = (p.0 + q.0, let e = p.1 in let f = q.1 in omega (arith, e, f))
 
 pub settle-requires-clause-grained : goal.settle-requires-clause-grained
 settle-requires-clause-grained g c = subst (λ k. IsMultiple k c.loop-block.to) (sym c.loop-block.invariant.bounds.3) c.loop-block.invariant.grained
@@ -43,64 +48,86 @@ settle-requires-clause-grained g c = subst (λ k. IsMultiple k c.loop-block.to) 
 pub settle-requires-clause-down : goal.settle-requires-clause-down
 settle-requires-clause-down g c =
     let l = c.loop-block.blocks in let inv = c.loop-block.invariant in
-    let got : slice_get l.blocks c.loop-block.i ≡ Some c.in-Some.block = sym c.at_index.ensures.value ∙ c.in-Some.is in
-    let step = apart_step l.hi c.loop-block.to c.loop-block.i c.in-Some.block l.blocks got inv.apart in
+    let step = laid_step l.hi c.loop-block.to c.loop-block.i c.in-Some.block l.blocks c.in-Some.ensures.value.0 inv.laid in
     let one = inv.bounds.1 in let two = inv.from in let three = c.requires.gap.inside.0 in
     (omega arith, step.0)
 
 pub overflow_add-to : goal.overflow_add-to
 overflow_add-to g c =
     let l = c.loop-block.blocks in let inv = c.loop-block.invariant in
-    let got : slice_get l.blocks c.loop-block.i ≡ Some c.in-Some.block = sym c.at_index.ensures.value ∙ c.in-Some.is in
-    let step = apart_step l.hi c.loop-block.to c.loop-block.i c.in-Some.block l.blocks got inv.apart in
-    let one = step.0 in let two = step.1 in let small = c.at_index.ensures.ordered.small in
+    let step = laid_step l.hi c.loop-block.to c.loop-block.i c.in-Some.block l.blocks c.in-Some.ensures.value.0 inv.laid in
+    let one = step.0 in let two = step.1 in let small = inv.ordered.small in
     record { fits = omega arith }
 
 pub overflow_add-i : goal.overflow_add-i
 overflow_add-i g c =
     let l = c.loop-block.blocks in
-    let got : slice_get l.blocks c.loop-block.i ≡ Some c.in-Some.block = sym c.at_index.ensures.value ∙ c.in-Some.is in
-    let inside = inside_got l.blocks c.loop-block.i c.in-Some.block got in let few = c.at_index.ensures.ordered.few in
+    let inside = inside_got l.blocks c.loop-block.i c.in-Some.block c.in-Some.ensures.value.0 in let few = c.loop-block.invariant.ordered.few in
     record { fits = omega arith }
+
+-- of a layout with other blocks
+abbrev with_blocks : Layout → List Block → Layout
+with_blocks l bs = record { cap = l.cap; lo = l.lo; hi = l.hi; grain = l.grain; blocks = bs }
+
+listed : (new l : Layout) (bs : List Block) → new ≡ with_blocks l bs → new.blocks ≡ bs
+listed new l bs e = ap (λ (x : Layout). x.blocks) e
+
+topped : (new l : Layout) (bs : List Block) → new ≡ with_blocks l bs → new.hi ≡ l.hi
+topped new l bs e = ap (λ (x : Layout). x.hi) e
+
+kept : (new l m : Layout) (bs : List Block) → new ≡ with_blocks l bs → (l.cap ≡ m.cap) × (l.lo ≡ m.lo) × (l.hi ≡ m.hi) × (l.grain ≡ m.grain) → (new.cap ≡ m.cap) × (new.lo ≡ m.lo) × (new.hi ≡ m.hi) × (new.grain ≡ m.grain)
+kept new l m bs e bounds = (ap (λ (x : Layout). x.cap) e ∙ bounds.0, ap (λ (x : Layout). x.lo) e ∙ bounds.1, ap (λ (x : Layout). x.hi) e ∙ bounds.2, ap (λ (x : Layout). x.grain) e ∙ bounds.3)
 
 pub loop-block-smaller : goal.loop-block-smaller
 loop-block-smaller g c =
     let l = c.loop-block.blocks in
-    let got : slice_get l.blocks c.loop-block.i ≡ Some c.in-Some.block = sym c.at_index.ensures.value ∙ c.in-Some.is in
-    let inside = inside_got l.blocks c.loop-block.i c.in-Some.block got in
-    let same : length c.settle.new.blocks.blocks ≡ length l.blocks = ap (λ (x : Layout). length x.blocks) c.settle.ensures.blocks ∙ length-set l.blocks c.loop-block.i _ in
+    let inside = inside_got l.blocks c.loop-block.i c.in-Some.block c.in-Some.ensures.value.0 in
+    let after : List Block = set l.blocks c.loop-block.i (record c.in-Some.block { at = c.loop-block.to }) in
+    let same : length c.settle.new.blocks.blocks ≡ length l.blocks = ap length (listed c.settle.new.blocks l after c.settle.ensures.blocks) ∙ length-set l.blocks c.loop-block.i _ in
     rw same (omega arith)
 
 pub loop-block-preserved : goal.loop-block-preserved
 loop-block-preserved g c =
     let l = c.loop-block.blocks in let inv = c.loop-block.invariant in
     let i = c.loop-block.i in let to = c.loop-block.to in let b = c.in-Some.block in let high = c.args.high in
-    let got : slice_get l.blocks i ≡ Some b = sym c.at_index.ensures.value ∙ c.in-Some.is in
-    let lt : b.at < high = c.if-block-high.false in
-    let new = ap (λ (x : Layout). x.blocks) c.settle.ensures.blocks in
-    let step = apart_step l.hi to i b l.blocks got inv.apart in
-    let r = c.settle.ensures.moved in
-    let small = step-le to c.settle.result b r in
+    let got : slice_get l.blocks i ≡ Some b = c.in-Some.ensures.value.0 in
+    let lt : b.at < high = c.in-Some.ensures.value.1 in
+    let after : List Block = set l.blocks i (record b { at = to }) in
+    let new : c.settle.new.blocks.blocks ≡ after = listed c.settle.new.blocks l after c.settle.ensures.blocks in
+    let step = laid_step l.hi to i b l.blocks got inv.laid in
+    let down = step.0 in
+    let rest = rest_step (FitsGap c.args.low high) to i b l.blocks got inv.rest in
+    let wide = c.from-moved.ensures in
+    let r = wide ∙ c.settle.ensures.moved in
+    let small = step-le to c.from-moved.result b r in
+    let from = inv.from in
+    let inside : block_end b ≤ high = (inside_is c.args.low high b (each_got (λ x. 0 < x.size) l.blocks i b got (sizes l.lo l.hi l.blocks inv.ordered.laid)) (omega arith) lt rest.0).0 in
     record {
-      bounds = (ap (λ (x : Layout). x.cap) c.settle.ensures.blocks ∙ inv.bounds.0, ap (λ (x : Layout). x.lo) c.settle.ensures.blocks ∙ inv.bounds.1, ap (λ (x : Layout). x.hi) c.settle.ensures.blocks ∙ inv.bounds.2, ap (λ (x : Layout). x.grain) c.settle.ensures.blocks ∙ inv.bounds.3);
-      grained = sum_grains _ to b.size inv.grained (subst (λ g. IsMultiple g b.size) inv.bounds.3 (each_got (IsGrained l.grain) l.blocks i b got c.at_index.ensures.ordered.grained).1);
+      bounds = kept c.settle.new.blocks l c.args.blocks.now after c.settle.ensures.blocks inv.bounds;
+      ordered = c.settle.ensures.ordered;
       list = rw (new, add-one) (list_step high to i b l.blocks _ got lt inv.list);
-      below = rw (new, add-one) (below_written l.blocks i (record b { at = to }) to (omega arith) inv.below);
-      apart = rw (new, add-one) (subst (λ (k : ℕ). IsLaid (to + b.size) k (drop (suc i) (set l.blocks i (record b { at = to })))) (sym (ap (λ (x : Layout). x.hi) c.settle.ensures.blocks)) step.2);
-      from = let h = inv.from in omega arith;
-      sum = rw (new, add-one) (moved_step high to i c.loop-block.moved _ c.settle.result b l.blocks got lt r inv.sum);
+      settled = rw (new, add-one) (settled_step l.blocks i (record b { at = to }) to (omega arith) inv.settled);
+      laid = rw (new, add-one) (subst (λ (k : ℕ). IsLaid (to + b.size) k (drop (suc i) (set l.blocks i (record b { at = to })))) (sym (topped c.settle.new.blocks l after c.settle.ensures.blocks)) step.2);
+      rest = rw (new, add-one) rest.1;
+      from = omega arith;
+      grained = sum_multiple _ to b.size inv.grained (subst (λ g. IsMultiple g b.size) inv.bounds.3 (each_got (IsGrained l.grain) l.blocks i b got inv.ordered.grained).1);
+      sum = rw (new, add-one) (moved_step high to i c.loop-block.moved _ c.from-moved.result b l.blocks got lt r inv.sum);
       small = let h = inv.small in omega arith;
-      contents = c.settle.ensures.bytes ∙ inv.contents;
-      size = c.settle.ensures.size ∙ inv.size;
-      written = let h = inv.written in let k = c.settle.ensures.written in omega (arith, h, k);
+      written = let h = inv.written in let k = c.settle.ensures.written in omega (arith, h, k, wide);
+      contents = c.settle.ensures.contents ∙ inv.contents;
+      length = c.settle.ensures.length ∙ inv.length;
+      below = take_lower _ _ c.args.low to inv.from c.settle.ensures.below ∙ inv.below;
+      above = drop_higher _ _ (block_end b) high inside c.settle.ensures.above ∙ inv.above;
+      lenders = c.settle.ensures.lenders ∙ inv.lenders;
     }
+  where
+    sizes : (lo hi : ℕ) (bs : List Block) → IsLaid lo hi bs → AllByRecursion (λ x. 0 < x.size) bs
+    sizes lo hi [] laid = tt
+    sizes lo hi (x ∷ xs) laid = (laid.1, sizes (block_end x) hi xs laid.2)
 
 -- where what is left stays as it is, the blocks are gathered
 ended : (bs old : List Block) (low high to i : ℕ) → take i bs ++ packed high to (drop i bs) ≡ gathered low high old → packed high to (drop i bs) ≡ drop i bs → bs ≡ gathered low high old
 ended bs old low high to i e same = sym (take-append-drop i bs) ∙ ap (λ ys. take i bs ++ ys) (sym same) ∙ e
-
-layout_is : (l m : Layout) (bs : List Block) → (l.cap ≡ m.cap) × (l.lo ≡ m.lo) × (l.hi ≡ m.hi) × (l.grain ≡ m.grain) → l.blocks ≡ bs → l ≡ record { cap = m.cap; lo = m.lo; hi = m.hi; grain = m.grain; blocks = bs }
-layout_is l m bs bounds e = λ i. record { cap = bounds.0 i; lo = bounds.1 i; hi = bounds.2 i; grain = bounds.3 i; blocks = e i }
 
 moved_is : (bs old : List Block) (low high to i moved : ℕ) → moved + moved_size (drop i bs) (packed high to (drop i bs)) ≡ moved_size old (gathered low high old) → packed high to (drop i bs) ≡ drop i bs → bs ≡ gathered low high old → moved ≡ moved_size old bs
 moved_is bs old low high to i moved sum same e =
@@ -108,49 +135,37 @@ moved_is bs old low high to i moved sum same e =
     let total : moved_size old bs ≡ moved_size old (gathered low high old) = ap (moved_size old) e in
     omega (arith, none, total, sum)
 
-module _ (g : Given.Over) where
-  same-high : (c : goal.Then-block-high g) → packed c.args.high c.loop-block.to (drop c.loop-block.i c.loop-block.blocks.blocks) ≡ drop c.loop-block.i c.loop-block.blocks.blocks
-  same-high c =
-      let got : slice_get c.loop-block.blocks.blocks c.loop-block.i ≡ Some c.in-Some.block = sym c.at_index.ensures.value ∙ c.in-Some.is in
-      packed_end c.args.high c.loop-block.to c.loop-block.i c.in-Some.block c.loop-block.blocks.blocks got c.if-block-high.true
+module _ (g : Given.Over) (c : goal.In_default g) where
+  stays : packed c.args.high c.loop-block.to (drop c.loop-block.i c.loop-block.blocks.blocks) ≡ drop c.loop-block.i c.loop-block.blocks.blocks
+  stays = packed_rest c.args.high c.loop-block.to c.loop-block.i c.loop-block.blocks.blocks c.in_default.ensures.value
 
-  same-end : (c : goal.In_default g) → packed c.args.high c.loop-block.to (drop c.loop-block.i c.loop-block.blocks.blocks) ≡ drop c.loop-block.i c.loop-block.blocks.blocks
-  same-end c =
-      let none : drop c.loop-block.i c.loop-block.blocks.blocks ≡ [] = past_got c.loop-block.blocks.blocks c.loop-block.i (sym c.at_index.ensures.value ∙ c.in_default.is) in
-      rw none refl
+  list : c.loop-block.blocks.blocks ≡ gathered c.args.low c.args.high c.args.blocks.now.blocks
+  list = ended c.loop-block.blocks.blocks c.args.blocks.now.blocks c.args.low c.args.high c.loop-block.to c.loop-block.i c.loop-block.invariant.list stays
 
-pub returns-then-block-high-clause-blocks : goal.returns-then-block-high-clause-blocks
-returns-then-block-high-clause-blocks g c = layout_is c.loop-block.blocks c.args.blocks.now _ c.loop-block.invariant.bounds (ended c.loop-block.blocks.blocks c.args.blocks.now.blocks c.args.low c.args.high c.loop-block.to c.loop-block.i c.loop-block.invariant.list (same-high g c))
+pub returns-clause-blocks : goal.returns-clause-blocks
+returns-clause-blocks g c =
+    let m = c.args.blocks.now in let bounds = c.loop-block.invariant.bounds in let e = list g c in
+    λ i. record { cap = bounds.0 i; lo = bounds.1 i; hi = bounds.2 i; grain = bounds.3 i; blocks = e i }
 
-pub returns-in_default-clause-blocks : goal.returns-in_default-clause-blocks
-returns-in_default-clause-blocks g c = layout_is c.loop-block.blocks c.args.blocks.now _ c.loop-block.invariant.bounds (ended c.loop-block.blocks.blocks c.args.blocks.now.blocks c.args.low c.args.high c.loop-block.to c.loop-block.i c.loop-block.invariant.list (same-end g c))
+pub returns-clause-moved : goal.returns-clause-moved
+returns-clause-moved g c = moved_is c.loop-block.blocks.blocks c.args.blocks.now.blocks c.args.low c.args.high c.loop-block.to c.loop-block.i c.loop-block.moved c.loop-block.invariant.sum (stays g c) (list g c)
 
-pub returns-then-block-high-clause-moved : goal.returns-then-block-high-clause-moved
-returns-then-block-high-clause-moved g c =
-    moved_is c.loop-block.blocks.blocks c.args.blocks.now.blocks c.args.low c.args.high c.loop-block.to c.loop-block.i c.loop-block.moved c.loop-block.invariant.sum (same-high g c)
-    (ended c.loop-block.blocks.blocks c.args.blocks.now.blocks c.args.low c.args.high c.loop-block.to c.loop-block.i c.loop-block.invariant.list (same-high g c))
+pub returns-clause-slid : goal.returns-clause-slid
+returns-clause-slid g c =
+    let l = c.args.blocks.now in
+    subst (AreSlid l.blocks) (sym (list g c)) (slid_gathered c.args.low c.args.high l.lo l.hi l.blocks c.rank-i.ensures.ordered.laid c.requires.gap.loose)
 
-pub returns-in_default-clause-moved : goal.returns-in_default-clause-moved
-returns-in_default-clause-moved g c =
-    moved_is c.loop-block.blocks.blocks c.args.blocks.now.blocks c.args.low c.args.high c.loop-block.to c.loop-block.i c.loop-block.moved c.loop-block.invariant.sum (same-end g c)
-    (ended c.loop-block.blocks.blocks c.args.blocks.now.blocks c.args.low c.args.high c.loop-block.to c.loop-block.i c.loop-block.invariant.list (same-end g c))
+pub returns-clause-clear : goal.returns-clause-clear
+returns-clause-clear g c =
+    let l = c.args.blocks.now in
+    subst (λ bs. IsClear is_any l.lo l.hi bs (c.args.low + loose_bytes l.blocks c.args.low c.args.high) c.args.high) (sym (list g c)) (clear_gathered l c.args.low c.args.high c.rank-i.ensures.ordered.laid c.requires.gap)
 
-pub returns-then-block-high-clause-slid : goal.returns-then-block-high-clause-slid
-returns-then-block-high-clause-slid g c =
-    subst (AreSlid c.args.blocks.now.blocks) (sym (ended c.loop-block.blocks.blocks c.args.blocks.now.blocks c.args.low c.args.high c.loop-block.to c.loop-block.i c.loop-block.invariant.list (same-high g c)))
-    (slid_gathered c.args.low c.args.high c.args.blocks.now.lo c.args.blocks.now.hi c.args.blocks.now.blocks c.rank-i.ensures.ordered.laid c.requires.gap.loose)
+pub returns-clause-hole : goal.returns-clause-hole
+returns-clause-hole g c = λ gap some.
+    let l = c.args.blocks.now in
+    subst (λ bs. IsHole l.lo l.hi bs (c.args.low + loose_bytes l.blocks c.args.low c.args.high) c.args.high) (sym (list g c)) (hole_gathered l c.args.low c.args.high c.rank-i.ensures.ordered.laid c.requires.gap gap some)
 
-pub returns-then-block-high-clause-clear : goal.returns-then-block-high-clause-clear
-returns-then-block-high-clause-clear g c =
-    subst (λ bs. IsClear is_any c.args.blocks.now.lo c.args.blocks.now.hi bs (c.args.low + loose_bytes c.args.blocks.now.blocks c.args.low c.args.high) c.args.high) (sym (ended c.loop-block.blocks.blocks c.args.blocks.now.blocks c.args.low c.args.high c.loop-block.to c.loop-block.i c.loop-block.invariant.list (same-high g c)))
-    (clear_gathered c.args.blocks.now c.args.low c.args.high c.rank-i.ensures.ordered.laid c.requires.gap)
-
-pub returns-in_default-clause-slid : goal.returns-in_default-clause-slid
-returns-in_default-clause-slid g c =
-    subst (AreSlid c.args.blocks.now.blocks) (sym (ended c.loop-block.blocks.blocks c.args.blocks.now.blocks c.args.low c.args.high c.loop-block.to c.loop-block.i c.loop-block.invariant.list (same-end g c)))
-    (slid_gathered c.args.low c.args.high c.args.blocks.now.lo c.args.blocks.now.hi c.args.blocks.now.blocks c.rank-i.ensures.ordered.laid c.requires.gap.loose)
-
-pub returns-in_default-clause-clear : goal.returns-in_default-clause-clear
-returns-in_default-clause-clear g c =
-    subst (λ bs. IsClear is_any c.args.blocks.now.lo c.args.blocks.now.hi bs (c.args.low + loose_bytes c.args.blocks.now.blocks c.args.low c.args.high) c.args.high) (sym (ended c.loop-block.blocks.blocks c.args.blocks.now.blocks c.args.low c.args.high c.loop-block.to c.loop-block.i c.loop-block.invariant.list (same-end g c)))
-    (clear_gathered c.args.blocks.now c.args.low c.args.high c.rank-i.ensures.ordered.laid c.requires.gap)
+pub returns-clause-alone : goal.returns-clause-alone
+returns-clause-alone g c = λ gap a b hole.
+    let l = c.args.blocks.now in
+    alone_gathered l c.args.low c.args.high c.rank-i.ensures.ordered.laid c.requires.gap gap a b (subst (λ bs. IsHole l.lo l.hi bs a b) (list g c) hole)

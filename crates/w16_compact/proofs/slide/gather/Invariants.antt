@@ -3,24 +3,34 @@ use Rattle.std.specs.List.{AllByRecursion}
 use Rattle.w16_region.specs.Bytes.{counted}
 use Rattle.w16_model.specs.Gap.{IsLaid, block_end}
 use Rattle.w16_model.specs.Heap.{IsMultiple}
-use Rattle.w16_compact.specs.Gather.{gathered, packed, contents, moved_size}
+use Rattle.w16_blocks.specs.Layout.{IsOrdered}
+use Rattle.w16_compact.specs.Gather.{gathered, packed, contents, moved_size, FitsGap}
 use Rattle.w16_compact.proofs.slide.gather.Given as goal
 
 abbrev pub invariant-loop-block : goal.invariant-loop-block
 invariant-loop-block g l =
     let bytes = g.S.Space.bytes in
     record {
+      -- the blocks: what is left to do gives the gathered ones
       bounds : (l.blocks.cap ≡ l.fn.blocks.cap) × (l.blocks.lo ≡ l.fn.blocks.lo) × (l.blocks.hi ≡ l.fn.blocks.hi) × (l.blocks.grain ≡ l.fn.blocks.grain);
-      grained : IsMultiple l.fn.blocks.grain l.to;
+      ordered : IsOrdered l.blocks;
       list : take l.i l.blocks.blocks ++ packed l.high l.to (drop l.i l.blocks.blocks) ≡ gathered l.low l.high l.fn.blocks.blocks;
-      below : AllByRecursion (λ c. block_end c ≤ l.to) (take l.i l.blocks.blocks);
-      apart : IsLaid l.to l.blocks.hi (drop l.i l.blocks.blocks);
+      settled : AllByRecursion (λ c. block_end c ≤ l.to) (take l.i l.blocks.blocks);
+      laid : IsLaid l.to l.blocks.hi (drop l.i l.blocks.blocks);
+      rest : AllByRecursion (FitsGap l.low l.high) (drop l.i l.blocks.blocks);
+      -- the place of the next one
       from : l.low ≤ l.to;
+      grained : IsMultiple l.fn.blocks.grain l.to;
+      -- the count
       sum : l.moved + moved_size (drop l.i l.blocks.blocks) (packed l.high l.to (drop l.i l.blocks.blocks)) ≡ moved_size l.fn.blocks.blocks (gathered l.low l.high l.fn.blocks.blocks);
       small : l.moved ≤ l.to;
-      contents : contents (bytes l.space) l.blocks.blocks ≡ contents (bytes l.fn.space) l.fn.blocks.blocks;
-      size : length (bytes l.space) ≡ length (bytes l.fn.space);
       written : g.S.Space.written l.space ≡ counted (g.S.Space.written l.fn.space) l.moved;
+      -- the space
+      contents : contents (bytes l.space) l.blocks.blocks ≡ contents (bytes l.fn.space) l.fn.blocks.blocks;
+      length : length (bytes l.space) ≡ length (bytes l.fn.space);
+      below : take l.low (bytes l.space) ≡ take l.low (bytes l.fn.space);
+      above : drop l.high (bytes l.space) ≡ drop l.high (bytes l.fn.space);
+      lenders : g.S.Space.lenders l.space ≡ g.S.Space.lenders l.fn.space;
     }
 
 abbrev pub decreases-loop-block : goal.decreases-loop-block

@@ -1,10 +1,13 @@
-use Rattle.std.proofs.Common.{◌≡◌, ◌∙◌, ap, subst, Option, arith}
+use Rattle.std.proofs.Common.{◌≡◌, ◌∙◌, ap, subst, drop, Option, arith}
 use Rattle.std.specs.Option.{IfSome}
 use Rattle.w16_model.specs.declared.Block.{Block}
+use Rattle.w16_model.specs.Gap.{block_end}
+use Rattle.w16_region.specs.Bytes.{part}
 use Rattle.w16_blocks.specs.Layout.{Layout, replaced}
 use Rattle.w16_compact.proofs.Order.{with_got, id_got}
 use Rattle.w16_compact.proofs.Slid.{contents_slid}
 use Rattle.w16_compact.proofs.Steps.{same_layout, ends_inside, after, known, fits, replaced_is}
+use Rattle.w16_compact.proofs.Parts.{length-part, drop-put_part_above}
 use Rattle.w16_compact.proofs.slide.settle.Goals as goal
 
 pub returns-then-block-to-clause-blocks : goal.returns-then-block-to-clause-blocks
@@ -38,8 +41,8 @@ returns-clause-blocks g c =
     subst P (with_got l.cap l.blocks c.args.i c.args.block c.requires.ordered.named c.requires.at) c.shift.ensures.value
     ∙ ap (λ bs. let r : Layout = record { cap = l.cap; lo = l.lo; hi = l.hi; grain = l.grain; blocks = bs } in r) (replaced_is l c.args.i c.args.block c.args.to c.requires.at c.requires.ordered c.requires.below c.requires.down c.requires.grained)
 
-pub returns-clause-bytes : goal.returns-clause-bytes
-returns-clause-bytes g c =
+pub returns-clause-contents : goal.returns-clause-contents
+returns-clause-contents g c =
     let l = c.args.blocks.now in
     let bytes = g.S.Space.bytes c.args.space.now in
     let new = ap (λ (x : Layout). x.blocks) (returns-clause-blocks g c) in
@@ -47,3 +50,12 @@ returns-clause-bytes g c =
     let long = c.requires.inside in
     rw (new, c.slide.ensures.bytes) (contents_slid bytes c.args.to l.blocks c.args.i c.args.block c.requires.at c.requires.down.1 (omega arith) c.requires.below
     (after l c.args.i c.args.block c.args.to c.requires.at c.requires.ordered c.requires.below c.requires.down c.requires.grained))
+
+pub returns-clause-above : goal.returns-clause-above
+returns-clause-above g c =
+    let l = c.args.blocks.now in
+    let bytes = g.S.Space.bytes c.args.space.now in
+    let h = ends_inside l c.args.i c.args.block c.args.to c.requires.at c.requires.ordered c.requires.below c.requires.down c.requires.grained in
+    let inside = c.requires.inside in let down = c.requires.down.1 in
+    let long = length-part bytes c.args.block.at c.args.block.size (omega arith) in
+    ap (drop (block_end c.args.block)) c.slide.ensures.bytes ∙ drop-put_part_above bytes c.args.to (part bytes c.args.block.at c.args.block.size) (block_end c.args.block) (omega arith) (omega arith)

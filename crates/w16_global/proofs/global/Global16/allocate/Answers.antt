@@ -1,4 +1,4 @@
-use Rattle.std.proofs.Common.{arith}
+use Rattle.std.proofs.Common.{refl, arith}
 use Rattle.w16_global.proofs.Joining.{allocated_joined, given_world}
 use Rattle.w16_global.proofs.global.Global16.allocate.Goals as goal
 
@@ -8,7 +8,7 @@ set-requires-clause-inside c = omega (arith, c.requires.some, c.in-Some.ensures.
 pub invariant_of-self-2 : goal.invariant_of-self-2
 invariant_of-self-2 c =
     let s = c.in-Some.ensures in
-    allocated_joined c.self.invariant c.alloc.new.self s.kept c.args.slot c.args.attributes c.self.view_is c.requires.free c.args.size c.in-Some.base c.args.kind _ c.set.new.self s.allocated s.others s.sized s.placed c.take.new.self c.take.ensures c.set.ensures
+    allocated_joined c.self.invariant c.alloc.new.self s.cap c.args.slot c.args.attributes c.self.view_is c.requires.free c.args.size c.in-Some.placed.at c.args.kind _ c.set.new.self s.allocated (λ q d. (s.kept q d, s.unmoved refl q d)) s.sized s.placed c.take.new.self c.take.ensures c.set.ensures
 
 pub returns-clause-rest : goal.returns-clause-rest
-returns-clause-rest c = given_world c.self.invariant c.alloc.new.self c.in-Some.ensures.kept c.args.slot c.args.attributes c.self.view_is c.requires.free
+returns-clause-rest c = given_world c.self.invariant c.alloc.new.self c.in-Some.ensures.cap c.args.slot c.args.attributes c.self.view_is c.requires.free

@@ -1,0 +1,43 @@
+-- A place that was found or made, and how much there can be.
+use Rattle.std.specs.List.{find}
+use Rattle.std.proofs.Common.{◌≡◌, ℕ, ◌+◌, ◌-◌, ◌<◌, ◌≤◌, Bool, true, false, cond, nat_le, IfSome, List, [], Option, Some, None, option_map, sym, ap, subst, arith}
+use Rattle.w16_model.specs.declared.Span.{Span}
+use Rattle.w16_model.specs.Gap.{ArePlaced, holes, room, longest_hole}
+use Rattle.w16_model.proofs.Laid.{laid_placed}
+use Rattle.w16_blocks.specs.Layout.{Layout, IsOrdered}
+use Rattle.w16_global.specs.declared.making.Placed.{Placed}
+use Rattle.w16_global.specs.Making.{AreMoved, IsFree, most_for}
+use Rattle.w16_global.proofs.Arranged.{same_moved, longest_in_room, free_fits}
+use Rattle.w16_global.proofs.Holes.{hole_found, hole_none}
+
+-- where the lowest hole of n bytes begins
+abbrev pub first_hole : Layout → ℕ → Option ℕ
+first_hole l n = option_map (λ (s : Span). s.from) (find (λ s. nat_le n (s.to - s.from)) (holes l.lo l.hi l.blocks))
+
+module _ {l : Layout} (ordered : IsOrdered l) (n : ℕ) where
+  placed : ArePlaced l.lo l.hi l.blocks
+  placed = laid_placed l.lo l.hi l.blocks ordered.laid
+
+  pub hole_free : (at : ℕ) → Some at ≡ first_hole l n → IsFree l n at
+  hole_free at e =
+      let h = hole_found l.lo l.hi l.grain l.blocks placed ordered.from ordered.grained n at e in
+      record { above = h.0; below = h.1; grained = h.2; misses = h.3 }
+
+  -- there may be as much with sliding as there is without
+  longest_most : (compact : Bool) → longest_hole l.lo l.hi l.blocks ≤ most_for l compact
+  longest_most true = longest_in_room ordered (same_moved 0 l [] ordered)
+  longest_most false = omega arith
+
+  pub hole_enough : (at : ℕ) → Some at ≡ first_hole l n → (compact : Bool) → n ≤ most_for l compact
+  hole_enough at e compact =
+      let h = hole_found l.lo l.hi l.grain l.blocks placed ordered.from ordered.grained n at e in
+      omega (arith, h.4, longest_most compact)
+
+  pub hole_missing : 0 < n → None ≡ first_hole l n → (compact : Bool) → compact ≡ false → most_for l compact < n
+  hole_missing some e compact off = subst (λ b. most_for l b < n) (sym off) (hole_none l.lo l.hi l.grain l.blocks placed ordered.from ordered.grained n some e)
+
+  -- a place that was made is as long as the room allows
+  pub made_enough : (memory after : List ℕ) (new : Layout) (made : Option Placed) → IfSome made (λ p. AreMoved p.slid.from p.slid.to l memory new after) → IfSome made (λ p. IsFree new n p.at)
+      → (compact : Bool) → compact ≡ true → IfSome made (λ _. n ≤ most_for l compact)
+  made_enough memory after new None slid free compact on = tt
+  made_enough memory after new (Some p) slid free compact on = subst (λ b. n ≤ most_for l b) (sym on) (free_fits ordered slid n p.at free)

@@ -1,0 +1,81 @@
+//! Room for new bytes, by a hole that is there or by sliding the blocks of a gap.
+ghost use Rattle.std.specs.Prelude.{◌≡◌, ◌<◌, ◌≤◌, false, true, length, All, IfSome, IfNone};
+ghost use Rattle.w16_blocks.specs.Layout.{IsOrdered};
+ghost use Rattle.w16_compact.specs.Gather.{moved_size};
+ghost use Rattle.w16_global.specs.Making.{AreMoved, IsFree, most_for};
+
+use w16_blocks::{Blocks, Span};
+use w16_compact::{gap_for, gather};
+use w16_region::{Region, Space};
+
+/// Where new bytes stand, the range whose blocks slid for them, and how many bytes were moved.
+#[derive(Clone, Copy)]
+pub(crate) struct Placed {
+    pub at: u32,
+    /// Empty where no block slid.
+    pub slid: Span,
+    pub moved: u64,
+}
+
+/// The range of a slide that moved nothing.
+pub(crate) const NOTHING: Span = Span { from: 0, to: 0 };
+
+/// A place of `size` bytes: in the lowest hole that is long enough, or else, where blocks may slide, behind the blocks of the lowest gap
+/// with room, gathered. Nothing is changed where there is none.
+pub(crate) fn make_room(
+    blocks: &mut Blocks,
+    memory: &mut Region,
+    size: u32,
+    compact: bool,
+) -> Option<Placed>
+    requires some { 0 < size }
+    requires inside { blocks.old.hi ≤ length memory.old.bytes.items }
+    ensures ordered { IsOrdered blocks.old }
+    ensures slid { IfSome result (λ p. AreMoved p.slid.from p.slid.to blocks.old memory.old.bytes.items blocks.new memory.new.bytes.items) }
+    ensures free { IfSome result (λ p. IsFree blocks.new size p.at) }
+    ensures moved { IfSome result (λ p. p.moved ≡ moved_size blocks.old.blocks blocks.new.blocks) }
+    ensures enough { IfSome result (λ _. size ≤ most_for blocks.old compact) }
+    ensures still { compact ≡ false → (blocks.new ≡ blocks.old) × (memory.new ≡ memory.old) }
+    ensures refused { IfNone result ((most_for blocks.old compact < size) × (blocks.new ≡ blocks.old) × (memory.new ≡ memory.old)) }
+{
+    if let Some(at) = blocks.hole_for(size) {
+        return Some(Placed {
+            at,
+            slid: NOTHING,
+            moved: 0,
+        });
+    }
+    if compact {
+        gather_for(blocks, memory, size)
+    } else {
+        None
+    }
+}
+
+/// A place of `size` bytes behind the blocks of the lowest gap with room, gathered.
+fn gather_for(blocks: &mut Blocks, memory: &mut Region, size: u32) -> Option<Placed>
+    requires some { 0 < size }
+    requires inside { blocks.old.hi ≤ length memory.old.bytes.items }
+    ensures slid { IfSome result (λ p. AreMoved p.slid.from p.slid.to blocks.old memory.old.bytes.items blocks.new memory.new.bytes.items) }
+    ensures free { IfSome result (λ p. IsFree blocks.new size p.at) }
+    ensures moved { IfSome result (λ p. p.moved ≡ moved_size blocks.old.blocks blocks.new.blocks) }
+    ensures refused { IfNone result ((most_for blocks.old true < size) × (blocks.new ≡ blocks.old) × (memory.new ≡ memory.old)) }
+{
+    let gap = gap_for(blocks, size)?;
+    let moved = gather(blocks, memory, gap.low, gap.high);
+    are_bytes(memory.view(0, memory.len()));
+    Some(Placed {
+        at: gap.low + gap.loose,
+        slid: Span {
+            from: gap.low,
+            to: gap.high,
+        },
+        moved,
+    })
+}
+
+/// Says that each item of a slice of bytes is one. It has no effect.
+fn are_bytes(bytes: &[u8])
+    ensures { All (λ b. b < 256) bytes.now }
+{
+}
