@@ -25,7 +25,6 @@ pub mod Described
 pub mod Access
 pub mod Allocation
 pub mod Begin
-pub mod Moved
 pub mod Refused
 pub mod Following
 pub mod Sliding

@@ -132,15 +132,15 @@ module _ {h : Holding} {xs : List (Option Attributes)} {t : selectors.Table} (ar
       }
 
 -- the worlds that these are
-pub given_moved : {h : Holding} {xs : List (Option Attributes)} {m : ℕ} {w : World} → world_of h xs m ≡ w → (new : Holding) (slot : ℕ) (a : Attributes) (moved : ℕ) → moved ≡ moved_bytes h.heap new.heap
+pub given_moved : (h : Holding) (xs : List (Option Attributes)) (m : ℕ) {w : World} → world_of h xs m ≡ w → (new : Holding) (slot : ℕ) (a : Attributes) (moved : ℕ) → moved ≡ moved_bytes h.heap new.heap
     → world_of new (set xs slot (Some a)) moved ≡ record w { heap = new.heap; attributes = finmap.insert w.attributes slot a; moved = moved }
     → world_of new (set xs slot (Some a)) moved ≡ record w { heap = new.heap; attributes = finmap.insert w.attributes slot a; moved = moved_bytes w.heap new.heap }
-given_moved {h} {xs} {m} {w} shown new slot a moved is given =
+given_moved h xs m {w} shown new slot a moved is given =
     given ∙ (λ i. record w { heap = new.heap; attributes = finmap.insert w.attributes slot a; moved = (is ∙ ap (λ (v : World). moved_bytes v.heap new.heap) shown) i })
 
-pub compacted_known : {h : Holding} {xs : List (Option Attributes)} {m : ℕ} {w : World} → world_of h xs m ≡ w → (new : Holding) → new.cap ≡ h.cap → (n answer moved : ℕ) → Compacts h.heap n answer new.heap
+pub compacted_known : (h : Holding) (xs : List (Option Attributes)) (m : ℕ) {w : World} → world_of h xs m ≡ w → (new : Holding) → new.cap ≡ h.cap → (n answer moved : ℕ) → Compacts h.heap n answer new.heap
     → moved ≡ moved_bytes h.heap new.heap → GlobalCompacts w n answer (world_of new xs moved)
-compacted_known {h} {xs} {m} {w} shown new cap n answer moved compacted is = subst (λ v. GlobalCompacts v n answer (world_of new xs moved)) shown (record {
+compacted_known h xs m {w} shown new cap n answer moved compacted is = subst (λ v. GlobalCompacts v n answer (world_of new xs moved)) shown (record {
   compacted = compacted;
   rest = λ i. record { slots = cap i - FIRST_SLOT; heap = new.heap; attributes = attributes_in xs; moved = is i };
 })

@@ -113,7 +113,6 @@ impl Objects {
         ensures kept { IfSome result (λ _. (q : ℕ) → q ≢ id → object_at self.new.heap q ≡ object_at self.old.heap q) }
         ensures still { IfSome result (λ p. (q : ℕ) → q ≢ id → IfSome (finmap.get self.new.heap.places q) (λ at. ((at < p.slid.from) ⊎ (p.slid.to ≤ at)) → finmap.get self.old.heap.places q ≡ Some at)) }
         ensures moved { IfSome result (λ p. p.moved ≡ moved_bytes self.old.heap self.new.heap) }
-        ensures unmoved { compact ≡ false → IfSome result (λ _. (q : ℕ) → q ≢ id → finmap.get self.new.heap.places q ≡ finmap.get self.old.heap.places q) }
         ensures cap { self.new.cap ≡ self.old.cap }
         ensures refused { IfNone result (self.new ≡ self.old) }
     {

@@ -99,3 +99,40 @@ fn reaches_bytes(rt: HostRuntime) -> Result<(), Fail> {
     assert_eq!(rt; heap.far_read(0x10F, 32, &mut bytes), Err(FarFault::Limit));
     Ok(())
 }
+
+#[test]
+fn slides_objects_together(rt: HostRuntime) -> Result<(), Fail> {
+    let mut heap = Global16::new(rt.alloc(), 128, 16)?;
+    assert_eq!(rt; heap.global_alloc(2, 32), 0x106);
+    assert_eq!(rt; heap.global_alloc(2, 32), 0x10E);
+    assert_eq!(rt; heap.global_alloc(2, 32), 0x116);
+    assert_eq!(rt; heap.far_write(0x117, 0, b"NE"), Ok(()));
+    assert_eq!(rt; heap.global_free(0x10E), 0);
+    assert_eq!(rt; heap.global_alloc(0x12, 64), 0);
+    assert_eq!(rt; heap.global_alloc(2, 64), 0x10E);
+    assert_eq!(rt; heap.moved(), 32);
+    assert_eq!(rt; heap.get_selector_base(0x117), 32);
+    assert_eq!(rt; heap.get_selector_base(0x10F), 64);
+    let mut bytes = [0u8; 2];
+    assert_eq!(rt; heap.far_read(0x117, 0, &mut bytes), Ok(()));
+    assert_eq!(rt; bytes.as_slice(), b"NE".as_slice());
+    Ok(())
+}
+
+#[test]
+fn compacts_on_request(rt: HostRuntime) -> Result<(), Fail> {
+    let mut heap = Global16::new(rt.alloc(), 128, 16)?;
+    assert_eq!(rt; heap.global_alloc(2, 32), 0x106);
+    assert_eq!(rt; heap.global_alloc(2, 32), 0x10E);
+    assert_eq!(rt; heap.global_free(0x106), 0);
+    assert_eq!(rt; heap.global_compact(0), 96);
+    assert_eq!(rt; heap.get_selector_base(0x10F), 32);
+    assert_eq!(rt; heap.global_lock(0x10E), 0x010F_0000);
+    assert_eq!(rt; heap.global_compact(96), 64);
+    assert_eq!(rt; heap.moved(), 0);
+    assert_eq!(rt; heap.global_unlock(0x10E), 0);
+    assert_eq!(rt; heap.global_compact(96), 96);
+    assert_eq!(rt; heap.moved(), 32);
+    assert_eq!(rt; heap.get_selector_base(0x10F), 0);
+    Ok(())
+}

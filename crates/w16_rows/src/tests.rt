@@ -75,6 +75,14 @@ fn objects_are_answered_for(rt: HostRuntime) -> Result<(), Fail> {
 }
 
 #[test]
+fn compaction_is_answered_for(rt: HostRuntime) -> Result<(), Fail> {
+    for row in of_compaction() {
+        expect_answered(&rt, &row)?;
+    }
+    Ok(())
+}
+
+#[test]
 fn questions_are_answered(rt: HostRuntime) -> Result<(), Fail> {
     for row in of_questions() {
         expect_answered(&rt, &row)?;

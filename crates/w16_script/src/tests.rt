@@ -126,6 +126,21 @@ fn reads_each_question(rt: HostRuntime) {
 }
 
 #[test]
+fn reads_compactions(rt: HostRuntime) {
+    assert!(rt;
+        matches!(
+            call_of(b"GlobalCompact 0xffffffff"),
+            Some(Call::GlobalCompact {
+                size: 4_294_967_295
+            })
+        )
+    );
+    assert!(rt; matches!(call_of(b" Moved "), Some(Call::Moved)));
+    assert!(rt; call_of(b"Moved 1").is_none());
+    assert!(rt; call_of(b"GlobalCompact").is_none());
+}
+
+#[test]
 fn reads_far_accesses(rt: HostRuntime) {
     assert!(rt;
         matches!(
