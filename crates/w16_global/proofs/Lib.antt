@@ -18,6 +18,7 @@ pub mod Cleared
 pub mod Allocated
 pub mod Granted
 pub mod Placing
+pub mod Compacting
 pub mod Joined
 pub mod Reach
 pub mod Joining

@@ -9,7 +9,8 @@ use Rattle.w16_model.specs.declared.Hold.TheVariants.{Loose}
 use Rattle.w16_model.specs.Gap.{block_end, IsLaid}
 use Rattle.w16_model.specs.Table.{block_with}
 use Rattle.w16_model.proofs.Gaps.{Member}
-use Rattle.w16_compact.specs.Gather.{contents, gathered, packed}
+use Rattle.w16_compact.specs.Gather.{contents, gathered, packed, FitsGap}
+use Rattle.w16_compact.proofs.Cleared.{inside_is}
 use Rattle.w16_global.specs.Making.{EachTwo, Slides}
 
 pub two_same : (R : Block → Block → Type 0) → ((b : Block) → R b b) → (bs : List Block) → EachTwo R bs bs
@@ -60,20 +61,11 @@ two_contents memory after (b ∷ bs) (c ∷ cs) e =
     let heads : ◌≡◌ {A = ℕ × List ℕ} (c.id, part after c.at c.size) (b.id, part memory b.at b.size) = cc in
     (ap (λ (p : ℕ × List ℕ). p.1) heads, two_contents memory after bs cs rest)
 
--- what may stand between two addresses that are gathered
-abbrev pub InGap : ℕ → ℕ → Block → Type 0
-InGap low high b = (block_end b ≤ low) ⊎ ((high ≤ b.at) ⊎ ((low ≤ b.at) × (block_end b ≤ high) × (b.hold ≡ Loose)))
-
-pub inside_is : (low high : ℕ) (b : Block) → 0 < b.size → low ≤ b.at → b.at < high → InGap low high b → (block_end b ≤ high) × (b.hold ≡ Loose)
-inside_is low high b some le lt (inl e) = absurd (omega arith)
-inside_is low high b some le lt (inr (inl e)) = absurd (omega arith)
-inside_is low high b some le lt (inr (inr e)) = (e.1, e.2)
-
 -- where the blocks between two addresses slid down
 abbrev pub Stands : ℕ → ℕ → Block → Block → Type 0
 Stands low high b c = (c ≡ record b { at = c.at }) × ((c.at ≡ b.at) ⊎ ((b.hold ≡ Loose) × (low ≤ c.at) × (c.at ≤ b.at) × (block_end b ≤ high)))
 
-two_packed : (low high from top to : ℕ) (bs : List Block) → IsLaid from top bs → low ≤ to → to ≤ from → Each (InGap low high) bs → EachTwo (Stands low high) bs (packed high to bs)
+two_packed : (low high from top to : ℕ) (bs : List Block) → IsLaid from top bs → low ≤ to → to ≤ from → Each (FitsGap low high) bs → EachTwo (Stands low high) bs (packed high to bs)
 two_packed low high from top to [] laid le down all = tt
 two_packed low high from top to (b ∷ bs) laid le down all =
     let one = laid.0 in
@@ -84,7 +76,7 @@ two_packed low high from top to (b ∷ bs) laid le down all =
       | inr ge ↦ rw (le-ltb b.at high ge) (two_same (Stands low high) (λ x. (refl, inl refl)) (b ∷ bs))
     ]
 
-pub two_gathered : (low high from top : ℕ) (bs : List Block) → IsLaid from top bs → Each (InGap low high) bs → EachTwo (Stands low high) bs (gathered low high bs)
+pub two_gathered : (low high from top : ℕ) (bs : List Block) → IsLaid from top bs → Each (FitsGap low high) bs → EachTwo (Stands low high) bs (gathered low high bs)
 two_gathered low high from top [] laid all = tt
 two_gathered low high from top (b ∷ bs) laid all = elim (cases_lt b.at low) [
   | inl lt ↦ rw (lt-ltb b.at low lt) ((refl, inl refl), two_gathered low high (block_end b) top bs laid.2 all.1)

@@ -1,13 +1,15 @@
 -- A place that was found or made, and how much there can be.
 use Rattle.std.specs.List.{find}
-use Rattle.std.proofs.Common.{◌≡◌, ℕ, ◌+◌, ◌-◌, ◌<◌, ◌≤◌, Bool, true, false, cond, nat_le, IfSome, List, [], Option, Some, None, option_map, sym, ap, subst, arith}
+use Rattle.std.proofs.Common.{◌≡◌, ℕ, zero, suc, ◌+◌, ◌-◌, ◌<◌, ◌≤◌, Bool, true, false, cond, not, nat_le, IfSome, List, [], ◌∷◌, get_or, replicate, Option, Some, None, option_map, refl, sym, ap, ◌∙◌, subst, arith}
+use Rattle.w16_model.specs.declared.Block.{Block}
+use Rattle.w16_compact.specs.Skip.{counted_of}
 use Rattle.w16_model.specs.declared.Span.{Span}
 use Rattle.w16_model.specs.Gap.{ArePlaced, holes, room, longest_hole}
 use Rattle.w16_model.proofs.Laid.{laid_placed}
 use Rattle.w16_blocks.specs.Layout.{Layout, IsOrdered}
 use Rattle.w16_global.specs.declared.making.Placed.{Placed}
 use Rattle.w16_global.specs.Making.{AreMoved, IsFree, most_for}
-use Rattle.w16_global.proofs.Arranged.{same_moved, longest_in_room, free_fits}
+use Rattle.w16_global.proofs.Arranged.{same_moved, longest_in_room, free_fits, free_in_hole}
 use Rattle.w16_global.proofs.Holes.{hole_found, hole_none}
 
 -- where the lowest hole of n bytes begins
@@ -41,3 +43,22 @@ module _ {l : Layout} (ordered : IsOrdered l) (n : ℕ) where
       → (compact : Bool) → compact ≡ true → IfSome made (λ _. n ≤ most_for l compact)
   made_enough memory after new None slid free compact on = tt
   made_enough memory after new (Some p) slid free compact on = subst (λ b. n ≤ most_for l b) (sym on) (free_fits ordered slid n p.at free)
+
+-- where no mark is set, no block is left out
+unset : (n id : ℕ) → get_or (replicate n false) id false ≡ false
+unset zero id = refl
+unset (suc n) zero = refl
+unset (suc n) (suc id) = unset n id
+
+pub all_counted : (n : ℕ) (xs : List Block) → counted_of (replicate n false) xs ≡ xs
+all_counted n [] = refl
+all_counted n (x ∷ xs) = ap (λ t. cond (not t) (x ∷ counted_of (replicate n false) xs) (counted_of (replicate n false) xs)) (unset n x.id) ∙ ap (λ ys. x ∷ ys) (all_counted n xs)
+
+-- with no room there is no hole
+pub no_hole : {l : Layout} → IsOrdered l → (most : ℕ) → most ≡ room l.lo l.hi l.blocks → most ≡ 0 → most ≡ longest_hole l.lo l.hi l.blocks
+no_hole {l} ordered most is none = let h = longest_in_room ordered (same_moved 0 l [] ordered) in omega arith
+
+-- a hole of the whole room is the longest
+pub whole_hole : {low high : ℕ} {l : Layout} {memory : List ℕ} {new : Layout} {after : List ℕ} → IsOrdered l → AreMoved low high l memory new after → (most at : ℕ) → most ≡ room l.lo l.hi l.blocks → 0 < most → IsFree new most at
+    → most ≡ longest_hole new.lo new.hi new.blocks
+whole_hole ordered moved most at is some free = let h = longest_in_room ordered moved in let k = free_in_hole ordered moved most at some free in omega arith

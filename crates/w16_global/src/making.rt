@@ -1,11 +1,12 @@
 //! Room for new bytes, by a hole that is there or by sliding the blocks of a gap.
 ghost use Rattle.std.specs.Prelude.{◌≡◌, ◌<◌, ◌≤◌, false, true, length, All, IfSome, IfNone};
+ghost use Rattle.w16_model.specs.Gap.{room, longest_hole};
 ghost use Rattle.w16_blocks.specs.Layout.{IsOrdered};
 ghost use Rattle.w16_compact.specs.Gather.{moved_size};
 ghost use Rattle.w16_global.specs.Making.{AreMoved, IsFree, most_for};
 
 use w16_blocks::{Blocks, Span};
-use w16_compact::{gap_for, gather};
+use w16_compact::{gap_for, gather, room};
 use w16_region::{Region, Space};
 
 /// Where new bytes stand, the range whose blocks slid for them, and how many bytes were moved.
@@ -17,8 +18,20 @@ pub(crate) struct Placed {
     pub moved: u64,
 }
 
+/// What a compaction answers: the longest stretch that sliding can free, the range whose blocks slid, and how many bytes were moved.
+#[derive(Clone, Copy)]
+pub(crate) struct Compacted {
+    pub room: u32,
+    /// Empty where no block slid.
+    pub slid: Span,
+    pub moved: u64,
+}
+
 /// The range of a slide that moved nothing.
 pub(crate) const NOTHING: Span = Span { from: 0, to: 0 };
+
+/// Marks of ids, none of which is set. There are no more ids.
+static NO_MARKS: [bool; 8192] = [false; 8192];
 
 /// A place of `size` bytes: in the lowest hole that is long enough, or else, where blocks may slide, behind the blocks of the lowest gap
 /// with room, gathered. Nothing is changed where there is none.
@@ -72,6 +85,43 @@ fn gather_for(blocks: &mut Blocks, memory: &mut Region, size: u32) -> Option<Pla
         },
         moved,
     })
+}
+
+/// Slides the blocks of the lowest gap of the greatest room, unless a hole is as long as that already.
+pub(crate) fn make_most_room(blocks: &mut Blocks, memory: &mut Region) -> Compacted
+    requires few { blocks.old.cap ≤ 8192 }
+    requires inside { blocks.old.hi ≤ length memory.old.bytes.items }
+    ensures ordered { IsOrdered blocks.old }
+    ensures room { result.room ≡ room blocks.old.lo blocks.old.hi blocks.old.blocks }
+    ensures longest { result.room ≡ longest_hole blocks.new.lo blocks.new.hi blocks.new.blocks }
+    ensures slid { AreMoved result.slid.from result.slid.to blocks.old memory.old.bytes.items blocks.new memory.new.bytes.items }
+    ensures moved { result.moved ≡ moved_size blocks.old.blocks blocks.new.blocks }
+{
+    let room = most_room(blocks);
+    if room == 0 {
+        return Compacted {
+            room,
+            slid: NOTHING,
+            moved: 0,
+        };
+    }
+    let Some(placed) = make_room(blocks, memory, room, true) else {
+        unreachable!();
+    };
+    Compacted {
+        room,
+        slid: placed.slid,
+        moved: placed.moved,
+    }
+}
+
+/// The longest stretch that sliding can free.
+pub(crate) fn most_room(blocks: &Blocks) -> u32
+    requires { blocks.now.cap ≤ 8192 }
+    ensures value { result ≡ room blocks.now.lo blocks.now.hi blocks.now.blocks }
+    ensures ordered { IsOrdered blocks.now }
+{
+    room(blocks, &NO_MARKS)
 }
 
 /// Says that each item of a slice of bytes is one. It has no effect.

@@ -4,14 +4,14 @@ ghost use Rattle.std.specs.FinMap as finmap;
 ghost use Rattle.w16_model.specs.Heap.{IsHeap, object_at, bytes_at, empty_heap, is_fixed, is_discardable, IsMultiple};
 ghost use Rattle.w16_model.specs.Edit.{removed, with_object};
 ghost use Rattle.w16_model.specs.Table.{block_with, hold_in};
-ghost use Rattle.w16_model.specs.Request.{Allocates, moved_bytes};
+ghost use Rattle.w16_model.specs.Request.{Allocates, Compacts, moved_bytes};
 ghost use Rattle.w16_model.specs.Single.{after_free, after_lock, after_unlock};
 ghost use Rattle.w16_model.specs.Machine.{slice_at, after_write};
 ghost use Rattle.w16_blocks.specs.Layout.{IsOrdered, without, replaced};
 ghost use Rattle.w16_region.specs.Bytes.{put_part, repeated};
 ghost use Rattle.w16_global.specs.Parts.{IsInside, entry_of};
 
-use crate::making::{Placed, make_room};
+use crate::making::{Compacted, NOTHING, Placed, make_most_room, make_room, most_room};
 use std::alloc::{AllocError, Global};
 use std::marker::Model;
 use w16_blocks::{Block, Blocks, Hold};
@@ -128,6 +128,25 @@ impl Objects {
         });
         self.entries[id as usize] = Some(entry);
         Some(placed)
+    }
+
+    /// Makes room for `n` bytes, as far as sliding goes, and answers the length of the longest hole that there is then. For 0 bytes it only
+    /// answers what could be made. Nothing is discarded (GlobalCompact).
+    pub fn compact(&mut self, n: u32) -> Compacted
+        ensures compacted { Compacts self.old.heap n result.room self.new.heap }
+        ensures kept { (q : ℕ) → object_at self.new.heap q ≡ object_at self.old.heap q }
+        ensures still { (q : ℕ) → IfSome (finmap.get self.new.heap.places q) (λ at. ((at < result.slid.from) ⊎ (result.slid.to ≤ at)) → finmap.get self.old.heap.places q ≡ Some at) }
+        ensures moved { result.moved ≡ moved_bytes self.old.heap self.new.heap }
+        ensures cap { self.new.cap ≡ self.old.cap }
+    {
+        if n == 0 {
+            return Compacted {
+                room: most_room(&self.blocks),
+                slid: NOTHING,
+                moved: 0,
+            };
+        }
+        make_most_room(&mut self.blocks, &mut self.memory)
     }
 
     /// A new object that is absent.
