@@ -2,7 +2,7 @@
 ghost use Rattle.std.specs.Prelude.{◌≡◌, ◌+◌, ◌^◌, ◌<◌, ◌≤◌, ℕ, if◌then◌else◌, IfSome, IfNone};
 ghost use Rattle.std.specs.FinMap as finmap;
 ghost use Rattle.w16_model.specs.Heap.{is_discardable};
-ghost use Rattle.w16_model.specs.Machine.{GlobalAllocs, Gives, locks_at, is_shared};
+ghost use Rattle.w16_model.specs.Machine.{GlobalAllocs, GlobalCompacts, Gives, locks_at, is_shared};
 ghost use Rattle.w16_model.specs.Machine as machine;
 ghost use Rattle.w16_model.specs.World as world;
 ghost use Rattle.w16_model.specs.World.{IsFreeSlot};
@@ -145,6 +145,14 @@ impl Global16 {
             Ok(()) => (self.locks(slot) > 0) as u16,
             Err(_) => 0,
         }
+    }
+
+    /// `GlobalCompact`: for `size` bytes above 0, unlocked moveable objects slide until a hole is as long as it can be, where none is yet; the
+    /// answer is the length of the longest hole, 0 where there is none. For 0 it answers that length, and changes nothing.
+    pub fn global_compact(&mut self, size: u32) -> u32
+        ensures { GlobalCompacts self.old size result self.new }
+    {
+        self.make_room(size)
     }
 
     /// How many bytes the last `global_alloc` or `global_compact` moved: the sizes of the objects that stand at another address since.

@@ -6,6 +6,7 @@ ghost use Rattle.w16_model.specs.Edit.{removed};
 ghost use Rattle.w16_model.specs.Request.{Allocates, moved_bytes};
 ghost use Rattle.w16_model.specs.Single.{Enters, after_lock, after_unlock, after_free};
 ghost use Rattle.w16_model.specs.World.{IsFreeSlot, empty_world};
+ghost use Rattle.w16_model.specs.Machine.{GlobalCompacts};
 
 use crate::follow::follow;
 use crate::objects::Objects;
@@ -112,6 +113,16 @@ impl Global16 {
             },
         );
         true
+    }
+
+    /// Compaction for so many bytes: the longest hole there is then, or what it could be for 0 bytes.
+    pub(crate) fn make_room(&mut self, size: u32) -> u32
+        ensures { GlobalCompacts self.old size result self.new }
+    {
+        let compacted = self.objects.compact(size);
+        follow(&self.objects, &mut self.selectors, compacted.slid);
+        self.moved = compacted.moved as u32;
+        compacted.room
     }
 
     /// Frees an object that isn't locked.

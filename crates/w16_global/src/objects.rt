@@ -113,6 +113,7 @@ impl Objects {
         ensures kept { IfSome result (λ _. (q : ℕ) → q ≢ id → object_at self.new.heap q ≡ object_at self.old.heap q) }
         ensures still { IfSome result (λ p. (q : ℕ) → q ≢ id → IfSome (finmap.get self.new.heap.places q) (λ at. ((at < p.slid.from) ⊎ (p.slid.to ≤ at)) → finmap.get self.old.heap.places q ≡ Some at)) }
         ensures moved { IfSome result (λ p. p.moved ≡ moved_bytes self.old.heap self.new.heap) }
+        ensures few { IfSome result (λ p. p.moved < 2 ^ 32) }
         ensures cap { self.new.cap ≡ self.old.cap }
         ensures refused { IfNone result (self.new ≡ self.old) }
     {
@@ -137,6 +138,7 @@ impl Objects {
         ensures kept { (q : ℕ) → object_at self.new.heap q ≡ object_at self.old.heap q }
         ensures still { (q : ℕ) → IfSome (finmap.get self.new.heap.places q) (λ at. ((at < result.slid.from) ⊎ (result.slid.to ≤ at)) → finmap.get self.old.heap.places q ≡ Some at) }
         ensures moved { result.moved ≡ moved_bytes self.old.heap self.new.heap }
+        ensures few { result.moved < 2 ^ 32 }
         ensures cap { self.new.cap ≡ self.old.cap }
     {
         if n == 0 {

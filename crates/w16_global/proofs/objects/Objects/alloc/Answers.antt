@@ -5,6 +5,7 @@ use Rattle.w16_blocks.specs.Layout.{Layout}
 use Rattle.w16_global.specs.Parts.{Holding, heap_of}
 use Rattle.w16_global.proofs.Granted.{way_of}
 use Rattle.w16_global.proofs.Placing.{refused_here, room, may_insert, parts_after, has_new}
+use Rattle.w16_global.proofs.Unmoved.{moved_small}
 use Rattle.w16_global.proofs.objects.Objects.alloc.Goals as goal
 
 pub returns-in_err-placed-clause-allocated : goal.returns-in_err-placed-clause-allocated
@@ -56,3 +57,9 @@ returns-clause-moved c =
     (has_new c.self.invariant c.self.view_is c.args.id c.args.size c.args.kind c.requires.id c.requires.free c.requires.some c.requires.rounded c.requires.kind c.in_ok-placed.placed c.in_ok-placed.ensures.slid c.in_ok-placed.ensures.free c.hold-hold.ensures c.args.compact (λ off. (c.in_ok-placed.ensures.still off).0)
     c.insert.ensures.value c.insert.ensures.ordered c.args.zero c.clear_if.ensures c.in_ok-placed.ensures.enough c.in_ok-placed.ensures.moved).moved
 
+
+pub returns-clause-few : goal.returns-clause-few
+returns-clause-few c =
+    let s = c.self.inside in
+    let o = c.in_ok-placed.ensures.ordered in
+    omega (arith, c.in_ok-placed.ensures.moved, o.small, moved_small s.blocks.lo s.blocks.hi s.blocks.blocks c.make_room.new.blocks.blocks o.laid)

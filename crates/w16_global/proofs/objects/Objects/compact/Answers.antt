@@ -1,5 +1,7 @@
+use Rattle.std.proofs.Common.{arith}
 use Rattle.w16_global.proofs.Slid.{slid_parts}
 use Rattle.w16_global.proofs.Compacting.{compacted, compacted_kept, compacted_still, compacted_moved, compacted_none, moved_none}
+use Rattle.w16_global.proofs.Unmoved.{moved_small}
 use Rattle.w16_global.proofs.objects.Objects.compact.Goals as goal
 
 pub returns-then-n-eq0-clause-compacted : goal.returns-then-n-eq0-clause-compacted
@@ -22,3 +24,9 @@ returns-clause-still c = compacted_still c.self.invariant c.make_most_room.ensur
 
 pub returns-clause-moved : goal.returns-clause-moved
 returns-clause-moved c = compacted_moved c.self.invariant c.make_most_room.ensures.slid c.self.view_is c.make_most_room.result.moved c.make_most_room.ensures.moved
+
+pub returns-clause-few : goal.returns-clause-few
+returns-clause-few c =
+    let s = c.self.inside in
+    let o = c.make_most_room.ensures.ordered in
+    omega (arith, c.make_most_room.ensures.moved, o.small, moved_small s.blocks.lo s.blocks.hi s.blocks.blocks c.make_most_room.new.blocks.blocks o.laid)
