@@ -9,6 +9,8 @@ mod gaps;
 mod reach;
 mod rooms;
 mod slide;
+#[cfg(test)]
+mod tests;
 
 pub use gaps::{Gap, gap_for};
 pub use rooms::room;

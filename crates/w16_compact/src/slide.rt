@@ -10,11 +10,11 @@ ghost use Rattle.w16_compact.specs.Gather.{gathered, contents, moved_size, MayGa
 use w16_blocks::{Block, Blocks};
 use w16_region::Space;
 
-/// Slides the loose blocks between two addresses to the lower one, in their order, so that what is
-/// free there is behind them. Of a gap one hole is left, or none where the blocks fill it.
+/// Slides the loose blocks of `low` up to `high` down to `low`, in their order, so that what is free
+/// there lies behind them. Where that is a gap, one hole is left in it, or none where they fill it.
 ///
-/// Answers how many bytes were moved: the sizes of the blocks whose address changed. No other byte
-/// was written, and none twice.
+/// Answers how many bytes were moved: the sizes of the blocks whose address changed, together. As
+/// many bytes were written, so a block that stays isn't written, and none is written twice.
 pub fn gather<S: Space>(blocks: &mut Blocks, space: &mut S, low: u32, high: u32) -> u64
     requires gap { MayGather blocks.old low high }
     requires grained { IsMultiple blocks.old.grain low }
@@ -33,6 +33,10 @@ pub fn gather<S: Space>(blocks: &mut Blocks, space: &mut S, low: u32, high: u32)
         IsGap blocks.old.lo blocks.old.hi blocks.old.blocks low high
         → (a b : ℕ) → IsHole blocks.old.lo blocks.old.hi blocks.new.blocks a b
         → (b ≤ low) ⊎ ((high ≤ a) ⊎ ((a ≡ free) × (b ≡ high))) }
+    ensures full { IsGap blocks.old.lo blocks.old.hi blocks.old.blocks low high
+        → low + loose_bytes blocks.old.blocks low high ≡ high
+        → (a b : ℕ) → IsHole blocks.old.lo blocks.old.hi blocks.new.blocks a b
+        → (b ≤ low) ⊎ (high ≤ a) }
     ensures moved { result ≡ moved_size blocks.old.blocks blocks.new.blocks }
     ensures written { S.written space.new ≡ counted (S.written space.old) result }
     ensures length { length (S.bytes space.new) ≡ length (S.bytes space.old) }
