@@ -1,13 +1,15 @@
 //! Loops over blocks.
-ghost use Rattle.std.specs.Prelude.{◌≡◌, ◌≤◌, ◌<◌, IfOk};
+ghost use Rattle.std.specs.Prelude.{◌≡◌, ◌≤◌, ◌<◌, length, IfOk};
 
 use crate::{COUNT, SIZE, STRIDE, UNIT};
 use std::alloc::{AllocError, Global};
 use w16_blocks::{Block, Blocks, Hold};
+use w16_compact::{gap_for, gather};
+use w16_region::Space;
 
 /// As many blocks as there may be, each of one unit, so that there is no hole.
 pub fn full(alloc: Global) -> Result<Blocks, AllocError>
-    ensures { IfOk result (λ blocks. blocks.cap ≡ COUNT) }
+    ensures { IfOk result (λ blocks. (blocks.cap ≡ COUNT) × (blocks.hi ≡ SIZE)) }
 {
     let mut blocks = Blocks::with_room(alloc, COUNT, 0, SIZE, UNIT)?;
     for id in 0..COUNT {
@@ -43,4 +45,18 @@ pub fn rank(blocks: &Blocks, turns: u32) -> u64 {
         total = total.wrapping_add(blocks.rank(at) as u64);
     }
     total
+}
+
+/// Frees the lowest block and gathers the others. Answers how many bytes were moved.
+pub fn gather_all<S: Space>(blocks: &mut Blocks, space: &mut S) -> u64
+    requires blocks { (0 < blocks.old.cap) × (blocks.old.hi ≡ SIZE) }
+    requires space { length (S.bytes space.old) ≡ SIZE }
+{
+    if blocks.find(0).is_some() {
+        blocks.remove(0);
+    }
+    match gap_for(blocks, UNIT) {
+        Some(gap) => gather(blocks, space, gap.low, gap.high),
+        None => 0,
+    }
 }

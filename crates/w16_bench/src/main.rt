@@ -1,4 +1,5 @@
-//! Times the lowest crates over as many objects as there may be: fills, slides and views of memory, and look-ups of blocks.
+//! Times the lowest crates over as many objects as there may be: fills, slides and views of memory, look-ups of blocks, and
+//! compaction.
 //!
 //! The first argument is the number of turns of each loop. The times go to standard error, so that standard output is the same each time.
 #![tactic(auto)]
@@ -67,6 +68,11 @@ fn main(rt: HostRuntime) -> Result<()> {
     let ranks = blocks::rank(&blocks, turns);
     tell(&rt, "rank", start, turns)?;
 
-    println!(rt; "{turns} turns: {bytes} {found} {ranks}")?;
+    let mut blocks = blocks;
+    let start = Instant::now(&rt)?;
+    let moved = blocks::gather_all(&mut blocks, &mut region);
+    tell(&rt, "gather, in all", start, 1)?;
+
+    println!(rt; "{turns} turns: {bytes} {found} {ranks} {moved}")?;
     Ok(())
 }
