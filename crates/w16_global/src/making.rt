@@ -87,18 +87,20 @@ fn gather_for(blocks: &mut Blocks, memory: &mut Region, size: u32) -> Option<Pla
     })
 }
 
-/// Slides the blocks of the lowest gap of the greatest room, unless a hole is as long as that already.
-pub(crate) fn make_most_room(blocks: &mut Blocks, memory: &mut Region) -> Compacted
+/// Makes room for `n` bytes: the blocks of the lowest gap of the greatest room slide, unless a hole is as long as that already. For 0 bytes
+/// it only answers what could be made.
+#[tactic(auto, using(crate::proofs::Arranged::same_moved, crate::proofs::Rooms::none_moved, crate::proofs::Rooms::no_hole, crate::proofs::Rooms::whole_hole))]
+pub(crate) fn compact_for(blocks: &mut Blocks, memory: &mut Region, n: u32) -> Compacted
     requires few { blocks.old.cap ≤ 8192 }
     requires inside { blocks.old.hi ≤ length memory.old.bytes.items }
-    ensures ordered { IsOrdered blocks.old }
     ensures room { result.room ≡ room blocks.old.lo blocks.old.hi blocks.old.blocks }
-    ensures longest { result.room ≡ longest_hole blocks.new.lo blocks.new.hi blocks.new.blocks }
+    ensures longest { 0 < n → result.room ≡ longest_hole blocks.new.lo blocks.new.hi blocks.new.blocks }
     ensures slid { AreMoved result.slid.from result.slid.to blocks.old memory.old.bytes.items blocks.new memory.new.bytes.items }
     ensures moved { result.moved ≡ moved_size blocks.old.blocks blocks.new.blocks }
+    ensures same { n ≡ 0 → (blocks.new ≡ blocks.old) × (memory.new ≡ memory.old) }
 {
     let room = most_room(blocks);
-    if room == 0 {
+    if n == 0 || room == 0 {
         return Compacted {
             room,
             slid: NOTHING,
@@ -116,7 +118,7 @@ pub(crate) fn make_most_room(blocks: &mut Blocks, memory: &mut Region) -> Compac
 }
 
 /// The longest stretch that sliding can free.
-pub(crate) fn most_room(blocks: &Blocks) -> u32
+fn most_room(blocks: &Blocks) -> u32
     requires { blocks.now.cap ≤ 8192 }
     ensures value { result ≡ room blocks.now.lo blocks.now.hi blocks.now.blocks }
     ensures ordered { IsOrdered blocks.now }
