@@ -1,6 +1,5 @@
 -- The heap after a compaction that discards nothing.
-use Rattle.std.specs.List.{AllByRecursion as Each}
-use Rattle.std.proofs.Common.{◌≡◌, ◌≢◌, ℕ, ◌<◌, ◌≤◌, ◌⊎◌, Bool, true, false, cond, nat_le, nat_eq, IsTrue, IfSome, MatchBool, List, [], ◌∷◌, length, Option, Some, None, option_map, unwrap_or, refl, sym, ap, ◌∙◌, subst, arith, eq-eqb, ne_eqb, inl, inr}
+use Rattle.std.proofs.Common.{◌≡◌, ℕ, ◌<◌, ◌≤◌, ◌⊎◌, Bool, true, false, cond, nat_le, IsTrue, IfSome, MatchBool, List, [], ◌∷◌, Option, Some, None, unwrap_or, refl, sym, ap, ◌∙◌, subst, arith, eq-eqb, ne_eqb, inl, inr}
 use Rattle.std.specs.FinMap as finmap
 use Rattle.std.specs.FinMap.{same_map, nat_cmp-IsAntisymmetric}
 use Rattle.std.specs.Cmp.{nat_cmp_total}
@@ -11,11 +10,8 @@ use Rattle.w16_model.specs.Gap.{is_pinned, room, longest_hole}
 use Rattle.w16_model.specs.Prefix.{blocks_without, room_for}
 use Rattle.w16_model.specs.Heap.{Heap, object_at, blocks}
 use Rattle.w16_model.specs.Request.{Settles, Compacts, MakesRoom, discarded, compaction_prefix, most_room, moved_bytes}
-use Rattle.w16_model.specs.Table.{block_with}
-use Rattle.w16_model.proofs.Gaps.{Member, Each-from, All-from_Each, EachPair-map, EachPair-from_AllPairs}
-use Rattle.w16_model.proofs.Heaps.{member_block, blocks_permutation}
-use Rattle.w16_model.proofs.Members.{room-permutation}
-use Rattle.w16_model.proofs.Tables.{block_table, table_block, with_member, table_longest}
+use Rattle.w16_model.proofs.Gaps.{Each-from, All-from_Each}
+use Rattle.w16_model.proofs.Tables.{table_longest}
 use Rattle.w16_blocks.specs.Layout.{Layout}
 use Rattle.w16_compact.specs.Gather.{moved_size}
 use Rattle.w16_global.specs.Parts.{AreParts, Holding, table_of, heap_of, holding_of}
@@ -58,7 +54,7 @@ module _ {entries : List (Option Entry)} {layout : Layout} {memory : List ℕ} (
       sound = is_heap parts_new;
       kept = All-from_Each (λ x. IsTrue (is_pinned x) → finmap.get (heap_of entries new after).places x.id ≡ Some x.at) (blocks before)
           (Each-from (λ x. IsTrue (is_pinned x) → finmap.get (heap_of entries new after).places x.id ≡ Some x.at) (blocks before) (λ x m t.
-              slid_pinned parts moved x.id x (listed_with parts x (is_listed parts x m)) t));
+          slid_pinned parts moved x.id x (listed_with parts x (is_listed parts x m)) t));
     }
 
     makes_room : (n most : ℕ) → most ≡ room layout.lo layout.hi layout.blocks → most ≡ longest_hole new.lo new.hi new.blocks → MakesRoom before n most (heap_of entries new after)

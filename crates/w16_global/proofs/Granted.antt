@@ -1,26 +1,23 @@
 -- An allocation by a request that may slide the other blocks: what it leaves of the heap.
 use Rattle.std.specs.List.{AllByRecursion as Each}
-use Rattle.std.proofs.Common.{◌≡◌, ◌≢◌, ℕ, ◌+◌, ◌<◌, ◌≤◌, ◌⊎◌, inl, inr, Bool, true, false, cond, not, ◌&&◌, ◌||◌, ◌==◌, IsTrue, IfSome, IsSomeAnd, List, [], ◌∷◌, filter, length, set, slice_range, nat_le, Option, Some, None, MatchOption, option_map, refl, sym, ap, ◌∙◌, subst, arith, ne_eqb, eq-eqb}
-use Rattle.std.specs.Ordering.{nat_cmp}
+use Rattle.std.proofs.Common.{◌≡◌, ◌≢◌, ℕ, ◌+◌, ◌<◌, ◌≤◌, ◌⊎◌, inl, inr, Bool, true, false, not, ◌||◌, ◌==◌, IsTrue, IfSome, IsSomeAnd, List, [], ◌∷◌, length, set, slice_range, nat_le, Option, Some, None, MatchOption, option_map, refl, sym, ap, ◌∙◌, subst, ne_eqb}
 use Rattle.std.specs.Cmp.{nat_cmp_total}
 use Rattle.std.specs.FinMap as finmap
 use Rattle.std.specs.FinMap.{same_map, nat_cmp-IsAntisymmetric}
-use Rattle.std.proofs.lemmas.Bool.{false≢true, le-leb, lt-leb, cases_Bool, and_parts, not-true}
+use Rattle.std.proofs.lemmas.Bool.{false≢true, le-leb, lt-leb, cases_Bool, and_parts}
 use Rattle.w16_model.specs.declared.Block.{Block}
 use Rattle.w16_model.specs.declared.Entry.{Entry}
 use Rattle.w16_model.specs.declared.Kind.{Kind}
 use Rattle.w16_model.specs.declared.Way.{Way}
 use Rattle.w16_model.specs.declared.TheConstants.{GRAIN}
-use Rattle.w16_model.specs.Gap.{is_pinned, room, longest_hole}
-use Rattle.w16_model.specs.Prefix.{none_discarded_if, is_member, is_about, blocks_without, room_for}
+use Rattle.w16_model.specs.Gap.{is_pinned, room}
+use Rattle.w16_model.specs.Prefix.{none_discarded_if, blocks_without, room_for}
 use Rattle.w16_model.specs.Heap.{Heap, Object, IsMultiple, object_at, bytes_at, blocks, is_discardable}
 use Rattle.w16_model.specs.Edit.{with_ordered, with_newest}
 use Rattle.w16_model.specs.Request.{Allocates, Settles, IsNew, prefix_of, stays_for, discarded, moved_bytes}
 use Rattle.w16_model.specs.Table.{block_with, hold_in}
-use Rattle.w16_model.proofs.Gaps.{Member, Each-from, Each-at, All-from_Each, EachPair-map, EachPair-from_AllPairs}
-use Rattle.w16_model.proofs.Heaps.{member_block, blocks_permutation}
-use Rattle.w16_model.proofs.Members.{room-permutation}
-use Rattle.w16_model.proofs.Tables.{block_table, table_block, with_member, table_longest}
+use Rattle.w16_model.proofs.Gaps.{Member, Each-from, Each-at, All-from_Each}
+use Rattle.w16_model.proofs.Tables.{table_longest}
 use Rattle.w16_blocks.specs.Layout.{Layout, IsOrdered, Fits, placed}
 use Rattle.w16_compact.specs.Gather.{moved_size}
 use Rattle.w16_global.specs.declared.making.Placed.{Placed}
@@ -28,7 +25,7 @@ use Rattle.w16_global.specs.Parts.{AreParts, table_of, heap_of}
 use Rattle.w16_global.specs.Making.{AreMoved, IsFree, most_for}
 use Rattle.w16_global.proofs.Lookups.{is_heap, place_here, bytes_here}
 use Rattle.w16_global.proofs.Listed.{whole, listed_with, is_listed, listed_room}
-use Rattle.w16_global.proofs.Allocated.{absent, differ, fits, new_parts, object, objects, no_order, place_new, size_new, others_stay}
+use Rattle.w16_global.proofs.Allocated.{absent, differ, fits, new_parts, objects, no_order, place_new, size_new, others_stay}
 use Rattle.w16_global.proofs.Slid.{slid_parts, slid_object, slid_still, slid_pinned}
 use Rattle.w16_global.proofs.Moved.{moved_is}
 use Rattle.w16_global.proofs.Cleared.{Makes}

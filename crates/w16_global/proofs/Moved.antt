@@ -1,5 +1,5 @@
 -- The bytes that were moved, by the blocks and by the heap.
-use Rattle.std.proofs.Common.{◌≡◌, ◌≢◌, ℕ, ◌+◌, ◌==◌, inl, inr, Bool, true, false, cond, not, eqb, List, [], ◌∷◌, filter, sum_by, Option, Some, option_map, refl, sym, ap, ◌∙◌, arith, eq-eqb, ne_eqb}
+use Rattle.std.proofs.Common.{◌≡◌, ℕ, ◌==◌, inl, inr, Bool, cond, List, [], ◌∷◌, filter, sum_by, Option, Some, option_map, refl, sym, ap, ◌∙◌, arith, eq-eqb, ne_eqb}
 use Rattle.std.proofs.Common.{IsPermutation}
 use Rattle.std.proofs.lemmas.Bool.Decides.{eqb_tells}
 use Rattle.std.proofs.lemmas.List.Sorted.{sum_by-IsPermutation}
@@ -10,13 +10,12 @@ use Rattle.w16_model.specs.declared.Entry.{Entry}
 use Rattle.w16_model.specs.Heap.{Heap, blocks}
 use Rattle.w16_model.specs.Request.{is_elsewhere, moved_bytes}
 use Rattle.w16_model.specs.Table.{block_with}
-use Rattle.w16_model.proofs.Gaps.{Member, EachPair-map, EachPair-from_AllPairs}
-use Rattle.w16_model.proofs.Heaps.{blocks_permutation}
+use Rattle.w16_model.proofs.Gaps.{Member}
 use Rattle.w16_model.proofs.Longest.{sum_filter}
-use Rattle.w16_model.proofs.Tables.{table_block, block_table, with_member}
+use Rattle.w16_model.proofs.Tables.{with_member}
 use Rattle.w16_blocks.specs.Layout.{Layout}
 use Rattle.w16_compact.specs.Gather.{moved_size}
-use Rattle.w16_global.specs.Parts.{AreParts, table_of, heap_of}
+use Rattle.w16_global.specs.Parts.{AreParts, heap_of}
 use Rattle.w16_global.specs.Making.{EachTwo, Slides, AreMoved}
 use Rattle.w16_global.proofs.Lookups.{named_pairs, place_here}
 use Rattle.w16_global.proofs.Listed.{listed_permutation}

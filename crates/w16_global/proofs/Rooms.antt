@@ -1,6 +1,6 @@
 -- A place that was found or made, and how much there can be.
 use Rattle.std.specs.List.{find}
-use Rattle.std.proofs.Common.{◌≡◌, ℕ, zero, suc, ◌+◌, ◌-◌, ◌<◌, ◌≤◌, Bool, true, false, cond, not, nat_le, IfSome, List, [], ◌∷◌, get_or, replicate, Option, Some, None, option_map, refl, sym, ap, ◌∙◌, subst, arith}
+use Rattle.std.proofs.Common.{◌≡◌, ℕ, zero, suc, ◌-◌, ◌<◌, ◌≤◌, Bool, true, false, cond, not, nat_le, IfSome, List, [], ◌∷◌, get_or, replicate, Option, Some, None, option_map, refl, sym, ap, ◌∙◌, subst, arith}
 use Rattle.w16_model.specs.declared.Block.{Block}
 use Rattle.w16_compact.specs.Skip.{counted_of}
 use Rattle.w16_compact.specs.Gather.{moved_size}

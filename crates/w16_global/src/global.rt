@@ -82,10 +82,7 @@ impl Global16 {
         ensures allocated { Allocates self.old.heap slot size kind 0 (record { compact = false; discard = false; zero = zero; may_move = false }) result self.new.heap }
         ensures rest { self.new ≡ record self.old { heap = self.new.heap; attributes = if result then finmap.insert self.old.attributes slot attributes else self.old.attributes } }
     {
-        let Some(placed) = self
-            .objects
-            .alloc(slot as u32, size, kind, false, zero)
-        else {
+        let Some(placed) = self.objects.alloc(slot as u32, size, kind, false, zero) else {
             return false;
         };
         self.attributes[slot as usize] = Some(attributes);

@@ -3,7 +3,7 @@ ghost use Rattle.std.specs.Prelude.{◌≡◌, ◌<◌, ◌≤◌, false, true, 
 ghost use Rattle.w16_model.specs.Gap.{room, longest_hole};
 ghost use Rattle.w16_blocks.specs.Layout.{IsOrdered};
 ghost use Rattle.w16_compact.specs.Gather.{moved_size};
-ghost use Rattle.w16_global.specs.Making.{AreMoved, IsFree, most_for};
+ghost use Rattle.w16_global.specs.Making.{AreMoved, IsFree, IsLowestGathered, IsLowestPlace, most_for};
 
 use w16_blocks::{Blocks, Span};
 use w16_compact::{gap_for, gather, room};
@@ -28,7 +28,7 @@ pub(crate) struct Compacted {
 }
 
 /// The range of a slide that moved nothing.
-pub(crate) const NOTHING: Span = Span { from: 0, to: 0 };
+const NOTHING: Span = Span { from: 0, to: 0 };
 
 /// Marks of ids, none of which is set. There are no more ids.
 static NO_MARKS: [bool; 8192] = [false; 8192];
@@ -47,6 +47,7 @@ pub(crate) fn make_room(
     ensures slid { IfSome result (λ p. AreMoved p.slid.from p.slid.to blocks.old memory.old.bytes.items blocks.new memory.new.bytes.items) }
     ensures free { IfSome result (λ p. IsFree blocks.new size p.at) }
     ensures moved { IfSome result (λ p. p.moved ≡ moved_size blocks.old.blocks blocks.new.blocks) }
+    ensures lowest { IfSome result (λ p. IsLowestPlace blocks.old size p.at) }
     ensures enough { IfSome result (λ _. size ≤ most_for blocks.old compact) }
     ensures still { compact ≡ false → (blocks.new ≡ blocks.old) × (memory.new ≡ memory.old) }
     ensures refused { IfNone result ((most_for blocks.old compact < size) × (blocks.new ≡ blocks.old) × (memory.new ≡ memory.old)) }
@@ -72,10 +73,12 @@ fn gather_for(blocks: &mut Blocks, memory: &mut Region, size: u32) -> Option<Pla
     ensures slid { IfSome result (λ p. AreMoved p.slid.from p.slid.to blocks.old memory.old.bytes.items blocks.new memory.new.bytes.items) }
     ensures free { IfSome result (λ p. IsFree blocks.new size p.at) }
     ensures moved { IfSome result (λ p. p.moved ≡ moved_size blocks.old.blocks blocks.new.blocks) }
+    ensures lowest { IfSome result (λ p. IsLowestGathered blocks.old size p.at) }
     ensures refused { IfNone result ((most_for blocks.old true < size) × (blocks.new ≡ blocks.old) × (memory.new ≡ memory.old)) }
 {
     let gap = gap_for(blocks, size)?;
     let moved = gather(blocks, memory, gap.low, gap.high);
+    // Whoever reads the memory knows that it has bytes alone.
     are_bytes(memory.view(0, memory.len()));
     Some(Placed {
         at: gap.low + gap.loose,
@@ -129,5 +132,4 @@ fn most_room(blocks: &Blocks) -> u32
 /// Says that each item of a slice of bytes is one. It has no effect.
 fn are_bytes(bytes: &[u8])
     ensures { All (λ b. b < 256) bytes.now }
-{
-}
+{}

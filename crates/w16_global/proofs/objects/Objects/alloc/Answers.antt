@@ -1,10 +1,8 @@
-use Rattle.std.proofs.Common.{◌≡◌, Option, None, is_some, false, refl, sym, ap, ◌∙◌, subst, arith}
-use Rattle.w16_model.specs.declared.Kind.{Kind}
+use Rattle.std.proofs.Common.{◌≡◌, is_some, false, sym, ap, ◌∙◌, subst}
 use Rattle.w16_model.specs.Request.{Allocates}
-use Rattle.w16_blocks.specs.Layout.{Layout}
 use Rattle.w16_global.specs.Parts.{Holding, heap_of}
 use Rattle.w16_global.proofs.Granted.{way_of}
-use Rattle.w16_global.proofs.Placing.{refused_here, room, may_insert, parts_after, has_new}
+use Rattle.w16_global.proofs.Placing.{refused_here, may_insert, parts_after, has_new}
 use Rattle.w16_global.proofs.objects.Objects.alloc.Goals as goal
 
 pub returns-in_err-placed-clause-allocated : goal.returns-in_err-placed-clause-allocated

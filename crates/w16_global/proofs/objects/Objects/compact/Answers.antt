@@ -1,4 +1,3 @@
-use Rattle.std.proofs.Common.{Vec, ℕ, ap}
 use Rattle.w16_global.proofs.Slid.{slid_parts}
 use Rattle.w16_global.proofs.Compacting.{compacted, compacted_kept, compacted_still, compacted_moved}
 use Rattle.w16_global.proofs.objects.Objects.compact.Goals as goal
