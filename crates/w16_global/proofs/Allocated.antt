@@ -1,30 +1,27 @@
 -- The heap after a new object was given a free id and a free place.
 use Rattle.std.specs.List.{AllByRecursion as Each}
-use Rattle.std.proofs.Common.{◌≡◌, ◌≢◌, ℕ, ◌+◌, ◌<◌, ◌≤◌, inl, inr, Bool, true, false, cond, IsTrue, IsSomeAnd, List, [], length, set, slice_range, nat_le, Option, Some, None, MatchOption, option_map, refl, sym, ap, ◌∙◌, subst, arith}
+use Rattle.std.proofs.Common.{◌≡◌, ◌≢◌, ℕ, ◌+◌, ◌<◌, inl, inr, Bool, false, cond, IsSomeAnd, List, [], length, set, slice_range, Option, Some, None, option_map, refl, sym, ap, ◌∙◌, subst, arith}
 use Rattle.std.specs.Ordering.{nat_cmp, eq_by_cmp}
 use Rattle.std.specs.Cmp.{nat_cmp_total}
 use Rattle.std.specs.FinMap as finmap
-use Rattle.std.specs.FinMap.{get-insert, same_map, nat_cmp-IsAntisymmetric}
-use Rattle.std.proofs.lemmas.Bool.{cases_eq, le-leb, lt-leb}
+use Rattle.std.specs.FinMap.{get-insert}
+use Rattle.std.proofs.lemmas.Bool.{cases_eq}
 use Rattle.w16_model.specs.declared.Block.{Block}
 use Rattle.w16_model.specs.declared.Entry.{Entry}
 use Rattle.w16_model.specs.declared.Kind.{Kind}
-use Rattle.w16_model.specs.declared.Way.{Way}
 use Rattle.w16_model.specs.declared.TheConstants.{GRAIN}
-use Rattle.w16_model.specs.Gap.{Misses, longest_hole}
-use Rattle.w16_model.specs.Prefix.{none_discarded_if}
-use Rattle.w16_model.specs.Heap.{Heap, Object, IsMultiple, object_at, bytes_at, blocks, is_discardable}
-use Rattle.w16_model.specs.Edit.{with_ordered, with_newest}
-use Rattle.w16_model.specs.Request.{Allocates, Settles, IsNew, prefix_of, stays_for, discarded}
+use Rattle.w16_model.specs.Gap.{Misses}
+use Rattle.w16_model.specs.Heap.{Heap, Object, IsMultiple, object_at, bytes_at, is_discardable}
+use Rattle.w16_model.specs.Edit.{with_newest}
 use Rattle.w16_model.specs.Table.{block_with, hold_in}
 use Rattle.w16_model.proofs.Gaps.{Each-from, Each-at, Each-map, EachPair-from_AllPairs}
-use Rattle.w16_model.proofs.Heaps.{tied_itself, untied, member_block}
-use Rattle.w16_model.proofs.Tables.{block_table, member_with, with_member, table_longest}
+use Rattle.w16_model.proofs.Heaps.{tied_itself, untied}
+use Rattle.w16_model.proofs.Tables.{member_with, with_member}
 use Rattle.w16_blocks.specs.Layout.{Layout, IsOrdered, Fits, IsApart, placed}
 use Rattle.w16_global.specs.Parts.{AreParts, heap_of}
 use Rattle.w16_global.specs.Making.{IsFree}
 use Rattle.w16_global.proofs.With.{with-placed}
-use Rattle.w16_global.proofs.Lookups.{ordered_arranged, named_pairs, is_heap, no_entry, no_block, place_here, bytes_here}
+use Rattle.w16_global.proofs.Lookups.{ordered_arranged, no_entry, no_block}
 use Rattle.w16_global.proofs.Changed.{GoTogether, ChangesOne, changed_parts, object_at_id, object_at_other, place_at_id, place_at_other}
 use Rattle.w16_global.proofs.Cleared.{Makes}
 

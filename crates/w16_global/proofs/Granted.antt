@@ -1,33 +1,31 @@
 -- An allocation by a request that may slide the other blocks: what it leaves of the heap.
 use Rattle.std.specs.List.{AllByRecursion as Each}
-use Rattle.std.proofs.Common.{◌≡◌, ◌≢◌, ℕ, ◌+◌, ◌<◌, ◌≤◌, ◌⊎◌, inl, inr, Bool, true, false, cond, not, ◌&&◌, ◌||◌, ◌==◌, IsTrue, IfSome, IsSomeAnd, List, [], ◌∷◌, filter, length, set, slice_range, nat_le, Option, Some, None, MatchOption, option_map, refl, sym, ap, ◌∙◌, subst, arith, ne_eqb, eq-eqb}
-use Rattle.std.specs.Ordering.{nat_cmp}
+use Rattle.std.proofs.Common.{◌≡◌, ◌≢◌, ℕ, ◌+◌, ◌<◌, ◌≤◌, ◌⊎◌, inl, inr, Bool, true, false, not, ◌||◌, ◌==◌, IsTrue, IfSome, IsSomeAnd, List, [], ◌∷◌, length, set, slice_range, nat_le, Option, Some, None, MatchOption, option_map, refl, sym, ap, ◌∙◌, subst, ne_eqb}
 use Rattle.std.specs.Cmp.{nat_cmp_total}
 use Rattle.std.specs.FinMap as finmap
 use Rattle.std.specs.FinMap.{same_map, nat_cmp-IsAntisymmetric}
-use Rattle.std.proofs.lemmas.Bool.{false≢true, le-leb, lt-leb, cases_Bool, and_parts, not-true}
+use Rattle.std.proofs.lemmas.Bool.{false≢true, le-leb, lt-leb, cases_Bool, and_parts}
 use Rattle.w16_model.specs.declared.Block.{Block}
 use Rattle.w16_model.specs.declared.Entry.{Entry}
 use Rattle.w16_model.specs.declared.Kind.{Kind}
 use Rattle.w16_model.specs.declared.Way.{Way}
 use Rattle.w16_model.specs.declared.TheConstants.{GRAIN}
-use Rattle.w16_model.specs.Gap.{is_pinned, room, longest_hole}
-use Rattle.w16_model.specs.Prefix.{none_discarded_if, is_member, is_about, blocks_without, room_for}
+use Rattle.w16_model.specs.Gap.{is_pinned, room}
+use Rattle.w16_model.specs.Prefix.{none_discarded_if, blocks_without, room_for}
 use Rattle.w16_model.specs.Heap.{Heap, Object, IsMultiple, object_at, bytes_at, blocks, is_discardable}
 use Rattle.w16_model.specs.Edit.{with_ordered, with_newest}
 use Rattle.w16_model.specs.Request.{Allocates, Settles, IsNew, prefix_of, stays_for, discarded, moved_bytes}
 use Rattle.w16_model.specs.Table.{block_with, hold_in}
-use Rattle.w16_model.proofs.Gaps.{Member, Each-from, Each-at, All-from_Each, EachPair-map, EachPair-from_AllPairs}
-use Rattle.w16_model.proofs.Heaps.{member_block, blocks_permutation}
-use Rattle.w16_model.proofs.Members.{room-permutation}
-use Rattle.w16_model.proofs.Tables.{block_table, table_block, with_member, table_longest}
+use Rattle.w16_model.proofs.Gaps.{Member, Each-from, Each-at, All-from_Each}
+use Rattle.w16_model.proofs.Tables.{table_longest}
 use Rattle.w16_blocks.specs.Layout.{Layout, IsOrdered, Fits, placed}
 use Rattle.w16_compact.specs.Gather.{moved_size}
 use Rattle.w16_global.specs.declared.making.Placed.{Placed}
 use Rattle.w16_global.specs.Parts.{AreParts, table_of, heap_of}
 use Rattle.w16_global.specs.Making.{AreMoved, IsFree, most_for}
 use Rattle.w16_global.proofs.Lookups.{is_heap, place_here, bytes_here}
-use Rattle.w16_global.proofs.Allocated.{absent, differ, fits, new_parts, object, objects, no_order, place_new, size_new, others_stay}
+use Rattle.w16_global.proofs.Listed.{whole, listed_with, is_listed, listed_room}
+use Rattle.w16_global.proofs.Allocated.{absent, differ, fits, new_parts, objects, no_order, place_new, size_new, others_stay}
 use Rattle.w16_global.proofs.Slid.{slid_parts, slid_object, slid_still, slid_pinned}
 use Rattle.w16_global.proofs.Moved.{moved_is}
 use Rattle.w16_global.proofs.Cleared.{Makes}
@@ -52,14 +50,8 @@ module _ {entries : List (Option Entry)} {layout : Layout} {memory : List ℕ} (
   abbrev before : Heap
   before = heap_of entries layout memory
 
-  whole : layout.hi ≤ length memory
-  whole = let e = parts.high in omega arith
-
   without_bytes : bytes_at before id ≡ None
   without_bytes = bytes_here parts id ∙ ap (option_map (λ (x : Block). slice_range memory x.at (x.at + x.size))) (absent parts id n kind lt free some rounded plain)
-
-  listed : (x : Block) → Member x (blocks before) → Member x layout.blocks
-  listed x m = block_table (table_of entries layout) parts.sound.table memory whole x (member_block before x m)
 
   other : (x : Block) → Member x layout.blocks → x.id ≢ id
   other x m = Each-at (λ (c : Block). c.id ≢ id) layout.blocks (differ parts id n kind lt free some rounded plain) x m
@@ -71,14 +63,12 @@ module _ {entries : List (Option Entry)} {layout : Layout} {memory : List ℕ} (
 
   room_is : room_for layout.lo layout.hi (blocks before) [] 0 (Some id) ≡ room layout.lo layout.hi layout.blocks
   room_is =
-      ap (room layout.lo layout.hi) (none_out (blocks before) (Each-from (λ x. x.id ≢ id) (blocks before) (λ x m. other x (listed x m))))
-      ∙ room-permutation layout.lo layout.hi layout.blocks (blocks before) (blocks_permutation before layout.blocks
-      (EachPair-map (λ x y. x.id ≡ y.id → ⊥) (λ x y. x ≢ y) (λ x y d e. d (ap (λ (z : Block). z.id) e)) layout.blocks (EachPair-from_AllPairs (λ x y. x.id ≡ y.id → ⊥) layout.blocks parts.sound.table.ids))
-      (table_block (table_of entries layout) parts.sound.table memory whole) (block_table (table_of entries layout) parts.sound.table memory whole))
+      ap (room layout.lo layout.hi) (none_out (blocks before) (Each-from (λ x. x.id ≢ id) (blocks before) (λ x m. other x (is_listed parts x m))))
+      ∙ listed_room parts
 
   prefix_is : (compact zero : Bool) → prefix_of before n (Some id) (way_of compact zero) ≡ none_discarded_if (nat_le n (most_for layout compact))
   prefix_is true zero = ap (λ m. none_discarded_if (nat_le n m)) room_is
-  prefix_is false zero = ap (λ m. none_discarded_if (nat_le n m)) (table_longest (table_of entries layout) parts.sound.table memory whole)
+  prefix_is false zero = ap (λ m. none_discarded_if (nat_le n m)) (table_longest (table_of entries layout) parts.sound.table memory (whole parts))
 
   -- Where there isn't as much, nothing is done.
   pub refused : (compact zero : Bool) → most_for layout compact < n → Allocates before id n kind 0 (way_of compact zero) false before
@@ -129,7 +119,7 @@ module _ {entries : List (Option Entry)} {layout : Layout} {memory : List ℕ} (
 
       stays : (x : Block) → Member x layout.blocks → IsTrue (stays_for id (way_of compact zero) x) → finmap.get granted.places x.id ≡ Some x.at
       stays x m t =
-          let here : block_with layout.blocks x.id ≡ Some x = with_member layout.blocks x (EachPair-from_AllPairs (λ x y. x.id ≡ y.id → ⊥) layout.blocks parts.sound.table.ids) m in
+          let here = listed_with parts x m in
           place_mid x.id (other x m) ∙ elim (cases_Bool compact) [
             | inl on ↦ slid_pinned parts moved x.id x here (first (is_pinned x) (ap (λ v. is_pinned x || not v) (sym on) ∙ (and_parts (not (x.id == id)) (is_pinned x || not compact) t).1))
             | inr off ↦ place_same off x.id ∙ place_here parts x.id ∙ ap (option_map (λ (y : Block). y.at)) here
@@ -147,7 +137,7 @@ module _ {entries : List (Option Entry)} {layout : Layout} {memory : List ℕ} (
             λ i. record { lo = lo i; hi = hi i; grain = grain i; objects = objects_same i; places = granted.places; order = sym order i };
         sound = is_heap granted_parts;
         kept = All-from_Each (λ x. IsTrue (stays_for id (way_of compact zero) x) → finmap.get granted.places x.id ≡ Some x.at) (blocks before)
-            (Each-from (λ x. IsTrue (stays_for id (way_of compact zero) x) → finmap.get granted.places x.id ≡ Some x.at) (blocks before) (λ x m. stays x (listed x m)));
+            (Each-from (λ x. IsTrue (stays_for id (way_of compact zero) x) → finmap.get granted.places x.id ≡ Some x.at) (blocks before) (λ x m. stays x (is_listed parts x m)));
       }
 
       pub has_new : n ≤ most_for layout compact → p.moved ≡ moved_size layout.blocks mid.blocks → HasNew compact zero id n kind p before granted

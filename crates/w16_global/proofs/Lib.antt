@@ -1,5 +1,6 @@
 pub mod With
 pub mod Lookups
+pub mod Listed
 pub mod Next
 pub mod Pairs
 pub mod Fresh

@@ -1,5 +1,5 @@
 -- The bytes that were moved, by the blocks and by the heap.
-use Rattle.std.proofs.Common.{◌≡◌, ◌≢◌, ℕ, ◌+◌, ◌==◌, inl, inr, Bool, true, false, cond, not, eqb, List, [], ◌∷◌, filter, sum_by, Option, Some, option_map, refl, sym, ap, ◌∙◌, arith, eq-eqb, ne_eqb}
+use Rattle.std.proofs.Common.{◌≡◌, ℕ, ◌==◌, inl, inr, Bool, cond, List, [], ◌∷◌, filter, sum_by, Option, Some, option_map, refl, sym, ap, ◌∙◌, arith, eq-eqb, ne_eqb}
 use Rattle.std.proofs.Common.{IsPermutation}
 use Rattle.std.proofs.lemmas.Bool.Decides.{eqb_tells}
 use Rattle.std.proofs.lemmas.List.Sorted.{sum_by-IsPermutation}
@@ -10,16 +10,15 @@ use Rattle.w16_model.specs.declared.Entry.{Entry}
 use Rattle.w16_model.specs.Heap.{Heap, blocks}
 use Rattle.w16_model.specs.Request.{is_elsewhere, moved_bytes}
 use Rattle.w16_model.specs.Table.{block_with}
-use Rattle.w16_model.proofs.Gaps.{Member, EachPair-map, EachPair-from_AllPairs}
-use Rattle.w16_model.proofs.Heaps.{blocks_permutation}
+use Rattle.w16_model.proofs.Gaps.{Member}
 use Rattle.w16_model.proofs.Longest.{sum_filter}
-use Rattle.w16_model.proofs.Tables.{table_block, block_table, with_member}
+use Rattle.w16_model.proofs.Tables.{with_member}
 use Rattle.w16_blocks.specs.Layout.{Layout}
 use Rattle.w16_compact.specs.Gather.{moved_size}
-use Rattle.w16_global.specs.Parts.{AreParts, table_of, heap_of}
+use Rattle.w16_global.specs.Parts.{AreParts, heap_of}
 use Rattle.w16_global.specs.Making.{EachTwo, Slides, AreMoved}
 use Rattle.w16_global.proofs.Lookups.{named_pairs, place_here}
-use Rattle.w16_global.proofs.Slid.{slid_parts}
+use Rattle.w16_global.proofs.Listed.{listed_permutation}
 
 -- no order of the blocks changes the bytes of those that pass a test
 bytes_by : (p : Block → Bool) (xs : List Block) → sum_by (λ x. x.size) (filter p xs) ≡ sum_by (λ x. cond (p x) x.size 0) xs
@@ -53,11 +52,8 @@ module _ {entries : List (Option Entry)} {layout : Layout} {memory : List ℕ} (
   -- a heap in which each of them stands where it slid to
   pub moved_is : (h : Heap) → ((b : Block) → Member b layout.blocks → finmap.get h.places b.id ≡ finmap.get (heap_of entries new after).places b.id) → moved_size layout.blocks new.blocks ≡ moved_bytes (heap_of entries layout memory) h
   moved_is h same =
-      let perm : IsPermutation layout.blocks (blocks (heap_of entries layout memory)) = blocks_permutation (heap_of entries layout memory) layout.blocks
-      (EachPair-map (λ x y. x.id ≡ y.id → ⊥) (λ x y. x ≢ y) (λ x y d e. d (ap (λ (z : Block). z.id) e)) layout.blocks (EachPair-from_AllPairs (λ x y. x.id ≡ y.id → ⊥) layout.blocks parts.sound.table.ids))
-      (table_block (table_of entries layout) parts.sound.table memory (let e = parts.high in omega arith)) (block_table (table_of entries layout) parts.sound.table memory (let e = parts.high in omega arith)) in
       sym (moved_by (λ q. finmap.get h.places q) layout.blocks new.blocks (two_of (Slides low high memory after) (λ b c. finmap.get h.places b.id ≡ Some c.at) layout.blocks new.blocks stands moved.blocks))
-      ∙ sym (bytes_permutation (λ x. is_elsewhere x.at (finmap.get h.places x.id)) layout.blocks (blocks (heap_of entries layout memory)) perm)
+      ∙ sym (bytes_permutation (λ x. is_elsewhere x.at (finmap.get h.places x.id)) layout.blocks (blocks (heap_of entries layout memory)) (listed_permutation parts))
     where
       stands : (b c : Block) → Member b layout.blocks → Member c new.blocks → Slides low high memory after b c → finmap.get h.places b.id ≡ Some c.at
       stands b c m n s =

@@ -1,6 +1,6 @@
 -- The lowest block at or above an address, and what it is of the heap.
 use Rattle.std.specs.List.{AllByRecursion as Each}
-use Rattle.std.proofs.Common.{◌≡◌, ℕ, ◌+◌, ◌<◌, ◌≤◌, ◌⊎◌, inl, inr, IfSome, IfNone, List, [], ◌∷◌, length, slice_range, MatchOption, Option, Some, None, option_map, slice_get, refl, sym, ap, ◌∙◌, subst, arith}
+use Rattle.std.proofs.Common.{◌≡◌, ℕ, ◌+◌, ◌<◌, ◌≤◌, ◌⊎◌, inl, inr, IfSome, IfNone, List, [], ◌∷◌, length, MatchOption, Option, Some, None, option_map, slice_get, refl, sym, ap, ◌∙◌, subst, arith}
 use Rattle.std.specs.FinMap as finmap
 use Rattle.std.proofs.lemmas.Bool.{cases_lt, lt-ltb, le-ltb}
 use Rattle.w16_model.specs.declared.Block.{Block}
@@ -13,7 +13,7 @@ use Rattle.w16_model.proofs.Tables.{with_member, member_with}
 use Rattle.w16_blocks.specs.Layout.{Layout, rank}
 use Rattle.w16_blocks.proofs.Rank.{IsRising-from_apart}
 use Rattle.w16_global.specs.Parts.{AreParts, Holding, heap_of, holding_of}
-use Rattle.w16_global.proofs.Lookups.{IsArranged, sound_arranged, place_here, size_here, ends_in_memory}
+use Rattle.w16_global.proofs.Lookups.{place_here, size_here, ends_in_memory}
 
 -- what the block of a rank is to an address
 abbrev IsNext : ℕ → List Block → Option Block → Type 0
@@ -24,10 +24,10 @@ next_is lo hi from [] laid = tt
 next_is lo hi from (b ∷ bs) laid = elim (cases_lt b.at from) [
   | inl below ↦ rw (lt-ltb b.at from below) (more below (slice_get bs (rank from bs)) (next_is (block_end b) hi from bs laid.2))
   | inr above ↦ rw (le-ltb b.at from above) (
-      inl refl,
-      above,
-      (inr (omega arith), Each-map (λ c. b.at < c.at) (λ c. (c.at < from) ⊎ (b.at ≤ c.at)) (λ c lt. inr (omega arith)) bs (IsRising-from_apart lo hi (b ∷ bs) laid).0),
-    )
+    inl refl,
+    above,
+    (inr (omega arith), Each-map (λ c. b.at < c.at) (λ c. (c.at < from) ⊎ (b.at ≤ c.at)) (λ c lt. inr (omega arith)) bs (IsRising-from_apart lo hi (b ∷ bs) laid).0),
+  )
 ]
   where
     more : b.at < from → (found : Option Block) → IsNext from bs found → IsNext from (b ∷ bs) found

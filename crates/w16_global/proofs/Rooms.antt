@@ -1,8 +1,10 @@
 -- A place that was found or made, and how much there can be.
 use Rattle.std.specs.List.{find}
-use Rattle.std.proofs.Common.{◌≡◌, ℕ, zero, suc, ◌+◌, ◌-◌, ◌<◌, ◌≤◌, Bool, true, false, cond, not, nat_le, IfSome, List, [], ◌∷◌, get_or, replicate, Option, Some, None, option_map, refl, sym, ap, ◌∙◌, subst, arith}
+use Rattle.std.proofs.Common.{◌≡◌, ℕ, zero, suc, ◌-◌, ◌<◌, ◌≤◌, Bool, true, false, cond, not, nat_le, IfSome, List, [], ◌∷◌, get_or, replicate, Option, Some, None, option_map, refl, sym, ap, ◌∙◌, subst, arith}
 use Rattle.w16_model.specs.declared.Block.{Block}
 use Rattle.w16_compact.specs.Skip.{counted_of}
+use Rattle.w16_compact.specs.Gather.{moved_size}
+use Rattle.w16_compact.proofs.Gathered.{moved_same}
 use Rattle.w16_model.specs.declared.Span.{Span}
 use Rattle.w16_model.specs.Gap.{ArePlaced, holes, room, longest_hole}
 use Rattle.w16_model.proofs.Laid.{laid_placed}
@@ -62,3 +64,6 @@ no_hole {l} ordered most is none = let h = longest_in_room ordered (same_moved 0
 pub whole_hole : {low high : ℕ} {l : Layout} {memory : List ℕ} {new : Layout} {after : List ℕ} → IsOrdered l → AreMoved low high l memory new after → (most at : ℕ) → most ≡ room l.lo l.hi l.blocks → 0 < most → IsFree new most at
     → most ≡ longest_hole new.lo new.hi new.blocks
 whole_hole ordered moved most at is some free = let h = longest_in_room ordered moved in let k = free_in_hole ordered moved most at some free in omega arith
+
+pub none_moved : (bs : List Block) → 0 ≡ moved_size bs bs
+none_moved bs = sym (moved_same bs)

@@ -1,5 +1,5 @@
 -- The heap of parts whose blocks slid: the same objects at other addresses.
-use Rattle.std.proofs.Common.{◌≡◌, ◌≢◌, ℕ, ◌+◌, ◌-◌, ◌<◌, ◌≤◌, ◌⊎◌, inl, inr, true, false, IsTrue, IfSome, IsSomeAnd, List, length, get_or, take, drop, slice_range, Option, Some, None, option_map, refl, sym, ap, ◌∙◌, subst, arith}
+use Rattle.std.proofs.Common.{◌≡◌, ℕ, ◌+◌, ◌-◌, ◌<◌, ◌≤◌, ◌⊎◌, inl, inr, IsTrue, IfSome, IsSomeAnd, List, get_or, take, drop, slice_range, Option, Some, None, option_map, refl, sym, ap, ◌∙◌, subst, arith}
 use Rattle.std.specs.FinMap as finmap
 use Rattle.std.proofs.lemmas.Bool.{false≢true}
 use Rattle.w16_region.specs.Bytes.{part}
@@ -13,7 +13,7 @@ use Rattle.w16_model.proofs.Laid.{laid_each}
 use Rattle.w16_model.proofs.Tables.{member_with}
 use Rattle.w16_blocks.specs.Layout.{Layout}
 use Rattle.w16_global.specs.Parts.{AreParts, heap_of}
-use Rattle.w16_global.specs.Making.{EachTwo, Slides, AreMoved}
+use Rattle.w16_global.specs.Making.{Slides, AreMoved}
 use Rattle.w16_global.proofs.Pairs.{BothOrNone, with_two}
 use Rattle.w16_global.proofs.Lookups.{ordered_arranged, sound_of, holds_at, object_here, place_here}
 

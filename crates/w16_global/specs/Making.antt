@@ -1,12 +1,14 @@
 -- Room that is made for new bytes: the blocks that slid for it, and the place that it leaves.
-use Rattle.std.specs.Prelude.{ℕ, ◌+◌, ◌<◌, ◌≤◌, ◌≡◌, ◌⊎◌, Bool, if◌then◌else◌, List, [], ◌∷◌, length, All}
+use Rattle.std.specs.Prelude.{ℕ, ◌+◌, ◌-◌, ◌<◌, ◌≤◌, ◌≡◌, ◌⊎◌, Bool, if◌then◌else◌, nat_le, List, [], ◌∷◌, length, find, All, MatchOption}
 use Rattle.std.specs.List.{AllByRecursion}
 use Rattle.w16_region.specs.Bytes.{part}
 use Rattle.w16_model.specs.declared.Block.{Block}
 use Rattle.w16_model.specs.declared.Hold.TheVariants.{Loose}
-use Rattle.w16_model.specs.Gap.{block_end, is_pinned, Misses, IsClear, room, longest_hole}
+use Rattle.w16_model.specs.Gap.{block_end, is_pinned, Misses, IsClear, holes, room, longest_hole}
 use Rattle.w16_model.specs.Heap.{IsMultiple}
 use Rattle.w16_blocks.specs.Layout.{Layout, IsOrdered}
+use Rattle.w16_compact.specs.declared.gaps.Gap.{Gap}
+use Rattle.w16_compact.specs.Gap.{HasRoom, IsLowest}
 
 -- two lists of blocks, block by block
 abbrev pub EachTwo : (Block → Block → Type 0) → List Block → List Block → Type 0
@@ -40,3 +42,11 @@ pub record IsFree (l : Layout) (n at : ℕ) : Type 0 where
 -- the most bytes in a row that there can be, with or without sliding
 abbrev pub most_for : Layout → Bool → ℕ
 most_for l compact = if compact then room l.lo l.hi l.blocks else longest_hole l.lo l.hi l.blocks
+
+-- directly behind the loose blocks of the lowest gap with room for n bytes, gathered
+abbrev pub IsLowestGathered : Layout → ℕ → ℕ → Type 0
+IsLowestGathered l n at = (gap : Gap) × HasRoom l n gap × IsLowest l n gap.low × (at ≡ gap.low + gap.loose)
+
+-- where the lowest hole of n bytes begins, or there where no hole is as long
+abbrev pub IsLowestPlace : Layout → ℕ → ℕ → Type 0
+IsLowestPlace l n at = MatchOption (find (λ s. nat_le n (s.to - s.from)) (holes l.lo l.hi l.blocks)) (IsLowestGathered l n at) (λ s. at ≡ s.from)

@@ -11,7 +11,7 @@ ghost use Rattle.w16_blocks.specs.Layout.{IsOrdered, without, replaced};
 ghost use Rattle.w16_region.specs.Bytes.{put_part, repeated};
 ghost use Rattle.w16_global.specs.Parts.{IsInside, entry_of};
 
-use crate::making::{Compacted, NOTHING, Placed, make_most_room, make_room, most_room};
+use crate::making::{Compacted, Placed, compact_for, make_room};
 use std::alloc::{AllocError, Global};
 use std::marker::Model;
 use w16_blocks::{Block, Blocks, Hold};
@@ -141,14 +141,7 @@ impl Objects {
         ensures few { result.moved < 2 ^ 32 }
         ensures cap { self.new.cap ≡ self.old.cap }
     {
-        if n == 0 {
-            return Compacted {
-                room: most_room(&self.blocks),
-                slid: NOTHING,
-                moved: 0,
-            };
-        }
-        make_most_room(&mut self.blocks, &mut self.memory)
+        compact_for(&mut self.blocks, &mut self.memory, n)
     }
 
     /// A new object that is absent.

@@ -102,49 +102,46 @@ pub fn of_memory() -> [Row; 4] {
     ]
 }
 
+/// A row over 128 bytes, each line of which has a reply.
+const fn narrow(
+    name: &'static str,
+    script: &'static [u8],
+    output: &'static [u8],
+    lines: u32,
+) -> Row {
+    Row {
+        memory: 128,
+        ..small(name, script, output, lines, lines)
+    }
+}
+
 /// Rows on objects that slide.
 pub fn of_compaction() -> [Row; 4] {
     [
-        Row {
-            memory: 128,
-            ..small(
-                "an object slides",
-                b"GlobalAlloc 0x42 32\nGlobalAlloc 0x42 32\nGlobalAlloc 0x42 32\nWrite 0x01170000 a1b2\nGlobalFree 0x10e\nGlobalAlloc 2 64\nMoved\nGetSelectorBase 0x117\nGetSelectorBase 0x10f\nRead 0x01170000 2\n",
-                b"0106\n010e\n0116\nok\n0000\n010e\n00000020\n00000020\n00000040\nbytes a1b2\n",
-                10,
-                10,
-            )
-        },
-        Row {
-            memory: 128,
-            ..small(
-                "a locked object stays",
-                b"GlobalAlloc 0x42 32\nGlobalAlloc 0x42 32\nGlobalAlloc 0x42 32\nWrite 0x01170000 a1b2\nGlobalFree 0x10e\nGlobalLock 0x116\nGlobalAlloc 2 64\nGetSelectorBase 0x117\nGlobalUnlock 0x116\nGlobalAlloc 2 64\nGetSelectorBase 0x117\n",
-                b"0106\n010e\n0116\nok\n0000\n01170000\n0000\n00000040\n0000\n010e\n00000020\n",
-                11,
-                11,
-            )
-        },
-        Row {
-            memory: 128,
-            ..small(
-                "compaction on request",
-                b"GlobalAlloc 2 32\nGlobalAlloc 2 32\nGlobalAlloc 2 32\nGlobalFree 0x10e\nGlobalAlloc 0x12 64\nGlobalCompact 0\nGetSelectorBase 0x117\nGlobalCompact 1\nMoved\nGetSelectorBase 0x117\nGlobalAlloc 0x12 64\nMoved\n",
-                b"0106\n010e\n0116\n0000\n0000\n00000040\n00000040\n00000040\n00000020\n00000020\n010e\n00000000\n",
-                12,
-                12,
-            )
-        },
-        Row {
-            memory: 128,
-            ..small(
-                "what counts as the last call",
-                b"GlobalAlloc 2 32\nGlobalAlloc 2 32\nGlobalFree 0x106\nMoved\nGlobalCompact 4294967295\nMoved\nGlobalLock 0x10e\nFrob\nMoved\nGlobalAlloc 2 128\nMoved\nGlobalAlloc 2 96\nGlobalCompact 32\nGlobalCompact 0\nMoved\n",
-                b"0106\n010e\n0000\n00000000\n00000060\n00000020\n010f0000\nerror syntax\n00000020\n0000\n00000000\n0106\n00000000\n00000000\n00000000\n",
-                15,
-                15,
-            )
-        },
+        narrow(
+            "an object slides",
+            b"GlobalAlloc 0x42 32\nGlobalAlloc 0x42 32\nGlobalAlloc 0x42 32\nWrite 0x01170000 a1b2\nGlobalFree 0x10e\nGlobalAlloc 2 64\nMoved\nGetSelectorBase 0x117\nGetSelectorBase 0x10f\nRead 0x01170000 2\n",
+            b"0106\n010e\n0116\nok\n0000\n010e\n00000020\n00000020\n00000040\nbytes a1b2\n",
+            10,
+        ),
+        narrow(
+            "a locked object stays",
+            b"GlobalAlloc 0x42 32\nGlobalAlloc 0x42 32\nGlobalAlloc 0x42 32\nWrite 0x01170000 a1b2\nGlobalFree 0x10e\nGlobalLock 0x116\nGlobalAlloc 2 64\nGetSelectorBase 0x117\nGlobalUnlock 0x116\nGlobalAlloc 2 64\nGetSelectorBase 0x117\n",
+            b"0106\n010e\n0116\nok\n0000\n01170000\n0000\n00000040\n0000\n010e\n00000020\n",
+            11,
+        ),
+        narrow(
+            "compaction on request",
+            b"GlobalAlloc 2 32\nGlobalAlloc 2 32\nGlobalAlloc 2 32\nGlobalFree 0x10e\nGlobalAlloc 0x12 64\nGlobalCompact 0\nGetSelectorBase 0x117\nGlobalCompact 1\nMoved\nGetSelectorBase 0x117\nGlobalAlloc 0x12 64\nMoved\n",
+            b"0106\n010e\n0116\n0000\n0000\n00000040\n00000040\n00000040\n00000020\n00000020\n010e\n00000000\n",
+            12,
+        ),
+        narrow(
+            "what counts as the last call",
+            b"GlobalAlloc 2 32\nGlobalAlloc 2 32\nGlobalFree 0x106\nMoved\nGlobalCompact 4294967295\nMoved\nGlobalLock 0x10e\nFrob\nMoved\nGlobalAlloc 2 128\nMoved\nGlobalAlloc 2 96\nGlobalCompact 32\nGlobalCompact 0\nMoved\n",
+            b"0106\n010e\n0000\n00000000\n00000060\n00000020\n010f0000\nerror syntax\n00000020\n0000\n00000000\n0106\n00000000\n00000000\n00000000\n",
+            15,
+        ),
     ]
 }
 

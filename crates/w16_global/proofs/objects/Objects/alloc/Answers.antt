@@ -1,10 +1,8 @@
-use Rattle.std.proofs.Common.{◌≡◌, Option, None, is_some, false, refl, sym, ap, ◌∙◌, subst, arith}
-use Rattle.w16_model.specs.declared.Kind.{Kind}
+use Rattle.std.proofs.Common.{◌≡◌, is_some, false, sym, ap, ◌∙◌, subst, arith}
 use Rattle.w16_model.specs.Request.{Allocates}
-use Rattle.w16_blocks.specs.Layout.{Layout}
 use Rattle.w16_global.specs.Parts.{Holding, heap_of}
 use Rattle.w16_global.proofs.Granted.{way_of}
-use Rattle.w16_global.proofs.Placing.{refused_here, room, may_insert, parts_after, has_new}
+use Rattle.w16_global.proofs.Placing.{refused_here, may_insert, parts_after, has_new}
 use Rattle.w16_global.proofs.Unmoved.{moved_small}
 use Rattle.w16_global.proofs.objects.Objects.alloc.Goals as goal
 
@@ -61,5 +59,5 @@ returns-clause-moved c =
 pub returns-clause-few : goal.returns-clause-few
 returns-clause-few c =
     let s = c.self.inside in
-    let o = c.in_ok-placed.ensures.ordered in
-    omega (arith, c.in_ok-placed.ensures.moved, o.small, moved_small s.blocks.lo s.blocks.hi s.blocks.blocks c.make_room.new.blocks.blocks o.laid)
+    let kept = c.self.invariant in
+    omega (arith, c.in_ok-placed.ensures.moved, kept.high, s.memory.small, moved_small s.blocks.lo s.blocks.hi s.blocks.blocks c.make_room.new.blocks.blocks kept.sound.table.laid)

@@ -1,0 +1,36 @@
+-- The blocks of the parts' heap are those that are listed, in another order.
+use Rattle.std.proofs.Common.{◌≡◌, ◌≢◌, ℕ, ◌≤◌, List, length, Option, Some, ap, arith, IsPermutation}
+use Rattle.w16_model.specs.declared.Block.{Block}
+use Rattle.w16_model.specs.declared.Entry.{Entry}
+use Rattle.w16_model.specs.Gap.{room}
+use Rattle.w16_model.specs.Heap.{blocks}
+use Rattle.w16_model.specs.Table.{block_with}
+use Rattle.w16_model.proofs.Gaps.{EachPair, Member, EachPair-map, EachPair-from_AllPairs}
+use Rattle.w16_model.proofs.Heaps.{member_block, blocks_permutation}
+use Rattle.w16_model.proofs.Members.{room-permutation}
+use Rattle.w16_model.proofs.Tables.{table_block, block_table, with_member}
+use Rattle.w16_blocks.specs.Layout.{Layout}
+use Rattle.w16_global.specs.Parts.{AreParts, table_of, heap_of}
+
+module _ {entries : List (Option Entry)} {layout : Layout} {memory : List ℕ} (parts : AreParts entries layout memory) where
+  pub whole : layout.hi ≤ length memory
+  whole = let e = parts.high in omega arith
+
+  -- no two have one id
+  pub listed_ids : EachPair (λ x y. x.id ≡ y.id → ⊥) layout.blocks
+  listed_ids = EachPair-from_AllPairs (λ x y. x.id ≡ y.id → ⊥) layout.blocks parts.sound.table.ids
+
+  pub listed_with : (x : Block) → Member x layout.blocks → block_with layout.blocks x.id ≡ Some x
+  listed_with x m = with_member layout.blocks x listed_ids m
+
+  pub is_listed : (x : Block) → Member x (blocks (heap_of entries layout memory)) → Member x layout.blocks
+  is_listed x m = block_table (table_of entries layout) parts.sound.table memory whole x (member_block (heap_of entries layout memory) x m)
+
+  pub listed_permutation : IsPermutation layout.blocks (blocks (heap_of entries layout memory))
+  listed_permutation = blocks_permutation (heap_of entries layout memory) layout.blocks
+      (EachPair-map (λ x y. x.id ≡ y.id → ⊥) (λ x y. x ≢ y) (λ x y d e. d (ap (λ (z : Block). z.id) e)) layout.blocks listed_ids)
+      (table_block (table_of entries layout) parts.sound.table memory whole) (block_table (table_of entries layout) parts.sound.table memory whole)
+
+  -- so they have the same room
+  pub listed_room : room layout.lo layout.hi (blocks (heap_of entries layout memory)) ≡ room layout.lo layout.hi layout.blocks
+  listed_room = room-permutation layout.lo layout.hi layout.blocks (blocks (heap_of entries layout memory)) listed_permutation
