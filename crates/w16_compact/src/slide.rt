@@ -1,7 +1,7 @@
 // Loose blocks slide to the low end of a gap.
 ghost use Rattle.std.specs.Prelude.{◌≡◌, ℕ, ◌+◌, ◌<◌, ◌≤◌, ◌⊎◌, ◌==◌, length, take, drop, slice_get, slice_set, if◌then◌else◌, MatchOption, IfSome};
 ghost use Rattle.std.specs.List.{AllByRecursion};
-ghost use Rattle.w16_region.specs.Bytes.{counted};
+ghost use Rattle.w16_region.specs.Bytes.{counted, part};
 ghost use Rattle.w16_model.specs.Gap.{block_end, is_any, IsClear, IsGap, IsHole, loose_bytes};
 ghost use Rattle.w16_model.specs.Heap.{IsMultiple};
 ghost use Rattle.w16_blocks.specs.Layout.{IsOrdered};
@@ -84,13 +84,31 @@ fn settle<S: Space>(blocks: &mut Blocks, space: &mut S, i: usize, block: Block, 
     ensures written { S.written space.new ≡ counted (S.written space.old) result }
     ensures length { length (S.bytes space.new) ≡ length (S.bytes space.old) }
     ensures below { take to (S.bytes space.new) ≡ take to (S.bytes space.old) }
-    ensures above { drop (block_end block) (S.bytes space.new) ≡ drop (block_end block) (S.bytes space.old) }
+    ensures above { drop (block_end block) (S.bytes space.new)
+        ≡ drop (block_end block) (S.bytes space.old) }
     ensures lenders { S.lenders space.new ≡ S.lenders space.old }
 {
     if block.at == to {
         return 0;
     }
-    space.slide(block.at, to, block.size);
+    slide_down(space, block, to);
     blocks.shift(block.id, to);
     block.size
+}
+
+/// Slides a block's bytes down to a place, also over bytes of its own.
+#[tactic(auto, using(crate::proofs::Parts::slid_part, crate::proofs::Parts::slid_above))]
+fn slide_down<S: Space>(space: &mut S, block: Block, to: u32)
+    requires down { to ≤ block.at }
+    requires inside { block_end block ≤ length (S.bytes space.old) }
+    ensures moved { part (S.bytes space.new) to block.size
+        ≡ part (S.bytes space.old) block.at block.size }
+    ensures written { S.written space.new ≡ counted (S.written space.old) block.size }
+    ensures length { length (S.bytes space.new) ≡ length (S.bytes space.old) }
+    ensures below { take to (S.bytes space.new) ≡ take to (S.bytes space.old) }
+    ensures above { drop (block_end block) (S.bytes space.new)
+        ≡ drop (block_end block) (S.bytes space.old) }
+    ensures lenders { S.lenders space.new ≡ S.lenders space.old }
+{
+    space.slide(block.at, to, block.size);
 }
