@@ -10,8 +10,9 @@ ghost use Rattle.w16_compact.specs.Gather.{gathered, contents, moved_size, MayGa
 use w16_blocks::{Block, Blocks};
 use w16_region::Space;
 
-/// Slides the loose blocks of `low` up to `high` down to `low`, in their order, so that what is free
-/// there lies behind them. Where that is a gap, one hole is left in it, or none where they fill it.
+/// Slides the loose blocks of `low` up to `high`, two addresses, down to `low`, in their order
+/// (profile), so that what is free there lies behind them. Of a gap one hole is left, or none where
+/// they fill it.
 ///
 /// Answers how many bytes were moved: the sizes of the blocks whose address changed, together. As
 /// many bytes were written, so a block that stays isn't written, and none is written twice.
@@ -19,13 +20,14 @@ pub fn gather<S: Space>(blocks: &mut Blocks, space: &mut S, low: u32, high: u32)
     requires gap { MayGather blocks.old low high }
     requires grained { IsMultiple blocks.old.grain low }
     requires inside { blocks.old.hi ≤ length (S.bytes space.old) }
-    ensures blocks { blocks.new ≡ record blocks.old { blocks = gathered low high blocks.old.blocks } }
+    ensures blocks { blocks.new
+        ≡ record blocks.old { blocks = gathered low high blocks.old.blocks } }
     ensures ordered { IsOrdered blocks.new }
     ensures slid { AreSlid blocks.old.blocks blocks.new.blocks }
     ensures contents { contents (S.bytes space.new) blocks.new.blocks
         ≡ contents (S.bytes space.old) blocks.old.blocks }
-    ensures clear { IsClear is_any blocks.old.lo blocks.old.hi blocks.new.blocks
-        (low + loose_bytes blocks.old.blocks low high) high }
+    ensures clear { let free = low + loose_bytes blocks.old.blocks low high in
+        IsClear is_any blocks.old.lo blocks.old.hi blocks.new.blocks free high }
     ensures hole { let free = low + loose_bytes blocks.old.blocks low high in
         IsGap blocks.old.lo blocks.old.hi blocks.old.blocks low high
         → free < high → IsHole blocks.old.lo blocks.old.hi blocks.new.blocks free high }
@@ -75,8 +77,8 @@ fn settle<S: Space>(blocks: &mut Blocks, space: &mut S, i: usize, block: Block, 
     requires grained { IsMultiple blocks.old.grain to }
     requires down { (blocks.old.lo ≤ to) × (to ≤ block.at) }
     requires inside { blocks.old.hi ≤ length (S.bytes space.old) }
-    ensures blocks { blocks.new
-        ≡ record blocks.old { blocks = slice_set blocks.old.blocks i (record block { at = to }) } }
+    ensures blocks { let there = record block { at = to } in
+        blocks.new ≡ record blocks.old { blocks = slice_set blocks.old.blocks i there } }
     ensures ordered { IsOrdered blocks.new }
     ensures contents { contents (S.bytes space.new) blocks.new.blocks
         ≡ contents (S.bytes space.old) blocks.old.blocks }
