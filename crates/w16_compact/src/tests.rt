@@ -1,4 +1,4 @@
-//! Arrangements of blocks, with answers that were worked out by hand and those of the plain program.
+//! Arrangements of blocks: answers that were worked out by hand, and those of the plain program.
 ghost use Rattle.std.specs.Prelude.{◌≡◌, ◌≢◌, ◌<◌, ◌≤◌, length, IsTrue, IfOk};
 ghost use Rattle.w16_model.specs.Gap.{block_end};
 ghost use Rattle.w16_model.specs.Heap.{IsMultiple};
