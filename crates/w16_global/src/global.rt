@@ -93,10 +93,7 @@ impl Global16 {
           moved = if result then moved_bytes self.old.heap self.new.heap else self.old.moved;
         } }
     {
-        let Some(placed) = self
-            .objects
-            .alloc(slot as u32, size, kind, compact, zero)
-        else {
+        let Some(placed) = self.objects.alloc(slot as u32, size, kind, compact, zero) else {
             return false;
         };
         self.moved = placed.moved as u32;

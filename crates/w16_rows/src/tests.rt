@@ -3,7 +3,8 @@ ghost use Rattle.w16_kernel.specs.Runs.{IsCall};
 
 use crate::hosts::{Broken, Endless, Short};
 use crate::rows::{
-    LIFE, LIFE_OUTPUT, Row, of_lines, of_memory, of_objects, of_questions, of_registers,
+    LIFE, LIFE_OUTPUT, Row, of_compaction, of_lines, of_memory, of_objects, of_questions,
+    of_registers,
 };
 use arrayvec::ArrayVec;
 use std::alloc::{AllocError, Global};

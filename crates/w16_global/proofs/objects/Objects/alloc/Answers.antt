@@ -55,7 +55,6 @@ returns-clause-moved c =
     (has_new c.self.invariant c.self.view_is c.args.id c.args.size c.args.kind c.requires.id c.requires.free c.requires.some c.requires.rounded c.requires.kind c.in_ok-placed.placed c.in_ok-placed.ensures.slid c.in_ok-placed.ensures.free c.hold-hold.ensures c.args.compact (λ off. (c.in_ok-placed.ensures.still off).0)
     c.insert.ensures.value c.insert.ensures.ordered c.args.zero c.clear_if.ensures c.in_ok-placed.ensures.enough c.in_ok-placed.ensures.moved).moved
 
-
 pub returns-clause-few : goal.returns-clause-few
 returns-clause-few c =
     let s = c.self.inside in
