@@ -7,17 +7,19 @@ ghost use Rattle.w16_compact.specs.Gap.{HasRoom, IsLowest};
 use crate::reach::Reached;
 use w16_blocks::{Block, Blocks, Hold};
 
-/// A gap: a longest interval without a byte of a pinned block, from `low` up to `high`, the place
-/// behind its last byte. `loose` is the bytes of its loose blocks together.
+/// A gap: a longest interval without a byte of a pinned block. Addresses and sizes are in bytes.
 #[derive(Clone, Copy, Debug, PartialEq, Eq)]
 pub struct Gap {
+    /// Its first byte.
     pub low: u32,
+    /// The place behind its last byte.
     pub high: u32,
+    /// The bytes of its loose blocks together, at most `high - low`.
     pub loose: u32,
 }
 
-/// The lowest gap that has room for `n` bytes beside its loose blocks (lowest: profile). There is
-/// one just where the room is at least `n`.
+/// The gap that has room for `n` bytes, at least one, beside its loose blocks: the lowest of those
+/// that have (profile). There is none exactly where the room is below `n`.
 pub fn gap_for(blocks: &Blocks, n: u32) -> Option<Gap>
     requires { 0 < n }
     ensures found { MatchOption result

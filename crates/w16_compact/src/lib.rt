@@ -1,14 +1,18 @@
 //! Compaction: the loose blocks of a gap slide together, so that one hole is left there.
 //!
-//! - [`room`] is what compaction can make.
-//! - [`gap_for`] is where it makes enough.
-//! - [`gather`] makes it there. No call takes memory, and none is refused.
+//! - [`room`] tells how much compaction can make.
+//! - [`gap_for`] tells where it can make enough.
+//! - [`gather`] makes it there.
+//!
+//! No call takes memory. What is proved of them is stated over `w16_model`'s gaps and holes.
 #![tactic(auto)]
 
 mod gaps;
 mod reach;
 mod rooms;
 mod slide;
+#[cfg(test)]
+mod tests;
 
 pub use gaps::{Gap, gap_for};
 pub use rooms::room;

@@ -16,7 +16,8 @@ impl Reached {
     pub(crate) fn passing(self, block: &Block) -> Reached
         requires end { block_end block.now < 2 ^ 32 }
         requires sum { self.loose + block.now.size < 2 ^ 32 }
-        ensures { result ≡ (if is_pinned block.now then record { low = block_end block.now; loose = 0 }
+        ensures { result ≡ (if is_pinned block.now
+            then record { low = block_end block.now; loose = 0 }
             else record { low = self.low; loose = self.loose + block.now.size }) }
     {
         match block.hold {

@@ -7,9 +7,9 @@ ghost use Rattle.w16_compact.specs.Skip.{is_counted, counted_of};
 use crate::reach::{Reached, is_pinned};
 use w16_blocks::{Block, Blocks};
 
-/// The longest stretch that sliding can free: the largest, over all gaps, of a gap's length less
-/// the bytes of its loose blocks, 0 where there is no gap. The blocks of the ids that `skip` marks
-/// are left out, pinned ones too: their bytes are free ones.
+/// The longest stretch that sliding can free, in bytes: the largest, over all gaps, of a gap's
+/// length less the bytes of its loose blocks, and 0 where there is no gap. The blocks whose ids are
+/// marked in `skip` are left out, pinned ones too: their bytes count as free.
 pub fn room(blocks: &Blocks, skip: &[bool]) -> u32
     requires { blocks.now.cap ≤ length skip.now }
     ensures value { result

@@ -1,7 +1,7 @@
 // Loose blocks slide to the low end of a gap.
 ghost use Rattle.std.specs.Prelude.{◌≡◌, ℕ, ◌+◌, ◌<◌, ◌≤◌, ◌⊎◌, ◌==◌, length, take, drop, slice_get, slice_set, if◌then◌else◌, MatchOption, IfSome};
 ghost use Rattle.std.specs.List.{AllByRecursion};
-ghost use Rattle.w16_region.specs.Bytes.{counted};
+ghost use Rattle.w16_region.specs.Bytes.{counted, part};
 ghost use Rattle.w16_model.specs.Gap.{block_end, is_any, IsClear, IsGap, IsHole, loose_bytes};
 ghost use Rattle.w16_model.specs.Heap.{IsMultiple};
 ghost use Rattle.w16_blocks.specs.Layout.{IsOrdered};
@@ -10,22 +10,24 @@ ghost use Rattle.w16_compact.specs.Gather.{gathered, contents, moved_size, MayGa
 use w16_blocks::{Block, Blocks};
 use w16_region::Space;
 
-/// Slides the loose blocks between two addresses to the lower one, in their order, so that what is
-/// free there is behind them. Of a gap one hole is left, or none where the blocks fill it.
+/// Slides the loose blocks of `low` up to `high`, two addresses, down to `low`, in their order
+/// (profile), so that what is free there lies behind them. Of a gap one hole is left, or none where
+/// they fill it.
 ///
-/// Answers how many bytes were moved: the sizes of the blocks whose address changed. No other byte
-/// was written, and none twice.
+/// Answers how many bytes were moved: the sizes of the blocks whose address changed, together. As
+/// many bytes were written, so a block that stays isn't written, and none is written twice.
 pub fn gather<S: Space>(blocks: &mut Blocks, space: &mut S, low: u32, high: u32) -> u64
     requires gap { MayGather blocks.old low high }
     requires grained { IsMultiple blocks.old.grain low }
     requires inside { blocks.old.hi ≤ length (S.bytes space.old) }
-    ensures blocks { blocks.new ≡ record blocks.old { blocks = gathered low high blocks.old.blocks } }
+    ensures blocks { blocks.new
+        ≡ record blocks.old { blocks = gathered low high blocks.old.blocks } }
     ensures ordered { IsOrdered blocks.new }
     ensures slid { AreSlid blocks.old.blocks blocks.new.blocks }
     ensures contents { contents (S.bytes space.new) blocks.new.blocks
         ≡ contents (S.bytes space.old) blocks.old.blocks }
-    ensures clear { IsClear is_any blocks.old.lo blocks.old.hi blocks.new.blocks
-        (low + loose_bytes blocks.old.blocks low high) high }
+    ensures clear { let free = low + loose_bytes blocks.old.blocks low high in
+        IsClear is_any blocks.old.lo blocks.old.hi blocks.new.blocks free high }
     ensures hole { let free = low + loose_bytes blocks.old.blocks low high in
         IsGap blocks.old.lo blocks.old.hi blocks.old.blocks low high
         → free < high → IsHole blocks.old.lo blocks.old.hi blocks.new.blocks free high }
@@ -33,6 +35,10 @@ pub fn gather<S: Space>(blocks: &mut Blocks, space: &mut S, low: u32, high: u32)
         IsGap blocks.old.lo blocks.old.hi blocks.old.blocks low high
         → (a b : ℕ) → IsHole blocks.old.lo blocks.old.hi blocks.new.blocks a b
         → (b ≤ low) ⊎ ((high ≤ a) ⊎ ((a ≡ free) × (b ≡ high))) }
+    ensures full { IsGap blocks.old.lo blocks.old.hi blocks.old.blocks low high
+        → low + loose_bytes blocks.old.blocks low high ≡ high
+        → (a b : ℕ) → IsHole blocks.old.lo blocks.old.hi blocks.new.blocks a b
+        → (b ≤ low) ⊎ (high ≤ a) }
     ensures moved { result ≡ moved_size blocks.old.blocks blocks.new.blocks }
     ensures written { S.written space.new ≡ counted (S.written space.old) result }
     ensures length { length (S.bytes space.new) ≡ length (S.bytes space.old) }
@@ -71,8 +77,8 @@ fn settle<S: Space>(blocks: &mut Blocks, space: &mut S, i: usize, block: Block, 
     requires grained { IsMultiple blocks.old.grain to }
     requires down { (blocks.old.lo ≤ to) × (to ≤ block.at) }
     requires inside { blocks.old.hi ≤ length (S.bytes space.old) }
-    ensures blocks { blocks.new
-        ≡ record blocks.old { blocks = slice_set blocks.old.blocks i (record block { at = to }) } }
+    ensures blocks { let there = record block { at = to } in
+        blocks.new ≡ record blocks.old { blocks = slice_set blocks.old.blocks i there } }
     ensures ordered { IsOrdered blocks.new }
     ensures contents { contents (S.bytes space.new) blocks.new.blocks
         ≡ contents (S.bytes space.old) blocks.old.blocks }
@@ -80,13 +86,31 @@ fn settle<S: Space>(blocks: &mut Blocks, space: &mut S, i: usize, block: Block, 
     ensures written { S.written space.new ≡ counted (S.written space.old) result }
     ensures length { length (S.bytes space.new) ≡ length (S.bytes space.old) }
     ensures below { take to (S.bytes space.new) ≡ take to (S.bytes space.old) }
-    ensures above { drop (block_end block) (S.bytes space.new) ≡ drop (block_end block) (S.bytes space.old) }
+    ensures above { drop (block_end block) (S.bytes space.new)
+        ≡ drop (block_end block) (S.bytes space.old) }
     ensures lenders { S.lenders space.new ≡ S.lenders space.old }
 {
     if block.at == to {
         return 0;
     }
-    space.slide(block.at, to, block.size);
+    slide_down(space, block, to);
     blocks.shift(block.id, to);
     block.size
+}
+
+/// Slides a block's bytes down to a place, also over bytes of its own.
+#[tactic(auto, using(crate::proofs::Parts::slid_part, crate::proofs::Parts::slid_above))]
+fn slide_down<S: Space>(space: &mut S, block: Block, to: u32)
+    requires down { to ≤ block.at }
+    requires inside { block_end block ≤ length (S.bytes space.old) }
+    ensures moved { part (S.bytes space.new) to block.size
+        ≡ part (S.bytes space.old) block.at block.size }
+    ensures written { S.written space.new ≡ counted (S.written space.old) block.size }
+    ensures length { length (S.bytes space.new) ≡ length (S.bytes space.old) }
+    ensures below { take to (S.bytes space.new) ≡ take to (S.bytes space.old) }
+    ensures above { drop (block_end block) (S.bytes space.new)
+        ≡ drop (block_end block) (S.bytes space.old) }
+    ensures lenders { S.lenders space.new ≡ S.lenders space.old }
+{
+    space.slide(block.at, to, block.size);
 }

@@ -1,4 +1,4 @@
-use Rattle.std.proofs.Common.{ℕ, suc, ◌≡◌, ◌+◌, ◌≤◌, ◌<◌, ◌++◌, List, [], ◌∷◌, length, take, drop, set, Some, refl, sym, ◌∙◌, ap, subst, arith, add-one, slice_get}
+use Rattle.std.proofs.Common.{ℕ, suc, ◌≡◌, ◌+◌, ◌≤◌, ◌<◌, inl, inr, ◌++◌, List, [], ◌∷◌, length, take, drop, set, Some, refl, sym, ◌∙◌, ap, subst, arith, add-one, slice_get}
 use Rattle.std.proofs.lemmas.List.{take-append-drop, length-set}
 use Rattle.std.specs.List.{AllByRecursion}
 use Rattle.w16_model.specs.declared.Block.{Block}
@@ -105,13 +105,13 @@ loop-block-preserved g c =
     record {
       bounds = kept c.settle.new.blocks l c.args.blocks.now after c.settle.ensures.blocks inv.bounds;
       ordered = c.settle.ensures.ordered;
-      list = rw (new, add-one) (list_step high to i b l.blocks _ got lt inv.list);
+      list = rw (new, add-one) (list_step high to i b l.blocks (gathered c.args.low high c.args.blocks.now.blocks) got lt inv.list);
       settled = rw (new, add-one) (settled_step l.blocks i (record b { at = to }) to (omega arith) inv.settled);
       laid = rw (new, add-one) (subst (λ (k : ℕ). IsLaid (to + b.size) k (drop (suc i) (set l.blocks i (record b { at = to })))) (sym (topped c.settle.new.blocks l after c.settle.ensures.blocks)) step.2);
       rest = rw (new, add-one) rest.1;
       from = omega arith;
       grained = sum_multiple _ to b.size inv.grained (subst (λ g. IsMultiple g b.size) inv.bounds.3 (each_got (IsGrained l.grain) l.blocks i b got inv.ordered.grained).1);
-      sum = rw (new, add-one) (moved_step high to i c.loop-block.moved _ c.from-moved.result b l.blocks got lt r inv.sum);
+      sum = rw (new, add-one) (moved_step high to i c.loop-block.moved (moved_size c.args.blocks.now.blocks (gathered c.args.low high c.args.blocks.now.blocks)) c.from-moved.result b l.blocks got lt r inv.sum);
       small = let h = inv.small in omega arith;
       written = let h = inv.written in let k = c.settle.ensures.written in omega (arith, h, k, wide);
       contents = c.settle.ensures.contents ∙ inv.contents;
@@ -169,3 +169,11 @@ pub returns-clause-alone : goal.returns-clause-alone
 returns-clause-alone g c = λ gap a b hole.
     let l = c.args.blocks.now in
     alone_gathered l c.args.low c.args.high c.rank-i.ensures.ordered.laid c.requires.gap gap a b (subst (λ bs. IsHole l.lo l.hi bs a b) (list g c) hole)
+
+pub returns-clause-full : goal.returns-clause-full
+returns-clause-full g c = λ gap filled a b hole.
+    let some = hole.some in
+    elim (returns-clause-alone g c gap a b hole) [
+      | inl k ↦ inl k
+      | inr e ↦ elim e [ inl k ↦ inr k | inr k ↦ let one = k.0 in let two = k.1 in absurd (omega arith) ]
+    ]

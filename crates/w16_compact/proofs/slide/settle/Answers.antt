@@ -1,28 +1,19 @@
-use Rattle.std.proofs.Common.{◌≡◌, ◌∙◌, ap, subst, drop, Option, arith}
+use Rattle.std.proofs.Common.{◌≡◌, ◌∙◌, ap, subst, Option, arith}
 use Rattle.std.specs.Option.{IfSome}
 use Rattle.w16_model.specs.declared.Block.{Block}
-use Rattle.w16_model.specs.Gap.{block_end}
-use Rattle.w16_region.specs.Bytes.{part}
 use Rattle.w16_blocks.specs.Layout.{Layout, replaced}
 use Rattle.w16_compact.proofs.Order.{with_got, id_got}
 use Rattle.w16_compact.proofs.Slid.{contents_slid}
 use Rattle.w16_compact.proofs.Steps.{same_layout, ends_inside, after, known, fits, replaced_is}
-use Rattle.w16_compact.proofs.Parts.{length-part, drop-put_part_above}
 use Rattle.w16_compact.proofs.slide.settle.Goals as goal
 
 pub returns-then-block-to-clause-blocks : goal.returns-then-block-to-clause-blocks
 returns-then-block-to-clause-blocks g c = same_layout c.args.blocks.now c.args.i c.args.block c.args.to c.requires.at c.if-block-to.true
 
-pub slide-requires-clause-source : goal.slide-requires-clause-source
-slide-requires-clause-source g c =
+pub slide_down-requires-clause-inside : goal.slide_down-requires-clause-inside
+slide_down-requires-clause-inside g c =
     let h = ends_inside c.args.blocks.now c.args.i c.args.block c.args.to c.requires.at c.requires.ordered c.requires.below c.requires.down c.requires.grained in
     let long = c.requires.inside in
-    omega arith
-
-pub slide-requires-clause-target : goal.slide-requires-clause-target
-slide-requires-clause-target g c =
-    let h = ends_inside c.args.blocks.now c.args.i c.args.block c.args.to c.requires.at c.requires.ordered c.requires.below c.requires.down c.requires.grained in
-    let long = c.requires.inside in let down = c.requires.down.1 in
     omega arith
 
 pub shift-requires-clause-id : goal.shift-requires-clause-id
@@ -44,18 +35,7 @@ returns-clause-blocks g c =
 pub returns-clause-contents : goal.returns-clause-contents
 returns-clause-contents g c =
     let l = c.args.blocks.now in
-    let bytes = g.S.Space.bytes c.args.space.now in
+    let slid = c.slide_down.ensures in
     let new = ap (λ (x : Layout). x.blocks) (returns-clause-blocks g c) in
-    let h = ends_inside l c.args.i c.args.block c.args.to c.requires.at c.requires.ordered c.requires.below c.requires.down c.requires.grained in
-    let long = c.requires.inside in
-    rw (new, c.slide.ensures.bytes) (contents_slid bytes c.args.to l.blocks c.args.i c.args.block c.requires.at c.requires.down.1 (omega arith) c.requires.below
+    rw new (contents_slid (g.S.Space.bytes c.slide_down.new.space) (g.S.Space.bytes c.args.space.now) c.args.to c.args.block slid.moved slid.below slid.above l.blocks c.args.i c.requires.at c.requires.below
     (after l c.args.i c.args.block c.args.to c.requires.at c.requires.ordered c.requires.below c.requires.down c.requires.grained))
-
-pub returns-clause-above : goal.returns-clause-above
-returns-clause-above g c =
-    let l = c.args.blocks.now in
-    let bytes = g.S.Space.bytes c.args.space.now in
-    let h = ends_inside l c.args.i c.args.block c.args.to c.requires.at c.requires.ordered c.requires.below c.requires.down c.requires.grained in
-    let inside = c.requires.inside in let down = c.requires.down.1 in
-    let long = length-part bytes c.args.block.at c.args.block.size (omega arith) in
-    ap (drop (block_end c.args.block)) c.slide.ensures.bytes ∙ drop-put_part_above bytes c.args.to (part bytes c.args.block.at c.args.block.size) (block_end c.args.block) (omega arith) (omega arith)
