@@ -11,6 +11,9 @@ ghost use Rattle.w16_blocks.specs.Layout.{IsOrdered, without, replaced};
 ghost use Rattle.w16_region.specs.Bytes.{put_part, repeated};
 ghost use Rattle.w16_global.specs.Parts.{IsInside, entry_of};
 
+#[cfg(test)]
+mod tests;
+
 use crate::making::{Compacted, Placed, compact_for, make_room};
 use std::alloc::{AllocError, Global};
 use std::marker::Model;
