@@ -1,0 +1,117 @@
+//! The order of use of a heap's discardable objects: their ids, each at most once, oldest first. No call but the constructor takes memory.
+#![tactic(auto)]
+
+ghost use Rattle.std.specs.Prelude.{◌≡◌, ◌<◌, [], length, slice_get, IfOk};
+ghost use Rattle.w16_model.specs.Edit.{newest, oldest, without};
+ghost use Rattle.w16_model.specs.Prefix.{is_member};
+ghost use Rattle.w16_lru.specs.Uses.{AreUses};
+
+use indexmap::IndexSet;
+use std::alloc::{AllocError, Global};
+use std::marker::Model;
+
+/// The ids below a number that are in use, oldest first.
+#[derive(Drop)]
+pub struct Order {
+    /// Every id below the number, the members first: so a change moves positions alone, and takes no memory.
+    positions: IndexSet<u32>,
+    /// How many of them are members.
+    members: usize,
+}
+
+impl Model for Order {
+    ghost use Rattle.w16_lru.specs.Uses.{Uses};
+    ghost use Rattle.w16_lru.specs.Kept.{IsKept, uses_of};
+
+    ghost Value = { Uses };
+
+    ghost view = { λ s. uses_of s.positions.keys s.members };
+
+    ghost invariant = { λ s. IsKept s.positions.keys s.members };
+}
+
+impl Order {
+    /// No member yet, of ids below `cap`. An error is that there was no memory.
+    pub fn with_room(alloc: Global, cap: u32) -> Result<Order, AllocError>
+        ensures { IfOk result (λ made. made ≡ record { cap = cap; ids = [] }) }
+    {
+        let mut positions = IndexSet::with_capacity(alloc, cap as usize)?;
+        for id in 0..cap {
+            if positions.insert(id).is_err() {
+                return Err(AllocError);
+            }
+        }
+        Ok(Order {
+            positions,
+            members: 0,
+        })
+    }
+
+    /// How many members there are.
+    pub fn len(&self) -> usize
+        ensures { result ≡ length self.now.ids }
+    {
+        self.members
+    }
+
+    /// The i-th member, the oldest first, from 0; none behind the newest.
+    pub fn nth(&self, i: usize) -> Option<u32>
+        ensures value { result ≡ slice_get self.now.ids i }
+        ensures uses { AreUses self.now }
+    {
+        if i < self.members {
+            self.positions.get_index(i).copied()
+        } else {
+            None
+        }
+    }
+
+    /// Whether an id is a member.
+    pub fn contains(&self, id: u32) -> bool
+        ensures { result ≡ is_member id self.now.ids }
+    {
+        match self.positions.get_index_of(&id) {
+            Some(at) => at < self.members,
+            None => false,
+        }
+    }
+
+    /// An id becomes the newest member, whether it was one or not.
+    pub fn newest(&mut self, id: u32)
+        requires { id < self.old.cap }
+        ensures value { self.new ≡ record self.old { ids = newest id self.old.ids } }
+        ensures uses { AreUses self.new }
+    {
+        let at = self.join(id);
+        self.positions.move_index(at, self.members - 1);
+    }
+
+    /// An id becomes the oldest member, whether it was one or not.
+    pub fn oldest(&mut self, id: u32)
+        requires { id < self.old.cap }
+        ensures value { self.new ≡ record self.old { ids = oldest id self.old.ids } }
+        ensures uses { AreUses self.new }
+    {
+        let at = self.join(id);
+        self.positions.move_index(at, 0);
+    }
+
+    /// An id is no member any more, if it was one.
+    pub fn remove(&mut self, id: u32)
+        ensures value { self.new ≡ record self.old { ids = without id self.old.ids } }
+        ensures uses { AreUses self.new }
+    {
+        if let Some(at) = self.positions.get_index_of(&id) && at < self.members {
+            self.positions.move_index(at, self.members - 1);
+            self.members -= 1;
+        }
+    }
+
+    /// Where an id stands, once it is a member: where it was, or behind the others.
+    fn join(&mut self, id: u32) -> usize
+        requires { id < self.old.cap }
+        ensures { Unit {0} }
+    {
+        0
+    }
+}
