@@ -4,13 +4,14 @@ ghost use Rattle.std.specs.FinMap as finmap;
 ghost use Rattle.w16_model.specs.Heap.{is_discardable};
 ghost use Rattle.w16_model.specs.Machine.{GlobalAllocs, GlobalCompacts, Gives, locks_at, is_shared};
 ghost use Rattle.w16_model.specs.Machine as machine;
+ghost use Rattle.w16_model.specs.Walk.{IsFirstItem};
 ghost use Rattle.w16_model.specs.World as world;
 ghost use Rattle.w16_model.specs.World.{IsFreeSlot};
 
 use crate::global::Global16;
 use w16_model::{
     Attributes, Entry, GMEM_DDESHARE, GMEM_DISCARDABLE, GMEM_DISCARDED, GMEM_MOVEABLE,
-    GMEM_NOCOMPACT, GMEM_ZEROINIT, GRAIN, Kind, LARGEST_SIZE, Refusal,
+    GMEM_NOCOMPACT, GMEM_ZEROINIT, GRAIN, Item, Kind, LARGEST_SIZE, Refusal,
 };
 
 impl Global16 {
@@ -153,6 +154,32 @@ impl Global16 {
         ensures { GlobalCompacts self.old size result self.new }
     {
         self.make_room(size)
+    }
+
+    /// `GlobalLRUNewest`: the handle, and a discardable object with bytes becomes the newest in the order of use, also while it is locked; 0 for
+    /// any other object and for a bad handle.
+    pub fn global_lru_newest(&mut self, handle: u16) -> u16
+        ensures { Gives (machine.global_lru_newest self.old handle) (machine.Reply.Word result) self.new }
+    {
+        0
+    }
+
+    /// `GlobalLRUOldest`: the handle, and a discardable object with bytes becomes the oldest in the order of use, which is discarded first; 0
+    /// for any other object and for a bad handle.
+    pub fn global_lru_oldest(&mut self, handle: u16) -> u16
+        ensures { Gives (machine.global_lru_oldest self.old handle) (machine.Reply.Word result) self.new }
+    {
+        0
+    }
+
+    /// The first part of the heap that begins at an address or above it, an object's bytes or a hole; objects are named by their handles. None
+    /// behind the last. A walk of the whole heap asks from 0 on, then behind the begin of each part (profile).
+    pub fn walk(&self, from: u32) -> Option<Item>
+        ensures found { IsFirstItem world.handle_of self.now.heap from result }
+        ensures inside { IfSome result (λ item. (0 < item.size) × (item.at + item.size < 2 ^ 32)) }
+        ensures words { IfSome result (λ item. IfSome item.owner (λ owner. owner.name < 2 ^ 16)) }
+    {
+        None
     }
 
     /// How many bytes the last `global_alloc` or `global_compact` moved: the sizes of the objects that stand at another address since.

@@ -7,6 +7,7 @@ pub mod Request
 pub mod Single
 pub mod World
 pub mod Machine
+pub mod Walk
 pub mod Law
 pub mod Table
 pub mod Code

@@ -1,17 +1,18 @@
 -- The machine of handles: what each command answers, and the world that it leaves.
-use Rattle.std.specs.Prelude.{◌≡◌, ℕ, ◌+◌, ◌-◌, ◌*◌, ◌/◌, ◌<◌, ◌≤◌, ◌⊎◌, Bool, true, false, not, ◌==◌, ◌&&◌, if◌then◌else◌, MatchBool, nat_lt, bit_and, All, List, [], ◌++◌, length, take, drop, replicate, unwrap_or, is_some, Option, Some, None, Ok, Err, option_map}
+use Rattle.std.specs.Prelude.{◌≡◌, ℕ, ◌+◌, ◌-◌, ◌*◌, ◌/◌, ◌<◌, ◌≤◌, ◌⊎◌, Bool, true, false, not, ◌==◌, ◌&&◌, if◌then◌else◌, MatchBool, nat_lt, bit_and, All, List, [], ◌++◌, length, take, drop, replicate, unwrap_or, is_some, Option, Some, None, Result, Ok, Err, option_map}
 use Rattle.std.specs.FinMap as finmap
 use Rattle.w16_model.specs.declared.Kind.{Kind}
-use Rattle.w16_model.specs.declared.Kind.TheVariants.{Fixed, Moveable}
+use Rattle.w16_model.specs.declared.Kind.TheVariants.{Fixed, Moveable, Discardable}
 use Rattle.w16_model.specs.declared.Way.{Way}
+use Rattle.w16_model.specs.declared.Refusal.{Refusal}
 use Rattle.w16_model.specs.declared.Refusal.TheVariants as refusals
 use Rattle.w16_model.specs.declared.FarFault.{FarFault}
 use Rattle.w16_model.specs.declared.FarFault.TheVariants.{BadSelector, NotPresent, Limit}
-use Rattle.w16_model.specs.declared.TheConstants.{GRAIN, LARGEST_SIZE, GMEM_MOVEABLE, GMEM_NOCOMPACT, GMEM_ZEROINIT, GMEM_DISCARDABLE, GMEM_DDESHARE, GMEM_DISCARDED}
+use Rattle.w16_model.specs.declared.TheConstants.{GRAIN, LARGEST_SIZE, GMEM_MOVEABLE, GMEM_NOCOMPACT, GMEM_NODISCARD, GMEM_ZEROINIT, GMEM_DISCARDABLE, GMEM_DDESHARE, GMEM_DISCARDED}
 use Rattle.w16_model.specs.Heap.{Heap, Object, object_at, bytes_at, is_discardable}
 use Rattle.w16_model.specs.Edit.{update}
 use Rattle.w16_model.specs.Request.{Allocates, Compacts, prefix_of, moved_bytes}
-use Rattle.w16_model.specs.Single.{Enters, after_lock, after_unlock, after_free, after_touch}
+use Rattle.w16_model.specs.Single.{Enters, after_lock, after_unlock, after_free, after_touch, after_newest, after_oldest}
 use Rattle.w16_model.specs.declared.Attributes.{Attributes}
 use Rattle.w16_model.specs.World.{World, IsFreeSlot, slot_of_handle, slot_of_selector, handle_of, selector_of, far_pointer, dword_of, selector_in, offset_in}
 
@@ -27,7 +28,10 @@ pub data Command : Type 0 where
   GetSelectorBase : (selector : ℕ) → Command
   GetSelectorLimit : (selector : ℕ) → Command
   GlobalCompact : (size : ℕ) → Command
+  GlobalLRUNewest : (handle : ℕ) → Command
+  GlobalLRUOldest : (handle : ℕ) → Command
   Moved : Command
+  Walk : Command
   Read : (pointer count : ℕ) → Command
   Write : (pointer : ℕ) (bytes : List ℕ) → Command
   Fill : (pointer count byte : ℕ) → Command
@@ -44,6 +48,8 @@ pub data Reply : Type 0 where
   Bytes : (bytes : List ℕ) → Reply
   Done : Reply
   Fault : (fault : FarFault) → Reply
+  -- the heap's objects and holes, as they are then (specs/Walk)
+  Walked : Reply
 
 -- Allocation.
 
@@ -54,12 +60,13 @@ has_flag flags flag = not (bit_and flags flag == 0)
 abbrev pub rounded_size : ℕ → ℕ
 rounded_size size = GRAIN * ((size + (GRAIN - 1)) / GRAIN)
 
+-- only a moveable object can be discardable
 abbrev pub kind_asked : ℕ → Kind
-kind_asked flags = if has_flag flags GMEM_MOVEABLE then Moveable else Fixed
+kind_asked flags = if has_flag flags GMEM_MOVEABLE then (if has_flag flags GMEM_DISCARDABLE then Discardable else Moveable) else Fixed
 
--- nothing is discarded yet; without GMEM_NOCOMPACT others may be moved
+-- others may be moved without GMEM_NOCOMPACT, and discarded too without GMEM_NODISCARD
 abbrev pub way_asked : ℕ → Way
-way_asked flags = record { compact = not (has_flag flags GMEM_NOCOMPACT); discard = false; zero = has_flag flags GMEM_ZEROINIT; may_move = false }
+way_asked flags = record { compact = not (has_flag flags GMEM_NOCOMPACT); discard = not (has_flag flags GMEM_NODISCARD); zero = has_flag flags GMEM_ZEROINIT; may_move = false }
 
 -- whether an object is asked for that has no bytes yet
 abbrev pub is_absent_asked : ℕ → ℕ → Bool
@@ -132,6 +139,24 @@ global_unlock old handle = elim (slot_of_handle old handle) [
     | Err _ ↦ (Word 0, old)
   ]
 ]
+
+-- the handle, and the heap that a step on its object leaves; 0 where the step is refused or the handle is bad
+abbrev pub handle_or_0 : (Heap → ℕ → Result Heap Refusal) → World → ℕ → Reply × World
+handle_or_0 after old handle = elim (slot_of_handle old handle) [
+  | None ↦ (Word 0, old)
+  | Some slot ↦ elim (after old.heap slot) [
+    | Ok heap ↦ (Word handle, record old { heap = heap })
+    | Err _ ↦ (Word 0, old)
+  ]
+]
+
+-- GlobalLRUNewest: a discardable object with bytes becomes the newest in the order of use, locked or not
+abbrev pub global_lru_newest : World → ℕ → Reply × World
+global_lru_newest = handle_or_0 after_newest
+
+-- GlobalLRUOldest: and the oldest, so that it is discarded first
+abbrev pub global_lru_oldest : World → ℕ → Reply × World
+global_lru_oldest = handle_or_0 after_oldest
 
 -- What objects and selectors are asked. These change nothing.
 
@@ -239,7 +264,10 @@ Step old (GlobalHandle selector) reply new = Gives (Dword (global_handle old sel
 Step old (GetSelectorBase selector) reply new = Gives (Dword (selector_base old selector), old) reply new
 Step old (GetSelectorLimit selector) reply new = Gives (Dword (selector_limit old selector), old) reply new
 Step old (GlobalCompact size) reply new = (answer : ℕ) × (reply ≡ Dword answer) × GlobalCompacts old size answer new
+Step old (GlobalLRUNewest handle) reply new = Gives (global_lru_newest old handle) reply new
+Step old (GlobalLRUOldest handle) reply new = Gives (global_lru_oldest old handle) reply new
 Step old Moved reply new = Gives (Dword old.moved, old) reply new
+Step old Walk reply new = Gives (Walked, old) reply new
 Step old (Read pointer count) reply new = Gives (far_read old (selector_in pointer) (offset_in pointer) count) reply new
 Step old (Write pointer bytes) reply new = Gives (far_write old (selector_in pointer) (offset_in pointer) bytes) reply new
 Step old (Fill pointer count byte) reply new = Gives (far_write old (selector_in pointer) (offset_in pointer) (replicate count byte)) reply new

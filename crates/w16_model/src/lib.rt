@@ -88,6 +88,23 @@ pub enum FarFault {
     Limit,
 }
 
+/// What a walk of a heap tells of the object that has some bytes.
+#[derive(Clone, Copy, Debug, PartialEq, Eq)]
+pub struct Owner {
+    /// By what the walk names it: its id in an arena, its handle in the global heap.
+    pub name: u32,
+    pub kind: Kind,
+    pub locks: u8,
+}
+
+/// One part of a heap, as a walk tells it: an object's bytes, or a hole, which has no owner. Address and size are in bytes.
+#[derive(Clone, Copy, Debug, PartialEq, Eq)]
+pub struct Item {
+    pub at: u32,
+    pub size: u32,
+    pub owner: Option<Owner>,
+}
+
 /// The number of the first slot.
 pub const FIRST_SLOT: u32 = 32;
 
@@ -106,10 +123,13 @@ pub const GMEM_MOVEABLE: u16 = 0x0002;
 /// `GlobalAlloc`: no other object is moved or discarded.
 pub const GMEM_NOCOMPACT: u16 = 0x0010;
 
+/// `GlobalAlloc`: no other object is discarded.
+pub const GMEM_NODISCARD: u16 = 0x0020;
+
 /// `GlobalAlloc`: the new bytes are zeros.
 pub const GMEM_ZEROINIT: u16 = 0x0040;
 
-/// `GlobalFlags`: the object is discardable.
+/// `GlobalAlloc`, `GlobalFlags`: the object is discardable.
 pub const GMEM_DISCARDABLE: u16 = 0x0100;
 
 /// `GlobalAlloc`, `GlobalFlags`: other tasks share the object.

@@ -1,0 +1,40 @@
+-- A walk of a heap: its objects with bytes and its holes, by address (profile).
+use Rattle.std.specs.Prelude.{◌≡◌, ℕ, ◌+◌, ◌<◌, ◌≤◌, ◌⊎◌, List, length, All, AllPairs, Contains, Option, Some, MatchOption, IsSomeAnd, option_map}
+use Rattle.std.specs.FinMap as finmap
+use Rattle.w16_model.specs.declared.Kind.{Kind}
+use Rattle.w16_model.specs.declared.Item.{Item}
+use Rattle.w16_model.specs.declared.Owner.{Owner}
+use Rattle.w16_model.specs.Gap.{IsHole}
+use Rattle.w16_model.specs.Heap.{Heap, blocks, object_at}
+use Rattle.w16_model.specs.World.{World, handle_of}
+
+-- the object of an id has just these bytes, and is what the owner says
+pub record HasBytes (heap : Heap) (id at size : ℕ) (owner : Owner) : Type 0 where
+  pub place : finmap.get heap.places id ≡ Some at
+  pub object : IsSomeAnd (object_at heap id) (λ o. (option_map length o.bytes ≡ Some size) × (owner.kind ≡ o.kind) × (owner.locks ≡ o.locks))
+
+-- an object's bytes, the object named by its kind and id, or a hole
+abbrev pub IsItem : (Kind → ℕ → ℕ) → Heap → Item → Type 0
+IsItem name heap item = MatchOption item.owner
+    (IsHole heap.lo heap.hi (blocks heap) item.at (item.at + item.size))
+    (λ owner. (id : ℕ) × (owner.name ≡ name owner.kind id) × HasBytes heap id item.at item.size owner)
+
+-- every object with bytes and every hole once, by rising address
+pub record IsWalk (name : Kind → ℕ → ℕ) (heap : Heap) (items : List Item) : Type 0 where
+  pub only : All (IsItem name heap) items
+  pub each : (item : Item) → IsItem name heap item → Contains items item
+  pub rising : AllPairs (λ s t. s.at < t.at) items
+
+-- the first item that begins at an address or above it, if there is one
+abbrev pub IsFirstItem : (Kind → ℕ → ℕ) → Heap → ℕ → Option Item → Type 0
+IsFirstItem name heap from found = MatchOption found
+    ((other : Item) → IsItem name heap other → other.at < from)
+    (λ item. IsItem name heap item × (from ≤ item.at) × ((other : Item) → IsItem name heap other → from ≤ other.at → (other ≡ item) ⊎ (item.at < other.at)))
+
+-- an object's name in a heap of its own: its id
+abbrev pub by_its_id : Kind → ℕ → ℕ
+by_its_id kind id = id
+
+-- the walk of a world names objects by their handles
+abbrev pub IsWorldWalk : World → List Item → Type 0
+IsWorldWalk world items = IsWalk handle_of world.heap items
