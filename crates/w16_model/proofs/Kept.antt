@@ -1,5 +1,5 @@
 -- Changes of a heap that leave it one: each object stays where it stands, or goes.
-use Rattle.std.proofs.Common.{◌≡◌, ◌≢◌, ℕ, ◌+◌, ◌-◌, ◌*◌, ◌<◌, ◌≤◌, inl, inr, Bool, true, false, cond, not, ◌&&◌, ◌||◌, ◌==◌, IsTrue, IfSome, List, [], ◌∷◌, ◌++◌, length, take, drop, All, AllPairs, Option, Some, None, option_map, is_some, unwrap_or, refl, sym, ap, ◌∙◌, subst, arith, length-append, eq-eqb, ne_eqb}
+use Rattle.std.proofs.Common.{◌≡◌, ◌≢◌, ℕ, ◌+◌, ◌-◌, ◌*◌, ◌<◌, ◌≤◌, inl, inr, Bool, true, false, cond, not, if◌then◌else◌, ◌&&◌, ◌==◌, IsTrue, IfSome, List, [], ◌∷◌, ◌++◌, length, take, drop, All, AllPairs, Option, Some, None, option_map, is_some, unwrap_or, refl, sym, ap, ◌∙◌, subst, arith, length-append, eq-eqb, ne_eqb}
 use Rattle.std.specs.Cmp.{nat_cmp_total}
 use Rattle.std.specs.Ordering.{nat_cmp, eq_by_cmp}
 use Rattle.std.specs.FinMap as finmap
@@ -10,15 +10,17 @@ use Rattle.std.proofs.lemmas.List.Elements.{All-take, All-drop, All-append}
 use Rattle.w16_model.specs.declared.Block.{Block}
 use Rattle.w16_model.specs.declared.Kind.{Kind}
 use Rattle.w16_model.specs.declared.Kind.TheVariants.{Fixed, Moveable, Discardable}
+use Rattle.w16_model.specs.declared.Refusal.{Refusal}
+use Rattle.w16_model.specs.declared.Refusal.TheVariants as refusals
 use Rattle.w16_model.specs.Gap.{Misses, block_end, ArePlaced}
 use Rattle.w16_model.specs.Prefix.{is_member}
 use Rattle.w16_model.specs.Heap.{Heap, Object, IsHeap, IsMultiple, blocks, object_at, hold_of, is_in_order, is_fixed, is_discardable}
-use Rattle.w16_model.specs.Edit.{with_object, with_ordered, without, touched, removed}
-use Rattle.w16_model.specs.Single.{after_touch}
+use Rattle.w16_model.specs.Edit.{with_object, with_ordered, without, newest, oldest, touched, removed}
+use Rattle.w16_model.specs.Single.{after_touch, refused_order}
 use Rattle.w16_model.specs.Machine.{after_write, with_slice}
 use Rattle.w16_model.proofs.Gaps.{Each-at, Each-from, Each-from_All, All-from_Each, EachPair-from_AllPairs, AllPairs-from_EachPair, pairs_filter}
 use Rattle.w16_model.proofs.Heaps.{IsBlockOf, block_member, member_block, tied_itself, untied}
-use Rattle.w16_model.proofs.Orders.{member_without, member_newest, newest_differ}
+use Rattle.w16_model.proofs.Orders.{member_without, member_newest, member_oldest, member_back, newest_differ, oldest_differ}
 use Rattle.w16_model.proofs.Places.{placed_from, two_placed, same_id}
 
 -- a block of the heap with x's id, address and size
@@ -238,18 +240,8 @@ module _ (old : Heap) (is : IsHeap old) (id : ℕ) (kind : Kind) (unused : objec
 pub member_touched : (id : ℕ) (order : List ℕ) (q : ℕ) → is_member q (touched id order) ≡ is_member q order
 member_touched id order q = turn (is_member id order) refl
   where
-    kept : (m e f : Bool) → (e ≡ true → m ≡ true) → (e ≡ f) → ((m && not e) || f) ≡ m
-    kept m true true h k = (λ i. (h refl i && false) || true) ∙ sym (h refl)
-    kept m true false h k = cc
-    kept m false true h k = cc
-    kept true false false h k = refl
-    kept false false false h k = refl
-
     turn : (t : Bool) → is_member id order ≡ t → is_member q (cond {A = List ℕ} t (without id order ++ id ∷ []) order) ≡ is_member q order
-    turn true t = member_newest q id order ∙ elim (cases_eq q id) [
-      | inl e ↦ kept (is_member q order) (q == id) (id == q) (λ _. ap (λ k. is_member k order) e ∙ t) (eq-eqb q id e ∙ sym (eq-eqb id q (sym e)))
-      | inr d ↦ kept (is_member q order) (q == id) (id == q) (λ f. absurd (false≢true (sym (ne_eqb q id d) ∙ f))) (ne_eqb q id d ∙ sym (ne_eqb id q (λ e. d (sym e))))
-    ]
+    turn true t = member_newest q id order ∙ member_back id order q t
     turn false t = refl
 
 -- and none stands twice
@@ -263,6 +255,31 @@ once_touched id order h = turn (is_member id order)
 -- the heap once an object was used is one
 pub touched_heap : (old : Heap) → IsHeap old → (id : ℕ) → IsHeap (after_touch old id)
 touched_heap old is id = reordered old is (touched id old.order) (member_touched id old.order) (once_touched id old.order is.no_repeats)
+
+-- a discardable object with bytes at the newest end of the order, and at the oldest
+pub newest_heap : (old : Heap) → IsHeap old → (id : ℕ) → is_member id old.order ≡ true → IsHeap (record old { order = newest id old.order })
+newest_heap old is id there =
+    reordered old is (newest id old.order) (λ q. member_newest q id old.order ∙ member_back id old.order q there) (newest_differ id old.order is.no_repeats)
+
+pub oldest_heap : (old : Heap) → IsHeap old → (id : ℕ) → is_member id old.order ≡ true → IsHeap (record old { order = oldest id old.order })
+oldest_heap old is id there =
+    reordered old is (oldest id old.order) (λ q. member_oldest q id old.order ∙ member_back id old.order q there) (oldest_differ id old.order is.no_repeats)
+
+-- an object that may be put there is in the order
+pub ordered : (old : Heap) → IsHeap old → (id : ℕ) → refused_order old id ≡ None → is_member id old.order ≡ true
+ordered old is id allowed = is.in_order id ∙ turn (object_at old id) allowed
+  where
+    choice : (b d : Bool) → ◌≡◌ {A = Option Refusal} (cond (not b) (Some refusals.Absent) (cond d None (Some refusals.NotDiscardable))) None → (d && b) ≡ true
+    choice true true h = refl
+    choice true false h = cc
+    choice false d h = cc
+
+    turn : (p : Option Object) → ◌≡◌ {A = Option Refusal} (elim p [
+      | None ↦ Some refusals.Absent
+      | Some o ↦ if not (is_some o.bytes) then Some refusals.Absent else (if is_discardable o.kind then None else Some refusals.NotDiscardable)
+    ]) None → is_in_order p ≡ true
+    turn None h = cc
+    turn (Some o) h = choice (is_some o.bytes) (is_discardable o.kind) h
 
 -- An object goes.
 module _ (old : Heap) (is : IsHeap old) (id : ℕ) where

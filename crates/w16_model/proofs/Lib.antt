@@ -20,5 +20,6 @@ pub mod Names
 pub mod Kept
 pub mod Worlds
 pub mod Empty
+pub mod Walks
 pub mod Folds
 pub mod Trials

@@ -1,6 +1,6 @@
 -- The order of use with an object taken out and put at its end.
-use Rattle.std.proofs.Common.{◌≡◌, ℕ, Bool, true, false, cond, not, ◌&&◌, ◌||◌, ◌==◌, List, [], ◌∷◌, ◌++◌, refl, sym, ap, ◌∙◌, AllPairs, eqb-true, eq-eqb}
-use Rattle.std.proofs.lemmas.Bool.{false≢true, not-true}
+use Rattle.std.proofs.Common.{◌≡◌, ℕ, Bool, true, false, cond, not, ◌&&◌, ◌||◌, ◌==◌, List, [], ◌∷◌, ◌++◌, refl, sym, ap, ◌∙◌, AllPairs, inl, inr, eqb-true, eq-eqb, ne_eqb}
+use Rattle.std.proofs.lemmas.Bool.{false≢true, cases_eq, not-true}
 use Rattle.std.proofs.lemmas.List.Quantifiers.{all_pairs_push}
 use Rattle.w16_model.specs.Prefix.{is_member}
 use Rattle.w16_model.specs.Edit.{without}
@@ -51,3 +51,35 @@ newest_differ id ids h =
     (AllPairs-from_EachPair (λ a b. a ≡ b → ⊥) (without id ids) (pairs_filter (λ a b. a ≡ b → ⊥) (λ q. not (q == id)) ids (EachPair-from_AllPairs (λ a b. a ≡ b → ⊥) ids h)))
     (All-from_Each (λ q. q ≡ id → ⊥) (without id ids) (Each-from (λ q. q ≡ id → ⊥) (without id ids) (λ q m e.
     false≢true (sym (not-true (q == id) (member_filter (λ q. not (q == id)) ids q m).1) ∙ eq-eqb q id e))))
+
+-- at the begin of the order, and only there
+pub member_oldest : (q id : ℕ) (ids : List ℕ) → is_member q (id ∷ without id ids) ≡ ((is_member q ids && not (q == id)) || (id == q))
+member_oldest q id ids = ap (λ b. (id == q) || b) (member_without q id ids) ∙ swapped (id == q) (is_member q ids && not (q == id))
+  where
+    swapped : (a b : Bool) → (a || b) ≡ (b || a)
+    swapped true true = refl
+    swapped true false = refl
+    swapped false true = refl
+    swapped false false = refl
+
+-- taken out and put at the begin, none stands twice
+pub oldest_differ : (id : ℕ) (ids : List ℕ) → AllPairs (λ a b. a ≡ b → ⊥) ids → AllPairs (λ a b. a ≡ b → ⊥) (id ∷ without id ids)
+oldest_differ id ids h =
+    AllPairs-from_EachPair (λ a b. a ≡ b → ⊥) (id ∷ without id ids) (
+      Each-from (λ q. id ≡ q → ⊥) (without id ids) (λ q m e. false≢true (sym (not-true (q == id) (member_filter (λ q. not (q == id)) ids q m).1) ∙ eq-eqb q id (sym e))),
+      pairs_filter (λ a b. a ≡ b → ⊥) (λ q. not (q == id)) ids (EachPair-from_AllPairs (λ a b. a ≡ b → ⊥) ids h),
+    )
+
+-- a member that is taken out and put back leaves the members as they were
+pub member_back : (id : ℕ) (ids : List ℕ) (q : ℕ) → is_member id ids ≡ true → ((is_member q ids && not (q == id)) || (id == q)) ≡ is_member q ids
+member_back id ids q there = elim (cases_eq q id) [
+  | inl e ↦ kept (is_member q ids) (q == id) (id == q) (λ _. ap (λ k. is_member k ids) e ∙ there) (eq-eqb q id e ∙ sym (eq-eqb id q (sym e)))
+  | inr d ↦ kept (is_member q ids) (q == id) (id == q) (λ f. absurd (false≢true (sym (ne_eqb q id d) ∙ f))) (ne_eqb q id d ∙ sym (ne_eqb id q (λ e. d (sym e))))
+]
+  where
+    kept : (m e f : Bool) → (e ≡ true → m ≡ true) → (e ≡ f) → ((m && not e) || f) ≡ m
+    kept m true true h k = (λ i. (h refl i && false) || true) ∙ sym (h refl)
+    kept m true false h k = cc
+    kept m false true h k = cc
+    kept true false false h k = refl
+    kept false false false h k = refl

@@ -14,19 +14,19 @@ use Rattle.w16_model.specs.declared.FarFault.TheVariants.{BadSelector, NotPresen
 use Rattle.w16_model.specs.Gap.{is_pinned}
 use Rattle.w16_model.specs.Prefix.{eligible}
 use Rattle.w16_model.specs.Heap.{Heap, Object, IsHeap, blocks, object_at, bytes_at, is_fixed}
-use Rattle.w16_model.specs.Edit.{absent, with_object, with_ordered, removed, touched, update, with_newest}
+use Rattle.w16_model.specs.Edit.{absent, with_object, with_ordered, removed, newest, oldest, touched, update, with_newest}
 use Rattle.w16_model.specs.declared.Kind.{Kind}
 use Rattle.w16_model.specs.declared.TheConstants.{GMEM_DDESHARE}
-use Rattle.w16_model.specs.Single.{Enters, after_lock, after_unlock, after_free, after_touch}
+use Rattle.w16_model.specs.Single.{Enters, after_lock, after_unlock, after_free, after_touch, refused_order}
 use Rattle.w16_model.specs.Request.{Request, Allocates, IsNew, Settles, MakesRoom, most_room, compaction_prefix, moved_bytes, discarded, stays_for, prefix_of}
 use Rattle.w16_model.specs.declared.Attributes.{Attributes}
 use Rattle.w16_model.specs.World.{World, IsWorld, IsSlot, IsFreeSlot, slot_of_handle, slot_of_selector, selector_of, far_pointer, selector_in, offset_in}
-use Rattle.w16_model.specs.Machine.{Reply, AnswersAlloc, GlobalCompacts, global_free, global_lock, global_unlock, locks_at, far_fault, far_slot, far_bytes, slice_at, far_read, far_write, after_write, with_slice, way_asked, kind_asked, rounded_size, is_absent_asked, has_flag}
-use Rattle.w16_model.specs.Machine.Command.{GlobalAlloc, GlobalFree, GlobalLock, GlobalUnlock, GlobalSize, GlobalFlags, GlobalHandle, GetSelectorBase, GetSelectorLimit, GlobalCompact, Moved, Read, Write, Fill}
+use Rattle.w16_model.specs.Machine.{Reply, AnswersAlloc, GlobalCompacts, global_free, global_lock, global_unlock, handle_or_0, global_lru_newest, global_lru_oldest, locks_at, far_fault, far_slot, far_bytes, slice_at, far_read, far_write, after_write, with_slice, way_asked, kind_asked, rounded_size, is_absent_asked, has_flag}
+use Rattle.w16_model.specs.Machine.Command.{GlobalAlloc, GlobalFree, GlobalLock, GlobalUnlock, GlobalSize, GlobalFlags, GlobalHandle, GetSelectorBase, GetSelectorLimit, GlobalCompact, GlobalLRUNewest, GlobalLRUOldest, Moved, Walk, Read, Write, Fill}
 use Rattle.w16_model.specs.Machine.Reply.{Word, Dword, Bytes, Done, Fault}
 use Rattle.w16_model.specs.Law.{WorldLaw}
 use Rattle.w16_model.proofs.Heaps.{get-update_same, get-update_other}
-use Rattle.w16_model.proofs.Kept.{bytes_in, inserted_here, inserted_other, entered_heap, taken_here, taken_other, touched_heap, removed_heap, locked_heap, unlocked_heap, written_heap}
+use Rattle.w16_model.proofs.Kept.{bytes_in, inserted_here, inserted_other, entered_heap, taken_here, taken_other, touched_heap, newest_heap, oldest_heap, ordered, removed_heap, locked_heap, unlocked_heap, written_heap}
 
 -- Which ids have an object.
 
@@ -317,6 +317,34 @@ module _ (old : World) (is : IsWorld old) where
   touched_world : (slot : ℕ) → IsWorld (record old { heap = after_touch old.heap slot })
   touched_world slot = other_world (after_touch old.heap slot) (touched_heap old.heap is.heap slot) refl refl (λ _. refl)
 
+  -- what a call on the order of use leaves, where the new order makes a heap
+  abbrev order_outcome : ℕ → Result Heap Refusal → Reply × World
+  order_outcome handle r = elim r [ Ok heap ↦ (Word handle, record old { heap = heap }) | Err _ ↦ (Word 0, old) ]
+
+  order_world : (order : ℕ → List ℕ → List ℕ) → ((slot : ℕ) → refused_order old.heap slot ≡ None → IsHeap (record old.heap { order = order slot old.heap.order })) → (handle : ℕ)
+      → IsWorld (handle_or_0 (λ heap id. elim (refused_order heap id) [ Some refusal ↦ Err refusal | None ↦ Ok (record heap { order = order id heap.order }) ]) old handle).1
+  order_world order makes handle = turn (slot_of_handle old handle)
+    where
+      outcome : (slot : ℕ) (f : Option Refusal) → refused_order old.heap slot ≡ f
+          → Leaves (order_outcome handle (elim f [ Some refusal ↦ Err refusal | None ↦ Ok (record old.heap { order = order slot old.heap.order }) ]))
+      outcome slot (Some refusal) e = is
+      outcome slot None e = other_world (record old.heap { order = order slot old.heap.order }) (makes slot e) refl refl (λ _. refl)
+
+      turn : (s : Option ℕ) → Leaves (elim s [
+        | None ↦ (Word 0, old)
+        | Some slot ↦ order_outcome handle (elim (refused_order old.heap slot) [ Some refusal ↦ Err refusal | None ↦ Ok (record old.heap { order = order slot old.heap.order }) ])
+      ])
+      turn None = is
+      turn (Some slot) = outcome slot (refused_order old.heap slot) refl
+
+  -- GlobalLRUNewest
+  newest_world : (handle : ℕ) → IsWorld (global_lru_newest old handle).1
+  newest_world handle = order_world newest (λ slot e. newest_heap old.heap is.heap slot (ordered old.heap is.heap slot e)) handle
+
+  -- GlobalLRUOldest
+  oldest_world : (handle : ℕ) → IsWorld (global_lru_oldest old handle).1
+  oldest_world handle = order_world oldest (λ slot e. oldest_heap old.heap is.heap slot (ordered old.heap is.heap slot e)) handle
+
   -- Read
   read_world : (selector offset n : ℕ) → IsWorld (far_read old selector offset n).1
   read_world selector offset n = turn (far_fault old selector offset n)
@@ -394,7 +422,10 @@ world_law old new (GlobalHandle selector) reply is command step = subst IsWorld 
 world_law old new (GetSelectorBase selector) reply is command step = subst IsWorld (sym step.1) is
 world_law old new (GetSelectorLimit selector) reply is command step = subst IsWorld (sym step.1) is
 world_law old new (GlobalCompact size) reply is command step = compacted_world old is size step.0 new step.2
+world_law old new (GlobalLRUNewest handle) reply is command step = subst IsWorld (sym step.1) (newest_world old is handle)
+world_law old new (GlobalLRUOldest handle) reply is command step = subst IsWorld (sym step.1) (oldest_world old is handle)
 world_law old new Moved reply is command step = subst IsWorld (sym step.1) is
+world_law old new Walk reply is command step = subst IsWorld (sym step.1) is
 world_law old new (Read pointer count) reply is command step = subst IsWorld (sym step.1) (read_world old is (selector_in pointer) (offset_in pointer) count)
 world_law old new (Write pointer bytes) reply is command step = subst IsWorld (sym step.1) (write_world old is (selector_in pointer) (offset_in pointer) bytes command)
 world_law old new (Fill pointer count byte) reply is command step =

@@ -2,6 +2,8 @@
 use Rattle.std.specs.Prelude.{◌≡◌, ◌≢◌, ℕ, ◌+◌, ◌-◌, ◌<◌, ◌≤◌, ◌↔◌, Bool, true, IsSomeAnd, List, take, map, length, All, AllPairs, Contains, Option, Some, None, is_some}
 use Rattle.w16_model.specs.declared.Block.{Block}
 use Rattle.w16_model.specs.declared.Span.{Span}
+use Rattle.w16_model.specs.declared.Kind.{Kind}
+use Rattle.w16_model.specs.declared.Item.{Item}
 use Rattle.w16_model.specs.declared.Way.{Way}
 use Rattle.w16_model.specs.declared.Hold.TheVariants.{Pinned}
 use Rattle.w16_model.specs.declared.Kind.TheVariants.{Discardable}
@@ -13,6 +15,7 @@ use Rattle.w16_model.specs.Heap.{Heap, Object, IsHeap, blocks, object_at}
 use Rattle.w16_model.specs.Edit.{with_ordered}
 use Rattle.w16_model.specs.Request.{Settles, discarded, stays_for}
 use Rattle.w16_model.specs.Table.{Table, IsTable, IsSound, heap_in, IsSameOutside}
+use Rattle.w16_model.specs.Walk.{IsWalk}
 use Rattle.w16_model.specs.World.{World, IsWorld, empty_world, slot_of_handle, slot_of_selector, handle_of, selector_of}
 use Rattle.w16_model.specs.Machine.{Command, Reply, Step, IsCommand}
 
@@ -112,6 +115,12 @@ abbrev pub OthersLaw : Type 0
 OthersLaw = (old new : Heap) → IsHeap old → (k : ℕ)
     → ((h : ℕ) (way : Way) (o : Object) (order : List ℕ → List ℕ) → Settles old (stays_for h way) (with_ordered (discarded old k (Some h)) h o order) new → KeepsOthers old (Some h) k new)
     × (Settles old is_pinned (discarded old k None) new → KeepsOthers old None k new)
+
+-- Walks.
+
+-- two walks of one heap are the same list, however it names its objects
+abbrev pub WalkLaw : Type 0
+WalkLaw = (name : Kind → ℕ → ℕ) (heap : Heap) (items others : List Item) → IsWalk name heap items → IsWalk name heap others → items ≡ others
 
 -- Tables and memories.
 

@@ -1,5 +1,5 @@
 //! The laws of the definitions. Each function does nothing: its contract is the law.
-ghost use Rattle.w16_model.specs.Law.{GapListLaw, RisingLaw, LongestHoleLaw, HoleAfterLaw, PinnedLaw, LargestLaw, RoomLaw, LongerLaw, LeastLaw, MoreDiscardsLaw, DiscardedLaw, OthersLaw, SoundLaw, RangeLaw, NamesLaw, EmptyLaw, WorldLaw};
+ghost use Rattle.w16_model.specs.Law.{GapListLaw, RisingLaw, LongestHoleLaw, HoleAfterLaw, PinnedLaw, LargestLaw, RoomLaw, LongerLaw, LeastLaw, MoreDiscardsLaw, DiscardedLaw, OthersLaw, WalkLaw, SoundLaw, RangeLaw, NamesLaw, EmptyLaw, WorldLaw};
 
 /// The lists of gaps and of holes have each maximal interval, and nothing else.
 pub fn lists_of_gaps_and_holes()
@@ -59,6 +59,11 @@ pub fn discards_keep_their_promise()
 /// A request discards objects that are discardable and not locked, and leaves every other object its kind, its locks and its bytes.
 pub fn others_are_kept()
     ensures { OthersLaw }
+{}
+
+/// A walk of a heap is the only one.
+pub fn walk_is_the_only_one()
+    ensures { WalkLaw }
 {}
 
 /// A sound table stands for a heap.
