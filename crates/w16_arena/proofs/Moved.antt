@@ -15,10 +15,11 @@ use Rattle.w16_model.proofs.Longest.{sum_filter}
 use Rattle.w16_model.proofs.Tables.{with_member}
 use Rattle.w16_blocks.specs.Layout.{Layout}
 use Rattle.w16_compact.specs.Gather.{moved_size}
-use Rattle.w16_global.specs.Parts.{AreParts, heap_of}
-use Rattle.w16_global.specs.Making.{EachTwo, Slides, AreMoved}
-use Rattle.w16_global.proofs.Lookups.{named_pairs, place_here}
-use Rattle.w16_global.proofs.Listed.{listed_permutation}
+use Rattle.w16_arena.proofs.Parts.{AreParts}
+use Rattle.w16_arena.specs.State.{heap_of}
+use Rattle.w16_arena.specs.Making.{EachTwo, Slides, AreMoved}
+use Rattle.w16_arena.proofs.Lookups.{named_pairs, place_here}
+use Rattle.w16_arena.proofs.Listed.{listed_permutation}
 
 -- no order of the blocks changes the bytes of those that pass a test
 bytes_by : (p : Block → Bool) (xs : List Block) → sum_by (λ x. x.size) (filter p xs) ≡ sum_by (λ x. cond (p x) x.size 0) xs
@@ -47,13 +48,13 @@ two_of R S [] (c ∷ cs) f two = absurd two
 two_of R S (b ∷ bs) [] f two = absurd two
 two_of R S (b ∷ bs) (c ∷ cs) f two = (f b c (inl refl) (inl refl) two.0, two_of R S bs cs (λ x y m n. f x y (inr m) (inr n)) two.1)
 
-module _ {entries : List (Option Entry)} {layout : Layout} {memory : List ℕ} (parts : AreParts entries layout memory)
-    {low high : ℕ} {new : Layout} {after : List ℕ} (moved : AreMoved low high layout memory new after) (parts_new : AreParts entries new after) where
+module _ {entries : List (Option Entry)} {layout : Layout} {order memory : List ℕ} (parts : AreParts entries layout order memory)
+    {low high : ℕ} {new : Layout} {after : List ℕ} (moved : AreMoved low high layout memory new after) (parts_new : AreParts entries new order after) where
   -- a heap in which each of them stands where it slid to
-  pub moved_is : (h : Heap) → ((b : Block) → Member b layout.blocks → finmap.get h.places b.id ≡ finmap.get (heap_of entries new after).places b.id) → moved_size layout.blocks new.blocks ≡ moved_bytes (heap_of entries layout memory) h
+  pub moved_is : (h : Heap) → ((b : Block) → Member b layout.blocks → finmap.get h.places b.id ≡ finmap.get (heap_of entries new order after).places b.id) → moved_size layout.blocks new.blocks ≡ moved_bytes (heap_of entries layout order memory) h
   moved_is h same =
       sym (moved_by (λ q. finmap.get h.places q) layout.blocks new.blocks (two_of (Slides low high memory after) (λ b c. finmap.get h.places b.id ≡ Some c.at) layout.blocks new.blocks stands moved.blocks))
-      ∙ sym (bytes_permutation (λ x. is_elsewhere x.at (finmap.get h.places x.id)) layout.blocks (blocks (heap_of entries layout memory)) (listed_permutation parts))
+      ∙ sym (bytes_permutation (λ x. is_elsewhere x.at (finmap.get h.places x.id)) layout.blocks (blocks (heap_of entries layout order memory)) (listed_permutation parts))
     where
       stands : (b c : Block) → Member b layout.blocks → Member c new.blocks → Slides low high memory after b c → finmap.get h.places b.id ≡ Some c.at
       stands b c m n s =

@@ -1,21 +1,22 @@
 -- The heap of parts whose blocks slid: the same objects at other addresses.
-use Rattle.std.proofs.Common.{◌≡◌, ℕ, ◌+◌, ◌-◌, ◌<◌, ◌≤◌, ◌⊎◌, inl, inr, IsTrue, IfSome, IsSomeAnd, List, get_or, take, drop, slice_range, Option, Some, None, option_map, refl, sym, ap, ◌∙◌, subst, arith}
+use Rattle.std.proofs.Common.{◌≡◌, ℕ, ◌+◌, ◌-◌, ◌<◌, ◌≤◌, ◌⊎◌, inl, inr, Bool, false, ◌&&◌, IsTrue, IfSome, IsSomeAnd, is_some, List, get_or, take, drop, slice_range, Option, Some, None, option_map, refl, sym, ap, ◌∙◌, subst, arith}
 use Rattle.std.specs.FinMap as finmap
 use Rattle.std.proofs.lemmas.Bool.{false≢true}
 use Rattle.w16_region.specs.Bytes.{part}
 use Rattle.w16_model.specs.declared.Block.{Block}
 use Rattle.w16_model.specs.declared.Entry.{Entry}
 use Rattle.w16_model.specs.Gap.{block_end, is_pinned, holds_still}
-use Rattle.w16_model.specs.Heap.{Object, object_at}
+use Rattle.w16_model.specs.Heap.{Object, object_at, is_discardable}
 use Rattle.w16_model.specs.Table.{block_with, hold_in}
 use Rattle.w16_model.proofs.Gaps.{Each-at}
 use Rattle.w16_model.proofs.Laid.{laid_each}
 use Rattle.w16_model.proofs.Tables.{member_with}
 use Rattle.w16_blocks.specs.Layout.{Layout}
-use Rattle.w16_global.specs.Parts.{AreParts, heap_of}
-use Rattle.w16_global.specs.Making.{Slides, AreMoved}
-use Rattle.w16_global.proofs.Pairs.{BothOrNone, with_two}
-use Rattle.w16_global.proofs.Lookups.{ordered_arranged, sound_of, holds_at, object_here, place_here}
+use Rattle.w16_arena.proofs.Parts.{AreParts}
+use Rattle.w16_arena.specs.State.{heap_of}
+use Rattle.w16_arena.specs.Making.{Slides, AreMoved}
+use Rattle.w16_arena.proofs.Pairs.{BothOrNone, with_two}
+use Rattle.w16_arena.proofs.Lookups.{IsOrder, ordered_arranged, sound_of, holds_at, object_here, place_here}
 
 pub range_part : (bytes : List ℕ) (at n : ℕ) → slice_range bytes at (at + n) ≡ part bytes at n
 range_part bytes at n = let e : at + n - at ≡ n = omega arith in ap (λ k. take k (drop at bytes)) e
@@ -24,7 +25,7 @@ range_part bytes at n = let e : at + n - at ≡ n = omega arith in ap (λ k. tak
 pub pinned_stands : (low high : ℕ) (memory after : List ℕ) (b c : Block) → Slides low high memory after b c → IsTrue (is_pinned b) → c.at ≡ b.at
 pinned_stands low high memory after b c s t = elim s.place [ inl e ↦ e | inr f ↦ absurd (false≢true (sym (ap holds_still f.0) ∙ t)) ]
 
-module _ {entries : List (Option Entry)} {layout : Layout} {memory : List ℕ} (parts : AreParts entries layout memory)
+module _ {entries : List (Option Entry)} {layout : Layout} {order memory : List ℕ} (parts : AreParts entries layout order memory)
     {low high : ℕ} {new : Layout} {after : List ℕ} (moved : AreMoved low high layout memory new after) where
   abbrev R : Block → Block → Type 0
   R = Slides low high memory after
@@ -36,16 +37,11 @@ module _ {entries : List (Option Entry)} {layout : Layout} {memory : List ℕ} (
   slid_with = with_two R ids_same layout.blocks new.blocks moved.blocks
 
   -- they are parts again
-  pub slid_parts : AreParts entries new after
+  pub slid_parts : AreParts entries new order after
   slid_parts = record {
-    sound = sound_of entries new (ordered_arranged new moved.ordered) holds parts.plain parts.sound.fixed;
+    sound = sound_of entries new order (ordered_arranged new moved.ordered) holds listed parts.sound.fixed;
     ids = ap (λ (l : Layout). l.cap) moved.same ∙ parts.ids;
-    low = ap (λ (l : Layout). l.lo) moved.same ∙ parts.low;
-    grain = ap (λ (l : Layout). l.grain) moved.same ∙ parts.grain;
-    high = ap (λ (l : Layout). l.hi) moved.same ∙ parts.high ∙ sym moved.size;
-    bytes = moved.bytes parts.bytes;
-    few = parts.few;
-    plain = parts.plain;
+    high = let size = moved.size in let hi = ap (λ (l : Layout). l.hi) moved.same in let high = parts.high in omega arith;
   }
     where
       holds : (q : ℕ) (x : Block) → block_with new.blocks q ≡ Some x → IsSomeAnd (get_or entries q None) (λ e. x.hold ≡ hold_in e)
@@ -53,10 +49,27 @@ module _ {entries : List (Option Entry)} {layout : Layout} {memory : List ℕ} (
         where
           from : (b : Option Block) → block_with layout.blocks q ≡ b → BothOrNone R b (Some x) → IsSomeAnd (get_or entries q None) (λ e. x.hold ≡ hold_in e)
           from None e s = absurd s
-          from (Some b) e s = subst (λ h. IsSomeAnd (get_or entries q None) (λ e. h ≡ hold_in e)) (sym (ap (λ (y : Block). y.hold) s.same)) (holds_at entries layout parts.sound q b e)
+          from (Some b) e s = subst (λ h. IsSomeAnd (get_or entries q None) (λ e. h ≡ hold_in e)) (sym (ap (λ (y : Block). y.hold) s.same)) (holds_at entries layout order parts.sound q b e)
+
+      -- the same blocks have bytes, so the order of use is as it was
+      listed : IsOrder entries new order
+      listed = record {
+        members = λ q. parts.sound.in_order q ∙ ap (is_there (get_or entries q None)) (both (block_with layout.blocks q) (block_with new.blocks q) (slid_with q));
+        once = parts.sound.no_repeats;
+      }
+        where
+          is_there : Option Entry → Bool → Bool
+          is_there None t = false
+          is_there (Some e) t = is_discardable e.kind && t
+
+          both : (b c : Option Block) → BothOrNone R b c → is_some b ≡ is_some c
+          both None None s = refl
+          both None (Some c) s = absurd s
+          both (Some b) None s = absurd s
+          both (Some b) (Some c) s = refl
 
   -- each id has the object that it had
-  pub slid_object : (q : ℕ) → object_at (heap_of entries new after) q ≡ object_at (heap_of entries layout memory) q
+  pub slid_object : (q : ℕ) → object_at (heap_of entries new order after) q ≡ object_at (heap_of entries layout order memory) q
   slid_object q = object_here slid_parts q ∙ (λ i. option_map (λ (e : Entry). let o : Object = record { kind = e.kind; locks = e.locks; bytes = same_bytes (block_with layout.blocks q) (block_with new.blocks q) (slid_with q) i } in o) (get_or entries q None)) ∙ sym (object_here parts q)
     where
       same_bytes : (b c : Option Block) → BothOrNone R b c → option_map (λ (x : Block). slice_range after x.at (x.at + x.size)) c ≡ option_map (λ (x : Block). slice_range memory x.at (x.at + x.size)) b
@@ -66,12 +79,12 @@ module _ {entries : List (Option Entry)} {layout : Layout} {memory : List ℕ} (
       same_bytes (Some b) (Some c) s = ap Some (range_part after c.at c.size ∙ s.bytes ∙ sym (range_part memory b.at b.size))
 
   -- outside the two addresses it stands where it stood
-  pub slid_still : (q : ℕ) → IfSome (finmap.get (heap_of entries new after).places q) (λ at. ((at < low) ⊎ (high ≤ at)) → finmap.get (heap_of entries layout memory).places q ≡ Some at)
+  pub slid_still : (q : ℕ) → IfSome (finmap.get (heap_of entries new order after).places q) (λ at. ((at < low) ⊎ (high ≤ at)) → finmap.get (heap_of entries layout order memory).places q ≡ Some at)
   slid_still q =
-      subst (λ (p : Option ℕ). IfSome p (λ at. ((at < low) ⊎ (high ≤ at)) → finmap.get (heap_of entries layout memory).places q ≡ Some at)) (sym (place_here slid_parts q))
+      subst (λ (p : Option ℕ). IfSome p (λ at. ((at < low) ⊎ (high ≤ at)) → finmap.get (heap_of entries layout order memory).places q ≡ Some at)) (sym (place_here slid_parts q))
       (from (block_with layout.blocks q) (block_with new.blocks q) refl (slid_with q))
     where
-      from : (b c : Option Block) → block_with layout.blocks q ≡ b → BothOrNone R b c → IfSome (option_map (λ (x : Block). x.at) c) (λ at. ((at < low) ⊎ (high ≤ at)) → finmap.get (heap_of entries layout memory).places q ≡ Some at)
+      from : (b c : Option Block) → block_with layout.blocks q ≡ b → BothOrNone R b c → IfSome (option_map (λ (x : Block). x.at) c) (λ at. ((at < low) ⊎ (high ≤ at)) → finmap.get (heap_of entries layout order memory).places q ≡ Some at)
       from b None e s = tt
       from None (Some c) e s = absurd s
       from (Some b) (Some c) e s = λ out.
@@ -82,7 +95,7 @@ module _ {entries : List (Option Entry)} {layout : Layout} {memory : List ℕ} (
           ]))
 
   -- and so does a pinned one, wherever
-  pub slid_pinned : (q : ℕ) (x : Block) → block_with layout.blocks q ≡ Some x → IsTrue (is_pinned x) → finmap.get (heap_of entries new after).places q ≡ Some x.at
+  pub slid_pinned : (q : ℕ) (x : Block) → block_with layout.blocks q ≡ Some x → IsTrue (is_pinned x) → finmap.get (heap_of entries new order after).places q ≡ Some x.at
   slid_pinned q x here t = place_here slid_parts q ∙ from (block_with new.blocks q) (subst (λ b. BothOrNone R b (block_with new.blocks q)) here (slid_with q))
     where
       from : (c : Option Block) → BothOrNone R (Some x) c → option_map (λ (y : Block). y.at) c ≡ Some x.at

@@ -9,10 +9,10 @@ use Rattle.w16_model.specs.declared.Span.{Span}
 use Rattle.w16_model.specs.Gap.{ArePlaced, holes, room, longest_hole}
 use Rattle.w16_model.proofs.Laid.{laid_placed}
 use Rattle.w16_blocks.specs.Layout.{Layout, IsOrdered}
-use Rattle.w16_global.specs.declared.making.Placed.{Placed}
-use Rattle.w16_global.specs.Making.{AreMoved, IsFree, most_for}
-use Rattle.w16_global.proofs.Arranged.{same_moved, longest_in_room, free_fits, free_in_hole}
-use Rattle.w16_global.proofs.Holes.{hole_found, hole_none}
+use Rattle.w16_arena.specs.declared.making.Placed.{Placed}
+use Rattle.w16_arena.specs.Making.{AreMoved, IsFree, most_for}
+use Rattle.w16_arena.proofs.Arranged.{same_moved, longest_in_room, free_fits, free_in_hole}
+use Rattle.w16_arena.proofs.Holes.{hole_found, hole_none}
 
 -- where the lowest hole of n bytes begins
 abbrev pub first_hole : Layout → ℕ → Option ℕ

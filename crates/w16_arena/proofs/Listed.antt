@@ -10,11 +10,12 @@ use Rattle.w16_model.proofs.Heaps.{member_block, blocks_permutation}
 use Rattle.w16_model.proofs.Members.{room-permutation}
 use Rattle.w16_model.proofs.Tables.{table_block, block_table, with_member}
 use Rattle.w16_blocks.specs.Layout.{Layout}
-use Rattle.w16_global.specs.Parts.{AreParts, table_of, heap_of}
+use Rattle.w16_arena.proofs.Parts.{AreParts}
+use Rattle.w16_arena.specs.State.{table_of, heap_of}
 
-module _ {entries : List (Option Entry)} {layout : Layout} {memory : List ℕ} (parts : AreParts entries layout memory) where
+module _ {entries : List (Option Entry)} {layout : Layout} {order memory : List ℕ} (parts : AreParts entries layout order memory) where
   pub whole : layout.hi ≤ length memory
-  whole = let e = parts.high in omega arith
+  whole = parts.high
 
   -- no two have one id
   pub listed_ids : EachPair (λ x y. x.id ≡ y.id → ⊥) layout.blocks
@@ -23,14 +24,14 @@ module _ {entries : List (Option Entry)} {layout : Layout} {memory : List ℕ} (
   pub listed_with : (x : Block) → Member x layout.blocks → block_with layout.blocks x.id ≡ Some x
   listed_with x m = with_member layout.blocks x listed_ids m
 
-  pub is_listed : (x : Block) → Member x (blocks (heap_of entries layout memory)) → Member x layout.blocks
-  is_listed x m = block_table (table_of entries layout) parts.sound.table memory whole x (member_block (heap_of entries layout memory) x m)
+  pub is_listed : (x : Block) → Member x (blocks (heap_of entries layout order memory)) → Member x layout.blocks
+  is_listed x m = block_table (table_of entries layout order) parts.sound.table memory whole x (member_block (heap_of entries layout order memory) x m)
 
-  pub listed_permutation : IsPermutation layout.blocks (blocks (heap_of entries layout memory))
-  listed_permutation = blocks_permutation (heap_of entries layout memory) layout.blocks
+  pub listed_permutation : IsPermutation layout.blocks (blocks (heap_of entries layout order memory))
+  listed_permutation = blocks_permutation (heap_of entries layout order memory) layout.blocks
       (EachPair-map (λ x y. x.id ≡ y.id → ⊥) (λ x y. x ≢ y) (λ x y d e. d (ap (λ (z : Block). z.id) e)) layout.blocks listed_ids)
-      (table_block (table_of entries layout) parts.sound.table memory whole) (block_table (table_of entries layout) parts.sound.table memory whole)
+      (table_block (table_of entries layout order) parts.sound.table memory whole) (block_table (table_of entries layout order) parts.sound.table memory whole)
 
   -- so they have the same room
-  pub listed_room : room layout.lo layout.hi (blocks (heap_of entries layout memory)) ≡ room layout.lo layout.hi layout.blocks
-  listed_room = room-permutation layout.lo layout.hi layout.blocks (blocks (heap_of entries layout memory)) listed_permutation
+  pub listed_room : room layout.lo layout.hi (blocks (heap_of entries layout order memory)) ≡ room layout.lo layout.hi layout.blocks
+  listed_room = room-permutation layout.lo layout.hi layout.blocks (blocks (heap_of entries layout order memory)) listed_permutation

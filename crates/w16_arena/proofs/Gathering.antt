@@ -10,8 +10,8 @@ use Rattle.w16_compact.specs.declared.gaps.Gap.{Gap}
 use Rattle.w16_compact.specs.Gap.{HasRoom}
 use Rattle.w16_compact.specs.Gather.{contents, gathered}
 use Rattle.w16_compact.proofs.Loose.{loose_one}
-use Rattle.w16_global.specs.Making.{EachTwo, AreMoved, IsFree}
-use Rattle.w16_global.proofs.Pairs.{Stands, two_gathered, two_slides}
+use Rattle.w16_arena.specs.Making.{EachTwo, AreMoved, IsFree}
+use Rattle.w16_arena.proofs.Pairs.{Stands, two_gathered, two_slides}
 
 -- at multiples of the grain
 sum_grains : (g a b : ℕ) → IsMultiple g a → IsMultiple g b → IsMultiple g (a + b)

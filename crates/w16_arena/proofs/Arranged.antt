@@ -12,10 +12,10 @@ use Rattle.w16_model.proofs.Maximal.{missed, clear_from, gap_around, gap_same}
 use Rattle.w16_model.proofs.Starts.{inside, sized, two, hole_is_longest}
 use Rattle.w16_model.proofs.Tables.{with_member}
 use Rattle.w16_blocks.specs.Layout.{Layout, IsOrdered}
-use Rattle.w16_global.specs.Making.{Slides, AreMoved, IsFree}
-use Rattle.w16_global.proofs.Lookups.{named_pairs}
-use Rattle.w16_global.proofs.Pairs.{two_member, two_same}
-use Rattle.w16_global.proofs.Slid.{pinned_stands}
+use Rattle.w16_arena.specs.Making.{Slides, AreMoved, IsFree}
+use Rattle.w16_arena.proofs.Lookups.{named_pairs}
+use Rattle.w16_arena.proofs.Pairs.{two_member, two_same}
+use Rattle.w16_arena.proofs.Slid.{pinned_stands}
 
 unpinned : (b : Bool) → b ≡ true → not b ≡ true → ⊥
 unpinned true h k = false≢true k

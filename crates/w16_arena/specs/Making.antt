@@ -6,6 +6,7 @@ use Rattle.w16_model.specs.declared.Block.{Block}
 use Rattle.w16_model.specs.declared.Hold.TheVariants.{Loose}
 use Rattle.w16_model.specs.Gap.{block_end, is_pinned, Misses, IsClear, holes, room, longest_hole}
 use Rattle.w16_model.specs.Heap.{IsMultiple}
+use Rattle.w16_model.specs.Table.{Table}
 use Rattle.w16_blocks.specs.Layout.{Layout, IsOrdered}
 use Rattle.w16_compact.specs.declared.gaps.Gap.{Gap}
 use Rattle.w16_compact.specs.Gap.{HasRoom, IsLowest}
@@ -50,3 +51,7 @@ IsLowestGathered l n at = (gap : Gap) × HasRoom l n gap × IsLowest l n gap.low
 -- where the lowest hole of n bytes begins, or there where no hole is as long
 abbrev pub IsLowestPlace : Layout → ℕ → ℕ → Type 0
 IsLowestPlace l n at = MatchOption (find (λ s. nat_le n (s.to - s.from)) (holes l.lo l.hi l.blocks)) (IsLowestGathered l n at) (λ s. at ≡ s.from)
+
+-- the same of a table
+abbrev pub most_in : Table → Bool → ℕ
+most_in t compact = if compact then room t.lo t.hi t.blocks else longest_hole t.lo t.hi t.blocks

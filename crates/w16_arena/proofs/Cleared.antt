@@ -7,7 +7,7 @@ use Rattle.w16_model.specs.Gap.{Misses}
 use Rattle.w16_model.specs.Request.{AreNew}
 use Rattle.w16_model.proofs.Tables.{length_range}
 use Rattle.w16_region.specs.Bytes.{put_part, repeated, length-put_part, length-repeated}
-use Rattle.w16_global.proofs.Slices.{slice_of_put_apart, All-put_part}
+use Rattle.w16_arena.proofs.Slices.{slice_of_put_apart, All-put_part}
 
 -- it is as long as before, the range has new bytes, and the rest is the same
 pub record Makes (zero : Bool) (at n : ℕ) (memory after : List ℕ) : Type 0 where

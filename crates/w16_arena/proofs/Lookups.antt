@@ -7,15 +7,17 @@ use Rattle.std.specs.List.{AllByRecursion}
 use Rattle.std.proofs.lemmas.Bool.{false≢true}
 use Rattle.w16_model.specs.declared.Block.{Block}
 use Rattle.w16_model.specs.declared.Entry.{Entry}
-use Rattle.w16_model.specs.Heap.{Heap, Object, IsHeap, object_at, bytes_at, is_fixed, is_discardable, IsMultiple}
+use Rattle.w16_model.specs.Heap.{Heap, Object, IsHeap, object_at, bytes_at, is_fixed, IsMultiple}
 use Rattle.w16_model.specs.Table.{IsSound, block_with, object_in, hold_in, is_listed}
+use Rattle.w16_model.specs.Prefix.{is_member}
 use Rattle.w16_model.proofs.Gaps.{EachPair, Each-from, Each-at, Each-from_All, All-from_Each, AllPairs-from_EachPair, EachPair-from_AllPairs}
 use Rattle.w16_model.proofs.Tables.{object_is, place_is, with_member, member_with, length_range}
 use Rattle.w16_model.proofs.Sound.{sound_heap}
 use Rattle.w16_model.proofs.Laid.{laid_each}
 use Rattle.w16_model.specs.Gap.{block_end, IsLaid}
 use Rattle.w16_blocks.specs.Layout.{Layout, IsOrdered, AreNamed}
-use Rattle.w16_global.specs.Parts.{AreParts, Holding, table_of, heap_of, holding_of, entry_of}
+use Rattle.w16_arena.proofs.Parts.{AreParts}
+use Rattle.w16_arena.specs.State.{table_of, heap_of, entry_of}
 
 -- a place with an entry is in the list
 pub in_list : (entries : List (Option Entry)) (id : ℕ) (e : Entry) → get_or entries id None ≡ Some e → id < length entries
@@ -46,11 +48,6 @@ named_pairs cap (b ∷ bs) named = (turned b bs named.1, named_pairs cap bs name
     turned b [] all = tt
     turned b (c ∷ cs) all = ((λ e. all.0 (sym e)), turned b cs all.1)
 
--- what isn't discardable isn't in the order of use
-unlisted : (e : Option Entry) (b : Option Block) → IfSome e (λ d. is_discardable d.kind ≡ false) → is_listed e b ≡ false
-unlisted None b plain = refl
-unlisted (Some e) b plain = rw plain refl
-
 -- how the blocks of a layout lie, whatever their entries
 pub record IsArranged (layout : Layout) : Type 0 where
   pub laid : IsLaid layout.lo layout.hi layout.blocks
@@ -66,15 +63,23 @@ ordered_arranged layout ordered = record {
   low_grained = ordered.from;
 }
 
-pub sound_arranged : (entries : List (Option Entry)) (layout : Layout) → IsSound (table_of entries layout) → IsArranged layout
-sound_arranged entries layout sound = record { laid = sound.table.laid; ids = sound.table.ids; grained = sound.grained; low_grained = sound.low_grained }
+pub sound_arranged : (entries : List (Option Entry)) (layout : Layout) (order : List ℕ) → IsSound (table_of entries layout order) → IsArranged layout
+sound_arranged entries layout order sound = record { laid = sound.table.laid; ids = sound.table.ids; grained = sound.grained; low_grained = sound.low_grained }
 
-pub sound_of : (entries : List (Option Entry)) (layout : Layout) → IsArranged layout
+-- the order of use has just the ids that it is to have, each once
+pub record IsOrder (entries : List (Option Entry)) (layout : Layout) (order : List ℕ) : Type 0 where
+  pub members : (q : ℕ) → is_member q order ≡ is_listed (get_or entries q None) (block_with layout.blocks q)
+  pub once : AllPairs (λ a b. a ≡ b → ⊥) order
+
+pub sound_order : (entries : List (Option Entry)) (layout : Layout) (order : List ℕ) → IsSound (table_of entries layout order) → IsOrder entries layout order
+sound_order entries layout order sound = record { members = sound.in_order; once = sound.no_repeats }
+
+pub sound_of : (entries : List (Option Entry)) (layout : Layout) (order : List ℕ) → IsArranged layout
     → ((q : ℕ) (x : Block) → block_with layout.blocks q ≡ Some x → IsSomeAnd (get_or entries q None) (λ e. x.hold ≡ hold_in e))
-    → ((q : ℕ) → IfSome (get_or entries q None) (λ e. is_discardable e.kind ≡ false))
+    → IsOrder entries layout order
     → ((q : ℕ) → IfSome (get_or entries q None) (λ e. (e.locks ≤ 255) × (IsTrue (is_fixed e.kind) → e.locks ≡ 0)))
-    → IsSound (table_of entries layout)
-sound_of entries layout arranged holds plain fixed = record {
+    → IsSound (table_of entries layout order)
+sound_of entries layout order arranged holds listed fixed = record {
   table = record {
     laid = arranged.laid;
     ids = arranged.ids;
@@ -83,30 +88,30 @@ sound_of entries layout arranged holds plain fixed = record {
   };
   grained = arranged.grained;
   low_grained = arranged.low_grained;
-  in_order = λ q. sym (unlisted (get_or entries q None) (block_with layout.blocks q) (plain q));
-  no_repeats = λ i j d l m. absurd (omega arith);
+  in_order = listed.members;
+  no_repeats = listed.once;
   fixed = fixed;
 }
 
 -- what a sound table has at each id
-pub holds_at : (entries : List (Option Entry)) (layout : Layout) → IsSound (table_of entries layout) → (q : ℕ) (x : Block) → block_with layout.blocks q ≡ Some x → IsSomeAnd (get_or entries q None) (λ e. x.hold ≡ hold_in e)
-holds_at entries layout sound q x e =
+pub holds_at : (entries : List (Option Entry)) (layout : Layout) (order : List ℕ) → IsSound (table_of entries layout order) → (q : ℕ) (x : Block) → block_with layout.blocks q ≡ Some x → IsSomeAnd (get_or entries q None) (λ e. x.hold ≡ hold_in e)
+holds_at entries layout order sound q x e =
     let m = member_with layout.blocks q x e in
     subst (λ k. IsSomeAnd (get_or entries k None) (λ d. x.hold ≡ hold_in d)) m.1 (Each-at (λ (x : Block). IsSomeAnd (get_or entries x.id None) (λ d. x.hold ≡ hold_in d)) layout.blocks (Each-from_All _ layout.blocks sound.table.holds) x m.0)
 
-module _ {entries : List (Option Entry)} {layout : Layout} {memory : List ℕ} (parts : AreParts entries layout memory) where
+module _ {entries : List (Option Entry)} {layout : Layout} {order memory : List ℕ} (parts : AreParts entries layout order memory) where
   whole : layout.hi ≤ length memory
-  whole = let e = parts.high in omega arith
+  whole = parts.high
 
-  pub object_here : (q : ℕ) → object_at (heap_of entries layout memory) q ≡ option_map (object_in layout.blocks memory q) (get_or entries q None)
-  object_here q = object_is (table_of entries layout) parts.sound.table memory whole q
+  pub object_here : (q : ℕ) → object_at (heap_of entries layout order memory) q ≡ option_map (object_in layout.blocks memory q) (get_or entries q None)
+  object_here q = object_is (table_of entries layout order) parts.sound.table memory whole q
 
-  pub place_here : (q : ℕ) → finmap.get (heap_of entries layout memory).places q ≡ option_map (λ (x : Block). x.at) (block_with layout.blocks q)
-  place_here q = place_is (table_of entries layout) parts.sound.table memory whole q
+  pub place_here : (q : ℕ) → finmap.get (heap_of entries layout order memory).places q ≡ option_map (λ (x : Block). x.at) (block_with layout.blocks q)
+  place_here q = place_is (table_of entries layout order) parts.sound.table memory whole q
 
   -- it is a heap
-  pub is_heap : IsHeap (heap_of entries layout memory)
-  is_heap = sound_heap (table_of entries layout) parts.sound memory whole parts.bytes
+  pub is_heap : All (λ b. b < 256) memory → IsHeap (heap_of entries layout order memory)
+  is_heap bytes = sound_heap (table_of entries layout order) parts.sound memory whole bytes
 
   -- where no entry is, no block is
   pub no_block : (q : ℕ) → get_or entries q None ≡ None → block_with layout.blocks q ≡ None
@@ -114,10 +119,10 @@ module _ {entries : List (Option Entry)} {layout : Layout} {memory : List ℕ} (
     where
       from : (b : Option Block) → block_with layout.blocks q ≡ b → b ≡ None
       from None e = refl
-      from (Some x) e = absurd (subst (λ d. IsSomeAnd d (λ d. x.hold ≡ hold_in d)) none (holds_at entries layout parts.sound q x e))
+      from (Some x) e = absurd (subst (λ d. IsSomeAnd d (λ d. x.hold ≡ hold_in d)) none (holds_at entries layout order parts.sound q x e))
 
   -- an object's bytes are those at its block
-  pub bytes_here : (q : ℕ) → bytes_at (heap_of entries layout memory) q ≡ option_map (λ (x : Block). slice_range memory x.at (x.at + x.size)) (block_with layout.blocks q)
+  pub bytes_here : (q : ℕ) → bytes_at (heap_of entries layout order memory) q ≡ option_map (λ (x : Block). slice_range memory x.at (x.at + x.size)) (block_with layout.blocks q)
   bytes_here q = ap (λ (p : Option Object). elim p as (λ _. Option (List ℕ)) [ Some o ↦ o.bytes | None ↦ None ]) (object_here q) ∙ from (get_or entries q None) refl
     where
       from : (e : Option Entry) → get_or entries q None ≡ e
@@ -127,15 +132,15 @@ module _ {entries : List (Option Entry)} {layout : Layout} {memory : List ℕ} (
       from None h = sym (ap (option_map (λ (x : Block). slice_range memory x.at (x.at + x.size))) (no_block q h))
 
   -- an object has an entry
-  pub entry_there : (q : ℕ) → is_some (object_at (heap_of entries layout memory) q) ≡ true → (e : Entry) × (get_or entries q None ≡ Some e) × (q < length entries)
+  pub entry_there : (q : ℕ) → is_some (object_at (heap_of entries layout order memory) q) ≡ true → (e : Entry) × (get_or entries q None ≡ Some e) × (q < length entries)
   entry_there q t = from (get_or entries q None) refl
     where
       from : (p : Option Entry) → get_or entries q None ≡ p → (e : Entry) × (get_or entries q None ≡ Some e) × (q < length entries)
       from (Some e) h = (e, h, in_list entries q e h)
-      from None h = let none : is_some (object_at (heap_of entries layout memory) q) ≡ false = ap is_some (object_here q ∙ ap (option_map (object_in layout.blocks memory q)) h) in absurd (false≢true (sym none ∙ t))
+      from None h = let none : is_some (object_at (heap_of entries layout order memory) q) ≡ false = ap is_some (object_here q ∙ ap (option_map (object_in layout.blocks memory q)) h) in absurd (false≢true (sym none ∙ t))
 
   -- where no object is, no entry is
-  pub no_entry : (q : ℕ) → object_at (heap_of entries layout memory) q ≡ None → get_or entries q None ≡ None
+  pub no_entry : (q : ℕ) → object_at (heap_of entries layout order memory) q ≡ None → get_or entries q None ≡ None
   no_entry q free = from (get_or entries q None) (sym (object_here q) ∙ free)
     where
       from : (e : Option Entry) → option_map (object_in layout.blocks memory q) e ≡ None → e ≡ None
@@ -143,20 +148,12 @@ module _ {entries : List (Option Entry)} {layout : Layout} {memory : List ℕ} (
       from (Some e) h = cc
 
   -- what is known of an object is its entry
-  pub entry_is : (q : ℕ) → option_map entry_of (object_at (heap_of entries layout memory) q) ≡ get_or entries q None
+  pub entry_is : (q : ℕ) → option_map entry_of (object_at (heap_of entries layout order memory) q) ≡ get_or entries q None
   entry_is q = ap (option_map entry_of) (object_here q) ∙ back (get_or entries q None)
     where
       back : (e : Option Entry) → option_map entry_of (option_map (object_in layout.blocks memory q) e) ≡ e
       back None = refl
       back (Some e) = refl
-
-  -- no object is discardable
-  pub none_discardable : (q : ℕ) → IfSome (object_at (heap_of entries layout memory) q) (λ o. is_discardable o.kind ≡ false)
-  none_discardable q = subst (λ p. IfSome p (λ (o : Object). is_discardable o.kind ≡ false)) (sym (object_here q)) (from (get_or entries q None) (parts.plain q))
-    where
-      from : (e : Option Entry) → IfSome e (λ d. is_discardable d.kind ≡ false) → IfSome (option_map (object_in layout.blocks memory q) e) (λ o. is_discardable o.kind ≡ false)
-      from None plain = tt
-      from (Some e) plain = plain
 
   -- a block ends in memory
   pub ends_in_memory : (q : ℕ) (x : Block) → block_with layout.blocks q ≡ Some x → (0 < x.size) × (x.at + x.size ≤ length memory)
@@ -166,7 +163,7 @@ module _ {entries : List (Option Entry)} {layout : Layout} {memory : List ℕ} (
       (inside.1, let high = parts.high in let end = inside.2 in omega arith)
 
   -- the size of an object is its block's
-  pub size_here : (q : ℕ) → option_map (length {A = ℕ}) (bytes_at (heap_of entries layout memory) q) ≡ option_map (λ (x : Block). x.size) (block_with layout.blocks q)
+  pub size_here : (q : ℕ) → option_map (length {A = ℕ}) (bytes_at (heap_of entries layout order memory) q) ≡ option_map (λ (x : Block). x.size) (block_with layout.blocks q)
   size_here q = ap (option_map (length {A = ℕ})) (bytes_here q) ∙ from (block_with layout.blocks q) refl
     where
       from : (b : Option Block) → block_with layout.blocks q ≡ b → option_map (length {A = ℕ}) (option_map (λ (x : Block). slice_range memory x.at (x.at + x.size)) b) ≡ option_map (λ (x : Block). x.size) b
@@ -176,17 +173,3 @@ module _ {entries : List (Option Entry)} {layout : Layout} {memory : List ℕ} (
   -- past the table there is none
   pub none_past : (q : ℕ) → length entries ≤ q → block_with layout.blocks q ≡ None
   none_past q le = no_block q (past_end entries q le)
-
-  -- The same of the value that the parts stand for.
-  module _ {h : Holding} (shown : holding_of entries layout memory ≡ h) where
-    pub is_heap_shown : IsHeap h.heap
-    is_heap_shown = subst (λ (h : Holding). IsHeap h.heap) shown is_heap
-
-    pub entry_shown : (q : ℕ) → get_or entries q None ≡ option_map entry_of (object_at h.heap q)
-    entry_shown q = sym (entry_is q) ∙ ap (λ (h : Holding). option_map entry_of (object_at h.heap q)) shown
-
-    pub none_discardable_shown : (q : ℕ) → IfSome (object_at h.heap q) (λ o. is_discardable o.kind ≡ false)
-    none_discardable_shown q = subst (λ (h : Holding). IfSome (object_at h.heap q) (λ o. is_discardable o.kind ≡ false)) shown (none_discardable q)
-
-    pub size_shown : (q : ℕ) → option_map (λ (x : Block). x.size) (block_with layout.blocks q) ≡ option_map (length {A = ℕ}) (bytes_at h.heap q)
-    size_shown q = sym (size_here q) ∙ ap (λ (h : Holding). option_map (length {A = ℕ}) (bytes_at h.heap q)) shown

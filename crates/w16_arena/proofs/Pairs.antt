@@ -11,7 +11,7 @@ use Rattle.w16_model.specs.Table.{block_with}
 use Rattle.w16_model.proofs.Gaps.{Member}
 use Rattle.w16_compact.specs.Gather.{contents, gathered, packed, FitsGap}
 use Rattle.w16_compact.proofs.Cleared.{inside_is}
-use Rattle.w16_global.specs.Making.{EachTwo, Slides}
+use Rattle.w16_arena.specs.Making.{EachTwo, Slides}
 
 pub two_same : (R : Block → Block → Type 0) → ((b : Block) → R b b) → (bs : List Block) → EachTwo R bs bs
 two_same R f [] = tt

@@ -1,0 +1,14 @@
+pub mod Parts
+pub mod Lookups
+pub mod With
+pub mod Pairs
+pub mod Slices
+pub mod Cleared
+pub mod Holes
+pub mod Slid
+pub mod Listed
+pub mod Moved
+pub mod Arranged
+pub mod Rooms
+pub mod Gathering
+pub mod Unmoved

@@ -1,0 +1,10 @@
+use Rattle.std.proofs.Common.{◌≡◌, ◌≤◌, ◌+◌, ap, ◌∙◌, sym, arith}
+use Rattle.w16_arena.proofs.Gathering.{gathered_moved, gathered_free}
+use Rattle.w16_arena.proofs.making.gather_for.Goals as goal
+
+pub returns-clause-slid : goal.returns-clause-slid
+returns-clause-slid g c =
+    gathered_moved c.in_ok-gap.ensures.ordered c.in_ok-gap.ensures.found c.gather-moved.ensures.blocks c.gather-moved.ensures.contents c.gather-moved.ensures.length c.gather-moved.ensures.ordered c.has_bytes.ensures
+
+pub returns-clause-free : goal.returns-clause-free
+returns-clause-free g c = gathered_free c.in_ok-gap.ensures.ordered c.in_ok-gap.ensures.found c.gather-moved.ensures.blocks c.gather-moved.ensures.clear

@@ -1,0 +1,23 @@
+use Rattle.std.proofs.Common.{rules, sym, ◌∙◌}
+use Rattle.w16_compact.proofs.Gathered.{moved_same}
+use Rattle.w16_arena.proofs.Arranged.{same_moved}
+use Rattle.w16_arena.proofs.Rooms.{hole_free, hole_enough, hole_missing, made_enough}
+use Rattle.w16_arena.proofs.making.make_room.Goals as goal
+
+pub returns-in-Some-clause-slid : goal.returns-in-Some-clause-slid
+returns-in-Some-clause-slid g c = same_moved 0 c.args.blocks.now (g.S.Space.bytes c.args.space.now) c.hole_for.ensures.ordered
+
+pub returns-in-Some-clause-free : goal.returns-in-Some-clause-free
+returns-in-Some-clause-free g c = hole_free c.hole_for.ensures.ordered c.args.size c.in-Some.at (sym c.in-Some.is ∙ c.hole_for.ensures.value)
+
+pub returns-in-Some-clause-moved : goal.returns-in-Some-clause-moved
+returns-in-Some-clause-moved g c = sym (moved_same c.args.blocks.now.blocks)
+
+pub returns-in-Some-clause-enough : goal.returns-in-Some-clause-enough
+returns-in-Some-clause-enough g c = hole_enough c.hole_for.ensures.ordered c.args.size c.in-Some.at (sym c.in-Some.is ∙ c.hole_for.ensures.value) c.args.compact
+
+pub returns-then-compact-clause-enough : goal.returns-then-compact-clause-enough
+returns-then-compact-clause-enough g c = made_enough c.hole_for.ensures.ordered c.args.size _ _ _ c.gather_for.result c.gather_for.ensures.slid c.gather_for.ensures.free c.args.compact c.if-compact.true
+
+pub returns-else-compact-clause-refused : goal.returns-else-compact-clause-refused
+returns-else-compact-clause-refused g c = (hole_missing c.hole_for.ensures.ordered c.args.size c.requires.some (sym c.in_default.is ∙ c.hole_for.ensures.value) c.args.compact c.if-compact.false, search rules, search rules)

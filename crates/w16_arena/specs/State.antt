@@ -1,0 +1,41 @@
+-- What an arena is, and a step of its heap in every memory.
+use Rattle.std.specs.Prelude.{◌≡◌, ℕ, ◌+◌, ◌≤◌, List, [], length, replicate, Option, None}
+use Rattle.w16_model.specs.declared.Entry.{Entry}
+use Rattle.w16_model.specs.Heap.{Heap, Object}
+use Rattle.w16_model.specs.Table.{Table, IsSound, heap_in}
+use Rattle.w16_blocks.specs.Layout.{Layout}
+
+-- the table of an arena's heap, and the ids that its last request discarded, oldest first
+pub record State : Type 0 where
+  pub table : Table
+  pub discarded : List ℕ
+
+-- the entries by id, the blocks and the order of use, as a table
+abbrev pub table_of : List (Option Entry) → Layout → List ℕ → Table
+table_of entries layout order = record { lo = layout.lo; hi = layout.hi; grain = layout.grain; entries = entries; blocks = layout.blocks; order = order }
+
+-- the heap that they and a memory stand for
+abbrev pub heap_of : List (Option Entry) → Layout → List ℕ → List ℕ → Heap
+heap_of entries layout order memory = heap_in (table_of entries layout order) memory
+
+-- no object yet
+abbrev pub empty_table : ℕ → ℕ → ℕ → ℕ → Table
+empty_table cap lo hi grain = record { lo = lo; hi = hi; grain = grain; entries = replicate cap None; blocks = []; order = [] }
+
+-- what is known of an object beside its bytes
+abbrev pub entry_of : Object → Entry
+entry_of o = record { kind = o.kind; locks = o.locks }
+
+-- two tables over one range, with as many ids, and the second is sound
+pub record IsSameRange (old new : Table) : Type 0 where
+  pub lo : new.lo ≡ old.lo
+  pub hi : new.hi ≡ old.hi
+  pub grain : new.grain ≡ old.grain
+  pub ids : length new.entries ≡ length old.entries
+  pub sound : IsSound new
+
+-- A step that asks for no room, in every memory that has the range: it changes the table alone.
+pub record Steps (old new : State) (step : Heap → Heap → Type 0) : Type 0 where
+  pub heaps : (memory : List ℕ) → old.table.hi ≤ length memory → step (heap_in old.table memory) (heap_in new.table memory)
+  pub range : IsSameRange old.table new.table
+  pub rest : new ≡ record old { table = new.table }

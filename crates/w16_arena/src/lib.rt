@@ -1,0 +1,108 @@
+//! One heap of objects by id, over memory that its caller has: where each object's bytes stand, which keep their address, and the order of
+//! use by which discardable ones are discarded.
+//!
+//! An id has no object, an absent one, or one with bytes. What is proved of the calls is stated over the heap that the arena's table stands
+//! for in a memory. No call but [`Arena::new`] takes memory of the host.
+#![tactic(auto)]
+
+ghost use Rattle.std.specs.Prelude.{◌≡◌, ◌+◌, ◌<◌, ◌≤◌, ◌⊎◌, ℕ, length, option_map, IfOk, IfSome, IfNone};
+ghost use Rattle.w16_model.specs.Heap.{IsMultiple};
+ghost use Rattle.w16_model.specs.Table.{block_with, entry_at, IsSound};
+ghost use Rattle.w16_arena.specs.State.{empty_table};
+
+mod discards;
+mod making;
+mod objects;
+mod requests;
+
+pub use making::Placed;
+pub use requests::{Compacted, NoRoom};
+use std::alloc::{AllocError, Global};
+use std::marker::Model;
+use w16_blocks::Blocks;
+use w16_lru::Order;
+use w16_model::{Block, Entry};
+
+/// Objects by id, without their bytes. One whose entry has no block is absent.
+#[derive(Drop)]
+pub struct Arena {
+    /// By id.
+    pub(crate) entries: Vec<Option<Entry>>,
+    pub(crate) blocks: Blocks,
+    /// The discardable objects with bytes.
+    pub(crate) order: Order,
+    /// A mark for each id, for the search of those to discard.
+    pub(crate) marks: Vec<bool>,
+    /// What the last request discarded.
+    pub(crate) discarded: Vec<u32>,
+}
+
+impl Model for Arena {
+    ghost use Rattle.std.specs.Prelude.{◌≡◌, ◌≤◌, length, vec_len, vec_capacity};
+    ghost use Rattle.w16_model.specs.Table.{IsSound};
+    ghost use Rattle.w16_arena.specs.State.{State, table_of};
+
+    ghost Value = { State };
+
+    ghost view = { λ s. record { table = table_of s.entries.items s.blocks s.order.ids; discarded = s.discarded.items } };
+
+    ghost invariant = { λ s. IsSound (table_of s.entries.items s.blocks s.order.ids) × (s.blocks.cap ≡ vec_len s.entries) × (s.order.cap ≡ vec_len s.entries) × (vec_len s.marks ≡ vec_len s.entries) × (vec_len s.entries ≤ vec_capacity s.discarded) };
+}
+
+impl Arena {
+    /// No object yet, of ids below `cap`, between `lo` and `hi`, at multiples of the grain. An error is that there was no memory.
+    pub fn new(alloc: Global, cap: u32, lo: u32, hi: u32, grain: u32) -> Result<Arena, AllocError>
+        requires bounds { lo ≤ hi }
+        requires grained { IsMultiple grain lo }
+        ensures { IfOk result (λ made. made ≡ record { table = empty_table cap lo hi grain; discarded = [] }) }
+    {
+        let entries = vec![in alloc; None; cap as usize]?;
+        let blocks = Blocks::with_room(alloc, cap, lo, hi, grain)?;
+        let order = Order::with_room(alloc, cap)?;
+        let marks = vec![in alloc; false; cap as usize]?;
+        let discarded = Vec::with_capacity(alloc, cap as usize)?;
+        Ok(Arena {
+            entries,
+            blocks,
+            order,
+            marks,
+            discarded,
+        })
+    }
+
+    /// What is known of an object beside its bytes, if it is there.
+    pub fn entry(&self, id: u32) -> Option<Entry>
+        ensures value { result ≡ entry_at self.now.table id }
+        ensures sound { IsSound self.now.table }
+    {
+        self.entries.get(id as usize).copied().flatten()
+    }
+
+    /// An object's block, if it has bytes.
+    pub fn block(&self, id: u32) -> Option<Block>
+        ensures value { result ≡ block_with self.now.table.blocks id }
+        ensures sound { IsSound self.now.table }
+    {
+        if id >= self.blocks.cap() {
+            return None;
+        }
+        self.blocks.find(id)
+    }
+
+    /// The lowest block at or above an address, if there is one.
+    pub fn next_block(&self, from: u32) -> Option<Block>
+        ensures found { IfSome result (λ b. (from ≤ b.at) × (block_with self.now.table.blocks b.id ≡ Some b)) }
+        ensures lowest { IfSome result (λ b. (q : ℕ) → IfSome (block_with self.now.table.blocks q) (λ c. (c.at < from) ⊎ (b.at ≤ c.at))) }
+        ensures none { IfNone result ((q : ℕ) → IfSome (block_with self.now.table.blocks q) (λ c. c.at < from)) }
+        ensures sound { IsSound self.now.table }
+    {
+        self.blocks.at_index(self.blocks.rank(from))
+    }
+
+    /// The ids that the last request discarded, oldest first.
+    pub fn discarded(&self) -> &[u32]
+        ensures { result.now ≡ self.now.discarded }
+    {
+        &self.discarded
+    }
+}

@@ -1,0 +1,110 @@
+//! Room for new bytes, by a hole that is there or by sliding the blocks of a gap.
+ghost use Rattle.std.specs.Prelude.{◌≡◌, ◌<◌, ◌≤◌, false, true, length, All, IfSome, IfNone, if◌then◌else◌, ◌+◌};
+ghost use Rattle.w16_model.specs.Gap.{room, longest_hole};
+ghost use Rattle.w16_blocks.specs.Layout.{IsOrdered};
+ghost use Rattle.w16_compact.specs.Gather.{moved_size};
+ghost use Rattle.w16_region.specs.Bytes.{counted, put_part, repeated};
+ghost use Rattle.w16_model.specs.Table.{IsSameOutside};
+ghost use Rattle.w16_arena.specs.Making.{AreMoved, IsFree, IsLowestGathered, IsLowestPlace, most_for};
+
+use w16_blocks::{Blocks, Span};
+use w16_compact::{gap_for, gather};
+use w16_region::Space;
+
+/// Where new bytes stand, the range whose blocks slid for them, and how many bytes were moved.
+#[derive(Clone, Copy, Debug, PartialEq, Eq)]
+pub struct Placed {
+    pub at: u32,
+    /// Empty where no block slid.
+    pub slid: Span,
+    pub moved: u64,
+}
+
+/// The range of a slide that moved nothing.
+pub(crate) const NOTHING: Span = Span { from: 0, to: 0 };
+
+/// A place of `size` bytes: in the lowest hole that is long enough, or else, where blocks may slide, behind the blocks of the lowest gap
+/// with room, gathered. Nothing is changed where there is none.
+pub(crate) fn make_room<S: Space>(
+    blocks: &mut Blocks,
+    space: &mut S,
+    size: u32,
+    compact: bool,
+) -> Option<Placed>
+    requires some { 0 < size }
+    requires inside { blocks.old.hi ≤ length (S.bytes space.old) }
+    ensures ordered { IsOrdered blocks.old }
+    ensures slid { IfSome result (λ p. AreMoved p.slid.from p.slid.to blocks.old (S.bytes space.old) blocks.new (S.bytes space.new)) }
+    ensures free { IfSome result (λ p. IsFree blocks.new size p.at) }
+    ensures moved { IfSome result (λ p. p.moved ≡ moved_size blocks.old.blocks blocks.new.blocks) }
+    ensures lowest { IfSome result (λ p. IsLowestPlace blocks.old size p.at) }
+    ensures enough { IfSome result (λ _. size ≤ most_for blocks.old compact) }
+    ensures still { compact ≡ false → (blocks.new ≡ blocks.old) × (space.new ≡ space.old) }
+    ensures outside { IsSameOutside blocks.old.lo blocks.old.hi (S.bytes space.old) (S.bytes space.new) }
+    ensures written { IfSome result (λ p. S.written space.new ≡ counted (S.written space.old) p.moved) }
+    ensures lenders { S.lenders space.new ≡ S.lenders space.old }
+    ensures refused { IfNone result ((most_for blocks.old compact < size) × (blocks.new ≡ blocks.old) × (space.new ≡ space.old)) }
+{
+    if let Some(at) = blocks.hole_for(size) {
+        return Some(Placed {
+            at,
+            slid: NOTHING,
+            moved: 0,
+        });
+    }
+    if compact {
+        gather_for(blocks, space, size)
+    } else {
+        None
+    }
+}
+
+/// A place of `size` bytes behind the blocks of the lowest gap with room, gathered.
+fn gather_for<S: Space>(blocks: &mut Blocks, space: &mut S, size: u32) -> Option<Placed>
+    requires some { 0 < size }
+    requires inside { blocks.old.hi ≤ length (S.bytes space.old) }
+    ensures slid { IfSome result (λ p. AreMoved p.slid.from p.slid.to blocks.old (S.bytes space.old) blocks.new (S.bytes space.new)) }
+    ensures free { IfSome result (λ p. IsFree blocks.new size p.at) }
+    ensures moved { IfSome result (λ p. p.moved ≡ moved_size blocks.old.blocks blocks.new.blocks) }
+    ensures lowest { IfSome result (λ p. IsLowestGathered blocks.old size p.at) }
+    ensures outside { IsSameOutside blocks.old.lo blocks.old.hi (S.bytes space.old) (S.bytes space.new) }
+    ensures written { IfSome result (λ p. S.written space.new ≡ counted (S.written space.old) p.moved) }
+    ensures lenders { S.lenders space.new ≡ S.lenders space.old }
+    ensures refused { IfNone result ((most_for blocks.old true < size) × (blocks.new ≡ blocks.old) × (space.new ≡ space.old)) }
+{
+    let gap = gap_for(blocks, size)?;
+    let moved = gather(blocks, space, gap.low, gap.high);
+    has_bytes(space);
+    Some(Placed {
+        at: gap.low + gap.loose,
+        slid: Span {
+            from: gap.low,
+            to: gap.high,
+        },
+        moved,
+    })
+}
+
+/// Sets `size` bytes from an address on to zeros, where that is asked for.
+pub(crate) fn clear_if<S: Space>(asked: bool, space: &mut S, at: u32, size: u32)
+    requires { at + size ≤ length (S.bytes space.old) }
+    ensures bytes { S.bytes space.new ≡ if asked then put_part (S.bytes space.old) at (repeated size 0) else S.bytes space.old }
+    ensures written { S.written space.new ≡ if asked then counted (S.written space.old) size else S.written space.old }
+    ensures lenders { S.lenders space.new ≡ S.lenders space.old }
+{
+    if asked {
+        space.fill(at, size, 0);
+    }
+}
+
+/// Says that a space has bytes alone, as all have. It has no effect.
+pub(crate) fn has_bytes<S: Space>(space: &S)
+    ensures { All (λ b. b < 256) (S.bytes space.now) }
+{
+    are_bytes(space.view(0, space.len()));
+}
+
+/// Says that each item of a slice of bytes is one. It has no effect.
+fn are_bytes(bytes: &[u8])
+    ensures { All (λ b. b < 256) bytes.now }
+{}

@@ -1,0 +1,204 @@
+//! What becomes of single objects. None of these calls asks for room.
+ghost use Rattle.std.specs.Prelude.{◌≡◌, ◌<◌, ◌≤◌, ℕ, Ok, Err, Some, None, length, IfErr, IfSome, IfNone, IsSome, IsSomeAnd, IsTrue, true, OnOk, if◌then◌else◌};
+ghost use Rattle.w16_model.specs.Heap.{is_fixed, object_at};
+ghost use Rattle.w16_model.specs.Single.{Enters, after_free, after_release, after_lock, after_unlock, after_discard, after_touch, after_newest, after_oldest, refused_order};
+ghost use Rattle.w16_model.specs.Table.{block_with, entry_at, hold_in};
+ghost use Rattle.w16_model.specs.Edit as edit;
+ghost use Rattle.w16_model.specs.Prefix.{is_member};
+ghost use Rattle.w16_blocks.specs.Layout.{IsOrdered, without, replaced};
+ghost use Rattle.w16_arena.specs.State.{Steps};
+
+use crate::Arena;
+use w16_blocks::{Blocks, Hold};
+use w16_model::{Entry, Kind, Refusal};
+
+impl Arena {
+    /// A new object that is absent, for an id that has none.
+    pub fn enter(&mut self, id: u32, kind: Kind)
+        requires id { id < length self.old.table.entries }
+        requires free { entry_at self.old.table id ≡ None }
+        ensures { Steps self.old self.new (λ old new. Enters old id kind new) }
+    {
+        self.entries[id as usize] = Some(Entry { kind, locks: 0 });
+    }
+
+    /// Takes an object away, absent or not, locked or not.
+    pub fn release(&mut self, id: u32)
+        ensures { Steps self.old self.new (λ old new. new ≡ after_release old id) }
+    {
+        if self.entry(id).is_some() {
+            remove_block(&mut self.blocks, id);
+            self.entries[id as usize] = None;
+            self.order.remove(id);
+        }
+    }
+
+    /// Takes an object away, absent or not. A locked one stays: `Locked`.
+    pub fn free(&mut self, id: u32) -> Result<(), Refusal>
+        ensures ok { OnOk result (Steps self.old self.new (λ old new. after_free old id ≡ Ok new)) }
+        ensures err { IfErr result (λ r. (self.new ≡ self.old) × Steps self.old self.new (λ old new. after_free old id ≡ Err r)) }
+    {
+        if let Some(entry) = self.entry(id)
+            && entry.locks > 0
+        {
+            return Err(Refusal::Locked);
+        }
+        self.release(id);
+        Ok(())
+    }
+
+    /// One lock more, and a discardable object becomes the newest. An absent object isn't locked (`Absent`), a fixed one counts none
+    /// (`Fixed`), and a count of 255 is full (`LockFull`).
+    pub fn lock(&mut self, id: u32) -> Result<(), Refusal>
+        ensures ok { OnOk result (Steps self.old self.new (λ old new. after_lock old id ≡ Ok new)) }
+        ensures err { IfErr result (λ r. (self.new ≡ self.old) × Steps self.old self.new (λ old new. after_lock old id ≡ Err r)) }
+    {
+        if self.block(id).is_none() {
+            return Err(Refusal::Absent);
+        }
+        match self.entry(id) {
+            None => Err(Refusal::Absent),
+            Some(entry) if entry.kind == Kind::Fixed => Err(Refusal::Fixed),
+            Some(entry) if entry.locks == 255 => Err(Refusal::LockFull),
+            Some(entry) => {
+                self.set_locks(id, entry.kind, entry.locks + 1);
+                self.touch(id);
+                Ok(())
+            }
+        }
+    }
+
+    /// One lock less, if there is one. A fixed object counts none: `Fixed`.
+    pub fn unlock(&mut self, id: u32) -> Result<(), Refusal>
+        ensures ok { OnOk result (Steps self.old self.new (λ old new. after_unlock old id ≡ Ok new)) }
+        ensures err { IfErr result (λ r. (self.new ≡ self.old) × Steps self.old self.new (λ old new. after_unlock old id ≡ Err r)) }
+    {
+        match self.entry(id) {
+            None => Ok(()),
+            Some(entry) if entry.kind == Kind::Fixed => Err(Refusal::Fixed),
+            Some(entry) => {
+                self.set_locks(id, entry.kind, entry.locks.saturating_sub(1));
+                Ok(())
+            }
+        }
+    }
+
+    /// A discardable object gives up its bytes, if it has any. A locked one keeps them (`Locked`), and so does one that isn't discardable
+    /// (`NotDiscardable`).
+    pub fn discard(&mut self, id: u32) -> Result<(), Refusal>
+        ensures ok { OnOk result (Steps self.old self.new (λ old new. after_discard old id ≡ Ok new)) }
+        ensures err { IfErr result (λ r. (self.new ≡ self.old) × Steps self.old self.new (λ old new. after_discard old id ≡ Err r)) }
+    {
+        match self.entry(id) {
+            None => Err(Refusal::NotDiscardable),
+            Some(entry) if entry.locks > 0 => Err(Refusal::Locked),
+            Some(entry) if entry.kind != Kind::Discardable => Err(Refusal::NotDiscardable),
+            Some(_) => {
+                self.give_up(id);
+                Ok(())
+            }
+        }
+    }
+
+    /// An object was used: a discardable one with bytes becomes the newest, any other is as it was.
+    pub fn touch(&mut self, id: u32)
+        ensures { Steps self.old self.new (λ old new. new ≡ after_touch old id) }
+    {
+        if self.order.contains(id) {
+            self.order.newest(id);
+        }
+    }
+
+    /// A discardable object with bytes becomes the newest, locked or not. It tells why another doesn't: `Absent` or `NotDiscardable`.
+    pub fn to_newest(&mut self, id: u32) -> Result<(), Refusal>
+        ensures ok { OnOk result (Steps self.old self.new (λ old new. after_newest old id ≡ Ok new)) }
+        ensures err { IfErr result (λ r. (self.new ≡ self.old) × Steps self.old self.new (λ old new. after_newest old id ≡ Err r)) }
+    {
+        self.in_order(id)?;
+        self.order.newest(id);
+        Ok(())
+    }
+
+    /// A discardable object with bytes becomes the oldest, locked or not. It tells why another doesn't: `Absent` or `NotDiscardable`.
+    pub fn to_oldest(&mut self, id: u32) -> Result<(), Refusal>
+        ensures ok { OnOk result (Steps self.old self.new (λ old new. after_oldest old id ≡ Ok new)) }
+        ensures err { IfErr result (λ r. (self.new ≡ self.old) × Steps self.old self.new (λ old new. after_oldest old id ≡ Err r)) }
+    {
+        self.in_order(id)?;
+        self.order.oldest(id);
+        Ok(())
+    }
+
+    /// Sets the lock count of an object of this kind.
+    fn set_locks(&mut self, id: u32, kind: Kind, locks: u8)
+        requires { IsSomeAnd (entry_at self.old.table id) (λ e. (e.kind ≡ kind) × (IsTrue (is_fixed kind) → locks ≡ 0)) }
+        ensures { Steps self.old self.new (λ old new. IfSome (object_at old id) (λ o. new ≡ edit.with_object old id (record o { locks = locks }))) }
+    {
+        let entry = Entry { kind, locks };
+        set_hold(&mut self.blocks, id, hold(entry));
+        self.entries[id as usize] = Some(entry);
+    }
+
+    /// An object gives up its bytes, if it has any. Its id, kind and locks stay.
+    pub(crate) fn give_up(&mut self, id: u32)
+        requires { IsSome (entry_at self.old.table id) }
+        ensures steps { Steps self.old self.new (λ old new. new ≡ edit.absent old id) }
+        ensures blocks { self.new.table.blocks ≡ without id self.old.table.blocks }
+        ensures order { self.new.table.order ≡ edit.without id self.old.table.order }
+        ensures entries { self.new.table.entries ≡ self.old.table.entries }
+    {
+        remove_block(&mut self.blocks, id);
+        self.order.remove(id);
+    }
+
+    /// Whether a step on the order of use is about a discardable object with bytes, and why it isn't.
+    fn in_order(&self, id: u32) -> Result<(), Refusal>
+        ensures ok { OnOk result (Steps self.now self.now (λ old new. refused_order old id ≡ None)) }
+        ensures err { IfErr result (λ r. Steps self.now self.now (λ old new. refused_order old id ≡ Some r)) }
+        ensures known { OnOk result (id < length self.now.table.entries) }
+        ensures listed { OnOk result (is_member id self.now.table.order ≡ true) }
+    {
+        if self.block(id).is_none() {
+            return Err(Refusal::Absent);
+        }
+        match self.entry(id) {
+            None => Err(Refusal::Absent),
+            Some(entry) if entry.kind != Kind::Discardable => Err(Refusal::NotDiscardable),
+            Some(_) => Ok(()),
+        }
+    }
+}
+
+/// Takes an id's block away, if it has one.
+fn remove_block(blocks: &mut Blocks, id: u32)
+    requires { id < blocks.old.cap }
+    ensures value { blocks.new ≡ record blocks.old { blocks = without id blocks.old.blocks } }
+    ensures ordered { IsOrdered blocks.new }
+{
+    if blocks.find(id).is_some() {
+        blocks.remove(id);
+    }
+}
+
+/// Pins an id's block or lets it loose, if it has one.
+fn set_hold(blocks: &mut Blocks, id: u32, hold: Hold)
+    requires { id < blocks.old.cap }
+    ensures none { IfNone (block_with blocks.old.blocks id) (blocks.new ≡ blocks.old) }
+    ensures some { IfSome (block_with blocks.old.blocks id) (λ b. blocks.new ≡ record blocks.old { blocks = replaced (record b { hold = hold }) blocks.old.blocks }) }
+    ensures ordered { IsOrdered blocks.new }
+{
+    if blocks.find(id).is_some() {
+        blocks.set_hold(id, hold);
+    }
+}
+
+/// Whether an object's block keeps its address.
+pub(crate) fn hold(entry: Entry) -> Hold
+    ensures { result ≡ hold_in entry }
+{
+    if entry.kind == Kind::Fixed || entry.locks > 0 {
+        Hold::Pinned
+    } else {
+        Hold::Loose
+    }
+}
