@@ -110,8 +110,9 @@ impl Order {
             return;
         };
         if at < self.members {
-            self.positions.move_index(at, self.members - 1);
-            self.members -= 1;
+            let last = self.members - 1;
+            self.positions.move_index(at, last);
+            self.members = last;
         }
     }
 
@@ -127,9 +128,9 @@ impl Order {
         if at < self.members {
             return at;
         }
-        let last = self.members;
-        self.positions.move_index(at, last);
+        let behind = self.members;
+        self.positions.move_index(at, behind);
         self.members += 1;
-        last
+        behind
     }
 }
