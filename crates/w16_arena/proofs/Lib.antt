@@ -12,3 +12,6 @@ pub mod Arranged
 pub mod Rooms
 pub mod Gathering
 pub mod Unmoved
+pub mod Changed
+pub mod Reordered
+pub mod Singles

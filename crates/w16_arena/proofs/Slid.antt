@@ -1,5 +1,5 @@
 -- The heap of parts whose blocks slid: the same objects at other addresses.
-use Rattle.std.proofs.Common.{◌≡◌, ℕ, ◌+◌, ◌-◌, ◌<◌, ◌≤◌, ◌⊎◌, inl, inr, Bool, false, ◌&&◌, IsTrue, IfSome, IsSomeAnd, is_some, List, get_or, take, drop, slice_range, Option, Some, None, option_map, refl, sym, ap, ◌∙◌, subst, arith}
+use Rattle.std.proofs.Common.{◌≡◌, ℕ, ◌+◌, ◌-◌, ◌<◌, ◌≤◌, ◌⊎◌, inl, inr, ◌&&◌, IsTrue, IfSome, IsSomeAnd, is_some, List, get_or, take, drop, slice_range, Option, Some, None, option_map, refl, sym, ap, ◌∙◌, subst, arith}
 use Rattle.std.specs.FinMap as finmap
 use Rattle.std.proofs.lemmas.Bool.{false≢true}
 use Rattle.w16_region.specs.Bytes.{part}
@@ -7,7 +7,7 @@ use Rattle.w16_model.specs.declared.Block.{Block}
 use Rattle.w16_model.specs.declared.Entry.{Entry}
 use Rattle.w16_model.specs.Gap.{block_end, is_pinned, holds_still}
 use Rattle.w16_model.specs.Heap.{Object, object_at, is_discardable}
-use Rattle.w16_model.specs.Table.{block_with, hold_in}
+use Rattle.w16_model.specs.Table.{block_with, hold_in, is_listed}
 use Rattle.w16_model.proofs.Gaps.{Each-at}
 use Rattle.w16_model.proofs.Laid.{laid_each}
 use Rattle.w16_model.proofs.Tables.{member_with}
@@ -20,6 +20,11 @@ use Rattle.w16_arena.proofs.Lookups.{IsOrder, ordered_arranged, sound_of, holds_
 
 pub range_part : (bytes : List ℕ) (at n : ℕ) → slice_range bytes at (at + n) ≡ part bytes at n
 range_part bytes at n = let e : at + n - at ≡ n = omega arith in ap (λ k. take k (drop at bytes)) e
+
+-- whether an id is in the order of use is a matter of whether it has a block
+pub listed_same : (e : Option Entry) (b c : Option Block) → is_some b ≡ is_some c → is_listed e b ≡ is_listed e c
+listed_same None b c same = refl
+listed_same (Some e) b c same = ap (λ t. is_discardable e.kind && t) same
 
 -- a pinned block isn't loose, so it stands where it stood
 pub pinned_stands : (low high : ℕ) (memory after : List ℕ) (b c : Block) → Slides low high memory after b c → IsTrue (is_pinned b) → c.at ≡ b.at
@@ -54,14 +59,10 @@ module _ {entries : List (Option Entry)} {layout : Layout} {order memory : List 
       -- the same blocks have bytes, so the order of use is as it was
       listed : IsOrder entries new order
       listed = record {
-        members = λ q. parts.sound.in_order q ∙ ap (is_there (get_or entries q None)) (both (block_with layout.blocks q) (block_with new.blocks q) (slid_with q));
+        members = λ q. parts.sound.in_order q ∙ listed_same (get_or entries q None) (block_with layout.blocks q) (block_with new.blocks q) (both (block_with layout.blocks q) (block_with new.blocks q) (slid_with q));
         once = parts.sound.no_repeats;
       }
         where
-          is_there : Option Entry → Bool → Bool
-          is_there None t = false
-          is_there (Some e) t = is_discardable e.kind && t
-
           both : (b c : Option Block) → BothOrNone R b c → is_some b ≡ is_some c
           both None None s = refl
           both None (Some c) s = absurd s

@@ -1,3 +1,4 @@
 pub mod State
 pub mod Making
 pub mod Asked
+pub mod Kept

@@ -5,7 +5,7 @@
 //! for in a memory. No call but [`Arena::new`] takes memory of the host.
 #![tactic(auto)]
 
-ghost use Rattle.std.specs.Prelude.{◌≡◌, ◌+◌, ◌<◌, ◌≤◌, ◌⊎◌, ℕ, length, option_map, IfOk, IfSome, IfNone};
+ghost use Rattle.std.specs.Prelude.{◌≡◌, ◌<◌, ◌≤◌, ◌⊎◌, ℕ, [], length, IfOk, IfSome, IfNone};
 ghost use Rattle.w16_model.specs.Heap.{IsMultiple};
 ghost use Rattle.w16_model.specs.Table.{block_with, entry_at, IsSound};
 ghost use Rattle.w16_arena.specs.State.{empty_table};
@@ -13,10 +13,12 @@ ghost use Rattle.w16_arena.specs.State.{empty_table};
 mod discards;
 mod making;
 mod objects;
+mod placing;
 mod requests;
 
 pub use making::Placed;
-pub use requests::{Compacted, NoRoom};
+pub use placing::Compacted;
+pub use requests::NoRoom;
 use std::alloc::{AllocError, Global};
 use std::marker::Model;
 use w16_blocks::Blocks;
@@ -38,15 +40,15 @@ pub struct Arena {
 }
 
 impl Model for Arena {
-    ghost use Rattle.std.specs.Prelude.{◌≡◌, ◌≤◌, length, vec_len, vec_capacity};
-    ghost use Rattle.w16_model.specs.Table.{IsSound};
+    ghost use Rattle.std.specs.Prelude.{vec_capacity};
     ghost use Rattle.w16_arena.specs.State.{State, table_of};
+    ghost use Rattle.w16_arena.specs.Kept.{IsKept};
 
     ghost Value = { State };
 
     ghost view = { λ s. record { table = table_of s.entries.items s.blocks s.order.ids; discarded = s.discarded.items } };
 
-    ghost invariant = { λ s. IsSound (table_of s.entries.items s.blocks s.order.ids) × (s.blocks.cap ≡ vec_len s.entries) × (s.order.cap ≡ vec_len s.entries) × (vec_len s.marks ≡ vec_len s.entries) × (vec_len s.entries ≤ vec_capacity s.discarded) };
+    ghost invariant = { λ s. IsKept s.entries.items s.blocks s.order s.marks.items (vec_capacity s.discarded) };
 }
 
 impl Arena {

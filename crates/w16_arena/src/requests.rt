@@ -1,40 +1,23 @@
 //! Requests for room: allocation and compaction.
-ghost use Rattle.std.specs.Prelude.{◌≡◌, ◌≢◌, ◌+◌, ◌<◌, ◌≤◌, ℕ, length, is_ok, IfOk, IfSome, IfNone, OnErr, if◌then◌else◌, Some, None, [], List, false, slice_index_or};
+ghost use Rattle.std.specs.Prelude.{◌≡◌, ◌≢◌, ◌<◌, ◌≤◌, ℕ, [], length, is_ok, IfOk, OnErr, if◌then◌else◌, Some, None};
 ghost use Rattle.std.specs.FinMap as finmap;
 ghost use Rattle.w16_region.specs.Bytes.{counted};
-ghost use Rattle.w16_model.specs.Heap.{IsMultiple, is_discardable};
-ghost use Rattle.w16_model.specs.Prefix.{eligible, is_member};
-ghost use Rattle.w16_model.specs.Gap.{room};
-ghost use Rattle.w16_model.specs.Edit as edit;
+ghost use Rattle.w16_model.specs.Heap.{IsMultiple};
 ghost use Rattle.w16_model.specs.Table.{block_with, heap_in, IsSameOutside};
-ghost use Rattle.w16_model.specs.Request.{Allocates, Compacts, compaction_prefix, most_room, moved_bytes};
-ghost use Rattle.w16_lru.specs.Uses.{AreUses};
+ghost use Rattle.w16_model.specs.Request.{Allocates, Compacts, compaction_prefix, moved_bytes};
 ghost use Rattle.w16_arena.specs.State.{IsSameRange};
-ghost use Rattle.w16_arena.specs.Making.{most_in};
-ghost use Rattle.w16_arena.specs.Asked.{HasDiscarded, IsStill, SlidesTogether, Stands, first_eligible};
+ghost use Rattle.w16_arena.specs.Asked.{HasDiscarded, IsStill, first_eligible};
 
 use crate::Arena;
-use crate::discards::is_pinned_id;
-use crate::making::{NOTHING, Placed, clear_if, has_bytes, make_room};
-use crate::objects::hold;
-use w16_blocks::{Block, Blocks};
-use w16_compact::{least_prefix, room};
-use w16_lru::Order;
-use w16_model::{Entry, Kind, Span, Way};
+use crate::making::{NOTHING, Placed};
+use crate::placing::Compacted;
+use w16_compact::least_prefix;
+use w16_model::{Kind, Way};
 use w16_region::Space;
 
 /// Why a request is refused: no number of discards that it may make leaves room. Nothing has changed then.
 #[derive(Clone, Copy, Debug, PartialEq, Eq)]
 pub struct NoRoom;
-
-/// What a compaction answers: the length of the longest hole, the range whose blocks slid, and how many bytes were moved.
-#[derive(Clone, Copy, Debug, PartialEq, Eq)]
-pub struct Compacted {
-    pub room: u32,
-    /// Empty where no block slid.
-    pub slid: Span,
-    pub moved: u64,
-}
 
 impl Arena {
     /// So many bytes, a multiple of the grain, for an id that has none: a new object, or an absent one again. They stand in the lowest hole
@@ -77,46 +60,6 @@ impl Arena {
         self.place(space, id, size, kind, way).ok_or(NoRoom)
     }
 
-    /// Bytes for an id that has none, without a discard.
-    fn place<S: Space>(
-        &mut self,
-        space: &mut S,
-        id: u32,
-        size: u32,
-        kind: Kind,
-        way: Way,
-    ) -> Option<Placed>
-        requires id { id < length self.old.table.entries }
-        requires absent { block_with self.old.table.blocks id ≡ None }
-        requires some { 0 < size }
-        requires rounded { IsMultiple self.old.table.grain size }
-        requires inside { self.old.table.hi ≤ length (S.bytes space.old) }
-        ensures stands { IfSome result (λ p. Stands (heap_in self.old.table (S.bytes space.old)) id size kind way p.at p.slid p.moved (heap_in self.new.table (S.bytes space.new))) }
-        ensures enough { IfSome result (λ _. size ≤ most_in self.old.table way.compact) }
-        ensures refused { IfNone result ((most_in self.old.table way.compact < size) × (self.new ≡ self.old) × (space.new ≡ space.old)) }
-        ensures discarded { self.new.discarded ≡ self.old.discarded }
-        ensures range { IsSameRange self.old.table self.new.table }
-        ensures outside { IsSameOutside self.old.table.lo self.old.table.hi (S.bytes space.old) (S.bytes space.new) }
-        ensures length { length (S.bytes space.new) ≡ length (S.bytes space.old) }
-        ensures written { IfSome result (λ p. S.written space.new ≡ counted (counted (S.written space.old) p.moved) (if way.zero then size else 0)) }
-        ensures lenders { S.lenders space.new ≡ S.lenders space.old }
-    {
-        has_bytes(space);
-        let placed = make_room(&mut self.blocks, space, size, way.compact)?;
-        clear_if(way.zero, space, placed.at, size);
-        let entry = Entry { kind, locks: 0 };
-        let hold = hold(entry);
-        self.blocks.insert(Block {
-            id,
-            at: placed.at,
-            size,
-            hold,
-        });
-        self.entries[id as usize] = Some(entry);
-        list_new(&mut self.order, id, kind);
-        Some(placed)
-    }
-
     /// Makes room for `n` bytes, and answers the length of the longest hole that there is then: as few of the least recently used are
     /// discarded as are needed, or all that may be, and the others slide. For 0 bytes it only answers how long a hole that could make.
     pub fn compact<S: Space>(&mut self, space: &mut S, n: u32) -> Compacted
@@ -143,80 +86,5 @@ impl Arena {
         let k = least_prefix(&self.blocks, &self.order, &mut self.marks, None, n);
         self.discard_first(k.unwrap_or(self.order.len()), None);
         self.slide_together(space)
-    }
-
-    /// The others slide until a hole is as long as it can be without a discard, unless one is already.
-    fn slide_together<S: Space>(&mut self, space: &mut S) -> Compacted
-        requires inside { self.old.table.hi ≤ length (S.bytes space.old) }
-        ensures room { result.room ≡ room self.old.table.lo self.old.table.hi self.old.table.blocks }
-        ensures slides { SlidesTogether (heap_in self.old.table (S.bytes space.old)) result.room result.slid result.moved (heap_in self.new.table (S.bytes space.new)) }
-        ensures discarded { self.new.discarded ≡ self.old.discarded }
-        ensures range { IsSameRange self.old.table self.new.table }
-        ensures outside { IsSameOutside self.old.table.lo self.old.table.hi (S.bytes space.old) (S.bytes space.new) }
-        ensures length { length (S.bytes space.new) ≡ length (S.bytes space.old) }
-        ensures written { S.written space.new ≡ counted (S.written space.old) result.moved }
-        ensures lenders { S.lenders space.new ≡ S.lenders space.old }
-    {
-        has_bytes(space);
-        let room = self.room_now();
-        if room == 0 {
-            return Compacted {
-                room,
-                slid: NOTHING,
-                moved: 0,
-            };
-        }
-        let Some(placed) = make_room(&mut self.blocks, space, room, true) else {
-            unreachable!();
-        };
-        Compacted {
-            room,
-            slid: placed.slid,
-            moved: placed.moved,
-        }
-    }
-
-    /// How long a hole can be made without a discard.
-    fn room_now(&mut self) -> u32
-        ensures value { result ≡ room self.old.table.lo self.old.table.hi self.old.table.blocks }
-        ensures same { self.new ≡ self.old }
-    {
-        self.marks.fill(false);
-        room(&self.blocks, &self.marks)
-    }
-
-    /// How long a hole could be made, with all discarded that may be. Nothing changes.
-    pub fn room_all(&mut self) -> u32
-        ensures value { (memory : List ℕ) → self.old.table.hi ≤ length memory → result ≡ most_room (heap_in self.old.table memory) }
-        ensures same { self.new ≡ self.old }
-    {
-        mark_eligible(&self.blocks, &self.order, &mut self.marks);
-        room(&self.blocks, &self.marks)
-    }
-}
-
-/// Marks the ids of the order of use that may be discarded, and no others.
-fn mark_eligible(blocks: &Blocks, order: &Order, marks: &mut [bool])
-    requires few { order.now.cap ≤ blocks.now.cap }
-    requires many { blocks.now.cap ≤ length marks.old }
-    ensures marks { (id : ℕ) → id < blocks.now.cap → slice_index_or marks.new id false ≡ is_member id (eligible blocks.now.blocks order.now.ids None) }
-    ensures length { length marks.new ≡ length marks.old }
-{
-    marks.fill(false);
-    for i in 0..order.len() {
-        if let Some(id) = order.nth(i) {
-            marks[id as usize] = !is_pinned_id(blocks, id);
-        }
-    }
-}
-
-/// A new discardable object with bytes is the newest in the order of use; another isn't in it.
-fn list_new(order: &mut Order, id: u32, kind: Kind)
-    requires { id < order.old.cap }
-    ensures value { order.new ≡ record order.old { ids = if is_discardable kind then edit.newest id order.old.ids else order.old.ids } }
-    ensures uses { AreUses order.new }
-{
-    if kind == Kind::Discardable {
-        order.newest(id);
     }
 }

@@ -1,0 +1,62 @@
+-- The order of use with one id taken out, or put at an end.
+use Rattle.std.proofs.Common.{◌≡◌, ◌≢◌, ℕ, Bool, true, false, not, ◌&&◌, ◌||◌, ◌==◌, List, [], ◌∷◌, ◌++◌, AllPairs, refl, sym, ap, ◌∙◌, eq-eqb, ne_eqb}
+use Rattle.std.proofs.lemmas.Bool.{false≢true, not-true}
+use Rattle.w16_model.specs.Prefix.{is_member}
+use Rattle.w16_model.specs.Edit.{without, newest, oldest}
+use Rattle.w16_model.proofs.Gaps.{Each-from, EachPair-from_AllPairs, AllPairs-from_EachPair, member_filter, pairs_filter}
+use Rattle.w16_model.proofs.Orders.{member_without, member_newest, newest_differ}
+use Rattle.w16_arena.proofs.Changed.{ReordersOne}
+
+and_true : (b : Bool) → (b && not false) ≡ b
+and_true true = refl
+and_true false = refl
+
+and_false : (b : Bool) → (b && not true) ≡ false
+and_false true = refl
+and_false false = refl
+
+or_false : (b : Bool) → (b || false) ≡ b
+or_false true = refl
+or_false false = refl
+
+or_true : (b : Bool) → (b || true) ≡ true
+or_true true = refl
+or_true false = refl
+
+-- another id is in it as before
+member_other : (id q : ℕ) (order : List ℕ) → id ≢ q → is_member q (without id order) ≡ is_member q order
+member_other id q order d = member_without q id order ∙ ap (λ t. is_member q order && not t) (ne_eqb q id (λ e. d (sym e))) ∙ and_true (is_member q order)
+
+without_once : (id : ℕ) (order : List ℕ) → AllPairs (λ a b. a ≡ b → ⊥) order → AllPairs (λ a b. a ≡ b → ⊥) (without id order)
+without_once id order once = AllPairs-from_EachPair (λ a b. a ≡ b → ⊥) (without id order) (pairs_filter (λ a b. a ≡ b → ⊥) (λ q. not (q == id)) order (EachPair-from_AllPairs (λ a b. a ≡ b → ⊥) order once))
+
+pub member_gone : (id : ℕ) (order : List ℕ) → is_member id (without id order) ≡ false
+member_gone id order = member_without id id order ∙ ap (λ t. is_member id order && not t) (eq-eqb id id refl) ∙ and_false (is_member id order)
+
+-- taken out
+pub without_reorders : (id : ℕ) (order : List ℕ) → AllPairs (λ a b. a ≡ b → ⊥) order → ReordersOne id false order (without id order)
+without_reorders id order once = record { here = member_gone id order; there = λ q d. member_other id q order d; once = without_once id order once }
+
+-- at the newest end
+pub newest_reorders : (id : ℕ) (order : List ℕ) → AllPairs (λ a b. a ≡ b → ⊥) order → ReordersOne id true order (newest id order)
+newest_reorders id order once = record {
+  here = member_newest id id order ∙ ap (λ t. (is_member id order && not (id == id)) || t) (eq-eqb id id refl) ∙ or_true (is_member id order && not (id == id));
+  there = λ q d. member_newest q id order ∙ ap (λ t. (is_member q order && not (q == id)) || t) (ne_eqb id q d) ∙ or_false (is_member q order && not (q == id))
+      ∙ ap (λ t. is_member q order && not t) (ne_eqb q id (λ e. d (sym e))) ∙ and_true (is_member q order);
+  once = newest_differ id order once;
+}
+
+-- at the oldest end
+pub oldest_reorders : (id : ℕ) (order : List ℕ) → AllPairs (λ a b. a ≡ b → ⊥) order → ReordersOne id true order (oldest id order)
+oldest_reorders id order once = record {
+  here = ap (λ t. t || is_member id (without id order)) (eq-eqb id id refl);
+  there = λ q d. ap (λ t. t || is_member q (without id order)) (ne_eqb id q d) ∙ member_other id q order d;
+  once = AllPairs-from_EachPair (λ a b. a ≡ b → ⊥) (oldest id order) (
+    Each-from (λ q. id ≡ q → ⊥) (without id order) (λ q m e. false≢true (sym (not-true (q == id) (member_filter (λ q. not (q == id)) order q m).1) ∙ eq-eqb q id (sym e))),
+    EachPair-from_AllPairs (λ a b. a ≡ b → ⊥) (without id order) (without_once id order once),
+  );
+}
+
+-- left as it is
+pub same_reorders : (id : ℕ) (order : List ℕ) (listed : Bool) → is_member id order ≡ listed → AllPairs (λ a b. a ≡ b → ⊥) order → ReordersOne id listed order order
+same_reorders id order listed here once = record { here = here; there = λ q d. refl; once = once }
