@@ -1,9 +1,9 @@
 -- What a move of one id makes of an order of use.
 use Rattle.std.specs.List.{list_any, IsDistinct}
-use Rattle.std.proofs.Common.{◌≡◌, ℕ, zero, suc, ◌+◌, ◌-◌, ◌<◌, ◌≤◌, Bool, true, false, cond, not, ◌==◌, if◌then◌else◌, nat_eq, nat_lt, List, [], ◌∷◌, ◌++◌, length, get_or, take, insert, remove, slice_get, position, is_some, Option, Some, None, refl, sym, ap, ◌∙◌, subst, arith, All, AllPairs, eqb-true, eq-eqb, length-take-le}
-use Rattle.std.proofs.lemmas.Bool.{false≢true, true≢false, ltb-true, lt-ltb, le-ltb}
+use Rattle.std.proofs.Common.{◌≡◌, ℕ, zero, suc, ◌-◌, ◌<◌, ◌≤◌, Bool, true, false, cond, not, ◌==◌, nat_eq, nat_lt, List, [], ◌∷◌, ◌++◌, length, get_or, take, remove, slice_get, Some, refl, sym, ap, ◌∙◌, arith, eq-eqb, length-take-le}
+use Rattle.std.proofs.lemmas.Bool.{false≢true, ltb-true, lt-ltb, le-ltb}
 use Rattle.std.proofs.lemmas.Bool.Decides.{Decides-eqb}
-use Rattle.std.proofs.lemmas.List.{get_or-take, length-take}
+use Rattle.std.proofs.lemmas.List.{get_or-take}
 use Rattle.std.proofs.lemmas.List.Edits.{length-remove}
 use Rattle.std.proofs.lemmas.List.Elements.{All-take}
 use Rattle.std.proofs.lemmas.List.Folds.{list_any_at}
@@ -14,10 +14,11 @@ use Rattle.w16_model.specs.Prefix.{is_member}
 use Rattle.w16_model.specs.Edit.{without, newest, oldest}
 use Rattle.w16_lru.specs.Uses.{Uses, AreUses}
 use Rattle.w16_lru.specs.Kept.{IsKept, uses_of, joined}
-use Rattle.w16_lru.proofs.Edits.{take-remove_within, take-remove_behind, take-insert_last, take-insert_behind, slice_get_end, slice_get-take, move_index_at}
+use Rattle.w16_lru.proofs.Edits.{take-remove_within, take-insert_last, take-insert_behind, slice_get_end, slice_get-take, move_index_at}
 use Rattle.w16_lru.proofs.Places.{AreApart, without-absent, remove-without, member-take}
 
-pub same_uses : (a b : ℕ) (xs ys : List ℕ) → a ≡ b → xs ≡ ys → (let x : Uses = record { cap = a; ids = xs } in let y : Uses = record { cap = b; ids = ys } in x ≡ y)
+pub same_uses : (a b : ℕ) (xs ys : List ℕ) → a ≡ b → xs ≡ ys
+    → (let x : Uses = record { cap = a; ids = xs } in let y : Uses = record { cap = b; ids = ys } in x ≡ y)
 same_uses a b xs ys e f = λ i. record { cap = e i; ids = f i }
 
 -- another order of the same ids
@@ -35,16 +36,13 @@ AreApart-take ids n le h = λ i j d lt within.
     let long : length (take n ids) ≡ n = length-take-le n ids le in
     rw (get_or-take n ids i d (omega arith), get_or-take n ids j d (omega arith)) (h i j d lt (omega arith))
 
+-- what is kept shows what holds of every order
 pub AreUses-kept : (ids : List ℕ) (n : ℕ) → IsKept ids n → AreUses (uses_of ids n)
 AreUses-kept ids n kept = record {
   below = All-take (λ id. id < length ids) n ids (λ k d lt. let x = get_or ids k d in
       ltb-true x (length ids) (sym (kept.every x) ∙ list_any_at (nat_eq x) ids k d lt (eq-eqb x x refl)));
   apart = AreApart-take ids n kept.within kept.apart;
 }
-
--- an id that is below the number of ids stands somewhere
-pub stands : (ids : List ℕ) (n id : ℕ) → IsKept ids n → id < length ids → false ≡ list_any (nat_eq id) ids → ⊥
-stands ids n id kept lt none = false≢true (none ∙ kept.every id ∙ lt-ltb id (length ids) lt)
 
 less : (n : ℕ) → suc n - 1 ≡ n
 less n = omega arith
@@ -61,6 +59,7 @@ module _ (id : ℕ) where
   without_pushed [] = out_last (id == id) (eq-eqb id id refl)
   without_pushed (x ∷ ids) = pick (not (x == id)) x (without id (ids ++ id ∷ [])) (without id ids) (without_pushed ids)
 
+  -- to take it out it doesn't matter whether it was put in
   pub without-joined : (ids : List ℕ) → without id (joined id ids) ≡ without id ids
   without-joined ids = by (is_member id ids)
     where
@@ -75,11 +74,13 @@ module _ (id : ℕ) where
         take-remove_within ids at n le lt
         ∙ remove-without id (take (suc n) ids) at (AreApart-take ids (suc n) (omega arith) apart) (slice_get-take ids at (suc n) (omega arith) ∙ e)
 
+    -- the first m, with the id moved to their end, to their begin, or out of them
     pub take-newest : (m : ℕ) → m ≤ length ids → at < m → slice_get ids at ≡ Some id → take m (move_index ids at (m - 1)) ≡ newest id (take m ids)
     take-newest zero le lt e = absurd (omega arith)
     take-newest (suc n) le lt e =
         let short = length-remove ids at (omega arith) in
-        ap (take (suc n)) (ap (move_index ids at) (less n) ∙ move_index_at ids at n id e) ∙ take-insert_last (remove ids at) n id (omega arith) ∙ ap (λ l. l ++ id ∷ []) (rest n (omega arith) (omega arith) e)
+        ap (take (suc n)) (ap (move_index ids at) (less n) ∙ move_index_at ids at n id e) ∙ take-insert_last (remove ids at) n id (omega arith)
+        ∙ ap (λ l. l ++ id ∷ []) (rest n (omega arith) (omega arith) e)
 
     pub take-oldest : (m : ℕ) → m ≤ length ids → at < m → slice_get ids at ≡ Some id → take m (move_index ids at 0) ≡ oldest id (take m ids)
     take-oldest zero le lt e = absurd (omega arith)
@@ -90,16 +91,10 @@ module _ (id : ℕ) where
     take-removed zero le lt e = absurd (omega arith)
     take-removed (suc n) le lt e =
         let short = length-remove ids at (omega arith) in
-        ap (λ k. take k (move_index ids at k)) (less n) ∙ ap (take n) (move_index_at ids at n id e) ∙ take-insert_behind (remove ids at) n id (omega arith) ∙ rest n (omega arith) (omega arith) e
+        ap (λ k. take k (move_index ids at k)) (less n) ∙ ap (take n) (move_index_at ids at n id e)
+        ∙ take-insert_behind (remove ids at) n id (omega arith) ∙ rest n (omega arith) (omega arith) e
 
-    pub take-joined : (m : ℕ) → m ≤ at → slice_get ids at ≡ Some id → take (m + 1) (move_index ids at m) ≡ take m ids ++ id ∷ []
-    take-joined m le e =
-        let within = slice_get_within ids at id e in
-        let short = length-remove ids at within in
-        let next : m + 1 ≡ suc m = omega arith in
-        ap (λ k. take k (move_index ids at m)) next ∙ ap (take (suc m)) (move_index_at ids at m id e) ∙ take-insert_last (remove ids at) m id (omega arith)
-        ∙ ap (λ l. l ++ id ∷ []) (take-remove_behind ids at m le within)
-
+    -- whether the first m have it already
     pub joined-member : (m : ℕ) → at < m → slice_get ids at ≡ Some id → joined id (take m ids) ≡ take m ids
     joined-member m lt e = rw (sym (member-take id ids at m apart e), lt-ltb at m lt) refl
 

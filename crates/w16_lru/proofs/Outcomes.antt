@@ -1,21 +1,22 @@
 -- What the methods leave, from where an id stands and where it is moved to.
 use Rattle.std.specs.List.{list_any}
-use Rattle.std.proofs.Common.{◌≡◌, ℕ, ◌+◌, ◌-◌, ◌<◌, ◌≤◌, false, nat_eq, nat_lt, List, [], ◌∷◌, ◌++◌, length, take, slice_get, position, Option, Some, None, refl, sym, ap, ◌∙◌, subst, arith, length-take-le}
+use Rattle.std.proofs.Common.{◌≡◌, ℕ, ◌+◌, ◌-◌, ◌<◌, ◌≤◌, false, nat_eq, nat_lt, List, [], ◌∷◌, ◌++◌, length, take, swap, slice_get, position, Some, None, refl, sym, ap, ◌∙◌, subst, arith, length-take-le}
 use Rattle.std.proofs.lemmas.Option.{slice_get_within, slice_get_past}
 use Rattle.indexmap.specs.IndexMap.{move_index}
 use Rattle.w16_model.specs.Prefix.{is_member}
 use Rattle.w16_model.specs.Edit.{without, newest, oldest}
 use Rattle.w16_lru.specs.Uses.{Uses, AreUses}
 use Rattle.w16_lru.specs.Kept.{IsKept, uses_of, joined}
-use Rattle.w16_lru.proofs.Edits.{slice_get-take}
+use Rattle.w16_lru.proofs.Edits.{slice_get-take, take-swap}
 use Rattle.w16_lru.proofs.Places.{found_stands, member-take, absent-take, without-absent}
-use Rattle.w16_lru.proofs.Changes.{same_uses, AreUses-kept, without-joined, take-newest, take-oldest, take-removed, take-joined, joined-member, joined-other, slice_get-joined, without-other}
+use Rattle.w16_lru.proofs.Changes.{same_uses, AreUses-kept, without-joined, take-newest, take-oldest, take-removed, joined-member, joined-other, slice_get-joined, without-other}
 
 -- an order with these ids, of as many
 abbrev pub with_ids : Uses → List ℕ → Uses
 with_ids uses ids = record uses { ids = ids }
 
 module _ (ids : List ℕ) (m : ℕ) (now : Uses) (kept : IsKept ids m) (view : uses_of ids m ≡ now) where
+  -- the value's two parts
   ids_are : take m ids ≡ now.ids
   ids_are = ap (λ (u : Uses). u.ids) view
 
@@ -35,7 +36,9 @@ module _ (ids : List ℕ) (m : ℕ) (now : Uses) (kept : IsKept ids m) (view : u
     contains_none h = sym (absent-take id ids m h) ∙ ap (is_member id) ids_are
 
     pub remove_none : false ≡ list_any (nat_eq id) ids → now ≡ with_ids now (without id now.ids)
-    remove_none h = same_uses now.cap now.cap now.ids (without id now.ids) refl (sym (without-absent id now.ids (sym (contains_none h))))
+    remove_none h =
+        same_uses now.cap now.cap now.ids (without id now.ids) refl
+        (sym (without-absent id now.ids (sym (contains_none h))))
 
     module _ (at : ℕ) (found : Some at ≡ position (nat_eq id) ids) where
       stands_at : slice_get ids at ≡ Some id
@@ -63,15 +66,15 @@ module _ (ids : List ℕ) (m : ℕ) (now : Uses) (kept : IsKept ids m) (view : u
             same_uses (length new) now.cap (take (m - 1) new) (without id now.ids) (long ∙ cap_is)
             (ap (take (m - 1)) moved ∙ take-removed id ids at kept.apart m kept.within lt stands_at ∙ ap (without id) ids_are)
 
-        pub join_other : m ≤ at → new ≡ move_index ids at m → uses_of new (m + 1) ≡ with_ids now (joined id now.ids)
+        pub join_other : m ≤ at → new ≡ swap ids at m → uses_of new (m + 1) ≡ with_ids now (joined id now.ids)
         join_other le moved =
             same_uses (length new) now.cap (take (m + 1) new) (joined id now.ids) (long ∙ cap_is)
-            (ap (take (m + 1)) moved ∙ take-joined id ids at kept.apart m le stands_at
+            (ap (take (m + 1)) moved ∙ take-swap ids at m id le stands_at
             ∙ sym (joined-other id ids at kept.apart m le stands_at) ∙ ap (joined id) ids_are)
 
-        pub join_other_at : m ≤ at → new ≡ move_index ids at m → slice_get (take (m + 1) new) m ≡ Some id
+        pub join_other_at : m ≤ at → new ≡ swap ids at m → slice_get (take (m + 1) new) m ≡ Some id
         join_other_at le moved =
-            ap (λ l. slice_get l m) (ap (take (m + 1)) moved ∙ take-joined id ids at kept.apart m le stands_at)
+            ap (λ l. slice_get l m) (ap (take (m + 1)) moved ∙ take-swap ids at m id le stands_at)
             ∙ slice_get-joined id ids at kept.apart m le stands_at
 
 -- after the id has joined the order

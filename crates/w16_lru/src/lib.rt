@@ -128,8 +128,9 @@ impl Order {
         if at < self.members {
             return at;
         }
+        // No order is kept behind the members, so the two can change places.
         let behind = self.members;
-        self.positions.move_index(at, behind);
+        self.positions.swap_indices(at, behind);
         self.members += 1;
         behind
     }
