@@ -15,3 +15,5 @@ pub mod Unmoved
 pub mod Changed
 pub mod Reordered
 pub mod Singles
+pub mod Told
+pub mod Steps
