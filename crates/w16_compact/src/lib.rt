@@ -8,14 +8,12 @@
 #![tactic(auto)]
 
 mod gaps;
-mod prefix;
 mod reach;
 mod rooms;
 mod slide;
 #[cfg(test)]
 mod tests;
 
-pub use prefix::least_prefix;
 pub use gaps::{Gap, gap_for};
 pub use rooms::room;
 pub use slide::gather;
