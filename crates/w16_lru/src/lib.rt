@@ -1,10 +1,14 @@
 //! The order of use of a heap's discardable objects: their ids, each at most once, oldest first. No call but the constructor takes memory.
 #![tactic(auto)]
 
-ghost use Rattle.std.specs.Prelude.{◌≡◌, ◌<◌, [], length, slice_get, IfOk};
+ghost use Rattle.std.specs.Prelude.{◌≡◌, ◌<◌, [], Some, length, slice_get, IfOk};
 ghost use Rattle.w16_model.specs.Edit.{newest, oldest, without};
 ghost use Rattle.w16_model.specs.Prefix.{is_member};
+ghost use Rattle.w16_lru.specs.Kept.{joined};
 ghost use Rattle.w16_lru.specs.Uses.{AreUses};
+
+#[cfg(test)]
+mod tests;
 
 use indexmap::IndexSet;
 use std::alloc::{AllocError, Global};
@@ -37,9 +41,10 @@ impl Order {
     {
         let mut positions = IndexSet::with_capacity(alloc, cap as usize)?;
         for id in 0..cap {
-            if positions.insert(id).is_err() {
-                return Err(AllocError);
-            }
+            // There is room for every id.
+            let Ok(_) = positions.insert(id) else {
+                unreachable!()
+            };
         }
         Ok(Order {
             positions,
@@ -101,17 +106,30 @@ impl Order {
         ensures value { self.new ≡ record self.old { ids = without id self.old.ids } }
         ensures uses { AreUses self.new }
     {
-        if let Some(at) = self.positions.get_index_of(&id) && at < self.members {
+        let Some(at) = self.positions.get_index_of(&id) else {
+            return;
+        };
+        if at < self.members {
             self.positions.move_index(at, self.members - 1);
             self.members -= 1;
         }
     }
 
-    /// Where an id stands, once it is a member: where it was, or behind the others.
+    // Where an id stands, once it is made a member: where it was, or else directly behind the others.
     fn join(&mut self, id: u32) -> usize
         requires { id < self.old.cap }
-        ensures { Unit {0} }
+        ensures value { self.new ≡ record self.old { ids = joined id self.old.ids } }
+        ensures at { slice_get self.new.ids result ≡ Some id }
     {
-        0
+        let Some(at) = self.positions.get_index_of(&id) else {
+            unreachable!()
+        };
+        if at < self.members {
+            return at;
+        }
+        let last = self.members;
+        self.positions.move_index(at, last);
+        self.members += 1;
+        last
     }
 }

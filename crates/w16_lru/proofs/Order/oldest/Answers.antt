@@ -1,0 +1,22 @@
+use Rattle.std.proofs.Common.{◌∙◌, ap, slice_get, arith}
+use Rattle.w16_lru.specs.Uses.{Uses}
+use Rattle.w16_lru.proofs.Changes.{IsKept-moved, AreUses-kept}
+use Rattle.w16_lru.proofs.Outcomes.{oldest_leaves}
+use Rattle.w16_lru.proofs.Order.oldest.Goals as goal
+
+pub invariant_of-self : goal.invariant_of-self
+invariant_of-self c =
+    IsKept-moved c.self.inside.positions.keys c.move_index.new.self.keys c.self.inside.members (c.self.inside.members) c.self.invariant (omega arith)
+    c.move_index.ensures.reordered.1 c.move_index.ensures.reordered.2 c.move_index.ensures.unique
+
+pub returns-clause-value : goal.returns-clause-value
+returns-clause-value c =
+    oldest_leaves c.self.inside.positions.keys c.self.inside.members c.args.self.now c.self.invariant c.args.id c.join-at.result
+    (c.self.view_is ∙ c.join-at.ensures.value) (ap (λ (u : Uses). slice_get u.ids c.join-at.result) c.self.view_is ∙ c.join-at.ensures.at)
+    c.move_index.new.self.keys c.move_index.ensures.reordered.1 c.move_index.ensures.keys
+
+pub returns-clause-uses : goal.returns-clause-uses
+returns-clause-uses c =
+    AreUses-kept c.move_index.new.self.keys c.self.inside.members
+    (IsKept-moved c.self.inside.positions.keys c.move_index.new.self.keys c.self.inside.members (c.self.inside.members) c.self.invariant (omega arith)
+    c.move_index.ensures.reordered.1 c.move_index.ensures.reordered.2 c.move_index.ensures.unique)

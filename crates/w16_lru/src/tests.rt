@@ -1,0 +1,120 @@
+ghost use Rattle.std.specs.Prelude.{◌≡◌, [], IfOk};
+
+use crate::Order;
+use std::alloc::AllocError;
+use std::test::Fail;
+
+/// No member yet, of the ids 0 to 4.
+fn five(rt: &impl AllocGlobal) -> Result<Order, AllocError>
+    ensures { IfOk result (λ order. order ≡ record { cap = 5; ids = [] }) }
+{
+    Order::with_room(rt.alloc(), 5)
+}
+
+/// The first five members, the oldest first.
+fn members(order: &Order) -> [Option<u32>; 5] {
+    [
+        order.nth(0),
+        order.nth(1),
+        order.nth(2),
+        order.nth(3),
+        order.nth(4),
+    ]
+}
+
+#[test]
+fn begins_empty(rt: HostRuntime) -> Result<(), Fail> {
+    let order = five(&rt)?;
+    assert_eq!(rt; order.len(), 0);
+    assert_eq!(rt; order.nth(0), None);
+    assert!(rt; !order.contains(0));
+    assert!(rt; !order.contains(5));
+    Ok(())
+}
+
+#[test]
+fn room_for_none(rt: HostRuntime) -> Result<(), Fail> {
+    let mut order = Order::with_room(rt.alloc(), 0)?;
+    assert_eq!(rt; order.len(), 0);
+    assert_eq!(rt; order.nth(0), None);
+    assert!(rt; !order.contains(0));
+    order.remove(0);
+    assert_eq!(rt; order.len(), 0);
+    Ok(())
+}
+
+#[test]
+fn newest_goes_last(rt: HostRuntime) -> Result<(), Fail> {
+    let mut order = five(&rt)?;
+    order.newest(3);
+    order.newest(1);
+    assert_eq!(rt; members(&order), [Some(3), Some(1), None, None, None]);
+    order.newest(3);
+    assert_eq!(rt; members(&order), [Some(1), Some(3), None, None, None]);
+    assert_eq!(rt; order.len(), 2);
+    Ok(())
+}
+
+#[test]
+fn oldest_goes_first(rt: HostRuntime) -> Result<(), Fail> {
+    let mut order = five(&rt)?;
+    order.oldest(3);
+    order.oldest(1);
+    assert_eq!(rt; members(&order), [Some(1), Some(3), None, None, None]);
+    order.oldest(3);
+    assert_eq!(rt; members(&order), [Some(3), Some(1), None, None, None]);
+    assert_eq!(rt; order.len(), 2);
+    Ok(())
+}
+
+#[test]
+fn removed_is_no_member(rt: HostRuntime) -> Result<(), Fail> {
+    let mut order = five(&rt)?;
+    order.newest(4);
+    order.newest(0);
+    order.newest(2);
+    order.remove(0);
+    assert_eq!(rt; members(&order), [Some(4), Some(2), None, None, None]);
+    assert!(rt; !order.contains(0));
+    assert!(rt; order.contains(2));
+    order.remove(0);
+    order.remove(7);
+    assert_eq!(rt; order.len(), 2);
+    Ok(())
+}
+
+#[test]
+fn keeps_the_order_of_use(rt: HostRuntime) -> Result<(), Fail> {
+    let mut order = five(&rt)?;
+    order.newest(2);
+    order.newest(0);
+    order.newest(4);
+    order.newest(1);
+    order.newest(3);
+    assert_eq!(rt;
+        members(&order),
+        [Some(2), Some(0), Some(4), Some(1), Some(3)]
+    );
+    order.newest(0);
+    assert_eq!(rt;
+        members(&order),
+        [Some(2), Some(4), Some(1), Some(3), Some(0)]
+    );
+    order.remove(1);
+    assert_eq!(rt; members(&order), [Some(2), Some(4), Some(3), Some(0), None]);
+    order.oldest(3);
+    assert_eq!(rt; members(&order), [Some(3), Some(2), Some(4), Some(0), None]);
+    order.remove(3);
+    order.remove(0);
+    assert_eq!(rt; members(&order), [Some(2), Some(4), None, None, None]);
+    order.oldest(1);
+    order.newest(3);
+    assert_eq!(rt; members(&order), [Some(1), Some(2), Some(4), Some(3), None]);
+    order.newest(0);
+    order.newest(1);
+    assert_eq!(rt;
+        members(&order),
+        [Some(2), Some(4), Some(3), Some(0), Some(1)]
+    );
+    Ok(())
+}
