@@ -9,3 +9,6 @@ pub mod Bounded
 pub mod Skips
 pub mod Walked
 pub mod Cleared
+pub mod Marks
+pub mod PinnedIds
+pub mod Searched

@@ -1,4 +1,4 @@
-// The lowest gap with room.
+//! The lowest gap with room.
 ghost use Rattle.std.specs.Prelude.{◌≡◌, ◌+◌, ◌<◌, ◌≤◌, IsTrue, IsSome, IfSome, MatchOption};
 ghost use Rattle.w16_model.specs.Gap.{room, is_pinned};
 ghost use Rattle.w16_blocks.specs.Layout.{IsOrdered};

@@ -3,11 +3,13 @@
 //! - [`room`] tells how much compaction can make.
 //! - [`gap_for`] tells where it can make enough.
 //! - [`gather`] makes it there.
+//! - [`least_prefix`] tells how many discards it takes first.
 //!
 //! No call takes memory. What is proved of them is stated over `w16_model`'s gaps and holes.
 #![tactic(auto)]
 
 mod gaps;
+mod prefix;
 mod reach;
 mod rooms;
 mod slide;
@@ -15,5 +17,6 @@ mod slide;
 mod tests;
 
 pub use gaps::{Gap, gap_for};
+pub use prefix::least_prefix;
 pub use rooms::room;
 pub use slide::gather;

@@ -1,4 +1,4 @@
-// How far a pass over the blocks by address has come.
+//! How far a pass over the blocks by address has come.
 ghost use Rattle.std.specs.Prelude.{◌≡◌, ◌+◌, ◌-◌, ◌<◌, ◌≤◌, ◌^◌, if◌then◌else◌};
 ghost use Rattle.w16_model.specs.Gap.{block_end, is_pinned};
 

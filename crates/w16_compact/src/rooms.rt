@@ -1,4 +1,4 @@
-// The room of blocks, some of them not counted.
+//! The room of blocks, some of them not counted.
 ghost use Rattle.std.specs.Prelude.{◌≡◌, ◌<◌, ◌≤◌, length};
 ghost use Rattle.w16_model.specs.Gap.{room};
 ghost use Rattle.w16_blocks.specs.Layout.{IsOrdered};

@@ -1,4 +1,4 @@
-// Loose blocks slide to the low end of a gap.
+//! Loose blocks slide to the low end of a gap.
 ghost use Rattle.std.specs.Prelude.{◌≡◌, ℕ, ◌+◌, ◌<◌, ◌≤◌, ◌⊎◌, ◌==◌, length, take, drop, slice_get, slice_set, if◌then◌else◌, MatchOption, IfSome};
 ghost use Rattle.std.specs.List.{AllByRecursion};
 ghost use Rattle.w16_region.specs.Bytes.{counted, part};

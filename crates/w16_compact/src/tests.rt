@@ -5,11 +5,12 @@ ghost use Rattle.w16_model.specs.Heap.{IsMultiple};
 ghost use Rattle.w16_blocks.specs.Layout.{Fits, IsApart};
 ghost use Rattle.w16_compact.specs.Gather.{FitsGap, MayGather};
 
-use crate::{Gap, gap_for, gather, room};
+use crate::{Gap, gap_for, gather, least_prefix, room};
 use std::alloc::{AllocError, Global};
 use std::process::Abort;
 use std::test::Fail;
 use w16_blocks::{Block, Blocks, Hold, Span};
+use w16_lru::Order;
 use w16_model::Snapshot;
 use w16_region::{Region, Space, Window};
 
@@ -78,6 +79,18 @@ struct Case {
     moved: u64,
     /// The holes then.
     holes: &'static [Span],
+}
+
+impl Case {
+    /// The heap, with nothing in its order of use.
+    fn heap(&self) -> Snapshot<'static> {
+        Snapshot {
+            lo: self.lo,
+            hi: self.hi,
+            blocks: self.blocks,
+            order: &[],
+        }
+    }
 }
 
 const CASES: &[Case] = &[
@@ -281,13 +294,14 @@ fn is_grained(n: u32) -> bool
     n % 32 == 0
 }
 
-/// The blocks of a case.
-fn laid_out(rt: &impl Abort, alloc: Global, case: &Case) -> Result<Blocks, AllocError>
-    ensures { IfOk result (λ blocks. blocks.grain ≡ 32) }
+/// The blocks of a heap.
+fn laid_out(rt: &impl Abort, alloc: Global, heap: Snapshot) -> Result<Blocks, AllocError>
+    ensures grain { IfOk result (λ blocks. blocks.grain ≡ 32) }
+    ensures ids { IfOk result (λ blocks. blocks.cap ≡ IDS) }
 {
-    assert!(rt; case.lo <= case.hi && is_grained(case.lo));
-    let mut blocks = Blocks::with_room(alloc, IDS, case.lo, case.hi, 32)?;
-    for block in case.blocks {
+    assert!(rt; heap.lo <= heap.hi && is_grained(heap.lo));
+    let mut blocks = Blocks::with_room(alloc, IDS, heap.lo, heap.hi, 32)?;
+    for block in heap.blocks {
         assert!(rt; fits(&blocks, block));
         blocks.insert(*block);
     }
@@ -347,7 +361,7 @@ fn compacts<S: Space>(rt: &impl Abort, case: &Case, blocks: &mut Blocks, space: 
 #[test]
 fn gathers_in_a_region(rt: HostRuntime) -> Result<(), Fail> {
     for case in CASES {
-        let mut blocks = laid_out(&rt, rt.alloc(), case)?;
+        let mut blocks = laid_out(&rt, rt.alloc(), case.heap())?;
         let mut region = Region::new(rt.alloc(), case.hi)?;
         let moved = compacts(&rt, case, &mut blocks, &mut region);
         assert_eq!(rt; moved, case.moved, "{}: moved", case.name);
@@ -358,7 +372,7 @@ fn gathers_in_a_region(rt: HostRuntime) -> Result<(), Fail> {
 #[test]
 fn gathers_in_a_window(rt: HostRuntime) -> Result<(), Fail> {
     for case in CASES {
-        let mut blocks = laid_out(&rt, rt.alloc(), case)?;
+        let mut blocks = laid_out(&rt, rt.alloc(), case.heap())?;
         let mut bytes = vec![in rt.alloc(); 0; case.hi as usize]?;
         let mut window = Window::new(&mut bytes);
         let moved = compacts(&rt, case, &mut blocks, &mut window);
@@ -412,7 +426,7 @@ const FULL: Case = Case {
 
 #[test]
 fn leaves_a_full_gap(rt: HostRuntime) -> Result<(), Fail> {
-    let mut blocks = laid_out(&rt, rt.alloc(), &FULL)?;
+    let mut blocks = laid_out(&rt, rt.alloc(), FULL.heap())?;
     let mut region = Region::new(rt.alloc(), FULL.hi)?;
     compacts(&rt, &FULL, &mut blocks, &mut region);
     let before = region.written();
@@ -428,14 +442,12 @@ fn leaves_a_full_gap(rt: HostRuntime) -> Result<(), Fail> {
 fn leaves_one_hole(rt: HostRuntime) -> Result<(), Fail> {
     for case in CASES {
         let name = case.name;
-        let mut blocks = laid_out(&rt, rt.alloc(), case)?;
+        let mut blocks = laid_out(&rt, rt.alloc(), case.heap())?;
         let mut region = Region::new(rt.alloc(), case.hi)?;
         compacts(&rt, case, &mut blocks, &mut region);
         let after = Snapshot {
-            lo: case.lo,
-            hi: case.hi,
             blocks: blocks.as_slice(),
-            order: &[],
+            ..case.heap()
         };
         assert!(rt; after.is_placed(), "{name}");
         assert_eq!(rt;
@@ -451,7 +463,7 @@ fn leaves_one_hole(rt: HostRuntime) -> Result<(), Fail> {
 fn measures_room(rt: HostRuntime) -> Result<(), Fail> {
     for case in CASES {
         let name = case.name;
-        let blocks = laid_out(&rt, rt.alloc(), case)?;
+        let blocks = laid_out(&rt, rt.alloc(), case.heap())?;
         assert_eq!(rt;
             room_of(&rt, case, case.blocks),
             case.room,
@@ -483,10 +495,8 @@ fn measures_room(rt: HostRuntime) -> Result<(), Fail> {
 /// The room of some blocks, by the plain program.
 fn room_of(rt: &impl Abort, case: &Case, blocks: &[Block]) -> u32 {
     let plain = Snapshot {
-        lo: case.lo,
-        hi: case.hi,
         blocks,
-        order: &[],
+        ..case.heap()
     };
     assert!(rt; plain.is_placed());
     plain.room()
@@ -496,4 +506,223 @@ fn room_of(rt: &impl Abort, case: &Case, blocks: &[Block]) -> u32 {
 fn room_beside(rt: &impl Abort, blocks: &Blocks, skip: &[bool]) -> u32 {
     assert!(rt; blocks.cap() as usize <= skip.len());
     room(blocks, skip)
+}
+
+/// A heap with an order of use, and how many discards make room there.
+struct Discards {
+    name: &'static str,
+    heap: Snapshot<'static>,
+    /// What a request is about, the bytes asked for, and the number of discards.
+    asked: &'static [(Option<u32>, u32, Option<usize>)],
+}
+
+const DISCARDS: &[Discards] = &[
+    Discards {
+        name: "the one used longest ago is first",
+        heap: Snapshot {
+            lo: 0,
+            hi: 256,
+            blocks: &[loose!(0, 0, 64), loose!(1, 64, 64), loose!(2, 128, 96)],
+            order: &[2, 0, 1],
+        },
+        asked: &[
+            (None, 0, Some(0)),
+            (None, 32, Some(0)),
+            (None, 33, Some(1)),
+            (None, 128, Some(1)),
+            (None, 129, Some(2)),
+            (None, 192, Some(2)),
+            (None, 193, Some(3)),
+            (None, 256, Some(3)),
+            (None, 257, None),
+            (None, 4_294_967_295, None),
+            (Some(2), 128, Some(0)),
+            (Some(2), 129, Some(1)),
+            (Some(2), 256, Some(2)),
+            (Some(2), 257, None),
+            (Some(0), 96, Some(0)),
+            (Some(0), 97, Some(1)),
+            (Some(0), 193, Some(2)),
+        ],
+    },
+    Discards {
+        name: "the same blocks in another order",
+        heap: Snapshot {
+            lo: 0,
+            hi: 256,
+            blocks: &[loose!(0, 0, 64), loose!(1, 64, 64), loose!(2, 128, 96)],
+            order: &[1, 0, 2],
+        },
+        asked: &[
+            (None, 33, Some(1)),
+            (None, 96, Some(1)),
+            (None, 97, Some(2)),
+            (None, 160, Some(2)),
+            (None, 161, Some(3)),
+            (Some(1), 96, Some(0)),
+            (Some(1), 160, Some(1)),
+            (Some(1), 161, Some(2)),
+        ],
+    },
+    Discards {
+        name: "a locked one isn't discarded",
+        heap: Snapshot {
+            lo: 64,
+            hi: 320,
+            blocks: &[loose!(0, 64, 64), pinned!(1, 160, 32), loose!(2, 224, 64)],
+            order: &[1, 0, 2],
+        },
+        asked: &[
+            (None, 64, Some(0)),
+            (None, 65, Some(1)),
+            (None, 96, Some(1)),
+            (None, 97, Some(2)),
+            (None, 128, Some(2)),
+            (None, 129, None),
+            (Some(0), 96, Some(0)),
+            (Some(0), 97, Some(1)),
+            (Some(0), 129, None),
+        ],
+    },
+    Discards {
+        name: "a locked one that the request is about isn't counted",
+        heap: Snapshot {
+            lo: 0,
+            hi: 256,
+            blocks: &[loose!(0, 0, 64), pinned!(1, 96, 32), loose!(2, 160, 64)],
+            order: &[0, 1, 2],
+        },
+        asked: &[
+            (Some(1), 128, Some(0)),
+            (Some(1), 129, Some(1)),
+            (Some(1), 193, Some(2)),
+            (Some(1), 256, Some(2)),
+            (Some(1), 257, None),
+        ],
+    },
+    Discards {
+        name: "one that makes no longer stretch is counted",
+        heap: Snapshot {
+            lo: 0,
+            hi: 320,
+            blocks: &[
+                loose!(0, 0, 32),
+                pinned!(1, 32, 32),
+                loose!(2, 64, 64),
+                pinned!(3, 128, 32),
+                loose!(4, 160, 128),
+            ],
+            order: &[0, 2, 4],
+        },
+        asked: &[
+            (None, 32, Some(0)),
+            (None, 33, Some(2)),
+            (None, 64, Some(2)),
+            (None, 65, Some(3)),
+            (None, 160, Some(3)),
+            (None, 161, None),
+            (Some(2), 64, Some(0)),
+            (Some(2), 65, Some(2)),
+            (Some(4), 160, Some(0)),
+            (Some(4), 161, None),
+        ],
+    },
+    Discards {
+        name: "none serves where all in the order are locked",
+        heap: Snapshot {
+            lo: 0,
+            hi: 96,
+            blocks: &[pinned!(3, 0, 32), loose!(4, 32, 64)],
+            order: &[3],
+        },
+        asked: &[
+            (None, 0, Some(0)),
+            (None, 1, None),
+            (Some(3), 32, Some(0)),
+            (Some(3), 33, None),
+            (Some(4), 64, Some(0)),
+            (Some(4), 65, None),
+            (Some(5), 1, None),
+        ],
+    },
+    Discards {
+        name: "what isn't in the order stays",
+        heap: Snapshot {
+            lo: 0,
+            hi: 128,
+            blocks: &[loose!(6, 0, 64), loose!(7, 64, 64)],
+            order: &[],
+        },
+        asked: &[(None, 1, None), (Some(7), 64, Some(0)), (Some(7), 65, None)],
+    },
+    Discards {
+        name: "an id without a block is counted",
+        heap: Snapshot {
+            lo: 0,
+            hi: 96,
+            blocks: &[loose!(0, 0, 96)],
+            order: &[6, 0],
+        },
+        asked: &[(None, 1, Some(2)), (Some(6), 1, Some(1))],
+    },
+    Discards {
+        name: "an empty heap",
+        heap: Snapshot {
+            lo: 0,
+            hi: 128,
+            blocks: &[],
+            order: &[],
+        },
+        asked: &[
+            (None, 128, Some(0)),
+            (None, 129, None),
+            (Some(7), 128, Some(0)),
+            (Some(7), 129, None),
+        ],
+    },
+];
+
+/// Some ids as an order of use, the one used longest ago first.
+fn in_order(rt: &impl Abort, alloc: Global, ids: &[u32]) -> Result<Order, AllocError>
+    ensures { IfOk result (λ order. order.cap ≡ IDS) }
+{
+    let mut order = Order::with_room(alloc, IDS)?;
+    for id in ids {
+        assert!(rt; *id < IDS);
+        order.newest(*id);
+    }
+    Ok(order)
+}
+
+/// The marked ids are those of the object that a request is about, and of the first discards.
+fn expect_tried(rt: &impl Abort, name: &str, marks: &[bool], about: Option<u32>, tried: &[u32]) {
+    for id in 0..IDS {
+        let expected = about == Some(id) || tried.contains(&id);
+        let mark = marks.get(id as usize).copied();
+        assert_eq!(rt; mark, Some(expected), "{name}: mark of {id}");
+    }
+}
+
+#[test]
+fn counts_discards(rt: HostRuntime) -> Result<(), Fail> {
+    for case in DISCARDS {
+        let Discards { name, heap, asked } = case;
+        assert!(rt; heap.is_placed(), "{name}");
+        let blocks = laid_out(&rt, rt.alloc(), *heap)?;
+        let order = in_order(&rt, rt.alloc(), heap.order)?;
+        for start in [false, true] {
+            let mut marks = [start; 8];
+            for (about, size, expected) in *asked {
+                let plain = heap.needed(rt.alloc(), *size, *about)?;
+                assert_eq!(rt; plain, *expected, "{name}: {size} by the plain program");
+                assert!(rt; about.is_none_or(|id| id < IDS));
+                let found = least_prefix(&blocks, &order, &mut marks, *about, *size);
+                assert_eq!(rt; found, *expected, "{name}: {size}");
+                let eligible = heap.eligible(rt.alloc(), *about)?;
+                let tried = found.unwrap_or(eligible.len()).min(eligible.len());
+                expect_tried(&rt, name, &marks, *about, &eligible[..tried]);
+            }
+        }
+    }
+    Ok(())
 }

@@ -1,0 +1,34 @@
+-- Whether an id's block is pinned, by one look-up.
+use Rattle.std.proofs.Common.{◌≡◌, ◌≢◌, ℕ, Bool, true, false, ◌||◌, inl, inr, List, [], ◌∷◌, None, Some, refl, ap, ◌∙◌, subst, ne_eqb}
+use Rattle.std.specs.List.{AllByRecursion}
+use Rattle.std.proofs.lemmas.Bool.Decides.{eqb_tells}
+use Rattle.w16_model.specs.declared.Block.{Block}
+use Rattle.w16_model.specs.Gap.{is_pinned}
+use Rattle.w16_model.specs.Prefix.{is_pinned_id}
+use Rattle.w16_model.specs.Table.{block_with}
+use Rattle.w16_blocks.specs.Layout.{AreNamed}
+
+pub is_pinned_id-none : (xs : List Block) (id : ℕ) → block_with xs id ≡ None → is_pinned_id xs id ≡ false
+is_pinned_id-none [] id e = refl
+is_pinned_id-none (x ∷ xs) id e = elim (eqb_tells x.id id) [
+  | inl same ↦ let f : Some x ≡ None = rw same.0 at e in cc
+  | inr other ↦ rw other.0 (is_pinned_id-none xs id (rw other.0 at e))
+]
+
+absent : (xs : List Block) (id : ℕ) → AllByRecursion (λ c. c.id ≢ id) xs → is_pinned_id xs id ≡ false
+absent [] id all = refl
+absent (x ∷ xs) id all = rw (ne_eqb x.id id all.0) (absent xs id all.1)
+
+pub is_pinned_id-some : (cap : ℕ) (xs : List Block) (id : ℕ) (b : Block) → AreNamed cap xs → block_with xs id ≡ Some b → is_pinned_id xs id ≡ is_pinned b
+is_pinned_id-some cap [] id b named e = cc
+is_pinned_id-some cap (x ∷ xs) id b named e = elim (eqb_tells x.id id) [
+  | inl same ↦
+      let f : Some x ≡ Some b = rw same.0 at e in let g : x ≡ b = cc in
+      let rest : is_pinned_id xs id ≡ false = absent xs id (subst (λ (k : ℕ). AllByRecursion (λ c. c.id ≢ k) xs) same.1 named.1) in
+      rw (same.0, rest) (or_false (is_pinned x) ∙ ap is_pinned g)
+  | inr other ↦ rw other.0 (is_pinned_id-some cap xs id b named.2 (rw other.0 at e))
+]
+  where
+    or_false : (b : Bool) → (b || false) ≡ b
+    or_false true = refl
+    or_false false = refl
