@@ -17,3 +17,4 @@ pub mod Reordered
 pub mod Singles
 pub mod Told
 pub mod Steps
+pub mod Shown

@@ -1,6 +1,6 @@
 -- The order of use with one id taken out, or put at an end.
 use Rattle.std.proofs.Common.{◌≡◌, ◌≢◌, ℕ, Bool, true, false, not, ◌&&◌, ◌||◌, ◌==◌, List, [], ◌∷◌, ◌++◌, AllPairs, refl, sym, ap, ◌∙◌, eq-eqb, ne_eqb}
-use Rattle.std.proofs.lemmas.Bool.{false≢true, not-true}
+use Rattle.std.proofs.lemmas.Bool.{false≢true, not-true, or_parts}
 use Rattle.w16_model.specs.Prefix.{is_member}
 use Rattle.w16_model.specs.Edit.{without, newest, oldest}
 use Rattle.w16_model.proofs.Gaps.{Each-from, EachPair-from_AllPairs, AllPairs-from_EachPair, member_filter, pairs_filter}
@@ -60,3 +60,8 @@ oldest_reorders id order once = record {
 -- left as it is
 pub same_reorders : (id : ℕ) (order : List ℕ) (listed : Bool) → is_member id order ≡ listed → AllPairs (λ a b. a ≡ b → ⊥) order → ReordersOne id listed order order
 same_reorders id order listed here once = record { here = here; there = λ q d. refl; once = once }
+
+-- what isn't in it isn't taken out
+pub without_none : (id : ℕ) (order : List ℕ) → is_member id order ≡ false → without id order ≡ order
+without_none id [] out = refl
+without_none id (x ∷ xs) out = let parts : ((x == id) ≡ false) × (is_member id xs ≡ false) = or_parts (x == id) (is_member id xs) out in rw parts.0 (ap (λ ys. x ∷ ys) (without_none id xs parts.1))

@@ -1,5 +1,5 @@
 -- The steps that ask for no room: what each leaves kept, and the heap after it, in every memory.
-use Rattle.std.proofs.Common.{◌≡◌, ◌≢◌, ℕ, ◌+◌, ◌-◌, ◌<◌, ◌≤◌, ◌==◌, Bool, true, false, cond, not, ◌&&◌, IsTrue, IfSome, IfNone, IsSomeAnd, AllPairs, replicate, List, [], ◌∷◌, length, get_or, set, slice_range, Option, Some, None, option_map, is_some, refl, sym, ap, ◌∙◌, subst, inl, inr, arith}
+use Rattle.std.proofs.Common.{◌≡◌, ◌≢◌, ℕ, zero, suc, ◌+◌, ◌-◌, ◌<◌, ◌≤◌, ◌==◌, Bool, true, false, cond, not, ◌&&◌, IsTrue, IfSome, IfNone, IsSomeAnd, AllPairs, replicate, List, [], ◌∷◌, length, get_or, set, slice_range, Option, Some, None, option_map, is_some, refl, sym, ap, ◌∙◌, subst, inl, inr, arith}
 use Rattle.std.specs.FinMap as finmap
 use Rattle.std.specs.FinMap.{same_map, nat_cmp-IsAntisymmetric}
 use Rattle.std.specs.Cmp.{nat_cmp_total}
@@ -15,6 +15,7 @@ use Rattle.w16_model.specs.Heap.{Heap, Object, object_at, is_fixed, is_discardab
 use Rattle.w16_model.specs.Edit.{removed, absent, with_object, touched, newest, oldest, without}
 use Rattle.w16_model.specs.Single.{Enters, after_touch}
 use Rattle.w16_model.specs.Table.{Table, IsSound, block_with, hold_in, object_in, is_listed, heap_in}
+use Rattle.w16_model.proofs.Heaps.{get-update_same, get-update_other}
 use Rattle.w16_model.proofs.Kept.{taken_here, taken_other}
 use Rattle.w16_blocks.specs.Layout as layouts
 use Rattle.w16_blocks.specs.Layout.{Layout, IsOrdered, replaced}
@@ -23,11 +24,17 @@ use Rattle.w16_lru.specs.Uses.{Uses}
 use Rattle.w16_arena.specs.State.{State, Steps, IsSameRange, table_of, heap_of}
 use Rattle.w16_arena.specs.Kept.{IsKept}
 use Rattle.w16_arena.proofs.Parts.{AreParts}
-use Rattle.w16_arena.proofs.With.{with-replaced}
-use Rattle.w16_arena.proofs.Lookups.{ordered_arranged, sound_arranged, object_here, place_here, no_block, in_list, same_heap}
-use Rattle.w16_arena.proofs.Changed.{GoTogether, ChangesOne, ReordersOne, changed_parts}
-use Rattle.w16_arena.proofs.Reordered.{without_reorders, same_reorders}
+use Rattle.w16_arena.proofs.With.{with-replaced, with-without}
+use Rattle.w16_arena.proofs.Lookups.{IsArranged, ordered_arranged, sound_arranged, object_here, place_here, no_block, in_list, same_heap}
+use Rattle.w16_arena.proofs.Changed.{GoTogether, ChangesOne, ReordersOne, changed_parts, object_at_id, object_at_other, place_at_id, place_at_other}
+use Rattle.w16_arena.proofs.Reordered.{without_reorders, same_reorders, without_none}
 use Rattle.w16_arena.proofs.Singles.{removed_parts, removed_heap, put_parts, put_heap}
+
+-- to set what is there changes nothing
+set_itself : (entries : List (Option Entry)) (id : ℕ) (e : Entry) → get_or entries id None ≡ Some e → set entries id (Some e) ≡ entries
+set_itself [] id e h = cc
+set_itself (d ∷ es) zero e h = ap (λ x. x ∷ es) (sym h)
+set_itself (d ∷ es) (suc id) e h = ap (λ xs. d ∷ xs) (set_itself es id e h)
 
 -- the value that they are
 abbrev pub state_of : List (Option Entry) → Layout → List ℕ → List ℕ → State
@@ -91,9 +98,6 @@ module _ {entries : List (Option Entry)} {layout : Layout} {uses : Uses} {marks 
 
   -- An id's object is taken away.
   module _ (id : ℕ) (lt : id < length entries) (new : Layout) (value : new ≡ record layout { blocks = layouts.without id layout.blocks }) (ordered : IsOrdered new) where
-    taken : Layout
-    taken = record layout { blocks = layouts.without id layout.blocks }
-
     taken_ordered : IsOrdered (record layout { blocks = layouts.without id layout.blocks })
     taken_ordered = subst IsOrdered value ordered
 
@@ -245,9 +249,6 @@ module _ {entries : List (Option Entry)} {layout : Layout} {uses : Uses} {marks 
     lt_there : id < length entries
     lt_there = in_list entries id e there
 
-    given : Layout
-    given = record layout { blocks = layouts.without id layout.blocks }
-
     given_ordered : IsOrdered (record layout { blocks = layouts.without id layout.blocks })
     given_ordered = subst IsOrdered value ordered
 
@@ -272,5 +273,31 @@ module _ {entries : List (Option Entry)} {layout : Layout} {uses : Uses} {marks 
         (subst (λ es. IsSound (table_of es (record layout { blocks = layouts.without id layout.blocks }) (without id uses.ids))) same_entries
         (changed_parts some_parts (Some e) (replicate layout.hi 0) lt_there no_block_left block_goes leaves_order (ordered_arranged (record layout { blocks = layouts.without id layout.blocks }) given_ordered) refl).sound)
 
+    abbrev before : List ℕ → Heap
+    before memory = heap_of entries layout uses.ids memory
+
+    abbrev after : List ℕ → Heap
+    after memory = heap_of (set entries id (Some e)) (record layout { blocks = layouts.without id layout.blocks }) (without id uses.ids) memory
+
+    abbrev bare : Object → Object
+    bare o = record o { bytes = None }
+
+    arranged : IsArranged (record layout { blocks = layouts.without id layout.blocks })
+    arranged = ordered_arranged (record layout { blocks = layouts.without id layout.blocks }) given_ordered
+
     pub heap_given : (memory : List ℕ) → layout.hi ≤ length memory → heap_of entries new (without id uses.ids) memory ≡ absent (heap_of entries layout uses.ids memory) id
-    heap_given memory high = ap (λ l. heap_of entries l (without id uses.ids) memory) value ∙ (λ i. heap_of (same_entries (sym_i i)) given (without id uses.ids) memory)
+    heap_given memory high =
+        let parts = beside memory high in
+        ap (λ l. heap_of entries l (without id uses.ids) memory) value
+        ∙ subst (λ es. heap_of es (record layout { blocks = layouts.without id layout.blocks }) (without id uses.ids) memory ≡ absent (before memory) id) same_entries
+        (same_heap (after memory) (absent (before memory) id) refl refl refl refl
+        (λ q. elim (cases_eq q id) [
+          | inl i ↦ ap (object_at (after memory)) i ∙ object_at_id parts (Some e) memory lt_there no_block_left block_goes leaves_order arranged refl
+              ∙ sym (ap (object_at (absent (before memory) id)) i ∙ get-update_same (before memory).objects id bare ∙ ap (option_map bare) (object_here parts id ∙ ap (option_map (object_in layout.blocks memory id)) there))
+          | inr d ↦ object_at_other parts (Some e) memory lt_there no_block_left block_goes leaves_order arranged refl q (λ i. d (sym i)) refl
+              ∙ sym (get-update_other (before memory).objects id bare q d)
+        ])
+        (λ q. elim (cases_eq q id) [
+          | inl i ↦ ap (finmap.get (after memory).places) i ∙ place_at_id parts (Some e) memory lt_there no_block_left block_goes leaves_order arranged refl ∙ sym (taken_here (before memory).places id q i)
+          | inr d ↦ place_at_other parts (Some e) memory lt_there no_block_left block_goes leaves_order arranged refl q (λ i. d (sym i)) ∙ sym (taken_other (before memory).places id q d)
+        ]))

@@ -9,71 +9,71 @@ use Rattle.w16_model.specs.Single.{after_lock, after_unlock, after_free, after_d
 module _ (heap : Heap) (id : ℕ) where
   module _ (none : object_at heap id ≡ None) where
     pub lock_none : after_lock heap id ≡ Err refusals.Absent
-    lock_none = rw none refl
+    lock_none = rw (none, after_lock) refl
 
     pub unlock_none : after_unlock heap id ≡ Ok heap
-    unlock_none = rw none refl
+    unlock_none = rw (none, after_unlock) refl
 
     pub free_none : after_free heap id ≡ Ok heap
-    free_none = rw none refl
+    free_none = rw (none, after_free) refl
 
     pub discard_none : after_discard heap id ≡ Err refusals.NotDiscardable
-    discard_none = rw none refl
+    discard_none = rw (none, after_discard) refl
 
     pub order_none : refused_order heap id ≡ Some refusals.Absent
-    order_none = rw none refl
+    order_none = rw (none, refused_order) refl
 
   module _ (o : Object) (there : object_at heap id ≡ Some o) where
     pub lock_absent : is_some o.bytes ≡ false → after_lock heap id ≡ Err refusals.Absent
-    lock_absent a = rw (there, a) refl
+    lock_absent a = rw (there, after_lock, a) refl
 
     pub lock_fixed : is_some o.bytes ≡ true → is_fixed o.kind ≡ true → after_lock heap id ≡ Err refusals.Fixed
-    lock_fixed a b = rw (there, a, b) refl
+    lock_fixed a b = rw (there, after_lock, a, b) refl
 
     pub lock_full : is_some o.bytes ≡ true → is_fixed o.kind ≡ false → (o.locks == 255) ≡ true → after_lock heap id ≡ Err refusals.LockFull
-    lock_full a b d = rw (there, a, b, d) refl
+    lock_full a b d = rw (there, after_lock, a, b, d) refl
 
     pub lock_ok : is_some o.bytes ≡ true → is_fixed o.kind ≡ false → (o.locks == 255) ≡ false → after_lock heap id ≡ Ok (with_ordered heap id (record o { locks = o.locks + 1 }) (touched id))
-    lock_ok a b d = rw (there, a, b, d) refl
+    lock_ok a b d = rw (there, after_lock, a, b, d) refl
 
     pub unlock_fixed : is_fixed o.kind ≡ true → after_unlock heap id ≡ Err refusals.Fixed
-    unlock_fixed b = rw (there, b) refl
+    unlock_fixed b = rw (there, after_unlock, b) refl
 
     pub unlock_ok : is_fixed o.kind ≡ false → after_unlock heap id ≡ Ok (with_object heap id (record o { locks = o.locks - 1 }))
-    unlock_ok b = rw (there, b) refl
+    unlock_ok b = rw (there, after_unlock, b) refl
 
     pub free_locked : nat_lt 0 o.locks ≡ true → after_free heap id ≡ Err refusals.Locked
-    free_locked b = rw (there, b) refl
+    free_locked b = rw (there, after_free, b) refl
 
     pub free_ok : nat_lt 0 o.locks ≡ false → after_free heap id ≡ Ok (removed heap id)
-    free_ok b = rw (there, b) refl
+    free_ok b = rw (there, after_free, b) refl
 
     pub discard_locked : nat_lt 0 o.locks ≡ true → after_discard heap id ≡ Err refusals.Locked
-    discard_locked b = rw (there, b) refl
+    discard_locked b = rw (there, after_discard, b) refl
 
     pub discard_other : nat_lt 0 o.locks ≡ false → is_discardable o.kind ≡ false → after_discard heap id ≡ Err refusals.NotDiscardable
-    discard_other b d = rw (there, b, d) refl
+    discard_other b d = rw (there, after_discard, b, d) refl
 
     pub discard_ok : nat_lt 0 o.locks ≡ false → is_discardable o.kind ≡ true → after_discard heap id ≡ Ok (absent heap id)
-    discard_ok b d = rw (there, b, d) refl
+    discard_ok b d = rw (there, after_discard, b, d) refl
 
     pub order_absent : is_some o.bytes ≡ false → refused_order heap id ≡ Some refusals.Absent
-    order_absent a = rw (there, a) refl
+    order_absent a = rw (there, refused_order, a) refl
 
     pub order_other : is_some o.bytes ≡ true → is_discardable o.kind ≡ false → refused_order heap id ≡ Some refusals.NotDiscardable
-    order_other a d = rw (there, a, d) refl
+    order_other a d = rw (there, refused_order, a, d) refl
 
     pub order_ok : is_some o.bytes ≡ true → is_discardable o.kind ≡ true → refused_order heap id ≡ None
-    order_ok a d = rw (there, a, d) refl
+    order_ok a d = rw (there, refused_order, a, d) refl
 
   pub newest_err : (r : Refusal) → refused_order heap id ≡ Some r → after_newest heap id ≡ Err r
-  newest_err r e = rw e refl
+  newest_err r e = rw (e, after_newest) refl
 
   pub newest_ok : refused_order heap id ≡ None → after_newest heap id ≡ Ok (record heap { order = newest id heap.order })
-  newest_ok e = rw e refl
+  newest_ok e = rw (e, after_newest) refl
 
   pub oldest_err : (r : Refusal) → refused_order heap id ≡ Some r → after_oldest heap id ≡ Err r
-  oldest_err r e = rw e refl
+  oldest_err r e = rw (e, after_oldest) refl
 
   pub oldest_ok : refused_order heap id ≡ None → after_oldest heap id ≡ Ok (record heap { order = oldest id heap.order })
-  oldest_ok e = rw e refl
+  oldest_ok e = rw (e, after_oldest) refl

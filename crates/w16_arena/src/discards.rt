@@ -1,14 +1,15 @@
 //! Discards, by least recent use.
 ghost use Rattle.std.specs.Prelude.{◌≡◌, ◌<◌, ◌≤◌, ◌+◌, ◌++◌, [], ◌∷◌, length, take, slice_get, List, ℕ, Option, Some, None, MatchOption, IfSome, IfNone};
 ghost use Rattle.w16_model.specs.Table.{heap_in};
-ghost use Rattle.w16_model.specs.Prefix.{eligible, is_pinned_id};
+ghost use Rattle.w16_model.specs.Prefix.{eligible};
 ghost use Rattle.w16_model.specs.Request as request;
 ghost use Rattle.w16_blocks.specs.Layout.{IsOrdered};
 ghost use Rattle.w16_lru.specs.Uses.{AreUses};
 ghost use Rattle.w16_arena.specs.State.{Steps, IsSameRange};
 
 use crate::Arena;
-use w16_blocks::{Blocks, Hold};
+use w16_blocks::Blocks;
+use w16_compact::is_pinned_id;
 use w16_lru::Order;
 
 impl Arena {
@@ -45,15 +46,4 @@ fn first_eligible(blocks: &Blocks, order: &Order, h: Option<u32>) -> Option<u32>
         }
     }
     None
-}
-
-/// Whether an id's block keeps its address.
-pub(crate) fn is_pinned_id(blocks: &Blocks, id: u32) -> bool
-    requires { id < blocks.now.cap }
-    ensures { result ≡ is_pinned_id blocks.now.blocks id }
-{
-    match blocks.find(id) {
-        Some(block) => block.hold == Hold::Pinned,
-        None => false,
-    }
 }

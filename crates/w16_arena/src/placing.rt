@@ -13,11 +13,10 @@ ghost use Rattle.w16_arena.specs.Making.{most_in};
 ghost use Rattle.w16_arena.specs.Asked.{SlidesTogether, Stands};
 
 use crate::Arena;
-use crate::discards::is_pinned_id;
 use crate::making::{NOTHING, Placed, clear_if, has_bytes, make_room};
 use crate::objects::hold;
 use w16_blocks::{Block, Blocks};
-use w16_compact::room;
+use w16_compact::{is_pinned_id, room};
 use w16_lru::Order;
 use w16_model::{Entry, Kind, Span, Way};
 use w16_region::Space;

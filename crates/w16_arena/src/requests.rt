@@ -84,7 +84,8 @@ impl Arena {
             };
         }
         let k = least_prefix(&self.blocks, &self.order, &mut self.marks, None, n);
-        self.discard_first(k.unwrap_or(self.order.len()), None);
+        let all = self.order.len();
+        self.discard_first(k.unwrap_or(all), None);
         self.slide_together(space)
     }
 }

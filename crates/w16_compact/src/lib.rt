@@ -17,6 +17,6 @@ mod slide;
 mod tests;
 
 pub use gaps::{Gap, gap_for};
-pub use prefix::least_prefix;
+pub use prefix::{is_pinned_id, least_prefix};
 pub use rooms::room;
 pub use slide::gather;

@@ -62,7 +62,7 @@ fn mark_only(marks: &mut [bool], h: Option<u32>)
 }
 
 /// Whether an id has a block that keeps its address.
-fn is_pinned_id(blocks: &Blocks, id: u32) -> bool
+pub fn is_pinned_id(blocks: &Blocks, id: u32) -> bool
     requires { id < blocks.now.cap }
     ensures { result ≡ is_pinned_id blocks.now.blocks id }
 {

@@ -1,0 +1,144 @@
+-- The single steps of an arena, by its value.
+use Rattle.std.proofs.Common.{◌≡◌, ℕ, ◌<◌, ◌≤◌, ◌+◌, ◌==◌, Bool, true, false, IsTrue, IfSome, IfNone, IsSomeAnd, List, length, get_or, set, slice_range, Option, Some, None, option_map, is_some, AllPairs, refl, sym, ap, ◌∙◌, subst, arith, inl, inr}
+use Rattle.std.proofs.lemmas.Bool.{cases_eq, false≢true}
+use Rattle.std.specs.FinMap as finmap
+use Rattle.std.proofs.lemmas.List.{length-set}
+use Rattle.w16_model.specs.declared.Block.{Block}
+use Rattle.w16_model.specs.declared.Entry.{Entry}
+use Rattle.w16_model.specs.declared.Hold.{Hold}
+use Rattle.w16_model.specs.declared.Kind.{Kind}
+use Rattle.w16_model.specs.Prefix.{is_member}
+use Rattle.w16_model.specs.Heap.{Heap, Object, object_at, is_fixed}
+use Rattle.w16_model.specs.Edit.{removed, absent, with_object, newest, oldest, without}
+use Rattle.w16_model.specs.Single.{Enters, after_touch}
+use Rattle.w16_model.specs.Table.{Table, IsSound, block_with, entry_at, hold_in, object_in, heap_in}
+use Rattle.w16_blocks.specs.Layout as layouts
+use Rattle.w16_blocks.specs.Layout.{Layout, IsOrdered, replaced}
+use Rattle.w16_lru.specs.Uses.{Uses}
+use Rattle.w16_arena.specs.State.{State, Steps, IsSameRange, table_of, heap_of}
+use Rattle.w16_arena.specs.Kept.{IsKept}
+use Rattle.w16_arena.proofs.Lookups.{in_list, object_here, past_end}
+use Rattle.w16_arena.proofs.Reordered.{newest_reorders, oldest_reorders}
+use Rattle.w16_arena.proofs.Changed.{ReordersOne}
+use Rattle.w16_arena.proofs.Steps.{state_of, reordered_sound, beside, kept_with, steps_to, steps_none, touched_is, untouched_is, sound_without, heap_without, heap_same, sound_entered, enters, sound_set, range_set, heap_set, sound_given, heap_given, lt_there}
+
+-- a member of a list at any id, from one that was changed at one id alone
+same_members : (id : ℕ) (order uses : List ℕ) → is_member id order ≡ true → ReordersOne id true order uses → (q : ℕ) → is_member q uses ≡ is_member q order
+same_members id order uses there r q = elim (cases_eq q id) [
+  | inl e ↦ subst (λ k. is_member k uses ≡ is_member k order) (sym e) (r.here ∙ sym there)
+  | inr d ↦ r.there q (λ e. d (sym e))
+]
+
+module _ {entries : List (Option Entry)} {layout : Layout} {uses : Uses} {marks : List Bool} {room : ℕ} (kept : IsKept entries layout uses marks room)
+    {discarded : List ℕ} {old : State} (shown : state_of entries layout uses.ids discarded ≡ old) where
+  -- what the value has, the table has
+  pub known : (P : Table → Type 0) → P old.table → P (table_of entries layout uses.ids)
+  known P h = subst (λ (o : State). P o.table) (sym shown) h
+
+  pub told : (P : Table → Type 0) → P (table_of entries layout uses.ids) → P old.table
+  told P h = subst (λ (o : State). P o.table) shown h
+
+  -- what an id has in every memory
+  pub object_told : (id : ℕ) (memory : List ℕ) → layout.hi ≤ length memory → object_at (heap_of entries layout uses.ids memory) id ≡ option_map (object_in layout.blocks memory id) (get_or entries id None)
+  object_told id memory high = object_here (beside kept memory high) id
+
+  -- an entry that is there
+  pub entry_known : (id : ℕ) → is_some (entry_at old.table id) ≡ true → (e : Entry) × (get_or entries id None ≡ Some e) × (id < length entries)
+  entry_known id some = from (get_or entries id None) refl (known (λ t. is_some (entry_at t id) ≡ true) some)
+    where
+      from : (p : Option Entry) → get_or entries id None ≡ p → is_some p ≡ true → (e : Entry) × (get_or entries id None ≡ Some e) × (id < length entries)
+      from None h t = absurd (false≢true t)
+      from (Some e) h t = (e, h, in_list entries id e h)
+
+  -- An absent object is entered.
+  module _ (id : ℕ) (kind : Kind) (below : id < length old.table.entries) (free : entry_at old.table id ≡ None) where
+    abbrev entered : Entry
+    entered = record { kind = kind; locks = 0 }
+
+    lt : id < length entries
+    lt = known (λ t. id < length t.entries) below
+
+    none : get_or entries id None ≡ None
+    none = known (λ t. entry_at t id ≡ None) free
+
+    pub kept_entered : IsKept (set entries id (Some entered)) layout uses marks room
+    kept_entered = kept_with kept (set entries id (Some entered)) layout uses (sound_entered kept id kind lt none) (length-set entries id (Some entered)) refl refl
+
+    pub steps_entered : Steps old (state_of (set entries id (Some entered)) layout uses.ids discarded) (λ a b. Enters a id kind b)
+    steps_entered = steps_to kept shown (set entries id (Some entered)) layout uses.ids (λ a b. Enters a id kind b) (sound_entered kept id kind lt none) refl refl refl (length-set entries id (Some entered)) (enters kept id kind lt none)
+
+  -- An object is taken away.
+  module _ (id : ℕ) (lt : id < length entries) {new : Layout} (value : new ≡ record layout { blocks = layouts.without id layout.blocks }) (ordered : IsOrdered new) {after : Uses} (order : after ≡ record uses { ids = without id uses.ids }) where
+    same_range : (new.lo ≡ layout.lo) × (new.hi ≡ layout.hi) × (new.grain ≡ layout.grain) × (new.cap ≡ layout.cap)
+    same_range = (ap (λ (l : Layout). l.lo) value, ap (λ (l : Layout). l.hi) value, ap (λ (l : Layout). l.grain) value, ap (λ (l : Layout). l.cap) value)
+
+    ids_after : without id uses.ids ≡ after.ids
+    ids_after = sym (ap (λ (u : Uses). u.ids) order)
+
+    pub kept_without : IsKept (set entries id None) new after marks room
+    kept_without = kept_with kept (set entries id None) new after (subst (λ ids. IsSound (table_of (set entries id None) new ids)) ids_after (sound_without kept id lt new value ordered)) (length-set entries id None) same_range.3 (ap (λ (u : Uses). u.cap) order)
+
+    pub steps_without : Steps old (state_of (set entries id None) new after.ids discarded) (λ a b. b ≡ removed a id)
+    steps_without = subst (λ ids. Steps old (state_of (set entries id None) new ids discarded) (λ a b. b ≡ removed a id)) ids_after
+        (steps_to kept shown (set entries id None) new (without id uses.ids) (λ a b. b ≡ removed a id) (sound_without kept id lt new value ordered) same_range.0 same_range.1 same_range.2 (length-set entries id None) (heap_without kept id lt new value ordered))
+
+    -- It gives up its bytes alone.
+    module _ (e : Entry) (there : get_or entries id None ≡ Some e) where
+      pub kept_given : IsKept entries new after marks room
+      kept_given = kept_with kept entries new after (subst (λ ids. IsSound (table_of entries new ids)) ids_after (sound_given kept id e there new value ordered)) refl same_range.3 (ap (λ (u : Uses). u.cap) order)
+
+      pub steps_given : Steps old (state_of entries new after.ids discarded) (λ a b. b ≡ absent a id)
+      steps_given = subst (λ ids. Steps old (state_of entries new ids discarded) (λ a b. b ≡ absent a id)) ids_after
+          (steps_to kept shown entries new (without id uses.ids) (λ a b. b ≡ absent a id) (sound_given kept id e there new value ordered) same_range.0 same_range.1 same_range.2 refl (heap_given kept id e there new value ordered))
+
+  pub steps_same : (id : ℕ) → get_or entries id None ≡ None → Steps old old (λ a b. b ≡ removed a id)
+  steps_same id none = steps_none kept shown (λ a b. b ≡ removed a id) (heap_same kept id none)
+
+  -- The order of use is another, with the same members.
+  module _ (order : List ℕ) (same : (q : ℕ) → is_member q order ≡ is_member q uses.ids) (once : AllPairs (λ a b. a ≡ b → ⊥) order) {after : Uses} (after_is : after ≡ record uses { ids = order }) where
+    sound_order : IsSound (table_of entries layout after.ids)
+    sound_order = subst (λ ids. IsSound (table_of entries layout ids)) (sym (ap (λ (u : Uses). u.ids) after_is)) (reordered_sound entries layout uses.ids order kept.sound same once)
+
+    pub kept_ordered : IsKept entries layout after marks room
+    kept_ordered = kept_with kept entries layout after sound_order refl refl (ap (λ (u : Uses). u.cap) after_is)
+
+    pub steps_ordered : (step : Heap → Heap → Type 0)
+        → ((memory : List ℕ) → layout.hi ≤ length memory → step (heap_of entries layout uses.ids memory) (record (heap_of entries layout uses.ids memory) { order = order }))
+        → Steps old (state_of entries layout after.ids discarded) step
+    steps_ordered step heaps = steps_to kept shown entries layout after.ids step sound_order refl refl refl refl
+        (λ memory high. subst (λ ids. step (heap_of entries layout uses.ids memory) (heap_of entries layout ids memory)) (sym (ap (λ (u : Uses). u.ids) after_is)) (heaps memory high))
+
+  module _ (id : ℕ) (there : is_member id uses.ids ≡ true) where
+    pub newest_same : (q : ℕ) → is_member q (newest id uses.ids) ≡ is_member q uses.ids
+    newest_same = same_members id uses.ids (newest id uses.ids) there (newest_reorders id uses.ids kept.sound.no_repeats)
+
+    pub newest_once : AllPairs (λ a b. a ≡ b → ⊥) (newest id uses.ids)
+    newest_once = (newest_reorders id uses.ids kept.sound.no_repeats).once
+
+    pub oldest_same : (q : ℕ) → is_member q (oldest id uses.ids) ≡ is_member q uses.ids
+    oldest_same = same_members id uses.ids (oldest id uses.ids) there (oldest_reorders id uses.ids kept.sound.no_repeats)
+
+    pub oldest_once : AllPairs (λ a b. a ≡ b → ⊥) (oldest id uses.ids)
+    oldest_once = (oldest_reorders id uses.ids kept.sound.no_repeats).once
+
+    pub touches : (memory : List ℕ) → layout.hi ≤ length memory → record (heap_of entries layout uses.ids memory) { order = newest id uses.ids } ≡ after_touch (heap_of entries layout uses.ids memory) id
+    touches memory high = λ i. record (heap_of entries layout uses.ids memory) { order = sym (touched_is kept id there) i }
+
+  pub steps_untouched : (id : ℕ) → is_member id uses.ids ≡ false → Steps old old (λ a b. b ≡ after_touch a id)
+  steps_untouched id out = steps_none kept shown (λ a b. b ≡ after_touch a id) (λ memory high. λ i. record (heap_of entries layout uses.ids memory) { order = sym (untouched_is kept id out) i })
+
+  -- A lock count is set.
+  module _ (id : ℕ) (entry : Entry) (asked : IsSomeAnd (entry_at old.table id) (λ e. (e.kind ≡ entry.kind) × (IsTrue (is_fixed entry.kind) → entry.locks ≡ 0))) (byte : entry.locks ≤ 255)
+      {hold : Hold} (hold_is : hold ≡ hold_in entry) {new : Layout}
+      (none : IfNone (block_with layout.blocks id) (new ≡ layout)) (some : IfSome (block_with layout.blocks id) (λ b. new ≡ record layout { blocks = replaced (record b { hold = hold }) layout.blocks })) (ordered : IsOrdered new) where
+    asked_here : IsSomeAnd (get_or entries id None) (λ e. (e.kind ≡ entry.kind) × (IsTrue (is_fixed entry.kind) → entry.locks ≡ 0))
+    asked_here = known (λ t. IsSomeAnd (entry_at t id) (λ e. (e.kind ≡ entry.kind) × (IsTrue (is_fixed entry.kind) → entry.locks ≡ 0))) asked
+
+    pub kept_set : IsKept (set entries id (Some entry)) new uses marks room
+    kept_set = let r = range_set kept id entry asked_here byte hold hold_is new none some ordered in
+        kept_with kept (set entries id (Some entry)) new uses (sound_set kept id entry asked_here byte hold hold_is new none some ordered) (length-set entries id (Some entry)) r.3 refl
+
+    pub steps_set : Steps old (state_of (set entries id (Some entry)) new uses.ids discarded) (λ a b. IfSome (object_at a id) (λ o. b ≡ with_object a id (record o { locks = entry.locks })))
+    steps_set = let r = range_set kept id entry asked_here byte hold hold_is new none some ordered in
+        steps_to kept shown (set entries id (Some entry)) new uses.ids (λ a b. IfSome (object_at a id) (λ o. b ≡ with_object a id (record o { locks = entry.locks })))
+        (sound_set kept id entry asked_here byte hold hold_is new none some ordered) r.0 r.1 r.2 (length-set entries id (Some entry)) (heap_set kept id entry asked_here byte hold hold_is new none some ordered)
