@@ -20,7 +20,12 @@ use Rattle.w16_arena.specs.Kept.{IsKept}
 use Rattle.w16_arena.proofs.Lookups.{in_list, object_here, past_end}
 use Rattle.w16_arena.proofs.Reordered.{newest_reorders, oldest_reorders}
 use Rattle.w16_arena.proofs.Changed.{ReordersOne}
-use Rattle.w16_arena.proofs.Steps.{state_of, reordered_sound, beside, kept_with, steps_to, steps_none, touched_is, untouched_is, sound_without, heap_without, heap_same, sound_entered, enters, sound_set, range_set, heap_set, sound_given, heap_given, lt_there}
+use Rattle.w16_arena.proofs.Steps.{state_of, reordered_sound, beside, kept_with, steps_to, steps_none, touched_is, untouched_is, sound_without, heap_without, heap_same, sound_entered, enters, sound_set, range_set, heap_set, sound_given, heap_given}
+
+-- what isn't there is nothing
+pub nothing : {X : Type 0} (p : Option X) → is_some p ≡ false → p ≡ None
+nothing None h = refl
+nothing (Some x) h = absurd (false≢true (sym h))
 
 -- a member of a list at any id, from one that was changed at one id alone
 same_members : (id : ℕ) (order uses : List ℕ) → is_member id order ≡ true → ReordersOne id true order uses → (q : ℕ) → is_member q uses ≡ is_member q order

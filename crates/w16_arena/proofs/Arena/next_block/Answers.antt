@@ -1,0 +1,17 @@
+use Rattle.std.proofs.Common.{rules, ◌≡◌, ◌<◌, ◌≤◌, ◌⊎◌, ℕ, [], length, IfOk, IfSome, IfNone, ◌+◌, ◌-◌, ◌*◌, ◌/◌, ◌%◌, Bool, true, false, nat_eq, nat_lt, List, ◌∷◌, ◌++◌, slice_index_or, slice_set, bit_and, bit_or, Fits, w8, w32, w64, Bor, MutBor}
+use Rattle.w16_model.specs.Heap.{IsMultiple}
+use Rattle.w16_model.specs.Table.{block_with, entry_at, IsSound}
+use Rattle.w16_arena.specs.State.{empty_table}
+use Rattle.w16_arena.proofs.Arena.next_block.Goals as goal
+
+-- src/lib.rt:95:5
+pub returns-clause-found : goal.returns-clause-found
+returns-clause-found c = ?
+
+-- src/lib.rt:95:5
+pub returns-clause-lowest : goal.returns-clause-lowest
+returns-clause-lowest c = ?
+
+-- src/lib.rt:95:5
+pub returns-clause-none : goal.returns-clause-none
+returns-clause-none c = ?
