@@ -23,3 +23,4 @@ pub mod Empty
 pub mod Walks
 pub mod Folds
 pub mod Trials
+pub mod Prefixes
