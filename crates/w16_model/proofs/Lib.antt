@@ -24,3 +24,4 @@ pub mod Walks
 pub mod Folds
 pub mod Trials
 pub mod Prefixes
+pub mod Answered
