@@ -8,7 +8,7 @@ use Rattle.w16_model.specs.declared.Kind.{Kind}
 use Rattle.w16_model.specs.declared.Way.{Way}
 use Rattle.w16_model.specs.Gap.{is_pinned, longest_hole}
 use Rattle.w16_model.specs.Heap.{Heap, Object, IsMultiple, blocks, bytes_at}
-use Rattle.w16_model.specs.Prefix.{eligible, none_discarded_if, room_for, needed, is_member, is_about, is_pinned_id}
+use Rattle.w16_model.specs.Prefix.{eligible, none_discarded_if, is_member, is_about, is_pinned_id}
 use Rattle.w16_model.specs.Edit.{absent, without, with_ordered, with_newest}
 use Rattle.w16_model.specs.Request.{discarded, prefix_of, stays_for, Settles, Request, IsNew, Allocates, is_elsewhere, moved_bytes}
 use Rattle.w16_model.proofs.Gaps.{Member, EachPair, Each-at, Each-from, Each-from_All, All-from_Each, EachPair-from_AllPairs, member_filter, filter_member, pairs_filter}
@@ -16,7 +16,7 @@ use Rattle.w16_model.proofs.Members.{permutation_from}
 use Rattle.w16_model.proofs.Heaps.{block_member, member_block, blocks_differ, block_of_absent, absent_of_block}
 use Rattle.w16_model.proofs.Discards.{true-is_member, block_of_absents, absents_of_block, from_take, held_member, eligible_loose}
 use Rattle.w16_model.proofs.Least.{take_past}
-use Rattle.w16_model.proofs.Prefixes.{filter_same, filter_swapped}
+use Rattle.w16_model.proofs.Prefixes.{filter_same, filter_swapped, without_compact}
 
 -- Lists of ids.
 
@@ -67,6 +67,7 @@ pinned_same xs ys id f g = alike (is_pinned_id xs id) (is_pinned_id ys id) (onto
         let at : (x : Block) × Member x us × (x.id ≡ id) × (is_pinned x ≡ true) = pinned_member us id t in
         subst (λ q. is_pinned_id vs q ≡ true) at.2 (held_member vs at.0 (into at.0 at.2 at.1) at.3)
 
+-- an absent object changes no other's
 pinned_absent : (heap : Heap) (id q : ℕ) → q ≢ id → is_pinned_id (blocks (absent heap id)) q ≡ is_pinned_id (blocks heap) q
 pinned_absent heap id q other = pinned_same (blocks (absent heap id)) (blocks heap) q
     (λ x e m. block_member heap x (block_of_absent heap id x (member_block (absent heap id) x m)).0)
@@ -151,9 +152,7 @@ module _ (old : Heap) (k : ℕ) (h : Option ℕ) where
 module _ (old : Heap) (id n : ℕ) (way : Way) (k : ℕ) (answered : prefix_of old n (Some id) way ≡ Some k) where
   -- nothing is discarded where nothing may move
   none_still : way.compact ≡ false → k ≡ 0
-  none_still still = turn (nat_le n (longest_hole old.lo old.hi (blocks old)))
-      (sym (ap (λ b. cond (not b) (none_discarded_if (nat_le n (longest_hole old.lo old.hi (blocks old)))) (cond (not way.discard) (none_discarded_if (nat_le n (room_for old.lo old.hi (blocks old) old.order 0 (Some id)))) (needed old.lo old.hi (blocks old) old.order n (Some id)))) still)
-      ∙ answered)
+  none_still still = turn (nat_le n (longest_hole old.lo old.hi (blocks old))) (sym (without_compact old.lo old.hi (blocks old) old.order n (Some id) way still) ∙ answered)
     where
       turn : (b : Bool) → none_discarded_if b ≡ Some k → k ≡ 0
       turn true e = cc

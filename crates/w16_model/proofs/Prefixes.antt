@@ -41,6 +41,7 @@ module _ {X : Type 0} where
     abbrev Kept : List X → List X → Type 0
     Kept xs ys = IsPermutation (filter p xs) (filter p ys)
 
+    -- under a head
     kept_under : (x : X) (xs ys : List X) → Kept xs ys → Kept (x ∷ xs) (x ∷ ys)
     kept_under x xs ys h = turn (p x)
       where
@@ -48,6 +49,7 @@ module _ {X : Type 0} where
         turn true = IsPermutation-cons x (filter p xs) (filter p ys) h
         turn false = h
 
+    -- with two heads in each other's place
     kept_turned : (x y : X) (xs : List X) → Kept (x ∷ y ∷ xs) (y ∷ x ∷ xs)
     kept_turned x y xs = turn (p x) (p y)
       where
@@ -58,9 +60,11 @@ module _ {X : Type 0} where
         turn false true = IsPermutation-refl (y ∷ filter p xs)
         turn false false = IsPermutation-refl (filter p xs)
 
+    -- by one order after another
     kept_chain : (xs ys zs : List X) → Kept xs ys → Kept ys zs → Kept xs zs
     kept_chain xs ys zs h k = IsPermutation-trans (filter p xs) (filter p ys) (filter p zs) h k
 
+    -- with the head and another in each other's place
     to_head : (l : List X) (j : ℕ) (x d : X) → j < length l → Kept (x ∷ l) (get_or l j d ∷ set l j x)
     to_head [] j x d h = absurd (omega arith)
     to_head (y ∷ l) zero x d h = kept_turned x y l
@@ -68,6 +72,7 @@ module _ {X : Type 0} where
         kept_chain (x ∷ y ∷ l) (y ∷ x ∷ l) (get_or l j d ∷ y ∷ set l j x) (kept_turned x y l)
         (kept_chain (y ∷ x ∷ l) (y ∷ get_or l j d ∷ set l j x) (get_or l j d ∷ y ∷ set l j x) (kept_under y (x ∷ l) (get_or l j d ∷ set l j x) (to_head l j x d (omega arith))) (kept_turned y (get_or l j d) (set l j x)))
 
+    -- with any two in each other's place
     exchanged : (l : List X) (i j : ℕ) (d : X) → i < length l → j < length l → Kept l (set (set l i (get_or l j d)) j (get_or l i d))
     exchanged [] i j d h k = absurd (omega arith)
     exchanged (x ∷ l) zero zero d h k = IsPermutation-refl (filter p (x ∷ l))
@@ -75,10 +80,12 @@ module _ {X : Type 0} where
     exchanged (x ∷ l) (suc i) zero d h k = to_head l i x d (omega arith)
     exchanged (x ∷ l) (suc i) (suc j) d h k = kept_under x l (set (set l i (get_or l j d)) j (get_or l i d)) (exchanged l i j d (omega arith) (omega arith))
 
+    -- the same by std's word
     swapped : (l : List X) (i j : ℕ) → i < length l → j < length l → Kept l (swap l i j)
     swapped [] i j h k = IsPermutation-refl []
     swapped (x ∷ l) i j h k = exchanged (x ∷ l) i j x h k
 
+    -- in any order
     pub filter_permutation : (xs ys : List X) → IsPermutation xs ys → IsPermutation (filter p xs) (filter p ys)
     filter_permutation xs = IsPermutation-keeps xs (λ l. Kept xs l) (IsPermutation-refl (filter p xs)) (λ l i j h k rest. kept_chain xs l (swap l i j) rest (swapped l i j h k))
 
@@ -119,7 +126,7 @@ module _ (lo hi : ℕ) (xs : List Block) (order : List ℕ) (n : ℕ) (h : Optio
   -- The number of discards of a request, by the way it asks.
   module _ (way : Way) where
     -- where nothing may move
-    without_compact : way.compact ≡ false → prefix_for lo hi xs order n h way ≡ none_discarded_if (nat_le n (longest_hole lo hi xs))
+    pub without_compact : way.compact ≡ false → prefix_for lo hi xs order n h way ≡ none_discarded_if (nat_le n (longest_hole lo hi xs))
     without_compact still = ap (λ b. cond (not b) (none_discarded_if (nat_le n (longest_hole lo hi xs))) (cond (not way.discard) (none_discarded_if (nat_le n (room_for lo hi xs order 0 h))) (needed lo hi xs order n h))) still
 
     -- where others may slide
@@ -180,6 +187,7 @@ module _ (old : Heap) (is : IsHeap old) (id : ℕ) (unused : object_at old id �
   pub needed_about : (n : ℕ) → needed old.lo old.hi (blocks old) old.order n (Some id) ≡ needed old.lo old.hi (blocks old) old.order n None
   needed_about n = needed_same old.lo old.hi (blocks old) (blocks old) old.order old.order n (Some id) None (ap (length {A = ℕ}) eligible_about) room_about
 
+  -- so the answers are the same
   pub none_about : (n : ℕ) (way : Way) → prefix_of old n (Some id) way ≡ prefix_of old n None way
   none_about n way = λ i.
       cond (not way.compact) (none_discarded_if (nat_le n (longest_hole old.lo old.hi (blocks old))))
