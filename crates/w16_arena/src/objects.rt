@@ -1,6 +1,6 @@
 //! What becomes of single objects. None of these calls asks for room.
 ghost use Rattle.std.specs.Prelude.{◌≡◌, ◌<◌, ◌≤◌, ℕ, Ok, Err, Some, None, length, IfErr, IfSome, IfNone, IsSome, IsSomeAnd, IsTrue, true, OnOk, if◌then◌else◌};
-ghost use Rattle.w16_model.specs.Heap.{is_fixed, object_at};
+ghost use Rattle.w16_model.specs.Heap.{is_discardable, is_fixed, object_at};
 ghost use Rattle.w16_model.specs.Single.{Enters, after_free, after_release, after_lock, after_unlock, after_discard, after_touch, after_newest, after_oldest, refused_order};
 ghost use Rattle.w16_model.specs.Table.{block_with, entry_at, hold_in};
 ghost use Rattle.w16_model.specs.Edit as edit;
@@ -38,9 +38,10 @@ impl Arena {
         ensures ok { OnOk result (Steps self.old self.new (λ old new. after_free old id ≡ Ok new)) }
         ensures err { IfErr result (λ r. (self.new ≡ self.old) × Steps self.old self.new (λ old new. after_free old id ≡ Err r)) }
     {
-        if let Some(entry) = self.entry(id)
-            && entry.locks > 0
-        {
+        let Some(entry) = self.entry(id) else {
+            return Ok(());
+        };
+        if entry.locks > 0 {
             return Err(Refusal::Locked);
         }
         self.release(id);
@@ -56,16 +57,18 @@ impl Arena {
         if self.block(id).is_none() {
             return Err(Refusal::Absent);
         }
-        match self.entry(id) {
-            None => Err(Refusal::Absent),
-            Some(entry) if entry.kind == Kind::Fixed => Err(Refusal::Fixed),
-            Some(entry) if entry.locks == 255 => Err(Refusal::LockFull),
-            Some(entry) => {
-                self.set_locks(id, entry.kind, entry.locks + 1);
-                self.touch(id);
-                Ok(())
-            }
+        let Some(entry) = self.entry(id) else {
+            return Err(Refusal::Absent);
+        };
+        if is_fixed(entry.kind) {
+            return Err(Refusal::Fixed);
         }
+        if entry.locks == 255 {
+            return Err(Refusal::LockFull);
+        }
+        self.set_locks(id, entry.kind, entry.locks + 1);
+        self.touch(id);
+        Ok(())
     }
 
     /// One lock less, if there is one. A fixed object counts none: `Fixed`.
@@ -73,14 +76,14 @@ impl Arena {
         ensures ok { OnOk result (Steps self.old self.new (λ old new. after_unlock old id ≡ Ok new)) }
         ensures err { IfErr result (λ r. (self.new ≡ self.old) × Steps self.old self.new (λ old new. after_unlock old id ≡ Err r)) }
     {
-        match self.entry(id) {
-            None => Ok(()),
-            Some(entry) if entry.kind == Kind::Fixed => Err(Refusal::Fixed),
-            Some(entry) => {
-                self.set_locks(id, entry.kind, entry.locks.saturating_sub(1));
-                Ok(())
-            }
+        let Some(entry) = self.entry(id) else {
+            return Ok(());
+        };
+        if is_fixed(entry.kind) {
+            return Err(Refusal::Fixed);
         }
+        self.set_locks(id, entry.kind, entry.locks.saturating_sub(1));
+        Ok(())
     }
 
     /// A discardable object gives up its bytes, if it has any. A locked one keeps them (`Locked`), and so does one that isn't discardable
@@ -89,15 +92,17 @@ impl Arena {
         ensures ok { OnOk result (Steps self.old self.new (λ old new. after_discard old id ≡ Ok new)) }
         ensures err { IfErr result (λ r. (self.new ≡ self.old) × Steps self.old self.new (λ old new. after_discard old id ≡ Err r)) }
     {
-        match self.entry(id) {
-            None => Err(Refusal::NotDiscardable),
-            Some(entry) if entry.locks > 0 => Err(Refusal::Locked),
-            Some(entry) if entry.kind != Kind::Discardable => Err(Refusal::NotDiscardable),
-            Some(_) => {
-                self.give_up(id);
-                Ok(())
-            }
+        let Some(entry) = self.entry(id) else {
+            return Err(Refusal::NotDiscardable);
+        };
+        if entry.locks > 0 {
+            return Err(Refusal::Locked);
         }
+        if !is_discardable(entry.kind) {
+            return Err(Refusal::NotDiscardable);
+        }
+        self.give_up(id);
+        Ok(())
     }
 
     /// An object was used: a discardable one with bytes becomes the newest, any other is as it was.
@@ -161,10 +166,13 @@ impl Arena {
         if self.block(id).is_none() {
             return Err(Refusal::Absent);
         }
-        match self.entry(id) {
-            None => Err(Refusal::Absent),
-            Some(entry) if entry.kind != Kind::Discardable => Err(Refusal::NotDiscardable),
-            Some(_) => Ok(()),
+        let Some(entry) = self.entry(id) else {
+            return Err(Refusal::Absent);
+        };
+        if is_discardable(entry.kind) {
+            Ok(())
+        } else {
+            Err(Refusal::NotDiscardable)
         }
     }
 }
@@ -196,9 +204,23 @@ fn set_hold(blocks: &mut Blocks, id: u32, hold: Hold)
 pub(crate) fn hold(entry: Entry) -> Hold
     ensures { result ≡ hold_in entry }
 {
-    if entry.kind == Kind::Fixed || entry.locks > 0 {
+    if is_fixed(entry.kind) || entry.locks > 0 {
         Hold::Pinned
     } else {
         Hold::Loose
     }
+}
+
+/// Whether an object of this kind keeps its address.
+fn is_fixed(kind: Kind) -> bool
+    ensures { result ≡ is_fixed kind }
+{
+    kind == Kind::Fixed
+}
+
+/// Whether an object of this kind may lose its bytes.
+pub(crate) fn is_discardable(kind: Kind) -> bool
+    ensures { result ≡ is_discardable kind }
+{
+    kind == Kind::Discardable
 }

@@ -14,7 +14,7 @@ ghost use Rattle.w16_arena.specs.Asked.{SlidesTogether, Stands};
 
 use crate::Arena;
 use crate::making::{NOTHING, Placed, clear_if, has_bytes, make_room};
-use crate::objects::hold;
+use crate::objects::{hold, is_discardable};
 use w16_blocks::{Block, Blocks};
 use w16_compact::{is_pinned_id, room};
 use w16_lru::Order;
@@ -142,7 +142,7 @@ fn list_new(order: &mut Order, id: u32, kind: Kind)
     ensures value { order.new ≡ record order.old { ids = if is_discardable kind then edit.newest id order.old.ids else order.old.ids } }
     ensures uses { AreUses order.new }
 {
-    if kind == Kind::Discardable {
+    if is_discardable(kind) {
         order.newest(id);
     }
 }
