@@ -19,3 +19,11 @@ pub mod Told
 pub mod Steps
 pub mod Shown
 pub mod Refusals
+pub mod Next
+pub mod Fresh
+pub mod Allocated
+pub mod Standing
+pub mod Walks
+pub mod Outside
+pub mod Granting
+pub mod Together

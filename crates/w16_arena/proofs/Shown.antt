@@ -1,8 +1,8 @@
 -- The single steps of an arena, by its value.
-use Rattle.std.proofs.Common.{◌≡◌, ℕ, ◌<◌, ◌≤◌, ◌+◌, ◌==◌, Bool, true, false, IsTrue, IfSome, IfNone, IsSomeAnd, List, length, get_or, set, slice_range, Option, Some, None, option_map, is_some, AllPairs, refl, sym, ap, ◌∙◌, subst, arith, inl, inr}
+use Rattle.std.proofs.Common.{◌≡◌, ℕ, ◌<◌, ◌≤◌, ◌+◌, ◌==◌, Bool, true, false, IsTrue, IfSome, IfNone, IsSomeAnd, List, length, replicate, get_or, set, slice_range, Option, Some, None, option_map, is_some, AllPairs, refl, sym, ap, ◌∙◌, subst, arith, inl, inr}
 use Rattle.std.proofs.lemmas.Bool.{cases_eq, false≢true}
 use Rattle.std.specs.FinMap as finmap
-use Rattle.std.proofs.lemmas.List.{length-set}
+use Rattle.std.proofs.lemmas.List.{length-set, length-replicate}
 use Rattle.w16_model.specs.declared.Block.{Block}
 use Rattle.w16_model.specs.declared.Entry.{Entry}
 use Rattle.w16_model.specs.declared.Hold.{Hold}
@@ -17,7 +17,7 @@ use Rattle.w16_blocks.specs.Layout.{Layout, IsOrdered, replaced}
 use Rattle.w16_lru.specs.Uses.{Uses}
 use Rattle.w16_arena.specs.State.{State, Steps, IsSameRange, table_of, heap_of}
 use Rattle.w16_arena.specs.Kept.{IsKept}
-use Rattle.w16_arena.proofs.Lookups.{in_list, object_here, past_end}
+use Rattle.w16_arena.proofs.Lookups.{in_list, no_block, object_here, past_end}
 use Rattle.w16_arena.proofs.Reordered.{newest_reorders, oldest_reorders}
 use Rattle.w16_arena.proofs.Changed.{ReordersOne}
 use Rattle.w16_arena.proofs.Steps.{state_of, reordered_sound, beside, kept_with, steps_to, steps_none, touched_is, untouched_is, sound_without, heap_without, heap_same, sound_entered, enters, sound_set, range_set, heap_set, sound_given, heap_given}
@@ -147,3 +147,7 @@ module _ {entries : List (Option Entry)} {layout : Layout} {uses : Uses} {marks 
     steps_set = let r = range_set kept id entry asked_here byte hold hold_is new none some ordered in
         steps_to kept shown (set entries id (Some entry)) new uses.ids (λ a b. IfSome (object_at a id) (λ o. b ≡ with_object a id (record o { locks = entry.locks })))
         (sound_set kept id entry asked_here byte hold hold_is new none some ordered) r.0 r.1 r.2 (length-set entries id (Some entry)) (heap_set kept id entry asked_here byte hold hold_is new none some ordered)
+
+-- past the ids no block is
+pub block_past : {entries : List (Option Entry)} {layout : Layout} {uses : Uses} {marks : List Bool} {room : ℕ} → IsKept entries layout uses marks room → (id : ℕ) → length entries ≤ id → block_with layout.blocks id ≡ None
+block_past {entries} {layout} {uses} kept id le = no_block (beside kept (replicate layout.hi 0) (let e = length-replicate {A = ℕ} layout.hi 0 in omega arith)) id (past_end entries id le)

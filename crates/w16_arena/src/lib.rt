@@ -15,6 +15,7 @@ mod making;
 mod objects;
 mod placing;
 mod requests;
+mod walk;
 
 pub use making::Placed;
 pub use placing::Compacted;

@@ -7,7 +7,6 @@ ghost use Rattle.w16_model.specs.Gap.{room};
 ghost use Rattle.w16_model.specs.Edit as edit;
 ghost use Rattle.w16_model.specs.Table.{block_with, heap_in, IsSameOutside};
 ghost use Rattle.w16_model.specs.Request.{most_room};
-ghost use Rattle.w16_lru.specs.Uses.{AreUses};
 ghost use Rattle.w16_arena.specs.State.{IsSameRange};
 ghost use Rattle.w16_arena.specs.Making.{most_in};
 ghost use Rattle.w16_arena.specs.Asked.{SlidesTogether, Stands};
@@ -139,8 +138,7 @@ fn mark_eligible(blocks: &Blocks, order: &Order, marks: &mut [bool])
 /// A new discardable object with bytes is the newest in the order of use; another isn't in it.
 fn list_new(order: &mut Order, id: u32, kind: Kind)
     requires { id < order.old.cap }
-    ensures value { order.new ≡ record order.old { ids = if is_discardable kind then edit.newest id order.old.ids else order.old.ids } }
-    ensures uses { AreUses order.new }
+    ensures { order.new ≡ record order.old { ids = if is_discardable kind then edit.newest id order.old.ids else order.old.ids } }
 {
     if is_discardable(kind) {
         order.newest(id);

@@ -1,0 +1,46 @@
+-- An arena before anything is allocated.
+use Rattle.std.proofs.Common.{◌≡◌, ℕ, zero, suc, ◌<◌, ◌≤◌, IsTrue, IfSome, Bool, false, List, [], length, get_or, replicate, Option, None, refl, sym, ap, ◌∙◌, subst, arith}
+use Rattle.std.proofs.lemmas.List.{length-replicate}
+use Rattle.w16_model.specs.declared.Entry.{Entry}
+use Rattle.w16_model.specs.Heap.{is_fixed, IsMultiple}
+use Rattle.w16_model.specs.Table.{IsSound, is_listed}
+use Rattle.w16_model.proofs.Gaps.{All-from_Each, AllPairs-from_EachPair}
+use Rattle.w16_blocks.specs.Layout.{Layout}
+use Rattle.w16_lru.specs.Uses.{Uses}
+use Rattle.w16_arena.specs.State.{empty_table, table_of}
+use Rattle.w16_arena.specs.Kept.{IsKept}
+use Rattle.w16_arena.proofs.Lookups.{IsArranged, IsOrder, sound_of}
+
+abbrev none : Option Entry
+none = None
+
+-- a list of nothing has nothing at each place
+no_entry : (n q : ℕ) → get_or (replicate n none) q None ≡ None
+no_entry zero q = refl
+no_entry (suc n) zero = refl
+no_entry (suc n) (suc q) = no_entry n q
+
+abbrev fresh : ℕ → ℕ → ℕ → ℕ → Layout
+fresh cap lo hi grain = record { cap = cap; lo = lo; hi = hi; grain = grain; blocks = [] }
+
+abbrev no_uses : ℕ → Uses
+no_uses cap = record { cap = cap; ids = [] }
+
+module _ (cap lo hi grain : ℕ) (bounds : lo ≤ hi) (grained : IsMultiple grain lo) where
+  -- what holds of nothing holds of each entry
+  each : (P : Entry → Type 0) (q : ℕ) → IfSome (get_or (replicate cap none) q None) P
+  each P q = subst (λ (e : Option Entry). IfSome e P) (sym (no_entry cap q)) tt
+
+  arranged : IsArranged (fresh cap lo hi grain)
+  arranged = record { laid = bounds; ids = AllPairs-from_EachPair (λ x y. x.id ≡ y.id → ⊥) [] tt; grained = All-from_Each (λ x. IsMultiple grain x.at × IsMultiple grain x.size) [] tt; low_grained = grained }
+
+  listed : IsOrder (replicate cap none) (fresh cap lo hi grain) []
+  listed = record { members = λ q. sym (ap (λ e. is_listed e None) (no_entry cap q)); once = AllPairs-from_EachPair (λ a b. a ≡ b → ⊥) [] tt }
+
+  sound : IsSound (empty_table cap lo hi grain)
+  sound = sound_of (replicate cap none) (fresh cap lo hi grain) [] arranged (λ q x e. cc) listed (each (λ d. (d.locks ≤ 255) × (IsTrue (is_fixed d.kind) → d.locks ≡ 0)))
+
+  pub fresh_kept : (marks : List Bool) → length marks ≡ cap → (room : ℕ) → cap ≤ room → IsKept (replicate cap none) (fresh cap lo hi grain) (no_uses cap) marks room
+  fresh_kept marks marked room enough =
+      let many : length (replicate cap none) ≡ cap = length-replicate cap none in
+      record { sound = sound; ids = sym many; ordered = sym many; marked = marked ∙ sym many; enough = omega arith }

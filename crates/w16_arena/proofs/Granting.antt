@@ -1,0 +1,85 @@
+-- What the call for a place leaves kept and answers.
+use Rattle.std.proofs.Common.{◌≡◌, ℕ, ◌+◌, ◌<◌, ◌≤◌, Bool, false, if◌then◌else◌, All, List, length, set, Option, Some, None, refl, sym, ap, ◌∙◌, subst, arith}
+use Rattle.std.proofs.lemmas.List.{length-set}
+use Rattle.w16_model.specs.declared.Block.{Block}
+use Rattle.w16_model.specs.declared.Entry.{Entry}
+use Rattle.w16_model.specs.declared.Hold.{Hold}
+use Rattle.w16_model.specs.declared.Kind.{Kind}
+use Rattle.w16_model.specs.declared.Way.{Way}
+use Rattle.w16_model.specs.Heap.{IsMultiple, is_discardable}
+use Rattle.w16_model.specs.Edit.{newest}
+use Rattle.w16_model.specs.Table.{Table, block_with, hold_in, heap_in, IsSameOutside}
+use Rattle.w16_region.specs.Bytes.{put_part, repeated}
+use Rattle.w16_blocks.specs.Layout.{Layout, IsOrdered, Fits, placed}
+use Rattle.w16_compact.specs.Gather.{moved_size}
+use Rattle.w16_lru.specs.Uses.{Uses}
+use Rattle.w16_arena.specs.declared.making.Placed.{Placed}
+use Rattle.w16_arena.specs.Asked.{Stands}
+use Rattle.w16_arena.specs.State.{State, IsSameRange, table_of, heap_of}
+use Rattle.w16_arena.specs.Kept.{IsKept}
+use Rattle.w16_arena.specs.Making.{AreMoved, IsFree}
+use Rattle.w16_arena.proofs.Parts.{AreParts}
+use Rattle.w16_arena.proofs.Steps.{state_of, beside, kept_with}
+use Rattle.w16_arena.proofs.Shown.{known, told}
+use Rattle.w16_arena.proofs.Standing as standing
+use Rattle.w16_arena.proofs.Outside.{outside_twice, outside_cleared, long_cleared}
+
+module _ {entries : List (Option Entry)} {layout : Layout} {uses : Uses} {marks : List Bool} {room : ℕ} (kept : IsKept entries layout uses marks room)
+    {discarded : List ℕ} {old : State} (shown : state_of entries layout uses.ids discarded ≡ old)
+    (memory : List ℕ) (bytes : All (λ b. b < 256) memory) (inside : old.table.hi ≤ length memory)
+    (id n : ℕ) (kind : Kind) (way : Way) (below : id < length old.table.entries) (none : block_with old.table.blocks id ≡ None) (some : 0 < n) (rounded : IsMultiple old.table.grain n)
+    {mid : Layout} {mid_memory : List ℕ} (p : Placed) (moved : AreMoved p.slid.from p.slid.to layout memory mid mid_memory) (place : IsFree mid n p.at) where
+  parts : AreParts entries layout uses.ids memory
+  parts = beside kept memory (known kept shown (λ t. t.hi ≤ length memory) inside)
+
+  lt : id < length entries
+  lt = known kept shown (λ t. id < length t.entries) below
+
+  absent : block_with layout.blocks id ≡ None
+  absent = known kept shown (λ t. block_with t.blocks id ≡ None) none
+
+  grains : IsMultiple layout.grain n
+  grains = known kept shown (λ t. IsMultiple t.grain n) rounded
+
+  pub in_memory : p.at + n ≤ length mid_memory
+  in_memory = standing.in_memory parts bytes id n kind way lt absent some grains p moved place
+
+  abbrev entry : Entry
+  entry = record { kind = kind; locks = 0 }
+
+  module _ {hold : Hold} (hold_is : hold ≡ hold_in entry) (still : way.compact ≡ false → mid ≡ layout) where
+    pub may_insert : Fits mid (record { id = id; at = p.at; size = n; hold = hold })
+    may_insert = standing.may_insert parts bytes id n kind way lt absent some grains p moved place hold_is still
+
+    module _ {new : Layout} (value : new ≡ record mid { blocks = placed (record { id = id; at = p.at; size = n; hold = hold }) mid.blocks }) (ordered : IsOrdered new)
+        {after : List ℕ} (filled : after ≡ (if way.zero then put_part mid_memory p.at (repeated n 0) else mid_memory))
+        {uses' : Uses} (uses_is : uses' ≡ record uses { ids = if is_discardable kind then newest id uses.ids else uses.ids }) where
+      parts_after : AreParts (set entries id (Some entry)) new uses'.ids after
+      parts_after = standing.parts_after parts bytes id n kind way lt absent some grains p moved place hold_is still value ordered filled (ap (λ (u : Uses). u.ids) uses_is)
+
+      same : (new.lo ≡ layout.lo) × (new.hi ≡ layout.hi) × (new.grain ≡ layout.grain) × (new.cap ≡ layout.cap)
+      same = let l = ap (λ (l : Layout). l.lo) value ∙ ap (λ (l : Layout). l.lo) moved.same in (
+        l,
+        ap (λ (l : Layout). l.hi) value ∙ ap (λ (l : Layout). l.hi) moved.same,
+        ap (λ (l : Layout). l.grain) value ∙ ap (λ (l : Layout). l.grain) moved.same,
+        ap (λ (l : Layout). l.cap) value ∙ ap (λ (l : Layout). l.cap) moved.same,
+      )
+
+      pub kept_placed : IsKept (set entries id (Some entry)) new uses' marks room
+      kept_placed = kept_with kept (set entries id (Some entry)) new uses' parts_after.sound (length-set entries id (Some entry)) same.3 (ap (λ (u : Uses). u.cap) uses_is)
+
+      pub range_placed : IsSameRange old.table (table_of (set entries id (Some entry)) new uses'.ids)
+      range_placed = told kept shown (λ t. IsSameRange t (table_of (set entries id (Some entry)) new uses'.ids))
+          (record { lo = same.0; hi = same.1; grain = same.2; ids = length-set entries id (Some entry); sound = parts_after.sound })
+
+      pub stands_placed : p.moved ≡ moved_size layout.blocks mid.blocks → Stands (heap_in old.table memory) id n kind way p.at p.slid p.moved (heap_of (set entries id (Some entry)) new uses'.ids after)
+      stands_placed counted = told kept shown (λ t. Stands (heap_in t memory) id n kind way p.at p.slid p.moved (heap_of (set entries id (Some entry)) new uses'.ids after))
+          (standing.stands parts bytes id n kind way lt absent some grains p moved place hold_is still value ordered filled (ap (λ (u : Uses). u.ids) uses_is) counted)
+
+      pub long_placed : length after ≡ length memory
+      long_placed = long_cleared p.at n way.zero mid_memory after in_memory filled ∙ moved.size
+
+      pub outside_placed : IsSameOutside layout.lo layout.hi memory mid_memory → IsSameOutside old.table.lo old.table.hi memory after
+      outside_placed out = told kept shown (λ t. IsSameOutside t.lo t.hi memory after)
+          (outside_twice layout.lo layout.hi memory mid_memory after out (outside_cleared layout.lo layout.hi p.at n way.zero mid_memory after
+          (let lo = ap (λ (l : Layout). l.lo) moved.same in let above = place.above in omega arith) (let hi = ap (λ (l : Layout). l.hi) moved.same in let end = place.below in omega arith) in_memory filled))

@@ -1,0 +1,63 @@
+-- The lowest block at or above an address.
+use Rattle.std.specs.List.{AllByRecursion as Each}
+use Rattle.std.proofs.Common.{◌≡◌, ℕ, ◌+◌, ◌<◌, ◌≤◌, ◌⊎◌, inl, inr, IfSome, IfNone, List, [], ◌∷◌, MatchOption, Option, Some, None, slice_get, refl, sym, ap, ◌∙◌, subst, arith}
+use Rattle.std.proofs.lemmas.Bool.{cases_lt, lt-ltb, le-ltb}
+use Rattle.w16_model.specs.declared.Block.{Block}
+use Rattle.w16_model.specs.Gap.{IsLaid, block_end}
+use Rattle.w16_model.specs.Table.{Table, IsSound, block_with}
+use Rattle.w16_model.proofs.Gaps.{Member, Each-at, Each-map, EachPair-from_AllPairs}
+use Rattle.w16_model.proofs.Tables.{with_member, member_with}
+use Rattle.w16_blocks.specs.Layout.{rank}
+use Rattle.w16_blocks.proofs.Rank.{IsRising-from_apart}
+
+-- what the block of a rank is to an address
+abbrev IsNext : ℕ → List Block → Option Block → Type 0
+IsNext from bs found = MatchOption found (Each (λ c. c.at < from) bs) (λ b. Member b bs × (from ≤ b.at) × Each (λ c. (c.at < from) ⊎ (b.at ≤ c.at)) bs)
+
+next_is : (lo hi from : ℕ) (bs : List Block) → IsLaid lo hi bs → IsNext from bs (slice_get bs (rank from bs))
+next_is lo hi from [] laid = tt
+next_is lo hi from (b ∷ bs) laid = elim (cases_lt b.at from) [
+  | inl below ↦ rw (lt-ltb b.at from below) (more below (slice_get bs (rank from bs)) (next_is (block_end b) hi from bs laid.2))
+  | inr above ↦ rw (le-ltb b.at from above) (
+    inl refl,
+    above,
+    (inr (omega arith), Each-map (λ c. b.at < c.at) (λ c. (c.at < from) ⊎ (b.at ≤ c.at)) (λ c lt. inr (omega arith)) bs (IsRising-from_apart lo hi (b ∷ bs) laid).0),
+  )
+]
+  where
+    more : b.at < from → (found : Option Block) → IsNext from bs found → IsNext from (b ∷ bs) found
+    more below None is = (below, is)
+    more below (Some x) is = (inr is.0, is.1, (inl below, is.2))
+
+-- the same of each id's block
+each_block : (bs : List Block) (P : Block → Type 0) → Each P bs → (q : ℕ) → IfSome (block_with bs q) P
+each_block bs P all q = from (block_with bs q) refl
+  where
+    from : (b : Option Block) → block_with bs q ≡ b → IfSome b P
+    from None e = tt
+    from (Some x) e = Each-at P bs all x (member_with bs q x e).0
+
+module _ (t : Table) (sound : IsSound t) (from r : ℕ) {found : Option Block} (counted : r ≡ rank from t.blocks) (got : found ≡ slice_get t.blocks r) where
+  is_next : IsNext from t.blocks found
+  is_next = subst (IsNext from t.blocks) (sym (got ∙ ap (slice_get t.blocks) counted)) (next_is t.lo t.hi from t.blocks sound.table.laid)
+
+  pub next_found : IfSome found (λ b. (from ≤ b.at) × (block_with t.blocks b.id ≡ Some b))
+  next_found = turn found is_next
+    where
+      turn : (b : Option Block) → IsNext from t.blocks b → IfSome b (λ b. (from ≤ b.at) × (block_with t.blocks b.id ≡ Some b))
+      turn None is = tt
+      turn (Some b) is = (is.1, with_member t.blocks b (EachPair-from_AllPairs (λ x y. x.id ≡ y.id → ⊥) t.blocks sound.table.ids) is.0)
+
+  pub next_lowest : IfSome found (λ b. (q : ℕ) → IfSome (block_with t.blocks q) (λ c. (c.at < from) ⊎ (b.at ≤ c.at)))
+  next_lowest = turn found is_next
+    where
+      turn : (b : Option Block) → IsNext from t.blocks b → IfSome b (λ b. (q : ℕ) → IfSome (block_with t.blocks q) (λ c. (c.at < from) ⊎ (b.at ≤ c.at)))
+      turn None is = tt
+      turn (Some b) is = each_block t.blocks (λ c. (c.at < from) ⊎ (b.at ≤ c.at)) is.2
+
+  pub next_none : IfNone found ((q : ℕ) → IfSome (block_with t.blocks q) (λ c. c.at < from))
+  next_none = turn found is_next
+    where
+      turn : (b : Option Block) → IsNext from t.blocks b → IfNone b ((q : ℕ) → IfSome (block_with t.blocks q) (λ c. c.at < from))
+      turn None is = each_block t.blocks (λ c. c.at < from) is
+      turn (Some b) is = tt

@@ -1,0 +1,74 @@
+-- Blocks that have slid together, and nothing else: what is kept, and the heap after it.
+use Rattle.std.proofs.Common.{◌≡◌, ℕ, ◌<◌, ◌≤◌, Bool, IsTrue, All, List, length, Option, Some, refl, sym, ap, ◌∙◌, subst, arith}
+use Rattle.std.specs.Cmp.{nat_cmp_total}
+use Rattle.std.specs.FinMap as finmap
+use Rattle.std.specs.FinMap.{same_map, nat_cmp-IsAntisymmetric}
+use Rattle.w16_model.specs.declared.Block.{Block}
+use Rattle.w16_model.specs.declared.Entry.{Entry}
+use Rattle.w16_model.specs.declared.Span.{Span}
+use Rattle.w16_model.specs.Gap.{is_pinned, longest_hole}
+use Rattle.w16_model.specs.Heap.{Heap, blocks}
+use Rattle.w16_model.specs.Request.{Settles}
+use Rattle.w16_model.specs.Table.{Table, heap_in}
+use Rattle.w16_model.proofs.Gaps.{Each-from, All-from_Each}
+use Rattle.w16_model.proofs.Tables.{table_longest}
+use Rattle.w16_blocks.specs.Layout.{Layout}
+use Rattle.w16_compact.specs.Gather.{moved_size}
+use Rattle.w16_lru.specs.Uses.{Uses}
+use Rattle.w16_arena.specs.Asked.{SlidesTogether}
+use Rattle.w16_arena.specs.State.{State, IsSameRange, table_of, heap_of}
+use Rattle.w16_arena.specs.Kept.{IsKept}
+use Rattle.w16_arena.specs.Making.{AreMoved}
+use Rattle.w16_arena.proofs.Parts.{AreParts}
+use Rattle.w16_arena.proofs.Lookups.{is_heap}
+use Rattle.w16_arena.proofs.Listed.{whole, listed_with, is_listed}
+use Rattle.w16_arena.proofs.Slid.{slid_parts, slid_object, slid_still, slid_pinned}
+use Rattle.w16_arena.proofs.Moved.{moved_is}
+use Rattle.w16_arena.proofs.Steps.{state_of, beside, kept_with}
+use Rattle.w16_arena.proofs.Shown.{known, told}
+
+module _ {entries : List (Option Entry)} {layout : Layout} {uses : Uses} {marks : List Bool} {room : ℕ} (kept : IsKept entries layout uses marks room)
+    {discarded : List ℕ} {old : State} (shown : state_of entries layout uses.ids discarded ≡ old)
+    (memory : List ℕ) (bytes : All (λ b. b < 256) memory) (inside : old.table.hi ≤ length memory)
+    (slid : Span) {new : Layout} {after : List ℕ} (moved : AreMoved slid.from slid.to layout memory new after) where
+  parts : AreParts entries layout uses.ids memory
+  parts = beside kept memory (known kept shown (λ t. t.hi ≤ length memory) inside)
+
+  parts_new : AreParts entries new uses.ids after
+  parts_new = slid_parts parts moved
+
+  abbrev before : Heap
+  before = heap_of entries layout uses.ids memory
+
+  pub kept_slid : IsKept entries new uses marks room
+  kept_slid = kept_with kept entries new uses parts_new.sound refl (ap (λ (l : Layout). l.cap) moved.same) refl
+
+  pub range_slid : IsSameRange old.table (table_of entries new uses.ids)
+  range_slid = told kept shown (λ t. IsSameRange t (table_of entries new uses.ids)) (record {
+    lo = ap (λ (l : Layout). l.lo) moved.same;
+    hi = ap (λ (l : Layout). l.hi) moved.same;
+    grain = ap (λ (l : Layout). l.grain) moved.same;
+    ids = refl;
+    sound = parts_new.sound;
+  })
+
+  settled : Settles before is_pinned before (heap_of entries new uses.ids after)
+  settled = record {
+    same =
+        let lo = ap (λ (l : Layout). l.lo) moved.same in let hi = ap (λ (l : Layout). l.hi) moved.same in let grain = ap (λ (l : Layout). l.grain) moved.same in
+        let objects = same_map nat_cmp_total nat_cmp-IsAntisymmetric (heap_of entries new uses.ids after).objects before.objects (slid_object parts moved) in
+        λ i. record { lo = lo i; hi = hi i; grain = grain i; objects = objects i; places = (heap_of entries new uses.ids after).places; order = uses.ids };
+    sound = is_heap parts_new (moved.bytes bytes);
+    kept = All-from_Each (λ x. IsTrue (is_pinned x) → finmap.get (heap_of entries new uses.ids after).places x.id ≡ Some x.at) (blocks before)
+        (Each-from (λ x. IsTrue (is_pinned x) → finmap.get (heap_of entries new uses.ids after).places x.id ≡ Some x.at) (blocks before) (λ x m t.
+        slid_pinned parts moved x.id x (listed_with parts x (is_listed parts x m)) t));
+  }
+
+  pub slides : (most count : ℕ) → most ≡ longest_hole new.lo new.hi new.blocks → count ≡ moved_size layout.blocks new.blocks
+      → SlidesTogether (heap_in old.table memory) most slid count (heap_of entries new uses.ids after)
+  slides most count longest counted = told kept shown (λ t. SlidesTogether (heap_in t memory) most slid count (heap_of entries new uses.ids after)) (record {
+    settled = settled;
+    longest = longest ∙ sym (table_longest (table_of entries new uses.ids) parts_new.sound.table after (whole parts_new));
+    still = slid_still parts moved;
+    bytes = counted ∙ moved_is parts moved parts_new (heap_of entries new uses.ids after) (λ b m. refl);
+  })
