@@ -85,7 +85,7 @@ take_member : (k : ℕ) (ids : List ℕ) (id : ℕ) → Member id (take k ids) �
 take_member k ids id m = rw add-one (suc_take k ids id m)
 
 -- what may be discarded is loose
-held_member : (xs : List Block) (x : Block) → Member x xs → is_pinned x ≡ true → is_pinned_id xs x.id ≡ true
+pub held_member : (xs : List Block) (x : Block) → Member x xs → is_pinned x ≡ true → is_pinned_id xs x.id ≡ true
 held_member [] x m t = absurd m
 held_member (y ∷ xs) x (inl e) t = or_left (y.id == x.id && is_pinned y) (is_pinned_id xs x.id) (and_from (y.id == x.id) (is_pinned y) (eq-eqb y.id x.id (ap (λ (z : Block). z.id) (sym e))) (ap is_pinned (sym e) ∙ t))
 held_member (y ∷ xs) x (inr m) t = or_right (y.id == x.id && is_pinned y) (is_pinned_id xs x.id) (held_member xs x m t)

@@ -36,7 +36,7 @@ find_no p (suc m) a h j l1 l2 =
       | false ↦ λ t e. elim (cases_lt a j) [ inl l ↦ find_no p m (a + 1) e j (omega arith) (omega arith) | inr l ↦ let same : a ≡ j = omega arith in subst (λ v. p v ≡ false) same t ]
     ] refl h
 
-take_past : (k : ℕ) (ids : List ℕ) → length ids ≤ k → take k ids ≡ ids
+pub take_past : (k : ℕ) (ids : List ℕ) → length ids ≤ k → take k ids ≡ ids
 take_past zero [] h = refl
 take_past zero (q ∷ ids) h = absurd (omega arith)
 take_past (suc k) [] h = refl

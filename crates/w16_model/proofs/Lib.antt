@@ -23,3 +23,5 @@ pub mod Empty
 pub mod Walks
 pub mod Folds
 pub mod Trials
+pub mod Prefixes
+pub mod Answered
