@@ -18,3 +18,4 @@ pub mod Singles
 pub mod Told
 pub mod Steps
 pub mod Shown
+pub mod Oldest
