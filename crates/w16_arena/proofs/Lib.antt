@@ -19,3 +19,4 @@ pub mod Told
 pub mod Steps
 pub mod Shown
 pub mod Oldest
+pub mod Marked
