@@ -1,5 +1,5 @@
 -- The marks of what may be discarded, and the room that they leave.
-use Rattle.std.proofs.Common.{◌≡◌, ◌≢◌, ℕ, ◌+◌, ◌<◌, ◌≤◌, inl, inr, Bool, true, false, cond, not, ◌&&◌, ◌||◌, ◌==◌, List, [], ◌∷◌, ◌++◌, length, take, take_all, get_or, set, Option, Some, None, slice_get, refl, sym, ap, ◌∙◌, subst, arith}
+use Rattle.std.proofs.Common.{◌≡◌, ◌≢◌, ℕ, zero, suc, ◌+◌, ◌<◌, ◌≤◌, inl, inr, Bool, true, false, cond, not, ◌&&◌, ◌||◌, ◌==◌, List, [], ◌∷◌, ◌++◌, length, take, take_all, replicate, get_or, set, Option, Some, None, slice_get, refl, sym, ap, ◌∙◌, subst, arith}
 use Rattle.std.proofs.lemmas.Bool.Decides.{eqb_tells}
 use Rattle.std.proofs.lemmas.List.{get_or-set_same, get_or-set_other, take_more}
 use Rattle.std.proofs.lemmas.List.Folds.{list_any-append}
@@ -77,9 +77,14 @@ module _ (cap : ℕ) (xs : List Block) (ids : List ℕ) where
   all_marked i marks marked le q below = marked q below ∙ ap (λ qs. is_member q qs && not (is_pinned_id xs q)) (take_all i ids le) ∙ sym (member_eligible xs ids q)
 
 -- with no mark every block counts
-pub counted_all : (cap : ℕ) (marks : List Bool) (xs : List Block) → ((q : ℕ) → q < cap → get_or marks q false ≡ false) → AreNamed cap xs → counted_of marks xs ≡ xs
-counted_all cap marks xs none named = counted_of-marked cap marks [] None xs none named ∙ whole xs
+pub counted_all : (cap n : ℕ) (marks : List Bool) (xs : List Block) → marks ≡ replicate n false → AreNamed cap xs → counted_of marks xs ≡ xs
+counted_all cap n marks xs none named = counted_of-marked cap marks [] None xs (λ q below. ap (λ ms. get_or ms q false) none ∙ unmarked n q) named ∙ whole xs
   where
+    unmarked : (n q : ℕ) → get_or (replicate n false) q false ≡ false
+    unmarked zero q = refl
+    unmarked (suc n) zero = refl
+    unmarked (suc n) (suc q) = unmarked n q
+
     whole : (xs : List Block) → blocks_without xs [] None ≡ xs
     whole [] = refl
     whole (x ∷ xs) = ap (λ ys. x ∷ ys) (whole xs)
