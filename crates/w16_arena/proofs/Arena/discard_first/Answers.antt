@@ -1,4 +1,4 @@
-use Rattle.std.proofs.Common.{◌≡◌, ◌+◌, ℕ, [], ◌∷◌, ◌++◌, List, length, Some, slice_get, sym, ap, ◌∙◌, subst, arith}
+use Rattle.std.proofs.Common.{◌≡◌, ◌+◌, [], ◌∷◌, ◌++◌, length, Some, slice_get, sym, ap, ◌∙◌, subst, arith}
 use Rattle.w16_model.specs.Prefix.{eligible}
 use Rattle.w16_model.specs.Table.{Table, IsSound}
 use Rattle.w16_arena.specs.State.{State, table_of}

@@ -1,6 +1,5 @@
-use Rattle.std.proofs.Common.{◌≡◌, Bool, false, List, ◌∙◌, ap, subst}
+use Rattle.std.proofs.Common.{◌≡◌, ◌∙◌, ap, subst}
 use Rattle.w16_model.specs.Gap.{room}
-use Rattle.w16_compact.specs.Skip.{counted_of}
 use Rattle.w16_arena.specs.State.{State}
 use Rattle.w16_arena.proofs.Marked.{counted_all}
 use Rattle.w16_arena.proofs.Arena.room_now.Goals as goal
