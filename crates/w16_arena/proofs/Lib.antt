@@ -27,3 +27,5 @@ pub mod Walks
 pub mod Outside
 pub mod Granting
 pub mod Together
+pub mod Oldest
+pub mod Marked

@@ -15,7 +15,7 @@ outside_same lo hi a = record { below = refl; above = refl }
 take_put : (m : List ℕ) (at lo : ℕ) (new : List ℕ) → lo ≤ at → at + length new ≤ length m → take lo (put_part m at new) ≡ take lo m
 take_put m at lo new le whole =
     let front : lo ≤ length (take at m) = let e = length-take-le at m (omega arith) in omega arith in
-    take-append-le (take at m) (new ++ drop (length new) (drop at m)) lo front ∙ take-take lo at m le
+    take-append-le lo (take at m) (new ++ drop (length new) (drop at m)) front ∙ take-take lo at m le
 
 pub outside_cleared : (lo hi at n : ℕ) (zero : Bool) (m after : List ℕ) → lo ≤ at → at + n ≤ hi → at + n ≤ length m → after ≡ (if zero then put_part m at (repeated n 0) else m) → IsSameOutside lo hi m after
 outside_cleared lo hi at n false m after above below whole e = subst (IsSameOutside lo hi m) (sym e) (outside_same lo hi m)

@@ -39,6 +39,8 @@ fn first_eligible(blocks: &Blocks, order: &Order, h: Option<u32>) -> Option<u32>
     ensures known { IfSome result (λ id. id < order.now.cap) }
     ensures ordered { IsOrdered blocks.now }
 {
+    // The caller learns that they are ordered, also where no member is looked up.
+    let _ = blocks.as_slice();
     for i in 0..order.len() {
         let id = order.nth(i)?;
         if h != Some(id) && !is_pinned_id(blocks, id) {

@@ -1,0 +1,217 @@
+-- The oldest that a request may discard, by a search along the order of use, and the discards one by one.
+use Rattle.std.proofs.Common.{◌≡◌, ◌≢◌, ℕ, zero, suc, ◌+◌, ◌-◌, ◌<◌, ◌≤◌, inl, inr, Bool, true, false, cond, not, ◌&&◌, List, [], ◌∷◌, ◌++◌, append_assoc, length, replicate, take, drop, filter, get_or, AllPairs, Option, Some, None, is_some, refl, sym, ap, ◌∙◌, subst, arith, add-one, slice_get, eqb}
+use Rattle.std.specs.List.{list_any}
+use Rattle.std.proofs.lemmas.Bool.{false≢true, cond-true, cond-false, or_cases, eqb-true}
+use Rattle.std.proofs.lemmas.Bool.Decides.{Decides-eqb}
+use Rattle.std.proofs.lemmas.List.{length-append, length-take, length-replicate, append-nil}
+use Rattle.std.proofs.lemmas.Map.Made.{IsDistinct-from_AllPairs}
+use Rattle.std.proofs.lemmas.Map.Steps.{length-le_from_distinct_below}
+use Rattle.std.proofs.lemmas.Option.{slice_get_within, get_or_from_slice_get}
+use Rattle.std.proofs.Math.ListN.{drop_of_length-le}
+use Rattle.std.proofs.Math.Seq.{drop-cons}
+use Rattle.w16_model.specs.declared.Block.{Block}
+use Rattle.w16_model.specs.declared.Entry.{Entry}
+use Rattle.w16_model.specs.Edit.{absent, without}
+use Rattle.w16_model.specs.Heap.{Heap, blocks, is_discardable}
+use Rattle.w16_model.specs.Prefix.{eligible, is_member}
+use Rattle.w16_model.specs.Request.{discarded}
+use Rattle.w16_model.specs.Table.{Table, IsSound, block_with, entry_at, heap_in, is_listed}
+use Rattle.w16_model.proofs.Answered.{eligible_rest, discarded_next, discarded_none}
+use Rattle.w16_model.proofs.Discards.{true-is_member}
+use Rattle.w16_model.proofs.Gaps.{Member, member_filter}
+use Rattle.w16_model.proofs.Prefixes.{eligible_by_members}
+use Rattle.w16_blocks.specs.Layout.{Layout}
+use Rattle.w16_compact.proofs.Searched.{may_go}
+use Rattle.w16_arena.specs.State.{State, Steps, IsSameRange, table_of}
+use Rattle.w16_arena.proofs.Listed.{listed_permutation}
+use Rattle.w16_arena.proofs.Lookups.{in_list}
+use Rattle.w16_arena.proofs.Parts.{AreParts}
+
+pub turned : (b c : Bool) → b ≡ not c → not b ≡ c
+turned true true e = sym e
+turned true false e = refl
+turned false true e = refl
+turned false false e = sym e
+
+drop_next : (ids : List ℕ) (i id : ℕ) → Some id ≡ slice_get ids i → drop i ids ≡ id ∷ drop (i + 1) ids
+drop_next ids i id e =
+    drop-cons ids i id (slice_get_within ids i id (sym e))
+    ∙ (λ j. get_or_from_slice_get ids i id id (sym e) j ∷ drop (sym (add-one i) j) ids)
+
+module _ (xs : List Block) (ids : List ℕ) (h : Option ℕ) where
+  -- none of the first i of the order may be discarded
+  pub record ArePassed (i : ℕ) : Type 0 where
+    pub later : eligible xs ids h ≡ eligible xs (drop i ids) h
+
+  pub passed_none : ArePassed 0
+  passed_none = record { later = refl }
+
+  module _ (i : ℕ) (passed : ArePassed i) where
+    -- all were passed
+    pub none_left : length ids ≤ i → eligible xs ids h ≡ []
+    none_left le = passed.later ∙ ap (λ (qs : List ℕ). eligible xs qs h) (drop_of_length-le ids le)
+
+    module _ (id : ℕ) (at : Some id ≡ slice_get ids i) where
+      here : eligible xs ids h ≡ cond (may_go xs h id) (id ∷ eligible xs (drop (i + 1) ids) h) (eligible xs (drop (i + 1) ids) h)
+      here = passed.later ∙ ap (λ (qs : List ℕ). eligible xs qs h) (drop_next ids i id at)
+
+      pub passed_more : may_go xs h id ≡ false → ArePassed (i + 1)
+      passed_more f = record { later = here ∙ cond-false (may_go xs h id) (id ∷ eligible xs (drop (i + 1) ids) h) (eligible xs (drop (i + 1) ids) h) f }
+
+      pub first_is : may_go xs h id ≡ true → slice_get (eligible xs ids h) 0 ≡ Some id
+      first_is t = ap (λ (qs : List ℕ). slice_get qs 0) (here ∙ cond-true (may_go xs h id) (id ∷ eligible xs (drop (i + 1) ids) h) (eligible xs (drop (i + 1) ids) h) t)
+
+-- Lists by their first element.
+
+by_first : (ids : List ℕ) (id : ℕ) → slice_get ids 0 ≡ Some id → ids ≡ id ∷ drop 1 ids
+by_first [] id e = cc
+by_first (q ∷ ids) id e = let same : q ≡ id = cc in ap (λ p. p ∷ ids) same
+
+first_member : (ids : List ℕ) (id : ℕ) → slice_get ids 0 ≡ Some id → Member id ids
+first_member [] id e = cc
+first_member (q ∷ ids) id e = let same : id ≡ q = cc in inl same
+
+any_member : (q : ℕ) (ids : List ℕ) → list_any (eqb q) ids ≡ true → Member q ids
+any_member q [] e = absurd (false≢true e)
+any_member q (x ∷ ids) e = elim (or_cases (eqb q x) (list_any (eqb q) ids) e) [
+  | inl here ↦ inl (eqb-true q x here)
+  | inr there ↦ inr (any_member q ids there)
+]
+
+take_none : (k : ℕ) → take {A = ℕ} k [] ≡ []
+take_none zero = refl
+take_none (suc k) = refl
+
+filter_shorter : (p : ℕ → Bool) (ids : List ℕ) → length (filter p ids) ≤ length ids
+filter_shorter p [] = omega arith
+filter_shorter p (q ∷ ids) = turn (p q) (filter_shorter p ids)
+  where
+    turn : (b : Bool) → length (filter p ids) ≤ length ids → length (cond {A = List ℕ} b (q ∷ filter p ids) (filter p ids)) ≤ suc (length ids)
+    turn true le = omega arith
+    turn false le = omega arith
+
+-- Of a sound table.
+module _ (t : Table) (sound : IsSound t) where
+  -- what may be discarded is the same of its heap in a memory
+  pub eligible_here : (memory : List ℕ) → t.hi ≤ length memory → (h : Option ℕ) → eligible t.blocks t.order h ≡ eligible (blocks (heap_in t memory)) t.order h
+  eligible_here memory high h =
+      let layout : Layout = record { cap = length t.entries; lo = t.lo; hi = t.hi; grain = t.grain; blocks = t.blocks } in
+      let parts : AreParts t.entries layout t.order memory = record { sound = sound; ids = refl; high = high } in
+      eligible_by_members t.blocks (blocks (heap_in t memory)) (listed_permutation parts) t.order h
+
+  -- a member of the order has an entry
+  member_known : (id : ℕ) → is_member id t.order ≡ true → (e : Entry) × (entry_at t id ≡ Some e)
+  member_known id m = turn (entry_at t id) refl (sym (sound.in_order id) ∙ m)
+    where
+      turn : (e : Option Entry) → entry_at t id ≡ e → is_listed e (block_with t.blocks id) ≡ true → (e : Entry) × (entry_at t id ≡ Some e)
+      turn None e l = absurd (false≢true l)
+      turn (Some d) e l = (d, e)
+
+  -- and so has what may be discarded
+  pub first_known : (h : Option ℕ) (id : ℕ) → slice_get (eligible t.blocks t.order h) 0 ≡ Some id → is_some (entry_at t id) ≡ true
+  first_known h id first =
+      let m : Member id t.order = (member_filter (may_go t.blocks h) t.order id (first_member (eligible t.blocks t.order h) id first)).0 in
+      ap is_some (member_known id (true-is_member id t.order m)).1
+
+  -- there are no more members than entries
+  order_short : length t.order ≤ length t.entries
+  order_short = length-le_from_distinct_below t.order (length t.entries) (IsDistinct-from_AllPairs Decides-eqb t.order sound.no_repeats)
+      (λ q e. let known = member_known q (true-is_member q t.order (any_member q t.order e)) in in_list t.entries q known.0 known.1)
+
+-- After i of k discards from a table: the others are those of the table now.
+pub record ArePartly (old : Table) (k : ℕ) (h : Option ℕ) (i : ℕ) (now : State) : Type 0 where
+  pub heaps : (memory : List ℕ) → old.hi ≤ length memory → discarded (heap_in old memory) k h ≡ discarded (heap_in now.table memory) (k - i) h
+  pub listed : now.discarded ++ take (k - i) (eligible now.table.blocks now.table.order h) ≡ take k (eligible old.blocks old.order h)
+  pub range : IsSameRange old now.table
+
+module _ (old : Table) (k : ℕ) (h : Option ℕ) where
+  pub partly_none : IsSound old → (ids : List ℕ) → ids ≡ [] → ArePartly old k h 0 (record { table = old; discarded = ids })
+  partly_none sound ids none = let whole : k - 0 ≡ k = omega arith in record {
+    heaps = λ memory high. ap (λ n. discarded (heap_in old memory) n h) (sym whole);
+    listed = ap (λ (qs : List ℕ). qs ++ take (k - 0) (eligible old.blocks old.order h)) none ∙ ap (λ n. take n (eligible old.blocks old.order h)) whole;
+    range = record { lo = refl; hi = refl; grain = refl; ids = refl; sound = sound };
+  }
+
+  module _ (i : ℕ) (now : State) (partly : ArePartly old k h i now) where
+    abbrev left : List ℕ
+    left = eligible now.table.blocks now.table.order h
+
+    -- all were discarded
+    module _ (none : left ≡ []) where
+      pub ended_heaps : (memory : List ℕ) → old.hi ≤ length memory → heap_in now.table memory ≡ discarded (heap_in old memory) k h
+      ended_heaps memory high =
+          let high_now : now.table.hi ≤ length memory = let same = partly.range.hi in omega arith in
+          sym (partly.heaps memory high ∙ discarded_none (heap_in now.table memory) h (sym (eligible_here now.table partly.range.sound memory high_now h) ∙ none) (k - i))
+
+      pub ended_listed : now.discarded ≡ take k (eligible old.blocks old.order h)
+      ended_listed = sym (append-nil now.discarded) ∙ ap (λ (qs : List ℕ). now.discarded ++ qs) (sym (ap (take (k - i)) none ∙ take_none (k - i))) ∙ partly.listed
+
+    -- as many as were asked for
+    module _ (le : k ≤ i) where
+      no_more : k - i ≡ 0
+      no_more = omega arith
+
+      pub full_heaps : (memory : List ℕ) → old.hi ≤ length memory → heap_in now.table memory ≡ discarded (heap_in old memory) k h
+      full_heaps memory high = sym (partly.heaps memory high ∙ ap (λ n. discarded (heap_in now.table memory) n h) no_more)
+
+      pub full_listed : now.discarded ≡ take k (eligible old.blocks old.order h)
+      full_listed = sym (append-nil now.discarded) ∙ ap (λ n. now.discarded ++ take n left) (sym no_more) ∙ partly.listed
+
+    -- one more
+    module _ (id : ℕ) (first : slice_get left 0 ≡ Some id) (lt : i < k) where
+      abbrev rest : ℕ
+      rest = k - (i + 1)
+
+      longer : k - i ≡ suc rest
+      longer = omega arith
+
+      listed_next : (now.discarded ++ id ∷ []) ++ take rest (drop 1 left) ≡ take k (eligible old.blocks old.order h)
+      listed_next =
+          append_assoc now.discarded (id ∷ []) (take rest (drop 1 left))
+          ∙ ap (λ (qs : List ℕ). now.discarded ++ take (suc rest) qs) (sym (by_first left id first))
+          ∙ ap (λ n. now.discarded ++ take n left) (sym longer)
+          ∙ partly.listed
+
+      -- there is room to list it
+      pub listed_fits : IsSound old → length now.discarded < length old.entries
+      listed_fits sound =
+          let a : length ((now.discarded ++ id ∷ []) ++ take rest (drop 1 left)) ≡ length (take k (eligible old.blocks old.order h)) = ap (length {A = ℕ}) listed_next in
+          let b = length-append (now.discarded ++ id ∷ []) (take rest (drop 1 left)) in
+          let c = length-append now.discarded (id ∷ []) in
+          let d = length-take k (eligible old.blocks old.order h) in
+          let e = filter_shorter (may_go old.blocks h) old.order in
+          let f = order_short old sound in
+          omega arith
+
+      pub partly_more : (after : State) → Steps now after (λ a b. b ≡ absent a id) → (ids : List ℕ) → ids ≡ after.discarded ++ id ∷ [] → ArePartly old k h (i + 1) (record { table = after.table; discarded = ids })
+      partly_more after steps ids pushed = record {
+        heaps = λ memory high.
+            let high_now : now.table.hi ≤ length memory = let same = partly.range.hi in omega arith in
+            let first_here = ap (λ (qs : List ℕ). slice_get qs 0) (sym (eligible_here now.table partly.range.sound memory high_now h)) ∙ first in
+            let more : k - i ≡ rest + 1 = omega arith in
+            partly.heaps memory high ∙ ap (λ n. discarded (heap_in now.table memory) n h) more
+            ∙ discarded_next (heap_in now.table memory) partly.range.sound.no_repeats h id first_here rest
+            ∙ ap (λ (heap : Heap). discarded heap rest h) (sym (steps.heaps memory high_now));
+        listed =
+            let memory : List ℕ = replicate now.table.hi 0 in
+            let long : length memory ≡ now.table.hi = length-replicate now.table.hi 0 in
+            let high_now : now.table.hi ≤ length memory = omega arith in
+            let high_after : after.table.hi ≤ length memory = let same = steps.range.hi in omega arith in
+            let first_here = ap (λ (qs : List ℕ). slice_get qs 0) (sym (eligible_here now.table partly.range.sound memory high_now h)) ∙ first in
+            let others : eligible after.table.blocks after.table.order h ≡ drop 1 left =
+            eligible_here after.table steps.range.sound memory high_after h
+            ∙ ap (λ (heap : Heap). eligible (blocks heap) heap.order h) (steps.heaps memory high_now)
+            ∙ eligible_rest (heap_in now.table memory) partly.range.sound.no_repeats h id first_here
+            ∙ ap (drop 1) (sym (eligible_here now.table partly.range.sound memory high_now h)) in
+            let same : after.discarded ≡ now.discarded = ap (λ (s : State). s.discarded) steps.rest in
+            ap (λ (qs : List ℕ). ids ++ take rest qs) others
+            ∙ ap (λ (qs : List ℕ). qs ++ take rest (drop 1 left)) (pushed ∙ ap (λ (qs : List ℕ). qs ++ id ∷ []) same)
+            ∙ listed_next;
+        range = record {
+          lo = steps.range.lo ∙ partly.range.lo;
+          hi = steps.range.hi ∙ partly.range.hi;
+          grain = steps.range.grain ∙ partly.range.grain;
+          ids = steps.range.ids ∙ partly.range.ids;
+          sound = steps.range.sound;
+        };
+      }
