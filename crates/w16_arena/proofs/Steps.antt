@@ -68,6 +68,10 @@ module _ {entries : List (Option Entry)} {layout : Layout} {uses : Uses} {marks 
     enough = let e = kept.enough in omega arith;
   }
 
+  -- with other marks
+  pub kept_marked : {others : List Bool} → length others ≡ length marks → IsKept entries layout uses others room
+  kept_marked same = record { sound = kept.sound; ids = kept.ids; ordered = kept.ordered; marked = same ∙ kept.marked; enough = kept.enough }
+
   module _ {discarded : List ℕ} {old : State} (shown : state_of entries layout uses.ids discarded ≡ old) where
     -- a step to a sound table over the same range
     pub steps_to : (entries' : List (Option Entry)) (layout' : Layout) (order : List ℕ) (step : Heap → Heap → Type 0)

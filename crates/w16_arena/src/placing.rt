@@ -7,6 +7,7 @@ ghost use Rattle.w16_model.specs.Gap.{room};
 ghost use Rattle.w16_model.specs.Edit as edit;
 ghost use Rattle.w16_model.specs.Table.{block_with, heap_in, IsSameOutside};
 ghost use Rattle.w16_model.specs.Request.{most_room};
+ghost use Rattle.w16_blocks.specs.Layout.{IsOrdered};
 ghost use Rattle.w16_arena.specs.State.{IsSameRange};
 ghost use Rattle.w16_arena.specs.Making.{most_in};
 ghost use Rattle.w16_arena.specs.Asked.{SlidesTogether, Stands};
@@ -83,7 +84,7 @@ impl Arena {
         ensures lenders { S.lenders space.new ≡ S.lenders space.old }
     {
         has_bytes(space);
-        let room = self.room_now();
+        let room = room_now(&self.blocks, &mut self.marks);
         if room == 0 {
             return Compacted {
                 room,
@@ -101,15 +102,6 @@ impl Arena {
         }
     }
 
-    /// How long a hole can be made without a discard.
-    fn room_now(&mut self) -> u32
-        ensures value { result ≡ room self.old.table.lo self.old.table.hi self.old.table.blocks }
-        ensures same { self.new ≡ self.old }
-    {
-        self.marks.fill(false);
-        room(&self.blocks, &self.marks)
-    }
-
     /// How long a hole could be made, with all discarded that may be. Nothing changes.
     pub fn room_all(&mut self) -> u32
         ensures value { (memory : List ℕ) → self.old.table.hi ≤ length memory → result ≡ most_room (heap_in self.old.table memory) }
@@ -118,6 +110,17 @@ impl Arena {
         mark_eligible(&self.blocks, &self.order, &mut self.marks);
         room(&self.blocks, &self.marks)
     }
+}
+
+/// How long a hole can be made without a discard. The marks are cleared.
+fn room_now(blocks: &Blocks, marks: &mut Vec<bool>) -> u32
+    requires { blocks.now.cap ≤ length marks.old.items }
+    ensures value { result ≡ room blocks.now.lo blocks.now.hi blocks.now.blocks }
+    ensures length { length marks.new.items ≡ length marks.old.items }
+    ensures ordered { IsOrdered blocks.now }
+{
+    marks.fill(false);
+    room(blocks, marks)
 }
 
 /// Marks the ids of the order of use that may be discarded, and no others.
