@@ -6,16 +6,15 @@ use Rattle.std.proofs.lemmas.List.Folds.{list_any-append}
 use Rattle.std.proofs.lemmas.Option.{slice_get_within, get_or_from_slice_get}
 use Rattle.w16_model.specs.declared.Block.{Block}
 use Rattle.w16_model.specs.Gap.{room}
-use Rattle.w16_model.specs.Prefix.{eligible, is_member, is_about, is_pinned_id, blocks_without, room_for}
+use Rattle.w16_model.specs.Prefix.{eligible, is_member, is_pinned_id, blocks_without, room_for}
 use Rattle.w16_model.specs.Request.{most_room}
 use Rattle.w16_model.specs.Heap.{blocks}
-use Rattle.w16_model.specs.Table.{heap_in}
 use Rattle.w16_model.proofs.Least.{take_past}
 use Rattle.w16_model.proofs.Prefixes.{eligible_by_members, room_by_members}
 use Rattle.w16_model.specs.declared.Entry.{Entry}
 use Rattle.w16_blocks.specs.Layout.{Layout, AreNamed}
 use Rattle.w16_compact.specs.Skip.{counted_of}
-use Rattle.w16_compact.proofs.Marks.{AreMarked, counted_of-marked}
+use Rattle.w16_compact.proofs.Marks.{counted_of-marked}
 use Rattle.w16_arena.specs.State.{heap_of}
 use Rattle.w16_arena.proofs.Parts.{AreParts}
 use Rattle.w16_arena.proofs.Listed.{listed_permutation}

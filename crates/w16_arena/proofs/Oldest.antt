@@ -1,5 +1,5 @@
 -- The oldest that a request may discard, by a search along the order of use, and the discards one by one.
-use Rattle.std.proofs.Common.{◌≡◌, ◌≢◌, ℕ, zero, suc, ◌+◌, ◌-◌, ◌<◌, ◌≤◌, inl, inr, Bool, true, false, cond, not, ◌&&◌, List, [], ◌∷◌, ◌++◌, append_assoc, length, replicate, take, drop, filter, get_or, AllPairs, Option, Some, None, is_some, refl, sym, ap, ◌∙◌, subst, arith, add-one, slice_get, eqb}
+use Rattle.std.proofs.Common.{◌≡◌, ◌≢◌, ℕ, zero, suc, ◌+◌, ◌-◌, ◌<◌, ◌≤◌, inl, inr, Bool, true, false, cond, not, List, [], ◌∷◌, ◌++◌, append_assoc, length, replicate, take, drop, filter, Option, Some, None, is_some, refl, sym, ap, ◌∙◌, arith, add-one, slice_get, eqb}
 use Rattle.std.specs.List.{list_any}
 use Rattle.std.proofs.lemmas.Bool.{false≢true, cond-true, cond-false, or_cases, eqb-true}
 use Rattle.std.proofs.lemmas.Bool.Decides.{Decides-eqb}
@@ -11,8 +11,8 @@ use Rattle.std.proofs.Math.ListN.{drop_of_length-le}
 use Rattle.std.proofs.Math.Seq.{drop-cons}
 use Rattle.w16_model.specs.declared.Block.{Block}
 use Rattle.w16_model.specs.declared.Entry.{Entry}
-use Rattle.w16_model.specs.Edit.{absent, without}
-use Rattle.w16_model.specs.Heap.{Heap, blocks, is_discardable}
+use Rattle.w16_model.specs.Edit.{absent}
+use Rattle.w16_model.specs.Heap.{Heap, blocks}
 use Rattle.w16_model.specs.Prefix.{eligible, is_member}
 use Rattle.w16_model.specs.Request.{discarded}
 use Rattle.w16_model.specs.Table.{Table, IsSound, block_with, entry_at, heap_in, is_listed}
@@ -22,7 +22,7 @@ use Rattle.w16_model.proofs.Gaps.{Member, member_filter}
 use Rattle.w16_model.proofs.Prefixes.{eligible_by_members}
 use Rattle.w16_blocks.specs.Layout.{Layout}
 use Rattle.w16_compact.proofs.Searched.{may_go}
-use Rattle.w16_arena.specs.State.{State, Steps, IsSameRange, table_of}
+use Rattle.w16_arena.specs.State.{State, Steps, IsSameRange}
 use Rattle.w16_arena.proofs.Listed.{listed_permutation}
 use Rattle.w16_arena.proofs.Lookups.{in_list}
 use Rattle.w16_arena.proofs.Parts.{AreParts}
