@@ -29,3 +29,4 @@ pub mod Granting
 pub mod Together
 pub mod Oldest
 pub mod Marked
+pub mod Answering

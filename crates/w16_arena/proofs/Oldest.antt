@@ -82,7 +82,7 @@ take_none : (k : ℕ) → take {A = ℕ} k [] ≡ []
 take_none zero = refl
 take_none (suc k) = refl
 
-filter_shorter : (p : ℕ → Bool) (ids : List ℕ) → length (filter p ids) ≤ length ids
+pub filter_shorter : (p : ℕ → Bool) (ids : List ℕ) → length (filter p ids) ≤ length ids
 filter_shorter p [] = omega arith
 filter_shorter p (q ∷ ids) = turn (p q) (filter_shorter p ids)
   where

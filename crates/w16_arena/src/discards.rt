@@ -3,7 +3,6 @@ ghost use Rattle.std.specs.Prelude.{◌≡◌, ◌<◌, ◌≤◌, ◌+◌, ◌+
 ghost use Rattle.w16_model.specs.Table.{heap_in};
 ghost use Rattle.w16_model.specs.Prefix.{eligible};
 ghost use Rattle.w16_model.specs.Request as request;
-ghost use Rattle.w16_blocks.specs.Layout.{IsOrdered};
 ghost use Rattle.w16_lru.specs.Uses.{AreUses};
 ghost use Rattle.w16_arena.specs.State.{Steps, IsSameRange};
 
@@ -37,10 +36,7 @@ fn first_eligible(blocks: &Blocks, order: &Order, h: Option<u32>) -> Option<u32>
         (eligible blocks.now.blocks order.now.ids h ≡ [])
         (λ id. slice_get (eligible blocks.now.blocks order.now.ids h) 0 ≡ Some id) }
     ensures known { IfSome result (λ id. id < order.now.cap) }
-    ensures ordered { IsOrdered blocks.now }
 {
-    // The caller learns that they are ordered, also where no member is looked up.
-    let _ = blocks.as_slice();
     for i in 0..order.len() {
         let id = order.nth(i)?;
         if h != Some(id) && !is_pinned_id(blocks, id) {

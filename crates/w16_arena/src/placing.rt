@@ -5,7 +5,7 @@ ghost use Rattle.w16_model.specs.Heap.{IsMultiple, is_discardable};
 ghost use Rattle.w16_model.specs.Prefix.{eligible, is_member};
 ghost use Rattle.w16_model.specs.Gap.{room};
 ghost use Rattle.w16_model.specs.Edit as edit;
-ghost use Rattle.w16_model.specs.Table.{block_with, heap_in, IsSameOutside};
+ghost use Rattle.w16_model.specs.Table.{block_with, heap_in, IsSameOutside, IsSound};
 ghost use Rattle.w16_model.specs.Request.{most_room};
 ghost use Rattle.w16_blocks.specs.Layout.{IsOrdered};
 ghost use Rattle.w16_arena.specs.State.{IsSameRange};
@@ -45,6 +45,7 @@ impl Arena {
         requires some { 0 < size }
         requires rounded { IsMultiple self.old.table.grain size }
         requires inside { self.old.table.hi ≤ length (S.bytes space.old) }
+        ensures sound { IsSound self.old.table }
         ensures stands { IfSome result (λ p. Stands (heap_in self.old.table (S.bytes space.old)) id size kind way p.at p.slid p.moved (heap_in self.new.table (S.bytes space.new))) }
         ensures enough { IfSome result (λ _. size ≤ most_in self.old.table way.compact) }
         ensures refused { IfNone result ((most_in self.old.table way.compact < size) × (self.new ≡ self.old) × (space.new ≡ space.old)) }

@@ -1,5 +1,5 @@
 //! Requests for room: allocation and compaction.
-ghost use Rattle.std.specs.Prelude.{◌≡◌, ◌≢◌, ◌<◌, ◌≤◌, ℕ, [], length, is_ok, IfOk, OnErr, if◌then◌else◌, Some, None};
+ghost use Rattle.std.specs.Prelude.{◌≡◌, ◌≢◌, ◌<◌, ◌≤◌, ℕ, [], length, is_ok, IfOk, OnErr, ◌&&◌, if◌then◌else◌, Some, None};
 ghost use Rattle.std.specs.FinMap as finmap;
 ghost use Rattle.w16_region.specs.Bytes.{counted};
 ghost use Rattle.w16_model.specs.Heap.{IsMultiple};
@@ -9,7 +9,7 @@ ghost use Rattle.w16_arena.specs.State.{IsSameRange};
 ghost use Rattle.w16_arena.specs.Asked.{HasDiscarded, IsStill, first_eligible};
 
 use crate::Arena;
-use crate::making::{NOTHING, Placed};
+use crate::making::{NOTHING, Placed, has_bytes};
 use crate::placing::Compacted;
 use w16_compact::least_prefix;
 use w16_model::{Kind, Way};
@@ -52,12 +52,18 @@ impl Arena {
             self.discarded.clear();
             return Ok(placed);
         }
-        if !way.compact || !way.discard {
+        if !may_discard(way) {
             return Err(NoRoom);
         }
-        let k = least_prefix(&self.blocks, &self.order, &mut self.marks, Some(id), size).ok_or(NoRoom)?;
+        has_bytes(space);
+        let Some(k) = least_prefix(&self.blocks, &self.order, &mut self.marks, Some(id), size) else {
+            return Err(NoRoom);
+        };
         self.discard_first(k, Some(id));
-        self.place(space, id, size, kind, way).ok_or(NoRoom)
+        let Some(placed) = self.place(space, id, size, kind, way) else {
+            unreachable!();
+        };
+        Ok(placed)
     }
 
     /// Makes room for `n` bytes, and answers the length of the longest hole that there is then: as few of the least recently used are
@@ -83,9 +89,17 @@ impl Arena {
                 moved: 0,
             };
         }
+        has_bytes(space);
         let k = least_prefix(&self.blocks, &self.order, &mut self.marks, None, n);
         let all = self.order.len();
         self.discard_first(k.unwrap_or(all), None);
         self.slide_together(space)
     }
+}
+
+/// Whether a request may discard others.
+fn may_discard(way: Way) -> bool
+    ensures { result ≡ (way.compact && way.discard) }
+{
+    way.compact && way.discard
 }

@@ -1,0 +1,272 @@
+-- A request, by what was found and made for it.
+use Rattle.std.specs.List.{AllByRecursion as Each}
+use Rattle.std.proofs.Common.{◌≡◌, ◌≢◌, ℕ, zero, suc, ◌+◌, ◌<◌, ◌≤◌, ◌⊎◌, ◌==◌, inl, inr, Bool, true, false, not, ◌&&◌, ◌||◌, if◌then◌else◌, IsTrue, IfSome, IsSomeAnd, MatchBool, MatchOption, All, List, [], ◌∷◌, length, take, fold, slice_range, Option, Some, None, option_map, is_some, unwrap_or, refl, sym, ap, ◌∙◌, subst, arith, ne_eqb, eq-eqb, take_all}
+use Rattle.std.specs.FinMap as finmap
+use Rattle.std.proofs.lemmas.Bool.{false≢true, and_parts, cases_eq, cases_Bool}
+use Rattle.w16_model.specs.declared.Block.{Block}
+use Rattle.w16_model.specs.declared.Entry.{Entry}
+use Rattle.w16_model.specs.declared.Kind.{Kind}
+use Rattle.w16_model.specs.declared.Kind.TheVariants.{Discardable}
+use Rattle.w16_model.specs.declared.Span.{Span}
+use Rattle.w16_model.specs.Law.{KeepsOthers}
+use Rattle.w16_model.specs.declared.Way.{Way}
+use Rattle.w16_model.specs.Gap.{is_pinned, room, longest_hole}
+use Rattle.w16_model.specs.Prefix.{is_about, is_member, is_pinned_id, eligible, blocks_without, room_for, needed}
+use Rattle.w16_model.specs.Heap.{Heap, Object, IsHeap, IsMultiple, blocks, object_at, bytes_at}
+use Rattle.w16_model.specs.Edit.{absent, with_newest, with_ordered}
+use Rattle.w16_model.specs.Request.{Allocates, Compacts, MakesRoom, IsNew, Settles, prefix_of, stays_for, discarded, moved_bytes, compaction_prefix, eligible_count, most_room}
+use Rattle.w16_model.specs.Table.{Table, IsSound, block_with, heap_in}
+use Rattle.w16_model.proofs.Gaps.{Member, Each-from}
+use Rattle.w16_model.proofs.Tables.{place_is, table_longest}
+use Rattle.w16_model.proofs.Sound.{sound_heap}
+use Rattle.w16_model.proofs.Kept.{taken_here, taken_other}
+use Rattle.w16_model.proofs.Discards.{room-discarded}
+use Rattle.w16_model.proofs.Others.{others_law}
+use Rattle.w16_model.proofs.Prefixes.{prefix_hole, prefix_no_hole, prefix_now, prefix_kept, prefix_needed, needed_by_members, needed_enough, eligible_by_members}
+use Rattle.w16_model.proofs.Answered.{allocates_after, settles_after, settles_before, moved_after, discarded_all}
+use Rattle.w16_blocks.specs.Layout.{Layout}
+use Rattle.w16_arena.specs.State.{table_of, heap_of}
+use Rattle.w16_arena.specs.Asked.{Stands, SlidesTogether, HasDiscarded, IsStill, first_eligible}
+use Rattle.w16_arena.specs.Making.{most_in}
+use Rattle.w16_arena.proofs.Parts.{AreParts}
+use Rattle.w16_arena.proofs.Lookups.{bytes_here, no_block}
+use Rattle.w16_arena.proofs.Listed.{is_listed, listed_permutation, listed_room, listed_with}
+use Rattle.w16_arena.proofs.Oldest.{filter_shorter}
+
+-- where a discarded heap has a place, the heap before has it
+places_before : (ids : List ℕ) (heap : Heap) (q : ℕ) (at : ℕ) → finmap.get (fold absent heap ids).places q ≡ Some at → finmap.get heap.places q ≡ Some at
+places_before [] heap q at e = e
+places_before (id ∷ ids) heap q at e = elim (cases_eq q id) [
+  | inl same ↦ let none : ◌≡◌ {A = Option ℕ} None (Some at) = sym (taken_here heap.places id q same) ∙ places_before ids (absent heap id) q at e in cc
+  | inr other ↦ sym (taken_other heap.places id q other) ∙ places_before ids (absent heap id) q at e
+]
+
+-- and where the one before has none, it has none
+places_none : (ids : List ℕ) (heap : Heap) (q : ℕ) → finmap.get heap.places q ≡ None → finmap.get (fold absent heap ids).places q ≡ None
+places_none ids heap q none = from (finmap.get (fold absent heap ids).places q) refl
+  where
+    from : (p : Option ℕ) → finmap.get (fold absent heap ids).places q ≡ p → p ≡ None
+    from None e = refl
+    from (Some at) e = let some : ◌≡◌ {A = Option ℕ} None (Some at) = sym none ∙ places_before ids heap q at e in cc
+
+-- what stands as it stood after the discards stands as before them
+pub still_before : (heap new : Heap) (k : ℕ) (h : Option ℕ) (slid : Span) (q : ℕ) → IsStill slid (discarded heap k h) new q → IsStill slid heap new q
+still_before heap new k h slid q = from (finmap.get new.places q)
+  where
+    from : (p : Option ℕ) → IfSome p (λ at. ((at < slid.from) ⊎ (slid.to ≤ at)) → finmap.get (discarded heap k h).places q ≡ Some at) → IfSome p (λ at. ((at < slid.from) ⊎ (slid.to ≤ at)) → finmap.get heap.places q ≡ Some at)
+    from None f = tt
+    from (Some at) f = λ out. places_before (take k (eligible (blocks heap) heap.order h)) heap q at (f out)
+
+-- no more may be discarded than are in use
+pub eligible_few : (xs : List Block) (order : List ℕ) (about : Option ℕ) → length (eligible xs order about) ≤ length order
+eligible_few xs order about = filter_shorter (λ id. not (is_pinned_id xs id) && not (is_about about id)) order
+
+-- each stands where it stands
+pub still_same : (heap : Heap) (slid : Span) (q : ℕ) → IsStill slid heap heap q
+still_same heap slid q = from (finmap.get heap.places q)
+  where
+    from : (p : Option ℕ) → IfSome p (λ at. ((at < slid.from) ⊎ (slid.to ≤ at)) → p ≡ Some at)
+    from None = tt
+    from (Some at) = λ _. refl
+
+-- an object without bytes has no place
+no_place : (heap : Heap) → IsHeap heap → (q : ℕ) (o : Object) → object_at heap q ≡ Some (record o { bytes = None }) → finmap.get heap.places q ≡ None
+no_place heap is q o there = from (finmap.get heap.places q) refl
+  where
+    from : (p : Option ℕ) → finmap.get heap.places q ≡ p → p ≡ None
+    from None e = refl
+    from (Some at) e =
+        let some : finmap.contains_key heap.places q ≡ true = ap is_some e in
+        let none : is_some (bytes_at heap q) ≡ false = ap (λ (p : Option Object). is_some (elim p as (λ _. Option (List ℕ)) [ Some o ↦ o.bytes | None ↦ None ])) there in
+        absurd (false≢true (sym none ∙ sym (is.at_bytes q) ∙ some))
+
+-- so a discarded one has none
+gone : (old new : Heap) → IsHeap new → (q : ℕ) → IsSomeAnd (object_at old q) (λ o. (o.kind ≡ Discardable) × (o.locks ≡ 0) × (is_some o.bytes ≡ true) × (object_at new q ≡ Some (record o { bytes = None }))) → finmap.get new.places q ≡ None
+gone old new is q = from (object_at old q)
+  where
+    from : (p : Option Object) → IsSomeAnd p (λ o. (o.kind ≡ Discardable) × (o.locks ≡ 0) × (is_some o.bytes ≡ true) × (object_at new q ≡ Some (record o { bytes = None }))) → finmap.get new.places q ≡ None
+    from None f = absurd f
+    from (Some o) f = no_place new is q o f.3
+
+-- the room where an object without a block is left out
+none_out : (id : ℕ) (xs : List Block) → Each (λ x. x.id ≢ id) xs → blocks_without xs [] (Some id) ≡ xs
+none_out id [] all = refl
+none_out id (x ∷ xs) all = rw (ne_eqb x.id id all.0) (ap (λ ys. x ∷ ys) (none_out id xs all.1))
+
+none_out_all : (xs : List Block) → blocks_without xs [] None ≡ xs
+none_out_all [] = refl
+none_out_all (x ∷ xs) = ap (λ ys. x ∷ ys) (none_out_all xs)
+
+abbrev layout_in : Table → Layout
+layout_in t = record { cap = length t.entries; lo = t.lo; hi = t.hi; grain = t.grain; blocks = t.blocks }
+
+-- the room that a table has is its heap's
+room_of : (t : Table) → IsSound t → (memory : List ℕ) → t.hi ≤ length memory → room_for t.lo t.hi (blocks (heap_in t memory)) t.order 0 None ≡ room t.lo t.hi t.blocks
+room_of t sound memory inside =
+    let parts : AreParts t.entries (layout_in t) t.order memory = record { sound = sound; ids = refl; high = inside } in
+    ap (room t.lo t.hi) (none_out_all (blocks (heap_in t memory))) ∙ listed_room parts
+
+-- also where an object without a block is left out
+room_about : (t : Table) → IsSound t → (memory : List ℕ) → t.hi ≤ length memory → (id : ℕ) → block_with t.blocks id ≡ None → room_for t.lo t.hi (blocks (heap_in t memory)) t.order 0 (Some id) ≡ room t.lo t.hi t.blocks
+room_about t sound memory inside id none =
+    let parts : AreParts t.entries (layout_in t) t.order memory = record { sound = sound; ids = refl; high = inside } in
+    ap (room t.lo t.hi) (none_out id (blocks (heap_in t memory)) (Each-from (λ x. x.id ≢ id) (blocks (heap_in t memory)) (λ x m e.
+    let some : ◌≡◌ {A = Option Block} None (Some x) = sym none ∙ ap (block_with t.blocks) (sym e) ∙ listed_with parts x (is_listed parts x m) in cc))) ∙ listed_room parts
+
+module _ (t : Table) (sound : IsSound t) (memory : List ℕ) (inside : t.hi ≤ length memory) where
+  parts : AreParts t.entries (layout_in t) t.order memory
+  parts = record { sound = sound; ids = refl; high = inside }
+
+  abbrev h : Heap
+  h = heap_in t memory
+
+  longest : longest_hole t.lo t.hi (blocks h) ≡ longest_hole t.lo t.hi t.blocks
+  longest = table_longest t sound.table memory inside
+
+  pub eligible_same : (about : Option ℕ) → eligible t.blocks t.order about ≡ eligible (blocks h) t.order about
+  eligible_same about = eligible_by_members t.blocks (blocks h) (listed_permutation parts) t.order about
+
+  needed_same : (n : ℕ) (about : Option ℕ) → needed t.lo t.hi t.blocks t.order n about ≡ needed t.lo t.hi (blocks h) t.order n about
+  needed_same n about = needed_by_members t.lo t.hi t.blocks (blocks h) (listed_permutation parts) t.order n about
+
+  module _ (id n : ℕ) (kind : Kind) (way : Way) (none : block_with t.blocks id ≡ None) (some : 0 < n) (rounded : IsMultiple t.grain n) where
+    without_bytes : bytes_at h id ≡ None
+    without_bytes = bytes_here parts id ∙ ap (option_map (λ (x : Block). slice_range memory x.at (x.at + x.size))) none
+
+    -- With as much room as that nothing is discarded.
+    prefix_0 : n ≤ most_in t way.compact → prefix_of h n (Some id) way ≡ Some 0
+    prefix_0 enough = elim (cases_Bool way.compact) [
+      | inl on ↦ prefix_now t.lo t.hi (blocks h) t.order n (Some id) way on (let e = room_about t sound memory inside id none in let k : n ≤ room t.lo t.hi t.blocks = subst (λ b. n ≤ (if b then room t.lo t.hi t.blocks else longest_hole t.lo t.hi t.blocks)) on enough in omega arith)
+      | inr off ↦ prefix_hole t.lo t.hi (blocks h) t.order n (Some id) way off (let e = longest in let k : n ≤ longest_hole t.lo t.hi t.blocks = subst (λ b. n ≤ (if b then room t.lo t.hi t.blocks else longest_hole t.lo t.hi t.blocks)) off enough in omega arith)
+    ]
+
+    pub allocates_now : {at moved : ℕ} {slid : Span} {new : Heap} → n ≤ most_in t way.compact → Stands h id n kind way at slid moved new → Allocates h id n kind 0 way true new
+    allocates_now {at} {moved} {slid} {new} enough s = allocates_after h id n kind way 0 some rounded without_bytes (prefix_0 enough) s.object s.is_new new s.settled
+
+    pub discards_none : n ≤ most_in t way.compact → {ids : List ℕ} → ids ≡ [] → HasDiscarded h id n way ids
+    discards_none enough e = record { prefix = 0; needed = prefix_0 enough; listed = e }
+
+    -- Refused.
+    refused_by : prefix_of h n (Some id) way ≡ None → Allocates h id n kind 0 way false h
+    refused_by e = record {
+      some = some;
+      rounded = rounded;
+      without_bytes = without_bytes;
+      request = subst (λ p. MatchOption p ((false ≡ false) × (h ≡ h)) (λ k. (false ≡ true) × ((o : Object) × IsNew way.zero n kind 0 o × Settles h (stays_for id way) (with_ordered (discarded h k (Some id)) id o (with_newest id o)) h))) (sym e) (refl, refl);
+    }
+
+    pub refused_kept : most_in t way.compact < n → (way.compact && way.discard) ≡ false → Allocates h id n kind 0 way false h
+    refused_kept short kept = refused_by (elim (cases_Bool way.compact) [
+      | inl on ↦ prefix_kept t.lo t.hi (blocks h) t.order n (Some id) way on (subst (λ b. (b && way.discard) ≡ false) on kept)
+          (let e = room_about t sound memory inside id none in let k : room t.lo t.hi t.blocks < n = subst (λ b. (if b then room t.lo t.hi t.blocks else longest_hole t.lo t.hi t.blocks) < n) on short in omega arith)
+      | inr off ↦ prefix_no_hole t.lo t.hi (blocks h) t.order n (Some id) way off
+          (let e = longest in let k : longest_hole t.lo t.hi t.blocks < n = subst (λ b. (if b then room t.lo t.hi t.blocks else longest_hole t.lo t.hi t.blocks) < n) off short in omega arith)
+    ])
+
+    module _ (may : (way.compact && way.discard) ≡ true) where
+      compact : way.compact ≡ true
+      compact = (and_parts way.compact way.discard may).0
+
+      discard : way.discard ≡ true
+      discard = (and_parts way.compact way.discard may).1
+
+      pub prefix_is : (k : Option ℕ) → k ≡ needed t.lo t.hi t.blocks t.order n (Some id) → prefix_of h n (Some id) way ≡ k
+      prefix_is k e = prefix_needed t.lo t.hi (blocks h) t.order n (Some id) way compact discard ∙ sym (needed_same n (Some id)) ∙ sym e
+
+      pub refused_needed : None ≡ needed t.lo t.hi t.blocks t.order n (Some id) → Allocates h id n kind 0 way false h
+      refused_needed e = refused_by (prefix_is None e)
+
+      -- The first k were discarded.
+      module _ (k : ℕ) (k_is : Some k ≡ needed t.lo t.hi t.blocks t.order n (Some id)) (mid : Table) (mid_sound : IsSound mid) (mid_inside : mid.hi ≤ length memory) (mid_is : heap_in mid memory ≡ discarded h k (Some id)) where
+        pub absent_still : block_with mid.blocks id ≡ None
+        absent_still = from (block_with mid.blocks id) refl
+          where
+            here : finmap.get h.places id ≡ None
+            here = place_is t sound.table memory inside id ∙ ap (option_map (λ (x : Block). x.at)) none
+
+            from : (b : Option Block) → block_with mid.blocks id ≡ b → b ≡ None
+            from None e = refl
+            from (Some x) e =
+                let out : ◌≡◌ {A = Option ℕ} None (Some x.at) = sym (places_none (take k (eligible (blocks h) h.order (Some id))) h id here) ∙ ap (λ (g : Heap). finmap.get g.places id) (sym mid_is) ∙ place_is mid mid_sound.table memory mid_inside id ∙ ap (option_map (λ (y : Block). y.at)) e in
+                cc
+
+        module _ {at moved : ℕ} {slid : Span} {new : Heap} (s : Stands (heap_in mid memory) id n kind way at slid moved new) where
+          stands : Stands (discarded h k (Some id)) id n kind way at slid moved new
+          stands = subst (λ g. Stands g id n kind way at slid moved new) mid_is s
+
+          pub allocates_then : Allocates h id n kind 0 way true new
+          allocates_then = allocates_after h id n kind way k some rounded without_bytes (prefix_is (Some k) k_is) stands.object stands.is_new new stands.settled
+
+          pub still_then : (q : ℕ) → q ≢ id → IsStill slid h new q
+          still_then q d = still_before h new k (Some id) slid q (stands.still q d)
+
+          pub moved_then : All (λ b. b < 256) memory → moved ≡ moved_bytes h new
+          moved_then bytes =
+              let keeps : KeepsOthers h (Some id) k new = (others_law h new (sound_heap t sound memory inside bytes) k).0 id way stands.object (with_newest id stands.object)
+              (settles_after h id n way k (prefix_is (Some k) k_is) (with_ordered (discarded h k (Some id)) id stands.object (with_newest id stands.object)) new stands.settled) in
+              stands.bytes ∙ sym (moved_after h k (Some id) new (λ q m. gone h new stands.settled.sound q (keeps.discarded q m)))
+
+        -- so there is as much room as that
+        pub room_then : n ≤ room mid.lo mid.hi mid.blocks
+        room_then =
+            let now : room_for mid.lo mid.hi (blocks (heap_in mid memory)) mid.order 0 (Some id) ≡ room mid.lo mid.hi mid.blocks = room_about mid mid_sound memory mid_inside id absent_still in
+            let later : room_for mid.lo mid.hi (blocks (heap_in mid memory)) mid.order 0 (Some id) ≡ room_for t.lo t.hi (blocks h) t.order k (Some id) =
+            (λ i. room_for (mid_is i).lo (mid_is i).hi (blocks (mid_is i)) (mid_is i).order 0 (Some id)) ∙ room-discarded h k (Some id) in
+            let enough : n ≤ room_for t.lo t.hi (blocks h) t.order k (Some id) = needed_enough t.lo t.hi (blocks h) t.order n (Some id) k (sym (needed_same n (Some id)) ∙ sym k_is) in
+            omega (arith, now, later, enough)
+
+        pub discards_then : {ids : List ℕ} → ids ≡ take k (eligible t.blocks t.order (Some id)) → HasDiscarded h id n way ids
+        discards_then e = record { prefix = k; needed = prefix_is (Some k) k_is; listed = e ∙ ap (take k) (eligible_same (Some id)) }
+
+  -- Compaction. For no bytes it only answers.
+  pub compacts_none : (most : ℕ) → most ≡ most_room h → (n : ℕ) → n ≡ 0 → Compacts h n most h
+  compacts_none most is n none = subst (λ b. MatchBool b ((most ≡ most_room h) × (h ≡ h)) (MakesRoom h n most h)) (sym (eq-eqb n 0 none)) (is, refl)
+
+  -- how many are discarded: as many as are needed, or as many as there may be
+  module _ (n : ℕ) (some : 0 < n) (k : Option ℕ) (k_is : k ≡ needed t.lo t.hi t.blocks t.order n None) where
+    count_same : length (eligible t.blocks t.order None) ≡ eligible_count h
+    count_same = ap (length {A = ℕ}) (eligible_same None)
+
+    prefix_same : (j : ℕ) → unwrap_or k j ≡ unwrap_or (needed t.lo t.hi (blocks h) t.order n None) j
+    prefix_same j = ap (λ p. unwrap_or p j) (k_is ∙ needed_same n None)
+
+    module _ (all : ℕ) (few : length (eligible t.blocks t.order None) ≤ all) where
+      discarded_prefix : discarded h (unwrap_or k all) None ≡ discarded h (compaction_prefix h n) None
+      discarded_prefix = ap (λ j. discarded h j None) (prefix_same all) ∙ from (needed t.lo t.hi (blocks h) t.order n None)
+        where
+          from : (p : Option ℕ) → discarded h (unwrap_or p all) None ≡ discarded h (unwrap_or p (eligible_count h)) None
+          from None = discarded_all h None all (let e = count_same in omega arith)
+          from (Some j) = refl
+
+      pub listed_prefix : take (unwrap_or k all) (eligible t.blocks t.order None) ≡ first_eligible h (compaction_prefix h n) None
+      listed_prefix = (λ i. take (prefix_same all i) (eligible_same None i)) ∙ from (needed t.lo t.hi (blocks h) t.order n None)
+        where
+          from : (p : Option ℕ) → take (unwrap_or p all) (eligible (blocks h) h.order None) ≡ take (unwrap_or p (eligible_count h)) (eligible (blocks h) h.order None)
+          from None = take_all all (eligible (blocks h) h.order None) (let e = count_same in omega arith) ∙ sym (take_all (eligible_count h) (eligible (blocks h) h.order None) (omega arith))
+          from (Some j) = refl
+
+      module _ (mid : Table) (mid_sound : IsSound mid) (mid_inside : mid.hi ≤ length memory) (mid_is : heap_in mid memory ≡ discarded h (unwrap_or k all) None)
+          {most moved : ℕ} {slid : Span} {new : Heap} (most_is : most ≡ room mid.lo mid.hi mid.blocks) (s : SlidesTogether (heap_in mid memory) most slid moved new) where
+        mid_heap : heap_in mid memory ≡ discarded h (compaction_prefix h n) None
+        mid_heap = mid_is ∙ discarded_prefix
+
+        slides : SlidesTogether (discarded h (compaction_prefix h n) None) most slid moved new
+        slides = subst (λ g. SlidesTogether g most slid moved new) mid_heap s
+
+        promised : room mid.lo mid.hi mid.blocks ≡ room_for t.lo t.hi (blocks h) t.order (compaction_prefix h n) None
+        promised = sym (room_of mid mid_sound memory mid_inside) ∙ (λ i. room_for (mid_heap i).lo (mid_heap i).hi (blocks (mid_heap i)) (mid_heap i).order 0 None) ∙ room-discarded h (compaction_prefix h n) None
+
+        pub compacts_then : Compacts h n most new
+        compacts_then = subst (λ b. MatchBool b ((most ≡ most_room h) × (new ≡ h)) (MakesRoom h n most new)) (sym (ne_eqb n 0 (omega arith))) (record {
+          settled = settles_before h (compaction_prefix h n) None (discarded h (compaction_prefix h n) None) new slides.settled;
+          promised = most_is ∙ promised;
+          longest = slides.longest;
+        })
+
+        pub compact_still : (q : ℕ) → IsStill slid h new q
+        compact_still q = still_before h new (compaction_prefix h n) None slid q (slides.still q)
+
+        pub compact_moved : All (λ b. b < 256) memory → moved ≡ moved_bytes h new
+        compact_moved bytes =
+            let keeps : KeepsOthers h None (compaction_prefix h n) new = (others_law h new (sound_heap t sound memory inside bytes) (compaction_prefix h n)).1 (settles_before h (compaction_prefix h n) None (discarded h (compaction_prefix h n) None) new slides.settled) in
+            slides.bytes ∙ sym (moved_after h (compaction_prefix h n) None new (λ q m. gone h new slides.settled.sound q (keeps.discarded q m)))
