@@ -21,5 +21,6 @@ pub mod Kept
 pub mod Worlds
 pub mod Empty
 pub mod Walks
+pub mod Listed
 pub mod Folds
 pub mod Trials
