@@ -49,7 +49,10 @@ fn build(name: Name, arguments: Arguments<'_>) -> Call
         (Name::GetSelectorBase, Arguments::Word(selector)) => Call::GetSelectorBase { selector },
         (Name::GetSelectorLimit, Arguments::Word(selector)) => Call::GetSelectorLimit { selector },
         (Name::GlobalCompact, Arguments::Dword(size)) => Call::GlobalCompact { size },
+        (Name::GlobalLRUNewest, Arguments::Word(handle)) => Call::GlobalLRUNewest { handle },
+        (Name::GlobalLRUOldest, Arguments::Word(handle)) => Call::GlobalLRUOldest { handle },
         (Name::Moved, Arguments::Nothing) => Call::Moved,
+        (Name::Walk, Arguments::Nothing) => Call::Walk,
         (Name::Read, Arguments::DwordCount(pointer, count)) => Call::Read { pointer, count },
         (Name::Write, Arguments::DwordBytes(pointer, bytes)) => Call::Write {
             pointer,
