@@ -1,5 +1,5 @@
 -- Lemmas on walks that are printed, item by item.
-use Rattle.std.proofs.Common.{◌≡◌, ℕ, ◌+◌, ◌<◌, ◌≤◌, inl, inr, List, [], ◌∷◌, ◌++◌, Option, Some, None, Result, Ok, Err, OnErr, length, codes, length-append, refl, sym, ap, ◌∙◌, append-nil, append_assoc, arith, subst}
+use Rattle.std.proofs.Common.{◌≡◌, ℕ, ◌+◌, ◌<◌, ◌≤◌, inl, inr, List, [], ◌∷◌, ◌++◌, Option, Some, None, length, codes, length-append, refl, sym, ap, ◌∙◌, append-nil, append_assoc, arith, subst}
 use Rattle.std.specs.Int.{w32, to_be_bytes}
 use Rattle.std.specs.List.{flat_map, AllByRecursion as Each}
 use Rattle.std.specs.Io.KnownBytes.{Appends}
@@ -14,11 +14,6 @@ use Rattle.w16_model.proofs.Gaps.{EachPair, Member, Each-at, Each-map, Each-from
 use Rattle.w16_model.proofs.Walks.{member_contained}
 use Rattle.w16_script.specs.Written.{AppendsFront}
 use Rattle.w16_script.specs.Printed.{owner_text, item_text, reply_text, walk_text}
-
--- what holds anyway holds on an error
-pub on_err : {T E P : Type 0} (r : Result T E) → P → OnErr r P
-on_err (Ok x) p = tt
-on_err (Err e) p = p
 
 -- Fronts of what is printed.
 

@@ -81,9 +81,7 @@ pub fn split_register(text: &[u8]) -> Option<(u8, &[u8])>
     let Some((b'r', name)) = text.split_first() else {
         return None;
     };
-    let Some((first, rest)) = split_digit(name) else {
-        return None;
-    };
+    let (first, rest) = split_digit(name)?;
     let Some((second, behind)) = split_digit(rest) else {
         return Some((first, rest));
     };
@@ -101,9 +99,7 @@ pub fn register(word: &[u8]) -> Option<u8>
     ensures found { IfSome result (λ r. IsRegister word.now r) }
     ensures none { IfNone result ((r : ℕ) → IsRegister word.now r → ⊥) }
 {
-    let Some((register, rest)) = split_register(word) else {
-        return None;
-    };
+    let (register, rest) = split_register(word)?;
     if rest.is_empty() {
         Some(register)
     } else {

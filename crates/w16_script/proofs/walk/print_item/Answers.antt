@@ -1,5 +1,6 @@
+use Rattle.w16_script.proofs.WriteLemmas.{on_err}
 use Rattle.w16_script.specs.Printed.{item_text}
-use Rattle.w16_script.proofs.WalkLemmas.{on_err, AppendsFront-none, item_filled}
+use Rattle.w16_script.proofs.WalkLemmas.{AppendsFront-none, item_filled}
 use Rattle.w16_script.proofs.walk.print_item.Goals as goal
 
 pub returns-in_err-line-clause-err : goal.returns-in_err-line-clause-err

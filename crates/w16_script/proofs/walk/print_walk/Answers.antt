@@ -1,5 +1,6 @@
+use Rattle.w16_script.proofs.WriteLemmas.{on_err}
 use Rattle.std.proofs.lemmas.Result.{on_ok_weaker, on_err_weaker}
-use Rattle.w16_script.proofs.WalkLemmas.{on_err, item_printed, item_fails, walk_printed, end_fails}
+use Rattle.w16_script.proofs.WalkLemmas.{item_printed, item_fails, walk_printed, end_fails}
 use Rattle.w16_script.proofs.walk.print_walk.Goals as goal
 
 pub returns-in_err-print_item-clause-err : goal.returns-in_err-print_item-clause-err
