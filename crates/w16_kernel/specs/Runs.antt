@@ -4,9 +4,9 @@ use Rattle.w16_model.specs.World.{World}
 use Rattle.w16_model.specs.Machine as machine
 use Rattle.w16_model.specs.Machine.{Command, Step}
 use Rattle.w16_kernel.specs.declared.call.Call.{Call}
-use Rattle.w16_kernel.specs.declared.call.Call.TheVariants.{GlobalAlloc, GlobalFree, GlobalLock, GlobalUnlock, GlobalSize, GlobalFlags, GlobalHandle, GetSelectorBase, GetSelectorLimit, GlobalCompact, Moved, Read, Write, Fill}
+use Rattle.w16_kernel.specs.declared.call.Call.TheVariants.{GlobalAlloc, GlobalFree, GlobalLock, GlobalUnlock, GlobalSize, GlobalFlags, GlobalHandle, GetSelectorBase, GetSelectorLimit, GlobalCompact, GlobalLRUNewest, GlobalLRUOldest, Moved, Walk, Read, Write, Fill}
 use Rattle.w16_kernel.specs.declared.call.Reply.{Reply}
-use Rattle.w16_kernel.specs.declared.call.Reply.TheVariants.{Word, Dword, Bytes, Done, Fault}
+use Rattle.w16_kernel.specs.declared.call.Reply.TheVariants as replies
 
 -- the command of a call
 abbrev pub command_of : Call → Command
@@ -20,18 +20,22 @@ command_of (GlobalHandle selector) = machine.Command.GlobalHandle selector
 command_of (GetSelectorBase selector) = machine.Command.GetSelectorBase selector
 command_of (GetSelectorLimit selector) = machine.Command.GetSelectorLimit selector
 command_of (GlobalCompact size) = machine.Command.GlobalCompact size
+command_of (GlobalLRUNewest handle) = machine.Command.GlobalLRUNewest handle
+command_of (GlobalLRUOldest handle) = machine.Command.GlobalLRUOldest handle
 command_of Moved = machine.Command.Moved
+command_of Walk = machine.Command.Walk
 command_of (Read pointer count) = machine.Command.Read pointer count
 command_of (Write pointer bytes) = machine.Command.Write pointer bytes.items
 command_of (Fill pointer count byte) = machine.Command.Fill pointer count byte
 
 -- the machine's reply
 abbrev pub reply_of : Reply → machine.Reply
-reply_of (Word n) = machine.Reply.Word n
-reply_of (Dword n) = machine.Reply.Dword n
-reply_of (Bytes bytes) = machine.Reply.Bytes bytes.items
-reply_of Done = machine.Reply.Done
-reply_of (Fault fault) = machine.Reply.Fault fault
+reply_of (replies.Word n) = machine.Reply.Word n
+reply_of (replies.Dword n) = machine.Reply.Dword n
+reply_of (replies.Bytes bytes) = machine.Reply.Bytes bytes.items
+reply_of replies.Done = machine.Reply.Done
+reply_of (replies.Fault fault) = machine.Reply.Fault fault
+reply_of replies.Walk = machine.Reply.Walked
 
 -- a call's numbers are those that a command may have
 abbrev pub IsCall : Call → Type 0

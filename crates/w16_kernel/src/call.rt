@@ -18,7 +18,10 @@ pub enum Call {
     GetSelectorBase { selector: u16 },
     GetSelectorLimit { selector: u16 },
     GlobalCompact { size: u32 },
+    GlobalLRUNewest { handle: u16 },
+    GlobalLRUOldest { handle: u16 },
     Moved,
+    Walk,
     /// The pointer has a selector in its high word. At most 1,024 bytes are read.
     Read { pointer: u32, count: u16 },
     Write { pointer: u32, bytes: Chunk },
@@ -34,4 +37,6 @@ pub enum Reply {
     Bytes(Chunk),
     Done,
     Fault(FarFault),
+    /// The parts of the heap are asked by `Kernel::walk`.
+    Walk,
 }

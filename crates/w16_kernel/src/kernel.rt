@@ -1,14 +1,15 @@
 //! The machine's state, and its steps.
-ghost use Rattle.std.specs.Prelude.{◌≡◌, ◌≤◌, List, length, map, replicate, All, IfOk, IsOk, OnErr};
-ghost use Rattle.w16_model.specs.World.{World, empty_world, selector_in, offset_in};
+ghost use Rattle.std.specs.Prelude.{◌≡◌, ◌+◌, ◌^◌, ◌<◌, ◌≤◌, List, length, map, replicate, All, IfSome, IfOk, IsOk, OnErr};
+ghost use Rattle.w16_model.specs.World.{World, empty_world, handle_of, selector_in, offset_in};
 ghost use Rattle.w16_model.specs.Machine.{Step, Gives, far_read, far_write};
+ghost use Rattle.w16_model.specs.Walk.{IsFirstItem, IsWorldWalk};
 ghost use Rattle.w16_kernel.specs.Runs.{command_of, reply_of, IsCall, Event, Run};
 
 use crate::call::{Call, Chunk, Reply};
 use std::alloc::{AllocError, Global};
 use std::marker::Model;
 use w16_global::Global16;
-use w16_model::MOST_SLOTS;
+use w16_model::{Item, MOST_SLOTS};
 
 /// The machine of handles. Its value is the world that a script sees.
 #[derive(Drop)]
@@ -18,7 +19,7 @@ pub struct Kernel {
 }
 
 impl Model for Kernel {
-    ghost use Rattle.w16_model.specs.World.{World};
+    ghost use Rattle.w16_model.specs.World.{World, IsWorld};
     ghost use Rattle.w16_model.specs.Code.{world_code};
 
     ghost Value = { World };
@@ -26,6 +27,8 @@ impl Model for Kernel {
     ghost coded = { world_code };
 
     ghost view = { λ k. k.global };
+
+    ghost invariant = { λ k. IsWorld k.global };
 }
 
 impl Kernel {
@@ -104,7 +107,10 @@ impl Kernel {
                 *selector,
             ))),
             Call::GlobalCompact { size } => Ok(Reply::Dword(global.global_compact(*size))),
+            Call::GlobalLRUNewest { handle } => Ok(Reply::Word(global.global_lru_newest(*handle))),
+            Call::GlobalLRUOldest { handle } => Ok(Reply::Word(global.global_lru_oldest(*handle))),
             Call::Moved => Ok(Reply::Dword(global.moved() as u32)),
+            Call::Walk => Ok(Reply::Walk),
             Call::Read { pointer, count } => Ok(self.read(*pointer, *count)),
             Call::Write { pointer, bytes } => Ok(self.write(*pointer, bytes)),
             Call::Fill {
@@ -113,6 +119,18 @@ impl Kernel {
                 byte,
             } => Ok(self.fill(*pointer, *count, *byte)),
         }
+    }
+
+    /// The first part of the heap that begins at an address or above it: an object's bytes, the object named by its handle, or a hole.
+    pub fn walk(&self, from: u32) -> Option<Item>
+        ensures found { IsFirstItem handle_of self.now.heap from result }
+        ensures inside { IfSome result (λ item. (0 < item.size) × (item.at + item.size < 2 ^ 32)) }
+        ensures words { IfSome result (λ item. IfSome item.owner (λ owner. owner.name < 2 ^ 16)) }
+
+        // All parts together are the walk of the world.
+        ensures whole { (items : List Item) × IsWorldWalk self.now items }
+    {
+        self.global.walk(from)
     }
 
     /// Calls one after another, and their replies: a run of the machine. Where there is no memory for the replies, nothing was done.

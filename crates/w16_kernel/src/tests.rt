@@ -3,7 +3,7 @@ ghost use Rattle.w16_kernel.specs.Runs.{IsCall};
 use crate::{Call, Chunk, Kernel, Reply};
 use std::alloc::{AllocError, Global};
 use std::test::Fail;
-use w16_model::FarFault;
+use w16_model::{FarFault, Item, Kind, Owner};
 
 /// A machine over 4,096 bytes and 16 selectors.
 fn small(alloc: Global) -> Result<Kernel, AllocError> {
@@ -176,5 +176,55 @@ fn reads_what_was_written(rt: HostRuntime) -> Result<(), Fail> {
     );
     assert!(rt; has(&mut kernel, 0x0107_001C, [0, 0, 0, 7]));
     assert!(rt; has(&mut kernel, 0x010F_0000, [0, 0, 0, 0]));
+    Ok(())
+}
+
+/// What a walk says of a discardable object with 32 bytes at an address.
+fn discardable_at(at: u32, handle: u16) -> Option<Item> {
+    Some(Item {
+        at,
+        size: 32,
+        owner: Some(Owner {
+            name: handle as u32,
+            kind: Kind::Discardable,
+            locks: 0,
+        }),
+    })
+}
+
+#[test]
+fn orders_and_walks(rt: HostRuntime) -> Result<(), Fail> {
+    let mut kernel = Kernel::new(rt.alloc(), 96, 16)?;
+    assert_eq!(rt; allocated(&mut kernel, 0x102, 32), Some(0x106));
+    assert_eq!(rt; allocated(&mut kernel, 0x102, 32), Some(0x10E));
+    assert_eq!(rt; allocated(&mut kernel, 2, 32), Some(0x116));
+    assert_eq!(rt;
+        word(&mut kernel, Call::GlobalLRUNewest { handle: 0x106 }),
+        Some(0x106)
+    );
+    assert_eq!(rt;
+        word(&mut kernel, Call::GlobalLRUOldest { handle: 0x106 }),
+        Some(0x106)
+    );
+    assert_eq!(rt;
+        word(&mut kernel, Call::GlobalLRUNewest { handle: 0x116 }),
+        Some(0)
+    );
+    assert_eq!(rt;
+        word(&mut kernel, Call::GlobalFree { handle: 0x116 }),
+        Some(0)
+    );
+    assert!(rt; matches!(answer(&mut kernel, &Call::Walk), Some(Reply::Walk)));
+    assert_eq!(rt; kernel.walk(0), discardable_at(0, 0x106));
+    assert_eq!(rt; kernel.walk(1), discardable_at(32, 0x10E));
+    assert_eq!(rt;
+        kernel.walk(33),
+        Some(Item {
+            at: 64,
+            size: 32,
+            owner: None
+        })
+    );
+    assert_eq!(rt; kernel.walk(65), None);
     Ok(())
 }

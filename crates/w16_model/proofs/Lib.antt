@@ -21,6 +21,7 @@ pub mod Kept
 pub mod Worlds
 pub mod Empty
 pub mod Walks
+pub mod Listed
 pub mod Folds
 pub mod Trials
 pub mod Prefixes

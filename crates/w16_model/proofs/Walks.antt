@@ -5,7 +5,6 @@ use Rattle.w16_model.specs.declared.Kind.{Kind}
 use Rattle.w16_model.specs.declared.Item.{Item}
 use Rattle.w16_model.specs.Heap.{Heap}
 use Rattle.w16_model.specs.Walk.{IsItem, IsWalk}
-use Rattle.w16_model.specs.Law.{WalkLaw}
 use Rattle.w16_model.proofs.Gaps.{EachPair, Member, Each-at, Each-from_All, EachPair-from_AllPairs}
 
 -- what a list contains is a member of it
@@ -40,8 +39,9 @@ module _ {X : Type 0} (R : X → X → Type 0) (one_way : (x y : X) → R x y �
 carried : (name : Kind → ℕ → ℕ) (heap : Heap) (items others : List Item) → IsWalk name heap items → IsWalk name heap others → (z : Item) → Member z items → Member z others
 carried name heap items others p q z m = member_contained others z (q.each z (Each-at (IsItem name heap) items (Each-from_All (IsItem name heap) items p.only) z m))
 
-pub walk_law : WalkLaw
-walk_law name heap items others p q =
+-- two walks of one heap are the same list
+pub one_walk : (name : Kind → ℕ → ℕ) (heap : Heap) (items others : List Item) → IsWalk name heap items → IsWalk name heap others → items ≡ others
+one_walk name heap items others p q =
     let Rises : Item → Item → Type 0 = λ s t. s.at < t.at in
     same_rising Rises (λ x y a b. omega (arith, a, b)) items others (EachPair-from_AllPairs Rises items p.rising) (EachPair-from_AllPairs Rises others q.rising)
     (carried name heap items others p q) (carried name heap others items q p)

@@ -346,7 +346,7 @@ module _ (old : World) (is : IsWorld old) where
   oldest_world handle = order_world oldest (λ slot e. oldest_heap old.heap is.heap slot (ordered old.heap is.heap slot e)) handle
 
   -- Read
-  read_world : (selector offset n : ℕ) → IsWorld (far_read old selector offset n).1
+  pub read_world : (selector offset n : ℕ) → IsWorld (far_read old selector offset n).1
   read_world selector offset n = turn (far_fault old selector offset n)
     where
       turn : (f : Option FarFault) → Leaves (elim f [
@@ -396,7 +396,7 @@ module _ (old : World) (is : IsWorld old) where
       turn (Some slot) e = of_object slot (offset + n) (object_at old.heap slot) refl e
 
   -- Write
-  write_world : (selector offset : ℕ) (slice : List ℕ) → All (λ b. b < 256) slice → IsWorld (far_write old selector offset slice).1
+  pub write_world : (selector offset : ℕ) (slice : List ℕ) → All (λ b. b < 256) slice → IsWorld (far_write old selector offset slice).1
   write_world selector offset slice new_bytes = turn (far_fault old selector offset (length slice)) refl
     where
       turn : (f : Option FarFault) → far_fault old selector offset (length slice) ≡ f → Leaves (elim f [

@@ -118,9 +118,14 @@ OthersLaw = (old new : Heap) → IsHeap old → (k : ℕ)
 
 -- Walks.
 
--- two walks of one heap are the same list, however it names its objects
+-- a heap has a walk, and no other, however it names its objects
+pub record HasOneWalk (name : Kind → ℕ → ℕ) (heap : Heap) : Type 0 where
+  pub items : List Item
+  pub is_walk : IsWalk name heap items
+  pub only : (others : List Item) → IsWalk name heap others → others ≡ items
+
 abbrev pub WalkLaw : Type 0
-WalkLaw = (name : Kind → ℕ → ℕ) (heap : Heap) (items others : List Item) → IsWalk name heap items → IsWalk name heap others → items ≡ others
+WalkLaw = (name : Kind → ℕ → ℕ) (heap : Heap) → IsHeap heap → HasOneWalk name heap
 
 -- Tables and memories.
 

@@ -61,8 +61,8 @@ pub fn others_are_kept()
     ensures { OthersLaw }
 {}
 
-/// A walk of a heap is the only one.
-pub fn walk_is_the_only_one()
+/// Each heap has a walk, and no other.
+pub fn each_heap_has_one_walk()
     ensures { WalkLaw }
 {}
 

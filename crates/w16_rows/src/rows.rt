@@ -145,6 +145,43 @@ pub fn of_compaction() -> [Row; 4] {
     ]
 }
 
+/// A row over 96 bytes, each line of which has a reply.
+const fn tight(
+    name: &'static str,
+    script: &'static [u8],
+    output: &'static [u8],
+    lines: u32,
+) -> Row {
+    Row {
+        memory: 96,
+        ..small(name, script, output, lines, lines)
+    }
+}
+
+/// Rows on discards, and the order in which they come.
+pub fn of_order() -> [Row; 3] {
+    [
+        tight(
+            "the one not used for longest is discarded",
+            b"GlobalAlloc 0x142 32\nGlobalAlloc 0x142 32\nGlobalAlloc 2 32\nRead 0x01070000 1\nGlobalAlloc 2 32\nGlobalFlags 0x10e\nGlobalLock 0x10e\nGlobalFlags 0x106\nRead 0x010f0000 1\nWalk\n",
+            b"0106\n010e\n0116\nbytes 00\n011e\n4100\n00000000\n0100\nfault notpresent\n00000000 00000020 0106 discardable 0\n00000020 00000020 011e moveable 0\n00000040 00000020 0116 moveable 0\nend\n",
+            10,
+        ),
+        tight(
+            "nothing is discarded in vain, unless by GlobalCompact",
+            b"GlobalAlloc 0x102 32\nGlobalAlloc 0x102 32\nGlobalAlloc 0x102 32\nGlobalAlloc 2 128\nGlobalFlags 0x106\nGlobalCompact 0\nGlobalFlags 0x106\nGlobalCompact 128\nGlobalFlags 0x106\n",
+            b"0106\n010e\n0116\n0000\n0100\n00000060\n0100\n00000060\n4100\n",
+            9,
+        ),
+        tight(
+            "flags that forbid discards, and an order that is set",
+            b"GlobalAlloc 0x102 32\nGlobalAlloc 2 32\nGlobalAlloc 0x102 32\nGlobalAlloc 0x22 32\nGlobalAlloc 0x12 32\nGlobalLRUNewest 0x10e\nGlobalLRUOldest 0x116\nGlobalAlloc 2 32\nGlobalFlags 0x116\nGlobalFlags 0x106\n",
+            b"0106\n010e\n0116\n0000\n0000\n0000\n0116\n011e\n4100\n0100\n",
+            10,
+        ),
+    ]
+}
+
 /// Rows on what objects and selectors are asked.
 pub fn of_questions() -> [Row; 5] {
     [

@@ -3,7 +3,7 @@ ghost use Rattle.w16_kernel.specs.Runs.{IsCall};
 
 use crate::hosts::{Broken, Endless, Short};
 use crate::rows::{
-    LIFE, LIFE_OUTPUT, Row, of_compaction, of_lines, of_memory, of_objects, of_questions,
+    LIFE, LIFE_OUTPUT, Row, of_compaction, of_lines, of_memory, of_objects, of_order, of_questions,
     of_registers,
 };
 use arrayvec::ArrayVec;
@@ -78,6 +78,14 @@ fn objects_are_answered_for(rt: HostRuntime) -> Result<(), Fail> {
 #[test]
 fn compaction_is_answered_for(rt: HostRuntime) -> Result<(), Fail> {
     for row in of_compaction() {
+        expect_answered(&rt, &row)?;
+    }
+    Ok(())
+}
+
+#[test]
+fn the_order_is_answered_for(rt: HostRuntime) -> Result<(), Fail> {
+    for row in of_order() {
         expect_answered(&rt, &row)?;
     }
     Ok(())

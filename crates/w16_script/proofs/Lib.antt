@@ -12,3 +12,4 @@ pub mod LimitLemmas
 pub mod FeedLemmas
 pub mod WholeLemmas
 pub mod PlainLemmas
+pub mod WalkLemmas

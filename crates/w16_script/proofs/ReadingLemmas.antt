@@ -57,7 +57,10 @@ command_with name.GlobalHandle (Arguments.Word selector) = Some (Command.GlobalH
 command_with name.GetSelectorBase (Arguments.Word selector) = Some (Command.GetSelectorBase selector)
 command_with name.GetSelectorLimit (Arguments.Word selector) = Some (Command.GetSelectorLimit selector)
 command_with name.GlobalCompact (Arguments.Dword size) = Some (Command.GlobalCompact size)
+command_with name.GlobalLRUNewest (Arguments.Word handle) = Some (Command.GlobalLRUNewest handle)
+command_with name.GlobalLRUOldest (Arguments.Word handle) = Some (Command.GlobalLRUOldest handle)
 command_with name.Moved Arguments.Nothing = Some Command.Moved
+command_with name.Walk Arguments.Nothing = Some Command.Walk
 command_with name.Read (Arguments.DwordCount pointer count) = Some (Command.Read pointer count)
 command_with name.Write (Arguments.DwordBytes pointer bytes) = Some (Command.Write pointer bytes)
 command_with name.Fill (Arguments.DwordCountByte pointer count byte) = Some (Command.Fill pointer count byte)
@@ -76,7 +79,10 @@ command_with-own (Command.GetSelectorBase selector) = refl
 command_with-own (Command.GetSelectorLimit selector) = refl
 command_with-own (Command.Fill pointer count byte) = refl
 command_with-own (Command.GlobalCompact size) = refl
+command_with-own (Command.GlobalLRUNewest handle) = refl
+command_with-own (Command.GlobalLRUOldest handle) = refl
 command_with-own Command.Moved = refl
+command_with-own Command.Walk = refl
 command_with-own (Command.Read pointer count) = refl
 command_with-own (Command.Write pointer bytes) = refl
 
@@ -99,7 +105,10 @@ found text =
     else if bytes_eq text (codes "GetSelectorBase") then Some name.GetSelectorBase
     else if bytes_eq text (codes "GetSelectorLimit") then Some name.GetSelectorLimit
     else if bytes_eq text (codes "GlobalCompact") then Some name.GlobalCompact
+    else if bytes_eq text (codes "GlobalLRUNewest") then Some name.GlobalLRUNewest
+    else if bytes_eq text (codes "GlobalLRUOldest") then Some name.GlobalLRUOldest
     else if bytes_eq text (codes "Moved") then Some name.Moved
+    else if bytes_eq text (codes "Walk") then Some name.Walk
     else if bytes_eq text (codes "Read") then Some name.Read
     else if bytes_eq text (codes "Write") then Some name.Write
     else if bytes_eq text (codes "Fill") then Some name.Fill
@@ -118,7 +127,10 @@ found-own name.GetSelectorBase = refl
 found-own name.GetSelectorLimit = refl
 found-own name.Fill = refl
 found-own name.GlobalCompact = refl
+found-own name.GlobalLRUNewest = refl
+found-own name.GlobalLRUOldest = refl
 found-own name.Moved = refl
+found-own name.Walk = refl
 found-own name.Read = refl
 found-own name.Write = refl
 
@@ -146,7 +158,10 @@ not_register name.GetSelectorBase r e = other_start 71 (text_of name.GetSelector
 not_register name.GetSelectorLimit r e = other_start 71 (text_of name.GetSelectorLimit) r (lit< tt) refl e
 not_register name.Fill r e = other_start 70 (text_of name.Fill) r (lit< tt) refl e
 not_register name.GlobalCompact r e = other_start 71 (text_of name.GlobalCompact) r (lit< tt) refl e
+not_register name.GlobalLRUNewest r e = other_start 71 (text_of name.GlobalLRUNewest) r (lit< tt) refl e
+not_register name.GlobalLRUOldest r e = other_start 71 (text_of name.GlobalLRUOldest) r (lit< tt) refl e
 not_register name.Moved r e = other_start 77 (text_of name.Moved) r (lit< tt) refl e
+not_register name.Walk r e = other_start 87 (text_of name.Walk) r (lit< tt) refl e
 not_register name.Read r e = other_start 82 (text_of name.Read) r (lit< tt) refl e
 not_register name.Write r e = other_start 87 (text_of name.Write) r (lit< tt) refl e
 

@@ -1,9 +1,14 @@
 -- Lemmas on writes.
-use Rattle.std.proofs.Common.{◌≡◌, ℕ, ◌+◌, ◌<◌, List, Option, length, length-drop, take, drop, sym, subst, take-append-drop, arith}
+use Rattle.std.proofs.Common.{◌≡◌, ℕ, ◌+◌, ◌<◌, List, Option, Result, Ok, Err, OnErr, length, length-drop, take, drop, sym, subst, take-append-drop, arith}
 use Rattle.std.specs.Io.KnownBytes.{Appends}
 use Rattle.std.proofs.KnownBytes.{Appends-trans}
 use Rattle.std.proofs.Math.Seq.{take-add}
 use Rattle.w16_script.specs.Written.{AppendsFront}
+
+-- what holds anyway holds on an error
+pub on_err : {T E P : Type 0} (r : Result T E) → P → OnErr r P
+on_err (Ok x) p = tt
+on_err (Err e) p = p
 
 -- a further front of what is left
 pub Appends-take : (a b c : Option (List ℕ)) (xs ys : List ℕ) (n m : ℕ) → Appends a b (take n xs) → ys ≡ drop n xs → Appends b c (take m ys) → Appends a c (take (n + m) xs)

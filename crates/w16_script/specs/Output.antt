@@ -1,18 +1,27 @@
 -- What lines print: the replies of some run of the machine.
 use Rattle.std.specs.Prelude.{◌≡◌, ℕ, Bool, not, List, [], ◌∷◌, ◌++◌, Option}
 use Rattle.std.specs.Io.KnownBytes.{Appends}
+use Rattle.w16_model.specs.declared.Item.{Item}
+use Rattle.w16_model.specs.World.{World}
+use Rattle.w16_model.specs.Machine as machine
+use Rattle.w16_model.specs.Walk.{IsWorldWalk}
 use Rattle.w16_kernel.specs.Runs.{Event, Run}
 use Rattle.w16_script.specs.Registers.{stored_all}
 use Rattle.w16_script.specs.State.{State}
 use Rattle.w16_script.specs.Words.{words_of}
 use Rattle.w16_script.specs.Grammar.{Said, Reads, is_silent, target_of}
-use Rattle.w16_script.specs.Printed.{reply_text, error_text}
+use Rattle.w16_script.specs.Printed.{reply_text, walk_text, error_text}
+
+-- what is printed for a reply, in the world that its command left: for `Walked` the walk of that world
+abbrev pub Shows : World → machine.Reply → List ℕ → Type 0
+Shows world machine.Reply.Walked output = (items : List Item) × IsWorldWalk world items × (output ≡ walk_text items)
+Shows world reply output = output ≡ reply_text reply
 
 -- what a line that says this prints, where its command, if it is one, is the only event
 abbrev pub PrintsLine : Said → List Event → List ℕ → Type 0
 PrintsLine Said.Silent [] output = output ≡ []
 PrintsLine Said.Bad [] output = output ≡ error_text
-PrintsLine (Said.Says target command) (event ∷ []) output = (event.command ≡ command) × (output ≡ reply_text event.reply)
+PrintsLine (Said.Says target command) (event ∷ []) output = (event.command ≡ command) × Shows event.after event.reply output
 PrintsLine said events output = ⊥
 
 -- What lines print, where the events are their commands in order. The registers are old before the lines and new

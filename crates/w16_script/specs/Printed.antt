@@ -1,9 +1,15 @@
 -- How replies are printed.
-use Rattle.std.specs.Prelude.{ℕ, List, [], ◌∷◌, ◌++◌, codes}
+use Rattle.std.specs.Prelude.{ℕ, List, [], ◌∷◌, ◌++◌, codes, Option, Some, None}
 use Rattle.std.specs.Int.{w16, w32, to_be_bytes}
+use Rattle.std.specs.Fmt.{decimal}
+use Rattle.std.specs.List.{flat_map}
 use Rattle.hex.specs.Hex.{encode_lower}
 use Rattle.w16_model.specs.declared.FarFault.{FarFault}
 use Rattle.w16_model.specs.declared.FarFault.TheVariants.{BadSelector, ReadOnly, NotPresent, Limit}
+use Rattle.w16_model.specs.declared.Kind.{Kind}
+use Rattle.w16_model.specs.declared.Kind.TheVariants.{Fixed, Moveable, Discardable}
+use Rattle.w16_model.specs.declared.Item.{Item}
+use Rattle.w16_model.specs.declared.Owner.{Owner}
 use Rattle.w16_model.specs.Machine as machine
 
 -- a fault's name
@@ -18,13 +24,14 @@ abbrev pub digits_behind : List ℕ → List ℕ
 digits_behind [] = []
 digits_behind (byte ∷ bytes) = 32 ∷ encode_lower (byte ∷ bytes)
 
--- a reply without the end of its line: a word in four digits, a double word in eight
+-- a reply without the end of its line: a word in four digits, a double word in eight; `end` behind the lines of a walk
 abbrev pub body_of : machine.Reply → List ℕ
 body_of (machine.Reply.Word n) = encode_lower (to_be_bytes w16 n)
 body_of (machine.Reply.Dword n) = encode_lower (to_be_bytes w32 n)
 body_of (machine.Reply.Bytes bytes) = codes "bytes" ++ digits_behind bytes
 body_of machine.Reply.Done = codes "ok"
 body_of (machine.Reply.Fault fault) = codes "fault " ++ fault_text fault
+body_of machine.Reply.Walked = codes "end"
 
 -- what is printed for a reply
 abbrev pub reply_text : machine.Reply → List ℕ
@@ -33,3 +40,23 @@ reply_text reply = body_of reply ++ 10 ∷ []
 -- what is printed for a bad line
 abbrev pub error_text : List ℕ
 error_text = codes "error syntax" ++ 10 ∷ []
+
+-- Walks.
+
+abbrev pub kind_text : Kind → List ℕ
+kind_text Fixed = codes "fixed"
+kind_text Moveable = codes "moveable"
+kind_text Discardable = codes "discardable"
+
+-- an object by its handle in four digits, its kind, and its lock count in decimal; or a hole
+abbrev pub owner_text : Option Owner → List ℕ
+owner_text (Some owner) = encode_lower (to_be_bytes w16 owner.name) ++ codes " " ++ kind_text owner.kind ++ codes " " ++ decimal owner.locks
+owner_text None = codes "free"
+
+-- what is printed for an item: its address and its size in eight digits each, and what stands there
+abbrev pub item_text : Item → List ℕ
+item_text item = encode_lower (to_be_bytes w32 item.at) ++ codes " " ++ encode_lower (to_be_bytes w32 item.size) ++ codes " " ++ owner_text item.owner ++ 10 ∷ []
+
+-- and for a whole walk
+abbrev pub walk_text : List Item → List ℕ
+walk_text items = flat_map item_text items ++ reply_text machine.Reply.Walked

@@ -54,9 +54,7 @@ fn number_below(word: &[u8], limit: u64, registers: &Registers) -> Option<u32>
     ensures found { IfSome result (λ n. IsNumberBelow registers.now word.now limit n) }
     ensures none { IfNone result ((n : ℕ) → IsNumberBelow registers.now word.now limit n → ⊥) }
 {
-    let Some(number) = number(word, registers) else {
-        return None;
-    };
+    let number = number(word, registers)?;
     if (number as u64) < limit {
         Some(number)
     } else {
@@ -70,13 +68,9 @@ fn first_number<'a>(text: &'a [u8], limit: u64, registers: &Registers) -> Option
     ensures found { IfSome result (λ first. (word : List ℕ) × (words_of text.now ≡ word ∷ words_of first.1.now) × IsNumberBelow registers.now word limit first.0) }
     ensures none { IfNone result ((word : List ℕ) (words : List (List ℕ)) (n : ℕ) → words_of text.now ≡ word ∷ words → IsNumberBelow registers.now word limit n → ⊥) }
 {
-    let Some((word, behind)) = split_word(text) else {
-        return None;
-    };
-    match number_below(word, limit, registers) {
-        Some(number) => Some((number, behind)),
-        None => None,
-    }
+    let (word, behind) = split_word(text)?;
+    let number = number_below(word, limit, registers)?;
+    Some((number, behind))
 }
 
 /// The only word, as a number below the limit.
@@ -85,9 +79,7 @@ fn only_number(text: &[u8], limit: u64, registers: &Registers) -> Option<u32>
     ensures found { IfSome result (λ n. (word : List ℕ) × (words_of text.now ≡ word ∷ []) × IsNumberBelow registers.now word limit n) }
     ensures none { IfNone result ((word : List ℕ) (n : ℕ) → words_of text.now ≡ word ∷ [] → IsNumberBelow registers.now word limit n → ⊥) }
 {
-    let Some(word) = only_word(text) else {
-        return None;
-    };
+    let word = only_word(text)?;
     number_below(word, limit, registers)
 }
 
@@ -97,9 +89,7 @@ fn only_bytes<'a>(text: &[u8], room: &'a mut [u8; 1024]) -> Option<&'a [u8]>
     ensures found { IfSome result (λ bytes. (word : List ℕ) × (words_of text.now ≡ word ∷ []) × IsBytes word bytes.now) }
     ensures none { IfNone result ((word : List ℕ) (bytes : List ℕ) → words_of text.now ≡ word ∷ [] → IsBytes word bytes → ⊥) }
 {
-    let Some(word) = only_word(text) else {
-        return None;
-    };
+    let word = only_word(text)?;
     bytes(word, room)
 }
 
@@ -122,9 +112,7 @@ fn dword(text: &[u8], registers: &Registers) -> Option<Arguments<'static>>
     ensures found { IfSome result (λ a. IsArguments registers.now (words_of text.now) Shape.Dword (values_of a)) }
     ensures none { IfNone result ((a : Values) → IsArguments registers.now (words_of text.now) Shape.Dword a → ⊥) }
 {
-    let Some(dword) = only_number(text, 1 << 32, registers) else {
-        return None;
-    };
+    let dword = only_number(text, 1 << 32, registers)?;
     Some(Arguments::Dword(dword))
 }
 
@@ -134,9 +122,7 @@ fn word(text: &[u8], registers: &Registers) -> Option<Arguments<'static>>
     ensures found { IfSome result (λ a. IsArguments registers.now (words_of text.now) Shape.Word (values_of a)) }
     ensures none { IfNone result ((a : Values) → IsArguments registers.now (words_of text.now) Shape.Word a → ⊥) }
 {
-    let Some(word) = only_number(text, 1 << 16, registers) else {
-        return None;
-    };
+    let word = only_number(text, 1 << 16, registers)?;
     Some(Arguments::Word(word as u16))
 }
 
@@ -146,12 +132,8 @@ fn word_dword(text: &[u8], registers: &Registers) -> Option<Arguments<'static>>
     ensures found { IfSome result (λ a. IsArguments registers.now (words_of text.now) Shape.WordDword (values_of a)) }
     ensures none { IfNone result ((a : Values) → IsArguments registers.now (words_of text.now) Shape.WordDword a → ⊥) }
 {
-    let Some((word, behind)) = first_number(text, 1 << 16, registers) else {
-        return None;
-    };
-    let Some(dword) = only_number(behind, 1 << 32, registers) else {
-        return None;
-    };
+    let (word, behind) = first_number(text, 1 << 16, registers)?;
+    let dword = only_number(behind, 1 << 32, registers)?;
     Some(Arguments::WordDword(word as u16, dword))
 }
 
@@ -161,12 +143,8 @@ fn dword_count(text: &[u8], registers: &Registers) -> Option<Arguments<'static>>
     ensures found { IfSome result (λ a. IsArguments registers.now (words_of text.now) Shape.DwordCount (values_of a)) }
     ensures none { IfNone result ((a : Values) → IsArguments registers.now (words_of text.now) Shape.DwordCount a → ⊥) }
 {
-    let Some((dword, behind)) = first_number(text, 1 << 32, registers) else {
-        return None;
-    };
-    let Some(count) = only_number(behind, 1025, registers) else {
-        return None;
-    };
+    let (dword, behind) = first_number(text, 1 << 32, registers)?;
+    let count = only_number(behind, 1025, registers)?;
     Some(Arguments::DwordCount(dword, count as u16))
 }
 
@@ -180,12 +158,8 @@ fn dword_bytes<'a>(
     ensures found { IfSome result (λ a. IsArguments registers.now (words_of text.now) Shape.DwordBytes (values_of a)) }
     ensures none { IfNone result ((a : Values) → IsArguments registers.now (words_of text.now) Shape.DwordBytes a → ⊥) }
 {
-    let Some((dword, behind)) = first_number(text, 1 << 32, registers) else {
-        return None;
-    };
-    let Some(bytes) = only_bytes(behind, room) else {
-        return None;
-    };
+    let (dword, behind) = first_number(text, 1 << 32, registers)?;
+    let bytes = only_bytes(behind, room)?;
     Some(Arguments::DwordBytes(dword, bytes))
 }
 
@@ -195,15 +169,9 @@ fn dword_count_byte(text: &[u8], registers: &Registers) -> Option<Arguments<'sta
     ensures found { IfSome result (λ a. IsArguments registers.now (words_of text.now) Shape.DwordCountByte (values_of a)) }
     ensures none { IfNone result ((a : Values) → IsArguments registers.now (words_of text.now) Shape.DwordCountByte a → ⊥) }
 {
-    let Some((dword, behind)) = first_number(text, 1 << 32, registers) else {
-        return None;
-    };
-    let Some((count, last)) = first_number(behind, 65_537, registers) else {
-        return None;
-    };
-    let Some(byte) = only_number(last, 256, registers) else {
-        return None;
-    };
+    let (dword, behind) = first_number(text, 1 << 32, registers)?;
+    let (count, last) = first_number(behind, 65_537, registers)?;
+    let byte = only_number(last, 256, registers)?;
     Some(Arguments::DwordCountByte(dword, count, byte as u8))
 }
 

@@ -105,22 +105,14 @@ fn end_line<W: Write>(
     ensures room { OnOk result (room_of (progress_of state.new) < room_of (progress_of state.old)) }
     ensures err { IfErr result (λ fault. FailsAt (W.contents writer.old) (state_of state.old kernel.old) (strip_last 13 state.old.line.items) fault (W.contents writer.new) (state_of state.new kernel.new)) }
 {
-    match run_line(
-        writer,
-        kernel,
-        &mut state.registers,
-        without_cr(state.line.as_slice()),
-    ) {
-        Ok(replied) => {
-            state.line.clear();
-            state.lines += 1;
-            if replied {
-                state.replies += 1;
-            }
-            Ok(())
-        }
-        Err(fault) => Err(fault),
+    let line = without_cr(state.line.as_slice());
+    let replied = run_line(writer, kernel, &mut state.registers, line)?;
+    state.line.clear();
+    state.lines += 1;
+    if replied {
+        state.replies += 1;
     }
+    Ok(())
 }
 
 /// Takes the bytes of a line and the LF that ends it, and runs it.
@@ -137,9 +129,7 @@ fn take_line<W: Write>(
     ensures room { OnOk result (room_of (progress_of state.new) + length (ended line.now) ≤ room_of (progress_of state.old)) }
     ensures err { IfErr result (λ fault. Stops (W.contents writer.old) (progress_of state.old) (state_of state.old kernel.old) (ended line.now) fault (W.contents writer.new) (state_of state.new kernel.new)) }
 {
-    if let Err(fault) = state.hold(line) {
-        return Err(fault);
-    }
+    state.hold(line)?;
     if state.lines == MOST_LINES {
         return Err(RunFault::TooLong);
     }
@@ -161,9 +151,7 @@ pub fn feed<W: Write>(
 {
     let mut rest = piece;
     'lines: while let Some((line, behind)) = split_line(rest) {
-        if let Err(fault) = take_line(state, writer, kernel, line) {
-            return Err(fault);
-        }
+        take_line(state, writer, kernel, line)?;
         rest = behind;
     }
     state.hold(rest)

@@ -49,7 +49,10 @@ fn build(name: Name, arguments: Arguments<'_>) -> Call
         (Name::GetSelectorBase, Arguments::Word(selector)) => Call::GetSelectorBase { selector },
         (Name::GetSelectorLimit, Arguments::Word(selector)) => Call::GetSelectorLimit { selector },
         (Name::GlobalCompact, Arguments::Dword(size)) => Call::GlobalCompact { size },
+        (Name::GlobalLRUNewest, Arguments::Word(handle)) => Call::GlobalLRUNewest { handle },
+        (Name::GlobalLRUOldest, Arguments::Word(handle)) => Call::GlobalLRUOldest { handle },
         (Name::Moved, Arguments::Nothing) => Call::Moved,
+        (Name::Walk, Arguments::Nothing) => Call::Walk,
         (Name::Read, Arguments::DwordCount(pointer, count)) => Call::Read { pointer, count },
         (Name::Write, Arguments::DwordBytes(pointer, bytes)) => Call::Write {
             pointer,
@@ -88,9 +91,7 @@ fn split_target<'a>(word: &[u8], text: &'a [u8]) -> Option<(u8, &'a [u8])>
     ensures small { IfSome result (λ split. split.0 < 100) }
     ensures none { IfNone result ((r : ℕ) (rest : List (List ℕ)) → GoesTo (word.now ∷ words_of text.now) (Some r) rest → ⊥) }
 {
-    let Some(register) = register(word) else {
-        return None;
-    };
+    let register = register(word)?;
     match split_word(text) {
         Some((b"=", behind)) => Some((register, behind)),
         _ => None,
@@ -104,17 +105,11 @@ fn head<'a>(word: &[u8], text: &'a [u8]) -> Option<(Option<u8>, Name, &'a [u8])>
     ensures none { IfNone result ((target : Option ℕ) (name : Name) (rest : List (List ℕ)) → GoesTo (word.now ∷ words_of text.now) target (text_of name ∷ rest) → ⊥) }
 {
     let Some((register, command)) = split_target(word, text) else {
-        let Some(name) = Name::find(word) else {
-            return None;
-        };
+        let name = Name::find(word)?;
         return Some((None, name, text));
     };
-    let Some((word, behind)) = split_word(command) else {
-        return None;
-    };
-    let Some(name) = Name::find(word) else {
-        return None;
-    };
+    let (word, behind) = split_word(command)?;
+    let name = Name::find(word)?;
     Some((Some(register), name, behind))
 }
 

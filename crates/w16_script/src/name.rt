@@ -16,7 +16,10 @@ pub enum Name {
     GetSelectorBase,
     GetSelectorLimit,
     GlobalCompact,
+    GlobalLRUNewest,
+    GlobalLRUOldest,
     Moved,
+    Walk,
     Read,
     Write,
     Fill,
@@ -30,36 +33,25 @@ impl Name {
         ensures found { IfSome result (λ name. word.now ≡ text_of name) }
         ensures none { IfNone result ((name : _) → word.now ≡ text_of name → ⊥) }
     {
-        if word == b"GlobalAlloc".as_slice() {
-            Some(Name::GlobalAlloc)
-        } else if word == b"GlobalFree".as_slice() {
-            Some(Name::GlobalFree)
-        } else if word == b"GlobalLock".as_slice() {
-            Some(Name::GlobalLock)
-        } else if word == b"GlobalUnlock".as_slice() {
-            Some(Name::GlobalUnlock)
-        } else if word == b"GlobalSize".as_slice() {
-            Some(Name::GlobalSize)
-        } else if word == b"GlobalFlags".as_slice() {
-            Some(Name::GlobalFlags)
-        } else if word == b"GlobalHandle".as_slice() {
-            Some(Name::GlobalHandle)
-        } else if word == b"GetSelectorBase".as_slice() {
-            Some(Name::GetSelectorBase)
-        } else if word == b"GetSelectorLimit".as_slice() {
-            Some(Name::GetSelectorLimit)
-        } else if word == b"GlobalCompact".as_slice() {
-            Some(Name::GlobalCompact)
-        } else if word == b"Moved".as_slice() {
-            Some(Name::Moved)
-        } else if word == b"Read".as_slice() {
-            Some(Name::Read)
-        } else if word == b"Write".as_slice() {
-            Some(Name::Write)
-        } else if word == b"Fill".as_slice() {
-            Some(Name::Fill)
-        } else {
-            None
+        match word {
+            _ if word == b"GlobalAlloc".as_slice() => Some(Name::GlobalAlloc),
+            _ if word == b"GlobalFree".as_slice() => Some(Name::GlobalFree),
+            _ if word == b"GlobalLock".as_slice() => Some(Name::GlobalLock),
+            _ if word == b"GlobalUnlock".as_slice() => Some(Name::GlobalUnlock),
+            _ if word == b"GlobalSize".as_slice() => Some(Name::GlobalSize),
+            _ if word == b"GlobalFlags".as_slice() => Some(Name::GlobalFlags),
+            _ if word == b"GlobalHandle".as_slice() => Some(Name::GlobalHandle),
+            _ if word == b"GetSelectorBase".as_slice() => Some(Name::GetSelectorBase),
+            _ if word == b"GetSelectorLimit".as_slice() => Some(Name::GetSelectorLimit),
+            _ if word == b"GlobalCompact".as_slice() => Some(Name::GlobalCompact),
+            _ if word == b"GlobalLRUNewest".as_slice() => Some(Name::GlobalLRUNewest),
+            _ if word == b"GlobalLRUOldest".as_slice() => Some(Name::GlobalLRUOldest),
+            _ if word == b"Moved".as_slice() => Some(Name::Moved),
+            _ if word == b"Walk".as_slice() => Some(Name::Walk),
+            _ if word == b"Read".as_slice() => Some(Name::Read),
+            _ if word == b"Write".as_slice() => Some(Name::Write),
+            _ if word == b"Fill".as_slice() => Some(Name::Fill),
+            _ => None,
         }
     }
 
@@ -78,7 +70,10 @@ impl Name {
             Name::GetSelectorBase => Shape::Word,
             Name::GetSelectorLimit => Shape::Word,
             Name::GlobalCompact => Shape::Dword,
+            Name::GlobalLRUNewest => Shape::Word,
+            Name::GlobalLRUOldest => Shape::Word,
             Name::Moved => Shape::Nothing,
+            Name::Walk => Shape::Nothing,
             Name::Read => Shape::DwordCount,
             Name::Write => Shape::DwordBytes,
             Name::Fill => Shape::DwordCountByte,

@@ -26,9 +26,7 @@ fn digits(text: &[u8], base: u32) -> Option<u32>
 {
     let mut value: u32 = 0;
     for byte in text {
-        let Some(digit) = digit(*byte) else {
-            return None;
-        };
+        let digit = digit(*byte)?;
         if digit >= base {
             return None;
         }
@@ -64,9 +62,7 @@ fn sum(value: u32, tail: &[u8]) -> Option<u32>
     ensures found { IfSome result (λ n. (more : ℕ) × IsLiteral tail.now more × (n ≡ value + more)) }
     ensures none { IfNone result ((more : ℕ) → IsLiteral tail.now more → value + more < 2 ^ 32 → ⊥) }
 {
-    let Some(more) = literal(tail) else {
-        return None;
-    };
+    let more = literal(tail)?;
     value.checked_add(more)
 }
 
@@ -89,9 +85,7 @@ fn of_register(word: &[u8], registers: &Registers) -> Option<u32>
     ensures found { IfSome result (λ n. IsOfRegister registers.now word.now n) }
     ensures none { IfNone result ((n : ℕ) → n < 2 ^ 32 → IsOfRegister registers.now word.now n → ⊥) }
 {
-    let Some((register, suffix)) = split_register(word) else {
-        return None;
-    };
+    let (register, suffix) = split_register(word)?;
     form(registers.get(register), suffix)
 }
 

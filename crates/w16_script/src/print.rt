@@ -18,7 +18,7 @@ use w16_model::FarFault;
 type Text = ArrayVec<u8, 2055>;
 
 /// Appends bytes for which there is room.
-fn append<const N: usize>(text: &mut ArrayVec<u8, N>, bytes: &[u8])
+pub fn append<const N: usize>(text: &mut ArrayVec<u8, N>, bytes: &[u8])
     requires { array_vec_len text.old + length bytes.now ≤ N }
     ensures items { text.new.items ≡ text.old.items ++ bytes.now }
     ensures len { array_vec_len text.new ≡ array_vec_len text.old + length bytes.now }
@@ -54,18 +54,28 @@ fn append_bytes(text: &mut Text, bytes: &[u8])
     append_hex(text, bytes);
 }
 
-/// Prints the digits of a word or a double word.
+/// Appends the digits of a word or a double word for which there is room.
 #[tactic(auto, using(crate::proofs::PrintLemmas::hex_lengths))]
+pub fn append_digits<const N: usize>(text: &mut ArrayVec<u8, N>, bytes: &[u8])
+    requires few { length bytes.now ≤ 4 }
+    requires room { array_vec_len text.old + 2 * length bytes.now ≤ N }
+    ensures items { text.new.items ≡ text.old.items ++ encode_lower bytes.now }
+    ensures len { array_vec_len text.new ≡ array_vec_len text.old + 2 * length bytes.now }
+{
+    let mut buffer = [0; 8];
+    let digits = &mut buffer[..2 * bytes.len()];
+    let _ = hex::encode_to_slice(bytes, digits);
+    append(text, digits);
+}
+
+/// Prints the digits of a word or a double word.
 fn print_digits<W: Write>(writer: &mut W, bytes: &[u8]) -> Result<()>
     requires few { length bytes.now ≤ 4 }
     ensures ok { OnOk result (Appends (W.contents writer.old) (W.contents writer.new) (encode_lower bytes.now ++ 10 ∷ [])) }
     ensures err { OnErr result (AppendsFront (W.contents writer.old) (W.contents writer.new) (encode_lower bytes.now ++ 10 ∷ [])) }
 {
-    let mut buffer = [0; 8];
-    let digits = &mut buffer[..2 * bytes.len()];
-    let _ = hex::encode_to_slice(bytes, digits);
     let mut text: ArrayVec<u8, 9> = ArrayVec::new();
-    append(&mut text, digits);
+    append_digits(&mut text, bytes);
     append(&mut text, b"\n");
     write_whole(writer, text.as_slice())
 }
@@ -95,7 +105,7 @@ fn fault_line(fault: FarFault) -> &'static [u8]
     }
 }
 
-/// Prints a reply as one line. It fails where the writer failed or took nothing, after a front of the line.
+/// Prints a reply as one line; for a walk that is the line behind its items. It fails where the writer failed or took nothing, after a front of the line.
 pub fn print_reply<W: Write>(writer: &mut W, reply: &Reply) -> Result<()>
     ensures ok { OnOk result (Appends (W.contents writer.old) (W.contents writer.new) (reply_text (reply_of reply.now))) }
     ensures err { OnErr result (AppendsFront (W.contents writer.old) (W.contents writer.new) (reply_text (reply_of reply.now))) }
@@ -106,6 +116,7 @@ pub fn print_reply<W: Write>(writer: &mut W, reply: &Reply) -> Result<()>
         Reply::Bytes(bytes) => print_bytes(writer, bytes.as_slice()),
         Reply::Done => write_whole(writer, b"ok\n"),
         Reply::Fault(fault) => write_whole(writer, fault_line(*fault)),
+        Reply::Walk => write_whole(writer, b"end\n"),
     }
 }
 

@@ -56,7 +56,7 @@ impl Registers {
         match reply {
             Reply::Word(word) => self.set(register, *word as u32),
             Reply::Dword(dword) => self.set(register, *dword),
-            Reply::Bytes(_) | Reply::Done | Reply::Fault(_) => {}
+            Reply::Bytes(_) | Reply::Done | Reply::Fault(_) | Reply::Walk => {}
         }
     }
 }
@@ -81,9 +81,7 @@ pub fn split_register(text: &[u8]) -> Option<(u8, &[u8])>
     let Some((b'r', name)) = text.split_first() else {
         return None;
     };
-    let Some((first, rest)) = split_digit(name) else {
-        return None;
-    };
+    let (first, rest) = split_digit(name)?;
     let Some((second, behind)) = split_digit(rest) else {
         return Some((first, rest));
     };
@@ -101,9 +99,7 @@ pub fn register(word: &[u8]) -> Option<u8>
     ensures found { IfSome result (λ r. IsRegister word.now r) }
     ensures none { IfNone result ((r : ℕ) → IsRegister word.now r → ⊥) }
 {
-    let Some((register, rest)) = split_register(word) else {
-        return None;
-    };
+    let (register, rest) = split_register(word)?;
     if rest.is_empty() {
         Some(register)
     } else {

@@ -1,15 +1,30 @@
 //! One line of a script.
-ghost use Rattle.std.specs.Prelude.{◌≡◌, [], ◌∷◌, IfOk, IfErr, OnOk};
+ghost use Rattle.std.specs.Prelude.{◌≡◌, ℕ, List, [], ◌∷◌, IfOk, IfErr, OnOk, OnErr};
+ghost use Rattle.std.specs.Io.KnownBytes.{Appends};
+ghost use Rattle.w16_kernel.specs.Runs.{reply_of};
 ghost use Rattle.w16_script.specs.State.{state_with};
-ghost use Rattle.w16_script.specs.Output.{RunsLines, has_reply};
+ghost use Rattle.w16_script.specs.Output.{Shows, RunsLines, has_reply};
+ghost use Rattle.w16_script.specs.Written.{AppendsFront};
 ghost use Rattle.w16_script.specs.Feeding.{FailsAt};
 
 use crate::line::{Line, read_line};
 use crate::outcome::RunFault;
 use crate::print::{print_error, print_reply};
 use crate::registers::Registers;
-use std::io::Write;
-use w16_kernel::Kernel;
+use crate::walk::print_walk;
+use std::io::{self, Write};
+use w16_kernel::{Kernel, Reply};
+
+/// Prints what is shown for a reply, in the world that its command left.
+fn print_shown<W: Write>(writer: &mut W, kernel: &Kernel, reply: &Reply) -> io::Result<()>
+    ensures ok { OnOk result ((output : List ℕ) × Shows kernel.now (reply_of reply.now) output × Appends (W.contents writer.old) (W.contents writer.new) output) }
+    ensures err { OnErr result ((output : List ℕ) × Shows kernel.now (reply_of reply.now) output × AppendsFront (W.contents writer.old) (W.contents writer.new) output) }
+{
+    match reply {
+        Reply::Walk => print_walk(writer, kernel),
+        _ => print_reply(writer, reply),
+    }
+}
 
 /// Runs a line, stores its reply where it says so, and says whether it has one.
 pub fn run_line<W: Write>(
@@ -31,7 +46,7 @@ pub fn run_line<W: Write>(
         Line::Command { target, call } => match kernel.call(&call) {
             Ok(reply) => {
                 registers.store(target, &reply);
-                match print_reply(writer, &reply) {
+                match print_shown(writer, kernel, &reply) {
                     Ok(()) => Ok(true),
                     Err(_) => Err(RunFault::Write),
                 }

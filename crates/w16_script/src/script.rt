@@ -35,13 +35,11 @@ fn finish<W: Write>(
             replies: state.replies,
         });
     }
-    match run_line(writer, kernel, &mut state.registers, line) {
-        Ok(replied) => Ok(Ended {
-            lines: state.lines + 1,
-            replies: state.replies + u32::from(replied),
-        }),
-        Err(fault) => Err(fault),
-    }
+    let replied = run_line(writer, kernel, &mut state.registers, line)?;
+    Ok(Ended {
+        lines: state.lines + 1,
+        replies: state.replies + u32::from(replied),
+    })
 }
 
 /// Reads a script by pieces of the buffer's length, and runs it.
@@ -66,9 +64,7 @@ fn run_over<R: Read, W: Write>(
         if count == 0 {
             return finish(&mut state, writer, kernel);
         }
-        if let Err(fault) = feed(&mut state, writer, kernel, &buffer[..count]) {
-            return Err(fault);
-        }
+        feed(&mut state, writer, kernel, &buffer[..count])?;
     }
 }
 

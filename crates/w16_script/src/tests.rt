@@ -1,5 +1,6 @@
 mod registers;
 mod runs;
+mod walks;
 
 use crate::{Line, Registers, RunFault, print_error, print_reply, read_line};
 use arrayvec::ArrayVec;
@@ -138,6 +139,27 @@ fn reads_compactions(rt: HostRuntime) {
     assert!(rt; matches!(call_of(b" Moved "), Some(Call::Moved)));
     assert!(rt; call_of(b"Moved 1").is_none());
     assert!(rt; call_of(b"GlobalCompact").is_none());
+}
+
+#[test]
+fn reads_what_is_asked_of_the_order(rt: HostRuntime) {
+    assert!(rt;
+        matches!(
+            call_of(b"GlobalLRUNewest 0x106"),
+            Some(Call::GlobalLRUNewest { handle: 0x106 })
+        )
+    );
+    assert!(rt;
+        matches!(
+            call_of(b"GlobalLRUOldest 0x106"),
+            Some(Call::GlobalLRUOldest { handle: 0x106 })
+        )
+    );
+    assert!(rt; matches!(call_of(b"Walk"), Some(Call::Walk)));
+    assert!(rt; call_of(b"GlobalLRUNewest").is_none());
+    assert!(rt; call_of(b"GlobalLRUOldest 0x10000").is_none());
+    assert!(rt; call_of(b"Walk 0").is_none());
+    assert!(rt; call_of(b"walk").is_none());
 }
 
 #[test]
@@ -343,6 +365,7 @@ fn prints_each_reply(rt: HostRuntime) {
     assert_prints(&rt, &Reply::Dword(0x0107_0000), b"01070000\n");
     assert_prints(&rt, &Reply::Dword(0xffff_ffff), b"ffffffff\n");
     assert_prints(&rt, &Reply::Done, b"ok\n");
+    assert_prints(&rt, &Reply::Walk, b"end\n");
     assert_prints(&rt, &Reply::Bytes(Chunk::new()), b"bytes\n");
     let mut bytes = Chunk::new();
     bytes.push(0x4e);

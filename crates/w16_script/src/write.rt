@@ -33,10 +33,8 @@ pub fn write_whole<W: Write>(writer: &mut W, bytes: &[u8]) -> Result<()>
         if at == bytes.len() {
             return Ok(());
         }
-        match write_some(writer, &bytes[at..]) {
-            Ok(count) => at += count,
-            Err(error) => return Err(error),
-        }
+        let count = write_some(writer, &bytes[at..])?;
+        at += count;
     }
     if at == bytes.len() {
         return Ok(());

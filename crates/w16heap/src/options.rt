@@ -14,10 +14,10 @@ pub struct Options<'a> {
 }
 
 /// The memory's size where none is asked for, in bytes.
-const MEMORY: u32 = 1_048_576;
+const MEMORY: &str = "1048576";
 
 /// The number of selectors where none is asked for.
-const SELECTORS: u32 = 1024;
+const SELECTORS: &str = "1024";
 
 /// The command line that the program takes.
 fn command<'a>(alloc: Global) -> Result<Command<'a>, Error> {
@@ -25,13 +25,13 @@ fn command<'a>(alloc: Global) -> Result<Command<'a>, Error> {
         .long("memory")
         .value_name("N")
         .value_parser(value_parser!(u32))
-        .default_value("1048576")
+        .default_value(MEMORY)
         .help("Bytes of the global heap, a multiple of 32 from 32 to 16777216");
     let selectors = Arg::new(alloc, "selectors")
         .long("selectors")
         .value_name("N")
         .value_parser(value_parser!(u32))
-        .default_value("1024")
+        .default_value(SELECTORS)
         .help("How many objects there may be at once, from 1 to 8160");
     let script = Arg::new(alloc, "SCRIPT").help("The script; standard input without it");
     Ok(
@@ -46,9 +46,10 @@ fn command<'a>(alloc: Global) -> Result<Command<'a>, Error> {
 /// Reads the words of a command line, the program's name first. An error is `clap`'s, also where help is asked for.
 pub fn parse<'a>(alloc: Global, words: &'a [String]) -> Result<Options<'a>, Error> {
     let matches = command(alloc)?.try_get_matches_from(words)?;
+    // clap gives a default where nothing is asked for, so each number is there.
     Ok(Options {
-        memory: matches.get_one::<u32>("memory").unwrap_or(MEMORY),
-        selectors: matches.get_one::<u32>("selectors").unwrap_or(SELECTORS),
+        memory: matches.get_one("memory").unwrap_or_default(),
+        selectors: matches.get_one("selectors").unwrap_or_default(),
         script: matches.get_str("SCRIPT"),
     })
 }

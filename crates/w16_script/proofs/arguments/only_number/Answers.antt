@@ -4,4 +4,4 @@ use Rattle.w16_script.proofs.arguments.only_number.Goals as goal
 
 pub returns-clause-none : goal.returns-clause-none
 returns-clause-none c =
-    IfNone-weaker c.number_below.result (no_number c.args.registers.now (words_of c.args.text.now) c.in-Some.word.now c.args.limit c.in-Some.ensures.found) c.number_below.ensures.none
+    IfNone-weaker c.number_below.result (no_number c.args.registers.now (words_of c.args.text.now) c.in_ok-word.word.now c.args.limit c.in_ok-word.ensures.found) c.number_below.ensures.none

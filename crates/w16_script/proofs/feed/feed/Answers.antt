@@ -1,3 +1,4 @@
+use Rattle.std.proofs.lemmas.Result.{err_from_is_err_and}
 use Rattle.std.proofs.Common.{ℕ, List, ◌++◌, [], length-append, sym, ap, ◌∙◌, append-nil, append_assoc, arith}
 use Rattle.std.proofs.lemmas.Result.{IfErr-weaker}
 use Rattle.w16_script.specs.State.{state_with}
@@ -6,11 +7,12 @@ use Rattle.w16_script.specs.Unfinished.{progress_of}
 use Rattle.w16_script.proofs.FeedLemmas.{Feeds-trans, Stops-overflow, Stops-later}
 use Rattle.w16_script.proofs.feed.feed.Goals as goal
 
-pub returns-in-Err-clause-err : goal.returns-in-Err-clause-err
-returns-in-Err-clause-err g c =
+pub returns-in_err-take_line-clause-err : goal.returns-in_err-take_line-clause-err
+returns-in_err-take_line-clause-err g c =
     let (done, whole, feeds, room) = c.lines.invariant.fed in
-    Stops-later _ _ _ (progress_of c.args.state.now) (progress_of c.lines.state) _ _ _ c.args.piece.now done (ended c.in-Some.line.now) c.in-Some.behind.now c.in-Err.fault
-    (whole ∙ ap (λ (l : List ℕ). done ++ l) c.in-Some.ensures.some) feeds c.in-Err.ensures.err
+    let p = err_from_is_err_and c.from_residual.result c.from_residual.ensures.1 in
+    rw (p.1, p.2) (Stops-later _ _ _ (progress_of c.args.state.now) (progress_of c.lines.state) _ _ _ c.args.piece.now done (ended c.in-Some.line.now) c.in-Some.behind.now c.in_err-take_line.field-0.0
+    (whole ∙ ap (λ (l : List ℕ). done ++ l) c.in-Some.ensures.some) feeds c.in_err-take_line.ensures.err)
 
 pub lines-preserved : goal.lines-preserved
 lines-preserved g c =
@@ -20,10 +22,10 @@ lines-preserved g c =
       fed = (
         done ++ line,
         whole ∙ ap (λ (l : List ℕ). done ++ l) c.in-Some.ensures.some ∙ sym (append_assoc done line c.in-Some.behind.now),
-        Feeds-trans _ _ _ _ _ _ _ _ _ done line feeds c.in_default-take_line.ensures.ok,
-        omega (arith, room, c.in_default-take_line.ensures.room, length-append done line),
+        Feeds-trans _ _ _ _ _ _ _ _ _ done line feeds c.in_ok-take_line.ensures.ok,
+        omega (arith, room, c.in_ok-take_line.ensures.room, length-append done line),
       );
-      fits = c.in_default-take_line.ensures.within;
+      fits = c.in_ok-take_line.ensures.within;
     }
 
 pub returns-clause-err : goal.returns-clause-err

@@ -2,7 +2,7 @@ use Rattle.std.proofs.Common.{[], ◌∷◌, refl}
 use Rattle.std.proofs.KnownBytes.{Appends-nil}
 use Rattle.w16_kernel.specs.Runs.{Event, command_of, reply_of}
 use Rattle.w16_script.specs.Grammar.{Said}
-use Rattle.w16_script.specs.Printed.{reply_text, error_text}
+use Rattle.w16_script.specs.Printed.{error_text}
 use Rattle.w16_script.proofs.RunLemmas.{Prints-one}
 use Rattle.w16_script.proofs.running.run_line.Goals as goal
 
@@ -28,27 +28,27 @@ pub returns-in-Err-clause-err : goal.returns-in-Err-clause-err
 returns-in-Err-clause-err g c =
     ([], error_text, refl, Prints-one c.args.registers.now c.args.line.now Said.Bad [] error_text c.args.registers.now c.in-Bad.ensures.reads refl refl, c.in-Err.ensures.err)
 
-pub returns-in-Ok-print_reply-clause-ok : goal.returns-in-Ok-print_reply-clause-ok
-returns-in-Ok-print_reply-clause-ok g c =
+pub returns-in-Ok-print_shown-clause-ok : goal.returns-in-Ok-print_shown-clause-ok
+returns-in-Ok-print_shown-clause-ok g c =
     let command = command_of c.in-Command.call in
     let event : Event = record { command = command; reply = reply_of c.in-Ok-call.reply; after = c.call.new.self } in
-    let text = reply_text (reply_of c.in-Ok-call.reply) in
+    let (text, shows, appends) = c.in-Ok-print_shown.ensures.ok in
     record {
       events = event ∷ [];
       output = text;
       run = (c.in-Ok-call.ensures.step, refl {a = c.call.new.self});
-      prints = Prints-one c.args.registers.now c.args.line.now (Said.Says c.in-Command.target command) (event ∷ []) text c.store.new.self c.in-Command.ensures.reads (refl, refl) c.store.ensures;
-      appends = c.in-Ok-print_reply.ensures.ok;
+      prints = Prints-one c.args.registers.now c.args.line.now (Said.Says c.in-Command.target command) (event ∷ []) text c.store.new.self c.in-Command.ensures.reads (refl, shows) c.store.ensures;
+      appends = appends;
     }
 
-pub returns-in-Err-print_reply-clause-err : goal.returns-in-Err-print_reply-clause-err
-returns-in-Err-print_reply-clause-err g c =
+pub returns-in-Err-print_shown-clause-err : goal.returns-in-Err-print_shown-clause-err
+returns-in-Err-print_shown-clause-err g c =
     let command = command_of c.in-Command.call in
     let event : Event = record { command = command; reply = reply_of c.in-Ok-call.reply; after = c.call.new.self } in
-    let text = reply_text (reply_of c.in-Ok-call.reply) in (
+    let (text, shows, front) = c.in-Err-print_shown.ensures.err in (
       event ∷ [],
       text,
       (c.in-Ok-call.ensures.step, refl {a = c.call.new.self}),
-      Prints-one c.args.registers.now c.args.line.now (Said.Says c.in-Command.target command) (event ∷ []) text c.store.new.self c.in-Command.ensures.reads (refl, refl) c.store.ensures,
-      c.in-Err-print_reply.ensures.err,
+      Prints-one c.args.registers.now c.args.line.now (Said.Says c.in-Command.target command) (event ∷ []) text c.store.new.self c.in-Command.ensures.reads (refl, shows) c.store.ensures,
+      front,
     )

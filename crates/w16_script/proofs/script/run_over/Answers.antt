@@ -1,3 +1,4 @@
+use Rattle.std.proofs.lemmas.Result.{err_from_is_err_and}
 use Rattle.std.proofs.Common.{[], ◌++◌, take, length-take, arith, subst, sym, ap}
 use Rattle.std.proofs.lemmas.Result.{IfOk-weaker, IfErr-weaker}
 use Rattle.std.proofs.KnownBytes.{Consumes-nil, Consumes-trans}
@@ -7,6 +8,16 @@ use Rattle.w16_script.specs.Unfinished.{progress_of}
 use Rattle.w16_script.proofs.FeedLemmas.{Feeds-held, Feeds-trans}
 use Rattle.w16_script.proofs.WholeLemmas.{fresh-fits, Script-from, FailsLater-piece, FailsLater-last, Consumes-none}
 use Rattle.w16_script.proofs.script.run_over.Goals as goal
+
+pub returns-in_err-feed-clause-err : goal.returns-in_err-feed-clause-err
+returns-in_err-feed-clause-err g c =
+    let (text, consumed, feeds) = c.pieces.invariant.fed in
+    let p = err_from_is_err_and c.from_residual.result c.from_residual.ensures.1 in
+    rw (p.1, p.2) (
+      text ++ take c.in-Ok.count c.read_some.new.buffer,
+      Consumes-trans _ _ _ _ _ consumed c.in-Ok.ensures.ok,
+      FailsLater-piece _ _ _ _ _ _ _ _ _ text _ c.in_err-feed.field-0.0 feeds (omega (arith, c.pieces.invariant.size, c.read_some.auto.buffer, length-take c.in-Ok.count c.read_some.new.buffer)) c.in_err-feed.ensures.err,
+    )
 
 pub pieces-init : goal.pieces-init
 pieces-init g c = record {
@@ -22,19 +33,11 @@ pieces-preserved g c =
       fed = (
         text ++ take c.in-Ok.count c.read_some.new.buffer,
         Consumes-trans _ _ _ _ _ consumed c.in-Ok.ensures.ok,
-        Feeds-trans _ _ _ _ _ _ _ _ _ _ _ feeds c.in_default.ensures.ok,
+        Feeds-trans _ _ _ _ _ _ _ _ _ _ _ feeds c.in_ok-feed.ensures.ok,
       );
-      fits = c.in_default.ensures.within;
+      fits = c.in_ok-feed.ensures.within;
       size = omega (arith, c.pieces.invariant.size, c.read_some.auto.buffer);
     }
-
-pub returns-in-Err-feed-clause-err : goal.returns-in-Err-feed-clause-err
-returns-in-Err-feed-clause-err g c =
-    let (text, consumed, feeds) = c.pieces.invariant.fed in (
-      text ++ take c.in-Ok.count c.read_some.new.buffer,
-      Consumes-trans _ _ _ _ _ consumed c.in-Ok.ensures.ok,
-      FailsLater-piece _ _ _ _ _ _ _ _ _ text _ c.in-Err-feed.fault feeds (omega (arith, c.pieces.invariant.size, c.read_some.auto.buffer, length-take c.in-Ok.count c.read_some.new.buffer)) c.in-Err-feed.ensures.err,
-    )
 
 pub returns-then-count-eq0-clause-ok : goal.returns-then-count-eq0-clause-ok
 returns-then-count-eq0-clause-ok g c =

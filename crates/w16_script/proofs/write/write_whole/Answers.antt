@@ -1,21 +1,21 @@
 use Rattle.std.proofs.Common.{ℕ, ◌≤◌, List, drop, length, length-drop, arith, subst}
 use Rattle.std.proofs.lemmas.List.{take_rest}
 use Rattle.std.proofs.KnownBytes.{Appends-kept}
-use Rattle.w16_script.proofs.WriteLemmas.{Appends-take, AppendsFront-take}
+use Rattle.w16_script.proofs.WriteLemmas.{on_err, Appends-take, AppendsFront-take}
 use Rattle.w16_script.proofs.write.write_whole.Goals as goal
 
-pub returns-in-Err-clause-err : goal.returns-in-Err-clause-err
-returns-in-Err-clause-err g c =
-    AppendsFront-take _ _ c.args.bytes.now c.tries.at (omega arith) (Appends-kept _ _ _ _ c.tries.invariant.appends c.in-Err.ensures.err)
+pub returns-in_err-count-clause-err : goal.returns-in_err-count-clause-err
+returns-in_err-count-clause-err g c =
+    on_err c.from_residual.result (AppendsFront-take _ _ c.args.bytes.now c.tries.at (omega arith) (Appends-kept _ _ _ _ c.tries.invariant.appends c.in_err-count.ensures.err))
 
 pub returns-clause-err : goal.returns-clause-err
 returns-clause-err g c = AppendsFront-take _ _ c.args.bytes.now c.tries.at (omega arith) c.tries.invariant.appends
 
 pub tries-preserved : goal.tries-preserved
 tries-preserved g c =
-    let (within, appended) = c.in-Ok.ensures.ok in
-    let fits : c.in-Ok.count ≤ length (drop c.tries.at c.args.bytes.now) = subst (λ (l : List ℕ). c.in-Ok.count ≤ length l) (take_rest c.args.bytes.now c.tries.at) within in
+    let (within, appended) = c.in_ok-count.ensures.ok in
+    let fits : c.in_ok-count.count ≤ length (drop c.tries.at c.args.bytes.now) = subst (λ (l : List ℕ). c.in_ok-count.count ≤ length l) (take_rest c.args.bytes.now c.tries.at) within in
     record {
       within = omega (arith, fits, length-drop c.tries.at c.args.bytes.now);
-      appends = Appends-take _ _ _ c.args.bytes.now _ c.tries.at c.in-Ok.count c.tries.invariant.appends (take_rest c.args.bytes.now c.tries.at) appended;
+      appends = Appends-take _ _ _ c.args.bytes.now _ c.tries.at c.in_ok-count.count c.tries.invariant.appends (take_rest c.args.bytes.now c.tries.at) appended;
     }
