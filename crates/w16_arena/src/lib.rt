@@ -17,7 +17,7 @@ mod placing;
 mod requests;
 mod walk;
 
-pub use making::Placed;
+pub use making::{Placed, has_bytes};
 pub use placing::Compacted;
 pub use requests::NoRoom;
 use std::alloc::{AllocError, Global};

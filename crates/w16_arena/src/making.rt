@@ -98,7 +98,7 @@ pub(crate) fn clear_if<S: Space>(asked: bool, space: &mut S, at: u32, size: u32)
 }
 
 /// Says that a space has bytes alone, as all have. It has no effect.
-pub(crate) fn has_bytes<S: Space>(space: &S)
+pub fn has_bytes<S: Space>(space: &S)
     ensures { All (λ b. b < 256) (S.bytes space.now) }
 {
     are_bytes(space.view(0, space.len()));

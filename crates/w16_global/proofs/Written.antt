@@ -7,7 +7,7 @@ use Rattle.w16_model.specs.declared.Block.{Block}
 use Rattle.w16_model.specs.declared.Entry.{Entry}
 use Rattle.w16_model.specs.Heap.{Heap, Object, object_at, bytes_at}
 use Rattle.w16_model.specs.Machine.{slice_at, with_slice, after_write}
-use Rattle.w16_model.specs.Table.{block_with, object_in}
+use Rattle.w16_model.specs.Table.{Table, block_with, object_in, heap_in}
 use Rattle.w16_model.proofs.Gaps.{Member}
 use Rattle.w16_model.proofs.Heaps.{get-update_same, get-update_other}
 use Rattle.w16_model.proofs.Laid.{laid_placed}
@@ -15,9 +15,11 @@ use Rattle.w16_model.proofs.Starts.{two}
 use Rattle.w16_model.proofs.Tables.{member_with, length_range}
 use Rattle.w16_region.specs.Bytes.{put_part, repeated, length-put_part}
 use Rattle.w16_blocks.specs.Layout.{Layout}
-use Rattle.w16_global.specs.Parts.{AreParts, Holding, IsInside, heap_of, holding_of}
-use Rattle.w16_global.proofs.Lookups.{object_here, place_here, bytes_here, ends_in_memory, same_heap}
-use Rattle.w16_global.proofs.Slices.{slice_of_range, slice_of_put_same, slice_of_put_apart, All-put_part}
+use Rattle.w16_arena.specs.State.{State}
+use Rattle.w16_arena.proofs.Parts as arena
+use Rattle.w16_global.specs.Parts.{AreParts, Holding, IsInside, holding_of}
+use Rattle.w16_arena.proofs.Lookups.{object_here, place_here, bytes_here, ends_in_memory, same_heap}
+use Rattle.w16_arena.proofs.Slices.{slice_of_range, slice_of_put_same, slice_of_put_apart, All-put_part}
 
 -- copies of a byte are bytes
 pub All-repeated : (n byte : ℕ) → byte < 256 → All (λ b. b < 256) (repeated n byte)
@@ -28,46 +30,50 @@ All-repeated n byte lt = All-replicate (λ b. b < 256) n byte lt
 abbrev bytes_of : List ℕ → Block → List ℕ
 bytes_of memory x = slice_range memory x.at (x.at + x.size)
 
+-- what an arena's lemmas know of the parts
+abbrev pub layout_in : Table → Layout
+layout_in t = record { cap = length t.entries; lo = t.lo; hi = t.hi; grain = t.grain; blocks = t.blocks }
+
+pub beside : {t : Table} {memory : List ℕ} → AreParts t memory → arena.AreParts t.entries (layout_in t) t.order memory
+beside parts = record { sound = parts.sound; ids = refl; high = let e = parts.high in omega arith }
+
 -- A write into the memory leaves the parts sound.
-pub parts_written : {entries : List (Option Entry)} {layout : Layout} {memory : List ℕ} → AreParts entries layout memory → (at : ℕ) (new : List ℕ) → at + length new ≤ length memory → All (λ b. b < 256) new
-    → AreParts entries layout (put_part memory at new)
-parts_written {memory} parts at new le ours = record {
+pub parts_written : {t : Table} {memory : List ℕ} → AreParts t memory → (at : ℕ) (new : List ℕ) → at + length new ≤ length memory → All (λ b. b < 256) new → AreParts t (put_part memory at new)
+parts_written {t} {memory} parts at new le ours = record {
   sound = parts.sound;
-  ids = parts.ids;
   low = parts.low;
   grain = parts.grain;
   high = parts.high ∙ sym (length-put_part memory at new le);
   bytes = All-put_part (λ b. b < 256) memory at new parts.bytes ours;
   few = parts.few;
-  plain = parts.plain;
 }
 
-module _ {entries : List (Option Entry)} {layout : Layout} {memory : List ℕ} (parts : AreParts entries layout memory) (q : ℕ) where
+module _ {state : State} {memory : List ℕ} (parts : AreParts state.table memory) (q : ℕ) where
   -- Of the value that the parts stand for, where n bytes from an address on lie in an object's.
-  module _ {h : Holding} (shown : holding_of entries layout memory ≡ h) (at n : ℕ) (inside : IsInside h.heap q at n) where
-    bytes_shown : bytes_at h.heap q ≡ option_map (bytes_of memory) (block_with layout.blocks q)
-    bytes_shown = ap (λ (h : Holding). bytes_at h.heap q) (sym shown) ∙ bytes_here parts q
+  module _ {h : Holding} (shown : holding_of state memory ≡ h) (at n : ℕ) (inside : IsInside h.heap q at n) where
+    bytes_shown : bytes_at h.heap q ≡ option_map (bytes_of memory) (block_with state.table.blocks q)
+    bytes_shown = ap (λ (h : Holding). bytes_at h.heap q) (sym shown) ∙ bytes_here (beside parts) q
 
-    place_shown : finmap.get h.heap.places q ≡ option_map (λ (x : Block). x.at) (block_with layout.blocks q)
-    place_shown = ap (λ (h : Holding). finmap.get h.heap.places q) (sym shown) ∙ place_here parts q
+    place_shown : finmap.get h.heap.places q ≡ option_map (λ (x : Block). x.at) (block_with state.table.blocks q)
+    place_shown = ap (λ (h : Holding). finmap.get h.heap.places q) (sym shown) ∙ place_here (beside parts) q
 
     -- they lie in its block
-    pub block_around : (x : Block) × (block_with layout.blocks q ≡ Some x) × (x.at ≤ at) × (at + n ≤ x.at + x.size)
-    block_around = from (block_with layout.blocks q) refl
-        (subst (λ p. IsSomeAnd (option_map (bytes_of memory) (block_with layout.blocks q)) (λ bytes. IsSomeAnd p (λ place. (place ≤ at) × (at + n ≤ place + length bytes)))) place_shown
+    pub block_around : (x : Block) × (block_with state.table.blocks q ≡ Some x) × (x.at ≤ at) × (at + n ≤ x.at + x.size)
+    block_around = from (block_with state.table.blocks q) refl
+        (subst (λ p. IsSomeAnd (option_map (bytes_of memory) (block_with state.table.blocks q)) (λ bytes. IsSomeAnd p (λ place. (place ≤ at) × (at + n ≤ place + length bytes)))) place_shown
         (subst (λ o. IsSomeAnd o (λ (bytes : List ℕ). IsSomeAnd (finmap.get h.heap.places q) (λ place. (place ≤ at) × (at + n ≤ place + length bytes)))) bytes_shown inside))
       where
-        from : (b : Option Block) → block_with layout.blocks q ≡ b
+        from : (b : Option Block) → block_with state.table.blocks q ≡ b
             → IsSomeAnd (option_map (bytes_of memory) b) (λ bytes. IsSomeAnd (option_map (λ (x : Block). x.at) b) (λ place. (place ≤ at) × (at + n ≤ place + length bytes)))
-            → (x : Block) × (block_with layout.blocks q ≡ Some x) × (x.at ≤ at) × (at + n ≤ x.at + x.size)
+            → (x : Block) × (block_with state.table.blocks q ≡ Some x) × (x.at ≤ at) × (at + n ≤ x.at + x.size)
         from None e there = absurd there
         from (Some x) e there =
-            let size : length (bytes_of memory x) ≡ x.size = length_range memory x.at x.size (ends_in_memory parts q x e).1 in
+            let size : length (bytes_of memory x) ≡ x.size = length_range memory x.at x.size (ends_in_memory (beside parts) q x e).1 in
             (x, e, there.0, omega (arith, there.1))
 
     -- and in the memory
     pub room_around : at + n ≤ length memory
-    room_around = let b = block_around in let end = (ends_in_memory parts q b.0 b.1).1 in omega (arith, b.3)
+    room_around = let b = block_around in let end = (ends_in_memory (beside parts) q b.0 b.1).1 in omega (arith, b.3)
 
     -- what holds of its bytes and its place
     known : (P : List ℕ → ℕ → Type 0) → P (bytes_of memory block_around.0) block_around.0.at → IfSome (bytes_at h.heap q) (λ bytes. IfSome (finmap.get h.heap.places q) (λ place. P bytes place))
@@ -84,27 +90,27 @@ module _ {entries : List (Option Entry)} {layout : Layout} {memory : List ℕ} (
         (is ∙ ap (λ k. take n (drop k memory)) (sym there) ∙ sym (slice_of_range memory b.0.at b.0.size (at - b.0.at) n (omega (arith, b.2, b.3))))
 
   -- What a write inside an id's block leaves.
-  module _ {x : Block} (is : block_with layout.blocks q ≡ Some x) (at : ℕ) (new : List ℕ) (from : x.at ≤ at) (to : at + length new ≤ x.at + x.size) (ours : All (λ b. b < 256) new) where
+  module _ {x : Block} (is : block_with state.table.blocks q ≡ Some x) (at : ℕ) (new : List ℕ) (from : x.at ≤ at) (to : at + length new ≤ x.at + x.size) (ours : All (λ b. b < 256) new) where
     room : at + length new ≤ length memory
-    room = let end = (ends_in_memory parts q x is).1 in omega arith
+    room = let end = (ends_in_memory (beside parts) q x is).1 in omega arith
 
     -- each other id has the bytes that it had
-    others_keep : (r : ℕ) → r ≢ q → (b : Option Block) → block_with layout.blocks r ≡ b → option_map (bytes_of (put_part memory at new)) b ≡ option_map (bytes_of memory) b
+    others_keep : (r : ℕ) → r ≢ q → (b : Option Block) → block_with state.table.blocks r ≡ b → option_map (bytes_of (put_part memory at new)) b ≡ option_map (bytes_of memory) b
     others_keep r other None e = refl
     others_keep r other (Some y) e =
-        let mine : Member x layout.blocks × (x.id ≡ q) = member_with layout.blocks q x is in
-        let theirs : Member y layout.blocks × (y.id ≡ r) = member_with layout.blocks r y e in
-        elim (two layout.lo layout.hi layout.blocks (laid_placed layout.lo layout.hi layout.blocks parts.sound.table.laid) y x theirs.0 mine.0) [
+        let mine : Member x state.table.blocks × (x.id ≡ q) = member_with state.table.blocks q x is in
+        let theirs : Member y state.table.blocks × (y.id ≡ r) = member_with state.table.blocks r y e in
+        elim (two state.table.lo state.table.hi state.table.blocks (laid_placed state.table.lo state.table.hi state.table.blocks parts.sound.table.laid) y x theirs.0 mine.0) [
           | inl same ↦ absurd (other (sym theirs.1 ∙ ap (λ (z : Block). z.id) same ∙ mine.1))
           | inr (inl below) ↦ ap Some (slice_of_put_apart memory at new y.at y.size room (inl (omega (arith, below))))
           | inr (inr above) ↦ ap Some (slice_of_put_apart memory at new y.at y.size room (inr (omega (arith, above))))
         ]
 
     -- the id has those that it had, with the new ones in their place
-    own_written : option_map (bytes_of (put_part memory at new)) (block_with layout.blocks q) ≡ option_map (λ bytes. with_slice bytes (at - x.at) new) (option_map (bytes_of memory) (block_with layout.blocks q))
+    own_written : option_map (bytes_of (put_part memory at new)) (block_with state.table.blocks q) ≡ option_map (λ bytes. with_slice bytes (at - x.at) new) (option_map (bytes_of memory) (block_with state.table.blocks q))
     own_written =
         let there : x.at + (at - x.at) ≡ at = omega arith in
-        let end = (ends_in_memory parts q x is).1 in
+        let end = (ends_in_memory (beside parts) q x is).1 in
         ap (option_map (bytes_of (put_part memory at new))) is
         ∙ ap (λ k. Some (bytes_of (put_part memory k new) x)) (sym there)
         ∙ ap Some (slice_of_put_same memory x.at x.size (at - x.at) new (omega arith) end)
@@ -112,10 +118,10 @@ module _ {entries : List (Option Entry)} {layout : Layout} {memory : List ℕ} (
 
     -- the heaps before and after it, and the object that it makes of one
     abbrev before : Heap
-    before = heap_of entries layout memory
+    before = heap_in state.table memory
 
     abbrev after : Heap
-    after = heap_of entries layout (put_part memory at new)
+    after = heap_in state.table (put_part memory at new)
 
     abbrev written : Object → Object
     written o = record o { bytes = option_map (λ bytes. with_slice bytes (at - x.at) new) o.bytes }
@@ -124,28 +130,28 @@ module _ {entries : List (Option Entry)} {layout : Layout} {memory : List ℕ} (
     objects_written : (r : ℕ) → object_at after r ≡ object_at (after_write before q (at - x.at) new) r
     objects_written r = elim (cases_eq r q) [
       | inl same ↦ subst (λ k. object_at after k ≡ object_at (after_write before q (at - x.at) new) k) (sym same)
-          (object_here (parts_written parts at new room ours) q ∙ here (get_or entries q None)
-          ∙ sym (get-update_same before.objects q written ∙ ap (option_map written) (object_here parts q)))
-      | inr other ↦ object_here (parts_written parts at new room ours) r ∙ there other (get_or entries r None)
-          ∙ sym (get-update_other before.objects q written r other ∙ object_here parts r)
+          (object_here (beside (parts_written parts at new room ours)) q ∙ here (get_or state.table.entries q None)
+          ∙ sym (get-update_same before.objects q written ∙ ap (option_map written) (object_here (beside parts) q)))
+      | inr other ↦ object_here (beside (parts_written parts at new room ours)) r ∙ there other (get_or state.table.entries r None)
+          ∙ sym (get-update_other before.objects q written r other ∙ object_here (beside parts) r)
     ]
       where
-        here : (e : Option Entry) → option_map (object_in layout.blocks (put_part memory at new) q) e ≡ option_map written (option_map (object_in layout.blocks memory q) e)
+        here : (e : Option Entry) → option_map (object_in state.table.blocks (put_part memory at new) q) e ≡ option_map written (option_map (object_in state.table.blocks memory q) e)
         here None = refl
         here (Some e) = λ i. Some (record { kind = e.kind; locks = e.locks; bytes = own_written i })
 
-        there : r ≢ q → (e : Option Entry) → option_map (object_in layout.blocks (put_part memory at new) r) e ≡ option_map (object_in layout.blocks memory r) e
+        there : r ≢ q → (e : Option Entry) → option_map (object_in state.table.blocks (put_part memory at new) r) e ≡ option_map (object_in state.table.blocks memory r) e
         there other None = refl
-        there other (Some e) = λ i. Some (record { kind = e.kind; locks = e.locks; bytes = others_keep r other (block_with layout.blocks r) refl i })
+        there other (Some e) = λ i. Some (record { kind = e.kind; locks = e.locks; bytes = others_keep r other (block_with state.table.blocks r) refl i })
 
     pub heap_written : after ≡ after_write before q (at - x.at) new
     heap_written = same_heap after (after_write before q (at - x.at) new) refl refl refl refl objects_written (λ r. refl)
 
   -- the value is the one after the write
-  pub holding_written : {h : Holding} (shown : holding_of entries layout memory ≡ h) (at n : ℕ) → IsInside h.heap q at n → (new : List ℕ) → length new ≡ n → All (λ b. b < 256) new
-      → IfSome (finmap.get h.heap.places q) (λ place. holding_of entries layout (put_part memory at new) ≡ record h { heap = after_write h.heap q (at - place) new })
+  pub holding_written : {h : Holding} (shown : holding_of state memory ≡ h) (at n : ℕ) → IsInside h.heap q at n → (new : List ℕ) → length new ≡ n → All (λ b. b < 256) new
+      → IfSome (finmap.get h.heap.places q) (λ place. holding_of state (put_part memory at new) ≡ record h { heap = after_write h.heap q (at - place) new })
   holding_written {h} shown at n inside new long ours =
       let b = block_around shown at n inside in
-      subst (λ p. IfSome p (λ place. holding_of entries layout (put_part memory at new) ≡ record h { heap = after_write h.heap q (at - place) new }))
+      subst (λ p. IfSome p (λ place. holding_of state (put_part memory at new) ≡ record h { heap = after_write h.heap q (at - place) new }))
       (sym (place_shown shown at n inside ∙ ap (option_map (λ (x : Block). x.at)) b.1))
-      ((λ i. record { cap = length entries; heap = heap_written b.1 at new b.2 (omega (arith, b.3)) ours i }) ∙ ap (λ (h : Holding). record h { heap = after_write h.heap q (at - b.0.at) new }) shown)
+      ((λ i. record { cap = length state.table.entries; heap = heap_written b.1 at new b.2 (omega (arith, b.3)) ours i; discarded = state.discarded }) ∙ ap (λ (h : Holding). record h { heap = after_write h.heap q (at - b.0.at) new }) shown)

@@ -1,48 +1,35 @@
--- What is kept of the objects by id, and the heap that it stands for.
-use Rattle.std.specs.Prelude.{◌≡◌, ℕ, ◌+◌, ◌<◌, ◌≤◌, false, List, [], length, Option, None, slice_index_or, All, IfSome, IsSomeAnd, refl}
-use Rattle.std.specs.Coded.{Coded, code_by, coded×, coded_ℕ}
+-- What the objects of the global heap are: an arena beside its memory, and the heap that they stand for.
+use Rattle.std.specs.Prelude.{◌≡◌, ℕ, ◌+◌, ◌<◌, ◌≤◌, List, length, All, IsSomeAnd, refl}
+use Rattle.std.specs.Coded.{Coded, code_by, coded×, coded_ℕ, coded_list}
 use Rattle.std.specs.FinMap as finmap
-use Rattle.w16_model.specs.declared.Entry.{Entry}
 use Rattle.w16_model.specs.declared.TheConstants.{GRAIN}
 use Rattle.w16_model.specs.Code.{heap_code}
-use Rattle.w16_model.specs.Heap.{Heap, Object, bytes_at, is_discardable}
+use Rattle.w16_model.specs.Heap.{Heap, bytes_at}
 use Rattle.w16_model.specs.Table.{Table, IsSound, heap_in}
-use Rattle.w16_blocks.specs.Layout.{Layout}
+use Rattle.w16_arena.specs.State.{State}
 
--- a heap, and how many ids its objects may have
+-- a heap, how many ids its objects may have, and the ids that its last request discarded
 pub record Holding : Type 0 where
   pub cap : ℕ
   pub heap : Heap
+  pub discarded : List ℕ
 
 -- by what a proof tells them apart
 abbrev pub holding_code : Coded Holding
-holding_code = code_by (ℕ × Heap) (coded× coded_ℕ heap_code) (λ h. (h.cap, h.heap)) (λ p. record { cap = p.0; heap = p.1 }) (λ _. refl)
+holding_code = code_by (ℕ × (Heap × List ℕ)) (coded× coded_ℕ (coded× heap_code (coded_list coded_ℕ))) (λ h. (h.cap, (h.heap, h.discarded))) (λ p. record { cap = p.0; heap = p.1.0; discarded = p.1.1 }) (λ _. refl)
 
--- the entries by id and the blocks, as a table; nothing is discardable yet, so the order of use is empty
-abbrev pub table_of : List (Option Entry) → Layout → Table
-table_of entries layout = record { lo = layout.lo; hi = layout.hi; grain = layout.grain; entries = entries; blocks = layout.blocks; order = [] }
+-- what an arena and a memory stand for
+abbrev pub holding_of : State → List ℕ → Holding
+holding_of state memory = record { cap = length state.table.entries; heap = heap_in state.table memory; discarded = state.discarded }
 
--- the heap that they and a memory stand for
-abbrev pub heap_of : List (Option Entry) → Layout → List ℕ → Heap
-heap_of entries layout memory = heap_in (table_of entries layout) memory
-
-abbrev pub holding_of : List (Option Entry) → Layout → List ℕ → Holding
-holding_of entries layout memory = record { cap = length entries; heap = heap_of entries layout memory }
-
--- what holds of them; an entry without a block is an absent object's
-pub record AreParts (entries : List (Option Entry)) (layout : Layout) (memory : List ℕ) : Type 0 where
-  pub sound : IsSound (table_of entries layout)
-  pub ids : layout.cap ≡ length entries
-  pub low : layout.lo ≡ 0
-  pub grain : layout.grain ≡ GRAIN
-  pub high : layout.hi ≡ length memory
+-- what holds of them: the arena is over all of the memory, from 0 on, at multiples of the grain
+pub record AreParts (t : Table) (memory : List ℕ) : Type 0 where
+  pub sound : IsSound t
+  pub low : t.lo ≡ 0
+  pub grain : t.grain ≡ GRAIN
+  pub high : t.hi ≡ length memory
   pub bytes : All (λ b. b < 256) memory
-  pub few : length entries ≤ 8192
-  pub plain : (id : ℕ) → IfSome (slice_index_or entries id None) (λ e. is_discardable e.kind ≡ false)
-
--- what is known of an object beside its bytes
-abbrev pub entry_of : Object → Entry
-entry_of o = record { kind = o.kind; locks = o.locks }
+  pub few : length t.entries ≤ 8192
 
 -- n bytes from an address on lie in those of an object
 abbrev pub IsInside : Heap → ℕ → ℕ → ℕ → Type 0

@@ -11,7 +11,8 @@ ghost use Rattle.w16_model.specs.World.{IsFreeSlot};
 use crate::global::Global16;
 use w16_model::{
     Attributes, Entry, GMEM_DDESHARE, GMEM_DISCARDABLE, GMEM_DISCARDED, GMEM_MOVEABLE,
-    GMEM_NOCOMPACT, GMEM_ZEROINIT, GRAIN, Item, Kind, LARGEST_SIZE, Refusal,
+    GMEM_NOCOMPACT, GMEM_NODISCARD, GMEM_ZEROINIT, GRAIN, Item, Kind, LARGEST_SIZE, Owner,
+    Refusal, Way,
 };
 
 impl Global16 {
@@ -78,8 +79,9 @@ impl Global16 {
     }
 
     /// `GlobalAlloc`: a new object's handle, or 0: for a fixed object of size 0, a size over 65,536 bytes, where no slot is free, and where
-    /// there is no room. The size is rounded up to 32 bytes; a moveable object of size 0 has no bytes. Unlocked moveable objects slide where
-    /// that makes room, but not with `GMEM_NOCOMPACT`. Beside it `GMEM_MOVEABLE`, `GMEM_ZEROINIT` and `GMEM_DDESHARE` count so far.
+    /// there is no room. The size is rounded up to 32 bytes; a moveable object of size 0 has no bytes. Objects that aren't fixed or locked slide
+    /// where that makes room, and of the discardable ones as few as are needed are discarded, the least recently used first. With
+    /// `GMEM_NODISCARD` none is discarded, with `GMEM_NOCOMPACT` none slides either. `GMEM_DISCARDABLE` counts beside `GMEM_MOVEABLE` alone.
     pub fn global_alloc(&mut self, flags: u16, size: u32) -> u16
         ensures { GlobalAllocs self.old flags size result self.new }
     {
@@ -99,9 +101,7 @@ impl Global16 {
             self.enter(slot, kind, attributes);
             return handle_of(kind, slot);
         }
-        let compact = !has_flag(flags, GMEM_NOCOMPACT);
-        let zero = has_flag(flags, GMEM_ZEROINIT);
-        if self.allocate(slot, rounded(size), kind, compact, zero, attributes) {
+        if self.allocate(slot, rounded(size), kind, way_asked(flags), attributes) {
             handle_of(kind, slot)
         } else {
             0
@@ -153,7 +153,7 @@ impl Global16 {
     pub fn global_compact(&mut self, size: u32) -> u32
         ensures { GlobalCompacts self.old size result self.new }
     {
-        self.make_room(size)
+        self.compact(size)
     }
 
     /// `GlobalLRUNewest`: the handle, and a discardable object with bytes becomes the newest in the order of use, also while it is locked; 0 for
@@ -161,7 +161,13 @@ impl Global16 {
     pub fn global_lru_newest(&mut self, handle: u16) -> u16
         ensures { Gives (machine.global_lru_newest self.old handle) (machine.Reply.Word result) self.new }
     {
-        0
+        let Some(slot) = self.slot_of_handle(handle) else {
+            return 0;
+        };
+        match self.to_newest(slot) {
+            Ok(()) => handle,
+            Err(_) => 0,
+        }
     }
 
     /// `GlobalLRUOldest`: the handle, and a discardable object with bytes becomes the oldest in the order of use, which is discarded first; 0
@@ -169,7 +175,13 @@ impl Global16 {
     pub fn global_lru_oldest(&mut self, handle: u16) -> u16
         ensures { Gives (machine.global_lru_oldest self.old handle) (machine.Reply.Word result) self.new }
     {
-        0
+        let Some(slot) = self.slot_of_handle(handle) else {
+            return 0;
+        };
+        match self.to_oldest(slot) {
+            Ok(()) => handle,
+            Err(_) => 0,
+        }
     }
 
     /// The first part of the heap that begins at an address or above it, an object's bytes or a hole; objects are named by their handles. None
@@ -179,7 +191,11 @@ impl Global16 {
         ensures inside { IfSome result (λ item. (0 < item.size) × (item.at + item.size < 2 ^ 32)) }
         ensures words { IfSome result (λ item. IfSome item.owner (λ owner. owner.name < 2 ^ 16)) }
     {
-        None
+        let item = self.objects.walk(from)?;
+        Some(Item {
+            owner: item.owner.map(named),
+            ..item
+        })
     }
 
     /// How many bytes the last `global_alloc` or `global_compact` moved: the sizes of the objects that stand at another address since.
@@ -256,14 +272,28 @@ fn has_flag(flags: u16, flag: u16) -> bool
     flags & flag != 0
 }
 
-/// The kind of object that flags ask for.
+/// The kind of object that flags ask for. Only a moveable one can be discardable.
 fn kind_asked(flags: u16) -> Kind
     ensures { result ≡ machine.kind_asked flags }
 {
-    if has_flag(flags, GMEM_MOVEABLE) {
-        Kind::Moveable
-    } else {
+    if !has_flag(flags, GMEM_MOVEABLE) {
         Kind::Fixed
+    } else if has_flag(flags, GMEM_DISCARDABLE) {
+        Kind::Discardable
+    } else {
+        Kind::Moveable
+    }
+}
+
+/// How flags let room be made.
+fn way_asked(flags: u16) -> Way
+    ensures { result ≡ machine.way_asked flags }
+{
+    Way {
+        compact: !has_flag(flags, GMEM_NOCOMPACT),
+        discard: !has_flag(flags, GMEM_NODISCARD),
+        zero: has_flag(flags, GMEM_ZEROINIT),
+        may_move: false,
     }
 }
 
@@ -320,4 +350,15 @@ fn flags_of(entry: Entry, shared: bool, absent: bool) -> u16
         + discardable
         + bit_if(shared, GMEM_DDESHARE)
         + bit_if(absent, GMEM_DISCARDED)
+}
+
+/// The owner with its handle in place of its slot.
+fn named(owner: Owner) -> Owner
+    requires { owner.name < 8192 }
+    ensures { result ≡ record owner { name = world.handle_of owner.kind owner.name } }
+{
+    Owner {
+        name: handle_of(owner.kind, owner.name as u16) as u32,
+        ..owner
+    }
 }

@@ -32,6 +32,7 @@ impl Global16 {
     {
         let at = self.reach(selector, offset, buffer.len(), false)?;
         buffer.copy_from_slice(self.objects.view(at, buffer.len() as u32));
+        self.touch(selector / 8);
         Ok(())
     }
 
@@ -43,6 +44,7 @@ impl Global16 {
     {
         let at = self.reach(selector, offset, bytes.len(), true)?;
         self.objects.write(at, bytes);
+        self.touch(selector / 8);
         Ok(())
     }
 
@@ -53,6 +55,7 @@ impl Global16 {
     {
         let at = self.reach(selector, offset, n as usize, true)?;
         self.objects.fill(at, n, byte);
+        self.touch(selector / 8);
         Ok(())
     }
 }

@@ -1,14 +1,22 @@
 //! Selectors follow the objects that slid.
-ghost use Rattle.std.specs.Prelude.{◌≡◌, ◌+◌, ◌<◌, ◌≤◌, ◌-◌, ◌^◌, ◌⊎◌, ℕ, true, length, is_some, option_map, IfSome, IfNone, Some};
+ghost use Rattle.std.specs.Prelude.{All, ◌≡◌, ◌+◌, ◌<◌, ◌≤◌, ◌-◌, ◌^◌, ◌⊎◌, ℕ, true, length, is_some, option_map, IfSome, IfNone, Some};
 ghost use Rattle.std.specs.FinMap as finmap;
 ghost use Rattle.w16_model.specs.Heap.{IsHeap, object_at, bytes_at};
 ghost use Rattle.w16_selectors.specs.Descriptors.{descriptor_at};
 ghost use Rattle.w16_selectors.specs.declared.SelKind.TheVariants.{Data};
-ghost use Rattle.w16_global.specs.Joined.{followed};
+ghost use Rattle.w16_global.specs.Joined.{followed, forgotten};
 
 use crate::objects::Objects;
 use w16_model::{Block, Span};
 use w16_selectors::{Descriptor, SelKind, Selectors};
+
+/// The descriptor of an object without bytes.
+const NOT_PRESENT: Descriptor = Descriptor {
+    base: 0,
+    limit: 0,
+    present: false,
+    kind: SelKind::Data,
+};
 
 /// The lowest block from an address on that begins below another.
 fn next_within(objects: &Objects, from: u32, to: u32) -> Option<Block>
@@ -35,6 +43,18 @@ fn descriptor_of(block: Block) -> Descriptor
         limit: block.size - 1,
         present: true,
         kind: SelKind::Data,
+    }
+}
+
+/// Says of the selectors of objects that lost their bytes that these aren't present.
+pub(crate) fn forget(selectors: &mut Selectors, discarded: &[u32])
+    requires known { All (λ id. is_some (descriptor_at selectors.old id) ≡ true) discarded.now }
+    requires few { length selectors.old ≤ 8192 }
+    ensures forgotten { (slot : ℕ) → descriptor_at selectors.new slot ≡ forgotten discarded.now selectors.old slot }
+    ensures many { length selectors.new ≡ length selectors.old }
+{
+    for id in discarded {
+        selectors.set(*id as u16, NOT_PRESENT);
     }
 }
 

@@ -1,18 +1,18 @@
 //! The global heap's state, and the steps that its calls are made of.
-ghost use Rattle.std.specs.Prelude.{◌≡◌, ◌≤◌, ◌<◌, IfOk, IfErr, OnOk, IsSome, Ok, Err, false, true, if◌then◌else◌};
+ghost use Rattle.std.specs.Prelude.{◌≡◌, ◌≤◌, ◌<◌, IfOk, IfErr, OnOk, IsSome, Ok, Err, if◌then◌else◌};
 ghost use Rattle.std.specs.FinMap as finmap;
-ghost use Rattle.w16_model.specs.Heap.{Heap, object_at, is_discardable, IsMultiple};
+ghost use Rattle.w16_model.specs.Heap.{Heap, object_at, IsMultiple};
 ghost use Rattle.w16_model.specs.Edit.{removed};
 ghost use Rattle.w16_model.specs.Request.{Allocates, moved_bytes};
-ghost use Rattle.w16_model.specs.Single.{Enters, after_lock, after_unlock, after_free};
+ghost use Rattle.w16_model.specs.Single.{Enters, after_lock, after_unlock, after_free, after_newest, after_oldest, after_touch};
 ghost use Rattle.w16_model.specs.World.{IsFreeSlot, empty_world};
 ghost use Rattle.w16_model.specs.Machine.{GlobalCompacts};
 
-use crate::follow::follow;
+use crate::follow::{follow, forget};
 use crate::objects::Objects;
 use std::alloc::{AllocError, Global};
 use std::marker::Model;
-use w16_model::{Attributes, FIRST_SLOT, GRAIN, Kind, MOST_SLOTS, Refusal};
+use w16_model::{Attributes, FIRST_SLOT, GRAIN, Kind, MOST_SLOTS, Refusal, Way};
 use w16_selectors::{Descriptor, SelKind, Selectors};
 
 /// The global heap: objects that are named by handles, and whose bytes are reached through selectors. Its value is the world of handles.
@@ -61,8 +61,7 @@ impl Global16 {
 
     /// A new object without bytes in a free slot.
     pub(crate) fn enter(&mut self, slot: u16, kind: Kind, attributes: Attributes)
-        requires free { IsFreeSlot self.old slot }
-        requires kind { is_discardable kind ≡ false }
+        requires { IsFreeSlot self.old slot }
         ensures entered { Enters self.old.heap slot kind self.new.heap }
         ensures rest { self.new ≡ record self.old { heap = self.new.heap; attributes = finmap.insert self.old.attributes slot attributes } }
     {
@@ -71,33 +70,32 @@ impl Global16 {
         self.selectors.take(slot);
     }
 
-    /// A new object in a free slot, of so many bytes, a multiple of the grain, if there is room: in a hole, or where `compact` lets others
-    /// slide. The selectors of those that slid follow.
+    /// A new object in a free slot, of so many bytes, a multiple of the grain, if there is room for it as the way has it. The selectors of
+    /// objects that were discarded for it, or have slid, follow.
     pub(crate) fn allocate(
         &mut self,
         slot: u16,
         size: u32,
         kind: Kind,
-        compact: bool,
-        zero: bool,
+        way: Way,
         attributes: Attributes,
     ) -> bool
         requires free { IsFreeSlot self.old slot }
         requires some { 0 < size }
         requires rounded { IsMultiple GRAIN size }
-        requires kind { is_discardable kind ≡ false }
-        ensures allocated { Allocates self.old.heap slot size kind 0 (record { compact = compact; discard = false; zero = zero; may_move = false }) result self.new.heap }
+        ensures allocated { Allocates self.old.heap slot size kind 0 way result self.new.heap }
         ensures rest { self.new ≡ record self.old {
           heap = self.new.heap;
           attributes = if result then finmap.insert self.old.attributes slot attributes else self.old.attributes;
           moved = if result then moved_bytes self.old.heap self.new.heap else self.old.moved;
         } }
     {
-        let Some(placed) = self.objects.alloc(slot as u32, size, kind, compact, zero) else {
+        let Some(placed) = self.objects.alloc(slot as u32, size, kind, way) else {
             return false;
         };
         self.moved = placed.moved as u32;
         self.attributes[slot as usize] = Some(attributes);
+        forget(&mut self.selectors, self.objects.discarded());
         self.selectors.take(slot);
         follow(&self.objects, &mut self.selectors, placed.slid);
         self.selectors.set(
@@ -113,10 +111,11 @@ impl Global16 {
     }
 
     /// Compaction for so many bytes: the longest hole there is then, or what it could be for 0 bytes.
-    pub(crate) fn make_room(&mut self, size: u32) -> u32
+    pub(crate) fn compact(&mut self, size: u32) -> u32
         ensures { GlobalCompacts self.old size result self.new }
     {
         let compacted = self.objects.compact(size);
+        forget(&mut self.selectors, self.objects.discarded());
         follow(&self.objects, &mut self.selectors, compacted.slid);
         self.moved = compacted.moved as u32;
         compacted.room
@@ -148,5 +147,28 @@ impl Global16 {
         ensures err { IfErr result (λ refusal. (after_unlock self.old.heap slot ≡ Err refusal) × (self.new ≡ self.old)) }
     {
         self.objects.unlock(slot as u32)
+    }
+
+    /// A discardable object with bytes becomes the newest in the order of use.
+    pub(crate) fn to_newest(&mut self, slot: u16) -> Result<(), Refusal>
+        ensures ok { OnOk result ((after_newest self.old.heap slot ≡ Ok self.new.heap) × (self.new ≡ record self.old { heap = self.new.heap })) }
+        ensures err { IfErr result (λ refusal. (after_newest self.old.heap slot ≡ Err refusal) × (self.new ≡ self.old)) }
+    {
+        self.objects.to_newest(slot as u32)
+    }
+
+    /// A discardable object with bytes becomes the oldest in the order of use.
+    pub(crate) fn to_oldest(&mut self, slot: u16) -> Result<(), Refusal>
+        ensures ok { OnOk result ((after_oldest self.old.heap slot ≡ Ok self.new.heap) × (self.new ≡ record self.old { heap = self.new.heap })) }
+        ensures err { IfErr result (λ refusal. (after_oldest self.old.heap slot ≡ Err refusal) × (self.new ≡ self.old)) }
+    {
+        self.objects.to_oldest(slot as u32)
+    }
+
+    /// An object was used: a discardable one with bytes becomes the newest in the order of use.
+    pub(crate) fn touch(&mut self, slot: u16)
+        ensures { self.new ≡ record self.old { heap = after_touch self.old.heap slot } }
+    {
+        self.objects.touch(slot as u32);
     }
 }

@@ -5,7 +5,6 @@ mod calls;
 mod far;
 mod follow;
 mod global;
-mod making;
 mod objects;
 
 pub use global::Global16;

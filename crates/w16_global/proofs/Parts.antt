@@ -1,0 +1,120 @@
+-- The objects' arena and memory, and the heap that they stand for.
+use Rattle.std.proofs.Common.{◌≡◌, ◌≢◌, ℕ, ◌+◌, ◌^◌, ◌<◌, ◌≤◌, ◌⊎◌, IfSome, IfNone, IsSomeAnd, All, List, length, get_or, Option, Some, None, option_map, is_some, refl, sym, ap, ◌∙◌, subst, arith}
+use Rattle.std.specs.FinMap as finmap
+use Rattle.w16_model.specs.declared.Block.{Block}
+use Rattle.w16_model.specs.declared.Entry.{Entry}
+use Rattle.w16_model.specs.declared.Kind.{Kind}
+use Rattle.w16_model.specs.declared.TheConstants.{GRAIN}
+use Rattle.w16_model.specs.Heap.{Heap, Object, IsHeap, IsMultiple, object_at, bytes_at}
+use Rattle.w16_model.specs.Table.{Table, IsSound, block_with, entry_at, heap_in}
+use Rattle.w16_model.specs.Single.{Enters}
+use Rattle.w16_model.specs.Edit.{with_object}
+use Rattle.w16_model.proofs.Tables.{member_with}
+use Rattle.w16_arena.specs.State.{State, Steps, IsSameRange, entry_of}
+use Rattle.w16_arena.proofs.Lookups.{is_heap, entry_is, size_here, place_here, ends_in_memory, no_entry, no_block}
+use Rattle.w16_global.specs.Parts.{AreParts, Holding, holding_of}
+use Rattle.w16_global.proofs.Written.{beside, layout_in}
+
+-- another table over the same range, and a memory as long
+pub parts_after : {t : Table} {memory : List ℕ} → AreParts t memory → {new : Table} {after : List ℕ} → IsSameRange t new → length after ≡ length memory → All (λ b. b < 256) after → AreParts new after
+parts_after parts range long bytes = record {
+  sound = range.sound;
+  low = range.lo ∙ parts.low;
+  grain = range.grain ∙ parts.grain;
+  high = range.hi ∙ parts.high ∙ sym long;
+  bytes = bytes;
+  few = let n = range.ids in let few = parts.few in omega arith;
+}
+
+module _ {s : State} {memory : List ℕ} (parts : AreParts s.table memory) where
+  pub whole : s.table.hi ≤ length memory
+  whole = let e = parts.high in omega arith
+
+  -- a step that asks for no room
+  pub parts_stepped : {new : State} {step : Heap → Heap → Type 0} → Steps s new step → AreParts new.table memory
+  parts_stepped p = parts_after parts p.range refl parts.bytes
+
+  module _ {h : Holding} (shown : holding_of s memory ≡ h) where
+    -- what the parts have, the value has, and the other way round
+    pub told : (P : Heap → Type 0) → P (heap_in s.table memory) → P h.heap
+    told P k = subst (λ (h : Holding). P h.heap) shown k
+
+    pub known : (P : Heap → Type 0) → P h.heap → P (heap_in s.table memory)
+    known P k = subst (λ (h : Holding). P h.heap) (sym shown) k
+
+    pub known_cap : {n : ℕ} → n < h.cap → n < length s.table.entries
+    known_cap {n} k = subst (λ (h : Holding). n < h.cap) (sym shown) k
+
+    pub is_heap_shown : IsHeap h.heap
+    is_heap_shown = told IsHeap (is_heap (beside parts) parts.bytes)
+
+    pub low_shown : h.heap.lo ≡ 0
+    low_shown = told (λ heap. heap.lo ≡ 0) parts.low
+
+    pub grain_shown : h.heap.grain ≡ GRAIN
+    grain_shown = told (λ heap. heap.grain ≡ GRAIN) parts.grain
+
+    pub entry_shown : (id : ℕ) → entry_at s.table id ≡ option_map entry_of (object_at h.heap id)
+    entry_shown id = sym (entry_is (beside parts) id) ∙ ap (λ (h : Holding). option_map entry_of (object_at h.heap id)) shown
+
+    pub size_shown : (id : ℕ) → option_map (λ (x : Block). x.size) (block_with s.table.blocks id) ≡ option_map (length {A = ℕ}) (bytes_at h.heap id)
+    size_shown id = sym (size_here (beside parts) id) ∙ ap (λ (h : Holding). option_map (length {A = ℕ}) (bytes_at h.heap id)) shown
+
+    pub place_shown : (id : ℕ) → finmap.get h.heap.places id ≡ option_map (λ (x : Block). x.at) (block_with s.table.blocks id)
+    place_shown id = told (λ heap. finmap.get heap.places id ≡ option_map (λ (x : Block). x.at) (block_with s.table.blocks id)) (place_here (beside parts) id)
+
+    -- an id without an object has no entry and no block
+    pub no_entry_known : (id : ℕ) → object_at h.heap id ≡ None → entry_at s.table id ≡ None
+    no_entry_known id free = no_entry (beside parts) id (known (λ heap. object_at heap id ≡ None) free)
+
+    pub no_block_known : (id : ℕ) → object_at h.heap id ≡ None → block_with s.table.blocks id ≡ None
+    no_block_known id free = no_block (beside parts) id (no_entry_known id free)
+
+    -- the value after a step whose heap is known
+    pub holding_stepped : {new : State} {step : Heap → Heap → Type 0} → Steps s new step → (heap : Heap) → heap_in new.table memory ≡ heap → holding_of new memory ≡ record h { heap = heap }
+    holding_stepped {new} p heap is =
+        (λ i. record { cap = p.range.ids i; heap = is i; discarded = ap (λ (z : State). z.discarded) p.rest i }) ∙ ap (λ (h : Holding). record h { heap = heap }) shown
+
+    -- The lowest block at or above an address.
+    module _ (from : ℕ) (small : length memory < 2 ^ 32) {found : Option Block} where
+      pub next_found : IfSome found (λ b. (from ≤ b.at) × (block_with s.table.blocks b.id ≡ Some b))
+          → IfSome found (λ b. (from ≤ b.at) × (finmap.get h.heap.places b.id ≡ Some b.at) × (option_map (length {A = ℕ}) (bytes_at h.heap b.id) ≡ Some b.size))
+      next_found = turn found
+        where
+          turn : (p : Option Block) → IfSome p (λ b. (from ≤ b.at) × (block_with s.table.blocks b.id ≡ Some b)) → IfSome p (λ b. (from ≤ b.at) × (finmap.get h.heap.places b.id ≡ Some b.at) × (option_map (length {A = ℕ}) (bytes_at h.heap b.id) ≡ Some b.size))
+          turn None f = tt
+          turn (Some b) f = (f.0, place_shown b.id ∙ ap (option_map (λ (x : Block). x.at)) f.1, sym (size_shown b.id) ∙ ap (option_map (λ (x : Block). x.size)) f.1)
+
+      each_place : (P : ℕ → Type 0) → ((q : ℕ) → IfSome (block_with s.table.blocks q) (λ c. P c.at)) → (q : ℕ) → IfSome (finmap.get h.heap.places q) P
+      each_place P f q = subst (λ p. IfSome p P) (sym (place_shown q)) (turn (block_with s.table.blocks q) (f q))
+        where
+          turn : (b : Option Block) → IfSome b (λ c. P c.at) → IfSome (option_map (λ (x : Block). x.at) b) P
+          turn None k = tt
+          turn (Some x) k = k
+
+      pub next_lowest : IfSome found (λ b. (q : ℕ) → IfSome (block_with s.table.blocks q) (λ c. (c.at < from) ⊎ (b.at ≤ c.at))) → IfSome found (λ b. (q : ℕ) → IfSome (finmap.get h.heap.places q) (λ at. (at < from) ⊎ (b.at ≤ at)))
+      next_lowest = turn found
+        where
+          turn : (p : Option Block) → IfSome p (λ b. (q : ℕ) → IfSome (block_with s.table.blocks q) (λ c. (c.at < from) ⊎ (b.at ≤ c.at))) → IfSome p (λ b. (q : ℕ) → IfSome (finmap.get h.heap.places q) (λ at. (at < from) ⊎ (b.at ≤ at)))
+          turn None f = tt
+          turn (Some b) f = each_place (λ at. (at < from) ⊎ (b.at ≤ at)) f
+
+      pub next_none : IfNone found ((q : ℕ) → IfSome (block_with s.table.blocks q) (λ c. c.at < from)) → IfNone found ((q : ℕ) → IfSome (finmap.get h.heap.places q) (λ at. at < from))
+      next_none = turn found
+        where
+          turn : (p : Option Block) → IfNone p ((q : ℕ) → IfSome (block_with s.table.blocks q) (λ c. c.at < from)) → IfNone p ((q : ℕ) → IfSome (finmap.get h.heap.places q) (λ at. at < from))
+          turn None f = each_place (λ at. at < from) f
+          turn (Some b) f = tt
+
+      pub next_inside : IfSome found (λ b. (from ≤ b.at) × (block_with s.table.blocks b.id ≡ Some b)) → IfSome found (λ b. (0 < b.size) × (b.at + b.size < 2 ^ 32))
+      next_inside = turn found
+        where
+          turn : (p : Option Block) → IfSome p (λ b. (from ≤ b.at) × (block_with s.table.blocks b.id ≡ Some b)) → IfSome p (λ b. (0 < b.size) × (b.at + b.size < 2 ^ 32))
+          turn None f = tt
+          turn (Some b) f = let end = ends_in_memory (beside parts) b.id b f.1 in (end.0, omega (arith, end.1, small))
+
+    -- an absent object that was entered
+    pub entered_shown : {new : State} (id : ℕ) {kind : Kind} → Steps s new (λ a b. Enters a id kind b) → holding_of new memory ≡ record h { heap = with_object h.heap id (record { kind = kind; locks = 0; bytes = None }) }
+    entered_shown {new} id {kind} p =
+        holding_stepped p (heap_in new.table memory) refl
+        ∙ (λ i. record h { heap = (p.heaps memory whole).entered i }) ∙ ap (λ (k : Holding). record h { heap = with_object k.heap id (record { kind = kind; locks = 0; bytes = None }) }) shown
