@@ -47,6 +47,7 @@ impl Arena {
         requires inside { self.old.table.hi ≤ length (S.bytes space.old) }
         ensures sound { IsSound self.old.table }
         ensures stands { IfSome result (λ p. Stands (heap_in self.old.table (S.bytes space.old)) id size kind way p.at p.slid p.moved (heap_in self.new.table (S.bytes space.new))) }
+        ensures inside { IfSome result (λ p. p.at + size ≤ self.old.table.hi) }
         ensures enough { IfSome result (λ _. size ≤ most_in self.old.table way.compact) }
         ensures refused { IfNone result ((most_in self.old.table way.compact < size) × (self.new ≡ self.old) × (space.new ≡ space.old)) }
         ensures discarded { self.new.discarded ≡ self.old.discarded }

@@ -1,5 +1,5 @@
 //! Requests for room: allocation and compaction.
-ghost use Rattle.std.specs.Prelude.{◌≡◌, ◌≢◌, ◌<◌, ◌≤◌, ℕ, [], length, is_ok, IfOk, OnErr, ◌&&◌, if◌then◌else◌, Some, None};
+ghost use Rattle.std.specs.Prelude.{◌≡◌, ◌≢◌, ◌+◌, ◌<◌, ◌≤◌, ℕ, [], length, is_ok, IfOk, OnErr, ◌&&◌, if◌then◌else◌, Some, None};
 ghost use Rattle.std.specs.FinMap as finmap;
 ghost use Rattle.w16_region.specs.Bytes.{counted};
 ghost use Rattle.w16_model.specs.Heap.{IsMultiple};
@@ -38,6 +38,7 @@ impl Arena {
         requires inside { self.old.table.hi ≤ length (S.bytes space.old) }
         ensures allocated { Allocates (heap_in self.old.table (S.bytes space.old)) id size kind 0 way (is_ok result) (heap_in self.new.table (S.bytes space.new)) }
         ensures placed { IfOk result (λ p. finmap.get (heap_in self.new.table (S.bytes space.new)).places id ≡ Some p.at) }
+        ensures inside { IfOk result (λ p. p.at + size ≤ self.old.table.hi) }
         ensures discarded { IfOk result (λ _. HasDiscarded (heap_in self.old.table (S.bytes space.old)) id size way self.new.discarded) }
         ensures still { IfOk result (λ p. (q : ℕ) → q ≢ id → IsStill p.slid (heap_in self.old.table (S.bytes space.old)) (heap_in self.new.table (S.bytes space.new)) q) }
         ensures moved { IfOk result (λ p. p.moved ≡ moved_bytes (heap_in self.old.table (S.bytes space.old)) (heap_in self.new.table (S.bytes space.new))) }

@@ -16,8 +16,8 @@ use Rattle.w16_selectors.specs.Descriptors.{IsFreeRun}
 use Rattle.w16_global.specs.Parts.{Holding}
 use Rattle.w16_global.specs.Joined.{world_of, AreJoined}
 use Rattle.w16_global.proofs.Joined.{free_slot, free_selector}
-use Rattle.w16_global.proofs.Unmoved.{unmoved}
-use Rattle.w16_global.proofs.Refused.{prefix_about_none}
+use Rattle.w16_arena.proofs.Unmoved.{unmoved}
+use Rattle.w16_model.proofs.Prefixes.{none_about}
 
 module _ {h : Holding} {xs : List (Option Attributes)} {t : selectors.Table} {m : ℕ} {w : World} (are : AreJoined h xs t) (shown : world_of h xs m ≡ w) where
   -- a free run of one slot is a free slot

@@ -8,6 +8,4 @@ pub mod Access
 pub mod Allocation
 pub mod Begin
 pub mod Following
-pub mod Forgotten
 pub mod Sliding
-pub mod Walked

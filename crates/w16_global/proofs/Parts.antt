@@ -1,19 +1,46 @@
 -- The objects' arena and memory, and the heap that they stand for.
-use Rattle.std.proofs.Common.{◌≡◌, ◌≢◌, ℕ, ◌+◌, ◌^◌, ◌<◌, ◌≤◌, ◌⊎◌, IfSome, IfNone, IsSomeAnd, All, List, length, get_or, Option, Some, None, option_map, is_some, refl, sym, ap, ◌∙◌, subst, arith}
+use Rattle.std.proofs.Common.{◌≡◌, ◌≢◌, ℕ, ◌+◌, ◌^◌, ◌<◌, ◌≤◌, ◌⊎◌, IfSome, IfNone, IsSomeAnd, All, Bool, true, false, cond, List, [], ◌∷◌, length, filter, sum_by, get_or, Option, Some, None, option_map, is_some, refl, sym, ap, ◌∙◌, subst, arith}
 use Rattle.std.specs.FinMap as finmap
 use Rattle.w16_model.specs.declared.Block.{Block}
 use Rattle.w16_model.specs.declared.Entry.{Entry}
 use Rattle.w16_model.specs.declared.Kind.{Kind}
 use Rattle.w16_model.specs.declared.TheConstants.{GRAIN}
-use Rattle.w16_model.specs.Heap.{Heap, Object, IsHeap, IsMultiple, object_at, bytes_at}
+use Rattle.w16_model.specs.Gap.{IsLaid, block_end}
+use Rattle.w16_model.specs.Heap.{Heap, Object, IsHeap, IsMultiple, object_at, bytes_at, blocks}
+use Rattle.w16_model.specs.Request.{is_elsewhere, moved_bytes}
+use Rattle.w16_model.proofs.Longest.{sum_filter}
 use Rattle.w16_model.specs.Table.{Table, IsSound, block_with, entry_at, heap_in}
 use Rattle.w16_model.specs.Single.{Enters}
 use Rattle.w16_model.specs.Edit.{with_object}
 use Rattle.w16_model.proofs.Tables.{member_with}
 use Rattle.w16_arena.specs.State.{State, Steps, IsSameRange, entry_of}
+use Rattle.w16_arena.proofs.Listed.{listed_permutation}
+use Rattle.w16_arena.proofs.Moved.{bytes_permutation}
 use Rattle.w16_arena.proofs.Lookups.{is_heap, entry_is, size_here, place_here, ends_in_memory, no_entry, no_block}
 use Rattle.w16_global.specs.Parts.{AreParts, Holding, holding_of}
 use Rattle.w16_global.proofs.Written.{beside, layout_in}
+
+-- blocks by address have no more bytes than their range
+laid_bytes : (p : Block → Bool) (lo hi : ℕ) (bs : List Block) → IsLaid lo hi bs → lo + sum_by (λ x. x.size) (filter p bs) ≤ hi
+laid_bytes p lo hi [] laid = omega (arith, laid)
+laid_bytes p lo hi (b ∷ bs) laid =
+    let rest = laid_bytes p (block_end b) hi bs laid.2 in
+    let above = laid.0 in
+    let sum = sum_filter p b bs in
+    omega (arith, rest, above, sum, fewer (p b) b.size)
+  where
+    fewer : (t : Bool) (n : ℕ) → cond t n 0 ≤ n
+    fewer true n = omega arith
+    fewer false n = omega arith
+
+-- so no more is moved
+pub moved_few : {t : Table} {memory : List ℕ} → AreParts t memory → (new : Heap) → moved_bytes (heap_in t memory) new ≤ length memory
+moved_few {t} {memory} parts new =
+    let p : Block → Bool = λ x. is_elsewhere x.at (finmap.get new.places x.id) in
+    let same = bytes_permutation p t.blocks (blocks (heap_in t memory)) (listed_permutation (beside parts)) in
+    let most = laid_bytes p t.lo t.hi t.blocks parts.sound.table.laid in
+    let high = parts.high in
+    omega (arith, same, most)
 
 -- another table over the same range, and a memory as long
 pub parts_after : {t : Table} {memory : List ℕ} → AreParts t memory → {new : Table} {after : List ℕ} → IsSameRange t new → length after ≡ length memory → All (λ b. b < 256) after → AreParts new after

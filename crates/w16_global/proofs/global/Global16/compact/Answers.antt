@@ -1,5 +1,5 @@
 use Rattle.w16_global.proofs.Sliding.{compacted_joined, compacted_known}
-use Rattle.w16_global.proofs.global.Global16.make_room.Goals as goal
+use Rattle.w16_global.proofs.global.Global16.compact.Goals as goal
 
 pub invariant_of-self : goal.invariant_of-self
 invariant_of-self c =

@@ -14,11 +14,11 @@ invariant_of-self c =
     let s = c.self.inside in
     let room = room_around c.self.invariant c.requires.0 c.self.view_is c.args.at c.args.n c.requires.1 in
     let long = length-repeated c.args.n c.args.byte in
-    subst (AreParts s.entries.items s.blocks) (sym c.fill.ensures.bytes) (parts_written c.self.invariant c.args.at (repeated c.args.n c.args.byte) (omega arith) (All-repeated c.args.n c.args.byte c.ranges.byte.fits))
+    subst (AreParts s.arena.table) (sym c.fill.ensures.bytes) (parts_written c.self.invariant c.args.at (repeated c.args.n c.args.byte) (omega arith) (All-repeated c.args.n c.args.byte c.ranges.byte.fits))
 
-pub returns-clause-value : goal.returns-clause-value
-returns-clause-value c =
+pub returns : goal.returns
+returns c =
     let s = c.self.inside in
-    λ id inside. subst (λ m. IfSome (finmap.get c.args.self.now.heap.places id) (λ place. holding_of s.entries.items s.blocks m ≡ record c.args.self.now { heap = after_write c.args.self.now.heap id (c.args.at - place) (repeated c.args.n c.args.byte) }))
+    λ id inside. subst (λ m. IfSome (finmap.get c.args.self.now.heap.places id) (λ place. holding_of s.arena m ≡ record c.args.self.now { heap = after_write c.args.self.now.heap id (c.args.at - place) (repeated c.args.n c.args.byte) }))
     (sym c.fill.ensures.bytes)
     (holding_written c.self.invariant id c.self.view_is c.args.at c.args.n inside (repeated c.args.n c.args.byte) (length-repeated c.args.n c.args.byte) (All-repeated c.args.n c.args.byte c.ranges.byte.fits))

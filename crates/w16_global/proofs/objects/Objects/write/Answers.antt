@@ -4,7 +4,7 @@ use Rattle.std.specs.Vec.{with_items}
 use Rattle.w16_model.specs.Machine.{after_write}
 use Rattle.w16_region.specs.Bytes.{put_part, with_items-put_part}
 use Rattle.w16_global.specs.Parts.{AreParts, holding_of}
-use Rattle.w16_global.proofs.Slices.{All-bytes}
+use Rattle.w16_arena.proofs.Slices.{All-bytes}
 use Rattle.w16_global.proofs.Written.{room_around, parts_written, holding_written}
 use Rattle.w16_global.proofs.objects.Objects.write.Goals as goal
 
@@ -29,13 +29,13 @@ pub invariant_of-self : goal.invariant_of-self
 invariant_of-self c =
     let s = c.self.inside in
     let room = room_around c.self.invariant c.requires.0 c.self.view_is c.args.at (length c.args.new.now) c.requires.1 in
-    subst (AreParts s.entries.items s.blocks) (sym (items_put s.memory.bytes c.args.at c.copy_from_slice.new.self c.args.new.now c.copy_from_slice.ensures.after room))
+    subst (AreParts s.arena.table) (sym (items_put s.memory.bytes c.args.at c.copy_from_slice.new.self c.args.new.now c.copy_from_slice.ensures.after room))
     (parts_written c.self.invariant c.args.at c.args.new.now room (All-bytes c.args.new.now c.type_inv.new))
 
-pub returns-clause-value : goal.returns-clause-value
-returns-clause-value c =
+pub returns : goal.returns
+returns c =
     let s = c.self.inside in
     let room = room_around c.self.invariant c.requires.0 c.self.view_is c.args.at (length c.args.new.now) c.requires.1 in
-    λ id inside. subst (λ m. IfSome (finmap.get c.args.self.now.heap.places id) (λ place. holding_of s.entries.items s.blocks m ≡ record c.args.self.now { heap = after_write c.args.self.now.heap id (c.args.at - place) c.args.new.now }))
+    λ id inside. subst (λ m. IfSome (finmap.get c.args.self.now.heap.places id) (λ place. holding_of s.arena m ≡ record c.args.self.now { heap = after_write c.args.self.now.heap id (c.args.at - place) c.args.new.now }))
     (sym (items_put s.memory.bytes c.args.at c.copy_from_slice.new.self c.args.new.now c.copy_from_slice.ensures.after room))
     (holding_written c.self.invariant id c.self.view_is c.args.at (length c.args.new.now) inside c.args.new.now refl (All-bytes c.args.new.now c.type_inv.new))
