@@ -28,6 +28,7 @@ impl Model for Kernel {
 
     ghost view = { λ k. k.global };
 
+    // Each step keeps it, so that every world here has a walk.
     ghost invariant = { λ k. IsWorld k.global };
 }
 
