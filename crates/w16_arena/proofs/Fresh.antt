@@ -15,7 +15,7 @@ abbrev none : Option Entry
 none = None
 
 -- a list of nothing has nothing at each place
-no_entry : (n q : ℕ) → get_or (replicate n none) q None ≡ None
+pub no_entry : (n q : ℕ) → get_or (replicate n none) q None ≡ None
 no_entry zero q = refl
 no_entry (suc n) zero = refl
 no_entry (suc n) (suc q) = no_entry n q
@@ -37,7 +37,7 @@ module _ (cap lo hi grain : ℕ) (bounds : lo ≤ hi) (grained : IsMultiple grai
   listed : IsOrder (replicate cap none) (fresh cap lo hi grain) []
   listed = record { members = λ q. sym (ap (λ e. is_listed e None) (no_entry cap q)); once = AllPairs-from_EachPair (λ a b. a ≡ b → ⊥) [] tt }
 
-  sound : IsSound (empty_table cap lo hi grain)
+  pub sound : IsSound (empty_table cap lo hi grain)
   sound = sound_of (replicate cap none) (fresh cap lo hi grain) [] arranged (λ q x e. cc) listed (each (λ d. (d.locks ≤ 255) × (IsTrue (is_fixed d.kind) → d.locks ≡ 0)))
 
   pub fresh_kept : (marks : List Bool) → length marks ≡ cap → (room : ℕ) → cap ≤ room → IsKept (replicate cap none) (fresh cap lo hi grain) (no_uses cap) marks room

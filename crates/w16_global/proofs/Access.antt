@@ -1,14 +1,16 @@
 -- Far reads and writes of bytes that are there.
-use Rattle.std.proofs.Common.{◌≡◌, ℕ, ◌+◌, ◌-◌, ◌<◌, ◌≤◌, IfSome, IsSomeAnd, List, [], length, All, replicate, Option, Some, None, option_map, unwrap_or, refl, sym, ap, ◌∙◌, subst, arith, length-take, length-drop}
+use Rattle.std.proofs.Common.{◌≡◌, ℕ, ◌+◌, ◌-◌, ◌<◌, ◌≤◌, Bool, true, false, ◌&&◌, ◌==◌, ◌/◌, if◌then◌else◌, nat_lt, is_some, IfSome, IsSomeAnd, List, [], length, All, replicate, Option, Some, None, option_map, unwrap_or, refl, sym, ap, ◌∙◌, subst, arith, length-take, length-drop}
 use Rattle.std.specs.FinMap as finmap
 use Rattle.std.proofs.lemmas.List.{length-replicate}
 use Rattle.std.proofs.lemmas.List.Elements.{All-replicate}
 use Rattle.w16_region.specs.Bytes.{repeated}
 use Rattle.w16_model.specs.declared.Attributes.{Attributes}
 use Rattle.w16_model.specs.Heap.{Heap, Object, object_at, bytes_at}
-use Rattle.w16_model.specs.Edit.{touched}
-use Rattle.w16_model.specs.World.{World, IsWorld}
-use Rattle.w16_model.specs.Machine.{Gives, far_slot, far_bytes, far_read, far_write, slice_at, with_slice, after_write}
+use Rattle.w16_model.specs.Single.{after_touch}
+use Rattle.w16_model.specs.declared.FarFault.{FarFault}
+use Rattle.w16_model.specs.declared.FarFault.TheVariants.{BadSelector, NotPresent, Limit}
+use Rattle.w16_model.specs.World.{World, IsWorld, selector_of}
+use Rattle.w16_model.specs.Machine.{Gives, far_fault, far_slot, far_bytes, far_read, far_write, slice_at, with_slice, after_write}
 use Rattle.w16_model.specs.Machine as machine
 use Rattle.w16_model.proofs.Kept.{written_heap}
 use Rattle.w16_model.proofs.Worlds.{other_world, same_updated}
@@ -18,9 +20,16 @@ use Rattle.w16_global.specs.Joined.{world_of, AreJoined, Reaches}
 use Rattle.w16_global.proofs.Joined.{joined_same}
 use Rattle.w16_global.proofs.Described.{write_same}
 
--- where nothing is in the order of use, a use leaves it
-unordered : (heap : Heap) (slot : ℕ) → heap.order ≡ [] → heap.order ≡ touched slot heap.order
-unordered heap slot none = none ∙ sym (ap (touched slot) none)
+-- the slot of an access without a fault is its selector's
+pub slot_of_access : (world : World) (selector offset n : ℕ) → far_fault world selector offset n ≡ None → far_slot world selector ≡ selector / 8
+slot_of_access world selector offset n = from (is_some (object_at world.heap (selector / 8)) && (selector == selector_of (selector / 8)))
+  where
+    from : (b : Bool) → (elim (if b then Some (selector / 8) else None) as (λ _. Option FarFault) [
+          | None ↦ Some BadSelector
+          | Some slot ↦ elim (bytes_at world.heap slot) [ None ↦ Some NotPresent | Some bytes ↦ if nat_lt (length bytes) (offset + n) then Some Limit else None ]
+        ]) ≡ None → unwrap_or (if b then Some (selector / 8) else None) 0 ≡ selector / 8
+    from true e = refl
+    from false e = cc
 
 -- An object that is reached: its bytes, and where the access begins in them.
 record Reached (heap : Heap) (slot offset n at : ℕ) : Type 0 where
@@ -83,17 +92,18 @@ module _ {h : Holding} {xs : List (Option Attributes)} {t : selectors.Table} {m 
   found = reached h.heap (far_slot (world_of h xs m) selector) offset n at r.inside r.place
 
   -- Read
-  pub read_known : h.heap.order ≡ [] → (view : List ℕ)
-      → ((id : ℕ) → IsInside h.heap id at n → IfSome (bytes_at h.heap id) (λ bytes. IfSome (finmap.get h.heap.places id) (λ place. view ≡ slice_at bytes (at - place) n))) → Gives (far_read w selector offset n) (machine.Reply.Bytes view) w
-  read_known none view said =
+  pub read_known : (view : List ℕ)
+      → ((id : ℕ) → IsInside h.heap id at n → IfSome (bytes_at h.heap id) (λ bytes. IfSome (finmap.get h.heap.places id) (λ place. view ≡ slice_at bytes (at - place) n))) → (after : World) → after ≡ record w { heap = after_touch w.heap (selector / 8) } → Gives (far_read w selector offset n) (machine.Reply.Bytes view) after
+  read_known view said after then_is =
       let f = found in
       let q : ℕ = far_slot (world_of h xs m) selector in
       let of_bytes : IfSome (finmap.get h.heap.places q) (λ place. view ≡ slice_at f.bytes (at - place) n) = subst (λ b. IfSome b (λ bytes. IfSome (finmap.get h.heap.places q) (λ place. view ≡ slice_at bytes (at - place) n))) f.here (said q r.inside) in
       let is : view ≡ slice_at f.bytes (at - f.place) n = said_of_place _ h.heap q f.place f.stands of_bytes in
       let begin : at - f.place ≡ offset = (let b = f.begins in omega (arith, b)) in
       let all : far_bytes (world_of h xs m) selector ≡ f.bytes = ap (λ (b : Option (List ℕ)). unwrap_or b []) f.here in
-      subst (λ v. Gives (far_read v selector offset n) (machine.Reply.Bytes view) v) shown
-      (rw (r.no_fault, far_read) (ap machine.Reply.Bytes (is ∙ (λ i. slice_at (sym all i) (begin i) n)), λ i. record (world_of h xs m) { heap = record h.heap { order = unordered h.heap q none i } }))
+      let slot_is : far_slot (world_of h xs m) selector ≡ selector / 8 = slot_of_access (world_of h xs m) selector offset n r.no_fault in
+      subst (λ v. after ≡ record v { heap = after_touch v.heap (selector / 8) } → Gives (far_read v selector offset n) (machine.Reply.Bytes view) after) shown
+      (λ is_after. rw (r.no_fault, far_read) (ap machine.Reply.Bytes (is ∙ (λ i. slice_at (sym all i) (begin i) n)), is_after ∙ ap (λ k. record (world_of h xs m) { heap = after_touch h.heap k }) (sym slot_is))) then_is
 
   -- how much is read
   pub read_length : (view : List ℕ) → ((id : ℕ) → IsInside h.heap id at n → IfSome (bytes_at h.heap id) (λ bytes. IfSome (finmap.get h.heap.places id) (λ place. view ≡ slice_at bytes (at - place) n))) → length view ≡ n
@@ -107,7 +117,7 @@ module _ {h : Holding} {xs : List (Option Attributes)} {t : selectors.Table} {m 
       ap length is ∙ simp (length-take, length-drop) (omega (arith, b, fits))
 
   -- Write
-  module _ (slice : List ℕ) (long : length slice ≡ n) (none : h.heap.order ≡ []) (new : Holding)
+  module _ (slice : List ℕ) (long : length slice ≡ n) (new : Holding)
       (said : (id : ℕ) → IsInside h.heap id at (length slice) → IfSome (finmap.get h.heap.places id) (λ place. new ≡ record h { heap = after_write h.heap id (at - place) slice })) where
     written : new ≡ record h { heap = after_write h.heap (far_slot (world_of h xs m) selector) offset slice }
     written =
@@ -127,16 +137,18 @@ module _ {h : Holding} {xs : List (Option Attributes)} {t : selectors.Table} {m 
         (same_updated h.heap.objects q (λ (o : Object). record o { bytes = option_map (λ (b : List ℕ). with_slice b offset slice) o.bytes })) in
         subst (λ k. AreJoined k xs t) (sym written) (joined_same h xs t are (record h { heap = after }) refl world (write_same h.heap q offset slice f.bytes f.object f.there f.has fits))
 
-    pub write_known : Gives (far_write w selector offset slice) machine.Reply.Done (world_of new xs m)
-    write_known =
+    pub write_known : (after : World) → after ≡ record (world_of new xs m) { heap = after_touch new.heap (selector / 8) } → Gives (far_write w selector offset slice) machine.Reply.Done after
+    write_known after then_is =
         let q : ℕ = far_slot (world_of h xs m) selector in
         let fine = ap (machine.far_fault (world_of h xs m) selector offset) long ∙ r.no_fault in
-        subst (λ v. Gives (far_write v selector offset slice) machine.Reply.Done (world_of new xs m)) shown
-        (rw (fine, far_write) (refl, ap (λ k. world_of k xs m) written ∙ (λ i. record (world_of h xs m) { heap = record (after_write h.heap q offset slice) { order = unordered h.heap q none i } })))
+        let slot_is : far_slot (world_of h xs m) selector ≡ selector / 8 = slot_of_access (world_of h xs m) selector offset n r.no_fault in
+        subst (λ v. Gives (far_write v selector offset slice) machine.Reply.Done after) shown
+        (rw (fine, far_write) (refl, then_is ∙ ap (λ (k : Holding). record (world_of k xs m) { heap = after_touch k.heap (selector / 8) }) written
+        ∙ ap (λ k. record (world_of h xs m) { heap = after_touch (after_write h.heap q offset slice) k }) (sym slot_is)))
 
 -- Fill
 module _ {h : Holding} {xs : List (Option Attributes)} {t : selectors.Table} {m : ℕ} {w : World} (are : AreJoined h xs t) (shown : world_of h xs m ≡ w) (selector offset n at : ℕ) (known : Reaches w selector offset n at)
-    (byte : ℕ) (none : h.heap.order ≡ []) (new : Holding)
+    (byte : ℕ) (new : Holding)
     (said : (id : ℕ) → IsInside h.heap id at n → IfSome (finmap.get h.heap.places id) (λ place. new ≡ record h { heap = after_write h.heap id (at - place) (repeated n byte) })) where
   long : length (repeated n byte) ≡ n
   unfolding repeated
@@ -147,8 +159,8 @@ module _ {h : Holding} {xs : List (Option Attributes)} {t : selectors.Table} {m 
 
   pub filled_joined : byte < 256 → AreJoined new xs t
   unfolding repeated
-  filled_joined small = written_joined are shown selector offset n at known (repeated n byte) long none new said_long (All-replicate (λ b. b < 256) n byte small)
+  filled_joined small = written_joined are shown selector offset n at known (repeated n byte) long new said_long (All-replicate (λ b. b < 256) n byte small)
 
-  pub fill_known : Gives (far_write w selector offset (replicate n byte)) machine.Reply.Done (world_of new xs m)
+  pub fill_known : (after : World) → after ≡ record (world_of new xs m) { heap = after_touch new.heap (selector / 8) } → Gives (far_write w selector offset (replicate n byte)) machine.Reply.Done after
   unfolding repeated
-  fill_known = write_known are shown selector offset n at known (repeated n byte) long none new said_long
+  fill_known = write_known are shown selector offset n at known (repeated n byte) long new said_long

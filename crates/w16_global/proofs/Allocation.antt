@@ -3,9 +3,10 @@ use Rattle.std.proofs.Common.{◌≡◌, ℕ, ◌+◌, inr, true, ◌==◌, ◌&
 use Rattle.std.specs.FinMap as finmap
 use Rattle.w16_model.specs.declared.Attributes.{Attributes}
 use Rattle.w16_model.specs.declared.Kind.{Kind}
+use Rattle.w16_model.specs.declared.Way.{Way}
 use Rattle.w16_model.specs.declared.TheConstants.{LARGEST_SIZE, GMEM_MOVEABLE, GMEM_NOCOMPACT, GMEM_ZEROINIT, GMEM_DDESHARE}
 use Rattle.std.proofs.lemmas.Bool.{false≢true, cases_lt}
-use Rattle.w16_model.specs.Heap.{Heap, Object}
+use Rattle.w16_model.specs.Heap.{Heap, Object, IsHeap}
 use Rattle.w16_model.specs.Edit.{with_ordered, with_newest}
 use Rattle.w16_model.specs.Request.{Allocates, IsNew, Settles, discarded, stays_for, prefix_of, moved_bytes}
 use Rattle.w16_model.specs.Single.{Enters}
@@ -63,10 +64,10 @@ module _ (w : World) (flags slot size : ℕ) (new : World) (free : IsFreeSlot w 
   })
 
   -- no room
-  pub refuses_bytes : 0 < size → Allocates w.heap slot (rounded_size size) (kind_asked flags) 0 (way_asked flags) false new.heap → new ≡ record w { heap = new.heap; moved = 0 } → GlobalAllocs w flags size 0 new
-  refuses_bytes some allocated rest =
+  pub refuses_bytes : IsHeap w.heap → 0 < size → Allocates w.heap slot (rounded_size size) (kind_asked flags) 0 (way_asked flags) false new.heap → new ≡ record w { heap = new.heap; moved = 0 } → GlobalAllocs w flags size 0 new
+  refuses_bytes is some allocated rest =
       let (none, same) = no_prefix (prefix_of w.heap (rounded_size size) (Some slot) (way_asked flags)) allocated.request in
-      inl (inr (inr (inr (some, sym (prefix_about_none w.heap slot (rounded_size size) (not (has_flag flags GMEM_NOCOMPACT)) (has_flag flags GMEM_ZEROINIT) allocated.without_bytes) ∙ none))), refl, rest ∙ (λ i. record w { heap = same i; moved = 0 }))
+      inl (inr (inr (inr (some, sym (none_about w.heap is slot free.1 (rounded_size size) (way_asked flags)) ∙ none))), refl, rest ∙ (λ i. record w { heap = same i; moved = 0 }))
     where
       no_prefix : (p : Option ℕ)
           → MatchOption p ((false ≡ false) × (new.heap ≡ w.heap)) (λ k. (false ≡ true) × ((o : Object) × IsNew (has_flag flags GMEM_ZEROINIT) (rounded_size size) (kind_asked flags) 0 o × Settles w.heap (stays_for slot (way_asked flags)) (with_ordered (discarded w.heap k (Some slot)) slot o (with_newest slot o)) new.heap))
@@ -77,8 +78,8 @@ module _ (w : World) (flags slot size : ℕ) (new : World) (free : IsFreeSlot w 
 -- The same of what the code has computed.
 
 -- an allocation of these numbers
-abbrev AllocatesBy : World → ℕ → Heap → ℕ → Kind → Bool → Bool → Bool → Type 0
-AllocatesBy w slot heap n kind compact zero answered = Allocates w.heap slot n kind 0 (record { compact = compact; discard = false; zero = zero; may_move = false }) answered heap
+abbrev AllocatesBy : World → ℕ → Heap → ℕ → Kind → Way → Bool → Type 0
+AllocatesBy w slot heap n kind way answered = Allocates w.heap slot n kind 0 way answered heap
 
 module _ (w : World) (flags slot size : ℕ) (new : World) (free : IsFreeSlot w slot) (kind : Kind) (kind_is : kind ≡ kind_asked flags) (a : Attributes) (a_is : a ≡ record { shared = has_flag flags GMEM_DDESHARE })
     (handle : ℕ) (handle_is : handle ≡ handle_of kind slot) where
@@ -89,14 +90,12 @@ module _ (w : World) (flags slot size : ℕ) (new : World) (free : IsFreeSlot w 
   absent_known none moveable enters rest = named (handle_of (kind_asked flags) slot) refl
       (answers_absent w flags slot size new free none moveable (subst (λ k. Enters w.heap slot k new.heap) kind_is enters) (rest ∙ (λ i. record w { heap = new.heap; attributes = finmap.insert w.attributes slot (a_is i); moved = 0 })))
 
-  module _ (n : ℕ) (n_is : n ≡ rounded_size size) (none none_compact zero : Bool) (compact_is : none_compact ≡ not none) (none_is : none ≡ has_flag flags GMEM_NOCOMPACT) (zero_is : zero ≡ has_flag flags GMEM_ZEROINIT)
-      (some : size ≡ 0 → ⊥) where
-    asked : (answered : Bool) → AllocatesBy w slot new.heap n kind none_compact zero answered → Allocates w.heap slot (rounded_size size) (kind_asked flags) 0 (way_asked flags) answered new.heap
+  module _ (n : ℕ) (n_is : n ≡ rounded_size size) (way : Way) (way_is : way ≡ way_asked flags) (some : size ≡ 0 → ⊥) where
+    asked : (answered : Bool) → AllocatesBy w slot new.heap n kind way answered → Allocates w.heap slot (rounded_size size) (kind_asked flags) 0 (way_asked flags) answered new.heap
     asked answered h =
-        subst (λ k. AllocatesBy w slot new.heap k (kind_asked flags) (not (has_flag flags GMEM_NOCOMPACT)) (has_flag flags GMEM_ZEROINIT) answered) n_is
-        (subst (λ k. AllocatesBy w slot new.heap n k (not (has_flag flags GMEM_NOCOMPACT)) (has_flag flags GMEM_ZEROINIT) answered) kind_is
-        (subst (λ b. AllocatesBy w slot new.heap n kind b (has_flag flags GMEM_ZEROINIT) answered) (compact_is ∙ ap not none_is)
-        (subst (λ b. AllocatesBy w slot new.heap n kind none_compact b answered) zero_is h)))
+        subst (λ k. AllocatesBy w slot new.heap k (kind_asked flags) (way_asked flags) answered) n_is
+        (subst (λ k. AllocatesBy w slot new.heap n k (way_asked flags) answered) kind_is
+        (subst (λ v. AllocatesBy w slot new.heap n kind v answered) way_is h))
 
     filled : (m : ℕ) → (m ≡ 0 → ⊥) → 0 < m
     filled m h = elim (cases_lt 0 m) [
@@ -104,13 +103,13 @@ module _ (w : World) (flags slot size : ℕ) (new : World) (free : IsFreeSlot w 
       | inr none ↦ absurd (h (omega (arith, none)))
     ]
 
-    pub bytes_known : size ≤ LARGEST_SIZE → AllocatesBy w slot new.heap n kind none_compact zero true → new ≡ record w { heap = new.heap; attributes = finmap.insert w.attributes slot a; moved = moved_bytes w.heap new.heap }
+    pub bytes_known : size ≤ LARGEST_SIZE → AllocatesBy w slot new.heap n kind way true → new ≡ record w { heap = new.heap; attributes = finmap.insert w.attributes slot a; moved = moved_bytes w.heap new.heap }
         → GlobalAllocs w flags size handle new
     bytes_known small allocated rest = named (handle_of (kind_asked flags) slot) refl
         (answers_bytes w flags slot size new free (filled size some) small (asked true allocated) (rest ∙ (λ i. record w { heap = new.heap; attributes = finmap.insert w.attributes slot (a_is i); moved = moved_bytes w.heap new.heap })))
 
-    pub refusal_known : AllocatesBy w slot new.heap n kind none_compact zero false → new ≡ record w { heap = new.heap; moved = 0 } → GlobalAllocs w flags size 0 new
-    refusal_known allocated rest = refuses_bytes w flags slot size new free (filled size some) (asked false allocated) rest
+    pub refusal_known : IsHeap w.heap → AllocatesBy w slot new.heap n kind way false → new ≡ record w { heap = new.heap; moved = 0 } → GlobalAllocs w flags size 0 new
+    refusal_known is allocated rest = refuses_bytes w flags slot size new free is (filled size some) (asked false allocated) rest
 
 -- And from the world v, which is w with nothing moved last.
 module _ (w v : World) (v_is : v ≡ record w { moved = 0 }) (flags slot size : ℕ) (new : World) (free : IsFreeSlot v slot) (kind : Kind) (kind_is : kind ≡ kind_asked flags)
@@ -122,14 +121,13 @@ module _ (w v : World) (v_is : v ≡ record w { moved = 0 }) (flags slot size : 
   absent_answered none moveable enters rest = absent_known w flags slot size new free_in kind kind_is a a_is handle handle_is none moveable (subst (λ (x : World). Enters x.heap slot kind new.heap) v_is enters)
       (rest ∙ ap (λ (x : World). record x { heap = new.heap; attributes = finmap.insert x.attributes slot a }) v_is)
 
-  module _ (n : ℕ) (n_is : n ≡ rounded_size size) (none none_compact zero : Bool) (compact_is : none_compact ≡ not none) (none_is : none ≡ has_flag flags GMEM_NOCOMPACT) (zero_is : zero ≡ has_flag flags GMEM_ZEROINIT)
-      (some : size ≡ 0 → ⊥) where
-    pub bytes_answered : size ≤ LARGEST_SIZE → AllocatesBy v slot new.heap n kind none_compact zero true
+  module _ (n : ℕ) (n_is : n ≡ rounded_size size) (way : Way) (way_is : way ≡ way_asked flags) (some : size ≡ 0 → ⊥) where
+    pub bytes_answered : size ≤ LARGEST_SIZE → AllocatesBy v slot new.heap n kind way true
         → new ≡ record v { heap = new.heap; attributes = finmap.insert v.attributes slot a; moved = moved_bytes v.heap new.heap } → GlobalAllocs w flags size handle new
-    bytes_answered small allocated rest = bytes_known w flags slot size new free_in kind kind_is a a_is handle handle_is n n_is none none_compact zero compact_is none_is zero_is some small
-        (subst (λ (x : World). AllocatesBy x slot new.heap n kind none_compact zero true) v_is allocated)
+    bytes_answered small allocated rest = bytes_known w flags slot size new free_in kind kind_is a a_is handle handle_is n n_is way way_is some small
+        (subst (λ (x : World). AllocatesBy x slot new.heap n kind way true) v_is allocated)
         (rest ∙ ap (λ (x : World). record x { heap = new.heap; attributes = finmap.insert x.attributes slot a; moved = moved_bytes x.heap new.heap }) v_is)
 
-    pub bytes_refused : AllocatesBy v slot new.heap n kind none_compact zero false → new ≡ record v { heap = new.heap } → GlobalAllocs w flags size 0 new
-    bytes_refused allocated rest = refusal_known w flags slot size new free_in kind kind_is a a_is handle handle_is n n_is none none_compact zero compact_is none_is zero_is some
-        (subst (λ (x : World). AllocatesBy x slot new.heap n kind none_compact zero false) v_is allocated) (rest ∙ ap (λ (x : World). record x { heap = new.heap }) v_is)
+    pub bytes_refused : IsHeap v.heap → AllocatesBy v slot new.heap n kind way false → new ≡ record v { heap = new.heap } → GlobalAllocs w flags size 0 new
+    bytes_refused is allocated rest = refusal_known w flags slot size new free_in kind kind_is a a_is handle handle_is n n_is way way_is some
+        (subst (λ (x : World). IsHeap x.heap) v_is is) (subst (λ (x : World). AllocatesBy x slot new.heap n kind way false) v_is allocated) (rest ∙ ap (λ (x : World). record x { heap = new.heap }) v_is)

@@ -6,14 +6,15 @@ use Rattle.w16_model.specs.declared.Attributes.{Attributes}
 use Rattle.w16_model.specs.declared.Kind.{Kind}
 use Rattle.w16_model.specs.declared.Refusal.{Refusal}
 use Rattle.w16_model.specs.declared.TheConstants.{FIRST_SLOT}
-use Rattle.w16_model.specs.Heap.{Heap, object_at, bytes_at}
-use Rattle.w16_model.specs.Edit.{with_object, removed}
-use Rattle.w16_model.specs.Single.{Enters, after_lock, after_unlock, after_free}
+use Rattle.w16_model.specs.Heap.{Heap, IsHeap, object_at, bytes_at}
+use Rattle.w16_model.specs.Edit.{with_object, removed, touched, newest, oldest}
+use Rattle.w16_model.specs.Single.{Enters, after_lock, after_unlock, after_free, after_touch, after_newest, after_oldest, refused_order}
 use Rattle.w16_model.specs.World.{World, IsWorld, IsFreeSlot}
 use Rattle.w16_model.specs.declared.Way.{Way}
 use Rattle.w16_model.specs.Edit.{with_newest}
 use Rattle.w16_model.specs.Request.{Allocates, IsNew, prefix_of, stays_for}
-use Rattle.w16_model.proofs.Worlds.{lock_ok, unlock_ok, without_object, with_absent_object, with_new_object, settled, Kept}
+use Rattle.w16_model.proofs.Kept.{touched_heap, newest_heap, oldest_heap, ordered}
+use Rattle.w16_model.proofs.Worlds.{other_world, lock_ok, unlock_ok, without_object, with_absent_object, with_new_object, settled, Kept}
 use Rattle.w16_selectors.specs.Descriptors as selectors
 use Rattle.w16_selectors.specs.Descriptors.{descriptor_at, unset}
 use Rattle.w16_selectors.specs.declared.Descriptor.{Descriptor}
@@ -49,6 +50,33 @@ module _ {h : Holding} {xs : List (Option Attributes)} {t : selectors.Table} (ar
   unlock_joined slot (Ok u) done refused =
       joined_same h xs t are new cap (subst IsWorld same_slots (good (after_unlock h.heap slot) (Kept (world_of h xs 0) are.world) new.heap (unlock_ok (world_of h xs 0) are.world slot) done)) (unlock_same h.heap slot new.heap done)
   unlock_joined slot (Err e) done refused = subst (λ k. AreJoined k xs t) (sym refused.1) are
+
+  -- and a step that changes the order of use alone
+  pub ordered_joined : (order : List ℕ) → IsHeap (record h.heap { order = order }) → new.heap ≡ record h.heap { order = order } → AreJoined new xs t
+  ordered_joined order sound is =
+      joined_same h xs t are new cap (subst IsWorld (ap (λ (k : Heap). record (world_of h xs 0) { heap = k }) (sym is) ∙ same_slots) (other_world (world_of h xs 0) are.world (record h.heap { order = order }) sound refl refl (λ q. refl)))
+      (λ q. ap (λ (k : Heap). described k q) is)
+
+  -- an object that was used
+  pub touched_joined : (slot : ℕ) → new.heap ≡ after_touch h.heap slot → AreJoined new xs t
+  touched_joined slot is = ordered_joined (touched slot h.heap.order) (touched_heap h.heap are.world.heap slot) is
+
+  -- GlobalLRUNewest and GlobalLRUOldest
+  pub newest_joined : {U : Type 0} (slot : ℕ) (r : Result U Refusal) → OnOk r (after_newest h.heap slot ≡ Ok new.heap) → IfErr r (λ e. (after_newest h.heap slot ≡ Err e) × (new ≡ h)) → AreJoined new xs t
+  newest_joined slot (Ok u) done refused = from (refused_order h.heap slot) refl done
+    where
+      from : (p : Option Refusal) → refused_order h.heap slot ≡ p → (elim p as (λ _. Result Heap Refusal) [ Some e ↦ Err e | None ↦ Ok (record h.heap { order = newest slot h.heap.order }) ]) ≡ Ok new.heap → AreJoined new xs t
+      from (Some e) f d = cc
+      from None f d = let is : record h.heap { order = newest slot h.heap.order } ≡ new.heap = cc in ordered_joined (newest slot h.heap.order) (newest_heap h.heap are.world.heap slot (ordered h.heap are.world.heap slot f)) (sym is)
+  newest_joined slot (Err e) done refused = subst (λ k. AreJoined k xs t) (sym refused.1) are
+
+  pub oldest_joined : {U : Type 0} (slot : ℕ) (r : Result U Refusal) → OnOk r (after_oldest h.heap slot ≡ Ok new.heap) → IfErr r (λ e. (after_oldest h.heap slot ≡ Err e) × (new ≡ h)) → AreJoined new xs t
+  oldest_joined slot (Ok u) done refused = from (refused_order h.heap slot) refl done
+    where
+      from : (p : Option Refusal) → refused_order h.heap slot ≡ p → (elim p as (λ _. Result Heap Refusal) [ Some e ↦ Err e | None ↦ Ok (record h.heap { order = oldest slot h.heap.order }) ]) ≡ Ok new.heap → AreJoined new xs t
+      from (Some e) f d = cc
+      from None f d = let is : record h.heap { order = oldest slot h.heap.order } ≡ new.heap = cc in ordered_joined (oldest slot h.heap.order) (oldest_heap h.heap are.world.heap slot (ordered h.heap are.world.heap slot f)) (sym is)
+  oldest_joined slot (Err e) done refused = subst (λ k. AreJoined k xs t) (sym refused.1) are
 
   -- a slot's object goes
   module _ (slot : ℕ) {m : ℕ} {w : World} (shown : world_of h xs m ≡ w) (known : is_some (object_at w.heap slot) ≡ true) (done : after_free h.heap slot ≡ Ok new.heap) where

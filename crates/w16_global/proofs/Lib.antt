@@ -9,3 +9,5 @@ pub mod Allocation
 pub mod Begin
 pub mod Following
 pub mod Sliding
+pub mod Fresh
+pub mod Forgotten

@@ -34,8 +34,9 @@ laid_bytes p lo hi (b ∷ bs) laid =
     fewer false n = omega arith
 
 -- so no more is moved
-pub moved_few : {t : Table} {memory : List ℕ} → AreParts t memory → (new : Heap) → moved_bytes (heap_in t memory) new ≤ length memory
-moved_few {t} {memory} parts new =
+pub moved_few : {s : State} {memory : List ℕ} → AreParts s memory → (new : Heap) → moved_bytes (heap_in s.table memory) new ≤ length memory
+moved_few {s} {memory} parts new =
+    let t : Table = s.table in
     let p : Block → Bool = λ x. is_elsewhere x.at (finmap.get new.places x.id) in
     let same = bytes_permutation p t.blocks (blocks (heap_in t memory)) (listed_permutation (beside parts)) in
     let most = laid_bytes p t.lo t.hi t.blocks parts.sound.table.laid in
@@ -43,7 +44,7 @@ moved_few {t} {memory} parts new =
     omega (arith, same, most)
 
 -- another table over the same range, and a memory as long
-pub parts_after : {t : Table} {memory : List ℕ} → AreParts t memory → {new : Table} {after : List ℕ} → IsSameRange t new → length after ≡ length memory → All (λ b. b < 256) after → AreParts new after
+pub parts_after : {s : State} {memory : List ℕ} → AreParts s memory → {new : State} {after : List ℕ} → IsSameRange s.table new.table → length after ≡ length memory → All (λ b. b < 256) after → AreParts new after
 parts_after parts range long bytes = record {
   sound = range.sound;
   low = range.lo ∙ parts.low;
@@ -53,12 +54,12 @@ parts_after parts range long bytes = record {
   few = let n = range.ids in let few = parts.few in omega arith;
 }
 
-module _ {s : State} {memory : List ℕ} (parts : AreParts s.table memory) where
+module _ {s : State} {memory : List ℕ} (parts : AreParts s memory) where
   pub whole : s.table.hi ≤ length memory
   whole = let e = parts.high in omega arith
 
   -- a step that asks for no room
-  pub parts_stepped : {new : State} {step : Heap → Heap → Type 0} → Steps s new step → AreParts new.table memory
+  pub parts_stepped : {new : State} {step : Heap → Heap → Type 0} → Steps s new step → AreParts new memory
   parts_stepped p = parts_after parts p.range refl parts.bytes
 
   module _ {h : Holding} (shown : holding_of s memory ≡ h) where
@@ -103,7 +104,7 @@ module _ {s : State} {memory : List ℕ} (parts : AreParts s.table memory) where
         (λ i. record { cap = p.range.ids i; heap = is i; discarded = ap (λ (z : State). z.discarded) p.rest i }) ∙ ap (λ (h : Holding). record h { heap = heap }) shown
 
     -- The lowest block at or above an address.
-    module _ (from : ℕ) (small : length memory < 2 ^ 32) {found : Option Block} where
+    module _ (from : ℕ) (small : length memory < 2 ^ 32) (found : Option Block) where
       pub next_found : IfSome found (λ b. (from ≤ b.at) × (block_with s.table.blocks b.id ≡ Some b))
           → IfSome found (λ b. (from ≤ b.at) × (finmap.get h.heap.places b.id ≡ Some b.at) × (option_map (length {A = ℕ}) (bytes_at h.heap b.id) ≡ Some b.size))
       next_found = turn found

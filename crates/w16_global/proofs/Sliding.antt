@@ -1,26 +1,33 @@
 -- What is joined, where objects have slid and their selectors followed.
-use Rattle.std.proofs.Common.{◌≡◌, ◌≢◌, ℕ, ◌+◌, ◌-◌, ◌<◌, ◌≤◌, ◌⊎◌, inl, inr, Bool, true, false, cond, ◌&&◌, nat_le, nat_lt, if◌then◌else◌, IfSome, IsSomeAnd, List, length, get_or, set, Option, Some, None, option_map, is_some, unwrap_or, refl, sym, ap, ◌∙◌, subst, arith, leb-true, leb-false, ltb-true, ltb-false}
+use Rattle.std.proofs.Common.{◌≡◌, ◌≢◌, ℕ, ◌+◌, ◌-◌, ◌<◌, ◌≤◌, ◌⊎◌, inl, inr, Bool, true, false, cond, ◌&&◌, nat_le, nat_lt, if◌then◌else◌, IfSome, IsSomeAnd, MatchBool, All, List, [], take, length, get_or, set, Option, Some, None, option_map, is_some, unwrap_or, refl, sym, ap, ◌∙◌, subst, arith, leb-true, leb-false, ltb-true, ltb-false, eq-eqb, ne_eqb}
 use Rattle.std.specs.FinMap as finmap
-use Rattle.std.proofs.lemmas.Bool.{false≢true, cases_eq}
+use Rattle.std.proofs.lemmas.Bool.{false≢true, cases_eq, cases_Bool}
 use Rattle.std.proofs.lemmas.List.{get_or-set_same, get_or-set_other, length-set}
 use Rattle.w16_model.specs.declared.Attributes.{Attributes}
 use Rattle.w16_model.specs.declared.Kind.{Kind}
 use Rattle.w16_model.specs.declared.Way.{Way}
 use Rattle.w16_model.specs.declared.TheConstants.{FIRST_SLOT}
-use Rattle.w16_model.specs.Heap.{Heap, Object, IsHeap, object_at, bytes_at}
-use Rattle.w16_model.specs.Edit.{with_newest}
-use Rattle.w16_model.specs.Request.{Allocates, Compacts, IsNew, prefix_of, stays_for, moved_bytes}
+use Rattle.w16_model.specs.Heap.{Heap, Object, IsHeap, blocks, object_at, bytes_at}
+use Rattle.w16_model.specs.Edit.{with_newest, with_ordered}
+use Rattle.w16_model.specs.Request.{Allocates, AreNew, Compacts, IsNew, MakesRoom, Request, Settles, compaction_prefix, discarded, most_room, prefix_of, stays_for, moved_bytes}
+use Rattle.w16_model.specs.declared.Kind.TheVariants.{Discardable}
+use Rattle.w16_model.specs.Prefix.{eligible, is_member}
+use Rattle.w16_model.specs.Law.{KeepsOthers}
+use Rattle.w16_model.proofs.Kept.{inserted_here}
+use Rattle.w16_model.proofs.Others.{others_law}
+use Rattle.w16_arena.specs.Asked.{HasDiscarded, first_eligible}
 use Rattle.w16_model.specs.World.{World, IsWorld, IsFreeSlot}
-use Rattle.w16_model.proofs.Worlds.{with_new_object, compacted_world, moved_world, settled}
+use Rattle.w16_model.proofs.Worlds.{with_new_object, compacted_world, moved_world}
 use Rattle.w16_selectors.specs.Descriptors as selectors
 use Rattle.w16_selectors.specs.Descriptors.{descriptor_at, unset}
 use Rattle.w16_selectors.specs.declared.Descriptor.{Descriptor}
 use Rattle.w16_selectors.specs.declared.SelKind.TheVariants.{Data}
 use Rattle.w16_global.specs.Parts.{Holding}
-use Rattle.w16_global.specs.Joined.{attributes_in, world_of, descriptor_for, described, followed, AreJoined}
+use Rattle.w16_global.specs.Joined.{attributes_in, world_of, descriptor_for, described, followed, forgotten, AreJoined}
 use Rattle.w16_model.specs.Machine.{GlobalCompacts}
 use Rattle.w16_global.proofs.Joined.{attributes_set, described_some}
 use Rattle.w16_global.proofs.Described.{made_here, same_described}
+use Rattle.w16_global.proofs.Forgotten.{gone_says, each_discarded}
 
 -- Objects outside a range stand where they stood.
 abbrev pub StandStill : Heap → Heap → ℕ → ℕ → ℕ → Type 0
@@ -79,7 +86,23 @@ followed_other heap from to t u q same = ap (λ (d : Option Descriptor). elim (f
   | Some at ↦ if nat_le from at && nat_lt at to then described heap q else d
 ]) same
 
--- An object with bytes in a free slot, for which others may have slid.
+-- Each slot's selector says what it has to, once some objects were discarded, and others have slid.
+says_all : (old new : Heap) → IsHeap new → (about : Option ℕ) (k : ℕ) → KeepsOthers old about k new → (from to : ℕ) (t told : selectors.Table) (ids : List ℕ) → ids ≡ take k (eligible (blocks old) old.order about)
+    → ((q : ℕ) → descriptor_at told q ≡ forgotten ids t q) → ((q : ℕ) → descriptor_at t q ≡ described old q) → (q : ℕ) → about ≢ Some q → StandStill old new from to q → followed new from to told q ≡ described new q
+says_all old new is about k keeps from to t told ids ids_is forgot describes q other still = elim (cases_Bool (is_member q (take k (eligible (blocks old) old.order about)))) [
+  | inl gone ↦ gone_says old new is about k keeps from to told q gone (forgot q ∙ ap (λ b. if b then Some unset else descriptor_at t q) (ap (is_member q) ids_is ∙ gone))
+  | inr out ↦
+      followed_other new from to told t q (forgot q ∙ ap (λ b. if b then Some unset else descriptor_at t q) (ap (is_member q) ids_is ∙ out))
+      ∙ slid_says old new is from to t q (keeps.kept q other (λ m. false≢true (sym out ∙ m))) (describes q) still
+]
+
+-- what an answered request was
+granted : (old : Heap) (h : ℕ) (way : Way) (prefix : Option ℕ) (Asked : Object → Type 0) (order : Object → List ℕ → List ℕ) (new : Heap) → Request old h way prefix Asked order true new
+    → (k : ℕ) × (prefix ≡ Some k) × (o : Object) × Asked o × Settles old (stays_for h way) (with_ordered (discarded old k (Some h)) h o (order o)) new
+granted old h way None Asked order new r = absurd (false≢true (sym r.0))
+granted old h way (Some k) Asked order new r = (k, refl, r.1.0, r.1.1, r.1.2)
+
+-- An object with bytes in a free slot, for which others may have been discarded or have slid.
 module _ {h : Holding} {xs : List (Option Attributes)} {t : selectors.Table} (are : AreJoined h xs t) (new : Holding) (cap : new.cap ≡ h.cap) (slot : ℕ) (a : Attributes)
     {m : ℕ} {w : World} (shown : world_of h xs m ≡ w) (known : IsFreeSlot w slot) where
   free : IsFreeSlot (world_of h xs m) slot
@@ -91,45 +114,98 @@ module _ {h : Holding} {xs : List (Option Attributes)} {t : selectors.Table} (ar
   in_table : slot < length t
   in_table = subst (λ n. slot < n) (sym are.selectors_many) (let some = are.some in let below = free.0.1 in omega arith)
 
-  pub allocated_joined : (n at from to : ℕ) (kind : Kind) (way : Way) (after : selectors.Table) → Allocates h.heap slot n kind 0 way true new.heap
-      → ((q : ℕ) → q ≢ slot → object_at new.heap q ≡ object_at h.heap q) → ((q : ℕ) → q ≢ slot → StandStill h.heap new.heap from to q)
-      → IsSomeAnd (bytes_at new.heap slot) (λ bytes. length bytes ≡ n) → finmap.get new.heap.places slot ≡ Some at
-      → (first second : selectors.Table) → first ≡ set t slot (Some unset) → ((q : ℕ) → descriptor_at second q ≡ followed new.heap from to first q) → length second ≡ length first
-      → after ≡ set second slot (Some (record { base = at; limit = n - 1; present = true; kind = Data })) → AreJoined new (set xs slot (Some a)) after
-  allocated_joined n at from to kind way after allocated objects still sized placed first second first_is follows many_second taken =
-      let d : Descriptor = record { base = at; limit = n - 1; present = true; kind = Data } in
-      let many : length second ≡ length t = many_second ∙ ap length first_is ∙ length-set t slot (Some unset) in
-      let s = settled h.heap slot way (prefix_of h.heap n (Some slot) way) (IsNew way.zero n kind 0) (with_newest slot) new.heap allocated.request in
-      record {
-        world = subst IsWorld (λ i. record { slots = sym cap i - FIRST_SLOT; heap = new.heap; attributes = sym (attributes_set xs slot a within) i; moved = 0 })
-            (with_new_object (world_of h xs 0) are.world a slot s.0 s.1 (with_newest slot s.1) (stays_for slot way) new.heap free.0 s.2);
-        described = λ q. elim (cases_eq q slot) [
-          | inl e ↦ ap (λ (l : selectors.Table). get_or l q None) taken ∙ ap (λ k. get_or (set second slot (Some d)) k None) e
-              ∙ get_or-set_same second slot (Some d) None (subst (λ k. slot < k) (sym many) in_table)
-              ∙ sym (ap (λ k. described new.heap k) e ∙ made_here new.heap slot n at (bytes_at new.heap slot) refl sized placed)
-          | inr other ↦ ap (λ (l : selectors.Table). get_or l q None) taken ∙ get_or-set_other second slot q (Some d) None other ∙ follows q
-              ∙ followed_other new.heap from to first t q (ap (λ (l : selectors.Table). get_or l q None) first_is ∙ get_or-set_other t slot q (Some unset) None other)
-              ∙ slid_says h.heap new.heap s.2.sound from to t q (objects q other) (are.described q) (still q other)
-        ];
-        attributes_many = length-set xs slot (Some a) ∙ are.attributes_many ∙ sym cap;
-        selectors_many = ap length taken ∙ length-set second slot (Some d) ∙ many ∙ are.selectors_many ∙ sym cap;
-        some = subst (λ n. FIRST_SLOT ≤ n) (sym cap) are.some;
-      }
+  module _ (n : ℕ) (kind : Kind) (way : Way) (allocated : Allocates h.heap slot n kind 0 way true new.heap) (has : HasDiscarded h.heap slot n way new.discarded) where
+    s : (k : ℕ) × (prefix_of h.heap n (Some slot) way ≡ Some k) × (o : Object) × IsNew way.zero n kind 0 o × Settles h.heap (stays_for slot way) (with_ordered (discarded h.heap k (Some slot)) slot o (with_newest slot o)) new.heap
+    s = granted h.heap slot way (prefix_of h.heap n (Some slot) way) (IsNew way.zero n kind 0) (with_newest slot) new.heap allocated.request
 
--- and where objects have slid, and no other thing changed
-module _ {h : Holding} {xs : List (Option Attributes)} {t : selectors.Table} (are : AreJoined h xs t) (new : Holding) (cap : new.cap ≡ h.cap) where
-  pub compacted_joined : (n answer from to : ℕ) (after : selectors.Table) → Compacts h.heap n answer new.heap → ((q : ℕ) → object_at new.heap q ≡ object_at h.heap q) → ((q : ℕ) → StandStill h.heap new.heap from to q)
-      → ((q : ℕ) → descriptor_at after q ≡ followed new.heap from to t q) → length after ≡ length t → AreJoined new xs after
-  compacted_joined n answer from to after compacted objects still follows many =
-      let world : IsWorld (record (world_of h xs 0) { heap = new.heap; moved = moved_bytes h.heap new.heap }) =
-      compacted_world (world_of h xs 0) are.world n answer (record (world_of h xs 0) { heap = new.heap; moved = moved_bytes h.heap new.heap }) (record { compacted = compacted; rest = refl }) in
-      record {
-        world = subst IsWorld (λ i. record { slots = sym cap i - FIRST_SLOT; heap = new.heap; attributes = attributes_in xs; moved = 0 }) (moved_world (record (world_of h xs 0) { heap = new.heap; moved = moved_bytes h.heap new.heap }) world 0);
-        described = λ q. follows q ∙ slid_says h.heap new.heap world.heap from to t q (objects q) (are.described q) (still q);
-        attributes_many = are.attributes_many ∙ sym cap;
-        selectors_many = many ∙ are.selectors_many ∙ sym cap;
-        some = subst (λ n. FIRST_SLOT ≤ n) (sym cap) are.some;
-      }
+    keeps : KeepsOthers h.heap (Some slot) s.0 new.heap
+    keeps = (others_law h.heap new.heap are.world.heap s.0).0 slot way s.2 (with_newest slot s.2) s.4
+
+    ids_are : new.discarded ≡ take s.0 (eligible (blocks h.heap) h.heap.order (Some slot))
+    ids_are = let same : ◌≡◌ {A = Option ℕ} (Some has.prefix) (Some s.0) = sym has.needed ∙ s.1 in has.listed ∙ ap (λ k. take k (eligible (blocks h.heap) h.heap.order (Some slot))) (let e : has.prefix ≡ s.0 = cc in e)
+
+    -- those that were discarded had a selector
+    pub discarded_known : All (λ id. is_some (descriptor_at t id) ≡ true) new.discarded
+    discarded_known = subst (All (λ id. is_some (descriptor_at t id) ≡ true)) (sym ids_are)
+        (each_discarded h.heap new.heap (Some slot) s.0 keeps t are.described)
+
+    -- and it has the bytes that it was given
+    sized : IsSomeAnd (bytes_at new.heap slot) (λ bytes. length bytes ≡ n)
+    sized = subst (λ (p : Option Object). IsSomeAnd (elim p as (λ _. Option (List ℕ)) [ Some o ↦ o.bytes | None ↦ None ]) (λ bytes. length bytes ≡ n))
+        (sym (ap (λ (g : Heap). object_at g slot) s.4.same ∙ inserted_here (discarded h.heap s.0 (Some slot)).objects slot s.2 slot refl)) (long s.2.bytes s.3.new_bytes)
+      where
+        long : (b : Option (List ℕ)) → IsSomeAnd b (AreNew way.zero n) → IsSomeAnd b (λ bytes. length bytes ≡ n)
+        long None f = absurd f
+        long (Some b) f = f.0
+
+    pub allocated_joined : (at from to : ℕ) (after : selectors.Table) → ((q : ℕ) → q ≢ slot → StandStill h.heap new.heap from to q) → finmap.get new.heap.places slot ≡ Some at
+        → (told first second : selectors.Table) → ((q : ℕ) → descriptor_at told q ≡ forgotten new.discarded t q) → length told ≡ length t
+        → first ≡ set told slot (Some unset) → ((q : ℕ) → descriptor_at second q ≡ followed new.heap from to first q) → length second ≡ length first
+        → after ≡ set second slot (Some (record { base = at; limit = n - 1; present = true; kind = Data })) → AreJoined new (set xs slot (Some a)) after
+    allocated_joined at from to after still placed told first second forgot many_told first_is follows many_second taken =
+        let d : Descriptor = record { base = at; limit = n - 1; present = true; kind = Data } in
+        let many : length second ≡ length t = many_second ∙ ap length first_is ∙ length-set told slot (Some unset) ∙ many_told in
+        record {
+          world = subst IsWorld (λ i. record { slots = sym cap i - FIRST_SLOT; heap = new.heap; attributes = sym (attributes_set xs slot a within) i; moved = 0 })
+              (with_new_object (world_of h xs 0) are.world a slot s.0 s.2 (with_newest slot s.2) (stays_for slot way) new.heap free.0 s.4);
+          described = λ q. elim (cases_eq q slot) [
+            | inl e ↦ ap (λ (l : selectors.Table). get_or l q None) taken ∙ ap (λ k. get_or (set second slot (Some d)) k None) e
+                ∙ get_or-set_same second slot (Some d) None (subst (λ k. slot < k) (sym many) in_table)
+                ∙ sym (ap (λ k. described new.heap k) e ∙ made_here new.heap slot n at (bytes_at new.heap slot) refl sized placed)
+            | inr other ↦ ap (λ (l : selectors.Table). get_or l q None) taken ∙ get_or-set_other second slot q (Some d) None other ∙ follows q
+                ∙ followed_other new.heap from to first told q (ap (λ (l : selectors.Table). get_or l q None) first_is ∙ get_or-set_other told slot q (Some unset) None other)
+                ∙ says_all h.heap new.heap s.4.sound (Some slot) s.0 keeps from to t told new.discarded ids_are forgot are.described q (λ e. let same : slot ≡ q = cc in other (sym same)) (still q other)
+          ];
+          attributes_many = length-set xs slot (Some a) ∙ are.attributes_many ∙ sym cap;
+          selectors_many = ap length taken ∙ length-set second slot (Some d) ∙ many ∙ are.selectors_many ∙ sym cap;
+          some = subst (λ n. FIRST_SLOT ≤ n) (sym cap) are.some;
+        }
+
+    -- what is free for it still is, once the others were told
+    pub slot_left : (told : selectors.Table) → ((q : ℕ) → descriptor_at told q ≡ forgotten new.discarded t q) → descriptor_at told slot ≡ None
+    slot_left told forgot = forgot slot ∙ ap (λ b. if b then Some unset else descriptor_at t slot) (ap (is_member slot) ids_are ∙ not_its_own)
+        ∙ are.described slot ∙ ap (option_map (descriptor_for h.heap slot)) free.1
+      where
+        not_its_own : is_member slot (take s.0 (eligible (blocks h.heap) h.heap.order (Some slot))) ≡ false
+        not_its_own = elim (cases_Bool (is_member slot (take s.0 (eligible (blocks h.heap) h.heap.order (Some slot))))) [
+          | inl m ↦ absurd (there (object_at h.heap slot) free.1 (keeps.discarded slot m))
+          | inr out ↦ out
+        ]
+          where
+            there : (p : Option Object) → p ≡ None → IsSomeAnd p (λ o. (o.kind ≡ Discardable) × (o.locks ≡ 0) × (is_some o.bytes ≡ true) × (object_at new.heap slot ≡ Some (record o { bytes = None }))) → ⊥
+            there None e f = f
+            there (Some o) e f = cc
+
+-- and where objects were discarded and have slid, and no other thing changed
+module _ {h : Holding} {xs : List (Option Attributes)} {t : selectors.Table} (are : AreJoined h xs t) (new : Holding) (cap : new.cap ≡ h.cap) (n answer : ℕ) (compacted : Compacts h.heap n answer new.heap)
+    (listed : 0 < n → new.discarded ≡ first_eligible h.heap (compaction_prefix h.heap n) None) (unlisted : n ≡ 0 → new.discarded ≡ []) where
+  world : IsWorld (record (world_of h xs 0) { heap = new.heap; moved = moved_bytes h.heap new.heap })
+  world = compacted_world (world_of h xs 0) are.world n answer (record (world_of h xs 0) { heap = new.heap; moved = moved_bytes h.heap new.heap }) (record { compacted = compacted; rest = refl })
+
+  -- how many were discarded, and that the others are kept
+  abbrev Kept : Type 0
+  Kept = (k : ℕ) × (new.discarded ≡ take k (eligible (blocks h.heap) h.heap.order None)) × KeepsOthers h.heap None k new.heap
+
+  kept : Kept
+  kept = elim (cases_eq n 0) [
+    | inl none ↦ let same : new.heap ≡ h.heap = (subst (λ b. MatchBool b ((answer ≡ most_room h.heap) × (new.heap ≡ h.heap)) (MakesRoom h.heap n answer new.heap)) (eq-eqb n 0 none) compacted).1 in
+        (0, unlisted none, record { kept = λ q d m. ap (λ (g : Heap). object_at g q) same; discarded = λ q m. absurd (false≢true m) })
+    | inr some ↦ let made : MakesRoom h.heap n answer new.heap = subst (λ b. MatchBool b ((answer ≡ most_room h.heap) × (new.heap ≡ h.heap)) (MakesRoom h.heap n answer new.heap)) (ne_eqb n 0 some) compacted in
+        (compaction_prefix h.heap n, listed (omega arith), (others_law h.heap new.heap are.world.heap (compaction_prefix h.heap n)).1 made.settled)
+  ]
+
+  pub compaction_known : All (λ id. is_some (descriptor_at t id) ≡ true) new.discarded
+  compaction_known = subst (All (λ id. is_some (descriptor_at t id) ≡ true)) (sym kept.1) (each_discarded h.heap new.heap None kept.0 kept.2 t are.described)
+
+  pub compacted_joined : (from to : ℕ) (told after : selectors.Table) → ((q : ℕ) → StandStill h.heap new.heap from to q) → ((q : ℕ) → descriptor_at told q ≡ forgotten new.discarded t q) → length told ≡ length t
+      → ((q : ℕ) → descriptor_at after q ≡ followed new.heap from to told q) → length after ≡ length told → AreJoined new xs after
+  compacted_joined from to told after still forgot many_told follows many = record {
+    world = subst IsWorld (λ i. record { slots = sym cap i - FIRST_SLOT; heap = new.heap; attributes = attributes_in xs; moved = 0 }) (moved_world (record (world_of h xs 0) { heap = new.heap; moved = moved_bytes h.heap new.heap }) world 0);
+    described = λ q. follows q ∙ says_all h.heap new.heap world.heap None kept.0 kept.2 from to t told new.discarded kept.1 forgot are.described q (λ e. cc) (still q);
+    attributes_many = are.attributes_many ∙ sym cap;
+    selectors_many = many ∙ many_told ∙ are.selectors_many ∙ sym cap;
+    some = subst (λ n. FIRST_SLOT ≤ n) (sym cap) are.some;
+  }
 
 -- the worlds that these are
 pub given_moved : (h : Holding) (xs : List (Option Attributes)) (m : ℕ) {w : World} → world_of h xs m ≡ w → (new : Holding) (slot : ℕ) (a : Attributes) (moved : ℕ) → moved ≡ moved_bytes h.heap new.heap

@@ -34,12 +34,12 @@ bytes_of memory x = slice_range memory x.at (x.at + x.size)
 abbrev pub layout_in : Table → Layout
 layout_in t = record { cap = length t.entries; lo = t.lo; hi = t.hi; grain = t.grain; blocks = t.blocks }
 
-pub beside : {t : Table} {memory : List ℕ} → AreParts t memory → arena.AreParts t.entries (layout_in t) t.order memory
+pub beside : {state : State} {memory : List ℕ} → AreParts state memory → arena.AreParts state.table.entries (layout_in state.table) state.table.order memory
 beside parts = record { sound = parts.sound; ids = refl; high = let e = parts.high in omega arith }
 
 -- A write into the memory leaves the parts sound.
-pub parts_written : {t : Table} {memory : List ℕ} → AreParts t memory → (at : ℕ) (new : List ℕ) → at + length new ≤ length memory → All (λ b. b < 256) new → AreParts t (put_part memory at new)
-parts_written {t} {memory} parts at new le ours = record {
+pub parts_written : {state : State} {memory : List ℕ} → AreParts state memory → (at : ℕ) (new : List ℕ) → at + length new ≤ length memory → All (λ b. b < 256) new → AreParts state (put_part memory at new)
+parts_written {memory = memory} parts at new le ours = record {
   sound = parts.sound;
   low = parts.low;
   grain = parts.grain;
@@ -48,7 +48,7 @@ parts_written {t} {memory} parts at new le ours = record {
   few = parts.few;
 }
 
-module _ {state : State} {memory : List ℕ} (parts : AreParts state.table memory) (q : ℕ) where
+module _ {state : State} {memory : List ℕ} (parts : AreParts state memory) (q : ℕ) where
   -- Of the value that the parts stand for, where n bytes from an address on lie in an object's.
   module _ {h : Holding} (shown : holding_of state memory ≡ h) (at n : ℕ) (inside : IsInside h.heap q at n) where
     bytes_shown : bytes_at h.heap q ≡ option_map (bytes_of memory) (block_with state.table.blocks q)

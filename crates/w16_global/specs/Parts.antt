@@ -5,7 +5,7 @@ use Rattle.std.specs.FinMap as finmap
 use Rattle.w16_model.specs.declared.TheConstants.{GRAIN}
 use Rattle.w16_model.specs.Code.{heap_code}
 use Rattle.w16_model.specs.Heap.{Heap, bytes_at}
-use Rattle.w16_model.specs.Table.{Table, IsSound, heap_in}
+use Rattle.w16_model.specs.Table.{IsSound, heap_in}
 use Rattle.w16_arena.specs.State.{State}
 
 -- a heap, how many ids its objects may have, and the ids that its last request discarded
@@ -23,13 +23,13 @@ abbrev pub holding_of : State → List ℕ → Holding
 holding_of state memory = record { cap = length state.table.entries; heap = heap_in state.table memory; discarded = state.discarded }
 
 -- what holds of them: the arena is over all of the memory, from 0 on, at multiples of the grain
-pub record AreParts (t : Table) (memory : List ℕ) : Type 0 where
-  pub sound : IsSound t
-  pub low : t.lo ≡ 0
-  pub grain : t.grain ≡ GRAIN
-  pub high : t.hi ≡ length memory
+pub record AreParts (state : State) (memory : List ℕ) : Type 0 where
+  pub sound : IsSound state.table
+  pub low : state.table.lo ≡ 0
+  pub grain : state.table.grain ≡ GRAIN
+  pub high : state.table.hi ≡ length memory
   pub bytes : All (λ b. b < 256) memory
-  pub few : length t.entries ≤ 8192
+  pub few : length state.table.entries ≤ 8192
 
 -- n bytes from an address on lie in those of an object
 abbrev pub IsInside : Heap → ℕ → ℕ → ℕ → Type 0

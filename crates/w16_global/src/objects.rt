@@ -37,7 +37,7 @@ impl Model for Objects {
 
     ghost view = { λ s. holding_of s.arena s.memory.bytes.items };
 
-    ghost invariant = { λ s. AreParts s.arena.table s.memory.bytes.items };
+    ghost invariant = { λ s. AreParts s.arena s.memory.bytes.items };
 }
 
 impl Objects {
@@ -195,7 +195,7 @@ impl Objects {
     /// Bytes at an address, inside one object's.
     pub fn view(&self, at: u32, n: u32) -> &[u8]
         requires { (id : ℕ) × IsInside self.now.heap id at n }
-        ensures bytes { (id : ℕ) → IsInside self.now.heap id at n → IfSome (bytes_at self.now.heap id) (λ bytes. IfSome (finmap.get self.now.heap.places id) (λ place. result.now ≡ slice_at bytes (at - place) n)) }
+        ensures { (id : ℕ) → IsInside self.now.heap id at n → IfSome (bytes_at self.now.heap id) (λ bytes. IfSome (finmap.get self.now.heap.places id) (λ place. result.now ≡ slice_at bytes (at - place) n)) }
     {
         self.memory.view(at, n)
     }

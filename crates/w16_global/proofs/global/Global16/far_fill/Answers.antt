@@ -5,7 +5,7 @@ pub fill-requires : goal.fill-requires
 fill-requires c = inside_some c.self.invariant c.self.view_is c.args.selector c.args.offset c.args.n c.in_ok-at.at c.in_ok-at.ensures.ok
 
 pub invariant_of-self : goal.invariant_of-self
-invariant_of-self c = filled_joined c.self.invariant c.self.view_is c.args.selector c.args.offset c.args.n c.in_ok-at.at c.in_ok-at.ensures.ok c.args.byte c.fill.ensures.plain c.fill.new.self c.fill.ensures.value c.ranges.byte.fits
+invariant_of-self c = filled_joined c.self.invariant c.self.view_is c.args.selector c.args.offset c.args.n c.in_ok-at.at c.in_ok-at.ensures.ok c.args.byte c.fill.new.self c.fill.ensures c.ranges.byte.fits
 
 pub returns-clause-ok : goal.returns-clause-ok
-returns-clause-ok c = fill_known c.self.invariant c.self.view_is c.args.selector c.args.offset c.args.n c.in_ok-at.at c.in_ok-at.ensures.ok c.args.byte c.fill.ensures.plain c.fill.new.self c.fill.ensures.value
+returns-clause-ok c = fill_known c.self.invariant c.self.view_is c.args.selector c.args.offset c.args.n c.in_ok-at.at c.in_ok-at.ensures.ok c.args.byte c.fill.new.self c.fill.ensures c.touch.new.self c.touch.ensures

@@ -16,7 +16,7 @@ returns-then-allocate c =
     let s = c.if-allocate.ensures in
     bytes_answered c.args.self.now (world_of c.self.inside.objects c.self.inside.attributes.items 0) (ap (λ (x : World). record x { moved = 0 }) c.self.view_is) c.args.flags c.in-Some.slot c.args.size c.allocate.new.self
     c.in-Some.ensures.found c.kind_asked-kind.result c.kind_asked-kind.ensures c.attributes_asked-attributes.result c.attributes_asked-attributes.ensures c.handle_of-then-allocate.result c.handle_of-then-allocate.ensures
-    c.rounded.result c.rounded.ensures c.has_flag-compact.result (not c.has_flag-compact.result) c.has_flag-zero.result refl c.has_flag-compact.ensures c.has_flag-zero.ensures c.if-size-eq0.false
+    c.rounded.result c.rounded.ensures c.way_asked.result c.way_asked.ensures c.if-size-eq0.false
     (omega (arith, c.if-size-gt-LARGEST_SIZE.false)) s.allocated s.rest
 
 pub returns-else-allocate : goal.returns-else-allocate
@@ -24,5 +24,5 @@ returns-else-allocate c =
     let s = c.if-allocate.ensures in
     bytes_refused c.args.self.now (world_of c.self.inside.objects c.self.inside.attributes.items 0) (ap (λ (x : World). record x { moved = 0 }) c.self.view_is) c.args.flags c.in-Some.slot c.args.size c.allocate.new.self
     c.in-Some.ensures.found c.kind_asked-kind.result c.kind_asked-kind.ensures c.attributes_asked-attributes.result c.attributes_asked-attributes.ensures _ refl
-    c.rounded.result c.rounded.ensures c.has_flag-compact.result (not c.has_flag-compact.result) c.has_flag-zero.result refl c.has_flag-compact.ensures c.has_flag-zero.ensures c.if-size-eq0.false
-    s.allocated s.rest
+    c.rounded.result c.rounded.ensures c.way_asked.result c.way_asked.ensures c.if-size-eq0.false
+    c.self.invariant.world.heap s.allocated s.rest

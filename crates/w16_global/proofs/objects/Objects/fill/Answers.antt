@@ -14,7 +14,7 @@ invariant_of-self c =
     let s = c.self.inside in
     let room = room_around c.self.invariant c.requires.0 c.self.view_is c.args.at c.args.n c.requires.1 in
     let long = length-repeated c.args.n c.args.byte in
-    subst (AreParts s.arena.table) (sym c.fill.ensures.bytes) (parts_written c.self.invariant c.args.at (repeated c.args.n c.args.byte) (omega arith) (All-repeated c.args.n c.args.byte c.ranges.byte.fits))
+    subst (AreParts s.arena) (sym c.fill.ensures.bytes) (parts_written c.self.invariant c.args.at (repeated c.args.n c.args.byte) (omega arith) (All-repeated c.args.n c.args.byte c.ranges.byte.fits))
 
 pub returns : goal.returns
 returns c =

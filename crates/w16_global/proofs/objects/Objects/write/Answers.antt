@@ -29,7 +29,7 @@ pub invariant_of-self : goal.invariant_of-self
 invariant_of-self c =
     let s = c.self.inside in
     let room = room_around c.self.invariant c.requires.0 c.self.view_is c.args.at (length c.args.new.now) c.requires.1 in
-    subst (AreParts s.arena.table) (sym (items_put s.memory.bytes c.args.at c.copy_from_slice.new.self c.args.new.now c.copy_from_slice.ensures.after room))
+    subst (AreParts s.arena) (sym (items_put s.memory.bytes c.args.at c.copy_from_slice.new.self c.args.new.now c.copy_from_slice.ensures.after room))
     (parts_written c.self.invariant c.args.at c.args.new.now room (All-bytes c.args.new.now c.type_inv.new))
 
 pub returns : goal.returns

@@ -1,0 +1,71 @@
+-- Selectors of objects that lost their bytes, and what is said of each slot then.
+use Rattle.std.proofs.Common.{◌≡◌, ◌≢◌, ℕ, zero, suc, ◌+◌, ◌<◌, ◌≤◌, ◌||◌, ◌&&◌, ◌==◌, nat_le, nat_lt, inl, inr, Bool, true, false, cond, if◌then◌else◌, IfSome, IsSomeAnd, All, List, [], ◌∷◌, ◌++◌, length, get_or, set, take, Option, Some, None, option_map, is_some, refl, sym, ap, ◌∙◌, subst, arith, eq-eqb, ne_eqb, slice_get}
+use Rattle.std.specs.FinMap as finmap
+use Rattle.std.proofs.lemmas.Bool.{false≢true, cases_eq, cases_Bool}
+use Rattle.std.proofs.lemmas.List.{get_or-set_same, get_or-set_other, length-set}
+use Rattle.std.proofs.lemmas.List.Folds.{list_any-append}
+use Rattle.w16_model.specs.declared.Kind.TheVariants.{Discardable}
+use Rattle.w16_model.specs.Prefix.{is_member, eligible}
+use Rattle.w16_model.specs.Heap.{Heap, Object, IsHeap, object_at, bytes_at, blocks}
+use Rattle.w16_model.specs.Law.{KeepsOthers}
+use Rattle.w16_model.proofs.Gaps.{Each-from, All-from_Each}
+use Rattle.w16_model.proofs.Discards.{true-is_member}
+use Rattle.w16_selectors.specs.Descriptors as selectors
+use Rattle.w16_selectors.specs.Descriptors.{descriptor_at, unset}
+use Rattle.w16_selectors.specs.declared.Descriptor.{Descriptor}
+use Rattle.w16_global.specs.Joined.{descriptor_for, described, followed, forgotten}
+
+-- one selector more
+pub forgets_one : (ids : List ℕ) (id : ℕ) (old now : selectors.Table) → id < length now → ((slot : ℕ) → descriptor_at now slot ≡ forgotten ids old slot)
+    → (slot : ℕ) → descriptor_at (set now id (Some unset)) slot ≡ forgotten (ids ++ id ∷ []) old slot
+forgets_one ids id old now lt so_far slot = elim (cases_eq slot id) [
+  | inl e ↦ ap (descriptor_at (set now id (Some unset))) e ∙ get_or-set_same now id (Some unset) None lt
+      ∙ sym (ap (λ b. if b then Some unset else descriptor_at old slot) (list_any-append (λ r. r == slot) ids (id ∷ []) ∙ ap (λ b. is_member slot ids || (b || false)) (eq-eqb id slot (sym e)) ∙ or_true (is_member slot ids)))
+  | inr d ↦ get_or-set_other now id slot (Some unset) None d ∙ so_far slot
+      ∙ sym (ap (λ b. if b then Some unset else descriptor_at old slot) (list_any-append (λ r. r == slot) ids (id ∷ []) ∙ ap (λ b. is_member slot ids || (b || false)) (ne_eqb id slot (λ e. d (sym e))) ∙ or_false (is_member slot ids)))
+]
+  where
+    or_true : (b : Bool) → (b || true) ≡ true
+    or_true true = refl
+    or_true false = refl
+
+    or_false : (b : Bool) → (b || false) ≡ b
+    or_false true = refl
+    or_false false = refl
+
+-- a selector that was taken still is
+pub still_taken : (ids : List ℕ) (old now : selectors.Table) (id : ℕ) → ((slot : ℕ) → descriptor_at now slot ≡ forgotten ids old slot) → is_some (descriptor_at old id) ≡ true → is_some (descriptor_at now id) ≡ true
+still_taken ids old now id so_far known = ap is_some (so_far id) ∙ either (is_member id ids)
+  where
+    either : (b : Bool) → is_some (if b then Some unset else descriptor_at old id) ≡ true
+    either true = refl
+    either false = known
+
+-- What each slot's selector says once objects were discarded and others have slid.
+module _ (old new : Heap) (is : IsHeap new) (h : Option ℕ) (k : ℕ) (keeps : KeepsOthers old h k new) (from to : ℕ) (table : selectors.Table) where
+  abbrev ids : List ℕ
+  ids = take k (eligible (blocks old) old.order h)
+
+  -- a discarded object says nothing of an address
+  pub gone_says : (q : ℕ) → is_member q (take k (eligible (blocks old) old.order h)) ≡ true → descriptor_at table q ≡ Some unset → followed new from to table q ≡ described new q
+  gone_says q m says = with_object (object_at old q) (keeps.discarded q m)
+    where
+      no_place : (o : Object) → object_at new q ≡ Some (record o { bytes = None }) → (p : Option ℕ) → finmap.get new.places q ≡ p → p ≡ None
+      no_place o there None e = refl
+      no_place o there (Some at) e = absurd (false≢true (sym (ap (λ (p : Option Object). is_some (elim p as (λ _. Option (List ℕ)) [ Some o ↦ o.bytes | None ↦ None ])) there) ∙ sym (is.at_bytes q) ∙ ap is_some e))
+
+      with_object : (p : Option Object) → IsSomeAnd p (λ o. (o.kind ≡ Discardable) × (o.locks ≡ 0) × (is_some o.bytes ≡ true) × (object_at new q ≡ Some (record o { bytes = None }))) → followed new from to table q ≡ described new q
+      with_object None f = absurd f
+      with_object (Some o) f =
+          let none : finmap.get new.places q ≡ None = no_place o f.3 (finmap.get new.places q) refl in
+          ap (λ (p : Option ℕ). elim p as (λ _. Option Descriptor) [ None ↦ descriptor_at table q | Some at ↦ if nat_le from at && nat_lt at to then described new q else descriptor_at table q ]) none
+          ∙ says ∙ sym (ap (option_map (descriptor_for new q)) f.3)
+
+-- an object that was discarded was there, so its slot has a descriptor
+pub each_discarded : (old new : Heap) (h : Option ℕ) (k : ℕ) → KeepsOthers old h k new → (table : selectors.Table) → ((q : ℕ) → descriptor_at table q ≡ described old q) → All (λ id. is_some (descriptor_at table id) ≡ true) (take k (eligible (blocks old) old.order h))
+each_discarded old new h k keeps table describes = All-from_Each (λ id. is_some (descriptor_at table id) ≡ true) (take k (eligible (blocks old) old.order h))
+    (Each-from (λ id. is_some (descriptor_at table id) ≡ true) (take k (eligible (blocks old) old.order h)) (λ q m. ap is_some (describes q) ∙ there q (object_at old q) (keeps.discarded q (true-is_member q (take k (eligible (blocks old) old.order h)) m))))
+  where
+    there : (q : ℕ) (p : Option Object) → IsSomeAnd p (λ o. (o.kind ≡ Discardable) × (o.locks ≡ 0) × (is_some o.bytes ≡ true) × (object_at new q ≡ Some (record o { bytes = None }))) → is_some (option_map (descriptor_for old q) p) ≡ true
+    there q None f = absurd f
+    there q (Some o) f = refl

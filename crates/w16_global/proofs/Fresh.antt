@@ -1,0 +1,39 @@
+-- The objects before anything is allocated.
+use Rattle.std.proofs.Common.{◌≡◌, ℕ, zero, suc, ◌+◌, ◌<◌, ◌≤◌, List, [], length, get_or, replicate, Option, None, option_map, refl, sym, ap, ◌∙◌, subst, arith}
+use Rattle.std.specs.Ordering.{nat_cmp}
+use Rattle.std.specs.FinMap.{get-empty}
+use Rattle.std.proofs.lemmas.List.{length-replicate}
+use Rattle.std.proofs.lemmas.List.Elements.{All-replicate}
+use Rattle.w16_region.specs.Bytes.{repeated}
+use Rattle.w16_model.specs.declared.Entry.{Entry}
+use Rattle.w16_model.specs.declared.TheConstants.{GRAIN}
+use Rattle.w16_model.specs.Heap.{Heap, empty_heap}
+use Rattle.w16_model.specs.Table.{IsSound, object_in, heap_in}
+use Rattle.w16_arena.specs.State.{State, empty_table}
+use Rattle.w16_arena.proofs.Lookups.{same_heap, object_here, place_here}
+use Rattle.w16_arena.proofs.Fresh.{sound, no_entry}
+use Rattle.w16_global.specs.Parts.{AreParts, holding_of}
+use Rattle.w16_global.proofs.Written.{beside}
+
+module _ (cap memory : ℕ) (few : cap ≤ 8192) where
+  abbrev fresh : State
+  fresh = record { table = empty_table cap 0 memory GRAIN; discarded = [] }
+
+  pub fresh_parts : AreParts (record { table = empty_table cap 0 memory GRAIN; discarded = [] }) (repeated memory 0)
+  unfolding repeated
+  fresh_parts = record {
+    sound = sound cap 0 memory GRAIN (omega arith) (0, refl);
+    low = refl;
+    grain = refl;
+    high = sym (length-replicate memory 0);
+    bytes = All-replicate (λ b. b < 256) memory 0 (omega arith);
+    few = let n = length-replicate {A = Option Entry} cap None in omega arith;
+  }
+
+  fresh_heap : heap_in (empty_table cap 0 memory GRAIN) (repeated memory 0) ≡ empty_heap 0 memory GRAIN
+  fresh_heap = same_heap (heap_in (empty_table cap 0 memory GRAIN) (repeated memory 0)) (empty_heap 0 memory GRAIN) refl refl refl refl
+      (λ q. object_here (beside fresh_parts) q ∙ ap (option_map (object_in [] (repeated memory 0) q)) (no_entry cap q) ∙ sym (get-empty nat_cmp q))
+      (λ q. place_here (beside fresh_parts) q ∙ sym (get-empty nat_cmp q))
+
+  pub fresh_holding : holding_of (record { table = empty_table cap 0 memory GRAIN; discarded = [] }) (repeated memory 0) ≡ record { cap = cap; heap = empty_heap 0 memory GRAIN; discarded = [] }
+  fresh_holding = λ i. record { cap = length-replicate {A = Option Entry} cap None i; heap = fresh_heap i; discarded = [] }
