@@ -69,3 +69,14 @@ each_discarded old new h k keeps table describes = All-from_Each (λ id. is_some
     there : (q : ℕ) (p : Option Object) → IsSomeAnd p (λ o. (o.kind ≡ Discardable) × (o.locks ≡ 0) × (is_some o.bytes ≡ true) × (object_at new q ≡ Some (record o { bytes = None }))) → is_some (option_map (descriptor_for old q) p) ≡ true
     there q None f = absurd f
     there q (Some o) f = refl
+
+-- an object that is there after was there before
+pub was_there : (old new : Heap) (about : Option ℕ) (k : ℕ) → KeepsOthers old about k new → (q : ℕ) → about ≢ Some q → is_some (object_at new q) ≡ true → is_some (object_at old q) ≡ true
+was_there old new about k keeps q other there = elim (cases_Bool (is_member q (take k (eligible (blocks old) old.order about)))) [
+  | inl gone ↦ held (object_at old q) (keeps.discarded q gone)
+  | inr out ↦ ap is_some (sym (keeps.kept q other (λ m. false≢true (sym out ∙ m)))) ∙ there
+]
+  where
+    held : (p : Option Object) → IsSomeAnd p (λ o. (o.kind ≡ Discardable) × (o.locks ≡ 0) × (is_some o.bytes ≡ true) × (object_at new q ≡ Some (record o { bytes = None }))) → is_some p ≡ true
+    held None f = absurd f
+    held (Some o) f = refl

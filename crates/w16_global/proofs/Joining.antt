@@ -140,20 +140,3 @@ module _ {h : Holding} {xs : List (Option Attributes)} {t : selectors.Table} (ar
       (ap length taken ∙ length-set t slot (Some unset))
       (ap (λ (l : selectors.Table). get_or l slot None) taken ∙ get_or-set_same t slot (Some unset) None in_table)
       (λ q n. ap (λ (l : selectors.Table). get_or l q None) taken ∙ get_or-set_other t slot q (Some unset) None n)
-
-  -- one with bytes
-  pub allocated_joined : (n at : ℕ) (kind : Kind) (way : Way) (after : selectors.Table) → Allocates h.heap slot n kind 0 way true new.heap
-      → ((q : ℕ) → q ≢ slot → (object_at new.heap q ≡ object_at h.heap q) × (finmap.get new.heap.places q ≡ finmap.get h.heap.places q))
-      → IsSomeAnd (bytes_at new.heap slot) (λ bytes. length bytes ≡ n) → finmap.get new.heap.places slot ≡ Some at
-      → (first : selectors.Table) → first ≡ set t slot (Some unset) → after ≡ set first slot (Some (record { base = at; limit = n - 1; present = true; kind = Data })) → AreJoined new (set xs slot (Some a)) after
-  allocated_joined n at kind way after allocated others sized placed first first_is taken =
-      let d : Descriptor = record { base = at; limit = n - 1; present = true; kind = Data } in
-      let many : length first ≡ length t = ap length first_is ∙ length-set t slot (Some unset) in
-      let s = settled h.heap slot way (prefix_of h.heap n (Some slot) way) (IsNew way.zero n kind 0) (with_newest slot) new.heap allocated.request in
-      joined_set h xs t are new slot (Some a) (Some d) after cap
-      (subst IsWorld (λ i. record { slots = sym cap i - FIRST_SLOT; heap = new.heap; attributes = sym (attributes_set xs slot a within) i; moved = 0 }) (with_new_object (world_of h xs 0) are.world a slot s.0 s.1 (with_newest slot s.1) (stays_for slot way) new.heap free.0 s.2))
-      (λ q n. same_described h.heap new.heap q (others q n).0 (others q n).1)
-      (made_here new.heap slot n at (bytes_at new.heap slot) refl sized placed)
-      (ap length taken ∙ length-set first slot (Some d) ∙ many)
-      (ap (λ (l : selectors.Table). get_or l slot None) taken ∙ get_or-set_same first slot (Some d) None (subst (λ k. slot < k) (sym many) in_table))
-      (λ q n. ap (λ (l : selectors.Table). get_or l q None) taken ∙ get_or-set_other first slot q (Some d) None n ∙ ap (λ (l : selectors.Table). get_or l q None) first_is ∙ get_or-set_other t slot q (Some unset) None n)

@@ -11,3 +11,4 @@ pub mod Following
 pub mod Sliding
 pub mod Fresh
 pub mod Forgotten
+pub mod Walked

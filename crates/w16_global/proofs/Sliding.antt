@@ -27,7 +27,7 @@ use Rattle.w16_global.specs.Joined.{attributes_in, world_of, descriptor_for, des
 use Rattle.w16_model.specs.Machine.{GlobalCompacts}
 use Rattle.w16_global.proofs.Joined.{attributes_set, described_some}
 use Rattle.w16_global.proofs.Described.{made_here, same_described}
-use Rattle.w16_global.proofs.Forgotten.{gone_says, each_discarded}
+use Rattle.w16_global.proofs.Forgotten.{gone_says, each_discarded, still_taken, was_there}
 
 -- Objects outside a range stand where they stood.
 abbrev pub StandStill : Heap → Heap → ℕ → ℕ → ℕ → Type 0
@@ -95,6 +95,10 @@ says_all old new is about k keeps from to t told ids ids_is forgot describes q o
       followed_other new from to told t q (forgot q ∙ ap (λ b. if b then Some unset else descriptor_at t q) (ap (is_member q) ids_is ∙ out))
       ∙ slid_says old new is from to t q (keeps.kept q other (λ m. false≢true (sym out ∙ m))) (describes q) still
 ]
+
+-- Each object has a descriptor before others are discarded and slide.
+pub each_known : {h : Holding} {xs : List (Option Attributes)} {t : selectors.Table} → AreJoined h xs t → (slot : ℕ) → is_some (object_at h.heap slot) ≡ true → is_some (descriptor_at t slot) ≡ true
+each_known {h} {xs} {t} are slot there = ap is_some (are.described slot) ∙ described_some h.heap slot ∙ there
 
 -- what an answered request was
 granted : (old : Heap) (h : ℕ) (way : Way) (prefix : Option ℕ) (Asked : Object → Type 0) (order : Object → List ℕ → List ℕ) (new : Heap) → Request old h way prefix Asked order true new
@@ -176,6 +180,35 @@ module _ {h : Holding} {xs : List (Option Attributes)} {t : selectors.Table} (ar
             there None e f = f
             there (Some o) e f = cc
 
+    -- each object has a descriptor once the others were told, and its own is taken
+    pub known_told : (told first : selectors.Table) → ((q : ℕ) → descriptor_at told q ≡ forgotten new.discarded t q) → length told ≡ length t → first ≡ set told slot (Some unset)
+        → (q : ℕ) → is_some (object_at new.heap q) ≡ true → is_some (descriptor_at first q) ≡ true
+    known_told told first forgot many_told first_is q there = elim (cases_eq q slot) [
+      | inl e ↦ ap (λ (l : selectors.Table). is_some (get_or l q None)) first_is ∙ ap (λ k. is_some (get_or (set told slot (Some unset)) k None)) e
+          ∙ ap is_some (get_or-set_same told slot (Some unset) None (subst (λ k. slot < k) (sym many_told) in_table))
+      | inr other ↦ ap (λ (l : selectors.Table). is_some (get_or l q None)) first_is ∙ ap is_some (get_or-set_other told slot q (Some unset) None other)
+          ∙ still_taken new.discarded t told q forgot (each_known are q (was_there h.heap new.heap (Some slot) s.0 keeps q (λ e. let same : slot ≡ q = cc in other (sym same)) there))
+    ]
+
+    -- and the new one has it still once selectors have followed
+    pub known_followed : (from to : ℕ) (told first second : selectors.Table) → ((q : ℕ) → descriptor_at told q ≡ forgotten new.discarded t q) → length told ≡ length t → first ≡ set told slot (Some unset)
+        → ((q : ℕ) → descriptor_at second q ≡ followed new.heap from to first q) → is_some (descriptor_at second slot) ≡ true
+    known_followed from to told first second forgot many_told first_is follows = ap is_some (follows slot) ∙ by_place (finmap.get new.heap.places slot)
+      where
+        made : is_some (object_at new.heap slot) ≡ true
+        made = ap (λ (g : Heap). is_some (object_at g slot)) s.4.same ∙ ap is_some (inserted_here (discarded h.heap s.0 (Some slot)).objects slot s.2 slot refl)
+
+        taken : is_some (descriptor_at first slot) ≡ true
+        taken = known_told told first forgot many_told first_is slot made
+
+        either : (b : Bool) → is_some (if b then described new.heap slot else descriptor_at first slot) ≡ true
+        either true = described_some new.heap slot ∙ made
+        either false = taken
+
+        by_place : (p : Option ℕ) → is_some (elim p as (λ _. Option Descriptor) [ None ↦ descriptor_at first slot | Some at ↦ if nat_le from at && nat_lt at to then described new.heap slot else descriptor_at first slot ]) ≡ true
+        by_place None = taken
+        by_place (Some at) = either (nat_le from at && nat_lt at to)
+
 -- and where objects were discarded and have slid, and no other thing changed
 module _ {h : Holding} {xs : List (Option Attributes)} {t : selectors.Table} (are : AreJoined h xs t) (new : Holding) (cap : new.cap ≡ h.cap) (n answer : ℕ) (compacted : Compacts h.heap n answer new.heap)
     (listed : 0 < n → new.discarded ≡ first_eligible h.heap (compaction_prefix h.heap n) None) (unlisted : n ≡ 0 → new.discarded ≡ []) where
@@ -196,6 +229,10 @@ module _ {h : Holding} {xs : List (Option Attributes)} {t : selectors.Table} (ar
 
   pub compaction_known : All (λ id. is_some (descriptor_at t id) ≡ true) new.discarded
   compaction_known = subst (All (λ id. is_some (descriptor_at t id) ≡ true)) (sym kept.1) (each_discarded h.heap new.heap None kept.0 kept.2 t are.described)
+
+  -- each object has a descriptor once the others were told
+  pub known_left : (told : selectors.Table) → ((q : ℕ) → descriptor_at told q ≡ forgotten new.discarded t q) → (q : ℕ) → is_some (object_at new.heap q) ≡ true → is_some (descriptor_at told q) ≡ true
+  known_left told forgot q there = still_taken new.discarded t told q forgot (each_known are q (was_there h.heap new.heap None kept.0 kept.2 q (λ e. cc) there))
 
   pub compacted_joined : (from to : ℕ) (told after : selectors.Table) → ((q : ℕ) → StandStill h.heap new.heap from to q) → ((q : ℕ) → descriptor_at told q ≡ forgotten new.discarded t q) → length told ≡ length t
       → ((q : ℕ) → descriptor_at after q ≡ followed new.heap from to told q) → length after ≡ length told → AreJoined new xs after
@@ -220,10 +257,6 @@ compacted_known h xs m {w} shown new cap n answer moved compacted is = subst (λ
   compacted = compacted;
   rest = λ i. record { slots = cap i - FIRST_SLOT; heap = new.heap; attributes = attributes_in xs; moved = is i };
 })
-
--- Each object has a descriptor before its selector follows.
-pub each_known : {h : Holding} {xs : List (Option Attributes)} {t : selectors.Table} → AreJoined h xs t → (slot : ℕ) → is_some (object_at h.heap slot) ≡ true → is_some (descriptor_at t slot) ≡ true
-each_known {h} {xs} {t} are slot there = ap is_some (are.described slot) ∙ described_some h.heap slot ∙ there
 
 pub table_few : {h : Holding} {xs : List (Option Attributes)} {t : selectors.Table} → AreJoined h xs t → length t ≤ 8192
 table_few {h} {xs} {t} are = let some = are.some in let few = are.world.few in omega (arith, are.selectors_many)

@@ -1,14 +1,40 @@
-use Rattle.std.proofs.Common.{arith}
+use Rattle.std.proofs.Common.{◌≡◌, ℕ, List, All, is_some, true, length, sym, subst, arith}
+use Rattle.w16_selectors.specs.Descriptors.{descriptor_at}
+use Rattle.w16_global.specs.Joined.{forgotten}
 use Rattle.w16_global.proofs.Joining.{given_world}
-use Rattle.w16_global.proofs.Sliding.{allocated_joined, discarded_known, slot_left, given_moved}
+use Rattle.w16_global.proofs.Sliding.{allocated_joined, discarded_known, known_told, known_followed, slot_left, table_few, given_moved}
 use Rattle.w16_global.proofs.global.Global16.allocate.Goals as goal
+
+pub forget-requires-clause-known : goal.forget-requires-clause-known
+forget-requires-clause-known c =
+    let s = c.in-Some.ensures in
+    subst (All (λ id. is_some (descriptor_at c.self.inside.selectors id) ≡ true)) (sym c.discarded.ensures)
+    (discarded_known c.self.invariant c.alloc.new.self s.cap c.args.slot c.args.attributes c.self.view_is c.requires.free c.args.size c.args.kind c.args.way s.allocated s.discarded)
+
+pub follow-requires-clause-known : goal.follow-requires-clause-known
+follow-requires-clause-known c =
+    let s = c.in-Some.ensures in
+    known_told c.self.invariant c.alloc.new.self s.cap c.args.slot c.args.attributes c.self.view_is c.requires.free c.args.size c.args.kind c.args.way s.allocated s.discarded
+    c.forget.new.selectors c.take.new.self (subst (λ ids. (q : ℕ) → descriptor_at c.forget.new.selectors q ≡ forgotten ids c.self.inside.selectors q) c.discarded.ensures c.forget.ensures.forgotten) c.forget.ensures.many c.take.ensures
+
+pub take-requires : goal.take-requires
+take-requires c =
+    let s = c.in-Some.ensures in
+    ?
+
+pub set-requires-clause-taken : goal.set-requires-clause-taken
+set-requires-clause-taken c =
+    let s = c.in-Some.ensures in
+    known_followed c.self.invariant c.alloc.new.self s.cap c.args.slot c.args.attributes c.self.view_is c.requires.free c.args.size c.args.kind c.args.way s.allocated s.discarded c.in-Some.placed.slid.from c.in-Some.placed.slid.to
+    c.forget.new.selectors c.take.new.self c.follow.new.selectors (subst (λ ids. (q : ℕ) → descriptor_at c.forget.new.selectors q ≡ forgotten ids c.self.inside.selectors q) c.discarded.ensures c.forget.ensures.forgotten)
+    c.forget.ensures.many c.take.ensures c.follow.ensures.followed
 
 pub invariant_of-self-2 : goal.invariant_of-self-2
 invariant_of-self-2 c =
     let s = c.in-Some.ensures in
     let p = c.in-Some.placed in
-    allocated_joined c.self.invariant c.alloc.new.self s.cap c.args.slot c.args.attributes c.self.view_is c.requires.free c.args.size c.args.kind c.args.way s.allocated ? p.at p.slid.from p.slid.to c.set.new.self s.still s.placed
-    c.forget.new.selectors c.take.new.self c.follow.new.selectors c.forget.ensures.forgotten c.forget.ensures.many c.take.ensures c.follow.ensures.followed c.follow.ensures.many c.set.ensures
+    allocated_joined c.self.invariant c.alloc.new.self s.cap c.args.slot c.args.attributes c.self.view_is c.requires.free c.args.size c.args.kind c.args.way s.allocated s.discarded p.at p.slid.from p.slid.to c.set.new.self s.still s.placed
+    c.forget.new.selectors c.take.new.self c.follow.new.selectors (subst (λ ids. (q : ℕ) → descriptor_at c.forget.new.selectors q ≡ forgotten ids c.self.inside.selectors q) c.discarded.ensures c.forget.ensures.forgotten) c.forget.ensures.many c.take.ensures c.follow.ensures.followed c.follow.ensures.many c.set.ensures
 
 pub returns-clause-rest : goal.returns-clause-rest
 returns-clause-rest c =
