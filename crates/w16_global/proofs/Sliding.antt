@@ -166,9 +166,8 @@ module _ {h : Holding} {xs : List (Option Attributes)} {t : selectors.Table} (ar
         }
 
     -- what is free for it still is, once the others were told
-    pub slot_left : (told : selectors.Table) → ((q : ℕ) → descriptor_at told q ≡ forgotten new.discarded t q) → descriptor_at told slot ≡ None
-    slot_left told forgot = forgot slot ∙ ap (λ b. if b then Some unset else descriptor_at t slot) (ap (is_member slot) ids_are ∙ not_its_own)
-        ∙ are.described slot ∙ ap (option_map (descriptor_for h.heap slot)) free.1
+    pub slot_left : (told : selectors.Table) → ((q : ℕ) → descriptor_at told q ≡ forgotten new.discarded t q) → length told ≡ length t → selectors.IsFree told slot
+    slot_left told forgot many_told = (free.0.0, subst (λ k. slot < k) (sym many_told) in_table, unset_still)
       where
         not_its_own : is_member slot (take s.0 (eligible (blocks h.heap) h.heap.order (Some slot))) ≡ false
         not_its_own = elim (cases_Bool (is_member slot (take s.0 (eligible (blocks h.heap) h.heap.order (Some slot))))) [
@@ -179,6 +178,10 @@ module _ {h : Holding} {xs : List (Option Attributes)} {t : selectors.Table} (ar
             there : (p : Option Object) → p ≡ None → IsSomeAnd p (λ o. (o.kind ≡ Discardable) × (o.locks ≡ 0) × (is_some o.bytes ≡ true) × (object_at new.heap slot ≡ Some (record o { bytes = None }))) → ⊥
             there None e f = f
             there (Some o) e f = cc
+
+        unset_still : descriptor_at told slot ≡ None
+        unset_still = forgot slot ∙ ap (λ b. if b then Some unset else descriptor_at t slot) (ap (is_member slot) ids_are ∙ not_its_own)
+            ∙ are.described slot ∙ ap (option_map (descriptor_for h.heap slot)) free.1
 
     -- each object has a descriptor once the others were told, and its own is taken
     pub known_told : (told first : selectors.Table) → ((q : ℕ) → descriptor_at told q ≡ forgotten new.discarded t q) → length told ≡ length t → first ≡ set told slot (Some unset)

@@ -20,7 +20,8 @@ follow-requires-clause-known c =
 pub take-requires : goal.take-requires
 take-requires c =
     let s = c.in-Some.ensures in
-    ?
+    slot_left c.self.invariant c.alloc.new.self s.cap c.args.slot c.args.attributes c.self.view_is c.requires.free c.args.size c.args.kind c.args.way s.allocated s.discarded
+    c.forget.new.selectors (subst (λ ids. (q : ℕ) → descriptor_at c.forget.new.selectors q ≡ forgotten ids c.self.inside.selectors q) c.discarded.ensures c.forget.ensures.forgotten) c.forget.ensures.many
 
 pub set-requires-clause-taken : goal.set-requires-clause-taken
 set-requires-clause-taken c =
