@@ -136,3 +136,74 @@ fn compacts_on_request(rt: HostRuntime) -> Result<(), Fail> {
     assert_eq!(rt; heap.get_selector_base(0x10F), 0);
     Ok(())
 }
+
+/// A heap of 128 bytes that four discardable objects of 32 bytes fill, the first allocated first.
+fn filled(rt: &impl AllocGlobal) -> Result<Global16, AllocError> {
+    let mut heap = Global16::new(rt.alloc(), 128, 16)?;
+    for _ in 0..4u32 {
+        heap.global_alloc(0x102, 32);
+    }
+    Ok(heap)
+}
+
+#[test]
+fn discards_by_order_of_use(rt: HostRuntime) -> Result<(), Fail> {
+    let mut heap = filled(&rt)?;
+    assert_eq!(rt; heap.global_flags(0x11E), 0x100);
+    let mut bytes = [0u8; 1];
+    assert_eq!(rt; heap.far_read(0x107, 0, &mut bytes), Ok(()));
+    assert_eq!(rt; heap.global_alloc(2, 32), 0x126);
+    assert_eq!(rt; heap.global_flags(0x10E), 0x4100);
+    assert_eq!(rt; heap.global_size(0x10E), 0);
+    assert_eq!(rt; heap.get_selector_limit(0x10F), 0);
+    assert_eq!(rt; heap.far_read(0x10F, 0, &mut bytes), Err(FarFault::NotPresent));
+    assert_eq!(rt; heap.global_lru_oldest(0x11E), 0x11E);
+    assert_eq!(rt; heap.global_lru_newest(0x116), 0x116);
+    assert_eq!(rt; heap.global_lru_newest(0x126), 0);
+    assert_eq!(rt; heap.global_lru_oldest(0x10E), 0);
+    assert_eq!(rt; heap.global_alloc(2, 32), 0x12E);
+    assert_eq!(rt; heap.global_flags(0x11E), 0x4100);
+    assert_eq!(rt; heap.global_flags(0x116), 0x100);
+    Ok(())
+}
+
+#[test]
+fn discards_no_more_than_needed(rt: HostRuntime) -> Result<(), Fail> {
+    let mut heap = filled(&rt)?;
+    assert_eq!(rt; heap.global_lock(0x10E), 0x010F_0000);
+    assert_eq!(rt; heap.global_alloc(0x22, 32), 0);
+    assert_eq!(rt; heap.global_alloc(2, 128), 0);
+    assert_eq!(rt; heap.global_flags(0x106), 0x100);
+    assert_eq!(rt; heap.global_alloc(2, 32), 0x126);
+    assert_eq!(rt; heap.global_flags(0x106), 0x4100);
+    assert_eq!(rt; heap.global_flags(0x116), 0x100);
+    assert_eq!(rt; heap.global_alloc(2, 64), 0x12E);
+    assert_eq!(rt; heap.global_flags(0x116), 0x4100);
+    assert_eq!(rt; heap.global_flags(0x11E), 0x4100);
+    assert_eq!(rt; heap.global_flags(0x10E), 0x101);
+    assert_eq!(rt; heap.global_alloc(0x102, 0), 0x136);
+    assert_eq!(rt; heap.global_flags(0x136), 0x4100);
+    Ok(())
+}
+
+#[test]
+fn walks_by_address(rt: HostRuntime) -> Result<(), Fail> {
+    let mut heap = Global16::new(rt.alloc(), 128, 16)?;
+    assert_eq!(rt; heap.global_alloc(2, 32), 0x106);
+    assert_eq!(rt; heap.global_alloc(0x102, 32), 0x10E);
+    assert_eq!(rt; heap.global_lock(0x10E), 0x010F_0000);
+    assert_eq!(rt; heap.global_free(0x106), 0);
+    let hole = heap.walk(0).expect(&rt, "a hole");
+    assert_eq!(rt; hole.at, 0);
+    assert_eq!(rt; hole.size, 32);
+    assert!(rt; hole.owner.is_none());
+    let block = heap.walk(1).expect(&rt, "a block");
+    assert_eq!(rt; block.at, 32);
+    assert_eq!(rt; block.size, 32);
+    let owner = block.owner.expect(&rt, "its object");
+    assert_eq!(rt; owner.name, 0x10E);
+    assert_eq!(rt; owner.locks, 1);
+    assert_eq!(rt; heap.walk(33).expect(&rt, "a hole").at, 64);
+    assert!(rt; heap.walk(65).is_none());
+    Ok(())
+}

@@ -2,7 +2,7 @@ ghost use Rattle.std.specs.Prelude.{◌≡◌, ◌<◌};
 
 use super::{Objects, Placed};
 use std::test::Fail;
-use w16_model::Kind;
+use w16_model::{Kind, Way};
 
 /// A moveable object of so many grains, if its id is free and there is a place for it.
 fn give(objects: &mut Objects, id: u32, grains: u32, compact: bool) -> Option<Placed>
@@ -14,7 +14,13 @@ fn give(objects: &mut Objects, id: u32, grains: u32, compact: bool) -> Option<Pl
     if id >= 8 || objects.entry(id).is_some() {
         return None;
     }
-    objects.alloc(id, 32 * grains, Kind::Moveable, compact, true)
+    let way = Way {
+        compact,
+        discard: true,
+        zero: true,
+        may_move: false,
+    };
+    objects.alloc(id, 32 * grains, Kind::Moveable, way)
 }
 
 #[test]
