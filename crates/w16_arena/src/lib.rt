@@ -15,6 +15,8 @@ mod making;
 mod objects;
 mod placing;
 mod requests;
+#[cfg(test)]
+mod tests;
 mod walk;
 
 pub use making::Placed;
