@@ -279,15 +279,35 @@ const SCRIPTS: &[Script] = &[
     Script {
         name: "new objects of each kind, and one without bytes",
         lines: &[
-            (Step::Alloc(0, 32, Kind::Fixed, AS_IT_STANDS), placed!(0), &[]),
-            (Step::Alloc(1, 64, Kind::Moveable, AS_IT_STANDS), placed!(32), &[]),
-            (Step::Alloc(2, 32, Kind::Discardable, AS_IT_STANDS), placed!(96), &[]),
+            (
+                Step::Alloc(0, 32, Kind::Fixed, AS_IT_STANDS),
+                placed!(0),
+                &[],
+            ),
+            (
+                Step::Alloc(1, 64, Kind::Moveable, AS_IT_STANDS),
+                placed!(32),
+                &[],
+            ),
+            (
+                Step::Alloc(2, 32, Kind::Discardable, AS_IT_STANDS),
+                placed!(96),
+                &[],
+            ),
             (Step::Enter(3, Kind::Discardable), Answer::Done, &[]),
             (Step::Enter(5, Kind::Fixed), Answer::Done, &[]),
             (Step::Lock(3), Answer::Refused(Refusal::Absent), &[]),
             (Step::Newest(3), Answer::Refused(Refusal::Absent), &[]),
-            (Step::Alloc(4, 160, Kind::Moveable, AS_IT_STANDS), Answer::NoRoom, &[]),
-            (Step::Alloc(4, 128, Kind::Moveable, AS_IT_STANDS), placed!(128), &[]),
+            (
+                Step::Alloc(4, 160, Kind::Moveable, AS_IT_STANDS),
+                Answer::NoRoom,
+                &[],
+            ),
+            (
+                Step::Alloc(4, 128, Kind::Moveable, AS_IT_STANDS),
+                placed!(128),
+                &[],
+            ),
             (Step::Free(3), Answer::Done, &[]),
         ],
         walk: &[
@@ -301,16 +321,40 @@ const SCRIPTS: &[Script] = &[
     Script {
         name: "the lowest hole that is long enough",
         lines: &[
-            (Step::Alloc(0, 64, Kind::Moveable, AS_IT_STANDS), placed!(0), &[]),
-            (Step::Alloc(1, 64, Kind::Moveable, AS_IT_STANDS), placed!(64), &[]),
-            (Step::Alloc(2, 64, Kind::Moveable, AS_IT_STANDS), placed!(128), &[]),
+            (
+                Step::Alloc(0, 64, Kind::Moveable, AS_IT_STANDS),
+                placed!(0),
+                &[],
+            ),
+            (
+                Step::Alloc(1, 64, Kind::Moveable, AS_IT_STANDS),
+                placed!(64),
+                &[],
+            ),
+            (
+                Step::Alloc(2, 64, Kind::Moveable, AS_IT_STANDS),
+                placed!(128),
+                &[],
+            ),
             (Step::Free(0), Answer::Done, &[]),
             (Step::Lock(2), Answer::Done, &[]),
             (Step::Free(2), Answer::Refused(Refusal::Locked), &[]),
             (Step::Release(2), Answer::Done, &[]),
-            (Step::Alloc(3, 96, Kind::Moveable, DISCARDING), placed!(128), &[]),
-            (Step::Alloc(4, 64, Kind::Discardable, SLIDING), placed!(0), &[]),
-            (Step::Alloc(5, 64, Kind::Moveable, AS_IT_STANDS), Answer::NoRoom, &[]),
+            (
+                Step::Alloc(3, 96, Kind::Moveable, DISCARDING),
+                placed!(128),
+                &[],
+            ),
+            (
+                Step::Alloc(4, 64, Kind::Discardable, SLIDING),
+                placed!(0),
+                &[],
+            ),
+            (
+                Step::Alloc(5, 64, Kind::Moveable, AS_IT_STANDS),
+                Answer::NoRoom,
+                &[],
+            ),
         ],
         walk: &[
             object!(0, 64, 4, Kind::Discardable, 0),
@@ -323,15 +367,39 @@ const SCRIPTS: &[Script] = &[
     Script {
         name: "others slide where they may",
         lines: &[
-            (Step::Alloc(0, 64, Kind::Moveable, AS_IT_STANDS), placed!(0), &[]),
-            (Step::Alloc(1, 64, Kind::Moveable, AS_IT_STANDS), placed!(64), &[]),
-            (Step::Alloc(2, 64, Kind::Moveable, AS_IT_STANDS), placed!(128), &[]),
+            (
+                Step::Alloc(0, 64, Kind::Moveable, AS_IT_STANDS),
+                placed!(0),
+                &[],
+            ),
+            (
+                Step::Alloc(1, 64, Kind::Moveable, AS_IT_STANDS),
+                placed!(64),
+                &[],
+            ),
+            (
+                Step::Alloc(2, 64, Kind::Moveable, AS_IT_STANDS),
+                placed!(128),
+                &[],
+            ),
             (Step::Release(0), Answer::Done, &[]),
-            (Step::Alloc(3, 96, Kind::Moveable, AS_IT_STANDS), Answer::NoRoom, &[]),
+            (
+                Step::Alloc(3, 96, Kind::Moveable, AS_IT_STANDS),
+                Answer::NoRoom,
+                &[],
+            ),
             (Step::Lock(1), Answer::Done, &[]),
-            (Step::Alloc(3, 96, Kind::Moveable, SLIDING), Answer::NoRoom, &[]),
+            (
+                Step::Alloc(3, 96, Kind::Moveable, SLIDING),
+                Answer::NoRoom,
+                &[],
+            ),
             (Step::Unlock(1), Answer::Done, &[]),
-            (Step::Alloc(3, 96, Kind::Moveable, SLIDING), placed!(128, 0, 256, 128), &[]),
+            (
+                Step::Alloc(3, 96, Kind::Moveable, SLIDING),
+                placed!(128, 0, 256, 128),
+                &[],
+            ),
         ],
         walk: &[
             object!(0, 64, 1, Kind::Moveable, 0),
@@ -344,22 +412,54 @@ const SCRIPTS: &[Script] = &[
     Script {
         name: "the least recently used are discarded, as few as are needed",
         lines: &[
-            (Step::Alloc(0, 64, Kind::Discardable, DISCARDING), placed!(0), &[]),
-            (Step::Alloc(1, 64, Kind::Discardable, DISCARDING), placed!(64), &[]),
-            (Step::Alloc(2, 64, Kind::Discardable, DISCARDING), placed!(128), &[]),
-            (Step::Alloc(3, 32, Kind::Moveable, DISCARDING), placed!(192), &[]),
+            (
+                Step::Alloc(0, 64, Kind::Discardable, DISCARDING),
+                placed!(0),
+                &[],
+            ),
+            (
+                Step::Alloc(1, 64, Kind::Discardable, DISCARDING),
+                placed!(64),
+                &[],
+            ),
+            (
+                Step::Alloc(2, 64, Kind::Discardable, DISCARDING),
+                placed!(128),
+                &[],
+            ),
+            (
+                Step::Alloc(3, 32, Kind::Moveable, DISCARDING),
+                placed!(192),
+                &[],
+            ),
             (Step::Lock(0), Answer::Done, &[]),
             (Step::Unlock(0), Answer::Done, &[]),
             (Step::Touch(1), Answer::Done, &[]),
-            (Step::Alloc(4, 96, Kind::Moveable, SLIDING), Answer::NoRoom, &[]),
-            (Step::Alloc(4, 96, Kind::Moveable, DISCARDING), placed!(160, 0, 256, 32), &[2]),
-            (Step::Alloc(2, 64, Kind::Discardable, DISCARDING), placed!(0), &[0]),
+            (
+                Step::Alloc(4, 96, Kind::Moveable, SLIDING),
+                Answer::NoRoom,
+                &[],
+            ),
+            (
+                Step::Alloc(4, 96, Kind::Moveable, DISCARDING),
+                placed!(160, 0, 256, 32),
+                &[2],
+            ),
+            (
+                Step::Alloc(2, 64, Kind::Discardable, DISCARDING),
+                placed!(0),
+                &[0],
+            ),
             (Step::Lock(0), Answer::Refused(Refusal::Absent), &[0]),
             (Step::Unlock(0), Answer::Done, &[0]),
             (Step::Discard(0), Answer::Done, &[0]),
             (Step::Oldest(0), Answer::Refused(Refusal::Absent), &[0]),
             (Step::Lock(1), Answer::Done, &[0]),
-            (Step::Alloc(5, 96, Kind::Moveable, DISCARDING), Answer::NoRoom, &[0]),
+            (
+                Step::Alloc(5, 96, Kind::Moveable, DISCARDING),
+                Answer::NoRoom,
+                &[0],
+            ),
         ],
         walk: &[
             object!(0, 64, 2, Kind::Discardable, 0),
@@ -372,9 +472,21 @@ const SCRIPTS: &[Script] = &[
     Script {
         name: "compaction discards as few as are needed, or all that may be",
         lines: &[
-            (Step::Alloc(0, 64, Kind::Discardable, AS_IT_STANDS), placed!(0), &[]),
-            (Step::Alloc(1, 64, Kind::Discardable, AS_IT_STANDS), placed!(64), &[]),
-            (Step::Alloc(2, 128, Kind::Moveable, AS_IT_STANDS), placed!(128), &[]),
+            (
+                Step::Alloc(0, 64, Kind::Discardable, AS_IT_STANDS),
+                placed!(0),
+                &[],
+            ),
+            (
+                Step::Alloc(1, 64, Kind::Discardable, AS_IT_STANDS),
+                placed!(64),
+                &[],
+            ),
+            (
+                Step::Alloc(2, 128, Kind::Moveable, AS_IT_STANDS),
+                placed!(128),
+                &[],
+            ),
             (Step::Lock(1), Answer::Done, &[]),
             (Step::Compact(0), compacted!(64), &[]),
             (Step::Compact(64), compacted!(64), &[0]),
@@ -393,10 +505,26 @@ const SCRIPTS: &[Script] = &[
     Script {
         name: "compaction slides",
         lines: &[
-            (Step::Alloc(0, 32, Kind::Moveable, AS_IT_STANDS), placed!(0), &[]),
-            (Step::Alloc(1, 32, Kind::Moveable, AS_IT_STANDS), placed!(32), &[]),
-            (Step::Alloc(2, 32, Kind::Discardable, AS_IT_STANDS), placed!(64), &[]),
-            (Step::Alloc(3, 64, Kind::Moveable, AS_IT_STANDS), placed!(96), &[]),
+            (
+                Step::Alloc(0, 32, Kind::Moveable, AS_IT_STANDS),
+                placed!(0),
+                &[],
+            ),
+            (
+                Step::Alloc(1, 32, Kind::Moveable, AS_IT_STANDS),
+                placed!(32),
+                &[],
+            ),
+            (
+                Step::Alloc(2, 32, Kind::Discardable, AS_IT_STANDS),
+                placed!(64),
+                &[],
+            ),
+            (
+                Step::Alloc(3, 64, Kind::Moveable, AS_IT_STANDS),
+                placed!(96),
+                &[],
+            ),
             (Step::Release(0), Answer::Done, &[]),
             (Step::Compact(128), compacted!(128, 0, 256, 128), &[]),
             (Step::Compact(129), compacted!(160, 0, 256, 64), &[2]),
@@ -412,10 +540,18 @@ const SCRIPTS: &[Script] = &[
     Script {
         name: "a full heap of one fixed object",
         lines: &[
-            (Step::Alloc(0, 256, Kind::Fixed, AS_IT_STANDS), placed!(0), &[]),
+            (
+                Step::Alloc(0, 256, Kind::Fixed, AS_IT_STANDS),
+                placed!(0),
+                &[],
+            ),
             (Step::Compact(0), compacted!(0), &[]),
             (Step::Compact(1), compacted!(0), &[]),
-            (Step::Alloc(1, 32, Kind::Moveable, DISCARDING), Answer::NoRoom, &[]),
+            (
+                Step::Alloc(1, 32, Kind::Moveable, DISCARDING),
+                Answer::NoRoom,
+                &[],
+            ),
         ],
         walk: &[object!(0, 256, 0, Kind::Fixed, 0)],
         order: &[],
@@ -423,26 +559,70 @@ const SCRIPTS: &[Script] = &[
     Script {
         name: "the order of use",
         lines: &[
-            (Step::Alloc(0, 32, Kind::Discardable, AS_IT_STANDS), placed!(0), &[]),
-            (Step::Alloc(1, 32, Kind::Discardable, AS_IT_STANDS), placed!(32), &[]),
-            (Step::Alloc(2, 32, Kind::Discardable, AS_IT_STANDS), placed!(64), &[]),
-            (Step::Alloc(3, 32, Kind::Moveable, AS_IT_STANDS), placed!(96), &[]),
-            (Step::Alloc(4, 32, Kind::Fixed, AS_IT_STANDS), placed!(128), &[]),
+            (
+                Step::Alloc(0, 32, Kind::Discardable, AS_IT_STANDS),
+                placed!(0),
+                &[],
+            ),
+            (
+                Step::Alloc(1, 32, Kind::Discardable, AS_IT_STANDS),
+                placed!(32),
+                &[],
+            ),
+            (
+                Step::Alloc(2, 32, Kind::Discardable, AS_IT_STANDS),
+                placed!(64),
+                &[],
+            ),
+            (
+                Step::Alloc(3, 32, Kind::Moveable, AS_IT_STANDS),
+                placed!(96),
+                &[],
+            ),
+            (
+                Step::Alloc(4, 32, Kind::Fixed, AS_IT_STANDS),
+                placed!(128),
+                &[],
+            ),
             (Step::Newest(0), Answer::Done, &[]),
             (Step::Oldest(2), Answer::Done, &[]),
             (Step::Lock(1), Answer::Done, &[]),
             (Step::Oldest(1), Answer::Done, &[]),
-            (Step::Oldest(3), Answer::Refused(Refusal::NotDiscardable), &[]),
-            (Step::Newest(3), Answer::Refused(Refusal::NotDiscardable), &[]),
+            (
+                Step::Oldest(3),
+                Answer::Refused(Refusal::NotDiscardable),
+                &[],
+            ),
+            (
+                Step::Newest(3),
+                Answer::Refused(Refusal::NotDiscardable),
+                &[],
+            ),
             (Step::Touch(3), Answer::Done, &[]),
             (Step::Lock(4), Answer::Refused(Refusal::Fixed), &[]),
             (Step::Unlock(4), Answer::Refused(Refusal::Fixed), &[]),
-            (Step::Discard(4), Answer::Refused(Refusal::NotDiscardable), &[]),
+            (
+                Step::Discard(4),
+                Answer::Refused(Refusal::NotDiscardable),
+                &[],
+            ),
             (Step::Lock(3), Answer::Done, &[]),
-            (Step::Alloc(5, 128, Kind::Moveable, DISCARDING), Answer::NoRoom, &[]),
-            (Step::Alloc(5, 96, Kind::Moveable, DISCARDING), placed!(160), &[]),
+            (
+                Step::Alloc(5, 128, Kind::Moveable, DISCARDING),
+                Answer::NoRoom,
+                &[],
+            ),
+            (
+                Step::Alloc(5, 96, Kind::Moveable, DISCARDING),
+                placed!(160),
+                &[],
+            ),
             (Step::Compact(32), compacted!(32), &[2]),
-            (Step::Alloc(2, 32, Kind::Discardable, DISCARDING), placed!(64), &[]),
+            (
+                Step::Alloc(2, 32, Kind::Discardable, DISCARDING),
+                placed!(64),
+                &[],
+            ),
         ],
         walk: &[
             object!(0, 32, 0, Kind::Discardable, 0),
@@ -457,11 +637,27 @@ const SCRIPTS: &[Script] = &[
     Script {
         name: "steps on single objects, and on an id that has none",
         lines: &[
-            (Step::Alloc(0, 32, Kind::Discardable, AS_IT_STANDS), placed!(0), &[]),
-            (Step::Alloc(1, 32, Kind::Moveable, AS_IT_STANDS), placed!(32), &[]),
-            (Step::Discard(1), Answer::Refused(Refusal::NotDiscardable), &[]),
+            (
+                Step::Alloc(0, 32, Kind::Discardable, AS_IT_STANDS),
+                placed!(0),
+                &[],
+            ),
+            (
+                Step::Alloc(1, 32, Kind::Moveable, AS_IT_STANDS),
+                placed!(32),
+                &[],
+            ),
+            (
+                Step::Discard(1),
+                Answer::Refused(Refusal::NotDiscardable),
+                &[],
+            ),
             (Step::Discard(0), Answer::Done, &[]),
-            (Step::Alloc(0, 64, Kind::Discardable, AS_IT_STANDS), placed!(64), &[]),
+            (
+                Step::Alloc(0, 64, Kind::Discardable, AS_IT_STANDS),
+                placed!(64),
+                &[],
+            ),
             (Step::Lock(1), Answer::Done, &[]),
             (Step::Lock(1), Answer::Done, &[]),
             (Step::Lock(1), Answer::Done, &[]),
@@ -471,10 +667,18 @@ const SCRIPTS: &[Script] = &[
             (Step::Unlock(5), Answer::Done, &[]),
             (Step::Free(5), Answer::Done, &[]),
             (Step::Release(5), Answer::Done, &[]),
-            (Step::Discard(5), Answer::Refused(Refusal::NotDiscardable), &[]),
+            (
+                Step::Discard(5),
+                Answer::Refused(Refusal::NotDiscardable),
+                &[],
+            ),
             (Step::Touch(5), Answer::Done, &[]),
             (Step::Newest(5), Answer::Refused(Refusal::Absent), &[]),
-            (Step::Oldest(4_294_967_295), Answer::Refused(Refusal::Absent), &[]),
+            (
+                Step::Oldest(4_294_967_295),
+                Answer::Refused(Refusal::Absent),
+                &[],
+            ),
         ],
         walk: &[
             hole!(0, 32),
@@ -489,14 +693,23 @@ const SCRIPTS: &[Script] = &[
 #[test]
 fn answers_calls(rt: HostRuntime) -> Result<(), Fail> {
     for script in SCRIPTS {
-        let Script { name, lines, walk, order } = *script;
+        let Script {
+            name,
+            lines,
+            walk,
+            order,
+        } = *script;
         let mut arena = six(&rt, rt.alloc())?;
         let mut region = Region::new(rt.alloc(), 256)?;
         for line in lines {
             expect(&rt, rt.alloc(), name, &mut arena, &mut region, line)?;
         }
         assert_eq!(rt; shown(rt.alloc(), &arena)?.as_slice(), walk, "{name}: walk");
-        assert_eq!(rt; in_order(rt.alloc(), &arena)?.as_slice(), order, "{name}: order");
+        assert_eq!(rt;
+            in_order(rt.alloc(), &arena)?.as_slice(),
+            order,
+            "{name}: order"
+        );
     }
     Ok(())
 }
@@ -506,17 +719,54 @@ fn looks_up(rt: HostRuntime) -> Result<(), Fail> {
     let mut arena = six(&rt, rt.alloc())?;
     let mut region = Region::new(rt.alloc(), 256)?;
     assert_eq!(rt; arena.next_block(0), None);
-    act(&rt, &mut arena, &mut region, Step::Alloc(3, 64, Kind::Fixed, AS_IT_STANDS));
-    act(&rt, &mut arena, &mut region, Step::Enter(1, Kind::Discardable));
-    act(&rt, &mut arena, &mut region, Step::Alloc(2, 32, Kind::Moveable, AS_IT_STANDS));
-    let first = Block { id: 3, at: 0, size: 64, hold: Hold::Pinned };
-    let second = Block { id: 2, at: 64, size: 32, hold: Hold::Loose };
+    act(
+        &rt,
+        &mut arena,
+        &mut region,
+        Step::Alloc(3, 64, Kind::Fixed, AS_IT_STANDS),
+    );
+    act(
+        &rt,
+        &mut arena,
+        &mut region,
+        Step::Enter(1, Kind::Discardable),
+    );
+    act(
+        &rt,
+        &mut arena,
+        &mut region,
+        Step::Alloc(2, 32, Kind::Moveable, AS_IT_STANDS),
+    );
+    let first = Block {
+        id: 3,
+        at: 0,
+        size: 64,
+        hold: Hold::Pinned,
+    };
+    let second = Block {
+        id: 2,
+        at: 64,
+        size: 32,
+        hold: Hold::Loose,
+    };
     assert_eq!(rt; arena.block(3), Some(first));
     assert_eq!(rt; arena.block(2), Some(second));
     assert_eq!(rt; arena.block(1), None);
     assert_eq!(rt; arena.block(6), None);
-    assert_eq!(rt; arena.entry(3), Some(Entry { kind: Kind::Fixed, locks: 0 }));
-    assert_eq!(rt; arena.entry(1), Some(Entry { kind: Kind::Discardable, locks: 0 }));
+    assert_eq!(rt;
+        arena.entry(3),
+        Some(Entry {
+            kind: Kind::Fixed,
+            locks: 0
+        })
+    );
+    assert_eq!(rt;
+        arena.entry(1),
+        Some(Entry {
+            kind: Kind::Discardable,
+            locks: 0
+        })
+    );
     assert_eq!(rt; arena.entry(0), None);
     assert_eq!(rt; arena.entry(4_294_967_295), None);
     assert_eq!(rt; arena.next_block(0), Some(first));
@@ -530,15 +780,31 @@ fn looks_up(rt: HostRuntime) -> Result<(), Fail> {
 fn counts_locks(rt: HostRuntime) -> Result<(), Fail> {
     let mut arena = six(&rt, rt.alloc())?;
     let mut region = Region::new(rt.alloc(), 256)?;
-    act(&rt, &mut arena, &mut region, Step::Alloc(0, 32, Kind::Discardable, AS_IT_STANDS));
-    act(&rt, &mut arena, &mut region, Step::Alloc(1, 32, Kind::Discardable, AS_IT_STANDS));
+    act(
+        &rt,
+        &mut arena,
+        &mut region,
+        Step::Alloc(0, 32, Kind::Discardable, AS_IT_STANDS),
+    );
+    act(
+        &rt,
+        &mut arena,
+        &mut region,
+        Step::Alloc(1, 32, Kind::Discardable, AS_IT_STANDS),
+    );
     for _ in 0..255 {
         assert_eq!(rt; arena.lock(0), Ok(()));
     }
     assert_eq!(rt; arena.to_oldest(0), Ok(()));
     assert_eq!(rt; arena.lock(0), Err(Refusal::LockFull));
     assert_eq!(rt; in_order(rt.alloc(), &arena)?.as_slice(), [0, 1].as_slice());
-    assert_eq!(rt; arena.entry(0), Some(Entry { kind: Kind::Discardable, locks: 255 }));
+    assert_eq!(rt;
+        arena.entry(0),
+        Some(Entry {
+            kind: Kind::Discardable,
+            locks: 255
+        })
+    );
     for _ in 0..255 {
         assert_eq!(rt; arena.unlock(0), Ok(()));
     }
@@ -552,18 +818,92 @@ fn clears_new_bytes(rt: HostRuntime) -> Result<(), Fail> {
     let mut arena = six(&rt, rt.alloc())?;
     let mut region = Region::new(rt.alloc(), 256)?;
     region.fill(0, 256, 7);
-    let zeros = Way { zero: true, ..DISCARDING };
-    act(&rt, &mut arena, &mut region, Step::Alloc(0, 32, Kind::Moveable, DISCARDING));
-    act(&rt, &mut arena, &mut region, Step::Alloc(1, 32, Kind::Discardable, zeros));
+    let zeros = Way {
+        zero: true,
+        ..DISCARDING
+    };
+    act(
+        &rt,
+        &mut arena,
+        &mut region,
+        Step::Alloc(0, 32, Kind::Moveable, DISCARDING),
+    );
+    act(
+        &rt,
+        &mut arena,
+        &mut region,
+        Step::Alloc(1, 32, Kind::Discardable, zeros),
+    );
     assert!(rt; region.len() == 256);
     assert!(rt; region.view(0, 32).iter().all(|byte| *byte == 7));
     assert!(rt; region.view(32, 32).iter().all(|byte| *byte == 0));
     assert!(rt; region.view(64, 192).iter().all(|byte| *byte == 7));
     act(&rt, &mut arena, &mut region, Step::Release(0));
-    act(&rt, &mut arena, &mut region, Step::Alloc(2, 256, Kind::Moveable, zeros));
+    act(
+        &rt,
+        &mut arena,
+        &mut region,
+        Step::Alloc(2, 256, Kind::Moveable, zeros),
+    );
     assert!(rt; region.len() == 256);
     assert!(rt; region.view(0, 256).iter().all(|byte| *byte == 0));
     assert_eq!(rt; arena.discarded(), [1].as_slice());
+    Ok(())
+}
+
+/// Whether an object has so many bytes, all of them this one.
+fn is_filled(arena: &Arena, region: &Region, id: u32, size: usize, byte: u8) -> bool
+    requires { arena.now.table.hi ≤ length region.now.bytes.items }
+{
+    match arena.bytes(region, id) {
+        Some(bytes) => bytes.len() == size && bytes.iter().all(|other| *other == byte),
+        None => false,
+    }
+}
+
+#[test]
+fn tells_bytes(rt: HostRuntime) -> Result<(), Fail> {
+    let mut arena = six(&rt, rt.alloc())?;
+    let mut region = Region::new(rt.alloc(), 256)?;
+    act(
+        &rt,
+        &mut arena,
+        &mut region,
+        Step::Alloc(0, 32, Kind::Moveable, AS_IT_STANDS),
+    );
+    act(
+        &rt,
+        &mut arena,
+        &mut region,
+        Step::Alloc(1, 64, Kind::Moveable, AS_IT_STANDS),
+    );
+    act(
+        &rt,
+        &mut arena,
+        &mut region,
+        Step::Enter(2, Kind::Discardable),
+    );
+    assert!(rt; region.len() == 256);
+    region.fill(0, 32, 5);
+    region.fill(32, 64, 6);
+    assert!(rt; is_filled(&arena, &region, 0, 32, 5));
+    assert!(rt; is_filled(&arena, &region, 1, 64, 6));
+    assert!(rt; arena.bytes(&region, 2).is_none());
+    assert!(rt; arena.bytes(&region, 6).is_none());
+    act(&rt, &mut arena, &mut region, Step::Release(0));
+    act(
+        &rt,
+        &mut arena,
+        &mut region,
+        Step::Alloc(3, 192, Kind::Moveable, SLIDING),
+    );
+    assert!(rt; arena.bytes(&region, 0).is_none());
+    assert!(rt; is_filled(&arena, &region, 1, 64, 6));
+    assert!(rt;
+        arena
+            .bytes(&region, 3)
+            .is_some_and(|bytes| bytes.len() == 192)
+    );
     Ok(())
 }
 
@@ -705,10 +1045,19 @@ fn discards_as_few_as_are_needed(rt: HostRuntime) -> Result<(), Fail> {
                     assert_eq!(rt; expected, *count, "{name}: {size} by the plain program");
                 }
                 let eligible = before.eligible(rt.alloc(), Some(*id))?;
-                let answer = act(&rt, &mut arena, &mut region, Step::Alloc(*id, *size, Kind::Discardable, way));
+                let answer = act(
+                    &rt,
+                    &mut arena,
+                    &mut region,
+                    Step::Alloc(*id, *size, Kind::Discardable, way),
+                );
                 let first = expected.unwrap_or(0).min(eligible.len());
                 assert_eq!(rt; arena.discarded(), &eligible[..first], "{name}: {size}");
-                assert_eq!(rt; answer == Answer::NoRoom, expected.is_none(), "{name}: {size}");
+                assert_eq!(rt;
+                    answer == Answer::NoRoom,
+                    expected.is_none(),
+                    "{name}: {size}"
+                );
             }
         }
     }
@@ -730,7 +1079,11 @@ fn compaction_discards_as_few_as_are_needed(rt: HostRuntime) -> Result<(), Fail>
             let first = needed.unwrap_or(all).min(all);
             let room = before.room_for(rt.alloc(), first, None)?;
             let most = before.room_for(rt.alloc(), all, None)?;
-            assert_eq!(rt; act(&rt, &mut arena, &mut region, Step::RoomAll), Answer::Room(most), "{name}");
+            assert_eq!(rt;
+                act(&rt, &mut arena, &mut region, Step::RoomAll),
+                Answer::Room(most),
+                "{name}"
+            );
             let answer = act(&rt, &mut arena, &mut region, Step::Compact(n));
             assert_eq!(rt; arena.discarded(), &eligible[..first], "{name}: {n}");
             assert_eq!(rt; room_of(answer), Some(room), "{name}: {n}");
@@ -745,16 +1098,37 @@ fn walks_a_heap(rt: HostRuntime) -> Result<(), Fail> {
     let mut region = Region::new(rt.alloc(), 256)?;
     assert_eq!(rt; arena.walk(0), Some(hole!(0, 256)));
     assert_eq!(rt; arena.walk(1), None);
-    act(&rt, &mut arena, &mut region, Step::Alloc(0, 32, Kind::Fixed, AS_IT_STANDS));
-    act(&rt, &mut arena, &mut region, Step::Alloc(1, 64, Kind::Moveable, AS_IT_STANDS));
-    act(&rt, &mut arena, &mut region, Step::Alloc(2, 32, Kind::Discardable, AS_IT_STANDS));
+    act(
+        &rt,
+        &mut arena,
+        &mut region,
+        Step::Alloc(0, 32, Kind::Fixed, AS_IT_STANDS),
+    );
+    act(
+        &rt,
+        &mut arena,
+        &mut region,
+        Step::Alloc(1, 64, Kind::Moveable, AS_IT_STANDS),
+    );
+    act(
+        &rt,
+        &mut arena,
+        &mut region,
+        Step::Alloc(2, 32, Kind::Discardable, AS_IT_STANDS),
+    );
     assert_eq!(rt; arena.lock(2), Ok(()));
     arena.release(1);
     assert_eq!(rt; arena.walk(0), Some(object!(0, 32, 0, Kind::Fixed, 0)));
     assert_eq!(rt; arena.walk(1), Some(hole!(32, 64)));
     assert_eq!(rt; arena.walk(32), Some(hole!(32, 64)));
-    assert_eq!(rt; arena.walk(33), Some(object!(96, 32, 2, Kind::Discardable, 1)));
-    assert_eq!(rt; arena.walk(96), Some(object!(96, 32, 2, Kind::Discardable, 1)));
+    assert_eq!(rt;
+        arena.walk(33),
+        Some(object!(96, 32, 2, Kind::Discardable, 1))
+    );
+    assert_eq!(rt;
+        arena.walk(96),
+        Some(object!(96, 32, 2, Kind::Discardable, 1))
+    );
     assert_eq!(rt; arena.walk(97), Some(hole!(128, 128)));
     assert_eq!(rt; arena.walk(129), None);
     Ok(())
@@ -764,8 +1138,18 @@ fn walks_a_heap(rt: HostRuntime) -> Result<(), Fail> {
 fn walks_a_full_heap(rt: HostRuntime) -> Result<(), Fail> {
     let mut arena = six(&rt, rt.alloc())?;
     let mut region = Region::new(rt.alloc(), 256)?;
-    act(&rt, &mut arena, &mut region, Step::Alloc(3, 96, Kind::Moveable, AS_IT_STANDS));
-    act(&rt, &mut arena, &mut region, Step::Alloc(0, 160, Kind::Moveable, AS_IT_STANDS));
+    act(
+        &rt,
+        &mut arena,
+        &mut region,
+        Step::Alloc(3, 96, Kind::Moveable, AS_IT_STANDS),
+    );
+    act(
+        &rt,
+        &mut arena,
+        &mut region,
+        Step::Alloc(0, 160, Kind::Moveable, AS_IT_STANDS),
+    );
     assert_eq!(rt; arena.walk(0), Some(object!(0, 96, 3, Kind::Moveable, 0)));
     assert_eq!(rt; arena.walk(1), Some(object!(96, 160, 0, Kind::Moveable, 0)));
     assert_eq!(rt; arena.walk(97), None);
