@@ -1,5 +1,5 @@
 -- The bytes that an object has in a memory.
-use Rattle.std.proofs.Common.{◌≡◌, ℕ, ◌+◌, ◌-◌, ◌≤◌, List, length, slice_range, refl, take, drop, Option, Some, None, option_map, ap, ◌∙◌, arith}
+use Rattle.std.proofs.Common.{◌≡◌, ℕ, ◌+◌, ◌-◌, ◌≤◌, List, length, slice_range, refl, take, drop, Some, None, option_map, ap, ◌∙◌, arith}
 use Rattle.w16_model.specs.declared.Block.{Block}
 use Rattle.w16_model.specs.Heap.{bytes_at}
 use Rattle.w16_model.specs.Table.{Table, IsSound, block_with, heap_in}

@@ -1,4 +1,4 @@
-use Rattle.w16_arena.proofs.Granting.{in_memory, may_insert, kept_placed, range_placed, stands_placed, long_placed, outside_placed}
+use Rattle.w16_arena.proofs.Granting.{may_insert, kept_placed, range_placed, stands_placed, long_placed, outside_placed}
 use Rattle.w16_arena.proofs.Arena.place.Goals as goal
 
 pub insert-requires : goal.insert-requires
