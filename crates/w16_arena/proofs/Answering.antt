@@ -1,22 +1,21 @@
 -- A request, by what was found and made for it.
 use Rattle.std.specs.List.{AllByRecursion as Each}
-use Rattle.std.proofs.Common.{◌≡◌, ◌≢◌, ℕ, zero, suc, ◌+◌, ◌<◌, ◌≤◌, ◌⊎◌, ◌==◌, inl, inr, Bool, true, false, not, ◌&&◌, ◌||◌, if◌then◌else◌, IsTrue, IfSome, IsSomeAnd, MatchBool, MatchOption, All, List, [], ◌∷◌, length, take, fold, slice_range, Option, Some, None, option_map, is_some, unwrap_or, refl, sym, ap, ◌∙◌, subst, arith, ne_eqb, eq-eqb, take_all}
+use Rattle.std.proofs.Common.{◌≡◌, ◌≢◌, ℕ, ◌+◌, ◌<◌, ◌≤◌, ◌⊎◌, inl, inr, true, false, not, ◌&&◌, if◌then◌else◌, IfSome, IsSomeAnd, MatchBool, MatchOption, All, List, [], ◌∷◌, length, take, fold, slice_range, Option, Some, None, option_map, is_some, unwrap_or, refl, sym, ap, ◌∙◌, subst, arith, ne_eqb, eq-eqb, take_all}
 use Rattle.std.specs.FinMap as finmap
 use Rattle.std.proofs.lemmas.Bool.{false≢true, and_parts, cases_eq, cases_Bool}
 use Rattle.w16_model.specs.declared.Block.{Block}
-use Rattle.w16_model.specs.declared.Entry.{Entry}
 use Rattle.w16_model.specs.declared.Kind.{Kind}
 use Rattle.w16_model.specs.declared.Kind.TheVariants.{Discardable}
 use Rattle.w16_model.specs.declared.Span.{Span}
 use Rattle.w16_model.specs.Law.{KeepsOthers}
 use Rattle.w16_model.specs.declared.Way.{Way}
-use Rattle.w16_model.specs.Gap.{is_pinned, room, longest_hole}
-use Rattle.w16_model.specs.Prefix.{is_about, is_member, is_pinned_id, eligible, blocks_without, room_for, needed}
+use Rattle.w16_model.specs.Gap.{room, longest_hole}
+use Rattle.w16_model.specs.Prefix.{is_about, is_pinned_id, eligible, blocks_without, room_for, needed}
 use Rattle.w16_model.specs.Heap.{Heap, Object, IsHeap, IsMultiple, blocks, object_at, bytes_at}
 use Rattle.w16_model.specs.Edit.{absent, with_newest, with_ordered}
 use Rattle.w16_model.specs.Request.{Allocates, Compacts, MakesRoom, IsNew, Settles, prefix_of, stays_for, discarded, moved_bytes, compaction_prefix, eligible_count, most_room}
 use Rattle.w16_model.specs.Table.{Table, IsSound, block_with, heap_in}
-use Rattle.w16_model.proofs.Gaps.{Member, Each-from}
+use Rattle.w16_model.proofs.Gaps.{Each-from}
 use Rattle.w16_model.proofs.Tables.{place_is, table_longest}
 use Rattle.w16_model.proofs.Sound.{sound_heap}
 use Rattle.w16_model.proofs.Kept.{taken_here, taken_other}
@@ -25,11 +24,10 @@ use Rattle.w16_model.proofs.Others.{others_law}
 use Rattle.w16_model.proofs.Prefixes.{prefix_hole, prefix_no_hole, prefix_now, prefix_kept, prefix_needed, needed_by_members, needed_enough, eligible_by_members}
 use Rattle.w16_model.proofs.Answered.{allocates_after, settles_after, settles_before, moved_after, discarded_all}
 use Rattle.w16_blocks.specs.Layout.{Layout}
-use Rattle.w16_arena.specs.State.{table_of, heap_of}
 use Rattle.w16_arena.specs.Asked.{Stands, SlidesTogether, HasDiscarded, IsStill, first_eligible}
 use Rattle.w16_arena.specs.Making.{most_in}
 use Rattle.w16_arena.proofs.Parts.{AreParts}
-use Rattle.w16_arena.proofs.Lookups.{bytes_here, no_block}
+use Rattle.w16_arena.proofs.Lookups.{bytes_here}
 use Rattle.w16_arena.proofs.Listed.{is_listed, listed_permutation, listed_room, listed_with}
 use Rattle.w16_arena.proofs.Oldest.{filter_shorter}
 

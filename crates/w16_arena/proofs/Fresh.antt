@@ -1,5 +1,5 @@
 -- An arena before anything is allocated.
-use Rattle.std.proofs.Common.{◌≡◌, ℕ, zero, suc, ◌<◌, ◌≤◌, IsTrue, IfSome, Bool, false, List, [], length, get_or, replicate, Option, None, refl, sym, ap, ◌∙◌, subst, arith}
+use Rattle.std.proofs.Common.{◌≡◌, ℕ, zero, suc, ◌≤◌, IsTrue, IfSome, Bool, List, [], length, get_or, replicate, Option, None, refl, sym, ap, ◌∙◌, subst, arith}
 use Rattle.std.proofs.lemmas.List.{length-replicate}
 use Rattle.w16_model.specs.declared.Entry.{Entry}
 use Rattle.w16_model.specs.Heap.{is_fixed, IsMultiple}
@@ -7,7 +7,7 @@ use Rattle.w16_model.specs.Table.{IsSound, is_listed}
 use Rattle.w16_model.proofs.Gaps.{All-from_Each, AllPairs-from_EachPair}
 use Rattle.w16_blocks.specs.Layout.{Layout}
 use Rattle.w16_lru.specs.Uses.{Uses}
-use Rattle.w16_arena.specs.State.{empty_table, table_of}
+use Rattle.w16_arena.specs.State.{empty_table}
 use Rattle.w16_arena.specs.Kept.{IsKept}
 use Rattle.w16_arena.proofs.Lookups.{IsArranged, IsOrder, sound_of}
 

@@ -1,14 +1,13 @@
 -- What the call for a place leaves kept and answers.
-use Rattle.std.proofs.Common.{◌≡◌, ℕ, ◌+◌, ◌<◌, ◌≤◌, Bool, false, if◌then◌else◌, All, List, length, set, Option, Some, None, refl, sym, ap, ◌∙◌, subst, arith}
+use Rattle.std.proofs.Common.{◌≡◌, ℕ, ◌+◌, ◌<◌, ◌≤◌, Bool, false, if◌then◌else◌, All, List, length, set, Option, Some, None, ap, ◌∙◌, arith}
 use Rattle.std.proofs.lemmas.List.{length-set}
-use Rattle.w16_model.specs.declared.Block.{Block}
 use Rattle.w16_model.specs.declared.Entry.{Entry}
 use Rattle.w16_model.specs.declared.Hold.{Hold}
 use Rattle.w16_model.specs.declared.Kind.{Kind}
 use Rattle.w16_model.specs.declared.Way.{Way}
 use Rattle.w16_model.specs.Heap.{IsMultiple, is_discardable}
 use Rattle.w16_model.specs.Edit.{newest}
-use Rattle.w16_model.specs.Table.{Table, block_with, hold_in, heap_in, IsSameOutside}
+use Rattle.w16_model.specs.Table.{block_with, hold_in, heap_in, IsSameOutside}
 use Rattle.w16_region.specs.Bytes.{put_part, repeated}
 use Rattle.w16_blocks.specs.Layout.{Layout, IsOrdered, Fits, placed}
 use Rattle.w16_compact.specs.Gather.{moved_size}

@@ -30,3 +30,4 @@ pub mod Together
 pub mod Oldest
 pub mod Marked
 pub mod Answering
+pub mod Viewed

@@ -2,11 +2,10 @@
 use Rattle.std.proofs.Common.{◌≡◌, ℕ, ◌+◌, ◌-◌, ◌≤◌, ◌==◌, true, false, nat_lt, IfSome, is_some, List, length, slice_range, Option, Some, None, Ok, Err, option_map, refl, sym, ap, ◌∙◌, subst, arith}
 use Rattle.w16_model.specs.declared.Block.{Block}
 use Rattle.w16_model.specs.declared.Entry.{Entry}
-use Rattle.w16_model.specs.declared.Refusal.{Refusal}
 use Rattle.w16_model.specs.declared.Refusal.TheVariants as refusals
 use Rattle.w16_model.specs.Heap.{Heap, Object, object_at, is_fixed, is_discardable}
-use Rattle.w16_model.specs.Edit.{absent, removed, touched, newest, oldest, with_object, with_ordered}
-use Rattle.w16_model.specs.Single.{after_lock, after_unlock, after_free, after_discard, after_touch, after_release, refused_order, after_newest, after_oldest}
+use Rattle.w16_model.specs.Edit.{absent, with_object}
+use Rattle.w16_model.specs.Single.{after_lock, after_unlock, after_free, after_discard, after_touch, after_release, refused_order}
 use Rattle.w16_model.specs.Table.{IsSound, block_with, entry_at, object_in, heap_in}
 use Rattle.w16_model.proofs.Tables.{object_is}
 use Rattle.w16_arena.specs.State.{State, Steps}

@@ -1,21 +1,19 @@
 -- The single steps of an arena, by its value.
-use Rattle.std.proofs.Common.{◌≡◌, ℕ, ◌<◌, ◌≤◌, ◌+◌, ◌==◌, Bool, true, false, IsTrue, IfSome, IfNone, IsSomeAnd, List, length, replicate, get_or, set, slice_range, Option, Some, None, option_map, is_some, AllPairs, refl, sym, ap, ◌∙◌, subst, arith, inl, inr}
+use Rattle.std.proofs.Common.{◌≡◌, ℕ, ◌<◌, ◌≤◌, Bool, true, false, IsTrue, IfSome, IfNone, IsSomeAnd, List, length, replicate, get_or, set, Option, Some, None, option_map, is_some, AllPairs, refl, sym, ap, ◌∙◌, subst, arith, inl, inr}
 use Rattle.std.proofs.lemmas.Bool.{cases_eq, false≢true}
-use Rattle.std.specs.FinMap as finmap
 use Rattle.std.proofs.lemmas.List.{length-set, length-replicate}
-use Rattle.w16_model.specs.declared.Block.{Block}
 use Rattle.w16_model.specs.declared.Entry.{Entry}
 use Rattle.w16_model.specs.declared.Hold.{Hold}
 use Rattle.w16_model.specs.declared.Kind.{Kind}
 use Rattle.w16_model.specs.Prefix.{is_member}
-use Rattle.w16_model.specs.Heap.{Heap, Object, object_at, is_fixed}
+use Rattle.w16_model.specs.Heap.{Heap, object_at, is_fixed}
 use Rattle.w16_model.specs.Edit.{removed, absent, with_object, newest, oldest, without}
 use Rattle.w16_model.specs.Single.{Enters, after_touch}
-use Rattle.w16_model.specs.Table.{Table, IsSound, block_with, entry_at, hold_in, object_in, heap_in}
+use Rattle.w16_model.specs.Table.{Table, IsSound, block_with, entry_at, hold_in, object_in}
 use Rattle.w16_blocks.specs.Layout as layouts
 use Rattle.w16_blocks.specs.Layout.{Layout, IsOrdered, replaced}
 use Rattle.w16_lru.specs.Uses.{Uses}
-use Rattle.w16_arena.specs.State.{State, Steps, IsSameRange, table_of, heap_of}
+use Rattle.w16_arena.specs.State.{State, Steps, table_of, heap_of}
 use Rattle.w16_arena.specs.Kept.{IsKept}
 use Rattle.w16_arena.proofs.Lookups.{in_list, no_block, object_here, past_end}
 use Rattle.w16_arena.proofs.Reordered.{newest_reorders, oldest_reorders}

@@ -1,6 +1,5 @@
 -- A new object at a place that was found or made: what its call asks, and the heap after it.
-use Rattle.std.specs.List.{AllByRecursion as Each}
-use Rattle.std.proofs.Common.{◌≡◌, ◌≢◌, ℕ, ◌+◌, ◌<◌, ◌≤◌, ◌⊎◌, inl, inr, Bool, true, false, not, ◌||◌, ◌==◌, if◌then◌else◌, IsTrue, IfSome, IsSomeAnd, All, List, length, set, slice_range, Option, Some, None, option_map, refl, sym, ap, ◌∙◌, subst, arith}
+use Rattle.std.proofs.Common.{◌≡◌, ◌≢◌, ℕ, ◌+◌, ◌<◌, ◌≤◌, ◌⊎◌, inl, inr, Bool, true, false, not, ◌||◌, ◌==◌, if◌then◌else◌, IsTrue, IfSome, All, List, length, set, slice_range, Option, Some, None, option_map, refl, sym, ap, ◌∙◌, subst, arith}
 use Rattle.std.specs.Cmp.{nat_cmp_total}
 use Rattle.std.specs.FinMap as finmap
 use Rattle.std.specs.FinMap.{same_map, nat_cmp-IsAntisymmetric}
@@ -9,25 +8,24 @@ use Rattle.w16_model.specs.declared.Block.{Block}
 use Rattle.w16_model.specs.declared.Entry.{Entry}
 use Rattle.w16_model.specs.declared.Hold.{Hold}
 use Rattle.w16_model.specs.declared.Kind.{Kind}
-use Rattle.w16_model.specs.declared.Span.{Span}
 use Rattle.w16_model.specs.declared.Way.{Way}
 use Rattle.w16_model.specs.Gap.{is_pinned}
-use Rattle.w16_model.specs.Heap.{Heap, Object, IsMultiple, object_at, bytes_at, blocks, is_discardable}
+use Rattle.w16_model.specs.Heap.{Heap, Object, IsMultiple, blocks, is_discardable}
 use Rattle.w16_model.specs.Edit.{newest, with_ordered, with_newest}
-use Rattle.w16_model.specs.Request.{Settles, IsNew, stays_for, moved_bytes}
+use Rattle.w16_model.specs.Request.{Settles, stays_for}
 use Rattle.w16_model.specs.Table.{block_with, hold_in}
 use Rattle.w16_model.proofs.Gaps.{Member, Each-from, Each-at, All-from_Each}
 use Rattle.w16_region.specs.Bytes.{put_part, repeated}
 use Rattle.w16_blocks.specs.Layout.{Layout, IsOrdered, Fits, placed}
 use Rattle.w16_compact.specs.Gather.{moved_size}
 use Rattle.w16_arena.specs.declared.making.Placed.{Placed}
-use Rattle.w16_arena.specs.Asked.{Stands, IsStill}
-use Rattle.w16_arena.specs.State.{table_of, heap_of}
+use Rattle.w16_arena.specs.Asked.{Stands}
+use Rattle.w16_arena.specs.State.{heap_of}
 use Rattle.w16_arena.specs.Making.{Slides, AreMoved, IsFree}
 use Rattle.w16_arena.proofs.Parts.{AreParts}
 use Rattle.w16_arena.proofs.Lookups.{is_heap, place_here}
 use Rattle.w16_arena.proofs.Listed.{listed_with, is_listed}
-use Rattle.w16_arena.proofs.Allocated.{uses_with, differ, fits, new_parts, objects, order_new, place_new, others_stay}
+use Rattle.w16_arena.proofs.Allocated.{differ, fits, new_parts, objects, order_new, place_new, others_stay}
 use Rattle.w16_arena.proofs.Slid.{slid_parts, slid_object, slid_with, slid_still, slid_pinned}
 use Rattle.w16_arena.proofs.Pairs.{BothOrNone}
 use Rattle.w16_arena.proofs.Moved.{moved_is}

@@ -1,27 +1,25 @@
 -- The steps that ask for no room: what each leaves kept, and the heap after it, in every memory.
-use Rattle.std.proofs.Common.{◌≡◌, ◌≢◌, ℕ, zero, suc, ◌+◌, ◌-◌, ◌<◌, ◌≤◌, ◌==◌, Bool, true, false, cond, not, ◌&&◌, IsTrue, IfSome, IfNone, IsSomeAnd, AllPairs, replicate, List, [], ◌∷◌, length, get_or, set, slice_range, Option, Some, None, option_map, is_some, refl, sym, ap, ◌∙◌, subst, inl, inr, arith}
+use Rattle.std.proofs.Common.{◌≡◌, ℕ, zero, suc, ◌+◌, ◌<◌, ◌≤◌, ◌==◌, Bool, true, false, cond, ◌&&◌, IsTrue, IfSome, IfNone, IsSomeAnd, AllPairs, replicate, List, [], ◌∷◌, length, get_or, set, slice_range, Option, Some, None, option_map, is_some, refl, sym, ap, ◌∙◌, subst, inl, inr, arith}
 use Rattle.std.specs.FinMap as finmap
-use Rattle.std.specs.FinMap.{same_map, nat_cmp-IsAntisymmetric}
-use Rattle.std.specs.Cmp.{nat_cmp_total}
-use Rattle.std.proofs.lemmas.Bool.{false≢true, cases_eq}
+use Rattle.std.proofs.lemmas.Bool.{cases_eq}
 use Rattle.std.proofs.lemmas.Bool.Decides.{eqb_tells}
-use Rattle.std.proofs.lemmas.List.{length-set, length-replicate}
+use Rattle.std.proofs.lemmas.List.{length-replicate}
 use Rattle.w16_model.specs.declared.Block.{Block}
 use Rattle.w16_model.specs.declared.Entry.{Entry}
 use Rattle.w16_model.specs.declared.Hold.{Hold}
 use Rattle.w16_model.specs.declared.Kind.{Kind}
 use Rattle.w16_model.specs.Prefix.{is_member}
 use Rattle.w16_model.specs.Heap.{Heap, Object, object_at, is_fixed, is_discardable}
-use Rattle.w16_model.specs.Edit.{removed, absent, with_object, touched, newest, oldest, without}
-use Rattle.w16_model.specs.Single.{Enters, after_touch}
-use Rattle.w16_model.specs.Table.{Table, IsSound, block_with, hold_in, object_in, is_listed, heap_in}
+use Rattle.w16_model.specs.Edit.{removed, absent, with_object, touched, newest, without}
+use Rattle.w16_model.specs.Single.{Enters}
+use Rattle.w16_model.specs.Table.{IsSound, block_with, hold_in, object_in, is_listed}
 use Rattle.w16_model.proofs.Heaps.{get-update_same, get-update_other}
 use Rattle.w16_model.proofs.Kept.{taken_here, taken_other}
 use Rattle.w16_blocks.specs.Layout as layouts
 use Rattle.w16_blocks.specs.Layout.{Layout, IsOrdered, replaced}
 use Rattle.w16_blocks.proofs.Replace.{found_id}
 use Rattle.w16_lru.specs.Uses.{Uses}
-use Rattle.w16_arena.specs.State.{State, Steps, IsSameRange, table_of, heap_of}
+use Rattle.w16_arena.specs.State.{State, Steps, table_of, heap_of}
 use Rattle.w16_arena.specs.Kept.{IsKept}
 use Rattle.w16_arena.proofs.Parts.{AreParts}
 use Rattle.w16_arena.proofs.With.{with-replaced, with-without}

@@ -1,15 +1,14 @@
 -- Blocks that have slid together, and nothing else: what is kept, and the heap after it.
-use Rattle.std.proofs.Common.{◌≡◌, ℕ, ◌<◌, ◌≤◌, Bool, IsTrue, All, List, length, Option, Some, refl, sym, ap, ◌∙◌, subst, arith}
+use Rattle.std.proofs.Common.{◌≡◌, ℕ, ◌<◌, ◌≤◌, Bool, IsTrue, All, List, length, Option, Some, refl, sym, ap, ◌∙◌}
 use Rattle.std.specs.Cmp.{nat_cmp_total}
 use Rattle.std.specs.FinMap as finmap
 use Rattle.std.specs.FinMap.{same_map, nat_cmp-IsAntisymmetric}
-use Rattle.w16_model.specs.declared.Block.{Block}
 use Rattle.w16_model.specs.declared.Entry.{Entry}
 use Rattle.w16_model.specs.declared.Span.{Span}
 use Rattle.w16_model.specs.Gap.{is_pinned, longest_hole}
 use Rattle.w16_model.specs.Heap.{Heap, blocks}
 use Rattle.w16_model.specs.Request.{Settles}
-use Rattle.w16_model.specs.Table.{Table, heap_in}
+use Rattle.w16_model.specs.Table.{heap_in}
 use Rattle.w16_model.proofs.Gaps.{Each-from, All-from_Each}
 use Rattle.w16_model.proofs.Tables.{table_longest}
 use Rattle.w16_blocks.specs.Layout.{Layout}

@@ -1,5 +1,5 @@
 -- What the single steps of a heap say, by what it has at an id.
-use Rattle.std.proofs.Common.{◌≡◌, ℕ, ◌+◌, ◌-◌, ◌==◌, true, false, nat_lt, is_some, Option, Some, None, Ok, Err, refl, sym}
+use Rattle.std.proofs.Common.{◌≡◌, ℕ, ◌+◌, ◌-◌, ◌==◌, true, false, nat_lt, is_some, Some, None, Ok, Err, refl}
 use Rattle.w16_model.specs.declared.Refusal.{Refusal}
 use Rattle.w16_model.specs.declared.Refusal.TheVariants as refusals
 use Rattle.w16_model.specs.Heap.{Heap, Object, object_at, is_fixed, is_discardable}

@@ -1,5 +1,5 @@
 -- Where each object stands as it stood, nothing was moved; and never more than there is.
-use Rattle.std.proofs.Common.{◌≡◌, ℕ, ◌+◌, ◌≤◌, arith, ◌==◌, Bool, true, false, cond, not, List, [], ◌∷◌, filter, sum_by, Option, Some, None, option_map, unwrap_or, refl, sym, ap, ◌∙◌, subst, eq-eqb}
+use Rattle.std.proofs.Common.{◌≡◌, ℕ, ◌+◌, ◌≤◌, arith, ◌==◌, Bool, true, false, cond, not, List, [], ◌∷◌, filter, sum_by, Option, Some, None, unwrap_or, refl, ap, ◌∙◌, eq-eqb}
 use Rattle.std.specs.Ordering.{nat_cmp}
 use Rattle.std.specs.FinMap as finmap
 use Rattle.std.specs.FinMap.{FinMap}

@@ -1,5 +1,5 @@
 -- What an arena is, and a step of its heap in every memory.
-use Rattle.std.specs.Prelude.{◌≡◌, ℕ, ◌+◌, ◌≤◌, List, [], length, replicate, Option, None}
+use Rattle.std.specs.Prelude.{◌≡◌, ℕ, ◌≤◌, List, [], length, replicate, Option, None}
 use Rattle.w16_model.specs.declared.Entry.{Entry}
 use Rattle.w16_model.specs.Heap.{Heap, Object}
 use Rattle.w16_model.specs.Table.{Table, IsSound, heap_in}

@@ -10,11 +10,14 @@ ghost use Rattle.w16_model.specs.Heap.{IsMultiple};
 ghost use Rattle.w16_model.specs.Table.{block_with, entry_at, IsSound};
 ghost use Rattle.w16_arena.specs.State.{empty_table};
 
+mod bytes;
 mod discards;
 mod making;
 mod objects;
 mod placing;
 mod requests;
+#[cfg(test)]
+mod tests;
 mod walk;
 
 pub use making::{Placed, has_bytes};

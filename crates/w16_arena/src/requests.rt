@@ -57,7 +57,8 @@ impl Arena {
             return Err(NoRoom);
         }
         has_bytes(space);
-        let Some(k) = least_prefix(&self.blocks, &self.order, &mut self.marks, Some(id), size) else {
+        let Some(k) = least_prefix(&self.blocks, &self.order, &mut self.marks, Some(id), size)
+        else {
             return Err(NoRoom);
         };
         self.discard_first(k, Some(id));

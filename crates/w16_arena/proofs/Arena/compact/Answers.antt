@@ -1,4 +1,4 @@
-use Rattle.std.proofs.Common.{◌≡◌, ◌≤◌, ◌<◌, ℕ, List, [], None, length, take, refl, sym, ap, ◌∙◌, subst, arith}
+use Rattle.std.proofs.Common.{◌≡◌, ◌≤◌, ◌<◌, ℕ, None, length, take, refl, sym, ap, ◌∙◌, subst, arith}
 use Rattle.w16_model.specs.declared.Span.{Span}
 use Rattle.w16_model.specs.Prefix.{eligible}
 use Rattle.w16_model.specs.Request.{Compacts, compaction_prefix, discarded, moved_bytes}

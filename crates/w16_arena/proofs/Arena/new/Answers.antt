@@ -1,4 +1,4 @@
-use Rattle.std.proofs.Common.{rules, ◌≡◌, None, replicate, false, length, sym, ap, ◌∙◌, arith}
+use Rattle.std.proofs.Common.{rules, ◌≡◌, None, replicate, false, length, ap, ◌∙◌, arith}
 use Rattle.std.proofs.lemmas.List.{length-replicate}
 use Rattle.w16_arena.proofs.Fresh.{fresh_kept}
 use Rattle.w16_arena.proofs.Arena.new.Goals as goal

@@ -1,7 +1,7 @@
 use Rattle.std.proofs.Common.{◌≡◌, sym, ◌∙◌}
 use Rattle.w16_model.specs.Single.{after_touch}
 use Rattle.w16_model.specs.Edit.{newest}
-use Rattle.w16_arena.proofs.Shown.{kept_ordered, steps_ordered, steps_untouched, newest_same, newest_once, touches}
+use Rattle.w16_arena.proofs.Shown.{kept_ordered, steps_ordered, newest_same, newest_once, touches}
 use Rattle.w16_arena.proofs.Arena.touch.Goals as goal
 
 pub invariant_of-self : goal.invariant_of-self

@@ -1,4 +1,3 @@
-use Rattle.std.proofs.Common.{◌≡◌, ◌≤◌, ◌+◌, ap, ◌∙◌, sym, arith}
 use Rattle.w16_compact.proofs.Parts.{take_lower, drop_higher}
 use Rattle.w16_arena.proofs.Gathering.{gathered_moved, gathered_free}
 use Rattle.w16_arena.proofs.making.gather_for.Goals as goal
