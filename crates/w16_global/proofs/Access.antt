@@ -25,9 +25,9 @@ pub slot_of_access : (world : World) (selector offset n : ℕ) → far_fault wor
 slot_of_access world selector offset n = from (is_some (object_at world.heap (selector / 8)) && (selector == selector_of (selector / 8)))
   where
     from : (b : Bool) → (elim (if b then Some (selector / 8) else None) as (λ _. Option FarFault) [
-          | None ↦ Some BadSelector
-          | Some slot ↦ elim (bytes_at world.heap slot) [ None ↦ Some NotPresent | Some bytes ↦ if nat_lt (length bytes) (offset + n) then Some Limit else None ]
-        ]) ≡ None → unwrap_or (if b then Some (selector / 8) else None) 0 ≡ selector / 8
+      | None ↦ Some BadSelector
+      | Some slot ↦ elim (bytes_at world.heap slot) [ None ↦ Some NotPresent | Some bytes ↦ if nat_lt (length bytes) (offset + n) then Some Limit else None ]
+    ]) ≡ None → unwrap_or (if b then Some (selector / 8) else None) 0 ≡ selector / 8
     from true e = refl
     from false e = cc
 
@@ -143,8 +143,11 @@ module _ {h : Holding} {xs : List (Option Attributes)} {t : selectors.Table} {m 
         let fine = ap (machine.far_fault (world_of h xs m) selector offset) long ∙ r.no_fault in
         let slot_is : far_slot (world_of h xs m) selector ≡ selector / 8 = slot_of_access (world_of h xs m) selector offset n r.no_fault in
         subst (λ v. Gives (far_write v selector offset slice) machine.Reply.Done after) shown
-        (rw (fine, far_write) (refl, then_is ∙ ap (λ (k : Holding). record (world_of k xs m) { heap = after_touch k.heap (selector / 8) }) written
-        ∙ ap (λ k. record (world_of h xs m) { heap = after_touch (after_write h.heap q offset slice) k }) (sym slot_is)))
+        (rw (fine, far_write) (
+          refl,
+          then_is ∙ ap (λ (k : Holding). record (world_of k xs m) { heap = after_touch k.heap (selector / 8) }) written
+              ∙ ap (λ k. record (world_of h xs m) { heap = after_touch (after_write h.heap q offset slice) k }) (sym slot_is),
+        ))
 
 -- Fill
 module _ {h : Holding} {xs : List (Option Attributes)} {t : selectors.Table} {m : ℕ} {w : World} (are : AreJoined h xs t) (shown : world_of h xs m ≡ w) (selector offset n at : ℕ) (known : Reaches w selector offset n at)

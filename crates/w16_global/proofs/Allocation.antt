@@ -1,10 +1,10 @@
 -- What an allocation answers.
-use Rattle.std.proofs.Common.{◌≡◌, ℕ, ◌+◌, inr, true, ◌==◌, ◌&&◌, not, MatchBool, MatchOption, inl, ne_eqb, IfSome, IfNone, List, Option, Some, None, refl, sym, subst, arith, ◌<◌, ◌≤◌, ◌∙◌, Bool, false, ap}
+use Rattle.std.proofs.Common.{◌≡◌, ℕ, ◌+◌, inr, true, ◌==◌, ◌&&◌, MatchBool, MatchOption, inl, ne_eqb, IfSome, IfNone, List, Option, Some, None, refl, sym, subst, arith, ◌<◌, ◌≤◌, ◌∙◌, Bool, false, ap}
 use Rattle.std.specs.FinMap as finmap
 use Rattle.w16_model.specs.declared.Attributes.{Attributes}
 use Rattle.w16_model.specs.declared.Kind.{Kind}
 use Rattle.w16_model.specs.declared.Way.{Way}
-use Rattle.w16_model.specs.declared.TheConstants.{LARGEST_SIZE, GMEM_MOVEABLE, GMEM_NOCOMPACT, GMEM_ZEROINIT, GMEM_DDESHARE}
+use Rattle.w16_model.specs.declared.TheConstants.{LARGEST_SIZE, GMEM_MOVEABLE, GMEM_ZEROINIT, GMEM_DDESHARE}
 use Rattle.std.proofs.lemmas.Bool.{false≢true, cases_lt}
 use Rattle.w16_model.specs.Heap.{Heap, Object, IsHeap}
 use Rattle.w16_model.specs.Edit.{with_ordered, with_newest}

@@ -1,12 +1,12 @@
 -- Selectors of objects that lost their bytes, and what is said of each slot then.
-use Rattle.std.proofs.Common.{◌≡◌, ◌≢◌, ℕ, zero, suc, ◌+◌, ◌<◌, ◌≤◌, ◌||◌, ◌&&◌, ◌==◌, nat_le, nat_lt, inl, inr, Bool, true, false, cond, if◌then◌else◌, IfSome, IsSomeAnd, All, List, [], ◌∷◌, ◌++◌, length, get_or, set, take, Option, Some, None, option_map, is_some, refl, sym, ap, ◌∙◌, subst, arith, eq-eqb, ne_eqb, slice_get}
+use Rattle.std.proofs.Common.{◌≡◌, ◌≢◌, ℕ, ◌<◌, ◌||◌, ◌&&◌, ◌==◌, nat_le, nat_lt, inl, inr, Bool, true, false, if◌then◌else◌, IsSomeAnd, All, List, [], ◌∷◌, ◌++◌, length, set, take, Option, Some, None, option_map, is_some, refl, sym, ap, ◌∙◌, eq-eqb, ne_eqb}
 use Rattle.std.specs.FinMap as finmap
 use Rattle.std.proofs.lemmas.Bool.{false≢true, cases_eq, cases_Bool}
-use Rattle.std.proofs.lemmas.List.{get_or-set_same, get_or-set_other, length-set}
+use Rattle.std.proofs.lemmas.List.{get_or-set_same, get_or-set_other}
 use Rattle.std.proofs.lemmas.List.Folds.{list_any-append}
 use Rattle.w16_model.specs.declared.Kind.TheVariants.{Discardable}
 use Rattle.w16_model.specs.Prefix.{is_member, eligible}
-use Rattle.w16_model.specs.Heap.{Heap, Object, IsHeap, object_at, bytes_at, blocks}
+use Rattle.w16_model.specs.Heap.{Heap, Object, IsHeap, object_at, blocks}
 use Rattle.w16_model.specs.Law.{KeepsOthers}
 use Rattle.w16_model.proofs.Gaps.{Each-from, All-from_Each}
 use Rattle.w16_model.proofs.Discards.{true-is_member}

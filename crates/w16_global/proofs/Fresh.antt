@@ -1,5 +1,5 @@
 -- The objects before anything is allocated.
-use Rattle.std.proofs.Common.{◌≡◌, ℕ, zero, suc, ◌+◌, ◌<◌, ◌≤◌, List, [], length, get_or, replicate, Option, None, option_map, refl, sym, ap, ◌∙◌, subst, arith}
+use Rattle.std.proofs.Common.{◌≡◌, ℕ, ◌<◌, ◌≤◌, [], Option, None, option_map, refl, sym, ap, ◌∙◌, arith}
 use Rattle.std.specs.Ordering.{nat_cmp}
 use Rattle.std.specs.FinMap.{get-empty}
 use Rattle.std.proofs.lemmas.List.{length-replicate}
@@ -7,8 +7,8 @@ use Rattle.std.proofs.lemmas.List.Elements.{All-replicate}
 use Rattle.w16_region.specs.Bytes.{repeated}
 use Rattle.w16_model.specs.declared.Entry.{Entry}
 use Rattle.w16_model.specs.declared.TheConstants.{GRAIN}
-use Rattle.w16_model.specs.Heap.{Heap, empty_heap}
-use Rattle.w16_model.specs.Table.{IsSound, object_in, heap_in}
+use Rattle.w16_model.specs.Heap.{empty_heap}
+use Rattle.w16_model.specs.Table.{object_in, heap_in}
 use Rattle.w16_arena.specs.State.{State, empty_table}
 use Rattle.w16_arena.proofs.Lookups.{same_heap, object_here, place_here}
 use Rattle.w16_arena.proofs.Fresh.{sound, no_entry}

@@ -1,28 +1,23 @@
 -- What the steps that calls are made of leave joined, and what they say of the world.
-use Rattle.std.proofs.Common.{◌≡◌, ◌≢◌, ℕ, ◌-◌, ◌<◌, true, IfOk, OnOk, IfErr, IsSomeAnd, List, length, get_or, set, Option, Some, None, Result, Ok, Err, is_some, refl, sym, ap, ◌∙◌, subst, arith}
+use Rattle.std.proofs.Common.{◌≡◌, ℕ, ◌-◌, ◌<◌, true, IfOk, OnOk, IfErr, List, length, get_or, set, Option, Some, None, Result, Ok, Err, is_some, refl, sym, ap, ◌∙◌, subst, arith}
 use Rattle.std.specs.FinMap as finmap
 use Rattle.std.proofs.lemmas.List.{get_or-set_same, get_or-set_other, length-set}
 use Rattle.w16_model.specs.declared.Attributes.{Attributes}
 use Rattle.w16_model.specs.declared.Kind.{Kind}
 use Rattle.w16_model.specs.declared.Refusal.{Refusal}
 use Rattle.w16_model.specs.declared.TheConstants.{FIRST_SLOT}
-use Rattle.w16_model.specs.Heap.{Heap, IsHeap, object_at, bytes_at}
+use Rattle.w16_model.specs.Heap.{Heap, IsHeap, object_at}
 use Rattle.w16_model.specs.Edit.{with_object, removed, touched, newest, oldest}
 use Rattle.w16_model.specs.Single.{Enters, after_lock, after_unlock, after_free, after_touch, after_newest, after_oldest, refused_order}
 use Rattle.w16_model.specs.World.{World, IsWorld, IsFreeSlot}
-use Rattle.w16_model.specs.declared.Way.{Way}
-use Rattle.w16_model.specs.Edit.{with_newest}
-use Rattle.w16_model.specs.Request.{Allocates, IsNew, prefix_of, stays_for}
 use Rattle.w16_model.proofs.Kept.{touched_heap, newest_heap, oldest_heap, ordered}
-use Rattle.w16_model.proofs.Worlds.{other_world, lock_ok, unlock_ok, without_object, with_absent_object, with_new_object, settled, Kept}
+use Rattle.w16_model.proofs.Worlds.{other_world, lock_ok, unlock_ok, without_object, with_absent_object, Kept}
 use Rattle.w16_selectors.specs.Descriptors as selectors
 use Rattle.w16_selectors.specs.Descriptors.{descriptor_at, unset}
-use Rattle.w16_selectors.specs.declared.Descriptor.{Descriptor}
-use Rattle.w16_selectors.specs.declared.SelKind.TheVariants.{Data}
 use Rattle.w16_global.specs.Parts.{Holding}
 use Rattle.w16_global.specs.Joined.{attributes_in, world_of, described, AreJoined}
 use Rattle.w16_global.proofs.Joined.{attributes_at, attributes_set, attributes_unset, joined_same, joined_set, slot_there}
-use Rattle.w16_global.proofs.Described.{lock_same, unlock_same, free_is, removed_here, removed_other, entered_here, entered_other, made_here, same_described}
+use Rattle.w16_global.proofs.Described.{lock_same, unlock_same, free_is, removed_here, removed_other, entered_here, entered_other}
 
 -- an answer that is good is good of what it answers
 good : (r : Result Heap Refusal) (P : Heap → Type 0) (heap : Heap) → IfOk r P → r ≡ Ok heap → P heap

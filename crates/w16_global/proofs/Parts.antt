@@ -1,24 +1,22 @@
 -- The objects' arena and memory, and the heap that they stand for.
-use Rattle.std.proofs.Common.{◌≡◌, ◌≢◌, ℕ, ◌+◌, ◌^◌, ◌<◌, ◌≤◌, ◌⊎◌, IfSome, IfNone, IsSomeAnd, All, Bool, true, false, cond, List, [], ◌∷◌, length, filter, sum_by, get_or, Option, Some, None, option_map, is_some, refl, sym, ap, ◌∙◌, subst, arith}
+use Rattle.std.proofs.Common.{◌≡◌, ℕ, ◌+◌, ◌^◌, ◌<◌, ◌≤◌, ◌⊎◌, IfSome, IfNone, All, Bool, true, false, cond, List, [], ◌∷◌, length, filter, sum_by, Option, Some, None, option_map, refl, sym, ap, ◌∙◌, subst, arith}
 use Rattle.std.specs.FinMap as finmap
 use Rattle.w16_model.specs.declared.Block.{Block}
-use Rattle.w16_model.specs.declared.Entry.{Entry}
 use Rattle.w16_model.specs.declared.Kind.{Kind}
 use Rattle.w16_model.specs.declared.TheConstants.{GRAIN}
 use Rattle.w16_model.specs.Gap.{IsLaid, block_end}
-use Rattle.w16_model.specs.Heap.{Heap, Object, IsHeap, IsMultiple, object_at, bytes_at, blocks}
+use Rattle.w16_model.specs.Heap.{Heap, IsHeap, object_at, bytes_at, blocks}
 use Rattle.w16_model.specs.Request.{is_elsewhere, moved_bytes}
 use Rattle.w16_model.proofs.Longest.{sum_filter}
-use Rattle.w16_model.specs.Table.{Table, IsSound, block_with, entry_at, heap_in}
+use Rattle.w16_model.specs.Table.{Table, block_with, entry_at, heap_in}
 use Rattle.w16_model.specs.Single.{Enters}
 use Rattle.w16_model.specs.Edit.{with_object}
-use Rattle.w16_model.proofs.Tables.{member_with}
 use Rattle.w16_arena.specs.State.{State, Steps, IsSameRange, entry_of}
 use Rattle.w16_arena.proofs.Listed.{listed_permutation}
 use Rattle.w16_arena.proofs.Moved.{bytes_permutation}
 use Rattle.w16_arena.proofs.Lookups.{is_heap, entry_is, size_here, place_here, ends_in_memory, no_entry, no_block}
 use Rattle.w16_global.specs.Parts.{AreParts, Holding, holding_of}
-use Rattle.w16_global.proofs.Written.{beside, layout_in}
+use Rattle.w16_global.proofs.Written.{beside}
 
 -- blocks by address have no more bytes than their range
 laid_bytes : (p : Block → Bool) (lo hi : ℕ) (bs : List Block) → IsLaid lo hi bs → lo + sum_by (λ x. x.size) (filter p bs) ≤ hi

@@ -1,12 +1,10 @@
 -- A walk that names objects by their handles, from one that names them by their slots.
-use Rattle.std.proofs.Common.{◌≡◌, ℕ, ◌+◌, ◌<◌, ◌≤◌, ◌⊎◌, inl, inr, MatchOption, IfSome, IsSomeAnd, Option, Some, None, option_map, refl, sym, ap, ◌∙◌, subst, arith, length}
-use Rattle.std.specs.FinMap as finmap
-use Rattle.w16_model.specs.declared.Kind.{Kind}
+use Rattle.std.proofs.Common.{◌≡◌, ℕ, ◌<◌, ◌≤◌, ◌⊎◌, inl, inr, Option, Some, None, option_map, refl, sym, ap, ◌∙◌, subst}
 use Rattle.w16_model.specs.declared.Item.{Item}
 use Rattle.w16_model.specs.declared.Owner.{Owner}
-use Rattle.w16_model.specs.Heap.{Heap, object_at}
+use Rattle.w16_model.specs.Heap.{Heap}
 use Rattle.w16_model.specs.World.{handle_of}
-use Rattle.w16_model.specs.Walk.{HasBytes, IsItem, IsFirstItem, by_its_id}
+use Rattle.w16_model.specs.Walk.{IsItem, IsFirstItem, by_its_id}
 
 -- the item with its owner's handle in place of its id
 abbrev pub renamed : Item → Item

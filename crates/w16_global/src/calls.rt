@@ -11,8 +11,8 @@ ghost use Rattle.w16_model.specs.World.{IsFreeSlot};
 use crate::global::Global16;
 use w16_model::{
     Attributes, Entry, GMEM_DDESHARE, GMEM_DISCARDABLE, GMEM_DISCARDED, GMEM_MOVEABLE,
-    GMEM_NOCOMPACT, GMEM_NODISCARD, GMEM_ZEROINIT, GRAIN, Item, Kind, LARGEST_SIZE, Owner,
-    Refusal, Way,
+    GMEM_NOCOMPACT, GMEM_NODISCARD, GMEM_ZEROINIT, GRAIN, Item, Kind, LARGEST_SIZE, Owner, Refusal,
+    Way,
 };
 
 impl Global16 {

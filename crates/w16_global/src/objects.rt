@@ -103,7 +103,10 @@ impl Objects {
         ensures cap { self.new.cap ≡ self.old.cap }
         ensures refused { IfNone result (self.new ≡ self.old) }
     {
-        let placed = self.arena.alloc(&mut self.memory, id, size, kind, way).ok()?;
+        let placed = self
+            .arena
+            .alloc(&mut self.memory, id, size, kind, way)
+            .ok()?;
         has_bytes(&self.memory);
         Some(placed)
     }

@@ -156,7 +156,10 @@ fn discards_by_order_of_use(rt: HostRuntime) -> Result<(), Fail> {
     assert_eq!(rt; heap.global_flags(0x10E), 0x4100);
     assert_eq!(rt; heap.global_size(0x10E), 0);
     assert_eq!(rt; heap.get_selector_limit(0x10F), 0);
-    assert_eq!(rt; heap.far_read(0x10F, 0, &mut bytes), Err(FarFault::NotPresent));
+    assert_eq!(rt;
+        heap.far_read(0x10F, 0, &mut bytes),
+        Err(FarFault::NotPresent)
+    );
     assert_eq!(rt; heap.global_lru_oldest(0x11E), 0x11E);
     assert_eq!(rt; heap.global_lru_newest(0x116), 0x116);
     assert_eq!(rt; heap.global_lru_newest(0x126), 0);

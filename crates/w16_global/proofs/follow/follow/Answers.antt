@@ -1,7 +1,5 @@
-use Rattle.std.proofs.Common.{◌≡◌, ◌<◌, ◌+◌, ℕ, ◌∙◌, inr, length, Some, sym, ap, arith, subst}
+use Rattle.std.proofs.Common.{◌<◌, ◌+◌, ◌∙◌, inr, length, Some, sym, ap, arith, subst}
 use Rattle.std.proofs.lemmas.List.{length-set}
-use Rattle.w16_selectors.specs.Descriptors as selectors
-use Rattle.w16_selectors.specs.Descriptors.{descriptor_at}
 use Rattle.w16_selectors.specs.declared.Descriptor.{Descriptor}
 use Rattle.w16_global.proofs.Following.{further, taken, in_table, set_is}
 use Rattle.w16_global.proofs.follow.follow.Goals as goal

@@ -1,8 +1,8 @@
-use Rattle.std.proofs.Common.{◌≡◌, ℕ, List, All, is_some, true, length, sym, subst, arith}
+use Rattle.std.proofs.Common.{◌≡◌, ℕ, All, is_some, true, sym, subst}
 use Rattle.w16_selectors.specs.Descriptors.{descriptor_at}
 use Rattle.w16_global.specs.Joined.{forgotten}
 use Rattle.w16_global.proofs.Joining.{given_world}
-use Rattle.w16_global.proofs.Sliding.{allocated_joined, discarded_known, known_told, known_followed, slot_left, table_few, given_moved}
+use Rattle.w16_global.proofs.Sliding.{allocated_joined, discarded_known, known_told, known_followed, slot_left, given_moved}
 use Rattle.w16_global.proofs.global.Global16.allocate.Goals as goal
 
 pub forget-requires-clause-known : goal.forget-requires-clause-known

@@ -1,5 +1,4 @@
-use Rattle.std.proofs.Common.{◌≡◌, ◌∙◌, false, true, not, if◌then◌else◌, refl, sym, ap, subst, arith}
-use Rattle.std.specs.FinMap as finmap
+use Rattle.std.proofs.Common.{refl, sym, ap, arith}
 use Rattle.w16_model.specs.World.{World}
 use Rattle.w16_global.specs.Joined.{world_of}
 use Rattle.w16_global.proofs.Allocation.{absent_answered, bytes_answered, bytes_refused}

@@ -1,7 +1,6 @@
-use Rattle.std.proofs.Common.{rules, ◌≡◌, ap, ◌∙◌, sym, subst, option_map, Option, Some, None}
-use Rattle.w16_model.specs.declared.Item.{Item}
+use Rattle.std.proofs.Common.{rules, ◌≡◌, sym, subst, option_map, Option, Some, None}
 use Rattle.w16_model.specs.declared.Owner.{Owner}
-use Rattle.w16_model.specs.Walk.{IsFirstItem, by_its_id}
+use Rattle.w16_model.specs.Walk.{IsFirstItem}
 use Rattle.w16_model.specs.World.{World, handle_of}
 use Rattle.w16_global.proofs.Walked.{renamed, first_renamed}
 use Rattle.w16_global.proofs.global.Global16.walk.Goals as goal
