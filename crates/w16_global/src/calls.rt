@@ -148,8 +148,9 @@ impl Global16 {
         }
     }
 
-    /// `GlobalCompact`: for `size` bytes above 0, unlocked moveable objects slide until a hole is as long as it can be, where none is yet; the
-    /// answer is the length of the longest hole, 0 where there is none. For 0 it answers that length, and changes nothing.
+    /// `GlobalCompact`: for `size` bytes above 0, as few discardable objects as that needs lose their bytes, the least recently used first, or
+    /// all that may, and unlocked ones that aren't fixed slide until a hole is as long as it can be then, where none is yet. The answer is the
+    /// length of the longest hole, 0 where there is none. For 0 it answers what that could be, with all discarded that may be, and changes nothing.
     pub fn global_compact(&mut self, size: u32) -> u32
         ensures { GlobalCompacts self.old size result self.new }
     {
