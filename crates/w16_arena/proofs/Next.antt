@@ -11,17 +11,17 @@ use Rattle.w16_blocks.specs.Layout.{rank}
 use Rattle.w16_blocks.proofs.Rank.{IsRising-from_apart}
 
 -- what the block of a rank is to an address
-abbrev IsNext : ℕ → List Block → Option Block → Type 0
-IsNext from bs found = MatchOption found (Each (λ c. c.at < from) bs) (λ b. Member b bs × (from ≤ b.at) × Each (λ c. (c.at < from) ⊎ (b.at ≤ c.at)) bs)
+abbrev pub IsNext : ℕ → List Block → Option Block → Type 0
+IsNext from bs found = MatchOption found (Each (λ c. c.at < from) bs) (λ b. Member b bs × (from ≤ b.at) × Each (λ c. (c.at < from) ⊎ ((c ≡ b) ⊎ (b.at < c.at))) bs)
 
-next_is : (lo hi from : ℕ) (bs : List Block) → IsLaid lo hi bs → IsNext from bs (slice_get bs (rank from bs))
+pub next_is : (lo hi from : ℕ) (bs : List Block) → IsLaid lo hi bs → IsNext from bs (slice_get bs (rank from bs))
 next_is lo hi from [] laid = tt
 next_is lo hi from (b ∷ bs) laid = elim (cases_lt b.at from) [
   | inl below ↦ rw (lt-ltb b.at from below) (more below (slice_get bs (rank from bs)) (next_is (block_end b) hi from bs laid.2))
   | inr above ↦ rw (le-ltb b.at from above) (
     inl refl,
     above,
-    (inr (omega arith), Each-map (λ c. b.at < c.at) (λ c. (c.at < from) ⊎ (b.at ≤ c.at)) (λ c lt. inr (omega arith)) bs (IsRising-from_apart lo hi (b ∷ bs) laid).0),
+    (inr (inl refl), Each-map (λ c. b.at < c.at) (λ c. (c.at < from) ⊎ ((c ≡ b) ⊎ (b.at < c.at))) (λ c lt. inr (inr lt)) bs (IsRising-from_apart lo hi (b ∷ bs) laid).0),
   )
 ]
   where
@@ -51,9 +51,14 @@ module _ (t : Table) (sound : IsSound t) (from r : ℕ) {found : Option Block} (
   pub next_lowest : IfSome found (λ b. (q : ℕ) → IfSome (block_with t.blocks q) (λ c. (c.at < from) ⊎ (b.at ≤ c.at)))
   next_lowest = turn found is_next
     where
+      not_below : (b c : Block) → (c.at < from) ⊎ ((c ≡ b) ⊎ (b.at < c.at)) → (c.at < from) ⊎ (b.at ≤ c.at)
+      not_below b c (inl below) = inl below
+      not_below b c (inr (inl same)) = inr (subst (λ (d : Block). b.at ≤ d.at) (sym same) (omega arith))
+      not_below b c (inr (inr behind)) = inr (omega arith)
+
       turn : (b : Option Block) → IsNext from t.blocks b → IfSome b (λ b. (q : ℕ) → IfSome (block_with t.blocks q) (λ c. (c.at < from) ⊎ (b.at ≤ c.at)))
       turn None is = tt
-      turn (Some b) is = each_block t.blocks (λ c. (c.at < from) ⊎ (b.at ≤ c.at)) is.2
+      turn (Some b) is = each_block t.blocks (λ c. (c.at < from) ⊎ (b.at ≤ c.at)) (Each-map (λ c. (c.at < from) ⊎ ((c ≡ b) ⊎ (b.at < c.at))) (λ c. (c.at < from) ⊎ (b.at ≤ c.at)) (not_below b) t.blocks is.2)
 
   pub next_none : IfNone found ((q : ℕ) → IfSome (block_with t.blocks q) (λ c. c.at < from))
   next_none = turn found is_next

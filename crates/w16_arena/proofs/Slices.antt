@@ -1,7 +1,7 @@
 -- The bytes of a range, in a list of which a part is replaced.
-use Rattle.std.proofs.Common.{◌≡◌, ℕ, ◌+◌, ◌-◌, ◌<◌, ◌≤◌, ◌⊎◌, inl, inr, List, ◌++◌, length, take, drop, slice_range, All, sym, ap, ◌∙◌, arith, append_assoc, length-drop, get_or, Fits, w8}
+use Rattle.std.proofs.Common.{◌≡◌, ℕ, ◌+◌, ◌-◌, ◌≤◌, ◌⊎◌, inl, inr, List, ◌++◌, length, take, drop, slice_range, All, sym, ap, ◌∙◌, arith, append_assoc, length-drop}
 use Rattle.std.proofs.lemmas.List.{drop-take, take-take, drop-drop, take_at, drop-append-le, length-take-le}
-use Rattle.std.proofs.lemmas.List.Elements.{All-append, All-from_get_or, All-take, All-drop}
+use Rattle.std.proofs.lemmas.List.Elements.{All-append, All-take, All-drop}
 use Rattle.std.proofs.Math.Seq.{take-append-add, drop-append-add}
 use Rattle.w16_region.specs.Bytes.{put_part}
 use Rattle.w16_model.specs.Machine.{slice_at, with_slice}
@@ -67,7 +67,3 @@ pub All-put_part : (P : ℕ → Type 0) (m : List ℕ) (p : ℕ) (new : List ℕ
 All-put_part P m p new old ours =
     All-append P (take p m) (new ++ drop (length new) (drop p m)) (All-take P p m old)
     (All-append P new (drop (length new) (drop p m)) ours (All-drop P (length new) (drop p m) (All-drop P p m old)))
-
--- the items of a list of bytes are below 256
-pub All-bytes : (xs : List ℕ) → ((i : ℕ) → Fits w8 (get_or xs i 0)) → All (λ b. b < 256) xs
-All-bytes xs fit = All-from_get_or (λ b. b < 256) xs 0 (λ i l. omega (arith, fit i))

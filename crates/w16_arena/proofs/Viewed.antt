@@ -4,6 +4,7 @@ use Rattle.w16_model.specs.declared.Block.{Block}
 use Rattle.w16_model.specs.Heap.{bytes_at}
 use Rattle.w16_model.specs.Table.{Table, IsSound, block_with, heap_in}
 use Rattle.w16_blocks.specs.Layout.{Layout}
+use Rattle.w16_blocks.proofs.Replace.{found_id}
 use Rattle.w16_region.specs.Bytes.{part}
 use Rattle.w16_arena.proofs.Parts.{AreParts}
 use Rattle.w16_arena.proofs.Lookups.{bytes_here, ends_in_memory}
@@ -28,3 +29,7 @@ module _ (t : Table) (sound : IsSound t) (memory : List ℕ) (high : t.hi ≤ le
   -- which lies in the memory
   pub bytes_inside : (x : Block) → block_with t.blocks id ≡ Some x → x.at + x.size ≤ length memory
   bytes_inside x e = (ends_in_memory parts id x e).1
+
+-- a block that an id has is the one that its own id has
+pub known_block : (xs : List Block) (id : ℕ) (x : Block) → block_with xs id ≡ Some x → block_with xs x.id ≡ Some x
+known_block xs id x e = ap (block_with xs) (found_id id xs x e) ∙ e

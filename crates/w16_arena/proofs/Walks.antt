@@ -15,7 +15,7 @@ use Rattle.w16_model.proofs.Laid.{laid_each}
 use Rattle.w16_model.proofs.Tables.{table_block, member_with, length_range}
 use Rattle.w16_model.proofs.Heaps.{block_member}
 use Rattle.w16_blocks.specs.Layout.{Layout, IsOrdered, rank}
-use Rattle.w16_blocks.proofs.Rank.{IsRising-from_apart}
+use Rattle.w16_arena.proofs.Next.{IsNext, next_is}
 use Rattle.w16_arena.proofs.Listed.{is_listed, listed_with}
 use Rattle.w16_arena.proofs.Lookups.{object_here, place_here, ends_in_memory, holds_at}
 use Rattle.w16_arena.proofs.Parts.{AreParts}
@@ -189,25 +189,6 @@ pub get_inside : (lo hi : ℕ) (bs : List Block) → IsLaid lo hi bs → hi < 42
 get_inside lo hi bs laid small i x is =
     let inside : (lo ≤ x.at) × (0 < x.size) × (block_end x ≤ hi) = Each-at (λ x. (lo ≤ x.at) × (0 < x.size) × (block_end x ≤ hi)) bs (laid_each lo hi bs laid) x (get_member bs i x is) in
     (inside.1, let high : x.at + x.size ≤ hi = inside.2 in omega arith)
-
--- what the block of a rank is to an address
-abbrev IsNext : ℕ → List Block → Option Block → Type 0
-IsNext from bs found = MatchOption found (Each (λ c. c.at < from) bs) (λ b. Member b bs × (from ≤ b.at) × Each (λ c. (c.at < from) ⊎ ((c ≡ b) ⊎ (b.at < c.at))) bs)
-
-next_is : (lo hi from : ℕ) (bs : List Block) → IsLaid lo hi bs → IsNext from bs (slice_get bs (rank from bs))
-next_is lo hi from [] laid = tt
-next_is lo hi from (b ∷ bs) laid = elim (cases_lt b.at from) [
-  | inl below ↦ rw (lt-ltb b.at from below) (more below (slice_get bs (rank from bs)) (next_is (block_end b) hi from bs laid.2))
-  | inr above ↦ rw (le-ltb b.at from above) (
-    inl refl,
-    above,
-    (inr (inl refl), Each-map (λ c. b.at < c.at) (λ c. (c.at < from) ⊎ ((c ≡ b) ⊎ (b.at < c.at))) (λ c lt. inr (inr lt)) bs (IsRising-from_apart lo hi (b ∷ bs) laid).0),
-  )
-]
-  where
-    more : b.at < from → (found : Option Block) → IsNext from bs found → IsNext from (b ∷ bs) found
-    more below None is = (below, is)
-    more below (Some x) is = (inr is.0, is.1, (inl below, is.2))
 
 -- Parts of the heap of a table, by its blocks.
 abbrev pub item_of : Block → Entry → Item

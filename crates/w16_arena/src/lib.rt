@@ -20,7 +20,7 @@ mod requests;
 mod tests;
 mod walk;
 
-pub use making::{Placed, has_bytes};
+pub use making::Placed;
 pub use placing::Compacted;
 pub use requests::NoRoom;
 use std::alloc::{AllocError, Global};

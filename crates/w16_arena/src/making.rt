@@ -1,5 +1,5 @@
 //! Room for new bytes, by a hole that is there or by sliding the blocks of a gap.
-ghost use Rattle.std.specs.Prelude.{◌≡◌, ◌<◌, ◌≤◌, false, true, length, All, IfSome, IfNone, if◌then◌else◌, ◌+◌};
+ghost use Rattle.std.specs.Prelude.{◌≡◌, ◌<◌, ◌≤◌, false, true, length, IfSome, IfNone, if◌then◌else◌, ◌+◌};
 ghost use Rattle.w16_model.specs.Gap.{room, longest_hole};
 ghost use Rattle.w16_blocks.specs.Layout.{IsOrdered};
 ghost use Rattle.w16_compact.specs.Gather.{moved_size};
@@ -9,7 +9,7 @@ ghost use Rattle.w16_arena.specs.Making.{AreMoved, IsFree, IsLowestGathered, IsL
 
 use w16_blocks::{Blocks, Span};
 use w16_compact::{gap_for, gather};
-use w16_region::Space;
+use w16_region::{Space, has_bytes};
 
 /// Where new bytes stand, the range whose blocks slid for them, and how many bytes were moved.
 #[derive(Clone, Copy, Debug, PartialEq, Eq)]
@@ -96,15 +96,3 @@ pub(crate) fn clear_if<S: Space>(asked: bool, space: &mut S, at: u32, size: u32)
         space.fill(at, size, 0);
     }
 }
-
-/// Says that a space has bytes alone, as all have. It has no effect.
-pub fn has_bytes<S: Space>(space: &S)
-    ensures { All (λ b. b < 256) (S.bytes space.now) }
-{
-    are_bytes(space.view(0, space.len()));
-}
-
-/// Says that each item of a slice of bytes is one. It has no effect.
-fn are_bytes(bytes: &[u8])
-    ensures { All (λ b. b < 256) bytes.now }
-{}

@@ -109,9 +109,20 @@ impl Arena {
     pub fn touch(&mut self, id: u32)
         ensures { Steps self.old self.new (λ old new. new ≡ after_touch old id) }
     {
-        if self.order.contains(id) {
+        if self.is_listed(id) {
             self.order.newest(id);
         }
+    }
+
+    /// Whether an id is in the order of use, which has the discardable objects with bytes.
+    fn is_listed(&self, id: u32) -> bool
+        ensures value { result ≡ is_member id self.now.table.order }
+        ensures known { IsTrue result → id < length self.now.table.entries }
+    {
+        let Some(entry) = self.entry(id) else {
+            return false;
+        };
+        is_discardable(entry.kind) && self.block(id).is_some()
     }
 
     /// A discardable object with bytes becomes the newest, locked or not. It tells why another doesn't: `Absent` or `NotDiscardable`.
@@ -119,7 +130,7 @@ impl Arena {
         ensures ok { OnOk result (Steps self.old self.new (λ old new. after_newest old id ≡ Ok new)) }
         ensures err { IfErr result (λ r. (self.new ≡ self.old) × Steps self.old self.new (λ old new. after_newest old id ≡ Err r)) }
     {
-        self.in_order(id)?;
+        self.check_in_order(id)?;
         self.order.newest(id);
         Ok(())
     }
@@ -129,7 +140,7 @@ impl Arena {
         ensures ok { OnOk result (Steps self.old self.new (λ old new. after_oldest old id ≡ Ok new)) }
         ensures err { IfErr result (λ r. (self.new ≡ self.old) × Steps self.old self.new (λ old new. after_oldest old id ≡ Err r)) }
     {
-        self.in_order(id)?;
+        self.check_in_order(id)?;
         self.order.oldest(id);
         Ok(())
     }
@@ -156,8 +167,8 @@ impl Arena {
         self.order.remove(id);
     }
 
-    /// Whether a step on the order of use is about a discardable object with bytes, and why it isn't.
-    fn in_order(&self, id: u32) -> Result<(), Refusal>
+    /// Checks that a step on the order of use is about a discardable object with bytes; it tells why it isn't.
+    fn check_in_order(&self, id: u32) -> Result<(), Refusal>
         ensures ok { OnOk result (Steps self.now self.now (λ old new. refused_order old id ≡ None)) }
         ensures err { IfErr result (λ r. Steps self.now self.now (λ old new. refused_order old id ≡ Some r)) }
         ensures known { OnOk result (id < length self.now.table.entries) }

@@ -13,13 +13,13 @@ ghost use Rattle.w16_arena.specs.Making.{most_in};
 ghost use Rattle.w16_arena.specs.Asked.{SlidesTogether, Stands};
 
 use crate::Arena;
-use crate::making::{NOTHING, Placed, clear_if, has_bytes, make_room};
+use crate::making::{NOTHING, Placed, clear_if, make_room};
 use crate::objects::{hold, is_discardable};
 use w16_blocks::{Block, Blocks};
 use w16_compact::{is_pinned_id, room};
 use w16_lru::Order;
 use w16_model::{Entry, Kind, Span, Way};
-use w16_region::Space;
+use w16_region::{Space, has_bytes};
 
 /// What a compaction answers: the length of the longest hole, the range whose blocks slid, and how many bytes were moved.
 #[derive(Clone, Copy, Debug, PartialEq, Eq)]

@@ -9,11 +9,11 @@ ghost use Rattle.w16_arena.specs.State.{IsSameRange};
 ghost use Rattle.w16_arena.specs.Asked.{HasDiscarded, IsStill, first_eligible};
 
 use crate::Arena;
-use crate::making::{NOTHING, Placed, has_bytes};
+use crate::making::{NOTHING, Placed};
 use crate::placing::Compacted;
 use w16_compact::least_prefix;
 use w16_model::{Kind, Way};
-use w16_region::Space;
+use w16_region::{Space, has_bytes};
 
 /// Why a request is refused: no number of discards that it may make leaves room. Nothing has changed then.
 #[derive(Clone, Copy, Debug, PartialEq, Eq)]

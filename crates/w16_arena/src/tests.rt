@@ -203,45 +203,16 @@ fn expect(
     Ok(())
 }
 
+/// A fixed object, an absent one and a moveable one behind the first.
+const THREE: &[Step] = &[
+    Step::Alloc(3, 64, Kind::Fixed, AS_IT_STANDS),
+    Step::Enter(1, Kind::Discardable),
+    Step::Alloc(2, 32, Kind::Moveable, AS_IT_STANDS),
+];
+
 #[test]
-fn looks_up(rt: HostRuntime) -> Result<(), Fail> {
-    let mut arena = six(&rt, rt.alloc())?;
-    let mut region = Region::new(rt.alloc(), 256)?;
-    assert_eq!(rt; arena.next_block(0), None);
-    act(
-        &rt,
-        &mut arena,
-        &mut region,
-        Step::Alloc(3, 64, Kind::Fixed, AS_IT_STANDS),
-    );
-    act(
-        &rt,
-        &mut arena,
-        &mut region,
-        Step::Enter(1, Kind::Discardable),
-    );
-    act(
-        &rt,
-        &mut arena,
-        &mut region,
-        Step::Alloc(2, 32, Kind::Moveable, AS_IT_STANDS),
-    );
-    let first = Block {
-        id: 3,
-        at: 0,
-        size: 64,
-        hold: Hold::Pinned,
-    };
-    let second = Block {
-        id: 2,
-        at: 64,
-        size: 32,
-        hold: Hold::Loose,
-    };
-    assert_eq!(rt; arena.block(3), Some(first));
-    assert_eq!(rt; arena.block(2), Some(second));
-    assert_eq!(rt; arena.block(1), None);
-    assert_eq!(rt; arena.block(6), None);
+fn looks_up_entries(rt: HostRuntime) -> Result<(), Fail> {
+    let (arena, _) = made(&rt, rt.alloc(), THREE)?;
     assert_eq!(rt;
         arena.entry(3),
         Some(Entry {
@@ -258,6 +229,30 @@ fn looks_up(rt: HostRuntime) -> Result<(), Fail> {
     );
     assert_eq!(rt; arena.entry(0), None);
     assert_eq!(rt; arena.entry(4_294_967_295), None);
+    Ok(())
+}
+
+#[test]
+fn looks_up_blocks(rt: HostRuntime) -> Result<(), Fail> {
+    let (empty, _) = made(&rt, rt.alloc(), &[])?;
+    assert_eq!(rt; empty.next_block(0), None);
+    let (arena, _) = made(&rt, rt.alloc(), THREE)?;
+    let first = Block {
+        id: 3,
+        at: 0,
+        size: 64,
+        hold: Hold::Pinned,
+    };
+    let second = Block {
+        id: 2,
+        at: 64,
+        size: 32,
+        hold: Hold::Loose,
+    };
+    assert_eq!(rt; arena.block(3), Some(first));
+    assert_eq!(rt; arena.block(2), Some(second));
+    assert_eq!(rt; arena.block(1), None);
+    assert_eq!(rt; arena.block(6), None);
     assert_eq!(rt; arena.next_block(0), Some(first));
     assert_eq!(rt; arena.next_block(1), Some(second));
     assert_eq!(rt; arena.next_block(64), Some(second));
@@ -350,28 +345,16 @@ fn is_filled(arena: &Arena, region: &Region, id: u32, size: usize, byte: u8) -> 
     }
 }
 
+/// Two objects with bytes, one behind the other, and an absent one.
+const TWO: &[Step] = &[
+    Step::Alloc(0, 32, Kind::Moveable, AS_IT_STANDS),
+    Step::Alloc(1, 64, Kind::Moveable, AS_IT_STANDS),
+    Step::Enter(2, Kind::Discardable),
+];
+
 #[test]
 fn tells_bytes(rt: HostRuntime) -> Result<(), Fail> {
-    let mut arena = six(&rt, rt.alloc())?;
-    let mut region = Region::new(rt.alloc(), 256)?;
-    act(
-        &rt,
-        &mut arena,
-        &mut region,
-        Step::Alloc(0, 32, Kind::Moveable, AS_IT_STANDS),
-    );
-    act(
-        &rt,
-        &mut arena,
-        &mut region,
-        Step::Alloc(1, 64, Kind::Moveable, AS_IT_STANDS),
-    );
-    act(
-        &rt,
-        &mut arena,
-        &mut region,
-        Step::Enter(2, Kind::Discardable),
-    );
+    let (mut arena, mut region) = made(&rt, rt.alloc(), TWO)?;
     assert!(rt; region.len() == 256);
     region.fill(0, 32, 5);
     region.fill(32, 64, 6);
@@ -393,6 +376,18 @@ fn tells_bytes(rt: HostRuntime) -> Result<(), Fail> {
             .bytes(&region, 3)
             .is_some_and(|bytes| bytes.len() == 192)
     );
+    Ok(())
+}
+
+#[test]
+fn lends_bytes(rt: HostRuntime) -> Result<(), Fail> {
+    let (arena, mut region) = made(&rt, rt.alloc(), TWO)?;
+    let block = arena.block(1).expect(&rt, "a block");
+    Arena::bytes_mut(&mut region, &arena, block).fill(7);
+    assert!(rt; region.len() == 256);
+    assert!(rt; is_filled(&arena, &region, 0, 32, 0));
+    assert!(rt; is_filled(&arena, &region, 1, 64, 7));
+    assert_eq!(rt; region.written(), 64);
     Ok(())
 }
 

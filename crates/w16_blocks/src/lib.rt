@@ -110,7 +110,7 @@ impl Blocks {
         self.blocks.remove(i);
     }
 
-    // Puts a block in place of the one of its id.
+    /// Puts a block in place of the one of its id.
     fn replace(&mut self, block: Block)
         requires known { IsSome (block_with self.old.blocks block.id) }
         requires fits { FitsFor self.old block }
@@ -179,7 +179,7 @@ impl Blocks {
         }
     }
 
-    // The bytes from a place up to the next block, or to the end.
+    /// The bytes from a place up to the next block, or to the end.
     fn free_from(&self, from: u32) -> u32
         requires { from ≤ self.now.hi }
         ensures { result ≡ hole_after self.now.hi self.now.blocks from }

@@ -17,9 +17,9 @@ mod tests;
 
 use std::alloc::{AllocError, Global};
 use std::marker::Model;
-use w16_arena::{Arena, Compacted, Placed, has_bytes};
+use w16_arena::{Arena, Compacted, Placed};
 use w16_model::{Block, Entry, GRAIN, Item, Kind, Refusal, Way};
-use w16_region::{Region, Space};
+use w16_region::{Region, Space, has_bytes};
 
 /// The objects of the global heap: where they are, and their bytes.
 #[derive(Drop)]

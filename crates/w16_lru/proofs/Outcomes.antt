@@ -1,6 +1,6 @@
 -- What the methods leave, from where an id stands and where it is moved to.
 use Rattle.std.specs.List.{list_any}
-use Rattle.std.proofs.Common.{◌≡◌, ℕ, ◌+◌, ◌-◌, ◌<◌, ◌≤◌, false, nat_eq, nat_lt, List, [], ◌∷◌, ◌++◌, length, take, swap, slice_get, position, Some, None, refl, sym, ap, ◌∙◌, subst, arith, length-take-le}
+use Rattle.std.proofs.Common.{◌≡◌, ℕ, ◌+◌, ◌-◌, ◌<◌, ◌≤◌, false, nat_eq, List, [], ◌∷◌, ◌++◌, length, take, swap, slice_get, position, Some, None, refl, sym, ap, ◌∙◌, subst, arith, length-take-le}
 use Rattle.std.proofs.lemmas.Option.{slice_get_within, slice_get_past}
 use Rattle.indexmap.specs.IndexMap.{move_index}
 use Rattle.w16_model.specs.Prefix.{is_member}
@@ -8,7 +8,7 @@ use Rattle.w16_model.specs.Edit.{without, newest, oldest}
 use Rattle.w16_lru.specs.Uses.{Uses, AreUses}
 use Rattle.w16_lru.specs.Kept.{IsKept, uses_of, joined}
 use Rattle.w16_lru.proofs.Edits.{slice_get-take, take-swap}
-use Rattle.w16_lru.proofs.Places.{found_stands, member-take, absent-take, without-absent}
+use Rattle.w16_lru.proofs.Places.{found_stands, absent-take, without-absent}
 use Rattle.w16_lru.proofs.Changes.{same_uses, AreUses-kept, without-joined, take-newest, take-oldest, take-removed, joined-member, joined-other, slice_get-joined, without-other}
 
 -- an order with these ids, of as many
@@ -32,20 +32,17 @@ module _ (ids : List ℕ) (m : ℕ) (now : Uses) (kept : IsKept ids m) (view : u
       sym (ap (λ l. slice_get l i) (sym ids_are) ∙ slice_get_past (take m ids) i (omega arith))
 
   module _ (id : ℕ) where
-    pub contains_none : false ≡ list_any (nat_eq id) ids → false ≡ is_member id now.ids
-    contains_none h = sym (absent-take id ids m h) ∙ ap (is_member id) ids_are
+    not_there : false ≡ list_any (nat_eq id) ids → is_member id now.ids ≡ false
+    not_there h = sym (ap (is_member id) ids_are) ∙ absent-take id ids m h
 
     pub remove_none : false ≡ list_any (nat_eq id) ids → now ≡ with_ids now (without id now.ids)
     remove_none h =
         same_uses now.cap now.cap now.ids (without id now.ids) refl
-        (sym (without-absent id now.ids (sym (contains_none h))))
+        (sym (without-absent id now.ids (not_there h)))
 
     module _ (at : ℕ) (found : Some at ≡ position (nat_eq id) ids) where
       stands_at : slice_get ids at ≡ Some id
       stands_at = found_stands id ids at (sym found)
-
-      pub contains_some : nat_lt at m ≡ is_member id now.ids
-      contains_some = member-take id ids at m kept.apart stands_at ∙ ap (is_member id) ids_are
 
       pub remove_other : m ≤ at → now ≡ with_ids now (without id now.ids)
       remove_other le =

@@ -3,7 +3,6 @@
 
 ghost use Rattle.std.specs.Prelude.{◌≡◌, ◌<◌, [], Some, length, slice_get, IfOk};
 ghost use Rattle.w16_model.specs.Edit.{newest, oldest, without};
-ghost use Rattle.w16_model.specs.Prefix.{is_member};
 ghost use Rattle.w16_lru.specs.Kept.{joined};
 ghost use Rattle.w16_lru.specs.Uses.{AreUses};
 
@@ -71,16 +70,6 @@ impl Order {
         }
     }
 
-    /// Whether an id is a member.
-    pub fn contains(&self, id: u32) -> bool
-        ensures { result ≡ is_member id self.now.ids }
-    {
-        match self.positions.get_index_of(&id) {
-            Some(at) => at < self.members,
-            None => false,
-        }
-    }
-
     /// An id becomes the newest member, whether it was one or not.
     pub fn newest(&mut self, id: u32)
         requires { id < self.old.cap }
@@ -116,7 +105,7 @@ impl Order {
         }
     }
 
-    // Where an id stands, once it is made a member: where it was, or else directly behind the others.
+    /// Where an id stands, once it is made a member: where it was, or else directly behind the others.
     fn join(&mut self, id: u32) -> usize
         requires { id < self.old.cap }
         ensures value { self.new ≡ record self.old { ids = joined id self.old.ids } }

@@ -1,3 +1,4 @@
+pub mod Bytes
 mod Lends
 mod Pairs
 mod Frames

@@ -1,5 +1,5 @@
 //! What code over memory is generic in.
-ghost use Rattle.std.specs.Prelude.{◌≡◌, ◌+◌, ◌≤◌, ◌⊎◌, List, ℕ, length};
+ghost use Rattle.std.specs.Prelude.{◌≡◌, ◌+◌, ◌<◌, ◌≤◌, ◌⊎◌, All, List, ℕ, length};
 ghost use Rattle.std.specs.Borrow.{sem, GName};
 ghost use Rattle.w16_region.specs.Bytes.{part, put_part, repeated, counted};
 ghost use Rattle.w16_region.specs.Lending.{LendsPart};
@@ -94,3 +94,15 @@ pub trait Space {
     /// The lenders after a loan.
     ghost after_lenders: { (s : Self) (at size : ℕ) (new : List ℕ) → lenders (after_part s at size new) ≡ lenders s };
 }
+
+/// Says that a space has bytes alone, as all have. It has no effect.
+pub fn has_bytes<S: Space>(space: &S)
+    ensures { All (λ b. b < 256) (S.bytes space.now) }
+{
+    are_bytes(space.view(0, space.len()));
+}
+
+/// Says that each item of a slice of bytes is one. It has no effect.
+fn are_bytes(bytes: &[u8])
+    ensures { All (λ b. b < 256) bytes.now }
+{}

@@ -100,7 +100,7 @@ impl Selectors {
         None
     }
 
-    // The first free slot from a slot on.
+    /// The first free slot from a slot on.
     fn next_free(&self, from: usize) -> Option<usize>
         requires first { FIRST_SLOT ≤ from }
         requires inside { from ≤ length self.now }
@@ -110,7 +110,7 @@ impl Selectors {
         Some(from + behind)
     }
 
-    // The first taken slot from a slot up to another.
+    /// The first taken slot from a slot up to another.
     fn next_taken(&self, from: usize, to: usize) -> Option<usize>
         requires order { from ≤ to }
         requires inside { to ≤ length self.now }

@@ -1,7 +1,7 @@
 use Rattle.std.proofs.Common.{◌+◌, ◌≤◌, ap, arith}
 use Rattle.w16_blocks.specs.Layout.{Layout}
 use Rattle.w16_arena.proofs.Shown.{told}
-use Rattle.w16_arena.proofs.Granting.{in_memory, may_insert, kept_placed, range_placed, stands_placed, long_placed, outside_placed}
+use Rattle.w16_arena.proofs.Granting.{may_insert, kept_placed, range_placed, stands_placed, long_placed, outside_placed}
 use Rattle.w16_arena.proofs.Arena.place.Goals as goal
 
 pub insert-requires : goal.insert-requires

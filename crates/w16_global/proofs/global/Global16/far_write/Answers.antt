@@ -1,5 +1,5 @@
 use Rattle.std.proofs.Common.{length, refl}
-use Rattle.w16_arena.proofs.Slices.{All-bytes}
+use Rattle.w16_region.proofs.Bytes.{All-bytes}
 use Rattle.w16_global.proofs.Access.{inside_some, written_joined, write_known}
 use Rattle.w16_global.proofs.global.Global16.far_write.Goals as goal
 

@@ -4,7 +4,7 @@ use Rattle.std.specs.Vec.{with_items}
 use Rattle.w16_model.specs.Machine.{after_write}
 use Rattle.w16_region.specs.Bytes.{put_part, with_items-put_part}
 use Rattle.w16_global.specs.Parts.{AreParts, holding_of}
-use Rattle.w16_arena.proofs.Slices.{All-bytes}
+use Rattle.w16_region.proofs.Bytes.{All-bytes}
 use Rattle.w16_global.proofs.Written.{room_around, parts_written, holding_written}
 use Rattle.w16_global.proofs.objects.Objects.write.Goals as goal
 

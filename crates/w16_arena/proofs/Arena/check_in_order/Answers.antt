@@ -1,7 +1,7 @@
 use Rattle.std.proofs.Common.{sym, ap, ◌∙◌, is_some}
 use Rattle.w16_arena.proofs.Shown.{nothing}
 use Rattle.w16_arena.proofs.Refusals.{order_absent, order_none, order_ok, order_other}
-use Rattle.w16_arena.proofs.Arena.in_order.Goals as goal
+use Rattle.w16_arena.proofs.Arena.check_in_order.Goals as goal
 
 pub returns-then-is_none-clause-err : goal.returns-then-is_none-clause-err
 returns-then-is_none-clause-err c = order_absent c.args.self.now c.block.ensures.sound c.args.id (sym c.block.ensures.value ∙ nothing c.block.result c.if-is_none.ensures)
