@@ -1,5 +1,5 @@
 -- The objects, their attributes and their selectors, where one slot or none has changed.
-use Rattle.std.proofs.Common.{◌≡◌, ◌≢◌, ℕ, zero, suc, ◌<◌, ◌≤◌, inl, inr, true, false, IfSome, List, [], ◌∷◌, length, get_or, set, Option, Some, None, option_map, is_some, refl, sym, ap, ◌∙◌, subst, arith}
+use Rattle.std.proofs.Common.{◌≡◌, ◌≢◌, ℕ, ◌<◌, ◌≤◌, inl, inr, true, false, IfSome, List, length, get_or, set, Option, Some, None, option_map, is_some, refl, sym, ap, ◌∙◌, subst, arith}
 use Rattle.std.specs.Cmp.{nat_cmp_total}
 use Rattle.std.specs.FinMap as finmap
 use Rattle.std.specs.FinMap.{same_map, nat_cmp-IsAntisymmetric}
@@ -40,12 +40,6 @@ attributes_unset xs slot lt = same_map nat_cmp_total nat_cmp-IsAntisymmetric (at
   | inl e ↦ attributes_at (set xs slot None) q ∙ ap (λ k. get_or (set xs slot None) k None) e ∙ get_or-set_same xs slot None None lt ∙ sym (taken_here (attributes_in xs) slot q e)
   | inr d ↦ attributes_at (set xs slot None) q ∙ get_or-set_other xs slot q None None d ∙ sym (attributes_at xs q) ∙ sym (taken_other (attributes_in xs) slot q d)
 ])
-
--- past the end there are none
-pub none_past : (xs : List (Option Attributes)) (slot : ℕ) → length xs ≤ slot → get_or xs slot None ≡ None
-none_past [] slot le = refl
-none_past (x ∷ xs) zero le = absurd (omega arith)
-none_past (x ∷ xs) (suc slot) le = none_past xs slot (omega arith)
 
 -- What is joined stays so.
 

@@ -33,10 +33,7 @@ impl Global16 {
     fn slot_of_selector(&self, selector: u16) -> Option<u16>
         ensures { result ≡ world.slot_of_selector self.now selector }
     {
-        match self.selectors.find(selector) {
-            Some(_) => Some(selector / 8),
-            None => None,
-        }
+        self.selectors.find(selector).map(|_| selector / 8)
     }
 
     /// The lowest slot that no object has.
@@ -52,30 +49,24 @@ impl Global16 {
     fn locks(&self, slot: u16) -> u8
         ensures { result ≡ locks_at self.now.heap slot }
     {
-        match self.objects.entry(slot as u32) {
-            Some(entry) => entry.locks,
-            None => 0,
-        }
+        self.objects
+            .entry(slot as u32)
+            .map_or(0, |entry| entry.locks)
     }
 
     /// The attributes of a slot's object.
     fn attributes_of(&self, slot: u16) -> Option<Attributes>
         ensures { result ≡ finmap.get self.now.attributes slot }
     {
-        match self.attributes.get(slot as usize) {
-            Some(attributes) => *attributes,
-            None => None,
-        }
+        self.attributes.get(slot as usize).copied().flatten()
     }
 
     /// Whether other tasks share a slot's object.
     fn is_shared(&self, slot: u16) -> bool
         ensures { result ≡ is_shared self.now slot }
     {
-        match self.attributes_of(slot) {
-            Some(attributes) => attributes.shared,
-            None => false,
-        }
+        self.attributes_of(slot)
+            .is_some_and(|attributes| attributes.shared)
     }
 
     /// `GlobalAlloc`: a new object's handle, or 0: for a fixed object of size 0, a size over 65,536 bytes, where no slot is free, and where
@@ -249,20 +240,18 @@ impl Global16 {
     pub fn get_selector_base(&self, selector: u16) -> u32
         ensures { result ≡ machine.selector_base self.now selector }
     {
-        match self.selectors.find(selector) {
-            Some(descriptor) => descriptor.base,
-            None => 0,
-        }
+        self.selectors
+            .find(selector)
+            .map_or(0, |descriptor| descriptor.base)
     }
 
     /// `GetSelectorLimit`: the offset of the last byte of the selector's object; 0 where it is absent or there is none.
     pub fn get_selector_limit(&self, selector: u16) -> u32
         ensures { result ≡ machine.selector_limit self.now selector }
     {
-        match self.selectors.find(selector) {
-            Some(descriptor) => descriptor.limit,
-            None => 0,
-        }
+        self.selectors
+            .find(selector)
+            .map_or(0, |descriptor| descriptor.limit)
     }
 }
 
