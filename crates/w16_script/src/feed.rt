@@ -47,8 +47,8 @@ impl Unfinished {
         }
     }
 
-    #[tactic(auto, using(crate::proofs::LimitLemmas::overflows))]
     /// Takes bytes of one line, which are too long or all taken.
+    #[tactic(auto, using(crate::proofs::LimitLemmas::overflows))]
     fn hold(&mut self, bytes: &[u8]) -> Result<(), RunFault>
         requires fits { IsWithinLimits (progress_of self.old) }
         requires one_line { HasNoLf bytes.now }

@@ -1,22 +1,8 @@
 //! Numbers in text.
 ghost use Rattle.std.specs.Prelude.{◌≡◌, ℕ, ◌+◌, ◌*◌, ◌^◌, ◌<◌, ◌≤◌, IfSome, IfNone, Some};
-ghost use Rattle.hex.specs.Hex.{hex_digit_value};
 ghost use Rattle.w16_script.specs.Numbers.{IsDigits, IsLiteral, IsForm, IsOfRegister, IsNumber};
 
 use crate::registers::{Registers, split_register};
-
-/// The value of a hexadecimal digit of either case.
-fn digit(byte: u8) -> Option<u32>
-    ensures value { result ≡ hex_digit_value byte }
-    ensures small { IfSome result (λ d. d < 16) }
-{
-    match byte {
-        b'0'..=b'9' => Some(byte as u32 - 48),
-        b'A'..=b'F' => Some(byte as u32 - 55),
-        b'a'..=b'f' => Some(byte as u32 - 87),
-        _ => None,
-    }
-}
 
 /// The number that digits of the base stand for.
 fn digits(text: &[u8], base: u32) -> Option<u32>
@@ -26,15 +12,8 @@ fn digits(text: &[u8], base: u32) -> Option<u32>
 {
     let mut value: u32 = 0;
     for byte in text {
-        let digit = digit(*byte)?;
-        if digit >= base {
-            return None;
-        }
-        let next = value as u64 * base as u64 + digit as u64;
-        if next > u32::MAX as u64 {
-            return None;
-        }
-        value = next as u32;
+        let digit = char::from(*byte).to_digit(base)?;
+        value = value.checked_mul(base)?.checked_add(digit)?;
     }
     Some(value)
 }
