@@ -1,10 +1,10 @@
 -- The world in which nothing is allocated.
-use Rattle.std.proofs.Common.{◌≡◌, ℕ, ◌<◌, ◌≤◌, IsTrue, IfSome, All, Option, Some, None, is_some, refl, sym, ap, ◌∙◌, subst, arith}
+use Rattle.std.proofs.Common.{◌≡◌, ℕ, ◌<◌, IfSome, All, Option, Some, None, is_some, refl, sym, ap, ◌∙◌, subst, arith}
 use Rattle.std.specs.Ordering.{nat_cmp}
 use Rattle.std.specs.FinMap.{get-empty}
 use Rattle.w16_model.specs.declared.Block.{Block}
 use Rattle.w16_model.specs.declared.TheConstants.{GRAIN}
-use Rattle.w16_model.specs.Heap.{Object, IsHeap, IsMultiple, empty_heap, blocks, is_fixed, is_in_order}
+use Rattle.w16_model.specs.Heap.{Object, IsHeap, IsCounted, IsMultiple, empty_heap, blocks, is_in_order}
 use Rattle.w16_model.specs.World.{IsSlot, empty_world}
 use Rattle.w16_model.specs.Law.{EmptyLaw}
 use Rattle.w16_model.proofs.Gaps.{Each-from, All-from_Each}
@@ -23,7 +23,7 @@ empty_heap_is hi grain = record {
   are_bytes = λ id. subst (λ (o : Option Object). IfSome (elim o [ Some o ↦ o.bytes | None ↦ None ]) (All (λ b. b < 256))) (sym (get-empty nat_cmp id)) tt;
   in_order = λ id. ap is_in_order (sym (get-empty nat_cmp id));
   no_repeats = λ i j d l m. absurd (omega arith);
-  fixed = λ id. subst (λ (o : Option Object). IfSome o (λ (o : Object). (o.locks ≤ 255) × (IsTrue (is_fixed o.kind) → o.locks ≡ 0))) (sym (get-empty nat_cmp id)) tt;
+  counted = λ id. subst (λ (o : Option Object). IfSome o IsCounted) (sym (get-empty nat_cmp id)) tt;
 }
 
 pub empty_law : EmptyLaw

@@ -1,5 +1,5 @@
 -- Changes of a heap that leave it one: each object stays where it stands, or goes.
-use Rattle.std.proofs.Common.{◌≡◌, ◌≢◌, ℕ, ◌+◌, ◌-◌, ◌*◌, ◌<◌, ◌≤◌, inl, inr, Bool, true, false, cond, not, if◌then◌else◌, ◌&&◌, ◌==◌, IsTrue, IfSome, List, [], ◌∷◌, ◌++◌, length, take, drop, All, AllPairs, Option, Some, None, option_map, is_some, unwrap_or, refl, sym, ap, ◌∙◌, subst, arith, length-append, eq-eqb, ne_eqb}
+use Rattle.std.proofs.Common.{◌≡◌, ◌≢◌, ℕ, ◌+◌, ◌-◌, ◌*◌, ◌<◌, ◌≤◌, inl, inr, Bool, true, false, cond, not, if◌then◌else◌, ◌&&◌, ◌==◌, IfSome, List, [], ◌∷◌, ◌++◌, length, take, drop, All, AllPairs, Option, Some, None, option_map, is_some, unwrap_or, refl, sym, ap, ◌∙◌, subst, arith, length-append, eq-eqb, ne_eqb}
 use Rattle.std.specs.Cmp.{nat_cmp_total}
 use Rattle.std.specs.Ordering.{nat_cmp, eq_by_cmp}
 use Rattle.std.specs.FinMap as finmap
@@ -14,7 +14,7 @@ use Rattle.w16_model.specs.declared.Refusal.{Refusal}
 use Rattle.w16_model.specs.declared.Refusal.TheVariants as refusals
 use Rattle.w16_model.specs.Gap.{Misses, block_end, ArePlaced}
 use Rattle.w16_model.specs.Prefix.{is_member}
-use Rattle.w16_model.specs.Heap.{Heap, Object, IsHeap, IsMultiple, blocks, object_at, hold_of, is_in_order, is_fixed, is_discardable}
+use Rattle.w16_model.specs.Heap.{Heap, Object, IsHeap, IsCounted, IsMultiple, blocks, object_at, hold_of, is_in_order, is_fixed, is_discardable}
 use Rattle.w16_model.specs.Edit.{with_object, with_ordered, without, newest, oldest, touched, removed}
 use Rattle.w16_model.specs.Single.{after_touch, refused_order}
 use Rattle.w16_model.specs.Machine.{after_write, with_slice}
@@ -89,10 +89,6 @@ bytes_in o = elim o [ Some o ↦ o.bytes | None ↦ None ]
 abbrev pub AreBytes : Option (List ℕ) → Type 0
 AreBytes bytes = IfSome bytes (All (λ b. b < 256))
 
--- and of an object's locks
-abbrev pub IsCounted : Object → Type 0
-IsCounted o = (o.locks ≤ 255) × (IsTrue (is_fixed o.kind) → o.locks ≡ 0)
-
 -- a heap with another order of the same members is one
 pub reordered : (old : Heap) → IsHeap old → (order : List ℕ) → ((q : ℕ) → is_member q order ≡ is_member q old.order) → AllPairs (λ a b. a ≡ b → ⊥) order → IsHeap (record old { order = order })
 reordered old is order members once = record {
@@ -103,7 +99,7 @@ reordered old is order members once = record {
   are_bytes = is.are_bytes;
   in_order = λ q. members q ∙ is.in_order q;
   no_repeats = once;
-  fixed = is.fixed;
+  counted = is.counted;
 }
 
 -- An object that is there is changed, and keeps its kind and the number of its bytes.
@@ -170,9 +166,9 @@ module _ (old : Heap) (is : IsHeap old) (id : ℕ) (before o : Object) (there : 
       | inr d ↦ is.in_order q ∙ ap is_in_order (sym (inserted_other old.objects id o q d))
     ];
     no_repeats = is.no_repeats;
-    fixed = λ q. elim (cases_eq q id) [
+    counted = λ q. elim (cases_eq q id) [
       | inl e ↦ subst (λ p. IfSome p IsCounted) (sym (inserted_here old.objects id o q e)) locks
-      | inr d ↦ subst (λ p. IfSome p IsCounted) (sym (inserted_other old.objects id o q d)) (is.fixed q)
+      | inr d ↦ subst (λ p. IfSome p IsCounted) (sym (inserted_other old.objects id o q d)) (is.counted q)
     ];
   }
 
@@ -230,9 +226,9 @@ module _ (old : Heap) (is : IsHeap old) (id : ℕ) (kind : Kind) (unused : objec
       | inr d ↦ is.in_order q ∙ ap is_in_order (sym (inserted_other old.objects id entered q d))
     ];
     no_repeats = is.no_repeats;
-    fixed = λ q. elim (cases_eq q id) [
-      | inl e ↦ subst (λ p. IfSome p IsCounted) (sym (inserted_here old.objects id entered q e)) (omega arith, λ _. refl)
-      | inr d ↦ subst (λ p. IfSome p IsCounted) (sym (inserted_other old.objects id entered q d)) (is.fixed q)
+    counted = λ q. elim (cases_eq q id) [
+      | inl e ↦ subst (λ p. IfSome p IsCounted) (sym (inserted_here old.objects id entered q e)) (omega arith, λ _. refl, λ _. refl)
+      | inr d ↦ subst (λ p. IfSome p IsCounted) (sym (inserted_other old.objects id entered q d)) (is.counted q)
     ];
   }
 
@@ -326,9 +322,9 @@ module _ (old : Heap) (is : IsHeap old) (id : ℕ) where
       | inr d ↦ member_without q id old.order ∙ ap (λ b. is_member q old.order && not b) (ne_eqb q id d) ∙ still (is_member q old.order) ∙ is.in_order q ∙ ap is_in_order (sym (taken_other old.objects id q d))
     ];
     no_repeats = AllPairs-from_EachPair (λ a b. a ≡ b → ⊥) (without id old.order) (pairs_filter (λ a b. a ≡ b → ⊥) (λ q. not (q == id)) old.order (EachPair-from_AllPairs (λ a b. a ≡ b → ⊥) old.order is.no_repeats));
-    fixed = λ q. elim (cases_eq q id) [
+    counted = λ q. elim (cases_eq q id) [
       | inl e ↦ subst (λ p. IfSome p IsCounted) (sym (taken_here old.objects id q e)) tt
-      | inr d ↦ subst (λ p. IfSome p IsCounted) (sym (taken_other old.objects id q d)) (is.fixed q)
+      | inr d ↦ subst (λ p. IfSome p IsCounted) (sym (taken_other old.objects id q d)) (is.counted q)
     ];
   }
     where
@@ -344,23 +340,24 @@ module _ (old : Heap) (is : IsHeap old) (id : ℕ) where
 module _ (old : Heap) (is : IsHeap old) (id : ℕ) (o : Object) (there : object_at old id ≡ Some o) where
   -- what the heap has of it
   counted : IsCounted o
-  counted = subst (λ p. IfSome p IsCounted) there (is.fixed id)
+  counted = subst (λ p. IfSome p IsCounted) there (is.counted id)
 
   -- and of its bytes
   are_bytes_there : AreBytes o.bytes
   are_bytes_there = subst (λ p. AreBytes (bytes_in p)) there (is.are_bytes id)
 
   -- the heap with another count of locks is one
-  pub counted_heap : (n : ℕ) → n ≤ 255 → is_fixed o.kind ≡ false → IsHeap (with_object old id (record o { locks = n }))
-  counted_heap n le loose = other_heap old is id o (record o { locks = n }) there refl refl are_bytes_there (le, λ f. absurd (false≢true (sym loose ∙ f)))
+  pub counted_heap : (n : ℕ) → n ≤ 255 → is_fixed o.kind ≡ false → (o.bytes ≡ None → n ≡ 0) → IsHeap (with_object old id (record o { locks = n }))
+  counted_heap n le loose without = other_heap old is id o (record o { locks = n }) there refl refl are_bytes_there (le, λ f. absurd (false≢true (sym loose ∙ f)), without)
 
   -- with one lock more, and used
-  pub locked_heap : is_fixed o.kind ≡ false → (o.locks == 255) ≡ false → IsHeap (with_ordered old id (record o { locks = o.locks + 1 }) (touched id))
-  locked_heap loose some = touched_heap (with_object old id (record o { locks = o.locks + 1 })) (counted_heap (o.locks + 1) (omega (arith, counted.0, eqb-false o.locks 255 some)) loose) id
+  pub locked_heap : not (is_some o.bytes) ≡ false → is_fixed o.kind ≡ false → (o.locks == 255) ≡ false → IsHeap (with_ordered old id (record o { locks = o.locks + 1 }) (touched id))
+  locked_heap has loose some = touched_heap (with_object old id (record o { locks = o.locks + 1 }))
+      (counted_heap (o.locks + 1) (omega (arith, counted.0, eqb-false o.locks 255 some)) loose (λ none. absurd (false≢true (sym has ∙ ap (λ b. not (is_some b)) none)))) id
 
   -- with one lock less
   pub unlocked_heap : is_fixed o.kind ≡ false → IsHeap (with_object old id (record o { locks = o.locks - 1 }))
-  unlocked_heap loose = counted_heap (o.locks - 1) (omega (arith, counted.0)) loose
+  unlocked_heap loose = counted_heap (o.locks - 1) (omega (arith, counted.0)) loose (λ none. omega (arith, counted.2 none))
 
   -- A slice of its bytes is replaced.
   module _ (bytes : List ℕ) (has : o.bytes ≡ Some bytes) (at : ℕ) (slice : List ℕ) (inside : at + length slice ≤ length bytes) (new_bytes : All (λ b. b < 256) slice) where
@@ -385,4 +382,4 @@ module _ (old : Heap) (is : IsHeap old) (id : ℕ) (o : Object) (there : object_
         (other_heap old is id o written there refl
         (ap (λ p. option_map length (option_map (λ bytes. with_slice bytes at slice) p)) has ∙ ap Some same_length ∙ ap (option_map length) (sym has))
         (subst (λ p. AreBytes (option_map (λ bytes. with_slice bytes at slice) p)) (sym has) all_bytes)
-        counted)
+        (counted.0, counted.1, λ none. let some : ◌≡◌ {A = Option (List ℕ)} (Some (with_slice bytes at slice)) None = sym (ap (option_map (λ bytes. with_slice bytes at slice)) has) ∙ none in cc))

@@ -26,3 +26,4 @@ pub mod Folds
 pub mod Trials
 pub mod Prefixes
 pub mod Answered
+pub mod Outcomes

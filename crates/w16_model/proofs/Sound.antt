@@ -1,14 +1,14 @@
 -- The heap of a sound table is one.
 use Rattle.std.specs.List.{AllByRecursion as Each}
-use Rattle.std.proofs.Common.{◌≡◌, ◌≢◌, ℕ, ◌+◌, ◌*◌, ◌<◌, ◌≤◌, ◌⊎◌, inl, inr, ⊎_elim, IsTrue, IfSome, IsSomeAnd, List, length, Option, Some, None, option_map, is_some, slice_range, refl, sym, ap, ◌∙◌, subst}
+use Rattle.std.proofs.Common.{◌≡◌, ◌≢◌, ℕ, ◌+◌, ◌*◌, ◌<◌, ◌≤◌, ◌⊎◌, inl, inr, ⊎_elim, IfSome, IsSomeAnd, List, length, Option, Some, None, option_map, is_some, slice_range, refl, sym, ap, ◌∙◌, subst}
 use Rattle.std.proofs.Common.{◌-◌, All, drop}
 use Rattle.std.proofs.lemmas.List.Elements.{All-take, All-drop}
 use Rattle.w16_model.specs.declared.Block.{Block}
 use Rattle.w16_model.specs.declared.Entry.{Entry}
 use Rattle.w16_model.specs.Gap.{Misses, block_end}
-use Rattle.w16_model.specs.Heap.{Object, IsHeap, blocks, is_fixed, is_in_order}
+use Rattle.w16_model.specs.Heap.{Object, IsHeap, IsCounted, blocks, is_in_order}
 use Rattle.w16_model.specs.Law.{SoundLaw}
-use Rattle.w16_model.specs.Table.{Table, IsSound, heap_in, object_in, block_with, entry_at, hold_in, is_listed}
+use Rattle.w16_model.specs.Table.{Table, IsSound, IsCountedBy, heap_in, object_in, block_with, entry_at, hold_in, is_listed}
 use Rattle.w16_model.proofs.Gaps.{Each-at, Each-from, Each-from_All, All-from_Each, EachPair-from_AllPairs, each_two, Member}
 use Rattle.w16_model.proofs.Heaps.{IsBlockOf, member_block}
 use Rattle.w16_model.proofs.Places.{placed_from}
@@ -45,9 +45,11 @@ module _ (t : Table) (is : IsSound t) (memory : List ℕ) (whole : t.hi ≤ leng
   same_order (Some e) None = refl
   same_order None b = refl
 
-  fixed_in : (id : ℕ) (e : Option Entry) → IfSome e (λ e. (e.locks ≤ 255) × (IsTrue (is_fixed e.kind) → e.locks ≡ 0)) → IfSome (object id e) (λ o. (o.locks ≤ 255) × (IsTrue (is_fixed o.kind) → o.locks ≡ 0))
-  fixed_in id (Some e) h = h
-  fixed_in id None h = tt
+  counted_in : (e : Option Entry) (b : Option Block) → IfSome e (IsCountedBy b)
+      → IfSome (option_map (λ (e : Entry). let o : Object = record { kind = e.kind; locks = e.locks; bytes = option_map (λ (x : Block). slice_range memory x.at (x.at + x.size)) b } in o) e) IsCounted
+  counted_in (Some e) (Some x) h = (h.0, h.1, λ none. cc)
+  counted_in (Some e) None h = (h.0, h.1, λ none. h.2 refl)
+  counted_in None b h = tt
 
   bytes_in : (e : Option Entry) (b : Option Block)
       → IfSome (elim (option_map (λ (e : Entry). let o : Object = record { kind = e.kind; locks = e.locks; bytes = option_map (λ (x : Block). slice_range memory x.at (x.at + x.size)) b } in o) e) [ Some o ↦ o.bytes | None ↦ None ]) (All (λ n. n < 256))
@@ -65,7 +67,7 @@ module _ (t : Table) (is : IsSound t) (memory : List ℕ) (whole : t.hi ≤ leng
     at_bytes = λ id. ap is_some (place_is t is.table memory whole id) ∙ same_bytes id (entry_at t id) (block_with t.blocks id) refl refl ∙ ap (λ (p : Option Object). is_some (elim p [ Some o ↦ o.bytes | None ↦ None ])) (sym (object_is t is.table memory whole id));
     in_order = λ id. is.in_order id ∙ same_order (entry_at t id) (block_with t.blocks id) ∙ ap is_in_order (sym (object_is t is.table memory whole id));
     no_repeats = is.no_repeats;
-    fixed = λ id. subst (λ p. IfSome p (λ (o : Object). (o.locks ≤ 255) × (IsTrue (is_fixed o.kind) → o.locks ≡ 0))) (sym (object_is t is.table memory whole id)) (fixed_in id (entry_at t id) (is.fixed id));
+    counted = λ id. subst (λ p. IfSome p IsCounted) (sym (object_is t is.table memory whole id)) (counted_in (entry_at t id) (block_with t.blocks id) (is.counted id));
   }
 
 pub sound_law : SoundLaw

@@ -259,10 +259,10 @@ module _ (old : World) (is : IsWorld old) where
       turn None e = tt
       turn (Some o) e =
           let locked : Result Heap Refusal = Ok (with_ordered old.heap slot (record o { locks = o.locks + 1 }) (touched slot)) in
-          if_ok Kept (not (is_some o.bytes)) (Err refusals.Absent) (cond (is_fixed o.kind) (Err refusals.Fixed) (cond (o.locks == 255) (Err refusals.LockFull) locked)) (λ _. tt) (λ _.
+          if_ok Kept (not (is_some o.bytes)) (Err refusals.Absent) (cond (is_fixed o.kind) (Err refusals.Fixed) (cond (o.locks == 255) (Err refusals.LockFull) locked)) (λ _. tt) (λ has.
           if_ok Kept (is_fixed o.kind) (Err refusals.Fixed) (cond (o.locks == 255) (Err refusals.LockFull) locked) (λ _. tt) (λ loose.
           if_ok Kept (o.locks == 255) (Err refusals.LockFull) locked (λ _. tt) (λ some.
-          other_world (with_ordered old.heap slot (record o { locks = o.locks + 1 }) (touched slot)) (locked_heap old.heap is.heap slot o e loose some) refl refl
+          other_world (with_ordered old.heap slot (record o { locks = o.locks + 1 }) (touched slot)) (locked_heap old.heap is.heap slot o e has loose some) refl refl
           (same_replaced old.heap.objects slot o (record o { locks = o.locks + 1 }) e))))
 
   -- what it answers and leaves
@@ -425,7 +425,7 @@ world_law old new (GlobalCompact size) reply is command step = compacted_world o
 world_law old new (GlobalLRUNewest handle) reply is command step = subst IsWorld (sym step.1) (newest_world old is handle)
 world_law old new (GlobalLRUOldest handle) reply is command step = subst IsWorld (sym step.1) (oldest_world old is handle)
 world_law old new Moved reply is command step = subst IsWorld (sym step.1) is
-world_law old new Walk reply is command step = subst IsWorld (sym step.1) is
+world_law old new Walk reply is command step = subst IsWorld (sym step.3) is
 world_law old new (Read pointer count) reply is command step = subst IsWorld (sym step.1) (read_world old is (selector_in pointer) (offset_in pointer) count)
 world_law old new (Write pointer bytes) reply is command step = subst IsWorld (sym step.1) (write_world old is (selector_in pointer) (offset_in pointer) bytes command)
 world_law old new (Fill pointer count byte) reply is command step =

@@ -76,8 +76,12 @@ is_in_order None = false
 abbrev pub IsMultiple : ℕ → ℕ → Type 0
 IsMultiple grain n = (m : ℕ) × (n ≡ grain * m)
 
+-- the locks of an object: at most 255, and none where it is fixed or has no bytes (GlobalLock; the bound is the profile's)
+abbrev pub IsCounted : Object → Type 0
+IsCounted o = (o.locks ≤ 255) × (IsTrue (is_fixed o.kind) → o.locks ≡ 0) × (o.bytes ≡ None → o.locks ≡ 0)
+
 -- What holds of every heap: its objects lie apart inside its bounds, at multiples of the grain; an object has an address just where it has
--- bytes; the order of use has each discardable object with bytes once; no count of locks is over 255, and a fixed object has none.
+-- bytes; the order of use has each discardable object with bytes once; no count of locks is over 255, and a fixed object and one without bytes have none.
 pub record IsHeap (heap : Heap) : Type 0 where
   pub placed : ArePlaced heap.lo heap.hi (blocks heap)
   pub grained : All (λ x. IsMultiple heap.grain x.at × IsMultiple heap.grain x.size) (blocks heap)
@@ -86,4 +90,4 @@ pub record IsHeap (heap : Heap) : Type 0 where
   pub are_bytes : (id : ℕ) → IfSome (bytes_at heap id) (All (λ b. b < 256))
   pub in_order : (id : ℕ) → is_member id heap.order ≡ is_in_order (object_at heap id)
   pub no_repeats : AllPairs (λ a b. a ≡ b → ⊥) heap.order
-  pub fixed : (id : ℕ) → IfSome (object_at heap id) (λ o. (o.locks ≤ 255) × (IsTrue (is_fixed o.kind) → o.locks ≡ 0))
+  pub counted : (id : ℕ) → IfSome (object_at heap id) IsCounted

@@ -1,5 +1,5 @@
 -- The laws that show the definitions to be the right ones. Each is the contract of a function of the module `laws`.
-use Rattle.std.specs.Prelude.{◌≡◌, ◌≢◌, ℕ, ◌+◌, ◌-◌, ◌<◌, ◌≤◌, ◌↔◌, Bool, true, IsSomeAnd, List, take, map, length, All, AllPairs, Contains, Option, Some, None, is_some}
+use Rattle.std.specs.Prelude.{◌≡◌, ◌≢◌, ℕ, ◌+◌, ◌-◌, ◌<◌, ◌≤◌, ◌↔◌, Bool, true, false, IfSome, IsSomeAnd, List, take, map, length, All, AllPairs, Contains, Option, Some, None, is_some}
 use Rattle.w16_model.specs.declared.Block.{Block}
 use Rattle.w16_model.specs.declared.Span.{Span}
 use Rattle.w16_model.specs.declared.Kind.{Kind}
@@ -7,17 +7,37 @@ use Rattle.w16_model.specs.declared.Item.{Item}
 use Rattle.w16_model.specs.declared.Way.{Way}
 use Rattle.w16_model.specs.declared.Hold.TheVariants.{Pinned}
 use Rattle.w16_model.specs.declared.Kind.TheVariants.{Discardable}
-use Rattle.w16_model.specs.declared.TheConstants.{MOST_SLOTS}
+use Rattle.w16_model.specs.declared.TheConstants.{FIRST_SLOT, MOST_SLOTS, GRAIN, LARGEST_SIZE, GMEM_MOVEABLE, GMEM_NOCOMPACT, GMEM_NODISCARD, GMEM_ZEROINIT, GMEM_DISCARDABLE, GMEM_DDESHARE, GMEM_DISCARDED}
 use Rattle.w16_model.specs.Gap.{is_pinned, is_any, room, longest_hole, hole_after, gaps, holes, loose_bytes, block_end, IsGap, IsHole, IsGapOf, ArePlaced, IsLaid}
 use Rattle.w16_model.specs.Arrangement.{IsArrangement, IsFreeStretch}
 use Rattle.w16_model.specs.Prefix.{eligible, is_member, blocks_without, needed, room_for}
-use Rattle.w16_model.specs.Heap.{Heap, Object, IsHeap, blocks, object_at}
+use Rattle.std.specs.FinMap as finmap
+use Rattle.w16_model.specs.Heap.{Heap, Object, IsHeap, blocks, object_at, is_pinned_object}
 use Rattle.w16_model.specs.Edit.{with_ordered}
 use Rattle.w16_model.specs.Request.{Settles, discarded, stays_for}
 use Rattle.w16_model.specs.Table.{Table, IsTable, IsSound, heap_in, IsSameOutside}
 use Rattle.w16_model.specs.Walk.{IsWalk}
 use Rattle.w16_model.specs.World.{World, IsWorld, empty_world, slot_of_handle, slot_of_selector, handle_of, selector_of}
-use Rattle.w16_model.specs.Machine.{Command, Reply, Step, IsCommand}
+use Rattle.w16_model.specs.Machine.{Command, Reply, Step, IsCommand, IsRefusedAlloc, AnswersAlloc}
+
+-- The figures.
+
+-- the figures of the profile, each as it is told to users
+pub record AreFigures : Type 0 where
+  pub first_slot : FIRST_SLOT ≡ 32
+  pub most_slots : MOST_SLOTS ≡ 8160
+  pub grain : GRAIN ≡ 32
+  pub largest_size : LARGEST_SIZE ≡ 65536
+
+-- the flags of GlobalAlloc and GlobalFlags, as the manual has them (GMEM_DISCARDED: GlobalFlags alone)
+pub record AreFlags : Type 0 where
+  pub moveable : GMEM_MOVEABLE ≡ 2
+  pub nocompact : GMEM_NOCOMPACT ≡ 16
+  pub nodiscard : GMEM_NODISCARD ≡ 32
+  pub zeroinit : GMEM_ZEROINIT ≡ 64
+  pub discardable : GMEM_DISCARDABLE ≡ 256
+  pub ddeshare : GMEM_DDESHARE ≡ 8192
+  pub discarded : GMEM_DISCARDED ≡ 16384
 
 -- Gaps and holes.
 
@@ -115,6 +135,25 @@ abbrev pub OthersLaw : Type 0
 OthersLaw = (old new : Heap) → IsHeap old → (k : ℕ)
     → ((h : ℕ) (way : Way) (o : Object) (order : List ℕ → List ℕ) → Settles old (stays_for h way) (with_ordered (discarded old k (Some h)) h o order) new → KeepsOthers old (Some h) k new)
     × (Settles old is_pinned (discarded old k None) new → KeepsOthers old None k new)
+
+-- an object that stands at an address still stands there
+abbrev pub StandsStill : Heap → Heap → ℕ → Type 0
+StandsStill old new q = IfSome (finmap.get old.places q) (λ at. finmap.get new.places q ≡ Some at)
+
+-- what a step leaves of the addresses of objects that it isn't about: a fixed or locked one keeps its own, and where nothing may move all do
+pub record KeepsAddresses (old : Heap) (h : Option ℕ) (may_move : Bool) (new : Heap) : Type 0 where
+  pub pinned : (q : ℕ) → h ≢ Some q → IsSomeAnd (object_at old q) (λ o. is_pinned_object o ≡ true) → StandsStill old new q
+  pub unmoved : may_move ≡ false → (q : ℕ) → h ≢ Some q → StandsStill old new q
+
+-- a request about h, and a compaction, leave every other address so
+abbrev pub AddressLaw : Type 0
+AddressLaw = (old new : Heap) → IsHeap old → (k : ℕ)
+    → ((h : ℕ) (way : Way) (o : Object) (order : List ℕ → List ℕ) → Settles old (stays_for h way) (with_ordered (discarded old k (Some h)) h o order) new → KeepsAddresses old (Some h) way.compact new)
+    × (Settles old is_pinned (discarded old k None) new → KeepsAddresses old None true new)
+
+-- an allocation isn't both refused and answered
+abbrev pub OutcomeLaw : Type 0
+OutcomeLaw = (old new : World) (flags size handle : ℕ) → IsWorld old → AnswersAlloc old flags size handle new → IsRefusedAlloc old flags size → ⊥
 
 -- Walks.
 

@@ -14,6 +14,8 @@ use Rattle.w16_model.specs.Edit.{update}
 use Rattle.w16_model.specs.Request.{Allocates, Compacts, prefix_of, moved_bytes}
 use Rattle.w16_model.specs.Single.{Enters, after_lock, after_unlock, after_free, after_touch, after_newest, after_oldest}
 use Rattle.w16_model.specs.declared.Attributes.{Attributes}
+use Rattle.w16_model.specs.declared.Item.{Item}
+use Rattle.w16_model.specs.Walk.{IsWorldWalk}
 use Rattle.w16_model.specs.World.{World, IsFreeSlot, slot_of_handle, slot_of_selector, handle_of, selector_of, far_pointer, dword_of, selector_in, offset_in}
 
 -- a command, with its arguments as numbers and bytes
@@ -48,8 +50,8 @@ pub data Reply : Type 0 where
   Bytes : (bytes : List ℕ) → Reply
   Done : Reply
   Fault : (fault : FarFault) → Reply
-  -- the heap's objects and holes, as they are then (specs/Walk)
-  Walked : Reply
+  -- so many objects with bytes and holes, which a walk then tells one by one (specs/Walk)
+  Walked : (count : ℕ) → Reply
 
 -- Allocation.
 
@@ -267,7 +269,7 @@ Step old (GlobalCompact size) reply new = (answer : ℕ) × (reply ≡ Dword ans
 Step old (GlobalLRUNewest handle) reply new = Gives (global_lru_newest old handle) reply new
 Step old (GlobalLRUOldest handle) reply new = Gives (global_lru_oldest old handle) reply new
 Step old Moved reply new = Gives (Dword old.moved, old) reply new
-Step old Walk reply new = Gives (Walked, old) reply new
+Step old Walk reply new = (items : List Item) × IsWorldWalk old items × (reply ≡ Walked (length items)) × (new ≡ old)
 Step old (Read pointer count) reply new = Gives (far_read old (selector_in pointer) (offset_in pointer) count) reply new
 Step old (Write pointer bytes) reply new = Gives (far_write old (selector_in pointer) (offset_in pointer) bytes) reply new
 Step old (Fill pointer count byte) reply new = Gives (far_write old (selector_in pointer) (offset_in pointer) (replicate count byte)) reply new

@@ -55,6 +55,10 @@ abbrev pub is_listed : Option Entry → Option Block → Bool
 is_listed (Some e) b = is_discardable e.kind && is_some b
 is_listed None b = false
 
+-- the locks of an entry, by its block: at most 255, and none where it is fixed or has no block
+abbrev pub IsCountedBy : Option Block → Entry → Type 0
+IsCountedBy b e = (e.locks ≤ 255) × (IsTrue (is_fixed e.kind) → e.locks ≡ 0) × (b ≡ None → e.locks ≡ 0)
+
 -- the blocks are laid out by address, no two have one id, and each is an entry's
 pub record IsTable (t : Table) : Type 0 where
   pub laid : IsLaid t.lo t.hi t.blocks
@@ -68,7 +72,7 @@ pub record IsSound (t : Table) : Type 0 where
   pub low_grained : IsMultiple t.grain t.lo
   pub in_order : (id : ℕ) → is_member id t.order ≡ is_listed (entry_at t id) (block_with t.blocks id)
   pub no_repeats : AllPairs (λ a b. a ≡ b → ⊥) t.order
-  pub fixed : (id : ℕ) → IfSome (entry_at t id) (λ e. (e.locks ≤ 255) × (IsTrue (is_fixed e.kind) → e.locks ≡ 0))
+  pub counted : (id : ℕ) → IfSome (entry_at t id) (IsCountedBy (block_with t.blocks id))
 
 -- A step of a heap over [lo, hi) leaves the rest of the memory as it was.
 pub record IsSameOutside (lo hi : ℕ) (memory after : List ℕ) : Type 0 where

@@ -1,5 +1,12 @@
 //! The laws of the definitions. Each function does nothing: its contract is the law.
-ghost use Rattle.w16_model.specs.Law.{GapListLaw, RisingLaw, LongestHoleLaw, HoleAfterLaw, PinnedLaw, LargestLaw, RoomLaw, LongerLaw, LeastLaw, MoreDiscardsLaw, DiscardedLaw, OthersLaw, WalkLaw, SoundLaw, RangeLaw, NamesLaw, EmptyLaw, WorldLaw};
+ghost use Rattle.w16_model.specs.Law.{AreFigures, AreFlags, AddressLaw, OutcomeLaw, GapListLaw, RisingLaw, LongestHoleLaw, HoleAfterLaw, PinnedLaw, LargestLaw, RoomLaw, LongerLaw, LeastLaw, MoreDiscardsLaw, DiscardedLaw, OthersLaw, WalkLaw, SoundLaw, RangeLaw, NamesLaw, EmptyLaw, WorldLaw};
+
+/// The figures of the profile and the flags of the manual are these numbers. Definitions and code share the constants, so only this law
+/// would see a wrong one.
+pub fn figures_of_the_profile()
+    ensures figures { AreFigures }
+    ensures flags { AreFlags }
+{}
 
 /// The lists of gaps and of holes have each maximal interval, and nothing else.
 pub fn lists_of_gaps_and_holes()
@@ -59,6 +66,17 @@ pub fn discards_keep_their_promise()
 /// A request discards objects that are discardable and not locked, and leaves every other object its kind, its locks and its bytes.
 pub fn others_are_kept()
     ensures { OthersLaw }
+{}
+
+/// A fixed or locked object keeps its address through every request and compaction that isn't about it, and with `GMEM_NOCOMPACT` every
+/// object does.
+pub fn pinned_objects_keep_their_address()
+    ensures { AddressLaw }
+{}
+
+/// An allocation isn't both refused and answered.
+pub fn allocations_have_one_outcome()
+    ensures { OutcomeLaw }
 {}
 
 /// Each heap has a walk, and no other.

@@ -1,0 +1,123 @@
+-- What a request leaves where it stands, and that it isn't both refused and answered.
+use Rattle.std.proofs.Common.{◌≡◌, ◌≢◌, ℕ, ◌<◌, inl, inr, Bool, true, false, cond, not, ◌&&◌, ◌||◌, ◌==◌, MatchBool, IsTrue, IfSome, IsSomeAnd, List, length, Option, Some, None, is_some, unwrap_or, refl, sym, ap, ◌∙◌, subst, arith, ne_eqb}
+use Rattle.std.specs.FinMap as finmap
+use Rattle.std.proofs.lemmas.Bool.{false≢true}
+use Rattle.w16_model.specs.declared.Block.{Block}
+use Rattle.w16_model.specs.declared.Way.{Way}
+use Rattle.w16_model.specs.declared.Hold.TheVariants.{Pinned, Loose}
+use Rattle.w16_model.specs.declared.TheConstants.{GMEM_MOVEABLE}
+use Rattle.w16_model.specs.Gap.{is_pinned, holds_still}
+use Rattle.w16_model.specs.Heap.{Heap, Object, IsHeap, blocks, object_at, hold_of, is_pinned_object}
+use Rattle.w16_model.specs.Edit.{with_newest}
+use Rattle.w16_model.specs.Request.{Settles, stays_for, Allocates, IsNew, Request, prefix_of}
+use Rattle.w16_model.specs.Single.{Enters}
+use Rattle.w16_model.specs.World.{World, IsWorld}
+use Rattle.w16_model.specs.Machine.{has_flag, way_asked, kind_asked, rounded_size}
+use Rattle.w16_model.specs.Law.{AddressLaw, StandsStill, OutcomeLaw}
+use Rattle.w16_model.proofs.Gaps.{Each-at, Each-from_All}
+use Rattle.w16_model.proofs.Heaps.{IsBlockOf, block_member}
+use Rattle.w16_model.proofs.Prefixes.{none_about}
+
+module _ (old : Heap) (is : IsHeap old) (stays : Block → Bool) (heap new : Heap) (settles : Settles old stays heap new) where
+  -- an object whose block stays keeps its address
+  still : (q : ℕ) → ((x : Block) → x.id ≡ q → IsSomeAnd (object_at old q) (λ o. x.hold ≡ hold_of o) → stays x ≡ true) → StandsStill old new q
+  still q keeps = place (finmap.get old.places q) refl
+    where
+      kept : (o : Object) (bytes : List ℕ) (at : ℕ) → object_at old q ≡ Some o → o.bytes ≡ Some bytes → finmap.get old.places q ≡ Some at → finmap.get new.places q ≡ Some at
+      kept o bytes at there has stood =
+          let x : Block = record { id = q; at = at; size = length bytes; hold = hold_of o } in
+          let block : IsBlockOf old x = record { object = o; bytes = bytes; is_there = there; has_bytes = has; place = ap (λ p. unwrap_or p 0) (sym stood); size = refl; hold = refl } in
+          Each-at (λ y. IsTrue (stays y) → finmap.get new.places y.id ≡ Some y.at) (blocks old) (Each-from_All _ (blocks old) settles.kept) x (block_member old x block)
+          (keeps x refl (subst (λ p. IsSomeAnd p (λ o. x.hold ≡ hold_of o)) (sym there) refl))
+
+      object : (at : ℕ) → finmap.get old.places q ≡ Some at → (p : Option Object) → object_at old q ≡ p → finmap.get new.places q ≡ Some at
+      object at stood None there = absurd (false≢true (sym (ap (λ (p : Option Object). is_some (elim p [ Some o ↦ o.bytes | None ↦ None ])) there) ∙ sym (is.at_bytes q) ∙ ap is_some stood))
+      object at stood (Some o) there = bytes o.bytes refl
+        where
+          bytes : (b : Option (List ℕ)) → o.bytes ≡ b → finmap.get new.places q ≡ Some at
+          bytes None has = absurd (false≢true (sym (ap (λ (p : Option Object). is_some (elim p [ Some o ↦ o.bytes | None ↦ None ])) there ∙ ap is_some has) ∙ sym (is.at_bytes q) ∙ ap is_some stood))
+          bytes (Some list) has = kept o list at there has stood
+
+      place : (p : Option ℕ) → finmap.get old.places q ≡ p → IfSome p (λ at. finmap.get new.places q ≡ Some at)
+      place None stood = tt
+      place (Some at) stood = object at stood (object_at old q) refl
+
+-- the block of a pinned object is pinned
+pinned_block : (x : Block) (p : Option Object) → IsSomeAnd p (λ o. is_pinned_object o ≡ true) → IsSomeAnd p (λ o. x.hold ≡ hold_of o) → is_pinned x ≡ true
+pinned_block x None pinned held = absurd pinned
+pinned_block x (Some o) pinned held = ap holds_still (held ∙ ap (λ b. cond b Pinned Loose) pinned)
+
+-- what stays for h, if it isn't h's own block
+stays_other : (h : ℕ) (way : Way) (x : Block) → x.id ≢ h → (is_pinned x || not way.compact) ≡ true → stays_for h way x ≡ true
+stays_other h way x other t = ap (λ b. not b && (is_pinned x || not way.compact)) (ne_eqb x.id h other) ∙ t
+
+or_left : (a b : Bool) → a ≡ true → (a || b) ≡ true
+or_left true b t = refl
+or_left false b t = absurd (false≢true t)
+
+or_right : (a b : Bool) → b ≡ false → (a || not b) ≡ true
+or_right true b t = refl
+or_right false true t = absurd (false≢true (sym t))
+or_right false false t = refl
+
+pub address_law : AddressLaw
+address_law old new is k = (
+  (λ h way o order step. record {
+    pinned = λ q other pinned. still old is (stays_for h way) _ new step q
+        (λ x e held. stays_other h way x (λ same. other (ap Some (sym same ∙ e))) (or_left (is_pinned x) (not way.compact) (pinned_block x (object_at old q) pinned held)));
+    unmoved = λ none q other. still old is (stays_for h way) _ new step q (λ x e held. stays_other h way x (λ same. other (ap Some (sym same ∙ e))) (or_right (is_pinned x) way.compact none));
+  }),
+  (λ step. record {
+    pinned = λ q other pinned. still old is is_pinned _ new step q (λ x e held. pinned_block x (object_at old q) pinned held);
+    unmoved = λ none q other. absurd (false≢true (sym none));
+  }),
+)
+
+-- what an answered allocation has made
+abbrev Made : World → ℕ → ℕ → ℕ → Heap → Bool → Type 0
+Made old flags size slot new absent = MatchBool absent (Enters old.heap slot (kind_asked flags) new) (Allocates old.heap slot (rounded_size size) (kind_asked flags) 0 (way_asked flags) true new)
+
+-- An allocation that was answered is none of those that are refused.
+module _ (old : World) (is : IsWorld old) (flags size : ℕ) where
+  -- it had a prefix
+  has_prefix : (slot : ℕ) (way : Way) (p : Option ℕ) (asked : Object → Type 0) (order : Object → List ℕ → List ℕ) (new : Heap) → Request old.heap slot way p asked order true new → p ≡ None → ⊥
+  has_prefix slot way None asked order new r none = false≢true (sym r.0)
+  has_prefix slot way (Some k) asked order new r none = cc
+
+  not_refused : (slot : ℕ) (new : Heap) → object_at old.heap slot ≡ None → Allocates old.heap slot (rounded_size size) (kind_asked flags) 0 (way_asked flags) true new → prefix_of old.heap (rounded_size size) None (way_asked flags) ≡ None → ⊥
+  not_refused slot new unused allocated none = has_prefix slot (way_asked flags) (prefix_of old.heap (rounded_size size) (Some slot) (way_asked flags)) (IsNew (way_asked flags).zero (rounded_size size) (kind_asked flags) 0) (with_newest slot) new allocated.request
+      (none_about old.heap is.heap slot unused (rounded_size size) (way_asked flags) ∙ none)
+
+  -- a fixed object of no bytes isn't allocated
+  nothing_rounded : size ≡ 0 → rounded_size size ≡ 0
+  nothing_rounded none = ap rounded_size none
+
+pub outcome_law : OutcomeLaw
+outcome_law old new flags size handle is answers refused = elim refused [
+  | inl fixed ↦ made_fixed fixed
+  | inr others ↦ elim others [
+    | inl large ↦ omega (arith, large, answers.small)
+    | inr others ↦ elim others [
+      | inl full ↦ full answers.slot answers.free
+      | inr room ↦ made_room room
+    ]
+  ]
+]
+  where
+    made_fixed : (size ≡ 0) × (has_flag flags GMEM_MOVEABLE ≡ false) → ⊥
+    made_fixed h = turn ((size == 0) && has_flag flags GMEM_MOVEABLE) (ap (λ b. (size == 0) && b) h.1) answers.made
+      where
+        and_false : (b : Bool) → (b && false) ≡ false
+        and_false true = refl
+        and_false false = refl
+
+        turn : (b : Bool) → b ≡ ((size == 0) && false) → Made old flags size answers.slot new.heap b → ⊥
+        turn true e m = false≢true (sym (and_false (size == 0)) ∙ sym e)
+        turn false e m = omega (arith, m.some, nothing_rounded old is flags size h.0)
+
+    made_room : (0 < size) × (prefix_of old.heap (rounded_size size) None (way_asked flags) ≡ None) → ⊥
+    made_room h = turn ((size == 0) && has_flag flags GMEM_MOVEABLE) (ap (λ b. b && has_flag flags GMEM_MOVEABLE) (ne_eqb size 0 (λ e. absurd (omega (arith, e, h.0))))) answers.made
+      where
+        turn : (b : Bool) → b ≡ false → Made old flags size answers.slot new.heap b → ⊥
+        turn true e m = false≢true (sym e)
+        turn false e m = not_refused old is flags size answers.slot new.heap answers.free.1 m h.1
