@@ -82,7 +82,7 @@ module _ {entries : List (Option Entry)} {layout : Layout} {order memory : List 
       together : GoTogether (Some entry) (Some block)
       together = record {
         holds = λ x e. ap (λ (y : Block). y.hold) (let s : x ≡ block = cc in s);
-        fixed = (omega arith, λ _. refl);
+        counted = (omega arith, λ _. refl, λ _. refl);
       }
 
       reorders : ReordersOne id (is_listed (Some entry) (Some block)) order uses_with

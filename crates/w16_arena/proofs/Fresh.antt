@@ -3,7 +3,7 @@ use Rattle.std.proofs.Common.{◌≡◌, ℕ, zero, suc, ◌≤◌, IsTrue, IfSo
 use Rattle.std.proofs.lemmas.List.{length-replicate}
 use Rattle.w16_model.specs.declared.Entry.{Entry}
 use Rattle.w16_model.specs.Heap.{is_fixed, IsMultiple}
-use Rattle.w16_model.specs.Table.{IsSound, is_listed}
+use Rattle.w16_model.specs.Table.{IsCountedBy, IsSound, is_listed}
 use Rattle.w16_model.proofs.Gaps.{All-from_Each, AllPairs-from_EachPair}
 use Rattle.w16_blocks.specs.Layout.{Layout}
 use Rattle.w16_lru.specs.Uses.{Uses}
@@ -38,7 +38,7 @@ module _ (cap lo hi grain : ℕ) (bounds : lo ≤ hi) (grained : IsMultiple grai
   listed = record { members = λ q. sym (ap (λ e. is_listed e None) (no_entry cap q)); once = AllPairs-from_EachPair (λ a b. a ≡ b → ⊥) [] tt }
 
   pub sound : IsSound (empty_table cap lo hi grain)
-  sound = sound_of (replicate cap none) (fresh cap lo hi grain) [] arranged (λ q x e. cc) listed (each (λ d. (d.locks ≤ 255) × (IsTrue (is_fixed d.kind) → d.locks ≡ 0)))
+  sound = sound_of (replicate cap none) (fresh cap lo hi grain) [] arranged (λ q x e. cc) listed (each (IsCountedBy None))
 
   pub fresh_kept : (marks : List Bool) → length marks ≡ cap → (room : ℕ) → cap ≤ room → IsKept (replicate cap none) (fresh cap lo hi grain) (no_uses cap) marks room
   fresh_kept marks marked room enough =

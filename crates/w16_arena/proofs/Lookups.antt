@@ -8,7 +8,7 @@ use Rattle.std.proofs.lemmas.Bool.{false≢true}
 use Rattle.w16_model.specs.declared.Block.{Block}
 use Rattle.w16_model.specs.declared.Entry.{Entry}
 use Rattle.w16_model.specs.Heap.{Heap, Object, IsHeap, object_at, bytes_at, is_fixed, IsMultiple}
-use Rattle.w16_model.specs.Table.{IsSound, block_with, object_in, hold_in, is_listed}
+use Rattle.w16_model.specs.Table.{IsCountedBy, IsSound, block_with, object_in, hold_in, is_listed}
 use Rattle.w16_model.specs.Prefix.{is_member}
 use Rattle.w16_model.proofs.Gaps.{EachPair, Each-from, Each-at, Each-from_All, All-from_Each, AllPairs-from_EachPair, EachPair-from_AllPairs}
 use Rattle.w16_model.proofs.Tables.{object_is, place_is, with_member, member_with, length_range}
@@ -77,9 +77,9 @@ sound_order entries layout order sound = record { members = sound.in_order; once
 pub sound_of : (entries : List (Option Entry)) (layout : Layout) (order : List ℕ) → IsArranged layout
     → ((q : ℕ) (x : Block) → block_with layout.blocks q ≡ Some x → IsSomeAnd (get_or entries q None) (λ e. x.hold ≡ hold_in e))
     → IsOrder entries layout order
-    → ((q : ℕ) → IfSome (get_or entries q None) (λ e. (e.locks ≤ 255) × (IsTrue (is_fixed e.kind) → e.locks ≡ 0)))
+    → ((q : ℕ) → IfSome (get_or entries q None) (IsCountedBy (block_with layout.blocks q)))
     → IsSound (table_of entries layout order)
-sound_of entries layout order arranged holds listed fixed = record {
+sound_of entries layout order arranged holds listed counted = record {
   table = record {
     laid = arranged.laid;
     ids = arranged.ids;
@@ -90,7 +90,7 @@ sound_of entries layout order arranged holds listed fixed = record {
   low_grained = arranged.low_grained;
   in_order = listed.members;
   no_repeats = listed.once;
-  fixed = fixed;
+  counted = counted;
 }
 
 -- what a sound table has at each id

@@ -1,7 +1,7 @@
 -- The oldest that a request may discard, by a search along the order of use, and the discards one by one.
-use Rattle.std.proofs.Common.{◌≡◌, ℕ, zero, suc, ◌+◌, ◌-◌, ◌<◌, ◌≤◌, inl, inr, Bool, true, false, cond, not, List, [], ◌∷◌, ◌++◌, append_assoc, length, replicate, take, drop, filter, Option, Some, None, is_some, refl, sym, ap, ◌∙◌, arith, add-one, slice_get, eqb}
+use Rattle.std.proofs.Common.{◌≡◌, ℕ, zero, suc, ◌+◌, ◌-◌, ◌<◌, ◌≤◌, inl, inr, Bool, true, false, cond, not, ◌&&◌, ◌||◌, nat_lt, IsSomeAnd, subst, List, [], ◌∷◌, ◌++◌, append_assoc, length, replicate, take, drop, filter, Option, Some, None, is_some, refl, sym, ap, ◌∙◌, arith, add-one, slice_get, eqb}
 use Rattle.std.specs.List.{list_any}
-use Rattle.std.proofs.lemmas.Bool.{false≢true, cond-true, cond-false, or_cases, eqb-true}
+use Rattle.std.proofs.lemmas.Bool.{false≢true, cases_Bool, ltb-false, cond-true, cond-false, or_cases, eqb-true}
 use Rattle.std.proofs.lemmas.Bool.Decides.{Decides-eqb}
 use Rattle.std.proofs.lemmas.List.{length-append, length-take, length-replicate, append-nil}
 use Rattle.std.proofs.lemmas.Map.Made.{IsDistinct-from_AllPairs}
@@ -12,19 +12,22 @@ use Rattle.std.proofs.Math.Seq.{drop-cons}
 use Rattle.w16_model.specs.declared.Block.{Block}
 use Rattle.w16_model.specs.declared.Entry.{Entry}
 use Rattle.w16_model.specs.Edit.{absent}
-use Rattle.w16_model.specs.Heap.{Heap, blocks}
+use Rattle.w16_model.specs.Heap.{Heap, blocks, is_fixed, is_discardable}
+use Rattle.w16_model.specs.Gap.{holds_still}
+use Rattle.w16_model.specs.declared.Hold.TheVariants.{Pinned, Loose}
+use Rattle.w16_model.proofs.Tables.{member_with}
 use Rattle.w16_model.specs.Prefix.{eligible, is_member}
 use Rattle.w16_model.specs.Request.{discarded}
-use Rattle.w16_model.specs.Table.{Table, IsSound, block_with, entry_at, heap_in, is_listed}
+use Rattle.w16_model.specs.Table.{Table, IsSound, hold_in, block_with, entry_at, heap_in, is_listed}
 use Rattle.w16_model.proofs.Answered.{eligible_rest, discarded_next, discarded_none}
-use Rattle.w16_model.proofs.Discards.{true-is_member}
+use Rattle.w16_model.proofs.Discards.{true-is_member, eligible_loose}
 use Rattle.w16_model.proofs.Gaps.{Member, member_filter}
 use Rattle.w16_model.proofs.Prefixes.{eligible_by_members}
 use Rattle.w16_blocks.specs.Layout.{Layout}
 use Rattle.w16_compact.proofs.Searched.{may_go}
 use Rattle.w16_arena.specs.State.{State, Steps, IsSameRange}
 use Rattle.w16_arena.proofs.Listed.{listed_permutation}
-use Rattle.w16_arena.proofs.Lookups.{in_list}
+use Rattle.w16_arena.proofs.Lookups.{in_list, holds_at}
 use Rattle.w16_arena.proofs.Parts.{AreParts}
 
 pub turned : (b c : Bool) → b ≡ not c → not b ≡ c
@@ -107,11 +110,34 @@ module _ (t : Table) (sound : IsSound t) where
       turn None e l = absurd (false≢true l)
       turn (Some d) e l = (d, e)
 
-  -- and so has what may be discarded
-  pub first_known : (h : Option ℕ) (id : ℕ) → slice_get (eligible t.blocks t.order h) 0 ≡ Some id → is_some (entry_at t id) ≡ true
-  first_known h id first =
-      let m : Member id t.order = (member_filter (may_go t.blocks h) t.order id (first_member (eligible t.blocks t.order h) id first)).0 in
-      ap is_some (member_known id (true-is_member id t.order m)).1
+  -- and so has what may be discarded, and no lock
+  pub first_known : (h : Option ℕ) (id : ℕ) → slice_get (eligible t.blocks t.order h) 0 ≡ Some id → IsSomeAnd (entry_at t id) (λ e. e.locks ≡ 0)
+  first_known h id first = turn (entry_at t id) (block_with t.blocks id) refl refl (sym (sound.in_order id) ∙ true-is_member id t.order (member_filter (may_go t.blocks h) t.order id m).0)
+    where
+      m : Member id (eligible t.blocks t.order h)
+      m = first_member (eligible t.blocks t.order h) id first
+
+      and_none : (b : Bool) → (b && false) ≡ false
+      and_none true = refl
+      and_none false = refl
+
+      or_true : (b c : Bool) → c ≡ true → (b || c) ≡ true
+      or_true true c t = refl
+      or_true false c t = t
+
+      turn : (e : Option Entry) (b : Option Block) → entry_at t id ≡ e → block_with t.blocks id ≡ b → is_listed e b ≡ true → IsSomeAnd (entry_at t id) (λ e. e.locks ≡ 0)
+      turn None b e f l = absurd (false≢true l)
+      turn (Some d) None e f l = absurd (false≢true (sym (and_none (is_discardable d.kind)) ∙ l))
+      turn (Some d) (Some x) e f l = subst (λ p. IsSomeAnd p (λ e. e.locks ≡ 0)) (sym e) (elim (cases_Bool (nat_lt 0 d.locks)) [
+        | inl locked ↦ absurd (eligible_loose t.blocks t.order h x here.0 (subst (λ q. Member q (eligible t.blocks t.order h)) (sym here.1) m) (ap holds_still (held ∙ ap (λ b. cond b Pinned Loose) (or_true (is_fixed d.kind) (nat_lt 0 d.locks) locked))))
+        | inr free ↦ (let le : d.locks ≤ 0 = ltb-false 0 d.locks free in omega arith)
+      ])
+        where
+          here : Member x t.blocks × (x.id ≡ id)
+          here = member_with t.blocks id x f
+
+          held : x.hold ≡ hold_in d
+          held = subst (λ p. IsSomeAnd p (λ e. x.hold ≡ hold_in e)) e (holds_at t.entries (record { cap = length t.entries; lo = t.lo; hi = t.hi; grain = t.grain; blocks = t.blocks }) t.order sound id x f)
 
   -- there are no more members than entries
   order_short : length t.order ≤ length t.entries

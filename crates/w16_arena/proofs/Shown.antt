@@ -9,7 +9,7 @@ use Rattle.w16_model.specs.Prefix.{is_member}
 use Rattle.w16_model.specs.Heap.{Heap, object_at, is_fixed}
 use Rattle.w16_model.specs.Edit.{removed, absent, with_object, newest, oldest, without}
 use Rattle.w16_model.specs.Single.{Enters, after_touch}
-use Rattle.w16_model.specs.Table.{Table, IsSound, block_with, entry_at, hold_in, object_in}
+use Rattle.w16_model.specs.Table.{Table, IsSound, IsCountedBy, block_with, entry_at, hold_in, object_in}
 use Rattle.w16_blocks.specs.Layout as layouts
 use Rattle.w16_blocks.specs.Layout.{Layout, IsOrdered, replaced}
 use Rattle.w16_lru.specs.Uses.{Uses}
@@ -45,13 +45,20 @@ module _ {entries : List (Option Entry)} {layout : Layout} {uses : Uses} {marks 
   pub object_told : (id : ℕ) (memory : List ℕ) → layout.hi ≤ length memory → object_at (heap_of entries layout uses.ids memory) id ≡ option_map (object_in layout.blocks memory id) (get_or entries id None)
   object_told id memory high = object_here (beside kept memory high) id
 
-  -- an entry that is there
-  pub entry_known : (id : ℕ) → is_some (entry_at old.table id) ≡ true → (e : Entry) × (get_or entries id None ≡ Some e) × (id < length entries)
-  entry_known id some = from (get_or entries id None) refl (known (λ t. is_some (entry_at t id) ≡ true) some)
+  -- an entry that is there, with what is known of it
+  pub entry_such : (id : ℕ) (P : Entry → Type 0) → IsSomeAnd (entry_at old.table id) P → (e : Entry) × (get_or entries id None ≡ Some e) × (id < length entries) × P e
+  entry_such id P some = from (get_or entries id None) refl (known (λ t. IsSomeAnd (entry_at t id) P) some)
     where
-      from : (p : Option Entry) → get_or entries id None ≡ p → is_some p ≡ true → (e : Entry) × (get_or entries id None ≡ Some e) × (id < length entries)
-      from None h t = absurd (false≢true t)
-      from (Some e) h t = (e, h, in_list entries id e h)
+      from : (p : Option Entry) → get_or entries id None ≡ p → IsSomeAnd p P → (e : Entry) × (get_or entries id None ≡ Some e) × (id < length entries) × P e
+      from None h t = absurd t
+      from (Some e) h t = (e, h, in_list entries id e h, t)
+
+  pub entry_known : (id : ℕ) → is_some (entry_at old.table id) ≡ true → (e : Entry) × (get_or entries id None ≡ Some e) × (id < length entries) × Unit {0}
+  entry_known id some = entry_such id (λ _. Unit {0}) (from (entry_at old.table id) some)
+    where
+      from : (p : Option Entry) → is_some p ≡ true → IsSomeAnd p (λ _. Unit {0})
+      from None t = absurd (false≢true t)
+      from (Some e) t = tt
 
   -- An absent object is entered.
   module _ (id : ℕ) (kind : Kind) (below : id < length old.table.entries) (free : entry_at old.table id ≡ None) where
@@ -86,13 +93,13 @@ module _ {entries : List (Option Entry)} {layout : Layout} {uses : Uses} {marks 
         (steps_to kept shown (set entries id None) new (without id uses.ids) (λ a b. b ≡ removed a id) (sound_without kept id lt new value ordered) same_range.0 same_range.1 same_range.2 (length-set entries id None) (heap_without kept id lt new value ordered))
 
     -- It gives up its bytes alone.
-    module _ (e : Entry) (there : get_or entries id None ≡ Some e) where
+    module _ (e : Entry) (there : get_or entries id None ≡ Some e) (unlocked : e.locks ≡ 0) where
       pub kept_given : IsKept entries new after marks room
-      kept_given = kept_with kept entries new after (subst (λ ids. IsSound (table_of entries new ids)) ids_after (sound_given kept id e there new value ordered)) refl same_range.3 (ap (λ (u : Uses). u.cap) order)
+      kept_given = kept_with kept entries new after (subst (λ ids. IsSound (table_of entries new ids)) ids_after (sound_given kept id e there unlocked new value ordered)) refl same_range.3 (ap (λ (u : Uses). u.cap) order)
 
       pub steps_given : Steps old (state_of entries new after.ids discarded) (λ a b. b ≡ absent a id)
       steps_given = subst (λ ids. Steps old (state_of entries new ids discarded) (λ a b. b ≡ absent a id)) ids_after
-          (steps_to kept shown entries new (without id uses.ids) (λ a b. b ≡ absent a id) (sound_given kept id e there new value ordered) same_range.0 same_range.1 same_range.2 refl (heap_given kept id e there new value ordered))
+          (steps_to kept shown entries new (without id uses.ids) (λ a b. b ≡ absent a id) (sound_given kept id e there unlocked new value ordered) same_range.0 same_range.1 same_range.2 refl (heap_given kept id e there unlocked new value ordered))
 
   pub steps_same : (id : ℕ) → get_or entries id None ≡ None → Steps old old (λ a b. b ≡ removed a id)
   steps_same id none = steps_none kept shown (λ a b. b ≡ removed a id) (heap_same kept id none)
@@ -131,20 +138,23 @@ module _ {entries : List (Option Entry)} {layout : Layout} {uses : Uses} {marks 
   steps_untouched id out = steps_none kept shown (λ a b. b ≡ after_touch a id) (λ memory high. λ i. record (heap_of entries layout uses.ids memory) { order = sym (untouched_is kept id out) i })
 
   -- A lock count is set.
-  module _ (id : ℕ) (entry : Entry) (asked : IsSomeAnd (entry_at old.table id) (λ e. (e.kind ≡ entry.kind) × (IsTrue (is_fixed entry.kind) → entry.locks ≡ 0))) (byte : entry.locks ≤ 255)
+  module _ (id : ℕ) (entry : Entry) (asked : IsSomeAnd (entry_at old.table id) (λ e. e.kind ≡ entry.kind)) (counted : IsCountedBy (block_with old.table.blocks id) entry)
       {hold : Hold} (hold_is : hold ≡ hold_in entry) {new : Layout}
       (none : IfNone (block_with layout.blocks id) (new ≡ layout)) (some : IfSome (block_with layout.blocks id) (λ b. new ≡ record layout { blocks = replaced (record b { hold = hold }) layout.blocks })) (ordered : IsOrdered new) where
-    asked_here : IsSomeAnd (get_or entries id None) (λ e. (e.kind ≡ entry.kind) × (IsTrue (is_fixed entry.kind) → entry.locks ≡ 0))
-    asked_here = known (λ t. IsSomeAnd (entry_at t id) (λ e. (e.kind ≡ entry.kind) × (IsTrue (is_fixed entry.kind) → entry.locks ≡ 0))) asked
+    asked_here : IsSomeAnd (get_or entries id None) (λ e. e.kind ≡ entry.kind)
+    asked_here = known (λ t. IsSomeAnd (entry_at t id) (λ e. e.kind ≡ entry.kind)) asked
+
+    counted_here : IsCountedBy (block_with layout.blocks id) entry
+    counted_here = known (λ t. IsCountedBy (block_with t.blocks id) entry) counted
 
     pub kept_set : IsKept (set entries id (Some entry)) new uses marks room
-    kept_set = let r = range_set kept id entry asked_here byte hold hold_is new none some ordered in
-        kept_with kept (set entries id (Some entry)) new uses (sound_set kept id entry asked_here byte hold hold_is new none some ordered) (length-set entries id (Some entry)) r.3 refl
+    kept_set = let r = range_set kept id entry asked_here counted_here hold hold_is new none some ordered in
+        kept_with kept (set entries id (Some entry)) new uses (sound_set kept id entry asked_here counted_here hold hold_is new none some ordered) (length-set entries id (Some entry)) r.3 refl
 
     pub steps_set : Steps old (state_of (set entries id (Some entry)) new uses.ids discarded) (λ a b. IfSome (object_at a id) (λ o. b ≡ with_object a id (record o { locks = entry.locks })))
-    steps_set = let r = range_set kept id entry asked_here byte hold hold_is new none some ordered in
+    steps_set = let r = range_set kept id entry asked_here counted_here hold hold_is new none some ordered in
         steps_to kept shown (set entries id (Some entry)) new uses.ids (λ a b. IfSome (object_at a id) (λ o. b ≡ with_object a id (record o { locks = entry.locks })))
-        (sound_set kept id entry asked_here byte hold hold_is new none some ordered) r.0 r.1 r.2 (length-set entries id (Some entry)) (heap_set kept id entry asked_here byte hold hold_is new none some ordered)
+        (sound_set kept id entry asked_here counted_here hold hold_is new none some ordered) r.0 r.1 r.2 (length-set entries id (Some entry)) (heap_set kept id entry asked_here counted_here hold hold_is new none some ordered)
 
 -- past the ids no block is
 pub block_past : {entries : List (Option Entry)} {layout : Layout} {uses : Uses} {marks : List Bool} {room : ℕ} → IsKept entries layout uses marks room → (id : ℕ) → length entries ≤ id → block_with layout.blocks id ≡ None

@@ -32,7 +32,7 @@ module _ {entries : List (Option Entry)} {layout : Layout} {order memory : List 
   none = None
 
   none_together : GoTogether None None
-  none_together = record { holds = λ x e. cc; fixed = tt }
+  none_together = record { holds = λ x e. cc; counted = tt }
 
   none_changes : ChangesOne id None layout without_block
   none_changes = record { cap = refl; lo = refl; hi = refl; grain = refl; blocks = with-without id layout.blocks }

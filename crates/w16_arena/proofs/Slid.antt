@@ -7,7 +7,7 @@ use Rattle.w16_model.specs.declared.Block.{Block}
 use Rattle.w16_model.specs.declared.Entry.{Entry}
 use Rattle.w16_model.specs.Gap.{block_end, is_pinned, holds_still}
 use Rattle.w16_model.specs.Heap.{Object, object_at, is_discardable}
-use Rattle.w16_model.specs.Table.{block_with, hold_in, is_listed}
+use Rattle.w16_model.specs.Table.{IsCountedBy, block_with, hold_in, is_listed}
 use Rattle.w16_model.proofs.Gaps.{Each-at}
 use Rattle.w16_model.proofs.Laid.{laid_each}
 use Rattle.w16_model.proofs.Tables.{member_with}
@@ -44,7 +44,7 @@ module _ {entries : List (Option Entry)} {layout : Layout} {order memory : List 
   -- they are parts again
   pub slid_parts : AreParts entries new order after
   slid_parts = record {
-    sound = sound_of entries new order (ordered_arranged new moved.ordered) holds listed parts.sound.fixed;
+    sound = sound_of entries new order (ordered_arranged new moved.ordered) holds listed counted;
     ids = ap (λ (l : Layout). l.cap) moved.same ∙ parts.ids;
     high = let size = moved.size in let hi = ap (λ (l : Layout). l.hi) moved.same in let high = parts.high in omega arith;
   }
@@ -56,7 +56,18 @@ module _ {entries : List (Option Entry)} {layout : Layout} {order memory : List 
           from None e s = absurd s
           from (Some b) e s = subst (λ h. IsSomeAnd (get_or entries q None) (λ e. h ≡ hold_in e)) (sym (ap (λ (y : Block). y.hold) s.same)) (holds_at entries layout order parts.sound q b e)
 
-      -- the same blocks have bytes, so the order of use is as it was
+      -- the same blocks have bytes, so counts of locks are as they have to be
+      counted : (q : ℕ) → IfSome (get_or entries q None) (IsCountedBy (block_with new.blocks q))
+      counted q = from (get_or entries q None) (block_with layout.blocks q) (block_with new.blocks q) (slid_with q) (parts.sound.counted q)
+        where
+          from : (e : Option Entry) (b c : Option Block) → BothOrNone R b c → IfSome e (IsCountedBy b) → IfSome e (IsCountedBy c)
+          from None b c s h = tt
+          from (Some e) None None s h = h
+          from (Some e) None (Some y) s h = absurd s
+          from (Some e) (Some x) None s h = absurd s
+          from (Some e) (Some x) (Some y) s h = (h.0, h.1, λ none. cc)
+
+      -- and the order of use is as it was
       listed : IsOrder entries new order
       listed = record {
         members = λ q. parts.sound.in_order q ∙ listed_same (get_or entries q None) (block_with layout.blocks q) (block_with new.blocks q) (both (block_with layout.blocks q) (block_with new.blocks q) (slid_with q));

@@ -12,7 +12,7 @@ use Rattle.w16_model.specs.Prefix.{is_member}
 use Rattle.w16_model.specs.Heap.{Heap, Object, object_at, is_fixed, is_discardable}
 use Rattle.w16_model.specs.Edit.{removed, absent, with_object, touched, newest, without}
 use Rattle.w16_model.specs.Single.{Enters}
-use Rattle.w16_model.specs.Table.{IsSound, block_with, hold_in, object_in, is_listed}
+use Rattle.w16_model.specs.Table.{IsSound, IsCountedBy, block_with, hold_in, object_in, is_listed}
 use Rattle.w16_model.proofs.Heaps.{get-update_same, get-update_other}
 use Rattle.w16_model.proofs.Kept.{taken_here, taken_other}
 use Rattle.w16_blocks.specs.Layout as layouts
@@ -47,7 +47,7 @@ reordered_sound entries layout order uses sound same once = record {
   low_grained = sound.low_grained;
   in_order = λ q. same q ∙ sound.in_order q;
   no_repeats = once;
-  fixed = sound.fixed;
+  counted = sound.counted;
 }
 
 module _ {entries : List (Option Entry)} {layout : Layout} {uses : Uses} {marks : List Bool} {room : ℕ} (kept : IsKept entries layout uses marks room) where
@@ -139,7 +139,7 @@ module _ {entries : List (Option Entry)} {layout : Layout} {uses : Uses} {marks 
     absent_block = no_block some_parts id free
 
     alone : GoTogether (Some entered) None
-    alone = record { holds = λ x e. cc; fixed = (omega arith, λ _. refl) }
+    alone = record { holds = λ x e. cc; counted = (omega arith, λ _. refl, λ _. refl) }
 
     same_blocks : ChangesOne id None layout layout
     same_blocks = record {
@@ -170,17 +170,16 @@ module _ {entries : List (Option Entry)} {layout : Layout} {uses : Uses} {marks 
     }
 
   -- An object's locks are set, and its block, if it has one, is held by them.
-  module _ (id : ℕ) (entry : Entry) (asked : IsSomeAnd (get_or entries id None) (λ e. (e.kind ≡ entry.kind) × (IsTrue (is_fixed entry.kind) → entry.locks ≡ 0))) (byte : entry.locks ≤ 255)
+  module _ (id : ℕ) (entry : Entry) (asked : IsSomeAnd (get_or entries id None) (λ e. e.kind ≡ entry.kind)) (counted : IsCountedBy (block_with layout.blocks id) entry)
       (hold : Hold) (hold_is : hold ≡ hold_in entry) (new : Layout)
       (none : IfNone (block_with layout.blocks id) (new ≡ layout)) (some : IfSome (block_with layout.blocks id) (λ b. new ≡ record layout { blocks = replaced (record b { hold = hold }) layout.blocks })) (ordered : IsOrdered new) where
     -- its entry before, of the same kind
-    entry_before : (d : Entry) × (get_or entries id None ≡ Some d) × (d.kind ≡ entry.kind) × (IsTrue (is_fixed entry.kind) → entry.locks ≡ 0)
+    entry_before : (d : Entry) × (get_or entries id None ≡ Some d) × (d.kind ≡ entry.kind)
     entry_before = from (get_or entries id None) refl asked
       where
-        from : (e : Option Entry) → get_or entries id None ≡ e → IsSomeAnd e (λ e. (e.kind ≡ entry.kind) × (IsTrue (is_fixed entry.kind) → entry.locks ≡ 0))
-            → (d : Entry) × (get_or entries id None ≡ Some d) × (d.kind ≡ entry.kind) × (IsTrue (is_fixed entry.kind) → entry.locks ≡ 0)
+        from : (e : Option Entry) → get_or entries id None ≡ e → IsSomeAnd e (λ e. e.kind ≡ entry.kind) → (d : Entry) × (get_or entries id None ≡ Some d) × (d.kind ≡ entry.kind)
         from None e h = absurd h
-        from (Some d) e h = (d, e, h.0, h.1)
+        from (Some d) e h = (d, e, h)
 
     lt_entry : id < length entries
     lt_entry = in_list entries id entry_before.0 entry_before.1
@@ -189,12 +188,16 @@ module _ {entries : List (Option Entry)} {layout : Layout} {uses : Uses} {marks 
     abbrev held : Block → Block
     held x = record x { hold = hold_in entry }
 
-    together : (b : Option Block) → GoTogether (Some entry) (option_map held b)
-    together b = record { holds = from b; fixed = (byte, entry_before.3) }
+    together : (b : Option Block) → IsCountedBy b entry → GoTogether (Some entry) (option_map held b)
+    together b counted = record { holds = from b; counted = (counted.0, counted.1, λ none. counted.2 (unheld b none)) }
       where
         from : (b : Option Block) (y : Block) → option_map held b ≡ Some y → y.hold ≡ hold_in entry
         from None y e = cc
         from (Some x) y e = let same : held x ≡ y = cc in ap (λ (z : Block). z.hold) (sym same)
+
+        unheld : (b : Option Block) → option_map held b ≡ None → b ≡ None
+        unheld None e = refl
+        unheld (Some x) e = cc
 
     set_changes : ChangesOne id (option_map held (block_with layout.blocks id)) layout new
     set_changes = from (block_with layout.blocks id) refl none some
@@ -231,7 +234,7 @@ module _ {entries : List (Option Entry)} {layout : Layout} {uses : Uses} {marks 
         has_same (Some x) = refl
 
     pub sound_set : IsSound (table_of (set entries id (Some entry)) new uses.ids)
-    sound_set = (put_parts some_parts id lt_entry entry (together (block_with layout.blocks id)) set_changes same_listed (ordered_arranged new ordered) (same_place (block_with layout.blocks id))).sound
+    sound_set = (put_parts some_parts id lt_entry entry (together (block_with layout.blocks id) counted) set_changes same_listed (ordered_arranged new ordered) (same_place (block_with layout.blocks id))).sound
 
     pub range_set : (new.lo ≡ layout.lo) × (new.hi ≡ layout.hi) × (new.grain ≡ layout.grain) × (new.cap ≡ layout.cap)
     range_set = (set_changes.lo, set_changes.hi, set_changes.grain, set_changes.cap)
@@ -243,11 +246,11 @@ module _ {entries : List (Option Entry)} {layout : Layout} {uses : Uses} {marks 
         let parts = beside memory high in
         subst (λ p. IfSome p (λ (o : Object). heap_of (set entries id (Some entry)) new uses.ids memory ≡ with_object (heap_of entries layout uses.ids memory) id (record o { locks = entry.locks })))
         (sym (object_here parts id ∙ ap (option_map (object_in layout.blocks memory id)) d.1))
-        (put_heap parts id lt_entry entry (together (block_with layout.blocks id)) set_changes same_listed (ordered_arranged new ordered) (same_place (block_with layout.blocks id))
+        (put_heap parts id lt_entry entry (together (block_with layout.blocks id) counted) set_changes same_listed (ordered_arranged new ordered) (same_place (block_with layout.blocks id))
         ∙ (λ i. with_object (heap_of entries layout uses.ids memory) id (record { kind = sym d.2 i; locks = entry.locks; bytes = same_bytes memory (block_with layout.blocks id) i })))
 
-  -- An object gives up its bytes.
-  module _ (id : ℕ) (e : Entry) (there : get_or entries id None ≡ Some e) (new : Layout) (value : new ≡ record layout { blocks = layouts.without id layout.blocks }) (ordered : IsOrdered new) where
+  -- An object that isn't locked gives up its bytes.
+  module _ (id : ℕ) (e : Entry) (there : get_or entries id None ≡ Some e) (unlocked : e.locks ≡ 0) (new : Layout) (value : new ≡ record layout { blocks = layouts.without id layout.blocks }) (ordered : IsOrdered new) where
     lt_there : id < length entries
     lt_there = in_list entries id e there
 
@@ -255,7 +258,10 @@ module _ {entries : List (Option Entry)} {layout : Layout} {uses : Uses} {marks 
     given_ordered = subst IsOrdered value ordered
 
     no_block_left : GoTogether (Some e) None
-    no_block_left = record { holds = λ x h. cc; fixed = subst (λ p. IfSome p (λ d. (d.locks ≤ 255) × (IsTrue (is_fixed d.kind) → d.locks ≡ 0))) there (kept.sound.fixed id) }
+    no_block_left = record { holds = λ x h. cc; counted = (counted.0, counted.1, λ _. unlocked) }
+      where
+        counted : IsCountedBy (block_with layout.blocks id) e
+        counted = subst (λ p. IfSome p (IsCountedBy (block_with layout.blocks id))) there (kept.sound.counted id)
 
     block_goes : ChangesOne id None layout (record layout { blocks = layouts.without id layout.blocks })
     block_goes = record { cap = refl; lo = refl; hi = refl; grain = refl; blocks = with-without id layout.blocks }

@@ -2,7 +2,7 @@
 ghost use Rattle.std.specs.Prelude.{◌≡◌, ◌<◌, ◌≤◌, ℕ, Ok, Err, Some, None, length, IfErr, IfSome, IfNone, IsSome, IsSomeAnd, IsTrue, true, OnOk, if◌then◌else◌};
 ghost use Rattle.w16_model.specs.Heap.{is_discardable, is_fixed, object_at};
 ghost use Rattle.w16_model.specs.Single.{Enters, after_free, after_release, after_lock, after_unlock, after_discard, after_touch, after_newest, after_oldest, refused_order};
-ghost use Rattle.w16_model.specs.Table.{block_with, entry_at, hold_in};
+ghost use Rattle.w16_model.specs.Table.{block_with, entry_at, hold_in, IsCountedBy};
 ghost use Rattle.w16_model.specs.Edit as edit;
 ghost use Rattle.w16_model.specs.Prefix.{is_member};
 ghost use Rattle.w16_blocks.specs.Layout.{IsOrdered, without, replaced};
@@ -147,7 +147,8 @@ impl Arena {
 
     /// Sets the lock count of an object of this kind.
     fn set_locks(&mut self, id: u32, kind: Kind, locks: u8)
-        requires { IsSomeAnd (entry_at self.old.table id) (λ e. (e.kind ≡ kind) × (IsTrue (is_fixed kind) → locks ≡ 0)) }
+        requires kind { IsSomeAnd (entry_at self.old.table id) (λ e. e.kind ≡ kind) }
+        requires counted { IsCountedBy (block_with self.old.table.blocks id) (record { kind = kind; locks = locks }) }
         ensures { Steps self.old self.new (λ old new. IfSome (object_at old id) (λ o. new ≡ edit.with_object old id (record o { locks = locks }))) }
     {
         let entry = Entry { kind, locks };
@@ -155,9 +156,9 @@ impl Arena {
         self.entries[id as usize] = Some(entry);
     }
 
-    /// An object gives up its bytes, if it has any. Its id, kind and locks stay.
+    /// An object that isn't locked gives up its bytes, if it has any. Its id and kind stay.
     pub(crate) fn give_up(&mut self, id: u32)
-        requires { IsSome (entry_at self.old.table id) }
+        requires { IsSomeAnd (entry_at self.old.table id) (λ e. e.locks ≡ 0) }
         ensures steps { Steps self.old self.new (λ old new. new ≡ edit.absent old id) }
         ensures blocks { self.new.table.blocks ≡ without id self.old.table.blocks }
         ensures order { self.new.table.order ≡ edit.without id self.old.table.order }
