@@ -27,3 +27,4 @@ pub mod Trials
 pub mod Prefixes
 pub mod Answered
 pub mod Outcomes
+pub mod Cuts
