@@ -136,7 +136,7 @@ fn shown(alloc: Global, arena: &Arena) -> Result<Vec<Item>, AllocError> {
     let mut items = Vec::new(alloc);
     let mut from = 0;
     for _ in 0..20 {
-        let Some(item) = arena.walk(from) else {
+        let Some(item) = arena.walk_from(from) else {
             return Ok(items);
         };
         items.push(item)?;

@@ -2,7 +2,7 @@
 ghost use Rattle.std.specs.Prelude.{◌≡◌, ◌+◌, ◌^◌, ◌<◌, ◌≤◌, ◌⊎◌, ℕ, List, length, All, IfNone, IfSome, IsSomeAnd, MatchOption, None, Some, slice_get};
 ghost use Rattle.w16_model.specs.Gap.{IsHole, block_end};
 ghost use Rattle.w16_model.specs.Table.{entry_at, heap_in, IsSound};
-ghost use Rattle.w16_model.specs.Walk.{IsFirstItem, by_its_id};
+ghost use Rattle.w16_model.specs.Walk.{IsFirstItem, IsItemAt, by_its_id};
 ghost use Rattle.w16_blocks.specs.Layout.{IsOrdered, rank};
 
 use crate::Arena;
@@ -10,9 +10,22 @@ use w16_blocks::Blocks;
 use w16_model::{Item, Owner, Span};
 
 impl Arena {
-    /// The first part of the heap that begins at an address or above it, an object's bytes or a hole; none behind the last. Objects are
-    /// named by their ids. A whole walk asks from the low bound on, and then each time from one above where the last part begins.
-    pub fn walk(&self, from: u32) -> Option<Item>
+    /// The i-th part of the heap by address, from 0 on, an object's bytes or a hole; none behind the last. Objects are named by their ids. It
+    /// goes over the parts before it: a whole walk is quicker by [`Arena::walk_from`].
+    pub fn walk(&self, i: usize) -> Option<Item>
+        ensures { (memory : List ℕ) → self.now.table.hi ≤ length memory → IsItemAt by_its_id (heap_in self.now.table memory) i result }
+    {
+        let mut from = 0;
+        for _ in 0..i {
+            let item = self.walk_from(from)?;
+            from = item.at + 1;
+        }
+        self.walk_from(from)
+    }
+
+    /// The first part of the heap that begins at an address or above it; none behind the last. A whole walk asks from 0 on, and then each
+    /// time from one above where the last part begins.
+    pub fn walk_from(&self, from: u32) -> Option<Item>
         ensures found { (memory : List ℕ) → self.now.table.hi ≤ length memory → IsFirstItem by_its_id (heap_in self.now.table memory) from result }
         ensures inside { IfSome result (λ item. (0 < item.size) × (item.at + item.size < 2 ^ 32)) }
     {

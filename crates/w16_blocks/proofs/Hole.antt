@@ -5,12 +5,12 @@ use Rattle.std.specs.List.{find}
 use Rattle.std.proofs.lemmas.Bool.{lt-leb, lt-ltb, le-ltb, cases_lt}
 use Rattle.w16_model.specs.declared.Block.{Block}
 use Rattle.w16_model.specs.declared.Span.{Span}
-use Rattle.w16_model.specs.Gap.{IsLaid, block_end, holes, first_from, is_any}
+use Rattle.w16_model.specs.Gap.{IsLaid, block_end, holes, starts, first_from, is_any}
 use Rattle.w16_model.proofs.Laid.{holes-cons, first_after, laid_each}
 use Rattle.w16_model.proofs.Gaps.{Each-at}
 use Rattle.w16_model.proofs.Tables.{member_with}
 use Rattle.w16_model.specs.Table.{block_with}
-use Rattle.std.proofs.Common.{min}
+use Rattle.std.proofs.Common.{min, max, filter, map}
 use Rattle.std.specs.List.{slice_get}
 use Rattle.w16_blocks.specs.Layout.{Layout, IsOrdered, rank}
 
@@ -32,6 +32,25 @@ short_first n lo hi x xs laid less = ap (find (is_long n)) (holes-cons lo hi x x
 
 pub long_first : (n lo hi : ℕ) (x : Block) (xs : List Block) → IsLaid lo hi (x ∷ xs) → 0 < n → n ≤ x.at - lo → find (is_long n) (holes lo hi (x ∷ xs)) ≡ Some (record { from = lo; to = x.at })
 long_first n lo hi x xs laid some le = ap (find (is_long n)) (holes-cons lo hi x xs laid) ∙ long_one n lo x.at (holes (block_end x) hi xs) some le
+
+-- Each hole has a byte, so one that has at least none has at least one.
+long_span : (n : ℕ) (s : Span) → s.from < s.to → is_long (max n 1) s ≡ is_long n s
+long_span n s lt = elim (cases_lt n 1) [
+  | inl none ↦ let e : max n 1 ≡ 1 = omega arith in let zero : n ≡ 0 = omega arith in rw (e, zero, le-leb 1 (s.to - s.from) (omega arith), le-leb 0 (s.to - s.from) (omega arith)) refl
+  | inr some ↦ let e : max n 1 ≡ n = omega arith in rw e refl
+]
+
+pub some_byte : (n : ℕ) (ss : List Span) → find (is_long (max n 1)) (filter (λ s. nat_lt s.from s.to) ss) ≡ find (is_long n) (filter (λ s. nat_lt s.from s.to) ss)
+some_byte n [] = refl
+some_byte n (s ∷ ss) = elim (cases_lt s.from s.to) [
+  | inl lt ↦ rw (lt-ltb s.from s.to lt, long_span n s lt) (ap (λ (o : Option Span). cond (is_long n s) (Some s) o) (some_byte n ss))
+  | inr le ↦ rw (le-ltb s.from s.to le) (some_byte n ss)
+]
+
+pub some_hole : (l : Layout) (n m : ℕ) (found : Option ℕ) → m ≡ max n 1 → found ≡ option_map (λ (s : Span). s.from) (find (is_long m) (holes l.lo l.hi l.blocks)) → found ≡ option_map (λ (s : Span). s.from) (find (is_long n) (holes l.lo l.hi l.blocks))
+some_hole l n m found e f =
+    f ∙ ap (λ k. option_map (λ (s : Span). s.from) (find (is_long k) (holes l.lo l.hi l.blocks))) e
+    ∙ ap (option_map (λ (s : Span). s.from)) (some_byte n (map (λ a. record { from = a; to = first_from is_any l.hi l.blocks a }) (starts is_any l.lo l.blocks)))
 
 -- One turn of a pass over the blocks.
 module _ (n hi : ℕ) (bs : List Block) (i : ℕ) (d : Block) (lt : i < length bs) (from : ℕ) (total : Option Span) (some : 0 < n)

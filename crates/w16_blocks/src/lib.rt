@@ -190,13 +190,12 @@ impl Blocks {
         }
     }
 
-    /// Where the lowest hole of at least `n` bytes begins.
+    /// Where the lowest hole of at least `n` bytes begins. Each hole has a byte, so for 0 it is the lowest there is.
     pub fn hole_for(&self, n: u32) -> Option<u32>
-        requires { 0 < n }
         ensures value { result ≡ option_map (λ s. s.from) (find (λ s. nat_le n (s.to - s.from)) (holes self.now.lo self.now.hi self.now.blocks)) }
         ensures ordered { IsOrdered self.now }
     {
-        lowest_hole(&self.blocks, self.lo, self.hi, n)
+        lowest_hole(&self.blocks, self.lo, self.hi, n.max(1))
     }
 
     /// The i-th block by address.

@@ -40,10 +40,13 @@ fn looks_up(rt: HostRuntime) -> Result<(), Fail> {
 
 #[test]
 fn finds_holes(rt: HostRuntime) -> Result<(), Fail> {
-    let blocks = three(&rt)?;
+    let mut blocks = three(&rt)?;
     assert_eq!(rt; blocks.hole_for(32), Some(0));
     assert_eq!(rt; blocks.hole_for(33), Some(64));
     assert_eq!(rt; blocks.hole_for(65), None);
+    blocks.insert(block(1, 0, 32, Hold::Pinned));
+    assert_eq!(rt; blocks.hole_for(0), Some(64));
+    assert_eq!(rt; blocks.hole_for(1), Some(64));
     assert_eq!(rt; blocks.free_after(0), 64);
     assert_eq!(rt; blocks.free_after(2), 0);
     assert_eq!(rt; blocks.free_after(3), 64);

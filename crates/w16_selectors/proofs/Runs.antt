@@ -1,5 +1,5 @@
 -- What marks tell of slots, and where a run of free ones begins.
-use Rattle.std.proofs.Common.{◌≡◌, ℕ, ◌+◌, ◌-◌, ◌<◌, ◌≤◌, List, length, get_or, drop, take, Option, Some, None, is_some, IsSome, option_map, refl, sym, ap, ◌∙◌, subst, arith, inl, inr, length-take-le, length-drop}
+use Rattle.std.proofs.Common.{◌≡◌, ℕ, ◌+◌, ◌-◌, ◌<◌, ◌≤◌, List, length, get_or, drop, take, Option, Some, None, is_some, IsSome, option_map, unwrap_or, refl, sym, ap, ◌∙◌, subst, arith, inl, inr, length-take-le, length-drop}
 use Rattle.std.proofs.lemmas.Bool.{cases_lt, false≢true, eqb-true, eq-eqb}
 use Rattle.std.proofs.lemmas.List.{get_or-drop, get_or-take, length-map}
 use Rattle.std.proofs.Math.ListN.{get_or-map}
@@ -69,18 +69,42 @@ first_taken table marks from to kept order inside r h =
     (λ slot low high e. taken_mark (descriptor_at table slot) e)
     (λ slot taken. mark_of_taken (descriptor_at table slot) taken) r h
 
--- no run begins at a taken slot, nor from the slots before it that it would reach
-pub no_run : (table : Table) (from first taken count : ℕ)
+-- No run begins below a place. A taken slot from there on, so near that each run up to it would reach it, puts the place behind it, and free
+-- slots only come from the next one on.
+pub no_run : (table : Table) (from taken next count : ℕ)
     → ((lower : ℕ) → lower < from → IsFreeRun table lower count → ⊥)
-    → Nowhere (IsFree table) from first → taken < first + count → IsSome (descriptor_at table taken) → 0 < count
-    → (lower : ℕ) → lower < taken + 1 → IsFreeRun table lower count → ⊥
-no_run table from first taken count below none near is some lower lt run = elim (cases_lt lower from) [
+    → from ≤ taken → taken < from + count → IsSome (descriptor_at table taken) → Nowhere (IsFree table) (taken + 1) next
+    → (lower : ℕ) → lower < next → IsFreeRun table lower count → ⊥
+no_run table from taken next count below low near is none lower lt run = elim (cases_lt lower from) [
   | inl before ↦ below lower before run
-  | inr after ↦ elim (cases_lt lower first) [
-    | inl early ↦ none lower after early (let e : lower + 0 ≡ lower = omega arith in subst (IsFree table) e (run 0 some))
+  | inr after ↦ elim (cases_lt taken lower) [
+    | inl behind ↦ none lower (omega arith) lt (let e : lower + 0 ≡ lower = omega arith in subst (IsFree table) e (run.1 0 (omega arith)))
     | inr late ↦
         let e : lower + (taken - lower) ≡ taken = omega arith in
-        let free : IsFree table taken = subst (IsFree table) e (run (taken - lower) (omega arith)) in
+        let free : IsFree table taken = subst (IsFree table) e (run.1 (taken - lower) (omega arith)) in
         false≢true (ap is_some (sym free.2) ∙ is)
   ]
 ]
+
+-- nor where too few slots are left
+pub none_left : (table : Table) (from count : ℕ) → ((lower : ℕ) → lower < from → IsFreeRun table lower count → ⊥) → length table - from < count → (first : ℕ) → IsFreeRun table first count → ⊥
+none_left table from count below few first run = elim (cases_lt first from) [
+  | inl before ↦ below first before run
+  | inr after ↦ elim (cases_lt first (length table)) [
+    | inl inside ↦
+        let e : first + (length table - first) ≡ length table = omega arith in
+        let free : IsFree table (length table) = subst (IsFree table) e (run.1 (length table - first) (omega arith)) in
+        absurd (omega (arith, free.1))
+    | inr past ↦ let free : IsFree table (first + 0) = run.1 0 (omega arith) in absurd (omega (arith, free.1))
+  ]
+]
+
+-- Where free slots go on: at the first that was found, or behind the last slot.
+pub record GoesOn (Q : ℕ → Type 0) (from to next : ℕ) : Type 0 where
+  pub low : from ≤ next
+  pub high : next ≤ to
+  pub none : Nowhere Q from next
+
+pub goes_on : (Q : ℕ → Type 0) (from to : ℕ) (r : Option ℕ) → from ≤ to → IsFirst Q from to r → GoesOn Q from to (unwrap_or r to)
+goes_on Q from to None le h = record { low = le; high = omega arith; none = h }
+goes_on Q from to (Some j) le h = let first = h.0 in record { low = first.low; high = omega (arith, first.high); none = first.before }

@@ -18,9 +18,9 @@ descriptor_at table slot = slice_index_or table slot None
 abbrev pub IsFree : Table → ℕ → Type 0
 IsFree table slot = (FIRST_SLOT ≤ slot) × (slot < length table) × (descriptor_at table slot ≡ None)
 
--- so many slots in a row that aren't taken
+-- so many slots in a row that aren't taken, from a slot on
 abbrev pub IsFreeRun : Table → ℕ → ℕ → Type 0
-IsFreeRun table first count = (k : ℕ) → k < count → IsFree table (first + k)
+IsFreeRun table first count = (FIRST_SLOT ≤ first) × ((k : ℕ) → k < count → IsFree table (first + k))
 
 -- a slot's descriptor before its segment has bytes
 abbrev pub unset : Descriptor

@@ -76,9 +76,9 @@ impl Selectors {
         Ok(Selectors { descriptors, marks })
     }
 
-    /// The first slot of the lowest run of `count` free slots, none where no run is so long. It goes over the slots once.
+    /// The first slot of the lowest run of `count` free slots, none where no run is so long. A run of none begins at the first slot. It goes
+    /// over the slots once.
     pub fn find_run(&self, count: u32) -> Option<u16>
-        requires { 0 < count }
         ensures found { IfSome result (λ first. IsFreeRun self.now first count) }
         ensures lowest { IfSome result (λ first. (lower : ℕ) → lower < first → IsFreeRun self.now lower count → ⊥) }
         ensures none { IfNone result ((first : ℕ) → IsFreeRun self.now first count → ⊥) }
@@ -86,16 +86,13 @@ impl Selectors {
     {
         let slots = self.descriptors.len();
         let wanted = count as usize;
-        let mut from = FIRST_SLOT as usize;
-        while let Some(first) = self.next_free(from) {
-            if slots - first < wanted {
-                return None;
-            }
-            // Marks behind the run don't matter. For a run of one slot there is none to read.
-            match self.next_taken(first + 1, first + wanted) {
-                Some(taken) => from = taken + 1,
-                None => return Some(first as u16),
-            }
+        let mut first = FIRST_SLOT as usize;
+        while wanted <= slots - first {
+            // Marks behind the run don't matter.
+            let Some(taken) = self.next_taken(first, first + wanted) else {
+                return Some(first as u16);
+            };
+            first = self.next_free(taken + 1).unwrap_or(slots);
         }
         None
     }

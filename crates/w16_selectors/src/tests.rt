@@ -29,6 +29,7 @@ fn finds_runs(rt: HostRuntime) -> Result<(), Fail> {
     assert_eq!(rt; selectors.find_run(1), Some(32));
     assert_eq!(rt; selectors.find_run(6), Some(32));
     assert_eq!(rt; selectors.find_run(7), None);
+    assert_eq!(rt; selectors.find_run(0), Some(32));
     selectors.take(34);
     assert_eq!(rt; selectors.find_run(1), Some(32));
     assert_eq!(rt; selectors.find_run(3), Some(35));

@@ -523,8 +523,8 @@ fn answers_calls(rt: HostRuntime) -> Result<(), Fail> {
 fn walks_a_heap(rt: HostRuntime) -> Result<(), Fail> {
     let mut arena = six(&rt, rt.alloc())?;
     let mut region = Region::new(rt.alloc(), 256)?;
-    assert_eq!(rt; arena.walk(0), Some(hole!(0, 256)));
-    assert_eq!(rt; arena.walk(1), None);
+    assert_eq!(rt; arena.walk_from(0), Some(hole!(0, 256)));
+    assert_eq!(rt; arena.walk_from(1), None);
     act(
         &rt,
         &mut arena,
@@ -545,19 +545,24 @@ fn walks_a_heap(rt: HostRuntime) -> Result<(), Fail> {
     );
     assert_eq!(rt; arena.lock(2), Ok(()));
     arena.release(1);
+    assert_eq!(rt; arena.walk_from(0), Some(object!(0, 32, 0, Kind::Fixed, 0)));
+    assert_eq!(rt; arena.walk_from(1), Some(hole!(32, 64)));
+    assert_eq!(rt; arena.walk_from(32), Some(hole!(32, 64)));
+    assert_eq!(rt;
+        arena.walk_from(33),
+        Some(object!(96, 32, 2, Kind::Discardable, 1))
+    );
+    assert_eq!(rt;
+        arena.walk_from(96),
+        Some(object!(96, 32, 2, Kind::Discardable, 1))
+    );
+    assert_eq!(rt; arena.walk_from(97), Some(hole!(128, 128)));
+    assert_eq!(rt; arena.walk_from(129), None);
     assert_eq!(rt; arena.walk(0), Some(object!(0, 32, 0, Kind::Fixed, 0)));
     assert_eq!(rt; arena.walk(1), Some(hole!(32, 64)));
-    assert_eq!(rt; arena.walk(32), Some(hole!(32, 64)));
-    assert_eq!(rt;
-        arena.walk(33),
-        Some(object!(96, 32, 2, Kind::Discardable, 1))
-    );
-    assert_eq!(rt;
-        arena.walk(96),
-        Some(object!(96, 32, 2, Kind::Discardable, 1))
-    );
-    assert_eq!(rt; arena.walk(97), Some(hole!(128, 128)));
-    assert_eq!(rt; arena.walk(129), None);
+    assert_eq!(rt; arena.walk(3), Some(hole!(128, 128)));
+    assert_eq!(rt; arena.walk(4), None);
+    assert_eq!(rt; arena.walk(9), None);
     Ok(())
 }
 
@@ -577,8 +582,8 @@ fn walks_a_full_heap(rt: HostRuntime) -> Result<(), Fail> {
         &mut region,
         Step::Alloc(0, 160, Kind::Moveable, AS_IT_STANDS),
     );
-    assert_eq!(rt; arena.walk(0), Some(object!(0, 96, 3, Kind::Moveable, 0)));
-    assert_eq!(rt; arena.walk(1), Some(object!(96, 160, 0, Kind::Moveable, 0)));
-    assert_eq!(rt; arena.walk(97), None);
+    assert_eq!(rt; arena.walk_from(0), Some(object!(0, 96, 3, Kind::Moveable, 0)));
+    assert_eq!(rt; arena.walk_from(1), Some(object!(96, 160, 0, Kind::Moveable, 0)));
+    assert_eq!(rt; arena.walk_from(97), None);
     Ok(())
 }

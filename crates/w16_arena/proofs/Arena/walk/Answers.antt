@@ -1,27 +1,22 @@
--- The first part is the hole before the next block, or that block.
-use Rattle.std.proofs.Common.{◌-◌, ◌≤◌, ◌<◌, ◌+◌, ℕ, IfSome, List, length, Some, None, slice_get, subst}
+use Rattle.std.proofs.Common.{◌≡◌, None, slice_get, ap, ◌∙◌, arith}
+use Rattle.w16_model.specs.declared.Item.{Item}
 use Rattle.w16_model.specs.Table.{heap_in}
-use Rattle.w16_model.specs.Walk.{IsFirstItem, by_its_id}
-use Rattle.w16_arena.specs.State.{State, table_of}
-use Rattle.w16_arena.proofs.Walks.{IsPartAt, first_hole, first_block, part_inside}
+use Rattle.w16_model.specs.Walk.{by_its_id}
+use Rattle.w16_model.proofs.Cuts.{told_none, told_more, told_at, told_past}
 use Rattle.w16_arena.proofs.Arena.walk.Goals as goal
 
-pub returns-in-Some-clause-found : goal.returns-in-Some-clause-found
-returns-in-Some-clause-found c =
-    subst (λ (s : State). (memory : List ℕ) → s.table.hi ≤ length memory → IsFirstItem by_its_id (heap_in s.table memory) c.args.from (Some (record { at = c.in-Some.hole.from; size = c.in-Some.hole.to - c.in-Some.hole.from; owner = None })))
-    c.self.view_is
-    (λ memory whole. first_hole c.self.invariant.sound memory whole c.args.from c.in-Some.hole.from c.in-Some.hole.to c.in-Some.ensures.hole c.in-Some.ensures.lowest.0 c.in-Some.ensures.lowest.1)
+pub loop-init : goal.loop-init
+loop-init c = λ memory whole. told_none by_its_id (heap_in c.args.self.now.table memory)
 
-pub returns-clause-found : goal.returns-clause-found
-returns-clause-found c =
-    subst (λ (s : State). IsPartAt s.table (slice_get s.table.blocks c.rank-i.result) c.item_at.result → (memory : List ℕ) → s.table.hi ≤ length memory → IsFirstItem by_its_id (heap_in s.table memory) c.args.from c.item_at.result)
-    c.self.view_is
-    (λ part memory whole. first_block c.self.invariant.sound memory whole c.args.from c.rank-i.result c.item_at.result c.rank-i.ensures.value c.in_default.ensures.none part)
-    c.item_at.ensures.value
+pub loop-preserved : goal.loop-preserved
+loop-preserved c = λ memory whole. told_more by_its_id (heap_in c.args.self.now.table memory) c.loop.counter c.loop.from (c.loop.invariant memory whole) c.in_ok-item.item (c.in_ok-item.ensures.found memory whole)
 
-pub returns-clause-inside : goal.returns-clause-inside
-returns-clause-inside c =
-    subst (λ (s : State). IsPartAt s.table (slice_get s.table.blocks c.rank-i.result) c.item_at.result → IfSome c.item_at.result (λ item. (0 < item.size) × (item.at + item.size < 4294967296)))
-    c.self.view_is
-    (part_inside (table_of c.self.inside.entries.items c.self.inside.blocks c.self.inside.order.ids) c.self.invariant.sound c.rank-i.ensures.ordered.small c.rank-i.result c.item_at.result)
-    c.item_at.ensures.value
+pub returns-in_err-item : goal.returns-in_err-item
+returns-in_err-item c = λ memory whole items walk. c.from_residual.ensures
+    ∙ told_past by_its_id (heap_in c.args.self.now.table memory) c.loop.counter c.loop.from (c.loop.invariant memory whole) (c.in_err-item.ensures.found memory whole) c.args.i (let lt = c.loop-test.true in omega arith) items walk
+
+pub returns : goal.returns
+returns c = λ memory whole items walk.
+    let all : c.loop.counter ≡ c.args.i = omega arith in
+    told_at by_its_id (heap_in c.args.self.now.table memory) c.loop.counter c.loop.from (c.loop.invariant memory whole) c.walk_from-2.result (c.walk_from-2.ensures.found memory whole) items walk
+    ∙ ap (λ k. slice_get items k) all
