@@ -24,12 +24,12 @@ module _ {h : Holding} {xs : List (Option Attributes)} {t : selectors.Table} {m 
   -- a free run of one slot is a free slot
   pub found_free : (r : Option ℕ) → IfSome r (λ first. IsFreeRun t first 1) → IfSome r (λ slot. IsFreeSlot w slot)
   found_free None run = tt
-  found_free (Some slot) run = subst (λ v. IsFreeSlot v slot) shown (free_slot h xs t are slot (let first : slot + 0 ≡ slot = omega arith in subst (selectors.IsFree t) first (run 0 (omega arith))))
+  found_free (Some slot) run = subst (λ v. IsFreeSlot v slot) shown (free_slot h xs t are slot (let first : slot + 0 ≡ slot = omega arith in subst (selectors.IsFree t) first (run.1 0 (omega arith))))
 
   -- and where there is none, none is free
   pub none_free : (r : Option ℕ) → IfNone r ((first : ℕ) → IsFreeRun t first 1 → ⊥) → IfNone r ((slot : ℕ) → IsFreeSlot w slot → ⊥)
   none_free (Some first) none = tt
-  none_free None none = λ slot free. none slot (λ k lt. let first : slot ≡ slot + k = omega arith in subst (selectors.IsFree t) first (free_selector h xs t are slot (subst (λ v. IsFreeSlot v slot) (sym shown) free)))
+  none_free None none = λ slot free. none slot (free.0.0, λ k lt. let first : slot ≡ slot + k = omega arith in subst (selectors.IsFree t) first (free_selector h xs t are slot (subst (λ v. IsFreeSlot v slot) (sym shown) free)))
 
 -- What GlobalAlloc answers, from a world in which nothing was moved last.
 module _ (w : World) (flags slot size : ℕ) (new : World) (free : IsFreeSlot w slot) where

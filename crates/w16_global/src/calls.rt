@@ -4,7 +4,7 @@ ghost use Rattle.std.specs.FinMap as finmap;
 ghost use Rattle.w16_model.specs.Heap.{is_discardable};
 ghost use Rattle.w16_model.specs.Machine.{GlobalAllocs, GlobalCompacts, Gives, locks_at, is_shared};
 ghost use Rattle.w16_model.specs.Machine as machine;
-ghost use Rattle.w16_model.specs.Walk.{IsFirstItem};
+ghost use Rattle.w16_model.specs.Walk.{IsFirstItem, IsItemAt, IsItemCount};
 ghost use Rattle.w16_model.specs.World as world;
 ghost use Rattle.w16_model.specs.World.{IsFreeSlot};
 
@@ -176,14 +176,40 @@ impl Global16 {
         }
     }
 
-    /// The first part of the heap that begins at an address or above it, an object's bytes or a hole; objects are named by their handles. None
-    /// behind the last. A walk of the whole heap asks from 0 on, then behind the begin of each part (profile).
-    pub fn walk(&self, from: u32) -> Option<Item>
+    /// The i-th part of the heap by address, from 0 on, an object's bytes or a hole; objects are named by their handles. None behind the last.
+    /// It goes over the parts before it: a whole walk is quicker by [`Global16::walk_from`] (profile).
+    pub fn walk(&self, i: usize) -> Option<Item>
+        ensures { IsItemAt world.handle_of self.now.heap i result }
+    {
+        let mut from = 0;
+        for _ in 0..i {
+            let item = self.walk_from(from)?;
+            from = item.at + 1;
+        }
+        self.walk_from(from)
+    }
+
+    /// How many parts a walk has.
+    pub fn walk_len(&self) -> u32
+        ensures { IsItemCount world.handle_of self.now.heap result }
+    {
+        let mut from = 0;
+        let mut count = 0;
+        while let Some(item) = self.walk_from(from) {
+            from = item.at + 1;
+            count += 1;
+        }
+        count
+    }
+
+    /// The first part of the heap that begins at an address or above it; none behind the last. A walk of the whole heap asks from 0 on, then
+    /// behind the begin of each part.
+    pub fn walk_from(&self, from: u32) -> Option<Item>
         ensures found { IsFirstItem world.handle_of self.now.heap from result }
         ensures inside { IfSome result (λ item. (0 < item.size) × (item.at + item.size < 2 ^ 32)) }
         ensures words { IfSome result (λ item. IfSome item.owner (λ owner. owner.name < 2 ^ 16)) }
     {
-        let item = self.objects.walk(from)?;
+        let item = self.objects.walk_from(from)?;
         Some(Item {
             owner: item.owner.map(named),
             ..item

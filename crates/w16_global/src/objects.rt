@@ -80,11 +80,11 @@ impl Objects {
     }
 
     /// The first part of the heap that begins at an address or above it, named by ids.
-    pub fn walk(&self, from: u32) -> Option<Item>
+    pub fn walk_from(&self, from: u32) -> Option<Item>
         ensures found { IsFirstItem by_its_id self.now.heap from result }
         ensures inside { IfSome result (λ item. (0 < item.size) × (item.at + item.size < 2 ^ 32)) }
     {
-        self.arena.walk(from)
+        self.arena.walk_from(from)
     }
 
     /// A new object of so many bytes, a multiple of the grain, if there is room for it as the way has it.

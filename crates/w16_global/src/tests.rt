@@ -196,17 +196,21 @@ fn walks_by_address(rt: HostRuntime) -> Result<(), Fail> {
     assert_eq!(rt; heap.global_alloc(0x102, 32), 0x10E);
     assert_eq!(rt; heap.global_lock(0x10E), 0x010F_0000);
     assert_eq!(rt; heap.global_free(0x106), 0);
-    let hole = heap.walk(0).expect(&rt, "a hole");
+    let hole = heap.walk_from(0).expect(&rt, "a hole");
     assert_eq!(rt; hole.at, 0);
     assert_eq!(rt; hole.size, 32);
     assert!(rt; hole.owner.is_none());
-    let block = heap.walk(1).expect(&rt, "a block");
+    let block = heap.walk_from(1).expect(&rt, "a block");
     assert_eq!(rt; block.at, 32);
     assert_eq!(rt; block.size, 32);
     let owner = block.owner.expect(&rt, "its object");
     assert_eq!(rt; owner.name, 0x10E);
     assert_eq!(rt; owner.locks, 1);
-    assert_eq!(rt; heap.walk(33).expect(&rt, "a hole").at, 64);
-    assert!(rt; heap.walk(65).is_none());
+    assert_eq!(rt; heap.walk_from(33).expect(&rt, "a hole").at, 64);
+    assert!(rt; heap.walk_from(65).is_none());
+    assert_eq!(rt; heap.walk_len(), 3);
+    assert_eq!(rt; heap.walk(0), heap.walk_from(0));
+    assert_eq!(rt; heap.walk(2), heap.walk_from(33));
+    assert_eq!(rt; heap.walk(3), None);
     Ok(())
 }
