@@ -224,6 +224,12 @@ impl Global16 {
         self.moved as u64
     }
 
+    /// How many bytes of the memory were slid, filled or written by far accesses so far; the count stops at the largest `u64`. The world of
+    /// handles has no such count, so no clause tells it here: `w16_arena` and `w16_region` say what each step adds (profile).
+    pub fn written(&self) -> u64 {
+        self.objects.written()
+    }
+
     /// `GlobalSize`: the object's size in bytes; 0 for a bad handle or an absent object.
     pub fn global_size(&self, handle: u16) -> u32
         ensures { result ≡ machine.global_size self.now handle }

@@ -203,6 +203,11 @@ impl Objects {
         self.memory.view(at, n)
     }
 
+    /// How many bytes of the memory were slid, filled or lent to be written so far.
+    pub fn written(&self) -> u64 {
+        self.memory.written()
+    }
+
     /// Replaces bytes at an address, inside one object's.
     pub fn write(&mut self, at: u32, new: &[u8])
         requires { (id : ℕ) × IsInside self.old.heap id at (length new.now) }

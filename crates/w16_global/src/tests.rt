@@ -190,6 +190,23 @@ fn discards_no_more_than_needed(rt: HostRuntime) -> Result<(), Fail> {
 }
 
 #[test]
+fn counts_written_bytes(rt: HostRuntime) -> Result<(), Fail> {
+    let mut heap = Global16::new(rt.alloc(), 128, 16)?;
+    assert_eq!(rt; heap.written(), 0);
+    assert_eq!(rt; heap.global_alloc(0x42, 32), 0x106);
+    assert_eq!(rt; heap.global_alloc(2, 32), 0x10E);
+    assert_eq!(rt; heap.global_alloc(2, 32), 0x116);
+    assert_eq!(rt; heap.written(), 32);
+    assert_eq!(rt; heap.far_write(0x117, 0, &[0xA1, 0xB2]), Ok(()));
+    assert_eq!(rt; heap.written(), 34);
+    assert_eq!(rt; heap.global_free(0x10E), 0);
+    assert_eq!(rt; heap.global_alloc(2, 64), 0x10E);
+    assert_eq!(rt; heap.moved(), 32);
+    assert_eq!(rt; heap.written(), 66);
+    Ok(())
+}
+
+#[test]
 fn walks_by_address(rt: HostRuntime) -> Result<(), Fail> {
     let mut heap = Global16::new(rt.alloc(), 128, 16)?;
     assert_eq!(rt; heap.global_alloc(2, 32), 0x106);

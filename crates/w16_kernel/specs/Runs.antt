@@ -35,7 +35,7 @@ reply_of (replies.Dword n) = machine.Reply.Dword n
 reply_of (replies.Bytes bytes) = machine.Reply.Bytes bytes.items
 reply_of replies.Done = machine.Reply.Done
 reply_of (replies.Fault fault) = machine.Reply.Fault fault
-reply_of replies.Walk = machine.Reply.Walked
+reply_of (replies.Walk count) = machine.Reply.Walked count
 
 -- a call's numbers are those that a command may have
 abbrev pub IsCall : Call → Type 0

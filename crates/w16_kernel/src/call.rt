@@ -37,6 +37,6 @@ pub enum Reply {
     Bytes(Chunk),
     Done,
     Fault(FarFault),
-    /// The parts of the heap are asked by `Kernel::walk`.
-    Walk,
+    /// So many parts of the heap, which `Kernel::walk_at` tells one by one, and `Kernel::walk_from` from address to address.
+    Walk(u32),
 }

@@ -1,5 +1,5 @@
 //! The machine's state, and its steps.
-ghost use Rattle.std.specs.Prelude.{◌≡◌, ◌+◌, ◌^◌, ◌<◌, ◌≤◌, List, length, map, replicate, All, IfSome, IfOk, IsOk, OnErr};
+ghost use Rattle.std.specs.Prelude.{◌≡◌, ◌+◌, ◌^◌, ◌<◌, ◌≤◌, List, length, map, replicate, slice_get, All, IfSome, IfOk, IsOk, OnErr};
 ghost use Rattle.w16_model.specs.World.{World, empty_world, handle_of, selector_in, offset_in};
 ghost use Rattle.w16_model.specs.Machine.{Step, Gives, far_read, far_write};
 ghost use Rattle.w16_model.specs.Walk.{IsFirstItem, IsWorldWalk};
@@ -111,7 +111,7 @@ impl Kernel {
             Call::GlobalLRUNewest { handle } => Ok(Reply::Word(global.global_lru_newest(*handle))),
             Call::GlobalLRUOldest { handle } => Ok(Reply::Word(global.global_lru_oldest(*handle))),
             Call::Moved => Ok(Reply::Dword(global.moved() as u32)),
-            Call::Walk => Ok(Reply::Walk),
+            Call::Walk => Ok(Reply::Walk(global.walk_len())),
             Call::Read { pointer, count } => Ok(self.read(*pointer, *count)),
             Call::Write { pointer, bytes } => Ok(self.write(*pointer, bytes)),
             Call::Fill {
@@ -122,8 +122,16 @@ impl Kernel {
         }
     }
 
-    /// The first part of the heap that begins at an address or above it: an object's bytes, the object named by its handle, or a hole.
-    pub fn walk(&self, from: u32) -> Option<Item>
+    /// The i-th part of the heap by address, from 0 on: an object's bytes, the object named by its handle, or a hole. None behind the last. It
+    /// goes over the parts before it: a whole walk is quicker by [`Kernel::walk_from`].
+    pub fn walk_at(&self, i: usize) -> Option<Item>
+        ensures { (items : List Item) × IsWorldWalk self.now items × (result ≡ slice_get items i) }
+    {
+        self.global.walk(i)
+    }
+
+    /// The first part of the heap that begins at an address or above it; none behind the last.
+    pub fn walk_from(&self, from: u32) -> Option<Item>
         ensures found { IsFirstItem handle_of self.now.heap from result }
         ensures inside { IfSome result (λ item. (0 < item.size) × (item.at + item.size < 2 ^ 32)) }
         ensures words { IfSome result (λ item. IfSome item.owner (λ owner. owner.name < 2 ^ 16)) }
@@ -131,7 +139,7 @@ impl Kernel {
         // All parts together are the walk of the world.
         ensures whole { (items : List Item) × IsWorldWalk self.now items }
     {
-        self.global.walk(from)
+        self.global.walk_from(from)
     }
 
     /// Calls one after another, and their replies: a run of the machine. Where there is no memory for the replies, nothing was done.

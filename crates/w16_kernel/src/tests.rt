@@ -214,17 +214,20 @@ fn orders_and_walks(rt: HostRuntime) -> Result<(), Fail> {
         word(&mut kernel, Call::GlobalFree { handle: 0x116 }),
         Some(0)
     );
-    assert!(rt; matches!(answer(&mut kernel, &Call::Walk), Some(Reply::Walk)));
-    assert_eq!(rt; kernel.walk(0), discardable_at(0, 0x106));
-    assert_eq!(rt; kernel.walk(1), discardable_at(32, 0x10E));
+    assert!(rt; matches!(answer(&mut kernel, &Call::Walk), Some(Reply::Walk(3))));
+    assert_eq!(rt; kernel.walk_from(0), discardable_at(0, 0x106));
+    assert_eq!(rt; kernel.walk_from(1), discardable_at(32, 0x10E));
     assert_eq!(rt;
-        kernel.walk(33),
+        kernel.walk_from(33),
         Some(Item {
             at: 64,
             size: 32,
             owner: None
         })
     );
-    assert_eq!(rt; kernel.walk(65), None);
+    assert_eq!(rt; kernel.walk_from(65), None);
+    assert_eq!(rt; kernel.walk_at(1), discardable_at(32, 0x10E));
+    assert_eq!(rt; kernel.walk_at(2), kernel.walk_from(33));
+    assert_eq!(rt; kernel.walk_at(3), None);
     Ok(())
 }

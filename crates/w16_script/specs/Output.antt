@@ -14,7 +14,7 @@ use Rattle.w16_script.specs.Printed.{reply_text, walk_text, error_text}
 
 -- what is printed for a reply, in the world that its command left: for `Walked` the walk of that world
 abbrev pub Shows : World → machine.Reply → List ℕ → Type 0
-Shows world machine.Reply.Walked output = (items : List Item) × IsWorldWalk world items × (output ≡ walk_text items)
+Shows world (machine.Reply.Walked count) output = (items : List Item) × IsWorldWalk world items × (output ≡ walk_text items)
 Shows world reply output = output ≡ reply_text reply
 
 -- what a line that says this prints, where its command, if it is one, is the only event

@@ -31,7 +31,7 @@ body_of (machine.Reply.Dword n) = encode_lower (to_be_bytes w32 n)
 body_of (machine.Reply.Bytes bytes) = codes "bytes" ++ digits_behind bytes
 body_of machine.Reply.Done = codes "ok"
 body_of (machine.Reply.Fault fault) = codes "fault " ++ fault_text fault
-body_of machine.Reply.Walked = codes "end"
+body_of (machine.Reply.Walked count) = codes "end"
 
 -- what is printed for a reply
 abbrev pub reply_text : machine.Reply → List ℕ
@@ -57,6 +57,10 @@ owner_text None = codes "free"
 abbrev pub item_text : Item → List ℕ
 item_text item = encode_lower (to_be_bytes w32 item.at) ++ codes " " ++ encode_lower (to_be_bytes w32 item.size) ++ codes " " ++ owner_text item.owner ++ 10 ∷ []
 
+-- behind the last item
+abbrev pub end_text : List ℕ
+end_text = codes "end" ++ 10 ∷ []
+
 -- and for a whole walk
 abbrev pub walk_text : List Item → List ℕ
-walk_text items = flat_map item_text items ++ reply_text machine.Reply.Walked
+walk_text items = flat_map item_text items ++ end_text

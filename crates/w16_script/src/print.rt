@@ -6,7 +6,7 @@ ghost use Rattle.arrayvec.specs.ArrayVec.{array_vec_len};
 ghost use Rattle.w16_model.specs.Machine as machine;
 ghost use Rattle.w16_kernel.specs.Runs.{reply_of};
 ghost use Rattle.w16_script.specs.Written.{AppendsFront};
-ghost use Rattle.w16_script.specs.Printed.{reply_text, digits_behind, error_text};
+ghost use Rattle.w16_script.specs.Printed.{end_text, reply_text, digits_behind, error_text};
 
 use crate::write::write_whole;
 use arrayvec::ArrayVec;
@@ -116,8 +116,16 @@ pub fn print_reply<W: Write>(writer: &mut W, reply: &Reply) -> Result<()>
         Reply::Bytes(bytes) => print_bytes(writer, bytes.as_slice()),
         Reply::Done => write_whole(writer, b"ok\n"),
         Reply::Fault(fault) => write_whole(writer, fault_line(*fault)),
-        Reply::Walk => write_whole(writer, b"end\n"),
+        Reply::Walk(_) => print_end(writer),
     }
+}
+
+/// Prints the line behind the items of a walk. It fails as `print_reply` does.
+pub fn print_end<W: Write>(writer: &mut W) -> Result<()>
+    ensures ok { OnOk result (Appends (W.contents writer.old) (W.contents writer.new) end_text) }
+    ensures err { OnErr result (AppendsFront (W.contents writer.old) (W.contents writer.new) end_text) }
+{
+    write_whole(writer, b"end\n")
 }
 
 /// Prints the reply to a bad line. It fails as `print_reply` does.

@@ -21,7 +21,7 @@ fn print_shown<W: Write>(writer: &mut W, kernel: &Kernel, reply: &Reply) -> io::
     ensures err { OnErr result ((output : List ℕ) × Shows kernel.now (reply_of reply.now) output × AppendsFront (W.contents writer.old) (W.contents writer.new) output) }
 {
     match reply {
-        Reply::Walk => print_walk(writer, kernel),
+        Reply::Walk(_) => print_walk(writer, kernel),
         _ => print_reply(writer, reply),
     }
 }

@@ -365,7 +365,7 @@ fn prints_each_reply(rt: HostRuntime) {
     assert_prints(&rt, &Reply::Dword(0x0107_0000), b"01070000\n");
     assert_prints(&rt, &Reply::Dword(0xffff_ffff), b"ffffffff\n");
     assert_prints(&rt, &Reply::Done, b"ok\n");
-    assert_prints(&rt, &Reply::Walk, b"end\n");
+    assert_prints(&rt, &Reply::Walk(2), b"end\n");
     assert_prints(&rt, &Reply::Bytes(Chunk::new()), b"bytes\n");
     let mut bytes = Chunk::new();
     bytes.push(0x4e);

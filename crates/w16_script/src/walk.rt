@@ -6,11 +6,11 @@ ghost use Rattle.w16_model.specs.Walk.{IsWorldWalk};
 ghost use Rattle.w16_script.specs.Written.{AppendsFront};
 ghost use Rattle.w16_script.specs.Printed.{kind_text, owner_text, item_text, walk_text};
 
-use crate::print::{append, append_digits, print_reply};
+use crate::print::{append, append_digits, print_end};
 use crate::write::write_whole;
 use arrayvec::ArrayVec;
 use std::io::{Result, Write};
-use w16_kernel::{Kernel, Reply};
+use w16_kernel::Kernel;
 use w16_model::{Item, Kind, Owner};
 
 /// An item's line: the longest has two double words, a handle, `discardable`, a lock count of three digits, four spaces and an LF.
@@ -76,9 +76,9 @@ pub fn print_walk<W: Write>(writer: &mut W, kernel: &Kernel) -> Result<()>
     ensures err { OnErr result ((items : List Item) × IsWorldWalk kernel.now items × AppendsFront (W.contents writer.old) (W.contents writer.new) (walk_text items)) }
 {
     let mut from = 0;
-    'items: while let Some(item) = kernel.walk(from) {
+    'items: while let Some(item) = kernel.walk_from(from) {
         print_item(writer, &item)?;
         from = item.at + 1;
     }
-    print_reply(writer, &Reply::Walk)
+    print_end(writer)
 }

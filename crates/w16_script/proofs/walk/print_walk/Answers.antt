@@ -5,7 +5,7 @@ use Rattle.w16_script.proofs.walk.print_walk.Goals as goal
 
 pub returns-in_err-print_item-clause-err : goal.returns-in_err-print_item-clause-err
 returns-in_err-print_item-clause-err g c =
-    let (items, walk) = c.walk.ensures.whole in
+    let (items, walk) = c.walk_from.ensures.whole in
     on_err c.from_residual.result (items, walk, item_fails c.args.kernel.now items walk c.items.from _ _ (c.items.invariant.printed items walk) c.in-Some.item _ c.in-Some.ensures.found c.in_err-print_item.ensures.err)
 
 pub items-preserved : goal.items-preserved
@@ -15,10 +15,10 @@ items-preserved g c = record {
 
 pub returns-clause-ok : goal.returns-clause-ok
 returns-clause-ok g c =
-    let (items, walk) = c.walk.ensures.whole in
-    on_ok_weaker c.print_reply.result (λ appends. (items, walk, walk_printed c.args.kernel.now items walk c.items.from _ _ (c.items.invariant.printed items walk) _ c.in_default.ensures.found appends)) c.print_reply.ensures.ok
+    let (items, walk) = c.walk_from.ensures.whole in
+    on_ok_weaker c.print_end.result (λ appends. (items, walk, walk_printed c.args.kernel.now items walk c.items.from _ _ (c.items.invariant.printed items walk) _ c.in_default.ensures.found appends)) c.print_end.ensures.ok
 
 pub returns-clause-err : goal.returns-clause-err
 returns-clause-err g c =
-    let (items, walk) = c.walk.ensures.whole in
-    on_err_weaker c.print_reply.result (λ front. (items, walk, end_fails c.args.kernel.now items walk c.items.from _ _ (c.items.invariant.printed items walk) _ c.in_default.ensures.found front)) c.print_reply.ensures.err
+    let (items, walk) = c.walk_from.ensures.whole in
+    on_err_weaker c.print_end.result (λ front. (items, walk, end_fails c.args.kernel.now items walk c.items.from _ _ (c.items.invariant.printed items walk) _ c.in_default.ensures.found front)) c.print_end.ensures.err

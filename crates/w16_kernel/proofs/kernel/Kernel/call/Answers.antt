@@ -1,4 +1,7 @@
-use Rattle.std.proofs.Common.{refl}
+use Rattle.std.proofs.Common.{refl, ap}
+use Rattle.w16_model.specs.World.{handle_of}
+use Rattle.w16_model.specs.Law.{HasOneWalk}
+use Rattle.w16_model.proofs.Listed.{walk_law}
 use Rattle.w16_model.specs.Machine as machine
 use Rattle.w16_model.proofs.Worlds.{world_law}
 use Rattle.w16_kernel.proofs.kernel.Kernel.call.Goals as goal
@@ -27,3 +30,7 @@ invariant_of-self-in-GlobalCompact c =
 
 pub returns-in-GlobalCompact-clause-step : goal.returns-in-GlobalCompact-clause-step
 returns-in-GlobalCompact-clause-step c = rw (c.in-GlobalCompact.is, ← c.self.view_is) (c.global_compact.result, refl, c.global_compact.ensures)
+
+pub returns-in-Walk-clause-step : goal.returns-in-Walk-clause-step
+returns-in-Walk-clause-step c = rw (c.in-Walk.is, ← c.self.view_is)
+    (let walk : HasOneWalk handle_of c.self.inside.global.heap = walk_law handle_of c.self.inside.global.heap c.self.invariant.heap in (walk.items, walk.is_walk, ap machine.Reply.Walked (c.walk_len.ensures walk.items walk.is_walk), refl))
