@@ -12,3 +12,4 @@ pub mod Cleared
 pub mod Marks
 pub mod PinnedIds
 pub mod Searched
+pub mod Halved

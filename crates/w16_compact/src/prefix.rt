@@ -1,6 +1,6 @@
 //! How many discards make room.
-ghost use Rattle.std.specs.Prelude.{◌≡◌, ℕ, ◌<◌, ◌≤◌, false, length, IfSome, slice_index_or};
-ghost use Rattle.w16_model.specs.Prefix.{is_about, is_pinned_id, needed};
+ghost use Rattle.std.specs.Prelude.{◌≡◌, ℕ, ◌+◌, ◌<◌, ◌≤◌, ◌||◌, ◌∷◌, false, length, take, drop, IfSome, MatchOption, slice_index_or};
+ghost use Rattle.w16_model.specs.Prefix.{eligible, is_about, is_member, is_pinned_id, needed, room_for};
 ghost use Rattle.w16_blocks.specs.Layout.{IsOrdered};
 
 use crate::reach::is_pinned;
@@ -12,8 +12,8 @@ use w16_lru::Order;
 /// where `h` isn't counted; none where no number makes room. What is locked, a pinned block, and
 /// `h` itself are skipped: they aren't discarded (profile).
 ///
-/// `marks` has one for each id, whatever they are before. Afterwards those of `h` and of the
-/// discards that were tried are set.
+/// `marks` has one for each id, whatever they are before, and whatever the search leaves
+/// afterwards.
 pub fn least_prefix(
     blocks: &Blocks,
     order: &Order,
@@ -29,23 +29,74 @@ pub fn least_prefix(
     ensures length { length marks.new ≡ length marks.old }
     ensures ordered { IsOrdered blocks.now }
 {
+    let mut enough = order.len();
+    if room_after(blocks, order, marks, h, enough) < n {
+        return None;
+    }
+    // More discards never leave less room, so halving finds where it becomes enough.
+    let mut least = 0;
+    while least < enough {
+        let middle = least + (enough - least) / 2;
+        if room_after(blocks, order, marks, h, middle) < n {
+            least = middle + 1;
+        } else {
+            enough = middle;
+        }
+    }
+    Some(least)
+}
+
+/// The room after `k` discards, or after all where there are fewer to be made, where `h` isn't
+/// counted.
+fn room_after(blocks: &Blocks, order: &Order, marks: &mut [bool], h: Option<u32>, k: usize) -> u32
+    requires marks { blocks.now.cap ≤ length marks.old }
+    requires ids { order.now.cap ≤ blocks.now.cap }
+    requires h { IfSome h (λ id. id < blocks.now.cap) }
+    ensures value { result
+        ≡ room_for blocks.now.lo blocks.now.hi blocks.now.blocks order.now.ids k h }
+    ensures length { length marks.new ≡ length marks.old }
+    ensures ordered { IsOrdered blocks.now }
+{
+    mark_first(blocks, order, marks, h, k);
+    room(blocks, marks)
+}
+
+/// Sets the marks of `h` and of the first `k` that may be discarded, and no others.
+fn mark_first(blocks: &Blocks, order: &Order, marks: &mut [bool], h: Option<u32>, k: usize)
+    requires marks { blocks.now.cap ≤ length marks.old }
+    requires ids { order.now.cap ≤ blocks.now.cap }
+    requires h { IfSome h (λ id. id < blocks.now.cap) }
+    ensures marks { let discards = take k (eligible blocks.now.blocks order.now.ids h) in
+        (id : ℕ) → id < blocks.now.cap
+        → slice_index_or marks.new id false ≡ (is_member id discards || is_about h id) }
+    ensures length { length marks.new ≡ length marks.old }
+{
     mark_only(marks, h);
-    if n <= room(blocks, marks) {
-        return Some(0);
-    }
-    let mut count = 0;
+    let mut left = k;
     for i in 0..order.len() {
-        let id = order.nth(i)?;
-        if h == Some(id) || is_pinned_id(blocks, id) {
-            continue;
+        if left == 0 {
+            return;
         }
-        marks[id as usize] = true;
-        count += 1;
-        if n <= room(blocks, marks) {
-            return Some(count);
+        if let Some(id) = eligible_at(blocks, order, h, i) {
+            marks[id as usize] = true;
+            left -= 1;
         }
     }
-    None
+}
+
+/// The i-th of the order, if it may be discarded.
+fn eligible_at(blocks: &Blocks, order: &Order, h: Option<u32>, i: usize) -> Option<u32>
+    requires ids { order.now.cap ≤ blocks.now.cap }
+    ensures id { IfSome result (λ id. id < blocks.now.cap) }
+    ensures value { let here = eligible blocks.now.blocks (drop i order.now.ids) h in
+        let later = eligible blocks.now.blocks (drop (i + 1) order.now.ids) h in
+        MatchOption result (here ≡ later) (λ id. here ≡ id ∷ later) }
+{
+    let id = order.nth(i)?;
+    if h == Some(id) || is_pinned_id(blocks, id) {
+        return None;
+    }
+    Some(id)
 }
 
 /// Sets the mark of `h`, and no other.

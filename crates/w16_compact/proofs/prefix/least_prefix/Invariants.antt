@@ -1,10 +1,12 @@
-use Rattle.std.proofs.Common.{◌≡◌, ◌+◌, length}
-use Rattle.w16_compact.proofs.Searched.{AreTried, IsFrom}
+use Rattle.std.proofs.Common.{◌-◌, ◌≡◌, length}
+use Rattle.w16_compact.proofs.Halved.{IsBetween}
 use Rattle.w16_compact.proofs.prefix.least_prefix.Given as goal
 
-abbrev pub invariant-loop-i : goal.invariant-loop-i
-invariant-loop-i l = record {
-  tried : AreTried l.fn.blocks l.order.ids l.n l.h l.i l.count l.marks;
-  from : IsFrom l.fn.blocks l.order.ids l.n l.h (l.count + 1);
+abbrev pub invariant-loop-least : goal.invariant-loop-least
+invariant-loop-least l = record {
+  between : IsBetween l.fn.blocks.lo l.fn.blocks.hi l.fn.blocks.blocks l.fn.order.ids l.fn.n l.fn.h l.least l.enough;
   length : length l.marks ≡ length l.fn.marks;
 }
+
+abbrev pub decreases-loop-least : goal.decreases-loop-least
+decreases-loop-least l = l.enough - l.least
