@@ -1,3 +1,4 @@
+use crate::tests::limited;
 use crate::{Ended, RunFault, run};
 use arrayvec::ArrayVec;
 use std::alloc::{AllocError, Global};
@@ -134,6 +135,15 @@ fn reads_nothing_after_a_flush_that_fails(rt: HostRuntime) -> Tested {
         assert_eq!(rt; ended, Err(RunFault::Write), "after {flushes}");
         assert!(rt; host.has_noted(want), "after {flushes}");
     }
+    Ok(())
+}
+
+#[test]
+fn reads_nothing_after_a_write_that_fails(rt: HostRuntime) -> Tested {
+    let host = Host::new(&LINES, u32::MAX, ErrorKind::Other);
+    let ended = outcome(rt.alloc(), &host, &mut limited(0, 64))?;
+    assert_eq!(rt; ended, Err(RunFault::Write));
+    assert!(rt; host.has_noted(b"read\n"));
     Ok(())
 }
 
