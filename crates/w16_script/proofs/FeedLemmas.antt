@@ -2,6 +2,7 @@
 use Rattle.std.proofs.Common.{◌≡◌, ◌≢◌, ℕ, ◌+◌, ◌≤◌, Bool, List, [], ◌∷◌, ◌++◌, Option, length, length-append, map, refl, sym, ap, ◌∙◌, append-nil, append_assoc, subst, inl, inr, arith}
 use Rattle.std.specs.Prelude.{count_by, if◌then◌else◌}
 use Rattle.std.specs.List.{flat_map, AllByRecursion}
+use Rattle.std.specs.Io.KnownBytes.{Keeps}
 use Rattle.std.proofs.KnownBytes.{Keeps-refl}
 use Rattle.std.proofs.lemmas.List.{map-append}
 use Rattle.std.proofs.lemmas.List.Sums.{sum_by-append}
@@ -13,7 +14,7 @@ use Rattle.w16_script.specs.Output.{RunsLines, has_reply}
 use Rattle.w16_script.specs.Text.{ended, HasNoLf, IsRaw, without_cr}
 use Rattle.w16_script.specs.Progress.{Progress, with_bytes, IsWithinLimits, IsOver, Overflows}
 use Rattle.w16_script.specs.Feeding.{FailsAt, Feeds, StopsHere, Stops}
-use Rattle.w16_script.proofs.RunLemmas.{RunsLines-none, RunsLines-append}
+use Rattle.w16_script.proofs.RunLemmas.{RunsLines-none, RunsLines-append, RunsLines-kept}
 
 -- Lists.
 
@@ -48,6 +49,17 @@ Feeds-trans a b c s t u v w x front back p q = record {
       (RunsLines-append a b c v w x (map without_cr p.raw) (map without_cr q.raw) p.runs q.runs);
   lines = omega (arith, p.lines, q.lines, length-append p.raw q.raw);
   replies = omega (arith, p.replies, q.replies, ap (count_by has_reply) (map-append without_cr p.raw q.raw), count-append has_reply (map without_cr p.raw) (map without_cr q.raw));
+}
+
+-- what was written stays
+pub Feeds-kept : (a b c : Option (List ℕ)) (s t : Progress) (v w : State) (bytes : List ℕ) → Feeds a s v bytes b t w → Keeps b c → Feeds a s v bytes c t w
+Feeds-kept a b c s t v w bytes p q = record {
+  raw = p.raw;
+  whole = p.whole;
+  parts = p.parts;
+  runs = RunsLines-kept a b c v w (map without_cr p.raw) p.runs q;
+  lines = p.lines;
+  replies = p.replies;
 }
 
 -- bytes of one line

@@ -1,6 +1,7 @@
 -- Lemmas on runs and on what they print.
 use Rattle.std.proofs.Common.{◌≡◌, ℕ, List, [], ◌∷◌, ◌++◌, Option, refl, sym, ap, ◌∙◌, append-nil, append_assoc, subst}
-use Rattle.std.proofs.KnownBytes.{Appends-nil, Appends-trans}
+use Rattle.std.specs.Io.KnownBytes.{Keeps}
+use Rattle.std.proofs.KnownBytes.{Appends-nil, Appends-trans, Appends-kept}
 use Rattle.w16_model.specs.World.{World}
 use Rattle.w16_kernel.specs.Runs.{Event, Run}
 use Rattle.w16_script.specs.Registers.{stored_all}
@@ -53,3 +54,7 @@ RunsLines-append a b c v w x lines others p q = record {
   prints = Prints-append v.registers w.registers x.registers lines others p.events q.events p.output q.output p.prints q.prints;
   appends = Appends-trans a b c p.output q.output p.appends q.appends;
 }
+
+-- what was written stays
+pub RunsLines-kept : (a b c : Option (List ℕ)) (v w : State) (lines : List (List ℕ)) → RunsLines a v lines b w → Keeps b c → RunsLines a v lines c w
+RunsLines-kept a b c v w lines p q = record { events = p.events; output = p.output; run = p.run; prints = p.prints; appends = Appends-kept a b c p.output p.appends q }

@@ -107,7 +107,7 @@ StopsLast-from left a b c t v x w registers text fault end p small filled q =
 pub FailsLater-last : (left a b c : Option (List ℕ)) (t : Progress) (v x : World) (w : State) (registers text : List ℕ) (fault : RunFault) → IsAtEnd left → Feeds a fresh (start v) text b t w
     → IsWithinLimits t → 0 < length t.line → FailsAt b w t.line fault c (state_with x registers) → FailsLater left a v text fault c x
 FailsLater-last left a b c t v x w registers text Read end p small filled q = absurd q
-FailsLater-last left a b c t v x w registers text Write end p small filled q = inr (StopsLast-from left a b c t v x w registers text Write end p small filled q)
+FailsLater-last left a b c t v x w registers text Write end p small filled q = inr (inl (StopsLast-from left a b c t v x w registers text Write end p small filled q))
 FailsLater-last left a b c t v x w registers text Memory end p small filled q = inr (StopsLast-from left a b c t v x w registers text Memory end p small filled q)
 FailsLater-last left a b c t v x w registers text TooLong end p small filled q = absurd q
 

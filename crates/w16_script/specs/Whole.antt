@@ -37,7 +37,7 @@ pub record StopsAtStart (held : Option (List ℕ)) (old : World) (text : List �
   pub world : new ≡ old
   pub keeps : Keeps held holds
 
--- all that was read was taken, within the limits
+-- before a further read: all that was read was taken, within the limits, and the replies of its lines were written
 pub record StopsReading (held : Option (List ℕ)) (old : World) (text : List ℕ) (holds : Option (List ℕ)) (new : World) : Type 0 where
   pub here : Progress
   pub registers : List ℕ
@@ -62,10 +62,11 @@ pub record StopsLast (left held : Option (List ℕ)) (old : World) (text : List 
   pub registers : List ℕ
   pub fails : FailsAt between state here.line fault holds (state_with new registers)
 
--- once reading began: text is what was read, and left what the reader has left
+-- Once reading began: text is what was read, and left what the reader has left. A writer fails at a reply, or at
+-- the flush before a read.
 abbrev pub FailsLater : Option (List ℕ) → Option (List ℕ) → World → List ℕ → RunFault → Option (List ℕ) → World → Type 0
 FailsLater left held old text Read holds new = StopsReading held old text holds new
-FailsLater left held old text Write holds new = StopsWithin held old text Write holds new ⊎ StopsLast left held old text Write holds new
+FailsLater left held old text Write holds new = StopsWithin held old text Write holds new ⊎ StopsLast left held old text Write holds new ⊎ StopsReading held old text holds new
 FailsLater left held old text Memory holds new = StopsWithin held old text Memory holds new ⊎ StopsLast left held old text Memory holds new
 FailsLater left held old text TooLong holds new = StopsWithin held old text TooLong holds new
 

@@ -6,8 +6,9 @@ ghost use Rattle.std.specs.Prelude.{◌≡◌};
 pub enum RunFault {
     /// The reader failed. All that was read before was run, and its replies were written.
     Read,
-    /// The writer failed, or took nothing. The line that it failed at was run; a front of its reply was
-    /// written, and the replies of all earlier lines.
+    /// The writer failed at a write, or took nothing: the line that it failed at was run; a front of its reply
+    /// was written, and the replies of all earlier lines. Or it failed at the flush before a read: all that was
+    /// read before was run, its replies were written, and nothing more was read.
     Write,
     /// The host has no memory for the buffer that a run needs at its start; nothing was read.
     Memory,

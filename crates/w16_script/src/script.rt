@@ -10,6 +10,7 @@ use crate::feed::{Unfinished, feed};
 use crate::outcome::{Ended, RunFault};
 use crate::read::read_some;
 use crate::running::run_line;
+use crate::write::flush_writer;
 use std::alloc::Global;
 use std::io::{Read, Write};
 use w16_kernel::Kernel;
@@ -42,7 +43,8 @@ fn finish<W: Write>(
     })
 }
 
-/// Reads a script by pieces of the buffer's length, and runs it.
+/// Reads a script by pieces of the buffer's length, and runs it. Before each read the writer is flushed, so that
+/// a host that waits for a reply before it writes the next line gets it.
 fn run_over<R: Read, W: Write>(
     reader: &mut R,
     writer: &mut W,
@@ -57,6 +59,9 @@ fn run_over<R: Read, W: Write>(
 {
     let mut state = Unfinished::new();
     'pieces: loop {
+        if flush_writer(writer).is_err() {
+            return Err(RunFault::Write);
+        }
         let count = match read_some(reader, buffer) {
             Ok(count) => count,
             Err(_) => return Err(RunFault::Read),
@@ -69,7 +74,9 @@ fn run_over<R: Read, W: Write>(
 }
 
 /// Reads a script to its end, runs each line on the machine, and writes its replies and nothing else. Its
-/// registers begin as 0. It takes memory at its start alone, and reads by pieces of 64 KiB.
+/// registers begin as 0. It takes memory at its start alone, and reads by pieces of 64 KiB at most. Before each
+/// read it flushes the writer, so that a host may wait for a line's reply before it writes the next. At the end
+/// nothing is flushed.
 ///
 /// `RunFault` says when each fault comes. Where the reader or the writer doesn't tell its bytes, nothing is
 /// claimed of them.

@@ -1,3 +1,4 @@
+mod dialogues;
 mod registers;
 mod runs;
 mod walks;

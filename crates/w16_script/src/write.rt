@@ -1,4 +1,4 @@
-//! Writes whose failure leaves a known front.
+//! Writes whose failure leaves a known front, and flushes.
 ghost use Rattle.std.specs.Prelude.{◌≤◌, OnOk, OnErr, IfOk, take, length};
 ghost use Rattle.std.specs.Io.KnownBytes.{Appends, Keeps};
 ghost use Rattle.w16_script.specs.Written.{AppendsFront};
@@ -38,6 +38,23 @@ pub fn write_whole<W: Write>(writer: &mut W, bytes: &[u8]) -> Result<()>
     }
     if at == bytes.len() {
         return Ok(());
+    }
+    Err(Error::from(ErrorKind::TimedOut))
+}
+
+/// Flushes the writer, tried again where it was interrupted. What it holds stays.
+pub fn flush_writer<W: Write>(writer: &mut W) -> Result<()>
+    ensures { Keeps (W.contents writer.old) (W.contents writer.new) }
+{
+    'tries: for _ in 0..u64::MAX {
+        match writer.flush() {
+            Ok(()) => return Ok(()),
+            Err(error) => {
+                if error.kind() != ErrorKind::Interrupted {
+                    return Err(error);
+                }
+            }
+        }
     }
     Err(Error::from(ErrorKind::TimedOut))
 }

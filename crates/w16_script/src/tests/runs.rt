@@ -50,6 +50,23 @@ impl Read for Repeated {
     }
 }
 
+/// A reader of one byte for ever, so many times at once, which counts its reads.
+#[derive(Drop)]
+struct Endless {
+    byte: u8,
+    at_once: usize,
+    reads: u32,
+}
+
+impl Read for Endless {
+    fn read(&mut self, buf: &mut [u8]) -> Result<usize> {
+        self.reads = self.reads.saturating_add(1);
+        let count = self.at_once.min(buf.len());
+        buf[..count].fill(self.byte);
+        Ok(count)
+    }
+}
+
 /// A machine of 4,096 bytes and 16 selectors.
 fn machine(alloc: Global) -> std::result::Result<Kernel, AllocError> {
     Kernel::new(alloc, 4096, 16)
@@ -180,6 +197,31 @@ fn decides_by_the_byte_that_passes_a_limit(rt: HostRuntime) -> Tested {
     assert_eq!(rt; ended, Err(RunFault::TooLong));
     let (ended, _) = outcome(rt.alloc(), &text.as_slice()[..4096], 1, true)?;
     assert_eq!(rt; ended, Err(RunFault::Read));
+    Ok(())
+}
+
+#[test]
+fn reads_nothing_behind_the_piece_that_passes_a_limit(rt: HostRuntime) -> Tested {
+    let cases = [
+        (b'a', 1, 4097),
+        (b'a', 1000, 5),
+        (b'a', 4096, 2),
+        (b'a', 4097, 1),
+        (b'\n', 1000, 1001),
+        (b'\n', 9901, 101),
+    ];
+    for (byte, at_once, reads) in cases {
+        let mut kernel = machine(rt.alloc())?;
+        let mut reader = Endless {
+            byte,
+            at_once,
+            reads: 0,
+        };
+        let mut writer = Vec::new(rt.alloc());
+        let ended = run(rt.alloc(), &mut reader, &mut writer, &mut kernel);
+        assert_eq!(rt; ended, Err(RunFault::TooLong), "{byte} by {at_once}");
+        assert_eq!(rt; reader.reads, reads, "{byte} by {at_once}");
+    }
     Ok(())
 }
 
