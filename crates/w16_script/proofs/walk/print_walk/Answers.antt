@@ -1,7 +1,10 @@
 use Rattle.w16_script.proofs.WriteLemmas.{on_err}
 use Rattle.std.proofs.lemmas.Result.{on_ok_weaker, on_err_weaker}
-use Rattle.w16_script.proofs.WalkLemmas.{item_printed, item_fails, walk_printed, end_fails}
+use Rattle.w16_script.proofs.WalkLemmas.{none_printed, item_printed, item_fails, walk_printed, end_fails}
 use Rattle.w16_script.proofs.walk.print_walk.Goals as goal
+
+pub items-init : goal.items-init
+items-init g c = record { printed = λ items walk. none_printed (g.W.Write.contents c.args.writer.now) items }
 
 pub returns-in_err-print_item-clause-err : goal.returns-in_err-print_item-clause-err
 returns-in_err-print_item-clause-err g c =
