@@ -582,8 +582,14 @@ fn walks_a_full_heap(rt: HostRuntime) -> Result<(), Fail> {
         &mut region,
         Step::Alloc(0, 160, Kind::Moveable, AS_IT_STANDS),
     );
-    assert_eq!(rt; arena.walk_from(0), Some(object!(0, 96, 3, Kind::Moveable, 0)));
-    assert_eq!(rt; arena.walk_from(1), Some(object!(96, 160, 0, Kind::Moveable, 0)));
+    assert_eq!(rt;
+        arena.walk_from(0),
+        Some(object!(0, 96, 3, Kind::Moveable, 0))
+    );
+    assert_eq!(rt;
+        arena.walk_from(1),
+        Some(object!(96, 160, 0, Kind::Moveable, 0))
+    );
     assert_eq!(rt; arena.walk_from(97), None);
     Ok(())
 }
