@@ -66,7 +66,7 @@ pub fn of_lines() -> [Row; 4] {
 }
 
 /// Rows on objects and the memory that they have.
-pub fn of_memory() -> [Row; 4] {
+pub fn of_memory() -> [Row; 3] {
     [
         small(
             "the whole memory",
@@ -75,6 +75,32 @@ pub fn of_memory() -> [Row; 4] {
             5,
             5,
         ),
+        Row {
+            memory: 131_072,
+            ..small(
+                "the largest object",
+                b"GlobalAlloc 2 65537\nGlobalAlloc 2 65536\n",
+                b"0000\n0106\n",
+                2,
+                2,
+            )
+        },
+        Row {
+            selectors: 1,
+            ..small(
+                "one selector",
+                b"GlobalAlloc 0 0\nGlobalAlloc 2 65537\nGlobalAlloc 2 32\nGlobalAlloc 2 32\nGlobalFree 0x106\nGlobalAlloc 0 32\n",
+                b"0000\n0000\n0106\n0000\n0000\n0107\n",
+                6,
+                6,
+            )
+        },
+    ]
+}
+
+/// Rows on the bytes of objects.
+pub fn of_bytes() -> [Row; 3] {
+    [
         small(
             "far reads and their faults",
             b"GlobalAlloc 0x42 32\nRead 0x01070020 0\nRead 0x01070020 1\nRead 0 1\nGlobalFree 0x106\nRead 0x01070000 1\n",
@@ -90,13 +116,13 @@ pub fn of_memory() -> [Row; 4] {
             6,
         ),
         Row {
-            selectors: 1,
+            memory: 32,
             ..small(
-                "one selector",
-                b"GlobalAlloc 0 0\nGlobalAlloc 2 65537\nGlobalAlloc 2 32\nGlobalAlloc 2 32\nGlobalFree 0x106\nGlobalAlloc 0 32\n",
-                b"0000\n0000\n0106\n0000\n0000\n0107\n",
-                6,
-                6,
+                "zeros in the place of a freed object",
+                b"GlobalAlloc 2 32\nFill 0x01070000 32 255\nGlobalFree 0x106\nGlobalAlloc 0x42 32\nRead 0x01070000 2\n",
+                b"0106\nok\n0000\n0106\nbytes 0000\n",
+                5,
+                5,
             )
         },
     ]

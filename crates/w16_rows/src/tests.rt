@@ -3,8 +3,8 @@ ghost use Rattle.w16_kernel.specs.Runs.{IsCall};
 
 use crate::hosts::{Broken, Endless, Short};
 use crate::rows::{
-    LIFE, LIFE_OUTPUT, Row, of_compaction, of_lines, of_memory, of_objects, of_order, of_questions,
-    of_registers,
+    LIFE, LIFE_OUTPUT, Row, of_bytes, of_compaction, of_lines, of_memory, of_objects, of_order,
+    of_questions, of_registers,
 };
 use arrayvec::ArrayVec;
 use std::alloc::{AllocError, Global};
@@ -62,6 +62,14 @@ fn lines_are_answered(rt: HostRuntime) -> Result<(), Fail> {
 #[test]
 fn memory_is_answered_for(rt: HostRuntime) -> Result<(), Fail> {
     for row in of_memory() {
+        expect_answered(&rt, &row)?;
+    }
+    Ok(())
+}
+
+#[test]
+fn bytes_are_answered(rt: HostRuntime) -> Result<(), Fail> {
+    for row in of_bytes() {
         expect_answered(&rt, &row)?;
     }
     Ok(())
