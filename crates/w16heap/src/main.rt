@@ -4,6 +4,8 @@
 mod fault;
 mod options;
 mod play;
+#[cfg(test)]
+mod tests;
 
 use clap::Error;
 use clap::error::ErrorKind;
@@ -17,15 +19,17 @@ fn words_of(rt: &(impl Env + AllocGlobal)) -> std::io::Result<Vec<String>> {
     Ok(words.collect(rt.alloc())?)
 }
 
-/// Prints what `clap` says, and answers its status; 3 where it had no memory, and 1 where help couldn't be printed.
+/// Prints what `clap` says, and answers its status; 3 where it had no memory, and 1 where help or the version couldn't be printed.
 fn refuse(rt: &HostRuntime, error: &Error) -> ExitCode {
     if error.kind() == ErrorKind::OutOfMemory {
         return fault::report(rt, Fault::Memory);
     }
-    match error.print(rt) {
-        Ok(()) => ExitCode::from(error.exit_code() as u8),
-        Err(_) => fault::report(rt, Fault::Write),
+    let printed = error.print(rt);
+    // A wrong command line keeps its status where standard error is gone.
+    if printed.is_err() && !error.use_stderr() {
+        return fault::report(rt, Fault::Write);
     }
+    ExitCode::from(error.exit_code() as u8)
 }
 
 fn main(rt: HostRuntime) -> ExitCode {

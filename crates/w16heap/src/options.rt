@@ -1,9 +1,10 @@
 //! The command line.
 use clap::{Arg, Command, Error, value_parser};
 use std::alloc::Global;
+use std::convert::AsStr;
 
 /// What the command line asks for.
-#[derive(Debug, Clone, Copy, Drop)]
+#[derive(Debug, Clone, Copy, PartialEq, Eq, Drop)]
 pub struct Options<'a> {
     /// Bytes of the global heap.
     pub memory: u32,
@@ -19,6 +20,15 @@ const MEMORY: &str = "1048576";
 /// The number of selectors where none is asked for.
 const SELECTORS: &str = "1024";
 
+/// The program's version.
+const VERSION: &str = "0.1.0";
+
+/// What stands at the end of the help.
+const EXAMPLES: &str = "Examples:
+  w16heap examples/tour.txt
+  echo 'GlobalAlloc 2 100' | w16heap --memory 4096 --selectors 16
+  w16heap - < examples/tour.txt";
+
 /// The command line that the program takes.
 fn command<'a>(alloc: Global) -> Result<Command<'a>, Error> {
     let memory = Arg::new(alloc, "memory")
@@ -33,23 +43,27 @@ fn command<'a>(alloc: Global) -> Result<Command<'a>, Error> {
         .value_parser(value_parser!(u32))
         .default_value(SELECTORS)
         .help("How many objects there may be at once, from 1 to 8160");
-    let script = Arg::new(alloc, "SCRIPT").help("The script; standard input without it");
+    let script = Arg::new(alloc, "SCRIPT").help(
+        "The script; standard input without it, or where it is -",
+    );
     Ok(
         Command::new(alloc, "w16heap")
+            .version(VERSION)
             .about("Runs a script of memory calls of Windows 3.1 and prints one reply for each")
+            .after_help(EXAMPLES)
             .arg(memory)?
             .arg(selectors)?
             .arg(script)?,
     )
 }
 
-/// Reads the words of a command line, the program's name first. An error is `clap`'s, also where help is asked for.
-pub fn parse<'a>(alloc: Global, words: &'a [String]) -> Result<Options<'a>, Error> {
+/// Reads the words of a command line, the program's name first. An error is `clap`'s, also where help or the version is asked for.
+pub fn parse<'a, S: AsStr>(alloc: Global, words: &'a [S]) -> Result<Options<'a>, Error> {
     let matches = command(alloc)?.try_get_matches_from(words)?;
     // clap gives a default where nothing is asked for, so each number is there.
     Ok(Options {
         memory: matches.get_one("memory").unwrap_or_default(),
         selectors: matches.get_one("selectors").unwrap_or_default(),
-        script: matches.get_str("SCRIPT"),
+        script: matches.get_str("SCRIPT").filter(|path| *path != "-"),
     })
 }

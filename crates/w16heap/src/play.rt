@@ -1,9 +1,11 @@
 //! Runs of a script on a new machine.
-ghost use Rattle.std.specs.Prelude.{◌≤◌, OnOk, IfErr};
-ghost use Rattle.w16heap.specs.Faults.{IsMemorySize, IsSelectorCount, IsSizeFault};
+ghost use Rattle.std.specs.Prelude.{◌≡◌, OnOk, IfOk, IfErr};
+ghost use Rattle.w16_model.specs.World.{empty_world};
+ghost use Rattle.w16heap.specs.Faults.{IsMemorySize, IsSelectorCount, IsSizeFault, IsMachineFault};
 
 use crate::fault::Fault;
 use crate::options::Options;
+use std::alloc::Global;
 use std::fs::File;
 use std::io::{self, BufWriter, Read, Write};
 use w16_kernel::Kernel;
@@ -27,20 +29,25 @@ fn check(options: &Options<'_>) -> Result<(), Fault>
     Ok(())
 }
 
+/// The machine that the options ask for, in which nothing is allocated. A size that can't be is told first, and then want of memory.
+fn machine(alloc: Global, options: &Options<'_>) -> Result<Kernel, Fault>
+    ensures ok { IfOk result (λ kernel. kernel ≡ empty_world options.now.memory options.now.selectors) }
+    ensures sizes { OnOk result (IsMemorySize options.now.memory × IsSelectorCount options.now.selectors) }
+    ensures err { IfErr result (IsMachineFault options.now.memory options.now.selectors) }
+{
+    check(options)?;
+    Kernel::new(alloc, options.memory, options.selectors).map_err(|_| Fault::Memory)
+}
+
 /// Runs the script of a reader. What was replied is flushed before the run's own fault is told, and a failure there is the write fault.
 fn run_script(
     rt: &HostRuntime,
-    options: &Options<'_>,
+    kernel: &mut Kernel,
     mut reader: impl Read + Drop,
-) -> Result<(), Fault>
-    requires { options.now.selectors ≤ MOST_SLOTS }
-{
+) -> Result<(), Fault> {
     let alloc = rt.alloc();
-    let mut kernel = Kernel::new(alloc, options.memory, options.selectors).map_err(
-        |_| Fault::Memory,
-    )?;
     let mut writer = BufWriter::new(alloc, io::writer(rt)).map_err(|_| Fault::Memory)?;
-    let ended = run(alloc, &mut reader, &mut writer, &mut kernel);
+    let ended = run(alloc, &mut reader, &mut writer, kernel);
     writer.flush().map_err(|_| Fault::Write)?;
     match ended {
         Ok(_) => Ok(()),
@@ -50,9 +57,12 @@ fn run_script(
 
 /// Does what the command line asks for.
 pub fn play(rt: &HostRuntime, options: &Options<'_>) -> Result<(), Fault> {
-    check(options)?;
+    let mut kernel = machine(rt.alloc(), options)?;
     match options.script {
-        Some(path) => run_script(rt, options, File::open(rt, path).map_err(|_| Fault::Read)?),
-        None => run_script(rt, options, rt.reader()),
+        Some(path) => {
+            let file = File::open(rt, path).map_err(|_| Fault::Read)?;
+            run_script(rt, &mut kernel, file)
+        }
+        None => run_script(rt, &mut kernel, rt.reader()),
     }
 }
