@@ -36,8 +36,3 @@ abbrev pub IsSizeFault : ℕ → ℕ → Fault → Type 0
 IsSizeFault memory selectors fault.MemorySize = IsMemorySize memory → ⊥
 IsSizeFault memory selectors fault.SelectorCount = IsMemorySize memory × (IsSelectorCount selectors → ⊥)
 IsSizeFault memory selectors other = ⊥
-
--- why no machine could be made of these sizes: they can't be, or they can and the host has no memory
-abbrev pub IsMachineFault : ℕ → ℕ → Fault → Type 0
-IsMachineFault memory selectors fault.Memory = IsMemorySize memory × IsSelectorCount selectors
-IsMachineFault memory selectors other = IsSizeFault memory selectors other

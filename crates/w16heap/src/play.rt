@@ -1,7 +1,7 @@
 //! Runs of a script on a new machine.
 ghost use Rattle.std.specs.Prelude.{◌≡◌, OnOk, IfOk, IfErr};
 ghost use Rattle.w16_model.specs.World.{empty_world};
-ghost use Rattle.w16heap.specs.Faults.{IsMemorySize, IsSelectorCount, IsSizeFault, IsMachineFault};
+ghost use Rattle.w16heap.specs.Faults.{IsMemorySize, IsSelectorCount, IsSizeFault};
 
 use crate::fault::Fault;
 use crate::options::Options;
@@ -29,25 +29,27 @@ fn check(options: &Options<'_>) -> Result<(), Fault>
     Ok(())
 }
 
-/// The machine that the options ask for, in which nothing is allocated. A size that can't be is told first, and then want of memory.
+/// The machine that the options ask for, in which nothing is allocated. An error is want of memory.
 fn machine(alloc: Global, options: &Options<'_>) -> Result<Kernel, Fault>
+    requires { IsMemorySize options.now.memory × IsSelectorCount options.now.selectors }
     ensures ok { IfOk result (λ kernel. kernel ≡ empty_world options.now.memory options.now.selectors) }
-    ensures sizes { OnOk result (IsMemorySize options.now.memory × IsSelectorCount options.now.selectors) }
-    ensures err { IfErr result (IsMachineFault options.now.memory options.now.selectors) }
+    ensures err { IfErr result (λ fault. fault ≡ Fault.Memory) }
 {
-    check(options)?;
     Kernel::new(alloc, options.memory, options.selectors).map_err(|_| Fault::Memory)
 }
 
 /// Runs the script of a reader. What was replied is flushed before the run's own fault is told, and a failure there is the write fault.
 fn run_script(
     rt: &HostRuntime,
-    kernel: &mut Kernel,
+    options: &Options<'_>,
     mut reader: impl Read + Drop,
-) -> Result<(), Fault> {
+) -> Result<(), Fault>
+    requires { IsMemorySize options.now.memory × IsSelectorCount options.now.selectors }
+{
     let alloc = rt.alloc();
+    let mut kernel = machine(alloc, options)?;
     let mut writer = BufWriter::new(alloc, io::writer(rt)).map_err(|_| Fault::Memory)?;
-    let ended = run(alloc, &mut reader, &mut writer, kernel);
+    let ended = run(alloc, &mut reader, &mut writer, &mut kernel);
     writer.flush().map_err(|_| Fault::Write)?;
     match ended {
         Ok(_) => Ok(()),
@@ -55,14 +57,11 @@ fn run_script(
     }
 }
 
-/// Does what the command line asks for.
+/// Does what the command line asks for. A size that can't be is told first, then a script that can't be opened, then want of memory.
 pub fn play(rt: &HostRuntime, options: &Options<'_>) -> Result<(), Fault> {
-    let mut kernel = machine(rt.alloc(), options)?;
+    check(options)?;
     match options.script {
-        Some(path) => {
-            let file = File::open(rt, path).map_err(|_| Fault::Read)?;
-            run_script(rt, &mut kernel, file)
-        }
-        None => run_script(rt, &mut kernel, rt.reader()),
+        Some(path) => run_script(rt, options, File::open(rt, path).map_err(|_| Fault::Read)?),
+        None => run_script(rt, options, rt.reader()),
     }
 }
