@@ -33,6 +33,10 @@ pub fn least_prefix(
     if room_after(blocks, order, marks, h, enough) < n {
         return None;
     }
+    // A compaction often needs none.
+    if room_after(blocks, order, marks, h, 0) >= n {
+        return Some(0);
+    }
     // More discards never leave less room, so halving finds where it becomes enough.
     let mut least = 0;
     while least < enough {

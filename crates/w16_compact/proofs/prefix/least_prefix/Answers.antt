@@ -9,12 +9,12 @@ returns-then-room_after-n-clause-value c =
     let l = c.args.blocks.now in let ids = c.args.order.now.ids in
     none_needed l.lo l.hi l.blocks ids c.args.n c.args.h (subst (λ k. room_for l.lo l.hi l.blocks ids k c.args.h < c.args.n) c.len-enough.ensures (omega (arith, c.room_after.ensures.value, c.if-room_after-n.true)))
 
-pub loop-least-preserved-then-room_after-n-2 : goal.loop-least-preserved-then-room_after-n-2
-loop-least-preserved-then-room_after-n-2 c =
+pub loop-least-preserved-then-room_after-n-3 : goal.loop-least-preserved-then-room_after-n-3
+loop-least-preserved-then-room_after-n-3 c =
     let l = c.args.blocks.now in let now = c.loop-least.invariant in
     let few = c.room_after-in-loop-least.ensures.value in
     record {
-      between = above l.lo l.hi l.blocks c.args.order.now.ids c.args.n c.args.h c.loop-least.least c.loop-least.enough (c.loop-least.least + (c.loop-least.enough - c.loop-least.least) / 2) now.between (omega (arith, c.loop-least-test.true)) (omega (arith, few, c.if-room_after-n-2.true));
+      between = above l.lo l.hi l.blocks c.args.order.now.ids c.args.n c.args.h c.loop-least.least c.loop-least.enough (c.loop-least.least + (c.loop-least.enough - c.loop-least.least) / 2) now.between (omega (arith, c.loop-least-test.true)) (omega (arith, few, c.if-room_after-n-3.true));
       length = c.room_after-in-loop-least.ensures.length ∙ now.length;
     }
 
