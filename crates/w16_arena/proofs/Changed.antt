@@ -1,5 +1,5 @@
 -- The parts and their heap where one id's entry and block have changed.
-use Rattle.std.proofs.Common.{◌≡◌, ◌≢◌, ℕ, ◌+◌, ◌<◌, ◌≤◌, ◌==◌, Bool, true, false, cond, IsTrue, IfSome, IsSomeAnd, List, length, get_or, set, slice_range, AllPairs, Option, Some, None, option_map, refl, sym, ap, ◌∙◌, subst, arith, inl, inr}
+use Rattle.std.proofs.Common.{◌≡◌, ◌≢◌, ℕ, ◌+◌, ◌<◌, ◌==◌, Bool, true, false, cond, IfSome, IsSomeAnd, List, length, get_or, set, slice_range, AllPairs, Option, Some, None, option_map, refl, sym, ap, ◌∙◌, subst, arith, inl, inr}
 use Rattle.std.specs.FinMap as finmap
 use Rattle.std.proofs.lemmas.Bool.Decides.{eqb_tells}
 use Rattle.std.proofs.lemmas.Bool.{ne_eqb, eq-eqb}

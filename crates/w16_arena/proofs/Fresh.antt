@@ -1,8 +1,8 @@
 -- An arena before anything is allocated.
-use Rattle.std.proofs.Common.{◌≡◌, ℕ, zero, suc, ◌≤◌, IsTrue, IfSome, Bool, List, [], length, get_or, replicate, Option, None, refl, sym, ap, ◌∙◌, subst, arith}
+use Rattle.std.proofs.Common.{◌≡◌, ℕ, zero, suc, ◌≤◌, IfSome, Bool, List, [], length, get_or, replicate, Option, None, refl, sym, ap, ◌∙◌, subst, arith}
 use Rattle.std.proofs.lemmas.List.{length-replicate}
 use Rattle.w16_model.specs.declared.Entry.{Entry}
-use Rattle.w16_model.specs.Heap.{is_fixed, IsMultiple}
+use Rattle.w16_model.specs.Heap.{IsMultiple}
 use Rattle.w16_model.specs.Table.{IsCountedBy, IsSound, is_listed}
 use Rattle.w16_model.proofs.Gaps.{All-from_Each, AllPairs-from_EachPair}
 use Rattle.w16_blocks.specs.Layout.{Layout}

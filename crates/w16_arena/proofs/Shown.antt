@@ -1,12 +1,12 @@
 -- The single steps of an arena, by its value.
-use Rattle.std.proofs.Common.{◌≡◌, ℕ, ◌<◌, ◌≤◌, Bool, true, false, IsTrue, IfSome, IfNone, IsSomeAnd, List, length, replicate, get_or, set, Option, Some, None, option_map, is_some, AllPairs, refl, sym, ap, ◌∙◌, subst, arith, inl, inr}
+use Rattle.std.proofs.Common.{◌≡◌, ℕ, ◌<◌, ◌≤◌, Bool, true, false, IfSome, IfNone, IsSomeAnd, List, length, replicate, get_or, set, Option, Some, None, option_map, is_some, AllPairs, refl, sym, ap, ◌∙◌, subst, arith, inl, inr}
 use Rattle.std.proofs.lemmas.Bool.{cases_eq, false≢true}
 use Rattle.std.proofs.lemmas.List.{length-set, length-replicate}
 use Rattle.w16_model.specs.declared.Entry.{Entry}
 use Rattle.w16_model.specs.declared.Hold.{Hold}
 use Rattle.w16_model.specs.declared.Kind.{Kind}
 use Rattle.w16_model.specs.Prefix.{is_member}
-use Rattle.w16_model.specs.Heap.{Heap, object_at, is_fixed}
+use Rattle.w16_model.specs.Heap.{Heap, object_at}
 use Rattle.w16_model.specs.Edit.{removed, absent, with_object, newest, oldest, without}
 use Rattle.w16_model.specs.Single.{Enters, after_touch}
 use Rattle.w16_model.specs.Table.{Table, IsSound, IsCountedBy, block_with, entry_at, hold_in, object_in}

@@ -1,5 +1,4 @@
-use Rattle.std.proofs.Common.{◌≡◌, None, slice_get, ap, ◌∙◌, arith}
-use Rattle.w16_model.specs.declared.Item.{Item}
+use Rattle.std.proofs.Common.{◌≡◌, slice_get, ap, ◌∙◌, arith}
 use Rattle.w16_model.specs.Table.{heap_in}
 use Rattle.w16_model.specs.Walk.{by_its_id}
 use Rattle.w16_model.proofs.Cuts.{told_none, told_more, told_at, told_past}

@@ -1,4 +1,4 @@
-use Rattle.std.proofs.Common.{rules, ◌≡◌, ◌-◌, nat_le, option_map}
+use Rattle.std.proofs.Common.{rules, ◌≡◌, option_map}
 use Rattle.std.specs.List.{find}
 use Rattle.w16_model.specs.declared.Span.{Span}
 use Rattle.w16_model.specs.Gap.{holes}

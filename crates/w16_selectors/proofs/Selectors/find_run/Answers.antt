@@ -1,4 +1,4 @@
-use Rattle.std.proofs.Common.{◌≡◌, ◌+◌, ◌-◌, ◌<◌, length, unwrap_or, sym, ap, ◌∙◌, subst, arith}
+use Rattle.std.proofs.Common.{◌≡◌, ◌+◌, length, unwrap_or, sym, ap, ◌∙◌, subst, arith}
 use Rattle.w16_selectors.specs.Descriptors.{IsFree}
 use Rattle.w16_selectors.proofs.Runs.{GoesOn, no_run, none_left, goes_on}
 use Rattle.w16_selectors.proofs.Selectors.find_run.Goals as goal
