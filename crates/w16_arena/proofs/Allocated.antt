@@ -1,6 +1,6 @@
 -- The heap after a new object was given a free id and a free place.
 use Rattle.std.specs.List.{AllByRecursion as Each}
-use Rattle.std.proofs.Common.{◌≡◌, ◌≢◌, ℕ, ◌+◌, ◌<◌, inl, inr, Bool, true, false, ◌&&◌, cond, if◌then◌else◌, IsSomeAnd, List, length, get_or, set, slice_range, Option, Some, None, option_map, refl, sym, ap, ◌∙◌, subst, arith}
+use Rattle.std.proofs.Common.{◌≡◌, ◌≢◌, ℕ, ◌+◌, ◌<◌, inl, inr, Bool, true, false, ◌&&◌, cond, if◌then◌else◌, List, length, get_or, set, slice_range, Option, Some, None, option_map, refl, sym, ap, ◌∙◌, arith}
 use Rattle.std.specs.Ordering.{nat_cmp, eq_by_cmp}
 use Rattle.std.specs.Cmp.{nat_cmp_total}
 use Rattle.std.specs.FinMap as finmap
@@ -10,7 +10,7 @@ use Rattle.w16_model.specs.declared.Block.{Block}
 use Rattle.w16_model.specs.declared.Entry.{Entry}
 use Rattle.w16_model.specs.declared.Kind.{Kind}
 use Rattle.w16_model.specs.Gap.{Misses}
-use Rattle.w16_model.specs.Heap.{Heap, Object, IsMultiple, object_at, bytes_at, is_discardable}
+use Rattle.w16_model.specs.Heap.{Heap, Object, IsMultiple, object_at, is_discardable}
 use Rattle.w16_model.specs.Prefix.{is_member}
 use Rattle.w16_model.specs.Edit.{newest, without, with_newest}
 use Rattle.w16_model.specs.Table.{block_with, hold_in, is_listed}
@@ -18,13 +18,14 @@ use Rattle.w16_model.proofs.Gaps.{Each-from, Each-at, Each-map, EachPair-from_Al
 use Rattle.w16_model.proofs.Heaps.{tied_itself, untied}
 use Rattle.w16_model.proofs.Tables.{member_with, with_member}
 use Rattle.w16_blocks.specs.Layout.{Layout, IsOrdered, Fits, IsApart, placed}
+use Rattle.w16_lru.specs.declared.End.TheVariants.{Newest}
 use Rattle.w16_arena.proofs.Parts.{AreParts}
 use Rattle.w16_arena.specs.State.{heap_of}
 use Rattle.w16_arena.specs.Making.{IsFree}
 use Rattle.w16_arena.proofs.With.{with-placed}
 use Rattle.w16_arena.proofs.Lookups.{ordered_arranged}
 use Rattle.w16_arena.proofs.Changed.{GoTogether, ChangesOne, ReordersOne, changed_parts, object_at_id, object_at_other, place_at_id, place_at_other}
-use Rattle.w16_arena.proofs.Reordered.{newest_reorders, same_reorders, without_none}
+use Rattle.w16_arena.proofs.Reordered.{end_reorders, same_reorders, without_none}
 use Rattle.w16_arena.proofs.Cleared.{Makes}
 
 module _ {entries : List (Option Entry)} {layout : Layout} {order memory : List ℕ} (parts : AreParts entries layout order memory) where
@@ -89,7 +90,7 @@ module _ {entries : List (Option Entry)} {layout : Layout} {order memory : List 
       reorders = from (is_discardable kind)
         where
           from : (b : Bool) → ReordersOne id (b && true) order (if b then newest id order else order)
-          from true = newest_reorders id order parts.sound.no_repeats
+          from true = end_reorders Newest id order parts.sound.no_repeats
           from false = same_reorders id order false not_yet parts.sound.no_repeats
 
       changes : ChangesOne id (Some block) layout with_block
@@ -119,9 +120,6 @@ module _ {entries : List (Option Entry)} {layout : Layout} {order memory : List 
 
         pub place_new : finmap.get new.places id ≡ Some at
         place_new = place_at_id parts (Some entry) after lt together changes reorders (ordered_arranged with_block ordered) made.long
-
-        pub size_new : IsSomeAnd (bytes_at new id) (λ bytes. length bytes ≡ n)
-        size_new = subst (λ (p : Option Object). IsSomeAnd (elim p as (λ _. Option (List ℕ)) [ Some o ↦ o.bytes | None ↦ None ]) (λ (bytes : List ℕ). length bytes ≡ n)) (sym object_new) made.fresh.0
 
         pub others_stay : (q : ℕ) → q ≢ id → (object_at new q ≡ object_at before q) × (finmap.get new.places q ≡ finmap.get before.places q)
         others_stay q d = (

@@ -1,6 +1,6 @@
 -- A request, by what was found and made for it.
 use Rattle.std.specs.List.{AllByRecursion as Each}
-use Rattle.std.proofs.Common.{◌≡◌, ◌≢◌, ℕ, ◌+◌, ◌<◌, ◌≤◌, ◌⊎◌, inl, inr, true, false, not, ◌&&◌, if◌then◌else◌, IfSome, IsSomeAnd, MatchBool, MatchOption, All, List, [], ◌∷◌, length, take, fold, slice_range, Option, Some, None, option_map, is_some, unwrap_or, refl, sym, ap, ◌∙◌, subst, arith, ne_eqb, eq-eqb, take_all}
+use Rattle.std.proofs.Common.{◌≡◌, ◌≢◌, ℕ, ◌+◌, ◌<◌, ◌≤◌, ◌⊎◌, inl, inr, true, false, ◌&&◌, if◌then◌else◌, IfSome, IsSomeAnd, MatchBool, MatchOption, All, List, [], ◌∷◌, length, take, fold, slice_range, Option, Some, None, option_map, is_some, unwrap_or, refl, sym, ap, ◌∙◌, subst, arith, ne_eqb, eq-eqb, take_all}
 use Rattle.std.specs.FinMap as finmap
 use Rattle.std.proofs.lemmas.Bool.{false≢true, and_parts, cases_eq, cases_Bool}
 use Rattle.w16_model.specs.declared.Block.{Block}
@@ -9,11 +9,11 @@ use Rattle.w16_model.specs.declared.Kind.TheVariants.{Discardable}
 use Rattle.w16_model.specs.declared.Span.{Span}
 use Rattle.w16_model.specs.Law.{KeepsOthers}
 use Rattle.w16_model.specs.declared.Way.{Way}
-use Rattle.w16_model.specs.Gap.{room, longest_hole}
-use Rattle.w16_model.specs.Prefix.{is_about, is_pinned_id, eligible, blocks_without, room_for, needed}
+use Rattle.w16_model.specs.Gap.{room, longest_hole, is_pinned}
+use Rattle.w16_model.specs.Prefix.{eligible, blocks_without, room_for, needed}
 use Rattle.w16_model.specs.Heap.{Heap, Object, IsHeap, IsMultiple, blocks, object_at, bytes_at}
 use Rattle.w16_model.specs.Edit.{absent, with_newest, with_ordered}
-use Rattle.w16_model.specs.Request.{Allocates, Compacts, MakesRoom, IsNew, Settles, prefix_of, stays_for, discarded, moved_bytes, compaction_prefix, eligible_count, most_room}
+use Rattle.w16_model.specs.Request.{moved_bytes, Allocates, Compacts, MakesRoom, IsNew, Settles, prefix_of, stays_for, discarded, compaction_prefix, eligible_count, most_room}
 use Rattle.w16_model.specs.Table.{Table, IsSound, block_with, heap_in}
 use Rattle.w16_model.proofs.Gaps.{Each-from}
 use Rattle.w16_model.proofs.Tables.{place_is, table_longest}
@@ -21,15 +21,22 @@ use Rattle.w16_model.proofs.Sound.{sound_heap}
 use Rattle.w16_model.proofs.Kept.{taken_here, taken_other}
 use Rattle.w16_model.proofs.Discards.{room-discarded}
 use Rattle.w16_model.proofs.Others.{others_law}
-use Rattle.w16_model.proofs.Prefixes.{prefix_hole, prefix_no_hole, prefix_now, prefix_kept, prefix_needed, needed_by_members, needed_enough, eligible_by_members}
+use Rattle.w16_model.proofs.Prefixes.{prefix_hole, prefix_no_hole, prefix_now, prefix_kept, prefix_needed, needed_by_members, needed_enough, eligible_by_members, room_by_members}
 use Rattle.w16_model.proofs.Answered.{allocates_after, settles_after, settles_before, moved_after, discarded_all}
 use Rattle.w16_blocks.specs.Layout.{Layout}
-use Rattle.w16_arena.specs.Asked.{Stands, SlidesTogether, HasDiscarded, IsStill, first_eligible}
+use Rattle.w16_arena.specs.Asked.{Stands, SlidesTogether, HasDiscarded, IsStill, IsPlaced, IsSlid, Discards, first_eligible}
+use Rattle.w16_arena.specs.declared.making.Placed.{Placed}
+use Rattle.w16_arena.specs.declared.placing.Compacted.{Compacted}
+use Rattle.std.specs.Borrow.{GName}
+use Rattle.w16_compact.specs.Rest.{IsSameRest}
+use Rattle.w16_arena.specs.State.{State, IsSameRange, KeepsRest}
 use Rattle.w16_arena.specs.Making.{most_in}
 use Rattle.w16_arena.proofs.Parts.{AreParts}
 use Rattle.w16_arena.proofs.Lookups.{bytes_here}
 use Rattle.w16_arena.proofs.Listed.{is_listed, listed_permutation, listed_room, listed_with}
-use Rattle.w16_arena.proofs.Oldest.{filter_shorter}
+use Rattle.w16_arena.proofs.Moved.{moved_few}
+use Rattle.w16_arena.proofs.Oldest.{eligible_few}
+use Rattle.w16_arena.proofs.Rooms.{room_whole}
 
 -- where a discarded heap has a place, the heap before has it
 places_before : (ids : List ℕ) (heap : Heap) (q : ℕ) (at : ℕ) → finmap.get (fold absent heap ids).places q ≡ Some at → finmap.get heap.places q ≡ Some at
@@ -55,9 +62,12 @@ still_before heap new k h slid q = from (finmap.get new.places q)
     from None f = tt
     from (Some at) f = λ out. places_before (take k (eligible (blocks heap) heap.order h)) heap q at (f out)
 
--- no more may be discarded than are in use
-pub eligible_few : (xs : List Block) (order : List ℕ) (about : Option ℕ) → length (eligible xs order about) ≤ length order
-eligible_few xs order about = filter_shorter (λ id. not (is_pinned_id xs id) && not (is_about about id)) order
+-- what a step after another leaves of the rest
+pub rest_then : {X : Type 0} {bytes : X → List ℕ} {lenders : X → List GName} {old mid new : Table} {x y : X} → IsSameRange old mid → KeepsRest bytes lenders mid x new y → KeepsRest bytes lenders old x new y
+rest_then {X} {bytes} {lenders} {old} {mid} {new} {x} {y} range rest = record {
+  range = record { lo = rest.range.lo ∙ range.lo; hi = rest.range.hi ∙ range.hi; grain = rest.range.grain ∙ range.grain; ids = rest.range.ids ∙ range.ids; sound = rest.range.sound };
+  memory = subst (λ lo. IsSameRest bytes lenders lo old.hi x y) range.lo (subst (λ hi. IsSameRest bytes lenders mid.lo hi x y) range.hi rest.memory);
+}
 
 -- each stands where it stands
 pub still_same : (heap : Heap) (slid : Span) (q : ℕ) → IsStill slid heap heap q
@@ -91,10 +101,6 @@ none_out : (id : ℕ) (xs : List Block) → Each (λ x. x.id ≢ id) xs → bloc
 none_out id [] all = refl
 none_out id (x ∷ xs) all = rw (ne_eqb x.id id all.0) (ap (λ ys. x ∷ ys) (none_out id xs all.1))
 
-none_out_all : (xs : List Block) → blocks_without xs [] None ≡ xs
-none_out_all [] = refl
-none_out_all (x ∷ xs) = ap (λ ys. x ∷ ys) (none_out_all xs)
-
 abbrev layout_in : Table → Layout
 layout_in t = record { cap = length t.entries; lo = t.lo; hi = t.hi; grain = t.grain; blocks = t.blocks }
 
@@ -102,7 +108,7 @@ layout_in t = record { cap = length t.entries; lo = t.lo; hi = t.hi; grain = t.g
 room_of : (t : Table) → IsSound t → (memory : List ℕ) → t.hi ≤ length memory → room_for t.lo t.hi (blocks (heap_in t memory)) t.order 0 None ≡ room t.lo t.hi t.blocks
 room_of t sound memory inside =
     let parts : AreParts t.entries (layout_in t) t.order memory = record { sound = sound; ids = refl; high = inside } in
-    ap (room t.lo t.hi) (none_out_all (blocks (heap_in t memory))) ∙ listed_room parts
+    room_whole t.lo t.hi (blocks (heap_in t memory)) t.order ∙ listed_room parts
 
 -- also where an object without a block is left out
 room_about : (t : Table) → IsSound t → (memory : List ℕ) → t.hi ≤ length memory → (id : ℕ) → block_with t.blocks id ≡ None → room_for t.lo t.hi (blocks (heap_in t memory)) t.order 0 (Some id) ≡ room t.lo t.hi t.blocks
@@ -111,7 +117,10 @@ room_about t sound memory inside id none =
     ap (room t.lo t.hi) (none_out id (blocks (heap_in t memory)) (Each-from (λ x. x.id ≢ id) (blocks (heap_in t memory)) (λ x m e.
     let some : ◌≡◌ {A = Option Block} None (Some x) = sym none ∙ ap (block_with t.blocks) (sym e) ∙ listed_with parts x (is_listed parts x m) in cc))) ∙ listed_room parts
 
-module _ (t : Table) (sound : IsSound t) (memory : List ℕ) (inside : t.hi ≤ length memory) where
+module _ (old : State) (sound : IsSound old.table) (memory : List ℕ) (inside : old.table.hi ≤ length memory) where
+  abbrev t : Table
+  t = old.table
+
   parts : AreParts t.entries (layout_in t) t.order memory
   parts = record { sound = sound; ids = refl; high = inside }
 
@@ -138,8 +147,8 @@ module _ (t : Table) (sound : IsSound t) (memory : List ℕ) (inside : t.hi ≤ 
       | inr off ↦ prefix_hole t.lo t.hi (blocks h) t.order n (Some id) way off (let e = longest in let k : n ≤ longest_hole t.lo t.hi t.blocks = subst (λ b. n ≤ (if b then room t.lo t.hi t.blocks else longest_hole t.lo t.hi t.blocks)) off enough in omega arith)
     ]
 
-    pub allocates_now : {at moved : ℕ} {slid : Span} {new : Heap} → n ≤ most_in t way.compact → Stands h id n kind way at slid moved new → Allocates h id n kind 0 way true new
-    allocates_now {at} {moved} {slid} {new} enough s = allocates_after h id n kind way 0 some rounded without_bytes (prefix_0 enough) s.object s.is_new new s.settled
+    pub allocates_now : {p : Placed} {new : Heap} → n ≤ most_in t way.compact → Stands h id n kind way p new → Allocates h id n kind 0 way true new
+    allocates_now {p} {new} enough s = allocates_after h id n kind way 0 some rounded without_bytes (prefix_0 enough) s.object s.is_new new s.settled
 
     pub discards_none : n ≤ most_in t way.compact → {ids : List ℕ} → ids ≡ [] → HasDiscarded h id n way ids
     discards_none enough e = record { prefix = 0; needed = prefix_0 enough; listed = e }
@@ -161,110 +170,127 @@ module _ (t : Table) (sound : IsSound t) (memory : List ℕ) (inside : t.hi ≤ 
           (let e = longest in let k : longest_hole t.lo t.hi t.blocks < n = subst (λ b. (if b then room t.lo t.hi t.blocks else longest_hole t.lo t.hi t.blocks) < n) off short in omega arith)
     ])
 
-    module _ (may : (way.compact && way.discard) ≡ true) where
+    -- As many were sought as make room.
+    module _ (may : (way.compact && way.discard) ≡ true) {found : Option ℕ} (found_is : found ≡ needed t.lo t.hi t.blocks t.order n (Some id)) where
       compact : way.compact ≡ true
       compact = (and_parts way.compact way.discard may).0
 
-      discard : way.discard ≡ true
-      discard = (and_parts way.compact way.discard may).1
+      prefix_is : prefix_of h n (Some id) way ≡ found
+      prefix_is = prefix_needed t.lo t.hi (blocks h) t.order n (Some id) way compact (and_parts way.compact way.discard may).1 ∙ sym (needed_same n (Some id)) ∙ sym found_is
 
-      pub prefix_is : (k : Option ℕ) → k ≡ needed t.lo t.hi t.blocks t.order n (Some id) → prefix_of h n (Some id) way ≡ k
-      prefix_is k e = prefix_needed t.lo t.hi (blocks h) t.order n (Some id) way compact discard ∙ sym (needed_same n (Some id)) ∙ sym e
-
-      pub refused_needed : None ≡ needed t.lo t.hi t.blocks t.order n (Some id) → Allocates h id n kind 0 way false h
-      refused_needed e = refused_by (prefix_is None e)
+      pub refused_needed : found ≡ None → Allocates h id n kind 0 way false h
+      refused_needed e = refused_by (prefix_is ∙ e)
 
       -- The first k were discarded.
-      module _ (k : ℕ) (k_is : Some k ≡ needed t.lo t.hi t.blocks t.order n (Some id)) (mid : Table) (mid_sound : IsSound mid) (mid_inside : mid.hi ≤ length memory) (mid_is : heap_in mid memory ≡ discarded h k (Some id)) where
-        pub absent_still : block_with mid.blocks id ≡ None
-        absent_still = from (block_with mid.blocks id) refl
+      module _ (k : ℕ) (some_is : found ≡ Some k) (mid : State) (discards : Discards k (Some id) old mid) where
+        mid_inside : mid.table.hi ≤ length memory
+        mid_inside = let same = discards.range.hi in omega arith
+
+        pub absent_then : block_with mid.table.blocks id ≡ None
+        absent_then = from (block_with mid.table.blocks id) refl
           where
             here : finmap.get h.places id ≡ None
             here = place_is t sound.table memory inside id ∙ ap (option_map (λ (x : Block). x.at)) none
 
-            from : (b : Option Block) → block_with mid.blocks id ≡ b → b ≡ None
+            from : (b : Option Block) → block_with mid.table.blocks id ≡ b → b ≡ None
             from None e = refl
             from (Some x) e =
-                let out : ◌≡◌ {A = Option ℕ} None (Some x.at) = sym (places_none (take k (eligible (blocks h) h.order (Some id))) h id here) ∙ ap (λ (g : Heap). finmap.get g.places id) (sym mid_is) ∙ place_is mid mid_sound.table memory mid_inside id ∙ ap (option_map (λ (y : Block). y.at)) e in
+                let out : ◌≡◌ {A = Option ℕ} None (Some x.at) = sym (places_none (take k (eligible (blocks h) h.order (Some id))) h id here) ∙ ap (λ (g : Heap). finmap.get g.places id) (sym (discards.heaps memory inside)) ∙ place_is mid.table discards.range.sound.table memory mid_inside id ∙ ap (option_map (λ (y : Block). y.at)) e in
                 cc
 
-        module _ {at moved : ℕ} {slid : Span} {new : Heap} (s : Stands (heap_in mid memory) id n kind way at slid moved new) where
-          stands : Stands (discarded h k (Some id)) id n kind way at slid moved new
-          stands = subst (λ g. Stands g id n kind way at slid moved new) mid_is s
+        -- so there is as much room as that
+        pub room_then : n ≤ most_in mid.table way.compact
+        room_then =
+            let is = discards.heaps memory inside in
+            let now : room_for mid.table.lo mid.table.hi (blocks (heap_in mid.table memory)) mid.table.order 0 (Some id) ≡ room mid.table.lo mid.table.hi mid.table.blocks = room_about mid.table discards.range.sound memory mid_inside id absent_then in
+            let later : room_for mid.table.lo mid.table.hi (blocks (heap_in mid.table memory)) mid.table.order 0 (Some id) ≡ room_for t.lo t.hi (blocks h) t.order k (Some id) =
+            (λ i. room_for (is i).lo (is i).hi (blocks (is i)) (is i).order 0 (Some id)) ∙ room-discarded h k (Some id) in
+            let enough : n ≤ room_for t.lo t.hi (blocks h) t.order k (Some id) = needed_enough t.lo t.hi (blocks h) t.order n (Some id) k (sym (needed_same n (Some id)) ∙ sym found_is ∙ some_is) in
+            subst (λ b. n ≤ (if b then room mid.table.lo mid.table.hi mid.table.blocks else longest_hole mid.table.lo mid.table.hi mid.table.blocks)) (sym compact) (omega (arith, now, later, enough))
+
+        pub discards_then : {ids : List ℕ} → ids ≡ mid.discarded → HasDiscarded h id n way ids
+        discards_then e = record { prefix = k; needed = prefix_is ∙ some_is; listed = e ∙ discards.listed ∙ ap (take k) (eligible_same (Some id)) }
+
+        module _ {p : Placed} {new : Heap} (s : Stands (heap_in mid.table memory) id n kind way p new) where
+          stands : Stands (discarded h k (Some id)) id n kind way p new
+          stands = subst (λ g. Stands g id n kind way p new) (discards.heaps memory inside) s
 
           pub allocates_then : Allocates h id n kind 0 way true new
-          allocates_then = allocates_after h id n kind way k some rounded without_bytes (prefix_is (Some k) k_is) stands.object stands.is_new new stands.settled
+          allocates_then = allocates_after h id n kind way k some rounded without_bytes (prefix_is ∙ some_is) stands.object stands.is_new new stands.settled
 
-          pub still_then : (q : ℕ) → q ≢ id → IsStill slid h new q
-          still_then q d = still_before h new k (Some id) slid q (stands.still q d)
+          module _ (bytes : All (λ b. b < 256) memory) where
+            moved_then : p.moved ≡ moved_bytes h new
+            moved_then =
+                let keeps : KeepsOthers h (Some id) k new = (others_law h new (sound_heap t sound memory inside bytes) k).0 id way stands.object (with_newest id stands.object)
+                (settles_after h id n way k (prefix_is ∙ some_is) (with_ordered (discarded h k (Some id)) id stands.object (with_newest id stands.object)) new stands.settled) in
+                stands.placed.moved ∙ sym (moved_after h k (Some id) new (λ q m. gone h new stands.settled.sound q (keeps.discarded q m)))
 
-          pub moved_then : All (λ b. b < 256) memory → moved ≡ moved_bytes h new
-          moved_then bytes =
-              let keeps : KeepsOthers h (Some id) k new = (others_law h new (sound_heap t sound memory inside bytes) k).0 id way stands.object (with_newest id stands.object)
-              (settles_after h id n way k (prefix_is (Some k) k_is) (with_ordered (discarded h k (Some id)) id stands.object (with_newest id stands.object)) new stands.settled) in
-              stands.bytes ∙ sym (moved_after h k (Some id) new (λ q m. gone h new stands.settled.sound q (keeps.discarded q m)))
+            pub placed_then : IsPlaced h id n p new
+            placed_then = record {
+              place = stands.placed.place;
+              inside = let e = ap (λ (g : Heap). g.hi) (discards.heaps memory inside) in let range = discards.range.hi in let i = s.placed.inside in omega arith;
+              still = λ q d. still_before h new k (Some id) p.slid q (stands.placed.still q d);
+              moved = moved_then;
+              few = let e = moved_then in omega (arith, moved_few t sound memory inside new);
+            }
 
-        -- so there is as much room as that
-        pub room_then : n ≤ room mid.lo mid.hi mid.blocks
-        room_then =
-            let now : room_for mid.lo mid.hi (blocks (heap_in mid memory)) mid.order 0 (Some id) ≡ room mid.lo mid.hi mid.blocks = room_about mid mid_sound memory mid_inside id absent_still in
-            let later : room_for mid.lo mid.hi (blocks (heap_in mid memory)) mid.order 0 (Some id) ≡ room_for t.lo t.hi (blocks h) t.order k (Some id) =
-            (λ i. room_for (mid_is i).lo (mid_is i).hi (blocks (mid_is i)) (mid_is i).order 0 (Some id)) ∙ room-discarded h k (Some id) in
-            let enough : n ≤ room_for t.lo t.hi (blocks h) t.order k (Some id) = needed_enough t.lo t.hi (blocks h) t.order n (Some id) k (sym (needed_same n (Some id)) ∙ sym k_is) in
-            omega (arith, now, later, enough)
-
-        pub discards_then : {ids : List ℕ} → ids ≡ take k (eligible t.blocks t.order (Some id)) → HasDiscarded h id n way ids
-        discards_then e = record { prefix = k; needed = prefix_is (Some k) k_is; listed = e ∙ ap (take k) (eligible_same (Some id)) }
+  -- with all left out that may be, the room is the most that there can be
+  pub room_most : (k : ℕ) → length t.order ≤ k → room_for t.lo t.hi t.blocks t.order k None ≡ most_room h
+  room_most k all =
+      let few : length (eligible (blocks h) t.order None) ≤ k = let le = eligible_few (blocks h) t.order None in omega arith in
+      room_by_members t.lo t.hi t.blocks (blocks h) (listed_permutation parts) t.order k None
+      ∙ ap (λ ids. room t.lo t.hi (blocks_without (blocks h) ids None)) (take_all k (eligible (blocks h) t.order None) few ∙ sym (take_all (eligible_count h) (eligible (blocks h) t.order None) (omega arith)))
 
   -- Compaction. For no bytes it only answers.
   pub compacts_none : (most : ℕ) → most ≡ most_room h → (n : ℕ) → n ≡ 0 → Compacts h n most h
   compacts_none most is n none = subst (λ b. MatchBool b ((most ≡ most_room h) × (h ≡ h)) (MakesRoom h n most h)) (sym (eq-eqb n 0 none)) (is, refl)
 
-  -- how many are discarded: as many as are needed, or as many as there may be
-  module _ (n : ℕ) (some : 0 < n) (k : Option ℕ) (k_is : k ≡ needed t.lo t.hi t.blocks t.order n None) where
-    count_same : length (eligible t.blocks t.order None) ≡ eligible_count h
-    count_same = ap (length {A = ℕ}) (eligible_same None)
+  -- For some, as many are discarded as are needed, or all.
+  module _ (n : ℕ) (some : 0 < n) (k : Option ℕ) (k_is : k ≡ needed t.lo t.hi t.blocks t.order n None) (all : ℕ) (few : length t.order ≤ all) (mid : State) (discards : Discards (unwrap_or k all) None old mid) where
+    count_few : eligible_count h ≤ all
+    count_few = let e = ap (length {A = ℕ}) (eligible_same None) in let le = eligible_few t.blocks t.order None in omega arith
 
-    prefix_same : (j : ℕ) → unwrap_or k j ≡ unwrap_or (needed t.lo t.hi (blocks h) t.order n None) j
-    prefix_same j = ap (λ p. unwrap_or p j) (k_is ∙ needed_same n None)
+    prefix_same : unwrap_or k all ≡ unwrap_or (needed t.lo t.hi (blocks h) t.order n None) all
+    prefix_same = ap (λ p. unwrap_or p all) (k_is ∙ needed_same n None)
 
-    module _ (all : ℕ) (few : length (eligible t.blocks t.order None) ≤ all) where
-      discarded_prefix : discarded h (unwrap_or k all) None ≡ discarded h (compaction_prefix h n) None
-      discarded_prefix = ap (λ j. discarded h j None) (prefix_same all) ∙ from (needed t.lo t.hi (blocks h) t.order n None)
-        where
-          from : (p : Option ℕ) → discarded h (unwrap_or p all) None ≡ discarded h (unwrap_or p (eligible_count h)) None
-          from None = discarded_all h None all (let e = count_same in omega arith)
-          from (Some j) = refl
+    mid_heap : heap_in mid.table memory ≡ discarded h (compaction_prefix h n) None
+    mid_heap = discards.heaps memory inside ∙ ap (λ j. discarded h j None) prefix_same ∙ from (needed t.lo t.hi (blocks h) t.order n None)
+      where
+        from : (p : Option ℕ) → discarded h (unwrap_or p all) None ≡ discarded h (unwrap_or p (eligible_count h)) None
+        from None = discarded_all h None all count_few
+        from (Some j) = refl
 
-      pub listed_prefix : take (unwrap_or k all) (eligible t.blocks t.order None) ≡ first_eligible h (compaction_prefix h n) None
-      listed_prefix = (λ i. take (prefix_same all i) (eligible_same None i)) ∙ from (needed t.lo t.hi (blocks h) t.order n None)
-        where
-          from : (p : Option ℕ) → take (unwrap_or p all) (eligible (blocks h) h.order None) ≡ take (unwrap_or p (eligible_count h)) (eligible (blocks h) h.order None)
-          from None = take_all all (eligible (blocks h) h.order None) (let e = count_same in omega arith) ∙ sym (take_all (eligible_count h) (eligible (blocks h) h.order None) (omega arith))
-          from (Some j) = refl
+    pub listed_then : {ids : List ℕ} → ids ≡ mid.discarded → ids ≡ first_eligible h (compaction_prefix h n) None
+    listed_then e = e ∙ discards.listed ∙ (λ i. take (prefix_same i) (eligible_same None i)) ∙ from (needed t.lo t.hi (blocks h) t.order n None)
+      where
+        from : (p : Option ℕ) → take (unwrap_or p all) (eligible (blocks h) h.order None) ≡ take (unwrap_or p (eligible_count h)) (eligible (blocks h) h.order None)
+        from None = take_all all (eligible (blocks h) h.order None) count_few ∙ sym (take_all (eligible_count h) (eligible (blocks h) h.order None) (omega arith))
+        from (Some j) = refl
 
-      module _ (mid : Table) (mid_sound : IsSound mid) (mid_inside : mid.hi ≤ length memory) (mid_is : heap_in mid memory ≡ discarded h (unwrap_or k all) None)
-          {most moved : ℕ} {slid : Span} {new : Heap} (most_is : most ≡ room mid.lo mid.hi mid.blocks) (s : SlidesTogether (heap_in mid memory) most slid moved new) where
-        mid_heap : heap_in mid memory ≡ discarded h (compaction_prefix h n) None
-        mid_heap = mid_is ∙ discarded_prefix
+    module _ {c : Compacted} {new : Heap} (room_is : c.room ≡ room mid.table.lo mid.table.hi mid.table.blocks) (s : SlidesTogether (heap_in mid.table memory) c new) where
+      slides : SlidesTogether (discarded h (compaction_prefix h n) None) c new
+      slides = subst (λ g. SlidesTogether g c new) mid_heap s
 
-        slides : SlidesTogether (discarded h (compaction_prefix h n) None) most slid moved new
-        slides = subst (λ g. SlidesTogether g most slid moved new) mid_heap s
+      settled : Settles h is_pinned (discarded h (compaction_prefix h n) None) new
+      settled = settles_before h (compaction_prefix h n) None (discarded h (compaction_prefix h n) None) new slides.settled
 
-        promised : room mid.lo mid.hi mid.blocks ≡ room_for t.lo t.hi (blocks h) t.order (compaction_prefix h n) None
-        promised = sym (room_of mid mid_sound memory mid_inside) ∙ (λ i. room_for (mid_heap i).lo (mid_heap i).hi (blocks (mid_heap i)) (mid_heap i).order 0 None) ∙ room-discarded h (compaction_prefix h n) None
+      pub compacts_then : Compacts h n c.room new
+      compacts_then = subst (λ b. MatchBool b ((c.room ≡ most_room h) × (new ≡ h)) (MakesRoom h n c.room new)) (sym (ne_eqb n 0 (omega arith))) (record {
+        settled = settled;
+        promised = room_is ∙ sym (room_of mid.table discards.range.sound memory (let same = discards.range.hi in omega arith))
+            ∙ (λ i. room_for (mid_heap i).lo (mid_heap i).hi (blocks (mid_heap i)) (mid_heap i).order 0 None) ∙ room-discarded h (compaction_prefix h n) None;
+        longest = slides.longest;
+      })
 
-        pub compacts_then : Compacts h n most new
-        compacts_then = subst (λ b. MatchBool b ((most ≡ most_room h) × (new ≡ h)) (MakesRoom h n most new)) (sym (ne_eqb n 0 (omega arith))) (record {
-          settled = settles_before h (compaction_prefix h n) None (discarded h (compaction_prefix h n) None) new slides.settled;
-          promised = most_is ∙ promised;
-          longest = slides.longest;
-        })
+      module _ (bytes : All (λ b. b < 256) memory) where
+        slid_moved : c.moved ≡ moved_bytes h new
+        slid_moved =
+            let keeps : KeepsOthers h None (compaction_prefix h n) new = (others_law h new (sound_heap t sound memory inside bytes) (compaction_prefix h n)).1 settled in
+            slides.slid.moved ∙ sym (moved_after h (compaction_prefix h n) None new (λ q m. gone h new slides.settled.sound q (keeps.discarded q m)))
 
-        pub compact_still : (q : ℕ) → IsStill slid h new q
-        compact_still q = still_before h new (compaction_prefix h n) None slid q (slides.still q)
-
-        pub compact_moved : All (λ b. b < 256) memory → moved ≡ moved_bytes h new
-        compact_moved bytes =
-            let keeps : KeepsOthers h None (compaction_prefix h n) new = (others_law h new (sound_heap t sound memory inside bytes) (compaction_prefix h n)).1 (settles_before h (compaction_prefix h n) None (discarded h (compaction_prefix h n) None) new slides.settled) in
-            slides.bytes ∙ sym (moved_after h (compaction_prefix h n) None new (λ q m. gone h new slides.settled.sound q (keeps.discarded q m)))
+        pub slid_then : IsSlid h c new
+        slid_then = record {
+          still = λ q. still_before h new (compaction_prefix h n) None c.slid q (slides.slid.still q);
+          moved = slid_moved;
+          few = let e = slid_moved in omega (arith, moved_few t sound memory inside new);
+        }

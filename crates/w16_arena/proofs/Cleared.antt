@@ -1,13 +1,13 @@
 -- A memory in which a range was given to a new object.
-use Rattle.std.proofs.Common.{◌≡◌, ℕ, ◌+◌, ◌-◌, ◌<◌, ◌≤◌, ◌⊎◌, inl, inr, Bool, true, false, if◌then◌else◌, List, ◌++◌, length, take, drop, replicate, slice_range, All, refl, sym, ap, ◌∙◌, subst, arith}
+use Rattle.std.proofs.Common.{◌≡◌, ℕ, ◌+◌, ◌-◌, ◌<◌, ◌≤◌, ◌⊎◌, inl, inr, Bool, true, false, if◌then◌else◌, List, length, drop, replicate, slice_range, All, refl, sym, ap, ◌∙◌, subst, arith}
 use Rattle.std.proofs.lemmas.Bool.{false≢true}
-use Rattle.std.proofs.lemmas.List.{length-take-le, take_at, drop_at, length-replicate}
+use Rattle.std.proofs.lemmas.List.{length-replicate}
 use Rattle.std.proofs.lemmas.List.Elements.{All-take, All-drop, All-replicate}
 use Rattle.w16_model.specs.Gap.{Misses}
 use Rattle.w16_model.specs.Request.{AreNew}
 use Rattle.w16_model.proofs.Tables.{length_range}
 use Rattle.w16_region.specs.Bytes.{put_part, repeated, length-put_part, length-repeated}
-use Rattle.w16_arena.proofs.Slices.{slice_of_put_apart, All-put_part}
+use Rattle.w16_region.proofs.Parts.{range-put_part, range_apart, All-put_part}
 
 -- it is as long as before, the range has new bytes, and the rest is the same
 pub record Makes (zero : Bool) (at n : ℕ) (memory after : List ℕ) : Type 0 where
@@ -15,17 +15,6 @@ pub record Makes (zero : Bool) (at n : ℕ) (memory after : List ℕ) : Type 0 w
   pub bytes : All (λ b. b < 256) after
   pub fresh : AreNew zero n (slice_range after at (at + n))
   pub others : (p s : ℕ) → Misses p s at (at + n) → slice_range after p (p + s) ≡ slice_range memory p (p + s)
-
--- the part that was put in is what is there then
-slice_put : (m : List ℕ) (at n : ℕ) (new : List ℕ) → at ≤ length m → length new ≡ n → slice_range (put_part m at new) at (at + n) ≡ new
-slice_put m at n new le e =
-    let size : at + n - at ≡ n = omega arith in
-    ap (λ k. take k (drop at (put_part m at new))) size
-    ∙ ap (take n) (drop_at (take at m) (new ++ drop (length new) (drop at m)) at (length-take-le at m le))
-    ∙ take_at new (drop (length new) (drop at m)) n e
-
-zeros : ℕ → List ℕ
-zeros n = replicate n 0
 
 repeated_is : (n : ℕ) → repeated n 0 ≡ replicate n 0
 unfolding repeated
@@ -42,13 +31,13 @@ makes false at n memory after some le are e = subst (Makes false at n memory) (s
 })
 makes true at n memory after some le are e =
     let size : length (repeated n 0) ≡ n = length-repeated n 0 in
-    let there : slice_range (put_part memory at (repeated n 0)) at (at + n) ≡ replicate n 0 = slice_put memory at n (repeated n 0) (omega arith) size ∙ repeated_is n in
+    let there : slice_range (put_part memory at (repeated n 0)) at (at + n) ≡ replicate n 0 = range-put_part memory at n (repeated n 0) (omega arith) size ∙ repeated_is n in
     let small : All (λ b. b < 256) (replicate n 0) = All-replicate (λ b. b < 256) n 0 (omega arith) in
     subst (Makes true at n memory) (sym e) (record {
       long = length-put_part memory at (repeated n 0) (omega arith);
       bytes = All-put_part (λ b. b < 256) memory at (repeated n 0) are (subst (All (λ b. b < 256)) (sym (repeated_is n)) small);
       fresh = (ap (length {A = ℕ}) there ∙ length-replicate n 0, subst (All (λ b. b < 256)) (sym there) small, λ t. there);
-      others = λ p s m. slice_of_put_apart memory at (repeated n 0) p s (omega arith) (turned p s m);
+      others = λ p s m. range_apart memory at (repeated n 0) p s (omega arith) (turned p s m);
     })
   where
     turned : (p s : ℕ) → Misses p s at (at + n) → (p + s ≤ at) ⊎ (at + length (repeated n 0) ≤ p)

@@ -7,21 +7,23 @@ use Rattle.w16_model.specs.declared.Kind.{Kind}
 use Rattle.w16_model.specs.declared.Way.{Way}
 use Rattle.w16_model.specs.Heap.{IsMultiple, is_discardable}
 use Rattle.w16_model.specs.Edit.{newest}
-use Rattle.w16_model.specs.Table.{block_with, hold_in, heap_in, IsSameOutside}
+use Rattle.w16_model.specs.Table.{block_with, hold_in, heap_in}
 use Rattle.w16_region.specs.Bytes.{put_part, repeated}
 use Rattle.w16_blocks.specs.Layout.{Layout, IsOrdered, Fits, placed}
 use Rattle.w16_compact.specs.Gather.{moved_size}
 use Rattle.w16_lru.specs.Uses.{Uses}
 use Rattle.w16_arena.specs.declared.making.Placed.{Placed}
 use Rattle.w16_arena.specs.Asked.{Stands}
-use Rattle.w16_arena.specs.State.{State, IsSameRange, table_of, heap_of}
+use Rattle.std.specs.Borrow.{GName}
+use Rattle.w16_compact.specs.Rest.{IsSameRest}
+use Rattle.w16_arena.specs.State.{State, KeepsRest, table_of, heap_of}
 use Rattle.w16_arena.specs.Kept.{IsKept}
 use Rattle.w16_arena.specs.Making.{AreMoved, IsFree}
 use Rattle.w16_arena.proofs.Parts.{AreParts}
 use Rattle.w16_arena.proofs.Steps.{state_of, beside, kept_with}
 use Rattle.w16_arena.proofs.Shown.{known, told}
 use Rattle.w16_arena.proofs.Standing as standing
-use Rattle.w16_arena.proofs.Outside.{outside_twice, outside_cleared, long_cleared}
+use Rattle.w16_compact.proofs.Rests.{rest_more}
 
 module _ {entries : List (Option Entry)} {layout : Layout} {uses : Uses} {marks : List Bool} {room : ℕ} (kept : IsKept entries layout uses marks room)
     {discarded : List ℕ} {old : State} (shown : state_of entries layout uses.ids discarded ≡ old)
@@ -39,9 +41,6 @@ module _ {entries : List (Option Entry)} {layout : Layout} {uses : Uses} {marks 
 
   grains : IsMultiple layout.grain n
   grains = known kept shown (λ t. IsMultiple t.grain n) rounded
-
-  pub in_memory : p.at + n ≤ length mid_memory
-  in_memory = standing.in_memory parts bytes id n kind way lt absent some grains p moved place
 
   abbrev entry : Entry
   entry = record { kind = kind; locks = 0 }
@@ -67,18 +66,14 @@ module _ {entries : List (Option Entry)} {layout : Layout} {uses : Uses} {marks 
       pub kept_placed : IsKept (set entries id (Some entry)) new uses' marks room
       kept_placed = kept_with kept (set entries id (Some entry)) new uses' parts_after.sound (length-set entries id (Some entry)) same.3 (ap (λ (u : Uses). u.cap) uses_is)
 
-      pub range_placed : IsSameRange old.table (table_of (set entries id (Some entry)) new uses'.ids)
-      range_placed = told kept shown (λ t. IsSameRange t (table_of (set entries id (Some entry)) new uses'.ids))
-          (record { lo = same.0; hi = same.1; grain = same.2; ids = length-set entries id (Some entry); sound = parts_after.sound })
-
-      pub stands_placed : p.moved ≡ moved_size layout.blocks mid.blocks → Stands (heap_in old.table memory) id n kind way p.at p.slid p.moved (heap_of (set entries id (Some entry)) new uses'.ids after)
-      stands_placed counted = told kept shown (λ t. Stands (heap_in t memory) id n kind way p.at p.slid p.moved (heap_of (set entries id (Some entry)) new uses'.ids after))
+      pub stands_placed : p.moved ≡ moved_size layout.blocks mid.blocks → Stands (heap_in old.table memory) id n kind way p (heap_of (set entries id (Some entry)) new uses'.ids after)
+      stands_placed counted = told kept shown (λ t. Stands (heap_in t memory) id n kind way p (heap_of (set entries id (Some entry)) new uses'.ids after))
           (standing.stands parts bytes id n kind way lt absent some grains p moved place hold_is still value ordered filled (ap (λ (u : Uses). u.ids) uses_is) counted)
 
-      pub long_placed : length after ≡ length memory
-      long_placed = long_cleared p.at n way.zero mid_memory after in_memory filled ∙ moved.size
-
-      pub outside_placed : IsSameOutside layout.lo layout.hi memory mid_memory → IsSameOutside old.table.lo old.table.hi memory after
-      outside_placed out = told kept shown (λ t. IsSameOutside t.lo t.hi memory after)
-          (outside_twice layout.lo layout.hi memory mid_memory after out (outside_cleared layout.lo layout.hi p.at n way.zero mid_memory after
-          (let lo = ap (λ (l : Layout). l.lo) moved.same in let above = place.above in omega arith) (let hi = ap (λ (l : Layout). l.hi) moved.same in let end = place.below in omega arith) in_memory filled))
+      pub rest_placed : {X : Type 0} {bytes : X → List ℕ} {lenders : X → List GName} {x y z : X}
+          → IsSameRest bytes lenders layout.lo layout.hi x y → IsSameRest bytes lenders p.at (p.at + n) y z → KeepsRest bytes lenders old.table x (table_of (set entries id (Some entry)) new uses'.ids) z
+      rest_placed {X} {bytes} {lenders} {x} {y} {z} made cleared =
+          told kept shown (λ t. KeepsRest bytes lenders t x (table_of (set entries id (Some entry)) new uses'.ids) z) (record {
+            range = record { lo = same.0; hi = same.1; grain = same.2; ids = length-set entries id (Some entry); sound = parts_after.sound };
+            memory = rest_more made cleared (let lo = ap (λ (l : Layout). l.lo) moved.same in let above = place.above in omega arith) (let hi = ap (λ (l : Layout). l.hi) moved.same in let end = place.below in omega arith);
+          })

@@ -2,7 +2,6 @@ pub mod Parts
 pub mod Lookups
 pub mod With
 pub mod Pairs
-pub mod Slices
 pub mod Cleared
 pub mod Holes
 pub mod Slid
@@ -24,10 +23,8 @@ pub mod Fresh
 pub mod Allocated
 pub mod Standing
 pub mod Walks
-pub mod Outside
 pub mod Granting
 pub mod Together
 pub mod Oldest
-pub mod Marked
 pub mod Answering
 pub mod Viewed

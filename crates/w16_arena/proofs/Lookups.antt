@@ -1,10 +1,9 @@
 -- What the heap of the parts has at an id, and when it is another heap.
-use Rattle.std.proofs.Common.{◌≡◌, ◌≢◌, ℕ, zero, suc, ◌+◌, ◌<◌, ◌≤◌, true, false, IfSome, IsSomeAnd, List, [], ◌∷◌, length, get_or, slice_range, All, AllPairs, Option, Some, None, option_map, is_some, refl, sym, ap, ◌∙◌, subst, arith}
+use Rattle.std.proofs.Common.{◌≡◌, ◌≢◌, ℕ, zero, suc, ◌+◌, ◌<◌, ◌≤◌, IfSome, IsSomeAnd, List, [], ◌∷◌, length, get_or, slice_range, All, AllPairs, Option, Some, None, option_map, refl, sym, ap, ◌∙◌, subst, arith}
 use Rattle.std.specs.Cmp.{nat_cmp_total}
 use Rattle.std.specs.FinMap as finmap
 use Rattle.std.specs.FinMap.{same_map, nat_cmp-IsAntisymmetric}
 use Rattle.std.specs.List.{AllByRecursion}
-use Rattle.std.proofs.lemmas.Bool.{false≢true}
 use Rattle.w16_model.specs.declared.Block.{Block}
 use Rattle.w16_model.specs.declared.Entry.{Entry}
 use Rattle.w16_model.specs.Heap.{Heap, Object, IsHeap, object_at, bytes_at, IsMultiple}
@@ -71,9 +70,6 @@ pub record IsOrder (entries : List (Option Entry)) (layout : Layout) (order : Li
   pub members : (q : ℕ) → is_member q order ≡ is_listed (get_or entries q None) (block_with layout.blocks q)
   pub once : AllPairs (λ a b. a ≡ b → ⊥) order
 
-pub sound_order : (entries : List (Option Entry)) (layout : Layout) (order : List ℕ) → IsSound (table_of entries layout order) → IsOrder entries layout order
-sound_order entries layout order sound = record { members = sound.in_order; once = sound.no_repeats }
-
 pub sound_of : (entries : List (Option Entry)) (layout : Layout) (order : List ℕ) → IsArranged layout
     → ((q : ℕ) (x : Block) → block_with layout.blocks q ≡ Some x → IsSomeAnd (get_or entries q None) (λ e. x.hold ≡ hold_in e))
     → IsOrder entries layout order
@@ -131,14 +127,6 @@ module _ {entries : List (Option Entry)} {layout : Layout} {order memory : List 
       from (Some e) h = refl
       from None h = sym (ap (option_map (λ (x : Block). slice_range memory x.at (x.at + x.size))) (no_block q h))
 
-  -- an object has an entry
-  pub entry_there : (q : ℕ) → is_some (object_at (heap_of entries layout order memory) q) ≡ true → (e : Entry) × (get_or entries q None ≡ Some e) × (q < length entries)
-  entry_there q t = from (get_or entries q None) refl
-    where
-      from : (p : Option Entry) → get_or entries q None ≡ p → (e : Entry) × (get_or entries q None ≡ Some e) × (q < length entries)
-      from (Some e) h = (e, h, in_list entries q e h)
-      from None h = let none : is_some (object_at (heap_of entries layout order memory) q) ≡ false = ap is_some (object_here q ∙ ap (option_map (object_in layout.blocks memory q)) h) in absurd (false≢true (sym none ∙ t))
-
   -- where no object is, no entry is
   pub no_entry : (q : ℕ) → object_at (heap_of entries layout order memory) q ≡ None → get_or entries q None ≡ None
   no_entry q free = from (get_or entries q None) (sym (object_here q) ∙ free)
@@ -169,7 +157,3 @@ module _ {entries : List (Option Entry)} {layout : Layout} {order memory : List 
       from : (b : Option Block) → block_with layout.blocks q ≡ b → option_map (length {A = ℕ}) (option_map (λ (x : Block). slice_range memory x.at (x.at + x.size)) b) ≡ option_map (λ (x : Block). x.size) b
       from None e = refl
       from (Some x) e = ap Some (length_range memory x.at x.size (ends_in_memory q x e).1)
-
-  -- past the table there is none
-  pub none_past : (q : ℕ) → length entries ≤ q → block_with layout.blocks q ≡ None
-  none_past q le = no_block q (past_end entries q le)

@@ -1,5 +1,5 @@
 -- The bytes that were moved, by the blocks and by the heap.
-use Rattle.std.proofs.Common.{◌≡◌, ℕ, ◌==◌, inl, inr, Bool, cond, List, [], ◌∷◌, filter, sum_by, Option, Some, option_map, refl, sym, ap, ◌∙◌, arith, eq-eqb, ne_eqb}
+use Rattle.std.proofs.Common.{◌≡◌, ℕ, ◌+◌, ◌≤◌, true, false, length, ◌==◌, inl, inr, Bool, cond, List, [], ◌∷◌, filter, sum_by, Option, Some, option_map, refl, sym, ap, ◌∙◌, arith, eq-eqb, ne_eqb}
 use Rattle.std.proofs.Common.{IsPermutation}
 use Rattle.std.proofs.lemmas.Bool.Decides.{eqb_tells}
 use Rattle.std.proofs.lemmas.List.Sorted.{sum_by-IsPermutation}
@@ -9,7 +9,8 @@ use Rattle.w16_model.specs.declared.Block.{Block}
 use Rattle.w16_model.specs.declared.Entry.{Entry}
 use Rattle.w16_model.specs.Heap.{Heap, blocks}
 use Rattle.w16_model.specs.Request.{is_elsewhere, moved_bytes}
-use Rattle.w16_model.specs.Table.{block_with}
+use Rattle.w16_model.specs.Gap.{IsLaid, block_end}
+use Rattle.w16_model.specs.Table.{Table, IsSound, block_with, heap_in}
 use Rattle.w16_model.proofs.Gaps.{Member}
 use Rattle.w16_model.proofs.Longest.{sum_filter}
 use Rattle.w16_model.proofs.Tables.{with_member}
@@ -26,8 +27,29 @@ bytes_by : (p : Block → Bool) (xs : List Block) → sum_by (λ x. x.size) (fil
 bytes_by p [] = refl
 bytes_by p (x ∷ xs) = omega (arith, sum_filter p x xs, bytes_by p xs, sum_by-cons (λ (y : Block). cond (p y) y.size 0) x xs)
 
-pub bytes_permutation : (p : Block → Bool) (xs ys : List Block) → IsPermutation xs ys → sum_by (λ x. x.size) (filter p ys) ≡ sum_by (λ x. x.size) (filter p xs)
+bytes_permutation : (p : Block → Bool) (xs ys : List Block) → IsPermutation xs ys → sum_by (λ x. x.size) (filter p ys) ≡ sum_by (λ x. x.size) (filter p xs)
 bytes_permutation p xs ys perm = bytes_by p ys ∙ sum_by-IsPermutation (λ (x : Block). cond (p x) x.size 0) xs ys perm ∙ sym (bytes_by p xs)
+
+-- blocks by address have no more bytes than their range
+laid_bytes : (p : Block → Bool) (lo hi : ℕ) (bs : List Block) → IsLaid lo hi bs → lo + sum_by (λ x. x.size) (filter p bs) ≤ hi
+laid_bytes p lo hi [] laid = omega (arith, laid)
+laid_bytes p lo hi (b ∷ bs) laid =
+    let rest = laid_bytes p (block_end b) hi bs laid.2 in
+    let above = laid.0 in
+    let sum = sum_filter p b bs in
+    omega (arith, rest, above, sum, fewer (p b) b.size)
+  where
+    fewer : (t : Bool) (n : ℕ) → cond t n 0 ≤ n
+    fewer true n = omega arith
+    fewer false n = omega arith
+
+-- so no more is moved
+pub moved_few : (t : Table) → IsSound t → (memory : List ℕ) → t.hi ≤ length memory → (new : Heap) → t.lo + moved_bytes (heap_in t memory) new ≤ t.hi
+moved_few t sound memory inside new =
+    let layout : Layout = record { cap = length t.entries; lo = t.lo; hi = t.hi; grain = t.grain; blocks = t.blocks } in
+    let parts : AreParts t.entries layout t.order memory = record { sound = sound; ids = refl; high = inside } in
+    let p : Block → Bool = λ x. is_elsewhere x.at (finmap.get new.places x.id) in
+    omega (arith, bytes_permutation p t.blocks (blocks (heap_in t memory)) (listed_permutation parts), laid_bytes p t.lo t.hi t.blocks sound.table.laid)
 
 -- those that are elsewhere then, block by block
 moved_by : (places : ℕ → Option ℕ) (bs cs : List Block) → EachTwo (λ b c. places b.id ≡ Some c.at) bs cs → sum_by (λ x. x.size) (filter (λ x. is_elsewhere x.at (places x.id)) bs) ≡ moved_size bs cs

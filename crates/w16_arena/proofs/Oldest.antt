@@ -1,14 +1,11 @@
--- The oldest that a request may discard, by a search along the order of use, and the discards one by one.
-use Rattle.std.proofs.Common.{◌≡◌, ℕ, zero, suc, ◌+◌, ◌-◌, ◌<◌, ◌≤◌, inl, inr, Bool, true, false, cond, not, ◌&&◌, ◌||◌, nat_lt, IsSomeAnd, subst, List, [], ◌∷◌, ◌++◌, append_assoc, length, replicate, take, drop, filter, Option, Some, None, refl, sym, ap, ◌∙◌, arith, add-one, slice_get, eqb}
+-- The oldest that a request may discard, and the discards one by one.
+use Rattle.std.proofs.Common.{◌≡◌, ℕ, zero, suc, ◌+◌, ◌-◌, ◌<◌, ◌≤◌, inl, inr, Bool, true, false, cond, not, ◌&&◌, ◌||◌, nat_lt, IsSomeAnd, subst, List, [], ◌∷◌, ◌++◌, append_assoc, length, replicate, take, drop, Option, Some, None, refl, sym, ap, ◌∙◌, arith, slice_get, eqb}
 use Rattle.std.specs.List.{list_any}
-use Rattle.std.proofs.lemmas.Bool.{false≢true, cases_Bool, ltb-false, cond-true, cond-false, or_cases, eqb-true}
+use Rattle.std.proofs.lemmas.Bool.{false≢true, cases_Bool, ltb-false, or_cases, eqb-true}
 use Rattle.std.proofs.lemmas.Bool.Decides.{Decides-eqb}
 use Rattle.std.proofs.lemmas.List.{length-append, length-take, length-replicate, append-nil}
 use Rattle.std.proofs.lemmas.Map.Made.{IsDistinct-from_AllPairs}
 use Rattle.std.proofs.lemmas.Map.Steps.{length-le_from_distinct_below}
-use Rattle.std.proofs.lemmas.Option.{slice_get_within, get_or_from_slice_get}
-use Rattle.std.proofs.Math.ListN.{drop_of_length-le}
-use Rattle.std.proofs.Math.Seq.{drop-cons}
 use Rattle.w16_model.specs.declared.Block.{Block}
 use Rattle.w16_model.specs.declared.Entry.{Entry}
 use Rattle.w16_model.specs.Edit.{absent}
@@ -16,7 +13,8 @@ use Rattle.w16_model.specs.Heap.{Heap, blocks, is_fixed, is_discardable}
 use Rattle.w16_model.specs.Gap.{holds_still}
 use Rattle.w16_model.specs.declared.Hold.TheVariants.{Pinned, Loose}
 use Rattle.w16_model.proofs.Tables.{member_with}
-use Rattle.w16_model.specs.Prefix.{eligible, is_member}
+use Rattle.std.proofs.lemmas.List.Filters.{length-filter_both}
+use Rattle.w16_model.specs.Prefix.{eligible, is_member, is_about, is_pinned_id}
 use Rattle.w16_model.specs.Request.{discarded}
 use Rattle.w16_model.specs.Table.{Table, IsSound, hold_in, block_with, entry_at, heap_in, is_listed}
 use Rattle.w16_model.proofs.Answered.{eligible_rest, discarded_next, discarded_none}
@@ -24,45 +22,11 @@ use Rattle.w16_model.proofs.Discards.{true-is_member, eligible_loose}
 use Rattle.w16_model.proofs.Gaps.{Member, member_filter}
 use Rattle.w16_model.proofs.Prefixes.{eligible_by_members}
 use Rattle.w16_blocks.specs.Layout.{Layout}
-use Rattle.w16_compact.proofs.Searched.{may_go}
 use Rattle.w16_arena.specs.State.{State, Steps, IsSameRange}
+use Rattle.w16_arena.specs.Asked.{Discards}
 use Rattle.w16_arena.proofs.Listed.{listed_permutation}
 use Rattle.w16_arena.proofs.Lookups.{in_list, holds_at}
 use Rattle.w16_arena.proofs.Parts.{AreParts}
-
-pub turned : (b c : Bool) → b ≡ not c → not b ≡ c
-turned true true e = sym e
-turned true false e = refl
-turned false true e = refl
-turned false false e = sym e
-
-drop_next : (ids : List ℕ) (i id : ℕ) → Some id ≡ slice_get ids i → drop i ids ≡ id ∷ drop (i + 1) ids
-drop_next ids i id e =
-    drop-cons ids i id (slice_get_within ids i id (sym e))
-    ∙ (λ j. get_or_from_slice_get ids i id id (sym e) j ∷ drop (sym (add-one i) j) ids)
-
-module _ (xs : List Block) (ids : List ℕ) (h : Option ℕ) where
-  -- none of the first i of the order may be discarded
-  pub record ArePassed (i : ℕ) : Type 0 where
-    pub later : eligible xs ids h ≡ eligible xs (drop i ids) h
-
-  pub passed_none : ArePassed 0
-  passed_none = record { later = refl }
-
-  module _ (i : ℕ) (passed : ArePassed i) where
-    -- all were passed
-    pub none_left : length ids ≤ i → eligible xs ids h ≡ []
-    none_left le = passed.later ∙ ap (λ (qs : List ℕ). eligible xs qs h) (drop_of_length-le ids le)
-
-    module _ (id : ℕ) (at : Some id ≡ slice_get ids i) where
-      here : eligible xs ids h ≡ cond (may_go xs h id) (id ∷ eligible xs (drop (i + 1) ids) h) (eligible xs (drop (i + 1) ids) h)
-      here = passed.later ∙ ap (λ (qs : List ℕ). eligible xs qs h) (drop_next ids i id at)
-
-      pub passed_more : may_go xs h id ≡ false → ArePassed (i + 1)
-      passed_more f = record { later = here ∙ cond-false (may_go xs h id) (id ∷ eligible xs (drop (i + 1) ids) h) (eligible xs (drop (i + 1) ids) h) f }
-
-      pub first_is : may_go xs h id ≡ true → slice_get (eligible xs ids h) 0 ≡ Some id
-      first_is t = ap (λ (qs : List ℕ). slice_get qs 0) (here ∙ cond-true (may_go xs h id) (id ∷ eligible xs (drop (i + 1) ids) h) (eligible xs (drop (i + 1) ids) h) t)
 
 -- Lists by their first element.
 
@@ -85,13 +49,11 @@ take_none : (k : ℕ) → take {A = ℕ} k [] ≡ []
 take_none zero = refl
 take_none (suc k) = refl
 
-pub filter_shorter : (p : ℕ → Bool) (ids : List ℕ) → length (filter p ids) ≤ length ids
-filter_shorter p [] = omega arith
-filter_shorter p (q ∷ ids) = turn (p q) (filter_shorter p ids)
-  where
-    turn : (b : Bool) → length (filter p ids) ≤ length ids → length (cond {A = List ℕ} b (q ∷ filter p ids) (filter p ids)) ≤ suc (length ids)
-    turn true le = omega arith
-    turn false le = omega arith
+-- no more may be discarded than are in use
+pub eligible_few : (xs : List Block) (order : List ℕ) (h : Option ℕ) → length (eligible xs order h) ≤ length order
+eligible_few xs order h =
+    let p : ℕ → Bool = λ id. not (is_pinned_id xs id) && not (is_about h id) in
+    omega (arith, length-filter_both p (λ id. not (p id)) (λ id. refl) order)
 
 -- Of a sound table.
 module _ (t : Table) (sound : IsSound t) where
@@ -112,7 +74,7 @@ module _ (t : Table) (sound : IsSound t) where
 
   -- and so has what may be discarded, and no lock
   pub first_known : (h : Option ℕ) (id : ℕ) → slice_get (eligible t.blocks t.order h) 0 ≡ Some id → IsSomeAnd (entry_at t id) (λ e. e.locks ≡ 0)
-  first_known h id first = turn (entry_at t id) (block_with t.blocks id) refl refl (sym (sound.in_order id) ∙ true-is_member id t.order (member_filter (may_go t.blocks h) t.order id m).0)
+  first_known h id first = turn (entry_at t id) (block_with t.blocks id) refl refl (sym (sound.in_order id) ∙ true-is_member id t.order (member_filter (λ q. not (is_pinned_id t.blocks q) && not (is_about h q)) t.order id m).0)
     where
       m : Member id (eligible t.blocks t.order h)
       m = first_member (eligible t.blocks t.order h) id first
@@ -145,43 +107,43 @@ module _ (t : Table) (sound : IsSound t) where
       (λ q e. let known = member_known q (true-is_member q t.order (any_member q t.order e)) in in_list t.entries q known.0 known.1)
 
 -- After i of k discards from a table: the others are those of the table now.
-pub record ArePartly (old : Table) (k : ℕ) (h : Option ℕ) (i : ℕ) (now : State) : Type 0 where
-  pub heaps : (memory : List ℕ) → old.hi ≤ length memory → discarded (heap_in old memory) k h ≡ discarded (heap_in now.table memory) (k - i) h
-  pub listed : now.discarded ++ take (k - i) (eligible now.table.blocks now.table.order h) ≡ take k (eligible old.blocks old.order h)
-  pub range : IsSameRange old now.table
+pub record ArePartly (before : State) (k : ℕ) (h : Option ℕ) (i : ℕ) (now : State) : Type 0 where
+  pub heaps : (memory : List ℕ) → before.table.hi ≤ length memory → discarded (heap_in before.table memory) k h ≡ discarded (heap_in now.table memory) (k - i) h
+  pub listed : now.discarded ++ take (k - i) (eligible now.table.blocks now.table.order h) ≡ take k (eligible before.table.blocks before.table.order h)
+  pub range : IsSameRange before.table now.table
 
-module _ (old : Table) (k : ℕ) (h : Option ℕ) where
-  pub partly_none : IsSound old → (ids : List ℕ) → ids ≡ [] → ArePartly old k h 0 (record { table = old; discarded = ids })
+module _ (before : State) (k : ℕ) (h : Option ℕ) where
+  abbrev old : Table
+  old = before.table
+
+  pub partly_none : IsSound old → (ids : List ℕ) → ids ≡ [] → ArePartly before k h 0 (record { table = old; discarded = ids })
   partly_none sound ids none = let whole : k - 0 ≡ k = omega arith in record {
     heaps = λ memory high. ap (λ n. discarded (heap_in old memory) n h) (sym whole);
     listed = ap (λ (qs : List ℕ). qs ++ take (k - 0) (eligible old.blocks old.order h)) none ∙ ap (λ n. take n (eligible old.blocks old.order h)) whole;
     range = record { lo = refl; hi = refl; grain = refl; ids = refl; sound = sound };
   }
 
-  module _ (i : ℕ) (now : State) (partly : ArePartly old k h i now) where
+  module _ (i : ℕ) (now : State) (partly : ArePartly before k h i now) where
     abbrev left : List ℕ
     left = eligible now.table.blocks now.table.order h
 
     -- all were discarded
-    module _ (none : left ≡ []) where
-      pub ended_heaps : (memory : List ℕ) → old.hi ≤ length memory → heap_in now.table memory ≡ discarded (heap_in old memory) k h
-      ended_heaps memory high =
+    pub ended : left ≡ [] → Discards k h before now
+    ended none = record {
+      heaps = λ memory high.
           let high_now : now.table.hi ≤ length memory = let same = partly.range.hi in omega arith in
-          sym (partly.heaps memory high ∙ discarded_none (heap_in now.table memory) h (sym (eligible_here now.table partly.range.sound memory high_now h) ∙ none) (k - i))
-
-      pub ended_listed : now.discarded ≡ take k (eligible old.blocks old.order h)
-      ended_listed = sym (append-nil now.discarded) ∙ ap (λ (qs : List ℕ). now.discarded ++ qs) (sym (ap (take (k - i)) none ∙ take_none (k - i))) ∙ partly.listed
+          sym (partly.heaps memory high ∙ discarded_none (heap_in now.table memory) h (sym (eligible_here now.table partly.range.sound memory high_now h) ∙ none) (k - i));
+      range = partly.range;
+      listed = sym (append-nil now.discarded) ∙ ap (λ (qs : List ℕ). now.discarded ++ qs) (sym (ap (take (k - i)) none ∙ take_none (k - i))) ∙ partly.listed;
+    }
 
     -- as many as were asked for
-    module _ (le : k ≤ i) where
-      no_more : k - i ≡ 0
-      no_more = omega arith
-
-      pub full_heaps : (memory : List ℕ) → old.hi ≤ length memory → heap_in now.table memory ≡ discarded (heap_in old memory) k h
-      full_heaps memory high = sym (partly.heaps memory high ∙ ap (λ n. discarded (heap_in now.table memory) n h) no_more)
-
-      pub full_listed : now.discarded ≡ take k (eligible old.blocks old.order h)
-      full_listed = sym (append-nil now.discarded) ∙ ap (λ n. now.discarded ++ take n left) (sym no_more) ∙ partly.listed
+    pub full : k ≤ i → Discards k h before now
+    full le = let no_more : k - i ≡ 0 = omega arith in record {
+      heaps = λ memory high. sym (partly.heaps memory high ∙ ap (λ n. discarded (heap_in now.table memory) n h) no_more);
+      range = partly.range;
+      listed = sym (append-nil now.discarded) ∙ ap (λ n. now.discarded ++ take n left) (sym no_more) ∙ partly.listed;
+    }
 
     -- one more
     module _ (id : ℕ) (first : slice_get left 0 ≡ Some id) (lt : i < k) where
@@ -205,11 +167,11 @@ module _ (old : Table) (k : ℕ) (h : Option ℕ) where
           let b = length-append (now.discarded ++ id ∷ []) (take rest (drop 1 left)) in
           let c = length-append now.discarded (id ∷ []) in
           let d = length-take k (eligible old.blocks old.order h) in
-          let e = filter_shorter (may_go old.blocks h) old.order in
+          let e = eligible_few old.blocks old.order h in
           let f = order_short old sound in
           omega arith
 
-      pub partly_more : (after : State) → Steps now after (λ a b. b ≡ absent a id) → (ids : List ℕ) → ids ≡ after.discarded ++ id ∷ [] → ArePartly old k h (i + 1) (record { table = after.table; discarded = ids })
+      pub partly_more : (after : State) → Steps now after (λ a b. b ≡ absent a id) → (ids : List ℕ) → ids ≡ after.discarded ++ id ∷ [] → ArePartly before k h (i + 1) (record { table = after.table; discarded = ids })
       partly_more after steps ids pushed = record {
         heaps = λ memory high.
             let high_now : now.table.hi ≤ length memory = let same = partly.range.hi in omega arith in

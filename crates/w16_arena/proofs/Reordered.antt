@@ -2,7 +2,10 @@
 use Rattle.std.proofs.Common.{◌≡◌, ◌≢◌, ℕ, Bool, true, false, not, ◌&&◌, ◌||◌, ◌==◌, List, [], ◌∷◌, AllPairs, refl, sym, ap, ◌∙◌, eq-eqb, ne_eqb}
 use Rattle.std.proofs.lemmas.Bool.{false≢true, not-true, or_parts}
 use Rattle.w16_model.specs.Prefix.{is_member}
-use Rattle.w16_model.specs.Edit.{without, newest, oldest}
+use Rattle.w16_model.specs.Edit.{without, oldest}
+use Rattle.w16_lru.specs.declared.End.{End}
+use Rattle.w16_lru.specs.declared.End.TheVariants.{Oldest, Newest}
+use Rattle.w16_lru.specs.Uses.{at_end}
 use Rattle.w16_model.proofs.Gaps.{Each-from, EachPair-from_AllPairs, AllPairs-from_EachPair, member_filter, pairs_filter}
 use Rattle.w16_model.proofs.Orders.{member_without, member_newest, newest_differ}
 use Rattle.w16_arena.proofs.Changed.{ReordersOne}
@@ -37,18 +40,15 @@ member_gone id order = member_without id id order ∙ ap (λ t. is_member id ord
 pub without_reorders : (id : ℕ) (order : List ℕ) → AllPairs (λ a b. a ≡ b → ⊥) order → ReordersOne id false order (without id order)
 without_reorders id order once = record { here = member_gone id order; there = λ q d. member_other id q order d; once = without_once id order once }
 
--- at the newest end
-pub newest_reorders : (id : ℕ) (order : List ℕ) → AllPairs (λ a b. a ≡ b → ⊥) order → ReordersOne id true order (newest id order)
-newest_reorders id order once = record {
+-- at an end
+pub end_reorders : (end : End) (id : ℕ) (order : List ℕ) → AllPairs (λ a b. a ≡ b → ⊥) order → ReordersOne id true order (at_end end id order)
+end_reorders Newest id order once = record {
   here = member_newest id id order ∙ ap (λ t. (is_member id order && not (id == id)) || t) (eq-eqb id id refl) ∙ or_true (is_member id order && not (id == id));
   there = λ q d. member_newest q id order ∙ ap (λ t. (is_member q order && not (q == id)) || t) (ne_eqb id q d) ∙ or_false (is_member q order && not (q == id))
       ∙ ap (λ t. is_member q order && not t) (ne_eqb q id (λ e. d (sym e))) ∙ and_true (is_member q order);
   once = newest_differ id order once;
 }
-
--- at the oldest end
-pub oldest_reorders : (id : ℕ) (order : List ℕ) → AllPairs (λ a b. a ≡ b → ⊥) order → ReordersOne id true order (oldest id order)
-oldest_reorders id order once = record {
+end_reorders Oldest id order once = record {
   here = ap (λ t. t || is_member id (without id order)) (eq-eqb id id refl);
   there = λ q d. ap (λ t. t || is_member q (without id order)) (ne_eqb id q d) ∙ member_other id q order d;
   once = AllPairs-from_EachPair (λ a b. a ≡ b → ⊥) (oldest id order) (

@@ -1,11 +1,11 @@
 -- A place that was found or made, and how much there can be.
 use Rattle.std.specs.List.{find}
-use Rattle.std.proofs.Common.{◌≡◌, ℕ, zero, suc, ◌-◌, ◌<◌, ◌≤◌, Bool, true, false, cond, not, nat_le, IfSome, List, [], ◌∷◌, get_or, replicate, Option, Some, None, option_map, refl, sym, ap, ◌∙◌, subst, arith}
+use Rattle.std.proofs.Common.{◌≡◌, ℕ, ◌-◌, ◌<◌, ◌≤◌, Bool, true, false, nat_le, IfSome, List, [], ◌∷◌, Option, Some, None, option_map, refl, sym, ap, subst, arith}
 use Rattle.w16_model.specs.declared.Block.{Block}
-use Rattle.w16_compact.specs.Skip.{counted_of}
 use Rattle.w16_compact.specs.Gather.{moved_size}
 use Rattle.w16_compact.proofs.Gathered.{moved_same}
 use Rattle.w16_model.specs.declared.Span.{Span}
+use Rattle.w16_model.specs.Prefix.{blocks_without, room_for}
 use Rattle.w16_model.specs.Gap.{ArePlaced, holes, room, longest_hole}
 use Rattle.w16_model.proofs.Laid.{laid_placed}
 use Rattle.w16_blocks.specs.Layout.{Layout, IsOrdered}
@@ -46,15 +46,13 @@ module _ {l : Layout} (ordered : IsOrdered l) (n : ℕ) where
   made_enough memory after new None slid free compact on = tt
   made_enough memory after new (Some p) slid free compact on = subst (λ b. n ≤ most_for l b) (sym on) (free_fits ordered slid n p.at free)
 
--- where no mark is set, no block is left out
-unset : (n id : ℕ) → get_or (replicate n false) id false ≡ false
-unset zero id = refl
-unset (suc n) zero = refl
-unset (suc n) (suc id) = unset n id
+-- the room with none left out
+none_out_all : (xs : List Block) → blocks_without xs [] None ≡ xs
+none_out_all [] = refl
+none_out_all (x ∷ xs) = ap (λ ys. x ∷ ys) (none_out_all xs)
 
-pub all_counted : (n : ℕ) (xs : List Block) → counted_of (replicate n false) xs ≡ xs
-all_counted n [] = refl
-all_counted n (x ∷ xs) = ap (λ t. cond (not t) (x ∷ counted_of (replicate n false) xs) (counted_of (replicate n false) xs)) (unset n x.id) ∙ ap (λ ys. x ∷ ys) (all_counted n xs)
+pub room_whole : (lo hi : ℕ) (xs : List Block) (order : List ℕ) → room_for lo hi xs order 0 None ≡ room lo hi xs
+room_whole lo hi xs order = ap (room lo hi) (none_out_all xs)
 
 -- with no room there is no hole
 pub no_hole : {l : Layout} → IsOrdered l → (most : ℕ) → most ≡ room l.lo l.hi l.blocks → most ≡ 0 → most ≡ longest_hole l.lo l.hi l.blocks

@@ -1,5 +1,5 @@
 -- The single steps of an arena, by its value.
-use Rattle.std.proofs.Common.{◌≡◌, ℕ, ◌<◌, ◌≤◌, Bool, true, false, IfSome, IfNone, IsSomeAnd, List, length, replicate, get_or, set, Option, Some, None, option_map, is_some, AllPairs, refl, sym, ap, ◌∙◌, subst, arith, inl, inr}
+use Rattle.std.proofs.Common.{◌≡◌, ℕ, ◌<◌, ◌≤◌, Bool, true, false, IfSome, IfNone, IsSomeAnd, List, length, replicate, get_or, set, Option, Some, None, Ok, is_some, refl, sym, ap, ◌∙◌, subst, arith, inl, inr}
 use Rattle.std.proofs.lemmas.Bool.{cases_eq, false≢true}
 use Rattle.std.proofs.lemmas.List.{length-set, length-replicate}
 use Rattle.w16_model.specs.declared.Entry.{Entry}
@@ -7,18 +7,22 @@ use Rattle.w16_model.specs.declared.Hold.{Hold}
 use Rattle.w16_model.specs.declared.Kind.{Kind}
 use Rattle.w16_model.specs.Prefix.{is_member}
 use Rattle.w16_model.specs.Heap.{Heap, object_at}
-use Rattle.w16_model.specs.Edit.{removed, absent, with_object, newest, oldest, without}
-use Rattle.w16_model.specs.Single.{Enters, after_touch}
-use Rattle.w16_model.specs.Table.{Table, IsSound, IsCountedBy, block_with, entry_at, hold_in, object_in}
+use Rattle.w16_model.specs.Edit.{removed, absent, with_object, newest, without}
+use Rattle.w16_model.specs.Single.{Enters, after_touch, refused_order}
+use Rattle.w16_model.specs.Table.{Table, IsSound, IsCountedBy, block_with, entry_at, hold_in, heap_in}
 use Rattle.w16_blocks.specs.Layout as layouts
 use Rattle.w16_blocks.specs.Layout.{Layout, IsOrdered, replaced}
 use Rattle.w16_lru.specs.Uses.{Uses}
-use Rattle.w16_arena.specs.State.{State, Steps, table_of, heap_of}
+use Rattle.w16_arena.specs.State.{State, Steps, table_of, heap_of, after_end}
 use Rattle.w16_arena.specs.Kept.{IsKept}
-use Rattle.w16_arena.proofs.Lookups.{in_list, no_block, object_here, past_end}
-use Rattle.w16_arena.proofs.Reordered.{newest_reorders, oldest_reorders}
+use Rattle.w16_arena.proofs.Lookups.{in_list, no_block, past_end}
+use Rattle.w16_lru.specs.declared.End.{End}
+use Rattle.w16_lru.specs.declared.End.TheVariants.{Newest}
+use Rattle.w16_lru.specs.Uses.{at_end}
+use Rattle.w16_arena.proofs.Reordered.{end_reorders}
+use Rattle.w16_arena.proofs.Told.{end_ok}
 use Rattle.w16_arena.proofs.Changed.{ReordersOne}
-use Rattle.w16_arena.proofs.Steps.{state_of, reordered_sound, beside, kept_with, steps_to, steps_none, touched_is, untouched_is, sound_without, heap_without, heap_same, sound_entered, enters, sound_set, range_set, heap_set, sound_given, heap_given}
+use Rattle.w16_arena.proofs.Steps.{state_of, reordered_sound, beside, kept_with, steps_to, steps_none, touched_is, sound_without, heap_without, heap_same, sound_entered, enters, sound_set, range_set, heap_set, sound_given, heap_given}
 
 -- what isn't there is nothing
 pub nothing : {X : Type 0} (p : Option X) → is_some p ≡ false → p ≡ None
@@ -40,10 +44,6 @@ module _ {entries : List (Option Entry)} {layout : Layout} {uses : Uses} {marks 
 
   pub told : (P : Table → Type 0) → P (table_of entries layout uses.ids) → P old.table
   told P h = subst (λ (o : State). P o.table) shown h
-
-  -- what an id has in every memory
-  pub object_told : (id : ℕ) (memory : List ℕ) → layout.hi ≤ length memory → object_at (heap_of entries layout uses.ids memory) id ≡ option_map (object_in layout.blocks memory id) (get_or entries id None)
-  object_told id memory high = object_here (beside kept memory high) id
 
   -- an entry that is there, with what is known of it
   pub entry_such : (id : ℕ) (P : Entry → Type 0) → IsSomeAnd (entry_at old.table id) P → (e : Entry) × (get_or entries id None ≡ Some e) × (id < length entries) × P e
@@ -104,38 +104,37 @@ module _ {entries : List (Option Entry)} {layout : Layout} {uses : Uses} {marks 
   pub steps_same : (id : ℕ) → get_or entries id None ≡ None → Steps old old (λ a b. b ≡ removed a id)
   steps_same id none = steps_none kept shown (λ a b. b ≡ removed a id) (heap_same kept id none)
 
-  -- The order of use is another, with the same members.
-  module _ (order : List ℕ) (same : (q : ℕ) → is_member q order ≡ is_member q uses.ids) (once : AllPairs (λ a b. a ≡ b → ⊥) order) {after : Uses} (after_is : after ≡ record uses { ids = order }) where
-    sound_order : IsSound (table_of entries layout after.ids)
-    sound_order = subst (λ ids. IsSound (table_of entries layout ids)) (sym (ap (λ (u : Uses). u.ids) after_is)) (reordered_sound entries layout uses.ids order kept.sound same once)
+  -- A member of the order of use goes to an end of it.
+  module _ (id : ℕ) (listed : is_member id old.table.order ≡ true) (end : End) {after : Uses} (after_is : after ≡ record uses { ids = at_end end id uses.ids }) where
+    there : is_member id uses.ids ≡ true
+    there = known (λ t. is_member id t.order ≡ true) listed
 
-    pub kept_ordered : IsKept entries layout after marks room
-    kept_ordered = kept_with kept entries layout after sound_order refl refl (ap (λ (u : Uses). u.cap) after_is)
+    ids_are : after.ids ≡ at_end end id uses.ids
+    ids_are = ap (λ (u : Uses). u.ids) after_is
 
-    pub steps_ordered : (step : Heap → Heap → Type 0)
-        → ((memory : List ℕ) → layout.hi ≤ length memory → step (heap_of entries layout uses.ids memory) (record (heap_of entries layout uses.ids memory) { order = order }))
+    sound_ended : IsSound (table_of entries layout after.ids)
+    sound_ended =
+        let r : ReordersOne id true uses.ids (at_end end id uses.ids) = end_reorders end id uses.ids kept.sound.no_repeats in
+        subst (λ ids. IsSound (table_of entries layout ids)) (sym ids_are) (reordered_sound entries layout uses.ids (at_end end id uses.ids) kept.sound (same_members id uses.ids (at_end end id uses.ids) there r) r.once)
+
+    pub kept_ended : IsKept entries layout after marks room
+    kept_ended = kept_with kept entries layout after sound_ended refl refl (ap (λ (u : Uses). u.cap) after_is)
+
+    -- a step that says so
+    steps_by : (step : Heap → Heap → Type 0)
+        → ((memory : List ℕ) → layout.hi ≤ length memory → step (heap_of entries layout uses.ids memory) (record (heap_of entries layout uses.ids memory) { order = at_end end id uses.ids }))
         → Steps old (state_of entries layout after.ids discarded) step
-    steps_ordered step heaps = steps_to kept shown entries layout after.ids step sound_order refl refl refl refl
-        (λ memory high. subst (λ ids. step (heap_of entries layout uses.ids memory) (heap_of entries layout ids memory)) (sym (ap (λ (u : Uses). u.ids) after_is)) (heaps memory high))
+    steps_by step heaps = steps_to kept shown entries layout after.ids step sound_ended refl refl refl refl
+        (λ memory high. subst (λ ids. step (heap_of entries layout uses.ids memory) (heap_of entries layout ids memory)) (sym ids_are) (heaps memory high))
 
-  module _ (id : ℕ) (there : is_member id uses.ids ≡ true) where
-    pub newest_same : (q : ℕ) → is_member q (newest id uses.ids) ≡ is_member q uses.ids
-    newest_same = same_members id uses.ids (newest id uses.ids) there (newest_reorders id uses.ids kept.sound.no_repeats)
+    pub steps_ended : ((memory : List ℕ) → old.table.hi ≤ length memory → refused_order (heap_in old.table memory) id ≡ None) → Steps old (state_of entries layout after.ids discarded) (λ a b. after_end end a id ≡ Ok b)
+    steps_ended may = steps_by (λ a b. after_end end a id ≡ Ok b)
+        (λ memory high. end_ok (heap_of entries layout uses.ids memory) id end (known (λ t. (memory : List ℕ) → t.hi ≤ length memory → refused_order (heap_in t memory) id ≡ None) may memory high))
 
-    pub newest_once : AllPairs (λ a b. a ≡ b → ⊥) (newest id uses.ids)
-    newest_once = (newest_reorders id uses.ids kept.sound.no_repeats).once
-
-    pub oldest_same : (q : ℕ) → is_member q (oldest id uses.ids) ≡ is_member q uses.ids
-    oldest_same = same_members id uses.ids (oldest id uses.ids) there (oldest_reorders id uses.ids kept.sound.no_repeats)
-
-    pub oldest_once : AllPairs (λ a b. a ≡ b → ⊥) (oldest id uses.ids)
-    oldest_once = (oldest_reorders id uses.ids kept.sound.no_repeats).once
-
-    pub touches : (memory : List ℕ) → layout.hi ≤ length memory → record (heap_of entries layout uses.ids memory) { order = newest id uses.ids } ≡ after_touch (heap_of entries layout uses.ids memory) id
-    touches memory high = λ i. record (heap_of entries layout uses.ids memory) { order = sym (touched_is kept id there) i }
-
-  pub steps_untouched : (id : ℕ) → is_member id uses.ids ≡ false → Steps old old (λ a b. b ≡ after_touch a id)
-  steps_untouched id out = steps_none kept shown (λ a b. b ≡ after_touch a id) (λ memory high. λ i. record (heap_of entries layout uses.ids memory) { order = sym (untouched_is kept id out) i })
+    -- a member that was used
+    pub steps_touched : end ≡ Newest → Steps old (state_of entries layout after.ids discarded) (λ a b. b ≡ after_touch a id)
+    steps_touched newest = steps_by (λ a b. b ≡ after_touch a id)
+        (λ memory high. λ i. record (heap_of entries layout uses.ids memory) { order = (ap (λ e. at_end e id uses.ids) newest ∙ sym (touched_is kept id there)) i })
 
   -- A lock count is set.
   module _ (id : ℕ) (entry : Entry) (asked : IsSomeAnd (entry_at old.table id) (λ e. e.kind ≡ entry.kind)) (counted : IsCountedBy (block_with old.table.blocks id) entry)

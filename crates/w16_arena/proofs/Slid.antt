@@ -1,8 +1,8 @@
 -- The heap of parts whose blocks slid: the same objects at other addresses.
-use Rattle.std.proofs.Common.{◌≡◌, ℕ, ◌+◌, ◌-◌, ◌<◌, ◌≤◌, ◌⊎◌, inl, inr, ◌&&◌, IsTrue, IfSome, IsSomeAnd, is_some, List, get_or, take, drop, slice_range, Option, Some, None, option_map, refl, sym, ap, ◌∙◌, subst, arith}
+use Rattle.std.proofs.Common.{◌≡◌, ℕ, ◌+◌, ◌<◌, ◌≤◌, ◌⊎◌, inl, inr, ◌&&◌, IsTrue, IfSome, IsSomeAnd, is_some, List, get_or, slice_range, Option, Some, None, option_map, refl, sym, ap, ◌∙◌, subst, arith}
 use Rattle.std.specs.FinMap as finmap
 use Rattle.std.proofs.lemmas.Bool.{false≢true}
-use Rattle.w16_region.specs.Bytes.{part}
+use Rattle.w16_region.proofs.Parts.{range_part}
 use Rattle.w16_model.specs.declared.Block.{Block}
 use Rattle.w16_model.specs.declared.Entry.{Entry}
 use Rattle.w16_model.specs.Gap.{block_end, is_pinned, holds_still}
@@ -17,9 +17,6 @@ use Rattle.w16_arena.specs.State.{heap_of}
 use Rattle.w16_arena.specs.Making.{Slides, AreMoved}
 use Rattle.w16_arena.proofs.Pairs.{BothOrNone, with_two}
 use Rattle.w16_arena.proofs.Lookups.{IsOrder, ordered_arranged, sound_of, holds_at, object_here, place_here}
-
-pub range_part : (bytes : List ℕ) (at n : ℕ) → slice_range bytes at (at + n) ≡ part bytes at n
-range_part bytes at n = let e : at + n - at ≡ n = omega arith in ap (λ k. take k (drop at bytes)) e
 
 -- whether an id is in the order of use is a matter of whether it has a block
 pub listed_same : (e : Option Entry) (b c : Option Block) → is_some b ≡ is_some c → is_listed e b ≡ is_listed e c

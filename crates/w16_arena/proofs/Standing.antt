@@ -20,7 +20,7 @@ use Rattle.w16_blocks.specs.Layout.{Layout, IsOrdered, Fits, placed}
 use Rattle.w16_compact.specs.Gather.{moved_size}
 use Rattle.w16_arena.specs.declared.making.Placed.{Placed}
 use Rattle.w16_arena.specs.Asked.{Stands}
-use Rattle.w16_arena.specs.State.{heap_of}
+use Rattle.w16_arena.specs.State.{table_of, heap_of}
 use Rattle.w16_arena.specs.Making.{Slides, AreMoved, IsFree}
 use Rattle.w16_arena.proofs.Parts.{AreParts}
 use Rattle.w16_arena.proofs.Lookups.{is_heap, place_here}
@@ -28,7 +28,7 @@ use Rattle.w16_arena.proofs.Listed.{listed_with, is_listed}
 use Rattle.w16_arena.proofs.Allocated.{differ, fits, new_parts, objects, order_new, place_new, others_stay}
 use Rattle.w16_arena.proofs.Slid.{slid_parts, slid_object, slid_with, slid_still, slid_pinned}
 use Rattle.w16_arena.proofs.Pairs.{BothOrNone}
-use Rattle.w16_arena.proofs.Moved.{moved_is}
+use Rattle.w16_arena.proofs.Moved.{moved_is, moved_few}
 use Rattle.w16_arena.proofs.Cleared.{Makes, makes}
 
 module _ {entries : List (Option Entry)} {layout : Layout} {order memory : List ℕ} (parts : AreParts entries layout order memory) (bytes : All (λ b. b < 256) memory)
@@ -129,16 +129,20 @@ module _ {entries : List (Option Entry)} {layout : Layout} {order memory : List 
               (Each-from (λ x. IsTrue (stays_for id way x) → finmap.get granted.places x.id ≡ Some x.at) (blocks before) (λ x m. stays x (is_listed parts x m)));
         }
 
-        stands_granted : p.moved ≡ moved_size layout.blocks mid.blocks → Stands before id n kind way p.at p.slid p.moved granted
+        stands_granted : p.moved ≡ moved_size layout.blocks mid.blocks → Stands before id n kind way p granted
         stands_granted counted = record {
           object = o;
           is_new = record { same_kind = refl; same_locks = refl; new_bytes = made.fresh };
           settled = settled;
-          placed = place_new mid_parts id n kind lt mid_absent some mid_rounded p.at place ordered_new way.zero after made;
-          still = λ q d. subst (λ (at : Option ℕ). IfSome at (λ at. ((at < p.slid.from) ⊎ (p.slid.to ≤ at)) → finmap.get before.places q ≡ Some at)) (sym (place_mid q d)) (slid_still parts moved q);
-          bytes = counted ∙ moved_is parts moved mid_parts granted (λ b m. place_mid b.id (other b m));
+          placed = record {
+            place = place_new mid_parts id n kind lt mid_absent some mid_rounded p.at place ordered_new way.zero after made;
+            inside = let hi = ap (λ (l : Layout). l.hi) moved.same in let end = place.below in omega arith;
+            still = λ q d. subst (λ (at : Option ℕ). IfSome at (λ at. ((at < p.slid.from) ⊎ (p.slid.to ≤ at)) → finmap.get before.places q ≡ Some at)) (sym (place_mid q d)) (slid_still parts moved q);
+            moved = counted ∙ moved_is parts moved mid_parts granted (λ b m. place_mid b.id (other b m));
+            few = let e = counted ∙ moved_is parts moved mid_parts granted (λ b m. place_mid b.id (other b m)) in omega (arith, e, moved_few (table_of entries layout order) parts.sound memory parts.high granted);
+          };
         }
 
-        pub stands : p.moved ≡ moved_size layout.blocks mid.blocks → Stands before id n kind way p.at p.slid p.moved (heap_of (set entries id (Some entry)) new uses after)
-        stands counted = subst (λ u. Stands before id n kind way p.at p.slid p.moved (heap_of (set entries id (Some entry)) new u after)) (sym uses_is)
-            (subst (λ l. Stands before id n kind way p.at p.slid p.moved (heap_of (set entries id (Some entry)) l (if is_discardable kind then newest id order else order) after)) (sym new_is) (stands_granted counted))
+        pub stands : p.moved ≡ moved_size layout.blocks mid.blocks → Stands before id n kind way p (heap_of (set entries id (Some entry)) new uses after)
+        stands counted = subst (λ u. Stands before id n kind way p (heap_of (set entries id (Some entry)) new u after)) (sym uses_is)
+            (subst (λ l. Stands before id n kind way p (heap_of (set entries id (Some entry)) l (if is_discardable kind then newest id order else order) after)) (sym new_is) (stands_granted counted))

@@ -17,7 +17,7 @@ use Rattle.w16_model.proofs.Heaps.{get-update_same, get-update_other}
 use Rattle.w16_model.proofs.Kept.{taken_here, taken_other}
 use Rattle.w16_blocks.specs.Layout as layouts
 use Rattle.w16_blocks.specs.Layout.{Layout, IsOrdered, replaced}
-use Rattle.w16_blocks.proofs.Replace.{found_id}
+use Rattle.w16_model.proofs.Tables.{member_with}
 use Rattle.w16_lru.specs.Uses.{Uses}
 use Rattle.w16_arena.specs.State.{State, Steps, table_of, heap_of}
 use Rattle.w16_arena.specs.Kept.{IsKept}
@@ -90,9 +90,6 @@ module _ {entries : List (Option Entry)} {layout : Layout} {uses : Uses} {marks 
   module _ (id : ℕ) (there : is_member id uses.ids ≡ true) where
     pub touched_is : touched id uses.ids ≡ newest id uses.ids
     touched_is = ap (λ t. cond t (newest id uses.ids) uses.ids) there
-
-  pub untouched_is : (id : ℕ) → is_member id uses.ids ≡ false → touched id uses.ids ≡ uses.ids
-  untouched_is id out = ap (λ t. cond t (newest id uses.ids) uses.ids) out
 
   -- some memory that has the range
   some_parts : AreParts entries layout uses.ids (replicate layout.hi 0)
@@ -214,7 +211,7 @@ module _ {entries : List (Option Entry)} {layout : Layout} {uses : Uses} {marks 
           ];
         })
         from (Some x) e _ is = subst (ChangesOne id (Some (held x)) layout) (sym (is ∙ ap (λ h. record layout { blocks = replaced (record x { hold = h }) layout.blocks }) hold_is))
-            (record { cap = refl; lo = refl; hi = refl; grain = refl; blocks = λ q. with-replaced (held x) layout.blocks q ∙ ap (λ k. cond (k == q) (Some (held x)) (block_with layout.blocks q)) (found_id id layout.blocks x e) })
+            (record { cap = refl; lo = refl; hi = refl; grain = refl; blocks = λ q. with-replaced (held x) layout.blocks q ∙ ap (λ k. cond (k == q) (Some (held x)) (block_with layout.blocks q)) (member_with layout.blocks id x e).1 })
 
     same_place : (b : Option Block) → option_map (λ (x : Block). x.at) (option_map held b) ≡ option_map (λ (x : Block). x.at) b
     same_place None = refl

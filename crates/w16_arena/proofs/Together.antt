@@ -1,5 +1,5 @@
 -- Blocks that have slid together, and nothing else: what is kept, and the heap after it.
-use Rattle.std.proofs.Common.{◌≡◌, ℕ, ◌<◌, ◌≤◌, Bool, IsTrue, All, List, length, Option, Some, refl, sym, ap, ◌∙◌}
+use Rattle.std.proofs.Common.{arith, ◌≡◌, ℕ, ◌<◌, ◌≤◌, Bool, IsTrue, All, List, length, Option, Some, refl, sym, ap, ◌∙◌, subst}
 use Rattle.std.specs.Cmp.{nat_cmp_total}
 use Rattle.std.specs.FinMap as finmap
 use Rattle.std.specs.FinMap.{same_map, nat_cmp-IsAntisymmetric}
@@ -14,15 +14,18 @@ use Rattle.w16_model.proofs.Tables.{table_longest}
 use Rattle.w16_blocks.specs.Layout.{Layout}
 use Rattle.w16_compact.specs.Gather.{moved_size}
 use Rattle.w16_lru.specs.Uses.{Uses}
-use Rattle.w16_arena.specs.Asked.{SlidesTogether}
-use Rattle.w16_arena.specs.State.{State, IsSameRange, table_of, heap_of}
+use Rattle.w16_arena.specs.Asked.{SlidesTogether, IsStill}
+use Rattle.w16_arena.specs.declared.placing.Compacted.{Compacted}
+use Rattle.std.specs.Borrow.{GName}
+use Rattle.w16_compact.specs.Rest.{IsSameRest}
+use Rattle.w16_arena.specs.State.{State, KeepsRest, table_of, heap_of}
 use Rattle.w16_arena.specs.Kept.{IsKept}
 use Rattle.w16_arena.specs.Making.{AreMoved}
 use Rattle.w16_arena.proofs.Parts.{AreParts}
 use Rattle.w16_arena.proofs.Lookups.{is_heap}
 use Rattle.w16_arena.proofs.Listed.{whole, listed_with, is_listed}
 use Rattle.w16_arena.proofs.Slid.{slid_parts, slid_object, slid_still, slid_pinned}
-use Rattle.w16_arena.proofs.Moved.{moved_is}
+use Rattle.w16_arena.proofs.Moved.{moved_is, moved_few}
 use Rattle.w16_arena.proofs.Steps.{state_of, beside, kept_with}
 use Rattle.w16_arena.proofs.Shown.{known, told}
 
@@ -42,13 +45,16 @@ module _ {entries : List (Option Entry)} {layout : Layout} {uses : Uses} {marks 
   pub kept_slid : IsKept entries new uses marks room
   kept_slid = kept_with kept entries new uses parts_new.sound refl (ap (λ (l : Layout). l.cap) moved.same) refl
 
-  pub range_slid : IsSameRange old.table (table_of entries new uses.ids)
-  range_slid = told kept shown (λ t. IsSameRange t (table_of entries new uses.ids)) (record {
-    lo = ap (λ (l : Layout). l.lo) moved.same;
-    hi = ap (λ (l : Layout). l.hi) moved.same;
-    grain = ap (λ (l : Layout). l.grain) moved.same;
-    ids = refl;
-    sound = parts_new.sound;
+  pub rest_slid : {X : Type 0} {bytes : X → List ℕ} {lenders : X → List GName} {x y : X} → IsSameRest bytes lenders layout.lo layout.hi x y → KeepsRest bytes lenders old.table x (table_of entries new uses.ids) y
+  rest_slid {X} {bytes} {lenders} {x} {y} rest = told kept shown (λ t. KeepsRest bytes lenders t x (table_of entries new uses.ids) y) (record {
+    range = record {
+      lo = ap (λ (l : Layout). l.lo) moved.same;
+      hi = ap (λ (l : Layout). l.hi) moved.same;
+      grain = ap (λ (l : Layout). l.grain) moved.same;
+      ids = refl;
+      sound = parts_new.sound;
+    };
+    memory = rest;
   })
 
   settled : Settles before is_pinned before (heap_of entries new uses.ids after)
@@ -63,11 +69,13 @@ module _ {entries : List (Option Entry)} {layout : Layout} {uses : Uses} {marks 
         slid_pinned parts moved x.id x (listed_with parts x (is_listed parts x m)) t));
   }
 
-  pub slides : (most count : ℕ) → most ≡ longest_hole new.lo new.hi new.blocks → count ≡ moved_size layout.blocks new.blocks
-      → SlidesTogether (heap_in old.table memory) most slid count (heap_of entries new uses.ids after)
-  slides most count longest counted = told kept shown (λ t. SlidesTogether (heap_in t memory) most slid count (heap_of entries new uses.ids after)) (record {
+  pub slides : (c : Compacted) → c.slid ≡ slid → c.room ≡ longest_hole new.lo new.hi new.blocks → c.moved ≡ moved_size layout.blocks new.blocks → SlidesTogether (heap_in old.table memory) c (heap_of entries new uses.ids after)
+  slides c slid_is longest counted = told kept shown (λ t. SlidesTogether (heap_in t memory) c (heap_of entries new uses.ids after)) (record {
     settled = settled;
     longest = longest ∙ sym (table_longest (table_of entries new uses.ids) parts_new.sound.table after (whole parts_new));
-    still = slid_still parts moved;
-    bytes = counted ∙ moved_is parts moved parts_new (heap_of entries new uses.ids after) (λ b m. refl);
+    slid = record {
+      still = λ q. subst (λ (range : Span). IsStill range before (heap_of entries new uses.ids after) q) (sym slid_is) (slid_still parts moved q);
+      moved = counted ∙ moved_is parts moved parts_new (heap_of entries new uses.ids after) (λ b m. refl);
+      few = let e = counted ∙ moved_is parts moved parts_new (heap_of entries new uses.ids after) (λ b m. refl) in omega (arith, e, moved_few (table_of entries layout uses.ids) parts.sound memory parts.high (heap_of entries new uses.ids after));
+    };
   })

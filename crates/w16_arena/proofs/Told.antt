@@ -1,10 +1,13 @@
 -- What the single steps of a heap say, by what it has at an id.
 use Rattle.std.proofs.Common.{◌≡◌, ℕ, ◌+◌, ◌-◌, ◌==◌, true, false, nat_lt, is_some, Some, None, Ok, Err, refl}
-use Rattle.w16_model.specs.declared.Refusal.{Refusal}
 use Rattle.w16_model.specs.declared.Refusal.TheVariants as refusals
 use Rattle.w16_model.specs.Heap.{Heap, Object, object_at, is_fixed, is_discardable}
-use Rattle.w16_model.specs.Edit.{absent, removed, touched, newest, oldest, with_object, with_ordered}
+use Rattle.w16_model.specs.Edit.{absent, removed, touched, with_object, with_ordered}
 use Rattle.w16_model.specs.Single.{after_lock, after_unlock, after_free, after_discard, refused_order, after_newest, after_oldest}
+use Rattle.w16_lru.specs.declared.End.{End}
+use Rattle.w16_lru.specs.declared.End.TheVariants.{Oldest, Newest}
+use Rattle.w16_lru.specs.Uses.{at_end}
+use Rattle.w16_arena.specs.State.{after_end}
 
 module _ (heap : Heap) (id : ℕ) where
   module _ (none : object_at heap id ≡ None) where
@@ -66,14 +69,6 @@ module _ (heap : Heap) (id : ℕ) where
     pub order_ok : is_some o.bytes ≡ true → is_discardable o.kind ≡ true → refused_order heap id ≡ None
     order_ok a d = rw (there, refused_order, a, d) refl
 
-  pub newest_err : (r : Refusal) → refused_order heap id ≡ Some r → after_newest heap id ≡ Err r
-  newest_err r e = rw (e, after_newest) refl
-
-  pub newest_ok : refused_order heap id ≡ None → after_newest heap id ≡ Ok (record heap { order = newest id heap.order })
-  newest_ok e = rw (e, after_newest) refl
-
-  pub oldest_err : (r : Refusal) → refused_order heap id ≡ Some r → after_oldest heap id ≡ Err r
-  oldest_err r e = rw (e, after_oldest) refl
-
-  pub oldest_ok : refused_order heap id ≡ None → after_oldest heap id ≡ Ok (record heap { order = oldest id heap.order })
-  oldest_ok e = rw (e, after_oldest) refl
+  pub end_ok : (end : End) → refused_order heap id ≡ None → after_end end heap id ≡ Ok (record heap { order = at_end end id heap.order })
+  end_ok Newest e = rw (e, after_newest) refl
+  end_ok Oldest e = rw (e, after_oldest) refl

@@ -1,12 +1,10 @@
--- Where each object stands as it stood, nothing was moved; and never more than there is.
-use Rattle.std.proofs.Common.{◌≡◌, ℕ, ◌+◌, ◌≤◌, arith, ◌==◌, Bool, true, false, cond, not, List, [], ◌∷◌, filter, sum_by, Option, Some, None, unwrap_or, refl, ap, ◌∙◌, eq-eqb}
+-- Where each object stands as it stood, nothing was moved.
+use Rattle.std.proofs.Common.{◌≡◌, ℕ, Bool, false, cond, not, List, [], ◌∷◌, filter, sum_by, Option, Some, None, unwrap_or, refl, ap, ◌∙◌, eq-eqb}
 use Rattle.std.specs.Ordering.{nat_cmp}
 use Rattle.std.specs.FinMap as finmap
 use Rattle.std.specs.FinMap.{FinMap}
 use Rattle.std.specs.List.{AllByRecursion as Each, filter_map}
 use Rattle.w16_model.specs.declared.Block.{Block}
-use Rattle.w16_model.specs.Gap.{IsLaid, block_end}
-use Rattle.w16_compact.specs.Gather.{moved_size}
 use Rattle.w16_model.specs.Heap.{Heap, Object, blocks, block_of}
 use Rattle.w16_model.specs.Request.{is_elsewhere, moved_bytes}
 
@@ -36,13 +34,3 @@ none_summed p (x ∷ xs) all = ap (λ b. sum_by (λ (x : Block). x.size) (cond b
 
 pub unmoved : (heap new : Heap) → new.places ≡ heap.places → moved_bytes heap new ≡ 0
 unmoved heap new same = none_summed (λ x. is_elsewhere x.at (finmap.get new.places x.id)) (blocks heap) (none_elsewhere heap new same (finmap.entries heap.objects))
-
--- no more is moved than there is
-pub moved_small : (lo hi : ℕ) (bs cs : List Block) → IsLaid lo hi bs → lo + moved_size bs cs ≤ hi
-moved_small lo hi [] cs laid = omega (arith, laid)
-moved_small lo hi (b ∷ bs) [] laid = let rest = moved_small (block_end b) hi bs [] laid.2 in let above = laid.0 in omega (arith, rest, above)
-moved_small lo hi (b ∷ bs) (c ∷ cs) laid = more (b.at == c.at) (moved_small (block_end b) hi bs cs laid.2) laid.0
-  where
-    more : (same : Bool) → block_end b + moved_size bs cs ≤ hi → lo ≤ b.at → lo + (cond same 0 b.size + moved_size bs cs) ≤ hi
-    more true rest above = omega (arith, rest, above)
-    more false rest above = omega (arith, rest, above)

@@ -1,11 +1,12 @@
 -- The bytes that an object has in a memory.
-use Rattle.std.proofs.Common.{◌≡◌, ℕ, ◌+◌, ◌-◌, ◌≤◌, List, length, slice_range, refl, take, drop, Some, None, option_map, ap, ◌∙◌, arith}
+use Rattle.std.proofs.Common.{◌≡◌, ℕ, ◌+◌, ◌≤◌, List, length, slice_range, refl, Some, None, option_map, ap, ◌∙◌}
 use Rattle.w16_model.specs.declared.Block.{Block}
 use Rattle.w16_model.specs.Heap.{bytes_at}
 use Rattle.w16_model.specs.Table.{Table, IsSound, block_with, heap_in}
 use Rattle.w16_blocks.specs.Layout.{Layout}
-use Rattle.w16_blocks.proofs.Replace.{found_id}
+use Rattle.w16_model.proofs.Tables.{member_with}
 use Rattle.w16_region.specs.Bytes.{part}
+use Rattle.w16_region.proofs.Parts.{range_part}
 use Rattle.w16_arena.proofs.Parts.{AreParts}
 use Rattle.w16_arena.proofs.Lookups.{bytes_here, ends_in_memory}
 
@@ -22,9 +23,7 @@ module _ (t : Table) (sound : IsSound t) (memory : List ℕ) (high : t.hi ≤ le
 
   -- those at its block
   pub bytes_some : (x : Block) → block_with t.blocks id ≡ Some x → bytes_at (heap_in t memory) id ≡ Some (part memory x.at x.size)
-  bytes_some x e =
-      let size : x.at + x.size - x.at ≡ x.size = omega arith in
-      bytes_here parts id ∙ ap (option_map (λ (x : Block). slice_range memory x.at (x.at + x.size))) e ∙ ap (λ k. Some (take k (drop x.at memory))) size
+  bytes_some x e = bytes_here parts id ∙ ap (option_map (λ (x : Block). slice_range memory x.at (x.at + x.size))) e ∙ ap Some (range_part memory x.at x.size)
 
   -- which lies in the memory
   pub bytes_inside : (x : Block) → block_with t.blocks id ≡ Some x → x.at + x.size ≤ length memory
@@ -32,4 +31,4 @@ module _ (t : Table) (sound : IsSound t) (memory : List ℕ) (high : t.hi ≤ le
 
 -- a block that an id has is the one that its own id has
 pub known_block : (xs : List Block) (id : ℕ) (x : Block) → block_with xs id ≡ Some x → block_with xs x.id ≡ Some x
-known_block xs id x e = ap (block_with xs) (found_id id xs x e) ∙ e
+known_block xs id x e = ap (block_with xs) (member_with xs id x e).1 ∙ e

@@ -7,11 +7,6 @@ use Rattle.w16_model.specs.declared.Block.{Block}
 use Rattle.w16_model.specs.Table.{block_with}
 use Rattle.w16_blocks.specs.Layout.{placed, without, replaced}
 
--- no id has one that no block has
-pub with_none : (id : ℕ) (bs : List Block) → AllByRecursion (λ c. c.id ≢ id) bs → block_with bs id ≡ None
-with_none id [] all = refl
-with_none id (b ∷ bs) all = rw (ne_eqb b.id id all.0) (with_none id bs all.1)
-
 pub with-without : (id : ℕ) (bs : List Block) (q : ℕ) → block_with (without id bs) q ≡ cond (id == q) None (block_with bs q)
 with-without id [] q = elim (eqb_tells id q) [ inl same ↦ rw same.0 refl | inr other ↦ rw other.0 refl ]
 with-without id (b ∷ bs) q =

@@ -1,5 +1,5 @@
--- What a request for room leaves beside its step: who was discarded, who stands elsewhere, and what was written.
-use Rattle.std.specs.Prelude.{◌≡◌, ◌≢◌, ℕ, ◌<◌, ◌≤◌, ◌⊎◌, List, take, Option, Some, IfSome}
+-- What a request for room leaves beside its step: who was discarded, who stands elsewhere, and what was moved.
+use Rattle.std.specs.Prelude.{◌≡◌, ◌≢◌, ℕ, ◌+◌, ◌<◌, ◌≤◌, ◌⊎◌, List, length, take, Option, Some, IfSome}
 use Rattle.std.specs.FinMap as finmap
 use Rattle.w16_model.specs.declared.Kind.{Kind}
 use Rattle.w16_model.specs.declared.Span.{Span}
@@ -8,24 +8,15 @@ use Rattle.w16_model.specs.Gap.{is_pinned, longest_hole}
 use Rattle.w16_model.specs.Prefix.{eligible}
 use Rattle.w16_model.specs.Heap.{Heap, Object, blocks}
 use Rattle.w16_model.specs.Edit.{with_newest, with_ordered}
-use Rattle.w16_model.specs.Request.{IsNew, Settles, stays_for, moved_bytes, prefix_of}
+use Rattle.w16_model.specs.Request.{IsNew, Settles, stays_for, moved_bytes, prefix_of, discarded}
+use Rattle.w16_model.specs.Table.{heap_in}
+use Rattle.w16_arena.specs.declared.making.Placed.{Placed}
+use Rattle.w16_arena.specs.declared.placing.Compacted.{Compacted}
+use Rattle.w16_arena.specs.State.{State, IsSameRange}
 
 -- the first k that a request about h may discard
 abbrev pub first_eligible : Heap → ℕ → Option ℕ → List ℕ
 first_eligible heap k h = take k (eligible (blocks heap) heap.order h)
-
--- an object that stands outside a range stands where it stood
-abbrev pub IsStill : Span → Heap → Heap → ℕ → Type 0
-IsStill slid old new q = IfSome (finmap.get new.places q) (λ at. ((at < slid.from) ⊎ (slid.to ≤ at)) → finmap.get old.places q ≡ Some at)
-
--- n new bytes for an id without bytes, where nothing has to be discarded: it stands at an address, and others have slid in a range
-pub record Stands (old : Heap) (id n : ℕ) (kind : Kind) (way : Way) (at : ℕ) (slid : Span) (moved : ℕ) (new : Heap) : Type 0 where
-  pub object : Object
-  pub is_new : IsNew way.zero n kind 0 object
-  pub settled : Settles old (stays_for id way) (with_ordered old id object (with_newest id object)) new
-  pub placed : finmap.get new.places id ≡ Some at
-  pub still : (q : ℕ) → q ≢ id → IsStill slid old new q
-  pub bytes : moved ≡ moved_bytes old new
 
 -- what an answered allocation discarded: as many of the eligible as are needed
 pub record HasDiscarded (old : Heap) (id n : ℕ) (way : Way) (discarded : List ℕ) : Type 0 where
@@ -33,9 +24,39 @@ pub record HasDiscarded (old : Heap) (id n : ℕ) (way : Way) (discarded : List 
   pub needed : prefix_of old n (Some id) way ≡ Some prefix
   pub listed : discarded ≡ first_eligible old prefix (Some id)
 
--- others have slid in a range, so that a hole is as long as it can be without a discard
-pub record SlidesTogether (old : Heap) (room : ℕ) (slid : Span) (moved : ℕ) (new : Heap) : Type 0 where
+-- an object that stands outside a range stands where it stood
+abbrev pub IsStill : Span → Heap → Heap → ℕ → Type 0
+IsStill slid old new q = IfSome (finmap.get new.places q) (λ at. ((at < slid.from) ⊎ (slid.to ≤ at)) → finmap.get old.places q ≡ Some at)
+
+-- what an allocation of n bytes answers: where they stand; the others have slid in a range alone; and so many bytes were moved, no more than the heap has
+pub record IsPlaced (old : Heap) (id n : ℕ) (p : Placed) (new : Heap) : Type 0 where
+  pub place : finmap.get new.places id ≡ Some p.at
+  pub inside : p.at + n ≤ old.hi
+  pub still : (q : ℕ) → q ≢ id → IsStill p.slid old new q
+  pub moved : p.moved ≡ moved_bytes old new
+  pub few : old.lo + p.moved ≤ old.hi
+
+-- what a compaction answers beside the room: objects have slid in a range alone; and so many bytes were moved, no more than the heap has
+pub record IsSlid (old : Heap) (c : Compacted) (new : Heap) : Type 0 where
+  pub still : (q : ℕ) → IsStill c.slid old new q
+  pub moved : c.moved ≡ moved_bytes old new
+  pub few : old.lo + c.moved ≤ old.hi
+
+-- n new bytes for an id without bytes, where nothing has to be discarded
+pub record Stands (old : Heap) (id n : ℕ) (kind : Kind) (way : Way) (p : Placed) (new : Heap) : Type 0 where
+  pub object : Object
+  pub is_new : IsNew way.zero n kind 0 object
+  pub settled : Settles old (stays_for id way) (with_ordered old id object (with_newest id object)) new
+  pub placed : IsPlaced old id n p new
+
+-- others have slid, so that a hole is as long as it can be without a discard
+pub record SlidesTogether (old : Heap) (c : Compacted) (new : Heap) : Type 0 where
   pub settled : Settles old is_pinned old new
-  pub longest : room ≡ longest_hole new.lo new.hi (blocks new)
-  pub still : (q : ℕ) → IsStill slid old new q
-  pub bytes : moved ≡ moved_bytes old new
+  pub longest : c.room ≡ longest_hole new.lo new.hi (blocks new)
+  pub slid : IsSlid old c new
+
+-- the first k that a request about h may discard were discarded, in every memory that has the range, and are listed
+pub record Discards (k : ℕ) (h : Option ℕ) (old new : State) : Type 0 where
+  pub heaps : (memory : List ℕ) → old.table.hi ≤ length memory → heap_in new.table memory ≡ discarded (heap_in old.table memory) k h
+  pub range : IsSameRange old.table new.table
+  pub listed : new.discarded ≡ take k (eligible old.table.blocks old.table.order h)

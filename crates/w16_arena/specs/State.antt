@@ -1,9 +1,15 @@
 -- What an arena is, and a step of its heap in every memory.
-use Rattle.std.specs.Prelude.{◌≡◌, ℕ, ◌≤◌, List, [], length, replicate, Option, None}
+use Rattle.std.specs.Prelude.{◌≡◌, ℕ, ◌≤◌, List, [], length, replicate, Option, None, Result}
 use Rattle.w16_model.specs.declared.Entry.{Entry}
+use Rattle.w16_model.specs.declared.Refusal.{Refusal}
 use Rattle.w16_model.specs.Heap.{Heap, Object}
+use Rattle.w16_model.specs.Single.{after_newest, after_oldest}
 use Rattle.w16_model.specs.Table.{Table, IsSound, heap_in}
+use Rattle.std.specs.Borrow.{GName}
 use Rattle.w16_blocks.specs.Layout.{Layout}
+use Rattle.w16_lru.specs.declared.End.{End}
+use Rattle.w16_lru.specs.declared.End.TheVariants.{Oldest, Newest}
+use Rattle.w16_compact.specs.Rest.{IsSameRest}
 
 -- the table of an arena's heap, and the ids that its last request discarded, oldest first
 pub record State : Type 0 where
@@ -34,8 +40,18 @@ pub record IsSameRange (old new : Table) : Type 0 where
   pub ids : length new.entries ≡ length old.entries
   pub sound : IsSound new
 
+-- What a step of an arena leaves of the rest: the table's range and its soundness, and the memory outside it.
+pub record KeepsRest {X : Type 0} (bytes : X → List ℕ) (lenders : X → List GName) (old : Table) (before : X) (new : Table) (after : X) : Type 0 where
+  pub range : IsSameRange old new
+  pub memory : IsSameRest bytes lenders old.lo old.hi before after
+
 -- A step that asks for no room, in every memory that has the range: it changes the table alone.
 pub record Steps (old new : State) (step : Heap → Heap → Type 0) : Type 0 where
   pub heaps : (memory : List ℕ) → old.table.hi ≤ length memory → step (heap_in old.table memory) (heap_in new.table memory)
   pub range : IsSameRange old.table new.table
   pub rest : new ≡ record old { table = new.table }
+
+-- what a step to an end of the order leaves, or why it is refused
+abbrev pub after_end : End → Heap → ℕ → Result Heap Refusal
+after_end Oldest heap id = after_oldest heap id
+after_end Newest heap id = after_newest heap id

@@ -33,7 +33,7 @@ impl Arena {
     }
 
     /// Does nothing: what holds of every arena.
-    fn is_sound(&self)
+    pub(crate) fn is_sound(&self)
         ensures { IsSound self.now.table }
     {
         let _ = &self.entries;

@@ -1,10 +1,10 @@
 //! Room for new bytes, by a hole that is there or by sliding the blocks of a gap.
 ghost use Rattle.std.specs.Prelude.{◌≡◌, ◌<◌, ◌≤◌, false, true, length, IfSome, IfNone, if◌then◌else◌, ◌+◌};
-ghost use Rattle.w16_model.specs.Gap.{room, longest_hole};
+ghost use Rattle.w16_model.specs.Gap.{room};
 ghost use Rattle.w16_blocks.specs.Layout.{IsOrdered};
 ghost use Rattle.w16_compact.specs.Gather.{moved_size};
 ghost use Rattle.w16_region.specs.Bytes.{counted, put_part, repeated};
-ghost use Rattle.w16_model.specs.Table.{IsSameOutside};
+ghost use Rattle.w16_compact.specs.Rest.{IsSameRest};
 ghost use Rattle.w16_arena.specs.Making.{AreMoved, IsFree, IsLowestGathered, IsLowestPlace, most_for};
 
 use w16_blocks::{Blocks, Span};
@@ -40,9 +40,8 @@ pub(crate) fn make_room<S: Space>(
     ensures lowest { IfSome result (λ p. IsLowestPlace blocks.old size p.at) }
     ensures enough { IfSome result (λ _. size ≤ most_for blocks.old compact) }
     ensures still { compact ≡ false → (blocks.new ≡ blocks.old) × (space.new ≡ space.old) }
-    ensures outside { IsSameOutside blocks.old.lo blocks.old.hi (S.bytes space.old) (S.bytes space.new) }
+    ensures rest { IsSameRest S.bytes S.lenders blocks.old.lo blocks.old.hi space.old space.new }
     ensures written { IfSome result (λ p. S.written space.new ≡ counted (S.written space.old) p.moved) }
-    ensures lenders { S.lenders space.new ≡ S.lenders space.old }
     ensures refused { IfNone result ((most_for blocks.old compact < size) × (blocks.new ≡ blocks.old) × (space.new ≡ space.old)) }
 {
     if let Some(at) = blocks.hole_for(size) {
@@ -67,9 +66,8 @@ fn gather_for<S: Space>(blocks: &mut Blocks, space: &mut S, size: u32) -> Option
     ensures free { IfSome result (λ p. IsFree blocks.new size p.at) }
     ensures moved { IfSome result (λ p. p.moved ≡ moved_size blocks.old.blocks blocks.new.blocks) }
     ensures lowest { IfSome result (λ p. IsLowestGathered blocks.old size p.at) }
-    ensures outside { IsSameOutside blocks.old.lo blocks.old.hi (S.bytes space.old) (S.bytes space.new) }
+    ensures rest { IsSameRest S.bytes S.lenders blocks.old.lo blocks.old.hi space.old space.new }
     ensures written { IfSome result (λ p. S.written space.new ≡ counted (S.written space.old) p.moved) }
-    ensures lenders { S.lenders space.new ≡ S.lenders space.old }
     ensures refused { IfNone result ((most_for blocks.old true < size) × (blocks.new ≡ blocks.old) × (space.new ≡ space.old)) }
 {
     let gap = gap_for(blocks, size)?;
@@ -90,7 +88,7 @@ pub(crate) fn clear_if<S: Space>(asked: bool, space: &mut S, at: u32, size: u32)
     requires { at + size ≤ length (S.bytes space.old) }
     ensures bytes { S.bytes space.new ≡ if asked then put_part (S.bytes space.old) at (repeated size 0) else S.bytes space.old }
     ensures written { S.written space.new ≡ if asked then counted (S.written space.old) size else S.written space.old }
-    ensures lenders { S.lenders space.new ≡ S.lenders space.old }
+    ensures rest { IsSameRest S.bytes S.lenders at (at + size) space.old space.new }
 {
     if asked {
         space.fill(at, size, 0);

@@ -1,15 +1,16 @@
 //! What becomes of single objects. None of these calls asks for room.
-ghost use Rattle.std.specs.Prelude.{◌≡◌, ◌<◌, ◌≤◌, ℕ, Ok, Err, Some, None, length, IfErr, IfSome, IfNone, IsSome, IsSomeAnd, IsTrue, true, OnOk, if◌then◌else◌};
+ghost use Rattle.std.specs.Prelude.{◌≡◌, ◌<◌, Ok, Err, Some, None, length, IfErr, IfSome, IfNone, IsSomeAnd, IsTrue, true, OnOk};
 ghost use Rattle.w16_model.specs.Heap.{is_discardable, is_fixed, object_at};
 ghost use Rattle.w16_model.specs.Single.{Enters, after_free, after_release, after_lock, after_unlock, after_discard, after_touch, after_newest, after_oldest, refused_order};
 ghost use Rattle.w16_model.specs.Table.{block_with, entry_at, hold_in, IsCountedBy};
 ghost use Rattle.w16_model.specs.Edit as edit;
 ghost use Rattle.w16_model.specs.Prefix.{is_member};
 ghost use Rattle.w16_blocks.specs.Layout.{IsOrdered, without, replaced};
-ghost use Rattle.w16_arena.specs.State.{Steps};
+ghost use Rattle.w16_arena.specs.State.{Steps, after_end};
 
 use crate::Arena;
 use w16_blocks::{Blocks, Hold};
+use w16_lru::End;
 use w16_model::{Entry, Kind, Refusal};
 
 impl Arena {
@@ -130,9 +131,7 @@ impl Arena {
         ensures ok { OnOk result (Steps self.old self.new (λ old new. after_newest old id ≡ Ok new)) }
         ensures err { IfErr result (λ r. (self.new ≡ self.old) × Steps self.old self.new (λ old new. after_newest old id ≡ Err r)) }
     {
-        self.check_in_order(id)?;
-        self.order.newest(id);
-        Ok(())
+        self.to_end(id, End::Newest)
     }
 
     /// A discardable object with bytes becomes the oldest, locked or not. It tells why another doesn't: `Absent` or `NotDiscardable`.
@@ -140,8 +139,16 @@ impl Arena {
         ensures ok { OnOk result (Steps self.old self.new (λ old new. after_oldest old id ≡ Ok new)) }
         ensures err { IfErr result (λ r. (self.new ≡ self.old) × Steps self.old self.new (λ old new. after_oldest old id ≡ Err r)) }
     {
+        self.to_end(id, End::Oldest)
+    }
+
+    /// A discardable object with bytes goes to an end of the order of use, locked or not.
+    fn to_end(&mut self, id: u32, end: End) -> Result<(), Refusal>
+        ensures ok { OnOk result (Steps self.old self.new (λ old new. after_end end old id ≡ Ok new)) }
+        ensures err { IfErr result (λ r. (self.new ≡ self.old) × Steps self.old self.new (λ old new. after_end end old id ≡ Err r)) }
+    {
         self.check_in_order(id)?;
-        self.order.oldest(id);
+        self.order.to_end(id, end);
         Ok(())
     }
 

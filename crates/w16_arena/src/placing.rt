@@ -1,14 +1,13 @@
 //! Requests that discard nothing: a place for new bytes, and the blocks slid together.
-ghost use Rattle.std.specs.Prelude.{◌≡◌, ◌+◌, ◌<◌, ◌≤◌, ℕ, List, length, IfSome, IfNone, if◌then◌else◌, None, false, slice_index_or};
+ghost use Rattle.std.specs.Prelude.{◌≡◌, ◌<◌, ◌≤◌, ℕ, List, length, IfSome, IfNone, if◌then◌else◌, None};
 ghost use Rattle.w16_region.specs.Bytes.{counted};
 ghost use Rattle.w16_model.specs.Heap.{IsMultiple, is_discardable};
-ghost use Rattle.w16_model.specs.Prefix.{eligible, is_member};
 ghost use Rattle.w16_model.specs.Gap.{room};
 ghost use Rattle.w16_model.specs.Edit as edit;
-ghost use Rattle.w16_model.specs.Table.{block_with, heap_in, IsSameOutside, IsSound};
+ghost use Rattle.w16_model.specs.Table.{block_with, heap_in, IsSound};
 ghost use Rattle.w16_model.specs.Request.{most_room};
 ghost use Rattle.w16_blocks.specs.Layout.{IsOrdered};
-ghost use Rattle.w16_arena.specs.State.{IsSameRange};
+ghost use Rattle.w16_arena.specs.State.{KeepsRest};
 ghost use Rattle.w16_arena.specs.Making.{most_in};
 ghost use Rattle.w16_arena.specs.Asked.{SlidesTogether, Stands};
 
@@ -16,7 +15,7 @@ use crate::Arena;
 use crate::making::{NOTHING, Placed, clear_if, make_room};
 use crate::objects::{hold, is_discardable};
 use w16_blocks::{Block, Blocks};
-use w16_compact::{is_pinned_id, room};
+use w16_compact::room_after;
 use w16_lru::Order;
 use w16_model::{Entry, Kind, Span, Way};
 use w16_region::{Space, has_bytes};
@@ -45,17 +44,15 @@ impl Arena {
         requires some { 0 < size }
         requires rounded { IsMultiple self.old.table.grain size }
         requires inside { self.old.table.hi ≤ length (S.bytes space.old) }
-        ensures sound { IsSound self.old.table }
-        ensures stands { IfSome result (λ p. Stands (heap_in self.old.table (S.bytes space.old)) id size kind way p.at p.slid p.moved (heap_in self.new.table (S.bytes space.new))) }
-        ensures inside { IfSome result (λ p. p.at + size ≤ self.old.table.hi) }
+        ensures stands { IfSome result (λ p. Stands (heap_in self.old.table (S.bytes space.old)) id size kind way p
+            (heap_in self.new.table (S.bytes space.new))) }
         ensures enough { IfSome result (λ _. size ≤ most_in self.old.table way.compact) }
         ensures refused { IfNone result ((most_in self.old.table way.compact < size) × (self.new ≡ self.old) × (space.new ≡ space.old)) }
         ensures discarded { self.new.discarded ≡ self.old.discarded }
-        ensures range { IsSameRange self.old.table self.new.table }
-        ensures outside { IsSameOutside self.old.table.lo self.old.table.hi (S.bytes space.old) (S.bytes space.new) }
-        ensures length { length (S.bytes space.new) ≡ length (S.bytes space.old) }
-        ensures written { IfSome result (λ p. S.written space.new ≡ counted (counted (S.written space.old) p.moved) (if way.zero then size else 0)) }
-        ensures lenders { S.lenders space.new ≡ S.lenders space.old }
+        ensures rest { KeepsRest S.bytes S.lenders self.old.table space.old self.new.table space.new }
+        ensures written { IfSome result (λ p. S.written space.new
+            ≡ counted (counted (S.written space.old) p.moved) (if way.zero then size else 0)) }
+        ensures sound { IsSound self.old.table }
     {
         has_bytes(space);
         let placed = make_room(&mut self.blocks, space, size, way.compact)?;
@@ -77,16 +74,14 @@ impl Arena {
     pub(crate) fn slide_together<S: Space>(&mut self, space: &mut S) -> Compacted
         requires inside { self.old.table.hi ≤ length (S.bytes space.old) }
         ensures room { result.room ≡ room self.old.table.lo self.old.table.hi self.old.table.blocks }
-        ensures slides { SlidesTogether (heap_in self.old.table (S.bytes space.old)) result.room result.slid result.moved (heap_in self.new.table (S.bytes space.new)) }
+        ensures slides { SlidesTogether (heap_in self.old.table (S.bytes space.old)) result
+            (heap_in self.new.table (S.bytes space.new)) }
         ensures discarded { self.new.discarded ≡ self.old.discarded }
-        ensures range { IsSameRange self.old.table self.new.table }
-        ensures outside { IsSameOutside self.old.table.lo self.old.table.hi (S.bytes space.old) (S.bytes space.new) }
-        ensures length { length (S.bytes space.new) ≡ length (S.bytes space.old) }
+        ensures rest { KeepsRest S.bytes S.lenders self.old.table space.old self.new.table space.new }
         ensures written { S.written space.new ≡ counted (S.written space.old) result.moved }
-        ensures lenders { S.lenders space.new ≡ S.lenders space.old }
     {
         has_bytes(space);
-        let room = room_now(&self.blocks, &mut self.marks);
+        let room = room_now(&self.blocks, &self.order, &mut self.marks);
         if room == 0 {
             return Compacted {
                 room,
@@ -109,35 +104,20 @@ impl Arena {
         ensures value { (memory : List ℕ) → self.old.table.hi ≤ length memory → result ≡ most_room (heap_in self.old.table memory) }
         ensures same { self.new ≡ self.old }
     {
-        mark_eligible(&self.blocks, &self.order, &mut self.marks);
-        room(&self.blocks, &self.marks)
+        let all = self.order.len();
+        room_after(&self.blocks, &self.order, &mut self.marks, None, all)
     }
 }
 
-/// How long a hole can be made without a discard. The marks are cleared.
-fn room_now(blocks: &Blocks, marks: &mut Vec<bool>) -> u32
-    requires { blocks.now.cap ≤ length marks.old.items }
+/// How long a hole can be made without a discard.
+fn room_now(blocks: &Blocks, order: &Order, marks: &mut Vec<bool>) -> u32
+    requires ids { order.now.cap ≤ blocks.now.cap }
+    requires marks { blocks.now.cap ≤ length marks.old.items }
     ensures value { result ≡ room blocks.now.lo blocks.now.hi blocks.now.blocks }
     ensures length { length marks.new.items ≡ length marks.old.items }
     ensures ordered { IsOrdered blocks.now }
 {
-    marks.fill(false);
-    room(blocks, marks)
-}
-
-/// Marks the ids of the order of use that may be discarded, and no others.
-fn mark_eligible(blocks: &Blocks, order: &Order, marks: &mut [bool])
-    requires few { order.now.cap ≤ blocks.now.cap }
-    requires many { blocks.now.cap ≤ length marks.old }
-    ensures marks { (id : ℕ) → id < blocks.now.cap → slice_index_or marks.new id false ≡ is_member id (eligible blocks.now.blocks order.now.ids None) }
-    ensures length { length marks.new ≡ length marks.old }
-{
-    marks.fill(false);
-    for i in 0..order.len() {
-        if let Some(id) = order.nth(i) {
-            marks[id as usize] = !is_pinned_id(blocks, id);
-        }
-    }
+    room_after(blocks, order, marks, None, 0)
 }
 
 /// A new discardable object with bytes is the newest in the order of use; another isn't in it.

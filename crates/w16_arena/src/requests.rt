@@ -1,12 +1,12 @@
 //! Requests for room: allocation and compaction.
-ghost use Rattle.std.specs.Prelude.{◌≡◌, ◌≢◌, ◌+◌, ◌<◌, ◌≤◌, ℕ, [], length, is_ok, IfOk, OnErr, ◌&&◌, if◌then◌else◌, Some, None};
-ghost use Rattle.std.specs.FinMap as finmap;
+ghost use Rattle.std.specs.Prelude.{◌≡◌, ◌<◌, ◌≤◌, [], length, is_ok, true, IfOk, IfSome, OnErr, ◌&&◌, if◌then◌else◌, Some, None};
 ghost use Rattle.w16_region.specs.Bytes.{counted};
 ghost use Rattle.w16_model.specs.Heap.{IsMultiple};
-ghost use Rattle.w16_model.specs.Table.{block_with, heap_in, IsSameOutside};
-ghost use Rattle.w16_model.specs.Request.{Allocates, Compacts, compaction_prefix, moved_bytes};
-ghost use Rattle.w16_arena.specs.State.{IsSameRange};
-ghost use Rattle.w16_arena.specs.Asked.{HasDiscarded, IsStill, first_eligible};
+ghost use Rattle.w16_model.specs.Prefix.{needed};
+ghost use Rattle.w16_model.specs.Table.{block_with, heap_in, IsSound};
+ghost use Rattle.w16_model.specs.Request.{Allocates, Compacts, compaction_prefix};
+ghost use Rattle.w16_arena.specs.State.{KeepsRest};
+ghost use Rattle.w16_arena.specs.Asked.{HasDiscarded, IsPlaced, IsSlid, first_eligible};
 
 use crate::Arena;
 use crate::making::{NOTHING, Placed};
@@ -36,29 +36,53 @@ impl Arena {
         requires some { 0 < size }
         requires rounded { IsMultiple self.old.table.grain size }
         requires inside { self.old.table.hi ≤ length (S.bytes space.old) }
-        ensures allocated { Allocates (heap_in self.old.table (S.bytes space.old)) id size kind 0 way (is_ok result) (heap_in self.new.table (S.bytes space.new)) }
-        ensures placed { IfOk result (λ p. finmap.get (heap_in self.new.table (S.bytes space.new)).places id ≡ Some p.at) }
-        ensures inside { IfOk result (λ p. p.at + size ≤ self.old.table.hi) }
+        ensures allocated { Allocates (heap_in self.old.table (S.bytes space.old)) id size kind 0 way (is_ok result)
+            (heap_in self.new.table (S.bytes space.new)) }
+        ensures placed { IfOk result (λ p. IsPlaced (heap_in self.old.table (S.bytes space.old)) id size p
+            (heap_in self.new.table (S.bytes space.new))) }
         ensures discarded { IfOk result (λ _. HasDiscarded (heap_in self.old.table (S.bytes space.old)) id size way self.new.discarded) }
-        ensures still { IfOk result (λ p. (q : ℕ) → q ≢ id → IsStill p.slid (heap_in self.old.table (S.bytes space.old)) (heap_in self.new.table (S.bytes space.new)) q) }
-        ensures moved { IfOk result (λ p. p.moved ≡ moved_bytes (heap_in self.old.table (S.bytes space.old)) (heap_in self.new.table (S.bytes space.new))) }
-        ensures range { IsSameRange self.old.table self.new.table }
         ensures refused { OnErr result ((self.new ≡ self.old) × (space.new ≡ space.old)) }
-        ensures outside { IsSameOutside self.old.table.lo self.old.table.hi (S.bytes space.old) (S.bytes space.new) }
-        ensures length { length (S.bytes space.new) ≡ length (S.bytes space.old) }
-        ensures written { IfOk result (λ p. S.written space.new ≡ counted (counted (S.written space.old) p.moved) (if way.zero then size else 0)) }
-        ensures lenders { S.lenders space.new ≡ S.lenders space.old }
+        ensures rest { KeepsRest S.bytes S.lenders self.old.table space.old self.new.table space.new }
+        ensures written { IfOk result (λ p. S.written space.new
+            ≡ counted (counted (S.written space.old) p.moved) (if way.zero then size else 0)) }
     {
         if let Some(placed) = self.place(space, id, size, kind, way) {
-            self.discarded.clear();
+            self.forget_discards();
             return Ok(placed);
         }
         if !may_discard(way) {
             return Err(NoRoom);
         }
+        self.place_discarding(space, id, size, kind, way)
+    }
+
+    /// The same, where there is no room without a discard and others may be discarded.
+    fn place_discarding<S: Space>(
+        &mut self,
+        space: &mut S,
+        id: u32,
+        size: u32,
+        kind: Kind,
+        way: Way,
+    ) -> Result<Placed, NoRoom>
+        requires id { id < length self.old.table.entries }
+        requires absent { block_with self.old.table.blocks id ≡ None }
+        requires some { 0 < size }
+        requires rounded { IsMultiple self.old.table.grain size }
+        requires inside { self.old.table.hi ≤ length (S.bytes space.old) }
+        requires may { (way.compact && way.discard) ≡ true }
+        ensures allocated { Allocates (heap_in self.old.table (S.bytes space.old)) id size kind 0 way (is_ok result)
+            (heap_in self.new.table (S.bytes space.new)) }
+        ensures placed { IfOk result (λ p. IsPlaced (heap_in self.old.table (S.bytes space.old)) id size p
+            (heap_in self.new.table (S.bytes space.new))) }
+        ensures discarded { IfOk result (λ _. HasDiscarded (heap_in self.old.table (S.bytes space.old)) id size way self.new.discarded) }
+        ensures refused { OnErr result ((self.new ≡ self.old) × (space.new ≡ space.old)) }
+        ensures rest { KeepsRest S.bytes S.lenders self.old.table space.old self.new.table space.new }
+        ensures written { IfOk result (λ p. S.written space.new
+            ≡ counted (counted (S.written space.old) p.moved) (if way.zero then size else 0)) }
+    {
         has_bytes(space);
-        let Some(k) = least_prefix(&self.blocks, &self.order, &mut self.marks, Some(id), size)
-        else {
+        let Some(k) = self.least_discards(Some(id), size) else {
             return Err(NoRoom);
         };
         self.discard_first(k, Some(id));
@@ -72,30 +96,68 @@ impl Arena {
     /// discarded as are needed, or all that may be, and the others slide. For 0 bytes it only answers how long a hole that could make.
     pub fn compact<S: Space>(&mut self, space: &mut S, n: u32) -> Compacted
         requires inside { self.old.table.hi ≤ length (S.bytes space.old) }
-        ensures compacted { Compacts (heap_in self.old.table (S.bytes space.old)) n result.room (heap_in self.new.table (S.bytes space.new)) }
-        ensures discarded { 0 < n → self.new.discarded ≡ first_eligible (heap_in self.old.table (S.bytes space.old)) (compaction_prefix (heap_in self.old.table (S.bytes space.old)) n) None }
-        ensures still { (q : ℕ) → IsStill result.slid (heap_in self.old.table (S.bytes space.old)) (heap_in self.new.table (S.bytes space.new)) q }
-        ensures moved { result.moved ≡ moved_bytes (heap_in self.old.table (S.bytes space.old)) (heap_in self.new.table (S.bytes space.new)) }
+        ensures compacted { Compacts (heap_in self.old.table (S.bytes space.old)) n result.room
+            (heap_in self.new.table (S.bytes space.new)) }
+        ensures slid { IsSlid (heap_in self.old.table (S.bytes space.old)) result (heap_in self.new.table (S.bytes space.new)) }
+        ensures discarded { 0 < n → self.new.discarded ≡ first_eligible (heap_in self.old.table (S.bytes space.old))
+            (compaction_prefix (heap_in self.old.table (S.bytes space.old)) n) None }
         ensures none { n ≡ 0 → (self.new.discarded ≡ []) × (space.new ≡ space.old) }
-        ensures range { IsSameRange self.old.table self.new.table }
-        ensures outside { IsSameOutside self.old.table.lo self.old.table.hi (S.bytes space.old) (S.bytes space.new) }
-        ensures length { length (S.bytes space.new) ≡ length (S.bytes space.old) }
+        ensures rest { KeepsRest S.bytes S.lenders self.old.table space.old self.new.table space.new }
         ensures written { S.written space.new ≡ counted (S.written space.old) result.moved }
-        ensures lenders { S.lenders space.new ≡ S.lenders space.old }
     {
-        if n == 0 {
-            self.discarded.clear();
-            return Compacted {
-                room: self.room_all(),
-                slid: NOTHING,
-                moved: 0,
-            };
+        if n > 0 {
+            return self.slide_discarding(space, n);
         }
+        self.is_sound();
+        let room = self.room_all();
+        self.forget_discards();
+        Compacted {
+            room,
+            slid: NOTHING,
+            moved: 0,
+        }
+    }
+
+    /// The same for some bytes.
+    fn slide_discarding<S: Space>(&mut self, space: &mut S, n: u32) -> Compacted
+        requires some { 0 < n }
+        requires inside { self.old.table.hi ≤ length (S.bytes space.old) }
+        ensures compacted { Compacts (heap_in self.old.table (S.bytes space.old)) n result.room
+            (heap_in self.new.table (S.bytes space.new)) }
+        ensures slid { IsSlid (heap_in self.old.table (S.bytes space.old)) result (heap_in self.new.table (S.bytes space.new)) }
+        ensures discarded { self.new.discarded ≡ first_eligible (heap_in self.old.table (S.bytes space.old))
+            (compaction_prefix (heap_in self.old.table (S.bytes space.old)) n) None }
+        ensures rest { KeepsRest S.bytes S.lenders self.old.table space.old self.new.table space.new }
+        ensures written { S.written space.new ≡ counted (S.written space.old) result.moved }
+    {
         has_bytes(space);
-        let k = least_prefix(&self.blocks, &self.order, &mut self.marks, None, n);
-        let all = self.order.len();
-        self.discard_first(k.unwrap_or(all), None);
+        let k = self.least_discards(None, n);
+        self.discard_first(k.unwrap_or(self.order_len()), None);
         self.slide_together(space)
+    }
+
+    /// The least number of discards that make room for `n` bytes, where `h` isn't counted; none where no number does. Nothing changes.
+    fn least_discards(&mut self, h: Option<u32>, n: u32) -> Option<usize>
+        requires { IfSome h (λ id. id < length self.old.table.entries) }
+        ensures value { result ≡ needed self.old.table.lo self.old.table.hi self.old.table.blocks self.old.table.order n h }
+        ensures same { self.new ≡ self.old }
+        ensures sound { IsSound self.old.table }
+    {
+        least_prefix(&self.blocks, &self.order, &mut self.marks, h, n)
+    }
+
+    /// How many objects may be discarded at most.
+    fn order_len(&self) -> usize
+        ensures { result ≡ length self.now.table.order }
+    {
+        self.order.len()
+    }
+
+    /// Nothing was discarded.
+    fn forget_discards(&mut self)
+        ensures { self.new ≡ record self.old { discarded = [] } }
+    {
+        self.discarded.clear();
     }
 }
 

@@ -42,7 +42,9 @@ impl Arena {
 
     /// The i-th block by address as a part of the heap, if there is one.
     fn item_at(&self, i: usize) -> Option<Item>
-        ensures value { MatchOption (slice_get self.now.table.blocks i) (result ≡ None) (λ b. IsSomeAnd (entry_at self.now.table b.id) (λ e. result ≡ Some (record { at = b.at; size = b.size; owner = Some (record { name = b.id; kind = e.kind; locks = e.locks }) }))) }
+        ensures value { MatchOption (slice_get self.now.table.blocks i) (result ≡ None)
+            (λ b. IsSomeAnd (entry_at self.now.table b.id) (λ e. result
+            ≡ Some (record { at = b.at; size = b.size; owner = Some (record { name = b.id; kind = e.kind; locks = e.locks }) }))) }
         ensures sound { IsSound self.now.table }
     {
         let block = self.blocks.at_index(i)?;

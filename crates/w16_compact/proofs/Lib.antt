@@ -1,4 +1,4 @@
-pub mod Parts
+pub mod Rests
 pub mod OnePass
 pub mod Order
 pub mod Slid

@@ -1,5 +1,5 @@
 -- The i-th block among the others.
-use Rattle.std.proofs.Common.{ℕ, zero, suc, ◌≡◌, ◌≢◌, ◌<◌, ◌≤◌, List, [], ◌∷◌, ◌++◌, length, get_or, set, take, drop, cond, eqb, Some, is_some, arith, refl, sym, subst, ap, inl, inr, slice_get}
+use Rattle.std.proofs.Common.{ℕ, zero, suc, ◌≡◌, ◌≢◌, ◌<◌, ◌≤◌, List, [], ◌∷◌, ◌++◌, set, take, drop, cond, eqb, Some, is_some, arith, refl, sym, subst, ap, inl, inr, slice_get}
 use Rattle.std.proofs.lemmas.Bool.{lt-ltb, le-ltb, ne_eqb, eq-eqb, false≢true}
 use Rattle.std.specs.List.{AllByRecursion}
 use Rattle.w16_model.specs.declared.Block.{Block}
@@ -90,8 +90,3 @@ placed_got x low high (c ∷ d ∷ ds) zero b apart e below above = rw (le-ltb d
 placed_got x low high (c ∷ cs) (suc i) b apart e below above =
     let one = below.0 in let two = apart.1 in
     rw (lt-ltb c.at x.at (omega arith)) (ap (λ ys. c ∷ ys) (placed_got x (block_end c) high cs i b apart.2 e below.1 above))
-
-pub each_got_or : (P : Block → Type 0) (bs : List Block) (i : ℕ) (d : Block) → i < length bs → AllByRecursion P bs → P (get_or bs i d)
-each_got_or P [] i d lt all = absurd (omega arith)
-each_got_or P (b ∷ bs) zero d lt all = all.0
-each_got_or P (b ∷ bs) (suc i) d lt all = each_got_or P bs i d (omega arith) all.1

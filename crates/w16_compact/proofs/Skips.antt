@@ -1,5 +1,5 @@
 -- One pass over the counted blocks.
-use Rattle.std.proofs.Common.{◌≡◌, ℕ, ◌+◌, ◌-◌, ◌^◌, ◌<◌, ◌≤◌, zero, suc, max, Bool, true, false, cond, filter, List, [], ◌∷◌, length, drop, get_or, drop_of_length-le, sym, ap, ◌∙◌, subst, arith}
+use Rattle.std.proofs.Common.{◌≡◌, ℕ, ◌+◌, ◌-◌, ◌^◌, ◌<◌, ◌≤◌, zero, suc, max, Bool, true, false, cond, filter, List, [], ◌∷◌, length, drop, get_or, sym, ap, ◌∙◌, subst, arith}
 use Rattle.std.specs.List.{AllByRecursion}
 use Rattle.std.proofs.lemmas.Bool.{cond-true, cond-false}
 use Rattle.std.proofs.lemmas.List.{drop_more}
@@ -96,12 +96,6 @@ passed_start p lo hi xs laid = record {
   laid = subst (λ v. IsLaid v hi xs) (omega arith) laid;
   same = scan-room lo hi (filter p xs) (laid_filter p lo hi xs laid);
 }
-
-pub passed_end : (p : Block → Bool) (hi : ℕ) (xs : List Block) (total i most low loose : ℕ) → length xs ≤ i → IsPassed p hi xs total i most low loose → (max most (hi - low - loose) ≡ total) × (low + loose ≤ hi)
-passed_end p hi xs total i most low loose l now = (
-  sym (ap (λ ys. scan hi most low loose (filter p ys)) (drop_of_length-le xs l)) ∙ now.same,
-  laid_le (low + loose) hi (drop i xs) now.laid,
-)
 
 pub id_at : (cap : ℕ) (all xs : List Block) (d : Block) (i : ℕ) → all ≡ xs → i < length all → AreNamed cap xs → (get_or all i d).id < cap
 id_at cap all xs d i e lt named = each_at (λ y. y.id < cap) all xs d i e lt (each_id xs named)

@@ -6,7 +6,7 @@ use Rattle.w16_region.specs.Bytes.{part}
 use Rattle.w16_model.specs.declared.Block.{Block}
 use Rattle.w16_model.specs.Gap.{block_end}
 use Rattle.w16_compact.specs.Gather.{contents}
-use Rattle.w16_compact.proofs.Parts.{part_below, part_above}
+use Rattle.w16_region.proofs.Parts.{part_below, part_above}
 
 same_some : (b c : Block) → Some c ≡ Some b → c ≡ b
 same_some b c e = cc

@@ -55,19 +55,6 @@ module _ (l : Layout) (n : ℕ) (ordered : IsOrdered l) where
     pub sizes : (b : ℕ) → mid ≤ b → loose_bytes (take i xs) r.low b ≡ r.loose
     pub lowest : IsLowest l n r.low
 
-  pub walked_start : (low : ℕ) → low ≡ l.lo → IsWalked 0 (record { low = low; loose = 0 })
-  walked_start low e = record {
-    mid = l.lo;
-    laid = ordered.laid;
-    fits = omega arith;
-    from = omega arith;
-    grained = (ordered.from.0, e ∙ ordered.from.1);
-    floor = inl e;
-    before = tt;
-    sizes = λ b le. refl;
-    lowest = λ a b gap enough. let above = gap.clear.above in omega arith;
-  }
-
   -- the gap reached, where it ends at a place and the blocks from here on begin at it or behind
   module _ (i : ℕ) (r : Reached) (now : IsWalked i r) (high : ℕ) (far : now.mid ≤ high) (inside : high ≤ l.hi) (ahead : AllByRecursion (λ x. high ≤ x.at) (drop i xs)) where
     pub may_here : MayGather l r.low high
@@ -204,9 +191,6 @@ module _ (l : Layout) (n : ℕ) (ordered : IsOrdered l) where
 
     high : now.mid ≤ l.hi
     high = subst (IsLaid now.mid l.hi) none now.laid
-
-    pub reaches_end : r.low + r.loose ≤ l.hi
-    reaches_end = let one = high in let two = now.fits in omega arith
 
     ahead_none : AllByRecursion (λ x. l.hi ≤ x.at) (drop i xs)
     ahead_none = subst (AllByRecursion (λ x. l.hi ≤ x.at)) (sym none) tt

@@ -3,7 +3,8 @@
 //! - [`room`] tells how much compaction can make.
 //! - [`gap_for`] tells where it can make enough.
 //! - [`gather`] makes it there.
-//! - [`least_prefix`] tells how many discards it takes first.
+//! - [`least_prefix`] tells how many discards it takes first, [`room_after`] how much room a number of them leaves, and [`eligible_at`]
+//!   which objects they would be.
 //!
 //! No call takes memory. What is proved of them is stated over `w16_model`'s gaps and holes.
 #![tactic(auto)]
@@ -17,6 +18,6 @@ mod slide;
 mod tests;
 
 pub use gaps::{Gap, gap_for};
-pub use prefix::{is_pinned_id, least_prefix};
+pub use prefix::{eligible_at, least_prefix, room_after};
 pub use rooms::room;
 pub use slide::gather;

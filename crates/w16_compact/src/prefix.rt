@@ -51,8 +51,14 @@ pub fn least_prefix(
 }
 
 /// The room after `k` discards, or after all where there are fewer to be made, where `h` isn't
-/// counted.
-fn room_after(blocks: &Blocks, order: &Order, marks: &mut [bool], h: Option<u32>, k: usize) -> u32
+/// counted. `marks` are as for [`least_prefix`].
+pub fn room_after(
+    blocks: &Blocks,
+    order: &Order,
+    marks: &mut [bool],
+    h: Option<u32>,
+    k: usize,
+) -> u32
     requires marks { blocks.now.cap ≤ length marks.old }
     requires ids { order.now.cap ≤ blocks.now.cap }
     requires h { IfSome h (λ id. id < blocks.now.cap) }
@@ -88,8 +94,8 @@ fn mark_first(blocks: &Blocks, order: &Order, marks: &mut [bool], h: Option<u32>
     }
 }
 
-/// The i-th of the order, if it may be discarded.
-fn eligible_at(blocks: &Blocks, order: &Order, h: Option<u32>, i: usize) -> Option<u32>
+/// The i-th of the order, the oldest first, if a request about `h` may discard it.
+pub fn eligible_at(blocks: &Blocks, order: &Order, h: Option<u32>, i: usize) -> Option<u32>
     requires ids { order.now.cap ≤ blocks.now.cap }
     ensures id { IfSome result (λ id. id < blocks.now.cap) }
     ensures value { let here = eligible blocks.now.blocks (drop i order.now.ids) h in
@@ -117,7 +123,7 @@ fn mark_only(marks: &mut [bool], h: Option<u32>)
 }
 
 /// Whether an id has a block that keeps its address.
-pub fn is_pinned_id(blocks: &Blocks, id: u32) -> bool
+fn is_pinned_id(blocks: &Blocks, id: u32) -> bool
     requires { id < blocks.now.cap }
     ensures { result ≡ is_pinned_id blocks.now.blocks id }
 {

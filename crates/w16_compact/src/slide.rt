@@ -1,11 +1,12 @@
 //! Loose blocks slide to the low end of a gap.
-ghost use Rattle.std.specs.Prelude.{◌≡◌, ℕ, ◌+◌, ◌<◌, ◌≤◌, ◌⊎◌, ◌==◌, length, take, drop, slice_get, slice_set, if◌then◌else◌, MatchOption, IfSome};
+ghost use Rattle.std.specs.Prelude.{◌≡◌, ℕ, ◌+◌, ◌<◌, ◌≤◌, ◌⊎◌, ◌==◌, length, take, slice_get, slice_set, if◌then◌else◌, MatchOption, IfSome};
 ghost use Rattle.std.specs.List.{AllByRecursion};
 ghost use Rattle.w16_region.specs.Bytes.{counted, part};
 ghost use Rattle.w16_model.specs.Gap.{block_end, is_any, IsClear, IsGap, IsHole, loose_bytes};
 ghost use Rattle.w16_model.specs.Heap.{IsMultiple};
 ghost use Rattle.w16_blocks.specs.Layout.{IsOrdered};
 ghost use Rattle.w16_compact.specs.Gather.{gathered, contents, moved_size, MayGather, AreSlid};
+ghost use Rattle.w16_compact.specs.Rest.{IsSameRest};
 
 use w16_blocks::{Block, Blocks};
 use w16_region::Space;
@@ -41,10 +42,7 @@ pub fn gather<S: Space>(blocks: &mut Blocks, space: &mut S, low: u32, high: u32)
         → (b ≤ low) ⊎ (high ≤ a) }
     ensures moved { result ≡ moved_size blocks.old.blocks blocks.new.blocks }
     ensures written { S.written space.new ≡ counted (S.written space.old) result }
-    ensures length { length (S.bytes space.new) ≡ length (S.bytes space.old) }
-    ensures below { take low (S.bytes space.new) ≡ take low (S.bytes space.old) }
-    ensures above { drop high (S.bytes space.new) ≡ drop high (S.bytes space.old) }
-    ensures lenders { S.lenders space.new ≡ S.lenders space.old }
+    ensures rest { IsSameRest S.bytes S.lenders low high space.old space.new }
 {
     let mut i = blocks.rank(low);
     let mut to = low;
@@ -84,11 +82,7 @@ fn settle<S: Space>(blocks: &mut Blocks, space: &mut S, i: usize, block: Block, 
         ≡ contents (S.bytes space.old) blocks.old.blocks }
     ensures moved { result ≡ (if block.at == to then 0 else block.size) }
     ensures written { S.written space.new ≡ counted (S.written space.old) result }
-    ensures length { length (S.bytes space.new) ≡ length (S.bytes space.old) }
-    ensures below { take to (S.bytes space.new) ≡ take to (S.bytes space.old) }
-    ensures above { drop (block_end block) (S.bytes space.new)
-        ≡ drop (block_end block) (S.bytes space.old) }
-    ensures lenders { S.lenders space.new ≡ S.lenders space.old }
+    ensures rest { IsSameRest S.bytes S.lenders to (block_end block) space.old space.new }
 {
     if block.at == to {
         return 0;
@@ -99,18 +93,13 @@ fn settle<S: Space>(blocks: &mut Blocks, space: &mut S, i: usize, block: Block, 
 }
 
 /// Slides a block's bytes down to a place, also over bytes of its own.
-#[tactic(auto, using(crate::proofs::Parts::slid_part, crate::proofs::Parts::slid_above))]
 fn slide_down<S: Space>(space: &mut S, block: Block, to: u32)
     requires down { to ≤ block.at }
     requires inside { block_end block ≤ length (S.bytes space.old) }
     ensures moved { part (S.bytes space.new) to block.size
         ≡ part (S.bytes space.old) block.at block.size }
     ensures written { S.written space.new ≡ counted (S.written space.old) block.size }
-    ensures length { length (S.bytes space.new) ≡ length (S.bytes space.old) }
-    ensures below { take to (S.bytes space.new) ≡ take to (S.bytes space.old) }
-    ensures above { drop (block_end block) (S.bytes space.new)
-        ≡ drop (block_end block) (S.bytes space.old) }
-    ensures lenders { S.lenders space.new ≡ S.lenders space.old }
+    ensures rest { IsSameRest S.bytes S.lenders to (block_end block) space.old space.new }
 {
     space.slide(block.at, to, block.size);
 }

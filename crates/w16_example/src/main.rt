@@ -2,7 +2,7 @@
 #![tactic(auto)]
 
 use anyhow::Result;
-use w16_kernel::{Call, Kernel, Reply};
+use w16_kernel::{Call, Kernel, MOST_READ, Reply};
 
 fn main(rt: HostRuntime) -> Result<()> {
     // 64 KiB of memory, for 16 objects at most.
@@ -11,8 +11,10 @@ fn main(rt: HostRuntime) -> Result<()> {
         flags: 0x42,
         size: 100,
     };
-    if let Reply::Word(handle) = kernel.call(&asked)?
-        && let Reply::Dword(pointer) = kernel.call(&Call::GlobalLock { handle })?
+    // Bytes that a call reads are put here.
+    let mut room = [0; MOST_READ];
+    if let Reply::Word(handle) = kernel.call(&asked, &mut room)?
+        && let Reply::Dword(pointer) = kernel.call(&Call::GlobalLock { handle }, &mut room)?
     {
         println!(rt; "handle {handle:04x}, address {pointer:08x}")?;
     }

@@ -10,29 +10,29 @@ use Rattle.w16_model.specs.Heap.{Heap, Object, IsHeap}
 use Rattle.w16_model.specs.Edit.{with_ordered, with_newest}
 use Rattle.w16_model.specs.Request.{Allocates, IsNew, Settles, discarded, stays_for, prefix_of, moved_bytes}
 use Rattle.w16_model.specs.Single.{Enters}
-use Rattle.w16_model.specs.World.{World, IsFreeSlot, handle_of}
-use Rattle.w16_model.specs.Machine.{GlobalAllocs, has_flag, kind_asked, way_asked, rounded_size}
+use Rattle.w16_model.specs.Handles.{Handles, IsFreeSlot, handle_of}
+use Rattle.w16_model.specs.Calls.{GlobalAllocs, has_flag, kind_asked, way_asked, rounded_size}
 use Rattle.w16_selectors.specs.Descriptors as selectors
-use Rattle.w16_selectors.specs.Descriptors.{IsFreeRun}
+use Rattle.w16_selectors.specs.Descriptors.{IsFree}
 use Rattle.w16_global.specs.Parts.{Holding}
-use Rattle.w16_global.specs.Joined.{world_of, AreJoined}
+use Rattle.w16_global.specs.Joined.{handles_of, AreJoined}
 use Rattle.w16_global.proofs.Joined.{free_slot, free_selector}
 use Rattle.w16_arena.proofs.Unmoved.{unmoved}
 use Rattle.w16_model.proofs.Prefixes.{none_about}
 
-module _ {h : Holding} {xs : List (Option Attributes)} {t : selectors.Table} {m : ℕ} {w : World} (are : AreJoined h xs t) (shown : world_of h xs m ≡ w) where
-  -- a free run of one slot is a free slot
-  pub found_free : (r : Option ℕ) → IfSome r (λ first. IsFreeRun t first 1) → IfSome r (λ slot. IsFreeSlot w slot)
-  found_free None run = tt
-  found_free (Some slot) run = subst (λ v. IsFreeSlot v slot) shown (free_slot h xs t are slot (let first : slot + 0 ≡ slot = omega arith in subst (selectors.IsFree t) first (run.1 0 (omega arith))))
+module _ {h : Holding} {xs : List (Option Attributes)} {t : selectors.Table} {m : ℕ} {w : Handles} (are : AreJoined h xs t) (shown : handles_of h xs m ≡ w) where
+  -- a free slot of the selectors is one of the handles
+  pub found_free : (r : Option ℕ) → IfSome r (λ slot. IsFree t slot) → IfSome r (λ slot. IsFreeSlot w slot)
+  found_free None free = tt
+  found_free (Some slot) free = subst (λ v. IsFreeSlot v slot) shown (free_slot h xs t are slot free)
 
   -- and where there is none, none is free
-  pub none_free : (r : Option ℕ) → IfNone r ((first : ℕ) → IsFreeRun t first 1 → ⊥) → IfNone r ((slot : ℕ) → IsFreeSlot w slot → ⊥)
-  none_free (Some first) none = tt
-  none_free None none = λ slot free. none slot (free.0.0, λ k lt. let first : slot ≡ slot + k = omega arith in subst (selectors.IsFree t) first (free_selector h xs t are slot (subst (λ v. IsFreeSlot v slot) (sym shown) free)))
+  pub none_free : (r : Option ℕ) → IfNone r ((slot : ℕ) → IsFree t slot → ⊥) → IfNone r ((slot : ℕ) → IsFreeSlot w slot → ⊥)
+  none_free (Some slot) none = tt
+  none_free None none = λ slot free. none slot (free_selector h xs t are slot (subst (λ v. IsFreeSlot v slot) (sym shown) free))
 
--- What GlobalAlloc answers, from a world in which nothing was moved last.
-module _ (w : World) (flags slot size : ℕ) (new : World) (free : IsFreeSlot w slot) where
+-- What GlobalAlloc answers, from a handles in which nothing was moved last.
+module _ (w : Handles) (flags slot size : ℕ) (new : Handles) (free : IsFreeSlot w slot) where
   -- an absent object
   pub answers_absent : size ≡ 0 → has_flag flags GMEM_MOVEABLE ≡ true → Enters w.heap slot (kind_asked flags) new.heap
       → new ≡ record w { heap = new.heap; attributes = finmap.insert w.attributes slot (record { shared = has_flag flags GMEM_DDESHARE }); moved = 0 } → GlobalAllocs w flags size (handle_of (kind_asked flags) slot) new
@@ -78,10 +78,10 @@ module _ (w : World) (flags slot size : ℕ) (new : World) (free : IsFreeSlot w 
 -- The same of what the code has computed.
 
 -- an allocation of these numbers
-abbrev AllocatesBy : World → ℕ → Heap → ℕ → Kind → Way → Bool → Type 0
+abbrev AllocatesBy : Handles → ℕ → Heap → ℕ → Kind → Way → Bool → Type 0
 AllocatesBy w slot heap n kind way answered = Allocates w.heap slot n kind 0 way answered heap
 
-module _ (w : World) (flags slot size : ℕ) (new : World) (free : IsFreeSlot w slot) (kind : Kind) (kind_is : kind ≡ kind_asked flags) (a : Attributes) (a_is : a ≡ record { shared = has_flag flags GMEM_DDESHARE })
+module _ (w : Handles) (flags slot size : ℕ) (new : Handles) (free : IsFreeSlot w slot) (kind : Kind) (kind_is : kind ≡ kind_asked flags) (a : Attributes) (a_is : a ≡ record { shared = has_flag flags GMEM_DDESHARE })
     (handle : ℕ) (handle_is : handle ≡ handle_of kind slot) where
   named : (x : ℕ) → x ≡ handle_of (kind_asked flags) slot → GlobalAllocs w flags size x new → GlobalAllocs w flags size handle new
   named x e h = subst (λ y. GlobalAllocs w flags size y new) (e ∙ ap (λ k. handle_of k slot) (sym kind_is) ∙ sym handle_is) h
@@ -111,23 +111,23 @@ module _ (w : World) (flags slot size : ℕ) (new : World) (free : IsFreeSlot w 
     pub refusal_known : IsHeap w.heap → AllocatesBy w slot new.heap n kind way false → new ≡ record w { heap = new.heap; moved = 0 } → GlobalAllocs w flags size 0 new
     refusal_known is allocated rest = refuses_bytes w flags slot size new free is (filled size some) (asked false allocated) rest
 
--- And from the world v, which is w with nothing moved last.
-module _ (w v : World) (v_is : v ≡ record w { moved = 0 }) (flags slot size : ℕ) (new : World) (free : IsFreeSlot v slot) (kind : Kind) (kind_is : kind ≡ kind_asked flags)
+-- And from the handles v, which is w with nothing moved last.
+module _ (w v : Handles) (v_is : v ≡ record w { moved = 0 }) (flags slot size : ℕ) (new : Handles) (free : IsFreeSlot v slot) (kind : Kind) (kind_is : kind ≡ kind_asked flags)
     (a : Attributes) (a_is : a ≡ record { shared = has_flag flags GMEM_DDESHARE }) (handle : ℕ) (handle_is : handle ≡ handle_of kind slot) where
   free_in : IsFreeSlot w slot
   free_in = subst (λ x. IsFreeSlot x slot) v_is free
 
   pub absent_answered : size ≡ 0 → has_flag flags GMEM_MOVEABLE ≡ true → Enters v.heap slot kind new.heap → new ≡ record v { heap = new.heap; attributes = finmap.insert v.attributes slot a } → GlobalAllocs w flags size handle new
-  absent_answered none moveable enters rest = absent_known w flags slot size new free_in kind kind_is a a_is handle handle_is none moveable (subst (λ (x : World). Enters x.heap slot kind new.heap) v_is enters)
-      (rest ∙ ap (λ (x : World). record x { heap = new.heap; attributes = finmap.insert x.attributes slot a }) v_is)
+  absent_answered none moveable enters rest = absent_known w flags slot size new free_in kind kind_is a a_is handle handle_is none moveable (subst (λ (x : Handles). Enters x.heap slot kind new.heap) v_is enters)
+      (rest ∙ ap (λ (x : Handles). record x { heap = new.heap; attributes = finmap.insert x.attributes slot a }) v_is)
 
   module _ (n : ℕ) (n_is : n ≡ rounded_size size) (way : Way) (way_is : way ≡ way_asked flags) (some : size ≡ 0 → ⊥) where
     pub bytes_answered : size ≤ LARGEST_SIZE → AllocatesBy v slot new.heap n kind way true
         → new ≡ record v { heap = new.heap; attributes = finmap.insert v.attributes slot a; moved = moved_bytes v.heap new.heap } → GlobalAllocs w flags size handle new
     bytes_answered small allocated rest = bytes_known w flags slot size new free_in kind kind_is a a_is handle handle_is n n_is way way_is some small
-        (subst (λ (x : World). AllocatesBy x slot new.heap n kind way true) v_is allocated)
-        (rest ∙ ap (λ (x : World). record x { heap = new.heap; attributes = finmap.insert x.attributes slot a; moved = moved_bytes x.heap new.heap }) v_is)
+        (subst (λ (x : Handles). AllocatesBy x slot new.heap n kind way true) v_is allocated)
+        (rest ∙ ap (λ (x : Handles). record x { heap = new.heap; attributes = finmap.insert x.attributes slot a; moved = moved_bytes x.heap new.heap }) v_is)
 
     pub bytes_refused : IsHeap v.heap → AllocatesBy v slot new.heap n kind way false → new ≡ record v { heap = new.heap } → GlobalAllocs w flags size 0 new
     bytes_refused is allocated rest = refusal_known w flags slot size new free_in kind kind_is a a_is handle handle_is n n_is way way_is some
-        (subst (λ (x : World). IsHeap x.heap) v_is is) (subst (λ (x : World). AllocatesBy x slot new.heap n kind way false) v_is allocated) (rest ∙ ap (λ (x : World). record x { heap = new.heap }) v_is)
+        (subst (λ (x : Handles). IsHeap x.heap) v_is is) (subst (λ (x : Handles). AllocatesBy x slot new.heap n kind way false) v_is allocated) (rest ∙ ap (λ (x : Handles). record x { heap = new.heap }) v_is)

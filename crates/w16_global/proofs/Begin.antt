@@ -8,11 +8,11 @@ use Rattle.std.proofs.lemmas.List.{length-replicate}
 use Rattle.w16_model.specs.declared.Attributes.{Attributes}
 use Rattle.w16_model.specs.declared.TheConstants.{FIRST_SLOT, MOST_SLOTS, GRAIN}
 use Rattle.w16_model.specs.Heap.{empty_heap}
-use Rattle.w16_model.specs.World.{IsWorld, empty_world}
+use Rattle.w16_model.specs.Handles.{AreHandles, empty_handles}
 use Rattle.w16_model.proofs.Empty.{empty_law}
 use Rattle.w16_selectors.specs.Descriptors as selectors
 use Rattle.w16_global.specs.Parts.{Holding}
-use Rattle.w16_global.specs.Joined.{attributes_in, world_of, descriptor_for, AreJoined}
+use Rattle.w16_global.specs.Joined.{attributes_in, handles_of, descriptor_for, AreJoined}
 use Rattle.w16_global.proofs.Joined.{attributes_at}
 
 -- a list of nothing has nothing at each place
@@ -31,15 +31,15 @@ module _ (memory slots : ℕ) (few : slots ≤ MOST_SLOTS) where
   abbrev table : selectors.Table
   table = replicate (FIRST_SLOT + slots) None
 
-  world_is : world_of holding attributes 0 ≡ empty_world memory slots
-  world_is =
+  handles_are : handles_of holding attributes 0 ≡ empty_handles memory slots
+  handles_are =
       let all : FIRST_SLOT + slots - FIRST_SLOT ≡ slots = omega arith in
       let none : attributes_in attributes ≡ finmap.empty = same_map nat_cmp_total nat_cmp-IsAntisymmetric (attributes_in attributes) finmap.empty (λ q. attributes_at attributes q ∙ none_at (FIRST_SLOT + slots) q ∙ sym (get-empty nat_cmp q)) in
       λ i. record { slots = all i; heap = empty_heap 0 memory GRAIN; attributes = none i; moved = 0 }
 
   joined : AreJoined holding attributes table
   joined = record {
-    world = subst IsWorld (sym world_is) (empty_law memory slots few);
+    handles = subst AreHandles (sym handles_are) (empty_law memory slots few);
     described = λ q. none_at (FIRST_SLOT + slots) q ∙ sym (ap (option_map (descriptor_for (empty_heap 0 memory GRAIN) q)) (get-empty nat_cmp q));
     attributes_many = length-replicate (FIRST_SLOT + slots) None;
     selectors_many = length-replicate (FIRST_SLOT + slots) None;
@@ -51,5 +51,5 @@ module _ (memory slots : ℕ) (few : slots ≤ MOST_SLOTS) where
     pub begin_joined : t ≡ replicate (FIRST_SLOT + slots) None → AreJoined h xs t
     begin_joined t_is = subst (λ t. AreJoined h xs t) (sym t_is) (subst (λ xs. AreJoined h xs table) (sym xs_is) (subst (λ h. AreJoined h attributes table) (sym h_is) joined))
 
-    pub begin_world : world_of h xs 0 ≡ empty_world memory slots
-    begin_world = (λ i. world_of (h_is i) (xs_is i) 0) ∙ world_is
+    pub begin_handles : handles_of h xs 0 ≡ empty_handles memory slots
+    begin_handles = (λ i. handles_of (h_is i) (xs_is i) 0) ∙ handles_are

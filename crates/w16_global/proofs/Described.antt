@@ -8,7 +8,7 @@ use Rattle.w16_model.specs.declared.Refusal.TheVariants as refusals
 use Rattle.w16_model.specs.Heap.{Heap, Object, object_at, bytes_at, is_fixed}
 use Rattle.w16_model.specs.Edit.{with_object, with_ordered, removed, touched}
 use Rattle.w16_model.specs.Single.{after_lock, after_unlock, after_free}
-use Rattle.w16_model.specs.Machine.{after_write, with_slice}
+use Rattle.w16_model.specs.Far.{after_write, with_slice}
 use Rattle.w16_model.proofs.Kept.{inserted_here, inserted_other, taken_here, taken_other}
 use Rattle.w16_model.proofs.Heaps.{get-update_same, get-update_other}
 use Rattle.w16_selectors.specs.Descriptors.{unset}

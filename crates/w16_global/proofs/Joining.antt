@@ -1,4 +1,4 @@
--- What the steps that calls are made of leave joined, and what they say of the world.
+-- What the steps that calls are made of leave joined, and what they say of the handles.
 use Rattle.std.proofs.Common.{◌≡◌, ℕ, ◌-◌, ◌<◌, true, IfOk, OnOk, IfErr, List, length, get_or, set, Option, Some, None, Result, Ok, Err, is_some, refl, sym, ap, ◌∙◌, subst, arith}
 use Rattle.std.specs.FinMap as finmap
 use Rattle.std.proofs.lemmas.List.{get_or-set_same, get_or-set_other, length-set}
@@ -9,13 +9,13 @@ use Rattle.w16_model.specs.declared.TheConstants.{FIRST_SLOT}
 use Rattle.w16_model.specs.Heap.{Heap, IsHeap, object_at}
 use Rattle.w16_model.specs.Edit.{with_object, removed, touched, newest, oldest}
 use Rattle.w16_model.specs.Single.{Enters, after_lock, after_unlock, after_free, after_touch, after_newest, after_oldest, refused_order}
-use Rattle.w16_model.specs.World.{World, IsWorld, IsFreeSlot}
+use Rattle.w16_model.specs.Handles.{Handles, AreHandles, IsFreeSlot}
 use Rattle.w16_model.proofs.Kept.{touched_heap, newest_heap, oldest_heap, ordered}
-use Rattle.w16_model.proofs.Worlds.{other_world, lock_ok, unlock_ok, without_object, with_absent_object, Kept}
+use Rattle.w16_model.proofs.KeptHandles.{other_handles, lock_ok, unlock_ok, without_object, with_absent_object, Kept}
 use Rattle.w16_selectors.specs.Descriptors as selectors
 use Rattle.w16_selectors.specs.Descriptors.{descriptor_at, unset}
 use Rattle.w16_global.specs.Parts.{Holding}
-use Rattle.w16_global.specs.Joined.{attributes_in, world_of, described, AreJoined}
+use Rattle.w16_global.specs.Joined.{attributes_in, handles_of, described, AreJoined}
 use Rattle.w16_global.proofs.Joined.{attributes_at, attributes_set, attributes_unset, joined_same, joined_set, slot_there}
 use Rattle.w16_global.proofs.Described.{lock_same, unlock_same, free_is, removed_here, removed_other, entered_here, entered_other}
 
@@ -24,37 +24,37 @@ good : (r : Result Heap Refusal) (P : Heap → Type 0) (heap : Heap) → IfOk r 
 good (Ok x) P heap h e = subst P (let same : x ≡ heap = cc in same) h
 good (Err x) P heap h e = cc
 
-module _ {h : Holding} {xs : List (Option Attributes)} {t : selectors.Table} {m : ℕ} {w : World} (are : AreJoined h xs t) (shown : world_of h xs m ≡ w) where
-  -- a slot's attributes are the world's
+module _ {h : Holding} {xs : List (Option Attributes)} {t : selectors.Table} {m : ℕ} {w : Handles} (are : AreJoined h xs t) (shown : handles_of h xs m ≡ w) where
+  -- a slot's attributes are the handles's
   pub attributes_shown : (slot : ℕ) → get_or xs slot None ≡ finmap.get w.attributes slot
-  attributes_shown slot = sym (attributes_at xs slot) ∙ ap (λ (v : World). finmap.get v.attributes slot) shown
+  attributes_shown slot = sym (attributes_at xs slot) ∙ ap (λ (v : Handles). finmap.get v.attributes slot) shown
 
 module _ {h : Holding} {xs : List (Option Attributes)} {t : selectors.Table} (are : AreJoined h xs t) (new : Holding) (cap : new.cap ≡ h.cap) where
   -- another heap under the same attributes
-  same_slots : record (world_of h xs 0) { heap = new.heap } ≡ world_of new xs 0
+  same_slots : record (handles_of h xs 0) { heap = new.heap } ≡ handles_of new xs 0
   same_slots = λ i. record { slots = sym cap i - FIRST_SLOT; heap = new.heap; attributes = attributes_in xs; moved = 0 }
 
   -- GlobalLock leaves what is joined
   pub lock_joined : {U : Type 0} (slot : ℕ) (r : Result U Refusal) → OnOk r (after_lock h.heap slot ≡ Ok new.heap) → IfErr r (λ e. (after_lock h.heap slot ≡ Err e) × (new ≡ h)) → AreJoined new xs t
   lock_joined slot (Ok u) done refused =
-      joined_same h xs t are new cap (subst IsWorld same_slots (good (after_lock h.heap slot) (Kept (world_of h xs 0) are.world) new.heap (lock_ok (world_of h xs 0) are.world slot) done)) (lock_same h.heap slot new.heap done)
+      joined_same h xs t are new cap (subst AreHandles same_slots (good (after_lock h.heap slot) (Kept (handles_of h xs 0) are.handles) new.heap (lock_ok (handles_of h xs 0) are.handles slot) done)) (lock_same h.heap slot new.heap done)
   lock_joined slot (Err e) done refused = subst (λ k. AreJoined k xs t) (sym refused.1) are
 
   -- and so does GlobalUnlock
   pub unlock_joined : {U : Type 0} (slot : ℕ) (r : Result U Refusal) → OnOk r (after_unlock h.heap slot ≡ Ok new.heap) → IfErr r (λ e. (after_unlock h.heap slot ≡ Err e) × (new ≡ h)) → AreJoined new xs t
   unlock_joined slot (Ok u) done refused =
-      joined_same h xs t are new cap (subst IsWorld same_slots (good (after_unlock h.heap slot) (Kept (world_of h xs 0) are.world) new.heap (unlock_ok (world_of h xs 0) are.world slot) done)) (unlock_same h.heap slot new.heap done)
+      joined_same h xs t are new cap (subst AreHandles same_slots (good (after_unlock h.heap slot) (Kept (handles_of h xs 0) are.handles) new.heap (unlock_ok (handles_of h xs 0) are.handles slot) done)) (unlock_same h.heap slot new.heap done)
   unlock_joined slot (Err e) done refused = subst (λ k. AreJoined k xs t) (sym refused.1) are
 
   -- and a step that changes the order of use alone
   pub ordered_joined : (order : List ℕ) → IsHeap (record h.heap { order = order }) → new.heap ≡ record h.heap { order = order } → AreJoined new xs t
   ordered_joined order sound is =
-      joined_same h xs t are new cap (subst IsWorld (ap (λ (k : Heap). record (world_of h xs 0) { heap = k }) (sym is) ∙ same_slots) (other_world (world_of h xs 0) are.world (record h.heap { order = order }) sound refl refl (λ q. refl)))
+      joined_same h xs t are new cap (subst AreHandles (ap (λ (k : Heap). record (handles_of h xs 0) { heap = k }) (sym is) ∙ same_slots) (other_handles (handles_of h xs 0) are.handles (record h.heap { order = order }) sound refl refl (λ q. refl)))
       (λ q. ap (λ (k : Heap). described k q) is)
 
   -- an object that was used
   pub touched_joined : (slot : ℕ) → new.heap ≡ after_touch h.heap slot → AreJoined new xs t
-  touched_joined slot is = ordered_joined (touched slot h.heap.order) (touched_heap h.heap are.world.heap slot) is
+  touched_joined slot is = ordered_joined (touched slot h.heap.order) (touched_heap h.heap are.handles.heap slot) is
 
   -- GlobalLRUNewest and GlobalLRUOldest
   pub newest_joined : {U : Type 0} (slot : ℕ) (r : Result U Refusal) → OnOk r (after_newest h.heap slot ≡ Ok new.heap) → IfErr r (λ e. (after_newest h.heap slot ≡ Err e) × (new ≡ h)) → AreJoined new xs t
@@ -62,7 +62,7 @@ module _ {h : Holding} {xs : List (Option Attributes)} {t : selectors.Table} (ar
     where
       from : (p : Option Refusal) → refused_order h.heap slot ≡ p → (elim p as (λ _. Result Heap Refusal) [ Some e ↦ Err e | None ↦ Ok (record h.heap { order = newest slot h.heap.order }) ]) ≡ Ok new.heap → AreJoined new xs t
       from (Some e) f d = cc
-      from None f d = let is : record h.heap { order = newest slot h.heap.order } ≡ new.heap = cc in ordered_joined (newest slot h.heap.order) (newest_heap h.heap are.world.heap slot (ordered h.heap are.world.heap slot f)) (sym is)
+      from None f d = let is : record h.heap { order = newest slot h.heap.order } ≡ new.heap = cc in ordered_joined (newest slot h.heap.order) (newest_heap h.heap are.handles.heap slot (ordered h.heap are.handles.heap slot f)) (sym is)
   newest_joined slot (Err e) done refused = subst (λ k. AreJoined k xs t) (sym refused.1) are
 
   pub oldest_joined : {U : Type 0} (slot : ℕ) (r : Result U Refusal) → OnOk r (after_oldest h.heap slot ≡ Ok new.heap) → IfErr r (λ e. (after_oldest h.heap slot ≡ Err e) × (new ≡ h)) → AreJoined new xs t
@@ -70,13 +70,13 @@ module _ {h : Holding} {xs : List (Option Attributes)} {t : selectors.Table} (ar
     where
       from : (p : Option Refusal) → refused_order h.heap slot ≡ p → (elim p as (λ _. Result Heap Refusal) [ Some e ↦ Err e | None ↦ Ok (record h.heap { order = oldest slot h.heap.order }) ]) ≡ Ok new.heap → AreJoined new xs t
       from (Some e) f d = cc
-      from None f d = let is : record h.heap { order = oldest slot h.heap.order } ≡ new.heap = cc in ordered_joined (oldest slot h.heap.order) (oldest_heap h.heap are.world.heap slot (ordered h.heap are.world.heap slot f)) (sym is)
+      from None f d = let is : record h.heap { order = oldest slot h.heap.order } ≡ new.heap = cc in ordered_joined (oldest slot h.heap.order) (oldest_heap h.heap are.handles.heap slot (ordered h.heap are.handles.heap slot f)) (sym is)
   oldest_joined slot (Err e) done refused = subst (λ k. AreJoined k xs t) (sym refused.1) are
 
   -- a slot's object goes
-  module _ (slot : ℕ) {m : ℕ} {w : World} (shown : world_of h xs m ≡ w) (known : is_some (object_at w.heap slot) ≡ true) (done : after_free h.heap slot ≡ Ok new.heap) where
+  module _ (slot : ℕ) {m : ℕ} {w : Handles} (shown : handles_of h xs m ≡ w) (known : is_some (object_at w.heap slot) ≡ true) (done : after_free h.heap slot ≡ Ok new.heap) where
     there : is_some (object_at h.heap slot) ≡ true
-    there = subst (λ (v : World). is_some (object_at v.heap slot) ≡ true) (sym shown) known
+    there = subst (λ (v : Handles). is_some (object_at v.heap slot) ≡ true) (sym shown) known
 
     gone : removed h.heap slot ≡ new.heap
     gone = free_is h.heap slot new.heap there done
@@ -84,16 +84,16 @@ module _ {h : Holding} {xs : List (Option Attributes)} {t : selectors.Table} (ar
     left : slot < length xs
     left = subst (λ n. slot < n) (sym are.attributes_many) (slot_there h xs t are slot there).1
 
-    -- the world without it
-    pub released_ok : (after_free w.heap slot ≡ Ok new.heap) × (world_of new (set xs slot None) m ≡ record w { heap = new.heap; attributes = finmap.remove w.attributes slot })
+    -- the handles without it
+    pub released_ok : (after_free w.heap slot ≡ Ok new.heap) × (handles_of new (set xs slot None) m ≡ record w { heap = new.heap; attributes = finmap.remove w.attributes slot })
     released_ok = (
-      subst (λ (v : World). after_free v.heap slot ≡ Ok new.heap) shown done,
-      (λ i. record { slots = cap i - FIRST_SLOT; heap = new.heap; attributes = attributes_unset xs slot left i; moved = m }) ∙ ap (λ (v : World). record v { heap = new.heap; attributes = finmap.remove v.attributes slot }) shown,
+      subst (λ (v : Handles). after_free v.heap slot ≡ Ok new.heap) shown done,
+      (λ i. record { slots = cap i - FIRST_SLOT; heap = new.heap; attributes = attributes_unset xs slot left i; moved = m }) ∙ ap (λ (v : Handles). record v { heap = new.heap; attributes = finmap.remove v.attributes slot }) shown,
     )
 
     pub released_joined : (after : selectors.Table) → after ≡ set t slot None → AreJoined new (set xs slot None) after
     released_joined after is = joined_set h xs t are new slot None None after cap
-        (subst IsWorld ((λ i. record { slots = sym cap i - FIRST_SLOT; heap = gone i; attributes = sym (attributes_unset xs slot left) i; moved = 0 })) (without_object (world_of h xs 0) are.world slot))
+        (subst AreHandles ((λ i. record { slots = sym cap i - FIRST_SLOT; heap = gone i; attributes = sym (attributes_unset xs slot left) i; moved = 0 })) (without_object (handles_of h xs 0) are.handles slot))
         (λ q n. ap (λ (k : Heap). described k q) (sym gone) ∙ removed_other h.heap slot q n)
         (ap (λ (k : Heap). described k slot) (sym gone) ∙ removed_here h.heap slot)
         (ap length is ∙ length-set t slot None)
@@ -102,8 +102,8 @@ module _ {h : Holding} {xs : List (Option Attributes)} {t : selectors.Table} (ar
 
 -- A free slot gets an object.
 module _ {h : Holding} {xs : List (Option Attributes)} {t : selectors.Table} (are : AreJoined h xs t) (new : Holding) (cap : new.cap ≡ h.cap) (slot : ℕ) (a : Attributes)
-    {m : ℕ} {w : World} (shown : world_of h xs m ≡ w) (known : IsFreeSlot w slot) where
-  free : IsFreeSlot (world_of h xs m) slot
+    {m : ℕ} {w : Handles} (shown : handles_of h xs m ≡ w) (known : IsFreeSlot w slot) where
+  free : IsFreeSlot (handles_of h xs m) slot
   free = subst (λ v. IsFreeSlot v slot) (sym shown) known
 
   within : slot < length xs
@@ -112,16 +112,16 @@ module _ {h : Holding} {xs : List (Option Attributes)} {t : selectors.Table} (ar
   in_table : slot < length t
   in_table = subst (λ n. slot < n) (sym are.selectors_many) (let some = are.some in let below = free.0.1 in omega arith)
 
-  -- the world with an object there
-  pub given_world : (moved : ℕ) → world_of new (set xs slot (Some a)) moved ≡ record w { heap = new.heap; attributes = finmap.insert w.attributes slot a; moved = moved }
-  given_world moved =
+  -- the handles with an object there
+  pub given_handles : (moved : ℕ) → handles_of new (set xs slot (Some a)) moved ≡ record w { heap = new.heap; attributes = finmap.insert w.attributes slot a; moved = moved }
+  given_handles moved =
       (λ i. record { slots = cap i - FIRST_SLOT; heap = new.heap; attributes = attributes_set xs slot a within i; moved = moved })
-      ∙ ap (λ (v : World). record v { heap = new.heap; attributes = finmap.insert v.attributes slot a; moved = moved }) shown
+      ∙ ap (λ (v : Handles). record v { heap = new.heap; attributes = finmap.insert v.attributes slot a; moved = moved }) shown
 
-  pub given_unmoved : world_of new (set xs slot (Some a)) m ≡ record w { heap = new.heap; attributes = finmap.insert w.attributes slot a }
+  pub given_unmoved : handles_of new (set xs slot (Some a)) m ≡ record w { heap = new.heap; attributes = finmap.insert w.attributes slot a }
   given_unmoved =
       (λ i. record { slots = cap i - FIRST_SLOT; heap = new.heap; attributes = attributes_set xs slot a within i; moved = m })
-      ∙ ap (λ (v : World). record v { heap = new.heap; attributes = finmap.insert v.attributes slot a }) shown
+      ∙ ap (λ (v : Handles). record v { heap = new.heap; attributes = finmap.insert v.attributes slot a }) shown
 
   -- an absent one
   pub entered_joined : (kind : Kind) (after : selectors.Table) → new.heap ≡ with_object h.heap slot (record { kind = kind; locks = 0; bytes = None }) → after ≡ set t slot (Some unset) → AreJoined new (set xs slot (Some a)) after
@@ -129,7 +129,7 @@ module _ {h : Holding} {xs : List (Option Attributes)} {t : selectors.Table} (ar
       let entered : Heap = with_object h.heap slot (record { kind = kind; locks = 0; bytes = None }) in
       let enters : Enters h.heap slot kind entered = record { unused = free.1; entered = refl } in
       joined_set h xs t are new slot (Some a) (Some unset) after cap
-      (subst IsWorld (λ i. record { slots = sym cap i - FIRST_SLOT; heap = sym is i; attributes = sym (attributes_set xs slot a within) i; moved = 0 }) (with_absent_object (world_of h xs 0) are.world a slot kind entered free enters))
+      (subst AreHandles (λ i. record { slots = sym cap i - FIRST_SLOT; heap = sym is i; attributes = sym (attributes_set xs slot a within) i; moved = 0 }) (with_absent_object (handles_of h xs 0) are.handles a slot kind entered free enters))
       (λ q n. ap (λ (k : Heap). described k q) is ∙ entered_other h.heap slot kind q n)
       (ap (λ (k : Heap). described k slot) is ∙ entered_here h.heap slot kind)
       (ap length taken ∙ length-set t slot (Some unset))

@@ -1,45 +1,17 @@
 -- The objects' arena and memory, and the heap that they stand for.
-use Rattle.std.proofs.Common.{◌≡◌, ℕ, ◌+◌, ◌^◌, ◌<◌, ◌≤◌, ◌⊎◌, IfSome, IfNone, All, Bool, true, false, cond, List, [], ◌∷◌, length, filter, sum_by, Option, Some, None, option_map, refl, sym, ap, ◌∙◌, subst, arith}
+use Rattle.std.proofs.Common.{◌≡◌, ℕ, ◌+◌, ◌^◌, ◌<◌, ◌≤◌, ◌⊎◌, IfSome, IfNone, All, List, length, Option, Some, None, option_map, refl, sym, ap, ◌∙◌, subst, arith}
 use Rattle.std.specs.FinMap as finmap
 use Rattle.w16_model.specs.declared.Block.{Block}
 use Rattle.w16_model.specs.declared.Kind.{Kind}
 use Rattle.w16_model.specs.declared.TheConstants.{GRAIN}
-use Rattle.w16_model.specs.Gap.{IsLaid, block_end}
-use Rattle.w16_model.specs.Heap.{Heap, IsHeap, object_at, bytes_at, blocks}
-use Rattle.w16_model.specs.Request.{is_elsewhere, moved_bytes}
-use Rattle.w16_model.proofs.Longest.{sum_filter}
-use Rattle.w16_model.specs.Table.{Table, block_with, entry_at, heap_in}
+use Rattle.w16_model.specs.Heap.{Heap, IsHeap, object_at, bytes_at}
+use Rattle.w16_model.specs.Table.{block_with, entry_at, heap_in}
 use Rattle.w16_model.specs.Single.{Enters}
 use Rattle.w16_model.specs.Edit.{with_object}
 use Rattle.w16_arena.specs.State.{State, Steps, IsSameRange, entry_of}
-use Rattle.w16_arena.proofs.Listed.{listed_permutation}
-use Rattle.w16_arena.proofs.Moved.{bytes_permutation}
 use Rattle.w16_arena.proofs.Lookups.{is_heap, entry_is, size_here, place_here, ends_in_memory, no_entry, no_block}
 use Rattle.w16_global.specs.Parts.{AreParts, Holding, holding_of}
 use Rattle.w16_global.proofs.Written.{beside}
-
--- blocks by address have no more bytes than their range
-laid_bytes : (p : Block → Bool) (lo hi : ℕ) (bs : List Block) → IsLaid lo hi bs → lo + sum_by (λ x. x.size) (filter p bs) ≤ hi
-laid_bytes p lo hi [] laid = omega (arith, laid)
-laid_bytes p lo hi (b ∷ bs) laid =
-    let rest = laid_bytes p (block_end b) hi bs laid.2 in
-    let above = laid.0 in
-    let sum = sum_filter p b bs in
-    omega (arith, rest, above, sum, fewer (p b) b.size)
-  where
-    fewer : (t : Bool) (n : ℕ) → cond t n 0 ≤ n
-    fewer true n = omega arith
-    fewer false n = omega arith
-
--- so no more is moved
-pub moved_few : {s : State} {memory : List ℕ} → AreParts s memory → (new : Heap) → moved_bytes (heap_in s.table memory) new ≤ length memory
-moved_few {s} {memory} parts new =
-    let t : Table = s.table in
-    let p : Block → Bool = λ x. is_elsewhere x.at (finmap.get new.places x.id) in
-    let same = bytes_permutation p t.blocks (blocks (heap_in t memory)) (listed_permutation (beside parts)) in
-    let most = laid_bytes p t.lo t.hi t.blocks parts.sound.table.laid in
-    let high = parts.high in
-    omega (arith, same, most)
 
 -- another table over the same range, and a memory as long
 pub parts_after : {s : State} {memory : List ℕ} → AreParts s memory → {new : State} {after : List ℕ} → IsSameRange s.table new.table → length after ≡ length memory → All (λ b. b < 256) after → AreParts new after

@@ -2,27 +2,23 @@
 use Rattle.std.proofs.Common.{◌≡◌, ℕ, ◌+◌, ◌-◌, ◌*◌, ◌/◌, ◌%◌, ◌<◌, ◌≤◌, ◌⊎◌, ◌==◌, inl, inr, Bool, true, false, if◌then◌else◌, not, ◌&&◌, nat_lt, IsSomeAnd, List, length, Option, Some, None, Result, Ok, Err, option_map, is_some, unwrap_or, refl, sym, ap, ◌∙◌, subst, arith, min, IfErr, IfOk, OnOk, IfSome, ltb-false, ltb-true}
 use Rattle.std.specs.FinMap as finmap
 use Rattle.std.proofs.lemmas.Bool.{false≢true}
-use Rattle.std.proofs.lemmas.Bool.Decides.{nat_tests}
 use Rattle.w16_model.specs.declared.Attributes.{Attributes}
 use Rattle.w16_model.specs.declared.Block.{Block}
 use Rattle.w16_model.specs.declared.FarFault.{FarFault}
 use Rattle.w16_model.specs.declared.FarFault.TheVariants.{BadSelector, ReadOnly, NotPresent, Limit}
 use Rattle.w16_model.specs.Gap.{block_end}
 use Rattle.w16_model.specs.Heap.{Heap, Object, IsHeap, IsMultiple, blocks, object_at, bytes_at, hold_of}
-use Rattle.w16_model.specs.World.{World, slot_of_selector}
-use Rattle.w16_model.specs.Machine.{far_fault, far_slot}
+use Rattle.w16_model.specs.Handles.{Handles, slot_of_selector, selector_of}
+use Rattle.w16_model.specs.Far.{far_fault, far_slot}
 use Rattle.w16_model.proofs.Gaps.{Each-at, Each-from_All}
 use Rattle.w16_model.proofs.Heaps.{IsBlockOf, block_member}
+use Rattle.w16_model.proofs.Accesses.{Reached, reached, slot_of_access}
 use Rattle.w16_selectors.specs.Descriptors as selectors
 use Rattle.w16_selectors.specs.Descriptors.{descriptor_at, descriptor_of, place_of, unset, is_code}
 use Rattle.w16_selectors.specs.declared.Descriptor.{Descriptor}
 use Rattle.w16_selectors.specs.declared.SelKind.TheVariants.{Data}
-use Rattle.w16_global.specs.Parts.{Holding, IsInside}
-use Rattle.w16_global.specs.Joined.{world_of, descriptor_for, AreJoined, Reaches}
-
--- a selector is its slot's where its low three bits are set
-pub same_test : (s : ℕ) → (s == 8 * (s / 8) + 7) ≡ (s % 8 == 7)
-same_test s = grind (arith, nat_tests)
+use Rattle.w16_global.specs.Parts.{Holding}
+use Rattle.w16_global.specs.Joined.{handles_of, descriptor_for, AreJoined}
 
 -- Where an object with bytes stands.
 pub record Stands (heap : Heap) (place : ℕ) (bytes : List ℕ) : Type 0 where
@@ -47,10 +43,10 @@ placed heap is slot bytes has = from (finmap.get heap.places slot) (is.at_bytes 
     from None t = absurd (false≢true t)
     from (Some n) t = refl
 
--- What a far access finds by descriptors, of the world: its first fault, or none, and where its bytes are.
-abbrev pub Tells : World → ℕ → ℕ → ℕ → Result ℕ FarFault → Type 0
+-- What a far access finds by descriptors, of the handles: its first fault, or none.
+abbrev pub Tells : Handles → ℕ → ℕ → ℕ → Result ℕ FarFault → Type 0
 Tells w selector offset n (Err fault) = far_fault w selector offset n ≡ Some fault
-Tells w selector offset n (Ok at) = Reaches w selector offset n at
+Tells w selector offset n (Ok at) = far_fault w selector offset n ≡ None
 
 -- the fault by bytes, and by what a slot has
 abbrev limit_fault : ℕ → List ℕ → Option FarFault
@@ -59,29 +55,29 @@ limit_fault end bytes = if nat_lt (length bytes) end then Some Limit else None
 abbrev bytes_fault : ℕ → Option (List ℕ) → Option FarFault
 bytes_fault end b = elim b [ None ↦ Some NotPresent | Some bytes ↦ limit_fault end bytes ]
 
-abbrev slot_fault : World → ℕ → Option ℕ → Option FarFault
+abbrev slot_fault : Handles → ℕ → Option ℕ → Option FarFault
 slot_fault w end s = elim s [ None ↦ Some BadSelector | Some slot ↦ bytes_fault end (bytes_at w.heap slot) ]
 
 module _ (holding : Holding) (attributes : List (Option Attributes)) (table : selectors.Table) (moved : ℕ) (are : AreJoined holding attributes table) where
-  abbrev world : World
-  world = world_of holding attributes moved
+  abbrev handles : Handles
+  handles = handles_of holding attributes moved
 
   -- what a selector names
   abbrev slot_by : ℕ → Option Object → Bool → Option ℕ
   slot_by slot p b = if is_some p && b then Some slot else None
 
   -- a selector of an object
-  pub names : (selector : ℕ) (o : Object) → (selector % 8 == 7) ≡ true → object_at holding.heap (selector / 8) ≡ Some o
-      → (slot_of_selector world selector ≡ Some (selector / 8)) × (descriptor_of table selector ≡ Some (descriptor_for holding.heap (selector / 8) o))
+  pub names : (selector : ℕ) (o : Object) → (selector == selector_of (selector / 8)) ≡ true → object_at holding.heap (selector / 8) ≡ Some o
+      → (slot_of_selector handles selector ≡ Some (selector / 8)) × (descriptor_of table selector ≡ Some (descriptor_for holding.heap (selector / 8) o))
   names selector o low there = (
-    ap (λ (p : Option Object). slot_by (selector / 8) p (selector == 8 * (selector / 8) + 7)) there ∙ ap (λ b. slot_by (selector / 8) (Some o) b) (same_test selector ∙ low),
+    ap (λ (p : Option Object). slot_by (selector / 8) p (selector == selector_of (selector / 8))) there ∙ ap (λ b. slot_by (selector / 8) (Some o) b) low,
     ap (λ b. if b then descriptor_at table (selector / 8) else None) low ∙ are.described (selector / 8) ∙ ap (option_map (descriptor_for holding.heap (selector / 8))) there,
   )
 
   -- and another
-  pub names_none : (selector : ℕ) → ((selector % 8 == 7) ≡ false) ⊎ (object_at holding.heap (selector / 8) ≡ None) → (slot_of_selector world selector ≡ None) × (descriptor_of table selector ≡ None)
+  pub names_none : (selector : ℕ) → ((selector == selector_of (selector / 8)) ≡ false) ⊎ (object_at holding.heap (selector / 8) ≡ None) → (slot_of_selector handles selector ≡ None) × (descriptor_of table selector ≡ None)
   names_none selector (inl high) = (
-    ap (λ b. slot_by (selector / 8) (object_at holding.heap (selector / 8)) b) (same_test selector ∙ high) ∙ neither (object_at holding.heap (selector / 8)),
+    ap (λ b. slot_by (selector / 8) (object_at holding.heap (selector / 8)) b) high ∙ neither (object_at holding.heap (selector / 8)),
     ap (λ b. if b then descriptor_at table (selector / 8) else None) high,
   )
     where
@@ -89,8 +85,8 @@ module _ (holding : Holding) (attributes : List (Option Attributes)) (table : se
       neither None = refl
       neither (Some o) = refl
   names_none selector (inr none) = (
-    ap (λ (p : Option Object). slot_by (selector / 8) p (selector == 8 * (selector / 8) + 7)) none,
-    ap (λ (d : Option Descriptor). if selector % 8 == 7 then d else None) (are.described (selector / 8) ∙ ap (option_map (descriptor_for holding.heap (selector / 8))) none) ∙ either (selector % 8 == 7),
+    ap (λ (p : Option Object). slot_by (selector / 8) p (selector == selector_of (selector / 8))) none,
+    ap (λ (d : Option Descriptor). if selector == selector_of (selector / 8) then d else None) (are.described (selector / 8) ∙ ap (option_map (descriptor_for holding.heap (selector / 8))) none) ∙ either (selector == selector_of (selector / 8)),
   )
     where
       nothing : Option Descriptor
@@ -117,68 +113,56 @@ module _ (holding : Holding) (attributes : List (Option Attributes)) (table : se
     ]
 
     -- of an object without bytes
-    tells_absent : (o : Object) → o.bytes ≡ None → slot_of_selector world selector ≡ Some (selector / 8) → object_at holding.heap (selector / 8) ≡ Some o
-        → Tells world selector offset n (place_by (Some (descriptor_for holding.heap (selector / 8) o)))
+    tells_absent : (o : Object) → o.bytes ≡ None → slot_of_selector handles selector ≡ Some (selector / 8) → object_at holding.heap (selector / 8) ≡ Some o
+        → Tells handles selector offset n (place_by (Some (descriptor_for holding.heap (selector / 8) o)))
     tells_absent o none named there =
         let d : descriptor_for holding.heap (selector / 8) o ≡ unset = ap (λ (b : Option (List ℕ)). descriptor_for holding.heap (selector / 8) (record o { bytes = b })) none in
         let no_bytes : bytes_at holding.heap (selector / 8) ≡ None = ap (λ (p : Option Object). elim p as (λ _. Option (List ℕ)) [ Some o ↦ o.bytes | None ↦ None ]) there ∙ none in
-        let fault : far_fault world selector offset n ≡ Some NotPresent = ap (slot_fault world (offset + n)) named ∙ ap (bytes_fault (offset + n)) no_bytes in
+        let fault : far_fault handles selector offset n ≡ Some NotPresent = ap (slot_fault handles (offset + n)) named ∙ ap (bytes_fault (offset + n)) no_bytes in
         rw (d, data_only write) fault
 
     -- of one with bytes
-    tells_present : (o : Object) (bytes : List ℕ) → o.bytes ≡ Some bytes → slot_of_selector world selector ≡ Some (selector / 8) → object_at holding.heap (selector / 8) ≡ Some o
-        → Tells world selector offset n (place_by (Some (descriptor_for holding.heap (selector / 8) o)))
+    tells_present : (o : Object) (bytes : List ℕ) → o.bytes ≡ Some bytes → slot_of_selector handles selector ≡ Some (selector / 8) → object_at holding.heap (selector / 8) ≡ Some o
+        → Tells handles selector offset n (place_by (Some (descriptor_for holding.heap (selector / 8) o)))
     tells_present o bytes has named there =
         let place : ℕ = unwrap_or (finmap.get holding.heap.places (selector / 8)) 0 in
         let whole : Descriptor = record { base = place; limit = length bytes - 1; present = true; kind = Data } in
         let d : descriptor_for holding.heap (selector / 8) o ≡ whole = ap (λ (b : Option (List ℕ)). descriptor_for holding.heap (selector / 8) (record o { bytes = b })) has in
         let here : bytes_at holding.heap (selector / 8) ≡ Some bytes = ap (λ (p : Option Object). elim p as (λ _. Option (List ℕ)) [ Some o ↦ o.bytes | None ↦ None ]) there ∙ has in
         let at : Stands holding.heap place bytes = stands holding.heap is (selector / 8) o bytes there has in
-        let at_place : finmap.get holding.heap.places (selector / 8) ≡ Some place = placed holding.heap is (selector / 8) bytes here in
         let size : length bytes - 1 + 1 ≡ length bytes = (let some = at.some in omega arith) in
-        let far : slot_of_selector world selector ≡ Some (selector / 8) = named in
-        let slot_is : far_slot world selector ≡ selector / 8 = ap (λ (p : Option ℕ). unwrap_or p 0) named in
-        let fault : far_fault world selector offset n ≡ limit_fault (offset + n) bytes = ap (slot_fault world (offset + n)) named ∙ ap (bytes_fault (offset + n)) here in
-        subst (λ (x : Descriptor). Tells world selector offset n (place_by (Some x))) (sym d) (
-        subst (λ b. Tells world selector offset n (if b then Err ReadOnly else (if nat_lt (length bytes - 1 + 1) (offset + n) then Err Limit else Ok (place + offset)))) (sym (data_only write)) (
-        subst (λ k. Tells world selector offset n (if nat_lt k (offset + n) then Err Limit else Ok (place + offset))) (sym size)
-        (test place at_place slot_is here fault (nat_lt (length bytes) (offset + n)) refl)))
+        let fault : far_fault handles selector offset n ≡ limit_fault (offset + n) bytes = ap (slot_fault handles (offset + n)) named ∙ ap (bytes_fault (offset + n)) here in
+        subst (λ (x : Descriptor). Tells handles selector offset n (place_by (Some x))) (sym d) (
+        subst (λ b. Tells handles selector offset n (if b then Err ReadOnly else (if nat_lt (length bytes - 1 + 1) (offset + n) then Err Limit else Ok (place + offset)))) (sym (data_only write)) (
+        subst (λ k. Tells handles selector offset n (if nat_lt k (offset + n) then Err Limit else Ok (place + offset))) (sym size)
+        (test place fault (nat_lt (length bytes) (offset + n)) refl)))
       where
-        test : (place : ℕ) → finmap.get holding.heap.places (selector / 8) ≡ Some place → far_slot world selector ≡ selector / 8 → bytes_at holding.heap (selector / 8) ≡ Some bytes
-            → far_fault world selector offset n ≡ limit_fault (offset + n) bytes → (b : Bool) → nat_lt (length bytes) (offset + n) ≡ b → Tells world selector offset n (if b then Err Limit else Ok (place + offset))
-        test place at slot_is here fault true t = fault ∙ ap (λ b. if b then Some Limit else None) t
-        test place at slot_is here fault false t =
-            let fits : offset + n ≤ length bytes = ltb-false (length bytes) (offset + n) t in record {
-              no_fault = fault ∙ ap (λ b. if b then Some Limit else None) t;
-              inside = subst (λ q. IsInside holding.heap q (place + offset) n) (sym slot_is)
-                  (subst (λ p. IsSomeAnd p (λ bytes. IsSomeAnd (finmap.get holding.heap.places (selector / 8)) (λ place'. (place' ≤ place + offset) × (place + offset + n ≤ place' + length bytes)))) (sym here)
-                  (subst (λ p. IsSomeAnd p (λ place'. (place' ≤ place + offset) × (place + offset + n ≤ place' + length bytes))) (sym at) (omega arith, omega arith)));
-              place = subst (λ q. IsSomeAnd (finmap.get holding.heap.places q) (λ place'. place + offset ≡ place' + offset)) (sym slot_is)
-                  (subst (λ p. IsSomeAnd p (λ place'. place + offset ≡ place' + offset)) (sym at) refl);
-            }
+        test : (place : ℕ) → far_fault handles selector offset n ≡ limit_fault (offset + n) bytes → (b : Bool) → nat_lt (length bytes) (offset + n) ≡ b → Tells handles selector offset n (if b then Err Limit else Ok (place + offset))
+        test place fault true t = fault ∙ ap (λ b. if b then Some Limit else None) t
+        test place fault false t = fault ∙ ap (λ b. if b then Some Limit else None) t
 
     -- of each selector
-    pub resolved : Tells world selector offset n (place_of table selector offset n write)
-    resolved = turn (selector % 8 == 7) refl (object_at holding.heap (selector / 8)) refl
+    pub resolved : Tells handles selector offset n (place_of table selector offset n write)
+    resolved = turn (selector == selector_of (selector / 8)) refl (object_at holding.heap (selector / 8)) refl
       where
-        none : (slot_of_selector world selector ≡ None) × (descriptor_of table selector ≡ None) → Tells world selector offset n (place_by (descriptor_of table selector))
-        none h = subst (λ d. Tells world selector offset n (place_by d)) (sym h.1) (ap (slot_fault world (offset + n)) h.0)
+        none : (slot_of_selector handles selector ≡ None) × (descriptor_of table selector ≡ None) → Tells handles selector offset n (place_by (descriptor_of table selector))
+        none h = subst (λ d. Tells handles selector offset n (place_by d)) (sym h.1) (ap (slot_fault handles (offset + n)) h.0)
 
-        some : (o : Object) → object_at holding.heap (selector / 8) ≡ Some o → (b : Option (List ℕ)) → o.bytes ≡ b → (slot_of_selector world selector ≡ Some (selector / 8)) × (descriptor_of table selector ≡ Some (descriptor_for holding.heap (selector / 8) o))
-            → Tells world selector offset n (place_by (descriptor_of table selector))
-        some o there None has h = subst (λ d. Tells world selector offset n (place_by d)) (sym h.1) (tells_absent o has h.0 there)
-        some o there (Some bytes) has h = subst (λ d. Tells world selector offset n (place_by d)) (sym h.1) (tells_present o bytes has h.0 there)
+        some : (o : Object) → object_at holding.heap (selector / 8) ≡ Some o → (b : Option (List ℕ)) → o.bytes ≡ b → (slot_of_selector handles selector ≡ Some (selector / 8)) × (descriptor_of table selector ≡ Some (descriptor_for holding.heap (selector / 8) o))
+            → Tells handles selector offset n (place_by (descriptor_of table selector))
+        some o there None has h = subst (λ d. Tells handles selector offset n (place_by d)) (sym h.1) (tells_absent o has h.0 there)
+        some o there (Some bytes) has h = subst (λ d. Tells handles selector offset n (place_by d)) (sym h.1) (tells_present o bytes has h.0 there)
 
-        turn : (b : Bool) → (selector % 8 == 7) ≡ b → (p : Option Object) → object_at holding.heap (selector / 8) ≡ p → Tells world selector offset n (place_of table selector offset n write)
+        turn : (b : Bool) → (selector == selector_of (selector / 8)) ≡ b → (p : Option Object) → object_at holding.heap (selector / 8) ≡ p → Tells handles selector offset n (place_of table selector offset n write)
         turn false low p there = none (names_none selector (inl low))
         turn true low None there = none (names_none selector (inr there))
         turn true low (Some o) there = some o there o.bytes refl (names selector o low there)
 
 -- a fault of fewer bytes is one of more
-abbrev pub FaultStays : World → ℕ → ℕ → ℕ → ℕ → FarFault → Type 0
+abbrev pub FaultStays : Handles → ℕ → ℕ → ℕ → ℕ → FarFault → Type 0
 FaultStays w selector offset n m fault = far_fault w selector offset n ≡ Some fault → far_fault w selector offset m ≡ Some fault
 
-pub longer_fault : (w : World) (selector offset n m : ℕ) (fault : FarFault) → n ≤ m → FaultStays w selector offset n m fault
+pub longer_fault : (w : Handles) (selector offset n m : ℕ) (fault : FarFault) → n ≤ m → FaultStays w selector offset n m fault
 longer_fault w selector offset n m fault le = at_slot (slot_of_selector w selector)
   where
     at_limit : (bytes : List ℕ) (a b : Bool) → nat_lt (length bytes) (offset + n) ≡ a → nat_lt (length bytes) (offset + m) ≡ b → (if a then Some Limit else None) ≡ Some fault → (if b then Some Limit else None) ≡ Some fault
@@ -195,9 +179,9 @@ longer_fault w selector offset n m fault le = at_slot (slot_of_selector w select
     at_slot (Some slot) h = at_bytes (bytes_at w.heap slot) h
 
 -- The address or the first fault of an access, by that of as many bytes, or of 4,294,967,295 where there are more.
-module _ {h : Holding} {xs : List (Option Attributes)} {t : selectors.Table} {m : ℕ} {w : World} (are : AreJoined h xs t) (shown : world_of h xs m ≡ w) (write : Bool) (selector offset n count : ℕ) (count_is : count ≡ min n 4294967295) where
+module _ {h : Holding} {xs : List (Option Attributes)} {t : selectors.Table} {m : ℕ} {w : Handles} (are : AreJoined h xs t) (shown : handles_of h xs m ≡ w) (write : Bool) (selector offset n count : ℕ) (count_is : count ≡ min n 4294967295) where
   told : (r : Result ℕ FarFault) → r ≡ place_of t selector offset count write → Tells w selector offset count r
-  told r is = subst (λ v. Tells v selector offset count r) shown (subst (Tells (world_of h xs m) selector offset count) (sym is) (resolved h xs t m are are.world.heap write selector offset count))
+  told r is = subst (λ v. Tells v selector offset count r) shown (subst (Tells (handles_of h xs m) selector offset count) (sym is) (resolved h xs t m are are.handles.heap write selector offset count))
 
   -- a fault
   pub fault_known : (r : Result ℕ FarFault) → r ≡ place_of t selector offset count write → IfErr r (λ fault. far_fault w selector offset n ≡ Some fault)
@@ -205,63 +189,52 @@ module _ {h : Holding} {xs : List (Option Attributes)} {t : selectors.Table} {m 
   fault_known (Err fault) is = longer_fault w selector offset count n fault (omega (arith, count_is)) (told (Err fault) is)
 
   -- the object of a selector with low bits set is shorter than the largest double word
-  short : (o : Object) (bytes : List ℕ) → object_at h.heap (selector / 8) ≡ Some o → o.bytes ≡ Some bytes → (selector % 8 == 7) ≡ true
+  short : (o : Object) (bytes : List ℕ) → object_at h.heap (selector / 8) ≡ Some o → o.bytes ≡ Some bytes → (selector == selector_of (selector / 8)) ≡ true
       → IfSome (descriptor_of t selector) (λ d. d.base + d.limit + 1 < 4294967296) → length bytes < 4294967295
   short o bytes there has low bound =
       let place : ℕ = unwrap_or (finmap.get h.heap.places (selector / 8)) 0 in
       let d : descriptor_of t selector ≡ Some (descriptor_for h.heap (selector / 8) o) = (names h xs t m are selector o low there).1 in
       let whole : descriptor_for h.heap (selector / 8) o ≡ record { base = place; limit = length bytes - 1; present = true; kind = Data } = ap (λ (b : Option (List ℕ)). descriptor_for h.heap (selector / 8) (record o { bytes = b })) has in
       let near : place + (length bytes - 1) + 1 < 4294967296 = subst (λ (x : Descriptor). x.base + x.limit + 1 < 4294967296) whole (subst (λ d. IfSome d (λ d. d.base + d.limit + 1 < 4294967296)) d bound) in
-      let at : Stands h.heap place bytes = stands h.heap are.world.heap (selector / 8) o bytes there has in
-      multiple (length bytes) at.whole.0 (at.whole.1 ∙ ap (λ g. g * at.whole.0) are.world.grain) (let some = at.some in omega arith)
+      let at : Stands h.heap place bytes = stands h.heap are.handles.heap (selector / 8) o bytes there has in
+      multiple (length bytes) at.whole.0 (at.whole.1 ∙ ap (λ g. g * at.whole.0) are.handles.grain) (let some = at.some in omega arith)
     where
       multiple : (len m : ℕ) → len ≡ 32 * m → len < 4294967296 → len < 4294967295
       multiple len m e lt = omega arith
 
   -- where an access has no fault its object is as short
-  reached_short : IfSome (descriptor_of t selector) (λ d. d.base + d.limit + 1 < 4294967296) → (bytes : List ℕ) → far_fault (world_of h xs m) selector offset count ≡ None
-      → bytes_at h.heap (far_slot (world_of h xs m) selector) ≡ Some bytes → length bytes < 4294967295
-  reached_short bound bytes fine here = turn (selector % 8 == 7) refl (object_at h.heap (selector / 8)) refl
+  reached_short : IfSome (descriptor_of t selector) (λ d. d.base + d.limit + 1 < 4294967296) → (bytes : List ℕ) → far_fault (handles_of h xs m) selector offset count ≡ None
+      → bytes_at h.heap (far_slot (handles_of h xs m) selector) ≡ Some bytes → length bytes < 4294967295
+  reached_short bound bytes fine here = turn (selector == selector_of (selector / 8)) refl (object_at h.heap (selector / 8)) refl
     where
-      bad : (slot_of_selector (world_of h xs m) selector ≡ None) × (descriptor_of t selector ≡ None) → length bytes < 4294967295
-      bad g = let fault : Some BadSelector ≡ None = sym (ap (slot_fault (world_of h xs m) (offset + count)) g.0) ∙ fine in cc
+      bad : (slot_of_selector (handles_of h xs m) selector ≡ None) × (descriptor_of t selector ≡ None) → length bytes < 4294967295
+      bad g = let fault : Some BadSelector ≡ None = sym (ap (slot_fault (handles_of h xs m) (offset + count)) g.0) ∙ fine in cc
 
-      of_bytes : (o : Object) → object_at h.heap (selector / 8) ≡ Some o → (selector % 8 == 7) ≡ true → (b : Option (List ℕ)) → o.bytes ≡ b → b ≡ Some bytes → length bytes < 4294967295
+      of_bytes : (o : Object) → object_at h.heap (selector / 8) ≡ Some o → (selector == selector_of (selector / 8)) ≡ true → (b : Option (List ℕ)) → o.bytes ≡ b → b ≡ Some bytes → length bytes < 4294967295
       of_bytes o there low None has is = cc
       of_bytes o there low (Some c) has is = short o bytes there (has ∙ is) low bound
 
-      turn : (b : Bool) → (selector % 8 == 7) ≡ b → (p : Option Object) → object_at h.heap (selector / 8) ≡ p → length bytes < 4294967295
+      turn : (b : Bool) → (selector == selector_of (selector / 8)) ≡ b → (p : Option Object) → object_at h.heap (selector / 8) ≡ p → length bytes < 4294967295
       turn false low p there = bad (names_none h xs t m are selector (inl low))
       turn true low None there = bad (names_none h xs t m are selector (inr there))
       turn true low (Some o) there =
-          let slot_is : far_slot (world_of h xs m) selector ≡ selector / 8 = ap (λ (p : Option ℕ). unwrap_or p 0) (names h xs t m are selector o low there).0 in
+          let slot_is : far_slot (handles_of h xs m) selector ≡ selector / 8 = ap (λ (p : Option ℕ). unwrap_or p 0) (names h xs t m are selector o low there).0 in
           of_bytes o there low o.bytes refl (sym (ap (λ (p : Option Object). elim p as (λ _. Option (List ℕ)) [ Some o ↦ o.bytes | None ↦ None ]) there) ∙ ap (bytes_at h.heap) (sym slot_is) ∙ here)
 
   -- so it was of all the bytes
-  all_counted : (at : ℕ) → Reaches (world_of h xs m) selector offset count at → IfSome (descriptor_of t selector) (λ d. d.base + d.limit + 1 < 4294967296) → (count ≡ n) × (n < 4294967296)
-  all_counted at r bound = of_bytes (bytes_at h.heap (far_slot (world_of h xs m) selector)) refl r.inside
-    where
-      few : (len place : ℕ) → len < 4294967295 → at + count ≤ place + len → at ≡ place + offset → (count ≡ n) × (n < 4294967296)
-      few len place lt fits e = (omega (arith, count_is), omega (arith, count_is))
+  all_counted : far_fault (handles_of h xs m) selector offset count ≡ None → IfSome (descriptor_of t selector) (λ d. d.base + d.limit + 1 < 4294967296) → (count ≡ n) × (n < 4294967296)
+  all_counted fine bound =
+      let r : Reached (handles_of h xs m) (far_slot (handles_of h xs m) selector) (offset + count) = reached (handles_of h xs m) selector offset count fine in
+      let few = reached_short bound r.bytes fine r.here in
+      let fits = r.fits in
+      (omega (arith, count_is, few, fits), omega (arith, count_is, few, fits))
 
-      of_place : (len : ℕ) → len < 4294967295 → (p : Option ℕ) → IsSomeAnd p (λ place. (place ≤ at) × (at + count ≤ place + len)) → IsSomeAnd p (λ place. at ≡ place + offset) → (count ≡ n) × (n < 4294967296)
-      of_place len lt None i e = absurd i
-      of_place len lt (Some place) i e = few len place lt i.1 e
-
-      of_bytes : (b : Option (List ℕ)) → bytes_at h.heap (far_slot (world_of h xs m) selector) ≡ b
-          → IsSomeAnd b (λ bytes. IsSomeAnd (finmap.get h.heap.places (far_slot (world_of h xs m) selector)) (λ place. (place ≤ at) × (at + count ≤ place + length bytes))) → (count ≡ n) × (n < 4294967296)
-      of_bytes None here i = absurd i
-      of_bytes (Some bytes) here i = of_place (length bytes) (reached_short bound bytes r.no_fault here) (finmap.get h.heap.places (far_slot (world_of h xs m) selector)) i r.place
-
-  -- where there is none, the address
-  pub place_known : (r : Result ℕ FarFault) → r ≡ place_of t selector offset count write → OnOk r (IfSome (descriptor_of t selector) (λ d. d.base + d.limit + 1 < 4294967296)) → IfOk r (λ at. Reaches w selector offset n at)
-  place_known (Err fault) is bound = tt
-  place_known (Ok at) is bound =
-      let here : Reaches (world_of h xs m) selector offset count at = subst (Tells (world_of h xs m) selector offset count) (sym is) (resolved h xs t m are are.world.heap write selector offset count) in
-      subst (λ v. Reaches v selector offset n at) shown (subst (λ k. Reaches (world_of h xs m) selector offset k at) (all_counted at here bound).0 here)
-
-  pub few_known : (r : Result ℕ FarFault) → r ≡ place_of t selector offset count write → OnOk r (IfSome (descriptor_of t selector) (λ d. d.base + d.limit + 1 < 4294967296)) → OnOk r (n < 4294967296)
-  few_known (Err fault) is bound = tt
-  few_known (Ok at) is bound =
-      let here : Reaches (world_of h xs m) selector offset count at = subst (Tells (world_of h xs m) selector offset count) (sym is) (resolved h xs t m are are.world.heap write selector offset count) in
-      (all_counted at here bound).1
+  -- where there is none, the slot
+  pub slot_known : (r : Result ℕ FarFault) → r ≡ place_of t selector offset count write → OnOk r (IfSome (descriptor_of t selector) (λ d. d.base + d.limit + 1 < 4294967296))
+      → OnOk r ((selector / 8 ≡ far_slot w selector) × (far_fault w selector offset n ≡ None) × (n < 4294967296))
+  slot_known (Err fault) is bound = tt
+  slot_known (Ok at) is bound =
+      let here : far_fault (handles_of h xs m) selector offset count ≡ None = subst (Tells (handles_of h xs m) selector offset count) (sym is) (resolved h xs t m are are.handles.heap write selector offset count) in
+      let all = all_counted here bound in
+      let fine : far_fault w selector offset n ≡ None = subst (λ v. far_fault v selector offset n ≡ None) shown (subst (λ k. far_fault (handles_of h xs m) selector offset k ≡ None) all.0 here) in
+      (sym (slot_of_access w selector offset n fine), fine, all.1)

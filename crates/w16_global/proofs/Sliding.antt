@@ -16,15 +16,15 @@ use Rattle.w16_model.specs.Law.{KeepsOthers}
 use Rattle.w16_model.proofs.Kept.{inserted_here}
 use Rattle.w16_model.proofs.Others.{others_law}
 use Rattle.w16_arena.specs.Asked.{HasDiscarded, first_eligible}
-use Rattle.w16_model.specs.World.{World, IsWorld, IsFreeSlot}
-use Rattle.w16_model.proofs.Worlds.{with_new_object, compacted_world, moved_world}
+use Rattle.w16_model.specs.Handles.{Handles, AreHandles, IsFreeSlot}
+use Rattle.w16_model.proofs.KeptHandles.{with_new_object, compacted_handles, moved_handles}
 use Rattle.w16_selectors.specs.Descriptors as selectors
 use Rattle.w16_selectors.specs.Descriptors.{descriptor_at, unset}
 use Rattle.w16_selectors.specs.declared.Descriptor.{Descriptor}
 use Rattle.w16_selectors.specs.declared.SelKind.TheVariants.{Data}
 use Rattle.w16_global.specs.Parts.{Holding}
-use Rattle.w16_global.specs.Joined.{attributes_in, world_of, descriptor_for, described, followed, forgotten, AreJoined}
-use Rattle.w16_model.specs.Machine.{GlobalCompacts}
+use Rattle.w16_global.specs.Joined.{attributes_in, handles_of, descriptor_for, described, followed, forgotten, AreJoined}
+use Rattle.w16_model.specs.Calls.{GlobalCompacts}
 use Rattle.w16_global.proofs.Joined.{attributes_set, described_some}
 use Rattle.w16_global.proofs.Described.{made_here, same_described}
 use Rattle.w16_global.proofs.Forgotten.{gone_says, each_discarded, still_taken, was_there}
@@ -108,8 +108,8 @@ granted old h way (Some k) Asked order new r = (k, refl, r.1.0, r.1.1, r.1.2)
 
 -- An object with bytes in a free slot, for which others may have been discarded or have slid.
 module _ {h : Holding} {xs : List (Option Attributes)} {t : selectors.Table} (are : AreJoined h xs t) (new : Holding) (cap : new.cap ≡ h.cap) (slot : ℕ) (a : Attributes)
-    {m : ℕ} {w : World} (shown : world_of h xs m ≡ w) (known : IsFreeSlot w slot) where
-  free : IsFreeSlot (world_of h xs m) slot
+    {m : ℕ} {w : Handles} (shown : handles_of h xs m ≡ w) (known : IsFreeSlot w slot) where
+  free : IsFreeSlot (handles_of h xs m) slot
   free = subst (λ v. IsFreeSlot v slot) (sym shown) known
 
   within : slot < length xs
@@ -123,7 +123,7 @@ module _ {h : Holding} {xs : List (Option Attributes)} {t : selectors.Table} (ar
     s = granted h.heap slot way (prefix_of h.heap n (Some slot) way) (IsNew way.zero n kind 0) (with_newest slot) new.heap allocated.request
 
     keeps : KeepsOthers h.heap (Some slot) s.0 new.heap
-    keeps = (others_law h.heap new.heap are.world.heap s.0).0 slot way s.2 (with_newest slot s.2) s.4
+    keeps = (others_law h.heap new.heap are.handles.heap s.0).0 slot way s.2 (with_newest slot s.2) s.4
 
     ids_are : new.discarded ≡ take s.0 (eligible (blocks h.heap) h.heap.order (Some slot))
     ids_are = let same : ◌≡◌ {A = Option ℕ} (Some has.prefix) (Some s.0) = sym has.needed ∙ s.1 in has.listed ∙ ap (λ k. take k (eligible (blocks h.heap) h.heap.order (Some slot))) (let e : has.prefix ≡ s.0 = cc in e)
@@ -150,8 +150,8 @@ module _ {h : Holding} {xs : List (Option Attributes)} {t : selectors.Table} (ar
         let d : Descriptor = record { base = at; limit = n - 1; present = true; kind = Data } in
         let many : length second ≡ length t = many_second ∙ ap length first_is ∙ length-set told slot (Some unset) ∙ many_told in
         record {
-          world = subst IsWorld (λ i. record { slots = sym cap i - FIRST_SLOT; heap = new.heap; attributes = sym (attributes_set xs slot a within) i; moved = 0 })
-              (with_new_object (world_of h xs 0) are.world a slot s.0 s.2 (with_newest slot s.2) (stays_for slot way) new.heap free.0 s.4);
+          handles = subst AreHandles (λ i. record { slots = sym cap i - FIRST_SLOT; heap = new.heap; attributes = sym (attributes_set xs slot a within) i; moved = 0 })
+              (with_new_object (handles_of h xs 0) are.handles a slot s.0 s.2 (with_newest slot s.2) (stays_for slot way) new.heap free.0 s.4);
           described = λ q. elim (cases_eq q slot) [
             | inl e ↦ ap (λ (l : selectors.Table). get_or l q None) taken ∙ ap (λ k. get_or (set second slot (Some d)) k None) e
                 ∙ get_or-set_same second slot (Some d) None (subst (λ k. slot < k) (sym many) in_table)
@@ -215,8 +215,8 @@ module _ {h : Holding} {xs : List (Option Attributes)} {t : selectors.Table} (ar
 -- and where objects were discarded and have slid, and no other thing changed
 module _ {h : Holding} {xs : List (Option Attributes)} {t : selectors.Table} (are : AreJoined h xs t) (new : Holding) (cap : new.cap ≡ h.cap) (n answer : ℕ) (compacted : Compacts h.heap n answer new.heap)
     (listed : 0 < n → new.discarded ≡ first_eligible h.heap (compaction_prefix h.heap n) None) (unlisted : n ≡ 0 → new.discarded ≡ []) where
-  world : IsWorld (record (world_of h xs 0) { heap = new.heap; moved = moved_bytes h.heap new.heap })
-  world = compacted_world (world_of h xs 0) are.world n answer (record (world_of h xs 0) { heap = new.heap; moved = moved_bytes h.heap new.heap }) (record { compacted = compacted; rest = refl })
+  handles : AreHandles (record (handles_of h xs 0) { heap = new.heap; moved = moved_bytes h.heap new.heap })
+  handles = compacted_handles (handles_of h xs 0) are.handles n answer (record (handles_of h xs 0) { heap = new.heap; moved = moved_bytes h.heap new.heap }) (record { compacted = compacted; rest = refl })
 
   -- how many were discarded, and that the others are kept
   abbrev Kept : Type 0
@@ -227,7 +227,7 @@ module _ {h : Holding} {xs : List (Option Attributes)} {t : selectors.Table} (ar
     | inl none ↦ let same : new.heap ≡ h.heap = (subst (λ b. MatchBool b ((answer ≡ most_room h.heap) × (new.heap ≡ h.heap)) (MakesRoom h.heap n answer new.heap)) (eq-eqb n 0 none) compacted).1 in
         (0, unlisted none, record { kept = λ q d m. ap (λ (g : Heap). object_at g q) same; discarded = λ q m. absurd (false≢true m) })
     | inr some ↦ let made : MakesRoom h.heap n answer new.heap = subst (λ b. MatchBool b ((answer ≡ most_room h.heap) × (new.heap ≡ h.heap)) (MakesRoom h.heap n answer new.heap)) (ne_eqb n 0 some) compacted in
-        (compaction_prefix h.heap n, listed (omega arith), (others_law h.heap new.heap are.world.heap (compaction_prefix h.heap n)).1 made.settled)
+        (compaction_prefix h.heap n, listed (omega arith), (others_law h.heap new.heap are.handles.heap (compaction_prefix h.heap n)).1 made.settled)
   ]
 
   pub compaction_known : All (λ id. is_some (descriptor_at t id) ≡ true) new.discarded
@@ -240,26 +240,26 @@ module _ {h : Holding} {xs : List (Option Attributes)} {t : selectors.Table} (ar
   pub compacted_joined : (from to : ℕ) (told after : selectors.Table) → ((q : ℕ) → StandStill h.heap new.heap from to q) → ((q : ℕ) → descriptor_at told q ≡ forgotten new.discarded t q) → length told ≡ length t
       → ((q : ℕ) → descriptor_at after q ≡ followed new.heap from to told q) → length after ≡ length told → AreJoined new xs after
   compacted_joined from to told after still forgot many_told follows many = record {
-    world = subst IsWorld (λ i. record { slots = sym cap i - FIRST_SLOT; heap = new.heap; attributes = attributes_in xs; moved = 0 }) (moved_world (record (world_of h xs 0) { heap = new.heap; moved = moved_bytes h.heap new.heap }) world 0);
-    described = λ q. follows q ∙ says_all h.heap new.heap world.heap None kept.0 kept.2 from to t told new.discarded kept.1 forgot are.described q (λ e. cc) (still q);
+    handles = subst AreHandles (λ i. record { slots = sym cap i - FIRST_SLOT; heap = new.heap; attributes = attributes_in xs; moved = 0 }) (moved_handles (record (handles_of h xs 0) { heap = new.heap; moved = moved_bytes h.heap new.heap }) handles 0);
+    described = λ q. follows q ∙ says_all h.heap new.heap handles.heap None kept.0 kept.2 from to t told new.discarded kept.1 forgot are.described q (λ e. cc) (still q);
     attributes_many = are.attributes_many ∙ sym cap;
     selectors_many = many ∙ many_told ∙ are.selectors_many ∙ sym cap;
     some = subst (λ n. FIRST_SLOT ≤ n) (sym cap) are.some;
   }
 
 -- the worlds that these are
-pub given_moved : (h : Holding) (xs : List (Option Attributes)) (m : ℕ) {w : World} → world_of h xs m ≡ w → (new : Holding) (slot : ℕ) (a : Attributes) (moved : ℕ) → moved ≡ moved_bytes h.heap new.heap
-    → world_of new (set xs slot (Some a)) moved ≡ record w { heap = new.heap; attributes = finmap.insert w.attributes slot a; moved = moved }
-    → world_of new (set xs slot (Some a)) moved ≡ record w { heap = new.heap; attributes = finmap.insert w.attributes slot a; moved = moved_bytes w.heap new.heap }
+pub given_moved : (h : Holding) (xs : List (Option Attributes)) (m : ℕ) {w : Handles} → handles_of h xs m ≡ w → (new : Holding) (slot : ℕ) (a : Attributes) (moved : ℕ) → moved ≡ moved_bytes h.heap new.heap
+    → handles_of new (set xs slot (Some a)) moved ≡ record w { heap = new.heap; attributes = finmap.insert w.attributes slot a; moved = moved }
+    → handles_of new (set xs slot (Some a)) moved ≡ record w { heap = new.heap; attributes = finmap.insert w.attributes slot a; moved = moved_bytes w.heap new.heap }
 given_moved h xs m {w} shown new slot a moved is given =
-    given ∙ (λ i. record w { heap = new.heap; attributes = finmap.insert w.attributes slot a; moved = (is ∙ ap (λ (v : World). moved_bytes v.heap new.heap) shown) i })
+    given ∙ (λ i. record w { heap = new.heap; attributes = finmap.insert w.attributes slot a; moved = (is ∙ ap (λ (v : Handles). moved_bytes v.heap new.heap) shown) i })
 
-pub compacted_known : (h : Holding) (xs : List (Option Attributes)) (m : ℕ) {w : World} → world_of h xs m ≡ w → (new : Holding) → new.cap ≡ h.cap → (n answer moved : ℕ) → Compacts h.heap n answer new.heap
-    → moved ≡ moved_bytes h.heap new.heap → GlobalCompacts w n answer (world_of new xs moved)
-compacted_known h xs m {w} shown new cap n answer moved compacted is = subst (λ v. GlobalCompacts v n answer (world_of new xs moved)) shown (record {
+pub compacted_known : (h : Holding) (xs : List (Option Attributes)) (m : ℕ) {w : Handles} → handles_of h xs m ≡ w → (new : Holding) → new.cap ≡ h.cap → (n answer moved : ℕ) → Compacts h.heap n answer new.heap
+    → moved ≡ moved_bytes h.heap new.heap → GlobalCompacts w n answer (handles_of new xs moved)
+compacted_known h xs m {w} shown new cap n answer moved compacted is = subst (λ v. GlobalCompacts v n answer (handles_of new xs moved)) shown (record {
   compacted = compacted;
   rest = λ i. record { slots = cap i - FIRST_SLOT; heap = new.heap; attributes = attributes_in xs; moved = is i };
 })
 
 pub table_few : {h : Holding} {xs : List (Option Attributes)} {t : selectors.Table} → AreJoined h xs t → length t ≤ 8192
-table_few {h} {xs} {t} are = let some = are.some in let few = are.world.few in omega (arith, are.selectors_many)
+table_few {h} {xs} {t} are = let some = are.some in let few = are.handles.few in omega (arith, are.selectors_many)

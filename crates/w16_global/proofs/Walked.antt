@@ -3,7 +3,7 @@ use Rattle.std.proofs.Common.{◌≡◌, ℕ, ◌<◌, ◌≤◌, ◌⊎◌, inl
 use Rattle.w16_model.specs.declared.Item.{Item}
 use Rattle.w16_model.specs.declared.Owner.{Owner}
 use Rattle.w16_model.specs.Heap.{Heap}
-use Rattle.w16_model.specs.World.{handle_of}
+use Rattle.w16_model.specs.Handles.{handle_of}
 use Rattle.w16_model.specs.Walk.{IsItem, IsFirstItem, by_its_id}
 
 -- the item with its owner's handle in place of its id

@@ -1,12 +1,14 @@
 -- The bytes at an address in an object, and the heap after some of them are replaced.
-use Rattle.std.proofs.Common.{◌≡◌, ◌≢◌, ℕ, ◌+◌, ◌-◌, ◌<◌, ◌≤◌, inl, inr, IfSome, IsSomeAnd, List, length, get_or, slice_range, take, drop, All, Option, Some, None, option_map, refl, sym, ap, ◌∙◌, subst, arith}
+use Rattle.std.proofs.Common.{◌≡◌, ◌≢◌, ℕ, ◌+◌, ◌-◌, ◌<◌, ◌≤◌, inl, inr, IsSomeAnd, List, [], ◌++◌, length, get_or, slice_range, take, drop, All, Option, Some, None, option_map, unwrap_or, refl, sym, ap, ◌∙◌, subst, arith, append_assoc, length-drop}
 use Rattle.std.specs.FinMap as finmap
 use Rattle.std.proofs.lemmas.Bool.{cases_eq}
+use Rattle.std.proofs.lemmas.List.{drop-take, take-take, drop-drop, drop-append-le, length-take-le}
 use Rattle.std.proofs.lemmas.List.Elements.{All-replicate}
+use Rattle.std.proofs.Math.Seq.{take-append-add}
 use Rattle.w16_model.specs.declared.Block.{Block}
 use Rattle.w16_model.specs.declared.Entry.{Entry}
 use Rattle.w16_model.specs.Heap.{Heap, Object, object_at, bytes_at}
-use Rattle.w16_model.specs.Machine.{slice_at, with_slice, after_write}
+use Rattle.w16_model.specs.Far.{slice_at, with_slice, after_write}
 use Rattle.w16_model.specs.Table.{Table, block_with, object_in, heap_in}
 use Rattle.w16_model.proofs.Gaps.{Member}
 use Rattle.w16_model.proofs.Heaps.{get-update_same, get-update_other}
@@ -17,9 +19,45 @@ use Rattle.w16_region.specs.Bytes.{put_part, repeated, length-put_part}
 use Rattle.w16_blocks.specs.Layout.{Layout}
 use Rattle.w16_arena.specs.State.{State}
 use Rattle.w16_arena.proofs.Parts as arena
-use Rattle.w16_global.specs.Parts.{AreParts, Holding, IsInside, holding_of}
+use Rattle.w16_global.specs.Parts.{AreParts, Holding, HasPart, holding_of}
 use Rattle.w16_arena.proofs.Lookups.{object_here, place_here, bytes_here, ends_in_memory, same_heap}
-use Rattle.w16_arena.proofs.Slices.{slice_of_range, slice_of_put_same, slice_of_put_apart, All-put_part}
+use Rattle.w16_region.proofs.Parts.{range_apart, All-put_part}
+
+-- a part of a range is one of the whole list
+slice_of_range : (m : List ℕ) (p s at n : ℕ) → at + n ≤ s → slice_at (slice_range m p (p + s)) at n ≡ take n (drop (p + at) m)
+slice_of_range m p s at n le =
+    let size : p + s - p ≡ at + (s - at) = omega arith in
+    ap (λ k. take n (drop at (take k (drop p m)))) size ∙ ap (take n) (drop-take at (s - at) (drop p m)) ∙ take-take n (s - at) (drop at (drop p m)) (omega arith) ∙ ap (take n) (drop-drop at p m)
+
+-- n elements of a list with a part replaced
+take_put : (xs : List ℕ) (at n : ℕ) (new : List ℕ) → at + length new ≤ n → n ≤ length xs → take n (put_part xs at new) ≡ with_slice (take n xs) at new
+take_put xs at n new le len =
+    let k : ℕ = length new in
+    let r : ℕ = n - (at + k) in
+    let front : length (take at xs) ≡ at = length-take-le at xs (omega arith) in
+    let first : length (take at xs) + (k + r) ≡ n = omega arith in
+    let whole : at + k + r ≡ n = omega arith in
+    let left : take n (put_part xs at new) ≡ take at xs ++ (new ++ take r (drop k (drop at xs))) =
+    ap (λ j. take j (put_part xs at new)) (sym first) ∙ take-append-add (take at xs) (new ++ drop k (drop at xs)) (k + r) ∙ ap (λ ys. take at xs ++ ys) (take-append-add new (drop k (drop at xs)) r) in
+    let front_too : take at (take n xs) ≡ take at xs = take-take at n xs (omega arith) in
+    let behind : drop (at + k) (take n xs) ≡ take r (drop k (drop at xs)) =
+    ap (λ j. drop (at + k) (take j xs)) (sym whole) ∙ drop-take (at + k) r xs ∙ ap (take r) (sym (drop-drop k at xs)) in
+    left ∙ sym (append_assoc (take at xs) new (take r (drop k (drop at xs)))) ∙ (λ i. sym front_too i ++ new ++ sym behind i)
+
+-- what is behind a place before the part
+drop_put : (m : List ℕ) (p at : ℕ) (new : List ℕ) → p + at ≤ length m → drop p (put_part m (p + at) new) ≡ put_part (drop p m) at new
+drop_put m p at new le =
+    let k : ℕ = length new in
+    let front : length (take (p + at) m) ≡ p + at = length-take-le (p + at) m le in
+    drop-append-le p (take (p + at) m) (new ++ drop k (drop (p + at) m)) (omega arith)
+    ∙ (λ i. drop-take p at m i ++ (new ++ drop k (sym (drop-drop at p m) i)))
+
+-- in a range around the part it is replaced too
+slice_of_put_same : (m : List ℕ) (p s at : ℕ) (new : List ℕ) → at + length new ≤ s → p + s ≤ length m
+    → slice_range (put_part m (p + at) new) p (p + s) ≡ with_slice (slice_range m p (p + s)) at new
+slice_of_put_same m p s at new le len =
+    let behind : length (drop p m) ≡ length m - p = length-drop p m in
+    ap (take (p + s - p)) (drop_put m p at new (omega arith)) ∙ take_put (drop p m) at (p + s - p) new (omega arith) (omega arith)
 
 -- copies of a byte are bytes
 pub All-repeated : (n byte : ℕ) → byte < 256 → All (λ b. b < 256) (repeated n byte)
@@ -49,45 +87,28 @@ parts_written {memory = memory} parts at new le ours = record {
 }
 
 module _ {state : State} {memory : List ℕ} (parts : AreParts state memory) (q : ℕ) where
-  -- Of the value that the parts stand for, where n bytes from an address on lie in an object's.
-  module _ {h : Holding} (shown : holding_of state memory ≡ h) (at n : ℕ) (inside : IsInside h.heap q at n) where
-    bytes_shown : bytes_at h.heap q ≡ option_map (bytes_of memory) (block_with state.table.blocks q)
-    bytes_shown = ap (λ (h : Holding). bytes_at h.heap q) (sym shown) ∙ bytes_here (beside parts) q
+  -- Of the value that the parts stand for, where an id has a block.
+  module _ {h : Holding} (shown : holding_of state memory ≡ h) {x : Block} (is : block_with state.table.blocks q ≡ Some x) where
+    bytes_shown : bytes_at h.heap q ≡ Some (bytes_of memory x)
+    bytes_shown = ap (λ (h : Holding). bytes_at h.heap q) (sym shown) ∙ bytes_here (beside parts) q ∙ ap (option_map (bytes_of memory)) is
 
-    place_shown : finmap.get h.heap.places q ≡ option_map (λ (x : Block). x.at) (block_with state.table.blocks q)
-    place_shown = ap (λ (h : Holding). finmap.get h.heap.places q) (sym shown) ∙ place_here (beside parts) q
-
-    -- they lie in its block
-    pub block_around : (x : Block) × (block_with state.table.blocks q ≡ Some x) × (x.at ≤ at) × (at + n ≤ x.at + x.size)
-    block_around = from (block_with state.table.blocks q) refl
-        (subst (λ p. IsSomeAnd (option_map (bytes_of memory) (block_with state.table.blocks q)) (λ bytes. IsSomeAnd p (λ place. (place ≤ at) × (at + n ≤ place + length bytes)))) place_shown
-        (subst (λ o. IsSomeAnd o (λ (bytes : List ℕ). IsSomeAnd (finmap.get h.heap.places q) (λ place. (place ≤ at) × (at + n ≤ place + length bytes)))) bytes_shown inside))
-      where
-        from : (b : Option Block) → block_with state.table.blocks q ≡ b
-            → IsSomeAnd (option_map (bytes_of memory) b) (λ bytes. IsSomeAnd (option_map (λ (x : Block). x.at) b) (λ place. (place ≤ at) × (at + n ≤ place + length bytes)))
-            → (x : Block) × (block_with state.table.blocks q ≡ Some x) × (x.at ≤ at) × (at + n ≤ x.at + x.size)
-        from None e there = absurd there
-        from (Some x) e there =
-            let size : length (bytes_of memory x) ≡ x.size = length_range memory x.at x.size (ends_in_memory (beside parts) q x e).1 in
-            (x, e, there.0, omega (arith, there.1))
+    -- a part of its bytes lies in the block
+    pub in_block : (at n : ℕ) → HasPart h.heap q at n → at + n ≤ x.size
+    in_block at n has = subst (λ k. at + n ≤ k) (length_range memory x.at x.size (ends_in_memory (beside parts) q x is).1)
+        (subst (λ (o : Option (List ℕ)). IsSomeAnd o (λ bytes. at + n ≤ length bytes)) bytes_shown has)
 
     -- and in the memory
-    pub room_around : at + n ≤ length memory
-    room_around = let b = block_around in let end = (ends_in_memory (beside parts) q b.0 b.1).1 in omega (arith, b.3)
-
-    -- what holds of its bytes and its place
-    known : (P : List ℕ → ℕ → Type 0) → P (bytes_of memory block_around.0) block_around.0.at → IfSome (bytes_at h.heap q) (λ bytes. IfSome (finmap.get h.heap.places q) (λ place. P bytes place))
-    known P holds =
-        subst (λ o. IfSome o (λ (bytes : List ℕ). IfSome (finmap.get h.heap.places q) (λ place. P bytes place))) (sym (bytes_shown ∙ ap (option_map (bytes_of memory)) block_around.1))
-        (subst (λ p. IfSome p (λ place. P (bytes_of memory block_around.0) place)) (sym (place_shown ∙ ap (option_map (λ (x : Block). x.at)) block_around.1)) holds)
+    pub in_memory : (at n : ℕ) → HasPart h.heap q at n → x.at + at + n ≤ length memory
+    in_memory at n has = let end = (ends_in_memory (beside parts) q x is).1 in let within = in_block at n has in omega (arith, end, within)
 
     -- what the memory has there is what the object has
-    pub seen_around : (seen : List ℕ) → seen ≡ take n (drop at memory) → IfSome (bytes_at h.heap q) (λ bytes. IfSome (finmap.get h.heap.places q) (λ place. seen ≡ slice_at bytes (at - place) n))
-    seen_around seen is =
-        let b = block_around in
-        let there : b.0.at + (at - b.0.at) ≡ at = omega (arith, b.2) in
-        known (λ bytes place. seen ≡ slice_at bytes (at - place) n)
-        (is ∙ ap (λ k. take n (drop k memory)) (sym there) ∙ sym (slice_of_range memory b.0.at b.0.size (at - b.0.at) n (omega (arith, b.2, b.3))))
+    pub seen : (at n : ℕ) → HasPart h.heap q at n → take n (drop (x.at + at) memory) ≡ slice_at (unwrap_or (bytes_at h.heap q) []) at n
+    seen at n has = sym (slice_of_range memory x.at x.size at n (in_block at n has)) ∙ sym (ap (λ (o : Option (List ℕ)). slice_at (unwrap_or o []) at n) bytes_shown)
+
+  -- without a block there is no part
+  pub no_part : {h : Holding} (shown : holding_of state memory ≡ h) → block_with state.table.blocks q ≡ None → (at n : ℕ) → HasPart h.heap q at n → ⊥
+  no_part {h} shown none at n has = subst (λ (o : Option (List ℕ)). IsSomeAnd o (λ bytes. at + n ≤ length bytes))
+      (ap (λ (h : Holding). bytes_at h.heap q) (sym shown) ∙ bytes_here (beside parts) q ∙ ap (option_map (bytes_of memory)) none) has
 
   -- What a write inside an id's block leaves.
   module _ {x : Block} (is : block_with state.table.blocks q ≡ Some x) (at : ℕ) (new : List ℕ) (from : x.at ≤ at) (to : at + length new ≤ x.at + x.size) (ours : All (λ b. b < 256) new) where
@@ -102,8 +123,8 @@ module _ {state : State} {memory : List ℕ} (parts : AreParts state memory) (q 
         let theirs : Member y state.table.blocks × (y.id ≡ r) = member_with state.table.blocks r y e in
         elim (two state.table.lo state.table.hi state.table.blocks (laid_placed state.table.lo state.table.hi state.table.blocks parts.sound.table.laid) y x theirs.0 mine.0) [
           | inl same ↦ absurd (other (sym theirs.1 ∙ ap (λ (z : Block). z.id) same ∙ mine.1))
-          | inr (inl below) ↦ ap Some (slice_of_put_apart memory at new y.at y.size room (inl (omega (arith, below))))
-          | inr (inr above) ↦ ap Some (slice_of_put_apart memory at new y.at y.size room (inr (omega (arith, above))))
+          | inr (inl below) ↦ ap Some (range_apart memory at new y.at y.size room (inl (omega (arith, below))))
+          | inr (inr above) ↦ ap Some (range_apart memory at new y.at y.size room (inr (omega (arith, above))))
         ]
 
     -- the id has those that it had, with the new ones in their place
@@ -148,10 +169,10 @@ module _ {state : State} {memory : List ℕ} (parts : AreParts state memory) (q 
     heap_written = same_heap after (after_write before q (at - x.at) new) refl refl refl refl objects_written (λ r. refl)
 
   -- the value is the one after the write
-  pub holding_written : {h : Holding} (shown : holding_of state memory ≡ h) (at n : ℕ) → IsInside h.heap q at n → (new : List ℕ) → length new ≡ n → All (λ b. b < 256) new
-      → IfSome (finmap.get h.heap.places q) (λ place. holding_of state (put_part memory at new) ≡ record h { heap = after_write h.heap q (at - place) new })
-  holding_written {h} shown at n inside new long ours =
-      let b = block_around shown at n inside in
-      subst (λ p. IfSome p (λ place. holding_of state (put_part memory at new) ≡ record h { heap = after_write h.heap q (at - place) new }))
-      (sym (place_shown shown at n inside ∙ ap (option_map (λ (x : Block). x.at)) b.1))
-      ((λ i. record { cap = length state.table.entries; heap = heap_written b.1 at new b.2 (omega (arith, b.3)) ours i; discarded = state.discarded }) ∙ ap (λ (h : Holding). record h { heap = after_write h.heap q (at - b.0.at) new }) shown)
+  pub holding_written : {h : Holding} (shown : holding_of state memory ≡ h) {x : Block} (is : block_with state.table.blocks q ≡ Some x) (at : ℕ) (new : List ℕ) → HasPart h.heap q at (length new) → All (λ b. b < 256) new
+      → holding_of state (put_part memory (x.at + at) new) ≡ record h { heap = after_write h.heap q at new }
+  holding_written {h} shown {x} is at new has ours =
+      let within = in_block shown is at (length new) has in
+      let there : x.at + at - x.at ≡ at = omega arith in
+      (λ i. record { cap = length state.table.entries; heap = (heap_written is (x.at + at) new (omega arith) (omega (arith, within)) ours ∙ ap (λ k. after_write (heap_in state.table memory) q k new) there) i; discarded = state.discarded })
+      ∙ ap (λ (h : Holding). record h { heap = after_write h.heap q at new }) shown

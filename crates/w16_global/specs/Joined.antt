@@ -1,5 +1,5 @@
--- The objects, their attributes and their selectors together, and the world that they stand for.
-use Rattle.std.specs.Prelude.{◌≡◌, ℕ, ◌+◌, ◌-◌, ◌≤◌, true, ◌&&◌, if◌then◌else◌, nat_le, nat_lt, List, length, IsSomeAnd, Option, Some, None, option_map, unwrap_or}
+-- The objects, their attributes and their selectors together, and the handles that they stand for.
+use Rattle.std.specs.Prelude.{◌≡◌, ℕ, ◌+◌, ◌-◌, ◌≤◌, true, ◌&&◌, if◌then◌else◌, nat_le, nat_lt, List, length, Option, Some, None, option_map, unwrap_or}
 use Rattle.std.specs.Ordering.{nat_cmp}
 use Rattle.std.specs.FinMap as finmap
 use Rattle.std.specs.FinMap.{FinMap}
@@ -8,21 +8,20 @@ use Rattle.w16_model.specs.declared.TheConstants.{FIRST_SLOT}
 use Rattle.w16_model.specs.Prefix.{is_member}
 use Rattle.w16_model.specs.Heap.{Heap, Object, object_at}
 use Rattle.w16_model.specs.Table.{by_id}
-use Rattle.w16_model.specs.World.{World, IsWorld}
-use Rattle.w16_model.specs.Machine.{far_fault, far_slot}
+use Rattle.w16_model.specs.Handles.{Handles, AreHandles}
 use Rattle.w16_selectors.specs.Descriptors as selectors
 use Rattle.w16_selectors.specs.Descriptors.{descriptor_at, unset}
 use Rattle.w16_selectors.specs.declared.Descriptor.{Descriptor}
 use Rattle.w16_selectors.specs.declared.SelKind.TheVariants.{Data}
-use Rattle.w16_global.specs.Parts.{Holding, IsInside}
+use Rattle.w16_global.specs.Parts.{Holding}
 
 -- the attributes that a list by slot has
 abbrev pub attributes_in : List (Option Attributes) → FinMap nat_cmp Attributes
 attributes_in attributes = finmap.from_entries (by_id (λ _ a. a) 0 attributes)
 
--- the world that they stand for, with so many bytes moved last; an object's id is its slot
-abbrev pub world_of : Holding → List (Option Attributes) → ℕ → World
-world_of holding attributes moved = record { slots = holding.cap - FIRST_SLOT; heap = holding.heap; attributes = attributes_in attributes; moved = moved }
+-- the handles that they stand for, with so many bytes moved last; an object's id is its slot
+abbrev pub handles_of : Holding → List (Option Attributes) → ℕ → Handles
+handles_of holding attributes moved = record { slots = holding.cap - FIRST_SLOT; heap = holding.heap; attributes = attributes_in attributes; moved = moved }
 
 -- the descriptor of an object: where it stands, and the offset of its last byte
 abbrev pub descriptor_for : Heap → ℕ → Object → Descriptor
@@ -46,16 +45,10 @@ followed heap from to table slot = elim (finmap.get heap.places slot) [
 abbrev pub forgotten : List ℕ → selectors.Table → ℕ → Option Descriptor
 forgotten ids table slot = if is_member slot ids then Some unset else descriptor_at table slot
 
--- what holds of them: they stand for a world, whatever was moved last, and each selector says its object's base and limit
+-- what holds of them: they stand for a handles, whatever was moved last, and each selector says its object's base and limit
 pub record AreJoined (holding : Holding) (attributes : List (Option Attributes)) (table : selectors.Table) : Type 0 where
-  pub world : IsWorld (world_of holding attributes 0)
+  pub handles : AreHandles (handles_of holding attributes 0)
   pub described : (slot : ℕ) → descriptor_at table slot ≡ described holding.heap slot
   pub attributes_many : length attributes ≡ holding.cap
   pub selectors_many : length table ≡ holding.cap
   pub some : FIRST_SLOT ≤ holding.cap
-
--- A far access without a fault, and where its bytes begin in memory.
-pub record Reaches (world : World) (selector offset n at : ℕ) : Type 0 where
-  pub no_fault : far_fault world selector offset n ≡ None
-  pub inside : IsInside world.heap (far_slot world selector) at n
-  pub place : IsSomeAnd (finmap.get world.heap.places (far_slot world selector)) (λ place. at ≡ place + offset)

@@ -1,7 +1,6 @@
 -- What the objects of the global heap are: an arena beside its memory, and the heap that they stand for.
 use Rattle.std.specs.Prelude.{◌≡◌, ℕ, ◌+◌, ◌<◌, ◌≤◌, List, length, All, IsSomeAnd, refl}
 use Rattle.std.specs.Coded.{Coded, code_by, coded×, coded_ℕ, coded_list}
-use Rattle.std.specs.FinMap as finmap
 use Rattle.w16_model.specs.declared.TheConstants.{GRAIN}
 use Rattle.w16_model.specs.Code.{heap_code}
 use Rattle.w16_model.specs.Heap.{Heap, bytes_at}
@@ -31,6 +30,6 @@ pub record AreParts (state : State) (memory : List ℕ) : Type 0 where
   pub bytes : All (λ b. b < 256) memory
   pub few : length state.table.entries ≤ 8192
 
--- n bytes from an address on lie in those of an object
-abbrev pub IsInside : Heap → ℕ → ℕ → ℕ → Type 0
-IsInside heap id at n = IsSomeAnd (bytes_at heap id) (λ bytes. IsSomeAnd (finmap.get heap.places id) (λ place. (place ≤ at) × (at + n ≤ place + length bytes)))
+-- an object has n bytes from an offset on
+abbrev pub HasPart : Heap → ℕ → ℕ → ℕ → Type 0
+HasPart heap id at n = IsSomeAnd (bytes_at heap id) (λ bytes. at + n ≤ length bytes)

@@ -2,13 +2,14 @@
 ghost use Rattle.std.specs.Prelude.{◌≡◌, ◌+◌, ◌^◌, ◌<◌, ◌≤◌, ℕ, if◌then◌else◌, IfSome, IfNone};
 ghost use Rattle.std.specs.FinMap as finmap;
 ghost use Rattle.w16_model.specs.Heap.{is_discardable};
-ghost use Rattle.w16_model.specs.Machine.{GlobalAllocs, GlobalCompacts, Gives, locks_at, is_shared};
-ghost use Rattle.w16_model.specs.Machine as machine;
+ghost use Rattle.w16_model.specs.Calls.{GlobalAllocs, GlobalCompacts, locks_at, is_shared};
+ghost use Rattle.w16_model.specs.Handles.{AreHandles, Gives, IsFreeSlot};
+ghost use Rattle.w16_model.specs.Calls as calls;
 ghost use Rattle.w16_model.specs.Walk.{IsFirstItem, IsItemAt, IsItemCount};
-ghost use Rattle.w16_model.specs.World as world;
-ghost use Rattle.w16_model.specs.World.{IsFreeSlot};
+ghost use Rattle.w16_model.specs.Handles as handles;
 
 use crate::global::Global16;
+use w16_model::names::{dword_of, handle_of, selector_of, slot_of};
 use w16_model::{
     Attributes, Entry, GMEM_DDESHARE, GMEM_DISCARDABLE, GMEM_DISCARDED, GMEM_MOVEABLE,
     GMEM_NOCOMPACT, GMEM_NODISCARD, GMEM_ZEROINIT, GRAIN, Item, Kind, LARGEST_SIZE, Owner, Refusal,
@@ -18,9 +19,9 @@ use w16_model::{
 impl Global16 {
     /// The slot of the object whose handle this is: a call takes the exact handle.
     fn slot_of_handle(&self, handle: u16) -> Option<u16>
-        ensures { result ≡ world.slot_of_handle self.now handle }
+        ensures { result ≡ handles.slot_of_handle self.now handle }
     {
-        let slot = handle / 8;
+        let slot = slot_of(handle);
         let entry = self.objects.entry(slot as u32)?;
         if handle == handle_of(entry.kind, slot) {
             Some(slot)
@@ -31,18 +32,19 @@ impl Global16 {
 
     /// The slot of the object whose selector this is.
     fn slot_of_selector(&self, selector: u16) -> Option<u16>
-        ensures { result ≡ world.slot_of_selector self.now selector }
+        ensures { result ≡ handles.slot_of_selector self.now selector }
     {
-        self.selectors.find(selector).map(|_| selector / 8)
+        self.selectors.find(selector).map(|_| slot_of(selector))
     }
 
     /// The lowest slot that no object has.
-    fn free_slot(&self) -> Option<u16>
-        ensures found { IfSome result (λ slot. IsFreeSlot self.now slot) }
+    fn free_slot(&mut self) -> Option<u16>
+        ensures same { self.new ≡ self.old }
+        ensures found { IfSome result (λ slot. IsFreeSlot self.old slot) }
         ensures few { IfSome result (λ slot. slot < 8192) }
-        ensures none { IfNone result ((slot : ℕ) → IsFreeSlot self.now slot → ⊥) }
+        ensures none { IfNone result ((slot : ℕ) → IsFreeSlot self.old slot → ⊥) }
     {
-        self.selectors.find_run(1)
+        self.selectors.lowest_free()
     }
 
     /// The lock count of a slot's object.
@@ -101,7 +103,7 @@ impl Global16 {
 
     /// `GlobalFree`: 0, or the handle where it is bad or the object locked.
     pub fn global_free(&mut self, handle: u16) -> u16
-        ensures { Gives (machine.global_free self.old handle) (machine.Reply.Word result) self.new }
+        ensures { Gives (calls.global_free self.old handle) (calls.Answer.Word result) self.new }
     {
         let Some(slot) = self.slot_of_handle(handle) else {
             return handle;
@@ -115,20 +117,20 @@ impl Global16 {
     /// `GlobalLock`: a far pointer to the object's first byte, or 0 for a bad handle, an absent object and a count of 255 locks. A fixed object
     /// counts none.
     pub fn global_lock(&mut self, handle: u16) -> u32
-        ensures { Gives (machine.global_lock self.old handle) (machine.Reply.Dword result) self.new }
+        ensures { Gives (calls.global_lock self.old handle) (calls.Answer.Dword result) self.new }
     {
         let Some(slot) = self.slot_of_handle(handle) else {
             return 0;
         };
         match self.lock(slot) {
-            Ok(()) | Err(Refusal::Fixed) => far_pointer(slot),
+            Ok(()) | Err(Refusal::Fixed) => dword_of(selector_of(slot), 0),
             Err(_) => 0,
         }
     }
 
     /// `GlobalUnlock`: 1 where locks are left, else 0, also for a fixed object and a bad handle.
     pub fn global_unlock(&mut self, handle: u16) -> u16
-        ensures { Gives (machine.global_unlock self.old handle) (machine.Reply.Word result) self.new }
+        ensures { Gives (calls.global_unlock self.old handle) (calls.Answer.Word result) self.new }
     {
         let Some(slot) = self.slot_of_handle(handle) else {
             return 0;
@@ -151,7 +153,7 @@ impl Global16 {
     /// `GlobalLRUNewest`: the handle, and a discardable object with bytes becomes the newest in the order of use, also while it is locked; 0 for
     /// any other object and for a bad handle.
     pub fn global_lru_newest(&mut self, handle: u16) -> u16
-        ensures { Gives (machine.global_lru_newest self.old handle) (machine.Reply.Word result) self.new }
+        ensures { Gives (calls.global_lru_newest self.old handle) (calls.Answer.Word result) self.new }
     {
         let Some(slot) = self.slot_of_handle(handle) else {
             return 0;
@@ -165,7 +167,7 @@ impl Global16 {
     /// `GlobalLRUOldest`: the handle, and a discardable object with bytes becomes the oldest in the order of use, which is discarded first; 0
     /// for any other object and for a bad handle.
     pub fn global_lru_oldest(&mut self, handle: u16) -> u16
-        ensures { Gives (machine.global_lru_oldest self.old handle) (machine.Reply.Word result) self.new }
+        ensures { Gives (calls.global_lru_oldest self.old handle) (calls.Answer.Word result) self.new }
     {
         let Some(slot) = self.slot_of_handle(handle) else {
             return 0;
@@ -179,7 +181,7 @@ impl Global16 {
     /// The i-th part of the heap by address, from 0 on, an object's bytes or a hole; objects are named by their handles. None behind the last.
     /// It goes over the parts before it: a whole walk is quicker by [`Global16::walk_from`] (profile).
     pub fn walk(&self, i: usize) -> Option<Item>
-        ensures { IsItemAt world.handle_of self.now.heap i result }
+        ensures { IsItemAt handles.handle_of self.now.heap i result }
     {
         let mut from = 0;
         for _ in 0..i {
@@ -189,9 +191,16 @@ impl Global16 {
         self.walk_from(from)
     }
 
+    /// Does nothing: what always holds of the handles, and so that they have a walk.
+    pub fn are_handles(&self)
+        ensures { AreHandles self.now }
+    {
+        let _ = &self.objects;
+    }
+
     /// How many parts a walk has.
     pub fn walk_len(&self) -> u32
-        ensures { IsItemCount world.handle_of self.now.heap result }
+        ensures { IsItemCount handles.handle_of self.now.heap result }
     {
         let mut from = 0;
         let mut count = 0;
@@ -205,7 +214,7 @@ impl Global16 {
     /// The first part of the heap that begins at an address or above it; none behind the last. A walk of the whole heap asks from 0 on, then
     /// behind the begin of each part.
     pub fn walk_from(&self, from: u32) -> Option<Item>
-        ensures found { IsFirstItem world.handle_of self.now.heap from result }
+        ensures found { IsFirstItem handles.handle_of self.now.heap from result }
         ensures inside { IfSome result (λ item. (0 < item.size) × (item.at + item.size < 2 ^ 32)) }
         ensures words { IfSome result (λ item. IfSome item.owner (λ owner. owner.name < 2 ^ 16)) }
     {
@@ -224,7 +233,7 @@ impl Global16 {
         self.moved as u64
     }
 
-    /// How many bytes of the memory were slid, filled or written by far accesses so far; the count stops at the largest `u64`. The world of
+    /// How many bytes of the memory were slid, filled or written by far accesses so far; the count stops at the largest `u64`. The handles of
     /// handles has no such count, so no clause tells it here: `w16_arena` and `w16_region` say what each step adds (profile).
     pub fn written(&self) -> u64 {
         self.objects.written()
@@ -232,7 +241,7 @@ impl Global16 {
 
     /// `GlobalSize`: the object's size in bytes; 0 for a bad handle or an absent object.
     pub fn global_size(&self, handle: u16) -> u32
-        ensures { result ≡ machine.global_size self.now handle }
+        ensures { result ≡ calls.global_size self.now handle }
     {
         let Some(slot) = self.slot_of_handle(handle) else {
             return 0;
@@ -243,7 +252,7 @@ impl Global16 {
     /// `GlobalFlags`: the lock count in the low byte, and the bits `GMEM_DISCARDABLE`, `GMEM_DDESHARE` and `GMEM_DISCARDED`, the last for an
     /// absent object; 0 for a bad handle.
     pub fn global_flags(&self, handle: u16) -> u16
-        ensures { result ≡ machine.global_flags self.now handle }
+        ensures { result ≡ calls.global_flags self.now handle }
     {
         let Some(slot) = self.slot_of_handle(handle) else {
             return 0;
@@ -257,20 +266,20 @@ impl Global16 {
 
     /// `GlobalHandle`: the selector in the high word and its object's handle in the low word; 0 where there is none.
     pub fn global_handle(&self, selector: u16) -> u32
-        ensures { result ≡ machine.global_handle self.now selector }
+        ensures { result ≡ calls.global_handle self.now selector }
     {
         let Some(slot) = self.slot_of_selector(selector) else {
             return 0;
         };
         match self.objects.entry(slot as u32) {
-            Some(entry) => selector as u32 * 65_536 + handle_of(entry.kind, slot) as u32,
+            Some(entry) => dword_of(selector, handle_of(entry.kind, slot)),
             None => 0,
         }
     }
 
     /// `GetSelectorBase`: the address of the selector's object; 0 where it is absent or there is none.
     pub fn get_selector_base(&self, selector: u16) -> u32
-        ensures { result ≡ machine.selector_base self.now selector }
+        ensures { result ≡ calls.selector_base self.now selector }
     {
         self.selectors
             .find(selector)
@@ -279,7 +288,7 @@ impl Global16 {
 
     /// `GetSelectorLimit`: the offset of the last byte of the selector's object; 0 where it is absent or there is none.
     pub fn get_selector_limit(&self, selector: u16) -> u32
-        ensures { result ≡ machine.selector_limit self.now selector }
+        ensures { result ≡ calls.selector_limit self.now selector }
     {
         self.selectors
             .find(selector)
@@ -289,14 +298,14 @@ impl Global16 {
 
 /// Whether a flag is given.
 fn has_flag(flags: u16, flag: u16) -> bool
-    ensures { result ≡ machine.has_flag flags flag }
+    ensures { result ≡ calls.has_flag flags flag }
 {
     flags & flag != 0
 }
 
 /// The kind of object that flags ask for. Only a moveable one can be discardable.
 fn kind_asked(flags: u16) -> Kind
-    ensures { result ≡ machine.kind_asked flags }
+    ensures { result ≡ calls.kind_asked flags }
 {
     if !has_flag(flags, GMEM_MOVEABLE) {
         Kind::Fixed
@@ -309,7 +318,7 @@ fn kind_asked(flags: u16) -> Kind
 
 /// How flags let room be made.
 fn way_asked(flags: u16) -> Way
-    ensures { result ≡ machine.way_asked flags }
+    ensures { result ≡ calls.way_asked flags }
 {
     Way {
         compact: !has_flag(flags, GMEM_NOCOMPACT),
@@ -321,7 +330,7 @@ fn way_asked(flags: u16) -> Way
 
 /// The attributes that flags ask for.
 fn attributes_asked(flags: u16) -> Attributes
-    ensures { result ≡ record { shared = machine.has_flag flags GMEM_DDESHARE } }
+    ensures { result ≡ record { shared = calls.has_flag flags GMEM_DDESHARE } }
 {
     Attributes {
         shared: has_flag(flags, GMEM_DDESHARE),
@@ -331,29 +340,9 @@ fn attributes_asked(flags: u16) -> Attributes
 /// A size rounded up to whole grains.
 fn rounded(size: u32) -> u32
     requires { size ≤ LARGEST_SIZE }
-    ensures { result ≡ machine.rounded_size size }
+    ensures { result ≡ calls.rounded_size size }
 {
     size.div_ceil(GRAIN) * GRAIN
-}
-
-/// The handle of an object in a slot.
-fn handle_of(kind: Kind, slot: u16) -> u16
-    requires { slot < 8192 }
-    ensures { result ≡ world.handle_of kind slot }
-{
-    let selector = slot * 8 + 7;
-    match kind {
-        Kind::Fixed => selector,
-        Kind::Moveable | Kind::Discardable => selector - 1,
-    }
-}
-
-/// A far pointer to the first byte of a slot's object.
-fn far_pointer(slot: u16) -> u32
-    requires { slot < 8192 }
-    ensures { result ≡ world.far_pointer (world.selector_of slot) 0 }
-{
-    (slot as u32 * 8 + 7) * 65_536
 }
 
 /// A bit, where it is set.
@@ -365,7 +354,7 @@ fn bit_if(set: bool, bit: u16) -> u16
 
 /// What `GlobalFlags` says of an object.
 fn flags_of(entry: Entry, shared: bool, absent: bool) -> u16
-    ensures { result ≡ entry.locks + (if is_discardable entry.kind then 256 else 0) + (if shared then 8192 else 0) + (if absent then 16384 else 0) }
+    ensures { result ≡ entry.locks + (if is_discardable entry.kind then GMEM_DISCARDABLE else 0) + (if shared then GMEM_DDESHARE else 0) + (if absent then GMEM_DISCARDED else 0) }
 {
     let discardable = bit_if(entry.kind == Kind::Discardable, GMEM_DISCARDABLE);
     entry.locks as u16
@@ -377,7 +366,7 @@ fn flags_of(entry: Entry, shared: bool, absent: bool) -> u16
 /// The owner with its handle in place of its slot.
 fn named(owner: Owner) -> Owner
     requires { owner.name < 8192 }
-    ensures { result ≡ record owner { name = world.handle_of owner.kind owner.name } }
+    ensures { result ≡ record owner { name = handles.handle_of owner.kind owner.name } }
 {
     Owner {
         name: handle_of(owner.kind, owner.name as u16) as u32,

@@ -1,20 +1,23 @@
-//! Far access: bytes at selector:offset. An access is checked once, by the selector's descriptor.
-ghost use Rattle.std.specs.Prelude.{◌≡◌, ◌<◌, ◌^◌, Some, length, min, replicate, OnOk, OnErr, IfOk, IfErr};
-ghost use Rattle.w16_model.specs.Machine.{Gives, far_fault};
-ghost use Rattle.w16_model.specs.Machine as machine;
-ghost use Rattle.w16_global.specs.Joined.{Reaches};
+//! Far access: bytes at selector:offset. An access is checked once, by the selector's descriptor, and its bytes are then the object's.
+ghost use Rattle.std.specs.Prelude.{◌≡◌, ◌<◌, ◌^◌, Some, None, length, min, replicate, OnOk, OnErr, IfOk, IfErr};
+ghost use Rattle.w16_model.specs.Far.{far_fault, far_slot};
+ghost use Rattle.w16_model.specs.Handles.{Gives};
+ghost use Rattle.w16_model.specs.Far as access;
 
 use crate::global::Global16;
 use w16_model::FarFault;
+use w16_model::names::slot_of;
 
 impl Global16 {
-    /// The address of an access to `n` bytes, or its first fault.
-    fn reach(&self, selector: u16, offset: u16, n: usize, write: bool) -> Result<u32, FarFault>
-        ensures ok { IfOk result (λ at. Reaches self.now selector offset n at) }
+    /// The slot of the object that an access to `n` bytes reaches, or its first fault.
+    fn reach(&self, selector: u16, offset: u16, n: usize, write: bool) -> Result<u16, FarFault>
+        ensures ok { IfOk result (λ slot. (slot ≡ far_slot self.now selector) × (far_fault self.now selector offset n ≡ None)) }
         ensures few { OnOk result (n < 2 ^ 32) }
         ensures err { IfErr result (λ fault. far_fault self.now selector offset n ≡ Some fault) }
     {
-        self.selectors.resolve(selector, offset, count_of(n), write)
+        self.selectors
+            .resolve(selector, offset, count_of(n), write)?;
+        Ok(slot_of(selector))
     }
 
     /// Reads as many bytes as the buffer has. It tells the first fault: `BadSelector` where no object has the selector, `NotPresent` where it is
@@ -26,36 +29,39 @@ impl Global16 {
         buffer: &mut [u8],
     ) -> Result<(), FarFault>
         ensures length { length buffer.new ≡ length buffer.old }
-        ensures ok { OnOk result (Gives (machine.far_read self.old selector offset (length buffer.old)) (machine.Reply.Bytes buffer.new) self.new) }
-        ensures err { IfErr result (λ fault. Gives (machine.far_read self.old selector offset (length buffer.old)) (machine.Reply.Fault fault) self.new) }
+        ensures ok { OnOk result (Gives (access.far_read self.old selector offset (length buffer.old)) (access.FarAnswer.Bytes buffer.new) self.new) }
+        ensures err { IfErr result (λ fault. Gives (access.far_read self.old selector offset (length buffer.old)) (access.FarAnswer.Fault fault) self.new) }
         ensures kept { OnErr result (buffer.new ≡ buffer.old) }
     {
-        let at = self.reach(selector, offset, buffer.len(), false)?;
-        buffer.copy_from_slice(self.objects.view(at, buffer.len() as u32));
-        self.touch(selector / 8);
+        let slot = self.reach(selector, offset, buffer.len(), false)?;
+        let part = self
+            .objects
+            .part(slot as u32, offset as u32, buffer.len() as u32);
+        buffer.copy_from_slice(part);
+        self.touch(slot);
         Ok(())
     }
 
     /// Writes bytes over those that are there. It tells the first fault as `far_read` does, `ReadOnly` behind `BadSelector` where the object is
     /// code; then nothing was written.
     pub fn far_write(&mut self, selector: u16, offset: u16, bytes: &[u8]) -> Result<(), FarFault>
-        ensures ok { OnOk result (Gives (machine.far_write self.old selector offset bytes.now) machine.Reply.Done self.new) }
-        ensures err { IfErr result (λ fault. Gives (machine.far_write self.old selector offset bytes.now) (machine.Reply.Fault fault) self.new) }
+        ensures ok { OnOk result (Gives (access.far_write self.old selector offset bytes.now) access.FarAnswer.Done self.new) }
+        ensures err { IfErr result (λ fault. Gives (access.far_write self.old selector offset bytes.now) (access.FarAnswer.Fault fault) self.new) }
     {
-        let at = self.reach(selector, offset, bytes.len(), true)?;
-        self.objects.write(at, bytes);
-        self.touch(selector / 8);
+        let slot = self.reach(selector, offset, bytes.len(), true)?;
+        self.objects.write(slot as u32, offset as u32, bytes);
+        self.touch(slot);
         Ok(())
     }
 
     /// Writes one byte `n` times. It tells the first fault as `far_write` does.
     pub fn far_fill(&mut self, selector: u16, offset: u16, n: u32, byte: u8) -> Result<(), FarFault>
-        ensures ok { OnOk result (Gives (machine.far_write self.old selector offset (replicate n byte)) machine.Reply.Done self.new) }
-        ensures err { IfErr result (λ fault. Gives (machine.far_write self.old selector offset (replicate n byte)) (machine.Reply.Fault fault) self.new) }
+        ensures ok { OnOk result (Gives (access.far_write self.old selector offset (replicate n byte)) access.FarAnswer.Done self.new) }
+        ensures err { IfErr result (λ fault. Gives (access.far_write self.old selector offset (replicate n byte)) (access.FarAnswer.Fault fault) self.new) }
     {
-        let at = self.reach(selector, offset, n as usize, true)?;
-        self.objects.fill(at, n, byte);
-        self.touch(selector / 8);
+        let slot = self.reach(selector, offset, n as usize, true)?;
+        self.objects.fill(slot as u32, offset as u32, n, byte);
+        self.touch(slot);
         Ok(())
     }
 }

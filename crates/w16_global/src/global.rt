@@ -5,8 +5,8 @@ ghost use Rattle.w16_model.specs.Heap.{Heap, object_at, IsMultiple};
 ghost use Rattle.w16_model.specs.Edit.{removed};
 ghost use Rattle.w16_model.specs.Request.{Allocates, moved_bytes};
 ghost use Rattle.w16_model.specs.Single.{Enters, after_lock, after_unlock, after_free, after_newest, after_oldest, after_touch};
-ghost use Rattle.w16_model.specs.World.{IsFreeSlot, empty_world};
-ghost use Rattle.w16_model.specs.Machine.{GlobalCompacts};
+ghost use Rattle.w16_model.specs.Handles.{IsFreeSlot, empty_handles};
+ghost use Rattle.w16_model.specs.Calls.{GlobalCompacts};
 
 use crate::follow::{follow, forget};
 use crate::objects::Objects;
@@ -15,7 +15,7 @@ use std::marker::Model;
 use w16_model::{Attributes, FIRST_SLOT, GRAIN, Kind, MOST_SLOTS, Refusal, Way};
 use w16_selectors::{Descriptor, SelKind, Selectors};
 
-/// The global heap: objects that are named by handles, and whose bytes are reached through selectors. Its value is the world of handles.
+/// The global heap: objects that are named by handles, and whose bytes are reached through selectors. Its value is the handles of handles.
 #[derive(Drop)]
 pub struct Global16 {
     pub(crate) objects: Objects,
@@ -27,15 +27,15 @@ pub struct Global16 {
 }
 
 impl Model for Global16 {
-    ghost use Rattle.w16_model.specs.World.{World};
-    ghost use Rattle.w16_model.specs.Code.{world_code};
-    ghost use Rattle.w16_global.specs.Joined.{world_of, AreJoined};
+    ghost use Rattle.w16_model.specs.Handles.{Handles};
+    ghost use Rattle.w16_model.specs.Code.{handles_code};
+    ghost use Rattle.w16_global.specs.Joined.{handles_of, AreJoined};
 
-    ghost Value = { World };
+    ghost Value = { Handles };
 
-    ghost coded = { world_code };
+    ghost coded = { handles_code };
 
-    ghost view = { λ g. world_of g.objects g.attributes.items g.moved };
+    ghost view = { λ g. handles_of g.objects g.attributes.items g.moved };
 
     ghost invariant = { λ g. AreJoined g.objects g.attributes.items g.selectors };
 }
@@ -45,7 +45,7 @@ impl Global16 {
     /// memory here; an error is that there was none.
     pub fn new(alloc: Global, memory: u32, slots: u32) -> Result<Global16, AllocError>
         requires { slots ≤ MOST_SLOTS }
-        ensures { IfOk result (λ made. made ≡ empty_world memory slots) }
+        ensures { IfOk result (λ made. made ≡ empty_handles memory slots) }
     {
         let cap = FIRST_SLOT + slots;
         let objects = Objects::new(alloc, cap, memory)?;

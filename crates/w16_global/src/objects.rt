@@ -1,16 +1,16 @@
 //! The objects of the global heap: an arena over memory of its own.
-ghost use Rattle.std.specs.Prelude.{◌≡◌, ◌≢◌, ◌+◌, ◌-◌, ◌^◌, ◌<◌, ◌≤◌, ◌⊎◌, ℕ, [], Ok, Err, None, Some, length, IfOk, IfErr, OnOk, IfSome, IfNone, IsSomeAnd, option_map, is_some, take};
+ghost use Rattle.std.specs.Prelude.{◌≡◌, ◌≢◌, ◌+◌, ◌-◌, ◌^◌, ◌<◌, ◌≤◌, ◌⊎◌, ℕ, [], Ok, Err, None, Some, length, IfOk, IfErr, OnOk, IfSome, IfNone, IsSomeAnd, option_map, unwrap_or, is_some, take};
 ghost use Rattle.std.specs.FinMap as finmap;
 ghost use Rattle.w16_model.specs.Heap.{IsHeap, object_at, bytes_at, empty_heap, IsMultiple};
 ghost use Rattle.w16_model.specs.Edit.{with_object};
 ghost use Rattle.w16_model.specs.Request.{Allocates, Compacts, compaction_prefix, moved_bytes};
 ghost use Rattle.w16_model.specs.Single.{after_free, after_lock, after_unlock, after_touch, after_newest, after_oldest};
-ghost use Rattle.w16_model.specs.Machine.{slice_at, after_write};
+ghost use Rattle.w16_model.specs.Far.{slice_at, after_write};
 ghost use Rattle.w16_model.specs.Walk.{IsFirstItem, by_its_id};
 ghost use Rattle.w16_region.specs.Bytes.{repeated};
 ghost use Rattle.w16_arena.specs.State.{entry_of};
 ghost use Rattle.w16_arena.specs.Asked.{HasDiscarded, IsStill, first_eligible};
-ghost use Rattle.w16_global.specs.Parts.{IsInside};
+ghost use Rattle.w16_global.specs.Parts.{HasPart};
 
 #[cfg(test)]
 mod tests;
@@ -195,33 +195,42 @@ impl Objects {
         self.arena.to_oldest(id)
     }
 
-    /// Bytes at an address, inside one object's.
-    pub fn view(&self, at: u32, n: u32) -> &[u8]
-        requires { (id : ℕ) × IsInside self.now.heap id at n }
-        ensures { (id : ℕ) → IsInside self.now.heap id at n → IfSome (bytes_at self.now.heap id) (λ bytes. IfSome (finmap.get self.now.heap.places id) (λ place. result.now ≡ slice_at bytes (at - place) n)) }
+    /// A part of an object's bytes, from an offset on.
+    pub fn part(&self, id: u32, at: u32, n: u32) -> &[u8]
+        requires { HasPart self.now.heap id at n }
+        ensures { result.now ≡ slice_at (unwrap_or (bytes_at self.now.heap id) []) at n }
     {
-        self.memory.view(at, n)
+        let Some(block) = self.arena.block(id) else {
+            unreachable!();
+        };
+        self.memory.view(block.at + at, n)
+    }
+
+    /// Replaces bytes of an object, from an offset on.
+    pub fn write(&mut self, id: u32, at: u32, new: &[u8])
+        requires { HasPart self.old.heap id at (length new.now) }
+        ensures { self.new ≡ record self.old { heap = after_write self.old.heap id at new.now } }
+    {
+        let Some(block) = self.arena.block(id) else {
+            unreachable!();
+        };
+        let part = self.memory.view_mut(block.at + at, new.len() as u32);
+        part.copy_from_slice(new);
+    }
+
+    /// Sets bytes of an object, from an offset on, to one byte.
+    pub fn fill(&mut self, id: u32, at: u32, n: u32, byte: u8)
+        requires { HasPart self.old.heap id at n }
+        ensures { self.new ≡ record self.old { heap = after_write self.old.heap id at (repeated n byte) } }
+    {
+        let Some(block) = self.arena.block(id) else {
+            unreachable!();
+        };
+        self.memory.fill(block.at + at, n, byte);
     }
 
     /// How many bytes of the memory were slid, filled or lent to be written so far.
     pub fn written(&self) -> u64 {
         self.memory.written()
-    }
-
-    /// Replaces bytes at an address, inside one object's.
-    pub fn write(&mut self, at: u32, new: &[u8])
-        requires { (id : ℕ) × IsInside self.old.heap id at (length new.now) }
-        ensures { (id : ℕ) → IsInside self.old.heap id at (length new.now) → IfSome (finmap.get self.old.heap.places id) (λ place. self.new ≡ record self.old { heap = after_write self.old.heap id (at - place) new.now }) }
-    {
-        let part = self.memory.view_mut(at, new.len() as u32);
-        part.copy_from_slice(new);
-    }
-
-    /// Sets bytes at an address, inside one object's, to one byte.
-    pub fn fill(&mut self, at: u32, n: u32, byte: u8)
-        requires { (id : ℕ) × IsInside self.old.heap id at n }
-        ensures { (id : ℕ) → IsInside self.old.heap id at n → IfSome (finmap.get self.old.heap.places id) (λ place. self.new ≡ record self.old { heap = after_write self.old.heap id (at - place) (repeated n byte) }) }
-    {
-        self.memory.fill(at, n, byte);
     }
 }

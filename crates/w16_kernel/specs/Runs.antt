@@ -1,55 +1,63 @@
--- Calls and replies as the machine sees them, and runs of the machine.
-use Rattle.std.specs.Prelude.{◌≡◌, ◌≤◌, List, [], ◌∷◌}
-use Rattle.w16_model.specs.World.{World}
-use Rattle.w16_model.specs.Machine as machine
-use Rattle.w16_model.specs.Machine.{Command, Step}
+-- Calls and replies as the machine sees them.
+use Rattle.std.specs.Prelude.{◌≤◌, length}
+use Rattle.w16_model.specs.Calls as calls
+use Rattle.w16_model.specs.Far as far
+use Rattle.w16_machine.specs.Machine as machine
+use Rattle.w16_machine.specs.Machine.{Command}
+use Rattle.w16_machine.specs.Machine.Command.{OfHandles, OfFar}
 use Rattle.w16_kernel.specs.declared.call.Call.{Call}
 use Rattle.w16_kernel.specs.declared.call.Call.TheVariants.{GlobalAlloc, GlobalFree, GlobalLock, GlobalUnlock, GlobalSize, GlobalFlags, GlobalHandle, GetSelectorBase, GetSelectorLimit, GlobalCompact, GlobalLRUNewest, GlobalLRUOldest, Moved, Walk, Read, Write, Fill}
 use Rattle.w16_kernel.specs.declared.call.Reply.{Reply}
 use Rattle.w16_kernel.specs.declared.call.Reply.TheVariants as replies
+use Rattle.w16_kernel.specs.declared.call.Answer.{Answer}
+use Rattle.w16_kernel.specs.declared.call.Answer.TheVariants as answers
+use Rattle.w16_kernel.specs.declared.call.TheConstants.{MOST_READ, MOST_FILLED}
 
 -- the command of a call
 abbrev pub command_of : Call → Command
-command_of (GlobalAlloc flags size) = machine.Command.GlobalAlloc flags size
-command_of (GlobalFree handle) = machine.Command.GlobalFree handle
-command_of (GlobalLock handle) = machine.Command.GlobalLock handle
-command_of (GlobalUnlock handle) = machine.Command.GlobalUnlock handle
-command_of (GlobalSize handle) = machine.Command.GlobalSize handle
-command_of (GlobalFlags handle) = machine.Command.GlobalFlags handle
-command_of (GlobalHandle selector) = machine.Command.GlobalHandle selector
-command_of (GetSelectorBase selector) = machine.Command.GetSelectorBase selector
-command_of (GetSelectorLimit selector) = machine.Command.GetSelectorLimit selector
-command_of (GlobalCompact size) = machine.Command.GlobalCompact size
-command_of (GlobalLRUNewest handle) = machine.Command.GlobalLRUNewest handle
-command_of (GlobalLRUOldest handle) = machine.Command.GlobalLRUOldest handle
-command_of Moved = machine.Command.Moved
-command_of Walk = machine.Command.Walk
-command_of (Read pointer count) = machine.Command.Read pointer count
-command_of (Write pointer bytes) = machine.Command.Write pointer bytes.items
-command_of (Fill pointer count byte) = machine.Command.Fill pointer count byte
+command_of (GlobalAlloc flags size) = OfHandles (calls.HandleCommand.GlobalAlloc flags size)
+command_of (GlobalFree handle) = OfHandles (calls.HandleCommand.GlobalFree handle)
+command_of (GlobalLock handle) = OfHandles (calls.HandleCommand.GlobalLock handle)
+command_of (GlobalUnlock handle) = OfHandles (calls.HandleCommand.GlobalUnlock handle)
+command_of (GlobalSize handle) = OfHandles (calls.HandleCommand.GlobalSize handle)
+command_of (GlobalFlags handle) = OfHandles (calls.HandleCommand.GlobalFlags handle)
+command_of (GlobalHandle selector) = OfHandles (calls.HandleCommand.GlobalHandle selector)
+command_of (GetSelectorBase selector) = OfHandles (calls.HandleCommand.GetSelectorBase selector)
+command_of (GetSelectorLimit selector) = OfHandles (calls.HandleCommand.GetSelectorLimit selector)
+command_of (GlobalCompact size) = OfHandles (calls.HandleCommand.GlobalCompact size)
+command_of (GlobalLRUNewest handle) = OfHandles (calls.HandleCommand.GlobalLRUNewest handle)
+command_of (GlobalLRUOldest handle) = OfHandles (calls.HandleCommand.GlobalLRUOldest handle)
+command_of Moved = OfHandles calls.HandleCommand.Moved
+command_of Walk = OfHandles calls.HandleCommand.Walk
+command_of (Read pointer count) = OfFar (far.FarCommand.Read pointer count)
+command_of (Write pointer bytes) = OfFar (far.FarCommand.Write pointer bytes.now)
+command_of (Fill pointer count byte) = OfFar (far.FarCommand.Fill pointer count byte)
 
 -- the machine's reply
 abbrev pub reply_of : Reply → machine.Reply
 reply_of (replies.Word n) = machine.Reply.Word n
 reply_of (replies.Dword n) = machine.Reply.Dword n
-reply_of (replies.Bytes bytes) = machine.Reply.Bytes bytes.items
+reply_of (replies.Bytes bytes) = machine.Reply.Bytes bytes.now
 reply_of replies.Done = machine.Reply.Done
 reply_of (replies.Fault fault) = machine.Reply.Fault fault
 reply_of (replies.Walk count) = machine.Reply.Walked count
 
+-- and that of a reply that keeps its bytes
+abbrev pub answer_of : Answer → machine.Reply
+answer_of (answers.Word n) = machine.Reply.Word n
+answer_of (answers.Dword n) = machine.Reply.Dword n
+answer_of (answers.Bytes bytes) = machine.Reply.Bytes bytes.items
+answer_of answers.Done = machine.Reply.Done
+answer_of (answers.Fault fault) = machine.Reply.Fault fault
+answer_of (answers.Walk count) = machine.Reply.Walked count
+
 -- a call's numbers are those that a command may have
 abbrev pub IsCall : Call → Type 0
-IsCall (Read pointer count) = count ≤ 1024
-IsCall (Fill pointer count byte) = count ≤ 65536
+IsCall (Read pointer count) = count ≤ MOST_READ
+IsCall (Fill pointer count byte) = count ≤ MOST_FILLED
 IsCall call = Unit {0}
 
--- a step of a run: the command, its reply, and the world after it
-pub record Event : Type 0 where
-  pub command : Command
-  pub reply : machine.Reply
-  pub after : World
-
--- the machine may take these steps, one after another, from old to new
-abbrev pub Run : World → List Event → World → Type 0
-Run old [] new = new ≡ old
-Run old (event ∷ events) new = Step old event.command event.reply event.after × Run event.after events new
+-- a reply has no more bytes than may be asked for
+abbrev pub IsReply : Reply → Type 0
+IsReply (replies.Bytes bytes) = length bytes.now ≤ MOST_READ
+IsReply reply = Unit {0}

@@ -1,13 +1,21 @@
 //! What the machine is asked, and what it answers.
+ghost use Rattle.std.specs.Prelude.{◌≡◌, ◌≤◌, length};
+
 use arrayvec::ArrayVec;
 use w16_model::FarFault;
 
-/// At most 1,024 bytes, in place.
-pub type Chunk = ArrayVec<u8, 1024>;
+/// The most bytes that a `Read` answers.
+pub const MOST_READ: usize = 1024;
 
-/// One command.
-#[derive(Debug, Drop)]
-pub enum Call {
+/// The most bytes that a `Fill` fills.
+pub const MOST_FILLED: u32 = 65_536;
+
+/// Bytes that a `Read` answered, in place.
+pub type Chunk = ArrayVec<u8, MOST_READ>;
+
+/// One command. Its bytes are lent.
+#[derive(Debug, Clone, Copy)]
+pub enum Call<'a> {
     GlobalAlloc { flags: u16, size: u32 },
     GlobalFree { handle: u16 },
     GlobalLock { handle: u16 },
@@ -22,21 +30,62 @@ pub enum Call {
     GlobalLRUOldest { handle: u16 },
     Moved,
     Walk,
-    /// The pointer has a selector in its high word. At most 1,024 bytes are read.
-    Read { pointer: u32, count: u16 },
-    Write { pointer: u32, bytes: Chunk },
-    /// At most 65,536 bytes are filled.
+    /// The pointer has a selector in its high word. At most [`MOST_READ`] bytes are read.
+    Read { pointer: u32, count: u32 },
+    Write { pointer: u32, bytes: &'a [u8] },
+    /// At most [`MOST_FILLED`] bytes are filled.
     Fill { pointer: u32, count: u32, byte: u8 },
 }
 
-/// The answer to one command.
+/// The answer to one command. Its bytes lie in the room that the caller lent.
+#[derive(Debug, Clone, Copy)]
+pub enum Reply<'r> {
+    Word(u16),
+    Dword(u32),
+    Bytes(&'r [u8]),
+    Done,
+    Fault(FarFault),
+    /// So many parts of the heap, which `Kernel::walk_at` tells one by one, and `Kernel::walk_from` from address to address.
+    Walk(u32),
+}
+
+/// A reply that keeps its bytes.
 #[derive(Debug, Drop)]
-pub enum Reply {
+pub enum Answer {
     Word(u16),
     Dword(u32),
     Bytes(Chunk),
     Done,
     Fault(FarFault),
-    /// So many parts of the heap, which `Kernel::walk_at` tells one by one, and `Kernel::walk_from` from address to address.
     Walk(u32),
+}
+
+impl Answer {
+    ghost use Rattle.std.specs.Prelude.{◌≡◌};
+    ghost use Rattle.w16_kernel.specs.Runs.{IsReply, reply_of, answer_of};
+
+    /// The reply with its bytes copied.
+    pub fn of(reply: Reply<'_>) -> Self
+        requires { IsReply reply }
+        ensures { answer_of result ≡ reply_of reply.entry }
+    {
+        match reply {
+            Reply::Word(word) => Answer::Word(word),
+            Reply::Dword(dword) => Answer::Dword(dword),
+            Reply::Bytes(bytes) => Answer::Bytes(chunk_of(bytes)),
+            Reply::Done => Answer::Done,
+            Reply::Fault(fault) => Answer::Fault(fault),
+            Reply::Walk(count) => Answer::Walk(count),
+        }
+    }
+}
+
+/// Bytes in place, of which there are few enough.
+fn chunk_of(bytes: &[u8]) -> Chunk
+    requires { length bytes.now ≤ MOST_READ }
+    ensures { result.items ≡ bytes.now }
+{
+    let mut chunk = Chunk::new();
+    let _ = chunk.try_extend_from_slice(bytes);
+    chunk
 }

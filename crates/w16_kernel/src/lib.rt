@@ -3,8 +3,9 @@
 
 mod call;
 mod kernel;
+mod step;
 
-pub use call::{Call, Chunk, Reply};
+pub use call::{Answer, Call, Chunk, MOST_FILLED, MOST_READ, Reply};
 pub use kernel::Kernel;
 
 #[cfg(test)]

@@ -1,6 +1,6 @@
 ghost use Rattle.w16_kernel.specs.Runs.{IsCall};
 
-use crate::{Call, Chunk, Kernel, Reply};
+use crate::{Call, Kernel, MOST_READ, Reply};
 use std::alloc::{AllocError, Global};
 use std::test::Fail;
 use w16_model::{FarFault, Item, Kind, Owner};
@@ -11,27 +11,31 @@ fn small(alloc: Global) -> Result<Kernel, AllocError> {
 }
 
 /// The reply to a call.
-fn answer(kernel: &mut Kernel, call: &Call) -> Option<Reply>
+fn answer<'r>(
+    kernel: &mut Kernel,
+    call: &Call<'_>,
+    room: &'r mut [u8; MOST_READ],
+) -> Option<Reply<'r>>
     requires { IsCall call.now }
 {
-    kernel.call(call).ok()
+    kernel.call(call, room).ok()
 }
 
 /// The word that a call is answered, or none.
-fn word(kernel: &mut Kernel, call: Call) -> Option<u16>
+fn word(kernel: &mut Kernel, call: Call<'_>) -> Option<u16>
     requires { IsCall call }
 {
-    match answer(kernel, &call) {
+    match answer(kernel, &call, &mut [0; MOST_READ]) {
         Some(Reply::Word(word)) => Some(word),
         _ => None,
     }
 }
 
 /// The double word that a call is answered, or none.
-fn dword(kernel: &mut Kernel, call: Call) -> Option<u32>
+fn dword(kernel: &mut Kernel, call: Call<'_>) -> Option<u32>
     requires { IsCall call }
 {
-    match answer(kernel, &call) {
+    match answer(kernel, &call, &mut [0; MOST_READ]) {
         Some(Reply::Dword(dword)) => Some(dword),
         _ => None,
     }
@@ -134,19 +138,23 @@ fn has_16_slots(rt: HostRuntime) -> Result<(), Fail> {
     Ok(())
 }
 
-/// A write of one byte.
-fn one_byte(pointer: u32, byte: u8) -> Call
-    ensures { IsCall result }
-{
-    let mut bytes = Chunk::new();
-    let _ = bytes.try_push(byte);
-    Call::Write { pointer, bytes }
+/// Whether a write is answered, or the fault that it meets.
+fn write(kernel: &mut Kernel, pointer: u32, bytes: &[u8]) -> Option<Result<(), FarFault>> {
+    match answer(kernel, &Call::Write { pointer, bytes }, &mut [0; MOST_READ]) {
+        Some(Reply::Done) => Some(Ok(())),
+        Some(Reply::Fault(fault)) => Some(Err(fault)),
+        _ => None,
+    }
 }
 
 /// Whether the four bytes at a far pointer are these.
 fn has(kernel: &mut Kernel, pointer: u32, wanted: [u8; 4]) -> bool {
-    match answer(kernel, &Call::Read { pointer, count: 4 }) {
-        Some(Reply::Bytes(bytes)) => bytes.as_slice() == wanted.as_slice(),
+    match answer(
+        kernel,
+        &Call::Read { pointer, count: 4 },
+        &mut [0; MOST_READ],
+    ) {
+        Some(Reply::Bytes(bytes)) => bytes == wanted.as_slice(),
         _ => false,
     }
 }
@@ -156,23 +164,14 @@ fn reads_what_was_written(rt: HostRuntime) -> Result<(), Fail> {
     let mut kernel = small(rt.alloc())?;
     assert_eq!(rt; allocated(&mut kernel, 0x42, 32), Some(0x106));
     assert_eq!(rt; allocated(&mut kernel, 0x42, 32), Some(0x10E));
-    assert!(rt;
-        matches!(
-            answer(&mut kernel, &one_byte(0x0107_001F, 7)),
-            Some(Reply::Done)
-        )
+    assert_eq!(rt; write(&mut kernel, 0x0107_001F, &[7]), Some(Ok(())));
+    assert_eq!(rt;
+        write(&mut kernel, 0x0107_0020, &[8]),
+        Some(Err(FarFault::Limit))
     );
-    assert!(rt;
-        matches!(
-            answer(&mut kernel, &one_byte(0x0107_0020, 8)),
-            Some(Reply::Fault(FarFault::Limit))
-        )
-    );
-    assert!(rt;
-        matches!(
-            answer(&mut kernel, &one_byte(0x0106_0000, 8)),
-            Some(Reply::Fault(FarFault::BadSelector))
-        )
+    assert_eq!(rt;
+        write(&mut kernel, 0x0106_0000, &[8]),
+        Some(Err(FarFault::BadSelector))
     );
     assert!(rt; has(&mut kernel, 0x0107_001C, [0, 0, 0, 7]));
     assert!(rt; has(&mut kernel, 0x010F_0000, [0, 0, 0, 0]));
@@ -214,7 +213,12 @@ fn orders_and_walks(rt: HostRuntime) -> Result<(), Fail> {
         word(&mut kernel, Call::GlobalFree { handle: 0x116 }),
         Some(0)
     );
-    assert!(rt; matches!(answer(&mut kernel, &Call::Walk), Some(Reply::Walk(3))));
+    assert!(rt;
+        matches!(
+            answer(&mut kernel, &Call::Walk, &mut [0; MOST_READ]),
+            Some(Reply::Walk(3))
+        )
+    );
     assert_eq!(rt; kernel.walk_from(0), discardable_at(0, 0x106));
     assert_eq!(rt; kernel.walk_from(1), discardable_at(32, 0x10E));
     assert_eq!(rt;

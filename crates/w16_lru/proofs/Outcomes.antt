@@ -4,9 +4,11 @@ use Rattle.std.proofs.Common.{◌≡◌, ℕ, ◌+◌, ◌-◌, ◌<◌, ◌≤�
 use Rattle.std.proofs.lemmas.Option.{slice_get_within, slice_get_past}
 use Rattle.indexmap.specs.IndexMap.{move_index}
 use Rattle.w16_model.specs.Prefix.{is_member}
-use Rattle.w16_model.specs.Edit.{without, newest, oldest}
-use Rattle.w16_lru.specs.Uses.{Uses, AreUses}
-use Rattle.w16_lru.specs.Kept.{IsKept, uses_of, joined}
+use Rattle.w16_model.specs.Edit.{without}
+use Rattle.w16_lru.specs.declared.End.{End}
+use Rattle.w16_lru.specs.declared.End.TheVariants.{Oldest, Newest}
+use Rattle.w16_lru.specs.Uses.{Uses, AreUses, at_end}
+use Rattle.w16_lru.specs.Kept.{IsKept, uses_of, joined, position_of}
 use Rattle.w16_lru.proofs.Edits.{slice_get-take, take-swap}
 use Rattle.w16_lru.proofs.Places.{found_stands, absent-take, without-absent}
 use Rattle.w16_lru.proofs.Changes.{same_uses, AreUses-kept, without-joined, take-newest, take-oldest, take-removed, joined-member, joined-other, slice_get-joined, without-other}
@@ -90,12 +92,9 @@ module _ (ids : List ℕ) (m : ℕ) (old : Uses) (kept : IsKept ids m) (id at : 
   rest : without id (take m ids) ≡ without id old.ids
   rest = ap (λ (u : Uses). without id u.ids) view ∙ without-joined id old.ids
 
-  pub newest_leaves : new ≡ move_index ids at (m - 1) → uses_of new m ≡ with_ids old (newest id old.ids)
-  newest_leaves moved =
-      same_uses (length new) old.cap (take m new) (newest id old.ids) (long ∙ ap (λ (u : Uses). u.cap) view)
-      (ap (take m) moved ∙ take-newest id ids at kept.apart m kept.within inside there ∙ ap (λ l. l ++ id ∷ []) rest)
-
-  pub oldest_leaves : new ≡ move_index ids at 0 → uses_of new m ≡ with_ids old (oldest id old.ids)
-  oldest_leaves moved =
-      same_uses (length new) old.cap (take m new) (oldest id old.ids) (long ∙ ap (λ (u : Uses). u.cap) view)
-      (ap (take m) moved ∙ take-oldest id ids at kept.apart m kept.within inside there ∙ ap (λ l. id ∷ l) rest)
+  pub end_leaves : (end : End) → new ≡ move_index ids at (position_of end m) → uses_of new m ≡ with_ids old (at_end end id old.ids)
+  end_leaves end moved = same_uses (length new) old.cap (take m new) (at_end end id old.ids) (long ∙ ap (λ (u : Uses). u.cap) view) (ap (take m) moved ∙ by end)
+    where
+      by : (end : End) → take m (move_index ids at (position_of end m)) ≡ at_end end id old.ids
+      by Newest = take-newest id ids at kept.apart m kept.within inside there ∙ ap (λ l. l ++ id ∷ []) rest
+      by Oldest = take-oldest id ids at kept.apart m kept.within inside there ∙ ap (λ l. id ∷ l) rest

@@ -1,7 +1,9 @@
 -- What the code keeps of an order of use: every id once, its members first.
-use Rattle.std.specs.Prelude.{◌≡◌, ◌<◌, ◌≤◌, ◌^◌, ℕ, List, [], ◌∷◌, ◌++◌, if◌then◌else◌, nat_eq, nat_lt, length, take, AllPairs}
+use Rattle.std.specs.Prelude.{◌≡◌, ◌-◌, ◌<◌, ◌≤◌, ◌^◌, ℕ, List, [], ◌∷◌, ◌++◌, if◌then◌else◌, nat_eq, nat_lt, length, take, AllPairs}
 use Rattle.std.specs.List.{list_any}
 use Rattle.w16_model.specs.Prefix.{is_member}
+use Rattle.w16_lru.specs.declared.End.{End}
+use Rattle.w16_lru.specs.declared.End.TheVariants.{Oldest, Newest}
 use Rattle.w16_lru.specs.Uses.{Uses}
 
 pub record IsKept (positions : List ℕ) (members : ℕ) : Type 0 where
@@ -18,3 +20,8 @@ uses_of positions members = record { cap = length positions; ids = take members 
 -- the ids of the members once an id is one of them: a member keeps its place, and any other goes behind them
 abbrev pub joined : ℕ → List ℕ → List ℕ
 joined id ids = if is_member id ids then ids else ids ++ id ∷ []
+
+-- where the member at an end stands
+abbrev pub position_of : End → ℕ → ℕ
+position_of Oldest members = 0
+position_of Newest members = members - 1

@@ -3,8 +3,8 @@
 
 ghost use Rattle.std.specs.Prelude.{◌≡◌, ◌<◌, [], Some, length, slice_get, IfOk};
 ghost use Rattle.w16_model.specs.Edit.{newest, oldest, without};
-ghost use Rattle.w16_lru.specs.Kept.{joined};
-ghost use Rattle.w16_lru.specs.Uses.{AreUses};
+ghost use Rattle.w16_lru.specs.Kept.{joined, position_of};
+ghost use Rattle.w16_lru.specs.Uses.{AreUses, at_end};
 
 #[cfg(test)]
 mod tests;
@@ -12,6 +12,13 @@ mod tests;
 use indexmap::IndexSet;
 use std::alloc::{AllocError, Global};
 use std::marker::Model;
+
+/// The ends of an order.
+#[derive(Clone, Copy, Debug)]
+pub enum End {
+    Oldest,
+    Newest,
+}
 
 /// The ids below a number that are in use, oldest first.
 #[derive(Drop)]
@@ -76,8 +83,7 @@ impl Order {
         ensures value { self.new ≡ record self.old { ids = newest id self.old.ids } }
         ensures uses { AreUses self.new }
     {
-        let at = self.join(id);
-        self.positions.move_index(at, self.members - 1);
+        self.to_end(id, End::Newest);
     }
 
     /// An id becomes the oldest member, whether it was one or not.
@@ -86,8 +92,18 @@ impl Order {
         ensures value { self.new ≡ record self.old { ids = oldest id self.old.ids } }
         ensures uses { AreUses self.new }
     {
+        self.to_end(id, End::Oldest);
+    }
+
+    /// An id becomes the member at an end, whether it was one or not.
+    pub fn to_end(&mut self, id: u32, end: End)
+        requires { id < self.old.cap }
+        ensures value { self.new ≡ record self.old { ids = at_end end id self.old.ids } }
+        ensures uses { AreUses self.new }
+    {
         let at = self.join(id);
-        self.positions.move_index(at, 0);
+        self.positions
+            .move_index(at, position_of(end, self.members));
     }
 
     /// An id is no member any more, if it was one.
@@ -122,5 +138,16 @@ impl Order {
         self.positions.swap_indices(at, behind);
         self.members += 1;
         behind
+    }
+}
+
+/// The position of the member at an end.
+fn position_of(end: End, members: usize) -> usize
+    requires { 0 < members }
+    ensures { result ≡ position_of end members }
+{
+    match end {
+        End::Oldest => 0,
+        End::Newest => members - 1,
     }
 }

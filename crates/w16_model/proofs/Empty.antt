@@ -1,11 +1,11 @@
--- The world in which nothing is allocated.
+-- The handles in which nothing is allocated.
 use Rattle.std.proofs.Common.{◌≡◌, ℕ, ◌<◌, IfSome, All, Option, Some, None, is_some, refl, sym, ap, ◌∙◌, subst, arith}
 use Rattle.std.specs.Ordering.{nat_cmp}
 use Rattle.std.specs.FinMap.{get-empty}
 use Rattle.w16_model.specs.declared.Block.{Block}
 use Rattle.w16_model.specs.declared.TheConstants.{GRAIN}
 use Rattle.w16_model.specs.Heap.{Object, IsHeap, IsCounted, IsMultiple, empty_heap, blocks, is_in_order}
-use Rattle.w16_model.specs.World.{IsSlot, empty_world}
+use Rattle.w16_model.specs.Handles.{IsSlot, empty_handles}
 use Rattle.w16_model.specs.Law.{EmptyLaw}
 use Rattle.w16_model.proofs.Gaps.{Each-from, All-from_Each}
 use Rattle.w16_model.proofs.Heaps.{IsBlockOf, member_block}
@@ -32,6 +32,6 @@ empty_law memory slots few = record {
   low = refl;
   grain = refl;
   few = few;
-  slotted = λ q. subst (λ (o : Option Object). IfSome o (λ _. IsSlot (empty_world memory slots) q)) (sym (get-empty nat_cmp q)) tt;
+  slotted = λ q. subst (λ (o : Option Object). IfSome o (λ _. IsSlot (empty_handles memory slots) q)) (sym (get-empty nat_cmp q)) tt;
   attributed = λ q. ap is_some (get-empty nat_cmp q) ∙ ap (λ (o : Option Object). is_some o) (sym (get-empty nat_cmp q));
 }

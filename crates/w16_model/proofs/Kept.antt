@@ -17,7 +17,7 @@ use Rattle.w16_model.specs.Prefix.{is_member}
 use Rattle.w16_model.specs.Heap.{Heap, Object, IsHeap, IsCounted, IsMultiple, blocks, object_at, hold_of, is_in_order, is_fixed, is_discardable}
 use Rattle.w16_model.specs.Edit.{with_object, with_ordered, without, newest, oldest, touched, removed}
 use Rattle.w16_model.specs.Single.{after_touch, refused_order}
-use Rattle.w16_model.specs.Machine.{after_write, with_slice}
+use Rattle.w16_model.specs.Far.{after_write, with_slice}
 use Rattle.w16_model.proofs.Gaps.{Each-at, Each-from, Each-from_All, All-from_Each, EachPair-from_AllPairs, AllPairs-from_EachPair, pairs_filter}
 use Rattle.w16_model.proofs.Heaps.{IsBlockOf, block_member, member_block, tied_itself, untied}
 use Rattle.w16_model.proofs.Orders.{member_without, member_newest, member_oldest, member_back, newest_differ, oldest_differ}

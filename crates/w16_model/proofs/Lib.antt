@@ -16,9 +16,10 @@ pub mod Places
 pub mod Tables
 pub mod Sound
 pub mod Ranges
-pub mod Names
+pub mod Naming
 pub mod Kept
-pub mod Worlds
+pub mod Accesses
+pub mod KeptHandles
 pub mod Empty
 pub mod Walks
 pub mod Listed

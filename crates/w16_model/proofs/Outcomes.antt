@@ -11,8 +11,8 @@ use Rattle.w16_model.specs.Heap.{Heap, Object, IsHeap, blocks, object_at, hold_o
 use Rattle.w16_model.specs.Edit.{with_newest}
 use Rattle.w16_model.specs.Request.{Settles, stays_for, Allocates, IsNew, Request, prefix_of}
 use Rattle.w16_model.specs.Single.{Enters}
-use Rattle.w16_model.specs.World.{World, IsWorld}
-use Rattle.w16_model.specs.Machine.{has_flag, way_asked, kind_asked, rounded_size}
+use Rattle.w16_model.specs.Handles.{Handles, AreHandles}
+use Rattle.w16_model.specs.Calls.{has_flag, way_asked, kind_asked, rounded_size}
 use Rattle.w16_model.specs.Law.{AddressLaw, StandsStill, OutcomeLaw}
 use Rattle.w16_model.proofs.Gaps.{Each-at, Each-from_All}
 use Rattle.w16_model.proofs.Heaps.{IsBlockOf, block_member}
@@ -74,11 +74,11 @@ address_law old new is k = (
 )
 
 -- what an answered allocation has made
-abbrev Made : World → ℕ → ℕ → ℕ → Heap → Bool → Type 0
+abbrev Made : Handles → ℕ → ℕ → ℕ → Heap → Bool → Type 0
 Made old flags size slot new absent = MatchBool absent (Enters old.heap slot (kind_asked flags) new) (Allocates old.heap slot (rounded_size size) (kind_asked flags) 0 (way_asked flags) true new)
 
 -- An allocation that was answered is none of those that are refused.
-module _ (old : World) (is : IsWorld old) (flags size : ℕ) where
+module _ (old : Handles) (is : AreHandles old) (flags size : ℕ) where
   -- it had a prefix
   has_prefix : (slot : ℕ) (way : Way) (p : Option ℕ) (asked : Object → Type 0) (order : Object → List ℕ → List ℕ) (new : Heap) → Request old.heap slot way p asked order true new → p ≡ None → ⊥
   has_prefix slot way None asked order new r none = false≢true (sym r.0)

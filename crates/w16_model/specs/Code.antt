@@ -1,4 +1,4 @@
--- By what a proof tells worlds apart, so that a world can be the value of a model.
+-- By what a proof tells handles apart, so that they can be the value of a model.
 use Rattle.std.specs.Prelude.{◌≡◌, ℕ, zero, suc, List, Option, refl}
 use Rattle.std.specs.Coded.{Coded, code_by, coded×, coded_ℕ, coded_bool, coded_list, coded_option}
 use Rattle.std.specs.Ordering.{nat_cmp}
@@ -8,7 +8,7 @@ use Rattle.w16_model.specs.declared.Kind.{Kind}
 use Rattle.w16_model.specs.declared.Kind.TheVariants.{Fixed, Moveable, Discardable}
 use Rattle.w16_model.specs.Heap.{Heap, Object}
 use Rattle.w16_model.specs.declared.Attributes.{Attributes}
-use Rattle.w16_model.specs.World.{World}
+use Rattle.w16_model.specs.Handles.{Handles}
 
 abbrev pub number_of_kind : Kind → ℕ
 number_of_kind Fixed = 0
@@ -39,6 +39,6 @@ heap_code = code_by (ℕ × (ℕ × (ℕ × (FinMap nat_cmp Object × (FinMap na
 abbrev pub attributes_code : Coded Attributes
 attributes_code = code_by _ coded_bool (λ a. a.shared) (λ b. record { shared = b }) (λ _. refl)
 
-abbrev pub world_code : Coded World
-world_code = code_by (ℕ × (Heap × (FinMap nat_cmp Attributes × ℕ))) (coded× coded_ℕ (coded× heap_code (coded× (finmap.code coded_ℕ attributes_code) coded_ℕ)))
+abbrev pub handles_code : Coded Handles
+handles_code = code_by (ℕ × (Heap × (FinMap nat_cmp Attributes × ℕ))) (coded× coded_ℕ (coded× heap_code (coded× (finmap.code coded_ℕ attributes_code) coded_ℕ)))
     (λ w. (w.slots, (w.heap, (w.attributes, w.moved)))) (λ p. record { slots = p.0; heap = p.1.0; attributes = p.1.1.0; moved = p.1.1.1 }) (λ _. refl)

@@ -17,8 +17,9 @@ use Rattle.w16_model.specs.Edit.{with_ordered}
 use Rattle.w16_model.specs.Request.{Settles, discarded, stays_for}
 use Rattle.w16_model.specs.Table.{Table, IsTable, IsSound, heap_in, IsSameOutside}
 use Rattle.w16_model.specs.Walk.{IsWalk}
-use Rattle.w16_model.specs.World.{World, IsWorld, empty_world, slot_of_handle, slot_of_selector, handle_of, selector_of}
-use Rattle.w16_model.specs.Machine.{Command, Reply, Step, IsCommand, IsRefusedAlloc, AnswersAlloc}
+use Rattle.w16_model.specs.Handles.{Handles, AreHandles, empty_handles, slot_of_handle, slot_of_selector, handle_of, selector_of}
+use Rattle.w16_model.specs.Calls.{HandleCommand, Answer, HandleStep, IsRefusedAlloc, AnswersAlloc}
+use Rattle.w16_model.specs.Far.{FarCommand, FarAnswer, IsFarCommand, FarStep}
 
 -- The figures.
 
@@ -153,7 +154,7 @@ AddressLaw = (old new : Heap) → IsHeap old → (k : ℕ)
 
 -- an allocation isn't both refused and answered
 abbrev pub OutcomeLaw : Type 0
-OutcomeLaw = (old new : World) (flags size handle : ℕ) → IsWorld old → AnswersAlloc old flags size handle new → IsRefusedAlloc old flags size → ⊥
+OutcomeLaw = (old new : Handles) (flags size handle : ℕ) → AreHandles old → AnswersAlloc old flags size handle new → IsRefusedAlloc old flags size → ⊥
 
 -- Walks.
 
@@ -176,18 +177,22 @@ SoundLaw = (t : Table) (memory : List ℕ) → IsSound t → t.hi ≤ length mem
 abbrev pub RangeLaw : Type 0
 RangeLaw = (t : Table) (lo hi : ℕ) (memory after : List ℕ) → IsTable t → IsSameOutside lo hi memory after → (t.hi ≤ lo → heap_in t after ≡ heap_in t memory) × (hi ≤ t.lo → heap_in t after ≡ heap_in t memory)
 
--- The world.
+-- Handles.
 
 -- the look-ups of handles and selectors find the object that has them, and no other
 abbrev pub NamesLaw : Type 0
-NamesLaw = (world : World) (name slot : ℕ)
-    → ((slot_of_handle world name ≡ Some slot) ↔ IsSomeAnd (object_at world.heap slot) (λ o. name ≡ handle_of o.kind slot))
-    × ((slot_of_selector world name ≡ Some slot) ↔ IsSomeAnd (object_at world.heap slot) (λ _. name ≡ selector_of slot))
+NamesLaw = (handles : Handles) (name slot : ℕ)
+    → ((slot_of_handle handles name ≡ Some slot) ↔ IsSomeAnd (object_at handles.heap slot) (λ o. name ≡ handle_of o.kind slot))
+    × ((slot_of_selector handles name ≡ Some slot) ↔ IsSomeAnd (object_at handles.heap slot) (λ _. name ≡ selector_of slot))
 
--- the world in which nothing is allocated is one
+-- the handles of a heap in which nothing is allocated are such
 abbrev pub EmptyLaw : Type 0
-EmptyLaw = (memory slots : ℕ) → slots ≤ MOST_SLOTS → IsWorld (empty_world memory slots)
+EmptyLaw = (memory slots : ℕ) → slots ≤ MOST_SLOTS → AreHandles (empty_handles memory slots)
 
--- each step keeps what holds of every world: no two objects share a byte, and the rest
-abbrev pub WorldLaw : Type 0
-WorldLaw = (old new : World) (command : Command) (reply : Reply) → IsWorld old → IsCommand command → Step old command reply new → IsWorld new
+-- each call keeps what holds of handles: no two objects share a byte, and the rest
+abbrev pub HandleLaw : Type 0
+HandleLaw = (old new : Handles) (command : HandleCommand) (answer : Answer) → AreHandles old → HandleStep old command answer new → AreHandles new
+
+-- and so does each far access
+abbrev pub FarLaw : Type 0
+FarLaw = (old new : Handles) (command : FarCommand) (answer : FarAnswer) → AreHandles old → IsFarCommand command → FarStep old command answer new → AreHandles new

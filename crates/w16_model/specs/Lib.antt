@@ -5,9 +5,10 @@ pub mod Heap
 pub mod Edit
 pub mod Request
 pub mod Single
-pub mod World
-pub mod Machine
+pub mod Handles
 pub mod Walk
+pub mod Calls
+pub mod Far
 pub mod Law
 pub mod Table
 pub mod Code

@@ -6,7 +6,6 @@ use Rattle.w16_model.specs.declared.Item.{Item}
 use Rattle.w16_model.specs.declared.Owner.{Owner}
 use Rattle.w16_model.specs.Gap.{IsHole}
 use Rattle.w16_model.specs.Heap.{Heap, blocks, object_at}
-use Rattle.w16_model.specs.World.{World, handle_of}
 
 -- the object of an id has just these bytes, and is what the owner says
 pub record HasBytes (heap : Heap) (id at size : ℕ) (owner : Owner) : Type 0 where
@@ -42,7 +41,3 @@ IsItemCount name heap count = (items : List Item) → IsWalk name heap items →
 -- an object's name in a heap of its own: its id
 abbrev pub by_its_id : Kind → ℕ → ℕ
 by_its_id kind id = id
-
--- the walk of a world names objects by their handles
-abbrev pub IsWorldWalk : World → List Item → Type 0
-IsWorldWalk world items = IsWalk handle_of world.heap items

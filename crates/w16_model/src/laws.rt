@@ -1,5 +1,5 @@
 //! The laws of the definitions. Each function does nothing: its contract is the law.
-ghost use Rattle.w16_model.specs.Law.{AreFigures, AreFlags, AddressLaw, OutcomeLaw, GapListLaw, RisingLaw, LongestHoleLaw, HoleAfterLaw, PinnedLaw, LargestLaw, RoomLaw, LongerLaw, LeastLaw, MoreDiscardsLaw, DiscardedLaw, OthersLaw, WalkLaw, SoundLaw, RangeLaw, NamesLaw, EmptyLaw, WorldLaw};
+ghost use Rattle.w16_model.specs.Law.{AreFigures, AreFlags, AddressLaw, OutcomeLaw, GapListLaw, RisingLaw, LongestHoleLaw, HoleAfterLaw, PinnedLaw, LargestLaw, RoomLaw, LongerLaw, LeastLaw, MoreDiscardsLaw, DiscardedLaw, OthersLaw, WalkLaw, SoundLaw, RangeLaw, NamesLaw, EmptyLaw, HandleLaw, FarLaw};
 
 /// The figures of the profile and the flags of the manual are these numbers. Definitions and code share the constants, so only this law
 /// would see a wrong one.
@@ -99,9 +99,10 @@ pub fn names_are_exact()
     ensures { NamesLaw }
 {}
 
-/// The world in which nothing is allocated is one, and each step keeps what holds of every world: no two objects share a byte, each stands
-/// in memory, and the rest.
-pub fn steps_keep_worlds()
+/// The handles of a heap in which nothing is allocated are such, and each call and each far access keeps what holds of handles: no two
+/// objects share a byte, each stands in memory, and the rest.
+pub fn steps_keep_handles()
     ensures begin { EmptyLaw }
-    ensures step { WorldLaw }
+    ensures calls { HandleLaw }
+    ensures accesses { FarLaw }
 {}

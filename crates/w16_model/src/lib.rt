@@ -139,6 +139,7 @@ pub const GMEM_DDESHARE: u16 = 0x2000;
 pub const GMEM_DISCARDED: u16 = 0x4000;
 
 pub mod laws;
+pub mod names;
 mod plain;
 
 pub use plain::Snapshot;

@@ -1,4 +1,5 @@
 pub mod Bytes
+pub mod Parts
 mod Lends
 mod Pairs
 mod Frames

@@ -10,7 +10,7 @@ use arrayvec::ArrayVec;
 use std::alloc::{AllocError, Global};
 use std::process::Abort;
 use std::test::Fail;
-use w16_kernel::{Call, Chunk, Kernel, Reply};
+use w16_kernel::{Answer, Call, Kernel};
 use w16_model::MOST_SLOTS;
 use w16_script::{RunFault, run};
 
@@ -146,11 +146,9 @@ fn registers_are_answered_for(rt: HostRuntime) -> Result<(), Fail> {
 }
 
 /// One object's life as calls.
-fn life() -> [Call; 6]
+fn life() -> [Call<'static>; 6]
     ensures { All IsCall result }
 {
-    let mut bytes = Chunk::new();
-    let _ = bytes.try_extend_from_slice(b"NE");
     [
         Call::GlobalAlloc {
             flags: 0x42,
@@ -159,7 +157,7 @@ fn life() -> [Call; 6]
         Call::GlobalLock { handle: 0x106 },
         Call::Write {
             pointer: 0x0107_0000,
-            bytes,
+            bytes: b"NE",
         },
         Call::Read {
             pointer: 0x0107_0000,
@@ -174,15 +172,15 @@ fn life() -> [Call; 6]
 fn a_life_by_calls(rt: HostRuntime) -> Result<(), Fail> {
     let mut kernel = Kernel::new(rt.alloc(), 4096, 16)?;
     let calls = life();
-    let replies = kernel.run_calls(calls.as_slice())?;
+    let answers = kernel.run_calls(calls.as_slice())?;
     let [
-        Reply::Word(handle),
-        Reply::Dword(pointer),
-        Reply::Done,
-        Reply::Bytes(bytes),
-        Reply::Word(locks),
-        Reply::Word(freed),
-    ] = replies.as_slice()
+        Answer::Word(handle),
+        Answer::Dword(pointer),
+        Answer::Done,
+        Answer::Bytes(bytes),
+        Answer::Word(locks),
+        Answer::Word(freed),
+    ] = answers.as_slice()
     else {
         return rt.abort();
     };

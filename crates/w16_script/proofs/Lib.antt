@@ -3,6 +3,8 @@ pub mod NumberLemmas
 pub mod RegisterLemmas
 pub mod OneNumberLemmas
 pub mod ArgumentLemmas
+pub mod DigitLemmas
+pub mod StageLemmas
 pub mod ReadingLemmas
 pub mod SpellingLemmas
 pub mod PrintLemmas

@@ -8,15 +8,15 @@ use Rattle.std.proofs.lemmas.Bool.Decides.{nat_tests}
 use Rattle.std.proofs.lemmas.List.Sums.{list_all-from_AllPass}
 use Rattle.hex.specs.Hex.{is_hex_digit}
 use Rattle.hex.proofs.HexLemmas.{decode_of-ok}
-use Rattle.w16_model.specs.Machine.{Command}
+use Rattle.w16_machine.specs.Machine.{Command}
 use Rattle.w16_script.specs.declared.name.Name.{Name}
 use Rattle.w16_script.specs.declared.name.Name.TheVariants as name
-use Rattle.w16_script.specs.declared.arguments.Shape.{Shape}
-use Rattle.w16_script.specs.declared.arguments.Shape.TheVariants as shape
+use Rattle.w16_script.specs.declared.arguments.Parameter.{Parameter}
+use Rattle.w16_script.specs.declared.arguments.Parameter.TheVariants as p
 use Rattle.w16_script.specs.Registers.{IsRegister}
 use Rattle.w16_script.specs.Words.{is_blank, with_byte, words_of}
 use Rattle.w16_script.specs.Numbers.{is_digit, IsLiteral, IsForm, IsNumber}
-use Rattle.w16_script.specs.Grammar.{Arguments, IsBytes, IsArguments, GoesTo, Spells, Said, Reads, text_of, name_of, shape_of, arguments_of}
+use Rattle.w16_script.specs.Grammar.{Argument, IsBytes, IsArgument, AreArguments, GoesTo, Spells, Said, Reads, text_of, parameters_of}
 use Rattle.w16_script.specs.Laws.{is_plain}
 use Rattle.w16_script.proofs.RegisterLemmas.{two_digits}
 use Rattle.w16_script.proofs.OneNumberLemmas.{both}
@@ -59,31 +59,13 @@ bytes_plain word bytes h =
 
 name_plain : (n : Name) → list_all is_plain (text_of n) ≡ true
 name_plain name.GlobalAlloc = refl
-name_plain name.GlobalFree = refl
-name_plain name.GlobalLock = refl
-name_plain name.GlobalUnlock = refl
-name_plain name.GlobalSize = refl
-name_plain name.GlobalFlags = refl
-name_plain name.GlobalHandle = refl
-name_plain name.GetSelectorBase = refl
-name_plain name.GetSelectorLimit = refl
-name_plain name.GlobalCompact = refl
-name_plain name.GlobalLRUNewest = refl
-name_plain name.GlobalLRUOldest = refl
-name_plain name.Moved = refl
-name_plain name.Walk = refl
-name_plain name.Read = refl
-name_plain name.Write = refl
-name_plain name.Fill = refl
+name_plain n = refl
 
 -- Words and lines.
 
 -- each byte of each word is plain
 abbrev are_plain : List (List ℕ) → Bool
 are_plain words = list_all (list_all is_plain) words
-
-pair_plain : (u v : List ℕ) → list_all is_plain u ≡ true → list_all is_plain v ≡ true → are_plain (u ∷ v ∷ []) ≡ true
-pair_plain u v p q = joined (list_all is_plain u) (are_plain (v ∷ [])) p (joined (list_all is_plain v) true q refl)
 
 register_plain : (word : List ℕ) (r : ℕ) → IsRegister word r → list_all is_plain word ≡ true
 register_plain word r (small, is) = elim (cases_lt r 10) [
@@ -108,16 +90,19 @@ number_plain registers word n (inl literal, small) = literal_plain word n litera
 number_plain registers word n (inr h, small) =
     rw h.whole (all_append is_plain h.name h.suffix (register_plain h.name h.register h.named) (form_plain (slice_index registers h.register) h.suffix n h.form))
 
-arguments_plain : (registers : List ℕ) (words : List (List ℕ)) (s : Shape) (a : Arguments) → IsArguments registers words s a → are_plain words ≡ true
-arguments_plain registers [] shape.Nothing Arguments.Nothing h = refl
-arguments_plain registers (u ∷ []) shape.Dword (Arguments.Dword d) h = joined (list_all is_plain u) true (number_plain registers u d h.0) refl
-arguments_plain registers (u ∷ []) shape.Word (Arguments.Word w) h = joined (list_all is_plain u) true (number_plain registers u w h.0) refl
-arguments_plain registers (u ∷ v ∷ []) shape.WordDword (Arguments.WordDword w d) h = pair_plain u v (number_plain registers u w h.0.0) (number_plain registers v d h.1.0)
-arguments_plain registers (u ∷ v ∷ []) shape.DwordCount (Arguments.DwordCount d n) h = pair_plain u v (number_plain registers u d h.0.0) (number_plain registers v n h.1.0)
-arguments_plain registers (u ∷ v ∷ []) shape.DwordBytes (Arguments.DwordBytes d bytes) h = pair_plain u v (number_plain registers u d h.0.0) (bytes_plain v bytes h.1)
-arguments_plain registers (u ∷ v ∷ w ∷ []) shape.DwordCountByte (Arguments.DwordCountByte d n b) h =
-    joined (list_all is_plain u) (are_plain (v ∷ w ∷ [])) (number_plain registers u d h.0.0) (pair_plain v w (number_plain registers v n h.1.0) (number_plain registers w b h.2.0))
-arguments_plain registers words s a h = absurd h
+argument_plain : (registers word : List ℕ) (parameter : Parameter) (a : Argument) → IsArgument registers word parameter a → list_all is_plain word ≡ true
+argument_plain registers word p.Word (Argument.Word n) h = number_plain registers word n h.0
+argument_plain registers word p.Dword (Argument.Dword n) h = number_plain registers word n h.0
+argument_plain registers word (p.Count most) (Argument.Count n) h = number_plain registers word n h.0
+argument_plain registers word p.Byte (Argument.Byte n) h = number_plain registers word n h.0
+argument_plain registers word p.Bytes (Argument.Bytes bytes) h = bytes_plain word bytes h
+argument_plain registers word parameter a h = absurd h
+
+arguments_plain : (registers : List ℕ) (words : List (List ℕ)) (parameters : List Parameter) (a : List Argument) → AreArguments registers words parameters a → are_plain words ≡ true
+arguments_plain registers [] [] [] h = refl
+arguments_plain registers (word ∷ words) (parameter ∷ parameters) (a ∷ more) h =
+    joined (list_all is_plain word) (are_plain words) (argument_plain registers word parameter a h.0) (arguments_plain registers words parameters more h.1)
+arguments_plain registers words parameters a h = absurd h
 
 goes_plain : (words : List (List ℕ)) (target : Option ℕ) (rest : List (List ℕ)) → GoesTo words target rest → are_plain rest ≡ true → are_plain words ≡ true
 goes_plain words None rest e h = rw e h
@@ -125,9 +110,8 @@ goes_plain words (Some r) rest (word, named, whole) h = rw whole (joined (list_a
 
 spelled_plain : (registers : List ℕ) (words : List (List ℕ)) (target : Option ℕ) (command : Command) → Spells registers words target command → are_plain words ≡ true
 spelled_plain registers words target command h =
-    let arguments = arguments_plain registers h.arguments (shape_of (name_of command)) (arguments_of command) h.right in
-    goes_plain words target (text_of (name_of command) ∷ h.arguments) h.goes
-    (joined (list_all is_plain (text_of (name_of command))) (are_plain h.arguments) (name_plain (name_of command)) arguments)
+    let arguments = arguments_plain registers h.rest (parameters_of h.name) h.makes.arguments h.makes.right in
+    goes_plain words target (text_of h.name ∷ h.rest) h.goes (joined (list_all is_plain (text_of h.name)) (are_plain h.rest) (name_plain h.name) arguments)
 
 -- a byte that was put before words is plain, and so are the words
 with_byte-parts : (byte : ℕ) (rest : List ℕ) (words : List (List ℕ)) → are_plain (with_byte byte rest words) ≡ true → (is_plain byte ≡ true) × (are_plain words ≡ true)

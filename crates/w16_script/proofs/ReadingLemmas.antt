@@ -1,169 +1,62 @@
 -- A line has only one reading.
-use Rattle.std.proofs.Common.{◌≡◌, ℕ, ◌^◌, List, [], ◌∷◌, Option, Some, None, subst, sym, ap, ◌∙◌, refl, arith, ◌<◌, get_or, lit<}
+use Rattle.std.proofs.Common.{◌≡◌, ℕ, List, [], ◌∷◌, Option, Some, None, subst, sym, ap, ◌∙◌, refl, arith, get_or}
 use Rattle.std.specs.Fmt.{decimal}
 use Rattle.std.proofs.lemmas.Fmt.{decimal_injective}
-use Rattle.std.specs.Prelude.{codes, if◌then◌else◌}
+use Rattle.std.specs.Prelude.{codes, if◌then◌else◌, ◌==◌}
 use Rattle.std.specs.Str.{bytes_eq}
 use Rattle.hex.proofs.HexLemmas.{decode_of-same}
-use Rattle.w16_model.specs.Machine.{Command}
 use Rattle.w16_script.specs.declared.name.Name.{Name}
 use Rattle.w16_script.specs.declared.name.Name.TheVariants as name
-use Rattle.w16_script.specs.declared.arguments.Shape.{Shape}
-use Rattle.w16_script.specs.declared.arguments.Shape.TheVariants as shape
+use Rattle.w16_script.specs.declared.arguments.Parameter.{Parameter}
+use Rattle.w16_script.specs.declared.arguments.Parameter.TheVariants as p
+use Rattle.w16_machine.specs.Machine.{Command}
 use Rattle.w16_script.specs.Words.{words_of}
-use Rattle.w16_script.specs.Grammar.{Arguments, IsNumberBelow, IsArguments, GoesTo, Spells, Said, Reads, text_of, name_of, shape_of, arguments_of, is_silent}
+use Rattle.w16_script.specs.Grammar.{Argument, IsArgument, AreArguments, GoesTo, Makes, Spells, Said, Reads, text_of, parameters_of, command_with, is_silent, all_names}
 use Rattle.w16_script.proofs.RegisterLemmas.{clash}
 use Rattle.w16_script.proofs.OneNumberLemmas.{number-same}
 
-number-one : (registers word : List ℕ) (limit m n : ℕ) → IsNumberBelow registers word limit m → IsNumberBelow registers word limit n → m ≡ n
-number-one registers word limit m n p q = number-same registers word m n p.0 q.0
-
 -- Arguments.
 
-arguments-one : (registers : List ℕ) (words : List (List ℕ)) (s : Shape) (a b : Arguments) → IsArguments registers words s a → IsArguments registers words s b → a ≡ b
-arguments-one registers [] shape.Nothing Arguments.Nothing Arguments.Nothing p q = refl
-arguments-one registers (u ∷ []) shape.Dword (Arguments.Dword w) (Arguments.Dword x) p q = ap Arguments.Dword (number-one registers u (2 ^ 32) w x p q)
-arguments-one registers (u ∷ []) shape.Word (Arguments.Word w) (Arguments.Word x) p q = ap Arguments.Word (number-one registers u (2 ^ 16) w x p q)
-arguments-one registers (u ∷ v ∷ []) shape.WordDword (Arguments.WordDword w d) (Arguments.WordDword x e) p q =
-    let first = number-one registers u (2 ^ 16) w x p.0 q.0 in
-    let second = number-one registers v (2 ^ 32) d e p.1 q.1 in
+argument-one : (registers word : List ℕ) (parameter : Parameter) (a b : Argument) → IsArgument registers word parameter a → IsArgument registers word parameter b → a ≡ b
+argument-one registers word p.Word (Argument.Word m) (Argument.Word n) h k = ap Argument.Word (number-same registers word m n h.0 k.0)
+argument-one registers word p.Dword (Argument.Dword m) (Argument.Dword n) h k = ap Argument.Dword (number-same registers word m n h.0 k.0)
+argument-one registers word (p.Count most) (Argument.Count m) (Argument.Count n) h k = ap Argument.Count (number-same registers word m n h.0 k.0)
+argument-one registers word p.Byte (Argument.Byte m) (Argument.Byte n) h k = ap Argument.Byte (number-same registers word m n h.0 k.0)
+argument-one registers word p.Bytes (Argument.Bytes s) (Argument.Bytes t) h k = ap Argument.Bytes (decode_of-same word s t h.0 k.0)
+argument-one registers word parameter a b h k = absurd (assumption (h, k))
+
+pub arguments-one : (registers : List ℕ) (words : List (List ℕ)) (parameters : List Parameter) (a b : List Argument) → AreArguments registers words parameters a → AreArguments registers words parameters b → a ≡ b
+arguments-one registers [] [] [] [] h k = refl
+arguments-one registers (word ∷ words) (parameter ∷ parameters) (a ∷ as_) (b ∷ bs) h k =
+    let first = argument-one registers word parameter a b h.0 k.0 in
+    let rest = arguments-one registers words parameters as_ bs h.1 k.1 in
     cc
-arguments-one registers (u ∷ v ∷ []) shape.DwordCount (Arguments.DwordCount w d) (Arguments.DwordCount x e) p q =
-    let first = number-one registers u (2 ^ 32) w x p.0 q.0 in
-    let second = number-one registers v 1025 d e p.1 q.1 in
-    cc
-arguments-one registers (u ∷ v ∷ []) shape.DwordBytes (Arguments.DwordBytes w d) (Arguments.DwordBytes x e) p q =
-    let first = number-one registers u (2 ^ 32) w x p.0 q.0 in
-    let second = decode_of-same v d e p.1.0 q.1.0 in
-    cc
-arguments-one registers (u ∷ v ∷ w ∷ []) shape.DwordCountByte (Arguments.DwordCountByte d m b) (Arguments.DwordCountByte e n c) p q =
-    let first = number-one registers u (2 ^ 32) d e p.0 q.0 in
-    let second = number-one registers v 65537 m n p.1 q.1 in
-    let third = number-one registers w 256 b c p.2 q.2 in
-    cc
-arguments-one registers words s a b p q = absurd (assumption (p, q))
+arguments-one registers words parameters a b h k = absurd (assumption (h, k))
 
--- Commands: a line for each in both tables.
+-- Names.
 
--- the command of a name with these arguments
-command_with : Name → Arguments → Option Command
-command_with name.GlobalAlloc (Arguments.WordDword flags size) = Some (Command.GlobalAlloc flags size)
-command_with name.GlobalFree (Arguments.Word handle) = Some (Command.GlobalFree handle)
-command_with name.GlobalLock (Arguments.Word handle) = Some (Command.GlobalLock handle)
-command_with name.GlobalUnlock (Arguments.Word handle) = Some (Command.GlobalUnlock handle)
-command_with name.GlobalSize (Arguments.Word handle) = Some (Command.GlobalSize handle)
-command_with name.GlobalFlags (Arguments.Word handle) = Some (Command.GlobalFlags handle)
-command_with name.GlobalHandle (Arguments.Word selector) = Some (Command.GlobalHandle selector)
-command_with name.GetSelectorBase (Arguments.Word selector) = Some (Command.GetSelectorBase selector)
-command_with name.GetSelectorLimit (Arguments.Word selector) = Some (Command.GetSelectorLimit selector)
-command_with name.GlobalCompact (Arguments.Dword size) = Some (Command.GlobalCompact size)
-command_with name.GlobalLRUNewest (Arguments.Word handle) = Some (Command.GlobalLRUNewest handle)
-command_with name.GlobalLRUOldest (Arguments.Word handle) = Some (Command.GlobalLRUOldest handle)
-command_with name.Moved Arguments.Nothing = Some Command.Moved
-command_with name.Walk Arguments.Nothing = Some Command.Walk
-command_with name.Read (Arguments.DwordCount pointer count) = Some (Command.Read pointer count)
-command_with name.Write (Arguments.DwordBytes pointer bytes) = Some (Command.Write pointer bytes)
-command_with name.Fill (Arguments.DwordCountByte pointer count byte) = Some (Command.Fill pointer count byte)
-command_with name arguments = None
+-- the first of these that is written so
+found : List ℕ → List Name → Option Name
+found text [] = None
+found text (name ∷ names) = if bytes_eq text (text_of name) then Some name else found text names
 
-command_with-own : (command : Command) → command_with (name_of command) (arguments_of command) ≡ Some command
-unfolding command_with
-command_with-own (Command.GlobalAlloc flags size) = refl
-command_with-own (Command.GlobalFree handle) = refl
-command_with-own (Command.GlobalLock handle) = refl
-command_with-own (Command.GlobalUnlock handle) = refl
-command_with-own (Command.GlobalSize handle) = refl
-command_with-own (Command.GlobalFlags handle) = refl
-command_with-own (Command.GlobalHandle selector) = refl
-command_with-own (Command.GetSelectorBase selector) = refl
-command_with-own (Command.GetSelectorLimit selector) = refl
-command_with-own (Command.Fill pointer count byte) = refl
-command_with-own (Command.GlobalCompact size) = refl
-command_with-own (Command.GlobalLRUNewest handle) = refl
-command_with-own (Command.GlobalLRUOldest handle) = refl
-command_with-own Command.Moved = refl
-command_with-own Command.Walk = refl
-command_with-own (Command.Read pointer count) = refl
-command_with-own (Command.Write pointer bytes) = refl
-
-command-one : (a b : Command) → name_of a ≡ name_of b → arguments_of a ≡ arguments_of b → a ≡ b
-command-one a b names arguments =
-    let first : command_with (name_of a) (arguments_of a) ≡ Some a = command_with-own a in
-    let second : command_with (name_of b) (arguments_of b) ≡ Some b = command_with-own b in
-    cc
-
--- the name that is written so
-found : List ℕ → Option Name
-found text =
-    if bytes_eq text (codes "GlobalAlloc") then Some name.GlobalAlloc
-    else if bytes_eq text (codes "GlobalFree") then Some name.GlobalFree
-    else if bytes_eq text (codes "GlobalLock") then Some name.GlobalLock
-    else if bytes_eq text (codes "GlobalUnlock") then Some name.GlobalUnlock
-    else if bytes_eq text (codes "GlobalSize") then Some name.GlobalSize
-    else if bytes_eq text (codes "GlobalFlags") then Some name.GlobalFlags
-    else if bytes_eq text (codes "GlobalHandle") then Some name.GlobalHandle
-    else if bytes_eq text (codes "GetSelectorBase") then Some name.GetSelectorBase
-    else if bytes_eq text (codes "GetSelectorLimit") then Some name.GetSelectorLimit
-    else if bytes_eq text (codes "GlobalCompact") then Some name.GlobalCompact
-    else if bytes_eq text (codes "GlobalLRUNewest") then Some name.GlobalLRUNewest
-    else if bytes_eq text (codes "GlobalLRUOldest") then Some name.GlobalLRUOldest
-    else if bytes_eq text (codes "Moved") then Some name.Moved
-    else if bytes_eq text (codes "Walk") then Some name.Walk
-    else if bytes_eq text (codes "Read") then Some name.Read
-    else if bytes_eq text (codes "Write") then Some name.Write
-    else if bytes_eq text (codes "Fill") then Some name.Fill
-    else None
-
-found-own : (name : Name) → found (text_of name) ≡ Some name
+found-own : (n : Name) → found (text_of n) all_names ≡ Some n
 unfolding found
 found-own name.GlobalAlloc = refl
-found-own name.GlobalFree = refl
-found-own name.GlobalLock = refl
-found-own name.GlobalUnlock = refl
-found-own name.GlobalSize = refl
-found-own name.GlobalFlags = refl
-found-own name.GlobalHandle = refl
-found-own name.GetSelectorBase = refl
-found-own name.GetSelectorLimit = refl
-found-own name.Fill = refl
-found-own name.GlobalCompact = refl
-found-own name.GlobalLRUNewest = refl
-found-own name.GlobalLRUOldest = refl
-found-own name.Moved = refl
-found-own name.Walk = refl
-found-own name.Read = refl
-found-own name.Write = refl
+found-own n = refl
 
 -- no two names are written alike
 pub name-one : (m n : Name) → text_of m ≡ text_of n → m ≡ n
 name-one m n e =
-    let first : found (text_of m) ≡ Some m = found-own m in
-    let second : found (text_of n) ≡ Some n = found-own n in
-    let same : found (text_of m) ≡ found (text_of n) = ap found e in
+    let first : found (text_of m) all_names ≡ Some m = found-own m in
+    let second : found (text_of n) all_names ≡ Some n = found-own n in
+    let same : found (text_of m) all_names ≡ found (text_of n) all_names = ap (λ (t : List ℕ). found t all_names) e in
     cc
 
 -- no command is written as a register
-other_start : (first : ℕ) (text : List ℕ) (r : ℕ) → first < 114 → get_or text 0 0 ≡ first → text ≡ 114 ∷ decimal r → ⊥
-other_start first text r h start e = omega (arith, h, start, ap (λ (l : List ℕ). get_or l 0 0) e)
-
 pub not_register : (n : Name) (r : ℕ) → text_of n ≡ 114 ∷ decimal r → ⊥
-not_register name.GlobalAlloc r e = other_start 71 (text_of name.GlobalAlloc) r (lit< tt) refl e
-not_register name.GlobalFree r e = other_start 71 (text_of name.GlobalFree) r (lit< tt) refl e
-not_register name.GlobalLock r e = other_start 71 (text_of name.GlobalLock) r (lit< tt) refl e
-not_register name.GlobalUnlock r e = other_start 71 (text_of name.GlobalUnlock) r (lit< tt) refl e
-not_register name.GlobalSize r e = other_start 71 (text_of name.GlobalSize) r (lit< tt) refl e
-not_register name.GlobalFlags r e = other_start 71 (text_of name.GlobalFlags) r (lit< tt) refl e
-not_register name.GlobalHandle r e = other_start 71 (text_of name.GlobalHandle) r (lit< tt) refl e
-not_register name.GetSelectorBase r e = other_start 71 (text_of name.GetSelectorBase) r (lit< tt) refl e
-not_register name.GetSelectorLimit r e = other_start 71 (text_of name.GetSelectorLimit) r (lit< tt) refl e
-not_register name.Fill r e = other_start 70 (text_of name.Fill) r (lit< tt) refl e
-not_register name.GlobalCompact r e = other_start 71 (text_of name.GlobalCompact) r (lit< tt) refl e
-not_register name.GlobalLRUNewest r e = other_start 71 (text_of name.GlobalLRUNewest) r (lit< tt) refl e
-not_register name.GlobalLRUOldest r e = other_start 71 (text_of name.GlobalLRUOldest) r (lit< tt) refl e
-not_register name.Moved r e = other_start 77 (text_of name.Moved) r (lit< tt) refl e
-not_register name.Walk r e = other_start 87 (text_of name.Walk) r (lit< tt) refl e
-not_register name.Read r e = other_start 82 (text_of name.Read) r (lit< tt) refl e
-not_register name.Write r e = other_start 87 (text_of name.Write) r (lit< tt) refl e
+not_register name.GlobalAlloc r e = absurd (clash (get_or (text_of name.GlobalAlloc) 0 0 == 114) (ap (λ (l : List ℕ). get_or l 0 0 == 114) e) refl)
+not_register n r e = absurd (clash (get_or (text_of n) 0 0 == 114) (ap (λ (l : List ℕ). get_or l 0 0 == 114) e) refl)
 
 -- the words behind a target
 pub behind_one : (words : List (List ℕ)) (s t : Option ℕ) (m n : Name) (a b : List (List ℕ)) → GoesTo words s (text_of m ∷ a) → GoesTo words t (text_of n ∷ b)
@@ -191,15 +84,17 @@ behind_one words (Some r) (Some x) m n a b (word, named, whole) (other, named_to
     let rests : a ≡ b = cc in
     (ap Some registers, texts, rests)
 
+makes-one : (registers : List ℕ) (words : List (List ℕ)) (name : Name) (a b : Command) → Makes registers name words a → Makes registers name words b → a ≡ b
+makes-one registers words name a b h k =
+    h.is ∙ ap (command_with name) (arguments-one registers words (parameters_of name) h.arguments k.arguments h.right k.right) ∙ sym k.is
+
 spells-one : (registers : List ℕ) (words : List (List ℕ)) (s t : Option ℕ) (a b : Command) → Spells registers words s a → Spells registers words t b → (s ≡ t) × (a ≡ b)
-spells-one registers words s t a b p q =
-    let (targets, texts, rests) = behind_one words s t (name_of a) (name_of b) p.arguments q.arguments p.goes q.goes in
-    let names : name_of a ≡ name_of b = name-one (name_of a) (name_of b) texts in
-    let shapes : shape_of (name_of b) ≡ shape_of (name_of a) = ap shape_of (sym names) in
-    let other : IsArguments registers p.arguments (shape_of (name_of a)) (arguments_of b) =
-    subst (λ (s : Shape). IsArguments registers p.arguments s (arguments_of b)) shapes
-    (subst (λ (l : List (List ℕ)). IsArguments registers l (shape_of (name_of b)) (arguments_of b)) (sym rests) q.right) in
-    (targets, command-one a b names (arguments-one registers p.arguments (shape_of (name_of a)) (arguments_of a) (arguments_of b) p.right other))
+spells-one registers words s t a b h k =
+    let (targets, texts, rests) = behind_one words s t h.name k.name h.rest k.rest h.goes k.goes in
+    let names : h.name ≡ k.name = name-one h.name k.name texts in
+    let other : Makes registers h.name h.rest b =
+    subst (λ (n : Name). Makes registers n h.rest b) (sym names) (subst (λ (l : List (List ℕ)). Makes registers k.name l b) (sym rests) k.makes) in
+    (targets, makes-one registers h.rest h.name a b h.makes other)
 
 says-one : (s t : Option ℕ) (a b : Command) → s ≡ t → a ≡ b → Said.Says s a ≡ Said.Says t b
 says-one s t a b p q = cc

@@ -2,8 +2,8 @@
 use Rattle.std.proofs.Common.{◌≡◌, ℕ, List, [], ◌∷◌, ◌++◌, Option, refl, sym, ap, ◌∙◌, append-nil, append_assoc, subst}
 use Rattle.std.specs.Io.KnownBytes.{Keeps}
 use Rattle.std.proofs.KnownBytes.{Appends-nil, Appends-trans, Appends-kept}
-use Rattle.w16_model.specs.World.{World}
-use Rattle.w16_kernel.specs.Runs.{Event, Run}
+use Rattle.w16_machine.specs.World.{World}
+use Rattle.w16_machine.specs.Machine.{Event, Run}
 use Rattle.w16_script.specs.Registers.{stored_all}
 use Rattle.w16_script.specs.State.{State}
 use Rattle.w16_script.specs.Grammar.{Said, Reads, target_of}

@@ -4,7 +4,7 @@ use Rattle.std.specs.Prelude.{◌==◌, count_by}
 use Rattle.std.proofs.lemmas.Bool.Decides.{nat_tests}
 use Rattle.std.specs.Io.KnownBytes.{Consumes, IsAtEnd}
 use Rattle.std.proofs.KnownBytes.{Consumes-trans}
-use Rattle.w16_model.specs.World.{World}
+use Rattle.w16_machine.specs.World.{World}
 use Rattle.w16_script.specs.declared.outcome.Ended.{Ended}
 use Rattle.w16_script.specs.declared.outcome.RunFault.{RunFault}
 use Rattle.w16_script.specs.declared.outcome.RunFault.TheVariants.{Read, Write, Memory, TooLong}

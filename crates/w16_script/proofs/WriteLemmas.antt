@@ -1,5 +1,5 @@
 -- Lemmas on writes.
-use Rattle.std.proofs.Common.{◌≡◌, ℕ, ◌+◌, ◌<◌, List, Option, Result, Ok, Err, OnErr, length, length-drop, take, drop, sym, subst, take-append-drop, arith}
+use Rattle.std.proofs.Common.{◌≡◌, ℕ, ◌+◌, ◌<◌, List, Option, Result, Ok, Err, OnErr, length, length-append, length-drop, ◌++◌, ap, ◌∙◌, append_assoc, take, drop, sym, subst, take-append-drop, arith}
 use Rattle.std.specs.Io.KnownBytes.{Appends}
 use Rattle.std.proofs.KnownBytes.{Appends-trans}
 use Rattle.std.proofs.Math.Seq.{take-add}
@@ -23,4 +23,14 @@ AppendsFront-take a b xs n h p = record {
   whole = sym (take-append-drop n xs);
   left = omega (arith, length-drop n xs);
   appends = p;
+}
+
+-- something before it was written whole, and something is left behind it
+pub AppendsFront-between : (a b c : Option (List ℕ)) (before bytes behind : List ℕ) → Appends a b before → AppendsFront b c bytes → AppendsFront a c (before ++ (bytes ++ behind))
+AppendsFront-between a b c before bytes behind p q = record {
+  front = before ++ q.front;
+  back = q.back ++ behind;
+  whole = ap (λ (l : List ℕ). before ++ (l ++ behind)) q.whole ∙ ap (λ (l : List ℕ). before ++ l) (append_assoc q.front q.back behind) ∙ sym (append_assoc before q.front (q.back ++ behind));
+  left = omega (arith, q.left, length-append q.back behind);
+  appends = Appends-trans a b c before q.front p q.appends;
 }

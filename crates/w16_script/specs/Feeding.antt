@@ -2,8 +2,7 @@
 use Rattle.std.specs.Prelude.{◌≡◌, ℕ, ◌+◌, List, [], ◌∷◌, ◌++◌, length, map, count_by, Option}
 use Rattle.std.specs.List.{flat_map, AllByRecursion}
 use Rattle.std.specs.Io.KnownBytes.{Keeps}
-use Rattle.w16_model.specs.Machine.{Command}
-use Rattle.w16_kernel.specs.Runs.{Event, Run}
+use Rattle.w16_machine.specs.Machine.{Command, Event, Run}
 use Rattle.w16_script.specs.declared.outcome.RunFault.{RunFault}
 use Rattle.w16_script.specs.declared.outcome.RunFault.TheVariants.{Write, Memory, TooLong}
 use Rattle.w16_script.specs.State.{State}

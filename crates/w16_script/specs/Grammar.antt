@@ -1,158 +1,171 @@
 -- What a line says.
-use Rattle.std.specs.Prelude.{◌≡◌, ℕ, ◌^◌, ◌<◌, ◌≤◌, Bool, true, false, ◌==◌, List, [], ◌∷◌, length, codes, Ok, Option, Some, None, slice_index}
+use Rattle.std.specs.Prelude.{◌≡◌, ℕ, suc, ◌^◌, ◌<◌, ◌≤◌, Bool, true, false, ◌==◌, List, [], ◌∷◌, length, codes, Ok, Option, Some, None, slice_index}
+use Rattle.std.specs.List.{slice_get}
 use Rattle.hex.specs.Hex.{decode_of}
-use Rattle.w16_model.specs.Machine.{Command}
 use Rattle.w16_script.specs.declared.name.Name.{Name}
 use Rattle.w16_script.specs.declared.name.Name.TheVariants as name
-use Rattle.w16_script.specs.declared.arguments.Shape.{Shape}
-use Rattle.w16_script.specs.declared.arguments.Shape.TheVariants as shape
+use Rattle.w16_script.specs.declared.arguments.Parameter.{Parameter}
+use Rattle.w16_script.specs.declared.arguments.Parameter.TheVariants as p
+use Rattle.w16_model.specs.Calls as calls
+use Rattle.w16_model.specs.Far as far
+use Rattle.w16_machine.specs.Machine.{Command}
+use Rattle.w16_machine.specs.Machine.Command.{OfHandles, OfFar}
+use Rattle.w16_kernel.specs.declared.call.TheConstants.{MOST_READ, MOST_FILLED}
+use Rattle.w16_script.specs.declared.bytes.TheConstants.{MOST_BYTES}
 use Rattle.w16_script.specs.Words.{words_of}
 use Rattle.w16_script.specs.Registers.{IsRegister}
 use Rattle.w16_script.specs.Numbers.{IsNumber}
 
--- The commands: a line for each in every table.
+-- An argument as a value, and the value at a place in a list of them: 0, or no bytes, where there is no such argument.
 
--- how a command is written
+pub data Argument : Type 0 where
+  Word : (value : ℕ) → Argument
+  Dword : (value : ℕ) → Argument
+  Count : (value : ℕ) → Argument
+  Byte : (value : ℕ) → Argument
+  Bytes : (bytes : List ℕ) → Argument
+
+abbrev pub word_of : Option Argument → ℕ
+word_of (Some (Word n)) = n
+word_of other = 0
+
+abbrev pub dword_of : Option Argument → ℕ
+dword_of (Some (Dword n)) = n
+dword_of other = 0
+
+abbrev pub count_of : Option Argument → ℕ
+count_of (Some (Count n)) = n
+count_of other = 0
+
+abbrev pub byte_of : Option Argument → ℕ
+byte_of (Some (Byte n)) = n
+byte_of other = 0
+
+abbrev pub bytes_of : Option Argument → List ℕ
+bytes_of (Some (Bytes bytes)) = bytes
+bytes_of other = []
+
+abbrev pub word : List Argument → ℕ → ℕ
+word arguments place = word_of (slice_get arguments place)
+
+abbrev pub dword : List Argument → ℕ → ℕ
+dword arguments place = dword_of (slice_get arguments place)
+
+abbrev pub count : List Argument → ℕ → ℕ
+count arguments place = count_of (slice_get arguments place)
+
+abbrev pub byte : List Argument → ℕ → ℕ
+byte arguments place = byte_of (slice_get arguments place)
+
+abbrev pub bytes : List Argument → ℕ → List ℕ
+bytes arguments place = bytes_of (slice_get arguments place)
+
+-- The commands: a line for each.
+
+-- what a parameter's argument is
+abbrev pub ValueOf : Parameter → Type 0
+ValueOf p.Bytes = List ℕ
+ValueOf other = ℕ
+
+abbrev pub value_at : (parameter : Parameter) → List Argument → ℕ → ValueOf parameter
+value_at p.Word arguments place = word arguments place
+value_at p.Dword arguments place = dword arguments place
+value_at (p.Count most) arguments place = count arguments place
+value_at p.Byte arguments place = byte arguments place
+value_at p.Bytes arguments place = bytes arguments place
+
+-- what makes a command of a family of arguments for these parameters
+abbrev pub Maker : Type 0 → List Parameter → Type 0
+Maker Family [] = Family
+Maker Family (parameter ∷ parameters) = ValueOf parameter → Maker Family parameters
+
+-- the command that is made of the arguments from a place on
+abbrev pub made : (Family : Type 0) (parameters : List Parameter) → Maker Family parameters → List Argument → ℕ → Family
+made Family [] command arguments place = command
+made Family (parameter ∷ parameters) maker arguments place = made Family parameters (maker (value_at parameter arguments place)) arguments (suc place)
+
+-- how a command is written, what stands behind it, and the command that this makes
+pub record Row : Type 0 where
+  pub text : List ℕ
+  pub parameters : List Parameter
+  pub command : List Argument → Command
+
+abbrev row : {Family : Type 0} → (Family → Command) → List ℕ → (parameters : List Parameter) → Maker Family parameters → Row
+row {Family} of_family text parameters maker = record { text = text; parameters = parameters; command = λ arguments. of_family (made Family parameters maker arguments 0) }
+
+abbrev pub row_of : Name → Row
+row_of name.GlobalAlloc = row OfHandles (codes "GlobalAlloc") (p.Word ∷ p.Dword ∷ []) calls.HandleCommand.GlobalAlloc
+row_of name.GlobalFree = row OfHandles (codes "GlobalFree") (p.Word ∷ []) calls.HandleCommand.GlobalFree
+row_of name.GlobalLock = row OfHandles (codes "GlobalLock") (p.Word ∷ []) calls.HandleCommand.GlobalLock
+row_of name.GlobalUnlock = row OfHandles (codes "GlobalUnlock") (p.Word ∷ []) calls.HandleCommand.GlobalUnlock
+row_of name.GlobalSize = row OfHandles (codes "GlobalSize") (p.Word ∷ []) calls.HandleCommand.GlobalSize
+row_of name.GlobalFlags = row OfHandles (codes "GlobalFlags") (p.Word ∷ []) calls.HandleCommand.GlobalFlags
+row_of name.GlobalHandle = row OfHandles (codes "GlobalHandle") (p.Word ∷ []) calls.HandleCommand.GlobalHandle
+row_of name.GetSelectorBase = row OfHandles (codes "GetSelectorBase") (p.Word ∷ []) calls.HandleCommand.GetSelectorBase
+row_of name.GetSelectorLimit = row OfHandles (codes "GetSelectorLimit") (p.Word ∷ []) calls.HandleCommand.GetSelectorLimit
+row_of name.GlobalCompact = row OfHandles (codes "GlobalCompact") (p.Dword ∷ []) calls.HandleCommand.GlobalCompact
+row_of name.GlobalLRUNewest = row OfHandles (codes "GlobalLRUNewest") (p.Word ∷ []) calls.HandleCommand.GlobalLRUNewest
+row_of name.GlobalLRUOldest = row OfHandles (codes "GlobalLRUOldest") (p.Word ∷ []) calls.HandleCommand.GlobalLRUOldest
+row_of name.Moved = row OfHandles (codes "Moved") [] calls.HandleCommand.Moved
+row_of name.Walk = row OfHandles (codes "Walk") [] calls.HandleCommand.Walk
+row_of name.Read = row OfFar (codes "Read") (p.Dword ∷ p.Count MOST_READ ∷ []) far.FarCommand.Read
+row_of name.Write = row OfFar (codes "Write") (p.Dword ∷ p.Bytes ∷ []) far.FarCommand.Write
+row_of name.Fill = row OfFar (codes "Fill") (p.Dword ∷ p.Count MOST_FILLED ∷ p.Byte ∷ []) far.FarCommand.Fill
+
+-- all of them
+abbrev pub all_names : List Name
+all_names = name.GlobalAlloc ∷ name.GlobalFree ∷ name.GlobalLock ∷ name.GlobalUnlock ∷ name.GlobalSize ∷ name.GlobalFlags ∷ name.GlobalHandle ∷ name.GetSelectorBase ∷ name.GetSelectorLimit
+    ∷ name.GlobalCompact ∷ name.GlobalLRUNewest ∷ name.GlobalLRUOldest ∷ name.Moved ∷ name.Walk ∷ name.Read ∷ name.Write ∷ name.Fill ∷ []
+
 abbrev pub text_of : Name → List ℕ
-text_of name.GlobalAlloc = codes "GlobalAlloc"
-text_of name.GlobalFree = codes "GlobalFree"
-text_of name.GlobalLock = codes "GlobalLock"
-text_of name.GlobalUnlock = codes "GlobalUnlock"
-text_of name.GlobalSize = codes "GlobalSize"
-text_of name.GlobalFlags = codes "GlobalFlags"
-text_of name.GlobalHandle = codes "GlobalHandle"
-text_of name.GetSelectorBase = codes "GetSelectorBase"
-text_of name.GetSelectorLimit = codes "GetSelectorLimit"
-text_of name.GlobalCompact = codes "GlobalCompact"
-text_of name.GlobalLRUNewest = codes "GlobalLRUNewest"
-text_of name.GlobalLRUOldest = codes "GlobalLRUOldest"
-text_of name.Moved = codes "Moved"
-text_of name.Walk = codes "Walk"
-text_of name.Read = codes "Read"
-text_of name.Write = codes "Write"
-text_of name.Fill = codes "Fill"
+text_of name = (row_of name).text
 
--- which arguments it has
-abbrev pub shape_of : Name → Shape
-shape_of name.GlobalAlloc = shape.WordDword
-shape_of name.GlobalFree = shape.Word
-shape_of name.GlobalLock = shape.Word
-shape_of name.GlobalUnlock = shape.Word
-shape_of name.GlobalSize = shape.Word
-shape_of name.GlobalFlags = shape.Word
-shape_of name.GlobalHandle = shape.Word
-shape_of name.GetSelectorBase = shape.Word
-shape_of name.GetSelectorLimit = shape.Word
-shape_of name.GlobalCompact = shape.Dword
-shape_of name.GlobalLRUNewest = shape.Word
-shape_of name.GlobalLRUOldest = shape.Word
-shape_of name.Moved = shape.Nothing
-shape_of name.Walk = shape.Nothing
-shape_of name.Read = shape.DwordCount
-shape_of name.Write = shape.DwordBytes
-shape_of name.Fill = shape.DwordCountByte
+abbrev pub parameters_of : Name → List Parameter
+parameters_of name = (row_of name).parameters
 
--- arguments as values
-pub data Arguments : Type 0 where
-  Nothing : Arguments
-  Word : (value : ℕ) → Arguments
-  Dword : (value : ℕ) → Arguments
-  WordDword : (word dword : ℕ) → Arguments
-  DwordCount : (dword count : ℕ) → Arguments
-  DwordBytes : (dword : ℕ) (bytes : List ℕ) → Arguments
-  DwordCountByte : (dword count byte : ℕ) → Arguments
-
-abbrev pub name_of : Command → Name
-name_of (Command.GlobalAlloc flags size) = name.GlobalAlloc
-name_of (Command.GlobalFree handle) = name.GlobalFree
-name_of (Command.GlobalLock handle) = name.GlobalLock
-name_of (Command.GlobalUnlock handle) = name.GlobalUnlock
-name_of (Command.GlobalSize handle) = name.GlobalSize
-name_of (Command.GlobalFlags handle) = name.GlobalFlags
-name_of (Command.GlobalHandle selector) = name.GlobalHandle
-name_of (Command.GetSelectorBase selector) = name.GetSelectorBase
-name_of (Command.GetSelectorLimit selector) = name.GetSelectorLimit
-name_of (Command.GlobalCompact size) = name.GlobalCompact
-name_of (Command.GlobalLRUNewest handle) = name.GlobalLRUNewest
-name_of (Command.GlobalLRUOldest handle) = name.GlobalLRUOldest
-name_of Command.Moved = name.Moved
-name_of Command.Walk = name.Walk
-name_of (Command.Read pointer count) = name.Read
-name_of (Command.Write pointer bytes) = name.Write
-name_of (Command.Fill pointer count byte) = name.Fill
-
-abbrev pub arguments_of : Command → Arguments
-arguments_of (Command.GlobalAlloc flags size) = WordDword flags size
-arguments_of (Command.GlobalFree handle) = Word handle
-arguments_of (Command.GlobalLock handle) = Word handle
-arguments_of (Command.GlobalUnlock handle) = Word handle
-arguments_of (Command.GlobalSize handle) = Word handle
-arguments_of (Command.GlobalFlags handle) = Word handle
-arguments_of (Command.GlobalHandle selector) = Word selector
-arguments_of (Command.GetSelectorBase selector) = Word selector
-arguments_of (Command.GetSelectorLimit selector) = Word selector
-arguments_of (Command.GlobalCompact size) = Dword size
-arguments_of (Command.GlobalLRUNewest handle) = Word handle
-arguments_of (Command.GlobalLRUOldest handle) = Word handle
-arguments_of Command.Moved = Nothing
-arguments_of Command.Walk = Nothing
-arguments_of (Command.Read pointer count) = DwordCount pointer count
-arguments_of (Command.Write pointer bytes) = DwordBytes pointer bytes
-arguments_of (Command.Fill pointer count byte) = DwordCountByte pointer count byte
+abbrev pub command_with : Name → List Argument → Command
+command_with name = (row_of name).command
 
 -- The forms of an argument.
 
-abbrev pub IsNumberBelow : List ℕ → List ℕ → ℕ → ℕ → Type 0
-IsNumberBelow registers word limit n = IsNumber registers word n × (n < limit)
-
 -- one to 1,024 bytes in hexadecimal, its letters in either case
 abbrev pub IsBytes : List ℕ → List ℕ → Type 0
-IsBytes word bytes = (decode_of word ≡ Ok bytes) × (0 < length bytes) × (length bytes ≤ 1024)
+IsBytes word bytes = (decode_of word ≡ Ok bytes) × (0 < length bytes) × (length bytes ≤ MOST_BYTES)
 
--- the words are arguments of the shape, with these values
-abbrev pub IsArguments : List ℕ → List (List ℕ) → Shape → Arguments → Type 0
-IsArguments registers [] shape.Nothing Nothing = Unit {0}
-IsArguments registers (word ∷ []) shape.Dword (Dword d) = IsNumberBelow registers word (2 ^ 32) d
-IsArguments registers (word ∷ []) shape.Word (Word w) = IsNumberBelow registers word (2 ^ 16) w
-IsArguments registers (first ∷ second ∷ []) shape.WordDword (WordDword w d) = IsNumberBelow registers first (2 ^ 16) w × IsNumberBelow registers second (2 ^ 32) d
-IsArguments registers (first ∷ second ∷ []) shape.DwordCount (DwordCount d count) = IsNumberBelow registers first (2 ^ 32) d × IsNumberBelow registers second 1025 count
-IsArguments registers (first ∷ second ∷ []) shape.DwordBytes (DwordBytes d bytes) = IsNumberBelow registers first (2 ^ 32) d × IsBytes second bytes
-IsArguments registers (first ∷ second ∷ third ∷ []) shape.DwordCountByte (DwordCountByte d count byte) =
-    IsNumberBelow registers first (2 ^ 32) d × IsNumberBelow registers second 65537 count × IsNumberBelow registers third 256 byte
-IsArguments registers words shape arguments = ⊥
+-- a word that a parameter takes, and its value
+abbrev pub IsArgument : List ℕ → List ℕ → Parameter → Argument → Type 0
+IsArgument registers word p.Word (Word n) = IsNumber registers word n × (n < 2 ^ 16)
+IsArgument registers word p.Dword (Dword n) = IsNumber registers word n × (n < 2 ^ 32)
+IsArgument registers word (p.Count most) (Count n) = IsNumber registers word n × (n ≤ most)
+IsArgument registers word p.Byte (Byte n) = IsNumber registers word n × (n < 2 ^ 8)
+IsArgument registers word p.Bytes (Bytes bytes) = IsBytes word bytes
+IsArgument registers word parameter argument = ⊥
 
--- the values are those of arguments of the shape
-abbrev pub HasShape : Arguments → Shape → Type 0
-HasShape Nothing shape.Nothing = Unit {0}
-HasShape (Word w) shape.Word = Unit {0}
-HasShape (Dword d) shape.Dword = Unit {0}
-HasShape (WordDword w d) shape.WordDword = Unit {0}
-HasShape (DwordCount d count) shape.DwordCount = Unit {0}
-HasShape (DwordBytes d bytes) shape.DwordBytes = Unit {0}
-HasShape (DwordCountByte d count byte) shape.DwordCountByte = Unit {0}
-HasShape arguments shape = ⊥
-
--- no more bytes than a command takes
-abbrev pub HasFewBytes : Arguments → Type 0
-HasFewBytes (DwordBytes d bytes) = length bytes ≤ 1024
-HasFewBytes other = Unit {0}
+-- the words are what the parameters ask for, one by one
+abbrev pub AreArguments : List ℕ → List (List ℕ) → List Parameter → List Argument → Type 0
+AreArguments registers [] [] [] = Unit {0}
+AreArguments registers (word ∷ words) (parameter ∷ parameters) (argument ∷ arguments) = IsArgument registers word parameter argument × AreArguments registers words parameters arguments
+AreArguments registers words parameters arguments = ⊥
 
 -- Lines.
-
--- the words behind a name are the command's arguments
-abbrev pub HasArguments : List ℕ → List (List ℕ) → Command → Type 0
-HasArguments registers words command = IsArguments registers words (shape_of (name_of command)) (arguments_of command)
 
 -- the register before a command, `rN =`, if there is one, and the words behind it
 abbrev pub GoesTo : List (List ℕ) → Option ℕ → List (List ℕ) → Type 0
 GoesTo words None rest = words ≡ rest
 GoesTo words (Some r) rest = (word : List ℕ) × IsRegister word r × (words ≡ word ∷ codes "=" ∷ rest)
 
--- the words are a register, if there is one, and behind it the command's name and its arguments
+-- words that are a name's arguments make this command
+pub record Makes (registers : List ℕ) (name : Name) (words : List (List ℕ)) (command : Command) : Type 0 where
+  pub arguments : List Argument
+  pub right : AreArguments registers words (parameters_of name) arguments
+  pub is : command ≡ command_with name arguments
+
+-- the words are a register, if there is one, and behind it a command's name and its arguments
 pub record Spells (registers : List ℕ) (words : List (List ℕ)) (target : Option ℕ) (command : Command) : Type 0 where
-  pub arguments : List (List ℕ)
-  pub goes : GoesTo words target (text_of (name_of command) ∷ arguments)
-  pub right : HasArguments registers arguments command
+  pub name : Name
+  pub rest : List (List ℕ)
+  pub goes : GoesTo words target (text_of name ∷ rest)
+  pub makes : Makes registers name rest command
 
 -- no word, or the first begins with a semicolon
 abbrev pub is_silent : List (List ℕ) → Bool
@@ -170,12 +183,6 @@ abbrev pub target_of : Said → Option ℕ
 target_of Silent = None
 target_of Bad = None
 target_of (Says target command) = target
-
--- what is said by words behind a name: the command whose arguments they are, or nothing that is known
-abbrev pub IsCommand : List ℕ → Option ℕ → Name → List (List ℕ) → Said → Type 0
-IsCommand registers target name words Silent = ⊥
-IsCommand registers target name words Bad = (command : Command) → name_of command ≡ name → HasArguments registers words command → ⊥
-IsCommand registers target name words (Says to command) = (to ≡ target) × (name_of command ≡ name) × HasArguments registers words command
 
 -- what a line says
 abbrev pub Reads : List ℕ → List ℕ → Said → Type 0

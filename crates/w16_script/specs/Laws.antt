@@ -1,12 +1,8 @@
 -- Laws of the language.
 use Rattle.std.specs.Prelude.{◌≡◌, ℕ, Bool, true, ◌||◌, ◌&&◌, ◌==◌, nat_le, List, Option}
 use Rattle.std.specs.List.{list_all}
-use Rattle.w16_model.specs.Machine.{Command}
-use Rattle.w16_script.specs.Grammar.{HasShape, arguments_of, shape_of, name_of, Said, Reads}
-
--- each command's arguments have its command's shape
-abbrev pub EachFits : Type 0
-EachFits = (command : Command) → HasShape (arguments_of command) (shape_of (name_of command))
+use Rattle.w16_machine.specs.Machine.{Command}
+use Rattle.w16_script.specs.Grammar.{Said, Reads}
 
 -- what a line says is one thing, whatever the registers have
 abbrev pub OneReading : Type 0

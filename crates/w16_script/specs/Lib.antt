@@ -4,6 +4,7 @@ pub mod Words
 pub mod Numbers
 pub mod Grammar
 pub mod Values
+pub mod Rooms
 pub mod Lines
 pub mod Laws
 pub mod Written

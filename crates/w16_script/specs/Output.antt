@@ -2,10 +2,9 @@
 use Rattle.std.specs.Prelude.{◌≡◌, ℕ, Bool, not, List, [], ◌∷◌, ◌++◌, Option}
 use Rattle.std.specs.Io.KnownBytes.{Appends}
 use Rattle.w16_model.specs.declared.Item.{Item}
-use Rattle.w16_model.specs.World.{World}
-use Rattle.w16_model.specs.Machine as machine
-use Rattle.w16_model.specs.Walk.{IsWorldWalk}
-use Rattle.w16_kernel.specs.Runs.{Event, Run}
+use Rattle.w16_machine.specs.World.{World, IsWorldWalk}
+use Rattle.w16_machine.specs.Machine as machine
+use Rattle.w16_machine.specs.Machine.{Event, Run}
 use Rattle.w16_script.specs.Registers.{stored_all}
 use Rattle.w16_script.specs.State.{State}
 use Rattle.w16_script.specs.Words.{words_of}

@@ -10,7 +10,7 @@ use Rattle.w16_model.specs.declared.Kind.{Kind}
 use Rattle.w16_model.specs.declared.Kind.TheVariants.{Fixed, Moveable, Discardable}
 use Rattle.w16_model.specs.declared.Item.{Item}
 use Rattle.w16_model.specs.declared.Owner.{Owner}
-use Rattle.w16_model.specs.Machine as machine
+use Rattle.w16_machine.specs.Machine as machine
 
 -- a fault's name
 abbrev pub fault_text : FarFault → List ℕ

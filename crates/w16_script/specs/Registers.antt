@@ -1,8 +1,8 @@
 -- The registers of a script.
 use Rattle.std.specs.Prelude.{◌≡◌, ℕ, ◌<◌, List, [], ◌∷◌, replicate, slice_set, Option, Some}
 use Rattle.std.specs.Fmt.{decimal}
-use Rattle.w16_model.specs.Machine as machine
-use Rattle.w16_kernel.specs.Runs.{Event}
+use Rattle.w16_machine.specs.Machine as machine
+use Rattle.w16_machine.specs.Machine.{Event}
 
 -- before the first line
 abbrev pub zeros : List ℕ

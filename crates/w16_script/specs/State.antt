@@ -1,6 +1,6 @@
 -- What the lines of a script work on.
 use Rattle.std.specs.Prelude.{ℕ, List}
-use Rattle.w16_model.specs.World.{World}
+use Rattle.w16_machine.specs.World.{World}
 use Rattle.w16_script.specs.Registers.{zeros}
 
 -- the machine's world and the registers

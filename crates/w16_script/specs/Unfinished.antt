@@ -1,5 +1,5 @@
 -- The state of the code between two bytes.
-use Rattle.w16_model.specs.World.{World}
+use Rattle.w16_machine.specs.World.{World}
 use Rattle.w16_script.specs.declared.feed.Unfinished.{Unfinished}
 use Rattle.w16_script.specs.Progress.{Progress}
 use Rattle.w16_script.specs.State.{State, state_with}

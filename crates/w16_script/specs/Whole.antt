@@ -2,7 +2,7 @@
 use Rattle.std.specs.Prelude.{◌≡◌, ℕ, ◌+◌, ◌<◌, ◌≤◌, ◌⊎◌, List, [], ◌++◌, length, count_by, Option}
 use Rattle.std.specs.List.{flat_map, AllByRecursion}
 use Rattle.std.specs.Io.KnownBytes.{Keeps, IsAtEnd}
-use Rattle.w16_model.specs.World.{World}
+use Rattle.w16_machine.specs.World.{World}
 use Rattle.w16_script.specs.declared.outcome.Ended.{Ended}
 use Rattle.w16_script.specs.declared.outcome.RunFault.{RunFault}
 use Rattle.w16_script.specs.declared.outcome.RunFault.TheVariants.{Read, Write, Memory, TooLong}

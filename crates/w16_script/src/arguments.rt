@@ -1,197 +1,177 @@
 //! The arguments of commands.
-ghost use Rattle.std.specs.Prelude.{◌≡◌, ℕ, ◌^◌, ◌<◌, ◌≤◌, ◌↔◌, IsTrue, IfSome, IfNone, List, [], ◌∷◌};
+ghost use Rattle.std.specs.Prelude.{◌≡◌, ℕ, ◌^◌, ◌<◌, ◌≤◌, ◌↔◌, IsTrue, IfSome, IfNone, List, [], ◌∷◌, length};
 ghost use Rattle.w16_script.specs.Words.{words_of};
-ghost use Rattle.w16_script.specs.Grammar.{Arguments as Values, IsNumberBelow, IsBytes, IsArguments};
-ghost use Rattle.w16_script.specs.Values.{values_of};
+ghost use Rattle.w16_script.specs.Numbers.{IsNumber};
+ghost use Rattle.w16_script.specs.Grammar.{Argument as Value, IsArgument, AreArguments, word as word_at, dword as dword_at, count as count_at, byte as byte_at, bytes as bytes_at};
+ghost use Rattle.w16_script.specs.Values.{value_of, values_of, Fits, AreFit};
+ghost use Rattle.w16_script.specs.Rooms.{room_of, rooms_in, rooms_with};
 
-use crate::bytes::bytes;
+use crate::bytes::{MOST_BYTES, bytes as read_bytes};
 use crate::number::number;
 use crate::registers::Registers;
 use crate::words::split_word;
+use arrayvec::ArrayVec;
 
-/// Which arguments a command has.
+/// The most parameters that a command has.
+const MOST_PARAMETERS: usize = 3;
+
+/// What a command asks of a word.
 #[derive(Clone, Copy)]
-pub enum Shape {
-    Nothing,
+pub enum Parameter {
     Word,
     Dword,
-    WordDword,
-    DwordCount,
-    DwordBytes,
-    DwordCountByte,
+    /// A number up to this one.
+    Count(u32),
+    Byte,
+    Bytes,
 }
 
-/// The arguments of a command. Bytes are in room that is lent.
+/// An argument of a command. Bytes are lent.
 #[derive(Clone, Copy)]
-pub enum Arguments<'a> {
-    Nothing,
+pub enum Argument<'a> {
     Word(u16),
     Dword(u32),
-    WordDword(u16, u32),
-    DwordCount(u32, u16),
-    DwordBytes(u32, &'a [u8]),
-    DwordCountByte(u32, u32, u8),
+    Count(u32),
+    Byte(u8),
+    Bytes(&'a [u8]),
 }
 
-/// Whether there are only blanks.
-fn no_word(text: &[u8]) -> bool
-    ensures { IsTrue result ↔ (words_of text.now ≡ []) }
+// An array in place fills its places with it.
+impl Default for Argument<'_> {
+    fn default() -> Self {
+        Argument::Word(0)
+    }
+}
+
+/// The word at a place.
+#[tactic(auto, using(crate::proofs::ArgumentLemmas::at_value))]
+pub fn word(arguments: &[Argument<'_>], place: usize) -> u16
+    ensures { result ≡ word_at (values_of arguments.now) place }
 {
-    split_word(text).is_none()
+    match arguments.get(place) {
+        Some(Argument::Word(word)) => *word,
+        _ => 0,
+    }
 }
 
-/// The only word.
-fn only_word(text: &[u8]) -> Option<&[u8]>
-    ensures found { IfSome result (λ word. words_of text.now ≡ word.now ∷ []) }
-    ensures none { IfNone result ((word : List ℕ) → words_of text.now ≡ word ∷ [] → ⊥) }
+/// The double word at a place.
+#[tactic(auto, using(crate::proofs::ArgumentLemmas::at_value))]
+pub fn dword(arguments: &[Argument<'_>], place: usize) -> u32
+    ensures { result ≡ dword_at (values_of arguments.now) place }
 {
-    let (word, behind) = split_word(text)?;
-    if no_word(behind) { Some(word) } else { None }
+    match arguments.get(place) {
+        Some(Argument::Dword(dword)) => *dword,
+        _ => 0,
+    }
 }
 
-/// A number below the limit.
-fn number_below(word: &[u8], limit: u64, registers: &Registers) -> Option<u32>
-    ensures found { IfSome result (λ n. IsNumberBelow registers.now word.now limit n) }
-    ensures none { IfNone result ((n : ℕ) → IsNumberBelow registers.now word.now limit n → ⊥) }
+/// The count at a place.
+#[tactic(auto, using(crate::proofs::ArgumentLemmas::at_value))]
+pub fn count(arguments: &[Argument<'_>], place: usize) -> u32
+    ensures { result ≡ count_at (values_of arguments.now) place }
+{
+    match arguments.get(place) {
+        Some(Argument::Count(count)) => *count,
+        _ => 0,
+    }
+}
+
+/// The byte at a place.
+#[tactic(auto, using(crate::proofs::ArgumentLemmas::at_value))]
+pub fn byte(arguments: &[Argument<'_>], place: usize) -> u8
+    ensures { result ≡ byte_at (values_of arguments.now) place }
+{
+    match arguments.get(place) {
+        Some(Argument::Byte(byte)) => *byte,
+        _ => 0,
+    }
+}
+
+/// The bytes at a place.
+#[tactic(auto, using(crate::proofs::ArgumentLemmas::at_value))]
+pub fn bytes<'a>(arguments: &[Argument<'a>], place: usize) -> &'a [u8]
+    ensures { result.now ≡ bytes_at (values_of arguments.now) place }
+{
+    match arguments.get(place) {
+        Some(Argument::Bytes(bytes)) => bytes,
+        _ => &[],
+    }
+}
+
+/// The number that a word is, up to this one.
+fn number_up_to(word: &[u8], most: u32, registers: &Registers) -> Option<u32>
+    ensures found { IfSome result (λ n. IsNumber registers.now word.now n × (n ≤ most)) }
+    ensures none { IfNone result ((n : ℕ) → IsNumber registers.now word.now n → n ≤ most → ⊥) }
 {
     let number = number(word, registers)?;
-    if (number as u64) < limit {
-        Some(number)
-    } else {
-        None
-    }
+    if number <= most { Some(number) } else { None }
 }
 
-/// The first word as a number below the limit, and what stands behind it.
-#[tactic(auto, using(crate::proofs::ArgumentLemmas::no_first))]
-fn first_number<'a>(text: &'a [u8], limit: u64, registers: &Registers) -> Option<(u32, &'a [u8])>
-    ensures found { IfSome result (λ first. (word : List ℕ) × (words_of text.now ≡ word ∷ words_of first.1.now) × IsNumberBelow registers.now word limit first.0) }
-    ensures none { IfNone result ((word : List ℕ) (words : List (List ℕ)) (n : ℕ) → words_of text.now ≡ word ∷ words → IsNumberBelow registers.now word limit n → ⊥) }
-{
-    let (word, behind) = split_word(text)?;
-    let number = number_below(word, limit, registers)?;
-    Some((number, behind))
-}
-
-/// The only word, as a number below the limit.
-#[tactic(auto, using(crate::proofs::ArgumentLemmas::no_number))]
-fn only_number(text: &[u8], limit: u64, registers: &Registers) -> Option<u32>
-    ensures found { IfSome result (λ n. (word : List ℕ) × (words_of text.now ≡ word ∷ []) × IsNumberBelow registers.now word limit n) }
-    ensures none { IfNone result ((word : List ℕ) (n : ℕ) → words_of text.now ≡ word ∷ [] → IsNumberBelow registers.now word limit n → ⊥) }
-{
-    let word = only_word(text)?;
-    number_below(word, limit, registers)
-}
-
-/// The only word, as bytes.
-#[tactic(auto, using(crate::proofs::ArgumentLemmas::no_bytes))]
-fn only_bytes<'a>(text: &[u8], room: &'a mut [u8; 1024]) -> Option<&'a [u8]>
-    ensures found { IfSome result (λ bytes. (word : List ℕ) × (words_of text.now ≡ word ∷ []) × IsBytes word bytes.now) }
-    ensures none { IfNone result ((word : List ℕ) (bytes : List ℕ) → words_of text.now ≡ word ∷ [] → IsBytes word bytes → ⊥) }
-{
-    let word = only_word(text)?;
-    bytes(word, room)
-}
-
-/// Nothing.
-#[tactic(auto, using(crate::proofs::ArgumentLemmas::nothing_steps))]
-fn nothing(text: &[u8], registers: &Registers) -> Option<Arguments<'static>>
-    ensures found { IfSome result (λ a. IsArguments registers.now (words_of text.now) Shape.Nothing (values_of a)) }
-    ensures none { IfNone result ((a : Values) → IsArguments registers.now (words_of text.now) Shape.Nothing a → ⊥) }
-{
-    if no_word(text) {
-        Some(Arguments::Nothing)
-    } else {
-        None
-    }
-}
-
-/// A double word.
-#[tactic(auto, using(crate::proofs::ArgumentLemmas::dword_steps))]
-fn dword(text: &[u8], registers: &Registers) -> Option<Arguments<'static>>
-    ensures found { IfSome result (λ a. IsArguments registers.now (words_of text.now) Shape.Dword (values_of a)) }
-    ensures none { IfNone result ((a : Values) → IsArguments registers.now (words_of text.now) Shape.Dword a → ⊥) }
-{
-    let dword = only_number(text, 1 << 32, registers)?;
-    Some(Arguments::Dword(dword))
-}
-
-/// A word.
-#[tactic(auto, using(crate::proofs::ArgumentLemmas::word_steps))]
-fn word(text: &[u8], registers: &Registers) -> Option<Arguments<'static>>
-    ensures found { IfSome result (λ a. IsArguments registers.now (words_of text.now) Shape.Word (values_of a)) }
-    ensures none { IfNone result ((a : Values) → IsArguments registers.now (words_of text.now) Shape.Word a → ⊥) }
-{
-    let word = only_number(text, 1 << 16, registers)?;
-    Some(Arguments::Word(word as u16))
-}
-
-/// A word, and a double word.
-#[tactic(auto, using(crate::proofs::ArgumentLemmas::word_dword_steps))]
-fn word_dword(text: &[u8], registers: &Registers) -> Option<Arguments<'static>>
-    ensures found { IfSome result (λ a. IsArguments registers.now (words_of text.now) Shape.WordDword (values_of a)) }
-    ensures none { IfNone result ((a : Values) → IsArguments registers.now (words_of text.now) Shape.WordDword a → ⊥) }
-{
-    let (word, behind) = first_number(text, 1 << 16, registers)?;
-    let dword = only_number(behind, 1 << 32, registers)?;
-    Some(Arguments::WordDword(word as u16, dword))
-}
-
-/// A double word, and a count of at most 1,024.
-#[tactic(auto, using(crate::proofs::ArgumentLemmas::dword_count_steps))]
-fn dword_count(text: &[u8], registers: &Registers) -> Option<Arguments<'static>>
-    ensures found { IfSome result (λ a. IsArguments registers.now (words_of text.now) Shape.DwordCount (values_of a)) }
-    ensures none { IfNone result ((a : Values) → IsArguments registers.now (words_of text.now) Shape.DwordCount a → ⊥) }
-{
-    let (dword, behind) = first_number(text, 1 << 32, registers)?;
-    let count = only_number(behind, 1025, registers)?;
-    Some(Arguments::DwordCount(dword, count as u16))
-}
-
-/// A double word, and bytes.
-#[tactic(auto, using(crate::proofs::ArgumentLemmas::dword_bytes_steps))]
-fn dword_bytes<'a>(
-    text: &[u8],
+/// The argument that a word is. The room is for bytes, if they are asked.
+fn read_argument<'a>(
+    word: &[u8],
+    parameter: Parameter,
     registers: &Registers,
-    room: &'a mut [u8; 1024],
-) -> Option<Arguments<'a>>
-    ensures found { IfSome result (λ a. IsArguments registers.now (words_of text.now) Shape.DwordBytes (values_of a)) }
-    ensures none { IfNone result ((a : Values) → IsArguments registers.now (words_of text.now) Shape.DwordBytes a → ⊥) }
+    room: Option<&'a mut [u8; MOST_BYTES]>,
+) -> Option<Argument<'a>>
+    requires { room_of parameter ≤ rooms_with room }
+    ensures found { IfSome result (λ a. IsArgument registers.now word.now parameter (value_of a)) }
+    ensures fits { IfSome result (λ a. Fits parameter a) }
+    ensures none { IfNone result ((value : Value) → IsArgument registers.now word.now parameter value → ⊥) }
 {
-    let (dword, behind) = first_number(text, 1 << 32, registers)?;
-    let bytes = only_bytes(behind, room)?;
-    Some(Arguments::DwordBytes(dword, bytes))
+    match parameter {
+        Parameter::Word => {
+            let number = number_up_to(word, 65_535, registers)?;
+            Some(Argument::Word(number as u16))
+        }
+        Parameter::Dword => {
+            let number = number(word, registers)?;
+            Some(Argument::Dword(number))
+        }
+        Parameter::Count(most) => {
+            let number = number_up_to(word, most, registers)?;
+            Some(Argument::Count(number))
+        }
+        Parameter::Byte => {
+            let number = number_up_to(word, 255, registers)?;
+            Some(Argument::Byte(number as u8))
+        }
+        Parameter::Bytes => {
+            let room = room?;
+            let bytes = read_bytes(word, room)?;
+            Some(Argument::Bytes(bytes))
+        }
+    }
 }
 
-/// A double word, a count of at most 65,536, and a byte.
-#[tactic(auto, using(crate::proofs::ArgumentLemmas::dword_count_byte_steps))]
-fn dword_count_byte(text: &[u8], registers: &Registers) -> Option<Arguments<'static>>
-    ensures found { IfSome result (λ a. IsArguments registers.now (words_of text.now) Shape.DwordCountByte (values_of a)) }
-    ensures none { IfNone result ((a : Values) → IsArguments registers.now (words_of text.now) Shape.DwordCountByte a → ⊥) }
-{
-    let (dword, behind) = first_number(text, 1 << 32, registers)?;
-    let (count, last) = first_number(behind, 65_537, registers)?;
-    let byte = only_number(last, 256, registers)?;
-    Some(Arguments::DwordCountByte(dword, count, byte as u8))
-}
-
-/// The arguments of this shape that the words of the text are. The room is for their bytes.
+/// The arguments that the words of the text are. The room is for their bytes, of which one parameter asks at most.
 pub fn read_arguments<'a>(
     text: &[u8],
-    shape: Shape,
+    parameters: &[Parameter],
     registers: &Registers,
-    room: &'a mut [u8; 1024],
-) -> Option<Arguments<'a>>
-    ensures found { IfSome result (λ a. IsArguments registers.now (words_of text.now) shape (values_of a)) }
-    ensures none { IfNone result ((a : Values) → IsArguments registers.now (words_of text.now) shape a → ⊥) }
+    room: &'a mut [u8; MOST_BYTES],
+) -> Option<ArrayVec<Argument<'a>, MOST_PARAMETERS>>
+    requires few { length parameters.now ≤ MOST_PARAMETERS }
+    requires one { rooms_in parameters.now ≤ 1 }
+    ensures found { IfSome result (λ a. AreArguments registers.now (words_of text.now) parameters.now (values_of a.items)) }
+    ensures fits { IfSome result (λ a. AreFit parameters.now a.items) }
+    ensures none { IfNone result ((values : List Value) → AreArguments registers.now (words_of text.now) parameters.now values → ⊥) }
 {
-    match shape {
-        Shape::Nothing => nothing(text, registers),
-        Shape::Word => word(text, registers),
-        Shape::Dword => dword(text, registers),
-        Shape::WordDword => word_dword(text, registers),
-        Shape::DwordCount => dword_count(text, registers),
-        Shape::DwordBytes => dword_bytes(text, registers, room),
-        Shape::DwordCountByte => dword_count_byte(text, registers),
+    let mut arguments = ArrayVec::new();
+    let mut rest = text;
+    let mut room = Some(room);
+    for parameter in parameters {
+        let (word, behind) = split_word(rest)?;
+        let lent = match parameter {
+            Parameter::Bytes => room.take(),
+            _ => None,
+        };
+        let argument = read_argument(word, *parameter, registers, lent)?;
+        arguments.push(argument);
+        rest = behind;
+    }
+    match split_word(rest) {
+        Some(_) => None,
+        None => Some(arguments),
     }
 }

@@ -1,19 +1,79 @@
 //! Bytes in hexadecimal.
-ghost use Rattle.std.specs.Prelude.{List, ℕ, IfSome, IfNone};
+ghost use Rattle.std.specs.Prelude.{◌≡◌, ◌*◌, ◌<◌, List, ℕ, IsTrue, IsFalse, IfSome, IfNone, Ok, MatchOption, length, slice_index};
+ghost use Rattle.hex.specs.Hex.{decode_of, hex_digit_value};
 ghost use Rattle.w16_script.specs.Grammar.{IsBytes};
 
+/// The most bytes that a command may write.
+pub const MOST_BYTES: usize = 1024;
+
+/// What stands in the table for a byte that is no digit.
+const NO_DIGIT: u8 = 16;
+
+/// What each byte stands for as a digit.
+const VALUES: &[u8; 256] = b"\
+    \x10\x10\x10\x10\x10\x10\x10\x10\x10\x10\x10\x10\x10\x10\x10\x10\
+    \x10\x10\x10\x10\x10\x10\x10\x10\x10\x10\x10\x10\x10\x10\x10\x10\
+    \x10\x10\x10\x10\x10\x10\x10\x10\x10\x10\x10\x10\x10\x10\x10\x10\
+    \x00\x01\x02\x03\x04\x05\x06\x07\x08\x09\x10\x10\x10\x10\x10\x10\
+    \x10\x0a\x0b\x0c\x0d\x0e\x0f\x10\x10\x10\x10\x10\x10\x10\x10\x10\
+    \x10\x10\x10\x10\x10\x10\x10\x10\x10\x10\x10\x10\x10\x10\x10\x10\
+    \x10\x0a\x0b\x0c\x0d\x0e\x0f\x10\x10\x10\x10\x10\x10\x10\x10\x10\
+    \x10\x10\x10\x10\x10\x10\x10\x10\x10\x10\x10\x10\x10\x10\x10\x10\
+    \x10\x10\x10\x10\x10\x10\x10\x10\x10\x10\x10\x10\x10\x10\x10\x10\
+    \x10\x10\x10\x10\x10\x10\x10\x10\x10\x10\x10\x10\x10\x10\x10\x10\
+    \x10\x10\x10\x10\x10\x10\x10\x10\x10\x10\x10\x10\x10\x10\x10\x10\
+    \x10\x10\x10\x10\x10\x10\x10\x10\x10\x10\x10\x10\x10\x10\x10\x10\
+    \x10\x10\x10\x10\x10\x10\x10\x10\x10\x10\x10\x10\x10\x10\x10\x10\
+    \x10\x10\x10\x10\x10\x10\x10\x10\x10\x10\x10\x10\x10\x10\x10\x10\
+    \x10\x10\x10\x10\x10\x10\x10\x10\x10\x10\x10\x10\x10\x10\x10\x10\
+    \x10\x10\x10\x10\x10\x10\x10\x10\x10\x10\x10\x10\x10\x10\x10\x10\
+";
+
+/// What a table has at a byte.
+fn entry(table: &[u8; 256], byte: u8) -> u8
+    ensures { result ≡ slice_index table.now byte }
+{
+    table[byte as usize]
+}
+
+/// What a byte stands for as a digit, its letters in either case; [`NO_DIGIT`] where it is none.
+fn value_of(byte: u8) -> u8
+    ensures { MatchOption (hex_digit_value byte) (result ≡ NO_DIGIT) (λ value. (result ≡ value) × (value < NO_DIGIT)) }
+{
+    entry(VALUES, byte)
+}
+
+/// Decodes two digits for each byte, and says whether all were digits. A table serves better than comparisons, which mispredict.
+fn decode(word: &[u8], bytes: &mut [u8]) -> bool
+    requires { length word.now ≡ 2 * length bytes.old }
+    ensures length { length bytes.new ≡ length bytes.old }
+    ensures ok { IsTrue result → decode_of word.now ≡ Ok bytes.new }
+    ensures none { IsFalse result → (other : List ℕ) → decode_of word.now ≡ Ok other → ⊥ }
+{
+    'pairs: for at in 0..bytes.len() {
+        let high = value_of(word[2 * at]);
+        let low = value_of(word[2 * at + 1]);
+        if high == NO_DIGIT || low == NO_DIGIT {
+            return false;
+        }
+        bytes[at] = high * 16 + low;
+    }
+    true
+}
+
 /// One to 1,024 bytes in hexadecimal of either case, in the room that is lent.
-pub fn bytes<'a>(word: &[u8], room: &'a mut [u8; 1024]) -> Option<&'a [u8]>
+pub fn bytes<'a>(word: &[u8], room: &'a mut [u8; MOST_BYTES]) -> Option<&'a [u8]>
     ensures found { IfSome result (λ bytes. IsBytes word.now bytes.now) }
     ensures none { IfNone result ((bytes : List ℕ) → IsBytes word.now bytes → ⊥) }
 {
     let count = word.len() / 2;
-    if count == 0 || count > 1024 {
+    if count == 0 || count > MOST_BYTES || word.len() % 2 != 0 {
         return None;
     }
     let bytes = &mut room[..count];
-    match hex::decode_to_slice(word, bytes) {
-        Ok(()) => Some(bytes),
-        Err(_) => None,
+    if decode(word, bytes) {
+        Some(bytes)
+    } else {
+        None
     }
 }

@@ -8,7 +8,7 @@ ghost use Rattle.w16_script.specs.Unfinished.{progress_of, state_of};
 
 use crate::outcome::RunFault;
 use crate::registers::Registers;
-use crate::running::run_line;
+use crate::running::{Rooms, run_line};
 use arrayvec::ArrayVec;
 use memchr::memchr;
 use std::io::Write;
@@ -21,13 +21,14 @@ const LONGEST_LINE: usize = 4096;
 const MOST_LINES: u32 = 1_000_000;
 
 /// What is known between two bytes: the line so far, how many lines ended before it, how many of those had a
-/// reply, and the registers.
+/// reply, and the registers. The rooms are lent to each line, and what they have is never read again.
 #[derive(Drop)]
 pub struct Unfinished {
     pub line: ArrayVec<u8, LONGEST_LINE>,
     pub lines: u32,
     pub replies: u32,
     pub registers: Registers,
+    pub rooms: Rooms,
 }
 
 impl Unfinished {
@@ -44,6 +45,7 @@ impl Unfinished {
             lines: 0,
             replies: 0,
             registers: Registers::new(),
+            rooms: Rooms::new(),
         }
     }
 
@@ -99,14 +101,14 @@ fn end_line<W: Write>(
     kernel: &mut Kernel,
 ) -> Result<(), RunFault>
     requires fits { IsWithinLimits (progress_of state.old) }
-    requires few { state.old.lines < 1000000 }
+    requires few { state.old.lines < MOST_LINES }
     ensures ok { OnOk result (Feeds (W.contents writer.old) (progress_of state.old) (state_of state.old kernel.old) (10 ∷ []) (W.contents writer.new) (progress_of state.new) (state_of state.new kernel.new)) }
     ensures within { OnOk result (IsWithinLimits (progress_of state.new)) }
     ensures room { OnOk result (room_of (progress_of state.new) < room_of (progress_of state.old)) }
     ensures err { IfErr result (λ fault. FailsAt (W.contents writer.old) (state_of state.old kernel.old) (strip_last 13 state.old.line.items) fault (W.contents writer.new) (state_of state.new kernel.new)) }
 {
     let line = without_cr(state.line.as_slice());
-    let replied = run_line(writer, kernel, &mut state.registers, line)?;
+    let replied = run_line(writer, kernel, &mut state.registers, &mut state.rooms, line)?;
     state.line.clear();
     state.lines += 1;
     if replied {

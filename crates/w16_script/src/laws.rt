@@ -1,10 +1,5 @@
 //! Laws of the language, which have no code.
-ghost use Rattle.w16_script.specs.Laws.{EachFits, OneReading, EachIsPlain};
-
-/// The arguments of every command have the shape that is asked of its words.
-pub fn arguments_fit()
-    ensures { EachFits }
-{}
+ghost use Rattle.w16_script.specs.Laws.{OneReading, EachIsPlain};
 
 /// A line has only one reading.
 pub fn one_reading()

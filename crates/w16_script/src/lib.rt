@@ -18,7 +18,8 @@ mod walk;
 mod words;
 mod write;
 
-pub use laws::{arguments_fit, one_reading, plain_bytes};
+pub use bytes::MOST_BYTES;
+pub use laws::{one_reading, plain_bytes};
 pub use line::{Line, read_line};
 pub use outcome::{Ended, RunFault};
 pub use print::{print_error, print_reply};

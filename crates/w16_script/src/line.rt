@@ -1,87 +1,70 @@
 //! Lines of a script.
 ghost use Rattle.std.specs.Prelude.{◌≡◌, ◌≤◌, ◌<◌, ◌∷◌, ℕ, List, length, IfSome, IfNone, Option, Some};
-ghost use Rattle.w16_kernel.specs.Runs.{command_of};
 ghost use Rattle.w16_script.specs.Words.{words_of};
-ghost use Rattle.w16_script.specs.Grammar.{Reads, GoesTo, IsCommand, text_of, shape_of, name_of, arguments_of, HasShape, HasFewBytes};
-ghost use Rattle.w16_script.specs.Values.{values_of};
+ghost use Rattle.w16_machine.specs.Machine.{Command};
+ghost use Rattle.w16_kernel.specs.Runs.{command_of, IsCall};
+ghost use Rattle.w16_script.specs.Grammar.{Reads, GoesTo, Makes, text_of, parameters_of, command_with};
+ghost use Rattle.w16_script.specs.Values.{values_of, AreFit};
 ghost use Rattle.w16_script.specs.Lines.{said_of, IsRunnable};
 
-use crate::arguments::{Arguments, read_arguments};
-use crate::name::Name;
+use crate::arguments::{Argument, Parameter, byte, bytes, count, dword, read_arguments, word};
+use crate::bytes::MOST_BYTES;
+use crate::name::{Name, find};
 use crate::registers::{Registers, register};
 use crate::words::split_word;
-use w16_kernel::{Call, Chunk};
+use w16_kernel::Call;
 
 /// What a line says: nothing, nothing that is known, or a command, whose reply goes to the target, if there
 /// is one.
-#[derive(Debug, Drop)]
-pub enum Line {
+#[derive(Debug, Clone, Copy)]
+pub enum Line<'a> {
     Silent,
     Bad,
-    Command { target: Option<u8>, call: Call },
-}
-
-/// Bytes, of which there are at most 1,024.
-fn chunk_of(bytes: &[u8]) -> Chunk
-    requires { length bytes.now ≤ 1024 }
-    ensures { result.items ≡ bytes.now }
-{
-    let mut chunk = Chunk::new();
-    let _ = chunk.try_extend_from_slice(bytes);
-    chunk
+    Command { target: Option<u8>, call: Call<'a> },
 }
 
 /// The call of a command with these arguments.
-fn build(name: Name, arguments: Arguments<'_>) -> Call
-    requires shape { HasShape (values_of arguments) (shape_of name) }
-    requires few { HasFewBytes (values_of arguments) }
-    ensures name { name_of (command_of result) ≡ name }
-    ensures arguments { arguments_of (command_of result) ≡ values_of arguments.entry }
+fn build<'a>(name: Name, a: &[Argument<'a>]) -> Call<'a>
+    ensures command { command_of result ≡ command_with name (values_of a.now) }
+    ensures call { AreFit (parameters_of name) a.now → IsCall result }
 {
-    match (name, arguments) {
-        (Name::GlobalAlloc, Arguments::WordDword(flags, size)) => Call::GlobalAlloc { flags, size },
-        (Name::GlobalFree, Arguments::Word(handle)) => Call::GlobalFree { handle },
-        (Name::GlobalLock, Arguments::Word(handle)) => Call::GlobalLock { handle },
-        (Name::GlobalUnlock, Arguments::Word(handle)) => Call::GlobalUnlock { handle },
-        (Name::GlobalSize, Arguments::Word(handle)) => Call::GlobalSize { handle },
-        (Name::GlobalFlags, Arguments::Word(handle)) => Call::GlobalFlags { handle },
-        (Name::GlobalHandle, Arguments::Word(selector)) => Call::GlobalHandle { selector },
-        (Name::GetSelectorBase, Arguments::Word(selector)) => Call::GetSelectorBase { selector },
-        (Name::GetSelectorLimit, Arguments::Word(selector)) => Call::GetSelectorLimit { selector },
-        (Name::GlobalCompact, Arguments::Dword(size)) => Call::GlobalCompact { size },
-        (Name::GlobalLRUNewest, Arguments::Word(handle)) => Call::GlobalLRUNewest { handle },
-        (Name::GlobalLRUOldest, Arguments::Word(handle)) => Call::GlobalLRUOldest { handle },
-        (Name::Moved, Arguments::Nothing) => Call::Moved,
-        (Name::Walk, Arguments::Nothing) => Call::Walk,
-        (Name::Read, Arguments::DwordCount(pointer, count)) => Call::Read { pointer, count },
-        (Name::Write, Arguments::DwordBytes(pointer, bytes)) => Call::Write {
-            pointer,
-            bytes: chunk_of(bytes),
+    match name {
+        Name::GlobalAlloc => Call::GlobalAlloc {
+            flags: word(a, 0),
+            size: dword(a, 1),
         },
-        (Name::Fill, Arguments::DwordCountByte(pointer, count, byte)) => Call::Fill {
-            pointer,
-            count,
-            byte,
+        Name::GlobalFree => Call::GlobalFree { handle: word(a, 0) },
+        Name::GlobalLock => Call::GlobalLock { handle: word(a, 0) },
+        Name::GlobalUnlock => Call::GlobalUnlock { handle: word(a, 0) },
+        Name::GlobalSize => Call::GlobalSize { handle: word(a, 0) },
+        Name::GlobalFlags => Call::GlobalFlags { handle: word(a, 0) },
+        Name::GlobalHandle => Call::GlobalHandle {
+            selector: word(a, 0),
         },
-        _ => unreachable!(),
-    }
-}
-
-/// The command of this name with the arguments in this text, or a bad line. The call is built in place: it is
-/// large.
-#[tactic(auto, using(crate::proofs::ArgumentLemmas::shaped, crate::proofs::ArgumentLemmas::few, crate::proofs::ArgumentLemmas::built, crate::proofs::ArgumentLemmas::refused))]
-fn command(target: Option<u8>, name: Name, text: &[u8], registers: &Registers) -> Line
-    requires { IfSome target (λ r. r < 100) }
-    ensures says { IsCommand registers.now target name (words_of text.now) (said_of result) }
-    ensures runnable { IsRunnable result }
-{
-    let mut room = [0; 1024];
-    match read_arguments(text, name.shape(), registers, &mut room) {
-        Some(arguments) => Line::Command {
-            target,
-            call: build(name, arguments),
+        Name::GetSelectorBase => Call::GetSelectorBase {
+            selector: word(a, 0),
         },
-        None => Line::Bad,
+        Name::GetSelectorLimit => Call::GetSelectorLimit {
+            selector: word(a, 0),
+        },
+        Name::GlobalCompact => Call::GlobalCompact { size: dword(a, 0) },
+        Name::GlobalLRUNewest => Call::GlobalLRUNewest { handle: word(a, 0) },
+        Name::GlobalLRUOldest => Call::GlobalLRUOldest { handle: word(a, 0) },
+        Name::Moved => Call::Moved,
+        Name::Walk => Call::Walk,
+        Name::Read => Call::Read {
+            pointer: dword(a, 0),
+            count: count(a, 1),
+        },
+        Name::Write => Call::Write {
+            pointer: dword(a, 0),
+            bytes: bytes(a, 1),
+        },
+        Name::Fill => Call::Fill {
+            pointer: dword(a, 0),
+            count: count(a, 1),
+            byte: byte(a, 2),
+        },
     }
 }
 
@@ -98,24 +81,46 @@ fn split_target<'a>(word: &[u8], text: &'a [u8]) -> Option<(u8, &'a [u8])>
     }
 }
 
-/// The register before a command, if there is one, the command's name, and what stands behind it.
-fn head<'a>(word: &[u8], text: &'a [u8]) -> Option<(Option<u8>, Name, &'a [u8])>
-    ensures found { IfSome result (λ head. GoesTo (word.now ∷ words_of text.now) head.0 (text_of head.1 ∷ words_of head.2.now)) }
+/// The command of this name and with these parameters that the text makes.
+fn call<'a>(
+    name: Name,
+    parameters: &[Parameter],
+    text: &[u8],
+    registers: &Registers,
+    room: &'a mut [u8; MOST_BYTES],
+) -> Option<Call<'a>>
+    requires { parameters.now ≡ parameters_of name }
+    ensures found { IfSome result (λ call. Makes registers.now name (words_of text.now) (command_of call)) }
+    ensures call { IfSome result (λ call. IsCall call) }
+    ensures none { IfNone result ((command : Command) → Makes registers.now name (words_of text.now) command → ⊥) }
+{
+    let arguments = read_arguments(text, parameters, registers, room)?;
+    Some(build(name, arguments.as_slice()))
+}
+
+/// The register before a command, if there is one, the command's name with its parameters, and what stands behind it.
+fn head<'a>(
+    word: &[u8],
+    text: &'a [u8],
+) -> Option<(Option<u8>, Name, &'static [Parameter], &'a [u8])>
+    ensures found { IfSome result (λ head. GoesTo (word.now ∷ words_of text.now) head.0 (text_of head.1 ∷ words_of head.3.now)) }
+    ensures parameters { IfSome result (λ head. head.2.now ≡ parameters_of head.1) }
     ensures small { IfSome result (λ head. IfSome head.0 (λ r. r < 100)) }
     ensures none { IfNone result ((target : Option ℕ) (name : Name) (rest : List (List ℕ)) → GoesTo (word.now ∷ words_of text.now) target (text_of name ∷ rest) → ⊥) }
 {
     let Some((register, command)) = split_target(word, text) else {
-        let name = Name::find(word)?;
-        return Some((None, name, text));
+        let (name, parameters) = find(word)?;
+        return Some((None, name, parameters, text));
     };
     let (word, behind) = split_word(command)?;
-    let name = Name::find(word)?;
-    Some((Some(register), name, behind))
+    let (name, parameters) = find(word)?;
+    Some((Some(register), name, parameters, behind))
 }
 
 /// Reads a line, from which its LF and a CR directly before it were taken off, with what the registers have.
 /// It allocates nothing, and always answers: what is neither silent nor a command is `Bad`.
-pub fn read_line(line: &[u8], registers: &Registers) -> Line
+/// The bytes of a command are put into the room.
+pub fn read_line<'a>(line: &[u8], registers: &Registers, room: &'a mut [u8; MOST_BYTES]) -> Line<'a>
     ensures reads { Reads registers.now line.now (said_of result) }
     ensures runnable { IsRunnable result }
 {
@@ -125,8 +130,11 @@ pub fn read_line(line: &[u8], registers: &Registers) -> Line
     if word[0] == b';' {
         return Line::Silent;
     }
-    match head(word, behind) {
-        Some((target, name, text)) => command(target, name, text, registers),
+    let Some((target, name, parameters, text)) = head(word, behind) else {
+        return Line::Bad;
+    };
+    match call(name, parameters, text, registers, room) {
+        Some(call) => Line::Command { target, call },
         None => Line::Bad,
     }
 }

@@ -1,7 +1,9 @@
 //! The names of commands.
-ghost use Rattle.std.specs.Prelude.{◌≡◌, IfSome, IfNone};
+ghost use Rattle.std.specs.Prelude.{◌≡◌, ◌↔◌, IsTrue, IfSome, IfNone};
+ghost use Rattle.w16_script.specs.Grammar.{text_of, parameters_of};
 
-use crate::arguments::Shape;
+use crate::arguments::Parameter;
+use w16_kernel::{MOST_FILLED, MOST_READ};
 
 /// A command, without its arguments.
 #[derive(Clone, Copy)]
@@ -25,58 +27,77 @@ pub enum Name {
     Fill,
 }
 
-impl Name {
-    ghost use Rattle.w16_script.specs.Grammar.{text_of, shape_of};
+/// Whether a word is this text.
+fn is(word: &[u8], text: &[u8]) -> bool
+    ensures { IsTrue result ↔ (word.now ≡ text.now) }
+{
+    word == text
+}
 
-    /// The command of this name, whose case counts.
-    pub fn find(word: &[u8]) -> Option<Name>
-        ensures found { IfSome result (λ name. word.now ≡ text_of name) }
-        ensures none { IfNone result ((name : _) → word.now ≡ text_of name → ⊥) }
-    {
-        match word {
-            _ if word == b"GlobalAlloc".as_slice() => Some(Name::GlobalAlloc),
-            _ if word == b"GlobalFree".as_slice() => Some(Name::GlobalFree),
-            _ if word == b"GlobalLock".as_slice() => Some(Name::GlobalLock),
-            _ if word == b"GlobalUnlock".as_slice() => Some(Name::GlobalUnlock),
-            _ if word == b"GlobalSize".as_slice() => Some(Name::GlobalSize),
-            _ if word == b"GlobalFlags".as_slice() => Some(Name::GlobalFlags),
-            _ if word == b"GlobalHandle".as_slice() => Some(Name::GlobalHandle),
-            _ if word == b"GetSelectorBase".as_slice() => Some(Name::GetSelectorBase),
-            _ if word == b"GetSelectorLimit".as_slice() => Some(Name::GetSelectorLimit),
-            _ if word == b"GlobalCompact".as_slice() => Some(Name::GlobalCompact),
-            _ if word == b"GlobalLRUNewest".as_slice() => Some(Name::GlobalLRUNewest),
-            _ if word == b"GlobalLRUOldest".as_slice() => Some(Name::GlobalLRUOldest),
-            _ if word == b"Moved".as_slice() => Some(Name::Moved),
-            _ if word == b"Walk".as_slice() => Some(Name::Walk),
-            _ if word == b"Read".as_slice() => Some(Name::Read),
-            _ if word == b"Write".as_slice() => Some(Name::Write),
-            _ if word == b"Fill".as_slice() => Some(Name::Fill),
+/// The command of this name, whose case counts, and its parameters.
+pub fn find(word: &[u8]) -> Option<(Name, &'static [Parameter])>
+    ensures found { IfSome result (λ found. word.now ≡ text_of found.0) }
+    ensures parameters { IfSome result (λ found. found.1.now ≡ parameters_of found.0) }
+    ensures none { IfNone result ((name : _) → word.now ≡ text_of name → ⊥) }
+{
+    match word.len() {
+        4 => match word {
+            _ if is(word, b"Walk") => Some((Name::Walk, &[])),
+            _ if is(word, b"Read") => Some((
+                Name::Read,
+                &[Parameter::Dword, Parameter::Count(MOST_READ as u32)],
+            )),
+            _ if is(word, b"Fill") => Some((
+                Name::Fill,
+                &[
+                    Parameter::Dword,
+                    Parameter::Count(MOST_FILLED),
+                    Parameter::Byte,
+                ],
+            )),
             _ => None,
-        }
-    }
-
-    /// Which arguments the command has.
-    pub fn shape(self) -> Shape
-        ensures { result ≡ shape_of self }
-    {
-        match self {
-            Name::GlobalAlloc => Shape::WordDword,
-            Name::GlobalFree => Shape::Word,
-            Name::GlobalLock => Shape::Word,
-            Name::GlobalUnlock => Shape::Word,
-            Name::GlobalSize => Shape::Word,
-            Name::GlobalFlags => Shape::Word,
-            Name::GlobalHandle => Shape::Word,
-            Name::GetSelectorBase => Shape::Word,
-            Name::GetSelectorLimit => Shape::Word,
-            Name::GlobalCompact => Shape::Dword,
-            Name::GlobalLRUNewest => Shape::Word,
-            Name::GlobalLRUOldest => Shape::Word,
-            Name::Moved => Shape::Nothing,
-            Name::Walk => Shape::Nothing,
-            Name::Read => Shape::DwordCount,
-            Name::Write => Shape::DwordBytes,
-            Name::Fill => Shape::DwordCountByte,
-        }
+        },
+        5 => match word {
+            _ if is(word, b"Moved") => Some((Name::Moved, &[])),
+            _ if is(word, b"Write") => Some((Name::Write, &[Parameter::Dword, Parameter::Bytes])),
+            _ => None,
+        },
+        10 => match word {
+            _ if is(word, b"GlobalFree") => Some((Name::GlobalFree, &[Parameter::Word])),
+            _ if is(word, b"GlobalLock") => Some((Name::GlobalLock, &[Parameter::Word])),
+            _ if is(word, b"GlobalSize") => Some((Name::GlobalSize, &[Parameter::Word])),
+            _ => None,
+        },
+        11 => match word {
+            _ if is(word, b"GlobalAlloc") => Some((
+                Name::GlobalAlloc,
+                &[Parameter::Word, Parameter::Dword],
+            )),
+            _ if is(word, b"GlobalFlags") => Some((Name::GlobalFlags, &[Parameter::Word])),
+            _ => None,
+        },
+        12 => match word {
+            _ if is(word, b"GlobalUnlock") => Some((Name::GlobalUnlock, &[Parameter::Word])),
+            _ if is(word, b"GlobalHandle") => Some((Name::GlobalHandle, &[Parameter::Word])),
+            _ => None,
+        },
+        13 => match word {
+            _ if is(word, b"GlobalCompact") => Some((Name::GlobalCompact, &[Parameter::Dword])),
+            _ => None,
+        },
+        15 => match word {
+            _ if is(word, b"GetSelectorBase") => Some((Name::GetSelectorBase, &[Parameter::Word])),
+            _ if is(word, b"GlobalLRUNewest") => Some((Name::GlobalLRUNewest, &[Parameter::Word])),
+            _ if is(word, b"GlobalLRUOldest") => Some((Name::GlobalLRUOldest, &[Parameter::Word])),
+            _ => None,
+        },
+        16 => match word {
+            _ if is(word, b"GetSelectorLimit") => Some((
+                Name::GetSelectorLimit,
+                &[Parameter::Word],
+            )),
+            _ => None,
+        },
+        _ => None,
     }
 }

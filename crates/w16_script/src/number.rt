@@ -4,6 +4,9 @@ ghost use Rattle.w16_script.specs.Numbers.{IsDigits, IsLiteral, IsForm, IsOfRegi
 
 use crate::registers::{Registers, split_register};
 
+/// How many values a word has.
+const WORDS: u32 = 65_536;
+
 /// The number that digits of the base stand for.
 fn digits(text: &[u8], base: u32) -> Option<u32>
     requires { (2 ≤ base) × (base ≤ 16) }
@@ -53,8 +56,8 @@ fn form(value: u32, suffix: &[u8]) -> Option<u32>
     match suffix.split_first() {
         None => Some(value),
         Some((b'+', tail)) => sum(value, tail),
-        Some((b'.', b"lo")) => Some(value % 65_536),
-        Some((b'.', b"hi")) => Some(value / 65_536),
+        Some((b'.', b"lo")) => Some(value % WORDS),
+        Some((b'.', b"hi")) => Some(value / WORDS),
         Some(_) => None,
     }
 }

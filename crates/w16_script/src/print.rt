@@ -3,10 +3,10 @@ ghost use Rattle.std.specs.Prelude.{◌≡◌, ◌+◌, ◌*◌, ◌≤◌, ◌+
 ghost use Rattle.std.specs.Io.KnownBytes.{Appends};
 ghost use Rattle.hex.specs.Hex.{encode_lower};
 ghost use Rattle.arrayvec.specs.ArrayVec.{array_vec_len};
-ghost use Rattle.w16_model.specs.Machine as machine;
+ghost use Rattle.w16_machine.specs.Machine as machine;
 ghost use Rattle.w16_kernel.specs.Runs.{reply_of};
 ghost use Rattle.w16_script.specs.Written.{AppendsFront};
-ghost use Rattle.w16_script.specs.Printed.{end_text, reply_text, digits_behind, error_text};
+ghost use Rattle.w16_script.specs.Printed.{end_text, reply_text, error_text};
 
 use crate::write::write_whole;
 use arrayvec::ArrayVec;
@@ -14,8 +14,8 @@ use std::io::{Result, Write};
 use w16_kernel::Reply;
 use w16_model::FarFault;
 
-/// A line that is printed: the longest is `bytes`, a space, 2,048 digits and an LF.
-type Text = ArrayVec<u8, 2055>;
+/// How many bytes are printed at once.
+const PIECE: usize = 32;
 
 /// Appends bytes for which there is room.
 pub fn append<const N: usize>(text: &mut ArrayVec<u8, N>, bytes: &[u8])
@@ -24,34 +24,6 @@ pub fn append<const N: usize>(text: &mut ArrayVec<u8, N>, bytes: &[u8])
     ensures len { array_vec_len text.new ≡ array_vec_len text.old + length bytes.now }
 {
     let _ = text.try_extend_from_slice(bytes);
-}
-
-/// Appends the digits of bytes for which there is room.
-#[tactic(auto, using(crate::proofs::PrintLemmas::hex_lengths))]
-fn append_hex(text: &mut Text, bytes: &[u8])
-    requires few { length bytes.now ≤ 1024 }
-    requires room { array_vec_len text.old + 2 * length bytes.now ≤ 2055 }
-    ensures items { text.new.items ≡ text.old.items ++ encode_lower bytes.now }
-    ensures len { array_vec_len text.new ≡ array_vec_len text.old + 2 * length bytes.now }
-{
-    let mut buffer = [0; 2048];
-    let digits = &mut buffer[..2 * bytes.len()];
-    let _ = hex::encode_to_slice(bytes, digits);
-    append(text, digits);
-}
-
-/// Appends a space and the digits of bytes, if there are any.
-fn append_bytes(text: &mut Text, bytes: &[u8])
-    requires few { length bytes.now ≤ 1024 }
-    requires room { array_vec_len text.old ≤ 5 }
-    ensures items { text.new.items ≡ text.old.items ++ digits_behind bytes.now }
-    ensures short { array_vec_len text.new ≤ 2054 }
-{
-    if bytes.is_empty() {
-        return;
-    }
-    append(text, b" ");
-    append_hex(text, bytes);
 }
 
 /// Appends the digits of a word or a double word for which there is room.
@@ -68,29 +40,52 @@ pub fn append_digits<const N: usize>(text: &mut ArrayVec<u8, N>, bytes: &[u8])
     append(text, digits);
 }
 
-/// Prints the digits of a word or a double word.
+/// The digits of a piece.
+fn digits_of<'a>(bytes: &[u8], room: &'a mut [u8; 2 * PIECE + 1]) -> &'a [u8]
+    requires few { length bytes.now ≤ PIECE }
+    ensures { result.now ≡ encode_lower bytes.now }
+{
+    let digits = &mut room[..2 * bytes.len()];
+    let _ = hex::encode_to_slice(bytes, digits);
+    digits
+}
+
+/// The digits of the last piece of a line, and the line's LF.
+fn last_digits<'a>(bytes: &[u8], room: &'a mut [u8; 2 * PIECE + 1]) -> &'a [u8]
+    requires few { length bytes.now ≤ PIECE }
+    ensures { result.now ≡ encode_lower bytes.now ++ 10 ∷ [] }
+{
+    let end = 2 * bytes.len();
+    let _ = hex::encode_to_slice(bytes, &mut room[..end]);
+    room[end] = b'\n';
+    &room[..end + 1]
+}
+
+/// Prints the digits of bytes, piece by piece, and an LF.
 fn print_digits<W: Write>(writer: &mut W, bytes: &[u8]) -> Result<()>
-    requires few { length bytes.now ≤ 4 }
     ensures ok { OnOk result (Appends (W.contents writer.old) (W.contents writer.new) (encode_lower bytes.now ++ 10 ∷ [])) }
     ensures err { OnErr result (AppendsFront (W.contents writer.old) (W.contents writer.new) (encode_lower bytes.now ++ 10 ∷ [])) }
 {
-    let mut text: ArrayVec<u8, 9> = ArrayVec::new();
-    append_digits(&mut text, bytes);
-    append(&mut text, b"\n");
-    write_whole(writer, text.as_slice())
+    let mut room = [0; 2 * PIECE + 1];
+    let mut rest = bytes;
+    'pieces: while rest.len() > PIECE {
+        let (piece, behind) = rest.split_at(PIECE);
+        write_whole(writer, digits_of(piece, &mut room))?;
+        rest = behind;
+    }
+    write_whole(writer, last_digits(rest, &mut room))
 }
 
 /// Prints bytes that were read.
 fn print_bytes<W: Write>(writer: &mut W, bytes: &[u8]) -> Result<()>
-    requires few { length bytes.now ≤ 1024 }
     ensures ok { OnOk result (Appends (W.contents writer.old) (W.contents writer.new) (reply_text (machine.Reply.Bytes bytes.now))) }
     ensures err { OnErr result (AppendsFront (W.contents writer.old) (W.contents writer.new) (reply_text (machine.Reply.Bytes bytes.now))) }
 {
-    let mut text = Text::new();
-    append(&mut text, b"bytes");
-    append_bytes(&mut text, bytes);
-    append(&mut text, b"\n");
-    write_whole(writer, text.as_slice())
+    if bytes.is_empty() {
+        return write_whole(writer, b"bytes\n");
+    }
+    write_whole(writer, b"bytes ")?;
+    print_digits(writer, bytes)
 }
 
 /// A fault's line.
@@ -106,14 +101,14 @@ fn fault_line(fault: FarFault) -> &'static [u8]
 }
 
 /// Prints a reply as one line; for a walk that is the line behind its items. It fails where the writer failed or took nothing, after a front of the line.
-pub fn print_reply<W: Write>(writer: &mut W, reply: &Reply) -> Result<()>
+pub fn print_reply<W: Write>(writer: &mut W, reply: &Reply<'_>) -> Result<()>
     ensures ok { OnOk result (Appends (W.contents writer.old) (W.contents writer.new) (reply_text (reply_of reply.now))) }
     ensures err { OnErr result (AppendsFront (W.contents writer.old) (W.contents writer.new) (reply_text (reply_of reply.now))) }
 {
     match reply {
         Reply::Word(word) => print_digits(writer, &word.to_be_bytes()),
         Reply::Dword(dword) => print_digits(writer, &dword.to_be_bytes()),
-        Reply::Bytes(bytes) => print_bytes(writer, bytes.as_slice()),
+        Reply::Bytes(bytes) => print_bytes(writer, bytes),
         Reply::Done => write_whole(writer, b"ok\n"),
         Reply::Fault(fault) => write_whole(writer, fault_line(*fault)),
         Reply::Walk(_) => print_end(writer),

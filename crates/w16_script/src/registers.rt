@@ -46,7 +46,7 @@ impl Registers {
     }
 
     /// Stores a reply in the register that it goes to, if to any. Only a word and a double word are stored.
-    pub fn store(&mut self, target: Option<u8>, reply: &Reply)
+    pub fn store(&mut self, target: Option<u8>, reply: &Reply<'_>)
         requires { IfSome target (λ r. r < 100) }
         ensures { self.new ≡ stored self.old target (reply_of reply.now) }
     {

@@ -7,16 +7,33 @@ ghost use Rattle.w16_script.specs.Output.{Shows, RunsLines, has_reply};
 ghost use Rattle.w16_script.specs.Written.{AppendsFront};
 ghost use Rattle.w16_script.specs.Feeding.{FailsAt};
 
+use crate::bytes::MOST_BYTES;
 use crate::line::{Line, read_line};
 use crate::outcome::RunFault;
 use crate::print::{print_error, print_reply};
 use crate::registers::Registers;
 use crate::walk::print_walk;
 use std::io::{self, Write};
-use w16_kernel::{Kernel, Reply};
+use w16_kernel::{Kernel, MOST_READ, Reply};
+
+/// Room for the bytes of one line: those that it writes, and those that it reads.
+#[derive(Drop)]
+pub struct Rooms {
+    written: [u8; MOST_BYTES],
+    read: [u8; MOST_READ],
+}
+
+impl Rooms {
+    pub fn new() -> Self {
+        Rooms {
+            written: [0; MOST_BYTES],
+            read: [0; MOST_READ],
+        }
+    }
+}
 
 /// Prints what is shown for a reply, in the world that its command left.
-fn print_shown<W: Write>(writer: &mut W, kernel: &Kernel, reply: &Reply) -> io::Result<()>
+fn print_shown<W: Write>(writer: &mut W, kernel: &Kernel, reply: &Reply<'_>) -> io::Result<()>
     ensures ok { OnOk result ((output : List ℕ) × Shows kernel.now (reply_of reply.now) output × Appends (W.contents writer.old) (W.contents writer.new) output) }
     ensures err { OnErr result ((output : List ℕ) × Shows kernel.now (reply_of reply.now) output × AppendsFront (W.contents writer.old) (W.contents writer.new) output) }
 {
@@ -31,19 +48,20 @@ pub fn run_line<W: Write>(
     writer: &mut W,
     kernel: &mut Kernel,
     registers: &mut Registers,
+    rooms: &mut Rooms,
     line: &[u8],
 ) -> Result<bool, RunFault>
     ensures ok { OnOk result (RunsLines (W.contents writer.old) (state_with kernel.old registers.old) (line.now ∷ []) (W.contents writer.new) (state_with kernel.new registers.new)) }
     ensures replied { IfOk result (λ replied. replied ≡ has_reply line.now) }
     ensures err { IfErr result (λ fault. FailsAt (W.contents writer.old) (state_with kernel.old registers.old) line.now fault (W.contents writer.new) (state_with kernel.new registers.new)) }
 {
-    match read_line(line, registers) {
+    match read_line(line, registers, &mut rooms.written) {
         Line::Silent => Ok(false),
         Line::Bad => match print_error(writer) {
             Ok(()) => Ok(true),
             Err(_) => Err(RunFault::Write),
         },
-        Line::Command { target, call } => match kernel.call(&call) {
+        Line::Command { target, call } => match kernel.call(&call, &mut rooms.read) {
             Ok(reply) => {
                 registers.store(target, &reply);
                 match print_shown(writer, kernel, &reply) {

@@ -36,7 +36,7 @@ fn finish<W: Write>(
             replies: state.replies,
         });
     }
-    let replied = run_line(writer, kernel, &mut state.registers, line)?;
+    let replied = run_line(writer, kernel, &mut state.registers, &mut state.rooms, line)?;
     Ok(Ended {
         lines: state.lines + 1,
         replies: state.replies + u32::from(replied),
@@ -51,7 +51,7 @@ fn run_over<R: Read, W: Write>(
     kernel: &mut Kernel,
     buffer: &mut [u8],
 ) -> Result<Ended, RunFault>
-    requires { length buffer.old ≡ 65536 }
+    requires { length buffer.old ≡ PIECE }
     ensures ok { IfOk result (λ counts. (text : List ℕ) × Consumes (R.remaining reader.old) (R.remaining reader.new) text × IsAtEnd (R.remaining reader.new)
         × Script (W.contents writer.old) kernel.old text (W.contents writer.new) kernel.new counts) }
     ensures err { IfErr result (λ fault. (text : List ℕ) × Consumes (R.remaining reader.old) (R.remaining reader.new) text

@@ -3,12 +3,12 @@ mod registers;
 mod runs;
 mod walks;
 
-use crate::{Line, Registers, RunFault, print_error, print_reply, read_line};
+use crate::{Line, MOST_BYTES, Registers, RunFault, print_error, print_reply, read_line};
 use arrayvec::ArrayVec;
 use std::io::{Error, ErrorKind, Result, Write};
 use std::process::Abort;
 use std::test::Fail;
-use w16_kernel::{Call, Chunk, Reply};
+use w16_kernel::{Call, Reply};
 use w16_model::FarFault;
 
 /// A writer that takes so many bytes, at most so many at once, and then fails.
@@ -45,7 +45,7 @@ pub fn limited(left: usize, at_once: usize) -> Short {
 
 /// The handle of a line that frees one.
 fn freed(line: &[u8]) -> Option<u16> {
-    match read_line(line, &Registers::new()) {
+    match read_line(line, &Registers::new(), &mut [0; MOST_BYTES]) {
         Line::Command {
             call: Call::GlobalFree { handle },
             ..
@@ -55,8 +55,8 @@ fn freed(line: &[u8]) -> Option<u16> {
 }
 
 /// The call of a line that has one and goes to no register.
-fn call_of(line: &[u8]) -> Option<Call> {
-    match read_line(line, &Registers::new()) {
+fn call_of<'a>(line: &[u8], room: &'a mut [u8; MOST_BYTES]) -> Option<Call<'a>> {
+    match read_line(line, &Registers::new(), room) {
         Line::Command { target: None, call } => Some(call),
         _ => None,
     }
@@ -64,9 +64,10 @@ fn call_of(line: &[u8]) -> Option<Call> {
 
 #[test]
 fn reads_each_call(rt: HostRuntime) {
+    let mut room = [0; MOST_BYTES];
     assert!(rt;
         matches!(
-            call_of(b"GlobalAlloc 0x42 100"),
+            call_of(b"GlobalAlloc 0x42 100", &mut room),
             Some(Call::GlobalAlloc {
                 flags: 0x42,
                 size: 100
@@ -75,19 +76,19 @@ fn reads_each_call(rt: HostRuntime) {
     );
     assert!(rt;
         matches!(
-            call_of(b"GlobalFree 0x106"),
+            call_of(b"GlobalFree 0x106", &mut room),
             Some(Call::GlobalFree { handle: 0x106 })
         )
     );
     assert!(rt;
         matches!(
-            call_of(b"GlobalLock 262"),
+            call_of(b"GlobalLock 262", &mut room),
             Some(Call::GlobalLock { handle: 262 })
         )
     );
     assert!(rt;
         matches!(
-            call_of(b"GlobalUnlock 0x0106"),
+            call_of(b"GlobalUnlock 0x0106", &mut room),
             Some(Call::GlobalUnlock { handle: 0x106 })
         )
     );
@@ -95,33 +96,34 @@ fn reads_each_call(rt: HostRuntime) {
 
 #[test]
 fn reads_each_question(rt: HostRuntime) {
+    let mut room = [0; MOST_BYTES];
     assert!(rt;
         matches!(
-            call_of(b"GlobalSize 0x106"),
+            call_of(b"GlobalSize 0x106", &mut room),
             Some(Call::GlobalSize { handle: 0x106 })
         )
     );
     assert!(rt;
         matches!(
-            call_of(b"GlobalFlags 0x106"),
+            call_of(b"GlobalFlags 0x106", &mut room),
             Some(Call::GlobalFlags { handle: 0x106 })
         )
     );
     assert!(rt;
         matches!(
-            call_of(b"GlobalHandle 0x107"),
+            call_of(b"GlobalHandle 0x107", &mut room),
             Some(Call::GlobalHandle { selector: 0x107 })
         )
     );
     assert!(rt;
         matches!(
-            call_of(b"GetSelectorBase 0x107"),
+            call_of(b"GetSelectorBase 0x107", &mut room),
             Some(Call::GetSelectorBase { selector: 0x107 })
         )
     );
     assert!(rt;
         matches!(
-            call_of(b"GetSelectorLimit 0x107"),
+            call_of(b"GetSelectorLimit 0x107", &mut room),
             Some(Call::GetSelectorLimit { selector: 0x107 })
         )
     );
@@ -129,45 +131,48 @@ fn reads_each_question(rt: HostRuntime) {
 
 #[test]
 fn reads_compactions(rt: HostRuntime) {
+    let mut room = [0; MOST_BYTES];
     assert!(rt;
         matches!(
-            call_of(b"GlobalCompact 0xffffffff"),
+            call_of(b"GlobalCompact 0xffffffff", &mut room),
             Some(Call::GlobalCompact {
                 size: 4_294_967_295
             })
         )
     );
-    assert!(rt; matches!(call_of(b" Moved "), Some(Call::Moved)));
-    assert!(rt; call_of(b"Moved 1").is_none());
-    assert!(rt; call_of(b"GlobalCompact").is_none());
+    assert!(rt; matches!(call_of(b" Moved ", &mut room), Some(Call::Moved)));
+    assert!(rt; call_of(b"Moved 1", &mut room).is_none());
+    assert!(rt; call_of(b"GlobalCompact", &mut room).is_none());
 }
 
 #[test]
 fn reads_what_is_asked_of_the_order(rt: HostRuntime) {
+    let mut room = [0; MOST_BYTES];
     assert!(rt;
         matches!(
-            call_of(b"GlobalLRUNewest 0x106"),
+            call_of(b"GlobalLRUNewest 0x106", &mut room),
             Some(Call::GlobalLRUNewest { handle: 0x106 })
         )
     );
     assert!(rt;
         matches!(
-            call_of(b"GlobalLRUOldest 0x106"),
+            call_of(b"GlobalLRUOldest 0x106", &mut room),
             Some(Call::GlobalLRUOldest { handle: 0x106 })
         )
     );
-    assert!(rt; matches!(call_of(b"Walk"), Some(Call::Walk)));
-    assert!(rt; call_of(b"GlobalLRUNewest").is_none());
-    assert!(rt; call_of(b"GlobalLRUOldest 0x10000").is_none());
-    assert!(rt; call_of(b"Walk 0").is_none());
-    assert!(rt; call_of(b"walk").is_none());
+    assert!(rt; matches!(call_of(b"Walk", &mut room), Some(Call::Walk)));
+    assert!(rt; call_of(b"GlobalLRUNewest", &mut room).is_none());
+    assert!(rt; call_of(b"GlobalLRUOldest 0x10000", &mut room).is_none());
+    assert!(rt; call_of(b"Walk 0", &mut room).is_none());
+    assert!(rt; call_of(b"walk", &mut room).is_none());
 }
 
 #[test]
 fn reads_far_accesses(rt: HostRuntime) {
+    let mut room = [0; MOST_BYTES];
     assert!(rt;
         matches!(
-            call_of(b"Read 0x01070000 4"),
+            call_of(b"Read 0x01070000 4", &mut room),
             Some(Call::Read {
                 pointer: 0x0107_0000,
                 count: 4
@@ -176,7 +181,7 @@ fn reads_far_accesses(rt: HostRuntime) {
     );
     assert!(rt;
         matches!(
-            call_of(b"Fill 0x01070000 65536 255"),
+            call_of(b"Fill 0x01070000 65536 255", &mut room),
             Some(Call::Fill {
                 pointer: 0x0107_0000,
                 count: 65_536,
@@ -184,14 +189,14 @@ fn reads_far_accesses(rt: HostRuntime) {
             })
         )
     );
-    assert!(rt; call_of(b"Fill 0x01070000 65537 255").is_none());
-    assert!(rt; call_of(b"Fill 0x01070000 1 256").is_none());
-    assert!(rt; call_of(b"Fill 0x01070000 1").is_none());
-    let Some(Call::Write { pointer, bytes }) = call_of(b"Write 0x01070000 4e45Ff") else {
+    assert!(rt; call_of(b"Fill 0x01070000 65537 255", &mut room).is_none());
+    assert!(rt; call_of(b"Fill 0x01070000 1 256", &mut room).is_none());
+    assert!(rt; call_of(b"Fill 0x01070000 1", &mut room).is_none());
+    let Some(Call::Write { pointer, bytes }) = call_of(b"Write 0x01070000 4e45Ff", &mut room) else {
         return rt.abort();
     };
     assert_eq!(rt; pointer, 0x0107_0000);
-    assert_eq!(rt; bytes.as_slice(), [0x4e, 0x45, 0xff].as_slice());
+    assert_eq!(rt; bytes, [0x4e, 0x45, 0xff].as_slice());
 }
 
 #[test]
@@ -214,9 +219,10 @@ fn reads_numbers(rt: HostRuntime) {
 
 #[test]
 fn reads_the_largest_numbers(rt: HostRuntime) {
+    let mut room = [0; MOST_BYTES];
     assert!(rt;
         matches!(
-            call_of(b"GlobalAlloc 0xffff 4294967295"),
+            call_of(b"GlobalAlloc 0xffff 4294967295", &mut room),
             Some(Call::GlobalAlloc {
                 flags: 65535,
                 size: 4_294_967_295
@@ -225,7 +231,7 @@ fn reads_the_largest_numbers(rt: HostRuntime) {
     );
     assert!(rt;
         matches!(
-            call_of(b"Read 0xffffffff 1024"),
+            call_of(b"Read 0xffffffff 1024", &mut room),
             Some(Call::Read {
                 pointer: 0xffff_ffff,
                 count: 1024
@@ -234,7 +240,7 @@ fn reads_the_largest_numbers(rt: HostRuntime) {
     );
     assert!(rt;
         matches!(
-            call_of(b"Read 0 0x0"),
+            call_of(b"Read 0 0x0", &mut room),
             Some(Call::Read {
                 pointer: 0,
                 count: 0
@@ -265,7 +271,10 @@ fn refuses_other_numbers(rt: HostRuntime) {
     ];
     for (at, line) in lines.iter().enumerate() {
         assert!(rt;
-            matches!(read_line(line, &Registers::new()), Line::Bad),
+            matches!(
+                read_line(line, &Registers::new(), &mut [0; MOST_BYTES]),
+                Line::Bad
+            ),
             "at {at}"
         );
     }
@@ -302,7 +311,10 @@ fn refuses_other_lines(rt: HostRuntime) {
     ];
     for (at, line) in lines.iter().enumerate() {
         assert!(rt;
-            matches!(read_line(line, &Registers::new()), Line::Bad),
+            matches!(
+                read_line(line, &Registers::new(), &mut [0; MOST_BYTES]),
+                Line::Bad
+            ),
             "at {at}"
         );
     }
@@ -322,7 +334,10 @@ fn passes_over_silent_lines(rt: HostRuntime) {
     ];
     for (at, line) in lines.iter().enumerate() {
         assert!(rt;
-            matches!(read_line(line, &Registers::new()), Line::Silent),
+            matches!(
+                read_line(line, &Registers::new(), &mut [0; MOST_BYTES]),
+                Line::Silent
+            ),
             "at {at}"
         );
     }
@@ -333,7 +348,7 @@ fn written(digits: usize) -> Option<usize> {
     let mut line: ArrayVec<u8, 2100> = ArrayVec::new();
     let _ = line.try_extend_from_slice(b"Write 0 ");
     let _ = line.try_extend_from_slice([b'a'; 2080].split_at(digits.min(2080)).0);
-    match read_line(line.as_slice(), &Registers::new()) {
+    match read_line(line.as_slice(), &Registers::new(), &mut [0; MOST_BYTES]) {
         Line::Command {
             call: Call::Write { bytes, .. },
             ..
@@ -353,7 +368,7 @@ fn reads_bytes(rt: HostRuntime) {
     assert_eq!(rt; written(2050), None);
 }
 
-fn assert_prints(rt: &impl Abort, reply: &Reply, text: &[u8]) {
+fn assert_prints(rt: &impl Abort, reply: &Reply<'_>, text: &[u8]) {
     let mut writer = limited(64, 64);
     assert!(rt; print_reply(&mut writer, reply).is_ok());
     assert_eq!(rt; writer.taken.as_slice(), text);
@@ -367,12 +382,8 @@ fn prints_each_reply(rt: HostRuntime) {
     assert_prints(&rt, &Reply::Dword(0xffff_ffff), b"ffffffff\n");
     assert_prints(&rt, &Reply::Done, b"ok\n");
     assert_prints(&rt, &Reply::Walk(2), b"end\n");
-    assert_prints(&rt, &Reply::Bytes(Chunk::new()), b"bytes\n");
-    let mut bytes = Chunk::new();
-    bytes.push(0x4e);
-    bytes.push(0x05);
-    bytes.push(0xab);
-    assert_prints(&rt, &Reply::Bytes(bytes), b"bytes 4e05ab\n");
+    assert_prints(&rt, &Reply::Bytes(&[]), b"bytes\n");
+    assert_prints(&rt, &Reply::Bytes(&[0x4e, 0x05, 0xab]), b"bytes 4e05ab\n");
     assert_prints(
         &rt,
         &Reply::Fault(FarFault::BadSelector),
@@ -388,12 +399,8 @@ fn prints_each_reply(rt: HostRuntime) {
 
 #[test]
 fn prints_1024_bytes(rt: HostRuntime) -> std::result::Result<(), Fail> {
-    let mut bytes = Chunk::new();
-    for _ in 0..1024u32 {
-        let _ = bytes.try_push(0x5a);
-    }
     let mut text = Vec::new(rt.alloc());
-    print_reply(&mut text, &Reply::Bytes(bytes))?;
+    print_reply(&mut text, &Reply::Bytes(&[0x5a; 1024]))?;
     assert_eq!(rt; text.len(), 6 + 2048 + 1);
     Ok(())
 }

@@ -2,6 +2,8 @@
 ghost use Rattle.std.specs.Prelude.{◌≡◌, ◌<◌, ◌≤◌, ◌++◌, [], ◌∷◌, true, false, length, List, ℕ, IfNone, IfSome, slice_index};
 ghost use Rattle.w16_script.specs.Words.{words_of, is_blank};
 
+use memchr::memchr2;
+
 /// Whether a byte is a space or a tab.
 fn blank(byte: u8) -> bool
     ensures { result ≡ is_blank byte }
@@ -30,12 +32,10 @@ fn word_length(text: &[u8]) -> usize
     ensures before { (k : ℕ) → k < result → is_blank (slice_index text.now k) ≡ false }
     ensures stop { result < length text.now → is_blank (slice_index text.now result) ≡ true }
 {
-    for (at, byte) in text.iter().enumerate() {
-        if blank(*byte) {
-            return at;
-        }
+    match memchr2(b' ', b'\t', text) {
+        Some(at) => at,
+        None => text.len(),
     }
-    text.len()
 }
 
 /// The first word and what stands behind it. There is none only where there are but blanks.

@@ -5,8 +5,9 @@ use Rattle.std.proofs.lemmas.List.{length-set, length-replicate, map-set, get_or
 use Rattle.std.proofs.Math.Seq.{map-set_same}
 use Rattle.w16_model.specs.declared.TheConstants.{FIRST_SLOT, MOST_SLOTS}
 use Rattle.w16_selectors.specs.declared.Descriptor.{Descriptor}
-use Rattle.w16_selectors.specs.Descriptors.{Table, descriptor_at}
-use Rattle.w16_selectors.specs.Kept.{IsKept, mark_of}
+use Rattle.memchr.specs.Find.{IsFirst}
+use Rattle.w16_selectors.specs.Descriptors.{Table, descriptor_at, IsFree}
+use Rattle.w16_selectors.specs.Kept.{IsKept, AreTaken, mark_of}
 
 -- a segment ends where an address of 32 bits can reach
 abbrev pub Reaches : Option Descriptor → Type 0
@@ -63,7 +64,7 @@ IsKept-set table marks slot entry kept low reaches = record {
 }
 
 -- a taken slot isn't below the first
-taken_above : (table : Table) (marks : List ℕ) (slot : ℕ) → IsKept table marks → IsSome (descriptor_at table slot) → FIRST_SLOT ≤ slot
+pub taken_above : (table : Table) (marks : List ℕ) (slot : ℕ) → IsKept table marks → IsSome (descriptor_at table slot) → FIRST_SLOT ≤ slot
 taken_above table marks slot kept taken = elim (cases_lt slot FIRST_SLOT) [
   | inl lt ↦ absurd (false≢true (ap is_some (sym (kept.unused slot lt)) ∙ taken))
   | inr le ↦ le
@@ -85,3 +86,74 @@ IsKept-written table marks slot d kept taken reaches =
       unused = all.unused;
       inside = all.inside;
     }
+
+-- Slots that are taken below one.
+
+-- a slot that is taken, or set to a descriptor, is taken
+pub stays_taken : (table : Table) (slot k : ℕ) (d : Descriptor) → slot < length table → (k ≡ slot) ⊎ IsSome (descriptor_at table k) → IsSome (descriptor_at (set table slot (Some d)) k)
+stays_taken table slot k d lt was = elim (cases_eq k slot) [
+  | inl same ↦ ap is_some (ap (descriptor_at (set table slot (Some d))) same ∙ get_or-set_same table slot (Some d) None lt)
+  | inr other ↦ ap is_some (get_or-set_other table slot k (Some d) None other) ∙ (elim was [ inl same ↦ absurd (other same) | inr there ↦ there ])
+]
+
+-- where a slot is set to a descriptor
+pub AreTaken-set : (table : Table) (below slot : ℕ) (d : Descriptor) → AreTaken table below → slot < length table → AreTaken (set table slot (Some d)) below
+AreTaken-set table below slot d are lt = record {
+  above = are.above;
+  within = rw (length-set table slot (Some d)) are.within;
+  taken = λ k first low. stays_taken table slot k d lt (inr (are.taken k first low));
+}
+
+-- where a taken one is
+pub AreTaken-written : (table : Table) (below slot : ℕ) (d : Descriptor) → AreTaken table below → IsSome (descriptor_at table slot) → AreTaken (set table slot (Some d)) below
+AreTaken-written table below slot d are there = AreTaken-set table below slot d are (within (cases_lt slot (length table)))
+  where
+    within : (slot < length table) ⊎ (length table ≤ slot) → slot < length table
+    within (inl lt) = lt
+    within (inr le) = absurd (false≢true (sym (ap is_some (get_or_past table slot None le)) ∙ there))
+
+-- and where it is the first that wasn't
+pub AreTaken-next : (table : Table) (below slot : ℕ) (d : Descriptor) → AreTaken table below → slot < length table → below ≡ slot → AreTaken (set table slot (Some d)) (below + 1)
+AreTaken-next table below slot d are lt same = record {
+  above = let above = are.above in omega arith;
+  within = rw (length-set table slot (Some d)) (omega arith);
+  taken = λ k first low. elim (cases_eq k slot) [
+    | inl e ↦ stays_taken table slot k d lt (inl e)
+    | inr n ↦ stays_taken table slot k d lt (inr (are.taken k first (elim (cases_lt k below) [ inl lower ↦ lower | inr le ↦ absurd (n (omega arith)) ])))
+  ];
+}
+
+-- where a slot is given back
+pub AreTaken-give : (table : Table) (below slot lower : ℕ) → AreTaken table below → FIRST_SLOT ≤ slot → lower ≤ below → lower ≤ slot → FIRST_SLOT ≤ lower → AreTaken (set table slot None) lower
+AreTaken-give table below slot lower are first le other above = record {
+  above = above;
+  within = rw (length-set table slot None) (let within = are.within in omega arith);
+  taken = λ k begin low. ap is_some (get_or-set_other table slot k None None (λ e. absurd (omega arith))) ∙ are.taken k begin (omega arith);
+}
+
+-- no slot below the first free one from such a slot on is free
+pub AreTaken-found : (table : Table) (below slot : ℕ) → AreTaken table below → IsFirst (IsFree table) below (length table) (Some slot) → AreTaken table slot
+AreTaken-found table below slot are first = record {
+  above = let above = are.above in let low = first.0.low in omega (arith, above, low);
+  within = let high = first.0.high in omega (arith, high);
+  taken = λ k begin lt. elim (cases_lt k below) [
+    | inl lower ↦ are.taken k begin lower
+    | inr le ↦ there (descriptor_at table k) (λ none. first.0.before k le lt (begin, (let high = first.0.high in omega (arith, high, lt)), none))
+  ];
+}
+  where
+    there : (d : Option Descriptor) → (d ≡ None → ⊥) → IsSome d
+    there None n = absurd (n refl)
+    there (Some d) n = refl
+
+-- so none lower is free
+pub lower_taken : (table : Table) (below : ℕ) → AreTaken table below → (k : ℕ) → k < below → IsFree table k → ⊥
+lower_taken table below are k lt free = false≢true (sym (ap is_some free.2) ∙ are.taken k free.0 lt)
+
+-- where none is taken
+pub AreTaken-none : (n : ℕ) → FIRST_SLOT ≤ n → AreTaken (replicate n None) FIRST_SLOT
+AreTaken-none n some = record {
+  above = omega arith;
+  within = rw (length-replicate {A = Option Descriptor} n None) some;
+  taken = λ k begin lt. absurd (omega arith);
+}

@@ -1,8 +1,9 @@
 -- Descriptors by slot, and what a far access finds by them.
-use Rattle.std.specs.Prelude.{◌≡◌, ℕ, ◌+◌, ◌/◌, ◌%◌, ◌<◌, ◌≤◌, Bool, false, true, not, ◌&&◌, ◌==◌, if◌then◌else◌, nat_lt, List, length, slice_index_or, Option, Some, None, Result, Ok, Err}
+use Rattle.std.specs.Prelude.{◌≡◌, ℕ, ◌+◌, ◌/◌, ◌<◌, ◌≤◌, Bool, false, true, not, ◌&&◌, ◌==◌, if◌then◌else◌, nat_lt, List, length, slice_index_or, Option, Some, None, Result, Ok, Err}
 use Rattle.w16_model.specs.declared.FarFault.{FarFault}
 use Rattle.w16_model.specs.declared.FarFault.TheVariants.{BadSelector, ReadOnly, NotPresent, Limit}
 use Rattle.w16_model.specs.declared.TheConstants.{FIRST_SLOT}
+use Rattle.w16_model.specs.Handles.{selector_of}
 use Rattle.w16_selectors.specs.declared.SelKind.{SelKind}
 use Rattle.w16_selectors.specs.declared.SelKind.TheVariants.{Data, Code}
 use Rattle.w16_selectors.specs.declared.Descriptor.{Descriptor}
@@ -26,9 +27,9 @@ IsFreeRun table first count = (FIRST_SLOT ≤ first) × ((k : ℕ) → k < count
 abbrev pub unset : Descriptor
 unset = record { base = 0; limit = 0; present = false; kind = Data }
 
--- the descriptor that a selector names: its low three bits are set, and the rest is a slot that is taken
+-- the descriptor that a selector names: that of the slot whose selector it is
 abbrev pub descriptor_of : Table → ℕ → Option Descriptor
-descriptor_of table selector = if selector % 8 == 7 then descriptor_at table (selector / 8) else None
+descriptor_of table selector = if selector == selector_of (selector / 8) then descriptor_at table (selector / 8) else None
 
 abbrev pub is_code : SelKind → Bool
 is_code Data = false

@@ -1,5 +1,5 @@
 -- What the code keeps of the descriptors.
-use Rattle.std.specs.Prelude.{◌≡◌, ℕ, ◌+◌, ◌^◌, ◌<◌, ◌≤◌, List, length, map, IfSome, Option, Some, None}
+use Rattle.std.specs.Prelude.{◌≡◌, ℕ, ◌+◌, ◌^◌, ◌<◌, ◌≤◌, List, length, map, IfSome, IsSome, Option, Some, None}
 use Rattle.w16_model.specs.declared.TheConstants.{FIRST_SLOT, MOST_SLOTS}
 use Rattle.w16_selectors.specs.Descriptors.{Table, descriptor_at}
 use Rattle.w16_selectors.specs.declared.Descriptor.{Descriptor}
@@ -16,3 +16,9 @@ pub record IsKept (table : Table) (marks : List ℕ) : Type 0 where
   pub unused : (slot : ℕ) → slot < FIRST_SLOT → descriptor_at table slot ≡ None
   -- a segment ends where an address of 32 bits can reach
   pub inside : (slot : ℕ) → IfSome (descriptor_at table slot) (λ d. d.base + d.limit + 1 < 2 ^ 32)
+
+-- every slot below one is taken, from the first slot on
+pub record AreTaken (table : Table) (below : ℕ) : Type 0 where
+  pub above : FIRST_SLOT ≤ below
+  pub within : below ≤ length table
+  pub taken : (slot : ℕ) → FIRST_SLOT ≤ slot → slot < below → IsSome (descriptor_at table slot)

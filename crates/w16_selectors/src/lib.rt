@@ -13,6 +13,7 @@ use memchr::memchr;
 use std::alloc::{AllocError, Global};
 use std::marker::Model;
 pub use w16_model::FarFault;
+use w16_model::names::{selector_of, slot_of};
 use w16_model::{FIRST_SLOT, MOST_SLOTS};
 
 /// The mark of a slot that isn't taken.
@@ -51,17 +52,19 @@ pub struct Descriptor {
 pub struct Selectors {
     descriptors: Vec<Option<Descriptor>>,
     marks: Vec<u8>,
+    /// Every slot below it, from the first on, is taken: where a look for a free one begins.
+    free_from: usize,
 }
 
 impl Model for Selectors {
     ghost use Rattle.w16_selectors.specs.Descriptors.{Table};
-    ghost use Rattle.w16_selectors.specs.Kept.{IsKept};
+    ghost use Rattle.w16_selectors.specs.Kept.{IsKept, AreTaken};
 
     ghost Value = { Table };
 
     ghost view = { λ s. s.descriptors.items };
 
-    ghost invariant = { λ s. IsKept s.descriptors.items s.marks.items };
+    ghost invariant = { λ s. IsKept s.descriptors.items s.marks.items × AreTaken s.descriptors.items s.free_from };
 }
 
 impl Selectors {
@@ -73,7 +76,11 @@ impl Selectors {
         let count = (FIRST_SLOT + slots) as usize;
         let descriptors = vec![in alloc; None; count]?;
         let marks = vec![in alloc; FREE; count]?;
-        Ok(Selectors { descriptors, marks })
+        Ok(Selectors {
+            descriptors,
+            marks,
+            free_from: FIRST_SLOT as usize,
+        })
     }
 
     /// The first slot of the lowest run of `count` free slots, none where no run is so long. A run of none begins at the first slot. It goes
@@ -95,6 +102,19 @@ impl Selectors {
             first = self.next_free(taken + 1).unwrap_or(slots);
         }
         None
+    }
+
+    /// The lowest free slot, none where all are taken. It begins where the last such look ended, or at a slot that was given back since.
+    pub fn lowest_free(&mut self) -> Option<u16>
+        ensures same { self.new ≡ self.old }
+        ensures found { IfSome result (λ slot. IsFree self.old slot) }
+        ensures lowest { IfSome result (λ slot. (lower : ℕ) → lower < slot → IsFree self.old lower → ⊥) }
+        ensures none { IfNone result ((slot : ℕ) → IsFree self.old slot → ⊥) }
+        ensures few { IfSome result (λ slot. slot < 8192) }
+    {
+        let slot = self.next_free(self.free_from)?;
+        self.free_from = slot;
+        Some(slot as u16)
     }
 
     /// The first free slot from a slot on.
@@ -124,6 +144,9 @@ impl Selectors {
     {
         self.descriptors[slot as usize] = Some(UNSET);
         self.marks[slot as usize] = TAKEN;
+        if self.free_from == slot as usize {
+            self.free_from += 1;
+        }
     }
 
     /// Gives a taken slot back: it is free again.
@@ -133,6 +156,7 @@ impl Selectors {
     {
         self.descriptors[slot as usize] = None;
         self.marks[slot as usize] = FREE;
+        self.free_from = self.free_from.min(slot as usize);
     }
 
     /// Gives a taken slot another descriptor. Its segment must end where an address of 32 bits can reach.
@@ -149,13 +173,11 @@ impl Selectors {
         ensures value { result ≡ descriptor_of self.now selector }
         ensures inside { IfSome result (λ descriptor. descriptor.base + descriptor.limit + 1 < 2 ^ 32) }
     {
-        if selector % 8 != 7 {
+        let slot = slot_of(selector);
+        if selector != selector_of(slot) {
             return None;
         }
-        self.descriptors
-            .get((selector / 8) as usize)
-            .copied()
-            .flatten()
+        self.descriptors.get(slot as usize).copied().flatten()
     }
 
     /// The address of an access to `n` bytes at selector:offset. It tells the first fault of these: `BadSelector` where the selector names

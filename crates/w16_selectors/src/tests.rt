@@ -23,6 +23,25 @@ fn six(rt: &impl AllocGlobal) -> Result<Selectors, AllocError>
 }
 
 #[test]
+fn finds_the_lowest_free_slot(rt: HostRuntime) -> Result<(), Fail> {
+    let mut selectors = six(&rt)?;
+    assert_eq!(rt; selectors.lowest_free(), Some(32));
+    selectors.take(32);
+    selectors.take(34);
+    assert_eq!(rt; selectors.lowest_free(), Some(33));
+    selectors.take(33);
+    assert_eq!(rt; selectors.lowest_free(), Some(35));
+    selectors.take(35);
+    selectors.take(36);
+    selectors.take(37);
+    assert_eq!(rt; selectors.lowest_free(), None);
+    selectors.give(34);
+    selectors.give(36);
+    assert_eq!(rt; selectors.lowest_free(), Some(34));
+    Ok(())
+}
+
+#[test]
 fn finds_runs(rt: HostRuntime) -> Result<(), Fail> {
     let mut selectors = six(&rt)?;
     assert_eq!(rt; selectors.len(), 38);

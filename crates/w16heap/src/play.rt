@@ -1,6 +1,6 @@
 //! Runs of a script on a new machine.
 ghost use Rattle.std.specs.Prelude.{◌≡◌, OnOk, IfOk, IfErr};
-ghost use Rattle.w16_model.specs.World.{empty_world};
+ghost use Rattle.w16_machine.specs.World.{empty_world};
 ghost use Rattle.w16heap.specs.Faults.{IsMemorySize, IsSelectorCount, IsSizeFault};
 
 use crate::fault::Fault;

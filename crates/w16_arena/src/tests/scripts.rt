@@ -1,6 +1,8 @@
 //! Calls one after another, with answers that were worked out by hand.
 
-use super::{AS_IT_STANDS, Answer, DISCARDING, SLIDING, Step, act, expect, in_order, shown, six};
+use super::{
+    AS_IT_STANDS, Answer, DISCARDING, SLIDING, Step, act, expect, in_order, made, shown, six,
+};
 use crate::making::NOTHING;
 use crate::{Compacted, Placed};
 use std::test::Fail;
@@ -519,47 +521,41 @@ fn answers_calls(rt: HostRuntime) -> Result<(), Fail> {
     Ok(())
 }
 
+/// A fixed object at 0, a hole of 64 bytes, a locked discardable object at 96, and a hole.
+const WITH_HOLES: &[Step] = &[
+    Step::Alloc(0, 32, Kind::Fixed, AS_IT_STANDS),
+    Step::Alloc(1, 64, Kind::Moveable, AS_IT_STANDS),
+    Step::Alloc(2, 32, Kind::Discardable, AS_IT_STANDS),
+    Step::Lock(2),
+    Step::Release(1),
+];
+
 #[test]
-fn walks_a_heap(rt: HostRuntime) -> Result<(), Fail> {
-    let mut arena = six(&rt, rt.alloc())?;
-    let mut region = Region::new(rt.alloc(), 256)?;
-    assert_eq!(rt; arena.walk_from(0), Some(hole!(0, 256)));
-    assert_eq!(rt; arena.walk_from(1), None);
-    act(
-        &rt,
-        &mut arena,
-        &mut region,
-        Step::Alloc(0, 32, Kind::Fixed, AS_IT_STANDS),
-    );
-    act(
-        &rt,
-        &mut arena,
-        &mut region,
-        Step::Alloc(1, 64, Kind::Moveable, AS_IT_STANDS),
-    );
-    act(
-        &rt,
-        &mut arena,
-        &mut region,
-        Step::Alloc(2, 32, Kind::Discardable, AS_IT_STANDS),
-    );
-    assert_eq!(rt; arena.lock(2), Ok(()));
-    arena.release(1);
+fn walks_by_address(rt: HostRuntime) -> Result<(), Fail> {
+    let empty = six(&rt, rt.alloc())?;
+    assert_eq!(rt; empty.walk_from(0), Some(hole!(0, 256)));
+    assert_eq!(rt; empty.walk_from(1), None);
+    let (arena, _) = made(&rt, rt.alloc(), WITH_HOLES)?;
     assert_eq!(rt; arena.walk_from(0), Some(object!(0, 32, 0, Kind::Fixed, 0)));
     assert_eq!(rt; arena.walk_from(1), Some(hole!(32, 64)));
     assert_eq!(rt; arena.walk_from(32), Some(hole!(32, 64)));
-    assert_eq!(rt;
-        arena.walk_from(33),
-        Some(object!(96, 32, 2, Kind::Discardable, 1))
-    );
-    assert_eq!(rt;
-        arena.walk_from(96),
-        Some(object!(96, 32, 2, Kind::Discardable, 1))
-    );
+    let locked = object!(96, 32, 2, Kind::Discardable, 1);
+    assert_eq!(rt; arena.walk_from(33), Some(locked));
+    assert_eq!(rt; arena.walk_from(96), Some(locked));
     assert_eq!(rt; arena.walk_from(97), Some(hole!(128, 128)));
     assert_eq!(rt; arena.walk_from(129), None);
+    Ok(())
+}
+
+#[test]
+fn walks_by_number(rt: HostRuntime) -> Result<(), Fail> {
+    let (arena, _) = made(&rt, rt.alloc(), WITH_HOLES)?;
     assert_eq!(rt; arena.walk(0), Some(object!(0, 32, 0, Kind::Fixed, 0)));
     assert_eq!(rt; arena.walk(1), Some(hole!(32, 64)));
+    assert_eq!(rt;
+        arena.walk(2),
+        Some(object!(96, 32, 2, Kind::Discardable, 1))
+    );
     assert_eq!(rt; arena.walk(3), Some(hole!(128, 128)));
     assert_eq!(rt; arena.walk(4), None);
     assert_eq!(rt; arena.walk(9), None);

@@ -1,7 +1,7 @@
-use crate::{Line, Registers, read_line};
+use crate::{Line, MOST_BYTES, Registers, read_line};
 use arrayvec::ArrayVec;
 use std::process::Abort;
-use w16_kernel::{Call, Chunk, Reply};
+use w16_kernel::{Call, Reply};
 use w16_model::FarFault;
 
 /// Registers of which some have numbers, and all others 0.
@@ -17,7 +17,7 @@ fn filled() -> Registers {
 
 /// Where the reply of a line that says a command goes.
 fn target(line: &[u8]) -> Option<Option<u8>> {
-    match read_line(line, &Registers::new()) {
+    match read_line(line, &Registers::new(), &mut [0; MOST_BYTES]) {
         Line::Command { target, .. } => Some(target),
         _ => None,
     }
@@ -28,7 +28,7 @@ fn number(word: &[u8]) -> Option<u32> {
     let mut line: ArrayVec<u8, 64> = ArrayVec::new();
     let _ = line.try_extend_from_slice(b"GlobalAlloc 0 ");
     let _ = line.try_extend_from_slice(word);
-    match read_line(line.as_slice(), &filled()) {
+    match read_line(line.as_slice(), &filled(), &mut [0; MOST_BYTES]) {
         Line::Command {
             call: Call::GlobalAlloc { size, .. },
             ..
@@ -86,7 +86,10 @@ fn refuses_other_targets(rt: HostRuntime) {
         b"r1 = ; a comment",
     ];
     for (at, line) in lines.iter().enumerate() {
-        assert!(rt; matches!(read_line(line, &filled()), Line::Bad), "at {at}");
+        assert!(rt;
+            matches!(read_line(line, &filled(), &mut [0; MOST_BYTES]), Line::Bad),
+            "at {at}"
+        );
     }
 }
 
@@ -168,7 +171,10 @@ fn refuses_registers_over_the_limit_of_a_place(rt: HostRuntime) {
         (b"Read r42+1 0", false),
     ];
     for (at, (line, good)) in lines.iter().enumerate() {
-        let says = matches!(read_line(line, &filled()), Line::Command { .. });
+        let says = matches!(
+            read_line(line, &filled(), &mut [0; MOST_BYTES]),
+            Line::Command { .. }
+        );
         assert_eq!(rt; says, *good, "at {at}");
     }
 }
@@ -181,7 +187,7 @@ fn stores_words_and_double_words(rt: HostRuntime) {
     }
     registers.store(Some(7), &Reply::Word(0xfedc));
     registers.store(Some(98), &Reply::Dword(0xfedc_ba98));
-    registers.store(Some(1), &Reply::Bytes(Chunk::new()));
+    registers.store(Some(1), &Reply::Bytes(&[]));
     registers.store(Some(1), &Reply::Done);
     registers.store(Some(1), &Reply::Fault(FarFault::Limit));
     registers.store(None, &Reply::Word(5));

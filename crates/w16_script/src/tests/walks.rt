@@ -2,7 +2,7 @@ use crate::tests::limited;
 use crate::{RunFault, run};
 use std::alloc::{AllocError, Global};
 use std::test::Fail;
-use w16_kernel::{Call, Kernel};
+use w16_kernel::{Call, Kernel, MOST_READ};
 
 type Tested = std::result::Result<(), Fail>;
 
@@ -42,9 +42,10 @@ const WALK: &[u8] = b"00000000 00000020 0106 discardable 0\n00000020 00000020 fr
 #[test]
 fn counts_locks_in_decimal(rt: HostRuntime) -> Tested {
     let mut kernel = Kernel::new(rt.alloc(), 32, 1)?;
-    let _ = kernel.call(&Call::GlobalAlloc { flags: 2, size: 32 })?;
+    let mut room = [0; MOST_READ];
+    let _ = kernel.call(&Call::GlobalAlloc { flags: 2, size: 32 }, &mut room)?;
     for _ in 0..255u32 {
-        let _ = kernel.call(&Call::GlobalLock { handle: 0x106 })?;
+        let _ = kernel.call(&Call::GlobalLock { handle: 0x106 }, &mut room)?;
     }
     let mut writer = limited(64, 64);
     let ended = run(
@@ -66,10 +67,11 @@ fn fails_in_the_middle_of_a_walk(rt: HostRuntime) -> Tested {
     for left in 0..=WALK.len() {
         for at_once in [1, 3, 64] {
             let mut kernel = Kernel::new(rt.alloc(), 64, 16)?;
-            let _ = kernel.call(&Call::GlobalAlloc {
+            let asked = Call::GlobalAlloc {
                 flags: 0x102,
                 size: 32,
-            })?;
+            };
+            let _ = kernel.call(&asked, &mut [0; MOST_READ])?;
             let mut writer = limited(left, at_once);
             let ended = run(
                 rt.alloc(),

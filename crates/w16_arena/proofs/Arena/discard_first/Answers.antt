@@ -2,38 +2,30 @@ use Rattle.std.proofs.Common.{◌≡◌, ◌+◌, [], ◌∷◌, ◌++◌, lengt
 use Rattle.w16_model.specs.Prefix.{eligible}
 use Rattle.w16_model.specs.Table.{Table, IsSound}
 use Rattle.w16_arena.specs.State.{State, table_of}
-use Rattle.w16_arena.proofs.Oldest.{ArePartly, partly_none, partly_more, ended_heaps, ended_listed, full_heaps, full_listed, first_known, listed_fits}
+use Rattle.w16_arena.proofs.Oldest.{ArePartly, partly_none, partly_more, ended, full, first_known, listed_fits}
 use Rattle.w16_arena.proofs.Arena.discard_first.Goals as goal
 
 pub loop-init : goal.loop-init
 loop-init c =
     let t : Table = table_of c.self.inside.entries.items c.self.inside.blocks c.self.inside.order.ids in
-    subst (λ (s : State). ArePartly s.table c.args.k c.args.h 0 (record { table = t; discarded = c.clear.new.self.items })) c.self.view_is
-    (partly_none t c.args.k c.args.h c.self.invariant.sound c.clear.new.self.items c.clear.ensures.items)
+    subst (λ (s : State). ArePartly s c.args.k c.args.h 0 (record { table = t; discarded = c.clear.new.self.items })) c.self.view_is
+    (partly_none (record { table = t; discarded = c.self.inside.discarded.items }) c.args.k c.args.h c.self.invariant.sound c.clear.new.self.items c.clear.ensures.items)
 
-pub returns-in_default-clause-heaps : goal.returns-in_default-clause-heaps
-returns-in_default-clause-heaps c =
-    let none = subst (λ (s : State). eligible s.table.blocks s.table.order c.args.h ≡ []) c.self-in-loop.view_is c.in_default.ensures.first in
-    ended_heaps c.args.self.now.table c.args.k c.args.h c.loop.counter c.loop.self c.loop.invariant none
-
-pub returns-in_default-clause-range : goal.returns-in_default-clause-range
-returns-in_default-clause-range c = c.loop.invariant.range
-
-pub returns-in_default-clause-listed : goal.returns-in_default-clause-listed
-returns-in_default-clause-listed c =
-    let none = subst (λ (s : State). eligible s.table.blocks s.table.order c.args.h ≡ []) c.self-in-loop.view_is c.in_default.ensures.first in
-    ended_listed c.args.self.now.table c.args.k c.args.h c.loop.counter c.loop.self c.loop.invariant none
+pub returns-in_default : goal.returns-in_default
+returns-in_default c =
+    let none = subst (λ (s : State). eligible s.table.blocks s.table.order c.args.h ≡ []) c.self-in-loop.view_is c.in_default.ensures in
+    ended c.args.self.now c.args.k c.args.h c.loop.counter c.loop.self c.loop.invariant none
 
 pub give_up-requires : goal.give_up-requires
 give_up-requires c =
-    let first = subst (λ (s : State). slice_get (eligible s.table.blocks s.table.order c.args.h) 0 ≡ Some c.in-Some.id) c.self-in-loop.view_is c.in-Some.ensures.first in
+    let first = subst (λ (s : State). slice_get (eligible s.table.blocks s.table.order c.args.h) 0 ≡ Some c.in-Some.id) c.self-in-loop.view_is c.in-Some.ensures in
     first_known c.loop.self.table c.loop.invariant.range.sound c.args.h c.in-Some.id first
 
 pub push_reserved-requires : goal.push_reserved-requires
 push_reserved-requires c =
-    let first = subst (λ (s : State). slice_get (eligible s.table.blocks s.table.order c.args.h) 0 ≡ Some c.in-Some.id) c.self-in-loop.view_is c.in-Some.ensures.first in
+    let first = subst (λ (s : State). slice_get (eligible s.table.blocks s.table.order c.args.h) 0 ≡ Some c.in-Some.id) c.self-in-loop.view_is c.in-Some.ensures in
     let sound = subst (λ (s : State). IsSound s.table) c.self.view_is c.self.invariant.sound in
-    let fits = listed_fits c.args.self.now.table c.args.k c.args.h c.loop.counter c.loop.self c.loop.invariant c.in-Some.id first c.loop-test.true sound in
+    let fits = listed_fits c.args.self.now c.args.k c.args.h c.loop.counter c.loop.self c.loop.invariant c.in-Some.id first c.loop-test.true sound in
     let listed : length c.self-in-loop-2.inside.discarded.items ≡ length c.loop.self.discarded = ap (λ (s : State). length s.discarded) c.self-in-loop-2.view_is ∙ ap (λ (s : State). length s.discarded) c.give_up.ensures.steps.rest in
     let ids : length c.self-in-loop-2.inside.entries.items ≡ length c.args.self.now.table.entries = ap (λ (s : State). length s.table.entries) c.self-in-loop-2.view_is ∙ c.give_up.ensures.steps.range.ids ∙ c.loop.invariant.range.ids in
     let len = c.self-in-loop-2.inside.discarded.ok.0 in
@@ -42,16 +34,10 @@ push_reserved-requires c =
 
 pub loop-preserved : goal.loop-preserved
 loop-preserved c =
-    let first = subst (λ (s : State). slice_get (eligible s.table.blocks s.table.order c.args.h) 0 ≡ Some c.in-Some.id) c.self-in-loop.view_is c.in-Some.ensures.first in
+    let first = subst (λ (s : State). slice_get (eligible s.table.blocks s.table.order c.args.h) 0 ≡ Some c.in-Some.id) c.self-in-loop.view_is c.in-Some.ensures in
     let pushed = c.push_reserved.ensures.items ∙ ap (λ (s : State). s.discarded ++ c.in-Some.id ∷ []) c.self-in-loop-2.view_is in
-    subst (λ (s : State). ArePartly c.args.self.now.table c.args.k c.args.h (c.loop.counter + 1) (record { table = s.table; discarded = c.push_reserved.new.self.items })) (sym c.self-in-loop-2.view_is)
-    (partly_more c.args.self.now.table c.args.k c.args.h c.loop.counter c.loop.self c.loop.invariant c.in-Some.id first c.loop-test.true c.give_up.new.self c.give_up.ensures.steps c.push_reserved.new.self.items pushed)
+    subst (λ (s : State). ArePartly c.args.self.now c.args.k c.args.h (c.loop.counter + 1) (record { table = s.table; discarded = c.push_reserved.new.self.items })) (sym c.self-in-loop-2.view_is)
+    (partly_more c.args.self.now c.args.k c.args.h c.loop.counter c.loop.self c.loop.invariant c.in-Some.id first c.loop-test.true c.give_up.new.self c.give_up.ensures.steps c.push_reserved.new.self.items pushed)
 
-pub returns-clause-heaps : goal.returns-clause-heaps
-returns-clause-heaps c = full_heaps c.args.self.now.table c.args.k c.args.h c.loop.counter c.loop.self c.loop.invariant c.loop-test.false
-
-pub returns-clause-range : goal.returns-clause-range
-returns-clause-range c = c.loop.invariant.range
-
-pub returns-clause-listed : goal.returns-clause-listed
-returns-clause-listed c = full_listed c.args.self.now.table c.args.k c.args.h c.loop.counter c.loop.self c.loop.invariant c.loop-test.false
+pub returns : goal.returns
+returns c = full c.args.self.now c.args.k c.args.h c.loop.counter c.loop.self c.loop.invariant c.loop-test.false

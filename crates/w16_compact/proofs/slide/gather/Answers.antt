@@ -8,7 +8,7 @@ use Rattle.w16_blocks.specs.Layout.{Layout, IsGrained}
 use Rattle.w16_compact.specs.Gather.{gathered, packed, moved_size, FitsGap, AreSlid}
 use Rattle.w16_compact.proofs.Cleared.{inside_is, slid_gathered, clear_gathered, hole_gathered, alone_gathered}
 use Rattle.w16_compact.proofs.Order.{each_got}
-use Rattle.w16_compact.proofs.Parts.{take_lower, drop_higher}
+use Rattle.w16_compact.proofs.Rests.{rest_more}
 use Rattle.w16_compact.proofs.Gathered.{list_start, settled_start, laid_start, rest_start, moved_start, list_step, laid_step, rest_step, moved_step, step-le, packed_rest, moved_same, inside_got, settled_step}
 use Rattle.w16_compact.proofs.slide.gather.Given as Given
 use Rattle.w16_compact.proofs.slide.gather.Goals as goal
@@ -32,10 +32,7 @@ loop-block-init g c =
       small = omega arith;
       written = omega arith;
       contents = refl;
-      length = refl;
-      below = refl;
-      above = refl;
-      lenders = refl;
+      kept = record { long = refl; outside = record { below = refl; above = refl }; loans = refl };
     }
 
 -- multiples make a multiple
@@ -115,10 +112,7 @@ loop-block-preserved g c =
       small = let h = inv.small in omega arith;
       written = let h = inv.written in let k = c.settle.ensures.written in omega (arith, h, k, wide);
       contents = c.settle.ensures.contents ∙ inv.contents;
-      length = c.settle.ensures.length ∙ inv.length;
-      below = take_lower _ _ c.args.low to inv.from c.settle.ensures.below ∙ inv.below;
-      above = drop_higher _ _ (block_end b) high inside c.settle.ensures.above ∙ inv.above;
-      lenders = c.settle.ensures.lenders ∙ inv.lenders;
+      kept = rest_more inv.kept c.settle.ensures.rest inv.from inside;
     }
   where
     sizes : (lo hi : ℕ) (bs : List Block) → IsLaid lo hi bs → AllByRecursion (λ x. 0 < x.size) bs

@@ -5,6 +5,7 @@ use Rattle.w16_model.specs.Gap.{IsLaid, block_end}
 use Rattle.w16_model.specs.Heap.{IsMultiple}
 use Rattle.w16_blocks.specs.Layout.{IsOrdered}
 use Rattle.w16_compact.specs.Gather.{gathered, packed, contents, moved_size, FitsGap}
+use Rattle.w16_compact.specs.Rest.{IsSameRest}
 use Rattle.w16_compact.proofs.slide.gather.Given as goal
 
 abbrev pub invariant-loop-block : goal.invariant-loop-block
@@ -27,10 +28,7 @@ invariant-loop-block g l =
       written : g.S.Space.written l.space ≡ counted (g.S.Space.written l.fn.space) l.moved;
       -- the space
       contents : contents (bytes l.space) l.blocks.blocks ≡ contents (bytes l.fn.space) l.fn.blocks.blocks;
-      length : length (bytes l.space) ≡ length (bytes l.fn.space);
-      below : take l.low (bytes l.space) ≡ take l.low (bytes l.fn.space);
-      above : drop l.high (bytes l.space) ≡ drop l.high (bytes l.fn.space);
-      lenders : g.S.Space.lenders l.space ≡ g.S.Space.lenders l.fn.space;
+      kept : IsSameRest bytes g.S.Space.lenders l.low l.high l.fn.space l.space;
     }
 
 abbrev pub decreases-loop-block : goal.decreases-loop-block

@@ -37,5 +37,5 @@ returns-clause-contents g c =
     let l = c.args.blocks.now in
     let slid = c.slide_down.ensures in
     let new = ap (λ (x : Layout). x.blocks) (returns-clause-blocks g c) in
-    rw new (contents_slid (g.S.Space.bytes c.slide_down.new.space) (g.S.Space.bytes c.args.space.now) c.args.to c.args.block slid.moved slid.below slid.above l.blocks c.args.i c.requires.at c.requires.below
+    rw new (contents_slid (g.S.Space.bytes c.slide_down.new.space) (g.S.Space.bytes c.args.space.now) c.args.to c.args.block slid.moved slid.rest.outside.below slid.rest.outside.above l.blocks c.args.i c.requires.at c.requires.below
     (after l c.args.i c.args.block c.args.to c.requires.at c.requires.ordered c.requires.below c.requires.down c.requires.grained))

@@ -1,4 +1,4 @@
-use Rattle.w16_model.proofs.Names.{names_law}
+use Rattle.w16_model.proofs.Naming.{names_law}
 use Rattle.w16_model.proofs.laws.names_are_exact.Goals as goal
 
 pub returns : goal.returns

@@ -2,12 +2,11 @@ use Rattle.std.proofs.Common.{◌≡◌, ◌∷◌, false, get_or, arith}
 use Rattle.std.specs.Prelude.{◌==◌}
 use Rattle.std.proofs.lemmas.Bool.Decides.{nat_tests}
 use Rattle.w16_script.specs.Words.{words_of}
-use Rattle.w16_script.specs.Lines.{said_of}
-use Rattle.w16_script.proofs.SpellingLemmas.{Reads-headed}
+use Rattle.w16_script.proofs.SpellingLemmas.{Reads-unmade}
 use Rattle.w16_script.proofs.line.read_line.Goals as goal
 
-pub returns-in-Some-head-clause-reads : goal.returns-in-Some-head-clause-reads
-returns-in-Some-head-clause-reads c =
+pub returns-in-None-clause-reads : goal.returns-in-None-clause-reads
+returns-in-None-clause-reads c =
     let loud : (get_or c.in-Some.word.now 0 0 == 59) ≡ false = grind (arith, nat_tests) in
-    Reads-headed c.args.registers.now c.args.line.now (c.in-Some.word.now ∷ words_of c.in-Some.behind.now) (words_of c.in-Some-head.text.now) c.in-Some-head.target c.in-Some-head.name (said_of c.command.result)
-    c.in-Some.ensures.some loud c.in-Some-head.ensures.found c.command.ensures.says
+    Reads-unmade c.args.registers.now c.args.line.now (c.in-Some.word.now ∷ words_of c.in-Some.behind.now) (words_of c.in-Some-head.text.now) c.in-Some-head.target c.in-Some-head.name
+    c.in-Some.ensures.some loud c.in-Some-head.ensures.found c.in-None.ensures.none

@@ -1,6 +1,7 @@
 use Rattle.std.proofs.Common.{[], ◌∷◌, refl}
 use Rattle.std.proofs.KnownBytes.{Appends-nil}
-use Rattle.w16_kernel.specs.Runs.{Event, command_of, reply_of}
+use Rattle.w16_machine.specs.Machine.{Event}
+use Rattle.w16_kernel.specs.Runs.{command_of, reply_of}
 use Rattle.w16_script.specs.Grammar.{Said}
 use Rattle.w16_script.specs.Printed.{error_text}
 use Rattle.w16_script.proofs.RunLemmas.{Prints-one}

@@ -1,7 +1,7 @@
 use Rattle.std.proofs.Common.{◌≡◌, ℕ, All, is_some, true, sym, subst}
 use Rattle.w16_selectors.specs.Descriptors.{descriptor_at}
 use Rattle.w16_global.specs.Joined.{forgotten}
-use Rattle.w16_global.proofs.Joining.{given_world}
+use Rattle.w16_global.proofs.Joining.{given_handles}
 use Rattle.w16_global.proofs.Sliding.{allocated_joined, discarded_known, known_told, known_followed, slot_left, given_moved}
 use Rattle.w16_global.proofs.global.Global16.allocate.Goals as goal
 
@@ -41,4 +41,4 @@ pub returns-clause-rest : goal.returns-clause-rest
 returns-clause-rest c =
     let s = c.in-Some.ensures in
     given_moved c.self.inside.objects c.self.inside.attributes.items _ c.self.view_is c.alloc.new.self c.args.slot c.args.attributes c.in-Some.placed.moved s.moved
-    (given_world c.self.invariant c.alloc.new.self s.cap c.args.slot c.args.attributes c.self.view_is c.requires.free c.in-Some.placed.moved)
+    (given_handles c.self.invariant c.alloc.new.self s.cap c.args.slot c.args.attributes c.self.view_is c.requires.free c.in-Some.placed.moved)

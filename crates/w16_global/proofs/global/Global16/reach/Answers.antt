@@ -1,13 +1,12 @@
-use Rattle.w16_global.proofs.Reach.{place_known, few_known, fault_known}
+use Rattle.std.proofs.Common.{Ok, Err, ◌∙◌, subst}
+use Rattle.w16_global.proofs.Reach.{slot_known, fault_known}
 use Rattle.w16_global.proofs.global.Global16.reach.Goals as goal
 
 pub returns-clause-ok : goal.returns-clause-ok
 returns-clause-ok c =
-    place_known c.self.invariant c.self.view_is c.args.write c.args.selector c.args.offset c.args.n c.count_of.result c.count_of.ensures c.resolve.result c.resolve.ensures.value c.resolve.ensures.below
+    let known = slot_known c.self.invariant c.self.view_is c.args.write c.args.selector c.args.offset c.args.n c.count_of.result c.count_of.ensures (Ok c.in_ok-resolve.field-0) (rw c.in_ok-resolve.was at c.resolve.ensures.value) (rw c.in_ok-resolve.was at c.resolve.ensures.below) in
+    (c.slot_of.ensures.value ∙ known.0, known.1)
 
 pub returns-clause-few : goal.returns-clause-few
 returns-clause-few c =
-    few_known c.self.invariant c.self.view_is c.args.write c.args.selector c.args.offset c.args.n c.count_of.result c.count_of.ensures c.resolve.result c.resolve.ensures.value c.resolve.ensures.below
-
-pub returns-clause-err : goal.returns-clause-err
-returns-clause-err c = fault_known c.self.invariant c.self.view_is c.args.write c.args.selector c.args.offset c.args.n c.count_of.result c.count_of.ensures c.resolve.result c.resolve.ensures.value
+    (slot_known c.self.invariant c.self.view_is c.args.write c.args.selector c.args.offset c.args.n c.count_of.result c.count_of.ensures (Ok c.in_ok-resolve.field-0) (rw c.in_ok-resolve.was at c.resolve.ensures.value) (rw c.in_ok-resolve.was at c.resolve.ensures.below)).2

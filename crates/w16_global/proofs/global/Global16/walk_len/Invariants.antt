@@ -1,5 +1,5 @@
 use Rattle.std.proofs.Common.{◌≤◌, ◌-◌, ◌^◌}
-use Rattle.w16_model.specs.World.{handle_of}
+use Rattle.w16_model.specs.Handles.{handle_of}
 use Rattle.w16_model.proofs.Cuts.{HasTold}
 use Rattle.w16_global.proofs.global.Global16.walk_len.Given as goal
 

@@ -1,7 +1,5 @@
-use Rattle.std.proofs.Common.{rules, ◌≡◌, ◌+◌, ◌≤◌, arith}
-use Rattle.w16_model.specs.Request.{moved_bytes}
-use Rattle.w16_model.specs.Table.{heap_in}
-use Rattle.w16_global.proofs.Parts.{no_block_known, moved_few}
+use Rattle.std.proofs.Common.{rules, ◌+◌, ◌≤◌, arith}
+use Rattle.w16_global.proofs.Parts.{no_block_known}
 use Rattle.w16_global.proofs.objects.Objects.alloc.Goals as goal
 
 pub alloc-requires-clause-absent : goal.alloc-requires-clause-absent
@@ -16,6 +14,7 @@ returns-clause-inside c =
 
 pub returns-clause-few : goal.returns-clause-few
 returns-clause-few c =
-    let moved : c.in_ok-placed.placed.moved ≡ moved_bytes (heap_in c.self.inside.arena.table c.self.inside.memory.bytes.items) (heap_in c.alloc.new.self.table c.alloc.new.space.bytes.items) = search rules in
+    let few : c.self.inside.arena.table.lo + c.in_ok-placed.placed.moved ≤ c.self.inside.arena.table.hi = search rules in
+    let high = c.self.invariant.high in
     let small = c.self.inside.memory.small in
-    omega (arith, moved, moved_few c.self.invariant (heap_in c.alloc.new.self.table c.alloc.new.space.bytes.items))
+    omega arith

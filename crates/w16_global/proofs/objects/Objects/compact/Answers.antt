@@ -1,7 +1,7 @@
 use Rattle.std.proofs.Common.{arith}
 use Rattle.w16_model.specs.Request.{Compacts}
 use Rattle.w16_model.specs.Table.{heap_in}
-use Rattle.w16_global.proofs.Parts.{told, moved_few}
+use Rattle.w16_global.proofs.Parts.{told}
 use Rattle.w16_global.proofs.objects.Objects.compact.Goals as goal
 
 pub returns-clause-compacted : goal.returns-clause-compacted
@@ -9,6 +9,7 @@ returns-clause-compacted c = told c.self.invariant c.self.view_is (λ heap. Comp
 
 pub returns-clause-few : goal.returns-clause-few
 returns-clause-few c =
+    let few = c.compact-compacted.ensures.slid.few in
+    let high = c.self.invariant.high in
     let small = c.self.inside.memory.small in
-    let moved = c.compact-compacted.ensures.moved in
-    omega (arith, moved_few c.self.invariant (heap_in c.compact-compacted.new.self.table c.compact-compacted.new.space.bytes.items))
+    omega arith

@@ -1,24 +1,29 @@
-use Rattle.std.proofs.Common.{◌≡◌, ◌-◌, IfSome, sym, subst, arith}
-use Rattle.std.specs.FinMap as finmap
-use Rattle.w16_model.specs.Machine.{after_write}
+use Rattle.std.proofs.Common.{◌+◌, sym, ap, ◌∙◌, subst, arith}
 use Rattle.w16_region.specs.Bytes.{repeated, length-repeated}
-use Rattle.w16_global.specs.Parts.{AreParts, holding_of}
-use Rattle.w16_global.proofs.Written.{All-repeated, room_around, parts_written, holding_written}
+use Rattle.w16_global.specs.Parts.{AreParts, HasPart, holding_of}
+use Rattle.w16_global.proofs.Written.{All-repeated, in_memory, no_part, parts_written, holding_written}
 use Rattle.w16_global.proofs.objects.Objects.fill.Goals as goal
 
+pub unreachable-requires : goal.unreachable-requires
+unreachable-requires c = no_part c.self.invariant c.args.id c.self.view_is (sym c.block.ensures.value ∙ c.in_default.is) c.args.at c.args.n c.requires
+
+pub overflow_add-block : goal.overflow_add-block
+overflow_add-block c =
+    let room = in_memory c.self.invariant c.args.id c.self.view_is (sym c.block.ensures.value ∙ c.in-Some.is) c.args.at c.args.n c.requires in
+    omega (arith, room, c.self.inside.memory.small)
+
 pub fill-requires : goal.fill-requires
-fill-requires c = room_around c.self.invariant c.requires.0 c.self.view_is c.args.at c.args.n c.requires.1
+fill-requires c = in_memory c.self.invariant c.args.id c.self.view_is (sym c.block.ensures.value ∙ c.in-Some.is) c.args.at c.args.n c.requires
 
 pub invariant_of-self : goal.invariant_of-self
 invariant_of-self c =
-    let s = c.self.inside in
-    let room = room_around c.self.invariant c.requires.0 c.self.view_is c.args.at c.args.n c.requires.1 in
+    let room = in_memory c.self.invariant c.args.id c.self.view_is (sym c.block.ensures.value ∙ c.in-Some.is) c.args.at c.args.n c.requires in
     let long = length-repeated c.args.n c.args.byte in
-    subst (AreParts s.arena) (sym c.fill.ensures.bytes) (parts_written c.self.invariant c.args.at (repeated c.args.n c.args.byte) (omega arith) (All-repeated c.args.n c.args.byte c.ranges.byte.fits))
+    subst (AreParts c.self.inside.arena) (sym c.fill.ensures.bytes)
+    (parts_written c.self.invariant (c.in-Some.block.at + c.args.at) (repeated c.args.n c.args.byte) (omega (arith, room, long)) (All-repeated c.args.n c.args.byte c.ranges.byte.fits))
 
 pub returns : goal.returns
 returns c =
-    let s = c.self.inside in
-    λ id inside. subst (λ m. IfSome (finmap.get c.args.self.now.heap.places id) (λ place. holding_of s.arena m ≡ record c.args.self.now { heap = after_write c.args.self.now.heap id (c.args.at - place) (repeated c.args.n c.args.byte) }))
-    (sym c.fill.ensures.bytes)
-    (holding_written c.self.invariant id c.self.view_is c.args.at c.args.n inside (repeated c.args.n c.args.byte) (length-repeated c.args.n c.args.byte) (All-repeated c.args.n c.args.byte c.ranges.byte.fits))
+    ap (holding_of c.self.inside.arena) c.fill.ensures.bytes
+    ∙ holding_written c.self.invariant c.args.id c.self.view_is (sym c.block.ensures.value ∙ c.in-Some.is) c.args.at (repeated c.args.n c.args.byte)
+    (subst (HasPart c.args.self.now.heap c.args.id c.args.at) (sym (length-repeated c.args.n c.args.byte)) c.requires) (All-repeated c.args.n c.args.byte c.ranges.byte.fits)

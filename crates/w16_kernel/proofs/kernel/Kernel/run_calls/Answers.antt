@@ -1,6 +1,9 @@
-use Rattle.std.proofs.Common.{◌≡◌, ◌++◌, [], ◌∷◌, take, ◌+◌, List, ap, ◌∙◌, sym, subst, arith}
+use Rattle.std.proofs.Common.{take, get_or, List, sym, subst, arith}
 use Rattle.std.proofs.lemmas.List.{take_more}
+use Rattle.w16_machine.specs.Machine.{Step}
 use Rattle.w16_kernel.specs.declared.call.Call.{Call}
+use Rattle.w16_kernel.specs.declared.call.Call.TheVariants.{GlobalAlloc}
+use Rattle.w16_kernel.specs.Runs.{command_of}
 use Rattle.w16_kernel.proofs.Running.{Ran, ran_more}
 use Rattle.w16_kernel.proofs.kernel.Kernel.run_calls.Goals as goal
 
@@ -8,6 +11,7 @@ pub loop-call-preserved : goal.loop-call-preserved
 loop-call-preserved c =
     let i = c.loop-call.call-index in
     let calls = c.args.calls.now in
-    let longer = ran_more c.args.self.now (take i calls) c.loop-call.replies.items c.loop-call.self c.call-item.result c.in_ok-reply.reply c.call.new.self c.loop-call.invariant.ran c.in_ok-reply.ensures.step in
-    let one_more : take (i + 1) calls ≡ take i calls ++ c.call-item.result ∷ [] = take_more calls i c.call-item.result (omega arith) ∙ ap (λ (x : Call). take i calls ++ x ∷ []) (sym c.call-item.is) in
-    record { ran = subst (λ (cs : List Call). Ran c.args.self.now cs c.push_reserved.new.self.items c.call.new.self) (sym one_more) (rw c.push_reserved.ensures.items longer) }
+    let call = get_or calls i (GlobalAlloc 0 0) in
+    let step = subst (λ reply. Step c.loop-call.self (command_of call) reply c.call.new.self) (sym c.of.ensures) c.in_ok-reply.ensures.step in
+    let longer = ran_more c.args.self.now (take i calls) c.loop-call.answers.items c.loop-call.self call c.of.result c.call.new.self c.loop-call.invariant.ran step in
+    record { ran = subst (λ (cs : List Call). Ran c.args.self.now cs c.push_reserved.new.self.items c.call.new.self) (sym (take_more calls i (GlobalAlloc 0 0) (omega arith))) (rw c.push_reserved.ensures.items longer) }

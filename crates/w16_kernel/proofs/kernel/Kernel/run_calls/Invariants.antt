@@ -4,4 +4,4 @@ use Rattle.w16_kernel.proofs.kernel.Kernel.run_calls.Given as goal
 
 -- the calls so far, and their replies, are a run to the present world
 abbrev pub invariant-loop-call : goal.invariant-loop-call
-invariant-loop-call l = record { ran : Ran l.fn.self (take l.call-index l.calls) l.replies.items l.self }
+invariant-loop-call l = record { ran : Ran l.fn.self (take l.call-index l.calls) l.answers.items l.self }

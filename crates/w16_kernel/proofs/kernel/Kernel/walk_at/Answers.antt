@@ -1,7 +1,7 @@
-use Rattle.w16_model.specs.World.{handle_of}
+use Rattle.w16_model.specs.Handles.{handle_of}
 use Rattle.w16_model.specs.Law.{HasOneWalk}
 use Rattle.w16_model.proofs.Listed.{walk_law}
 use Rattle.w16_kernel.proofs.kernel.Kernel.walk_at.Goals as goal
 
 pub returns : goal.returns
-returns c = rw (← c.self.view_is) (let walk : HasOneWalk handle_of c.self.inside.global.heap = walk_law handle_of c.self.inside.global.heap c.self.invariant.heap in (walk.items, walk.is_walk, c.walk.ensures walk.items walk.is_walk))
+returns c = rw (← c.self.view_is) (let walk : HasOneWalk handle_of c.self.inside.global.heap = walk_law handle_of c.self.inside.global.heap c.are_handles.ensures.heap in (walk.items, walk.is_walk, c.walk.ensures walk.items walk.is_walk))

@@ -1,7 +1,7 @@
-use Rattle.w16_model.specs.World.{handle_of}
+use Rattle.w16_model.specs.Handles.{handle_of}
 use Rattle.w16_model.specs.Law.{HasOneWalk}
 use Rattle.w16_model.proofs.Listed.{walk_law}
 use Rattle.w16_kernel.proofs.kernel.Kernel.walk_from.Goals as goal
 
 pub returns-clause-whole : goal.returns-clause-whole
-returns-clause-whole c = rw (← c.self.view_is) (let walk : HasOneWalk handle_of c.self.inside.global.heap = walk_law handle_of c.self.inside.global.heap c.self.invariant.heap in (walk.items, walk.is_walk))
+returns-clause-whole c = rw (← c.self.view_is) (let walk : HasOneWalk handle_of c.self.inside.global.heap = walk_law handle_of c.self.inside.global.heap c.are_handles.ensures.heap in (walk.items, walk.is_walk))

@@ -1,0 +1,10 @@
+use Rattle.std.proofs.Common.{arith}
+use Rattle.w16_region.specs.Bytes.{repeated, length-repeated}
+use Rattle.w16_compact.proofs.Rests.{rest_put}
+use Rattle.w16_arena.proofs.making.clear_if.Goals as goal
+
+pub returns-then-asked-clause-rest : goal.returns-then-asked-clause-rest
+returns-then-asked-clause-rest g c =
+    let size = length-repeated c.args.size 0 in
+    let inside = c.requires in
+    rest_put c.args.at (repeated c.args.size 0) c.fill.ensures.bytes c.fill.ensures.lenders (omega arith) (omega arith) (omega arith)

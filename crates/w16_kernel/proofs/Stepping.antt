@@ -1,0 +1,13 @@
+-- A step in whatever world has these handles is one of the world that has them alone.
+use Rattle.std.specs.Prelude.{◌≡◌, Result, Ok, Err, IfOk}
+use Rattle.std.proofs.Common.{subst}
+use Rattle.w16_model.specs.Handles.{Handles}
+use Rattle.w16_machine.specs.World.{World, with_handles}
+use Rattle.w16_machine.specs.Machine.{Command, Step}
+use Rattle.w16_kernel.specs.declared.call.Reply.{Reply}
+use Rattle.w16_kernel.specs.Runs.{reply_of}
+
+pub in_world : {E : Type 0} (old new : Handles) (world : World) (command : Command) → record { handles = old } ≡ world → (result : Result Reply E)
+    → IfOk result (λ reply. (rest : World) → Step (with_handles rest old) command (reply_of reply) (with_handles rest new)) → IfOk result (λ reply. Step world command (reply_of reply) (record { handles = new }))
+in_world old new world command shown (Ok reply) step = subst (λ (w : World). Step w command (reply_of reply) (record { handles = new })) shown (step world)
+in_world old new world command shown (Err error) step = tt

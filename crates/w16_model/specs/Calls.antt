@@ -1,0 +1,223 @@
+-- The calls on handles: what each answers, and the handles that it leaves.
+use Rattle.std.specs.Prelude.{◌≡◌, ℕ, ◌+◌, ◌-◌, ◌*◌, ◌/◌, ◌<◌, ◌≤◌, ◌⊎◌, Bool, true, false, not, ◌==◌, ◌&&◌, if◌then◌else◌, MatchBool, nat_lt, bit_and, List, length, unwrap_or, is_some, Option, Some, None, Result, Ok, Err, option_map}
+use Rattle.std.specs.FinMap as finmap
+use Rattle.w16_model.specs.declared.Kind.{Kind}
+use Rattle.w16_model.specs.declared.Kind.TheVariants.{Fixed, Moveable, Discardable}
+use Rattle.w16_model.specs.declared.Way.{Way}
+use Rattle.w16_model.specs.declared.Refusal.{Refusal}
+use Rattle.w16_model.specs.declared.Refusal.TheVariants as refusals
+use Rattle.w16_model.specs.declared.TheConstants.{GRAIN, LARGEST_SIZE, GMEM_MOVEABLE, GMEM_NOCOMPACT, GMEM_NODISCARD, GMEM_ZEROINIT, GMEM_DISCARDABLE, GMEM_DDESHARE, GMEM_DISCARDED}
+use Rattle.w16_model.specs.Heap.{Heap, Object, object_at, bytes_at, is_discardable}
+use Rattle.w16_model.specs.Request.{Allocates, Compacts, prefix_of, moved_bytes}
+use Rattle.w16_model.specs.Single.{Enters, after_lock, after_unlock, after_free, after_newest, after_oldest}
+use Rattle.w16_model.specs.declared.Attributes.{Attributes}
+use Rattle.w16_model.specs.declared.Item.{Item}
+use Rattle.w16_model.specs.Walk.{IsWalk}
+use Rattle.w16_model.specs.Handles.{Handles, Gives, IsFreeSlot, slot_of_handle, slot_of_selector, handle_of, selector_of, far_pointer, dword_of}
+
+-- a call that names objects by handles or selectors, with its arguments as numbers
+pub data HandleCommand : Type 0 where
+  GlobalAlloc : (flags size : ℕ) → HandleCommand
+  GlobalFree : (handle : ℕ) → HandleCommand
+  GlobalLock : (handle : ℕ) → HandleCommand
+  GlobalUnlock : (handle : ℕ) → HandleCommand
+  GlobalSize : (handle : ℕ) → HandleCommand
+  GlobalFlags : (handle : ℕ) → HandleCommand
+  GlobalHandle : (selector : ℕ) → HandleCommand
+  GetSelectorBase : (selector : ℕ) → HandleCommand
+  GetSelectorLimit : (selector : ℕ) → HandleCommand
+  GlobalCompact : (size : ℕ) → HandleCommand
+  GlobalLRUNewest : (handle : ℕ) → HandleCommand
+  GlobalLRUOldest : (handle : ℕ) → HandleCommand
+  Moved : HandleCommand
+  Walk : HandleCommand
+
+-- what such a call answers
+pub data Answer : Type 0 where
+  Word : (value : ℕ) → Answer
+  Dword : (value : ℕ) → Answer
+  -- so many objects with bytes and holes, which a walk then tells one by one (specs/Walk)
+  Walked : (count : ℕ) → Answer
+
+-- Allocation.
+
+abbrev pub has_flag : ℕ → ℕ → Bool
+has_flag flags flag = not (bit_and flags flag == 0)
+
+-- a size rounded up to whole grains
+abbrev pub rounded_size : ℕ → ℕ
+rounded_size size = GRAIN * ((size + (GRAIN - 1)) / GRAIN)
+
+-- only a moveable object can be discardable
+abbrev pub kind_asked : ℕ → Kind
+kind_asked flags = if has_flag flags GMEM_MOVEABLE then (if has_flag flags GMEM_DISCARDABLE then Discardable else Moveable) else Fixed
+
+-- others may be moved without GMEM_NOCOMPACT, and discarded too without GMEM_NODISCARD
+abbrev pub way_asked : ℕ → Way
+way_asked flags = record { compact = not (has_flag flags GMEM_NOCOMPACT); discard = not (has_flag flags GMEM_NODISCARD); zero = has_flag flags GMEM_ZEROINIT; may_move = false }
+
+-- whether an object is asked for that has no bytes yet
+abbrev pub is_absent_asked : ℕ → ℕ → Bool
+is_absent_asked flags size = (size == 0) && has_flag flags GMEM_MOVEABLE
+
+-- When an allocation is NULL: for a fixed object of no bytes,
+abbrev pub IsEmptyFixed : ℕ → ℕ → Type 0
+IsEmptyFixed flags size = (size ≡ 0) × (has_flag flags GMEM_MOVEABLE ≡ false)
+
+-- for a size over the limit,
+abbrev pub IsTooLong : ℕ → Type 0
+IsTooLong size = LARGEST_SIZE < size
+
+-- where no slot is free,
+abbrev pub HasNoSlot : Handles → Type 0
+HasNoSlot old = (slot : ℕ) → IsFreeSlot old slot → ⊥
+
+-- and where there is no room: no hole that is long enough, or no gap that could hold it, as the flags have it.
+abbrev pub HasNoRoom : Handles → ℕ → ℕ → Type 0
+HasNoRoom old flags size = (0 < size) × (prefix_of old.heap (rounded_size size) None (way_asked flags) ≡ None)
+
+abbrev pub IsRefusedAlloc : Handles → ℕ → ℕ → Type 0
+IsRefusedAlloc old flags size = IsEmptyFixed flags size ⊎ IsTooLong size ⊎ HasNoSlot old ⊎ HasNoRoom old flags size
+
+-- else the object gets a free slot, whichever, and bytes as the heap allocates them; a moveable one of size 0 is absent
+pub record AnswersAlloc (old : Handles) (flags size handle : ℕ) (new : Handles) : Type 0 where
+  pub small : size ≤ LARGEST_SIZE
+  pub slot : ℕ
+  pub free : IsFreeSlot old slot
+  pub named : handle ≡ handle_of (kind_asked flags) slot
+  pub made : MatchBool (is_absent_asked flags size)
+      (Enters old.heap slot (kind_asked flags) new.heap)
+      (Allocates old.heap slot (rounded_size size) (kind_asked flags) 0 (way_asked flags) true new.heap)
+  pub rest : new ≡ record old {
+    heap = new.heap;
+    attributes = finmap.insert old.attributes slot (record { shared = has_flag flags GMEM_DDESHARE });
+    moved = moved_bytes old.heap new.heap;
+  }
+
+-- GlobalAlloc; a refused one has moved nothing
+abbrev pub GlobalAllocs : Handles → ℕ → ℕ → ℕ → Handles → Type 0
+GlobalAllocs old flags size handle new = (IsRefusedAlloc old flags size × (handle ≡ 0) × (new ≡ record old { moved = 0 })) ⊎ AnswersAlloc old flags size handle new
+
+-- GlobalCompact
+pub record GlobalCompacts (old : Handles) (size answer : ℕ) (new : Handles) : Type 0 where
+  pub compacted : Compacts old.heap size answer new.heap
+  pub rest : new ≡ record old { heap = new.heap; moved = moved_bytes old.heap new.heap }
+
+-- The calls that name an object. Each answers and leaves what is written here.
+
+-- GlobalFree: 0, and the object is gone; the argument where the handle is bad or the object locked
+abbrev pub global_free : Handles → ℕ → Answer × Handles
+global_free old handle = elim (slot_of_handle old handle) [
+  | None ↦ (Word handle, old)
+  | Some slot ↦ elim (after_free old.heap slot) [
+    | Ok heap ↦ (Word 0, record old { heap = heap; attributes = finmap.remove old.attributes slot })
+    | Err _ ↦ (Word handle, old)
+  ]
+]
+
+-- GlobalLock: a far pointer to the object's begin; a fixed object has one with no lock; NULL for a bad handle, an absent object or a full count
+abbrev pub global_lock : Handles → ℕ → Answer × Handles
+global_lock old handle = elim (slot_of_handle old handle) [
+  | None ↦ (Dword 0, old)
+  | Some slot ↦ elim (after_lock old.heap slot) [
+    | Ok heap ↦ (Dword (far_pointer (selector_of slot) 0), record old { heap = heap })
+    | Err refusals.Fixed ↦ (Dword (far_pointer (selector_of slot) 0), old)
+    | Err _ ↦ (Dword 0, old)
+  ]
+]
+
+-- the locks that an object has; none where there is no object
+abbrev pub locks_at : Heap → ℕ → ℕ
+locks_at heap slot = unwrap_or (option_map (λ (o : Object). o.locks) (object_at heap slot)) 0
+
+-- GlobalUnlock: 1 where locks are left, else 0; 0 also for a fixed object and for a bad handle
+abbrev pub global_unlock : Handles → ℕ → Answer × Handles
+global_unlock old handle = elim (slot_of_handle old handle) [
+  | None ↦ (Word 0, old)
+  | Some slot ↦ elim (after_unlock old.heap slot) [
+    | Ok heap ↦ (Word (if nat_lt 0 (locks_at heap slot) then 1 else 0), record old { heap = heap })
+    | Err _ ↦ (Word 0, old)
+  ]
+]
+
+-- the handle, and the heap that a step on its object leaves; 0 where the step is refused or the handle is bad
+abbrev pub handle_or_0 : (Heap → ℕ → Result Heap Refusal) → Handles → ℕ → Answer × Handles
+handle_or_0 after old handle = elim (slot_of_handle old handle) [
+  | None ↦ (Word 0, old)
+  | Some slot ↦ elim (after old.heap slot) [
+    | Ok heap ↦ (Word handle, record old { heap = heap })
+    | Err _ ↦ (Word 0, old)
+  ]
+]
+
+-- GlobalLRUNewest: a discardable object with bytes becomes the newest in the order of use, locked or not
+abbrev pub global_lru_newest : Handles → ℕ → Answer × Handles
+global_lru_newest = handle_or_0 after_newest
+
+-- GlobalLRUOldest: and the oldest, so that it is discarded first
+abbrev pub global_lru_oldest : Handles → ℕ → Answer × Handles
+global_lru_oldest = handle_or_0 after_oldest
+
+-- What objects and selectors are asked. These change nothing.
+
+-- GlobalSize: the size; 0 for a bad handle or an absent object
+abbrev pub global_size : Handles → ℕ → ℕ
+global_size handles handle = elim (slot_of_handle handles handle) [
+  | None ↦ 0
+  | Some slot ↦ unwrap_or (option_map length (bytes_at handles.heap slot)) 0
+]
+
+-- whether other tasks share a slot's object
+abbrev pub is_shared : Handles → ℕ → Bool
+is_shared handles slot = unwrap_or (option_map (λ (a : Attributes). a.shared) (finmap.get handles.attributes slot)) false
+
+-- an object's lock count, and bits that say whether it is discardable, shared, and absent
+abbrev pub flags_of : Bool → Object → ℕ
+flags_of shared o = o.locks + (if is_discardable o.kind then GMEM_DISCARDABLE else 0) + (if shared then GMEM_DDESHARE else 0) + (if is_some o.bytes then 0 else GMEM_DISCARDED)
+
+-- GlobalFlags: 0 for a bad handle
+abbrev pub global_flags : Handles → ℕ → ℕ
+global_flags handles handle = elim (slot_of_handle handles handle) [
+  | None ↦ 0
+  | Some slot ↦ unwrap_or (option_map (flags_of (is_shared handles slot)) (object_at handles.heap slot)) 0
+]
+
+-- GlobalHandle: the selector in the high word, and its object's handle in the low one; 0 where there is none
+abbrev pub global_handle : Handles → ℕ → ℕ
+global_handle handles selector = elim (slot_of_selector handles selector) [
+  | None ↦ 0
+  | Some slot ↦ unwrap_or (option_map (λ (o : Object). dword_of selector (handle_of o.kind slot)) (object_at handles.heap slot)) 0
+]
+
+-- GetSelectorBase: the object's address; 0 for a bad selector or an absent object
+abbrev pub selector_base : Handles → ℕ → ℕ
+selector_base handles selector = elim (slot_of_selector handles selector) [
+  | None ↦ 0
+  | Some slot ↦ unwrap_or (finmap.get handles.heap.places slot) 0
+]
+
+-- GetSelectorLimit: the offset of the object's last byte; 0 for a bad selector or an absent object
+abbrev pub selector_limit : Handles → ℕ → ℕ
+selector_limit handles selector = elim (slot_of_selector handles selector) [
+  | None ↦ 0
+  | Some slot ↦ unwrap_or (option_map (λ bytes. length bytes - 1) (bytes_at handles.heap slot)) 0
+]
+
+-- One step: the answer that may be given to a call, and the handles that it leaves.
+
+abbrev pub HandleStep : Handles → HandleCommand → Answer → Handles → Type 0
+HandleStep old (GlobalAlloc flags size) (Word handle) new = GlobalAllocs old flags size handle new
+HandleStep old (GlobalFree handle) answer new = Gives (global_free old handle) answer new
+HandleStep old (GlobalLock handle) answer new = Gives (global_lock old handle) answer new
+HandleStep old (GlobalUnlock handle) answer new = Gives (global_unlock old handle) answer new
+HandleStep old (GlobalSize handle) answer new = Gives (Dword (global_size old handle), old) answer new
+HandleStep old (GlobalFlags handle) answer new = Gives (Word (global_flags old handle), old) answer new
+HandleStep old (GlobalHandle selector) answer new = Gives (Dword (global_handle old selector), old) answer new
+HandleStep old (GetSelectorBase selector) answer new = Gives (Dword (selector_base old selector), old) answer new
+HandleStep old (GetSelectorLimit selector) answer new = Gives (Dword (selector_limit old selector), old) answer new
+HandleStep old (GlobalCompact size) (Dword longest) new = GlobalCompacts old size longest new
+HandleStep old (GlobalLRUNewest handle) answer new = Gives (global_lru_newest old handle) answer new
+HandleStep old (GlobalLRUOldest handle) answer new = Gives (global_lru_oldest old handle) answer new
+HandleStep old Moved answer new = Gives (Dword old.moved, old) answer new
+HandleStep old Walk (Walked count) new = (items : List Item) × IsWalk handle_of old.heap items × (count ≡ length items) × (new ≡ old)
+HandleStep old command answer new = ⊥

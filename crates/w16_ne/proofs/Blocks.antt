@@ -1,0 +1,75 @@
+-- Reading blocks of resources until there is none, as a loop does.
+use Rattle.std.proofs.Common.{◌≡◌, ℕ, suc, ◌-◌, ◌+◌, ◌*◌, ◌≤◌, ◌<◌, Bool, true, false, cond, ltb, eqb, List, Option, Some, None, [], ◌∷◌, ◌++◌, length, take, drop, Result, Ok, Err, refl, sym, ap, ◌∙◌, arith}
+use Rattle.std.proofs.lemmas.Bool.Decides.{nat_tests}
+use Rattle.std.proofs.lemmas.List.{append-nil}
+use Rattle.w16_ne.specs.declared.fault.NeFault.{NeFault}
+use Rattle.w16_ne.specs.declared.fault.NeFault.TheVariants as faults
+use Rattle.w16_ne.specs.declared.resource_blocks.Block.{Block}
+use Rattle.w16_ne.specs.Reading.{Reading, reaches, length_at, word_of}
+use Rattle.w16_ne.specs.Resources.{block_at, blocks_from}
+use Rattle.w16_ne.proofs.Each.{with_front, regroup}
+use Rattle.w16_ne.proofs.Until.{reads_ok, goes_past}
+
+abbrev pub end_of : Block → ℕ
+end_of b = b.at + 12 * b.count
+
+pub goes_on : (file : Option (List ℕ)) (front : List Block) (count i at : ℕ) (b : Block) (total : Reading (List Block)) → i < count → block_at file at ≡ Ok (Some b)
+    → with_front front (blocks_from file (count - i) at) ≡ total → with_front (front ++ b ∷ []) (blocks_from file (count - (i + 1)) (end_of b)) ≡ total
+goes_on file front count i at b total lt h so_far =
+    let k : count - i ≡ suc (count - (i + 1)) = omega arith in
+    let one : with_front front (blocks_from file (count - i) at) ≡ with_front (front ++ b ∷ []) (blocks_from file (count - (i + 1)) (end_of b)) = rw (k, h) (regroup front b (blocks_from file (count - (i + 1)) (end_of b))) in
+    sym one ∙ so_far
+
+pub stops : (file : Option (List ℕ)) (front : List Block) (count i at : ℕ) (e : NeFault) (total : Reading (List Block)) → i < count → block_at file at ≡ Err e
+    → with_front front (blocks_from file (count - i) at) ≡ total → total ≡ Err e
+stops file front count i at e total lt h so_far =
+    let k : count - i ≡ suc (count - (i + 1)) = omega arith in
+    let one : with_front front (blocks_from file (count - i) at) ≡ Err e = rw (k, h) refl in
+    sym so_far ∙ one
+
+pub is_done : (file : Option (List ℕ)) (front : List Block) (count i at : ℕ) (total : Reading (List Block)) → i < count → block_at file at ≡ Ok None
+    → with_front front (blocks_from file (count - i) at) ≡ total → total ≡ Ok front
+is_done file front count i at total lt h so_far =
+    let k : count - i ≡ suc (count - (i + 1)) = omega arith in
+    let one : with_front front (blocks_from file (count - i) at) ≡ Ok front = rw (k, h) (ap (λ ys. Ok ys) (append-nil front)) in
+    sym so_far ∙ one
+
+pub past_the_end : (file : Option (List ℕ)) (len at : ℕ) → length_at file ≡ Ok len → len ≤ at → block_at file at ≡ Err faults.Truncated
+unfolding block_at
+past_the_end None len at h le = cc
+past_the_end (Some file) len at h le =
+    let e : length file ≡ len = cc in
+    let short : ltb (length file) (at + 2) ≡ true = grind (arith, nat_tests) in
+    rw short refl
+
+pub reaches_all : (file : Option (List ℕ)) (len end : ℕ) → length_at file ≡ Ok len → end ≤ len → reaches file end ≡ Ok tt
+reaches_all None len end h le = cc
+reaches_all (Some file) len end h le =
+    let e : length file ≡ len = cc in
+    let inside : ltb (length file) end ≡ false = grind (arith, nat_tests) in
+    rw inside refl
+
+pub reaches_less : (file : Option (List ℕ)) (len end : ℕ) → length_at file ≡ Ok len → len < end → reaches file end ≡ Err faults.Truncated
+reaches_less None len end h lt = cc
+reaches_less (Some file) len end h lt =
+    let e : length file ≡ len = cc in
+    let past : ltb (length file) end ≡ true = grind (arith, nat_tests) in
+    rw past refl
+
+-- a block that is there ends before the file does
+pub block_ends : (file : Option (List ℕ)) (len at : ℕ) (b : Block) → length_at file ≡ Ok len → block_at file at ≡ Ok (Some b) → end_of b ≤ len
+unfolding block_at
+block_ends None len at b h r = cc
+block_ends (Some file) len at b h r =
+    let kind = take 2 (drop at file) in
+    let head = take 8 (drop at file) in
+    let end = at + 8 + 12 * word_of head 2 in
+    let first = reads_ok (ltb (length file) (at + 2)) faults.Truncated kind _ (Some b) r in
+    let more = goes_past (eqb (word_of kind 0) 0) _ b first.1 in
+    let second = reads_ok (ltb (length file) (at + 8)) faults.Truncated head _ (Some b) more in
+    let third = reads_ok (ltb (length file) end) faults.Truncated tt _ (Some b) second.1 in
+    let whole : length file ≡ len = cc in
+    let inside : end ≤ length file = grind (arith, nat_tests, third.0) in
+    let is : record { kind = word_of head 0; count = word_of head 2; at = at + 8 } ≡ b = cc (third.1) in
+    let ends = ap (λ (x : Block). end_of x) is in
+    omega (arith, ends, inside, whole)

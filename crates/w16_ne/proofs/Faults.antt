@@ -1,0 +1,35 @@
+-- Faults of the store and of the file.
+use Rattle.std.proofs.Common.{◌≡◌, ℕ, ◌+◌, List, length, take, drop, Option, Some, None, Result, Ok, Err, Bool, true, false, cond, refl, ap, arith}
+use Rattle.std.specs.Prelude.{nat_lt}
+use Rattle.w16_store.specs.Files.{bytes_of}
+use Rattle.w16_store.specs.declared.store.StoreFault.{StoreFault}
+use Rattle.w16_store.specs.declared.store.StoreFault.TheVariants as stores
+use Rattle.w16_ne.specs.declared.fault.NeFault.{NeFault}
+use Rattle.w16_ne.specs.declared.fault.NeFault.TheVariants as faults
+use Rattle.w16_ne.specs.Reading.{Refuses, IsOfFile, bytes_or}
+
+pub fails_of_file : {Y : Type 0} (file : Option (List ℕ)) (before after : ℕ) (e : NeFault) (read : Result Y NeFault) → IsOfFile e → read ≡ Err e → Refuses file before after e read
+fails_of_file file before after faults.NotMz read plain h = h
+fails_of_file file before after faults.NotNe read plain h = h
+fails_of_file file before after (faults.Target t) read plain h = h
+fails_of_file file before after faults.Unsupported read plain h = h
+fails_of_file file before after faults.Truncated read plain h = h
+fails_of_file file before after faults.BadTable read plain h = h
+fails_of_file file before after (faults.Store e) read plain h = absurd plain
+fails_of_file file before after faults.OutOfMemory read plain h = absurd plain
+
+missing_cases : (b : Bool) (bytes : List ℕ) → cond b (Err stores.Short) (Ok bytes) ≡ Err stores.Missing → ⊥
+missing_cases true bytes h = cc
+missing_cases false bytes h = cc
+
+pub missing_read : (file : Option (List ℕ)) (at n : ℕ) → bytes_of file at n ≡ Err stores.Missing → file ≡ None
+missing_read None at n h = refl
+missing_read (Some file) at n h = absurd (missing_cases (nat_lt (length file) (at + n)) (take n (drop at file)) h)
+
+short_cases : (b : Bool) (short : NeFault) (bytes : List ℕ) → cond b (Err stores.Short) (Ok bytes) ≡ Err stores.Short → cond b (Err short) (Ok bytes) ≡ Err short
+short_cases true short bytes h = refl
+short_cases false short bytes h = cc
+
+pub short_read : (short : NeFault) (file : Option (List ℕ)) (at n : ℕ) → bytes_of file at n ≡ Err stores.Short → bytes_or short file at n ≡ Err short
+short_read short None at n h = cc
+short_read short (Some file) at n h = short_cases (nat_lt (length file) (at + n)) short (take n (drop at file)) h

@@ -1,0 +1,28 @@
+-- Tests that end a loop over a table, or refuse it.
+use Rattle.std.proofs.Common.{◌≡◌, ℕ, ◌+◌, ◌≤◌, ◌<◌, ◌==◌, ◌||◌, true, false, arith}
+use Rattle.std.specs.Prelude.{nat_lt, nat_le}
+use Rattle.std.proofs.lemmas.Bool.Decides.{nat_tests}
+
+pub ends_by_place : (len at byte : ℕ) → len ≤ at → (nat_le len at || byte == 0) ≡ true
+ends_by_place len at byte h = grind (arith, nat_tests)
+
+pub ends_by_byte : (len at byte : ℕ) → byte ≡ 0 → (nat_le len at || byte == 0) ≡ true
+ends_by_byte len at byte h = grind (arith, nat_tests)
+
+pub goes_further : (len at byte : ℕ) → at < len → (byte ≡ 0 → ⊥) → (nat_le len at || byte == 0) ≡ false
+goes_further len at byte lt h = grind (arith, nat_tests)
+
+pub is_past : (len end : ℕ) → len < end → nat_lt len end ≡ true
+is_past len end h = grind (arith, nat_tests)
+
+pub is_inside : (len end : ℕ) → end ≤ len → nat_lt len end ≡ false
+is_inside len end h = grind (arith, nat_tests)
+
+pub bad_by_end : (len end count : ℕ) → len < end → (nat_lt len end || nat_lt 65535 count) ≡ true
+bad_by_end len end count h = grind (arith, nat_tests)
+
+pub bad_by_count : (len end count : ℕ) → 65535 < count → (nat_lt len end || nat_lt 65535 count) ≡ true
+bad_by_count len end count h = grind (arith, nat_tests)
+
+pub is_sound : (len end count : ℕ) → end ≤ len → count ≤ 65535 → (nat_lt len end || nat_lt 65535 count) ≡ false
+is_sound len end count h m = grind (arith, nat_tests)

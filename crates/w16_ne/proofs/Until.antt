@@ -1,0 +1,94 @@
+-- Reading names until there is none, as a loop does.
+use Rattle.std.proofs.Common.{◌≡◌, ℕ, suc, ◌-◌, ◌+◌, ◌≤◌, ◌<◌, List, Option, Some, None, [], ◌∷◌, ◌++◌, Result, Ok, Err, refl, sym, ap, ◌∙◌, append_assoc, arith}
+use Rattle.std.proofs.lemmas.List.{append-nil, length-take}
+use Rattle.w16_store.specs.declared.store.StoreFault.TheVariants as stores
+use Rattle.w16_ne.specs.declared.fault.NeFault.{NeFault}
+use Rattle.w16_ne.specs.declared.fault.NeFault.TheVariants as faults
+use Rattle.w16_ne.specs.Reading.{Reading, ◌>>=◌, Refuses, Refused, length_at, word_of}
+use Rattle.w16_ne.specs.Names.{Entry, size, name_at, names_from}
+use Rattle.w16_ne.proofs.Each.{with_front, regroup}
+use Rattle.std.proofs.lemmas.Bool.Decides.{nat_tests}
+use Rattle.std.proofs.Common.{ltb, eqb, Bool, true, false, cond, length, take, drop, get_or}
+
+-- what failed is told further: a fault of the file as it was, one of the store over a longer time
+pub fails_on : {A B : Type 0} (file : Option (List ℕ)) (old before after : ℕ) (e : NeFault) (read : Result A NeFault) (total : Result B NeFault) → old ≤ before → Refuses file before after e read → (read ≡ Err e → total ≡ Err e) → Refuses file old after e total
+fails_on file old before after faults.OutOfMemory read total le h on = tt
+fails_on file old before after (faults.Store stores.Device) read total le h on = omega arith
+fails_on file old before after (faults.Store stores.Missing) read total le h on = h
+fails_on file old before after (faults.Store stores.Short) read total le h on = absurd h
+fails_on file old before after faults.NotMz read total le h on = on h
+fails_on file old before after faults.NotNe read total le h on = on h
+fails_on file old before after (faults.Target t) read total le h on = on h
+fails_on file old before after faults.Unsupported read total le h on = on h
+fails_on file old before after faults.Truncated read total le h on = on h
+fails_on file old before after faults.BadTable read total le h on = on h
+
+-- the same of a function over bytes that were read
+pub told_on : {A B : Type 0} (e : NeFault) (read : Reading A) (total : Reading B) → Refused e read → (read ≡ Err e → total ≡ Err e) → Refused e total
+told_on faults.OutOfMemory read total h on = tt
+told_on (faults.Store e) read total h on = absurd h
+told_on faults.NotMz read total h on = on h
+told_on faults.NotNe read total h on = on h
+told_on (faults.Target t) read total h on = on h
+told_on faults.Unsupported read total h on = on h
+told_on faults.Truncated read total h on = on h
+told_on faults.BadTable read total h on = on h
+
+pub goes_on : (file : Option (List ℕ)) (front : List Entry) (count i at : ℕ) (e : Entry) (total : Reading (List Entry)) → i < count → name_at file at ≡ Ok (Some e)
+    → with_front front (names_from file (count - i) at) ≡ total → with_front (front ++ e ∷ []) (names_from file (count - (i + 1)) (at + size e)) ≡ total
+goes_on file front count i at e total lt h so_far =
+    let k : count - i ≡ suc (count - (i + 1)) = omega arith in
+    let one : with_front front (names_from file (count - i) at) ≡ with_front (front ++ e ∷ []) (names_from file (count - (i + 1)) (at + size e)) = rw (k, h) (regroup front e (names_from file (count - (i + 1)) (at + size e))) in
+    sym one ∙ so_far
+
+pub stops : (file : Option (List ℕ)) (front : List Entry) (count i at : ℕ) (e : NeFault) (total : Reading (List Entry)) → i < count → name_at file at ≡ Err e
+    → with_front front (names_from file (count - i) at) ≡ total → total ≡ Err e
+stops file front count i at e total lt h so_far =
+    let k : count - i ≡ suc (count - (i + 1)) = omega arith in
+    let one : with_front front (names_from file (count - i) at) ≡ Err e = rw (k, h) refl in
+    sym so_far ∙ one
+
+pub is_done : (file : Option (List ℕ)) (front : List Entry) (count i at : ℕ) (total : Reading (List Entry)) → i < count → name_at file at ≡ Ok None
+    → with_front front (names_from file (count - i) at) ≡ total → total ≡ Ok front
+is_done file front count i at total lt h so_far =
+    let k : count - i ≡ suc (count - (i + 1)) = omega arith in
+    let one : with_front front (names_from file (count - i) at) ≡ Ok front = rw (k, h) (ap (λ ys. Ok ys) (append-nil front)) in
+    sym so_far ∙ one
+
+pub is_over : (file : Option (List ℕ)) (front : List Entry) (count i at : ℕ) (total : Reading (List Entry)) → count ≤ i
+    → with_front front (names_from file (count - i) at) ≡ total → total ≡ Err faults.Truncated
+is_over file front count i at total le so_far =
+    let k : count - i ≡ 0 = omega arith in
+    let one : with_front front (names_from file (count - i) at) ≡ Err faults.Truncated = rw k refl in
+    sym so_far ∙ one
+
+-- no entry is at or behind the end, and one that is there ends before it
+pub past_the_end : (file : Option (List ℕ)) (len at : ℕ) → length_at file ≡ Ok len → len ≤ at → name_at file at ≡ Err faults.Truncated
+unfolding name_at
+past_the_end None len at h le = cc
+past_the_end (Some file) len at h le =
+    let e : length file ≡ len = cc in
+    let short : ltb (length file) (at + 1) ≡ true = grind (arith, nat_tests) in
+    rw short refl
+
+pub reads_ok : {A B : Type 0} (b : Bool) (fault : NeFault) (x : A) (f : A → Reading B) (y : B) → (cond b (Err fault) (Ok x) >>= f) ≡ Ok y → (b ≡ false) × (f x ≡ Ok y)
+reads_ok true fault x f y h = cc
+reads_ok false fault x f y h = (refl, h)
+
+pub goes_past : {A : Type 0} (b : Bool) (read : Reading (Option A)) (x : A) → cond b (Ok None) read ≡ Ok (Some x) → read ≡ Ok (Some x)
+goes_past true read x h = cc
+goes_past false read x h = h
+
+pub entry_ends : (file : Option (List ℕ)) (len at : ℕ) (e : Entry) → length_at file ≡ Ok len → name_at file at ≡ Ok (Some e) → at + size e ≤ len
+unfolding name_at
+entry_ends None len at e h r = cc
+entry_ends (Some file) len at e h r =
+    let first = reads_ok (ltb (length file) (at + 1)) faults.Truncated (take 1 (drop at file)) _ (Some e) r in
+    let count = get_or (take 1 (drop at file)) 0 0 in
+    let text = goes_past (eqb count 0) _ e first.1 in
+    let rest = reads_ok (ltb (length file) (at + 1 + (count + 2))) faults.Truncated (take (count + 2) (drop (at + 1) file)) _ (Some e) text in
+    let whole : length file ≡ len = cc in
+    let inside : at + 1 + (count + 2) ≤ length file = grind (arith, nat_tests, rest.0) in
+    let is : (take count (take (count + 2) (drop (at + 1) file)), word_of (take (count + 2) (drop (at + 1) file)) count) ≡ e = cc (rest.1) in
+    let long = ap (λ (x : Entry). length x.0) is in
+    omega (arith, long, inside, whole, length-take count (take (count + 2) (drop (at + 1) file)))

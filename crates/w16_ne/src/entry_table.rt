@@ -1,0 +1,138 @@
+//! The entry table.
+ghost use Rattle.std.specs.Prelude.{◌≡◌, ℕ, ◌<◌, ◌≤◌, ◌+◌, ◌*◌, length};
+ghost use Rattle.w16_store.specs.Files.{file_of};
+ghost use Rattle.w16_ne.specs.Reading.{Gives, Tells};
+ghost use Rattle.w16_ne.specs.Header.{segment_count};
+ghost use Rattle.w16_ne.specs.Entries.{entry_size, entry_in, sound_entry, bundle_in, entries_in, table_at};
+
+use crate::fault::NeFault;
+use crate::reading::{table, word};
+use std::alloc::Global;
+use w16_store::Store;
+
+/// Where an ordinal leads.
+#[derive(Clone, Copy, Debug, PartialEq, Eq)]
+pub enum Entry {
+    /// A segment by its number, from 1, and an offset in it.
+    InSegment { segment: u8, offset: u16 },
+    /// A constant.
+    Constant(u16),
+}
+
+/// How many bytes an entry takes in a bundle of this indicator.
+fn size_of_entry(indicator: u8) -> usize
+    ensures size { result ≡ entry_size indicator }
+    ensures few { result ≤ 6 }
+{
+    match indicator {
+        0 => 0,
+        0xff => 6,
+        _ => 3,
+    }
+}
+
+/// The entry at an index of the table, in a bundle of this indicator.
+fn entry_at(table: &[u8], indicator: u8, at: usize) -> Option<Entry>
+    requires { at + entry_size indicator ≤ length table.now }
+    ensures { result ≡ entry_in table.now indicator at }
+{
+    match indicator {
+        0 => None,
+        0xff => Some(Entry::InSegment {
+            segment: table[at + 3],
+            offset: word(table, at + 4),
+        }),
+        0xfe => Some(Entry::Constant(word(table, at + 1))),
+        segment => Some(Entry::InSegment {
+            segment,
+            offset: word(table, at + 1),
+        }),
+    }
+}
+
+/// The same, but that its segment has to be there.
+fn sound(segments: u16, entry: Option<Entry>) -> Result<Option<Entry>, NeFault>
+    ensures { Tells (λ e. e) result (sound_entry segments entry) }
+{
+    match entry {
+        Some(Entry::InSegment { segment, .. }) if segment == 0 || u16::from(segment) > segments => {
+            Err(NeFault::BadTable)
+        }
+        entry => Ok(entry),
+    }
+}
+
+/// So many entries of a bundle.
+#[tactic(auto, unfolding(crate::specs::Entries::bundle_in))]
+fn bundle(
+    alloc: Global,
+    table: &[u8],
+    segments: u16,
+    indicator: u8,
+    count: u8,
+    at: usize,
+) -> Result<Vec<Option<Entry>>, NeFault>
+    requires short { length table.now ≤ 65535 }
+    requires inside { at + count * entry_size indicator ≤ length table.now }
+    ensures { Tells (λ v. v.items) result (bundle_in table.now segments indicator count at) }
+{
+    let mut entries = Vec::new(alloc);
+    for i in 0..count {
+        let place = at + usize::from(i) * size_of_entry(indicator);
+        let entry = sound(segments, entry_at(table, indicator, place))?;
+        entries.push(entry)?;
+    }
+    Ok(entries)
+}
+
+/// The entries by ordinal, the first of ordinal 1.
+#[tactic(auto, unfolding(crate::specs::Entries::entries_in))]
+fn entries_of(alloc: Global, table: &[u8], segments: u16) -> Result<Vec<Option<Entry>>, NeFault>
+    requires { length table.now ≤ 65535 }
+    ensures { Tells (λ v. v.items) result (entries_in table.now segments) }
+{
+    let mut entries = Vec::new(alloc);
+    let mut at = 0;
+    for _ in 0..table.len() {
+        if at >= table.len() || table[at] == 0 {
+            return Ok(entries);
+        }
+        if at + 1 >= table.len() {
+            return Err(NeFault::BadTable);
+        }
+        let count = table[at];
+        let indicator = table[at + 1];
+        let end = at + 2 + usize::from(count) * size_of_entry(indicator);
+        if end > table.len() || entries.len() + usize::from(count) > 65535 {
+            return Err(NeFault::BadTable);
+        }
+        let mut bundle = bundle(alloc, table, segments, indicator, count, at + 2)?;
+        entries.append(&mut bundle)?;
+        at = end;
+    }
+    Ok(entries)
+}
+
+/// The entries of a module by ordinal, the first of ordinal 1.
+#[tactic(auto, unfolding(crate::specs::Entries::table_at))]
+pub fn entries<S: Store>(
+    alloc: Global,
+    store: &mut S,
+    name: &[u8],
+    ne: u32,
+    header: &[u8],
+) -> Result<Vec<Option<Entry>>, NeFault>
+    requires { length header.now ≡ 64 }
+    ensures files { S.files store.new ≡ S.files store.old }
+    ensures failures { S.failures store.old ≤ S.failures store.new }
+    ensures exact { S.is_honest → Gives (λ v. v.items) (file_of (S.files store.old) name.now)
+        (S.failures store.old) (S.failures store.new) result (table_at (file_of (S.files store.old) name.now) ne header.now) }
+{
+    let len = word(header, 0x06);
+    if len == 0 {
+        return Ok(Vec::new(alloc));
+    }
+    let at = u64::from(ne) + u64::from(word(header, 0x04));
+    let bytes = table(alloc, store, name, at, usize::from(len), NeFault::Truncated)?;
+    entries_of(alloc, bytes.as_slice(), word(header, 0x1c))
+}

@@ -1,0 +1,93 @@
+//! Parts of a file, read through a store.
+ghost use Rattle.std.specs.Prelude.{◌≡◌, ℕ, ◌<◌, ◌≤◌, ◌+◌, length, IfOk};
+ghost use Rattle.w16_ne.specs.declared.fault.NeFault.TheVariants.{Truncated};
+ghost use Rattle.w16_store.specs.Files.{file_of};
+ghost use Rattle.w16_ne.specs.Reading.{Gives, IsOfFile, bytes_or, length_at, reaches, word_of, dword_of};
+
+use crate::fault::NeFault;
+use byteorder::{ByteOrder, LittleEndian};
+use std::alloc::Global;
+use w16_store::{Store, StoreFault};
+
+/// Fills the buffer, or answers the fault `short` where the file ends before.
+pub fn read_or<S: Store>(
+    store: &mut S,
+    name: &[u8],
+    at: u64,
+    buf: &mut [u8],
+    short: NeFault,
+) -> Result<(), NeFault>
+    requires { IsOfFile short }
+    ensures files { S.files store.new ≡ S.files store.old }
+    ensures failures { S.failures store.old ≤ S.failures store.new }
+    ensures exact { S.is_honest → Gives (λ _. buf.new) (file_of (S.files store.old) name.now)
+        (S.failures store.old) (S.failures store.new) result (bytes_or short (file_of (S.files store.old) name.now) at (length buf.old)) }
+{
+    match store.read_at(name, at, buf) {
+        Ok(()) => Ok(()),
+        Err(StoreFault::Short) => Err(short),
+        Err(e) => Err(NeFault::Store(e)),
+    }
+}
+
+/// So many bytes at an offset.
+pub fn table<S: Store>(
+    alloc: Global,
+    store: &mut S,
+    name: &[u8],
+    at: u64,
+    len: usize,
+    short: NeFault,
+) -> Result<Vec<u8>, NeFault>
+    requires { IsOfFile short }
+    ensures files { S.files store.new ≡ S.files store.old }
+    ensures failures { S.failures store.old ≤ S.failures store.new }
+    ensures exact { S.is_honest → Gives (λ v. v.items) (file_of (S.files store.old) name.now)
+        (S.failures store.old) (S.failures store.new) result (bytes_or short (file_of (S.files store.old) name.now) at len) }
+    ensures len { IfOk result (λ v. length v.items ≡ len) }
+{
+    let mut bytes = vec![in alloc; 0u8; len]?;
+    read_or(store, name, at, bytes.as_mut_slice(), short)?;
+    Ok(bytes)
+}
+
+/// Tests that the file has so many bytes.
+pub fn reaches<S: Store>(store: &mut S, name: &[u8], end: u64) -> Result<(), NeFault>
+    requires { 0 < end }
+    ensures files { S.files store.new ≡ S.files store.old }
+    ensures failures { S.failures store.old ≤ S.failures store.new }
+    ensures exact { S.is_honest → Gives (λ _. tt) (file_of (S.files store.old) name.now)
+        (S.failures store.old) (S.failures store.new) result (reaches (file_of (S.files store.old) name.now) end) }
+{
+    let mut last = [0u8; 1];
+    read_or(store, name, end - 1, &mut last, NeFault::Truncated)
+}
+
+/// The file's length.
+pub fn file_len<S: Store>(store: &mut S, name: &[u8]) -> Result<u64, NeFault>
+    ensures files { S.files store.new ≡ S.files store.old }
+    ensures failures { S.failures store.old ≤ S.failures store.new }
+    ensures exact { S.is_honest → Gives (λ n. n) (file_of (S.files store.old) name.now)
+        (S.failures store.old) (S.failures store.new) result (length_at (file_of (S.files store.old) name.now)) }
+{
+    match store.len_of(name) {
+        Ok(len) => Ok(len),
+        Err(e) => Err(NeFault::Store(e)),
+    }
+}
+
+/// A word at an index.
+pub fn word(bytes: &[u8], at: usize) -> u16
+    requires { at + 1 < length bytes.now }
+    ensures { result ≡ word_of bytes.now at }
+{
+    LittleEndian::read_u16(&bytes[at..at + 2])
+}
+
+/// A double word at an index.
+pub fn dword(bytes: &[u8], at: usize) -> u32
+    requires { at + 3 < length bytes.now }
+    ensures { result ≡ dword_of bytes.now at }
+{
+    LittleEndian::read_u32(&bytes[at..at + 4])
+}

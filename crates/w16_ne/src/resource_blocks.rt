@@ -1,0 +1,106 @@
+//! The blocks of the resource table.
+ghost use Rattle.std.specs.Prelude.{◌≡◌, ℕ, ◌<◌, ◌≤◌, ◌+◌, ◌*◌, ◌^◌, Ok, All, IfOk, IfSome};
+ghost use Rattle.w16_store.specs.Files.{file_of};
+ghost use Rattle.w16_ne.specs.Reading.{Gives, length_at};
+ghost use Rattle.w16_ne.specs.Resources.{block_at, blocks_from, blocks_at};
+
+use crate::fault::NeFault;
+use crate::reading::{file_len, read_or, word};
+use std::alloc::Global;
+use w16_store::Store;
+
+/// A block of resources of one type.
+#[derive(Clone, Copy, Debug, PartialEq, Eq)]
+pub struct Block {
+    /// The type word.
+    pub kind: u16,
+    /// How many resources it has.
+    pub count: u16,
+    /// The offset of the first in the file; each takes 12 bytes.
+    pub at: u64,
+}
+
+/// The block at an offset, or none where the table ends, in a file of so many bytes.
+#[tactic(auto, unfolding(crate::specs::Resources::block_at))]
+fn block_of<S: Store>(
+    store: &mut S,
+    name: &[u8],
+    len: u64,
+    at: u64,
+) -> Result<Option<Block>, NeFault>
+    ensures files { S.files store.new ≡ S.files store.old }
+    ensures failures { S.failures store.old ≤ S.failures store.new }
+    ensures ends { IfOk result (λ found. IfSome found (λ b. b.at + 12 * b.count ≤ len)) }
+    ensures exact { S.is_honest → length_at (file_of (S.files store.old) name.now) ≡ Ok len → Gives (λ b. b) (file_of (S.files store.old) name.now)
+        (S.failures store.old) (S.failures store.new) result (block_at (file_of (S.files store.old) name.now) at) }
+{
+    let mut kind = [0u8; 2];
+    read_or(store, name, at, &mut kind, NeFault::Truncated)?;
+    if word(&kind, 0) == 0 {
+        return Ok(None);
+    }
+    let mut head = [0u8; 8];
+    read_or(store, name, at, &mut head, NeFault::Truncated)?;
+    let count = word(&head, 2);
+    // What is 8 bytes behind the place was read, so no sum is too large where the store is honest.
+    let first = at.saturating_add(8);
+    match first.checked_add(12 * u64::from(count)) {
+        Some(end) if end <= len => Ok(Some(Block {
+            kind: word(&head, 0),
+            count,
+            at: first,
+        })),
+        _ => Err(NeFault::Truncated),
+    }
+}
+
+/// The blocks from an offset on, in a file of so many bytes.
+fn blocks_before<S: Store>(
+    alloc: Global,
+    store: &mut S,
+    name: &[u8],
+    len: u64,
+    at: u64,
+) -> Result<Vec<Block>, NeFault>
+    ensures files { S.files store.new ≡ S.files store.old }
+    ensures failures { S.failures store.old ≤ S.failures store.new }
+    ensures ends { IfOk result (λ v. All (λ b. b.at + 12 * b.count ≤ len) v.items) }
+    ensures exact { S.is_honest → length_at (file_of (S.files store.old) name.now) ≡ Ok len →
+        Gives (λ v. v.items) (file_of (S.files store.old) name.now)
+        (S.failures store.old) (S.failures store.new) result (blocks_from (file_of (S.files store.old) name.now) len at) }
+{
+    let mut blocks = Vec::new(alloc);
+    let mut place = at;
+    for _ in 0..len {
+        if place >= len {
+            return Err(NeFault::Truncated);
+        }
+        match block_of(store, name, len, place)? {
+            None => return Ok(blocks),
+            Some(found) => {
+                // No block that is there ends past the largest offset.
+                place = found.at.saturating_add(12 * u64::from(found.count));
+                blocks.push(found)?;
+            }
+        }
+    }
+    Err(NeFault::Truncated)
+}
+
+/// The blocks of the table that begins at an offset, behind its shift word.
+#[tactic(auto, unfolding(crate::specs::Resources::blocks_at))]
+pub fn blocks<S: Store>(
+    alloc: Global,
+    store: &mut S,
+    name: &[u8],
+    at: u64,
+) -> Result<Vec<Block>, NeFault>
+    ensures files { S.files store.new ≡ S.files store.old }
+    ensures failures { S.failures store.old ≤ S.failures store.new }
+    ensures ends { IfOk result (λ v. All (λ b. b.at + 12 * b.count < 2 ^ 64) v.items) }
+    ensures exact { S.is_honest → Gives (λ v. v.items) (file_of (S.files store.old) name.now)
+        (S.failures store.old) (S.failures store.new) result (blocks_at (file_of (S.files store.old) name.now) at) }
+{
+    let len = file_len(store, name)?;
+    blocks_before(alloc, store, name, len, at)
+}

@@ -1,0 +1,21 @@
+use Rattle.std.proofs.Common.{◌≡◌, map, refl, rules, Some, None}
+use Rattle.std.specs.List.{find}
+use Rattle.std.specs.String.{string_bytes}
+use Rattle.w16_store.specs.Names.{is_named}
+use Rattle.w16_store.proofs.Finding.{length_from_read, not_in_folder}
+use Rattle.w16_store.proofs.folder.DirStoreStore.len_of.Goals as goal
+
+pub returns-in-None-clause-honest : goal.returns-in-None-clause-honest
+returns-in-None-clause-honest g c = λ honest.
+    let names = map string_bytes c.args.self.now.names.items in
+    let name = c.args.name.now in
+    let none : find (λ m. is_named m name) names ≡ None = search rules in
+    rw (not_in_folder names (g.D.Disk.files c.args.self.now.disk) name none) refl
+
+pub returns-in-Ok-clause-honest : goal.returns-in-Ok-clause-honest
+returns-in-Ok-clause-honest g c = λ honest.
+    let names = map string_bytes c.args.self.now.names.items in
+    let name = c.args.name.now in
+    let is : Some c.in-Some.listed.now ≡ find (λ m. is_named m name) names = search rules in
+    let read = c.in-Ok.ensures.honest honest in
+    length_from_read names (g.D.Disk.files c.args.self.now.disk) name c.in-Some.listed.now read.0 c.in-Ok.len is read.1 read.2

@@ -1,0 +1,5 @@
+pub mod Names
+pub mod Files
+pub mod Memory
+pub mod Fuse
+pub mod Folder

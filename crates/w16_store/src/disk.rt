@@ -1,0 +1,37 @@
+//! What a folder's store needs of the system.
+ghost use Rattle.std.specs.Prelude.{◌≡◌, ℕ, ◌≤◌, List, length, map, IfOk};
+ghost use Rattle.std.specs.List.Sorted.{IsPermutation};
+ghost use Rattle.std.specs.String.{string_bytes};
+ghost use Rattle.w16_store.specs.Folder.{content_of, IsHonestRead};
+
+use crate::folder::DirFault;
+use std::alloc::Global;
+use thiserror::Error;
+
+/// The system failed, or a file isn't there any more.
+#[derive(Debug, Clone, Copy, PartialEq, Eq, Drop, Error)]
+#[error("the system failed")]
+pub struct DiskFailure;
+
+/// One folder of a disk. Names are exact here.
+pub trait Disk {
+    /// The folder's regular files, each a name and its bytes. No call changes them.
+    ghost files: { Self → List (List ℕ × List ℕ) };
+
+    /// How often the system has failed.
+    ghost failures: { Self → ℕ };
+
+    /// The files stay, and each answer is what they say, or a failure, which raised the count.
+    ghost is_honest: { Type 0 };
+
+    /// The names of all regular files whose name is UTF-8, in any order.
+    fn names(&self, alloc: Global) -> Result<Vec<String>, DirFault>
+        ensures honest { is_honest → IfOk result (λ names. IsPermutation (map (λ f. f.0) (files self.now)) (map string_bytes names.items)) };
+
+    /// The whole length of a file, in bytes; and where the file has bytes for all of the buffer from an offset on, the buffer is filled with them.
+    fn read(&mut self, name: &str, at: u64, buf: &mut [u8]) -> Result<u64, DiskFailure>
+        ensures files { files self.new ≡ files self.old }
+        ensures failures { failures self.old ≤ failures self.new }
+        ensures honest { is_honest → IsHonestRead (failures self.old) (failures self.new) result
+            (content_of (files self.old) name.now) at buf.old buf.new };
+}

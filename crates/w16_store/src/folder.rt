@@ -1,0 +1,106 @@
+//! The files of a folder.
+ghost use Rattle.std.specs.Prelude.{◌≡◌, ℕ, ◌≤◌, List, map, option_map, IfOk};
+ghost use Rattle.std.specs.List.{find};
+ghost use Rattle.std.specs.List.Sorted.{IsPermutation, IsSorted};
+ghost use Rattle.std.specs.String.{string_bytes, string_cmp};
+ghost use Rattle.w16_store.specs.Names.{is_named};
+ghost use Rattle.w16_store.specs.Folder.{listed};
+
+use crate::disk::Disk;
+use crate::name::is_named;
+use crate::part::has_part;
+use crate::store::{Store, StoreFault};
+use crate::system::SystemDisk;
+use std::alloc::{AllocError, Global};
+use std::rt::Files;
+use thiserror::Error;
+
+/// Why a folder can't be a store.
+#[derive(Debug, Clone, Copy, PartialEq, Eq, Drop, Error)]
+pub enum DirFault {
+    /// The folder can't be listed.
+    #[error("the folder can't be listed")]
+    Folder = 1,
+    /// There was no memory.
+    #[error("out of memory")]
+    Memory = 2,
+}
+
+impl From<AllocError> for DirFault {
+    fn from(_error: AllocError) -> DirFault {
+        DirFault::Memory
+    }
+}
+
+/// The files that a folder held when the store was made. Of names that are equal the first by bytes counts.
+#[derive(Drop)]
+pub struct DirStore<D: Disk + Drop> {
+    disk: D,
+    /// Ascending by bytes.
+    names: Vec<String>,
+}
+
+impl<D: Disk + Drop> DirStore<D> {
+    /// The files that a disk's folder holds now.
+    pub fn new(alloc: Global, disk: D) -> Result<Self, DirFault>
+        ensures disk { IfOk result (λ store. store.disk ≡ disk) }
+        ensures ascending { IfOk result (λ store. IsSorted string_cmp store.names.items) }
+        ensures whole { D.is_honest → IfOk result (λ store. IsPermutation (map (λ f. f.0) (D.files disk)) (map string_bytes store.names.items)) }
+    {
+        let mut names = disk.names(alloc)?;
+        names.sort_unstable();
+        Ok(DirStore { disk, names })
+    }
+}
+
+impl<R: Files + AllocGlobal + Clone + Drop> DirStore<SystemDisk<R>> {
+    /// The regular files, and links to such, that a folder of the system holds now. Names that aren't UTF-8 are left out.
+    pub fn from_folder(rt: &R, alloc: Global, folder: &str) -> Result<Self, DirFault>
+        ensures { IfOk result (λ store. IsSorted string_cmp store.names.items) }
+    {
+        DirStore::new(alloc, SystemDisk::new(rt, alloc, folder)?)
+    }
+}
+
+fn listed_as<'a>(names: &'a [String], name: &[u8]) -> Option<&'a str>
+    ensures { option_map (λ found. found.now) result ≡ find (λ n. is_named n name.now) (map string_bytes names.now) }
+{
+    for listed in names {
+        if is_named(listed.as_bytes(), name) {
+            return Some(listed.as_str());
+        }
+    }
+    None
+}
+
+impl<D: Disk + Drop> Store for DirStore<D> {
+    ghost files = { λ s. listed (map string_bytes s.names.items) (D.files s.disk) };
+
+    ghost failures = { λ s. D.failures s.disk };
+
+    ghost is_honest = { D.is_honest };
+
+    fn read_at(&mut self, name: &[u8], at: u64, buf: &mut [u8]) -> Result<(), StoreFault> {
+        let Some(listed) = listed_as(self.names.as_slice(), name) else {
+            return Err(StoreFault::Missing);
+        };
+        let Ok(len) = self.disk.read(listed, at, buf) else {
+            return Err(StoreFault::Device);
+        };
+        if has_part(len, at, buf.len()) {
+            Ok(())
+        } else {
+            Err(StoreFault::Short)
+        }
+    }
+
+    fn len_of(&mut self, name: &[u8]) -> Result<u64, StoreFault> {
+        match listed_as(self.names.as_slice(), name) {
+            None => Err(StoreFault::Missing),
+            Some(listed) => match self.disk.read(listed, 0, &mut []) {
+                Ok(len) => Ok(len),
+                Err(_) => Err(StoreFault::Device),
+            },
+        }
+    }
+}

@@ -1,0 +1,22 @@
+//! Module files by name, from memory or from a folder.
+#![tactic(auto)]
+
+mod disk;
+mod folder;
+mod fuse;
+mod memory;
+mod name;
+mod part;
+mod store;
+mod system;
+
+pub use disk::{Disk, DiskFailure};
+pub use folder::{DirFault, DirStore};
+pub use fuse::FuseStore;
+pub use memory::MemStore;
+pub use name::is_named;
+pub use store::{Store, StoreFault};
+pub use system::SystemDisk;
+
+#[cfg(test)]
+mod tests;

@@ -1,0 +1,90 @@
+//! A folder of the system.
+ghost use Rattle.std.specs.Prelude.{◌≡◌, ℕ, []};
+
+use crate::disk::{Disk, DiskFailure};
+use crate::folder::DirFault;
+use crate::part::has_part;
+use std::alloc::Global;
+use std::fs::OpenFile;
+use std::io::{Error, ErrorKind, Read, Seek, SeekFrom};
+use std::rt::Files;
+use std::{fs, io};
+
+/// A folder of the system, by its path. A file is opened at each read.
+#[derive(Drop)]
+pub struct SystemDisk<R: Files + Drop> {
+    runtime: R,
+    alloc: Global,
+    folder: String,
+}
+
+impl<R: Files + AllocGlobal + Clone + Drop> SystemDisk<R> {
+    /// Any folder, also one that isn't there. It keeps the access to files that `rt` gives. An error is that there was no memory.
+    pub fn new(rt: &R, alloc: Global, folder: &str) -> Result<Self, DirFault> {
+        Ok(SystemDisk {
+            runtime: rt.clone()?,
+            alloc,
+            folder: String::from_str(alloc, folder)?,
+        })
+    }
+}
+
+impl<R: Files + Drop> SystemDisk<R> {
+    /// A regular file of the folder, opened, and its length.
+    fn open(&self, name: &str) -> io::Result<(R::File, u64)> {
+        let path = format!(in self.alloc; "{}/{name}", self.folder)?;
+        let file = fs::open(&self.runtime, path.as_str())?;
+        let metadata = file.metadata()?;
+        if !metadata.is_file() {
+            return Err(Error::from(ErrorKind::InvalidInput));
+        }
+        Ok((file, metadata.len()))
+    }
+
+    fn read_part(&self, name: &str, at: u64, buf: &mut [u8]) -> io::Result<u64> {
+        let (mut file, len) = self.open(name)?;
+        if has_part(len, at, buf.len()) {
+            file.seek(SeekFrom::Start(at))?;
+            file.read_exact(buf)?;
+        }
+        Ok(len)
+    }
+}
+
+/// Why a folder wasn't listed.
+fn fault_of(error: Error) -> DirFault {
+    match error.kind() {
+        ErrorKind::OutOfMemory => DirFault::Memory,
+        _ => DirFault::Folder,
+    }
+}
+
+// No contract says what a system's files hold, so nothing is promised of the answers: the folder's files are none, and nothing makes it honest.
+impl<R: Files + AllocGlobal + Clone + Drop> Disk for SystemDisk<R> {
+    ghost files = { λ _. [] };
+
+    ghost failures = { λ _. 0 };
+
+    ghost is_honest = { ⊥ };
+
+    fn names(&self, alloc: Global) -> Result<Vec<String>, DirFault> {
+        let mut names = Vec::new(alloc);
+        let entries = fs::read_dir(&self.runtime, self.folder.as_str()).map_err(fault_of)?;
+        for entry in entries {
+            let entry = match entry {
+                Ok(entry) => entry,
+                Err(e) if e.kind() == ErrorKind::InvalidFilename => continue,
+                Err(e) => return Err(fault_of(e)),
+            };
+            if entry.path().is_file(&self.runtime) {
+                let name = String::from_str(alloc, entry.file_name())?;
+                names.push(name).map_err(|_| DirFault::Memory)?;
+            }
+        }
+        Ok(names)
+    }
+
+    fn read(&mut self, name: &str, at: u64, buf: &mut [u8]) -> Result<u64, DiskFailure> {
+        self.read_part(name, at, buf).map_err(|_| DiskFailure)
+    }
+}
