@@ -16,8 +16,6 @@ mod making;
 mod objects;
 mod placing;
 mod requests;
-#[cfg(test)]
-mod tests;
 mod walk;
 
 pub use making::Placed;

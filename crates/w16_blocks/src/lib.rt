@@ -7,8 +7,6 @@ ghost use Rattle.std.specs.Option.{option_map, ForSome};
 ghost use Rattle.std.specs.List.{find};
 
 mod search;
-#[cfg(test)]
-mod tests;
 
 use search::{lower_bound, lowest_hole, stays};
 use std::alloc::{AllocError, Global};

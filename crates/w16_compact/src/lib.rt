@@ -14,8 +14,6 @@ mod prefix;
 mod reach;
 mod rooms;
 mod slide;
-#[cfg(test)]
-mod tests;
 
 pub use gaps::{Gap, gap_for};
 pub use prefix::{eligible_at, least_prefix, room_after};

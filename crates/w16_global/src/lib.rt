@@ -10,5 +10,3 @@ mod objects;
 pub use global::Global16;
 pub use w16_model::FarFault;
 
-#[cfg(test)]
-mod tests;

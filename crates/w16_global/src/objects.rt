@@ -12,9 +12,6 @@ ghost use Rattle.w16_arena.specs.State.{entry_of};
 ghost use Rattle.w16_arena.specs.Asked.{HasDiscarded, IsStill, first_eligible};
 ghost use Rattle.w16_global.specs.Parts.{HasPart};
 
-#[cfg(test)]
-mod tests;
-
 use std::alloc::{AllocError, Global};
 use std::marker::Model;
 use w16_arena::{Arena, Compacted, Placed};

@@ -18,6 +18,4 @@ mod framed;
 mod region;
 mod space;
 mod storage;
-#[cfg(test)]
-mod tests;
 mod window;

@@ -26,5 +26,3 @@ pub use print::{print_error, print_reply};
 pub use registers::Registers;
 pub use script::run;
 
-#[cfg(test)]
-mod tests;
