@@ -11,9 +11,9 @@ use Rattle.w16_model.specs.declared.Entry.{Entry}
 use Rattle.w16_model.specs.declared.Kind.{Kind}
 use Rattle.w16_model.specs.Gap.{Misses}
 use Rattle.w16_model.specs.Heap.{Heap, Object, IsMultiple, object_at, is_discardable}
-use Rattle.w16_model.specs.Prefix.{is_member}
-use Rattle.w16_model.specs.Edit.{newest, without, with_newest}
-use Rattle.w16_model.specs.Table.{block_with, hold_in, is_listed}
+use Rattle.w16_model.specs.Discards.{is_member}
+use Rattle.w16_model.specs.Changes.{newest, without, with_newest}
+use Rattle.w16_model.specs.Table.{block_with, hold_of_entry, is_listed}
 use Rattle.w16_model.proofs.Gaps.{Each-from, Each-at, Each-map, EachPair-from_AllPairs}
 use Rattle.w16_model.proofs.Heaps.{tied_itself, untied}
 use Rattle.w16_model.proofs.Tables.{member_with, with_member}
@@ -21,7 +21,7 @@ use Rattle.w16_blocks.specs.Layout.{Layout, IsOrdered, Fits, IsApart, placed}
 use Rattle.w16_lru.specs.declared.End.TheVariants.{Newest}
 use Rattle.w16_arena.proofs.Parts.{AreParts}
 use Rattle.w16_arena.specs.State.{heap_of}
-use Rattle.w16_arena.specs.Making.{IsFree}
+use Rattle.w16_arena.specs.NewPlace.{AreFreeBytes}
 use Rattle.w16_arena.proofs.With.{with-placed}
 use Rattle.w16_arena.proofs.Lookups.{ordered_arranged}
 use Rattle.w16_arena.proofs.Changed.{GoTogether, ChangesOne, ReordersOne, changed_parts, object_at_id, object_at_other, place_at_id, place_at_other}
@@ -57,12 +57,12 @@ module _ {entries : List (Option Entry)} {layout : Layout} {order memory : List 
         no c here e = let none : ◌≡◌ {A = Option Block} None (Some c) = sym absent ∙ ap (block_with layout.blocks) (sym e) ∙ here in cc
 
     -- The object gets its bytes at a free place.
-    module _ (at : ℕ) (place : IsFree layout n at) where
+    module _ (at : ℕ) (place : AreFreeBytes layout n at) where
       abbrev entry : Entry
       entry = record { kind = kind; locks = 0 }
 
       abbrev block : Block
-      block = record { id = id; at = at; size = n; hold = hold_in entry }
+      block = record { id = id; at = at; size = n; hold = hold_of_entry entry }
 
       pub fits : Fits layout block
       fits = record {

@@ -10,27 +10,27 @@ use Rattle.w16_model.specs.declared.Span.{Span}
 use Rattle.w16_model.specs.Law.{KeepsOthers}
 use Rattle.w16_model.specs.declared.Way.{Way}
 use Rattle.w16_model.specs.Gap.{room, longest_hole, is_pinned}
-use Rattle.w16_model.specs.Prefix.{eligible, blocks_without, room_for, needed}
+use Rattle.w16_model.specs.Discards.{eligible, blocks_without, room_for, needed}
 use Rattle.w16_model.specs.Heap.{Heap, Object, IsHeap, IsMultiple, blocks, object_at, bytes_at}
-use Rattle.w16_model.specs.Edit.{absent, with_newest, with_ordered}
+use Rattle.w16_model.specs.Changes.{absent, with_newest, with_ordered}
 use Rattle.w16_model.specs.Request.{moved_bytes, Allocates, Compacts, MakesRoom, IsNew, Settles, prefix_of, stays_for, discarded, compaction_prefix, eligible_count, most_room}
 use Rattle.w16_model.specs.Table.{Table, IsSound, block_with, heap_in}
 use Rattle.w16_model.proofs.Gaps.{Each-from}
 use Rattle.w16_model.proofs.Tables.{place_is, table_longest}
 use Rattle.w16_model.proofs.Sound.{sound_heap}
-use Rattle.w16_model.proofs.Kept.{taken_here, taken_other}
+use Rattle.w16_model.proofs.KeptHeaps.{taken_here, taken_other}
 use Rattle.w16_model.proofs.Discards.{room-discarded}
 use Rattle.w16_model.proofs.Others.{others_law}
 use Rattle.w16_model.proofs.Prefixes.{prefix_hole, prefix_no_hole, prefix_now, prefix_kept, prefix_needed, needed_by_members, needed_enough, eligible_by_members, room_by_members}
 use Rattle.w16_model.proofs.Answered.{allocates_after, settles_after, settles_before, moved_after, discarded_all}
 use Rattle.w16_blocks.specs.Layout.{Layout}
 use Rattle.w16_arena.specs.Asked.{Stands, SlidesTogether, HasDiscarded, IsStill, IsPlaced, IsSlid, Discards, first_eligible}
-use Rattle.w16_arena.specs.declared.making.Placed.{Placed}
-use Rattle.w16_arena.specs.declared.placing.Compacted.{Compacted}
+use Rattle.w16_arena.specs.declared.new_place.Placed.{Placed}
+use Rattle.w16_arena.specs.declared.without_discard.Compacted.{Compacted}
 use Rattle.std.specs.Borrow.{GName}
 use Rattle.w16_compact.specs.Rest.{IsSameRest}
-use Rattle.w16_arena.specs.State.{State, IsSameRange, KeepsRest}
-use Rattle.w16_arena.specs.Making.{most_in}
+use Rattle.w16_arena.specs.State.{ArenaState, IsSameRange, KeepsRest}
+use Rattle.w16_arena.specs.NewPlace.{most_in}
 use Rattle.w16_arena.proofs.Parts.{AreParts}
 use Rattle.w16_arena.proofs.Lookups.{bytes_here}
 use Rattle.w16_arena.proofs.Listed.{is_listed, listed_permutation, listed_room, listed_with}
@@ -117,7 +117,7 @@ room_about t sound memory inside id none =
     ap (room t.lo t.hi) (none_out id (blocks (heap_in t memory)) (Each-from (λ x. x.id ≢ id) (blocks (heap_in t memory)) (λ x m e.
     let some : ◌≡◌ {A = Option Block} None (Some x) = sym none ∙ ap (block_with t.blocks) (sym e) ∙ listed_with parts x (is_listed parts x m) in cc))) ∙ listed_room parts
 
-module _ (old : State) (sound : IsSound old.table) (memory : List ℕ) (inside : old.table.hi ≤ length memory) where
+module _ (old : ArenaState) (sound : IsSound old.table) (memory : List ℕ) (inside : old.table.hi ≤ length memory) where
   abbrev t : Table
   t = old.table
 
@@ -182,7 +182,7 @@ module _ (old : State) (sound : IsSound old.table) (memory : List ℕ) (inside :
       refused_needed e = refused_by (prefix_is ∙ e)
 
       -- The first k were discarded.
-      module _ (k : ℕ) (some_is : found ≡ Some k) (mid : State) (discards : Discards k (Some id) old mid) where
+      module _ (k : ℕ) (some_is : found ≡ Some k) (mid : ArenaState) (discards : Discards k (Some id) old mid) where
         mid_inside : mid.table.hi ≤ length memory
         mid_inside = let same = discards.range.hi in omega arith
 
@@ -246,7 +246,7 @@ module _ (old : State) (sound : IsSound old.table) (memory : List ℕ) (inside :
   compacts_none most is n none = subst (λ b. MatchBool b ((most ≡ most_room h) × (h ≡ h)) (MakesRoom h n most h)) (sym (eq-eqb n 0 none)) (is, refl)
 
   -- For some, as many are discarded as are needed, or all.
-  module _ (n : ℕ) (some : 0 < n) (k : Option ℕ) (k_is : k ≡ needed t.lo t.hi t.blocks t.order n None) (all : ℕ) (few : length t.order ≤ all) (mid : State) (discards : Discards (unwrap_or k all) None old mid) where
+  module _ (n : ℕ) (some : 0 < n) (k : Option ℕ) (k_is : k ≡ needed t.lo t.hi t.blocks t.order n None) (all : ℕ) (few : length t.order ≤ all) (mid : ArenaState) (discards : Discards (unwrap_or k all) None old mid) where
     count_few : eligible_count h ≤ all
     count_few = let e = ap (length {A = ℕ}) (eligible_same None) in let le = eligible_few t.blocks t.order None in omega arith
 

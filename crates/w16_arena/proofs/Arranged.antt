@@ -12,7 +12,7 @@ use Rattle.w16_model.proofs.Maximal.{missed, clear_from, gap_around, gap_same}
 use Rattle.w16_model.proofs.Starts.{inside, sized, two, hole_is_longest}
 use Rattle.w16_model.proofs.Tables.{with_member}
 use Rattle.w16_blocks.specs.Layout.{Layout, IsOrdered}
-use Rattle.w16_arena.specs.Making.{Slides, AreMoved, IsFree}
+use Rattle.w16_arena.specs.NewPlace.{Slides, AreMoved, AreFreeBytes}
 use Rattle.w16_arena.proofs.Lookups.{named_pairs}
 use Rattle.w16_arena.proofs.Pairs.{two_member, two_same}
 use Rattle.w16_arena.proofs.Slid.{pinned_stands}
@@ -133,12 +133,12 @@ module _ {low high : ℕ} {old : Layout} {memory : List ℕ} {new : Layout} {aft
   ]
 
   -- a free range of n bytes is as long as the room allows, and some hole is no shorter
-  pub free_fits : (n at : ℕ) → IsFree new n at → n ≤ room old.lo old.hi xs
+  pub free_fits : (n at : ℕ) → AreFreeBytes new n at → n ≤ room old.lo old.hi xs
   free_fits n at free =
       let r = free_in_room at (at + n) (record { above = free.above; below = free.below; misses = All-from_Each (λ x. IsTrue (is_any x) → Misses x.at x.size at (at + n)) new.blocks (Each-from (λ x. IsTrue (is_any x) → Misses x.at x.size at (at + n)) new.blocks (λ x m t. Each-at (λ (x : Block). Misses x.at x.size at (at + n)) new.blocks free.misses x m)) }) in
       omega arith
 
-  pub free_in_hole : (n at : ℕ) → 0 < n → IsFree new n at → n ≤ longest_hole new.lo new.hi new.blocks
+  pub free_in_hole : (n at : ℕ) → 0 < n → AreFreeBytes new n at → n ≤ longest_hole new.lo new.hi new.blocks
   free_in_hole n at some free =
       let around = gap_around is_any new.lo new.hi new.blocks (sized new.lo new.hi new.blocks placed_new) at (at + n) (omega arith)
       (record { above = free.above; below = free.below; misses = All-from_Each (λ x. IsTrue (is_any x) → Misses x.at x.size at (at + n)) new.blocks (Each-from (λ x. IsTrue (is_any x) → Misses x.at x.size at (at + n)) new.blocks (λ x m t. Each-at (λ (x : Block). Misses x.at x.size at (at + n)) new.blocks free.misses x m)) }) in

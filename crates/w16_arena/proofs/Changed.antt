@@ -7,8 +7,8 @@ use Rattle.std.proofs.lemmas.List.{get_or-set_same, get_or-set_other, length-set
 use Rattle.w16_model.specs.declared.Block.{Block}
 use Rattle.w16_model.specs.declared.Entry.{Entry}
 use Rattle.w16_model.specs.Heap.{Object, object_at}
-use Rattle.w16_model.specs.Table.{IsCountedBy, block_with, hold_in, is_listed}
-use Rattle.w16_model.specs.Prefix.{is_member}
+use Rattle.w16_model.specs.Table.{IsCountedBy, block_with, hold_of_entry, is_listed}
+use Rattle.w16_model.specs.Discards.{is_member}
 use Rattle.w16_blocks.specs.Layout.{Layout}
 use Rattle.w16_arena.proofs.Parts.{AreParts}
 use Rattle.w16_arena.specs.State.{heap_of}
@@ -23,7 +23,7 @@ get_or-set entries id v q lt = elim (eqb_tells id q) [
 
 -- an entry and a block that go together, or an entry alone
 pub record GoTogether (entry : Option Entry) (block : Option Block) : Type 0 where
-  pub holds : (x : Block) → block ≡ Some x → IsSomeAnd entry (λ e. x.hold ≡ hold_in e)
+  pub holds : (x : Block) → block ≡ Some x → IsSomeAnd entry (λ e. x.hold ≡ hold_of_entry e)
   pub counted : IfSome entry (IsCountedBy block)
 
 -- the layout has this block for one id, and otherwise the same
@@ -67,7 +67,7 @@ module _ {entries : List (Option Entry)} {layout : Layout} {order memory : List 
   pub changed_parts : AreParts (set entries id entry) new uses after
   changed_parts = record {
     sound = sound_of (set entries id entry) new uses arranged
-        (each_id (λ e b. (x : Block) → b ≡ Some x → IsSomeAnd e (λ d. x.hold ≡ hold_in d)) together.holds (holds_at entries layout order parts.sound))
+        (each_id (λ e b. (x : Block) → b ≡ Some x → IsSomeAnd e (λ d. x.hold ≡ hold_of_entry d)) together.holds (holds_at entries layout order parts.sound))
         listed
         (each_id (λ e b. IfSome e (IsCountedBy b)) together.counted parts.sound.counted);
     ids = changes.cap ∙ parts.ids ∙ sym (length-set entries id entry);

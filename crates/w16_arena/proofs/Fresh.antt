@@ -8,7 +8,7 @@ use Rattle.w16_model.proofs.Gaps.{All-from_Each, AllPairs-from_EachPair}
 use Rattle.w16_blocks.specs.Layout.{Layout}
 use Rattle.w16_lru.specs.Uses.{Uses}
 use Rattle.w16_arena.specs.State.{empty_table}
-use Rattle.w16_arena.specs.Kept.{IsKept}
+use Rattle.w16_arena.specs.Representation.{IsKept}
 use Rattle.w16_arena.proofs.Lookups.{IsArranged, IsOrder, sound_of}
 
 abbrev none : Option Entry

@@ -10,7 +10,7 @@ use Rattle.w16_compact.specs.declared.gaps.Gap.{Gap}
 use Rattle.w16_compact.specs.Gap.{HasRoom}
 use Rattle.w16_compact.specs.Gather.{contents, gathered}
 use Rattle.w16_compact.proofs.Loose.{loose_one}
-use Rattle.w16_arena.specs.Making.{EachTwo, AreMoved, IsFree}
+use Rattle.w16_arena.specs.NewPlace.{EachTwo, AreMoved, AreFreeBytes}
 use Rattle.w16_arena.proofs.Pairs.{Stands, two_gathered, two_slides}
 
 -- at multiples of the grain
@@ -43,7 +43,7 @@ module _ {l : Layout} {n : ℕ} {gap : Gap} (ordered : IsOrdered l) (has : HasRo
       bytes = λ _. all;
     }
 
-    pub gathered_free : IsClear is_any l.lo l.hi new.blocks (gap.low + loose_bytes l.blocks gap.low gap.high) gap.high → IsFree new n (gap.low + gap.loose)
+    pub gathered_free : IsClear is_any l.lo l.hi new.blocks (gap.low + loose_bytes l.blocks gap.low gap.high) gap.high → AreFreeBytes new n (gap.low + gap.loose)
     gathered_free clear =
         let lo : new.lo ≡ l.lo = ap (λ (x : Layout). x.lo) value in
         let hi : new.hi ≡ l.hi = ap (λ (x : Layout). x.hi) value in

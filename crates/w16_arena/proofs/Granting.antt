@@ -6,19 +6,19 @@ use Rattle.w16_model.specs.declared.Hold.{Hold}
 use Rattle.w16_model.specs.declared.Kind.{Kind}
 use Rattle.w16_model.specs.declared.Way.{Way}
 use Rattle.w16_model.specs.Heap.{IsMultiple, is_discardable}
-use Rattle.w16_model.specs.Edit.{newest}
-use Rattle.w16_model.specs.Table.{block_with, hold_in, heap_in}
-use Rattle.w16_region.specs.Bytes.{put_part, repeated}
+use Rattle.w16_model.specs.Changes.{newest}
+use Rattle.w16_model.specs.Table.{block_with, hold_of_entry, heap_in}
+use Rattle.w16_model.specs.Bytes.{put_part, repeated}
 use Rattle.w16_blocks.specs.Layout.{Layout, IsOrdered, Fits, placed}
-use Rattle.w16_compact.specs.Gather.{moved_size}
+use Rattle.w16_compact.specs.Gather.{moved_between}
 use Rattle.w16_lru.specs.Uses.{Uses}
-use Rattle.w16_arena.specs.declared.making.Placed.{Placed}
+use Rattle.w16_arena.specs.declared.new_place.Placed.{Placed}
 use Rattle.w16_arena.specs.Asked.{Stands}
 use Rattle.std.specs.Borrow.{GName}
 use Rattle.w16_compact.specs.Rest.{IsSameRest}
-use Rattle.w16_arena.specs.State.{State, KeepsRest, table_of, heap_of}
-use Rattle.w16_arena.specs.Kept.{IsKept}
-use Rattle.w16_arena.specs.Making.{AreMoved, IsFree}
+use Rattle.w16_arena.specs.State.{ArenaState, KeepsRest, table_of, heap_of}
+use Rattle.w16_arena.specs.Representation.{IsKept}
+use Rattle.w16_arena.specs.NewPlace.{AreMoved, AreFreeBytes}
 use Rattle.w16_arena.proofs.Parts.{AreParts}
 use Rattle.w16_arena.proofs.Steps.{state_of, beside, kept_with}
 use Rattle.w16_arena.proofs.Shown.{known, told}
@@ -26,10 +26,10 @@ use Rattle.w16_arena.proofs.Standing as standing
 use Rattle.w16_compact.proofs.Rests.{rest_more}
 
 module _ {entries : List (Option Entry)} {layout : Layout} {uses : Uses} {marks : List Bool} {room : ℕ} (kept : IsKept entries layout uses marks room)
-    {discarded : List ℕ} {old : State} (shown : state_of entries layout uses.ids discarded ≡ old)
+    {discarded : List ℕ} {old : ArenaState} (shown : state_of entries layout uses.ids discarded ≡ old)
     (memory : List ℕ) (bytes : All (λ b. b < 256) memory) (inside : old.table.hi ≤ length memory)
     (id n : ℕ) (kind : Kind) (way : Way) (below : id < length old.table.entries) (none : block_with old.table.blocks id ≡ None) (some : 0 < n) (rounded : IsMultiple old.table.grain n)
-    {mid : Layout} {mid_memory : List ℕ} (p : Placed) (moved : AreMoved p.slid.from p.slid.to layout memory mid mid_memory) (place : IsFree mid n p.at) where
+    {mid : Layout} {mid_memory : List ℕ} (p : Placed) (moved : AreMoved p.slid.from p.slid.to layout memory mid mid_memory) (place : AreFreeBytes mid n p.at) where
   parts : AreParts entries layout uses.ids memory
   parts = beside kept memory (known kept shown (λ t. t.hi ≤ length memory) inside)
 
@@ -45,7 +45,7 @@ module _ {entries : List (Option Entry)} {layout : Layout} {uses : Uses} {marks 
   abbrev entry : Entry
   entry = record { kind = kind; locks = 0 }
 
-  module _ {hold : Hold} (hold_is : hold ≡ hold_in entry) (still : way.compact ≡ false → mid ≡ layout) where
+  module _ {hold : Hold} (hold_is : hold ≡ hold_of_entry entry) (still : way.compact ≡ false → mid ≡ layout) where
     pub may_insert : Fits mid (record { id = id; at = p.at; size = n; hold = hold })
     may_insert = standing.may_insert parts bytes id n kind way lt absent some grains p moved place hold_is still
 
@@ -66,7 +66,7 @@ module _ {entries : List (Option Entry)} {layout : Layout} {uses : Uses} {marks 
       pub kept_placed : IsKept (set entries id (Some entry)) new uses' marks room
       kept_placed = kept_with kept (set entries id (Some entry)) new uses' parts_after.sound (length-set entries id (Some entry)) same.3 (ap (λ (u : Uses). u.cap) uses_is)
 
-      pub stands_placed : p.moved ≡ moved_size layout.blocks mid.blocks → Stands (heap_in old.table memory) id n kind way p (heap_of (set entries id (Some entry)) new uses'.ids after)
+      pub stands_placed : p.moved ≡ moved_between layout.blocks mid.blocks → Stands (heap_in old.table memory) id n kind way p (heap_of (set entries id (Some entry)) new uses'.ids after)
       stands_placed counted = told kept shown (λ t. Stands (heap_in t memory) id n kind way p (heap_of (set entries id (Some entry)) new uses'.ids after))
           (standing.stands parts bytes id n kind way lt absent some grains p moved place hold_is still value ordered filled (ap (λ (u : Uses). u.ids) uses_is) counted)
 

@@ -7,8 +7,8 @@ use Rattle.std.specs.List.{AllByRecursion}
 use Rattle.w16_model.specs.declared.Block.{Block}
 use Rattle.w16_model.specs.declared.Entry.{Entry}
 use Rattle.w16_model.specs.Heap.{Heap, Object, IsHeap, object_at, bytes_at, IsMultiple}
-use Rattle.w16_model.specs.Table.{IsCountedBy, IsSound, block_with, object_in, hold_in, is_listed}
-use Rattle.w16_model.specs.Prefix.{is_member}
+use Rattle.w16_model.specs.Table.{IsCountedBy, IsSound, block_with, object_in, hold_of_entry, is_listed}
+use Rattle.w16_model.specs.Discards.{is_member}
 use Rattle.w16_model.proofs.Gaps.{EachPair, Each-from, Each-at, Each-from_All, All-from_Each, AllPairs-from_EachPair, EachPair-from_AllPairs}
 use Rattle.w16_model.proofs.Tables.{object_is, place_is, with_member, member_with, length_range}
 use Rattle.w16_model.proofs.Sound.{sound_heap}
@@ -71,7 +71,7 @@ pub record IsOrder (entries : List (Option Entry)) (layout : Layout) (order : Li
   pub once : AllPairs (λ a b. a ≡ b → ⊥) order
 
 pub sound_of : (entries : List (Option Entry)) (layout : Layout) (order : List ℕ) → IsArranged layout
-    → ((q : ℕ) (x : Block) → block_with layout.blocks q ≡ Some x → IsSomeAnd (get_or entries q None) (λ e. x.hold ≡ hold_in e))
+    → ((q : ℕ) (x : Block) → block_with layout.blocks q ≡ Some x → IsSomeAnd (get_or entries q None) (λ e. x.hold ≡ hold_of_entry e))
     → IsOrder entries layout order
     → ((q : ℕ) → IfSome (get_or entries q None) (IsCountedBy (block_with layout.blocks q)))
     → IsSound (table_of entries layout order)
@@ -79,8 +79,8 @@ sound_of entries layout order arranged holds listed counted = record {
   table = record {
     laid = arranged.laid;
     ids = arranged.ids;
-    holds = All-from_Each (λ x. IsSomeAnd (get_or entries x.id None) (λ e. x.hold ≡ hold_in e)) layout.blocks
-        (Each-from (λ x. IsSomeAnd (get_or entries x.id None) (λ e. x.hold ≡ hold_in e)) layout.blocks (λ x m. holds x.id x (with_member layout.blocks x (EachPair-from_AllPairs (λ x y. x.id ≡ y.id → ⊥) layout.blocks arranged.ids) m)));
+    holds = All-from_Each (λ x. IsSomeAnd (get_or entries x.id None) (λ e. x.hold ≡ hold_of_entry e)) layout.blocks
+        (Each-from (λ x. IsSomeAnd (get_or entries x.id None) (λ e. x.hold ≡ hold_of_entry e)) layout.blocks (λ x m. holds x.id x (with_member layout.blocks x (EachPair-from_AllPairs (λ x y. x.id ≡ y.id → ⊥) layout.blocks arranged.ids) m)));
   };
   grained = arranged.grained;
   low_grained = arranged.low_grained;
@@ -90,10 +90,10 @@ sound_of entries layout order arranged holds listed counted = record {
 }
 
 -- what a sound table has at each id
-pub holds_at : (entries : List (Option Entry)) (layout : Layout) (order : List ℕ) → IsSound (table_of entries layout order) → (q : ℕ) (x : Block) → block_with layout.blocks q ≡ Some x → IsSomeAnd (get_or entries q None) (λ e. x.hold ≡ hold_in e)
+pub holds_at : (entries : List (Option Entry)) (layout : Layout) (order : List ℕ) → IsSound (table_of entries layout order) → (q : ℕ) (x : Block) → block_with layout.blocks q ≡ Some x → IsSomeAnd (get_or entries q None) (λ e. x.hold ≡ hold_of_entry e)
 holds_at entries layout order sound q x e =
     let m = member_with layout.blocks q x e in
-    subst (λ k. IsSomeAnd (get_or entries k None) (λ d. x.hold ≡ hold_in d)) m.1 (Each-at (λ (x : Block). IsSomeAnd (get_or entries x.id None) (λ d. x.hold ≡ hold_in d)) layout.blocks (Each-from_All _ layout.blocks sound.table.holds) x m.0)
+    subst (λ k. IsSomeAnd (get_or entries k None) (λ d. x.hold ≡ hold_of_entry d)) m.1 (Each-at (λ (x : Block). IsSomeAnd (get_or entries x.id None) (λ d. x.hold ≡ hold_of_entry d)) layout.blocks (Each-from_All _ layout.blocks sound.table.holds) x m.0)
 
 module _ {entries : List (Option Entry)} {layout : Layout} {order memory : List ℕ} (parts : AreParts entries layout order memory) where
   whole : layout.hi ≤ length memory
@@ -115,7 +115,7 @@ module _ {entries : List (Option Entry)} {layout : Layout} {order memory : List 
     where
       from : (b : Option Block) → block_with layout.blocks q ≡ b → b ≡ None
       from None e = refl
-      from (Some x) e = absurd (subst (λ d. IsSomeAnd d (λ d. x.hold ≡ hold_in d)) none (holds_at entries layout order parts.sound q x e))
+      from (Some x) e = absurd (subst (λ d. IsSomeAnd d (λ d. x.hold ≡ hold_of_entry d)) none (holds_at entries layout order parts.sound q x e))
 
   -- an object's bytes are those at its block
   pub bytes_here : (q : ℕ) → bytes_at (heap_of entries layout order memory) q ≡ option_map (λ (x : Block). slice_range memory x.at (x.at + x.size)) (block_with layout.blocks q)

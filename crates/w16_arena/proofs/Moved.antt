@@ -15,10 +15,10 @@ use Rattle.w16_model.proofs.Gaps.{Member}
 use Rattle.w16_model.proofs.Longest.{sum_filter}
 use Rattle.w16_model.proofs.Tables.{with_member}
 use Rattle.w16_blocks.specs.Layout.{Layout}
-use Rattle.w16_compact.specs.Gather.{moved_size}
+use Rattle.w16_compact.specs.Gather.{moved_between}
 use Rattle.w16_arena.proofs.Parts.{AreParts}
 use Rattle.w16_arena.specs.State.{heap_of}
-use Rattle.w16_arena.specs.Making.{EachTwo, Slides, AreMoved}
+use Rattle.w16_arena.specs.NewPlace.{EachTwo, Slides, AreMoved}
 use Rattle.w16_arena.proofs.Lookups.{named_pairs, place_here}
 use Rattle.w16_arena.proofs.Listed.{listed_permutation}
 
@@ -52,7 +52,7 @@ moved_few t sound memory inside new =
     omega (arith, bytes_permutation p t.blocks (blocks (heap_in t memory)) (listed_permutation parts), laid_bytes p t.lo t.hi t.blocks sound.table.laid)
 
 -- those that are elsewhere then, block by block
-moved_by : (places : ℕ → Option ℕ) (bs cs : List Block) → EachTwo (λ b c. places b.id ≡ Some c.at) bs cs → sum_by (λ x. x.size) (filter (λ x. is_elsewhere x.at (places x.id)) bs) ≡ moved_size bs cs
+moved_by : (places : ℕ → Option ℕ) (bs cs : List Block) → EachTwo (λ b c. places b.id ≡ Some c.at) bs cs → sum_by (λ x. x.size) (filter (λ x. is_elsewhere x.at (places x.id)) bs) ≡ moved_between bs cs
 moved_by places [] [] two = refl
 moved_by places [] (c ∷ cs) two = absurd two
 moved_by places (b ∷ bs) [] two = absurd two
@@ -73,7 +73,7 @@ two_of R S (b ∷ bs) (c ∷ cs) f two = (f b c (inl refl) (inl refl) two.0, two
 module _ {entries : List (Option Entry)} {layout : Layout} {order memory : List ℕ} (parts : AreParts entries layout order memory)
     {low high : ℕ} {new : Layout} {after : List ℕ} (moved : AreMoved low high layout memory new after) (parts_new : AreParts entries new order after) where
   -- a heap in which each of them stands where it slid to
-  pub moved_is : (h : Heap) → ((b : Block) → Member b layout.blocks → finmap.get h.places b.id ≡ finmap.get (heap_of entries new order after).places b.id) → moved_size layout.blocks new.blocks ≡ moved_bytes (heap_of entries layout order memory) h
+  pub moved_is : (h : Heap) → ((b : Block) → Member b layout.blocks → finmap.get h.places b.id ≡ finmap.get (heap_of entries new order after).places b.id) → moved_between layout.blocks new.blocks ≡ moved_bytes (heap_of entries layout order memory) h
   moved_is h same =
       sym (moved_by (λ q. finmap.get h.places q) layout.blocks new.blocks (two_of (Slides low high memory after) (λ b c. finmap.get h.places b.id ≡ Some c.at) layout.blocks new.blocks stands moved.blocks))
       ∙ sym (bytes_permutation (λ x. is_elsewhere x.at (finmap.get h.places x.id)) layout.blocks (blocks (heap_of entries layout order memory)) (listed_permutation parts))

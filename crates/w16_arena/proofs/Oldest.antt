@@ -8,21 +8,21 @@ use Rattle.std.proofs.lemmas.Map.Made.{IsDistinct-from_AllPairs}
 use Rattle.std.proofs.lemmas.Map.Steps.{length-le_from_distinct_below}
 use Rattle.w16_model.specs.declared.Block.{Block}
 use Rattle.w16_model.specs.declared.Entry.{Entry}
-use Rattle.w16_model.specs.Edit.{absent}
+use Rattle.w16_model.specs.Changes.{absent}
 use Rattle.w16_model.specs.Heap.{Heap, blocks, is_fixed, is_discardable}
 use Rattle.w16_model.specs.Gap.{holds_still}
 use Rattle.w16_model.specs.declared.Hold.TheVariants.{Pinned, Loose}
 use Rattle.w16_model.proofs.Tables.{member_with}
 use Rattle.std.proofs.lemmas.List.Filters.{length-filter_both}
-use Rattle.w16_model.specs.Prefix.{eligible, is_member, is_about, is_pinned_id}
+use Rattle.w16_model.specs.Discards.{eligible, is_member, is_about, is_pinned_id}
 use Rattle.w16_model.specs.Request.{discarded}
-use Rattle.w16_model.specs.Table.{Table, IsSound, hold_in, block_with, entry_at, heap_in, is_listed}
+use Rattle.w16_model.specs.Table.{Table, IsSound, hold_of_entry, block_with, entry_at, heap_in, is_listed}
 use Rattle.w16_model.proofs.Answered.{eligible_rest, discarded_next, discarded_none}
 use Rattle.w16_model.proofs.Discards.{true-is_member, eligible_loose}
 use Rattle.w16_model.proofs.Gaps.{Member, member_filter}
 use Rattle.w16_model.proofs.Prefixes.{eligible_by_members}
 use Rattle.w16_blocks.specs.Layout.{Layout}
-use Rattle.w16_arena.specs.State.{State, Steps, IsSameRange}
+use Rattle.w16_arena.specs.State.{ArenaState, Steps, IsSameRange}
 use Rattle.w16_arena.specs.Asked.{Discards}
 use Rattle.w16_arena.proofs.Listed.{listed_permutation}
 use Rattle.w16_arena.proofs.Lookups.{in_list, holds_at}
@@ -98,8 +98,8 @@ module _ (t : Table) (sound : IsSound t) where
           here : Member x t.blocks × (x.id ≡ id)
           here = member_with t.blocks id x f
 
-          held : x.hold ≡ hold_in d
-          held = subst (λ p. IsSomeAnd p (λ e. x.hold ≡ hold_in e)) e (holds_at t.entries (record { cap = length t.entries; lo = t.lo; hi = t.hi; grain = t.grain; blocks = t.blocks }) t.order sound id x f)
+          held : x.hold ≡ hold_of_entry d
+          held = subst (λ p. IsSomeAnd p (λ e. x.hold ≡ hold_of_entry e)) e (holds_at t.entries (record { cap = length t.entries; lo = t.lo; hi = t.hi; grain = t.grain; blocks = t.blocks }) t.order sound id x f)
 
   -- there are no more members than entries
   order_short : length t.order ≤ length t.entries
@@ -107,12 +107,12 @@ module _ (t : Table) (sound : IsSound t) where
       (λ q e. let known = member_known q (true-is_member q t.order (any_member q t.order e)) in in_list t.entries q known.0 known.1)
 
 -- After i of k discards from a table: the others are those of the table now.
-pub record ArePartly (before : State) (k : ℕ) (h : Option ℕ) (i : ℕ) (now : State) : Type 0 where
+pub record ArePartly (before : ArenaState) (k : ℕ) (h : Option ℕ) (i : ℕ) (now : ArenaState) : Type 0 where
   pub heaps : (memory : List ℕ) → before.table.hi ≤ length memory → discarded (heap_in before.table memory) k h ≡ discarded (heap_in now.table memory) (k - i) h
   pub listed : now.discarded ++ take (k - i) (eligible now.table.blocks now.table.order h) ≡ take k (eligible before.table.blocks before.table.order h)
   pub range : IsSameRange before.table now.table
 
-module _ (before : State) (k : ℕ) (h : Option ℕ) where
+module _ (before : ArenaState) (k : ℕ) (h : Option ℕ) where
   abbrev old : Table
   old = before.table
 
@@ -123,7 +123,7 @@ module _ (before : State) (k : ℕ) (h : Option ℕ) where
     range = record { lo = refl; hi = refl; grain = refl; ids = refl; sound = sound };
   }
 
-  module _ (i : ℕ) (now : State) (partly : ArePartly before k h i now) where
+  module _ (i : ℕ) (now : ArenaState) (partly : ArePartly before k h i now) where
     abbrev left : List ℕ
     left = eligible now.table.blocks now.table.order h
 
@@ -171,7 +171,7 @@ module _ (before : State) (k : ℕ) (h : Option ℕ) where
           let f = order_short old sound in
           omega arith
 
-      pub partly_more : (after : State) → Steps now after (λ a b. b ≡ absent a id) → (ids : List ℕ) → ids ≡ after.discarded ++ id ∷ [] → ArePartly before k h (i + 1) (record { table = after.table; discarded = ids })
+      pub partly_more : (after : ArenaState) → Steps now after (λ a b. b ≡ absent a id) → (ids : List ℕ) → ids ≡ after.discarded ++ id ∷ [] → ArePartly before k h (i + 1) (record { table = after.table; discarded = ids })
       partly_more after steps ids pushed = record {
         heaps = λ memory high.
             let high_now : now.table.hi ≤ length memory = let same = partly.range.hi in omega arith in
@@ -191,7 +191,7 @@ module _ (before : State) (k : ℕ) (h : Option ℕ) where
             ∙ ap (λ (heap : Heap). eligible (blocks heap) heap.order h) (steps.heaps memory high_now)
             ∙ eligible_rest (heap_in now.table memory) partly.range.sound.no_repeats h id first_here
             ∙ ap (drop 1) (sym (eligible_here now.table partly.range.sound memory high_now h)) in
-            let same : after.discarded ≡ now.discarded = ap (λ (s : State). s.discarded) steps.rest in
+            let same : after.discarded ≡ now.discarded = ap (λ (s : ArenaState). s.discarded) steps.rest in
             ap (λ (qs : List ℕ). ids ++ take rest qs) others
             ∙ ap (λ (qs : List ℕ). qs ++ take rest (drop 1 left)) (pushed ∙ ap (λ (qs : List ℕ). qs ++ id ∷ []) same)
             ∙ listed_next;

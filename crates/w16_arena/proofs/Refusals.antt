@@ -4,29 +4,29 @@ use Rattle.w16_model.specs.declared.Block.{Block}
 use Rattle.w16_model.specs.declared.Entry.{Entry}
 use Rattle.w16_model.specs.declared.Refusal.TheVariants as refusals
 use Rattle.w16_model.specs.Heap.{Heap, Object, object_at, is_fixed, is_discardable}
-use Rattle.w16_model.specs.Edit.{absent, with_object}
-use Rattle.w16_model.specs.Single.{after_lock, after_unlock, after_free, after_discard, after_touch, after_release, refused_order}
+use Rattle.w16_model.specs.Changes.{absent, with_object}
+use Rattle.w16_model.specs.OneObject.{after_lock, after_unlock, after_free, after_discard, after_touch, after_release, refused_order}
 use Rattle.w16_model.specs.Table.{IsSound, block_with, entry_at, object_in, heap_in}
 use Rattle.w16_model.proofs.Tables.{object_is}
-use Rattle.w16_arena.specs.State.{State, Steps}
+use Rattle.w16_arena.specs.State.{ArenaState, Steps}
 use Rattle.w16_arena.proofs.Told as told
 
 -- two steps, one after the other
-pub then : {a b c : State} (P Q R : Heap → Heap → Type 0) → Steps a b P → Steps b c Q
+pub then : {a b c : ArenaState} (P Q R : Heap → Heap → Type 0) → Steps a b P → Steps b c Q
     → ((memory : List ℕ) → a.table.hi ≤ length memory → P (heap_in a.table memory) (heap_in b.table memory) → Q (heap_in b.table memory) (heap_in c.table memory) → R (heap_in a.table memory) (heap_in c.table memory))
     → Steps a c R
 then {a} {b} {c} P Q R p q f = record {
   heaps = λ memory high. let hi = p.range.hi in f memory high (p.heaps memory high) (q.heaps memory (omega arith));
   range = record { lo = q.range.lo ∙ p.range.lo; hi = q.range.hi ∙ p.range.hi; grain = q.range.grain ∙ p.range.grain; ids = q.range.ids ∙ p.range.ids; sound = q.range.sound };
-  rest = q.rest ∙ ap (λ (s : State). record s { table = c.table }) p.rest;
+  rest = q.rest ∙ ap (λ (s : ArenaState). record s { table = c.table }) p.rest;
 }
 
 -- a step, said in other words
-pub said : {a b : State} (P Q : Heap → Heap → Type 0) → Steps a b P
+pub said : {a b : ArenaState} (P Q : Heap → Heap → Type 0) → Steps a b P
     → ((memory : List ℕ) → a.table.hi ≤ length memory → P (heap_in a.table memory) (heap_in b.table memory) → Q (heap_in a.table memory) (heap_in b.table memory)) → Steps a b Q
 said P Q p f = record { heaps = λ memory high. f memory high (p.heaps memory high); range = p.range; rest = p.rest }
 
-module _ (s : State) (sound : IsSound s.table) (id : ℕ) where
+module _ (s : ArenaState) (sound : IsSound s.table) (id : ℕ) where
   -- nothing has changed
   pub still : (P : Heap → Heap → Type 0) → ((memory : List ℕ) → s.table.hi ≤ length memory → P (heap_in s.table memory) (heap_in s.table memory)) → Steps s s P
   still P f = record { heaps = f; range = record { lo = refl; hi = refl; grain = refl; ids = refl; sound = sound }; rest = refl }
@@ -82,14 +82,14 @@ module _ (s : State) (sound : IsSound s.table) (id : ℕ) where
     pub free_locked : nat_lt 0 e.locks ≡ true → (s ≡ s) × Steps s s (λ a b. after_free a id ≡ Err refusals.Locked)
     free_locked t = (refl, still (λ a b. after_free a id ≡ Err refusals.Locked) (λ memory high. told.free_locked (heap_in s.table memory) id (object_in s.table.blocks memory id e) (there_at memory high) t))
 
-    pub free_ok : {m : State} → nat_lt 0 e.locks ≡ false → Steps s m (λ a b. b ≡ after_release a id) → Steps s m (λ a b. after_free a id ≡ Ok b)
+    pub free_ok : {m : ArenaState} → nat_lt 0 e.locks ≡ false → Steps s m (λ a b. b ≡ after_release a id) → Steps s m (λ a b. after_free a id ≡ Ok b)
     free_ok {m} t p = said (λ a b. b ≡ after_release a id) (λ a b. after_free a id ≡ Ok b) p
         (λ memory high h. told.free_ok (heap_in s.table memory) id (object_in s.table.blocks memory id e) (there_at memory high) t ∙ ap Ok (sym h))
 
     pub unlock_fixed : is_fixed e.kind ≡ true → (s ≡ s) × Steps s s (λ a b. after_unlock a id ≡ Err refusals.Fixed)
     unlock_fixed t = (refl, still (λ a b. after_unlock a id ≡ Err refusals.Fixed) (λ memory high. told.unlock_fixed (heap_in s.table memory) id (object_in s.table.blocks memory id e) (there_at memory high) t))
 
-    pub unlock_ok : {m : State} (locks : ℕ) → locks ≡ e.locks - 1 → is_fixed e.kind ≡ false → Steps s m (λ a b. IfSome (object_at a id) (λ o. b ≡ with_object a id (record o { locks = locks }))) → Steps s m (λ a b. after_unlock a id ≡ Ok b)
+    pub unlock_ok : {m : ArenaState} (locks : ℕ) → locks ≡ e.locks - 1 → is_fixed e.kind ≡ false → Steps s m (λ a b. IfSome (object_at a id) (λ o. b ≡ with_object a id (record o { locks = locks }))) → Steps s m (λ a b. after_unlock a id ≡ Ok b)
     unlock_ok {m} locks is t p = said (λ a b. IfSome (object_at a id) (λ o. b ≡ with_object a id (record o { locks = locks }))) (λ a b. after_unlock a id ≡ Ok b) p (λ memory high h.
         told.unlock_ok (heap_in s.table memory) id (object_in s.table.blocks memory id e) (there_at memory high) t
         ∙ ap Ok (sym (subst (λ p. IfSome p (λ (o : Object). heap_in m.table memory ≡ with_object (heap_in s.table memory) id (record o { locks = locks }))) (there_at memory high) h
@@ -101,7 +101,7 @@ module _ (s : State) (sound : IsSound s.table) (id : ℕ) where
     pub discard_other : nat_lt 0 e.locks ≡ false → is_discardable e.kind ≡ false → (s ≡ s) × Steps s s (λ a b. after_discard a id ≡ Err refusals.NotDiscardable)
     discard_other t k = (refl, still (λ a b. after_discard a id ≡ Err refusals.NotDiscardable) (λ memory high. told.discard_other (heap_in s.table memory) id (object_in s.table.blocks memory id e) (there_at memory high) t k))
 
-    pub discard_ok : {m : State} → nat_lt 0 e.locks ≡ false → is_discardable e.kind ≡ true → Steps s m (λ a b. b ≡ absent a id) → Steps s m (λ a b. after_discard a id ≡ Ok b)
+    pub discard_ok : {m : ArenaState} → nat_lt 0 e.locks ≡ false → is_discardable e.kind ≡ true → Steps s m (λ a b. b ≡ absent a id) → Steps s m (λ a b. after_discard a id ≡ Ok b)
     discard_ok {m} t k p = said (λ a b. b ≡ absent a id) (λ a b. after_discard a id ≡ Ok b) p
         (λ memory high h. told.discard_ok (heap_in s.table memory) id (object_in s.table.blocks memory id e) (there_at memory high) t k ∙ ap Ok (sym h))
 
@@ -120,7 +120,7 @@ module _ (s : State) (sound : IsSound s.table) (id : ℕ) where
       pub lock_full : is_fixed e.kind ≡ false → (e.locks == 255) ≡ true → (s ≡ s) × Steps s s (λ a b. after_lock a id ≡ Err refusals.LockFull)
       lock_full t l = (refl, still (λ a b. after_lock a id ≡ Err refusals.LockFull) (λ memory high. told.lock_full (heap_in s.table memory) id (object_in s.table.blocks memory id e) (there_at memory high) (has_bytes memory) t l))
 
-      pub lock_ok : {m n : State} (locks : ℕ) → locks ≡ e.locks + 1 → is_fixed e.kind ≡ false → (e.locks == 255) ≡ false
+      pub lock_ok : {m n : ArenaState} (locks : ℕ) → locks ≡ e.locks + 1 → is_fixed e.kind ≡ false → (e.locks == 255) ≡ false
           → Steps s m (λ a b. IfSome (object_at a id) (λ o. b ≡ with_object a id (record o { locks = locks }))) → Steps m n (λ a b. b ≡ after_touch a id) → Steps s n (λ a b. after_lock a id ≡ Ok b)
       lock_ok {m} {n} locks is t l p q = then (λ a b. IfSome (object_at a id) (λ o. b ≡ with_object a id (record o { locks = locks }))) (λ a b. b ≡ after_touch a id) (λ a b. after_lock a id ≡ Ok b) p q (λ memory high h k.
           told.lock_ok (heap_in s.table memory) id (object_in s.table.blocks memory id e) (there_at memory high) (has_bytes memory) t l

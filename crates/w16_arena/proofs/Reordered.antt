@@ -1,8 +1,8 @@
 -- The order of use with one id taken out, or put at an end.
 use Rattle.std.proofs.Common.{◌≡◌, ◌≢◌, ℕ, Bool, true, false, not, ◌&&◌, ◌||◌, ◌==◌, List, [], ◌∷◌, AllPairs, refl, sym, ap, ◌∙◌, eq-eqb, ne_eqb}
 use Rattle.std.proofs.lemmas.Bool.{false≢true, not-true, or_parts}
-use Rattle.w16_model.specs.Prefix.{is_member}
-use Rattle.w16_model.specs.Edit.{without, oldest}
+use Rattle.w16_model.specs.Discards.{is_member}
+use Rattle.w16_model.specs.Changes.{without, oldest}
 use Rattle.w16_lru.specs.declared.End.{End}
 use Rattle.w16_lru.specs.declared.End.TheVariants.{Oldest, Newest}
 use Rattle.w16_lru.specs.Uses.{at_end}

@@ -2,15 +2,15 @@
 use Rattle.std.specs.List.{find}
 use Rattle.std.proofs.Common.{◌≡◌, ℕ, ◌-◌, ◌<◌, ◌≤◌, Bool, true, false, nat_le, IfSome, List, [], ◌∷◌, Option, Some, None, option_map, refl, sym, ap, subst, arith}
 use Rattle.w16_model.specs.declared.Block.{Block}
-use Rattle.w16_compact.specs.Gather.{moved_size}
+use Rattle.w16_compact.specs.Gather.{moved_between}
 use Rattle.w16_compact.proofs.Gathered.{moved_same}
 use Rattle.w16_model.specs.declared.Span.{Span}
-use Rattle.w16_model.specs.Prefix.{blocks_without, room_for}
+use Rattle.w16_model.specs.Discards.{blocks_without, room_for}
 use Rattle.w16_model.specs.Gap.{ArePlaced, holes, room, longest_hole}
 use Rattle.w16_model.proofs.Laid.{laid_placed}
 use Rattle.w16_blocks.specs.Layout.{Layout, IsOrdered}
-use Rattle.w16_arena.specs.declared.making.Placed.{Placed}
-use Rattle.w16_arena.specs.Making.{AreMoved, IsFree, most_for}
+use Rattle.w16_arena.specs.declared.new_place.Placed.{Placed}
+use Rattle.w16_arena.specs.NewPlace.{AreMoved, AreFreeBytes, most_for}
 use Rattle.w16_arena.proofs.Arranged.{same_moved, longest_in_room, free_fits, free_in_hole}
 use Rattle.w16_arena.proofs.Holes.{hole_found, hole_none}
 
@@ -22,7 +22,7 @@ module _ {l : Layout} (ordered : IsOrdered l) (n : ℕ) where
   placed : ArePlaced l.lo l.hi l.blocks
   placed = laid_placed l.lo l.hi l.blocks ordered.laid
 
-  pub hole_free : (at : ℕ) → Some at ≡ first_hole l n → IsFree l n at
+  pub hole_free : (at : ℕ) → Some at ≡ first_hole l n → AreFreeBytes l n at
   hole_free at e =
       let h = hole_found l.lo l.hi l.grain l.blocks placed ordered.from ordered.grained n at e in
       record { above = h.0; below = h.1; grained = h.2; misses = h.3 }
@@ -41,7 +41,7 @@ module _ {l : Layout} (ordered : IsOrdered l) (n : ℕ) where
   hole_missing some e compact off = subst (λ b. most_for l b < n) (sym off) (hole_none l.lo l.hi l.grain l.blocks placed ordered.from ordered.grained n some e)
 
   -- a place that was made is as long as the room allows
-  pub made_enough : (memory after : List ℕ) (new : Layout) (made : Option Placed) → IfSome made (λ p. AreMoved p.slid.from p.slid.to l memory new after) → IfSome made (λ p. IsFree new n p.at)
+  pub made_enough : (memory after : List ℕ) (new : Layout) (made : Option Placed) → IfSome made (λ p. AreMoved p.slid.from p.slid.to l memory new after) → IfSome made (λ p. AreFreeBytes new n p.at)
       → (compact : Bool) → compact ≡ true → IfSome made (λ _. n ≤ most_for l compact)
   made_enough memory after new None slid free compact on = tt
   made_enough memory after new (Some p) slid free compact on = subst (λ b. n ≤ most_for l b) (sym on) (free_fits ordered slid n p.at free)
@@ -59,9 +59,9 @@ pub no_hole : {l : Layout} → IsOrdered l → (most : ℕ) → most ≡ room l.
 no_hole {l} ordered most is none = let h = longest_in_room ordered (same_moved 0 l [] ordered) in omega arith
 
 -- a hole of the whole room is the longest
-pub whole_hole : {low high : ℕ} {l : Layout} {memory : List ℕ} {new : Layout} {after : List ℕ} → IsOrdered l → AreMoved low high l memory new after → (most at : ℕ) → most ≡ room l.lo l.hi l.blocks → 0 < most → IsFree new most at
+pub whole_hole : {low high : ℕ} {l : Layout} {memory : List ℕ} {new : Layout} {after : List ℕ} → IsOrdered l → AreMoved low high l memory new after → (most at : ℕ) → most ≡ room l.lo l.hi l.blocks → 0 < most → AreFreeBytes new most at
     → most ≡ longest_hole new.lo new.hi new.blocks
 whole_hole ordered moved most at is some free = let h = longest_in_room ordered moved in let k = free_in_hole ordered moved most at some free in omega arith
 
-pub none_moved : (bs : List Block) → 0 ≡ moved_size bs bs
+pub none_moved : (bs : List Block) → 0 ≡ moved_between bs bs
 none_moved bs = sym (moved_same bs)

@@ -5,16 +5,16 @@ use Rattle.std.proofs.lemmas.List.{length-set, length-replicate}
 use Rattle.w16_model.specs.declared.Entry.{Entry}
 use Rattle.w16_model.specs.declared.Hold.{Hold}
 use Rattle.w16_model.specs.declared.Kind.{Kind}
-use Rattle.w16_model.specs.Prefix.{is_member}
+use Rattle.w16_model.specs.Discards.{is_member}
 use Rattle.w16_model.specs.Heap.{Heap, object_at}
-use Rattle.w16_model.specs.Edit.{removed, absent, with_object, newest, without}
-use Rattle.w16_model.specs.Single.{Enters, after_touch, refused_order}
-use Rattle.w16_model.specs.Table.{Table, IsSound, IsCountedBy, block_with, entry_at, hold_in, heap_in}
+use Rattle.w16_model.specs.Changes.{removed, absent, with_object, newest, without}
+use Rattle.w16_model.specs.OneObject.{Enters, after_touch, refused_order}
+use Rattle.w16_model.specs.Table.{Table, IsSound, IsCountedBy, block_with, entry_at, hold_of_entry, heap_in}
 use Rattle.w16_blocks.specs.Layout as layouts
 use Rattle.w16_blocks.specs.Layout.{Layout, IsOrdered, replaced}
 use Rattle.w16_lru.specs.Uses.{Uses}
-use Rattle.w16_arena.specs.State.{State, Steps, table_of, heap_of, after_end}
-use Rattle.w16_arena.specs.Kept.{IsKept}
+use Rattle.w16_arena.specs.State.{ArenaState, Steps, table_of, heap_of, after_end}
+use Rattle.w16_arena.specs.Representation.{IsKept}
 use Rattle.w16_arena.proofs.Lookups.{in_list, no_block, past_end}
 use Rattle.w16_lru.specs.declared.End.{End}
 use Rattle.w16_lru.specs.declared.End.TheVariants.{Newest}
@@ -37,13 +37,13 @@ same_members id order uses there r q = elim (cases_eq q id) [
 ]
 
 module _ {entries : List (Option Entry)} {layout : Layout} {uses : Uses} {marks : List Bool} {room : ℕ} (kept : IsKept entries layout uses marks room)
-    {discarded : List ℕ} {old : State} (shown : state_of entries layout uses.ids discarded ≡ old) where
+    {discarded : List ℕ} {old : ArenaState} (shown : state_of entries layout uses.ids discarded ≡ old) where
   -- what the value has, the table has
   pub known : (P : Table → Type 0) → P old.table → P (table_of entries layout uses.ids)
-  known P h = subst (λ (o : State). P o.table) (sym shown) h
+  known P h = subst (λ (o : ArenaState). P o.table) (sym shown) h
 
   pub told : (P : Table → Type 0) → P (table_of entries layout uses.ids) → P old.table
-  told P h = subst (λ (o : State). P o.table) shown h
+  told P h = subst (λ (o : ArenaState). P o.table) shown h
 
   -- an entry that is there, with what is known of it
   pub entry_such : (id : ℕ) (P : Entry → Type 0) → IsSomeAnd (entry_at old.table id) P → (e : Entry) × (get_or entries id None ≡ Some e) × (id < length entries) × P e
@@ -78,7 +78,7 @@ module _ {entries : List (Option Entry)} {layout : Layout} {uses : Uses} {marks 
     steps_entered = steps_to kept shown (set entries id (Some entered)) layout uses.ids (λ a b. Enters a id kind b) (sound_entered kept id kind lt none) refl refl refl (length-set entries id (Some entered)) (enters kept id kind lt none)
 
   -- An object is taken away.
-  module _ (id : ℕ) (lt : id < length entries) {new : Layout} (value : new ≡ record layout { blocks = layouts.without id layout.blocks }) (ordered : IsOrdered new) {after : Uses} (order : after ≡ record uses { ids = without id uses.ids }) where
+  module _ (id : ℕ) (lt : id < length entries) {new : Layout} (value : new ≡ record layout { blocks = layouts.all_but id layout.blocks }) (ordered : IsOrdered new) {after : Uses} (order : after ≡ record uses { ids = without id uses.ids }) where
     same_range : (new.lo ≡ layout.lo) × (new.hi ≡ layout.hi) × (new.grain ≡ layout.grain) × (new.cap ≡ layout.cap)
     same_range = (ap (λ (l : Layout). l.lo) value, ap (λ (l : Layout). l.hi) value, ap (λ (l : Layout). l.grain) value, ap (λ (l : Layout). l.cap) value)
 
@@ -138,7 +138,7 @@ module _ {entries : List (Option Entry)} {layout : Layout} {uses : Uses} {marks 
 
   -- A lock count is set.
   module _ (id : ℕ) (entry : Entry) (asked : IsSomeAnd (entry_at old.table id) (λ e. e.kind ≡ entry.kind)) (counted : IsCountedBy (block_with old.table.blocks id) entry)
-      {hold : Hold} (hold_is : hold ≡ hold_in entry) {new : Layout}
+      {hold : Hold} (hold_is : hold ≡ hold_of_entry entry) {new : Layout}
       (none : IfNone (block_with layout.blocks id) (new ≡ layout)) (some : IfSome (block_with layout.blocks id) (λ b. new ≡ record layout { blocks = replaced (record b { hold = hold }) layout.blocks })) (ordered : IsOrdered new) where
     asked_here : IsSomeAnd (get_or entries id None) (λ e. e.kind ≡ entry.kind)
     asked_here = known (λ t. IsSomeAnd (entry_at t id) (λ e. e.kind ≡ entry.kind)) asked

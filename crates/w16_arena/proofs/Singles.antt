@@ -8,11 +8,11 @@ use Rattle.std.proofs.lemmas.Bool.{cases_eq}
 use Rattle.w16_model.specs.declared.Block.{Block}
 use Rattle.w16_model.specs.declared.Entry.{Entry}
 use Rattle.w16_model.specs.Heap.{Heap, Object, object_at}
-use Rattle.w16_model.specs.Edit.{removed, with_object}
-use Rattle.w16_model.specs.Edit as edit
+use Rattle.w16_model.specs.Changes.{removed, with_object}
+use Rattle.w16_model.specs.Changes as changes
 use Rattle.w16_model.specs.Table.{block_with, is_listed}
 use Rattle.w16_model.proofs.Heaps.{tied_itself, untied}
-use Rattle.w16_blocks.specs.Layout.{Layout, without}
+use Rattle.w16_blocks.specs.Layout.{Layout, all_but}
 use Rattle.w16_arena.proofs.Parts.{AreParts}
 use Rattle.w16_arena.specs.State.{heap_of}
 use Rattle.w16_arena.proofs.With.{with-without}
@@ -26,7 +26,7 @@ module _ {entries : List (Option Entry)} {layout : Layout} {order memory : List 
 
   -- Its object is taken away.
   abbrev pub without_block : Layout
-  without_block = record layout { blocks = without id layout.blocks }
+  without_block = record layout { blocks = all_but id layout.blocks }
 
   abbrev none : Option Entry
   none = None
@@ -37,23 +37,23 @@ module _ {entries : List (Option Entry)} {layout : Layout} {order memory : List 
   none_changes : ChangesOne id None layout without_block
   none_changes = record { cap = refl; lo = refl; hi = refl; grain = refl; blocks = with-without id layout.blocks }
 
-  reorders : ReordersOne id false order (edit.without id order)
+  reorders : ReordersOne id false order (changes.without id order)
   reorders = without_reorders id order parts.sound.no_repeats
 
   module _ (arranged : IsArranged without_block) where
-    pub removed_parts : AreParts (set entries id None) without_block (edit.without id order) memory
+    pub removed_parts : AreParts (set entries id None) without_block (changes.without id order) memory
     removed_parts = changed_parts parts None memory lt none_together none_changes reorders arranged refl
 
-    pub removed_heap : heap_of (set entries id None) without_block (edit.without id order) memory ≡ removed before id
-    removed_heap = same_heap (heap_of (set entries id None) without_block (edit.without id order) memory) (removed before id) refl refl refl refl
+    pub removed_heap : heap_of (set entries id None) without_block (changes.without id order) memory ≡ removed before id
+    removed_heap = same_heap (heap_of (set entries id None) without_block (changes.without id order) memory) (removed before id) refl refl refl refl
         (λ q. elim (cases_eq q id) [
-          | inl e ↦ ap (λ k. object_at (heap_of (set entries id None) without_block (edit.without id order) memory) k) e ∙ object_at_id parts None memory lt none_together none_changes reorders arranged refl
+          | inl e ↦ ap (λ k. object_at (heap_of (set entries id None) without_block (changes.without id order) memory) k) e ∙ object_at_id parts None memory lt none_together none_changes reorders arranged refl
               ∙ sym (get-remove nat_cmp_total before.objects id q ∙ ap (λ b. cond b None (object_at before q)) (ap (λ k. eq_by_cmp nat_cmp k id) e ∙ tied_itself id))
           | inr d ↦ object_at_other parts None memory lt none_together none_changes reorders arranged refl q (λ e. d (sym e)) refl
               ∙ sym (get-remove nat_cmp_total before.objects id q ∙ ap (λ b. cond b None (object_at before q)) (untied q id d))
         ])
         (λ q. elim (cases_eq q id) [
-          | inl e ↦ ap (λ k. finmap.get (heap_of (set entries id None) without_block (edit.without id order) memory).places k) e ∙ place_at_id parts None memory lt none_together none_changes reorders arranged refl
+          | inl e ↦ ap (λ k. finmap.get (heap_of (set entries id None) without_block (changes.without id order) memory).places k) e ∙ place_at_id parts None memory lt none_together none_changes reorders arranged refl
               ∙ sym (get-remove nat_cmp_total before.places id q ∙ ap (λ b. cond b None (finmap.get before.places q)) (ap (λ k. eq_by_cmp nat_cmp k id) e ∙ tied_itself id))
           | inr d ↦ place_at_other parts None memory lt none_together none_changes reorders arranged refl q (λ e. d (sym e))
               ∙ sym (get-remove nat_cmp_total before.places id q ∙ ap (λ b. cond b None (finmap.get before.places q)) (untied q id d))

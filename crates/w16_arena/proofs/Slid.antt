@@ -2,19 +2,19 @@
 use Rattle.std.proofs.Common.{◌≡◌, ℕ, ◌+◌, ◌<◌, ◌≤◌, ◌⊎◌, inl, inr, ◌&&◌, IsTrue, IfSome, IsSomeAnd, is_some, List, get_or, slice_range, Option, Some, None, option_map, refl, sym, ap, ◌∙◌, subst, arith}
 use Rattle.std.specs.FinMap as finmap
 use Rattle.std.proofs.lemmas.Bool.{false≢true}
-use Rattle.w16_region.proofs.Parts.{range_part}
+use Rattle.w16_model.proofs.Parts.{range_part}
 use Rattle.w16_model.specs.declared.Block.{Block}
 use Rattle.w16_model.specs.declared.Entry.{Entry}
 use Rattle.w16_model.specs.Gap.{block_end, is_pinned, holds_still}
 use Rattle.w16_model.specs.Heap.{Object, object_at, is_discardable}
-use Rattle.w16_model.specs.Table.{IsCountedBy, block_with, hold_in, is_listed}
+use Rattle.w16_model.specs.Table.{IsCountedBy, block_with, hold_of_entry, is_listed}
 use Rattle.w16_model.proofs.Gaps.{Each-at}
 use Rattle.w16_model.proofs.Laid.{laid_each}
 use Rattle.w16_model.proofs.Tables.{member_with}
 use Rattle.w16_blocks.specs.Layout.{Layout}
 use Rattle.w16_arena.proofs.Parts.{AreParts}
 use Rattle.w16_arena.specs.State.{heap_of}
-use Rattle.w16_arena.specs.Making.{Slides, AreMoved}
+use Rattle.w16_arena.specs.NewPlace.{Slides, AreMoved}
 use Rattle.w16_arena.proofs.Pairs.{BothOrNone, with_two}
 use Rattle.w16_arena.proofs.Lookups.{IsOrder, ordered_arranged, sound_of, holds_at, object_here, place_here}
 
@@ -46,12 +46,12 @@ module _ {entries : List (Option Entry)} {layout : Layout} {order memory : List 
     high = let size = moved.size in let hi = ap (λ (l : Layout). l.hi) moved.same in let high = parts.high in omega arith;
   }
     where
-      holds : (q : ℕ) (x : Block) → block_with new.blocks q ≡ Some x → IsSomeAnd (get_or entries q None) (λ e. x.hold ≡ hold_in e)
+      holds : (q : ℕ) (x : Block) → block_with new.blocks q ≡ Some x → IsSomeAnd (get_or entries q None) (λ e. x.hold ≡ hold_of_entry e)
       holds q x here = from (block_with layout.blocks q) refl (subst (BothOrNone R (block_with layout.blocks q)) here (slid_with q))
         where
-          from : (b : Option Block) → block_with layout.blocks q ≡ b → BothOrNone R b (Some x) → IsSomeAnd (get_or entries q None) (λ e. x.hold ≡ hold_in e)
+          from : (b : Option Block) → block_with layout.blocks q ≡ b → BothOrNone R b (Some x) → IsSomeAnd (get_or entries q None) (λ e. x.hold ≡ hold_of_entry e)
           from None e s = absurd s
-          from (Some b) e s = subst (λ h. IsSomeAnd (get_or entries q None) (λ e. h ≡ hold_in e)) (sym (ap (λ (y : Block). y.hold) s.same)) (holds_at entries layout order parts.sound q b e)
+          from (Some b) e s = subst (λ h. IsSomeAnd (get_or entries q None) (λ e. h ≡ hold_of_entry e)) (sym (ap (λ (y : Block). y.hold) s.same)) (holds_at entries layout order parts.sound q b e)
 
       -- the same blocks have bytes, so counts of locks are as they have to be
       counted : (q : ℕ) → IfSome (get_or entries q None) (IsCountedBy (block_with new.blocks q))

@@ -11,17 +11,17 @@ use Rattle.w16_model.specs.declared.Kind.{Kind}
 use Rattle.w16_model.specs.declared.Way.{Way}
 use Rattle.w16_model.specs.Gap.{is_pinned}
 use Rattle.w16_model.specs.Heap.{Heap, Object, IsMultiple, blocks, is_discardable}
-use Rattle.w16_model.specs.Edit.{newest, with_ordered, with_newest}
+use Rattle.w16_model.specs.Changes.{newest, with_ordered, with_newest}
 use Rattle.w16_model.specs.Request.{Settles, stays_for}
-use Rattle.w16_model.specs.Table.{block_with, hold_in}
+use Rattle.w16_model.specs.Table.{block_with, hold_of_entry}
 use Rattle.w16_model.proofs.Gaps.{Member, Each-from, Each-at, All-from_Each}
-use Rattle.w16_region.specs.Bytes.{put_part, repeated}
+use Rattle.w16_model.specs.Bytes.{put_part, repeated}
 use Rattle.w16_blocks.specs.Layout.{Layout, IsOrdered, Fits, placed}
-use Rattle.w16_compact.specs.Gather.{moved_size}
-use Rattle.w16_arena.specs.declared.making.Placed.{Placed}
+use Rattle.w16_compact.specs.Gather.{moved_between}
+use Rattle.w16_arena.specs.declared.new_place.Placed.{Placed}
 use Rattle.w16_arena.specs.Asked.{Stands}
 use Rattle.w16_arena.specs.State.{table_of, heap_of}
-use Rattle.w16_arena.specs.Making.{Slides, AreMoved, IsFree}
+use Rattle.w16_arena.specs.NewPlace.{Slides, AreMoved, AreFreeBytes}
 use Rattle.w16_arena.proofs.Parts.{AreParts}
 use Rattle.w16_arena.proofs.Lookups.{is_heap, place_here}
 use Rattle.w16_arena.proofs.Listed.{listed_with, is_listed}
@@ -43,7 +43,7 @@ module _ {entries : List (Option Entry)} {layout : Layout} {order memory : List 
   entry = record { kind = kind; locks = 0 }
 
   -- Others slid or not, and the object stands at a place that is free then.
-  module _ {mid : Layout} {mid_memory : List ℕ} (p : Placed) (moved : AreMoved p.slid.from p.slid.to layout memory mid mid_memory) (place : IsFree mid n p.at) where
+  module _ {mid : Layout} {mid_memory : List ℕ} (p : Placed) (moved : AreMoved p.slid.from p.slid.to layout memory mid mid_memory) (place : AreFreeBytes mid n p.at) where
     mid_parts : AreParts entries mid order mid_memory
     mid_parts = slid_parts parts moved
 
@@ -64,23 +64,23 @@ module _ {entries : List (Option Entry)} {layout : Layout} {order memory : List 
     abbrev named : Hold → Block
     named h = record { id = id; at = p.at; size = n; hold = h }
 
-    module _ {hold : Hold} (hold_is : hold ≡ hold_in entry) (still : way.compact ≡ false → mid ≡ layout) where
+    module _ {hold : Hold} (hold_is : hold ≡ hold_of_entry entry) (still : way.compact ≡ false → mid ≡ layout) where
       pub may_insert : Fits mid (named hold)
       may_insert = subst (λ h. Fits mid (named h)) (sym hold_is) (fits mid_parts id n kind lt mid_absent some mid_rounded p.at place)
 
       module _ {new : Layout} (value : new ≡ record mid { blocks = placed (named hold) mid.blocks }) (ordered : IsOrdered new)
           {after : List ℕ} (filled : after ≡ (if way.zero then put_part mid_memory p.at (repeated n 0) else mid_memory))
           {uses : List ℕ} (uses_is : uses ≡ (if is_discardable kind then newest id order else order)) where
-        new_is : new ≡ record mid { blocks = placed (named (hold_in entry)) mid.blocks }
+        new_is : new ≡ record mid { blocks = placed (named (hold_of_entry entry)) mid.blocks }
         new_is = value ∙ ap (λ h. record mid { blocks = placed (named h) mid.blocks }) hold_is
 
         made : Makes way.zero p.at n mid_memory after
         made = makes way.zero p.at n mid_memory after some in_memory (moved.bytes bytes) filled
 
-        ordered_new : IsOrdered (record mid { blocks = placed (named (hold_in entry)) mid.blocks })
+        ordered_new : IsOrdered (record mid { blocks = placed (named (hold_of_entry entry)) mid.blocks })
         ordered_new = subst IsOrdered new_is ordered
 
-        granted_parts : AreParts (set entries id (Some entry)) (record mid { blocks = placed (named (hold_in entry)) mid.blocks }) (if is_discardable kind then newest id order else order) after
+        granted_parts : AreParts (set entries id (Some entry)) (record mid { blocks = placed (named (hold_of_entry entry)) mid.blocks }) (if is_discardable kind then newest id order else order) after
         granted_parts = new_parts mid_parts id n kind lt mid_absent some mid_rounded p.at place ordered_new way.zero after made
 
         pub parts_after : AreParts (set entries id (Some entry)) new uses after
@@ -88,7 +88,7 @@ module _ {entries : List (Option Entry)} {layout : Layout} {order memory : List 
             (subst (λ l. AreParts (set entries id (Some entry)) l (if is_discardable kind then newest id order else order) after) (sym new_is) granted_parts)
 
         abbrev granted : Heap
-        granted = heap_of (set entries id (Some entry)) (record mid { blocks = placed (named (hold_in entry)) mid.blocks }) (if is_discardable kind then newest id order else order) after
+        granted = heap_of (set entries id (Some entry)) (record mid { blocks = placed (named (hold_of_entry entry)) mid.blocks }) (if is_discardable kind then newest id order else order) after
 
         abbrev o : Object
         o = record { kind = kind; locks = 0; bytes = Some (slice_range after p.at (p.at + n)) }
@@ -129,7 +129,7 @@ module _ {entries : List (Option Entry)} {layout : Layout} {order memory : List 
               (Each-from (λ x. IsTrue (stays_for id way x) → finmap.get granted.places x.id ≡ Some x.at) (blocks before) (λ x m. stays x (is_listed parts x m)));
         }
 
-        stands_granted : p.moved ≡ moved_size layout.blocks mid.blocks → Stands before id n kind way p granted
+        stands_granted : p.moved ≡ moved_between layout.blocks mid.blocks → Stands before id n kind way p granted
         stands_granted counted = record {
           object = o;
           is_new = record { same_kind = refl; same_locks = refl; new_bytes = made.fresh };
@@ -143,6 +143,6 @@ module _ {entries : List (Option Entry)} {layout : Layout} {order memory : List 
           };
         }
 
-        pub stands : p.moved ≡ moved_size layout.blocks mid.blocks → Stands before id n kind way p (heap_of (set entries id (Some entry)) new uses after)
+        pub stands : p.moved ≡ moved_between layout.blocks mid.blocks → Stands before id n kind way p (heap_of (set entries id (Some entry)) new uses after)
         stands counted = subst (λ u. Stands before id n kind way p (heap_of (set entries id (Some entry)) new u after)) (sym uses_is)
             (subst (λ l. Stands before id n kind way p (heap_of (set entries id (Some entry)) l (if is_discardable kind then newest id order else order) after)) (sym new_is) (stands_granted counted))

@@ -8,19 +8,19 @@ use Rattle.w16_model.specs.declared.Block.{Block}
 use Rattle.w16_model.specs.declared.Entry.{Entry}
 use Rattle.w16_model.specs.declared.Hold.{Hold}
 use Rattle.w16_model.specs.declared.Kind.{Kind}
-use Rattle.w16_model.specs.Prefix.{is_member}
+use Rattle.w16_model.specs.Discards.{is_member}
 use Rattle.w16_model.specs.Heap.{Heap, Object, object_at, is_discardable}
-use Rattle.w16_model.specs.Edit.{removed, absent, with_object, touched, newest, without}
-use Rattle.w16_model.specs.Single.{Enters}
-use Rattle.w16_model.specs.Table.{IsSound, IsCountedBy, block_with, hold_in, object_in, is_listed}
+use Rattle.w16_model.specs.Changes.{removed, absent, with_object, touched, newest, without}
+use Rattle.w16_model.specs.OneObject.{Enters}
+use Rattle.w16_model.specs.Table.{IsSound, IsCountedBy, block_with, hold_of_entry, object_in, is_listed}
 use Rattle.w16_model.proofs.Heaps.{get-update_same, get-update_other}
-use Rattle.w16_model.proofs.Kept.{taken_here, taken_other}
+use Rattle.w16_model.proofs.KeptHeaps.{taken_here, taken_other}
 use Rattle.w16_blocks.specs.Layout as layouts
 use Rattle.w16_blocks.specs.Layout.{Layout, IsOrdered, replaced}
 use Rattle.w16_model.proofs.Tables.{member_with}
 use Rattle.w16_lru.specs.Uses.{Uses}
-use Rattle.w16_arena.specs.State.{State, Steps, table_of, heap_of}
-use Rattle.w16_arena.specs.Kept.{IsKept}
+use Rattle.w16_arena.specs.State.{ArenaState, Steps, table_of, heap_of}
+use Rattle.w16_arena.specs.Representation.{IsKept}
 use Rattle.w16_arena.proofs.Parts.{AreParts}
 use Rattle.w16_arena.proofs.With.{with-replaced, with-without}
 use Rattle.w16_arena.proofs.Lookups.{IsArranged, ordered_arranged, sound_arranged, object_here, place_here, no_block, in_list, same_heap}
@@ -35,7 +35,7 @@ set_itself (d ∷ es) zero e h = ap (λ x. x ∷ es) (sym h)
 set_itself (d ∷ es) (suc id) e h = ap (λ xs. d ∷ xs) (set_itself es id e h)
 
 -- the value that they are
-abbrev pub state_of : List (Option Entry) → Layout → List ℕ → List ℕ → State
+abbrev pub state_of : List (Option Entry) → Layout → List ℕ → List ℕ → ArenaState
 state_of entries layout order discarded = record { table = table_of entries layout order; discarded = discarded }
 
 -- the order alone may be another, with the same members
@@ -70,13 +70,13 @@ module _ {entries : List (Option Entry)} {layout : Layout} {uses : Uses} {marks 
   pub kept_marked : {others : List Bool} → length others ≡ length marks → IsKept entries layout uses others room
   kept_marked same = record { sound = kept.sound; ids = kept.ids; ordered = kept.ordered; marked = same ∙ kept.marked; enough = kept.enough }
 
-  module _ {discarded : List ℕ} {old : State} (shown : state_of entries layout uses.ids discarded ≡ old) where
+  module _ {discarded : List ℕ} {old : ArenaState} (shown : state_of entries layout uses.ids discarded ≡ old) where
     -- a step to a sound table over the same range
     pub steps_to : (entries' : List (Option Entry)) (layout' : Layout) (order : List ℕ) (step : Heap → Heap → Type 0)
         → IsSound (table_of entries' layout' order) → layout'.lo ≡ layout.lo → layout'.hi ≡ layout.hi → layout'.grain ≡ layout.grain → length entries' ≡ length entries
         → ((memory : List ℕ) → layout.hi ≤ length memory → step (heap_of entries layout uses.ids memory) (heap_of entries' layout' order memory))
         → Steps old (state_of entries' layout' order discarded) step
-    steps_to entries' layout' order step sound lo hi grain many heaps = subst (λ (o : State). Steps o (state_of entries' layout' order discarded) step) shown (record {
+    steps_to entries' layout' order step sound lo hi grain many heaps = subst (λ (o : ArenaState). Steps o (state_of entries' layout' order discarded) step) shown (record {
       heaps = heaps;
       range = record { lo = lo; hi = hi; grain = grain; ids = many; sound = sound };
       rest = refl;
@@ -84,7 +84,7 @@ module _ {entries : List (Option Entry)} {layout : Layout} {uses : Uses} {marks 
 
     -- nothing has changed
     pub steps_none : (step : Heap → Heap → Type 0) → ((memory : List ℕ) → layout.hi ≤ length memory → step (heap_of entries layout uses.ids memory) (heap_of entries layout uses.ids memory)) → Steps old old step
-    steps_none step heaps = subst (λ (o : State). Steps old o step) shown (steps_to entries layout uses.ids step kept.sound refl refl refl refl heaps)
+    steps_none step heaps = subst (λ (o : ArenaState). Steps old o step) shown (steps_to entries layout uses.ids step kept.sound refl refl refl refl heaps)
 
   -- Used.
   module _ (id : ℕ) (there : is_member id uses.ids ≡ true) where
@@ -96,17 +96,17 @@ module _ {entries : List (Option Entry)} {layout : Layout} {uses : Uses} {marks 
   some_parts = beside (replicate layout.hi 0) (let e = length-replicate {A = ℕ} layout.hi 0 in omega arith)
 
   -- An id's object is taken away.
-  module _ (id : ℕ) (lt : id < length entries) (new : Layout) (value : new ≡ record layout { blocks = layouts.without id layout.blocks }) (ordered : IsOrdered new) where
-    taken_ordered : IsOrdered (record layout { blocks = layouts.without id layout.blocks })
+  module _ (id : ℕ) (lt : id < length entries) (new : Layout) (value : new ≡ record layout { blocks = layouts.all_but id layout.blocks }) (ordered : IsOrdered new) where
+    taken_ordered : IsOrdered (record layout { blocks = layouts.all_but id layout.blocks })
     taken_ordered = subst IsOrdered value ordered
 
     pub sound_without : IsSound (table_of (set entries id None) new (without id uses.ids))
     sound_without = subst (λ l. IsSound (table_of (set entries id None) l (without id uses.ids))) (sym value)
-        (removed_parts some_parts id lt (ordered_arranged (record layout { blocks = layouts.without id layout.blocks }) taken_ordered)).sound
+        (removed_parts some_parts id lt (ordered_arranged (record layout { blocks = layouts.all_but id layout.blocks }) taken_ordered)).sound
 
     pub heap_without : (memory : List ℕ) → layout.hi ≤ length memory → heap_of (set entries id None) new (without id uses.ids) memory ≡ removed (heap_of entries layout uses.ids memory) id
     heap_without memory high = ap (λ l. heap_of (set entries id None) l (without id uses.ids) memory) value
-        ∙ removed_heap (beside memory high) id lt (ordered_arranged (record layout { blocks = layouts.without id layout.blocks }) taken_ordered)
+        ∙ removed_heap (beside memory high) id lt (ordered_arranged (record layout { blocks = layouts.all_but id layout.blocks }) taken_ordered)
 
   -- Where none is, nothing is taken away.
   module _ (id : ℕ) (none : get_or entries id None ≡ None) where
@@ -168,7 +168,7 @@ module _ {entries : List (Option Entry)} {layout : Layout} {uses : Uses} {marks 
 
   -- An object's locks are set, and its block, if it has one, is held by them.
   module _ (id : ℕ) (entry : Entry) (asked : IsSomeAnd (get_or entries id None) (λ e. e.kind ≡ entry.kind)) (counted : IsCountedBy (block_with layout.blocks id) entry)
-      (hold : Hold) (hold_is : hold ≡ hold_in entry) (new : Layout)
+      (hold : Hold) (hold_is : hold ≡ hold_of_entry entry) (new : Layout)
       (none : IfNone (block_with layout.blocks id) (new ≡ layout)) (some : IfSome (block_with layout.blocks id) (λ b. new ≡ record layout { blocks = replaced (record b { hold = hold }) layout.blocks })) (ordered : IsOrdered new) where
     -- its entry before, of the same kind
     entry_before : (d : Entry) × (get_or entries id None ≡ Some d) × (d.kind ≡ entry.kind)
@@ -183,12 +183,12 @@ module _ {entries : List (Option Entry)} {layout : Layout} {uses : Uses} {marks 
 
     -- a block, held by the entry
     abbrev held : Block → Block
-    held x = record x { hold = hold_in entry }
+    held x = record x { hold = hold_of_entry entry }
 
     together : (b : Option Block) → IsCountedBy b entry → GoTogether (Some entry) (option_map held b)
     together b counted = record { holds = from b; counted = (counted.0, counted.1, λ none. counted.2 (unheld b none)) }
       where
-        from : (b : Option Block) (y : Block) → option_map held b ≡ Some y → y.hold ≡ hold_in entry
+        from : (b : Option Block) (y : Block) → option_map held b ≡ Some y → y.hold ≡ hold_of_entry entry
         from None y e = cc
         from (Some x) y e = let same : held x ≡ y = cc in ap (λ (z : Block). z.hold) (sym same)
 
@@ -247,11 +247,11 @@ module _ {entries : List (Option Entry)} {layout : Layout} {uses : Uses} {marks 
         ∙ (λ i. with_object (heap_of entries layout uses.ids memory) id (record { kind = sym d.2 i; locks = entry.locks; bytes = same_bytes memory (block_with layout.blocks id) i })))
 
   -- An object that isn't locked gives up its bytes.
-  module _ (id : ℕ) (e : Entry) (there : get_or entries id None ≡ Some e) (unlocked : e.locks ≡ 0) (new : Layout) (value : new ≡ record layout { blocks = layouts.without id layout.blocks }) (ordered : IsOrdered new) where
+  module _ (id : ℕ) (e : Entry) (there : get_or entries id None ≡ Some e) (unlocked : e.locks ≡ 0) (new : Layout) (value : new ≡ record layout { blocks = layouts.all_but id layout.blocks }) (ordered : IsOrdered new) where
     lt_there : id < length entries
     lt_there = in_list entries id e there
 
-    given_ordered : IsOrdered (record layout { blocks = layouts.without id layout.blocks })
+    given_ordered : IsOrdered (record layout { blocks = layouts.all_but id layout.blocks })
     given_ordered = subst IsOrdered value ordered
 
     no_block_left : GoTogether (Some e) None
@@ -260,7 +260,7 @@ module _ {entries : List (Option Entry)} {layout : Layout} {uses : Uses} {marks 
         counted : IsCountedBy (block_with layout.blocks id) e
         counted = subst (λ p. IfSome p (IsCountedBy (block_with layout.blocks id))) there (kept.sound.counted id)
 
-    block_goes : ChangesOne id None layout (record layout { blocks = layouts.without id layout.blocks })
+    block_goes : ChangesOne id None layout (record layout { blocks = layouts.all_but id layout.blocks })
     block_goes = record { cap = refl; lo = refl; hi = refl; grain = refl; blocks = with-without id layout.blocks }
 
     leaves_order : ReordersOne id (is_listed (Some e) None) uses.ids (without id uses.ids)
@@ -275,26 +275,26 @@ module _ {entries : List (Option Entry)} {layout : Layout} {uses : Uses} {marks 
 
     pub sound_given : IsSound (table_of entries new (without id uses.ids))
     sound_given = subst (λ l. IsSound (table_of entries l (without id uses.ids))) (sym value)
-        (subst (λ es. IsSound (table_of es (record layout { blocks = layouts.without id layout.blocks }) (without id uses.ids))) same_entries
-        (changed_parts some_parts (Some e) (replicate layout.hi 0) lt_there no_block_left block_goes leaves_order (ordered_arranged (record layout { blocks = layouts.without id layout.blocks }) given_ordered) refl).sound)
+        (subst (λ es. IsSound (table_of es (record layout { blocks = layouts.all_but id layout.blocks }) (without id uses.ids))) same_entries
+        (changed_parts some_parts (Some e) (replicate layout.hi 0) lt_there no_block_left block_goes leaves_order (ordered_arranged (record layout { blocks = layouts.all_but id layout.blocks }) given_ordered) refl).sound)
 
     abbrev before : List ℕ → Heap
     before memory = heap_of entries layout uses.ids memory
 
     abbrev after : List ℕ → Heap
-    after memory = heap_of (set entries id (Some e)) (record layout { blocks = layouts.without id layout.blocks }) (without id uses.ids) memory
+    after memory = heap_of (set entries id (Some e)) (record layout { blocks = layouts.all_but id layout.blocks }) (without id uses.ids) memory
 
     abbrev bare : Object → Object
     bare o = record o { bytes = None }
 
-    arranged : IsArranged (record layout { blocks = layouts.without id layout.blocks })
-    arranged = ordered_arranged (record layout { blocks = layouts.without id layout.blocks }) given_ordered
+    arranged : IsArranged (record layout { blocks = layouts.all_but id layout.blocks })
+    arranged = ordered_arranged (record layout { blocks = layouts.all_but id layout.blocks }) given_ordered
 
     pub heap_given : (memory : List ℕ) → layout.hi ≤ length memory → heap_of entries new (without id uses.ids) memory ≡ absent (heap_of entries layout uses.ids memory) id
     heap_given memory high =
         let parts = beside memory high in
         ap (λ l. heap_of entries l (without id uses.ids) memory) value
-        ∙ subst (λ es. heap_of es (record layout { blocks = layouts.without id layout.blocks }) (without id uses.ids) memory ≡ absent (before memory) id) same_entries
+        ∙ subst (λ es. heap_of es (record layout { blocks = layouts.all_but id layout.blocks }) (without id uses.ids) memory ≡ absent (before memory) id) same_entries
         (same_heap (after memory) (absent (before memory) id) refl refl refl refl
         (λ q. elim (cases_eq q id) [
           | inl i ↦ ap (object_at (after memory)) i ∙ object_at_id parts (Some e) memory lt_there no_block_left block_goes leaves_order arranged refl

@@ -12,15 +12,15 @@ use Rattle.w16_model.specs.Table.{heap_in}
 use Rattle.w16_model.proofs.Gaps.{Each-from, All-from_Each}
 use Rattle.w16_model.proofs.Tables.{table_longest}
 use Rattle.w16_blocks.specs.Layout.{Layout}
-use Rattle.w16_compact.specs.Gather.{moved_size}
+use Rattle.w16_compact.specs.Gather.{moved_between}
 use Rattle.w16_lru.specs.Uses.{Uses}
 use Rattle.w16_arena.specs.Asked.{SlidesTogether, IsStill}
-use Rattle.w16_arena.specs.declared.placing.Compacted.{Compacted}
+use Rattle.w16_arena.specs.declared.without_discard.Compacted.{Compacted}
 use Rattle.std.specs.Borrow.{GName}
 use Rattle.w16_compact.specs.Rest.{IsSameRest}
-use Rattle.w16_arena.specs.State.{State, KeepsRest, table_of, heap_of}
-use Rattle.w16_arena.specs.Kept.{IsKept}
-use Rattle.w16_arena.specs.Making.{AreMoved}
+use Rattle.w16_arena.specs.State.{ArenaState, KeepsRest, table_of, heap_of}
+use Rattle.w16_arena.specs.Representation.{IsKept}
+use Rattle.w16_arena.specs.NewPlace.{AreMoved}
 use Rattle.w16_arena.proofs.Parts.{AreParts}
 use Rattle.w16_arena.proofs.Lookups.{is_heap}
 use Rattle.w16_arena.proofs.Listed.{whole, listed_with, is_listed}
@@ -30,7 +30,7 @@ use Rattle.w16_arena.proofs.Steps.{state_of, beside, kept_with}
 use Rattle.w16_arena.proofs.Shown.{known, told}
 
 module _ {entries : List (Option Entry)} {layout : Layout} {uses : Uses} {marks : List Bool} {room : ℕ} (kept : IsKept entries layout uses marks room)
-    {discarded : List ℕ} {old : State} (shown : state_of entries layout uses.ids discarded ≡ old)
+    {discarded : List ℕ} {old : ArenaState} (shown : state_of entries layout uses.ids discarded ≡ old)
     (memory : List ℕ) (bytes : All (λ b. b < 256) memory) (inside : old.table.hi ≤ length memory)
     (slid : Span) {new : Layout} {after : List ℕ} (moved : AreMoved slid.from slid.to layout memory new after) where
   parts : AreParts entries layout uses.ids memory
@@ -69,7 +69,7 @@ module _ {entries : List (Option Entry)} {layout : Layout} {uses : Uses} {marks 
         slid_pinned parts moved x.id x (listed_with parts x (is_listed parts x m)) t));
   }
 
-  pub slides : (c : Compacted) → c.slid ≡ slid → c.room ≡ longest_hole new.lo new.hi new.blocks → c.moved ≡ moved_size layout.blocks new.blocks → SlidesTogether (heap_in old.table memory) c (heap_of entries new uses.ids after)
+  pub slides : (c : Compacted) → c.slid ≡ slid → c.room ≡ longest_hole new.lo new.hi new.blocks → c.moved ≡ moved_between layout.blocks new.blocks → SlidesTogether (heap_in old.table memory) c (heap_of entries new uses.ids after)
   slides c slid_is longest counted = told kept shown (λ t. SlidesTogether (heap_in t memory) c (heap_of entries new uses.ids after)) (record {
     settled = settled;
     longest = longest ∙ sym (table_longest (table_of entries new uses.ids) parts_new.sound.table after (whole parts_new));

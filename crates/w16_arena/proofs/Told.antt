@@ -2,8 +2,8 @@
 use Rattle.std.proofs.Common.{◌≡◌, ℕ, ◌+◌, ◌-◌, ◌==◌, true, false, nat_lt, is_some, Some, None, Ok, Err, refl}
 use Rattle.w16_model.specs.declared.Refusal.TheVariants as refusals
 use Rattle.w16_model.specs.Heap.{Heap, Object, object_at, is_fixed, is_discardable}
-use Rattle.w16_model.specs.Edit.{absent, removed, touched, with_object, with_ordered}
-use Rattle.w16_model.specs.Single.{after_lock, after_unlock, after_free, after_discard, refused_order, after_newest, after_oldest}
+use Rattle.w16_model.specs.Changes.{absent, removed, touched, with_object, with_ordered}
+use Rattle.w16_model.specs.OneObject.{after_lock, after_unlock, after_free, after_discard, refused_order, after_newest, after_oldest}
 use Rattle.w16_lru.specs.declared.End.{End}
 use Rattle.w16_lru.specs.declared.End.TheVariants.{Oldest, Newest}
 use Rattle.w16_lru.specs.Uses.{at_end}

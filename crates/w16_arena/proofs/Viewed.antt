@@ -5,8 +5,8 @@ use Rattle.w16_model.specs.Heap.{bytes_at}
 use Rattle.w16_model.specs.Table.{Table, IsSound, block_with, heap_in}
 use Rattle.w16_blocks.specs.Layout.{Layout}
 use Rattle.w16_model.proofs.Tables.{member_with}
-use Rattle.w16_region.specs.Bytes.{part}
-use Rattle.w16_region.proofs.Parts.{range_part}
+use Rattle.w16_model.specs.Bytes.{part}
+use Rattle.w16_model.proofs.Parts.{range_part}
 use Rattle.w16_arena.proofs.Parts.{AreParts}
 use Rattle.w16_arena.proofs.Lookups.{bytes_here, ends_in_memory}
 

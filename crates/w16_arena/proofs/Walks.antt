@@ -8,7 +8,7 @@ use Rattle.w16_model.specs.declared.Item.{Item}
 use Rattle.w16_model.specs.declared.Owner.{Owner}
 use Rattle.w16_model.specs.Gap.{IsLaid, IsHole, IsClear, Misses, block_end, is_any}
 use Rattle.w16_model.specs.Heap.{Object, blocks}
-use Rattle.w16_model.specs.Table.{Table, IsSound, block_with, entry_at, heap_in, object_in, hold_in}
+use Rattle.w16_model.specs.Table.{Table, IsSound, block_with, entry_at, heap_in, object_in, hold_of_entry}
 use Rattle.w16_model.specs.Walk.{IsItem, IsFirstItem, by_its_id}
 use Rattle.w16_model.proofs.Gaps.{Member, Each-at, Each-from, Each-map, Each-from_All, All-from_Each}
 use Rattle.w16_model.proofs.Laid.{laid_each}
@@ -257,7 +257,7 @@ module _ {t : Table} (sound : IsSound t) (memory : List ℕ) (whole : t.hi ≤ l
     where
       from : (b : Option Block) (e : Option Entry) → block_with t.blocks item.0 ≡ b → entry_at t item.0 ≡ e → IsBlockItem (record { at = at; size = size; owner = Some owner })
       from None e none is = let no : ◌≡◌ {A = Option ℕ} None (Some at) = sym (place_here parts item.0 ∙ ap (option_map (λ (x : Block). x.at)) none) ∙ item.2.place in cc
-      from (Some x) None here none = absurd (subst (λ d. IsSomeAnd d (λ d. x.hold ≡ hold_in d)) none (holds_at t.entries (layout_in t) t.order sound item.0 x here))
+      from (Some x) None here none = absurd (subst (λ d. IsSomeAnd d (λ d. x.hold ≡ hold_of_entry d)) none (holds_at t.entries (layout_in t) t.order sound item.0 x here))
       from (Some x) (Some e) here is =
           let m : Member x t.blocks × (x.id ≡ item.0) = member_with t.blocks item.0 x here in
           let place : ◌≡◌ {A = Option ℕ} (Some x.at) (Some at) = sym (place_here parts item.0 ∙ ap (option_map (λ (x : Block). x.at)) here) ∙ item.2.place in

@@ -5,9 +5,9 @@ use Rattle.std.proofs.lemmas.Bool.{ne_eqb, cases_lt, lt-ltb, le-ltb}
 use Rattle.std.proofs.lemmas.Bool.Decides.{eqb_tells}
 use Rattle.w16_model.specs.declared.Block.{Block}
 use Rattle.w16_model.specs.Table.{block_with}
-use Rattle.w16_blocks.specs.Layout.{placed, without, replaced}
+use Rattle.w16_blocks.specs.Layout.{placed, all_but, replaced}
 
-pub with-without : (id : ℕ) (bs : List Block) (q : ℕ) → block_with (without id bs) q ≡ cond (id == q) None (block_with bs q)
+pub with-without : (id : ℕ) (bs : List Block) (q : ℕ) → block_with (all_but id bs) q ≡ cond (id == q) None (block_with bs q)
 with-without id [] q = elim (eqb_tells id q) [ inl same ↦ rw same.0 refl | inr other ↦ rw other.0 refl ]
 with-without id (b ∷ bs) q =
     let ih = with-without id bs q in
@@ -33,7 +33,7 @@ with-placed b (c ∷ cs) q free = elim (cases_lt c.at b.at) [
 ]
 
 -- none of the others has its id
-pub others_differ : (id : ℕ) (bs : List Block) → AllByRecursion (λ c. c.id ≢ id) (without id bs)
+pub others_differ : (id : ℕ) (bs : List Block) → AllByRecursion (λ c. c.id ≢ id) (all_but id bs)
 others_differ id [] = tt
 others_differ id (b ∷ bs) = elim (eqb_tells b.id id) [
   | inl same ↦ rw same.0 (others_differ id bs)
@@ -41,13 +41,13 @@ others_differ id (b ∷ bs) = elim (eqb_tells b.id id) [
 ]
 
 pub with-replaced : (b : Block) (bs : List Block) (q : ℕ) → block_with (replaced b bs) q ≡ cond (b.id == q) (Some b) (block_with bs q)
-with-replaced b bs q = with-placed b (without b.id bs) q (others_differ b.id bs) ∙ elim (eqb_tells b.id q) [
+with-replaced b bs q = with-placed b (all_but b.id bs) q (others_differ b.id bs) ∙ elim (eqb_tells b.id q) [
   | inl same ↦ rw same.0 refl
   | inr other ↦ rw other.0 (with-without b.id bs q ∙ rw other.0 refl)
 ]
 
 -- where an id has no block, none is taken away
-pub without_absent : (id : ℕ) (bs : List Block) → block_with bs id ≡ None → without id bs ≡ bs
+pub without_absent : (id : ℕ) (bs : List Block) → block_with bs id ≡ None → all_but id bs ≡ bs
 without_absent id [] none = refl
 without_absent id (b ∷ bs) none = elim (eqb_tells b.id id) [
   | inl same ↦ let some : ◌≡◌ {A = Option Block} (Some b) None = rw same.0 at none in cc

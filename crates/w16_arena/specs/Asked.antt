@@ -5,14 +5,14 @@ use Rattle.w16_model.specs.declared.Kind.{Kind}
 use Rattle.w16_model.specs.declared.Span.{Span}
 use Rattle.w16_model.specs.declared.Way.{Way}
 use Rattle.w16_model.specs.Gap.{is_pinned, longest_hole}
-use Rattle.w16_model.specs.Prefix.{eligible}
+use Rattle.w16_model.specs.Discards.{eligible}
 use Rattle.w16_model.specs.Heap.{Heap, Object, blocks}
-use Rattle.w16_model.specs.Edit.{with_newest, with_ordered}
+use Rattle.w16_model.specs.Changes.{with_newest, with_ordered}
 use Rattle.w16_model.specs.Request.{IsNew, Settles, stays_for, moved_bytes, prefix_of, discarded}
 use Rattle.w16_model.specs.Table.{heap_in}
-use Rattle.w16_arena.specs.declared.making.Placed.{Placed}
-use Rattle.w16_arena.specs.declared.placing.Compacted.{Compacted}
-use Rattle.w16_arena.specs.State.{State, IsSameRange}
+use Rattle.w16_arena.specs.declared.new_place.Placed.{Placed}
+use Rattle.w16_arena.specs.declared.without_discard.Compacted.{Compacted}
+use Rattle.w16_arena.specs.State.{ArenaState, IsSameRange}
 
 -- the first k that a request about h may discard
 abbrev pub first_eligible : Heap → ℕ → Option ℕ → List ℕ
@@ -56,7 +56,7 @@ pub record SlidesTogether (old : Heap) (c : Compacted) (new : Heap) : Type 0 whe
   pub slid : IsSlid old c new
 
 -- the first k that a request about h may discard were discarded, in every memory that has the range, and are listed
-pub record Discards (k : ℕ) (h : Option ℕ) (old new : State) : Type 0 where
+pub record Discards (k : ℕ) (h : Option ℕ) (old new : ArenaState) : Type 0 where
   pub heaps : (memory : List ℕ) → old.table.hi ≤ length memory → heap_in new.table memory ≡ discarded (heap_in old.table memory) k h
   pub range : IsSameRange old.table new.table
   pub listed : new.discarded ≡ take k (eligible old.table.blocks old.table.order h)

@@ -1,4 +1,4 @@
 pub mod State
-pub mod Making
+pub mod NewPlace
 pub mod Asked
-pub mod Kept
+pub mod Representation

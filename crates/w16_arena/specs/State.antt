@@ -3,7 +3,7 @@ use Rattle.std.specs.Prelude.{◌≡◌, ℕ, ◌≤◌, List, [], length, repli
 use Rattle.w16_model.specs.declared.Entry.{Entry}
 use Rattle.w16_model.specs.declared.Refusal.{Refusal}
 use Rattle.w16_model.specs.Heap.{Heap, Object}
-use Rattle.w16_model.specs.Single.{after_newest, after_oldest}
+use Rattle.w16_model.specs.OneObject.{after_newest, after_oldest}
 use Rattle.w16_model.specs.Table.{Table, IsSound, heap_in}
 use Rattle.std.specs.Borrow.{GName}
 use Rattle.w16_blocks.specs.Layout.{Layout}
@@ -12,7 +12,7 @@ use Rattle.w16_lru.specs.declared.End.TheVariants.{Oldest, Newest}
 use Rattle.w16_compact.specs.Rest.{IsSameRest}
 
 -- the table of an arena's heap, and the ids that its last request discarded, oldest first
-pub record State : Type 0 where
+pub record ArenaState : Type 0 where
   pub table : Table
   pub discarded : List ℕ
 
@@ -46,7 +46,7 @@ pub record KeepsRest {X : Type 0} (bytes : X → List ℕ) (lenders : X → List
   pub memory : IsSameRest bytes lenders old.lo old.hi before after
 
 -- A step that asks for no room, in every memory that has the range: it changes the table alone.
-pub record Steps (old new : State) (step : Heap → Heap → Type 0) : Type 0 where
+pub record Steps (old new : ArenaState) (step : Heap → Heap → Type 0) : Type 0 where
   pub heaps : (memory : List ℕ) → old.table.hi ≤ length memory → step (heap_in old.table memory) (heap_in new.table memory)
   pub range : IsSameRange old.table new.table
   pub rest : new ≡ record old { table = new.table }

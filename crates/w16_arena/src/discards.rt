@@ -1,6 +1,6 @@
 //! Discards, by least recent use.
 ghost use Rattle.std.specs.Prelude.{◌≡◌, ◌<◌, ◌≤◌, [], slice_get, Option, Some, None, MatchOption};
-ghost use Rattle.w16_model.specs.Prefix.{eligible};
+ghost use Rattle.w16_model.specs.Discards.{eligible};
 ghost use Rattle.w16_arena.specs.Asked.{Discards};
 
 use crate::Arena;

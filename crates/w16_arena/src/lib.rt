@@ -12,14 +12,14 @@ ghost use Rattle.w16_arena.specs.State.{empty_table};
 
 mod bytes;
 mod discards;
-mod making;
+mod new_place;
 mod objects;
-mod placing;
+mod without_discard;
 mod requests;
 mod walk;
 
-pub use making::Placed;
-pub use placing::Compacted;
+pub use new_place::Placed;
+pub use without_discard::Compacted;
 pub use requests::NoRoom;
 use std::alloc::{AllocError, Global};
 use std::marker::Model;
@@ -43,10 +43,10 @@ pub struct Arena {
 
 impl Model for Arena {
     ghost use Rattle.std.specs.Prelude.{vec_capacity};
-    ghost use Rattle.w16_arena.specs.State.{State, table_of};
-    ghost use Rattle.w16_arena.specs.Kept.{IsKept};
+    ghost use Rattle.w16_arena.specs.State.{ArenaState, table_of};
+    ghost use Rattle.w16_arena.specs.Representation.{IsKept};
 
-    ghost Value = { State };
+    ghost Value = { ArenaState };
 
     ghost view = { λ s. record { table = table_of s.entries.items s.blocks s.order.ids; discarded = s.discarded.items } };
 

@@ -1,11 +1,11 @@
 //! What becomes of single objects. None of these calls asks for room.
 ghost use Rattle.std.specs.Prelude.{◌≡◌, ◌<◌, Ok, Err, Some, None, length, IfErr, IfSome, IfNone, IsSomeAnd, IsTrue, true, OnOk};
 ghost use Rattle.w16_model.specs.Heap.{is_discardable, is_fixed, object_at};
-ghost use Rattle.w16_model.specs.Single.{Enters, after_free, after_release, after_lock, after_unlock, after_discard, after_touch, after_newest, after_oldest, refused_order};
-ghost use Rattle.w16_model.specs.Table.{block_with, entry_at, hold_in, IsCountedBy};
-ghost use Rattle.w16_model.specs.Edit as edit;
-ghost use Rattle.w16_model.specs.Prefix.{is_member};
-ghost use Rattle.w16_blocks.specs.Layout.{IsOrdered, without, replaced};
+ghost use Rattle.w16_model.specs.OneObject.{Enters, after_free, after_release, after_lock, after_unlock, after_discard, after_touch, after_newest, after_oldest, refused_order};
+ghost use Rattle.w16_model.specs.Table.{block_with, entry_at, hold_of_entry, IsCountedBy};
+ghost use Rattle.w16_model.specs.Changes as changes;
+ghost use Rattle.w16_model.specs.Discards.{is_member};
+ghost use Rattle.w16_blocks.specs.Layout.{IsOrdered, all_but, replaced};
 ghost use Rattle.w16_arena.specs.State.{Steps, after_end};
 
 use crate::Arena;
@@ -156,7 +156,7 @@ impl Arena {
     fn set_locks(&mut self, id: u32, kind: Kind, locks: u8)
         requires kind { IsSomeAnd (entry_at self.old.table id) (λ e. e.kind ≡ kind) }
         requires counted { IsCountedBy (block_with self.old.table.blocks id) (record { kind = kind; locks = locks }) }
-        ensures { Steps self.old self.new (λ old new. IfSome (object_at old id) (λ o. new ≡ edit.with_object old id (record o { locks = locks }))) }
+        ensures { Steps self.old self.new (λ old new. IfSome (object_at old id) (λ o. new ≡ changes.with_object old id (record o { locks = locks }))) }
     {
         let entry = Entry { kind, locks };
         set_hold(&mut self.blocks, id, hold(entry));
@@ -166,9 +166,9 @@ impl Arena {
     /// An object that isn't locked gives up its bytes, if it has any. Its id and kind stay.
     pub(crate) fn give_up(&mut self, id: u32)
         requires { IsSomeAnd (entry_at self.old.table id) (λ e. e.locks ≡ 0) }
-        ensures steps { Steps self.old self.new (λ old new. new ≡ edit.absent old id) }
-        ensures blocks { self.new.table.blocks ≡ without id self.old.table.blocks }
-        ensures order { self.new.table.order ≡ edit.without id self.old.table.order }
+        ensures steps { Steps self.old self.new (λ old new. new ≡ changes.absent old id) }
+        ensures blocks { self.new.table.blocks ≡ all_but id self.old.table.blocks }
+        ensures order { self.new.table.order ≡ changes.without id self.old.table.order }
         ensures entries { self.new.table.entries ≡ self.old.table.entries }
     {
         remove_block(&mut self.blocks, id);
@@ -199,7 +199,7 @@ impl Arena {
 /// Takes an id's block away, if it has one.
 fn remove_block(blocks: &mut Blocks, id: u32)
     requires { id < blocks.old.cap }
-    ensures value { blocks.new ≡ record blocks.old { blocks = without id blocks.old.blocks } }
+    ensures value { blocks.new ≡ record blocks.old { blocks = all_but id blocks.old.blocks } }
     ensures ordered { IsOrdered blocks.new }
 {
     if blocks.find(id).is_some() {
@@ -221,7 +221,7 @@ fn set_hold(blocks: &mut Blocks, id: u32, hold: Hold)
 
 /// Whether an object's block keeps its address.
 pub(crate) fn hold(entry: Entry) -> Hold
-    ensures { result ≡ hold_in entry }
+    ensures { result ≡ hold_of_entry entry }
 {
     if is_fixed(entry.kind) || entry.locks > 0 {
         Hold::Pinned

@@ -2,15 +2,15 @@
 ghost use Rattle.std.specs.Prelude.{◌≡◌, ◌<◌, ◌≤◌, [], length, is_ok, true, IfOk, IfSome, OnErr, ◌&&◌, if◌then◌else◌, Some, None};
 ghost use Rattle.w16_region.specs.Bytes.{counted};
 ghost use Rattle.w16_model.specs.Heap.{IsMultiple};
-ghost use Rattle.w16_model.specs.Prefix.{needed};
+ghost use Rattle.w16_model.specs.Discards.{needed};
 ghost use Rattle.w16_model.specs.Table.{block_with, heap_in, IsSound};
 ghost use Rattle.w16_model.specs.Request.{Allocates, Compacts, compaction_prefix};
 ghost use Rattle.w16_arena.specs.State.{KeepsRest};
 ghost use Rattle.w16_arena.specs.Asked.{HasDiscarded, IsPlaced, IsSlid, first_eligible};
 
 use crate::Arena;
-use crate::making::{NOTHING, Placed};
-use crate::placing::Compacted;
+use crate::new_place::{NOTHING, Placed};
+use crate::without_discard::Compacted;
 use w16_compact::least_prefix;
 use w16_model::{Kind, Way};
 use w16_region::{Space, has_bytes};

@@ -6,10 +6,10 @@ use Rattle.w16_model.specs.declared.Block.{Block}
 use Rattle.w16_model.specs.Gap.{IsLaid, block_end}
 use Rattle.w16_model.specs.Table.{block_with}
 use Rattle.w16_blocks.specs.Layout.{rank}
-use Rattle.w16_blocks.specs.Kept.{entry_of}
+use Rattle.w16_blocks.specs.Representation.{block_kept_for}
 
 -- an entry with bytes is at or above the first bound
-pub entry_from : (low high id : ℕ) (x : Block) (bs : List Block) → IsLaid low high bs → entry_of id bs ≡ x → 0 < x.size → low ≤ x.at
+pub entry_from : (low high id : ℕ) (x : Block) (bs : List Block) → IsLaid low high bs → block_kept_for id bs ≡ x → 0 < x.size → low ≤ x.at
 entry_from low high id x [] laid e known = let f = ap (λ (y : Block). y.size) e in absurd (omega arith)
 entry_from low high id x (b ∷ bs) laid e known = elim (eqb_tells b.id id) [
   | inl same ↦ let f : b ≡ x = rw same.0 at e in let g = ap (λ (y : Block). y.at) f in let one = laid.0 in omega arith
@@ -20,14 +20,14 @@ entry_from low high id x (b ∷ bs) laid e known = elim (eqb_tells b.id id) [
 ]
 
 -- the block of an id with an entry is the one of that rank
-pub found_at : (low high id : ℕ) (x : Block) (bs : List Block) → IsLaid low high bs → entry_of id bs ≡ x → 0 < x.size
+pub found_at : (low high id : ℕ) (x : Block) (bs : List Block) → IsLaid low high bs → block_kept_for id bs ≡ x → 0 < x.size
     → rank x.at bs < length bs
 found_at low high id x [] laid e known = let f = ap (λ (y : Block). y.size) e in absurd (omega arith)
 found_at low high id x (b ∷ bs) laid e known =
     elim (eqb_tells b.id id) [
       | inl same ↦ let f : b ≡ x = rw same.0 at e in let g = ap (λ (y : Block). y.at) f in rw (le-ltb b.at x.at (omega arith)) (omega arith)
       | inr other ↦
-          let e' : entry_of id bs ≡ x = rw other.0 at e in
+          let e' : block_kept_for id bs ≡ x = rw other.0 at e in
           let above = entry_from (block_end b) high id x bs laid.2 e' known in
           let size = laid.1 in
           let ih = found_at (block_end b) high id x bs laid.2 e' known in
@@ -36,7 +36,7 @@ found_at low high id x (b ∷ bs) laid e known =
     ]
 
 -- the entry is the id's block
-pub entry_is : (low high id : ℕ) (bs : List Block) → IsLaid low high bs → 0 < (entry_of id bs).size → block_with bs id ≡ Some (entry_of id bs)
+pub entry_is : (low high id : ℕ) (bs : List Block) → IsLaid low high bs → 0 < (block_kept_for id bs).size → block_with bs id ≡ Some (block_kept_for id bs)
 entry_is low high id [] laid known = absurd (omega arith)
 entry_is low high id (b ∷ bs) laid known = elim (eqb_tells b.id id) [
   | inl same ↦ rw same.0 refl
@@ -50,7 +50,7 @@ laid_le low high (b ∷ bs) laid =
     let one = laid.0 in let two = laid.1 in let rest = laid_le (block_end b) high bs laid.2 in omega arith
 
 -- an id whose entry has no bytes has no block
-pub absent : (low high id : ℕ) (bs : List Block) → IsLaid low high bs → (entry_of id bs).size ≡ 0 → block_with bs id ≡ None
+pub absent : (low high id : ℕ) (bs : List Block) → IsLaid low high bs → (block_kept_for id bs).size ≡ 0 → block_with bs id ≡ None
 absent low high id [] laid e = refl
 absent low high id (b ∷ bs) laid e =
     elim (eqb_tells b.id id) [

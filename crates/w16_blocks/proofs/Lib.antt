@@ -2,7 +2,7 @@ pub mod Rank
 pub mod Find
 pub mod Place
 pub mod Remove
-pub mod Kept
+pub mod Represented
 pub mod Room
 pub mod Replace
 pub mod Hole

@@ -7,7 +7,7 @@ use Rattle.std.specs.List.{AllByRecursion, insert}
 use Rattle.w16_model.specs.declared.Block.{Block}
 use Rattle.w16_model.specs.Gap.{IsLaid, block_end}
 use Rattle.w16_blocks.specs.Layout.{Fits, IsApart, rank, placed, AreNamed, IsGrained}
-use Rattle.w16_blocks.specs.Kept.{IsKept, entry_of, no_block}
+use Rattle.w16_blocks.specs.Representation.{IsKept, block_kept_for, no_block}
 
 pub insert-rank : (b : Block) (bs : List Block) → insert bs (rank b.at bs) b ≡ placed b bs
 insert-rank b [] = refl
@@ -45,11 +45,11 @@ AreNamed-placed room b (c ∷ cs) lt all named = elim (cases_lt c.at b.at) [
   | inr le ↦ rw (le-ltb c.at b.at le) (lt, (all.0, all.1), named)
 ]
 
-pub entry_of-placed : (id : ℕ) (b : Block) (bs : List Block) → AllByRecursion (λ c. c.id ≢ b.id) bs → entry_of id (placed b bs) ≡ cond (eqb b.id id) b (entry_of id bs)
-entry_of-placed id b [] all = refl
-entry_of-placed id b (c ∷ cs) all = elim (cases_lt c.at b.at) [
+pub kept_for-placed : (id : ℕ) (b : Block) (bs : List Block) → AllByRecursion (λ c. c.id ≢ b.id) bs → block_kept_for id (placed b bs) ≡ cond (eqb b.id id) b (block_kept_for id bs)
+kept_for-placed id b [] all = refl
+kept_for-placed id b (c ∷ cs) all = elim (cases_lt c.at b.at) [
   | inl below ↦ rw (lt-ltb c.at b.at below) (
-      let ih = entry_of-placed id b cs all.1 in
+      let ih = kept_for-placed id b cs all.1 in
       elim (eqb_tells c.id id) [
         | inl same ↦ elim (eqb_tells b.id id) [
           | inl both ↦ absurd (all.0 (cc))
@@ -67,7 +67,7 @@ IsKept-placed cap low high grain slots b bs long fits kept = record {
   named = AreNamed-placed cap b bs fits.id fits.free kept.named;
   grained = All-placed (IsGrained grain) b bs fits.grained kept.grained;
   from = kept.from;
-  table = λ id lt. rw (entry_of-placed id b bs fits.free) (elim (eqb_tells b.id id) [
+  table = λ id lt. rw (kept_for-placed id b bs fits.free) (elim (eqb_tells b.id id) [
     | inl same ↦ rw same.0 (let e = same.1 in let k = fits.id in rw (← e) (get_or-set_same slots b.id b no_block (omega arith)))
     | inr other ↦ rw other.0 (let ne : id ≢ b.id = λ e. other.1 (sym e) in rw (get_or-set_other slots b.id id b no_block ne) (kept.table id lt))
   ]);

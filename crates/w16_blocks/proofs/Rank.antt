@@ -9,7 +9,7 @@ use Rattle.w16_model.specs.declared.Hold.TheVariants.{Loose}
 use Rattle.w16_model.specs.declared.Block.{Block}
 use Rattle.w16_model.specs.Gap.{IsLaid, block_end}
 use Rattle.w16_blocks.specs.Layout.{rank}
-use Rattle.w16_blocks.specs.Kept.{IsRising}
+use Rattle.w16_blocks.specs.Representation.{IsRising}
 
 pub rank-le : (at : ℕ) (bs : List Block) → rank at bs ≤ length bs
 rank-le at [] = omega arith

@@ -7,12 +7,12 @@ use Rattle.std.specs.List.{AllByRecursion}
 use Rattle.w16_model.specs.declared.Block.{Block}
 use Rattle.w16_model.specs.Gap.{IsLaid, block_end}
 use Rattle.w16_model.specs.Table.{block_with}
-use Rattle.w16_blocks.specs.Layout.{FitsFor, rank, without, replaced, placed, AreNamed}
-use Rattle.w16_blocks.specs.Kept.{Stays, IsRising, IsKept, entry_of, no_block}
+use Rattle.w16_blocks.specs.Layout.{FitsFor, rank, all_but, replaced, placed, AreNamed}
+use Rattle.w16_blocks.specs.Representation.{Stays, IsRising, IsKept, block_kept_for, no_block}
 use Rattle.w16_blocks.proofs.Rank.{each_at}
 use Rattle.w16_blocks.proofs.Find.{entry_from}
 use Rattle.w16_blocks.proofs.Place.{IsKept-placed}
-use Rattle.w16_blocks.proofs.Remove.{without_absent, IsKept-without}
+use Rattle.w16_blocks.proofs.Remove.{all_but_absent, IsKept-all_but}
 
 pub found_id : (id : ℕ) (bs : List Block) (b : Block) → block_with bs id ≡ Some b → b.id ≡ id
 found_id id [] b e = absurd (false≢true (ap is_some e))
@@ -33,7 +33,7 @@ stays_from to (suc i) (b ∷ bs) d rising lt before after =
     first (suc k) bs all lt h = let above : b.at < (get_or bs k d).at = each_at (λ c. b.at < c.at) bs k d (omega arith) all in omega arith
 
 -- written over the one of its id, it stands in its place
-pub set-rank : (low high cap : ℕ) (x y : Block) (bs : List Block) → IsLaid low high bs → AreNamed cap bs → entry_of x.id bs ≡ y → 0 < y.size → Stays x.at (rank y.at bs) bs → set bs (rank y.at bs) x ≡ replaced x bs
+pub set-rank : (low high cap : ℕ) (x y : Block) (bs : List Block) → IsLaid low high bs → AreNamed cap bs → block_kept_for x.id bs ≡ y → 0 < y.size → Stays x.at (rank y.at bs) bs → set bs (rank y.at bs) x ≡ replaced x bs
 set-rank low high cap x y [] laid named e known stay = let f = ap (λ (z : Block). z.size) e in absurd (omega arith)
 set-rank low high cap x y (b ∷ bs) laid named e known stay =
     elim (eqb_tells b.id x.id) [
@@ -42,9 +42,9 @@ set-rank low high cap x y (b ∷ bs) laid named e known stay =
           let none_below : ltb b.at y.at ≡ false = le-ltb b.at y.at (omega arith) in
           let rest : AllByRecursion (λ c. c.id ≢ x.id) bs = subst (λ (k : ℕ). AllByRecursion (λ c. c.id ≢ k) bs) same.1 named.1 in
           let stay' : Stays x.at 0 (b ∷ bs) = rw none_below at stay in
-          rw (none_below, same.0, without_absent x.id bs rest) (front x b bs stay')
+          rw (none_below, same.0, all_but_absent x.id bs rest) (front x b bs stay')
       | inr other ↦
-          let e' : entry_of x.id bs ≡ y = rw other.0 at e in
+          let e' : block_kept_for x.id bs ≡ y = rw other.0 at e in
           let above = entry_from (block_end b) high x.id y bs laid.2 e' known in
           let size = laid.1 in
           let below : b.at < y.at = omega arith in
@@ -60,6 +60,6 @@ set-rank low high cap x y (b ∷ bs) laid named e known stay =
 pub IsKept-replaced : (cap low high grain : ℕ) (slots : List Block) (x : Block) (bs : List Block)
     → cap ≡ length slots → FitsFor (record { cap = cap; lo = low; hi = high; grain = grain; blocks = bs }) x → IsKept cap low high grain slots bs → IsKept cap low high grain (set slots x.id x) (replaced x bs)
 IsKept-replaced cap low high grain slots x bs long fits kept =
-    let one = IsKept-without cap low high grain slots x.id bs (sym long) fits.id kept in
-    let two = IsKept-placed cap low high grain (set slots x.id no_block) x (without x.id bs) (length-set slots x.id no_block ∙ sym long) fits one in
+    let one = IsKept-all_but cap low high grain slots x.id bs (sym long) fits.id kept in
+    let two = IsKept-placed cap low high grain (set slots x.id no_block) x (all_but x.id bs) (length-set slots x.id no_block ∙ sym long) fits one in
     subst (λ (ps : List Block). IsKept cap low high grain ps (replaced x bs)) (set-set slots x.id no_block x) two

@@ -6,7 +6,7 @@ use Rattle.std.proofs.lemmas.Map.Steps.{length-le_from_distinct_below}
 use Rattle.std.specs.List.{AllByRecursion, list_any, IsDistinct}
 use Rattle.w16_model.specs.declared.Block.{Block}
 use Rattle.w16_blocks.specs.Layout.{AreNamed, IsOrdered}
-use Rattle.w16_blocks.specs.Kept.{IsKept}
+use Rattle.w16_blocks.specs.Representation.{IsKept}
 
 abbrev ids : List Block → List ℕ
 ids bs = map (λ b. b.id) bs

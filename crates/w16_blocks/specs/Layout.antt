@@ -46,12 +46,12 @@ placed b [] = b ∷ []
 placed b (c ∷ cs) = if nat_lt c.at b.at then c ∷ placed b cs else b ∷ c ∷ cs
 
 -- the blocks but for an id's
-abbrev pub without : ℕ → List Block → List Block
-without id bs = filter (λ b. not (b.id == id)) bs
+abbrev pub all_but : ℕ → List Block → List Block
+all_but id bs = filter (λ b. not (b.id == id)) bs
 
 -- the blocks with a block in place of the one of its id
 abbrev pub replaced : Block → List Block → List Block
-replaced b bs = placed b (without b.id bs)
+replaced b bs = placed b (all_but b.id bs)
 
 -- a block that may be added: its id is free, it lies inside and meets no other
 pub record Fits (l : Layout) (b : Block) : Type 0 where
@@ -63,4 +63,4 @@ pub record Fits (l : Layout) (b : Block) : Type 0 where
 
 -- a block that may stand in place of the one of its id
 abbrev pub FitsFor : Layout → Block → Type 0
-FitsFor l b = Fits (record { cap = l.cap; lo = l.lo; hi = l.hi; grain = l.grain; blocks = without b.id l.blocks }) b
+FitsFor l b = Fits (record { cap = l.cap; lo = l.lo; hi = l.hi; grain = l.grain; blocks = all_but b.id l.blocks }) b

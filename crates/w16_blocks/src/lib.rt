@@ -34,7 +34,7 @@ pub struct Blocks {
 impl Model for Blocks {
     ghost use Rattle.std.specs.Prelude.{◌<◌, ◌≤◌, ◌^◌, vec_len, vec_capacity};
     ghost use Rattle.w16_blocks.specs.Layout.{Layout};
-    ghost use Rattle.w16_blocks.specs.Kept.{IsKept};
+    ghost use Rattle.w16_blocks.specs.Representation.{IsKept};
 
     ghost Value = { Layout };
 
@@ -47,7 +47,7 @@ impl Blocks {
     ghost use Rattle.w16_model.specs.Table.{block_with};
     ghost use Rattle.w16_model.specs.Heap.{IsMultiple};
     ghost use Rattle.w16_model.specs.Gap.{holes, hole_after, block_end};
-    ghost use Rattle.w16_blocks.specs.Layout.{Layout, Fits, placed, without, replaced, FitsFor, IsOrdered, rank};
+    ghost use Rattle.w16_blocks.specs.Layout.{Layout, Fits, placed, all_but, replaced, FitsFor, IsOrdered, rank};
 
     /// No blocks yet, between `lo` and `hi`, with ids below `cap`, at multiples of the grain.
     pub fn with_room(
@@ -99,7 +99,7 @@ impl Blocks {
     pub fn remove(&mut self, id: u32)
         requires id { id < self.old.cap }
         requires known { IsSome (block_with self.old.blocks id) }
-        ensures value { self.new ≡ record self.old { blocks = without id self.old.blocks } }
+        ensures value { self.new ≡ record self.old { blocks = all_but id self.old.blocks } }
         ensures ordered { IsOrdered self.new }
     {
         let old = self.slots[id as usize];

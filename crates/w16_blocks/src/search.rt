@@ -4,7 +4,7 @@ ghost use Rattle.std.specs.List.{find};
 ghost use Rattle.std.specs.Option.{option_map};
 ghost use Rattle.w16_model.specs.Gap.{IsLaid, holes};
 ghost use Rattle.w16_blocks.specs.Layout.{rank};
-ghost use Rattle.w16_blocks.specs.Kept.{IsRising, Stays};
+ghost use Rattle.w16_blocks.specs.Representation.{IsRising, Stays};
 
 use w16_model::Block;
 

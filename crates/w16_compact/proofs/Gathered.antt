@@ -6,7 +6,7 @@ use Rattle.std.specs.List.{AllByRecursion}
 use Rattle.w16_model.specs.declared.Block.{Block}
 use Rattle.w16_model.specs.Gap.{IsLaid, block_end}
 use Rattle.w16_blocks.specs.Layout.{rank}
-use Rattle.w16_compact.specs.Gather.{gathered, packed, moved_size, FitsGap}
+use Rattle.w16_compact.specs.Gather.{gathered, packed, moved_between, FitsGap}
 
 -- at the start
 pub list_start : (low high : ℕ) (bs : List Block) → take (rank low bs) bs ++ packed high low (drop (rank low bs) bs) ≡ gathered low high bs
@@ -44,7 +44,7 @@ rest_start low high bs all = each_drop (FitsGap low high) (rank low bs) bs all
     each_drop P (suc i) [] all = tt
     each_drop P (suc i) (b ∷ bs) all = each_drop P i bs all.1
 
-pub moved_start : (low high : ℕ) (bs : List Block) → moved_size (drop (rank low bs) bs) (packed high low (drop (rank low bs) bs)) ≡ moved_size bs (gathered low high bs)
+pub moved_start : (low high : ℕ) (bs : List Block) → moved_between (drop (rank low bs) bs) (packed high low (drop (rank low bs) bs)) ≡ moved_between bs (gathered low high bs)
 moved_start low high [] = refl
 moved_start low high (b ∷ bs) = elim (cases_lt b.at low) [
   | inl lt ↦ rw (lt-ltb b.at low lt, eq-eqb b.at b.at refl) (let ih = moved_start low high bs in omega (arith, ih))
@@ -113,14 +113,14 @@ rest_step P to i b bs got all =
     (now.0, subst (AllByRecursion P) (sym (drop_written bs i (record b { at = to }))) now.1)
 
 pub moved_step : (high to i moved total step : ℕ) (b : Block) (bs : List Block) → slice_get bs i ≡ Some b → b.at < high → step ≡ cond (eqb b.at to) 0 b.size
-    → moved + moved_size (drop i bs) (packed high to (drop i bs)) ≡ total
-    → moved + step + moved_size (drop (suc i) (set bs i (record b { at = to }))) (packed high (to + b.size) (drop (suc i) (set bs i (record b { at = to })))) ≡ total
+    → moved + moved_between (drop i bs) (packed high to (drop i bs)) ≡ total
+    → moved + step + moved_between (drop (suc i) (set bs i (record b { at = to }))) (packed high (to + b.size) (drop (suc i) (set bs i (record b { at = to })))) ≡ total
 moved_step high to i moved total step b bs got lt s e =
     let rest : List Block = drop (suc i) bs in
-    let at : moved_size (drop i bs) (packed high to (drop i bs)) ≡ cond (eqb b.at to) 0 b.size + moved_size rest (packed high (to + b.size) rest) =
-    ap (λ ys. moved_size ys (packed high to ys)) (drop_got bs i b got) ∙ ap (moved_size (b ∷ rest)) (packed_step high to b rest lt) in
-    let after : moved_size (drop (suc i) (set bs i (record b { at = to }))) (packed high (to + b.size) (drop (suc i) (set bs i (record b { at = to })))) ≡ moved_size rest (packed high (to + b.size) rest) =
-    ap (λ ys. moved_size ys (packed high (to + b.size) ys)) (drop_written bs i (record b { at = to })) in
+    let at : moved_between (drop i bs) (packed high to (drop i bs)) ≡ cond (eqb b.at to) 0 b.size + moved_between rest (packed high (to + b.size) rest) =
+    ap (λ ys. moved_between ys (packed high to ys)) (drop_got bs i b got) ∙ ap (moved_between (b ∷ rest)) (packed_step high to b rest lt) in
+    let after : moved_between (drop (suc i) (set bs i (record b { at = to }))) (packed high (to + b.size) (drop (suc i) (set bs i (record b { at = to })))) ≡ moved_between rest (packed high (to + b.size) rest) =
+    ap (λ ys. moved_between ys (packed high (to + b.size) ys)) (drop_written bs i (record b { at = to })) in
     omega (arith, at, after, s, e)
 
 pub step-le : (to step : ℕ) (b : Block) → step ≡ cond (eqb b.at to) 0 b.size → step ≤ b.size
@@ -136,6 +136,6 @@ packed_rest high to (suc i) [] le = refl
 packed_rest high to zero (b ∷ bs) le = rw (le-ltb b.at high le) refl
 packed_rest high to (suc i) (b ∷ bs) le = packed_rest high to i bs le
 
-pub moved_same : (bs : List Block) → moved_size bs bs ≡ 0
+pub moved_same : (bs : List Block) → moved_between bs bs ≡ 0
 moved_same [] = refl
 moved_same (b ∷ bs) = rw (eq-eqb b.at b.at refl) (let ih = moved_same bs in omega (arith, ih))

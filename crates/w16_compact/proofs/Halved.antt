@@ -5,7 +5,7 @@ use Rattle.std.proofs.lemmas.Bool.{cases_lt, lt-leb, cond-true, cond-false}
 use Rattle.std.proofs.lemmas.List.Sums.{length-filter, count_by-le-length}
 use Rattle.w16_model.specs.declared.Block.{Block}
 use Rattle.w16_model.specs.Gap.{room}
-use Rattle.w16_model.specs.Prefix.{eligible, blocks_without, room_for, needed}
+use Rattle.w16_model.specs.Discards.{eligible, blocks_without, room_for, needed}
 use Rattle.w16_model.proofs.Discards.{more_discards_law}
 use Rattle.w16_model.proofs.Least.{take_past}
 use Rattle.w16_compact.proofs.Searched.{may_go}

@@ -5,7 +5,7 @@ use Rattle.std.proofs.Math.Bool.{or_comm}
 use Rattle.std.proofs.lemmas.Bool.Decides.{eqb_tells}
 use Rattle.std.proofs.lemmas.List.{get_or-set_same, get_or-set_other}
 use Rattle.w16_model.specs.declared.Block.{Block}
-use Rattle.w16_model.specs.Prefix.{is_member, is_about, blocks_without}
+use Rattle.w16_model.specs.Discards.{is_member, is_about, blocks_without}
 use Rattle.w16_blocks.specs.Layout.{AreNamed}
 use Rattle.w16_compact.specs.Skip.{counted_of}
 

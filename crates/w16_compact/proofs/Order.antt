@@ -5,7 +5,7 @@ use Rattle.std.specs.List.{AllByRecursion}
 use Rattle.w16_model.specs.declared.Block.{Block}
 use Rattle.w16_model.specs.Gap.{IsLaid, block_end}
 use Rattle.w16_model.specs.Table.{block_with}
-use Rattle.w16_blocks.specs.Layout.{IsApart, without, placed, AreNamed}
+use Rattle.w16_blocks.specs.Layout.{IsApart, all_but, placed, AreNamed}
 
 -- two blocks that are read alike
 same_some : (b c : Block) → Some c ≡ Some b → c ≡ b
@@ -28,15 +28,15 @@ id_got room [] i b named e = absurd (false≢true (ap is_some e))
 id_got room (c ∷ cs) zero b named e = subst (λ (x : Block). x.id < room) (same_some b c e) named.0
 id_got room (c ∷ cs) (suc i) b named e = id_got room cs i b named.2 e
 
-without_absent : (id : ℕ) (bs : List Block) → AllByRecursion (λ c. c.id ≢ id) bs → without id bs ≡ bs
+without_absent : (id : ℕ) (bs : List Block) → AllByRecursion (λ c. c.id ≢ id) bs → all_but id bs ≡ bs
 without_absent id [] all = refl
 without_absent id (b ∷ bs) all = rw (ne_eqb b.id id all.0) (ap (λ ys. b ∷ ys) (without_absent id bs all.1))
 
 -- the others are those before and those after
-pub without_got : (room : ℕ) (bs : List Block) (i : ℕ) (b : Block) → AreNamed room bs → slice_get bs i ≡ Some b → without b.id bs ≡ take i bs ++ drop (suc i) bs
+pub without_got : (room : ℕ) (bs : List Block) (i : ℕ) (b : Block) → AreNamed room bs → slice_get bs i ≡ Some b → all_but b.id bs ≡ take i bs ++ drop (suc i) bs
 without_got room [] i b named e = absurd (false≢true (ap is_some e))
 without_got room (c ∷ cs) zero b named e =
-    subst (λ (x : Block). without x.id (c ∷ cs) ≡ cs) (same_some b c e) (rw (eq-eqb c.id c.id refl) (without_absent c.id cs named.1))
+    subst (λ (x : Block). all_but x.id (c ∷ cs) ≡ cs) (same_some b c e) (rw (eq-eqb c.id c.id refl) (without_absent c.id cs named.1))
 without_got room (c ∷ cs) (suc i) b named e =
     let other : b.id ≢ c.id = each_got (λ x. x.id ≢ c.id) cs i b e named.1 in
     rw (ne_eqb c.id b.id (λ h. other (sym h))) (ap (λ ys. c ∷ ys) (without_got room cs i b named.2 e))

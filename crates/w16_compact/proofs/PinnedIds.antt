@@ -4,7 +4,7 @@ use Rattle.std.specs.List.{AllByRecursion}
 use Rattle.std.proofs.lemmas.Bool.Decides.{eqb_tells}
 use Rattle.w16_model.specs.declared.Block.{Block}
 use Rattle.w16_model.specs.Gap.{is_pinned}
-use Rattle.w16_model.specs.Prefix.{is_pinned_id}
+use Rattle.w16_model.specs.Discards.{is_pinned_id}
 use Rattle.w16_model.specs.Table.{block_with}
 use Rattle.w16_blocks.specs.Layout.{AreNamed}
 

@@ -1,8 +1,8 @@
 -- What a step over part of a memory leaves as it was: one step after another, and a part that was put.
 use Rattle.std.proofs.Common.{refl, ℕ, ◌≡◌, ◌+◌, ◌≤◌, List, length, take, drop, arith, ◌∙◌, ap}
 use Rattle.std.specs.Borrow.{GName}
-use Rattle.w16_region.specs.Bytes.{put_part, length-put_part}
-use Rattle.w16_region.proofs.Parts.{take-put_part, drop-put_part, take_lower, drop_higher}
+use Rattle.w16_model.specs.Bytes.{put_part}
+use Rattle.w16_model.proofs.Parts.{length-put_part, take-put_part, drop-put_part, take_lower, drop_higher}
 use Rattle.w16_compact.specs.Rest.{IsSameRest}
 
 module _ {X : Type 0} {bytes : X → List ℕ} {lenders : X → List GName} where

@@ -7,7 +7,7 @@ use Rattle.std.proofs.lemmas.List.{drop_more}
 use Rattle.std.proofs.lemmas.List.Elements.{All-get_or}
 use Rattle.std.proofs.lemmas.Option.{slice_get_within, slice_get-get_or, get_or_from_slice_get}
 use Rattle.w16_model.specs.declared.Block.{Block}
-use Rattle.w16_model.specs.Prefix.{is_about, is_pinned_id, eligible}
+use Rattle.w16_model.specs.Discards.{is_about, is_pinned_id, eligible}
 use Rattle.w16_lru.specs.Uses.{Uses, AreUses}
 use Rattle.w16_compact.proofs.Marks.{about_eq}
 

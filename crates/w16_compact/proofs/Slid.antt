@@ -2,11 +2,11 @@
 use Rattle.std.proofs.Common.{ℕ, zero, suc, ◌≡◌, ◌≤◌, List, [], ◌∷◌, set, take, drop, Some, is_some, refl, sym, subst, ap, slice_get}
 use Rattle.std.proofs.lemmas.Bool.{false≢true}
 use Rattle.std.specs.List.{AllByRecursion}
-use Rattle.w16_region.specs.Bytes.{part}
+use Rattle.w16_model.specs.Bytes.{part}
 use Rattle.w16_model.specs.declared.Block.{Block}
 use Rattle.w16_model.specs.Gap.{block_end}
 use Rattle.w16_compact.specs.Gather.{contents}
-use Rattle.w16_region.proofs.Parts.{part_below, part_above}
+use Rattle.w16_model.proofs.Parts.{part_below, part_above}
 
 same_some : (b c : Block) → Some c ≡ Some b → c ≡ b
 same_some b c e = cc

@@ -1,7 +1,7 @@
 -- Blocks slid to the low end of a gap.
 use Rattle.std.specs.Prelude.{ℕ, IsTrue, ◌+◌, ◌≤◌, ◌≡◌, ◌==◌, ◌⊎◌, nat_lt, if◌then◌else◌, List, [], ◌∷◌, map}
 use Rattle.std.specs.List.{AllByRecursion}
-use Rattle.w16_region.specs.Bytes.{part}
+use Rattle.w16_model.specs.Bytes.{part}
 use Rattle.w16_model.specs.declared.Block.{Block}
 use Rattle.w16_model.specs.declared.Hold.TheVariants.{Loose}
 use Rattle.w16_model.specs.Gap.{block_end, is_pinned}
@@ -22,10 +22,10 @@ abbrev pub contents : List ℕ → List Block → List (ℕ × List ℕ)
 contents bytes bs = map (λ b. (b.id, part bytes b.at b.size)) bs
 
 -- the sizes of the blocks whose address changed, together
-abbrev pub moved_size : List Block → List Block → ℕ
-moved_size [] cs = 0
-moved_size (b ∷ bs) [] = 0
-moved_size (b ∷ bs) (c ∷ cs) = (if b.at == c.at then 0 else b.size) + moved_size bs cs
+abbrev pub moved_between : List Block → List Block → ℕ
+moved_between [] cs = 0
+moved_between (b ∷ bs) [] = 0
+moved_between (b ∷ bs) (c ∷ cs) = (if b.at == c.at then 0 else b.size) + moved_between bs cs
 
 -- a block that lies below [low, high), or above it, or inside and may slide
 abbrev pub FitsGap : ℕ → ℕ → Block → Type 0

@@ -1,6 +1,6 @@
 //! How many discards make room.
 ghost use Rattle.std.specs.Prelude.{◌≡◌, ℕ, ◌+◌, ◌<◌, ◌≤◌, ◌||◌, ◌∷◌, false, length, take, drop, IfSome, MatchOption, slice_index_or};
-ghost use Rattle.w16_model.specs.Prefix.{eligible, is_about, is_member, is_pinned_id, needed, room_for};
+ghost use Rattle.w16_model.specs.Discards.{eligible, is_about, is_member, is_pinned_id, needed, room_for};
 ghost use Rattle.w16_blocks.specs.Layout.{IsOrdered};
 
 use crate::reach::is_pinned;

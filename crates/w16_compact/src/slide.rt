@@ -1,11 +1,12 @@
 //! Loose blocks slide to the low end of a gap.
 ghost use Rattle.std.specs.Prelude.{◌≡◌, ℕ, ◌+◌, ◌<◌, ◌≤◌, ◌⊎◌, ◌==◌, length, take, slice_get, slice_set, if◌then◌else◌, MatchOption, IfSome};
 ghost use Rattle.std.specs.List.{AllByRecursion};
-ghost use Rattle.w16_region.specs.Bytes.{counted, part};
+ghost use Rattle.w16_model.specs.Bytes.{part};
+ghost use Rattle.w16_region.specs.Bytes.{counted};
 ghost use Rattle.w16_model.specs.Gap.{block_end, is_any, IsClear, IsGap, IsHole, loose_bytes};
 ghost use Rattle.w16_model.specs.Heap.{IsMultiple};
 ghost use Rattle.w16_blocks.specs.Layout.{IsOrdered};
-ghost use Rattle.w16_compact.specs.Gather.{gathered, contents, moved_size, MayGather, AreSlid};
+ghost use Rattle.w16_compact.specs.Gather.{gathered, contents, moved_between, MayGather, AreSlid};
 ghost use Rattle.w16_compact.specs.Rest.{IsSameRest};
 
 use w16_blocks::{Block, Blocks};
@@ -40,7 +41,7 @@ pub fn gather<S: Space>(blocks: &mut Blocks, space: &mut S, low: u32, high: u32)
         → low + loose_bytes blocks.old.blocks low high ≡ high
         → (a b : ℕ) → IsHole blocks.old.lo blocks.old.hi blocks.new.blocks a b
         → (b ≤ low) ⊎ (high ≤ a) }
-    ensures moved { result ≡ moved_size blocks.old.blocks blocks.new.blocks }
+    ensures moved { result ≡ moved_between blocks.old.blocks blocks.new.blocks }
     ensures written { S.written space.new ≡ counted (S.written space.old) result }
     ensures rest { IsSameRest S.bytes S.lenders low high space.old space.new }
 {

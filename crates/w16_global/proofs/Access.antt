@@ -1,15 +1,14 @@
 -- Far reads and writes of bytes that are there.
-use Rattle.std.proofs.Common.{◌≡◌, ℕ, ◌+◌, ◌<◌, ◌≤◌, ◌/◌, IsSomeAnd, List, [], length, All, replicate, Option, Some, None, option_map, unwrap_or, refl, sym, ap, ◌∙◌, subst, arith, length-take, length-drop}
-use Rattle.std.proofs.lemmas.List.{length-replicate}
-use Rattle.std.proofs.lemmas.List.Elements.{All-replicate}
-use Rattle.w16_region.specs.Bytes.{repeated}
+use Rattle.std.proofs.Common.{◌≡◌, ℕ, ◌+◌, ◌<◌, ◌≤◌, ◌/◌, IsSomeAnd, List, [], length, All, Option, Some, None, option_map, unwrap_or, refl, sym, ap, ◌∙◌, subst, arith, length-take, length-drop}
+use Rattle.w16_model.specs.Bytes.{part, put_part, repeated}
+use Rattle.w16_model.proofs.Parts.{length-repeated}
 use Rattle.w16_model.specs.declared.Attributes.{Attributes}
 use Rattle.w16_model.specs.Heap.{Heap, Object, object_at, bytes_at}
-use Rattle.w16_model.specs.Single.{after_touch}
+use Rattle.w16_model.specs.OneObject.{after_touch}
 use Rattle.w16_model.specs.Handles.{Handles, AreHandles, Gives}
-use Rattle.w16_model.specs.Far.{far_fault, far_slot, far_bytes, far_read, far_write, slice_at, with_slice, after_write}
+use Rattle.w16_model.specs.Far.{far_fault, far_slot, far_bytes, far_read, far_write, after_write}
 use Rattle.w16_model.specs.Far as access
-use Rattle.w16_model.proofs.Kept.{written_heap}
+use Rattle.w16_model.proofs.KeptHeaps.{written_heap}
 use Rattle.w16_model.proofs.Accesses.{Reached, reached}
 use Rattle.w16_model.proofs.KeptHandles.{other_handles, same_updated}
 use Rattle.w16_selectors.specs.Descriptors as selectors
@@ -18,7 +17,7 @@ use Rattle.w16_global.specs.Joined.{handles_of, AreJoined}
 use Rattle.w16_global.proofs.Joined.{joined_same}
 use Rattle.w16_global.proofs.Described.{write_same}
 
-module _ {h : Holding} {xs : List (Option Attributes)} {t : selectors.Table} {m : ℕ} {w : Handles} (are : AreJoined h xs t) (shown : handles_of h xs m ≡ w) (selector offset n slot : ℕ)
+module _ {h : Holding} {xs : List (Option Attributes)} {t : selectors.DescriptorTable} {m : ℕ} {w : Handles} (are : AreJoined h xs t) (shown : handles_of h xs m ≡ w) (selector offset n slot : ℕ)
     (slot_is : slot ≡ far_slot w selector) (fine : far_fault w selector offset n ≡ None) where
   heap_is : h.heap ≡ w.heap
   heap_is = ap (λ (v : Handles). v.heap) shown
@@ -31,16 +30,16 @@ module _ {h : Holding} {xs : List (Option Attributes)} {t : selectors.Table} {m 
   has_part = subst (λ (k : Heap). HasPart k slot offset n) (sym heap_is) (subst (λ (b : Option (List ℕ)). IsSomeAnd b (λ bytes. offset + n ≤ length bytes)) (sym found.here) found.fits)
 
   -- how long it is
-  pub part_length : length (slice_at (unwrap_or (bytes_at h.heap slot) []) offset n) ≡ n
+  pub part_length : length (part (unwrap_or (bytes_at h.heap slot) []) offset n) ≡ n
   part_length =
       let f = found in
       let fits = f.fits in
-      ap (λ (b : Option (List ℕ)). length (slice_at (unwrap_or b []) offset n)) (ap (λ (k : Heap). bytes_at k slot) heap_is ∙ f.here) ∙ simp (length-take, length-drop) (omega (arith, fits))
+      ap (λ (b : Option (List ℕ)). length (part (unwrap_or b []) offset n)) (ap (λ (k : Heap). bytes_at k slot) heap_is ∙ f.here) ∙ simp (length-take, length-drop) (omega (arith, fits))
 
   -- Read
-  pub read_known : (after : Handles) → after ≡ record w { heap = after_touch w.heap slot } → Gives (far_read w selector offset n) (access.FarAnswer.Bytes (slice_at (unwrap_or (bytes_at h.heap slot) []) offset n)) after
+  pub read_known : (after : Handles) → after ≡ record w { heap = after_touch w.heap slot } → Gives (far_read w selector offset n) (access.FarAnswer.Bytes (part (unwrap_or (bytes_at h.heap slot) []) offset n)) after
   read_known after then_is = rw (fine, far_read) (
-    ap access.FarAnswer.Bytes (λ i. slice_at (unwrap_or (bytes_at (heap_is i) (slot_is i)) []) offset n),
+    ap access.FarAnswer.Bytes (λ i. part (unwrap_or (bytes_at (heap_is i) (slot_is i)) []) offset n),
     then_is ∙ ap (λ k. record w { heap = after_touch w.heap k }) slot_is,
   )
 
@@ -54,7 +53,7 @@ module _ {h : Holding} {xs : List (Option Attributes)} {t : selectors.Table} {m 
         let here = ap (λ (k : Heap). object_at k slot) heap_is ∙ f.there in
         let handles : AreHandles (record (handles_of h xs 0) { heap = after }) =
         other_handles (handles_of h xs 0) are.handles after (written_heap h.heap are.handles.heap slot f.object here f.bytes f.has offset slice fits bytes) refl refl
-        (same_updated h.heap.objects slot (λ (o : Object). record o { bytes = option_map (λ (b : List ℕ). with_slice b offset slice) o.bytes })) in
+        (same_updated h.heap.objects slot (λ (o : Object). record o { bytes = option_map (λ (b : List ℕ). put_part b offset slice) o.bytes })) in
         subst (λ k. AreJoined k xs t) (sym said) (joined_same h xs t are (record h { heap = after }) refl handles (write_same h.heap slot offset slice f.bytes f.object here f.has fits))
 
     pub write_known : (after : Handles) → after ≡ record (handles_of new xs m) { heap = after_touch new.heap slot } → Gives (far_write w selector offset slice) access.FarAnswer.Done after
@@ -68,6 +67,5 @@ module _ {h : Holding} {xs : List (Option Attributes)} {t : selectors.Table} {m 
 
   -- Fill
   pub fill_known : (byte : ℕ) (new : Holding) → new ≡ record h { heap = after_write h.heap slot offset (repeated n byte) } → (after : Handles) → after ≡ record (handles_of new xs m) { heap = after_touch new.heap slot }
-      → Gives (far_write w selector offset (replicate n byte)) access.FarAnswer.Done after
-  unfolding repeated
-  fill_known byte = write_known (replicate n byte) (length-replicate n byte)
+      → Gives (far_write w selector offset (repeated n byte)) access.FarAnswer.Done after
+  fill_known byte = write_known (repeated n byte) (length-repeated n byte)

@@ -7,27 +7,27 @@ use Rattle.w16_model.specs.declared.Way.{Way}
 use Rattle.w16_model.specs.declared.TheConstants.{LARGEST_SIZE, GMEM_MOVEABLE, GMEM_ZEROINIT, GMEM_DDESHARE}
 use Rattle.std.proofs.lemmas.Bool.{false≢true, cases_lt}
 use Rattle.w16_model.specs.Heap.{Heap, Object, IsHeap}
-use Rattle.w16_model.specs.Edit.{with_ordered, with_newest}
+use Rattle.w16_model.specs.Changes.{with_ordered, with_newest}
 use Rattle.w16_model.specs.Request.{Allocates, IsNew, Settles, discarded, stays_for, prefix_of, moved_bytes}
-use Rattle.w16_model.specs.Single.{Enters}
+use Rattle.w16_model.specs.OneObject.{Enters}
 use Rattle.w16_model.specs.Handles.{Handles, IsFreeSlot, handle_of}
 use Rattle.w16_model.specs.Calls.{GlobalAllocs, has_flag, kind_asked, way_asked, rounded_size}
 use Rattle.w16_selectors.specs.Descriptors as selectors
-use Rattle.w16_selectors.specs.Descriptors.{IsFree}
+use Rattle.w16_selectors.specs.Descriptors.{IsUntaken}
 use Rattle.w16_global.specs.Parts.{Holding}
 use Rattle.w16_global.specs.Joined.{handles_of, AreJoined}
 use Rattle.w16_global.proofs.Joined.{free_slot, free_selector}
 use Rattle.w16_arena.proofs.Unmoved.{unmoved}
 use Rattle.w16_model.proofs.Prefixes.{none_about}
 
-module _ {h : Holding} {xs : List (Option Attributes)} {t : selectors.Table} {m : ℕ} {w : Handles} (are : AreJoined h xs t) (shown : handles_of h xs m ≡ w) where
+module _ {h : Holding} {xs : List (Option Attributes)} {t : selectors.DescriptorTable} {m : ℕ} {w : Handles} (are : AreJoined h xs t) (shown : handles_of h xs m ≡ w) where
   -- a free slot of the selectors is one of the handles
-  pub found_free : (r : Option ℕ) → IfSome r (λ slot. IsFree t slot) → IfSome r (λ slot. IsFreeSlot w slot)
+  pub found_free : (r : Option ℕ) → IfSome r (λ slot. IsUntaken t slot) → IfSome r (λ slot. IsFreeSlot w slot)
   found_free None free = tt
   found_free (Some slot) free = subst (λ v. IsFreeSlot v slot) shown (free_slot h xs t are slot free)
 
   -- and where there is none, none is free
-  pub none_free : (r : Option ℕ) → IfNone r ((slot : ℕ) → IsFree t slot → ⊥) → IfNone r ((slot : ℕ) → IsFreeSlot w slot → ⊥)
+  pub none_free : (r : Option ℕ) → IfNone r ((slot : ℕ) → IsUntaken t slot → ⊥) → IfNone r ((slot : ℕ) → IsFreeSlot w slot → ⊥)
   none_free (Some slot) none = tt
   none_free None none = λ slot free. none slot (free_selector h xs t are slot (subst (λ v. IsFreeSlot v slot) (sym shown) free))
 

@@ -28,7 +28,7 @@ module _ (memory slots : ℕ) (few : slots ≤ MOST_SLOTS) where
   abbrev attributes : List (Option Attributes)
   attributes = replicate (FIRST_SLOT + slots) None
 
-  abbrev table : selectors.Table
+  abbrev table : selectors.DescriptorTable
   table = replicate (FIRST_SLOT + slots) None
 
   handles_are : handles_of holding attributes 0 ≡ empty_handles memory slots
@@ -47,7 +47,7 @@ module _ (memory slots : ℕ) (few : slots ≤ MOST_SLOTS) where
   }
 
   -- the parts that were made
-  module _ (h : Holding) (xs : List (Option Attributes)) (t : selectors.Table) (h_is : h ≡ record { cap = FIRST_SLOT + slots; heap = empty_heap 0 memory GRAIN; discarded = [] }) (xs_is : xs ≡ replicate (FIRST_SLOT + slots) None) where
+  module _ (h : Holding) (xs : List (Option Attributes)) (t : selectors.DescriptorTable) (h_is : h ≡ record { cap = FIRST_SLOT + slots; heap = empty_heap 0 memory GRAIN; discarded = [] }) (xs_is : xs ≡ replicate (FIRST_SLOT + slots) None) where
     pub begin_joined : t ≡ replicate (FIRST_SLOT + slots) None → AreJoined h xs t
     begin_joined t_is = subst (λ t. AreJoined h xs t) (sym t_is) (subst (λ xs. AreJoined h xs table) (sym xs_is) (subst (λ h. AreJoined h attributes table) (sym h_is) joined))
 

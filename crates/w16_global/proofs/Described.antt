@@ -6,10 +6,12 @@ use Rattle.w16_model.specs.declared.Kind.{Kind}
 use Rattle.w16_model.specs.declared.Refusal.{Refusal}
 use Rattle.w16_model.specs.declared.Refusal.TheVariants as refusals
 use Rattle.w16_model.specs.Heap.{Heap, Object, object_at, bytes_at, is_fixed}
-use Rattle.w16_model.specs.Edit.{with_object, with_ordered, removed, touched}
-use Rattle.w16_model.specs.Single.{after_lock, after_unlock, after_free}
-use Rattle.w16_model.specs.Far.{after_write, with_slice}
-use Rattle.w16_model.proofs.Kept.{inserted_here, inserted_other, taken_here, taken_other}
+use Rattle.w16_model.specs.Changes.{with_object, with_ordered, removed, touched}
+use Rattle.w16_model.specs.OneObject.{after_lock, after_unlock, after_free}
+use Rattle.w16_model.specs.Bytes.{put_part}
+use Rattle.w16_model.specs.Far.{after_write}
+use Rattle.w16_model.proofs.Parts.{length-put_part}
+use Rattle.w16_model.proofs.KeptHeaps.{inserted_here, inserted_other, taken_here, taken_other}
 use Rattle.w16_model.proofs.Heaps.{get-update_same, get-update_other}
 use Rattle.w16_selectors.specs.Descriptors.{unset}
 use Rattle.w16_selectors.specs.declared.Descriptor.{Descriptor}
@@ -115,18 +117,18 @@ module _ (heap : Heap) (slot : ℕ) where
   -- bytes written over others
   pub write_same : (at : ℕ) (slice bytes : List ℕ) (o : Object) → object_at heap slot ≡ Some o → o.bytes ≡ Some bytes → at + length slice ≤ length bytes → (q : ℕ) → described (after_write heap slot at slice) q ≡ described heap q
   write_same at slice bytes o there has inside q =
-      let written : Object = record o { bytes = option_map (λ (b : List ℕ). with_slice b at slice) o.bytes } in
-      let long : length (with_slice bytes at slice) ≡ length bytes = simp (length-append, length-take, length-drop) (omega arith) in
+      let written : Object = record o { bytes = option_map (λ (b : List ℕ). put_part b at slice) o.bytes } in
+      let long : length (put_part bytes at slice) ≡ length bytes = length-put_part bytes at slice inside in
       let same : descriptor_for heap slot written ≡ descriptor_for heap slot o =
-      ap (λ (b : Option (List ℕ)). descriptor_for heap slot (record o { bytes = option_map (λ (b : List ℕ). with_slice b at slice) b })) has
+      ap (λ (b : Option (List ℕ)). descriptor_for heap slot (record o { bytes = option_map (λ (b : List ℕ). put_part b at slice) b })) has
       ∙ (λ i. record { base = unwrap_or (finmap.get heap.places slot) 0; limit = long i - 1; present = true; kind = Data })
       ∙ sym (ap (λ (b : Option (List ℕ)). descriptor_for heap slot (record o { bytes = b })) has) in
       elim (cases_eq q slot) [
-        | inl e ↦ ap (option_map (descriptor_for heap q)) (ap (λ k. object_at (after_write heap slot at slice) k) e ∙ get-update_same heap.objects slot (λ (o : Object). record o { bytes = option_map (λ (b : List ℕ). with_slice b at slice) o.bytes })
-            ∙ ap (option_map (λ (o : Object). record o { bytes = option_map (λ (b : List ℕ). with_slice b at slice) o.bytes })) there)
+        | inl e ↦ ap (option_map (descriptor_for heap q)) (ap (λ k. object_at (after_write heap slot at slice) k) e ∙ get-update_same heap.objects slot (λ (o : Object). record o { bytes = option_map (λ (b : List ℕ). put_part b at slice) o.bytes })
+            ∙ ap (option_map (λ (o : Object). record o { bytes = option_map (λ (b : List ℕ). put_part b at slice) o.bytes })) there)
             ∙ ap (λ k. Some (descriptor_for heap k written)) e ∙ ap Some same
             ∙ sym (ap (λ k. option_map (descriptor_for heap k) (object_at heap k)) e ∙ ap (option_map (descriptor_for heap slot)) there)
-        | inr n ↦ ap (option_map (descriptor_for heap q)) (get-update_other heap.objects slot (λ (o : Object). record o { bytes = option_map (λ (b : List ℕ). with_slice b at slice) o.bytes }) q n)
+        | inr n ↦ ap (option_map (descriptor_for heap q)) (get-update_other heap.objects slot (λ (o : Object). record o { bytes = option_map (λ (b : List ℕ). put_part b at slice) o.bytes }) q n)
       ]
 
   -- a new object with bytes at an address

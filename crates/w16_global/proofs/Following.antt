@@ -6,7 +6,7 @@ use Rattle.std.proofs.lemmas.Bool.Decides.{nat_tests}
 use Rattle.std.proofs.lemmas.List.{get_or-set_same, get_or-set_other}
 use Rattle.w16_model.specs.declared.Block.{Block}
 use Rattle.w16_model.specs.Gap.{Misses, block_end}
-use Rattle.w16_model.specs.Heap.{Heap, Object, IsHeap, object_at, bytes_at, hold_of}
+use Rattle.w16_model.specs.Heap.{Heap, Object, IsHeap, object_at, bytes_at, hold_of_object}
 use Rattle.w16_model.proofs.Heaps.{IsBlockOf}
 use Rattle.w16_model.proofs.Places.{two_placed}
 use Rattle.w16_selectors.specs.Descriptors as selectors
@@ -18,7 +18,7 @@ use Rattle.w16_global.proofs.Described.{made_here}
 use Rattle.w16_global.proofs.Reach.{stands}
 
 -- what `followed` is by an address, if there is one
-abbrev followed_by : Heap → ℕ → ℕ → selectors.Table → ℕ → Option ℕ → Option Descriptor
+abbrev followed_by : Heap → ℕ → ℕ → selectors.DescriptorTable → ℕ → Option ℕ → Option Descriptor
 followed_by heap from to table slot p = elim p [
   | None ↦ descriptor_at table slot
   | Some at ↦ if nat_le from at && nat_lt at to then described heap slot else descriptor_at table slot
@@ -47,7 +47,7 @@ found_at heap slot at size sized stands = of_object (object_at heap slot) refl s
 -- two objects with bytes at one place are one
 abbrev block_for : (heap : Heap) (slot at size : ℕ) → Found heap slot at size → (x : Block) × IsBlockOf heap x × (x.id ≡ slot) × (x.at ≡ at) × (x.size ≡ size)
 block_for heap slot at size f = (
-  record { id = slot; at = at; size = size; hold = hold_of f.object },
+  record { id = slot; at = at; size = size; hold = hold_of_object f.object },
   record { object = f.object; bytes = f.bytes; is_there = f.there; has_bytes = f.has; place = sym (ap (λ (p : Option ℕ). unwrap_or p 0) f.stands); size = sym f.long; hold = refl },
   refl,
   refl,
@@ -68,10 +68,10 @@ one_place heap is slot other at size more some some_too f g n =
 stands_filled : (heap : Heap) → IsHeap heap → (slot : ℕ) (o : Object) (bytes : List ℕ) → object_at heap slot ≡ Some o → o.bytes ≡ Some bytes → 0 < length bytes
 stands_filled heap is slot o bytes there has = let s = stands heap is slot o bytes there has in s.some
 
-module _ (heap : Heap) (is : IsHeap heap) (old : selectors.Table) (begin from : ℕ) (block : Block) (above : begin ≤ from) (at_least : from ≤ block.at) (some : 0 < block.size)
+module _ (heap : Heap) (is : IsHeap heap) (old : selectors.DescriptorTable) (begin from : ℕ) (block : Block) (above : begin ≤ from) (at_least : from ≤ block.at) (some : 0 < block.size)
     (placed : finmap.get heap.places block.id ≡ Some block.at) (sized : option_map (length {A = ℕ}) (bytes_at heap block.id) ≡ Some block.size)
     (lowest : (q : ℕ) → IfSome (finmap.get heap.places q) (λ at. (at < from) ⊎ (block.at ≤ at)))
-    (now : selectors.Table) (so_far : (slot : ℕ) → descriptor_at now slot ≡ followed heap begin from old slot) where
+    (now : selectors.DescriptorTable) (so_far : (slot : ℕ) → descriptor_at now slot ≡ followed heap begin from old slot) where
   f : Found heap block.id block.at block.size
   f = found_at heap block.id block.at block.size sized placed
 
@@ -125,12 +125,12 @@ module _ (heap : Heap) (is : IsHeap heap) (old : selectors.Table) (begin from : 
           ap (followed_by heap begin from old slot) there ∙ ap (λ b. if b then described heap slot else descriptor_at old slot) (same_test at (strictly at n there low)) ∙ sym (ap (followed_by heap begin (block.at + 1) old slot) there)
 
 -- a slot that is taken is in the table
-pub in_table : (t : selectors.Table) (slot : ℕ) → is_some (descriptor_at t slot) ≡ true → slot < length t
+pub in_table : (t : selectors.DescriptorTable) (slot : ℕ) → is_some (descriptor_at t slot) ≡ true → slot < length t
 in_table [] slot e = absurd (false≢true e)
 in_table (d ∷ t) zero e = omega arith
 in_table (d ∷ t) (suc slot) e = let rest : slot < length t = in_table t slot e in omega arith
 
 -- a table that was set
-pub set_is : (after table : selectors.Table) (block : Block) (d : Descriptor) → after ≡ set table block.id (Some d) → d ≡ record { base = block.at; limit = block.size - 1; present = true; kind = Data }
+pub set_is : (after table : selectors.DescriptorTable) (block : Block) (d : Descriptor) → after ≡ set table block.id (Some d) → d ≡ record { base = block.at; limit = block.size - 1; present = true; kind = Data }
     → (slot : ℕ) → descriptor_at after slot ≡ descriptor_at (set table block.id (Some (record { base = block.at; limit = block.size - 1; present = true; kind = Data }))) slot
-set_is after table block d is says slot = ap (λ (t : selectors.Table). descriptor_at t slot) is ∙ (λ i. descriptor_at (set table block.id (Some (says i))) slot)
+set_is after table block d is says slot = ap (λ (t : selectors.DescriptorTable). descriptor_at t slot) is ∙ (λ i. descriptor_at (set table block.id (Some (says i))) slot)

@@ -5,7 +5,7 @@ use Rattle.std.proofs.lemmas.Bool.{false≢true, cases_eq, cases_Bool}
 use Rattle.std.proofs.lemmas.List.{get_or-set_same, get_or-set_other}
 use Rattle.std.proofs.lemmas.List.Folds.{list_any-append}
 use Rattle.w16_model.specs.declared.Kind.TheVariants.{Discardable}
-use Rattle.w16_model.specs.Prefix.{is_member, eligible}
+use Rattle.w16_model.specs.Discards.{is_member, eligible}
 use Rattle.w16_model.specs.Heap.{Heap, Object, IsHeap, object_at, blocks}
 use Rattle.w16_model.specs.Law.{KeepsOthers}
 use Rattle.w16_model.proofs.Gaps.{Each-from, All-from_Each}
@@ -16,7 +16,7 @@ use Rattle.w16_selectors.specs.declared.Descriptor.{Descriptor}
 use Rattle.w16_global.specs.Joined.{descriptor_for, described, followed, forgotten}
 
 -- one selector more
-pub forgets_one : (ids : List ℕ) (id : ℕ) (old now : selectors.Table) → id < length now → ((slot : ℕ) → descriptor_at now slot ≡ forgotten ids old slot)
+pub forgets_one : (ids : List ℕ) (id : ℕ) (old now : selectors.DescriptorTable) → id < length now → ((slot : ℕ) → descriptor_at now slot ≡ forgotten ids old slot)
     → (slot : ℕ) → descriptor_at (set now id (Some unset)) slot ≡ forgotten (ids ++ id ∷ []) old slot
 forgets_one ids id old now lt so_far slot = elim (cases_eq slot id) [
   | inl e ↦ ap (descriptor_at (set now id (Some unset))) e ∙ get_or-set_same now id (Some unset) None lt
@@ -34,7 +34,7 @@ forgets_one ids id old now lt so_far slot = elim (cases_eq slot id) [
     or_false false = refl
 
 -- a selector that was taken still is
-pub still_taken : (ids : List ℕ) (old now : selectors.Table) (id : ℕ) → ((slot : ℕ) → descriptor_at now slot ≡ forgotten ids old slot) → is_some (descriptor_at old id) ≡ true → is_some (descriptor_at now id) ≡ true
+pub still_taken : (ids : List ℕ) (old now : selectors.DescriptorTable) (id : ℕ) → ((slot : ℕ) → descriptor_at now slot ≡ forgotten ids old slot) → is_some (descriptor_at old id) ≡ true → is_some (descriptor_at now id) ≡ true
 still_taken ids old now id so_far known = ap is_some (so_far id) ∙ either (is_member id ids)
   where
     either : (b : Bool) → is_some (if b then Some unset else descriptor_at old id) ≡ true
@@ -42,7 +42,7 @@ still_taken ids old now id so_far known = ap is_some (so_far id) ∙ either (is_
     either false = known
 
 -- What each slot's selector says once objects were discarded and others have slid.
-module _ (old new : Heap) (is : IsHeap new) (h : Option ℕ) (k : ℕ) (keeps : KeepsOthers old h k new) (from to : ℕ) (table : selectors.Table) where
+module _ (old new : Heap) (is : IsHeap new) (h : Option ℕ) (k : ℕ) (keeps : KeepsOthers old h k new) (from to : ℕ) (table : selectors.DescriptorTable) where
   abbrev ids : List ℕ
   ids = take k (eligible (blocks old) old.order h)
 
@@ -62,7 +62,7 @@ module _ (old new : Heap) (is : IsHeap new) (h : Option ℕ) (k : ℕ) (keeps : 
           ∙ says ∙ sym (ap (option_map (descriptor_for new q)) f.3)
 
 -- an object that was discarded was there, so its slot has a descriptor
-pub each_discarded : (old new : Heap) (h : Option ℕ) (k : ℕ) → KeepsOthers old h k new → (table : selectors.Table) → ((q : ℕ) → descriptor_at table q ≡ described old q) → All (λ id. is_some (descriptor_at table id) ≡ true) (take k (eligible (blocks old) old.order h))
+pub each_discarded : (old new : Heap) (h : Option ℕ) (k : ℕ) → KeepsOthers old h k new → (table : selectors.DescriptorTable) → ((q : ℕ) → descriptor_at table q ≡ described old q) → All (λ id. is_some (descriptor_at table id) ≡ true) (take k (eligible (blocks old) old.order h))
 each_discarded old new h k keeps table describes = All-from_Each (λ id. is_some (descriptor_at table id) ≡ true) (take k (eligible (blocks old) old.order h))
     (Each-from (λ id. is_some (descriptor_at table id) ≡ true) (take k (eligible (blocks old) old.order h)) (λ q m. ap is_some (describes q) ∙ there q (object_at old q) (keeps.discarded q (true-is_member q (take k (eligible (blocks old) old.order h)) m))))
   where

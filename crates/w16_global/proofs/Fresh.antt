@@ -4,19 +4,19 @@ use Rattle.std.specs.Ordering.{nat_cmp}
 use Rattle.std.specs.FinMap.{get-empty}
 use Rattle.std.proofs.lemmas.List.{length-replicate}
 use Rattle.std.proofs.lemmas.List.Elements.{All-replicate}
-use Rattle.w16_region.specs.Bytes.{repeated}
+use Rattle.w16_model.specs.Bytes.{repeated}
 use Rattle.w16_model.specs.declared.Entry.{Entry}
 use Rattle.w16_model.specs.declared.TheConstants.{GRAIN}
 use Rattle.w16_model.specs.Heap.{empty_heap}
 use Rattle.w16_model.specs.Table.{object_in, heap_in}
-use Rattle.w16_arena.specs.State.{State, empty_table}
+use Rattle.w16_arena.specs.State.{ArenaState, empty_table}
 use Rattle.w16_arena.proofs.Lookups.{same_heap, object_here, place_here}
 use Rattle.w16_arena.proofs.Fresh.{sound, no_entry}
 use Rattle.w16_global.specs.Parts.{AreParts, holding_of}
 use Rattle.w16_global.proofs.Written.{beside}
 
 module _ (cap memory : ℕ) (few : cap ≤ 8192) where
-  abbrev fresh : State
+  abbrev fresh : ArenaState
   fresh = record { table = empty_table cap 0 memory GRAIN; discarded = [] }
 
   pub fresh_parts : AreParts (record { table = empty_table cap 0 memory GRAIN; discarded = [] }) (repeated memory 0)

@@ -10,9 +10,9 @@ use Rattle.w16_model.specs.declared.TheConstants.{FIRST_SLOT}
 use Rattle.w16_model.specs.Heap.{Heap, Object, object_at}
 use Rattle.w16_model.specs.Handles.{AreHandles, IsSlot, IsFreeSlot}
 use Rattle.w16_model.proofs.Tables.{get-by_id}
-use Rattle.w16_model.proofs.Kept.{inserted_here, inserted_other, taken_here, taken_other}
+use Rattle.w16_model.proofs.KeptHeaps.{inserted_here, inserted_other, taken_here, taken_other}
 use Rattle.w16_selectors.specs.Descriptors as selectors
-use Rattle.w16_selectors.specs.Descriptors.{descriptor_at, IsFree}
+use Rattle.w16_selectors.specs.Descriptors.{descriptor_at, IsUntaken}
 use Rattle.w16_selectors.specs.declared.Descriptor.{Descriptor}
 use Rattle.w16_global.specs.Parts.{Holding}
 use Rattle.w16_global.specs.Joined.{attributes_in, handles_of, descriptor_for, described, AreJoined}
@@ -56,7 +56,7 @@ nothing : {X : Type 0} (o : Option X) → is_some o ≡ false → o ≡ None
 nothing None h = refl
 nothing (Some x) h = absurd (false≢true (sym h))
 
-module _ (holding : Holding) (attributes : List (Option Attributes)) (table : selectors.Table) (are : AreJoined holding attributes table) where
+module _ (holding : Holding) (attributes : List (Option Attributes)) (table : selectors.DescriptorTable) (are : AreJoined holding attributes table) where
   -- where each slot's descriptor is what it was
   pub joined_same : (new : Holding) → new.cap ≡ holding.cap → AreHandles (handles_of new attributes 0) → ((q : ℕ) → described new.heap q ≡ described holding.heap q) → AreJoined new attributes table
   joined_same new cap handles same = record {
@@ -68,7 +68,7 @@ module _ (holding : Holding) (attributes : List (Option Attributes)) (table : se
   }
 
   -- and where one slot's is another
-  pub joined_set : (new : Holding) (slot : ℕ) (a : Option Attributes) (d : Option Descriptor) (after : selectors.Table) → new.cap ≡ holding.cap → AreHandles (handles_of new (set attributes slot a) 0)
+  pub joined_set : (new : Holding) (slot : ℕ) (a : Option Attributes) (d : Option Descriptor) (after : selectors.DescriptorTable) → new.cap ≡ holding.cap → AreHandles (handles_of new (set attributes slot a) 0)
       → ((q : ℕ) → q ≢ slot → described new.heap q ≡ described holding.heap q) → described new.heap slot ≡ d
       → length after ≡ length table → get_or after slot None ≡ d → ((q : ℕ) → q ≢ slot → get_or after q None ≡ get_or table q None) → AreJoined new (set attributes slot a) after
   joined_set new slot a d after cap handles same here many there others = record {
@@ -83,14 +83,14 @@ module _ (holding : Holding) (attributes : List (Option Attributes)) (table : se
   }
 
   -- a slot is free just where its selector is
-  pub free_slot : (slot : ℕ) → IsFree table slot → IsFreeSlot (handles_of holding attributes 0) slot
+  pub free_slot : (slot : ℕ) → IsUntaken table slot → IsFreeSlot (handles_of holding attributes 0) slot
   free_slot slot free =
       let many = are.selectors_many in
       let some = are.some in
       let gone : is_some (object_at holding.heap slot) ≡ false = sym (described_some holding.heap slot) ∙ ap is_some (sym (are.described slot) ∙ free.2) in
       ((free.0, (let below = free.1 in omega arith)), nothing (object_at holding.heap slot) gone)
 
-  pub free_selector : (slot : ℕ) → IsFreeSlot (handles_of holding attributes 0) slot → IsFree table slot
+  pub free_selector : (slot : ℕ) → IsFreeSlot (handles_of holding attributes 0) slot → IsUntaken table slot
   free_selector slot free =
       let many = are.selectors_many in
       let some = are.some in

@@ -7,10 +7,10 @@ use Rattle.w16_model.specs.declared.Kind.{Kind}
 use Rattle.w16_model.specs.declared.Refusal.{Refusal}
 use Rattle.w16_model.specs.declared.TheConstants.{FIRST_SLOT}
 use Rattle.w16_model.specs.Heap.{Heap, IsHeap, object_at}
-use Rattle.w16_model.specs.Edit.{with_object, removed, touched, newest, oldest}
-use Rattle.w16_model.specs.Single.{Enters, after_lock, after_unlock, after_free, after_touch, after_newest, after_oldest, refused_order}
+use Rattle.w16_model.specs.Changes.{with_object, removed, touched, newest, oldest}
+use Rattle.w16_model.specs.OneObject.{Enters, after_lock, after_unlock, after_free, after_touch, after_newest, after_oldest, refused_order}
 use Rattle.w16_model.specs.Handles.{Handles, AreHandles, IsFreeSlot}
-use Rattle.w16_model.proofs.Kept.{touched_heap, newest_heap, oldest_heap, ordered}
+use Rattle.w16_model.proofs.KeptHeaps.{touched_heap, newest_heap, oldest_heap, ordered}
 use Rattle.w16_model.proofs.KeptHandles.{other_handles, lock_ok, unlock_ok, without_object, with_absent_object, Kept}
 use Rattle.w16_selectors.specs.Descriptors as selectors
 use Rattle.w16_selectors.specs.Descriptors.{descriptor_at, unset}
@@ -24,12 +24,12 @@ good : (r : Result Heap Refusal) (P : Heap → Type 0) (heap : Heap) → IfOk r 
 good (Ok x) P heap h e = subst P (let same : x ≡ heap = cc in same) h
 good (Err x) P heap h e = cc
 
-module _ {h : Holding} {xs : List (Option Attributes)} {t : selectors.Table} {m : ℕ} {w : Handles} (are : AreJoined h xs t) (shown : handles_of h xs m ≡ w) where
+module _ {h : Holding} {xs : List (Option Attributes)} {t : selectors.DescriptorTable} {m : ℕ} {w : Handles} (are : AreJoined h xs t) (shown : handles_of h xs m ≡ w) where
   -- a slot's attributes are the handles's
   pub attributes_shown : (slot : ℕ) → get_or xs slot None ≡ finmap.get w.attributes slot
   attributes_shown slot = sym (attributes_at xs slot) ∙ ap (λ (v : Handles). finmap.get v.attributes slot) shown
 
-module _ {h : Holding} {xs : List (Option Attributes)} {t : selectors.Table} (are : AreJoined h xs t) (new : Holding) (cap : new.cap ≡ h.cap) where
+module _ {h : Holding} {xs : List (Option Attributes)} {t : selectors.DescriptorTable} (are : AreJoined h xs t) (new : Holding) (cap : new.cap ≡ h.cap) where
   -- another heap under the same attributes
   same_slots : record (handles_of h xs 0) { heap = new.heap } ≡ handles_of new xs 0
   same_slots = λ i. record { slots = sym cap i - FIRST_SLOT; heap = new.heap; attributes = attributes_in xs; moved = 0 }
@@ -91,17 +91,17 @@ module _ {h : Holding} {xs : List (Option Attributes)} {t : selectors.Table} (ar
       (λ i. record { slots = cap i - FIRST_SLOT; heap = new.heap; attributes = attributes_unset xs slot left i; moved = m }) ∙ ap (λ (v : Handles). record v { heap = new.heap; attributes = finmap.remove v.attributes slot }) shown,
     )
 
-    pub released_joined : (after : selectors.Table) → after ≡ set t slot None → AreJoined new (set xs slot None) after
+    pub released_joined : (after : selectors.DescriptorTable) → after ≡ set t slot None → AreJoined new (set xs slot None) after
     released_joined after is = joined_set h xs t are new slot None None after cap
         (subst AreHandles ((λ i. record { slots = sym cap i - FIRST_SLOT; heap = gone i; attributes = sym (attributes_unset xs slot left) i; moved = 0 })) (without_object (handles_of h xs 0) are.handles slot))
         (λ q n. ap (λ (k : Heap). described k q) (sym gone) ∙ removed_other h.heap slot q n)
         (ap (λ (k : Heap). described k slot) (sym gone) ∙ removed_here h.heap slot)
         (ap length is ∙ length-set t slot None)
-        (ap (λ (l : selectors.Table). get_or l slot None) is ∙ get_or-set_same t slot None None (subst (λ n. slot < n) (sym are.selectors_many) (slot_there h xs t are slot there).1))
-        (λ q n. ap (λ (l : selectors.Table). get_or l q None) is ∙ get_or-set_other t slot q None None n)
+        (ap (λ (l : selectors.DescriptorTable). get_or l slot None) is ∙ get_or-set_same t slot None None (subst (λ n. slot < n) (sym are.selectors_many) (slot_there h xs t are slot there).1))
+        (λ q n. ap (λ (l : selectors.DescriptorTable). get_or l q None) is ∙ get_or-set_other t slot q None None n)
 
 -- A free slot gets an object.
-module _ {h : Holding} {xs : List (Option Attributes)} {t : selectors.Table} (are : AreJoined h xs t) (new : Holding) (cap : new.cap ≡ h.cap) (slot : ℕ) (a : Attributes)
+module _ {h : Holding} {xs : List (Option Attributes)} {t : selectors.DescriptorTable} (are : AreJoined h xs t) (new : Holding) (cap : new.cap ≡ h.cap) (slot : ℕ) (a : Attributes)
     {m : ℕ} {w : Handles} (shown : handles_of h xs m ≡ w) (known : IsFreeSlot w slot) where
   free : IsFreeSlot (handles_of h xs m) slot
   free = subst (λ v. IsFreeSlot v slot) (sym shown) known
@@ -124,7 +124,7 @@ module _ {h : Holding} {xs : List (Option Attributes)} {t : selectors.Table} (ar
       ∙ ap (λ (v : Handles). record v { heap = new.heap; attributes = finmap.insert v.attributes slot a }) shown
 
   -- an absent one
-  pub entered_joined : (kind : Kind) (after : selectors.Table) → new.heap ≡ with_object h.heap slot (record { kind = kind; locks = 0; bytes = None }) → after ≡ set t slot (Some unset) → AreJoined new (set xs slot (Some a)) after
+  pub entered_joined : (kind : Kind) (after : selectors.DescriptorTable) → new.heap ≡ with_object h.heap slot (record { kind = kind; locks = 0; bytes = None }) → after ≡ set t slot (Some unset) → AreJoined new (set xs slot (Some a)) after
   entered_joined kind after is taken =
       let entered : Heap = with_object h.heap slot (record { kind = kind; locks = 0; bytes = None }) in
       let enters : Enters h.heap slot kind entered = record { unused = free.1; entered = refl } in
@@ -133,5 +133,5 @@ module _ {h : Holding} {xs : List (Option Attributes)} {t : selectors.Table} (ar
       (λ q n. ap (λ (k : Heap). described k q) is ∙ entered_other h.heap slot kind q n)
       (ap (λ (k : Heap). described k slot) is ∙ entered_here h.heap slot kind)
       (ap length taken ∙ length-set t slot (Some unset))
-      (ap (λ (l : selectors.Table). get_or l slot None) taken ∙ get_or-set_same t slot (Some unset) None in_table)
-      (λ q n. ap (λ (l : selectors.Table). get_or l q None) taken ∙ get_or-set_other t slot q (Some unset) None n)
+      (ap (λ (l : selectors.DescriptorTable). get_or l slot None) taken ∙ get_or-set_same t slot (Some unset) None in_table)
+      (λ q n. ap (λ (l : selectors.DescriptorTable). get_or l q None) taken ∙ get_or-set_other t slot q (Some unset) None n)

@@ -6,15 +6,15 @@ use Rattle.w16_model.specs.declared.Kind.{Kind}
 use Rattle.w16_model.specs.declared.TheConstants.{GRAIN}
 use Rattle.w16_model.specs.Heap.{Heap, IsHeap, object_at, bytes_at}
 use Rattle.w16_model.specs.Table.{block_with, entry_at, heap_in}
-use Rattle.w16_model.specs.Single.{Enters}
-use Rattle.w16_model.specs.Edit.{with_object}
-use Rattle.w16_arena.specs.State.{State, Steps, IsSameRange, entry_of}
+use Rattle.w16_model.specs.OneObject.{Enters}
+use Rattle.w16_model.specs.Changes.{with_object}
+use Rattle.w16_arena.specs.State.{ArenaState, Steps, IsSameRange, entry_of}
 use Rattle.w16_arena.proofs.Lookups.{is_heap, entry_is, size_here, place_here, ends_in_memory, no_entry, no_block}
 use Rattle.w16_global.specs.Parts.{AreParts, Holding, holding_of}
 use Rattle.w16_global.proofs.Written.{beside}
 
 -- another table over the same range, and a memory as long
-pub parts_after : {s : State} {memory : List ℕ} → AreParts s memory → {new : State} {after : List ℕ} → IsSameRange s.table new.table → length after ≡ length memory → All (λ b. b < 256) after → AreParts new after
+pub parts_after : {s : ArenaState} {memory : List ℕ} → AreParts s memory → {new : ArenaState} {after : List ℕ} → IsSameRange s.table new.table → length after ≡ length memory → All (λ b. b < 256) after → AreParts new after
 parts_after parts range long bytes = record {
   sound = range.sound;
   low = range.lo ∙ parts.low;
@@ -24,12 +24,12 @@ parts_after parts range long bytes = record {
   few = let n = range.ids in let few = parts.few in omega arith;
 }
 
-module _ {s : State} {memory : List ℕ} (parts : AreParts s memory) where
+module _ {s : ArenaState} {memory : List ℕ} (parts : AreParts s memory) where
   pub whole : s.table.hi ≤ length memory
   whole = let e = parts.high in omega arith
 
   -- a step that asks for no room
-  pub parts_stepped : {new : State} {step : Heap → Heap → Type 0} → Steps s new step → AreParts new memory
+  pub parts_stepped : {new : ArenaState} {step : Heap → Heap → Type 0} → Steps s new step → AreParts new memory
   parts_stepped p = parts_after parts p.range refl parts.bytes
 
   module _ {h : Holding} (shown : holding_of s memory ≡ h) where
@@ -69,9 +69,9 @@ module _ {s : State} {memory : List ℕ} (parts : AreParts s memory) where
     no_block_known id free = no_block (beside parts) id (no_entry_known id free)
 
     -- the value after a step whose heap is known
-    pub holding_stepped : {new : State} {step : Heap → Heap → Type 0} → Steps s new step → (heap : Heap) → heap_in new.table memory ≡ heap → holding_of new memory ≡ record h { heap = heap }
+    pub holding_stepped : {new : ArenaState} {step : Heap → Heap → Type 0} → Steps s new step → (heap : Heap) → heap_in new.table memory ≡ heap → holding_of new memory ≡ record h { heap = heap }
     holding_stepped {new} p heap is =
-        (λ i. record { cap = p.range.ids i; heap = is i; discarded = ap (λ (z : State). z.discarded) p.rest i }) ∙ ap (λ (h : Holding). record h { heap = heap }) shown
+        (λ i. record { cap = p.range.ids i; heap = is i; discarded = ap (λ (z : ArenaState). z.discarded) p.rest i }) ∙ ap (λ (h : Holding). record h { heap = heap }) shown
 
     -- The lowest block at or above an address.
     module _ (from : ℕ) (small : length memory < 2 ^ 32) (found : Option Block) where
@@ -112,7 +112,7 @@ module _ {s : State} {memory : List ℕ} (parts : AreParts s memory) where
           turn (Some b) f = let end = ends_in_memory (beside parts) b.id b f.1 in (end.0, omega (arith, end.1, small))
 
     -- an absent object that was entered
-    pub entered_shown : {new : State} (id : ℕ) {kind : Kind} → Steps s new (λ a b. Enters a id kind b) → holding_of new memory ≡ record h { heap = with_object h.heap id (record { kind = kind; locks = 0; bytes = None }) }
+    pub entered_shown : {new : ArenaState} (id : ℕ) {kind : Kind} → Steps s new (λ a b. Enters a id kind b) → holding_of new memory ≡ record h { heap = with_object h.heap id (record { kind = kind; locks = 0; bytes = None }) }
     entered_shown {new} id {kind} p =
         holding_stepped p (heap_in new.table memory) refl
         ∙ (λ i. record h { heap = (p.heaps memory whole).entered i }) ∙ ap (λ (k : Holding). record h { heap = with_object k.heap id (record { kind = kind; locks = 0; bytes = None }) }) shown

@@ -7,7 +7,7 @@ use Rattle.w16_model.specs.declared.Block.{Block}
 use Rattle.w16_model.specs.declared.FarFault.{FarFault}
 use Rattle.w16_model.specs.declared.FarFault.TheVariants.{BadSelector, ReadOnly, NotPresent, Limit}
 use Rattle.w16_model.specs.Gap.{block_end}
-use Rattle.w16_model.specs.Heap.{Heap, Object, IsHeap, IsMultiple, blocks, object_at, bytes_at, hold_of}
+use Rattle.w16_model.specs.Heap.{Heap, Object, IsHeap, IsMultiple, blocks, object_at, bytes_at, hold_of_object}
 use Rattle.w16_model.specs.Handles.{Handles, slot_of_selector, selector_of}
 use Rattle.w16_model.specs.Far.{far_fault, far_slot}
 use Rattle.w16_model.proofs.Gaps.{Each-at, Each-from_All}
@@ -29,7 +29,7 @@ pub record Stands (heap : Heap) (place : ℕ) (bytes : List ℕ) : Type 0 where
 
 pub stands : (heap : Heap) → IsHeap heap → (slot : ℕ) (o : Object) (bytes : List ℕ) → object_at heap slot ≡ Some o → o.bytes ≡ Some bytes → Stands heap (unwrap_or (finmap.get heap.places slot) 0) bytes
 stands heap is slot o bytes there has =
-    let x : Block = record { id = slot; at = unwrap_or (finmap.get heap.places slot) 0; size = length bytes; hold = hold_of o } in
+    let x : Block = record { id = slot; at = unwrap_or (finmap.get heap.places slot) 0; size = length bytes; hold = hold_of_object o } in
     let of : IsBlockOf heap x = record { object = o; bytes = bytes; is_there = there; has_bytes = has; place = refl; size = refl; hold = refl } in
     let lies : (heap.lo ≤ x.at) × (0 < x.size) × (block_end x ≤ heap.hi) = Each-at (λ (y : Block). (heap.lo ≤ y.at) × (0 < y.size) × (block_end y ≤ heap.hi)) (blocks heap) (Each-from_All _ (blocks heap) is.placed.inside) x (block_member heap x of) in
     let grains : IsMultiple heap.grain x.at × IsMultiple heap.grain x.size = Each-at (λ (y : Block). IsMultiple heap.grain y.at × IsMultiple heap.grain y.size) (blocks heap) (Each-from_All _ (blocks heap) is.grained) x (block_member heap x of) in
@@ -58,7 +58,7 @@ bytes_fault end b = elim b [ None ↦ Some NotPresent | Some bytes ↦ limit_fau
 abbrev slot_fault : Handles → ℕ → Option ℕ → Option FarFault
 slot_fault w end s = elim s [ None ↦ Some BadSelector | Some slot ↦ bytes_fault end (bytes_at w.heap slot) ]
 
-module _ (holding : Holding) (attributes : List (Option Attributes)) (table : selectors.Table) (moved : ℕ) (are : AreJoined holding attributes table) where
+module _ (holding : Holding) (attributes : List (Option Attributes)) (table : selectors.DescriptorTable) (moved : ℕ) (are : AreJoined holding attributes table) where
   abbrev handles : Handles
   handles = handles_of holding attributes moved
 
@@ -179,7 +179,7 @@ longer_fault w selector offset n m fault le = at_slot (slot_of_selector w select
     at_slot (Some slot) h = at_bytes (bytes_at w.heap slot) h
 
 -- The address or the first fault of an access, by that of as many bytes, or of 4,294,967,295 where there are more.
-module _ {h : Holding} {xs : List (Option Attributes)} {t : selectors.Table} {m : ℕ} {w : Handles} (are : AreJoined h xs t) (shown : handles_of h xs m ≡ w) (write : Bool) (selector offset n count : ℕ) (count_is : count ≡ min n 4294967295) where
+module _ {h : Holding} {xs : List (Option Attributes)} {t : selectors.DescriptorTable} {m : ℕ} {w : Handles} (are : AreJoined h xs t) (shown : handles_of h xs m ≡ w) (write : Bool) (selector offset n count : ℕ) (count_is : count ≡ min n 4294967295) where
   told : (r : Result ℕ FarFault) → r ≡ place_of t selector offset count write → Tells w selector offset count r
   told r is = subst (λ v. Tells v selector offset count r) shown (subst (Tells (handles_of h xs m) selector offset count) (sym is) (resolved h xs t m are are.handles.heap write selector offset count))
 

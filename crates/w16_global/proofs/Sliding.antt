@@ -8,12 +8,12 @@ use Rattle.w16_model.specs.declared.Kind.{Kind}
 use Rattle.w16_model.specs.declared.Way.{Way}
 use Rattle.w16_model.specs.declared.TheConstants.{FIRST_SLOT}
 use Rattle.w16_model.specs.Heap.{Heap, Object, IsHeap, blocks, object_at, bytes_at}
-use Rattle.w16_model.specs.Edit.{with_newest, with_ordered}
+use Rattle.w16_model.specs.Changes.{with_newest, with_ordered}
 use Rattle.w16_model.specs.Request.{Allocates, AreNew, Compacts, IsNew, MakesRoom, Request, Settles, compaction_prefix, discarded, most_room, prefix_of, stays_for, moved_bytes}
 use Rattle.w16_model.specs.declared.Kind.TheVariants.{Discardable}
-use Rattle.w16_model.specs.Prefix.{eligible, is_member}
+use Rattle.w16_model.specs.Discards.{eligible, is_member}
 use Rattle.w16_model.specs.Law.{KeepsOthers}
-use Rattle.w16_model.proofs.Kept.{inserted_here}
+use Rattle.w16_model.proofs.KeptHeaps.{inserted_here}
 use Rattle.w16_model.proofs.Others.{others_law}
 use Rattle.w16_arena.specs.Asked.{HasDiscarded, first_eligible}
 use Rattle.w16_model.specs.Handles.{Handles, AreHandles, IsFreeSlot}
@@ -33,7 +33,7 @@ use Rattle.w16_global.proofs.Forgotten.{gone_says, each_discarded, still_taken, 
 abbrev pub StandStill : Heap → Heap → ℕ → ℕ → ℕ → Type 0
 StandStill old new from to q = IfSome (finmap.get new.places q) (λ at. ((at < from) ⊎ (to ≤ at)) → finmap.get old.places q ≡ Some at)
 
-module _ (old new : Heap) (is : IsHeap new) (from to : ℕ) (table : selectors.Table) (q : ℕ) (object : object_at new q ≡ object_at old q) (says : descriptor_at table q ≡ described old q) where
+module _ (old new : Heap) (is : IsHeap new) (from to : ℕ) (table : selectors.DescriptorTable) (q : ℕ) (object : object_at new q ≡ object_at old q) (says : descriptor_at table q ≡ described old q) where
   -- an object without a place says no address
   nowhere : finmap.get new.places q ≡ None → described new q ≡ described old q
   nowhere none = turn (object_at old q) refl
@@ -80,14 +80,14 @@ module _ (old new : Heap) (is : IsHeap new) (from to : ℕ) (table : selectors.T
       turn (Some at) there h = ap (by_place from to) there ∙ test at there h (nat_le from at) (nat_lt at to) refl refl
 
 -- the table after, by what was said so far
-followed_other : (heap : Heap) (from to : ℕ) (t u : selectors.Table) (q : ℕ) → descriptor_at t q ≡ descriptor_at u q → followed heap from to t q ≡ followed heap from to u q
+followed_other : (heap : Heap) (from to : ℕ) (t u : selectors.DescriptorTable) (q : ℕ) → descriptor_at t q ≡ descriptor_at u q → followed heap from to t q ≡ followed heap from to u q
 followed_other heap from to t u q same = ap (λ (d : Option Descriptor). elim (finmap.get heap.places q) as (λ _. Option Descriptor) [
   | None ↦ d
   | Some at ↦ if nat_le from at && nat_lt at to then described heap q else d
 ]) same
 
 -- Each slot's selector says what it has to, once some objects were discarded, and others have slid.
-says_all : (old new : Heap) → IsHeap new → (about : Option ℕ) (k : ℕ) → KeepsOthers old about k new → (from to : ℕ) (t told : selectors.Table) (ids : List ℕ) → ids ≡ take k (eligible (blocks old) old.order about)
+says_all : (old new : Heap) → IsHeap new → (about : Option ℕ) (k : ℕ) → KeepsOthers old about k new → (from to : ℕ) (t told : selectors.DescriptorTable) (ids : List ℕ) → ids ≡ take k (eligible (blocks old) old.order about)
     → ((q : ℕ) → descriptor_at told q ≡ forgotten ids t q) → ((q : ℕ) → descriptor_at t q ≡ described old q) → (q : ℕ) → about ≢ Some q → StandStill old new from to q → followed new from to told q ≡ described new q
 says_all old new is about k keeps from to t told ids ids_is forgot describes q other still = elim (cases_Bool (is_member q (take k (eligible (blocks old) old.order about)))) [
   | inl gone ↦ gone_says old new is about k keeps from to told q gone (forgot q ∙ ap (λ b. if b then Some unset else descriptor_at t q) (ap (is_member q) ids_is ∙ gone))
@@ -97,7 +97,7 @@ says_all old new is about k keeps from to t told ids ids_is forgot describes q o
 ]
 
 -- Each object has a descriptor before others are discarded and slide.
-pub each_known : {h : Holding} {xs : List (Option Attributes)} {t : selectors.Table} → AreJoined h xs t → (slot : ℕ) → is_some (object_at h.heap slot) ≡ true → is_some (descriptor_at t slot) ≡ true
+pub each_known : {h : Holding} {xs : List (Option Attributes)} {t : selectors.DescriptorTable} → AreJoined h xs t → (slot : ℕ) → is_some (object_at h.heap slot) ≡ true → is_some (descriptor_at t slot) ≡ true
 each_known {h} {xs} {t} are slot there = ap is_some (are.described slot) ∙ described_some h.heap slot ∙ there
 
 -- what an answered request was
@@ -107,7 +107,7 @@ granted old h way None Asked order new r = absurd (false≢true (sym r.0))
 granted old h way (Some k) Asked order new r = (k, refl, r.1.0, r.1.1, r.1.2)
 
 -- An object with bytes in a free slot, for which others may have been discarded or have slid.
-module _ {h : Holding} {xs : List (Option Attributes)} {t : selectors.Table} (are : AreJoined h xs t) (new : Holding) (cap : new.cap ≡ h.cap) (slot : ℕ) (a : Attributes)
+module _ {h : Holding} {xs : List (Option Attributes)} {t : selectors.DescriptorTable} (are : AreJoined h xs t) (new : Holding) (cap : new.cap ≡ h.cap) (slot : ℕ) (a : Attributes)
     {m : ℕ} {w : Handles} (shown : handles_of h xs m ≡ w) (known : IsFreeSlot w slot) where
   free : IsFreeSlot (handles_of h xs m) slot
   free = subst (λ v. IsFreeSlot v slot) (sym shown) known
@@ -142,8 +142,8 @@ module _ {h : Holding} {xs : List (Option Attributes)} {t : selectors.Table} (ar
         long None f = absurd f
         long (Some b) f = f.0
 
-    pub allocated_joined : (at from to : ℕ) (after : selectors.Table) → ((q : ℕ) → q ≢ slot → StandStill h.heap new.heap from to q) → finmap.get new.heap.places slot ≡ Some at
-        → (told first second : selectors.Table) → ((q : ℕ) → descriptor_at told q ≡ forgotten new.discarded t q) → length told ≡ length t
+    pub allocated_joined : (at from to : ℕ) (after : selectors.DescriptorTable) → ((q : ℕ) → q ≢ slot → StandStill h.heap new.heap from to q) → finmap.get new.heap.places slot ≡ Some at
+        → (told first second : selectors.DescriptorTable) → ((q : ℕ) → descriptor_at told q ≡ forgotten new.discarded t q) → length told ≡ length t
         → first ≡ set told slot (Some unset) → ((q : ℕ) → descriptor_at second q ≡ followed new.heap from to first q) → length second ≡ length first
         → after ≡ set second slot (Some (record { base = at; limit = n - 1; present = true; kind = Data })) → AreJoined new (set xs slot (Some a)) after
     allocated_joined at from to after still placed told first second forgot many_told first_is follows many_second taken =
@@ -153,11 +153,11 @@ module _ {h : Holding} {xs : List (Option Attributes)} {t : selectors.Table} (ar
           handles = subst AreHandles (λ i. record { slots = sym cap i - FIRST_SLOT; heap = new.heap; attributes = sym (attributes_set xs slot a within) i; moved = 0 })
               (with_new_object (handles_of h xs 0) are.handles a slot s.0 s.2 (with_newest slot s.2) (stays_for slot way) new.heap free.0 s.4);
           described = λ q. elim (cases_eq q slot) [
-            | inl e ↦ ap (λ (l : selectors.Table). get_or l q None) taken ∙ ap (λ k. get_or (set second slot (Some d)) k None) e
+            | inl e ↦ ap (λ (l : selectors.DescriptorTable). get_or l q None) taken ∙ ap (λ k. get_or (set second slot (Some d)) k None) e
                 ∙ get_or-set_same second slot (Some d) None (subst (λ k. slot < k) (sym many) in_table)
                 ∙ sym (ap (λ k. described new.heap k) e ∙ made_here new.heap slot n at (bytes_at new.heap slot) refl sized placed)
-            | inr other ↦ ap (λ (l : selectors.Table). get_or l q None) taken ∙ get_or-set_other second slot q (Some d) None other ∙ follows q
-                ∙ followed_other new.heap from to first told q (ap (λ (l : selectors.Table). get_or l q None) first_is ∙ get_or-set_other told slot q (Some unset) None other)
+            | inr other ↦ ap (λ (l : selectors.DescriptorTable). get_or l q None) taken ∙ get_or-set_other second slot q (Some d) None other ∙ follows q
+                ∙ followed_other new.heap from to first told q (ap (λ (l : selectors.DescriptorTable). get_or l q None) first_is ∙ get_or-set_other told slot q (Some unset) None other)
                 ∙ says_all h.heap new.heap s.4.sound (Some slot) s.0 keeps from to t told new.discarded ids_are forgot are.described q (λ e. let same : slot ≡ q = cc in other (sym same)) (still q other)
           ];
           attributes_many = length-set xs slot (Some a) ∙ are.attributes_many ∙ sym cap;
@@ -166,7 +166,7 @@ module _ {h : Holding} {xs : List (Option Attributes)} {t : selectors.Table} (ar
         }
 
     -- what is free for it still is, once the others were told
-    pub slot_left : (told : selectors.Table) → ((q : ℕ) → descriptor_at told q ≡ forgotten new.discarded t q) → length told ≡ length t → selectors.IsFree told slot
+    pub slot_left : (told : selectors.DescriptorTable) → ((q : ℕ) → descriptor_at told q ≡ forgotten new.discarded t q) → length told ≡ length t → selectors.IsFree told slot
     slot_left told forgot many_told = (free.0.0, subst (λ k. slot < k) (sym many_told) in_table, unset_still)
       where
         not_its_own : is_member slot (take s.0 (eligible (blocks h.heap) h.heap.order (Some slot))) ≡ false
@@ -184,17 +184,17 @@ module _ {h : Holding} {xs : List (Option Attributes)} {t : selectors.Table} (ar
             ∙ are.described slot ∙ ap (option_map (descriptor_for h.heap slot)) free.1
 
     -- each object has a descriptor once the others were told, and its own is taken
-    pub known_told : (told first : selectors.Table) → ((q : ℕ) → descriptor_at told q ≡ forgotten new.discarded t q) → length told ≡ length t → first ≡ set told slot (Some unset)
+    pub known_told : (told first : selectors.DescriptorTable) → ((q : ℕ) → descriptor_at told q ≡ forgotten new.discarded t q) → length told ≡ length t → first ≡ set told slot (Some unset)
         → (q : ℕ) → is_some (object_at new.heap q) ≡ true → is_some (descriptor_at first q) ≡ true
     known_told told first forgot many_told first_is q there = elim (cases_eq q slot) [
-      | inl e ↦ ap (λ (l : selectors.Table). is_some (get_or l q None)) first_is ∙ ap (λ k. is_some (get_or (set told slot (Some unset)) k None)) e
+      | inl e ↦ ap (λ (l : selectors.DescriptorTable). is_some (get_or l q None)) first_is ∙ ap (λ k. is_some (get_or (set told slot (Some unset)) k None)) e
           ∙ ap is_some (get_or-set_same told slot (Some unset) None (subst (λ k. slot < k) (sym many_told) in_table))
-      | inr other ↦ ap (λ (l : selectors.Table). is_some (get_or l q None)) first_is ∙ ap is_some (get_or-set_other told slot q (Some unset) None other)
+      | inr other ↦ ap (λ (l : selectors.DescriptorTable). is_some (get_or l q None)) first_is ∙ ap is_some (get_or-set_other told slot q (Some unset) None other)
           ∙ still_taken new.discarded t told q forgot (each_known are q (was_there h.heap new.heap (Some slot) s.0 keeps q (λ e. let same : slot ≡ q = cc in other (sym same)) there))
     ]
 
     -- and the new one has it still once selectors have followed
-    pub known_followed : (from to : ℕ) (told first second : selectors.Table) → ((q : ℕ) → descriptor_at told q ≡ forgotten new.discarded t q) → length told ≡ length t → first ≡ set told slot (Some unset)
+    pub known_followed : (from to : ℕ) (told first second : selectors.DescriptorTable) → ((q : ℕ) → descriptor_at told q ≡ forgotten new.discarded t q) → length told ≡ length t → first ≡ set told slot (Some unset)
         → ((q : ℕ) → descriptor_at second q ≡ followed new.heap from to first q) → is_some (descriptor_at second slot) ≡ true
     known_followed from to told first second forgot many_told first_is follows = ap is_some (follows slot) ∙ by_place (finmap.get new.heap.places slot)
       where
@@ -213,7 +213,7 @@ module _ {h : Holding} {xs : List (Option Attributes)} {t : selectors.Table} (ar
         by_place (Some at) = either (nat_le from at && nat_lt at to)
 
 -- and where objects were discarded and have slid, and no other thing changed
-module _ {h : Holding} {xs : List (Option Attributes)} {t : selectors.Table} (are : AreJoined h xs t) (new : Holding) (cap : new.cap ≡ h.cap) (n answer : ℕ) (compacted : Compacts h.heap n answer new.heap)
+module _ {h : Holding} {xs : List (Option Attributes)} {t : selectors.DescriptorTable} (are : AreJoined h xs t) (new : Holding) (cap : new.cap ≡ h.cap) (n answer : ℕ) (compacted : Compacts h.heap n answer new.heap)
     (listed : 0 < n → new.discarded ≡ first_eligible h.heap (compaction_prefix h.heap n) None) (unlisted : n ≡ 0 → new.discarded ≡ []) where
   handles : AreHandles (record (handles_of h xs 0) { heap = new.heap; moved = moved_bytes h.heap new.heap })
   handles = compacted_handles (handles_of h xs 0) are.handles n answer (record (handles_of h xs 0) { heap = new.heap; moved = moved_bytes h.heap new.heap }) (record { compacted = compacted; rest = refl })
@@ -234,10 +234,10 @@ module _ {h : Holding} {xs : List (Option Attributes)} {t : selectors.Table} (ar
   compaction_known = subst (All (λ id. is_some (descriptor_at t id) ≡ true)) (sym kept.1) (each_discarded h.heap new.heap None kept.0 kept.2 t are.described)
 
   -- each object has a descriptor once the others were told
-  pub known_left : (told : selectors.Table) → ((q : ℕ) → descriptor_at told q ≡ forgotten new.discarded t q) → (q : ℕ) → is_some (object_at new.heap q) ≡ true → is_some (descriptor_at told q) ≡ true
+  pub known_left : (told : selectors.DescriptorTable) → ((q : ℕ) → descriptor_at told q ≡ forgotten new.discarded t q) → (q : ℕ) → is_some (object_at new.heap q) ≡ true → is_some (descriptor_at told q) ≡ true
   known_left told forgot q there = still_taken new.discarded t told q forgot (each_known are q (was_there h.heap new.heap None kept.0 kept.2 q (λ e. cc) there))
 
-  pub compacted_joined : (from to : ℕ) (told after : selectors.Table) → ((q : ℕ) → StandStill h.heap new.heap from to q) → ((q : ℕ) → descriptor_at told q ≡ forgotten new.discarded t q) → length told ≡ length t
+  pub compacted_joined : (from to : ℕ) (told after : selectors.DescriptorTable) → ((q : ℕ) → StandStill h.heap new.heap from to q) → ((q : ℕ) → descriptor_at told q ≡ forgotten new.discarded t q) → length told ≡ length t
       → ((q : ℕ) → descriptor_at after q ≡ followed new.heap from to told q) → length after ≡ length told → AreJoined new xs after
   compacted_joined from to told after still forgot many_told follows many = record {
     handles = subst AreHandles (λ i. record { slots = sym cap i - FIRST_SLOT; heap = new.heap; attributes = attributes_in xs; moved = 0 }) (moved_handles (record (handles_of h xs 0) { heap = new.heap; moved = moved_bytes h.heap new.heap }) handles 0);
@@ -261,5 +261,5 @@ compacted_known h xs m {w} shown new cap n answer moved compacted is = subst (λ
   rest = λ i. record { slots = cap i - FIRST_SLOT; heap = new.heap; attributes = attributes_in xs; moved = is i };
 })
 
-pub table_few : {h : Holding} {xs : List (Option Attributes)} {t : selectors.Table} → AreJoined h xs t → length t ≤ 8192
+pub table_few : {h : Holding} {xs : List (Option Attributes)} {t : selectors.DescriptorTable} → AreJoined h xs t → length t ≤ 8192
 table_few {h} {xs} {t} are = let some = are.some in let few = are.handles.few in omega (arith, are.selectors_many)

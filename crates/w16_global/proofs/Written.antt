@@ -3,34 +3,33 @@ use Rattle.std.proofs.Common.{◌≡◌, ◌≢◌, ℕ, ◌+◌, ◌-◌, ◌<�
 use Rattle.std.specs.FinMap as finmap
 use Rattle.std.proofs.lemmas.Bool.{cases_eq}
 use Rattle.std.proofs.lemmas.List.{drop-take, take-take, drop-drop, drop-append-le, length-take-le}
-use Rattle.std.proofs.lemmas.List.Elements.{All-replicate}
 use Rattle.std.proofs.Math.Seq.{take-append-add}
 use Rattle.w16_model.specs.declared.Block.{Block}
 use Rattle.w16_model.specs.declared.Entry.{Entry}
 use Rattle.w16_model.specs.Heap.{Heap, Object, object_at, bytes_at}
-use Rattle.w16_model.specs.Far.{slice_at, with_slice, after_write}
+use Rattle.w16_model.specs.Far.{after_write}
 use Rattle.w16_model.specs.Table.{Table, block_with, object_in, heap_in}
 use Rattle.w16_model.proofs.Gaps.{Member}
 use Rattle.w16_model.proofs.Heaps.{get-update_same, get-update_other}
 use Rattle.w16_model.proofs.Laid.{laid_placed}
 use Rattle.w16_model.proofs.Starts.{two}
 use Rattle.w16_model.proofs.Tables.{member_with, length_range}
-use Rattle.w16_region.specs.Bytes.{put_part, repeated, length-put_part}
+use Rattle.w16_model.specs.Bytes.{part, put_part}
+use Rattle.w16_model.proofs.Parts.{length-put_part, range_apart, All-put_part}
 use Rattle.w16_blocks.specs.Layout.{Layout}
-use Rattle.w16_arena.specs.State.{State}
+use Rattle.w16_arena.specs.State.{ArenaState}
 use Rattle.w16_arena.proofs.Parts as arena
 use Rattle.w16_global.specs.Parts.{AreParts, Holding, HasPart, holding_of}
 use Rattle.w16_arena.proofs.Lookups.{object_here, place_here, bytes_here, ends_in_memory, same_heap}
-use Rattle.w16_region.proofs.Parts.{range_apart, All-put_part}
 
 -- a part of a range is one of the whole list
-slice_of_range : (m : List ℕ) (p s at n : ℕ) → at + n ≤ s → slice_at (slice_range m p (p + s)) at n ≡ take n (drop (p + at) m)
+slice_of_range : (m : List ℕ) (p s at n : ℕ) → at + n ≤ s → part (slice_range m p (p + s)) at n ≡ take n (drop (p + at) m)
 slice_of_range m p s at n le =
     let size : p + s - p ≡ at + (s - at) = omega arith in
     ap (λ k. take n (drop at (take k (drop p m)))) size ∙ ap (take n) (drop-take at (s - at) (drop p m)) ∙ take-take n (s - at) (drop at (drop p m)) (omega arith) ∙ ap (take n) (drop-drop at p m)
 
 -- n elements of a list with a part replaced
-take_put : (xs : List ℕ) (at n : ℕ) (new : List ℕ) → at + length new ≤ n → n ≤ length xs → take n (put_part xs at new) ≡ with_slice (take n xs) at new
+take_put : (xs : List ℕ) (at n : ℕ) (new : List ℕ) → at + length new ≤ n → n ≤ length xs → take n (put_part xs at new) ≡ put_part (take n xs) at new
 take_put xs at n new le len =
     let k : ℕ = length new in
     let r : ℕ = n - (at + k) in
@@ -42,7 +41,7 @@ take_put xs at n new le len =
     let front_too : take at (take n xs) ≡ take at xs = take-take at n xs (omega arith) in
     let behind : drop (at + k) (take n xs) ≡ take r (drop k (drop at xs)) =
     ap (λ j. drop (at + k) (take j xs)) (sym whole) ∙ drop-take (at + k) r xs ∙ ap (take r) (sym (drop-drop k at xs)) in
-    left ∙ sym (append_assoc (take at xs) new (take r (drop k (drop at xs)))) ∙ (λ i. sym front_too i ++ new ++ sym behind i)
+    left ∙ (λ i. sym front_too i ++ (new ++ sym (drop-drop k at (take n xs) ∙ behind) i))
 
 -- what is behind a place before the part
 drop_put : (m : List ℕ) (p at : ℕ) (new : List ℕ) → p + at ≤ length m → drop p (put_part m (p + at) new) ≡ put_part (drop p m) at new
@@ -54,15 +53,10 @@ drop_put m p at new le =
 
 -- in a range around the part it is replaced too
 slice_of_put_same : (m : List ℕ) (p s at : ℕ) (new : List ℕ) → at + length new ≤ s → p + s ≤ length m
-    → slice_range (put_part m (p + at) new) p (p + s) ≡ with_slice (slice_range m p (p + s)) at new
+    → slice_range (put_part m (p + at) new) p (p + s) ≡ put_part (slice_range m p (p + s)) at new
 slice_of_put_same m p s at new le len =
     let behind : length (drop p m) ≡ length m - p = length-drop p m in
     ap (take (p + s - p)) (drop_put m p at new (omega arith)) ∙ take_put (drop p m) at (p + s - p) new (omega arith) (omega arith)
-
--- copies of a byte are bytes
-pub All-repeated : (n byte : ℕ) → byte < 256 → All (λ b. b < 256) (repeated n byte)
-unfolding repeated
-All-repeated n byte lt = All-replicate (λ b. b < 256) n byte lt
 
 -- the bytes at a block
 abbrev bytes_of : List ℕ → Block → List ℕ
@@ -72,11 +66,11 @@ bytes_of memory x = slice_range memory x.at (x.at + x.size)
 abbrev pub layout_in : Table → Layout
 layout_in t = record { cap = length t.entries; lo = t.lo; hi = t.hi; grain = t.grain; blocks = t.blocks }
 
-pub beside : {state : State} {memory : List ℕ} → AreParts state memory → arena.AreParts state.table.entries (layout_in state.table) state.table.order memory
+pub beside : {state : ArenaState} {memory : List ℕ} → AreParts state memory → arena.AreParts state.table.entries (layout_in state.table) state.table.order memory
 beside parts = record { sound = parts.sound; ids = refl; high = let e = parts.high in omega arith }
 
 -- A write into the memory leaves the parts sound.
-pub parts_written : {state : State} {memory : List ℕ} → AreParts state memory → (at : ℕ) (new : List ℕ) → at + length new ≤ length memory → All (λ b. b < 256) new → AreParts state (put_part memory at new)
+pub parts_written : {state : ArenaState} {memory : List ℕ} → AreParts state memory → (at : ℕ) (new : List ℕ) → at + length new ≤ length memory → All (λ b. b < 256) new → AreParts state (put_part memory at new)
 parts_written {memory = memory} parts at new le ours = record {
   sound = parts.sound;
   low = parts.low;
@@ -86,7 +80,7 @@ parts_written {memory = memory} parts at new le ours = record {
   few = parts.few;
 }
 
-module _ {state : State} {memory : List ℕ} (parts : AreParts state memory) (q : ℕ) where
+module _ {state : ArenaState} {memory : List ℕ} (parts : AreParts state memory) (q : ℕ) where
   -- Of the value that the parts stand for, where an id has a block.
   module _ {h : Holding} (shown : holding_of state memory ≡ h) {x : Block} (is : block_with state.table.blocks q ≡ Some x) where
     bytes_shown : bytes_at h.heap q ≡ Some (bytes_of memory x)
@@ -102,8 +96,8 @@ module _ {state : State} {memory : List ℕ} (parts : AreParts state memory) (q 
     in_memory at n has = let end = (ends_in_memory (beside parts) q x is).1 in let within = in_block at n has in omega (arith, end, within)
 
     -- what the memory has there is what the object has
-    pub seen : (at n : ℕ) → HasPart h.heap q at n → take n (drop (x.at + at) memory) ≡ slice_at (unwrap_or (bytes_at h.heap q) []) at n
-    seen at n has = sym (slice_of_range memory x.at x.size at n (in_block at n has)) ∙ sym (ap (λ (o : Option (List ℕ)). slice_at (unwrap_or o []) at n) bytes_shown)
+    pub seen : (at n : ℕ) → HasPart h.heap q at n → take n (drop (x.at + at) memory) ≡ part (unwrap_or (bytes_at h.heap q) []) at n
+    seen at n has = sym (slice_of_range memory x.at x.size at n (in_block at n has)) ∙ sym (ap (λ (o : Option (List ℕ)). part (unwrap_or o []) at n) bytes_shown)
 
   -- without a block there is no part
   pub no_part : {h : Holding} (shown : holding_of state memory ≡ h) → block_with state.table.blocks q ≡ None → (at n : ℕ) → HasPart h.heap q at n → ⊥
@@ -128,14 +122,14 @@ module _ {state : State} {memory : List ℕ} (parts : AreParts state memory) (q 
         ]
 
     -- the id has those that it had, with the new ones in their place
-    own_written : option_map (bytes_of (put_part memory at new)) (block_with state.table.blocks q) ≡ option_map (λ bytes. with_slice bytes (at - x.at) new) (option_map (bytes_of memory) (block_with state.table.blocks q))
+    own_written : option_map (bytes_of (put_part memory at new)) (block_with state.table.blocks q) ≡ option_map (λ bytes. put_part bytes (at - x.at) new) (option_map (bytes_of memory) (block_with state.table.blocks q))
     own_written =
         let there : x.at + (at - x.at) ≡ at = omega arith in
         let end = (ends_in_memory (beside parts) q x is).1 in
         ap (option_map (bytes_of (put_part memory at new))) is
         ∙ ap (λ k. Some (bytes_of (put_part memory k new) x)) (sym there)
         ∙ ap Some (slice_of_put_same memory x.at x.size (at - x.at) new (omega arith) end)
-        ∙ sym (ap (λ b. option_map (λ bytes. with_slice bytes (at - x.at) new) (option_map (bytes_of memory) b)) is)
+        ∙ sym (ap (λ b. option_map (λ bytes. put_part bytes (at - x.at) new) (option_map (bytes_of memory) b)) is)
 
     -- the heaps before and after it, and the object that it makes of one
     abbrev before : Heap
@@ -145,7 +139,7 @@ module _ {state : State} {memory : List ℕ} (parts : AreParts state memory) (q 
     after = heap_in state.table (put_part memory at new)
 
     abbrev written : Object → Object
-    written o = record o { bytes = option_map (λ bytes. with_slice bytes (at - x.at) new) o.bytes }
+    written o = record o { bytes = option_map (λ bytes. put_part bytes (at - x.at) new) o.bytes }
 
     -- so its object is the written one, and the others stay
     objects_written : (r : ℕ) → object_at after r ≡ object_at (after_write before q (at - x.at) new) r

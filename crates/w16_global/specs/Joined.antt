@@ -5,7 +5,7 @@ use Rattle.std.specs.FinMap as finmap
 use Rattle.std.specs.FinMap.{FinMap}
 use Rattle.w16_model.specs.declared.Attributes.{Attributes}
 use Rattle.w16_model.specs.declared.TheConstants.{FIRST_SLOT}
-use Rattle.w16_model.specs.Prefix.{is_member}
+use Rattle.w16_model.specs.Discards.{is_member}
 use Rattle.w16_model.specs.Heap.{Heap, Object, object_at}
 use Rattle.w16_model.specs.Table.{by_id}
 use Rattle.w16_model.specs.Handles.{Handles, AreHandles}
@@ -35,18 +35,18 @@ abbrev pub described : Heap → ℕ → Option Descriptor
 described heap slot = option_map (descriptor_for heap slot) (object_at heap slot)
 
 -- the table in which the selectors of the objects that begin in [from, to) say what they have to
-abbrev pub followed : Heap → ℕ → ℕ → selectors.Table → ℕ → Option Descriptor
+abbrev pub followed : Heap → ℕ → ℕ → selectors.DescriptorTable → ℕ → Option Descriptor
 followed heap from to table slot = elim (finmap.get heap.places slot) [
   | None ↦ descriptor_at table slot
   | Some at ↦ if nat_le from at && nat_lt at to then described heap slot else descriptor_at table slot
 ]
 
 -- the table in which the selectors of these ids say that their objects have no bytes
-abbrev pub forgotten : List ℕ → selectors.Table → ℕ → Option Descriptor
+abbrev pub forgotten : List ℕ → selectors.DescriptorTable → ℕ → Option Descriptor
 forgotten ids table slot = if is_member slot ids then Some unset else descriptor_at table slot
 
 -- what holds of them: they stand for a handles, whatever was moved last, and each selector says its object's base and limit
-pub record AreJoined (holding : Holding) (attributes : List (Option Attributes)) (table : selectors.Table) : Type 0 where
+pub record AreJoined (holding : Holding) (attributes : List (Option Attributes)) (table : selectors.DescriptorTable) : Type 0 where
   pub handles : AreHandles (handles_of holding attributes 0)
   pub described : (slot : ℕ) → descriptor_at table slot ≡ described holding.heap slot
   pub attributes_many : length attributes ≡ holding.cap

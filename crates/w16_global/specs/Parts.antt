@@ -2,10 +2,10 @@
 use Rattle.std.specs.Prelude.{◌≡◌, ℕ, ◌+◌, ◌<◌, ◌≤◌, List, length, All, IsSomeAnd, refl}
 use Rattle.std.specs.Coded.{Coded, code_by, coded×, coded_ℕ, coded_list}
 use Rattle.w16_model.specs.declared.TheConstants.{GRAIN}
-use Rattle.w16_model.specs.Code.{heap_code}
+use Rattle.w16_model.specs.Codes.{heap_code}
 use Rattle.w16_model.specs.Heap.{Heap, bytes_at}
 use Rattle.w16_model.specs.Table.{IsSound, heap_in}
-use Rattle.w16_arena.specs.State.{State}
+use Rattle.w16_arena.specs.State.{ArenaState}
 
 -- a heap, how many ids its objects may have, and the ids that its last request discarded
 pub record Holding : Type 0 where
@@ -18,11 +18,11 @@ abbrev pub holding_code : Coded Holding
 holding_code = code_by (ℕ × (Heap × List ℕ)) (coded× coded_ℕ (coded× heap_code (coded_list coded_ℕ))) (λ h. (h.cap, (h.heap, h.discarded))) (λ p. record { cap = p.0; heap = p.1.0; discarded = p.1.1 }) (λ _. refl)
 
 -- what an arena and a memory stand for
-abbrev pub holding_of : State → List ℕ → Holding
+abbrev pub holding_of : ArenaState → List ℕ → Holding
 holding_of state memory = record { cap = length state.table.entries; heap = heap_in state.table memory; discarded = state.discarded }
 
 -- what holds of them: the arena is over all of the memory, from 0 on, at multiples of the grain
-pub record AreParts (state : State) (memory : List ℕ) : Type 0 where
+pub record AreParts (state : ArenaState) (memory : List ℕ) : Type 0 where
   pub sound : IsSound state.table
   pub low : state.table.lo ≡ 0
   pub grain : state.table.grain ≡ GRAIN

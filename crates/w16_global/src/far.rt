@@ -1,5 +1,6 @@
 //! Far access: bytes at selector:offset. An access is checked once, by the selector's descriptor, and its bytes are then the object's.
-ghost use Rattle.std.specs.Prelude.{◌≡◌, ◌<◌, ◌^◌, Some, None, length, min, replicate, OnOk, OnErr, IfOk, IfErr};
+ghost use Rattle.std.specs.Prelude.{◌≡◌, ◌<◌, ◌^◌, Some, None, length, min, OnOk, OnErr, IfOk, IfErr};
+ghost use Rattle.w16_model.specs.Bytes.{repeated};
 ghost use Rattle.w16_model.specs.Far.{far_fault, far_slot};
 ghost use Rattle.w16_model.specs.Handles.{Gives};
 ghost use Rattle.w16_model.specs.Far as access;
@@ -56,8 +57,8 @@ impl Global16 {
 
     /// Writes one byte `n` times. It tells the first fault as `far_write` does.
     pub fn far_fill(&mut self, selector: u16, offset: u16, n: u32, byte: u8) -> Result<(), FarFault>
-        ensures ok { OnOk result (Gives (access.far_write self.old selector offset (replicate n byte)) access.FarAnswer.Done self.new) }
-        ensures err { IfErr result (λ fault. Gives (access.far_write self.old selector offset (replicate n byte)) (access.FarAnswer.Fault fault) self.new) }
+        ensures ok { OnOk result (Gives (access.far_write self.old selector offset (repeated n byte)) access.FarAnswer.Done self.new) }
+        ensures err { IfErr result (λ fault. Gives (access.far_write self.old selector offset (repeated n byte)) (access.FarAnswer.Fault fault) self.new) }
     {
         let slot = self.reach(selector, offset, n as usize, true)?;
         self.objects.fill(slot as u32, offset as u32, n, byte);

@@ -2,9 +2,9 @@
 ghost use Rattle.std.specs.Prelude.{◌≡◌, ◌≤◌, ◌<◌, IfOk, IfErr, OnOk, IsSome, Ok, Err, if◌then◌else◌};
 ghost use Rattle.std.specs.FinMap as finmap;
 ghost use Rattle.w16_model.specs.Heap.{Heap, object_at, IsMultiple};
-ghost use Rattle.w16_model.specs.Edit.{removed};
+ghost use Rattle.w16_model.specs.Changes.{removed};
 ghost use Rattle.w16_model.specs.Request.{Allocates, moved_bytes};
-ghost use Rattle.w16_model.specs.Single.{Enters, after_lock, after_unlock, after_free, after_newest, after_oldest, after_touch};
+ghost use Rattle.w16_model.specs.OneObject.{Enters, after_lock, after_unlock, after_free, after_newest, after_oldest, after_touch};
 ghost use Rattle.w16_model.specs.Handles.{IsFreeSlot, empty_handles};
 ghost use Rattle.w16_model.specs.Calls.{GlobalCompacts};
 
@@ -28,7 +28,7 @@ pub struct Global16 {
 
 impl Model for Global16 {
     ghost use Rattle.w16_model.specs.Handles.{Handles};
-    ghost use Rattle.w16_model.specs.Code.{handles_code};
+    ghost use Rattle.w16_model.specs.Codes.{handles_code};
     ghost use Rattle.w16_global.specs.Joined.{handles_of, AreJoined};
 
     ghost Value = { Handles };

@@ -2,12 +2,12 @@
 ghost use Rattle.std.specs.Prelude.{◌≡◌, ◌≢◌, ◌+◌, ◌-◌, ◌^◌, ◌<◌, ◌≤◌, ◌⊎◌, ℕ, [], Ok, Err, None, Some, length, IfOk, IfErr, OnOk, IfSome, IfNone, IsSomeAnd, option_map, unwrap_or, is_some, take};
 ghost use Rattle.std.specs.FinMap as finmap;
 ghost use Rattle.w16_model.specs.Heap.{IsHeap, object_at, bytes_at, empty_heap, IsMultiple};
-ghost use Rattle.w16_model.specs.Edit.{with_object};
+ghost use Rattle.w16_model.specs.Changes.{with_object};
 ghost use Rattle.w16_model.specs.Request.{Allocates, Compacts, compaction_prefix, moved_bytes};
-ghost use Rattle.w16_model.specs.Single.{after_free, after_lock, after_unlock, after_touch, after_newest, after_oldest};
-ghost use Rattle.w16_model.specs.Far.{slice_at, after_write};
+ghost use Rattle.w16_model.specs.OneObject.{after_free, after_lock, after_unlock, after_touch, after_newest, after_oldest};
+ghost use Rattle.w16_model.specs.Far.{after_write};
 ghost use Rattle.w16_model.specs.Walk.{IsFirstItem, by_its_id};
-ghost use Rattle.w16_region.specs.Bytes.{repeated};
+ghost use Rattle.w16_model.specs.Bytes.{part, repeated};
 ghost use Rattle.w16_arena.specs.State.{entry_of};
 ghost use Rattle.w16_arena.specs.Asked.{HasDiscarded, IsStill, first_eligible};
 ghost use Rattle.w16_global.specs.Parts.{HasPart};
@@ -195,7 +195,7 @@ impl Objects {
     /// A part of an object's bytes, from an offset on.
     pub fn part(&self, id: u32, at: u32, n: u32) -> &[u8]
         requires { HasPart self.now.heap id at n }
-        ensures { result.now ≡ slice_at (unwrap_or (bytes_at self.now.heap id) []) at n }
+        ensures { result.now ≡ part (unwrap_or (bytes_at self.now.heap id) []) at n }
     {
         let Some(block) = self.arena.block(id) else {
             unreachable!();

@@ -22,7 +22,7 @@ pub struct Kernel {
 
 impl Model for Kernel {
     ghost use Rattle.w16_machine.specs.World.{World};
-    ghost use Rattle.w16_machine.specs.Code.{world_code};
+    ghost use Rattle.w16_machine.specs.Codes.{world_code};
 
     ghost Value = { World };
 

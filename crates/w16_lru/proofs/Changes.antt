@@ -10,10 +10,10 @@ use Rattle.std.proofs.lemmas.List.Folds.{list_any_at}
 use Rattle.std.proofs.lemmas.Map.Made.{AllPairs-from_IsDistinct}
 use Rattle.std.proofs.lemmas.Option.{slice_get_within}
 use Rattle.indexmap.specs.IndexMap.{move_index}
-use Rattle.w16_model.specs.Prefix.{is_member}
-use Rattle.w16_model.specs.Edit.{without, newest, oldest}
+use Rattle.w16_model.specs.Discards.{is_member}
+use Rattle.w16_model.specs.Changes.{without, newest, oldest}
 use Rattle.w16_lru.specs.Uses.{Uses, AreUses}
-use Rattle.w16_lru.specs.Kept.{IsKept, uses_of, joined}
+use Rattle.w16_lru.specs.Representation.{IsKept, uses_of, joined}
 use Rattle.w16_lru.proofs.Edits.{take-remove_within, take-insert_last, take-insert_behind, slice_get_end, slice_get-take, move_index_at}
 use Rattle.w16_lru.proofs.Places.{AreApart, without-absent, remove-without, member-take}
 

@@ -6,7 +6,7 @@ use Rattle.std.proofs.lemmas.List.Folds.{list_any-append}
 use Rattle.std.proofs.lemmas.List.FromFn.{length-range_with_len, get_or-range_with_len}
 use Rattle.indexmap.specs.IndexSet.{insert_key}
 use Rattle.w16_lru.specs.Uses.{Uses}
-use Rattle.w16_lru.specs.Kept.{IsKept, uses_of}
+use Rattle.w16_lru.specs.Representation.{IsKept, uses_of}
 use Rattle.w16_lru.proofs.Changes.{same_uses}
 
 range_more : (a n b : ℕ) → a + n ≡ b → range_with_len a (suc n) ≡ range_with_len a n ++ b ∷ []

@@ -3,12 +3,12 @@ use Rattle.std.specs.List.{list_any}
 use Rattle.std.proofs.Common.{◌≡◌, ℕ, ◌+◌, ◌-◌, ◌<◌, ◌≤◌, false, nat_eq, List, [], ◌∷◌, ◌++◌, length, take, swap, slice_get, position, Some, None, refl, sym, ap, ◌∙◌, subst, arith, length-take-le}
 use Rattle.std.proofs.lemmas.Option.{slice_get_within, slice_get_past}
 use Rattle.indexmap.specs.IndexMap.{move_index}
-use Rattle.w16_model.specs.Prefix.{is_member}
-use Rattle.w16_model.specs.Edit.{without}
+use Rattle.w16_model.specs.Discards.{is_member}
+use Rattle.w16_model.specs.Changes.{without}
 use Rattle.w16_lru.specs.declared.End.{End}
 use Rattle.w16_lru.specs.declared.End.TheVariants.{Oldest, Newest}
 use Rattle.w16_lru.specs.Uses.{Uses, AreUses, at_end}
-use Rattle.w16_lru.specs.Kept.{IsKept, uses_of, joined, position_of}
+use Rattle.w16_lru.specs.Representation.{IsKept, uses_of, joined, position_of}
 use Rattle.w16_lru.proofs.Edits.{slice_get-take, take-swap}
 use Rattle.w16_lru.proofs.Places.{found_stands, absent-take, without-absent}
 use Rattle.w16_lru.proofs.Changes.{same_uses, AreUses-kept, without-joined, take-newest, take-oldest, take-removed, joined-member, joined-other, slice_get-joined, without-other}

@@ -4,8 +4,8 @@ use Rattle.std.proofs.Common.{◌≡◌, ℕ, zero, suc, Bool, true, false, cond
 use Rattle.std.proofs.lemmas.Bool.{false≢true, true≢false, ne_eqb, lt-ltb, le-ltb}
 use Rattle.std.proofs.lemmas.List.Quantifiers.{position-Some}
 use Rattle.std.proofs.lemmas.Option.{slice_get-get_or}
-use Rattle.w16_model.specs.Prefix.{is_member}
-use Rattle.w16_model.specs.Edit.{without}
+use Rattle.w16_model.specs.Discards.{is_member}
+use Rattle.w16_model.specs.Changes.{without}
 use Rattle.w16_model.proofs.Gaps.{EachPair, EachPair-from_AllPairs}
 
 abbrev pub AreApart : List ℕ → Type 0

@@ -1,2 +1,2 @@
 pub mod Uses
-pub mod Kept
+pub mod Representation

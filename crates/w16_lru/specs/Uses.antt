@@ -1,6 +1,6 @@
 -- The order of use: ids, each at most once, oldest first.
 use Rattle.std.specs.Prelude.{◌≡◌, ◌<◌, ℕ, List, All, AllPairs}
-use Rattle.w16_model.specs.Edit.{newest, oldest}
+use Rattle.w16_model.specs.Changes.{newest, oldest}
 use Rattle.w16_lru.specs.declared.End.{End}
 use Rattle.w16_lru.specs.declared.End.TheVariants.{Oldest, Newest}
 

@@ -2,8 +2,8 @@
 #![tactic(auto)]
 
 ghost use Rattle.std.specs.Prelude.{◌≡◌, ◌<◌, [], Some, length, slice_get, IfOk};
-ghost use Rattle.w16_model.specs.Edit.{newest, oldest, without};
-ghost use Rattle.w16_lru.specs.Kept.{joined, position_of};
+ghost use Rattle.w16_model.specs.Changes.{newest, oldest, without};
+ghost use Rattle.w16_lru.specs.Representation.{joined, position_of};
 ghost use Rattle.w16_lru.specs.Uses.{AreUses, at_end};
 
 #[cfg(test)]
@@ -31,7 +31,7 @@ pub struct Order {
 
 impl Model for Order {
     ghost use Rattle.w16_lru.specs.Uses.{Uses};
-    ghost use Rattle.w16_lru.specs.Kept.{IsKept, uses_of};
+    ghost use Rattle.w16_lru.specs.Representation.{IsKept, uses_of};
 
     ghost Value = { Uses };
 

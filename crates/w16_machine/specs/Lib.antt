@@ -1,4 +1,4 @@
 pub mod World
 pub mod Machine
-pub mod Code
+pub mod Codes
 pub mod Law

@@ -5,7 +5,7 @@ use Rattle.w16_model.specs.declared.FarFault.TheVariants.{BadSelector, NotPresen
 use Rattle.w16_model.specs.Heap.{Object, object_at, bytes_at}
 use Rattle.w16_model.specs.Handles.{Handles, slot_of_selector, selector_of}
 use Rattle.w16_model.specs.Far.{far_fault, far_slot}
-use Rattle.w16_model.proofs.Kept.{bytes_in}
+use Rattle.w16_model.proofs.KeptHeaps.{bytes_in}
 
 -- the slot of an access without a fault is its selector's
 pub slot_of_access : (handles : Handles) (selector offset n : ℕ) → far_fault handles selector offset n ≡ None → far_slot handles selector ≡ selector / 8

@@ -8,8 +8,8 @@ use Rattle.w16_model.specs.declared.Kind.{Kind}
 use Rattle.w16_model.specs.declared.Way.{Way}
 use Rattle.w16_model.specs.Gap.{is_pinned, longest_hole}
 use Rattle.w16_model.specs.Heap.{Heap, Object, IsMultiple, blocks, bytes_at}
-use Rattle.w16_model.specs.Prefix.{eligible, none_discarded_if, is_member, is_about, is_pinned_id}
-use Rattle.w16_model.specs.Edit.{absent, without, with_ordered, with_newest}
+use Rattle.w16_model.specs.Discards.{eligible, none_discarded_if, is_member, is_about, is_pinned_id}
+use Rattle.w16_model.specs.Changes.{absent, without, with_ordered, with_newest}
 use Rattle.w16_model.specs.Request.{discarded, prefix_of, stays_for, Settles, Request, IsNew, Allocates, is_elsewhere, moved_bytes}
 use Rattle.w16_model.proofs.Gaps.{Member, EachPair, Each-at, Each-from, Each-from_All, All-from_Each, EachPair-from_AllPairs, member_filter, filter_member, pairs_filter}
 use Rattle.w16_model.proofs.Members.{permutation_from}

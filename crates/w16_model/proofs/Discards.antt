@@ -4,11 +4,11 @@ use Rattle.std.proofs.lemmas.Bool.{false≢true, cases_Bool, and_parts, and_from
 use Rattle.w16_model.specs.declared.Block.{Block}
 use Rattle.w16_model.specs.Gap.{room, is_pinned}
 use Rattle.w16_model.specs.Heap.{Heap, blocks}
-use Rattle.w16_model.specs.Prefix.{eligible, room_for, is_member, is_about, is_pinned_id}
+use Rattle.w16_model.specs.Discards.{eligible, room_for, is_member, is_about, is_pinned_id}
 use Rattle.w16_model.specs.Law.{MoreDiscardsLaw}
 use Rattle.std.proofs.Common.{subst, arith}
 use Rattle.std.proofs.lemmas.Bool.{cases_lt}
-use Rattle.w16_model.specs.Edit.{absent}
+use Rattle.w16_model.specs.Changes.{absent}
 use Rattle.w16_model.specs.Request.{discarded}
 use Rattle.w16_model.proofs.Gaps.{Member, Each-from, member_filter, filter_member, pairs_filter}
 use Rattle.w16_model.proofs.Members.{permutation_from, room-permutation}

@@ -9,11 +9,11 @@ use Rattle.std.specs.FinMap.{FinMap, entries_sorted, get-entries, get-insert, ge
 use Rattle.std.specs.FinMap.Entries.{find, is_sorted, below_all}
 use Rattle.std.proofs.lemmas.Bool.{false≢true, cases_Bool, cases_eq}
 use Rattle.w16_model.specs.declared.Block.{Block}
-use Rattle.w16_model.specs.Heap.{Heap, Object, blocks, block_of, object_at, hold_of}
+use Rattle.w16_model.specs.Heap.{Heap, Object, blocks, block_of, object_at, hold_of_object}
 use Rattle.w16_model.proofs.Gaps.{EachPair, Member, Each-at, Each-from, EachPair-map}
 use Rattle.w16_model.proofs.Members.{AllDiffer, permutation_from}
 use Rattle.std.proofs.Common.{IsPermutation}
-use Rattle.w16_model.specs.Edit.{absent, update}
+use Rattle.w16_model.specs.Changes.{absent, update}
 
 pub tied : (q k : ℕ) → eq_by_cmp nat_cmp q k ≡ true → q ≡ k
 tied q k = turn (nat_lt q k) (q == k) (eqb-true q k)
@@ -74,7 +74,7 @@ pub record IsBlockOf (heap : Heap) (x : Block) : Type 0 where
   pub has_bytes : object.bytes ≡ Some bytes
   pub place : x.at ≡ unwrap_or (finmap.get heap.places x.id) 0
   pub size : x.size ≡ length bytes
-  pub hold : x.hold ≡ hold_of object
+  pub hold : x.hold ≡ hold_of_object object
 
 member_mapped : {X Y : Type 0} (f : X → Option Y) (xs : List X) (y : Y) → Member y (filter_map f xs) → (x : X) × Member x xs × (f x ≡ Some y)
 member_mapped f [] y m = absurd m
@@ -97,14 +97,14 @@ mapped_member {X} {Y} f (z ∷ xs) y x (inr m) e = turn (f z) (mapped_member f x
     turn (Some w) n = inr n
 
 abbrev block_from : FinMap nat_cmp ℕ → ℕ → Object → List ℕ → Block
-block_from places id o bytes = record { id = id; at = unwrap_or (finmap.get places id) 0; size = length bytes; hold = hold_of o }
+block_from places id o bytes = record { id = id; at = unwrap_or (finmap.get places id) 0; size = length bytes; hold = hold_of_object o }
 
 -- a block is one of a heap's just where the heap says it of it
 pub block_member : (heap : Heap) (x : Block) → IsBlockOf heap x → Member x (blocks heap)
 block_member heap x is =
     mapped_member (block_of heap.places) (finmap.entries heap.objects) x (x.id, is.object)
     (found_member (finmap.entries heap.objects) x.id is.object (sym (get-entries heap.objects x.id) ∙ is.is_there))
-    (ap (option_map (λ (bytes : List ℕ). record { id = x.id; at = unwrap_or (finmap.get heap.places x.id) 0; size = length bytes; hold = hold_of is.object })) is.has_bytes
+    (ap (option_map (λ (bytes : List ℕ). record { id = x.id; at = unwrap_or (finmap.get heap.places x.id) 0; size = length bytes; hold = hold_of_object is.object })) is.has_bytes
     ∙ ap Some (λ i. record { id = x.id; at = sym is.place i; size = sym is.size i; hold = sym is.hold i }))
 
 pub member_block : (heap : Heap) (x : Block) → Member x (blocks heap) → IsBlockOf heap x
@@ -112,12 +112,12 @@ member_block heap x m =
     let at : (e : ℕ × Object) × Member e (finmap.entries heap.objects) × (block_of heap.places e ≡ Some x) = member_mapped (block_of heap.places) (finmap.entries heap.objects) x m in
     from at.0.0 at.0.1 at.1 at.0.1.bytes refl at.2
   where
-    block_is : (id : ℕ) (o : Object) → option_map (λ (bytes : List ℕ). record { id = id; at = unwrap_or (finmap.get heap.places id) 0; size = length bytes; hold = hold_of o }) o.bytes ≡ Some x
+    block_is : (id : ℕ) (o : Object) → option_map (λ (bytes : List ℕ). record { id = id; at = unwrap_or (finmap.get heap.places id) 0; size = length bytes; hold = hold_of_object o }) o.bytes ≡ Some x
         → option_map (λ (bytes : List ℕ). block_from heap.places id o bytes) o.bytes ≡ Some x
     block_is id o h = h
 
     from : (id : ℕ) (o : Object) → Member (id, o) (finmap.entries heap.objects) → (b : Option (List ℕ)) → o.bytes ≡ b
-        → option_map (λ (bytes : List ℕ). record { id = id; at = unwrap_or (finmap.get heap.places id) 0; size = length bytes; hold = hold_of o }) o.bytes ≡ Some x → IsBlockOf heap x
+        → option_map (λ (bytes : List ℕ). record { id = id; at = unwrap_or (finmap.get heap.places id) 0; size = length bytes; hold = hold_of_object o }) o.bytes ≡ Some x → IsBlockOf heap x
     from id o n None e h = let none : ◌≡◌ {A = Option Block} None (Some x) = ap (option_map (λ (bytes : List ℕ). block_from heap.places id o bytes)) (sym e) ∙ block_is id o h in cc
     from id o n (Some bytes) e h =
         let y : Block = block_from heap.places id o bytes in

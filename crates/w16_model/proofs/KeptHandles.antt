@@ -1,10 +1,9 @@
 -- Each call and each far access keeps what holds of handles.
-use Rattle.std.proofs.Common.{◌≡◌, ◌≢◌, ℕ, ◌+◌, ◌-◌, ◌<◌, ◌≤◌, inl, inr, Bool, true, false, cond, not, ◌==◌, if◌then◌else◌, MatchBool, nat_lt, replicate, IfSome, IfOk, List, [], ◌∷◌, length, fold, take, All, Option, Some, None, Result, Ok, Err, option_map, is_some, unwrap_or, refl, sym, ap, ◌∙◌, subst, ltb-false}
+use Rattle.std.proofs.Common.{◌≡◌, ◌≢◌, ℕ, ◌+◌, ◌-◌, ◌<◌, ◌≤◌, inl, inr, Bool, true, false, cond, not, ◌==◌, if◌then◌else◌, MatchBool, nat_lt, IfSome, IfOk, List, [], ◌∷◌, length, fold, take, All, Option, Some, None, Result, Ok, Err, option_map, is_some, unwrap_or, refl, sym, ap, ◌∙◌, subst, ltb-false}
 use Rattle.std.specs.Ordering.{nat_cmp}
 use Rattle.std.specs.FinMap as finmap
 use Rattle.std.specs.FinMap.{FinMap}
 use Rattle.std.proofs.lemmas.Bool.{false≢true, cases_eq}
-use Rattle.std.proofs.lemmas.List.Elements.{All-replicate}
 use Rattle.w16_model.specs.declared.Block.{Block}
 use Rattle.w16_model.specs.declared.Way.{Way}
 use Rattle.w16_model.specs.declared.Refusal.{Refusal}
@@ -12,25 +11,27 @@ use Rattle.w16_model.specs.declared.Refusal.TheVariants as refusals
 use Rattle.w16_model.specs.declared.FarFault.{FarFault}
 use Rattle.w16_model.specs.declared.FarFault.TheVariants.{BadSelector, NotPresent, Limit}
 use Rattle.w16_model.specs.Gap.{is_pinned}
-use Rattle.w16_model.specs.Prefix.{eligible}
+use Rattle.w16_model.specs.Discards.{eligible}
 use Rattle.w16_model.specs.Heap.{Heap, Object, IsHeap, blocks, object_at, bytes_at, is_fixed}
-use Rattle.w16_model.specs.Edit.{absent, with_object, with_ordered, removed, newest, oldest, touched, update, with_newest}
+use Rattle.w16_model.specs.Changes.{absent, with_object, with_ordered, removed, newest, oldest, touched, update, with_newest}
 use Rattle.w16_model.specs.declared.Kind.{Kind}
 use Rattle.w16_model.specs.declared.TheConstants.{GMEM_DDESHARE}
-use Rattle.w16_model.specs.Single.{Enters, after_lock, after_unlock, after_free, after_touch, refused_order}
+use Rattle.w16_model.specs.OneObject.{Enters, after_lock, after_unlock, after_free, after_touch, refused_order}
 use Rattle.w16_model.specs.Request.{Request, Allocates, IsNew, Settles, MakesRoom, most_room, compaction_prefix, moved_bytes, discarded, stays_for, prefix_of}
 use Rattle.w16_model.specs.declared.Attributes.{Attributes}
 use Rattle.w16_model.specs.Handles.{Handles, AreHandles, IsSlot, IsFreeSlot, slot_of_handle, slot_of_selector, selector_of, far_pointer, selector_in, offset_in}
 use Rattle.w16_model.specs.Calls.{Answer, AnswersAlloc, GlobalCompacts, global_free, global_lock, global_unlock, handle_or_0, global_lru_newest, global_lru_oldest, locks_at, way_asked, kind_asked, rounded_size, is_absent_asked, has_flag}
 use Rattle.w16_model.specs.Calls.HandleCommand.{GlobalAlloc, GlobalFree, GlobalLock, GlobalUnlock, GlobalSize, GlobalFlags, GlobalHandle, GetSelectorBase, GetSelectorLimit, GlobalCompact, GlobalLRUNewest, GlobalLRUOldest, Moved, Walk}
 use Rattle.w16_model.specs.Calls.Answer.{Word, Dword, Walked}
-use Rattle.w16_model.specs.Far.{FarAnswer, far_fault, far_slot, far_bytes, slice_at, far_read, far_write, after_write, with_slice}
+use Rattle.w16_model.specs.Bytes.{part, put_part, repeated}
+use Rattle.w16_model.proofs.Parts.{All-repeated}
+use Rattle.w16_model.specs.Far.{FarAnswer, far_fault, far_slot, far_bytes, far_read, far_write, after_write}
 use Rattle.w16_model.specs.Far.FarCommand.{Read, Write, Fill}
 use Rattle.w16_model.specs.Far.FarAnswer.{Bytes, Done, Fault}
 use Rattle.w16_model.specs.Law.{HandleLaw, FarLaw}
 use Rattle.w16_model.proofs.Accesses.{Reached, reached}
 use Rattle.w16_model.proofs.Heaps.{get-update_same, get-update_other}
-use Rattle.w16_model.proofs.Kept.{bytes_in, inserted_here, inserted_other, entered_heap, taken_here, taken_other, touched_heap, newest_heap, oldest_heap, ordered, removed_heap, locked_heap, unlocked_heap, written_heap}
+use Rattle.w16_model.proofs.KeptHeaps.{bytes_in, inserted_here, inserted_other, entered_heap, taken_here, taken_other, touched_heap, newest_heap, oldest_heap, ordered, removed_heap, locked_heap, unlocked_heap, written_heap}
 
 -- Which ids have an object.
 
@@ -358,7 +359,7 @@ module _ (old : Handles) (is : AreHandles old) where
     where
       turn : (f : Option FarFault) → LeavesFar (elim f [
         | Some fault ↦ (Fault fault, old)
-        | None ↦ (Bytes (slice_at (far_bytes old selector) offset n), record old { heap = after_touch old.heap (far_slot old selector) })
+        | None ↦ (Bytes (part (far_bytes old selector) offset n), record old { heap = after_touch old.heap (far_slot old selector) })
       ])
       turn (Some fault) = is
       turn None = touched_handles (far_slot old selector)
@@ -369,7 +370,7 @@ module _ (old : Handles) (is : AreHandles old) where
   written_handles slot at slice o bytes there has inside new_bytes =
       other_handles (after_touch (after_write old.heap slot at slice) slot)
       (touched_heap (after_write old.heap slot at slice) (written_heap old.heap is.heap slot o there bytes has at slice inside new_bytes) slot) refl refl
-      (same_updated old.heap.objects slot (λ o. record o { bytes = option_map (λ bytes. with_slice bytes at slice) o.bytes }))
+      (same_updated old.heap.objects slot (λ o. record o { bytes = option_map (λ bytes. put_part bytes at slice) o.bytes }))
 
   -- Write
   pub write_handles : (selector offset : ℕ) (slice : List ℕ) → All (λ b. b < 256) slice → AreHandles (far_write old selector offset slice).1
@@ -409,4 +410,4 @@ pub far_law : FarLaw
 far_law old new (Read pointer count) answer is command step = subst AreHandles (sym step.1) (read_handles old is (selector_in pointer) (offset_in pointer) count)
 far_law old new (Write pointer bytes) answer is command step = subst AreHandles (sym step.1) (write_handles old is (selector_in pointer) (offset_in pointer) bytes command)
 far_law old new (Fill pointer count byte) answer is command step =
-    subst AreHandles (sym step.1) (write_handles old is (selector_in pointer) (offset_in pointer) (replicate count byte) (All-replicate (λ b. b < 256) count byte command))
+    subst AreHandles (sym step.1) (write_handles old is (selector_in pointer) (offset_in pointer) (repeated count byte) (All-repeated count byte command))

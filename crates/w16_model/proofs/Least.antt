@@ -4,7 +4,7 @@ use Rattle.std.specs.List.{find, range_with_len}
 use Rattle.std.proofs.lemmas.Bool.{cases_lt}
 use Rattle.w16_model.specs.declared.Block.{Block}
 use Rattle.w16_model.specs.Gap.{Misses, block_end, ArePlaced, room}
-use Rattle.w16_model.specs.Prefix.{eligible, blocks_without, room_for, needed, is_member, is_about}
+use Rattle.w16_model.specs.Discards.{eligible, blocks_without, room_for, needed, is_member, is_about}
 use Rattle.w16_model.specs.Law.{NoStretch, DiscardsAreLeast, LeastLaw}
 use Rattle.w16_model.proofs.Gaps.{Each-map, Each-filter, pairs_filter, Each-from_All, All-from_Each, EachPair-from_AllPairs, AllPairs-from_EachPair}
 use Rattle.w16_model.proofs.Longest.{none_longer}

@@ -1,3 +1,4 @@
+pub mod Parts
 pub mod Gaps
 pub mod Maximal
 pub mod Starts
@@ -17,7 +18,7 @@ pub mod Tables
 pub mod Sound
 pub mod Ranges
 pub mod Naming
-pub mod Kept
+pub mod KeptHeaps
 pub mod Accesses
 pub mod KeptHandles
 pub mod Empty

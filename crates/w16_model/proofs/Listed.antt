@@ -9,7 +9,7 @@ use Rattle.w16_model.specs.declared.Kind.{Kind}
 use Rattle.w16_model.specs.declared.Item.{Item}
 use Rattle.w16_model.specs.declared.Owner.{Owner}
 use Rattle.w16_model.specs.Gap.{Misses, block_end, is_any, holes, IsHole}
-use Rattle.w16_model.specs.Heap.{Heap, Object, IsHeap, blocks, object_at, hold_of}
+use Rattle.w16_model.specs.Heap.{Heap, Object, IsHeap, blocks, object_at, hold_of_object}
 use Rattle.w16_model.specs.Walk.{HasBytes, IsItem, IsWalk}
 use Rattle.w16_model.specs.Law.{AreAllOf, WalkLaw}
 use Rattle.w16_model.proofs.Gaps.{EachPair, Member, Each-from, Each-map, Each-of_map, Each-from_All, All-from_Each, AllPairs-from_EachPair}
@@ -17,7 +17,7 @@ use Rattle.w16_model.proofs.Maximal.{missed, gap_same}
 use Rattle.w16_model.proofs.Starts.{member_map, contains_member, sized, gap_list_law}
 use Rattle.w16_model.proofs.Heaps.{IsBlockOf, block_member, member_block}
 use Rattle.w16_model.proofs.Places.{two_placed, same_id}
-use Rattle.w16_model.proofs.Kept.{bytes_in}
+use Rattle.w16_model.proofs.KeptHeaps.{bytes_in}
 use Rattle.w16_model.proofs.Walks.{member_contained, one_walk}
 
 -- Any list, by rising places.
@@ -154,7 +154,7 @@ module _ (name : Kind → ℕ → ℕ) (heap : Heap) (is : IsHeap heap) where
       bytes_from : (o : Object) → object_at heap id ≡ Some o → (b : Option (List ℕ)) → o.bytes ≡ b → option_map length b ≡ Some size → owner.kind ≡ o.kind → owner.locks ≡ o.locks → Owns name heap at size owner
       bytes_from o there None e l kind locks = cc
       bytes_from o there (Some bytes) e l kind locks = record {
-        block = record { id = id; at = at; size = size; hold = hold_of o };
+        block = record { id = id; at = at; size = size; hold = hold_of_object o };
         is = record {
           object = o;
           bytes = bytes;

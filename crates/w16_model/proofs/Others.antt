@@ -9,9 +9,9 @@ use Rattle.w16_model.specs.declared.Hold.TheVariants.{Pinned, Loose}
 use Rattle.w16_model.specs.declared.Kind.{Kind}
 use Rattle.w16_model.specs.declared.Kind.TheVariants.{Fixed, Moveable, Discardable}
 use Rattle.w16_model.specs.Gap.{holds_still}
-use Rattle.w16_model.specs.Heap.{Heap, Object, IsHeap, blocks, object_at, hold_of, is_fixed, is_discardable, is_pinned_object, is_in_order}
-use Rattle.w16_model.specs.Prefix.{eligible, is_member, is_about, is_pinned_id}
-use Rattle.w16_model.specs.Edit.{absent}
+use Rattle.w16_model.specs.Heap.{Heap, Object, IsHeap, blocks, object_at, hold_of_object, is_fixed, is_discardable, is_pinned_object, is_in_order}
+use Rattle.w16_model.specs.Discards.{eligible, is_member, is_about, is_pinned_id}
+use Rattle.w16_model.specs.Changes.{absent}
 use Rattle.w16_model.specs.Request.{discarded}
 use Rattle.w16_model.specs.Law.{KeepsOthers, OthersLaw}
 use Rattle.w16_model.proofs.Gaps.{Member, member_filter}
@@ -54,7 +54,7 @@ module _ (old : Heap) (is : IsHeap old) (k : ℕ) (h : Option ℕ) where
 
   unlocked : (q : ℕ) (o : Object) (bytes : List ℕ) → object_at old q ≡ Some o → o.bytes ≡ Some bytes → Member q (eligible (blocks old) old.order h) → o.locks ≡ 0
   unlocked q o bytes there has m =
-      let x : Block = record { id = q; at = unwrap_or (finmap.get old.places q) 0; size = length bytes; hold = hold_of o } in
+      let x : Block = record { id = q; at = unwrap_or (finmap.get old.places q) 0; size = length bytes; hold = hold_of_object o } in
       let block : IsBlockOf old x = record { object = o; bytes = bytes; is_there = there; has_bytes = has; place = refl; size = refl; hold = refl } in
       free (is_fixed o.kind) o.locks (λ t. eligible_loose (blocks old) old.order h x (block_member old x block) m (turn (is_pinned_object o) t))
     where

@@ -7,10 +7,10 @@ use Rattle.w16_model.specs.declared.Way.{Way}
 use Rattle.w16_model.specs.declared.Hold.TheVariants.{Pinned, Loose}
 use Rattle.w16_model.specs.declared.TheConstants.{GMEM_MOVEABLE}
 use Rattle.w16_model.specs.Gap.{is_pinned, holds_still}
-use Rattle.w16_model.specs.Heap.{Heap, Object, IsHeap, blocks, object_at, hold_of, is_pinned_object}
-use Rattle.w16_model.specs.Edit.{with_newest}
+use Rattle.w16_model.specs.Heap.{Heap, Object, IsHeap, blocks, object_at, hold_of_object, is_pinned_object}
+use Rattle.w16_model.specs.Changes.{with_newest}
 use Rattle.w16_model.specs.Request.{Settles, stays_for, Allocates, IsNew, Request, prefix_of}
-use Rattle.w16_model.specs.Single.{Enters}
+use Rattle.w16_model.specs.OneObject.{Enters}
 use Rattle.w16_model.specs.Handles.{Handles, AreHandles}
 use Rattle.w16_model.specs.Calls.{has_flag, way_asked, kind_asked, rounded_size}
 use Rattle.w16_model.specs.Law.{AddressLaw, StandsStill, OutcomeLaw}
@@ -20,15 +20,15 @@ use Rattle.w16_model.proofs.Prefixes.{none_about}
 
 module _ (old : Heap) (is : IsHeap old) (stays : Block → Bool) (heap new : Heap) (settles : Settles old stays heap new) where
   -- an object whose block stays keeps its address
-  still : (q : ℕ) → ((x : Block) → x.id ≡ q → IsSomeAnd (object_at old q) (λ o. x.hold ≡ hold_of o) → stays x ≡ true) → StandsStill old new q
+  still : (q : ℕ) → ((x : Block) → x.id ≡ q → IsSomeAnd (object_at old q) (λ o. x.hold ≡ hold_of_object o) → stays x ≡ true) → StandsStill old new q
   still q keeps = place (finmap.get old.places q) refl
     where
       kept : (o : Object) (bytes : List ℕ) (at : ℕ) → object_at old q ≡ Some o → o.bytes ≡ Some bytes → finmap.get old.places q ≡ Some at → finmap.get new.places q ≡ Some at
       kept o bytes at there has stood =
-          let x : Block = record { id = q; at = at; size = length bytes; hold = hold_of o } in
+          let x : Block = record { id = q; at = at; size = length bytes; hold = hold_of_object o } in
           let block : IsBlockOf old x = record { object = o; bytes = bytes; is_there = there; has_bytes = has; place = ap (λ p. unwrap_or p 0) (sym stood); size = refl; hold = refl } in
           Each-at (λ y. IsTrue (stays y) → finmap.get new.places y.id ≡ Some y.at) (blocks old) (Each-from_All _ (blocks old) settles.kept) x (block_member old x block)
-          (keeps x refl (subst (λ p. IsSomeAnd p (λ o. x.hold ≡ hold_of o)) (sym there) refl))
+          (keeps x refl (subst (λ p. IsSomeAnd p (λ o. x.hold ≡ hold_of_object o)) (sym there) refl))
 
       object : (at : ℕ) → finmap.get old.places q ≡ Some at → (p : Option Object) → object_at old q ≡ p → finmap.get new.places q ≡ Some at
       object at stood None there = absurd (false≢true (sym (ap (λ (p : Option Object). is_some (elim p [ Some o ↦ o.bytes | None ↦ None ])) there) ∙ sym (is.at_bytes q) ∙ ap is_some stood))
@@ -43,7 +43,7 @@ module _ (old : Heap) (is : IsHeap old) (stays : Block → Bool) (heap new : Hea
       place (Some at) stood = object at stood (object_at old q) refl
 
 -- the block of a pinned object is pinned
-pinned_block : (x : Block) (p : Option Object) → IsSomeAnd p (λ o. is_pinned_object o ≡ true) → IsSomeAnd p (λ o. x.hold ≡ hold_of o) → is_pinned x ≡ true
+pinned_block : (x : Block) (p : Option Object) → IsSomeAnd p (λ o. is_pinned_object o ≡ true) → IsSomeAnd p (λ o. x.hold ≡ hold_of_object o) → is_pinned x ≡ true
 pinned_block x None pinned held = absurd pinned
 pinned_block x (Some o) pinned held = ap holds_still (held ∙ ap (λ b. cond b Pinned Loose) pinned)
 

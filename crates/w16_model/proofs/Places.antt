@@ -4,7 +4,7 @@ use Rattle.std.proofs.Common.{◌≡◌, ◌≢◌, ℕ, ◌≤◌, ◌<◌, ◌
 use Rattle.std.specs.FinMap as finmap
 use Rattle.w16_model.specs.declared.Block.{Block}
 use Rattle.w16_model.specs.Gap.{Misses, block_end, ArePlaced}
-use Rattle.w16_model.specs.Heap.{Heap, Object, IsHeap, blocks, object_at, hold_of}
+use Rattle.w16_model.specs.Heap.{Heap, Object, IsHeap, blocks, object_at, hold_of_object}
 use Rattle.w16_model.proofs.Gaps.{Each-at, Each-from, All-from_Each, AllPairs-from_EachPair, EachPair-member, each_two, EachPair-from_AllPairs}
 use Rattle.w16_model.proofs.Heaps.{IsBlockOf, block_member, member_block, blocks_differ}
 
@@ -34,5 +34,5 @@ same_id heap x y b c e =
     let same_bytes : b.bytes ≡ c.bytes = (let some : ◌≡◌ {A = Option (List ℕ)} (Some b.bytes) (Some c.bytes) = sym b.has_bytes ∙ ap (λ (p : Object). p.bytes) same_object ∙ c.has_bytes in cc) in
     let at : x.at ≡ y.at = b.place ∙ ap (λ q. unwrap_or (finmap.get heap.places q) 0) e ∙ sym c.place in
     let size : x.size ≡ y.size = b.size ∙ ap length same_bytes ∙ sym c.size in
-    let hold : x.hold ≡ y.hold = b.hold ∙ ap hold_of same_object ∙ sym c.hold in
+    let hold : x.hold ≡ y.hold = b.hold ∙ ap hold_of_object same_object ∙ sym c.hold in
     λ i. record { id = e i; at = at i; size = size i; hold = hold i }

@@ -7,7 +7,7 @@ use Rattle.w16_model.specs.declared.Block.{Block}
 use Rattle.w16_model.specs.declared.Way.{Way}
 use Rattle.w16_model.specs.Gap.{is_pinned, room, longest_hole}
 use Rattle.w16_model.specs.Heap.{Heap, IsHeap, Object, blocks, object_at, is_in_order}
-use Rattle.w16_model.specs.Prefix.{eligible, blocks_without, room_for, needed, prefix_for, none_discarded_if, is_member, is_about, is_pinned_id}
+use Rattle.w16_model.specs.Discards.{eligible, blocks_without, room_for, needed, prefix_for, none_discarded_if, is_member, is_about, is_pinned_id}
 use Rattle.w16_model.specs.Request.{prefix_of}
 use Rattle.w16_model.proofs.Gaps.{Member}
 use Rattle.w16_model.proofs.Heaps.{IsBlockOf, member_block}

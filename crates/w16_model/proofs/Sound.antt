@@ -8,7 +8,7 @@ use Rattle.w16_model.specs.declared.Entry.{Entry}
 use Rattle.w16_model.specs.Gap.{Misses, block_end}
 use Rattle.w16_model.specs.Heap.{Object, IsHeap, IsCounted, blocks, is_in_order}
 use Rattle.w16_model.specs.Law.{SoundLaw}
-use Rattle.w16_model.specs.Table.{Table, IsSound, IsCountedBy, heap_in, object_in, block_with, entry_at, hold_in, is_listed}
+use Rattle.w16_model.specs.Table.{Table, IsSound, IsCountedBy, heap_in, object_in, block_with, entry_at, hold_of_entry, is_listed}
 use Rattle.w16_model.proofs.Gaps.{Each-at, Each-from, Each-from_All, All-from_Each, EachPair-from_AllPairs, each_two, Member}
 use Rattle.w16_model.proofs.Heaps.{IsBlockOf, member_block}
 use Rattle.w16_model.proofs.Places.{placed_from}
@@ -20,9 +20,9 @@ module _ (t : Table) (is : IsSound t) (memory : List ℕ) (whole : t.hi ≤ leng
   object id e = option_map (object_in t.blocks memory id) e
 
   -- a block has an entry
-  held : (id : ℕ) (x : Block) → block_with t.blocks id ≡ Some x → IsSomeAnd (entry_at t id) (λ e. x.hold ≡ hold_in e)
+  held : (id : ℕ) (x : Block) → block_with t.blocks id ≡ Some x → IsSomeAnd (entry_at t id) (λ e. x.hold ≡ hold_of_entry e)
   held id x e = let m : Member x t.blocks × (x.id ≡ id) = member_with t.blocks id x e in
-      subst (λ k. IsSomeAnd (entry_at t k) (λ e. x.hold ≡ hold_in e)) m.1 (Each-at (λ x. IsSomeAnd (entry_at t x.id) (λ e. x.hold ≡ hold_in e)) t.blocks (Each-from_All _ t.blocks is.table.holds) x m.0)
+      subst (λ k. IsSomeAnd (entry_at t k) (λ e. x.hold ≡ hold_of_entry e)) m.1 (Each-at (λ x. IsSomeAnd (entry_at t x.id) (λ e. x.hold ≡ hold_of_entry e)) t.blocks (Each-from_All _ t.blocks is.table.holds) x m.0)
 
   apart : (x y : Block) → IsBlockOf (heap_in t memory) x → IsBlockOf (heap_in t memory) y → x ≢ y → Misses x.at x.size y.at (block_end y)
   apart x y b c d =
@@ -37,7 +37,7 @@ module _ (t : Table) (is : IsSound t) (memory : List ℕ) (whole : t.hi ≤ leng
       → is_some (option_map (λ (x : Block). x.at) b) ≡ is_some (elim (option_map (λ (e : Entry). let o : Object = record { kind = e.kind; locks = e.locks; bytes = option_map (λ (x : Block). slice_range memory x.at (x.at + x.size)) b } in o) e) [ Some o ↦ o.bytes | None ↦ None ])
   same_bytes id (Some e) (Some x) p q = refl
   same_bytes id (Some e) None p q = refl
-  same_bytes id None (Some x) p q = absurd (subst (λ o. IsSomeAnd o (λ e. x.hold ≡ hold_in e)) p (held id x q))
+  same_bytes id None (Some x) p q = absurd (subst (λ o. IsSomeAnd o (λ e. x.hold ≡ hold_of_entry e)) p (held id x q))
   same_bytes id None None p q = refl
 
   same_order : (e : Option Entry) (b : Option Block) → is_listed e b ≡ is_in_order (option_map (λ (e : Entry). let o : Object = record { kind = e.kind; locks = e.locks; bytes = option_map (λ (x : Block). slice_range memory x.at (x.at + x.size)) b } in o) e)

@@ -9,7 +9,7 @@ use Rattle.std.proofs.lemmas.Bool.{false≢true}
 use Rattle.w16_model.specs.declared.Block.{Block}
 use Rattle.w16_model.specs.Gap.{block_end}
 use Rattle.w16_model.specs.Heap.{Object, object_at}
-use Rattle.w16_model.specs.Table.{Table, IsTable, heap_in, object_in, block_with, entry_at, hold_in, by_id}
+use Rattle.w16_model.specs.Table.{Table, IsTable, heap_in, object_in, block_with, entry_at, hold_of_entry, by_id}
 use Rattle.w16_model.specs.declared.Entry.{Entry}
 use Rattle.w16_model.proofs.Gaps.{EachPair, Member, Each-at, Each-from_All, EachPair-from_AllPairs}
 use Rattle.w16_model.proofs.Heaps.{IsBlockOf, tied_itself, untied}
@@ -79,7 +79,7 @@ module _ (t : Table) (is : IsTable t) (memory : List ℕ) (whole : t.hi ≤ leng
   pairs = EachPair-from_AllPairs (λ x y. x.id ≡ y.id → ⊥) t.blocks is.ids
 
   pub table_block : (x : Block) → Member x t.blocks → IsBlockOf (heap_in t memory) x
-  table_block x m = from (entry_at t x.id) refl (Each-at (λ x. IsSomeAnd (entry_at t x.id) (λ e. x.hold ≡ hold_in e)) t.blocks (Each-from_All _ t.blocks is.holds) x m)
+  table_block x m = from (entry_at t x.id) refl (Each-at (λ x. IsSomeAnd (entry_at t x.id) (λ e. x.hold ≡ hold_of_entry e)) t.blocks (Each-from_All _ t.blocks is.holds) x m)
     where
       here : block_with t.blocks x.id ≡ Some x
       here = with_member t.blocks x pairs m
@@ -87,7 +87,7 @@ module _ (t : Table) (is : IsTable t) (memory : List ℕ) (whole : t.hi ≤ leng
       high : block_end x ≤ t.hi
       high = (Each-at (λ x. (t.lo ≤ x.at) × (0 < x.size) × (block_end x ≤ t.hi)) t.blocks (laid_each t.lo t.hi t.blocks is.laid) x m).2
 
-      from : (o : Option Entry) → entry_at t x.id ≡ o → IsSomeAnd o (λ e. x.hold ≡ hold_in e) → IsBlockOf (heap_in t memory) x
+      from : (o : Option Entry) → entry_at t x.id ≡ o → IsSomeAnd o (λ e. x.hold ≡ hold_of_entry e) → IsBlockOf (heap_in t memory) x
       from None e h = absurd h
       from (Some e) is_e h = record {
         object = object_in t.blocks memory x.id e;

@@ -3,7 +3,7 @@ use Rattle.std.specs.List.{find, range_with_len}
 use Rattle.std.proofs.Common.{◌≡◌, ℕ, suc, ◌+◌, ◌-◌, ◌<◌, Bool, false, cond, not, ◌||◌, List, Option, Some, sym, ap, ◌∙◌, subst, arith}
 use Rattle.w16_model.specs.declared.Block.{Block}
 use Rattle.w16_model.specs.Gap.{ArePlaced}
-use Rattle.w16_model.specs.Prefix.{is_member, is_about, blocks_without}
+use Rattle.w16_model.specs.Discards.{is_member, is_about, blocks_without}
 use Rattle.w16_model.proofs.Least.{placed_filter}
 
 -- the blocks that are left are placed

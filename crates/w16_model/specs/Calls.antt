@@ -9,7 +9,7 @@ use Rattle.w16_model.specs.declared.Refusal.TheVariants as refusals
 use Rattle.w16_model.specs.declared.TheConstants.{GRAIN, LARGEST_SIZE, GMEM_MOVEABLE, GMEM_NOCOMPACT, GMEM_NODISCARD, GMEM_ZEROINIT, GMEM_DISCARDABLE, GMEM_DDESHARE, GMEM_DISCARDED}
 use Rattle.w16_model.specs.Heap.{Heap, Object, object_at, bytes_at, is_discardable}
 use Rattle.w16_model.specs.Request.{Allocates, Compacts, prefix_of, moved_bytes}
-use Rattle.w16_model.specs.Single.{Enters, after_lock, after_unlock, after_free, after_newest, after_oldest}
+use Rattle.w16_model.specs.OneObject.{Enters, after_lock, after_unlock, after_free, after_newest, after_oldest}
 use Rattle.w16_model.specs.declared.Attributes.{Attributes}
 use Rattle.w16_model.specs.declared.Item.{Item}
 use Rattle.w16_model.specs.Walk.{IsWalk}

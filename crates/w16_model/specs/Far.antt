@@ -1,10 +1,11 @@
 -- Far accesses: bytes at selector:offset.
-use Rattle.std.specs.Prelude.{◌≡◌, ℕ, ◌+◌, ◌<◌, Bool, if◌then◌else◌, nat_lt, All, List, [], ◌++◌, length, take, drop, replicate, unwrap_or, Option, Some, None, option_map}
+use Rattle.std.specs.Prelude.{◌≡◌, ℕ, ◌+◌, ◌<◌, Bool, if◌then◌else◌, nat_lt, All, List, [], length, unwrap_or, Option, Some, None, option_map}
 use Rattle.w16_model.specs.declared.FarFault.{FarFault}
 use Rattle.w16_model.specs.declared.FarFault.TheVariants.{BadSelector, NotPresent, Limit}
+use Rattle.w16_model.specs.Bytes.{part, put_part, repeated}
 use Rattle.w16_model.specs.Heap.{Heap, bytes_at}
-use Rattle.w16_model.specs.Edit.{update}
-use Rattle.w16_model.specs.Single.{after_touch}
+use Rattle.w16_model.specs.Changes.{update}
+use Rattle.w16_model.specs.OneObject.{after_touch}
 use Rattle.w16_model.specs.Handles.{Handles, Gives, slot_of_selector, selector_in, offset_in}
 
 -- an access to bytes that a far pointer points to
@@ -44,24 +45,16 @@ far_slot handles selector = unwrap_or (slot_of_selector handles selector) 0
 abbrev pub far_bytes : Handles → ℕ → List ℕ
 far_bytes handles selector = unwrap_or (bytes_at handles.heap (far_slot handles selector)) []
 
--- n bytes from a place on
-abbrev pub slice_at : List ℕ → ℕ → ℕ → List ℕ
-slice_at bytes at n = take n (drop at bytes)
-
--- the bytes with a slice from a place on replaced
-abbrev pub with_slice : List ℕ → ℕ → List ℕ → List ℕ
-with_slice bytes at slice = take at bytes ++ slice ++ drop (at + length slice) bytes
-
 -- Read
 abbrev pub far_read : Handles → ℕ → ℕ → ℕ → FarAnswer × Handles
 far_read old selector offset n = elim (far_fault old selector offset n) [
   | Some fault ↦ (Fault fault, old)
-  | None ↦ (Bytes (slice_at (far_bytes old selector) offset n), record old { heap = after_touch old.heap (far_slot old selector) })
+  | None ↦ (Bytes (part (far_bytes old selector) offset n), record old { heap = after_touch old.heap (far_slot old selector) })
 ]
 
 -- the heap with an object's bytes from a place on replaced
 abbrev pub after_write : Heap → ℕ → ℕ → List ℕ → Heap
-after_write heap slot at slice = record heap { objects = update heap.objects slot (λ o. record o { bytes = option_map (λ bytes. with_slice bytes at slice) o.bytes }) }
+after_write heap slot at slice = record heap { objects = update heap.objects slot (λ o. record o { bytes = option_map (λ bytes. put_part bytes at slice) o.bytes }) }
 
 -- Write; Fill is a write of one byte many times
 abbrev pub far_write : Handles → ℕ → ℕ → List ℕ → FarAnswer × Handles
@@ -74,4 +67,4 @@ far_write old selector offset slice = elim (far_fault old selector offset (lengt
 abbrev pub FarStep : Handles → FarCommand → FarAnswer → Handles → Type 0
 FarStep old (Read pointer count) answer new = Gives (far_read old (selector_in pointer) (offset_in pointer) count) answer new
 FarStep old (Write pointer bytes) answer new = Gives (far_write old (selector_in pointer) (offset_in pointer) bytes) answer new
-FarStep old (Fill pointer count byte) answer new = Gives (far_write old (selector_in pointer) (offset_in pointer) (replicate count byte)) answer new
+FarStep old (Fill pointer count byte) answer new = Gives (far_write old (selector_in pointer) (offset_in pointer) (repeated count byte)) answer new

@@ -11,7 +11,7 @@ use Rattle.w16_model.specs.declared.Hold.TheVariants.{Pinned, Loose}
 use Rattle.w16_model.specs.declared.Kind.{Kind}
 use Rattle.w16_model.specs.declared.Kind.TheVariants.{Fixed, Moveable, Discardable}
 use Rattle.w16_model.specs.Gap.{ArePlaced}
-use Rattle.w16_model.specs.Prefix.{is_member}
+use Rattle.w16_model.specs.Discards.{is_member}
 
 -- an object: its kind, its lock count, and its bytes, or none where it is absent (the manual: discarded)
 pub record Object : Type 0 where
@@ -47,12 +47,12 @@ is_discardable Discardable = true
 abbrev pub is_pinned_object : Object → Bool
 is_pinned_object o = is_fixed o.kind || nat_lt 0 o.locks
 
-abbrev pub hold_of : Object → Hold
-hold_of o = if is_pinned_object o then Pinned else Loose
+abbrev pub hold_of_object : Object → Hold
+hold_of_object o = if is_pinned_object o then Pinned else Loose
 
 -- where an object stands, if it has bytes
 abbrev pub block_of : FinMap nat_cmp ℕ → ℕ × Object → Option Block
-block_of places e = option_map (λ bytes. record { id = e.0; at = unwrap_or (finmap.get places e.0) 0; size = length bytes; hold = hold_of e.1 }) e.1.bytes
+block_of places e = option_map (λ bytes. record { id = e.0; at = unwrap_or (finmap.get places e.0) 0; size = length bytes; hold = hold_of_object e.1 }) e.1.bytes
 
 abbrev pub blocks : Heap → List Block
 blocks heap = filter_map (block_of heap.places) (finmap.entries heap.objects)

@@ -10,10 +10,10 @@ use Rattle.w16_model.specs.declared.Kind.TheVariants.{Discardable}
 use Rattle.w16_model.specs.declared.TheConstants.{FIRST_SLOT, MOST_SLOTS, GRAIN, LARGEST_SIZE, GMEM_MOVEABLE, GMEM_NOCOMPACT, GMEM_NODISCARD, GMEM_ZEROINIT, GMEM_DISCARDABLE, GMEM_DDESHARE, GMEM_DISCARDED}
 use Rattle.w16_model.specs.Gap.{is_pinned, is_any, room, longest_hole, hole_after, gaps, holes, loose_bytes, block_end, IsGap, IsHole, IsGapOf, ArePlaced, IsLaid}
 use Rattle.w16_model.specs.Arrangement.{IsArrangement, IsFreeStretch}
-use Rattle.w16_model.specs.Prefix.{eligible, is_member, blocks_without, needed, room_for}
+use Rattle.w16_model.specs.Discards.{eligible, is_member, blocks_without, needed, room_for}
 use Rattle.std.specs.FinMap as finmap
 use Rattle.w16_model.specs.Heap.{Heap, Object, IsHeap, blocks, object_at, is_pinned_object}
-use Rattle.w16_model.specs.Edit.{with_ordered}
+use Rattle.w16_model.specs.Changes.{with_ordered}
 use Rattle.w16_model.specs.Request.{Settles, discarded, stays_for}
 use Rattle.w16_model.specs.Table.{Table, IsTable, IsSound, heap_in, IsSameOutside}
 use Rattle.w16_model.specs.Walk.{IsWalk}

@@ -1,13 +1,14 @@
 -- The steps of a heap that ask for room. They may choose addresses, and what new bytes are where they needn't be zero.
-use Rattle.std.specs.Prelude.{◌≡◌, ℕ, ◌+◌, ◌-◌, ◌<◌, ◌⊎◌, Bool, true, false, not, ◌&&◌, ◌||◌, ◌==◌, if◌then◌else◌, nat_le, IsTrue, List, ◌++◌, length, take, filter, fold, sum_by, All, Option, Some, None, MatchOption, MatchBool, IsSomeAnd, replicate, option_map, unwrap_or}
+use Rattle.std.specs.Prelude.{◌≡◌, ℕ, ◌+◌, ◌-◌, ◌<◌, ◌⊎◌, Bool, true, false, not, ◌&&◌, ◌||◌, ◌==◌, if◌then◌else◌, nat_le, IsTrue, List, ◌++◌, length, take, filter, fold, sum_by, All, Option, Some, None, MatchOption, MatchBool, IsSomeAnd, option_map, unwrap_or}
 use Rattle.std.specs.FinMap as finmap
 use Rattle.w16_model.specs.declared.Block.{Block}
 use Rattle.w16_model.specs.declared.Kind.{Kind}
 use Rattle.w16_model.specs.declared.Way.{Way}
 use Rattle.w16_model.specs.Gap.{is_pinned, is_any, longest_hole, hole_after, block_end, IsClear}
-use Rattle.w16_model.specs.Prefix.{eligible, room_for, needed, prefix_for, none_discarded_if}
+use Rattle.w16_model.specs.Discards.{eligible, room_for, needed, prefix_for, none_discarded_if}
+use Rattle.w16_model.specs.Bytes.{repeated}
 use Rattle.w16_model.specs.Heap.{Heap, Object, IsHeap, IsMultiple, blocks, object_at, bytes_at, size_of, is_pinned_object}
-use Rattle.w16_model.specs.Edit.{with_newest, with_object, with_ordered, absent}
+use Rattle.w16_model.specs.Changes.{with_newest, with_object, with_ordered, absent}
 
 -- the number of discards by which a request of n bytes about h is answered, if it is
 abbrev pub prefix_of : Heap → ℕ → Option ℕ → Way → Option ℕ
@@ -19,7 +20,7 @@ discarded heap k h = fold absent heap (take k (eligible (blocks heap) heap.order
 
 -- n new bytes: zeros where they are asked for (GMEM_ZEROINIT), else any
 abbrev pub AreNew : Bool → ℕ → List ℕ → Type 0
-AreNew zero n bytes = (length bytes ≡ n) × All (λ b. b < 256) bytes × (IsTrue zero → bytes ≡ replicate n 0)
+AreNew zero n bytes = (length bytes ≡ n) × All (λ b. b < 256) bytes × (IsTrue zero → bytes ≡ repeated n 0)
 
 -- new is this heap at any addresses that keep its objects apart, but for the blocks of old that stay, which keep theirs
 pub record Settles (old : Heap) (stays : Block → Bool) (heap new : Heap) : Type 0 where

@@ -5,7 +5,7 @@ use Rattle.w16_model.specs.declared.Block.{Block}
 use Rattle.w16_model.specs.declared.Entry.{Entry}
 use Rattle.w16_model.specs.declared.Hold.{Hold}
 use Rattle.w16_model.specs.declared.Hold.TheVariants.{Pinned, Loose}
-use Rattle.w16_model.specs.Prefix.{is_member}
+use Rattle.w16_model.specs.Discards.{is_member}
 use Rattle.w16_model.specs.Gap.{IsLaid}
 use Rattle.w16_model.specs.Heap.{Heap, Object, is_fixed, is_discardable, IsMultiple}
 
@@ -47,8 +47,8 @@ heap_in t memory = record {
 }
 
 -- whether an entry's block may move
-abbrev pub hold_in : Entry → Hold
-hold_in e = if is_fixed e.kind || nat_lt 0 e.locks then Pinned else Loose
+abbrev pub hold_of_entry : Entry → Hold
+hold_of_entry e = if is_fixed e.kind || nat_lt 0 e.locks then Pinned else Loose
 
 -- whether an id is in the order of use, by its entry and its block
 abbrev pub is_listed : Option Entry → Option Block → Bool
@@ -63,7 +63,7 @@ IsCountedBy b e = (e.locks ≤ 255) × (IsTrue (is_fixed e.kind) → e.locks ≡
 pub record IsTable (t : Table) : Type 0 where
   pub laid : IsLaid t.lo t.hi t.blocks
   pub ids : AllPairs (λ x y. x.id ≡ y.id → ⊥) t.blocks
-  pub holds : All (λ x. IsSomeAnd (entry_at t x.id) (λ e. x.hold ≡ hold_in e)) t.blocks
+  pub holds : All (λ x. IsSomeAnd (entry_at t x.id) (λ e. x.hold ≡ hold_of_entry e)) t.blocks
 
 -- and what else holds of each table
 pub record IsSound (t : Table) : Type 0 where

@@ -1,5 +1,4 @@
 pub mod Bytes
-pub mod Parts
 mod Lends
 mod Pairs
 mod Frames

@@ -1,44 +1,18 @@
--- Words on a list of bytes, and on a count of bytes.
+-- What a memory does with bytes: it takes those that fit, and counts those that it wrote.
 use Rattle.std.specs.Vec.{with_items}
-use Rattle.std.specs.Prelude.{Vec, ℕ, ◌+◌, ◌^◌, ◌-◌, ◌≤◌, ◌≡◌, List, ◌++◌, take, drop, min, max, length, replicate}
+use Rattle.std.specs.Prelude.{Vec, ℕ, ◌+◌, ◌^◌, ◌-◌, ◌≤◌, ◌≡◌, List, ◌++◌, take, drop, min, max, length}
 use Rattle.std.proofs.Common.{arith, length-append, length-drop, ◌∙◌, ap}
-use Rattle.std.proofs.lemmas.List.{length-take-le, take_at, length-replicate}
-
--- the part of `size` bytes that begins at `at`
-abbrev pub part : List ℕ → ℕ → ℕ → List ℕ
-part bytes at size = take size (drop at bytes)
-
--- the bytes with the part that begins at `at` replaced by `new`
-abbrev pub put_part : List ℕ → ℕ → List ℕ → List ℕ
-put_part bytes at new = take at bytes ++ (new ++ drop (length new) (drop at bytes))
+use Rattle.std.proofs.lemmas.List.{length-take-le, take_at}
+use Rattle.w16_model.specs.Bytes.{put_part}
+use Rattle.w16_model.proofs.Parts.{length-put_part, length-repeated}
 
 -- the new bytes, cut or filled up from the old ones to their length
 abbrev pub fitted : List ℕ → List ℕ → List ℕ
 fitted old new = take (length old) (new ++ drop (length new) old)
 
--- `size` copies of one byte; a proof does not look inside unless it says so, or a literal size would be written out there
-unfoldable pub repeated : ℕ → ℕ → List ℕ
-repeated size byte = replicate size byte
-
 -- the count after `size` more bytes: it stops at the largest u64, and never falls
 abbrev pub counted : ℕ → ℕ → ℕ
 counted count size = max count (min (count + size) (2 ^ 64 - 1))
-
--- where a part inside is replaced, the length stays
-pub length-put_part : (bytes : List ℕ) (at : ℕ) (new : List ℕ) → at + length new ≤ length bytes
-    → length (put_part bytes at new) ≡ length bytes
-length-put_part bytes at new le =
-    let rest : List ℕ = drop (length new) (drop at bytes) in
-    let whole = length-append (take at bytes) (new ++ rest) in
-    let after = length-append new rest in
-    let behind = length-drop (length new) (drop at bytes) in
-    let from_at = length-drop at bytes in
-    let before : length (take at bytes) ≡ at = length-take-le at bytes (omega arith) in
-    omega arith
-
-pub length-repeated : (size byte : ℕ) → length (repeated size byte) ≡ size
-unfolding repeated
-length-repeated size byte = length-replicate size byte
 
 -- what shows that the length stays where a part is filled or slid over
 pub ruleset lengths = (length-put_part, length-repeated)

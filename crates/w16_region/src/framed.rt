@@ -64,7 +64,7 @@ impl<B: Storage> Space for Framed<B> {
         )
     }
 
-    #[tactic(auto, using(crate::specs::Bytes::lengths), unfolding(crate::specs::Bytes::repeated))]
+    #[tactic(auto, using(crate::specs::Bytes::lengths), unfolding(w16_model::specs::Bytes::repeated))]
     fn fill(&mut self, at: u32, size: u32, byte: u8) {
         self.view_mut(at, size).fill(byte);
     }

@@ -1,6 +1,6 @@
 //! Memory of its own, as a space.
 ghost use Rattle.std.specs.Prelude.{◌≡◌, length, IfOk};
-ghost use Rattle.w16_region.specs.Bytes.{repeated};
+ghost use Rattle.w16_model.specs.Bytes.{repeated};
 
 use crate::Framed;
 use std::alloc::{AllocError, Global};
@@ -12,7 +12,7 @@ pub type Region = Framed<Vec<u8>>;
 impl Region {
     /// A region of `size` bytes, all zero, of which none counts as written yet. It takes all its
     /// memory here, and fails where there is not enough.
-    #[tactic(auto, unfolding(crate::specs::Bytes::repeated))]
+    #[tactic(auto, unfolding(w16_model::specs::Bytes::repeated))]
     pub fn new(alloc: Global, size: u32) -> Result<Region, AllocError>
         ensures bytes { IfOk result (λ r. r.bytes.items ≡ repeated size 0) }
         ensures length { IfOk result (λ r. length r.bytes.items ≡ size) }

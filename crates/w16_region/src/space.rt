@@ -1,7 +1,8 @@
 //! What code over memory is generic in.
 ghost use Rattle.std.specs.Prelude.{◌≡◌, ◌+◌, ◌<◌, ◌≤◌, ◌⊎◌, All, List, ℕ, length};
 ghost use Rattle.std.specs.Borrow.{sem, GName};
-ghost use Rattle.w16_region.specs.Bytes.{part, put_part, repeated, counted};
+ghost use Rattle.w16_model.specs.Bytes.{part, put_part, repeated};
+ghost use Rattle.w16_region.specs.Bytes.{counted};
 ghost use Rattle.w16_region.specs.Lending.{LendsPart};
 
 /// Memory, as a list of bytes. Places and sizes are in bytes, and each range lies inside by

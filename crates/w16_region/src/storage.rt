@@ -2,7 +2,8 @@
 ghost use Rattle.std.specs.Prelude.{◌≡◌, ◌+◌, ◌≤◌, ◌⊎◌, List, ℕ, [], ◌∷◌, length, refl};
 ghost use Rattle.std.specs.Borrow.{sem, GName, Array, u8};
 ghost use Rattle.std.specs.Vec.{with_items};
-ghost use Rattle.w16_region.specs.Bytes.{part, put_part, fitted};
+ghost use Rattle.w16_model.specs.Bytes.{part, put_part};
+ghost use Rattle.w16_region.specs.Bytes.{fitted};
 ghost use Rattle.w16_region.specs.Bytes.{fitted-put_part, with_items-put_part};
 ghost use Rattle.w16_region.specs.Bytes.{length-fitted, length-with_items};
 ghost use Rattle.w16_region.specs.Lending.{LendsFrom, LendsWhole};

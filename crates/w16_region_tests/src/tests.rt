@@ -1,7 +1,8 @@
 //! Callers that are generic in the space, with the exact bytes in their contracts, and one suite
 //! that runs on a region and on a window.
 ghost use Rattle.std.specs.Prelude.{◌≡◌, ◌+◌, ◌^◌, ◌<◌, ◌≤◌, ◌⊎◌, length};
-ghost use Rattle.w16_region.specs.Bytes.{part, put_part, repeated, counted};
+ghost use Rattle.w16_model.specs.Bytes.{part, put_part, repeated};
+ghost use Rattle.w16_region.specs.Bytes.{counted};
 
 use w16_region::{Region, Space, Window};
 use std::process::Abort;

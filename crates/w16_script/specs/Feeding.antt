@@ -13,8 +13,8 @@ use Rattle.w16_script.specs.Text.{ended, HasNoLf, IsRaw, without_cr}
 use Rattle.w16_script.specs.Progress.{Progress, IsWithinLimits, IsOver}
 
 -- which commands may want memory of the host: none
-abbrev pub Allocates : Command → Type 0
-Allocates command = ⊥
+abbrev pub TakesMemory : Command → Type 0
+TakesMemory command = ⊥
 
 -- the line met a fault
 abbrev pub FailsAt : Option (List ℕ) → State → List ℕ → RunFault → Option (List ℕ) → State → Type 0
@@ -23,7 +23,7 @@ FailsAt held old line Write holds new =
     (events : List Event) × (output : List ℕ) × Run old.world events new.world × Prints old.registers (line ∷ []) events output new.registers × AppendsFront held holds output
 -- its command wants memory, and nothing was done
 FailsAt held old line Memory holds new =
-    (target : Option ℕ) × (command : Command) × Reads old.registers line (Said.Says target command) × Allocates command × (new ≡ old) × Keeps held holds
+    (target : Option ℕ) × (command : Command) × Reads old.registers line (Said.Says target command) × TakesMemory command × (new ≡ old) × Keeps held holds
 -- no line meets another
 FailsAt held old line fault holds new = ⊥
 

@@ -6,11 +6,11 @@ use Rattle.std.proofs.Math.ListN.{get_or-map}
 use Rattle.memchr.specs.Find.{IsFirst, IsFirstByte, Nowhere, Passes, is_byte}
 use Rattle.w16_model.specs.declared.TheConstants.{FIRST_SLOT}
 use Rattle.w16_selectors.specs.declared.Descriptor.{Descriptor}
-use Rattle.w16_selectors.specs.Descriptors.{Table, descriptor_at, IsFree, IsFreeRun}
-use Rattle.w16_selectors.specs.Kept.{IsKept, mark_of}
-use Rattle.w16_selectors.proofs.Kept.{mark_of_taken}
+use Rattle.w16_selectors.specs.Descriptors.{DescriptorTable, descriptor_at, IsUntaken, IsFreeRun}
+use Rattle.w16_selectors.specs.Representation.{IsKept, mark_of}
+use Rattle.w16_selectors.proofs.Represented.{mark_of_taken}
 
-mark_at : (table : Table) (marks : List ℕ) (slot : ℕ) → IsKept table marks → get_or marks slot 0 ≡ mark_of (descriptor_at table slot)
+mark_at : (table : DescriptorTable) (marks : List ℕ) (slot : ℕ) → IsKept table marks → get_or marks slot 0 ≡ mark_of (descriptor_at table slot)
 mark_at table marks slot kept = rw kept.marked (get_or-map mark_of table slot None)
 
 free_mark : (entry : Option Descriptor) → mark_of entry ≡ 0 → entry ≡ None
@@ -36,7 +36,7 @@ module _ (P Q : ℕ → Type 0) (from to n : ℕ) (long : from + n ≡ to) (ther
       )
 
 -- the first slot whose descriptor's mark is b, by a search of a part of the marks
-first_marked : (table : Table) (marks : List ℕ) (from to n b : ℕ) (Q : ℕ → Type 0)
+first_marked : (table : DescriptorTable) (marks : List ℕ) (from to n b : ℕ) (Q : ℕ → Type 0)
     → IsKept table marks → from + n ≡ to → to ≤ length table
     → ((slot : ℕ) → from ≤ slot → slot < to → mark_of (descriptor_at table slot) ≡ b → Q slot)
     → ((slot : ℕ) → Q slot → mark_of (descriptor_at table slot) ≡ b)
@@ -52,16 +52,16 @@ first_marked table marks from to n b Q kept long inside there back r h =
     read : (k : ℕ) → k < n → get_or (take n (drop from marks)) k 0 ≡ mark_of (descriptor_at table (from + k))
     read k lt = get_or-take n (drop from marks) k 0 lt ∙ get_or-drop from marks k 0 ∙ mark_at table marks (from + k) kept
 
-pub first_free : (table : Table) (marks : List ℕ) (from : ℕ)
+pub first_free : (table : DescriptorTable) (marks : List ℕ) (from : ℕ)
     → IsKept table marks → FIRST_SLOT ≤ from → from ≤ length table
-    → (r : Option ℕ) → IsFirstByte (is_byte 0) (take (length marks - from) (drop from marks)) r → IsFirst (IsFree table) from (length table) (option_map (λ k. from + k) r)
+    → (r : Option ℕ) → IsFirstByte (is_byte 0) (take (length marks - from) (drop from marks)) r → IsFirst (IsUntaken table) from (length table) (option_map (λ k. from + k) r)
 first_free table marks from kept above inside r h =
     let same : length marks ≡ length table = ap length kept.marked ∙ length-map table mark_of in
-    first_marked table marks from (length table) (length marks - from) 0 (IsFree table) kept (omega arith) (omega arith)
+    first_marked table marks from (length table) (length marks - from) 0 (IsUntaken table) kept (omega arith) (omega arith)
     (λ slot low high e. (omega arith, high, free_mark (descriptor_at table slot) e))
     (λ slot free. ap mark_of free.2) r h
 
-pub first_taken : (table : Table) (marks : List ℕ) (from to : ℕ)
+pub first_taken : (table : DescriptorTable) (marks : List ℕ) (from to : ℕ)
     → IsKept table marks → from ≤ to → to ≤ length table
     → (r : Option ℕ) → IsFirstByte (is_byte 1) (take (to - from) (drop from marks)) r → IsFirst (λ slot. IsSome (descriptor_at table slot)) from to (option_map (λ k. from + k) r)
 first_taken table marks from to kept order inside r h =
@@ -71,31 +71,31 @@ first_taken table marks from to kept order inside r h =
 
 -- No run begins below a place. A taken slot from there on, so near that each run up to it would reach it, puts the place behind it, and free
 -- slots only come from the next one on.
-pub no_run : (table : Table) (from taken next count : ℕ)
+pub no_run : (table : DescriptorTable) (from taken next count : ℕ)
     → ((lower : ℕ) → lower < from → IsFreeRun table lower count → ⊥)
-    → from ≤ taken → taken < from + count → IsSome (descriptor_at table taken) → Nowhere (IsFree table) (taken + 1) next
+    → from ≤ taken → taken < from + count → IsSome (descriptor_at table taken) → Nowhere (IsUntaken table) (taken + 1) next
     → (lower : ℕ) → lower < next → IsFreeRun table lower count → ⊥
 no_run table from taken next count below low near is none lower lt run = elim (cases_lt lower from) [
   | inl before ↦ below lower before run
   | inr after ↦ elim (cases_lt taken lower) [
-    | inl behind ↦ none lower (omega arith) lt (let e : lower + 0 ≡ lower = omega arith in subst (IsFree table) e (run.1 0 (omega arith)))
+    | inl behind ↦ none lower (omega arith) lt (let e : lower + 0 ≡ lower = omega arith in subst (IsUntaken table) e (run.1 0 (omega arith)))
     | inr late ↦
         let e : lower + (taken - lower) ≡ taken = omega arith in
-        let free : IsFree table taken = subst (IsFree table) e (run.1 (taken - lower) (omega arith)) in
+        let free : IsUntaken table taken = subst (IsUntaken table) e (run.1 (taken - lower) (omega arith)) in
         false≢true (ap is_some (sym free.2) ∙ is)
   ]
 ]
 
 -- nor where too few slots are left
-pub none_left : (table : Table) (from count : ℕ) → ((lower : ℕ) → lower < from → IsFreeRun table lower count → ⊥) → length table - from < count → (first : ℕ) → IsFreeRun table first count → ⊥
+pub none_left : (table : DescriptorTable) (from count : ℕ) → ((lower : ℕ) → lower < from → IsFreeRun table lower count → ⊥) → length table - from < count → (first : ℕ) → IsFreeRun table first count → ⊥
 none_left table from count below few first run = elim (cases_lt first from) [
   | inl before ↦ below first before run
   | inr after ↦ elim (cases_lt first (length table)) [
     | inl inside ↦
         let e : first + (length table - first) ≡ length table = omega arith in
-        let free : IsFree table (length table) = subst (IsFree table) e (run.1 (length table - first) (omega arith)) in
+        let free : IsUntaken table (length table) = subst (IsUntaken table) e (run.1 (length table - first) (omega arith)) in
         absurd (omega (arith, free.1))
-    | inr past ↦ let free : IsFree table (first + 0) = run.1 0 (omega arith) in absurd (omega (arith, free.1))
+    | inr past ↦ let free : IsUntaken table (first + 0) = run.1 0 (omega arith) in absurd (omega (arith, free.1))
   ]
 ]
 

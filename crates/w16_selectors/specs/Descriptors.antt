@@ -9,26 +9,26 @@ use Rattle.w16_selectors.specs.declared.SelKind.TheVariants.{Data, Code}
 use Rattle.w16_selectors.specs.declared.Descriptor.{Descriptor}
 
 -- the descriptors by slot, none where the slot isn't taken
-abbrev pub Table : Type 0
-Table = List (Option Descriptor)
+abbrev pub DescriptorTable : Type 0
+DescriptorTable = List (Option Descriptor)
 
-abbrev pub descriptor_at : Table → ℕ → Option Descriptor
+abbrev pub descriptor_at : DescriptorTable → ℕ → Option Descriptor
 descriptor_at table slot = slice_index_or table slot None
 
 -- a slot that isn't taken; slots are numbered from the first one on
-abbrev pub IsFree : Table → ℕ → Type 0
-IsFree table slot = (FIRST_SLOT ≤ slot) × (slot < length table) × (descriptor_at table slot ≡ None)
+abbrev pub IsUntaken : DescriptorTable → ℕ → Type 0
+IsUntaken table slot = (FIRST_SLOT ≤ slot) × (slot < length table) × (descriptor_at table slot ≡ None)
 
 -- so many slots in a row that aren't taken, from a slot on
-abbrev pub IsFreeRun : Table → ℕ → ℕ → Type 0
-IsFreeRun table first count = (FIRST_SLOT ≤ first) × ((k : ℕ) → k < count → IsFree table (first + k))
+abbrev pub IsFreeRun : DescriptorTable → ℕ → ℕ → Type 0
+IsFreeRun table first count = (FIRST_SLOT ≤ first) × ((k : ℕ) → k < count → IsUntaken table (first + k))
 
 -- a slot's descriptor before its segment has bytes
 abbrev pub unset : Descriptor
 unset = record { base = 0; limit = 0; present = false; kind = Data }
 
 -- the descriptor that a selector names: that of the slot whose selector it is
-abbrev pub descriptor_of : Table → ℕ → Option Descriptor
+abbrev pub descriptor_of : DescriptorTable → ℕ → Option Descriptor
 descriptor_of table selector = if selector == selector_of (selector / 8) then descriptor_at table (selector / 8) else None
 
 abbrev pub is_code : SelKind → Bool
@@ -37,7 +37,7 @@ is_code Code = true
 
 -- Where an access to n bytes at selector:offset begins in memory, or its first fault: a bad selector, a write to code, a segment without
 -- bytes, bytes past the limit, which is the offset of the segment's last byte.
-abbrev pub place_of : Table → ℕ → ℕ → ℕ → Bool → Result ℕ FarFault
+abbrev pub place_of : DescriptorTable → ℕ → ℕ → ℕ → Bool → Result ℕ FarFault
 place_of table selector offset n write = elim (descriptor_of table selector) [
   | None ↦ Err BadSelector
   | Some d ↦ if write && is_code d.kind then Err ReadOnly

@@ -1,2 +1,2 @@
 pub mod Descriptors
-pub mod Kept
+pub mod Representation

@@ -4,7 +4,7 @@
 
 ghost use Rattle.std.specs.Prelude.{◌≡◌, ◌+◌, ◌^◌, ◌<◌, ◌≤◌, ℕ, length, IfOk, OnOk, IfSome, IfNone, IsSome, Some, None, replicate, slice_set};
 ghost use Rattle.memchr.specs.Find.{IsFirst};
-ghost use Rattle.w16_selectors.specs.Descriptors.{descriptor_at, descriptor_of, IsFree, IsFreeRun, unset, place_of};
+ghost use Rattle.w16_selectors.specs.Descriptors.{descriptor_at, descriptor_of, IsUntaken, IsFreeRun, unset, place_of};
 
 #[cfg(test)]
 mod tests;
@@ -57,10 +57,10 @@ pub struct Selectors {
 }
 
 impl Model for Selectors {
-    ghost use Rattle.w16_selectors.specs.Descriptors.{Table};
-    ghost use Rattle.w16_selectors.specs.Kept.{IsKept, AreTaken};
+    ghost use Rattle.w16_selectors.specs.Descriptors.{DescriptorTable};
+    ghost use Rattle.w16_selectors.specs.Representation.{IsKept, AreTaken};
 
-    ghost Value = { Table };
+    ghost Value = { DescriptorTable };
 
     ghost view = { λ s. s.descriptors.items };
 
@@ -107,9 +107,9 @@ impl Selectors {
     /// The lowest free slot, none where all are taken. It begins where the last such look ended, or at a slot that was given back since.
     pub fn lowest_free(&mut self) -> Option<u16>
         ensures same { self.new ≡ self.old }
-        ensures found { IfSome result (λ slot. IsFree self.old slot) }
-        ensures lowest { IfSome result (λ slot. (lower : ℕ) → lower < slot → IsFree self.old lower → ⊥) }
-        ensures none { IfNone result ((slot : ℕ) → IsFree self.old slot → ⊥) }
+        ensures found { IfSome result (λ slot. IsUntaken self.old slot) }
+        ensures lowest { IfSome result (λ slot. (lower : ℕ) → lower < slot → IsUntaken self.old lower → ⊥) }
+        ensures none { IfNone result ((slot : ℕ) → IsUntaken self.old slot → ⊥) }
         ensures few { IfSome result (λ slot. slot < 8192) }
     {
         let slot = self.next_free(self.free_from)?;
@@ -121,7 +121,7 @@ impl Selectors {
     fn next_free(&self, from: usize) -> Option<usize>
         requires first { FIRST_SLOT ≤ from }
         requires inside { from ≤ length self.now }
-        ensures { IsFirst (IsFree self.now) from (length self.now) result }
+        ensures { IsFirst (IsUntaken self.now) from (length self.now) result }
     {
         let behind = memchr(FREE, &self.marks[from..])?;
         Some(from + behind)
@@ -139,7 +139,7 @@ impl Selectors {
 
     /// Takes a free slot. Its segment has no bytes yet: its descriptor isn't present.
     pub fn take(&mut self, slot: u16)
-        requires { IsFree self.old slot }
+        requires { IsUntaken self.old slot }
         ensures { self.new ≡ slice_set self.old slot (Some unset) }
     {
         self.descriptors[slot as usize] = Some(UNSET);

@@ -1,7 +1,7 @@
 //! How many discards make room, by trying each number.
 ghost use Rattle.std.specs.Prelude.{◌≡◌, IfOk};
 ghost use Rattle.w16_model.specs.Gap.{ArePlaced};
-ghost use Rattle.w16_model.specs.Prefix as prefix;
+ghost use Rattle.w16_model.specs.Discards as defined;
 
 use super::{Snapshot, is_pinned};
 use crate::{Block, Way};
@@ -12,7 +12,7 @@ impl<'a> Snapshot<'a> {
     /// ago first. An error says that memory for the list is missing.
     pub fn eligible(&self, alloc: Global, about: Option<u32>) -> Result<Vec<u32>, AllocError>
         ensures { IfOk result
-            (λ ids. ids.items ≡ prefix.eligible self.now.blocks.now self.now.order.now about) }
+            (λ ids. ids.items ≡ defined.eligible self.now.blocks.now self.now.order.now about) }
     {
         self.order
             .iter()
@@ -32,7 +32,7 @@ impl<'a> Snapshot<'a> {
         requires { ArePlaced self.now.lo self.now.hi self.now.blocks.now }
         ensures { IfOk result
             (λ room. room
-            ≡ prefix.room_for self.now.lo self.now.hi self.now.blocks.now self.now.order.now
+            ≡ defined.room_for self.now.lo self.now.hi self.now.blocks.now self.now.order.now
             count about) }
     {
         let eligible = self.eligible(alloc, about)?;
@@ -56,7 +56,7 @@ impl<'a> Snapshot<'a> {
         requires { ArePlaced self.now.lo self.now.hi self.now.blocks.now }
         ensures { IfOk result
             (λ count. count
-            ≡ prefix.needed self.now.lo self.now.hi self.now.blocks.now self.now.order.now
+            ≡ defined.needed self.now.lo self.now.hi self.now.blocks.now self.now.order.now
             size about) }
     {
         let most = self.eligible(alloc, about)?.len();
@@ -80,7 +80,7 @@ impl<'a> Snapshot<'a> {
         requires { ArePlaced self.now.lo self.now.hi self.now.blocks.now }
         ensures { IfOk result
             (λ count. count
-            ≡ prefix.prefix_for self.now.lo self.now.hi self.now.blocks.now self.now.order.now
+            ≡ defined.prefix_for self.now.lo self.now.hi self.now.blocks.now self.now.order.now
             size about way) }
     {
         if !way.compact {
@@ -94,7 +94,7 @@ impl<'a> Snapshot<'a> {
 
     /// Whether this is the id of a pinned block.
     fn is_pinned_id(&self, id: u32) -> bool
-        ensures { result ≡ prefix.is_pinned_id self.now.blocks.now id }
+        ensures { result ≡ defined.is_pinned_id self.now.blocks.now id }
     {
         self.blocks
             .iter()
@@ -110,7 +110,7 @@ impl<'a> Snapshot<'a> {
     ) -> Result<Vec<Block>, AllocError>
         ensures { IfOk result
             (λ blocks. blocks.items
-            ≡ prefix.blocks_without self.now.blocks.now ids.now about) }
+            ≡ defined.blocks_without self.now.blocks.now ids.now about) }
     {
         self.blocks
             .iter()
@@ -122,14 +122,14 @@ impl<'a> Snapshot<'a> {
 
 /// Whether the id is one of these.
 fn is_member(id: u32, ids: &[u32]) -> bool
-    ensures { result ≡ prefix.is_member id ids.now }
+    ensures { result ≡ defined.is_member id ids.now }
 {
     ids.contains(&id)
 }
 
 /// Whether the request is about this object.
 fn is_about(about: Option<u32>, id: u32) -> bool
-    ensures { result ≡ prefix.is_about about id }
+    ensures { result ≡ defined.is_about about id }
 {
     about == Some(id)
 }

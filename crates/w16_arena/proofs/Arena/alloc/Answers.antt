@@ -1,5 +1,5 @@
 use Rattle.std.proofs.Common.{sym, ap, ◌∙◌}
-use Rattle.w16_arena.specs.State.{State}
+use Rattle.w16_arena.specs.State.{ArenaState}
 use Rattle.w16_arena.proofs.Answering.{allocates_now, discards_none, refused_kept}
 use Rattle.w16_arena.proofs.Arena.alloc.Goals as goal
 
@@ -9,7 +9,7 @@ returns-in-Some-clause-allocated g c =
 
 pub returns-in-Some-clause-discarded : goal.returns-in-Some-clause-discarded
 returns-in-Some-clause-discarded g c =
-    discards_none c.args.self.now c.in-Some.ensures.sound (g.S.Space.bytes c.args.space.now) c.requires.inside c.args.id c.args.size c.args.kind c.args.way c.requires.absent c.requires.some c.requires.rounded c.in-Some.ensures.enough (ap (λ (s : State). s.discarded) c.forget_discards.ensures)
+    discards_none c.args.self.now c.in-Some.ensures.sound (g.S.Space.bytes c.args.space.now) c.requires.inside c.args.id c.args.size c.args.kind c.args.way c.requires.absent c.requires.some c.requires.rounded c.in-Some.ensures.enough (ap (λ (s : ArenaState). s.discarded) c.forget_discards.ensures)
 
 pub returns-then-not-may_discard-clause-allocated : goal.returns-then-not-may_discard-clause-allocated
 returns-then-not-may_discard-clause-allocated g c =

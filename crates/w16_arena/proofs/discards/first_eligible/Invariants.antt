@@ -1,5 +1,5 @@
 use Rattle.std.proofs.Common.{◌≡◌, drop}
-use Rattle.w16_model.specs.Prefix.{eligible}
+use Rattle.w16_model.specs.Discards.{eligible}
 use Rattle.w16_arena.proofs.discards.first_eligible.Given as goal
 
 -- none of those before may be discarded

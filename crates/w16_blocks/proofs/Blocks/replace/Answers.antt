@@ -1,9 +1,9 @@
 use Rattle.std.proofs.Common.{ℕ, ◌≡◌, refl, sym, ◌∙◌, ap, subst, arith, set, List}
 use Rattle.w16_model.specs.declared.Block.{Block}
 use Rattle.w16_blocks.specs.Layout.{Layout, FitsFor, rank, replaced}
-use Rattle.w16_blocks.specs.Kept.{Stays}
+use Rattle.w16_blocks.specs.Representation.{Stays}
 use Rattle.w16_blocks.proofs.Rank.{IsRising-from_apart}
-use Rattle.w16_blocks.proofs.Kept.{entry_known, found_rank, set_found}
+use Rattle.w16_blocks.proofs.Represented.{entry_known, found_rank, set_found}
 use Rattle.w16_blocks.proofs.Room.{ordered_of}
 use Rattle.w16_blocks.proofs.Replace.{IsKept-replaced}
 use Rattle.w16_blocks.proofs.Blocks.replace.Goals as goal

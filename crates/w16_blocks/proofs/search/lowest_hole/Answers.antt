@@ -1,7 +1,7 @@
 use Rattle.std.proofs.Common.{arith}
 use Rattle.w16_model.specs.declared.Block.{Block}
 use Rattle.w16_model.specs.declared.Hold.TheVariants.{Pinned}
-use Rattle.w16_blocks.proofs.Kept.{next_ends}
+use Rattle.w16_blocks.proofs.Represented.{next_ends}
 use Rattle.w16_blocks.proofs.Hole.{laid_next, same_next, found_here}
 use Rattle.w16_blocks.proofs.search.lowest_hole.Goals as goal
 

@@ -1,7 +1,7 @@
 use Rattle.std.proofs.Common.{◌≡◌, inl, inr, arith, refl, subst}
 use Rattle.w16_model.specs.declared.Block.{Block}
 use Rattle.w16_model.specs.declared.Hold.TheVariants.{Loose}
-use Rattle.w16_blocks.specs.Layout.{Fits, without}
+use Rattle.w16_blocks.specs.Layout.{Fits, all_but}
 use Rattle.w16_blocks_tests.specs.Sample.{three_blocks}
 use Rattle.w16_blocks_tests.proofs.tests.changes_one_block.Goals as goal
 
@@ -9,8 +9,8 @@ abbrev third : Block
 third = record { id = 3; at = 160; size = 32; hold = Loose }
 
 -- the third block may stand directly behind the first
-fits_there : (x : Block) → third ≡ x → Fits (record three_blocks { blocks = without x.id three_blocks.blocks }) (record x { at = 64 })
-fits_there x e = subst (λ (y : Block). Fits (record three_blocks { blocks = without y.id three_blocks.blocks }) (record y { at = 64 })) e (record {
+fits_there : (x : Block) → third ≡ x → Fits (record three_blocks { blocks = all_but x.id three_blocks.blocks }) (record x { at = 64 })
+fits_there x e = subst (λ (y : Block). Fits (record three_blocks { blocks = all_but y.id three_blocks.blocks }) (record y { at = 64 })) e (record {
   id = omega arith;
   free = (omega arith, (omega arith, tt));
   inside = (omega arith, omega arith, omega arith);

@@ -1,6 +1,6 @@
 use Rattle.std.proofs.Common.{◌+◌, ◌-◌, ◌/◌, ◌∙◌, arith, subst}
 use Rattle.std.specs.Prelude.{◌<◌}
-use Rattle.w16_model.specs.Prefix.{room_for}
+use Rattle.w16_model.specs.Discards.{room_for}
 use Rattle.w16_compact.proofs.Halved.{above, least_needed, none_needed}
 use Rattle.w16_compact.proofs.prefix.least_prefix.Goals as goal
 

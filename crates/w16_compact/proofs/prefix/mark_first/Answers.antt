@@ -1,6 +1,6 @@
 use Rattle.std.proofs.Common.{◌+◌, drop, true, ◌∙◌, arith}
 use Rattle.std.proofs.lemmas.List.{length-set}
-use Rattle.w16_model.specs.Prefix.{eligible}
+use Rattle.w16_model.specs.Discards.{eligible}
 use Rattle.w16_compact.proofs.Marks.{one_due}
 use Rattle.w16_compact.proofs.prefix.mark_first.Goals as goal
 use Rattle.w16_compact.proofs.prefix.mark_first.Goals.{in-Some, in_default}

@@ -1,5 +1,5 @@
 use Rattle.std.proofs.Common.{◌≡◌, length, take, drop}
-use Rattle.w16_model.specs.Prefix.{eligible}
+use Rattle.w16_model.specs.Discards.{eligible}
 use Rattle.w16_compact.proofs.Marks.{AreDue}
 use Rattle.w16_compact.proofs.prefix.mark_first.Given as goal
 

@@ -1,6 +1,6 @@
 use Rattle.std.proofs.Common.{take, ap, ◌∙◌}
 use Rattle.w16_model.specs.Gap.{room}
-use Rattle.w16_model.specs.Prefix.{eligible}
+use Rattle.w16_model.specs.Discards.{eligible}
 use Rattle.w16_compact.proofs.Marks.{counted_of-marked}
 use Rattle.w16_compact.proofs.prefix.room_after.Goals as goal
 

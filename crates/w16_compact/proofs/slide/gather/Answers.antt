@@ -5,7 +5,7 @@ use Rattle.w16_model.specs.declared.Block.{Block}
 use Rattle.w16_model.specs.Gap.{IsLaid, IsClear, IsHole, is_any, block_end, loose_bytes}
 use Rattle.w16_model.specs.Heap.{IsMultiple}
 use Rattle.w16_blocks.specs.Layout.{Layout, IsGrained}
-use Rattle.w16_compact.specs.Gather.{gathered, packed, moved_size, FitsGap, AreSlid}
+use Rattle.w16_compact.specs.Gather.{gathered, packed, moved_between, FitsGap, AreSlid}
 use Rattle.w16_compact.proofs.Cleared.{inside_is, slid_gathered, clear_gathered, hole_gathered, alone_gathered}
 use Rattle.w16_compact.proofs.Order.{each_got}
 use Rattle.w16_compact.proofs.Rests.{rest_more}
@@ -108,7 +108,7 @@ loop-block-preserved g c =
       rest = rw (new, add-one) rest.1;
       from = omega arith;
       grained = sum_multiple _ to b.size inv.grained (subst (λ g. IsMultiple g b.size) inv.bounds.3 (each_got (IsGrained l.grain) l.blocks i b got inv.ordered.grained).1);
-      sum = rw (new, add-one) (moved_step high to i c.loop-block.moved (moved_size c.args.blocks.now.blocks (gathered c.args.low high c.args.blocks.now.blocks)) c.from-moved.result b l.blocks got lt r inv.sum);
+      sum = rw (new, add-one) (moved_step high to i c.loop-block.moved (moved_between c.args.blocks.now.blocks (gathered c.args.low high c.args.blocks.now.blocks)) c.from-moved.result b l.blocks got lt r inv.sum);
       small = let h = inv.small in omega arith;
       written = let h = inv.written in let k = c.settle.ensures.written in omega (arith, h, k, wide);
       contents = c.settle.ensures.contents ∙ inv.contents;
@@ -123,10 +123,10 @@ loop-block-preserved g c =
 ended : (bs old : List Block) (low high to i : ℕ) → take i bs ++ packed high to (drop i bs) ≡ gathered low high old → packed high to (drop i bs) ≡ drop i bs → bs ≡ gathered low high old
 ended bs old low high to i e same = sym (take-append-drop i bs) ∙ ap (λ ys. take i bs ++ ys) (sym same) ∙ e
 
-moved_is : (bs old : List Block) (low high to i moved : ℕ) → moved + moved_size (drop i bs) (packed high to (drop i bs)) ≡ moved_size old (gathered low high old) → packed high to (drop i bs) ≡ drop i bs → bs ≡ gathered low high old → moved ≡ moved_size old bs
+moved_is : (bs old : List Block) (low high to i moved : ℕ) → moved + moved_between (drop i bs) (packed high to (drop i bs)) ≡ moved_between old (gathered low high old) → packed high to (drop i bs) ≡ drop i bs → bs ≡ gathered low high old → moved ≡ moved_between old bs
 moved_is bs old low high to i moved sum same e =
-    let none : moved_size (drop i bs) (packed high to (drop i bs)) ≡ 0 = ap (moved_size (drop i bs)) same ∙ moved_same (drop i bs) in
-    let total : moved_size old bs ≡ moved_size old (gathered low high old) = ap (moved_size old) e in
+    let none : moved_between (drop i bs) (packed high to (drop i bs)) ≡ 0 = ap (moved_between (drop i bs)) same ∙ moved_same (drop i bs) in
+    let total : moved_between old bs ≡ moved_between old (gathered low high old) = ap (moved_between old) e in
     omega (arith, none, total, sum)
 
 module _ (g : Given.Over) (c : goal.In_default g) where

@@ -4,7 +4,7 @@ use Rattle.w16_region.specs.Bytes.{counted}
 use Rattle.w16_model.specs.Gap.{IsLaid, block_end}
 use Rattle.w16_model.specs.Heap.{IsMultiple}
 use Rattle.w16_blocks.specs.Layout.{IsOrdered}
-use Rattle.w16_compact.specs.Gather.{gathered, packed, contents, moved_size, FitsGap}
+use Rattle.w16_compact.specs.Gather.{gathered, packed, contents, moved_between, FitsGap}
 use Rattle.w16_compact.specs.Rest.{IsSameRest}
 use Rattle.w16_compact.proofs.slide.gather.Given as goal
 
@@ -23,7 +23,7 @@ invariant-loop-block g l =
       from : l.low ≤ l.to;
       grained : IsMultiple l.fn.blocks.grain l.to;
       -- the count
-      sum : l.moved + moved_size (drop l.i l.blocks.blocks) (packed l.high l.to (drop l.i l.blocks.blocks)) ≡ moved_size l.fn.blocks.blocks (gathered l.low l.high l.fn.blocks.blocks);
+      sum : l.moved + moved_between (drop l.i l.blocks.blocks) (packed l.high l.to (drop l.i l.blocks.blocks)) ≡ moved_between l.fn.blocks.blocks (gathered l.low l.high l.fn.blocks.blocks);
       small : l.moved ≤ l.to;
       written : g.S.Space.written l.space ≡ counted (g.S.Space.written l.fn.space) l.moved;
       -- the space

@@ -1,6 +1,6 @@
 use Rattle.std.proofs.Common.{ap, ◌∙◌, arith}
-use Rattle.w16_region.specs.Bytes.{part}
-use Rattle.w16_region.proofs.Parts.{length-part, slid_part}
+use Rattle.w16_model.specs.Bytes.{part}
+use Rattle.w16_model.proofs.Parts.{length-part, slid_part}
 use Rattle.w16_compact.proofs.Rests.{rest_put}
 use Rattle.w16_compact.proofs.slide.slide_down.Goals as goal
 

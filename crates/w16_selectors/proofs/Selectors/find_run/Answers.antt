@@ -1,5 +1,5 @@
 use Rattle.std.proofs.Common.{◌≡◌, ◌+◌, length, unwrap_or, sym, ap, ◌∙◌, subst, arith}
-use Rattle.w16_selectors.specs.Descriptors.{IsFree}
+use Rattle.w16_selectors.specs.Descriptors.{IsUntaken}
 use Rattle.w16_selectors.proofs.Runs.{GoesOn, no_run, none_left, goes_on}
 use Rattle.w16_selectors.proofs.Selectors.find_run.Goals as goal
 
@@ -8,10 +8,10 @@ loop-first-preserved c =
     let taken = c.in-Some.ensures.0 in
     let slots = rw c.self.view_is at c.self.inside.descriptors.ok.0 in
     let all : c.len-slots.result ≡ length c.args.self.now = c.len-slots.ensures ∙ slots in
-    let next : GoesOn (IsFree c.args.self.now) (c.in-Some.taken + 1) (length c.args.self.now) (unwrap_or c.next_free.result (length c.args.self.now)) =
-    goes_on (IsFree c.args.self.now) (c.in-Some.taken + 1) (length c.args.self.now) c.next_free.result (omega arith) c.next_free.ensures in
-    let on : GoesOn (IsFree c.args.self.now) (c.in-Some.taken + 1) (length c.args.self.now) c.unwrap_or-first.result =
-    subst (GoesOn (IsFree c.args.self.now) (c.in-Some.taken + 1) (length c.args.self.now)) (ap (unwrap_or c.next_free.result) (sym all) ∙ sym c.unwrap_or-first.ensures) next in record {
+    let next : GoesOn (IsUntaken c.args.self.now) (c.in-Some.taken + 1) (length c.args.self.now) (unwrap_or c.next_free.result (length c.args.self.now)) =
+    goes_on (IsUntaken c.args.self.now) (c.in-Some.taken + 1) (length c.args.self.now) c.next_free.result (omega arith) c.next_free.ensures in
+    let on : GoesOn (IsUntaken c.args.self.now) (c.in-Some.taken + 1) (length c.args.self.now) c.unwrap_or-first.result =
+    subst (GoesOn (IsUntaken c.args.self.now) (c.in-Some.taken + 1) (length c.args.self.now)) (ap (unwrap_or c.next_free.result) (sym all) ∙ sym c.unwrap_or-first.ensures) next in record {
       above = omega arith;
       inside = on.high;
       lowest = no_run c.args.self.now c.loop-first.first c.in-Some.taken c.unwrap_or-first.result c.args.count c.loop-first.invariant.lowest taken.low taken.high c.in-Some.ensures.1 on.none;

@@ -1,6 +1,6 @@
 use Rattle.std.proofs.Common.{◌≤◌, None, refl, arith}
 use Rattle.w16_model.specs.declared.TheConstants.{FIRST_SLOT}
-use Rattle.w16_selectors.proofs.Kept.{IsKept-set, AreTaken-give, taken_above}
+use Rattle.w16_selectors.proofs.Represented.{IsKept-set, AreTaken-give, taken_above}
 use Rattle.w16_selectors.proofs.Selectors.give.Goals as goal
 
 pub invariant_of-self : goal.invariant_of-self

@@ -1,5 +1,5 @@
 use Rattle.std.proofs.Common.{Some, arith}
-use Rattle.w16_selectors.proofs.Kept.{IsKept-written, AreTaken-written}
+use Rattle.w16_selectors.proofs.Represented.{IsKept-written, AreTaken-written}
 use Rattle.w16_selectors.proofs.Selectors.set.Goals as goal
 
 pub invariant_of-self : goal.invariant_of-self

@@ -1,6 +1,6 @@
 use Rattle.std.proofs.Common.{Some, length, ◌<◌, arith}
 use Rattle.w16_selectors.specs.Descriptors.{unset}
-use Rattle.w16_selectors.proofs.Kept.{IsKept-set, AreTaken-set, AreTaken-next}
+use Rattle.w16_selectors.proofs.Represented.{IsKept-set, AreTaken-set, AreTaken-next}
 use Rattle.w16_selectors.proofs.Selectors.take.Goals as goal
 
 pub invariant_of-self : goal.invariant_of-self

@@ -1,6 +1,6 @@
 use Rattle.std.proofs.Common.{◌≡◌, ◌+◌, None, replicate, arith, rules}
 use Rattle.w16_model.specs.declared.TheConstants.{FIRST_SLOT}
-use Rattle.w16_selectors.proofs.Kept.{IsKept-replicate, AreTaken-none}
+use Rattle.w16_selectors.proofs.Represented.{IsKept-replicate, AreTaken-none}
 use Rattle.w16_selectors.proofs.Selectors.with_room.Goals as goal
 
 pub invariant_of-result : goal.invariant_of-result

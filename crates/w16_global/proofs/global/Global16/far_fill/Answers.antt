@@ -1,8 +1,6 @@
-use Rattle.std.proofs.Common.{length, All, ◌≡◌, ◌<◌, replicate, subst}
-use Rattle.std.proofs.lemmas.List.{length-replicate}
-use Rattle.std.proofs.lemmas.List.Elements.{All-replicate}
-use Rattle.w16_region.specs.Bytes.{repeated, length-repeated}
-use Rattle.w16_global.proofs.Written.{All-repeated}
+use Rattle.std.proofs.Common.{length, All, ◌≡◌, ◌<◌, subst}
+use Rattle.w16_model.specs.Bytes.{repeated}
+use Rattle.w16_model.proofs.Parts.{length-repeated, All-repeated}
 use Rattle.w16_global.proofs.Access.{has_part, written_joined, fill_known}
 use Rattle.w16_global.proofs.global.Global16.far_fill.Goals as goal
 

@@ -1,7 +1,8 @@
 use Rattle.std.proofs.Common.{◌+◌, sym, ap, ◌∙◌, subst, arith}
-use Rattle.w16_region.specs.Bytes.{repeated, length-repeated}
+use Rattle.w16_model.specs.Bytes.{repeated}
+use Rattle.w16_model.proofs.Parts.{length-repeated, All-repeated}
 use Rattle.w16_global.specs.Parts.{AreParts, HasPart, holding_of}
-use Rattle.w16_global.proofs.Written.{All-repeated, in_memory, no_part, parts_written, holding_written}
+use Rattle.w16_global.proofs.Written.{in_memory, no_part, parts_written, holding_written}
 use Rattle.w16_global.proofs.objects.Objects.fill.Goals as goal
 
 pub unreachable-requires : goal.unreachable-requires

@@ -2,10 +2,11 @@
 ghost use Rattle.std.specs.Prelude.{◌≡◌, ◌<◌, ◌≤◌, false, true, length, IfSome, IfNone, if◌then◌else◌, ◌+◌};
 ghost use Rattle.w16_model.specs.Gap.{room};
 ghost use Rattle.w16_blocks.specs.Layout.{IsOrdered};
-ghost use Rattle.w16_compact.specs.Gather.{moved_size};
-ghost use Rattle.w16_region.specs.Bytes.{counted, put_part, repeated};
+ghost use Rattle.w16_compact.specs.Gather.{moved_between};
+ghost use Rattle.w16_model.specs.Bytes.{put_part, repeated};
+ghost use Rattle.w16_region.specs.Bytes.{counted};
 ghost use Rattle.w16_compact.specs.Rest.{IsSameRest};
-ghost use Rattle.w16_arena.specs.Making.{AreMoved, IsFree, IsLowestGathered, IsLowestPlace, most_for};
+ghost use Rattle.w16_arena.specs.NewPlace.{AreMoved, AreFreeBytes, IsLowestGathered, IsLowestPlace, most_for};
 
 use w16_blocks::{Blocks, Span};
 use w16_compact::{gap_for, gather};
@@ -35,8 +36,8 @@ pub(crate) fn make_room<S: Space>(
     requires inside { blocks.old.hi ≤ length (S.bytes space.old) }
     ensures ordered { IsOrdered blocks.old }
     ensures slid { IfSome result (λ p. AreMoved p.slid.from p.slid.to blocks.old (S.bytes space.old) blocks.new (S.bytes space.new)) }
-    ensures free { IfSome result (λ p. IsFree blocks.new size p.at) }
-    ensures moved { IfSome result (λ p. p.moved ≡ moved_size blocks.old.blocks blocks.new.blocks) }
+    ensures free { IfSome result (λ p. AreFreeBytes blocks.new size p.at) }
+    ensures moved { IfSome result (λ p. p.moved ≡ moved_between blocks.old.blocks blocks.new.blocks) }
     ensures lowest { IfSome result (λ p. IsLowestPlace blocks.old size p.at) }
     ensures enough { IfSome result (λ _. size ≤ most_for blocks.old compact) }
     ensures still { compact ≡ false → (blocks.new ≡ blocks.old) × (space.new ≡ space.old) }
@@ -63,8 +64,8 @@ fn gather_for<S: Space>(blocks: &mut Blocks, space: &mut S, size: u32) -> Option
     requires some { 0 < size }
     requires inside { blocks.old.hi ≤ length (S.bytes space.old) }
     ensures slid { IfSome result (λ p. AreMoved p.slid.from p.slid.to blocks.old (S.bytes space.old) blocks.new (S.bytes space.new)) }
-    ensures free { IfSome result (λ p. IsFree blocks.new size p.at) }
-    ensures moved { IfSome result (λ p. p.moved ≡ moved_size blocks.old.blocks blocks.new.blocks) }
+    ensures free { IfSome result (λ p. AreFreeBytes blocks.new size p.at) }
+    ensures moved { IfSome result (λ p. p.moved ≡ moved_between blocks.old.blocks blocks.new.blocks) }
     ensures lowest { IfSome result (λ p. IsLowestGathered blocks.old size p.at) }
     ensures rest { IsSameRest S.bytes S.lenders blocks.old.lo blocks.old.hi space.old space.new }
     ensures written { IfSome result (λ p. S.written space.new ≡ counted (S.written space.old) p.moved) }

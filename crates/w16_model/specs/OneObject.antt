@@ -5,7 +5,7 @@ use Rattle.w16_model.specs.declared.Kind.{Kind}
 use Rattle.w16_model.specs.declared.Refusal.{Refusal}
 use Rattle.w16_model.specs.declared.Refusal.TheVariants as refusals
 use Rattle.w16_model.specs.Heap.{Heap, object_at, is_fixed, is_discardable}
-use Rattle.w16_model.specs.Edit.{with_object, with_ordered, with_newest, newest, oldest, touched, absent, removed}
+use Rattle.w16_model.specs.Changes.{with_object, with_ordered, with_newest, newest, oldest, touched, absent, removed}
 
 -- a new object without bytes takes an id that has none (GlobalAlloc of size 0; a segment before it is loaded)
 pub record Enters (old : Heap) (id : ℕ) (kind : Kind) (new : Heap) : Type 0 where

@@ -1,6 +1,6 @@
 use Rattle.w16_compact.proofs.Rests.{rest_wider}
 use Rattle.w16_arena.proofs.Gathering.{gathered_moved, gathered_free}
-use Rattle.w16_arena.proofs.making.gather_for.Goals as goal
+use Rattle.w16_arena.proofs.new_place.gather_for.Goals as goal
 
 pub returns-clause-slid : goal.returns-clause-slid
 returns-clause-slid g c =

@@ -1,6 +1,6 @@
 use Rattle.std.proofs.Common.{◌∙◌}
 use Rattle.w16_arena.proofs.Rooms.{room_whole}
-use Rattle.w16_arena.proofs.placing.room_now.Goals as goal
+use Rattle.w16_arena.proofs.without_discard.room_now.Goals as goal
 
 pub returns-clause-value : goal.returns-clause-value
 returns-clause-value c = let l = c.args.blocks.now in c.room_after.ensures.value ∙ room_whole l.lo l.hi l.blocks c.args.order.now.ids

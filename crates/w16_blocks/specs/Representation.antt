@@ -24,13 +24,13 @@ abbrev pub no_block : Block
 no_block = record { id = 0; at = 0; size = 0; hold = Loose }
 
 -- an id's block, or the one of no bytes
-abbrev pub entry_of : ℕ → List Block → Block
-entry_of id [] = no_block
-entry_of id (b ∷ bs) = if b.id == id then b else entry_of id bs
+abbrev pub block_kept_for : ℕ → List Block → Block
+block_kept_for id [] = no_block
+block_kept_for id (b ∷ bs) = if b.id == id then b else block_kept_for id bs
 
 -- the table by id has each id's block
 abbrev pub HasEachId : ℕ → List Block → List Block → Type 0
-HasEachId cap slots bs = (id : ℕ) → id < cap → slice_index_or slots id no_block ≡ entry_of id bs
+HasEachId cap slots bs = (id : ℕ) → id < cap → slice_index_or slots id no_block ≡ block_kept_for id bs
 
 -- the list is laid out, its ids are one each, and the table agrees
 pub record IsKept (cap lo hi grain : ℕ) (slots : List Block) (bs : List Block) : Type 0 where

@@ -1,7 +1,7 @@
 -- What the code keeps of an order of use: every id once, its members first.
 use Rattle.std.specs.Prelude.{◌≡◌, ◌-◌, ◌<◌, ◌≤◌, ◌^◌, ℕ, List, [], ◌∷◌, ◌++◌, if◌then◌else◌, nat_eq, nat_lt, length, take, AllPairs}
 use Rattle.std.specs.List.{list_any}
-use Rattle.w16_model.specs.Prefix.{is_member}
+use Rattle.w16_model.specs.Discards.{is_member}
 use Rattle.w16_lru.specs.declared.End.{End}
 use Rattle.w16_lru.specs.declared.End.TheVariants.{Oldest, Newest}
 use Rattle.w16_lru.specs.Uses.{Uses}

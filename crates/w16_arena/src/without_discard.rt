@@ -3,16 +3,16 @@ ghost use Rattle.std.specs.Prelude.{◌≡◌, ◌<◌, ◌≤◌, ℕ, List, le
 ghost use Rattle.w16_region.specs.Bytes.{counted};
 ghost use Rattle.w16_model.specs.Heap.{IsMultiple, is_discardable};
 ghost use Rattle.w16_model.specs.Gap.{room};
-ghost use Rattle.w16_model.specs.Edit as edit;
+ghost use Rattle.w16_model.specs.Changes as changes;
 ghost use Rattle.w16_model.specs.Table.{block_with, heap_in, IsSound};
 ghost use Rattle.w16_model.specs.Request.{most_room};
 ghost use Rattle.w16_blocks.specs.Layout.{IsOrdered};
 ghost use Rattle.w16_arena.specs.State.{KeepsRest};
-ghost use Rattle.w16_arena.specs.Making.{most_in};
+ghost use Rattle.w16_arena.specs.NewPlace.{most_in};
 ghost use Rattle.w16_arena.specs.Asked.{SlidesTogether, Stands};
 
 use crate::Arena;
-use crate::making::{NOTHING, Placed, clear_if, make_room};
+use crate::new_place::{NOTHING, Placed, clear_if, make_room};
 use crate::objects::{hold, is_discardable};
 use w16_blocks::{Block, Blocks};
 use w16_compact::room_after;
@@ -123,7 +123,7 @@ fn room_now(blocks: &Blocks, order: &Order, marks: &mut Vec<bool>) -> u32
 /// A new discardable object with bytes is the newest in the order of use; another isn't in it.
 fn list_new(order: &mut Order, id: u32, kind: Kind)
     requires { id < order.old.cap }
-    ensures { order.new ≡ record order.old { ids = if is_discardable kind then edit.newest id order.old.ids else order.old.ids } }
+    ensures { order.new ≡ record order.old { ids = if is_discardable kind then changes.newest id order.old.ids else order.old.ids } }
 {
     if is_discardable(kind) {
         order.newest(id);

@@ -13,11 +13,13 @@ use Rattle.w16_model.specs.declared.Kind.TheVariants.{Fixed, Moveable, Discardab
 use Rattle.w16_model.specs.declared.Refusal.{Refusal}
 use Rattle.w16_model.specs.declared.Refusal.TheVariants as refusals
 use Rattle.w16_model.specs.Gap.{Misses, block_end, ArePlaced}
-use Rattle.w16_model.specs.Prefix.{is_member}
-use Rattle.w16_model.specs.Heap.{Heap, Object, IsHeap, IsCounted, IsMultiple, blocks, object_at, hold_of, is_in_order, is_fixed, is_discardable}
-use Rattle.w16_model.specs.Edit.{with_object, with_ordered, without, newest, oldest, touched, removed}
-use Rattle.w16_model.specs.Single.{after_touch, refused_order}
-use Rattle.w16_model.specs.Far.{after_write, with_slice}
+use Rattle.w16_model.specs.Discards.{is_member}
+use Rattle.w16_model.specs.Heap.{Heap, Object, IsHeap, IsCounted, IsMultiple, blocks, object_at, hold_of_object, is_in_order, is_fixed, is_discardable}
+use Rattle.w16_model.specs.Changes.{with_object, with_ordered, without, newest, oldest, touched, removed}
+use Rattle.w16_model.specs.OneObject.{after_touch, refused_order}
+use Rattle.w16_model.specs.Bytes.{put_part}
+use Rattle.w16_model.specs.Far.{after_write}
+use Rattle.w16_model.proofs.Parts.{length-put_part, All-put_part}
 use Rattle.w16_model.proofs.Gaps.{Each-at, Each-from, Each-from_All, All-from_Each, EachPair-from_AllPairs, AllPairs-from_EachPair, pairs_filter}
 use Rattle.w16_model.proofs.Heaps.{IsBlockOf, block_member, member_block, tied_itself, untied}
 use Rattle.w16_model.proofs.Orders.{member_without, member_newest, member_oldest, member_back, newest_differ, oldest_differ}
@@ -131,7 +133,7 @@ module _ (old : Heap) (is : IsHeap old) (id : ℕ) (before o : Object) (there : 
       from : x.id ≡ id → (bytes : Option (List ℕ)) → before.bytes ≡ bytes → option_map length bytes ≡ Some (length b.bytes) → Stands old x
       from e None has long = cc
       from e (Some bytes) has long = (
-        record { id = x.id; at = x.at; size = length bytes; hold = hold_of before },
+        record { id = x.id; at = x.at; size = length bytes; hold = hold_of_object before },
         record { object = before; bytes = bytes; is_there = ap (object_at old) e ∙ there; has_bytes = has; place = b.place; size = refl; hold = refl },
         refl,
         refl,
@@ -362,24 +364,22 @@ module _ (old : Heap) (is : IsHeap old) (id : ℕ) (o : Object) (there : object_
   -- A slice of its bytes is replaced.
   module _ (bytes : List ℕ) (has : o.bytes ≡ Some bytes) (at : ℕ) (slice : List ℕ) (inside : at + length slice ≤ length bytes) (new_bytes : All (λ b. b < 256) slice) where
     -- there are as many bytes
-    same_length : length (with_slice bytes at slice) ≡ length bytes
-    same_length = omega (arith, length-append (take at bytes ++ slice) (drop (at + length slice) bytes), length-append (take at bytes) slice, length-take-le at bytes (omega arith), length-drop (at + length slice) bytes)
+    same_length : length (put_part bytes at slice) ≡ length bytes
+    same_length = length-put_part bytes at slice inside
 
     -- and they are bytes
-    all_bytes : All (λ b. b < 256) (with_slice bytes at slice)
-    all_bytes = let before : All (λ b. b < 256) bytes = subst AreBytes has are_bytes_there in
-        All-append (λ b. b < 256) (take at bytes ++ slice) (drop (at + length slice) bytes)
-        (All-append (λ b. b < 256) (take at bytes) slice (All-take (λ b. b < 256) at bytes before) new_bytes) (All-drop (λ b. b < 256) (at + length slice) bytes before)
+    all_bytes : All (λ b. b < 256) (put_part bytes at slice)
+    all_bytes = All-put_part (λ b. b < 256) bytes at slice (subst AreBytes has are_bytes_there) new_bytes
 
     -- the object with them
     abbrev written : Object
-    written = record o { bytes = option_map (λ bytes. with_slice bytes at slice) o.bytes }
+    written = record o { bytes = option_map (λ bytes. put_part bytes at slice) o.bytes }
 
     -- the heap with them is one
     pub written_heap : IsHeap (after_write old id at slice)
     written_heap = subst (λ objects. IsHeap (record old { objects = objects }))
-        (λ i. elim (sym there i) [ Some p ↦ finmap.insert old.objects id (record p { bytes = option_map (λ bytes. with_slice bytes at slice) p.bytes }) | None ↦ old.objects ])
+        (λ i. elim (sym there i) [ Some p ↦ finmap.insert old.objects id (record p { bytes = option_map (λ bytes. put_part bytes at slice) p.bytes }) | None ↦ old.objects ])
         (other_heap old is id o written there refl
-        (ap (λ p. option_map length (option_map (λ bytes. with_slice bytes at slice) p)) has ∙ ap Some same_length ∙ ap (option_map length) (sym has))
-        (subst (λ p. AreBytes (option_map (λ bytes. with_slice bytes at slice) p)) (sym has) all_bytes)
-        (counted.0, counted.1, λ none. let some : ◌≡◌ {A = Option (List ℕ)} (Some (with_slice bytes at slice)) None = sym (ap (option_map (λ bytes. with_slice bytes at slice)) has) ∙ none in cc))
+        (ap (λ p. option_map length (option_map (λ bytes. put_part bytes at slice) p)) has ∙ ap Some same_length ∙ ap (option_map length) (sym has))
+        (subst (λ p. AreBytes (option_map (λ bytes. put_part bytes at slice) p)) (sym has) all_bytes)
+        (counted.0, counted.1, λ none. let some : ◌≡◌ {A = Option (List ℕ)} (Some (put_part bytes at slice)) None = sym (ap (option_map (λ bytes. put_part bytes at slice)) has) ∙ none in cc))

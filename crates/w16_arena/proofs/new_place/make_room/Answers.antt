@@ -2,7 +2,7 @@ use Rattle.std.proofs.Common.{rules, sym, ◌∙◌}
 use Rattle.w16_compact.proofs.Gathered.{moved_same}
 use Rattle.w16_arena.proofs.Arranged.{same_moved}
 use Rattle.w16_arena.proofs.Rooms.{hole_free, hole_enough, hole_missing, made_enough}
-use Rattle.w16_arena.proofs.making.make_room.Goals as goal
+use Rattle.w16_arena.proofs.new_place.make_room.Goals as goal
 
 pub returns-in-Some-clause-slid : goal.returns-in-Some-clause-slid
 returns-in-Some-clause-slid g c = same_moved 0 c.args.blocks.now (g.S.Space.bytes c.args.space.now) c.hole_for.ensures.ordered

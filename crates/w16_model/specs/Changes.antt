@@ -4,7 +4,7 @@ use Rattle.std.specs.Ordering.{nat_cmp}
 use Rattle.std.specs.FinMap as finmap
 use Rattle.std.specs.FinMap.{FinMap}
 use Rattle.w16_model.specs.Heap.{Heap, Object, is_in_order}
-use Rattle.w16_model.specs.Prefix.{is_member}
+use Rattle.w16_model.specs.Discards.{is_member}
 
 -- The order of use without an object, and with it at the newest or the oldest end.
 abbrev pub without : ℕ → List ℕ → List ℕ

@@ -1,7 +1,7 @@
 -- Room that is made for new bytes: the blocks that slid for it, and the place that it leaves.
 use Rattle.std.specs.Prelude.{ℕ, ◌+◌, ◌-◌, ◌<◌, ◌≤◌, ◌≡◌, ◌⊎◌, Bool, if◌then◌else◌, nat_le, List, [], ◌∷◌, length, find, All, MatchOption}
 use Rattle.std.specs.List.{AllByRecursion}
-use Rattle.w16_region.specs.Bytes.{part}
+use Rattle.w16_model.specs.Bytes.{part}
 use Rattle.w16_model.specs.declared.Block.{Block}
 use Rattle.w16_model.specs.declared.Hold.TheVariants.{Loose}
 use Rattle.w16_model.specs.Gap.{block_end, is_pinned, Misses, IsClear, holes, room, longest_hole}
@@ -34,7 +34,7 @@ pub record AreMoved (low high : ℕ) (old : Layout) (memory : List ℕ) (new : L
   pub bytes : All (λ b. b < 256) memory → All (λ b. b < 256) after
 
 -- n bytes from an address on are no block's
-pub record IsFree (l : Layout) (n at : ℕ) : Type 0 where
+pub record AreFreeBytes (l : Layout) (n at : ℕ) : Type 0 where
   pub above : l.lo ≤ at
   pub below : at + n ≤ l.hi
   pub grained : IsMultiple l.grain at

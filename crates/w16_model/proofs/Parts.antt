@@ -1,8 +1,29 @@
 -- Parts of a list of bytes: where one was put or slid down, and where two lists agree.
-use Rattle.std.proofs.Common.{ℕ, ◌≡◌, ◌+◌, ◌-◌, ◌≤◌, ◌⊎◌, inl, inr, All, List, ◌++◌, length, take, drop, slice_range, arith, sym, ◌∙◌, ap, length-append, length-drop, append_assoc}
-use Rattle.std.proofs.lemmas.List.{length-take-le, take-append-le, take_at, drop_at, drop-drop, drop-take, take-take}
-use Rattle.std.proofs.lemmas.List.Elements.{All-append, All-take, All-drop}
-use Rattle.w16_region.specs.Bytes.{part, put_part}
+use Rattle.std.proofs.Common.{ℕ, ◌≡◌, ◌+◌, ◌-◌, ◌<◌, ◌≤◌, ◌⊎◌, inl, inr, All, List, ◌++◌, length, take, drop, slice_range, arith, sym, ◌∙◌, ap, length-append, length-drop, append_assoc}
+use Rattle.std.proofs.lemmas.List.{length-replicate, length-take-le, take-append-le, take_at, drop_at, drop-drop, drop-take, take-take}
+use Rattle.std.proofs.lemmas.List.Elements.{All-append, All-take, All-drop, All-replicate}
+use Rattle.w16_model.specs.Bytes.{part, put_part, repeated}
+
+-- where a part inside is replaced, the length stays
+pub length-put_part : (bytes : List ℕ) (at : ℕ) (new : List ℕ) → at + length new ≤ length bytes
+    → length (put_part bytes at new) ≡ length bytes
+length-put_part bytes at new le =
+    let rest : List ℕ = drop (length new) (drop at bytes) in
+    let whole = length-append (take at bytes) (new ++ rest) in
+    let after = length-append new rest in
+    let behind = length-drop (length new) (drop at bytes) in
+    let from_at = length-drop at bytes in
+    let before : length (take at bytes) ≡ at = length-take-le at bytes (omega arith) in
+    omega arith
+
+pub length-repeated : (size byte : ℕ) → length (repeated size byte) ≡ size
+unfolding repeated
+length-repeated size byte = length-replicate size byte
+
+-- copies of a byte are bytes
+pub All-repeated : (n byte : ℕ) → byte < 256 → All (λ b. b < 256) (repeated n byte)
+unfolding repeated
+All-repeated n byte lt = All-replicate (λ b. b < 256) n byte lt
 
 pub length-part : (bytes : List ℕ) (at n : ℕ) → at + n ≤ length bytes → length (part bytes at n) ≡ n
 length-part bytes at n le = let d = length-drop at bytes in length-take-le n (drop at bytes) (omega arith)

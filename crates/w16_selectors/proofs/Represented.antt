@@ -6,8 +6,8 @@ use Rattle.std.proofs.Math.Seq.{map-set_same}
 use Rattle.w16_model.specs.declared.TheConstants.{FIRST_SLOT, MOST_SLOTS}
 use Rattle.w16_selectors.specs.declared.Descriptor.{Descriptor}
 use Rattle.memchr.specs.Find.{IsFirst}
-use Rattle.w16_selectors.specs.Descriptors.{Table, descriptor_at, IsFree}
-use Rattle.w16_selectors.specs.Kept.{IsKept, AreTaken, mark_of}
+use Rattle.w16_selectors.specs.Descriptors.{DescriptorTable, descriptor_at, IsUntaken}
+use Rattle.w16_selectors.specs.Representation.{IsKept, AreTaken, mark_of}
 
 -- a segment ends where an address of 32 bits can reach
 abbrev pub Reaches : Option Descriptor → Type 0
@@ -34,7 +34,7 @@ IsKept-replicate n some few = record {
 }
 
 -- a changed slot has its new entry, if it is one, and any other what it had
-at_set : (table : Table) (slot k : ℕ) (entry : Option Descriptor)
+at_set : (table : DescriptorTable) (slot k : ℕ) (entry : Option Descriptor)
     → ((k ≡ slot) × (descriptor_at (set table slot entry) k ≡ entry)) ⊎ (descriptor_at (set table slot entry) k ≡ descriptor_at table k)
 at_set table slot k entry = elim (cases_eq k slot) [
   | inl same ↦ elim (cases_lt slot (length table)) [
@@ -47,7 +47,7 @@ at_set table slot k entry = elim (cases_eq k slot) [
 ]
 
 -- a slot below the first stays free
-pub IsKept-set : (table : Table) (marks : List ℕ) (slot : ℕ) (entry : Option Descriptor)
+pub IsKept-set : (table : DescriptorTable) (marks : List ℕ) (slot : ℕ) (entry : Option Descriptor)
     → IsKept table marks → (slot < FIRST_SLOT → entry ≡ None) → Reaches entry → IsKept (set table slot entry) (set marks slot (mark_of entry))
 IsKept-set table marks slot entry kept low reaches = record {
   marked = ap (λ (ms : List ℕ). set ms slot (mark_of entry)) kept.marked ∙ sym (map-set mark_of table slot entry);
@@ -64,7 +64,7 @@ IsKept-set table marks slot entry kept low reaches = record {
 }
 
 -- a taken slot isn't below the first
-pub taken_above : (table : Table) (marks : List ℕ) (slot : ℕ) → IsKept table marks → IsSome (descriptor_at table slot) → FIRST_SLOT ≤ slot
+pub taken_above : (table : DescriptorTable) (marks : List ℕ) (slot : ℕ) → IsKept table marks → IsSome (descriptor_at table slot) → FIRST_SLOT ≤ slot
 taken_above table marks slot kept taken = elim (cases_lt slot FIRST_SLOT) [
   | inl lt ↦ absurd (false≢true (ap is_some (sym (kept.unused slot lt)) ∙ taken))
   | inr le ↦ le
@@ -75,7 +75,7 @@ mark_of_taken None taken = absurd (false≢true taken)
 mark_of_taken (Some d) taken = refl
 
 -- the mark of a taken slot stays as it is
-pub IsKept-written : (table : Table) (marks : List ℕ) (slot : ℕ) (d : Descriptor)
+pub IsKept-written : (table : DescriptorTable) (marks : List ℕ) (slot : ℕ) (d : Descriptor)
     → IsKept table marks → IsSome (descriptor_at table slot) → Reaches (Some d) → IsKept (set table slot (Some d)) marks
 IsKept-written table marks slot d kept taken reaches =
     let above = taken_above table marks slot kept taken in
@@ -90,14 +90,14 @@ IsKept-written table marks slot d kept taken reaches =
 -- Slots that are taken below one.
 
 -- a slot that is taken, or set to a descriptor, is taken
-pub stays_taken : (table : Table) (slot k : ℕ) (d : Descriptor) → slot < length table → (k ≡ slot) ⊎ IsSome (descriptor_at table k) → IsSome (descriptor_at (set table slot (Some d)) k)
+pub stays_taken : (table : DescriptorTable) (slot k : ℕ) (d : Descriptor) → slot < length table → (k ≡ slot) ⊎ IsSome (descriptor_at table k) → IsSome (descriptor_at (set table slot (Some d)) k)
 stays_taken table slot k d lt was = elim (cases_eq k slot) [
   | inl same ↦ ap is_some (ap (descriptor_at (set table slot (Some d))) same ∙ get_or-set_same table slot (Some d) None lt)
   | inr other ↦ ap is_some (get_or-set_other table slot k (Some d) None other) ∙ (elim was [ inl same ↦ absurd (other same) | inr there ↦ there ])
 ]
 
 -- where a slot is set to a descriptor
-pub AreTaken-set : (table : Table) (below slot : ℕ) (d : Descriptor) → AreTaken table below → slot < length table → AreTaken (set table slot (Some d)) below
+pub AreTaken-set : (table : DescriptorTable) (below slot : ℕ) (d : Descriptor) → AreTaken table below → slot < length table → AreTaken (set table slot (Some d)) below
 AreTaken-set table below slot d are lt = record {
   above = are.above;
   within = rw (length-set table slot (Some d)) are.within;
@@ -105,7 +105,7 @@ AreTaken-set table below slot d are lt = record {
 }
 
 -- where a taken one is
-pub AreTaken-written : (table : Table) (below slot : ℕ) (d : Descriptor) → AreTaken table below → IsSome (descriptor_at table slot) → AreTaken (set table slot (Some d)) below
+pub AreTaken-written : (table : DescriptorTable) (below slot : ℕ) (d : Descriptor) → AreTaken table below → IsSome (descriptor_at table slot) → AreTaken (set table slot (Some d)) below
 AreTaken-written table below slot d are there = AreTaken-set table below slot d are (within (cases_lt slot (length table)))
   where
     within : (slot < length table) ⊎ (length table ≤ slot) → slot < length table
@@ -113,7 +113,7 @@ AreTaken-written table below slot d are there = AreTaken-set table below slot d 
     within (inr le) = absurd (false≢true (sym (ap is_some (get_or_past table slot None le)) ∙ there))
 
 -- and where it is the first that wasn't
-pub AreTaken-next : (table : Table) (below slot : ℕ) (d : Descriptor) → AreTaken table below → slot < length table → below ≡ slot → AreTaken (set table slot (Some d)) (below + 1)
+pub AreTaken-next : (table : DescriptorTable) (below slot : ℕ) (d : Descriptor) → AreTaken table below → slot < length table → below ≡ slot → AreTaken (set table slot (Some d)) (below + 1)
 AreTaken-next table below slot d are lt same = record {
   above = let above = are.above in omega arith;
   within = rw (length-set table slot (Some d)) (omega arith);
@@ -124,7 +124,7 @@ AreTaken-next table below slot d are lt same = record {
 }
 
 -- where a slot is given back
-pub AreTaken-give : (table : Table) (below slot lower : ℕ) → AreTaken table below → FIRST_SLOT ≤ slot → lower ≤ below → lower ≤ slot → FIRST_SLOT ≤ lower → AreTaken (set table slot None) lower
+pub AreTaken-give : (table : DescriptorTable) (below slot lower : ℕ) → AreTaken table below → FIRST_SLOT ≤ slot → lower ≤ below → lower ≤ slot → FIRST_SLOT ≤ lower → AreTaken (set table slot None) lower
 AreTaken-give table below slot lower are first le other above = record {
   above = above;
   within = rw (length-set table slot None) (let within = are.within in omega arith);
@@ -132,7 +132,7 @@ AreTaken-give table below slot lower are first le other above = record {
 }
 
 -- no slot below the first free one from such a slot on is free
-pub AreTaken-found : (table : Table) (below slot : ℕ) → AreTaken table below → IsFirst (IsFree table) below (length table) (Some slot) → AreTaken table slot
+pub AreTaken-found : (table : DescriptorTable) (below slot : ℕ) → AreTaken table below → IsFirst (IsUntaken table) below (length table) (Some slot) → AreTaken table slot
 AreTaken-found table below slot are first = record {
   above = let above = are.above in let low = first.0.low in omega (arith, above, low);
   within = let high = first.0.high in omega (arith, high);
@@ -147,7 +147,7 @@ AreTaken-found table below slot are first = record {
     there (Some d) n = refl
 
 -- so none lower is free
-pub lower_taken : (table : Table) (below : ℕ) → AreTaken table below → (k : ℕ) → k < below → IsFree table k → ⊥
+pub lower_taken : (table : DescriptorTable) (below : ℕ) → AreTaken table below → (k : ℕ) → k < below → IsUntaken table k → ⊥
 lower_taken table below are k lt free = false≢true (sym (ap is_some free.2) ∙ are.taken k free.0 lt)
 
 -- where none is taken
