@@ -10,10 +10,10 @@ use Rattle.w16_model.specs.declared.Span.{Span}
 use Rattle.w16_model.specs.Law.{KeepsOthers}
 use Rattle.w16_model.specs.declared.Way.{Way}
 use Rattle.w16_model.specs.Gap.{room, longest_hole, is_pinned}
-use Rattle.w16_model.specs.Discards.{eligible, blocks_without, room_for, needed}
+use Rattle.w16_model.specs.Discards.{eligible, blocks_without, room_for, needed, snapshot}
 use Rattle.w16_model.specs.Heap.{Heap, Object, IsHeap, IsMultiple, blocks, object_at, bytes_at}
 use Rattle.w16_model.specs.Changes.{absent, with_newest, with_ordered}
-use Rattle.w16_model.specs.Request.{moved_bytes, Allocates, Compacts, MakesRoom, IsNew, Settles, prefix_of, stays_for, discarded, compaction_prefix, eligible_count, most_room}
+use Rattle.w16_model.specs.Request.{moved_bytes, Allocates, Compacts, MakesRoom, IsNew, Settles, prefix_of, stays_for, discarded, compaction_prefix, eligible_count, most_room, snapshot_of}
 use Rattle.w16_model.specs.Table.{Table, IsSound, block_with, heap_in}
 use Rattle.w16_model.proofs.Gaps.{Each-from}
 use Rattle.w16_model.proofs.Tables.{place_is, table_longest}
@@ -105,13 +105,13 @@ abbrev layout_in : Table → Layout
 layout_in t = record { cap = length t.entries; lo = t.lo; hi = t.hi; grain = t.grain; blocks = t.blocks }
 
 -- the room that a table has is its heap's
-room_of : (t : Table) → IsSound t → (memory : List ℕ) → t.hi ≤ length memory → room_for t.lo t.hi (blocks (heap_in t memory)) t.order 0 None ≡ room t.lo t.hi t.blocks
+room_of : (t : Table) → IsSound t → (memory : List ℕ) → t.hi ≤ length memory → room_for (snapshot t.lo t.hi (blocks (heap_in t memory)) t.order) 0 None ≡ room t.lo t.hi t.blocks
 room_of t sound memory inside =
     let parts : AreParts t.entries (layout_in t) t.order memory = record { sound = sound; ids = refl; high = inside } in
     room_whole t.lo t.hi (blocks (heap_in t memory)) t.order ∙ listed_room parts
 
 -- also where an object without a block is left out
-room_about : (t : Table) → IsSound t → (memory : List ℕ) → t.hi ≤ length memory → (id : ℕ) → block_with t.blocks id ≡ None → room_for t.lo t.hi (blocks (heap_in t memory)) t.order 0 (Some id) ≡ room t.lo t.hi t.blocks
+room_about : (t : Table) → IsSound t → (memory : List ℕ) → t.hi ≤ length memory → (id : ℕ) → block_with t.blocks id ≡ None → room_for (snapshot t.lo t.hi (blocks (heap_in t memory)) t.order) 0 (Some id) ≡ room t.lo t.hi t.blocks
 room_about t sound memory inside id none =
     let parts : AreParts t.entries (layout_in t) t.order memory = record { sound = sound; ids = refl; high = inside } in
     ap (room t.lo t.hi) (none_out id (blocks (heap_in t memory)) (Each-from (λ x. x.id ≢ id) (blocks (heap_in t memory)) (λ x m e.
@@ -133,7 +133,7 @@ module _ (old : ArenaState) (sound : IsSound old.table) (memory : List ℕ) (ins
   pub eligible_same : (about : Option ℕ) → eligible t.blocks t.order about ≡ eligible (blocks h) t.order about
   eligible_same about = eligible_by_members t.blocks (blocks h) (listed_permutation parts) t.order about
 
-  needed_same : (n : ℕ) (about : Option ℕ) → needed t.lo t.hi t.blocks t.order n about ≡ needed t.lo t.hi (blocks h) t.order n about
+  needed_same : (n : ℕ) (about : Option ℕ) → needed (snapshot t.lo t.hi t.blocks t.order) n about ≡ needed (snapshot t.lo t.hi (blocks h) t.order) n about
   needed_same n about = needed_by_members t.lo t.hi t.blocks (blocks h) (listed_permutation parts) t.order n about
 
   module _ (id n : ℕ) (kind : Kind) (way : Way) (none : block_with t.blocks id ≡ None) (some : 0 < n) (rounded : IsMultiple t.grain n) where
@@ -171,7 +171,7 @@ module _ (old : ArenaState) (sound : IsSound old.table) (memory : List ℕ) (ins
     ])
 
     -- As many were sought as make room.
-    module _ (may : (way.compact && way.discard) ≡ true) {found : Option ℕ} (found_is : found ≡ needed t.lo t.hi t.blocks t.order n (Some id)) where
+    module _ (may : (way.compact && way.discard) ≡ true) {found : Option ℕ} (found_is : found ≡ needed (snapshot t.lo t.hi t.blocks t.order) n (Some id)) where
       compact : way.compact ≡ true
       compact = (and_parts way.compact way.discard may).0
 
@@ -202,10 +202,10 @@ module _ (old : ArenaState) (sound : IsSound old.table) (memory : List ℕ) (ins
         pub room_then : n ≤ most_in mid.table way.compact
         room_then =
             let is = discards.heaps memory inside in
-            let now : room_for mid.table.lo mid.table.hi (blocks (heap_in mid.table memory)) mid.table.order 0 (Some id) ≡ room mid.table.lo mid.table.hi mid.table.blocks = room_about mid.table discards.range.sound memory mid_inside id absent_then in
-            let later : room_for mid.table.lo mid.table.hi (blocks (heap_in mid.table memory)) mid.table.order 0 (Some id) ≡ room_for t.lo t.hi (blocks h) t.order k (Some id) =
-            (λ i. room_for (is i).lo (is i).hi (blocks (is i)) (is i).order 0 (Some id)) ∙ room-discarded h k (Some id) in
-            let enough : n ≤ room_for t.lo t.hi (blocks h) t.order k (Some id) = needed_enough t.lo t.hi (blocks h) t.order n (Some id) k (sym (needed_same n (Some id)) ∙ sym found_is ∙ some_is) in
+            let now : room_for (snapshot mid.table.lo mid.table.hi (blocks (heap_in mid.table memory)) mid.table.order) 0 (Some id) ≡ room mid.table.lo mid.table.hi mid.table.blocks = room_about mid.table discards.range.sound memory mid_inside id absent_then in
+            let later : room_for (snapshot mid.table.lo mid.table.hi (blocks (heap_in mid.table memory)) mid.table.order) 0 (Some id) ≡ room_for (snapshot t.lo t.hi (blocks h) t.order) k (Some id) =
+            (λ i. room_for (snapshot_of (is i)) 0 (Some id)) ∙ room-discarded h k (Some id) in
+            let enough : n ≤ room_for (snapshot t.lo t.hi (blocks h) t.order) k (Some id) = needed_enough t.lo t.hi (blocks h) t.order n (Some id) k (sym (needed_same n (Some id)) ∙ sym found_is ∙ some_is) in
             subst (λ b. n ≤ (if b then room mid.table.lo mid.table.hi mid.table.blocks else longest_hole mid.table.lo mid.table.hi mid.table.blocks)) (sym compact) (omega (arith, now, later, enough))
 
         pub discards_then : {ids : List ℕ} → ids ≡ mid.discarded → HasDiscarded h id n way ids
@@ -235,7 +235,7 @@ module _ (old : ArenaState) (sound : IsSound old.table) (memory : List ℕ) (ins
             }
 
   -- with all left out that may be, the room is the most that there can be
-  pub room_most : (k : ℕ) → length t.order ≤ k → room_for t.lo t.hi t.blocks t.order k None ≡ most_room h
+  pub room_most : (k : ℕ) → length t.order ≤ k → room_for (snapshot t.lo t.hi t.blocks t.order) k None ≡ most_room h
   room_most k all =
       let few : length (eligible (blocks h) t.order None) ≤ k = let le = eligible_few (blocks h) t.order None in omega arith in
       room_by_members t.lo t.hi t.blocks (blocks h) (listed_permutation parts) t.order k None
@@ -246,22 +246,22 @@ module _ (old : ArenaState) (sound : IsSound old.table) (memory : List ℕ) (ins
   compacts_none most is n none = subst (λ b. MatchBool b ((most ≡ most_room h) × (h ≡ h)) (MakesRoom h n most h)) (sym (eq-eqb n 0 none)) (is, refl)
 
   -- For some, as many are discarded as are needed, or all.
-  module _ (n : ℕ) (some : 0 < n) (k : Option ℕ) (k_is : k ≡ needed t.lo t.hi t.blocks t.order n None) (all : ℕ) (few : length t.order ≤ all) (mid : ArenaState) (discards : Discards (unwrap_or k all) None old mid) where
+  module _ (n : ℕ) (some : 0 < n) (k : Option ℕ) (k_is : k ≡ needed (snapshot t.lo t.hi t.blocks t.order) n None) (all : ℕ) (few : length t.order ≤ all) (mid : ArenaState) (discards : Discards (unwrap_or k all) None old mid) where
     count_few : eligible_count h ≤ all
     count_few = let e = ap (length {A = ℕ}) (eligible_same None) in let le = eligible_few t.blocks t.order None in omega arith
 
-    prefix_same : unwrap_or k all ≡ unwrap_or (needed t.lo t.hi (blocks h) t.order n None) all
+    prefix_same : unwrap_or k all ≡ unwrap_or (needed (snapshot t.lo t.hi (blocks h) t.order) n None) all
     prefix_same = ap (λ p. unwrap_or p all) (k_is ∙ needed_same n None)
 
     mid_heap : heap_in mid.table memory ≡ discarded h (compaction_prefix h n) None
-    mid_heap = discards.heaps memory inside ∙ ap (λ j. discarded h j None) prefix_same ∙ from (needed t.lo t.hi (blocks h) t.order n None)
+    mid_heap = discards.heaps memory inside ∙ ap (λ j. discarded h j None) prefix_same ∙ from (needed (snapshot t.lo t.hi (blocks h) t.order) n None)
       where
         from : (p : Option ℕ) → discarded h (unwrap_or p all) None ≡ discarded h (unwrap_or p (eligible_count h)) None
         from None = discarded_all h None all count_few
         from (Some j) = refl
 
     pub listed_then : {ids : List ℕ} → ids ≡ mid.discarded → ids ≡ first_eligible h (compaction_prefix h n) None
-    listed_then e = e ∙ discards.listed ∙ (λ i. take (prefix_same i) (eligible_same None i)) ∙ from (needed t.lo t.hi (blocks h) t.order n None)
+    listed_then e = e ∙ discards.listed ∙ (λ i. take (prefix_same i) (eligible_same None i)) ∙ from (needed (snapshot t.lo t.hi (blocks h) t.order) n None)
       where
         from : (p : Option ℕ) → take (unwrap_or p all) (eligible (blocks h) h.order None) ≡ take (unwrap_or p (eligible_count h)) (eligible (blocks h) h.order None)
         from None = take_all all (eligible (blocks h) h.order None) count_few ∙ sym (take_all (eligible_count h) (eligible (blocks h) h.order None) (omega arith))
@@ -278,7 +278,7 @@ module _ (old : ArenaState) (sound : IsSound old.table) (memory : List ℕ) (ins
       compacts_then = subst (λ b. MatchBool b ((c.room ≡ most_room h) × (new ≡ h)) (MakesRoom h n c.room new)) (sym (ne_eqb n 0 (omega arith))) (record {
         settled = settled;
         promised = room_is ∙ sym (room_of mid.table discards.range.sound memory (let same = discards.range.hi in omega arith))
-            ∙ (λ i. room_for (mid_heap i).lo (mid_heap i).hi (blocks (mid_heap i)) (mid_heap i).order 0 None) ∙ room-discarded h (compaction_prefix h n) None;
+            ∙ (λ i. room_for (snapshot_of (mid_heap i)) 0 None) ∙ room-discarded h (compaction_prefix h n) None;
         longest = slides.longest;
       })
 

@@ -5,7 +5,7 @@ use Rattle.w16_model.specs.declared.Block.{Block}
 use Rattle.w16_compact.specs.Gather.{moved_between}
 use Rattle.w16_compact.proofs.Gathered.{moved_same}
 use Rattle.w16_model.specs.declared.Span.{Span}
-use Rattle.w16_model.specs.Discards.{blocks_without, room_for}
+use Rattle.w16_model.specs.Discards.{blocks_without, room_for, snapshot}
 use Rattle.w16_model.specs.Gap.{ArePlaced, holes, room, longest_hole}
 use Rattle.w16_model.proofs.Laid.{laid_placed}
 use Rattle.w16_blocks.specs.Layout.{Layout, IsOrdered}
@@ -51,7 +51,7 @@ none_out_all : (xs : List Block) → blocks_without xs [] None ≡ xs
 none_out_all [] = refl
 none_out_all (x ∷ xs) = ap (λ ys. x ∷ ys) (none_out_all xs)
 
-pub room_whole : (lo hi : ℕ) (xs : List Block) (order : List ℕ) → room_for lo hi xs order 0 None ≡ room lo hi xs
+pub room_whole : (lo hi : ℕ) (xs : List Block) (order : List ℕ) → room_for (snapshot lo hi xs order) 0 None ≡ room lo hi xs
 room_whole lo hi xs order = ap (room lo hi) (none_out_all xs)
 
 -- with no room there is no hole

@@ -14,18 +14,18 @@ mod bytes;
 mod discards;
 mod new_place;
 mod objects;
-mod without_discard;
 mod requests;
 mod walk;
+mod without_discard;
 
 pub use new_place::Placed;
-pub use without_discard::Compacted;
 pub use requests::NoRoom;
 use std::alloc::{AllocError, Global};
 use std::marker::Model;
 use w16_blocks::Blocks;
 use w16_lru::Order;
 use w16_model::{Block, Entry};
+pub use without_discard::Compacted;
 
 /// Objects by id, without their bytes. One whose entry has no block is absent.
 #[derive(Drop)]

@@ -2,7 +2,7 @@
 ghost use Rattle.std.specs.Prelude.{◌≡◌, ◌<◌, ◌≤◌, [], length, is_ok, true, IfOk, IfSome, OnErr, ◌&&◌, if◌then◌else◌, Some, None};
 ghost use Rattle.w16_region.specs.Bytes.{counted};
 ghost use Rattle.w16_model.specs.Heap.{IsMultiple};
-ghost use Rattle.w16_model.specs.Discards.{needed};
+ghost use Rattle.w16_model.specs.Discards.{needed, snapshot};
 ghost use Rattle.w16_model.specs.Table.{block_with, heap_in, IsSound};
 ghost use Rattle.w16_model.specs.Request.{Allocates, Compacts, compaction_prefix};
 ghost use Rattle.w16_arena.specs.State.{KeepsRest};
@@ -139,7 +139,7 @@ impl Arena {
     /// The least number of discards that make room for `n` bytes, where `h` isn't counted; none where no number does. Nothing changes.
     fn least_discards(&mut self, h: Option<u32>, n: u32) -> Option<usize>
         requires { IfSome h (λ id. id < length self.old.table.entries) }
-        ensures value { result ≡ needed self.old.table.lo self.old.table.hi self.old.table.blocks self.old.table.order n h }
+        ensures value { result ≡ needed (snapshot self.old.table.lo self.old.table.hi self.old.table.blocks self.old.table.order) n h }
         ensures same { self.new ≡ self.old }
         ensures sound { IsSound self.old.table }
     {

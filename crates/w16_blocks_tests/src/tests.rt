@@ -1,9 +1,9 @@
 ghost use Rattle.std.specs.Prelude.{◌≡◌, IfOk};
 ghost use Rattle.w16_blocks_tests.specs.Sample.{three_blocks};
 
-use w16_blocks::{Block, Blocks, Hold, Span};
 use std::alloc::AllocError;
 use std::test::Fail;
+use w16_blocks::{Block, Blocks, Hold, Span};
 
 fn block(id: u32, at: u32, size: u32, hold: Hold) -> Block
     ensures { result ≡ record { id = id; at = at; size = size; hold = hold } }

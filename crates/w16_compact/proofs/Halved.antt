@@ -5,7 +5,7 @@ use Rattle.std.proofs.lemmas.Bool.{cases_lt, lt-leb, cond-true, cond-false}
 use Rattle.std.proofs.lemmas.List.Sums.{length-filter, count_by-le-length}
 use Rattle.w16_model.specs.declared.Block.{Block}
 use Rattle.w16_model.specs.Gap.{room}
-use Rattle.w16_model.specs.Discards.{eligible, blocks_without, room_for, needed}
+use Rattle.w16_model.specs.Discards.{eligible, blocks_without, room_for, needed, snapshot}
 use Rattle.w16_model.proofs.Discards.{more_discards_law}
 use Rattle.w16_model.proofs.Least.{take_past}
 use Rattle.w16_compact.proofs.Searched.{may_go}
@@ -24,7 +24,7 @@ find-none p (suc m) a all = cond-false (p a) (Some a) _ (all a (omega arith)) �
 
 module _ (lo hi : ℕ) (xs : List Block) (order : List ℕ) (n : ℕ) (h : Option ℕ) where
   abbrev room_of : ℕ → ℕ
-  room_of k = room_for lo hi xs order k h
+  room_of k = room_for (snapshot lo hi xs order) k h
 
   abbrev serves : ℕ → Bool
   serves k = nat_le n (room_of k)
@@ -47,7 +47,7 @@ module _ (lo hi : ℕ) (xs : List Block) (order : List ℕ) (n : ℕ) (h : Optio
   }
 
   -- one that is the least is needed
-  pub least_needed : (least enough : ℕ) → IsBetween least enough → enough ≤ least → Some least ≡ needed lo hi xs order n h
+  pub least_needed : (least enough : ℕ) → IsBetween least enough → enough ≤ least → Some least ≡ needed (snapshot lo hi xs order) n h
   least_needed least enough now le =
       let same : enough ≡ least = let w = now.within in omega arith in
       let enough_now : n ≤ room_of least = subst (λ k. n ≤ room_of k) same now.serves in
@@ -60,7 +60,7 @@ module _ (lo hi : ℕ) (xs : List Block) (order : List ℕ) (n : ℕ) (h : Optio
       sym (find-first serves (all + 1) 0 least (omega arith) (omega arith) (le-leb n (room_of least) enough_now) (λ j _ l. lt-leb n (room_of j) (now.fewer j l)))
 
   -- where all aren't enough none is
-  pub none_needed : room_of (length order) < n → None ≡ needed lo hi xs order n h
+  pub none_needed : room_of (length order) < n → None ≡ needed (snapshot lo hi xs order) n h
   none_needed few =
       let le : all ≤ length order = let e = length-filter (may_go xs h) order in omega (arith, count_by-le-length (may_go xs h) order) in
       sym (find-none serves (all + 1) 0 (λ j l. lt-leb n (room_of j) (omega (arith, more_discards_law lo hi xs order h j (length order) (omega arith), few))))

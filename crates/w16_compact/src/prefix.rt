@@ -1,6 +1,6 @@
 //! How many discards make room.
 ghost use Rattle.std.specs.Prelude.{◌≡◌, ℕ, ◌+◌, ◌<◌, ◌≤◌, ◌||◌, ◌∷◌, false, length, take, drop, IfSome, MatchOption, slice_index_or};
-ghost use Rattle.w16_model.specs.Discards.{eligible, is_about, is_member, is_pinned_id, needed, room_for};
+ghost use Rattle.w16_model.specs.Discards.{eligible, is_about, is_member, is_pinned_id, needed, room_for, snapshot};
 ghost use Rattle.w16_blocks.specs.Layout.{IsOrdered};
 
 use crate::reach::is_pinned;
@@ -25,7 +25,7 @@ pub fn least_prefix(
     requires ids { order.now.cap ≤ blocks.now.cap }
     requires h { IfSome h (λ id. id < blocks.now.cap) }
     ensures value { result
-        ≡ needed blocks.now.lo blocks.now.hi blocks.now.blocks order.now.ids n h }
+        ≡ needed (snapshot blocks.now.lo blocks.now.hi blocks.now.blocks order.now.ids) n h }
     ensures length { length marks.new ≡ length marks.old }
     ensures ordered { IsOrdered blocks.now }
 {
@@ -63,7 +63,7 @@ pub fn room_after(
     requires ids { order.now.cap ≤ blocks.now.cap }
     requires h { IfSome h (λ id. id < blocks.now.cap) }
     ensures value { result
-        ≡ room_for blocks.now.lo blocks.now.hi blocks.now.blocks order.now.ids k h }
+        ≡ room_for (snapshot blocks.now.lo blocks.now.hi blocks.now.blocks order.now.ids) k h }
     ensures length { length marks.new ≡ length marks.old }
     ensures ordered { IsOrdered blocks.now }
 {

@@ -5,11 +5,11 @@ ghost use Rattle.w16_model.specs.Heap.{IsMultiple};
 ghost use Rattle.w16_blocks.specs.Layout.{Fits, IsApart};
 ghost use Rattle.w16_compact.specs.Gather.{FitsGap, MayGather};
 
-use w16_compact::{Gap, gap_for, gather, room};
 use std::alloc::{AllocError, Global};
 use std::process::Abort;
 use std::test::Fail;
 use w16_blocks::{Block, Blocks, Hold, Span};
+use w16_compact::{Gap, gap_for, gather, room};
 use w16_model::Snapshot;
 use w16_region::{Region, Space, Window};
 

@@ -9,4 +9,3 @@ mod objects;
 
 pub use global::Global16;
 pub use w16_model::FarFault;
-

@@ -1,6 +1,6 @@
-use w16_global::{FarFault, Global16};
 use std::alloc::AllocError;
 use std::test::Fail;
+use w16_global::{FarFault, Global16};
 
 /// A heap of 4,096 bytes with 16 selectors.
 fn small(rt: &impl AllocGlobal) -> Result<Global16, AllocError> {

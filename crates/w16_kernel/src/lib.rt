@@ -7,4 +7,3 @@ mod step;
 
 pub use call::{Answer, Call, Chunk, MOST_FILLED, MOST_READ, Reply};
 pub use kernel::Kernel;
-

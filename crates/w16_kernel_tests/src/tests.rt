@@ -1,8 +1,8 @@
 ghost use Rattle.w16_kernel.specs.Runs.{IsCall};
 
-use w16_kernel::{Call, Kernel, MOST_READ, Reply};
 use std::alloc::{AllocError, Global};
 use std::test::Fail;
+use w16_kernel::{Call, Kernel, MOST_READ, Reply};
 use w16_model::{FarFault, Item, Kind, Owner};
 
 /// A machine over 4,096 bytes and 16 selectors.
@@ -191,6 +191,15 @@ fn discardable_at(at: u32, handle: u16) -> Option<Item> {
     })
 }
 
+/// A hole of 32 bytes, as a walk tells it.
+fn hole_at(at: u32) -> Option<Item> {
+    Some(Item {
+        at,
+        size: 32,
+        owner: None,
+    })
+}
+
 #[test]
 fn orders_and_walks(rt: HostRuntime) -> Result<(), Fail> {
     let mut kernel = Kernel::new(rt.alloc(), 96, 16)?;
@@ -221,14 +230,7 @@ fn orders_and_walks(rt: HostRuntime) -> Result<(), Fail> {
     );
     assert_eq!(rt; kernel.walk_from(0), discardable_at(0, 0x106));
     assert_eq!(rt; kernel.walk_from(1), discardable_at(32, 0x10E));
-    assert_eq!(rt;
-        kernel.walk_from(33),
-        Some(Item {
-            at: 64,
-            size: 32,
-            owner: None
-        })
-    );
+    assert_eq!(rt; kernel.walk_from(33), hole_at(64));
     assert_eq!(rt; kernel.walk_from(65), None);
     assert_eq!(rt; kernel.walk_at(1), discardable_at(32, 0x10E));
     assert_eq!(rt; kernel.walk_at(2), kernel.walk_from(33));

@@ -4,12 +4,12 @@ use Rattle.std.proofs.lemmas.Bool.{false≢true, cases_Bool, and_parts, and_from
 use Rattle.w16_model.specs.declared.Block.{Block}
 use Rattle.w16_model.specs.Gap.{room, is_pinned}
 use Rattle.w16_model.specs.Heap.{Heap, blocks}
-use Rattle.w16_model.specs.Discards.{eligible, room_for, is_member, is_about, is_pinned_id}
+use Rattle.w16_model.specs.Discards.{eligible, room_for, is_member, is_about, is_pinned_id, snapshot}
 use Rattle.w16_model.specs.Law.{MoreDiscardsLaw}
 use Rattle.std.proofs.Common.{subst, arith}
 use Rattle.std.proofs.lemmas.Bool.{cases_lt}
 use Rattle.w16_model.specs.Changes.{absent}
-use Rattle.w16_model.specs.Request.{discarded}
+use Rattle.w16_model.specs.Request.{discarded, snapshot_of}
 use Rattle.w16_model.proofs.Gaps.{Member, Each-from, member_filter, filter_member, pairs_filter}
 use Rattle.w16_model.proofs.Members.{permutation_from, room-permutation}
 use Rattle.w16_model.proofs.Heaps.{IsBlockOf, block_member, member_block, blocks_differ, block_of_absent, absent_of_block}
@@ -42,7 +42,7 @@ bounds_kept [] heap = (refl, refl)
 bounds_kept (id ∷ ids) heap = bounds_kept ids (absent heap id)
 
 -- With the first k eligible absent, the room is what it was without them.
-pub room-discarded : (heap : Heap) (k : ℕ) (h : Option ℕ) → let new = discarded heap k h in room_for new.lo new.hi (blocks new) new.order 0 h ≡ room_for heap.lo heap.hi (blocks heap) heap.order k h
+pub room-discarded : (heap : Heap) (k : ℕ) (h : Option ℕ) → let new = discarded heap k h in room_for (snapshot_of new) 0 h ≡ room_for (snapshot_of heap) k h
 room-discarded heap k h =
     let ids : List ℕ = take k (eligible (blocks heap) heap.order h) in
     let new : Heap = fold absent heap ids in
@@ -95,7 +95,7 @@ eligible_loose xs order h x m n t =
     let kept : Member x.id order × IsTrue (not (is_pinned_id xs x.id) && not (is_about h x.id)) = member_filter (λ id. not (is_pinned_id xs id) && not (is_about h id)) order x.id n in
     false≢true (sym (not-true (is_pinned_id xs x.id) (and_parts (not (is_pinned_id xs x.id)) (not (is_about h x.id)) kept.1).0) ∙ held_member xs x m t)
 
-pub room-more : (lo hi : ℕ) (xs : List Block) (order : List ℕ) (k : ℕ) (h : Option ℕ) → room_for lo hi xs order k h ≤ room_for lo hi xs order (k + 1) h
+pub room-more : (lo hi : ℕ) (xs : List Block) (order : List ℕ) (k : ℕ) (h : Option ℕ) → room_for (snapshot lo hi xs order) k h ≤ room_for (snapshot lo hi xs order) (k + 1) h
 room-more lo hi xs order k h =
     let ids : List ℕ = eligible xs order h in
     let with_k : Block → Bool = λ x. not (is_member x.id (take k ids) || is_about h x.id) in
@@ -117,11 +117,11 @@ room-more lo hi xs order k h =
     in_not id ids h m = false≢true (sym h ∙ true-is_member id ids m)
 
 pub more_discards_law : MoreDiscardsLaw
-more_discards_law lo hi xs order h j zero le = let same : j ≡ 0 = omega arith in subst (λ v. room_for lo hi xs order v h ≤ room_for lo hi xs order 0 h) (sym same) (omega arith)
+more_discards_law lo hi xs order h j zero le = let same : j ≡ 0 = omega arith in subst (λ v. room_for (snapshot lo hi xs order) v h ≤ room_for (snapshot lo hi xs order) 0 h) (sym same) (omega arith)
 more_discards_law lo hi xs order h j (suc k) le = elim (cases_lt k j) [
-  | inl l ↦ let same : j ≡ suc k = omega arith in subst (λ v. room_for lo hi xs order v h ≤ room_for lo hi xs order (suc k) h) (sym same) (omega arith)
+  | inl l ↦ let same : j ≡ suc k = omega arith in subst (λ v. room_for (snapshot lo hi xs order) v h ≤ room_for (snapshot lo hi xs order) (suc k) h) (sym same) (omega arith)
   | inr l ↦
       let next : k + 1 ≡ suc k = omega arith in
-      let step : room_for lo hi xs order k h ≤ room_for lo hi xs order (suc k) h = subst (λ v. room_for lo hi xs order k h ≤ room_for lo hi xs order v h) next (room-more lo hi xs order k h) in
+      let step : room_for (snapshot lo hi xs order) k h ≤ room_for (snapshot lo hi xs order) (suc k) h = subst (λ v. room_for (snapshot lo hi xs order) k h ≤ room_for (snapshot lo hi xs order) v h) next (room-more lo hi xs order k h) in
       omega (arith, more_discards_law lo hi xs order h j k l, step)
 ]

@@ -4,7 +4,7 @@ use Rattle.std.specs.List.{find, range_with_len}
 use Rattle.std.proofs.lemmas.Bool.{cases_lt}
 use Rattle.w16_model.specs.declared.Block.{Block}
 use Rattle.w16_model.specs.Gap.{Misses, block_end, ArePlaced, room}
-use Rattle.w16_model.specs.Discards.{eligible, blocks_without, room_for, needed, is_member, is_about}
+use Rattle.w16_model.specs.Discards.{eligible, blocks_without, room_for, needed, is_member, is_about, snapshot}
 use Rattle.w16_model.specs.Law.{NoStretch, DiscardsAreLeast, LeastLaw}
 use Rattle.w16_model.proofs.Gaps.{Each-map, Each-filter, pairs_filter, Each-from_All, All-from_Each, EachPair-from_AllPairs, AllPairs-from_EachPair}
 use Rattle.w16_model.proofs.Longest.{none_longer}
@@ -44,28 +44,28 @@ take_past (suc k) (q ∷ ids) h = ap (λ r. q ∷ r) (take_past k ids (omega ari
 
 module _ (lo hi : ℕ) (xs : List Block) (order : List ℕ) (n : ℕ) (h : Option ℕ) where
   -- more discards than there are eligible are as many as there are
-  room-past : (k : ℕ) → length (eligible xs order h) ≤ k → room_for lo hi xs order k h ≡ room_for lo hi xs order (length (eligible xs order h)) h
+  room-past : (k : ℕ) → length (eligible xs order h) ≤ k → room_for (snapshot lo hi xs order) k h ≡ room_for (snapshot lo hi xs order) (length (eligible xs order h)) h
   room-past k l = ap (λ (ids : List ℕ). room lo hi (blocks_without xs ids h)) (take_past k (eligible xs order h) l ∙ sym (take_past (length (eligible xs order h)) (eligible xs order h) (omega arith)))
 
   serves : ℕ → Bool
-  serves k = nat_le n (room_for lo hi xs order k h)
+  serves k = nat_le n (room_for (snapshot lo hi xs order) k h)
 
-  pub needed-Some : (k : ℕ) → needed lo hi xs order n h ≡ Some k → (n ≤ room_for lo hi xs order k h) × ((j : ℕ) → j < k → room_for lo hi xs order j h < n)
+  pub needed-Some : (k : ℕ) → needed (snapshot lo hi xs order) n h ≡ Some k → (n ≤ room_for (snapshot lo hi xs order) k h) × ((j : ℕ) → j < k → room_for (snapshot lo hi xs order) j h < n)
   unfolding serves
   needed-Some k e =
       let first : (0 ≤ k) × (serves k ≡ true) × ((j : ℕ) → 0 ≤ j → j < k → serves j ≡ false) = find_first serves (length (eligible xs order h) + 1) 0 k e in
-      (leb-true n (room_for lo hi xs order k h) first.1, λ j l. leb-false n (room_for lo hi xs order j h) (first.2 j (omega arith) l))
+      (leb-true n (room_for (snapshot lo hi xs order) k h) first.1, λ j l. leb-false n (room_for (snapshot lo hi xs order) j h) (first.2 j (omega arith) l))
 
-  pub needed-None : needed lo hi xs order n h ≡ None → (j : ℕ) → room_for lo hi xs order j h < n
+  pub needed-None : needed (snapshot lo hi xs order) n h ≡ None → (j : ℕ) → room_for (snapshot lo hi xs order) j h < n
   unfolding serves
   needed-None e j =
-      let all : (i : ℕ) → i < length (eligible xs order h) + 1 → room_for lo hi xs order i h < n = λ i l. leb-false n (room_for lo hi xs order i h) (find_no serves (length (eligible xs order h) + 1) 0 e i (omega arith) (omega arith)) in
+      let all : (i : ℕ) → i < length (eligible xs order h) + 1 → room_for (snapshot lo hi xs order) i h < n = λ i l. leb-false n (room_for (snapshot lo hi xs order) i h) (find_no serves (length (eligible xs order h) + 1) 0 e i (omega arith) (omega arith)) in
       elim (cases_lt (length (eligible xs order h)) j) [
         | inl l ↦ omega (arith, room-past j (omega arith), all (length (eligible xs order h)) (omega arith))
         | inr l ↦ all j (omega arith)
       ]
 
-  no_stretch : ArePlaced lo hi xs → (k : ℕ) → room_for lo hi xs order k h < n → NoStretch lo hi xs order k h n
+  no_stretch : ArePlaced lo hi xs → (k : ℕ) → room_for (snapshot lo hi xs order) k h < n → NoStretch lo hi xs order k h n
   no_stretch placed k l place a b arranged free =
       let ids : List ℕ = take k (eligible xs order h) in
       omega (arith, none_longer lo hi (blocks_without xs ids h) (placed_filter lo hi (λ x. not (is_member x.id ids || is_about h x.id)) xs placed) place a b arranged free)

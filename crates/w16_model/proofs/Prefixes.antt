@@ -7,8 +7,8 @@ use Rattle.w16_model.specs.declared.Block.{Block}
 use Rattle.w16_model.specs.declared.Way.{Way}
 use Rattle.w16_model.specs.Gap.{is_pinned, room, longest_hole}
 use Rattle.w16_model.specs.Heap.{Heap, IsHeap, Object, blocks, object_at, is_in_order}
-use Rattle.w16_model.specs.Discards.{eligible, blocks_without, room_for, needed, prefix_for, none_discarded_if, is_member, is_about, is_pinned_id}
-use Rattle.w16_model.specs.Request.{prefix_of}
+use Rattle.w16_model.specs.Discards.{eligible, blocks_without, room_for, needed, prefix_for, none_discarded_if, is_member, is_about, is_pinned_id, snapshot}
+use Rattle.w16_model.specs.Request.{prefix_of, snapshot_of}
 use Rattle.w16_model.proofs.Gaps.{Member}
 use Rattle.w16_model.proofs.Heaps.{IsBlockOf, member_block}
 use Rattle.w16_model.proofs.Discards.{true-is_member}
@@ -96,7 +96,7 @@ eligible_by_members xs ys perm order h =
     λ i. filter (λ id. not (same id i) && not (is_about h id)) order
 
 -- and so does the room
-pub room_by_members : (lo hi : ℕ) (xs ys : List Block) → IsPermutation xs ys → (order : List ℕ) (k : ℕ) (h : Option ℕ) → room_for lo hi xs order k h ≡ room_for lo hi ys order k h
+pub room_by_members : (lo hi : ℕ) (xs ys : List Block) → IsPermutation xs ys → (order : List ℕ) (k : ℕ) (h : Option ℕ) → room_for (snapshot lo hi xs order) k h ≡ room_for (snapshot lo hi ys order) k h
 room_by_members lo hi xs ys perm order k h =
     let stays : List ℕ → Block → Bool = λ ids x. not (is_member x.id ids || is_about h x.id) in
     sym (room-permutation lo hi (filter (stays (take k (eligible xs order h))) xs) (filter (stays (take k (eligible xs order h))) ys) (filter_permutation (stays (take k (eligible xs order h))) xs ys perm))
@@ -104,59 +104,59 @@ room_by_members lo hi xs ys perm order k h =
 
 -- two requests need as many discards where they have as many to discard and as much room at each number
 pub needed_same : (lo hi : ℕ) (xs ys : List Block) (order others : List ℕ) (n : ℕ) (g h : Option ℕ) → length (eligible xs order g) ≡ length (eligible ys others h)
-    → ((k : ℕ) → room_for lo hi xs order k g ≡ room_for lo hi ys others k h) → needed lo hi xs order n g ≡ needed lo hi ys others n h
+    → ((k : ℕ) → room_for (snapshot lo hi xs order) k g ≡ room_for (snapshot lo hi ys others) k h) → needed (snapshot lo hi xs order) n g ≡ needed (snapshot lo hi ys others) n h
 needed_same lo hi xs ys order others n g h long same = λ i. find (λ k. nat_le n (same k i)) (range_with_len 0 (long i + 1))
 
 -- a request's discards depend on the members of the blocks alone
-pub needed_by_members : (lo hi : ℕ) (xs ys : List Block) → IsPermutation xs ys → (order : List ℕ) (n : ℕ) (h : Option ℕ) → needed lo hi xs order n h ≡ needed lo hi ys order n h
+pub needed_by_members : (lo hi : ℕ) (xs ys : List Block) → IsPermutation xs ys → (order : List ℕ) (n : ℕ) (h : Option ℕ) → needed (snapshot lo hi xs order) n h ≡ needed (snapshot lo hi ys order) n h
 needed_by_members lo hi xs ys perm order n h = needed_same lo hi xs ys order order n h h (ap (length {A = ℕ}) (eligible_by_members xs ys perm order h)) (λ k. room_by_members lo hi xs ys perm order k h)
 
 module _ (lo hi : ℕ) (xs : List Block) (order : List ℕ) (n : ℕ) (h : Option ℕ) where
   -- as many discards as are needed make room
-  pub needed_enough : (k : ℕ) → needed lo hi xs order n h ≡ Some k → n ≤ room_for lo hi xs order k h
+  pub needed_enough : (k : ℕ) → needed (snapshot lo hi xs order) n h ≡ Some k → n ≤ room_for (snapshot lo hi xs order) k h
   needed_enough k e = (needed-Some lo hi xs order n h k e).0
 
   -- none is needed where there is room now
-  pub needed_now : n ≤ room_for lo hi xs order 0 h → needed lo hi xs order n h ≡ Some 0
+  pub needed_now : n ≤ room_for (snapshot lo hi xs order) 0 h → needed (snapshot lo hi xs order) n h ≡ Some 0
   needed_now fits =
-      let serves : ℕ → Bool = λ k. nat_le n (room_for lo hi xs order k h) in
+      let serves : ℕ → Bool = λ k. nat_le n (room_for (snapshot lo hi xs order) k h) in
       ap (λ m. find serves (range_with_len 0 m)) (add-one (length (eligible xs order h)))
-      ∙ ap (λ b. cond b (Some 0) (find serves (range_with_len (0 + 1) (length (eligible xs order h))))) (le-leb n (room_for lo hi xs order 0 h) fits)
+      ∙ ap (λ b. cond b (Some 0) (find serves (range_with_len (0 + 1) (length (eligible xs order h))))) (le-leb n (room_for (snapshot lo hi xs order) 0 h) fits)
 
   -- The number of discards of a request, by the way it asks.
   module _ (way : Way) where
     -- where nothing may move
-    pub without_compact : way.compact ≡ false → prefix_for lo hi xs order n h way ≡ none_discarded_if (nat_le n (longest_hole lo hi xs))
-    without_compact still = ap (λ b. cond (not b) (none_discarded_if (nat_le n (longest_hole lo hi xs))) (cond (not way.discard) (none_discarded_if (nat_le n (room_for lo hi xs order 0 h))) (needed lo hi xs order n h))) still
+    pub without_compact : way.compact ≡ false → prefix_for (snapshot lo hi xs order) n h way ≡ none_discarded_if (nat_le n (longest_hole lo hi xs))
+    without_compact still = ap (λ b. cond (not b) (none_discarded_if (nat_le n (longest_hole lo hi xs))) (cond (not way.discard) (none_discarded_if (nat_le n (room_for (snapshot lo hi xs order) 0 h))) (needed (snapshot lo hi xs order) n h))) still
 
     -- where others may slide
-    with_compact : way.compact ≡ true → prefix_for lo hi xs order n h way ≡ cond (not way.discard) (none_discarded_if (nat_le n (room_for lo hi xs order 0 h))) (needed lo hi xs order n h)
-    with_compact moves = ap (λ b. cond (not b) (none_discarded_if (nat_le n (longest_hole lo hi xs))) (cond (not way.discard) (none_discarded_if (nat_le n (room_for lo hi xs order 0 h))) (needed lo hi xs order n h))) moves
+    with_compact : way.compact ≡ true → prefix_for (snapshot lo hi xs order) n h way ≡ cond (not way.discard) (none_discarded_if (nat_le n (room_for (snapshot lo hi xs order) 0 h))) (needed (snapshot lo hi xs order) n h)
+    with_compact moves = ap (λ b. cond (not b) (none_discarded_if (nat_le n (longest_hole lo hi xs))) (cond (not way.discard) (none_discarded_if (nat_le n (room_for (snapshot lo hi xs order) 0 h))) (needed (snapshot lo hi xs order) n h))) moves
 
     -- where nothing may move or be discarded, and a hole is long enough
-    pub prefix_hole : way.compact ≡ false → n ≤ longest_hole lo hi xs → prefix_for lo hi xs order n h way ≡ Some 0
+    pub prefix_hole : way.compact ≡ false → n ≤ longest_hole lo hi xs → prefix_for (snapshot lo hi xs order) n h way ≡ Some 0
     prefix_hole still fits = without_compact still ∙ ap none_discarded_if (le-leb n (longest_hole lo hi xs) fits)
 
     -- where nothing may move or be discarded, and no hole is
-    pub prefix_no_hole : way.compact ≡ false → longest_hole lo hi xs < n → prefix_for lo hi xs order n h way ≡ None
+    pub prefix_no_hole : way.compact ≡ false → longest_hole lo hi xs < n → prefix_for (snapshot lo hi xs order) n h way ≡ None
     prefix_no_hole still short = without_compact still ∙ ap none_discarded_if (lt-leb n (longest_hole lo hi xs) short)
 
     -- where others may slide, and there is room now
-    pub prefix_now : way.compact ≡ true → n ≤ room_for lo hi xs order 0 h → prefix_for lo hi xs order n h way ≡ Some 0
+    pub prefix_now : way.compact ≡ true → n ≤ room_for (snapshot lo hi xs order) 0 h → prefix_for (snapshot lo hi xs order) n h way ≡ Some 0
     prefix_now moves fits = with_compact moves ∙ turn way.discard
       where
-        turn : (b : Bool) → cond (not b) (none_discarded_if (nat_le n (room_for lo hi xs order 0 h))) (needed lo hi xs order n h) ≡ Some 0
+        turn : (b : Bool) → cond (not b) (none_discarded_if (nat_le n (room_for (snapshot lo hi xs order) 0 h))) (needed (snapshot lo hi xs order) n h) ≡ Some 0
         turn true = needed_now fits
-        turn false = ap none_discarded_if (le-leb n (room_for lo hi xs order 0 h) fits)
+        turn false = ap none_discarded_if (le-leb n (room_for (snapshot lo hi xs order) 0 h) fits)
 
     -- where others may slide but none may be discarded, and there is no room
-    pub prefix_kept : way.compact ≡ true → way.discard ≡ false → room_for lo hi xs order 0 h < n → prefix_for lo hi xs order n h way ≡ None
+    pub prefix_kept : way.compact ≡ true → way.discard ≡ false → room_for (snapshot lo hi xs order) 0 h < n → prefix_for (snapshot lo hi xs order) n h way ≡ None
     prefix_kept moves keeps short =
-        with_compact moves ∙ ap (λ b. cond (not b) (none_discarded_if (nat_le n (room_for lo hi xs order 0 h))) (needed lo hi xs order n h)) keeps ∙ ap none_discarded_if (lt-leb n (room_for lo hi xs order 0 h) short)
+        with_compact moves ∙ ap (λ b. cond (not b) (none_discarded_if (nat_le n (room_for (snapshot lo hi xs order) 0 h))) (needed (snapshot lo hi xs order) n h)) keeps ∙ ap none_discarded_if (lt-leb n (room_for (snapshot lo hi xs order) 0 h) short)
 
     -- where others may slide and be discarded
-    pub prefix_needed : way.compact ≡ true → way.discard ≡ true → prefix_for lo hi xs order n h way ≡ needed lo hi xs order n h
-    prefix_needed moves discards = with_compact moves ∙ ap (λ b. cond (not b) (none_discarded_if (nat_le n (room_for lo hi xs order 0 h))) (needed lo hi xs order n h)) discards
+    pub prefix_needed : way.compact ≡ true → way.discard ≡ true → prefix_for (snapshot lo hi xs order) n h way ≡ needed (snapshot lo hi xs order) n h
+    prefix_needed moves discards = with_compact moves ∙ ap (λ b. cond (not b) (none_discarded_if (nat_le n (room_for (snapshot lo hi xs order) 0 h))) (needed (snapshot lo hi xs order) n h)) discards
 
 -- A request about an object that isn't there needs what one about none needs.
 module _ (old : Heap) (is : IsHeap old) (id : ℕ) (unused : object_at old id ≡ None) where
@@ -177,14 +177,14 @@ module _ (old : Heap) (is : IsHeap old) (id : ℕ) (unused : object_at old id �
       (λ q m. ap (λ b. not (is_pinned_id (blocks old) q) && not b) (ne_eqb q id (not_listed q m)))
 
   -- with as much room
-  room_about : (k : ℕ) → room_for old.lo old.hi (blocks old) old.order k (Some id) ≡ room_for old.lo old.hi (blocks old) old.order k None
+  room_about : (k : ℕ) → room_for (snapshot_of old) k (Some id) ≡ room_for (snapshot_of old) k None
   room_about k =
       ap (λ (ids : List ℕ). room old.lo old.hi (blocks_without (blocks old) (take k ids) (Some id))) eligible_about
       ∙ ap (λ (xs : List Block). room old.lo old.hi xs) (filter_same (λ x. not (is_member x.id (take k (eligible (blocks old) old.order None)) || is_about (Some id) x.id)) (λ x. not (is_member x.id (take k (eligible (blocks old) old.order None)) || is_about None x.id)) (blocks old)
       (λ x m. ap (λ b. not (is_member x.id (take k (eligible (blocks old) old.order None)) || b)) (ne_eqb x.id id (no_block x m))))
 
   -- by as many discards
-  pub needed_about : (n : ℕ) → needed old.lo old.hi (blocks old) old.order n (Some id) ≡ needed old.lo old.hi (blocks old) old.order n None
+  pub needed_about : (n : ℕ) → needed (snapshot_of old) n (Some id) ≡ needed (snapshot_of old) n None
   needed_about n = needed_same old.lo old.hi (blocks old) (blocks old) old.order old.order n (Some id) None (ap (length {A = ℕ}) eligible_about) room_about
 
   -- so the answers are the same

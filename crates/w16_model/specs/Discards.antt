@@ -25,13 +25,23 @@ eligible xs order h = filter (λ id. not (is_pinned_id xs id) && not (is_about h
 abbrev pub blocks_without : List Block → List ℕ → Option ℕ → List Block
 blocks_without xs ids h = filter (λ x. not (is_member x.id ids || is_about h x.id)) xs
 
+-- A heap's bounds, its blocks and its order of use.
+pub record Snapshot : Type 0 where
+  pub lo : ℕ
+  pub hi : ℕ
+  pub blocks : List Block
+  pub order : List ℕ
+
+abbrev pub snapshot : ℕ → ℕ → List Block → List ℕ → Snapshot
+snapshot lo hi blocks order = record { lo = lo; hi = hi; blocks = blocks; order = order }
+
 -- the room where h and the first k eligible aren't counted
-abbrev pub room_for : ℕ → ℕ → List Block → List ℕ → ℕ → Option ℕ → ℕ
-room_for lo hi xs order k h = room lo hi (blocks_without xs (take k (eligible xs order h)) h)
+abbrev pub room_for : Snapshot → ℕ → Option ℕ → ℕ
+room_for s k h = room s.lo s.hi (blocks_without s.blocks (take k (eligible s.blocks s.order h)) h)
 
 -- the least number of discards that makes room for n bytes, if there is one (profile: no more is discarded than has to be)
-abbrev pub needed : ℕ → ℕ → List Block → List ℕ → ℕ → Option ℕ → Option ℕ
-needed lo hi xs order n h = find (λ k. nat_le n (room_for lo hi xs order k h)) (range_with_len 0 (length (eligible xs order h) + 1))
+abbrev pub needed : Snapshot → ℕ → Option ℕ → Option ℕ
+needed s n h = find (λ k. nat_le n (room_for s k h)) (range_with_len 0 (length (eligible s.blocks s.order h) + 1))
 
 abbrev pub none_discarded_if : Bool → Option ℕ
 none_discarded_if true = Some 0
@@ -39,7 +49,7 @@ none_discarded_if false = None
 
 -- The number of discards by which a request of n bytes is answered, if it is. GMEM_NOCOMPACT: nothing moves or is discarded, a hole has
 -- to be there; it decides over GMEM_NODISCARD, under which others may slide but none is discarded.
-abbrev pub prefix_for : ℕ → ℕ → List Block → List ℕ → ℕ → Option ℕ → Way → Option ℕ
-prefix_for lo hi xs order n h way =
-    if not way.compact then none_discarded_if (nat_le n (longest_hole lo hi xs))
-    else (if not way.discard then none_discarded_if (nat_le n (room_for lo hi xs order 0 h)) else needed lo hi xs order n h)
+abbrev pub prefix_for : Snapshot → ℕ → Option ℕ → Way → Option ℕ
+prefix_for s n h way =
+    if not way.compact then none_discarded_if (nat_le n (longest_hole s.lo s.hi s.blocks))
+    else (if not way.discard then none_discarded_if (nat_le n (room_for s 0 h)) else needed s n h)

@@ -10,11 +10,11 @@ use Rattle.w16_model.specs.declared.Kind.TheVariants.{Discardable}
 use Rattle.w16_model.specs.declared.TheConstants.{FIRST_SLOT, MOST_SLOTS, GRAIN, LARGEST_SIZE, GMEM_MOVEABLE, GMEM_NOCOMPACT, GMEM_NODISCARD, GMEM_ZEROINIT, GMEM_DISCARDABLE, GMEM_DDESHARE, GMEM_DISCARDED}
 use Rattle.w16_model.specs.Gap.{is_pinned, is_any, room, longest_hole, hole_after, gaps, holes, loose_bytes, block_end, IsGap, IsHole, IsGapOf, ArePlaced, IsLaid}
 use Rattle.w16_model.specs.Arrangement.{IsArrangement, IsFreeStretch}
-use Rattle.w16_model.specs.Discards.{eligible, is_member, blocks_without, needed, room_for}
+use Rattle.w16_model.specs.Discards.{eligible, is_member, blocks_without, needed, room_for, snapshot}
 use Rattle.std.specs.FinMap as finmap
 use Rattle.w16_model.specs.Heap.{Heap, Object, IsHeap, blocks, object_at, is_pinned_object}
 use Rattle.w16_model.specs.Changes.{with_ordered}
-use Rattle.w16_model.specs.Request.{Settles, discarded, stays_for}
+use Rattle.w16_model.specs.Request.{Settles, discarded, stays_for, snapshot_of}
 use Rattle.w16_model.specs.Table.{Table, IsTable, IsSound, heap_in, IsSameOutside}
 use Rattle.w16_model.specs.Walk.{IsWalk}
 use Rattle.w16_model.specs.Handles.{Handles, AreHandles, empty_handles, slot_of_handle, slot_of_selector, handle_of, selector_of}
@@ -106,21 +106,21 @@ NoStretch lo hi xs order k h n =
 
 -- fewer discards than are needed never serve, and where none are enough no number serves
 pub record DiscardsAreLeast (lo hi : ℕ) (xs : List Block) (order : List ℕ) (n : ℕ) (h : Option ℕ) : Type 0 where
-  pub fewer : (k j : ℕ) → needed lo hi xs order n h ≡ Some k → j < k → NoStretch lo hi xs order j h n
-  pub none : (j : ℕ) → needed lo hi xs order n h ≡ None → NoStretch lo hi xs order j h n
+  pub fewer : (k j : ℕ) → needed (snapshot lo hi xs order) n h ≡ Some k → j < k → NoStretch lo hi xs order j h n
+  pub none : (j : ℕ) → needed (snapshot lo hi xs order) n h ≡ None → NoStretch lo hi xs order j h n
 
 abbrev pub LeastLaw : Type 0
 LeastLaw = (lo hi : ℕ) (xs : List Block) (order : List ℕ) → ArePlaced lo hi xs → (n : ℕ) (h : Option ℕ) → DiscardsAreLeast lo hi xs order n h
 
 -- more discards never leave less room
 abbrev pub MoreDiscardsLaw : Type 0
-MoreDiscardsLaw = (lo hi : ℕ) (xs : List Block) (order : List ℕ) (h : Option ℕ) (j k : ℕ) → j ≤ k → room_for lo hi xs order j h ≤ room_for lo hi xs order k h
+MoreDiscardsLaw = (lo hi : ℕ) (xs : List Block) (order : List ℕ) (h : Option ℕ) (j k : ℕ) → j ≤ k → room_for (snapshot lo hi xs order) j h ≤ room_for (snapshot lo hi xs order) k h
 
 -- once the first k are discarded the room is what was promised
 abbrev pub DiscardedLaw : Type 0
 DiscardedLaw = (heap : Heap) (k : ℕ) (h : Option ℕ) →
     let new = discarded heap k h in
-    room_for new.lo new.hi (blocks new) new.order 0 h ≡ room_for heap.lo heap.hi (blocks heap) heap.order k h
+    room_for (snapshot_of new) 0 h ≡ room_for (snapshot_of heap) k h
 
 -- Requests.
 

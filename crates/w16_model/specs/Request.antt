@@ -5,14 +5,17 @@ use Rattle.w16_model.specs.declared.Block.{Block}
 use Rattle.w16_model.specs.declared.Kind.{Kind}
 use Rattle.w16_model.specs.declared.Way.{Way}
 use Rattle.w16_model.specs.Gap.{is_pinned, is_any, longest_hole, hole_after, block_end, IsClear}
-use Rattle.w16_model.specs.Discards.{eligible, room_for, needed, prefix_for, none_discarded_if}
+use Rattle.w16_model.specs.Discards.{Snapshot, snapshot, eligible, room_for, needed, prefix_for, none_discarded_if}
 use Rattle.w16_model.specs.Bytes.{repeated}
 use Rattle.w16_model.specs.Heap.{Heap, Object, IsHeap, IsMultiple, blocks, object_at, bytes_at, size_of, is_pinned_object}
 use Rattle.w16_model.specs.Changes.{with_newest, with_object, with_ordered, absent}
 
+abbrev pub snapshot_of : Heap → Snapshot
+snapshot_of heap = snapshot heap.lo heap.hi (blocks heap) heap.order
+
 -- the number of discards by which a request of n bytes about h is answered, if it is
 abbrev pub prefix_of : Heap → ℕ → Option ℕ → Way → Option ℕ
-prefix_of heap n h way = prefix_for heap.lo heap.hi (blocks heap) heap.order n h way
+prefix_of heap n h way = prefix_for (snapshot_of heap) n h way
 
 -- the first k that a request about h may discard, discarded
 abbrev pub discarded : Heap → ℕ → Option ℕ → Heap
@@ -116,17 +119,17 @@ eligible_count heap = length (eligible (blocks heap) heap.order None)
 
 -- what compaction could make free: the room with all that may be discarded left out
 abbrev pub most_room : Heap → ℕ
-most_room heap = room_for heap.lo heap.hi (blocks heap) heap.order (eligible_count heap) None
+most_room heap = room_for (snapshot_of heap) (eligible_count heap) None
 
 -- how many are discarded for n bytes: as many as are needed, or all
 abbrev pub compaction_prefix : Heap → ℕ → ℕ
-compaction_prefix heap n = unwrap_or (needed heap.lo heap.hi (blocks heap) heap.order n None) (eligible_count heap)
+compaction_prefix heap n = unwrap_or (needed (snapshot_of heap) n None) (eligible_count heap)
 
 -- Room is made for n bytes, n above 0: these are discarded, the others slide, and the answer is the room there was without the first, which
 -- is the length of the longest hole that there is now.
 pub record MakesRoom (old : Heap) (n answer : ℕ) (new : Heap) : Type 0 where
   pub settled : Settles old is_pinned (discarded old (compaction_prefix old n) None) new
-  pub promised : answer ≡ room_for old.lo old.hi (blocks old) old.order (compaction_prefix old n) None
+  pub promised : answer ≡ room_for (snapshot_of old) (compaction_prefix old n) None
   pub longest : answer ≡ longest_hole new.lo new.hi (blocks new)
 
 -- Compaction for 0 bytes only answers what could be made free.

@@ -4,9 +4,9 @@ ghost use Rattle.std.specs.Prelude.{◌≡◌, ◌+◌, ◌^◌, ◌<◌, ◌≤
 ghost use Rattle.w16_model.specs.Bytes.{part, put_part, repeated};
 ghost use Rattle.w16_region.specs.Bytes.{counted};
 
-use w16_region::{Region, Space, Window};
 use std::process::Abort;
 use std::test::Fail;
+use w16_region::{Region, Space, Window};
 
 /// Copies between parts that do not meet.
 fn copy_apart<S: Space>(space: &mut S, from: u32, to: u32, size: u32)

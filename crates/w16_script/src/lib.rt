@@ -25,4 +25,3 @@ pub use outcome::{Ended, RunFault};
 pub use print::{print_error, print_reply};
 pub use registers::Registers;
 pub use script::run;
-

@@ -2,7 +2,7 @@
 ghost use Rattle.std.specs.Prelude.{◌≡◌, ◌↔◌, IsTrue, IfSome, IfNone};
 ghost use Rattle.w16_script.specs.Grammar.{text_of, parameters_of};
 
-use crate::arguments::Parameter;
+use crate::arguments::Parameter::{self, Byte, Bytes, Count, Dword, Word};
 use w16_kernel::{MOST_FILLED, MOST_READ};
 
 /// A command, without its arguments.
@@ -43,61 +43,39 @@ pub fn find(word: &[u8]) -> Option<(Name, &'static [Parameter])>
     match word.len() {
         4 => match word {
             _ if is(word, b"Walk") => Some((Name::Walk, &[])),
-            _ if is(word, b"Read") => Some((
-                Name::Read,
-                &[Parameter::Dword, Parameter::Count(MOST_READ as u32)],
-            )),
-            _ if is(word, b"Fill") => Some((
-                Name::Fill,
-                &[
-                    Parameter::Dword,
-                    Parameter::Count(MOST_FILLED),
-                    Parameter::Byte,
-                ],
-            )),
+            _ if is(word, b"Read") => Some((Name::Read, &[Dword, Count(MOST_READ as u32)])),
+            _ if is(word, b"Fill") => Some((Name::Fill, &[Dword, Count(MOST_FILLED), Byte])),
             _ => None,
         },
         5 => match word {
             _ if is(word, b"Moved") => Some((Name::Moved, &[])),
-            _ if is(word, b"Write") => Some((Name::Write, &[Parameter::Dword, Parameter::Bytes])),
+            _ if is(word, b"Write") => Some((Name::Write, &[Dword, Bytes])),
             _ => None,
         },
         10 => match word {
-            _ if is(word, b"GlobalFree") => Some((Name::GlobalFree, &[Parameter::Word])),
-            _ if is(word, b"GlobalLock") => Some((Name::GlobalLock, &[Parameter::Word])),
-            _ if is(word, b"GlobalSize") => Some((Name::GlobalSize, &[Parameter::Word])),
+            _ if is(word, b"GlobalFree") => Some((Name::GlobalFree, &[Word])),
+            _ if is(word, b"GlobalLock") => Some((Name::GlobalLock, &[Word])),
+            _ if is(word, b"GlobalSize") => Some((Name::GlobalSize, &[Word])),
             _ => None,
         },
         11 => match word {
-            _ if is(word, b"GlobalAlloc") => Some((
-                Name::GlobalAlloc,
-                &[Parameter::Word, Parameter::Dword],
-            )),
-            _ if is(word, b"GlobalFlags") => Some((Name::GlobalFlags, &[Parameter::Word])),
+            _ if is(word, b"GlobalAlloc") => Some((Name::GlobalAlloc, &[Word, Dword])),
+            _ if is(word, b"GlobalFlags") => Some((Name::GlobalFlags, &[Word])),
             _ => None,
         },
         12 => match word {
-            _ if is(word, b"GlobalUnlock") => Some((Name::GlobalUnlock, &[Parameter::Word])),
-            _ if is(word, b"GlobalHandle") => Some((Name::GlobalHandle, &[Parameter::Word])),
+            _ if is(word, b"GlobalUnlock") => Some((Name::GlobalUnlock, &[Word])),
+            _ if is(word, b"GlobalHandle") => Some((Name::GlobalHandle, &[Word])),
             _ => None,
         },
-        13 => match word {
-            _ if is(word, b"GlobalCompact") => Some((Name::GlobalCompact, &[Parameter::Dword])),
-            _ => None,
-        },
+        13 if is(word, b"GlobalCompact") => Some((Name::GlobalCompact, &[Dword])),
         15 => match word {
-            _ if is(word, b"GetSelectorBase") => Some((Name::GetSelectorBase, &[Parameter::Word])),
-            _ if is(word, b"GlobalLRUNewest") => Some((Name::GlobalLRUNewest, &[Parameter::Word])),
-            _ if is(word, b"GlobalLRUOldest") => Some((Name::GlobalLRUOldest, &[Parameter::Word])),
+            _ if is(word, b"GetSelectorBase") => Some((Name::GetSelectorBase, &[Word])),
+            _ if is(word, b"GlobalLRUNewest") => Some((Name::GlobalLRUNewest, &[Word])),
+            _ if is(word, b"GlobalLRUOldest") => Some((Name::GlobalLRUOldest, &[Word])),
             _ => None,
         },
-        16 => match word {
-            _ if is(word, b"GetSelectorLimit") => Some((
-                Name::GetSelectorLimit,
-                &[Parameter::Word],
-            )),
-            _ => None,
-        },
+        16 if is(word, b"GetSelectorLimit") => Some((Name::GetSelectorLimit, &[Word])),
         _ => None,
     }
 }

@@ -3,13 +3,13 @@ mod registers;
 mod runs;
 mod walks;
 
-use w16_script::{Line, MOST_BYTES, Registers, RunFault, print_error, print_reply, read_line};
 use arrayvec::ArrayVec;
 use std::io::{Error, ErrorKind, Result, Write};
 use std::process::Abort;
 use std::test::Fail;
 use w16_kernel::{Call, Reply};
 use w16_model::FarFault;
+use w16_script::{Line, MOST_BYTES, Registers, RunFault, print_error, print_reply, read_line};
 
 /// A writer that takes so many bytes, at most so many at once, and then fails.
 #[derive(Drop)]

@@ -3,8 +3,8 @@
 use super::{
     AS_IT_STANDS, Answer, DISCARDING, SLIDING, Step, act, expect, in_order, made, shown, six,
 };
-use w16_arena::{Compacted, Placed};
 use std::test::Fail;
+use w16_arena::{Compacted, Placed};
 use w16_model::{Item, Kind, Owner, Refusal, Span};
 use w16_region::Region;
 

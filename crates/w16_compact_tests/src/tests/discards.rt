@@ -2,11 +2,11 @@
 ghost use Rattle.std.specs.Prelude.{◌≡◌, IfOk};
 
 use super::{IDS, laid_out};
-use w16_compact::least_prefix;
 use std::alloc::{AllocError, Global};
 use std::process::Abort;
 use std::test::Fail;
 use w16_blocks::{Block, Hold};
+use w16_compact::least_prefix;
 use w16_lru::Order;
 use w16_model::Snapshot;
 

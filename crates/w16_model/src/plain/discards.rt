@@ -2,6 +2,7 @@
 ghost use Rattle.std.specs.Prelude.{◌≡◌, IfOk};
 ghost use Rattle.w16_model.specs.Gap.{ArePlaced};
 ghost use Rattle.w16_model.specs.Discards as defined;
+ghost use Rattle.w16_model.specs.Discards.{snapshot};
 
 use super::{Snapshot, is_pinned};
 use crate::{Block, Way};
@@ -32,7 +33,7 @@ impl<'a> Snapshot<'a> {
         requires { ArePlaced self.now.lo self.now.hi self.now.blocks.now }
         ensures { IfOk result
             (λ room. room
-            ≡ defined.room_for self.now.lo self.now.hi self.now.blocks.now self.now.order.now
+            ≡ defined.room_for (snapshot self.now.lo self.now.hi self.now.blocks.now self.now.order.now)
             count about) }
     {
         let eligible = self.eligible(alloc, about)?;
@@ -56,7 +57,7 @@ impl<'a> Snapshot<'a> {
         requires { ArePlaced self.now.lo self.now.hi self.now.blocks.now }
         ensures { IfOk result
             (λ count. count
-            ≡ defined.needed self.now.lo self.now.hi self.now.blocks.now self.now.order.now
+            ≡ defined.needed (snapshot self.now.lo self.now.hi self.now.blocks.now self.now.order.now)
             size about) }
     {
         let most = self.eligible(alloc, about)?.len();
@@ -80,7 +81,7 @@ impl<'a> Snapshot<'a> {
         requires { ArePlaced self.now.lo self.now.hi self.now.blocks.now }
         ensures { IfOk result
             (λ count. count
-            ≡ defined.prefix_for self.now.lo self.now.hi self.now.blocks.now self.now.order.now
+            ≡ defined.prefix_for (snapshot self.now.lo self.now.hi self.now.blocks.now self.now.order.now)
             size about way) }
     {
         if !way.compact {

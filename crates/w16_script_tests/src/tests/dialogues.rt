@@ -1,11 +1,11 @@
 use crate::tests::limited;
-use w16_script::{Ended, RunFault, run};
 use arrayvec::ArrayVec;
 use std::alloc::{AllocError, Global};
 use std::cell::{Cell, RefCell};
 use std::io::{BufWriter, Error, ErrorKind, Read, Result, Write};
 use std::test::Fail;
 use w16_kernel::Kernel;
+use w16_script::{Ended, RunFault, run};
 
 type Tested = std::result::Result<(), Fail>;
 

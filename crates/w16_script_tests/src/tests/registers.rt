@@ -1,8 +1,8 @@
-use w16_script::{Line, MOST_BYTES, Registers, read_line};
 use arrayvec::ArrayVec;
 use std::process::Abort;
 use w16_kernel::{Call, Reply};
 use w16_model::FarFault;
+use w16_script::{Line, MOST_BYTES, Registers, read_line};
 
 /// Registers of which some have numbers, and all others 0.
 fn filled() -> Registers {

@@ -1,9 +1,9 @@
 use crate::tests::{Short, limited};
-use w16_script::{Ended, RunFault, run};
 use std::alloc::{AllocError, Global};
 use std::io::{Error, ErrorKind, Read, Result};
 use std::test::Fail;
 use w16_kernel::Kernel;
+use w16_script::{Ended, RunFault, run};
 
 type Tested = std::result::Result<(), Fail>;
 

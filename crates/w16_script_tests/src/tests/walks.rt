@@ -1,8 +1,8 @@
 use crate::tests::limited;
-use w16_script::{RunFault, run};
 use std::alloc::{AllocError, Global};
 use std::test::Fail;
 use w16_kernel::{Call, Kernel, MOST_READ};
+use w16_script::{RunFault, run};
 
 type Tested = std::result::Result<(), Fail>;
 

@@ -1,13 +1,13 @@
 use Rattle.std.proofs.Common.{◌+◌, ◌-◌, ◌/◌, ◌∙◌, arith, subst}
 use Rattle.std.specs.Prelude.{◌<◌}
-use Rattle.w16_model.specs.Discards.{room_for}
+use Rattle.w16_model.specs.Discards.{room_for, snapshot}
 use Rattle.w16_compact.proofs.Halved.{above, least_needed, none_needed}
 use Rattle.w16_compact.proofs.prefix.least_prefix.Goals as goal
 
 pub returns-then-room_after-n-clause-value : goal.returns-then-room_after-n-clause-value
 returns-then-room_after-n-clause-value c =
     let l = c.args.blocks.now in let ids = c.args.order.now.ids in
-    none_needed l.lo l.hi l.blocks ids c.args.n c.args.h (subst (λ k. room_for l.lo l.hi l.blocks ids k c.args.h < c.args.n) c.len-enough.ensures (omega (arith, c.room_after.ensures.value, c.if-room_after-n.true)))
+    none_needed l.lo l.hi l.blocks ids c.args.n c.args.h (subst (λ k. room_for (snapshot l.lo l.hi l.blocks ids) k c.args.h < c.args.n) c.len-enough.ensures (omega (arith, c.room_after.ensures.value, c.if-room_after-n.true)))
 
 pub loop-least-preserved-then-room_after-n-3 : goal.loop-least-preserved-then-room_after-n-3
 loop-least-preserved-then-room_after-n-3 c =
