@@ -15,6 +15,8 @@ mod discards;
 mod new_place;
 mod objects;
 mod requests;
+#[cfg(test)]
+mod tests;
 mod walk;
 mod without_discard;
 

@@ -166,7 +166,7 @@ module _ {h : Holding} {xs : List (Option Attributes)} {t : selectors.Descriptor
         }
 
     -- what is free for it still is, once the others were told
-    pub slot_left : (told : selectors.DescriptorTable) → ((q : ℕ) → descriptor_at told q ≡ forgotten new.discarded t q) → length told ≡ length t → selectors.IsFree told slot
+    pub slot_left : (told : selectors.DescriptorTable) → ((q : ℕ) → descriptor_at told q ≡ forgotten new.discarded t q) → length told ≡ length t → selectors.IsUntaken told slot
     slot_left told forgot many_told = (free.0.0, subst (λ k. slot < k) (sym many_told) in_table, unset_still)
       where
         not_its_own : is_member slot (take s.0 (eligible (blocks h.heap) h.heap.order (Some slot))) ≡ false

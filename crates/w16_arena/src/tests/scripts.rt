@@ -3,13 +3,11 @@
 use super::{
     AS_IT_STANDS, Answer, DISCARDING, SLIDING, Step, act, expect, in_order, made, shown, six,
 };
+use crate::new_place::NOTHING;
+use crate::{Compacted, Placed};
 use std::test::Fail;
-use w16_arena::{Compacted, Placed};
 use w16_model::{Item, Kind, Owner, Refusal, Span};
 use w16_region::Region;
-
-/// No block slid.
-const NOTHING: Span = Span { from: 0, to: 0 };
 
 macro_rules! placed {
     ($at:expr) => {

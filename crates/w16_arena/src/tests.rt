@@ -5,10 +5,10 @@ ghost use Rattle.w16_arena.specs.State.{empty_table};
 
 mod scripts;
 
+use crate::{Arena, Compacted, NoRoom, Placed};
 use std::alloc::{AllocError, Global};
 use std::process::Abort;
 use std::test::Fail;
-use w16_arena::{Arena, Compacted, NoRoom, Placed};
 use w16_model::{Block, Entry, Hold, Item, Kind, Refusal, Snapshot, Way};
 use w16_region::{Region, Space};
 
