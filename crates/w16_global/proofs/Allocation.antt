@@ -1,5 +1,5 @@
 -- What an allocation answers.
-use Rattle.std.proofs.Common.{◌≡◌, ℕ, ◌+◌, inr, true, ◌==◌, ◌&&◌, MatchBool, MatchOption, inl, ne_eqb, IfSome, IfNone, List, Option, Some, None, refl, sym, subst, arith, ◌<◌, ◌≤◌, ◌∙◌, Bool, false, ap}
+use Rattle.std.proofs.Common.{◌≡◌, ℕ, inr, true, ◌==◌, ◌&&◌, MatchBool, MatchOption, inl, ne_eqb, IfSome, IfNone, List, Option, Some, None, refl, sym, subst, arith, ◌<◌, ◌≤◌, ◌∙◌, Bool, false, ap}
 use Rattle.std.specs.FinMap as finmap
 use Rattle.w16_model.specs.declared.Attributes.{Attributes}
 use Rattle.w16_model.specs.declared.Kind.{Kind}

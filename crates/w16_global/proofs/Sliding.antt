@@ -101,10 +101,10 @@ pub each_known : {h : Holding} {xs : List (Option Attributes)} {t : selectors.De
 each_known {h} {xs} {t} are slot there = ap is_some (are.described slot) ∙ described_some h.heap slot ∙ there
 
 -- what an answered request was
-granted : (old : Heap) (h : ℕ) (way : Way) (prefix : Option ℕ) (Asked : Object → Type 0) (order : Object → List ℕ → List ℕ) (new : Heap) → Request old h way prefix Asked order true new
-    → (k : ℕ) × (prefix ≡ Some k) × (o : Object) × Asked o × Settles old (stays_for h way) (with_ordered (discarded old k (Some h)) h o (order o)) new
-granted old h way None Asked order new r = absurd (false≢true (sym r.0))
-granted old h way (Some k) Asked order new r = (k, refl, r.1.0, r.1.1, r.1.2)
+granted : (old : Heap) (h : ℕ) (way : Way) (prefix : Option ℕ) (becomes : Object → Type 0) (order : Object → List ℕ → List ℕ) (new : Heap) → Request old h (record { way = way; prefix = prefix; becomes = becomes; order = order }) true new
+    → (k : ℕ) × (prefix ≡ Some k) × (o : Object) × becomes o × Settles old (stays_for h way) (with_ordered (discarded old k (Some h)) h o (order o)) new
+granted old h way None becomes order new r = absurd (false≢true (sym r.0))
+granted old h way (Some k) becomes order new r = (k, refl, r.1.0, r.1.1, r.1.2)
 
 -- An object with bytes in a free slot, for which others may have been discarded or have slid.
 module _ {h : Holding} {xs : List (Option Attributes)} {t : selectors.DescriptorTable} (are : AreJoined h xs t) (new : Holding) (cap : new.cap ≡ h.cap) (slot : ℕ) (a : Attributes)

@@ -1,6 +1,5 @@
 -- The bytes at an address in an object, and the heap after some of them are replaced.
-use Rattle.std.proofs.Common.{◌≡◌, ◌≢◌, ℕ, ◌+◌, ◌-◌, ◌<◌, ◌≤◌, inl, inr, IsSomeAnd, List, [], ◌++◌, length, get_or, slice_range, take, drop, All, Option, Some, None, option_map, unwrap_or, refl, sym, ap, ◌∙◌, subst, arith, append_assoc, length-drop}
-use Rattle.std.specs.FinMap as finmap
+use Rattle.std.proofs.Common.{◌≡◌, ◌≢◌, ℕ, ◌+◌, ◌-◌, ◌<◌, ◌≤◌, inl, inr, IsSomeAnd, List, [], ◌++◌, length, get_or, slice_range, take, drop, All, Option, Some, None, option_map, unwrap_or, refl, sym, ap, ◌∙◌, subst, arith, length-drop}
 use Rattle.std.proofs.lemmas.Bool.{cases_eq}
 use Rattle.std.proofs.lemmas.List.{drop-take, take-take, drop-drop, drop-append-le, length-take-le}
 use Rattle.std.proofs.Math.Seq.{take-append-add}
@@ -20,7 +19,7 @@ use Rattle.w16_blocks.specs.Layout.{Layout}
 use Rattle.w16_arena.specs.State.{ArenaState}
 use Rattle.w16_arena.proofs.Parts as arena
 use Rattle.w16_global.specs.Parts.{AreParts, Holding, HasPart, holding_of}
-use Rattle.w16_arena.proofs.Lookups.{object_here, place_here, bytes_here, ends_in_memory, same_heap}
+use Rattle.w16_arena.proofs.Lookups.{object_here, bytes_here, ends_in_memory, same_heap}
 
 -- a part of a range is one of the whole list
 slice_of_range : (m : List ℕ) (p s at n : ℕ) → at + n ≤ s → part (slice_range m p (p + s)) at n ≡ take n (drop (p + at) m)

@@ -56,6 +56,7 @@ impl Global16 {
     }
 
     /// Writes one byte `n` times. It tells the first fault as `far_write` does.
+    #[tactic(auto, using(w16_region::specs::Bytes::lengths))]
     pub fn far_fill(&mut self, selector: u16, offset: u16, n: u32, byte: u8) -> Result<(), FarFault>
         ensures ok { OnOk result (Gives (access.far_write self.old selector offset (repeated n byte)) access.FarAnswer.Done self.new) }
         ensures err { IfErr result (λ fault. Gives (access.far_write self.old selector offset (repeated n byte)) (access.FarAnswer.Fault fault) self.new) }

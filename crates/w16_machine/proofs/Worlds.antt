@@ -1,8 +1,6 @@
 -- Each step of the machine keeps what holds of every world, as each family's does.
-use Rattle.std.proofs.Common.{subst, sym}
 use Rattle.w16_model.proofs.Empty.{empty_law}
 use Rattle.w16_model.proofs.KeptHandles.{handle_law, far_law}
-use Rattle.w16_machine.specs.World.{World, IsWorld}
 use Rattle.w16_machine.specs.Machine.Command.{OfHandles, OfFar}
 use Rattle.w16_machine.specs.Machine.Reply.{Word, Dword, Bytes, Done, Fault, Walked}
 use Rattle.w16_machine.specs.Law.{EmptyLaw, WorldLaw}

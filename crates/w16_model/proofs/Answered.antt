@@ -184,6 +184,6 @@ allocates_after old id n kind way k some rounded none answered o is_new new s = 
   some = some;
   rounded = rounded;
   without_bytes = none;
-  request = subst (λ p. Request old id way p (IsNew way.zero n kind 0) (with_newest id) true new) (sym answered)
+  request = subst (λ p. Request old id (record { way = way; prefix = p; becomes = IsNew way.zero n kind 0; order = with_newest id }) true new) (sym answered)
       (refl, (o, is_new, settles_after old id n way k answered (with_ordered (discarded old k (Some id)) id o (with_newest id o)) new s));
 }

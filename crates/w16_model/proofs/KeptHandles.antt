@@ -1,5 +1,5 @@
 -- Each call and each far access keeps what holds of handles.
-use Rattle.std.proofs.Common.{◌≡◌, ◌≢◌, ℕ, ◌+◌, ◌-◌, ◌<◌, ◌≤◌, inl, inr, Bool, true, false, cond, not, ◌==◌, if◌then◌else◌, MatchBool, nat_lt, IfSome, IfOk, List, [], ◌∷◌, length, fold, take, All, Option, Some, None, Result, Ok, Err, option_map, is_some, unwrap_or, refl, sym, ap, ◌∙◌, subst, ltb-false}
+use Rattle.std.proofs.Common.{◌≡◌, ◌≢◌, ℕ, ◌+◌, ◌-◌, ◌<◌, ◌≤◌, inl, inr, Bool, true, false, cond, not, ◌==◌, if◌then◌else◌, MatchBool, nat_lt, IfSome, IfOk, List, [], ◌∷◌, length, fold, take, All, Option, Some, None, Result, Ok, Err, option_map, is_some, refl, sym, ap, ◌∙◌, subst}
 use Rattle.std.specs.Ordering.{nat_cmp}
 use Rattle.std.specs.FinMap as finmap
 use Rattle.std.specs.FinMap.{FinMap}
@@ -9,17 +9,16 @@ use Rattle.w16_model.specs.declared.Way.{Way}
 use Rattle.w16_model.specs.declared.Refusal.{Refusal}
 use Rattle.w16_model.specs.declared.Refusal.TheVariants as refusals
 use Rattle.w16_model.specs.declared.FarFault.{FarFault}
-use Rattle.w16_model.specs.declared.FarFault.TheVariants.{BadSelector, NotPresent, Limit}
 use Rattle.w16_model.specs.Gap.{is_pinned}
 use Rattle.w16_model.specs.Discards.{eligible}
-use Rattle.w16_model.specs.Heap.{Heap, Object, IsHeap, blocks, object_at, bytes_at, is_fixed}
+use Rattle.w16_model.specs.Heap.{Heap, Object, IsHeap, blocks, object_at, is_fixed}
 use Rattle.w16_model.specs.Changes.{absent, with_object, with_ordered, removed, newest, oldest, touched, update, with_newest}
 use Rattle.w16_model.specs.declared.Kind.{Kind}
 use Rattle.w16_model.specs.declared.TheConstants.{GMEM_DDESHARE}
 use Rattle.w16_model.specs.OneObject.{Enters, after_lock, after_unlock, after_free, after_touch, refused_order}
 use Rattle.w16_model.specs.Request.{Request, Allocates, IsNew, Settles, MakesRoom, most_room, compaction_prefix, moved_bytes, discarded, stays_for, prefix_of}
 use Rattle.w16_model.specs.declared.Attributes.{Attributes}
-use Rattle.w16_model.specs.Handles.{Handles, AreHandles, IsSlot, IsFreeSlot, slot_of_handle, slot_of_selector, selector_of, far_pointer, selector_in, offset_in}
+use Rattle.w16_model.specs.Handles.{Handles, AreHandles, IsSlot, IsFreeSlot, slot_of_handle, selector_of, far_pointer, selector_in, offset_in}
 use Rattle.w16_model.specs.Calls.{Answer, AnswersAlloc, GlobalCompacts, global_free, global_lock, global_unlock, handle_or_0, global_lru_newest, global_lru_oldest, locks_at, way_asked, kind_asked, rounded_size, is_absent_asked, has_flag}
 use Rattle.w16_model.specs.Calls.HandleCommand.{GlobalAlloc, GlobalFree, GlobalLock, GlobalUnlock, GlobalSize, GlobalFlags, GlobalHandle, GetSelectorBase, GetSelectorLimit, GlobalCompact, GlobalLRUNewest, GlobalLRUOldest, Moved, Walk}
 use Rattle.w16_model.specs.Calls.Answer.{Word, Dword, Walked}
@@ -31,7 +30,7 @@ use Rattle.w16_model.specs.Far.FarAnswer.{Bytes, Done, Fault}
 use Rattle.w16_model.specs.Law.{HandleLaw, FarLaw}
 use Rattle.w16_model.proofs.Accesses.{Reached, reached}
 use Rattle.w16_model.proofs.Heaps.{get-update_same, get-update_other}
-use Rattle.w16_model.proofs.KeptHeaps.{bytes_in, inserted_here, inserted_other, entered_heap, taken_here, taken_other, touched_heap, newest_heap, oldest_heap, ordered, removed_heap, locked_heap, unlocked_heap, written_heap}
+use Rattle.w16_model.proofs.KeptHeaps.{inserted_here, inserted_other, entered_heap, taken_here, taken_other, touched_heap, newest_heap, oldest_heap, ordered, removed_heap, locked_heap, unlocked_heap, written_heap}
 
 -- Which ids have an object.
 
@@ -75,10 +74,10 @@ if_there (Some o) None P e h = absurd (false≢true (sym e))
 if_there (Some o) (Some r) P e h = h
 
 -- what an answered request has settled
-pub settled : (old : Heap) (h : ℕ) (way : Way) (prefix : Option ℕ) (Asked : Object → Type 0) (order : Object → List ℕ → List ℕ) (new : Heap) → Request old h way prefix Asked order true new
+pub settled : (old : Heap) (h : ℕ) (way : Way) (prefix : Option ℕ) (becomes : Object → Type 0) (order : Object → List ℕ → List ℕ) (new : Heap) → Request old h (record { way = way; prefix = prefix; becomes = becomes; order = order }) true new
     → (k : ℕ) × (o : Object) × Settles old (stays_for h way) (with_ordered (discarded old k (Some h)) h o (order o)) new
-settled old h way None Asked order new r = absurd (false≢true (sym r.0))
-settled old h way (Some k) Asked order new r = (k, r.1.0, r.1.2)
+settled old h way None becomes order new r = absurd (false≢true (sym r.0))
+settled old h way (Some k) becomes order new r = (k, r.1.0, r.1.2)
 
 -- a choice of two results is good where each is that may be chosen
 if_ok : (P : Heap → Type 0) (b : Bool) (r s : Result Heap Refusal) → (b ≡ true → IfOk r P) → (b ≡ false → IfOk s P) → IfOk (cond b r s) P

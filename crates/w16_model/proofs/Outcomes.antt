@@ -80,9 +80,9 @@ Made old flags size slot new absent = MatchBool absent (Enters old.heap slot (ki
 -- An allocation that was answered is none of those that are refused.
 module _ (old : Handles) (is : AreHandles old) (flags size : ℕ) where
   -- it had a prefix
-  has_prefix : (slot : ℕ) (way : Way) (p : Option ℕ) (asked : Object → Type 0) (order : Object → List ℕ → List ℕ) (new : Heap) → Request old.heap slot way p asked order true new → p ≡ None → ⊥
-  has_prefix slot way None asked order new r none = false≢true (sym r.0)
-  has_prefix slot way (Some k) asked order new r none = cc
+  has_prefix : (slot : ℕ) (way : Way) (p : Option ℕ) (becomes : Object → Type 0) (order : Object → List ℕ → List ℕ) (new : Heap) → Request old.heap slot (record { way = way; prefix = p; becomes = becomes; order = order }) true new → p ≡ None → ⊥
+  has_prefix slot way None becomes order new r none = false≢true (sym r.0)
+  has_prefix slot way (Some k) becomes order new r none = cc
 
   not_refused : (slot : ℕ) (new : Heap) → object_at old.heap slot ≡ None → Allocates old.heap slot (rounded_size size) (kind_asked flags) 0 (way_asked flags) true new → prefix_of old.heap (rounded_size size) None (way_asked flags) ≡ None → ⊥
   not_refused slot new unused allocated none = has_prefix slot (way_asked flags) (prefix_of old.heap (rounded_size size) (Some slot) (way_asked flags)) (IsNew (way_asked flags).zero (rounded_size size) (kind_asked flags) 0) (with_newest slot) new allocated.request

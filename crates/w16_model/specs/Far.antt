@@ -1,5 +1,5 @@
 -- Far accesses: bytes at selector:offset.
-use Rattle.std.specs.Prelude.{◌≡◌, ℕ, ◌+◌, ◌<◌, Bool, if◌then◌else◌, nat_lt, All, List, [], length, unwrap_or, Option, Some, None, option_map}
+use Rattle.std.specs.Prelude.{ℕ, ◌+◌, ◌<◌, if◌then◌else◌, nat_lt, All, List, [], length, unwrap_or, Option, Some, None, option_map}
 use Rattle.w16_model.specs.declared.FarFault.{FarFault}
 use Rattle.w16_model.specs.declared.FarFault.TheVariants.{BadSelector, NotPresent, Limit}
 use Rattle.w16_model.specs.Bytes.{part, put_part, repeated}

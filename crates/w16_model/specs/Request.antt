@@ -35,13 +35,20 @@ pub record Settles (old : Heap) (stays : Block → Bool) (heap new : Heap) : Typ
 abbrev pub stays_for : ℕ → Way → Block → Bool
 stays_for h way x = not (x.id == h) && (is_pinned x || not way.compact)
 
+-- What is asked for an object: how room may be made, by how many discards if at all, what the object becomes, and the order of use with it.
+pub record Asked : Type 1 where
+  pub way : Way
+  pub prefix : Option ℕ
+  pub becomes : Object → Type 0
+  pub order : Object → List ℕ → List ℕ
+
 -- A request for room for h. With no prefix it is refused, in the same heap. Else that many of the eligible are discarded and no others, h
 -- becomes an object such as the request asks for, and the rest is as it was but for addresses.
-abbrev pub Request : Heap → ℕ → Way → Option ℕ → (Object → Type 0) → (Object → List ℕ → List ℕ) → Bool → Heap → Type 0
-Request old h way prefix Asked order answered new =
-    MatchOption prefix
+abbrev pub Request : Heap → ℕ → Asked → Bool → Heap → Type 0
+Request old h asked answered new =
+    MatchOption asked.prefix
     ((answered ≡ false) × (new ≡ old))
-    (λ k. (answered ≡ true) × ((o : Object) × Asked o × Settles old (stays_for h way) (with_ordered (discarded old k (Some h)) h o (order o)) new))
+    (λ k. (answered ≡ true) × ((o : Object) × asked.becomes o × Settles old (stays_for h asked.way) (with_ordered (discarded old k (Some h)) h o (asked.order o)) new))
 
 -- Allocation and revival.
 
@@ -57,7 +64,7 @@ pub record Allocates (old : Heap) (id n : ℕ) (kind : Kind) (locks : ℕ) (way 
   pub some : 0 < n
   pub rounded : IsMultiple old.grain n
   pub without_bytes : bytes_at old id ≡ None
-  pub request : Request old id way (prefix_of old n (Some id) way) (IsNew way.zero n kind locks) (with_newest id) answered new
+  pub request : Request old id (record { way = way; prefix = prefix_of old n (Some id) way; becomes = IsNew way.zero n kind locks; order = with_newest id }) answered new
 
 -- Reallocation (GlobalReAlloc), where it asks for a size above 0.
 
@@ -93,7 +100,7 @@ Grows old id o n way answered new =
     (MatchBool (fits_in_place old id o n)
     ((answered ≡ true) × ((grown : Object) × IsGrown way.zero n o grown × (new ≡ with_object old id grown)))
     ((answered ≡ false) × (new ≡ old)))
-    (Request old id way (growth_prefix old id o n way) (IsGrown way.zero n o) (λ _ order. order) answered new
+    (Request old id (record { way = way; prefix = growth_prefix old id o n way; becomes = IsGrown way.zero n o; order = λ _ order. order }) answered new
     × (way.compact ≡ false → answered ≡ true → StaysOrMovesToHole old id n new))
 
 -- The object o of an id to n bytes: an absent one is revived; one that is as long or longer is cut, at its address; another grows.

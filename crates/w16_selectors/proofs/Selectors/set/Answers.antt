@@ -1,4 +1,3 @@
-use Rattle.std.proofs.Common.{Some, arith}
 use Rattle.w16_selectors.proofs.Represented.{IsKept-written, AreTaken-written}
 use Rattle.w16_selectors.proofs.Selectors.set.Goals as goal
 

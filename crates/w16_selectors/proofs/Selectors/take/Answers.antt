@@ -1,4 +1,4 @@
-use Rattle.std.proofs.Common.{Some, length, ◌<◌, arith}
+use Rattle.std.proofs.Common.{Some, arith}
 use Rattle.w16_selectors.specs.Descriptors.{unset}
 use Rattle.w16_selectors.proofs.Represented.{IsKept-set, AreTaken-set, AreTaken-next}
 use Rattle.w16_selectors.proofs.Selectors.take.Goals as goal

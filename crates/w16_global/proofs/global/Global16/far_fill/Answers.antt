@@ -1,4 +1,3 @@
-use Rattle.std.proofs.Common.{length, All, ◌≡◌, ◌<◌, subst}
 use Rattle.w16_model.specs.Bytes.{repeated}
 use Rattle.w16_model.proofs.Parts.{length-repeated, All-repeated}
 use Rattle.w16_global.proofs.Access.{has_part, written_joined, fill_known}

@@ -1,5 +1,5 @@
-use Rattle.std.proofs.Common.{Ok, Err, ◌∙◌, subst}
-use Rattle.w16_global.proofs.Reach.{slot_known, fault_known}
+use Rattle.std.proofs.Common.{Ok, ◌∙◌}
+use Rattle.w16_global.proofs.Reach.{slot_known}
 use Rattle.w16_global.proofs.global.Global16.reach.Goals as goal
 
 pub returns-clause-ok : goal.returns-clause-ok
