@@ -3,7 +3,7 @@
 use Rattle.std.specs.Prelude.{ℕ, zero, suc, ◌+◌, ◌-◌, ◌*◌, ◌^◌, List, [], ◌∷◌, map, ◌++◌, length, Option, Some, None, Result, Ok, Err, ◌==◌, nat_lt, Bool, if◌then◌else◌, slice_index}
 use Rattle.w16_ne.specs.declared.fault.NeFault.{NeFault}
 use Rattle.w16_ne.specs.declared.fault.NeFault.TheVariants.{Truncated, BadTable, Unsupported}
-use Rattle.std.specs.List.{sum_by, flat_map}
+use Rattle.std.specs.List.{sum_by}
 use Rattle.w16_ne.specs.declared.resource_entries.Resource.{Resource}
 use Rattle.w16_ne.specs.declared.resource_entries.ResourceName.{ResourceName}
 use Rattle.w16_ne.specs.declared.resource_entries.ResourceType.{ResourceType}
@@ -97,12 +97,16 @@ abbrev pub are_placed : Option (List ℕ) → ℕ → List Entry → Reading (Un
 are_placed file unit [] = Ok tt
 are_placed file unit (r ∷ rs) = is_placed file unit r >>= λ _. are_placed file unit rs
 
+abbrev pub are_all_placed : Option (List ℕ) → ℕ → List Typed → Reading (Unit {0})
+are_all_placed file unit [] = Ok tt
+are_all_placed file unit (t ∷ ts) = are_placed file unit t.1 >>= λ _. are_all_placed file unit ts
+
 -- The faults come kind by kind, over the whole table: what is missing of it, its shift, its texts, the number of resources, their bytes.
 unfoldable pub typed_in : Option (List ℕ) → ℕ → ℕ → List Block → Reading (List Typed)
 typed_in file table shift blocks = if nat_lt 15 shift then Err BadTable else do
   types ← all_typed file table shift blocks
   if nat_lt 65535 (sum_by (λ b. b.count) blocks) then Err Unsupported else do
-    _ ← are_placed file (2 ^ shift) (flat_map (λ t. t.1) types)
+    _ ← are_all_placed file (2 ^ shift) types
     Ok types
 
 -- the resources by type; there is no table where its offset is that of the resident names

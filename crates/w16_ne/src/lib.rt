@@ -10,6 +10,7 @@ mod reading;
 mod reference_table;
 mod resource_blocks;
 mod resource_entries;
+mod resource_table;
 mod segment_table;
 
 pub use entry_table::{Entry, entries};
@@ -20,4 +21,5 @@ pub use nonresident::nonresident_names;
 pub use reference_table::references;
 pub use resource_blocks::Block;
 pub use resource_entries::{Resource, ResourceName, ResourceType};
+pub use resource_table::resources;
 pub use segment_table::{Segment, segments};
