@@ -5,3 +5,5 @@ pub mod Tests
 pub mod Bundles
 pub mod Listed
 pub mod Blocks
+pub mod Distinct
+pub mod Places

@@ -5,3 +5,4 @@ pub mod Names
 pub mod References
 pub mod Entries
 pub mod Resources
+pub mod Modules

@@ -1,31 +1,17 @@
 //! The resource table as a whole.
-ghost use Rattle.std.specs.Prelude.{◌≡◌, ℕ, ◌<◌, ◌≤◌, ◌+◌, ◌*◌, ◌^◌, All, length, map, nat_lt};
-ghost use Rattle.std.specs.List.{sum_by};
+ghost use Rattle.std.specs.Prelude.{◌≡◌, ℕ, ◌<◌, ◌≤◌, ◌+◌, ◌*◌, ◌^◌, All, length, map, IfOk};
 ghost use Rattle.w16_store.specs.Files.{file_of};
 ghost use Rattle.w16_ne.specs.Reading.{Gives};
-ghost use Rattle.w16_ne.specs.Resources.{entry_of, typed_of, is_placed, are_placed, are_all_placed, typed_in, resources_at};
+ghost use Rattle.w16_ne.specs.Resources.{resource_count, entry_of, typed_of, is_placed, are_placed, are_all_placed, typed_in, resources_at};
 
 use crate::fault::NeFault;
 use crate::reading::{reaches, read_or, word};
 use crate::resource_blocks::{Block, blocks};
 use crate::resource_entries::{Resource, ResourceType, all_types};
+use crate::resource_places::are_too_many;
 use crate::segment_table::unit;
 use std::alloc::Global;
 use w16_store::Store;
-
-/// Whether blocks have over 65,535 resources.
-fn are_too_many(blocks: &[Block]) -> bool
-    ensures { result ≡ nat_lt 65535 (sum_by (λ b. b.count) blocks.now) }
-{
-    let mut count = 0u32;
-    for block in blocks {
-        count += u32::from(block.count);
-        if count > 65535 {
-            return true;
-        }
-    }
-    false
-}
 
 /// Tests that a resource's bytes don't end past the file's end by a unit or more.
 fn test_place<S: Store>(
@@ -98,12 +84,13 @@ fn typed_in<S: Store>(
     ensures failures { S.failures store.old ≤ S.failures store.new }
     ensures exact { S.is_honest → Gives (λ v. map typed_of v.items) (file_of (S.files store.old) name.now)
         (S.failures store.old) (S.failures store.new) result (typed_in (file_of (S.files store.old) name.now) table shift blocks.now) }
+    ensures few { IfOk result (λ v. resource_count (map typed_of v.items) ≤ 65535) }
 {
     if shift > 15 {
         return Err(NeFault::BadTable);
     }
     let types = all_types(alloc, store, name, table, shift, blocks)?;
-    if are_too_many(blocks) {
+    if are_too_many(types.as_slice()) {
         return Err(NeFault::Unsupported);
     }
     test_all_places(store, name, unit(shift), types.as_slice())?;
@@ -124,6 +111,7 @@ pub fn resources<S: Store>(
     ensures failures { S.failures store.old ≤ S.failures store.new }
     ensures exact { S.is_honest → Gives (λ v. map typed_of v.items) (file_of (S.files store.old) name.now)
         (S.failures store.old) (S.failures store.new) result (resources_at (file_of (S.files store.old) name.now) ne header.now) }
+    ensures few { IfOk result (λ v. resource_count (map typed_of v.items) ≤ 65535) }
 {
     if word(header, 0x24) == word(header, 0x26) {
         return Ok(Vec::new(alloc));
