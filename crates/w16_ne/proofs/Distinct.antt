@@ -19,7 +19,7 @@ pub is_none : (r : Option ℕ) → is_some r ≡ false → r ≡ None
 is_none None h = refl
 is_none (Some x) h = cc
 
-is_some_cond : (b c : Bool) (x : ℕ) (r : Option ℕ) → is_some r ≡ c → is_some (cond b (Some x) r) ≡ (b || c)
+pub is_some_cond : (b c : Bool) (x : ℕ) (r : Option ℕ) → is_some r ≡ c → is_some (cond b (Some x) r) ≡ (b || c)
 is_some_cond true c x r h = refl
 is_some_cond false c x r h = h
 

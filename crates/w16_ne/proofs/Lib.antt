@@ -7,3 +7,4 @@ pub mod Listed
 pub mod Blocks
 pub mod Distinct
 pub mod Places
+pub mod Lookups

@@ -6,3 +6,4 @@ pub mod References
 pub mod Entries
 pub mod Resources
 pub mod Modules
+pub mod Law

@@ -4,6 +4,7 @@
 mod entry_table;
 mod fault;
 mod head;
+pub mod laws;
 mod module_file;
 mod name;
 mod name_table;
