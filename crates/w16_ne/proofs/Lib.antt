@@ -1,7 +1,7 @@
 pub mod Faults
 pub mod Each
 pub mod Until
-pub mod Tests
+pub mod Bounds
 pub mod Bundles
 pub mod Listed
 pub mod Blocks

@@ -4,7 +4,7 @@ use Rattle.std.specs.Prelude.{slice_index}
 use Rattle.std.proofs.lemmas.List.{map_push}
 use Rattle.w16_ne.specs.Names.{entry}
 use Rattle.w16_ne.proofs.Listed.{is_end, here, goes_on, is_refused, is_done}
-use Rattle.w16_ne.proofs.Tests.{ends_by_place, ends_by_byte, goes_further, is_past, is_inside}
+use Rattle.w16_ne.proofs.Bounds.{ends_by_place, ends_by_byte, goes_further, is_past, is_inside}
 use Rattle.w16_ne.proofs.nonresident.names_of.Goals as goal
 use Rattle.w16_ne.proofs.nonresident.names_of.Goals.{then-at-table-via-then-at-table, then-at-table-via-else-at-table+then-table-at-eq0}
 
