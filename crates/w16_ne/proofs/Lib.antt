@@ -8,3 +8,4 @@ pub mod Blocks
 pub mod Distinct
 pub mod Places
 pub mod Lookups
+pub mod NamesFormat

@@ -6,4 +6,5 @@ pub mod References
 pub mod Entries
 pub mod Resources
 pub mod Modules
+pub mod Format
 pub mod Law

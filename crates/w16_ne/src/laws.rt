@@ -1,7 +1,12 @@
 //! The laws of the format's definitions. Each function does nothing: its contract is the law.
-ghost use Rattle.w16_ne.specs.Law.{NamesLaw};
+ghost use Rattle.w16_ne.specs.Law.{NamesLaw, NamesFormatLaw};
 
 /// A module keeps each name once, upper-cased, and finds the ordinals that the tables give.
 pub fn names_are_found_as_the_tables_have_them()
     ensures { NamesLaw }
+{}
+
+/// Names are read exactly where they are: a reading is what its bytes say, and what they say is read.
+pub fn names_are_read_where_they_are()
+    ensures { NamesFormatLaw }
 {}
