@@ -9,3 +9,4 @@ pub mod Distinct
 pub mod Places
 pub mod Lookups
 pub mod NamesFormat
+pub mod SegmentsFormat

@@ -1,5 +1,5 @@
 //! The laws of the format's definitions. Each function does nothing: its contract is the law.
-ghost use Rattle.w16_ne.specs.Law.{NamesLaw, NamesFormatLaw};
+ghost use Rattle.w16_ne.specs.Law.{NamesLaw, NamesFormatLaw, SegmentsFormatLaw};
 
 /// A module keeps each name once, upper-cased, and finds the ordinals that the tables give.
 pub fn names_are_found_as_the_tables_have_them()
@@ -9,4 +9,9 @@ pub fn names_are_found_as_the_tables_have_them()
 /// Names are read exactly where they are: a reading is what its bytes say, and what they say is read.
 pub fn names_are_read_where_they_are()
     ensures { NamesFormatLaw }
+{}
+
+/// Segments are read exactly where they are: their entries in the table, their data and the relocation records behind them.
+pub fn segments_are_read_where_they_are()
+    ensures { SegmentsFormatLaw }
 {}
