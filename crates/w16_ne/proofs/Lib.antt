@@ -10,3 +10,4 @@ pub mod Places
 pub mod Lookups
 pub mod NamesFormat
 pub mod SegmentsFormat
+pub mod EntriesFormat

@@ -1,8 +1,12 @@
 -- Where the bytes of tables lie, as volume 4 has it: relations between a file's bytes and what they say, in which nothing is read.
-use Rattle.std.specs.Prelude.{◌≡◌, ◌≢◌, ◌<◌, ◌≤◌, ℕ, ◌+◌, ◌*◌, ◌^◌, ◌⊎◌, max, List, [], ◌∷◌, length, take, drop, slice_index, bit_and}
+use Rattle.std.specs.Prelude.{◌≡◌, ◌≢◌, ◌<◌, ◌≤◌, ℕ, ◌+◌, ◌*◌, ◌^◌, ◌⊎◌, max, List, [], ◌∷◌, length, Option, Some, None, take, drop, slice_index, bit_and}
+use Rattle.std.specs.List.{flat_map}
+use Rattle.w16_ne.specs.declared.entry_table.Entry as entries
+use Rattle.w16_ne.specs.declared.entry_table.Entry.TheVariants.{InSegment, Constant}
 use Rattle.w16_ne.specs.declared.segment_table.Segment.{Segment}
 use Rattle.w16_ne.specs.Reading.{word_of}
 use Rattle.w16_ne.specs.Segments.{or_64k, rounded}
+use Rattle.w16_ne.specs.Entries.{entry_size, entry_in}
 use Rattle.w16_ne.specs.Names.{Entry, size}
 
 -- a name at an offset: its length byte, which isn't 0, its text and its ordinal
@@ -48,3 +52,33 @@ pub record IsSegmentTable (file : List ℕ) (shift at count : ℕ) (segments : L
   pub whole : length segments ≡ count
   pub inside : 0 < count → at + 8 * count ≤ length file
   pub are : AreSegments file shift at segments
+
+-- an entry's segment is one of so many, from 1; an ordinal may have no entry, and a constant has no segment
+abbrev pub IsInside : ℕ → Option entries.Entry → Type 0
+IsInside segments None = Unit {0}
+IsInside segments (Some (Constant value)) = Unit {0}
+IsInside segments (Some (InSegment segment offset)) = (0 < segment) × (segment ≤ segments)
+
+-- entries of one kind, one directly after the other
+abbrev pub AreEntries : List ℕ → ℕ → ℕ → ℕ → List (Option entries.Entry) → Type 0
+AreEntries table segments indicator at [] = Unit {0}
+AreEntries table segments indicator at (e ∷ es) = (e ≡ entry_in table indicator at) × IsInside segments e × AreEntries table segments indicator (at + entry_size indicator) es
+
+-- a bundle at an index of the table: its count, which isn't 0, its indicator and its entries
+pub record IsBundle (table : List ℕ) (segments at : ℕ) (es : List (Option entries.Entry)) : Type 0 where
+  pub some : 0 < length es
+  pub count : slice_index table at ≡ length es
+  pub inside : at + 2 + length es * entry_size (slice_index table (at + 1)) ≤ length table
+  pub are : AreEntries table segments (slice_index table (at + 1)) (at + 2) es
+
+-- bundles one directly after the other, up to a count of 0 or the table's end
+abbrev pub AreBundles : List ℕ → ℕ → ℕ → List (List (Option entries.Entry)) → Type 0
+AreBundles table segments at [] = (length table ≤ at) ⊎ (slice_index table at ≡ 0)
+AreBundles table segments at (b ∷ bs) = IsBundle table segments at b × AreBundles table segments (at + 2 + length b * entry_size (slice_index table (at + 1))) bs
+
+-- The entries of a table by ordinal are those of its bundles, and there are few enough for a word.
+pub record IsEntryTable (table : List ℕ) (segments : ℕ) (es : List (Option entries.Entry)) : Type 0 where
+  pub bundles : List (List (Option entries.Entry))
+  pub are : AreBundles table segments 0 bundles
+  pub whole : es ≡ flat_map (λ b. b) bundles
+  pub few : length es ≤ 65535

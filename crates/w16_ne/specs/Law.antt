@@ -1,10 +1,12 @@
 -- What the definitions of the format come to.
-use Rattle.std.specs.Prelude.{◌≡◌, ◌↔◌, ℕ, ◌+◌, List, Some, Ok}
+use Rattle.std.specs.Prelude.{◌≡◌, ◌↔◌, ℕ, ◌+◌, List, Option, Some, Ok}
+use Rattle.w16_ne.specs.declared.entry_table.Entry as entries
 use Rattle.w16_ne.specs.declared.segment_table.Segment.{Segment}
 use Rattle.w16_ne.specs.Header.{segment_table, segment_count, shift_of}
 use Rattle.w16_ne.specs.Segments.{segments_at}
 use Rattle.w16_ne.specs.Names.{Entry, distinct, ordinal_in, ordinal_of, names_at}
-use Rattle.w16_ne.specs.Format.{AreNames, IsSegmentTable}
+use Rattle.w16_ne.specs.Entries.{entries_in}
+use Rattle.w16_ne.specs.Format.{AreNames, IsSegmentTable, IsEntryTable}
 
 -- a name that is found among the distinct ones has the ordinal that the tables give it: the first equal name's
 abbrev pub NamesLaw : Type 0
@@ -18,3 +20,7 @@ NamesFormatLaw = (file : List ℕ) (at : ℕ) (names : List Entry) → names_at 
 abbrev pub SegmentsFormatLaw : Type 0
 SegmentsFormatLaw = (file header : List ℕ) (ne : ℕ) (segments : List Segment) → segments_at (Some file) ne header ≡ Ok segments
     ↔ IsSegmentTable file (shift_of header) (ne + segment_table header) (segment_count header) segments
+
+-- and so are the entries of a table's bytes
+abbrev pub EntriesFormatLaw : Type 0
+EntriesFormatLaw = (table : List ℕ) (segments : ℕ) (es : List (Option entries.Entry)) → entries_in table segments ≡ Ok es ↔ IsEntryTable table segments es

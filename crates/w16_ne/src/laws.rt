@@ -1,5 +1,5 @@
 //! The laws of the format's definitions. Each function does nothing: its contract is the law.
-ghost use Rattle.w16_ne.specs.Law.{NamesLaw, NamesFormatLaw, SegmentsFormatLaw};
+ghost use Rattle.w16_ne.specs.Law.{NamesLaw, NamesFormatLaw, SegmentsFormatLaw, EntriesFormatLaw};
 
 /// A module keeps each name once, upper-cased, and finds the ordinals that the tables give.
 pub fn names_are_found_as_the_tables_have_them()
@@ -14,4 +14,9 @@ pub fn names_are_read_where_they_are()
 /// Segments are read exactly where they are: their entries in the table, their data and the relocation records behind them.
 pub fn segments_are_read_where_they_are()
     ensures { SegmentsFormatLaw }
+{}
+
+/// Entries are read exactly where they are, bundle by bundle.
+pub fn entries_are_read_where_they_are()
+    ensures { EntriesFormatLaw }
 {}
