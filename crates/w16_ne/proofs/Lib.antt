@@ -11,3 +11,4 @@ pub mod Lookups
 pub mod NamesFormat
 pub mod SegmentsFormat
 pub mod EntriesFormat
+pub mod Fronts
