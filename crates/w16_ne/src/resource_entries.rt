@@ -29,7 +29,7 @@ pub struct Resource {
     pub place: u32,
     /// How many bytes it has, whole units. The last may end past the file's end by less than a unit.
     pub len: u32,
-    /// The table's flag word.
+    /// The table's flag word: 0010 moveable, 0020 pure, 0040 preload, 1000 discardable.
     pub flags: u16,
 }
 

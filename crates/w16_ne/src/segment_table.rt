@@ -18,7 +18,8 @@ pub struct Segment {
     pub place: u32,
     /// The bytes of data in the file, up to 65,536.
     pub len: u32,
-    /// The table's flag word.
+    /// The table's flag word: 0001 data, 0010 moveable, 0020 shareable, 0040 preload, 0080 only to be run or read, 0100 relocations, 1000
+    /// discardable.
     pub flags: u16,
     /// The bytes of its object, a multiple of 32 from 32 to 65,536.
     pub size: u32,
