@@ -1,8 +1,7 @@
 -- Faults of the store and of the file.
-use Rattle.std.proofs.Common.{◌≡◌, ℕ, ◌+◌, List, length, take, drop, Option, Some, None, Result, Ok, Err, Bool, true, false, cond, refl, ap, arith}
+use Rattle.std.proofs.Common.{◌≡◌, ℕ, ◌+◌, List, length, take, drop, Option, Some, None, Result, Ok, Err, Bool, true, false, cond, refl}
 use Rattle.std.specs.Prelude.{nat_lt}
 use Rattle.w16_store.specs.Files.{bytes_of}
-use Rattle.w16_store.specs.declared.store.StoreFault.{StoreFault}
 use Rattle.w16_store.specs.declared.store.StoreFault.TheVariants as stores
 use Rattle.w16_ne.specs.declared.fault.NeFault.{NeFault}
 use Rattle.w16_ne.specs.declared.fault.NeFault.TheVariants as faults

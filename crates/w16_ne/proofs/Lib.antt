@@ -1,7 +1,14 @@
 pub mod Faults
 pub mod Each
 pub mod Until
-pub mod Tests
+pub mod Bounds
 pub mod Bundles
 pub mod Listed
 pub mod Blocks
+pub mod Distinct
+pub mod Places
+pub mod Lookups
+pub mod NamesFormat
+pub mod SegmentsFormat
+pub mod EntriesFormat
+pub mod Fronts

@@ -1,6 +1,5 @@
 -- The entry table: bundles of a count byte and an indicator byte (volume 4).
-use Rattle.std.specs.Prelude.{ℕ, zero, suc, ◌+◌, ◌*◌, List, [], ◌++◌, length, Option, Some, None, Result, Ok, Err, ◌==◌, nat_lt, nat_le, ◌||◌, Bool, true, false, if◌then◌else◌, slice_index}
-use Rattle.w16_ne.specs.declared.fault.NeFault.{NeFault}
+use Rattle.std.specs.Prelude.{ℕ, zero, suc, ◌+◌, ◌*◌, List, [], ◌++◌, length, Option, Some, None, Ok, Err, ◌==◌, nat_lt, nat_le, ◌||◌, Bool, false, if◌then◌else◌, slice_index}
 use Rattle.w16_ne.specs.declared.fault.NeFault.TheVariants.{Truncated, BadTable}
 use Rattle.w16_ne.specs.declared.entry_table.Entry.{Entry}
 use Rattle.w16_ne.specs.declared.entry_table.Entry.TheVariants.{InSegment, Constant}

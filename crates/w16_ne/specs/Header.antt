@@ -1,6 +1,5 @@
 -- The header: the old one's offset to it, its 64 bytes and their fields, and what is accepted of them (volume 4).
-use Rattle.std.specs.Prelude.{ℕ, ◌+◌, List, Option, Result, Ok, Err, nat_lt, ◌==◌, ◌||◌, ◌&&◌, not, Bool, if◌then◌else◌, bit_and, slice_index}
-use Rattle.w16_ne.specs.declared.fault.NeFault.{NeFault}
+use Rattle.std.specs.Prelude.{ℕ, List, Option, Ok, Err, nat_lt, ◌==◌, ◌||◌, ◌&&◌, not, Bool, if◌then◌else◌, bit_and, slice_index}
 use Rattle.w16_ne.specs.declared.fault.NeFault.TheVariants.{NotMz, NotNe, Target, Unsupported, Truncated, BadTable}
 use Rattle.w16_ne.specs.Reading.{Reading, ◌>>=◌, bytes_or, word_of, dword_of}
 

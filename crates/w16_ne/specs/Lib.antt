@@ -5,3 +5,6 @@ pub mod Names
 pub mod References
 pub mod Entries
 pub mod Resources
+pub mod Modules
+pub mod Format
+pub mod Law

@@ -1,10 +1,11 @@
 -- Tables of names: an entry is a length byte, the text and an ordinal word; a length of 0 ends the table (volume 4).
-use Rattle.std.specs.Prelude.{ℕ, zero, suc, ◌+◌, ◌-◌, List, [], ◌∷◌, length, take, drop, map, Option, Some, None, Result, Ok, Err, ◌==◌, nat_lt, nat_le, ◌||◌, Bool, if◌then◌else◌, slice_index, option_map, unwrap_or}
-use Rattle.std.specs.List.{find}
+use Rattle.std.specs.Prelude.{ℕ, zero, suc, ◌+◌, List, [], ◌∷◌, length, take, drop, map, Option, Some, None, Ok, Err, ◌==◌, nat_lt, nat_le, ◌||◌, if◌then◌else◌, slice_index, option_map, unwrap_or, Vec, ◌++◌, fold}
+use Rattle.std.specs.List.{find, list_any}
+use Rattle.std.specs.Map.{lookup}
+use Rattle.std.specs.Str.{bytes_eq, str_to_ascii_uppercase}
 use Rattle.w16_store.specs.Names.{is_named}
-use Rattle.w16_ne.specs.declared.fault.NeFault.{NeFault}
 use Rattle.w16_ne.specs.declared.fault.NeFault.TheVariants.{Truncated, BadTable}
-use Rattle.w16_ne.specs.declared.name_table.Name.{Name}
+use Rattle.w16_ne.specs.declared.name.Name.{Name}
 use Rattle.w16_ne.specs.Reading.{Reading, ◌>>=◌, bytes_or, length_at, word_of}
 use Rattle.w16_ne.specs.Header.{resident_names, nonresident_names, nonresident_length}
 
@@ -72,3 +73,20 @@ nonresident_at file header = if nonresident_length header == 0 then Ok [] else d
 -- Of equal names the first counts, also where its ordinal is 0; 0 where no name is equal.
 abbrev pub ordinal_in : List Entry → List ℕ → ℕ
 ordinal_in names name = unwrap_or (option_map (λ e. e.1) (find (λ e. is_named e.0 name) names)) 0
+
+-- The names that can be found, upper-cased, in the order of the tables: each that is equal to none before it.
+abbrev pub with_name : List Entry → Entry → List Entry
+with_name names e =
+    let upper = str_to_ascii_uppercase e.0 in
+    if list_any (λ n. bytes_eq upper n.0) names then names else names ++ (upper, e.1) ∷ []
+
+abbrev pub distinct : List Entry → List Entry
+distinct names = fold with_name [] names
+
+-- the ordinal of a name among such
+abbrev pub ordinal_of : List Entry → List ℕ → ℕ
+ordinal_of names name = unwrap_or (lookup (bytes_eq (str_to_ascii_uppercase name)) names) 0
+
+-- such names as a map has them
+abbrev pub listed : {Z : Type 0} → List (Vec ℕ Z × ℕ) → List Entry
+listed entries = map (λ e. (e.0.items, e.1)) entries

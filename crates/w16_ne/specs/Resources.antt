@@ -1,9 +1,8 @@
 -- The resource table: a shift word; blocks of a type, each a type word, a count word and a reserved double word, then 12 bytes for each resource:
 -- offset, length, flags, id and two reserved words; a type of 0 ends it (volume 4).
-use Rattle.std.specs.Prelude.{ℕ, zero, suc, ◌+◌, ◌-◌, ◌*◌, ◌^◌, List, [], ◌∷◌, map, ◌++◌, length, Option, Some, None, Result, Ok, Err, ◌==◌, nat_lt, Bool, if◌then◌else◌, slice_index}
-use Rattle.w16_ne.specs.declared.fault.NeFault.{NeFault}
+use Rattle.std.specs.Prelude.{ℕ, zero, suc, ◌+◌, ◌-◌, ◌*◌, ◌^◌, List, [], ◌∷◌, map, length, Option, Some, None, Ok, Err, ◌==◌, nat_lt, if◌then◌else◌}
 use Rattle.w16_ne.specs.declared.fault.NeFault.TheVariants.{Truncated, BadTable, Unsupported}
-use Rattle.std.specs.List.{sum_by, flat_map}
+use Rattle.std.specs.List.{sum_by}
 use Rattle.w16_ne.specs.declared.resource_entries.Resource.{Resource}
 use Rattle.w16_ne.specs.declared.resource_entries.ResourceName.{ResourceName}
 use Rattle.w16_ne.specs.declared.resource_entries.ResourceType.{ResourceType}
@@ -97,12 +96,19 @@ abbrev pub are_placed : Option (List ℕ) → ℕ → List Entry → Reading (Un
 are_placed file unit [] = Ok tt
 are_placed file unit (r ∷ rs) = is_placed file unit r >>= λ _. are_placed file unit rs
 
+abbrev pub are_all_placed : Option (List ℕ) → ℕ → List Typed → Reading (Unit {0})
+are_all_placed file unit [] = Ok tt
+are_all_placed file unit (t ∷ ts) = are_placed file unit t.1 >>= λ _. are_all_placed file unit ts
+
+abbrev pub resource_count : List Typed → ℕ
+resource_count types = sum_by (λ t. length t.1) types
+
 -- The faults come kind by kind, over the whole table: what is missing of it, its shift, its texts, the number of resources, their bytes.
 unfoldable pub typed_in : Option (List ℕ) → ℕ → ℕ → List Block → Reading (List Typed)
 typed_in file table shift blocks = if nat_lt 15 shift then Err BadTable else do
   types ← all_typed file table shift blocks
-  if nat_lt 65535 (sum_by (λ b. b.count) blocks) then Err Unsupported else do
-    _ ← are_placed file (2 ^ shift) (flat_map (λ t. t.1) types)
+  if nat_lt 65535 (resource_count types) then Err Unsupported else do
+    _ ← are_all_placed file (2 ^ shift) types
     Ok types
 
 -- the resources by type; there is no table where its offset is that of the resident names

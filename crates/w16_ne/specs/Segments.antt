@@ -1,6 +1,5 @@
 -- The segment table: for each segment a sector, the length in the file, flags, and the minimum allocation (volume 4).
-use Rattle.std.specs.Prelude.{ℕ, ◌+◌, ◌*◌, ◌/◌, ◌^◌, max, List, [], Option, Result, Ok, Err, ◌==◌, not, Bool, if◌then◌else◌, bit_and}
-use Rattle.w16_ne.specs.declared.fault.NeFault.{NeFault}
+use Rattle.std.specs.Prelude.{ℕ, ◌+◌, ◌*◌, ◌/◌, ◌^◌, max, List, [], Option, Ok, Err, ◌==◌, not, if◌then◌else◌, bit_and}
 use Rattle.w16_ne.specs.declared.fault.NeFault.TheVariants.{Unsupported, Truncated}
 use Rattle.w16_ne.specs.declared.segment_table.Segment.{Segment}
 use Rattle.w16_ne.specs.Reading.{Reading, ◌>>=◌, bytes_or, reaches, word_of, each}

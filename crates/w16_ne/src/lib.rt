@@ -4,20 +4,27 @@
 mod entry_table;
 mod fault;
 mod head;
+pub mod laws;
+mod module_file;
+mod name;
 mod name_table;
 mod nonresident;
+mod ordinals;
+mod read;
 mod reading;
 mod reference_table;
 mod resource_blocks;
 mod resource_entries;
+mod resource_places;
+mod resource_table;
 mod segment_table;
 
-pub use entry_table::{Entry, entries};
+pub use entry_table::Entry;
 pub use fault::NeFault;
-pub use head::{header, place, test_fields};
-pub use name_table::{Name, resident};
-pub use nonresident::nonresident_names;
-pub use reference_table::references;
-pub use resource_blocks::Block;
+pub use module_file::Module;
+pub use read::read_module;
 pub use resource_entries::{Resource, ResourceName, ResourceType};
-pub use segment_table::{Segment, segments};
+pub use segment_table::Segment;
+
+#[cfg(test)]
+mod tests;

@@ -5,17 +5,10 @@ ghost use Rattle.w16_ne.specs.Reading.{Gives, length_at};
 ghost use Rattle.w16_ne.specs.Names.{entry, name_at, names_from, names_at, resident_at};
 
 use crate::fault::NeFault;
+use crate::name::Name;
 use crate::reading::{file_len, read_or, table, word};
 use std::alloc::Global;
 use w16_store::Store;
-
-/// An entry of a table of names.
-#[derive(Debug, Drop)]
-pub struct Name {
-    /// 1 to 255 bytes.
-    pub text: Vec<u8>,
-    pub ordinal: u16,
-}
 
 /// The entry at an offset, or none where the table ends.
 #[tactic(auto, unfolding(crate::specs::Names::name_at))]

@@ -5,7 +5,7 @@ ghost use Rattle.w16_ne.specs.Reading.{Gives, Tells};
 ghost use Rattle.w16_ne.specs.Names.{entry, table_names, nonresident_at};
 
 use crate::fault::NeFault;
-use crate::name_table::Name;
+use crate::name::Name;
 use crate::reading::{dword, table, word};
 use std::alloc::Global;
 use w16_store::Store;

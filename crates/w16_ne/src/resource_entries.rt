@@ -26,10 +26,10 @@ pub enum ResourceName {
 pub struct Resource {
     pub id: ResourceName,
     /// The offset of its bytes in the file.
-    pub place: u64,
+    pub place: u32,
     /// How many bytes it has, whole units. The last may end past the file's end by less than a unit.
-    pub len: u64,
-    /// The table's flag word.
+    pub len: u32,
+    /// The table's flag word: 0010 moveable, 0020 pure, 0040 preload, 1000 discardable.
     pub flags: u16,
 }
 
@@ -90,8 +90,8 @@ fn resource_of<S: Store>(
     let id = label(alloc, store, name, table, word(&entry, 6))?;
     Ok(Resource {
         id,
-        place: u64::from(word(&entry, 0)) * unit(shift),
-        len: u64::from(word(&entry, 2)) * unit(shift),
+        place: u32::from(word(&entry, 0)) * unit(shift),
+        len: u32::from(word(&entry, 2)) * unit(shift),
         flags: word(&entry, 4),
     })
 }
@@ -147,7 +147,7 @@ fn typed<S: Store>(
 }
 
 /// The types of all blocks with their resources, in the table's order.
-fn all_types<S: Store>(
+pub fn all_types<S: Store>(
     alloc: Global,
     store: &mut S,
     name: &[u8],

@@ -15,10 +15,11 @@ use w16_store::Store;
 #[derive(Clone, Copy, Debug, PartialEq, Eq)]
 pub struct Segment {
     /// The offset of its data in the file; 0 where it has none.
-    pub place: u64,
+    pub place: u32,
     /// The bytes of data in the file, up to 65,536.
     pub len: u32,
-    /// The table's flag word.
+    /// The table's flag word: 0001 data, 0010 moveable, 0020 shareable, 0040 preload, 0080 only to be run or read, 0100 relocations, 1000
+    /// discardable.
     pub flags: u16,
     /// The bytes of its object, a multiple of 32 from 32 to 65,536.
     pub size: u32,
@@ -43,7 +44,7 @@ fn rounded(n: u32) -> u32
 }
 
 /// The bytes of a unit.
-pub fn unit(shift: u16) -> u64
+pub fn unit(shift: u16) -> u32
     requires { shift ≤ 15 }
     ensures value { result ≡ 2 ^ shift }
     ensures bound { result ≤ 32768 }
@@ -73,12 +74,11 @@ fn records<S: Store>(store: &mut S, name: &[u8], flags: u16, end: u64) -> Result
 fn data<S: Store>(
     store: &mut S,
     name: &[u8],
-    place: u64,
+    place: u32,
     len: u32,
     flags: u16,
     least: u32,
 ) -> Result<Segment, NeFault>
-    requires place { place < 2 ^ 40 }
     requires len { 0 < len }
     requires small { len ≤ 65536 }
     requires least { least ≤ 65536 }
@@ -87,7 +87,7 @@ fn data<S: Store>(
     ensures exact { S.is_honest → Gives (λ s. s) (file_of (S.files store.old) name.now)
         (S.failures store.old) (S.failures store.new) result (data_at (file_of (S.files store.old) name.now) place len flags least) }
 {
-    let end = place + u64::from(len);
+    let end = u64::from(place) + u64::from(len);
     reaches(store, name, end)?;
     let records = records(store, name, flags, end)?;
     let size = if len < least {
@@ -138,7 +138,7 @@ fn entry<S: Store>(
     data(
         store,
         name,
-        u64::from(sector) * unit(shift),
+        u32::from(sector) * unit(shift),
         len,
         flags,
         least,

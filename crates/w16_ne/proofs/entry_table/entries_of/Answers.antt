@@ -1,9 +1,8 @@
-use Rattle.std.proofs.Common.{◌≡◌, ℕ, ◌*◌, ◌+◌, ◌<◌, ◌≤◌, true, false, length, length-append, Option, refl, arith}
+use Rattle.std.proofs.Common.{◌≡◌, ◌+◌, ◌<◌, ◌≤◌, true, length, length-append, arith}
 use Rattle.std.specs.Prelude.{slice_index}
 use Rattle.std.proofs.lemmas.Result.{err_from_is_err_and}
-use Rattle.w16_ne.specs.Entries.{entry_size}
 use Rattle.w16_ne.proofs.Bundles.{is_end, end_of, is_bad, here, goes_on, stops, is_refused, is_done, bundle-length}
-use Rattle.w16_ne.proofs.Tests.{ends_by_place, ends_by_byte, goes_further, bad_by_end, bad_by_count, is_sound}
+use Rattle.w16_ne.proofs.Bounds.{ends_by_place, ends_by_byte, goes_further, bad_by_end, bad_by_count, is_sound}
 use Rattle.w16_ne.proofs.Until.{told_on}
 use Rattle.w16_ne.proofs.entry_table.entries_of.Goals as goal
 use Rattle.w16_ne.proofs.entry_table.entries_of.Goals.{then-at-table-via-then-at-table, then-at-table-via-else-at-table+then-table-at-eq0, then-end-table-via-then-end-table, then-end-table-via-else-end-table+then-len-from-gt65535}

@@ -1,10 +1,9 @@
-use Rattle.std.proofs.Common.{◌≡◌, ◌≤◌, ◌+◌, ◌-◌, ◌∙◌, List, [], ◌∷◌, ◌++◌, length, Option, Some, None, Ok, Err, map, ap, sym, arith, rules}
+use Rattle.std.proofs.Common.{◌≡◌, ◌+◌, ◌∙◌, [], ◌∷◌, ◌++◌, length, map, arith, rules}
 use Rattle.std.proofs.lemmas.Result.{err_from_is_err_and}
 use Rattle.std.proofs.lemmas.List.{map_push}
 use Rattle.w16_store.specs.Files.{file_of}
-use Rattle.w16_ne.specs.Reading.{length_at}
-use Rattle.w16_ne.specs.Names.{Entry, entry, name_at, names_from, size}
-use Rattle.w16_ne.proofs.Until.{fails_on, goes_on, stops, is_done, is_over, past_the_end, entry_ends}
+use Rattle.w16_ne.specs.Names.{entry, name_at, names_from, size}
+use Rattle.w16_ne.proofs.Until.{fails_on, goes_on, stops, is_done, past_the_end, entry_ends}
 use Rattle.w16_ne.proofs.name_table.names_before.Goals as goal
 
 pub returns-in_err-name_of-clause-exact : goal.returns-in_err-name_of-clause-exact

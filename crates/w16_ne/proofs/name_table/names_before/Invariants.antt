@@ -1,7 +1,7 @@
 use Rattle.std.proofs.Common.{◌≡◌, ◌≤◌, ◌-◌, Ok, map}
 use Rattle.w16_store.specs.Files.{file_of}
 use Rattle.w16_ne.specs.Reading.{length_at}
-use Rattle.w16_ne.specs.Names.{Entry, entry, names_from}
+use Rattle.w16_ne.specs.Names.{entry, names_from}
 use Rattle.w16_ne.proofs.Each.{with_front}
 use Rattle.w16_ne.proofs.name_table.names_before.Given as goal
 

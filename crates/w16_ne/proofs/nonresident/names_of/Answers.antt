@@ -1,10 +1,10 @@
-use Rattle.std.proofs.Common.{◌≡◌, ℕ, ◌+◌, ◌<◌, ◌≤◌, true, false, List, [], ◌∷◌, ◌++◌, length, take, drop, ◌-◌, length-drop, map, refl, arith}
+use Rattle.std.proofs.Common.{◌≡◌, ◌+◌, true, [], ◌∷◌, ◌++◌, length, take, drop, ◌-◌, length-drop, map, refl}
 use Rattle.std.proofs.Math.Seq.{take-length}
 use Rattle.std.specs.Prelude.{slice_index}
 use Rattle.std.proofs.lemmas.List.{map_push}
-use Rattle.w16_ne.specs.Names.{Entry, entry}
+use Rattle.w16_ne.specs.Names.{entry}
 use Rattle.w16_ne.proofs.Listed.{is_end, here, goes_on, is_refused, is_done}
-use Rattle.w16_ne.proofs.Tests.{ends_by_place, ends_by_byte, goes_further, is_past, is_inside}
+use Rattle.w16_ne.proofs.Bounds.{ends_by_place, ends_by_byte, goes_further, is_past, is_inside}
 use Rattle.w16_ne.proofs.nonresident.names_of.Goals as goal
 use Rattle.w16_ne.proofs.nonresident.names_of.Goals.{then-at-table-via-then-at-table, then-at-table-via-else-at-table+then-table-at-eq0}
 
@@ -33,7 +33,7 @@ loop-preserved c =
     let text = c.in_ok-text.ensures.items in
     let whole : take (length table - (at + 1)) (drop (at + 1) table) ≡ drop (at + 1) table = rw (← length-drop (at + 1) table) (take-length (drop (at + 1) table)) in
     let is : (c.in_ok-text.text.items, c.word-ordinal.result) ≡ here table at = rw (text, whole, c.word-ordinal.ensures, c.from-len.ensures) refl in
-    let pushed : map entry c.push.new.self.items ≡ map entry c.loop.names.items ++ here table at ∷ [] = rw (c.in_ok-push.ensures.items, ← is) (map_push entry c.loop.names.items (record { text = c.in_ok-text.text; ordinal = c.word-ordinal.result })) in (
+    let pushed : map entry c.push.new.self.items ≡ map entry c.loop.names.items ++ here table at ∷ [] = rw (c.in_ok-push.ensures.items, map_push, is) refl in (
       c.if-end-table.false,
       rw (pushed, c.from-len.ensures) (goes_on table (map entry c.loop.names.items) (length table) c.loop.counter at _ c.loop-test.true more inside c.loop.invariant.1),
     )

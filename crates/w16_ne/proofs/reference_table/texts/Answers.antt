@@ -1,11 +1,11 @@
-use Rattle.std.proofs.Common.{◌≡◌, ℕ, ◌≤◌, ◌*◌, ◌+◌, ◌∙◌, List, [], ◌∷◌, ◌++◌, map, ap, sym, arith}
+use Rattle.std.proofs.Common.{◌≡◌, ℕ, ◌*◌, ◌+◌, ◌∙◌, List, [], ◌∷◌, ◌++◌, map, arith}
 use Rattle.std.proofs.lemmas.Result.{err_from_is_err_and}
 use Rattle.std.proofs.lemmas.List.{map_push}
 use Rattle.w16_store.specs.Files.{file_of}
 use Rattle.w16_ne.specs.declared.fault.NeFault.TheVariants.{Truncated}
-use Rattle.w16_ne.specs.Reading.{Reading, each, word_of}
+use Rattle.w16_ne.specs.Reading.{Reading, word_of}
 use Rattle.w16_ne.specs.References.{text_at, texts_at}
-use Rattle.w16_ne.proofs.Each.{with_front, goes_on, stops}
+use Rattle.w16_ne.proofs.Each.{goes_on, stops}
 use Rattle.w16_ne.proofs.Until.{fails_on}
 use Rattle.w16_ne.proofs.reference_table.texts.Goals as goal
 

@@ -1,11 +1,10 @@
-use Rattle.std.proofs.Common.{◌≡◌, ℕ, ◌≤◌, ◌*◌, ◌∙◌, List, [], ◌∷◌, ◌++◌, Result, Ok, ap, subst, sym, arith}
+use Rattle.std.proofs.Common.{ℕ, ◌*◌, ◌∙◌, Result, arith}
 use Rattle.std.proofs.lemmas.Result.{err_from_is_err_and}
 use Rattle.w16_store.specs.Files.{file_of}
 use Rattle.w16_ne.specs.declared.fault.NeFault.{NeFault}
 use Rattle.w16_ne.specs.declared.segment_table.Segment.{Segment}
-use Rattle.w16_ne.specs.Reading.{each}
 use Rattle.w16_ne.specs.Segments.{segment_at, entries_at}
-use Rattle.w16_ne.proofs.Each.{with_front, goes_on, stops}
+use Rattle.w16_ne.proofs.Each.{goes_on, stops}
 use Rattle.w16_ne.proofs.Until.{fails_on}
 use Rattle.w16_ne.proofs.segment_table.entries.Goals as goal
 

@@ -1,0 +1,42 @@
+-- What the definitions of the format come to.
+use Rattle.std.specs.Prelude.{◌≡◌, ◌↔◌, ◌⊎◌, ℕ, ◌+◌, ◌++◌, List, Option, Some, Ok, Err}
+use Rattle.w16_ne.specs.declared.entry_table.Entry as entries
+use Rattle.w16_ne.specs.declared.fault.NeFault.{NeFault}
+use Rattle.w16_ne.specs.declared.fault.NeFault.TheVariants as faults
+use Rattle.w16_ne.specs.declared.segment_table.Segment.{Segment}
+use Rattle.w16_ne.specs.Header.{segment_table, segment_count, shift_of}
+use Rattle.w16_ne.specs.Segments.{segments_at}
+use Rattle.w16_ne.specs.Names.{Entry, distinct, ordinal_in, ordinal_of, names_at}
+use Rattle.w16_ne.specs.Modules.{Tables, tables_at}
+use Rattle.w16_ne.specs.Entries.{entries_in}
+use Rattle.w16_ne.specs.Format.{AreNames, IsSegmentTable, IsEntryTable}
+
+-- a name that is found among the distinct ones has the ordinal that the tables give it: the first equal name's
+abbrev pub NamesLaw : Type 0
+NamesLaw = (names : List Entry) (name : List ℕ) → ordinal_of (distinct names) name ≡ ordinal_in names name
+
+-- a table of names is read exactly where its bytes are names and a 0
+abbrev pub NamesFormatLaw : Type 0
+NamesFormatLaw = (file : List ℕ) (at : ℕ) (names : List Entry) → names_at (Some file) at ≡ Ok names ↔ AreNames file at names
+
+-- the segment table is read exactly where it is
+abbrev pub SegmentsFormatLaw : Type 0
+SegmentsFormatLaw = (file header : List ℕ) (ne : ℕ) (segments : List Segment) → segments_at (Some file) ne header ≡ Ok segments
+    ↔ IsSegmentTable file (shift_of header) (ne + segment_table header) (segment_count header) segments
+
+-- and so are the entries of a table's bytes
+abbrev pub EntriesFormatLaw : Type 0
+EntriesFormatLaw = (table : List ℕ) (segments : ℕ) (es : List (Option entries.Entry)) → entries_in table segments ≡ Ok es ↔ IsEntryTable table segments es
+
+-- a fault that a file may have because it ends too early
+abbrev pub IsOfEnd : NeFault → Type 0
+IsOfEnd faults.NotMz = Unit {0}
+IsOfEnd faults.NotNe = Unit {0}
+IsOfEnd faults.Truncated = Unit {0}
+IsOfEnd faults.BadTable = Unit {0}
+IsOfEnd fault = ⊥
+
+-- a front of a file that is accepted says the same, or ends too early
+abbrev pub FrontLaw : Type 0
+FrontLaw = (file more : List ℕ) (tables : Tables) → tables_at (Some (file ++ more)) ≡ Ok tables
+    → (tables_at (Some file) ≡ Ok tables) ⊎ ((e : NeFault) × (tables_at (Some file) ≡ Err e) × IsOfEnd e)

@@ -1,0 +1,72 @@
+-- A module file as a whole: its tables, or its first fault.
+use Rattle.std.specs.Prelude.{ℕ, zero, suc, ◌++◌, List, [], ◌∷◌, drop, Option, None, Ok, map, slice_get, slice_index_or}
+use Rattle.std.specs.List.{flat_map}
+use Rattle.w16_ne.specs.declared.entry_table.Entry.{Entry}
+use Rattle.w16_ne.specs.declared.segment_table.Segment.{Segment}
+use Rattle.w16_ne.specs.Reading.{Reading, ◌>>=◌}
+use Rattle.w16_ne.specs.Header.{place_at, header_at, fields_of}
+use Rattle.w16_ne.specs.Segments.{segments_at}
+use Rattle.w16_ne.specs.Names as names
+use Rattle.w16_ne.specs.Names.{distinct, resident_at, nonresident_at}
+use Rattle.w16_ne.specs.References.{references_at}
+use Rattle.w16_ne.specs.Entries.{table_at}
+use Rattle.w16_ne.specs.Resources as resources
+use Rattle.w16_ne.specs.Resources.{Label, Typed, resources_at}
+
+-- what a module's file says
+pub record Tables : Type 0 where
+  pub header : List ℕ
+  pub name : List ℕ
+  pub description : List ℕ
+  -- the names of entries, upper-cased, with their ordinals
+  pub names : List names.Entry
+  pub segments : List Segment
+  pub references : List (List ℕ)
+  -- the first has ordinal 1
+  pub entries : List (Option Entry)
+  pub resources : List Typed
+
+-- the text of a table's first name; empty where it has none
+abbrev pub first_text : List names.Entry → List ℕ
+first_text [] = []
+first_text (e ∷ es) = e.0
+
+-- The first resident name is the module's, and the first nonresident one its description. The others are names of entries, resident ones first.
+abbrev pub tables_of : List ℕ → List Segment → List names.Entry → List (List ℕ) → List (Option Entry) → List names.Entry → List Typed → Tables
+tables_of header segments resident references entries nonresident resources = record {
+  header = header;
+  name = first_text resident;
+  description = first_text nonresident;
+  names = distinct (drop 1 resident ++ drop 1 nonresident);
+  segments = segments;
+  references = references;
+  entries = entries;
+  resources = resources;
+}
+
+-- The parts are tested in this order, and the first fault counts.
+unfoldable pub tables_at : Option (List ℕ) → Reading Tables
+tables_at file = do
+  ne ← place_at file
+  header ← header_at file ne
+  _ ← fields_of header
+  segments ← segments_at file ne header
+  resident ← resident_at file ne header
+  references ← references_at file ne header
+  entries ← table_at file ne header
+  nonresident ← nonresident_at file header
+  resources ← resources_at file ne header
+  Ok (tables_of header segments resident references entries nonresident resources)
+
+-- where an ordinal leads, from 1; none where it has no entry
+abbrev pub entry_at : List (Option Entry) → ℕ → Option Entry
+entry_at entries zero = None
+entry_at entries (suc i) = slice_index_or entries i None
+
+-- the resources with their types, in the table's order, and the one of a place from 1
+abbrev pub listed_resources : List Typed → List (Label × resources.Entry)
+listed_resources types = flat_map (λ t. map (λ r. (t.0, r)) t.1) types
+
+abbrev pub resource_at : List Typed → ℕ → Option (Label × resources.Entry)
+resource_at types zero = None
+resource_at types (suc i) = slice_get (listed_resources types) i

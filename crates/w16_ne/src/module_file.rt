@@ -1,0 +1,150 @@
+//! A module as its file has it.
+ghost use Rattle.std.specs.Prelude.{◌≡◌, ◌<◌, ◌≤◌, ◌-◌, Some, length, slice_get, option_map};
+ghost use Rattle.w16_ne.specs.Header.{is_library};
+ghost use Rattle.w16_ne.specs.Names.{ordinal_of};
+ghost use Rattle.w16_ne.specs.Resources.{label_of, entry_of, resource_count};
+ghost use Rattle.w16_ne.specs.Modules.{entry_at, resource_at};
+
+use crate::entry_table::Entry;
+use crate::ordinals::{Ordinals, ordinal_of};
+use crate::reading::word;
+use crate::resource_entries::{Resource, ResourceName, ResourceType};
+use crate::resource_places::{count, resource_of};
+use crate::segment_table::Segment;
+use std::marker::Model;
+
+/// What a module's file says.
+#[derive(Drop)]
+pub struct Module {
+    pub(crate) header: [u8; 64],
+    pub(crate) name: Vec<u8>,
+    pub(crate) description: Vec<u8>,
+    pub(crate) ordinals: Ordinals,
+    pub(crate) segments: Vec<Segment>,
+    pub(crate) references: Vec<Vec<u8>>,
+    pub(crate) entries: Vec<Option<Entry>>,
+    pub(crate) types: Vec<ResourceType>,
+}
+
+impl Model for Module {
+    ghost use Rattle.std.specs.Prelude.{◌≡◌, ◌≤◌, length, map, All};
+    ghost use Rattle.w16_ne.specs.Names.{listed};
+    ghost use Rattle.w16_ne.specs.Resources.{typed_of, resource_count};
+    ghost use Rattle.w16_ne.specs.Modules.{Tables};
+
+    ghost Value = { Tables };
+
+    ghost view = { λ s. record {
+      header = s.header;
+      name = s.name.items;
+      description = s.description.items;
+      names = listed s.ordinals.entries;
+      segments = s.segments.items;
+      references = map (λ t. t.items) s.references.items;
+      entries = s.entries.items;
+      resources = map typed_of s.types.items;
+    } };
+
+    ghost invariant = { λ s. (length s.header ≡ 64) × All (λ e. length e.0 ≤ 255) (listed s.ordinals.entries)
+        × (resource_count (map typed_of s.types.items) ≤ 65535) };
+}
+
+impl Module {
+    /// The 64 bytes of the header.
+    pub fn header(&self) -> &[u8; 64]
+        ensures { result.now ≡ self.now.header }
+    {
+        &self.header
+    }
+
+    /// The module's name.
+    pub fn name(&self) -> &[u8]
+        ensures { result.now ≡ self.now.name }
+    {
+        self.name.as_slice()
+    }
+
+    /// What the module is described as; empty where nothing is said.
+    pub fn description(&self) -> &[u8]
+        ensures { result.now ≡ self.now.description }
+    {
+        self.description.as_slice()
+    }
+
+    /// Whether it is a library, and no application.
+    pub fn library(&self) -> bool
+        ensures { result ≡ is_library self.now.header }
+    {
+        word(&self.header, 0x0c) & 0x8000 != 0
+    }
+
+    /// How many segments there are, at most 253.
+    pub fn segment_count(&self) -> usize
+        ensures { result ≡ length self.now.segments }
+    {
+        self.segments.len()
+    }
+
+    /// A segment by its number, from 1.
+    pub fn segment(&self, number: usize) -> Segment
+        requires first { 0 < number }
+        requires last { number ≤ length self.now.segments }
+        ensures { slice_get self.now.segments (number - 1) ≡ Some result }
+    {
+        self.segments[number - 1]
+    }
+
+    /// How many ordinals the entry table has, at most 65,535.
+    pub fn entry_count(&self) -> usize
+        ensures { result ≡ length self.now.entries }
+    {
+        self.entries.len()
+    }
+
+    /// Where an ordinal leads; none where it has no entry.
+    pub fn entry(&self, ordinal: u16) -> Option<Entry>
+        ensures { result ≡ entry_at self.now.entries ordinal }
+    {
+        match ordinal.checked_sub(1) {
+            None => None,
+            Some(i) => self.entries.get(usize::from(i)).copied().flatten(),
+        }
+    }
+
+    /// The ordinal of a name, 0 where it has none. Case doesn't count, and of equal names the first does.
+    pub fn ordinal_of(&self, name: &[u8]) -> u16
+        ensures { result ≡ ordinal_of self.now.names name.now }
+    {
+        ordinal_of(&self.ordinals, name)
+    }
+
+    /// How many modules it refers to.
+    pub fn reference_count(&self) -> usize
+        ensures { result ≡ length self.now.references }
+    {
+        self.references.len()
+    }
+
+    /// The name of a module that it refers to, by its number from 1.
+    pub fn reference(&self, number: usize) -> &[u8]
+        requires first { 0 < number }
+        requires last { number ≤ length self.now.references }
+        ensures { slice_get self.now.references (number - 1) ≡ Some result.now }
+    {
+        self.references[number - 1].as_slice()
+    }
+
+    /// A resource by its place in the table, from 1, with its type; none where there are fewer.
+    pub fn resource(&self, place: usize) -> Option<(&ResourceName, &Resource)>
+        ensures { option_map (λ found. (label_of found.0.now, entry_of found.1.now)) result ≡ resource_at self.now.resources place }
+    {
+        resource_of(self.types.as_slice(), place)
+    }
+
+    /// How many resources there are, at most 65,535.
+    pub fn resource_count(&self) -> usize
+        ensures { result ≡ resource_count self.now.resources }
+    {
+        count(self.types.as_slice())
+    }
+}
