@@ -1,0 +1,5 @@
+pub mod Units
+pub mod Change
+pub mod Told
+pub mod Look
+pub mod Steps

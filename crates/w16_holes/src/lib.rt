@@ -1,0 +1,15 @@
+//! The free memory of a heap, as holes by address: where the lowest of a length is, a part taken,
+//! a part put back and joined with its neighbours.
+//!
+//! - [`Holes`] is what code over holes is generic in, whether they are kept in the free bytes
+//!   themselves or beside them.
+//! - [`SideHoles`] keeps them beside the memory, of which no byte is read or written.
+#![tactic(auto)]
+
+mod holes;
+mod side;
+#[cfg(test)]
+mod tests;
+
+pub use holes::Holes;
+pub use side::SideHoles;
