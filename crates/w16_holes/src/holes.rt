@@ -6,6 +6,17 @@ ghost use Rattle.w16_holes.specs.Holes.{Range, AreHoles, IsFree, IsUsed, IsPlace
 use w16_region::Space;
 
 /// The holes of a range of a space: its parts that are free, by address. No two touch.
+///
+/// They may be kept beside the space, or in the free bytes themselves, as a thread from hole to
+/// hole. So each call is lent the space, and what it promises is the same for both:
+/// - `holes` takes the holder and the bytes of the space, and no space. A thread is read from the
+///   bytes; what lies beside them leaves the bytes alone.
+/// - What is kept twice, as a thread and an index beside it, agrees where the two `fits`. A type's
+///   own invariant can't say so, since the space isn't in it.
+/// - `take` and `put` change bytes of holes alone: of those before `take`, of those after `put`. So
+///   no byte in use is written, and links, which `written` doesn't count, may be.
+/// - Who writes elsewhere keeps the holes: `same_holes` and `same_fits` ask only that the bytes in
+///   the holes stay.
 pub trait Holes<S: Space> {
     /// The bounds of the range, and its grain.
     ghost range: { Self → Range };

@@ -1,6 +1,6 @@
 use Rattle.std.proofs.Common.{ℕ, ◌≡◌, ◌+◌, ◌-◌, ◌<◌, ◌*◌, ◌/◌, ap, arith, sym, ◌∙◌, List, [], set, replicate, subst}
 use Rattle.w16_model.specs.declared.Span.{Span}
-use Rattle.w16_holes.specs.Holes.{Range, Free, add_span}
+use Rattle.w16_holes.specs.Holes.{Range, add_span}
 use Rattle.w16_holes.specs.Cells.{spans, AreCells}
 use Rattle.w16_holes.proofs.Told.{spans_one, AreCells-one}
 use Rattle.w16_holes.proofs.side.SideHoles.new.Goals as goal

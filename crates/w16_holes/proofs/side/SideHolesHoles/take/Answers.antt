@@ -1,10 +1,10 @@
-use Rattle.std.proofs.Common.{ℕ, ◌≡◌, ◌+◌, ◌*◌, ◌-◌, List, set, arith, sym, ap, ◌∙◌, subst}
+use Rattle.std.proofs.Common.{ℕ, ◌+◌, ◌*◌, ◌-◌, arith, sym, ap, ◌∙◌, subst}
 use Rattle.std.specs.Prelude.{slice_index}
 use Rattle.w16_model.specs.Heap.{IsMultiple}
-use Rattle.w16_holes.specs.Holes.{Range, Free, taken}
+use Rattle.w16_holes.specs.Holes.{Range, Free}
 use Rattle.w16_holes.specs.Cells.{spans, AreCells}
 use Rattle.w16_holes.proofs.Units.{multiple_sum}
-use Rattle.w16_holes.proofs.Told.{IsTake, take_none, take_from, take_to, take_inside, take_lt, take_spans}
+use Rattle.w16_holes.proofs.Told.{take_none, take_from, take_to, take_inside, take_lt, take_spans}
 use Rattle.w16_holes.proofs.Steps.{AreHoles-cells, two_sets, is_take, AreCells-take}
 use Rattle.w16_holes.specs.declared.side.SideHoles.TheInside.{Inside}
 use Rattle.w16_holes.proofs.side.SideHolesHoles.take.Goals as goal
