@@ -11,5 +11,5 @@ mod side;
 #[cfg(test)]
 mod tests;
 
-pub use holes::Holes;
+pub use holes::{HoleList, Holes};
 pub use side::SideHoles;

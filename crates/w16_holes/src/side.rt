@@ -1,10 +1,10 @@
 //! Holes beside the memory.
-ghost use Rattle.std.specs.Prelude.{◌≡◌, ◌+◌, ◌*◌, ◌-◌, ◌^◌, ◌<◌, ◌≤◌, ◌∷◌, [], ℕ, length, slice_index, IfOk, refl};
+ghost use Rattle.std.specs.Prelude.{◌≡◌, ◌+◌, ◌*◌, ◌-◌, ◌^◌, ◌<◌, ◌≤◌, ◌∷◌, [], ℕ, length, slice_index, IfOk};
 ghost use Rattle.w16_model.specs.Heap.{IsMultiple};
 ghost use Rattle.w16_holes.specs.Holes.{AreHoles, add_span};
 ghost use Rattle.w16_holes.specs.Cells.{IsApart, IsInside, IsBeginOf};
 
-use crate::Holes;
+use crate::{HoleList, Holes};
 use std::alloc::{AllocError, Global};
 use std::marker::Model;
 use w16_region::Space;
@@ -88,18 +88,16 @@ impl SideHoles {
     }
 }
 
-impl<S: Space> Holes<S> for SideHoles {
+impl HoleList for SideHoles {
     ghost range = { λ h. h.range };
 
-    ghost holes = { λ h bytes. h.holes };
+    ghost holes = { λ h. h.holes };
+}
 
-    ghost fits = { λ h bytes. AreHoles h.range.lo h.range.hi h.holes };
+impl<S: Space> Holes<S> for SideHoles {
+    ghost are_in = { λ hs bytes. Unit {0} };
 
-    ghost ordered = { λ h bytes is. is };
-
-    ghost same_holes = { λ h old new is same. refl };
-
-    ghost same_fits = { λ h old new is same. is };
+    ghost stay = { λ hs old new kept same. tt };
 
     fn lowest(&self, _space: &S, n: u32) -> Option<u32> {
         match self.lengths.first_at_least(n.max(1)) {

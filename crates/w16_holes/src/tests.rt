@@ -9,9 +9,9 @@ use w16_region::{Region, Space};
 
 /// Runs the suite, from one hole of 256 bytes at grain 32 on.
 fn takes_and_puts<S: Space, H: Holes<S>>(rt: &impl Abort, holes: &mut H, space: &mut S)
-    requires fits { H.fits holes.old (S.bytes space.old) }
+    requires kept { H.are_in (H.holes holes.old) (S.bytes space.old) }
     requires range { H.range holes.old ≡ record { lo = 0; hi = 256; grain = 32 } }
-    requires whole { H.holes holes.old (S.bytes space.old) ≡ record { from = 0; to = 256 } ∷ [] }
+    requires whole { H.holes holes.old ≡ record { from = 0; to = 256 } ∷ [] }
 {
     holes.take(space, 64, 32);
     assert_eq!(rt; holes.lowest(space, 0), Some(0));

@@ -38,6 +38,3 @@ returns-clause-holes g c =
     let cells = two_sets s.lengths c.set.new.self c.set-2.new.self q k 0 (c.args.place + c.args.n - s.lo + c.get.result - c.bytes_before.result) 0 (s.grain * q + slice_index s.lengths q - s.grain * k)
     c.set.ensures c.set-2.ensures (omega arith) (omega arith) in
     rw (← c.self.view_is) (ap (spans s.grain s.lo) cells ∙ put_spans t)
-
-pub returns-clause-fits : goal.returns-clause-fits
-returns-clause-fits g c = AreHoles-cells (range c.self.inside) c.set-2.new.self (invariant_of-self g c)

@@ -58,9 +58,6 @@ returns-in-Some-clause-holes g c =
     c.set.ensures c.set-in-Some.ensures (omega arith) (omega arith) in
     rw (← c.self.view_is) (ap (spans s.grain s.lo) cells ∙ take_spans t k c.in-Some.ensures)
 
-pub returns-in-Some-clause-fits : goal.returns-in-Some-clause-fits
-returns-in-Some-clause-fits g c = AreHoles-cells (range c.self.inside) c.set-in-Some.new.self (invariant_of-self g c)
-
 pub returns-in_default-clause-holes : goal.returns-in_default-clause-holes
 returns-in_default-clause-holes g c =
     let t = is_take (range c.self.inside) c.self.inside.lengths c.args.self.now c.self.view_is c.self.invariant c.args.place c.args.n c.unit_of-unit.result c.unit_of-next.result c.requires.part c.unit_of-unit.ensures c.unit_of-next.ensures c.requires.free in
