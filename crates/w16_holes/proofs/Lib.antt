@@ -3,3 +3,5 @@ pub mod Change
 pub mod Told
 pub mod Look
 pub mod Steps
+pub mod Sets
+pub mod Move

@@ -4,9 +4,11 @@
 //! - [`Holes`] is what code over holes is generic in, whether they are kept in the free bytes
 //!   themselves or beside them.
 //! - [`SideHoles`] keeps them beside the memory, of which no byte is read or written.
+//! - [`laws`] says what taking and putting means for the free bytes.
 #![tactic(auto)]
 
 mod holes;
+pub mod laws;
 mod side;
 #[cfg(test)]
 mod tests;
