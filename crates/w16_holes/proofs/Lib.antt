@@ -1,0 +1,7 @@
+pub mod Units
+pub mod Change
+pub mod Told
+pub mod Look
+pub mod Steps
+pub mod Sets
+pub mod Move

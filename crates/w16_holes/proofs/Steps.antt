@@ -1,0 +1,68 @@
+-- The cells of a range after a part was taken or put.
+use Rattle.std.proofs.Common.{ℕ, ◌≡◌, ◌<◌, ◌+◌, ◌*◌, ◌-◌, List, set, Some, arith, sym, ap, ◌∙◌, subst}
+use Rattle.std.specs.Prelude.{slice_index}
+use Rattle.std.proofs.lemmas.List.{length-set}
+use Rattle.w16_tree.specs.Last.{last_below}
+use Rattle.w16_holes.specs.Holes.{Range, Free, AreHoles, IsPart, IsFree, IsUsed}
+use Rattle.w16_holes.specs.Cells.{spans, AreCells, IsApart, IsInside, IsBeginOf}
+use Rattle.w16_holes.proofs.Told.{IsTake, IsPut, take_apart, take_kept, put_apart, put_kept}
+use Rattle.w16_holes.proofs.Look.{are_holes}
+
+pub AreHoles-cells : (r : Range) (ns : List ℕ) → AreCells r ns → AreHoles r.lo r.hi (spans r.grain r.lo ns)
+AreHoles-cells r ns cells = are_holes r.grain ns r.lo r.hi cells.ordered cells.apart cells.inside
+
+-- two cells set, in other words
+pub two_sets : (ns one two : List ℕ) (i j x y v w : ℕ) → one ≡ set ns i x → two ≡ set one j y → x ≡ v → y ≡ w → two ≡ set (set ns i v) j w
+two_sets ns one two i j x y v w first second is there =
+    second ∙ ap (λ (n : ℕ). set one j n) there ∙ ap (λ (ms : List ℕ). set ms j w) (first ∙ ap (λ (n : ℕ). set ns i n) is)
+
+-- two cells changed
+AreCells-sets : (r : Range) (ns : List ℕ) (i j v w : ℕ) → AreCells r ns → IsApart r.grain (set (set ns i v) j w) → IsInside r.grain (r.hi - r.lo) (set (set ns i v) j w) → AreCells r (set (set ns i v) j w)
+AreCells-sets r ns i j v w cells apart inside = record {
+  some = cells.some;
+  from = cells.from;
+  ordered = cells.ordered;
+  small = cells.small;
+  long = subst (λ (n : ℕ). r.hi - r.lo < r.grain * n) (sym (length-set (set ns i v) j w ∙ length-set ns i v)) cells.long;
+  apart = apart;
+  inside = inside;
+}
+
+module _ (r : Range) (ns : List ℕ) (now : Free) (is : record { range = r; holes = spans r.grain r.lo ns } ≡ now) (cells : AreCells r ns) (a n p q : ℕ)
+    (asked : IsPart now.range a n) (at : r.grain * p ≡ a - r.lo) (end : r.grain * q ≡ a + n - r.lo) where
+  part : IsPart r a n
+  part = subst (λ (f : Free). IsPart f.range a n) (sym is) asked
+
+  pub is_take : IsFree a (a + n) now.holes → IsTake r.grain r.lo (r.hi - r.lo) ns a (a + n) p q
+  is_take free = let from = part.from in let some = part.some in record {
+    wide = cells.some;
+    apart = cells.apart;
+    inside = cells.inside;
+    long = cells.long;
+    at = omega arith;
+    end = omega arith;
+    some = omega arith;
+    free = subst (λ (f : Free). IsFree a (a + n) f.holes) (sym is) free;
+  }
+
+  pub is_put : (k : ℕ) → IsBeginOf r.grain p ns k → IsUsed a (a + n) now.holes → IsPut r.grain r.lo (r.hi - r.lo) ns a (a + n) p q k
+  is_put k begin used = let from = part.from in let some = part.some in let to = part.to in record {
+    wide = cells.some;
+    apart = cells.apart;
+    inside = cells.inside;
+    long = cells.long;
+    at = omega arith;
+    end = omega arith;
+    some = omega arith;
+    last = omega arith;
+    used = subst (λ (f : Free). IsUsed a (a + n) f.holes) (sym is) used;
+    begin = begin;
+  }
+
+module _ (r : Range) (ns : List ℕ) (a b p q : ℕ) (cells : AreCells r ns) where
+  pub AreCells-take : (t : IsTake r.grain r.lo (r.hi - r.lo) ns a b p q) (k : ℕ) → Some k ≡ last_below ns (p + 1)
+      → AreCells r (set (set ns k (r.grain * p - r.grain * k)) q (r.grain * k + slice_index ns k - r.grain * q))
+  AreCells-take t k is = AreCells-sets r ns k q (r.grain * p - r.grain * k) (r.grain * k + slice_index ns k - r.grain * q) cells (take_apart t k is) (take_kept t k is)
+
+  pub AreCells-put : (k : ℕ) → IsPut r.grain r.lo (r.hi - r.lo) ns a b p q k → AreCells r (set (set ns q 0) k (r.grain * q + slice_index ns q - r.grain * k))
+  AreCells-put k t = AreCells-sets r ns q k 0 (r.grain * q + slice_index ns q - r.grain * k) cells (put_apart t) (put_kept t)

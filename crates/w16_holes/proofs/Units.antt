@@ -1,0 +1,42 @@
+-- Numbers of units, and what they are in bytes.
+use Rattle.std.proofs.Common.{ℕ, suc, ◌≡◌, ◌<◌, ◌≤◌, ◌+◌, ◌*◌, ◌-◌, ◌/◌, arith, ap, inl, inr}
+use Rattle.std.proofs.Math.Nat.{mul-le-mul_left}
+use Rattle.std.proofs.lemmas.Bool.{cases_lt}
+use Rattle.w16_model.specs.Heap.{IsMultiple}
+
+pub up : (g a b : ℕ) → a ≤ b → g * a ≤ g * b
+up g a b le = mul-le-mul_left g le
+
+pub above : (g a b : ℕ) → a < b → g * a + g ≤ g * b
+above g a b lt = let r : g * suc a ≤ g * b = mul-le-mul_left g lt in omega arith
+
+-- and back
+pub below : (g a b : ℕ) → g * a < g * b → a < b
+below g a b lt = elim (cases_lt a b) [
+  | inl less ↦ less
+  | inr le ↦ let r = up g b a le in absurd (omega arith)
+]
+
+pub at_most : (g a b : ℕ) → 0 < g → g * a ≤ g * b → a ≤ b
+at_most g a b some le = elim (cases_lt b a) [
+  | inl less ↦ let r = above g b a less in absurd (omega arith)
+  | inr is ↦ is
+]
+
+-- a multiple is so many whole units
+divided : (g n d : ℕ) → 0 < g → n ≡ g * d → g * (n / g) ≡ n
+divided g n d some e = elim (cases_lt (n / g) d) [
+  | inl less ↦ let r = above g (n / g) d less in absurd (omega arith)
+  | inr le ↦ let r = up g d (n / g) le in omega arith
+]
+
+pub whole_units : (g lo place : ℕ) → 0 < g → lo ≤ place → IsMultiple g lo → IsMultiple g place → g * ((place - lo) / g) ≡ place - lo
+whole_units g lo place some le low high =
+    let e = low.1 in let f = high.1 in
+    let less : low.0 ≤ high.0 = at_most g low.0 high.0 some (omega arith) in
+    let sum : high.0 ≡ low.0 + (high.0 - low.0) = omega arith in
+    let parts : g * high.0 ≡ g * (low.0 + (high.0 - low.0)) = ap (λ (n : ℕ). g * n) sum in
+    divided g (place - lo) (high.0 - low.0) some (omega arith)
+
+pub multiple_sum : (g a b : ℕ) → IsMultiple g a → IsMultiple g b → IsMultiple g (a + b)
+multiple_sum g a b one two = let e = one.1 in let f = two.1 in (one.0 + two.0, omega arith)

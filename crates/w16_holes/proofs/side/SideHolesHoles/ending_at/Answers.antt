@@ -1,0 +1,15 @@
+use Rattle.std.proofs.Common.{ap, arith, ◌∙◌, ◌≡◌, ◌-◌, ◌*◌}
+use Rattle.w16_holes.specs.Holes.{Free}
+use Rattle.w16_holes.proofs.Look.{to_is}
+use Rattle.w16_holes.proofs.Told.{IsInside-wide}
+use Rattle.w16_holes.proofs.side.SideHolesHoles.ending_at.Goals as goal
+
+pub begin_of-begin-requires-clause-fits : goal.begin_of-begin-requires-clause-fits
+begin_of-begin-requires-clause-fits g c = let small = c.self.invariant.small in IsInside-wide c.self.inside.grain (c.self.inside.hi - c.self.inside.lo) 4294967295 c.self.inside.lengths (omega arith) c.self.invariant.inside
+
+pub returns : goal.returns
+returns g c =
+    let s = c.self.inside in
+    let low = ap (λ (f : Free). f.range.lo) c.self.view_is in let from = c.requires.place.from in
+    let is : c.args.place - s.lo - c.bytes_before.result ≡ s.grain * c.unit_of-unit.result - s.grain * c.begin_of-begin.result = omega arith in
+    rw (← c.self.view_is) (is ∙ to_is s.grain s.lo s.lengths c.args.place c.unit_of-unit.result c.begin_of-begin.result (omega arith) c.self.invariant.apart c.begin_of-begin.ensures)

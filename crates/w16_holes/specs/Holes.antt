@@ -1,0 +1,98 @@
+-- The holes between two bounds, by address: what is asked of them, and what taking and putting makes of them.
+use Rattle.std.specs.Prelude.{◌⊎◌, ℕ, suc, ◌<◌, ◌≤◌, ◌≡◌, ◌+◌, ◌-◌, max, min, nat_lt, nat_le, if◌then◌else◌, ◌==◌, List, [], ◌∷◌, length, map, Option, option_map, slice_index}
+use Rattle.std.specs.List.{find, fold}
+use Rattle.w16_model.specs.declared.Span.{Span}
+use Rattle.w16_model.specs.Heap.{IsMultiple}
+
+-- between which bounds the holes lie, and of what each place and size is a multiple
+pub record Range : Type 0 where
+  pub lo : ℕ
+  pub hi : ℕ
+  pub grain : ℕ
+
+-- the holes of a range
+pub record Free : Type 0 where
+  pub range : Range
+  pub holes : List Span
+
+-- the holes lie in [lo, hi) by address, each has a byte, and no two touch
+abbrev pub AreHoles : ℕ → ℕ → List Span → Type 0
+AreHoles lo hi [] = Unit {0}
+AreHoles lo hi (h ∷ hs) = (lo ≤ h.from) × (h.from < h.to) × (h.to ≤ hi) × AreHoles (suc h.to) hi hs
+
+-- [a, b) lies in one hole
+abbrev pub IsFree : ℕ → ℕ → List Span → Type 0
+IsFree a b [] = ⊥
+IsFree a b (h ∷ hs) = ((h.from ≤ a) × (b ≤ h.to)) ⊎ IsFree a b hs
+
+-- [a, b) meets no hole
+abbrev pub IsUsed : ℕ → ℕ → List Span → Type 0
+IsUsed a b [] = Unit {0}
+IsUsed a b (h ∷ hs) = ((h.to ≤ a) ⊎ (b ≤ h.from)) × IsUsed a b hs
+
+-- What is asked.
+
+abbrev pub size_of : Span → ℕ
+size_of h = h.to - h.from
+
+-- where the lowest hole of at least n bytes begins
+abbrev pub lowest : ℕ → List Span → Option ℕ
+lowest n hs = option_map (λ h. h.from) (find (λ h. nat_le n (size_of h)) hs)
+
+-- the length of the hole that begins at a place, 0 where none does
+abbrev pub length_at : ℕ → List Span → ℕ
+length_at a [] = 0
+length_at a (h ∷ hs) = if h.from == a then size_of h else length_at a hs
+
+-- the length of the hole that ends at a place, 0 where none does
+abbrev pub length_to : ℕ → List Span → ℕ
+length_to a [] = 0
+length_to a (h ∷ hs) = if h.to == a then size_of h else length_to a hs
+
+-- the length of the longest hole, 0 where there is none
+abbrev pub longest : List Span → ℕ
+longest hs = fold max 0 (map size_of hs)
+
+-- What changes.
+
+-- a list after one more span, if it is not empty
+abbrev pub add_span : ℕ → ℕ → List Span → List Span
+add_span from to rest = if nat_lt from to then record { from = from; to = to } ∷ rest else rest
+
+-- the holes without [a, b), which lies in one of them
+abbrev pub taken : ℕ → ℕ → List Span → List Span
+taken a b [] = []
+taken a b (h ∷ hs) = if nat_lt a h.to then add_span h.from a (add_span b h.to hs) else h ∷ taken a b hs
+
+-- the holes with [a, b), joined with those that it touches
+abbrev pub joined : ℕ → ℕ → List Span → List Span
+joined a b [] = record { from = a; to = b } ∷ []
+joined a b (h ∷ hs) = if nat_lt h.to a then h ∷ joined a b hs else if nat_lt b h.from then record { from = a; to = b } ∷ h ∷ hs else joined (min a h.from) (max b h.to) hs
+
+-- What is asked for: a part of a range, at multiples of its grain.
+
+-- a place in a range, or its end
+pub record IsPlace (r : Range) (place : ℕ) : Type 0 where
+  pub from : r.lo ≤ place
+  pub to : place ≤ r.hi
+  pub grained : IsMultiple r.grain place
+
+-- [place, place + n) is a part of a range, and has a byte
+pub record IsPart (r : Range) (place n : ℕ) : Type 0 where
+  pub some : 0 < n
+  pub from : r.lo ≤ place
+  pub to : place + n ≤ r.hi
+  pub grained : IsMultiple r.grain place
+  pub rounded : IsMultiple r.grain n
+
+-- What stays of the bytes.
+
+-- two memories have the same bytes in the holes
+pub record AreSameIn (hs : List Span) (old new : List ℕ) : Type 0 where
+  pub long : length new ≡ length old
+  pub same : (k : ℕ) → IsFree k (suc k) hs → slice_index new k ≡ slice_index old k
+
+-- two memories have the same bytes outside the holes
+pub record AreSameOutside (hs : List Span) (old new : List ℕ) : Type 0 where
+  pub long : length new ≡ length old
+  pub same : (k : ℕ) → IsUsed k (suc k) hs → slice_index new k ≡ slice_index old k

@@ -1,0 +1,3 @@
+pub mod Holes
+pub mod Cells
+pub mod Law

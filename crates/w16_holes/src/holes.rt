@@ -1,0 +1,82 @@
+//! What code over holes is generic in.
+ghost use Rattle.std.specs.Prelude.{◌≡◌, ◌+◌, ◌≤◌, List, ℕ};
+ghost use Rattle.w16_model.specs.declared.Span.{Span};
+ghost use Rattle.w16_holes.specs.Holes.{Range, AreHoles, IsFree, IsUsed, IsPlace, IsPart, lowest, length_at, length_to, longest, taken, joined, AreSameIn, AreSameOutside};
+
+use w16_region::Space;
+
+/// What is known of holes apart from any space: their range, and the list of them by address.
+pub trait HoleList {
+    /// The bounds of the range, and its grain.
+    ghost range: { Self → Range };
+
+    /// The holes, by address.
+    ghost holes: { Self → List Span };
+}
+
+/// The holes of a range of a space: its parts that are free, by address. No two touch.
+///
+/// They may be kept beside the space, or in the free bytes themselves, as a thread from hole to
+/// hole. So each call is lent the space, and what it promises is the same for both:
+/// - `are_in` says what a list of holes leaves in the bytes of a space, as its thread, and nothing
+///   where the holes are kept beside it. Each call asks for it, and `take` and `put` leave it.
+/// - It speaks of lists of holes and of bytes alone, so that who keeps other lists that tell the
+///   holes, as blocks do, can say it of those.
+/// - `take` and `put` change bytes of holes alone: of those before `take`, of those after `put`. So
+///   no byte in use is written, and links, which `written` doesn't count, may be.
+/// - Who writes elsewhere keeps the holes: `stay` asks only that the bytes in the holes do.
+pub trait Holes<S: Space>: HoleList {
+    /// What is kept of a list of holes in the bytes of a space.
+    ghost are_in: { List Span → List ℕ → Type 0 };
+
+    /// Where the lowest hole of at least `n` bytes begins. Each hole has a byte, so for 0 it is the
+    /// lowest there is.
+    fn lowest(&self, space: &S, n: u32) -> Option<u32>
+        requires { are_in (Self.holes self.now) (S.bytes space.now) }
+        ensures { result ≡ lowest n (Self.holes self.now) };
+
+    /// The length of the hole that begins at a place, 0 where none does.
+    fn at(&self, space: &S, place: u32) -> u32
+        requires kept { are_in (Self.holes self.now) (S.bytes space.now) }
+        requires place { IsPlace (Self.range self.now) place }
+        ensures { result ≡ length_at place (Self.holes self.now) };
+
+    /// The length of the hole that ends at a place, 0 where none does.
+    fn ending_at(&self, space: &S, place: u32) -> u32
+        requires kept { are_in (Self.holes self.now) (S.bytes space.now) }
+        requires place { IsPlace (Self.range self.now) place }
+        ensures { result ≡ length_to place (Self.holes self.now) };
+
+    /// The length of the longest hole, 0 where there is none.
+    fn longest(&self, space: &S) -> u32
+        requires { are_in (Self.holes self.now) (S.bytes space.now) }
+        ensures { result ≡ longest (Self.holes self.now) };
+
+    /// Takes `n` bytes from a place on, which are a part of one hole.
+    fn take(&mut self, space: &mut S, place: u32, n: u32)
+        requires kept { are_in (Self.holes self.old) (S.bytes space.old) }
+        requires part { IsPart (Self.range self.old) place n }
+        requires free { IsFree place (place + n) (Self.holes self.old) }
+        ensures holes { Self.holes self.new ≡ taken place (place + n) (Self.holes self.old) }
+        ensures range { Self.range self.new ≡ Self.range self.old }
+        ensures kept { are_in (Self.holes self.new) (S.bytes space.new) }
+        ensures bytes { AreSameOutside (Self.holes self.old) (S.bytes space.old) (S.bytes space.new) }
+        ensures written { S.written space.new ≡ S.written space.old }
+        ensures lenders { S.lenders space.new ≡ S.lenders space.old };
+
+    /// Puts `n` bytes from a place on, which meet no hole, and joins them with the holes that they
+    /// touch.
+    fn put(&mut self, space: &mut S, place: u32, n: u32)
+        requires kept { are_in (Self.holes self.old) (S.bytes space.old) }
+        requires part { IsPart (Self.range self.old) place n }
+        requires used { IsUsed place (place + n) (Self.holes self.old) }
+        ensures holes { Self.holes self.new ≡ joined place (place + n) (Self.holes self.old) }
+        ensures range { Self.range self.new ≡ Self.range self.old }
+        ensures kept { are_in (Self.holes self.new) (S.bytes space.new) }
+        ensures bytes { AreSameOutside (Self.holes self.new) (S.bytes space.old) (S.bytes space.new) }
+        ensures written { S.written space.new ≡ S.written space.old }
+        ensures lenders { S.lenders space.new ≡ S.lenders space.old };
+
+    /// Where the bytes in the holes stay, so does what is kept of the holes.
+    ghost stay: { (hs : List Span) (old new : List ℕ) → are_in hs old → AreSameIn hs old new → are_in hs new };
+}

@@ -1,0 +1,17 @@
+//! The free memory of a heap, as holes by address: where the lowest of a length is, a part taken,
+//! a part put back and joined with its neighbours.
+//!
+//! - [`Holes`] is what code over holes is generic in, whether they are kept in the free bytes
+//!   themselves or beside them.
+//! - [`SideHoles`] keeps them beside the memory, of which no byte is read or written.
+//! - [`laws`] says what taking and putting means for the free bytes.
+#![tactic(auto)]
+
+mod holes;
+pub mod laws;
+mod side;
+#[cfg(test)]
+mod tests;
+
+pub use holes::{HoleList, Holes};
+pub use side::SideHoles;

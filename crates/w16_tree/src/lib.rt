@@ -1,0 +1,117 @@
+//! A list of numbers that knows its maximum.
+//!
+//! It has a fixed length. To change a number, to find the first of at least a bound, or the last
+//! before a place that isn't 0, takes as many steps as the list's length has binary digits. No call
+//! but the constructor takes memory.
+//!
+//! - [`Maxima`] is the list. It lies in the leaves of a binary tree, whose inner nodes are their
+//!   children's maxima.
+//! - `paths` has the ways up and down that tree.
+#![tactic(auto)]
+
+ghost use Rattle.std.specs.Prelude.{◌≡◌, ◌+◌, ◌<◌, ◌≤◌, ◌^◌, List, ℕ, length, take, drop, set, replicate, slice_index, max, nat_le, IfOk};
+ghost use Rattle.std.specs.List.{position, fold};
+
+mod paths;
+#[cfg(test)]
+mod tests;
+
+use paths::{carry_up, first_leaf, last_leaf_before};
+use std::alloc::{AllocError, Global};
+use std::marker::Model;
+
+/// A list of numbers that knows its maximum. A contract sees the list alone.
+#[derive(Drop)]
+pub struct Maxima {
+    nodes: Vec<u32>,
+    leaves: usize,
+    height: usize,
+    len: usize,
+}
+
+impl Model for Maxima {
+    ghost use Rattle.std.specs.Prelude.{◌≤◌, ◌^◌, List, ℕ, take, drop};
+    ghost use Rattle.w16_tree.specs.Tree.{IsTree};
+
+    ghost Value = { List ℕ };
+
+    ghost view = { λ s. take s.len (drop s.leaves s.nodes.items) };
+
+    ghost invariant = { λ s. (s.leaves ≤ 2 ^ 34) × IsTree s.height s.len s.leaves s.nodes.items };
+}
+
+impl Maxima {
+    ghost use Rattle.w16_tree.specs.Last.{last_below};
+
+    /// `len` zeros. All the memory that the list ever has is taken here; fails where there is not
+    /// enough.
+    pub fn zeros(alloc: Global, len: usize) -> Result<Maxima, AllocError>
+        requires { len < 2 ^ 33 }
+        ensures { IfOk result (λ made. made ≡ replicate len 0) }
+    {
+        let mut leaves = 1;
+        let mut height = 0;
+        'doubled: while leaves <= len {
+            leaves *= 2;
+            height += 1;
+        }
+        let nodes = vec![in alloc; 0u32; 2 * leaves]?;
+        Ok(Maxima {
+            nodes,
+            leaves,
+            height,
+            len,
+        })
+    }
+
+    /// How many numbers there are.
+    pub fn len(&self) -> usize
+        ensures { result ≡ length self.now }
+    {
+        self.len
+    }
+
+    /// The number at an index.
+    pub fn get(&self, index: usize) -> u32
+        requires { index < length self.now }
+        ensures { result ≡ slice_index self.now index }
+    {
+        self.nodes[self.leaves + index]
+    }
+
+    /// Puts a number at an index. It goes up the tree no further than a maximum changes.
+    pub fn set(&mut self, index: usize, value: u32)
+        requires { index < length self.old }
+        ensures { self.new ≡ set self.old index value }
+    {
+        let leaf = self.leaves + index;
+        self.nodes[leaf] = value;
+        carry_up(&mut self.nodes, self.leaves, leaf);
+    }
+
+    /// The maximum, 0 where there is no number.
+    pub fn max(&self) -> u32
+        ensures { result ≡ fold max 0 self.now }
+    {
+        self.nodes[1]
+    }
+
+    /// The index of the first number of at least `n`, which isn't 0.
+    pub fn first_at_least(&self, n: u32) -> Option<usize>
+        requires { 0 < n }
+        ensures { result ≡ position (nat_le n) self.now }
+    {
+        if self.nodes[1] < n {
+            return None;
+        }
+        Some(first_leaf(&self.nodes, self.height, self.leaves, n))
+    }
+
+    /// The highest index below another whose number isn't 0.
+    pub fn last_below(&self, index: usize) -> Option<usize>
+        requires { index ≤ length self.now }
+        ensures { result ≡ last_below self.now index }
+    {
+        last_leaf_before(&self.nodes, self.height, self.leaves, self.leaves + index)
+    }
+}
