@@ -5,3 +5,4 @@ pub mod Look
 pub mod Steps
 pub mod Sets
 pub mod Move
+pub mod Write

@@ -55,6 +55,29 @@ free_of t u lo hi (h ∷ hs) some are all = elim (all t (omega arith) some) [
       ]))
 ]
 
+-- a part of the new place that is not the old one's is free
+pub free_part : (lo hi a b t u x y : ℕ) (hs : List Span) → AreHoles lo hi hs → IsUsed x y hs → x < y → lo ≤ x → y ≤ hi → IsFree t u (joined x y hs) → a < b → t ≤ a → b ≤ u → (b ≤ x) ⊎ (y ≤ a) → IsFree a b hs
+free_part lo hi a b t u x y hs are used xy from to free ab start end apart = free_of a b lo hi hs ab are (λ p s e. elim (in_joined x y p hs (in_free t u p (joined x y hs) (omega arith) (omega arith) free)) [
+  | inl is ↦ is
+  | inr at ↦ let i = at.0 in let j = at.1 in elim apart [
+    | inl below ↦ absurd (omega arith)
+    | inr above ↦ absurd (omega arith)
+  ]
+])
+
+-- a part of the old place is in use when the new one's is taken
+pub used_part : (lo hi a b c d x y : ℕ) (hs : List Span) → AreHoles lo hi hs → IsFree a b hs → a < b → IsUsed x y hs → c < d → x ≤ c → d ≤ y → IsUsed c d (taken a b hs)
+used_part lo hi a b c d x y hs are free ab used cd from to = used_of c d lo hi (taken a b hs) cd (AreHoles-taken hi a b ab lo hs are free)
+    (λ p s e is. not_used x y p hs (omega arith) (omega arith) used (in_taken hi a b ab lo p hs are free is).0)
+
+-- and so is all of the new place
+pub used_after : (lo hi a b u x y : ℕ) (hs : List Span) → AreHoles lo hi hs → IsFree a b hs → IsUsed x y hs → a < b → a < u → ((p : ℕ) → b ≤ p → p < u → (x ≤ p) × (p < y)) → IsUsed a u (taken a b hs)
+used_after lo hi a b u x y hs are free used ab au rest = used_of a u lo hi (taken a b hs) au (AreHoles-taken hi a b ab lo hs are free)
+    (λ p s e is. let r = in_taken hi a b ab lo p hs are free is in elim r.1 [
+      | inl below ↦ omega arith
+      | inr above ↦ let at = rest p above e in not_used x y p hs at.0 at.1 used r.0
+    ])
+
 -- What moves from [x, y) to [t, u): the part [a, b) of the new place that is free is taken, and the part [c, d) of the old one that is left is put. It makes the holes that
 -- putting all the old place and taking all the new one would.
 pub moved : (lo hi a b c d t u x y : ℕ) (hs : List Span) → AreHoles lo hi hs → IsFree a b hs → IsUsed x y hs → a < b → c < d → t < u → x < y → lo ≤ x → y ≤ hi

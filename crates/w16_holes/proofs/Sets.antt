@@ -5,7 +5,7 @@ use Rattle.w16_model.specs.declared.Span.{Span}
 use Rattle.w16_holes.specs.Holes.{AreHoles, IsFree, IsUsed, add_span, taken, joined}
 use Rattle.w16_holes.specs.Law.{IsIn, BytesLaw, TakenLaw, JoinedLaw}
 
-AreHoles-low : (x y hi : ℕ) (hs : List Span) → y ≤ x → AreHoles x hi hs → AreHoles y hi hs
+pub AreHoles-low : (x y hi : ℕ) (hs : List Span) → y ≤ x → AreHoles x hi hs → AreHoles y hi hs
 AreHoles-low x y hi [] le are = tt
 AreHoles-low x y hi (h ∷ hs) le are = let low = are.0 in (omega arith, are.1, are.2, are.3)
 
@@ -67,7 +67,7 @@ in_add x y p zs free = elim (cases_lt x y) [
   | inr none ↦ inr (rw (le-ltb x y none) at free)
 ]
 
-AreHoles-add : (lo hi x y : ℕ) (zs : List Span) → lo ≤ x → y ≤ hi → AreHoles (suc y) hi zs → lo ≤ suc y → AreHoles lo hi (add_span x y zs)
+pub AreHoles-add : (lo hi x y : ℕ) (zs : List Span) → lo ≤ x → y ≤ hi → AreHoles (suc y) hi zs → lo ≤ suc y → AreHoles lo hi (add_span x y zs)
 AreHoles-add lo hi x y zs from to are below = elim (cases_lt x y) [
   | inl some ↦ rw (lt-ltb x y some) (from, some, to, are)
   | inr none ↦ rw (le-ltb x y none) (AreHoles-low (suc y) lo hi zs below are)

@@ -1,8 +1,9 @@
 -- The holes between two bounds, by address: what is asked of them, and what taking and putting makes of them.
-use Rattle.std.specs.Prelude.{◌⊎◌, ℕ, suc, ◌<◌, ◌≤◌, ◌≡◌, ◌+◌, ◌-◌, max, min, nat_lt, nat_le, if◌then◌else◌, ◌==◌, List, [], ◌∷◌, length, map, Option, option_map, slice_index}
+use Rattle.std.specs.Prelude.{◌⊎◌, ℕ, suc, ◌<◌, ◌≤◌, ◌≡◌, ◌+◌, ◌-◌, max, min, nat_lt, nat_le, if◌then◌else◌, ◌==◌, List, [], ◌∷◌, length, map, Option, option_map}
 use Rattle.std.specs.List.{find, fold}
 use Rattle.w16_model.specs.declared.Span.{Span}
 use Rattle.w16_model.specs.Heap.{IsMultiple}
+use Rattle.w16_region.specs.Bytes.{part}
 
 -- between which bounds the holes lie, and of what each place and size is a multiple
 pub record Range : Type 0 where
@@ -90,9 +91,9 @@ pub record IsPart (r : Range) (place n : ℕ) : Type 0 where
 -- two memories have the same bytes in the holes
 pub record AreSameIn (hs : List Span) (old new : List ℕ) : Type 0 where
   pub long : length new ≡ length old
-  pub same : (k : ℕ) → IsFree k (suc k) hs → slice_index new k ≡ slice_index old k
+  pub same : (at n : ℕ) → IsFree at (at + n) hs → part new at n ≡ part old at n
 
--- two memories have the same bytes outside the holes
+-- two memories have the same bytes wherever there is no hole
 pub record AreSameOutside (hs : List Span) (old new : List ℕ) : Type 0 where
   pub long : length new ≡ length old
-  pub same : (k : ℕ) → IsUsed k (suc k) hs → slice_index new k ≡ slice_index old k
+  pub same : (at n : ℕ) → IsUsed at (at + n) hs → part new at n ≡ part old at n

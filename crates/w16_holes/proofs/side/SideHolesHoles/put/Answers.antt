@@ -21,7 +21,7 @@ unit_of-next-requires-clause-grained g c =
 pub set-requires-2 : goal.set-requires-2
 set-requires-2 g c =
     let t = is_put (range c.self.inside) c.self.inside.lengths c.args.self.now c.self.view_is c.self.invariant c.args.place c.args.n c.unit_of-unit.result c.unit_of-next.result c.requires.part c.unit_of-unit.ensures c.unit_of-next.ensures c.begin_of-begin.result c.begin_of-begin.ensures c.requires.used in
-    let lt = put_lt t in let same = length-set c.self.inside.lengths c.unit_of-next.result 0 in let e = ap length c.set.ensures in omega arith
+    let lt = put_lt t in let e = ap length c.set.ensures in omega (arith, length-set {A = ℕ})
 
 pub invariant_of-self : goal.invariant_of-self
 invariant_of-self g c =
