@@ -3,7 +3,7 @@ use Rattle.std.specs.Prelude.{◌⊎◌, ℕ, suc, ◌<◌, ◌≤◌, ◌≡◌
 use Rattle.std.specs.List.{find, fold}
 use Rattle.w16_model.specs.declared.Span.{Span}
 use Rattle.w16_model.specs.Heap.{IsMultiple}
-use Rattle.w16_region.specs.Bytes.{part}
+use Rattle.w16_model.specs.Bytes.{part}
 
 -- between which bounds the holes lie, and of what each place and size is a multiple
 pub record Range : Type 0 where
