@@ -66,7 +66,7 @@ records_read file flags end n (inr (some, said, all)) =
 -- one segment, by the words of its entry
 module _ (file : List ℕ) (shift at w0 w2 w4 w6 : ℕ) (e0 : w0 ≡ word_of file at) (e2 : w2 ≡ word_of file (at + 2)) (e4 : w4 ≡ word_of file (at + 4)) (e6 : w6 ≡ word_of file (at + 6)) where
   abbrev empty : Segment
-  empty = record { place = 0; len = 0; flags = w4; size = rounded (or_64k w6); records = 0 }
+  empty = record { place = 0; len = 0; flags = record { 0 = w4 }; size = rounded (or_64k w6); records = 0 }
 
   abbrev read_entry : Reading Segment
   read_entry = cond (not (eqb (bit_and w4 8) 0)) (Err faults.Unsupported) (cond (eqb w0 0) (Ok empty) (data_at (Some file) (w0 * 2 ^ shift) (or_64k w2) w4 (or_64k w6)))
@@ -87,9 +87,9 @@ module _ (file : List ℕ) (shift at w0 w2 w4 w6 : ℕ) (e0 : w0 ≡ word_of fil
   data_is s some plain h =
       let place = w0 * 2 ^ shift in
       let len = or_64k w2 in
-      let one = bind_ok (reaches (Some file) (place + len)) (λ _. records_at (Some file) w4 (place + len) >>= λ records. Ok (record { place = place; len = len; flags = w4; size = rounded (max len (or_64k w6)); records = records })) s h in
-      let two = bind_ok (records_at (Some file) w4 (place + len)) (λ records. Ok (record { place = place; len = len; flags = w4; size = rounded (max len (or_64k w6)); records = records })) s one.1.1 in
-      let same : record { place = place; len = len; flags = w4; size = rounded (max len (or_64k w6)); records = two.0 } ≡ s = cc (two.1.1) in
+      let one = bind_ok (reaches (Some file) (place + len)) (λ _. records_at (Some file) w4 (place + len) >>= λ records. Ok (record { place = place; len = len; flags = record { 0 = w4 }; size = rounded (max len (or_64k w6)); records = records })) s h in
+      let two = bind_ok (records_at (Some file) w4 (place + len)) (λ records. Ok (record { place = place; len = len; flags = record { 0 = w4 }; size = rounded (max len (or_64k w6)); records = records })) s one.1.1 in
+      let same : record { place = place; len = len; flags = record { 0 = w4 }; size = rounded (max len (or_64k w6)); records = two.0 } ≡ s = cc (two.1.1) in
       subst (λ t. IsSegment file shift at t) same (record {
         flags = e4;
         plain = plain;
@@ -114,23 +114,23 @@ module _ (file : List ℕ) (shift at w0 w2 w4 w6 : ℕ) (e0 : w0 ≡ word_of fil
   unfolding data_at
   segment_read s is = by is.placed
     where
-      flags_is : w4 ≡ s.flags
+      flags_is : w4 ≡ s.flags.0
       flags_is = e4 ∙ sym is.flags
 
       by : IsData file shift at s → read_entry ≡ Ok s
       by (inl (none, place, len, records)) =
-          let plain : eqb (bit_and s.flags 8) 0 ≡ true = is_none _ is.plain in
+          let plain : eqb (bit_and s.flags.0 8) 0 ≡ true = is_none _ is.plain in
           let no : eqb w0 0 ≡ true = is_none _ (e0 ∙ none) in
           let least : max 0 (or_64k (word_of file (at + 6))) ≡ or_64k (word_of file (at + 6)) = omega arith in
           let size : rounded (or_64k w6) ≡ s.size = ap (λ w. rounded (or_64k w)) e6 ∙ sym (is.size ∙ ap (λ l. rounded (max l (or_64k (word_of file (at + 6))))) len ∙ ap rounded least) in
           rw (flags_is, plain, no) (λ i. Ok (record { place = sym place i; len = sym len i; flags = s.flags; size = size i; records = sym records i }))
       by (inr (some, place, len, inside, records)) =
-          let plain : eqb (bit_and s.flags 8) 0 ≡ true = is_none _ is.plain in
+          let plain : eqb (bit_and s.flags.0 8) 0 ≡ true = is_none _ is.plain in
           let there : eqb w0 0 ≡ false = is_some w0 (λ e. some (sym e0 ∙ e)) in
           let place_is : w0 * 2 ^ shift ≡ s.place = ap (λ w. w * 2 ^ shift) e0 ∙ sym place in
           let len_is : or_64k w2 ≡ s.len = ap or_64k e2 ∙ sym len in
           let size : rounded (max s.len (or_64k w6)) ≡ s.size = ap (λ w. rounded (max s.len (or_64k w))) e6 ∙ sym is.size in
-          rw (flags_is, plain, there, place_is, len_is, reaches_there file (s.place + s.len) inside, records_read file s.flags (s.place + s.len) s.records records) (λ i. Ok (record { place = s.place; len = s.len; flags = s.flags; size = size i; records = s.records }))
+          rw (flags_is, plain, there, place_is, len_is, reaches_there file (s.place + s.len) inside, records_read file s.flags.0 (s.place + s.len) s.records records) (λ i. Ok (record { place = s.place; len = s.len; flags = s.flags; size = size i; records = s.records }))
 
 -- the segments of a table that was cut from the file
 module _ (file : List ℕ) (shift at count : ℕ) where

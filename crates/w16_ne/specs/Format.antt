@@ -33,12 +33,12 @@ abbrev pub IsData : List ℕ → ℕ → ℕ → Segment → Type 0
 IsData file shift at s =
     (word_of file at ≡ 0) × (s.place ≡ 0) × (s.len ≡ 0) × (s.records ≡ 0)
     ⊎ (word_of file at ≢ 0) × (s.place ≡ word_of file at * 2 ^ shift) × (s.len ≡ or_64k (word_of file (at + 2))) × (s.place + s.len ≤ length file)
-    × AreRecords file s.flags (s.place + s.len) s.records
+    × AreRecords file s.flags.0 (s.place + s.len) s.records
 
 -- a segment by its 8 bytes at an offset, which aren't those of iterated data
 pub record IsSegment (file : List ℕ) (shift at : ℕ) (s : Segment) : Type 0 where
-  pub flags : s.flags ≡ word_of file (at + 4)
-  pub plain : bit_and s.flags 8 ≡ 0
+  pub flags : s.flags.0 ≡ word_of file (at + 4)
+  pub plain : bit_and s.flags.0 8 ≡ 0
   pub placed : IsData file shift at s
   pub size : s.size ≡ rounded (max s.len (or_64k (word_of file (at + 6))))
 

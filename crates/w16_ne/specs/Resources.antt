@@ -29,7 +29,7 @@ pub record Entry : Type 0 where
   pub flags : ℕ
 
 abbrev pub entry_of : Resource → Entry
-entry_of r = record { id = label_of r.id; place = r.place; len = r.len; flags = r.flags }
+entry_of r = record { id = label_of r.id; place = r.place; len = r.len; flags = r.flags.0 }
 
 -- the block at an offset, whose resources have to be there, or none where the table ends
 unfoldable pub block_at : Option (List ℕ) → ℕ → Reading (Option Block)

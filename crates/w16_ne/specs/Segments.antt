@@ -25,7 +25,7 @@ unfoldable pub data_at : Option (List ℕ) → ℕ → ℕ → ℕ → ℕ → R
 data_at file place len flags least = do
   _ ← reaches file (place + len)
   records ← records_at file flags (place + len)
-  Ok (record { place = place; len = len; flags = flags; size = rounded (max len least); records = records })
+  Ok (record { place = place; len = len; flags = record { 0 = flags }; size = rounded (max len least); records = records })
 
 -- the segment at an index of the table: its data stand at its sector times the unit; sector 0 means that there are none. Iterated data (0008)
 -- aren't read.
@@ -36,7 +36,7 @@ segment_at file shift table at =
     let flags = word_of table (at + 4) in
     let least = or_64k (word_of table (at + 6)) in
     if not (bit_and flags 8 == 0) then Err Unsupported else
-    if sector == 0 then Ok (record { place = 0; len = 0; flags = flags; size = rounded least; records = 0 }) else
+    if sector == 0 then Ok (record { place = 0; len = 0; flags = record { 0 = flags }; size = rounded least; records = 0 }) else
     data_at file (sector * 2 ^ shift) len flags least
 
 -- so many segments of the table

@@ -3,6 +3,7 @@
 
 mod entry_table;
 mod fault;
+mod flags;
 mod head;
 pub mod laws;
 mod module_file;
@@ -21,6 +22,7 @@ mod segment_table;
 
 pub use entry_table::Entry;
 pub use fault::NeFault;
+pub use flags::{ResourceFlags, SegmentFlags};
 pub use module_file::Module;
 pub use read::read_module;
 pub use resource_entries::{Resource, ResourceName, ResourceType};

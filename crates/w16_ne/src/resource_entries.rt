@@ -5,6 +5,7 @@ ghost use Rattle.w16_ne.specs.Reading.{Gives};
 ghost use Rattle.w16_ne.specs.Resources.{label_of, label_at, entry_of, resource_at, resources_of, typed_of, typed_at, all_typed};
 
 use crate::fault::NeFault;
+use crate::flags::ResourceFlags;
 use crate::reading::{read_or, word};
 use crate::reference_table::text;
 use crate::resource_blocks::Block;
@@ -29,8 +30,7 @@ pub struct Resource {
     pub place: u32,
     /// How many bytes it has, whole units. The last may end past the file's end by less than a unit.
     pub len: u32,
-    /// The table's flag word: 0010 moveable, 0020 pure, 0040 preload, 1000 discardable.
-    pub flags: u16,
+    pub flags: ResourceFlags,
 }
 
 /// The resources of one block of the table.
@@ -92,7 +92,7 @@ fn resource_of<S: Store>(
         id,
         place: u32::from(word(&entry, 0)) * unit(shift),
         len: u32::from(word(&entry, 2)) * unit(shift),
-        flags: word(&entry, 4),
+        flags: ResourceFlags(word(&entry, 4)),
     })
 }
 

@@ -6,6 +6,7 @@ ghost use Rattle.w16_ne.specs.Header.{shift_of, segment_count};
 ghost use Rattle.w16_ne.specs.Segments.{or_64k, rounded, records_at, data_at, segment_at, entries_at, segments_at};
 
 use crate::fault::NeFault;
+use crate::flags::SegmentFlags;
 use crate::head::shift;
 use crate::reading::{reaches, read_or, table, word};
 use std::alloc::Global;
@@ -18,9 +19,7 @@ pub struct Segment {
     pub place: u32,
     /// The bytes of data in the file, up to 65,536.
     pub len: u32,
-    /// The table's flag word: 0001 data, 0010 moveable, 0020 shareable, 0040 preload, 0080 only to be run or read, 0100 relocations, 1000
-    /// discardable.
-    pub flags: u16,
+    pub flags: SegmentFlags,
     /// The bytes of its object, a multiple of 32 from 32 to 65,536.
     pub size: u32,
     /// How many relocation records stand behind the data.
@@ -98,7 +97,7 @@ fn data<S: Store>(
     Ok(Segment {
         place,
         len,
-        flags,
+        flags: SegmentFlags(flags),
         size,
         records,
     })
@@ -130,7 +129,7 @@ fn entry<S: Store>(
         return Ok(Segment {
             place: 0,
             len: 0,
-            flags,
+            flags: SegmentFlags(flags),
             size: rounded(least),
             records: 0,
         });

@@ -1,6 +1,7 @@
 //! Every proper prefix of each sample, and each byte of it changed, against answers that were worked out apart from the code.
 use super::{answers, bytes_of, read, read_changed};
 use crate::{Entry, Module, NeFault, ResourceName};
+use bitflags::Flags;
 use std::alloc::Global;
 use std::process::Abort;
 use std::test::Fail;
@@ -45,7 +46,7 @@ impl Sum {
             let segment = module.segment(i + 1);
             self.add(u64::from(segment.place));
             self.add(u64::from(segment.len));
-            self.add(u64::from(segment.flags));
+            self.add(u64::from(segment.flags.bits()));
             self.add(u64::from(segment.size));
             self.add(u64::from(segment.records));
         }
@@ -78,7 +79,7 @@ impl Sum {
                 self.add_label(&resource.id);
                 self.add(u64::from(resource.place));
                 self.add(u64::from(resource.len));
-                self.add(u64::from(resource.flags));
+                self.add(u64::from(resource.flags.bits()));
             }
         }
     }

@@ -1,7 +1,8 @@
 //! The sample files, whole.
 use super::answers::{TAPP, TLIB, TRES};
 use super::{bytes_of, read};
-use crate::{Entry, ResourceName, Segment};
+use crate::{Entry, ResourceName, Segment, SegmentFlags};
+use bitflags::Flags;
 use std::process::Abort;
 use std::test::Fail;
 
@@ -17,14 +18,14 @@ fn a_library(rt: HostRuntime) -> Result<(), Fail> {
     let first = Segment {
         place: 0xc0,
         len: 16,
-        flags: 0x1150,
+        flags: SegmentFlags(0x1150),
         size: 32,
         records: 2,
     };
     let second = Segment {
         place: 0xf0,
         len: 8,
-        flags: 0x1010,
+        flags: SegmentFlags(0x1010),
         size: 32,
         records: 0,
     };
@@ -65,7 +66,7 @@ fn an_application(rt: HostRuntime) -> Result<(), Fail> {
     let first = Segment {
         place: 0xa0,
         len: 16,
-        flags: 0x1150,
+        flags: SegmentFlags(0x1150),
         size: 32,
         records: 3,
     };
@@ -90,6 +91,6 @@ fn a_file_of_resources(rt: HostRuntime) -> Result<(), Fail> {
     assert!(rt; matches!(resource.id, ResourceName::Number(1)));
     assert_eq!(rt; resource.place, 0xb0);
     assert_eq!(rt; resource.len, 16);
-    assert_eq!(rt; resource.flags, 0x1030);
+    assert_eq!(rt; resource.flags.bits(), 0x1030);
     Ok(())
 }
