@@ -50,7 +50,8 @@ pub trait Holes<S: Space>: HoleList {
     /// The length of the longest hole, 0 where there is none.
     fn longest(&self, space: &S) -> u32
         requires { are_in (Self.holes self.now) (S.bytes space.now) }
-        ensures { result ≡ longest (Self.holes self.now) };
+        ensures value { result ≡ longest (Self.holes self.now) }
+        ensures ordered { AreHoles (Self.range self.now).lo (Self.range self.now).hi (Self.holes self.now) };
 
     /// Takes `n` bytes from a place on, which are a part of one hole.
     fn take(&mut self, space: &mut S, place: u32, n: u32)

@@ -6,7 +6,7 @@ use Rattle.w16_holes.specs.Holes.{Range, Free}
 use Rattle.w16_holes.specs.Cells.{spans, AreCells}
 use Rattle.w16_holes.proofs.Units.{multiple_sum}
 use Rattle.w16_holes.proofs.Told.{put_lt, put_spans}
-use Rattle.w16_holes.proofs.Steps.{AreHoles-cells, two_sets, is_put, AreCells-put}
+use Rattle.w16_holes.proofs.Steps.{two_sets, is_put, AreCells-put}
 use Rattle.w16_holes.specs.declared.side.SideHoles.TheInside.{Inside}
 use Rattle.w16_holes.proofs.side.SideHolesHoles.put.Goals as goal
 

@@ -5,7 +5,7 @@ use Rattle.w16_holes.specs.Holes.{Range, Free}
 use Rattle.w16_holes.specs.Cells.{spans, AreCells}
 use Rattle.w16_holes.proofs.Units.{multiple_sum}
 use Rattle.w16_holes.proofs.Told.{take_none, take_from, take_to, take_inside, take_lt, take_spans}
-use Rattle.w16_holes.proofs.Steps.{AreHoles-cells, two_sets, is_take, AreCells-take}
+use Rattle.w16_holes.proofs.Steps.{two_sets, is_take, AreCells-take}
 use Rattle.w16_holes.specs.declared.side.SideHoles.TheInside.{Inside}
 use Rattle.w16_holes.proofs.side.SideHolesHoles.take.Goals as goal
 
