@@ -1,0 +1,6 @@
+pub mod Place
+pub mod Remove
+pub mod Cells
+pub mod Ordered
+pub mod Tables
+pub mod Between
