@@ -3,4 +3,5 @@ pub mod Remove
 pub mod Cells
 pub mod Ordered
 pub mod Tables
-pub mod Between
+pub mod Free
+pub mod Step

@@ -7,7 +7,9 @@ use Rattle.std.specs.List.{AllByRecursion}
 use Rattle.w16_model.specs.declared.Block.{Block}
 use Rattle.w16_model.specs.Gap.{IsLaid, block_end}
 use Rattle.w16_model.specs.Table.{block_with}
-use Rattle.w16_units.specs.Layout.{all_but, AreNamed}
+use Rattle.w16_model.proofs.Gaps.{Each-map}
+use Rattle.w16_model.proofs.Laid.{laid_each}
+use Rattle.w16_units.specs.Layout.{IsApart, all_but, AreNamed}
 
 pub all_but_same : (id : ℕ) (c : Block) (cs : List Block) → (c.id == id) ≡ true → all_but id (c ∷ cs) ≡ all_but id cs
 all_but_same id c cs e = rw e refl
@@ -91,3 +93,32 @@ sum-all_but cap f id x (b ∷ bs) named e = elim (eqb_tells b.id id) [
       let rest : sum_by f (all_but id (b ∷ bs)) ≡ f b + sum_by f (all_but id bs) = ap (sum_by f) (all_but_other id b bs other.0) ∙ sum_by-cons f b (all_but id bs) in
       omega arith
 ]
+
+-- what holds of the id's block and of the others holds of each
+pub All-back : (cap : ℕ) (P : Block → Type 0) (id : ℕ) (x : Block) (bs : List Block) → AreNamed cap bs → block_with bs id ≡ Some x → P x → AllByRecursion P (all_but id bs) → AllByRecursion P bs
+All-back cap P id x [] named e p all = tt
+All-back cap P id x (b ∷ bs) named e p all = elim (eqb_tells b.id id) [
+  | inl same ↦
+      let f : Some b ≡ Some x = sym (with_same id b bs same.0) ∙ e in let g : b ≡ x = cc in
+      let rest : all_but id (b ∷ bs) ≡ bs = all_but_same id b bs same.0 ∙ all_but_absent id bs (rest_differs cap id b bs same.1 named) in
+      (subst P (sym g) p, subst (AllByRecursion P) rest all)
+  | inr other ↦
+      let all' : AllByRecursion P (b ∷ all_but id bs) = subst (AllByRecursion P) (all_but_other id b bs other.0) all in
+      (all'.0, All-back cap P id x bs named.2 (sym (with_other id b bs other.0) ∙ e) p all'.1)
+]
+
+-- the others share no byte with it
+pub others_apart : (lo hi cap id : ℕ) (x : Block) (bs : List Block) → IsLaid lo hi bs → AreNamed cap bs → block_with bs id ≡ Some x → AllByRecursion (λ c. IsApart x c) (all_but id bs)
+others_apart lo hi cap id x [] laid named e = tt
+others_apart lo hi cap id x (b ∷ bs) laid named e =
+    elim (eqb_tells b.id id) [
+      | inl same ↦
+          let f : Some b ≡ Some x = sym (with_same id b bs same.0) ∙ e in let g : b ≡ x = cc in
+          let rest : all_but id (b ∷ bs) ≡ bs = all_but_same id b bs same.0 ∙ all_but_absent id bs (rest_differs cap id b bs same.1 named) in
+          subst (AllByRecursion (IsApart x)) (sym rest) (subst (λ (y : Block). AllByRecursion (IsApart y) bs) g
+          (Each-map (λ y. (block_end b ≤ y.at) × (0 < y.size) × (block_end y ≤ hi)) (IsApart b) (λ y is. inl is.0) bs (laid_each (block_end b) hi bs laid.2)))
+      | inr other ↦
+          let e' : block_with bs id ≡ Some x = sym (with_other id b bs other.0) ∙ e in
+          let behind = (each_with (λ y. (block_end b ≤ y.at) × (0 < y.size) × (block_end y ≤ hi)) id x bs e' (laid_each (block_end b) hi bs laid.2)).0 in
+          subst (AllByRecursion (IsApart x)) (sym (all_but_other id b bs other.0)) (inr behind, others_apart (block_end b) hi cap id x bs laid.2 named.2 e')
+    ]

@@ -4,6 +4,7 @@
 
 ghost use Rattle.std.specs.Prelude.{◌≡◌, ◌≢◌, ◌+◌, ◌-◌, ◌*◌, ◌^◌, ◌<◌, ◌≤◌, ◌==◌, List, ℕ, [], ◌∷◌, length, IfOk, IsSome, IfSome, vec_len, slice_get, nat_le, sum_by};
 ghost use Rattle.std.specs.Option.{option_map, ForSome};
+ghost use Rattle.w16_model.specs.Heap.{IsMultiple};
 
 use std::alloc::{AllocError, Global};
 use std::marker::Model;
@@ -46,9 +47,55 @@ impl<H: HoleList> Model for Blocks<H> {
     ghost invariant = { λ s. IsKept (vec_len s.slots) s.lo s.hi s.grain s.slots.items s.begins.items s.free (H.range s.holes) (H.holes s.holes) };
 }
 
+/// In which unit a place lies that begins one.
+fn unit_of(place: u32, lo: u32, grain: u32) -> usize
+    requires some { 0 < grain }
+    requires from { lo ≤ place }
+    requires low { IsMultiple grain lo }
+    requires grained { IsMultiple grain place }
+    ensures { place ≡ lo + grain * result }
+{
+    ((place - lo) / grain) as usize
+}
+
 impl<H: HoleList> Blocks<H> {
     ghost use Rattle.w16_model.specs.Table.{block_with};
-    ghost use Rattle.w16_units.specs.Layout.{Layout, IsOrdered};
+    ghost use Rattle.w16_model.specs.Gap.{hole_after, block_end};
+    ghost use Rattle.w16_holes.specs.Holes.{lowest, longest, add_span, AreSameOutside};
+    ghost use Rattle.w16_units.specs.Layout.{Layout, IsOrdered, Fits, FitsFor, placed, all_but, replaced, holes_of};
+
+    /// No blocks yet, between `lo` and `hi`, with ids below `cap`, at multiples of the grain, over holes of which all that is one. All the
+    /// memory that the blocks ever have is taken here; fails where there is not enough.
+    pub fn with_room(
+        alloc: Global,
+        cap: u32,
+        holes: H,
+        lo: u32,
+        hi: u32,
+        grain: u32,
+    ) -> Result<Blocks<H>, AllocError>
+    where
+        H: Drop,
+        requires bounds { lo ≤ hi }
+        requires some { 0 < grain }
+        requires grained { IsMultiple grain lo }
+        requires range { H.range holes ≡ record { lo = lo; hi = hi; grain = grain } }
+        requires whole { H.holes holes ≡ add_span lo hi [] }
+        ensures { IfOk result (λ made. made ≡ record { cap = cap; lo = lo; hi = hi; grain = grain; blocks = [] }) }
+    {
+        let units = ((hi - lo) / grain) as usize + 1;
+        let slots = vec![in alloc; NO_BLOCK; cap as usize]?;
+        let begins = vec![in alloc; 0; units]?;
+        Ok(Blocks {
+            slots,
+            begins,
+            free: hi - lo,
+            holes,
+            lo,
+            hi,
+            grain,
+        })
+    }
 
     /// The block of an id.
     pub fn find(&self, id: u32) -> Option<Block>
@@ -58,6 +105,94 @@ impl<H: HoleList> Blocks<H> {
     {
         let block = self.slots[id as usize];
         if block.size == 0 { None } else { Some(block) }
+    }
+
+    /// Adds a block, whose bytes are taken from a hole. Bytes outside the holes stay.
+    pub fn insert<S: Space>(&mut self, space: &mut S, block: Block)
+    where
+        H: Holes<S>,
+        requires fits { Fits self.old block }
+        requires kept { H.are_in (holes_of self.old) (S.bytes space.old) }
+        ensures value { self.new ≡ record self.old { blocks = placed block self.old.blocks } }
+        ensures ordered { IsOrdered self.new }
+        ensures kept { H.are_in (holes_of self.new) (S.bytes space.new) }
+        ensures bytes { AreSameOutside (holes_of self.old) (S.bytes space.old) (S.bytes space.new) }
+        ensures written { S.written space.new ≡ S.written space.old }
+        ensures lenders { S.lenders space.new ≡ S.lenders space.old }
+    {
+        let unit = unit_of(block.at, self.lo, self.grain);
+        self.holes.take(space, block.at, block.size);
+        self.slots[block.id as usize] = block;
+        self.begins[unit] = block.id + 1;
+        self.free -= block.size;
+    }
+
+    /// Takes an id's block away, whose bytes join the holes. Bytes outside the holes that are then stay.
+    pub fn remove<S: Space>(&mut self, space: &mut S, id: u32)
+    where
+        H: Holes<S>,
+        requires id { id < self.old.cap }
+        requires known { IsSome (block_with self.old.blocks id) }
+        requires kept { H.are_in (holes_of self.old) (S.bytes space.old) }
+        ensures value { self.new ≡ record self.old { blocks = all_but id self.old.blocks } }
+        ensures ordered { IsOrdered self.new }
+        ensures kept { H.are_in (holes_of self.new) (S.bytes space.new) }
+        ensures bytes { AreSameOutside (holes_of self.new) (S.bytes space.old) (S.bytes space.new) }
+        ensures written { S.written space.new ≡ S.written space.old }
+        ensures lenders { S.lenders space.new ≡ S.lenders space.old }
+    {
+        let block = self.slots[id as usize];
+        let unit = unit_of(block.at, self.lo, self.grain);
+        self.holes.put(space, block.at, block.size);
+        self.slots[id as usize] = NO_BLOCK;
+        self.begins[unit] = 0;
+        self.free += block.size;
+    }
+
+    /// Pins an id's block or lets it loose. Its place and size stay.
+    pub fn set_hold(&mut self, id: u32, hold: Hold)
+        requires id { id < self.old.cap }
+        requires known { IsSome (block_with self.old.blocks id) }
+        ensures value { IfSome (block_with self.old.blocks id) (λ b. self.new ≡ record self.old { blocks = replaced (record b { hold = hold }) self.old.blocks }) }
+        ensures ordered { IsOrdered self.new }
+    {
+        self.slots[id as usize].hold = hold;
+    }
+
+    /// Where the lowest hole of at least `n` bytes begins. Each hole has a byte, so for 0 it is the lowest there is.
+    pub fn hole_for<S: Space>(&self, space: &S, n: u32) -> Option<u32>
+    where
+        H: Holes<S>,
+        requires { H.are_in (holes_of self.now) (S.bytes space.now) }
+        ensures value { result ≡ lowest n (holes_of self.now) }
+        ensures ordered { IsOrdered self.now }
+    {
+        self.holes.lowest(space, n)
+    }
+
+    /// The length of the longest hole, 0 where there is none.
+    pub fn longest<S: Space>(&self, space: &S) -> u32
+    where
+        H: Holes<S>,
+        requires { H.are_in (holes_of self.now) (S.bytes space.now) }
+        ensures value { result ≡ longest (holes_of self.now) }
+        ensures ordered { IsOrdered self.now }
+    {
+        self.holes.longest(space)
+    }
+
+    /// The length of the hole directly after an id's block, 0 where there is none.
+    pub fn free_after<S: Space>(&self, space: &S, id: u32) -> u32
+    where
+        H: Holes<S>,
+        requires id { id < self.now.cap }
+        requires known { IsSome (block_with self.now.blocks id) }
+        requires kept { H.are_in (holes_of self.now) (S.bytes space.now) }
+        ensures value { IfSome (block_with self.now.blocks id) (λ b. result ≡ hole_after self.now.hi self.now.blocks (block_end b)) }
+        ensures ordered { IsOrdered self.now }
+    {
+        let block = self.slots[id as usize];
+        self.holes.at(space, block.at + block.size)
     }
 
     /// The bounds inside which the blocks lie.

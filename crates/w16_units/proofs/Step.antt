@@ -1,0 +1,99 @@
+-- What adding a block and taking one away make of the holes.
+use Rattle.std.proofs.Common.{ℕ, ◌≡◌, ◌≢◌, ◌<◌, ◌≤◌, ◌+◌, ◌⊎◌, List, [], ◌∷◌, Some, arith, sym, ◌∙◌, subst, inl, inr}
+use Rattle.std.proofs.lemmas.Bool.{cases_lt}
+use Rattle.std.specs.List.{AllByRecursion}
+use Rattle.w16_model.specs.declared.Block.{Block}
+use Rattle.w16_model.specs.declared.Span.{Span}
+use Rattle.w16_model.specs.Gap.{IsLaid, block_end, holes}
+use Rattle.w16_model.specs.Heap.{IsMultiple}
+use Rattle.w16_model.specs.Table.{block_with}
+use Rattle.w16_model.proofs.Gaps.{Each-map}
+use Rattle.w16_model.proofs.Laid.{laid_each}
+use Rattle.w16_holes.specs.Holes.{AreHoles, IsFree, IsUsed, IsPart, taken, joined}
+use Rattle.w16_holes.specs.Law.{IsIn}
+use Rattle.w16_holes.proofs.Sets.{AreHoles-taken, taken_in, in_taken, AreHoles-joined, joined_in, in_joined}
+use Rattle.w16_units.specs.Layout.{Layout, IsApart, IsGrained, IsOrdered, Fits, placed, all_but, range_of, holes_of}
+use Rattle.w16_units.proofs.Place.{placed_after, placed_before, All-placed, IsLaid-placed}
+use Rattle.w16_units.proofs.Remove.{All-all_but, All-back, IsLaid-all_but, each_with, others_apart}
+use Rattle.w16_units.proofs.Free.{Lacks, AreHoles-holes, free_lacks, lacks_free, are_between, used_of, free_of}
+
+All-first : (P : Block → Type 0) (b : Block) (bs : List Block) → AllByRecursion P (placed b bs) → P b × AllByRecursion P bs
+All-first P b [] all = (all.0, tt)
+All-first P b (c ∷ cs) all = elim (cases_lt c.at b.at) [
+  | inl lt ↦
+      let all' : AllByRecursion P (c ∷ placed b cs) = subst (AllByRecursion P) (placed_after b c cs lt) all in
+      let rest = All-first P b cs all'.1 in (rest.0, (all'.0, rest.1))
+  | inr le ↦ let all' : AllByRecursion P (b ∷ c ∷ cs) = subst (AllByRecursion P) (placed_before b c cs le) all in (all'.0, all'.1)
+]
+
+-- a block that is added
+module _ (l : Layout) (b : Block) (fits : Fits l b) (ordered : IsOrdered l) where
+  lacked : (p : ℕ) → b.at ≤ p → p < block_end b → AllByRecursion (Lacks p) l.blocks
+  lacked p from to = Each-map (λ c. IsApart b c) (Lacks p) (λ c apart. elim apart [ inl before ↦ inl (omega arith) | inr behind ↦ inr (omega arith) ]) l.blocks fits.apart
+
+  pub part_added : IsPart (range_of l) b.at b.size
+  part_added = record { some = fits.inside.1; from = fits.inside.0; to = fits.inside.2; grained = fits.grained.0; rounded = fits.grained.1 }
+
+  pub free_added : IsFree b.at (block_end b) (holes_of l)
+  free_added =
+      let from = fits.inside.0 in let some = fits.inside.1 in let to = fits.inside.2 in
+      free_of b.at (block_end b) l.lo l.hi (holes_of l) (omega arith) (AreHoles-holes l.lo l.lo l.hi l.blocks (omega arith) ordered.laid)
+      (λ p s e. lacks_free p l.lo l.hi l.blocks ordered.laid (omega arith) (omega arith) (lacked p s e))
+
+  pub holes_added : taken b.at (block_end b) (holes_of l) ≡ holes l.lo l.hi (placed b l.blocks)
+  holes_added =
+      let from = fits.inside.0 in let size = fits.inside.1 in let to = fits.inside.2 in
+      let some : b.at < block_end b = omega arith in
+      let are = AreHoles-holes l.lo l.lo l.hi l.blocks (omega arith) ordered.laid in
+      are_between l.lo l.hi (placed b l.blocks) (taken b.at (block_end b) (holes_of l)) (IsLaid-placed l.lo l.hi b l.blocks from size to fits.apart ordered.laid)
+      (AreHoles-taken l.hi b.at (block_end b) some l.lo (holes_of l) are free_added)
+      (λ p is.
+      let r = in_taken l.hi b.at (block_end b) some l.lo p (holes_of l) are free_added is in
+      let f = free_lacks p l.lo l.hi l.blocks ordered.laid r.0 in (f.0, f.1, All-placed (Lacks p) b l.blocks r.1 f.2))
+      (λ p s e all.
+      let each = All-first (Lacks p) b l.blocks all in
+      taken_in l.hi b.at (block_end b) some l.lo p (holes_of l) are free_added each.0 (lacks_free p l.lo l.hi l.blocks ordered.laid s e each.1))
+
+-- an id's block that is taken away
+module _ (l : Layout) (id : ℕ) (x : Block) (known : block_with l.blocks id ≡ Some x) (ordered : IsOrdered l) where
+  pub lies : (l.lo ≤ x.at) × (0 < x.size) × (block_end x ≤ l.hi)
+  lies = each_with (λ y. (l.lo ≤ y.at) × (0 < y.size) × (block_end y ≤ l.hi)) id x l.blocks known (laid_each l.lo l.hi l.blocks ordered.laid)
+
+  pub grained_known : IsGrained l.grain x
+  grained_known = each_with (IsGrained l.grain) id x l.blocks known ordered.grained
+
+  pub part_known : IsPart (range_of l) x.at x.size
+  part_known = record { some = lies.1; from = lies.0; to = lies.2; grained = grained_known.0; rounded = grained_known.1 }
+
+  pub lacks_known : (p : ℕ) → IsIn p (holes_of l) → Lacks p x
+  lacks_known p is = each_with (Lacks p) id x l.blocks known (free_lacks p l.lo l.hi l.blocks ordered.laid is).2
+
+  pub used_known : IsUsed x.at (block_end x) (holes_of l)
+  used_known =
+      let some = lies.1 in
+      used_of x.at (block_end x) l.lo l.hi (holes_of l) (omega arith) (AreHoles-holes l.lo l.lo l.hi l.blocks (omega arith) ordered.laid)
+      (λ p from to is. elim (lacks_known p is) [ inl before ↦ omega arith | inr behind ↦ omega arith ])
+
+  pub holes_left : joined x.at (block_end x) (holes_of l) ≡ holes l.lo l.hi (all_but id l.blocks)
+  holes_left =
+      let from = lies.0 in let size = lies.1 in let to = lies.2 in
+      let some : x.at < block_end x = omega arith in
+      let are = AreHoles-holes l.lo l.lo l.hi l.blocks (omega arith) ordered.laid in
+      let laid = IsLaid-all_but l.lo l.hi id l.blocks ordered.laid in
+      are_between l.lo l.hi (all_but id l.blocks) (joined x.at (block_end x) (holes_of l)) laid
+      (AreHoles-joined x.at (block_end x) l.lo l.hi (holes_of l) some from to are used_known)
+      (λ p is. elim (in_joined x.at (block_end x) p (holes_of l) is) [
+        | inl old ↦ let f = free_lacks p l.lo l.hi l.blocks ordered.laid old in (f.0, f.1, All-all_but (Lacks p) id l.blocks f.2)
+        | inr new ↦ let s = new.0 in let e = new.1 in (omega arith, omega arith, lacked_by_others p s e)
+      ])
+      (λ p s e all. joined_in x.at (block_end x) p (holes_of l) (elim (cases_lt p x.at) [
+        | inl below ↦ inl (lacks_free p l.lo l.hi l.blocks ordered.laid s e (All-back l.cap (Lacks p) id x l.blocks ordered.named known (inl below) all))
+        | inr above ↦ elim (cases_lt p (block_end x)) [
+          | inl inside ↦ inr (above, inside)
+          | inr behind ↦ inl (lacks_free p l.lo l.hi l.blocks ordered.laid s e (All-back l.cap (Lacks p) id x l.blocks ordered.named known (inr behind) all))
+        ]
+      ]))
+    where
+      lacked_by_others : (p : ℕ) → x.at ≤ p → p < block_end x → AllByRecursion (Lacks p) (all_but id l.blocks)
+      lacked_by_others p s e = Each-map (λ c. IsApart x c) (Lacks p) (λ c apart. elim apart [ inl before ↦ inl (omega arith) | inr behind ↦ inr (omega arith) ]) (all_but id l.blocks)
+          (others_apart l.lo l.hi l.cap id x l.blocks ordered.laid ordered.named known)
