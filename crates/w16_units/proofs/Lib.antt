@@ -5,3 +5,4 @@ pub mod Ordered
 pub mod Tables
 pub mod Free
 pub mod Step
+pub mod Keeping

@@ -1,5 +1,5 @@
 -- What adding a block and taking one away make of the holes.
-use Rattle.std.proofs.Common.{ℕ, ◌≡◌, ◌≢◌, ◌<◌, ◌≤◌, ◌+◌, ◌⊎◌, List, [], ◌∷◌, Some, arith, sym, ◌∙◌, subst, inl, inr}
+use Rattle.std.proofs.Common.{ℕ, ◌≡◌, ◌≢◌, ◌<◌, ◌≤◌, ◌+◌, ◌^◌, ◌⊎◌, List, [], ◌∷◌, Some, arith, sym, ◌∙◌, subst, inl, inr}
 use Rattle.std.proofs.lemmas.Bool.{cases_lt}
 use Rattle.std.specs.List.{AllByRecursion}
 use Rattle.w16_model.specs.declared.Block.{Block}
@@ -11,10 +11,11 @@ use Rattle.w16_model.proofs.Gaps.{Each-map}
 use Rattle.w16_model.proofs.Laid.{laid_each}
 use Rattle.w16_holes.specs.Holes.{AreHoles, IsFree, IsUsed, IsPart, taken, joined}
 use Rattle.w16_holes.specs.Law.{IsIn}
-use Rattle.w16_holes.proofs.Sets.{AreHoles-taken, taken_in, in_taken, AreHoles-joined, joined_in, in_joined}
-use Rattle.w16_units.specs.Layout.{Layout, IsApart, IsGrained, IsOrdered, Fits, placed, all_but, range_of, holes_of}
+use Rattle.w16_holes.proofs.Sets.{same_holes, AreHoles-taken, taken_in, in_taken, AreHoles-joined, joined_in, in_joined}
+use Rattle.w16_units.specs.Layout.{Layout, IsApart, IsGrained, IsOrdered, Fits, FitsFor, placed, all_but, replaced, range_of, holes_of}
 use Rattle.w16_units.proofs.Place.{placed_after, placed_before, All-placed, IsLaid-placed}
 use Rattle.w16_units.proofs.Remove.{All-all_but, All-back, IsLaid-all_but, each_with, others_apart}
+use Rattle.w16_units.proofs.Ordered.{IsOrdered-all_but}
 use Rattle.w16_units.proofs.Free.{Lacks, AreHoles-holes, free_lacks, lacks_free, are_between, used_of, free_of}
 
 All-first : (P : Block → Type 0) (b : Block) (bs : List Block) → AllByRecursion P (placed b bs) → P b × AllByRecursion P bs
@@ -97,3 +98,32 @@ module _ (l : Layout) (id : ℕ) (x : Block) (known : block_with l.blocks id ≡
       lacked_by_others : (p : ℕ) → x.at ≤ p → p < block_end x → AllByRecursion (Lacks p) (all_but id l.blocks)
       lacked_by_others p s e = Each-map (λ c. IsApart x c) (Lacks p) (λ c apart. elim apart [ inl before ↦ inl (omega arith) | inr behind ↦ inr (omega arith) ]) (all_but id l.blocks)
           (others_apart l.lo l.hi l.cap id x l.blocks ordered.laid ordered.named known)
+
+-- a block in place of the one of its id
+module _ (l : Layout) (b x : Block) (known : block_with l.blocks b.id ≡ Some x) (fits : FitsFor l b) (ordered : IsOrdered l) (ids : l.cap < 2 ^ 32) where
+  -- the holes that it leaves are told by their bytes: those that were free or the old one's, and are not the new one's
+  pub holes_moved : (ks : List Span) → AreHoles l.lo l.hi ks
+      → ((p : ℕ) → IsIn p ks → (IsIn p (holes_of l) ⊎ ((x.at ≤ p) × (p < block_end x))) × Lacks p b)
+      → ((p : ℕ) → IsIn p (holes_of l) ⊎ ((x.at ≤ p) × (p < block_end x)) → Lacks p b → IsIn p ks)
+      → ks ≡ holes l.lo l.hi (replaced b l.blocks)
+  holes_moved ks are to from =
+      let rest : Layout = record { cap = l.cap; lo = l.lo; hi = l.hi; grain = l.grain; blocks = all_but b.id l.blocks } in
+      let left = IsOrdered-all_but l b.id ids ordered in
+      let own = fits.inside.1 in
+      let some : b.at < block_end b = omega arith in
+      let holes_rest = AreHoles-holes l.lo l.lo l.hi rest.blocks (omega arith) left.laid in
+      let free = free_added rest b fits left in
+      let joins = holes_left l b.id x known ordered in
+      same_holes l.hi l.lo l.lo ks (taken b.at (block_end b) (holes_of rest)) are (AreHoles-taken l.hi b.at (block_end b) some l.lo (holes_of rest) holes_rest free)
+      (λ p is. let r = to p is in taken_in l.hi b.at (block_end b) some l.lo p (holes_of rest) holes_rest free r.1 (subst (IsIn p) joins (joined_in x.at (block_end x) p (holes_of l) r.0)))
+      (λ p is. let r = in_taken l.hi b.at (block_end b) some l.lo p (holes_of rest) holes_rest free is in from p (in_joined x.at (block_end x) p (holes_of l) (subst (IsIn p) (sym joins) r.0)) r.1)
+      ∙ holes_added rest b fits left
+
+  -- with the same place and size it leaves the same
+  pub holes_same : b.at ≡ x.at → b.size ≡ x.size → holes_of l ≡ holes l.lo l.hi (replaced b l.blocks)
+  holes_same at size = holes_moved (holes_of l) (AreHoles-holes l.lo l.lo l.hi l.blocks (omega arith) ordered.laid)
+      (λ p is. (inl is, elim (lacks_known l b.id x known ordered p is) [ inl before ↦ inl (omega arith) | inr behind ↦ inr (omega arith) ]))
+      (λ p is lacks. elim is [
+        | inl old ↦ old
+        | inr has ↦ let s = has.0 in let e = has.1 in elim lacks [ inl before ↦ absurd (omega arith) | inr behind ↦ absurd (omega arith) ]
+      ])

@@ -1,8 +1,8 @@
 -- Table and cells where a block is added or taken away.
-use Rattle.std.proofs.Common.{ℕ, zero, suc, ◌≡◌, ◌≢◌, ◌+◌, ◌-◌, ◌*◌, ◌<◌, ◌≤◌, ◌⊎◌, List, [], ◌∷◌, length, set, Option, Some, None, IsSome, is_some, arith, refl, sym, ap, ◌∙◌, subst, inl, inr}
+use Rattle.std.proofs.Common.{ℕ, zero, suc, ◌≡◌, ◌≢◌, ◌+◌, ◌-◌, ◌*◌, ◌<◌, ◌≤◌, ◌⊎◌, List, [], ◌∷◌, length, get_or, set, Option, Some, None, IsSome, is_some, arith, refl, sym, ap, ◌∙◌, subst, inl, inr}
 use Rattle.std.specs.Prelude.{slice_index}
 use Rattle.std.proofs.lemmas.Bool.{cases_lt, false≢true}
-use Rattle.std.proofs.lemmas.List.{get_or-set_same, get_or-set_other, length-set, set-set, get_or_past}
+use Rattle.std.proofs.lemmas.List.{get_or-set_same, get_or-set_other, length-set, set-set, set-get_or, get_or_past, get_or_read}
 use Rattle.std.specs.List.{AllByRecursion}
 use Rattle.w16_model.specs.declared.Block.{Block}
 use Rattle.w16_model.specs.Gap.{block_end}
@@ -162,16 +162,49 @@ module _ (cap lo hi g : ℕ) (slots : List Block) (cells : List ℕ) (t : AreTab
     }
 
   -- what the table has for an id is its block
-  module _ (id : ℕ) (lt : id < cap) (x : Block) (read : x ≡ slot_of slots id) where
-    pub found_none : x.size ≡ 0 → None ≡ block_with (blocks_in slots cells) id
-    found_none none = sym (told_none lo g slots cells id t.begun (λ k e. let some = (t.begun k id e).some in let size = ap (λ (c : Block). c.size) read in omega arith))
+  module _ (id : ℕ) (lt : id < cap) (x : Block) (read : x ≡ get_or slots id x) where
+    entry : x ≡ slot_of slots id
+    entry = get_or_read slots id x (omega arith) read no_block
 
-    pub found_cell : x.size ≢ 0 → (k : ℕ) × (slice_index cells k ≡ suc id)
-    found_cell some = t.found id (let size = ap (λ (c : Block). c.size) read in omega arith)
+    pub found_none : x.size ≡ 0 → None ≡ block_with (blocks_in slots cells) id
+    found_none none = sym (told_none lo g slots cells id t.begun (λ k e. let some = (t.begun k id e).some in let size = ap (λ (c : Block). c.size) entry in omega arith))
+
+    found_cell : x.size ≢ 0 → (k : ℕ) × (slice_index cells k ≡ suc id)
+    found_cell some = t.found id (let size = ap (λ (c : Block). c.size) entry in omega arith)
 
     pub found_some : x.size ≢ 0 → Some x ≡ block_with (blocks_in slots cells) id
-    found_some some = let cell = found_cell some in ap Some read ∙ sym (told_with lo g slots cells cell.0 id t.begun cell.1)
+    found_some some = let cell = found_cell some in ap Some entry ∙ sym (told_with lo g slots cells cell.0 id t.begun cell.1)
 
-    -- an id with a block has an entry with bytes
-    pub known_some : IsSome (block_with (blocks_in slots cells) id) → x.size ≢ 0
-    known_some known none = false≢true (ap is_some (found_none none) ∙ known)
+    -- an id with a block has one with bytes, and its cell
+    some_bytes : IsSome (block_with (blocks_in slots cells) id) → x.size ≢ 0
+    some_bytes known none = false≢true (ap is_some (found_none none) ∙ known)
+
+    pub known_is : IsSome (block_with (blocks_in slots cells) id) → block_with (blocks_in slots cells) id ≡ Some x
+    known_is known = sym (found_some (some_bytes known))
+
+    pub cell_of : (u : ℕ) → IsSome (block_with (blocks_in slots cells) id) → x.at ≡ lo + g * u → slice_index cells u ≡ suc id
+    cell_of u known at =
+        let cell = found_cell (some_bytes known) in
+        let begins = (t.begun cell.0 id cell.1).at in
+        let place = ap (λ (c : Block). c.at) entry in
+        let same : cell.0 ≡ u = same_unit g lo cell.0 u t.some (omega arith) in
+        ap (slice_index cells) (sym same) ∙ cell.1
+
+-- a block that comes in place of the one of its id, in another unit or the same
+module _ (cap lo hi g : ℕ) (slots : List Block) (cells : List ℕ) (t : AreTables cap lo hi g slots cells) (long : cap ≡ length slots) where
+  module _ (b : Block) (u v : ℕ) (tells : slice_index cells u ≡ suc b.id) (fits : FitsFor (layout_in cap lo hi g slots cells) b) (at : b.at ≡ lo + g * v) where
+    fits_there : Fits (layout_in cap lo hi g (set slots b.id no_block) (set cells u 0)) b
+    fits_there = subst (λ (bs : List Block). Fits (record { cap = cap; lo = lo; hi = hi; grain = g; blocks = bs }) b) (sym (blocks_in-drop cap lo hi g slots cells t long b.id u tells)) fits
+
+    pub AreTables-move : AreTables cap lo hi g (set slots b.id b) (set (set cells u 0) v (suc b.id))
+    AreTables-move = subst (λ (ss : List Block). AreTables cap lo hi g ss (set (set cells u 0) v (suc b.id))) (set-set slots b.id no_block b)
+        (AreTables-add cap lo hi g (set slots b.id no_block) (set cells u 0) (AreTables-drop cap lo hi g slots cells t long b.id u tells) (long ∙ sym (length-set slots b.id no_block)) b v fits_there at)
+
+    pub blocks_in-move : blocks_in (set slots b.id b) (set (set cells u 0) v (suc b.id)) ≡ replaced b (blocks_in slots cells)
+    blocks_in-move = ap (λ (ss : List Block). blocks_in ss (set (set cells u 0) v (suc b.id))) (sym (set-set slots b.id no_block b))
+        ∙ blocks_in-add cap lo hi g (set slots b.id no_block) (set cells u 0) (AreTables-drop cap lo hi g slots cells t long b.id u tells) (long ∙ sym (length-set slots b.id no_block)) b v fits_there at
+        ∙ ap (placed b) (blocks_in-drop cap lo hi g slots cells t long b.id u tells)
+
+-- in the same unit no cell changes
+pub same_cells : (cells : List ℕ) (u id : ℕ) → slice_index cells u ≡ suc id → set (set cells u 0) u (suc id) ≡ cells
+same_cells cells u id tells = set-set cells u 0 (suc id) ∙ ap (set cells u) (sym tells) ∙ set-get_or cells u 0
