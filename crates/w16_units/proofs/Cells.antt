@@ -1,5 +1,5 @@
 -- The list of blocks that a table and its cells tell.
-use Rattle.std.proofs.Common.{ℕ, zero, suc, ◌≡◌, ◌≢◌, ◌+◌, ◌*◌, ◌<◌, ◌≤◌, List, [], ◌∷◌, length, set, Option, Some, None, eq-eqb, arith, refl, sym, ap, ◌∙◌, subst, inl, inr}
+use Rattle.std.proofs.Common.{ℕ, zero, suc, ◌≡◌, ◌≢◌, ◌+◌, ◌*◌, ◌<◌, ◌≤◌, List, [], ◌∷◌, length, set, Option, Some, None, is_some, eq-eqb, arith, refl, sym, ap, ◌∙◌, subst, inl, inr}
 use Rattle.std.specs.Prelude.{slice_index}
 use Rattle.std.proofs.lemmas.Bool.Decides.{eqb_tells}
 use Rattle.std.proofs.lemmas.List.{get_or-set_other}
@@ -10,7 +10,7 @@ use Rattle.w16_units.specs.Layout.{placed, all_but}
 use Rattle.w16_units.specs.Kept.{no_block, slot_of, blocks_in, Begins, AreBegun}
 use Rattle.w16_units.proofs.Place.{placed_first, placed_after}
 use Rattle.w16_units.proofs.Remove.{all_but_same, all_but_other, all_but_absent, with_same, with_other, with_none}
-use Rattle.std.proofs.lemmas.Bool.{ne_eqb}
+use Rattle.std.proofs.lemmas.Bool.{ne_eqb, false≢true}
 
 -- what holds of the block of each cell holds of each block, and back
 pub All-told : (P : Block → Type 0) (slots : List Block) (cells : List ℕ) → ((k id : ℕ) → slice_index cells k ≡ suc id → P (slot_of slots id)) → AllByRecursion P (blocks_in slots cells)
@@ -95,3 +95,17 @@ told_with p g slots (suc j ∷ cells) (suc k) id begun tells = elim (eqb_tells (
 
 pub told_none : (p g : ℕ) (slots : List Block) (cells : List ℕ) (id : ℕ) → AreBegun p g slots cells → ((k : ℕ) → slice_index cells k ≢ suc id) → block_with (blocks_in slots cells) id ≡ None
 told_none p g slots cells id begun none = with_none id (blocks_in slots cells) (differ p g slots cells id none begun)
+
+-- an id's block has a cell
+pub with_cell : (p g : ℕ) (slots : List Block) (cells : List ℕ) (id : ℕ) (x : Block) → AreBegun p g slots cells → block_with (blocks_in slots cells) id ≡ Some x → (k : ℕ) × (slice_index cells k ≡ suc id) × (slot_of slots id ≡ x)
+with_cell p g slots [] id x begun e = absurd (false≢true (ap is_some e))
+with_cell p g slots (zero ∷ cells) id x begun e = let r = with_cell (p + g) g slots cells id x (begun_rest p g 0 slots cells begun) e in (suc r.0, r.1, r.2)
+with_cell p g slots (suc j ∷ cells) id x begun e = elim (eqb_tells (slot_of slots j).id id) [
+  | inl same ↦
+      let here : j ≡ id = sym (begun 0 j refl).same ∙ same.1 in
+      let f : Some (slot_of slots j) ≡ Some x = sym (with_same id (slot_of slots j) (blocks_in slots cells) same.0) ∙ e in let h : slot_of slots j ≡ x = cc in
+      (0, ap suc here, ap (slot_of slots) (sym here) ∙ h)
+  | inr other ↦
+      let r = with_cell (p + g) g slots cells id x (begun_rest p g (suc j) slots cells begun) (sym (with_other id (slot_of slots j) (blocks_in slots cells) other.0) ∙ e) in
+      (suc r.0, r.1, r.2)
+]

@@ -7,11 +7,12 @@ use Rattle.w16_model.specs.Gap.{block_end, holes}
 use Rattle.w16_model.specs.Table.{block_with}
 use Rattle.w16_holes.specs.Holes.{Range, IsFree, IsUsed, IsPart, taken, joined}
 use Rattle.w16_units.specs.Layout.{Layout, Fits, FitsFor, placed, all_but, replaced}
-use Rattle.w16_units.specs.Kept.{no_block, blocks_in, layout_in, AreTables, IsKept}
+use Rattle.w16_units.proofs.Cells.{with_cell}
+use Rattle.w16_units.specs.Kept.{no_block, slot_of, blocks_in, layout_in, AreTables, IsKept}
 use Rattle.w16_units.proofs.Place.{sum-placed}
 use Rattle.w16_units.proofs.Remove.{sum-all_but}
 use Rattle.w16_units.proofs.Ordered.{IsOrdered-placed, sum_fits}
-use Rattle.w16_units.proofs.Tables.{blocks_in-add, AreTables-add, blocks_in-drop, AreTables-drop, blocks_in-move, AreTables-move}
+use Rattle.w16_units.proofs.Tables.{blocks_in-add, AreTables-add, blocks_in-drop, AreTables-drop, blocks_in-move, AreTables-move, same_cells}
 use Rattle.w16_units.proofs.Step.{free_added, holes_added, part_known, used_known, holes_left}
 
 abbrev pub size_of : Block → ℕ
@@ -80,3 +81,21 @@ module _ (cap lo hi g : ℕ) (slots : List Block) (cells : List ℕ) (free : ℕ
           ranged = same ∙ k.ranged;
           between = leaves ∙ ap (holes lo hi) (sym blocks);
         }
+
+-- a block that stands where the one of its id stood: no cell changes
+module _ (cap lo hi g : ℕ) (slots : List Block) (cells : List ℕ) (free : ℕ) (range : Range) (kept : List Span) (k : IsKept cap lo hi g slots cells free range kept) (long : cap ≡ length slots)
+    (b x : Block) (known : block_with (blocks_in slots cells) b.id ≡ Some x) (fits : FitsFor (layout_in cap lo hi g slots cells) b) (at : b.at ≡ x.at) where
+  cell : (u : ℕ) × (slice_index cells u ≡ suc b.id) × (slot_of slots b.id ≡ x)
+  cell = with_cell lo g slots cells b.id x k.tables.begun known
+
+  at_cell : b.at ≡ lo + g * cell.0
+  at_cell = let begins = (k.tables.begun cell.0 b.id cell.1).at in let place = ap (λ (c : Block). c.at) cell.2 in omega arith
+
+  pub blocks_in-place : blocks_in (set slots b.id b) cells ≡ replaced b (blocks_in slots cells)
+  blocks_in-place = ap (blocks_in (set slots b.id b)) (sym (same_cells cells cell.0 b.id cell.1)) ∙ blocks_in-move cap lo hi g slots cells k.tables long b cell.0 cell.0 cell.1 fits at_cell
+
+  pub IsKept-place : (free' : ℕ) (range' : Range) (kept' : List Span) → free' + b.size ≡ free + x.size → range' ≡ range → kept' ≡ holes lo hi (replaced b (blocks_in slots cells))
+      → IsKept cap lo hi g (set slots b.id b) cells free' range' kept'
+  IsKept-place free' range' kept' counts same leaves =
+      subst (λ (cs : List ℕ). IsKept cap lo hi g (set slots b.id b) cs free' range' kept') (same_cells cells cell.0 b.id cell.1)
+      (IsKept-move cap lo hi g slots cells free range kept k long b x known fits cell.0 cell.0 free' range' kept' cell.1 at_cell counts same leaves)

@@ -6,3 +6,4 @@ pub mod Tables
 pub mod Free
 pub mod Step
 pub mod Keeping
+pub mod After

@@ -122,3 +122,10 @@ others_apart lo hi cap id x (b ∷ bs) laid named e =
           let behind = (each_with (λ y. (block_end b ≤ y.at) × (0 < y.size) × (block_end y ≤ hi)) id x bs e' (laid_each (block_end b) hi bs laid.2)).0 in
           subst (AllByRecursion (IsApart x)) (sym (all_but_other id b bs other.0)) (inr behind, others_apart (block_end b) hi cap id x bs laid.2 named.2 e')
     ]
+
+pub others_differ : (id : ℕ) (bs : List Block) → AllByRecursion (λ c. c.id ≢ id) (all_but id bs)
+others_differ id [] = tt
+others_differ id (b ∷ bs) = elim (eqb_tells b.id id) [
+  | inl same ↦ rw same.0 (others_differ id bs)
+  | inr other ↦ rw other.0 (other.1, others_differ id bs)
+]

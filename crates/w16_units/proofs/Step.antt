@@ -14,7 +14,7 @@ use Rattle.w16_holes.specs.Law.{IsIn}
 use Rattle.w16_holes.proofs.Sets.{same_holes, AreHoles-taken, taken_in, in_taken, AreHoles-joined, joined_in, in_joined}
 use Rattle.w16_units.specs.Layout.{Layout, IsApart, IsGrained, IsOrdered, Fits, FitsFor, placed, all_but, replaced, range_of, holes_of}
 use Rattle.w16_units.proofs.Place.{placed_after, placed_before, All-placed, IsLaid-placed}
-use Rattle.w16_units.proofs.Remove.{All-all_but, All-back, IsLaid-all_but, each_with, others_apart}
+use Rattle.w16_units.proofs.Remove.{All-all_but, All-back, IsLaid-all_but, each_with, others_apart, others_differ}
 use Rattle.w16_units.proofs.Ordered.{IsOrdered-all_but}
 use Rattle.w16_units.proofs.Free.{Lacks, AreHoles-holes, free_lacks, lacks_free, are_between, used_of, free_of}
 
@@ -127,3 +127,16 @@ module _ (l : Layout) (b x : Block) (known : block_with l.blocks b.id ≡ Some x
         | inl old ↦ old
         | inr has ↦ let s = has.0 in let e = has.1 in elim lacks [ inl before ↦ absurd (omega arith) | inr behind ↦ absurd (omega arith) ]
       ])
+
+-- a block with another hold fits where it stands
+pub fits_itself : (l : Layout) (b x : Block) → b.id < l.cap → block_with l.blocks b.id ≡ Some x → b.at ≡ x.at → b.size ≡ x.size → IsOrdered l → FitsFor l b
+fits_itself l b x lt known at size ordered =
+    let stands : FitsFor l (record { id = b.id; at = x.at; size = x.size; hold = b.hold }) = record {
+      id = lt;
+      free = others_differ b.id l.blocks;
+      inside = lies l b.id x known ordered;
+      apart = others_apart l.lo l.hi l.cap b.id x l.blocks ordered.laid ordered.named known;
+      grained = grained_known l b.id x known ordered;
+    } in
+    subst (λ (a : ℕ). FitsFor l (record { id = b.id; at = a; size = b.size; hold = b.hold })) (sym at)
+    (subst (λ (n : ℕ). FitsFor l (record { id = b.id; at = x.at; size = n; hold = b.hold })) (sym size) stands)

@@ -1,16 +1,17 @@
 -- Table and cells where a block is added or taken away.
-use Rattle.std.proofs.Common.{ℕ, zero, suc, ◌≡◌, ◌≢◌, ◌+◌, ◌-◌, ◌*◌, ◌<◌, ◌≤◌, ◌⊎◌, List, [], ◌∷◌, length, get_or, set, Option, Some, None, IsSome, is_some, arith, refl, sym, ap, ◌∙◌, subst, inl, inr}
+use Rattle.std.proofs.Common.{ℕ, zero, suc, ◌≡◌, ◌≢◌, ◌+◌, ◌-◌, ◌*◌, ◌^◌, ◌<◌, ◌≤◌, ◌⊎◌, List, [], ◌∷◌, length, get_or, set, Option, Some, None, IsSome, is_some, arith, refl, sym, ap, ◌∙◌, subst, inl, inr}
 use Rattle.std.specs.Prelude.{slice_index}
 use Rattle.std.proofs.lemmas.Bool.{cases_lt, false≢true}
 use Rattle.std.proofs.lemmas.List.{get_or-set_same, get_or-set_other, length-set, set-set, set-get_or, get_or_past, get_or_read}
 use Rattle.std.specs.List.{AllByRecursion}
 use Rattle.w16_model.specs.declared.Block.{Block}
 use Rattle.w16_model.specs.Gap.{block_end}
+use Rattle.w16_model.specs.Heap.{IsMultiple}
 use Rattle.w16_model.specs.Table.{block_with}
 use Rattle.w16_holes.proofs.Units.{up, above, below}
 use Rattle.w16_units.specs.Layout.{Layout, IsApart, IsOrdered, Fits, FitsFor, placed, all_but, replaced}
 use Rattle.w16_units.specs.Kept.{no_block, slot_of, blocks_in, layout_in, Begins, AreBegun, AreFound, AreTables}
-use Rattle.w16_units.proofs.Cells.{each_told, blocks_in-set, blocks_in-begin, blocks_in-clear, told_with, told_none}
+use Rattle.w16_units.proofs.Cells.{each_told, blocks_in-set, blocks_in-begin, blocks_in-clear, told_with, told_none, with_cell}
 use Rattle.w16_units.proofs.Ordered.{IsOrdered-placed, IsOrdered-all_but}
 
 -- one unit is told by where it begins
@@ -182,13 +183,12 @@ module _ (cap lo hi g : ℕ) (slots : List Block) (cells : List ℕ) (t : AreTab
     pub known_is : IsSome (block_with (blocks_in slots cells) id) → block_with (blocks_in slots cells) id ≡ Some x
     known_is known = sym (found_some (some_bytes known))
 
-    pub cell_of : (u : ℕ) → IsSome (block_with (blocks_in slots cells) id) → x.at ≡ lo + g * u → slice_index cells u ≡ suc id
-    cell_of u known at =
-        let cell = found_cell (some_bytes known) in
-        let begins = (t.begun cell.0 id cell.1).at in
-        let place = ap (λ (c : Block). c.at) entry in
-        let same : cell.0 ≡ u = same_unit g lo cell.0 u t.some (omega arith) in
-        ap (slice_index cells) (sym same) ∙ cell.1
+  -- an id's block begins in the unit whose cell tells it
+  pub cell_at : (id : ℕ) (x : Block) (u : ℕ) → block_with (blocks_in slots cells) id ≡ Some x → x.at ≡ lo + g * u → slice_index cells u ≡ suc id
+  cell_at id x u known at =
+      let cell = with_cell lo g slots cells id x t.begun known in
+      let begins = (t.begun cell.0 id cell.1).at in let place = ap (λ (c : Block). c.at) cell.2 in
+      ap (slice_index cells) (sym (same_unit g lo cell.0 u t.some (omega arith))) ∙ cell.1
 
 -- a block that comes in place of the one of its id, in another unit or the same
 module _ (cap lo hi g : ℕ) (slots : List Block) (cells : List ℕ) (t : AreTables cap lo hi g slots cells) (long : cap ≡ length slots) where
@@ -208,3 +208,21 @@ module _ (cap lo hi g : ℕ) (slots : List Block) (cells : List ℕ) (t : AreTab
 -- in the same unit no cell changes
 pub same_cells : (cells : List ℕ) (u id : ℕ) → slice_index cells u ≡ suc id → set (set cells u 0) u (suc id) ≡ cells
 same_cells cells u id tells = set-set cells u 0 (suc id) ∙ ap (set cells u) (sym tells) ∙ set-get_or cells u 0
+
+-- tables that tell no block
+module _ (cap lo hi g : ℕ) (slots : List Block) (cells : List ℕ) (tells : (k : ℕ) → slice_index cells k ≡ 0) (none : (id : ℕ) → slot_of slots id ≡ no_block) where
+  pub blocks_in-none : (cells : List ℕ) → ((k : ℕ) → slice_index cells k ≡ 0) → blocks_in slots cells ≡ []
+  blocks_in-none [] zeros = refl
+  blocks_in-none (zero ∷ cells) zeros = blocks_in-none cells (λ k. zeros (suc k))
+  blocks_in-none (suc id ∷ cells) zeros = let clear = zeros 0 in absurd (omega arith)
+
+  pub AreTables-none : 0 < g → cap < 2 ^ 32 → hi < 2 ^ 32 → lo ≤ hi → IsMultiple g lo → hi - lo < g * length cells → AreTables cap lo hi g slots cells
+  AreTables-none some ids small le low long = record {
+    some = some;
+    ids = ids;
+    long = long;
+    ordered = subst (λ (bs : List Block). IsOrdered (record { cap = cap; lo = lo; hi = hi; grain = g; blocks = bs })) (sym (blocks_in-none cells tells))
+        (record { laid = le; named = tt; grained = tt; from = low; small = small; few = omega arith });
+    begun = λ k id e. let clear = tells k in absurd (omega arith);
+    found = λ id has. let size = ap (λ (c : Block). c.size) (none id) in absurd (omega arith);
+  }

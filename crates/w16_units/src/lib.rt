@@ -107,6 +107,16 @@ impl<H: HoleList> Blocks<H> {
         if block.size == 0 { None } else { Some(block) }
     }
 
+    /// The block of an id that has one.
+    fn block_of(&self, id: u32) -> Block
+        requires id { id < self.now.cap }
+        requires known { IsSome (block_with self.now.blocks id) }
+        ensures known { block_with self.now.blocks id ≡ Some result }
+        ensures ordered { IsOrdered self.now }
+    {
+        self.slots[id as usize]
+    }
+
     /// Adds a block, whose bytes are taken from a hole. Bytes outside the holes stay.
     pub fn insert<S: Space>(&mut self, space: &mut S, block: Block)
     where
@@ -141,7 +151,7 @@ impl<H: HoleList> Blocks<H> {
         ensures written { S.written space.new ≡ S.written space.old }
         ensures lenders { S.lenders space.new ≡ S.lenders space.old }
     {
-        let block = self.slots[id as usize];
+        let block = self.block_of(id);
         let unit = unit_of(block.at, self.lo, self.grain);
         self.holes.put(space, block.at, block.size);
         self.slots[id as usize] = NO_BLOCK;
@@ -156,7 +166,8 @@ impl<H: HoleList> Blocks<H> {
         ensures value { IfSome (block_with self.old.blocks id) (λ b. self.new ≡ record self.old { blocks = replaced (record b { hold = hold }) self.old.blocks }) }
         ensures ordered { IsOrdered self.new }
     {
-        self.slots[id as usize].hold = hold;
+        let block = self.block_of(id);
+        self.slots[id as usize] = Block { hold, ..block };
     }
 
     /// Where the lowest hole of at least `n` bytes begins. Each hole has a byte, so for 0 it is the lowest there is.
@@ -191,7 +202,7 @@ impl<H: HoleList> Blocks<H> {
         ensures value { IfSome (block_with self.now.blocks id) (λ b. result ≡ hole_after self.now.hi self.now.blocks (block_end b)) }
         ensures ordered { IsOrdered self.now }
     {
-        let block = self.slots[id as usize];
+        let block = self.block_of(id);
         self.holes.at(space, block.at + block.size)
     }
 

@@ -1,20 +1,19 @@
-use Rattle.std.proofs.Common.{rules, ◌≡◌, ◌≢◌, ◌+◌, ◌-◌, ◌*◌, ◌^◌, ◌<◌, ◌≤◌, ◌==◌, List, ℕ, [], ◌∷◌, length, IfOk, IsSome, IfSome, vec_len, slice_get, nat_le, sum_by, ◌/◌, ◌%◌, Bool, true, false, nat_eq, nat_lt, ◌++◌, slice_index_or, slice_set, bit_and, bit_or, w8, w32, w64, Bor, MutBor}
-use Rattle.std.specs.Option.{option_map, ForSome}
-use Rattle.w16_model.specs.Heap.{IsMultiple}
+use Rattle.std.proofs.Common.{ℕ, ◌≡◌, ◌+◌, List, Some, IfSome, Option, set, refl, arith, sym, ap, ◌∙◌, subst}
+use Rattle.w16_model.specs.declared.Span.{Span}
+use Rattle.w16_model.specs.declared.Block.{Block}
 use Rattle.w16_model.specs.Table.{block_with}
-use Rattle.w16_model.specs.Gap.{hole_after, block_end}
-use Rattle.w16_holes.specs.Holes.{lowest, longest, add_span, AreSameOutside}
-use Rattle.w16_units.specs.Layout.{Layout, IsOrdered, Fits, FitsFor, placed, all_but, replaced, holes_of}
+use Rattle.w16_units.specs.Layout.{Layout, replaced}
+use Rattle.w16_units.specs.Kept.{layout_in}
+use Rattle.w16_units.proofs.Remove.{with_id}
+use Rattle.w16_units.proofs.Step.{fits_itself, holes_same}
+use Rattle.w16_units.proofs.Keeping.{blocks_in-place, IsKept-place}
 use Rattle.w16_units.proofs.Blocks.set_hold.Goals as goal
 
--- src/lib.rt:153:5
 pub invariant_of-self : goal.invariant_of-self
 invariant_of-self g c = ?
 
--- src/lib.rt:153:5
 pub returns-clause-value : goal.returns-clause-value
 returns-clause-value g c = ?
 
--- src/lib.rt:153:5
 pub returns-clause-ordered : goal.returns-clause-ordered
-returns-clause-ordered g c = ?
+returns-clause-ordered g c = (invariant_of-self g c).tables.ordered

@@ -1,16 +1,16 @@
-use Rattle.std.proofs.Common.{rules, ◌≡◌, ◌≢◌, ◌+◌, ◌-◌, ◌*◌, ◌^◌, ◌<◌, ◌≤◌, ◌==◌, List, ℕ, [], ◌∷◌, length, IfOk, IsSome, IfSome, vec_len, slice_get, nat_le, sum_by, ◌/◌, ◌%◌, Bool, true, false, nat_eq, nat_lt, ◌++◌, slice_index_or, slice_set, bit_and, bit_or, w8, w32, w64, Bor, MutBor}
-use Rattle.std.specs.Option.{option_map, ForSome}
-use Rattle.w16_model.specs.Heap.{IsMultiple}
-use Rattle.w16_model.specs.Table.{block_with}
-use Rattle.w16_model.specs.Gap.{hole_after, block_end}
-use Rattle.w16_holes.specs.Holes.{lowest, longest, add_span, AreSameOutside}
-use Rattle.w16_units.specs.Layout.{Layout, IsOrdered, Fits, FitsFor, placed, all_but, replaced, holes_of}
+use Rattle.std.proofs.Common.{ℕ, ◌≡◌, ◌-◌, ◌+◌, ◌*◌, ◌<◌, List, [], length, replicate, refl, arith, rules, sym, ap, ◌∙◌, subst}
+use Rattle.std.proofs.lemmas.List.{length-replicate}
+use Rattle.w16_model.specs.declared.Block.{Block}
+use Rattle.w16_units.specs.Layout.{Layout}
+use Rattle.w16_units.specs.Kept.{no_block, layout_in}
+use Rattle.w16_units.proofs.Tables.{blocks_in-none, AreTables-none}
 use Rattle.w16_units.proofs.Blocks.with_room.Goals as goal
 
--- src/lib.rt:89:9
 pub invariant_of-result : goal.invariant_of-result
-invariant_of-result g c = ?
+invariant_of-result g c =
+    let slots : c.in_ok-slots.slots.items ≡ replicate c.args.cap no_block = c.in_ok-slots.ensures.items_if_clones_equal (search rules) in
+    let begins : c.in_ok-begins.begins.items ≡ replicate ((c.args.hi - c.args.lo) / c.args.grain + 1) 0 = c.in_ok-begins.ensures.items_if_clones_equal (λ y e. e) in
+    ?
 
--- src/lib.rt:69:5
 pub returns : goal.returns
 returns g c = ?
