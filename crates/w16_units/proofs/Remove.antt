@@ -9,7 +9,8 @@ use Rattle.w16_model.specs.Gap.{IsLaid, block_end}
 use Rattle.w16_model.specs.Table.{block_with}
 use Rattle.w16_model.proofs.Gaps.{Each-map}
 use Rattle.w16_model.proofs.Laid.{laid_each}
-use Rattle.w16_units.specs.Layout.{IsApart, all_but, AreNamed}
+use Rattle.w16_units.specs.Layout.{IsApart, placed, all_but, replaced, AreNamed}
+use Rattle.w16_units.proofs.Place.{placed_first, placed_after}
 
 pub all_but_same : (id : ℕ) (c : Block) (cs : List Block) → (c.id == id) ≡ true → all_but id (c ∷ cs) ≡ all_but id cs
 all_but_same id c cs e = rw e refl
@@ -129,3 +130,20 @@ others_differ id (b ∷ bs) = elim (eqb_tells b.id id) [
   | inl same ↦ rw same.0 (others_differ id bs)
   | inr other ↦ rw other.0 (other.1, others_differ id bs)
 ]
+
+-- a block in place of itself
+pub replaced-itself : (lo hi cap : ℕ) (x : Block) (bs : List Block) → IsLaid lo hi bs → AreNamed cap bs → block_with bs x.id ≡ Some x → replaced x bs ≡ bs
+replaced-itself lo hi cap x [] laid named e = absurd (false≢true (ap is_some e))
+replaced-itself lo hi cap x (b ∷ bs) laid named e =
+    let size = laid.1 in
+    elim (eqb_tells b.id x.id) [
+      | inl same ↦
+          let f : Some b ≡ Some x = sym (with_same x.id b bs same.0) ∙ e in let g : b ≡ x = cc in
+          let rest : all_but x.id (b ∷ bs) ≡ bs = all_but_same x.id b bs same.0 ∙ all_but_absent x.id bs (rest_differs cap x.id b bs same.1 named) in
+          ap (placed x) rest ∙ placed_first x bs (Each-map (λ y. (block_end b ≤ y.at) × (0 < y.size) × (block_end y ≤ hi)) (λ y. x.at ≤ y.at) (λ y is. let from = is.0 in let place = ap (λ (c : Block). c.at) g in omega arith) bs (laid_each (block_end b) hi bs laid.2))
+          ∙ ap (λ (c : Block). c ∷ bs) (sym g)
+      | inr other ↦
+          let e' : block_with bs x.id ≡ Some x = sym (with_other x.id b bs other.0) ∙ e in
+          let behind = (each_with (λ y. (block_end b ≤ y.at) × (0 < y.size) × (block_end y ≤ hi)) x.id x bs e' (laid_each (block_end b) hi bs laid.2)).0 in
+          ap (placed x) (all_but_other x.id b bs other.0) ∙ placed_after x b (all_but x.id bs) (omega arith) ∙ ap (λ (cs : List Block). b ∷ cs) (replaced-itself (block_end b) hi cap x bs laid.2 named.2 e')
+    ]

@@ -1,5 +1,5 @@
 -- What adding a block and taking one away make of the holes.
-use Rattle.std.proofs.Common.{ℕ, ◌≡◌, ◌≢◌, ◌<◌, ◌≤◌, ◌+◌, ◌^◌, ◌⊎◌, List, [], ◌∷◌, Some, arith, sym, ◌∙◌, subst, inl, inr}
+use Rattle.std.proofs.Common.{ℕ, ◌≡◌, ◌≢◌, ◌<◌, ◌≤◌, ◌+◌, ◌-◌, ◌*◌, ◌^◌, ◌⊎◌, List, [], ◌∷◌, Some, arith, sym, ap, ◌∙◌, subst, inl, inr}
 use Rattle.std.proofs.lemmas.Bool.{cases_lt}
 use Rattle.std.specs.List.{AllByRecursion}
 use Rattle.w16_model.specs.declared.Block.{Block}
@@ -11,12 +11,22 @@ use Rattle.w16_model.proofs.Gaps.{Each-map}
 use Rattle.w16_model.proofs.Laid.{laid_each}
 use Rattle.w16_holes.specs.Holes.{AreHoles, IsFree, IsUsed, IsPart, taken, joined}
 use Rattle.w16_holes.specs.Law.{IsIn}
+use Rattle.w16_holes.proofs.Units.{up, multiple_sum}
 use Rattle.w16_holes.proofs.Sets.{same_holes, AreHoles-taken, taken_in, in_taken, AreHoles-joined, joined_in, in_joined}
 use Rattle.w16_units.specs.Layout.{Layout, IsApart, IsGrained, IsOrdered, Fits, FitsFor, placed, all_but, replaced, range_of, holes_of}
 use Rattle.w16_units.proofs.Place.{placed_after, placed_before, All-placed, IsLaid-placed}
 use Rattle.w16_units.proofs.Remove.{All-all_but, All-back, IsLaid-all_but, each_with, others_apart, others_differ}
 use Rattle.w16_units.proofs.Ordered.{IsOrdered-all_but}
 use Rattle.w16_units.proofs.Free.{Lacks, AreHoles-holes, free_lacks, lacks_free, are_between, used_of, free_of}
+
+multiple_less : (g a b : ℕ) → IsMultiple g a → IsMultiple g b → IsMultiple g (a - b)
+multiple_less g a b one two = let e = one.1 in let f = two.1 in (one.0 - two.0, less (one.0) (two.0) e f)
+  where
+    less : (m n : ℕ) → a ≡ g * m → b ≡ g * n → a - b ≡ g * (m - n)
+    less m n e f = elim (cases_lt m n) [
+      | inl under ↦ let r = up g m n (omega arith) in let z : m - n ≡ 0 = omega arith in let zero_is : g * (m - n) ≡ g * 0 = ap (λ (i : ℕ). g * i) z in omega arith
+      | inr over ↦ let sum : m ≡ n + (m - n) = omega arith in let parts : g * m ≡ g * (n + (m - n)) = ap (λ (i : ℕ). g * i) sum in omega arith
+    ]
 
 All-first : (P : Block → Type 0) (b : Block) (bs : List Block) → AllByRecursion P (placed b bs) → P b × AllByRecursion P bs
 All-first P b [] all = (all.0, tt)
@@ -140,3 +150,72 @@ fits_itself l b x lt known at size ordered =
     } in
     subst (λ (a : ℕ). FitsFor l (record { id = b.id; at = a; size = b.size; hold = b.hold })) (sym at)
     (subst (λ (n : ℕ). FitsFor l (record { id = b.id; at = x.at; size = n; hold = b.hold })) (sym size) stands)
+
+-- An id's block with another size: what it has more is taken, or what it has less is put.
+module _ (l : Layout) (x : Block) (size : ℕ) (known : block_with l.blocks x.id ≡ Some x) (fits : FitsFor l (record x { size = size })) (ordered : IsOrdered l) (ids : l.cap < 2 ^ 32) where
+  are_free : AreHoles l.lo l.hi (holes_of l)
+  are_free = AreHoles-holes l.lo l.lo l.hi l.blocks (omega arith) ordered.laid
+
+  pub part_more : x.size < size → IsPart (range_of l) (x.at + x.size) (size - x.size)
+  part_more more =
+      let inside = lies l x.id x known ordered in let grained = grained_known l x.id x known ordered in let end = fits.inside.2 in let from = inside.0 in record {
+        some = omega arith;
+        from = omega arith;
+        to = omega arith;
+        grained = multiple_sum l.grain x.at x.size grained.0 grained.1;
+        rounded = multiple_less l.grain size x.size fits.grained.1 grained.1;
+      }
+
+  pub part_less : size < x.size → IsPart (range_of l) (x.at + size) (x.size - size)
+  part_less less =
+      let inside = lies l x.id x known ordered in let grained = grained_known l x.id x known ordered in let end = inside.2 in let from = inside.0 in record {
+        some = omega arith;
+        from = omega arith;
+        to = omega arith;
+        grained = multiple_sum l.grain x.at size grained.0 fits.grained.1;
+        rounded = multiple_less l.grain x.size size grained.1 fits.grained.1;
+      }
+
+  pub free_more : x.size < size → IsFree (x.at + x.size) (x.at + x.size + (size - x.size)) (holes_of l)
+  free_more more =
+      let end = fits.inside.2 in let from = (lies l x.id x known ordered).0 in
+      free_of (x.at + x.size) (x.at + x.size + (size - x.size)) l.lo l.hi (holes_of l) (omega arith) are_free
+      (λ p s e. lacks_free p l.lo l.hi l.blocks ordered.laid (omega arith) (omega arith) (All-back l.cap (Lacks p) x.id x l.blocks ordered.named known (inr s)
+      (Each-map (IsApart (record x { size = size })) (Lacks p) (λ c apart. elim apart [ inl before ↦ inl (omega arith) | inr behind ↦ inr (omega arith) ]) (all_but x.id l.blocks) fits.apart)))
+
+  pub holes_more : x.size < size → taken (x.at + x.size) (x.at + x.size + (size - x.size)) (holes_of l) ≡ holes l.lo l.hi (replaced (record x { size = size }) l.blocks)
+  holes_more more =
+      let a = x.at + x.size in let b = x.at + x.size + (size - x.size) in
+      let some : a < b = omega arith in
+      holes_moved l (record x { size = size }) x known fits ordered ids (taken a b (holes_of l)) (AreHoles-taken l.hi a b some l.lo (holes_of l) are_free (free_more more))
+      (λ p is.
+      let r = in_taken l.hi a b some l.lo p (holes_of l) are_free (free_more more) is in (
+        inl r.0,
+        elim (lacks_known l x.id x known ordered p r.0) [
+          | inl before ↦ inl before
+          | inr behind ↦ elim r.1 [ inl less ↦ absurd (omega arith) | inr past ↦ inr (omega arith) ]
+        ],
+      ))
+      (λ p is lacks. elim is [
+        | inl old ↦ taken_in l.hi a b some l.lo p (holes_of l) are_free (free_more more) (elim lacks [ inl before ↦ inl (omega arith) | inr behind ↦ inr (omega arith) ]) old
+        | inr has ↦ let s = has.0 in let e = has.1 in elim lacks [ inl before ↦ absurd (omega arith) | inr behind ↦ absurd (omega arith) ]
+      ])
+
+  pub used_less : size < x.size → IsUsed (x.at + size) (x.at + size + (x.size - size)) (holes_of l)
+  used_less less =
+      used_of (x.at + size) (x.at + size + (x.size - size)) l.lo l.hi (holes_of l) (omega arith) are_free
+      (λ p s e is. elim (lacks_known l x.id x known ordered p is) [ inl before ↦ omega arith | inr behind ↦ omega arith ])
+
+  pub holes_less : size < x.size → joined (x.at + size) (x.at + size + (x.size - size)) (holes_of l) ≡ holes l.lo l.hi (replaced (record x { size = size }) l.blocks)
+  holes_less less =
+      let a = x.at + size in let b = x.at + size + (x.size - size) in
+      let inside = lies l x.id x known ordered in let from = inside.0 in let to = inside.2 in
+      holes_moved l (record x { size = size }) x known fits ordered ids (joined a b (holes_of l)) (AreHoles-joined a b l.lo l.hi (holes_of l) (omega arith) (omega arith) (omega arith) are_free (used_less less))
+      (λ p is. elim (in_joined a b p (holes_of l) is) [
+        | inl old ↦ (inl old, elim (lacks_known l x.id x known ordered p old) [ inl before ↦ inl before | inr behind ↦ inr (omega arith) ])
+        | inr new ↦ let s = new.0 in let e = new.1 in (inr (omega arith, omega arith), inr s)
+      ])
+      (λ p is lacks. joined_in a b p (holes_of l) (elim is [
+        | inl old ↦ inl old
+        | inr has ↦ let s = has.0 in let e = has.1 in elim lacks [ inl before ↦ absurd (omega arith) | inr behind ↦ inr (behind, omega arith) ]
+      ]))

@@ -1,5 +1,5 @@
 -- Table and cells where a block is added or taken away.
-use Rattle.std.proofs.Common.{ℕ, zero, suc, ◌≡◌, ◌≢◌, ◌+◌, ◌-◌, ◌*◌, ◌^◌, ◌<◌, ◌≤◌, ◌⊎◌, List, [], ◌∷◌, length, get_or, set, Option, Some, None, IsSome, is_some, arith, refl, sym, ap, ◌∙◌, subst, inl, inr}
+use Rattle.std.proofs.Common.{ℕ, zero, suc, ◌≡◌, ◌≢◌, ◌+◌, ◌-◌, ◌*◌, ◌^◌, ◌<◌, ◌≤◌, ◌⊎◌, List, [], ◌∷◌, length, get_or, set, replicate, Option, Some, None, IsSome, is_some, arith, refl, sym, ap, ◌∙◌, subst, inl, inr}
 use Rattle.std.specs.Prelude.{slice_index}
 use Rattle.std.proofs.lemmas.Bool.{cases_lt, false≢true}
 use Rattle.std.proofs.lemmas.List.{get_or-set_same, get_or-set_other, length-set, set-set, set-get_or, get_or_past, get_or_read}
@@ -226,3 +226,9 @@ module _ (cap lo hi g : ℕ) (slots : List Block) (cells : List ℕ) (tells : (k
     begun = λ k id e. let clear = tells k in absurd (omega arith);
     found = λ id has. let size = ap (λ (c : Block). c.size) (none id) in absurd (omega arith);
   }
+
+-- a list of one item has it everywhere, where that is what it lacks too
+pub get_or-replicate_same : {A : Type 0} (n i : ℕ) (a : A) → get_or (replicate n a) i a ≡ a
+get_or-replicate_same zero i a = refl
+get_or-replicate_same (suc n) zero a = refl
+get_or-replicate_same (suc n) (suc i) a = get_or-replicate_same n i a

@@ -62,6 +62,7 @@ impl<H: HoleList> Blocks<H> {
     ghost use Rattle.w16_model.specs.Table.{block_with};
     ghost use Rattle.w16_model.specs.Gap.{hole_after, block_end};
     ghost use Rattle.w16_holes.specs.Holes.{lowest, longest, add_span, AreSameOutside};
+    ghost use Rattle.w16_units.specs.Stay.{AreSameOutsideBoth, AreSameBut};
     ghost use Rattle.w16_units.specs.Layout.{Layout, IsOrdered, Fits, FitsFor, placed, all_but, replaced, holes_of};
 
     /// No blocks yet, between `lo` and `hi`, with ids below `cap`, at multiples of the grain, over holes of which all that is one. All the
@@ -157,6 +158,72 @@ impl<H: HoleList> Blocks<H> {
         self.slots[id as usize] = NO_BLOCK;
         self.begins[unit] = 0;
         self.free += block.size;
+    }
+
+    /// Gives an id's block another size, with which it meets no other block. What it has more is taken from the hole behind it, and what it
+    /// has less joins the holes. Bytes outside the holes of before and after stay.
+    pub fn resize<S: Space>(&mut self, space: &mut S, id: u32, size: u32)
+    where
+        H: Holes<S>,
+        requires id { id < self.old.cap }
+        requires known { IsSome (block_with self.old.blocks id) }
+        requires fits { ForSome (block_with self.old.blocks id) (λ b. FitsFor self.old (record b { size = size })) }
+        requires kept { H.are_in (holes_of self.old) (S.bytes space.old) }
+        ensures value { IfSome (block_with self.old.blocks id) (λ b. self.new ≡ record self.old { blocks = replaced (record b { size = size }) self.old.blocks }) }
+        ensures ordered { IsOrdered self.new }
+        ensures kept { H.are_in (holes_of self.new) (S.bytes space.new) }
+        ensures bytes { AreSameOutsideBoth (holes_of self.old) (holes_of self.new) (S.bytes space.old) (S.bytes space.new) }
+        ensures written { S.written space.new ≡ S.written space.old }
+        ensures lenders { S.lenders space.new ≡ S.lenders space.old }
+    {
+        let block = self.block_of(id);
+        if block.size < size {
+            self.grow(space, block, size)
+        } else if size < block.size {
+            self.shrink(space, block, size)
+        }
+    }
+
+    /// Gives a block a larger size.
+    fn grow<S: Space>(&mut self, space: &mut S, block: Block, size: u32)
+    where
+        H: Holes<S>,
+        requires known { block_with self.old.blocks block.id ≡ Some block }
+        requires more { block.size < size }
+        requires fits { FitsFor self.old (record block { size = size }) }
+        requires kept { H.are_in (holes_of self.old) (S.bytes space.old) }
+        ensures value { self.new ≡ record self.old { blocks = replaced (record block { size = size }) self.old.blocks } }
+        ensures ordered { IsOrdered self.new }
+        ensures kept { H.are_in (holes_of self.new) (S.bytes space.new) }
+        ensures bytes { AreSameOutside (holes_of self.old) (S.bytes space.old) (S.bytes space.new) }
+        ensures written { S.written space.new ≡ S.written space.old }
+        ensures lenders { S.lenders space.new ≡ S.lenders space.old }
+    {
+        let more = size - block.size;
+        self.holes.take(space, block.at + block.size, more);
+        self.free -= more;
+        self.slots[block.id as usize] = Block { size, ..block };
+    }
+
+    /// Gives a block a smaller size.
+    fn shrink<S: Space>(&mut self, space: &mut S, block: Block, size: u32)
+    where
+        H: Holes<S>,
+        requires known { block_with self.old.blocks block.id ≡ Some block }
+        requires less { size < block.size }
+        requires fits { FitsFor self.old (record block { size = size }) }
+        requires kept { H.are_in (holes_of self.old) (S.bytes space.old) }
+        ensures value { self.new ≡ record self.old { blocks = replaced (record block { size = size }) self.old.blocks } }
+        ensures ordered { IsOrdered self.new }
+        ensures kept { H.are_in (holes_of self.new) (S.bytes space.new) }
+        ensures bytes { AreSameOutside (holes_of self.new) (S.bytes space.old) (S.bytes space.new) }
+        ensures written { S.written space.new ≡ S.written space.old }
+        ensures lenders { S.lenders space.new ≡ S.lenders space.old }
+    {
+        let less = block.size - size;
+        self.holes.put(space, block.at + size, less);
+        self.free += less;
+        self.slots[block.id as usize] = Block { size, ..block };
     }
 
     /// Pins an id's block or lets it loose. Its place and size stay.
