@@ -7,3 +7,6 @@ pub mod Free
 pub mod Step
 pub mod Keeping
 pub mod After
+pub mod Shift
+pub mod Slid
+pub mod Shifting
