@@ -52,10 +52,13 @@ beyond_is other place n ne some = elim (cases_lt place other) [
 
 pub beyond_grained : (g other place n : ℕ) → place ≢ other → IsMultiple g other → IsMultiple g place → IsMultiple g n → IsMultiple g (beyond other place n).from × IsMultiple g ((beyond other place n).to - (beyond other place n).from)
 beyond_grained g other place n ne one two three = elim (cases_lt place other) [
-  | inl lt ↦ subst (λ (s : Span). IsMultiple g s.from × IsMultiple g (s.to - s.from)) (sym (beyond_low other place n lt)) (two, elim (cases_lt other (place + n)) [
-    | inl near ↦ let e : other - place ≡ min other (place + n) - place = omega arith in subst (IsMultiple g) e (multiple_less g other place one two)
-    | inr far ↦ let e : n ≡ min other (place + n) - place = omega arith in subst (IsMultiple g) e three
-  ])
+  | inl lt ↦ subst (λ (s : Span). IsMultiple g s.from × IsMultiple g (s.to - s.from)) (sym (beyond_low other place n lt)) (
+    two,
+    elim (cases_lt other (place + n)) [
+      | inl near ↦ let e : other - place ≡ min other (place + n) - place = omega arith in subst (IsMultiple g) e (multiple_less g other place one two)
+      | inr far ↦ let e : n ≡ min other (place + n) - place = omega arith in subst (IsMultiple g) e three
+    ],
+  )
   | inr le ↦ subst (λ (s : Span). IsMultiple g s.from × IsMultiple g (s.to - s.from)) (sym (beyond_high other place n le)) (elim (cases_lt place (other + n)) [
     | inl near ↦
         let e : other + n ≡ max place (other + n) = omega arith in let f : place - other ≡ place + n - max place (other + n) = omega arith in
@@ -92,17 +95,19 @@ module _ (l : Layout) (x : Block) (to : ℕ) (known : block_with l.blocks x.id �
   pub free_then : (p : ℕ) → IsIn p between_holes → IsIn p (holes_of l) × ((p < to) ⊎ (to + x.size ≤ p))
   free_then p is =
       let r = in_taken l.hi n.from (n.from + (n.to - n.from)) some_new l.lo p (holes_of l) are free_new is in
-      let some = is_new.some in
-      (r.0, elim (cases_lt p to) [
-        | inl below ↦ inl below
-        | inr s ↦ elim (cases_lt p (to + x.size)) [
-          | inl e ↦ elim (is_new.rest p s e) [
-            | inl new ↦ let i = new.0 in let j = new.1 in elim r.1 [ inl less ↦ absurd (omega arith) | inr more ↦ absurd (omega arith) ]
-            | inr own ↦ let i = own.0 in let j = own.1 in elim (lacks_known l x.id x known ordered p r.0) [ inl before ↦ absurd (omega arith) | inr behind ↦ absurd (omega arith) ]
+      let some = is_new.some in (
+        r.0,
+        elim (cases_lt p to) [
+          | inl below ↦ inl below
+          | inr s ↦ elim (cases_lt p (to + x.size)) [
+            | inl e ↦ elim (is_new.rest p s e) [
+              | inl new ↦ let i = new.0 in let j = new.1 in elim r.1 [ inl less ↦ absurd (omega arith) | inr more ↦ absurd (omega arith) ]
+              | inr own ↦ let i = own.0 in let j = own.1 in elim (lacks_known l x.id x known ordered p r.0) [ inl before ↦ absurd (omega arith) | inr behind ↦ absurd (omega arith) ]
+            ]
+            | inr above ↦ inr above
           ]
-          | inr above ↦ inr above
-        ]
-      ])
+        ],
+      )
 
   pub used_left : IsUsed o.from (o.from + (o.to - o.from)) between_holes
   used_left =
@@ -152,10 +157,18 @@ module _ (l : Layout) (x : Block) (to : ℕ) (known : block_with l.blocks x.id �
   -- the parts lie in the range
   pub part_new : IsMultiple l.grain n.from × IsMultiple l.grain (n.to - n.from) → IsPart (range_of l) n.from (n.to - n.from)
   part_new grained = let some = is_new.some in let low = is_new.low in let high = is_new.high in let from = fits.inside.0 in let end = fits.inside.2 in record {
-    some = omega arith; from = omega arith; to = omega arith; grained = grained.0; rounded = grained.1
+    some = omega arith;
+    from = omega arith;
+    to = omega arith;
+    grained = grained.0;
+    rounded = grained.1;
   }
 
   pub part_left : IsMultiple l.grain o.from × IsMultiple l.grain (o.to - o.from) → IsPart (range_of l) o.from (o.to - o.from)
   part_left grained = let some = is_left.some in let low = is_left.low in let high = is_left.high in let inside = lies l x.id x known ordered in let from = inside.0 in let end = inside.2 in record {
-    some = omega arith; from = omega arith; to = omega arith; grained = grained.0; rounded = grained.1
+    some = omega arith;
+    from = omega arith;
+    to = omega arith;
+    grained = grained.0;
+    rounded = grained.1;
   }

@@ -35,30 +35,45 @@ outside_put xs at new k inside out = elim out [
       ∙ get_or-drop a xs (k - a) 0 ∙ ap (slice_index xs) e
 ]
 
--- bytes that slide, between a part taken and one put
-module _ (at to size : ℕ) (first second third last : List ℕ) (before after : List Span) (take_same : AreSameOutside before first second) (slid : third ≡ put_part second to (part second at size))
-    (put_same : AreSameOutside after third last) (source : at + size ≤ length first) (target : to + size ≤ length first) where
+-- bytes that slide
+module _ (at to size : ℕ) (second third : List ℕ) (slid : third ≡ put_part second to (part second at size)) (source : at + size ≤ length second) (target : to + size ≤ length second) where
   size_is : length (part second at size) ≡ size
-  size_is = length-part second at size (let long = take_same.long in omega arith)
+  size_is = length-part second at size source
 
-  long_third : length third ≡ length second
-  long_third = ap length slid ∙ length-put_part second to (part second at size) (let long = take_same.long in let n = size_is in omega arith)
+  pub long_slid : length third ≡ length second
+  long_slid = ap length slid ∙ length-put_part second to (part second at size) (let n = size_is in omega arith)
 
-  -- what is not the target stays in the slide
+  -- what is not the target stays
   pub stays : (k : ℕ) → (k < to) ⊎ (to + size ≤ k) → slice_index third k ≡ slice_index second k
   stays k out =
-      let long = take_same.long in let n = size_is in
+      let n = size_is in
       ap (λ (ys : List ℕ). slice_index ys k) slid ∙ outside_put second to (part second at size) k (omega arith) (elim out [ inl below ↦ inl below | inr above ↦ inr (omega arith) ])
+
+  pub part_slid : part third to size ≡ part second at size
+  part_slid = ap (λ (ys : List ℕ). part ys to size) slid ∙ part-put_part second to (part second at size) size size_is (omega arith)
+
+-- between a part taken and one put
+module _ (at to size : ℕ) (first second third last : List ℕ) (before after : List Span) (take_same : AreSameOutside before first second) (slid : third ≡ put_part second to (part second at size))
+    (put_same : AreSameOutside after third last) (source : at + size ≤ length first) (target : to + size ≤ length first) where
+  source_then : at + size ≤ length second
+  source_then = let long = take_same.long in omega arith
+
+  target_then : to + size ≤ length second
+  target_then = let long = take_same.long in omega arith
 
   pub come_along : ((k : ℕ) → at ≤ k → k < at + size → IsUsed k (suc k) before) → ((k : ℕ) → to ≤ k → k < to + size → IsUsed k (suc k) after) → part last to size ≡ part first at size
   come_along own new =
-      let long_last = put_same.long in let long_second = take_same.long in let long = long_third in
+      let long_second = take_same.long in let long = long_slid at to size second third slid source_then target_then in
       same_part last third to size put_same.long (omega arith) (λ k s e. put_same.same k (new k s e))
-      ∙ ap (λ (ys : List ℕ). part ys to size) slid ∙ part-put_part second to (part second at size) size size_is (omega arith)
-      ∙ same_part second first at size take_same.long source (λ k s e. take_same.same k (own k s e))
+      ∙ part_slid at to size second third slid source_then target_then ∙ same_part second first at size take_same.long source (λ k s e. take_same.same k (own k s e))
 
   pub others_stay : AreSameBut to size before after first last
   others_stay = record {
-    long = put_same.long ∙ long_third ∙ take_same.long;
-    same = λ k one two out. put_same.same k two ∙ stays k out ∙ take_same.same k one;
+    long = put_same.long ∙ long_slid at to size second third slid source_then target_then ∙ take_same.long;
+    same = λ k one two out. put_same.same k two ∙ stays at to size second third slid source_then target_then k out ∙ take_same.same k one;
   }
+
+-- of the same holes
+pub AreSameBut-of : (place n : ℕ) (before before' after after' : List Span) (old new : List ℕ) → before ≡ before' → after ≡ after' → AreSameBut place n before after old new → AreSameBut place n before' after' old new
+AreSameBut-of place n before before' after after' old new one two same =
+    subst (λ (hs : List Span). AreSameBut place n hs after' old new) one (subst (λ (hs : List Span). AreSameBut place n before hs old new) two same)

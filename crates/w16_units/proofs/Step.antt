@@ -19,7 +19,7 @@ use Rattle.w16_units.proofs.Remove.{All-all_but, All-back, IsLaid-all_but, each_
 use Rattle.w16_units.proofs.Ordered.{IsOrdered-all_but}
 use Rattle.w16_units.proofs.Free.{Lacks, AreHoles-holes, free_lacks, lacks_free, are_between, used_of, free_of}
 
-multiple_less : (g a b : ℕ) → IsMultiple g a → IsMultiple g b → IsMultiple g (a - b)
+pub multiple_less : (g a b : ℕ) → IsMultiple g a → IsMultiple g b → IsMultiple g (a - b)
 multiple_less g a b one two = let e = one.1 in let f = two.1 in (one.0 - two.0, less (one.0) (two.0) e f)
   where
     less : (m n : ℕ) → a ≡ g * m → b ≡ g * n → a - b ≡ g * (m - n)

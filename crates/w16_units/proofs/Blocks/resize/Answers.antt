@@ -21,7 +21,7 @@ pub shrink-requires-clause-fits : goal.shrink-requires-clause-fits
 shrink-requires-clause-fits g c = c.requires.fits c.block_of-block.result c.block_of-block.ensures.known
 
 pub returns-else-size-block-clause-value : goal.returns-else-size-block-clause-value
-returns-else-size-block-clause-value g c = 
+returns-else-size-block-clause-value g c =
     let x = c.block_of-block.result in let l = c.args.self.now in
     let same : c.args.size ≡ x.size = omega arith in
     let Told : Block → Type 0 = λ b. l ≡ record l { blocks = replaced (record b { size = c.args.size }) l.blocks } in
