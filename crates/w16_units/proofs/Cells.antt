@@ -26,7 +26,7 @@ each_told P slots (suc j ∷ cells) zero id e all = let same : j ≡ id = omega 
 each_told P slots (suc j ∷ cells) (suc k) id e all = each_told P slots cells k id e all.1
 
 -- the cells behind the first
-begun_rest : (p g c : ℕ) (slots : List Block) (cells : List ℕ) → AreBegun p g slots (c ∷ cells) → AreBegun (p + g) g slots cells
+pub begun_rest : (p g c : ℕ) (slots : List Block) (cells : List ℕ) → AreBegun p g slots (c ∷ cells) → AreBegun (p + g) g slots cells
 begun_rest p g c slots cells begun k id e =
     let b = begun (suc k) id e in let at = b.at in
     record { inside = b.inside; same = b.same; at = omega arith; some = b.some }

@@ -18,7 +18,7 @@ Lacks p c = (p < c.at) ⊎ (block_end c ≤ p)
 later : (p lo hi : ℕ) (bs : List Block) → p < lo → IsLaid lo hi bs → AllByRecursion (Lacks p) bs
 later p lo hi bs lt laid = Each-map (λ y. (lo ≤ y.at) × (0 < y.size) × (block_end y ≤ hi)) (Lacks p) (λ y is. let from = is.0 in inl (omega arith)) bs (laid_each lo hi bs laid)
 
-laid_le : (lo hi : ℕ) (bs : List Block) → IsLaid lo hi bs → lo ≤ hi
+pub laid_le : (lo hi : ℕ) (bs : List Block) → IsLaid lo hi bs → lo ≤ hi
 laid_le lo hi [] laid = laid
 laid_le lo hi (b ∷ bs) laid = let from = laid.0 in let rest = laid_le (block_end b) hi bs laid.2 in omega arith
 

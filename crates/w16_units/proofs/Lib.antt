@@ -10,3 +10,4 @@ pub mod After
 pub mod Shift
 pub mod Slid
 pub mod Shifting
+pub mod Next

@@ -98,6 +98,7 @@ module _ (cap lo hi g : ℕ) (slots : List Block) (cells : List ℕ) (t : AreTab
       some = t.some;
       ids = t.ids;
       long = let many = t.long in subst (λ (n : ℕ). hi - lo < g * n) (sym (length-set cells u (suc b.id))) many;
+      short = let few = t.short in subst (λ (n : ℕ). g * n ≤ hi - lo + g) (sym (length-set cells u (suc b.id))) few;
       ordered = subst (λ (bs : List Block). IsOrdered (record { cap = cap; lo = lo; hi = hi; grain = g; blocks = bs })) (sym blocks_in-add) (IsOrdered-placed (layout_in cap lo hi g slots cells) b t.ids fits t.ordered);
       begun = begun_add;
       found = λ id has. elim (same_or id b.id) [
@@ -140,6 +141,7 @@ module _ (cap lo hi g : ℕ) (slots : List Block) (cells : List ℕ) (t : AreTab
       some = t.some;
       ids = t.ids;
       long = let many = t.long in subst (λ (n : ℕ). hi - lo < g * n) (sym (length-set cells u 0)) many;
+      short = let few = t.short in subst (λ (n : ℕ). g * n ≤ hi - lo + g) (sym (length-set cells u 0)) few;
       ordered = subst (λ (bs : List Block). IsOrdered (record { cap = cap; lo = lo; hi = hi; grain = g; blocks = bs })) (sym blocks_in-drop) (IsOrdered-all_but (layout_in cap lo hi g slots cells) id t.ids t.ordered);
       begun = λ k j e.
           let other = other_cell k j e in let old = t.begun k j other.1 in
@@ -216,11 +218,12 @@ module _ (cap lo hi g : ℕ) (slots : List Block) (cells : List ℕ) (tells : (k
   blocks_in-none (zero ∷ cells) zeros = blocks_in-none cells (λ k. zeros (suc k))
   blocks_in-none (suc id ∷ cells) zeros = let clear = zeros 0 in absurd (omega arith)
 
-  pub AreTables-none : 0 < g → cap < 2 ^ 32 → hi < 2 ^ 32 → lo ≤ hi → IsMultiple g lo → hi - lo < g * length cells → AreTables cap lo hi g slots cells
-  AreTables-none some ids small le low long = record {
+  pub AreTables-none : 0 < g → cap < 2 ^ 32 → hi < 2 ^ 32 → lo ≤ hi → IsMultiple g lo → hi - lo < g * length cells → g * length cells ≤ hi - lo + g → AreTables cap lo hi g slots cells
+  AreTables-none some ids small le low long short = record {
     some = some;
     ids = ids;
     long = long;
+    short = short;
     ordered = subst (λ (bs : List Block). IsOrdered (record { cap = cap; lo = lo; hi = hi; grain = g; blocks = bs })) (sym (blocks_in-none cells tells))
         (record { laid = le; named = tt; grained = tt; from = low; small = small; few = omega arith });
     begun = λ k id e. let clear = tells k in absurd (omega arith);

@@ -40,11 +40,12 @@ AreBegun p grain slots cells = (k id : ℕ) → slice_index cells k ≡ suc id �
 abbrev pub AreFound : List Block → List ℕ → Type 0
 AreFound slots cells = (id : ℕ) → 0 < (slot_of slots id).size → (k : ℕ) × (slice_index cells k ≡ suc id)
 
--- table and cells agree, and tell an ordered layout; there is a cell for each place, the end among them
+-- table and cells agree, and tell an ordered layout; there is a cell for each place, the end among them, and none beyond
 pub record AreTables (cap lo hi grain : ℕ) (slots : List Block) (cells : List ℕ) : Type 0 where
   pub some : 0 < grain
   pub ids : cap < 2 ^ 32
   pub long : hi - lo < grain * length cells
+  pub short : grain * length cells ≤ hi - lo + grain
   pub ordered : IsOrdered (layout_in cap lo hi grain slots cells)
   pub begun : AreBegun lo grain slots cells
   pub found : AreFound slots cells

@@ -84,7 +84,7 @@ impl<H: HoleList> Blocks<H> {
     ghost use Rattle.w16_holes.specs.Holes.{lowest, longest, add_span, AreSameOutside};
     ghost use Rattle.w16_region.specs.Bytes.{part, counted};
     ghost use Rattle.w16_units.specs.Stay.{AreSameOutsideBoth, AreSameBut};
-    ghost use Rattle.w16_units.specs.Layout.{Layout, IsOrdered, Fits, FitsFor, placed, all_but, replaced, holes_of};
+    ghost use Rattle.w16_units.specs.Layout.{Layout, IsOrdered, Fits, FitsFor, placed, all_but, replaced, rank, holes_of};
 
     /// No blocks yet, between `lo` and `hi`, with ids below `cap`, at multiples of the grain, over holes of which all that is one. All the
     /// memory that the blocks ever have is taken here; fails where there is not enough.
@@ -347,6 +347,27 @@ impl<H: HoleList> Blocks<H> {
     {
         let block = self.block_of(id);
         self.holes.at(space, block.at + block.size)
+    }
+
+    /// The first block that begins at an address or above.
+    pub fn next_from<S: Space>(&self, space: &S, at: u32) -> Option<Block>
+    where
+        H: Holes<S>,
+        requires { H.are_in (holes_of self.now) (S.bytes space.now) }
+        ensures value { result ≡ slice_get self.now.blocks (rank at self.now.blocks) }
+        ensures ordered { IsOrdered self.now }
+    {
+        let mut unit = at.saturating_sub(self.lo).div_ceil(self.grain) as usize;
+        while unit < self.begins.len() {
+            let begin = self.begins[unit] as usize;
+            if begin > 0 {
+                return Some(self.slots[begin - 1]);
+            }
+            // Nothing begins in a hole, so it is passed in one step.
+            let hole = self.holes.at(space, self.lo + unit as u32 * self.grain);
+            unit += (hole / self.grain).max(1) as usize;
+        }
+        None
     }
 
     /// The bounds inside which the blocks lie.

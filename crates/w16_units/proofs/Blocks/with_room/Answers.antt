@@ -1,4 +1,4 @@
-use Rattle.std.proofs.Common.{ℕ, ◌≡◌, ◌-◌, ◌+◌, ◌*◌, ◌/◌, ◌<◌, List, [], length, replicate, refl, arith, rules, sym, ap, ◌∙◌, subst}
+use Rattle.std.proofs.Common.{ℕ, ◌≡◌, ◌-◌, ◌+◌, ◌*◌, ◌/◌, ◌<◌, ◌≤◌, List, [], length, replicate, refl, arith, rules, sym, ap, ◌∙◌, subst}
 use Rattle.std.specs.Prelude.{slice_index, sum_by}
 use Rattle.std.proofs.lemmas.List.{length-replicate}
 use Rattle.w16_model.specs.declared.Block.{Block}
@@ -26,6 +26,12 @@ module _ (g : _) (c : goal.In_ok-begins g) where
       let one : n < c.args.grain * (n / c.args.grain + 1) = omega arith in
       subst (λ (m : ℕ). n < c.args.grain * m) (sym (ap length units ∙ length-replicate (n / c.args.grain + 1) 0)) one
 
+  short : c.args.grain * length c.in_ok-begins.begins.items ≤ c.args.hi - c.args.lo + c.args.grain
+  short =
+      let some = c.requires.some in let n = c.args.hi - c.args.lo in
+      let one : c.args.grain * (n / c.args.grain + 1) ≤ n + c.args.grain = omega arith in
+      subst (λ (m : ℕ). c.args.grain * m ≤ n + c.args.grain) (sym (ap length units ∙ length-replicate (n / c.args.grain + 1) 0)) one
+
   told : blocks_in c.in_ok-slots.slots.items c.in_ok-begins.begins.items ≡ []
   told = blocks_in-none c.args.cap c.args.lo c.args.hi c.args.grain c.in_ok-slots.slots.items c.in_ok-begins.begins.items clear no_blocks c.in_ok-begins.begins.items clear
 
@@ -34,7 +40,7 @@ invariant_of-result g c =
     let cap = c.in_ok-slots.ensures.len in let le = c.requires.bounds in let r = c.ranges.cap.fits in let h = c.ranges.hi.fits in
     record {
       tables = AreTables-none c.in_ok-slots.slots.len c.args.lo c.args.hi c.args.grain c.in_ok-slots.slots.items c.in_ok-begins.begins.items (clear g c) (no_blocks g c)
-          c.requires.some (omega arith) (omega arith) le c.requires.grained (long g c);
+          c.requires.some (omega arith) (omega arith) le c.requires.grained (long g c) (short g c);
       counted = let none : sum_by (λ (b : Block). b.size) (blocks_in c.in_ok-slots.slots.items c.in_ok-begins.begins.items) ≡ 0 = ap (sum_by (λ (b : Block). b.size)) (told g c) in omega arith;
       ranged = c.requires.range;
       between = c.requires.whole ∙ ap (holes c.args.lo c.args.hi) (sym (told g c));
