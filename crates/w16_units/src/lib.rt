@@ -7,6 +7,9 @@ ghost use Rattle.std.specs.Option.{option_map, ForSome};
 ghost use Rattle.w16_model.specs.Heap.{IsMultiple};
 ghost use Rattle.w16_units.specs.Stay as stay;
 
+#[cfg(test)]
+mod tests;
+
 use std::alloc::{AllocError, Global};
 use std::marker::Model;
 use w16_holes::{HoleList, Holes};
