@@ -1,5 +1,5 @@
 -- Blocks between two bounds, by address.
-use Rattle.std.specs.Prelude.{ℕ, suc, ◌<◌, ◌≤◌, ◌≢◌, ◌==◌, ◌^◌, nat_lt, not, if◌then◌else◌, List, [], ◌∷◌, length}
+use Rattle.std.specs.Prelude.{ℕ, suc, ◌<◌, ◌≤◌, ◌≢◌, ◌==◌, ◌^◌, nat_lt, not, if◌then◌else◌, List, [], ◌∷◌, length, drop}
 use Rattle.std.specs.List.{AllByRecursion, filter}
 use Rattle.w16_model.specs.declared.Block.{Block}
 use Rattle.w16_model.specs.declared.Span.{Span}
@@ -49,6 +49,10 @@ pub record IsOrdered (l : Layout) : Type 0 where
 abbrev pub rank : ℕ → List Block → ℕ
 rank at [] = 0
 rank at (b ∷ bs) = if nat_lt b.at at then suc (rank at bs) else 0
+
+-- the blocks that begin at an address or above
+abbrev pub from_address : ℕ → List Block → List Block
+from_address at bs = drop (rank at bs) bs
 
 -- the blocks with one more, in its place by address
 abbrev pub placed : Block → List Block → List Block

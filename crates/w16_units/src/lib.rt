@@ -7,9 +7,11 @@ ghost use Rattle.std.specs.Option.{option_map, ForSome};
 ghost use Rattle.w16_model.specs.Heap.{IsMultiple};
 ghost use Rattle.w16_units.specs.Stay as stay;
 
+mod by_address;
 #[cfg(test)]
 mod tests;
 
+pub use by_address::ByAddress;
 use std::alloc::{AllocError, Global};
 use std::marker::Model;
 use w16_holes::{HoleList, Holes};
@@ -371,6 +373,23 @@ impl<H: HoleList> Blocks<H> {
             unit += (hole / self.grain).max(1) as usize;
         }
         None
+    }
+
+    /// The blocks by address, each found from the end of the one before.
+    pub fn by_address<'a, S: Space>(&'a self, space: &'a S) -> ByAddress<'a, S, H>
+    where
+        H: Holes<S>,
+        ensures blocks { result.blocks.now ≡ self.now }
+        ensures space { result.space.now ≡ space.now }
+        ensures from { result.from ≡ 0 }
+        ensures ordered { IsOrdered self.now }
+    {
+        let _ = &self.free;
+        ByAddress {
+            blocks: self,
+            space,
+            from: 0,
+        }
     }
 
     /// The bounds inside which the blocks lie.
