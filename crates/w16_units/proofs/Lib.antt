@@ -11,3 +11,4 @@ pub mod Shift
 pub mod Slid
 pub mod Shifting
 pub mod Next
+pub mod Walk

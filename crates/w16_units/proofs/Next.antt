@@ -17,12 +17,15 @@ use Rattle.w16_units.specs.Kept.{no_block, slot_of, blocks_in, AreBegun, AreTabl
 use Rattle.w16_units.proofs.Cells.{All-told, each_told, begun_rest}
 use Rattle.w16_units.proofs.Free.{Lacks, free_lacks}
 
-rank_none : (at : ℕ) (bs : List Block) → AllByRecursion (λ c. at ≤ c.at) bs → rank at bs ≡ 0
+pub rank_none : (at : ℕ) (bs : List Block) → AllByRecursion (λ c. at ≤ c.at) bs → rank at bs ≡ 0
 rank_none at [] all = refl
 rank_none at (b ∷ bs) all = rw (le-ltb b.at at all.0) refl
 
-rank_more : (at : ℕ) (b : Block) (bs : List Block) → b.at < at → rank at (b ∷ bs) ≡ suc (rank at bs)
+pub rank_more : (at : ℕ) (b : Block) (bs : List Block) → b.at < at → rank at (b ∷ bs) ≡ suc (rank at bs)
 rank_more at b bs lt = rw (lt-ltb b.at at lt) refl
+
+pub rank_same : (at : ℕ) (b : Block) (bs : List Block) → at ≤ b.at → rank at (b ∷ bs) ≡ 0
+rank_same at b bs le = rw (le-ltb b.at at le) refl
 
 -- where the units below u lie below a place, and the others don't
 pub first_by_unit : (p g at : ℕ) (slots : List Block) (cells : List ℕ) (u : ℕ) → AreBegun p g slots cells → ((k : ℕ) → k < u → p + g * k < at) → ((k : ℕ) → u ≤ k → at ≤ p + g * k)

@@ -109,3 +109,15 @@ fn grows(rt: HostRuntime) -> Result<(), Fail> {
     assert_eq!(rt; blocks.free(), 96);
     Ok(())
 }
+
+#[test]
+fn walks_by_address(rt: HostRuntime) -> Result<(), Fail> {
+    let mut space = Region::new(rt.alloc(), 256)?;
+    let blocks = three(&rt, &mut space)?;
+    let mut ids = Vec::new(rt.alloc());
+    for block in blocks.by_address(&space) {
+        ids.push(block.id)?;
+    }
+    assert_eq!(rt; ids.as_slice(), [0, 2, 3].as_slice());
+    Ok(())
+}
