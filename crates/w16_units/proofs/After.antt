@@ -4,7 +4,7 @@ use Rattle.std.proofs.lemmas.Bool.{cases_lt, lt-ltb, le-ltb, ne_eqb, false≢tru
 use Rattle.std.proofs.lemmas.Bool.Decides.{eqb_tells}
 use Rattle.w16_model.specs.declared.Block.{Block}
 use Rattle.w16_model.specs.declared.Span.{Span}
-use Rattle.w16_model.specs.Gap.{IsLaid, block_end, holes, hole_after, first_from, is_any}
+use Rattle.w16_model.specs.Gap.{IsLaid, block_end, holes, hole_after}
 use Rattle.w16_model.specs.Table.{block_with}
 use Rattle.w16_model.proofs.Laid.{holes-cons, laid_each, first_hole_end, first_behind}
 use Rattle.w16_holes.specs.Holes.{AreHoles, add_span, length_at}

@@ -1,5 +1,5 @@
 -- The list of blocks that a table and its cells tell.
-use Rattle.std.proofs.Common.{ℕ, zero, suc, ◌≡◌, ◌≢◌, ◌+◌, ◌*◌, ◌<◌, ◌≤◌, List, [], ◌∷◌, length, set, Option, Some, None, is_some, eq-eqb, arith, refl, sym, ap, ◌∙◌, subst, inl, inr}
+use Rattle.std.proofs.Common.{ℕ, zero, suc, ◌≡◌, ◌≢◌, ◌+◌, ◌*◌, ◌<◌, ◌≤◌, List, [], ◌∷◌, length, set, Some, None, is_some, eq-eqb, arith, refl, sym, ap, ◌∙◌, subst, inl, inr}
 use Rattle.std.specs.Prelude.{slice_index}
 use Rattle.std.proofs.lemmas.Bool.Decides.{eqb_tells}
 use Rattle.std.proofs.lemmas.List.{get_or-set_other}
@@ -7,7 +7,7 @@ use Rattle.std.specs.List.{AllByRecursion}
 use Rattle.w16_model.specs.declared.Block.{Block}
 use Rattle.w16_model.specs.Table.{block_with}
 use Rattle.w16_units.specs.Layout.{placed, all_but}
-use Rattle.w16_units.specs.Kept.{no_block, slot_of, blocks_in, Begins, AreBegun}
+use Rattle.w16_units.specs.Kept.{no_block, slot_of, blocks_in, AreBegun}
 use Rattle.w16_units.proofs.Place.{placed_first, placed_after}
 use Rattle.w16_units.proofs.Remove.{all_but_same, all_but_other, all_but_absent, with_same, with_other, with_none}
 use Rattle.std.proofs.lemmas.Bool.{ne_eqb, false≢true}

@@ -7,7 +7,7 @@ use Rattle.w16_model.specs.declared.Span.{Span}
 use Rattle.w16_model.specs.Gap.{IsLaid, block_end, holes}
 use Rattle.w16_model.proofs.Gaps.{Each-map}
 use Rattle.w16_model.proofs.Laid.{holes-cons, laid_each}
-use Rattle.w16_holes.specs.Holes.{AreHoles, IsFree, IsUsed, length_at}
+use Rattle.w16_holes.specs.Holes.{AreHoles, IsFree, IsUsed}
 use Rattle.w16_holes.specs.Law.{IsIn}
 use Rattle.w16_holes.proofs.Sets.{low, same_holes}
 

@@ -1,15 +1,15 @@
 -- What is kept where a block is added, taken away or changed.
-use Rattle.std.proofs.Common.{ℕ, suc, ◌≡◌, ◌≢◌, ◌+◌, ◌-◌, ◌*◌, ◌<◌, ◌≤◌, List, length, set, Some, sum_by, arith, refl, sym, ap, ◌∙◌, subst}
+use Rattle.std.proofs.Common.{ℕ, suc, ◌≡◌, ◌+◌, ◌-◌, ◌*◌, ◌<◌, ◌≤◌, List, length, set, Some, sum_by, arith, refl, sym, ap, ◌∙◌, subst}
 use Rattle.std.specs.Prelude.{slice_index}
 use Rattle.w16_model.specs.declared.Block.{Block}
 use Rattle.w16_model.specs.declared.Hold.{Hold}
 use Rattle.w16_model.specs.declared.Span.{Span}
-use Rattle.w16_model.specs.Gap.{block_end, holes}
+use Rattle.w16_model.specs.Gap.{holes}
 use Rattle.w16_model.specs.Table.{block_with}
 use Rattle.w16_holes.specs.Holes.{Range, IsFree, IsUsed, IsPart, taken, joined}
-use Rattle.w16_units.specs.Layout.{Layout, Fits, FitsFor, placed, all_but, replaced}
+use Rattle.w16_units.specs.Layout.{Fits, FitsFor, placed, all_but, replaced}
 use Rattle.w16_units.proofs.Cells.{with_cell}
-use Rattle.w16_units.specs.Kept.{no_block, slot_of, blocks_in, layout_in, AreTables, IsKept}
+use Rattle.w16_units.specs.Kept.{no_block, slot_of, blocks_in, layout_in, IsKept}
 use Rattle.w16_units.proofs.Place.{sum-placed}
 use Rattle.w16_units.proofs.Remove.{with_id, sum-all_but}
 use Rattle.w16_units.proofs.Ordered.{IsOrdered-placed, IsOrdered-all_but, sum_fits}

@@ -1,19 +1,19 @@
 -- The first block from a place on, by the cells from a unit on.
-use Rattle.std.proofs.Common.{ℕ, zero, suc, ◌≡◌, ◌≢◌, ◌+◌, ◌-◌, ◌*◌, ◌/◌, ◌<◌, ◌≤◌, ◌⊎◌, max, List, [], ◌∷◌, length, get_or, drop, Option, Some, None, arith, refl, sym, ap, ◌∙◌, subst, inl, inr, drop-cons, add-one}
+use Rattle.std.proofs.Common.{ℕ, zero, suc, ◌≡◌, ◌+◌, ◌-◌, ◌*◌, ◌/◌, ◌<◌, ◌≤◌, ◌⊎◌, max, List, [], ◌∷◌, length, drop, Some, None, arith, refl, ap, ◌∙◌, inl, inr}
 use Rattle.std.specs.Prelude.{slice_index, slice_get}
 use Rattle.std.proofs.lemmas.Bool.{cases_lt, lt-ltb, le-ltb}
 use Rattle.std.proofs.lemmas.Bool.Decides.{eqb_tells}
 use Rattle.std.specs.List.{AllByRecursion}
 use Rattle.w16_model.specs.declared.Block.{Block}
 use Rattle.w16_model.specs.declared.Span.{Span}
-use Rattle.w16_model.specs.Gap.{IsLaid, block_end, holes}
+use Rattle.w16_model.specs.Gap.{holes}
 use Rattle.w16_holes.specs.Holes.{length_at}
 use Rattle.w16_holes.specs.Law.{IsIn}
 use Rattle.std.specs.Int.{div_ceil}
 use Rattle.std.proofs.lemmas.Grind.{div_ceil_times}
 use Rattle.w16_holes.proofs.Units.{up, above}
 use Rattle.w16_units.specs.Layout.{rank}
-use Rattle.w16_units.specs.Kept.{no_block, slot_of, blocks_in, AreBegun, AreTables}
+use Rattle.w16_units.specs.Kept.{slot_of, blocks_in, AreBegun, AreTables}
 use Rattle.w16_units.proofs.Cells.{All-told, each_told, begun_rest}
 use Rattle.w16_units.proofs.Free.{Lacks, free_lacks}
 

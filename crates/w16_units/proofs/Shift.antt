@@ -1,7 +1,6 @@
 -- A block that moves: the part of its new place that it does not have is taken, and the part of its old one that it leaves is put.
-use Rattle.std.proofs.Common.{ℕ, suc, ◌≡◌, ◌≢◌, ◌<◌, ◌≤◌, ◌+◌, ◌-◌, ◌*◌, ◌^◌, ◌⊎◌, max, min, List, Some, refl, arith, sym, ap, ◌∙◌, subst, inl, inr}
+use Rattle.std.proofs.Common.{ℕ, suc, ◌≡◌, ◌≢◌, ◌<◌, ◌≤◌, ◌+◌, ◌-◌, ◌^◌, ◌⊎◌, max, min, List, Some, refl, arith, sym, subst, inl, inr}
 use Rattle.std.proofs.lemmas.Bool.{cases_lt, lt-ltb, le-ltb}
-use Rattle.std.specs.List.{AllByRecursion}
 use Rattle.w16_model.specs.declared.Block.{Block}
 use Rattle.w16_model.specs.declared.Span.{Span}
 use Rattle.w16_model.specs.Gap.{block_end, holes}
@@ -16,7 +15,7 @@ use Rattle.w16_units.specs.Layout.{Layout, IsApart, IsOrdered, FitsFor, all_but,
 use Rattle.w16_units.specs.Stay.{beyond}
 use Rattle.w16_units.proofs.Remove.{All-back}
 use Rattle.w16_units.proofs.Free.{Lacks, AreHoles-holes, lacks_free, used_of, free_of}
-use Rattle.w16_units.proofs.Step.{multiple_less, lies, grained_known, lacks_known, holes_moved}
+use Rattle.w16_units.proofs.Step.{multiple_less, lies, lacks_known, holes_moved}
 
 -- what a place has beyond another, told by its bytes
 pub record IsBeyond (other place n : ℕ) (s : Span) : Type 0 where

@@ -9,7 +9,7 @@ use Rattle.w16_model.specs.Heap.{IsMultiple}
 use Rattle.w16_region.specs.Bytes.{part, put_part}
 use Rattle.w16_holes.specs.Holes.{Range, IsFree, IsUsed, IsPart, AreSameIn, taken, joined}
 use Rattle.w16_holes.specs.Law.{IsIn}
-use Rattle.w16_units.specs.Layout.{Layout, FitsFor, replaced, holes_of}
+use Rattle.w16_units.specs.Layout.{Layout, FitsFor, replaced}
 use Rattle.w16_units.specs.Kept.{blocks_in, layout_in, IsKept}
 use Rattle.w16_units.specs.Stay.{beyond}
 use Rattle.w16_units.proofs.Tables.{blocks_in-move}

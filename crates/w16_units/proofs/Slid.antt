@@ -1,11 +1,11 @@
 -- The bytes of a block that moves come along, and others stay.
-use Rattle.std.proofs.Common.{ℕ, zero, suc, ◌≡◌, ◌<◌, ◌≤◌, ◌+◌, ◌-◌, ◌⊎◌, List, [], ◌∷◌, length, get_or, take, drop, arith, refl, sym, ap, ◌∙◌, subst, inl, inr}
+use Rattle.std.proofs.Common.{ℕ, suc, ◌≡◌, ◌<◌, ◌≤◌, ◌+◌, ◌-◌, ◌⊎◌, List, [], ◌∷◌, length, drop, arith, refl, sym, ap, ◌∙◌, subst, inl, inr}
 use Rattle.std.specs.Prelude.{slice_index}
 use Rattle.std.proofs.lemmas.List.{get_or-drop, get_or-take}
 use Rattle.w16_model.specs.declared.Span.{Span}
 use Rattle.w16_region.specs.Bytes.{part, put_part, length-put_part}
 use Rattle.w16_region.proofs.Parts.{length-part, part-put_part, take-put_part, drop-put_part}
-use Rattle.w16_holes.specs.Holes.{IsUsed, AreSameIn, AreSameOutside}
+use Rattle.w16_holes.specs.Holes.{IsUsed, AreSameOutside}
 use Rattle.w16_units.specs.Stay.{AreSameBut}
 
 same_items : (xs ys : List ℕ) → length xs ≡ length ys → ((k : ℕ) → k < length ys → slice_index xs k ≡ slice_index ys k) → xs ≡ ys

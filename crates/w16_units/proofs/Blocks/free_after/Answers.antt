@@ -1,5 +1,4 @@
-use Rattle.std.proofs.Common.{ℕ, ◌≡◌, ◌-◌, ◌+◌, List, Some, IfSome, Option, arith, sym, ap, ◌∙◌, subst}
-use Rattle.w16_model.specs.declared.Span.{Span}
+use Rattle.std.proofs.Common.{◌≡◌, ◌+◌, Some, IfSome, Option, arith, sym, ap, ◌∙◌, subst}
 use Rattle.w16_model.specs.declared.Block.{Block}
 use Rattle.w16_model.specs.Gap.{block_end, hole_after}
 use Rattle.w16_model.specs.Table.{block_with}

@@ -1,11 +1,8 @@
-use Rattle.std.proofs.Common.{ℕ, ◌≡◌, List, Some, arith, sym, ap, ◌∙◌, subst}
+use Rattle.std.proofs.Common.{◌≡◌, List, Some, sym, ap, ◌∙◌, subst}
 use Rattle.w16_model.specs.declared.Span.{Span}
 use Rattle.w16_model.specs.declared.Block.{Block}
 use Rattle.w16_model.specs.Table.{block_with}
-use Rattle.w16_holes.specs.Holes.{AreSameOutside}
 use Rattle.w16_units.specs.Layout.{Layout, FitsFor, replaced}
-use Rattle.w16_units.specs.Kept.{layout_in}
-use Rattle.w16_units.proofs.Step.{lies}
 use Rattle.w16_units.proofs.Keeping.{blocks_in-sized, take_more, counts_more, IsKept-more}
 use Rattle.w16_units.proofs.Blocks.grow.Goals as goal
 

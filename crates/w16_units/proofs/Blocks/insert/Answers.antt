@@ -1,7 +1,7 @@
-use Rattle.std.proofs.Common.{ℕ, ◌≡◌, ◌+◌, ◌-◌, List, set, add-one, arith, sym, ap, ◌∙◌, subst}
+use Rattle.std.proofs.Common.{ℕ, ◌+◌, List, set, add-one, sym, ap, ◌∙◌, subst}
 use Rattle.w16_model.specs.declared.Span.{Span}
-use Rattle.w16_units.specs.Layout.{Layout, Fits, placed, IsOrdered}
-use Rattle.w16_units.specs.Kept.{layout_in, IsKept}
+use Rattle.w16_units.specs.Layout.{Layout, Fits, placed}
+use Rattle.w16_units.specs.Kept.{layout_in}
 use Rattle.w16_units.proofs.Tables.{blocks_in-add}
 use Rattle.w16_units.proofs.Keeping.{free_for, size_below, IsKept-add}
 use Rattle.w16_units.proofs.Blocks.insert.Goals as goal

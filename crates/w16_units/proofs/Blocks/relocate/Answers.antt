@@ -1,11 +1,10 @@
-use Rattle.std.proofs.Common.{ℕ, ◌≡◌, ◌≤◌, ◌+◌, ◌-◌, List, length, Some, add-one, arith, sym, ap, ◌∙◌, subst}
+use Rattle.std.proofs.Common.{◌≡◌, ◌≤◌, ◌+◌, ◌-◌, List, length, Some, add-one, arith, sym, ap, ◌∙◌, subst}
 use Rattle.w16_model.specs.declared.Span.{Span}
 use Rattle.w16_model.specs.declared.Block.{Block}
 use Rattle.w16_model.specs.Table.{block_with}
 use Rattle.w16_holes.specs.Holes.{Range, IsPart}
 use Rattle.w16_units.specs.Layout.{Layout, FitsFor, replaced, holes_of}
 use Rattle.w16_units.specs.Kept.{layout_in}
-use Rattle.w16_units.specs.Stay.{AreSameBut}
 use Rattle.w16_units.proofs.Tables.{cell_at, unit_told}
 use Rattle.w16_units.proofs.Step.{lies, grained_known}
 use Rattle.w16_units.proofs.Slid.{come_along, others_stay, AreSameBut-of}

@@ -1,7 +1,7 @@
 use Rattle.std.proofs.Common.{ℕ, ◌≡◌, List, Some, IfSome, Option, arith, sym, ap, ◌∙◌, subst}
 use Rattle.w16_model.specs.declared.Block.{Block}
 use Rattle.w16_model.specs.Table.{block_with}
-use Rattle.w16_units.specs.Layout.{Layout, FitsFor, replaced}
+use Rattle.w16_units.specs.Layout.{Layout, replaced}
 use Rattle.w16_units.proofs.Remove.{with_id, replaced-itself}
 use Rattle.w16_units.proofs.Blocks.resize.Goals as goal
 

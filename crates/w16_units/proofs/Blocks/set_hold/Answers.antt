@@ -1,4 +1,4 @@
-use Rattle.std.proofs.Common.{ℕ, ◌≡◌, List, Some, IfSome, Option, set, ap, sym, subst}
+use Rattle.std.proofs.Common.{◌≡◌, List, Some, IfSome, Option, set, ap, sym, subst}
 use Rattle.w16_model.specs.declared.Block.{Block}
 use Rattle.w16_model.specs.Table.{block_with}
 use Rattle.w16_units.specs.Layout.{Layout, replaced}

@@ -1,9 +1,8 @@
-use Rattle.std.proofs.Common.{ℕ, ◌≡◌, ◌-◌, ◌+◌, ◌*◌, ◌/◌, ◌<◌, ◌≤◌, List, [], length, replicate, refl, arith, rules, sym, ap, ◌∙◌, subst}
+use Rattle.std.proofs.Common.{ℕ, ◌≡◌, ◌-◌, ◌+◌, ◌*◌, ◌/◌, ◌<◌, ◌≤◌, List, [], length, replicate, arith, rules, sym, ap, ◌∙◌, subst}
 use Rattle.std.specs.Prelude.{slice_index, sum_by}
 use Rattle.std.proofs.lemmas.List.{length-replicate}
 use Rattle.w16_model.specs.declared.Block.{Block}
 use Rattle.w16_model.specs.Gap.{holes}
-use Rattle.w16_units.specs.Layout.{Layout}
 use Rattle.w16_units.specs.Kept.{no_block, slot_of, blocks_in, layout_in}
 use Rattle.w16_units.proofs.Tables.{blocks_in-none, AreTables-none, get_or-replicate_same}
 use Rattle.w16_units.proofs.Blocks.with_room.Goals as goal

@@ -1,4 +1,4 @@
-use Rattle.std.proofs.Common.{◌≡◌, ◌+◌, ◌<◌, List, [], ◌∷◌, length, Option, Some, MatchOption, arith, sym, ap, subst}
+use Rattle.std.proofs.Common.{◌≡◌, [], ◌∷◌, length, Option, MatchOption, arith, sym, ap, subst}
 use Rattle.w16_model.specs.declared.Block.{Block}
 use Rattle.w16_units.specs.Layout.{rank, from_address}
 use Rattle.w16_units.proofs.Walk.{none_left, one_more, ends_small}
