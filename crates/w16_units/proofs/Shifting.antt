@@ -6,7 +6,7 @@ use Rattle.w16_model.specs.declared.Span.{Span}
 use Rattle.w16_model.specs.Gap.{holes}
 use Rattle.w16_model.specs.Table.{block_with}
 use Rattle.w16_model.specs.Heap.{IsMultiple}
-use Rattle.w16_region.specs.Bytes.{part, put_part}
+use Rattle.w16_model.specs.Bytes.{part, put_part}
 use Rattle.w16_holes.specs.Holes.{Range, IsFree, IsUsed, IsPart, AreSameIn, taken, joined}
 use Rattle.w16_holes.specs.Law.{IsIn}
 use Rattle.w16_units.specs.Layout.{Layout, FitsFor, replaced}

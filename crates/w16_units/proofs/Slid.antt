@@ -3,8 +3,9 @@ use Rattle.std.proofs.Common.{ℕ, suc, ◌≡◌, ◌<◌, ◌≤◌, ◌+◌, 
 use Rattle.std.specs.Prelude.{slice_index}
 use Rattle.std.proofs.lemmas.List.{get_or-drop, get_or-take}
 use Rattle.w16_model.specs.declared.Span.{Span}
-use Rattle.w16_region.specs.Bytes.{part, put_part, length-put_part}
-use Rattle.w16_region.proofs.Parts.{length-part, part-put_part, take-put_part, drop-put_part}
+use Rattle.w16_model.specs.Bytes.{part, put_part}
+use Rattle.w16_model.proofs.Parts.{length-put_part}
+use Rattle.w16_model.proofs.Parts.{length-part, part-put_part, take-put_part, drop-put_part}
 use Rattle.w16_holes.specs.Holes.{IsUsed, AreSameOutside}
 use Rattle.w16_units.specs.Stay.{AreSameBut}
 

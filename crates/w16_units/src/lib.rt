@@ -87,7 +87,8 @@ impl<H: HoleList> Blocks<H> {
     ghost use Rattle.w16_model.specs.Table.{block_with};
     ghost use Rattle.w16_model.specs.Gap.{hole_after, block_end};
     ghost use Rattle.w16_holes.specs.Holes.{lowest, longest, add_span, AreSameOutside};
-    ghost use Rattle.w16_region.specs.Bytes.{part, counted};
+    ghost use Rattle.w16_model.specs.Bytes.{part};
+    ghost use Rattle.w16_region.specs.Bytes.{counted};
     ghost use Rattle.w16_units.specs.Stay.{AreSameOutsideBoth, AreSameBut};
     ghost use Rattle.w16_units.specs.Layout.{Layout, IsOrdered, Fits, FitsFor, placed, all_but, replaced, rank, holes_of};
 
