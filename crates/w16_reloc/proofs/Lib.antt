@@ -1,0 +1,6 @@
+pub mod SiteLemmas
+pub mod ChainLemmas
+pub mod WalkLemmas
+pub mod Count
+pub mod RecordLemmas
+pub mod ImageLemmas

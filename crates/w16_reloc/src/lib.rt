@@ -1,0 +1,15 @@
+//! Relocation: the records of a module's segment, checked, and their values written.
+#![tactic(auto)]
+
+mod chain;
+mod fault;
+mod image;
+mod marks;
+mod record;
+mod sites;
+mod value;
+
+pub use fault::RelocFault;
+pub use image::apply;
+pub use record::{Fixup, Part, Record, Target};
+pub use value::Far;
