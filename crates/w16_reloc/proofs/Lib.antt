@@ -4,3 +4,4 @@ pub mod WalkLemmas
 pub mod Count
 pub mod RecordLemmas
 pub mod ImageLemmas
+pub mod Refusals

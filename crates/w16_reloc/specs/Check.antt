@@ -3,7 +3,7 @@ use Rattle.std.specs.Prelude.{◌≡◌, ℕ, zero, suc, ◌+◌, ◌<◌, ◌*�
 use Rattle.std.specs.List.{list_any, AllByRecursion}
 use Rattle.w16_ne.specs.Reading.{word_of}
 use Rattle.w16_reloc.specs.declared.fault.RelocFault.{RelocFault}
-use Rattle.w16_reloc.specs.declared.fault.RelocFault.TheVariants.{BadRecord, SiteOutside, Overlap}
+use Rattle.w16_reloc.specs.declared.fault.RelocFault.TheVariants.{BadRecord, SiteOutside, Overlap, Store}
 use Rattle.w16_reloc.specs.declared.record.Record.{Record}
 use Rattle.w16_reloc.specs.declared.record.Record.TheVariants.{Stored, Added, System}
 use Rattle.w16_reloc.specs.Records.{Offer, is_named, record_at}
@@ -32,6 +32,11 @@ chain_at bytes width (suc n) before at = if at == 0xffff then Ok before else do
 pub record AreMarks (sites : List Site) (marks : List Bool) : Type 0 where
   pub wide : AllByRecursion (λ s. 0 < s.width) sites
   pub marked : (b : ℕ) → b < length marks → slice_index_or marks b false ≡ list_any (covers b) sites
+
+-- a fault of the records, and none of the store
+abbrev pub IsOfRecords : RelocFault → Type 0
+IsOfRecords (Store e) = ⊥
+IsOfRecords e = Unit {0}
 
 -- what code answered and marked is what the check says
 abbrev pub Marks : {A : Type 0} → Result A RelocFault → List Bool → Result (List Site) RelocFault → Type 0

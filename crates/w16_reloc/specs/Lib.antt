@@ -4,3 +4,4 @@ pub mod Sound
 pub mod Check
 pub mod Images
 pub mod Apply
+pub mod Segments

@@ -54,15 +54,22 @@ record_at segments references bytes at =
     option_map (λ f. if bit_and (slice_index bytes (at + 1)) 4 == 0 then Stored f else Added f)
     (fixup_of (part_of (bit_and (slice_index bytes at) 127)) (word_of bytes (at + 2)) (target_at segments references bytes at))
 
--- an import by name has a text in the file
-abbrev pub has_text : Offer → Target → Bool
-has_text offer (ByName reference name) = offer.has_name name
-has_text offer other = true
+-- the imported name that a record asks for, by its offset; its text has to lie in the file
+abbrev pub text_of : Target → Option ℕ
+text_of (ByName reference name) = Some name
+text_of other = None
+
+abbrev pub name_in : Record → Option ℕ
+name_in (Stored fixup) = text_of fixup.target
+name_in (Added fixup) = text_of fixup.target
+name_in System = None
+
+abbrev pub has_text : Offer → Option ℕ → Bool
+has_text offer None = true
+has_text offer (Some name) = offer.has_name name
 
 abbrev pub is_named : Offer → Record → Bool
-is_named offer (Stored fixup) = has_text offer fixup.target
-is_named offer (Added fixup) = has_text offer fixup.target
-is_named offer System = true
+is_named offer r = has_text offer (name_in r)
 
 -- The record whose bytes begin at an index is this one, well formed.
 abbrev pub IsRecord : Offer → List ℕ → ℕ → Record → Type 0

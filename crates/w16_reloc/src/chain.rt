@@ -1,8 +1,8 @@
 //! Chains of sites.
-ghost use Rattle.std.specs.Prelude.{◌≡◌, ℕ, ◌<◌, ◌≤◌, ◌+◌, ◌^◌, length, List};
+ghost use Rattle.std.specs.Prelude.{◌≡◌, ℕ, ◌<◌, ◌≤◌, ◌+◌, ◌^◌, length, List, IfErr};
 ghost use Rattle.w16_ne.specs.Reading.{word_of};
 ghost use Rattle.w16_reloc.specs.Sites.{Site};
-ghost use Rattle.w16_reloc.specs.Check.{AreMarks, Marks, chain_at};
+ghost use Rattle.w16_reloc.specs.Check.{AreMarks, IsOfRecords, Marks, chain_at};
 
 use crate::fault::RelocFault;
 use crate::marks::take;
@@ -30,7 +30,8 @@ pub fn take_chain(
     requires narrow { width ≤ 4 }
     requires small { length bytes.now ≤ 65536 }
     requires same { length marks.old ≡ length bytes.now }
-    ensures { (sites : List Site) → AreMarks sites marks.old
+    ensures own { IfErr result IsOfRecords }
+    ensures step { (sites : List Site) → AreMarks sites marks.old
         → Marks result marks.new (chain_at bytes.now width (length bytes.now + 1) sites head) }
 {
     let mut at = head;

@@ -5,7 +5,9 @@ mod chain;
 mod fault;
 mod image;
 mod marks;
+mod reading;
 mod record;
+mod records;
 mod sites;
 mod value;
 

@@ -1,7 +1,7 @@
 //! The bytes that sites cover.
-ghost use Rattle.std.specs.Prelude.{◌≡◌, ℕ, ◌<◌, ◌≤◌, ◌+◌, ◌^◌, ◌&&◌, ◌||◌, nat_le, nat_lt, length, true, false, slice_index_or, List, OnOk};
+ghost use Rattle.std.specs.Prelude.{◌≡◌, ℕ, ◌<◌, ◌≤◌, ◌+◌, ◌^◌, ◌&&◌, ◌||◌, nat_le, nat_lt, length, true, false, slice_index_or, List, OnOk, IfErr};
 ghost use Rattle.w16_reloc.specs.Sites.{Site};
-ghost use Rattle.w16_reloc.specs.Check.{AreMarks, Marks, site_at};
+ghost use Rattle.w16_reloc.specs.Check.{AreMarks, IsOfRecords, Marks, site_at};
 
 use crate::fault::RelocFault;
 
@@ -34,6 +34,7 @@ fn mark(marks: &mut [bool], at: usize, width: usize)
 pub fn take(marks: &mut [bool], at: usize, width: usize) -> Result<(), RelocFault>
     requires wide { 0 < width }
     requires small { at + width < 2 ^ 32 }
+    ensures own { IfErr result IsOfRecords }
     ensures inside { OnOk result (at + width ≤ length marks.old) }
     ensures step { (sites : List Site) → AreMarks sites marks.old
         → Marks result marks.new (site_at (length marks.old) sites (record { at = at; width = width })) }

@@ -1,8 +1,8 @@
 //! The sites of records.
-ghost use Rattle.std.specs.Prelude.{◌≡◌, ℕ, ◌≤◌, length, List};
+ghost use Rattle.std.specs.Prelude.{◌≡◌, ℕ, ◌≤◌, length, List, IfErr};
 ghost use Rattle.w16_reloc.specs.Sites.{Site};
 ghost use Rattle.w16_reloc.specs.Sound.{value_width, chain_width};
-ghost use Rattle.w16_reloc.specs.Check.{AreMarks, Marks, sites_at};
+ghost use Rattle.w16_reloc.specs.Check.{AreMarks, IsOfRecords, Marks, sites_at};
 
 use crate::chain::take_chain;
 use crate::fault::RelocFault;
@@ -35,7 +35,8 @@ pub fn chain_width(part: Part) -> usize
 pub fn take_sites(bytes: &[u8], relocation: &Record, marks: &mut [bool]) -> Result<(), RelocFault>
     requires small { length bytes.now ≤ 65536 }
     requires same { length marks.old ≡ length bytes.now }
-    ensures { (sites : List Site) → AreMarks sites marks.old → Marks result marks.new (sites_at bytes.now sites relocation.now) }
+    ensures own { IfErr result IsOfRecords }
+    ensures step { (sites : List Site) → AreMarks sites marks.old → Marks result marks.new (sites_at bytes.now sites relocation.now) }
 {
     match relocation {
         Record::Stored(fixup) => take_chain(bytes, chain_width(fixup.part), fixup.offset, marks),

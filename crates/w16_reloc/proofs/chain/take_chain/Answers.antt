@@ -4,13 +4,13 @@ use Rattle.std.proofs.lemmas.Result.{err_from_is_err_and}
 use Rattle.w16_reloc.proofs.ChainLemmas.{chain_is_done, chain_goes_on, chain_stops, chain_returns}
 use Rattle.w16_reloc.proofs.chain.take_chain.Goals as goal
 
-pub returns-then-at : goal.returns-then-at
-returns-then-at c = λ sites are.
+pub returns-then-at-clause-step : goal.returns-then-at-clause-step
+returns-then-at-clause-step c = λ sites are.
     let so_far = c.loop.invariant.1 sites are in
     (so_far.0, sym so_far.2 ∙ chain_is_done _ _ _ c.loop.counter _ _ c.loop-test.true c.if-at.true, so_far.1)
 
-pub returns-in_err-take : goal.returns-in_err-take
-returns-in_err-take c = λ sites are.
+pub returns-in_err-take-clause-step : goal.returns-in_err-take-clause-step
+returns-in_err-take-clause-step c = λ sites are.
     let so_far = c.loop.invariant.1 sites are in
     let p = err_from_is_err_and c.from_residual.result c.from_residual.ensures.1 in
     let on : nat_eq c.loop.at 65535 ≡ false = grind (arith, c.if-at.false) in
@@ -28,7 +28,7 @@ loop-preserved c = (
       (step.0, step.2, rw c.word-at.ensures (sym (chain_goes_on _ _ _ c.loop.counter _ _ _ c.loop-test.true on said) ∙ so_far.2)),
 )
 
-pub returns : goal.returns
-returns c = λ sites are.
+pub returns-clause-step : goal.returns-clause-step
+returns-clause-step c = λ sites are.
     let so_far = c.loop.invariant.1 sites are in
     sym so_far.2 ∙ chain_returns _ _ _ c.loop.counter _ _ c.loop-test.false
