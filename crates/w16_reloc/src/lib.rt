@@ -8,10 +8,12 @@ mod marks;
 mod reading;
 mod record;
 mod records;
+mod scratch;
 mod sites;
 mod value;
 
 pub use fault::RelocFault;
 pub use image::apply;
 pub use record::{Fixup, Part, Record, Target};
+pub use scratch::Scratch;
 pub use value::Far;

@@ -1,0 +1,92 @@
+//! Room for one segment, and the check of a segment in it.
+ghost use Rattle.std.specs.Prelude.{◌≡◌, ℕ, ◌<◌, ◌≤◌, ◌-◌, length, List, [], Some, Ok, slice_get, vec_len, vec_capacity, IfOk};
+ghost use Rattle.w16_store.specs.Files.{file_of};
+ghost use Rattle.w16_ne.specs.declared.segment_table.Segment.{Segment};
+ghost use Rattle.w16_ne.specs.Modules.{tables_at};
+ghost use Rattle.w16_reloc.specs.Check.{AreMarks};
+ghost use Rattle.w16_reloc.specs.Segments.{Answers, checked};
+
+use crate::fault::RelocFault;
+use crate::reading::{count_at, names_at, read};
+use crate::record::Record;
+use crate::records::{Offered, check_records};
+use std::alloc::{AllocError, Global};
+use std::marker::Model;
+use w16_ne::{Module, Segment};
+use w16_store::{Store, StoreFault};
+
+/// The most bytes of data that a segment has, and the most records.
+const MOST_BYTES: usize = 65_536;
+const MOST_RECORDS: usize = 65_535;
+
+/// Room for the data, the marks and the records of one segment of any size: of the one that was checked last.
+#[derive(Drop)]
+pub struct Scratch {
+    bytes: Vec<u8>,
+    table: Vec<u8>,
+    marks: Vec<bool>,
+    records: Vec<Record>,
+}
+
+impl Model for Scratch {
+    ghost use Rattle.std.specs.Prelude.{◌≤◌, vec_capacity};
+    ghost use Rattle.w16_reloc.specs.Segments.{Held};
+
+    ghost Value = { Held };
+
+    ghost view = { λ s. record { bytes = s.bytes.items; records = s.records.items } };
+
+    ghost invariant = { λ s. (65536 ≤ vec_capacity s.bytes) × (524280 ≤ vec_capacity s.table) × (65536 ≤ vec_capacity s.marks) × (65535 ≤ vec_capacity s.records) };
+}
+
+impl Scratch {
+    /// All the room that a check needs, about two megabytes; it is empty.
+    pub fn new(alloc: Global) -> Result<Self, AllocError>
+        ensures { IfOk result (λ made. made ≡ record { bytes = []; records = [] }) }
+    {
+        Ok(Scratch {
+            bytes: Vec::with_capacity(alloc, MOST_BYTES)?,
+            table: Vec::with_capacity(alloc, 8 * MOST_RECORDS)?,
+            marks: Vec::with_capacity(alloc, MOST_BYTES)?,
+            records: Vec::with_capacity(alloc, MOST_RECORDS)?,
+        })
+    }
+
+    /// The data of the segment that was checked last.
+    pub fn bytes(&self) -> &[u8]
+        ensures { result.now ≡ self.now.bytes }
+    {
+        self.bytes.as_slice()
+    }
+
+    /// Its records.
+    pub fn records(&self) -> &[Record]
+        ensures { result.now ≡ self.now.records }
+    {
+        self.records.as_slice()
+    }
+}
+
+/// Makes a vector so long, within its room. Bytes that it gains are 0.
+fn set_len(room: &mut Vec<u8>, len: usize)
+    requires { len ≤ vec_capacity room.old }
+    ensures len { vec_len room.new ≡ len }
+    ensures capacity { vec_capacity room.old ≤ vec_capacity room.new }
+{
+    if room.resize(len, 0).is_err() {
+        unreachable!();
+    }
+}
+
+/// So many marks, none set.
+fn clear_marks(marks: &mut Vec<bool>, len: usize)
+    requires { len ≤ vec_capacity marks.old }
+    ensures len { vec_len marks.new ≡ len }
+    ensures capacity { vec_capacity marks.old ≤ vec_capacity marks.new }
+    ensures clear { AreMarks [] marks.new.items }
+{
+    marks.clear();
+    if marks.resize(len, false).is_err() {
+        unreachable!();
+    }
+}
