@@ -5,3 +5,4 @@ pub mod Count
 pub mod RecordLemmas
 pub mod ImageLemmas
 pub mod Refusals
+pub mod FileLemmas

@@ -9,11 +9,12 @@ mod reading;
 mod record;
 mod records;
 mod scratch;
+mod segment;
 mod sites;
 mod value;
 
 pub use fault::RelocFault;
 pub use image::apply;
 pub use record::{Fixup, Part, Record, Target};
-pub use scratch::Scratch;
+pub use scratch::{Scratch, check};
 pub use value::Far;

@@ -7,9 +7,10 @@ ghost use Rattle.w16_reloc.specs.Check.{AreMarks};
 ghost use Rattle.w16_reloc.specs.Segments.{Answers, checked};
 
 use crate::fault::RelocFault;
-use crate::reading::{count_at, names_at, read};
+use crate::reading::names_at;
 use crate::record::Record;
 use crate::records::{Offered, check_records};
+use crate::segment::read_segment;
 use std::alloc::{AllocError, Global};
 use std::marker::Model;
 use w16_ne::{Module, Segment};
@@ -67,17 +68,6 @@ impl Scratch {
     }
 }
 
-/// Makes a vector so long, within its room. Bytes that it gains are 0.
-fn set_len(room: &mut Vec<u8>, len: usize)
-    requires { len ≤ vec_capacity room.old }
-    ensures len { vec_len room.new ≡ len }
-    ensures capacity { vec_capacity room.old ≤ vec_capacity room.new }
-{
-    if room.resize(len, 0).is_err() {
-        unreachable!();
-    }
-}
-
 /// So many marks, none set.
 fn clear_marks(marks: &mut Vec<bool>, len: usize)
     requires { len ≤ vec_capacity marks.old }
@@ -89,4 +79,51 @@ fn clear_marks(marks: &mut Vec<bool>, len: usize)
     if marks.resize(len, false).is_err() {
         unreachable!();
     }
+}
+
+/// Checks the relocations of a segment, by its number from 1, in the file from which the module was read.
+///
+/// `Ok` where they are sound, and then the scratch has the segment's data and records. Else the first fault: the records are checked in their order,
+/// first each itself (`BadRecord`), then its sites from the first on, each for `SiteOutside` before `Overlap`. `Store` where the store answered a
+/// fault. After a fault the scratch holds anything.
+pub fn check<S: Store>(
+    store: &mut S,
+    name: &[u8],
+    module: &Module,
+    segment: usize,
+    scratch: &mut Scratch,
+) -> Result<(), RelocFault>
+    requires first { 0 < segment }
+    requires last { segment ≤ length module.now.segments }
+    ensures files { S.files store.new ≡ S.files store.old }
+    ensures failures { S.failures store.old ≤ S.failures store.new }
+    ensures exact { (file : List ℕ) (s : Segment) → S.is_honest → file_of (S.files store.old) name.now ≡ Some file → tables_at (Some file) ≡ Ok module.now
+        → slice_get module.now.segments (segment - 1) ≡ Some s → s.len ≤ 65536
+        → Answers (λ _. scratch.new) (S.failures store.old) (S.failures store.new) result (checked file module.now s) }
+{
+    let found = module.segment(segment);
+    if found.len as usize > MOST_BYTES {
+        return Err(RelocFault::Store(StoreFault::Short));
+    }
+    let count = read_segment(store, name, &found, &mut scratch.bytes, &mut scratch.table)?;
+    scratch.records.clear();
+    clear_marks(&mut scratch.marks, found.len as usize);
+    if count == 0 {
+        return Ok(());
+    }
+    let offered = Offered {
+        segments: module.segment_count(),
+        references: module.reference_count(),
+        names: names_at(store, name, module.header())?,
+    };
+    check_records(
+        store,
+        name,
+        &offered,
+        scratch.bytes.as_slice(),
+        scratch.table.as_slice(),
+        count,
+        scratch.marks.as_mut_slice(),
+        &mut scratch.records,
+    )
 }
