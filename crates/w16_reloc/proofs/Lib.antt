@@ -6,3 +6,5 @@ pub mod RecordLemmas
 pub mod ImageLemmas
 pub mod Refusals
 pub mod FileLemmas
+pub mod SoundLemmas
+pub mod OneImage

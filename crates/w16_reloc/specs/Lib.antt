@@ -5,3 +5,4 @@ pub mod Check
 pub mod Images
 pub mod Apply
 pub mod Segments
+pub mod Law

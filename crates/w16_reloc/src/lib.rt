@@ -4,6 +4,7 @@
 mod chain;
 mod fault;
 mod image;
+pub mod laws;
 mod marks;
 mod reading;
 mod record;
@@ -18,3 +19,6 @@ pub use image::apply;
 pub use record::{Fixup, Part, Record, Target};
 pub use scratch::{Scratch, check};
 pub use value::Far;
+
+#[cfg(test)]
+mod tests;

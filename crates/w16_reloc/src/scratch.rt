@@ -89,19 +89,19 @@ fn clear_marks(marks: &mut Vec<bool>, len: usize)
 pub fn check<S: Store>(
     store: &mut S,
     name: &[u8],
-    module: &Module,
+    module_file: &Module,
     segment: usize,
     scratch: &mut Scratch,
 ) -> Result<(), RelocFault>
     requires first { 0 < segment }
-    requires last { segment ≤ length module.now.segments }
+    requires last { segment ≤ length module_file.now.segments }
     ensures files { S.files store.new ≡ S.files store.old }
     ensures failures { S.failures store.old ≤ S.failures store.new }
-    ensures exact { (file : List ℕ) (s : Segment) → S.is_honest → file_of (S.files store.old) name.now ≡ Some file → tables_at (Some file) ≡ Ok module.now
-        → slice_get module.now.segments (segment - 1) ≡ Some s → s.len ≤ 65536
-        → Answers (λ _. scratch.new) (S.failures store.old) (S.failures store.new) result (checked file module.now s) }
+    ensures exact { (file : List ℕ) (s : Segment) → S.is_honest → file_of (S.files store.old) name.now ≡ Some file → tables_at (Some file) ≡ Ok module_file.now
+        → slice_get module_file.now.segments (segment - 1) ≡ Some s → s.len ≤ 65536
+        → Answers (λ _. scratch.new) (S.failures store.old) (S.failures store.new) result (checked file module_file.now s) }
 {
-    let found = module.segment(segment);
+    let found = module_file.segment(segment);
     if found.len as usize > MOST_BYTES {
         return Err(RelocFault::Store(StoreFault::Short));
     }
@@ -112,9 +112,9 @@ pub fn check<S: Store>(
         return Ok(());
     }
     let offered = Offered {
-        segments: module.segment_count(),
-        references: module.reference_count(),
-        names: names_at(store, name, module.header())?,
+        segments: module_file.segment_count(),
+        references: module_file.reference_count(),
+        names: names_at(store, name, module_file.header())?,
     };
     check_records(
         store,
