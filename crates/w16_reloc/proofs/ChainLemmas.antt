@@ -1,10 +1,10 @@
 -- One step of a chain, as the loop goes.
-use Rattle.std.proofs.Common.{◌≡◌, ℕ, suc, zero, ◌+◌, ◌-◌, ◌<◌, ◌≤◌, List, ◌∷◌, length, Bool, true, false, Result, Ok, Err, refl, arith}
+use Rattle.std.proofs.Common.{◌≡◌, ℕ, suc, ◌+◌, ◌-◌, ◌<◌, ◌≤◌, List, ◌∷◌, length, true, false, Ok, Err, refl, arith}
 use Rattle.std.specs.Prelude.{nat_lt, nat_eq}
 use Rattle.std.specs.List.{list_any}
 use Rattle.w16_ne.specs.Reading.{word_of}
 use Rattle.w16_reloc.specs.declared.fault.RelocFault.{RelocFault}
-use Rattle.w16_reloc.specs.declared.fault.RelocFault.TheVariants.{SiteOutside, Overlap}
+use Rattle.w16_reloc.specs.declared.fault.RelocFault.TheVariants.{Overlap}
 use Rattle.w16_reloc.specs.Sites.{Site, meets}
 use Rattle.w16_reloc.specs.Check.{site_at, chain_at}
 

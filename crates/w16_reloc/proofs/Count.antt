@@ -1,6 +1,6 @@
 -- Sound sites are no more than there are bytes.
 use Rattle.std.proofs.Common.{◌≡◌, ℕ, suc, zero, ◌+◌, ◌<◌, ◌≤◌, List, [], ◌∷◌, length, Bool, true, false, cond, not, refl, arith}
-use Rattle.std.specs.Prelude.{nat_lt, nat_le, ◌&&◌, ◌||◌}
+use Rattle.std.specs.Prelude.{nat_lt, ◌||◌}
 use Rattle.std.specs.List.{list_any}
 use Rattle.w16_reloc.specs.Sites.{Site, covers, meets, AreSound}
 use Rattle.w16_reloc.specs.Sound.{of_width}

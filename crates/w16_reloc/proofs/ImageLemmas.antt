@@ -1,5 +1,5 @@
 -- The values written one after another are the image, offset by offset.
-use Rattle.std.proofs.Common.{◌≡◌, ℕ, suc, zero, ◌+◌, ◌-◌, ◌<◌, ◌≤◌, List, [], ◌∷◌, ◌++◌, length, Bool, true, false, cond, refl, sym, ◌∙◌, ap, arith, get_or, drop}
+use Rattle.std.proofs.Common.{◌≡◌, ℕ, ◌+◌, ◌<◌, ◌≤◌, List, [], ◌∷◌, ◌++◌, length, Bool, true, false, refl, sym, ◌∙◌, arith, get_or, drop}
 use Rattle.std.proofs.lemmas.List.{drop_more}
 use Rattle.std.specs.Prelude.{nat_lt, nat_le, ◌&&◌, ◌||◌}
 use Rattle.std.specs.List.{list_any}
@@ -10,7 +10,7 @@ use Rattle.w16_reloc.specs.declared.value.Far.{Far}
 use Rattle.w16_reloc.specs.Sites.{Site, covers, meets, AreSound}
 use Rattle.w16_reloc.specs.Sound.{Names, AreNamed, IsSound, of_width, width_of, all_sites, chain_width, value_width}
 use Rattle.w16_reloc.specs.Images.{Patch, byte, stored_at, added_at, patches_of, patches, image_at, IsImage, value_of, moved, found_at}
-use Rattle.w16_reloc.specs.Apply.{over, over_each, joined, IsFileOutside, IsReady, IsWritten, IsOpen}
+use Rattle.w16_reloc.specs.Apply.{over, over_each, joined, IsReady, IsWritten, IsOpen}
 use Rattle.w16_reloc.proofs.SiteLemmas.{any_meets}
 use Rattle.w16_reloc.proofs.WalkLemmas.{over_each_same, chain_narrow, value_narrow}
 

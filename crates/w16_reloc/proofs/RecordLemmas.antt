@@ -1,13 +1,12 @@
 -- One record's values, written.
-use Rattle.std.proofs.Common.{◌≡◌, ℕ, ◌+◌, ◌<◌, ◌≤◌, List, [], ◌∷◌, length, false, refl, sym, ◌∙◌, ap, arith}
-use Rattle.std.specs.Prelude.{◌||◌}
+use Rattle.std.proofs.Common.{◌≡◌, ℕ, ◌+◌, ◌≤◌, List, length, false, refl, ◌∙◌, ap, arith}
 use Rattle.std.specs.List.{list_any}
 use Rattle.w16_reloc.specs.declared.record.Part.{Part}
 use Rattle.w16_reloc.specs.declared.record.Part.TheVariants.{LowByte, Selector, Pointer, Offset}
 use Rattle.w16_reloc.specs.declared.record.Fixup.{Fixup}
 use Rattle.w16_reloc.specs.declared.record.Record.TheVariants.{Stored, Added, System}
 use Rattle.w16_reloc.specs.declared.value.Far.{Far}
-use Rattle.w16_reloc.specs.Sites.{Site, covers, meets}
+use Rattle.w16_reloc.specs.Sites.{Site, meets}
 use Rattle.w16_reloc.specs.Sound.{of_width, chain_width, value_width}
 use Rattle.w16_reloc.specs.Images.{byte, stored_at, value_of, found_at, moved}
 use Rattle.w16_reloc.specs.Apply.{over, over_each, joined, IsFileOutside, IsWalked, IsReady, IsWritten}

@@ -1,17 +1,15 @@
 -- A check passes exactly where a segment is sound.
-use Rattle.std.proofs.Common.{◌≡◌, ◌≢◌, ℕ, suc, zero, ◌+◌, ◌*◌, ◌<◌, ◌≤◌, List, [], ◌∷◌, ◌++◌, length, Bool, true, false, cond, Option, Some, None, Result, Ok, Err, refl, sym, ◌∙◌, ap, arith}
+use Rattle.std.proofs.Common.{◌≡◌, ◌≢◌, ℕ, suc, zero, ◌+◌, ◌*◌, ◌<◌, ◌≤◌, List, [], ◌∷◌, ◌++◌, length, Bool, true, false, cond, Option, Some, None, Result, Ok, Err, refl, ap, arith}
 use Rattle.std.specs.Prelude.{nat_lt, nat_eq}
 use Rattle.std.specs.List.{list_any}
 use Rattle.w16_ne.specs.Reading.{word_of}
 use Rattle.w16_reloc.specs.declared.fault.RelocFault.{RelocFault}
 use Rattle.w16_reloc.specs.declared.fault.RelocFault.TheVariants.{BadRecord, SiteOutside, Overlap}
-use Rattle.w16_reloc.specs.declared.record.Part.{Part}
-use Rattle.w16_reloc.specs.declared.record.Part.TheVariants.{LowByte, Selector, Pointer, Offset}
 use Rattle.w16_reloc.specs.declared.record.Record.{Record}
 use Rattle.w16_reloc.specs.declared.record.Record.TheVariants.{Stored, Added, System}
 use Rattle.w16_reloc.specs.Sites.{Site, meets, AreSound}
-use Rattle.w16_reloc.specs.Records.{Offer, record_at, is_named, IsRecord}
-use Rattle.w16_reloc.specs.Sound.{IsChain, Names, AreNamed, of_width, width_of, chain_width, value_width, all_sites, IsSound, AreRecords, IsSoundSegment}
+use Rattle.w16_reloc.specs.Records.{Offer, record_at, is_named}
+use Rattle.w16_reloc.specs.Sound.{IsChain, Names, AreNamed, of_width, width_of, chain_width, value_width, all_sites, AreRecords, IsSoundSegment}
 use Rattle.w16_reloc.specs.Check.{◌>>=◌, site_at, chain_at, sites_at, formed, check_from}
 use Rattle.w16_reloc.specs.Apply.{joined}
 use Rattle.w16_reloc.proofs.ChainLemmas.{fits}

@@ -1,6 +1,6 @@
 -- A chain that is written over, site by site.
-use Rattle.std.proofs.Common.{◌≡◌, ℕ, suc, zero, ◌+◌, ◌-◌, ◌<◌, ◌≤◌, List, [], ◌∷◌, length, Bool, true, false, cond, refl, sym, ◌∙◌, ap, arith, get_or, ◌⊎◌, inl, inr}
-use Rattle.std.specs.Prelude.{nat_lt, nat_le, nat_eq, ◌&&◌, ◌||◌}
+use Rattle.std.proofs.Common.{◌≡◌, ℕ, ◌+◌, ◌-◌, ◌<◌, ◌≤◌, List, [], ◌∷◌, length, Bool, true, false, cond, refl, sym, ◌∙◌, ap, arith, get_or, ◌⊎◌, inl, inr}
+use Rattle.std.specs.Prelude.{nat_lt, nat_le, ◌&&◌, ◌||◌}
 use Rattle.std.specs.List.{list_any}
 use Rattle.w16_ne.specs.Reading.{word_of}
 use Rattle.w16_reloc.specs.declared.record.Part.{Part}
@@ -9,7 +9,7 @@ use Rattle.w16_reloc.specs.declared.value.Far.{Far}
 use Rattle.w16_reloc.specs.Sites.{Site, covers, meets, AreSound}
 use Rattle.w16_reloc.specs.Sound.{IsChain, of_width, chain_width, value_width}
 use Rattle.w16_reloc.specs.Images.{Patch, byte, stored_at, value_of}
-use Rattle.w16_reloc.specs.Apply.{over, over_each, joined, IsFileOutside, IsWalked}
+use Rattle.w16_reloc.specs.Apply.{over, over_each, IsFileOutside, IsWalked}
 use Rattle.w16_reloc.proofs.SiteLemmas.{any_meets}
 
 pub chain_narrow : (part : Part) (far : Far) → length (value_of part far) ≤ chain_width part

@@ -1,5 +1,5 @@
 -- What a relocated segment holds.
-use Rattle.std.specs.Prelude.{◌≡◌, ℕ, ◌+◌, ◌-◌, ◌%◌, ◌/◌, List, [], ◌∷◌, ◌++◌, length, take, drop, nat_lt, nat_le, ◌&&◌, Bool, if◌then◌else◌, slice_index}
+use Rattle.std.specs.Prelude.{◌≡◌, ℕ, ◌+◌, ◌-◌, ◌%◌, ◌/◌, List, [], ◌∷◌, ◌++◌, length, nat_lt, nat_le, ◌&&◌, if◌then◌else◌, slice_index}
 use Rattle.w16_ne.specs.Reading.{word_of}
 use Rattle.w16_reloc.specs.declared.record.Part.{Part}
 use Rattle.w16_reloc.specs.declared.record.Part.TheVariants.{LowByte, Selector, Pointer, Offset}

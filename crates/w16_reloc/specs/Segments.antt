@@ -1,5 +1,5 @@
 -- A segment of a module's file, and what a check of it answers.
-use Rattle.std.specs.Prelude.{◌≡◌, ℕ, ◌+◌, ◌*◌, ◌<◌, ◌≤◌, List, [], length, take, drop, Option, Some, Result, Ok, Err, nat_lt, ◌&&◌, Bool, slice_index}
+use Rattle.std.specs.Prelude.{◌≡◌, ℕ, ◌+◌, ◌*◌, ◌<◌, ◌≤◌, List, [], length, take, drop, Some, Result, Ok, Err, nat_lt, ◌&&◌, Bool, slice_index}
 use Rattle.w16_store.specs.declared.store.StoreFault.{StoreFault}
 use Rattle.w16_store.specs.declared.store.StoreFault.TheVariants as stores
 use Rattle.w16_ne.specs.declared.segment_table.Segment.{Segment}

@@ -67,7 +67,12 @@ pub fn names_at<S: Store>(store: &mut S, name: &[u8], header: &[u8]) -> Result<u
 
 /// How many records stand behind the data that end at an offset, by their count there.
 #[tactic(auto, unfolding(w16_ne::specs::Segments::records_at))]
-pub fn count_at<S: Store>(store: &mut S, name: &[u8], flags: u16, end: u64) -> Result<u16, RelocFault>
+pub fn count_at<S: Store>(
+    store: &mut S,
+    name: &[u8],
+    flags: u16,
+    end: u64,
+) -> Result<u16, RelocFault>
     ensures files { S.files store.new ≡ S.files store.old }
     ensures failures { S.failures store.old ≤ S.failures store.new }
     ensures exact { (file : List ℕ) (count : ℕ) → S.is_honest → file_of (S.files store.old) name.now ≡ Some file → records_at (Some file) flags end ≡ Ok count

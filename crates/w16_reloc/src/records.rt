@@ -55,7 +55,7 @@ fn read_record<S: Store>(
     ensures failures { S.failures store.old ≤ S.failures store.new }
     ensures exact { (file : List ℕ) → S.is_honest → file_of (S.files store.old) name.now ≡ Some file
         → Answers (λ r. r) (S.failures store.old) (S.failures store.new) result
-            (formed (offer_at file offered.now.segments offered.now.references offered.now.names) (record_at offered.now.segments offered.now.references table.now at)) }
+        (formed (offer_at file offered.now.segments offered.now.references offered.now.names) (record_at offered.now.segments offered.now.references table.now at)) }
 {
     let Some(found) = record_at(offered.segments, offered.references, table, at) else {
         return Err(RelocFault::BadRecord);
@@ -94,7 +94,7 @@ pub fn check_records<S: Store>(
     ensures capacity { vec_capacity records.new ≡ vec_capacity records.old }
     ensures exact { (file : List ℕ) → S.is_honest → file_of (S.files store.old) name.now ≡ Some file → AreMarks [] marks.old
         → Answers (λ _. records.new.items) (S.failures store.old) (S.failures store.new) result
-            (check_from (offer_at file offered.now.segments offered.now.references offered.now.names) bytes.now table.now count 0 []) }
+        (check_from (offer_at file offered.now.segments offered.now.references offered.now.names) bytes.now table.now count 0 []) }
 {
     for i in 0..count {
         let found = read_record(store, name, offered, table, 8 * usize::from(i))?;

@@ -18,6 +18,7 @@ use w16_store::{Store, StoreFault};
 
 /// The most bytes of data that a segment has, and the most records.
 const MOST_BYTES: usize = 65_536;
+
 const MOST_RECORDS: usize = 65_535;
 
 /// Room for the data, the marks and the records of one segment of any size: of the one that was checked last.

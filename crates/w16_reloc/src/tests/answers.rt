@@ -2,7 +2,9 @@
 use crate::{Far, RelocFault};
 
 const EMPTY_HEADER: &str = "4d5a0000000000000000000000000000";
+
 const ZEROS: &str = "00000000000000000000000000000000";
+
 const PLACE: &str = "00000000000000000000000040000000";
 
 /// A library of two code segments. The first has a chain of far pointers at 1 and 6, and an offset at 0B that is added to, all of segment 2,

@@ -39,7 +39,10 @@ fn parts_are_written(rt: HostRuntime) -> Result<(), Fail> {
         };
         let mut bytes = bytes_of(rt.alloc(), &[before])?;
         apply(bytes.as_mut_slice(), &[relocation], &[FAR]);
-        assert!(rt; bytes.as_slice() == bytes_of(rt.alloc(), &[after])?.as_slice(), "{before}, {part:?}, {added}");
+        assert!(rt;
+            bytes.as_slice() == bytes_of(rt.alloc(), &[after])?.as_slice(),
+            "{before}, {part:?}, {added}"
+        );
     }
     Ok(())
 }

@@ -67,7 +67,10 @@ fn each_failed_read_is_told(rt: HostRuntime) -> Result<(), Fail> {
         if read == 7 {
             assert!(rt; answer == Ok(()));
         } else {
-            assert!(rt; answer == Err(RelocFault::Store(StoreFault::Device)), "read {read}: {answer:?}");
+            assert!(rt;
+                answer == Err(RelocFault::Store(StoreFault::Device)),
+                "read {read}: {answer:?}"
+            );
             assert!(rt; check(&mut store, b"FILE", &module, 1, &mut scratch) == Ok(()));
             assert!(rt; has_image(rt.alloc(), &scratch, &TAPP_TARGETS, TAPP_IMAGE)?);
         }

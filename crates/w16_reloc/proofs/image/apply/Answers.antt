@@ -1,4 +1,4 @@
-use Rattle.std.proofs.Common.{◌≡◌, ◌∙◌, [], length, drop, refl, arith}
+use Rattle.std.proofs.Common.{◌≡◌, ◌∙◌, [], drop, refl}
 use Rattle.std.proofs.Math.ListN.{drop_of_length-le}
 use Rattle.w16_reloc.specs.Images.{byte, patches}
 use Rattle.w16_reloc.specs.Apply.{over_each}

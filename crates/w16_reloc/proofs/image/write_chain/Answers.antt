@@ -1,4 +1,4 @@
-use Rattle.std.proofs.Common.{◌≡◌, ◌-◌, ◌+◌, ◌<◌, ◌⊎◌, inl, inr, ◌∙◌, sym, length, arith}
+use Rattle.std.proofs.Common.{◌≡◌, ◌-◌, ◌+◌, ◌<◌, ◌⊎◌, inl, inr, ◌∙◌, length, arith}
 use Rattle.w16_reloc.specs.Sound.{chain_width}
 use Rattle.w16_reloc.specs.Images.{value_of}
 use Rattle.w16_reloc.proofs.WalkLemmas.{walk_stops, walk_over, walk_on, chain_narrow, chain_wide}

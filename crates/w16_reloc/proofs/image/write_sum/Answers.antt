@@ -1,4 +1,4 @@
-use Rattle.std.proofs.Common.{◌≤◌, arith}
+use Rattle.std.proofs.Common.{arith}
 use Rattle.w16_reloc.proofs.RecordLemmas.{sum_inside, sum_written}
 use Rattle.w16_reloc.proofs.image.write_sum.Goals as goal
 

@@ -1,6 +1,5 @@
-use Rattle.std.proofs.Common.{◌≡◌, ◌≤◌, ◌+◌, ◌*◌, ◌∙◌, ℕ, List, [], arith}
+use Rattle.std.proofs.Common.{◌∙◌, [], arith}
 use Rattle.std.proofs.lemmas.Result.{err_from_is_err_and}
-use Rattle.w16_store.specs.Files.{file_of}
 use Rattle.w16_reloc.specs.Records.{Offer}
 use Rattle.w16_reloc.specs.Check.{check_from}
 use Rattle.w16_reloc.specs.Segments.{offer_at}
