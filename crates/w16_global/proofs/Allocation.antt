@@ -31,7 +31,7 @@ module _ {h : Holding} {xs : List (Option Attributes)} {t : selectors.Descriptor
   none_free (Some slot) none = tt
   none_free None none = λ slot free. none slot (free_selector h xs t are slot (subst (λ v. IsFreeSlot v slot) (sym shown) free))
 
--- What GlobalAlloc answers, from a handles in which nothing was moved last.
+-- What GlobalAlloc answers, from handles in which nothing was moved last.
 module _ (w : Handles) (flags slot size : ℕ) (new : Handles) (free : IsFreeSlot w slot) where
   -- an absent object
   pub answers_absent : size ≡ 0 → has_flag flags GMEM_MOVEABLE ≡ true → Enters w.heap slot (kind_asked flags) new.heap

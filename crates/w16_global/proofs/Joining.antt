@@ -25,7 +25,7 @@ good (Ok x) P heap h e = subst P (let same : x ≡ heap = cc in same) h
 good (Err x) P heap h e = cc
 
 module _ {h : Holding} {xs : List (Option Attributes)} {t : selectors.DescriptorTable} {m : ℕ} {w : Handles} (are : AreJoined h xs t) (shown : handles_of h xs m ≡ w) where
-  -- a slot's attributes are the handles's
+  -- a slot's attributes are those of the handles
   pub attributes_shown : (slot : ℕ) → get_or xs slot None ≡ finmap.get w.attributes slot
   attributes_shown slot = sym (attributes_at xs slot) ∙ ap (λ (v : Handles). finmap.get v.attributes slot) shown
 

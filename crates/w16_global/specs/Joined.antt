@@ -45,7 +45,7 @@ followed heap from to table slot = elim (finmap.get heap.places slot) [
 abbrev pub forgotten : List ℕ → selectors.DescriptorTable → ℕ → Option Descriptor
 forgotten ids table slot = if is_member slot ids then Some unset else descriptor_at table slot
 
--- what holds of them: they stand for a handles, whatever was moved last, and each selector says its object's base and limit
+-- what holds of them: they stand for handles, whatever was moved last, and each selector says its object's base and limit
 pub record AreJoined (holding : Holding) (attributes : List (Option Attributes)) (table : selectors.DescriptorTable) : Type 0 where
   pub handles : AreHandles (handles_of holding attributes 0)
   pub described : (slot : ℕ) → descriptor_at table slot ≡ described holding.heap slot

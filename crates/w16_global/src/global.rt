@@ -15,7 +15,7 @@ use std::marker::Model;
 use w16_model::{Attributes, FIRST_SLOT, GRAIN, Kind, MOST_SLOTS, Refusal, Way};
 use w16_selectors::{Descriptor, SelKind, Selectors};
 
-/// The global heap: objects that are named by handles, and whose bytes are reached through selectors. Its value is the handles of handles.
+/// The global heap: objects that are named by handles, and whose bytes are reached through selectors. Its value is `Handles`.
 #[derive(Drop)]
 pub struct Global16 {
     pub(crate) objects: Objects,
