@@ -233,8 +233,8 @@ impl Global16 {
         self.moved as u64
     }
 
-    /// How many bytes of the memory were slid, filled or written by far accesses so far; the count stops at the largest `u64`. The handles of
-    /// handles has no such count, so no clause tells it here: `w16_arena` and `w16_region` say what each step adds (profile).
+    /// How many bytes of the memory were slid, filled or written by far accesses so far; the count stops at the largest `u64`. `Handles`
+    /// has no such count, so no clause tells it here: `w16_arena` and `w16_region` say what each step adds (profile).
     pub fn written(&self) -> u64 {
         self.objects.written()
     }
