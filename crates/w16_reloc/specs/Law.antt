@@ -1,0 +1,26 @@
+-- What the definitions of relocation come to.
+use Rattle.std.specs.Prelude.{◌≡◌, ℕ, List, [], length, Ok}
+use Rattle.w16_reloc.specs.declared.record.Record.{Record}
+use Rattle.w16_reloc.specs.declared.value.Far.{Far}
+use Rattle.w16_reloc.specs.Records.{Offer}
+use Rattle.w16_reloc.specs.Sound.{IsSound, IsSoundSegment}
+use Rattle.w16_reloc.specs.Check.{check_from}
+use Rattle.w16_reloc.specs.Images.{byte, patches, image_at, IsImage}
+use Rattle.w16_reloc.specs.Apply.{over_each}
+
+-- A check that passes has found a sound segment, and passes every sound one.
+abbrev pub PassedLaw : Type 0
+PassedLaw = (offer : Offer) (bytes table : List ℕ) (count : ℕ) (records : List Record) → check_from offer bytes table count 0 [] ≡ Ok records → IsSoundSegment offer bytes table count records
+
+abbrev pub SoundLaw : Type 0
+SoundLaw = (offer : Offer) (bytes table : List ℕ) (count : ℕ) (records : List Record) → IsSoundSegment offer bytes table count records → check_from offer bytes table count 0 [] ≡ Ok records
+
+-- The values of a sound segment, written one after another, are the image offset by offset.
+abbrev pub WrittenLaw : Type 0
+WrittenLaw = (file : List ℕ) (records : List Record) (values : List Far) (named : List (List ℕ)) (o : ℕ) → length records ≡ length values → IsSound file records named
+    → over_each (patches file records values named) (byte file) o ≡ image_at (patches file records values named) (byte file) o
+
+-- A segment that is fetched twice has the same bytes.
+abbrev pub FetchedLaw : Type 0
+FetchedLaw = (file : List ℕ) (records : List Record) (values : List Far) (named others : List (List ℕ)) (first second : List ℕ) → IsSound file records named → IsSound file records others
+    → IsImage file records values named first → IsImage file records values others second → length first ≡ length second → first ≡ second

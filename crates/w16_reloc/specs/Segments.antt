@@ -1,0 +1,64 @@
+-- A segment of a module's file, and what a check of it answers.
+use Rattle.std.specs.Prelude.{◌≡◌, ℕ, ◌+◌, ◌*◌, ◌<◌, ◌≤◌, List, [], length, take, drop, Some, Result, Ok, Err, nat_lt, ◌&&◌, Bool, slice_index}
+use Rattle.w16_store.specs.declared.store.StoreFault.{StoreFault}
+use Rattle.w16_store.specs.declared.store.StoreFault.TheVariants as stores
+use Rattle.w16_ne.specs.declared.segment_table.Segment.{Segment}
+use Rattle.w16_ne.specs.Reading.{dword_of}
+use Rattle.w16_ne.specs.Header.{imported_names}
+use Rattle.w16_ne.specs.Segments.{records_at}
+use Rattle.w16_ne.specs.Modules.{Tables}
+use Rattle.w16_reloc.specs.declared.fault.RelocFault.{RelocFault}
+use Rattle.w16_reloc.specs.declared.fault.RelocFault.TheVariants as faults
+use Rattle.w16_reloc.specs.declared.record.Record.{Record}
+use Rattle.w16_reloc.specs.Records.{Offer}
+use Rattle.w16_reloc.specs.Check.{◌>>=◌, check_from}
+
+-- a length byte at an offset and the text behind it lie in the file
+abbrev pub has_text_at : List ℕ → ℕ → Bool
+has_text_at file at = nat_lt at (length file) && nat_lt (at + slice_index file at) (length file)
+
+-- what a module offers whose imported names begin at an offset of its file
+abbrev pub offer_at : List ℕ → ℕ → ℕ → ℕ → Offer
+offer_at file segments references names = record { segments = segments; references = references; has_name = λ name. has_text_at file (names + name) }
+
+-- the imported names' place: their offset counts from the header, to which the double word at 3C points (volume 4)
+abbrev pub names_at : List ℕ → List ℕ → ℕ
+names_at file header = dword_of (take 4 (drop 0x3c file)) 0 + imported_names header
+
+abbrev pub offer_of : List ℕ → Tables → Offer
+offer_of file tables = offer_at file (length tables.segments) (length tables.references) (names_at file tables.header)
+
+-- a segment's data in the file, and its records: directly behind the data and their count
+abbrev pub data_of : List ℕ → Segment → List ℕ
+data_of file s = take s.len (drop s.place file)
+
+abbrev pub records_of : List ℕ → Segment → List ℕ
+records_of file s = take (8 * s.records) (drop (s.place + s.len + 2) file)
+
+-- a segment without data has no records; the data and the records of any other lie in the file
+abbrev pub LiesIn : List ℕ → Segment → Type 0
+LiesIn file s = (s.len ≡ 0 → s.records ≡ 0) × (0 < s.len → (s.place + s.len ≤ length file) × (records_at (Some file) s.flags (s.place + s.len) ≡ Ok s.records))
+
+-- what a scratch holds
+pub record Held : Type 0 where
+  pub bytes : List ℕ
+  pub records : List Record
+
+-- the check of a segment: its data and records, or the first fault
+unfoldable pub checked : List ℕ → Tables → Segment → Result Held RelocFault
+checked file tables s = do
+  records ← check_from (offer_of file tables) (data_of file s) (records_of file s) s.records 0 []
+  Ok (record { bytes = data_of file s; records = records })
+
+-- What a call answered, seen by view, is this. A fault of the store is the device's alone, and then its count of failures rose.
+abbrev pub IsFailure : ℕ → ℕ → StoreFault → Type 0
+IsFailure before after stores.Device = before < after
+IsFailure before after other = ⊥
+
+abbrev pub Refuses : {Y : Type 0} → ℕ → ℕ → RelocFault → Result Y RelocFault → Type 0
+Refuses before after (faults.Store e) said = IsFailure before after e
+Refuses before after e said = said ≡ Err e
+
+abbrev pub Answers : {X Y : Type 0} → (X → Y) → ℕ → ℕ → Result X RelocFault → Result Y RelocFault → Type 0
+Answers view before after (Ok x) said = said ≡ Ok (view x)
+Answers view before after (Err e) said = Refuses before after e said

@@ -1,0 +1,18 @@
+//! The laws of relocation's definitions. Each function does nothing: its contract is the law.
+ghost use Rattle.w16_reloc.specs.Law.{PassedLaw, SoundLaw, WrittenLaw, FetchedLaw};
+
+/// A check says yes exactly where a segment is sound, and tells its records.
+pub fn sound_segments_pass()
+    ensures passed { PassedLaw }
+    ensures sound { SoundLaw }
+{}
+
+/// What is written link by link is the image, offset by offset.
+pub fn writes_the_image()
+    ensures { WrittenLaw }
+{}
+
+/// Two fetches of a segment have the same bytes.
+pub fn fetches_are_equal()
+    ensures { FetchedLaw }
+{}

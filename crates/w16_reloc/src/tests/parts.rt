@@ -1,0 +1,56 @@
+//! Each part of a far pointer, stored over a chain and added at one site.
+use super::bytes_of;
+use crate::{Far, Fixup, Part, Record, Target, apply};
+use std::test::Fail;
+
+const TARGET: Target = Target::Entry { ordinal: 1 };
+
+/// The far pointer 1234:FE80.
+const FAR: Far = Far {
+    selector: 0x1234,
+    offset: 0xfe80,
+};
+
+/// The bytes of a segment, whether the value is added, the part and its offset, and the bytes afterwards.
+const ROWS: [(&str, bool, Part, u16, &str); 9] = [
+    ("0300aaffffaa", false, Part::LowByte, 0, "8000aa80ffaa"),
+    ("0300aaffffaa", false, Part::Offset, 0, "80feaa80feaa"),
+    ("0300aaffffaa", false, Part::Selector, 0, "3412aa3412aa"),
+    ("aaffff0000aa", false, Part::Pointer, 1, "aa80fe3412aa"),
+    ("aaffff0000aa", false, Part::Pointer, 0xffff, "aaffff0000aa"),
+    ("aa0000000090", true, Part::LowByte, 5, "aa0000000010"),
+    ("aa90010000aa", true, Part::Offset, 1, "aa10000000aa"),
+    ("aa90010000aa", true, Part::Selector, 1, "aa34120000aa"),
+    ("aa90010000aa", true, Part::Pointer, 1, "aa10003412aa"),
+];
+
+#[test]
+fn parts_are_written(rt: HostRuntime) -> Result<(), Fail> {
+    for (before, added, part, offset, after) in ROWS {
+        let fixup = Fixup {
+            part,
+            offset,
+            target: TARGET,
+        };
+        let relocation = if added {
+            Record::Added(fixup)
+        } else {
+            Record::Stored(fixup)
+        };
+        let mut bytes = bytes_of(rt.alloc(), &[before])?;
+        apply(bytes.as_mut_slice(), &[relocation], &[FAR]);
+        assert!(rt;
+            bytes.as_slice() == bytes_of(rt.alloc(), &[after])?.as_slice(),
+            "{before}, {part:?}, {added}"
+        );
+    }
+    Ok(())
+}
+
+#[test]
+fn system_fixups_are_not_applied(rt: HostRuntime) -> Result<(), Fail> {
+    let mut bytes = bytes_of(rt.alloc(), &["aaffff0000aa"])?;
+    apply(bytes.as_mut_slice(), &[Record::System], &[FAR]);
+    assert!(rt; bytes.as_slice() == bytes_of(rt.alloc(), &["aaffff0000aa"])?.as_slice());
+    Ok(())
+}

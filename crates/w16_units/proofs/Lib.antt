@@ -1,0 +1,14 @@
+pub mod Place
+pub mod Remove
+pub mod Cells
+pub mod Ordered
+pub mod Tables
+pub mod Free
+pub mod Step
+pub mod Keeping
+pub mod After
+pub mod Shift
+pub mod Slid
+pub mod Shifting
+pub mod Next
+pub mod Walk

@@ -1,0 +1,4 @@
+pub mod Layout
+pub mod Kept
+pub mod Stay
+pub mod Sample
