@@ -1,88 +1,149 @@
--- What taking a block away keeps.
-use Rattle.std.proofs.Common.{ℕ, ◌≡◌, ◌≢◌, ◌<◌, ◌≤◌, List, [], ◌∷◌, length, set, cond, eqb, arith, refl, sym, subst, ap, inl, inr}
+-- What taking a block away keeps of a list.
+use Rattle.std.proofs.Common.{ℕ, ◌≡◌, ◌≢◌, ◌+◌, ◌<◌, ◌≤◌, ◌==◌, true, false, List, [], ◌∷◌, Some, None, is_some, sum_by, arith, refl, sym, subst, ap, ◌∙◌, inl, inr}
 use Rattle.std.proofs.lemmas.Bool.Decides.{eqb_tells}
-use Rattle.std.proofs.lemmas.Bool.{lt-ltb, le-ltb, ne_eqb}
-use Rattle.std.proofs.lemmas.List.{get_or-set_same, get_or-set_other}
-use Rattle.std.specs.List.{AllByRecursion, remove}
+use Rattle.std.proofs.lemmas.Bool.{ne_eqb, false≢true}
+use Rattle.std.proofs.lemmas.List.Sums.{sum_by-cons}
+use Rattle.std.specs.List.{AllByRecursion}
 use Rattle.w16_model.specs.declared.Block.{Block}
 use Rattle.w16_model.specs.Gap.{IsLaid, block_end}
-use Rattle.w16_blocks.specs.Layout.{rank, all_but, AreNamed, IsGrained}
-use Rattle.w16_blocks.specs.Representation.{IsKept, block_kept_for, no_block}
-use Rattle.w16_blocks.proofs.Find.{entry_from}
+use Rattle.w16_model.specs.Table.{block_with}
+use Rattle.w16_model.proofs.Gaps.{Each-map}
+use Rattle.w16_model.proofs.Laid.{laid_each}
+use Rattle.w16_blocks.specs.Layout.{IsApart, placed, all_but, replaced, AreNamed}
+use Rattle.w16_blocks.proofs.Place.{placed_first, placed_after}
+
+pub all_but_same : (id : ℕ) (c : Block) (cs : List Block) → (c.id == id) ≡ true → all_but id (c ∷ cs) ≡ all_but id cs
+all_but_same id c cs e = rw e refl
+
+pub all_but_other : (id : ℕ) (c : Block) (cs : List Block) → (c.id == id) ≡ false → all_but id (c ∷ cs) ≡ c ∷ all_but id cs
+all_but_other id c cs e = rw e refl
 
 pub all_but_absent : (id : ℕ) (bs : List Block) → AllByRecursion (λ c. c.id ≢ id) bs → all_but id bs ≡ bs
 all_but_absent id [] all = refl
-all_but_absent id (b ∷ bs) all = rw (ne_eqb b.id id all.0) (ap (λ ys. b ∷ ys) (all_but_absent id bs all.1))
+all_but_absent id (b ∷ bs) all = all_but_other id b bs (ne_eqb b.id id all.0) ∙ ap (λ ys. b ∷ ys) (all_but_absent id bs all.1)
 
-pub remove-rank : (low high cap id : ℕ) (x : Block) (bs : List Block) → IsLaid low high bs → AreNamed cap bs → block_kept_for id bs ≡ x → 0 < x.size → remove bs (rank x.at bs) ≡ all_but id bs
-remove-rank low high cap id x [] laid named e known = let f = ap (λ (y : Block). y.size) e in absurd (omega arith)
-remove-rank low high cap id x (b ∷ bs) laid named e known =
+-- the rest of a list whose first is the id's
+pub rest_differs : (cap id : ℕ) (b : Block) (bs : List Block) → b.id ≡ id → AreNamed cap (b ∷ bs) → AllByRecursion (λ c. c.id ≢ id) bs
+rest_differs cap id b bs same named = subst (λ (k : ℕ). AllByRecursion (λ c. c.id ≢ k) bs) same named.1
+
+-- the id's block, or another first
+pub with_same : (id : ℕ) (b : Block) (bs : List Block) → (b.id == id) ≡ true → block_with (b ∷ bs) id ≡ Some b
+with_same id b bs e = rw e refl
+
+pub with_other : (id : ℕ) (b : Block) (bs : List Block) → (b.id == id) ≡ false → block_with (b ∷ bs) id ≡ block_with bs id
+with_other id b bs e = rw e refl
+
+-- an id that none has
+pub with_none : (id : ℕ) (bs : List Block) → AllByRecursion (λ c. c.id ≢ id) bs → block_with bs id ≡ None
+with_none id [] all = refl
+with_none id (b ∷ bs) all = with_other id b bs (ne_eqb b.id id all.0) ∙ with_none id bs all.1
+
+-- from a lower bound on they are laid too
+pub IsLaid-from : (low low' high : ℕ) (bs : List Block) → low ≤ low' → IsLaid low' high bs → IsLaid low high bs
+IsLaid-from low low' high [] le laid = omega arith
+IsLaid-from low low' high (b ∷ bs) le laid = let from = laid.0 in (omega arith, laid.1, laid.2)
+
+pub IsLaid-all_but : (low high id : ℕ) (bs : List Block) → IsLaid low high bs → IsLaid low high (all_but id bs)
+IsLaid-all_but low high id [] laid = laid
+IsLaid-all_but low high id (b ∷ bs) laid =
+    let from = laid.0 in let size = laid.1 in
+    elim (eqb_tells b.id id) [
+      | inl same ↦ rw same.0 (IsLaid-from low (block_end b) high (all_but id bs) (omega arith) (IsLaid-all_but (block_end b) high id bs laid.2))
+      | inr other ↦ rw other.0 (from, size, IsLaid-all_but (block_end b) high id bs laid.2)
+    ]
+
+pub All-all_but : (P : Block → Type 0) (id : ℕ) (bs : List Block) → AllByRecursion P bs → AllByRecursion P (all_but id bs)
+All-all_but P id [] all = tt
+All-all_but P id (b ∷ bs) all = elim (eqb_tells b.id id) [
+  | inl same ↦ rw same.0 (All-all_but P id bs all.1)
+  | inr other ↦ rw other.0 (all.0, All-all_but P id bs all.1)
+]
+
+pub AreNamed-all_but : (cap id : ℕ) (bs : List Block) → AreNamed cap bs → AreNamed cap (all_but id bs)
+AreNamed-all_but cap id [] named = tt
+AreNamed-all_but cap id (b ∷ bs) named = elim (eqb_tells b.id id) [
+  | inl same ↦ rw same.0 (AreNamed-all_but cap id bs named.2)
+  | inr other ↦ rw other.0 (named.0, All-all_but (λ c. c.id ≢ b.id) id bs named.1, AreNamed-all_but cap id bs named.2)
+]
+
+-- an id's block is one of the blocks
+pub each_with : (P : Block → Type 0) (id : ℕ) (x : Block) (bs : List Block) → block_with bs id ≡ Some x → AllByRecursion P bs → P x
+each_with P id x [] e all = absurd (false≢true (ap is_some e))
+each_with P id x (b ∷ bs) e all = elim (eqb_tells b.id id) [
+  | inl same ↦ let f : Some b ≡ Some x = sym (with_same id b bs same.0) ∙ e in let g : b ≡ x = cc in subst P g all.0
+  | inr other ↦ each_with P id x bs (sym (with_other id b bs other.0) ∙ e) all.1
+]
+
+pub with_id : (id : ℕ) (x : Block) (bs : List Block) → block_with bs id ≡ Some x → x.id ≡ id
+with_id id x [] e = absurd (false≢true (ap is_some e))
+with_id id x (b ∷ bs) e = elim (eqb_tells b.id id) [
+  | inl same ↦ let f : Some b ≡ Some x = sym (with_same id b bs same.0) ∙ e in let g : b ≡ x = cc in subst (λ (y : Block). y.id ≡ id) g same.1
+  | inr other ↦ with_id id x bs (sym (with_other id b bs other.0) ∙ e)
+]
+
+pub sum-all_but : (cap : ℕ) (f : Block → ℕ) (id : ℕ) (x : Block) (bs : List Block) → AreNamed cap bs → block_with bs id ≡ Some x → sum_by f bs ≡ f x + sum_by f (all_but id bs)
+sum-all_but cap f id x [] named e = absurd (false≢true (ap is_some e))
+sum-all_but cap f id x (b ∷ bs) named e = elim (eqb_tells b.id id) [
+  | inl same ↦
+      let g : Some b ≡ Some x = sym (with_same id b bs same.0) ∙ e in let h : b ≡ x = cc in
+      let rest : all_but id (b ∷ bs) ≡ bs = all_but_same id b bs same.0 ∙ all_but_absent id bs (rest_differs cap id b bs same.1 named) in
+      sum_by-cons f b bs ∙ ap (λ (y : Block). f y + sum_by f bs) h ∙ ap (λ (ys : List Block). f x + sum_by f ys) (sym rest)
+  | inr other ↦
+      let ih = sum-all_but cap f id x bs named.2 (sym (with_other id b bs other.0) ∙ e) in
+      let old = sum_by-cons f b bs in
+      let rest : sum_by f (all_but id (b ∷ bs)) ≡ f b + sum_by f (all_but id bs) = ap (sum_by f) (all_but_other id b bs other.0) ∙ sum_by-cons f b (all_but id bs) in
+      omega arith
+]
+
+-- what holds of the id's block and of the others holds of each
+pub All-back : (cap : ℕ) (P : Block → Type 0) (id : ℕ) (x : Block) (bs : List Block) → AreNamed cap bs → block_with bs id ≡ Some x → P x → AllByRecursion P (all_but id bs) → AllByRecursion P bs
+All-back cap P id x [] named e p all = tt
+All-back cap P id x (b ∷ bs) named e p all = elim (eqb_tells b.id id) [
+  | inl same ↦
+      let f : Some b ≡ Some x = sym (with_same id b bs same.0) ∙ e in let g : b ≡ x = cc in
+      let rest : all_but id (b ∷ bs) ≡ bs = all_but_same id b bs same.0 ∙ all_but_absent id bs (rest_differs cap id b bs same.1 named) in
+      (subst P (sym g) p, subst (AllByRecursion P) rest all)
+  | inr other ↦
+      let all' : AllByRecursion P (b ∷ all_but id bs) = subst (AllByRecursion P) (all_but_other id b bs other.0) all in
+      (all'.0, All-back cap P id x bs named.2 (sym (with_other id b bs other.0) ∙ e) p all'.1)
+]
+
+-- the others share no byte with it
+pub others_apart : (lo hi cap id : ℕ) (x : Block) (bs : List Block) → IsLaid lo hi bs → AreNamed cap bs → block_with bs id ≡ Some x → AllByRecursion (λ c. IsApart x c) (all_but id bs)
+others_apart lo hi cap id x [] laid named e = tt
+others_apart lo hi cap id x (b ∷ bs) laid named e =
     elim (eqb_tells b.id id) [
       | inl same ↦
-          let f : b ≡ x = rw same.0 at e in let g = ap (λ (y : Block). y.at) f in
-          let same_id = same.1 in
-          let rest : AllByRecursion (λ c. c.id ≢ id) bs = subst (λ (k : ℕ). AllByRecursion (λ c. c.id ≢ k) bs) same_id named.1 in
-          rw (le-ltb b.at x.at (omega arith), same.0) (sym (all_but_absent id bs rest))
+          let f : Some b ≡ Some x = sym (with_same id b bs same.0) ∙ e in let g : b ≡ x = cc in
+          let rest : all_but id (b ∷ bs) ≡ bs = all_but_same id b bs same.0 ∙ all_but_absent id bs (rest_differs cap id b bs same.1 named) in
+          subst (AllByRecursion (IsApart x)) (sym rest) (subst (λ (y : Block). AllByRecursion (IsApart y) bs) g
+          (Each-map (λ y. (block_end b ≤ y.at) × (0 < y.size) × (block_end y ≤ hi)) (IsApart b) (λ y is. inl is.0) bs (laid_each (block_end b) hi bs laid.2)))
       | inr other ↦
-          let e' : block_kept_for id bs ≡ x = rw other.0 at e in
-          let above = entry_from (block_end b) high id x bs laid.2 e' known in
-          let size = laid.1 in
-          let below : b.at < x.at = omega arith in
-          rw (lt-ltb b.at x.at below, other.0) (ap (λ ys. b ∷ ys) (remove-rank (block_end b) high cap id x bs laid.2 named.2 e' known))
+          let e' : block_with bs id ≡ Some x = sym (with_other id b bs other.0) ∙ e in
+          let behind = (each_with (λ y. (block_end b ≤ y.at) × (0 < y.size) × (block_end y ≤ hi)) id x bs e' (laid_each (block_end b) hi bs laid.2)).0 in
+          subst (AllByRecursion (IsApart x)) (sym (all_but_other id b bs other.0)) (inr behind, others_apart (block_end b) hi cap id x bs laid.2 named.2 e')
     ]
 
--- from a lower bound on they are apart too
-pub IsLaid-from : (low low' high : ℕ) (bs : List Block) → low ≤ low' → IsLaid low' high bs → IsLaid low high bs
-IsLaid-from low low' high [] le apart = omega arith
-IsLaid-from low low' high (b ∷ bs) le apart = let from = apart.0 in (omega arith, apart.1, apart.2)
-
-pub IsLaid-without : (low high id : ℕ) (bs : List Block) → IsLaid low high bs → IsLaid low high (all_but id bs)
-IsLaid-without low high id [] apart = apart
-IsLaid-without low high id (b ∷ bs) apart =
-    let from = apart.0 in let size = apart.1 in
-    elim (eqb_tells b.id id) [
-      | inl same ↦ rw same.0 (IsLaid-from low (block_end b) high (all_but id bs) (omega arith) (IsLaid-without (block_end b) high id bs apart.2))
-      | inr other ↦ rw other.0 (from, size, IsLaid-without (block_end b) high id bs apart.2)
-    ]
-
-pub All-without : (P : Block → Type 0) (id : ℕ) (bs : List Block) → AllByRecursion P bs → AllByRecursion P (all_but id bs)
-All-without P id [] all = tt
-All-without P id (b ∷ bs) all = elim (eqb_tells b.id id) [
-  | inl same ↦ rw same.0 (All-without P id bs all.1)
-  | inr other ↦ rw other.0 (all.0, All-without P id bs all.1)
+pub others_differ : (id : ℕ) (bs : List Block) → AllByRecursion (λ c. c.id ≢ id) (all_but id bs)
+others_differ id [] = tt
+others_differ id (b ∷ bs) = elim (eqb_tells b.id id) [
+  | inl same ↦ rw same.0 (others_differ id bs)
+  | inr other ↦ rw other.0 (other.1, others_differ id bs)
 ]
 
-pub AreNamed-without : (room id : ℕ) (bs : List Block) → AreNamed room bs → AreNamed room (all_but id bs)
-AreNamed-without room id [] named = tt
-AreNamed-without room id (b ∷ bs) named = elim (eqb_tells b.id id) [
-  | inl same ↦ rw same.0 (AreNamed-without room id bs named.2)
-  | inr other ↦ rw other.0 (named.0, All-without (λ c. c.id ≢ b.id) id bs named.1, AreNamed-without room id bs named.2)
-]
-
-pub kept_for-all_but : (id q : ℕ) (bs : List Block) → block_kept_for q (all_but id bs) ≡ cond (eqb id q) no_block (block_kept_for q bs)
-kept_for-all_but id q [] = elim (eqb_tells id q) [ inl same ↦ rw same.0 refl | inr other ↦ rw other.0 refl ]
-kept_for-all_but id q (b ∷ bs) =
-    let ih = kept_for-all_but id q bs in
-    elim (eqb_tells b.id id) [
-      | inl same ↦ rw same.0 (elim (eqb_tells id q) [
-        | inl both ↦ rw both.0 (rw both.0 at ih)
-        | inr other ↦ let e : b.id ≢ q = λ h. other.1 (cc) in rw (other.0, ne_eqb b.id q e) (rw other.0 at ih)
-      ])
-      | inr apart ↦ rw apart.0 (elim (eqb_tells b.id q) [
-        | inl here ↦ let e : id ≢ q = λ h. apart.1 (cc) in rw (here.0, ne_eqb id q e) refl
-        | inr there ↦ rw there.0 ih
-      ])
+-- a block in place of itself
+pub replaced-itself : (lo hi cap : ℕ) (x : Block) (bs : List Block) → IsLaid lo hi bs → AreNamed cap bs → block_with bs x.id ≡ Some x → replaced x bs ≡ bs
+replaced-itself lo hi cap x [] laid named e = absurd (false≢true (ap is_some e))
+replaced-itself lo hi cap x (b ∷ bs) laid named e =
+    let size = laid.1 in
+    elim (eqb_tells b.id x.id) [
+      | inl same ↦
+          let f : Some b ≡ Some x = sym (with_same x.id b bs same.0) ∙ e in let g : b ≡ x = cc in
+          let rest : all_but x.id (b ∷ bs) ≡ bs = all_but_same x.id b bs same.0 ∙ all_but_absent x.id bs (rest_differs cap x.id b bs same.1 named) in
+          ap (placed x) rest ∙ placed_first x bs (Each-map (λ y. (block_end b ≤ y.at) × (0 < y.size) × (block_end y ≤ hi)) (λ y. x.at ≤ y.at) (λ y is. let from = is.0 in let place = ap (λ (c : Block). c.at) g in omega arith) bs (laid_each (block_end b) hi bs laid.2))
+          ∙ ap (λ (c : Block). c ∷ bs) (sym g)
+      | inr other ↦
+          let e' : block_with bs x.id ≡ Some x = sym (with_other x.id b bs other.0) ∙ e in
+          let behind = (each_with (λ y. (block_end b ≤ y.at) × (0 < y.size) × (block_end y ≤ hi)) x.id x bs e' (laid_each (block_end b) hi bs laid.2)).0 in
+          ap (placed x) (all_but_other x.id b bs other.0) ∙ placed_after x b (all_but x.id bs) (omega arith) ∙ ap (λ (cs : List Block). b ∷ cs) (replaced-itself (block_end b) hi cap x bs laid.2 named.2 e')
     ]
-
-pub IsKept-all_but : (cap low high grain : ℕ) (slots : List Block) (id : ℕ) (bs : List Block)
-    → length slots ≡ cap → id < cap → IsKept cap low high grain slots bs → IsKept cap low high grain (set slots id no_block) (all_but id bs)
-IsKept-all_but cap low high grain slots id bs long lt kept = record {
-  laid = IsLaid-without low high id bs kept.laid;
-  named = AreNamed-without cap id bs kept.named;
-  grained = All-without (IsGrained grain) id bs kept.grained;
-  from = kept.from;
-  table = λ q below. rw (kept_for-all_but id q bs) (elim (eqb_tells id q) [
-    | inl same ↦ rw same.0 (let e = same.1 in rw (← e) (get_or-set_same slots id no_block no_block (omega arith)))
-    | inr other ↦ rw other.0 (let ne : q ≢ id = λ e. other.1 (sym e) in rw (get_or-set_other slots id q no_block no_block ne) (kept.table q below))
-  ]);
-}

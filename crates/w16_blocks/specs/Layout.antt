@@ -1,9 +1,11 @@
 -- Blocks between two bounds, by address.
-use Rattle.std.specs.Prelude.{ℕ, suc, ◌<◌, ◌≤◌, ◌≢◌, ◌==◌, ◌^◌, nat_lt, not, if◌then◌else◌, List, [], ◌∷◌, length}
+use Rattle.std.specs.Prelude.{ℕ, suc, ◌<◌, ◌≤◌, ◌≢◌, ◌==◌, ◌^◌, nat_lt, not, if◌then◌else◌, List, [], ◌∷◌, length, drop}
 use Rattle.std.specs.List.{AllByRecursion, filter}
 use Rattle.w16_model.specs.declared.Block.{Block}
-use Rattle.w16_model.specs.Gap.{block_end, Misses, IsLaid}
+use Rattle.w16_model.specs.declared.Span.{Span}
+use Rattle.w16_model.specs.Gap.{block_end, Misses, IsLaid, holes}
 use Rattle.w16_model.specs.Heap.{IsMultiple}
+use Rattle.w16_holes.specs.Holes.{Range}
 
 -- what a list of blocks is: its ids are below `cap`, its blocks lie in [lo, hi) at multiples of the grain, listed by address
 pub record Layout : Type 0 where
@@ -12,6 +14,14 @@ pub record Layout : Type 0 where
   pub hi : ℕ
   pub grain : ℕ
   pub blocks : List Block
+
+-- the range that the blocks lie in
+abbrev pub range_of : Layout → Range
+range_of l = record { lo = l.lo; hi = l.hi; grain = l.grain }
+
+-- the holes between the blocks
+abbrev pub holes_of : Layout → List Span
+holes_of l = holes l.lo l.hi l.blocks
 
 -- a block at a multiple of the grain, of a size that is one
 abbrev pub IsGrained : ℕ → Block → Type 0
@@ -39,6 +49,10 @@ pub record IsOrdered (l : Layout) : Type 0 where
 abbrev pub rank : ℕ → List Block → ℕ
 rank at [] = 0
 rank at (b ∷ bs) = if nat_lt b.at at then suc (rank at bs) else 0
+
+-- the blocks that begin at an address or above
+abbrev pub from_address : ℕ → List Block → List Block
+from_address at bs = drop (rank at bs) bs
 
 -- the blocks with one more, in its place by address
 abbrev pub placed : Block → List Block → List Block

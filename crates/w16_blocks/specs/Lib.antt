@@ -1,2 +1,4 @@
 pub mod Layout
-pub mod Representation
+pub mod Kept
+pub mod Stay
+pub mod Sample

@@ -1,17 +1,22 @@
-//! The blocks of a heap by address, at most one for each id, and the holes between them: look-up by id in constant time, by address in
-//! logarithmic time. No call but the constructor takes memory, and none is refused.
+//! The blocks of a heap, at most one for each id: an id's in one step, the next by address in a few, and the holes between them behind
+//! a trait. No call but the constructor takes memory, and none is refused.
 #![tactic(auto)]
 
-ghost use Rattle.std.specs.Prelude.{◌≡◌, ◌≢◌, ◌+◌, ◌-◌, ◌^◌, ◌<◌, ◌≤◌, ◌==◌, List, ℕ, [], ◌∷◌, length, IfOk, IsSome, IfSome, vec_len, slice_get, nat_le};
+ghost use Rattle.std.specs.Prelude.{◌≡◌, ◌≢◌, ◌+◌, ◌-◌, ◌*◌, ◌^◌, ◌<◌, ◌≤◌, ◌==◌, List, ℕ, [], ◌∷◌, length, IfOk, IsSome, IfSome, vec_len, slice_get, nat_le, sum_by, Some, if◌then◌else◌};
 ghost use Rattle.std.specs.Option.{option_map, ForSome};
-ghost use Rattle.std.specs.List.{find};
+ghost use Rattle.w16_model.specs.Heap.{IsMultiple};
+ghost use Rattle.w16_blocks.specs.Stay as stay;
 
-mod search;
+mod by_address;
+#[cfg(test)]
+mod tests;
 
-use search::{lower_bound, lowest_hole, stays};
+pub use by_address::ByAddress;
 use std::alloc::{AllocError, Global};
 use std::marker::Model;
+use w16_holes::{HoleList, Holes};
 pub use w16_model::{Block, Hold, Span};
+use w16_region::Space;
 
 /// What the table has for an id without a block.
 const NO_BLOCK: Block = Block {
@@ -21,51 +26,99 @@ const NO_BLOCK: Block = Block {
     hold: Hold::Loose,
 };
 
-/// Blocks by address, at most one for each id. No call but `with_room` takes memory.
+/// Blocks between two bounds, at most one for each id, and the holes between them. No call but `with_room` takes memory.
 #[derive(Drop)]
-pub struct Blocks {
-    blocks: Vec<Block>,
+pub struct Blocks<H: HoleList> {
+    /// By id, the block of no bytes where an id has none.
     slots: Vec<Block>,
+    /// By unit of grain from `lo` on: one more than the id of the block that begins there, or 0.
+    begins: Vec<u32>,
+    /// The bytes that no block has.
+    free: u32,
+    holes: H,
     lo: u32,
     hi: u32,
     grain: u32,
 }
 
-impl Model for Blocks {
-    ghost use Rattle.std.specs.Prelude.{◌<◌, ◌≤◌, ◌^◌, vec_len, vec_capacity};
+impl<H: HoleList> Model for Blocks<H> {
     ghost use Rattle.w16_blocks.specs.Layout.{Layout};
-    ghost use Rattle.w16_blocks.specs.Representation.{IsKept};
+    ghost use Rattle.w16_blocks.specs.Kept.{layout_in, IsKept};
+    ghost use Rattle.std.specs.Prelude.{vec_len};
 
     ghost Value = { Layout };
 
-    ghost view = { λ s. record { cap = vec_len s.slots; lo = s.lo; hi = s.hi; grain = s.grain; blocks = s.blocks.items } };
+    ghost view = { λ s. layout_in (vec_len s.slots) s.lo s.hi s.grain s.slots.items s.begins.items };
 
-    ghost invariant = { λ s. (vec_len s.slots ≤ vec_capacity s.blocks) × ((vec_len s.slots < 2 ^ 32) × (s.hi < 2 ^ 32)) × IsKept (vec_len s.slots) s.lo s.hi s.grain s.slots.items s.blocks.items };
+    ghost invariant = { λ s. IsKept (vec_len s.slots) s.lo s.hi s.grain s.slots.items s.begins.items s.free (H.range s.holes) (H.holes s.holes) };
 }
 
-impl Blocks {
-    ghost use Rattle.w16_model.specs.Table.{block_with};
-    ghost use Rattle.w16_model.specs.Heap.{IsMultiple};
-    ghost use Rattle.w16_model.specs.Gap.{holes, hole_after, block_end};
-    ghost use Rattle.w16_blocks.specs.Layout.{Layout, Fits, placed, all_but, replaced, FitsFor, IsOrdered, rank};
+/// In which unit a place lies that begins one.
+fn unit_of(place: u32, lo: u32, grain: u32) -> usize
+    requires some { 0 < grain }
+    requires from { lo ≤ place }
+    requires low { IsMultiple grain lo }
+    requires grained { IsMultiple grain place }
+    ensures { place ≡ lo + grain * result }
+{
+    ((place - lo) / grain) as usize
+}
 
-    /// No blocks yet, between `lo` and `hi`, with ids below `cap`, at multiples of the grain.
+/// What the `size` bytes at a place have beyond those at another.
+fn beyond(other: u32, place: u32, size: u32) -> Span
+    requires other { other + size < 2 ^ 32 }
+    requires place { place + size < 2 ^ 32 }
+    ensures { result ≡ stay.beyond other place size }
+{
+    if place < other {
+        Span {
+            from: place,
+            to: other.min(place + size),
+        }
+    } else {
+        Span {
+            from: place.max(other + size),
+            to: place + size,
+        }
+    }
+}
+
+impl<H: HoleList> Blocks<H> {
+    ghost use Rattle.w16_model.specs.Table.{block_with};
+    ghost use Rattle.w16_model.specs.Gap.{hole_after, block_end};
+    ghost use Rattle.w16_holes.specs.Holes.{lowest, longest, add_span, AreSameOutside};
+    ghost use Rattle.w16_model.specs.Bytes.{part};
+    ghost use Rattle.w16_region.specs.Bytes.{counted};
+    ghost use Rattle.w16_blocks.specs.Stay.{AreSameOutsideBoth, AreSameBut};
+    ghost use Rattle.w16_blocks.specs.Layout.{Layout, IsOrdered, Fits, FitsFor, placed, all_but, replaced, rank, holes_of};
+
+    /// No blocks yet, between `lo` and `hi`, with ids below `cap`, at multiples of the grain, over holes of which all that is one. All the
+    /// memory that the blocks ever have is taken here; fails where there is not enough.
     pub fn with_room(
         alloc: Global,
         cap: u32,
+        holes: H,
         lo: u32,
         hi: u32,
         grain: u32,
-    ) -> Result<Blocks, AllocError>
+    ) -> Result<Blocks<H>, AllocError>
+    where
+        H: Drop,
         requires bounds { lo ≤ hi }
+        requires some { 0 < grain }
         requires grained { IsMultiple grain lo }
+        requires range { H.range holes ≡ record { lo = lo; hi = hi; grain = grain } }
+        requires whole { H.holes holes ≡ add_span lo hi [] }
         ensures { IfOk result (λ made. made ≡ record { cap = cap; lo = lo; hi = hi; grain = grain; blocks = [] }) }
     {
-        let blocks = Vec::with_capacity(alloc, cap as usize)?;
+        let units = ((hi - lo) / grain) as usize + 1;
         let slots = vec![in alloc; NO_BLOCK; cap as usize]?;
+        let begins = vec![in alloc; 0; units]?;
         Ok(Blocks {
-            blocks,
             slots,
+            begins,
+            free: hi - lo,
+            holes,
             lo,
             hi,
             grain,
@@ -82,74 +135,177 @@ impl Blocks {
         if block.size == 0 { None } else { Some(block) }
     }
 
-    /// Adds a block.
-    pub fn insert(&mut self, block: Block)
-        requires { Fits self.old block }
+    /// The block of an id that has one.
+    fn block_of(&self, id: u32) -> Block
+        requires id { id < self.now.cap }
+        requires known { IsSome (block_with self.now.blocks id) }
+        ensures known { block_with self.now.blocks id ≡ Some result }
+        ensures ordered { IsOrdered self.now }
+    {
+        self.slots[id as usize]
+    }
+
+    /// Adds a block, whose bytes are taken from a hole. Bytes outside the holes stay.
+    pub fn insert<S: Space>(&mut self, space: &mut S, block: Block)
+    where
+        H: Holes<S>,
+        requires fits { Fits self.old block }
+        requires kept { H.are_in (holes_of self.old) (S.bytes space.old) }
         ensures value { self.new ≡ record self.old { blocks = placed block self.old.blocks } }
         ensures ordered { IsOrdered self.new }
+        ensures kept { H.are_in (holes_of self.new) (S.bytes space.new) }
+        ensures bytes { AreSameOutside (holes_of self.old) (S.bytes space.old) (S.bytes space.new) }
+        ensures written { S.written space.new ≡ S.written space.old }
+        ensures lenders { S.lenders space.new ≡ S.lenders space.old }
     {
-        let i = lower_bound(&self.blocks, block.at);
+        let unit = unit_of(block.at, self.lo, self.grain);
+        self.holes.take(space, block.at, block.size);
         self.slots[block.id as usize] = block;
-        if self.blocks.insert(i, block).is_err() {
-            unreachable!();
-        }
+        self.begins[unit] = block.id + 1;
+        self.free -= block.size;
     }
 
-    /// Takes an id's block away.
-    pub fn remove(&mut self, id: u32)
+    /// Takes an id's block away, whose bytes join the holes. Bytes outside the holes that are then stay.
+    pub fn remove<S: Space>(&mut self, space: &mut S, id: u32)
+    where
+        H: Holes<S>,
         requires id { id < self.old.cap }
         requires known { IsSome (block_with self.old.blocks id) }
+        requires kept { H.are_in (holes_of self.old) (S.bytes space.old) }
         ensures value { self.new ≡ record self.old { blocks = all_but id self.old.blocks } }
         ensures ordered { IsOrdered self.new }
+        ensures kept { H.are_in (holes_of self.new) (S.bytes space.new) }
+        ensures bytes { AreSameOutside (holes_of self.new) (S.bytes space.old) (S.bytes space.new) }
+        ensures written { S.written space.new ≡ S.written space.old }
+        ensures lenders { S.lenders space.new ≡ S.lenders space.old }
     {
-        let old = self.slots[id as usize];
-        let i = lower_bound(&self.blocks, old.at);
+        let block = self.block_of(id);
+        let unit = unit_of(block.at, self.lo, self.grain);
+        self.holes.put(space, block.at, block.size);
         self.slots[id as usize] = NO_BLOCK;
-        self.blocks.remove(i);
+        self.begins[unit] = 0;
+        self.free += block.size;
     }
 
-    /// Puts a block in place of the one of its id.
-    fn replace(&mut self, block: Block)
-        requires known { IsSome (block_with self.old.blocks block.id) }
-        requires fits { FitsFor self.old block }
-        ensures value { self.new ≡ record self.old { blocks = replaced block self.old.blocks } }
-        ensures ordered { IsOrdered self.new }
-    {
-        let old = self.slots[block.id as usize];
-        let i = lower_bound(&self.blocks, old.at);
-        if stays(&self.blocks, i, block.at) {
-            self.blocks[i] = block;
-            self.slots[block.id as usize] = block;
-            return;
-        }
-        self.remove(block.id);
-        self.insert(block);
-    }
-
-    /// Moves an id's block to a place that meets no other block.
-    pub fn shift(&mut self, id: u32, to: u32)
-        requires id { id < self.old.cap }
-        requires known { IsSome (block_with self.old.blocks id) }
-        requires fits { ForSome (block_with self.old.blocks id) (λ b. FitsFor self.old (record b { at = to })) }
-        ensures value { IfSome (block_with self.old.blocks id) (λ b. self.new ≡ record self.old { blocks = replaced (record b { at = to }) self.old.blocks }) }
-        ensures ordered { IsOrdered self.new }
-    {
-        if let Some(block) = self.find(id) {
-            self.replace(Block { at: to, ..block });
-        }
-    }
-
-    /// Gives an id's block another size, with which it meets no other block.
-    pub fn resize(&mut self, id: u32, size: u32)
+    /// Gives an id's block another size, with which it meets no other block. What it has more is taken from the hole behind it, and what it
+    /// has less joins the holes. Bytes outside the holes of before and after stay.
+    pub fn resize<S: Space>(&mut self, space: &mut S, id: u32, size: u32)
+    where
+        H: Holes<S>,
         requires id { id < self.old.cap }
         requires known { IsSome (block_with self.old.blocks id) }
         requires fits { ForSome (block_with self.old.blocks id) (λ b. FitsFor self.old (record b { size = size })) }
+        requires kept { H.are_in (holes_of self.old) (S.bytes space.old) }
         ensures value { IfSome (block_with self.old.blocks id) (λ b. self.new ≡ record self.old { blocks = replaced (record b { size = size }) self.old.blocks }) }
         ensures ordered { IsOrdered self.new }
+        ensures kept { H.are_in (holes_of self.new) (S.bytes space.new) }
+        ensures bytes { AreSameOutsideBoth (holes_of self.old) (holes_of self.new) (S.bytes space.old) (S.bytes space.new) }
+        ensures written { S.written space.new ≡ S.written space.old }
+        ensures lenders { S.lenders space.new ≡ S.lenders space.old }
     {
-        if let Some(block) = self.find(id) {
-            self.replace(Block { size, ..block });
+        let block = self.block_of(id);
+        if block.size < size {
+            self.grow(space, block, size)
+        } else if size < block.size {
+            self.shrink(space, block, size)
         }
+    }
+
+    /// Gives a block a larger size.
+    fn grow<S: Space>(&mut self, space: &mut S, block: Block, size: u32)
+    where
+        H: Holes<S>,
+        requires known { block_with self.old.blocks block.id ≡ Some block }
+        requires more { block.size < size }
+        requires fits { FitsFor self.old (record block { size = size }) }
+        requires kept { H.are_in (holes_of self.old) (S.bytes space.old) }
+        ensures value { self.new ≡ record self.old { blocks = replaced (record block { size = size }) self.old.blocks } }
+        ensures ordered { IsOrdered self.new }
+        ensures kept { H.are_in (holes_of self.new) (S.bytes space.new) }
+        ensures bytes { AreSameOutside (holes_of self.old) (S.bytes space.old) (S.bytes space.new) }
+        ensures written { S.written space.new ≡ S.written space.old }
+        ensures lenders { S.lenders space.new ≡ S.lenders space.old }
+    {
+        let more = size - block.size;
+        self.holes.take(space, block.at + block.size, more);
+        self.free -= more;
+        self.slots[block.id as usize] = Block { size, ..block };
+    }
+
+    /// Gives a block a smaller size.
+    fn shrink<S: Space>(&mut self, space: &mut S, block: Block, size: u32)
+    where
+        H: Holes<S>,
+        requires known { block_with self.old.blocks block.id ≡ Some block }
+        requires less { size < block.size }
+        requires fits { FitsFor self.old (record block { size = size }) }
+        requires kept { H.are_in (holes_of self.old) (S.bytes space.old) }
+        ensures value { self.new ≡ record self.old { blocks = replaced (record block { size = size }) self.old.blocks } }
+        ensures ordered { IsOrdered self.new }
+        ensures kept { H.are_in (holes_of self.new) (S.bytes space.new) }
+        ensures bytes { AreSameOutside (holes_of self.new) (S.bytes space.old) (S.bytes space.new) }
+        ensures written { S.written space.new ≡ S.written space.old }
+        ensures lenders { S.lenders space.new ≡ S.lenders space.old }
+    {
+        let less = block.size - size;
+        self.holes.put(space, block.at + size, less);
+        self.free += less;
+        self.slots[block.id as usize] = Block { size, ..block };
+    }
+
+    /// Moves an id's block to a place that meets no other block, its bytes with it: what the new place has beyond the old one is taken from
+    /// the holes, and what the old one has beyond the new joins them. Its size counts as written, once, where it moves. Bytes outside the
+    /// holes of before and after stay, but for those of the new place.
+    pub fn shift<S: Space>(&mut self, space: &mut S, id: u32, to: u32)
+    where
+        H: Holes<S>,
+        requires id { id < self.old.cap }
+        requires known { IsSome (block_with self.old.blocks id) }
+        requires fits { ForSome (block_with self.old.blocks id) (λ b. FitsFor self.old (record b { at = to })) }
+        requires kept { H.are_in (holes_of self.old) (S.bytes space.old) }
+        requires inside { self.old.hi ≤ length (S.bytes space.old) }
+        ensures value { IfSome (block_with self.old.blocks id) (λ b. self.new ≡ record self.old { blocks = replaced (record b { at = to }) self.old.blocks }) }
+        ensures ordered { IsOrdered self.new }
+        ensures kept { H.are_in (holes_of self.new) (S.bytes space.new) }
+        ensures contents { IfSome (block_with self.old.blocks id) (λ b. part (S.bytes space.new) to b.size ≡ part (S.bytes space.old) b.at b.size) }
+        ensures bytes { IfSome (block_with self.old.blocks id) (λ b. AreSameBut to b.size (holes_of self.old) (holes_of self.new) (S.bytes space.old) (S.bytes space.new)) }
+        ensures written { IfSome (block_with self.old.blocks id) (λ b. S.written space.new ≡ (if to == b.at then S.written space.old else counted (S.written space.old) b.size)) }
+        ensures lenders { S.lenders space.new ≡ S.lenders space.old }
+    {
+        let block = self.block_of(id);
+        if to != block.at {
+            self.relocate(space, block, to)
+        }
+    }
+
+    /// Moves a block to another place.
+    fn relocate<S: Space>(&mut self, space: &mut S, block: Block, to: u32)
+    where
+        H: Holes<S>,
+        requires known { block_with self.old.blocks block.id ≡ Some block }
+        requires another { to ≢ block.at }
+        requires fits { FitsFor self.old (record block { at = to }) }
+        requires kept { H.are_in (holes_of self.old) (S.bytes space.old) }
+        requires inside { self.old.hi ≤ length (S.bytes space.old) }
+        ensures value { self.new ≡ record self.old { blocks = replaced (record block { at = to }) self.old.blocks } }
+        ensures ordered { IsOrdered self.new }
+        ensures kept { H.are_in (holes_of self.new) (S.bytes space.new) }
+        ensures contents { part (S.bytes space.new) to block.size ≡ part (S.bytes space.old) block.at block.size }
+        ensures bytes { AreSameBut to block.size (holes_of self.old) (holes_of self.new) (S.bytes space.old) (S.bytes space.new) }
+        ensures written { S.written space.new ≡ counted (S.written space.old) block.size }
+        ensures lenders { S.lenders space.new ≡ S.lenders space.old }
+    {
+        let from_unit = unit_of(block.at, self.lo, self.grain);
+        let to_unit = unit_of(to, self.lo, self.grain);
+        let entered = beyond(block.at, to, block.size);
+        let left = beyond(to, block.at, block.size);
+        self.holes
+            .take(space, entered.from, entered.to - entered.from);
+        space.slide(block.at, to, block.size);
+        self.holes.put(space, left.from, left.to - left.from);
+        self.begins[from_unit] = 0;
+        self.begins[to_unit] = block.id + 1;
+        self.slots[block.id as usize] = Block { at: to, ..block };
     }
 
     /// Pins an id's block or lets it loose. Its place and size stay.
@@ -159,72 +315,82 @@ impl Blocks {
         ensures value { IfSome (block_with self.old.blocks id) (λ b. self.new ≡ record self.old { blocks = replaced (record b { hold = hold }) self.old.blocks }) }
         ensures ordered { IsOrdered self.new }
     {
-        if let Some(block) = self.find(id) {
-            self.replace(Block { hold, ..block });
-        }
-    }
-
-    /// The length of the hole directly after an id's block, 0 where there is none.
-    pub fn free_after(&self, id: u32) -> u32
-        requires id { id < self.now.cap }
-        requires known { IsSome (block_with self.now.blocks id) }
-        ensures value { IfSome (block_with self.now.blocks id) (λ b. result ≡ hole_after self.now.hi self.now.blocks (block_end b)) }
-        ensures ordered { IsOrdered self.now }
-    {
-        match self.find(id) {
-            Some(block) => self.free_from(block.at + block.size),
-            None => 0,
-        }
-    }
-
-    /// The bytes from a place up to the next block, or to the end.
-    fn free_from(&self, from: u32) -> u32
-        requires { from ≤ self.now.hi }
-        ensures { result ≡ hole_after self.now.hi self.now.blocks from }
-    {
-        match self.at_index(self.rank(from)) {
-            Some(next) => next.at - from,
-            None => self.hi - from,
-        }
+        let block = self.block_of(id);
+        self.slots[id as usize] = Block { hold, ..block };
     }
 
     /// Where the lowest hole of at least `n` bytes begins. Each hole has a byte, so for 0 it is the lowest there is.
-    pub fn hole_for(&self, n: u32) -> Option<u32>
-        ensures value { result ≡ option_map (λ s. s.from) (find (λ s. nat_le n (s.to - s.from)) (holes self.now.lo self.now.hi self.now.blocks)) }
+    pub fn hole_for<S: Space>(&self, space: &S, n: u32) -> Option<u32>
+    where
+        H: Holes<S>,
+        requires { H.are_in (holes_of self.now) (S.bytes space.now) }
+        ensures value { result ≡ lowest n (holes_of self.now) }
         ensures ordered { IsOrdered self.now }
     {
-        lowest_hole(&self.blocks, self.lo, self.hi, n.max(1))
+        self.holes.lowest(space, n)
     }
 
-    /// The i-th block by address.
-    pub fn at_index(&self, i: usize) -> Option<Block>
-        ensures value { result ≡ slice_get self.now.blocks i }
+    /// The length of the longest hole, 0 where there is none.
+    pub fn longest<S: Space>(&self, space: &S) -> u32
+    where
+        H: Holes<S>,
+        requires { H.are_in (holes_of self.now) (S.bytes space.now) }
+        ensures value { result ≡ longest (holes_of self.now) }
         ensures ordered { IsOrdered self.now }
     {
-        self.blocks.get(i).copied()
+        self.holes.longest(space)
     }
 
-    /// The blocks by address.
-    pub fn as_slice(&self) -> &[Block]
-        ensures value { result.now ≡ self.now.blocks }
+    /// The length of the hole directly after an id's block, 0 where there is none.
+    pub fn free_after<S: Space>(&self, space: &S, id: u32) -> u32
+    where
+        H: Holes<S>,
+        requires id { id < self.now.cap }
+        requires known { IsSome (block_with self.now.blocks id) }
+        requires kept { H.are_in (holes_of self.now) (S.bytes space.now) }
+        ensures value { IfSome (block_with self.now.blocks id) (λ b. result ≡ hole_after self.now.hi self.now.blocks (block_end b)) }
         ensures ordered { IsOrdered self.now }
     {
-        &self.blocks
+        let block = self.block_of(id);
+        self.holes.at(space, block.at + block.size)
     }
 
-    /// How many blocks begin below an address.
-    pub fn rank(&self, at: u32) -> usize
-        ensures value { result ≡ rank at self.now.blocks }
+    /// The first block that begins at an address or above.
+    pub fn next_from<S: Space>(&self, space: &S, at: u32) -> Option<Block>
+    where
+        H: Holes<S>,
+        requires { H.are_in (holes_of self.now) (S.bytes space.now) }
+        ensures value { result ≡ slice_get self.now.blocks (rank at self.now.blocks) }
         ensures ordered { IsOrdered self.now }
     {
-        lower_bound(&self.blocks, at)
+        let mut unit = at.saturating_sub(self.lo).div_ceil(self.grain) as usize;
+        while unit < self.begins.len() {
+            let begin = self.begins[unit] as usize;
+            if begin > 0 {
+                return Some(self.slots[begin - 1]);
+            }
+            // Nothing begins in a hole, so it is passed in one step.
+            let hole = self.holes.at(space, self.lo + unit as u32 * self.grain);
+            unit += (hole / self.grain).max(1) as usize;
+        }
+        None
     }
 
-    /// How many blocks there are.
-    pub fn len(&self) -> usize
-        ensures { result ≡ length self.now.blocks }
+    /// The blocks by address, each found from the end of the one before.
+    pub fn by_address<'a, S: Space>(&'a self, space: &'a S) -> ByAddress<'a, S, H>
+    where
+        H: Holes<S>,
+        ensures blocks { result.blocks.now ≡ self.now }
+        ensures space { result.space.now ≡ space.now }
+        ensures from { result.from ≡ 0 }
+        ensures ordered { IsOrdered self.now }
     {
-        self.blocks.len()
+        let _ = &self.free;
+        ByAddress {
+            blocks: self,
+            space,
+            from: 0,
+        }
     }
 
     /// The bounds inside which the blocks lie.
@@ -243,5 +409,12 @@ impl Blocks {
         ensures { result ≡ self.now.cap }
     {
         self.slots.len() as u32
+    }
+
+    /// The bytes that no block has.
+    pub fn free(&self) -> u32
+        ensures { result ≡ self.now.hi - self.now.lo - sum_by (λ b. b.size) self.now.blocks }
+    {
+        self.free
     }
 }

@@ -1,11 +1,13 @@
 //! The lowest gap with room.
 ghost use Rattle.std.specs.Prelude.{◌≡◌, ◌+◌, ◌<◌, ◌≤◌, IsTrue, IsSome, IfSome, MatchOption};
 ghost use Rattle.w16_model.specs.Gap.{room, is_pinned};
-ghost use Rattle.w16_blocks.specs.Layout.{IsOrdered};
+ghost use Rattle.w16_blocks.specs.Layout.{IsOrdered, holes_of};
 ghost use Rattle.w16_compact.specs.Gap.{HasRoom, IsLowest};
 
 use crate::reach::Reached;
 use w16_blocks::{Block, Blocks, Hold};
+use w16_holes::Holes;
+use w16_region::Space;
 
 /// A gap: a longest interval without a byte of a pinned block. Addresses and sizes are in bytes.
 #[derive(Clone, Copy, Debug, PartialEq, Eq)]
@@ -20,8 +22,9 @@ pub struct Gap {
 
 /// The gap that has room for `n` bytes, at least one, beside its loose blocks: the lowest of those
 /// that have (profile). There is none exactly where the room is below `n`.
-pub fn gap_for(blocks: &Blocks, n: u32) -> Option<Gap>
-    requires { 0 < n }
+pub fn gap_for<S: Space, H: Holes<S>>(blocks: &Blocks<H>, space: &S, n: u32) -> Option<Gap>
+    requires some { 0 < n }
+    requires kept { H.are_in (holes_of blocks.now) (S.bytes space.now) }
     ensures found { MatchOption result
         (room blocks.now.lo blocks.now.hi blocks.now.blocks < n)
         (HasRoom blocks.now n) }
@@ -34,11 +37,11 @@ pub fn gap_for(blocks: &Blocks, n: u32) -> Option<Gap>
         low: bounds.from,
         loose: 0,
     };
-    for block in blocks.as_slice() {
-        if let Some(gap) = gap_before(reached, block, n) {
+    for block in blocks.by_address(space) {
+        if let Some(gap) = gap_before(reached, &block, n) {
             return Some(gap);
         }
-        reached = reached.passing(block);
+        reached = reached.passing(&block);
     }
     gap_to(reached, bounds.to, n)
 }

@@ -1,12 +1,14 @@
 //! How many discards make room.
 ghost use Rattle.std.specs.Prelude.{◌≡◌, ℕ, ◌+◌, ◌<◌, ◌≤◌, ◌||◌, ◌∷◌, false, length, take, drop, IfSome, MatchOption, slice_index_or};
 ghost use Rattle.w16_model.specs.Discards.{eligible, is_about, is_member, is_pinned_id, needed, room_for, snapshot};
-ghost use Rattle.w16_blocks.specs.Layout.{IsOrdered};
+ghost use Rattle.w16_blocks.specs.Layout.{IsOrdered, holes_of};
 
 use crate::reach::is_pinned;
 use crate::rooms::room;
 use w16_blocks::Blocks;
+use w16_holes::{HoleList, Holes};
 use w16_lru::Order;
+use w16_region::Space;
 
 /// The least number of discards, in the order of use, after which there is room for `n` bytes,
 /// where `h` isn't counted; none where no number makes room. What is locked, a pinned block, and
@@ -14,8 +16,9 @@ use w16_lru::Order;
 ///
 /// `marks` has one for each id, whatever they are before, and whatever the search leaves
 /// afterwards.
-pub fn least_prefix(
-    blocks: &Blocks,
+pub fn least_prefix<S: Space, H: Holes<S>>(
+    blocks: &Blocks<H>,
+    space: &S,
     order: &Order,
     marks: &mut [bool],
     h: Option<u32>,
@@ -24,24 +27,25 @@ pub fn least_prefix(
     requires marks { blocks.now.cap ≤ length marks.old }
     requires ids { order.now.cap ≤ blocks.now.cap }
     requires h { IfSome h (λ id. id < blocks.now.cap) }
+    requires kept { H.are_in (holes_of blocks.now) (S.bytes space.now) }
     ensures value { result
         ≡ needed (snapshot blocks.now.lo blocks.now.hi blocks.now.blocks order.now.ids) n h }
     ensures length { length marks.new ≡ length marks.old }
     ensures ordered { IsOrdered blocks.now }
 {
     let mut enough = order.len();
-    if room_after(blocks, order, marks, h, enough) < n {
+    if room_after(blocks, space, order, marks, h, enough) < n {
         return None;
     }
     // A compaction often needs none.
-    if room_after(blocks, order, marks, h, 0) >= n {
+    if room_after(blocks, space, order, marks, h, 0) >= n {
         return Some(0);
     }
     // More discards never leave less room, so halving finds where it becomes enough.
     let mut least = 0;
     while least < enough {
         let middle = least + (enough - least) / 2;
-        if room_after(blocks, order, marks, h, middle) < n {
+        if room_after(blocks, space, order, marks, h, middle) < n {
             least = middle + 1;
         } else {
             enough = middle;
@@ -52,8 +56,9 @@ pub fn least_prefix(
 
 /// The room after `k` discards, or after all where there are fewer to be made, where `h` isn't
 /// counted. `marks` are as for [`least_prefix`].
-pub fn room_after(
-    blocks: &Blocks,
+pub fn room_after<S: Space, H: Holes<S>>(
+    blocks: &Blocks<H>,
+    space: &S,
     order: &Order,
     marks: &mut [bool],
     h: Option<u32>,
@@ -62,17 +67,24 @@ pub fn room_after(
     requires marks { blocks.now.cap ≤ length marks.old }
     requires ids { order.now.cap ≤ blocks.now.cap }
     requires h { IfSome h (λ id. id < blocks.now.cap) }
+    requires kept { H.are_in (holes_of blocks.now) (S.bytes space.now) }
     ensures value { result
         ≡ room_for (snapshot blocks.now.lo blocks.now.hi blocks.now.blocks order.now.ids) k h }
     ensures length { length marks.new ≡ length marks.old }
     ensures ordered { IsOrdered blocks.now }
 {
     mark_first(blocks, order, marks, h, k);
-    room(blocks, marks)
+    room(blocks, space, marks)
 }
 
 /// Sets the marks of `h` and of the first `k` that may be discarded, and no others.
-fn mark_first(blocks: &Blocks, order: &Order, marks: &mut [bool], h: Option<u32>, k: usize)
+fn mark_first<H: HoleList>(
+    blocks: &Blocks<H>,
+    order: &Order,
+    marks: &mut [bool],
+    h: Option<u32>,
+    k: usize,
+)
     requires marks { blocks.now.cap ≤ length marks.old }
     requires ids { order.now.cap ≤ blocks.now.cap }
     requires h { IfSome h (λ id. id < blocks.now.cap) }
@@ -95,7 +107,12 @@ fn mark_first(blocks: &Blocks, order: &Order, marks: &mut [bool], h: Option<u32>
 }
 
 /// The i-th of the order, the oldest first, if a request about `h` may discard it.
-pub fn eligible_at(blocks: &Blocks, order: &Order, h: Option<u32>, i: usize) -> Option<u32>
+pub fn eligible_at<H: HoleList>(
+    blocks: &Blocks<H>,
+    order: &Order,
+    h: Option<u32>,
+    i: usize,
+) -> Option<u32>
     requires ids { order.now.cap ≤ blocks.now.cap }
     ensures id { IfSome result (λ id. id < blocks.now.cap) }
     ensures value { let here = eligible blocks.now.blocks (drop i order.now.ids) h in
@@ -123,7 +140,7 @@ fn mark_only(marks: &mut [bool], h: Option<u32>)
 }
 
 /// Whether an id has a block that keeps its address.
-fn is_pinned_id(blocks: &Blocks, id: u32) -> bool
+fn is_pinned_id<H: HoleList>(blocks: &Blocks<H>, id: u32) -> bool
     requires { id < blocks.now.cap }
     ensures { result ≡ is_pinned_id blocks.now.blocks id }
 {

@@ -1,17 +1,20 @@
 //! The room of blocks, some of them not counted.
 ghost use Rattle.std.specs.Prelude.{◌≡◌, ◌<◌, ◌≤◌, length};
 ghost use Rattle.w16_model.specs.Gap.{room};
-ghost use Rattle.w16_blocks.specs.Layout.{IsOrdered};
+ghost use Rattle.w16_blocks.specs.Layout.{IsOrdered, holes_of};
 ghost use Rattle.w16_compact.specs.Skip.{is_counted, counted_of};
 
 use crate::reach::{Reached, is_pinned};
 use w16_blocks::{Block, Blocks};
+use w16_holes::Holes;
+use w16_region::Space;
 
 /// The longest stretch that sliding can free, in bytes: the largest, over all gaps, of a gap's
 /// length less the bytes of its loose blocks, and 0 where there is no gap. The blocks whose ids are
 /// marked in `skip` are left out, pinned ones too: their bytes count as free.
-pub fn room(blocks: &Blocks, skip: &[bool]) -> u32
-    requires { blocks.now.cap ≤ length skip.now }
+pub fn room<S: Space, H: Holes<S>>(blocks: &Blocks<H>, space: &S, skip: &[bool]) -> u32
+    requires marks { blocks.now.cap ≤ length skip.now }
+    requires kept { H.are_in (holes_of blocks.now) (S.bytes space.now) }
     ensures value { result
         ≡ room blocks.now.lo blocks.now.hi (counted_of skip.now blocks.now.blocks) }
     ensures ordered { IsOrdered blocks.now }
@@ -22,14 +25,14 @@ pub fn room(blocks: &Blocks, skip: &[bool]) -> u32
         loose: 0,
     };
     let mut most = 0;
-    for block in blocks.as_slice() {
-        if !is_counted(block, skip) {
+    for block in blocks.by_address(space) {
+        if !is_counted(&block, skip) {
             continue;
         }
-        if is_pinned(block) {
+        if is_pinned(&block) {
             most = most.max(reached.room_to(block.at));
         }
-        reached = reached.passing(block);
+        reached = reached.passing(&block);
     }
     most.max(reached.room_to(bounds.to))
 }

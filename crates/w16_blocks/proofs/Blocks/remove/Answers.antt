@@ -1,49 +1,73 @@
-use Rattle.std.proofs.Common.{◌≡◌, sym, ◌∙◌, ap, arith, set}
-use Rattle.std.specs.List.{remove}
-use Rattle.w16_blocks.specs.Layout.{Layout, rank, all_but}
-use Rattle.w16_blocks.proofs.Rank.{IsRising-from_apart}
-use Rattle.w16_blocks.specs.Representation.{no_block}
-use Rattle.w16_blocks.proofs.Room.{ordered_of}
-use Rattle.w16_blocks.proofs.Remove.{IsKept-all_but}
-use Rattle.w16_blocks.proofs.Represented.{entry_known, found_rank, remove_found}
+use Rattle.std.proofs.Common.{◌≡◌, List, Some, arith, sym, ap, ◌∙◌, subst}
+use Rattle.w16_model.specs.declared.Span.{Span}
+use Rattle.w16_model.specs.declared.Block.{Block}
+use Rattle.w16_model.specs.Table.{block_with}
+use Rattle.w16_holes.specs.Holes.{AreSameOutside}
+use Rattle.w16_blocks.specs.Layout.{Layout, all_but}
+use Rattle.w16_blocks.specs.Kept.{layout_in}
+use Rattle.w16_blocks.proofs.Tables.{cell_at, unit_told, blocks_in-drop}
+use Rattle.w16_blocks.proofs.Step.{lies, grained_known}
+use Rattle.w16_blocks.proofs.Keeping.{part_kept, used_kept, with_size, IsKept-drop}
 use Rattle.w16_blocks.proofs.Blocks.remove.Goals as goal
 
-pub lower_bound-i-requires : goal.lower_bound-i-requires
-lower_bound-i-requires c = rw c.deref.ensures.value (IsRising-from_apart _ _ _ c.self.invariant.2.laid)
-
-pub remove-requires : goal.remove-requires
-remove-requires c =
+pub unit_of-unit-requires-clause-from : goal.unit_of-unit-requires-clause-from
+unit_of-unit-requires-clause-from g c =
     let s = c.self.inside in
-    let lt = rw (← c.self.view_is) at c.requires.id in
-    let known = entry_known s.slots.len s.lo s.hi s.grain s.slots.items s.blocks.items c.self.invariant.2 s.slots.ok.0 c.args.id lt c.index-old.result.now c.index-old.ensures (rw (← c.self.view_is) at c.requires.known) in
-    let h = found_rank s.slots.len s.lo s.hi s.grain s.slots.items s.blocks.items c.self.invariant.2 s.slots.ok.0 c.args.id lt c.index-old.result.now c.index-old.ensures known in
-    let e = c.lower_bound-i.ensures.value ∙ ap (rank c.index-old.result.now.at) c.deref.ensures.value in
-    let l = s.blocks.ok.0 in
-    omega arith
+    let known = subst (λ (l : Layout). block_with l.blocks c.args.id ≡ Some c.block_of-block.result) (sym c.self.view_is) c.block_of-block.ensures.known in
+    (lies (layout_in s.slots.len s.lo s.hi s.grain s.slots.items s.begins.items) c.args.id c.block_of-block.result known c.self.invariant.tables.ordered).0
 
-items_after : (c : goal.After-remove) → c.remove.new.self.items ≡ all_but c.args.id c.self.inside.blocks.items
-items_after c =
+pub unit_of-unit-requires-clause-grained : goal.unit_of-unit-requires-clause-grained
+unit_of-unit-requires-clause-grained g c =
     let s = c.self.inside in
-    let lt = rw (← c.self.view_is) at c.requires.id in
-    let known = entry_known s.slots.len s.lo s.hi s.grain s.slots.items s.blocks.items c.self.invariant.2 s.slots.ok.0 c.args.id lt c.index-old.result.now c.index-old.ensures (rw (← c.self.view_is) at c.requires.known) in
-    let e = c.lower_bound-i.ensures.value ∙ ap (rank c.index-old.result.now.at) c.deref.ensures.value in
-    c.remove.ensures.items ∙ ap (remove s.blocks.items) e ∙ remove_found s.slots.len s.lo s.hi s.grain s.slots.items s.blocks.items c.self.invariant.2 s.slots.ok.0 c.args.id lt c.index-old.result.now c.index-old.ensures known
+    let known = subst (λ (l : Layout). block_with l.blocks c.args.id ≡ Some c.block_of-block.result) (sym c.self.view_is) c.block_of-block.ensures.known in
+    (grained_known (layout_in s.slots.len s.lo s.hi s.grain s.slots.items s.begins.items) c.args.id c.block_of-block.result known c.self.invariant.tables.ordered).0
+
+pub put-requires-clause-part : goal.put-requires-clause-part
+put-requires-clause-part g c =
+    let s = c.self.inside in
+    let known = subst (λ (l : Layout). block_with l.blocks c.args.id ≡ Some c.block_of-block.result) (sym c.self.view_is) c.block_of-block.ensures.known in
+    part_kept s.slots.len s.lo s.hi s.grain s.slots.items s.begins.items s.free _ _ c.self.invariant s.slots.ok.0 c.args.id c.block_of-block.result known
+
+pub put-requires-clause-used : goal.put-requires-clause-used
+put-requires-clause-used g c =
+    let s = c.self.inside in
+    let known = subst (λ (l : Layout). block_with l.blocks c.args.id ≡ Some c.block_of-block.result) (sym c.self.view_is) c.block_of-block.ensures.known in
+    used_kept s.slots.len s.lo s.hi s.grain s.slots.items s.begins.items s.free _ _ c.self.invariant s.slots.ok.0 c.args.id c.block_of-block.result known
+
+pub index_mut-requires-2 : goal.index_mut-requires-2
+index_mut-requires-2 g c =
+    let s = c.self.inside in
+    let known = subst (λ (l : Layout). block_with l.blocks c.args.id ≡ Some c.block_of-block.result) (sym c.self.view_is) c.block_of-block.ensures.known in
+    let lt = unit_told s.slots.len s.lo s.hi s.grain s.slots.items s.begins.items c.self.invariant.tables s.slots.ok.0 c.args.id c.unit_of-unit.result (cell_at s.slots.len s.lo s.hi s.grain s.slots.items s.begins.items c.self.invariant.tables s.slots.ok.0 c.args.id c.block_of-block.result c.unit_of-unit.result known c.unit_of-unit.ensures) in
+    let length_is = s.begins.ok.0 in omega arith
+
+pub overflow_add-self : goal.overflow_add-self
+overflow_add-self g c =
+    let s = c.self.inside in
+    let known = subst (λ (l : Layout). block_with l.blocks c.args.id ≡ Some c.block_of-block.result) (sym c.self.view_is) c.block_of-block.ensures.known in
+    let le = with_size s.slots.len s.lo s.hi s.grain s.slots.items s.begins.items s.free _ _ c.self.invariant s.slots.ok.0 c.args.id c.block_of-block.result known in
+    let small = c.self.invariant.tables.ordered.small in record { fits = omega arith }
 
 pub invariant_of-self : goal.invariant_of-self
-invariant_of-self c =
+invariant_of-self g c =
     let s = c.self.inside in
-    let lt = rw (← c.self.view_is) at c.requires.id in
-    let kept = IsKept-all_but s.slots.len s.lo s.hi s.grain s.slots.items c.args.id s.blocks.items (sym s.slots.ok.0) lt c.self.invariant.2 in
-    let capacity = c.self.invariant.0 in
-    let same = c.remove.ensures.capacity in
-    (omega arith, c.self.invariant.1, rw (items_after c) kept)
+    let known = subst (λ (l : Layout). block_with l.blocks c.args.id ≡ Some c.block_of-block.result) (sym c.self.view_is) c.block_of-block.ensures.known in
+    let tells = cell_at s.slots.len s.lo s.hi s.grain s.slots.items s.begins.items c.self.invariant.tables s.slots.ok.0 c.args.id c.block_of-block.result c.unit_of-unit.result known c.unit_of-unit.ensures in
+    IsKept-drop s.slots.len s.lo s.hi s.grain s.slots.items s.begins.items s.free _ _ c.self.invariant s.slots.ok.0 c.args.id c.block_of-block.result known c.unit_of-unit.result _ _ tells c.put.ensures.range c.put.ensures.holes
 
 pub returns-clause-value : goal.returns-clause-value
-returns-clause-value c = rw (items_after c) (ap (λ (l : Layout). record { cap = l.cap; lo = l.lo; hi = l.hi; grain = l.grain; blocks = all_but c.args.id l.blocks }) c.self.view_is)
+returns-clause-value g c =
+    let s = c.self.inside in
+    let known = subst (λ (l : Layout). block_with l.blocks c.args.id ≡ Some c.block_of-block.result) (sym c.self.view_is) c.block_of-block.ensures.known in
+    let tells = cell_at s.slots.len s.lo s.hi s.grain s.slots.items s.begins.items c.self.invariant.tables s.slots.ok.0 c.args.id c.block_of-block.result c.unit_of-unit.result known c.unit_of-unit.ensures in
+    ap (λ (bs : List Block). record { cap = s.slots.len; lo = s.lo; hi = s.hi; grain = s.grain; blocks = bs }) (blocks_in-drop s.slots.len s.lo s.hi s.grain s.slots.items s.begins.items c.self.invariant.tables s.slots.ok.0 c.args.id c.unit_of-unit.result tells)
+    ∙ ap (λ (l : Layout). record { cap = l.cap; lo = l.lo; hi = l.hi; grain = l.grain; blocks = all_but c.args.id l.blocks }) c.self.view_is
 
 pub returns-clause-ordered : goal.returns-clause-ordered
-returns-clause-ordered c =
-    let s = c.self.inside in
-    let lt = rw (← c.self.view_is) at c.requires.id in
-    let kept = IsKept-all_but s.slots.len s.lo s.hi s.grain s.slots.items c.args.id s.blocks.items (sym s.slots.ok.0) lt c.self.invariant.2 in
-    ordered_of s.slots.len s.lo s.hi s.grain (set s.slots.items c.args.id no_block) c.remove.new.self.items (rw (items_after c) kept) c.self.invariant.1
+returns-clause-ordered g c = (invariant_of-self g c).tables.ordered
+
+pub returns-clause-kept : goal.returns-clause-kept
+returns-clause-kept g c = subst (λ (hs : List Span). g.H.Holes.are_in hs (g.S.Space.bytes c.put.new.space)) (invariant_of-self g c).between c.put.ensures.kept
+
+pub returns-clause-bytes : goal.returns-clause-bytes
+returns-clause-bytes g c = subst (λ (hs : List Span). AreSameOutside hs (g.S.Space.bytes c.args.space.now) (g.S.Space.bytes c.put.new.space)) (invariant_of-self g c).between c.put.ensures.bytes

@@ -1,0 +1,107 @@
+-- The first block from a place on, by the cells from a unit on.
+use Rattle.std.proofs.Common.{ℕ, zero, suc, ◌≡◌, ◌+◌, ◌-◌, ◌*◌, ◌/◌, ◌<◌, ◌≤◌, ◌⊎◌, max, List, [], ◌∷◌, length, drop, Some, None, arith, refl, ap, ◌∙◌, inl, inr}
+use Rattle.std.specs.Prelude.{slice_index, slice_get}
+use Rattle.std.proofs.lemmas.Bool.{cases_lt, lt-ltb, le-ltb}
+use Rattle.std.proofs.lemmas.Bool.Decides.{eqb_tells}
+use Rattle.std.specs.List.{AllByRecursion}
+use Rattle.w16_model.specs.declared.Block.{Block}
+use Rattle.w16_model.specs.declared.Span.{Span}
+use Rattle.w16_model.specs.Gap.{holes}
+use Rattle.w16_holes.specs.Holes.{length_at}
+use Rattle.w16_holes.specs.Law.{IsIn}
+use Rattle.std.specs.Int.{div_ceil}
+use Rattle.std.proofs.lemmas.Grind.{div_ceil_times}
+use Rattle.w16_holes.proofs.Units.{up, above}
+use Rattle.w16_blocks.specs.Layout.{rank}
+use Rattle.w16_blocks.specs.Kept.{slot_of, blocks_in, AreBegun, AreTables}
+use Rattle.w16_blocks.proofs.Cells.{All-told, each_told, begun_rest}
+use Rattle.w16_blocks.proofs.Free.{Lacks, free_lacks}
+
+pub rank_none : (at : ℕ) (bs : List Block) → AllByRecursion (λ c. at ≤ c.at) bs → rank at bs ≡ 0
+rank_none at [] all = refl
+rank_none at (b ∷ bs) all = rw (le-ltb b.at at all.0) refl
+
+pub rank_more : (at : ℕ) (b : Block) (bs : List Block) → b.at < at → rank at (b ∷ bs) ≡ suc (rank at bs)
+rank_more at b bs lt = rw (lt-ltb b.at at lt) refl
+
+pub rank_same : (at : ℕ) (b : Block) (bs : List Block) → at ≤ b.at → rank at (b ∷ bs) ≡ 0
+rank_same at b bs le = rw (le-ltb b.at at le) refl
+
+-- where the units below u lie below a place, and the others don't
+pub first_by_unit : (p g at : ℕ) (slots : List Block) (cells : List ℕ) (u : ℕ) → AreBegun p g slots cells → ((k : ℕ) → k < u → p + g * k < at) → ((k : ℕ) → u ≤ k → at ≤ p + g * k)
+    → slice_get (blocks_in slots cells) (rank at (blocks_in slots cells)) ≡ slice_get (blocks_in slots (drop u cells)) 0
+first_by_unit p g at slots cells zero begun less more =
+    ap (slice_get (blocks_in slots cells)) (rank_none at (blocks_in slots cells) (All-told (λ c. at ≤ c.at) slots cells (λ k id e. let place = (begun k id e).at in let above = more k (omega arith) in omega arith)))
+first_by_unit p g at slots [] (suc u) begun less more = refl
+first_by_unit p g at slots (zero ∷ cells) (suc u) begun less more =
+    first_by_unit (p + g) g at slots cells u (begun_rest p g 0 slots cells begun) (λ k lt. let below = less (suc k) (omega arith) in omega arith) (λ k le. let above = more (suc k) (omega arith) in omega arith)
+first_by_unit p g at slots (suc j ∷ cells) (suc u) begun less more =
+    let place = (begun 0 j refl).at in let below = less 0 (omega arith) in
+    ap (slice_get (slot_of slots j ∷ blocks_in slots cells)) (rank_more at (slot_of slots j) (blocks_in slots cells) (omega arith))
+    ∙ first_by_unit (p + g) g at slots cells u (begun_rest p g (suc j) slots cells begun) (λ k lt. let less_one = less (suc k) (omega arith) in omega arith) (λ k le. let more_one = more (suc k) (omega arith) in omega arith)
+
+-- a cell that tells none may be passed
+pass_one : (slots : List Block) (cells : List ℕ) (u : ℕ) → slice_index cells u ≡ 0 → blocks_in slots (drop u cells) ≡ blocks_in slots (drop (suc u) cells)
+pass_one slots [] zero clear = refl
+pass_one slots [] (suc u) clear = refl
+pass_one slots (zero ∷ cells) zero clear = refl
+pass_one slots (suc j ∷ cells) zero clear = absurd (omega arith)
+pass_one slots (c ∷ cells) (suc u) clear = pass_one slots cells u clear
+
+pub pass : (slots : List Block) (cells : List ℕ) (u n : ℕ) → ((k : ℕ) → u ≤ k → k < u + n → slice_index cells k ≡ 0) → blocks_in slots (drop u cells) ≡ blocks_in slots (drop (u + n) cells)
+pass slots cells u zero clear = let e : u ≡ u + 0 = omega arith in ap (λ (m : ℕ). blocks_in slots (drop m cells)) e
+pass slots cells u (suc n) clear =
+    let e : suc u + n ≡ u + suc n = omega arith in
+    pass_one slots cells u (clear u (omega arith) (omega arith)) ∙ pass slots cells (suc u) n (λ k from to. clear k (omega arith) (omega arith)) ∙ ap (λ (m : ℕ). blocks_in slots (drop m cells)) e
+
+-- a cell that tells a block has it first
+pub first_here : (slots : List Block) (cells : List ℕ) (u id : ℕ) → slice_index cells u ≡ suc id → slice_get (blocks_in slots (drop u cells)) 0 ≡ Some (slot_of slots id)
+first_here slots [] u id e = absurd (omega arith)
+first_here slots (zero ∷ cells) zero id e = absurd (omega arith)
+first_here slots (suc j ∷ cells) zero id e = let same : j ≡ id = omega arith in ap (λ (i : ℕ). Some (slot_of slots i)) same
+first_here slots (c ∷ cells) (suc u) id e = first_here slots cells u id e
+
+pub none_past : (slots : List Block) (cells : List ℕ) (u : ℕ) → length cells ≤ u → slice_get (blocks_in slots (drop u cells)) 0 ≡ None
+none_past slots [] zero le = refl
+none_past slots [] (suc u) le = refl
+none_past slots (c ∷ cells) zero le = absurd (omega arith)
+none_past slots (c ∷ cells) (suc u) le = none_past slots cells u (omega arith)
+
+-- each byte of the hole that begins at a place is free
+length_free : (a p : ℕ) (hs : List Span) → a ≤ p → p < a + length_at a hs → IsIn p hs
+length_free a p [] from to = absurd (omega arith)
+length_free a p (h ∷ hs) from to = elim (eqb_tells h.from a) [
+  | inl same ↦ let long : p < a + (h.to - h.from) = rw same.0 at to in let at = same.1 in inl (omega arith, omega arith)
+  | inr other ↦ inr (length_free a p hs from (let rest : p < a + length_at a hs = rw other.0 at to in rest))
+]
+
+-- so in its units no block begins
+pub clear_in : (cap lo hi g : ℕ) (slots : List Block) (cells : List ℕ) → AreTables cap lo hi g slots cells → (u hole : ℕ) → slice_index cells u ≡ 0 → hole ≡ length_at (lo + g * u) (holes lo hi (blocks_in slots cells))
+    → (k : ℕ) → u ≤ k → k < u + max (hole / g) 1 → slice_index cells k ≡ 0
+clear_in cap lo hi g slots cells t u hole clear is k from to = elim (none_or (slice_index cells k)) [
+  | inl none ↦ none
+  | inr some ↦
+      let begins = t.begun k some.0 some.1 in let place = begins.at in let size = begins.some in
+      elim (cases_lt u k) [
+        | inl past ↦
+            let grain = t.some in let low = up g u k from in
+            let units : g * (suc k - u) ≤ g * (hole / g) = up g (suc k - u) (hole / g) (omega arith) in
+            let sum : g * suc k ≡ g * (u + (suc k - u)) = ap (λ (i : ℕ). g * i) (let e : suc k ≡ u + (suc k - u) = omega arith in e) in
+            let free = length_free (lo + g * u) (lo + g * k) (holes lo hi (blocks_in slots cells)) (omega arith) (omega arith) in
+            let lacks = each_told (Lacks (lo + g * k)) slots cells k some.0 some.1 (free_lacks (lo + g * k) lo hi (blocks_in slots cells) t.ordered.laid free).2 in
+            elim lacks [ inl before ↦ absurd (omega arith) | inr behind ↦ absurd (omega arith) ]
+        | inr same ↦ let e : k ≡ u = omega arith in ap (slice_index cells) e ∙ clear
+      ]
+]
+  where
+    none_or : (n : ℕ) → (n ≡ 0) ⊎ ((m : ℕ) × (n ≡ suc m))
+    none_or zero = inl refl
+    none_or (suc m) = inr (m, refl)
+
+-- the first unit at or above a place
+module _ (lo g at u : ℕ) (some : 0 < g) (is : u ≡ div_ceil (at - lo) g) where
+  pub units_below : (k : ℕ) → k < u → lo + g * k < at
+  units_below k lt = let up_to = div_ceil_times (at - lo) g some in let high = up_to.1 in let times : u * g ≡ div_ceil (at - lo) g * g = ap (λ (i : ℕ). i * g) is in let step = above g k u lt in omega arith
+
+  pub units_above : (k : ℕ) → u ≤ k → at ≤ lo + g * k
+  units_above k le = let up_to = div_ceil_times (at - lo) g some in let low = up_to.0 in let times : u * g ≡ div_ceil (at - lo) g * g = ap (λ (i : ℕ). i * g) is in let step = up g u k le in omega arith

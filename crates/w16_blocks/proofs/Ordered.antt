@@ -1,0 +1,69 @@
+-- A layout stays ordered where a block is added or taken away.
+use Rattle.std.proofs.Common.{ℕ, ◌≡◌, ◌≢◌, ◌+◌, ◌<◌, ◌≤◌, ◌^◌, List, [], ◌∷◌, length, map, eqb, true, false, sum_by, refl, arith, sym, inl, inr}
+use Rattle.std.proofs.lemmas.Bool.{ne_eqb, eqb-true, or_cases, false≢true}
+use Rattle.std.proofs.lemmas.List.{length-map}
+use Rattle.std.proofs.lemmas.List.Sums.{sum_by-cons}
+use Rattle.std.proofs.lemmas.Map.Steps.{length-le_from_distinct_below}
+use Rattle.std.specs.List.{AllByRecursion, list_any, IsDistinct}
+use Rattle.w16_model.specs.declared.Block.{Block}
+use Rattle.w16_model.specs.Gap.{IsLaid, block_end}
+use Rattle.w16_blocks.specs.Layout.{Layout, AreNamed, IsGrained, IsOrdered, Fits, placed, all_but}
+use Rattle.w16_blocks.proofs.Place.{All-placed, IsLaid-placed, AreNamed-placed}
+use Rattle.w16_blocks.proofs.Remove.{All-all_but, IsLaid-all_but, AreNamed-all_but}
+
+abbrev ids : List Block → List ℕ
+ids bs = map (λ b. b.id) bs
+
+others : (id : ℕ) (bs : List Block) → AllByRecursion (λ c. c.id ≢ id) bs → AllByRecursion (λ y. eqb id y ≡ false) (ids bs)
+others id [] all = tt
+others id (b ∷ bs) all = (ne_eqb id b.id (λ e. all.0 (sym e)), others id bs all.1)
+
+distinct : (cap : ℕ) (bs : List Block) → AreNamed cap bs → IsDistinct eqb (ids bs)
+unfolding IsDistinct
+distinct cap [] named = tt
+distinct cap (b ∷ bs) named = (others b.id bs named.1, distinct cap bs named.2)
+
+below : (cap : ℕ) (bs : List Block) → AreNamed cap bs → (q : ℕ) → list_any (eqb q) (ids bs) ≡ true → q < cap
+below cap [] named q e = absurd (false≢true e)
+below cap (b ∷ bs) named q e =
+    let lt = named.0 in
+    elim (or_cases (eqb q b.id) (list_any (eqb q) (ids bs)) e) [
+      | inl here ↦ let same = eqb-true q b.id here in omega arith
+      | inr there ↦ below cap bs named.2 q there
+    ]
+
+-- there are no more blocks than ids
+no_more : (cap : ℕ) (bs : List Block) → AreNamed cap bs → length bs ≤ cap
+unfolding IsDistinct
+no_more cap bs named =
+    let all = length-le_from_distinct_below (ids bs) cap (distinct cap bs named) (λ q e. below cap bs named q e) in
+    let n = length-map bs (λ b. b.id) in
+    omega arith
+
+pub IsOrdered-placed : (l : Layout) (b : Block) → l.cap < 2 ^ 32 → Fits l b → IsOrdered l → IsOrdered (record l { blocks = placed b l.blocks })
+IsOrdered-placed l b ids fits ordered =
+    let named = AreNamed-placed l.cap b l.blocks fits.id fits.free ordered.named in record {
+      laid = IsLaid-placed l.lo l.hi b l.blocks fits.inside.0 fits.inside.1 fits.inside.2 fits.apart ordered.laid;
+      named = named;
+      grained = All-placed (IsGrained l.grain) b l.blocks fits.grained ordered.grained;
+      from = ordered.from;
+      small = ordered.small;
+      few = let few = no_more l.cap (placed b l.blocks) named in omega arith;
+    }
+
+pub IsOrdered-all_but : (l : Layout) (id : ℕ) → l.cap < 2 ^ 32 → IsOrdered l → IsOrdered (record l { blocks = all_but id l.blocks })
+IsOrdered-all_but l id ids ordered =
+    let named = AreNamed-all_but l.cap id l.blocks ordered.named in record {
+      laid = IsLaid-all_but l.lo l.hi id l.blocks ordered.laid;
+      named = named;
+      grained = All-all_but (IsGrained l.grain) id l.blocks ordered.grained;
+      from = ordered.from;
+      small = ordered.small;
+      few = let few = no_more l.cap (all_but id l.blocks) named in omega arith;
+    }
+
+-- the bounds hold all blocks
+pub sum_fits : (lo hi : ℕ) (bs : List Block) → IsLaid lo hi bs → lo + sum_by (λ (b : Block). b.size) bs ≤ hi
+sum_fits lo hi [] laid = let none : sum_by (λ (b : Block). b.size) [] ≡ 0 = refl in omega arith
+sum_fits lo hi (b ∷ bs) laid =
+    let from = laid.0 in let rest = sum_fits (block_end b) hi bs laid.2 in let sum = sum_by-cons (λ (c : Block). c.size) b bs in omega arith

@@ -1,0 +1,173 @@
+-- A block that moves: the part of its new place that it does not have is taken, and the part of its old one that it leaves is put.
+use Rattle.std.proofs.Common.{ℕ, suc, ◌≡◌, ◌≢◌, ◌<◌, ◌≤◌, ◌+◌, ◌-◌, ◌^◌, ◌⊎◌, max, min, List, Some, refl, arith, sym, subst, inl, inr}
+use Rattle.std.proofs.lemmas.Bool.{cases_lt, lt-ltb, le-ltb}
+use Rattle.w16_model.specs.declared.Block.{Block}
+use Rattle.w16_model.specs.declared.Span.{Span}
+use Rattle.w16_model.specs.Gap.{block_end, holes}
+use Rattle.w16_model.specs.Heap.{IsMultiple}
+use Rattle.w16_model.specs.Table.{block_with}
+use Rattle.w16_model.proofs.Gaps.{Each-map}
+use Rattle.w16_holes.specs.Holes.{AreHoles, IsFree, IsUsed, IsPart, taken, joined}
+use Rattle.w16_holes.specs.Law.{IsIn}
+use Rattle.w16_holes.proofs.Units.{multiple_sum}
+use Rattle.w16_holes.proofs.Sets.{AreHoles-taken, taken_in, in_taken, AreHoles-joined, joined_in, in_joined}
+use Rattle.w16_blocks.specs.Layout.{Layout, IsApart, IsOrdered, FitsFor, all_but, replaced, range_of, holes_of}
+use Rattle.w16_blocks.specs.Stay.{beyond}
+use Rattle.w16_blocks.proofs.Remove.{All-back}
+use Rattle.w16_blocks.proofs.Free.{Lacks, AreHoles-holes, lacks_free, used_of, free_of}
+use Rattle.w16_blocks.proofs.Step.{multiple_less, lies, lacks_known, holes_moved}
+
+-- what a place has beyond another, told by its bytes
+pub record IsBeyond (other place n : ℕ) (s : Span) : Type 0 where
+  pub some : s.from < s.to
+  pub low : place ≤ s.from
+  pub high : s.to ≤ place + n
+  pub out : (s.to ≤ other) ⊎ (other + n ≤ s.from)
+  pub rest : (p : ℕ) → place ≤ p → p < place + n → ((s.from ≤ p) × (p < s.to)) ⊎ ((other ≤ p) × (p < other + n))
+
+beyond_low : (other place n : ℕ) → place < other → beyond other place n ≡ record { from = place; to = min other (place + n) }
+beyond_low other place n lt = rw (lt-ltb place other lt) refl
+
+beyond_high : (other place n : ℕ) → other ≤ place → beyond other place n ≡ record { from = max place (other + n); to = place + n }
+beyond_high other place n le = rw (le-ltb place other le) refl
+
+pub beyond_is : (other place n : ℕ) → place ≢ other → 0 < n → IsBeyond other place n (beyond other place n)
+beyond_is other place n ne some = elim (cases_lt place other) [
+  | inl lt ↦ subst (IsBeyond other place n) (sym (beyond_low other place n lt)) (record {
+    some = omega arith;
+    low = omega arith;
+    high = omega arith;
+    out = inl (omega arith);
+    rest = λ p from to. elim (cases_lt p (min other (place + n))) [ inl inside ↦ inl (from, inside) | inr past ↦ inr (omega arith, omega arith) ];
+  })
+  | inr le ↦ subst (IsBeyond other place n) (sym (beyond_high other place n le)) (record {
+    some = omega arith;
+    low = omega arith;
+    high = omega arith;
+    out = inr (omega arith);
+    rest = λ p from to. elim (cases_lt p (max place (other + n))) [ inl before ↦ inr (omega arith, omega arith) | inr inside ↦ inl (inside, to) ];
+  })
+]
+
+pub beyond_grained : (g other place n : ℕ) → place ≢ other → IsMultiple g other → IsMultiple g place → IsMultiple g n → IsMultiple g (beyond other place n).from × IsMultiple g ((beyond other place n).to - (beyond other place n).from)
+beyond_grained g other place n ne one two three = elim (cases_lt place other) [
+  | inl lt ↦ subst (λ (s : Span). IsMultiple g s.from × IsMultiple g (s.to - s.from)) (sym (beyond_low other place n lt)) (
+    two,
+    elim (cases_lt other (place + n)) [
+      | inl near ↦ let e : other - place ≡ min other (place + n) - place = omega arith in subst (IsMultiple g) e (multiple_less g other place one two)
+      | inr far ↦ let e : n ≡ min other (place + n) - place = omega arith in subst (IsMultiple g) e three
+    ],
+  )
+  | inr le ↦ subst (λ (s : Span). IsMultiple g s.from × IsMultiple g (s.to - s.from)) (sym (beyond_high other place n le)) (elim (cases_lt place (other + n)) [
+    | inl near ↦
+        let e : other + n ≡ max place (other + n) = omega arith in let f : place - other ≡ place + n - max place (other + n) = omega arith in
+        (subst (IsMultiple g) e (multiple_sum g other n one three), subst (IsMultiple g) f (multiple_less g place other two one))
+    | inr far ↦
+        let e : place ≡ max place (other + n) = omega arith in let f : n ≡ place + n - max place (other + n) = omega arith in
+        (subst (IsMultiple g) e two, subst (IsMultiple g) f three)
+  ])
+]
+
+module _ (l : Layout) (x : Block) (to : ℕ) (known : block_with l.blocks x.id ≡ Some x) (fits : FitsFor l (record x { at = to })) (ordered : IsOrdered l) (ids : l.cap < 2 ^ 32)
+    (n o : Span) (is_new : IsBeyond x.at to x.size n) (is_left : IsBeyond to x.at x.size o) where
+  are : AreHoles l.lo l.hi (holes_of l)
+  are = AreHoles-holes l.lo l.lo l.hi l.blocks (omega arith) ordered.laid
+
+  some_new : n.from < n.from + (n.to - n.from)
+  some_new = let some = is_new.some in omega arith
+
+  pub free_new : IsFree n.from (n.from + (n.to - n.from)) (holes_of l)
+  free_new =
+      let low = is_new.low in let high = is_new.high in let from = fits.inside.0 in let end = fits.inside.2 in let some = is_new.some in
+      free_of n.from (n.from + (n.to - n.from)) l.lo l.hi (holes_of l) some_new are
+      (λ p s e. lacks_free p l.lo l.hi l.blocks ordered.laid (omega arith) (omega arith) (All-back l.cap (Lacks p) x.id x l.blocks ordered.named known
+      (elim is_new.out [ inl before ↦ inl (omega arith) | inr behind ↦ inr (omega arith) ])
+      (Each-map (IsApart (record x { at = to })) (Lacks p) (λ c apart. elim apart [ inl before ↦ inl (omega arith) | inr behind ↦ inr (omega arith) ]) (all_but x.id l.blocks) fits.apart)))
+
+  abbrev between_holes : List Span
+  between_holes = taken n.from (n.from + (n.to - n.from)) (holes_of l)
+
+  are_then : AreHoles l.lo l.hi between_holes
+  are_then = AreHoles-taken l.hi n.from (n.from + (n.to - n.from)) some_new l.lo (holes_of l) are free_new
+
+  -- what is still free then was free, and is not the new place
+  pub free_then : (p : ℕ) → IsIn p between_holes → IsIn p (holes_of l) × ((p < to) ⊎ (to + x.size ≤ p))
+  free_then p is =
+      let r = in_taken l.hi n.from (n.from + (n.to - n.from)) some_new l.lo p (holes_of l) are free_new is in
+      let some = is_new.some in (
+        r.0,
+        elim (cases_lt p to) [
+          | inl below ↦ inl below
+          | inr s ↦ elim (cases_lt p (to + x.size)) [
+            | inl e ↦ elim (is_new.rest p s e) [
+              | inl new ↦ let i = new.0 in let j = new.1 in elim r.1 [ inl less ↦ absurd (omega arith) | inr more ↦ absurd (omega arith) ]
+              | inr own ↦ let i = own.0 in let j = own.1 in elim (lacks_known l x.id x known ordered p r.0) [ inl before ↦ absurd (omega arith) | inr behind ↦ absurd (omega arith) ]
+            ]
+            | inr above ↦ inr above
+          ]
+        ],
+      )
+
+  pub used_left : IsUsed o.from (o.from + (o.to - o.from)) between_holes
+  used_left =
+      let some = is_left.some in let low = is_left.low in let high = is_left.high in
+      used_of o.from (o.from + (o.to - o.from)) l.lo l.hi between_holes (omega arith) are_then
+      (λ p s e is. elim (lacks_known l x.id x known ordered p (free_then p is).0) [ inl before ↦ omega arith | inr behind ↦ omega arith ])
+
+  abbrev after_holes : List Span
+  after_holes = joined o.from (o.from + (o.to - o.from)) between_holes
+
+  free_after : (p : ℕ) → IsIn p after_holes → (IsIn p (holes_of l) ⊎ ((x.at ≤ p) × (p < block_end x))) × Lacks p (record x { at = to })
+  free_after p is =
+      let some = is_left.some in let low = is_left.low in let high = is_left.high in
+      elim (in_joined o.from (o.from + (o.to - o.from)) p between_holes is) [
+        | inl rest ↦ let r = free_then p rest in (inl r.0, r.1)
+        | inr left ↦ let s = left.0 in let e = left.1 in (inr (omega arith, omega arith), elim is_left.out [ inl before ↦ inl (omega arith) | inr behind ↦ inr (omega arith) ])
+      ]
+
+  are_after : AreHoles l.lo l.hi after_holes
+  are_after =
+      let some = is_left.some in let low = is_left.low in let high = is_left.high in let inside = lies l x.id x known ordered in let from = inside.0 in let end = inside.2 in
+      AreHoles-joined o.from (o.from + (o.to - o.from)) l.lo l.hi between_holes (omega arith) (omega arith) (omega arith) are_then used_left
+
+  pub holes_shifted : after_holes ≡ holes l.lo l.hi (replaced (record x { at = to }) l.blocks)
+  holes_shifted =
+      let some = is_left.some in
+      holes_moved l (record x { at = to }) x known fits ordered ids after_holes are_after free_after
+      (λ p is lacks. joined_in o.from (o.from + (o.to - o.from)) p between_holes (elim is [
+        | inl old ↦
+            let low = is_new.low in let high = is_new.high in let more = is_new.some in
+            inl (taken_in l.hi n.from (n.from + (n.to - n.from)) some_new l.lo p (holes_of l) are free_new (elim lacks [ inl before ↦ inl (omega arith) | inr behind ↦ inr (omega arith) ]) old)
+        | inr has ↦ elim (is_left.rest p has.0 has.1) [
+          | inl left ↦ let e = left.1 in inr (left.0, omega arith)
+          | inr new ↦ let i = new.0 in let j = new.1 in elim lacks [ inl before ↦ absurd (omega arith) | inr behind ↦ absurd (omega arith) ]
+        ]
+      ]))
+
+  -- the block's bytes are in use before, and those of its new place after
+  pub own_used : (k : ℕ) → x.at ≤ k → k < x.at + x.size → IsUsed k (suc k) (holes_of l)
+  own_used k s e = used_of k (suc k) l.lo l.hi (holes_of l) (omega arith) are
+      (λ p from to is. elim (lacks_known l x.id x known ordered p is) [ inl before ↦ omega arith | inr behind ↦ omega arith ])
+
+  pub new_used : (k : ℕ) → to ≤ k → k < to + x.size → IsUsed k (suc k) (holes l.lo l.hi (replaced (record x { at = to }) l.blocks))
+  new_used k s e = subst (IsUsed k (suc k)) holes_shifted (used_of k (suc k) l.lo l.hi after_holes (omega arith) are_after
+      (λ p from up is. elim (free_after p is).1 [ inl before ↦ omega arith | inr behind ↦ omega arith ]))
+
+  -- the parts lie in the range
+  pub part_new : IsMultiple l.grain n.from × IsMultiple l.grain (n.to - n.from) → IsPart (range_of l) n.from (n.to - n.from)
+  part_new grained = let some = is_new.some in let low = is_new.low in let high = is_new.high in let from = fits.inside.0 in let end = fits.inside.2 in record {
+    some = omega arith;
+    from = omega arith;
+    to = omega arith;
+    grained = grained.0;
+    rounded = grained.1;
+  }
+
+  pub part_left : IsMultiple l.grain o.from × IsMultiple l.grain (o.to - o.from) → IsPart (range_of l) o.from (o.to - o.from)
+  part_left grained = let some = is_left.some in let low = is_left.low in let high = is_left.high in let inside = lies l x.id x known ordered in let from = inside.0 in let end = inside.2 in record {
+    some = omega arith;
+    from = omega arith;
+    to = omega arith;
+    grained = grained.0;
+    rounded = grained.1;
+  }

@@ -1,0 +1,46 @@
+-- The blocks from an address on, one after another.
+use Rattle.std.proofs.Common.{ℕ, zero, suc, ◌≡◌, ◌<◌, ◌≤◌, List, [], ◌∷◌, drop, Some, None, is_some, arith, refl, sym, ap, ◌∙◌, subst, inl, inr}
+use Rattle.std.specs.Prelude.{slice_get}
+use Rattle.std.proofs.lemmas.Bool.{cases_lt, false≢true}
+use Rattle.std.specs.List.{AllByRecursion}
+use Rattle.w16_model.specs.declared.Block.{Block}
+use Rattle.w16_model.specs.Gap.{IsLaid, block_end}
+use Rattle.w16_model.proofs.Gaps.{Each-map}
+use Rattle.w16_model.proofs.Laid.{laid_each}
+use Rattle.w16_blocks.specs.Layout.{Layout, IsOrdered, rank, from_address}
+use Rattle.w16_blocks.proofs.Next.{rank_none, rank_more, rank_same}
+
+pub none_left : (bs : List Block) (k : ℕ) → None ≡ slice_get bs k → drop k bs ≡ []
+none_left [] zero e = refl
+none_left [] (suc k) e = refl
+none_left (b ∷ bs) zero e = absurd (false≢true (ap is_some e))
+none_left (b ∷ bs) (suc k) e = none_left bs k e
+
+each_got : (P : Block → Type 0) (bs : List Block) (k : ℕ) (x : Block) → Some x ≡ slice_get bs k → AllByRecursion P bs → P x
+each_got P [] zero x e all = absurd (false≢true (sym (ap is_some e)))
+each_got P [] (suc k) x e all = absurd (false≢true (sym (ap is_some e)))
+each_got P (b ∷ bs) zero x e all = let same : b ≡ x = cc in subst P same all.0
+each_got P (b ∷ bs) (suc k) x e all = each_got P bs k x e all.1
+
+-- the first of them, and those behind it
+pub one_more : (lo hi at : ℕ) (x : Block) (bs : List Block) → IsLaid lo hi bs → Some x ≡ slice_get bs (rank at bs) → from_address at bs ≡ x ∷ from_address (block_end x) bs
+one_more lo hi at x [] laid e = absurd (false≢true (sym (ap is_some e)))
+one_more lo hi at x (b ∷ bs) laid e =
+    let size = laid.1 in
+    let later = laid_each (block_end b) hi bs laid.2 in
+    elim (cases_lt b.at at) [
+      | inl lt ↦
+          let e' : Some x ≡ slice_get bs (rank at bs) = e ∙ ap (slice_get (b ∷ bs)) (rank_more at b bs lt) in
+          let behind = (each_got (λ y. (block_end b ≤ y.at) × (0 < y.size) × (block_end y ≤ hi)) bs (rank at bs) x e' later).0 in
+          ap (λ (n : ℕ). drop n (b ∷ bs)) (rank_more at b bs lt) ∙ one_more (block_end b) hi at x bs laid.2 e'
+          ∙ ap (λ (n : ℕ). x ∷ drop n (b ∷ bs)) (sym (rank_more (block_end x) b bs (omega arith)))
+      | inr ge ↦
+          let first : Some x ≡ Some b = e ∙ ap (slice_get (b ∷ bs)) (rank_same at b bs ge) in let same : b ≡ x = cc in
+          let rest : rank (block_end b) (b ∷ bs) ≡ 1 =
+          rank_more (block_end b) b bs (omega arith) ∙ ap suc (rank_none (block_end b) bs (Each-map (λ y. (block_end b ≤ y.at) × (0 < y.size) × (block_end y ≤ hi)) (λ c. block_end b ≤ c.at) (λ y is. is.0) bs later)) in
+          ap (λ (n : ℕ). drop n (b ∷ bs)) (rank_same at b bs ge) ∙ ap (λ (n : ℕ). b ∷ drop n (b ∷ bs)) (sym rest) ∙ ap (λ (y : Block). y ∷ from_address (block_end y) (b ∷ bs)) same
+    ]
+
+-- it ends below the largest number
+pub ends_small : (l : Layout) (at : ℕ) (x : Block) → IsOrdered l → Some x ≡ slice_get l.blocks (rank at l.blocks) → block_end x ≤ l.hi
+ends_small l at x ordered e = (each_got (λ y. (l.lo ≤ y.at) × (0 < y.size) × (block_end y ≤ l.hi)) l.blocks (rank at l.blocks) x e (laid_each l.lo l.hi l.blocks ordered.laid)).2

@@ -1,4 +1,0 @@
-pub mod Layout
-pub mod Kept
-pub mod Stay
-pub mod Sample
