@@ -1,5 +1,5 @@
 -- A block that moves: the part of its new place that it does not have is taken, and the part of its old one that it leaves is put.
-use Rattle.std.proofs.Common.{ℕ, suc, ◌≡◌, ◌≢◌, ◌<◌, ◌≤◌, ◌+◌, ◌-◌, ◌^◌, ◌⊎◌, max, min, List, Some, refl, arith, sym, subst, inl, inr}
+use Rattle.std.proofs.Common.{ℕ, ◌≡◌, ◌≢◌, ◌<◌, ◌≤◌, ◌+◌, ◌-◌, ◌^◌, ◌⊎◌, max, min, List, Some, refl, arith, sym, subst, inl, inr}
 use Rattle.std.proofs.lemmas.Bool.{cases_lt, lt-ltb, le-ltb}
 use Rattle.w16_model.specs.declared.Block.{Block}
 use Rattle.w16_model.specs.declared.Span.{Span}
@@ -91,7 +91,7 @@ module _ (l : Layout) (x : Block) (to : ℕ) (known : block_with l.blocks x.id �
   are_then = AreHoles-taken l.hi n.from (n.from + (n.to - n.from)) some_new l.lo (holes_of l) are free_new
 
   -- what is still free then was free, and is not the new place
-  pub free_then : (p : ℕ) → IsIn p between_holes → IsIn p (holes_of l) × ((p < to) ⊎ (to + x.size ≤ p))
+  free_then : (p : ℕ) → IsIn p between_holes → IsIn p (holes_of l) × ((p < to) ⊎ (to + x.size ≤ p))
   free_then p is =
       let r = in_taken l.hi n.from (n.from + (n.to - n.from)) some_new l.lo p (holes_of l) are free_new is in
       let some = is_new.some in (
@@ -113,6 +113,10 @@ module _ (l : Layout) (x : Block) (to : ℕ) (known : block_with l.blocks x.id �
       let some = is_left.some in let low = is_left.low in let high = is_left.high in
       used_of o.from (o.from + (o.to - o.from)) l.lo l.hi between_holes (omega arith) are_then
       (λ p s e is. elim (lacks_known l x.id x known ordered p (free_then p is).0) [ inl before ↦ omega arith | inr behind ↦ omega arith ])
+
+  -- nothing of the new place is free then
+  pub used_then : IsUsed to (to + x.size) between_holes
+  used_then = let some = fits.inside.1 in used_of to (to + x.size) l.lo l.hi between_holes (omega arith) are_then (λ p s e is. elim (free_then p is).1 [ inl before ↦ omega arith | inr behind ↦ omega arith ])
 
   abbrev after_holes : List Span
   after_holes = joined o.from (o.from + (o.to - o.from)) between_holes
@@ -144,14 +148,11 @@ module _ (l : Layout) (x : Block) (to : ℕ) (known : block_with l.blocks x.id �
         ]
       ]))
 
-  -- the block's bytes are in use before, and those of its new place after
-  pub own_used : (k : ℕ) → x.at ≤ k → k < x.at + x.size → IsUsed k (suc k) (holes_of l)
-  own_used k s e = used_of k (suc k) l.lo l.hi (holes_of l) (omega arith) are
-      (λ p from to is. elim (lacks_known l x.id x known ordered p is) [ inl before ↦ omega arith | inr behind ↦ omega arith ])
-
-  pub new_used : (k : ℕ) → to ≤ k → k < to + x.size → IsUsed k (suc k) (holes l.lo l.hi (replaced (record x { at = to }) l.blocks))
-  new_used k s e = subst (IsUsed k (suc k)) holes_shifted (used_of k (suc k) l.lo l.hi after_holes (omega arith) are_after
-      (λ p from up is. elim (free_after p is).1 [ inl before ↦ omega arith | inr behind ↦ omega arith ]))
+  -- nor of it afterwards
+  pub used_after : IsUsed to (to + x.size) (holes l.lo l.hi (replaced (record x { at = to }) l.blocks))
+  used_after =
+      let some = fits.inside.1 in
+      subst (IsUsed to (to + x.size)) holes_shifted (used_of to (to + x.size) l.lo l.hi after_holes (omega arith) are_after (λ p s e is. elim (free_after p is).1 [ inl before ↦ omega arith | inr behind ↦ omega arith ]))
 
   -- the parts lie in the range
   pub part_new : IsMultiple l.grain n.from × IsMultiple l.grain (n.to - n.from) → IsPart (range_of l) n.from (n.to - n.from)

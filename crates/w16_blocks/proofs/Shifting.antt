@@ -1,5 +1,5 @@
 -- What is kept where a block moves.
-use Rattle.std.proofs.Common.{ℕ, suc, ◌≡◌, ◌≢◌, ◌+◌, ◌-◌, ◌*◌, ◌<◌, ◌≤◌, List, length, set, Some, refl, arith, sym, ap, ◌∙◌, subst}
+use Rattle.std.proofs.Common.{ℕ, suc, ◌≡◌, ◌≢◌, ◌+◌, ◌-◌, ◌*◌, ◌≤◌, List, length, set, Some, refl, arith, sym, ap, ◌∙◌, subst}
 use Rattle.std.specs.Prelude.{slice_index}
 use Rattle.w16_model.specs.declared.Block.{Block}
 use Rattle.w16_model.specs.declared.Span.{Span}
@@ -8,14 +8,13 @@ use Rattle.w16_model.specs.Table.{block_with}
 use Rattle.w16_model.specs.Heap.{IsMultiple}
 use Rattle.w16_model.specs.Bytes.{part, put_part}
 use Rattle.w16_holes.specs.Holes.{Range, IsFree, IsUsed, IsPart, AreSameIn, taken, joined}
-use Rattle.w16_holes.specs.Law.{IsIn}
 use Rattle.w16_blocks.specs.Layout.{Layout, FitsFor, replaced}
 use Rattle.w16_blocks.specs.Kept.{blocks_in, layout_in, IsKept}
 use Rattle.w16_blocks.specs.Stay.{beyond}
 use Rattle.w16_blocks.proofs.Tables.{blocks_in-move}
 use Rattle.w16_blocks.proofs.Step.{lies, grained_known}
-use Rattle.w16_blocks.proofs.Keeping.{IsKept-move}
-use Rattle.w16_blocks.proofs.Slid.{long_slid, stays}
+use Rattle.w16_blocks.proofs.Keeping.{used_kept, IsKept-move}
+use Rattle.w16_blocks.proofs.Slid.{free_stays}
 use Rattle.w16_blocks.proofs.Shift as shift
 use Rattle.w16_blocks.proofs.Shift.{IsBeyond, beyond_is, beyond_grained}
 
@@ -73,15 +72,12 @@ module _ (cap lo hi g : ℕ) (slots : List Block) (cells : List ℕ) (free : ℕ
 
   -- the slide leaves the bytes of the holes that there are then
   pub same_free : (mid : List Span) (second third : List ℕ) → mid ≡ taken n.from (n.from + (n.to - n.from)) kept → hi ≤ length second → third ≡ put_part second to (part second x.at x.size) → AreSameIn mid second third
-  same_free mid second third takes inside slid = record {
-    long = long_slid x.at to x.size second third slid (source_in (length second) inside) (target_in (length second) inside);
-    same = λ p is.
-        let there = shift.free_then l x to known fits k.tables.ordered k.tables.ids n o is_new is_left p (subst (IsIn p) (takes ∙ ap (taken n.from (n.from + (n.to - n.from))) k.between) is) in
-        stays x.at to x.size second third slid (source_in (length second) inside) (target_in (length second) inside) p there.1;
-  }
+  same_free mid second third takes inside slid =
+      free_stays x.at to x.size second third slid (source_in (length second) inside) (target_in (length second) inside) mid
+      (subst (IsUsed to (to + x.size)) (sym (takes ∙ ap (taken n.from (n.from + (n.to - n.from))) k.between)) (shift.used_then l x to known fits k.tables.ordered k.tables.ids n o is_new is_left))
 
-  pub own_kept : (p : ℕ) → x.at ≤ p → p < x.at + x.size → IsUsed p (suc p) kept
-  own_kept p s e = subst (IsUsed p (suc p)) (sym k.between) (shift.own_used l x to known fits k.tables.ordered k.tables.ids n o is_new is_left p s e)
+  pub own_kept : IsUsed x.at (x.at + x.size) kept
+  own_kept = used_kept cap lo hi g slots cells free range kept k long x.id x known
 
-  pub new_kept : (mid kept' : List Span) → mid ≡ taken n.from (n.from + (n.to - n.from)) kept → kept' ≡ joined o.from (o.from + (o.to - o.from)) mid → (p : ℕ) → to ≤ p → p < to + x.size → IsUsed p (suc p) kept'
-  new_kept mid kept' takes joins p s e = subst (IsUsed p (suc p)) (sym (leaves mid kept' takes joins)) (shift.new_used l x to known fits k.tables.ordered k.tables.ids n o is_new is_left p s e)
+  pub new_kept : (mid kept' : List Span) → mid ≡ taken n.from (n.from + (n.to - n.from)) kept → kept' ≡ joined o.from (o.from + (o.to - o.from)) mid → IsUsed to (to + x.size) kept'
+  new_kept mid kept' takes joins = subst (IsUsed to (to + x.size)) (sym (leaves mid kept' takes joins)) (shift.used_after l x to known fits k.tables.ordered k.tables.ids n o is_new is_left)
