@@ -36,8 +36,8 @@ used_above a b lo hi (h ∷ hs) le are = let to = are.2 in (inl (omega arith), u
 
 -- what is outside the bounds is used
 module _ (lo hi : ℕ) (bs : List Block) (laid : IsLaid lo hi bs) where
-  pub used_low : IsUsed 0 lo (holes lo hi bs)
-  used_low = used_below 0 lo lo hi (holes lo hi bs) (omega arith) (AreHoles-holes lo lo hi bs (omega arith) laid)
+  pub used_low : IsUsed 0 (0 + lo) (holes lo hi bs)
+  used_low = used_below 0 (0 + lo) lo hi (holes lo hi bs) (omega arith) (AreHoles-holes lo lo hi bs (omega arith) laid)
 
   pub used_high : (n : ℕ) → IsUsed hi (hi + n) (holes lo hi bs)
   used_high n = used_above hi (hi + n) lo hi (holes lo hi bs) (omega arith) (AreHoles-holes lo lo hi bs (omega arith) laid)
@@ -58,6 +58,6 @@ outside_holes lo hi bs old new laid same = record {
 -- the same where a place inside the bounds is written too
 pub outside_but : (lo hi place n : ℕ) (bs cs : List Block) (old new : List ℕ) → IsLaid lo hi bs → IsLaid lo hi cs → lo ≤ place → place + n ≤ hi → AreSameBut place n (holes lo hi bs) (holes lo hi cs) old new → IsSameOutside lo hi old new
 outside_but lo hi place n bs cs old new one two from to same = record {
-  below = same.same 0 lo (used_low lo hi bs one) (used_low lo hi cs two) (inl from);
+  below = same.same 0 lo (used_low lo hi bs one) (used_low lo hi cs two) (inl (omega arith));
   above = rest_of old new hi same.long (same.same hi (length old - hi) (used_high lo hi bs one (length old - hi)) (used_high lo hi cs two (length old - hi)) (inr to));
 }

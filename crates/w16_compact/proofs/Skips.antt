@@ -1,13 +1,12 @@
 -- One pass over the counted blocks.
-use Rattle.std.proofs.Common.{◌≡◌, ℕ, ◌+◌, ◌-◌, ◌^◌, ◌<◌, ◌≤◌, zero, suc, max, Bool, true, false, cond, filter, List, [], ◌∷◌, length, drop, get_or, sym, ap, ◌∙◌, subst, arith}
+use Rattle.std.proofs.Common.{◌≡◌, ℕ, ◌+◌, ◌-◌, ◌^◌, ◌<◌, ◌≤◌, zero, suc, max, Bool, true, false, cond, filter, List, [], ◌∷◌, drop, sym, ap, ◌∙◌, subst, arith, add-one}
 use Rattle.std.specs.List.{AllByRecursion}
 use Rattle.std.proofs.lemmas.Bool.{cond-true, cond-false}
-use Rattle.std.proofs.lemmas.List.{drop_more}
 use Rattle.w16_model.specs.declared.Block.{Block}
 use Rattle.w16_model.specs.Gap.{IsLaid, room, is_pinned, block_end}
 use Rattle.w16_blocks.specs.Layout.{AreNamed}
 use Rattle.w16_blocks.proofs.Remove.{IsLaid-from}
-use Rattle.w16_blocks.proofs.Find.{laid_le}
+use Rattle.w16_blocks.proofs.Free.{laid_le}
 use Rattle.w16_compact.specs.declared.reach.Reached.{Reached}
 use Rattle.w16_compact.proofs.OnePass.{scan, scan-room}
 
@@ -15,18 +14,21 @@ use Rattle.w16_compact.proofs.OnePass.{scan, scan-room}
 abbrev pub passed : Reached → Block → Reached
 passed r x = cond (is_pinned x) (record { low = block_end x; loose = 0 }) (record { low = r.low; loose = r.loose + x.size })
 
--- the block at an index of the slice that is passed
-pub cut_at : (all xs : List Block) (d : Block) (i : ℕ) → all ≡ xs → i < length all → drop i xs ≡ get_or all i d ∷ drop (i + 1) xs
-cut_at all xs d i e lt = ap (drop i) (sym e) ∙ drop_more all i d lt ∙ ap (λ (ys : List Block). get_or all i d ∷ drop (i + 1) ys) e
-
--- what holds of each block holds of that one
-pub each_at : (P : Block → Type 0) (all xs : List Block) (d : Block) (i : ℕ) → all ≡ xs → i < length all → AllByRecursion P xs → P (get_or all i d)
-each_at P all xs d i e lt each = at_index all i lt (subst (AllByRecursion P) (sym e) each)
+-- the blocks behind the i-th
+pub rest_is : (xs : List Block) (x : Block) (rest : List Block) (i : ℕ) → drop i xs ≡ x ∷ rest → drop (i + 1) xs ≡ rest
+rest_is xs x rest i here = rw add-one (behind xs i here)
   where
-    at_index : (ys : List Block) (i : ℕ) → i < length ys → AllByRecursion P ys → P (get_or ys i d)
-    at_index [] i lt each = absurd (omega arith)
-    at_index (y ∷ ys) zero lt each = each.0
-    at_index (y ∷ ys) (suc i) lt each = at_index ys i (omega arith) each.1
+    behind : (xs : List Block) (i : ℕ) → drop i xs ≡ x ∷ rest → drop (suc i) xs ≡ rest
+    behind [] zero here = cc
+    behind [] (suc i) here = cc
+    behind (y ∷ ys) zero here = cc
+    behind (y ∷ ys) (suc i) here = behind ys i here
+
+-- what holds of each block holds of the i-th
+pub each_here : (P : Block → Type 0) (xs : List Block) (x : Block) (rest : List Block) (i : ℕ) → drop i xs ≡ x ∷ rest → AllByRecursion P xs → P x
+each_here P xs x rest zero here each = (subst (AllByRecursion P) here each).0
+each_here P [] x rest (suc i) here each = cc
+each_here P (y ∷ ys) x rest (suc i) here each = each_here P ys x rest i here each.1
 
 -- some of the laid blocks are laid
 laid_filter : (p : Block → Bool) (lo hi : ℕ) (xs : List Block) → IsLaid lo hi xs → IsLaid lo hi (filter p xs)
@@ -46,13 +48,10 @@ module _ (p : Block → Bool) (hi : ℕ) (xs : List Block) (total : ℕ) where
     pub laid : IsLaid (low + loose) hi (drop i xs)
     pub same : scan hi most low loose (filter p (drop i xs)) ≡ total
 
-  -- a turn of the pass, over a slice of these blocks
-  module _ (all : List Block) (same : all ≡ xs) (d : Block) (i : ℕ) (lt : i < length all) (most : ℕ) (r : Reached) (now : IsPassed i most r.low r.loose) where
-    abbrev x : Block
-    x = get_or all i d
-
+  -- a turn of the pass, at the i-th block
+  module _ (x : Block) (rest : List Block) (i : ℕ) (here : drop i xs ≡ x ∷ rest) (most : ℕ) (r : Reached) (now : IsPassed i most r.low r.loose) where
     cut : drop i xs ≡ x ∷ drop (i + 1) xs
-    cut = cut_at all xs d i same lt
+    cut = here ∙ ap (λ (ys : List Block). x ∷ ys) (sym (rest_is xs x rest i here))
 
     pub laid_now : (r.low + r.loose ≤ x.at) × (0 < x.size) × IsLaid (block_end x) hi (drop (i + 1) xs)
     laid_now = subst (IsLaid (r.low + r.loose) hi) cut now.laid
@@ -97,8 +96,8 @@ passed_start p lo hi xs laid = record {
   same = scan-room lo hi (filter p xs) (laid_filter p lo hi xs laid);
 }
 
-pub id_at : (cap : ℕ) (all xs : List Block) (d : Block) (i : ℕ) → all ≡ xs → i < length all → AreNamed cap xs → (get_or all i d).id < cap
-id_at cap all xs d i e lt named = each_at (λ y. y.id < cap) all xs d i e lt (each_id xs named)
+pub id_here : (cap : ℕ) (xs : List Block) (x : Block) (rest : List Block) (i : ℕ) → drop i xs ≡ x ∷ rest → AreNamed cap xs → x.id < cap
+id_here cap xs x rest i here named = each_here (λ y. y.id < cap) xs x rest i here (each_id xs named)
   where
     each_id : (xs : List Block) → AreNamed cap xs → AllByRecursion (λ y. y.id < cap) xs
     each_id [] named = tt

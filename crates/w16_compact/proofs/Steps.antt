@@ -25,7 +25,7 @@ module _ (l : Layout) (i : ℕ) (b : Block) (to : ℕ) (got : slice_get l.blocks
   pub ends_inside : block_end b ≤ l.hi
   ends_inside = apart_end (block_end b) l.hi (drop (suc i) l.blocks) here.2
 
-  pub after : AllByRecursion (λ c. block_end b ≤ c.at) (drop (suc i) l.blocks)
+  after : AllByRecursion (λ c. block_end b ≤ c.at) (drop (suc i) l.blocks)
   after = all_from (block_end b) l.hi (drop (suc i) l.blocks) here.2
 
   raised : (k : ℕ) (cs : List Block) → k ≤ block_end b → AllByRecursion (λ c. block_end b ≤ c.at) cs → AllByRecursion (λ c. k ≤ c.at) cs
@@ -46,6 +46,9 @@ module _ (l : Layout) (i : ℕ) (b : Block) (to : ℕ) (got : slice_get l.blocks
         grained = (grained, (each_got (IsGrained l.grain) l.blocks i b got ordered.grained).1);
         apart = subst (AllByRecursion _) (sym others) (apart_from_others (record b { at = to }) l.blocks i below (raised (to + b.size) (drop (suc i) l.blocks) (omega arith) after));
       }
+
+  pub after_slid : AllByRecursion (λ c. to + b.size ≤ c.at) (drop (suc i) l.blocks)
+  after_slid = let hi = down.1 in raised (to + b.size) (drop (suc i) l.blocks) (omega arith) after
 
   pub fits : ForSome (block_with l.blocks b.id) (λ x. FitsFor l (record x { at = to }))
   fits x e =

@@ -1,5 +1,5 @@
 -- A walk to the lowest gap with room.
-use Rattle.std.proofs.Common.{◌≡◌, ℕ, ◌+◌, ◌<◌, ◌≤◌, ◌^◌, ◌⊎◌, inl, inr, true, false, IsTrue, List, [], ◌∷◌, ◌++◌, length, take, drop, get_or, add-one, drop_of_length-le, zero, suc, refl, sym, ap, ◌∙◌, subst, arith}
+use Rattle.std.proofs.Common.{◌≡◌, ℕ, ◌+◌, ◌<◌, ◌≤◌, ◌^◌, ◌⊎◌, inl, inr, true, false, IsTrue, List, [], ◌∷◌, ◌++◌, take, drop, add-one, zero, suc, refl, sym, ap, ◌∙◌, subst, arith}
 use Rattle.std.proofs.lemmas.List.{take-append-drop}
 use Rattle.std.specs.List.{AllByRecursion}
 use Rattle.std.proofs.lemmas.Bool.{cases_Bool, cases_lt, cond-true, cond-false}
@@ -12,14 +12,14 @@ use Rattle.w16_model.proofs.Gaps.{Member, Each-at, Each-from, Each-map, Each-fro
 use Rattle.w16_model.proofs.Laid.{laid_placed}
 use Rattle.w16_model.proofs.Longest.{each_gap, some_gap}
 use Rattle.w16_blocks.specs.Layout.{Layout, IsOrdered, IsGrained}
-use Rattle.w16_blocks.proofs.Find.{laid_le}
+use Rattle.w16_blocks.proofs.Free.{laid_le}
 use Rattle.w16_compact.specs.Gather.{MayGather}
 use Rattle.w16_compact.specs.declared.gaps.Gap.{Gap}
 use Rattle.w16_compact.specs.declared.reach.Reached.{Reached}
 use Rattle.w16_compact.specs.Gap.{HasRoom, IsLowest}
 use Rattle.w16_compact.proofs.Loose.{loose_append, loose_none, loose_here}
 use Rattle.w16_compact.proofs.Bounded.{IsFloor, IsCeiling, between, clear_pinned}
-use Rattle.w16_compact.proofs.Skips.{passed, cut_at, each_at}
+use Rattle.w16_compact.proofs.Skips.{passed, rest_is, each_here}
 
 pub each_append : (P : Block → Type 0) (xs ys : List Block) → AllByRecursion P xs → AllByRecursion P ys → AllByRecursion P (xs ++ ys)
 each_append P [] ys all more = more
@@ -89,13 +89,10 @@ module _ (l : Layout) (n : ℕ) (ordered : IsOrdered l) where
         let one = same.0 in let two = same.1 in
         omega arith
 
-  -- a turn of the walk, over a slice of these blocks
-  module _ (all : List Block) (same : all ≡ xs) (d : Block) (i : ℕ) (lt : i < length all) (r : Reached) (now : IsWalked i r) where
-    abbrev x : Block
-    x = get_or all i d
-
+  -- a turn of the walk, at the i-th block
+  module _ (x : Block) (left : List Block) (i : ℕ) (here : drop i xs ≡ x ∷ left) (r : Reached) (now : IsWalked i r) where
     cut : drop i xs ≡ x ∷ drop (i + 1) xs
-    cut = cut_at all xs d i same lt
+    cut = here ∙ ap (λ (ys : List Block). x ∷ ys) (sym (rest_is xs x left i here))
 
     taken : take (i + 1) xs ≡ take i xs ++ x ∷ []
     taken = turn i xs (drop (i + 1) xs) cut
@@ -125,7 +122,7 @@ module _ (l : Layout) (n : ℕ) (ordered : IsOrdered l) where
     ahead = subst (AllByRecursion (λ y. x.at ≤ y.at)) (sym cut) (Each-map (λ y. (x.at ≤ y.at) × (0 < y.size)) (λ y. x.at ≤ y.at) (λ y f. f.0) (x ∷ drop (i + 1) xs) (laid_from x.at l.hi (x ∷ drop (i + 1) xs) (omega arith, laid_here.1, laid_here.2)))
 
     member : Member x xs
-    member = each_at (λ y. Member y xs) all xs d i same lt (Each-from (λ y. Member y xs) xs (λ y m. m))
+    member = each_here (λ y. Member y xs) xs x left i here (Each-from (λ y. Member y xs) xs (λ y m. m))
 
     -- the gap that ends here
     pub gap_here : IsTrue (is_pinned x) → 0 < n → r.low + r.loose + n ≤ x.at → HasRoom l n (record { low = r.low; high = x.at; loose = r.loose })
@@ -139,7 +136,7 @@ module _ (l : Layout) (n : ℕ) (ordered : IsOrdered l) where
           laid = laid_here.2;
           fits = omega arith;
           from = omega arith;
-          grained = let grained = each_at (IsGrained l.grain) all xs d i same lt ordered.grained in let g = grained.0 in let h = grained.1 in (g.0 + h.0, let u = g.1 in let v = h.1 in omega (arith, u, v));
+          grained = let grained = each_here (IsGrained l.grain) xs x left i here ordered.grained in let g = grained.0 in let h = grained.1 in (g.0 + h.0, let u = g.1 in let v = h.1 in omega (arith, u, v));
           floor = inr (x, member, pinned, refl);
           before = subst (AllByRecursion (IsBehind (block_end x) (block_end x))) (sym taken) (each_append _ (take i xs) (x ∷ [])
               (Each-map (IsBehind r.low now.mid) _ (λ b f. (f.0, elim f.1 [ inl k ↦ inl (omega arith) | inr k ↦ let m = k.1 in inl (omega arith) ])) (take i xs) now.before)
@@ -185,10 +182,7 @@ module _ (l : Layout) (n : ℕ) (ordered : IsOrdered l) where
     ]
 
   -- at the end
-  module _ (i : ℕ) (r : Reached) (now : IsWalked i r) (long : length xs ≤ i) where
-    none : drop i xs ≡ []
-    none = drop_of_length-le xs long
-
+  module _ (i : ℕ) (r : Reached) (now : IsWalked i r) (none : drop i xs ≡ []) where
     high : now.mid ≤ l.hi
     high = subst (IsLaid now.mid l.hi) none now.laid
 

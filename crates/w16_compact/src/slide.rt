@@ -9,7 +9,7 @@ ghost use Rattle.w16_compact.specs.Gather.{gathered, contents, moved_between, Ma
 ghost use Rattle.w16_compact.specs.Rest.{IsSameRest};
 
 use w16_blocks::{Block, Blocks};
-use w16_holes::Holes;
+use w16_holes::{HoleList, Holes};
 use w16_region::Space;
 
 /// Slides the loose blocks of `low` up to `high`, two addresses, down to `low`, in their order
@@ -52,6 +52,7 @@ pub fn gather<S: Space, H: Holes<S>>(
     ensures written { S.written space.new ≡ counted (S.written space.old) result }
     ensures rest { IsSameRest S.bytes S.lenders blocks.old.lo blocks.old.hi space.old space.new }
 {
+    are_ordered(blocks);
     let mut from = low;
     let mut to = low;
     let mut moved = 0;
@@ -61,6 +62,13 @@ pub fn gather<S: Space, H: Holes<S>>(
         to += block.size;
     }
     moved
+}
+
+/// Does nothing: what holds of all blocks.
+fn are_ordered<H: HoleList>(blocks: &Blocks<H>)
+    ensures { IsOrdered blocks.now }
+{
+    let _ = blocks.bounds();
 }
 
 /// The first block that begins at a place or above it, and below another.

@@ -1,6 +1,10 @@
-use Rattle.w16_blocks.specs.Layout.{IsOrdered}
+use Rattle.std.proofs.Common.{ℕ, ◌≡◌, drop}
+use Rattle.w16_blocks.specs.Layout.{IsOrdered, from_address}
 use Rattle.w16_compact.proofs.Walked.{IsWalked}
 use Rattle.w16_compact.proofs.gaps.gap_for.Given as goal
 
 abbrev pub invariant-loop-block : goal.invariant-loop-block
-invariant-loop-block l = (ordered : IsOrdered l.fn.blocks) × IsWalked l.fn.blocks l.n ordered l.block-index l.reached
+invariant-loop-block g l =
+    (goal.iterator-loop-block g).can_next l.block-iterator ×
+    (goal.iterator-loop-block g).is_finite l.block-iterator ×
+    ((ordered : IsOrdered l.fn.blocks) × ((i : ℕ) × (drop i l.fn.blocks.blocks ≡ from_address l.block-iterator.from l.block-iterator.blocks.now.blocks) × IsWalked l.fn.blocks l.n ordered i l.reached))

@@ -5,12 +5,12 @@ use Rattle.w16_compact.proofs.Halved.{above, least_needed, none_needed}
 use Rattle.w16_compact.proofs.prefix.least_prefix.Goals as goal
 
 pub returns-then-room_after-n-clause-value : goal.returns-then-room_after-n-clause-value
-returns-then-room_after-n-clause-value c =
+returns-then-room_after-n-clause-value g c =
     let l = c.args.blocks.now in let ids = c.args.order.now.ids in
     none_needed l.lo l.hi l.blocks ids c.args.n c.args.h (subst (λ k. room_for (snapshot l.lo l.hi l.blocks ids) k c.args.h < c.args.n) c.len-enough.ensures (omega (arith, c.room_after.ensures.value, c.if-room_after-n.true)))
 
 pub loop-least-preserved-then-room_after-n-3 : goal.loop-least-preserved-then-room_after-n-3
-loop-least-preserved-then-room_after-n-3 c =
+loop-least-preserved-then-room_after-n-3 g c =
     let l = c.args.blocks.now in let now = c.loop-least.invariant in
     let few = c.room_after-in-loop-least.ensures.value in
     record {
@@ -19,6 +19,6 @@ loop-least-preserved-then-room_after-n-3 c =
     }
 
 pub returns-clause-value : goal.returns-clause-value
-returns-clause-value c =
+returns-clause-value g c =
     let l = c.args.blocks.now in
     least_needed l.lo l.hi l.blocks c.args.order.now.ids c.args.n c.args.h c.loop-least.least c.loop-least.enough c.loop-least.invariant.between c.loop-least-test.false

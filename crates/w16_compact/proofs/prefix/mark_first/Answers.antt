@@ -6,7 +6,7 @@ use Rattle.w16_compact.proofs.prefix.mark_first.Goals as goal
 use Rattle.w16_compact.proofs.prefix.mark_first.Goals.{in-Some, in_default}
 
 pub loop-i-preserved : goal.loop-i-preserved
-loop-i-preserved c =
+loop-i-preserved g c =
     let now = c.loop-i.invariant in
     let later = eligible c.args.blocks.now.blocks (drop (c.loop-i.i + 1) c.args.order.now.ids) c.args.h in
     elim c.match-eligible_at.branch [

@@ -4,12 +4,12 @@ use Rattle.std.specs.List.{AllByRecursion}
 use Rattle.w16_model.specs.declared.Block.{Block}
 use Rattle.w16_model.specs.Gap.{IsLaid, IsClear, IsHole, is_any, block_end, loose_bytes}
 use Rattle.w16_model.specs.Heap.{IsMultiple}
-use Rattle.w16_blocks.specs.Layout.{Layout, IsGrained}
+use Rattle.w16_blocks.specs.Layout.{Layout, IsGrained, IsOrdered, rank}
 use Rattle.w16_compact.specs.Gather.{gathered, packed, moved_between, FitsGap, AreSlid}
-use Rattle.w16_compact.proofs.Cleared.{inside_is, slid_gathered, clear_gathered, hole_gathered, alone_gathered}
+use Rattle.w16_compact.proofs.Cleared.{slid_gathered, clear_gathered, hole_gathered, alone_gathered}
 use Rattle.w16_compact.proofs.Order.{each_got}
-use Rattle.w16_compact.proofs.Rests.{rest_more}
-use Rattle.w16_compact.proofs.Gathered.{list_start, settled_start, laid_start, rest_start, moved_start, list_step, laid_step, rest_step, moved_step, step-le, packed_rest, moved_same, inside_got, settled_step}
+use Rattle.w16_compact.proofs.Rests.{rest_more, rest_same}
+use Rattle.w16_compact.proofs.Gathered.{list_start, settled_start, laid_start, rest_start, moved_start, list_step, laid_step, rest_step, moved_step, step-le, packed_rest, moved_same, inside_got, settled_step, rank_got, rank_slid}
 use Rattle.w16_compact.proofs.slide.gather.Given as Given
 use Rattle.w16_compact.proofs.slide.gather.Goals as goal
 
@@ -17,23 +17,35 @@ pub loop-block-init : goal.loop-block-init
 loop-block-init g c =
     let l = c.args.blocks.now in
     let low = c.args.low in let high = c.args.high in
-    let e = c.rank-i.ensures.value in
     let gap = c.requires.gap in
     record {
       bounds = (refl, refl, refl, refl);
-      ordered = c.rank-i.ensures.ordered;
-      list = rw e (list_start low high l.blocks);
-      settled = rw e (settled_start low high l.blocks gap.inside.1 gap.loose);
-      laid = rw e (laid_start l.lo l.hi low l.blocks c.rank-i.ensures.ordered.laid (let one = gap.inside.1 in let two = gap.inside.2 in omega arith));
-      rest = rw e (rest_start low high l.blocks gap.loose);
+      ordered = c.are_ordered.ensures;
+      list = list_start low high l.blocks;
+      settled = settled_start low high l.blocks gap.inside.1 gap.loose;
+      laid = laid_start l.lo l.hi low l.blocks c.are_ordered.ensures.laid (let one = gap.inside.1 in let two = gap.inside.2 in omega arith);
+      rest = rest_start low high l.blocks gap.loose;
       from = omega arith;
       grained = c.requires.grained;
-      sum = rw e (let h = moved_start low high l.blocks in omega (arith, h));
+      sum = (let h = moved_start low high l.blocks in omega (arith, h));
       small = omega arith;
       written = omega arith;
       contents = refl;
-      kept = record { long = refl; outside = record { below = refl; above = refl }; loans = refl };
+      kept = c.requires.kept;
+      rest_same = rest_same _ _ c.args.space.now;
     }
+
+-- a block that is reached, by where it begins
+got_at : (l : Layout) (from : ℕ) (b : Block) → IsOrdered l → slice_get l.blocks (rank from l.blocks) ≡ Some b → slice_get l.blocks (rank b.at l.blocks) ≡ Some b
+got_at l from b ordered got = ap (slice_get l.blocks) (rank_got l.lo l.hi from l.blocks b ordered.laid got) ∙ got
+
+pub settle-requires-clause-at : goal.settle-requires-clause-at
+settle-requires-clause-at g c = got_at c.loop-block.blocks c.loop-block.from c.in-Some.block c.loop-block.invariant.ordered c.in-Some.ensures.value.0
+
+pub settle-requires-clause-below : goal.settle-requires-clause-below
+settle-requires-clause-below g c =
+    let l = c.loop-block.blocks in
+    subst (λ (k : ℕ). AllByRecursion (λ x. block_end x ≤ c.loop-block.to) (take k l.blocks)) (sym (rank_got l.lo l.hi c.loop-block.from l.blocks c.in-Some.block c.loop-block.invariant.ordered.laid c.in-Some.ensures.value.0)) c.loop-block.invariant.settled
 
 -- multiples make a multiple
 sum_multiple : (g a b : ℕ) → IsMultiple g a → IsMultiple g b → IsMultiple g (a + b)
@@ -45,21 +57,22 @@ settle-requires-clause-grained g c = subst (λ k. IsMultiple k c.loop-block.to) 
 pub settle-requires-clause-down : goal.settle-requires-clause-down
 settle-requires-clause-down g c =
     let l = c.loop-block.blocks in let inv = c.loop-block.invariant in
-    let step = laid_step l.hi c.loop-block.to c.loop-block.i c.in-Some.block l.blocks c.in-Some.ensures.value.0 inv.laid in
+    let step = laid_step l.hi c.loop-block.to (rank c.loop-block.from c.loop-block.blocks.blocks) c.in-Some.block l.blocks c.in-Some.ensures.value.0 inv.laid in
     let one = inv.bounds.1 in let two = inv.from in let three = c.requires.gap.inside.0 in
     (omega arith, step.0)
 
 pub overflow_add-to : goal.overflow_add-to
 overflow_add-to g c =
     let l = c.loop-block.blocks in let inv = c.loop-block.invariant in
-    let step = laid_step l.hi c.loop-block.to c.loop-block.i c.in-Some.block l.blocks c.in-Some.ensures.value.0 inv.laid in
+    let step = laid_step l.hi c.loop-block.to (rank c.loop-block.from c.loop-block.blocks.blocks) c.in-Some.block l.blocks c.in-Some.ensures.value.0 inv.laid in
     let one = step.0 in let two = step.1 in let small = inv.ordered.small in
     record { fits = omega arith }
 
-pub overflow_add-i : goal.overflow_add-i
-overflow_add-i g c =
-    let l = c.loop-block.blocks in
-    let inside = inside_got l.blocks c.loop-block.i c.in-Some.block c.in-Some.ensures.value.0 in let few = c.loop-block.invariant.ordered.few in
+pub overflow_add-from : goal.overflow_add-from
+overflow_add-from g c =
+    let l = c.loop-block.blocks in let inv = c.loop-block.invariant in
+    let step = laid_step l.hi c.loop-block.to (rank c.loop-block.from l.blocks) c.in-Some.block l.blocks c.in-Some.ensures.value.0 inv.laid in
+    let end = step.1 in let small = inv.ordered.small in
     record { fits = omega arith }
 
 -- of a layout with other blocks
@@ -75,49 +88,60 @@ topped new l bs e = ap (λ (x : Layout). x.hi) e
 kept : (new l m : Layout) (bs : List Block) → new ≡ with_blocks l bs → (l.cap ≡ m.cap) × (l.lo ≡ m.lo) × (l.hi ≡ m.hi) × (l.grain ≡ m.grain) → (new.cap ≡ m.cap) × (new.lo ≡ m.lo) × (new.hi ≡ m.hi) × (new.grain ≡ m.grain)
 kept new l m bs e bounds = (ap (λ (x : Layout). x.cap) e ∙ bounds.0, ap (λ (x : Layout). x.lo) e ∙ bounds.1, ap (λ (x : Layout). x.hi) e ∙ bounds.2, ap (λ (x : Layout). x.grain) e ∙ bounds.3)
 
+-- what a step leaves of the blocks, the i-th of them slid
+module _ (l new : Layout) (from to : ℕ) (b : Block) (ordered : IsOrdered l) (got : slice_get l.blocks (rank from l.blocks) ≡ Some b) (le : to ≤ b.at)
+    (is : new ≡ with_blocks l (set l.blocks (rank b.at l.blocks) (record b { at = to }))) where
+  slid : new.blocks ≡ set l.blocks (rank from l.blocks) (record b { at = to })
+  slid = listed new l _ is ∙ ap (λ (k : ℕ). set l.blocks k (record b { at = to })) (rank_got l.lo l.hi from l.blocks b ordered.laid got)
+
+  stepped : rank (block_end b) (set l.blocks (rank from l.blocks) (record b { at = to })) ≡ suc (rank from l.blocks)
+  stepped = rank_slid l.lo l.hi to l.blocks (rank from l.blocks) b ordered.laid got le
+
 pub loop-block-smaller : goal.loop-block-smaller
 loop-block-smaller g c =
-    let l = c.loop-block.blocks in
-    let inside = inside_got l.blocks c.loop-block.i c.in-Some.block c.in-Some.ensures.value.0 in
-    let after : List Block = set l.blocks c.loop-block.i (record c.in-Some.block { at = c.loop-block.to }) in
-    let same : length c.settle.new.blocks.blocks ≡ length l.blocks = ap length (listed c.settle.new.blocks l after c.settle.ensures.blocks) ∙ length-set l.blocks c.loop-block.i _ in
-    rw same (omega arith)
+    let l = c.loop-block.blocks in let from = c.loop-block.from in let to = c.loop-block.to in let b = c.in-Some.block in
+    let got : slice_get l.blocks (rank from l.blocks) ≡ Some b = c.in-Some.ensures.value.0 in
+    let down = (laid_step l.hi to (rank from l.blocks) b l.blocks got c.loop-block.invariant.laid).0 in
+    let inside = inside_got l.blocks (rank from l.blocks) b got in
+    let is = slid l c.settle.new.blocks from to b c.loop-block.invariant.ordered got down c.settle.ensures.blocks in
+    let same : length c.settle.new.blocks.blocks ≡ length l.blocks = ap length is ∙ length-set l.blocks (rank from l.blocks) _ in
+    let next : rank (block_end b) c.settle.new.blocks.blocks ≡ suc (rank from l.blocks) = ap (rank (block_end b)) is ∙ stepped l c.settle.new.blocks from to b c.loop-block.invariant.ordered got down c.settle.ensures.blocks in
+    rw (same, next) (omega arith)
 
 pub loop-block-preserved : goal.loop-block-preserved
 loop-block-preserved g c =
     let l = c.loop-block.blocks in let inv = c.loop-block.invariant in
-    let i = c.loop-block.i in let to = c.loop-block.to in let b = c.in-Some.block in let high = c.args.high in
+    let from = c.loop-block.from in let to = c.loop-block.to in let b = c.in-Some.block in let high = c.args.high in
+    let i = rank from l.blocks in
     let got : slice_get l.blocks i ≡ Some b = c.in-Some.ensures.value.0 in
     let lt : b.at < high = c.in-Some.ensures.value.1 in
-    let after : List Block = set l.blocks i (record b { at = to }) in
-    let new : c.settle.new.blocks.blocks ≡ after = listed c.settle.new.blocks l after c.settle.ensures.blocks in
     let step = laid_step l.hi to i b l.blocks got inv.laid in
     let down = step.0 in
+    let after : List Block = set l.blocks i (record b { at = to }) in
+    let new : c.settle.new.blocks.blocks ≡ after = slid l c.settle.new.blocks from to b inv.ordered got down c.settle.ensures.blocks in
+    let next : rank (block_end b) after ≡ suc i = stepped l c.settle.new.blocks from to b inv.ordered got down c.settle.ensures.blocks in
     let rest = rest_step (FitsGap c.args.low high) to i b l.blocks got inv.rest in
     let wide = c.from-moved.ensures in
     let r = wide ∙ c.settle.ensures.moved in
     let small = step-le to c.from-moved.result b r in
-    let from = inv.from in
-    let inside : block_end b ≤ high = (inside_is c.args.low high b (each_got (λ x. 0 < x.size) l.blocks i b got (sizes l.lo l.hi l.blocks inv.ordered.laid)) (omega arith) lt rest.0).0 in
+    let from_low = inv.from in
+    let lo = inv.bounds.1 in let hi = inv.bounds.2 in
     record {
-      bounds = kept c.settle.new.blocks l c.args.blocks.now after c.settle.ensures.blocks inv.bounds;
+      bounds = kept c.settle.new.blocks l c.args.blocks.now _ c.settle.ensures.blocks inv.bounds;
       ordered = c.settle.ensures.ordered;
-      list = rw (new, add-one) (list_step high to i b l.blocks (gathered c.args.low high c.args.blocks.now.blocks) got lt inv.list);
-      settled = rw (new, add-one) (settled_step l.blocks i (record b { at = to }) to (omega arith) inv.settled);
-      laid = rw (new, add-one) (subst (λ (k : ℕ). IsLaid (to + b.size) k (drop (suc i) (set l.blocks i (record b { at = to })))) (sym (topped c.settle.new.blocks l after c.settle.ensures.blocks)) step.2);
-      rest = rw (new, add-one) rest.1;
+      list = rw (new, next) (list_step high to i b l.blocks (gathered c.args.low high c.args.blocks.now.blocks) got lt inv.list);
+      settled = rw (new, next) (settled_step l.blocks i (record b { at = to }) to (omega arith) inv.settled);
+      laid = rw (new, next) (subst (λ (k : ℕ). IsLaid (to + b.size) k (drop (suc i) (set l.blocks i (record b { at = to })))) (sym (topped c.settle.new.blocks l _ c.settle.ensures.blocks)) step.2);
+      rest = rw (new, next) rest.1;
       from = omega arith;
       grained = sum_multiple _ to b.size inv.grained (subst (λ g. IsMultiple g b.size) inv.bounds.3 (each_got (IsGrained l.grain) l.blocks i b got inv.ordered.grained).1);
-      sum = rw (new, add-one) (moved_step high to i c.loop-block.moved (moved_between c.args.blocks.now.blocks (gathered c.args.low high c.args.blocks.now.blocks)) c.from-moved.result b l.blocks got lt r inv.sum);
+      sum = rw (new, next) (moved_step high to i c.loop-block.moved (moved_between c.args.blocks.now.blocks (gathered c.args.low high c.args.blocks.now.blocks)) c.from-moved.result b l.blocks got lt r inv.sum);
       small = let h = inv.small in omega arith;
       written = let h = inv.written in let k = c.settle.ensures.written in omega (arith, h, k, wide);
       contents = c.settle.ensures.contents ∙ inv.contents;
-      kept = rest_more inv.kept c.settle.ensures.rest inv.from inside;
+      kept = c.settle.ensures.kept;
+      rest_same = rest_more inv.rest_same c.settle.ensures.rest (omega arith) (omega arith);
     }
-  where
-    sizes : (lo hi : ℕ) (bs : List Block) → IsLaid lo hi bs → AllByRecursion (λ x. 0 < x.size) bs
-    sizes lo hi [] laid = tt
-    sizes lo hi (x ∷ xs) laid = (laid.1, sizes (block_end x) hi xs laid.2)
 
 -- where what is left stays as it is, the blocks are gathered
 ended : (bs old : List Block) (low high to i : ℕ) → take i bs ++ packed high to (drop i bs) ≡ gathered low high old → packed high to (drop i bs) ≡ drop i bs → bs ≡ gathered low high old
@@ -130,11 +154,11 @@ moved_is bs old low high to i moved sum same e =
     omega (arith, none, total, sum)
 
 module _ (g : Given.Over) (c : goal.In_default g) where
-  stays : packed c.args.high c.loop-block.to (drop c.loop-block.i c.loop-block.blocks.blocks) ≡ drop c.loop-block.i c.loop-block.blocks.blocks
-  stays = packed_rest c.args.high c.loop-block.to c.loop-block.i c.loop-block.blocks.blocks c.in_default.ensures.value
+  stays : packed c.args.high c.loop-block.to (drop (rank c.loop-block.from c.loop-block.blocks.blocks) c.loop-block.blocks.blocks) ≡ drop (rank c.loop-block.from c.loop-block.blocks.blocks) c.loop-block.blocks.blocks
+  stays = packed_rest c.args.high c.loop-block.to (rank c.loop-block.from c.loop-block.blocks.blocks) c.loop-block.blocks.blocks c.in_default.ensures.value
 
   list : c.loop-block.blocks.blocks ≡ gathered c.args.low c.args.high c.args.blocks.now.blocks
-  list = ended c.loop-block.blocks.blocks c.args.blocks.now.blocks c.args.low c.args.high c.loop-block.to c.loop-block.i c.loop-block.invariant.list stays
+  list = ended c.loop-block.blocks.blocks c.args.blocks.now.blocks c.args.low c.args.high c.loop-block.to (rank c.loop-block.from c.loop-block.blocks.blocks) c.loop-block.invariant.list stays
 
 pub returns-clause-blocks : goal.returns-clause-blocks
 returns-clause-blocks g c =
@@ -142,27 +166,27 @@ returns-clause-blocks g c =
     λ i. record { cap = bounds.0 i; lo = bounds.1 i; hi = bounds.2 i; grain = bounds.3 i; blocks = e i }
 
 pub returns-clause-moved : goal.returns-clause-moved
-returns-clause-moved g c = moved_is c.loop-block.blocks.blocks c.args.blocks.now.blocks c.args.low c.args.high c.loop-block.to c.loop-block.i c.loop-block.moved c.loop-block.invariant.sum (stays g c) (list g c)
+returns-clause-moved g c = moved_is c.loop-block.blocks.blocks c.args.blocks.now.blocks c.args.low c.args.high c.loop-block.to (rank c.loop-block.from c.loop-block.blocks.blocks) c.loop-block.moved c.loop-block.invariant.sum (stays g c) (list g c)
 
 pub returns-clause-slid : goal.returns-clause-slid
 returns-clause-slid g c =
     let l = c.args.blocks.now in
-    subst (AreSlid l.blocks) (sym (list g c)) (slid_gathered c.args.low c.args.high l.lo l.hi l.blocks c.rank-i.ensures.ordered.laid c.requires.gap.loose)
+    subst (AreSlid l.blocks) (sym (list g c)) (slid_gathered c.args.low c.args.high l.lo l.hi l.blocks c.are_ordered.ensures.laid c.requires.gap.loose)
 
 pub returns-clause-clear : goal.returns-clause-clear
 returns-clause-clear g c =
     let l = c.args.blocks.now in
-    subst (λ bs. IsClear is_any l.lo l.hi bs (c.args.low + loose_bytes l.blocks c.args.low c.args.high) c.args.high) (sym (list g c)) (clear_gathered l c.args.low c.args.high c.rank-i.ensures.ordered.laid c.requires.gap)
+    subst (λ bs. IsClear is_any l.lo l.hi bs (c.args.low + loose_bytes l.blocks c.args.low c.args.high) c.args.high) (sym (list g c)) (clear_gathered l c.args.low c.args.high c.are_ordered.ensures.laid c.requires.gap)
 
 pub returns-clause-hole : goal.returns-clause-hole
 returns-clause-hole g c = λ gap some.
     let l = c.args.blocks.now in
-    subst (λ bs. IsHole l.lo l.hi bs (c.args.low + loose_bytes l.blocks c.args.low c.args.high) c.args.high) (sym (list g c)) (hole_gathered l c.args.low c.args.high c.rank-i.ensures.ordered.laid c.requires.gap gap some)
+    subst (λ bs. IsHole l.lo l.hi bs (c.args.low + loose_bytes l.blocks c.args.low c.args.high) c.args.high) (sym (list g c)) (hole_gathered l c.args.low c.args.high c.are_ordered.ensures.laid c.requires.gap gap some)
 
 pub returns-clause-alone : goal.returns-clause-alone
 returns-clause-alone g c = λ gap a b hole.
     let l = c.args.blocks.now in
-    alone_gathered l c.args.low c.args.high c.rank-i.ensures.ordered.laid c.requires.gap gap a b (subst (λ bs. IsHole l.lo l.hi bs a b) (list g c) hole)
+    alone_gathered l c.args.low c.args.high c.are_ordered.ensures.laid c.requires.gap gap a b (subst (λ bs. IsHole l.lo l.hi bs a b) (list g c) hole)
 
 pub returns-clause-full : goal.returns-clause-full
 returns-clause-full g c = λ gap filled a b hole.
