@@ -7,6 +7,7 @@ pub mod Gathered
 pub mod Loose
 pub mod Bounded
 pub mod Skips
+pub mod ByAddress
 pub mod Walked
 pub mod Cleared
 pub mod Marks

@@ -56,6 +56,9 @@ module _ (p : Block → Bool) (hi : ℕ) (xs : List Block) (total : ℕ) where
     pub laid_now : (r.low + r.loose ≤ x.at) × (0 < x.size) × IsLaid (block_end x) hi (drop (i + 1) xs)
     laid_now = subst (IsLaid (r.low + r.loose) hi) cut now.laid
 
+    pub reaches_now : r.low + r.loose ≤ x.at
+    reaches_now = laid_now.0
+
     pub ends_now : block_end x ≤ hi
     ends_now = laid_le _ hi (drop (i + 1) xs) laid_now.2
 

@@ -181,6 +181,20 @@ module _ (l : Layout) (n : ℕ) (ordered : IsOrdered l) where
       | inr t ↦ subst (IsWalked (i + 1)) (sym (e ∙ cond-false (is_pinned x) _ _ t)) (walked_loose t)
     ]
 
+  -- at the start
+  pub walk_start : (low : ℕ) → low ≡ l.lo → IsWalked 0 (record { low = low; loose = 0 })
+  walk_start low first = subst (λ (k : ℕ). IsWalked 0 (record { low = k; loose = 0 })) (sym first) (record {
+    mid = l.lo;
+    laid = ordered.laid;
+    fits = omega arith;
+    from = omega arith;
+    grained = ordered.from;
+    floor = inl refl;
+    before = tt;
+    sizes = λ b le. refl;
+    lowest = λ a b gap enough. gap.clear.above;
+  })
+
   -- at the end
   module _ (i : ℕ) (r : Reached) (now : IsWalked i r) (none : drop i xs ≡ []) where
     high : now.mid ≤ l.hi

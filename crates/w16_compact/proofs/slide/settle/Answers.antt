@@ -1,4 +1,4 @@
-use Rattle.std.proofs.Common.{ℕ, ◌≡◌, ◌∙◌, refl, ap, subst, sym, Option, Some, set, cond, eqb, arith}
+use Rattle.std.proofs.Common.{◌≡◌, ◌∙◌, ap, subst, sym, Option, Some, set, cond, eqb, arith}
 use Rattle.std.specs.Option.{IfSome}
 use Rattle.std.proofs.lemmas.Bool.{cond-false, ne_eqb}
 use Rattle.w16_region.specs.Bytes.{counted}
@@ -6,7 +6,6 @@ use Rattle.w16_model.specs.declared.Block.{Block}
 use Rattle.std.specs.List.{AllByRecursion}
 use Rattle.w16_model.specs.Bytes.{part}
 use Rattle.w16_model.specs.Gap.{IsLaid, block_end, holes}
-use Rattle.w16_model.specs.Table.{block_with}
 use Rattle.w16_holes.specs.Holes.{IsUsed}
 use Rattle.w16_blocks.specs.Layout.{Layout, rank, replaced, holes_of}
 use Rattle.w16_blocks.specs.Stay.{AreSameBut}
