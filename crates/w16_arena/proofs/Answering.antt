@@ -29,6 +29,7 @@ use Rattle.w16_arena.specs.declared.new_place.Placed.{Placed}
 use Rattle.w16_arena.specs.declared.without_discard.Compacted.{Compacted}
 use Rattle.std.specs.Borrow.{GName}
 use Rattle.w16_compact.specs.Rest.{IsSameRest}
+use Rattle.w16_compact.proofs.Rests.{rest_more}
 use Rattle.w16_arena.specs.State.{ArenaState, IsSameRange, KeepsRest}
 use Rattle.w16_arena.specs.NewPlace.{most_in}
 use Rattle.w16_arena.proofs.Parts.{AreParts}
@@ -63,11 +64,15 @@ still_before heap new k h slid q = from (finmap.get new.places q)
     from (Some at) f = λ out. places_before (take k (eligible (blocks heap) heap.order h)) heap q at (f out)
 
 -- what a step after another leaves of the rest
-pub rest_then : {X : Type 0} {bytes : X → List ℕ} {lenders : X → List GName} {old mid new : Table} {x y : X} → IsSameRange old mid → KeepsRest bytes lenders mid x new y → KeepsRest bytes lenders old x new y
+rest_then : {X : Type 0} {bytes : X → List ℕ} {lenders : X → List GName} {old mid new : Table} {x y : X} → IsSameRange old mid → KeepsRest bytes lenders mid x new y → KeepsRest bytes lenders old x new y
 rest_then {X} {bytes} {lenders} {old} {mid} {new} {x} {y} range rest = record {
   range = record { lo = rest.range.lo ∙ range.lo; hi = rest.range.hi ∙ range.hi; grain = rest.range.grain ∙ range.grain; ids = rest.range.ids ∙ range.ids; sound = rest.range.sound };
   memory = subst (λ lo. IsSameRest bytes lenders lo old.hi x y) range.lo (subst (λ hi. IsSameRest bytes lenders mid.lo hi x y) range.hi rest.memory);
 }
+
+-- and after a step that kept all but free bytes
+pub rest_after : {X : Type 0} {bytes : X → List ℕ} {lenders : X → List GName} {old mid new : Table} {x y z : X} → IsSameRange old mid → IsSameRest bytes lenders mid.lo mid.hi x y → KeepsRest bytes lenders mid y new z → KeepsRest bytes lenders old x new z
+rest_after {X} {bytes} {lenders} {old} {mid} {new} {x} {y} {z} range first rest = rest_then range (record { range = rest.range; memory = rest_more first rest.memory (omega arith) (omega arith) })
 
 -- each stands where it stands
 pub still_same : (heap : Heap) (slid : Span) (q : ℕ) → IsStill slid heap heap q

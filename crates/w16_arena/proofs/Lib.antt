@@ -10,6 +10,7 @@ pub mod Moved
 pub mod Arranged
 pub mod Rooms
 pub mod Gathering
+pub mod Keeping
 pub mod Unmoved
 pub mod Changed
 pub mod Reordered

@@ -8,7 +8,7 @@ use Rattle.w16_model.specs.Table.{Table, IsSound, block_with}
 use Rattle.w16_model.proofs.Gaps.{Member, Each-at, Each-map, EachPair-from_AllPairs}
 use Rattle.w16_model.proofs.Tables.{with_member, member_with}
 use Rattle.w16_blocks.specs.Layout.{rank}
-use Rattle.w16_blocks.proofs.Rank.{IsRising-from_apart}
+use Rattle.w16_model.proofs.Laid.{laid_each}
 
 -- what the block of a rank is to an address
 abbrev pub IsNext : ℕ → List Block → Option Block → Type 0
@@ -21,7 +21,7 @@ next_is lo hi from (b ∷ bs) laid = elim (cases_lt b.at from) [
   | inr above ↦ rw (le-ltb b.at from above) (
     inl refl,
     above,
-    (inr (inl refl), Each-map (λ c. b.at < c.at) (λ c. (c.at < from) ⊎ ((c ≡ b) ⊎ (b.at < c.at))) (λ c lt. inr (inr lt)) bs (IsRising-from_apart lo hi (b ∷ bs) laid).0),
+    (inr (inl refl), let some = laid.1 in Each-map (λ c. (block_end b ≤ c.at) × (0 < c.size) × (block_end c ≤ hi)) (λ c. (c.at < from) ⊎ ((c ≡ b) ⊎ (b.at < c.at))) (λ c lies. let after = lies.0 in inr (inr (omega arith))) bs (laid_each (block_end b) hi bs laid.2)),
   )
 ]
   where
@@ -37,9 +37,9 @@ each_block bs P all q = from (block_with bs q) refl
     from None e = tt
     from (Some x) e = Each-at P bs all x (member_with bs q x e).0
 
-module _ (t : Table) (sound : IsSound t) (from r : ℕ) {found : Option Block} (counted : r ≡ rank from t.blocks) (got : found ≡ slice_get t.blocks r) where
+module _ (t : Table) (sound : IsSound t) (from : ℕ) {found : Option Block} (got : found ≡ slice_get t.blocks (rank from t.blocks)) where
   is_next : IsNext from t.blocks found
-  is_next = subst (IsNext from t.blocks) (sym (got ∙ ap (slice_get t.blocks) counted)) (next_is t.lo t.hi from t.blocks sound.table.laid)
+  is_next = subst (IsNext from t.blocks) (sym got) (next_is t.lo t.hi from t.blocks sound.table.laid)
 
   pub next_found : IfSome found (λ b. (from ≤ b.at) × (block_with t.blocks b.id ≡ Some b))
   next_found = turn found is_next

@@ -2,6 +2,9 @@
 use Rattle.std.specs.Prelude.{◌≡◌, ℕ, ◌≤◌, List, [], length, replicate, Option, None, Result}
 use Rattle.w16_model.specs.declared.Entry.{Entry}
 use Rattle.w16_model.specs.declared.Refusal.{Refusal}
+use Rattle.w16_model.specs.declared.Block.{Block}
+use Rattle.w16_model.specs.declared.Span.{Span}
+use Rattle.w16_model.specs.Gap.{holes}
 use Rattle.w16_model.specs.Heap.{Heap, Object}
 use Rattle.w16_model.specs.OneObject.{after_newest, after_oldest}
 use Rattle.w16_model.specs.Table.{Table, IsSound, heap_in}
@@ -9,6 +12,7 @@ use Rattle.std.specs.Borrow.{GName}
 use Rattle.w16_blocks.specs.Layout.{Layout}
 use Rattle.w16_lru.specs.declared.End.{End}
 use Rattle.w16_lru.specs.declared.End.TheVariants.{Oldest, Newest}
+use Rattle.w16_compact.specs.Gather.{contents}
 use Rattle.w16_compact.specs.Rest.{IsSameRest}
 
 -- the table of an arena's heap, and the ids that its last request discarded, oldest first
@@ -32,6 +36,10 @@ empty_table cap lo hi grain = record { lo = lo; hi = hi; grain = grain; entries 
 abbrev pub entry_of : Object → Entry
 entry_of o = record { kind = o.kind; locks = o.locks }
 
+-- the holes between the blocks of a table
+abbrev pub holes_in : Table → List Span
+holes_in t = holes t.lo t.hi t.blocks
+
 -- two tables over one range, with as many ids, and the second is sound
 pub record IsSameRange (old new : Table) : Type 0 where
   pub lo : new.lo ≡ old.lo
@@ -44,6 +52,12 @@ pub record IsSameRange (old new : Table) : Type 0 where
 pub record KeepsRest {X : Type 0} (bytes : X → List ℕ) (lenders : X → List GName) (old : Table) (before : X) (new : Table) (after : X) : Type 0 where
   pub range : IsSameRange old new
   pub memory : IsSameRest bytes lenders old.lo old.hi before after
+
+-- What a step leaves of a memory where it only gives or takes free bytes between two bounds: each block's bytes, all outside the bounds, and the count of bytes written.
+pub record KeepsBytes {X : Type 0} (bytes : X → List ℕ) (lenders : X → List GName) (written : X → ℕ) (lo hi : ℕ) (blocks : List Block) (before after : X) : Type 0 where
+  pub contents : contents (bytes after) blocks ≡ contents (bytes before) blocks
+  pub rest : IsSameRest bytes lenders lo hi before after
+  pub count : written after ≡ written before
 
 -- A step that asks for no room, in every memory that has the range: it changes the table alone.
 pub record Steps (old new : ArenaState) (step : Heap → Heap → Type 0) : Type 0 where

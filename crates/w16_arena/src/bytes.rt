@@ -6,10 +6,11 @@ ghost use Rattle.std.specs.Borrow.{sem};
 ghost use Rattle.w16_region.specs.Lending.{LendsPart};
 
 use crate::Arena;
+use w16_holes::HoleList;
 use w16_model::Block;
 use w16_region::Space;
 
-impl Arena {
+impl<H: HoleList> Arena<H> {
     /// An object's bytes, if it has any.
     pub fn bytes<'a, S: Space>(&self, space: &'a S, id: u32) -> Option<&'a [u8]>
         requires { self.now.table.hi ≤ length (S.bytes space.now) }
@@ -22,7 +23,7 @@ impl Arena {
     }
 
     /// The bytes of the object whose block this is, to be written. All of them count as written. The memory that lends them stands first.
-    pub fn bytes_mut<'a, S: Space>(space: &'a mut S, arena: &Arena, block: Block) -> &'a mut [u8]
+    pub fn bytes_mut<'a, S: Space>(space: &'a mut S, arena: &Arena<H>, block: Block) -> &'a mut [u8]
         requires inside { arena.now.table.hi ≤ length (S.bytes space.old) }
         requires known { block_with arena.now.table.blocks block.id ≡ Some block }
         ensures value { bytes_at (heap_in arena.now.table (S.bytes space.old)) block.id ≡ Some result.now }

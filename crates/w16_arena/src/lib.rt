@@ -8,16 +8,15 @@
 ghost use Rattle.std.specs.Prelude.{◌≡◌, ◌<◌, ◌≤◌, ◌⊎◌, ℕ, [], IfOk, IfSome, IfNone};
 ghost use Rattle.w16_model.specs.Heap.{IsMultiple};
 ghost use Rattle.w16_model.specs.Table.{block_with, entry_at, IsSound};
-ghost use Rattle.w16_arena.specs.State.{empty_table};
+ghost use Rattle.w16_holes.specs.Holes.{add_span};
+ghost use Rattle.w16_arena.specs.State.{empty_table, holes_in};
 
 mod bytes;
 mod discards;
 mod new_place;
 mod objects;
 mod requests;
-#[cfg(test)]
-mod tests;
-mod walk;
+
 mod without_discard;
 
 pub use new_place::Placed;
@@ -25,16 +24,18 @@ pub use requests::NoRoom;
 use std::alloc::{AllocError, Global};
 use std::marker::Model;
 use w16_blocks::Blocks;
+use w16_holes::{HoleList, Holes};
 use w16_lru::Order;
 use w16_model::{Block, Entry};
+use w16_region::Space;
 pub use without_discard::Compacted;
 
 /// Objects by id, without their bytes. One whose entry has no block is absent.
 #[derive(Drop)]
-pub struct Arena {
+pub struct Arena<H: HoleList> {
     /// By id.
     pub(crate) entries: Vec<Option<Entry>>,
-    pub(crate) blocks: Blocks,
+    pub(crate) blocks: Blocks<H>,
     /// The discardable objects with bytes.
     pub(crate) order: Order,
     /// A mark for each id, for the search of those to discard.
@@ -43,7 +44,7 @@ pub struct Arena {
     pub(crate) discarded: Vec<u32>,
 }
 
-impl Model for Arena {
+impl<H: HoleList> Model for Arena<H> {
     ghost use Rattle.std.specs.Prelude.{vec_capacity};
     ghost use Rattle.w16_arena.specs.State.{ArenaState, table_of};
     ghost use Rattle.w16_arena.specs.Representation.{IsKept};
@@ -55,15 +56,28 @@ impl Model for Arena {
     ghost invariant = { λ s. IsKept s.entries.items s.blocks s.order s.marks.items (vec_capacity s.discarded) };
 }
 
-impl Arena {
-    /// No object yet, of ids below `cap`, between `lo` and `hi`, at multiples of the grain. An error is that there was no memory.
-    pub fn new(alloc: Global, cap: u32, lo: u32, hi: u32, grain: u32) -> Result<Arena, AllocError>
+impl<H: HoleList> Arena<H> {
+    /// No object yet, of ids below `cap`, between `lo` and `hi`, at multiples of the grain, over holes of which all that is one. An error
+    /// is that there was no memory.
+    pub fn new(
+        alloc: Global,
+        cap: u32,
+        holes: H,
+        lo: u32,
+        hi: u32,
+        grain: u32,
+    ) -> Result<Arena<H>, AllocError>
+    where
+        H: Drop,
         requires bounds { lo ≤ hi }
+        requires some { 0 < grain }
         requires grained { IsMultiple grain lo }
+        requires range { H.range holes ≡ record { lo = lo; hi = hi; grain = grain } }
+        requires whole { H.holes holes ≡ add_span lo hi [] }
         ensures { IfOk result (λ made. made ≡ record { table = empty_table cap lo hi grain; discarded = [] }) }
     {
         let entries = vec![in alloc; None; cap as usize]?;
-        let blocks = Blocks::with_room(alloc, cap, lo, hi, grain)?;
+        let blocks = Blocks::with_room(alloc, cap, holes, lo, hi, grain)?;
         let order = Order::with_room(alloc, cap)?;
         let marks = vec![in alloc; false; cap as usize]?;
         let discarded = Vec::with_capacity(alloc, cap as usize)?;
@@ -96,13 +110,16 @@ impl Arena {
     }
 
     /// The lowest block at or above an address, if there is one.
-    pub fn next_block(&self, from: u32) -> Option<Block>
+    pub fn next_block<S: Space>(&self, space: &S, from: u32) -> Option<Block>
+    where
+        H: Holes<S>,
+        requires kept { H.are_in (holes_in self.now.table) (S.bytes space.now) }
         ensures found { IfSome result (λ b. (from ≤ b.at) × (block_with self.now.table.blocks b.id ≡ Some b)) }
         ensures lowest { IfSome result (λ b. (q : ℕ) → IfSome (block_with self.now.table.blocks q) (λ c. (c.at < from) ⊎ (b.at ≤ c.at))) }
         ensures none { IfNone result ((q : ℕ) → IfSome (block_with self.now.table.blocks q) (λ c. c.at < from)) }
         ensures sound { IsSound self.now.table }
     {
-        self.blocks.at_index(self.blocks.rank(from))
+        self.blocks.next_from(space, from)
     }
 
     /// The ids that the last request discarded, oldest first.

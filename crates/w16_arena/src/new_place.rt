@@ -1,15 +1,17 @@
 //! Room for new bytes, by a hole that is there or by sliding the blocks of a gap.
-ghost use Rattle.std.specs.Prelude.{◌≡◌, ◌<◌, ◌≤◌, false, true, length, IfSome, IfNone, if◌then◌else◌, ◌+◌};
+ghost use Rattle.std.specs.Prelude.{◌≡◌, ◌<◌, ◌≤◌, false, true, length, IfSome, IfNone, if◌then◌else◌, ◌+◌, All};
 ghost use Rattle.w16_model.specs.Gap.{room};
-ghost use Rattle.w16_blocks.specs.Layout.{IsOrdered};
+ghost use Rattle.w16_blocks.specs.Layout.{Fits, IsOrdered, holes_of, placed};
 ghost use Rattle.w16_compact.specs.Gather.{moved_between};
 ghost use Rattle.w16_model.specs.Bytes.{put_part, repeated};
 ghost use Rattle.w16_region.specs.Bytes.{counted};
 ghost use Rattle.w16_compact.specs.Rest.{IsSameRest};
+ghost use Rattle.w16_arena.specs.State.{KeepsBytes};
 ghost use Rattle.w16_arena.specs.NewPlace.{AreMoved, AreFreeBytes, IsLowestGathered, IsLowestPlace, most_for};
 
-use w16_blocks::{Blocks, Span};
+use w16_blocks::{Block, Blocks, Span};
 use w16_compact::{gap_for, gather};
+use w16_holes::Holes;
 use w16_region::{Space, has_bytes};
 
 /// Where new bytes stand, the range whose blocks slid for them, and how many bytes were moved.
@@ -26,13 +28,14 @@ pub(crate) const NOTHING: Span = Span { from: 0, to: 0 };
 
 /// A place of `size` bytes: in the lowest hole that is long enough, or else, where blocks may slide, behind the blocks of the lowest gap
 /// with room, gathered. Nothing is changed where there is none.
-pub(crate) fn make_room<S: Space>(
-    blocks: &mut Blocks,
+pub(crate) fn make_room<S: Space, H: Holes<S>>(
+    blocks: &mut Blocks<H>,
     space: &mut S,
     size: u32,
     compact: bool,
 ) -> Option<Placed>
     requires some { 0 < size }
+    requires kept { H.are_in (holes_of blocks.old) (S.bytes space.old) }
     requires inside { blocks.old.hi ≤ length (S.bytes space.old) }
     ensures ordered { IsOrdered blocks.old }
     ensures slid { IfSome result (λ p. AreMoved p.slid.from p.slid.to blocks.old (S.bytes space.old) blocks.new (S.bytes space.new)) }
@@ -42,10 +45,11 @@ pub(crate) fn make_room<S: Space>(
     ensures enough { IfSome result (λ _. size ≤ most_for blocks.old compact) }
     ensures still { compact ≡ false → (blocks.new ≡ blocks.old) × (space.new ≡ space.old) }
     ensures rest { IsSameRest S.bytes S.lenders blocks.old.lo blocks.old.hi space.old space.new }
+    ensures kept { H.are_in (holes_of blocks.new) (S.bytes space.new) }
     ensures written { IfSome result (λ p. S.written space.new ≡ counted (S.written space.old) p.moved) }
     ensures refused { IfNone result ((most_for blocks.old compact < size) × (blocks.new ≡ blocks.old) × (space.new ≡ space.old)) }
 {
-    if let Some(at) = blocks.hole_for(size) {
+    if let Some(at) = blocks.hole_for(space, size) {
         return Some(Placed {
             at,
             slid: NOTHING,
@@ -60,18 +64,24 @@ pub(crate) fn make_room<S: Space>(
 }
 
 /// A place of `size` bytes behind the blocks of the lowest gap with room, gathered.
-fn gather_for<S: Space>(blocks: &mut Blocks, space: &mut S, size: u32) -> Option<Placed>
+fn gather_for<S: Space, H: Holes<S>>(
+    blocks: &mut Blocks<H>,
+    space: &mut S,
+    size: u32,
+) -> Option<Placed>
     requires some { 0 < size }
+    requires kept { H.are_in (holes_of blocks.old) (S.bytes space.old) }
     requires inside { blocks.old.hi ≤ length (S.bytes space.old) }
     ensures slid { IfSome result (λ p. AreMoved p.slid.from p.slid.to blocks.old (S.bytes space.old) blocks.new (S.bytes space.new)) }
     ensures free { IfSome result (λ p. AreFreeBytes blocks.new size p.at) }
     ensures moved { IfSome result (λ p. p.moved ≡ moved_between blocks.old.blocks blocks.new.blocks) }
     ensures lowest { IfSome result (λ p. IsLowestGathered blocks.old size p.at) }
     ensures rest { IsSameRest S.bytes S.lenders blocks.old.lo blocks.old.hi space.old space.new }
+    ensures kept { H.are_in (holes_of blocks.new) (S.bytes space.new) }
     ensures written { IfSome result (λ p. S.written space.new ≡ counted (S.written space.old) p.moved) }
     ensures refused { IfNone result ((most_for blocks.old true < size) × (blocks.new ≡ blocks.old) × (space.new ≡ space.old)) }
 {
-    let gap = gap_for(blocks, size)?;
+    let gap = gap_for(blocks, space, size)?;
     let moved = gather(blocks, space, gap.low, gap.high);
     has_bytes(space);
     Some(Placed {
@@ -82,6 +92,21 @@ fn gather_for<S: Space>(blocks: &mut Blocks, space: &mut S, size: u32) -> Option
         },
         moved,
     })
+}
+
+/// Adds a block where bytes are free. What the others have stays.
+pub(crate) fn insert<S: Space, H: Holes<S>>(blocks: &mut Blocks<H>, space: &mut S, block: Block)
+    requires fits { Fits blocks.old block }
+    requires kept { H.are_in (holes_of blocks.old) (S.bytes space.old) }
+    ensures value { blocks.new ≡ record blocks.old { blocks = placed block blocks.old.blocks } }
+    ensures ordered { IsOrdered blocks.new }
+    ensures kept { H.are_in (holes_of blocks.new) (S.bytes space.new) }
+    ensures bytes { KeepsBytes S.bytes S.lenders S.written blocks.old.lo blocks.old.hi blocks.old.blocks space.old space.new }
+    ensures small { All (λ b. b < 256) (S.bytes space.new) }
+{
+    blocks.bounds();
+    blocks.insert(space, block);
+    has_bytes(space);
 }
 
 /// Sets `size` bytes from an address on to zeros, where that is asked for.

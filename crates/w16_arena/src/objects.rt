@@ -5,15 +5,17 @@ ghost use Rattle.w16_model.specs.OneObject.{Enters, after_free, after_release, a
 ghost use Rattle.w16_model.specs.Table.{block_with, entry_at, hold_of_entry, IsCountedBy};
 ghost use Rattle.w16_model.specs.Changes as changes;
 ghost use Rattle.w16_model.specs.Discards.{is_member};
-ghost use Rattle.w16_blocks.specs.Layout.{IsOrdered, all_but, replaced};
-ghost use Rattle.w16_arena.specs.State.{Steps, after_end};
+ghost use Rattle.w16_blocks.specs.Layout.{IsOrdered, all_but, holes_of, replaced};
+ghost use Rattle.w16_arena.specs.State.{KeepsBytes, Steps, after_end, holes_in};
 
 use crate::Arena;
 use w16_blocks::{Blocks, Hold};
+use w16_holes::{HoleList, Holes};
 use w16_lru::End;
 use w16_model::{Entry, Kind, Refusal};
+use w16_region::Space;
 
-impl Arena {
+impl<H: HoleList> Arena<H> {
     /// A new object that is absent, for an id that has none.
     pub fn enter(&mut self, id: u32, kind: Kind)
         requires id { id < length self.old.table.entries }
@@ -24,20 +26,30 @@ impl Arena {
     }
 
     /// Takes an object away, absent or not, locked or not.
-    pub fn release(&mut self, id: u32)
-        ensures { Steps self.old self.new (λ old new. new ≡ after_release old id) }
+    pub fn release<S: Space>(&mut self, space: &mut S, id: u32)
+    where
+        H: Holes<S>,
+        requires kept { H.are_in (holes_in self.old.table) (S.bytes space.old) }
+        ensures steps { Steps self.old self.new (λ old new. new ≡ after_release old id) }
+        ensures bytes { KeepsBytes S.bytes S.lenders S.written self.new.table.lo self.new.table.hi self.new.table.blocks space.old space.new }
+        ensures kept { H.are_in (holes_in self.new.table) (S.bytes space.new) }
     {
         if self.entry(id).is_some() {
-            remove_block(&mut self.blocks, id);
+            remove_block(&mut self.blocks, space, id);
             self.entries[id as usize] = None;
             self.order.remove(id);
         }
     }
 
     /// Takes an object away, absent or not. A locked one stays: `Locked`.
-    pub fn free(&mut self, id: u32) -> Result<(), Refusal>
+    pub fn free<S: Space>(&mut self, space: &mut S, id: u32) -> Result<(), Refusal>
+    where
+        H: Holes<S>,
+        requires kept { H.are_in (holes_in self.old.table) (S.bytes space.old) }
         ensures ok { OnOk result (Steps self.old self.new (λ old new. after_free old id ≡ Ok new)) }
         ensures err { IfErr result (λ r. (self.new ≡ self.old) × Steps self.old self.new (λ old new. after_free old id ≡ Err r)) }
+        ensures bytes { KeepsBytes S.bytes S.lenders S.written self.new.table.lo self.new.table.hi self.new.table.blocks space.old space.new }
+        ensures kept { H.are_in (holes_in self.new.table) (S.bytes space.new) }
     {
         let Some(entry) = self.entry(id) else {
             return Ok(());
@@ -45,7 +57,7 @@ impl Arena {
         if entry.locks > 0 {
             return Err(Refusal::Locked);
         }
-        self.release(id);
+        self.release(space, id);
         Ok(())
     }
 
@@ -89,9 +101,14 @@ impl Arena {
 
     /// A discardable object gives up its bytes, if it has any. A locked one keeps them (`Locked`), and so does one that isn't discardable
     /// (`NotDiscardable`).
-    pub fn discard(&mut self, id: u32) -> Result<(), Refusal>
+    pub fn discard<S: Space>(&mut self, space: &mut S, id: u32) -> Result<(), Refusal>
+    where
+        H: Holes<S>,
+        requires kept { H.are_in (holes_in self.old.table) (S.bytes space.old) }
         ensures ok { OnOk result (Steps self.old self.new (λ old new. after_discard old id ≡ Ok new)) }
         ensures err { IfErr result (λ r. (self.new ≡ self.old) × Steps self.old self.new (λ old new. after_discard old id ≡ Err r)) }
+        ensures bytes { KeepsBytes S.bytes S.lenders S.written self.new.table.lo self.new.table.hi self.new.table.blocks space.old space.new }
+        ensures kept { H.are_in (holes_in self.new.table) (S.bytes space.new) }
     {
         let Some(entry) = self.entry(id) else {
             return Err(Refusal::NotDiscardable);
@@ -102,7 +119,7 @@ impl Arena {
         if !is_discardable(entry.kind) {
             return Err(Refusal::NotDiscardable);
         }
-        self.give_up(id);
+        self.give_up(space, id);
         Ok(())
     }
 
@@ -164,14 +181,19 @@ impl Arena {
     }
 
     /// An object that isn't locked gives up its bytes, if it has any. Its id and kind stay.
-    pub(crate) fn give_up(&mut self, id: u32)
-        requires { IsSomeAnd (entry_at self.old.table id) (λ e. e.locks ≡ 0) }
+    pub(crate) fn give_up<S: Space>(&mut self, space: &mut S, id: u32)
+    where
+        H: Holes<S>,
+        requires kept { H.are_in (holes_in self.old.table) (S.bytes space.old) }
+        requires unlocked { IsSomeAnd (entry_at self.old.table id) (λ e. e.locks ≡ 0) }
         ensures steps { Steps self.old self.new (λ old new. new ≡ changes.absent old id) }
         ensures blocks { self.new.table.blocks ≡ all_but id self.old.table.blocks }
         ensures order { self.new.table.order ≡ changes.without id self.old.table.order }
         ensures entries { self.new.table.entries ≡ self.old.table.entries }
+        ensures bytes { KeepsBytes S.bytes S.lenders S.written self.new.table.lo self.new.table.hi self.new.table.blocks space.old space.new }
+        ensures kept { H.are_in (holes_in self.new.table) (S.bytes space.new) }
     {
-        remove_block(&mut self.blocks, id);
+        remove_block(&mut self.blocks, space, id);
         self.order.remove(id);
     }
 
@@ -197,18 +219,21 @@ impl Arena {
 }
 
 /// Takes an id's block away, if it has one.
-fn remove_block(blocks: &mut Blocks, id: u32)
-    requires { id < blocks.old.cap }
+fn remove_block<S: Space, H: Holes<S>>(blocks: &mut Blocks<H>, space: &mut S, id: u32)
+    requires id { id < blocks.old.cap }
+    requires kept { H.are_in (holes_of blocks.old) (S.bytes space.old) }
     ensures value { blocks.new ≡ record blocks.old { blocks = all_but id blocks.old.blocks } }
     ensures ordered { IsOrdered blocks.new }
+    ensures kept { H.are_in (holes_of blocks.new) (S.bytes space.new) }
+    ensures bytes { KeepsBytes S.bytes S.lenders S.written blocks.new.lo blocks.new.hi blocks.new.blocks space.old space.new }
 {
     if blocks.find(id).is_some() {
-        blocks.remove(id);
+        blocks.remove(space, id);
     }
 }
 
 /// Pins an id's block or lets it loose, if it has one.
-fn set_hold(blocks: &mut Blocks, id: u32, hold: Hold)
+fn set_hold<H: HoleList>(blocks: &mut Blocks<H>, id: u32, hold: Hold)
     requires { id < blocks.old.cap }
     ensures none { IfNone (block_with blocks.old.blocks id) (blocks.new ≡ blocks.old) }
     ensures some { IfSome (block_with blocks.old.blocks id) (λ b. blocks.new ≡ record blocks.old { blocks = replaced (record b { hold = hold }) blocks.old.blocks }) }

@@ -5,13 +5,14 @@ ghost use Rattle.w16_model.specs.Heap.{IsMultiple};
 ghost use Rattle.w16_model.specs.Discards.{needed, snapshot};
 ghost use Rattle.w16_model.specs.Table.{block_with, heap_in, IsSound};
 ghost use Rattle.w16_model.specs.Request.{Allocates, Compacts, compaction_prefix};
-ghost use Rattle.w16_arena.specs.State.{KeepsRest};
+ghost use Rattle.w16_arena.specs.State.{KeepsRest, holes_in};
 ghost use Rattle.w16_arena.specs.Asked.{HasDiscarded, IsPlaced, IsSlid, first_eligible};
 
 use crate::Arena;
 use crate::new_place::{NOTHING, Placed};
 use crate::without_discard::Compacted;
 use w16_compact::least_prefix;
+use w16_holes::{HoleList, Holes};
 use w16_model::{Kind, Way};
 use w16_region::{Space, has_bytes};
 
@@ -19,7 +20,7 @@ use w16_region::{Space, has_bytes};
 #[derive(Clone, Copy, Debug, PartialEq, Eq)]
 pub struct NoRoom;
 
-impl Arena {
+impl<H: HoleList> Arena<H> {
     /// So many bytes, a multiple of the grain, for an id that has none: a new object, or an absent one again. They stand in the lowest hole
     /// that is long enough, or else, where the way lets others slide, behind the blocks of the lowest gap with room; where there is none and
     /// the way lets others be discarded, as few of the least recently used as are needed. A discardable object becomes the newest.
@@ -31,10 +32,13 @@ impl Arena {
         kind: Kind,
         way: Way,
     ) -> Result<Placed, NoRoom>
+    where
+        H: Holes<S>,
         requires id { id < length self.old.table.entries }
         requires absent { block_with self.old.table.blocks id ≡ None }
         requires some { 0 < size }
         requires rounded { IsMultiple self.old.table.grain size }
+        requires kept { H.are_in (holes_in self.old.table) (S.bytes space.old) }
         requires inside { self.old.table.hi ≤ length (S.bytes space.old) }
         ensures allocated { Allocates (heap_in self.old.table (S.bytes space.old)) id size kind 0 way (is_ok result)
             (heap_in self.new.table (S.bytes space.new)) }
@@ -43,6 +47,7 @@ impl Arena {
         ensures discarded { IfOk result (λ _. HasDiscarded (heap_in self.old.table (S.bytes space.old)) id size way self.new.discarded) }
         ensures refused { OnErr result ((self.new ≡ self.old) × (space.new ≡ space.old)) }
         ensures rest { KeepsRest S.bytes S.lenders self.old.table space.old self.new.table space.new }
+        ensures kept { H.are_in (holes_in self.new.table) (S.bytes space.new) }
         ensures written { IfOk result (λ p. S.written space.new
             ≡ counted (counted (S.written space.old) p.moved) (if way.zero then size else 0)) }
     {
@@ -65,10 +70,13 @@ impl Arena {
         kind: Kind,
         way: Way,
     ) -> Result<Placed, NoRoom>
+    where
+        H: Holes<S>,
         requires id { id < length self.old.table.entries }
         requires absent { block_with self.old.table.blocks id ≡ None }
         requires some { 0 < size }
         requires rounded { IsMultiple self.old.table.grain size }
+        requires kept { H.are_in (holes_in self.old.table) (S.bytes space.old) }
         requires inside { self.old.table.hi ≤ length (S.bytes space.old) }
         requires may { (way.compact && way.discard) ≡ true }
         ensures allocated { Allocates (heap_in self.old.table (S.bytes space.old)) id size kind 0 way (is_ok result)
@@ -78,14 +86,15 @@ impl Arena {
         ensures discarded { IfOk result (λ _. HasDiscarded (heap_in self.old.table (S.bytes space.old)) id size way self.new.discarded) }
         ensures refused { OnErr result ((self.new ≡ self.old) × (space.new ≡ space.old)) }
         ensures rest { KeepsRest S.bytes S.lenders self.old.table space.old self.new.table space.new }
+        ensures kept { H.are_in (holes_in self.new.table) (S.bytes space.new) }
         ensures written { IfOk result (λ p. S.written space.new
             ≡ counted (counted (S.written space.old) p.moved) (if way.zero then size else 0)) }
     {
         has_bytes(space);
-        let Some(k) = self.least_discards(Some(id), size) else {
+        let Some(k) = self.least_discards(space, Some(id), size) else {
             return Err(NoRoom);
         };
-        self.discard_first(k, Some(id));
+        self.discard_first(space, k, Some(id));
         let Some(placed) = self.place(space, id, size, kind, way) else {
             unreachable!();
         };
@@ -95,6 +104,9 @@ impl Arena {
     /// Makes room for `n` bytes, and answers the length of the longest hole that there is then: as few of the least recently used are
     /// discarded as are needed, or all that may be, and the others slide. For 0 bytes it only answers how long a hole that could make.
     pub fn compact<S: Space>(&mut self, space: &mut S, n: u32) -> Compacted
+    where
+        H: Holes<S>,
+        requires kept { H.are_in (holes_in self.old.table) (S.bytes space.old) }
         requires inside { self.old.table.hi ≤ length (S.bytes space.old) }
         ensures compacted { Compacts (heap_in self.old.table (S.bytes space.old)) n result.room
             (heap_in self.new.table (S.bytes space.new)) }
@@ -103,13 +115,14 @@ impl Arena {
             (compaction_prefix (heap_in self.old.table (S.bytes space.old)) n) None }
         ensures none { n ≡ 0 → (self.new.discarded ≡ []) × (space.new ≡ space.old) }
         ensures rest { KeepsRest S.bytes S.lenders self.old.table space.old self.new.table space.new }
+        ensures kept { H.are_in (holes_in self.new.table) (S.bytes space.new) }
         ensures written { S.written space.new ≡ counted (S.written space.old) result.moved }
     {
         if n > 0 {
             return self.slide_discarding(space, n);
         }
         self.is_sound();
-        let room = self.room_all();
+        let room = self.room_all(space);
         self.forget_discards();
         Compacted {
             room,
@@ -120,7 +133,10 @@ impl Arena {
 
     /// The same for some bytes.
     fn slide_discarding<S: Space>(&mut self, space: &mut S, n: u32) -> Compacted
+    where
+        H: Holes<S>,
         requires some { 0 < n }
+        requires kept { H.are_in (holes_in self.old.table) (S.bytes space.old) }
         requires inside { self.old.table.hi ≤ length (S.bytes space.old) }
         ensures compacted { Compacts (heap_in self.old.table (S.bytes space.old)) n result.room
             (heap_in self.new.table (S.bytes space.new)) }
@@ -128,22 +144,31 @@ impl Arena {
         ensures discarded { self.new.discarded ≡ first_eligible (heap_in self.old.table (S.bytes space.old))
             (compaction_prefix (heap_in self.old.table (S.bytes space.old)) n) None }
         ensures rest { KeepsRest S.bytes S.lenders self.old.table space.old self.new.table space.new }
+        ensures kept { H.are_in (holes_in self.new.table) (S.bytes space.new) }
         ensures written { S.written space.new ≡ counted (S.written space.old) result.moved }
     {
         has_bytes(space);
-        let k = self.least_discards(None, n);
-        self.discard_first(k.unwrap_or(self.order_len()), None);
+        let k = self.least_discards(space, None, n);
+        self.discard_first(space, k.unwrap_or(self.order_len()), None);
         self.slide_together(space)
     }
 
     /// The least number of discards that make room for `n` bytes, where `h` isn't counted; none where no number does. Nothing changes.
-    fn least_discards(&mut self, h: Option<u32>, n: u32) -> Option<usize>
-        requires { IfSome h (λ id. id < length self.old.table.entries) }
+    fn least_discards<S: Space>(
+        &mut self,
+        space: &S,
+        h: Option<u32>,
+        n: u32,
+    ) -> Option<usize>
+    where
+        H: Holes<S>,
+        requires kept { H.are_in (holes_in self.old.table) (S.bytes space.now) }
+        requires h { IfSome h (λ id. id < length self.old.table.entries) }
         ensures value { result ≡ needed (snapshot self.old.table.lo self.old.table.hi self.old.table.blocks self.old.table.order) n h }
         ensures same { self.new ≡ self.old }
         ensures sound { IsSound self.old.table }
     {
-        least_prefix(&self.blocks, &self.order, &mut self.marks, h, n)
+        least_prefix(&self.blocks, space, &self.order, &mut self.marks, h, n)
     }
 
     /// How many objects may be discarded at most.

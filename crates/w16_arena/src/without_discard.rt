@@ -6,16 +6,17 @@ ghost use Rattle.w16_model.specs.Gap.{room};
 ghost use Rattle.w16_model.specs.Changes as changes;
 ghost use Rattle.w16_model.specs.Table.{block_with, heap_in, IsSound};
 ghost use Rattle.w16_model.specs.Request.{most_room};
-ghost use Rattle.w16_blocks.specs.Layout.{IsOrdered};
-ghost use Rattle.w16_arena.specs.State.{KeepsRest};
+ghost use Rattle.w16_blocks.specs.Layout.{IsOrdered, holes_of};
+ghost use Rattle.w16_arena.specs.State.{KeepsRest, holes_in};
 ghost use Rattle.w16_arena.specs.NewPlace.{most_in};
 ghost use Rattle.w16_arena.specs.Asked.{SlidesTogether, Stands};
 
 use crate::Arena;
-use crate::new_place::{NOTHING, Placed, clear_if, make_room};
+use crate::new_place::{NOTHING, Placed, clear_if, insert, make_room};
 use crate::objects::{hold, is_discardable};
 use w16_blocks::{Block, Blocks};
 use w16_compact::room_after;
+use w16_holes::{HoleList, Holes};
 use w16_lru::Order;
 use w16_model::{Entry, Kind, Span, Way};
 use w16_region::{Space, has_bytes};
@@ -29,7 +30,7 @@ pub struct Compacted {
     pub moved: u64,
 }
 
-impl Arena {
+impl<H: HoleList> Arena<H> {
     /// Bytes for an id that has none, without a discard.
     pub(crate) fn place<S: Space>(
         &mut self,
@@ -39,10 +40,13 @@ impl Arena {
         kind: Kind,
         way: Way,
     ) -> Option<Placed>
+    where
+        H: Holes<S>,
         requires id { id < length self.old.table.entries }
         requires absent { block_with self.old.table.blocks id ≡ None }
         requires some { 0 < size }
         requires rounded { IsMultiple self.old.table.grain size }
+        requires kept { H.are_in (holes_in self.old.table) (S.bytes space.old) }
         requires inside { self.old.table.hi ≤ length (S.bytes space.old) }
         ensures stands { IfSome result (λ p. Stands (heap_in self.old.table (S.bytes space.old)) id size kind way p
             (heap_in self.new.table (S.bytes space.new))) }
@@ -50,21 +54,22 @@ impl Arena {
         ensures refused { IfNone result ((most_in self.old.table way.compact < size) × (self.new ≡ self.old) × (space.new ≡ space.old)) }
         ensures discarded { self.new.discarded ≡ self.old.discarded }
         ensures rest { KeepsRest S.bytes S.lenders self.old.table space.old self.new.table space.new }
+        ensures kept { H.are_in (holes_in self.new.table) (S.bytes space.new) }
         ensures written { IfSome result (λ p. S.written space.new
             ≡ counted (counted (S.written space.old) p.moved) (if way.zero then size else 0)) }
         ensures sound { IsSound self.old.table }
     {
         has_bytes(space);
         let placed = make_room(&mut self.blocks, space, size, way.compact)?;
-        clear_if(way.zero, space, placed.at, size);
         let entry = Entry { kind, locks: 0 };
-        let hold = hold(entry);
-        self.blocks.insert(Block {
+        let block = Block {
             id,
             at: placed.at,
             size,
-            hold,
-        });
+            hold: hold(entry),
+        };
+        insert(&mut self.blocks, space, block);
+        clear_if(way.zero, space, placed.at, size);
         self.entries[id as usize] = Some(entry);
         list_new(&mut self.order, id, kind);
         Some(placed)
@@ -72,16 +77,20 @@ impl Arena {
 
     /// The others slide until a hole is as long as it can be without a discard, unless one is already.
     pub(crate) fn slide_together<S: Space>(&mut self, space: &mut S) -> Compacted
+    where
+        H: Holes<S>,
+        requires kept { H.are_in (holes_in self.old.table) (S.bytes space.old) }
         requires inside { self.old.table.hi ≤ length (S.bytes space.old) }
         ensures room { result.room ≡ room self.old.table.lo self.old.table.hi self.old.table.blocks }
         ensures slides { SlidesTogether (heap_in self.old.table (S.bytes space.old)) result
             (heap_in self.new.table (S.bytes space.new)) }
         ensures discarded { self.new.discarded ≡ self.old.discarded }
         ensures rest { KeepsRest S.bytes S.lenders self.old.table space.old self.new.table space.new }
+        ensures kept { H.are_in (holes_in self.new.table) (S.bytes space.new) }
         ensures written { S.written space.new ≡ counted (S.written space.old) result.moved }
     {
         has_bytes(space);
-        let room = room_now(&self.blocks, &self.order, &mut self.marks);
+        let room = room_now(&self.blocks, space, &self.order, &mut self.marks);
         if room == 0 {
             return Compacted {
                 room,
@@ -100,24 +109,33 @@ impl Arena {
     }
 
     /// How long a hole could be made, with all discarded that may be. Nothing changes.
-    pub fn room_all(&mut self) -> u32
+    pub fn room_all<S: Space>(&mut self, space: &S) -> u32
+    where
+        H: Holes<S>,
+        requires kept { H.are_in (holes_in self.old.table) (S.bytes space.now) }
         ensures value { (memory : List ℕ) → self.old.table.hi ≤ length memory → result ≡ most_room (heap_in self.old.table memory) }
         ensures same { self.new ≡ self.old }
     {
         let all = self.order.len();
-        room_after(&self.blocks, &self.order, &mut self.marks, None, all)
+        room_after(&self.blocks, space, &self.order, &mut self.marks, None, all)
     }
 }
 
 /// How long a hole can be made without a discard.
-fn room_now(blocks: &Blocks, order: &Order, marks: &mut Vec<bool>) -> u32
+fn room_now<S: Space, H: Holes<S>>(
+    blocks: &Blocks<H>,
+    space: &S,
+    order: &Order,
+    marks: &mut Vec<bool>,
+) -> u32
+    requires kept { H.are_in (holes_of blocks.now) (S.bytes space.now) }
     requires ids { order.now.cap ≤ blocks.now.cap }
     requires marks { blocks.now.cap ≤ length marks.old.items }
     ensures value { result ≡ room blocks.now.lo blocks.now.hi blocks.now.blocks }
     ensures length { length marks.new.items ≡ length marks.old.items }
     ensures ordered { IsOrdered blocks.now }
 {
-    room_after(blocks, order, marks, None, 0)
+    room_after(blocks, space, order, marks, None, 0)
 }
 
 /// A new discardable object with bytes is the newest in the order of use; another isn't in it.

@@ -28,7 +28,7 @@ multiple_less g a b one two = let e = one.1 in let f = two.1 in (one.0 - two.0, 
       | inr over ↦ let sum : m ≡ n + (m - n) = omega arith in let parts : g * m ≡ g * (n + (m - n)) = ap (λ (i : ℕ). g * i) sum in omega arith
     ]
 
-All-first : (P : Block → Type 0) (b : Block) (bs : List Block) → AllByRecursion P (placed b bs) → P b × AllByRecursion P bs
+pub All-first : (P : Block → Type 0) (b : Block) (bs : List Block) → AllByRecursion P (placed b bs) → P b × AllByRecursion P bs
 All-first P b [] all = (all.0, tt)
 All-first P b (c ∷ cs) all = elim (cases_lt c.at b.at) [
   | inl lt ↦

@@ -1,16 +1,26 @@
 use Rattle.std.proofs.Common.{sym, ◌∙◌}
 use Rattle.std.proofs.lemmas.Bool.{lt-ltb, le-ltb}
 use Rattle.w16_arena.proofs.Refusals.{discard_none, discard_locked, discard_other, discard_ok}
+use Rattle.w16_arena.proofs.Keeping.{keeps_same}
 use Rattle.w16_arena.proofs.Arena.discard.Goals as goal
 
 pub returns-in_default-clause-err : goal.returns-in_default-clause-err
-returns-in_default-clause-err c = discard_none c.args.self.now c.entry.ensures.sound c.args.id (sym c.entry.ensures.value ∙ c.in_default.is)
+returns-in_default-clause-err g c = discard_none c.args.self.now c.entry.ensures.sound c.args.id (sym c.entry.ensures.value ∙ c.in_default.is)
 
 pub returns-then-entry-gt0-clause-err : goal.returns-then-entry-gt0-clause-err
-returns-then-entry-gt0-clause-err c = discard_locked c.args.self.now c.entry.ensures.sound c.args.id c.in-Some.entry (sym c.entry.ensures.value ∙ c.in-Some.is) (lt-ltb 0 c.in-Some.entry.locks c.if-entry-gt0.true)
+returns-then-entry-gt0-clause-err g c = discard_locked c.args.self.now c.entry.ensures.sound c.args.id c.in-Some.entry (sym c.entry.ensures.value ∙ c.in-Some.is) (lt-ltb 0 c.in-Some.entry.locks c.if-entry-gt0.true)
 
 pub returns-then-not-is_discardable-clause-err : goal.returns-then-not-is_discardable-clause-err
-returns-then-not-is_discardable-clause-err c = discard_other c.args.self.now c.entry.ensures.sound c.args.id c.in-Some.entry (sym c.entry.ensures.value ∙ c.in-Some.is) (le-ltb 0 c.in-Some.entry.locks c.if-entry-gt0.false) (sym c.is_discardable.ensures ∙ c.if-not-is_discardable.true)
+returns-then-not-is_discardable-clause-err g c = discard_other c.args.self.now c.entry.ensures.sound c.args.id c.in-Some.entry (sym c.entry.ensures.value ∙ c.in-Some.is) (le-ltb 0 c.in-Some.entry.locks c.if-entry-gt0.false) (sym c.is_discardable.ensures ∙ c.if-not-is_discardable.true)
 
 pub returns-clause-ok : goal.returns-clause-ok
-returns-clause-ok c = discard_ok c.args.self.now c.entry.ensures.sound c.args.id c.in-Some.entry (sym c.entry.ensures.value ∙ c.in-Some.is) (le-ltb 0 c.in-Some.entry.locks c.if-entry-gt0.false) (sym c.is_discardable.ensures ∙ c.if-not-is_discardable.false) c.give_up.ensures.steps
+returns-clause-ok g c = discard_ok c.args.self.now c.entry.ensures.sound c.args.id c.in-Some.entry (sym c.entry.ensures.value ∙ c.in-Some.is) (le-ltb 0 c.in-Some.entry.locks c.if-entry-gt0.false) (sym c.is_discardable.ensures ∙ c.if-not-is_discardable.false) c.give_up.ensures.steps
+
+pub returns-in_default-clause-bytes : goal.returns-in_default-clause-bytes
+returns-in_default-clause-bytes g c = keeps_same c.args.self.now.table.lo c.args.self.now.table.hi c.args.self.now.table.blocks c.args.space.now
+
+pub returns-then-entry-gt0-clause-bytes : goal.returns-then-entry-gt0-clause-bytes
+returns-then-entry-gt0-clause-bytes g c = keeps_same c.args.self.now.table.lo c.args.self.now.table.hi c.args.self.now.table.blocks c.args.space.now
+
+pub returns-then-not-is_discardable-clause-bytes : goal.returns-then-not-is_discardable-clause-bytes
+returns-then-not-is_discardable-clause-bytes g c = keeps_same c.args.self.now.table.lo c.args.self.now.table.hi c.args.self.now.table.blocks c.args.space.now

@@ -4,7 +4,7 @@ use Rattle.w16_arena.proofs.Fresh.{fresh_kept}
 use Rattle.w16_arena.proofs.Arena.new.Goals as goal
 
 pub invariant_of-result : goal.invariant_of-result
-invariant_of-result c =
+invariant_of-result g c =
     let items : c.in_ok-entries.entries.items ≡ replicate c.args.cap None = c.in_ok-entries.ensures.items_if_clones_equal (λ y h. search rules) in
     let marks : c.in_ok-marks.marks.items ≡ replicate c.args.cap false = c.in_ok-marks.ensures.items_if_clones_equal (λ y h. search rules) in
     rw (items, c.in_ok-blocks.ensures, c.in_ok-order.ensures, c.in_ok-discarded.ensures.exact)

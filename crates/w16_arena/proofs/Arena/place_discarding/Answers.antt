@@ -1,5 +1,9 @@
-use Rattle.std.proofs.Common.{arith}
-use Rattle.w16_arena.proofs.Answering.{refused_needed, absent_then, room_then, allocates_then, placed_then, discards_then, rest_then}
+use Rattle.std.proofs.Common.{ℕ, arith, ap, ◌∙◌, subst, if◌then◌else◌}
+use Rattle.w16_region.specs.Bytes.{counted}
+use Rattle.w16_model.specs.Table.{heap_in}
+use Rattle.w16_arena.specs.Asked.{Stands}
+use Rattle.w16_arena.proofs.Keeping.{heap_kept}
+use Rattle.w16_arena.proofs.Answering.{refused_needed, absent_then, room_then, allocates_then, placed_then, discards_then, rest_after}
 use Rattle.w16_arena.proofs.Arena.place_discarding.Goals as goal
 
 pub returns-in_default-clause-allocated : goal.returns-in_default-clause-allocated
@@ -11,13 +15,13 @@ pub place-requires-clause-absent : goal.place-requires-clause-absent
 place-requires-clause-absent g c =
     let found = c.least_discards.ensures in
     absent_then c.args.self.now found.sound (g.S.Space.bytes c.args.space.now) c.requires.inside c.args.id c.args.size c.args.kind c.args.way c.requires.absent c.requires.some c.requires.rounded c.requires.may found.value
-    c.in-Some.k c.in-Some.is c.discard_first.new.self (rw found.same at c.discard_first.ensures)
+    c.in-Some.k c.in-Some.is c.discard_first.new.self (rw found.same at c.discard_first.ensures.discards)
 
 pub unreachable-requires : goal.unreachable-requires
 unreachable-requires g c =
     let found = c.least_discards.ensures in
     let enough = room_then c.args.self.now found.sound (g.S.Space.bytes c.args.space.now) c.requires.inside c.args.id c.args.size c.args.kind c.args.way c.requires.absent c.requires.some c.requires.rounded c.requires.may found.value
-    c.in-Some.k c.in-Some.is c.discard_first.new.self (rw found.same at c.discard_first.ensures) in
+    c.in-Some.k c.in-Some.is c.discard_first.new.self (rw found.same at c.discard_first.ensures.discards) in
     let short = c.in_default-place.ensures.refused.0 in
     omega arith
 
@@ -25,13 +29,18 @@ pub returns : goal.returns
 returns g c =
     let m = g.S.Space.bytes c.args.space.now in
     let found = c.least_discards.ensures in
-    let discards = rw found.same at c.discard_first.ensures in
+    let mid = c.discard_first.new.self in
+    let discards = rw found.same at c.discard_first.ensures.discards in
+    let bytes = c.discard_first.ensures.bytes in
     let p = c.in-Some-place.ensures in
+    let new = heap_in c.place.new.self.table (g.S.Space.bytes c.place.new.space) in
+    let stands = subst (λ h. Stands h c.args.id c.args.size c.args.kind c.args.way c.in-Some-place.placed new) (heap_kept m (g.S.Space.bytes c.discard_first.new.space) mid.table bytes.contents) p.stands in
     record {
-      allocated = allocates_then c.args.self.now found.sound m c.requires.inside c.args.id c.args.size c.args.kind c.args.way c.requires.absent c.requires.some c.requires.rounded c.requires.may found.value c.in-Some.k c.in-Some.is c.discard_first.new.self discards p.stands;
-      placed = placed_then c.args.self.now found.sound m c.requires.inside c.args.id c.args.size c.args.kind c.args.way c.requires.absent c.requires.some c.requires.rounded c.requires.may found.value c.in-Some.k c.in-Some.is c.discard_first.new.self discards p.stands c.has_bytes.ensures;
-      discarded = discards_then c.args.self.now found.sound m c.requires.inside c.args.id c.args.size c.args.kind c.args.way c.requires.absent c.requires.some c.requires.rounded c.requires.may found.value c.in-Some.k c.in-Some.is c.discard_first.new.self discards p.discarded;
+      allocated = allocates_then c.args.self.now found.sound m c.requires.inside c.args.id c.args.size c.args.kind c.args.way c.requires.absent c.requires.some c.requires.rounded c.requires.may found.value c.in-Some.k c.in-Some.is mid discards stands;
+      placed = placed_then c.args.self.now found.sound m c.requires.inside c.args.id c.args.size c.args.kind c.args.way c.requires.absent c.requires.some c.requires.rounded c.requires.may found.value c.in-Some.k c.in-Some.is mid discards stands c.has_bytes.ensures;
+      discarded = discards_then c.args.self.now found.sound m c.requires.inside c.args.id c.args.size c.args.kind c.args.way c.requires.absent c.requires.some c.requires.rounded c.requires.may found.value c.in-Some.k c.in-Some.is mid discards p.discarded;
       refused = tt;
-      rest = rest_then discards.range p.rest;
-      written = p.written;
+      rest = rest_after discards.range bytes.rest p.rest;
+      kept = p.kept;
+      written = p.written ∙ ap (λ (w : ℕ). counted (counted w c.in-Some-place.placed.moved) (if c.args.way.zero then c.args.size else 0)) bytes.count;
     }

@@ -1,4 +1,3 @@
-use Rattle.w16_compact.proofs.Rests.{rest_wider}
 use Rattle.w16_arena.proofs.Gathering.{gathered_moved, gathered_free}
 use Rattle.w16_arena.proofs.new_place.gather_for.Goals as goal
 
@@ -8,6 +7,3 @@ returns-clause-slid g c =
 
 pub returns-clause-free : goal.returns-clause-free
 returns-clause-free g c = gathered_free c.in_ok-gap.ensures.ordered c.in_ok-gap.ensures.found c.gather-moved.ensures.blocks c.gather-moved.ensures.clear
-
-pub returns-clause-rest : goal.returns-clause-rest
-returns-clause-rest g c = let inside = c.in_ok-gap.ensures.found.may.inside in rest_wider c.gather-moved.ensures.rest inside.0 inside.2

@@ -1,6 +1,7 @@
 use Rattle.std.proofs.Common.{◌≡◌, false, Option, Some, None, is_some, refl, sym, ◌∙◌}
 use Rattle.w16_model.specs.declared.Block.{Block}
 use Rattle.w16_arena.proofs.With.{without_absent}
+use Rattle.w16_arena.proofs.Keeping.{keeps_same, keeps_holes}
 use Rattle.w16_arena.proofs.objects.remove_block.Goals as goal
 
 -- what isn't there is nothing
@@ -8,7 +9,13 @@ nothing : (b : Option Block) → is_some b ≡ false → b ≡ None
 nothing None h = refl
 nothing (Some x) h = cc
 
+pub returns-then-is_some-clause-bytes : goal.returns-then-is_some-clause-bytes
+returns-then-is_some-clause-bytes g c = let l = c.remove.new.self in keeps_holes l.lo l.hi l.blocks c.args.space.now c.remove.new.space c.remove.ensures.ordered.laid c.remove.ensures.bytes c.remove.ensures.lenders c.remove.ensures.written
+
+pub returns-else-is_some-clause-bytes : goal.returns-else-is_some-clause-bytes
+returns-else-is_some-clause-bytes g c = keeps_same c.args.blocks.now.lo c.args.blocks.now.hi c.args.blocks.now.blocks c.args.space.now
+
 pub returns-else-is_some-clause-value : goal.returns-else-is_some-clause-value
-returns-else-is_some-clause-value c =
+returns-else-is_some-clause-value g c =
     let none = without_absent c.args.id c.args.blocks.now.blocks (sym c.find.ensures.value ∙ nothing c.find.result (sym c.is_some.ensures ∙ c.if-is_some.false)) in
     λ i. record c.args.blocks.now { blocks = sym none i }

@@ -1,0 +1,120 @@
+-- What keeps each block's bytes keeps a table's heap: where only bytes of holes change, and after one step more.
+use Rattle.std.proofs.Common.{ℕ, ◌≡◌, ◌+◌, ◌<◌, ◌≤◌, ◌⊎◌, List, [], ◌∷◌, length, slice_range, Option, Some, None, option_map, refl, sym, ap, ◌∙◌, subst, arith, inl, inr, All}
+use Rattle.std.proofs.lemmas.Bool.Decides.{eqb_tells}
+use Rattle.std.specs.Borrow.{GName}
+use Rattle.std.specs.FinMap as finmap
+use Rattle.std.specs.List.{AllByRecursion}
+use Rattle.w16_model.specs.declared.Block.{Block}
+use Rattle.w16_model.specs.declared.Span.{Span}
+use Rattle.w16_model.specs.Bytes.{part}
+use Rattle.w16_model.specs.Gap.{IsLaid, block_end, holes}
+use Rattle.w16_model.specs.Table.{Table, IsSameOutside, block_with, by_id, heap_in}
+use Rattle.w16_model.proofs.Parts.{range_part, part_below, part_above}
+use Rattle.w16_holes.specs.Holes.{IsFree, IsUsed, AreSameIn, AreSameOutside}
+use Rattle.w16_blocks.specs.Layout.{Layout, IsOrdered, all_but, placed, holes_of}
+use Rattle.w16_blocks.proofs.Outside.{used_each, outside_holes}
+use Rattle.w16_blocks.proofs.Step.{All-first}
+use Rattle.w16_compact.specs.Gather.{contents}
+use Rattle.w16_compact.specs.Rest.{IsSameRest}
+use Rattle.w16_compact.proofs.Rests.{rest_more, rest_same}
+use Rattle.w16_arena.specs.State.{KeepsBytes}
+use Rattle.w16_arena.specs.NewPlace.{EachTwo, Slides, AreMoved}
+
+module _ (m n : List ℕ) where
+  contents_first : (b : Block) (bs : List Block) → contents n (b ∷ bs) ≡ contents m (b ∷ bs) → (part n b.at b.size ≡ part m b.at b.size) × (contents n bs ≡ contents m bs)
+  contents_first b bs same =
+      let one : ℕ × List ℕ = (b.id, part n b.at b.size) in
+      let two : ℕ × List ℕ = (b.id, part m b.at b.size) in
+      let first : one ≡ two = cc in
+      let rest : contents n bs ≡ contents m bs = cc in
+      (ap (λ (p : ℕ × List ℕ). p.1) first, rest)
+
+  -- what an id's block has
+  pub bytes_with : (bs : List Block) → contents n bs ≡ contents m bs → (id : ℕ) → option_map (λ (x : Block). slice_range n x.at (x.at + x.size)) (block_with bs id) ≡ option_map (λ (x : Block). slice_range m x.at (x.at + x.size)) (block_with bs id)
+  bytes_with [] same id = refl
+  bytes_with (b ∷ bs) same id = elim (eqb_tells b.id id) [
+    | inl here ↦ rw here.0 (ap Some (range_part n b.at b.size ∙ (contents_first b bs same).0 ∙ sym (range_part m b.at b.size)))
+    | inr there ↦ rw there.0 (bytes_with bs (contents_first b bs same).1 id)
+  ]
+
+  pub heap_kept : (t : Table) → contents n t.blocks ≡ contents m t.blocks → heap_in t n ≡ heap_in t m
+  heap_kept t same = λ i. record {
+    lo = t.lo;
+    hi = t.hi;
+    grain = t.grain;
+    objects = finmap.from_entries (by_id (λ id e. record { kind = e.kind; locks = e.locks; bytes = bytes_with t.blocks same id i }) 0 t.entries);
+    places = (heap_in t m).places;
+    order = t.order;
+  }
+
+  -- the same of all blocks but one
+  pub contents_all_but : (id : ℕ) (bs : List Block) → contents n bs ≡ contents m bs → contents n (all_but id bs) ≡ contents m (all_but id bs)
+  contents_all_but id [] same = refl
+  contents_all_but id (b ∷ bs) same = elim (eqb_tells b.id id) [
+    | inl here ↦ rw here.0 (contents_all_but id bs (contents_first b bs same).1)
+    | inr there ↦ rw there.0 (λ i. (b.id, (contents_first b bs same).0 i) ∷ contents_all_but id bs (contents_first b bs same).1 i)
+  ]
+
+  -- blocks that slid, with bytes that were kept then
+  pub slides_kept : (low high : ℕ) (memory : List ℕ) (bs cs : List Block) → EachTwo (Slides low high memory m) bs cs → contents n cs ≡ contents m cs → EachTwo (Slides low high memory n) bs cs
+  slides_kept low high memory [] [] slid same = tt
+  slides_kept low high memory [] (c ∷ cs) slid same = slid
+  slides_kept low high memory (b ∷ bs) [] slid same = slid
+  slides_kept low high memory (b ∷ bs) (c ∷ cs) slid same =
+      let two = contents_first c cs same in
+      (record { same = slid.0.same; place = slid.0.place; bytes = two.0 ∙ slid.0.bytes }, slides_kept low high memory bs cs slid.1 two.1)
+
+-- where bytes of holes alone change, each block keeps its own
+contents_outside : (lo hi : ℕ) (all : List Block) (old new : List ℕ) → AreSameOutside (holes lo hi all) old new → (bs : List Block) → AllByRecursion (λ c. IsUsed c.at (block_end c) (holes lo hi all)) bs → contents new bs ≡ contents old bs
+contents_outside lo hi all old new same [] used = refl
+contents_outside lo hi all old new same (b ∷ bs) used = λ i. (b.id, same.same b.at b.size used.0 i) ∷ contents_outside lo hi all old new same bs used.1 i
+
+module _ {X : Type 0} {bytes : X → List ℕ} {lenders : X → List GName} {written : X → ℕ} where
+  pub keeps_same : (lo hi : ℕ) (bs : List Block) (x : X) → KeepsBytes bytes lenders written lo hi bs x x
+  keeps_same lo hi bs x = record { contents = refl; rest = rest_same lo hi x; count = refl }
+
+  pub keeps_holes : (lo hi : ℕ) (bs : List Block) (x y : X) → IsLaid lo hi bs → AreSameOutside (holes lo hi bs) (bytes x) (bytes y) → lenders y ≡ lenders x → written y ≡ written x → KeepsBytes bytes lenders written lo hi bs x y
+  keeps_holes lo hi bs x y laid same loans count = record {
+    contents = contents_outside lo hi bs (bytes x) (bytes y) same bs (used_each lo hi bs laid);
+    rest = record { long = same.long; outside = outside_holes lo hi bs (bytes x) (bytes y) laid same; loans = loans };
+    count = count;
+  }
+
+  -- and one block less
+  pub keeps_more : (lo hi id : ℕ) (bs : List Block) (x y z : X) → KeepsBytes bytes lenders written lo hi bs x y → KeepsBytes bytes lenders written lo hi (all_but id bs) y z → KeepsBytes bytes lenders written lo hi (all_but id bs) x z
+  keeps_more lo hi id bs x y z p q = record {
+    contents = q.contents ∙ contents_all_but (bytes x) (bytes y) id bs p.contents;
+    rest = rest_more p.rest q.rest (omega arith) (omega arith);
+    count = q.count ∙ p.count;
+  }
+
+-- a memory that changes in a part that is no hole's has the same bytes in the holes
+pub same_in : (at end : ℕ) (hs : List Span) (old new : List ℕ) → length new ≡ length old → IsSameOutside at end old new → IsUsed at end hs → AreSameIn hs old new
+same_in at end hs old new long outside used = record { long = long; same = λ p n free. apart p n hs free used }
+  where
+    apart : (p n : ℕ) (hs : List Span) → IsFree p (p + n) hs → IsUsed at end hs → part new p n ≡ part old p n
+    apart p n [] free used = absurd free
+    apart p n (h ∷ hs) free used = elim free [
+      | inl here ↦
+          let from = here.0 in let to = here.1 in
+          elim used.0 [
+            | inl before ↦ part_below new old p n at (omega arith) outside.below
+            | inr behind ↦ part_above new old p n end (omega arith) outside.above
+          ]
+      | inr there ↦ apart p n hs there used.1
+    ]
+
+pub moved_kept : (low high : ℕ) (old new : Layout) (memory mid after : List ℕ) → AreMoved low high old memory new mid → contents after new.blocks ≡ contents mid new.blocks → length after ≡ length mid → All (λ b. b < 256) after → AreMoved low high old memory new after
+moved_kept low high old new memory mid after moved same long small = record {
+  same = moved.same;
+  blocks = slides_kept mid after low high memory old.blocks new.blocks moved.blocks same;
+  unpinned = moved.unpinned;
+  ordered = moved.ordered;
+  size = long ∙ moved.size;
+  bytes = λ _. small;
+}
+
+-- the bytes of a block that was added are no hole's
+pub used_placed : (l new : Layout) (b : Block) → new ≡ record l { blocks = placed b l.blocks } → IsOrdered new → IsUsed b.at (block_end b) (holes_of new)
+used_placed l new b is ordered = (All-first (λ c. IsUsed c.at (block_end c) (holes_of new)) b l.blocks
+    (subst (AllByRecursion (λ c. IsUsed c.at (block_end c) (holes_of new))) (ap (λ (x : Layout). x.blocks) is) (used_each new.lo new.hi new.blocks ordered.laid))).0
