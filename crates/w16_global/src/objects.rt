@@ -15,13 +15,14 @@ ghost use Rattle.w16_global.specs.Parts.{HasPart};
 use std::alloc::{AllocError, Global};
 use std::marker::Model;
 use w16_arena::{Arena, Compacted, Placed};
+use w16_holes::SideHoles;
 use w16_model::{Block, Entry, GRAIN, Item, Kind, Refusal, Way};
 use w16_region::{Region, Space, has_bytes};
 
 /// The objects of the global heap: where they are, and their bytes.
 #[derive(Drop)]
 pub(crate) struct Objects {
-    arena: Arena,
+    arena: Arena<SideHoles>,
     memory: Region,
 }
 
@@ -43,7 +44,8 @@ impl Objects {
         requires { cap ≤ 8192 }
         ensures { IfOk result (λ made. made ≡ record { cap = cap; heap = empty_heap 0 memory GRAIN; discarded = [] }) }
     {
-        let arena = Arena::new(alloc, cap, 0, memory, GRAIN)?;
+        let holes = SideHoles::new(alloc, 0, memory, GRAIN)?;
+        let arena = Arena::new(alloc, cap, holes, 0, memory, GRAIN)?;
         let memory = Region::new(alloc, memory)?;
         Ok(Objects { arena, memory })
     }
@@ -73,7 +75,7 @@ impl Objects {
         ensures inside { IfSome result (λ b. (0 < b.size) × (b.at + b.size < 2 ^ 32)) }
         ensures sound { IsHeap self.now.heap }
     {
-        self.arena.next_block(from)
+        self.arena.next_block(&self.memory, from)
     }
 
     /// The first part of the heap that begins at an address or above it, named by ids.
@@ -81,7 +83,7 @@ impl Objects {
         ensures found { IsFirstItem by_its_id self.now.heap from result }
         ensures inside { IfSome result (λ item. (0 < item.size) × (item.at + item.size < 2 ^ 32)) }
     {
-        self.arena.walk_from(from)
+        self.arena.walk_from(&self.memory, from)
     }
 
     /// A new object of so many bytes, a multiple of the grain, if there is room for it as the way has it.
@@ -146,7 +148,9 @@ impl Objects {
         ensures err { IfErr result (λ r. (after_free self.old.heap id ≡ Err r) × (self.new ≡ self.old)) }
         ensures kept { self.new.cap ≡ self.old.cap }
     {
-        self.arena.free(id)
+        let freed = self.arena.free(&mut self.memory, id);
+        has_bytes(&self.memory);
+        freed
     }
 
     /// One lock more. An absent object isn't locked, a fixed one counts none, and a count of 255 is full.

@@ -36,5 +36,5 @@ returns-clause-rest g c =
 pub returns-clause-kept : goal.returns-clause-kept
 returns-clause-kept g c =
     let cleared = c.clear_if.ensures.rest in
-    g.H.Holes.stay _ (g.S.Space.bytes c.insert.new.space) (g.S.Space.bytes c.clear_if.new.space) c.insert.ensures.kept
+    g.met.H.Holes.stay _ (g.S.Space.bytes c.insert.new.space) (g.S.Space.bytes c.clear_if.new.space) c.insert.ensures.kept
     (same_in c.in_ok-placed.placed.at (c.in_ok-placed.placed.at + c.args.size) _ _ _ cleared.long cleared.outside (used_placed _ _ _ c.insert.ensures.value c.insert.ensures.ordered))
