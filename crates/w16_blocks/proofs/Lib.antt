@@ -12,4 +12,5 @@ pub mod Slid
 pub mod Shifting
 pub mod Next
 pub mod Walk
+pub mod Passed
 pub mod Outside

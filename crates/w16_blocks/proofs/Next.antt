@@ -7,15 +7,15 @@ use Rattle.std.specs.List.{AllByRecursion}
 use Rattle.w16_model.specs.declared.Block.{Block}
 use Rattle.w16_model.specs.declared.Span.{Span}
 use Rattle.w16_model.specs.Gap.{holes}
-use Rattle.w16_holes.specs.Holes.{length_at}
+use Rattle.w16_holes.specs.Holes.{IsPlace, length_at}
 use Rattle.w16_holes.specs.Law.{IsIn}
 use Rattle.std.specs.Int.{div_ceil}
 use Rattle.std.proofs.lemmas.Grind.{div_ceil_times}
-use Rattle.w16_holes.proofs.Units.{up, above}
+use Rattle.w16_holes.proofs.Units.{up, above, multiple_sum}
 use Rattle.w16_blocks.specs.Layout.{rank}
 use Rattle.w16_blocks.specs.Kept.{slot_of, blocks_in, AreBegun, AreTables}
 use Rattle.w16_blocks.proofs.Cells.{All-told, each_told, begun_rest}
-use Rattle.w16_blocks.proofs.Free.{Lacks, free_lacks}
+use Rattle.w16_blocks.proofs.Free.{Lacks, laid_le, free_lacks}
 
 pub rank_none : (at : ℕ) (bs : List Block) → AllByRecursion (λ c. at ≤ c.at) bs → rank at bs ≡ 0
 rank_none at [] all = refl
@@ -105,3 +105,9 @@ module _ (lo g at u : ℕ) (some : 0 < g) (is : u ≡ div_ceil (at - lo) g) wher
 
   pub units_above : (k : ℕ) → u ≤ k → at ≤ lo + g * k
   units_above k le = let up_to = div_ceil_times (at - lo) g some in let low = up_to.0 in let times : u * g ≡ div_ceil (at - lo) g * g = ap (λ (i : ℕ). i * g) is in let step = up g u k le in omega arith
+
+-- each unit with a cell begins at a place of the range
+pub unit_place : {cap lo hi g : ℕ} {slots : List Block} {cells : List ℕ} → AreTables cap lo hi g slots cells → (u : ℕ) → u < length cells → IsPlace (record { lo = lo; hi = hi; grain = g }) (lo + u * g)
+unit_place {cap} {lo} {hi} {g} {slots} {cells} t u lt =
+    let short = t.short in let le = laid_le lo hi (blocks_in slots cells) t.ordered.laid in let step = above g u (length cells) lt in
+    record { from = omega arith; to = omega arith; grained = multiple_sum g lo (u * g) t.ordered.from (u, omega arith) }

@@ -1,5 +1,5 @@
 -- What a step on blocks leaves of the bytes, where it keeps those that no hole has: each block's, and all outside the bounds.
-use Rattle.std.proofs.Common.{ℕ, ◌≡◌, ◌+◌, ◌-◌, ◌<◌, ◌≤◌, List, [], ◌∷◌, length, take, drop, arith, sym, ap, ◌∙◌, inl, inr}
+use Rattle.std.proofs.Common.{ℕ, ◌≡◌, ◌+◌, ◌-◌, ◌<◌, ◌≤◌, List, [], ◌∷◌, length, drop, arith, sym, ◌∙◌, inl, inr}
 use Rattle.std.proofs.lemmas.List.{length-drop, take_all}
 use Rattle.std.specs.List.{AllByRecursion}
 use Rattle.w16_model.specs.declared.Block.{Block}
@@ -22,7 +22,7 @@ used_each lo hi bs laid = each bs (laid_each lo hi bs laid) (λ p all. all)
     each (c ∷ cs) lies among =
         let some = lies.0.1 in (
           used_of c.at (block_end c) lo hi (holes lo hi bs) (omega arith) (AreHoles-holes lo lo hi bs (omega arith) laid)
-          (λ p from to is. elim (among p (free_lacks p lo hi bs laid is).2).0 [ inl before ↦ omega arith | inr behind ↦ omega arith ]),
+              (λ p from to is. elim (among p (free_lacks p lo hi bs laid is).2).0 [ inl before ↦ omega arith | inr behind ↦ omega arith ]),
           each cs lies.1 (λ p all. (among p all).1),
         )
 

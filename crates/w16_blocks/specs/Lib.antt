@@ -1,4 +1,5 @@
 pub mod Layout
 pub mod Kept
 pub mod Stay
+pub mod Parts
 pub mod Sample

@@ -8,10 +8,12 @@ ghost use Rattle.w16_model.specs.Heap.{IsMultiple};
 ghost use Rattle.w16_blocks.specs.Stay as stay;
 
 mod by_address;
+mod parts;
 #[cfg(test)]
 mod tests;
 
 pub use by_address::ByAddress;
+pub use parts::Part;
 use std::alloc::{AllocError, Global};
 use std::marker::Model;
 use w16_holes::{HoleList, Holes};

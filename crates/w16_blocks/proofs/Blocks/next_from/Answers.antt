@@ -1,15 +1,13 @@
-use Rattle.std.proofs.Common.{ℕ, suc, ◌≡◌, ◌+◌, ◌-◌, ◌*◌, List, Some, length, drop, slice_get, arith, sym, ap, ◌∙◌, subst}
+use Rattle.std.proofs.Common.{ℕ, suc, ◌≡◌, ◌+◌, ◌-◌, ◌*◌, List, Some, drop, slice_get, arith, sym, ap, ◌∙◌, subst}
 use Rattle.std.specs.Prelude.{slice_index}
 use Rattle.std.specs.Int.{div_ceil}
 use Rattle.std.proofs.lemmas.List.{get_or_read}
 use Rattle.w16_model.specs.declared.Block.{Block}
 use Rattle.w16_model.specs.Gap.{holes}
-use Rattle.w16_blocks.proofs.Free.{laid_le}
 use Rattle.w16_holes.specs.Holes.{Range, IsPlace, length_at}
-use Rattle.w16_holes.proofs.Units.{above, multiple_sum}
 use Rattle.w16_blocks.specs.Layout.{Layout, rank}
 use Rattle.w16_blocks.specs.Kept.{no_block, blocks_in}
-use Rattle.w16_blocks.proofs.Next.{first_by_unit, pass, first_here, none_past, clear_in, units_below, units_above}
+use Rattle.w16_blocks.proofs.Next.{first_by_unit, pass, first_here, none_past, clear_in, units_below, units_above, unit_place}
 use Rattle.w16_blocks.proofs.Blocks.next_from.Goals as goal
 
 pub loop-unit-init : goal.loop-unit-init
@@ -38,11 +36,8 @@ returns-then-begin-gt0-clause-value g c =
 pub at-hole-requires-clause-place : goal.at-hole-requires-clause-place
 at-hole-requires-clause-place g c =
     let s = c.self.inside in let lt = c.loop-unit-test.true in let many = s.begins.ok.0 in
-    let short = c.self.invariant.tables.short in let le = laid_le s.lo s.hi (blocks_in s.slots.items s.begins.items) c.self.invariant.tables.ordered.laid in
-    let step = above s.grain c.loop-unit.unit (length s.begins.items) (omega arith) in
-    let low = c.self.invariant.tables.ordered.from in
     subst (λ (r : Range). IsPlace r (s.lo + c.loop-unit.unit * s.grain)) (sym c.self.invariant.ranged)
-    (record { from = omega arith; to = omega arith; grained = multiple_sum s.grain s.lo (c.loop-unit.unit * s.grain) low (c.loop-unit.unit, omega arith) })
+    (unit_place c.self.invariant.tables c.loop-unit.unit (omega arith))
 
 pub loop-unit-smaller : goal.loop-unit-smaller
 loop-unit-smaller g c = let lt = c.loop-unit-test.true in let many = c.self.inside.begins.ok.0 in let step = c.max.ensures in omega arith
