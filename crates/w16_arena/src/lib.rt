@@ -16,6 +16,7 @@ mod discards;
 mod new_place;
 mod objects;
 mod requests;
+mod walk;
 
 mod without_discard;
 

@@ -48,8 +48,3 @@ module _ (at to size : ℕ) (first second third last : List ℕ) (before after :
     long = put_same.long ∙ long_slid at to size second third slid source_then target_then ∙ take_same.long;
     same = λ p m one two out. put_same.same p m two ∙ stays at to size second third slid source_then target_then p m out ∙ take_same.same p m one;
   }
-
--- of the same holes
-pub AreSameBut-of : (place n : ℕ) (before before' after after' : List Span) (old new : List ℕ) → before ≡ before' → after ≡ after' → AreSameBut place n before after old new → AreSameBut place n before' after' old new
-AreSameBut-of place n before before' after after' old new one two same =
-    subst (λ (hs : List Span). AreSameBut place n hs after' old new) one (subst (λ (hs : List Span). AreSameBut place n before hs old new) two same)

@@ -3,6 +3,7 @@ use Rattle.std.proofs.Common.{ℕ, ◌≡◌, ◌<◌, ◌≤◌, ◌+◌, ◌-�
 use Rattle.std.proofs.lemmas.Bool.{cases_lt}
 use Rattle.std.specs.List.{AllByRecursion}
 use Rattle.w16_model.specs.declared.Block.{Block}
+use Rattle.w16_model.specs.declared.Hold.{Hold}
 use Rattle.w16_model.specs.declared.Span.{Span}
 use Rattle.w16_model.specs.Gap.{block_end, holes}
 use Rattle.w16_model.specs.Heap.{IsMultiple}
@@ -139,17 +140,14 @@ module _ (l : Layout) (b x : Block) (known : block_with l.blocks b.id ≡ Some x
       ])
 
 -- a block with another hold fits where it stands
-pub fits_itself : (l : Layout) (b x : Block) → b.id < l.cap → block_with l.blocks b.id ≡ Some x → b.at ≡ x.at → b.size ≡ x.size → IsOrdered l → FitsFor l b
-fits_itself l b x lt known at size ordered =
-    let stands : FitsFor l (record { id = b.id; at = x.at; size = x.size; hold = b.hold }) = record {
-      id = lt;
-      free = others_differ b.id l.blocks;
-      inside = lies l b.id x known ordered;
-      apart = others_apart l.lo l.hi l.cap b.id x l.blocks ordered.laid ordered.named known;
-      grained = grained_known l b.id x known ordered;
-    } in
-    subst (λ (a : ℕ). FitsFor l (record { id = b.id; at = a; size = b.size; hold = b.hold })) (sym at)
-    (subst (λ (n : ℕ). FitsFor l (record { id = b.id; at = x.at; size = n; hold = b.hold })) (sym size) stands)
+pub fits_itself : (l : Layout) (x : Block) (hold : Hold) → x.id < l.cap → block_with l.blocks x.id ≡ Some x → IsOrdered l → FitsFor l (record x { hold = hold })
+fits_itself l x hold lt known ordered = record {
+  id = lt;
+  free = others_differ x.id l.blocks;
+  inside = lies l x.id x known ordered;
+  apart = others_apart l.lo l.hi l.cap x.id x l.blocks ordered.laid ordered.named known;
+  grained = grained_known l x.id x known ordered;
+}
 
 -- An id's block with another size: what it has more is taken, or what it has less is put.
 module _ (l : Layout) (x : Block) (size : ℕ) (known : block_with l.blocks x.id ≡ Some x) (fits : FitsFor l (record x { size = size })) (ordered : IsOrdered l) (ids : l.cap < 2 ^ 32) where

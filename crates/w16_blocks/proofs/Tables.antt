@@ -32,9 +32,9 @@ none_or_some : (n : ℕ) → (n ≡ 0) ⊎ ((m : ℕ) × (n ≡ suc m))
 none_or_some zero = inl refl
 none_or_some (suc m) = inr (m, refl)
 
-module _ (cap lo hi g : ℕ) (slots : List Block) (cells : List ℕ) (t : AreTables cap lo hi g slots cells) (long : cap ≡ length slots) where
+module _ {cap lo hi g : ℕ} {slots : List Block} {cells : List ℕ} (t : AreTables cap lo hi g slots cells) (long : cap ≡ length slots) where
   -- a block that is added: its cell tells none before, and no cell tells its id
-  module _ (b : Block) (u : ℕ) (fits : Fits (layout_in cap lo hi g slots cells) b) (at : b.at ≡ lo + g * u) where
+  module _ {b : Block} (u : ℕ) (fits : Fits (layout_in cap lo hi g slots cells) b) (at : b.at ≡ lo + g * u) where
     id_below : b.id < length slots
     id_below = let lt = fits.id in omega arith
 
@@ -109,7 +109,7 @@ module _ (cap lo hi g : ℕ) (slots : List Block) (cells : List ℕ) (t : AreTab
     }
 
   -- an id's block that is taken away
-  module _ (id u : ℕ) (tells : slice_index cells u ≡ suc id) where
+  module _ {id : ℕ} (u : ℕ) (tells : slice_index cells u ≡ suc id) where
     only_cell : (k : ℕ) → slice_index cells k ≡ suc id → k ≡ u
     only_cell k e = let one = (t.begun k id e).at in let two = (t.begun u id tells).at in same_unit g lo k u t.some (omega arith)
 
@@ -163,7 +163,7 @@ module _ (cap lo hi g : ℕ) (slots : List Block) (cells : List ℕ) (t : AreTab
     }
 
   -- what the table has for an id is its block
-  module _ (id : ℕ) (lt : id < cap) (x : Block) (read : x ≡ get_or slots id x) where
+  module _ {id : ℕ} (lt : id < cap) {x : Block} (read : x ≡ get_or slots id x) where
     entry : x ≡ slot_of slots id
     entry = get_or_read slots id x (omega arith) read no_block
 
@@ -184,45 +184,47 @@ module _ (cap lo hi g : ℕ) (slots : List Block) (cells : List ℕ) (t : AreTab
     known_is known = sym (found_some (some_bytes known))
 
   -- an id's block begins in the unit whose cell tells it
-  pub cell_at : (id : ℕ) (x : Block) (u : ℕ) → block_with (blocks_in slots cells) id ≡ Some x → x.at ≡ lo + g * u → slice_index cells u ≡ suc id
-  cell_at id x u known at =
+  pub cell_at : {id : ℕ} {x : Block} (u : ℕ) → block_with (blocks_in slots cells) id ≡ Some x → x.at ≡ lo + g * u → slice_index cells u ≡ suc id
+  cell_at {id} {x} u known at =
       let cell = with_cell lo g slots cells id x t.begun known in
       let begins = (t.begun cell.0 id cell.1).at in let place = ap (λ (c : Block). c.at) cell.2 in
       ap (slice_index cells) (sym (same_unit g lo cell.0 u t.some (omega arith))) ∙ cell.1
 
 -- a block that comes in place of the one of its id, in another unit or the same
-module _ (cap lo hi g : ℕ) (slots : List Block) (cells : List ℕ) (t : AreTables cap lo hi g slots cells) (long : cap ≡ length slots) where
-  module _ (b : Block) (u v : ℕ) (tells : slice_index cells u ≡ suc b.id) (fits : FitsFor (layout_in cap lo hi g slots cells) b) (at : b.at ≡ lo + g * v) where
-    fits_there : Fits (layout_in cap lo hi g (set slots b.id no_block) (set cells u 0)) b
-    fits_there = subst (λ (bs : List Block). Fits (record { cap = cap; lo = lo; hi = hi; grain = g; blocks = bs }) b) (sym (blocks_in-drop cap lo hi g slots cells t long b.id u tells)) fits
+module _ {cap lo hi g : ℕ} {slots : List Block} {cells : List ℕ} (t : AreTables cap lo hi g slots cells) (long : cap ≡ length slots)
+    {b : Block} (u v : ℕ) (tells : slice_index cells u ≡ suc b.id) (fits : FitsFor (layout_in cap lo hi g slots cells) b) (at : b.at ≡ lo + g * v) where
+  long_without : cap ≡ length (set slots b.id no_block)
+  long_without = long ∙ sym (length-set slots b.id no_block)
 
-    pub AreTables-move : AreTables cap lo hi g (set slots b.id b) (set (set cells u 0) v (suc b.id))
-    AreTables-move = subst (λ (ss : List Block). AreTables cap lo hi g ss (set (set cells u 0) v (suc b.id))) (set-set slots b.id no_block b)
-        (AreTables-add cap lo hi g (set slots b.id no_block) (set cells u 0) (AreTables-drop cap lo hi g slots cells t long b.id u tells) (long ∙ sym (length-set slots b.id no_block)) b v fits_there at)
+  fits_without : Fits (layout_in cap lo hi g (set slots b.id no_block) (set cells u 0)) b
+  fits_without = subst (λ (bs : List Block). Fits (record { cap = cap; lo = lo; hi = hi; grain = g; blocks = bs }) b) (sym (blocks_in-drop t long u tells)) fits
 
-    pub blocks_in-move : blocks_in (set slots b.id b) (set (set cells u 0) v (suc b.id)) ≡ replaced b (blocks_in slots cells)
-    blocks_in-move = ap (λ (ss : List Block). blocks_in ss (set (set cells u 0) v (suc b.id))) (sym (set-set slots b.id no_block b))
-        ∙ blocks_in-add cap lo hi g (set slots b.id no_block) (set cells u 0) (AreTables-drop cap lo hi g slots cells t long b.id u tells) (long ∙ sym (length-set slots b.id no_block)) b v fits_there at
-        ∙ ap (placed b) (blocks_in-drop cap lo hi g slots cells t long b.id u tells)
+  pub AreTables-move : AreTables cap lo hi g (set slots b.id b) (set (set cells u 0) v (suc b.id))
+  AreTables-move = subst (λ (ss : List Block). AreTables cap lo hi g ss (set (set cells u 0) v (suc b.id))) (set-set slots b.id no_block b) (AreTables-add (AreTables-drop t long u tells) long_without v fits_without at)
+
+  pub blocks_in-move : blocks_in (set slots b.id b) (set (set cells u 0) v (suc b.id)) ≡ replaced b (blocks_in slots cells)
+  blocks_in-move =
+      ap (λ (ss : List Block). blocks_in ss (set (set cells u 0) v (suc b.id))) (sym (set-set slots b.id no_block b))
+      ∙ blocks_in-add (AreTables-drop t long u tells) long_without v fits_without at ∙ ap (placed b) (blocks_in-drop t long u tells)
 
 -- in the same unit no cell changes
 pub same_cells : (cells : List ℕ) (u id : ℕ) → slice_index cells u ≡ suc id → set (set cells u 0) u (suc id) ≡ cells
 same_cells cells u id tells = set-set cells u 0 (suc id) ∙ ap (set cells u) (sym tells) ∙ set-get_or cells u 0
 
 -- tables that tell no block
-module _ (cap lo hi g : ℕ) (slots : List Block) (cells : List ℕ) (tells : (k : ℕ) → slice_index cells k ≡ 0) (none : (id : ℕ) → slot_of slots id ≡ no_block) where
-  pub blocks_in-none : (cells : List ℕ) → ((k : ℕ) → slice_index cells k ≡ 0) → blocks_in slots cells ≡ []
-  blocks_in-none [] zeros = refl
-  blocks_in-none (zero ∷ cells) zeros = blocks_in-none cells (λ k. zeros (suc k))
-  blocks_in-none (suc id ∷ cells) zeros = let clear = zeros 0 in absurd (omega arith)
+pub blocks_in-none : (slots : List Block) (cells : List ℕ) → ((k : ℕ) → slice_index cells k ≡ 0) → blocks_in slots cells ≡ []
+blocks_in-none slots [] zeros = refl
+blocks_in-none slots (zero ∷ cells) zeros = blocks_in-none slots cells (λ k. zeros (suc k))
+blocks_in-none slots (suc id ∷ cells) zeros = let clear = zeros 0 in absurd (omega arith)
 
+module _ {cap lo hi g : ℕ} {slots : List Block} {cells : List ℕ} (tells : (k : ℕ) → slice_index cells k ≡ 0) (none : (id : ℕ) → slot_of slots id ≡ no_block) where
   pub AreTables-none : 0 < g → cap < 2 ^ 32 → hi < 2 ^ 32 → lo ≤ hi → IsMultiple g lo → hi - lo < g * length cells → g * length cells ≤ hi - lo + g → AreTables cap lo hi g slots cells
   AreTables-none some ids small le low long short = record {
     some = some;
     ids = ids;
     long = long;
     short = short;
-    ordered = subst (λ (bs : List Block). IsOrdered (record { cap = cap; lo = lo; hi = hi; grain = g; blocks = bs })) (sym (blocks_in-none cells tells))
+    ordered = subst (λ (bs : List Block). IsOrdered (record { cap = cap; lo = lo; hi = hi; grain = g; blocks = bs })) (sym (blocks_in-none slots cells tells))
         (record { laid = le; named = tt; grained = tt; from = low; small = small; few = omega arith });
     begun = λ k id e. let clear = tells k in absurd (omega arith);
     found = λ id has. let size = ap (λ (c : Block). c.size) (none id) in absurd (omega arith);

@@ -10,8 +10,7 @@ use Rattle.w16_blocks.proofs.Blocks.with_room.Goals as goal
 module _ (g : _) (c : goal.In_ok-begins g) where
   no_blocks : (id : ℕ) → slot_of c.in_ok-slots.slots.items id ≡ no_block
   no_blocks id =
-      let items : c.in_ok-slots.slots.items ≡ replicate c.args.cap no_block = c.in_ok-slots.ensures.items_if_clones_equal (search rules) in
-      ap (λ (bs : List Block). slot_of bs id) items ∙ get_or-replicate_same c.args.cap id no_block
+      ap (λ (bs : List Block). slot_of bs id) (c.in_ok-slots.ensures.items_if_clones_equal (search rules)) ∙ get_or-replicate_same _ id no_block
 
   units : c.in_ok-begins.begins.items ≡ replicate ((c.args.hi - c.args.lo) / c.args.grain + 1) 0
   units = c.in_ok-begins.ensures.items_if_clones_equal (λ y e. e)
@@ -32,13 +31,13 @@ module _ (g : _) (c : goal.In_ok-begins g) where
       subst (λ (m : ℕ). c.args.grain * m ≤ n + c.args.grain) (sym (ap length units ∙ length-replicate (n / c.args.grain + 1) 0)) one
 
   told : blocks_in c.in_ok-slots.slots.items c.in_ok-begins.begins.items ≡ []
-  told = blocks_in-none c.args.cap c.args.lo c.args.hi c.args.grain c.in_ok-slots.slots.items c.in_ok-begins.begins.items clear no_blocks c.in_ok-begins.begins.items clear
+  told = blocks_in-none c.in_ok-slots.slots.items c.in_ok-begins.begins.items clear
 
 pub invariant_of-result : goal.invariant_of-result
 invariant_of-result g c =
     let cap = c.in_ok-slots.ensures.len in let le = c.requires.bounds in let r = c.ranges.cap.fits in let h = c.ranges.hi.fits in
     record {
-      tables = AreTables-none c.in_ok-slots.slots.len c.args.lo c.args.hi c.args.grain c.in_ok-slots.slots.items c.in_ok-begins.begins.items (clear g c) (no_blocks g c)
+      tables = AreTables-none (clear g c) (no_blocks g c)
           c.requires.some (omega arith) (omega arith) le c.requires.grained (long g c) (short g c);
       counted = let none : sum_by (λ (b : Block). b.size) (blocks_in c.in_ok-slots.slots.items c.in_ok-begins.begins.items) ≡ 0 = ap (sum_by (λ (b : Block). b.size)) (told g c) in omega arith;
       ranged = c.requires.range;
