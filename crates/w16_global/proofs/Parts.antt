@@ -1,14 +1,17 @@
 -- The objects' arena and memory, and the heap that they stand for.
-use Rattle.std.proofs.Common.{◌≡◌, ℕ, ◌+◌, ◌^◌, ◌<◌, ◌≤◌, ◌⊎◌, IfSome, IfNone, All, List, length, Option, Some, None, option_map, refl, sym, ap, ◌∙◌, subst, arith}
+use Rattle.std.proofs.Common.{◌≡◌, ℕ, ◌+◌, ◌^◌, ◌<◌, ◌≤◌, ◌⊎◌, IfSome, IfNone, All, List, length, Option, Some, None, Result, Ok, Err, OnOk, IfErr, option_map, refl, sym, ap, ◌∙◌, subst, arith}
 use Rattle.std.specs.FinMap as finmap
 use Rattle.w16_model.specs.declared.Block.{Block}
 use Rattle.w16_model.specs.declared.Kind.{Kind}
 use Rattle.w16_model.specs.declared.TheConstants.{GRAIN}
 use Rattle.w16_model.specs.Heap.{Heap, IsHeap, object_at, bytes_at}
 use Rattle.w16_model.specs.Table.{block_with, entry_at, heap_in}
-use Rattle.w16_model.specs.OneObject.{Enters}
+use Rattle.w16_model.specs.declared.Refusal.{Refusal}
+use Rattle.w16_model.specs.OneObject.{Enters, after_free}
+use Rattle.w16_compact.specs.Gather.{contents}
 use Rattle.w16_model.specs.Changes.{with_object}
 use Rattle.w16_arena.specs.State.{ArenaState, Steps, IsSameRange, entry_of}
+use Rattle.w16_arena.proofs.Keeping.{heap_kept}
 use Rattle.w16_arena.proofs.Lookups.{is_heap, entry_is, size_here, place_here, ends_in_memory, no_entry, no_block}
 use Rattle.w16_global.specs.Parts.{AreParts, Holding, holding_of}
 use Rattle.w16_global.proofs.Written.{beside}
@@ -116,3 +119,17 @@ module _ {s : ArenaState} {memory : List ℕ} (parts : AreParts s memory) where
     entered_shown {new} id {kind} p =
         holding_stepped p (heap_in new.table memory) refl
         ∙ (λ i. record h { heap = (p.heaps memory whole).entered i }) ∙ ap (λ (k : Holding). record h { heap = with_object k.heap id (record { kind = kind; locks = 0; bytes = None }) }) shown
+
+    -- an object that was taken away, or is refused, where the bytes of the others stay
+    module _ (new : ArenaState) (after : List ℕ) (id : ℕ) (same : contents after new.table.blocks ≡ contents memory new.table.blocks) where
+      pub freed_ok : {X : Type 0} (r : Result X Refusal) → OnOk r (Steps s new (λ a b. after_free a id ≡ Ok b)) → OnOk r (after_free h.heap id ≡ Ok (heap_in new.table after))
+      freed_ok (Ok x) p = told (λ heap. after_free heap id ≡ Ok (heap_in new.table after)) (p.heaps memory whole ∙ ap Ok (sym (heap_kept memory after new.table same)))
+      freed_ok (Err e) p = tt
+
+      pub freed_err : {X : Type 0} (r : Result X Refusal) → IfErr r (λ e. (new ≡ s) × Steps s new (λ a b. after_free a id ≡ Err e)) → IfErr r (λ e. (after_free h.heap id ≡ Err e) × (holding_of new after ≡ h))
+      freed_err (Ok x) p = tt
+      freed_err (Err e) p =
+          let still : contents after s.table.blocks ≡ contents memory s.table.blocks = subst (λ (x : ArenaState). contents after x.table.blocks ≡ contents memory x.table.blocks) p.0 same in (
+            told (λ heap. after_free heap id ≡ Err e) (p.1.heaps memory whole),
+            ap (λ (x : ArenaState). holding_of x after) p.0 ∙ (λ i. record { cap = length s.table.entries; heap = heap_kept memory after s.table still i; discarded = s.discarded }) ∙ shown,
+          )
