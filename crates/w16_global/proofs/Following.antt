@@ -1,7 +1,7 @@
 -- Selectors that follow their objects, one object further.
 use Rattle.std.proofs.Common.{◌≡◌, ◌≢◌, ℕ, ◌+◌, ◌-◌, ◌<◌, ◌≤◌, ◌⊎◌, inl, inr, Bool, true, false, ◌&&◌, nat_le, nat_lt, if◌then◌else◌, IfSome, List, [], ◌∷◌, zero, suc, length, set, Option, Some, None, option_map, is_some, unwrap_or, refl, sym, ap, ◌∙◌, subst, arith}
 use Rattle.std.specs.FinMap as finmap
-use Rattle.std.proofs.lemmas.Bool.{false≢true, cases_eq}
+use Rattle.std.proofs.lemmas.Bool.{false≢true, cases_eq, cases_lt}
 use Rattle.std.proofs.lemmas.Bool.Decides.{nat_tests}
 use Rattle.std.proofs.lemmas.List.{get_or-set_same, get_or-set_other}
 use Rattle.w16_model.specs.declared.Block.{Block}
@@ -44,7 +44,7 @@ found_at heap slot at size sized stands = of_object (object_at heap slot) refl s
     of_object None there h = cc
     of_object (Some o) there h = of_bytes o there o.bytes refl h
 
--- two objects with bytes at one place are one
+-- two objects with bytes of which one begins in the other's are one
 abbrev block_for : (heap : Heap) (slot at size : ℕ) → Found heap slot at size → (x : Block) × IsBlockOf heap x × (x.id ≡ slot) × (x.at ≡ at) × (x.size ≡ size)
 block_for heap slot at size f = (
   record { id = slot; at = at; size = size; hold = hold_of_object f.object },
@@ -54,15 +54,12 @@ block_for heap slot at size f = (
   refl,
 )
 
-one_place : (heap : Heap) → IsHeap heap → (slot other at size more : ℕ) → 0 < size → 0 < more → Found heap slot at size → Found heap other at more → other ≢ slot → ⊥
-one_place heap is slot other at size more some some_too f g n =
+one_place : (heap : Heap) → IsHeap heap → (slot other at size place more : ℕ) → 0 < more → at ≤ place → place < at + size → Found heap slot at size → Found heap other place more → other ≢ slot → ⊥
+one_place heap is slot other at size place more some from to f g n =
     let x = block_for heap slot at size f in
-    let y = block_for heap other at more g in
+    let y = block_for heap other place more g in
     let apart : Misses x.0.at x.0.size y.0.at (block_end y.0) = two_placed heap is x.0 y.0 x.1 y.1 (λ e. n (ap (λ (b : Block). b.id) (sym e))) in
-    meets at size more some some_too apart
-  where
-    meets : (at size more : ℕ) → 0 < size → 0 < more → Misses at size at (at + more) → ⊥
-    meets at size more a b m = grind arith
+    elim apart [ inl before ↦ omega arith | inr behind ↦ omega arith ]
 
 -- an object with bytes has some
 stands_filled : (heap : Heap) → IsHeap heap → (slot : ℕ) (o : Object) (bytes : List ℕ) → object_at heap slot ≡ Some o → o.bytes ≡ Some bytes → 0 < length bytes
@@ -89,40 +86,40 @@ module _ (heap : Heap) (is : IsHeap heap) (old : selectors.DescriptorTable) (beg
       either true = ap is_some says
       either false = known block.id (ap is_some f.there)
 
-  -- one block further
-  pub further : block.id < length now → (slot : ℕ) → descriptor_at (set now block.id (Some (record { base = block.at; limit = block.size - 1; present = true; kind = Data }))) slot ≡ followed heap begin (block.at + 1) old slot
-  further within slot = elim (cases_eq slot block.id) [
+  -- one block further, up to a place in the block or where it ends
+  pub further : (next : ℕ) → block.at < next → next ≤ block_end block → block.id < length now → (slot : ℕ) → descriptor_at (set now block.id (Some (record { base = block.at; limit = block.size - 1; present = true; kind = Data }))) slot ≡ followed heap begin next old slot
+  further next past within_block within slot = elim (cases_eq slot block.id) [
     | inl e ↦ ap (λ k. descriptor_at (set now block.id (Some (record { base = block.at; limit = block.size - 1; present = true; kind = Data }))) k) e
         ∙ get_or-set_same now block.id (Some (record { base = block.at; limit = block.size - 1; present = true; kind = Data })) None within ∙ sym says
-        ∙ sym (ap (λ k. followed heap begin (block.at + 1) old k) e ∙ ap (followed_by heap begin (block.at + 1) old block.id) placed ∙ ap (λ b. if b then described heap block.id else descriptor_at old block.id) inside)
+        ∙ sym (ap (λ k. followed heap begin next old k) e ∙ ap (followed_by heap begin next old block.id) placed ∙ ap (λ b. if b then described heap block.id else descriptor_at old block.id) inside)
     | inr n ↦ get_or-set_other now block.id slot (Some (record { base = block.at; limit = block.size - 1; present = true; kind = Data })) None n ∙ so_far slot ∙ other n (finmap.get heap.places slot) refl (lowest slot)
   ]
     where
-      inside : (nat_le begin block.at && nat_lt block.at (block.at + 1)) ≡ true
+      inside : (nat_le begin block.at && nat_lt block.at next) ≡ true
       inside = grind (arith, nat_tests)
 
-      same_test : (at : ℕ) → (at < from) ⊎ (block.at < at) → (nat_le begin at && nat_lt at from) ≡ (nat_le begin at && nat_lt at (block.at + 1))
+      same_test : (at : ℕ) → (at < from) ⊎ (next ≤ at) → (nat_le begin at && nat_lt at from) ≡ (nat_le begin at && nat_lt at next)
       same_test at (inl low) = grind (arith, nat_tests)
       same_test at (inr high) = grind (arith, nat_tests)
 
-      clash : slot ≢ block.id → finmap.get heap.places slot ≡ Some block.at → (b : Option (List ℕ)) → bytes_at heap slot ≡ b → ⊥
-      clash n here None h = absurd (false≢true (sym (ap is_some h) ∙ sym (is.at_bytes slot) ∙ ap is_some here))
-      clash n here (Some bytes) h =
-          let g : Found heap slot block.at (length bytes) = found_at heap slot block.at (length bytes) (ap (option_map (length {A = ℕ})) h) here in
+      clash : (at : ℕ) → slot ≢ block.id → block.at ≤ at → at < next → finmap.get heap.places slot ≡ Some at → (b : Option (List ℕ)) → bytes_at heap slot ≡ b → ⊥
+      clash at n low high here None h = absurd (false≢true (sym (ap is_some h) ∙ sym (is.at_bytes slot) ∙ ap is_some here))
+      clash at n low high here (Some bytes) h =
+          let g : Found heap slot at (length bytes) = found_at heap slot at (length bytes) (ap (option_map (length {A = ℕ})) h) here in
           let filled : 0 < length g.bytes = (stands_filled heap is slot g.object g.bytes g.there g.has) in
-          one_place heap is block.id slot block.at block.size (length bytes) some (subst (λ k. 0 < k) g.long filled) f g n
+          one_place heap is block.id slot block.at block.size at (length bytes) (subst (λ k. 0 < k) g.long filled) low (omega arith) f g n
 
-      strictly : (at : ℕ) → slot ≢ block.id → finmap.get heap.places slot ≡ Some at → (at < from) ⊎ (block.at ≤ at) → (at < from) ⊎ (block.at < at)
+      strictly : (at : ℕ) → slot ≢ block.id → finmap.get heap.places slot ≡ Some at → (at < from) ⊎ (block.at ≤ at) → (at < from) ⊎ (next ≤ at)
       strictly at n there (inl low) = inl low
-      strictly at n there (inr high) = elim (cases_eq at block.at) [
-        | inr more ↦ inr (omega (arith, more, high))
-        | inl e ↦ absurd (clash n (there ∙ ap Some e) (bytes_at heap slot) refl)
+      strictly at n there (inr high) = elim (cases_lt at next) [
+        | inl before ↦ absurd (clash at n high before there (bytes_at heap slot) refl)
+        | inr behind ↦ inr behind
       ]
 
-      other : slot ≢ block.id → (p : Option ℕ) → finmap.get heap.places slot ≡ p → IfSome p (λ at. (at < from) ⊎ (block.at ≤ at)) → followed heap begin from old slot ≡ followed heap begin (block.at + 1) old slot
-      other n None there low = ap (followed_by heap begin from old slot) there ∙ sym (ap (followed_by heap begin (block.at + 1) old slot) there)
+      other : slot ≢ block.id → (p : Option ℕ) → finmap.get heap.places slot ≡ p → IfSome p (λ at. (at < from) ⊎ (block.at ≤ at)) → followed heap begin from old slot ≡ followed heap begin next old slot
+      other n None there low = ap (followed_by heap begin from old slot) there ∙ sym (ap (followed_by heap begin next old slot) there)
       other n (Some at) there low =
-          ap (followed_by heap begin from old slot) there ∙ ap (λ b. if b then described heap slot else descriptor_at old slot) (same_test at (strictly at n there low)) ∙ sym (ap (followed_by heap begin (block.at + 1) old slot) there)
+          ap (followed_by heap begin from old slot) there ∙ ap (λ b. if b then described heap slot else descriptor_at old slot) (same_test at (strictly at n there low)) ∙ sym (ap (followed_by heap begin next old slot) there)
 
 -- a slot that is taken is in the table
 pub in_table : (t : selectors.DescriptorTable) (slot : ℕ) → is_some (descriptor_at t slot) ≡ true → slot < length t

@@ -68,6 +68,7 @@ pub(crate) fn follow(objects: &Objects, selectors: &mut Selectors, slid: Span)
     let mut from = slid.from;
     'objects: while let Some(block) = next_within(objects, from, slid.to) {
         selectors.set(block.id as u16, descriptor_of(block));
-        from = block.at + 1;
+        // No other begins before this one ends.
+        from = slid.to.min(block.at + block.size);
     }
 }

@@ -17,9 +17,9 @@ objects-preserved c =
     let real = c.in-Some.ensures.real in
     let there = c.in-Some.ensures.there in record {
       above = omega (arith, now.above, inside.0);
-      ends = inr (omega (arith, inside.1));
+      ends = inr (omega arith);
       so_far = λ slot. set_is c.set.new.self c.objects.selectors c.in-Some.block c.descriptor_of.result c.set.ensures c.descriptor_of.ensures slot
-          ∙ further c.args.objects.now.heap c.in-Some.ensures.sound _ c.args.slid.from c.objects.from c.in-Some.block now.above inside.0 real.0 there.0 there.1 c.in-Some.ensures.lowest c.objects.selectors now.so_far
+          ∙ further c.args.objects.now.heap c.in-Some.ensures.sound _ c.args.slid.from c.objects.from c.in-Some.block now.above inside.0 real.0 there.0 there.1 c.in-Some.ensures.lowest c.objects.selectors now.so_far _ (omega arith) (omega arith)
           (in_table c.objects.selectors c.in-Some.block.id (taken c.args.objects.now.heap c.in-Some.ensures.sound _ c.args.slid.from c.objects.from c.in-Some.block now.above inside.0 real.0 there.0 there.1 c.in-Some.ensures.lowest c.objects.selectors now.so_far c.requires.known)) slot;
       many = ap length c.set.ensures ∙ length-set c.objects.selectors c.in-Some.block.id (Some c.descriptor_of.result) ∙ now.many;
     }
