@@ -5,7 +5,7 @@
 //! for in a memory. No call but [`Arena::new`] takes memory of the host.
 #![tactic(auto)]
 
-ghost use Rattle.std.specs.Prelude.{◌≡◌, ◌<◌, ◌≤◌, ◌⊎◌, ℕ, [], IfOk, IfSome, IfNone};
+ghost use Rattle.std.specs.Prelude.{◌≡◌, ◌<◌, ◌≤◌, ◌⊎◌, ℕ, [], length, slice_get, IfOk, IfSome, IfNone};
 ghost use Rattle.w16_model.specs.Heap.{IsMultiple};
 ghost use Rattle.w16_model.specs.Table.{block_with, entry_at, IsSound};
 ghost use Rattle.w16_holes.specs.Holes.{add_span};
@@ -27,7 +27,7 @@ use std::marker::Model;
 use w16_blocks::Blocks;
 use w16_holes::{HoleList, Holes};
 use w16_lru::Order;
-use w16_model::{Block, Entry};
+use w16_model::{Block, Entry, Span};
 use w16_region::Space;
 pub use without_discard::Compacted;
 
@@ -89,6 +89,34 @@ impl<H: HoleList> Arena<H> {
             marks,
             discarded,
         })
+    }
+
+    /// How many ids there are, from 0.
+    pub fn cap(&self) -> u32
+        ensures { result ≡ length self.now.table.entries }
+    {
+        self.blocks.cap()
+    }
+
+    /// What the objects stand between, in bytes of the memory.
+    pub fn bounds(&self) -> Span
+        ensures { result ≡ record { from = self.now.table.lo; to = self.now.table.hi } }
+    {
+        self.blocks.bounds()
+    }
+
+    /// What every address and size is a multiple of, in bytes.
+    pub fn grain(&self) -> u32
+        ensures { result ≡ self.now.table.grain }
+    {
+        self.blocks.grain()
+    }
+
+    /// The i-th object in the order of use, the oldest first, from 0; none behind the newest.
+    pub fn nth(&self, i: usize) -> Option<u32>
+        ensures { result ≡ slice_get self.now.table.order i }
+    {
+        self.order.nth(i)
     }
 
     /// What is known of an object beside its bytes, if it is there.

@@ -1,0 +1,593 @@
+//! Calls one after another, with answers that were worked out by hand.
+
+use super::{
+    AS_IT_STANDS, Answer, DISCARDING, SLIDING, Step, act, expect, in_order, made, shown, six,
+};
+use std::test::Fail;
+use w16_arena::{Compacted, Placed};
+use w16_model::{Item, Kind, Owner, Refusal, Span};
+use w16_region::Region;
+
+/// Nothing was slid.
+const NOTHING: Span = Span { from: 0, to: 0 };
+
+macro_rules! placed {
+    ($at:expr) => {
+        Answer::Placed(Placed {
+            at: $at,
+            slid: NOTHING,
+            moved: 0,
+        })
+    };
+    ($at:expr, $from:expr, $to:expr, $moved:expr) => {
+        Answer::Placed(Placed {
+            at: $at,
+            slid: Span {
+                from: $from,
+                to: $to,
+            },
+            moved: $moved,
+        })
+    };
+}
+
+macro_rules! compacted {
+    ($room:expr) => {
+        Answer::Compacted(Compacted {
+            room: $room,
+            slid: NOTHING,
+            moved: 0,
+        })
+    };
+    ($room:expr, $from:expr, $to:expr, $moved:expr) => {
+        Answer::Compacted(Compacted {
+            room: $room,
+            slid: Span {
+                from: $from,
+                to: $to,
+            },
+            moved: $moved,
+        })
+    };
+}
+
+macro_rules! object {
+    ($at:expr, $size:expr, $id:expr, $kind:expr, $locks:expr) => {
+        Item {
+            at: $at,
+            size: $size,
+            owner: Some(Owner {
+                name: $id,
+                kind: $kind,
+                locks: $locks,
+            }),
+        }
+    };
+}
+
+macro_rules! hole {
+    ($at:expr, $size:expr) => {
+        Item {
+            at: $at,
+            size: $size,
+            owner: None,
+        }
+    };
+}
+
+/// Calls with their answers and what is discarded then, and the heap that they leave.
+#[derive(Clone, Copy)]
+struct Script {
+    name: &'static str,
+    lines: &'static [(Step, Answer, &'static [u32])],
+    walk: &'static [Item],
+    order: &'static [u32],
+}
+
+const SCRIPTS: &[Script] = &[
+    Script {
+        name: "new objects of each kind, and one without bytes",
+        lines: &[
+            (
+                Step::Alloc(0, 32, Kind::Fixed, AS_IT_STANDS),
+                placed!(0),
+                &[],
+            ),
+            (
+                Step::Alloc(1, 64, Kind::Moveable, AS_IT_STANDS),
+                placed!(32),
+                &[],
+            ),
+            (
+                Step::Alloc(2, 32, Kind::Discardable, AS_IT_STANDS),
+                placed!(96),
+                &[],
+            ),
+            (Step::Enter(3, Kind::Discardable), Answer::Done, &[]),
+            (Step::Enter(5, Kind::Fixed), Answer::Done, &[]),
+            (Step::Lock(3), Answer::Refused(Refusal::Absent), &[]),
+            (Step::Newest(3), Answer::Refused(Refusal::Absent), &[]),
+            (
+                Step::Alloc(4, 160, Kind::Moveable, AS_IT_STANDS),
+                Answer::NoRoom,
+                &[],
+            ),
+            (
+                Step::Alloc(4, 128, Kind::Moveable, AS_IT_STANDS),
+                placed!(128),
+                &[],
+            ),
+            (Step::Free(3), Answer::Done, &[]),
+        ],
+        walk: &[
+            object!(0, 32, 0, Kind::Fixed, 0),
+            object!(32, 64, 1, Kind::Moveable, 0),
+            object!(96, 32, 2, Kind::Discardable, 0),
+            object!(128, 128, 4, Kind::Moveable, 0),
+        ],
+        order: &[2],
+    },
+    Script {
+        name: "the lowest hole that is long enough",
+        lines: &[
+            (
+                Step::Alloc(0, 64, Kind::Moveable, AS_IT_STANDS),
+                placed!(0),
+                &[],
+            ),
+            (
+                Step::Alloc(1, 64, Kind::Moveable, AS_IT_STANDS),
+                placed!(64),
+                &[],
+            ),
+            (
+                Step::Alloc(2, 64, Kind::Moveable, AS_IT_STANDS),
+                placed!(128),
+                &[],
+            ),
+            (Step::Free(0), Answer::Done, &[]),
+            (Step::Lock(2), Answer::Done, &[]),
+            (Step::Free(2), Answer::Refused(Refusal::Locked), &[]),
+            (Step::Release(2), Answer::Done, &[]),
+            (
+                Step::Alloc(3, 96, Kind::Moveable, DISCARDING),
+                placed!(128),
+                &[],
+            ),
+            (
+                Step::Alloc(4, 64, Kind::Discardable, SLIDING),
+                placed!(0),
+                &[],
+            ),
+            (
+                Step::Alloc(5, 64, Kind::Moveable, AS_IT_STANDS),
+                Answer::NoRoom,
+                &[],
+            ),
+        ],
+        walk: &[
+            object!(0, 64, 4, Kind::Discardable, 0),
+            object!(64, 64, 1, Kind::Moveable, 0),
+            object!(128, 96, 3, Kind::Moveable, 0),
+            hole!(224, 32),
+        ],
+        order: &[4],
+    },
+    Script {
+        name: "others slide where they may",
+        lines: &[
+            (
+                Step::Alloc(0, 64, Kind::Moveable, AS_IT_STANDS),
+                placed!(0),
+                &[],
+            ),
+            (
+                Step::Alloc(1, 64, Kind::Moveable, AS_IT_STANDS),
+                placed!(64),
+                &[],
+            ),
+            (
+                Step::Alloc(2, 64, Kind::Moveable, AS_IT_STANDS),
+                placed!(128),
+                &[],
+            ),
+            (Step::Release(0), Answer::Done, &[]),
+            (
+                Step::Alloc(3, 96, Kind::Moveable, AS_IT_STANDS),
+                Answer::NoRoom,
+                &[],
+            ),
+            (Step::Lock(1), Answer::Done, &[]),
+            (
+                Step::Alloc(3, 96, Kind::Moveable, SLIDING),
+                Answer::NoRoom,
+                &[],
+            ),
+            (Step::Unlock(1), Answer::Done, &[]),
+            (
+                Step::Alloc(3, 96, Kind::Moveable, SLIDING),
+                placed!(128, 0, 256, 128),
+                &[],
+            ),
+        ],
+        walk: &[
+            object!(0, 64, 1, Kind::Moveable, 0),
+            object!(64, 64, 2, Kind::Moveable, 0),
+            object!(128, 96, 3, Kind::Moveable, 0),
+            hole!(224, 32),
+        ],
+        order: &[],
+    },
+    Script {
+        name: "the least recently used are discarded, as few as are needed",
+        lines: &[
+            (
+                Step::Alloc(0, 64, Kind::Discardable, DISCARDING),
+                placed!(0),
+                &[],
+            ),
+            (
+                Step::Alloc(1, 64, Kind::Discardable, DISCARDING),
+                placed!(64),
+                &[],
+            ),
+            (
+                Step::Alloc(2, 64, Kind::Discardable, DISCARDING),
+                placed!(128),
+                &[],
+            ),
+            (
+                Step::Alloc(3, 32, Kind::Moveable, DISCARDING),
+                placed!(192),
+                &[],
+            ),
+            (Step::Lock(0), Answer::Done, &[]),
+            (Step::Unlock(0), Answer::Done, &[]),
+            (Step::Touch(1), Answer::Done, &[]),
+            (
+                Step::Alloc(4, 96, Kind::Moveable, SLIDING),
+                Answer::NoRoom,
+                &[],
+            ),
+            (
+                Step::Alloc(4, 96, Kind::Moveable, DISCARDING),
+                placed!(160, 0, 256, 32),
+                &[2],
+            ),
+            (
+                Step::Alloc(2, 64, Kind::Discardable, DISCARDING),
+                placed!(0),
+                &[0],
+            ),
+            (Step::Lock(0), Answer::Refused(Refusal::Absent), &[0]),
+            (Step::Unlock(0), Answer::Done, &[0]),
+            (Step::Discard(0), Answer::Done, &[0]),
+            (Step::Oldest(0), Answer::Refused(Refusal::Absent), &[0]),
+            (Step::Lock(1), Answer::Done, &[0]),
+            (
+                Step::Alloc(5, 96, Kind::Moveable, DISCARDING),
+                Answer::NoRoom,
+                &[0],
+            ),
+        ],
+        walk: &[
+            object!(0, 64, 2, Kind::Discardable, 0),
+            object!(64, 64, 1, Kind::Discardable, 1),
+            object!(128, 32, 3, Kind::Moveable, 0),
+            object!(160, 96, 4, Kind::Moveable, 0),
+        ],
+        order: &[2, 1],
+    },
+    Script {
+        name: "compaction discards as few as are needed, or all that may be",
+        lines: &[
+            (
+                Step::Alloc(0, 64, Kind::Discardable, AS_IT_STANDS),
+                placed!(0),
+                &[],
+            ),
+            (
+                Step::Alloc(1, 64, Kind::Discardable, AS_IT_STANDS),
+                placed!(64),
+                &[],
+            ),
+            (
+                Step::Alloc(2, 128, Kind::Moveable, AS_IT_STANDS),
+                placed!(128),
+                &[],
+            ),
+            (Step::Lock(1), Answer::Done, &[]),
+            (Step::Compact(0), compacted!(64), &[]),
+            (Step::Compact(64), compacted!(64), &[0]),
+            (Step::RoomAll, Answer::Room(64), &[0]),
+            (Step::Free(1), Answer::Refused(Refusal::Locked), &[0]),
+            (Step::Discard(1), Answer::Refused(Refusal::Locked), &[0]),
+            (Step::Unlock(1), Answer::Done, &[0]),
+            (Step::RoomAll, Answer::Room(128), &[0]),
+            (Step::Compact(0), compacted!(128), &[]),
+            (Step::Compact(160), compacted!(128), &[1]),
+            (Step::Compact(160), compacted!(128), &[]),
+        ],
+        walk: &[hole!(0, 128), object!(128, 128, 2, Kind::Moveable, 0)],
+        order: &[],
+    },
+    Script {
+        name: "compaction slides",
+        lines: &[
+            (
+                Step::Alloc(0, 32, Kind::Moveable, AS_IT_STANDS),
+                placed!(0),
+                &[],
+            ),
+            (
+                Step::Alloc(1, 32, Kind::Moveable, AS_IT_STANDS),
+                placed!(32),
+                &[],
+            ),
+            (
+                Step::Alloc(2, 32, Kind::Discardable, AS_IT_STANDS),
+                placed!(64),
+                &[],
+            ),
+            (
+                Step::Alloc(3, 64, Kind::Moveable, AS_IT_STANDS),
+                placed!(96),
+                &[],
+            ),
+            (Step::Release(0), Answer::Done, &[]),
+            (Step::Compact(128), compacted!(128, 0, 256, 128), &[]),
+            (Step::Compact(129), compacted!(160, 0, 256, 64), &[2]),
+            (Step::Compact(256), compacted!(160), &[]),
+        ],
+        walk: &[
+            object!(0, 32, 1, Kind::Moveable, 0),
+            object!(32, 64, 3, Kind::Moveable, 0),
+            hole!(96, 160),
+        ],
+        order: &[],
+    },
+    Script {
+        name: "a full heap of one fixed object",
+        lines: &[
+            (
+                Step::Alloc(0, 256, Kind::Fixed, AS_IT_STANDS),
+                placed!(0),
+                &[],
+            ),
+            (Step::Compact(0), compacted!(0), &[]),
+            (Step::Compact(1), compacted!(0), &[]),
+            (
+                Step::Alloc(1, 32, Kind::Moveable, DISCARDING),
+                Answer::NoRoom,
+                &[],
+            ),
+        ],
+        walk: &[object!(0, 256, 0, Kind::Fixed, 0)],
+        order: &[],
+    },
+    Script {
+        name: "the order of use",
+        lines: &[
+            (
+                Step::Alloc(0, 32, Kind::Discardable, AS_IT_STANDS),
+                placed!(0),
+                &[],
+            ),
+            (
+                Step::Alloc(1, 32, Kind::Discardable, AS_IT_STANDS),
+                placed!(32),
+                &[],
+            ),
+            (
+                Step::Alloc(2, 32, Kind::Discardable, AS_IT_STANDS),
+                placed!(64),
+                &[],
+            ),
+            (
+                Step::Alloc(3, 32, Kind::Moveable, AS_IT_STANDS),
+                placed!(96),
+                &[],
+            ),
+            (
+                Step::Alloc(4, 32, Kind::Fixed, AS_IT_STANDS),
+                placed!(128),
+                &[],
+            ),
+            (Step::Newest(0), Answer::Done, &[]),
+            (Step::Oldest(2), Answer::Done, &[]),
+            (Step::Lock(1), Answer::Done, &[]),
+            (Step::Oldest(1), Answer::Done, &[]),
+            (
+                Step::Oldest(3),
+                Answer::Refused(Refusal::NotDiscardable),
+                &[],
+            ),
+            (
+                Step::Newest(3),
+                Answer::Refused(Refusal::NotDiscardable),
+                &[],
+            ),
+            (Step::Touch(3), Answer::Done, &[]),
+            (Step::Lock(4), Answer::Refused(Refusal::Fixed), &[]),
+            (Step::Unlock(4), Answer::Refused(Refusal::Fixed), &[]),
+            (
+                Step::Discard(4),
+                Answer::Refused(Refusal::NotDiscardable),
+                &[],
+            ),
+            (Step::Lock(3), Answer::Done, &[]),
+            (
+                Step::Alloc(5, 128, Kind::Moveable, DISCARDING),
+                Answer::NoRoom,
+                &[],
+            ),
+            (
+                Step::Alloc(5, 96, Kind::Moveable, DISCARDING),
+                placed!(160),
+                &[],
+            ),
+            (Step::Compact(32), compacted!(32), &[2]),
+            (
+                Step::Alloc(2, 32, Kind::Discardable, DISCARDING),
+                placed!(64),
+                &[],
+            ),
+        ],
+        walk: &[
+            object!(0, 32, 0, Kind::Discardable, 0),
+            object!(32, 32, 1, Kind::Discardable, 1),
+            object!(64, 32, 2, Kind::Discardable, 0),
+            object!(96, 32, 3, Kind::Moveable, 1),
+            object!(128, 32, 4, Kind::Fixed, 0),
+            object!(160, 96, 5, Kind::Moveable, 0),
+        ],
+        order: &[1, 0, 2],
+    },
+    Script {
+        name: "steps on single objects, and on an id that has none",
+        lines: &[
+            (
+                Step::Alloc(0, 32, Kind::Discardable, AS_IT_STANDS),
+                placed!(0),
+                &[],
+            ),
+            (
+                Step::Alloc(1, 32, Kind::Moveable, AS_IT_STANDS),
+                placed!(32),
+                &[],
+            ),
+            (
+                Step::Discard(1),
+                Answer::Refused(Refusal::NotDiscardable),
+                &[],
+            ),
+            (Step::Discard(0), Answer::Done, &[]),
+            (
+                Step::Alloc(0, 64, Kind::Discardable, AS_IT_STANDS),
+                placed!(64),
+                &[],
+            ),
+            (Step::Lock(1), Answer::Done, &[]),
+            (Step::Lock(1), Answer::Done, &[]),
+            (Step::Lock(1), Answer::Done, &[]),
+            (Step::Unlock(1), Answer::Done, &[]),
+            (Step::Unlock(0), Answer::Done, &[]),
+            (Step::Lock(5), Answer::Refused(Refusal::Absent), &[]),
+            (Step::Unlock(5), Answer::Done, &[]),
+            (Step::Free(5), Answer::Done, &[]),
+            (Step::Release(5), Answer::Done, &[]),
+            (
+                Step::Discard(5),
+                Answer::Refused(Refusal::NotDiscardable),
+                &[],
+            ),
+            (Step::Touch(5), Answer::Done, &[]),
+            (Step::Newest(5), Answer::Refused(Refusal::Absent), &[]),
+            (
+                Step::Oldest(4_294_967_295),
+                Answer::Refused(Refusal::Absent),
+                &[],
+            ),
+        ],
+        walk: &[
+            hole!(0, 32),
+            object!(32, 32, 1, Kind::Moveable, 2),
+            object!(64, 64, 0, Kind::Discardable, 0),
+            hole!(128, 128),
+        ],
+        order: &[0],
+    },
+];
+
+#[test]
+fn answers_calls(rt: HostRuntime) -> Result<(), Fail> {
+    for script in SCRIPTS {
+        let Script {
+            name,
+            lines,
+            walk,
+            order,
+        } = *script;
+        let mut arena = six(&rt, rt.alloc())?;
+        let mut region = Region::new(rt.alloc(), 256)?;
+        for line in lines {
+            expect(&rt, rt.alloc(), name, &mut arena, &mut region, line)?;
+        }
+        assert_eq!(rt; shown(rt.alloc(), &arena, &region)?.as_slice(), walk, "{name}: walk");
+        assert_eq!(rt;
+            in_order(rt.alloc(), &arena)?.as_slice(),
+            order,
+            "{name}: order"
+        );
+    }
+    Ok(())
+}
+
+/// A fixed object at 0, a hole of 64 bytes, a locked discardable object at 96, and a hole.
+const WITH_HOLES: &[Step] = &[
+    Step::Alloc(0, 32, Kind::Fixed, AS_IT_STANDS),
+    Step::Alloc(1, 64, Kind::Moveable, AS_IT_STANDS),
+    Step::Alloc(2, 32, Kind::Discardable, AS_IT_STANDS),
+    Step::Lock(2),
+    Step::Release(1),
+];
+
+#[test]
+fn walks_by_address(rt: HostRuntime) -> Result<(), Fail> {
+    let (empty, none) = made(&rt, rt.alloc(), &[])?;
+    assert_eq!(rt; empty.walk_from(&none, 0), Some(hole!(0, 256)));
+    assert_eq!(rt; empty.walk_from(&none, 1), None);
+    let (arena, region) = made(&rt, rt.alloc(), WITH_HOLES)?;
+    assert_eq!(rt; arena.walk_from(&region, 0), Some(object!(0, 32, 0, Kind::Fixed, 0)));
+    assert_eq!(rt; arena.walk_from(&region, 1), Some(hole!(32, 64)));
+    assert_eq!(rt; arena.walk_from(&region, 32), Some(hole!(32, 64)));
+    let locked = object!(96, 32, 2, Kind::Discardable, 1);
+    assert_eq!(rt; arena.walk_from(&region, 33), Some(locked));
+    assert_eq!(rt; arena.walk_from(&region, 96), Some(locked));
+    assert_eq!(rt; arena.walk_from(&region, 97), Some(hole!(128, 128)));
+    assert_eq!(rt; arena.walk_from(&region, 129), None);
+    Ok(())
+}
+
+#[test]
+fn walks_by_number(rt: HostRuntime) -> Result<(), Fail> {
+    let (arena, region) = made(&rt, rt.alloc(), WITH_HOLES)?;
+    assert_eq!(rt; arena.walk(&region, 0), Some(object!(0, 32, 0, Kind::Fixed, 0)));
+    assert_eq!(rt; arena.walk(&region, 1), Some(hole!(32, 64)));
+    assert_eq!(rt;
+        arena.walk(&region, 2),
+        Some(object!(96, 32, 2, Kind::Discardable, 1))
+    );
+    assert_eq!(rt; arena.walk(&region, 3), Some(hole!(128, 128)));
+    assert_eq!(rt; arena.walk(&region, 4), None);
+    assert_eq!(rt; arena.walk(&region, 9), None);
+    Ok(())
+}
+
+#[test]
+fn walks_a_full_heap(rt: HostRuntime) -> Result<(), Fail> {
+    let mut arena = six(&rt, rt.alloc())?;
+    let mut region = Region::new(rt.alloc(), 256)?;
+    act(
+        &rt,
+        &mut arena,
+        &mut region,
+        Step::Alloc(3, 96, Kind::Moveable, AS_IT_STANDS),
+    );
+    act(
+        &rt,
+        &mut arena,
+        &mut region,
+        Step::Alloc(0, 160, Kind::Moveable, AS_IT_STANDS),
+    );
+    assert_eq!(rt;
+        arena.walk_from(&region, 0),
+        Some(object!(0, 96, 3, Kind::Moveable, 0))
+    );
+    assert_eq!(rt;
+        arena.walk_from(&region, 1),
+        Some(object!(96, 160, 0, Kind::Moveable, 0))
+    );
+    assert_eq!(rt; arena.walk_from(&region, 97), None);
+    Ok(())
+}
