@@ -413,6 +413,13 @@ impl<H: HoleList> Blocks<H> {
         self.slots.len() as u32
     }
 
+    /// Of what each place and each size is a multiple, in bytes.
+    pub fn grain(&self) -> u32
+        ensures { result ≡ self.now.grain }
+    {
+        self.grain
+    }
+
     /// The bytes that no block has.
     pub fn free(&self) -> u32
         ensures { result ≡ self.now.hi - self.now.lo - sum_by (λ b. b.size) self.now.blocks }

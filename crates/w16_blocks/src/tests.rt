@@ -1,7 +1,7 @@
 ghost use Rattle.std.specs.Prelude.{◌≡◌, length, IfOk};
 ghost use Rattle.w16_blocks.specs.Sample.{three_blocks};
 
-use crate::{Block, Blocks, Hold, Span};
+use crate::{Block, Blocks, Hold, Part, Span};
 use std::alloc::AllocError;
 use std::test::Fail;
 use w16_holes::SideHoles;
@@ -11,6 +11,10 @@ fn block(id: u32, at: u32, size: u32, hold: Hold) -> Block
     ensures { result ≡ record { id = id; at = at; size = size; hold = hold } }
 {
     Block { id, at, size, hold }
+}
+
+fn hole(from: u32, to: u32) -> Part {
+    Part::Hole(Span { from, to })
 }
 
 /// Three blocks of a heap of 256 bytes: holes of 32, 64 and 64 bytes.
@@ -33,6 +37,7 @@ fn looks_up(rt: HostRuntime) -> Result<(), Fail> {
     assert_eq!(rt; blocks.find(2), Some(block(2, 128, 32, Hold::Pinned)));
     assert_eq!(rt; blocks.find(1), None);
     assert_eq!(rt; blocks.cap(), 4);
+    assert_eq!(rt; blocks.grain(), 32);
     assert_eq!(rt; blocks.bounds(), Span { from: 0, to: 256 });
     assert_eq!(rt; blocks.free(), 160);
     assert_eq!(rt;
@@ -119,5 +124,37 @@ fn walks_by_address(rt: HostRuntime) -> Result<(), Fail> {
         ids.push(block.id)?;
     }
     assert_eq!(rt; ids.as_slice(), [0, 2, 3].as_slice());
+    Ok(())
+}
+
+#[test]
+fn walks_by_part(rt: HostRuntime) -> Result<(), Fail> {
+    let mut space = Region::new(rt.alloc(), 256)?;
+    let blocks = three(&rt, &mut space)?;
+    // From 0 on, each time from the end of the part before.
+    assert_eq!(rt; blocks.part_from(&space, 0), Some(hole(0, 32)));
+    assert_eq!(rt;
+        blocks.part_from(&space, 32),
+        Some(Part::Block(block(0, 32, 32, Hold::Loose)))
+    );
+    assert_eq!(rt; blocks.part_from(&space, 64), Some(hole(64, 128)));
+    assert_eq!(rt;
+        blocks.part_from(&space, 128),
+        Some(Part::Block(block(2, 128, 32, Hold::Pinned)))
+    );
+    assert_eq!(rt;
+        blocks.part_from(&space, 160),
+        Some(Part::Block(block(3, 160, 32, Hold::Loose)))
+    );
+    assert_eq!(rt; blocks.part_from(&space, 192), Some(hole(192, 256)));
+    assert_eq!(rt; blocks.part_from(&space, 256), None);
+    // From inside a block, from inside a hole, and behind where the last part begins.
+    assert_eq!(rt; blocks.part_from(&space, 33), Some(hole(64, 128)));
+    assert_eq!(rt;
+        blocks.part_from(&space, 96),
+        Some(Part::Block(block(2, 128, 32, Hold::Pinned)))
+    );
+    assert_eq!(rt; blocks.part_from(&space, 193), None);
+    assert_eq!(rt; blocks.part_from(&space, 1000), None);
     Ok(())
 }
