@@ -12,61 +12,39 @@ use Rattle.w16_holes.specs.Law.{IsIn}
 use Rattle.w16_holes.proofs.Units.{multiple_sum}
 use Rattle.w16_holes.proofs.Sets.{AreHoles-taken, taken_in, in_taken, AreHoles-joined, joined_in, in_joined}
 use Rattle.w16_blocks.specs.Layout.{Layout, IsApart, IsOrdered, FitsFor, all_but, replaced, range_of, holes_of}
-use Rattle.w16_blocks.specs.Stay.{beyond}
+use Rattle.w16_blocks.specs.Stay.{IsBeyond}
 use Rattle.w16_blocks.proofs.Remove.{All-back}
 use Rattle.w16_blocks.proofs.Free.{Lacks, AreHoles-holes, lacks_free, used_of, free_of}
 use Rattle.w16_blocks.proofs.Step.{multiple_less, lies, lacks_known, holes_moved}
 
--- what a place has beyond another, told by its bytes
-pub record IsBeyond (other place n : ℕ) (s : Span) : Type 0 where
-  pub some : s.from < s.to
-  pub low : place ≤ s.from
-  pub high : s.to ≤ place + n
-  pub out : (s.to ≤ other) ⊎ (other + n ≤ s.from)
-  pub rest : (p : ℕ) → place ≤ p → p < place + n → ((s.from ≤ p) × (p < s.to)) ⊎ ((other ≤ p) × (p < other + n))
+-- where what a place has beyond another begins, and where it ends
+begins : (other place n : ℕ) (s : Span) → IsBeyond other place n s → (s.from ≡ place) ⊎ (s.from ≡ other + n)
+begins other place n s is =
+    let some = is.some in let low = is.low in let high = is.high in
+    elim (cases_lt place s.from) [
+      | inl above ↦ elim (is.rest (s.from - 1) (omega arith) (omega arith)) [
+        | inl own ↦ let from = own.0 in absurd (omega arith)
+        | inr has ↦ let from = has.0 in let to = has.1 in elim is.out [ inl before ↦ absurd (omega arith) | inr behind ↦ inr (omega arith) ]
+      ]
+      | inr at ↦ inl (omega arith)
+    ]
 
-beyond_low : (other place n : ℕ) → place < other → beyond other place n ≡ record { from = place; to = min other (place + n) }
-beyond_low other place n lt = rw (lt-ltb place other lt) refl
+ends : (other place n : ℕ) (s : Span) → IsBeyond other place n s → (s.to ≡ place + n) ⊎ (s.to ≡ other)
+ends other place n s is =
+    let some = is.some in let low = is.low in let high = is.high in
+    elim (cases_lt s.to (place + n)) [
+      | inl below ↦ elim (is.rest s.to (omega arith) below) [
+        | inl own ↦ let to = own.1 in absurd (omega arith)
+        | inr has ↦ let from = has.0 in let to = has.1 in elim is.out [ inl before ↦ inr (omega arith) | inr behind ↦ absurd (omega arith) ]
+      ]
+      | inr at ↦ inl (omega arith)
+    ]
 
-beyond_high : (other place n : ℕ) → other ≤ place → beyond other place n ≡ record { from = max place (other + n); to = place + n }
-beyond_high other place n le = rw (le-ltb place other le) refl
-
-pub beyond_is : (other place n : ℕ) → place ≢ other → 0 < n → IsBeyond other place n (beyond other place n)
-beyond_is other place n ne some = elim (cases_lt place other) [
-  | inl lt ↦ subst (IsBeyond other place n) (sym (beyond_low other place n lt)) (record {
-    some = omega arith;
-    low = omega arith;
-    high = omega arith;
-    out = inl (omega arith);
-    rest = λ p from to. elim (cases_lt p (min other (place + n))) [ inl inside ↦ inl (from, inside) | inr past ↦ inr (omega arith, omega arith) ];
-  })
-  | inr le ↦ subst (IsBeyond other place n) (sym (beyond_high other place n le)) (record {
-    some = omega arith;
-    low = omega arith;
-    high = omega arith;
-    out = inr (omega arith);
-    rest = λ p from to. elim (cases_lt p (max place (other + n))) [ inl before ↦ inr (omega arith, omega arith) | inr inside ↦ inl (inside, to) ];
-  })
-]
-
-pub beyond_grained : (g other place n : ℕ) → place ≢ other → IsMultiple g other → IsMultiple g place → IsMultiple g n → IsMultiple g (beyond other place n).from × IsMultiple g ((beyond other place n).to - (beyond other place n).from)
-beyond_grained g other place n ne one two three = elim (cases_lt place other) [
-  | inl lt ↦ subst (λ (s : Span). IsMultiple g s.from × IsMultiple g (s.to - s.from)) (sym (beyond_low other place n lt)) (
-    two,
-    elim (cases_lt other (place + n)) [
-      | inl near ↦ let e : other - place ≡ min other (place + n) - place = omega arith in subst (IsMultiple g) e (multiple_less g other place one two)
-      | inr far ↦ let e : n ≡ min other (place + n) - place = omega arith in subst (IsMultiple g) e three
-    ],
-  )
-  | inr le ↦ subst (λ (s : Span). IsMultiple g s.from × IsMultiple g (s.to - s.from)) (sym (beyond_high other place n le)) (elim (cases_lt place (other + n)) [
-    | inl near ↦
-        let e : other + n ≡ max place (other + n) = omega arith in let f : place - other ≡ place + n - max place (other + n) = omega arith in
-        (subst (IsMultiple g) e (multiple_sum g other n one three), subst (IsMultiple g) f (multiple_less g place other two one))
-    | inr far ↦
-        let e : place ≡ max place (other + n) = omega arith in let f : n ≡ place + n - max place (other + n) = omega arith in
-        (subst (IsMultiple g) e two, subst (IsMultiple g) f three)
-  ])
-]
+pub beyond_grained : (g other place n : ℕ) (s : Span) → IsBeyond other place n s → IsMultiple g other → IsMultiple g place → IsMultiple g n → IsMultiple g s.from × IsMultiple g (s.to - s.from)
+beyond_grained g other place n s is one two three =
+    let from : IsMultiple g s.from = elim (begins other place n s is) [ inl at ↦ subst (IsMultiple g) (sym at) two | inr behind ↦ subst (IsMultiple g) (sym behind) (multiple_sum g other n one three) ] in
+    let to : IsMultiple g s.to = elim (ends other place n s is) [ inl at ↦ subst (IsMultiple g) (sym at) (multiple_sum g place n two three) | inr before ↦ subst (IsMultiple g) (sym before) one ] in
+    (from, multiple_less g s.to s.from to from)
 
 module _ (l : Layout) (x : Block) (to : ℕ) (known : block_with l.blocks x.id ≡ Some x) (fits : FitsFor l (record x { at = to })) (ordered : IsOrdered l) (ids : l.cap < 2 ^ 32)
     (n o : Span) (is_new : IsBeyond x.at to x.size n) (is_left : IsBeyond to x.at x.size o) where

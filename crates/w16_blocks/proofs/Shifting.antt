@@ -9,16 +9,16 @@ use Rattle.w16_model.specs.Bytes.{part, put_part}
 use Rattle.w16_holes.specs.Holes.{Range, IsFree, IsUsed, IsPart, AreSameIn, AreSameOutside, taken, joined}
 use Rattle.w16_blocks.specs.Layout.{Layout, FitsFor, replaced, holes_of}
 use Rattle.w16_blocks.specs.Kept.{blocks_in, layout_in, IsKept}
-use Rattle.w16_blocks.specs.Stay.{AreSameBut, beyond}
+use Rattle.w16_blocks.specs.Stay.{AreSameBut, IsBeyond}
 use Rattle.w16_blocks.proofs.Step.{grained_known}
 use Rattle.w16_blocks.proofs.Keeping.{known_now, lies_in, used_kept, cell_is, fits_for, with_blocks, blocks_moved, IsKept-move}
 use Rattle.w16_blocks.proofs.Slid.{free_stays, come_along, others_stay}
 use Rattle.w16_blocks.proofs.Shift as shift
-use Rattle.w16_blocks.proofs.Shift.{IsBeyond, beyond_is, beyond_grained}
+use Rattle.w16_blocks.proofs.Shift.{beyond_grained}
 
 module _ {cap lo hi g : ℕ} {slots : List Block} {cells : List ℕ} {free : ℕ} {range : Range} {kept : List Span} (k : IsKept cap lo hi g slots cells free range kept) (long : cap ≡ length slots)
-    {l : Layout} (is : layout_in cap lo hi g slots cells ≡ l) (x : Block) {to : ℕ} (known_l : block_with l.blocks x.id ≡ Some x) (fits_l : FitsFor l (record x { at = to })) (ne : to ≢ x.at)
-    {n o : Span} (n_is : n ≡ beyond x.at to x.size) (o_is : o ≡ beyond to x.at x.size) where
+    {l : Layout} (is : layout_in cap lo hi g slots cells ≡ l) (x : Block) {to : ℕ} (known_l : block_with l.blocks x.id ≡ Some x) (fits_l : FitsFor l (record x { at = to }))
+    {n o : Span} (is_new : IsBeyond x.at to x.size n) (is_left : IsBeyond to x.at x.size o) where
   abbrev now : Layout
   now = layout_in cap lo hi g slots cells
 
@@ -28,17 +28,11 @@ module _ {cap lo hi g : ℕ} {slots : List Block} {cells : List ℕ} {free : ℕ
   fits : FitsFor now (record x { at = to })
   fits = fits_for k long is (record x { at = to }) known_l fits_l
 
-  is_new : IsBeyond x.at to x.size n
-  is_new = subst (IsBeyond x.at to x.size) (sym n_is) (beyond_is x.at to x.size ne fits.inside.1)
-
-  is_left : IsBeyond to x.at x.size o
-  is_left = subst (IsBeyond to x.at x.size) (sym o_is) (beyond_is to x.at x.size (λ e. ne (sym e)) fits.inside.1)
-
   pub part_entered : IsPart range n.from (n.to - n.from)
   part_entered =
       let grained = grained_known now x.id x known k.tables.ordered in
       subst (λ (r : Range). IsPart r n.from (n.to - n.from)) (sym k.ranged) (shift.part_new now x to known fits k.tables.ordered k.tables.ids n o is_new is_left
-      (subst (λ (s : Span). IsMultiple g s.from × IsMultiple g (s.to - s.from)) (sym n_is) (beyond_grained g x.at to x.size ne grained.0 fits.grained.0 grained.1)))
+      (beyond_grained g x.at to x.size n is_new grained.0 fits.grained.0 grained.1))
 
   pub free_entered : IsFree n.from (n.from + (n.to - n.from)) kept
   free_entered = subst (IsFree n.from (n.from + (n.to - n.from))) (sym k.between) (shift.free_new now x to known fits k.tables.ordered k.tables.ids n o is_new is_left)
@@ -60,7 +54,7 @@ module _ {cap lo hi g : ℕ} {slots : List Block} {cells : List ℕ} {free : ℕ
     part_left =
         let grained = grained_known now x.id x known k.tables.ordered in
         subst (λ (r : Range). IsPart r o.from (o.to - o.from)) (sym (same ∙ k.ranged)) (shift.part_left now x to known fits k.tables.ordered k.tables.ids n o is_new is_left
-        (subst (λ (s : Span). IsMultiple g s.from × IsMultiple g (s.to - s.from)) (sym o_is) (beyond_grained g to x.at x.size (λ e. ne (sym e)) fits.grained.0 grained.0 grained.1)))
+        (beyond_grained g to x.at x.size o is_left fits.grained.0 grained.0 grained.1))
 
     pub used_left : IsUsed o.from (o.from + (o.to - o.from)) mid
     used_left = subst (IsUsed o.from (o.from + (o.to - o.from))) (sym takes_between) (shift.used_left now x to known fits k.tables.ordered k.tables.ids n o is_new is_left)

@@ -5,7 +5,7 @@
 ghost use Rattle.std.specs.Prelude.{◌≡◌, ◌≢◌, ◌+◌, ◌-◌, ◌*◌, ◌^◌, ◌<◌, ◌≤◌, ◌==◌, List, ℕ, [], ◌∷◌, length, IfOk, IsSome, IfSome, vec_len, slice_get, nat_le, sum_by, Some, if◌then◌else◌};
 ghost use Rattle.std.specs.Option.{option_map, ForSome};
 ghost use Rattle.w16_model.specs.Heap.{IsMultiple};
-ghost use Rattle.w16_blocks.specs.Stay as stay;
+ghost use Rattle.w16_blocks.specs.Stay.{IsBeyond};
 
 mod by_address;
 mod parts;
@@ -68,9 +68,11 @@ fn unit_of(place: u32, lo: u32, grain: u32) -> usize
 
 /// What the `size` bytes at a place have beyond those at another.
 fn beyond(other: u32, place: u32, size: u32) -> Span
+    requires another { place ≢ other }
+    requires some { 0 < size }
     requires other { other + size < 2 ^ 32 }
     requires place { place + size < 2 ^ 32 }
-    ensures { result ≡ stay.beyond other place size }
+    ensures { IsBeyond other place size result }
 {
     if place < other {
         Span {
@@ -127,7 +129,7 @@ impl<H: HoleList> Blocks<H> {
         })
     }
 
-    /// The block of an id.
+    /// The block of an id, none where it has none.
     pub fn find(&self, id: u32) -> Option<Block>
         requires { id < self.now.cap }
         ensures value { result ≡ block_with self.now.blocks id }
@@ -357,7 +359,8 @@ impl<H: HoleList> Blocks<H> {
         self.holes.at(space, block.at + block.size)
     }
 
-    /// The first block that begins at an address or above.
+    /// The first block that begins at an address or above, none where none does. It takes a few steps where a block or a hole begins at the
+    /// address, and else goes on unit by unit.
     pub fn next_from<S: Space>(&self, space: &S, at: u32) -> Option<Block>
     where
         H: Holes<S>,
@@ -371,7 +374,7 @@ impl<H: HoleList> Blocks<H> {
             if begin > 0 {
                 return Some(self.slots[begin - 1]);
             }
-            // Nothing begins in a hole, so it is passed in one step.
+            // Nothing begins in a hole, so from its begin it is passed in one step.
             let hole = self.holes.at(space, self.lo + unit as u32 * self.grain);
             unit += (hole / self.grain).max(1) as usize;
         }
@@ -387,6 +390,7 @@ impl<H: HoleList> Blocks<H> {
         ensures from { result.from ≡ 0 }
         ensures ordered { IsOrdered self.now }
     {
+        // Opens the blocks, so that what always holds of them is known here.
         let _ = &self.free;
         ByAddress {
             blocks: self,

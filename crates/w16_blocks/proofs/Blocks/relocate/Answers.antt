@@ -1,4 +1,4 @@
-use Rattle.std.proofs.Common.{List, add-one, arith, subst}
+use Rattle.std.proofs.Common.{List, add-one, arith, sym, subst}
 use Rattle.w16_model.specs.declared.Span.{Span}
 use Rattle.w16_blocks.specs.Layout.{holes_of}
 use Rattle.w16_blocks.specs.Stay.{AreSameBut}
@@ -18,37 +18,46 @@ beyond-entered-requires-clause-other g c = let end = (lies_in c.self.invariant c
 pub beyond-left-requires-clause-place : goal.beyond-left-requires-clause-place
 beyond-left-requires-clause-place g c = let end = (lies_in c.self.invariant c.self.inside.slots.ok.0 c.self.view_is c.args.block.id c.requires.known).2 in let small = c.self.invariant.tables.ordered.small in omega arith
 
+pub beyond-entered-requires-clause-some : goal.beyond-entered-requires-clause-some
+beyond-entered-requires-clause-some g c = c.requires.fits.inside.1
+
+pub beyond-left-requires-clause-some : goal.beyond-left-requires-clause-some
+beyond-left-requires-clause-some g c = c.requires.fits.inside.1
+
+pub beyond-left-requires-clause-another : goal.beyond-left-requires-clause-another
+beyond-left-requires-clause-another g c = λ e. c.requires.another (sym e)
+
 pub take-requires-clause-part : goal.take-requires-clause-part
-take-requires-clause-part g c = part_entered c.self.invariant c.self.inside.slots.ok.0 c.self.view_is c.args.block c.requires.known c.requires.fits c.requires.another c.beyond-entered.ensures c.beyond-left.ensures
+take-requires-clause-part g c = part_entered c.self.invariant c.self.inside.slots.ok.0 c.self.view_is c.args.block c.requires.known c.requires.fits c.beyond-entered.ensures c.beyond-left.ensures
 
 pub take-requires-clause-free : goal.take-requires-clause-free
-take-requires-clause-free g c = free_entered c.self.invariant c.self.inside.slots.ok.0 c.self.view_is c.args.block c.requires.known c.requires.fits c.requires.another c.beyond-entered.ensures c.beyond-left.ensures
+take-requires-clause-free g c = free_entered c.self.invariant c.self.inside.slots.ok.0 c.self.view_is c.args.block c.requires.known c.requires.fits c.beyond-entered.ensures c.beyond-left.ensures
 
 pub slide-requires-clause-source : goal.slide-requires-clause-source
-slide-requires-clause-source g c = let long = c.take.ensures.bytes.long in let inside = source_in c.self.invariant c.self.inside.slots.ok.0 c.self.view_is c.args.block c.requires.known c.requires.fits c.requires.another c.beyond-entered.ensures c.beyond-left.ensures c.requires.inside in omega arith
+slide-requires-clause-source g c = let long = c.take.ensures.bytes.long in let inside = source_in c.self.invariant c.self.inside.slots.ok.0 c.self.view_is c.args.block c.requires.known c.requires.fits c.beyond-entered.ensures c.beyond-left.ensures c.requires.inside in omega arith
 
 pub put-requires-clause-kept : goal.put-requires-clause-kept
 put-requires-clause-kept g c =
     g.met.H.Holes.stay _ _ _ c.take.ensures.kept
-    (same_free c.self.invariant c.self.inside.slots.ok.0 c.self.view_is c.args.block c.requires.known c.requires.fits c.requires.another c.beyond-entered.ensures c.beyond-left.ensures c.take.ensures.range c.take.ensures.holes (let long = c.take.ensures.bytes.long in let inside = c.requires.inside in omega arith) c.slide.ensures.bytes)
+    (same_free c.self.invariant c.self.inside.slots.ok.0 c.self.view_is c.args.block c.requires.known c.requires.fits c.beyond-entered.ensures c.beyond-left.ensures c.take.ensures.range c.take.ensures.holes (let long = c.take.ensures.bytes.long in let inside = c.requires.inside in omega arith) c.slide.ensures.bytes)
 
 pub put-requires-clause-part : goal.put-requires-clause-part
-put-requires-clause-part g c = part_left c.self.invariant c.self.inside.slots.ok.0 c.self.view_is c.args.block c.requires.known c.requires.fits c.requires.another c.beyond-entered.ensures c.beyond-left.ensures c.take.ensures.range c.take.ensures.holes
+put-requires-clause-part g c = part_left c.self.invariant c.self.inside.slots.ok.0 c.self.view_is c.args.block c.requires.known c.requires.fits c.beyond-entered.ensures c.beyond-left.ensures c.take.ensures.range c.take.ensures.holes
 
 pub put-requires-clause-used : goal.put-requires-clause-used
-put-requires-clause-used g c = used_left c.self.invariant c.self.inside.slots.ok.0 c.self.view_is c.args.block c.requires.known c.requires.fits c.requires.another c.beyond-entered.ensures c.beyond-left.ensures c.take.ensures.range c.take.ensures.holes
+put-requires-clause-used g c = used_left c.self.invariant c.self.inside.slots.ok.0 c.self.view_is c.args.block c.requires.known c.requires.fits c.beyond-entered.ensures c.beyond-left.ensures c.take.ensures.range c.take.ensures.holes
 
 pub index_mut-requires : goal.index_mut-requires
 index_mut-requires g c = let lt = unit_inside c.self.invariant c.self.inside.slots.ok.0 c.self.view_is c.args.block.id c.requires.known c.unit_of-from_unit.result c.unit_of-from_unit.ensures in let length_is = c.self.inside.begins.ok.0 in omega arith
 
 pub invariant_of-self : goal.invariant_of-self
 invariant_of-self g c =
-    IsKept-shift c.self.invariant c.self.inside.slots.ok.0 c.self.view_is c.args.block c.requires.known c.requires.fits c.requires.another c.beyond-entered.ensures c.beyond-left.ensures
+    IsKept-shift c.self.invariant c.self.inside.slots.ok.0 c.self.view_is c.args.block c.requires.known c.requires.fits c.beyond-entered.ensures c.beyond-left.ensures
     c.take.ensures.range c.take.ensures.holes c.put.ensures.range c.put.ensures.holes c.unit_of-from_unit.result c.unit_of-to_unit.result c.unit_of-from_unit.ensures c.unit_of-to_unit.ensures (add-one c.args.block.id)
 
 pub returns-clause-value : goal.returns-clause-value
 returns-clause-value g c =
-    layout_shifted c.self.invariant c.self.inside.slots.ok.0 c.self.view_is c.args.block c.requires.known c.requires.fits c.requires.another c.beyond-entered.ensures c.beyond-left.ensures
+    layout_shifted c.self.invariant c.self.inside.slots.ok.0 c.self.view_is c.args.block c.requires.known c.requires.fits c.beyond-entered.ensures c.beyond-left.ensures
     c.take.ensures.range c.take.ensures.holes c.put.ensures.range c.put.ensures.holes c.unit_of-from_unit.result c.unit_of-to_unit.result c.unit_of-from_unit.ensures c.unit_of-to_unit.ensures (add-one c.args.block.id)
 
 pub returns-clause-ordered : goal.returns-clause-ordered
@@ -59,11 +68,11 @@ returns-clause-kept g c = subst (λ (hs : List Span). g.H.Holes.are_in hs (g.S.S
 
 pub returns-clause-contents : goal.returns-clause-contents
 returns-clause-contents g c =
-    come_too c.self.invariant c.self.inside.slots.ok.0 c.self.view_is c.args.block c.requires.known c.requires.fits c.requires.another c.beyond-entered.ensures c.beyond-left.ensures
+    come_too c.self.invariant c.self.inside.slots.ok.0 c.self.view_is c.args.block c.requires.known c.requires.fits c.beyond-entered.ensures c.beyond-left.ensures
     c.take.ensures.range c.take.ensures.holes c.put.ensures.range c.put.ensures.holes c.requires.inside c.take.ensures.bytes c.slide.ensures.bytes c.put.ensures.bytes
 
 pub returns-clause-bytes : goal.returns-clause-bytes
 returns-clause-bytes g c =
     subst (λ (hs : List Span). AreSameBut c.args.to c.args.block.size (holes_of c.args.self.now) hs (g.S.Space.bytes c.args.space.now) (g.S.Space.bytes c.put.new.space)) (invariant_of-self g c).between
-    (others_same c.self.invariant c.self.inside.slots.ok.0 c.self.view_is c.args.block c.requires.known c.requires.fits c.requires.another c.beyond-entered.ensures c.beyond-left.ensures
+    (others_same c.self.invariant c.self.inside.slots.ok.0 c.self.view_is c.args.block c.requires.known c.requires.fits c.beyond-entered.ensures c.beyond-left.ensures
     c.take.ensures.range c.take.ensures.holes c.put.ensures.range c.put.ensures.holes c.requires.inside c.take.ensures.bytes c.slide.ensures.bytes c.put.ensures.bytes)
