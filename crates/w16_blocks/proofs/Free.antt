@@ -76,13 +76,6 @@ are_between lo hi bs hs laid are to from =
     (λ p is. let r = to p is in lacks_free p lo hi bs laid r.0 r.1 r.2) (λ p is. let r = free_lacks p lo hi bs laid is in from p r.0 r.1 r.2)
 
 -- A part of holes is free or used where its bytes are.
-pub in_free : (a b p : ℕ) (hs : List Span) → a ≤ p → p < b → IsFree a b hs → IsIn p hs
-in_free a b p [] from to free = absurd free
-in_free a b p (h ∷ hs) from to free = elim free [
-  | inl here ↦ let s = here.0 in let e = here.1 in inl (omega arith, omega arith)
-  | inr rest ↦ inr (in_free a b p hs from to rest)
-]
-
 pub used_of : (a b lo hi : ℕ) (hs : List Span) → a < b → AreHoles lo hi hs → ((p : ℕ) → a ≤ p → p < b → IsIn p hs → ⊥) → IsUsed a b hs
 used_of a b lo hi [] some are none = tt
 used_of a b lo hi (h ∷ hs) some are none =

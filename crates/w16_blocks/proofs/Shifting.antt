@@ -1,10 +1,9 @@
 -- What is kept where a block moves.
-use Rattle.std.proofs.Common.{ℕ, suc, ◌≡◌, ◌≢◌, ◌+◌, ◌-◌, ◌*◌, ◌≤◌, List, length, set, Some, arith, refl, sym, ap, ◌∙◌, subst}
+use Rattle.std.proofs.Common.{ℕ, suc, ◌≡◌, ◌+◌, ◌-◌, ◌*◌, ◌≤◌, List, length, set, Some, arith, refl, sym, ap, ◌∙◌, subst}
 use Rattle.w16_model.specs.declared.Block.{Block}
 use Rattle.w16_model.specs.declared.Span.{Span}
 use Rattle.w16_model.specs.Gap.{holes}
 use Rattle.w16_model.specs.Table.{block_with}
-use Rattle.w16_model.specs.Heap.{IsMultiple}
 use Rattle.w16_model.specs.Bytes.{part, put_part}
 use Rattle.w16_holes.specs.Holes.{Range, IsFree, IsUsed, IsPart, AreSameIn, AreSameOutside, taken, joined}
 use Rattle.w16_blocks.specs.Layout.{Layout, FitsFor, replaced, holes_of}

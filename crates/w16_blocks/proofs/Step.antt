@@ -43,9 +43,6 @@ module _ (l : Layout) (b : Block) (fits : Fits l b) (ordered : IsOrdered l) wher
   lacked : (p : ℕ) → b.at ≤ p → p < block_end b → AllByRecursion (Lacks p) l.blocks
   lacked p from to = Each-map (λ c. IsApart b c) (Lacks p) (λ c apart. elim apart [ inl before ↦ inl (omega arith) | inr behind ↦ inr (omega arith) ]) l.blocks fits.apart
 
-  pub part_added : IsPart (range_of l) b.at b.size
-  part_added = record { some = fits.inside.1; from = fits.inside.0; to = fits.inside.2; grained = fits.grained.0; rounded = fits.grained.1 }
-
   pub free_added : IsFree b.at (block_end b) (holes_of l)
   free_added =
       let from = fits.inside.0 in let some = fits.inside.1 in let to = fits.inside.2 in

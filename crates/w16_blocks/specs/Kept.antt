@@ -3,9 +3,8 @@ use Rattle.std.specs.Prelude.{ℕ, zero, suc, ◌<◌, ◌≤◌, ◌≡◌, ◌
 use Rattle.w16_model.specs.declared.Block.{Block}
 use Rattle.w16_model.specs.declared.Span.{Span}
 use Rattle.w16_model.specs.declared.Hold.TheVariants.{Loose}
-use Rattle.w16_model.specs.Gap.{holes}
 use Rattle.w16_holes.specs.Holes.{Range}
-use Rattle.w16_blocks.specs.Layout.{Layout, IsOrdered}
+use Rattle.w16_blocks.specs.Layout.{Layout, range_of, holes_of, IsOrdered}
 
 -- what the table has for an id without a block
 abbrev pub no_block : Block
@@ -54,5 +53,5 @@ pub record AreTables (cap lo hi grain : ℕ) (slots : List Block) (cells : List 
 pub record IsKept (cap lo hi grain : ℕ) (slots : List Block) (cells : List ℕ) (free : ℕ) (range : Range) (kept : List Span) : Type 0 where
   pub tables : AreTables cap lo hi grain slots cells
   pub counted : free + (lo + sum_by (λ b. b.size) (blocks_in slots cells)) ≡ hi
-  pub ranged : range ≡ record { lo = lo; hi = hi; grain = grain }
-  pub between : kept ≡ holes lo hi (blocks_in slots cells)
+  pub ranged : range ≡ range_of (layout_in cap lo hi grain slots cells)
+  pub between : kept ≡ holes_of (layout_in cap lo hi grain slots cells)

@@ -1,4 +1,4 @@
-use Rattle.std.proofs.Common.{List, add-one, arith, sym, subst}
+use Rattle.std.proofs.Common.{List, add-one, arith, subst}
 use Rattle.w16_model.specs.declared.Span.{Span}
 use Rattle.w16_blocks.specs.Layout.{holes_of}
 use Rattle.w16_blocks.specs.Stay.{AreSameBut}
@@ -17,15 +17,6 @@ beyond-entered-requires-clause-other g c = let end = (lies_in c.self.invariant c
 
 pub beyond-left-requires-clause-place : goal.beyond-left-requires-clause-place
 beyond-left-requires-clause-place g c = let end = (lies_in c.self.invariant c.self.inside.slots.ok.0 c.self.view_is c.args.block.id c.requires.known).2 in let small = c.self.invariant.tables.ordered.small in omega arith
-
-pub beyond-entered-requires-clause-some : goal.beyond-entered-requires-clause-some
-beyond-entered-requires-clause-some g c = c.requires.fits.inside.1
-
-pub beyond-left-requires-clause-some : goal.beyond-left-requires-clause-some
-beyond-left-requires-clause-some g c = c.requires.fits.inside.1
-
-pub beyond-left-requires-clause-another : goal.beyond-left-requires-clause-another
-beyond-left-requires-clause-another g c = λ e. c.requires.another (sym e)
 
 pub take-requires-clause-part : goal.take-requires-clause-part
 take-requires-clause-part g c = part_entered c.self.invariant c.self.inside.slots.ok.0 c.self.view_is c.args.block c.requires.known c.requires.fits c.beyond-entered.ensures c.beyond-left.ensures
