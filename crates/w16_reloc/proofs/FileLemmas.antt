@@ -45,8 +45,8 @@ segment_lies : (file : List ℕ) (place len flags least : ℕ) (s : Segment) →
 unfolding data_at
 segment_lies file place len flags least s h some =
     let p = test_ok (nat_lt (length file) (place + len)) faults.Truncated tt _ s h in
-    let q = bind_ok (records_at (Some file) flags (place + len)) (λ records. Ok (record { place = place; len = len; flags = flags; size = rounded (max len least); records = records })) s p.1 in
-    let is : record { place = place; len = len; flags = flags; size = rounded (max len least); records = q.0 } ≡ s = cc (q.2) in
+    let q = bind_ok (records_at (Some file) flags (place + len)) (λ records. Ok (record { place = place; len = len; flags = record { 0 = flags }; size = rounded (max len least); records = records })) s p.1 in
+    let is : record { place = place; len = len; flags = record { 0 = flags }; size = rounded (max len least); records = q.0 } ≡ s = cc (q.2) in
     let inside : place + len ≤ length file = grind (arith, nat_tests, p.0) in
     rw (← is) ((λ none. absurd (omega (arith, none, some))), (λ lies. (inside, q.1)))
 
@@ -54,10 +54,10 @@ positive : (n : ℕ) → 0 < cond (nat_eq n 0) 65536 n
 positive n = grind arith
 
 picked : (file : List ℕ) (b c : Bool) (flags size place len least : ℕ) (s : Segment) → 0 < len
-    → cond b (Err faults.Unsupported) (cond c (Ok (record { place = 0; len = 0; flags = flags; size = size; records = 0 })) (data_at (Some file) place len flags least)) ≡ Ok s → LiesIn file s
+    → cond b (Err faults.Unsupported) (cond c (Ok (record { place = 0; len = 0; flags = record { 0 = flags }; size = size; records = 0 })) (data_at (Some file) place len flags least)) ≡ Ok s → LiesIn file s
 picked file true c flags size place len least s some h = cc
 picked file false true flags size place len least s some h =
-    let is : record { place = 0; len = 0; flags = flags; size = size; records = 0 } ≡ s = cc in
+    let is : record { place = 0; len = 0; flags = record { 0 = flags }; size = size; records = 0 } ≡ s = cc in
     rw (← is) ((λ none. refl), (λ lies. absurd (omega (arith, lies))))
 picked file false false flags size place len least s some h = segment_lies file place len flags least s h some
 

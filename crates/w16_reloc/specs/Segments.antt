@@ -37,7 +37,7 @@ records_of file s = take (8 * s.records) (drop (s.place + s.len + 2) file)
 
 -- a segment without data has no records; the data and the records of any other lie in the file
 abbrev pub LiesIn : List ℕ → Segment → Type 0
-LiesIn file s = (s.len ≡ 0 → s.records ≡ 0) × (0 < s.len → (s.place + s.len ≤ length file) × (records_at (Some file) s.flags (s.place + s.len) ≡ Ok s.records))
+LiesIn file s = (s.len ≡ 0 → s.records ≡ 0) × (0 < s.len → (s.place + s.len ≤ length file) × (records_at (Some file) s.flags.0 (s.place + s.len) ≡ Ok s.records))
 
 -- what a scratch holds
 pub record Held : Type 0 where
