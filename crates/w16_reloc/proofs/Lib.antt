@@ -2,6 +2,7 @@ pub mod SiteLemmas
 pub mod ChainLemmas
 pub mod WalkLemmas
 pub mod Count
+pub mod ApartLemmas
 pub mod RecordLemmas
 pub mod ImageLemmas
 pub mod Refusals

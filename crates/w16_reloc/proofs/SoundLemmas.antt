@@ -15,6 +15,7 @@ use Rattle.w16_reloc.specs.Apply.{joined}
 use Rattle.w16_reloc.proofs.ChainLemmas.{fits}
 use Rattle.w16_reloc.proofs.WalkLemmas.{chain_wide}
 use Rattle.w16_reloc.proofs.Count.{no_more_sites}
+use Rattle.w16_reloc.proofs.ApartLemmas.{sound_steps, steps_apart}
 use Rattle.w16_reloc.proofs.ImageLemmas.{sound_parts}
 
 bind_ok : {A B : Type 0} (said : Result A RelocFault) (f : A → Result B RelocFault) (y : B) → (said >>= f) ≡ Ok y → (x : A) × (said ≡ Ok x) × (f x ≡ Ok y)
@@ -105,7 +106,7 @@ all_passed offer bytes table (suc n) i before records h =
 
 pub passed_is_sound : (offer : Offer) (bytes table : List ℕ) (count : ℕ) (records : List Record) → check_from offer bytes table count 0 [] ≡ Ok records → IsSoundSegment offer bytes table count records
 passed_is_sound offer bytes table count records h =
-    let p = all_passed offer bytes table count 0 [] records h in record { many = p.many; formed = p.formed; sound = (p.named, (p.names, p.sound)) }
+    let p = all_passed offer bytes table count 0 [] records h in record { many = p.many; formed = p.formed; sound = (p.named, (p.names, steps_apart (length bytes) (all_sites records p.named) p.sound)) }
 
 -- and the other way
 chain_passes : (bytes : List ℕ) (width n : ℕ) (before : List Site) (at : ℕ) (ats : List ℕ) → length ats < n → IsChain bytes at ats → AreSound (length bytes) before (of_width width ats) → chain_at bytes width n before at ≡ Ok (joined before (of_width width ats))
@@ -139,4 +140,4 @@ all_pass offer bytes table i before (r ∷ rs) (ats ∷ others) formed names sou
     rw (formed.0.0, formed.0.1, sites_pass bytes before r ats names.0 parts.0, rest) refl
 
 pub sound_passes : (offer : Offer) (bytes table : List ℕ) (count : ℕ) (records : List Record) → IsSoundSegment offer bytes table count records → check_from offer bytes table count 0 [] ≡ Ok records
-sound_passes offer bytes table count records s = rw (← s.many) (all_pass offer bytes table 0 [] records s.sound.0 s.formed s.sound.1.0 s.sound.1.1)
+sound_passes offer bytes table count records s = rw (← s.many) (all_pass offer bytes table 0 [] records s.sound.0 s.formed s.sound.1.0 (sound_steps bytes records s.sound.0 s.sound.1.0 s.sound.1.1))
