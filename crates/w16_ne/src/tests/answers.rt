@@ -12,7 +12,7 @@ pub const TLIB: [&str; 5] = [
     "0000b81000cb90900200030001000200040005040b0002000400000000000000000000000000000001020304cb909090",
 ];
 
-pub const TLIB_WHOLE: &str = "1dda";
+pub const TLIB_WHOLE: &str = "ab39";
 
 /// For each proper prefix.
 pub const TLIB_CUT: [&str; 3] = [
@@ -27,25 +27,25 @@ pub const TLIB_CHANGED: [&str; 26] = [
     "..... ..... ..... ..... ..... ..... ..... ..... ..... ..... ..... ..... ..... ..... ..... ..... .....",
     "..... ..... ..... ..... ..... ..... ..... ..... ..... ..... ..... ..... ..... ..... ..... ..... .....",
     "..... ..... ..... ..... ..... ..... ..... ..... ..... NNNNN .NNNN .NNNN .NNNN NNNNN NNNNN",
-    "84fe3d2de2339a62f797 f2e92a727a13b18d38b7 BB96deBT .TTTT 33d9BTTT .TTTT .c2e6039ca8a88e6a",
-    ".c00b98d93b19b618 .c835a5eb5055d866 .d0bae02293115568 .131cc93ebe8069f3 5ab8d637U.U .325949715df08987",
-    ".3748bc20d58e73e3 .1eac860886daef08 .682f00304a852cdb .30c37ff892e1f4ff .0df339c929e245d1",
-    ".3e5d3fc7604a8237 .ed4e0e6fdde3ce78 .14083e61348f5516 .f43279b8501fabfd .eaeadeb5abd46cbe",
-    ".2cb97ee48dc3eecd .cbb6630810f35621 .0ab19bed88c406e6 BBTTU .UUUU .TTTT .TTTT 9baeBTTT .TTTT TTTTT",
-    ".TTTT TTTBT .TTTT TTBTT .TTTT a4d355b763a6148ad34e .9f66660ee79a2fdd 5ab70c5575d0276e4287",
-    ".9f6c6908ea9a35d7 BBBBT .TTTT .TTTT .TTTT 22d3.ab1fa6262e81 .577cb6dcf07e898f T3b6dBBB .BBBB",
-    ".946ef4ac6b4f4230 .d75024c8de3ee52c e88cGGGG .e0bbd11994094757 .031dd945be887a02 .6f8da7fff9b283e6",
-    ".4183cfb0f359a53e .ed681b55eae3e85e .248c70557707c982 .99e9acde28fcb800 e543b7ba4d021f798729",
-    "4b8ae6f067a7031c1f39 85e0e335TTT .TTTT Tb030TTT .TTTT d136c22cU4bcdU 3707cbea70e1c62d0016",
-    "a1f1.f77af77a6f13 .0cfdbfb0aed350b8 b24cf53aTTT .TTTT T15d0TTT .TTTT 36070487U7490U 4c42TTd8e4T",
-    "287c.a587a587afcd .32664fe46470967a Bd46dTTT 343961a9c013ed83796c bee976129a24514d2c88",
-    "ea67b6842b53f761384d c61df5fa8628b6057610 ..... ..... e46fe46fTTT c8e3c8e3c8e3c8e3c8e3",
-    "c8e3c8e3c8e3c8e3c8e3 c8e3c8e3c8e3c8e3c8e3 c8e3c8e3c8e3c8e3c8e3 c8e3.ea713f6860f6 .0ad5adc99ac42ac2",
-    "39663966TTT 39663966396639663966 39663966396639663966 39663966396639663966 39663966396639663966",
-    "39662ba063c355fd805a .57087d50b67e1603 .TTTT ..... 9d66.BBB 8313.BBB ..... .a9ab7e940a746b2e",
-    ".f6ffdd7ab6ae765d 32dd.BBB BBBB. ..... ..... ..... B6515BBB fdb445c5b8ce00dfbbea .241233cf3a074ffc",
-    ".BBBB cda9.BBB 315fae1010d08d816cf2 ..... ..... .BBBB ..... ..... ..... ..... ..... ..... ..... .....",
-    "..... ..... ..... ..... ..... ..... ..... ..... ..... ..... ..... ..... ..... ..... 7e07cde9TTT .TTTT",
+    "295876827368c0920ab1 799031bfd6c58ef4ec29 BB2ecbBT .TTTT 307cBTTT .TTTT .a8d97d8a7b2a4d7b",
+    ".505490fb36161bd8 .4d792647c8784386 .55a33359ddb465d4 .5e286d90207fe2c7 0a93ffc6U.U .26c7f2cd6e5bb5ef",
+    ".bfb8d6d0eb4f16f5 .c4a7498e62fc0151 .ac0b137614487c76 .f58e8d8fd7e4ba3a .be220d66204f826d",
+    ".9b52c728b741d330 .cbbccd26eda90fa5 .7abc9bce6b515be6 .a167cbc0c1eee275 .81a00726dd7e396b",
+    ".78586c233942fa1d .ba180c521b317c3b .5924f0679e52e380 BBTTU .UUUU .TTTT .TTTT e8c6BTTT .TTTT TTTTT",
+    ".TTTT TTTBT .TTTT TTBTT .TTTT 045f6f651f748a7aa58f .5c1d6a0c1af0d9b4 5900574c80a57ef1a696",
+    ".152a35729f54298d BBBBT .TTTT .TTTT .TTTT 456f.c7932d6caf90 .a64033942e9bb6e7 TcedbBBB .BBBB",
+    ".0806b02d0cfa11ee .21dc821af8aecf8f 383eGGGG .45e06124fbbcb1a7 .6e295e872177d4b6 .907c66b34bf60770",
+    ".fcec356d87201154 .cee25d1e80c732ac .7ad6a8b4785175cc .b1ebfdb4047556f0 d2584e76616bdd7a6c8d",
+    "33e3065a9b936e0ad5ba 134e70a3TTT .TTTT T3d9eTTT .TTTT 5ea44f9aUd92cU c4665958fe40539b8d75",
+    "2f5f.84e884e8fc72 .9a5c4d1e3c41de17 3fba82a8TTT .TTTT Ta32fTTT .TTTT c36691e6U01feU d9a1TT6652T",
+    "b5db.32f532f53d3b .bfc5dd43f1cf23e8 B8181TTT 60e7e1c2514cd227c28c 2d365aa6b910e6807269",
+    "71c328ec4cfe0427df53 0c91d89f4d6e198b5a68 ..... ..... 71dd71ddTTT 56515651565156515651",
+    "56515651565156515651 56515651565156515651 56515651565156515651 5651.77dfccc7ee55 .98343b372832b821",
+    "c6c5c6c5TTT c6c5c6c5c6c5c6c5c6c5 c6c5c6c5c6c5c6c5c6c5 c6c5c6c5c6c5c6c5c6c5 c6c5c6c5c6c5c6c5c6c5",
+    "c6c5b8fff122e35c0dc8 .e4670abe43eca362 .TTTT ..... f943.BBB 6fe7.BBB ..... .37190c0297d3f88d",
+    ".846d6ae8441c03cb e05c.BBB BBBB. ..... ..... ..... Bf274BBB 8b22d324463c8e3e4958 .b171c12ec766dd5b",
+    ".BBBB f685.BBB 088122d116f431443fb7 ..... ..... .BBBB ..... ..... ..... ..... ..... ..... ..... .....",
+    "..... ..... ..... ..... ..... ..... ..... ..... ..... ..... ..... ..... ..... ..... 0b755b57TTT .TTTT",
     "..... ..... ..... ..... ..... ..... ..... ..... ..... ..... ..... ..... ..... ..... ..... ..... .....",
     "..... ..... ..... ..... ..... ..... ..... ..... ..... ..... ..... ..... ..... ..... ..... ..... .....",
     "..... ..... ..... .....",
@@ -60,7 +60,7 @@ pub const TAPP: [&str; 5] = [
     "0900",
 ];
 
-pub const TAPP_WHOLE: &str = "cb84";
+pub const TAPP_WHOLE: &str = "6564";
 
 /// For each proper prefix.
 pub const TAPP_CUT: [&str; 3] = [
@@ -71,32 +71,32 @@ pub const TAPP_CUT: [&str; 3] = [
 
 /// For each byte, made 00, 01, 7F, 80 and FF.
 pub const TAPP_CHANGED: [&str; 27] = [
-    "MMMMM MMMMM .18bd15a362cdacdd .83b328c8e0e83e2c .030d52ae8a281152 .59b85408e22d6ab1 .e09d439058a9d0a6",
-    ".81e44308f95970dd .c9249dd59b756dc6 .709fb14656613c23 .6dc44692e8c363d1 .75ee53a4fdff861f",
-    ".7e738ddb40ca0321 .c0c676f76c3917ac .471213278ea6d63a .e003f71b0ba93740 .e4f269d98347219c",
-    ".cc5633c134939cc1 .15e8addaf82fda85 .de6d2db1409aa2b8 .bb9de773d78cf37b .ec07ed710e032ff0",
-    ".9b07bc198b9c7c31 .c1b2ec0be23902cf .a1eb2771fdc959b6 .98a38c6e598d1a77 .da632c9d3b7c9c86",
-    ".796f10c1be9d03da .b85b49a6367db490 .15435bffa5af362a .ff6e8e20c20a84a6 .51592cabb2711398",
-    ".53fd7c16048fb512 .01838f29c51988be .d583c150cb4fc11b .6082b26b47692e50 .a70ab1f08d7673e2",
-    ".14b4150e5e2fa7aa .a4987b5354670436 .c201134b09c85180 .3699e69951ae6cc3 .7c688a573b3bf9ff",
-    ".4d1f13c79553dd87 .7d22e69d983bb354 .4d2516c19853e381 .cfb2de74e2a2f592 .fd30714fa2fb48c6",
-    ".1fbd8ed0e2faa646 .315d4db7b38135b4 .c68b53df4ee6d732 .053564959e373748 .073a651fa0c63a61",
-    ".2851d0782d453239 .4227a2651908efda .8509d2728bf792e5 .662b816f1c16d1f2 .8e747ed241c2f501",
-    ".b0c786fe6c4127bb .1d4655b8a76b319f .ef2d7d69a11252f7 NNNNN .NNNN .NNNN .NNNN NNNNN NNNNN",
-    "43b9c5428a700c0852bf 787300c917a89fef3f24 BB5087BT .TTTT b3e7.TTT .TTTT .47714248be2634ea",
-    ".a63b4b3f25f6a5a2 .f398ae9cd6b0b9c8 .69bc467ce4a55f9d .f9e6cf7bfddd01e3 .3025U1781U .ff266a689e0a3cee",
-    ".725d8e973570f874 .1301BBB .41774b15c0f9408a .63fd6c8e0507a602 .8e6275e438c2e313 .b9089f798cfd60f2",
-    ".0d0745ff877301ee .ff2a6c64a00a40ea .feb833d6670acf4d .ddaecee1e10be468 .cc1a15fd169360fd",
-    ".dc0cff74100b43fb .fd96a3e9d5fbae60 d611.TTU .UUUU ddcc.TTT .TTTT 2dc1B7b60cb5aT .TTTT UTTUT .TTTT",
-    "TTTTT .TTTT TTBTT .TTTT TTT6357T .TTTT de8fb07ca99dBT .TTTT .BTTT .TTTT .TTTT .TTTT .1805ba4c06cdf586",
-    ".49e27866f6b5a397 Tb685BBB .BBBB .4cb0dca75dd36ef6 .8560fd9bb777e98e 3b6eGGGG .07b1a028dc46b0ea",
-    ".38d803f8713da9a2 .1126517e97111d0b .626ea68e3d781882 .1abf14b063dcacf9 .7b82183dc82c14e5",
-    ".44d6f74570979c58 30d0d9d91133ba3c9a9f 370f133b6fd54c0184c7 a5bd5825TTT .TTTT TTTTT .TTTT",
-    "ff825ee5Uac52U 008332294a1bcb97153e 86ba.13de13de7442 .8c5b745c3533ddfc BTTTT 10394640df38154ee44d",
-    "8bc57d0037a128dcd4a9 f9e35c8be6a949513617 06ddbfaebbe174c129d4 ..... ..... .TTTT B.TTT .TTTT .....",
-    "B5db5TTT 0a83d8f47a8c490cb915 5571098aab9e5fb7b5e4 f1e64212b2a102cdc379 41fa3c4e71796bcd9b4c .....",
+    "MMMMM MMMMM .be015ddbb678aeef .b28eaf74fc9e46bd .1d93c2997ac8d7fd .9cdeec7f2408ab23 .f389edd97c0d0491",
+    ".7a7ddd61f27a6a86 .1bc4dcd993390abd .630437b5355507a6 .0a7f4b26f032d5f4 .07a4e06382a3fda2",
+    ".0fceed7597df1fff .185327bbda9b9cf2 .5aa610d70619b17d .e0e3acf82886701a .79e390fba57ad111",
+    ".7ed203b91d27bb6d .6636cd92ce6436a1 .afb947ba920f7465 .784dc782da6b3c98 .557d8153716c8d5b",
+    ".85e78751a7d4c9c1 .34e755f9257c1611 .5b9285eb7c199ca0 .3bcbc14297a9f387 .3283264ef35eb448",
+    ".7443c66ed54d3666 .134faa92587d9dab .523be377d04e4e70 .af14f5d03f8fcffb .994e28005bea1e86",
+    ".eb2ac67c4c51ad69 .edce15f69e604ef2 .9b5429095ef9229e .6f635b30652f5afb .fa534c4be13ac821",
+    ".40ea4bd027560dc2 .ae85aedff800418a .3e781533ee389e07 .5be1ad1ca399eb51 .d06a8079eb7f06a3",
+    ".16482437d50c93df .e6f0ad982f337767 .1702807d321b4d34 .e6f6b09232337d61 .699278547c828f72",
+    ".97100b2f3cdbe297 .b98e28b07cda4026 .cb2ee7884d61cf85 .606bedb0e8b77112 .9f06fe663817d119",
+    ".a10bfef03aa6d432 .c2226a58c716cc0a .dbf83c45b2d989ba .1ee96c5225d72cc5 .000b1b4fb5e76bd2",
+    ".285418b2db938ee1 .4aa720de0621c18c .b717ef89414bcb70 NNNNN .NNNN .NNNN .NNNN NNNNN NNNNN",
+    "f2d0a35783803407c4a8 55bfd7489c761e0e64c5 BB7fe0BT .TTTT 8934.TTT .TTTT .6627c621c6e427b0",
+    ".e142dc195806cebb .401be510bfc73f82 .8d78487c709053a8 .039ce04d7e85f96e .93c6U97bdU .a65ca24ce344203b",
+    ".9906044837ead6bf .0c3dBBB .acd2d7031e80901f .db48e4e65ad9da5b .fdce066e9ed83fe2 .28420fc4d2937cf3",
+    ".52e8395926ddfac3 .a6d8dfd021539bbf .990a064439eadabb .9898cda700ea692d .778e68c17aeb7e48",
+    ".65faafceb064face .75ec9954a9dcddcc 2607.TTU .UUUU 7753.TTT .TTTT 49aaBb072604eT .TTTT UTTUT .TTTT",
+    "TTTTT .TTTT TTBTT .TTTT TTTc72eT .TTTT 850deaba4ae4BT .TTTT .BTTT .TTTT .TTTT .TTTT .a7b94f7e91d37bed",
+    ".b1d6542ca09e8f66 T3432BBB .BBBB .08d778bf1c322f8d .e6817687f7a408d6 f1acGGGG .ad6f24f56d002c91",
+    ".a1823a0876264aca .d2a99dc90b1d4382 .aaf7eb4f30f1b6dc .fc3f406ed749b253 .b490ae81fdad46d9",
+    ".1562b20e620caeb6 a87b21cdd43c4d8e794f 6a2b13434a8ef397d3fa 3f9df1f6TTT .TTTT TTTTT .TTTT",
+    "9962f8b6U4632U 9a54cbfae3ec6577af0f 209a.adafadaf0e22 .263b0e3ccf0477dc BTTTT b5f64138c84e539065e8",
+    "accbe2d27bd9b1e080ee 033ff46baf0ca0474c23 93c3f65c8089e322cfe8 ..... ..... .TTTT B.TTT .TTTT .....",
+    "B1890TTT 04ec061296c697ec29d5 1845e6b6884e56cec6d7 0b8dbf9761ba15d36c00 bcaf0cdb7d6acd878e42 .....",
     "..... ..... ..... ..... .BBBB ..... ..... ..... ..... ..... ..... ..... ..... ..... ..... ..... .....",
-    "..... ..... ..... ..... ..... ..... f36f3b80TTT .TTTT ..... ..... ..... ..... ..... ..... ..... .....",
+    "..... ..... ..... ..... ..... ..... 8d4fd551TTT .TTTT ..... ..... ..... ..... ..... ..... ..... .....",
     "..... ..... ..... ..... ..... ..... ..... ..... ..... ..... ..... ..... ..... ..... ..... .....",
 ];
 
@@ -108,7 +108,7 @@ pub const TRES: [&str; 4] = [
     "000004545245530000000000000000000000000000000000000048656c6c6f2c207265736f7572636521",
 ];
 
-pub const TRES_WHOLE: &str = "c7e8";
+pub const TRES_WHOLE: &str = "b2fa";
 
 /// For each proper prefix.
 pub const TRES_CUT: [&str; 2] = [
@@ -122,20 +122,20 @@ pub const TRES_CHANGED: [&str; 20] = [
     "..... ..... ..... ..... ..... ..... ..... ..... ..... ..... ..... ..... ..... ..... ..... ..... .....",
     "..... ..... ..... ..... ..... ..... ..... ..... ..... ..... ..... ..... ..... ..... ..... ..... .....",
     "..... ..... ..... ..... ..... ..... ..... ..... ..... NNNNN .NNNN .NNNN .NNNN NNNNN NNNNN",
-    "fd9ef2e0a9119e5349c6 f4a770353c4ab7c9ff5d BBBTT .TTTT c716.TTT .TTTT .dad12a153cfe9f1c",
-    ".b801e3d7d3f0efdf .e86be9d50a672c54 .976bb87d88007895 .be16e86fde9dff24 95a36c0aU.U .950788d255f116db",
-    ".d6c7290137e098ea .75d30d25bb01003e .b4bf460a32e1b0f4 .11a75863a213328e .fbd28a84be6e810a",
-    ".4dbd290faed50ffc .5061787a00f3b176 .fdd88b8dc17d8522 .d1e7bdb4c7b3bd7f .5ce6aecf43cd2ab4",
-    ".a36eae5489da7046 .111811725a93a40e .a0fc77b750cb009a .TTTU .UUUU .BTTT .TTTT .B5a026881T .TTTT",
-    "bc59c087cf49d377e667 .f9946db39f5f452a TTTTT .TTTT Ta043TTT .TTTT 67fea3a501993d40d6cc",
-    ".24b5ccdc29a92e9d 4dd4c46824b59b49722a .816dced6885b8f49 .628f7dd3187ace56 .8ad87b363e26f165",
-    ".ad2b836268a5241f .19aa521ca3cf2e03 .eb9179cd9d764f5b .9785c5639500927b ad20b3d2BBB .BBBB",
-    ".9a5f2fa7021e69ce .635de4057f7a9b97 c623GGGG .f55853d181410d2a .7f11a3235a4c3587 .940508d4d4e215ce",
-    ".f7c587f3b7d077db .e238d65bf0abff1e .44a8a7592419038a .50165345db6466c1 ff122ccda8bfd66b8018",
-    "f506e5fc7ea76f9df92f 7fe2517fBBB .BBBB 00affaf4302e2a825a01 158eBB.49b8 B.TTT .TTTT ..... ..... .....",
-    "..... 3a592ff3TTT .TTTT 3be3.TTT .TTTT 46c58ec701df49e104fb 64686aa07a5d8095968a 3c17.9cd128b1896b",
-    "2b65BB.8797 ..... ..... ..... ..... .TTTT .TTTT BTTTT 903ae01c33b083922708 5fef83890a632dfdd862",
-    "78aa79d00a930bb99d93 d558a3d8457013f083f9 ..... ..... ..TTT .BBBB ..... ..... ..... ..... ..... .....",
+    "346de74df6b5a9a46bfb 1e7513b7c9d9bf1b6a8e BBBTT .TTTT 998c.TTT .TTTT .fd4f9550dfa5c1fb",
+    ".c5e3152728108a2e .a313cee9bf02daf1 .d37dd4e7f56a1766 .827da38f731263a7 9c459273U.U .89610ee7e53f412c",
+    ".801973e4410301ed .c1d9141322f283fc .60e5f828a613eb41 .9fd1311c1df39c06 .fcaa43758d251da0",
+    ".e6e47596a9806c1c .38cf142199e7faff .3b73638cebf69c88 .e8ea769fac8f7034 .bcf9a8c6b2c5a891",
+    ".47f899e12edf15c6 .8e80996674ec5b58 .fc1bfc7545a58f20 .TTTU .UUUU .BTTT .TTTT .B635d24dcT .TTTT",
+    "4c9ace2c97c819696497 .b728c5eaca18dd08 TTTTT .TTTT Te5b4TTT .TTTT 14ff4ea1ae01e7a380b4",
+    ".eea14c95883c21d7 620072d7bd21cdf82928 .3e29bbe547144fff .6c7fb9e8736d7a5b .4da168e5038cb968",
+    ".75ea66482938dc77 .983d6e7453b70f31 .04bc3d2e8ee11915 .d6a364df88883a6d 74954432BBB .BBBB",
+    ".2f18420dbe1c4d2f .85711ab9ed2154e0 7c1fGGGG .33e4a35f244914ae .e06a3ee36c53f82d .6a238e35455e2099",
+    ".7f17f3d7bff400e0 .e2d77305a2e262ed .cd4ac16ddbbdea30 .2fba926b0f2bee8d 6179e998ecc774f50052",
+    "29f657a2d394014faaed 6af43c91BBB .BBBB ebb2e6061b4015944513 a356BB.34ca B.TTT .TTTT ..... ..... .....",
+    "..... 256b1b05TTT .TTTT 26f5.TTT .TTTT 31d779d9ece234f3effe 4f7a55b2656f6ba7819c 2729.87e313c3747d",
+    "1677BB.72a9 ..... ..... ..... ..... .TTTT .TTTT BTTTT f47fa173bf246c1836bd 1b1f6b01be860e77b1de",
+    "19f13d8bc456e7f09264 53a854cee582e6a87891 ..... ..... ..TTT .BBBB ..... ..... ..... ..... ..... .....",
     "..... ..... ..... ..... ..... ..... ..... ..... ..... ..... ..... ..... ..... ..... ..... ..... .....",
     "..... ..... ..... ..... ..... ..... ..... .....",
 ];

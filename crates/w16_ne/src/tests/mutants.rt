@@ -94,6 +94,7 @@ fn sum_of(module: &Module) -> u64 {
     for i in 0..module.reference_count() {
         sum.add_text(module.reference(i + 1));
     }
+    sum.add(module.imported_names());
     sum.add_segments(module);
     sum.add_entries(module);
     sum.add_resources(module);

@@ -74,6 +74,7 @@ fn an_application(rt: HostRuntime) -> Result<(), Fail> {
     assert_eq!(rt; module.entry_count(), 0);
     assert_eq!(rt; module.reference_count(), 1);
     assert!(rt; module.reference(1) == b"TLIB".as_slice());
+    assert_eq!(rt; module.imported_names(), 0x92);
     Ok(())
 }
 
