@@ -13,7 +13,7 @@ use Rattle.w16_reloc.specs.Sound.{Names, AreNamed, of_width, width_of, all_sites
 use Rattle.w16_reloc.proofs.SiteLemmas.{none_meets}
 use Rattle.w16_reloc.proofs.WalkLemmas.{site_apart, chain_wide}
 
-abbrev AreWide : List Site → Type 0
+abbrev pub AreWide : List Site → Type 0
 AreWide sites = AllByRecursion (λ s. 0 < s.width) sites
 
 abbrev IsInside : ℕ → Site → Type 0
@@ -53,7 +53,7 @@ none_covered : (o : ℕ) (sites : List Site) → list_any (covers o) sites ≡ f
 none_covered o [] clear = refl
 none_covered o (s ∷ ss) clear = no_count (covers o s) (list_any (covers o) ss) _ (count o ss) (count-cons o s ss) clear (none_covered o ss)
 
-own_byte : (s : Site) (o : ℕ) → s.at ≤ o → o < s.at + s.width → covers o s ≡ true
+pub own_byte : (s : Site) (o : ℕ) → s.at ≤ o → o < s.at + s.width → covers o s ≡ true
 own_byte s o low high = grind arith
 
 clear_before : (o : ℕ) (s : Site) (before ss : List Site) → count o before + count o (s ∷ ss) ≤ 1 → covers o s ≡ true → list_any (covers o) before ≡ false
@@ -89,17 +89,17 @@ steps_inside len before (s ∷ ss) sound = All-cons (IsInside len) s ss sound.0 
 pub steps_apart : (len : ℕ) (sites : List Site) → AreSound len [] sites → AreApart len sites
 steps_apart len sites sound = record { inside = steps_inside len [] sites sound; once = λ o. let most = steps_once len [] sites sound (λ q. omega arith) o in omega (arith, most) }
 
-value_wide : (part : Part) → 0 < value_width part
+pub value_wide : (part : Part) → 0 < value_width part
 value_wide LowByte = omega arith
 value_wide Selector = omega arith
 value_wide Pointer = omega arith
 value_wide Offset = omega arith
 
-wide_of : (width : ℕ) (ats : List ℕ) → 0 < width → AreWide (of_width width ats)
+pub wide_of : (width : ℕ) (ats : List ℕ) → 0 < width → AreWide (of_width width ats)
 wide_of width [] some = tt
 wide_of width (at ∷ ats) some = (some, wide_of width ats some)
 
-wide_append : (ss ts : List Site) → AreWide ss → AreWide ts → AreWide (ss ++ ts)
+pub wide_append : (ss ts : List Site) → AreWide ss → AreWide ts → AreWide (ss ++ ts)
 wide_append [] ts a b = b
 wide_append (s ∷ ss) ts a b = (a.0, wide_append ss ts a.1 b)
 
@@ -108,7 +108,7 @@ wide_record bytes (Stored fixup) ats names = let wide = chain_wide fixup.part in
 wide_record bytes (Added fixup) ats names = wide_of (value_width fixup.part) ats (value_wide fixup.part)
 wide_record bytes System ats names = rw names tt
 
-all_wide : (bytes : List ℕ) (records : List Record) (named : List (List ℕ)) → AreNamed bytes records named → AreWide (all_sites records named)
+pub all_wide : (bytes : List ℕ) (records : List Record) (named : List (List ℕ)) → AreNamed bytes records named → AreWide (all_sites records named)
 all_wide bytes [] named names = tt
 all_wide bytes (r ∷ rs) [] names = tt
 all_wide bytes (r ∷ rs) (ats ∷ others) names = wide_append (of_width (width_of r) ats) (all_sites rs others) (wide_record bytes r ats names.0) (all_wide bytes rs others names.1)

@@ -8,4 +8,5 @@ pub mod ImageLemmas
 pub mod Refusals
 pub mod FileLemmas
 pub mod SoundLemmas
+pub mod FaultLemmas
 pub mod OneImage

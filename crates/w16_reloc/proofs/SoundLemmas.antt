@@ -27,7 +27,7 @@ tests_passed true t d e x y h = cc
 tests_passed false true d e x y h = cc
 tests_passed false false d e x y h = (refl, refl, cc)
 
-site_passed : (len : ℕ) (before after : List Site) (at width : ℕ) → site_at len before (record { at = at; width = width }) ≡ Ok after
+pub site_passed : (len : ℕ) (before after : List Site) (at width : ℕ) → site_at len before (record { at = at; width = width }) ≡ Ok after
     → (at + width ≤ len) × (list_any (meets (record { at = at; width = width })) before ≡ false) × (record { at = at; width = width } ∷ before ≡ after)
 unfolding site_at
 site_passed len before after at width h =
@@ -35,7 +35,7 @@ site_passed len before after at width h =
     let inside : at + width ≤ len = (let t = p.0 in grind arith) in (inside, p.1, p.2)
 
 -- what names offsets whose sites are sound, and leads to these sites
-record Found (bytes : List ℕ) (before : List Site) (r : Record) (after : List Site) : Type 0 where
+pub record Found (bytes : List ℕ) (before : List Site) (r : Record) (after : List Site) : Type 0 where
   pub ats : List ℕ
   pub names : Names bytes r ats
   pub sound : AreSound (length bytes) before (of_width (width_of r) ats)
@@ -56,7 +56,7 @@ chain_passed bytes width (suc n) before after at h =
           (at ∷ rest.0, (refl, on, rest.1), (site.0, site.1, rest.2), rest.3)
     ] refl
 
-sites_passed : (bytes : List ℕ) (before after : List Site) (r : Record) → sites_at bytes before r ≡ Ok after → Found bytes before r after
+pub sites_passed : (bytes : List ℕ) (before after : List Site) (r : Record) → sites_at bytes before r ≡ Ok after → Found bytes before r after
 unfolding sites_at
 sites_passed bytes before after (Stored fixup) h =
     let p = chain_passed bytes (chain_width fixup.part) (length bytes + 1) before after fixup.offset h in
@@ -66,11 +66,11 @@ sites_passed bytes before after (Added fixup) h =
     record { ats = fixup.offset ∷ []; names = refl; sound = (p.0, p.1, tt); ends = p.2 }
 sites_passed bytes before after System h = record { ats = []; names = refl; sound = tt; ends = cc }
 
-sound_append : (len : ℕ) (before ss ts : List Site) → AreSound len before ss → AreSound len (joined before ss) ts → AreSound len before (ss ++ ts)
+pub sound_append : (len : ℕ) (before ss ts : List Site) → AreSound len before ss → AreSound len (joined before ss) ts → AreSound len before (ss ++ ts)
 sound_append len before [] ts a b = b
 sound_append len before (s ∷ ss) ts a b = (a.0, a.1, sound_append len (s ∷ before) ss ts a.2 b)
 
-formed_is : (offer : Offer) (o : Option Record) (r : Record) → formed offer o ≡ Ok r → (o ≡ Some r) × (is_named offer r ≡ true)
+pub formed_is : (offer : Offer) (o : Option Record) (r : Record) → formed offer o ≡ Ok r → (o ≡ Some r) × (is_named offer r ≡ true)
 formed_is offer None r h = cc
 formed_is offer (Some x) r h =
     elim (is_named offer x) as (λ b. is_named offer x ≡ b → ◌≡◌ {A = Result Record RelocFault} (cond b (Ok x) (Err BadRecord)) (Ok r) → (Some x ≡ Some r) × (is_named offer r ≡ true)) [
