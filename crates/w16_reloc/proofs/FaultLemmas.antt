@@ -21,7 +21,7 @@ use Rattle.w16_reloc.proofs.SoundLemmas.{site_passed, sites_passed, formed_is, s
 
 bind_err : {A B : Type 0} (said : Result A RelocFault) (f : A → Result B RelocFault) (e : RelocFault) → (said >>= f) ≡ Err e → (said ≡ Err e) ⊎ ((x : A) × (said ≡ Ok x) × (f x ≡ Err e))
 bind_err (Ok x) f e h = inr (x, refl, h)
-bind_err (Err d) f e h = inl h
+bind_err (Err d) f e h = let same : d ≡ e = cc in inl (ap (λ x. Err x) same)
 
 -- what is wrong with a site, as the check has it
 abbrev Stops : ℕ → List Site → Site → RelocFault → Type 0
@@ -215,14 +215,17 @@ at_fault offer bytes raw at sites Overlap wide sound fault =
     let s = fault.2 in
     let own = next_wide bytes fault.0 s.ats s.at s.names in
     let all : AreWide (sites ++ of_width (width_of fault.0) s.ats) = wide_append sites (of_width (width_of fault.0) s.ats) wide (wide_of (width_of fault.0) s.ats own) in
-    let met = any_of_all (meets (record { at = s.at; width = width_of fault.0 })) (sites ++ of_width (width_of fault.0) s.ats) (rw (joined-append [] sites (of_width (width_of fault.0) s.ats)) (s.stops.1)) in
-    (fault.0, fault.1, record {
-      ats = s.ats;
-      at = s.at;
-      names = s.names;
-      sound = steps_apart (length bytes) (sites ++ of_width (width_of fault.0) s.ats) (sound_append (length bytes) [] sites (of_width (width_of fault.0) s.ats) sound s.sound);
-      wrong = (s.stops.0, shared (sites ++ of_width (width_of fault.0) s.ats) s.at (width_of fault.0) all own met);
-    })
+    let met = any_of_all (meets (record { at = s.at; width = width_of fault.0 })) (sites ++ of_width (width_of fault.0) s.ats) (rw (joined-append [] sites (of_width (width_of fault.0) s.ats)) (s.stops.1)) in (
+      fault.0,
+      fault.1,
+      record {
+        ats = s.ats;
+        at = s.at;
+        names = s.names;
+        sound = steps_apart (length bytes) (sites ++ of_width (width_of fault.0) s.ats) (sound_append (length bytes) [] sites (of_width (width_of fault.0) s.ats) sound s.sound);
+        wrong = (s.stops.0, shared (sites ++ of_width (width_of fault.0) s.ats) s.at (width_of fault.0) all own met);
+      },
+    )
 
 pub first_fault : (offer : Offer) (bytes table : List ℕ) (count : ℕ) (e : RelocFault) → check_from offer bytes table count 0 [] ≡ Err e → IsFirstFault offer bytes table count e
 first_fault offer bytes table count e h =

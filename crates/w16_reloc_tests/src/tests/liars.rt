@@ -1,6 +1,4 @@
 //! Stores that don't tell what their files are.
-ghost use Rattle.std.specs.Prelude.{⊥};
-
 use super::answers::{TAPP, TAPP_IMAGE, TAPP_TARGETS};
 use super::*;
 
@@ -18,8 +16,6 @@ struct Liar {
 }
 
 impl Store for Liar {
-    ghost use Rattle.std.specs.Prelude.{⊥};
-
     ghost files = { λ s. s.inner };
 
     ghost failures = { λ _. 0 };
@@ -89,7 +85,10 @@ fn one_lie_is_answered(rt: HostRuntime) -> Result<(), Fail> {
         for want in answers {
             at = at.saturating_add(1);
             let (answer, serves) = check_lied(rt.alloc(), lie, at, &mut scratch)?;
-            assert!(rt; answer == want && serves, "{lie:?} at read {at}: {answer:?}");
+            assert!(rt;
+                answer == want && serves,
+                "{lie:?} at read {at}: {answer:?}"
+            );
         }
     }
     Ok(())
