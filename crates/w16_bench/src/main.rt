@@ -1,7 +1,7 @@
 //! Times the lowest crates over as many objects as there may be: fills, slides and views of memory, look-ups of blocks, and
-//! compaction.
+//! compaction; and the reading of module files.
 //!
-//! The first argument is the number of turns of each loop. The times go to standard error, so that standard output is the same each time.
+//! The first argument is the number of turns of each loop; a file is read once for a thousand of them. The times go to standard error, so that standard output is the same each time.
 #![tactic(auto)]
 
 use anyhow::Result;
@@ -12,6 +12,7 @@ use w16_region::Region;
 
 mod blocks;
 mod memory;
+mod modules;
 
 /// How many objects the global heap may have.
 const COUNT: u32 = 8160;
@@ -46,33 +47,7 @@ fn tell(rt: &(impl Eprint + Clock), name: &str, start: Instant, turns: u32) -> R
 fn main(rt: HostRuntime) -> Result<()> {
     let turns = turns_asked(&rt)?;
     let mut region = Region::new(rt.alloc(), SIZE)?;
-    let blocks = blocks::full(rt.alloc())?;
-
-    let start = Instant::now(&rt)?;
-    memory::fill(&mut region, turns);
-    tell(&rt, "fill", start, turns)?;
-
-    let start = Instant::now(&rt)?;
-    memory::slide(&mut region, turns);
-    tell(&rt, "slide", start, turns)?;
-
-    let start = Instant::now(&rt)?;
-    let bytes = memory::view(&region, turns);
-    tell(&rt, "view", start, turns)?;
-
-    let start = Instant::now(&rt)?;
-    let found = blocks::find(&blocks, turns);
-    tell(&rt, "find", start, turns)?;
-
-    let start = Instant::now(&rt)?;
-    let ranks = blocks::rank(&blocks, turns);
-    tell(&rt, "rank", start, turns)?;
-
-    let mut blocks = blocks;
-    let start = Instant::now(&rt)?;
-    let moved = blocks::gather_all(&mut blocks, &mut region);
-    tell(&rt, "gather, in all", start, 1)?;
-
-    println!(rt; "{turns} turns: {bytes} {found} {ranks} {moved}")?;
-    Ok(())
+    memory::time(&rt, &mut region, turns)?;
+    blocks::time(&rt, rt.alloc(), &mut region, turns)?;
+    modules::time(&rt, rt.alloc(), turns)
 }

@@ -8,7 +8,7 @@ use Rattle.w16_ne.specs.declared.entry_table.Entry.{Entry}
 use Rattle.w16_ne.specs.declared.entry_table.Entry.TheVariants.{InSegment, Constant}
 use Rattle.w16_ne.specs.Reading.{Reading, ◌>>=◌, each}
 use Rattle.w16_ne.specs.Entries.{entry_size, entry_in, is_astray, sound_entry, bundle_in, bundles_from, entries_in}
-use Rattle.w16_ne.specs.Format.{IsInside, AreEntries, AreBundles, IsEntryTable}
+use Rattle.w16_ne.specs.EntriesFormat.{IsInside, AreEntries, AreBundles, IsEntryTable}
 use Rattle.w16_ne.proofs.Bounds.{ends_by_place, ends_by_byte, goes_further, is_sound}
 use Rattle.w16_ne.proofs.SegmentsFormat.{bind_ok, passed}
 

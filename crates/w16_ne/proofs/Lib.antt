@@ -11,4 +11,9 @@ pub mod Lookups
 pub mod NamesFormat
 pub mod SegmentsFormat
 pub mod EntriesFormat
+pub mod HeaderFormat
+pub mod ListedFormat
+pub mod ReferencesFormat
+pub mod ResourcesFormat
+pub mod ModuleFormat
 pub mod Fronts

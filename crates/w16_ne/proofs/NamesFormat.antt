@@ -6,7 +6,7 @@ use Rattle.std.proofs.lemmas.Bool.Decides.{nat_tests}
 use Rattle.w16_ne.specs.declared.fault.NeFault.TheVariants as faults
 use Rattle.w16_ne.specs.Reading.{Reading, ◌>>=◌, word_of}
 use Rattle.w16_ne.specs.Names.{Entry, size, name_at, names_from, names_at}
-use Rattle.w16_ne.specs.Format.{IsName, AreNames}
+use Rattle.w16_ne.specs.NamesFormat.{IsName, AreNames}
 use Rattle.w16_ne.proofs.Until.{reads_ok, goes_past}
 
 -- a byte and a word of what is cut from a file are the file's
@@ -20,7 +20,7 @@ cut_word file at n k lt =
     let next : at + (k + 1) ≡ at + k + 1 = omega arith in
     rw (low, high, next) refl
 
-byte_here : (file : List ℕ) (at : ℕ) → slice_index (take 1 (drop at file)) 0 ≡ slice_index file at
+pub byte_here : (file : List ℕ) (at : ℕ) → slice_index (take 1 (drop at file)) 0 ≡ slice_index file at
 byte_here file at = let here : at + 0 ≡ at = omega arith in cut_byte file at 1 0 (omega arith) ∙ ap (λ i. slice_index file i) here
 
 pub is_read : (file : List ℕ) (at : ℕ) (e : Entry) → IsName file at e → name_at (Some file) at ≡ Ok (Some e)
@@ -42,7 +42,7 @@ end_is_read file at lt h =
     let count : slice_index (take 1 (drop at file)) 0 ≡ 0 = byte_here file at ∙ h in
     rw (first, count) refl
 
-goes_on_past : {A : Type 0} (b : Bool) (read : Reading (Option A)) (x : A) → cond b (Ok None) read ≡ Ok (Some x) → b ≡ false
+pub goes_on_past : {A : Type 0} (b : Bool) (read : Reading (Option A)) (x : A) → cond b (Ok None) read ≡ Ok (Some x) → b ≡ false
 goes_on_past true read x h = cc
 goes_on_past false read x h = refl
 
@@ -72,7 +72,7 @@ never_none : {A : Type 0} (b : Bool) (x : A) (f : A → Entry) → (cond b (Err 
 never_none true x f h = cc
 never_none false x f h = cc
 
-ends_here : (b : Bool) (read : Reading (Option Entry)) → (read ≡ Ok None → ⊥) → cond b (Ok None) read ≡ Ok None → b ≡ true
+pub ends_here : {A : Type 0} (b : Bool) (read : Reading (Option A)) → (read ≡ Ok None → ⊥) → cond b (Ok None) read ≡ Ok None → b ≡ true
 ends_here true read never h = refl
 ends_here false read never h = absurd (never h)
 

@@ -7,7 +7,7 @@ use Rattle.w16_ne.specs.declared.segment_table.Segment.{Segment}
 use Rattle.w16_ne.specs.Reading.{Reading, ◌>>=◌, bytes_or, reaches, word_of, each}
 use Rattle.w16_ne.specs.Header.{segment_count, segment_table, shift_of}
 use Rattle.w16_ne.specs.Segments.{or_64k, rounded, records_at, data_at, segment_at, entries_at, segments_at}
-use Rattle.w16_ne.specs.Format.{AreRecords, IsData, IsSegment, AreSegments, IsSegmentTable}
+use Rattle.w16_ne.specs.SegmentsFormat.{AreRecords, IsData, IsSegment, AreSegments, IsSegmentTable}
 use Rattle.w16_ne.proofs.Until.{reads_ok}
 use Rattle.w16_ne.proofs.NamesFormat.{cut_word}
 
@@ -33,7 +33,7 @@ reached file end h = let p = passed (ltb (length file) end) faults.Truncated (Ok
 pub reaches_there : (file : List ℕ) (end : ℕ) → end ≤ length file → reaches (Some file) end ≡ Ok tt
 reaches_there file end le = let inside : ltb (length file) end ≡ false = grind (arith, nat_tests) in rw inside refl
 
-word_here : (file : List ℕ) (end : ℕ) → word_of (take 2 (drop end file)) 0 ≡ word_of file end
+pub word_here : (file : List ℕ) (end : ℕ) → word_of (take 2 (drop end file)) 0 ≡ word_of file end
 word_here file end = let here : end + 0 ≡ end = omega arith in cut_word file end 2 0 (omega arith) ∙ ap (λ i. word_of file i) here
 
 abbrev counted : List ℕ → ℕ → Reading ℕ

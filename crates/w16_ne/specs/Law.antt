@@ -9,7 +9,10 @@ use Rattle.w16_ne.specs.Segments.{segments_at}
 use Rattle.w16_ne.specs.Names.{Entry, distinct, ordinal_in, ordinal_of, names_at}
 use Rattle.w16_ne.specs.Modules.{Tables, tables_at}
 use Rattle.w16_ne.specs.Entries.{entries_in}
-use Rattle.w16_ne.specs.Format.{AreNames, IsSegmentTable, IsEntryTable}
+use Rattle.w16_ne.specs.NamesFormat.{AreNames}
+use Rattle.w16_ne.specs.SegmentsFormat.{IsSegmentTable}
+use Rattle.w16_ne.specs.EntriesFormat.{IsEntryTable}
+use Rattle.w16_ne.specs.ModuleFormat.{IsModule}
 
 -- a name that is found among the distinct ones has the ordinal that the tables give it: the first equal name's
 abbrev pub NamesLaw : Type 0
@@ -27,6 +30,15 @@ SegmentsFormatLaw = (file header : List ℕ) (ne : ℕ) (segments : List Segment
 -- and so are the entries of a table's bytes
 abbrev pub EntriesFormatLaw : Type 0
 EntriesFormatLaw = (table : List ℕ) (segments : ℕ) (es : List (Option entries.Entry)) → entries_in table segments ≡ Ok es ↔ IsEntryTable table segments es
+
+-- and so is a module as a whole
+abbrev pub ModuleFormatLaw : Type 0
+ModuleFormatLaw = (file : List ℕ) (tables : Tables) → tables_at (Some file) ≡ Ok tables ↔ IsModule file tables
+
+-- a file has one module, or one fault and then none
+abbrev pub OneModuleLaw : Type 0
+OneModuleLaw = (file : List ℕ) → ((t : Tables) × (IsModule file t) × ((u : Tables) → IsModule file u → u ≡ t))
+    ⊎ ((e : NeFault) × (tables_at (Some file) ≡ Err e) × ((t : Tables) → IsModule file t → ⊥))
 
 -- a fault that a file may have because it ends too early
 abbrev pub IsOfEnd : NeFault → Type 0

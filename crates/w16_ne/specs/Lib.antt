@@ -6,5 +6,11 @@ pub mod References
 pub mod Entries
 pub mod Resources
 pub mod Modules
-pub mod Format
+pub mod HeaderFormat
+pub mod NamesFormat
+pub mod SegmentsFormat
+pub mod ReferencesFormat
+pub mod EntriesFormat
+pub mod ResourcesFormat
+pub mod ModuleFormat
 pub mod Law

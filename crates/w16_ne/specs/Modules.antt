@@ -1,10 +1,10 @@
 -- A module file as a whole: its tables, or its first fault.
-use Rattle.std.specs.Prelude.{ℕ, zero, suc, ◌++◌, List, [], ◌∷◌, drop, Option, None, Ok, map, slice_get, slice_index_or}
+use Rattle.std.specs.Prelude.{ℕ, zero, suc, ◌+◌, ◌++◌, List, [], ◌∷◌, drop, Option, None, Ok, map, slice_get, slice_index_or}
 use Rattle.std.specs.List.{flat_map}
 use Rattle.w16_ne.specs.declared.entry_table.Entry.{Entry}
 use Rattle.w16_ne.specs.declared.segment_table.Segment.{Segment}
 use Rattle.w16_ne.specs.Reading.{Reading, ◌>>=◌}
-use Rattle.w16_ne.specs.Header.{place_at, header_at, fields_of}
+use Rattle.w16_ne.specs.Header.{place_at, header_at, fields_of, imported_names}
 use Rattle.w16_ne.specs.Segments.{segments_at}
 use Rattle.w16_ne.specs.Names as names
 use Rattle.w16_ne.specs.Names.{distinct, resident_at, nonresident_at}
@@ -15,6 +15,8 @@ use Rattle.w16_ne.specs.Resources.{Label, Typed, resources_at}
 
 -- what a module's file says
 pub record Tables : Type 0 where
+  -- the header's offset in the file
+  pub place : ℕ
   pub header : List ℕ
   pub name : List ℕ
   pub description : List ℕ
@@ -32,8 +34,9 @@ first_text [] = []
 first_text (e ∷ es) = e.0
 
 -- The first resident name is the module's, and the first nonresident one its description. The others are names of entries, resident ones first.
-abbrev pub tables_of : List ℕ → List Segment → List names.Entry → List (List ℕ) → List (Option Entry) → List names.Entry → List Typed → Tables
-tables_of header segments resident references entries nonresident resources = record {
+abbrev pub tables_of : ℕ → List ℕ → List Segment → List names.Entry → List (List ℕ) → List (Option Entry) → List names.Entry → List Typed → Tables
+tables_of place header segments resident references entries nonresident resources = record {
+  place = place;
   header = header;
   name = first_text resident;
   description = first_text nonresident;
@@ -56,7 +59,11 @@ tables_at file = do
   entries ← table_at file ne header
   nonresident ← nonresident_at file header
   resources ← resources_at file ne header
-  Ok (tables_of header segments resident references entries nonresident resources)
+  Ok (tables_of ne header segments resident references entries nonresident resources)
+
+-- where the imported names begin in the file: their offset counts from the header
+abbrev pub imported_place : Tables → ℕ
+imported_place tables = tables.place + imported_names tables.header
 
 -- where an ordinal leads, from 1; none where it has no entry
 abbrev pub entry_at : List (Option Entry) → ℕ → Option Entry

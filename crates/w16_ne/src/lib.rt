@@ -27,6 +27,3 @@ pub use module_file::Module;
 pub use read::read_module;
 pub use resource_entries::{Resource, ResourceName, ResourceType};
 pub use segment_table::Segment;
-
-#[cfg(test)]
-mod tests;

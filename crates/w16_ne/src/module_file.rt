@@ -1,9 +1,9 @@
 //! A module as its file has it.
-ghost use Rattle.std.specs.Prelude.{◌≡◌, ◌<◌, ◌≤◌, ◌-◌, Some, length, slice_get, option_map};
+ghost use Rattle.std.specs.Prelude.{◌≡◌, ◌<◌, ◌≤◌, ◌-◌, ◌^◌, Some, length, slice_get, option_map};
 ghost use Rattle.w16_ne.specs.Header.{is_library};
 ghost use Rattle.w16_ne.specs.Names.{ordinal_of};
 ghost use Rattle.w16_ne.specs.Resources.{label_of, entry_of, resource_count};
-ghost use Rattle.w16_ne.specs.Modules.{entry_at, resource_at};
+ghost use Rattle.w16_ne.specs.Modules.{imported_place, entry_at, resource_at};
 
 use crate::entry_table::Entry;
 use crate::ordinals::{Ordinals, ordinal_of};
@@ -16,6 +16,7 @@ use std::marker::Model;
 /// What a module's file says.
 #[derive(Drop)]
 pub struct Module {
+    pub(crate) place: u32,
     pub(crate) header: [u8; 64],
     pub(crate) name: Vec<u8>,
     pub(crate) description: Vec<u8>,
@@ -35,6 +36,7 @@ impl Model for Module {
     ghost Value = { Tables };
 
     ghost view = { λ s. record {
+      place = s.place;
       header = s.header;
       name = s.name.items;
       description = s.description.items;
@@ -46,6 +48,7 @@ impl Model for Module {
     } };
 
     ghost invariant = { λ s. (length s.header ≡ 64) × All (λ e. length e.0 ≤ 255) (listed s.ordinals.entries)
+        × All (λ t. t.len ≤ 65536) s.segments.items
         × (resource_count (map typed_of s.types.items) ≤ 65535) };
 }
 
@@ -89,7 +92,8 @@ impl Module {
     pub fn segment(&self, number: usize) -> Segment
         requires first { 0 < number }
         requires last { number ≤ length self.now.segments }
-        ensures { slice_get self.now.segments (number - 1) ≡ Some result }
+        ensures found { slice_get self.now.segments (number - 1) ≡ Some result }
+        ensures short { result.len ≤ 65536 }
     {
         self.segments[number - 1]
     }
@@ -116,6 +120,14 @@ impl Module {
         ensures { result ≡ ordinal_of self.now.names name.now }
     {
         ordinal_of(&self.ordinals, name)
+    }
+
+    /// Where the imported names begin in the file. A reference, and a relocation record that imports by name, has an offset from there.
+    pub fn imported_names(&self) -> u64
+        ensures place { result ≡ imported_place self.now }
+        ensures small { result < 2 ^ 33 }
+    {
+        u64::from(self.place) + u64::from(word(&self.header, 0x2a))
     }
 
     /// How many modules it refers to.

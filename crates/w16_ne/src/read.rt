@@ -64,6 +64,7 @@ pub fn read_module<S: Store>(alloc: Global, store: &mut S, name: &[u8]) -> Resul
     let mut nonresident = nonresident_names(alloc, store, name, &header)?;
     let types = resources(alloc, store, name, ne, &header)?;
     Ok(Module {
+        place: ne,
         header,
         name: take_first(alloc, &mut resident),
         description: take_first(alloc, &mut nonresident),

@@ -1,5 +1,5 @@
 //! The segment table.
-ghost use Rattle.std.specs.Prelude.{◌≡◌, ℕ, ◌<◌, ◌≤◌, ◌+◌, ◌*◌, ◌^◌, length};
+ghost use Rattle.std.specs.Prelude.{◌≡◌, ℕ, ◌<◌, ◌≤◌, ◌+◌, ◌*◌, ◌^◌, length, All, IfOk};
 ghost use Rattle.w16_store.specs.Files.{file_of};
 ghost use Rattle.w16_ne.specs.Reading.{Gives};
 ghost use Rattle.w16_ne.specs.Header.{shift_of, segment_count};
@@ -85,6 +85,7 @@ fn data<S: Store>(
     ensures failures { S.failures store.old ≤ S.failures store.new }
     ensures exact { S.is_honest → Gives (λ s. s) (file_of (S.files store.old) name.now)
         (S.failures store.old) (S.failures store.new) result (data_at (file_of (S.files store.old) name.now) place len flags least) }
+    ensures short { IfOk result (λ s. s.len ≤ 65536) }
 {
     let end = u64::from(place) + u64::from(len);
     reaches(store, name, end)?;
@@ -117,6 +118,7 @@ fn entry<S: Store>(
     ensures failures { S.failures store.old ≤ S.failures store.new }
     ensures exact { S.is_honest → Gives (λ s. s) (file_of (S.files store.old) name.now)
         (S.failures store.old) (S.failures store.new) result (segment_at (file_of (S.files store.old) name.now) shift table.now at) }
+    ensures short { IfOk result (λ s. s.len ≤ 65536) }
 {
     let sector = word(table, at);
     let len = full_if_zero(word(table, at + 2));
@@ -159,6 +161,7 @@ fn entries<S: Store>(
     ensures failures { S.failures store.old ≤ S.failures store.new }
     ensures exact { S.is_honest → Gives (λ v. v.items) (file_of (S.files store.old) name.now)
         (S.failures store.old) (S.failures store.new) result (entries_at (file_of (S.files store.old) name.now) shift table.now count) }
+    ensures short { IfOk result (λ v. All (λ s. s.len ≤ 65536) v.items) }
 {
     let mut segments = Vec::new(alloc);
     for i in 0..count {
@@ -184,6 +187,7 @@ pub fn segments<S: Store>(
     ensures failures { S.failures store.old ≤ S.failures store.new }
     ensures exact { S.is_honest → Gives (λ v. v.items) (file_of (S.files store.old) name.now)
         (S.failures store.old) (S.failures store.new) result (segments_at (file_of (S.files store.old) name.now) ne header.now) }
+    ensures short { IfOk result (λ v. All (λ s. s.len ≤ 65536) v.items) }
 {
     let count = word(header, 0x1c);
     if count == 0 {

@@ -45,8 +45,8 @@ segment_lies : (file : List ℕ) (place len flags least : ℕ) (s : Segment) →
 unfolding data_at
 segment_lies file place len flags least s h some =
     let p = test_ok (nat_lt (length file) (place + len)) faults.Truncated tt _ s h in
-    let q = bind_ok (records_at (Some file) flags (place + len)) (λ records. Ok (record { place = place; len = len; flags = flags; size = rounded (max len least); records = records })) s p.1 in
-    let is : record { place = place; len = len; flags = flags; size = rounded (max len least); records = q.0 } ≡ s = cc (q.2) in
+    let q = bind_ok (records_at (Some file) flags (place + len)) (λ records. Ok (record { place = place; len = len; flags = record { 0 = flags }; size = rounded (max len least); records = records })) s p.1 in
+    let is : record { place = place; len = len; flags = record { 0 = flags }; size = rounded (max len least); records = q.0 } ≡ s = cc (q.2) in
     let inside : place + len ≤ length file = grind (arith, nat_tests, p.0) in
     rw (← is) ((λ none. absurd (omega (arith, none, some))), (λ lies. (inside, q.1)))
 
@@ -54,10 +54,10 @@ positive : (n : ℕ) → 0 < cond (nat_eq n 0) 65536 n
 positive n = grind arith
 
 picked : (file : List ℕ) (b c : Bool) (flags size place len least : ℕ) (s : Segment) → 0 < len
-    → cond b (Err faults.Unsupported) (cond c (Ok (record { place = 0; len = 0; flags = flags; size = size; records = 0 })) (data_at (Some file) place len flags least)) ≡ Ok s → LiesIn file s
+    → cond b (Err faults.Unsupported) (cond c (Ok (record { place = 0; len = 0; flags = record { 0 = flags }; size = size; records = 0 })) (data_at (Some file) place len flags least)) ≡ Ok s → LiesIn file s
 picked file true c flags size place len least s some h = cc
 picked file false true flags size place len least s some h =
-    let is : record { place = 0; len = 0; flags = flags; size = size; records = 0 } ≡ s = cc in
+    let is : record { place = 0; len = 0; flags = record { 0 = flags }; size = size; records = 0 } ≡ s = cc in
     rw (← is) ((λ none. refl), (λ lies. absurd (omega (arith, lies))))
 picked file false false flags size place len least s some h = segment_lies file place len flags least s h some
 
@@ -91,18 +91,7 @@ segments_lie file ne header segments k s h found =
           entry_lies file (shift_of header) p.0 (8 * m.0) s m.1
     ] h
 
-goes_past : {A : Type 0} (b : Bool) (fault : NeFault) (read : Reading A) (y : A) → cond b (Err fault) read ≡ Ok y → read ≡ Ok y
-goes_past true fault read y h = cc
-goes_past false fault read y h = h
-
-header_inside : (file : List ℕ) (ne : ℕ) → place_at (Some file) ≡ Ok ne → 64 ≤ length file
-unfolding place_at
-header_inside file ne h =
-    let p = test_ok (nat_lt (length file) (0 + 2)) faults.NotMz (take 2 (drop 0 file)) _ ne h in
-    let q = test_ok (nat_lt (length file) (0 + 64)) faults.Truncated (take 64 (drop 0 file)) _ ne (goes_past _ _ _ ne p.1) in
-    grind (arith, nat_tests, q.0)
-
-pub module_lies : (file : List ℕ) (t : Tables) (k : ℕ) (s : Segment) → tables_at (Some file) ≡ Ok t → slice_get t.segments k ≡ Some s → (64 ≤ length file) × LiesIn file s
+pub module_lies : (file : List ℕ) (t : Tables) (k : ℕ) (s : Segment) → tables_at (Some file) ≡ Ok t → slice_get t.segments k ≡ Some s → LiesIn file s
 unfolding tables_at
 module_lies file t k s h found =
     let p = bind_ok (place_at (Some file)) _ t h in
@@ -114,6 +103,6 @@ module_lies file t k s h found =
     let entries = bind_ok (table_at (Some file) p.0 header.0) _ t references.2 in
     let nonresident = bind_ok (nonresident_at (Some file) header.0) _ t entries.2 in
     let resources = bind_ok (resources_at (Some file) p.0 header.0) _ t nonresident.2 in
-    let is : tables_of header.0 segments.0 resident.0 references.0 entries.0 nonresident.0 resources.0 ≡ t = ok_same _ t resources.2 in
+    let is : tables_of p.0 header.0 segments.0 resident.0 references.0 entries.0 nonresident.0 resources.0 ≡ t = ok_same _ t resources.2 in
     let same : segments.0 ≡ t.segments = ap (λ (x : Tables). x.segments) is in
-    (header_inside file p.0 p.1, segments_lie file p.0 header.0 segments.0 k s segments.1 (rw same found))
+    segments_lie file p.0 header.0 segments.0 k s segments.1 (rw same found)

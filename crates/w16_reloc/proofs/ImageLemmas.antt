@@ -13,6 +13,7 @@ use Rattle.w16_reloc.specs.Images.{Patch, byte, stored_at, added_at, patches_of,
 use Rattle.w16_reloc.specs.Apply.{over, over_each, joined, IsReady, IsWritten, IsOpen}
 use Rattle.w16_reloc.proofs.SiteLemmas.{any_meets}
 use Rattle.w16_reloc.proofs.WalkLemmas.{over_each_same, chain_narrow, value_narrow}
+use Rattle.w16_reloc.proofs.ApartLemmas.{sound_steps}
 
 -- patches that lie in these sites, one in each
 abbrev pub Fit : List Patch → List Site → Type 0
@@ -153,4 +154,4 @@ pub written_image : (file : List ℕ) (records : List Record) (values : List Far
     → ((o : ℕ) → byte new o ≡ over_each (patches file records values named) (byte old) o) → IsImage file records values named new
 written_image file records values named old new many sound begun each = λ o.
     each o ∙ over_each_same (patches file records values named) (byte old) (byte file) o begun
-    ∙ image_is (length file) (patches file records values named) (all_sites records named) [] (byte file) o (fit_all file records values named many sound.0) sound.1
+    ∙ image_is (length file) (patches file records values named) (all_sites records named) [] (byte file) o (fit_all file records values named many sound.0) (sound_steps file records named sound.0 sound.1)

@@ -2,9 +2,11 @@ pub mod SiteLemmas
 pub mod ChainLemmas
 pub mod WalkLemmas
 pub mod Count
+pub mod ApartLemmas
 pub mod RecordLemmas
 pub mod ImageLemmas
 pub mod Refusals
 pub mod FileLemmas
 pub mod SoundLemmas
+pub mod FaultLemmas
 pub mod OneImage

@@ -85,11 +85,6 @@ ok_same x y h = cc
 pub never : {A B : Type 0} (x : A) (e : RelocFault) (total : Result B RelocFault) → ◌≡◌ {A = Result A RelocFault} (Ok x) (Err e) → total ≡ Err e
 never x e total h = cc
 
--- a segment without records is sound
-pub checked_none : (file : List ℕ) (t : Tables) (s : Segment) (bytes : List ℕ) (records : List Record) → s.records ≡ 0 → bytes ≡ data_of file s → records ≡ [] → checked file t s ≡ Ok (record { bytes = bytes; records = records })
-unfolding checked check_from
-checked_none file t s bytes records none data_is empty = rw (none, data_is, empty) refl
-
 -- what the records answer, the segment does
 abbrev held_with : List ℕ → Result (List Record) RelocFault → Result Held RelocFault
 held_with bytes said = said >>= λ rs. Ok (record { bytes = bytes; records = rs })

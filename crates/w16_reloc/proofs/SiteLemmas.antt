@@ -13,10 +13,10 @@ any_meets [] at width b h low high = cc
 any_meets (s ∷ ss) at width b h low high = grind (arith, covers_meets s at width b, any_meets ss at width b)
 
 -- the first byte that two meeting sites share is the later of their first bytes
-meets_covers : (s : Site) (at width : ℕ) → 0 < width → 0 < s.width → meets (record { at = at; width = width }) s ≡ true → covers (max at s.at) s ≡ true
+pub meets_covers : (s : Site) (at width : ℕ) → 0 < width → 0 < s.width → meets (record { at = at; width = width }) s ≡ true → covers (max at s.at) s ≡ true
 meets_covers s at width wide s_wide h = grind arith
 
-meets_inside : (s : Site) (at width : ℕ) → 0 < width → 0 < s.width → meets (record { at = at; width = width }) s ≡ true → max at s.at < at + width
+pub meets_inside : (s : Site) (at width : ℕ) → 0 < width → 0 < s.width → meets (record { at = at; width = width }) s ≡ true → max at s.at < at + width
 meets_inside s at width wide s_wide h = grind arith
 
 none_meets_one : (s : Site) (at width : ℕ) (r : Bool) → meets (record { at = at; width = width }) s ≡ r → 0 < width → 0 < s.width → ((b : ℕ) → at ≤ b → b < at + width → covers b s ≡ false) → r ≡ false

@@ -15,6 +15,7 @@ use Rattle.w16_reloc.specs.Apply.{joined}
 use Rattle.w16_reloc.proofs.ChainLemmas.{fits}
 use Rattle.w16_reloc.proofs.WalkLemmas.{chain_wide}
 use Rattle.w16_reloc.proofs.Count.{no_more_sites}
+use Rattle.w16_reloc.proofs.ApartLemmas.{sound_steps, steps_apart}
 use Rattle.w16_reloc.proofs.ImageLemmas.{sound_parts}
 
 bind_ok : {A B : Type 0} (said : Result A RelocFault) (f : A → Result B RelocFault) (y : B) → (said >>= f) ≡ Ok y → (x : A) × (said ≡ Ok x) × (f x ≡ Ok y)
@@ -26,7 +27,7 @@ tests_passed true t d e x y h = cc
 tests_passed false true d e x y h = cc
 tests_passed false false d e x y h = (refl, refl, cc)
 
-site_passed : (len : ℕ) (before after : List Site) (at width : ℕ) → site_at len before (record { at = at; width = width }) ≡ Ok after
+pub site_passed : (len : ℕ) (before after : List Site) (at width : ℕ) → site_at len before (record { at = at; width = width }) ≡ Ok after
     → (at + width ≤ len) × (list_any (meets (record { at = at; width = width })) before ≡ false) × (record { at = at; width = width } ∷ before ≡ after)
 unfolding site_at
 site_passed len before after at width h =
@@ -34,7 +35,7 @@ site_passed len before after at width h =
     let inside : at + width ≤ len = (let t = p.0 in grind arith) in (inside, p.1, p.2)
 
 -- what names offsets whose sites are sound, and leads to these sites
-record Found (bytes : List ℕ) (before : List Site) (r : Record) (after : List Site) : Type 0 where
+pub record Found (bytes : List ℕ) (before : List Site) (r : Record) (after : List Site) : Type 0 where
   pub ats : List ℕ
   pub names : Names bytes r ats
   pub sound : AreSound (length bytes) before (of_width (width_of r) ats)
@@ -55,7 +56,7 @@ chain_passed bytes width (suc n) before after at h =
           (at ∷ rest.0, (refl, on, rest.1), (site.0, site.1, rest.2), rest.3)
     ] refl
 
-sites_passed : (bytes : List ℕ) (before after : List Site) (r : Record) → sites_at bytes before r ≡ Ok after → Found bytes before r after
+pub sites_passed : (bytes : List ℕ) (before after : List Site) (r : Record) → sites_at bytes before r ≡ Ok after → Found bytes before r after
 unfolding sites_at
 sites_passed bytes before after (Stored fixup) h =
     let p = chain_passed bytes (chain_width fixup.part) (length bytes + 1) before after fixup.offset h in
@@ -65,11 +66,11 @@ sites_passed bytes before after (Added fixup) h =
     record { ats = fixup.offset ∷ []; names = refl; sound = (p.0, p.1, tt); ends = p.2 }
 sites_passed bytes before after System h = record { ats = []; names = refl; sound = tt; ends = cc }
 
-sound_append : (len : ℕ) (before ss ts : List Site) → AreSound len before ss → AreSound len (joined before ss) ts → AreSound len before (ss ++ ts)
+pub sound_append : (len : ℕ) (before ss ts : List Site) → AreSound len before ss → AreSound len (joined before ss) ts → AreSound len before (ss ++ ts)
 sound_append len before [] ts a b = b
 sound_append len before (s ∷ ss) ts a b = (a.0, a.1, sound_append len (s ∷ before) ss ts a.2 b)
 
-formed_is : (offer : Offer) (o : Option Record) (r : Record) → formed offer o ≡ Ok r → (o ≡ Some r) × (is_named offer r ≡ true)
+pub formed_is : (offer : Offer) (o : Option Record) (r : Record) → formed offer o ≡ Ok r → (o ≡ Some r) × (is_named offer r ≡ true)
 formed_is offer None r h = cc
 formed_is offer (Some x) r h =
     elim (is_named offer x) as (λ b. is_named offer x ≡ b → ◌≡◌ {A = Result Record RelocFault} (cond b (Ok x) (Err BadRecord)) (Ok r) → (Some x ≡ Some r) × (is_named offer r ≡ true)) [
@@ -105,7 +106,7 @@ all_passed offer bytes table (suc n) i before records h =
 
 pub passed_is_sound : (offer : Offer) (bytes table : List ℕ) (count : ℕ) (records : List Record) → check_from offer bytes table count 0 [] ≡ Ok records → IsSoundSegment offer bytes table count records
 passed_is_sound offer bytes table count records h =
-    let p = all_passed offer bytes table count 0 [] records h in record { many = p.many; formed = p.formed; sound = (p.named, (p.names, p.sound)) }
+    let p = all_passed offer bytes table count 0 [] records h in record { many = p.many; formed = p.formed; sound = (p.named, (p.names, steps_apart (length bytes) (all_sites records p.named) p.sound)) }
 
 -- and the other way
 chain_passes : (bytes : List ℕ) (width n : ℕ) (before : List Site) (at : ℕ) (ats : List ℕ) → length ats < n → IsChain bytes at ats → AreSound (length bytes) before (of_width width ats) → chain_at bytes width n before at ≡ Ok (joined before (of_width width ats))
@@ -139,4 +140,4 @@ all_pass offer bytes table i before (r ∷ rs) (ats ∷ others) formed names sou
     rw (formed.0.0, formed.0.1, sites_pass bytes before r ats names.0 parts.0, rest) refl
 
 pub sound_passes : (offer : Offer) (bytes table : List ℕ) (count : ℕ) (records : List Record) → IsSoundSegment offer bytes table count records → check_from offer bytes table count 0 [] ≡ Ok records
-sound_passes offer bytes table count records s = rw (← s.many) (all_pass offer bytes table 0 [] records s.sound.0 s.formed s.sound.1.0 s.sound.1.1)
+sound_passes offer bytes table count records s = rw (← s.many) (all_pass offer bytes table 0 [] records s.sound.0 s.formed s.sound.1.0 (sound_steps bytes records s.sound.0 s.sound.1.0 s.sound.1.1))

@@ -1,9 +1,11 @@
 -- What the definitions of relocation come to.
-use Rattle.std.specs.Prelude.{◌≡◌, ℕ, List, [], length, Ok}
+use Rattle.std.specs.Prelude.{◌≡◌, ℕ, List, [], length, Ok, Err}
+use Rattle.w16_reloc.specs.declared.fault.RelocFault.{RelocFault}
 use Rattle.w16_reloc.specs.declared.record.Record.{Record}
 use Rattle.w16_reloc.specs.declared.value.Far.{Far}
 use Rattle.w16_reloc.specs.Records.{Offer}
 use Rattle.w16_reloc.specs.Sound.{IsSound, IsSoundSegment}
+use Rattle.w16_reloc.specs.Faults.{IsFirstFault}
 use Rattle.w16_reloc.specs.Check.{check_from}
 use Rattle.w16_reloc.specs.Images.{byte, patches, image_at, IsImage}
 use Rattle.w16_reloc.specs.Apply.{over_each}
@@ -14,6 +16,10 @@ PassedLaw = (offer : Offer) (bytes table : List ℕ) (count : ℕ) (records : Li
 
 abbrev pub SoundLaw : Type 0
 SoundLaw = (offer : Offer) (bytes table : List ℕ) (count : ℕ) (records : List Record) → IsSoundSegment offer bytes table count records → check_from offer bytes table count 0 [] ≡ Ok records
+
+-- A check that fails has found the first fault.
+abbrev pub FaultLaw : Type 0
+FaultLaw = (offer : Offer) (bytes table : List ℕ) (count : ℕ) (e : RelocFault) → check_from offer bytes table count 0 [] ≡ Err e → IsFirstFault offer bytes table count e
 
 -- The values of a sound segment, written one after another, are the image offset by offset.
 abbrev pub WrittenLaw : Type 0

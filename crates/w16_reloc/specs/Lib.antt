@@ -1,6 +1,7 @@
 pub mod Sites
 pub mod Records
 pub mod Sound
+pub mod Faults
 pub mod Check
 pub mod Images
 pub mod Apply

@@ -3,10 +3,8 @@ use Rattle.std.specs.Prelude.{◌≡◌, ℕ, ◌+◌, ◌*◌, ◌<◌, ◌≤�
 use Rattle.w16_store.specs.declared.store.StoreFault.{StoreFault}
 use Rattle.w16_store.specs.declared.store.StoreFault.TheVariants as stores
 use Rattle.w16_ne.specs.declared.segment_table.Segment.{Segment}
-use Rattle.w16_ne.specs.Reading.{dword_of}
-use Rattle.w16_ne.specs.Header.{imported_names}
 use Rattle.w16_ne.specs.Segments.{records_at}
-use Rattle.w16_ne.specs.Modules.{Tables}
+use Rattle.w16_ne.specs.Modules.{Tables, imported_place}
 use Rattle.w16_reloc.specs.declared.fault.RelocFault.{RelocFault}
 use Rattle.w16_reloc.specs.declared.fault.RelocFault.TheVariants as faults
 use Rattle.w16_reloc.specs.declared.record.Record.{Record}
@@ -21,12 +19,8 @@ has_text_at file at = nat_lt at (length file) && nat_lt (at + slice_index file a
 abbrev pub offer_at : List ℕ → ℕ → ℕ → ℕ → Offer
 offer_at file segments references names = record { segments = segments; references = references; has_name = λ name. has_text_at file (names + name) }
 
--- the imported names' place: their offset counts from the header, to which the double word at 3C points (volume 4)
-abbrev pub names_at : List ℕ → List ℕ → ℕ
-names_at file header = dword_of (take 4 (drop 0x3c file)) 0 + imported_names header
-
 abbrev pub offer_of : List ℕ → Tables → Offer
-offer_of file tables = offer_at file (length tables.segments) (length tables.references) (names_at file tables.header)
+offer_of file tables = offer_at file (length tables.segments) (length tables.references) (imported_place tables)
 
 -- a segment's data in the file, and its records: directly behind the data and their count
 abbrev pub data_of : List ℕ → Segment → List ℕ
@@ -37,7 +31,7 @@ records_of file s = take (8 * s.records) (drop (s.place + s.len + 2) file)
 
 -- a segment without data has no records; the data and the records of any other lie in the file
 abbrev pub LiesIn : List ℕ → Segment → Type 0
-LiesIn file s = (s.len ≡ 0 → s.records ≡ 0) × (0 < s.len → (s.place + s.len ≤ length file) × (records_at (Some file) s.flags (s.place + s.len) ≡ Ok s.records))
+LiesIn file s = (s.len ≡ 0 → s.records ≡ 0) × (0 < s.len → (s.place + s.len ≤ length file) × (records_at (Some file) s.flags.0 (s.place + s.len) ≡ Ok s.records))
 
 -- what a scratch holds
 pub record Held : Type 0 where

@@ -5,7 +5,7 @@ use Rattle.w16_reloc.specs.declared.record.Part.{Part}
 use Rattle.w16_reloc.specs.declared.record.Part.TheVariants.{LowByte, Selector, Pointer, Offset}
 use Rattle.w16_reloc.specs.declared.record.Record.{Record}
 use Rattle.w16_reloc.specs.declared.record.Record.TheVariants.{Stored, Added, System}
-use Rattle.w16_reloc.specs.Sites.{Site, AreSound}
+use Rattle.w16_reloc.specs.Sites.{Site, AreApart}
 use Rattle.w16_reloc.specs.Records.{Offer, IsRecord}
 
 -- The chain from an offset on names these offsets: the word at each is the next, and FFFF ends it (volume 4).
@@ -56,7 +56,7 @@ all_sites (r ∷ records) (ats ∷ others) = of_width (width_of r) ats ++ all_si
 
 -- The records of a segment are sound in its data: each names offsets, and the sites there lie in the data, no two sharing a byte.
 abbrev pub IsSound : List ℕ → List Record → List (List ℕ) → Type 0
-IsSound bytes records named = AreNamed bytes records named × AreSound (length bytes) [] (all_sites records named)
+IsSound bytes records named = AreNamed bytes records named × AreApart (length bytes) (all_sites records named)
 
 -- so many records, each well formed, the first at number i
 abbrev pub AreRecords : Offer → List ℕ → ℕ → List Record → Type 0

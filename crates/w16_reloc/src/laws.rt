@@ -1,10 +1,15 @@
 //! The laws of relocation's definitions. Each function does nothing: its contract is the law.
-ghost use Rattle.w16_reloc.specs.Law.{PassedLaw, SoundLaw, WrittenLaw, FetchedLaw};
+ghost use Rattle.w16_reloc.specs.Law.{PassedLaw, SoundLaw, FaultLaw, WrittenLaw, FetchedLaw};
 
 /// A check says yes exactly where a segment is sound, and tells its records.
 pub fn sound_segments_pass()
     ensures passed { PassedLaw }
     ensures sound { SoundLaw }
+{}
+
+/// A check that says no tells the first fault.
+pub fn first_faults_are_told()
+    ensures { FaultLaw }
 {}
 
 /// What is written link by link is the image, offset by offset.

@@ -19,6 +19,3 @@ pub use image::apply;
 pub use record::{Fixup, Part, Record, Target};
 pub use scratch::{Scratch, check};
 pub use value::Far;
-
-#[cfg(test)]
-mod tests;

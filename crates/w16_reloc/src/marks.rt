@@ -5,14 +5,18 @@ ghost use Rattle.w16_reloc.specs.Check.{AreMarks, IsOfRecords, Marks, site_at};
 
 use crate::fault::RelocFault;
 
+/// The most bytes of a site. Loops over so many turns are unrolled; those over a site's own width cost three times as much.
+const WIDEST: usize = 4;
+
 /// Whether no byte of a site is marked.
 fn is_clear(marks: &[bool], at: usize, width: usize) -> bool
-    requires { at + width ≤ length marks.now }
+    requires inside { at + width ≤ length marks.now }
+    requires narrow { width ≤ 4 }
     ensures clear { result ≡ true → (b : ℕ) → at ≤ b → b < at + width → slice_index_or marks.now b false ≡ false }
     ensures taken { result ≡ false → (b : ℕ) × (at ≤ b) × (b < at + width) × (slice_index_or marks.now b false ≡ true) }
 {
-    for b in at..at + width {
-        if marks[b] {
+    for i in 0..WIDEST {
+        if i < width && marks[at + i] {
             return false;
         }
     }
@@ -21,11 +25,14 @@ fn is_clear(marks: &[bool], at: usize, width: usize) -> bool
 
 /// Marks the bytes of a site.
 fn mark(marks: &mut [bool], at: usize, width: usize)
-    requires { at + width ≤ length marks.old }
+    requires inside { at + width ≤ length marks.old }
+    requires narrow { width ≤ 4 }
     ensures { (b : ℕ) → slice_index_or marks.new b false ≡ (slice_index_or marks.old b false || (nat_le at b && nat_lt b (at + width))) }
 {
-    for b in at..at + width {
-        marks[b] = true;
+    for i in 0..WIDEST {
+        if i < width {
+            marks[at + i] = true;
+        }
     }
 }
 
@@ -33,6 +40,7 @@ fn mark(marks: &mut [bool], at: usize, width: usize)
 #[tactic(auto, unfolding(crate::specs::Check::site_at))]
 pub fn take(marks: &mut [bool], at: usize, width: usize) -> Result<(), RelocFault>
     requires wide { 0 < width }
+    requires narrow { width ≤ 4 }
     requires small { at + width < 2 ^ 32 }
     ensures own { IfErr result IsOfRecords }
     ensures inside { OnOk result (at + width ≤ length marks.old) }

@@ -2,11 +2,10 @@
 ghost use Rattle.std.specs.Prelude.{◌≡◌, ℕ, ◌<◌, ◌≤◌, ◌+◌, ◌^◌, length, List, take, drop, Some, Ok, Result, None, nat_lt, slice_index, IfOk, if◌then◌else◌};
 ghost use Rattle.w16_store.specs.Files.{file_of};
 ghost use Rattle.w16_ne.specs.Segments.{records_at};
-ghost use Rattle.w16_reloc.specs.Segments.{Answers, has_text_at, names_at};
+ghost use Rattle.w16_reloc.specs.Segments.{Answers, has_text_at};
 
 use crate::chain::word;
 use crate::fault::RelocFault;
-use byteorder::{ByteOrder, LittleEndian};
 use w16_store::{Store, StoreFault};
 
 /// Fills the buffer from an offset of the file on.
@@ -49,20 +48,6 @@ pub fn has_text<S: Store>(store: &mut S, name: &[u8], at: u64) -> Result<bool, R
         None => Ok(false),
         Some(len) => Ok(byte_at(store, name, at + u64::from(len))?.is_some()),
     }
-}
-
-/// Where the imported names begin in the file.
-pub fn names_at<S: Store>(store: &mut S, name: &[u8], header: &[u8]) -> Result<u64, RelocFault>
-    requires { length header.now ≡ 64 }
-    ensures files { S.files store.new ≡ S.files store.old }
-    ensures failures { S.failures store.old ≤ S.failures store.new }
-    ensures small { IfOk result (λ at. at < 2 ^ 33) }
-    ensures exact { (file : List ℕ) → S.is_honest → file_of (S.files store.old) name.now ≡ Some file → 64 ≤ length file
-        → Answers (λ at. at) (S.failures store.old) (S.failures store.new) result (Ok (names_at file header.now)) }
-{
-    let mut place = [0u8; 4];
-    read(store, name, 0x3c, &mut place)?;
-    Ok(u64::from(LittleEndian::read_u32(&place)) + u64::from(word(header, 0x2a)))
 }
 
 /// How many records stand behind the data that end at an offset, by their count there.

@@ -7,14 +7,13 @@ ghost use Rattle.w16_reloc.specs.Check.{AreMarks};
 ghost use Rattle.w16_reloc.specs.Segments.{Answers, checked};
 
 use crate::fault::RelocFault;
-use crate::reading::names_at;
 use crate::record::Record;
 use crate::records::{Offered, check_records};
 use crate::segment::read_segment;
 use std::alloc::{AllocError, Global};
 use std::marker::Model;
 use w16_ne::{Module, Segment};
-use w16_store::{Store, StoreFault};
+use w16_store::Store;
 
 /// The most bytes of data that a segment has, and the most records.
 const MOST_BYTES: usize = 65_536;
@@ -99,23 +98,17 @@ pub fn check<S: Store>(
     ensures files { S.files store.new ≡ S.files store.old }
     ensures failures { S.failures store.old ≤ S.failures store.new }
     ensures exact { (file : List ℕ) (s : Segment) → S.is_honest → file_of (S.files store.old) name.now ≡ Some file → tables_at (Some file) ≡ Ok module_file.now
-        → slice_get module_file.now.segments (segment - 1) ≡ Some s → s.len ≤ 65536
+        → slice_get module_file.now.segments (segment - 1) ≡ Some s
         → Answers (λ _. scratch.new) (S.failures store.old) (S.failures store.new) result (checked file module_file.now s) }
 {
     let found = module_file.segment(segment);
-    if found.len as usize > MOST_BYTES {
-        return Err(RelocFault::Store(StoreFault::Short));
-    }
     let count = read_segment(store, name, &found, &mut scratch.bytes, &mut scratch.table)?;
     scratch.records.clear();
     clear_marks(&mut scratch.marks, found.len as usize);
-    if count == 0 {
-        return Ok(());
-    }
     let offered = Offered {
         segments: module_file.segment_count(),
         references: module_file.reference_count(),
-        names: names_at(store, name, module_file.header())?,
+        names: module_file.imported_names(),
     };
     check_records(
         store,

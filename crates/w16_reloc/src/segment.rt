@@ -101,5 +101,5 @@ pub fn read_segment<S: Store>(
         table.clear();
         return Ok(0);
     }
-    read_table(store, name, segment.flags, end, table)
+    read_table(store, name, segment.flags.0, end, table)
 }

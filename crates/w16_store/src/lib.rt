@@ -17,6 +17,3 @@ pub use memory::MemStore;
 pub use name::is_named;
 pub use store::{Store, StoreFault};
 pub use system::SystemDisk;
-
-#[cfg(test)]
-mod tests;

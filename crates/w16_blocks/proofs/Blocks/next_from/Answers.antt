@@ -7,11 +7,7 @@ use Rattle.w16_model.specs.Gap.{holes}
 use Rattle.w16_holes.specs.Holes.{Range, IsPlace, length_at}
 use Rattle.w16_blocks.specs.Layout.{Layout, rank}
 use Rattle.w16_blocks.specs.Kept.{no_block, blocks_in}
-<<<<<<< ours
-use Rattle.w16_blocks.proofs.Next.{first_by_unit, pass, first_here, none_past, clear_in, units_below, units_above, unit_place}
-=======
-use Rattle.w16_blocks.proofs.Next.{first_by_unit, pass, first_here, clear_in, units_below, units_above}
->>>>>>> theirs
+use Rattle.w16_blocks.proofs.Next.{first_by_unit, pass, first_here, clear_in, units_below, units_above, unit_place}
 use Rattle.w16_blocks.proofs.Blocks.next_from.Goals as goal
 
 pub loop-unit-init : goal.loop-unit-init

@@ -2,6 +2,7 @@ use Rattle.std.proofs.Common.{◌≡◌, ◌∙◌, [], drop, refl}
 use Rattle.std.proofs.Math.ListN.{drop_of_length-le}
 use Rattle.w16_reloc.specs.Images.{byte, patches}
 use Rattle.w16_reloc.specs.Apply.{over_each}
+use Rattle.w16_reloc.proofs.ApartLemmas.{sound_steps}
 use Rattle.w16_reloc.proofs.ImageLemmas.{open_next, open_done, written_image}
 use Rattle.w16_reloc.proofs.image.apply.Goals as goal
 
@@ -20,7 +21,7 @@ returns c = λ file named sound fits begun.
       named = named;
       room = fits;
       names = sound.0;
-      sound = sound.1;
+      sound = sound_steps file c.args.records.now named sound.0 sound.1;
       outside = λ o clear. begun o;
       each = λ o. refl;
     }) in

@@ -1,9 +1,10 @@
 use Rattle.std.proofs.Common.{[], length}
 use Rattle.w16_reloc.specs.Sound.{all_sites}
 use Rattle.w16_reloc.specs.Images.{byte, patches}
+use Rattle.w16_reloc.proofs.ApartLemmas.{sound_steps}
 use Rattle.w16_reloc.proofs.ImageLemmas.{image_is, fit_all}
 use Rattle.w16_reloc.proofs.laws.writes_the_image.Goals as goal
 
 pub returns : goal.returns
 returns c = λ file records values named o many sound.
-    image_is (length file) (patches file records values named) (all_sites records named) [] (byte file) o (fit_all file records values named many sound.0) sound.1
+    image_is (length file) (patches file records values named) (all_sites records named) [] (byte file) o (fit_all file records values named many sound.0) (sound_steps file records named sound.0 sound.1)

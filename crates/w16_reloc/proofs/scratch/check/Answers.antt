@@ -1,8 +1,8 @@
-use Rattle.std.proofs.Common.{◌≡◌, ◌-◌, ◌∙◌, Some, Option, sym, arith}
+use Rattle.std.proofs.Common.{◌≡◌, ◌-◌, Some, Option, sym, arith}
 use Rattle.std.proofs.lemmas.Result.{err_from_is_err_and}
 use Rattle.w16_ne.specs.declared.segment_table.Segment.{Segment}
 use Rattle.w16_reloc.specs.Segments.{checked}
-use Rattle.w16_reloc.proofs.Refusals.{fails_on, never, ok_same, checked_none, checked_told}
+use Rattle.w16_reloc.proofs.Refusals.{fails_on, never, ok_same, checked_told}
 use Rattle.w16_reloc.proofs.FileLemmas.{module_lies}
 use Rattle.w16_reloc.proofs.scratch.check.Goals as goal
 
@@ -10,33 +10,18 @@ some_same : (x y : Segment) (o : Option Segment) → o ≡ Some x → o ≡ Some
 some_same x y o a b = cc
 
 pub returns-in_err-count-clause-exact : goal.returns-in_err-count-clause-exact
-returns-in_err-count-clause-exact g c = λ file s honest has tables found small.
+returns-in_err-count-clause-exact g c = λ file s honest has tables found.
     let p = err_from_is_err_and c.from_residual.result c.from_residual.ensures.1 in
-    let lies = module_lies file c.args.module_file.now (c.args.segment - 1) c.segment-found.result tables c.segment-found.ensures in
-    let said = c.in_err-count.ensures.exact file honest has lies.1 in
+    let lies = module_lies file c.args.module_file.now (c.args.segment - 1) c.segment-found.result tables c.segment-found.ensures.found in
+    let said = c.in_err-count.ensures.exact file honest has lies in
     rw (p.1, p.2) (fails_on _ _ _ c.in_err-count.field-0.0 _ (checked file c.args.module_file.now s) (omega arith) said (never _ _ _))
 
-pub returns-then-count-eq0-clause-exact : goal.returns-then-count-eq0-clause-exact
-returns-then-count-eq0-clause-exact g c = λ file s honest has tables found small.
-    let same = some_same c.segment-found.result s _ c.segment-found.ensures found in
-    let lies = module_lies file c.args.module_file.now (c.args.segment - 1) c.segment-found.result tables c.segment-found.ensures in
-    let many = ok_same _ _ (c.in_ok-count.ensures.exact file honest has lies.1) in
-    rw (← same) (checked_none file c.args.module_file.now c.segment-found.result _ _ (many ∙ c.if-count-eq0.true) (c.in_ok-count.ensures.held file honest has lies.1).0 c.clear.ensures.items)
-
-pub returns-in_err-names_at-clause-exact : goal.returns-in_err-names_at-clause-exact
-returns-in_err-names_at-clause-exact g c = λ file s honest has tables found small.
-    let p = err_from_is_err_and c.from_residual-in_err-names_at.result c.from_residual-in_err-names_at.ensures.1 in
-    let lies = module_lies file c.args.module_file.now (c.args.segment - 1) c.segment-found.result tables c.segment-found.ensures in
-    let said = c.in_err-names_at.ensures.exact file honest (rw c.in_ok-count.ensures.files has) lies.0 in
-    rw (p.1, p.2) (fails_on _ _ _ c.in_err-names_at.field-0.0 _ (checked file c.args.module_file.now s) c.in_ok-count.ensures.failures said (never _ _ _))
-
 pub returns-clause-exact : goal.returns-clause-exact
-returns-clause-exact g c = λ file s honest has tables found small.
-    let same = some_same c.segment-found.result s _ c.segment-found.ensures found in
-    let lies = module_lies file c.args.module_file.now (c.args.segment - 1) c.segment-found.result tables c.segment-found.ensures in
-    let many = ok_same _ _ (c.in_ok-count.ensures.exact file honest has lies.1) in
-    let held = c.in_ok-count.ensures.held file honest has lies.1 in
-    let names = ok_same _ _ (c.in_ok-names_at.ensures.exact file honest (rw c.in_ok-count.ensures.files has) lies.0) in
-    let said = c.check_records.ensures.exact file honest (rw (c.in_ok-names_at.ensures.files, c.in_ok-count.ensures.files) has) (rw c.as_mut_slice.ensures.value c.clear_marks.ensures.clear) in
-    let offered = rw (← names, c.header.ensures, c.segment_count.ensures, c.reference_count.ensures, c.as_slice.ensures.value, c.as_slice-2.ensures.value) at said in
-    rw (← same) (checked_told file c.args.module_file.now c.segment-found.result c.check_records.result _ _ _ _ _ _ _ (omega (arith, c.in_ok-count.ensures.failures, c.in_ok-names_at.ensures.failures)) held.0 held.1 (sym many) offered)
+returns-clause-exact g c = λ file s honest has tables found.
+    let same = some_same c.segment-found.result s _ c.segment-found.ensures.found found in
+    let lies = module_lies file c.args.module_file.now (c.args.segment - 1) c.segment-found.result tables c.segment-found.ensures.found in
+    let many = ok_same _ _ (c.in_ok-count.ensures.exact file honest has lies) in
+    let held = c.in_ok-count.ensures.held file honest has lies in
+    let said = c.check_records.ensures.exact file honest (rw c.in_ok-count.ensures.files has) (rw c.as_mut_slice.ensures.value c.clear_marks.ensures.clear) in
+    let offered = rw (c.imported_names.ensures.place, c.segment_count.ensures, c.reference_count.ensures, c.as_slice.ensures.value, c.as_slice-2.ensures.value) at said in
+    rw (← same) (checked_told file c.args.module_file.now c.segment-found.result c.check_records.result _ _ _ _ _ _ _ (omega (arith, c.in_ok-count.ensures.failures)) held.0 held.1 (sym many) offered)

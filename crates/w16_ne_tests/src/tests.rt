@@ -1,8 +1,8 @@
 //! Sample files, whole, cut and changed.
-use crate::{Entry, Module, NeFault, ResourceName, read_module};
 use std::alloc::{AllocError, Global};
 use std::process::Abort;
 use std::test::Fail;
+use w16_ne::{Entry, Module, NeFault, ResourceName, read_module};
 use w16_store::{FuseStore, MemStore, Store, StoreFault};
 
 mod answers;

@@ -1,7 +1,7 @@
 //! Each part of a far pointer, stored over a chain and added at one site.
 use super::bytes_of;
-use crate::{Far, Fixup, Part, Record, Target, apply};
 use std::test::Fail;
+use w16_reloc::{Far, Fixup, Part, Record, Target, apply};
 
 const TARGET: Target = Target::Entry { ordinal: 1 };
 

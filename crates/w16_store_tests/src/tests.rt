@@ -1,7 +1,7 @@
 //! One suite of checks for every store, and what each of them does beside it.
-use crate::{FuseStore, MemStore, Store, StoreFault};
 use std::process::Abort;
 use std::test::Fail;
+use w16_store::{FuseStore, MemStore, Store, StoreFault};
 
 mod folders;
 

@@ -1,5 +1,5 @@
 //! The sample files, and what is to come of them, from outside this program.
-use crate::{Far, RelocFault};
+use w16_reloc::{Far, RelocFault};
 
 const EMPTY_HEADER: &str = "4d5a0000000000000000000000000000";
 

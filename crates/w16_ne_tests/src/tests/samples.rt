@@ -1,10 +1,10 @@
 //! The sample files, whole.
 use super::answers::{TAPP, TLIB, TRES};
 use super::{bytes_of, read};
-use crate::{Entry, ResourceName, Segment, SegmentFlags};
 use bitflags::Flags;
 use std::process::Abort;
 use std::test::Fail;
+use w16_ne::{Entry, ResourceName, Segment, SegmentFlags};
 
 #[test]
 fn a_library(rt: HostRuntime) -> Result<(), Fail> {
@@ -31,6 +31,15 @@ fn a_library(rt: HostRuntime) -> Result<(), Fail> {
     };
     assert!(rt; module.segment(1) == first);
     assert!(rt; module.segment(2) == second);
+    assert_eq!(rt; module.reference_count(), 0);
+    assert_eq!(rt; module.resource_count(), 0);
+    Ok(())
+}
+
+#[test]
+fn entries_of_a_library(rt: HostRuntime) -> Result<(), Fail> {
+    let bytes = bytes_of(rt.alloc(), &TLIB)?;
+    let module = read(rt.alloc(), bytes.as_slice())?;
     assert_eq!(rt; module.entry_count(), 2);
     assert!(rt; module.entry(0) == None);
     assert!(rt;
@@ -51,8 +60,6 @@ fn a_library(rt: HostRuntime) -> Result<(), Fail> {
     assert_eq!(rt; module.ordinal_of(b"GETA"), 1);
     assert_eq!(rt; module.ordinal_of(b"getB"), 2);
     assert_eq!(rt; module.ordinal_of(b"TLIB"), 0);
-    assert_eq!(rt; module.reference_count(), 0);
-    assert_eq!(rt; module.resource_count(), 0);
     Ok(())
 }
 
@@ -74,6 +81,7 @@ fn an_application(rt: HostRuntime) -> Result<(), Fail> {
     assert_eq!(rt; module.entry_count(), 0);
     assert_eq!(rt; module.reference_count(), 1);
     assert!(rt; module.reference(1) == b"TLIB".as_slice());
+    assert_eq!(rt; module.imported_names(), 0x92);
     Ok(())
 }
 

@@ -1,12 +1,12 @@
 //! Folders of the system, and disks that lie.
 use super::{FILES, check_store, read};
-use crate::{DirFault, DirStore, Disk, DiskFailure, Store, StoreFault, SystemDisk};
 use std::alloc::{AllocError, Allocator, Global};
 use std::fs::{Metadata, OpenOptions};
 use std::io::Cursor;
 use std::rt::Files;
 use std::test::Fail;
 use std::{fs, io};
+use w16_store::{DirFault, DirStore, Disk, DiskFailure, Store, StoreFault, SystemDisk};
 
 /// A folder of its own for a test, with the files under test, beside what is no file.
 fn folder(rt: &HostRuntime, path: &str) -> Result<(), Fail> {

@@ -1,10 +1,10 @@
 //! Every proper prefix of each sample, and each byte of it changed, against answers that were worked out apart from the code.
 use super::{answers, bytes_of, read, read_changed};
-use crate::{Entry, Module, NeFault, ResourceName};
 use bitflags::Flags;
 use std::alloc::Global;
 use std::process::Abort;
 use std::test::Fail;
+use w16_ne::{Entry, Module, NeFault, ResourceName};
 
 const PROBES: [&str; 7] = ["GETA", "getb", "TLIB", "TAPP", "TRES", "T", ""];
 
@@ -94,6 +94,7 @@ fn sum_of(module: &Module) -> u64 {
     for i in 0..module.reference_count() {
         sum.add_text(module.reference(i + 1));
     }
+    sum.add(module.imported_names());
     sum.add_segments(module);
     sum.add_entries(module);
     sum.add_resources(module);

@@ -181,6 +181,7 @@ def tables(data):
     said = [*data[ne:ne + 64]]
     for text in [resident[0][0], others[0][0] if others else b"", *refs]:
         said += [len(text), *text]
+    said.append(ne + field(0x2A))
     for row in segs + ents + res:
         said += row
     said += [len(segs), len(refs), len(ents), len(res)]

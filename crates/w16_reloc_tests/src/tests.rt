@@ -1,12 +1,13 @@
 //! Sample files, as they are and with a byte changed, and small segments.
-use crate::{Far, RelocFault, Scratch, apply, check};
 use std::alloc::Global;
 use std::process::Abort;
 use std::test::Fail;
 use w16_ne::read_module;
+use w16_reloc::{Far, RelocFault, Scratch, apply, check};
 use w16_store::{FuseStore, MemStore, Store, StoreFault};
 
 mod answers;
+mod liars;
 mod parts;
 mod samples;
 

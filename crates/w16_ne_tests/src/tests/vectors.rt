@@ -1,9 +1,9 @@
 //! Single changes whose fault is known, and stores that have no file or fail.
 use super::answers::{TLIB, TRES};
 use super::{bytes_of, read, read_changed};
-use crate::{NeFault, read_module};
 use std::process::Abort;
 use std::test::Fail;
+use w16_ne::{NeFault, read_module};
 use w16_store::{FuseStore, MemStore, StoreFault};
 
 #[test]

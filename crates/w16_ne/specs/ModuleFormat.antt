@@ -1,0 +1,43 @@
+-- A module's file as a whole, in which nothing is read: where each table lies that the module has.
+use Rattle.std.specs.Prelude.{◌≡◌, ◌<◌, ◌≤◌, ℕ, ◌+◌, ◌++◌, List, drop, length, take}
+use Rattle.w16_ne.specs.Header.{shift_of, entry_table, entry_length, segment_count, segment_table, resident_names, reference_count, reference_table, imported_names, nonresident_length, nonresident_names}
+use Rattle.w16_ne.specs.Names.{Entry, distinct}
+use Rattle.w16_ne.specs.Modules.{Tables, first_text}
+use Rattle.w16_ne.specs.HeaderFormat.{IsOldHeader, IsHeader, IsAccepted}
+use Rattle.w16_ne.specs.NamesFormat.{AreNames, AreListed}
+use Rattle.w16_ne.specs.SegmentsFormat.{IsSegmentTable}
+use Rattle.w16_ne.specs.ReferencesFormat.{IsReferenceTable}
+use Rattle.w16_ne.specs.EntriesFormat.{IsEntryTable}
+use Rattle.w16_ne.specs.ResourcesFormat.{HasResources}
+
+-- so many bytes of a file at an offset, and that they are there; none are nowhere
+abbrev pub part : List ℕ → ℕ → ℕ → List ℕ
+part file at len = take len (drop at file)
+
+abbrev pub IsPart : List ℕ → ℕ → ℕ → Type 0
+IsPart file at len = 0 < len → at + len ≤ length file
+
+-- The first resident name is the module's, and there is one; the first nonresident name is its description. The others are names of entries,
+-- of which the first of equal ones counts.
+pub record AreNamed (t : Tables) (resident nonresident : List Entry) : Type 0 where
+  pub some : 0 < length resident
+  pub name : t.name ≡ first_text resident
+  pub description : t.description ≡ first_text nonresident
+  pub names : t.names ≡ distinct (drop 1 resident ++ drop 1 nonresident)
+
+-- These are the tables of the file: it has such headers, and each table lies where the header says.
+pub record IsModule (file : List ℕ) (t : Tables) : Type 0 where
+  pub old : IsOldHeader file t.place
+  pub header : IsHeader file t.place t.header
+  pub accepted : IsAccepted t.header
+  pub segments : IsSegmentTable file (shift_of t.header) (t.place + segment_table t.header) (segment_count t.header) t.segments
+  pub resident : List Entry
+  pub nonresident : List Entry
+  pub resident_are : AreNames file (t.place + resident_names t.header) resident
+  pub references : IsReferenceTable file (t.place + imported_names t.header) (t.place + reference_table t.header) (reference_count t.header) t.references
+  pub entries_part : IsPart file (t.place + entry_table t.header) (entry_length t.header)
+  pub entries : IsEntryTable (part file (t.place + entry_table t.header) (entry_length t.header)) (segment_count t.header) t.entries
+  pub nonresident_part : IsPart file (nonresident_names t.header) (nonresident_length t.header)
+  pub nonresident_are : AreListed (part file (nonresident_names t.header) (nonresident_length t.header)) 0 nonresident
+  pub resources : HasResources file t.place t.header t.resources
+  pub named : AreNamed t resident nonresident
