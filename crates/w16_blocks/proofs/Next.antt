@@ -1,5 +1,5 @@
 -- The first block from a place on, by the cells from a unit on.
-use Rattle.std.proofs.Common.{ℕ, zero, suc, ◌≡◌, ◌+◌, ◌-◌, ◌*◌, ◌/◌, ◌<◌, ◌≤◌, ◌⊎◌, max, List, [], ◌∷◌, drop, Some, arith, refl, ap, ◌∙◌, inl, inr}
+use Rattle.std.proofs.Common.{ℕ, zero, suc, ◌≡◌, ◌+◌, ◌-◌, ◌*◌, ◌/◌, ◌<◌, ◌≤◌, ◌⊎◌, max, List, [], ◌∷◌, length, drop, Some, None, arith, refl, ap, ◌∙◌, inl, inr}
 use Rattle.std.specs.Prelude.{slice_index, slice_get}
 use Rattle.std.proofs.lemmas.Bool.{cases_lt, lt-ltb, le-ltb}
 use Rattle.std.proofs.lemmas.Bool.Decides.{eqb_tells}
@@ -60,6 +60,12 @@ first_here slots [] u id e = absurd (omega arith)
 first_here slots (zero ∷ cells) zero id e = absurd (omega arith)
 first_here slots (suc j ∷ cells) zero id e = let same : j ≡ id = omega arith in ap (λ (i : ℕ). Some (slot_of slots i)) same
 first_here slots (c ∷ cells) (suc u) id e = first_here slots cells u id e
+
+pub none_past : (slots : List Block) (cells : List ℕ) (u : ℕ) → length cells ≤ u → slice_get (blocks_in slots (drop u cells)) 0 ≡ None
+none_past slots [] zero le = refl
+none_past slots [] (suc u) le = refl
+none_past slots (c ∷ cells) zero le = absurd (omega arith)
+none_past slots (c ∷ cells) (suc u) le = none_past slots cells u (omega arith)
 
 -- each byte of the hole that begins at a place is free
 length_free : (a p : ℕ) (hs : List Span) → a ≤ p → p < a + length_at a hs → IsIn p hs

@@ -7,7 +7,7 @@ use Rattle.w16_model.specs.Gap.{holes}
 use Rattle.w16_holes.specs.Holes.{Range, IsPlace, length_at}
 use Rattle.w16_blocks.specs.Layout.{Layout, rank}
 use Rattle.w16_blocks.specs.Kept.{no_block, blocks_in}
-use Rattle.w16_blocks.proofs.Next.{first_by_unit, pass, first_here, clear_in, units_below, units_above, unit_place}
+use Rattle.w16_blocks.proofs.Next.{first_by_unit, pass, first_here, none_past, clear_in, units_below, units_above, unit_place}
 use Rattle.w16_blocks.proofs.Blocks.next_from.Goals as goal
 
 pub loop-unit-init : goal.loop-unit-init
@@ -39,6 +39,9 @@ at-hole-requires-clause-place g c =
     subst (λ (r : Range). IsPlace r (s.lo + c.loop-unit.unit * s.grain)) (sym c.self.invariant.ranged)
     (unit_place c.self.invariant.tables c.loop-unit.unit (omega arith))
 
+pub loop-unit-smaller : goal.loop-unit-smaller
+loop-unit-smaller g c = let lt = c.loop-unit-test.true in let many = c.self.inside.begins.ok.0 in let step = c.max.ensures in omega arith
+
 pub loop-unit-preserved : goal.loop-unit-preserved
 loop-unit-preserved g c =
     let s = c.self.inside in let lt = c.loop-unit-test.true in let many = s.begins.ok.0 in
@@ -48,3 +51,8 @@ loop-unit-preserved g c =
     let hole : c.at-hole.result ≡ length_at (s.lo + s.grain * c.loop-unit.unit) (holes s.lo s.hi (blocks_in s.slots.items s.begins.items)) = c.at-hole.ensures ∙ ap (length_at (s.lo + c.loop-unit.unit * s.grain)) c.self.invariant.between ∙ ap (λ (a : ℕ). length_at a (holes s.lo s.hi (blocks_in s.slots.items s.begins.items))) place in
     let clear = clear_in s.slots.len s.lo s.hi s.grain s.slots.items s.begins.items c.self.invariant.tables c.loop-unit.unit c.at-hole.result none hole in
     c.loop-unit.invariant ∙ ap (λ (bs : List Block). slice_get bs 0) (pass s.slots.items s.begins.items c.loop-unit.unit c.max.result (λ k from to. clear k from (let step = c.max.ensures in omega arith)))
+
+pub returns-clause-value : goal.returns-clause-value
+returns-clause-value g c =
+    let s = c.self.inside in let past = c.loop-unit-test.false in let many = s.begins.ok.0 in
+    sym (c.loop-unit.invariant ∙ none_past s.slots.items s.begins.items c.loop-unit.unit (omega arith))
