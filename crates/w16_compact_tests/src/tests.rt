@@ -10,6 +10,7 @@ use std::process::Abort;
 use std::test::Fail;
 use w16_blocks::{Block, Blocks, Hold, Span};
 use w16_compact::{Gap, gap_for, gather, room};
+use w16_holes::SideHoles;
 use w16_model::Snapshot;
 use w16_region::{Region, Space, Window};
 
@@ -253,20 +254,31 @@ const CASES: &[Case] = &[
     },
 ];
 
+/// The blocks by address, in a list.
+fn listed<S: Space>(
+    alloc: Global,
+    blocks: &Blocks<SideHoles>,
+    space: &S,
+) -> Result<Vec<Block>, AllocError>
+    ensures { IfOk result (λ list. list.items ≡ blocks.now.blocks) }
+{
+    blocks.by_address(space).collect(alloc)
+}
+
 /// Whether a block may be added to others at multiples of 32.
-fn fits(blocks: &Blocks, block: &Block) -> bool
-    requires { blocks.now.grain ≡ 32 }
+fn fits(blocks: &Blocks<SideHoles>, others: &[Block], block: &Block) -> bool
+    requires grain { blocks.now.grain ≡ 32 }
+    requires others { others.now ≡ blocks.now.blocks }
     ensures { IsTrue result → Fits blocks.now block.now }
 {
     if !is_inside(blocks, block) || !is_grained(block.at) || !is_grained(block.size) {
         return false;
     }
-    let others = blocks.as_slice();
     others.iter().all(|other| is_apart(block, other))
 }
 
 /// Whether a block has bytes, inside the bounds, and its id is one.
-fn is_inside(blocks: &Blocks, block: &Block) -> bool
+fn is_inside(blocks: &Blocks<SideHoles>, block: &Block) -> bool
     ensures id { IsTrue result → block.now.id < blocks.now.cap }
     ensures inside { IsTrue result → (blocks.now.lo ≤ block.now.at) × (0 < block.now.size)
         × (block_end block.now ≤ blocks.now.hi) }
@@ -296,33 +308,42 @@ fn is_grained(n: u32) -> bool
 }
 
 /// The blocks of a heap.
-fn laid_out(rt: &impl Abort, alloc: Global, heap: Snapshot) -> Result<Blocks, AllocError>
+fn laid_out<S: Space>(
+    rt: &impl Abort,
+    alloc: Global,
+    heap: Snapshot,
+    space: &mut S,
+) -> Result<Blocks<SideHoles>, AllocError>
     ensures grain { IfOk result (λ blocks. blocks.grain ≡ 32) }
     ensures ids { IfOk result (λ blocks. blocks.cap ≡ IDS) }
 {
     assert!(rt; heap.lo <= heap.hi && is_grained(heap.lo));
-    let mut blocks = Blocks::with_room(alloc, IDS, heap.lo, heap.hi, 32)?;
+    let holes = SideHoles::new(alloc, heap.lo, heap.hi, 32)?;
+    let mut blocks = Blocks::with_room(alloc, IDS, holes, heap.lo, heap.hi, 32)?;
     for block in heap.blocks {
-        assert!(rt; fits(&blocks, block));
-        blocks.insert(*block);
+        let others = listed(alloc, &blocks, space)?;
+        assert!(rt; fits(&blocks, &others, block));
+        blocks.insert(space, *block);
     }
     Ok(blocks)
 }
 
 /// Gives each block bytes that are its id.
-fn mark<S: Space>(rt: &impl Abort, blocks: &Blocks, space: &mut S)
+fn mark<S: Space>(rt: &impl Abort, blocks: &Blocks<SideHoles>, space: &mut S)
     ensures { length (S.bytes space.new) ≡ length (S.bytes space.old) }
 {
-    for block in blocks.as_slice() {
-        let end = u64::from(block.at) + u64::from(block.size);
-        assert!(rt; end <= u64::from(space.len()) && block.id < IDS);
-        space.fill(block.at, block.size, block.id as u8);
+    for id in 0..blocks.cap() {
+        if let Some(block) = blocks.find(id) {
+            let end = u64::from(block.at) + u64::from(block.size);
+            assert!(rt; end <= u64::from(space.len()) && id < IDS);
+            space.fill(block.at, block.size, id as u8);
+        }
     }
 }
 
 /// Each block has the bytes that are its id.
-fn expect_marks<S: Space>(rt: &impl Abort, name: &str, blocks: &Blocks, space: &S) {
-    for block in blocks.as_slice() {
+fn expect_marks<S: Space>(rt: &impl Abort, name: &str, blocks: &Blocks<SideHoles>, space: &S) {
+    for block in blocks.by_address(space) {
         let end = u64::from(block.at) + u64::from(block.size);
         assert!(rt; end <= u64::from(space.len()));
         let bytes = space.view(block.at, block.size);
@@ -334,14 +355,19 @@ fn expect_marks<S: Space>(rt: &impl Abort, name: &str, blocks: &Blocks, space: &
 }
 
 /// Gathers the gap that has room, and tells how many bytes were moved.
-fn compacts<S: Space>(rt: &impl Abort, case: &Case, blocks: &mut Blocks, space: &mut S) -> u64
+fn compacts<S: Space>(
+    rt: &impl Abort,
+    case: &Case,
+    blocks: &mut Blocks<SideHoles>,
+    space: &mut S,
+) -> u64
     ensures { blocks.new.grain ≡ blocks.old.grain }
 {
     let name = case.name;
     let (size, expected) = case.asked;
     assert!(rt; 0 < size && blocks.bounds().to <= space.len());
     mark(rt, blocks, space);
-    let found = gap_for(blocks, size);
+    let found = gap_for(blocks, space, size);
     assert_eq!(rt; found, expected, "{name}: gap");
     let before = space.written();
     let moved = match found {
@@ -354,7 +380,7 @@ fn compacts<S: Space>(rt: &impl Abort, case: &Case, blocks: &mut Blocks, space: 
         "{name}: count"
     );
     expect_marks(rt, name, blocks, space);
-    let places = blocks.as_slice().iter().map(|block| (block.id, block.at));
+    let places = blocks.by_address(space).map(|block| (block.id, block.at));
     assert!(rt; places.eq(case.places.iter().copied()), "{name}: places");
     moved
 }
@@ -362,8 +388,8 @@ fn compacts<S: Space>(rt: &impl Abort, case: &Case, blocks: &mut Blocks, space: 
 #[test]
 fn gathers_in_a_region(rt: HostRuntime) -> Result<(), Fail> {
     for case in CASES {
-        let mut blocks = laid_out(&rt, rt.alloc(), case.heap())?;
         let mut region = Region::new(rt.alloc(), case.hi)?;
+        let mut blocks = laid_out(&rt, rt.alloc(), case.heap(), &mut region)?;
         let moved = compacts(&rt, case, &mut blocks, &mut region);
         assert_eq!(rt; moved, case.moved, "{}: moved", case.name);
     }
@@ -373,9 +399,9 @@ fn gathers_in_a_region(rt: HostRuntime) -> Result<(), Fail> {
 #[test]
 fn gathers_in_a_window(rt: HostRuntime) -> Result<(), Fail> {
     for case in CASES {
-        let mut blocks = laid_out(&rt, rt.alloc(), case.heap())?;
         let mut bytes = vec![in rt.alloc(); 0; case.hi as usize]?;
         let mut window = Window::new(&mut bytes);
+        let mut blocks = laid_out(&rt, rt.alloc(), case.heap(), &mut window)?;
         let moved = compacts(&rt, case, &mut blocks, &mut window);
         assert_eq!(rt; moved, case.moved, "{}: moved", case.name);
     }
@@ -383,17 +409,15 @@ fn gathers_in_a_window(rt: HostRuntime) -> Result<(), Fail> {
 }
 
 /// Whether blocks may be gathered between two addresses.
-fn may_gather(blocks: &Blocks, low: u32, high: u32) -> bool
+fn may_gather(blocks: &Blocks<SideHoles>, list: &[Block], low: u32, high: u32) -> bool
+    requires { list.now ≡ blocks.now.blocks }
     ensures { IsTrue result → MayGather blocks.now low high }
 {
     let bounds = blocks.bounds();
     bounds.from <= low
         && low <= high
         && high <= bounds.to
-        && blocks
-            .as_slice()
-            .iter()
-            .all(|block| fits_gap(block, low, high))
+        && list.iter().all(|block| fits_gap(block, low, high))
 }
 
 /// Whether a block lies outside a gap, or inside and may slide.
@@ -427,14 +451,15 @@ const FULL: Case = Case {
 
 #[test]
 fn leaves_a_full_gap(rt: HostRuntime) -> Result<(), Fail> {
-    let mut blocks = laid_out(&rt, rt.alloc(), FULL.heap())?;
     let mut region = Region::new(rt.alloc(), FULL.hi)?;
+    let mut blocks = laid_out(&rt, rt.alloc(), FULL.heap(), &mut region)?;
     compacts(&rt, &FULL, &mut blocks, &mut region);
     let before = region.written();
-    assert!(rt; may_gather(&blocks, 32, 128) && blocks.bounds().to <= region.len());
+    let list = listed(rt.alloc(), &blocks, &region)?;
+    assert!(rt; may_gather(&blocks, &list, 32, 128) && blocks.bounds().to <= region.len());
     assert_eq!(rt; gather(&mut blocks, &mut region, 32, 128), 0);
     assert_eq!(rt; region.written(), before);
-    let places = blocks.as_slice().iter().map(|block| (block.id, block.at));
+    let places = blocks.by_address(&region).map(|block| (block.id, block.at));
     assert!(rt; places.eq(FULL.places.iter().copied()));
     Ok(())
 }
@@ -443,11 +468,12 @@ fn leaves_a_full_gap(rt: HostRuntime) -> Result<(), Fail> {
 fn leaves_one_hole(rt: HostRuntime) -> Result<(), Fail> {
     for case in CASES {
         let name = case.name;
-        let mut blocks = laid_out(&rt, rt.alloc(), case.heap())?;
         let mut region = Region::new(rt.alloc(), case.hi)?;
+        let mut blocks = laid_out(&rt, rt.alloc(), case.heap(), &mut region)?;
         compacts(&rt, case, &mut blocks, &mut region);
+        let left = listed(rt.alloc(), &blocks, &region)?;
         let after = Snapshot {
-            blocks: blocks.as_slice(),
+            blocks: &left,
             ..case.heap()
         };
         assert!(rt; after.is_placed(), "{name}");
@@ -464,13 +490,18 @@ fn leaves_one_hole(rt: HostRuntime) -> Result<(), Fail> {
 fn measures_room(rt: HostRuntime) -> Result<(), Fail> {
     for case in CASES {
         let name = case.name;
-        let blocks = laid_out(&rt, rt.alloc(), case.heap())?;
+        let mut region = Region::new(rt.alloc(), case.hi)?;
+        let blocks = laid_out(&rt, rt.alloc(), case.heap(), &mut region)?;
         assert_eq!(rt;
             room_of(&rt, case, case.blocks),
             case.room,
             "{name}: plain room"
         );
-        assert_eq!(rt; room_beside(&rt, &blocks, &NONE), case.room, "{name}: room");
+        assert_eq!(rt;
+            room_beside(&rt, &blocks, &region, &NONE),
+            case.room,
+            "{name}: room"
+        );
         let (skip, left) = case.skipped;
         let mut kept = Vec::new(rt.alloc());
         for block in case.blocks {
@@ -485,7 +516,7 @@ fn measures_room(rt: HostRuntime) -> Result<(), Fail> {
             "{name}: plain room without"
         );
         assert_eq!(rt;
-            room_beside(&rt, &blocks, skip),
+            room_beside(&rt, &blocks, &region, skip),
             left,
             "{name}: room without"
         );
@@ -504,7 +535,12 @@ fn room_of(rt: &impl Abort, case: &Case, blocks: &[Block]) -> u32 {
 }
 
 /// The room beside what isn't marked.
-fn room_beside(rt: &impl Abort, blocks: &Blocks, skip: &[bool]) -> u32 {
+fn room_beside<S: Space>(
+    rt: &impl Abort,
+    blocks: &Blocks<SideHoles>,
+    space: &S,
+    skip: &[bool],
+) -> u32 {
     assert!(rt; blocks.cap() as usize <= skip.len());
-    room(blocks, skip)
+    room(blocks, space, skip)
 }

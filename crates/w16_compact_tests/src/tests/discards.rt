@@ -5,10 +5,12 @@ use super::{IDS, laid_out};
 use std::alloc::{AllocError, Global};
 use std::process::Abort;
 use std::test::Fail;
-use w16_blocks::{Block, Hold};
+use w16_blocks::{Block, Blocks, Hold};
 use w16_compact::least_prefix;
+use w16_holes::SideHoles;
 use w16_lru::Order;
 use w16_model::Snapshot;
+use w16_region::{Region, Space};
 
 /// A heap with an order of use, and how many discards make room there.
 struct Discards {
@@ -281,20 +283,37 @@ fn in_order(rt: &impl Abort, alloc: Global, ids: &[u32]) -> Result<Order, AllocE
     Ok(order)
 }
 
+/// The least number of discards for a request, which is about an id that there is, or about none.
+fn least<S: Space>(
+    rt: &impl Abort,
+    blocks: &Blocks<SideHoles>,
+    space: &S,
+    order: &Order,
+    marks: &mut [bool; 8],
+    about: Option<u32>,
+    size: u32,
+) -> Option<usize>
+    requires blocks { blocks.now.cap ≡ IDS }
+    requires order { order.now.cap ≡ IDS }
+{
+    assert!(rt; about.is_none_or(|id| id < IDS));
+    least_prefix(blocks, space, order, marks, about, size)
+}
+
 #[test]
 fn counts_discards(rt: HostRuntime) -> Result<(), Fail> {
     for case in DISCARDS {
         let Discards { name, heap, asked } = case;
         assert!(rt; heap.is_placed(), "{name}");
-        let blocks = laid_out(&rt, rt.alloc(), *heap)?;
+        let mut region = Region::new(rt.alloc(), heap.hi)?;
+        let blocks = laid_out(&rt, rt.alloc(), *heap, &mut region)?;
         let order = in_order(&rt, rt.alloc(), heap.order)?;
         for start in [false, true] {
             let mut marks = [start; 8];
             for (about, size, expected) in *asked {
                 let plain = heap.needed(rt.alloc(), *size, *about)?;
                 assert_eq!(rt; plain, *expected, "{name}: {size} by the plain program");
-                assert!(rt; about.is_none_or(|id| id < IDS));
-                let found = least_prefix(&blocks, &order, &mut marks, *about, *size);
+                let found = least(&rt, &blocks, &region, &order, &mut marks, *about, *size);
                 assert_eq!(rt; found, *expected, "{name}: {size}");
             }
         }
