@@ -1,5 +1,5 @@
 -- What keeps each block's bytes keeps a table's heap: where only bytes of holes change, and after one step more.
-use Rattle.std.proofs.Common.{ℕ, ◌≡◌, ◌+◌, ◌<◌, ◌≤◌, ◌⊎◌, List, [], ◌∷◌, length, slice_range, Option, Some, None, option_map, refl, sym, ap, ◌∙◌, subst, arith, inl, inr, All}
+use Rattle.std.proofs.Common.{ℕ, ◌≡◌, ◌+◌, ◌<◌, List, [], ◌∷◌, length, slice_range, Some, option_map, refl, sym, ap, ◌∙◌, subst, arith, inl, inr, All}
 use Rattle.std.proofs.lemmas.Bool.Decides.{eqb_tells}
 use Rattle.std.specs.Borrow.{GName}
 use Rattle.std.specs.FinMap as finmap
@@ -15,7 +15,6 @@ use Rattle.w16_blocks.specs.Layout.{Layout, IsOrdered, all_but, placed, holes_of
 use Rattle.w16_blocks.proofs.Outside.{used_each, outside_holes}
 use Rattle.w16_blocks.proofs.Step.{All-first}
 use Rattle.w16_compact.specs.Gather.{contents}
-use Rattle.w16_compact.specs.Rest.{IsSameRest}
 use Rattle.w16_compact.proofs.Rests.{rest_more, rest_same}
 use Rattle.w16_arena.specs.State.{KeepsBytes}
 use Rattle.w16_arena.specs.NewPlace.{EachTwo, Slides, AreMoved}

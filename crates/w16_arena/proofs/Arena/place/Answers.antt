@@ -1,7 +1,6 @@
-use Rattle.std.proofs.Common.{◌≡◌, ◌+◌, ap, arith}
+use Rattle.std.proofs.Common.{◌+◌, ap, arith}
 use Rattle.w16_blocks.specs.Layout.{Layout}
 use Rattle.w16_compact.proofs.Rests.{rest_more}
-use Rattle.w16_arena.specs.NewPlace.{AreMoved}
 use Rattle.w16_arena.proofs.Granting.{may_insert, kept_placed, rest_placed, stands_placed}
 use Rattle.w16_arena.proofs.Keeping.{moved_kept, same_in, used_placed}
 use Rattle.w16_arena.proofs.Arena.place.Goals as goal
