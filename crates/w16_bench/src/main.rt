@@ -1,5 +1,5 @@
 //! Times the lowest crates over as many objects as there may be: fills, slides and views of memory, look-ups of blocks, and
-//! compaction; and the reading of module files.
+//! compaction; the reading of module files, and the relocation of their segments.
 //!
 //! The first argument is the number of turns of each loop; a file is read once for a thousand of them. The times go to standard error, so that standard output is the same each time.
 #![tactic(auto)]
@@ -13,6 +13,7 @@ use w16_region::Region;
 mod blocks;
 mod memory;
 mod modules;
+mod relocation;
 
 /// How many objects the global heap may have.
 const COUNT: u32 = 8160;
@@ -49,5 +50,6 @@ fn main(rt: HostRuntime) -> Result<()> {
     let mut region = Region::new(rt.alloc(), SIZE)?;
     memory::time(&rt, &mut region, turns)?;
     blocks::time(&rt, rt.alloc(), &mut region, turns)?;
-    modules::time(&rt, rt.alloc(), turns)
+    modules::time(&rt, rt.alloc(), turns)?;
+    relocation::time(&rt, rt.alloc(), turns)
 }

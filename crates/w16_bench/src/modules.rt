@@ -17,7 +17,8 @@ const SEGMENTS: u16 = 253;
 /// The entries of a bundle.
 const BUNDLE: u16 = 250;
 
-fn push_words(bytes: &mut Vec<u8>, words: &[u16]) -> Result<(), AllocError> {
+/// Appends words, each with its low byte first.
+pub fn push_words(bytes: &mut Vec<u8>, words: &[u16]) -> Result<(), AllocError> {
     for word in words {
         bytes.extend_from_slice(&word.to_le_bytes())?;
     }
