@@ -38,6 +38,15 @@ module _ (lo hi : ℕ) (xs : List Block) (order : List ℕ) (n : ℕ) (h : Optio
     pub fewer : (j : ℕ) → j < least → room_of j < n
     pub serves : n ≤ room_of enough
 
+  -- where none isn't enough
+  pub from_one : (enough : ℕ) → room_of 0 < n → n ≤ room_of enough → IsBetween 1 enough
+  from_one zero few serves = absurd (omega arith)
+  from_one (suc k) few serves = record {
+    within = omega arith;
+    fewer = λ j l. let none : j ≡ 0 = omega arith in subst (λ i. room_of i < n) (sym none) few;
+    serves = serves;
+  }
+
   -- the half above a number that isn't enough
   pub above : (least enough k : ℕ) → IsBetween least enough → k < enough → room_of k < n → IsBetween (k + 1) enough
   above least enough k now lt few = record {

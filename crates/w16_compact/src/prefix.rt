@@ -41,10 +41,11 @@ pub fn least_prefix<S: Space, H: Holes<S>>(
     if room_after(blocks, space, order, marks, h, 0) >= n {
         return Some(0);
     }
-    // More discards never leave less room, so halving finds where it becomes enough.
-    let mut least = 0;
+    // More discards never leave less room, so halving finds where it becomes enough. Few are often
+    // enough, so it begins with few, and doubles them until they are.
+    let mut least = 1;
     while least < enough {
-        let middle = least + (enough - least) / 2;
+        let middle = least + least.saturating_sub(1).min((enough - least) / 2);
         if room_after(blocks, space, order, marks, h, middle) < n {
             least = middle + 1;
         } else {
