@@ -1,5 +1,5 @@
-//! Times the lowest crates over as many objects as there may be: fills, slides and views of memory, look-ups of blocks, and
-//! compaction.
+//! Times the lowest crates: fills, slides and views of memory, and look-ups, far reads, pairs of free and alloc, and a gather over 100,
+//! 1,000 and 8,000 blocks.
 //!
 //! The first argument is the number of turns of each loop. The times go to standard error, so that standard output is the same each time.
 #![tactic(auto)]
@@ -13,7 +13,7 @@ use w16_region::Region;
 mod blocks;
 mod memory;
 
-/// How many objects the global heap may have.
+/// How many units the memory has.
 const COUNT: u32 = 8160;
 
 /// The bytes of each.
@@ -36,9 +36,9 @@ fn turns_asked(rt: &(impl Env + Alloc)) -> Result<u32> {
     }
 }
 
-/// Says how long a loop took for each of its turns.
-fn tell(rt: &(impl Eprint + Clock), name: &str, start: Instant, turns: u32) -> Result<()> {
-    let nanos = start.elapsed(rt)?.as_nanos() / u128::from(turns.max(1));
+/// Says how long a loop took for each of its steps.
+fn tell(rt: &(impl Eprint + Clock), name: &str, start: Instant, steps: u64) -> Result<()> {
+    let nanos = start.elapsed(rt)?.as_nanos() / u128::from(steps.max(1));
     eprintln!(rt; "{name}: {nanos} ns")?;
     Ok(())
 }
@@ -46,33 +46,9 @@ fn tell(rt: &(impl Eprint + Clock), name: &str, start: Instant, turns: u32) -> R
 fn main(rt: HostRuntime) -> Result<()> {
     let turns = turns_asked(&rt)?;
     let mut region = Region::new(rt.alloc(), SIZE)?;
-    let blocks = blocks::full(rt.alloc())?;
-
-    let start = Instant::now(&rt)?;
-    memory::fill(&mut region, turns);
-    tell(&rt, "fill", start, turns)?;
-
-    let start = Instant::now(&rt)?;
-    memory::slide(&mut region, turns);
-    tell(&rt, "slide", start, turns)?;
-
-    let start = Instant::now(&rt)?;
-    let bytes = memory::view(&region, turns);
-    tell(&rt, "view", start, turns)?;
-
-    let start = Instant::now(&rt)?;
-    let found = blocks::find(&blocks, turns);
-    tell(&rt, "find", start, turns)?;
-
-    let start = Instant::now(&rt)?;
-    let ranks = blocks::rank(&blocks, turns);
-    tell(&rt, "rank", start, turns)?;
-
-    let mut blocks = blocks;
-    let start = Instant::now(&rt)?;
-    let moved = blocks::gather_all(&mut blocks, &mut region);
-    tell(&rt, "gather, in all", start, 1)?;
-
-    println!(rt; "{turns} turns: {bytes} {found} {ranks} {moved}")?;
+    memory::time(&rt, &mut region, turns)?;
+    blocks::time(&rt, &mut region, 100, turns)?;
+    blocks::time(&rt, &mut region, 1000, turns)?;
+    blocks::time(&rt, &mut region, 8000, turns)?;
     Ok(())
 }

@@ -1,11 +1,37 @@
 //! Loops over the bytes of a space.
 ghost use Rattle.std.specs.Prelude.{◌≡◌, length};
 
-use crate::{COUNT, SIZE, STRIDE, UNIT};
+use crate::{COUNT, SIZE, STRIDE, UNIT, tell};
+use anyhow::Result;
+use std::rt::Clock;
+use std::time::Instant;
 use w16_region::Space;
 
+/// Times loops over memory, and prints what they found.
+pub fn time<S: Space>(rt: &(impl Clock + Print + Eprint), space: &mut S, turns: u32) -> Result<()>
+    requires { length (S.bytes space.old) ≡ SIZE }
+    ensures { length (S.bytes space.new) ≡ SIZE }
+{
+    let steps = u64::from(turns);
+
+    let start = Instant::now(rt)?;
+    fill(space, turns);
+    tell(rt, "fill", start, steps)?;
+
+    let start = Instant::now(rt)?;
+    slide(space, turns);
+    tell(rt, "slide", start, steps)?;
+
+    let start = Instant::now(rt)?;
+    let bytes = view(space, turns);
+    tell(rt, "view", start, steps)?;
+
+    println!(rt; "{turns} turns: {bytes}")?;
+    Ok(())
+}
+
 /// Slides one unit to the place of another, `turns` times.
-pub fn slide<S: Space>(space: &mut S, turns: u32)
+fn slide<S: Space>(space: &mut S, turns: u32)
     requires { length (S.bytes space.old) ≡ SIZE }
     ensures { length (S.bytes space.new) ≡ SIZE }
 {
@@ -17,7 +43,7 @@ pub fn slide<S: Space>(space: &mut S, turns: u32)
 }
 
 /// Fills one unit, `turns` times.
-pub fn fill<S: Space>(space: &mut S, turns: u32)
+fn fill<S: Space>(space: &mut S, turns: u32)
     requires { length (S.bytes space.old) ≡ SIZE }
     ensures { length (S.bytes space.new) ≡ SIZE }
 {
@@ -28,7 +54,7 @@ pub fn fill<S: Space>(space: &mut S, turns: u32)
 }
 
 /// Views one unit, `turns` times, and adds up the first bytes.
-pub fn view<S: Space>(space: &S, turns: u32) -> u64
+fn view<S: Space>(space: &S, turns: u32) -> u64
     requires { length (S.bytes space.now) ≡ SIZE }
 {
     let mut total = 0u64;
