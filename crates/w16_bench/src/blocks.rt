@@ -8,31 +8,79 @@ use std::rt::Clock;
 use std::time::Instant;
 use w16_blocks::{Block, Blocks, Hold};
 use w16_compact::{gap_for, gather};
+use w16_holes::SideHoles;
 use w16_region::Space;
 
-/// As many blocks as there may be, each of one unit, so that there is no hole.
-fn full(alloc: Global) -> Result<Blocks, AllocError>
-    ensures { IfOk result (λ blocks. (blocks.cap ≡ COUNT) × (blocks.hi ≡ SIZE)) }
+/// Times loops over as many blocks as are asked for, and prints what they found.
+pub fn time<S: Space>(
+    rt: &(impl AllocGlobal + Clock + Print + Eprint),
+    space: &mut S,
+    count: u32,
+    turns: u32,
+) -> Result<()>
+    requires count { (0 < count) × (count ≤ COUNT) }
+    requires long { length (S.bytes space.old) ≡ SIZE }
+    ensures { length (S.bytes space.new) ≡ SIZE }
 {
-    let mut blocks = Blocks::with_room(alloc, COUNT, 0, SIZE, UNIT)?;
-    for id in 0..COUNT {
-        blocks.insert(Block {
+    let mut blocks = packed(rt.alloc(), space, count)?;
+    let steps = u64::from(turns);
+    eprintln!(rt; "{count} blocks")?;
+
+    let start = Instant::now(rt)?;
+    let found = find(&blocks, turns);
+    tell(rt, "find", start, steps)?;
+
+    let start = Instant::now(rt)?;
+    let next = next(&blocks, space, turns);
+    tell(rt, "next", start, steps)?;
+
+    let start = Instant::now(rt)?;
+    let read = read(&blocks, space, turns);
+    tell(rt, "far read", start, steps)?;
+
+    let start = Instant::now(rt)?;
+    let holes = pairs(&mut blocks, space, turns);
+    tell(rt, "free and alloc", start, steps)?;
+
+    let start = Instant::now(rt)?;
+    let moved = gather_all(&mut blocks, space);
+    tell(rt, "gather, a block", start, moved / u64::from(UNIT))?;
+
+    println!(rt; "{count} blocks: {found} {next} {read} {holes} {moved}")?;
+    Ok(())
+}
+
+/// So many blocks, each of one unit, from the lowest address on and with no hole between them.
+fn packed<S: Space>(
+    alloc: Global,
+    space: &mut S,
+    count: u32,
+) -> Result<Blocks<SideHoles>, AllocError>
+    requires { count ≤ COUNT }
+    ensures made { IfOk result (λ blocks. (blocks.cap ≡ count) × (blocks.hi ≡ SIZE)) }
+    ensures long { length (S.bytes space.new) ≡ length (S.bytes space.old) }
+{
+    let holes = SideHoles::new(alloc, 0, SIZE, UNIT)?;
+    let mut blocks = Blocks::with_room(alloc, count, holes, 0, SIZE, UNIT)?;
+    for id in 0..count {
+        let block = Block {
             id,
             at: id * UNIT,
             size: UNIT,
             hold: Hold::Loose,
-        });
+        };
+        blocks.insert(space, block);
     }
     Ok(blocks)
 }
 
 /// Finds blocks by their ids, `turns` times, and adds up their addresses.
-fn find(blocks: &Blocks, turns: u32) -> u64
-    requires { COUNT ≤ blocks.now.cap }
+fn find(blocks: &Blocks<SideHoles>, turns: u32) -> u64
+    requires { 0 < blocks.now.cap }
 {
     let mut total = 0u64;
     for turn in 0..turns {
-        let id = turn.wrapping_mul(STRIDE) % COUNT;
+        let id = turn.wrapping_mul(STRIDE) % blocks.cap();
         if let Some(block) = blocks.find(id) {
             total = total.wrapping_add(u64::from(block.at));
         }
@@ -40,51 +88,87 @@ fn find(blocks: &Blocks, turns: u32) -> u64
     total
 }
 
-/// Looks for the place of blocks by their addresses, `turns` times, and adds up their ranks.
-fn rank(blocks: &Blocks, turns: u32) -> u64 {
+/// Looks for the next block from addresses on, `turns` times, and adds up the ids.
+fn next<S: Space>(blocks: &Blocks<SideHoles>, space: &S, turns: u32) -> u64 {
     let mut total = 0u64;
     for turn in 0..turns {
         let at = turn.wrapping_mul(STRIDE) % SIZE;
-        total = total.wrapping_add(blocks.rank(at) as u64);
+        if let Some(block) = blocks.next_from(space, at) {
+            total = total.wrapping_add(u64::from(block.id));
+        }
     }
     total
 }
 
-/// Frees the lowest block and gathers the others. Answers how many bytes were moved.
-fn gather_all<S: Space>(blocks: &mut Blocks, space: &mut S) -> u64
-    requires blocks { (0 < blocks.old.cap) × (blocks.old.hi ≡ SIZE) }
-    requires space { length (S.bytes space.old) ≡ SIZE }
+/// Reads a byte of blocks by their ids, `turns` times, and adds these bytes up.
+fn read<S: Space>(blocks: &Blocks<SideHoles>, space: &S, turns: u32) -> u64
+    requires some { 0 < blocks.now.cap }
+    requires inside { blocks.now.hi ≤ length (S.bytes space.now) }
 {
-    if blocks.find(0).is_some() {
-        blocks.remove(0);
+    let mut total = 0u64;
+    for turn in 0..turns {
+        let id = turn.wrapping_mul(STRIDE) % blocks.cap();
+        let byte = first_byte(blocks, space, id);
+        total = total.wrapping_add(u64::from(byte));
     }
-    match gap_for(blocks, UNIT) {
-        Some(gap) => gather(blocks, space, gap.low, gap.high),
+    total
+}
+
+/// The first byte of an id's block, or 0 where it has none.
+fn first_byte<S: Space>(blocks: &Blocks<SideHoles>, space: &S, id: u32) -> u8
+    requires id { id < blocks.now.cap }
+    requires inside { blocks.now.hi ≤ length (S.bytes space.now) }
+{
+    match blocks.find(id) {
+        Some(block) => space.view(block.at, block.size)[0],
         None => 0,
     }
 }
 
-/// Times look-ups of blocks, and a compaction.
-pub fn time<S: Space>(
-    rt: &(impl Clock + Eprint + Print),
-    alloc: Global,
-    space: &mut S,
-    turns: u32,
-) -> Result<()>
-    requires { length (S.bytes space.old) ≡ SIZE }
+/// Frees blocks and allocates them again, `turns` times, and adds up where the holes for them were.
+fn pairs<S: Space>(blocks: &mut Blocks<SideHoles>, space: &mut S, turns: u32) -> u64
+    requires { 0 < blocks.old.cap }
+    ensures cap { blocks.new.cap ≡ blocks.old.cap }
+    ensures hi { blocks.new.hi ≡ blocks.old.hi }
+    ensures long { length (S.bytes space.new) ≡ length (S.bytes space.old) }
 {
-    let mut blocks = full(alloc)?;
-    let start = Instant::now(rt)?;
-    let found = find(&blocks, turns);
-    tell(rt, "find", start, turns)?;
+    let mut total = 0u64;
+    for turn in 0..turns {
+        let id = turn.wrapping_mul(STRIDE) % blocks.cap();
+        let hole = free_and_alloc(blocks, space, id);
+        total = total.wrapping_add(u64::from(hole));
+    }
+    total
+}
 
-    let start = Instant::now(rt)?;
-    let ranks = rank(&blocks, turns);
-    tell(rt, "rank", start, turns)?;
+/// Takes an id's block away, asks for the lowest hole that is as long, and puts the block back where it was. Where the blocks before it
+/// leave no hole, that is the one that it left. Answers where the hole was, or 0 where the id has no block.
+fn free_and_alloc<S: Space>(blocks: &mut Blocks<SideHoles>, space: &mut S, id: u32) -> u32
+    requires { id < blocks.old.cap }
+    ensures cap { blocks.new.cap ≡ blocks.old.cap }
+    ensures hi { blocks.new.hi ≡ blocks.old.hi }
+    ensures long { length (S.bytes space.new) ≡ length (S.bytes space.old) }
+{
+    let Some(block) = blocks.find(id) else {
+        return 0;
+    };
+    blocks.remove(space, id);
+    let hole = blocks.hole_for(space, block.size);
+    blocks.insert(space, block);
+    hole.unwrap_or(0)
+}
 
-    let start = Instant::now(rt)?;
-    let moved = gather_all(&mut blocks, space);
-    tell(rt, "gather, in all", start, 1)?;
-    println!(rt; "blocks: {found} {ranks} {moved}")?;
-    Ok(())
+/// Frees the lowest block and gathers the others. Answers how many bytes were moved.
+fn gather_all<S: Space>(blocks: &mut Blocks<SideHoles>, space: &mut S) -> u64
+    requires some { 0 < blocks.old.cap }
+    requires inside { blocks.old.hi ≤ length (S.bytes space.old) }
+    ensures { length (S.bytes space.new) ≡ length (S.bytes space.old) }
+{
+    if blocks.find(0).is_some() {
+        blocks.remove(space, 0);
+    }
+    match gap_for(blocks, space, UNIT) {
+        Some(gap) => gather(blocks, space, gap.low, gap.high),
+        None => 0,
+    }
 }

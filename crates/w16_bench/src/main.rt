@@ -1,5 +1,5 @@
-//! Times the lowest crates over as many objects as there may be: fills, slides and views of memory, look-ups of blocks, and
-//! compaction; the reading of module files, and the relocation of their segments.
+//! Times the lowest crates: fills, slides and views of memory; look-ups, far reads, pairs of free and alloc, and a gather over 100,
+//! 1,000 and 8,000 blocks; the reading of module files, and the relocation of their segments.
 //!
 //! The first argument is the number of turns of each loop; a file is read once for a thousand of them. The times go to standard error, so that standard output is the same each time.
 #![tactic(auto)]
@@ -15,7 +15,7 @@ mod memory;
 mod modules;
 mod relocation;
 
-/// How many objects the global heap may have.
+/// How many units the memory has.
 const COUNT: u32 = 8160;
 
 /// The bytes of each.
@@ -38,9 +38,9 @@ fn turns_asked(rt: &(impl Env + Alloc)) -> Result<u32> {
     }
 }
 
-/// Says how long a loop took for each of its turns.
-fn tell(rt: &(impl Eprint + Clock), name: &str, start: Instant, turns: u32) -> Result<()> {
-    let nanos = start.elapsed(rt)?.as_nanos() / u128::from(turns.max(1));
+/// Says how long a loop took for each of its steps.
+fn tell(rt: &(impl Eprint + Clock), name: &str, start: Instant, steps: u64) -> Result<()> {
+    let nanos = start.elapsed(rt)?.as_nanos() / u128::from(steps.max(1));
     eprintln!(rt; "{name}: {nanos} ns")?;
     Ok(())
 }
@@ -49,7 +49,9 @@ fn main(rt: HostRuntime) -> Result<()> {
     let turns = turns_asked(&rt)?;
     let mut region = Region::new(rt.alloc(), SIZE)?;
     memory::time(&rt, &mut region, turns)?;
-    blocks::time(&rt, rt.alloc(), &mut region, turns)?;
+    blocks::time(&rt, &mut region, 100, turns)?;
+    blocks::time(&rt, &mut region, 1000, turns)?;
+    blocks::time(&rt, &mut region, 8000, turns)?;
     modules::time(&rt, rt.alloc(), turns)?;
     relocation::time(&rt, rt.alloc(), turns)
 }

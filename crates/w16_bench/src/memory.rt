@@ -50,15 +50,15 @@ pub fn time<S: Space>(rt: &(impl Clock + Eprint + Print), space: &mut S, turns: 
 {
     let start = Instant::now(rt)?;
     fill(space, turns);
-    tell(rt, "fill", start, turns)?;
+    tell(rt, "fill", start, u64::from(turns))?;
 
     let start = Instant::now(rt)?;
     slide(space, turns);
-    tell(rt, "slide", start, turns)?;
+    tell(rt, "slide", start, u64::from(turns))?;
 
     let start = Instant::now(rt)?;
     let bytes = view(space, turns);
-    tell(rt, "view", start, turns)?;
+    tell(rt, "view", start, u64::from(turns))?;
     println!(rt; "memory: {bytes}")?;
     Ok(())
 }

@@ -117,7 +117,7 @@ fn read(
         total = total.wrapping_add(module.segment_count() as u64);
         total = total.wrapping_add(module.entry_count() as u64);
     }
-    tell(rt, name, start, turns)?;
+    tell(rt, name, start, u64::from(turns))?;
     Ok(total)
 }
 
