@@ -1,4 +1,4 @@
-use Rattle.std.proofs.Common.{◌≡◌, ◌+◌, ◌≤◌, ◌<◌, length, arith, sym, ap}
+use Rattle.std.proofs.Common.{length, arith, sym, ap}
 use Rattle.w16_model.proofs.Parts.{length-part}
 use Rattle.w16_blocks.proofs.Step.{lies}
 use Rattle.w16_bench.proofs.blocks.first_byte.Goals as goal
