@@ -2,15 +2,13 @@
 //! a trait. No call but the constructor takes memory, and none is refused.
 #![tactic(auto)]
 
-ghost use Rattle.std.specs.Prelude.{◌≡◌, ◌≢◌, ◌+◌, ◌-◌, ◌*◌, ◌^◌, ◌<◌, ◌≤◌, ◌==◌, List, ℕ, [], ◌∷◌, length, IfOk, IsSome, IfSome, vec_len, slice_get, nat_le, sum_by, Some, if◌then◌else◌};
-ghost use Rattle.std.specs.Option.{option_map, ForSome};
+ghost use Rattle.std.specs.Prelude.{◌≡◌, ◌≢◌, ◌+◌, ◌-◌, ◌*◌, ◌^◌, ◌<◌, ◌≤◌, ◌==◌, [], length, IfOk, IsSome, IfSome, vec_len, slice_get, sum_by, Some, if◌then◌else◌};
+ghost use Rattle.std.specs.Option.{ForSome};
 ghost use Rattle.w16_model.specs.Heap.{IsMultiple};
 ghost use Rattle.w16_blocks.specs.Stay.{IsBeyond};
 
 mod by_address;
 mod parts;
-#[cfg(test)]
-mod tests;
 
 pub use by_address::ByAddress;
 pub use parts::Part;
@@ -323,7 +321,8 @@ impl<H: HoleList> Blocks<H> {
         self.slots[id as usize] = Block { hold, ..block };
     }
 
-    /// Where the lowest hole of at least `n` bytes begins. Each hole has a byte, so for 0 it is the lowest there is.
+    /// Where the lowest hole of at least `n` bytes begins, none where none is so long. Each hole has a byte, so for 0 it is the lowest there
+    /// is.
     pub fn hole_for<S: Space>(&self, space: &S, n: u32) -> Option<u32>
     where
         H: Holes<S>,
