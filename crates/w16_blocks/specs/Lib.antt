@@ -2,4 +2,3 @@ pub mod Layout
 pub mod Kept
 pub mod Stay
 pub mod Parts
-pub mod Sample

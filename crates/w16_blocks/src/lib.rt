@@ -9,8 +9,6 @@ ghost use Rattle.w16_blocks.specs.Stay as stay;
 
 mod by_address;
 mod parts;
-#[cfg(test)]
-mod tests;
 
 pub use by_address::ByAddress;
 pub use parts::Part;

@@ -1,9 +1,10 @@
+//! Three blocks in a small heap, and what each call answers and changes there.
 ghost use Rattle.std.specs.Prelude.{◌≡◌, length, IfOk};
-ghost use Rattle.w16_blocks.specs.Sample.{three_blocks};
+ghost use Rattle.w16_blocks_tests.specs.Sample.{three_blocks};
 
-use crate::{Block, Blocks, Hold, Span};
 use std::alloc::AllocError;
 use std::test::Fail;
+use w16_blocks::{Block, Blocks, Hold, Span};
 use w16_holes::SideHoles;
 use w16_region::{Region, Space};
 
