@@ -17,7 +17,6 @@ mod new_place;
 mod objects;
 mod requests;
 mod walk;
-
 mod without_discard;
 
 pub use new_place::Placed;

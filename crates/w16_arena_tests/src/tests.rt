@@ -132,7 +132,11 @@ fn act(rt: &impl Abort, arena: &mut Arena<SideHoles>, region: &mut Region, step:
 }
 
 /// A whole walk.
-fn shown(alloc: Global, arena: &Arena<SideHoles>, region: &Region) -> Result<Vec<Item>, AllocError> {
+fn shown(
+    alloc: Global,
+    arena: &Arena<SideHoles>,
+    region: &Region,
+) -> Result<Vec<Item>, AllocError> {
     let mut items = Vec::new(alloc);
     let mut from = 0;
     for _ in 0..20 {
@@ -197,7 +201,11 @@ fn expect(
 }
 
 /// The heap that some calls leave.
-fn made(rt: &impl Abort, alloc: Global, steps: &[Step]) -> Result<(Arena<SideHoles>, Region), AllocError> {
+fn made(
+    rt: &impl Abort,
+    alloc: Global,
+    steps: &[Step],
+) -> Result<(Arena<SideHoles>, Region), AllocError> {
     let mut arena = six(rt, alloc)?;
     let mut region = Region::new(alloc, 256)?;
     for step in steps {

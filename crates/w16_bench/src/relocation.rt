@@ -132,10 +132,20 @@ fn run(rt: &(impl Clock + Eprint), alloc: Global, name: &str, load: Load, turns:
     eprintln!(rt; "{name}:")?;
     let start = Instant::now(rt)?;
     check_all(&mut store, &module, &mut scratch, turns)?;
-    tell(rt, "check a site", start, u64::from(turns) * u64::from(sites))?;
+    tell(
+        rt,
+        "check a site",
+        start,
+        u64::from(turns) * u64::from(sites),
+    )?;
     let start = Instant::now(rt)?;
     let first = apply_all(alloc, &scratch, turns)?;
-    tell(rt, "apply to a site", start, u64::from(turns) * u64::from(sites))?;
+    tell(
+        rt,
+        "apply to a site",
+        start,
+        u64::from(turns) * u64::from(sites),
+    )?;
     Ok(first)
 }
 

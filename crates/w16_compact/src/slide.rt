@@ -104,7 +104,8 @@ fn settle<S: Space, H: Holes<S>>(
     requires kept { H.are_in (holes_of blocks.old) (S.bytes space.old) }
     requires inside { blocks.old.hi ≤ length (S.bytes space.old) }
     ensures blocks { let there = record block { at = to } in blocks.new ≡ record blocks.old {
-        blocks = slice_set blocks.old.blocks (rank block.at blocks.old.blocks) there } }
+      blocks = slice_set blocks.old.blocks (rank block.at blocks.old.blocks) there;
+    } }
     ensures ordered { IsOrdered blocks.new }
     ensures kept { H.are_in (holes_of blocks.new) (S.bytes space.new) }
     ensures contents { contents (S.bytes space.new) blocks.new.blocks

@@ -107,7 +107,11 @@ fn room_of(answer: Answer) -> Option<u32> {
 }
 
 /// The blocks of an arena by address.
-fn blocks(alloc: Global, arena: &Arena<SideHoles>, region: &Region) -> Result<Vec<Block>, AllocError> {
+fn blocks(
+    alloc: Global,
+    arena: &Arena<SideHoles>,
+    region: &Region,
+) -> Result<Vec<Block>, AllocError> {
     let mut blocks = Vec::new(alloc);
     let mut from = 0;
     for _ in 0..arena.cap() {

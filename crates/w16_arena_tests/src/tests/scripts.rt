@@ -513,7 +513,11 @@ fn answers_calls(rt: HostRuntime) -> Result<(), Fail> {
         for line in lines {
             expect(&rt, rt.alloc(), name, &mut arena, &mut region, line)?;
         }
-        assert_eq!(rt; shown(rt.alloc(), &arena, &region)?.as_slice(), walk, "{name}: walk");
+        assert_eq!(rt;
+            shown(rt.alloc(), &arena, &region)?.as_slice(),
+            walk,
+            "{name}: walk"
+        );
         assert_eq!(rt;
             in_order(rt.alloc(), &arena)?.as_slice(),
             order,
@@ -538,7 +542,10 @@ fn walks_by_address(rt: HostRuntime) -> Result<(), Fail> {
     assert_eq!(rt; empty.walk_from(&none, 0), Some(hole!(0, 256)));
     assert_eq!(rt; empty.walk_from(&none, 1), None);
     let (arena, region) = made(&rt, rt.alloc(), WITH_HOLES)?;
-    assert_eq!(rt; arena.walk_from(&region, 0), Some(object!(0, 32, 0, Kind::Fixed, 0)));
+    assert_eq!(rt;
+        arena.walk_from(&region, 0),
+        Some(object!(0, 32, 0, Kind::Fixed, 0))
+    );
     assert_eq!(rt; arena.walk_from(&region, 1), Some(hole!(32, 64)));
     assert_eq!(rt; arena.walk_from(&region, 32), Some(hole!(32, 64)));
     let locked = object!(96, 32, 2, Kind::Discardable, 1);
@@ -552,7 +559,10 @@ fn walks_by_address(rt: HostRuntime) -> Result<(), Fail> {
 #[test]
 fn walks_by_number(rt: HostRuntime) -> Result<(), Fail> {
     let (arena, region) = made(&rt, rt.alloc(), WITH_HOLES)?;
-    assert_eq!(rt; arena.walk(&region, 0), Some(object!(0, 32, 0, Kind::Fixed, 0)));
+    assert_eq!(rt;
+        arena.walk(&region, 0),
+        Some(object!(0, 32, 0, Kind::Fixed, 0))
+    );
     assert_eq!(rt; arena.walk(&region, 1), Some(hole!(32, 64)));
     assert_eq!(rt;
         arena.walk(&region, 2),

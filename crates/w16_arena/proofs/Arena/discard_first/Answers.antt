@@ -11,7 +11,7 @@ pub loop-init : goal.loop-init
 loop-init g c =
     let t : Table = table_of c.self.inside.entries.items c.self.inside.blocks c.self.inside.order.ids in record {
       partly = subst (λ (s : ArenaState). ArePartly s c.args.k c.args.h 0 (record { table = t; discarded = c.clear.new.self.items })) c.self.view_is
-    (partly_none (record { table = t; discarded = c.self.inside.discarded.items }) c.args.k c.args.h c.self.invariant.sound c.clear.new.self.items c.clear.ensures.items);
+          (partly_none (record { table = t; discarded = c.self.inside.discarded.items }) c.args.k c.args.h c.self.invariant.sound c.clear.new.self.items c.clear.ensures.items);
       bytes = keeps_same t.lo t.hi t.blocks c.args.space.now;
       kept = subst (λ (s : ArenaState). g.H.Holes.are_in (holes_in s.table) (g.S.Space.bytes c.args.space.now)) (sym c.self.view_is) c.requires.kept;
     }
@@ -48,7 +48,7 @@ loop-preserved g c =
     rw (range.lo, range.hi, c.give_up.ensures.blocks) (keeps_more now.table.lo now.table.hi c.in-Some.id now.table.blocks c.args.space.now c.loop.space c.give_up.new.space c.loop.invariant.bytes gives) in
     record {
       partly = subst (λ (s : ArenaState). ArePartly c.args.self.now c.args.k c.args.h (c.loop.counter + 1) (record { table = s.table; discarded = c.push_reserved.new.self.items })) (sym c.self-in-loop-2.view_is)
-    (partly_more c.args.self.now c.args.k c.args.h c.loop.counter c.loop.self c.loop.invariant.partly c.in-Some.id first c.loop-test.true c.give_up.new.self c.give_up.ensures.steps c.push_reserved.new.self.items pushed);
+          (partly_more c.args.self.now c.args.k c.args.h c.loop.counter c.loop.self c.loop.invariant.partly c.in-Some.id first c.loop-test.true c.give_up.new.self c.give_up.ensures.steps c.push_reserved.new.self.items pushed);
       bytes = subst (λ (s : ArenaState). KeepsBytes g.S.Space.bytes g.S.Space.lenders g.S.Space.written s.table.lo s.table.hi s.table.blocks c.args.space.now c.give_up.new.space) (sym c.self-in-loop-2.view_is) keeps;
       kept = subst (λ (s : ArenaState). g.H.Holes.are_in (holes_in s.table) (g.S.Space.bytes c.give_up.new.space)) (sym c.self-in-loop-2.view_is) c.give_up.ensures.kept;
     }

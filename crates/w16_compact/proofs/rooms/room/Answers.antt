@@ -21,7 +21,7 @@ loop-block-init g c =
         0,
         all_left l it.blocks.now it.from same first,
         subst (λ (s : Span). IsPassed (is_counted c.args.skip.now) l.hi l.blocks (room l.lo l.hi (counted_of c.args.skip.now l.blocks)) 0 0 s.from 0) (sym c.bounds-bounds.ensures.value)
-        (passed_start (is_counted c.args.skip.now) l.lo l.hi l.blocks c.bounds-bounds.ensures.ordered.laid),
+            (passed_start (is_counted c.args.skip.now) l.lo l.hi l.blocks c.bounds-bounds.ensures.ordered.laid),
       ),
     )
 
