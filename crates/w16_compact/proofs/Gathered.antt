@@ -141,7 +141,7 @@ pub moved_same : (bs : List Block) → moved_between bs bs ≡ 0
 moved_same [] = refl
 moved_same (b ∷ bs) = rw (eq-eqb b.at b.at refl) (let ih = moved_same bs in omega (arith, ih))
 
--- the block that is reached from a place is the first from where it begins, and the next ones from where it ended
+-- the block that is reached from a place is the first from where it begins; once it is slid, the next ones are reached from where it ends
 pub rank_got : (low high from : ℕ) (bs : List Block) (b : Block) → IsLaid low high bs → slice_get bs (rank from bs) ≡ Some b → rank b.at bs ≡ rank from bs
 rank_got low high from [] b laid got = refl
 rank_got low high from (c ∷ cs) b laid got = elim (cases_lt c.at from) [
@@ -154,15 +154,15 @@ rank_got low high from (c ∷ cs) b laid got = elim (cases_lt c.at from) [
       rw (le-ltb c.at from ge, le-ltb c.at b.at (omega arith)) refl
 ]
 
-pub rank_slid : (low high to : ℕ) (bs : List Block) (i : ℕ) (b : Block) → IsLaid low high bs → slice_get bs i ≡ Some b → to ≤ b.at → rank (block_end b) (set bs i (record b { at = to })) ≡ suc i
-rank_slid low high to [] i b laid got le = absurd (false≢true (ap is_some got))
-rank_slid low high to (c ∷ cs) zero b laid got le =
-    let same : c ≡ b = cc in let some = laid.1 in let size = ap (λ (x : Block). x.size) same in
-    rw (lt-ltb to (block_end b) (omega arith)) (ap suc (subst (λ (x : Block). rank (block_end x) cs ≡ 0) same (none (block_end c) cs (all_from (block_end c) high cs laid.2))))
+pub rank_slid : (low high to : ℕ) (bs : List Block) (i : ℕ) (b : Block) → IsLaid low high bs → slice_get bs i ≡ Some b → to ≤ b.at → AllByRecursion (λ c. block_end c ≤ to) (take i bs) → rank (to + b.size) (set bs i (record b { at = to })) ≡ suc i
+rank_slid low high to [] i b laid got le settled = absurd (false≢true (ap is_some got))
+rank_slid low high to (c ∷ cs) zero b laid got le settled =
+    let same : c ≡ b = cc in let some = laid.1 in let size = ap (λ (x : Block). x.size) same in let at = ap (λ (x : Block). x.at) same in
+    rw (lt-ltb to (to + b.size) (omega arith)) (ap suc (none (to + b.size) (block_end c) cs (omega arith) (all_from (block_end c) high cs laid.2)))
   where
-    none : (at : ℕ) (cs : List Block) → AllByRecursion (λ c. at ≤ c.at) cs → rank at cs ≡ 0
-    none at [] all = refl
-    none at (c ∷ cs) all = rw (le-ltb c.at at all.0) refl
-rank_slid low high to (c ∷ cs) (suc i) b laid got le =
-    let above = (apart_got (block_end c) high cs i b laid.2 got).0 in let some = laid.1 in
-    rw (lt-ltb c.at (block_end b) (omega arith)) (ap suc (rank_slid (block_end c) high to cs i b laid.2 got le))
+    none : (at end : ℕ) (cs : List Block) → at ≤ end → AllByRecursion (λ c. end ≤ c.at) cs → rank at cs ≡ 0
+    none at end [] le all = refl
+    none at end (c ∷ cs) le all = let from = all.0 in rw (le-ltb c.at at (omega arith)) refl
+rank_slid low high to (c ∷ cs) (suc i) b laid got le settled =
+    let some = laid.1 in let end = settled.0 in
+    rw (lt-ltb c.at (to + b.size) (omega arith)) (ap suc (rank_slid (block_end c) high to cs i b laid.2 got le settled.1))

@@ -53,12 +53,11 @@ pub fn gather<S: Space, H: Holes<S>>(
     ensures rest { IsSameRest S.bytes S.lenders blocks.old.lo blocks.old.hi space.old space.new }
 {
     are_ordered(blocks);
-    let mut from = low;
     let mut to = low;
     let mut moved = 0;
-    while let Some(block) = block_between(blocks, space, from, high) {
+    // What is free lies directly behind the settled ones, so the next is found in one step.
+    while let Some(block) = block_between(blocks, space, to, high) {
         moved += u64::from(settle(blocks, space, block, to));
-        from = block.at + block.size;
         to += block.size;
     }
     moved

@@ -1,5 +1,5 @@
 -- A check that fails has found the first fault.
-use Rattle.std.proofs.Common.{◌≡◌, ◌≢◌, ℕ, suc, zero, ◌+◌, ◌*◌, ◌<◌, ◌≤◌, ◌⊎◌, inl, inr, List, [], ◌∷◌, ◌++◌, length, Bool, true, false, cond, Option, Some, None, Result, Ok, Err, refl, sym, ap, ◌∙◌, arith, max}
+use Rattle.std.proofs.Common.{◌≡◌, ◌≢◌, ℕ, suc, zero, ◌+◌, ◌*◌, ◌<◌, ◌≤◌, ◌⊎◌, inl, inr, List, [], ◌∷◌, ◌++◌, length, Bool, true, false, cond, Option, Some, None, Result, Ok, Err, refl, ap, arith, max}
 use Rattle.std.specs.Prelude.{nat_lt, nat_eq, ◌||◌}
 use Rattle.std.specs.List.{list_any}
 use Rattle.w16_ne.specs.Reading.{word_of}
@@ -16,6 +16,7 @@ use Rattle.w16_reloc.specs.Apply.{joined}
 use Rattle.w16_reloc.proofs.SiteLemmas.{meets_covers, meets_inside}
 use Rattle.w16_reloc.proofs.WalkLemmas.{chain_wide}
 use Rattle.w16_reloc.proofs.Count.{no_more_sites}
+use Rattle.w16_reloc.proofs.ImageLemmas.{or_more}
 use Rattle.w16_reloc.proofs.ApartLemmas.{AreWide, steps_apart, all_wide, wide_append, wide_of, value_wide, own_byte}
 use Rattle.w16_reloc.proofs.SoundLemmas.{site_passed, sites_passed, formed_is, sound_append}
 
@@ -165,10 +166,6 @@ fails offer bytes table (suc n) i before e h =
       ]
     ]
 
-or_true : (x y : Bool) → y ≡ true → (x || y) ≡ true
-or_true true y h = refl
-or_true false y h = h
-
 -- sites that meet share the later of their first bytes
 shared_by : (s : Site) (ss : List Site) (at width : ℕ) (b : Bool) → meets (record { at = at; width = width }) s ≡ b → 0 < width → 0 < s.width → (b || list_any (meets (record { at = at; width = width })) ss) ≡ true
     → (list_any (meets (record { at = at; width = width })) ss ≡ true → (o : ℕ) × (covers o (record { at = at; width = width }) ≡ true) × (list_any (covers o) ss ≡ true))
@@ -178,7 +175,7 @@ shared_by s ss at width true e wide own h rest =
     let yes : covers o s ≡ true = meets_covers s at width wide own e in
     let high = meets_inside s at width wide own e in
     (o, own_byte (record { at = at; width = width }) o (omega arith) high, rw yes refl)
-shared_by s ss at width false e wide own h rest = let r = rest h in (r.0, r.1, or_true (covers r.0 s) (list_any (covers r.0) ss) r.2)
+shared_by s ss at width false e wide own h rest = let r = rest h in (r.0, r.1, or_more (covers r.0 s) (list_any (covers r.0) ss) r.2)
 
 shared : (sites : List Site) (at width : ℕ) → AreWide sites → 0 < width → list_any (meets (record { at = at; width = width })) sites ≡ true
     → (o : ℕ) × (covers o (record { at = at; width = width }) ≡ true) × (list_any (covers o) sites ≡ true)
@@ -194,7 +191,7 @@ any_joined p before [] h = inl h
 any_joined p before (s ∷ ss) h =
     elim (any_joined p (s ∷ before) ss h) [
       | inl early ↦ elim (or_either (p s) (list_any p before) early) [ inl here ↦ inr (rw here refl) | inr earlier ↦ inl earlier ]
-      | inr late ↦ inr (or_true (p s) (list_any p ss) late)
+      | inr late ↦ inr (or_more (p s) (list_any p ss) late)
     ]
 
 any_of_all : (p : Site → Bool) (ss : List Site) → list_any p (joined [] ss) ≡ true → list_any p ss ≡ true

@@ -58,7 +58,7 @@ misses before at width start len o true e same narrow covered apart =
     let high : o < at + width = grind arith in
     let some = any_meets before at width o covered low high in cc
 
-or_more : (x y : Bool) → y ≡ true → (x || y) ≡ true
+pub or_more : (x y : Bool) → y ≡ true → (x || y) ≡ true
 or_more true y h = refl
 or_more false y h = h
 

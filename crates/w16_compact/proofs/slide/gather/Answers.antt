@@ -40,12 +40,12 @@ got_at : (l : Layout) (from : ℕ) (b : Block) → IsOrdered l → slice_get l.b
 got_at l from b ordered got = ap (slice_get l.blocks) (rank_got l.lo l.hi from l.blocks b ordered.laid got) ∙ got
 
 pub settle-requires-clause-at : goal.settle-requires-clause-at
-settle-requires-clause-at g c = got_at c.loop-block.blocks c.loop-block.from c.in-Some.block c.loop-block.invariant.ordered c.in-Some.ensures.value.0
+settle-requires-clause-at g c = got_at c.loop-block.blocks c.loop-block.to c.in-Some.block c.loop-block.invariant.ordered c.in-Some.ensures.value.0
 
 pub settle-requires-clause-below : goal.settle-requires-clause-below
 settle-requires-clause-below g c =
     let l = c.loop-block.blocks in
-    subst (λ (k : ℕ). AllByRecursion (λ x. block_end x ≤ c.loop-block.to) (take k l.blocks)) (sym (rank_got l.lo l.hi c.loop-block.from l.blocks c.in-Some.block c.loop-block.invariant.ordered.laid c.in-Some.ensures.value.0)) c.loop-block.invariant.settled
+    subst (λ (k : ℕ). AllByRecursion (λ x. block_end x ≤ c.loop-block.to) (take k l.blocks)) (sym (rank_got l.lo l.hi c.loop-block.to l.blocks c.in-Some.block c.loop-block.invariant.ordered.laid c.in-Some.ensures.value.0)) c.loop-block.invariant.settled
 
 -- multiples make a multiple
 sum_multiple : (g a b : ℕ) → IsMultiple g a → IsMultiple g b → IsMultiple g (a + b)
@@ -57,22 +57,15 @@ settle-requires-clause-grained g c = subst (λ k. IsMultiple k c.loop-block.to) 
 pub settle-requires-clause-down : goal.settle-requires-clause-down
 settle-requires-clause-down g c =
     let l = c.loop-block.blocks in let inv = c.loop-block.invariant in
-    let step = laid_step l.hi c.loop-block.to (rank c.loop-block.from c.loop-block.blocks.blocks) c.in-Some.block l.blocks c.in-Some.ensures.value.0 inv.laid in
+    let step = laid_step l.hi c.loop-block.to (rank c.loop-block.to c.loop-block.blocks.blocks) c.in-Some.block l.blocks c.in-Some.ensures.value.0 inv.laid in
     let one = inv.bounds.1 in let two = inv.from in let three = c.requires.gap.inside.0 in
     (omega arith, step.0)
 
 pub overflow_add-to : goal.overflow_add-to
 overflow_add-to g c =
     let l = c.loop-block.blocks in let inv = c.loop-block.invariant in
-    let step = laid_step l.hi c.loop-block.to (rank c.loop-block.from c.loop-block.blocks.blocks) c.in-Some.block l.blocks c.in-Some.ensures.value.0 inv.laid in
+    let step = laid_step l.hi c.loop-block.to (rank c.loop-block.to c.loop-block.blocks.blocks) c.in-Some.block l.blocks c.in-Some.ensures.value.0 inv.laid in
     let one = step.0 in let two = step.1 in let small = inv.ordered.small in
-    record { fits = omega arith }
-
-pub overflow_add-from : goal.overflow_add-from
-overflow_add-from g c =
-    let l = c.loop-block.blocks in let inv = c.loop-block.invariant in
-    let step = laid_step l.hi c.loop-block.to (rank c.loop-block.from l.blocks) c.in-Some.block l.blocks c.in-Some.ensures.value.0 inv.laid in
-    let end = step.1 in let small = inv.ordered.small in
     record { fits = omega arith }
 
 -- of a layout with other blocks
@@ -89,37 +82,37 @@ kept : (new l m : Layout) (bs : List Block) → new ≡ with_blocks l bs → (l.
 kept new l m bs e bounds = (ap (λ (x : Layout). x.cap) e ∙ bounds.0, ap (λ (x : Layout). x.lo) e ∙ bounds.1, ap (λ (x : Layout). x.hi) e ∙ bounds.2, ap (λ (x : Layout). x.grain) e ∙ bounds.3)
 
 -- what a step leaves of the blocks, the i-th of them slid
-module _ (l new : Layout) (from to : ℕ) (b : Block) (ordered : IsOrdered l) (got : slice_get l.blocks (rank from l.blocks) ≡ Some b) (le : to ≤ b.at)
+module _ (l new : Layout) (to : ℕ) (b : Block) (ordered : IsOrdered l) (got : slice_get l.blocks (rank to l.blocks) ≡ Some b) (le : to ≤ b.at) (settled : AllByRecursion (λ c. block_end c ≤ to) (take (rank to l.blocks) l.blocks))
     (is : new ≡ with_blocks l (set l.blocks (rank b.at l.blocks) (record b { at = to }))) where
-  slid : new.blocks ≡ set l.blocks (rank from l.blocks) (record b { at = to })
-  slid = listed new l _ is ∙ ap (λ (k : ℕ). set l.blocks k (record b { at = to })) (rank_got l.lo l.hi from l.blocks b ordered.laid got)
+  slid : new.blocks ≡ set l.blocks (rank to l.blocks) (record b { at = to })
+  slid = listed new l _ is ∙ ap (λ (k : ℕ). set l.blocks k (record b { at = to })) (rank_got l.lo l.hi to l.blocks b ordered.laid got)
 
-  stepped : rank (block_end b) (set l.blocks (rank from l.blocks) (record b { at = to })) ≡ suc (rank from l.blocks)
-  stepped = rank_slid l.lo l.hi to l.blocks (rank from l.blocks) b ordered.laid got le
+  stepped : rank (to + b.size) (set l.blocks (rank to l.blocks) (record b { at = to })) ≡ suc (rank to l.blocks)
+  stepped = rank_slid l.lo l.hi to l.blocks (rank to l.blocks) b ordered.laid got le settled
 
 pub loop-block-smaller : goal.loop-block-smaller
 loop-block-smaller g c =
-    let l = c.loop-block.blocks in let from = c.loop-block.from in let to = c.loop-block.to in let b = c.in-Some.block in
-    let got : slice_get l.blocks (rank from l.blocks) ≡ Some b = c.in-Some.ensures.value.0 in
-    let down = (laid_step l.hi to (rank from l.blocks) b l.blocks got c.loop-block.invariant.laid).0 in
-    let inside = inside_got l.blocks (rank from l.blocks) b got in
-    let is = slid l c.settle.new.blocks from to b c.loop-block.invariant.ordered got down c.settle.ensures.blocks in
-    let same : length c.settle.new.blocks.blocks ≡ length l.blocks = ap length is ∙ length-set l.blocks (rank from l.blocks) _ in
-    let next : rank (block_end b) c.settle.new.blocks.blocks ≡ suc (rank from l.blocks) = ap (rank (block_end b)) is ∙ stepped l c.settle.new.blocks from to b c.loop-block.invariant.ordered got down c.settle.ensures.blocks in
+    let l = c.loop-block.blocks in let to = c.loop-block.to in let b = c.in-Some.block in
+    let got : slice_get l.blocks (rank to l.blocks) ≡ Some b = c.in-Some.ensures.value.0 in
+    let down = (laid_step l.hi to (rank to l.blocks) b l.blocks got c.loop-block.invariant.laid).0 in
+    let inside = inside_got l.blocks (rank to l.blocks) b got in
+    let is = slid l c.settle.new.blocks to b c.loop-block.invariant.ordered got down c.loop-block.invariant.settled c.settle.ensures.blocks in
+    let same : length c.settle.new.blocks.blocks ≡ length l.blocks = ap length is ∙ length-set l.blocks (rank to l.blocks) _ in
+    let next : rank (to + b.size) c.settle.new.blocks.blocks ≡ suc (rank to l.blocks) = ap (rank (to + b.size)) is ∙ stepped l c.settle.new.blocks to b c.loop-block.invariant.ordered got down c.loop-block.invariant.settled c.settle.ensures.blocks in
     rw (same, next) (omega arith)
 
 pub loop-block-preserved : goal.loop-block-preserved
 loop-block-preserved g c =
     let l = c.loop-block.blocks in let inv = c.loop-block.invariant in
-    let from = c.loop-block.from in let to = c.loop-block.to in let b = c.in-Some.block in let high = c.args.high in
-    let i = rank from l.blocks in
+    let to = c.loop-block.to in let b = c.in-Some.block in let high = c.args.high in
+    let i = rank to l.blocks in
     let got : slice_get l.blocks i ≡ Some b = c.in-Some.ensures.value.0 in
     let lt : b.at < high = c.in-Some.ensures.value.1 in
     let step = laid_step l.hi to i b l.blocks got inv.laid in
     let down = step.0 in
     let after : List Block = set l.blocks i (record b { at = to }) in
-    let new : c.settle.new.blocks.blocks ≡ after = slid l c.settle.new.blocks from to b inv.ordered got down c.settle.ensures.blocks in
-    let next : rank (block_end b) after ≡ suc i = stepped l c.settle.new.blocks from to b inv.ordered got down c.settle.ensures.blocks in
+    let new : c.settle.new.blocks.blocks ≡ after = slid l c.settle.new.blocks to b inv.ordered got down inv.settled c.settle.ensures.blocks in
+    let next : rank (to + b.size) after ≡ suc i = stepped l c.settle.new.blocks to b inv.ordered got down inv.settled c.settle.ensures.blocks in
     let rest = rest_step (FitsGap c.args.low high) to i b l.blocks got inv.rest in
     let wide = c.from-moved.ensures in
     let r = wide ∙ c.settle.ensures.moved in
@@ -154,11 +147,11 @@ moved_is bs old low high to i moved sum same e =
     omega (arith, none, total, sum)
 
 module _ (g : Given.Over) (c : goal.In_default g) where
-  stays : packed c.args.high c.loop-block.to (drop (rank c.loop-block.from c.loop-block.blocks.blocks) c.loop-block.blocks.blocks) ≡ drop (rank c.loop-block.from c.loop-block.blocks.blocks) c.loop-block.blocks.blocks
-  stays = packed_rest c.args.high c.loop-block.to (rank c.loop-block.from c.loop-block.blocks.blocks) c.loop-block.blocks.blocks c.in_default.ensures.value
+  stays : packed c.args.high c.loop-block.to (drop (rank c.loop-block.to c.loop-block.blocks.blocks) c.loop-block.blocks.blocks) ≡ drop (rank c.loop-block.to c.loop-block.blocks.blocks) c.loop-block.blocks.blocks
+  stays = packed_rest c.args.high c.loop-block.to (rank c.loop-block.to c.loop-block.blocks.blocks) c.loop-block.blocks.blocks c.in_default.ensures.value
 
   list : c.loop-block.blocks.blocks ≡ gathered c.args.low c.args.high c.args.blocks.now.blocks
-  list = ended c.loop-block.blocks.blocks c.args.blocks.now.blocks c.args.low c.args.high c.loop-block.to (rank c.loop-block.from c.loop-block.blocks.blocks) c.loop-block.invariant.list stays
+  list = ended c.loop-block.blocks.blocks c.args.blocks.now.blocks c.args.low c.args.high c.loop-block.to (rank c.loop-block.to c.loop-block.blocks.blocks) c.loop-block.invariant.list stays
 
 pub returns-clause-blocks : goal.returns-clause-blocks
 returns-clause-blocks g c =
@@ -166,7 +159,7 @@ returns-clause-blocks g c =
     λ i. record { cap = bounds.0 i; lo = bounds.1 i; hi = bounds.2 i; grain = bounds.3 i; blocks = e i }
 
 pub returns-clause-moved : goal.returns-clause-moved
-returns-clause-moved g c = moved_is c.loop-block.blocks.blocks c.args.blocks.now.blocks c.args.low c.args.high c.loop-block.to (rank c.loop-block.from c.loop-block.blocks.blocks) c.loop-block.moved c.loop-block.invariant.sum (stays g c) (list g c)
+returns-clause-moved g c = moved_is c.loop-block.blocks.blocks c.args.blocks.now.blocks c.args.low c.args.high c.loop-block.to (rank c.loop-block.to c.loop-block.blocks.blocks) c.loop-block.moved c.loop-block.invariant.sum (stays g c) (list g c)
 
 pub returns-clause-slid : goal.returns-clause-slid
 returns-clause-slid g c =

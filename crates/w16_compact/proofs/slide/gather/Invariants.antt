@@ -11,7 +11,7 @@ use Rattle.w16_compact.proofs.slide.gather.Given as goal
 abbrev pub invariant-loop-block : goal.invariant-loop-block
 invariant-loop-block g l =
     let bytes = g.S.Space.bytes in
-    let i = rank l.from l.blocks.blocks in
+    let i = rank l.to l.blocks.blocks in
     record {
       -- the blocks: what is left to do gives the gathered ones
       bounds : (l.blocks.cap ≡ l.fn.blocks.cap) × (l.blocks.lo ≡ l.fn.blocks.lo) × (l.blocks.hi ≡ l.fn.blocks.hi) × (l.blocks.grain ≡ l.fn.blocks.grain);
@@ -34,4 +34,4 @@ invariant-loop-block g l =
     }
 
 abbrev pub decreases-loop-block : goal.decreases-loop-block
-decreases-loop-block g l = length l.blocks.blocks - rank l.from l.blocks.blocks
+decreases-loop-block g l = length l.blocks.blocks - rank l.to l.blocks.blocks
