@@ -1,4 +1,4 @@
-use Rattle.std.proofs.Common.{◌+◌, ◌-◌, ◌/◌, ◌∙◌, arith, subst}
+use Rattle.std.proofs.Common.{◌∙◌, arith, subst}
 use Rattle.std.specs.Prelude.{◌<◌}
 use Rattle.w16_model.specs.Discards.{room_for, snapshot}
 use Rattle.w16_compact.proofs.Halved.{from_one, above, least_needed, none_needed}
