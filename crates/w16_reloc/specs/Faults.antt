@@ -36,7 +36,7 @@ pub record HasWrongSite (bytes : List ℕ) (before : List Site) (r : Record) (e 
   pub sound : AreApart (length bytes) (before ++ of_width (width_of r) ats)
   pub wrong : IsWrong (length bytes) (before ++ of_width (width_of r) ats) (record { at = at; width = width_of r }) e
 
--- The record at an index of the table is at fault: it isn't well formed, or else a site of its is wrong.
+-- The record at an index of the table is at fault: it isn't well formed, or else one of its sites is wrong.
 abbrev pub IsAtFault : Offer → List ℕ → List ℕ → ℕ → List Site → RelocFault → Type 0
 IsAtFault offer bytes raw at before BadRecord = (r : Record) → IsRecord offer raw at r → ⊥
 IsAtFault offer bytes raw at before e = (r : Record) × IsRecord offer raw at r × HasWrongSite bytes before r e
