@@ -2,10 +2,11 @@
 
 use super::{AS_IT_STANDS, Answer, DISCARDING, SLIDING, Step, act, in_order, made};
 use std::alloc::{AllocError, Global};
+use std::process::Abort;
 use std::test::Fail;
 use w16_arena::Arena;
 use w16_holes::SideHoles;
-use w16_model::{Block, Kind, Snapshot};
+use w16_model::{Block, Kind, Snapshot, Way};
 use w16_region::Region;
 
 /// A heap that some calls leave, and requests there with how many discards they make, if they are answered.
@@ -134,36 +135,67 @@ fn plain<'a>(arena: &Arena<SideHoles>, blocks: &'a [Block], order: &'a [u32]) ->
     }
 }
 
+/// Makes a request in a heap. It discards as many as the plain program says, the least recently used first.
+fn asks(
+    rt: &impl Abort,
+    alloc: Global,
+    heap: Heap,
+    asked: (u32, u32, Option<usize>),
+    way: Way,
+) -> Result<(), AllocError> {
+    let Heap { name, steps, .. } = heap;
+    let (id, size, count) = asked;
+    let (mut arena, mut region) = made(rt, alloc, steps)?;
+    let order = in_order(alloc, &arena)?;
+    let blocks = blocks(alloc, &arena, &region)?;
+    let before = plain(&arena, &blocks, &order);
+    assert!(rt; before.is_placed(), "{name}");
+    let expected = before.prefix(alloc, size, Some(id), way)?;
+    if way.discard {
+        assert_eq!(rt; expected, count, "{name}: {size} by the plain program");
+    }
+    let eligible = before.eligible(alloc, Some(id))?;
+    let step = Step::Alloc(id, size, Kind::Discardable, way);
+    let answer = act(rt, &mut arena, &mut region, step);
+    let first = expected.unwrap_or(0).min(eligible.len());
+    assert_eq!(rt; arena.discarded(), &eligible[..first], "{name}: {size}");
+    assert_eq!(rt;
+        answer == Answer::NoRoom,
+        expected.is_none(),
+        "{name}: {size}"
+    );
+    Ok(())
+}
+
+/// Makes room for so many bytes in a heap. It discards as many as the plain program says, and answers the room there is then.
+fn compacts(rt: &impl Abort, alloc: Global, heap: Heap, n: u32) -> Result<(), AllocError> {
+    let Heap { name, steps, .. } = heap;
+    let (mut arena, mut region) = made(rt, alloc, steps)?;
+    let order = in_order(alloc, &arena)?;
+    let blocks = blocks(alloc, &arena, &region)?;
+    let before = plain(&arena, &blocks, &order);
+    assert!(rt; before.is_placed(), "{name}");
+    let eligible = before.eligible(alloc, None)?;
+    let all = eligible.len();
+    let needed = before.needed(alloc, n, None)?;
+    let first = needed.unwrap_or(all).min(all);
+    let room = before.room_for(alloc, first, None)?;
+    let most = before.room_for(alloc, all, None)?;
+    let answer = act(rt, &mut arena, &mut region, Step::RoomAll);
+    assert_eq!(rt; answer, Answer::Room(most), "{name}");
+    let answer = act(rt, &mut arena, &mut region, Step::Compact(n));
+    assert_eq!(rt; arena.discarded(), &eligible[..first], "{name}: {n}");
+    assert_eq!(rt; room_of(answer), Some(room), "{name}: {n}");
+    Ok(())
+}
+
 #[test]
 fn discards_as_few_as_are_needed(rt: HostRuntime) -> Result<(), Fail> {
     for heap in HEAPS {
-        let Heap { name, steps, asked } = *heap;
-        for (id, size, count) in asked {
-            for way in [AS_IT_STANDS, SLIDING, DISCARDING] {
-                let (mut arena, mut region) = made(&rt, rt.alloc(), steps)?;
-                let order = in_order(rt.alloc(), &arena)?;
-                let blocks = blocks(rt.alloc(), &arena, &region)?;
-                let before = plain(&arena, &blocks, &order);
-                assert!(rt; before.is_placed(), "{name}");
-                let expected = before.prefix(rt.alloc(), *size, Some(*id), way)?;
-                if way.discard {
-                    assert_eq!(rt; expected, *count, "{name}: {size} by the plain program");
-                }
-                let eligible = before.eligible(rt.alloc(), Some(*id))?;
-                let answer = act(
-                    &rt,
-                    &mut arena,
-                    &mut region,
-                    Step::Alloc(*id, *size, Kind::Discardable, way),
-                );
-                let first = expected.unwrap_or(0).min(eligible.len());
-                assert_eq!(rt; arena.discarded(), &eligible[..first], "{name}: {size}");
-                assert_eq!(rt;
-                    answer == Answer::NoRoom,
-                    expected.is_none(),
-                    "{name}: {size}"
-                );
-            }
+        for asked in heap.asked {
+            asks(&rt, rt.alloc(), *heap, *asked, AS_IT_STANDS)?;
+            asks(&rt, rt.alloc(), *heap, *asked, SLIDING)?;
+            asks(&rt, rt.alloc(), *heap, *asked, DISCARDING)?;
         }
     }
     Ok(())
@@ -172,27 +204,8 @@ fn discards_as_few_as_are_needed(rt: HostRuntime) -> Result<(), Fail> {
 #[test]
 fn compaction_discards_as_few_as_are_needed(rt: HostRuntime) -> Result<(), Fail> {
     for heap in HEAPS {
-        let Heap { name, steps, .. } = *heap;
         for n in [1, 32, 64, 96, 128, 160, 192, 256, 288] {
-            let (mut arena, mut region) = made(&rt, rt.alloc(), steps)?;
-            let order = in_order(rt.alloc(), &arena)?;
-            let blocks = blocks(rt.alloc(), &arena, &region)?;
-            let before = plain(&arena, &blocks, &order);
-            assert!(rt; before.is_placed(), "{name}");
-            let eligible = before.eligible(rt.alloc(), None)?;
-            let all = eligible.len();
-            let needed = before.needed(rt.alloc(), n, None)?;
-            let first = needed.unwrap_or(all).min(all);
-            let room = before.room_for(rt.alloc(), first, None)?;
-            let most = before.room_for(rt.alloc(), all, None)?;
-            assert_eq!(rt;
-                act(&rt, &mut arena, &mut region, Step::RoomAll),
-                Answer::Room(most),
-                "{name}"
-            );
-            let answer = act(&rt, &mut arena, &mut region, Step::Compact(n));
-            assert_eq!(rt; arena.discarded(), &eligible[..first], "{name}: {n}");
-            assert_eq!(rt; room_of(answer), Some(room), "{name}: {n}");
+            compacts(&rt, rt.alloc(), *heap, n)?;
         }
     }
     Ok(())
