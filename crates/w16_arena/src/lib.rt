@@ -57,7 +57,7 @@ impl<H: HoleList> Model for Arena<H> {
 }
 
 impl<H: HoleList> Arena<H> {
-    /// No object yet, of ids below `cap`, between `lo` and `hi`, at multiples of the grain, over holes of which all that is one. An error
+    /// No object yet, of ids below `cap`, between `lo` and `hi`, at multiples of the grain. `holes` have all of that as one hole. An error
     /// is that there was no memory.
     pub fn new(
         alloc: Global,

@@ -28,7 +28,7 @@ impl<H: HoleList> Arena<H> {
     }
 
     /// The first part of the heap that begins at an address or above it; none behind the last. A whole walk asks from 0 on, and then each
-    /// time from one above where the last part begins.
+    /// time from one above where the last part begins. From inside a part the next is sought unit by unit.
     pub fn walk_from<S: Space>(&self, space: &S, from: u32) -> Option<Item>
     where
         H: Holes<S>,
