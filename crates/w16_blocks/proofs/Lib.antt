@@ -14,3 +14,7 @@ pub mod Next
 pub mod Walk
 pub mod Passed
 pub mod Outside
+pub mod Tagged
+pub mod Sliding
+pub mod RunHoles
+pub mod RunKept

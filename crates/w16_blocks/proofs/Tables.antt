@@ -13,7 +13,7 @@ use Rattle.w16_blocks.proofs.Cells.{each_told, blocks_in-set, blocks_in-begin, b
 use Rattle.w16_blocks.proofs.Ordered.{IsOrdered-placed, IsOrdered-all_but}
 
 -- one unit is told by where it begins
-same_unit : (g p k u : ℕ) → 0 < g → p + g * k ≡ p + g * u → k ≡ u
+pub same_unit : (g p k u : ℕ) → 0 < g → p + g * k ≡ p + g * u → k ≡ u
 same_unit g p k u some e = elim (cases_lt k u) [
   | inl less ↦ let r = above g k u less in absurd (omega arith)
   | inr le ↦ elim (cases_lt u k) [

@@ -2,3 +2,4 @@ pub mod Layout
 pub mod Kept
 pub mod Stay
 pub mod Parts
+pub mod Runs

@@ -9,6 +9,7 @@ ghost use Rattle.w16_blocks.specs.Stay.{IsBeyond};
 
 mod by_address;
 mod parts;
+mod runs;
 
 pub use by_address::ByAddress;
 pub use parts::Part;

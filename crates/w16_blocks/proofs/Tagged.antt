@@ -1,0 +1,50 @@
+-- The block that begins at a place, by the place's cell.
+use Rattle.std.proofs.Common.{ℕ, zero, suc, ◌≡◌, ◌≢◌, ◌+◌, ◌-◌, ◌*◌, ◌<◌, ◌≤◌, List, [], ◌∷◌, length, get_or, Some, arith, refl, sym, ap, ◌∙◌}
+use Rattle.std.specs.Prelude.{slice_index}
+use Rattle.std.specs.List.{AllByRecursion}
+use Rattle.w16_model.specs.declared.Block.{Block}
+use Rattle.w16_model.specs.Table.{block_with}
+use Rattle.w16_holes.proofs.Units.{below}
+use Rattle.w16_blocks.specs.Layout.{Layout}
+use Rattle.w16_blocks.specs.Kept.{no_block, slot_of, blocks_in, layout_in, AreTables}
+use Rattle.w16_blocks.proofs.Cells.{All-told, told_with}
+use Rattle.w16_blocks.proofs.Tables.{same_unit}
+
+-- what is read inside a table doesn't depend on what is read outside it
+read_any : (slots : List Block) (i : ℕ) (c d : Block) → i < length slots → get_or slots i c ≡ get_or slots i d
+read_any [] i c d lt = absurd (omega arith)
+read_any (s ∷ slots) zero c d lt = refl
+read_any (s ∷ slots) (suc i) c d lt = read_any slots i c d (omega arith)
+
+module _ {cap lo hi g : ℕ} {slots : List Block} {cells : List ℕ} (t : AreTables cap lo hi g slots cells) {place : ℕ} (u : ℕ) (at : place ≡ lo + g * u) where
+  pub unit_in : place ≤ hi → u < length cells
+  unit_in le = let many = t.long in below g u (length cells) (omega arith)
+
+  pub none_at : slice_index cells u ≡ 0 → AllByRecursion (λ b. b.at ≢ place) (blocks_in slots cells)
+  none_at clear = All-told (λ b. b.at ≢ place) slots cells
+      (λ k id e same. let begins = (t.begun k id e).at in let here = same_unit g lo k u t.some (omega arith) in let cell = sym (ap (slice_index cells) here) ∙ e in omega arith)
+
+  -- a cell that isn't 0 tells one
+  module _ {begin : ℕ} (read : begin ≡ slice_index cells u) (some : begin ≢ 0) where
+    tells : slice_index cells u ≡ suc (begin - 1)
+    tells = omega arith
+
+    pub slot_in : begin - 1 < length slots
+    slot_in = (t.begun u (begin - 1) tells).inside
+
+    module _ (d : Block) where
+      is_slot : get_or slots (begin - 1) d ≡ slot_of slots (begin - 1)
+      is_slot = read_any slots (begin - 1) d no_block slot_in
+
+      pub begins_at : (get_or slots (begin - 1) d).at ≡ place
+      begins_at = let begins = (t.begun u (begin - 1) tells).at in ap (λ (c : Block). c.at) is_slot ∙ (omega arith)
+
+      pub is_known : block_with (blocks_in slots cells) (get_or slots (begin - 1) d).id ≡ Some (get_or slots (begin - 1) d)
+      is_known =
+          ap (block_with (blocks_in slots cells)) (ap (λ (c : Block). c.id) is_slot ∙ (t.begun u (begin - 1) tells).same)
+          ∙ told_with lo g slots cells u (begin - 1) t.begun tells ∙ ap Some (sym is_slot)
+
+-- a block that lent tables tell is the layout's
+pub known_by : {cap lo hi g : ℕ} {slots slots' : List Block} {cells cells' : List ℕ} {l : Layout} (x : Block) → layout_in cap lo hi g slots cells ≡ l → slots' ≡ slots → cells' ≡ cells → block_with (blocks_in slots' cells') x.id ≡ Some x → block_with l.blocks x.id ≡ Some x
+known_by {cap} {lo} {hi} {g} {slots} {slots'} {cells} {cells'} x is one two known =
+    ap (λ (m : Layout). block_with m.blocks x.id) (sym is) ∙ ap (λ (ss : List Block). block_with (blocks_in ss cells) x.id) (sym one) ∙ ap (λ (cs : List ℕ). block_with (blocks_in slots' cs) x.id) (sym two) ∙ known

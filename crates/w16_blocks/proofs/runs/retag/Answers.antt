@@ -1,0 +1,26 @@
+use Rattle.std.proofs.Common.{ℕ, ◌∙◌, ap, length, set, refl, sym, subst, add-one}
+use Rattle.w16_blocks.specs.Kept.{blocks_in, layout_in, AreTables}
+use Rattle.w16_blocks.proofs.Step.{lies, grained_known}
+use Rattle.w16_blocks.proofs.Tables.{cell_at, unit_told, AreTables-move, blocks_in-move}
+use Rattle.w16_blocks.proofs.runs.retag.Goals as goal
+
+pub unit_of-requires-clause-from : goal.unit_of-requires-clause-from
+unit_of-requires-clause-from c = (lies (layout_in (length c.args.slots.now) c.args.bounds.from c.args.bounds.to c.args.grain c.args.slots.now c.args.begins.now) c.args.block.id c.args.block c.requires.known c.requires.tables.ordered).0
+
+pub unit_of-requires-clause-grained : goal.unit_of-requires-clause-grained
+unit_of-requires-clause-grained c = (grained_known (layout_in (length c.args.slots.now) c.args.bounds.from c.args.bounds.to c.args.grain c.args.slots.now c.args.begins.now) c.args.block.id c.args.block c.requires.known c.requires.tables.ordered).0
+
+pub bounds-begins-unit_of : goal.bounds-begins-unit_of
+bounds-begins-unit_of c = unit_told c.requires.tables refl c.unit_of.result (cell_at c.requires.tables refl c.unit_of.result c.requires.known c.unit_of.ensures)
+
+pub returns-clause-tables : goal.returns-clause-tables
+returns-clause-tables c =
+    subst
+    (λ (i : ℕ). AreTables (length c.args.slots.now) c.args.bounds.from c.args.bounds.to c.args.grain (set c.args.slots.now c.args.block.id (record c.args.block { at = c.args.to })) (set (set c.args.begins.now c.unit_of.result 0) c.unit_of-2.result i))
+    (sym (add-one c.args.block.id))
+    (AreTables-move c.requires.tables refl c.unit_of.result c.unit_of-2.result (cell_at c.requires.tables refl c.unit_of.result c.requires.known c.unit_of.ensures) c.requires.fits c.unit_of-2.ensures)
+
+pub returns-clause-blocks : goal.returns-clause-blocks
+returns-clause-blocks c =
+    ap (λ (i : ℕ). blocks_in (set c.args.slots.now c.args.block.id (record c.args.block { at = c.args.to })) (set (set c.args.begins.now c.unit_of.result 0) c.unit_of-2.result i)) (add-one c.args.block.id)
+    ∙ blocks_in-move c.requires.tables refl c.unit_of.result c.unit_of-2.result (cell_at c.requires.tables refl c.unit_of.result c.requires.known c.unit_of.ensures) c.requires.fits c.unit_of-2.ensures

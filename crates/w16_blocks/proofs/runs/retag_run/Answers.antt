@@ -1,0 +1,101 @@
+use Rattle.std.proofs.Common.{ℕ, List, Some, length, map, arith, refl, sym, subst, ◌∙◌, ◌+◌, ◌-◌, ◌<◌, ◌≤◌, ◌^◌, ◌≡◌}
+use Rattle.std.specs.List.{AllByRecursion}
+use Rattle.w16_model.specs.declared.Block.{Block}
+use Rattle.w16_model.specs.declared.Span.{Span}
+use Rattle.w16_model.specs.Heap.{IsMultiple}
+use Rattle.w16_model.specs.Table.{block_with}
+use Rattle.w16_holes.proofs.Units.{multiple_sum}
+use Rattle.w16_blocks.specs.Layout.{Layout, IsOrdered, FitsFor, replaced}
+use Rattle.w16_blocks.specs.Kept.{blocks_in, layout_in, AreTables}
+use Rattle.w16_blocks.specs.Runs.{slid_with}
+use Rattle.w16_blocks.proofs.Step.{lies, grained_known, multiple_less}
+use Rattle.w16_blocks.proofs.Sliding.{IsReady, IsFilled, slid_none, ready_start, filled_start, some_at, ends_inside, fits_there, ready_then, filled_then, slid_then}
+use Rattle.w16_blocks.proofs.runs.retag_run.Goals as goal
+
+pub loop-at-init : goal.loop-at-init
+loop-at-init c =
+    let blocks = blocks_in c.args.slots.now c.args.begins.now in
+    let is = c.requires.run in
+    record {
+      tables = c.requires.tables;
+      slid = sym (slid_none c.args.run.from c.args.to blocks);
+      ready = ready_start c.args.run c.args.to blocks c.requires.bare is.whole.1;
+      filled = filled_start (layout_in (length c.args.slots.now) c.args.bounds.from c.args.bounds.to c.args.grain c.args.slots.now c.args.begins.now) c.args.run c.requires.tables.ordered is;
+      from = omega arith;
+      end = is.inside.1;
+      grained = is.grained.0;
+      slots = refl;
+      begins = refl;
+    }
+
+pub unreachable-requires : goal.unreachable-requires
+unreachable-requires c =
+    let inv = c.loop-at.invariant in
+    some_at c.args.run c.args.to c.loop-at.at (blocks_in c.loop-at.slots c.loop-at.begins) c.requires.down.1 inv.from c.loop-at-test.true inv.ready inv.filled c.in_default.ensures
+
+-- the tables at some turn, whose number of ids is that of the start
+module _ {cap lo hi g : ℕ} {slots : List Block} {cells : List ℕ} (t : AreTables cap lo hi g slots cells) (same : length slots ≡ cap) where
+  abbrev now : Layout
+  now = layout_in (length slots) lo hi g slots cells
+
+  ordered : IsOrdered now
+  ordered = subst (λ (n : ℕ). IsOrdered (layout_in n lo hi g slots cells)) (sym same) t.ordered
+
+  ids : length slots < 2 ^ 32
+  ids = let few = t.ids in omega arith
+
+  module _ {run : Span} {to at : ℕ} (down : to ≤ run.from) (from : run.from ≤ at) (lt : at < run.to) (ready : AllByRecursion (IsReady run to at) now.blocks) (x : Block) (known : block_with now.blocks x.id ≡ Some x) (here : x.at ≡ at) where
+    ends : at + x.size ≤ run.to
+    ends = ends_inside now ordered ids run to at down from lt ready x known here
+
+    some : 0 < x.size
+    some = (lies now x.id x known ordered).1
+
+    fits : IsMultiple g to → IsMultiple g at → IsMultiple g run.from → lo ≤ to → FitsFor now (record x { at = to + (at - run.from) })
+    fits one two three low = fits_there now ordered ids run to at down from lt ready x known here (multiple_sum g to (at - run.from) one (multiple_less g at run.from two three)) low
+
+    size : IsMultiple g x.size
+    size = (grained_known now x.id x known ordered).1
+
+    slid : (old : List Block) → now.blocks ≡ map (slid_with (record { from = run.from; to = at }) to) old → replaced (record x { at = to + (at - run.from) }) now.blocks ≡ map (slid_with (record { from = run.from; to = at + x.size }) to) old
+    slid = slid_then now ordered ids run to at down from lt ready x known here
+
+    ready' : AllByRecursion (IsReady run to (at + x.size)) (replaced (record x { at = to + (at - run.from) }) now.blocks)
+    ready' = ready_then now ordered ids run to at down from lt ready x known here
+
+    filled' : IsFilled at run.to now.blocks → IsFilled (at + x.size) run.to (replaced (record x { at = to + (at - run.from) }) now.blocks)
+    filled' = filled_then now ordered ids run to at down from lt ready x known here
+
+pub retag-requires-clause-fits : goal.retag-requires-clause-fits
+retag-requires-clause-fits c =
+    let inv = c.loop-at.invariant in let is = c.in-Some.ensures in
+    fits inv.tables inv.slots c.requires.down.1 inv.from c.loop-at-test.true inv.ready c.in-Some.block is.1 is.0 c.requires.grained inv.grained c.requires.run.grained.0 c.requires.down.0
+
+pub overflow_add-at : goal.overflow_add-at
+overflow_add-at c =
+    let inv = c.loop-at.invariant in let is = c.in-Some.ensures in
+    let end = ends inv.tables inv.slots c.requires.down.1 inv.from c.loop-at-test.true inv.ready c.in-Some.block is.1 is.0 in
+    let top = c.requires.run.inside.2 in let small = c.requires.tables.ordered.small in record { fits = omega arith }
+
+pub loop-at-smaller : goal.loop-at-smaller
+loop-at-smaller c =
+    let inv = c.loop-at.invariant in let is = c.in-Some.ensures in
+    let size = some inv.tables inv.slots c.requires.down.1 inv.from c.loop-at-test.true inv.ready c.in-Some.block is.1 is.0 in
+    let lt = c.loop-at-test.true in omega arith
+
+pub loop-at-preserved : goal.loop-at-preserved
+loop-at-preserved c =
+    let inv = c.loop-at.invariant in let run = c.args.run in let at = c.loop-at.at in let block = c.in-Some.block in
+    let down = c.requires.down.1 in let lt = c.loop-at-test.true in let is = c.in-Some.ensures in
+    let new = sym c.retag.ensures.blocks in
+    record {
+      tables = subst (λ (n : ℕ). AreTables n c.args.bounds.from c.args.bounds.to c.args.grain c.retag.new.slots c.retag.new.begins) inv.slots c.retag.ensures.tables;
+      slid = c.retag.ensures.blocks ∙ slid inv.tables inv.slots down inv.from lt inv.ready block is.1 is.0 (blocks_in c.args.slots.now c.args.begins.now) inv.slid;
+      ready = subst (AllByRecursion (IsReady run c.args.to (at + block.size))) new (ready' inv.tables inv.slots down inv.from lt inv.ready block is.1 is.0);
+      filled = subst (IsFilled (at + block.size) run.to) new (filled' inv.tables inv.slots down inv.from lt inv.ready block is.1 is.0 inv.filled);
+      from = let start = inv.from in omega arith;
+      end = ends inv.tables inv.slots down inv.from lt inv.ready block is.1 is.0;
+      grained = multiple_sum c.args.grain at block.size inv.grained (size inv.tables inv.slots down inv.from lt inv.ready block is.1 is.0);
+      slots = c.retag.ensures.slots ∙ inv.slots;
+      begins = c.retag.ensures.begins ∙ inv.begins;
+    }
