@@ -37,7 +37,7 @@ use Rattle.w16_arena.proofs.Lookups.{bytes_here}
 use Rattle.w16_arena.proofs.Listed.{is_listed, listed_permutation, listed_room, listed_with}
 use Rattle.w16_arena.proofs.Moved.{moved_few}
 use Rattle.w16_arena.proofs.Oldest.{eligible_few}
-use Rattle.w16_arena.proofs.Rooms.{room_whole}
+use Rattle.w16_compact.proofs.OnePass.{room_whole}
 
 -- where a discarded heap has a place, the heap before has it
 places_before : (ids : List ℕ) (heap : Heap) (q : ℕ) (at : ℕ) → finmap.get (fold absent heap ids).places q ≡ Some at → finmap.get heap.places q ≡ Some at

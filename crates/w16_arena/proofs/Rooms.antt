@@ -3,9 +3,8 @@ use Rattle.std.specs.List.{find}
 use Rattle.std.proofs.Common.{◌≡◌, ℕ, ◌-◌, ◌<◌, ◌≤◌, Bool, true, false, nat_le, IfSome, List, [], ◌∷◌, Option, Some, None, option_map, refl, sym, ap, subst, arith}
 use Rattle.w16_model.specs.declared.Block.{Block}
 use Rattle.w16_compact.specs.Gather.{moved_between}
-use Rattle.w16_compact.proofs.Gathered.{moved_same}
+use Rattle.w16_compact.proofs.Gathering.{moved_same}
 use Rattle.w16_model.specs.declared.Span.{Span}
-use Rattle.w16_model.specs.Discards.{blocks_without, room_for, snapshot}
 use Rattle.w16_model.specs.Gap.{ArePlaced, holes, room, longest_hole}
 use Rattle.w16_model.proofs.Laid.{laid_placed}
 use Rattle.w16_blocks.specs.Layout.{Layout, IsOrdered}
@@ -45,14 +44,6 @@ module _ {l : Layout} (ordered : IsOrdered l) (n : ℕ) where
       → (compact : Bool) → compact ≡ true → IfSome made (λ _. n ≤ most_for l compact)
   made_enough memory after new None slid free compact on = tt
   made_enough memory after new (Some p) slid free compact on = subst (λ b. n ≤ most_for l b) (sym on) (free_fits ordered slid n p.at free)
-
--- the room with none left out
-none_out_all : (xs : List Block) → blocks_without xs [] None ≡ xs
-none_out_all [] = refl
-none_out_all (x ∷ xs) = ap (λ ys. x ∷ ys) (none_out_all xs)
-
-pub room_whole : (lo hi : ℕ) (xs : List Block) (order : List ℕ) → room_for (snapshot lo hi xs order) 0 None ≡ room lo hi xs
-room_whole lo hi xs order = ap (room lo hi) (none_out_all xs)
 
 -- with no room there is no hole
 pub no_hole : {l : Layout} → IsOrdered l → (most : ℕ) → most ≡ room l.lo l.hi l.blocks → most ≡ 0 → most ≡ longest_hole l.lo l.hi l.blocks

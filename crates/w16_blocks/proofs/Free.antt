@@ -15,7 +15,7 @@ use Rattle.w16_holes.proofs.Sets.{low, same_holes}
 abbrev pub Lacks : ℕ → Block → Type 0
 Lacks p c = (p < c.at) ⊎ (block_end c ≤ p)
 
-later : (p lo hi : ℕ) (bs : List Block) → p < lo → IsLaid lo hi bs → AllByRecursion (Lacks p) bs
+pub later : (p lo hi : ℕ) (bs : List Block) → p < lo → IsLaid lo hi bs → AllByRecursion (Lacks p) bs
 later p lo hi bs lt laid = Each-map (λ y. (lo ≤ y.at) × (0 < y.size) × (block_end y ≤ hi)) (Lacks p) (λ y is. let from = is.0 in inl (omega arith)) bs (laid_each lo hi bs laid)
 
 pub laid_le : (lo hi : ℕ) (bs : List Block) → IsLaid lo hi bs → lo ≤ hi

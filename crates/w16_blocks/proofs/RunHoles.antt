@@ -7,23 +7,22 @@ use Rattle.w16_model.specs.declared.Block.{Block}
 use Rattle.w16_model.specs.declared.Span.{Span}
 use Rattle.w16_model.specs.Gap.{IsLaid, block_end, holes}
 use Rattle.w16_model.specs.Heap.{IsMultiple}
-use Rattle.w16_model.proofs.Gaps.{Each-map, Each-both}
-use Rattle.w16_model.proofs.Laid.{laid_each}
+use Rattle.w16_model.proofs.Gaps.{Each-map}
 use Rattle.w16_holes.specs.Holes.{AreHoles, IsFree, IsUsed, IsPart, taken, joined}
 use Rattle.w16_holes.specs.Law.{IsIn}
 use Rattle.w16_holes.proofs.Sets.{AreHoles-taken, taken_in, in_taken, AreHoles-joined, joined_in, in_joined}
 use Rattle.w16_blocks.specs.Layout.{Layout, IsOrdered, range_of, holes_of}
-use Rattle.w16_blocks.specs.Runs.{IsRun, IsBare, slid_with}
+use Rattle.w16_blocks.specs.Runs.{IsCut, IsRun, IsBare, slid_with}
 use Rattle.w16_blocks.proofs.Free.{Lacks, AreHoles-holes, free_lacks, lacks_free, are_between, used_of, free_of}
 use Rattle.w16_blocks.proofs.Step.{multiple_less}
 use Rattle.w16_blocks.proofs.Sliding.{slid_below, slid_above, slid_inside}
 
 -- what holds of each block of a list, and of what comes of each
-All-mapped : (R P Q : Block → Type 0) (f : Block → Block) → ((b : Block) → R b → P b → Q (f b)) → (bs : List Block) → AllByRecursion R bs → AllByRecursion P bs → AllByRecursion Q (map f bs)
+pub All-mapped : (R P Q : Block → Type 0) (f : Block → Block) → ((b : Block) → R b → P b → Q (f b)) → (bs : List Block) → AllByRecursion R bs → AllByRecursion P bs → AllByRecursion Q (map f bs)
 All-mapped R P Q f step [] one two = tt
 All-mapped R P Q f step (b ∷ bs) one two = (step b one.0 two.0, All-mapped R P Q f step bs one.1 two.1)
 
-All-unmapped : (R P Q : Block → Type 0) (f : Block → Block) → ((b : Block) → R b → Q (f b) → P b) → (bs : List Block) → AllByRecursion R bs → AllByRecursion Q (map f bs) → AllByRecursion P bs
+pub All-unmapped : (R P Q : Block → Type 0) (f : Block → Block) → ((b : Block) → R b → Q (f b) → P b) → (bs : List Block) → AllByRecursion R bs → AllByRecursion Q (map f bs) → AllByRecursion P bs
 All-unmapped R P Q f step [] one two = tt
 All-unmapped R P Q f step (b ∷ bs) one two = (step b one.0 two.0, All-unmapped R P Q f step bs one.1 two.1)
 
@@ -44,8 +43,21 @@ sum-slid run to (b ∷ bs) =
     let size = slid_size run to b in let rest = sum-slid run to bs in omega arith
 
 -- a block is before the run, behind it, or in it
-abbrev Lies : Span → Block → Type 0
+abbrev pub Lies : Span → Block → Type 0
 Lies run b = (0 < b.size) × ((block_end b ≤ run.from) ⊎ ((run.to ≤ b.at) ⊎ ((run.from ≤ b.at) × (block_end b ≤ run.to))))
+
+pub lies_of : (run : Span) (lo hi : ℕ) (bs : List Block) → IsLaid lo hi bs → IsCut run.from bs → IsCut run.to bs → AllByRecursion (Lies run) bs
+lies_of run lo hi [] laid one two = tt
+lies_of run lo hi (b ∷ bs) laid one two = (
+  (
+    laid.1,
+    elim one.0 [
+      | inl before ↦ inl before
+      | inr from ↦ elim two.0 [ inl end ↦ inr (inr (from, end)) | inr behind ↦ inr (inl behind) ]
+    ],
+  ),
+  lies_of run (block_end b) hi bs laid.2 one.1 two.1,
+)
 
 module _ (l : Layout) (ordered : IsOrdered l) (run : Span) (is : IsRun l run) (some : run.from < run.to) (to : ℕ) (down : to < run.from) (low : l.lo ≤ to) (bare : IsBare to run.from l.blocks) where
   abbrev size : ℕ
@@ -129,17 +141,7 @@ module _ (l : Layout) (ordered : IsOrdered l) (run : Span) (is : IsRun l run) (s
     used_after = used_of to (to + size) l.lo l.hi after (omega arith) are_after (λ p from below free. elim (free_after p free).1 [ inl before ↦ omega arith | inr behind ↦ omega arith ])
 
     lies_each : AllByRecursion (Lies run) l.blocks
-    lies_each = Each-both (λ b. (block_end b ≤ run.from) ⊎ (run.from ≤ b.at)) (λ b. ((block_end b ≤ run.to) ⊎ (run.to ≤ b.at)) × ((l.lo ≤ b.at) × (0 < b.size) × (block_end b ≤ l.hi))) (Lies run)
-        (λ b one two. (
-          two.1.1,
-          elim one [
-            | inl before ↦ inl before
-            | inr from ↦ elim two.0 [ inl end ↦ inr (inr (from, end)) | inr behind ↦ inr (inl behind) ]
-          ],
-        ))
-        l.blocks is.whole.0
-        (Each-both (λ b. (block_end b ≤ run.to) ⊎ (run.to ≤ b.at)) (λ b. (l.lo ≤ b.at) × (0 < b.size) × (block_end b ≤ l.hi)) (λ b. ((block_end b ≤ run.to) ⊎ (run.to ≤ b.at)) × ((l.lo ≤ b.at) × (0 < b.size) × (block_end b ≤ l.hi)))
-        (λ b one two. (one, two)) l.blocks is.whole.1 (laid_each l.lo l.hi l.blocks ordered.laid))
+    lies_each = lies_of run l.lo l.hi l.blocks ordered.laid is.whole.0 is.whole.1
 
     -- a byte that is free afterwards is in no block, where those of the run have slid
     lacks_then : (p : ℕ) → IsIn p after → (b : Block) → Lies run b → ((left ≤ p) × (p < run.to)) ⊎ Lacks p b → Lacks p (slid_with run to b)
@@ -180,7 +182,7 @@ module _ (l : Layout) (ordered : IsOrdered l) (run : Span) (is : IsRun l run) (s
         ]
 
     -- a byte that no block has afterwards is not in the new place
-    pub not_new : (p : ℕ) → AllByRecursion (Lacks p) (map (slid_with run to) l.blocks) → (p < to) ⊎ (to + size ≤ p)
+    not_new : (p : ℕ) → AllByRecursion (Lacks p) (map (slid_with run to) l.blocks) → (p < to) ⊎ (to + size ≤ p)
     not_new p all = elim (cases_lt p to) [
       | inl below ↦ inl below
       | inr from ↦ elim (cases_lt p (to + size)) [

@@ -426,7 +426,8 @@ impl<H: HoleList> Blocks<H> {
 
     /// The bytes that no block has.
     pub fn free(&self) -> u32
-        ensures { result ≡ self.now.hi - self.now.lo - sum_by (λ b. b.size) self.now.blocks }
+        ensures value { result ≡ self.now.hi - self.now.lo - sum_by (λ b. b.size) self.now.blocks }
+        ensures ordered { IsOrdered self.now }
     {
         self.free
     }

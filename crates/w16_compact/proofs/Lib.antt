@@ -1,9 +1,8 @@
 pub mod Rests
 pub mod OnePass
 pub mod Order
-pub mod Slid
-pub mod Steps
-pub mod Gathered
+pub mod Settled
+pub mod Gathering
 pub mod Loose
 pub mod Bounded
 pub mod Skips

@@ -1,13 +1,16 @@
 -- Room by one pass over the blocks by address.
-use Rattle.std.proofs.Common.{◌≡◌, ℕ, ◌+◌, ◌-◌, ◌<◌, ◌≤◌, max, min, Bool, true, false, cond, not, ◌&&◌, nat_le, nat_lt, IsTrue, List, [], ◌∷◌, map, filter, sum_by, refl, ap, ◌∙◌, arith, zero-add, le-leb, lt-ltb}
+use Rattle.std.proofs.Common.{◌≡◌, ℕ, ◌+◌, ◌-◌, ◌<◌, ◌≤◌, max, min, Bool, true, false, cond, not, ◌&&◌, nat_le, nat_lt, IsTrue, List, [], ◌∷◌, map, filter, sum_by, refl, ap, ◌∙◌, arith, None, zero-add, le-leb, lt-ltb}
 use Rattle.std.proofs.lemmas.Bool.{and_left, lt-leb, le-ltb, and_right, cond-true, cond-false, and_from}
 use Rattle.std.specs.Ordering.{ord_max, nat_cmp}
 use Rattle.std.proofs.lemmas.Bool.Decides.{nat_tests}
+use Rattle.std.proofs.lemmas.List.Sums.{sum_by-cons}
 use Rattle.w16_model.specs.declared.Block.{Block}
 use Rattle.std.specs.List.{AllByRecursion as Each}
 use Rattle.w16_model.proofs.Gaps.{Each-map, Each-of_map, Each-filter}
 use Rattle.w16_model.proofs.Longest.{sum_filter}
+use Rattle.w16_model.specs.Discards.{blocks_without, room_for, snapshot}
 use Rattle.w16_model.specs.Gap.{is_pinned, is_loose, block_end, begins_in, first_from, loose_bytes, largest, room_from, room, IsLaid}
+use Rattle.w16_blocks.proofs.Ordered.{sum_fits}
 
 -- the best gap so far, where the present gap begins, and the loose bytes in it
 abbrev pub scan : ℕ → ℕ → ℕ → ℕ → List Block → ℕ
@@ -133,3 +136,31 @@ scan-room lo hi xs h = scan_is hi 0 lo 0 xs h ∙ omega arith
 
 pub ord_max-max : (a b : ℕ) → ord_max nat_cmp a b ≡ max a b
 ord_max-max a b = grind (arith, nat_tests)
+
+-- no gap has more than the free bytes of all together
+scan_fits : (hi best start used lo : ℕ) (xs : List Block) → IsLaid lo hi xs → start + used ≤ lo → scan hi best start used xs ≤ max best (hi - start - used - sum_by (λ (x : Block). x.size) xs)
+scan_fits hi best start used lo [] laid le = omega arith
+scan_fits hi best start used lo (x ∷ xs) laid le =
+    let sum = sum_by-cons (λ (y : Block). y.size) x xs in let fit = sum_fits (block_end x) hi xs laid.2 in let from = laid.0 in
+    elim (is_pinned x) as (λ t. cond t (scan hi (max best (x.at - start - used)) (block_end x) 0 xs) (scan hi best start (used + x.size) xs) ≤ max best (hi - start - used - sum_by (λ (y : Block). y.size) (x ∷ xs))) [
+      | true ↦ let rest = scan_fits hi (max best (x.at - start - used)) (block_end x) 0 (block_end x) xs laid.2 (omega arith) in omega arith
+      | false ↦ let rest = scan_fits hi best start (used + x.size) (block_end x) xs laid.2 (omega arith) in omega arith
+    ]
+
+pub room_fits : (lo hi : ℕ) (xs : List Block) → IsLaid lo hi xs → room lo hi xs ≤ hi - lo - sum_by (λ (x : Block). x.size) xs
+room_fits lo hi xs laid = let one = scan-room lo hi xs laid in let two = scan_fits hi 0 lo 0 lo xs laid (omega arith) in omega arith
+
+-- the room with none left out
+none_out_all : (xs : List Block) → blocks_without xs [] None ≡ xs
+none_out_all [] = refl
+none_out_all (x ∷ xs) = ap (λ ys. x ∷ ys) (none_out_all xs)
+
+pub room_whole : (lo hi : ℕ) (xs : List Block) (order : List ℕ) → room_for (snapshot lo hi xs order) 0 None ≡ room lo hi xs
+room_whole lo hi xs order = ap (room lo hi) (none_out_all xs)
+
+-- so where the free bytes are fewer than n, so is the room
+pub too_few : (lo hi n free : ℕ) (xs : List Block) → IsLaid lo hi xs → free ≡ hi - lo - sum_by (λ (x : Block). x.size) xs → free < n → room lo hi xs < n
+too_few lo hi n free xs laid is few = let fit = room_fits lo hi xs laid in omega arith
+
+pub too_few_for : (lo hi n free : ℕ) (xs : List Block) (order : List ℕ) → IsLaid lo hi xs → free ≡ hi - lo - sum_by (λ (x : Block). x.size) xs → free < n → room_for (snapshot lo hi xs order) 0 None < n
+too_few_for lo hi n free xs order laid is few = let fit = too_few lo hi n free xs laid is few in let whole = room_whole lo hi xs order in omega arith

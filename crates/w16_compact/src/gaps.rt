@@ -33,6 +33,10 @@ pub fn gap_for<S: Space, H: Holes<S>>(blocks: &Blocks<H>, space: &S, n: u32) -> 
     ensures ordered { IsOrdered blocks.now }
 {
     let bounds = blocks.bounds();
+    // No gap has more than the free bytes of all together.
+    if blocks.free() < n {
+        return None;
+    }
     let mut reached = Reached {
         low: bounds.from,
         loose: 0,

@@ -1,5 +1,5 @@
 //! How many discards make room.
-ghost use Rattle.std.specs.Prelude.{◌≡◌, ℕ, ◌+◌, ◌<◌, ◌≤◌, ◌||◌, ◌∷◌, false, length, take, drop, IfSome, MatchOption, slice_index_or};
+ghost use Rattle.std.specs.Prelude.{◌≡◌, ℕ, ◌+◌, ◌<◌, ◌≤◌, ◌||◌, ◌∷◌, false, length, nat_le, take, drop, IfSome, MatchOption, slice_index_or};
 ghost use Rattle.w16_model.specs.Discards.{eligible, is_about, is_member, is_pinned_id, needed, room_for, snapshot};
 ghost use Rattle.w16_blocks.specs.Layout.{IsOrdered, holes_of};
 
@@ -38,7 +38,7 @@ pub fn least_prefix<S: Space, H: Holes<S>>(
         return None;
     }
     // A compaction often needs none.
-    if room_after(blocks, space, order, marks, h, 0) >= n {
+    if has_room(blocks, space, order, marks, h, n) {
         return Some(0);
     }
     // More discards never leave less room, so halving finds where it becomes enough. Few are often
@@ -53,6 +53,30 @@ pub fn least_prefix<S: Space, H: Holes<S>>(
         }
     }
     Some(least)
+}
+
+/// Whether there is room for `n` bytes without a discard, where `h` isn't counted. `marks` are as for [`least_prefix`].
+fn has_room<S: Space, H: Holes<S>>(
+    blocks: &Blocks<H>,
+    space: &S,
+    order: &Order,
+    marks: &mut [bool],
+    h: Option<u32>,
+    n: u32,
+) -> bool
+    requires marks { blocks.now.cap ≤ length marks.old }
+    requires ids { order.now.cap ≤ blocks.now.cap }
+    requires h { IfSome h (λ id. id < blocks.now.cap) }
+    requires kept { H.are_in (holes_of blocks.now) (S.bytes space.now) }
+    ensures value { result
+        ≡ nat_le n (room_for (snapshot blocks.now.lo blocks.now.hi blocks.now.blocks order.now.ids) 0 h) }
+    ensures length { length marks.new ≡ length marks.old }
+{
+    // No gap has more than the free bytes of all together.
+    if h.is_none() && blocks.free() < n {
+        return false;
+    }
+    n <= room_after(blocks, space, order, marks, h, 0)
 }
 
 /// The room after `k` discards, or after all where there are fewer to be made, where `h` isn't

@@ -1,14 +1,14 @@
 //! Loose blocks slide to the low end of a gap.
-ghost use Rattle.std.specs.Prelude.{◌≡◌, ℕ, ◌+◌, ◌<◌, ◌≤◌, ◌⊎◌, ◌==◌, length, take, slice_get, slice_set, if◌then◌else◌, MatchOption, IfSome};
-ghost use Rattle.std.specs.List.{AllByRecursion};
+ghost use Rattle.std.specs.Prelude.{◌≡◌, ℕ, ◌+◌, ◌<◌, ◌≤◌, ◌⊎◌, ◌-◌, ◌==◌, length, map, slice_get, if◌then◌else◌, MatchOption, IfSome};
 ghost use Rattle.w16_region.specs.Bytes.{counted};
 ghost use Rattle.w16_model.specs.Gap.{block_end, is_any, IsClear, IsGap, IsHole, loose_bytes};
 ghost use Rattle.w16_model.specs.Heap.{IsMultiple};
 ghost use Rattle.w16_blocks.specs.Layout.{IsOrdered, holes_of, rank};
+ghost use Rattle.w16_blocks.specs.Runs.{IsRun, IsBare, slid_with};
 ghost use Rattle.w16_compact.specs.Gather.{gathered, contents, moved_between, MayGather, AreSlid};
 ghost use Rattle.w16_compact.specs.Rest.{IsSameRest};
 
-use w16_blocks::{Block, Blocks};
+use w16_blocks::{Block, Blocks, Span};
 use w16_holes::{HoleList, Holes};
 use w16_region::Space;
 
@@ -55,10 +55,15 @@ pub fn gather<S: Space, H: Holes<S>>(
     are_ordered(blocks);
     let mut to = low;
     let mut moved = 0;
-    // What is free lies directly behind the settled ones, so the next is found in one step.
+    // What is free lies directly behind the settled ones, so the next is found in one step. Those that stand directly behind it slide as far,
+    // so they go with it.
     while let Some(block) = block_between(blocks, space, to, high) {
-        moved += u64::from(settle(blocks, space, block, to));
-        to += block.size;
+        let run = Span {
+            from: block.at,
+            to: blocks.run_end(block.at, high),
+        };
+        moved += u64::from(settle(blocks, space, run, to));
+        to += run.to - run.from;
     }
     moved
 }
@@ -86,36 +91,29 @@ fn block_between<S: Space, H: Holes<S>>(
     if block.at < high { Some(block) } else { None }
 }
 
-/// Slides a block down to a place that the blocks before it leave free. Answers how many bytes
-/// were moved, which is none where it stands there.
-fn settle<S: Space, H: Holes<S>>(
-    blocks: &mut Blocks<H>,
-    space: &mut S,
-    block: Block,
-    to: u32,
-) -> u32
-    requires at { slice_get blocks.old.blocks (rank block.at blocks.old.blocks) ≡ Some block }
+/// Slides a run of blocks down to a place that the blocks before it leave free. Answers how many bytes were moved, which is none where it
+/// stands there.
+fn settle<S: Space, H: Holes<S>>(blocks: &mut Blocks<H>, space: &mut S, run: Span, to: u32) -> u32
     requires ordered { IsOrdered blocks.old }
-    requires below { AllByRecursion (λ c. block_end c ≤ to)
-        (take (rank block.at blocks.old.blocks) blocks.old.blocks) }
+    requires run { IsRun blocks.old run }
+    requires some { run.from < run.to }
+    requires bare { IsBare to run.from blocks.old.blocks }
     requires grained { IsMultiple blocks.old.grain to }
-    requires down { (blocks.old.lo ≤ to) × (to ≤ block.at) }
+    requires down { (blocks.old.lo ≤ to) × (to ≤ run.from) }
     requires kept { H.are_in (holes_of blocks.old) (S.bytes space.old) }
     requires inside { blocks.old.hi ≤ length (S.bytes space.old) }
-    ensures blocks { let there = record block { at = to } in blocks.new ≡ record blocks.old {
-      blocks = slice_set blocks.old.blocks (rank block.at blocks.old.blocks) there;
-    } }
+    ensures blocks { blocks.new ≡ record blocks.old { blocks = map (slid_with run to) blocks.old.blocks } }
     ensures ordered { IsOrdered blocks.new }
     ensures kept { H.are_in (holes_of blocks.new) (S.bytes space.new) }
     ensures contents { contents (S.bytes space.new) blocks.new.blocks
         ≡ contents (S.bytes space.old) blocks.old.blocks }
-    ensures moved { result ≡ (if block.at == to then 0 else block.size) }
+    ensures moved { result ≡ (if run.from == to then 0 else run.to - run.from) }
     ensures written { S.written space.new ≡ counted (S.written space.old) result }
     ensures rest { IsSameRest S.bytes S.lenders blocks.old.lo blocks.old.hi space.old space.new }
 {
-    if block.at == to {
+    if run.from == to {
         return 0;
     }
-    blocks.shift(space, block.id, to);
-    block.size
+    blocks.slide_run(space, run, to);
+    run.to - run.from
 }

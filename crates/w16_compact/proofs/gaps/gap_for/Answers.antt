@@ -7,9 +7,13 @@ use Rattle.w16_compact.specs.declared.gaps.Gap.{Gap}
 use Rattle.w16_compact.specs.declared.reach.Reached.{Reached}
 use Rattle.w16_compact.specs.Gap.{HasRoom}
 use Rattle.w16_compact.proofs.ByAddress.{all_left, may_begin}
+use Rattle.w16_compact.proofs.OnePass.{too_few}
 use Rattle.w16_compact.proofs.Skips.{rest_is}
 use Rattle.w16_compact.proofs.Walked.{IsWalked, fits_here, walk_start, gap_here, walked_next, gap_last, none_found, enough_room}
 use Rattle.w16_compact.proofs.gaps.gap_for.Goals as goal
+
+pub returns-then-free-n-clause-found : goal.returns-then-free-n-clause-found
+returns-then-free-n-clause-found g c = let l = c.args.blocks.now in too_few l.lo l.hi c.args.n c.free.result l.blocks c.bounds-bounds.ensures.ordered.laid c.free.ensures.value c.if-free-n.true
 
 pub loop-block-init : goal.loop-block-init
 loop-block-init g c =

@@ -1,4 +1,5 @@
-use Rattle.std.proofs.Common.{◌∙◌, arith, subst}
+use Rattle.std.proofs.Common.{◌∙◌, arith, sym, subst}
+use Rattle.std.proofs.lemmas.Bool.{leb-false}
 use Rattle.std.specs.Prelude.{◌<◌}
 use Rattle.w16_model.specs.Discards.{room_for, snapshot}
 use Rattle.w16_compact.proofs.Halved.{from_one, above, least_needed, none_needed}
@@ -12,18 +13,18 @@ returns-then-room_after-n-clause-value g c =
 pub loop-least-init : goal.loop-least-init
 loop-least-init g c =
     let l = c.args.blocks.now in let ids = c.args.order.now.ids in
-    let few = c.room_after-2.ensures.value in let all = c.room_after.ensures.value in
+    let all = c.room_after.ensures.value in
     record {
-      between = from_one l.lo l.hi l.blocks ids c.args.n c.args.h c.len-enough.result (omega (arith, few, c.if-room_after-n-2.false)) (omega (arith, all, c.if-room_after-n.false));
-      length = c.room_after-2.ensures.length ∙ c.room_after.ensures.length;
+      between = from_one l.lo l.hi l.blocks ids c.args.n c.args.h c.len-enough.result (leb-false c.args.n (room_for (snapshot l.lo l.hi l.blocks ids) 0 c.args.h) (sym c.has_room.ensures.value ∙ c.if-has_room.false)) (omega (arith, all, c.if-room_after-n.false));
+      length = c.has_room.ensures.length ∙ c.room_after.ensures.length;
     }
 
-pub loop-least-preserved-then-room_after-n-3 : goal.loop-least-preserved-then-room_after-n-3
-loop-least-preserved-then-room_after-n-3 g c =
+pub loop-least-preserved-then-room_after-n-2 : goal.loop-least-preserved-then-room_after-n-2
+loop-least-preserved-then-room_after-n-2 g c =
     let l = c.args.blocks.now in let now = c.loop-least.invariant in
     let few = c.room_after-in-loop-least.ensures.value in
     record {
-      between = above l.lo l.hi l.blocks c.args.order.now.ids c.args.n c.args.h c.loop-least.least c.loop-least.enough _ now.between (omega (arith, c.loop-least-test.true)) (omega (arith, few, c.if-room_after-n-3.true));
+      between = above l.lo l.hi l.blocks c.args.order.now.ids c.args.n c.args.h c.loop-least.least c.loop-least.enough _ now.between (omega (arith, c.loop-least-test.true)) (omega (arith, few, c.if-room_after-n-2.true));
       length = c.room_after-in-loop-least.ensures.length ∙ now.length;
     }
 

@@ -1,0 +1,72 @@
+-- A run that has slid: what each block's bytes are, and what stays.
+use Rattle.std.proofs.Common.{ℕ, ◌≡◌, ◌+◌, ◌-◌, ◌<◌, ◌≤◌, ◌⊎◌, List, [], ◌∷◌, map, take, drop, arith, refl, sym, ap, ◌∙◌, subst, inl, inr}
+use Rattle.std.specs.List.{AllByRecursion}
+use Rattle.std.proofs.lemmas.Bool.{cases_lt}
+use Rattle.std.proofs.lemmas.List.{drop-take, take-take, drop-drop}
+use Rattle.w16_model.specs.Bytes.{part}
+use Rattle.w16_model.specs.declared.Block.{Block}
+use Rattle.w16_model.specs.declared.Span.{Span}
+use Rattle.w16_model.specs.Gap.{block_end}
+use Rattle.w16_holes.specs.Holes.{IsUsed}
+use Rattle.w16_blocks.specs.Layout.{Layout}
+use Rattle.w16_blocks.specs.Runs.{IsBare, slid_with}
+use Rattle.w16_blocks.specs.Stay.{AreSameBut}
+use Rattle.w16_blocks.proofs.Sliding.{slid_below, slid_above, slid_inside}
+use Rattle.w16_blocks.proofs.RunHoles.{Lies}
+use Rattle.w16_compact.specs.Gather.{contents}
+
+-- a part of a part
+part_of_part : (bytes : List ℕ) (at n k m : ℕ) → k + m ≤ n → part (part bytes at n) k m ≡ part bytes (at + k) m
+part_of_part bytes at n k m le =
+    ap (λ (i : ℕ). take m (drop k (take i (drop at bytes)))) (let e : n ≡ k + (n - k) = omega arith in e)
+    ∙ ap (take m) (drop-take k (n - k) (drop at bytes)) ∙ take-take m (n - k) (drop k (drop at bytes)) (omega arith) ∙ ap (take m) (drop-drop k at bytes)
+
+-- where it stands there already
+pub same_layout : (l : Layout) (run : Span) (to : ℕ) → run.from ≡ to → l ≡ record { cap = l.cap; lo = l.lo; hi = l.hi; grain = l.grain; blocks = map (slid_with run to) l.blocks }
+same_layout l run to here = ap (λ bs. let r : Layout = record { cap = l.cap; lo = l.lo; hi = l.hi; grain = l.grain; blocks = bs } in r) (sym (slid_still run to here l.blocks))
+  where
+    slid_still : (run : Span) (to : ℕ) → run.from ≡ to → (bs : List Block) → map (slid_with run to) bs ≡ bs
+    slid_still run to here [] = refl
+    slid_still run to here (b ∷ bs) = λ i. elim (cases_lt b.at run.from) as (λ _. slid_with run to b ≡ b) [
+      | inl below ↦ slid_below run to b below
+      | inr from ↦ elim (cases_lt b.at run.to) as (λ _. slid_with run to b ≡ b) [
+        | inl inside ↦ slid_inside run to b from inside ∙ ap (λ (at : ℕ). let r : Block = record b { at = at } in r) (let e : to + (b.at - run.from) ≡ b.at = omega arith in e)
+        | inr above ↦ slid_above run to b above
+      ]
+    ] i ∷ slid_still run to here bs i
+
+-- a block's id and bytes
+abbrev held : List ℕ → Block → ℕ × List ℕ
+held bytes c = (c.id, part bytes c.at c.size)
+
+-- each block has its bytes again
+module _ (new old : List ℕ) (run : Span) (to : ℕ) (some : run.from < run.to) (down : to < run.from) (before after : List Span) (moved : part new to (run.to - run.from) ≡ part old run.from (run.to - run.from)) (same : AreSameBut to (run.to - run.from) before after old new) where
+  one : (b : Block) → Lies run b → (block_end b ≤ to) ⊎ (run.from ≤ b.at) → IsUsed b.at (block_end b) before → IsUsed (slid_with run to b).at (block_end (slid_with run to b)) after
+      → held new (slid_with run to b) ≡ held old b
+  one b at bare was is = let size = at.0 in elim at.1 [
+    | inl below ↦ elsewhere (slid_below run to b (omega arith)) (elim bare [ inl under ↦ inl under | inr over ↦ absurd (omega arith) ])
+    | inr other ↦ elim other [
+      | inl behind ↦ elsewhere (slid_above run to b behind) (inr (omega arith))
+      | inr inside ↦
+          let from = inside.0 in let end = inside.1 in
+          ap (held new) (slid_inside run to b from (omega arith))
+          ∙ ap (λ (bytes : List ℕ). let r : ℕ × List ℕ = (b.id, bytes) in r) (come b from end)
+    ]
+  ]
+    where
+      elsewhere : slid_with run to b ≡ b → (block_end b ≤ to) ⊎ (to + (run.to - run.from) ≤ b.at) → held new (slid_with run to b) ≡ held old b
+      elsewhere e out =
+          ap (held new) e
+          ∙ ap (λ (bytes : List ℕ). let r : ℕ × List ℕ = (b.id, bytes) in r) (same.same b.at b.size was (subst (λ (c : Block). IsUsed c.at (block_end c) after) e is) out)
+
+      come : (b : Block) → run.from ≤ b.at → block_end b ≤ run.to → part new (to + (b.at - run.from)) b.size ≡ part old b.at b.size
+      come b from end =
+          sym (part_of_part new to (run.to - run.from) (b.at - run.from) b.size (omega arith))
+          ∙ ap (λ (bytes : List ℕ). part bytes (b.at - run.from) b.size) moved
+          ∙ part_of_part old run.from (run.to - run.from) (b.at - run.from) b.size (omega arith)
+          ∙ ap (λ (at : ℕ). part old at b.size) (let e : run.from + (b.at - run.from) ≡ b.at = omega arith in e)
+
+  pub contents_run : (bs : List Block) → AllByRecursion (Lies run) bs → IsBare to run.from bs → AllByRecursion (λ b. IsUsed b.at (block_end b) before) bs → AllByRecursion (λ b. IsUsed b.at (block_end b) after) (map (slid_with run to) bs)
+      → contents new (map (slid_with run to) bs) ≡ contents old bs
+  contents_run [] at bare was is = refl
+  contents_run (b ∷ bs) at bare was is = λ i. one b at.0 bare.0 was.0 is.0 i ∷ contents_run bs at.1 bare.1 was.1 is.1 i
