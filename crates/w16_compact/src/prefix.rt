@@ -1,5 +1,6 @@
 //! How many discards make room.
-ghost use Rattle.std.specs.Prelude.{◌≡◌, ℕ, ◌+◌, ◌<◌, ◌≤◌, ◌||◌, ◌∷◌, false, length, nat_le, take, drop, IfSome, MatchOption, slice_index_or};
+ghost use Rattle.std.specs.Prelude.{◌≡◌, ℕ, ◌+◌, ◌<◌, ◌≤◌, ◌||◌, ◌∷◌, false, true, length, nat_le, take, drop, IfSome, MatchOption, is_none, slice_index_or};
+ghost use Rattle.w16_model.specs.Table.{block_with};
 ghost use Rattle.w16_model.specs.Discards.{eligible, is_about, is_member, is_pinned_id, needed, room_for, snapshot};
 ghost use Rattle.w16_blocks.specs.Layout.{IsOrdered, holes_of};
 
@@ -73,7 +74,7 @@ fn has_room<S: Space, H: Holes<S>>(
     ensures length { length marks.new ≡ length marks.old }
 {
     // No gap has more than the free bytes of all together.
-    if h.is_none() && blocks.free() < n {
+    if is_absent(blocks, h) && blocks.free() < n {
         return false;
     }
     n <= room_after(blocks, space, order, marks, h, 0)
@@ -161,6 +162,17 @@ fn mark_only(marks: &mut [bool], h: Option<u32>)
     marks.fill(false);
     if let Some(id) = h {
         marks[id as usize] = true;
+    }
+}
+
+/// Whether no block is `h`'s.
+fn is_absent<H: HoleList>(blocks: &Blocks<H>, h: Option<u32>) -> bool
+    requires { IfSome h (λ id. id < blocks.now.cap) }
+    ensures { MatchOption h (result ≡ true) (λ id. result ≡ is_none (block_with blocks.now.blocks id)) }
+{
+    match h {
+        Some(id) => blocks.find(id).is_none(),
+        None => true,
     }
 }
 
