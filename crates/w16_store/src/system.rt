@@ -1,5 +1,6 @@
 //! A folder of the system.
-ghost use Rattle.std.specs.Prelude.{◌≡◌, ℕ, [], IfOk, IsOkUnless};
+ghost use Rattle.std.specs.Prelude.{◌≡◌, ◌↔◌, ℕ, [], IfOk, IsOkUnless};
+ghost use Rattle.std.specs.IoError.{error_kind};
 ghost use Rattle.std.specs.String.{string_bytes};
 ghost use Rattle.w16_store.specs.declared.folder.DirFault.TheVariants.{Memory};
 
@@ -58,7 +59,9 @@ impl<R: Files + Drop> SystemDisk<R> {
 }
 
 /// Why a folder wasn't listed.
-fn fault_of(error: Error) -> DirFault {
+fn fault_of(error: Error) -> DirFault
+    ensures { (result ≡ Memory) ↔ (error_kind error ≡ ErrorKind.OutOfMemory) }
+{
     match error.kind() {
         ErrorKind::OutOfMemory => DirFault::Memory,
         _ => DirFault::Folder,
