@@ -1,5 +1,5 @@
 //! What a folder's store needs of the system.
-ghost use Rattle.std.specs.Prelude.{◌≡◌, ℕ, ◌≤◌, List, length, map, IfOk};
+ghost use Rattle.std.specs.Prelude.{◌≡◌, ℕ, ◌≤◌, List, length, map, IfOk, IfErr};
 ghost use Rattle.std.specs.List.Sorted.{IsPermutation};
 ghost use Rattle.std.specs.String.{string_bytes};
 ghost use Rattle.w16_store.specs.Folder.{content_of, IsHonestRead};
@@ -15,6 +15,8 @@ pub struct DiskFailure;
 
 /// One folder of a disk. Names are exact here.
 pub trait Disk {
+    ghost use Rattle.w16_store.specs.declared.folder.DirFault.{DirFault};
+
     /// The folder's regular files, each a name and its bytes. No call changes them.
     ghost files: { Self → List (List ℕ × List ℕ) };
 
@@ -24,8 +26,12 @@ pub trait Disk {
     /// The files stay, and each answer is what they say, or a failure, which raised the count.
     ghost is_honest: { Type 0 };
 
+    /// For which faults the folder may not be listed.
+    ghost refuses: { Self → DirFault → Type 0 };
+
     /// The names of all regular files whose name is UTF-8, in any order.
     fn names(&self, alloc: Global) -> Result<Vec<String>, DirFault>
+        ensures err { IfErr result (refuses self.now) }
         ensures honest { is_honest → IfOk result (λ names. IsPermutation (map (λ f. f.0) (files self.now)) (map string_bytes names.items)) };
 
     /// The whole length of a file, in bytes; and where the file has bytes for all of the buffer from an offset on, the buffer is filled with them.

@@ -1,10 +1,11 @@
 //! The files of a folder.
-ghost use Rattle.std.specs.Prelude.{◌≡◌, ℕ, ◌≤◌, List, map, option_map, IfOk};
+ghost use Rattle.std.specs.Prelude.{◌≡◌, ℕ, ◌≤◌, List, map, option_map, IfOk, IfErr};
 ghost use Rattle.std.specs.List.{find};
 ghost use Rattle.std.specs.List.Sorted.{IsPermutation, IsSorted};
 ghost use Rattle.std.specs.String.{string_bytes, string_cmp};
 ghost use Rattle.w16_store.specs.Names.{is_named};
 ghost use Rattle.w16_store.specs.Folder.{listed};
+ghost use Rattle.w16_store.specs.declared.folder.DirFault.TheVariants.{Memory};
 
 use crate::disk::Disk;
 use crate::name::is_named;
@@ -27,6 +28,8 @@ pub enum DirFault {
 }
 
 impl From<AllocError> for DirFault {
+    ghost from_gives = { λ _ fault. fault ≡ Memory };
+
     fn from(_error: AllocError) -> DirFault {
         DirFault::Memory
     }
@@ -41,11 +44,12 @@ pub struct DirStore<D: Disk + Drop> {
 }
 
 impl<D: Disk + Drop> DirStore<D> {
-    /// The files that a disk's folder holds now.
+    /// The files that a disk's folder holds now. It fails where the disk doesn't list them.
     pub fn new(alloc: Global, disk: D) -> Result<Self, DirFault>
         ensures disk { IfOk result (λ store. store.disk ≡ disk) }
         ensures ascending { IfOk result (λ store. IsSorted string_cmp store.names.items) }
         ensures whole { D.is_honest → IfOk result (λ store. IsPermutation (map (λ f. f.0) (D.files disk)) (map string_bytes store.names.items)) }
+        ensures err { IfErr result (D.refuses disk) }
     {
         let mut names = disk.names(alloc)?;
         names.sort_unstable();
@@ -56,7 +60,9 @@ impl<D: Disk + Drop> DirStore<D> {
 impl<R: Files + AllocGlobal + Clone + Drop> DirStore<SystemDisk<R>> {
     /// The regular files, and links to such, that a folder of the system holds now. Names that aren't UTF-8 are left out.
     pub fn from_folder(rt: &R, alloc: Global, folder: &str) -> Result<Self, DirFault>
-        ensures { IfOk result (λ store. IsSorted string_cmp store.names.items) }
+        ensures runtime { IfOk result (λ store. R.is_clone rt.now store.disk.runtime) }
+        ensures folder { IfOk result (λ store. string_bytes store.disk.folder ≡ folder.now) }
+        ensures ascending { IfOk result (λ store. IsSorted string_cmp store.names.items) }
     {
         DirStore::new(alloc, SystemDisk::new(rt, alloc, folder)?)
     }

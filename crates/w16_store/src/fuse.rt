@@ -1,6 +1,6 @@
 //! A store that fails once.
 ghost use Rattle.std.specs.Prelude.{◌≡◌, ℕ, ◌+◌, ◌≤◌, ◌≢◌, length, min};
-ghost use Rattle.w16_store.specs.Files.{file_of, bytes_of, IsHonestAnswer};
+ghost use Rattle.w16_store.specs.Files.{file_of, bytes_of, length_of, IsHonestAnswer};
 ghost use Rattle.w16_store.specs.Fuse.{blown};
 ghost use Rattle.w16_store.specs.declared.store.StoreFault.TheVariants.{Device};
 
@@ -47,8 +47,10 @@ impl<S: Store + Drop> Store for FuseStore<S> {
         ensures honest { S.is_honest → IsHonestAnswer (λ _. buf.new) (S.failures self.old.inner + blown self.old.fuse self.old.reads)
             (S.failures self.new.inner + blown self.new.fuse self.new.reads) result
             (bytes_of (file_of (S.files self.old.inner) name.now) at (length buf.old)) }
+        ensures fuse { self.new.fuse ≡ self.old.fuse }
         ensures reads { self.new.reads ≡ min (self.old.reads + 1) u64.MAX }
         ensures fails { self.old.reads + 1 ≡ self.old.fuse → result ≡ Err Device }
+        ensures unasked { self.old.reads + 1 ≡ self.old.fuse → self.new.inner ≡ self.old.inner }
         ensures fails_once { self.old.reads + 1 ≢ self.old.fuse → S.is_honest → IsHonestAnswer (λ _. buf.new) (S.failures self.old.inner)
             (S.failures self.new.inner) result (bytes_of (file_of (S.files self.old.inner) name.now) at (length buf.old)) }
     {
@@ -59,7 +61,14 @@ impl<S: Store + Drop> Store for FuseStore<S> {
         self.inner.read_at(name, at, buf)
     }
 
-    fn len_of(&mut self, name: &[u8]) -> Result<u64, StoreFault> {
+    fn len_of(&mut self, name: &[u8]) -> Result<u64, StoreFault>
+        ensures files { S.files self.new.inner ≡ S.files self.old.inner }
+        ensures failures { S.failures self.old.inner + blown self.old.fuse self.old.reads ≤ S.failures self.new.inner + blown self.new.fuse self.new.reads }
+        ensures honest { S.is_honest → IsHonestAnswer (λ n. n) (S.failures self.old.inner + blown self.old.fuse self.old.reads)
+            (S.failures self.new.inner + blown self.new.fuse self.new.reads) result (length_of (file_of (S.files self.old.inner) name.now)) }
+        ensures fuse { self.new.fuse ≡ self.old.fuse }
+        ensures reads { self.new.reads ≡ self.old.reads }
+    {
         self.inner.len_of(name)
     }
 }

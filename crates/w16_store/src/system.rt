@@ -1,5 +1,8 @@
 //! A folder of the system.
-ghost use Rattle.std.specs.Prelude.{◌≡◌, ℕ, []};
+ghost use Rattle.std.specs.Prelude.{◌≡◌, ◌↔◌, ℕ, [], IfOk, IsOkUnless};
+ghost use Rattle.std.specs.IoError.{error_kind};
+ghost use Rattle.std.specs.String.{string_bytes};
+ghost use Rattle.w16_store.specs.declared.folder.DirFault.TheVariants.{Memory};
 
 use crate::disk::{Disk, DiskFailure};
 use crate::folder::DirFault;
@@ -20,7 +23,11 @@ pub struct SystemDisk<R: Files + Drop> {
 
 impl<R: Files + AllocGlobal + Clone + Drop> SystemDisk<R> {
     /// Any folder, also one that isn't there. It keeps the access to files that `rt` gives. An error is that there was no memory.
-    pub fn new(rt: &R, alloc: Global, folder: &str) -> Result<Self, DirFault> {
+    pub fn new(rt: &R, alloc: Global, folder: &str) -> Result<Self, DirFault>
+        ensures runtime { IfOk result (λ disk. R.is_clone rt.now disk.runtime) }
+        ensures folder { IfOk result (λ disk. string_bytes disk.folder ≡ folder.now) }
+        ensures err { IsOkUnless result Memory }
+    {
         Ok(SystemDisk {
             runtime: rt.clone()?,
             alloc,
@@ -52,20 +59,24 @@ impl<R: Files + Drop> SystemDisk<R> {
 }
 
 /// Why a folder wasn't listed.
-fn fault_of(error: Error) -> DirFault {
+fn fault_of(error: Error) -> DirFault
+    ensures { (result ≡ Memory) ↔ (error_kind error ≡ ErrorKind.OutOfMemory) }
+{
     match error.kind() {
         ErrorKind::OutOfMemory => DirFault::Memory,
         _ => DirFault::Folder,
     }
 }
 
-// No contract says what a system's files hold, so nothing is promised of the answers: the folder's files are none, and nothing makes it honest.
+// No contract says what a system's files hold, so nothing is promised of the answers: the folder's files are none, nothing makes it honest, and it may refuse for any fault.
 impl<R: Files + AllocGlobal + Clone + Drop> Disk for SystemDisk<R> {
     ghost files = { λ _. [] };
 
     ghost failures = { λ _. 0 };
 
     ghost is_honest = { ⊥ };
+
+    ghost refuses = { λ _ _. Unit {0} };
 
     fn names(&self, alloc: Global) -> Result<Vec<String>, DirFault> {
         let mut names = Vec::new(alloc);

@@ -171,6 +171,8 @@ impl Disk for OneFile {
 
     ghost is_honest = { ⊥ };
 
+    ghost refuses = { λ _ _. Unit {0} };
+
     fn names(&self, alloc: Global) -> Result<Vec<String>, DirFault> {
         if self.fails {
             return Err(DirFault::Folder);
