@@ -47,6 +47,19 @@ module _ (lo hi : ℕ) (xs : List Block) (order : List ℕ) (n : ℕ) (h : Optio
     serves = serves;
   }
 
+  -- where one isn't either
+  pub from_two : (enough : ℕ) → room_of 0 < n → room_of 1 < n → n ≤ room_of enough → IsBetween 2 enough
+  from_two zero few fewer serves = absurd (omega arith)
+  from_two (suc zero) few fewer serves = absurd (omega arith)
+  from_two (suc (suc k)) few fewer serves = record {
+    within = omega arith;
+    fewer = λ j l. elim (cases_lt j 1) [
+      | inl none ↦ let zeroth : j ≡ 0 = omega arith in subst (λ i. room_of i < n) (sym zeroth) few
+      | inr some ↦ let first : j ≡ 1 = omega arith in subst (λ i. room_of i < n) (sym first) fewer
+    ];
+    serves = serves;
+  }
+
   -- the half above a number that isn't enough
   pub above : (least enough k : ℕ) → IsBetween least enough → k < enough → room_of k < n → IsBetween (k + 1) enough
   above least enough k now lt few = record {

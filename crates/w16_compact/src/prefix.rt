@@ -34,17 +34,20 @@ pub fn least_prefix<S: Space, H: Holes<S>>(
     ensures length { length marks.new ≡ length marks.old }
     ensures ordered { IsOrdered blocks.now }
 {
+    // A compaction often needs none, and an allocation that found no room one.
+    if has_room(blocks, space, order, marks, h, n) {
+        return Some(0);
+    }
+    if room_after(blocks, space, order, marks, h, 1) >= n {
+        return Some(1);
+    }
     let mut enough = order.len();
     if room_after(blocks, space, order, marks, h, enough) < n {
         return None;
     }
-    // A compaction often needs none.
-    if has_room(blocks, space, order, marks, h, n) {
-        return Some(0);
-    }
     // More discards never leave less room, so halving finds where it becomes enough. Few are often
     // enough, so it begins with few, and doubles them until they are.
-    let mut least = 1;
+    let mut least = 2;
     while least < enough {
         let middle = least + least.saturating_sub(1).min((enough - least) / 2);
         if room_after(blocks, space, order, marks, h, middle) < n {
@@ -72,6 +75,7 @@ fn has_room<S: Space, H: Holes<S>>(
     ensures value { result
         ≡ nat_le n (room_for (snapshot blocks.now.lo blocks.now.hi blocks.now.blocks order.now.ids) 0 h) }
     ensures length { length marks.new ≡ length marks.old }
+    ensures ordered { IsOrdered blocks.now }
 {
     // No gap has more than the free bytes of all together.
     if is_absent(blocks, h) && blocks.free() < n {
