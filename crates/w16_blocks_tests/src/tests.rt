@@ -93,6 +93,28 @@ fn moves_bytes(rt: HostRuntime) -> Result<(), Fail> {
 }
 
 #[test]
+fn slides_a_run(rt: HostRuntime) -> Result<(), Fail> {
+    let mut space = Region::new(rt.alloc(), 256)?;
+    let mut blocks = three(&rt, &mut space)?;
+    space.fill(128, 32, 5);
+    space.fill(160, 32, 7);
+    assert_eq!(rt; blocks.run_end(128, 160), 160);
+    assert_eq!(rt; blocks.run_end(192, 256), 192);
+    let end = blocks.run_end(128, 256);
+    assert_eq!(rt; end, 192);
+    blocks.slide_run(&mut space, Span { from: 128, to: end }, 64);
+    assert_eq!(rt; blocks.find(2), Some(block(2, 64, 32, Hold::Pinned)));
+    assert_eq!(rt; blocks.find(3), Some(block(3, 96, 32, Hold::Loose)));
+    assert_eq!(rt; space.view(64, 32), [5; 32].as_slice());
+    assert_eq!(rt; space.view(96, 32), [7; 32].as_slice());
+    assert_eq!(rt; space.written(), 128);
+    assert_eq!(rt; blocks.longest(&space), 128);
+    assert_eq!(rt; blocks.hole_for(&space, 128), Some(128));
+    assert_eq!(rt; blocks.next_from(&space, 128), None);
+    Ok(())
+}
+
+#[test]
 fn changes_one_block(rt: HostRuntime) -> Result<(), Fail> {
     let mut space = Region::new(rt.alloc(), 256)?;
     let mut blocks = three(&rt, &mut space)?;

@@ -4,5 +4,4 @@ pub mod Told
 pub mod Look
 pub mod Steps
 pub mod Sets
-pub mod Move
 pub mod Write
