@@ -24,6 +24,10 @@ counted_of-marked cap marks ids h (x ∷ xs) marked named =
 pub record AreDue (cap : ℕ) (ids : List ℕ) (h : Option ℕ) (left : ℕ) (rest : List ℕ) (marks : List Bool) : Type 0 where
   pub each : (q : ℕ) → q < cap → (get_or marks q false || is_member q (take left rest)) ≡ (is_member q ids || is_about h q)
 
+-- at first h alone is
+pub all_due : {most k : ℕ} {all : List ℕ} {h : Option ℕ} {marks : List Bool} → ((q : ℕ) → q < most → get_or marks q false ≡ is_about h q) → AreDue most (take k all) h k all marks
+all_due {most} {k} {all} {h} {marks} own = record { each = λ q below. ap (λ b. b || is_member q (take k all)) (own q below) ∙ or_comm (is_about h q) (is_member q (take k all)) }
+
 -- the first of the rest is marked
 pub one_due : {cap left : ℕ} {ids rest : List ℕ} {h : Option ℕ} {marks : List Bool} → AreDue cap ids h left rest marks → (id : ℕ) (later : List ℕ) → 0 < left → rest ≡ id ∷ later → id < length marks
     → AreDue cap ids h (left - 1) later (set marks id true)

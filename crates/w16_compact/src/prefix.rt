@@ -1,5 +1,5 @@
 //! How many discards make room.
-ghost use Rattle.std.specs.Prelude.{◌≡◌, ℕ, ◌+◌, ◌<◌, ◌≤◌, ◌||◌, ◌∷◌, false, true, length, nat_le, take, drop, IfSome, MatchOption, is_none, slice_index_or};
+ghost use Rattle.std.specs.Prelude.{◌≡◌, ℕ, ◌+◌, ◌<◌, ◌≤◌, ◌||◌, ◌&&◌, false, true, not, length, nat_le, take, IfSome, MatchOption, is_none, slice_index_or};
 ghost use Rattle.w16_model.specs.Table.{block_with};
 ghost use Rattle.w16_model.specs.Discards.{eligible, is_about, is_member, is_pinned_id, needed, room_for, snapshot};
 ghost use Rattle.w16_blocks.specs.Layout.{IsOrdered, holes_of};
@@ -125,35 +125,23 @@ fn mark_first<H: HoleList>(
 {
     mark_only(marks, h);
     let mut left = k;
-    for i in 0..order.len() {
+    for id in order.oldest_first() {
         if left == 0 {
             return;
         }
-        if let Some(id) = eligible_at(blocks, order, h, i) {
+        if is_eligible(blocks, h, id) {
             marks[id as usize] = true;
             left -= 1;
         }
     }
 }
 
-/// The i-th of the order, the oldest first, if a request about `h` may discard it.
-pub fn eligible_at<H: HoleList>(
-    blocks: &Blocks<H>,
-    order: &Order,
-    h: Option<u32>,
-    i: usize,
-) -> Option<u32>
-    requires ids { order.now.cap ≤ blocks.now.cap }
-    ensures id { IfSome result (λ id. id < blocks.now.cap) }
-    ensures value { let here = eligible blocks.now.blocks (drop i order.now.ids) h in
-        let later = eligible blocks.now.blocks (drop (i + 1) order.now.ids) h in
-        MatchOption result (here ≡ later) (λ id. here ≡ id ∷ later) }
+/// Whether a request about `h` may discard a member of the order: it isn't locked, and isn't `h` itself (profile).
+pub fn is_eligible<H: HoleList>(blocks: &Blocks<H>, h: Option<u32>, id: u32) -> bool
+    requires { id < blocks.now.cap }
+    ensures { result ≡ (not (is_pinned_id blocks.now.blocks id) && not (is_about h id)) }
 {
-    let id = order.nth(i)?;
-    if h == Some(id) || is_pinned_id(blocks, id) {
-        return None;
-    }
-    Some(id)
+    h != Some(id) && !is_pinned_id(blocks, id)
 }
 
 /// Sets the mark of `h`, and no other.

@@ -29,4 +29,5 @@ pub mod Trials
 pub mod Prefixes
 pub mod Answered
 pub mod Outcomes
+pub mod Fewest
 pub mod Cuts

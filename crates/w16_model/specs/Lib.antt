@@ -11,5 +11,6 @@ pub mod Walk
 pub mod Calls
 pub mod Far
 pub mod Law
+pub mod Fewest
 pub mod Table
 pub mod Codes

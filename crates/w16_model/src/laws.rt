@@ -1,5 +1,6 @@
 //! The laws of the definitions. Each function does nothing: its contract is the law.
 ghost use Rattle.w16_model.specs.Law.{AreFigures, AreFlags, AddressLaw, OutcomeLaw, GapListLaw, RisingLaw, LongestHoleLaw, HoleAfterLaw, PinnedLaw, LargestLaw, RoomLaw, LongerLaw, LeastLaw, MoreDiscardsLaw, DiscardedLaw, OthersLaw, WalkLaw, SoundLaw, RangeLaw, NamesLaw, EmptyLaw, HandleLaw, FarLaw};
+ghost use Rattle.w16_model.specs.Fewest.{AllocationLaw, CompactionLaw, GlobalAllocLaw, GlobalCompactLaw};
 
 /// The figures of the profile and the flags of the manual are these numbers. Definitions and code share the constants, so only this law
 /// would see a wrong one.
@@ -61,6 +62,19 @@ pub fn more_discards_leave_no_less_room()
 /// Once the first are discarded the room is what was promised.
 pub fn discards_keep_their_promise()
     ensures { DiscardedLaw }
+{}
+
+/// A request for room discards as few objects as it can, whichever way the others slide, and is refused only where no discards would have
+/// made room; then it discards none. A compaction answers the longest free stretch of any arrangement of what it leaves.
+pub fn requests_discard_fewest()
+    ensures allocation { AllocationLaw }
+    ensures compaction { CompactionLaw }
+{}
+
+/// The same of the calls on handles.
+pub fn calls_discard_fewest()
+    ensures alloc { GlobalAllocLaw }
+    ensures compact { GlobalCompactLaw }
 {}
 
 /// A request discards objects that are discardable and not locked, and leaves every other object its kind, its locks and its bytes.
