@@ -162,22 +162,3 @@ room_whole lo hi xs order = ap (room lo hi) (none_out_all xs)
 -- so where the free bytes are fewer than n, so is the room
 pub too_few : (lo hi n free : ℕ) (xs : List Block) → IsLaid lo hi xs → free ≡ hi - lo - sum_by (λ (x : Block). x.size) xs → free < n → room lo hi xs < n
 too_few lo hi n free xs laid is few = let fit = room_fits lo hi xs laid in omega arith
-
--- nothing is left out where h has no block
-none_out : (id : ℕ) (xs : List Block) → block_with xs id ≡ None → blocks_without xs [] (Some id) ≡ xs
-none_out id [] none = refl
-none_out id (x ∷ xs) none = elim (eqb_tells x.id id) [
-  | inl same ↦ let some : Some x ≡ None = rw same.0 at none in absurd (false≢true (sym (ap is_some some)))
-  | inr other ↦ let rest : block_with xs id ≡ None = rw other.0 at none in rw other.0 (ap (λ ys. x ∷ ys) (none_out id xs rest))
-]
-
-pub too_few_for : (lo hi n free : ℕ) (xs : List Block) (order : List ℕ) (h : Option ℕ) (absent : Bool) → MatchOption h (absent ≡ true) (λ id. absent ≡ is_none (block_with xs id)) → absent ≡ true
-    → IsLaid lo hi xs → free ≡ hi - lo - sum_by (λ (x : Block). x.size) xs → free < n → room_for (snapshot lo hi xs order) 0 h < n
-too_few_for lo hi n free xs order None absent told so laid is few = let fit = too_few lo hi n free xs laid is few in let whole = room_whole lo hi xs order in omega arith
-too_few_for lo hi n free xs order (Some id) absent told so laid is few =
-    let fit = too_few lo hi n free xs laid is few in
-    let whole : room_for (snapshot lo hi xs order) 0 (Some id) ≡ room lo hi xs = ap (room lo hi) (none_out id xs (no_block (block_with xs id) (sym told ∙ so))) in omega arith
-  where
-    no_block : (o : Option Block) → is_none o ≡ true → o ≡ None
-    no_block None e = refl
-    no_block (Some x) e = absurd (false≢true e)

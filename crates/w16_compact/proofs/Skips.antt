@@ -31,7 +31,7 @@ each_here P [] x rest (suc i) here each = cc
 each_here P (y ∷ ys) x rest (suc i) here each = each_here P ys x rest i here each.1
 
 -- some of the laid blocks are laid
-laid_filter : (p : Block → Bool) (lo hi : ℕ) (xs : List Block) → IsLaid lo hi xs → IsLaid lo hi (filter p xs)
+pub laid_filter : (p : Block → Bool) (lo hi : ℕ) (xs : List Block) → IsLaid lo hi xs → IsLaid lo hi (filter p xs)
 laid_filter p lo hi [] h = h
 laid_filter p lo hi (x ∷ xs) h =
     let rest : IsLaid (block_end x) hi (filter p xs) = laid_filter p (block_end x) hi xs h.2 in
