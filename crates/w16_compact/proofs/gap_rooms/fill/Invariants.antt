@@ -12,8 +12,7 @@ invariant-loop-block g l =
     record {
       may : (goal.iterator-loop-block g).can_next l.block-iterator;
       ends : (goal.iterator-loop-block g).is_finite l.block-iterator;
-      at : ℕ;
-      here : drop at b.blocks ≡ rest;
-      room : IsPassed (λ x. not (is_about l.fn.h x.id)) b.hi b.blocks (room b.lo b.hi (filter (λ x. not (is_about l.fn.h x.id)) b.blocks)) at l.most l.reached.low l.reached.loose;
+      passed : (i : ℕ) × (drop i b.blocks ≡ rest)
+          × IsPassed (λ x. not (is_about l.fn.h x.id)) b.hi b.blocks (room b.lo b.hi (filter (λ x. not (is_about l.fn.h x.id)) b.blocks)) i l.most l.reached.low l.reached.loose;
       filled : IsFilled (λ x. not (is_about l.fn.h x.id)) b.lo b.hi b.cap b.blocks l.gap l.reached.low l.reached.loose l.gap_of l.rooms rest;
     }

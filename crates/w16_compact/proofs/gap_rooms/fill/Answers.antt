@@ -1,0 +1,45 @@
+use Rattle.std.proofs.Common.{◌≡◌, ◌+◌, ◌<◌, ℕ, List, max, not, filter, arith, sym, ap, ◌∙◌, subst, true, false}
+use Rattle.w16_model.specs.declared.Block.{Block}
+use Rattle.w16_model.specs.declared.Span.{Span}
+use Rattle.w16_model.specs.Gap.{room}
+use Rattle.w16_model.specs.Discards.{is_about}
+use Rattle.w16_compact.proofs.OnePass.{ord_max-max}
+use Rattle.w16_compact.proofs.ByAddress.{all_left, may_begin}
+use Rattle.w16_compact.proofs.Skips.{IsPassed, rest_is, fits_now, reaches_now, turn_skipped, turn_pinned, turn_loose, passed_start, id_here}
+use Rattle.w16_compact.proofs.Filled.{IsFilled, fill_start, fill_skipped, fill_loose, fill_pinned, fill_ended}
+use Rattle.w16_compact.proofs.gap_rooms.fill.Goals as goal
+
+pub loop-block-init : goal.loop-block-init
+loop-block-init g c =
+    let l = c.args.blocks.now in let it = c.into_iter-block-iterator.result in let h = c.args.h in
+    let is = c.into_iter-block-iterator.ensures.into_iter_gives in
+    let same : it.blocks.now ≡ l = ap (λ x. x.blocks.now) is ∙ c.by_address-block-items.ensures.blocks in
+    let space : it.space.now ≡ c.args.space.now = ap (λ x. x.space.now) is ∙ c.by_address-block-items.ensures.space in
+    let first : it.from ≡ 0 = ap (λ x. x.from) is ∙ c.by_address-block-items.ensures.from in
+    let low = ap (λ (s : Span). s.from) c.bounds-bounds.ensures.value in
+    let left = all_left l it.blocks.now it.from same first in
+    record {
+      may = may_begin g.H.Holes.are_in l it.blocks.now (g.S.Space.bytes c.args.space.now) (g.S.Space.bytes it.space.now) same (ap g.S.Space.bytes space) c.requires.kept;
+      ends = tt;
+      passed = (
+        0,
+        left,
+        subst (λ (s : Span). IsPassed (λ x. not (is_about h x.id)) l.hi l.blocks (room l.lo l.hi (filter (λ x. not (is_about h x.id)) l.blocks)) 0 0 s.from 0) (sym c.bounds-bounds.ensures.value)
+            (passed_start (λ x. not (is_about h x.id)) l.lo l.hi l.blocks c.bounds-bounds.ensures.ordered.laid),
+      );
+      filled = subst (IsFilled (λ x. not (is_about h x.id)) l.lo l.hi l.cap l.blocks c.cap-gap.result c.bounds-bounds.result.from 0 c.args.gap_of.now c.args.rooms.now) left
+          (fill_start (λ x. not (is_about h x.id)) l.lo l.hi l.cap l.blocks c.cap-gap.result c.bounds-bounds.result.from c.args.gap_of.now c.args.rooms.now c.cap-gap.ensures low c.bounds-bounds.ensures.ordered.named);
+    }
+
+pub loop-block-preserved-then-is_about : goal.loop-block-preserved-then-is_about
+loop-block-preserved-then-is_about g c =
+    let l = c.args.blocks.now in let now = c.loop-block.invariant in let p = λ (x : Block). not (is_about c.args.h x.id) in
+    let here = now.passed.1 ∙ c.in-Some.ensures.steps in let on = c.in-Some.ensures.goes.on now.ends in
+    let out = ap not (sym c.is_about.ensures ∙ c.if-is_about.true) in
+    record {
+      may = on.0;
+      ends = on.1;
+      passed = (now.passed.0 + 1, rest_is l.blocks c.in-Some.block _ now.passed.0 here, turn_skipped p l.hi l.blocks _ c.in-Some.block _ now.passed.0 here c.loop-block.most c.loop-block.reached now.passed.2 out);
+      filled = fill_skipped p l.lo l.hi l.cap l.blocks c.in-Some.block _ c.loop-block.gap c.loop-block.reached c.loop-block.gap_of c.loop-block.rooms
+          (subst (IsFilled p l.lo l.hi l.cap l.blocks c.loop-block.gap c.loop-block.reached.low c.loop-block.reached.loose c.loop-block.gap_of c.loop-block.rooms) c.in-Some.ensures.steps now.filled) out;
+    }
