@@ -1,4 +1,4 @@
-use Rattle.std.proofs.Common.{◌≡◌, ◌+◌, ◌<◌, ℕ, List, max, not, filter, arith, sym, ap, ◌∙◌, subst, true, false}
+use Rattle.std.proofs.Common.{◌≡◌, ◌+◌, ◌<◌, ℕ, List, length, max, not, filter, arith, refl, sym, ap, ◌∙◌, subst, true, false}
 use Rattle.w16_model.specs.declared.Block.{Block}
 use Rattle.w16_model.specs.declared.Span.{Span}
 use Rattle.w16_model.specs.Gap.{room}
@@ -42,4 +42,54 @@ loop-block-preserved-then-is_about g c =
       passed = (now.passed.0 + 1, rest_is l.blocks c.in-Some.block _ now.passed.0 here, turn_skipped p l.hi l.blocks _ c.in-Some.block _ now.passed.0 here c.loop-block.most c.loop-block.reached now.passed.2 out);
       filled = fill_skipped p l.lo l.hi l.cap l.blocks c.in-Some.block _ c.loop-block.gap c.loop-block.reached c.loop-block.gap_of c.loop-block.rooms
           (subst (IsFilled p l.lo l.hi l.cap l.blocks c.loop-block.gap c.loop-block.reached.low c.loop-block.reached.loose c.loop-block.gap_of c.loop-block.rooms) c.in-Some.ensures.steps now.filled) out;
+    }
+
+-- the next block's id
+pub bounds-gap_of-id : goal.bounds-gap_of-id
+bounds-gap_of-id g c =
+    let l = c.args.blocks.now in let now = c.loop-block.invariant in
+    let lt = id_here l.cap l.blocks c.in-Some.block _ now.passed.0 (now.passed.1 ∙ c.in-Some.ensures.steps) c.bounds-bounds.ensures.ordered.named in
+    let many = c.requires.gap_of in let long = c.loop-block.auto.gap_of in
+    omega arith
+
+pub loop-block-preserved-then-not-is_pinned : goal.loop-block-preserved-then-not-is_pinned
+loop-block-preserved-then-not-is_pinned g c =
+    let l = c.args.blocks.now in let now = c.loop-block.invariant in let p = λ (x : Block). not (is_about c.args.h x.id) in
+    let here = now.passed.1 ∙ c.in-Some.ensures.steps in let on = c.in-Some.ensures.goes.on now.ends in
+    let counted = ap not (sym c.is_about.ensures ∙ c.if-is_about.false) in
+    let loose = sym c.is_pinned.ensures ∙ c.if-not-is_pinned.true in
+    let lt : c.in-Some.block.id < length c.loop-block.gap_of = let many = c.requires.gap_of in let long = c.loop-block.auto.gap_of in
+        let id = id_here l.cap l.blocks c.in-Some.block _ now.passed.0 here c.bounds-bounds.ensures.ordered.named in omega arith in
+    record {
+      may = on.0;
+      ends = on.1;
+      passed = (
+        now.passed.0 + 1,
+        rest_is l.blocks c.in-Some.block _ now.passed.0 here,
+        turn_loose p l.hi l.blocks _ c.in-Some.block _ now.passed.0 here c.loop-block.most c.loop-block.reached now.passed.2 counted loose c.loop-block.most refl c.passing-reached.result c.passing-reached.ensures,
+      );
+      filled = fill_loose p l.lo l.hi l.cap l.blocks c.in-Some.block _ c.loop-block.gap c.loop-block.reached c.loop-block.gap_of c.loop-block.rooms
+          (subst (IsFilled p l.lo l.hi l.cap l.blocks c.loop-block.gap c.loop-block.reached.low c.loop-block.reached.loose c.loop-block.gap_of c.loop-block.rooms) c.in-Some.ensures.steps now.filled)
+          counted loose lt c.passing-reached.result c.passing-reached.ensures;
+    }
+
+pub loop-block-preserved : goal.loop-block-preserved
+loop-block-preserved g c =
+    let l = c.args.blocks.now in let now = c.loop-block.invariant in let p = λ (x : Block). not (is_about c.args.h x.id) in
+    let here = now.passed.1 ∙ c.in-Some.ensures.steps in let on = c.in-Some.ensures.goes.on now.ends in
+    let counted = ap not (sym c.is_about.ensures ∙ c.if-is_about.false) in
+    let pinned = sym c.is_pinned.ensures ∙ c.if-not-is_pinned.false in
+    let lt : c.loop-block.gap < length c.loop-block.rooms = let many = c.requires.rooms in let long = c.loop-block.auto.rooms in let known = now.filled.known in omega arith in
+    record {
+      may = on.0;
+      ends = on.1;
+      passed = (
+        now.passed.0 + 1,
+        rest_is l.blocks c.in-Some.block _ now.passed.0 here,
+        turn_pinned p l.hi l.blocks _ c.in-Some.block _ now.passed.0 here c.loop-block.most c.loop-block.reached now.passed.2 counted pinned c.max-most.result
+            (c.max-most.ensures ∙ ord_max-max c.loop-block.most _ ∙ ap (max c.loop-block.most) c.room_to-room.ensures) c.passing-reached-2.result c.passing-reached-2.ensures,
+      );
+      filled = fill_pinned p l.lo l.hi l.cap l.blocks c.in-Some.block _ c.loop-block.gap c.loop-block.reached c.loop-block.gap_of c.loop-block.rooms
+          (subst (IsFilled p l.lo l.hi l.cap l.blocks c.loop-block.gap c.loop-block.reached.low c.loop-block.reached.loose c.loop-block.gap_of c.loop-block.rooms) c.in-Some.ensures.steps now.filled)
+          counted pinned lt (reaches_now p l.hi l.blocks _ c.in-Some.block _ now.passed.0 here c.loop-block.most c.loop-block.reached now.passed.2) c.room_to-room.result c.room_to-room.ensures c.passing-reached-2.result c.passing-reached-2.ensures;
     }

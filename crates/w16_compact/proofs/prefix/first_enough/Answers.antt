@@ -48,3 +48,8 @@ loop-id-preserved-then-not-is_eligible g c =
       sought = now.sought;
       few = now.few;
     }
+
+pub returns-in-None-clause-value : goal.returns-in-None-clause-value
+returns-in-None-clause-value g c =
+    let l = c.args.blocks.now in let now = c.loop-id.invariant in
+    sought_end l.lo l.hi l.blocks c.args.order.now.ids c.args.n c.args.h c.loop-id.discards (sym now.next ∙ ap (λ (ids : List ℕ). eligible l.blocks ids c.args.h) c.in-None.ensures.steps.0) now.sought

@@ -1,0 +1,58 @@
+use Rattle.std.proofs.Common.{ℕ, suc, List, ◌≡◌, ◌∷◌, ◌+◌, ◌-◌, ◌<◌, length, drop, refl, ap, sym, ◌∙◌, arith, zero-add}
+use Rattle.std.specs.Prelude.{slice_get}
+use Rattle.w16_model.specs.Discards.{eligible}
+use Rattle.w16_lru.proofs.Walks.{all_left}
+use Rattle.w16_compact.proofs.Searched.{below_cap, rest_after, passed_here}
+use Rattle.w16_compact.proofs.Widened.{IsDone, done_all, done_none}
+use Rattle.w16_compact.proofs.prefix.room_behind.Goals as goal
+
+pub loop-id-init : goal.loop-id-init
+loop-id-init g c =
+    let it = c.into_iter-id-iterator.result in let uses = c.args.order.now in let l = c.args.blocks.now in let h = c.args.h in
+    let is = c.into_iter-id-iterator.ensures.into_iter_gives in
+    let order : it.order.now ≡ uses = ap (λ x. x.order.now) is ∙ c.oldest_first-id-items.ensures.order in
+    let left : it.left ≡ length uses.ids = ap (λ x. x.left) is ∙ c.oldest_first-id-items.ensures.left in
+    let next : it.next ≡ slice_get uses.ids 0 = ap (λ x. x.next) is ∙ c.oldest_first-id-items.ensures.next in
+    let start = all_left it.order.now uses it.left it.next order left next in
+    record {
+      may = start.0;
+      ends = tt;
+      from = (0, sym start.1);
+      done = record {
+        count = 0;
+        sum = zero-add c.args.k;
+        next = ap (λ (ids : List ℕ). eligible l.blocks ids h) start.1;
+        now = record { told = c.fill-most.ensures.told; most = c.fill-most.ensures.value };
+      };
+    }
+
+pub returns-then-left-eq0-clause-value : goal.returns-then-left-eq0-clause-value
+returns-then-left-eq0-clause-value g c =
+    let l = c.args.blocks.now in
+    done_all l c.args.order.now.ids c.args.h c.args.gap_of.now c.args.k c.loop-id.left c.loop-id.most c.loop-id.rooms _ c.loop-id.invariant.done c.if-left-eq0.true
+
+pub is_eligible-requires : goal.is_eligible-requires
+is_eligible-requires g c =
+    let from = c.loop-id.invariant.from in
+    below_cap c.args.blocks.now.cap c.args.order.now from.0 c.in-Some.id _ c.oldest_first-id-items.ensures.uses c.requires.ids (from.1 ∙ c.in-Some.ensures.steps)
+
+pub loop-id-preserved-then-not-is_eligible : goal.loop-id-preserved-then-not-is_eligible
+loop-id-preserved-then-not-is_eligible g c =
+    let now = c.loop-id.invariant in let on = c.in-Some.ensures.goes.on now.ends in let it = c.next.new.self in
+    let later = drop (length it.order.now.ids - it.left) it.order.now.ids in
+    record {
+      may = on.0;
+      ends = on.1;
+      from = (suc now.from.0, rest_after c.args.order.now.ids now.from.0 c.in-Some.id later (now.from.1 ∙ c.in-Some.ensures.steps));
+      done = record {
+        count = now.done.count;
+        sum = now.done.sum;
+        next = sym (passed_here c.args.blocks.now.blocks c.args.h c.in-Some.id later _ c.in-Some.ensures.steps (sym c.is_eligible.ensures ∙ c.if-not-is_eligible.true)) ∙ now.done.next;
+        now = now.done.now;
+      };
+    }
+
+pub returns-clause-value : goal.returns-clause-value
+returns-clause-value g c =
+    let l = c.args.blocks.now in
+    done_none l c.args.order.now.ids c.args.h c.args.gap_of.now c.args.k c.loop-id.left c.loop-id.most c.loop-id.rooms _ c.loop-id.invariant.done c.in-None.ensures.steps.0
