@@ -1,11 +1,11 @@
-use Rattle.std.proofs.Common.{◌≡◌, ◌+◌, ◌<◌, ℕ, List, length, max, not, filter, arith, refl, sym, ap, ◌∙◌, subst, true, false}
+use Rattle.std.proofs.Common.{◌≡◌, ◌+◌, ◌-◌, ◌<◌, ℕ, List, length, max, not, filter, arith, refl, sym, ap, ◌∙◌, subst, true, false}
 use Rattle.w16_model.specs.declared.Block.{Block}
 use Rattle.w16_model.specs.declared.Span.{Span}
 use Rattle.w16_model.specs.Gap.{room}
 use Rattle.w16_model.specs.Discards.{is_about}
 use Rattle.w16_compact.proofs.OnePass.{ord_max-max}
 use Rattle.w16_compact.proofs.ByAddress.{all_left, may_begin}
-use Rattle.w16_compact.proofs.Skips.{IsPassed, rest_is, fits_now, reaches_now, turn_skipped, turn_pinned, turn_loose, passed_start, id_here}
+use Rattle.w16_compact.proofs.Skips.{IsPassed, rest_is, fits_now, reaches_now, turn_skipped, turn_pinned, turn_loose, passed_start, passed_end, ends_now_all, id_here}
 use Rattle.w16_compact.proofs.Filled.{IsFilled, fill_start, fill_skipped, fill_loose, fill_pinned, fill_ended}
 use Rattle.w16_compact.proofs.gap_rooms.fill.Goals as goal
 
@@ -93,3 +93,21 @@ loop-block-preserved g c =
           (subst (IsFilled p l.lo l.hi l.cap l.blocks c.loop-block.gap c.loop-block.reached.low c.loop-block.reached.loose c.loop-block.gap_of c.loop-block.rooms) c.in-Some.ensures.steps now.filled)
           counted pinned lt (reaches_now p l.hi l.blocks _ c.in-Some.block _ now.passed.0 here c.loop-block.most c.loop-block.reached now.passed.2) c.room_to-room.result c.room_to-room.ensures c.passing-reached-2.result c.passing-reached-2.ensures;
     }
+
+-- behind the last block
+pub returns-clause-value : goal.returns-clause-value
+returns-clause-value g c =
+    let l = c.args.blocks.now in let now = c.loop-block.invariant in
+    let to : c.bounds-bounds.result.to ≡ l.hi = ap (λ (s : Span). s.to) c.bounds-bounds.ensures.value in
+    let none = now.passed.1 ∙ c.in-None.ensures.steps.0 in
+    passed_end (λ x. not (is_about c.args.h x.id)) l.hi l.blocks _ now.passed.0 none c.loop-block.most c.loop-block.reached now.passed.2 c.max.result
+    (c.max.ensures ∙ ord_max-max c.loop-block.most _ ∙ ap (max c.loop-block.most) (c.room_to-room-2.ensures ∙ ap (λ (k : ℕ). k - c.loop-block.reached.low - c.loop-block.reached.loose) to))
+
+pub returns-clause-told : goal.returns-clause-told
+returns-clause-told g c =
+    let l = c.args.blocks.now in let now = c.loop-block.invariant in let p = λ (x : Block). not (is_about c.args.h x.id) in
+    let to : c.bounds-bounds.result.to ≡ l.hi = ap (λ (s : Span). s.to) c.bounds-bounds.ensures.value in
+    let none = now.passed.1 ∙ c.in-None.ensures.steps.0 in
+    let lt : c.loop-block.gap < length c.loop-block.rooms = let many = c.requires.rooms in let long = c.loop-block.auto.rooms in let known = now.filled.known in omega arith in
+    fill_ended p l.lo l.hi l.cap l.blocks c.loop-block.gap c.loop-block.reached.low c.loop-block.reached.loose c.loop-block.gap_of c.loop-block.rooms _ c.room_to-room-2.result _ c.in-None.ensures.steps.0 now.filled
+    (ends_now_all p l.hi l.blocks _ now.passed.0 none c.loop-block.most c.loop-block.reached now.passed.2) lt (c.room_to-room-2.ensures ∙ ap (λ (k : ℕ). k - c.loop-block.reached.low - c.loop-block.reached.loose) to) refl
