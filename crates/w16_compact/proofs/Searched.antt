@@ -1,10 +1,10 @@
 -- What may be discarded, along the order of use, and how many of these are needed.
-use Rattle.std.proofs.Common.{◌≡◌, ℕ, ◌+◌, ◌<◌, ◌≤◌, Bool, true, false, cond, not, ◌&&◌, nat_le, List, [], ◌∷◌, zero, suc, length, drop, Option, Some, None, sym, ap, ◌∙◌, arith, add-one, le-leb}
+use Rattle.std.proofs.Common.{◌≡◌, ℕ, ◌+◌, ◌<◌, ◌≤◌, Bool, true, false, not, ◌&&◌, nat_le, List, [], ◌∷◌, zero, suc, length, drop, Option, Some, None, sym, ap, ◌∙◌, arith, add-one, le-leb}
 use Rattle.std.specs.List.{slice_get, find, range_with_len}
 use Rattle.std.proofs.lemmas.Bool.{cond-true, cond-false, lt-leb}
 use Rattle.std.proofs.lemmas.List.Elements.{All-get_or}
 use Rattle.std.proofs.lemmas.List.Sums.{length-filter, count_by-le-length}
-use Rattle.std.proofs.lemmas.Option.{slice_get_within, slice_get-get_or, get_or_from_slice_get}
+use Rattle.std.proofs.lemmas.Option.{slice_get_within, get_or_from_slice_get}
 use Rattle.w16_model.specs.declared.Block.{Block}
 use Rattle.w16_model.specs.Discards.{is_about, is_pinned_id, eligible, room_for, needed, snapshot}
 use Rattle.w16_model.proofs.Prefixes.{needed_now}

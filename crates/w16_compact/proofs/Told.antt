@@ -57,7 +57,7 @@ module _ (hi : ℕ) (gap_of : List ℕ) where
 
     -- a room ends by hi, also with a loose block's bytes
     told_room : (low loose gap from : ℕ) (ys : List Block) → IsLaid from hi ys → Tells hi low loose gap ys gap_of rooms → low + loose + slice_index rooms gap ≤ hi
-    told_room low loose gap from [] laid told = omega arith
+    told_room low loose gap from [] laid told = omega (arith, told)
     told_room low loose gap from (y ∷ ys) laid told = elim (cases_Bool (is_pinned y)) [
       | inl t ↦ let now = (told.0 t).0 in let end = laid_le (block_end y) hi ys laid.2 in omega arith
       | inr f ↦ let rest = told_room low (loose + y.size) gap (block_end y) ys laid.2 (told.1 f).1 in omega arith
@@ -79,9 +79,8 @@ module _ (hi : ℕ) (gap_of : List ℕ) where
     -- the room, where the gap reached has fewer loose bytes
     scan_widened : (best low loose more gap : ℕ) (ys : List Block) → Tells hi low (loose + more) gap ys gap_of rooms
         → scan hi best low loose ys ≡ max (scan hi best low (loose + more) ys) (slice_index rooms gap + more)
-    scan_widened best low loose more gap [] told = omega arith
+    scan_widened best low loose more gap [] told = omega (arith, told)
     scan_widened best low loose more gap (y ∷ ys) told =
-        let v : ℕ = slice_index rooms gap + more in
         elim (is_pinned y) as (λ t. is_pinned y ≡ t → cond t (scan hi (max best (y.at - low - loose)) (block_end y) 0 ys) (scan hi best low (loose + y.size) ys)
             ≡ max (cond t (scan hi (max best (y.at - low - (loose + more))) (block_end y) 0 ys) (scan hi best low ((loose + more) + y.size) ys)) (slice_index rooms gap + more)) [
           | true ↦ λ t.

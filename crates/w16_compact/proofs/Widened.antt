@@ -1,21 +1,21 @@
 -- A walk over what may be discarded, with the table of what is left.
 use Rattle.std.specs.List.{AllByRecursion as Each}
 use Rattle.std.specs.Prelude.{slice_index, MatchOption}
-use Rattle.std.proofs.Common.{◌≡◌, ◌≢◌, ℕ, zero, suc, ◌+◌, ◌<◌, ◌≤◌, max, inl, inr, Bool, true, false, cond, not, ◌&&◌, ◌||◌, ◌==◌, List, [], ◌∷◌, length, take, drop, set, filter, Option, Some, None, refl, sym, ap, ◌∙◌, subst, arith, add-one, eq-eqb, ne_eqb, length-drop}
-use Rattle.std.proofs.lemmas.Bool.{false≢true, and_parts, not-true, not_from_false, or_from}
+use Rattle.std.proofs.Common.{◌≡◌, ◌≢◌, ℕ, zero, suc, ◌+◌, ◌<◌, ◌≤◌, max, inl, inr, Bool, true, false, cond, not, ◌||◌, ◌==◌, List, [], ◌∷◌, length, take, drop, set, Option, Some, None, refl, sym, ap, ◌∙◌, subst, arith, add-one, eq-eqb, ne_eqb, length-drop}
+use Rattle.std.proofs.lemmas.Bool.{and_parts, not-true, not_from_false, or_from}
 use Rattle.std.proofs.lemmas.Bool.Decides.{eqb_tells}
 use Rattle.w16_model.specs.declared.Block.{Block}
 use Rattle.w16_model.specs.Gap.{IsLaid, room, is_pinned}
 use Rattle.w16_model.specs.Discards.{eligible, blocks_without, is_member, is_about, is_pinned_id, room_for, snapshot}
 use Rattle.w16_model.specs.Table.{block_with}
-use Rattle.w16_model.proofs.Gaps.{EachPair, Member, Each-at, Each-from, Each-map, Each-filter, EachPair-from_AllPairs, pairs_filter, filter_member}
+use Rattle.w16_model.proofs.Gaps.{EachPair, Member, Each-from, Each-map, Each-filter, EachPair-from_AllPairs, pairs_filter, filter_member}
 use Rattle.w16_model.proofs.Least.{take_past}
 use Rattle.w16_lru.specs.Uses.{Uses, AreUses}
 use Rattle.w16_blocks.specs.Layout.{Layout, IsOrdered, AreNamed, all_but}
 use Rattle.w16_blocks.proofs.Remove.{all_but_absent, IsLaid-all_but, each_with, with_id}
-use Rattle.w16_compact.specs.Told.{Tells, AreTold}
+use Rattle.w16_compact.specs.Told.{AreTold}
 use Rattle.w16_compact.proofs.Filled.{ids_below, named_filter}
-use Rattle.w16_compact.proofs.OnePass.{scan, scan-room}
+use Rattle.w16_compact.proofs.OnePass.{scan-room}
 use Rattle.w16_compact.proofs.PinnedIds.{is_pinned_id-some}
 use Rattle.w16_compact.proofs.Searched.{may_go}
 use Rattle.w16_compact.proofs.Skips.{laid_filter}
@@ -56,16 +56,16 @@ blocks_more ids more id h each (x ∷ xs) =
       | inr other ↦
           ap (λ c. cond {A = List Block} (not (c || is_about h x.id)) (x ∷ blocks_without xs more h) (blocks_without xs more h)) (each x.id ∙ ap (λ c. c || is_member x.id ids) other.0)
           ∙ ap (λ (ys : List Block). cond {A = List Block} (not (is_member x.id ids || is_about h x.id)) (x ∷ ys) ys) ih
-          ∙ stays (not (is_member x.id ids || is_about h x.id)) (ne_eqb x.id id (λ e. other.1 (sym e)))
+          ∙ kept (not (is_member x.id ids || is_about h x.id)) (ne_eqb x.id id (λ e. other.1 (sym e)))
     ]
   where
     gone : (b : Bool) → (x.id == id) ≡ true → all_but id (cond {A = List Block} b (x ∷ blocks_without xs ids h) (blocks_without xs ids h)) ≡ all_but id (blocks_without xs ids h)
     gone true e = ap (λ c. cond {A = List Block} (not c) (x ∷ all_but id (blocks_without xs ids h)) (all_but id (blocks_without xs ids h))) e
     gone false e = refl
 
-    stays : (b : Bool) → (x.id == id) ≡ false → cond {A = List Block} b (x ∷ all_but id (blocks_without xs ids h)) (all_but id (blocks_without xs ids h)) ≡ all_but id (cond {A = List Block} b (x ∷ blocks_without xs ids h) (blocks_without xs ids h))
-    stays true e = sym (ap (λ c. cond {A = List Block} (not c) (x ∷ all_but id (blocks_without xs ids h)) (all_but id (blocks_without xs ids h))) e)
-    stays false e = refl
+    kept : (b : Bool) → (x.id == id) ≡ false → cond {A = List Block} b (x ∷ all_but id (blocks_without xs ids h)) (all_but id (blocks_without xs ids h)) ≡ all_but id (cond {A = List Block} b (x ∷ blocks_without xs ids h) (blocks_without xs ids h))
+    kept true e = sym (ap (λ c. cond {A = List Block} (not c) (x ∷ all_but id (blocks_without xs ids h)) (all_but id (blocks_without xs ids h))) e)
+    kept false e = refl
 
 -- an id that has no block
 none_with : (id : ℕ) (xs : List Block) → block_with xs id ≡ None → Each (λ y. y.id ≢ id) xs
@@ -80,6 +80,9 @@ module _ (l : Layout) (order : List ℕ) (h : Option ℕ) (gap_of : List ℕ) wh
   abbrev pub left_after : ℕ → List Block
   left_after k = blocks_without l.blocks (take k (eligible l.blocks order h)) h
 
+  abbrev stays : ℕ → Block → Bool
+  stays k x = not (is_member x.id (take k (eligible l.blocks order h)) || is_about h x.id)
+
   -- so many are discarded: the table tells of what is left, and this is its room
   pub record IsReached (k most : ℕ) (rooms : List ℕ) : Type 0 where
     pub told : AreTold l (left_after k) gap_of rooms
@@ -92,10 +95,10 @@ module _ (l : Layout) (order : List ℕ) (h : Option ℕ) (gap_of : List ℕ) wh
     not_gone = not_taken k (eligible l.blocks order h) id later next (pairs_filter (λ a b. a ≡ b → ⊥) (may_go l.blocks h) order once)
 
     named : AreNamed l.cap (left_after k)
-    named = named_filter _ l.cap l.blocks ordered.named
+    named = named_filter (stays k) l.cap l.blocks ordered.named
 
     laid : IsLaid l.lo l.hi (left_after k)
-    laid = laid_filter _ l.lo l.hi l.blocks ordered.laid
+    laid = laid_filter (stays k) l.lo l.hi l.blocks ordered.laid
 
     without : left_after (suc k) ≡ all_but id (left_after k)
     without = blocks_more (take k (eligible l.blocks order h)) (take (suc k) (eligible l.blocks order h)) id h (more_taken k (eligible l.blocks order h) id later next) l.blocks
@@ -105,7 +108,7 @@ module _ (l : Layout) (order : List ℕ) (h : Option ℕ) (gap_of : List ℕ) wh
       own = with_id id b l.blocks known
 
       counted : Member b (left_after k)
-      counted = filter_member _ l.blocks b (each_with (λ y. Member y l.blocks) id b l.blocks known (Each-from (λ y. Member y l.blocks) l.blocks (λ y m. m)))
+      counted = filter_member (stays k) l.blocks b (each_with (λ y. Member y l.blocks) id b l.blocks known (Each-from (λ y. Member y l.blocks) l.blocks (λ y m. m)))
           (subst (λ (q : ℕ). not (is_member q (take k (eligible l.blocks order h)) || is_about h q) ≡ true) (sym own)
           (not_from_false (is_member id (take k (eligible l.blocks order h)) || is_about h id) (or_from (is_member id (take k (eligible l.blocks order h))) (is_about h id) not_gone
           (not-true (is_about h id) (and_parts (not (is_pinned_id l.blocks id)) (not (is_about h id)) goes).1))))
@@ -140,7 +143,7 @@ module _ (l : Layout) (order : List ℕ) (h : Option ℕ) (gap_of : List ℕ) wh
 
     some_gone : (o : Option Block) → block_with l.blocks id ≡ o → (r : ℕ) (rooms' : List ℕ) → Widens o r rooms' → AreTold l (all_but id (left_after k)) gap_of rooms' × (room l.lo l.hi (all_but id (left_after k)) ≡ max (room l.lo l.hi (left_after k)) r)
     some_gone None none r rooms' is =
-        let same : all_but id (left_after k) ≡ left_after k = all_but_absent id (left_after k) (Each-filter (λ y. y.id ≢ id) _ l.blocks (Each-map (λ y. y.id ≢ id) _ (λ y f _. f) l.blocks (none_with id l.blocks none))) in
+        let same : all_but id (left_after k) ≡ left_after k = all_but_absent id (left_after k) (Each-filter (λ (y : Block). y.id ≢ id) (stays k) l.blocks (Each-map (λ (y : Block). y.id ≢ id) (λ y. stays k y ≡ true → y.id ≢ id) (λ y f _. f) l.blocks (none_with id l.blocks none))) in
         let nothing : max (room l.lo l.hi (left_after k)) r ≡ room l.lo l.hi (left_after k) = let zeroth = is.0 in omega arith in (
           subst (λ (rs : List ℕ). AreTold l (all_but id (left_after k)) gap_of rs) (sym is.1) (subst (λ (ys : List Block). AreTold l ys gap_of rooms) (sym same) now.told),
           ap (room l.lo l.hi) same ∙ sym nothing,
@@ -171,7 +174,6 @@ module _ (l : Layout) (order : List ℕ) (h : Option ℕ) (gap_of : List ℕ) wh
 
   pub done_none : (all left most : ℕ) (rooms rest : List ℕ) → IsDone all left most rooms rest → rest ≡ [] → most ≡ room_for (snapshot l.lo l.hi l.blocks order) all h
   done_none all left most rooms rest done none =
-      let ids : List ℕ = eligible l.blocks order h in
       let ended : drop done.count (eligible l.blocks order h) ≡ [] = sym done.next ∙ ap (λ (qs : List ℕ). eligible l.blocks qs h) none in
       let long = length-drop done.count (eligible l.blocks order h) in
       let zeroth : length (drop done.count (eligible l.blocks order h)) ≡ 0 = ap (length {A = ℕ}) ended in

@@ -1,11 +1,11 @@
-use Rattle.std.proofs.Common.{◌≡◌, ◌+◌, ◌-◌, ◌<◌, ℕ, List, length, max, not, filter, arith, refl, sym, ap, ◌∙◌, subst, true, false}
+use Rattle.std.proofs.Common.{◌≡◌, ◌+◌, ◌-◌, ◌<◌, ℕ, length, max, not, filter, arith, refl, sym, ap, ◌∙◌, subst, true, false}
 use Rattle.w16_model.specs.declared.Block.{Block}
 use Rattle.w16_model.specs.declared.Span.{Span}
 use Rattle.w16_model.specs.Gap.{room}
 use Rattle.w16_model.specs.Discards.{is_about}
 use Rattle.w16_compact.proofs.OnePass.{ord_max-max}
 use Rattle.w16_compact.proofs.ByAddress.{all_left, may_begin}
-use Rattle.w16_compact.proofs.Skips.{IsPassed, rest_is, fits_now, reaches_now, turn_skipped, turn_pinned, turn_loose, passed_start, passed_end, ends_now_all, id_here}
+use Rattle.w16_compact.proofs.Skips.{IsPassed, rest_is, reaches_now, turn_skipped, turn_pinned, turn_loose, passed_start, passed_end, ends_now_all, id_here}
 use Rattle.w16_compact.proofs.Filled.{IsFilled, fill_start, fill_skipped, fill_loose, fill_pinned, fill_ended}
 use Rattle.w16_compact.proofs.gap_rooms.fill.Goals as goal
 

@@ -1,4 +1,4 @@
-use Rattle.std.proofs.Common.{ℕ, suc, List, ◌≡◌, ◌∷◌, ◌+◌, ◌-◌, ◌<◌, ◌≤◌, max, length, drop, ap, sym, ◌∙◌, subst, arith, add-one}
+use Rattle.std.proofs.Common.{ℕ, suc, List, ◌≡◌, ◌∷◌, ◌+◌, ◌-◌, ◌<◌, length, drop, ap, sym, ◌∙◌, arith, add-one}
 use Rattle.std.specs.Prelude.{slice_get}
 use Rattle.w16_model.specs.Discards.{eligible}
 use Rattle.w16_lru.proofs.Walks.{all_left}
@@ -92,7 +92,10 @@ widen-requires-clause-fits g c = λ b known.
 
 -- what holds behind it
 module _ (g : _) (c : goal.If-n-most-2 g) where
-  next : _
+  abbrev behind : List ℕ
+  behind = let it = c.next.new.self in eligible c.args.blocks.now.blocks (drop (length it.order.now.ids - it.left) it.order.now.ids) c.args.h
+
+  next : drop c.loop-id.discards (eligible c.args.blocks.now.blocks c.args.order.now.ids c.args.h) ≡ c.in-Some.id ∷ behind
   next = sym c.loop-id.invariant.next ∙ first_here c.args.blocks.now.blocks c.args.h c.in-Some.id _ _ c.in-Some.ensures.steps (sym c.is_eligible.ensures ∙ c.if-not-is_eligible.false)
 
   reached : IsReached c.args.blocks.now c.args.order.now.ids c.args.h c.fill-most.new.gap_of (c.loop-id.discards + 1) c.max-most.result c.widen.new.rooms

@@ -1,10 +1,10 @@
-use Rattle.std.proofs.Common.{ℕ, suc, List, ◌≡◌, ◌∷◌, ◌+◌, ◌-◌, ◌<◌, length, drop, refl, ap, sym, ◌∙◌, arith, zero-add, add-one}
+use Rattle.std.proofs.Common.{ℕ, suc, List, ◌≡◌, ◌+◌, ◌-◌, ◌<◌, length, drop, ap, sym, ◌∙◌, arith, zero-add, add-one}
 use Rattle.std.specs.Prelude.{slice_get}
 use Rattle.w16_model.specs.Discards.{eligible}
 use Rattle.w16_lru.proofs.Walks.{all_left}
 use Rattle.w16_compact.proofs.OnePass.{ord_max-max}
 use Rattle.w16_compact.proofs.Searched.{below_cap, rest_after, first_here, passed_here}
-use Rattle.w16_compact.proofs.Widened.{IsDone, done_all, done_none, known_gap, fits_room, reached_next, once_each}
+use Rattle.w16_compact.proofs.Widened.{done_all, done_none, known_gap, fits_room, reached_next, once_each}
 use Rattle.w16_compact.proofs.prefix.room_behind.Goals as goal
 
 pub loop-id-init : goal.loop-id-init
