@@ -97,7 +97,8 @@ pub(crate) fn widen<H: HoleList>(
     requires id { id < blocks.now.cap }
     requires in_table { id < length gap_of.now }
     requires gap { ForSome (block_with blocks.now.blocks id) (λ b. slice_index gap_of.now id < length rooms.old) }
-    requires fits { ForSome (block_with blocks.now.blocks id) (λ b. slice_index rooms.old (slice_index gap_of.now id) + b.size < 2 ^ 32) }
+    requires fits { ForSome (block_with blocks.now.blocks id)
+        (λ b. slice_index rooms.old (slice_index gap_of.now id) + b.size < 2 ^ 32) }
     ensures { let gap = slice_index gap_of.now id in MatchOption (block_with blocks.now.blocks id)
         ((result ≡ 0) × (rooms.new ≡ rooms.old))
         (λ b. (result ≡ slice_index rooms.old gap + b.size)

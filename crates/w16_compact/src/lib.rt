@@ -6,7 +6,7 @@
 //! - [`least_prefix`] tells how many discards it takes first, [`room_after`] how much room a number of them leaves, and [`is_eligible`]
 //!   which objects they may be.
 //!
-//! No call takes memory but [`GapRooms::with_room`], whose table the searches fill. What is proved of them is stated over `w16_model`'s gaps and holes.
+//! No call but [`GapRooms::with_room`] takes memory. What is proved of them is stated over `w16_model`'s gaps and holes.
 #![tactic(auto)]
 
 mod gap_rooms;

@@ -5,7 +5,7 @@ use Rattle.w16_model.specs.Gap.{room}
 use Rattle.w16_model.specs.Discards.{is_about}
 use Rattle.w16_compact.proofs.OnePass.{ord_max-max}
 use Rattle.w16_compact.proofs.ByAddress.{all_left, may_begin}
-use Rattle.w16_compact.proofs.Skips.{IsPassed, rest_is, reaches_now, turn_skipped, turn_pinned, turn_loose, passed_start, passed_end, ends_now_all, id_here}
+use Rattle.w16_compact.proofs.Skips.{IsPassed, rest_is, fits_now, reaches_now, turn_skipped, turn_pinned, turn_loose, passed_start, passed_end, ends_now_all, id_here}
 use Rattle.w16_compact.proofs.Filled.{IsFilled, fill_start, fill_skipped, fill_loose, fill_pinned, fill_ended}
 use Rattle.w16_compact.proofs.gap_rooms.fill.Goals as goal
 
@@ -111,3 +111,32 @@ returns-clause-told g c =
     let lt : c.loop-block.gap < length c.loop-block.rooms = let many = c.requires.rooms in let long = c.loop-block.auto.rooms in let known = now.filled.known in omega arith in
     fill_ended p l.lo l.hi l.cap l.blocks c.loop-block.gap c.loop-block.reached.low c.loop-block.reached.loose c.loop-block.gap_of c.loop-block.rooms _ c.room_to-room-2.result _ c.in-None.ensures.steps.0 now.filled
     (ends_now_all p l.hi l.blocks _ now.passed.0 none c.loop-block.most c.loop-block.reached now.passed.2) lt (c.room_to-room-2.ensures ∙ ap (λ (k : ℕ). k - c.loop-block.reached.low - c.loop-block.reached.loose) to) refl
+
+-- the next block's place and the bytes before it
+pub passing-reached-requires-clause-end : goal.passing-reached-requires-clause-end
+passing-reached-requires-clause-end g c =
+    let l = c.args.blocks.now in let now = c.loop-block.invariant in
+    (fits_now (λ x. not (is_about c.args.h x.id)) l.hi l.blocks _ c.in-Some.block _ now.passed.0 (now.passed.1 ∙ c.in-Some.ensures.steps) c.loop-block.most c.loop-block.reached now.passed.2 c.bounds-bounds.ensures.ordered.small).0
+
+pub passing-reached-requires-clause-sum : goal.passing-reached-requires-clause-sum
+passing-reached-requires-clause-sum g c =
+    let l = c.args.blocks.now in let now = c.loop-block.invariant in
+    (fits_now (λ x. not (is_about c.args.h x.id)) l.hi l.blocks _ c.in-Some.block _ now.passed.0 (now.passed.1 ∙ c.in-Some.ensures.steps) c.loop-block.most c.loop-block.reached now.passed.2 c.bounds-bounds.ensures.ordered.small).1
+
+pub passing-reached-2-requires-clause-end : goal.passing-reached-2-requires-clause-end
+passing-reached-2-requires-clause-end g c =
+    let l = c.args.blocks.now in let now = c.loop-block.invariant in
+    (fits_now (λ x. not (is_about c.args.h x.id)) l.hi l.blocks _ c.in-Some.block _ now.passed.0 (now.passed.1 ∙ c.in-Some.ensures.steps) c.loop-block.most c.loop-block.reached now.passed.2 c.bounds-bounds.ensures.ordered.small).0
+
+pub passing-reached-2-requires-clause-sum : goal.passing-reached-2-requires-clause-sum
+passing-reached-2-requires-clause-sum g c =
+    let l = c.args.blocks.now in let now = c.loop-block.invariant in
+    (fits_now (λ x. not (is_about c.args.h x.id)) l.hi l.blocks _ c.in-Some.block _ now.passed.0 (now.passed.1 ∙ c.in-Some.ensures.steps) c.loop-block.most c.loop-block.reached now.passed.2 c.bounds-bounds.ensures.ordered.small).1
+
+pub room_to-room-requires : goal.room_to-room-requires
+room_to-room-requires g c =
+    let l = c.args.blocks.now in let now = c.loop-block.invariant in
+    reaches_now (λ x. not (is_about c.args.h x.id)) l.hi l.blocks _ c.in-Some.block _ now.passed.0 (now.passed.1 ∙ c.in-Some.ensures.steps) c.loop-block.most c.loop-block.reached now.passed.2
+
+pub bounds-rooms-gap : goal.bounds-rooms-gap
+bounds-rooms-gap g c = let many = c.requires.rooms in let long = c.loop-block.auto.rooms in let known = c.loop-block.invariant.filled.known in omega arith
