@@ -27,7 +27,7 @@ named_filter p cap (x ∷ xs) named = turn (p x) (named_filter p cap xs named.2)
 -- other tables have what these have, but for what is still to be written
 pub record AreSettled (rest : List Block) (gap : ℕ) (gap_of rooms gap_of' rooms' : List ℕ) : Type 0 where
   pub gaps : (q : ℕ) → Each (λ y. y.id ≢ q) rest → slice_index gap_of' q ≡ slice_index gap_of q
-  pub rooms : (q : ℕ) → q ≢ gap → Each (λ y. y.id ≢ q) rest → slice_index rooms' q ≡ slice_index rooms q
+  pub ended : (q : ℕ) → q ≢ gap → Each (λ y. y.id ≢ q) rest → slice_index rooms' q ≡ slice_index rooms q
 
 module _ (p : Block → Bool) (lo hi cap : ℕ) (xs : List Block) where
   -- what holds before the rest: the whole is told where the rest is
@@ -53,7 +53,7 @@ module _ (p : Block → Bool) (lo hi cap : ℕ) (xs : List Block) where
       other = now.other.1;
       known = now.known;
       told = λ gap_of' rooms' settled told. now.told gap_of' rooms'
-          (record { gaps = λ q none. settled.gaps q none.1; rooms = λ q other none. settled.rooms q other none.1 })
+          (record { gaps = λ q none. settled.gaps q none.1; ended = λ q other none. settled.ended q other none.1 })
           (subst (λ (ys : List Block). Tells hi r.low r.loose gap ys gap_of' rooms') (sym (cond-false (p x) (x ∷ filter p rest) (filter p rest) e)) told);
     }
 
@@ -68,7 +68,7 @@ module _ (p : Block → Bool) (lo hi cap : ℕ) (xs : List Block) where
           told = λ gap_of' rooms' settled told. now.told gap_of' rooms'
               (record {
                 gaps = λ q none. settled.gaps q none.1 ∙ get_or-set_other gap_of x.id q gap 0 (λ s. none.0 (sym s));
-                rooms = λ q other none. settled.rooms q other none.1;
+                ended = λ q other none. settled.ended q other none.1;
               })
               (subst (λ (ys : List Block). Tells hi r.low r.loose gap ys gap_of' rooms') (sym (cond-true (p x) (x ∷ filter p rest) (filter p rest) e))
               ((λ t. absurd (false≢true (sym k ∙ t))), (λ f. (settled.gaps x.id now.named.1 ∙ get_or-set_same gap_of x.id gap 0 lt, told))));
@@ -86,12 +86,12 @@ module _ (p : Block → Bool) (lo hi cap : ℕ) (xs : List Block) where
           told = λ gap_of' rooms' settled told. now.told gap_of' rooms'
               (record {
                 gaps = λ q none. settled.gaps q none.1;
-                rooms = λ q other none. settled.rooms q (λ s. none.0 (sym s)) none.1 ∙ get_or-set_other rooms gap q room 0 other;
+                ended = λ q other none. settled.ended q (λ s. none.0 (sym s)) none.1 ∙ get_or-set_other rooms gap q room 0 other;
               })
               (subst (λ (ys : List Block). Tells hi r.low r.loose gap ys gap_of' rooms') (sym (cond-true (p x) (x ∷ filter p rest) (filter p rest) e))
               (
                 (λ t.
-                    let here : slice_index rooms' gap ≡ room = settled.rooms gap (λ s. now.other.0 (sym s)) now.other.1 ∙ get_or-set_same rooms gap room 0 lt in
+                    let here : slice_index rooms' gap ≡ room = settled.ended gap (λ s. now.other.0 (sym s)) now.other.1 ∙ get_or-set_same rooms gap room 0 lt in
                     (omega arith, told)),
                 (λ f. absurd (false≢true (sym f ∙ k))),
               ));
@@ -105,5 +105,5 @@ module _ (p : Block → Bool) (lo hi cap : ℕ) (xs : List Block) where
     where
       last : IsFilled gap low loose gap_of rooms [] → Tells hi lo 0 cap (filter p xs) gap_of (set rooms gap room)
       last end = end.told gap_of (set rooms gap room)
-          (record { gaps = λ q _. refl; rooms = λ q other _. get_or-set_other rooms gap q room 0 other })
+          (record { gaps = λ q _. refl; ended = λ q other _. get_or-set_other rooms gap q room 0 other })
           (let now = get_or-set_same rooms gap room 0 lt in omega arith)

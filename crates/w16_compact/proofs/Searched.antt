@@ -1,15 +1,16 @@
 -- What may be discarded, along the order of use, and how many of these are needed.
-use Rattle.std.proofs.Common.{◌≡◌, ℕ, ◌+◌, ◌<◌, ◌≤◌, Bool, true, false, not, ◌&&◌, nat_le, List, [], ◌∷◌, zero, suc, length, drop, Option, Some, None, sym, ap, ◌∙◌, arith, add-one, le-leb}
+use Rattle.std.proofs.Common.{◌≡◌, ℕ, ◌+◌, ◌<◌, ◌≤◌, inl, inr, Bool, true, false, not, ◌&&◌, nat_le, List, [], ◌∷◌, zero, suc, length, take, drop, Option, Some, None, refl, sym, ap, ◌∙◌, subst, arith, le-leb, length-drop}
 use Rattle.std.specs.List.{slice_get, find, range_with_len}
-use Rattle.std.proofs.lemmas.Bool.{cond-true, cond-false, lt-leb}
+use Rattle.std.proofs.lemmas.Bool.{cases_lt, cond-true, cond-false, lt-leb}
 use Rattle.std.proofs.lemmas.List.Elements.{All-get_or}
 use Rattle.std.proofs.lemmas.List.Sums.{length-filter, count_by-le-length}
 use Rattle.std.proofs.lemmas.Option.{slice_get_within, get_or_from_slice_get}
 use Rattle.w16_model.specs.declared.Block.{Block}
-use Rattle.w16_model.specs.Discards.{is_about, is_pinned_id, eligible, room_for, needed, snapshot}
-use Rattle.w16_model.proofs.Prefixes.{needed_now}
+use Rattle.w16_model.specs.Gap.{room}
+use Rattle.w16_model.specs.Discards.{is_about, is_pinned_id, eligible, blocks_without, room_for, needed, snapshot}
+use Rattle.w16_model.proofs.Discards.{more_discards_law}
+use Rattle.w16_model.proofs.Least.{take_past}
 use Rattle.w16_lru.specs.Uses.{Uses, AreUses}
-use Rattle.w16_lru.proofs.Members.{few}
 
 -- each member of an order is an id
 pub below_cap : (most : ℕ) (uses : Uses) (i id : ℕ) (later : List ℕ) → AreUses uses → uses.cap ≤ most → drop i uses.ids ≡ id ∷ later → id < most
@@ -43,47 +44,46 @@ first_here xs h id later rest e t = ap (λ qs. eligible xs qs h) e ∙ cond-true
 pub passed_here : (xs : List Block) (h : Option ℕ) (id : ℕ) (later rest : List ℕ) → rest ≡ id ∷ later → may_go xs h id ≡ false → eligible xs rest h ≡ eligible xs later h
 passed_here xs h id later rest e f = ap (λ qs. eligible xs qs h) e ∙ cond-false (may_go xs h id) (id ∷ eligible xs later h) (eligible xs later h) f
 
--- no more may be discarded than there are ids
-pub before_last : (ids : List ℕ) (k id : ℕ) (later : List ℕ) → drop k ids ≡ id ∷ later → k < length ids
-before_last [] zero id later e = cc
-before_last [] (suc k) id later e = cc
-before_last (x ∷ xs) zero id later e = omega arith
-before_last (x ∷ xs) (suc k) id later e = let rest = before_last xs k id later e in omega arith
+-- the first of some numbers in a row that passes
+find-first : (p : ℕ → Bool) (m a k : ℕ) → a ≤ k → k < a + m → p k ≡ true → ((j : ℕ) → a ≤ j → j < k → p j ≡ false) → find p (range_with_len a m) ≡ Some k
+find-first p zero a k le lt t before = absurd (omega arith)
+find-first p (suc m) a k le lt t before = elim (cases_lt a k) [
+  | inl l ↦ cond-false (p a) (Some a) _ (before a (omega arith) l) ∙ find-first p m (a + 1) k (omega arith) (omega arith) t (λ j l1 l2. before j (omega arith) l2)
+  | inr l ↦ let same : k ≡ a = omega arith in cond-true (p a) (Some a) _ (subst (λ v. p v ≡ true) same t) ∙ ap (λ v. Some v) (sym same)
+]
 
-pub few_gone : (xs : List Block) (uses : Uses) (h : Option ℕ) (k id : ℕ) (later : List ℕ) → AreUses uses → drop k (eligible xs uses.ids h) ≡ id ∷ later → k < uses.cap
-few_gone xs uses h k id later are e =
-    let more = before_last (eligible xs uses.ids h) k id later e in
-    let all = length-filter (may_go xs h) uses.ids in let most = count_by-le-length (may_go xs h) uses.ids in
-    let ids = few uses are in
-    omega (arith, more, all, most, ids)
+find-none : (p : ℕ → Bool) (m a : ℕ) → ((j : ℕ) → j < a + m → p j ≡ false) → find p (range_with_len a m) ≡ None
+find-none p zero a all = refl
+find-none p (suc m) a all = cond-false (p a) (Some a) _ (all a (omega arith)) ∙ find-none p m (a + 1) (λ j l. all j (omega arith))
 
--- The least number that is enough, from one number on.
-module _ (lo hi : ℕ) (xs : List Block) (order : List ℕ) (n : ℕ) (h : Option ℕ) where
-  abbrev serves : ℕ → Bool
-  serves k = nat_le n (room_for (snapshot lo hi xs order) k h)
+module _ (lo hi : ℕ) (xs : List Block) (order : List ℕ) (h : Option ℕ) where
+  abbrev room_of : ℕ → ℕ
+  room_of k = room_for (snapshot lo hi xs order) k h
 
-  -- as many as k are too few, so the first number that is enough comes after it
-  abbrev pub IsSought : ℕ → Type 0
-  IsSought k = find (λ j. nat_le n (room_for (snapshot lo hi xs order) j h)) (range_with_len (k + 1) (length (drop k (eligible xs order h)))) ≡ needed (snapshot lo hi xs order) n h
+  abbrev all : ℕ
+  all = length (eligible xs order h)
 
-  pub found_none_gone : (most : ℕ) → most ≡ room_for (snapshot lo hi xs order) 0 h → n ≤ most → Some 0 ≡ needed (snapshot lo hi xs order) n h
-  found_none_gone most is fits = sym (needed_now lo hi xs order n h (omega arith))
+  -- past all that may be discarded, more discards leave no more room
+  pub room_past : (k most : ℕ) → k ≤ most → drop k (eligible xs order h) ≡ [] → room_of k ≡ room_of most
+  room_past k most le none =
+      let long = length-drop k (eligible xs order h) in
+      let zeroth : length (drop k (eligible xs order h)) ≡ 0 = ap (length {A = ℕ}) none in
+      ap (λ ids. room lo hi (blocks_without xs ids h)) (take_past k (eligible xs order h) (omega arith) ∙ sym (take_past most (eligible xs order h) (omega arith)))
 
-  pub sought_start : (most : ℕ) → most ≡ room_for (snapshot lo hi xs order) 0 h → most < n → IsSought 0
-  sought_start most is few =
-      sym (ap (λ m. find serves (range_with_len 0 m)) (add-one (length (eligible xs order h))) ∙ cond-false (serves 0) (Some 0) _ (lt-leb n (room_for (snapshot lo hi xs order) 0 h) (omega arith)))
+  module _ (n : ℕ) where
+    -- the least number that leaves enough room is needed
+    pub least_needed : (k : ℕ) → n ≤ room_of k → ((j : ℕ) → j < k → room_of j < n) → Some k ≡ needed (snapshot lo hi xs order) n h
+    least_needed k enough fewer =
+        let within : k < all + 1 = elim (cases_lt all k) [
+          | inl lt ↦
+              let last : room_of k ≡ room_of all = ap (λ ids. room lo hi (blocks_without xs ids h)) (take_past k (eligible xs order h) (omega arith) ∙ sym (take_past all (eligible xs order h) (omega arith))) in
+              absurd (omega (arith, fewer all lt, last, enough))
+          | inr l ↦ omega arith
+        ] in
+        sym (find-first (λ j. nat_le n (room_of j)) (all + 1) 0 k (omega arith) (omega arith) (le-leb n (room_of k) enough) (λ j _ l. lt-leb n (room_of j) (fewer j l)))
 
-  module _ (k id : ℕ) (later : List ℕ) (next : drop k (eligible xs order h) ≡ id ∷ later) (sought : IsSought k) (most : ℕ) (is : most ≡ room_for (snapshot lo hi xs order) (k + 1) h) where
-    first : find serves (range_with_len (k + 1) (suc (length later))) ≡ needed (snapshot lo hi xs order) n h
-    first = ap (λ (qs : List ℕ). find serves (range_with_len (k + 1) (length qs))) (sym next) ∙ sought
-
-    pub sought_here : n ≤ most → Some (k + 1) ≡ needed (snapshot lo hi xs order) n h
-    sought_here fits = sym (cond-true (serves (k + 1)) (Some (k + 1)) _ (le-leb n (room_for (snapshot lo hi xs order) (k + 1) h) (omega arith))) ∙ first
-
-    pub sought_on : most < n → IsSought (k + 1)
-    sought_on few =
-        ap (λ (qs : List ℕ). find serves (range_with_len (k + 1 + 1) (length qs))) (ap (λ j. drop j (eligible xs order h)) (add-one k) ∙ rest_after (eligible xs order h) k id later next)
-        ∙ sym (cond-false (serves (k + 1)) (Some (k + 1)) _ (lt-leb n (room_for (snapshot lo hi xs order) (k + 1) h) (omega arith))) ∙ first
-
-  pub sought_end : (k : ℕ) → drop k (eligible xs order h) ≡ [] → IsSought k → None ≡ needed (snapshot lo hi xs order) n h
-  sought_end k none sought = ap (λ (qs : List ℕ). find serves (range_with_len (k + 1) (length qs))) (sym none) ∙ sought
+    -- where all that are used leave too little none is
+    pub none_needed : room_of (length order) < n → None ≡ needed (snapshot lo hi xs order) n h
+    none_needed few =
+        let le : all ≤ length order = let e = length-filter (may_go xs h) order in omega (arith, count_by-le-length (may_go xs h) order) in
+        sym (find-none (λ j. nat_le n (room_of j)) (all + 1) 0 (λ j l. lt-leb n (room_of j) (omega (arith, more_discards_law lo hi xs order h j (length order) (omega arith), few))))

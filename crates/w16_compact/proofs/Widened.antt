@@ -86,7 +86,7 @@ module _ (l : Layout) (order : List ℕ) (h : Option ℕ) (gap_of : List ℕ) wh
   -- so many are discarded: the table tells of what is left, and this is its room
   pub record IsReached (k most : ℕ) (rooms : List ℕ) : Type 0 where
     pub told : AreTold l (left_after k) gap_of rooms
-    pub most : most ≡ room_for (snapshot l.lo l.hi l.blocks order) k h
+    pub room_now : most ≡ room_for (snapshot l.lo l.hi l.blocks order) k h
 
   -- the next one
   module _ (ordered : IsOrdered l) (once : EachPair (λ a b. a ≡ b → ⊥) order) (k most : ℕ) (rooms : List ℕ) (now : IsReached k most rooms) (id : ℕ) (later : List ℕ)
@@ -131,8 +131,8 @@ module _ (l : Layout) (order : List ℕ) (h : Option ℕ) (gap_of : List ℕ) wh
       told_now = subst (λ (q : ℕ). AreTold l (all_but q (left_after k)) gap_of (set rooms (slice_index gap_of q) (slice_index rooms (slice_index gap_of q) + b.size))) own
           (told_without l.hi gap_of rooms l.cap b loose_one l.lo 0 l.cap (left_after k) named others_cap many many now.told counted)
 
-      room_now : room l.lo l.hi (all_but id (left_after k)) ≡ max (room l.lo l.hi (left_after k)) (slice_index rooms (slice_index gap_of id) + b.size)
-      room_now = subst (λ (q : ℕ). room l.lo l.hi (all_but q (left_after k)) ≡ max (room l.lo l.hi (left_after k)) (slice_index rooms (slice_index gap_of q) + b.size)) own
+      wider_room : room l.lo l.hi (all_but id (left_after k)) ≡ max (room l.lo l.hi (left_after k)) (slice_index rooms (slice_index gap_of id) + b.size)
+      wider_room = subst (λ (q : ℕ). room l.lo l.hi (all_but q (left_after k)) ≡ max (room l.lo l.hi (left_after k)) (slice_index rooms (slice_index gap_of q) + b.size)) own
           (sym (scan-room l.lo l.hi (all_but b.id (left_after k)) (IsLaid-all_but l.lo l.hi b.id (left_after k) laid))
           ∙ scan_without l.hi gap_of rooms l.cap b loose_one 0 l.lo 0 l.cap (left_after k) named now.told counted
           ∙ ap (λ (m : ℕ). max m (slice_index rooms (slice_index gap_of b.id) + b.size)) (scan-room l.lo l.hi (left_after k) laid))
@@ -150,7 +150,7 @@ module _ (l : Layout) (order : List ℕ) (h : Option ℕ) (gap_of : List ℕ) wh
         )
     some_gone (Some b) known r rooms' is = (
       subst (λ (rs : List ℕ). AreTold l (all_but id (left_after k)) gap_of rs) (sym is.1) (told_now b known),
-      room_now b known ∙ ap (λ (v : ℕ). max (room l.lo l.hi (left_after k)) v) (sym is.0),
+      wider_room b known ∙ ap (λ (v : ℕ). max (room l.lo l.hi (left_after k)) v) (sym is.0),
     )
 
     pub reached_next : (r : ℕ) (rooms' : List ℕ) → Widens (block_with l.blocks id) r rooms' → (most' : ℕ) → most' ≡ max most r → IsReached (k + 1) most' rooms'
@@ -158,28 +158,8 @@ module _ (l : Layout) (order : List ℕ) (h : Option ℕ) (gap_of : List ℕ) wh
         let both = some_gone (block_with l.blocks id) refl r rooms' is in
         subst (λ (j : ℕ). IsReached j most' rooms') (sym (add-one k)) (record {
           told = subst (λ (ys : List Block). AreTold l ys gap_of rooms') (sym without) both.0;
-          most = best ∙ ap (λ (m : ℕ). max m r) now.most ∙ sym both.1 ∙ ap (room l.lo l.hi) (sym without);
+          room_now = best ∙ ap (λ (m : ℕ). max m r) now.room_now ∙ sym both.1 ∙ ap (room l.lo l.hi) (sym without);
         })
-
-  -- a walk that ends after so many, or where there are no more
-  pub record IsDone (all left most : ℕ) (rooms rest : List ℕ) : Type 0 where
-    pub count : ℕ
-    pub sum : count + left ≡ all
-    pub next : eligible l.blocks rest h ≡ drop count (eligible l.blocks order h)
-    pub now : IsReached count most rooms
-
-  pub done_all : (all left most : ℕ) (rooms rest : List ℕ) → IsDone all left most rooms rest → left ≡ 0 → most ≡ room_for (snapshot l.lo l.hi l.blocks order) all h
-  done_all all left most rooms rest done none = let sum = done.sum in let same : done.count ≡ all = omega arith in
-      done.now.most ∙ ap (λ (k : ℕ). room_for (snapshot l.lo l.hi l.blocks order) k h) same
-
-  pub done_none : (all left most : ℕ) (rooms rest : List ℕ) → IsDone all left most rooms rest → rest ≡ [] → most ≡ room_for (snapshot l.lo l.hi l.blocks order) all h
-  done_none all left most rooms rest done none =
-      let ended : drop done.count (eligible l.blocks order h) ≡ [] = sym done.next ∙ ap (λ (qs : List ℕ). eligible l.blocks qs h) none in
-      let long = length-drop done.count (eligible l.blocks order h) in
-      let zeroth : length (drop done.count (eligible l.blocks order h)) ≡ 0 = ap (length {A = ℕ}) ended in
-      let sum = done.sum in
-      done.now.most
-      ∙ ap (λ (qs : List ℕ). room l.lo l.hi (blocks_without l.blocks qs h)) (take_past done.count (eligible l.blocks order h) (omega arith) ∙ sym (take_past all (eligible l.blocks order h) (omega arith)))
 
 -- each id of an order is there once
 pub once_each : (uses : Uses) → AreUses uses → EachPair (λ a b. a ≡ b → ⊥) uses.ids

@@ -25,7 +25,7 @@ pub struct GapRooms {
 }
 
 impl Model for GapRooms {
-    ghost use Rattle.std.specs.Prelude.{ℕ, vec_len};
+    ghost use Rattle.std.specs.Prelude.{◌≡◌, ◌+◌, ℕ, vec_len};
 
     ghost Value = { ℕ };
 

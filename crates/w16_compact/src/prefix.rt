@@ -1,5 +1,5 @@
 //! How many discards make room.
-ghost use Rattle.std.specs.Prelude.{◌≡◌, ◌<◌, ◌≤◌, ◌&&◌, not, length};
+ghost use Rattle.std.specs.Prelude.{◌≡◌, ℕ, ◌<◌, ◌≤◌, ◌&&◌, not, length};
 ghost use Rattle.w16_model.specs.Discards.{is_about, is_pinned_id, needed, room_for, snapshot};
 ghost use Rattle.w16_blocks.specs.Layout.{IsOrdered, holes_of};
 
@@ -31,43 +31,22 @@ pub fn least_prefix<S: Space, H: Holes<S>>(
     ensures table { table.new ≡ table.old }
     ensures ordered { IsOrdered blocks.now }
 {
-    first_enough(blocks, space, order, &mut table.gap_of, &mut table.rooms, h, n)
-}
-
-/// The same with the table's parts.
-fn first_enough<S: Space, H: Holes<S>>(
-    blocks: &Blocks<H>,
-    space: &S,
-    order: &Order,
-    gap_of: &mut [u32],
-    rooms: &mut [u32],
-    h: Option<u32>,
-    n: u32,
-) -> Option<usize>
-    requires gap_of { blocks.now.cap ≤ length gap_of.old }
-    requires rooms { blocks.now.cap < length rooms.old }
-    requires ids { order.now.cap ≤ blocks.now.cap }
-    requires kept { H.are_in (holes_of blocks.now) (S.bytes space.now) }
-    ensures value { result
-        ≡ needed (snapshot blocks.now.lo blocks.now.hi blocks.now.blocks order.now.ids) n h }
-    ensures ordered { IsOrdered blocks.now }
-{
-    let mut most = fill(blocks, space, gap_of, rooms, h);
-    if n <= most {
-        return Some(0);
+    let all = order.len();
+    let found = search(
+        blocks,
+        space,
+        order,
+        &mut table.gap_of,
+        &mut table.rooms,
+        h,
+        all,
+        u64::from(n),
+    );
+    if n <= found.room {
+        Some(found.discards)
+    } else {
+        None
     }
-    let mut discards = 0;
-    for id in order.oldest_first() {
-        if !is_eligible(blocks, h, id) {
-            continue;
-        }
-        discards += 1;
-        most = most.max(widen(blocks, gap_of, rooms, id));
-        if n <= most {
-            return Some(discards);
-        }
-    }
-    None
 }
 
 /// The room after `k` discards, or after all where there are fewer to be made, where `h` isn't
@@ -88,40 +67,64 @@ pub fn room_after<S: Space, H: Holes<S>>(
     ensures table { table.new ≡ table.old }
     ensures ordered { IsOrdered blocks.now }
 {
-    room_behind(blocks, space, order, &mut table.gap_of, &mut table.rooms, h, k)
+    // No room is as long as that, so the search goes on to `k`.
+    let found = search(
+        blocks,
+        space,
+        order,
+        &mut table.gap_of,
+        &mut table.rooms,
+        h,
+        k,
+        u64::MAX,
+    );
+    found.room
 }
 
-/// The same with the table's parts.
-fn room_behind<S: Space, H: Holes<S>>(
+/// How far a search has come: how many objects it counts as discarded, and the room that this leaves.
+#[derive(Clone, Copy)]
+struct Found {
+    discards: usize,
+    room: u32,
+}
+
+/// Counts the oldest objects that may be discarded as if they were, one after another, until there is room for `n` bytes or `most` of
+/// them are counted. The table's parts are as for [`least_prefix`].
+fn search<S: Space, H: Holes<S>>(
     blocks: &Blocks<H>,
     space: &S,
     order: &Order,
     gap_of: &mut [u32],
     rooms: &mut [u32],
     h: Option<u32>,
-    k: usize,
-) -> u32
+    most: usize,
+    n: u64,
+) -> Found
     requires gap_of { blocks.now.cap ≤ length gap_of.old }
     requires rooms { blocks.now.cap < length rooms.old }
     requires ids { order.now.cap ≤ blocks.now.cap }
     requires kept { H.are_in (holes_of blocks.now) (S.bytes space.now) }
-    ensures value { result
-        ≡ room_for (snapshot blocks.now.lo blocks.now.hi blocks.now.blocks order.now.ids) k h }
+    ensures room { result.room
+        ≡ room_for (snapshot blocks.now.lo blocks.now.hi blocks.now.blocks order.now.ids) result.discards h }
+    ensures fewest { (k : ℕ) → k < result.discards
+        → room_for (snapshot blocks.now.lo blocks.now.hi blocks.now.blocks order.now.ids) k h < n }
+    ensures all { result.room < n → result.room
+        ≡ room_for (snapshot blocks.now.lo blocks.now.hi blocks.now.blocks order.now.ids) most h }
     ensures ordered { IsOrdered blocks.now }
 {
-    let mut most = fill(blocks, space, gap_of, rooms, h);
-    let mut left = k;
+    let mut room = fill(blocks, space, gap_of, rooms, h);
+    let mut discards = 0;
     for id in order.oldest_first() {
-        if left == 0 {
-            return most;
+        if discards == most || n <= u64::from(room) {
+            return Found { discards, room };
         }
         if !is_eligible(blocks, h, id) {
             continue;
         }
-        left -= 1;
-        most = most.max(widen(blocks, gap_of, rooms, id));
+        discards += 1;
+        room = room.max(widen(blocks, gap_of, rooms, id));
     }
-    most
+    Found { discards, room }
 }
 
 /// Whether a request about `h` may discard a member of the order: it isn't locked, and isn't `h` itself (profile).

@@ -45,8 +45,8 @@ loop-block-preserved-then-is_about g c =
     }
 
 -- the next block's id
-pub bounds-gap_of-id : goal.bounds-gap_of-id
-bounds-gap_of-id g c =
+pub bounds-gap_of-block : goal.bounds-gap_of-block
+bounds-gap_of-block g c =
     let l = c.args.blocks.now in let now = c.loop-block.invariant in
     let lt = id_here l.cap l.blocks c.in-Some.block _ now.passed.0 (now.passed.1 ∙ c.in-Some.ensures.steps) c.bounds-bounds.ensures.ordered.named in
     let many = c.requires.gap_of in let long = c.loop-block.auto.gap_of in
@@ -87,21 +87,21 @@ loop-block-preserved g c =
         now.passed.0 + 1,
         rest_is l.blocks c.in-Some.block _ now.passed.0 here,
         turn_pinned p l.hi l.blocks _ c.in-Some.block _ now.passed.0 here c.loop-block.most c.loop-block.reached now.passed.2 counted pinned c.max-most.result
-            (c.max-most.ensures ∙ ord_max-max c.loop-block.most _ ∙ ap (max c.loop-block.most) c.room_to-room.ensures) c.passing-reached-2.result c.passing-reached-2.ensures,
+            (c.max-most.ensures ∙ ord_max-max c.loop-block.most _ ∙ ap (max c.loop-block.most) c.room_to-room.ensures) c.passing-reached-in-loop-block.result c.passing-reached-in-loop-block.ensures,
       );
       filled = fill_pinned p l.lo l.hi l.cap l.blocks c.in-Some.block _ c.loop-block.gap c.loop-block.reached c.loop-block.gap_of c.loop-block.rooms
           (subst (IsFilled p l.lo l.hi l.cap l.blocks c.loop-block.gap c.loop-block.reached.low c.loop-block.reached.loose c.loop-block.gap_of c.loop-block.rooms) c.in-Some.ensures.steps now.filled)
-          counted pinned lt (reaches_now p l.hi l.blocks _ c.in-Some.block _ now.passed.0 here c.loop-block.most c.loop-block.reached now.passed.2) c.room_to-room.result c.room_to-room.ensures c.passing-reached-2.result c.passing-reached-2.ensures;
+          counted pinned lt (reaches_now p l.hi l.blocks _ c.in-Some.block _ now.passed.0 here c.loop-block.most c.loop-block.reached now.passed.2) c.room_to-room.result c.room_to-room.ensures c.passing-reached-in-loop-block.result c.passing-reached-in-loop-block.ensures;
     }
 
 -- behind the last block
 pub returns-clause-value : goal.returns-clause-value
 returns-clause-value g c =
-    let l = c.args.blocks.now in let now = c.loop-block.invariant in
+    let l = c.args.blocks.now in let now = c.loop-block.invariant in let r = c.loop-block.reached in
     let to : c.bounds-bounds.result.to ≡ l.hi = ap (λ (s : Span). s.to) c.bounds-bounds.ensures.value in
-    let none = now.passed.1 ∙ c.in-None.ensures.steps.0 in
-    passed_end (λ x. not (is_about c.args.h x.id)) l.hi l.blocks _ now.passed.0 none c.loop-block.most c.loop-block.reached now.passed.2 c.max.result
-    (c.max.ensures ∙ ord_max-max c.loop-block.most _ ∙ ap (max c.loop-block.most) (c.room_to-room-2.ensures ∙ ap (λ (k : ℕ). k - c.loop-block.reached.low - c.loop-block.reached.loose) to))
+    let last : c.room_to-room-2.result ≡ l.hi - r.low - r.loose = c.room_to-room-2.ensures ∙ ap (λ (k : ℕ). k - r.low - r.loose) to in
+    let best : c.max.result ≡ max c.loop-block.most (l.hi - r.low - r.loose) = c.max.ensures ∙ ap (λ (k : ℕ). max c.loop-block.most k) last in
+    passed_end (λ x. not (is_about c.args.h x.id)) l.hi l.blocks _ now.passed.0 (now.passed.1 ∙ c.in-None.ensures.steps.0) c.loop-block.most r now.passed.2 c.max.result best
 
 pub returns-clause-told : goal.returns-clause-told
 returns-clause-told g c =
@@ -123,13 +123,13 @@ passing-reached-requires-clause-sum g c =
     let l = c.args.blocks.now in let now = c.loop-block.invariant in
     (fits_now (λ x. not (is_about c.args.h x.id)) l.hi l.blocks _ c.in-Some.block _ now.passed.0 (now.passed.1 ∙ c.in-Some.ensures.steps) c.loop-block.most c.loop-block.reached now.passed.2 c.bounds-bounds.ensures.ordered.small).1
 
-pub passing-reached-2-requires-clause-end : goal.passing-reached-2-requires-clause-end
-passing-reached-2-requires-clause-end g c =
+pub passing-reached-requires-in-loop-block-clause-end : goal.passing-reached-requires-in-loop-block-clause-end
+passing-reached-requires-in-loop-block-clause-end g c =
     let l = c.args.blocks.now in let now = c.loop-block.invariant in
     (fits_now (λ x. not (is_about c.args.h x.id)) l.hi l.blocks _ c.in-Some.block _ now.passed.0 (now.passed.1 ∙ c.in-Some.ensures.steps) c.loop-block.most c.loop-block.reached now.passed.2 c.bounds-bounds.ensures.ordered.small).0
 
-pub passing-reached-2-requires-clause-sum : goal.passing-reached-2-requires-clause-sum
-passing-reached-2-requires-clause-sum g c =
+pub passing-reached-requires-in-loop-block-clause-sum : goal.passing-reached-requires-in-loop-block-clause-sum
+passing-reached-requires-in-loop-block-clause-sum g c =
     let l = c.args.blocks.now in let now = c.loop-block.invariant in
     (fits_now (λ x. not (is_about c.args.h x.id)) l.hi l.blocks _ c.in-Some.block _ now.passed.0 (now.passed.1 ∙ c.in-Some.ensures.steps) c.loop-block.most c.loop-block.reached now.passed.2 c.bounds-bounds.ensures.ordered.small).1
 
