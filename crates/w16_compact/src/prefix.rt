@@ -42,11 +42,10 @@ pub fn least_prefix<S: Space, H: Holes<S>>(
         all,
         u64::from(n),
     );
-    if n <= found.room {
-        Some(found.discards)
-    } else {
-        None
+    if found.room < n {
+        return None;
     }
+    Some(found.discards)
 }
 
 /// The room after `k` discards, or after all where there are fewer to be made, where `h` isn't
