@@ -31,3 +31,4 @@ pub mod Answered
 pub mod Outcomes
 pub mod Fewest
 pub mod Cuts
+pub mod LeftOut
