@@ -32,3 +32,5 @@ pub mod Outcomes
 pub mod Fewest
 pub mod Cuts
 pub mod LeftOut
+pub mod Replaced
+pub mod KindChanges
