@@ -43,7 +43,7 @@ pub twice_out : (id : ℕ) (ids : List ℕ) → without id (without id ids) ≡ 
 twice_out id ids = without_out id (without id ids) (out_of id ids)
 
 -- and others are in it as before
-other_of : (q id : ℕ) (ids : List ℕ) → q ≢ id → is_member q (without id ids) ≡ is_member q ids
+pub other_of : (q id : ℕ) (ids : List ℕ) → q ≢ id → is_member q (without id ids) ≡ is_member q ids
 other_of q id ids d = member_without q id ids ∙ ap (λ b. is_member q ids && not b) (ne_eqb q id d) ∙ same (is_member q ids)
   where
     same : (b : Bool) → (b && true) ≡ b

@@ -34,3 +34,6 @@ pub mod Cuts
 pub mod LeftOut
 pub mod Replaced
 pub mod KindChanges
+pub mod Growth
+pub mod Reallocations
+pub mod Absence

@@ -59,7 +59,7 @@ IsFreeBehind heap id o n = IsSomeAnd (finmap.get heap.places id) (λ at. IsClear
 
 -- whether an object may not be moved for its own growth: it is fixed or locked, and that isn't allowed (no GMEM_MOVEABLE)
 abbrev pub is_held : Object → Way → Bool
-is_held o way = is_some o.bytes && is_pinned_object o && not way.may_move
+is_held o way = is_some o.bytes && (is_pinned_object o && not way.may_move)
 
 -- Why an object doesn't get n bytes: one that may not move hasn't the free bytes behind it; any other has no room, and with GMEM_NOCOMPACT
 -- hasn't these bytes either.
