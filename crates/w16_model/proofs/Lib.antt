@@ -37,3 +37,4 @@ pub mod KindChanges
 pub mod Growth
 pub mod Reallocations
 pub mod Absence
+pub mod KeptRest

@@ -1,4 +1,4 @@
-use Rattle.w16_model.proofs.Growth.{moves_law}
+use Rattle.w16_model.proofs.Reallocations.{moves_law}
 use Rattle.w16_model.proofs.laws.reallocations_move_little.Goals as goal
 
 pub returns : goal.returns
