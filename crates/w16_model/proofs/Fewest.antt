@@ -1,5 +1,5 @@
 -- Requests discard as few as they can, by the laws on what is needed and on what others keep.
-use Rattle.std.proofs.Common.{◌≡◌, ℕ, ◌-◌, ◌<◌, ◌⊎◌, inl, inr, Bool, true, false, cond, not, ◌||◌, ◌&&◌, ◌==◌, nat_le, List, take, Option, Some, None, refl, sym, ap, ◌∙◌, subst, arith, leb-false, ne_eqb, MatchBool, unwrap_or}
+use Rattle.std.proofs.Common.{◌≡◌, ℕ, ◌<◌, ◌⊎◌, inl, inr, Bool, true, false, cond, not, ◌||◌, ◌&&◌, ◌==◌, nat_le, List, take, Option, Some, None, refl, sym, ap, ◌∙◌, subst, arith, leb-false, ne_eqb, MatchBool, unwrap_or}
 use Rattle.std.proofs.lemmas.Bool.{false≢true}
 use Rattle.w16_model.specs.declared.Block.{Block}
 use Rattle.w16_model.specs.declared.Kind.{Kind}
@@ -11,7 +11,7 @@ use Rattle.w16_model.specs.Discards.{eligible, blocks_without, is_member, is_abo
 use Rattle.w16_model.specs.Heap.{Heap, IsHeap, blocks}
 use Rattle.w16_model.specs.Changes.{with_newest}
 use Rattle.w16_model.specs.Request.{Request, IsNew, Allocates, MakesRoom, compaction_prefix, eligible_count, most_room, prefix_of, snapshot_of}
-use Rattle.w16_model.specs.Handles.{Handles, AreHandles, handle_of}
+use Rattle.w16_model.specs.Handles.{Handles, handle_of}
 use Rattle.w16_model.specs.OneObject.{Enters}
 use Rattle.w16_model.specs.Calls.{IsRefusedAlloc, IsEmptyFixed, IsTooLong, HasNoSlot, kind_asked, way_asked, rounded_size, is_absent_asked, has_flag}
 use Rattle.w16_model.specs.declared.TheConstants.{GMEM_MOVEABLE}

@@ -1,5 +1,5 @@
 -- The cases of a reallocation, and the free bytes behind an object.
-use Rattle.std.proofs.Common.{◌≡◌, ◌≢◌, ℕ, ◌+◌, ◌-◌, ◌<◌, ◌≤◌, ◌⊎◌, inl, inr, Bool, true, false, cond, not, ◌&&◌, ◌||◌, ◌==◌, nat_le, MatchBool, MatchOption, IsTrue, IsSomeAnd, List, [], ◌∷◌, length, take, find, Option, Some, None, option_map, is_some, unwrap_or, refl, sym, ap, ◌∙◌, subst, arith, leb-true, leb-false, le-leb, eq-eqb, eqb-true}
+use Rattle.std.proofs.Common.{◌≡◌, ◌≢◌, ℕ, ◌+◌, ◌-◌, ◌<◌, ◌≤◌, ◌⊎◌, inl, inr, Bool, true, false, cond, not, ◌&&◌, ◌==◌, nat_le, MatchBool, MatchOption, IsTrue, IsSomeAnd, List, [], ◌∷◌, length, take, find, Option, Some, None, option_map, is_some, unwrap_or, refl, sym, ap, ◌∙◌, subst, arith, leb-true, leb-false, le-leb, eq-eqb, eqb-true}
 use Rattle.std.specs.List.{AllByRecursion as Each}
 use Rattle.std.specs.FinMap as finmap
 use Rattle.std.proofs.lemmas.Bool.{false≢true, cases_eq}
@@ -12,8 +12,8 @@ use Rattle.w16_model.specs.Changes.{with_object, with_newest}
 use Rattle.w16_model.specs.Request.{Asked, Request, Allocates, IsNew, IsGrown, prefix_of, StaysOrMovesToHole, Reallocates, ReallocatesObject, Grows, snapshot_of}
 use Rattle.w16_model.specs.Reallocation.{IsFreeBehind, OneOutcomeLaw}
 use Rattle.w16_model.proofs.Gaps.{Member, Each-at, Each-from, Each-from_All, All-from_Each, first_from-below, first_from-greatest}
-use Rattle.w16_model.proofs.Heaps.{IsBlockOf, block_member, member_block}
-use Rattle.w16_model.proofs.Places.{two_placed, same_id}
+use Rattle.w16_model.proofs.Heaps.{block_member, member_block}
+use Rattle.w16_model.proofs.Places.{same_id}
 use Rattle.w16_model.proofs.Replaced.{MayLie, block_there, is_block_there, lies_there}
 
 -- the first that passes is the only one that does

@@ -1,6 +1,5 @@
 -- What an answered reallocation leaves of the object, of the others and of the order of use.
-use Rattle.std.proofs.Common.{◌≡◌, ◌≢◌, ℕ, ◌+◌, ◌-◌, ◌<◌, ◌≤◌, inl, inr, Bool, true, false, cond, not, ◌&&◌, ◌||◌, ◌==◌, IsTrue, IsSomeAnd, List, [], ◌∷◌, ◌++◌, length, take, drop, filter, fold, Option, Some, None, option_map, is_some, unwrap_or, refl, sym, ap, ◌∙◌, subst, arith, eq-eqb, ne_eqb, replicate}
-use Rattle.std.specs.FinMap as finmap
+use Rattle.std.proofs.Common.{◌≡◌, ℕ, ◌-◌, ◌<◌, ◌≤◌, inl, inr, Bool, true, false, cond, not, ◌&&◌, ◌||◌, ◌==◌, IsSomeAnd, List, [], ◌∷◌, ◌++◌, length, take, filter, fold, Option, Some, None, option_map, is_some, unwrap_or, refl, sym, ap, ◌∙◌, subst, arith, eq-eqb, ne_eqb, replicate}
 use Rattle.std.proofs.lemmas.Bool.{false≢true, cases_eq}
 use Rattle.std.proofs.lemmas.List.{length-append, length-take-le, take_all, take_at, drop_at}
 use Rattle.std.proofs.Math.ListN.{drop_of_length-le}
@@ -8,7 +7,7 @@ use Rattle.w16_model.specs.declared.Way.{Way}
 use Rattle.w16_model.specs.Bytes.{repeated}
 use Rattle.w16_model.specs.Discards.{eligible, is_member, growth_for}
 use Rattle.w16_model.specs.Heap.{Heap, Object, IsHeap, blocks, object_at, size_of, is_in_order, is_discardable}
-use Rattle.w16_model.specs.Changes.{absent, without, newest, with_object, with_ordered, with_newest}
+use Rattle.w16_model.specs.Changes.{absent, without, with_object, with_ordered, with_newest}
 use Rattle.w16_model.specs.Request.{Asked, AreNew, IsNew, IsGrown, Settles, discarded, stays_for, prefix_of, snapshot_of}
 use Rattle.w16_model.specs.Law.{KeepsOthers}
 use Rattle.w16_model.specs.Reallocation.{AreResized, IsResized, without_all, is_revived, KeepsRest, RestLaw}
@@ -17,7 +16,7 @@ use Rattle.w16_model.proofs.Discards.{true-is_member}
 use Rattle.w16_model.proofs.KeptHeaps.{inserted_here}
 use Rattle.w16_model.proofs.KindChanges.{without_none}
 use Rattle.w16_model.proofs.Others.{others_law}
-use Rattle.w16_model.proofs.Growth.{Revives, Cuts, Extends, Asks, IsCase, size_is}
+use Rattle.w16_model.proofs.Growth.{IsCase}
 use Rattle.w16_model.proofs.Reallocations.{asked, by_case, none_discarded}
 
 -- The order of use without some.

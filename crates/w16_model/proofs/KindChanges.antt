@@ -1,5 +1,5 @@
 -- A change of kind: what it leaves, and that it leaves a heap.
-use Rattle.std.proofs.Common.{◌≡◌, ◌≢◌, ℕ, inl, inr, Bool, true, false, cond, not, ◌&&◌, ◌||◌, ◌==◌, IfOk, IfSome, List, [], ◌∷◌, ◌++◌, length, filter, AllPairs, Option, Some, None, Result, Ok, Err, is_some, refl, sym, ap, ◌∙◌, subst, eq-eqb, ne_eqb}
+use Rattle.std.proofs.Common.{◌≡◌, ◌≢◌, ℕ, inl, inr, Bool, true, false, cond, not, ◌&&◌, ◌||◌, ◌==◌, IfOk, IfSome, List, [], ◌∷◌, ◌++◌, AllPairs, Option, Some, None, Result, Ok, Err, is_some, refl, sym, ap, ◌∙◌, subst, eq-eqb, ne_eqb}
 use Rattle.std.proofs.lemmas.Bool.{false≢true, cases_eq}
 use Rattle.std.proofs.lemmas.List.Elements.{filter-append}
 use Rattle.std.specs.FinMap as finmap
@@ -16,7 +16,7 @@ use Rattle.w16_model.proofs.Gaps.{Member, pairs_filter, AllPairs-from_EachPair, 
 use Rattle.w16_model.proofs.Discards.{true-is_member}
 use Rattle.w16_model.proofs.Orders.{member_without, member_newest, newest_differ}
 use Rattle.w16_model.proofs.KeptHeaps.{inserted_here, inserted_other, bytes_in, AreBytes}
-use Rattle.w16_model.proofs.Replaced.{MayLie, replaced_heap, lies_there}
+use Rattle.w16_model.proofs.Replaced.{replaced_heap, lies_there}
 
 -- The order of use without an id.
 

@@ -1,30 +1,29 @@
 -- The laws of reallocation, case by case.
-use Rattle.std.proofs.Common.{◌≡◌, ◌≢◌, ℕ, ◌+◌, ◌-◌, ◌<◌, ◌≤◌, ◌⊎◌, inl, inr, Bool, true, false, cond, not, ◌&&◌, ◌||◌, ◌==◌, nat_le, MatchBool, MatchOption, IsTrue, IsSomeAnd, IfSome, IfOk, List, [], ◌∷◌, ◌++◌, length, take, drop, fold, All, Option, Some, None, Result, Ok, Err, option_map, is_some, unwrap_or, refl, sym, ap, ◌∙◌, subst, arith, leb-false, nat_lt}
+use Rattle.std.proofs.Common.{◌≡◌, ◌≢◌, ℕ, ◌+◌, ◌<◌, ◌≤◌, ◌⊎◌, inl, inr, Bool, true, false, cond, not, ◌&&◌, ◌||◌, nat_le, MatchOption, IsTrue, IsSomeAnd, IfSome, List, ◌++◌, length, take, All, Option, Some, None, option_map, is_some, unwrap_or, refl, sym, ap, ◌∙◌, subst, arith}
 use Rattle.std.specs.Ordering.{nat_cmp}
 use Rattle.std.specs.FinMap as finmap
 use Rattle.std.specs.FinMap.{FinMap}
-use Rattle.std.proofs.lemmas.Bool.{false≢true, cases_eq, or_parts}
+use Rattle.std.proofs.lemmas.Bool.{false≢true}
 use Rattle.std.proofs.lemmas.List.{length-append, length-take-le}
 use Rattle.std.proofs.lemmas.List.Elements.{All-take, All-append}
 use Rattle.w16_model.specs.declared.Block.{Block}
-use Rattle.w16_model.specs.declared.Kind.{Kind}
 use Rattle.w16_model.specs.declared.Way.{Way}
-use Rattle.w16_model.specs.Gap.{Misses, is_any, is_pinned, block_end, longest_hole, IsClear, IsHole}
-use Rattle.w16_model.specs.Discards.{eligible, is_member, fits_in_place, growth_for, none_discarded_if, prefix_for}
-use Rattle.w16_model.specs.Heap.{Heap, Object, IsHeap, IsCounted, IsMultiple, blocks, object_at, bytes_at, size_of, is_fixed, is_pinned_object}
+use Rattle.w16_model.specs.Gap.{Misses, is_any, is_pinned, block_end, longest_hole, IsClear}
+use Rattle.w16_model.specs.Discards.{fits_in_place, growth_for, none_discarded_if}
+use Rattle.w16_model.specs.Heap.{Heap, Object, IsHeap, IsCounted, IsMultiple, blocks, object_at, size_of, is_fixed, is_pinned_object}
 use Rattle.w16_model.specs.Changes.{with_object, with_ordered, with_newest}
-use Rattle.w16_model.specs.Request.{Asked, Request, Allocates, AreNew, IsNew, IsGrown, Settles, StaysOrMovesToHole, Reallocates, ReallocatesObject, discarded, stays_for, prefix_of, snapshot_of}
-use Rattle.w16_model.specs.Law.{KeepsOthers, KeepsAddresses, StandsStill}
-use Rattle.w16_model.specs.Fewest.{AllocatesFewest, DiscardsFewest, LacksRoom, HasNoStretch}
-use Rattle.w16_model.specs.Reallocation.{IsFreeBehind, is_held, LacksPlace, ReallocatesFewest, MovesLittle, HeapLaw, FewestLaw, MovesLaw}
+use Rattle.w16_model.specs.Request.{Asked, Request, AreNew, IsNew, IsGrown, Settles, Reallocates, ReallocatesObject, discarded, stays_for, prefix_of, snapshot_of}
+use Rattle.w16_model.specs.Law.{KeepsOthers, StandsStill}
+use Rattle.w16_model.specs.Fewest.{AllocatesFewest, LacksRoom, HasNoStretch}
+use Rattle.w16_model.specs.Reallocation.{IsFreeBehind, is_held, ReallocatesFewest, MovesLittle, HeapLaw, FewestLaw, MovesLaw}
 use Rattle.w16_model.proofs.Gaps.{Each-at, Each-from, Each-from_All, All-from_Each}
 use Rattle.w16_model.proofs.Heaps.{IsBlockOf, block_member, member_block}
 use Rattle.w16_model.proofs.KeptHeaps.{inserted_here, inserted_other, bytes_in, AreBytes}
 use Rattle.w16_model.proofs.Others.{others_law}
 use Rattle.w16_model.proofs.Outcomes.{address_law, stays_other, or_right}
-use Rattle.w16_model.proofs.Fewest.{allocation_law, lacking, fewer_lack, none_goes, number, longest}
+use Rattle.w16_model.proofs.Fewest.{allocation_law, lacking, fewer_lack, none_goes}
 use Rattle.w16_model.proofs.Replaced.{MayLie, resized_heap, lies_there}
-use Rattle.w16_model.proofs.Growth.{Revives, Cuts, Extends, Asks, IsCase, case_of, stands, size_is, fits_free, free_fits}
+use Rattle.w16_model.proofs.Growth.{Revives, Asks, IsCase, case_of, stands, size_is, fits_free, free_fits}
 
 -- an answered request has discarded so many, and what it made stands
 pub asked : (old : Heap) (h : ℕ) (what : Asked) (new : Heap) → Request old h what true new

@@ -1,7 +1,7 @@
 -- An object with another in its place, at the same address: the heap that this makes.
-use Rattle.std.proofs.Common.{◌≡◌, ◌≢◌, ℕ, ◌+◌, ◌*◌, ◌<◌, ◌≤◌, inl, inr, ⊎_elim, Bool, true, false, cond, IfSome, List, length, All, AllPairs, Option, Some, None, is_some, unwrap_or, ◌&&◌, refl, sym, ap, ◌∙◌, subst, arith}
+use Rattle.std.proofs.Common.{◌≡◌, ◌≢◌, ℕ, ◌+◌, ◌<◌, ◌≤◌, inl, inr, ⊎_elim, IfSome, List, length, AllPairs, Option, Some, is_some, unwrap_or, ◌&&◌, refl, sym, ap, ◌∙◌, subst}
 use Rattle.std.specs.FinMap as finmap
-use Rattle.std.proofs.lemmas.Bool.{false≢true, cases_eq}
+use Rattle.std.proofs.lemmas.Bool.{cases_eq}
 use Rattle.w16_model.specs.declared.Block.{Block}
 use Rattle.w16_model.specs.Gap.{Misses, block_end}
 use Rattle.w16_model.specs.Discards.{is_member}

@@ -1,11 +1,10 @@
 -- Reallocation, told by what it leaves: of the object, of the others, of where they stand, and when it is refused. Nothing here says how
 -- room is made.
-use Rattle.std.specs.Prelude.{◌≡◌, ◌≢◌, ℕ, ◌+◌, ◌-◌, ◌<◌, ◌≤◌, ◌⊎◌, Bool, true, false, not, ◌&&◌, ◌||◌, ◌==◌, if◌then◌else◌, IsTrue, IfOk, IfSome, IsSomeAnd, List, [], ◌∷◌, ◌++◌, length, take, drop, filter, map, All, AllPairs, Option, Some, None, Ok, Err, is_some, unwrap_or}
+use Rattle.std.specs.Prelude.{◌≡◌, ◌≢◌, ℕ, ◌+◌, ◌-◌, ◌<◌, ◌≤◌, ◌⊎◌, Bool, true, false, not, ◌&&◌, ◌||◌, if◌then◌else◌, IsTrue, IfOk, IfSome, IsSomeAnd, List, [], ◌∷◌, ◌++◌, length, take, drop, filter, map, All, AllPairs, Option, Some, Ok, Err, is_some, unwrap_or}
 use Rattle.std.specs.FinMap as finmap
 use Rattle.w16_model.specs.declared.Block.{Block}
 use Rattle.w16_model.specs.declared.Hold.TheVariants.{Loose}
 use Rattle.w16_model.specs.declared.Kind.{Kind}
-use Rattle.w16_model.specs.declared.Kind.TheVariants.{Discardable}
 use Rattle.w16_model.specs.declared.Refusal.TheVariants as refusals
 use Rattle.w16_model.specs.declared.Way.{Way}
 use Rattle.w16_model.specs.Gap.{is_pinned, is_loose, is_any, begins_in, Misses, ArePlaced, IsClear, IsGap}

@@ -1,5 +1,5 @@
 -- The steps of a heap that ask for room. They may choose addresses, and what new bytes are where they needn't be zero.
-use Rattle.std.specs.Prelude.{◌≡◌, ℕ, ◌+◌, ◌-◌, ◌<◌, ◌⊎◌, Bool, true, false, not, ◌&&◌, ◌||◌, ◌==◌, if◌then◌else◌, nat_le, IsTrue, List, ◌++◌, length, take, filter, fold, sum_by, All, Option, Some, None, MatchOption, MatchBool, IsSomeAnd, option_map, unwrap_or}
+use Rattle.std.specs.Prelude.{◌≡◌, ℕ, ◌+◌, ◌-◌, ◌<◌, ◌⊎◌, Bool, true, false, not, ◌&&◌, ◌||◌, ◌==◌, nat_le, IsTrue, List, ◌++◌, length, take, filter, fold, sum_by, All, Option, Some, None, MatchOption, MatchBool, IsSomeAnd, option_map, unwrap_or}
 use Rattle.std.specs.FinMap as finmap
 use Rattle.w16_model.specs.declared.Block.{Block}
 use Rattle.w16_model.specs.declared.Kind.{Kind}
