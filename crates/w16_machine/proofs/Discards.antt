@@ -5,19 +5,21 @@ use Rattle.w16_model.proofs.Gaps.{Each-from_All}
 use Rattle.w16_model.proofs.Fewest.{global_alloc_law, global_compact_law}
 use Rattle.w16_machine.specs.World.{World, IsWorld}
 use Rattle.w16_machine.specs.Machine.{Event, Command, Reply, Run, IsCommand, Step}
+use Rattle.w16_machine.specs.Machine.Command.{OfHandles}
+use Rattle.w16_machine.specs.Machine.Reply.{Word, Dword}
+use Rattle.w16_model.specs.Calls.HandleCommand.{GlobalAlloc, GlobalCompact}
 use Rattle.w16_machine.specs.Fewest.{IsFewest, AreFewest, FewestLaw}
 use Rattle.w16_machine.proofs.Worlds.{world_law}
 
+-- a step whose command and reply are these
+told : (old : World) (event : Event) (command : Command) (reply : Reply) → event.command ≡ command → event.reply ≡ reply → Step old event.command event.reply event.after → Step old command reply event.after
+told old event command reply c r step = subst (λ (x : Reply). Step old command x event.after) r (subst (λ (x : Command). Step old x event.reply event.after) c step)
+
 pub step_fewest : (old : World) (event : Event) → IsWorld old → Step old event.command event.reply event.after → IsFewest old event
 step_fewest old event is step = record {
-  alloc = λ flags size handle c r. global_alloc_law old.handles event.after.handles flags size handle is.handles
-      (told c r).0;
-  compact = λ size answer c r. global_compact_law old.handles event.after.handles size answer is.handles
-      (told c r).0;
+  alloc = λ flags size handle c r. global_alloc_law old.handles event.after.handles flags size handle is.handles (told old event (OfHandles (GlobalAlloc flags size)) (Word handle) c r step).0;
+  compact = λ size answer c r. global_compact_law old.handles event.after.handles size answer is.handles (told old event (OfHandles (GlobalCompact size)) (Dword answer) c r step).0;
 }
-  where
-    told : {command : Command} {reply : Reply} → event.command ≡ command → event.reply ≡ reply → Step old command reply event.after
-    told c r = subst (λ reply. Step old _ reply event.after) r (subst (λ command. Step old command event.reply event.after) c step)
 
 pub fewest_law : FewestLaw
 fewest_law old new events is known run = each old events is (Each-from_All (λ e. IsCommand e.command) events known) run
