@@ -1,0 +1,52 @@
+//! The laws of the definitions. Each function does nothing: its contract is the law.
+ghost use Rattle.w16_loading.specs.Law.{FetchLaw, FetchRefusedLaw, OneClosureLaw, EarlyRefusalLaw, FillLaw, EmptyLaw, ClosureEndsLaw, UndoneLaw, FillsLaw, BoundOnceLaw};
+
+/// A fetch takes the bytes of what it discards, and keeps all else of the other objects.
+pub fn fetches_keep_others()
+    ensures { FetchLaw }
+{}
+
+/// A refused fetch changes nothing.
+pub fn refused_fetch_changes_nothing()
+    ensures { FetchRefusedLaw }
+{}
+
+/// Files decide which modules a load finds.
+pub fn files_decide_a_closure()
+    ensures { OneClosureLaw }
+{}
+
+/// A load that is refused before it takes a handle changes nothing.
+pub fn early_refusal_changes_nothing()
+    ensures { EarlyRefusalLaw }
+{}
+
+/// An allocation and a write give a segment its bytes.
+pub fn segments_are_allocated_and_written()
+    ensures { FillLaw }
+{}
+
+/// The world in which nothing is loaded is one.
+pub fn nothing_loaded_is_a_world()
+    ensures { EmptyLaw }
+{}
+
+/// A load comes to an end over any files, also where each asks for one more: handles are few.
+pub fn each_closure_ends()
+    ensures { ClosureEndsLaw }
+{}
+
+/// What a load that has got no bytes yet takes back leaves the world as it was.
+pub fn names_are_taken_back()
+    ensures { UndoneLaw }
+{}
+
+/// The requests of a load discard what they may, and keep all else.
+pub fn loads_discard_alone()
+    ensures { FillsLaw }
+{}
+
+/// What was bound at load stays.
+pub fn modules_are_bound_once()
+    ensures { BoundOnceLaw }
+{}
