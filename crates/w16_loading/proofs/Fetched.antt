@@ -9,7 +9,7 @@ use Rattle.w16_model.proofs.KeptHandles.{settled}
 use Rattle.w16_model.proofs.Others.{others_law}
 use Rattle.w16_loading.specs.declared.FetchFault.{FetchFault}
 use Rattle.w16_loading.specs.Modules.{with_heap}
-use Rattle.w16_loading.specs.Fill.{Fills, FillsAll, any_way, asked_of}
+use Rattle.w16_loading.specs.Fill.{Fills, FillsAll, is_of_device, any_way, asked_of}
 use Rattle.w16_loading.specs.Law.{FetchLaw, FetchRefusedLaw}
 
 -- a request that is refused leaves the same heap
@@ -34,8 +34,8 @@ filled_keeps old new slot bytes is f =
     (s.0, (others_law old new is s.0).0 slot any_way s.1 (with_newest slot s.1) s.2)
 
 -- one object's bytes
-one_keeps : (old new : Heap) (slot : ℕ) (bytes : List ℕ) (fault : Option FetchFault) → IsHeap old → FillsAll old ((slot, bytes) ∷ []) fault new → (k : ℕ) × KeepsOthers old (Some slot) k new
-one_keeps old new slot bytes fault is (inl h) = (0, same_keeps old new slot h.1)
+one_keeps : (old new : Heap) (slot : ℕ) (bytes : List ℕ) (fault : Option FetchFault) → IsHeap old → FillsAll is_of_device old ((slot, bytes) ∷ []) fault new → (k : ℕ) × KeepsOthers old (Some slot) k new
+one_keeps old new slot bytes fault is (inl h) = (0, same_keeps old new slot h.3)
 one_keeps old new slot bytes fault is (inr (inl h)) = (0, same_keeps old new slot (refused old slot (asked_of old slot h.1.before bytes) new h.1.request))
 one_keeps old new slot bytes fault is (inr (inr h)) = filled_keeps old new slot bytes is (subst (Fills old slot bytes true) (sym h.2.1) h.1)
 
@@ -45,8 +45,8 @@ fetch_law format old new slot fault is f =
     record { number = k.0; others = k.1; rest = f.rest }
 
 -- a fault leaves the heap
-same_heap : (old new : Heap) (slot : ℕ) (bytes : List ℕ) (fault : FetchFault) → FillsAll old ((slot, bytes) ∷ []) (Some fault) new → new ≡ old
-same_heap old new slot bytes fault (inl h) = h.1
+same_heap : (old new : Heap) (slot : ℕ) (bytes : List ℕ) (fault : FetchFault) → FillsAll is_of_device old ((slot, bytes) ∷ []) (Some fault) new → new ≡ old
+same_heap old new slot bytes fault (inl h) = h.3
 same_heap old new slot bytes fault (inr (inl h)) = refused old slot (asked_of old slot h.1.before bytes) new h.1.request
 same_heap old new slot bytes fault (inr (inr h)) = cc
 

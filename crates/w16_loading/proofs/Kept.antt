@@ -58,11 +58,11 @@ unchanged : (old new : Heap) (xs : List (ℕ × List ℕ)) → IsHeap old → ne
 unchanged old new xs is e = (subst IsHeap (sym e) is, λ q out. inl (ap (λ (h : Heap). object_at h q) e))
 
 pub fills_law : FillsLaw
-fills_law old new [] fault is f = unchanged old new [] is f.1
-fills_law old new (x ∷ xs) fault is (inl f) = unchanged old new (x ∷ xs) is f.1
-fills_law old new (x ∷ xs) fault is (inr (inl f)) = unchanged old new (x ∷ xs) is (refused old x.0 (asked_of old x.0 f.1.before x.1) new f.1.request)
-fills_law old new (x ∷ xs) fault is (inr (inr f)) =
+fills_law may old new [] fault is f = unchanged old new [] is f.1
+fills_law may old new (x ∷ xs) fault is (inl f) = unchanged old new (x ∷ xs) is f.3
+fills_law may old new (x ∷ xs) fault is (inr (inl f)) = unchanged old new (x ∷ xs) is (refused old x.0 (asked_of old x.0 f.1.before x.1) new f.1.request)
+fills_law may old new (x ∷ xs) fault is (inr (inr f)) =
     let s : (k : ℕ) × (o : Object) × _ = settled old x.0 any_way (prefix_of old (length x.1) (Some x.0) any_way) (λ o. o ≡ record f.1.before { bytes = Some x.1 }) (with_newest x.0) f.0 f.1.request in
     let kept : KeepsOthers old (Some x.0) s.0 f.0 = (others_law old f.0 is s.0).0 x.0 any_way s.1 (with_newest x.0 s.1) s.2 in
-    let rest : Keeps f.0 new xs = fills_law f.0 new xs fault s.2.sound f.2 in
+    let rest : Keeps f.0 new xs = fills_law may f.0 new xs fault s.2.sound f.2 in
     (rest.0, λ q out. then_kept old f.0 new q (one_kept old f.0 x.0 s.0 kept q out.0) (rest.1 q out.1))

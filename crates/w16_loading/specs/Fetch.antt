@@ -10,7 +10,7 @@ use Rattle.w16_loading.specs.declared.FetchFault.{FetchFault}
 use Rattle.w16_store.specs.Files.{file_of}
 use Rattle.w16_loading.specs.File.{Format, ModuleFile, SegmentData, numbered}
 use Rattle.w16_loading.specs.Modules.{World, Module, Owned, IsSegmentOf, IsResourceOf, with_heap, is_owned}
-use Rattle.w16_loading.specs.Fill.{FillsAll}
+use Rattle.w16_loading.specs.Fill.{FillsAll, is_of_device}
 
 pub data Reply : Type 0 where
   Plain : machine.Reply → Reply
@@ -45,7 +45,7 @@ IsImage format world slot bytes =
 pub record Fetches (format : Format) (old : World) (slot : ℕ) (fault : Option FetchFault) (new : World) : Type 0 where
   pub bytes : List ℕ
   pub image : IsImage format old slot bytes
-  pub filled : FillsAll old.handles.heap ((slot, bytes) ∷ []) fault new.handles.heap
+  pub filled : FillsAll is_of_device old.handles.heap ((slot, bytes) ∷ []) fault new.handles.heap
   pub rest : new ≡ with_heap old new.handles.heap
 
 -- Far access.

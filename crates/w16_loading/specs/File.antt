@@ -1,5 +1,5 @@
 -- What a module file says, apart from how it says it: what the formats of files and relocations give to a load.
-use Rattle.std.specs.Prelude.{◌≡◌, ℕ, ◌-◌, ◌<◌, ◌≤◌, Bool, false, ◌==◌, if◌then◌else◌, List, [], length, find, All, IfOk, Option, None, Result, unwrap_or, option_map, slice_get}
+use Rattle.std.specs.Prelude.{◌≡◌, ℕ, ◌-◌, ◌<◌, ◌≤◌, Bool, false, ◌==◌, if◌then◌else◌, List, [], length, find, All, MatchResult, Option, None, Result, unwrap_or, option_map, slice_get}
 use Rattle.w16_model.specs.declared.Kind.{Kind}
 use Rattle.w16_model.specs.declared.TheConstants.{GRAIN, LARGEST_SIZE}
 use Rattle.std.specs.List.{AllZip}
@@ -92,7 +92,7 @@ targets_of s = unwrap_or s.targets []
 abbrev pub Format : Type 0
 Format = List ℕ → Result ModuleFile ℕ
 
--- What a load relies on in every file: as many of each as there are segments and resources, sizes and images that go together.
+-- What a load relies on in a file that is accepted: as many of each as there are segments and resources, sizes and images that go together.
 pub record IsSegmentData (segment : Segment) (s : SegmentData) : Type 0 where
   pub some : 0 < segment.size
   pub small : segment.size ≤ LARGEST_SIZE
@@ -104,5 +104,6 @@ pub record IsModuleFile (read : ModuleFile) : Type 0 where
   pub contents : AllZip (λ r (bytes : List ℕ). length bytes ≡ rounded_size r.length_in) read.tables.resources read.contents
   pub bytes : All (All (λ b. b < 256)) read.contents
 
+-- and the numbers of files that aren't
 abbrev pub IsFormat : Format → Type 0
-IsFormat format = (file : List ℕ) → IfOk (format file) IsModuleFile
+IsFormat format = (file : List ℕ) → MatchResult (format file) IsModuleFile (λ answer. (11 ≤ answer) × (answer ≤ 14))

@@ -27,10 +27,20 @@ pub record Fills (old : Heap) (slot : ℕ) (bytes : List ℕ) (answered : Bool) 
   pub absent : before.bytes ≡ None
   pub request : Request old slot (asked_of old slot before bytes) answered new
 
+-- why a read may fail: over files that stay, the store's device alone
+abbrev pub is_of_device : FetchFault → Bool
+is_of_device Store = true
+is_of_device other = false
+
+-- over any store, also the file itself, which reads otherwise than it did
+abbrev pub is_of_read : FetchFault → Bool
+is_of_read NoRoom = false
+is_of_read other = true
+
 -- Several, one after another, up to the first that can't be read or has no room.
-abbrev pub FillsAll : Heap → List (ℕ × List ℕ) → Option FetchFault → Heap → Type 0
-FillsAll old [] fault new = (fault ≡ None) × (new ≡ old)
-FillsAll old (x ∷ xs) fault new =
-    ((fault ≡ Some Store) × (new ≡ old))
+abbrev pub FillsAll : (FetchFault → Bool) → Heap → List (ℕ × List ℕ) → Option FetchFault → Heap → Type 0
+FillsAll may_fail old [] fault new = (fault ≡ None) × (new ≡ old)
+FillsAll may_fail old (x ∷ xs) fault new =
+    ((failure : FetchFault) × (may_fail failure ≡ true) × (fault ≡ Some failure) × (new ≡ old))
     ⊎ ((fault ≡ Some NoRoom) × Fills old x.0 x.1 false new)
-    ⊎ ((next : Heap) × Fills old x.0 x.1 true next × FillsAll next xs fault new)
+    ⊎ ((next : Heap) × Fills old x.0 x.1 true next × FillsAll may_fail next xs fault new)

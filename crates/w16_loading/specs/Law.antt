@@ -108,7 +108,7 @@ pub record OnlyDiscards (old new : Heap) : Type 0 where
 
 -- a load's requests keep the objects that aren't its own so, however far they came
 abbrev pub FillsLaw : Type 0
-FillsLaw = (old new : Heap) (xs : List (ℕ × List ℕ)) (fault : Option FetchFault) → IsHeap old → FillsAll old xs fault new
+FillsLaw = (may_fail : FetchFault → Bool) (old new : Heap) (xs : List (ℕ × List ℕ)) (fault : Option FetchFault) → IsHeap old → FillsAll may_fail old xs fault new
     → IsHeap new × ((q : ℕ) → AllByRecursion (λ x. q ≢ x.0) xs → IsKeptAt old new q)
 
 abbrev pub RefusedLoadLaw : Type 0

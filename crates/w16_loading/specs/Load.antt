@@ -9,7 +9,7 @@ use Rattle.w16_loading.specs.declared.FetchFault.TheVariants.{Store}
 use Rattle.w16_loading.specs.File.{Format}
 use Rattle.w16_loading.specs.Modules.{World, Module, Named, with_heap}
 use Rattle.w16_loading.specs.Modules.Named.{Loaded}
-use Rattle.w16_loading.specs.Fill.{FillsAll}
+use Rattle.w16_loading.specs.Fill.{FillsAll, is_of_device}
 use Rattle.w16_loading.specs.Release.{heap_without}
 use Rattle.w16_loading.specs.Closure.{Closure, Reading, reading, around, begun, Closes}
 use Rattle.w16_loading.specs.Closure.Referent.{There, New}
@@ -53,7 +53,7 @@ pub record Fulfils (old : World) (closure : Closure) (answer : Answer) (new : Wo
   pub is_choice : IsChoice old closure.found choice
   pub fault : Option FetchFault
   pub heap : Heap
-  pub filled : FillsAll (named old closure choice).handles.heap (fills old closure choice) fault heap
+  pub filled : FillsAll is_of_device (named old closure choice).handles.heap (fills old closure choice) fault heap
   pub answered : answer ≡ outcome_of fault (slice_index_or choice.handles 0 0)
   pub after : new ≡ left fault (with_heap (named old closure choice) heap) (undone old choice heap)
 

@@ -83,8 +83,8 @@ pointer_to far = dword_of far.selector far.offset
 
 -- GetProcAddress
 abbrev pub proc_address : World → ℕ → Label → Far
-proc_address world handle (Number ordinal) = address_at world.modules handle ordinal
-proc_address world handle (Text name) = address_named world.modules handle name
+proc_address world handle (Number ordinal) = address_at (finmap.get world.modules) handle ordinal
+proc_address world handle (Text name) = address_named (finmap.get world.modules) handle name
 
 abbrev pub reply_of : Answer → Reply
 reply_of (Says n) = word n

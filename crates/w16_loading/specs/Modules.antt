@@ -106,24 +106,28 @@ abbrev pub address_by_name : Option Named → List ℕ → Far
 address_by_name (Some (Loaded m)) name = address_of m.slots (entry_named m.tables name)
 address_by_name other name = nowhere
 
--- GetProcAddress of an ordinal, and of a name
-abbrev pub address_at : Modules → ℕ → ℕ → Far
-address_at modules handle ordinal = address_by_ordinal handle (finmap.get modules handle) ordinal
+-- what each handle names, if it names anything
+abbrev pub Lookup : Type 0
+Lookup = ℕ → Option Named
 
-abbrev pub address_named : Modules → ℕ → List ℕ → Far
-address_named modules handle name = address_by_name (finmap.get modules handle) name
+-- GetProcAddress of an ordinal, and of a name
+abbrev pub address_at : Lookup → ℕ → ℕ → Far
+address_at named handle ordinal = address_by_ordinal handle (named handle) ordinal
+
+abbrev pub address_named : Lookup → ℕ → List ℕ → Far
+address_named named handle name = address_by_name (named handle) name
 
 -- the module or built-in that a reference means
 abbrev pub imported : Module → ℕ → ℕ
 imported m reference = slice_index_or m.imports (reference - 1) 0
 
 -- the value of a relocation record of a module
-abbrev pub value_of : Modules → Module → Target → Far
-value_of modules m (Internal number offset) = in_segment m.slots number offset
-value_of modules m (InternalEntry ordinal) = address_of m.slots (entry_at m.tables ordinal)
-value_of modules m (Import reference ordinal) = address_at modules (imported m reference) ordinal
-value_of modules m (ImportName reference name) = address_named modules (imported m reference) name
-value_of modules m System = nowhere
+abbrev pub value_of : Lookup → Module → Target → Far
+value_of named m (Internal number offset) = in_segment m.slots number offset
+value_of named m (InternalEntry ordinal) = address_of m.slots (entry_at m.tables ordinal)
+value_of named m (Import reference ordinal) = address_at named (imported m reference) ordinal
+value_of named m (ImportName reference name) = address_named named (imported m reference) name
+value_of named m System = nowhere
 
 -- Uses.
 

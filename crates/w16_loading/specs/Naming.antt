@@ -6,7 +6,7 @@ use Rattle.w16_model.specs.Heap.{is_fixed}
 use Rattle.w16_model.specs.Changes.{with_object}
 use Rattle.w16_model.specs.Handles.{IsFreeSlot}
 use Rattle.w16_loading.specs.File.{Segment, SegmentData, Far, targets_of}
-use Rattle.w16_loading.specs.Modules.{World, Module, Modules, IsFreeModule, value_of}
+use Rattle.w16_loading.specs.Modules.{World, Lookup, Module, Modules, IsFreeModule, value_of}
 use Rattle.w16_loading.specs.Modules.Named.{Loaded}
 use Rattle.w16_loading.specs.Closure.{Closure, Found, Referent}
 use Rattle.w16_loading.specs.Closure.Referent.{There, New}
@@ -70,11 +70,11 @@ unbound closure choice g = record {
 abbrev pub with_modules : (Given → Module) → List Given → Modules → Modules
 with_modules module_of gs modules = fold (λ all g. finmap.insert all g.handle (Loaded (module_of g))) modules gs
 
-abbrev pub bound_in : Modules → Module → List SegmentData → Module
-bound_in modules m segments = record m { values = map (λ s. map (value_of modules m) (targets_of s)) segments }
+abbrev pub bound_in : Lookup → Module → List SegmentData → Module
+bound_in looked_up m segments = record m { values = map (λ s. map (value_of looked_up m) (targets_of s)) segments }
 
 abbrev pub bound : World → Closure → Choice → Given → Module
-bound old closure choice g = bound_in (with_modules (unbound closure choice) (given closure choice) old.modules) (unbound closure choice g) g.found.read.segments
+bound old closure choice g = bound_in (finmap.get (with_modules (unbound closure choice) (given closure choice) old.modules)) (unbound closure choice g) g.found.read.segments
 
 -- Objects.
 
