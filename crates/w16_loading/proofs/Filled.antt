@@ -86,5 +86,5 @@ fill_law old next slot o bytes answered there absent ours a = turn answered a.re
   where
     turn : (t : Bool) → Request old slot (record { way = any_way; prefix = prefix_of old (length bytes) (Some slot) any_way; becomes = IsNew false (length bytes) o.kind o.locks; order = with_newest slot }) t next
         → Fills old slot bytes t (cond t (after_write next slot 0 bytes) next)
-    turn true r = record { before = o; there = there; absent = absent; request = request old slot o bytes ours next (prefix_of old (length bytes) (Some slot) any_way) true r }
-    turn false r = record { before = o; there = there; absent = absent; request = request old slot o bytes ours next (prefix_of old (length bytes) (Some slot) any_way) false r }
+    turn true r = record { before = o; there = there; absent = absent; some = a.some; rounded = a.rounded; are_bytes = ours; request = request old slot o bytes ours next (prefix_of old (length bytes) (Some slot) any_way) true r }
+    turn false r = record { before = o; there = there; absent = absent; some = a.some; rounded = a.rounded; are_bytes = ours; request = request old slot o bytes ours next (prefix_of old (length bytes) (Some slot) any_way) false r }

@@ -1,7 +1,7 @@
 -- Bytes for an object that has none: a request for room, as of an allocation with no flags, whose new bytes are given.
-use Rattle.std.specs.Prelude.{◌≡◌, ℕ, ◌⊎◌, Bool, true, false, List, [], ◌∷◌, length, Option, Some, None}
+use Rattle.std.specs.Prelude.{◌≡◌, ◌<◌, All, ℕ, ◌⊎◌, Bool, true, false, List, [], ◌∷◌, length, Option, Some, None}
 use Rattle.w16_model.specs.declared.Way.{Way}
-use Rattle.w16_model.specs.Heap.{Heap, Object, object_at}
+use Rattle.w16_model.specs.Heap.{Heap, Object, IsMultiple, object_at}
 use Rattle.w16_model.specs.Changes.{with_newest}
 use Rattle.w16_model.specs.Request.{Request, Asked, prefix_of}
 use Rattle.w16_loading.specs.declared.FetchFault.{FetchFault}
@@ -25,6 +25,9 @@ pub record Fills (old : Heap) (slot : ℕ) (bytes : List ℕ) (answered : Bool) 
   pub before : Object
   pub there : object_at old slot ≡ Some before
   pub absent : before.bytes ≡ None
+  pub some : 0 < length bytes
+  pub rounded : IsMultiple old.grain (length bytes)
+  pub are_bytes : All (λ b. b < 256) bytes
   pub request : Request old slot (asked_of old slot before bytes) answered new
 
 -- why a read may fail: over files that stay, the store's device alone

@@ -125,6 +125,13 @@ abbrev pub FillLaw : Type 0
 FillLaw = (old next : Heap) (slot : ℕ) (o : Object) (bytes : List ℕ) (answered : Bool) → object_at old slot ≡ Some o → o.bytes ≡ None → All (λ b. b < 256) bytes
     → Allocates old slot (length bytes) o.kind o.locks any_way answered next → Fills old slot bytes answered (if answered then after_write next slot 0 bytes else next)
 
+-- What code of a module had as bytes, it has again once it is fetched, whatever was moved, discarded or loaded between, while its module and
+-- the files stay.
+abbrev pub FetchAgainLaw : Type 0
+FetchAgainLaw = (format : Format) (before absent after : World) (slot handle number : ℕ) (m : Module) (bytes : List ℕ) → IsWorld absent → CodeIsItsFiles format before
+    → IsSegmentOf before slot handle number m → is_code before slot ≡ true → bytes_at before.handles.heap slot ≡ Some bytes
+    → absent.modules ≡ before.modules → absent.files ≡ before.files → Fetches format absent slot None after → bytes_at after.handles.heap slot ≡ Some bytes
+
 -- a fetch keeps all other objects, but for those that it discards, of which it takes the bytes alone; and nothing else changes
 pub record FetchKeeps (old : World) (slot : ℕ) (new : World) : Type 0 where
   pub number : ℕ

@@ -11,3 +11,4 @@ pub mod Resource
 pub mod Machine
 pub mod Law
 pub mod Codes
+pub mod Fewest

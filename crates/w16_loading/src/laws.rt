@@ -1,5 +1,6 @@
 //! The laws of the definitions. Each function does nothing: its contract is the law.
-ghost use Rattle.w16_loading.specs.Law.{FetchLaw, FetchRefusedLaw, OneClosureLaw, EarlyRefusalLaw, FillLaw, EmptyLaw, ClosureEndsLaw, UndoneLaw, FillsLaw, BoundOnceLaw};
+ghost use Rattle.w16_loading.specs.Fewest.{FetchFewestLaw};
+ghost use Rattle.w16_loading.specs.Law.{FetchAgainLaw, FetchLaw, FetchRefusedLaw, OneClosureLaw, EarlyRefusalLaw, FillLaw, EmptyLaw, ClosureEndsLaw, UndoneLaw, FillsLaw, BoundOnceLaw};
 
 /// A fetch takes the bytes of what it discards, and keeps all else of the other objects.
 pub fn fetches_keep_others()
@@ -49,4 +50,14 @@ pub fn loads_discard_alone()
 /// What was bound at load stays.
 pub fn modules_are_bound_once()
     ensures { BoundOnceLaw }
+{}
+
+/// Code that was discarded and is fetched has the bytes that it had.
+pub fn fetched_code_is_as_it_was()
+    ensures { FetchAgainLaw }
+{}
+
+/// A fetch discards as few objects as it can, and is refused only where there is no room.
+pub fn fetches_discard_fewest()
+    ensures { FetchFewestLaw }
 {}
