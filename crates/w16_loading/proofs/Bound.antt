@@ -134,7 +134,7 @@ left_good old mid new good l handle m n a b = turn (l handle)
     turn (inl e) = let h : ◌≡◌ {A = Option Module} None (Some n) = sym e ∙ b in cc
     turn (inr e) = good handle m n a (sym e ∙ b)
 
-abbrev world_without : World → ℕ → Option Module → World
+abbrev pub world_without : World → ℕ → Option Module → World
 world_without world handle p = elim p [ None ↦ world | Some m ↦ let left = without_objects (λ q. is_member q m.slots) world in record left { modules = finmap.remove left.modules handle } ]
 
 gone_one : (old : World) (k handle : ℕ) → (module_at (without_module old k).modules handle ≡ None) ⊎ (module_at (without_module old k).modules handle ≡ module_at old.modules handle)
@@ -158,7 +158,7 @@ gone old (k ∷ ks) new f handle = turn (gone (without_module old k) ks new f.1 
     turn (inr e) (inl f) = inl (e ∙ f)
     turn (inr e) (inr f) = inr (e ∙ f)
 
-abbrev world_used_less : World → ℕ → Option Module → World
+abbrev pub world_used_less : World → ℕ → Option Module → World
 world_used_less world handle p = elim p [ None ↦ world | Some m ↦ record world { modules = finmap.insert world.modules handle (Loaded (record m { uses = m.uses - 1 })) } ]
 
 less_used : (old : World) (k : ℕ) → Good old.modules (used_less old k).modules

@@ -20,28 +20,28 @@ use Rattle.w16_loading.specs.Law.{UndoneLaw}
 
 -- Slots of segments are slots that were chosen.
 
-zipped : (slots : List ℕ) (segments : List Segment) (x : ℕ × Segment) → Member x (zip slots segments) → Member x.0 slots
+pub zipped : (slots : List ℕ) (segments : List Segment) (x : ℕ × Segment) → Member x (zip slots segments) → Member x.0 slots
 zipped [] segments x m = absurd m
 zipped (s ∷ ss) [] x m = absurd m
 zipped (s ∷ ss) (g ∷ gs) x (inl e) = inl (λ i. (e i).0)
 zipped (s ∷ ss) (g ∷ gs) x (inr m) = inr (zipped ss gs x m)
 
-in_first : {A : Type 0} (x : A) (xs ys : List A) → Member x xs → Member x (xs ++ ys)
+pub in_first : {A : Type 0} (x : A) (xs ys : List A) → Member x xs → Member x (xs ++ ys)
 in_first x [] ys m = absurd m
 in_first x (y ∷ xs) ys (inl e) = inl e
 in_first x (y ∷ xs) ys (inr m) = inr (in_first x xs ys m)
 
-in_second : {A : Type 0} (x : A) (xs ys : List A) → Member x ys → Member x (xs ++ ys)
+pub in_second : {A : Type 0} (x : A) (xs ys : List A) → Member x ys → Member x (xs ++ ys)
 in_second x [] ys m = m
 in_second x (y ∷ xs) ys m = inr (in_second x xs ys m)
 
-parted : {A : Type 0} (x : A) (xs ys : List A) → Member x (xs ++ ys) → Member x xs ⊎ Member x ys
+pub parted : {A : Type 0} (x : A) (xs ys : List A) → Member x (xs ++ ys) → Member x xs ⊎ Member x ys
 parted x [] ys m = inr m
 parted x (y ∷ xs) ys (inl e) = inl (inl e)
 parted x (y ∷ xs) ys (inr m) = elim (parted x xs ys m) [ inl a ↦ inl (inr a) | inr b ↦ inr b ]
 
 -- by modules
-chosen : (place : ℕ) (fs : List Found) (hs : List ℕ) (ss : List (List ℕ)) (x : ℕ × Segment) → Member x (segments_of (given_from place fs hs ss)) → Member x.0 (flat_map (λ s. s) ss)
+pub chosen : (place : ℕ) (fs : List Found) (hs : List ℕ) (ss : List (List ℕ)) (x : ℕ × Segment) → Member x (segments_of (given_from place fs hs ss)) → Member x.0 (flat_map (λ s. s) ss)
 chosen place [] hs ss x m = absurd m
 chosen place (f ∷ fs) [] ss x m = absurd m
 chosen place (f ∷ fs) (h ∷ hs) [] x m = absurd m
@@ -55,7 +55,7 @@ pub record IsNamed (old new : Heap) (xs : List (ℕ × Segment)) : Type 0 where
   pub rest : new ≡ record old { objects = new.objects }
   pub others : (q : ℕ) → ((x : ℕ × Segment) → Member x xs → q ≢ x.0) → object_at new q ≡ object_at old q
 
-fold_named : (w : World) (xs : List (ℕ × Segment)) → IsNamed w.handles.heap (fold with_segment w xs).handles.heap xs
+pub fold_named : (w : World) (xs : List (ℕ × Segment)) → IsNamed w.handles.heap (fold with_segment w xs).handles.heap xs
 fold_named w [] = record { rest = refl; others = λ q out. refl }
 fold_named w (x ∷ xs) = let r : IsNamed (with_segment w x).handles.heap (fold with_segment (with_segment w x) xs).handles.heap xs = fold_named (with_segment w x) xs in record {
   rest = r.rest;
@@ -63,11 +63,11 @@ fold_named w (x ∷ xs) = let r : IsNamed (with_segment w x).handles.heap (fold 
 }
 
 -- What isn't there needn't go.
-kept_all : (gone : ℕ → Bool) (ids : List ℕ) → ((q : ℕ) → Member q ids → gone q ≡ false) → filter (λ q. not (gone q)) ids ≡ ids
+pub kept_all : (gone : ℕ → Bool) (ids : List ℕ) → ((q : ℕ) → Member q ids → gone q ≡ false) → filter (λ q. not (gone q)) ids ≡ ids
 kept_all gone [] out = refl
 kept_all gone (q ∷ ids) out = ap (λ b. cond {A = List ℕ} (not b) (q ∷ filter (λ q. not (gone q)) ids) (filter (λ q. not (gone q)) ids)) (out q (inl refl)) ∙ ap (λ (r : List ℕ). q ∷ r) (kept_all gone ids (λ p m. out p (inr m)))
 
-retained : {X : Type 0} (m : FinMap nat_cmp X) (gone : ℕ → Bool) (q : ℕ) → finmap.get (finmap.retain_keys m (λ q. not (gone q))) q ≡ cond (not (gone q)) (finmap.get m q) None
+pub retained : {X : Type 0} (m : FinMap nat_cmp X) (gone : ℕ → Bool) (q : ℕ) → finmap.get (finmap.retain_keys m (λ q. not (gone q))) q ≡ cond (not (gone q)) (finmap.get m q) None
 retained m gone q = get-retain_keys m (λ q. not (gone q)) q (λ x t. ap (λ k. not (gone k)) (sym (nat_cmp-IsAntisymmetric q x t)))
 
 module _ (old : Heap) (is : IsHeap old) (slots : List ℕ) (free : (q : ℕ) → Member q slots → object_at old q ≡ None) where

@@ -15,14 +15,14 @@ use Rattle.w16_loading.specs.declared.TheConstants.{FIRST_MODULE, MOST_MODULES, 
 use Rattle.w16_loading.specs.declared.FetchFault.{FetchFault}
 use Rattle.w16_store.specs.Names.{is_named}
 use Rattle.w16_loading.specs.File.{Format, IsFormat, Segment}
-use Rattle.w16_loading.specs.Modules.{with_heap, World, Module, Load, Named, IsSegmentOf, IsResourceOf, name_of, module_at, usage}
+use Rattle.w16_loading.specs.Modules.{with_heap, World, Module, Load, Named, IsSegmentOf, IsResourceOf, name_of, module_at, usage, importers}
 use Rattle.w16_loading.specs.Fill.{Fills, FillsAll, any_way}
 use Rattle.w16_loading.specs.Closure.{Around, Closure, Closes}
 use Rattle.w16_loading.specs.Naming.{Choice, IsChoice, named}
 use Rattle.w16_loading.specs.Load.{Loads, undone}
 use Rattle.w16_loading.specs.Load.Answer.{Says, StoreFails}
 use Rattle.w16_loading.specs.Fetch.{Reply, Fetches, segment_bytes, is_code}
-use Rattle.w16_loading.specs.Free.{Go}
+use Rattle.w16_loading.specs.Free.{Go, Frees, used_less}
 use Rattle.w16_loading.specs.Resource.{resource_at}
 use Rattle.w16_loading.specs.Machine.{Command, Step}
 
@@ -145,6 +145,16 @@ FetchLaw = (format : Format) (old new : World) (slot : ℕ) (fault : Option Fetc
 abbrev pub FetchRefusedLaw : Type 0
 FetchRefusedLaw = (format : Format) (old new : World) (slot : ℕ) (fault : FetchFault) → Fetches format old slot (Some fault) new → new ≡ old
 
+-- Explicit uses and importers are counted apart. Whoever takes uses of a module away that others import, it stays, and all else with it; and
+-- where it has no explicit use, nothing at all changes.
+pub record StaysImported (old : World) (handle answer : ℕ) (m : Module) (new : World) : Type 0 where
+  pub answered : answer ≡ 1
+  pub less : new ≡ used_less old handle
+  pub unused : m.uses ≡ 0 → new ≡ old
+
+abbrev pub UsesApartLaw : Type 0
+UsesApartLaw = (old new : World) (handle answer : ℕ) (m : Module) → IsWorld old → module_at old.modules handle ≡ Some m → 0 < importers old.modules handle → Frees old handle answer new → StaysImported old handle answer m new
+
 -- the order in which unused modules go doesn't matter
 abbrev pub OneEndLaw : Type 0
-OneEndLaw = (old a b : World) (xs ys : List ℕ) → IsWorld old → Go old xs a → Go old ys b → a ≡ b
+OneEndLaw = (old a b : World) (xs ys : List ℕ) → Go old xs a → Go old ys b → a ≡ b

@@ -140,12 +140,13 @@ abbrev pub importers : Modules → ℕ → ℕ
 importers modules handle = count_by (λ e. not (e.0 == handle) && imports e.1 handle) (finmap.entries modules)
 
 -- GetModuleUsage: explicit uses and importers; 0 for a bad handle
+abbrev pub usage_with : Option Named → ℕ → ℕ
+usage_with None others = 0
+usage_with (Some (Loaded m)) others = m.uses + others
+usage_with (Some (BuiltIn name)) others = others
+
 abbrev pub usage : Modules → ℕ → ℕ
-usage modules handle = elim (finmap.get modules handle) [
-  | None ↦ 0
-  | Some (Loaded m) ↦ m.uses + importers modules handle
-  | Some (BuiltIn _) ↦ importers modules handle
-]
+usage modules handle = usage_with (finmap.get modules handle) (importers modules handle)
 
 -- a module that nobody uses
 abbrev pub is_idle : Modules → ℕ → Bool

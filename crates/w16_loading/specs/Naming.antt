@@ -21,7 +21,7 @@ all_slots choice = flat_map (λ s. s) choice.slots
 
 -- slots that are free and different, one for each segment
 pub record AreSlots (world : World) (found : List Found) (slots : List (List ℕ)) : Type 0 where
-  pub many : AllZip (λ (f : Found) (s : List ℕ). length s ≡ length f.read.segments) found slots
+  pub many : AllZip (λ (f : Found) (s : List ℕ). length s ≡ length f.read.tables.segments) found slots
   pub free : All (IsFreeSlot world.handles) (flat_map (λ s. s) slots)
   pub apart : AllPairs ◌≢◌ (flat_map (λ s. s) slots)
 

@@ -1,6 +1,6 @@
 //! The laws of the definitions. Each function does nothing: its contract is the law.
 ghost use Rattle.w16_loading.specs.Fewest.{FetchFewestLaw};
-ghost use Rattle.w16_loading.specs.Law.{FetchAgainLaw, FetchLaw, FetchRefusedLaw, OneClosureLaw, EarlyRefusalLaw, FillLaw, EmptyLaw, ClosureEndsLaw, UndoneLaw, FillsLaw, BoundOnceLaw};
+ghost use Rattle.w16_loading.specs.Law.{OneEndLaw, UsesApartLaw, FetchAgainLaw, FetchLaw, FetchRefusedLaw, OneClosureLaw, EarlyRefusalLaw, FillLaw, EmptyLaw, ClosureEndsLaw, UndoneLaw, FillsLaw, BoundOnceLaw};
 
 /// A fetch takes the bytes of what it discards, and keeps all else of the other objects.
 pub fn fetches_keep_others()
@@ -60,4 +60,14 @@ pub fn fetched_code_is_as_it_was()
 /// A fetch discards as few objects as it can, and is refused only where there is no room.
 pub fn fetches_discard_fewest()
     ensures { FetchFewestLaw }
+{}
+
+/// Taking explicit uses away never lets a module go that others import.
+pub fn uses_and_importers_are_apart()
+    ensures { UsesApartLaw }
+{}
+
+/// Which unused module goes first doesn't matter.
+pub fn modules_go_to_one_end()
+    ensures { OneEndLaw }
 {}
