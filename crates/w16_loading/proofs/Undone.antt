@@ -20,7 +20,7 @@ use Rattle.w16_loading.specs.Law.{UndoneLaw}
 
 -- Slots of segments are slots that were chosen.
 
-pub zipped : (slots : List ℕ) (segments : List Segment) (x : ℕ × Segment) → Member x (zip slots segments) → Member x.0 slots
+pub zipped : {A B : Type 0} (slots : List A) (segments : List B) (x : A × B) → Member x (zip slots segments) → Member x.0 slots
 zipped [] segments x m = absurd m
 zipped (s ∷ ss) [] x m = absurd m
 zipped (s ∷ ss) (g ∷ gs) x (inl e) = inl (λ i. (e i).0)

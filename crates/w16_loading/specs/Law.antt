@@ -19,7 +19,7 @@ use Rattle.w16_loading.specs.Modules.{with_heap, World, Module, Load, Named, IsS
 use Rattle.w16_loading.specs.Fill.{Fills, FillsAll, any_way}
 use Rattle.w16_loading.specs.Closure.{Around, Closure, Closes}
 use Rattle.w16_loading.specs.Naming.{Choice, IsChoice, named}
-use Rattle.w16_loading.specs.Load.{Loads, undone}
+use Rattle.w16_loading.specs.Load.{Answer, Loads, undone}
 use Rattle.w16_loading.specs.Load.Answer.{Says, StoreFails}
 use Rattle.w16_loading.specs.Fetch.{Reply, Fetches, segment_bytes, is_code}
 use Rattle.w16_loading.specs.Free.{Go, Frees, used_less}
@@ -111,9 +111,13 @@ abbrev pub FillsLaw : Type 0
 FillsLaw = (may_fail : FetchFault → Bool) (old new : Heap) (xs : List (ℕ × List ℕ)) (fault : Option FetchFault) → IsHeap old → FillsAll may_fail old xs fault new
     → IsHeap new × ((q : ℕ) → AllByRecursion (λ x. q ≢ x.0) xs → IsKeptAt old new q)
 
+-- an answer that isn't a handle
+abbrev pub IsRefusal : Answer → Type 0
+IsRefusal (Says number) = number < FIRST_MODULE
+IsRefusal StoreFails = Unit {0}
+
 abbrev pub RefusedLoadLaw : Type 0
-RefusedLoadLaw = (format : Format) (is_load_module : Bool) (old new : World) (file : List ℕ) → IsFormat format → IsWorld old
-    → Loads format is_load_module old file (Says 0) new ⊎ Loads format is_load_module old file StoreFails new
+RefusedLoadLaw = (format : Format) (is_load_module : Bool) (old new : World) (file : List ℕ) (answer : Answer) → IsWorld old → Loads format is_load_module old file answer new → IsRefusal answer
     → OnlyDiscards old.handles.heap new.handles.heap × (new ≡ with_heap old new.handles.heap)
 
 -- names that are taken back leave the same world

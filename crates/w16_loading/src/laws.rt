@@ -1,6 +1,6 @@
 //! The laws of the definitions. Each function does nothing: its contract is the law.
-ghost use Rattle.w16_loading.specs.Fewest.{FetchFewestLaw};
-ghost use Rattle.w16_loading.specs.Law.{OneEndLaw, UsesApartLaw, FetchAgainLaw, FetchLaw, FetchRefusedLaw, OneClosureLaw, EarlyRefusalLaw, FillLaw, EmptyLaw, ClosureEndsLaw, UndoneLaw, FillsLaw, BoundOnceLaw};
+ghost use Rattle.w16_loading.specs.Fewest.{LoadFewestLaw, FetchFewestLaw};
+ghost use Rattle.w16_loading.specs.Law.{RefusedLoadLaw, OneEndLaw, UsesApartLaw, FetchAgainLaw, FetchLaw, FetchRefusedLaw, OneClosureLaw, EarlyRefusalLaw, FillLaw, EmptyLaw, ClosureEndsLaw, UndoneLaw, FillsLaw, BoundOnceLaw};
 
 /// A fetch takes the bytes of what it discards, and keeps all else of the other objects.
 pub fn fetches_keep_others()
@@ -70,4 +70,14 @@ pub fn uses_and_importers_are_apart()
 /// Which unused module goes first doesn't matter.
 pub fn modules_go_to_one_end()
     ensures { OneEndLaw }
+{}
+
+/// Each request of a load discards as few objects as it can, and is refused only where there is no room.
+pub fn loads_discard_fewest()
+    ensures { LoadFewestLaw }
+{}
+
+/// A refused load leaves all but its discards as it was, however far it came.
+pub fn refused_loads_leave_discards()
+    ensures { RefusedLoadLaw }
 {}
