@@ -33,7 +33,7 @@ one_fewest : (old : Heap) (slot : ℕ) (bytes : List ℕ) (answered : Bool) (new
 one_fewest old slot bytes answered new is f = allocation_law old new slot (length bytes) f.before.kind f.before.locks any_way answered is (fill_allocates old slot bytes answered new f)
 
 -- a heap in which an object was filled is one
-filled_heap : (old : Heap) (slot : ℕ) (bytes : List ℕ) (new : Heap) → Fills old slot bytes true new → IsHeap new
+pub filled_heap : (old : Heap) (slot : ℕ) (bytes : List ℕ) (new : Heap) → Fills old slot bytes true new → IsHeap new
 filled_heap old slot bytes new f = (settled old slot any_way (prefix_of old (length bytes) (Some slot) any_way) (λ o. o ≡ record f.before { bytes = Some bytes }) (with_newest slot) new f.request).2.sound
 
 not_room : (f : FetchFault) → is_of_device f ≡ true → f ≢ NoRoom
