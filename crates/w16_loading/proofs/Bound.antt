@@ -284,7 +284,7 @@ resource_locked format old handle reply new = by_slot (slot_of_resource old hand
     by_slot None f = ap (λ (w : World). w.modules) f.1
     by_slot (Some x) f = by_bytes x.0 (bytes_at old.handles.heap x.0) f
 
-abbrev freed_outcome : World → Option (ℕ × Load) → ℕ × World
+abbrev pub freed_outcome : World → Option (ℕ × Load) → ℕ × World
 freed_outcome old p = elim p [
   | None ↦ (1, old)
   | Some x ↦

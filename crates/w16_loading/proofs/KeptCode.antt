@@ -16,7 +16,7 @@ use Rattle.w16_loading.specs.declared.FetchFault.{FetchFault}
 use Rattle.w16_loading.specs.File.{Format, ModuleFile, SegmentData, Segment, Far, numbered}
 use Rattle.w16_loading.specs.Modules.{World, Module, IsSegmentOf, module_at, with_heap}
 use Rattle.w16_loading.specs.Fill.{Fills, FillsAll, any_way, asked_of, is_of_device}
-use Rattle.w16_loading.specs.Fetch.{Fetches, segment_bytes, is_code}
+use Rattle.w16_loading.specs.Fetch.{Fetches, IsImage, segment_bytes, is_code}
 use Rattle.w16_loading.specs.Law.{IsWorld, IsModule, IsObjectOf, CodeIsItsFiles}
 use Rattle.w16_loading.proofs.Fetched.{refused}
 use Rattle.w16_loading.proofs.Again.{filled_object, segment_image}
@@ -144,18 +144,22 @@ fills_bytes may_fail old new (x ∷ xs) fault is (inr (inl f)) q =
 fills_bytes may_fail old new (x ∷ xs) fault is (inr (inr f)) q =
     after_one old f.0 new x xs is f.1 q (fills_bytes may_fail f.0 new xs fault (filled_heap old x.0 x.1 f.0 f.1) f.2 q)
 
-pub fetched_code : (format : Format) (old : World) (slot : ℕ) (fault : Option FetchFault) (new : World) → IsWorld old → Fetches format old slot fault new → KeepsCode format old new
-fetched_code format old slot fault new is f = record {
+-- what is fetched is the segment's image, where it is code
+abbrev pub FetchesCode : Format → World → ℕ → Type 0
+FetchesCode format old slot = (handle number : ℕ) (m : Module) (bytes : List ℕ) → IsSegmentOf old slot handle number m → is_code old slot ≡ true → IsImage format old slot bytes → segment_bytes format old m number ≡ Some bytes
+
+pub fetched_code : (format : Format) (old : World) (slot : ℕ) (fault : Option FetchFault) (new : World) → IsHeap old.handles.heap → FetchesCode format old slot → Fetches format old slot fault new → KeepsCode format old new
+fetched_code format old slot fault new is fetches f = record {
   files = ap (λ (w : World). w.files) f.rest;
   modules = λ handle m e. (m, ap (λ (w : World). module_at w.modules handle) (sym f.rest) ∙ e, same_source m);
   coded = λ q t. ap (λ (w : World). is_code w q) (sym f.rest) ∙ t;
-  bytes = λ q handle number m s coded. turn q handle number m s (bytes_at new.handles.heap q) (fills_bytes is_of_device old.handles.heap new.handles.heap ((slot, f.bytes) ∷ []) fault is.handles.heap f.filled q);
+  bytes = λ q handle number m s coded. turn q handle number m s coded (bytes_at new.handles.heap q) (fills_bytes is_of_device old.handles.heap new.handles.heap ((slot, f.bytes) ∷ []) fault is f.filled q);
 }
   where
-    turn : (q handle number : ℕ) (m : Module) → IsSegmentOf old q handle number m → (p : Option (List ℕ)) → IfSome p (λ b. (bytes_at old.handles.heap q ≡ Some b) ⊎ IsFilled q b ((slot, f.bytes) ∷ []))
+    turn : (q handle number : ℕ) (m : Module) → IsSegmentOf old q handle number m → is_code old q ≡ true → (p : Option (List ℕ)) → IfSome p (λ b. (bytes_at old.handles.heap q ≡ Some b) ⊎ IsFilled q b ((slot, f.bytes) ∷ []))
         → IfSome p (λ b. (bytes_at old.handles.heap q ≡ Some b) ⊎ (segment_bytes format old m number ≡ Some b))
-    turn q handle number m s None h = tt
-    turn q handle number m s (Some b) (inl e) = inl e
-    turn q handle number m s (Some b) (inr (inl e)) =
-        inr (segment_image format old slot handle number m f.bytes is (subst (λ k. IsSegmentOf old k handle number m) (λ i. (e i).0) s) f.image ∙ (λ i. Some (sym e i).1))
-    turn q handle number m s (Some b) (inr (inr n)) = absurd n
+    turn q handle number m s coded None h = tt
+    turn q handle number m s coded (Some b) (inl e) = inl e
+    turn q handle number m s coded (Some b) (inr (inl e)) =
+        inr (fetches handle number m f.bytes (subst (λ k. IsSegmentOf old k handle number m) (λ i. (e i).0) s) (subst (λ k. is_code old k ≡ true) (λ i. (e i).0) coded) f.image ∙ (λ i. Some (sym e i).1))
+    turn q handle number m s coded (Some b) (inr (inr n)) = absurd n
