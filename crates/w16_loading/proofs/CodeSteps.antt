@@ -47,7 +47,7 @@ module _ (format : Format) where
   Good world = CodeIsItsFiles format world
 
   -- a world with another heap
-  heap_kept : (old : World) (heap : Heap) → ((q : ℕ) → is_code old q ≡ true → KeepsBytes old.handles.heap heap q) → KeepsCode format old (with_heap old heap)
+  pub heap_kept : (old : World) (heap : Heap) → ((q : ℕ) → is_code old q ≡ true → KeepsBytes old.handles.heap heap q) → KeepsCode format old (with_heap old heap)
   heap_kept old heap keeps = record {
     files = refl;
     modules = λ handle m e. (m, e, same_source m);

@@ -29,7 +29,7 @@ zip_apart (a ∷ s) (g ∷ gs) more tail differ inside apart =
     among : (y : ℕ × Segment) → Member y (zip s gs ++ tail) → Member y.0 (s ++ more)
     among y m = elim (parted y (zip s gs) tail m) [ inl k ↦ in_first y.0 s more (zipped s gs y k) | inr k ↦ in_second y.0 s more (inside y k) ]
 
-apart_after : (s more : List ℕ) → EachPair (λ a b. a ≢ b) (s ++ more) → EachPair (λ a b. a ≢ b) more
+pub apart_after : (s more : List ℕ) → EachPair (λ a b. a ≢ b) (s ++ more) → EachPair (λ a b. a ≢ b) more
 apart_after [] more differ = differ
 apart_after (a ∷ s) more differ = apart_after s more differ.1
 

@@ -53,7 +53,7 @@ filled_slot module_of g x m =
     let y : (y : Segments) × Member y (zip pairs images) × (x.0 ≡ y.0.0) = member_filled (zip pairs images) x m in
     subst (λ q. Member q g.slots) (sym y.2) (zipped g.slots g.found.read.tables.segments y.0.0 (zipped pairs images y.0 y.1))
 
-filled_chosen : (module_of : Given → Module) (place : ℕ) (fs : List Found) (hs : List ℕ) (ss : List (List ℕ)) (x : ℕ × List ℕ) → Member x (flat_map (fills_of module_of) (given_from place fs hs ss)) → Member x.0 (flat_map (λ s. s) ss)
+pub filled_chosen : (module_of : Given → Module) (place : ℕ) (fs : List Found) (hs : List ℕ) (ss : List (List ℕ)) (x : ℕ × List ℕ) → Member x (flat_map (fills_of module_of) (given_from place fs hs ss)) → Member x.0 (flat_map (λ s. s) ss)
 filled_chosen module_of place [] hs ss x m = absurd m
 filled_chosen module_of place (f ∷ fs) [] ss x m = absurd m
 filled_chosen module_of place (f ∷ fs) (h ∷ hs) [] x m = absurd m

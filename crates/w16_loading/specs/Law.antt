@@ -76,7 +76,7 @@ KeepsWorldsLaw = (format : Format) (old new : World) (command : Command) (reply 
 
 -- the code that a script reads is always its file's, relocated
 abbrev pub CodeLaw : Type 0
-CodeLaw = (format : Format) (old new : World) (command : Command) (reply : Reply) → IsFormat format → IsWorld old → CodeIsItsFiles format old → Step format old command reply new → CodeIsItsFiles format new
+CodeLaw = (format : Format) (old new : World) (command : Command) (reply : Reply) → IsWorld old → CodeIsItsFiles format old → Step format old command reply new → CodeIsItsFiles format new
 
 -- what was bound at load stays until the module goes
 abbrev pub BoundOnceLaw : Type 0

@@ -1,6 +1,6 @@
 //! The laws of the definitions. Each function does nothing: its contract is the law.
 ghost use Rattle.w16_loading.specs.Fewest.{LoadFewestLaw, FetchFewestLaw};
-ghost use Rattle.w16_loading.specs.Law.{RefusedLoadLaw, OneEndLaw, UsesApartLaw, FetchAgainLaw, FetchLaw, FetchRefusedLaw, OneClosureLaw, EarlyRefusalLaw, FillLaw, EmptyLaw, ClosureEndsLaw, UndoneLaw, FillsLaw, BoundOnceLaw};
+ghost use Rattle.w16_loading.specs.Law.{CodeLaw, RefusedLoadLaw, OneEndLaw, UsesApartLaw, FetchAgainLaw, FetchLaw, FetchRefusedLaw, OneClosureLaw, EarlyRefusalLaw, FillLaw, EmptyLaw, ClosureEndsLaw, UndoneLaw, FillsLaw, BoundOnceLaw};
 
 /// A fetch takes the bytes of what it discards, and keeps all else of the other objects.
 pub fn fetches_keep_others()
@@ -80,4 +80,9 @@ pub fn loads_discard_fewest()
 /// A refused load leaves all but its discards as it was, however far it came.
 pub fn refused_loads_leave_discards()
     ensures { RefusedLoadLaw }
+{}
+
+/// Code that has bytes has those that its file gives it, relocated, after each step of each family, whatever was moved, discarded or fetched.
+pub fn code_reads_as_its_file()
+    ensures { CodeLaw }
 {}
