@@ -1,15 +1,14 @@
 -- Code that is fetched has the bytes that it had.
-use Rattle.std.proofs.Common.{◌≡◌, ℕ, inl, inr, ◌⊎◌, true, List, [], ◌∷◌, length, Option, Some, None, IfSome, refl, sym, ap, ◌∙◌, subst}
+use Rattle.std.proofs.Common.{◌≡◌, ℕ, inl, inr, true, List, [], ◌∷◌, length, Option, Some, None, IfSome, refl, sym, ap, ◌∙◌, subst}
 use Rattle.std.proofs.lemmas.Bool.{false≢true}
 use Rattle.w16_model.specs.Heap.{Heap, Object, object_at, bytes_at}
-use Rattle.w16_model.specs.Changes.{with_newest}
 use Rattle.w16_model.specs.Request.{Request, discarded, prefix_of}
 use Rattle.w16_model.proofs.KeptHeaps.{inserted_here}
 use Rattle.w16_loading.specs.File.{Format}
-use Rattle.w16_loading.specs.Modules.{World, Module, Modules, IsSegmentOf, IsResourceOf, module_at}
+use Rattle.w16_loading.specs.Modules.{World, Module, Modules, IsSegmentOf, module_at}
 use Rattle.w16_loading.specs.Fill.{Fills, FillsAll, any_way, asked_of, is_of_device}
-use Rattle.w16_loading.specs.Fetch.{Fetches, IsImage, segment_bytes, resource_bytes, is_code}
-use Rattle.w16_loading.specs.Law.{IsWorld, CodeIsItsFiles, FetchAgainLaw}
+use Rattle.w16_loading.specs.Fetch.{IsImage, segment_bytes}
+use Rattle.w16_loading.specs.Law.{IsWorld, FetchAgainLaw}
 
 -- an object that was filled is as before, with these bytes
 pub filled_object : (old : Heap) (slot : ℕ) (bytes : List ℕ) (new : Heap) → (f : Fills old slot bytes true new) → object_at new slot ≡ Some (record f.before { bytes = Some bytes })

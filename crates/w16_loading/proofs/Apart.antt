@@ -1,15 +1,13 @@
 -- A module that others import stays, whoever takes its explicit uses away.
-use Rattle.std.proofs.Common.{◌≡◌, ◌≢◌, ℕ, ◌-◌, ◌<◌, inl, inr, Bool, true, false, cond, not, List, [], ◌∷◌, Option, Some, None, IfSome, IsSomeAnd, is_some, refl, sym, ap, ◌∙◌, subst, arith}
+use Rattle.std.proofs.Common.{◌≡◌, ℕ, ◌-◌, ◌<◌, inl, inr, true, false, cond, not, List, [], ◌∷◌, Option, Some, None, IfSome, IsSomeAnd, is_some, refl, sym, ap, ◌∙◌, subst, arith}
 use Rattle.std.specs.FinMap as finmap
-use Rattle.std.proofs.lemmas.Bool.{false≢true, cases_eq}
+use Rattle.std.proofs.lemmas.Bool.{cases_eq}
 use Rattle.w16_model.proofs.KeptHeaps.{inserted_here, inserted_other}
 use Rattle.w16_loading.specs.File.{Resource, numbered}
-use Rattle.w16_loading.specs.Modules.{World, Load, Module, Modules, Named, module_at, module_in, imports, importers}
+use Rattle.w16_loading.specs.Modules.{World, Load, Module, Named, module_at, module_in, imports, importers}
 use Rattle.w16_loading.specs.Modules.Named.{Loaded, BuiltIn}
-use Rattle.w16_loading.specs.Free.{Go, Frees, used_less, is_left_over, swept}
-use Rattle.w16_loading.specs.Release.{without_objects}
-use Rattle.w16_loading.specs.Resource.{resource_at}
-use Rattle.w16_loading.specs.Law.{IsWorld, IsLoad, StaysImported, UsesApartLaw}
+use Rattle.w16_loading.specs.Free.{Go, used_less, is_left_over, swept}
+use Rattle.w16_loading.specs.Law.{IsWorld, IsLoad, UsesApartLaw}
 use Rattle.w16_loading.proofs.Absences.{all_retained, none_gone, put_same}
 use Rattle.w16_loading.proofs.Importers.{HasImporter, Idle, importer_of, idle_parts, none_idle}
 use Rattle.w16_loading.proofs.Bound.{world_used_less}

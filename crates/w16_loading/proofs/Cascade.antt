@@ -1,11 +1,11 @@
 -- The order in which unused modules go doesn't matter: what is idle stays so until it goes, and two go in either order.
-use Rattle.std.proofs.Common.{◌≡◌, ◌≢◌, ℕ, inl, inr, ◌⊎◌, Bool, true, false, not, List, [], ◌∷◌, filter, Option, Some, None, refl, sym, ap, ◌∙◌, subst}
+use Rattle.std.proofs.Common.{◌≡◌, ◌≢◌, ℕ, inl, inr, ◌⊎◌, Bool, true, not, List, [], ◌∷◌, Option, Some, None, sym, ap, ◌∙◌, subst}
 use Rattle.std.specs.FinMap as finmap
 use Rattle.std.proofs.lemmas.Bool.{false≢true, cases_eq}
 use Rattle.w16_model.specs.Discards.{is_member}
 use Rattle.w16_model.proofs.KeptHeaps.{taken_here, taken_other}
 use Rattle.w16_model.proofs.Prefixes.{filter_swapped}
-use Rattle.w16_loading.specs.Modules.{World, Module, Modules, Named, module_in, is_idle}
+use Rattle.w16_loading.specs.Modules.{World, Module, Named, module_in, is_idle}
 use Rattle.w16_loading.specs.Modules.Named.{Loaded}
 use Rattle.w16_loading.specs.Release.{without_objects}
 use Rattle.w16_loading.specs.Free.{Go, without_module}
@@ -74,9 +74,13 @@ goes_first old k idle (x ∷ xs) end go = turn (λ later. goes_first (without_mo
         let later : Idle (without_module old x).modules k = subst (λ (w : World). Idle w.modules k) (sym (went old x first.idle first.loaded)) (stays_idle old x k first.idle d idle) in
         let rest : (rest : List ℕ) × Go (without_module (without_module old x) k) rest end = again later in
         let sooner : Idle (gone_with old k idle.idle).modules x = stays_idle old k x idle.idle (λ e. d (sym e)) first in
-        let same : without_module (without_module old x) k ≡ without_module (without_module old k) x = both_ways later sooner in
-        (x ∷ rest.0, (subst (λ (w : World). is_idle w.modules x ≡ true) (sym (went old k idle.idle idle.loaded)) (is_then_idle (gone_with old k idle.idle).modules x sooner),
-        subst (λ (w : World). Go w rest.0 end) same rest.1))
+        let same : without_module (without_module old x) k ≡ without_module (without_module old k) x = both_ways later sooner in (
+          x ∷ rest.0,
+          (
+            subst (λ (w : World). is_idle w.modules x ≡ true) (sym (went old k idle.idle idle.loaded)) (is_then_idle (gone_with old k idle.idle).modules x sooner),
+            subst (λ (w : World). Go w rest.0 end) same rest.1,
+          ),
+        )
       where
         both_ways : Idle (without_module old x).modules k → Idle (gone_with old k idle.idle).modules x → without_module (without_module old x) k ≡ without_module (without_module old k) x
         both_ways later sooner =

@@ -1,15 +1,13 @@
 -- The code that a script reads is always its file's, relocated: after each step of each family.
-use Rattle.std.proofs.Common.{◌≡◌, ℕ, ◌+◌, inl, inr, Bool, true, false, cond, not, ◌&&◌, nat_lt, List, [], Option, Some, None, MatchBool, MatchResult, Result, Ok, Err, refl, sym, ap, subst}
+use Rattle.std.proofs.Common.{◌≡◌, ℕ, ◌+◌, inl, inr, Bool, true, false, cond, not, ◌&&◌, nat_lt, List, [], Option, Some, None, MatchBool, MatchResult, Result, Ok, Err, refl, sym, subst}
 use Rattle.std.specs.FinMap as finmap
 use Rattle.w16_model.specs.Calls.{HandleCommand}
-use Rattle.w16_model.specs.Heap.{Heap}
 use Rattle.w16_loading.specs.declared.TheConstants.{MOST_USES}
 use Rattle.w16_loading.specs.declared.FetchFault.{FetchFault}
-use Rattle.w16_loading.specs.File.{Format, ModuleFile}
+use Rattle.w16_loading.specs.File.{Format}
 use Rattle.w16_loading.specs.Modules.{World, Module, Named, with_heap}
 use Rattle.w16_loading.specs.Modules.Named.{Loaded, BuiltIn}
 use Rattle.w16_loading.specs.Fill.{FillsAll, is_of_device}
-use Rattle.w16_loading.specs.Release.{heap_without}
 use Rattle.w16_loading.specs.Closure.{Closure, Reading, reading, around, begun, after}
 use Rattle.w16_loading.specs.Closure.Reading.{Refused, Meant, Read}
 use Rattle.w16_loading.specs.Closure.Referent.{There, New}
@@ -17,9 +15,7 @@ use Rattle.w16_loading.specs.Naming.{named, fills}
 use Rattle.w16_loading.specs.Load.{Answer, Refuses, Loads, LoadsFile, LoadsNew, Fulfils, used_again, after_use, undone, left}
 use Rattle.w16_loading.specs.Load.Answer.{Says}
 use Rattle.w16_loading.specs.Fetch.{Reply}
-use Rattle.w16_loading.specs.Free.{Frees}
-use Rattle.w16_loading.specs.Machine.{Command, Step, FamilyStep, HandleStep, ByHandles, FarStep, ModuleCommand, ModuleStep, ResourceCommand, ResourceStep, owns, word}
-use Rattle.w16_loading.specs.Resource.{free_resource}
+use Rattle.w16_loading.specs.Machine.{Command, FamilyStep, HandleStep, ByHandles, ModuleCommand, ModuleStep, ResourceCommand, ResourceStep, owns, word}
 use Rattle.w16_loading.specs.Law.{IsWorld, CodeIsItsFiles, CodeLaw}
 use Rattle.w16_loading.proofs.RefusedLoad.{undone_discards}
 use Rattle.w16_loading.proofs.KeptBytes.{kept_bytes}

@@ -1,15 +1,13 @@
 -- A load gives code the bytes that its files say, and leaves all other code as it was.
-use Rattle.std.proofs.Common.{◌≡◌, ◌≢◌, ℕ, zero, suc, ◌+◌, ◌-◌, ◌<◌, inl, inr, ◌⊎◌, Bool, true, false, cond, not, ◌==◌, ◌||◌, nat_lt, List, [], ◌∷◌, ◌++◌, length, fold, flat_map, filter_map, zip, map, slice_get, slice_index_or, Option, Some, None, IfSome, is_some, option_map, unwrap_or, Result, Ok, Err, IfOk, refl, sym, ap, ◌∙◌, subst, arith, ne_eqb}
+use Rattle.std.proofs.Common.{◌≡◌, ◌≢◌, ℕ, zero, suc, ◌+◌, ◌-◌, ◌<◌, inl, inr, ◌⊎◌, Bool, true, false, cond, ◌==◌, ◌||◌, nat_lt, List, [], ◌∷◌, ◌++◌, length, fold, flat_map, filter_map, zip, slice_get, slice_index_or, Option, Some, None, IfSome, is_some, option_map, unwrap_or, Result, Ok, Err, IfOk, refl, sym, ap, ◌∙◌, subst, arith, ne_eqb}
 use Rattle.std.specs.List.{AllByRecursion as Each, cons_option}
 use Rattle.std.specs.FinMap as finmap
-use Rattle.std.proofs.lemmas.Bool.{false≢true, cases_Bool, cases_eq}
-use Rattle.w16_model.specs.Discards.{is_member}
-use Rattle.w16_model.specs.Heap.{Heap, Object, object_at, bytes_at, is_fixed}
+use Rattle.std.proofs.lemmas.Bool.{false≢true, cases_eq}
+use Rattle.w16_model.specs.Heap.{Heap, bytes_at, is_fixed}
 use Rattle.w16_model.proofs.Gaps.{Member, EachPair, Each-at, EachPair-from_AllPairs}
 use Rattle.w16_model.proofs.KeptHeaps.{inserted_here, inserted_other, bytes_in}
-use Rattle.w16_loading.specs.declared.FetchFault.{FetchFault}
 use Rattle.w16_loading.specs.File.{Format, ModuleFile, Segment, SegmentData, Far, numbered}
-use Rattle.w16_loading.specs.Modules.{World, Owned, Module, Modules, Named, IsSegmentOf, module_at, module_in, with_heap}
+use Rattle.w16_loading.specs.Modules.{World, Owned, Module, Modules, IsSegmentOf, module_at, module_in, with_heap}
 use Rattle.w16_loading.specs.Modules.Named.{Loaded}
 use Rattle.w16_loading.specs.Fill.{FillsAll, is_of_device}
 use Rattle.w16_loading.specs.Closure.{Around, Closure, Found, Reading, Referent, reading, meant, are_sound, followed, after, begun, dll, around, with_bound, with_found}
@@ -18,7 +16,7 @@ use Rattle.w16_loading.specs.Closure.Referent.{New}
 use Rattle.w16_loading.specs.Naming.{Choice, IsChoice, Given, all_slots, given, given_from, segments_of, with_segment, with_modules, bound, named, filled_at_once, fills_of, fills}
 use Rattle.w16_loading.specs.Fetch.{segment_bytes, is_code}
 use Rattle.w16_loading.specs.Law.{IsWorld, CodeIsItsFiles}
-use Rattle.w16_loading.proofs.Undone.{in_first, in_second, parted, chosen, IsNamed, fold_named}
+use Rattle.w16_loading.proofs.Undone.{in_first, in_second, parted, chosen, fold_named}
 use Rattle.w16_loading.proofs.Named.{apart_after, named_handles, free_slot}
 use Rattle.w16_loading.proofs.RefusedLoad.{filled_chosen}
 use Rattle.w16_loading.proofs.KeptCode.{IsFilled, image_of, read_in, fills_bytes, segment_object}

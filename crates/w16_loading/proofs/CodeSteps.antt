@@ -1,5 +1,5 @@
 -- The steps of the families, but for loads, keep code as its files say it.
-use Rattle.std.proofs.Common.{◌≡◌, ◌≢◌, ℕ, ◌+◌, ◌-◌, inl, inr, ◌⊎◌, Bool, true, false, cond, not, ◌&&◌, ◌||◌, ◌==◌, nat_lt, List, [], ◌∷◌, length, Option, Some, None, IfSome, IsSomeAnd, MatchOption, MatchBool, is_some, option_map, option_map, unwrap_or, refl, sym, ap, ◌∙◌, subst}
+use Rattle.std.proofs.Common.{◌≡◌, ◌≢◌, ℕ, ◌+◌, ◌-◌, inl, inr, ◌⊎◌, Bool, true, false, cond, not, ◌&&◌, ◌||◌, ◌==◌, nat_lt, List, [], ◌∷◌, length, Option, Some, None, MatchOption, MatchBool, is_some, option_map, option_map, unwrap_or, refl, sym, ap, ◌∙◌, subst}
 use Rattle.std.specs.Ordering.{nat_cmp}
 use Rattle.std.specs.FinMap as finmap
 use Rattle.std.proofs.lemmas.Bool.{false≢true, cases_Bool, cases_eq}
@@ -9,7 +9,7 @@ use Rattle.w16_model.specs.declared.FarFault.TheVariants as far
 use Rattle.w16_model.specs.declared.FarFault.TheVariants.{BadSelector, NotPresent, Limit}
 use Rattle.w16_model.specs.Bytes.{part, put_part, repeated}
 use Rattle.w16_model.specs.Discards.{is_member}
-use Rattle.w16_model.specs.Heap.{Heap, Object, IsHeap, object_at, bytes_at}
+use Rattle.w16_model.specs.Heap.{Heap, object_at, bytes_at}
 use Rattle.w16_model.specs.OneObject.{after_touch}
 use Rattle.w16_model.specs.Handles.{Handles, handle_of, slot_of_selector, selector_in, offset_in, IsFreeSlot}
 use Rattle.w16_model.specs.Calls as calls
@@ -24,14 +24,14 @@ use Rattle.w16_loading.specs.declared.TheConstants.{MOST_USES}
 use Rattle.w16_loading.specs.declared.FetchFault.{FetchFault}
 use Rattle.w16_loading.specs.declared.FetchFault.TheVariants as faults
 use Rattle.w16_loading.specs.File.{Format, Resource}
-use Rattle.w16_loading.specs.Modules.{World, Load, Owned, Module, Modules, Named, IsSegmentOf, IsFreeModule, module_at, module_in, with_heap, handle_named, is_owned}
+use Rattle.w16_loading.specs.Modules.{World, Load, Owned, Module, Modules, module_at, module_in, with_heap, handle_named, is_owned}
 use Rattle.w16_loading.specs.Modules.Named.{Loaded, BuiltIn}
 use Rattle.w16_loading.specs.Release.{without_objects}
 use Rattle.w16_loading.specs.Load.{Answer, Refuses}
-use Rattle.w16_loading.specs.Fetch.{Reply, Fetches, Accesses, IsImage, segment_bytes, is_code, far_read, far_write, gives, is_not_present, refuses_write, with_handles}
+use Rattle.w16_loading.specs.Fetch.{Reply, Fetches, Accesses, is_code, far_read, far_write, gives, is_not_present, refuses_write, with_handles}
 use Rattle.w16_loading.specs.Fetch.Reply.{Plain, Failed}
 use Rattle.w16_loading.specs.Free.{Go, Frees, used_less, without_module, swept, is_left_over}
-use Rattle.w16_loading.specs.Machine.{ByHandles, FarStep, word, owns, AddsBuiltIn, GivesBuiltIn, built_in}
+use Rattle.w16_loading.specs.Machine.{ByHandles, FarStep, AddsBuiltIn, GivesBuiltIn, built_in}
 use Rattle.w16_loading.specs.Resource.{LoadsResource, LoadsNewResource, LocksResource, resource_at, load_of, loaded_again, with_resource, resource_outcome, locked, lock_outcome, slot_of_resource, free_resource}
 use Rattle.w16_loading.specs.Law.{IsWorld, CodeIsItsFiles}
 use Rattle.w16_loading.proofs.Undone.{retained}

@@ -1,11 +1,16 @@
 -- Closures of small files, worked out.
-use Rattle.std.proofs.Common.{◌≡◌, ℕ, zero, suc, Bool, true, false, List, [], ◌∷◌, codes, Some, None, Result, Ok, Err, if◌then◌else◌, slice_index, refl}
+use Rattle.std.proofs.Common.{◌≡◌, ℕ, zero, suc, Bool, true, false, List, [], ◌∷◌, codes, Some, None, Result, Ok, Err, if◌then◌else◌, slice_index, replicate, ◌==◌, refl}
 use Rattle.w16_loading.specs.File.{Format, ModuleFile}
 use Rattle.w16_store.specs.Names.{is_named}
 use Rattle.w16_store.specs.Files.{file_of}
-use Rattle.w16_loading.specs.Closure.{Around, reading, begun, after}
+use Rattle.w16_model.specs.declared.Kind.TheVariants.{Moveable}
+use Rattle.w16_loading.specs.Modules.{World, Module}
+use Rattle.w16_loading.specs.Modules.Named.{Loaded, BuiltIn}
+use Rattle.w16_loading.specs.Load.{used_again, after_use}
+use Rattle.w16_loading.specs.Load.Answer.{Says}
+use Rattle.w16_loading.specs.Closure.{Found, Around, reading, begun, after}
 use Rattle.w16_loading.specs.Closure.Referent.{There, New}
-use Rattle.w16_loading.specs.Closure.Reading.{Refused}
+use Rattle.w16_loading.specs.Closure.Reading.{Refused, Meant}
 
 -- a file without segments
 abbrev plain : List ℕ → Bool → List (List ℕ) → ModuleFile
@@ -72,3 +77,82 @@ built_in : after toy (record { named = λ name. if is_named name (codes "X") the
 })
 unfolding is_named file_of
 built_in = refl
+
+-- nothing is there, and these files are
+abbrev over : List (List ℕ × List ℕ) → Around
+over all = record { named = λ _. None; file = file_of all; free = 200 }
+
+-- two libraries that import each other are found once each
+abbrev paired : Format
+paired bytes = if slice_index bytes 0 == 1 then Ok (plain (codes "ONE") true (codes "TWO" ∷ [])) else Ok (plain (codes "TWO") true (codes "ONE" ∷ []))
+
+abbrev paired_files : List (List ℕ × List ℕ)
+paired_files = (codes "ONE.DLL", 1 ∷ []) ∷ (codes "TWO.DLL", 2 ∷ []) ∷ []
+
+both : after paired (over paired_files) 9 (begun (codes "ONE.DLL") (plain (codes "ONE") true (codes "TWO" ∷ []))) ≡ Ok (record {
+  found = record { file = codes "ONE.DLL"; read = plain (codes "ONE") true (codes "TWO" ∷ []) } ∷ record { file = codes "TWO.DLL"; read = plain (codes "TWO") true (codes "ONE" ∷ []) } ∷ [];
+  pending = [];
+  bound = (0, New 1) ∷ (1, New 0) ∷ [];
+})
+unfolding is_named file_of
+both = refl
+
+-- breadth first: B and C, which A refers to, are found before D, which B refers to
+abbrev tree : Format
+tree bytes = if slice_index bytes 0 == 1 then Ok (plain (codes "B") true (codes "D" ∷ [])) else (if slice_index bytes 0 == 2 then Ok (plain (codes "C") true []) else Ok (plain (codes "D") true []))
+
+abbrev tree_files : List (List ℕ × List ℕ)
+tree_files = (codes "D.DLL", 3 ∷ []) ∷ (codes "C.DLL", 2 ∷ []) ∷ (codes "B.DLL", 1 ∷ []) ∷ []
+
+abbrev found_as : List ℕ → List ℕ → List (List ℕ) → Found
+found_as file name references = record { file = file; read = plain name true references }
+
+order : after tree (over tree_files) 9 (begun (codes "A.DLL") (plain (codes "A") true (codes "B" ∷ codes "C" ∷ []))) ≡ Ok (record {
+  found = found_as (codes "A.DLL") (codes "A") (codes "B" ∷ codes "C" ∷ []) ∷ found_as (codes "B.DLL") (codes "B") (codes "D" ∷ []) ∷ found_as (codes "C.DLL") (codes "C") [] ∷ found_as (codes "D.DLL") (codes "D") [] ∷ [];
+  pending = [];
+  bound = (0, New 1) ∷ (0, New 2) ∷ (1, New 3) ∷ [];
+})
+unfolding is_named file_of
+order = refl
+
+-- The numbers that a load answers, once each.
+
+-- 11 to 14, where the file isn't accepted, as its format says
+abbrev refusing : Format
+refusing bytes = Err (slice_index bytes 0)
+
+refused_by_format : (n : ℕ) → reading refusing (record { named = λ _. None; file = λ _. Some (n ∷ []); free = 200 }) [] (codes "A.EXE") ≡ Refused n
+refused_by_format n = refl
+
+-- 11, where a segment's relocations aren't sound, also with no free handle
+abbrev unsound : ModuleFile
+unsound = record {
+  tables = record { name = codes "U"; is_library = true; segments = record { kind = Moveable; is_code = false; is_preload = false; size = 32 } ∷ []; references = []; entries = []; names = []; resources = [] };
+  segments = record { targets = None; image = λ values. replicate 32 0 } ∷ [];
+  contents = [];
+}
+
+refused_unsound : reading (λ bytes. Ok unsound) (record { named = λ _. None; file = λ _. Some []; free = 0 }) [] (codes "U.DLL") ≡ Refused 11
+unfolding is_named
+refused_unsound = refl
+
+-- but a name that is there decides before
+meant_unsound : reading (λ bytes. Ok unsound) (record { named = λ _. Some 40; file = λ _. Some []; free = 0 }) [] (codes "U.DLL") ≡ Meant (There 40)
+meant_unsound = refl
+
+-- 16 for an application that LoadModule loads again, also where its uses are full, and one use more by LoadLibrary; 0 where uses are full
+abbrev application : ℕ → Module
+application uses = record { file = codes "A.EXE"; tables = a.tables; uses = uses; slots = []; values = []; imports = [] }
+
+twice : (old : World) → used_again true old 33 (Some (Loaded (application 65000))) ≡ (Says 16, old)
+twice old = refl
+
+as_library : (old : World) → used_again false old 33 (Some (Loaded (application 1))) ≡ (Says 33, after_use old 33 (application 1))
+as_library old = refl
+
+full : (old : World) → used_again false old 33 (Some (Loaded (application 65000))) ≡ (Says 0, old)
+full old = refl
+
+-- a built-in is never full
+never_full : (old : World) → used_again true old 33 (Some (BuiltIn (codes "KERNEL"))) ≡ (Says 33, old)
+never_full old = refl

@@ -1,7 +1,7 @@
 -- The requests of loads and fetches discard as few as they can, since each is an allocation whose new bytes are given.
-use Rattle.std.proofs.Common.{◌≡◌, ◌≢◌, ℕ, ◌+◌, ◌<◌, inl, inr, Bool, true, false, List, [], ◌∷◌, fold, length, All, Option, Some, None, IsSomeAnd, refl, sym, ap, ◌∙◌, subst}
+use Rattle.std.proofs.Common.{◌≡◌, ◌≢◌, ℕ, inl, inr, Bool, true, false, List, [], ◌∷◌, length, Option, Some, None, refl, sym, ap, ◌∙◌, subst}
 use Rattle.std.proofs.lemmas.Bool.{false≢true}
-use Rattle.w16_model.specs.Heap.{Heap, Object, IsHeap, object_at, bytes_at}
+use Rattle.w16_model.specs.Heap.{Heap, Object, IsHeap}
 use Rattle.w16_model.specs.Changes.{with_newest}
 use Rattle.w16_model.specs.Request.{Request, IsNew, Allocates, prefix_of}
 use Rattle.w16_model.specs.Fewest.{AllocatesFewest}

@@ -1,9 +1,9 @@
 -- Who imports a module: whether it is idle says whether any entry does.
-use Rattle.std.proofs.Common.{◌≡◌, ◌≢◌, ℕ, zero, suc, ◌+◌, ◌<◌, inl, inr, Bool, true, false, not, ◌&&◌, ◌==◌, List, [], ◌∷◌, length, filter, count_by, IsTrue, Option, Some, None, is_some, IfSome, refl, sym, ap, ◌∙◌, subst, arith, eqb-true, eq-eqb, ne_eqb}
+use Rattle.std.proofs.Common.{◌≡◌, ◌≢◌, ℕ, zero, suc, ◌+◌, ◌<◌, inl, Bool, true, not, ◌&&◌, ◌==◌, List, [], ◌∷◌, length, filter, count_by, IsTrue, Option, Some, None, is_some, IfSome, refl, sym, ap, ◌∙◌, subst, arith, eqb-true, eq-eqb, ne_eqb}
 use Rattle.std.specs.Ordering.{nat_cmp}
 use Rattle.std.specs.FinMap as finmap
 use Rattle.std.specs.FinMap.{FinMap, entries_sorted, get-entries}
-use Rattle.std.proofs.lemmas.Bool.{false≢true, cases_Bool, cases_eq, and_parts, not-true}
+use Rattle.std.proofs.lemmas.Bool.{false≢true, and_parts, not-true}
 use Rattle.std.proofs.lemmas.List.Sums.{length-filter}
 use Rattle.w16_model.proofs.Gaps.{Member, member_filter, filter_member}
 use Rattle.w16_model.proofs.Heaps.{found_member, member_found, keys_rise}

@@ -1,17 +1,17 @@
 -- What calls on handles leave of the bytes of an object that is there: the bytes that it had, or none.
-use Rattle.std.proofs.Common.{◌≡◌, ◌≢◌, ℕ, ◌+◌, ◌-◌, inl, inr, ◌⊎◌, Bool, true, false, cond, not, if◌then◌else◌, ◌==◌, nat_lt, List, length, take, Option, Some, None, IfSome, IsSomeAnd, is_some, IfOk, Result, Ok, Err, MatchBool, refl, sym, ap, ◌∙◌, subst}
+use Rattle.std.proofs.Common.{◌≡◌, ◌≢◌, ℕ, ◌+◌, ◌-◌, inl, inr, Bool, true, false, cond, not, if◌then◌else◌, ◌==◌, nat_lt, List, take, Option, Some, None, IfSome, IsSomeAnd, is_some, IfOk, Result, Ok, Err, MatchBool, refl, sym, ap, ◌∙◌, subst}
 use Rattle.std.specs.FinMap as finmap
 use Rattle.std.proofs.lemmas.Bool.{false≢true, cases_Bool, cases_eq}
 use Rattle.w16_model.specs.declared.Kind.TheVariants.{Discardable}
 use Rattle.w16_model.specs.declared.Refusal.{Refusal}
 use Rattle.w16_model.specs.declared.Refusal.TheVariants as refusals
 use Rattle.w16_model.specs.Discards.{eligible, is_member}
-use Rattle.w16_model.specs.Heap.{Heap, Object, IsHeap, blocks, object_at, bytes_at, is_fixed}
+use Rattle.w16_model.specs.Heap.{Heap, Object, blocks, object_at, bytes_at, is_fixed}
 use Rattle.w16_model.specs.Changes.{with_object, with_ordered, with_newest, newest, oldest, touched, removed}
 use Rattle.w16_model.specs.OneObject.{Enters, after_free, after_lock, after_unlock, refused_order}
-use Rattle.w16_model.specs.Request.{IsNew, Allocates, Compacts, MakesRoom, most_room, compaction_prefix, prefix_of}
+use Rattle.w16_model.specs.Request.{IsNew, Allocates, MakesRoom, most_room, compaction_prefix, prefix_of}
 use Rattle.w16_model.specs.Handles.{Handles, AreHandles, slot_of_handle, selector_of, far_pointer}
-use Rattle.w16_model.specs.Calls.{HandleCommand, Answer, HandleStep, AnswersAlloc, GlobalCompacts, locks_at, handle_or_0, global_free, global_lock, global_unlock, global_lru_newest, global_lru_oldest, is_absent_asked, kind_asked, way_asked, rounded_size}
+use Rattle.w16_model.specs.Calls.{HandleCommand, Answer, HandleStep, AnswersAlloc, GlobalCompacts, locks_at, handle_or_0, global_free, global_lock, global_unlock, is_absent_asked, kind_asked, way_asked, rounded_size}
 use Rattle.w16_model.specs.Calls.Answer.{Word, Dword, Walked}
 use Rattle.w16_model.specs.Calls.HandleCommand.{GlobalAlloc, GlobalFree, GlobalLock, GlobalUnlock, GlobalSize, GlobalFlags, GlobalHandle, GetSelectorBase, GetSelectorLimit, GlobalCompact, GlobalLRUNewest, GlobalLRUOldest, Moved, Walk}
 use Rattle.w16_model.specs.Law.{KeepsOthers}
@@ -207,7 +207,7 @@ module _ (old : Handles) (q : ℕ) where
         made true enters = same_object old.heap new.heap q (ap (λ (h : Heap). object_at h q) enters.entered ∙ inserted_other old.heap.objects a.slot (record { kind = kind_asked flags; locks = 0; bytes = None }) q other)
         made false allocates =
             let s : (k : ℕ) × (o : Object) × _ = settled old.heap a.slot (way_asked flags) (prefix_of old.heap (rounded_size size) (Some a.slot) (way_asked flags))
-                (IsNew (way_asked flags).zero (rounded_size size) (kind_asked flags) 0) (with_newest a.slot) new.heap allocates.request in
+            (IsNew (way_asked flags).zero (rounded_size size) (kind_asked flags) 0) (with_newest a.slot) new.heap allocates.request in
             other_bytes old.heap new.heap (Some a.slot) s.0 q ((others_law old.heap new.heap are.heap s.0).0 a.slot (way_asked flags) s.1 (with_newest a.slot s.1) s.2) apart
 
     compacted : (size answer : ℕ) (new : Handles) → GlobalCompacts old size answer new → Kept new.heap

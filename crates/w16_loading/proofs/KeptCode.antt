@@ -1,7 +1,6 @@
 -- What keeps code as its files say it.
-use Rattle.std.proofs.Common.{◌≡◌, ◌≢◌, ℕ, ◌-◌, ◌<◌, inl, inr, ◌⊎◌, Bool, true, false, List, [], ◌∷◌, length, Option, Some, None, IfSome, IsSomeAnd, MatchOption, is_some, option_map, slice_get, slice_index_or, Result, Ok, Err, refl, sym, ap, ◌∙◌, subst}
-use Rattle.std.specs.List.{AllZip}
-use Rattle.std.proofs.lemmas.Bool.{false≢true, cases_eq}
+use Rattle.std.proofs.Common.{◌≡◌, ◌≢◌, ℕ, ◌-◌, inl, inr, ◌⊎◌, Bool, true, List, [], ◌∷◌, length, Option, Some, None, IfSome, IsSomeAnd, MatchOption, is_some, option_map, slice_get, slice_index_or, Ok, Err, refl, sym, ap, ◌∙◌, subst}
+use Rattle.std.proofs.lemmas.Bool.{cases_eq}
 use Rattle.std.proofs.lemmas.Slice.Zip.{AllZip-left}
 use Rattle.w16_model.specs.Heap.{Heap, Object, IsHeap, object_at, bytes_at}
 use Rattle.w16_model.specs.Changes.{with_newest}
@@ -14,14 +13,14 @@ use Rattle.w16_model.proofs.Others.{others_law}
 use Rattle.w16_store.specs.Files.{file_of}
 use Rattle.w16_loading.specs.declared.FetchFault.{FetchFault}
 use Rattle.w16_loading.specs.File.{Format, ModuleFile, SegmentData, Segment, Far, numbered}
-use Rattle.w16_loading.specs.Modules.{World, Module, IsSegmentOf, module_at, with_heap}
+use Rattle.w16_loading.specs.Modules.{World, Module, IsSegmentOf, module_at}
 use Rattle.w16_loading.specs.Fill.{Fills, FillsAll, any_way, asked_of, is_of_device}
 use Rattle.w16_loading.specs.Fetch.{Fetches, IsImage, segment_bytes, is_code}
 use Rattle.w16_loading.specs.Law.{IsWorld, IsModule, IsObjectOf, CodeIsItsFiles}
 use Rattle.w16_loading.proofs.Fetched.{refused}
-use Rattle.w16_loading.proofs.Again.{filled_object, segment_image}
+use Rattle.w16_loading.proofs.Again.{filled_object}
 use Rattle.w16_loading.proofs.Fewest.{filled_heap}
-use Rattle.w16_loading.proofs.KeptBytes.{KeepsBytes, same_object, other_bytes}
+use Rattle.w16_loading.proofs.KeptBytes.{KeepsBytes, other_bytes}
 
 -- a module has the source of another: its file, the values that were bound for it, and its slots
 pub record SameSource (m before : Module) : Type 0 where

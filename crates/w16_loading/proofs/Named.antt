@@ -1,9 +1,7 @@
 -- The world in which a load's modules have names: its handles are such, since slots were free and are different.
-use Rattle.std.proofs.Common.{◌≡◌, ◌≢◌, ℕ, false, ◌+◌, inl, inr, List, [], ◌∷◌, ◌++◌, fold, flat_map, zip, Option, Some, None, refl, sym, ap, ◌∙◌, subst}
+use Rattle.std.proofs.Common.{◌≢◌, ℕ, false, ◌+◌, inl, inr, List, [], ◌∷◌, ◌++◌, fold, flat_map, zip, None, refl, sym, ◌∙◌}
 use Rattle.std.specs.List.{AllByRecursion as Each}
-use Rattle.std.specs.FinMap as finmap
-use Rattle.w16_model.specs.Heap.{Heap, IsHeap, object_at}
-use Rattle.w16_model.specs.Handles.{Handles, AreHandles, IsFreeSlot}
+use Rattle.w16_model.specs.Handles.{AreHandles, IsFreeSlot}
 use Rattle.w16_model.proofs.Gaps.{Member, EachPair, Each-at, Each-from, Each-from_All, EachPair-from_AllPairs}
 use Rattle.w16_model.proofs.KeptHeaps.{inserted_other}
 use Rattle.w16_model.proofs.KeptHandles.{with_absent_object}
@@ -11,7 +9,6 @@ use Rattle.w16_loading.specs.File.{Segment}
 use Rattle.w16_loading.specs.Modules.{World}
 use Rattle.w16_loading.specs.Closure.{Closure, Found}
 use Rattle.w16_loading.specs.Naming.{Choice, IsChoice, all_slots, given, given_from, segments_of, with_segment, named, fills}
-use Rattle.w16_loading.specs.Law.{IsWorld}
 use Rattle.w16_loading.specs.Fewest.{LoadFewestLaw}
 use Rattle.w16_loading.proofs.Undone.{zipped, in_first, in_second, parted, chosen}
 use Rattle.w16_loading.proofs.Fewest.{all_fewest}
@@ -48,9 +45,9 @@ entered_all w (x ∷ xs) is free apart =
     entered_all (with_segment w x) xs
     (with_absent_object w.handles is (record { shared = false }) x.0 x.1.kind (with_segment w x).handles.heap free.0 (record { unused = free.0.1; entered = refl }))
     (Each-from (λ (y : ℕ × Segment). IsFreeSlot (with_segment w x).handles y.0) xs (λ y m.
-        let was : IsFreeSlot w.handles y.0 = Each-at (λ (y : ℕ × Segment). IsFreeSlot w.handles y.0) xs free.1 y m in
-        let other : x.0 ≢ y.0 = Each-at (λ (y : ℕ × Segment). x.0 ≢ y.0) xs apart.0 y m in
-        (was.0, inserted_other w.handles.heap.objects x.0 (record { kind = x.1.kind; locks = 0; bytes = None }) y.0 (λ e. other (sym e)) ∙ was.1)))
+    let was : IsFreeSlot w.handles y.0 = Each-at (λ (y : ℕ × Segment). IsFreeSlot w.handles y.0) xs free.1 y m in
+    let other : x.0 ≢ y.0 = Each-at (λ (y : ℕ × Segment). x.0 ≢ y.0) xs apart.0 y m in
+    (was.0, inserted_other w.handles.heap.objects x.0 (record { kind = x.1.kind; locks = 0; bytes = None }) y.0 (λ e. other (sym e)) ∙ was.1)))
     apart.1
 
 pub free_slot : (old : World) (closure : Closure) (choice : Choice) → IsChoice old closure.found choice → (q : ℕ) → Member q (all_slots choice) → IsFreeSlot old.handles q

@@ -1,5 +1,5 @@
 -- A refused load leaves all but its discards as it was.
-use Rattle.std.proofs.Common.{◌≡◌, ◌≢◌, ℕ, ◌+◌, ◌<◌, ◌≤◌, inl, inr, ◌⊎◌, Bool, true, false, cond, not, ◌&&◌, ◌||◌, nat_lt, List, [], ◌∷◌, ◌++◌, length, fold, flat_map, filter_map, zip, slice_index_or, take, All, Option, Some, None, IfSome, IsSomeAnd, MatchResult, Result, Ok, Err, refl, sym, ap, ◌∙◌, subst, arith}
+use Rattle.std.proofs.Common.{◌≡◌, ◌≢◌, ℕ, ◌+◌, ◌<◌, ◌≤◌, inl, inr, ◌⊎◌, Bool, true, false, cond, not, ◌&&◌, ◌||◌, nat_lt, List, [], ◌∷◌, length, fold, flat_map, filter_map, zip, slice_index_or, take, All, Option, Some, None, IfSome, IsSomeAnd, MatchResult, Result, Ok, Err, refl, sym, ap, ◌∙◌, subst, arith}
 use Rattle.std.specs.List.{AllByRecursion as Each, cons_option}
 use Rattle.std.specs.FinMap as finmap
 use Rattle.std.proofs.lemmas.Bool.{false≢true, cases_Bool}
@@ -8,13 +8,13 @@ use Rattle.w16_model.specs.Discards.{eligible, is_member}
 use Rattle.w16_model.specs.Heap.{Heap, Object, IsHeap, blocks, object_at, is_fixed}
 use Rattle.w16_model.specs.Changes.{with_newest, with_ordered, absent}
 use Rattle.w16_model.specs.Request.{Settles, prefix_of, discarded, stays_for}
-use Rattle.w16_model.proofs.Gaps.{Member, Each-at, Each-from, Each-from_All}
+use Rattle.w16_model.proofs.Gaps.{Member, Each-from, Each-from_All}
 use Rattle.w16_model.proofs.Discards.{is_member-true, true-is_member}
 use Rattle.w16_model.proofs.KeptHandles.{settled}
 use Rattle.w16_loading.specs.declared.TheConstants.{FIRST_MODULE, MOST_MODULES, MOST_USES}
 use Rattle.w16_loading.specs.declared.FetchFault.{FetchFault}
 use Rattle.w16_loading.specs.File.{Format, Segment, SegmentData, Far}
-use Rattle.w16_loading.specs.Modules.{World, Module, Modules, Named, IsFreeModule, with_heap}
+use Rattle.w16_loading.specs.Modules.{World, Module, Named, IsFreeModule, with_heap}
 use Rattle.w16_loading.specs.Modules.Named.{Loaded, BuiltIn}
 use Rattle.w16_loading.specs.Fill.{Fills, FillsAll, any_way, asked_of, is_of_device}
 use Rattle.w16_loading.specs.Release.{heap_without}
@@ -22,8 +22,8 @@ use Rattle.w16_loading.specs.Closure.{Closure, Found, Reading, reading, around}
 use Rattle.w16_loading.specs.Closure.Reading.{Refused, Meant, Read}
 use Rattle.w16_loading.specs.Closure.Referent.{There, New}
 use Rattle.w16_loading.specs.Naming.{Choice, IsChoice, Given, all_slots, given, given_from, segments_of, with_segment, with_modules, bound, named, filled_at_once, fills_of, fills}
-use Rattle.w16_loading.specs.Load.{Answer, Refuses, Loads, LoadsFile, LoadsNew, Fulfils, used_again, after_use, undone, left, outcome_of}
-use Rattle.w16_loading.specs.Load.Answer.{Says, StoreFails}
+use Rattle.w16_loading.specs.Load.{Answer, Refuses, LoadsFile, LoadsNew, Fulfils, used_again, after_use, undone, left, outcome_of}
+use Rattle.w16_loading.specs.Load.Answer.{Says}
 use Rattle.w16_loading.specs.Law.{IsWorld, IsKeptAt, OnlyDiscards, IsRefusal, RefusedLoadLaw}
 use Rattle.w16_loading.proofs.Undone.{zipped, in_first, in_second, parted, chosen, IsNamed, fold_named}
 use Rattle.w16_loading.proofs.Fetched.{refused}

@@ -1,10 +1,10 @@
 -- What a load's requests promise of discards, one by one.
 use Rattle.std.specs.Prelude.{◌≡◌, ◌≢◌, ℕ, ◌⊎◌, true, false, List, [], ◌∷◌, length, Option, Some, None}
-use Rattle.w16_model.specs.Heap.{Heap, IsHeap}
+use Rattle.w16_model.specs.Heap.{Heap}
 use Rattle.w16_model.specs.Fewest.{AllocatesFewest}
 use Rattle.w16_loading.specs.declared.FetchFault.{FetchFault}
 use Rattle.w16_loading.specs.declared.FetchFault.TheVariants.{NoRoom}
-use Rattle.w16_loading.specs.File.{Format, IsFormat}
+use Rattle.w16_loading.specs.File.{Format}
 use Rattle.w16_loading.specs.Modules.{World}
 use Rattle.w16_loading.specs.Fill.{FillsAll, any_way, is_of_device}
 use Rattle.w16_loading.specs.Naming.{Choice, IsChoice, named, fills}
