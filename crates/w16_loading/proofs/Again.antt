@@ -1,14 +1,16 @@
 -- Code that is fetched has the bytes that it had.
-use Rattle.std.proofs.Common.{◌≡◌, ℕ, inl, inr, true, List, [], ◌∷◌, length, Option, Some, None, IfSome, refl, sym, ap, ◌∙◌, subst}
+use Rattle.std.proofs.Common.{◌≡◌, ◌⊎◌, ℕ, inl, inr, true, List, [], ◌∷◌, length, Option, Some, None, IfSome, refl, sym, ap, ◌∙◌, subst}
 use Rattle.std.proofs.lemmas.Bool.{false≢true}
 use Rattle.w16_model.specs.Heap.{Heap, Object, object_at, bytes_at}
 use Rattle.w16_model.specs.Request.{Request, discarded, prefix_of}
 use Rattle.w16_model.proofs.KeptHeaps.{inserted_here}
+use Rattle.w16_loading.specs.declared.FetchFault.{FetchFault}
+use Rattle.w16_loading.specs.declared.FetchFault.TheVariants as faults
 use Rattle.w16_loading.specs.File.{Format}
 use Rattle.w16_loading.specs.Modules.{World, Module, Modules, IsSegmentOf, module_at}
 use Rattle.w16_loading.specs.Fill.{Fills, FillsAll, any_way, asked_of, is_of_device}
 use Rattle.w16_loading.specs.Fetch.{IsImage, segment_bytes}
-use Rattle.w16_loading.specs.Law.{IsWorld, FetchAgainLaw}
+use Rattle.w16_loading.specs.Law.{IsWorld, FetchAgainLaw, FetchFaultsLaw}
 
 -- an object that was filled is as before, with these bytes
 pub filled_object : (old : Heap) (slot : ℕ) (bytes : List ℕ) (new : Heap) → (f : Fills old slot bytes true new) → object_at new slot ≡ Some (record f.before { bytes = Some bytes })
@@ -48,3 +50,17 @@ fetch_again_law format before absent after slot handle number m bytes is code se
 
     had : segment_bytes format before m number ≡ Some bytes
     had = subst (λ p. IfSome p (λ b. segment_bytes format before m number ≡ Some b)) has (code slot handle number m segment coded)
+
+-- what refuses a fetch
+pub fetch_faults_law : FetchFaultsLaw
+fetch_faults_law format old new slot fault f = turn f.filled
+  where
+    by_device : (failure : FetchFault) → is_of_device failure ≡ true → failure ≡ faults.Store
+    by_device faults.NoRoom t = absurd (false≢true t)
+    by_device faults.Store t = refl
+    by_device faults.Damaged t = absurd (false≢true t)
+
+    turn : FillsAll is_of_device old.handles.heap ((slot, f.bytes) ∷ []) (Some fault) new.handles.heap → (fault ≡ faults.Store) ⊎ (fault ≡ faults.NoRoom)
+    turn (inl h) = let same : fault ≡ h.0 = cc in inl (same ∙ by_device h.0 h.1)
+    turn (inr (inl h)) = let same : fault ≡ faults.NoRoom = cc in inr same
+    turn (inr (inr h)) = cc

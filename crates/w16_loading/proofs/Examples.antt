@@ -4,11 +4,12 @@ use Rattle.w16_loading.specs.File.{Format, ModuleFile}
 use Rattle.w16_store.specs.Names.{is_named}
 use Rattle.w16_store.specs.Files.{file_of}
 use Rattle.w16_model.specs.declared.Kind.TheVariants.{Moveable}
-use Rattle.w16_loading.specs.Modules.{World, Module}
+use Rattle.w16_loading.specs.Modules.{World, Module, usage_with, importers_among}
 use Rattle.w16_loading.specs.Modules.Named.{Loaded, BuiltIn}
+use Rattle.w16_loading.specs.Naming.{Choice, Given, unbound}
 use Rattle.w16_loading.specs.Load.{used_again, after_use}
 use Rattle.w16_loading.specs.Load.Answer.{Says}
-use Rattle.w16_loading.specs.Closure.{Found, Around, reading, begun, after}
+use Rattle.w16_loading.specs.Closure.{Found, Around, Closure, reading, begun, after}
 use Rattle.w16_loading.specs.Closure.Referent.{There, New}
 use Rattle.w16_loading.specs.Closure.Reading.{Refused, Meant}
 
@@ -156,3 +157,30 @@ full old = refl
 -- a built-in is never full
 never_full : (old : World) → used_again true old 33 (Some (BuiltIn (codes "KERNEL"))) ≡ (Says 33, old)
 never_full old = refl
+
+-- Uses: the module asked for begins with one, the others with none; importers count beside them, and a built-in has importers alone.
+abbrev new_module : ℕ → Given
+new_module place = record { place = place; found = found_as (codes "L.DLL") (codes "L") []; handle = 33; slots = [] }
+
+asked_for : (closure : Closure) (choice : Choice) → (unbound closure choice (new_module 0)).uses ≡ 1
+asked_for closure choice = refl
+
+brought_in : (closure : Closure) (choice : Choice) → (unbound closure choice (new_module 1)).uses ≡ 0
+brought_in closure choice = refl
+
+used_by_two : usage_with (Some (Loaded (application 0))) 2 ≡ 2
+used_by_two = refl
+
+used_by_both : usage_with (Some (Loaded (application 3))) 2 ≡ 5
+used_by_both = refl
+
+used_built_in : usage_with (Some (BuiltIn (codes "KERNEL"))) 2 ≡ 2
+used_built_in = refl
+
+-- a module doesn't import itself: the references of one that names itself mean it, and it isn't its importer
+own : importers_among ((33, Loaded (record (application 1) { imports = 33 ∷ [] })) ∷ []) 33 ≡ 0
+own = refl
+
+-- and one that names another twice is one importer
+twice_named : importers_among ((33, Loaded (record (application 1) { imports = 34 ∷ 34 ∷ [] })) ∷ (34, Loaded (application 0)) ∷ []) 34 ≡ 1
+twice_named = refl

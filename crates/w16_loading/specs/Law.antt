@@ -13,6 +13,7 @@ use Rattle.w16_model.specs.declared.Kind.{Kind}
 use Rattle.w16_model.specs.Law.{KeepsOthers}
 use Rattle.w16_loading.specs.declared.TheConstants.{FIRST_MODULE, MOST_MODULES, MOST_USES}
 use Rattle.w16_loading.specs.declared.FetchFault.{FetchFault}
+use Rattle.w16_loading.specs.declared.FetchFault.TheVariants as faults
 use Rattle.w16_store.specs.Names.{is_named}
 use Rattle.w16_loading.specs.File.{Format, IsFormat, Segment}
 use Rattle.w16_loading.specs.Modules.{with_heap, World, Module, Load, Named, IsSegmentOf, IsResourceOf, name_of, module_at, usage, importers}
@@ -148,6 +149,10 @@ FetchLaw = (format : Format) (old new : World) (slot : ℕ) (fault : Option Fetc
 -- a fetch that is refused leaves the same world
 abbrev pub FetchRefusedLaw : Type 0
 FetchRefusedLaw = (format : Format) (old new : World) (slot : ℕ) (fault : FetchFault) → Fetches format old slot (Some fault) new → new ≡ old
+
+-- files that stay never read otherwise than they did: only the device and want of room refuse a fetch
+abbrev pub FetchFaultsLaw : Type 0
+FetchFaultsLaw = (format : Format) (old new : World) (slot : ℕ) (fault : FetchFault) → Fetches format old slot (Some fault) new → (fault ≡ faults.Store) ⊎ (fault ≡ faults.NoRoom)
 
 -- Explicit uses and importers are counted apart. Whoever takes uses of a module away that others import, it stays, and all else with it; and
 -- where it has no explicit use, nothing at all changes.

@@ -136,8 +136,11 @@ imports (Loaded m) handle = is_member handle m.imports
 imports (BuiltIn name) handle = false
 
 -- how many other modules import it
+abbrev pub importers_among : List (ℕ × Named) → ℕ → ℕ
+importers_among entries handle = count_by (λ e. not (e.0 == handle) && imports e.1 handle) entries
+
 abbrev pub importers : Modules → ℕ → ℕ
-importers modules handle = count_by (λ e. not (e.0 == handle) && imports e.1 handle) (finmap.entries modules)
+importers modules handle = importers_among (finmap.entries modules) handle
 
 -- GetModuleUsage: explicit uses and importers; 0 for a bad handle
 abbrev pub usage_with : Option Named → ℕ → ℕ

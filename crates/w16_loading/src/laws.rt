@@ -1,6 +1,6 @@
 //! The laws of the definitions. Each function does nothing: its contract is the law.
 ghost use Rattle.w16_loading.specs.Fewest.{LoadFewestLaw, FetchFewestLaw};
-ghost use Rattle.w16_loading.specs.Law.{CodeLaw, RefusedLoadLaw, OneEndLaw, UsesApartLaw, FetchAgainLaw, FetchLaw, FetchRefusedLaw, OneClosureLaw, EarlyRefusalLaw, FillLaw, EmptyLaw, ClosureEndsLaw, UndoneLaw, FillsLaw, BoundOnceLaw};
+ghost use Rattle.w16_loading.specs.Law.{FetchFaultsLaw, CodeLaw, RefusedLoadLaw, OneEndLaw, UsesApartLaw, FetchAgainLaw, FetchLaw, FetchRefusedLaw, OneClosureLaw, EarlyRefusalLaw, FillLaw, EmptyLaw, ClosureEndsLaw, UndoneLaw, FillsLaw, BoundOnceLaw};
 
 /// A fetch takes the bytes of what it discards, and keeps all else of the other objects.
 pub fn fetches_keep_others()
@@ -85,4 +85,9 @@ pub fn refused_loads_leave_discards()
 /// Code that has bytes has those that its file gives it, relocated, after each step of each family, whatever was moved, discarded or fetched.
 pub fn code_reads_as_its_file()
     ensures { CodeLaw }
+{}
+
+/// Over files that stay, only the device and want of room refuse a fetch.
+pub fn fetches_are_never_damaged()
+    ensures { FetchFaultsLaw }
 {}
