@@ -16,7 +16,7 @@ use Rattle.w16_loading.specs.Load.{Answer, Refuses, Loads, LoadsFile, LoadsNew, 
 use Rattle.w16_loading.specs.Load.Answer.{Says}
 use Rattle.w16_loading.specs.Fetch.{Reply}
 use Rattle.w16_loading.specs.Machine.{Command, FamilyStep, HandleStep, ByHandles, ModuleCommand, ModuleStep, ResourceCommand, ResourceStep, owns, word}
-use Rattle.w16_loading.specs.Law.{IsWorld, CodeIsItsFiles, CodeLaw}
+use Rattle.w16_loading.specs.Law.{IsWorld, IsOfFiles, CodeLaw}
 use Rattle.w16_loading.proofs.RefusedLoad.{undone_discards}
 use Rattle.w16_loading.proofs.KeptBytes.{kept_bytes}
 use Rattle.w16_loading.proofs.KeptCode.{code_kept}
@@ -25,7 +25,7 @@ use Rattle.w16_loading.proofs.CodeLoads.{AreOfFiles, found_of_files, loaded_code
 
 module _ (format : Format) where
   abbrev Good : World → Type 0
-  Good world = CodeIsItsFiles format world
+  Good world = IsOfFiles format world
 
   -- Loads.
 
@@ -104,7 +104,7 @@ module _ (format : Format) where
 
   -- the count of failures says nothing of code
   counted : (world : World) (failures : ℕ) → Good (record world { failures = failures }) → Good world
-  counted world failures good slot handle number m s coded = good slot handle number m (record { loaded = s.loaded; has = s.has }) coded
+  counted world failures good = record { code = λ slot handle number m s coded. good.code slot handle number m (record { loaded = s.loaded; has = s.has }) coded; tables = good.tables }
 
 pub code_law : CodeLaw
 code_law format old new command reply is good step = counted format new old.failures (stepped format old (record new { failures = old.failures }) is command reply step.step good)

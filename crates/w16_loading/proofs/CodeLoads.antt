@@ -1,5 +1,5 @@
 -- A load gives code the bytes that its files say, and leaves all other code as it was.
-use Rattle.std.proofs.Common.{◌≡◌, ◌≢◌, ℕ, zero, suc, ◌+◌, ◌-◌, ◌<◌, inl, inr, ◌⊎◌, Bool, true, false, cond, ◌==◌, ◌||◌, nat_lt, List, [], ◌∷◌, ◌++◌, length, fold, flat_map, filter_map, zip, slice_get, slice_index_or, Option, Some, None, IfSome, is_some, option_map, unwrap_or, Result, Ok, Err, IfOk, refl, sym, ap, ◌∙◌, subst, arith, ne_eqb}
+use Rattle.std.proofs.Common.{◌≡◌, ◌≢◌, ℕ, zero, suc, ◌+◌, ◌-◌, ◌<◌, inl, inr, ◌⊎◌, Bool, true, false, cond, ◌==◌, ◌||◌, nat_lt, List, [], ◌∷◌, ◌++◌, length, fold, flat_map, filter_map, zip, slice_get, slice_index_or, Option, Some, None, IfSome, IsSomeAnd, is_some, option_map, unwrap_or, Result, Ok, Err, IfOk, refl, sym, ap, ◌∙◌, subst, arith, ne_eqb}
 use Rattle.std.specs.List.{AllByRecursion as Each, cons_option}
 use Rattle.std.specs.FinMap as finmap
 use Rattle.std.proofs.lemmas.Bool.{false≢true, cases_eq}
@@ -14,8 +14,8 @@ use Rattle.w16_loading.specs.Closure.{Around, Closure, Found, Reading, Referent,
 use Rattle.w16_loading.specs.Closure.Reading.{Refused, Meant, Read}
 use Rattle.w16_loading.specs.Closure.Referent.{New}
 use Rattle.w16_loading.specs.Naming.{Choice, IsChoice, Given, all_slots, given, given_from, segments_of, with_segment, with_modules, bound, named, filled_at_once, fills_of, fills}
-use Rattle.w16_loading.specs.Fetch.{segment_bytes, is_code}
-use Rattle.w16_loading.specs.Law.{IsWorld, CodeIsItsFiles}
+use Rattle.w16_loading.specs.Fetch.{read_of, segment_bytes, is_code}
+use Rattle.w16_loading.specs.Law.{IsWorld, CodeIsItsFiles, TablesAreItsFiles, IsOfFiles}
 use Rattle.w16_loading.proofs.Undone.{in_first, in_second, parted, chosen, fold_named}
 use Rattle.w16_loading.proofs.Named.{apart_after, named_handles, free_slot}
 use Rattle.w16_loading.proofs.RefusedLoad.{filled_chosen}
@@ -348,8 +348,8 @@ module _ (format : Format) (old : World) (is : IsWorld old) (closure : Closure) 
           let one : by.0 ≡ g = one_given 0 closure.found choice.handles choice.slots g by.0 slot segments_apart member by.1 mine (place_member by.0.slots by.2.place slot by.2.slot_at) in
           imaged b (subst (λ (h : Given). IsImageAt module_of h slot b) one by.2)
 
-  pub loaded_code : CodeIsItsFiles format old → CodeIsItsFiles format new
-  loaded_code code slot handle number m s coded = turn (new_or_old module_of gs old.modules handle m s.loaded)
+  loaded_bytes : CodeIsItsFiles format old → CodeIsItsFiles format new
+  loaded_bytes code slot handle number m s coded = turn (new_or_old module_of gs old.modules handle m s.loaded)
     where
       some : number ≡ 0 → ⊥
       some e = let lt : 0 < number = s.has.0 in absurd (omega (arith, lt, e))
@@ -358,3 +358,16 @@ module _ (format : Format) (old : World) (is : IsWorld old) (closure : Closure) 
       turn (inl r) = subst (λ (x : Module). IfSome (bytes_at heap slot) (λ b. segment_bytes format new x number ≡ Some b)) (sym r.3)
           (new_code slot number r.0 r.1 some (ap (λ (x : Module). slice_get x.slots (number - 1)) (sym r.3) ∙ s.has.1))
       turn (inr loaded) = old_code code slot handle number m (record { loaded = loaded; has = s.has }) coded
+
+  loaded_tables : TablesAreItsFiles format old → TablesAreItsFiles format new
+  loaded_tables tables handle m loaded = turn (new_or_old module_of gs old.modules handle m loaded)
+    where
+      read : (g : Given) → Member g gs → read_in format new.files g.found.file ≡ Some g.found.read
+      read g member = ap (λ f. read_in format f g.found.file) files ∙ Each-at (IsOfFile format (around old)) closure.found of_files g.found (given_found 0 closure.found choice.handles choice.slots g member)
+
+      turn : ((g : Given) × Member g gs × (g.handle ≡ handle) × (m ≡ module_of g)) ⊎ (module_at old.modules handle ≡ Some m) → IsSomeAnd (read_of format new m) (λ r. r.tables ≡ m.tables)
+      turn (inl r) = subst (λ (x : Module). IsSomeAnd (read_of format new x) (λ r. r.tables ≡ x.tables)) (sym r.3) (subst (λ p. IsSomeAnd p (λ f. f.tables ≡ r.0.found.read.tables)) (sym (read r.0 r.1)) refl)
+      turn (inr there) = subst (λ p. IsSomeAnd p (λ r. r.tables ≡ m.tables)) (ap (λ f. read_in format f m.file) (sym files)) (tables handle m there)
+
+  pub loaded_code : IsOfFiles format old → IsOfFiles format new
+  loaded_code of = record { code = loaded_bytes of.code; tables = loaded_tables of.tables }

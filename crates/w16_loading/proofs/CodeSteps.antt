@@ -33,7 +33,7 @@ use Rattle.w16_loading.specs.Fetch.Reply.{Plain, Failed}
 use Rattle.w16_loading.specs.Free.{Go, Frees, used_less, without_module, swept, is_left_over}
 use Rattle.w16_loading.specs.Machine.{ByHandles, FarStep, AddsBuiltIn, GivesBuiltIn, built_in}
 use Rattle.w16_loading.specs.Resource.{LoadsResource, LoadsNewResource, LocksResource, resource_at, load_of, loaded_again, with_resource, resource_outcome, locked, lock_outcome, slot_of_resource, free_resource}
-use Rattle.w16_loading.specs.Law.{IsWorld, CodeIsItsFiles}
+use Rattle.w16_loading.specs.Law.{IsWorld, IsOfFiles}
 use Rattle.w16_loading.proofs.Undone.{retained}
 use Rattle.w16_loading.proofs.Again.{segment_image}
 use Rattle.w16_loading.proofs.Apart.{loaded_is}
@@ -44,7 +44,7 @@ use Rattle.w16_loading.proofs.KeptCode.{KeepsCode, SameSource, FetchesCode, code
 
 module _ (format : Format) where
   abbrev Good : World → Type 0
-  Good world = CodeIsItsFiles format world
+  Good world = IsOfFiles format world
 
   -- a world with another heap
   pub heap_kept : (old : World) (heap : Heap) → ((q : ℕ) → is_code old q ≡ true → KeepsBytes old.handles.heap heap q) → KeepsCode format old (with_heap old heap)
@@ -180,7 +180,7 @@ module _ (format : Format) where
   ])
     where
       source : (n : Module) → Some n ≡ Some (record m { uses = uses }) → SameSource n m
-      source n e = let f : n ≡ record m { uses = uses } = cc in record { file = ap (λ (x : Module). x.file) f; values = ap (λ (x : Module). x.values) f; slots = ap (λ (x : Module). x.slots) f }
+      source n e = let f : n ≡ record m { uses = uses } = cc in record { file = ap (λ (x : Module). x.file) f; values = ap (λ (x : Module). x.values) f; slots = ap (λ (x : Module). x.slots) f; tables = ap (λ (x : Module). x.tables) f }
 
   -- objects that go
   released_code : (gone : ℕ → Bool) (old : World) → KeepsCode format old (without_objects gone old)

@@ -15,8 +15,8 @@ use Rattle.w16_loading.specs.declared.FetchFault.{FetchFault}
 use Rattle.w16_loading.specs.File.{Format, ModuleFile, SegmentData, Segment, Far, numbered}
 use Rattle.w16_loading.specs.Modules.{World, Module, IsSegmentOf, module_at}
 use Rattle.w16_loading.specs.Fill.{Fills, FillsAll, any_way, asked_of, is_of_device}
-use Rattle.w16_loading.specs.Fetch.{Fetches, IsImage, segment_bytes, is_code}
-use Rattle.w16_loading.specs.Law.{IsWorld, IsModule, IsObjectOf, CodeIsItsFiles}
+use Rattle.w16_loading.specs.Fetch.{Fetches, IsImage, read_of, segment_bytes, is_code}
+use Rattle.w16_loading.specs.Law.{IsWorld, IsModule, IsObjectOf, CodeIsItsFiles, TablesAreItsFiles, IsOfFiles}
 use Rattle.w16_loading.proofs.Fetched.{refused}
 use Rattle.w16_loading.proofs.Again.{filled_object}
 use Rattle.w16_loading.proofs.Fewest.{filled_heap}
@@ -27,6 +27,7 @@ pub record SameSource (m before : Module) : Type 0 where
   pub file : m.file ≡ before.file
   pub values : m.values ≡ before.values
   pub slots : m.slots ≡ before.slots
+  pub tables : m.tables ≡ before.tables
 
 -- of each segment that is code: its bytes are those that it had, or those of its file, or it has none
 pub record KeepsCode (format : Format) (old new : World) : Type 0 where
@@ -49,8 +50,8 @@ image_of format files file values number = elim (read_in format files file) [
   | Some read ↦ option_map (λ (s : SegmentData). s.image (slice_index_or values (number - 1) [])) (numbered read.segments number)
 ]
 
-pub code_kept : (format : Format) (old new : World) → KeepsCode format old new → CodeIsItsFiles format old → CodeIsItsFiles format new
-code_kept format old new keeps code slot handle number m segment coded = turn (bytes_at new.handles.heap slot) (keeps.bytes slot handle number was.0 before (keeps.coded slot coded))
+bytes_kept : (format : Format) (old new : World) → KeepsCode format old new → CodeIsItsFiles format old → CodeIsItsFiles format new
+bytes_kept format old new keeps code slot handle number m segment coded = turn (bytes_at new.handles.heap slot) (keeps.bytes slot handle number was.0 before (keeps.coded slot coded))
   where
     was : (before : Module) × (module_at old.modules handle ≡ Some before) × SameSource m before
     was = keeps.modules handle m segment.loaded
@@ -66,9 +67,21 @@ code_kept format old new keeps code slot handle number m segment coded = turn (b
     turn (Some b) (inl e) = same ∙ subst (λ p. IfSome p (λ b. segment_bytes format old was.0 number ≡ Some b)) e (code slot handle number was.0 before (keeps.coded slot coded))
     turn (Some b) (inr e) = same ∙ e
 
+tables_kept : (format : Format) (old new : World) → KeepsCode format old new → TablesAreItsFiles format old → TablesAreItsFiles format new
+tables_kept format old new keeps tables handle m loaded =
+    let was : (before : Module) × (module_at old.modules handle ≡ Some before) × SameSource m before = keeps.modules handle m loaded in
+    turn was.0 was.2 (read_of format old was.0) (λ i. read_in format (keeps.files i) (was.2.file i)) (tables handle was.0 was.1)
+  where
+    turn : (before : Module) → SameSource m before → (p : Option ModuleFile) → read_of format new m ≡ p → IsSomeAnd p (λ read. read.tables ≡ before.tables) → IsSomeAnd (read_of format new m) (λ read. read.tables ≡ m.tables)
+    turn before same None e h = absurd h
+    turn before same (Some read) e h = subst (λ p. IsSomeAnd p (λ read. read.tables ≡ m.tables)) (sym e) (h ∙ sym same.tables)
+
+pub code_kept : (format : Format) (old new : World) → KeepsCode format old new → IsOfFiles format old → IsOfFiles format new
+code_kept format old new keeps good = record { code = bytes_kept format old new keeps good.code; tables = tables_kept format old new keeps good.tables }
+
 -- modules that are the same
 pub same_source : (m : Module) → SameSource m m
-same_source m = record { file = refl; values = refl; slots = refl }
+same_source m = record { file = refl; values = refl; slots = refl; tables = refl }
 
 -- bytes that are kept
 pub as_it_was : (format : Format) (old : World) (new : Heap) (slot number : ℕ) (m : Module) → KeepsBytes old.handles.heap new slot

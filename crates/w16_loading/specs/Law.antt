@@ -22,7 +22,7 @@ use Rattle.w16_loading.specs.Closure.{Around, Closure, Closes}
 use Rattle.w16_loading.specs.Naming.{Choice, IsChoice, named}
 use Rattle.w16_loading.specs.Load.{Answer, Loads, undone}
 use Rattle.w16_loading.specs.Load.Answer.{Says, StoreFails}
-use Rattle.w16_loading.specs.Fetch.{Reply, Fetches, segment_bytes, is_code}
+use Rattle.w16_loading.specs.Fetch.{Reply, Fetches, read_of, segment_bytes, is_code}
 use Rattle.w16_loading.specs.Free.{Go, Frees, used_less}
 use Rattle.w16_loading.specs.Resource.{resource_at}
 use Rattle.w16_loading.specs.Machine.{Command, Step}
@@ -62,6 +62,14 @@ abbrev pub CodeIsItsFiles : Format → World → Type 0
 CodeIsItsFiles format world = (slot handle number : ℕ) (m : Module) → IsSegmentOf world slot handle number m → is_code world slot ≡ true
     → IfSome (bytes_at world.handles.heap slot) (λ bytes. segment_bytes format world m number ≡ Some bytes)
 
+-- and the tables of each module are those of its file
+abbrev pub TablesAreItsFiles : Format → World → Type 0
+TablesAreItsFiles format world = (handle : ℕ) (m : Module) → module_at world.modules handle ≡ Some m → IsSomeAnd (read_of format world m) (λ read. read.tables ≡ m.tables)
+
+pub record IsOfFiles (format : Format) (world : World) : Type 0 where
+  pub code : CodeIsItsFiles format world
+  pub tables : TablesAreItsFiles format world
+
 -- Laws.
 
 -- the world over a memory and a store, with so many slots, in which nothing is loaded, is one
@@ -77,7 +85,7 @@ KeepsWorldsLaw = (format : Format) (old new : World) (command : Command) (reply 
 
 -- the code that a script reads is always its file's, relocated
 abbrev pub CodeLaw : Type 0
-CodeLaw = (format : Format) (old new : World) (command : Command) (reply : Reply) → IsWorld old → CodeIsItsFiles format old → Step format old command reply new → CodeIsItsFiles format new
+CodeLaw = (format : Format) (old new : World) (command : Command) (reply : Reply) → IsWorld old → IsOfFiles format old → Step format old command reply new → IsOfFiles format new
 
 -- what was bound at load stays until the module goes
 abbrev pub BoundOnceLaw : Type 0
