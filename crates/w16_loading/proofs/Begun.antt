@@ -4,8 +4,8 @@ use Rattle.std.specs.Ordering.{nat_cmp}
 use Rattle.std.specs.FinMap as finmap
 use Rattle.std.specs.FinMap.{get-empty}
 use Rattle.w16_model.proofs.Empty as handles
-use Rattle.w16_loading.specs.Modules.{Named, module_in}
-use Rattle.w16_loading.specs.Law.{EmptyLaw}
+use Rattle.w16_loading.specs.Modules.{Module, Named, module_in}
+use Rattle.w16_loading.specs.Law.{EmptyLaw, EmptyOfFilesLaw}
 
 -- nothing is under any key
 none : {X : Type 0} (q : ℕ) → finmap.get (finmap.empty {X = X} {R = nat_cmp}) q ≡ None
@@ -32,4 +32,11 @@ empty_law memory slots files failures few = record {
   one_object = λ s t handle place m n x y. let h : ◌≡◌ {A = Option _} None (Some m) = sym (no_module handle) ∙ x.loaded in cc;
   no_resource = λ slot a i b j m n x y. let h : ◌≡◌ {A = Option _} None (Some m) = sym (no_module a) ∙ x.loaded in cc;
   owners = λ q. if_none _ _ (none q);
+}
+
+-- and nothing there is of another file
+pub empty_of_files_law : EmptyOfFilesLaw
+empty_of_files_law format memory slots files failures = record {
+  code = λ slot handle number m s coded. let h : ◌≡◌ {A = Option Module} None (Some m) = sym (no_module handle) ∙ s.loaded in cc;
+  tables = λ handle m e. let h : ◌≡◌ {A = Option Module} None (Some m) = sym (no_module handle) ∙ e in cc;
 }

@@ -25,7 +25,7 @@ use Rattle.w16_loading.specs.Load.Answer.{Says, StoreFails}
 use Rattle.w16_loading.specs.Fetch.{Reply, Fetches, read_of, segment_bytes, is_code}
 use Rattle.w16_loading.specs.Free.{Go, Frees, used_less}
 use Rattle.w16_loading.specs.Resource.{resource_at}
-use Rattle.w16_loading.specs.Machine.{Command, Step}
+use Rattle.w16_loading.specs.Machine.{Command, IsCommand, Step}
 
 -- Worlds.
 
@@ -79,9 +79,14 @@ empty_world memory slots files failures = record { handles = empty_handles memor
 abbrev pub EmptyLaw : Type 0
 EmptyLaw = (memory slots : ℕ) (files : List (List ℕ × List ℕ)) (failures : ℕ) → slots ≤ MOST_SLOTS → IsWorld (empty_world memory slots files failures)
 
--- a step keeps what holds of every world
+-- in which all is of its files
+abbrev pub EmptyOfFilesLaw : Type 0
+EmptyOfFilesLaw = (format : Format) (memory slots : ℕ) (files : List (List ℕ × List ℕ)) (failures : ℕ) → IsOfFiles format (empty_world memory slots files failures)
+
+-- A step keeps what holds of every world. The files are asked for since what a fetch gives has the size that the file says, and the world
+-- the size that it said at load.
 abbrev pub KeepsWorldsLaw : Type 0
-KeepsWorldsLaw = (format : Format) (old new : World) (command : Command) (reply : Reply) → IsFormat format → IsWorld old → Step format old command reply new → IsWorld new
+KeepsWorldsLaw = (format : Format) (old new : World) (command : Command) (reply : Reply) → IsFormat format → IsWorld old → IsOfFiles format old → IsCommand command → Step format old command reply new → IsWorld new
 
 -- the code that a script reads is always its file's, relocated
 abbrev pub CodeLaw : Type 0

@@ -4,7 +4,7 @@ use Rattle.std.specs.FinMap as finmap
 use Rattle.w16_model.specs.Handles.{Handles, slot_of_handle, selector_in, offset_in, dword_of}
 use Rattle.w16_model.specs.Bytes.{repeated}
 use Rattle.w16_model.specs.Calls.{HandleCommand}
-use Rattle.w16_model.specs.Far.{FarCommand}
+use Rattle.w16_model.specs.Far.{FarCommand, IsFarCommand}
 use Rattle.w16_model.specs.Far.FarCommand.{Read, Write, Fill}
 use Rattle.w16_machine.specs.Machine as machine
 use Rattle.w16_machine.specs.Machine.{HandleReplies}
@@ -42,6 +42,13 @@ pub data Command : Type 0 where
   OfFar : FarCommand → Command
   OfModules : ModuleCommand → Command
   OfResources : ResourceCommand → Command
+
+-- its numbers are in their range, where they have one
+abbrev pub IsCommand : Command → Type 0
+IsCommand (OfHandles command) = Unit {0}
+IsCommand (OfFar command) = IsFarCommand command
+IsCommand (OfModules command) = Unit {0}
+IsCommand (OfResources command) = Unit {0}
 
 abbrev pub word : ℕ → Reply
 word n = Plain (machine.Reply.Word n)
