@@ -132,7 +132,12 @@ fn run(rt: &(impl Clock + Eprint), alloc: Global, name: &str, load: Load, turns:
     eprintln!(rt; "{name}:")?;
     let start = Instant::now(rt)?;
     check_all(&mut store, &module, &mut scratch, 1)?;
-    tell(rt, "check a site, in a new scratch", start, u64::from(sites))?;
+    tell(
+        rt,
+        "check a site, in a new scratch",
+        start,
+        u64::from(sites),
+    )?;
     let start = Instant::now(rt)?;
     check_all(&mut store, &module, &mut scratch, turns)?;
     tell(
