@@ -1,5 +1,5 @@
 -- What the call for a place leaves kept and answers.
-use Rattle.std.proofs.Common.{◌≡◌, ℕ, ◌+◌, ◌<◌, ◌≤◌, Bool, false, if◌then◌else◌, All, List, length, set, Option, Some, None, ap, ◌∙◌, arith}
+use Rattle.std.proofs.Common.{◌≡◌, ℕ, ◌+◌, ◌<◌, ◌≤◌, false, if◌then◌else◌, All, List, length, set, Option, Some, None, ap, ◌∙◌, arith}
 use Rattle.std.proofs.lemmas.List.{length-set}
 use Rattle.w16_model.specs.declared.Entry.{Entry}
 use Rattle.w16_model.specs.declared.Hold.{Hold}

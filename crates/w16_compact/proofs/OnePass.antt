@@ -1,5 +1,5 @@
 -- Room by one pass over the blocks by address.
-use Rattle.std.proofs.Common.{◌≡◌, ℕ, ◌+◌, ◌-◌, ◌<◌, ◌≤◌, max, min, Bool, true, false, cond, not, ◌&&◌, nat_le, nat_lt, IsTrue, List, [], ◌∷◌, map, filter, sum_by, refl, ap, ◌∙◌, arith, None, sym, zero-add, le-leb, lt-ltb}
+use Rattle.std.proofs.Common.{◌≡◌, ℕ, ◌+◌, ◌-◌, ◌<◌, ◌≤◌, max, min, Bool, true, false, cond, not, ◌&&◌, nat_le, nat_lt, IsTrue, List, [], ◌∷◌, map, filter, sum_by, refl, ap, ◌∙◌, arith, None, zero-add, le-leb, lt-ltb}
 use Rattle.std.proofs.lemmas.Bool.{and_left, lt-leb, le-ltb, and_right, cond-true, cond-false, and_from}
 use Rattle.std.specs.Ordering.{ord_max, nat_cmp}
 use Rattle.std.proofs.lemmas.Bool.Decides.{nat_tests}

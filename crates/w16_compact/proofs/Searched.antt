@@ -1,5 +1,5 @@
 -- What may be discarded, along the order of use, and how many of these are needed.
-use Rattle.std.proofs.Common.{◌≡◌, ℕ, ◌+◌, ◌<◌, ◌≤◌, inl, inr, Bool, true, false, not, ◌&&◌, nat_le, List, [], ◌∷◌, zero, suc, length, take, drop, Option, Some, None, refl, sym, ap, ◌∙◌, subst, arith, le-leb, length-drop}
+use Rattle.std.proofs.Common.{◌≡◌, ℕ, ◌+◌, ◌<◌, ◌≤◌, inl, inr, Bool, true, false, not, ◌&&◌, nat_le, List, [], ◌∷◌, zero, suc, length, drop, Option, Some, None, refl, sym, ap, ◌∙◌, subst, arith, le-leb, length-drop}
 use Rattle.std.specs.List.{slice_get, find, range_with_len}
 use Rattle.std.proofs.lemmas.Bool.{cases_lt, cond-true, cond-false, lt-leb}
 use Rattle.std.proofs.lemmas.List.Elements.{All-get_or}

@@ -1,7 +1,7 @@
 -- A walk over what may be discarded, with the table of what is left.
 use Rattle.std.specs.List.{AllByRecursion as Each}
 use Rattle.std.specs.Prelude.{slice_index, MatchOption}
-use Rattle.std.proofs.Common.{◌≡◌, ◌≢◌, ℕ, zero, suc, ◌+◌, ◌<◌, ◌≤◌, max, inl, inr, Bool, true, false, cond, not, ◌||◌, ◌==◌, List, [], ◌∷◌, length, take, drop, set, Option, Some, None, refl, sym, ap, ◌∙◌, subst, arith, add-one, eq-eqb, ne_eqb, length-drop}
+use Rattle.std.proofs.Common.{◌≡◌, ◌≢◌, ℕ, zero, suc, ◌+◌, ◌<◌, ◌≤◌, max, inl, inr, Bool, true, false, cond, not, ◌||◌, ◌==◌, List, [], ◌∷◌, length, take, drop, set, Option, Some, None, refl, sym, ap, ◌∙◌, subst, arith, add-one, eq-eqb, ne_eqb}
 use Rattle.std.proofs.lemmas.Bool.{and_parts, not-true, not_from_false, or_from}
 use Rattle.std.proofs.lemmas.Bool.Decides.{eqb_tells}
 use Rattle.w16_model.specs.declared.Block.{Block}
@@ -9,7 +9,6 @@ use Rattle.w16_model.specs.Gap.{IsLaid, room, is_pinned}
 use Rattle.w16_model.specs.Discards.{eligible, blocks_without, is_member, is_about, is_pinned_id, room_for, snapshot}
 use Rattle.w16_model.specs.Table.{block_with}
 use Rattle.w16_model.proofs.Gaps.{EachPair, Member, Each-from, Each-map, Each-filter, EachPair-from_AllPairs, pairs_filter, filter_member}
-use Rattle.w16_model.proofs.Least.{take_past}
 use Rattle.w16_lru.specs.Uses.{Uses, AreUses}
 use Rattle.w16_blocks.specs.Layout.{Layout, IsOrdered, AreNamed, all_but}
 use Rattle.w16_blocks.proofs.Remove.{all_but_absent, IsLaid-all_but, each_with, with_id}

@@ -1,4 +1,4 @@
-use Rattle.std.proofs.Common.{ℕ, suc, List, ◌≡◌, ◌∷◌, ◌-◌, ◌∙◌, Some, length, drop, ap, sym, subst}
+use Rattle.std.proofs.Common.{ℕ, suc, List, ◌≡◌, ◌-◌, ◌∙◌, length, drop, ap, sym}
 use Rattle.std.specs.Prelude.{slice_get}
 use Rattle.w16_model.specs.Discards.{eligible}
 use Rattle.w16_lru.proofs.Walks.{all_left}
