@@ -11,6 +11,7 @@ pub mod Shift
 pub mod Slid
 pub mod Shifting
 pub mod Next
+pub mod Downward
 pub mod Walk
 pub mod Passed
 pub mod Outside

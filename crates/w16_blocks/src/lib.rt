@@ -7,6 +7,7 @@ ghost use Rattle.std.specs.Option.{ForSome};
 ghost use Rattle.w16_model.specs.Heap.{IsMultiple};
 ghost use Rattle.w16_blocks.specs.Stay.{IsBeyond};
 
+mod below;
 mod by_address;
 mod parts;
 mod runs;
