@@ -17,5 +17,6 @@ pub mod Passed
 pub mod Outside
 pub mod Tagged
 pub mod Sliding
+pub mod Lifting
 pub mod RunHoles
 pub mod RunKept

@@ -10,6 +10,7 @@
 #![tactic(auto)]
 
 mod gaps;
+mod open;
 mod prefix;
 mod reach;
 mod rooms;

@@ -1,0 +1,24 @@
+-- Blocks slid to the high end of an interval, and a gap that is opened behind one of its blocks.
+use Rattle.std.specs.Prelude.{ℕ, ◌+◌, ◌-◌, ◌≤◌, if◌then◌else◌, List, map}
+use Rattle.w16_model.specs.declared.Block.{Block}
+use Rattle.w16_model.specs.Gap.{block_end, begins_in, loose_bytes}
+use Rattle.w16_compact.specs.Gather.{gathered}
+
+-- a block, where what begins in [low, high) slides up to `high`: from there on just the loose blocks from it on have room
+abbrev pub raised_in : List Block → ℕ → ℕ → Block → Block
+raised_in bs low high b = if begins_in low high b then record b { at = high - loose_bytes bs b.at high } else b
+
+-- blocks, those of [low, high) one after another up to `high`, and the others as they are
+abbrev pub raised : ℕ → ℕ → List Block → List Block
+raised low high bs = map (raised_in bs low high) bs
+
+-- blocks by address, those of [low, end) slid down to `low`, those of [end, high) up to `high`, and the others as they are
+abbrev pub opened : ℕ → ℕ → ℕ → List Block → List Block
+opened low end high bs = raised end high (gathered low end bs)
+
+-- where what is free begins in a gap that is opened at `end`, and where it ends
+abbrev pub free_from : List Block → ℕ → ℕ → ℕ
+free_from bs low end = low + loose_bytes bs low end
+
+abbrev pub free_to : List Block → ℕ → ℕ → ℕ
+free_to bs end high = high - loose_bytes bs end high
