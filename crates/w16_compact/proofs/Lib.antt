@@ -10,6 +10,7 @@ pub mod Skips
 pub mod ByAddress
 pub mod Walked
 pub mod Cleared
+pub mod Raising
 pub mod Marks
 pub mod PinnedIds
 pub mod Searched
