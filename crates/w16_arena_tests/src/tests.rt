@@ -131,6 +131,34 @@ fn act(rt: &impl Abort, arena: &mut Arena<SideHoles>, region: &mut Region, step:
     }
 }
 
+// Each question stands in a function of its own with no clause: what an arena promises of it is proved there once, and not carried through the
+// loops and the tests below.
+
+/// What stands at an address or behind it.
+fn item_from(arena: &Arena<SideHoles>, region: &Region, from: u32) -> Option<Item> {
+    arena.walk_from(region, from)
+}
+
+/// The object at a place in the order of use, the oldest first.
+fn id_at(arena: &Arena<SideHoles>, place: usize) -> Option<u32> {
+    arena.nth(place)
+}
+
+/// What is known of an id.
+fn entry_of(arena: &Arena<SideHoles>, id: u32) -> Option<Entry> {
+    arena.entry(id)
+}
+
+/// An id's block.
+fn block_of(arena: &Arena<SideHoles>, id: u32) -> Option<Block> {
+    arena.block(id)
+}
+
+/// The lowest block at an address or behind it.
+fn block_from(arena: &Arena<SideHoles>, region: &Region, from: u32) -> Option<Block> {
+    arena.next_block(region, from)
+}
+
 /// A whole walk.
 fn shown(
     alloc: Global,
@@ -140,11 +168,11 @@ fn shown(
     let mut items = Vec::new(alloc);
     let mut from = 0;
     for _ in 0..20 {
-        let Some(item) = arena.walk_from(region, from) else {
+        let Some(item) = item_from(arena, region, from) else {
             return Ok(items);
         };
         items.push(item)?;
-        from = item.at + 1;
+        from = item.at.saturating_add(1);
     }
     Ok(items)
 }
@@ -153,7 +181,7 @@ fn shown(
 fn in_order(alloc: Global, arena: &Arena<SideHoles>) -> Result<Vec<u32>, AllocError> {
     let mut ids = Vec::new(alloc);
     for i in 0..IDS {
-        if let Some(id) = arena.nth(i as usize) {
+        if let Some(id) = id_at(arena, i as usize) {
             ids.push(id)?;
         }
     }
@@ -164,7 +192,7 @@ fn in_order(alloc: Global, arena: &Arena<SideHoles>) -> Result<Vec<u32>, AllocEr
 fn entries(alloc: Global, arena: &Arena<SideHoles>) -> Result<Vec<Option<Entry>>, AllocError> {
     let mut entries = Vec::new(alloc);
     for id in 0..IDS {
-        entries.push(arena.entry(id))?;
+        entries.push(entry_of(arena, id))?;
     }
     Ok(entries)
 }
@@ -200,6 +228,13 @@ fn expect(
     Ok(())
 }
 
+/// Makes calls.
+fn makes(rt: &impl Abort, arena: &mut Arena<SideHoles>, region: &mut Region, steps: &[Step]) {
+    for step in steps {
+        act(rt, arena, region, *step);
+    }
+}
+
 /// The heap that some calls leave.
 fn made(
     rt: &impl Abort,
@@ -208,9 +243,7 @@ fn made(
 ) -> Result<(Arena<SideHoles>, Region), AllocError> {
     let mut arena = six(rt, alloc)?;
     let mut region = Region::new(alloc, 256)?;
-    for step in steps {
-        act(rt, &mut arena, &mut region, *step);
-    }
+    makes(rt, &mut arena, &mut region, steps);
     Ok((arena, region))
 }
 
@@ -225,28 +258,28 @@ const THREE: &[Step] = &[
 fn looks_up_entries(rt: HostRuntime) -> Result<(), Fail> {
     let (arena, _) = made(&rt, rt.alloc(), THREE)?;
     assert_eq!(rt;
-        arena.entry(3),
+        entry_of(&arena, 3),
         Some(Entry {
             kind: Kind::Fixed,
             locks: 0
         })
     );
     assert_eq!(rt;
-        arena.entry(1),
+        entry_of(&arena, 1),
         Some(Entry {
             kind: Kind::Discardable,
             locks: 0
         })
     );
-    assert_eq!(rt; arena.entry(0), None);
-    assert_eq!(rt; arena.entry(4_294_967_295), None);
+    assert_eq!(rt; entry_of(&arena, 0), None);
+    assert_eq!(rt; entry_of(&arena, 4_294_967_295), None);
     Ok(())
 }
 
 #[test]
 fn looks_up_blocks(rt: HostRuntime) -> Result<(), Fail> {
     let (empty, none) = made(&rt, rt.alloc(), &[])?;
-    assert_eq!(rt; empty.next_block(&none, 0), None);
+    assert_eq!(rt; block_from(&empty, &none, 0), None);
     let (arena, region) = made(&rt, rt.alloc(), THREE)?;
     let first = Block {
         id: 3,
@@ -260,14 +293,14 @@ fn looks_up_blocks(rt: HostRuntime) -> Result<(), Fail> {
         size: 32,
         hold: Hold::Loose,
     };
-    assert_eq!(rt; arena.block(3), Some(first));
-    assert_eq!(rt; arena.block(2), Some(second));
-    assert_eq!(rt; arena.block(1), None);
-    assert_eq!(rt; arena.block(6), None);
-    assert_eq!(rt; arena.next_block(&region, 0), Some(first));
-    assert_eq!(rt; arena.next_block(&region, 1), Some(second));
-    assert_eq!(rt; arena.next_block(&region, 64), Some(second));
-    assert_eq!(rt; arena.next_block(&region, 65), None);
+    assert_eq!(rt; block_of(&arena, 3), Some(first));
+    assert_eq!(rt; block_of(&arena, 2), Some(second));
+    assert_eq!(rt; block_of(&arena, 1), None);
+    assert_eq!(rt; block_of(&arena, 6), None);
+    assert_eq!(rt; block_from(&arena, &region, 0), Some(first));
+    assert_eq!(rt; block_from(&arena, &region, 1), Some(second));
+    assert_eq!(rt; block_from(&arena, &region, 64), Some(second));
+    assert_eq!(rt; block_from(&arena, &region, 65), None);
     Ok(())
 }
 
@@ -294,7 +327,7 @@ fn counts_locks(rt: HostRuntime) -> Result<(), Fail> {
     assert_eq!(rt; arena.lock(0), Err(Refusal::LockFull));
     assert_eq!(rt; in_order(rt.alloc(), &arena)?.as_slice(), [0, 1].as_slice());
     assert_eq!(rt;
-        arena.entry(0),
+        entry_of(&arena, 0),
         Some(Entry {
             kind: Kind::Discardable,
             locks: 255
@@ -304,7 +337,7 @@ fn counts_locks(rt: HostRuntime) -> Result<(), Fail> {
         assert_eq!(rt; arena.unlock(0), Ok(()));
     }
     assert_eq!(rt; arena.free(&mut region, 0), Ok(()));
-    assert_eq!(rt; arena.entry(0), None);
+    assert_eq!(rt; entry_of(&arena, 0), None);
     Ok(())
 }
 

@@ -1,6 +1,6 @@
 //! Numbers of discards, as in the plain program.
 
-use super::{AS_IT_STANDS, Answer, DISCARDING, SLIDING, Step, act, in_order, made};
+use super::{AS_IT_STANDS, Answer, DISCARDING, SLIDING, Step, act, block_from, in_order, made};
 use std::alloc::{AllocError, Global};
 use std::process::Abort;
 use std::test::Fail;
@@ -116,7 +116,7 @@ fn blocks(
     let mut blocks = Vec::new(alloc);
     let mut from = 0;
     for _ in 0..arena.cap() {
-        if let Some(block) = arena.next_block(region, from) {
+        if let Some(block) = block_from(arena, region, from) {
             blocks.push(block)?;
             from = block.at.saturating_add(1);
         }
@@ -135,6 +135,33 @@ fn plain<'a>(arena: &Arena<SideHoles>, blocks: &'a [Block], order: &'a [u32]) ->
     }
 }
 
+/// What the plain program says of a request, before it is made.
+#[derive(Drop)]
+struct Foretold {
+    /// How many are discarded, if it is answered.
+    count: Option<usize>,
+    /// Those that may be, the least recently used first.
+    eligible: Vec<u32>,
+}
+
+/// Foretells a request for so many bytes for an id.
+fn foretells(
+    rt: &impl Abort,
+    alloc: Global,
+    arena: &Arena<SideHoles>,
+    region: &Region,
+    asked: (u32, u32, Way),
+) -> Result<Foretold, AllocError> {
+    let (id, size, way) = asked;
+    let order = in_order(alloc, arena)?;
+    let blocks = blocks(alloc, arena, region)?;
+    let before = plain(arena, &blocks, &order);
+    assert!(rt; before.is_placed());
+    let count = before.prefix(alloc, size, Some(id), way)?;
+    let eligible = before.eligible(alloc, Some(id))?;
+    Ok(Foretold { count, eligible })
+}
+
 /// Makes a request in a heap. It discards as many as the plain program says, the least recently used first.
 fn asks(
     rt: &impl Abort,
@@ -146,15 +173,13 @@ fn asks(
     let Heap { name, steps, .. } = heap;
     let (id, size, count) = asked;
     let (mut arena, mut region) = made(rt, alloc, steps)?;
-    let order = in_order(alloc, &arena)?;
-    let blocks = blocks(alloc, &arena, &region)?;
-    let before = plain(&arena, &blocks, &order);
-    assert!(rt; before.is_placed(), "{name}");
-    let expected = before.prefix(alloc, size, Some(id), way)?;
+    let Foretold {
+        count: expected,
+        eligible,
+    } = foretells(rt, alloc, &arena, &region, (id, size, way))?;
     if way.discard {
         assert_eq!(rt; expected, count, "{name}: {size} by the plain program");
     }
-    let eligible = before.eligible(alloc, Some(id))?;
     let step = Step::Alloc(id, size, Kind::Discardable, way);
     let answer = act(rt, &mut arena, &mut region, step);
     let first = expected.unwrap_or(0).min(eligible.len());
@@ -167,25 +192,61 @@ fn asks(
     Ok(())
 }
 
-/// Makes room for so many bytes in a heap. It discards as many as the plain program says, and answers the room there is then.
-fn compacts(rt: &impl Abort, alloc: Global, heap: Heap, n: u32) -> Result<(), AllocError> {
-    let Heap { name, steps, .. } = heap;
-    let (mut arena, mut region) = made(rt, alloc, steps)?;
-    let order = in_order(alloc, &arena)?;
-    let blocks = blocks(alloc, &arena, &region)?;
-    let before = plain(&arena, &blocks, &order);
-    assert!(rt; before.is_placed(), "{name}");
+/// What the plain program says of a compaction, before it is made.
+#[derive(Drop)]
+struct Compaction {
+    /// How many are discarded.
+    first: usize,
+    /// Those that may be, the least recently used first.
+    eligible: Vec<u32>,
+    /// The longest hole then.
+    room: Option<u32>,
+    /// The longest hole with all of them discarded.
+    most: u32,
+}
+
+/// Foretells a compaction to so many bytes.
+fn foretells_compaction(
+    rt: &impl Abort,
+    alloc: Global,
+    arena: &Arena<SideHoles>,
+    region: &Region,
+    n: u32,
+) -> Result<Compaction, AllocError> {
+    let order = in_order(alloc, arena)?;
+    let blocks = blocks(alloc, arena, region)?;
+    let before = plain(arena, &blocks, &order);
+    assert!(rt; before.is_placed());
     let eligible = before.eligible(alloc, None)?;
     let all = eligible.len();
     let needed = before.needed(alloc, n, None)?;
     let first = needed.unwrap_or(all).min(all);
     let room = before.room_for(alloc, first, None)?;
     let most = before.room_for(alloc, all, None)?;
+    Ok(Compaction {
+        first,
+        eligible,
+        room: Some(room),
+        most,
+    })
+}
+
+/// Makes room for so many bytes in a heap. It discards as many as the plain program says, and answers the room there is then.
+fn compacts(rt: &impl Abort, alloc: Global, heap: Heap, n: u32) -> Result<(), AllocError> {
+    let Heap { name, steps, .. } = heap;
+    let (mut arena, mut region) = made(rt, alloc, steps)?;
+    let Compaction {
+        first,
+        eligible,
+        room,
+        most,
+    } = foretells_compaction(rt, alloc, &arena, &region, n)?;
+    let first = first.min(eligible.len());
     let answer = act(rt, &mut arena, &mut region, Step::RoomAll);
     assert_eq!(rt; answer, Answer::Room(most), "{name}");
     let answer = act(rt, &mut arena, &mut region, Step::Compact(n));
     assert_eq!(rt; arena.discarded(), &eligible[..first], "{name}: {n}");
-    assert_eq!(rt; room_of(answer), Some(room), "{name}: {n}");
+    assert_eq!(rt; room_of(answer), room, "{name}: {n}");
     Ok(())
 }
 

@@ -1,10 +1,14 @@
 //! Calls one after another, with answers that were worked out by hand.
 
 use super::{
-    AS_IT_STANDS, Answer, DISCARDING, SLIDING, Step, act, expect, in_order, made, shown, six,
+    AS_IT_STANDS, Answer, DISCARDING, SLIDING, Step, act, expect, in_order, item_from, made, shown,
+    six,
 };
+use std::alloc::{AllocError, Global};
+use std::process::Abort;
 use std::test::Fail;
-use w16_arena::{Compacted, Placed};
+use w16_arena::{Arena, Compacted, Placed};
+use w16_holes::SideHoles;
 use w16_model::{Item, Kind, Owner, Refusal, Span};
 use w16_region::Region;
 
@@ -499,30 +503,42 @@ const SCRIPTS: &[Script] = &[
     },
 ];
 
+/// Makes the calls of a script.
+fn follows(
+    rt: &impl Abort,
+    alloc: Global,
+    script: Script,
+    arena: &mut Arena<SideHoles>,
+    region: &mut Region,
+) -> Result<(), AllocError> {
+    for line in script.lines {
+        expect(rt, alloc, script.name, arena, region, line)?;
+    }
+    Ok(())
+}
+
+/// Makes the calls of a script in a new heap, and looks at what they leave.
+fn plays(rt: &impl Abort, alloc: Global, script: Script) -> Result<(), AllocError> {
+    let Script {
+        name,
+        walk,
+        order,
+        ..
+    } = script;
+    let mut arena = six(rt, alloc)?;
+    let mut region = Region::new(alloc, 256)?;
+    follows(rt, alloc, script, &mut arena, &mut region)?;
+    let left = shown(alloc, &arena, &region)?;
+    assert_eq!(rt; left.as_slice(), walk, "{name}: walk");
+    let used = in_order(alloc, &arena)?;
+    assert_eq!(rt; used.as_slice(), order, "{name}: order");
+    Ok(())
+}
+
 #[test]
 fn answers_calls(rt: HostRuntime) -> Result<(), Fail> {
     for script in SCRIPTS {
-        let Script {
-            name,
-            lines,
-            walk,
-            order,
-        } = *script;
-        let mut arena = six(&rt, rt.alloc())?;
-        let mut region = Region::new(rt.alloc(), 256)?;
-        for line in lines {
-            expect(&rt, rt.alloc(), name, &mut arena, &mut region, line)?;
-        }
-        assert_eq!(rt;
-            shown(rt.alloc(), &arena, &region)?.as_slice(),
-            walk,
-            "{name}: walk"
-        );
-        assert_eq!(rt;
-            in_order(rt.alloc(), &arena)?.as_slice(),
-            order,
-            "{name}: order"
-        );
+        plays(&rt, rt.alloc(), *script)?;
     }
     Ok(())
 }
@@ -539,38 +555,43 @@ const WITH_HOLES: &[Step] = &[
 #[test]
 fn walks_by_address(rt: HostRuntime) -> Result<(), Fail> {
     let (empty, none) = made(&rt, rt.alloc(), &[])?;
-    assert_eq!(rt; empty.walk_from(&none, 0), Some(hole!(0, 256)));
-    assert_eq!(rt; empty.walk_from(&none, 1), None);
+    assert_eq!(rt; item_from(&empty, &none, 0), Some(hole!(0, 256)));
+    assert_eq!(rt; item_from(&empty, &none, 1), None);
     let (arena, region) = made(&rt, rt.alloc(), WITH_HOLES)?;
     assert_eq!(rt;
-        arena.walk_from(&region, 0),
+        item_from(&arena, &region, 0),
         Some(object!(0, 32, 0, Kind::Fixed, 0))
     );
-    assert_eq!(rt; arena.walk_from(&region, 1), Some(hole!(32, 64)));
-    assert_eq!(rt; arena.walk_from(&region, 32), Some(hole!(32, 64)));
+    assert_eq!(rt; item_from(&arena, &region, 1), Some(hole!(32, 64)));
+    assert_eq!(rt; item_from(&arena, &region, 32), Some(hole!(32, 64)));
     let locked = object!(96, 32, 2, Kind::Discardable, 1);
-    assert_eq!(rt; arena.walk_from(&region, 33), Some(locked));
-    assert_eq!(rt; arena.walk_from(&region, 96), Some(locked));
-    assert_eq!(rt; arena.walk_from(&region, 97), Some(hole!(128, 128)));
-    assert_eq!(rt; arena.walk_from(&region, 129), None);
+    assert_eq!(rt; item_from(&arena, &region, 33), Some(locked));
+    assert_eq!(rt; item_from(&arena, &region, 96), Some(locked));
+    assert_eq!(rt; item_from(&arena, &region, 97), Some(hole!(128, 128)));
+    assert_eq!(rt; item_from(&arena, &region, 129), None);
     Ok(())
+}
+
+/// The item of a number, from 0.
+fn item_at(arena: &Arena<SideHoles>, region: &Region, i: usize) -> Option<Item> {
+    arena.walk(region, i)
 }
 
 #[test]
 fn walks_by_number(rt: HostRuntime) -> Result<(), Fail> {
     let (arena, region) = made(&rt, rt.alloc(), WITH_HOLES)?;
     assert_eq!(rt;
-        arena.walk(&region, 0),
+        item_at(&arena, &region, 0),
         Some(object!(0, 32, 0, Kind::Fixed, 0))
     );
-    assert_eq!(rt; arena.walk(&region, 1), Some(hole!(32, 64)));
+    assert_eq!(rt; item_at(&arena, &region, 1), Some(hole!(32, 64)));
     assert_eq!(rt;
-        arena.walk(&region, 2),
+        item_at(&arena, &region, 2),
         Some(object!(96, 32, 2, Kind::Discardable, 1))
     );
-    assert_eq!(rt; arena.walk(&region, 3), Some(hole!(128, 128)));
-    assert_eq!(rt; arena.walk(&region, 4), None);
-    assert_eq!(rt; arena.walk(&region, 9), None);
+    assert_eq!(rt; item_at(&arena, &region, 3), Some(hole!(128, 128)));
+    assert_eq!(rt; item_at(&arena, &region, 4), None);
+    assert_eq!(rt; item_at(&arena, &region, 9), None);
     Ok(())
 }
 
@@ -591,13 +612,13 @@ fn walks_a_full_heap(rt: HostRuntime) -> Result<(), Fail> {
         Step::Alloc(0, 160, Kind::Moveable, AS_IT_STANDS),
     );
     assert_eq!(rt;
-        arena.walk_from(&region, 0),
+        item_from(&arena, &region, 0),
         Some(object!(0, 96, 3, Kind::Moveable, 0))
     );
     assert_eq!(rt;
-        arena.walk_from(&region, 1),
+        item_from(&arena, &region, 1),
         Some(object!(96, 160, 0, Kind::Moveable, 0))
     );
-    assert_eq!(rt; arena.walk_from(&region, 97), None);
+    assert_eq!(rt; item_from(&arena, &region, 97), None);
     Ok(())
 }
