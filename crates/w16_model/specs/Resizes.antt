@@ -1,13 +1,14 @@
 -- GlobalReAlloc and GlobalDiscard on handles: the cases in their order, and what each answers and leaves.
-use Rattle.std.specs.Prelude.{◌≡◌, ℕ, Bool, ◌==◌, if◌then◌else◌, nat_lt, MatchBool, MatchOption, Ok, Err}
+use Rattle.std.specs.Prelude.{◌≡◌, ◌≢◌, ℕ, ◌<◌, ◌≤◌, Bool, true, false, ◌==◌, if◌then◌else◌, nat_lt, MatchBool, MatchOption, IsSomeAnd, Some, Ok, Err}
 use Rattle.w16_model.specs.declared.Kind.{Kind}
 use Rattle.w16_model.specs.declared.Kind.TheVariants.{Moveable, Discardable}
 use Rattle.w16_model.specs.declared.Way.{Way}
 use Rattle.w16_model.specs.declared.TheConstants.{LARGEST_SIZE, GMEM_MOVEABLE, GMEM_MODIFY, GMEM_DISCARDABLE}
-use Rattle.w16_model.specs.Heap.{Heap}
+use Rattle.w16_model.specs.Heap.{Heap, object_at, size_of}
 use Rattle.w16_model.specs.Request.{Reallocates, moved_bytes}
 use Rattle.w16_model.specs.OneObject.{after_modify, after_discard}
 use Rattle.w16_model.specs.Handles.{Handles, AreHandles, slot_of_handle}
+use Rattle.w16_model.specs.Reallocation.{LacksPlace, ReallocatesFewest}
 use Rattle.w16_model.specs.Calls.{has_flag, rounded_size, way_asked}
 
 -- as an allocation's flags; with GMEM_MOVEABLE the object itself may be moved too, fixed or locked
@@ -65,3 +66,11 @@ ResizeLaw = (old new : Handles) (handle size flags answer : ℕ) → AreHandles 
 -- where it is NULL the heap is the same
 abbrev pub NullLaw : Type 0
 NullLaw = (old new : Handles) (handle size flags : ℕ) → AreHandles old → GlobalReAllocs old handle size flags 0 new → new.heap ≡ old.heap
+
+-- one that asks for a size discards as few as it can, and is NULL only where the object would get more bytes and lacks a place for them
+abbrev pub ResizeFewestLaw : Type 0
+ResizeFewestLaw = (old new : Handles) (handle size flags answer slot : ℕ) → AreHandles old → slot_of_handle old handle ≡ Some slot → has_flag flags GMEM_MODIFY ≡ false → 0 < size → size ≤ LARGEST_SIZE
+    → GlobalReAllocs old handle size flags answer new
+    → IsSomeAnd (object_at old.heap slot) (λ o.
+    (answer ≢ 0 → ReallocatesFewest old.heap slot (rounded_size size) o (way_asked_again flags) true new.heap)
+    × (answer ≡ 0 → (size_of o < rounded_size size) × LacksPlace old.heap slot (rounded_size size) o (way_asked_again flags) × (new.heap ≡ old.heap)))
