@@ -70,23 +70,31 @@ stays_then old mid new q a b = turn (object_at old q) (object_at mid q) (object_
     turn (Some p) (Some r) None h k = absurd k
     turn (Some p) (Some r) (Some s) h k = record { kind = k.kind ∙ h.kind; size = sizes p.bytes r.bytes s.bytes h.size k.size }
 
+-- an object that a module owns, of a kind and a size
+abbrev pub IsOwned : Heap → ℕ → Kind → ℕ → Type 0
+IsOwned heap slot kind size = IsSomeAnd (object_at heap slot) (λ o. (o.kind ≡ kind) × IfSome o.bytes (λ bytes. length bytes ≡ size))
+
+-- one that stays is of the same kind and size
+pub stays_owned : (old new : Heap) (slot : ℕ) (kind : Kind) (size : ℕ) → Stays old new slot → IsOwned old slot kind size → IsOwned new slot kind size
+stays_owned old new slot kind size stays owned = turn (object_at old slot) (object_at new slot) owned stays
+  where
+    sizes : (p r : Option (List ℕ)) → IfSome p (λ bytes. length bytes ≡ size) → IfSome r (λ b. IsSomeAnd p (λ c. length b ≡ length c)) → IfSome r (λ bytes. length bytes ≡ size)
+    sizes p None h k = tt
+    sizes None (Some r) h k = absurd k
+    sizes (Some p) (Some r) h k = k ∙ h
+
+    turn : (p r : Option Object) → IsSomeAnd p (λ o. (o.kind ≡ kind) × IfSome o.bytes (λ bytes. length bytes ≡ size)) → IsSomeAnd p (λ o. IsSomeAnd r (Keeps o)) → IsSomeAnd r (λ o. (o.kind ≡ kind) × IfSome o.bytes (λ bytes. length bytes ≡ size))
+    turn None r h k = absurd h
+    turn (Some p) None h k = absurd k
+    turn (Some p) (Some r) h k = (k.kind ∙ h.0, sizes p.bytes r.bytes h.1 k.size)
+
 -- such a world is one
-module _ (old : World) (is : IsWorld old) (next : Handles) (are : AreHandles next) (stays : (q : ℕ) → is_owned old q ≡ true → Stays old.handles.heap next.heap q) where
+module _ (old : World) (is : IsWorld old) (next : Handles) (are : AreHandles next) (keeps : (slot : ℕ) (kind : Kind) (size : ℕ) (code : Bool) → IsObjectOf old slot kind size code → IsOwned next.heap slot kind size) where
   abbrev new : World
   new = record old { handles = next }
 
   object_stays : (slot : ℕ) (kind : Kind) (size : ℕ) (code : Bool) → IsObjectOf old slot kind size code → IsObjectOf new slot kind size code
-  object_stays slot kind size code h = record { object = turn (object_at old.handles.heap slot) (object_at next.heap slot) h.object (stays slot (ap is_some h.owned)); owned = h.owned }
-    where
-      sizes : (p r : Option (List ℕ)) → IfSome p (λ bytes. length bytes ≡ size) → IfSome r (λ b. IsSomeAnd p (λ c. length b ≡ length c)) → IfSome r (λ bytes. length bytes ≡ size)
-      sizes p None h k = tt
-      sizes None (Some r) h k = absurd k
-      sizes (Some p) (Some r) h k = k ∙ h
-
-      turn : (p r : Option Object) → IsSomeAnd p (λ o. (o.kind ≡ kind) × IfSome o.bytes (λ bytes. length bytes ≡ size)) → IsSomeAnd p (λ o. IsSomeAnd r (Keeps o)) → IsSomeAnd r (λ o. (o.kind ≡ kind) × IfSome o.bytes (λ bytes. length bytes ≡ size))
-      turn None r h k = absurd h
-      turn (Some p) None h k = absurd k
-      turn (Some p) (Some r) h k = (k.kind ∙ h.0, sizes p.bytes r.bytes h.1 k.size)
+  object_stays slot kind size code h = record { object = keeps slot kind size code h; owned = h.owned }
 
   segments_stay : (slots : List ℕ) (segments : List Segment) → AllZip (λ slot (s : Segment). IsObjectOf old slot s.kind s.size s.is_code) slots segments → AllZip (λ slot (s : Segment). IsObjectOf new slot s.kind s.size s.is_code) slots segments
   segments_stay [] [] h = tt

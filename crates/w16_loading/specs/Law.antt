@@ -7,7 +7,7 @@ use Rattle.w16_model.specs.Heap.{Heap, Object, IsHeap, object_at, bytes_at}
 use Rattle.w16_model.specs.declared.TheConstants.{MOST_SLOTS}
 use Rattle.w16_model.specs.declared.Kind.TheVariants.{Discardable}
 use Rattle.w16_model.specs.Request.{Allocates}
-use Rattle.w16_model.specs.Calls.{rounded_size}
+use Rattle.w16_model.specs.Calls.{HandleCommand, rounded_size}
 use Rattle.w16_model.specs.Far.{after_write}
 use Rattle.w16_model.specs.declared.Kind.{Kind}
 use Rattle.w16_model.specs.Law.{KeepsOthers}
@@ -25,7 +25,7 @@ use Rattle.w16_loading.specs.Load.Answer.{Says, StoreFails}
 use Rattle.w16_loading.specs.Fetch.{Reply, Fetches, read_of, segment_bytes, is_code}
 use Rattle.w16_loading.specs.Free.{Go, Frees, used_less}
 use Rattle.w16_loading.specs.Resource.{resource_at}
-use Rattle.w16_loading.specs.Machine.{Command, IsCommand, Step}
+use Rattle.w16_loading.specs.Machine.{Command, IsCommand, HandleStep, Step}
 
 -- Worlds.
 
@@ -87,6 +87,10 @@ EmptyOfFilesLaw = (format : Format) (memory slots : ℕ) (files : List (List ℕ
 -- the size that it said at load.
 abbrev pub KeepsWorldsLaw : Type 0
 KeepsWorldsLaw = (format : Format) (old new : World) (command : Command) (reply : Reply) → IsFormat format → IsWorld old → IsOfFiles format old → IsCommand command → Step format old command reply new → IsWorld new
+
+-- and of the calls on handles this is proved without files: what a module owns keeps its kind and its size, whatever is moved or discarded
+abbrev pub CallsKeepWorldsLaw : Type 0
+CallsKeepWorldsLaw = (old new : World) (command : HandleCommand) (reply : Reply) → IsWorld old → HandleStep old command reply new → IsWorld new
 
 -- the code that a script reads is always its file's, relocated
 abbrev pub CodeLaw : Type 0

@@ -1,6 +1,6 @@
 //! The laws of the definitions. Each function does nothing: its contract is the law.
 ghost use Rattle.w16_loading.specs.Fewest.{LoadFewestLaw, FetchFewestLaw};
-ghost use Rattle.w16_loading.specs.Law.{EmptyOfFilesLaw, FetchFaultsLaw, CodeLaw, RefusedLoadLaw, OneEndLaw, UsesApartLaw, FetchAgainLaw, FetchLaw, FetchRefusedLaw, OneClosureLaw, EarlyRefusalLaw, FillLaw, EmptyLaw, ClosureEndsLaw, UndoneLaw, FillsLaw, BoundOnceLaw};
+ghost use Rattle.w16_loading.specs.Law.{CallsKeepWorldsLaw, EmptyOfFilesLaw, FetchFaultsLaw, CodeLaw, RefusedLoadLaw, OneEndLaw, UsesApartLaw, FetchAgainLaw, FetchLaw, FetchRefusedLaw, OneClosureLaw, EarlyRefusalLaw, FillLaw, EmptyLaw, ClosureEndsLaw, UndoneLaw, FillsLaw, BoundOnceLaw};
 
 /// A fetch takes the bytes of what it discards, and keeps all else of the other objects.
 pub fn fetches_keep_others()
@@ -95,4 +95,9 @@ pub fn fetches_are_never_damaged()
 /// Where nothing is loaded, all that is loaded is of its file.
 pub fn nothing_loaded_is_of_files()
     ensures { EmptyOfFilesLaw }
+{}
+
+/// The calls on handles keep what holds of every world: modules keep their objects, of the kinds and sizes that their files say.
+pub fn calls_keep_worlds()
+    ensures { CallsKeepWorldsLaw }
 {}
