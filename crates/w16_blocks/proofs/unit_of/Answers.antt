@@ -3,4 +3,4 @@ use Rattle.w16_holes.proofs.Units.{whole_units}
 use Rattle.w16_blocks.proofs.unit_of.Goals as goal
 
 pub returns : goal.returns
-returns c = let whole = whole_units c.args.grain c.args.lo c.args.place c.requires.some c.requires.from c.requires.low c.requires.grained in let from = c.requires.from in omega arith
+returns c = let whole = whole_units c.args.grain c.args.lo c.args.place c.requires.some c.requires.from c.requires.low c.requires.grained in let from = c.requires.from in let units = c.units_in.ensures in omega arith
