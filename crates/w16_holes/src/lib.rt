@@ -16,4 +16,4 @@ mod grain;
 
 pub use holes::{HoleList, Holes};
 pub use side::SideHoles;
-pub use grain::units_in;
+pub use grain::{units_in, units_over};
