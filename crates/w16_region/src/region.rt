@@ -23,7 +23,9 @@ impl Region {
         let bytes = vec![in alloc; 0; size as usize]?;
         Ok(Framed { bytes, written: 0 })
     }
+
     /// The double word of the four bytes from `at` on, the lowest byte first.
+    #[tactic(auto, unfolding(crate::specs::Bytes::word_in))]
     pub fn word_at(&self, at: u32) -> u32
         requires { at + 4 ≤ length self.now.bytes.items }
         ensures { result ≡ word_in self.now.bytes.items at }
