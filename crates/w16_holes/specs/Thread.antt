@@ -1,9 +1,12 @@
 -- Holes kept in their own bytes, as a thread: each has its size as a double word where it begins, and behind it as another where the next hole begins.
 use Rattle.std.specs.Prelude.{ℕ, ◌<◌, ◌≤◌, ◌≡◌, ◌+◌, ◌-◌, ◌^◌, nat_lt, if◌then◌else◌, List, [], ◌∷◌, length, Option, Some, None}
+use Rattle.std.proofs.Common.{arith, ◌∙◌, inl, inr}
 use Rattle.w16_model.specs.declared.Span.{Span}
+use Rattle.w16_model.specs.Bytes.{part}
 use Rattle.w16_model.specs.Heap.{IsMultiple}
 use Rattle.w16_region.specs.Bytes.{word_in, put_word}
-use Rattle.w16_holes.specs.Holes.{Range}
+use Rattle.w16_region.proofs.Words.{word_in-same}
+use Rattle.w16_holes.specs.Holes.{Range, IsFree, AreSameIn}
 
 -- what the last hole has in place of the next
 abbrev pub no_hole : ℕ
@@ -56,3 +59,31 @@ put_hole bytes from to next = if nat_lt from to then put_words bytes from (to - 
 abbrev pub put_link : List ℕ → Option ℕ → ℕ → List ℕ
 put_link bytes None next = bytes
 put_link bytes (Some at) next = put_word bytes (at + 4) next
+
+-- What stays.
+
+-- a hole has room for its two words
+pub room : (from to : ℕ) → IsMultiple 8 from → IsMultiple 8 to → from < to → from + 8 ≤ to
+room from to low high some = let e = low.1 in let f = high.1 in omega arith
+
+stays : (last : ℕ) (hs : List Span) (old new : List ℕ) → length new ≡ length old → ((at n : ℕ) → IsFree at (at + n) hs → part new at n ≡ part old at n) → IsThread last hs old → IsThread last hs new
+stays last [] old new long same kept = tt
+stays last (h ∷ hs) old new long same kept =
+    let w = kept.0 in
+    let fits = room h.from h.to w.low w.high w.some in
+    let inside = w.inside in
+    (
+      record {
+        low = w.low;
+        high = w.high;
+        some = w.some;
+        inside = omega arith;
+        size = word_in-same old new h.from (same h.from 4 (inl (omega arith, omega arith))) ∙ w.size;
+        link = word_in-same old new (h.from + 4) (same (h.from + 4) 4 (inl (omega arith, omega arith))) ∙ w.link;
+      },
+      stays last hs old new long (λ at n free. same at n (inr free)) kept.1,
+    )
+
+-- the thread is the same where the bytes in the holes are
+pub threaded_stay : (hs : List Span) (old new : List ℕ) → AreThreaded hs old → AreSameIn hs old new → AreThreaded hs new
+threaded_stay hs old new kept same = stays no_hole hs old new same.long same.same kept

@@ -3,8 +3,7 @@ ghost use Rattle.std.specs.Prelude.{◌≡◌, ◌+◌, ◌-◌, ◌<◌, ◌≤
 ghost use Rattle.w16_model.specs.Heap.{IsMultiple};
 ghost use Rattle.w16_model.specs.Table.{IsSameOutside};
 ghost use Rattle.w16_holes.specs.Holes.{IsPlace, last_before, add_span};
-ghost use Rattle.w16_holes.specs.Thread.{AreThreaded, first_of, next_above, put_words, put_hole, put_link};
-ghost use Rattle.w16_holes.proofs.Thread.{threaded_stay};
+ghost use Rattle.w16_holes.specs.Thread.{AreThreaded, first_of, next_above, put_words, put_hole, put_link, threaded_stay};
 
 use crate::{HoleList, Holes, SideHoles};
 use std::alloc::{AllocError, Global};
