@@ -6,3 +6,7 @@ pub mod Last
 pub mod Steps
 pub mod Sets
 pub mod Write
+pub mod Thread
+pub mod Cuts
+pub mod Links
+pub mod Next
