@@ -43,7 +43,7 @@ cut_taken lo hi a b (h ∷ hs) some holes (inl here) =
       left = rw (lt-ltb a h.to (omega arith)) refl;
       at = last_first b h hs (omega arith) (last_none b (suc h.to) hi hs (omega arith) holes.3);
       inside = λ lt. last_first a h hs lt (last_none a (suc h.to) hi hs (omega arith) holes.3);
-      begins = λ e. last_none a lo hi (h ∷ hs) (omega arith) (omega arith, holes.1, holes.2, holes.3);
+      begins = λ e. last_none a h.from hi (h ∷ hs) (omega arith) (omega arith, holes.1, holes.2, holes.3);
     })
 cut_taken lo hi a b (h ∷ hs) some holes (inr rest) =
     let c = cut_taken (suc h.to) hi a b hs some holes.3 rest in
@@ -81,11 +81,11 @@ pub record IsPutBelow (a b : ℕ) (hi : ℕ) (hs : List Span) (to : ℕ) (back :
   pub next : next_above b hs ≡ first_of no_hole back
 
 -- where the first hole begins behind a place, all above it
-next_first : (b lo hi : ℕ) (hs : List Span) → b < lo → AreHoles lo hi hs → next_above b hs ≡ first_of no_hole hs
+pub next_first : (b lo hi : ℕ) (hs : List Span) → b < lo → AreHoles lo hi hs → next_above b hs ≡ first_of no_hole hs
 next_first b lo hi [] lt holes = refl
 next_first b lo hi (h ∷ hs) lt holes = let from = holes.0 in rw (lt-ltb b h.from (omega arith)) refl
 
-at_none : (b lo hi : ℕ) (hs : List Span) → b < lo → AreHoles lo hi hs → length_at b hs ≡ 0
+pub at_none : (b lo hi : ℕ) (hs : List Span) → b < lo → AreHoles lo hi hs → length_at b hs ≡ 0
 at_none b lo hi [] lt holes = refl
 at_none b lo hi (h ∷ hs) lt holes =
     let from = holes.0 in let some = holes.1 in

@@ -1,16 +1,17 @@
 -- What `take` and `put` of holes in their own bytes write, and what they look up there.
-use Rattle.std.proofs.Common.{ℕ, suc, ◌≡◌, ◌<◌, ◌≤◌, ◌+◌, ◌-◌, ◌^◌, ◌⊎◌, inl, inr, List, [], ◌∷◌, ◌++◌, length, Option, Some, None, unwrap_or, arith, refl, sym, ap, ◌∙◌, subst}
+use Rattle.std.proofs.Common.{ℕ, suc, ◌≡◌, ◌<◌, ◌≤◌, ◌+◌, ◌-◌, ◌^◌, ◌⊎◌, inl, inr, List, [], ◌∷◌, ◌++◌, length, Option, Some, None, IfSome, ◌*◌, arith, refl, sym, ap, ◌∙◌, subst}
 use Rattle.std.proofs.lemmas.Bool.{cases_lt, lt-ltb, le-ltb}
-use Rattle.std.proofs.lemmas.Bool.Decides.{eqb_tells}
 use Rattle.std.proofs.lemmas.Option.{none-some, same_Some}
+use Rattle.std.proofs.Math.Nat.{mul_assoc}
 use Rattle.w16_model.specs.declared.Span.{Span}
 use Rattle.w16_model.specs.Heap.{IsMultiple}
 use Rattle.w16_region.specs.Bytes.{word_in, put_word}
 use Rattle.w16_region.proofs.Words.{length-put_word, word_in-put_word}
-use Rattle.w16_holes.specs.Holes.{AreHoles, IsFree, AreSameOutside, taken, joined, add_span, last_before, length_at, lowest}
-use Rattle.w16_holes.specs.Thread.{HasWords, IsThread, AreThreaded, no_hole, first_of, next_above, put_words, put_hole, put_link, room}
-use Rattle.w16_holes.proofs.Thread.{IsKept, kept_refl, kept_trans, kept_wider, kept_word, kept_word_in, kept_words, word_kept, thread_kept, thread_join, thread_front, thread_back, free_front, free_back, used_refl, used_trans, used_kept, relink, link_kept, link_used}
-use Rattle.w16_holes.proofs.Cuts.{IsTakenFrom, IsPutAt, HasHole, last_none, next_first, at_none}
+use Rattle.w16_holes.specs.Holes.{Range, Free, AreHoles, IsFree, IsUsed, IsPlace, IsPart, AreSameOutside, taken, joined, add_span, last_before, length_at, length_to}
+use Rattle.w16_holes.specs.Thread.{HasRoom, HasWords, IsThread, AreThreaded, no_hole, first_of, next_above, put_words, put_hole, put_link, room}
+use Rattle.w16_holes.proofs.Units.{multiple_sum}
+use Rattle.w16_holes.proofs.Thread.{IsKept, kept_refl, kept_trans, kept_wider, kept_word, kept_word_in, kept_words, word_kept, thread_kept, thread_join, thread_front, thread_back, free_front, free_back, used_refl, used_trans, used_kept, relink, link_kept, link_used, link_fits}
+use Rattle.w16_holes.proofs.Cuts.{IsTakenFrom, IsPutAt, HasHole, cut_taken, cut_put}
 
 -- a hole's words, just written
 words_put : (from to next : ℕ) (bytes : List ℕ) → IsMultiple 8 from → IsMultiple 8 to → from < to → to ≤ length bytes → next < 2 ^ 32 → to < 2 ^ 32
@@ -38,6 +39,20 @@ first_small lo hi (h ∷ hs) small holes = let some = holes.1 in let to = holes.
 holes_lower : (lo low hi : ℕ) (hs : List Span) → low ≤ lo → AreHoles lo hi hs → AreHoles low hi hs
 holes_lower lo low hi [] le holes = tt
 holes_lower lo low hi (h ∷ hs) le holes = let from = holes.0 in (omega arith, holes.1, holes.2, holes.3)
+
+pub hole_kept : (from to next : ℕ) (bytes : List ℕ) → IsMultiple 8 from → IsMultiple 8 to → to ≤ length bytes → IsKept from to bytes (put_hole bytes from to next)
+hole_kept from to next bytes low high inside = elim (cases_lt from to) [
+  | inl lt ↦ let wide = room from to low high lt in
+  rw (lt-ltb from to lt) (kept_wider from (from + 8) from to bytes (put_words bytes from (to - from) next) (omega arith) wide (kept_words bytes from (to - from) next (omega arith)))
+  | inr le ↦ rw (le-ltb from to le) (kept_refl from to bytes)
+]
+
+-- one hole, or none
+pub one_threaded : (from to : ℕ) (bytes : List ℕ) → IsMultiple 8 from → IsMultiple 8 to → to ≤ length bytes → to < 2 ^ 32 → AreThreaded (add_span from to []) (put_hole bytes from to no_hole)
+one_threaded from to bytes low high inside top = elim (cases_lt from to) [
+  | inl lt ↦ rw (lt-ltb from to lt) (words_put from to no_hole bytes low high lt inside (omega arith) top, tt)
+  | inr le ↦ rw (le-ltb from to le) tt
+]
 
 -- [a, b) is taken from the hole h
 module _ (lo hi a b : ℕ) (hs : List Span) (bytes : List ℕ) (front : List Span) (h : Span) (back : List Span) (c : IsTakenFrom lo hi a b hs front h back)
@@ -94,11 +109,7 @@ module _ (lo hi a b : ℕ) (hs : List Span) (bytes : List ℕ) (front : List Spa
   fits = taken_words.inside
 
   one_kept : IsKept b h.to bytes one
-  one_kept = let inside = fits in elim (cases_lt b h.to) [
-    | inl lt ↦ let wide = room b h.to high_8 taken_words.high lt in
-    rw (lt-ltb b h.to lt) (kept_wider b (b + 8) b h.to bytes (put_words bytes b (h.to - b) next) (omega arith) wide (kept_words bytes b (h.to - b) next (omega arith)))
-    | inr le ↦ rw (le-ltb b h.to le) (kept_refl b h.to bytes)
-  ]
+  one_kept = hole_kept b h.to next bytes high_8 taken_words.high fits
 
   one_used : AreSameOutside hs bytes one
   one_used = let from = c.from in used_kept b h.to hs bytes one (free b h.to (omega arith) (omega arith)) one_kept
@@ -348,3 +359,144 @@ module _ (lo hi a b : ℕ) (hs : List Span) (bytes : List ℕ) (front : List Spa
     | inl alone ↦ put_alone alone.0 alone.1
     | inr hole ↦ put_joined hole.2 (hole.3 no_hole)
   ]
+
+-- What the calls need, by the holes beside the memory.
+
+pub place_behind : (r : Range) (a n : ℕ) → IsPart r a n → IsPlace r (a + n)
+place_behind r a n part = let from = part.from in record {
+  from = omega arith;
+  to = part.to;
+  grained = multiple_sum r.grain a n part.grained part.rounded;
+}
+
+pub multiple_of_8 : (g a : ℕ) → IsMultiple 8 g → IsMultiple g a → IsMultiple 8 a
+multiple_of_8 g a wide grained = (wide.0 * grained.0, grained.1 ∙ ap (λ (n : ℕ). n * grained.0) wide.1 ∙ mul_assoc 8 wide.0 grained.0)
+
+module _ (r : Range) (hs : List Span) (bytes : List ℕ) (a n : ℕ) (roomy : HasRoom r) (part : IsPart r a n) (holes : AreHoles r.lo r.hi hs) (thread : AreThreaded hs bytes) where
+  some : a < a + n
+  some = let has = part.some in omega arith
+
+  low_8 : IsMultiple 8 a
+  low_8 = multiple_of_8 r.grain a roomy.wide part.grained
+
+  high_8 : IsMultiple 8 (a + n)
+  high_8 = multiple_of_8 r.grain (a + n) roomy.wide (multiple_sum r.grain a n part.grained part.rounded)
+
+  module _ (free_part : IsFree a (a + n) hs) where
+    abbrev taken_cut : (front : List Span) × (h : Span) × (back : List Span) × IsTakenFrom r.lo r.hi a (a + n) hs front h back
+    taken_cut = cut_taken r.lo r.hi a (a + n) hs some holes free_part
+
+    pub take_there : None ≡ last_before (a + n) hs → ⊥
+    take_there is = let c = taken_cut in none-some c.1.from (is ∙ c.3.at)
+
+    module _ (begin : ℕ) (at : Some begin ≡ last_before (a + n) hs) where
+      begin_is : begin ≡ taken_cut.1.from
+      begin_is = same_Some begin taken_cut.1.from (at ∙ taken_cut.3.at)
+
+      words : HasWords taken_cut.1 (first_of no_hole taken_cut.2) bytes
+      words = let c = taken_cut in taken_words r.lo r.hi a (a + n) hs bytes c.0 c.1 c.2 c.3 some low_8 high_8 roomy.small thread
+
+      pub take_from : begin ≤ a
+      take_from = let e = begin_is in let from = taken_cut.3.from in omega arith
+
+      pub take_fits : begin + 8 ≤ length bytes
+      take_fits = let e = begin_is in let w = words in let fits = room taken_cut.1.from taken_cut.1.to w.low w.high w.some in let inside = w.inside in omega arith
+
+      take_size : word_in bytes begin ≡ taken_cut.1.to - taken_cut.1.from
+      take_size = ap (λ (x : ℕ). word_in bytes x) begin_is ∙ words.size
+
+      take_next : word_in bytes (begin + 4) ≡ first_of no_hole taken_cut.2
+      take_next = ap (λ (x : ℕ). word_in bytes (x + 4)) begin_is ∙ words.link
+
+      -- where the hole ends
+      pub take_end : begin + word_in bytes begin ≡ taken_cut.1.to
+      take_end = let e = begin_is in let f = take_size in let has = words.some in omega arith
+
+      pub take_top : begin + word_in bytes begin ≤ r.hi
+      take_top = let e = take_end in let top = taken_cut.3.high in omega arith
+
+      pub take_room : a + n < begin + word_in bytes begin → a + n + 8 ≤ length bytes
+      take_room lt =
+          let e = take_end in
+          let w = words in
+          let inside = w.inside in
+          let fits = room (a + n) taken_cut.1.to high_8 w.high (omega arith) in omega arith
+
+      -- the words of the last hole below
+      pub take_link : IfSome (last_before a hs) (λ (x : ℕ). x + 8 ≤ length bytes)
+      take_link =
+          let c = taken_cut in
+          let cut : IsThread no_hole (c.0 ++ c.1 ∷ c.2) bytes = subst (λ (l : List Span). IsThread no_hole l bytes) c.3.whole thread in
+          elim (cases_lt c.1.from a) [
+            | inl lt ↦ let e = begin_is in let fits = take_fits in subst (λ (o : Option ℕ). IfSome o (λ (x : ℕ). x + 8 ≤ length bytes)) (sym (c.3.inside lt)) (omega arith)
+            | inr le ↦
+                let from = c.3.from in
+                let e : c.1.from ≡ a = omega arith in
+                subst (λ (o : Option ℕ). IfSome o (λ (x : ℕ). x + 8 ≤ length bytes)) (sym (c.3.begins e ∙ ap (λ (x : ℕ). last_before x c.0) (sym e)))
+                (link_fits c.1.from r.lo c.1.from c.0 bytes c.3.below (thread_front no_hole c.0 (c.1 ∷ c.2) bytes cut))
+          ]
+
+      pub take_written : (size next behind : ℕ) (one two three : List ℕ) → size ≡ word_in bytes begin → next ≡ word_in bytes (begin + 4) → one ≡ put_hole bytes (a + n) (begin + size) next
+          → behind ≡ first_of next (add_span (a + n) (begin + size) []) → two ≡ put_link one (last_before a hs) behind → three ≡ put_word two begin (a - begin)
+          → AreThreaded (taken a (a + n) hs) three × AreSameOutside hs bytes three
+      take_written size next behind one two three size_is next_is one_is behind_is two_is three_is =
+          let c = taken_cut in
+          let end : begin + size ≡ c.1.to = ap (λ (m : ℕ). begin + m) size_is ∙ take_end in
+          let link : next ≡ first_of no_hole c.2 = next_is ∙ take_next in
+          let first : one ≡ put_hole bytes (a + n) c.1.to (first_of no_hole c.2) = one_is ∙ ap (λ (m : ℕ). put_hole bytes (a + n) m next) end ∙ ap (λ (m : ℕ). put_hole bytes (a + n) c.1.to m) link in
+          let onward : behind ≡ first_of (first_of no_hole c.2) (add_span (a + n) c.1.to []) = behind_is ∙ ap (λ (m : ℕ). first_of next (add_span (a + n) m [])) end ∙ ap (λ (m : ℕ). first_of m (add_span (a + n) c.1.to [])) link in
+          let second = two_is ∙ ap (λ (l : List ℕ). put_link l (last_before a hs) behind) first ∙ ap (λ (m : ℕ). put_link (put_hole bytes (a + n) c.1.to (first_of no_hole c.2)) (last_before a hs) m) onward in
+          let third = three_is ∙ ap (λ (l : List ℕ). put_word l begin (a - begin)) second
+              ∙ ap (λ (m : ℕ). put_word (put_link (put_hole bytes (a + n) c.1.to (first_of no_hole c.2)) (last_before a hs) (first_of (first_of no_hole c.2) (add_span (a + n) c.1.to []))) m (a - m)) begin_is in
+          subst (λ (l : List ℕ). AreThreaded (taken a (a + n) hs) l × AreSameOutside hs bytes l) (sym third)
+          (taken_done r.lo r.hi a (a + n) hs bytes c.0 c.1 c.2 c.3 some low_8 high_8 roomy.small thread)
+
+  module _ (used_part : IsUsed a (a + n) hs) (inside : a + n ≤ length bytes) where
+    abbrev put_at : (front : List Span) × (from to : ℕ) × (back joins : List Span) × IsPutAt r.lo r.hi a (a + n) hs front from to back joins
+    put_at = cut_put r.lo r.hi a (a + n) hs some part.from part.to holes used_part
+
+    pub put_from : a - length_to a hs ≡ put_at.1
+    put_from = let c = put_at in let e = c.5.ending in let le = c.5.below in omega arith
+
+    pub put_less : length_to a hs ≤ a
+    put_less = let c = put_at in let e = c.5.ending in omega arith
+
+    pub put_end : a + n + length_at (a + n) hs ≡ put_at.2
+    put_end = let c = put_at in let e = c.5.at in let le = c.5.above in omega arith
+
+    pub put_top : a + n + length_at (a + n) hs ≤ r.hi
+    put_top = let e = put_end in let top = put_at.5.high in omega arith
+
+    put_wide : put_at.1 + 8 ≤ put_at.2
+    put_wide = let c = put_at in wide_enough r.lo r.hi a (a + n) hs bytes c.0 c.1 c.2 c.3 c.4 c.5 some low_8 high_8 roomy.small inside thread
+
+    put_inside : put_at.2 ≤ length bytes
+    put_inside = let c = put_at in to_inside r.lo r.hi a (a + n) hs bytes c.0 c.1 c.2 c.3 c.4 c.5 some low_8 high_8 roomy.small inside thread
+
+    pub put_fits : a - length_to a hs + 8 ≤ length bytes
+    put_fits = let e = put_from in let w = put_wide in let i = put_inside in omega arith
+
+    pub put_room : IfSome (last_before a hs) (λ (x : ℕ). x + 8 ≤ length bytes)
+    put_room =
+        let c = put_at in
+        let cut : IsThread no_hole (c.0 ++ (c.4 ++ c.3)) bytes = subst (λ (l : List Span). IsThread no_hole l bytes) c.5.whole thread in
+        elim c.5.begin [
+          | inl alone ↦ subst (λ (o : Option ℕ). IfSome o (λ (x : ℕ). x + 8 ≤ length bytes)) (sym (alone.1 ∙ ap (λ (x : ℕ). last_before x c.0) (sym alone.0)))
+          (link_fits (first_of no_hole (c.4 ++ c.3)) r.lo c.1 c.0 bytes c.5.lower (thread_front no_hole c.0 (c.4 ++ c.3) bytes cut))
+          | inr hole ↦ let w = put_wide in let i = put_inside in subst (λ (o : Option ℕ). IfSome o (λ (x : ℕ). x + 8 ≤ length bytes)) (sym hole.2) (omega arith)
+        ]
+
+    pub put_all : (next end ending : ℕ) (one two : List ℕ) → next ≡ next_above (a + n) hs → end ≡ length_at (a + n) hs → ending ≡ length_to a hs → one ≡ put_link bytes (last_before a hs) (a - ending)
+        → two ≡ put_words one (a - ending) (a + n + end - (a - ending)) next → AreThreaded (joined a (a + n) hs) two × AreSameOutside (joined a (a + n) hs) bytes two
+    put_all next end ending one two next_is end_is ending_is one_is two_is =
+        let c = put_at in
+        let from : a - ending ≡ c.1 = ap (λ (m : ℕ). a - m) ending_is ∙ put_from in
+        let to : a + n + end ≡ c.2 = ap (λ (m : ℕ). a + n + m) end_is ∙ put_end in
+        let link : next ≡ first_of no_hole c.3 = next_is ∙ c.5.next in
+        let first : one ≡ put_link bytes (last_before a hs) c.1 = one_is ∙ ap (λ (m : ℕ). put_link bytes (last_before a hs) m) from in
+        let second = two_is ∙ ap (λ (l : List ℕ). put_words l (a - ending) (a + n + end - (a - ending)) next) first
+            ∙ ap (λ (m : ℕ). put_words (put_link bytes (last_before a hs) c.1) m (a + n + end - m) next) from
+            ∙ ap (λ (m : ℕ). put_words (put_link bytes (last_before a hs) c.1) c.1 (m - c.1) next) to
+            ∙ ap (λ (m : ℕ). put_words (put_link bytes (last_before a hs) c.1) c.1 (c.2 - c.1) m) link in
+        subst (λ (l : List ℕ). AreThreaded (joined a (a + n) hs) l × AreSameOutside (joined a (a + n) hs) bytes l) (sym second)
+        (put_done r.lo r.hi a (a + n) hs bytes c.0 c.1 c.2 c.3 c.4 c.5 some low_8 high_8 roomy.small inside thread)

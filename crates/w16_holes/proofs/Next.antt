@@ -1,5 +1,5 @@
 -- The first hole behind a place, by the links of a thread.
-use Rattle.std.proofs.Common.{ℕ, suc, ◌≡◌, ◌<◌, ◌≤◌, ◌+◌, ◌⊎◌, inl, inr, List, [], ◌∷◌, length, Option, Some, None, unwrap_or, arith, refl, sym, ap, ◌∙◌}
+use Rattle.std.proofs.Common.{ℕ, suc, ◌≡◌, ◌<◌, ◌≤◌, ◌+◌, ◌⊎◌, inl, inr, List, [], ◌∷◌, length, Option, Some, None, unwrap_or, arith, refl, sym, ap, ◌∙◌, ◌-◌, le-leb}
 use Rattle.std.proofs.lemmas.Bool.{cases_lt, lt-ltb, le-ltb}
 use Rattle.std.proofs.lemmas.Bool.Decides.{eqb_tells}
 use Rattle.std.proofs.lemmas.Option.{none-some, same_Some}
@@ -65,16 +65,16 @@ next_below p k lo hi (h ∷ hs) bytes holes thread none is =
       | inr from ↦ absurd (none-some k (sym (last_none p h.from hi (h ∷ hs) from (omega arith, some, holes.2, holes.3)) ∙ sym is))
       | inl lt ↦ elim (known (last_before p hs)) [
         | inl last ↦
-            let e : k ≡ h.from = same_Some (is ∙ last_first p h hs lt last) in
+            let e : k ≡ h.from = same_Some k h.from (is ∙ last_first p h hs lt last) in
             let fits = room h.from h.to words.low words.high words.some in
             let inside = words.inside in
             (omega arith, rw (le-ltb p h.from (omega arith)) (ap (λ (n : ℕ). word_in bytes (n + 4)) e ∙ words.link ∙ sym (next_none p (suc h.to) hi hs holes.3 other.0 last)))
         | inr later ↦
-            let e : k ≡ later.0 = same_Some (is ∙ last_cons p later.0 h hs lt later.1) in
+            let e : k ≡ later.0 = same_Some k later.0 (is ∙ last_cons p later.0 h hs lt later.1) in
             rw (le-ltb p h.from (omega arith)) (next_below p k (suc h.to) hi hs bytes holes.3 thread.1 other.0 (ap (λ (n : ℕ). Some n) e ∙ sym later.1))
       ]
     ]
 
 pub lowest_first : (hs : List Span) → unwrap_or (lowest 0 hs) no_hole ≡ first_of no_hole hs
 lowest_first [] = refl
-lowest_first (h ∷ hs) = refl
+lowest_first (h ∷ hs) = rw (le-leb 0 (h.to - h.from) (omega arith)) refl

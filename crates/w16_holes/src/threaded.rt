@@ -2,7 +2,7 @@
 ghost use Rattle.std.specs.Prelude.{◌≡◌, ◌+◌, ◌-◌, ◌<◌, ◌≤◌, [], length, IfOk, IfErr, IfSome};
 ghost use Rattle.w16_model.specs.Heap.{IsMultiple};
 ghost use Rattle.w16_model.specs.Table.{IsSameOutside};
-ghost use Rattle.w16_holes.specs.Holes.{IsPlace, last_before, add_span};
+ghost use Rattle.w16_holes.specs.Holes.{AreHoles, IsPlace, last_before, add_span};
 ghost use Rattle.w16_holes.specs.Thread.{AreThreaded, first_of, next_above, put_words, put_hole, put_link, threaded_stay};
 
 use crate::{HoleList, Holes, SideHoles};
@@ -57,12 +57,14 @@ fn link_below(side: &SideHoles, space: &mut Region, place: u32, next: u32)
 fn next_above(side: &SideHoles, space: &Region, place: u32) -> u32
     requires place { IsPlace side.now.range place }
     requires kept { AreThreaded side.now.holes space.now.bytes.items }
-    ensures { result ≡ next_above place side.now.holes }
+    ensures value { result ≡ next_above place side.now.holes }
+    ensures ordered { AreHoles side.now.range.lo side.now.range.hi side.now.holes }
 {
+    let last = side.below(place);
     if side.at(space, place) > 0 {
         return space.word_at(place + 4);
     }
-    match side.below(place) {
+    match last {
         Some(begin) => space.word_at(begin + 4),
         None => side.lowest(space, 0).unwrap_or(NO_HOLE),
     }
@@ -161,8 +163,8 @@ impl Holes<Region> for ThreadedHoles {
     }
 
     fn put(&mut self, space: &mut Region, place: u32, n: u32) {
-        let end = place + n + self.side.at(space, place + n);
         let next = next_above(&self.side, space, place + n);
+        let end = place + n + self.side.at(space, place + n);
         let from = place - self.side.ending_at(space, place);
         // Where the hole below is joined, its words are written anew after this.
         link_below(&self.side, space, place, from);
