@@ -16,9 +16,10 @@ raised low high bs = map (raised_in bs low high) bs
 abbrev pub opened : ℕ → ℕ → ℕ → List Block → List Block
 opened low end high bs = raised end high (gathered low end bs)
 
--- where what is free begins in a gap that is opened at `end`, and where it ends
-abbrev pub free_from : List Block → ℕ → ℕ → ℕ
-free_from bs low end = low + loose_bytes bs low end
+-- where a block ends that slides down to `low` behind the loose blocks that stand below it
+abbrev pub end_in : List Block → ℕ → Block → ℕ
+end_in bs low b = low + loose_bytes bs low b.at + b.size
 
-abbrev pub free_to : List Block → ℕ → ℕ → ℕ
-free_to bs end high = high - loose_bytes bs end high
+-- what an interval has beside its loose blocks
+abbrev pub spare_in : List Block → ℕ → ℕ → ℕ
+spare_in bs low high = high - low - loose_bytes bs low high

@@ -14,7 +14,7 @@ use Rattle.w16_blocks.proofs.Outside.{used_each, outside_but}
 use Rattle.w16_compact.proofs.Lifted.{cleared_up, of_known}
 use Rattle.w16_compact.proofs.Order.{same_some}
 use Rattle.w16_compact.proofs.Settled.{contents_run}
-use Rattle.w16_compact.proofs.open.lift.Goals as goal
+use Rattle.w16_compact.proofs.opening.lift.Goals as goal
 
 pub shift-requires-clause-id : goal.shift-requires-clause-id
 shift-requires-clause-id g c = (fits_lifted c.args.blocks.now c.args.to c.args.block c.requires.ordered c.requires.known c.requires.up.0 c.requires.up.1 c.requires.last c.requires.grained).id

@@ -7,7 +7,7 @@ use Rattle.w16_blocks.specs.Runs.{IsCut}
 use Rattle.w16_compact.specs.Gather.{contents, moved_between}
 use Rattle.w16_compact.specs.Open.{raised}
 use Rattle.w16_compact.specs.Rest.{IsSameRest}
-use Rattle.w16_compact.proofs.open.raise.Given as goal
+use Rattle.w16_compact.proofs.opening.raise.Given as goal
 
 abbrev pub invariant-loop-block : goal.invariant-loop-block
 invariant-loop-block g l =

@@ -11,8 +11,8 @@ use Rattle.w16_compact.specs.Open.{raised}
 use Rattle.w16_compact.proofs.Gathering.{cut_high, at_most}
 use Rattle.w16_compact.proofs.Raising.{loose_empty, raised_none, raised_all, moved_start, slid_raised, room_then, passed, place_then, list_then, cut_then, moved_then}
 use Rattle.w16_compact.proofs.Rests.{rest_more, rest_same}
-use Rattle.w16_compact.proofs.open.raise.Given as Given
-use Rattle.w16_compact.proofs.open.raise.Goals as goal
+use Rattle.w16_compact.proofs.opening.raise.Given as Given
+use Rattle.w16_compact.proofs.opening.raise.Goals as goal
 
 pub loop-block-init : goal.loop-block-init
 loop-block-init g c =
