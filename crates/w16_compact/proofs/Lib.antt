@@ -11,6 +11,7 @@ pub mod ByAddress
 pub mod Walked
 pub mod Cleared
 pub mod Raising
+pub mod Opened
 pub mod Marks
 pub mod PinnedIds
 pub mod Searched

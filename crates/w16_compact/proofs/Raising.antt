@@ -62,7 +62,7 @@ loose_empty bs a = loose_none bs a a (out bs)
     out (y ∷ ys) = (cases_lt y.at a, out ys)
 
 -- those of one block
-loose_only : (lo hi s : ℕ) (x : Block) (bs : List Block) → IsLaid lo hi bs → block_with bs x.id ≡ Some x → x.hold ≡ Loose → x.at < s → AllByRecursion (λ c. (c.at ≤ x.at) ⊎ (s ≤ c.at)) bs → loose_bytes bs x.at s ≡ x.size
+pub loose_only : (lo hi s : ℕ) (x : Block) (bs : List Block) → IsLaid lo hi bs → block_with bs x.id ≡ Some x → x.hold ≡ Loose → x.at < s → AllByRecursion (λ c. (c.at ≤ x.at) ⊎ (s ≤ c.at)) bs → loose_bytes bs x.at s ≡ x.size
 loose_only lo hi s x [] laid known loose lt last = absurd (false≢true (ap is_some known))
 loose_only lo hi s x (b ∷ bs) laid known loose lt last =
     let size = laid.1 in
