@@ -17,7 +17,7 @@ use Rattle.w16_blocks.proofs.Remove.{with_same, with_other, each_with}
 use Rattle.w16_blocks.proofs.RunHoles.{All-mapped, All-unmapped}
 use Rattle.w16_blocks.proofs.Step.{lies}
 use Rattle.w16_compact.specs.Gather.{gathered, packed, moved_between, FitsGap, MayGather, AreSlid}
-use Rattle.w16_compact.specs.Open.{raised_in, raised, opened, end_in, spare_in}
+use Rattle.w16_compact.specs.Open.{raised_in, opened, end_in, spare_in}
 use Rattle.w16_compact.proofs.Cleared.{Past, inside_is, tiled, clear_from, missed, one_hole, no_other}
 use Rattle.w16_compact.proofs.Gathering.{moved_same, cut_high}
 use Rattle.w16_compact.proofs.Loose.{loose_one, loose_none, loose_here}

@@ -15,7 +15,7 @@ use Rattle.w16_blocks.specs.Runs.{IsCut, slid_with}
 use Rattle.w16_blocks.proofs.Lifting.{IsPassed, around}
 use Rattle.w16_blocks.proofs.Remove.{with_same, with_other, each_with}
 use Rattle.w16_blocks.proofs.RunHoles.{All-mapped, All-unmapped}
-use Rattle.w16_blocks.proofs.Sliding.{slid_below, slid_above, slid_inside, map-same, moved_to}
+use Rattle.w16_blocks.proofs.Sliding.{slid_below, slid_above, slid_inside, moved_to}
 use Rattle.w16_compact.specs.Gather.{moved_between, FitsGap, AreSlid}
 use Rattle.w16_compact.specs.Open.{raised_in, raised}
 use Rattle.w16_compact.proofs.Cleared.{inside_is}

@@ -1,7 +1,7 @@
 -- Blocks slid to the high end of an interval, and a gap that is opened behind one of its blocks.
-use Rattle.std.specs.Prelude.{ℕ, ◌+◌, ◌-◌, ◌≤◌, if◌then◌else◌, List, map}
+use Rattle.std.specs.Prelude.{ℕ, ◌+◌, ◌-◌, if◌then◌else◌, List, map}
 use Rattle.w16_model.specs.declared.Block.{Block}
-use Rattle.w16_model.specs.Gap.{block_end, begins_in, loose_bytes}
+use Rattle.w16_model.specs.Gap.{begins_in, loose_bytes}
 use Rattle.w16_compact.specs.Gather.{gathered}
 
 -- a block, where what begins in [low, high) slides up to `high`: from there on just the loose blocks from it on have room

@@ -1,4 +1,4 @@
-use Rattle.std.proofs.Common.{ℕ, ◌≡◌, ◌+◌, ◌-◌, ◌<◌, ◌≤◌, ◌⊎◌, ◌∙◌, List, Option, Some, IfSome, sum_by, arith, inl, inr, refl, sym, ap, subst}
+use Rattle.std.proofs.Common.{ℕ, ◌≡◌, ◌+◌, ◌<◌, ◌≤◌, ◌⊎◌, ◌∙◌, Option, Some, IfSome, arith, inl, inr, sym, ap, subst}
 use Rattle.w16_model.specs.declared.Block.{Block}
 use Rattle.w16_model.specs.Gap.{IsClear, IsGap, IsHole, IsLaid, is_any, block_end, loose_bytes}
 use Rattle.w16_model.specs.Table.{block_with}
