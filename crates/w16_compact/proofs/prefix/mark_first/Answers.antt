@@ -1,4 +1,4 @@
-use Rattle.std.proofs.Common.{ℕ, suc, List, ◌≡◌, ◌-◌, true, length, drop, take, ap, sym, ◌∙◌, subst, arith}
+use Rattle.std.proofs.Common.{ℕ, suc, List, ◌≡◌, ◌∷◌, ◌+◌, ◌-◌, ◌≤◌, true, false, length, drop, take, ap, refl, sym, ◌∙◌, subst, arith}
 use Rattle.std.specs.Prelude.{slice_get}
 use Rattle.std.proofs.lemmas.List.{length-set}
 use Rattle.w16_model.specs.Discards.{eligible}
