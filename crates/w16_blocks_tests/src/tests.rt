@@ -151,6 +151,33 @@ fn walks_by_address(rt: HostRuntime) -> Result<(), Fail> {
 }
 
 #[test]
+fn walks_down(rt: HostRuntime) -> Result<(), Fail> {
+    let mut space = Region::new(rt.alloc(), 256)?;
+    let blocks = three(&rt, &mut space)?;
+    // From above all on, each time from where the block before begins.
+    assert_eq!(rt;
+        blocks.last_below(1000),
+        Some(block(3, 160, 32, Hold::Loose))
+    );
+    assert_eq!(rt;
+        blocks.last_below(160),
+        Some(block(2, 128, 32, Hold::Pinned))
+    );
+    assert_eq!(rt;
+        blocks.last_below(128),
+        Some(block(0, 32, 32, Hold::Loose))
+    );
+    assert_eq!(rt; blocks.last_below(32), None);
+    // From inside a block, which is then the last.
+    assert_eq!(rt;
+        blocks.last_below(129),
+        Some(block(2, 128, 32, Hold::Pinned))
+    );
+    assert_eq!(rt; blocks.last_below(0), None);
+    Ok(())
+}
+
+#[test]
 fn walks_by_part(rt: HostRuntime) -> Result<(), Fail> {
     let mut space = Region::new(rt.alloc(), 256)?;
     let blocks = three(&rt, &mut space)?;
