@@ -1,6 +1,6 @@
 -- A place that was found or made, and how much there can be.
 use Rattle.std.specs.List.{find}
-use Rattle.std.proofs.Common.{◌≡◌, ℕ, ◌-◌, ◌<◌, ◌≤◌, Bool, true, false, nat_le, IfSome, List, [], ◌∷◌, Option, Some, None, option_map, refl, sym, ap, subst, arith}
+use Rattle.std.proofs.Common.{◌≡◌, ℕ, ◌-◌, ◌<◌, ◌≤◌, Bool, true, false, nat_le, IfSome, List, [], Option, Some, None, option_map, sym, subst, arith}
 use Rattle.w16_model.specs.declared.Block.{Block}
 use Rattle.w16_compact.specs.Gather.{moved_between}
 use Rattle.w16_compact.proofs.Gathering.{moved_same}

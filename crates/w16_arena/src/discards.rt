@@ -6,7 +6,7 @@ ghost use Rattle.w16_arena.specs.State.{KeepsBytes, holes_in};
 
 use crate::Arena;
 use w16_blocks::Blocks;
-use w16_compact::eligible_at;
+use w16_compact::is_eligible;
 use w16_holes::{HoleList, Holes};
 use w16_lru::Order;
 use w16_region::Space;
@@ -39,8 +39,8 @@ fn first_eligible<H: HoleList>(blocks: &Blocks<H>, order: &Order, h: Option<u32>
         (eligible blocks.now.blocks order.now.ids h ≡ [])
         (λ id. slice_get (eligible blocks.now.blocks order.now.ids h) 0 ≡ Some id) }
 {
-    for i in 0..order.len() {
-        if let Some(id) = eligible_at(blocks, order, h, i) {
+    for id in order.oldest_first() {
+        if is_eligible(blocks, h, id) {
             return Some(id);
         }
     }

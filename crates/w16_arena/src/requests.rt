@@ -5,6 +5,7 @@ ghost use Rattle.w16_model.specs.Heap.{IsMultiple};
 ghost use Rattle.w16_model.specs.Discards.{needed, snapshot};
 ghost use Rattle.w16_model.specs.Table.{block_with, heap_in, IsSound};
 ghost use Rattle.w16_model.specs.Request.{Allocates, Compacts, compaction_prefix};
+ghost use Rattle.w16_model.specs.Fewest.{AllocatesFewest, CompactsFewest};
 ghost use Rattle.w16_arena.specs.State.{KeepsRest, holes_in};
 ghost use Rattle.w16_arena.specs.Asked.{HasDiscarded, IsPlaced, IsSlid, first_eligible};
 
@@ -42,6 +43,8 @@ impl<H: HoleList> Arena<H> {
         requires inside { self.old.table.hi ≤ length (S.bytes space.old) }
         ensures allocated { Allocates (heap_in self.old.table (S.bytes space.old)) id size kind 0 way (is_ok result)
             (heap_in self.new.table (S.bytes space.new)) }
+        ensures fewest { AllocatesFewest (heap_in self.old.table (S.bytes space.old)) id size way (is_ok result)
+            (heap_in self.new.table (S.bytes space.new)) }
         ensures placed { IfOk result (λ p. IsPlaced (heap_in self.old.table (S.bytes space.old)) id size p
             (heap_in self.new.table (S.bytes space.new))) }
         ensures discarded { IfOk result (λ _. HasDiscarded (heap_in self.old.table (S.bytes space.old)) id size way self.new.discarded) }
@@ -51,6 +54,7 @@ impl<H: HoleList> Arena<H> {
         ensures written { IfOk result (λ p. S.written space.new
             ≡ counted (counted (S.written space.old) p.moved) (if way.zero then size else 0)) }
     {
+        has_bytes(space);
         if let Some(placed) = self.place(space, id, size, kind, way) {
             self.forget_discards();
             return Ok(placed);
@@ -110,6 +114,8 @@ impl<H: HoleList> Arena<H> {
         requires inside { self.old.table.hi ≤ length (S.bytes space.old) }
         ensures compacted { Compacts (heap_in self.old.table (S.bytes space.old)) n result.room
             (heap_in self.new.table (S.bytes space.new)) }
+        ensures fewest { CompactsFewest (heap_in self.old.table (S.bytes space.old)) n result.room
+            (heap_in self.new.table (S.bytes space.new)) }
         ensures slid { IsSlid (heap_in self.old.table (S.bytes space.old)) result (heap_in self.new.table (S.bytes space.new)) }
         ensures discarded { 0 < n → self.new.discarded ≡ first_eligible (heap_in self.old.table (S.bytes space.old))
             (compaction_prefix (heap_in self.old.table (S.bytes space.old)) n) None }
@@ -118,10 +124,11 @@ impl<H: HoleList> Arena<H> {
         ensures kept { H.are_in (holes_in self.new.table) (S.bytes space.new) }
         ensures written { S.written space.new ≡ counted (S.written space.old) result.moved }
     {
+        self.is_sound();
+        has_bytes(space);
         if n > 0 {
             return self.slide_discarding(space, n);
         }
-        self.is_sound();
         let room = self.room_all(space);
         self.forget_discards();
         Compacted {
@@ -163,7 +170,7 @@ impl<H: HoleList> Arena<H> {
         ensures same { self.new ≡ self.old }
         ensures sound { IsSound self.old.table }
     {
-        least_prefix(&self.blocks, space, &self.order, &mut self.marks, h, n)
+        least_prefix(&self.blocks, space, &self.order, &mut self.gap_rooms, h, n)
     }
 
     /// How many objects may be discarded at most.

@@ -3,19 +3,21 @@
 //! - [`room`] tells how much compaction can make.
 //! - [`gap_for`] tells where it can make enough.
 //! - [`gather`] makes it there.
-//! - [`least_prefix`] tells how many discards it takes first, [`room_after`] how much room a number of them leaves, and [`eligible_at`]
-//!   which objects they would be.
+//! - [`least_prefix`] tells how many discards it takes first, [`room_after`] how much room a number of them leaves, and [`is_eligible`]
+//!   which objects they may be.
 //!
-//! No call takes memory. What is proved of them is stated over `w16_model`'s gaps and holes.
+//! No call but [`GapRooms::with_room`] takes memory. What is proved of them is stated over `w16_model`'s gaps and holes.
 #![tactic(auto)]
 
+mod gap_rooms;
 mod gaps;
 mod prefix;
 mod reach;
 mod rooms;
 mod slide;
 
+pub use gap_rooms::GapRooms;
 pub use gaps::{Gap, gap_for};
-pub use prefix::{eligible_at, least_prefix, room_after};
+pub use prefix::{is_eligible, least_prefix, room_after};
 pub use rooms::room;
 pub use slide::gather;

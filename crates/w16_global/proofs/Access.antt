@@ -44,7 +44,7 @@ module _ {h : Holding} {xs : List (Option Attributes)} {t : selectors.Descriptor
   )
 
   -- Write
-  module _ (slice : List ℕ) (long : length slice ≡ n) (new : Holding) (said : new ≡ record h { heap = after_write h.heap slot offset slice }) where
+  module _ (slice : List ℕ) (long : length slice ≡ n) {count : ℕ} (new : Holding) (said : new ≡ record h { heap = after_write h.heap slot offset slice; written = count }) where
     pub written_joined : All (λ b. b < 256) slice → AreJoined new xs t
     written_joined bytes =
         let f = found in
@@ -54,7 +54,7 @@ module _ {h : Holding} {xs : List (Option Attributes)} {t : selectors.Descriptor
         let handles : AreHandles (record (handles_of h xs 0) { heap = after }) =
         other_handles (handles_of h xs 0) are.handles after (written_heap h.heap are.handles.heap slot f.object here f.bytes f.has offset slice fits bytes) refl refl
         (same_updated h.heap.objects slot (λ (o : Object). record o { bytes = option_map (λ (b : List ℕ). put_part b offset slice) o.bytes })) in
-        subst (λ k. AreJoined k xs t) (sym said) (joined_same h xs t are (record h { heap = after }) refl handles (write_same h.heap slot offset slice f.bytes f.object here f.has fits))
+        subst (λ k. AreJoined k xs t) (sym said) (joined_same h xs t are (record h { heap = after; written = count }) refl handles (write_same h.heap slot offset slice f.bytes f.object here f.has fits))
 
     pub write_known : (after : Handles) → after ≡ record (handles_of new xs m) { heap = after_touch new.heap slot } → Gives (far_write w selector offset slice) access.FarAnswer.Done after
     write_known after then_is =
@@ -66,6 +66,6 @@ module _ {h : Holding} {xs : List (Option Attributes)} {t : selectors.Descriptor
         )
 
   -- Fill
-  pub fill_known : (byte : ℕ) (new : Holding) → new ≡ record h { heap = after_write h.heap slot offset (repeated n byte) } → (after : Handles) → after ≡ record (handles_of new xs m) { heap = after_touch new.heap slot }
+  pub fill_known : (byte : ℕ) {count : ℕ} (new : Holding) → new ≡ record h { heap = after_write h.heap slot offset (repeated n byte); written = count } → (after : Handles) → after ≡ record (handles_of new xs m) { heap = after_touch new.heap slot }
       → Gives (far_write w selector offset (repeated n byte)) access.FarAnswer.Done after
   fill_known byte = write_known (repeated n byte) (length-repeated n byte)

@@ -23,7 +23,7 @@ none_at (suc n) (suc q) = none_at n q
 
 module _ (memory slots : ℕ) (few : slots ≤ MOST_SLOTS) where
   abbrev holding : Holding
-  holding = record { cap = FIRST_SLOT + slots; heap = empty_heap 0 memory GRAIN; discarded = [] }
+  holding = record { cap = FIRST_SLOT + slots; heap = empty_heap 0 memory GRAIN; discarded = []; written = 0 }
 
   abbrev attributes : List (Option Attributes)
   attributes = replicate (FIRST_SLOT + slots) None
@@ -47,7 +47,7 @@ module _ (memory slots : ℕ) (few : slots ≤ MOST_SLOTS) where
   }
 
   -- the parts that were made
-  module _ (h : Holding) (xs : List (Option Attributes)) (t : selectors.DescriptorTable) (h_is : h ≡ record { cap = FIRST_SLOT + slots; heap = empty_heap 0 memory GRAIN; discarded = [] }) (xs_is : xs ≡ replicate (FIRST_SLOT + slots) None) where
+  module _ (h : Holding) (xs : List (Option Attributes)) (t : selectors.DescriptorTable) (h_is : h ≡ record { cap = FIRST_SLOT + slots; heap = empty_heap 0 memory GRAIN; discarded = []; written = 0 }) (xs_is : xs ≡ replicate (FIRST_SLOT + slots) None) where
     pub begin_joined : t ≡ replicate (FIRST_SLOT + slots) None → AreJoined h xs t
     begin_joined t_is = subst (λ t. AreJoined h xs t) (sym t_is) (subst (λ xs. AreJoined h xs table) (sym xs_is) (subst (λ h. AreJoined h attributes table) (sym h_is) joined))
 

@@ -35,5 +35,5 @@ module _ (cap memory : ℕ) (few : cap ≤ 8192) where
       (λ q. object_here (beside fresh_parts) q ∙ ap (option_map (object_in [] (repeated memory 0) q)) (no_entry cap q) ∙ sym (get-empty nat_cmp q))
       (λ q. place_here (beside fresh_parts) q ∙ sym (get-empty nat_cmp q))
 
-  pub fresh_holding : holding_of (record { table = empty_table cap 0 memory GRAIN; discarded = [] }) (repeated memory 0) ≡ record { cap = cap; heap = empty_heap 0 memory GRAIN; discarded = [] }
-  fresh_holding = λ i. record { cap = length-replicate {A = Option Entry} cap None i; heap = fresh_heap i; discarded = [] }
+  pub fresh_holding : holding_of (record { table = empty_table cap 0 memory GRAIN; discarded = [] }) (repeated memory 0) 0 ≡ record { cap = cap; heap = empty_heap 0 memory GRAIN; discarded = []; written = 0 }
+  fresh_holding = λ i. record { cap = length-replicate {A = Option Entry} cap None i; heap = fresh_heap i; discarded = []; written = 0 }

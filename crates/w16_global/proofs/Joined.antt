@@ -15,7 +15,7 @@ use Rattle.w16_selectors.specs.Descriptors as selectors
 use Rattle.w16_selectors.specs.Descriptors.{descriptor_at, IsUntaken}
 use Rattle.w16_selectors.specs.declared.Descriptor.{Descriptor}
 use Rattle.w16_global.specs.Parts.{Holding}
-use Rattle.w16_global.specs.Joined.{attributes_in, handles_of, descriptor_for, described, AreJoined}
+use Rattle.w16_global.specs.Joined.{Global, attributes_in, handles_of, descriptor_for, described, AreJoined}
 
 -- Attributes by slot.
 
@@ -103,3 +103,7 @@ module _ (holding : Holding) (attributes : List (Option Attributes)) (table : se
       from : (p : Option Object) → is_some p ≡ true → IfSome p (λ _. IsSlot (handles_of holding attributes 0) slot) → (FIRST_SLOT ≤ slot) × (slot < holding.cap)
       from None t h = absurd (false≢true t)
       from (Some o) t h = (h.0, (let some = are.some in let below = h.1 in omega arith))
+
+-- the handles of what a value shows
+pub handles_shown : {shown g : Global} → shown ≡ g → shown.handles ≡ g.handles
+handles_shown e = ap (λ (g : Global). g.handles) e

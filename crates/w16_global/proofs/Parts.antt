@@ -35,7 +35,7 @@ module _ {s : ArenaState} {memory : List ℕ} (parts : AreParts s memory) where
   pub parts_stepped : {new : ArenaState} {step : Heap → Heap → Type 0} → Steps s new step → AreParts new memory
   parts_stepped p = parts_after parts p.range refl parts.bytes
 
-  module _ {h : Holding} (shown : holding_of s memory ≡ h) where
+  module _ {count : ℕ} {h : Holding} (shown : holding_of s memory count ≡ h) where
     -- what the parts have, the value has, and the other way round
     pub told : (P : Heap → Type 0) → P (heap_in s.table memory) → P h.heap
     told P k = subst (λ (h : Holding). P h.heap) shown k
@@ -72,9 +72,9 @@ module _ {s : ArenaState} {memory : List ℕ} (parts : AreParts s memory) where
     no_block_known id free = no_block (beside parts) id (no_entry_known id free)
 
     -- the value after a step whose heap is known
-    pub holding_stepped : {new : ArenaState} {step : Heap → Heap → Type 0} → Steps s new step → (heap : Heap) → heap_in new.table memory ≡ heap → holding_of new memory ≡ record h { heap = heap }
+    pub holding_stepped : {new : ArenaState} {step : Heap → Heap → Type 0} → Steps s new step → (heap : Heap) → heap_in new.table memory ≡ heap → holding_of new memory count ≡ record h { heap = heap }
     holding_stepped {new} p heap is =
-        (λ i. record { cap = p.range.ids i; heap = is i; discarded = ap (λ (z : ArenaState). z.discarded) p.rest i }) ∙ ap (λ (h : Holding). record h { heap = heap }) shown
+        (λ i. record { cap = p.range.ids i; heap = is i; discarded = ap (λ (z : ArenaState). z.discarded) p.rest i; written = count }) ∙ ap (λ (h : Holding). record h { heap = heap }) shown
 
     -- The lowest block at or above an address.
     module _ (from : ℕ) (small : length memory < 2 ^ 32) (found : Option Block) where
@@ -115,7 +115,7 @@ module _ {s : ArenaState} {memory : List ℕ} (parts : AreParts s memory) where
           turn (Some b) f = let end = ends_in_memory (beside parts) b.id b f.1 in (end.0, omega (arith, end.1, small))
 
     -- an absent object that was entered
-    pub entered_shown : {new : ArenaState} (id : ℕ) {kind : Kind} → Steps s new (λ a b. Enters a id kind b) → holding_of new memory ≡ record h { heap = with_object h.heap id (record { kind = kind; locks = 0; bytes = None }) }
+    pub entered_shown : {new : ArenaState} (id : ℕ) {kind : Kind} → Steps s new (λ a b. Enters a id kind b) → holding_of new memory count ≡ record h { heap = with_object h.heap id (record { kind = kind; locks = 0; bytes = None }) }
     entered_shown {new} id {kind} p =
         holding_stepped p (heap_in new.table memory) refl
         ∙ (λ i. record h { heap = (p.heaps memory whole).entered i }) ∙ ap (λ (k : Holding). record h { heap = with_object k.heap id (record { kind = kind; locks = 0; bytes = None }) }) shown
@@ -126,10 +126,11 @@ module _ {s : ArenaState} {memory : List ℕ} (parts : AreParts s memory) where
       freed_ok (Ok x) p = told (λ heap. after_free heap id ≡ Ok (heap_in new.table after)) (p.heaps memory whole ∙ ap Ok (sym (heap_kept memory after new.table same)))
       freed_ok (Err e) p = tt
 
-      pub freed_err : {X : Type 0} (r : Result X Refusal) → IfErr r (λ e. (new ≡ s) × Steps s new (λ a b. after_free a id ≡ Err e)) → IfErr r (λ e. (after_free h.heap id ≡ Err e) × (holding_of new after ≡ h))
-      freed_err (Ok x) p = tt
-      freed_err (Err e) p =
+      pub freed_err : {X : Type 0} (r : Result X Refusal) {later : ℕ} → later ≡ count → IfErr r (λ e. (new ≡ s) × Steps s new (λ a b. after_free a id ≡ Err e))
+          → IfErr r (λ e. (after_free h.heap id ≡ Err e) × (holding_of new after later ≡ h))
+      freed_err (Ok x) none p = tt
+      freed_err (Err e) {later} none p =
           let still : contents after s.table.blocks ≡ contents memory s.table.blocks = subst (λ (x : ArenaState). contents after x.table.blocks ≡ contents memory x.table.blocks) p.0 same in (
             told (λ heap. after_free heap id ≡ Err e) (p.1.heaps memory whole),
-            ap (λ (x : ArenaState). holding_of x after) p.0 ∙ (λ i. record { cap = length s.table.entries; heap = heap_kept memory after s.table still i; discarded = s.discarded }) ∙ shown,
+            ap (λ (x : ArenaState). holding_of x after later) p.0 ∙ (λ i. record { cap = length s.table.entries; heap = heap_kept memory after s.table still i; discarded = s.discarded; written = none i }) ∙ shown,
           )

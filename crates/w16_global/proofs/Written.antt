@@ -81,7 +81,7 @@ parts_written {memory = memory} parts at new le ours = record {
 
 module _ {state : ArenaState} {memory : List ℕ} (parts : AreParts state memory) (q : ℕ) where
   -- Of the value that the parts stand for, where an id has a block.
-  module _ {h : Holding} (shown : holding_of state memory ≡ h) {x : Block} (is : block_with state.table.blocks q ≡ Some x) where
+  module _ {count : ℕ} {h : Holding} (shown : holding_of state memory count ≡ h) {x : Block} (is : block_with state.table.blocks q ≡ Some x) where
     bytes_shown : bytes_at h.heap q ≡ Some (bytes_of memory x)
     bytes_shown = ap (λ (h : Holding). bytes_at h.heap q) (sym shown) ∙ bytes_here (beside parts) q ∙ ap (option_map (bytes_of memory)) is
 
@@ -99,8 +99,8 @@ module _ {state : ArenaState} {memory : List ℕ} (parts : AreParts state memory
     seen at n has = sym (slice_of_range memory x.at x.size at n (in_block at n has)) ∙ sym (ap (λ (o : Option (List ℕ)). part (unwrap_or o []) at n) bytes_shown)
 
   -- without a block there is no part
-  pub no_part : {h : Holding} (shown : holding_of state memory ≡ h) → block_with state.table.blocks q ≡ None → (at n : ℕ) → HasPart h.heap q at n → ⊥
-  no_part {h} shown none at n has = subst (λ (o : Option (List ℕ)). IsSomeAnd o (λ bytes. at + n ≤ length bytes))
+  pub no_part : {count : ℕ} {h : Holding} (shown : holding_of state memory count ≡ h) → block_with state.table.blocks q ≡ None → (at n : ℕ) → HasPart h.heap q at n → ⊥
+  no_part {h = h} shown none at n has = subst (λ (o : Option (List ℕ)). IsSomeAnd o (λ bytes. at + n ≤ length bytes))
       (ap (λ (h : Holding). bytes_at h.heap q) (sym shown) ∙ bytes_here (beside parts) q ∙ ap (option_map (bytes_of memory)) none) has
 
   -- What a write inside an id's block leaves.
@@ -162,10 +162,10 @@ module _ {state : ArenaState} {memory : List ℕ} (parts : AreParts state memory
     heap_written = same_heap after (after_write before q (at - x.at) new) refl refl refl refl objects_written (λ r. refl)
 
   -- the value is the one after the write
-  pub holding_written : {h : Holding} (shown : holding_of state memory ≡ h) {x : Block} (is : block_with state.table.blocks q ≡ Some x) (at : ℕ) (new : List ℕ) → HasPart h.heap q at (length new) → All (λ b. b < 256) new
-      → holding_of state (put_part memory (x.at + at) new) ≡ record h { heap = after_write h.heap q at new }
-  holding_written {h} shown {x} is at new has ours =
+  pub holding_written : {count : ℕ} {h : Holding} (shown : holding_of state memory count ≡ h) {x : Block} (is : block_with state.table.blocks q ≡ Some x) (at : ℕ) (new : List ℕ) → HasPart h.heap q at (length new) → All (λ b. b < 256) new
+      → (more : ℕ → ℕ) → holding_of state (put_part memory (x.at + at) new) (more count) ≡ record h { heap = after_write h.heap q at new; written = more h.written }
+  holding_written {count} {h} shown {x} is at new has ours more =
       let within = in_block shown is at (length new) has in
       let there : x.at + at - x.at ≡ at = omega arith in
-      (λ i. record { cap = length state.table.entries; heap = (heap_written is (x.at + at) new (omega arith) (omega (arith, within)) ours ∙ ap (λ k. after_write (heap_in state.table memory) q k new) there) i; discarded = state.discarded })
-      ∙ ap (λ (h : Holding). record h { heap = after_write h.heap q at new }) shown
+      (λ i. record { cap = length state.table.entries; heap = (heap_written is (x.at + at) new (omega arith) (omega (arith, within)) ours ∙ ap (λ k. after_write (heap_in state.table memory) q k new) there) i; discarded = state.discarded; written = more count })
+      ∙ ap (λ (h : Holding). record h { heap = after_write h.heap q at new; written = more h.written }) shown

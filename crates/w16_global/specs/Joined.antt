@@ -1,10 +1,13 @@
 -- The objects, their attributes and their selectors together, and the handles that they stand for.
-use Rattle.std.specs.Prelude.{◌≡◌, ℕ, ◌-◌, ◌≤◌, true, ◌&&◌, if◌then◌else◌, nat_le, nat_lt, List, length, Option, Some, None, option_map, unwrap_or}
+use Rattle.std.specs.Prelude.{◌≡◌, ℕ, ◌-◌, ◌≤◌, ◌==◌, true, ◌&&◌, if◌then◌else◌, nat_le, nat_lt, List, length, Option, Some, None, option_map, unwrap_or, refl}
+use Rattle.std.specs.Coded.{Coded, code_by, coded×, coded_ℕ}
 use Rattle.std.specs.Ordering.{nat_cmp}
 use Rattle.std.specs.FinMap as finmap
 use Rattle.std.specs.FinMap.{FinMap}
 use Rattle.w16_model.specs.declared.Attributes.{Attributes}
-use Rattle.w16_model.specs.declared.TheConstants.{FIRST_SLOT}
+use Rattle.w16_model.specs.declared.TheConstants.{FIRST_SLOT, GMEM_ZEROINIT}
+use Rattle.w16_model.specs.Calls.{has_flag, rounded_size}
+use Rattle.w16_model.specs.Codes.{handles_code}
 use Rattle.w16_model.specs.Discards.{is_member}
 use Rattle.w16_model.specs.Heap.{Heap, Object, object_at}
 use Rattle.w16_model.specs.Table.{by_id}
@@ -22,6 +25,19 @@ attributes_in attributes = finmap.from_entries (by_id (λ _ a. a) 0 attributes)
 -- the handles that they stand for, with so many bytes moved last; an object's id is its slot
 abbrev pub handles_of : Holding → List (Option Attributes) → ℕ → Handles
 handles_of holding attributes moved = record { slots = holding.cap - FIRST_SLOT; heap = holding.heap; attributes = attributes_in attributes; moved = moved }
+
+-- the handles, and how many bytes of the memory were slid, filled or written by far accesses so far
+pub record Global : Type 0 where
+  pub handles : Handles
+  pub written : ℕ
+
+-- by what a proof tells them apart
+abbrev pub global_code : Coded Global
+global_code = code_by (Handles × ℕ) (coded× handles_code coded_ℕ) (λ g. (g.handles, g.written)) (λ p. record { handles = p.0; written = p.1 }) (λ _. refl)
+
+-- how many zeros GlobalAlloc puts into an object that it answers
+abbrev pub zeroed : ℕ → ℕ → ℕ → ℕ
+zeroed flags size handle = if handle == 0 then 0 else (if has_flag flags GMEM_ZEROINIT then rounded_size size else 0)
 
 -- the descriptor of an object: where it stands, and the offset of its last byte
 abbrev pub descriptor_for : Heap → ℕ → Object → Descriptor

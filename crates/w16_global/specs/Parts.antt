@@ -7,19 +7,21 @@ use Rattle.w16_model.specs.Heap.{Heap, bytes_at}
 use Rattle.w16_model.specs.Table.{IsSound, heap_in}
 use Rattle.w16_arena.specs.State.{ArenaState}
 
--- a heap, how many ids its objects may have, and the ids that its last request discarded
+-- a heap, how many ids its objects may have, the ids that its last request discarded, and how many bytes of its memory were written so far
 pub record Holding : Type 0 where
   pub cap : ℕ
   pub heap : Heap
   pub discarded : List ℕ
+  pub written : ℕ
 
 -- by what a proof tells them apart
 abbrev pub holding_code : Coded Holding
-holding_code = code_by (ℕ × (Heap × List ℕ)) (coded× coded_ℕ (coded× heap_code (coded_list coded_ℕ))) (λ h. (h.cap, (h.heap, h.discarded))) (λ p. record { cap = p.0; heap = p.1.0; discarded = p.1.1 }) (λ _. refl)
+holding_code = code_by (ℕ × (Heap × (List ℕ × ℕ))) (coded× coded_ℕ (coded× heap_code (coded× (coded_list coded_ℕ) coded_ℕ))) (λ h. (h.cap, (h.heap, (h.discarded, h.written))))
+    (λ p. record { cap = p.0; heap = p.1.0; discarded = p.1.1.0; written = p.1.1.1 }) (λ _. refl)
 
--- what an arena and a memory stand for
-abbrev pub holding_of : ArenaState → List ℕ → Holding
-holding_of state memory = record { cap = length state.table.entries; heap = heap_in state.table memory; discarded = state.discarded }
+-- what an arena and a memory stand for, of which so many bytes were written
+abbrev pub holding_of : ArenaState → List ℕ → ℕ → Holding
+holding_of state memory written = record { cap = length state.table.entries; heap = heap_in state.table memory; discarded = state.discarded; written = written }
 
 -- what holds of them: the arena is over all of the memory, from 0 on, at multiples of the grain
 pub record AreParts (state : ArenaState) (memory : List ℕ) : Type 0 where

@@ -5,8 +5,11 @@ ghost use Rattle.w16_model.specs.Heap.{is_discardable};
 ghost use Rattle.w16_model.specs.Calls.{GlobalAllocs, GlobalCompacts, locks_at, is_shared};
 ghost use Rattle.w16_model.specs.Handles.{AreHandles, Gives, IsFreeSlot};
 ghost use Rattle.w16_model.specs.Calls as calls;
+ghost use Rattle.w16_model.specs.Fewest.{AllocFewest, CompactsFewest};
 ghost use Rattle.w16_model.specs.Walk.{IsFirstItem, IsItemAt, IsItemCount};
 ghost use Rattle.w16_model.specs.Handles as handles;
+ghost use Rattle.w16_region.specs.Bytes.{counted};
+ghost use Rattle.w16_global.specs.Joined.{zeroed};
 
 use crate::global::Global16;
 use w16_model::names::{dword_of, handle_of, selector_of, slot_of};
@@ -19,7 +22,7 @@ use w16_model::{
 impl Global16 {
     /// The slot of the object whose handle this is: a call takes the exact handle.
     fn slot_of_handle(&self, handle: u16) -> Option<u16>
-        ensures { result ≡ handles.slot_of_handle self.now handle }
+        ensures { result ≡ handles.slot_of_handle self.now.handles handle }
     {
         let slot = slot_of(handle);
         let entry = self.objects.entry(slot as u32)?;
@@ -32,7 +35,7 @@ impl Global16 {
 
     /// The slot of the object whose selector this is.
     fn slot_of_selector(&self, selector: u16) -> Option<u16>
-        ensures { result ≡ handles.slot_of_selector self.now selector }
+        ensures { result ≡ handles.slot_of_selector self.now.handles selector }
     {
         self.selectors.find(selector).map(|_| slot_of(selector))
     }
@@ -40,16 +43,16 @@ impl Global16 {
     /// The lowest slot that no object has.
     fn free_slot(&mut self) -> Option<u16>
         ensures same { self.new ≡ self.old }
-        ensures found { IfSome result (λ slot. IsFreeSlot self.old slot) }
+        ensures found { IfSome result (λ slot. IsFreeSlot self.old.handles slot) }
         ensures few { IfSome result (λ slot. slot < 8192) }
-        ensures none { IfNone result ((slot : ℕ) → IsFreeSlot self.old slot → ⊥) }
+        ensures none { IfNone result ((slot : ℕ) → IsFreeSlot self.old.handles slot → ⊥) }
     {
         self.selectors.lowest_free()
     }
 
     /// The lock count of a slot's object.
     fn locks(&self, slot: u16) -> u8
-        ensures { result ≡ locks_at self.now.heap slot }
+        ensures { result ≡ locks_at self.now.handles.heap slot }
     {
         self.objects
             .entry(slot as u32)
@@ -58,14 +61,14 @@ impl Global16 {
 
     /// The attributes of a slot's object.
     fn attributes_of(&self, slot: u16) -> Option<Attributes>
-        ensures { result ≡ finmap.get self.now.attributes slot }
+        ensures { result ≡ finmap.get self.now.handles.attributes slot }
     {
         self.attributes.get(slot as usize).copied().flatten()
     }
 
     /// Whether other tasks share a slot's object.
     fn is_shared(&self, slot: u16) -> bool
-        ensures { result ≡ is_shared self.now slot }
+        ensures { result ≡ is_shared self.now.handles slot }
     {
         self.attributes_of(slot)
             .is_some_and(|attributes| attributes.shared)
@@ -76,7 +79,18 @@ impl Global16 {
     /// where that makes room, and of the discardable ones as few as are needed are discarded, the least recently used first. With
     /// `GMEM_NODISCARD` none is discarded, with `GMEM_NOCOMPACT` none slides either. `GMEM_DISCARDABLE` counts beside `GMEM_MOVEABLE` alone.
     pub fn global_alloc(&mut self, flags: u16, size: u32) -> u16
-        ensures { GlobalAllocs self.old flags size result self.new }
+        ensures step { GlobalAllocs self.old.handles flags size result self.new.handles }
+        ensures written { self.new.written ≡ counted (counted self.old.written self.new.handles.moved) (zeroed flags size result) }
+        ensures fewest { AllocFewest self.old.handles flags size result self.new.handles }
+    {
+        self.are_handles();
+        self.new_object(flags, size)
+    }
+
+    /// The same: a new object, and its handle.
+    fn new_object(&mut self, flags: u16, size: u32) -> u16
+        ensures step { GlobalAllocs self.old.handles flags size result self.new.handles }
+        ensures written { self.new.written ≡ counted (counted self.old.written self.new.handles.moved) (zeroed flags size result) }
     {
         self.moved = 0;
         if size > LARGEST_SIZE {
@@ -103,7 +117,8 @@ impl Global16 {
 
     /// `GlobalFree`: 0, or the handle where it is bad or the object locked.
     pub fn global_free(&mut self, handle: u16) -> u16
-        ensures { Gives (calls.global_free self.old handle) (calls.Answer.Word result) self.new }
+        ensures step { Gives (calls.global_free self.old.handles handle) (calls.Answer.Word result) self.new.handles }
+        ensures written { self.new.written ≡ self.old.written }
     {
         let Some(slot) = self.slot_of_handle(handle) else {
             return handle;
@@ -117,7 +132,8 @@ impl Global16 {
     /// `GlobalLock`: a far pointer to the object's first byte, or 0 for a bad handle, an absent object and a count of 255 locks. A fixed object
     /// counts none.
     pub fn global_lock(&mut self, handle: u16) -> u32
-        ensures { Gives (calls.global_lock self.old handle) (calls.Answer.Dword result) self.new }
+        ensures step { Gives (calls.global_lock self.old.handles handle) (calls.Answer.Dword result) self.new.handles }
+        ensures written { self.new.written ≡ self.old.written }
     {
         let Some(slot) = self.slot_of_handle(handle) else {
             return 0;
@@ -130,7 +146,8 @@ impl Global16 {
 
     /// `GlobalUnlock`: 1 where locks are left, else 0, also for a fixed object and a bad handle.
     pub fn global_unlock(&mut self, handle: u16) -> u16
-        ensures { Gives (calls.global_unlock self.old handle) (calls.Answer.Word result) self.new }
+        ensures step { Gives (calls.global_unlock self.old.handles handle) (calls.Answer.Word result) self.new.handles }
+        ensures written { self.new.written ≡ self.old.written }
     {
         let Some(slot) = self.slot_of_handle(handle) else {
             return 0;
@@ -145,15 +162,19 @@ impl Global16 {
     /// all that may, and unlocked ones that aren't fixed slide until a hole is as long as it can be then, where none is yet. The answer is the
     /// length of the longest hole, 0 where there is none. For 0 it answers what that could be, with all discarded that may be, and changes nothing.
     pub fn global_compact(&mut self, size: u32) -> u32
-        ensures { GlobalCompacts self.old size result self.new }
+        ensures step { GlobalCompacts self.old.handles size result self.new.handles }
+        ensures written { self.new.written ≡ counted self.old.written self.new.handles.moved }
+        ensures fewest { CompactsFewest self.old.handles.heap size result self.new.handles.heap }
     {
+        self.are_handles();
         self.compact(size)
     }
 
     /// `GlobalLRUNewest`: the handle, and a discardable object with bytes becomes the newest in the order of use, also while it is locked; 0 for
     /// any other object and for a bad handle.
     pub fn global_lru_newest(&mut self, handle: u16) -> u16
-        ensures { Gives (calls.global_lru_newest self.old handle) (calls.Answer.Word result) self.new }
+        ensures step { Gives (calls.global_lru_newest self.old.handles handle) (calls.Answer.Word result) self.new.handles }
+        ensures written { self.new.written ≡ self.old.written }
     {
         let Some(slot) = self.slot_of_handle(handle) else {
             return 0;
@@ -167,7 +188,8 @@ impl Global16 {
     /// `GlobalLRUOldest`: the handle, and a discardable object with bytes becomes the oldest in the order of use, which is discarded first; 0
     /// for any other object and for a bad handle.
     pub fn global_lru_oldest(&mut self, handle: u16) -> u16
-        ensures { Gives (calls.global_lru_oldest self.old handle) (calls.Answer.Word result) self.new }
+        ensures step { Gives (calls.global_lru_oldest self.old.handles handle) (calls.Answer.Word result) self.new.handles }
+        ensures written { self.new.written ≡ self.old.written }
     {
         let Some(slot) = self.slot_of_handle(handle) else {
             return 0;
@@ -181,7 +203,7 @@ impl Global16 {
     /// The i-th part of the heap by address, from 0 on, an object's bytes or a hole; objects are named by their handles. None behind the last.
     /// It goes over the parts before it: a whole walk is quicker by [`Global16::walk_from`] (profile).
     pub fn walk(&self, i: usize) -> Option<Item>
-        ensures { IsItemAt handles.handle_of self.now.heap i result }
+        ensures { IsItemAt handles.handle_of self.now.handles.heap i result }
     {
         let mut from = 0;
         for _ in 0..i {
@@ -193,14 +215,14 @@ impl Global16 {
 
     /// Does nothing: what always holds of the handles, and so that they have a walk.
     pub fn are_handles(&self)
-        ensures { AreHandles self.now }
+        ensures { AreHandles self.now.handles }
     {
         let _ = &self.objects;
     }
 
     /// How many parts a walk has.
     pub fn walk_len(&self) -> u32
-        ensures { IsItemCount handles.handle_of self.now.heap result }
+        ensures { IsItemCount handles.handle_of self.now.handles.heap result }
     {
         let mut from = 0;
         let mut count = 0;
@@ -214,7 +236,7 @@ impl Global16 {
     /// The first part of the heap that begins at an address or above it; none behind the last. A walk of the whole heap asks from 0 on, then
     /// behind the begin of each part.
     pub fn walk_from(&self, from: u32) -> Option<Item>
-        ensures found { IsFirstItem handles.handle_of self.now.heap from result }
+        ensures found { IsFirstItem handles.handle_of self.now.handles.heap from result }
         ensures inside { IfSome result (λ item. (0 < item.size) × (item.at + item.size < 2 ^ 32)) }
         ensures words { IfSome result (λ item. IfSome item.owner (λ owner. owner.name < 2 ^ 16)) }
     {
@@ -227,21 +249,22 @@ impl Global16 {
 
     /// How many bytes the last `global_alloc` or `global_compact` moved: the sizes of the objects that stand at another address since.
     pub fn moved(&self) -> u64
-        ensures value { result ≡ self.now.moved }
+        ensures value { result ≡ self.now.handles.moved }
         ensures few { result < 2 ^ 32 }
     {
         self.moved as u64
     }
 
-    /// How many bytes of the memory were slid, filled or written by far accesses so far; the count stops at the largest `u64`. `Handles`
-    /// has no such count, so no clause tells it here: `w16_arena` and `w16_region` say what each step adds (profile).
-    pub fn written(&self) -> u64 {
+    /// How many bytes of the memory were slid, filled or written by far accesses so far; the count stops at the largest `u64` (profile).
+    pub fn written(&self) -> u64
+        ensures { result ≡ self.now.written }
+    {
         self.objects.written()
     }
 
     /// `GlobalSize`: the object's size in bytes; 0 for a bad handle or an absent object.
     pub fn global_size(&self, handle: u16) -> u32
-        ensures { result ≡ calls.global_size self.now handle }
+        ensures { result ≡ calls.global_size self.now.handles handle }
     {
         let Some(slot) = self.slot_of_handle(handle) else {
             return 0;
@@ -252,7 +275,7 @@ impl Global16 {
     /// `GlobalFlags`: the lock count in the low byte, and the bits `GMEM_DISCARDABLE`, `GMEM_DDESHARE` and `GMEM_DISCARDED`, the last for an
     /// absent object; 0 for a bad handle.
     pub fn global_flags(&self, handle: u16) -> u16
-        ensures { result ≡ calls.global_flags self.now handle }
+        ensures { result ≡ calls.global_flags self.now.handles handle }
     {
         let Some(slot) = self.slot_of_handle(handle) else {
             return 0;
@@ -266,7 +289,7 @@ impl Global16 {
 
     /// `GlobalHandle`: the selector in the high word and its object's handle in the low word; 0 where there is none.
     pub fn global_handle(&self, selector: u16) -> u32
-        ensures { result ≡ calls.global_handle self.now selector }
+        ensures { result ≡ calls.global_handle self.now.handles selector }
     {
         let Some(slot) = self.slot_of_selector(selector) else {
             return 0;
@@ -279,7 +302,7 @@ impl Global16 {
 
     /// `GetSelectorBase`: the address of the selector's object; 0 where it is absent or there is none.
     pub fn get_selector_base(&self, selector: u16) -> u32
-        ensures { result ≡ calls.selector_base self.now selector }
+        ensures { result ≡ calls.selector_base self.now.handles selector }
     {
         self.selectors
             .find(selector)
@@ -288,7 +311,7 @@ impl Global16 {
 
     /// `GetSelectorLimit`: the offset of the last byte of the selector's object; 0 where it is absent or there is none.
     pub fn get_selector_limit(&self, selector: u16) -> u32
-        ensures { result ≡ calls.selector_limit self.now selector }
+        ensures { result ≡ calls.selector_limit self.now.handles selector }
     {
         self.selectors
             .find(selector)

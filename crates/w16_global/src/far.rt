@@ -4,6 +4,7 @@ ghost use Rattle.w16_model.specs.Bytes.{repeated};
 ghost use Rattle.w16_model.specs.Far.{far_fault, far_slot};
 ghost use Rattle.w16_model.specs.Handles.{Gives};
 ghost use Rattle.w16_model.specs.Far as access;
+ghost use Rattle.w16_region.specs.Bytes.{counted};
 
 use crate::global::Global16;
 use w16_model::FarFault;
@@ -12,9 +13,9 @@ use w16_model::names::slot_of;
 impl Global16 {
     /// The slot of the object that an access to `n` bytes reaches, or its first fault.
     fn reach(&self, selector: u16, offset: u16, n: usize, write: bool) -> Result<u16, FarFault>
-        ensures ok { IfOk result (λ slot. (slot ≡ far_slot self.now selector) × (far_fault self.now selector offset n ≡ None)) }
+        ensures ok { IfOk result (λ slot. (slot ≡ far_slot self.now.handles selector) × (far_fault self.now.handles selector offset n ≡ None)) }
         ensures few { OnOk result (n < 2 ^ 32) }
-        ensures err { IfErr result (λ fault. far_fault self.now selector offset n ≡ Some fault) }
+        ensures err { IfErr result (λ fault. far_fault self.now.handles selector offset n ≡ Some fault) }
     {
         self.selectors
             .resolve(selector, offset, count_of(n), write)?;
@@ -30,9 +31,10 @@ impl Global16 {
         buffer: &mut [u8],
     ) -> Result<(), FarFault>
         ensures length { length buffer.new ≡ length buffer.old }
-        ensures ok { OnOk result (Gives (access.far_read self.old selector offset (length buffer.old)) (access.FarAnswer.Bytes buffer.new) self.new) }
-        ensures err { IfErr result (λ fault. Gives (access.far_read self.old selector offset (length buffer.old)) (access.FarAnswer.Fault fault) self.new) }
-        ensures kept { OnErr result (buffer.new ≡ buffer.old) }
+        ensures ok { OnOk result (Gives (access.far_read self.old.handles selector offset (length buffer.old)) (access.FarAnswer.Bytes buffer.new) self.new.handles) }
+        ensures err { IfErr result (λ fault. Gives (access.far_read self.old.handles selector offset (length buffer.old)) (access.FarAnswer.Fault fault) self.new.handles) }
+        ensures written { self.new.written ≡ self.old.written }
+        ensures kept { OnErr result ((buffer.new ≡ buffer.old) × (self.new ≡ self.old)) }
     {
         let slot = self.reach(selector, offset, buffer.len(), false)?;
         let part = self
@@ -46,8 +48,10 @@ impl Global16 {
     /// Writes bytes over those that are there. It tells the first fault as `far_read` does, `ReadOnly` behind `BadSelector` where the object is
     /// code; then nothing was written.
     pub fn far_write(&mut self, selector: u16, offset: u16, bytes: &[u8]) -> Result<(), FarFault>
-        ensures ok { OnOk result (Gives (access.far_write self.old selector offset bytes.now) access.FarAnswer.Done self.new) }
-        ensures err { IfErr result (λ fault. Gives (access.far_write self.old selector offset bytes.now) (access.FarAnswer.Fault fault) self.new) }
+        ensures ok { OnOk result (Gives (access.far_write self.old.handles selector offset bytes.now) access.FarAnswer.Done self.new.handles) }
+        ensures err { IfErr result (λ fault. Gives (access.far_write self.old.handles selector offset bytes.now) (access.FarAnswer.Fault fault) self.new.handles) }
+        ensures written { OnOk result (self.new.written ≡ counted self.old.written (length bytes.now)) }
+        ensures kept { OnErr result (self.new ≡ self.old) }
     {
         let slot = self.reach(selector, offset, bytes.len(), true)?;
         self.objects.write(slot as u32, offset as u32, bytes);
@@ -58,8 +62,10 @@ impl Global16 {
     /// Writes one byte `n` times. It tells the first fault as `far_write` does.
     #[tactic(auto, using(w16_region::specs::Bytes::lengths))]
     pub fn far_fill(&mut self, selector: u16, offset: u16, n: u32, byte: u8) -> Result<(), FarFault>
-        ensures ok { OnOk result (Gives (access.far_write self.old selector offset (repeated n byte)) access.FarAnswer.Done self.new) }
-        ensures err { IfErr result (λ fault. Gives (access.far_write self.old selector offset (repeated n byte)) (access.FarAnswer.Fault fault) self.new) }
+        ensures ok { OnOk result (Gives (access.far_write self.old.handles selector offset (repeated n byte)) access.FarAnswer.Done self.new.handles) }
+        ensures err { IfErr result (λ fault. Gives (access.far_write self.old.handles selector offset (repeated n byte)) (access.FarAnswer.Fault fault) self.new.handles) }
+        ensures written { OnOk result (self.new.written ≡ counted self.old.written n) }
+        ensures kept { OnErr result (self.new ≡ self.old) }
     {
         let slot = self.reach(selector, offset, n as usize, true)?;
         self.objects.fill(slot as u32, offset as u32, n, byte);

@@ -7,6 +7,7 @@ ghost use Rattle.w16_model.specs.Request.{Allocates, moved_bytes};
 ghost use Rattle.w16_model.specs.OneObject.{Enters, after_lock, after_unlock, after_free, after_newest, after_oldest, after_touch};
 ghost use Rattle.w16_model.specs.Handles.{IsFreeSlot, empty_handles};
 ghost use Rattle.w16_model.specs.Calls.{GlobalCompacts};
+ghost use Rattle.w16_region.specs.Bytes.{counted};
 
 use crate::follow::{follow, forget};
 use crate::objects::Objects;
@@ -15,7 +16,8 @@ use std::marker::Model;
 use w16_model::{Attributes, FIRST_SLOT, GRAIN, Kind, MOST_SLOTS, Refusal, Way};
 use w16_selectors::{Descriptor, SelKind, Selectors};
 
-/// The global heap: objects that are named by handles, and whose bytes are reached through selectors. Its value is `Handles`.
+/// The global heap: objects that are named by handles, and whose bytes are reached through selectors. Its value is `Global`: the handles, and
+/// how many bytes of the memory were written so far.
 #[derive(Drop)]
 pub struct Global16 {
     pub(crate) objects: Objects,
@@ -27,15 +29,13 @@ pub struct Global16 {
 }
 
 impl Model for Global16 {
-    ghost use Rattle.w16_model.specs.Handles.{Handles};
-    ghost use Rattle.w16_model.specs.Codes.{handles_code};
-    ghost use Rattle.w16_global.specs.Joined.{handles_of, AreJoined};
+    ghost use Rattle.w16_global.specs.Joined.{Global, global_code, handles_of, AreJoined};
 
-    ghost Value = { Handles };
+    ghost Value = { Global };
 
-    ghost coded = { handles_code };
+    ghost coded = { global_code };
 
-    ghost view = { λ g. handles_of g.objects g.attributes.items g.moved };
+    ghost view = { λ g. record { handles = handles_of g.objects g.attributes.items g.moved; written = g.objects.written } };
 
     ghost invariant = { λ g. AreJoined g.objects g.attributes.items g.selectors };
 }
@@ -45,7 +45,7 @@ impl Global16 {
     /// memory here; an error is that there was none.
     pub fn new(alloc: Global, memory: u32, slots: u32) -> Result<Global16, AllocError>
         requires { slots ≤ MOST_SLOTS }
-        ensures { IfOk result (λ made. made ≡ empty_handles memory slots) }
+        ensures { IfOk result (λ made. made ≡ record { handles = empty_handles memory slots; written = 0 }) }
     {
         let cap = FIRST_SLOT + slots;
         let objects = Objects::new(alloc, cap, memory)?;
@@ -61,9 +61,10 @@ impl Global16 {
 
     /// A new object without bytes in a free slot.
     pub(crate) fn enter(&mut self, slot: u16, kind: Kind, attributes: Attributes)
-        requires { IsFreeSlot self.old slot }
-        ensures entered { Enters self.old.heap slot kind self.new.heap }
-        ensures rest { self.new ≡ record self.old { heap = self.new.heap; attributes = finmap.insert self.old.attributes slot attributes } }
+        requires { IsFreeSlot self.old.handles slot }
+        ensures entered { Enters self.old.handles.heap slot kind self.new.handles.heap }
+        ensures rest { self.new.handles ≡ record self.old.handles { heap = self.new.handles.heap; attributes = finmap.insert self.old.handles.attributes slot attributes } }
+        ensures written { self.new.written ≡ self.old.written }
     {
         self.objects.enter(slot as u32, kind);
         self.attributes[slot as usize] = Some(attributes);
@@ -80,15 +81,16 @@ impl Global16 {
         way: Way,
         attributes: Attributes,
     ) -> bool
-        requires free { IsFreeSlot self.old slot }
+        requires free { IsFreeSlot self.old.handles slot }
         requires some { 0 < size }
         requires rounded { IsMultiple GRAIN size }
-        ensures allocated { Allocates self.old.heap slot size kind 0 way result self.new.heap }
-        ensures rest { self.new ≡ record self.old {
-          heap = self.new.heap;
-          attributes = if result then finmap.insert self.old.attributes slot attributes else self.old.attributes;
-          moved = if result then moved_bytes self.old.heap self.new.heap else self.old.moved;
+        ensures allocated { Allocates self.old.handles.heap slot size kind 0 way result self.new.handles.heap }
+        ensures rest { self.new.handles ≡ record self.old.handles {
+          heap = self.new.handles.heap;
+          attributes = if result then finmap.insert self.old.handles.attributes slot attributes else self.old.handles.attributes;
+          moved = if result then moved_bytes self.old.handles.heap self.new.handles.heap else self.old.handles.moved;
         } }
+        ensures written { self.new.written ≡ (if result then counted (counted self.old.written self.new.handles.moved) (if way.zero then size else 0) else self.old.written) }
     {
         let Some(placed) = self.objects.alloc(slot as u32, size, kind, way) else {
             return false;
@@ -112,7 +114,8 @@ impl Global16 {
 
     /// Compaction for so many bytes: the longest hole there is then, or what it could be for 0 bytes.
     pub(crate) fn compact(&mut self, size: u32) -> u32
-        ensures { GlobalCompacts self.old size result self.new }
+        ensures step { GlobalCompacts self.old.handles size result self.new.handles }
+        ensures written { self.new.written ≡ counted self.old.written self.new.handles.moved }
     {
         let compacted = self.objects.compact(size);
         forget(&mut self.selectors, self.objects.discarded());
@@ -123,9 +126,9 @@ impl Global16 {
 
     /// Frees an object that isn't locked.
     pub(crate) fn release(&mut self, slot: u16) -> Result<(), Refusal>
-        requires { IsSome (object_at self.old.heap slot) }
-        ensures ok { OnOk result ((after_free self.old.heap slot ≡ Ok self.new.heap) × (self.new ≡ record self.old { heap = self.new.heap; attributes = finmap.remove self.old.attributes slot })) }
-        ensures err { IfErr result (λ refusal. (after_free self.old.heap slot ≡ Err refusal) × (self.new ≡ self.old)) }
+        requires { IsSome (object_at self.old.handles.heap slot) }
+        ensures ok { OnOk result ((after_free self.old.handles.heap slot ≡ Ok self.new.handles.heap) × (self.new ≡ record self.old { handles = record self.old.handles { heap = self.new.handles.heap; attributes = finmap.remove self.old.handles.attributes slot } })) }
+        ensures err { IfErr result (λ refusal. (after_free self.old.handles.heap slot ≡ Err refusal) × (self.new ≡ self.old)) }
     {
         self.objects.free(slot as u32)?;
         self.attributes[slot as usize] = None;
@@ -135,39 +138,39 @@ impl Global16 {
 
     /// One lock more.
     pub(crate) fn lock(&mut self, slot: u16) -> Result<(), Refusal>
-        ensures ok { OnOk result ((after_lock self.old.heap slot ≡ Ok self.new.heap) × (self.new ≡ record self.old { heap = self.new.heap })) }
-        ensures err { IfErr result (λ refusal. (after_lock self.old.heap slot ≡ Err refusal) × (self.new ≡ self.old)) }
+        ensures ok { OnOk result ((after_lock self.old.handles.heap slot ≡ Ok self.new.handles.heap) × (self.new ≡ record self.old { handles = record self.old.handles { heap = self.new.handles.heap } })) }
+        ensures err { IfErr result (λ refusal. (after_lock self.old.handles.heap slot ≡ Err refusal) × (self.new ≡ self.old)) }
     {
         self.objects.lock(slot as u32)
     }
 
     /// One lock less.
     pub(crate) fn unlock(&mut self, slot: u16) -> Result<(), Refusal>
-        ensures ok { OnOk result ((after_unlock self.old.heap slot ≡ Ok self.new.heap) × (self.new ≡ record self.old { heap = self.new.heap })) }
-        ensures err { IfErr result (λ refusal. (after_unlock self.old.heap slot ≡ Err refusal) × (self.new ≡ self.old)) }
+        ensures ok { OnOk result ((after_unlock self.old.handles.heap slot ≡ Ok self.new.handles.heap) × (self.new ≡ record self.old { handles = record self.old.handles { heap = self.new.handles.heap } })) }
+        ensures err { IfErr result (λ refusal. (after_unlock self.old.handles.heap slot ≡ Err refusal) × (self.new ≡ self.old)) }
     {
         self.objects.unlock(slot as u32)
     }
 
     /// A discardable object with bytes becomes the newest in the order of use.
     pub(crate) fn to_newest(&mut self, slot: u16) -> Result<(), Refusal>
-        ensures ok { OnOk result ((after_newest self.old.heap slot ≡ Ok self.new.heap) × (self.new ≡ record self.old { heap = self.new.heap })) }
-        ensures err { IfErr result (λ refusal. (after_newest self.old.heap slot ≡ Err refusal) × (self.new ≡ self.old)) }
+        ensures ok { OnOk result ((after_newest self.old.handles.heap slot ≡ Ok self.new.handles.heap) × (self.new ≡ record self.old { handles = record self.old.handles { heap = self.new.handles.heap } })) }
+        ensures err { IfErr result (λ refusal. (after_newest self.old.handles.heap slot ≡ Err refusal) × (self.new ≡ self.old)) }
     {
         self.objects.to_newest(slot as u32)
     }
 
     /// A discardable object with bytes becomes the oldest in the order of use.
     pub(crate) fn to_oldest(&mut self, slot: u16) -> Result<(), Refusal>
-        ensures ok { OnOk result ((after_oldest self.old.heap slot ≡ Ok self.new.heap) × (self.new ≡ record self.old { heap = self.new.heap })) }
-        ensures err { IfErr result (λ refusal. (after_oldest self.old.heap slot ≡ Err refusal) × (self.new ≡ self.old)) }
+        ensures ok { OnOk result ((after_oldest self.old.handles.heap slot ≡ Ok self.new.handles.heap) × (self.new ≡ record self.old { handles = record self.old.handles { heap = self.new.handles.heap } })) }
+        ensures err { IfErr result (λ refusal. (after_oldest self.old.handles.heap slot ≡ Err refusal) × (self.new ≡ self.old)) }
     {
         self.objects.to_oldest(slot as u32)
     }
 
     /// An object was used: a discardable one with bytes becomes the newest in the order of use.
     pub(crate) fn touch(&mut self, slot: u16)
-        ensures { self.new ≡ record self.old { heap = after_touch self.old.heap slot } }
+        ensures { self.new ≡ record self.old { handles = record self.old.handles { heap = after_touch self.old.handles.heap slot } } }
     {
         self.objects.touch(slot as u32);
     }

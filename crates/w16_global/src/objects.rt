@@ -1,5 +1,5 @@
 //! The objects of the global heap: an arena over memory of its own.
-ghost use Rattle.std.specs.Prelude.{◌≡◌, ◌≢◌, ◌+◌, ◌-◌, ◌^◌, ◌<◌, ◌≤◌, ◌⊎◌, ℕ, [], Ok, Err, None, Some, length, IfOk, IfErr, OnOk, IfSome, IfNone, IsSomeAnd, option_map, unwrap_or, is_some, take};
+ghost use Rattle.std.specs.Prelude.{◌≡◌, ◌≢◌, ◌+◌, ◌-◌, ◌^◌, ◌<◌, ◌≤◌, ◌⊎◌, ℕ, [], Ok, Err, None, Some, length, IfOk, IfErr, OnOk, IfSome, IfNone, IsSomeAnd, option_map, unwrap_or, is_some, take, if◌then◌else◌};
 ghost use Rattle.std.specs.FinMap as finmap;
 ghost use Rattle.w16_model.specs.Heap.{IsHeap, object_at, bytes_at, empty_heap, IsMultiple};
 ghost use Rattle.w16_model.specs.Changes.{with_object};
@@ -8,6 +8,7 @@ ghost use Rattle.w16_model.specs.OneObject.{after_free, after_lock, after_unlock
 ghost use Rattle.w16_model.specs.Far.{after_write};
 ghost use Rattle.w16_model.specs.Walk.{IsFirstItem, by_its_id};
 ghost use Rattle.w16_model.specs.Bytes.{part, repeated};
+ghost use Rattle.w16_region.specs.Bytes.{counted};
 ghost use Rattle.w16_arena.specs.State.{entry_of};
 ghost use Rattle.w16_arena.specs.Asked.{HasDiscarded, IsStill, first_eligible};
 ghost use Rattle.w16_global.specs.Parts.{HasPart};
@@ -33,7 +34,7 @@ impl Model for Objects {
 
     ghost coded = { holding_code };
 
-    ghost view = { λ s. holding_of s.arena s.memory.bytes.items };
+    ghost view = { λ s. holding_of s.arena s.memory.bytes.items s.memory.written };
 
     ghost invariant = { λ s. AreParts s.arena s.memory.bytes.items };
 }
@@ -42,7 +43,7 @@ impl Objects {
     /// No object yet, ids below `cap`, and so many bytes of memory.
     pub fn new(alloc: Global, cap: u32, memory: u32) -> Result<Objects, AllocError>
         requires { cap ≤ 8192 }
-        ensures { IfOk result (λ made. made ≡ record { cap = cap; heap = empty_heap 0 memory GRAIN; discarded = [] }) }
+        ensures { IfOk result (λ made. made ≡ record { cap = cap; heap = empty_heap 0 memory GRAIN; discarded = []; written = 0 }) }
     {
         let holes = SideHoles::new(alloc, 0, memory, GRAIN)?;
         let arena = Arena::new(alloc, cap, holes, 0, memory, GRAIN)?;
@@ -99,6 +100,7 @@ impl Objects {
         ensures still { IfSome result (λ p. (q : ℕ) → q ≢ id → IsStill p.slid self.old.heap self.new.heap q) }
         ensures moved { IfSome result (λ p. p.moved ≡ moved_bytes self.old.heap self.new.heap) }
         ensures few { IfSome result (λ p. p.moved < 2 ^ 32) }
+        ensures written { IfSome result (λ p. self.new.written ≡ counted (counted self.old.written p.moved) (if way.zero then size else 0)) }
         ensures cap { self.new.cap ≡ self.old.cap }
         ensures refused { IfNone result (self.new ≡ self.old) }
     {
@@ -126,6 +128,7 @@ impl Objects {
         ensures still { (q : ℕ) → IsStill result.slid self.old.heap self.new.heap q }
         ensures moved { result.moved ≡ moved_bytes self.old.heap self.new.heap }
         ensures few { result.moved < 2 ^ 32 }
+        ensures written { self.new.written ≡ counted self.old.written result.moved }
         ensures cap { self.new.cap ≡ self.old.cap }
     {
         let compacted = self.arena.compact(&mut self.memory, n);
@@ -146,7 +149,8 @@ impl Objects {
     pub fn free(&mut self, id: u32) -> Result<(), Refusal>
         ensures ok { OnOk result (after_free self.old.heap id ≡ Ok self.new.heap) }
         ensures err { IfErr result (λ r. (after_free self.old.heap id ≡ Err r) × (self.new ≡ self.old)) }
-        ensures kept { self.new.cap ≡ self.old.cap }
+        ensures cap { self.new.cap ≡ self.old.cap }
+        ensures written { self.new.written ≡ self.old.written }
     {
         let freed = self.arena.free(&mut self.memory, id);
         has_bytes(&self.memory);
@@ -157,7 +161,8 @@ impl Objects {
     pub fn lock(&mut self, id: u32) -> Result<(), Refusal>
         ensures ok { OnOk result (after_lock self.old.heap id ≡ Ok self.new.heap) }
         ensures err { IfErr result (λ r. (after_lock self.old.heap id ≡ Err r) × (self.new ≡ self.old)) }
-        ensures kept { self.new.cap ≡ self.old.cap }
+        ensures cap { self.new.cap ≡ self.old.cap }
+        ensures written { self.new.written ≡ self.old.written }
     {
         self.arena.lock(id)
     }
@@ -166,7 +171,8 @@ impl Objects {
     pub fn unlock(&mut self, id: u32) -> Result<(), Refusal>
         ensures ok { OnOk result (after_unlock self.old.heap id ≡ Ok self.new.heap) }
         ensures err { IfErr result (λ r. (after_unlock self.old.heap id ≡ Err r) × (self.new ≡ self.old)) }
-        ensures kept { self.new.cap ≡ self.old.cap }
+        ensures cap { self.new.cap ≡ self.old.cap }
+        ensures written { self.new.written ≡ self.old.written }
     {
         self.arena.unlock(id)
     }
@@ -182,7 +188,8 @@ impl Objects {
     pub fn to_newest(&mut self, id: u32) -> Result<(), Refusal>
         ensures ok { OnOk result (after_newest self.old.heap id ≡ Ok self.new.heap) }
         ensures err { IfErr result (λ r. (after_newest self.old.heap id ≡ Err r) × (self.new ≡ self.old)) }
-        ensures kept { self.new.cap ≡ self.old.cap }
+        ensures cap { self.new.cap ≡ self.old.cap }
+        ensures written { self.new.written ≡ self.old.written }
     {
         self.arena.to_newest(id)
     }
@@ -191,7 +198,8 @@ impl Objects {
     pub fn to_oldest(&mut self, id: u32) -> Result<(), Refusal>
         ensures ok { OnOk result (after_oldest self.old.heap id ≡ Ok self.new.heap) }
         ensures err { IfErr result (λ r. (after_oldest self.old.heap id ≡ Err r) × (self.new ≡ self.old)) }
-        ensures kept { self.new.cap ≡ self.old.cap }
+        ensures cap { self.new.cap ≡ self.old.cap }
+        ensures written { self.new.written ≡ self.old.written }
     {
         self.arena.to_oldest(id)
     }
@@ -210,7 +218,7 @@ impl Objects {
     /// Replaces bytes of an object, from an offset on.
     pub fn write(&mut self, id: u32, at: u32, new: &[u8])
         requires { HasPart self.old.heap id at (length new.now) }
-        ensures { self.new ≡ record self.old { heap = after_write self.old.heap id at new.now } }
+        ensures { self.new ≡ record self.old { heap = after_write self.old.heap id at new.now; written = counted self.old.written (length new.now) } }
     {
         let Some(block) = self.arena.block(id) else {
             unreachable!();
@@ -222,7 +230,7 @@ impl Objects {
     /// Sets bytes of an object, from an offset on, to one byte.
     pub fn fill(&mut self, id: u32, at: u32, n: u32, byte: u8)
         requires { HasPart self.old.heap id at n }
-        ensures { self.new ≡ record self.old { heap = after_write self.old.heap id at (repeated n byte) } }
+        ensures { self.new ≡ record self.old { heap = after_write self.old.heap id at (repeated n byte); written = counted self.old.written n } }
     {
         let Some(block) = self.arena.block(id) else {
             unreachable!();
@@ -231,7 +239,9 @@ impl Objects {
     }
 
     /// How many bytes of the memory were slid, filled or lent to be written so far.
-    pub fn written(&self) -> u64 {
+    pub fn written(&self) -> u64
+        ensures { result ≡ self.now.written }
+    {
         self.memory.written()
     }
 }

@@ -4,6 +4,7 @@ ghost use Rattle.w16_model.specs.Handles.{handle_of};
 ghost use Rattle.w16_model.specs.Walk.{IsFirstItem};
 ghost use Rattle.w16_machine.specs.World.{empty_world, IsWorldWalk};
 ghost use Rattle.w16_machine.specs.Machine.{Step, Event, Run};
+ghost use Rattle.w16_machine.specs.Fewest.{IsFewest, AreFewest};
 ghost use Rattle.w16_kernel.specs.Runs.{command_of, reply_of, answer_of, IsCall, IsReply};
 
 use crate::call::{Answer, Call, MOST_READ, Reply};
@@ -28,7 +29,7 @@ impl Model for Kernel {
 
     ghost coded = { world_code };
 
-    ghost view = { λ k. record { handles = k.global } };
+    ghost view = { λ k. record { handles = k.global.handles } };
 }
 
 impl Kernel {
@@ -50,9 +51,11 @@ impl Kernel {
     ) -> Result<Reply<'r>, AllocError>
         requires { IsCall call.now }
         ensures step { IfOk result (λ reply. Step self.old (command_of call.now) (reply_of reply) self.new) }
+        ensures fewest { IfOk result (λ reply. IsFewest self.old (record { command = command_of call.now; reply = reply_of reply; after = self.new })) }
         ensures short { IfOk result (λ reply. IsReply reply) }
         ensures answers { IsOk result }
     {
+        self.global.are_handles();
         step(&mut self.global, call, room)
     }
 
@@ -78,11 +81,13 @@ impl Kernel {
         self.global.walk_from(from)
     }
 
-    /// Calls one after another, and their answers: a run of the machine. Where there is no memory for the answers, nothing was done.
+    /// Calls one after another, and their answers: a run of the machine, in which each call for room discards as few objects as it can.
+    /// Where there is no memory for the answers, nothing was done.
     pub fn run_calls(&mut self, calls: &[Call<'_>]) -> Result<Vec<Answer>, AllocError>
         requires { All IsCall calls.now }
         ensures run { IfOk result (λ answers. (events : List Event) × Run self.old events self.new × (map (λ e. e.command) events ≡ map command_of calls.now)
-            × (map (λ e. e.reply) events ≡ map answer_of answers.items)) }
+            × (map (λ e. e.reply) events ≡ map answer_of answers.items)
+            × AreFewest self.old events) }
         ensures refused { OnErr result (self.new ≡ self.old) }
     {
         let mut answers = Vec::with_capacity(self.alloc, calls.len())?;

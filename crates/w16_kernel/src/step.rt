@@ -16,7 +16,7 @@ use w16_model::names::{offset_in, selector_in};
 
 /// The reply to a far read of as many bytes as the room has, into which they are copied.
 fn read<'r>(global: &mut Global16, pointer: u32, room: &'r mut [u8]) -> Reply<'r>
-    ensures gives { FarReplies global.old (far.FarCommand.Read pointer (length room.old)) (reply_of result) global.new }
+    ensures gives { FarReplies global.old.handles (far.FarCommand.Read pointer (length room.old)) (reply_of result) global.new.handles }
     ensures short { length room.old ≤ MOST_READ → IsReply result }
 {
     match global.far_read(selector_in(pointer), offset_in(pointer), room) {
@@ -27,7 +27,7 @@ fn read<'r>(global: &mut Global16, pointer: u32, room: &'r mut [u8]) -> Reply<'r
 
 /// The reply to a far write.
 fn write(global: &mut Global16, pointer: u32, bytes: &[u8]) -> Reply<'static>
-    ensures { FarReplies global.old (far.FarCommand.Write pointer bytes.now) (reply_of result) global.new }
+    ensures { FarReplies global.old.handles (far.FarCommand.Write pointer bytes.now) (reply_of result) global.new.handles }
 {
     match global.far_write(selector_in(pointer), offset_in(pointer), bytes) {
         Ok(()) => Reply::Done,
@@ -37,7 +37,7 @@ fn write(global: &mut Global16, pointer: u32, bytes: &[u8]) -> Reply<'static>
 
 /// The reply to a far write of one byte many times.
 fn fill(global: &mut Global16, pointer: u32, count: u32, byte: u8) -> Reply<'static>
-    ensures { FarReplies global.old (far.FarCommand.Fill pointer count byte) (reply_of result) global.new }
+    ensures { FarReplies global.old.handles (far.FarCommand.Fill pointer count byte) (reply_of result) global.new.handles }
 {
     match global.far_fill(selector_in(pointer), offset_in(pointer), count, byte) {
         Ok(()) => Reply::Done,
@@ -47,7 +47,7 @@ fn fill(global: &mut Global16, pointer: u32, count: u32, byte: u8) -> Reply<'sta
 
 /// How many parts the heap's walk has.
 fn part_count(global: &Global16) -> u32
-    ensures { (items : List Item) × IsWalk handle_of global.now.heap items × (result ≡ length items) }
+    ensures { (items : List Item) × IsWalk handle_of global.now.handles.heap items × (result ≡ length items) }
 {
     global.are_handles();
     global.walk_len()
@@ -60,7 +60,7 @@ pub fn step<'r>(
     room: &'r mut [u8; MOST_READ],
 ) -> Result<Reply<'r>, AllocError>
     requires { IsCall call.now }
-    ensures step { IfOk result (λ reply. (rest : World) → Step (with_handles rest global.old) (command_of call.now) (reply_of reply) (with_handles rest global.new)) }
+    ensures step { IfOk result (λ reply. (rest : World) → Step (with_handles rest global.old.handles) (command_of call.now) (reply_of reply) (with_handles rest global.new.handles)) }
     ensures short { IfOk result (λ reply. IsReply reply) }
     ensures answers { IsOk result }
 {

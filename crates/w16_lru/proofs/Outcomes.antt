@@ -1,100 +1,197 @@
--- What the methods leave, from where an id stands and where it is moved to.
-use Rattle.std.specs.List.{list_any}
-use Rattle.std.proofs.Common.{◌≡◌, ℕ, ◌+◌, ◌-◌, ◌<◌, ◌≤◌, false, nat_eq, List, [], ◌∷◌, ◌++◌, length, take, swap, slice_get, position, Some, None, refl, sym, ap, ◌∙◌, subst, arith, length-take-le}
-use Rattle.std.proofs.lemmas.Option.{slice_get_within, slice_get_past}
-use Rattle.indexmap.specs.IndexMap.{move_index}
+-- What the methods answer and leave, from the ring that is kept.
+use Rattle.std.specs.List.{AllByRecursion as Each, swap}
+use Rattle.std.specs.Prelude.{slice_index, Vec}
+use Rattle.std.proofs.Common.{◌≡◌, ◌≢◌, ℕ, suc, ◌+◌, ◌-◌, ◌<◌, ◌≤◌, Bool, true, false, ◌⊎◌, inl, inr, drop, get_or, List, [], ◌∷◌, ◌++◌, length, slice_get, Some, None, length-append, refl, sym, ap, ◌∙◌, subst, arith}
+use Rattle.std.specs.Vec.{with_items}
+use Rattle.std.proofs.lemmas.List.{get_or_read, with_items_is}
+use Rattle.std.proofs.lemmas.List.Edits.{length-swap}
+use Rattle.std.proofs.lemmas.Option.{slice_get_past}
 use Rattle.w16_model.specs.Discards.{is_member}
 use Rattle.w16_model.specs.Changes.{without}
+use Rattle.w16_model.proofs.Gaps.{EachPair-from_AllPairs, Each-from_All}
 use Rattle.w16_lru.specs.declared.End.{End}
 use Rattle.w16_lru.specs.declared.End.TheVariants.{Oldest, Newest}
 use Rattle.w16_lru.specs.Uses.{Uses, AreUses, at_end}
-use Rattle.w16_lru.specs.Representation.{IsKept, uses_of, joined, position_of}
-use Rattle.w16_lru.proofs.Edits.{slice_get-take, take-swap}
-use Rattle.w16_lru.proofs.Places.{found_stands, absent-take, without-absent}
-use Rattle.w16_lru.proofs.Changes.{same_uses, AreUses-kept, without-joined, take-newest, take-oldest, take-removed, joined-member, joined-other, slice_get-joined, without-other}
+use Rattle.w16_lru.specs.Representation.{ids_of, Leads, IsRing, uses_of}
+use Rattle.w16_lru.proofs.Members.{without-absent, fewer, member_below, few}
+use Rattle.w16_lru.proofs.Ways.{follow-leads, length-follow, follow-next, leads-behind, leads-some, leads-no, leads-none, leads-stuck, each_at, each-drop, slice_get-behind}
+use Rattle.w16_lru.proofs.Rings.{ring-out, ring-oldest, ring-newest}
+
+-- the ids of a ring are followed along its links
+pub kept : (cap members : ℕ) (after before ids : List ℕ) → IsRing cap after before ids → length ids ≡ members → IsRing cap after before (ids_of cap after members)
+kept cap members after before ids ring e =
+    subst (IsRing cap after before) (sym (follow-leads after (slice_index after cap) ids cap ring.around) ∙ ap (ids_of cap after) e) ring
+
+pub viewed : (cap members : ℕ) (after before ids : List ℕ) → IsRing cap after before ids → length ids ≡ members → (let are : Uses = record { cap = cap; ids = ids } in uses_of cap after members ≡ are)
+viewed cap members after before ids ring e =
+    λ i. record { cap = cap; ids = (ap (ids_of cap after) (sym e) ∙ follow-leads after (slice_index after cap) ids cap ring.around) i }
+
+-- what is no member put at an end
+abbrev pub put : End → ℕ → List ℕ → List ℕ
+put Oldest id ids = id ∷ ids
+put Newest id ids = ids ++ id ∷ []
 
 -- an order with these ids, of as many
 abbrev pub with_ids : Uses → List ℕ → Uses
 with_ids uses ids = record uses { ids = ids }
 
-module _ (ids : List ℕ) (m : ℕ) (now : Uses) (kept : IsKept ids m) (view : uses_of ids m ≡ now) where
-  -- the value's two parts
-  ids_are : take m ids ≡ now.ids
+-- what was taken out and is put at an end is at that end
+pub put_back : (old new : Uses) (id : ℕ) (end : End) → new ≡ with_ids old (without id old.ids) → with_ids new (put end id new.ids) ≡ with_ids old (at_end end id old.ids)
+put_back old new id Oldest e = ap (λ (u : Uses). with_ids u (put Oldest id u.ids)) e
+put_back old new id Newest e = ap (λ (u : Uses). with_ids u (put Newest id u.ids)) e
+
+-- what the member at an end comes behind
+abbrev pub IsFront : ℕ → List ℕ → ℕ → End → Type 0
+IsFront cap before front Oldest = front ≡ cap
+IsFront cap before front Newest = front ≡ get_or before cap front
+
+-- the items of a table after an exchange
+pub exchanged_after : {Z : Type 0} (table : Vec ℕ Z) (seen new : List ℕ) (p x : ℕ) → seen ≡ table.items → new ≡ swap seen p x → (with_items table new).items ≡ swap table.items p x
+exchanged_after table seen new p x same e =
+    let long : length new ≡ table.len = ap length e ∙ length-swap seen p x ∙ ap length same ∙ sym table.ok.0 in
+    with_items_is table new long ∙ e ∙ ap (λ (l : List ℕ). swap l p x) same
+
+pub exchanged_before : {Z : Type 0} (table : Vec ℕ Z) (links seen_links seen new : List ℕ) (p x : ℕ) → seen_links ≡ links → seen ≡ table.items
+    → new ≡ swap seen (slice_index seen_links p) (slice_index seen_links x) → (with_items table new).items ≡ swap table.items (slice_index links p) (slice_index links x)
+exchanged_before table links seen_links seen new p x alike same e =
+    exchanged_after table seen new (slice_index seen_links p) (slice_index seen_links x) same e
+    ∙ ap (λ (l : List ℕ). swap table.items (slice_index l p) (slice_index l x)) alike
+
+module _ (cap members : ℕ) (after before : List ℕ) (now : Uses) (ring : IsRing cap after before (ids_of cap after members)) (view : uses_of cap after members ≡ now) where
+  ids_are : ids_of cap after members ≡ now.ids
   ids_are = ap (λ (u : Uses). u.ids) view
 
-  cap_is : length ids ≡ now.cap
+  cap_is : cap ≡ now.cap
   cap_is = ap (λ (u : Uses). u.cap) view
 
-  pub uses : AreUses now
-  uses = subst AreUses view (AreUses-kept ids m kept)
+  pub are_uses : AreUses now
+  are_uses = subst AreUses view ring.uses
 
-  pub nth_past : (i : ℕ) → m ≤ i → None ≡ slice_get now.ids i
-  nth_past i le =
-      let long : length (take m ids) ≡ m = length-take-le m ids kept.within in
-      sym (ap (λ l. slice_get l i) (sym ids_are) ∙ slice_get_past (take m ids) i (omega arith))
+  around : Leads after (slice_index after cap) now.ids cap
+  around = subst (λ l. Leads after (slice_index after cap) l cap) ids_are ring.around
 
-  module _ (id : ℕ) where
-    not_there : false ≡ list_any (nat_eq id) ids → is_member id now.ids ≡ false
-    not_there h = sym (ap (is_member id) ids_are) ∙ absent-take id ids m h
+  below : Each (λ q. q < cap) now.ids
+  below = subst (λ l. Each (λ q. q < cap) l) ids_are (Each-from_All (λ q. q < cap) (ids_of cap after members) ring.uses.below)
 
-    pub remove_none : false ≡ list_any (nat_eq id) ids → now ≡ with_ids now (without id now.ids)
-    remove_none h =
-        same_uses now.cap now.cap now.ids (without id now.ids) refl
-        (sym (without-absent id now.ids (not_there h)))
+  pub read_after : (i x : ℕ) → i ≤ cap → x ≡ get_or after i x → x ≡ slice_index after i
+  read_after i x le e = let long = ring.after_long in get_or_read after i x (omega arith) e 0
 
-    module _ (at : ℕ) (found : Some at ≡ position (nat_eq id) ids) where
-      stands_at : slice_get ids at ≡ Some id
-      stands_at = found_stands id ids at (sym found)
+  pub read_before : (i x : ℕ) → i ≤ cap → x ≡ get_or before i x → x ≡ slice_index before i
+  read_before i x le e = let long = ring.before_long in get_or_read before i x (omega arith) e 0
 
-      pub remove_other : m ≤ at → now ≡ with_ids now (without id now.ids)
-      remove_other le =
-          same_uses now.cap now.cap now.ids (without id now.ids) refl
-          (subst (λ l. l ≡ without id l) ids_are (without-other id ids at kept.apart m le stands_at))
+  pub count : length now.ids ≡ members
+  count = ap (length {A = ℕ}) (sym ids_are) ∙ length-follow members after (slice_index after cap)
 
-      pub join_member : at < m → now ≡ with_ids now (joined id now.ids)
-      join_member lt =
-          same_uses now.cap now.cap now.ids (joined id now.ids) refl
-          (subst (λ l. l ≡ joined id l) ids_are (sym (joined-member id ids at kept.apart m lt stands_at)))
+  pub first_some : (x : ℕ) → x ≡ get_or after cap x → x ≢ cap → Some x ≡ slice_get now.ids 0
+  first_some x e other =
+      let is = read_after cap x (omega arith) e in
+      ap (λ (q : ℕ). Some q) is ∙ leads-some after (slice_index after cap) now.ids cap (λ same. other (is ∙ same)) around
 
-      pub join_member_at : at < m → slice_get now.ids at ≡ Some id
-      join_member_at lt = subst (λ l. slice_get l at ≡ Some id) ids_are (slice_get-take ids at m lt ∙ stands_at)
+  -- there is none behind the newest
+  pub past : (i : ℕ) → members ≤ i → None ≡ slice_get now.ids i
+  past i le = sym (slice_get_past now.ids i (let long = count in omega arith))
 
-      module _ (new : List ℕ) (long : length new ≡ length ids) where
-        pub remove_member : at < m → new ≡ move_index ids at (m - 1) → uses_of new (m - 1) ≡ with_ids now (without id now.ids)
-        remove_member lt moved =
-            same_uses (length new) now.cap (take (m - 1) new) (without id now.ids) (long ∙ cap_is)
-            (ap (take (m - 1)) moved ∙ take-removed id ids at kept.apart m kept.within lt stands_at ∙ ap (without id) ids_are)
+  pub member_at : (k id : ℕ) → slice_get now.ids k ≡ Some id → id < cap
+  member_at k id at = each_at (λ q. q < cap) now.ids k id below at
 
-        pub join_other : m ≤ at → new ≡ swap ids at m → uses_of new (m + 1) ≡ with_ids now (joined id now.ids)
-        join_other le moved =
-            same_uses (length new) now.cap (take (m + 1) new) (joined id now.ids) (long ∙ cap_is)
-            (ap (take (m + 1)) moved ∙ take-swap ids at m id le stands_at
-            ∙ sym (joined-other id ids at kept.apart m le stands_at) ∙ ap (joined id) ids_are)
+  -- the ids on the way to the one that is asked for
+  pub step : (k id next : ℕ) → k + 1 < members → slice_get now.ids k ≡ Some id → next ≡ get_or after id next → slice_get now.ids (k + 1) ≡ Some next
+  step k id next lt at e =
+      let lower = member_at k id at in
+      ap (slice_get now.ids) (let f : k + 1 ≡ suc k = omega arith in f)
+      ∙ ap (λ (l : List ℕ). slice_get l (suc k)) (sym ids_are)
+      ∙ follow-next members after (slice_index after cap) k id (omega arith) (ap (λ (l : List ℕ). slice_get l k) ids_are ∙ at)
+      ∙ ap (λ (q : ℕ). Some q) (sym (read_after id next (omega arith) e))
 
-        pub join_other_at : m ≤ at → new ≡ swap ids at m → slice_get (take (m + 1) new) m ≡ Some id
-        join_other_at le moved =
-            ap (λ l. slice_get l m) (ap (take (m + 1)) moved ∙ take-swap ids at m id le stands_at)
-            ∙ slice_get-joined id ids at kept.apart m le stands_at
+  -- behind a member comes the one that it is linked to
+  pub next_some : (id next i : ℕ) → id < cap → next ≡ get_or after id next → next ≢ cap → slice_get now.ids i ≡ Some id → Some next ≡ slice_get now.ids (i + 1)
+  next_some id next i lt e other at =
+      let is = read_after id next (omega arith) e in
+      ap (λ (q : ℕ). Some q) is
+      ∙ leads-some after (slice_index after id) (drop (suc i) now.ids) cap (λ same. other (is ∙ same)) (leads-behind after (slice_index after cap) now.ids cap i id around at)
+      ∙ slice_get-behind now.ids i
 
--- after the id has joined the order
-module _ (ids : List ℕ) (m : ℕ) (old : Uses) (kept : IsKept ids m) (id at : ℕ)
-    (view : uses_of ids m ≡ with_ids old (joined id old.ids)) (stands : slice_get (take m ids) at ≡ Some id)
-    (new : List ℕ) (long : length new ≡ length ids) where
-  inside : at < m
-  inside =
-      let count : length (take m ids) ≡ m = length-take-le m ids kept.within in
-      let lt = slice_get_within (take m ids) at id stands in
-      omega arith
-
-  there : slice_get ids at ≡ Some id
-  there = sym (slice_get-take ids at m inside) ∙ stands
-
-  rest : without id (take m ids) ≡ without id old.ids
-  rest = ap (λ (u : Uses). without id u.ids) view ∙ without-joined id old.ids
-
-  pub end_leaves : (end : End) → new ≡ move_index ids at (position_of end m) → uses_of new m ≡ with_ids old (at_end end id old.ids)
-  end_leaves end moved = same_uses (length new) old.cap (take m new) (at_end end id old.ids) (long ∙ ap (λ (u : Uses). u.cap) view) (ap (take m) moved ∙ by end)
+  -- behind the newest no one
+  pub next_none : (id next i : ℕ) → id < cap → next ≡ get_or after id next → (next ≡ cap) ⊎ (next ≡ id) → slice_get now.ids i ≡ Some id → None ≡ slice_get now.ids (i + 1)
+  next_none id next i lt e none at =
+      let is = read_after id next (omega arith) e in
+      let way = leads-behind after (slice_index after cap) now.ids cap i id around at in
+      leads-no after (slice_index after id) (drop (suc i) now.ids) cap (sym is ∙ last is way none) (each-drop (λ q. q < cap) (suc i) now.ids below) way
+      ∙ slice_get-behind now.ids i
     where
-      by : (end : End) → take m (move_index ids at (position_of end m)) ≡ at_end end id old.ids
-      by Newest = take-newest id ids at kept.apart m kept.within inside there ∙ ap (λ l. l ++ id ∷ []) rest
-      by Oldest = take-oldest id ids at kept.apart m kept.within inside there ∙ ap (λ l. id ∷ l) rest
+      last : next ≡ slice_index after id → Leads after (slice_index after id) (drop (suc i) now.ids) cap → (next ≡ cap) ⊎ (next ≡ id) → next ≡ cap
+      last is way (inl f) = f
+      last is way (inr f) = f ∙ leads-stuck after id (drop (suc i) now.ids) cap (sym is ∙ f) (subst (λ q. Leads after q (drop (suc i) now.ids) cap) (sym is ∙ f) way)
+
+  -- what is linked to itself is no member, and what is too large
+  pub alone_none : (id next : ℕ) → id < cap → next ≡ get_or after id next → next ≡ id → is_member id now.ids ≡ false
+  alone_none id next lt e self =
+      leads-none after (slice_index after cap) now.ids cap id (sym (read_after id next (omega arith) e) ∙ self) (λ f. let g : id ≡ cap = f in absurd (omega arith)) around
+
+  pub large_none : (id : ℕ) → cap ≤ id → is_member id now.ids ≡ false
+  large_none id le = turn (is_member id now.ids) refl
+    where
+      turn : (t : Bool) → is_member id now.ids ≡ t → t ≡ false
+      turn true e = let lt = member_below id cap now.ids below e in absurd (omega arith)
+      turn false e = refl
+
+  pub same_without : (id : ℕ) → is_member id now.ids ≡ false → now ≡ with_ids now (without id now.ids)
+  same_without id none = ap (with_ids now) (sym (without-absent id now.ids none))
+
+  ring_now : IsRing cap after before now.ids
+  ring_now = subst (IsRing cap after before) ids_are ring
+
+  pub fits : members ≤ cap
+  fits = let bound = few now are_uses in let long = count in let e = cap_is in omega arith
+
+  -- the links after an exchange
+  module _ (id front : ℕ) (lt : id < cap) (forward backward : List ℕ) (a : forward ≡ swap after front id) (b : backward ≡ swap before (slice_index after front) (slice_index after id)) where
+    ring_after : (new : List ℕ) → IsRing cap (swap after front id) (swap before (slice_index after front) (slice_index after id)) new → IsRing cap forward backward new
+    ring_after new is = rw (a, b) is
+
+    module _ (next : ℕ) (is_next : next ≡ get_or after id next) (other : next ≢ id) (leads : front ≡ get_or before id front) where
+      linked : slice_index after id ≢ id
+      linked e = other (read_after id next (omega arith) is_next ∙ e)
+
+      front_is : slice_index before id ≡ front
+      front_is = sym (read_before id front (omega arith) leads)
+
+      there : is_member id now.ids ≡ true
+      there = turn (is_member id now.ids) refl
+        where
+          turn : (t : Bool) → is_member id now.ids ≡ t → t ≡ true
+          turn true e = refl
+          turn false e = absurd (linked (ring_now.alone id lt e))
+
+      removed : IsRing cap forward backward (without id now.ids)
+      removed = ring_after (without id now.ids)
+          (ring-out cap after before now.ids ring_now front id (subst (λ q. q < cap + 1) front_is (ring.back id (omega arith)).0) lt front_is linked)
+
+      less : length (without id now.ids) ≡ members - 1
+      less = let one = fewer id now.ids (EachPair-from_AllPairs (λ a b. a ≡ b → ⊥) now.ids are_uses.apart) there in let long = count in omega arith
+
+      pub removed_kept : IsRing cap forward backward (ids_of cap forward (members - 1))
+      removed_kept = kept cap (members - 1) forward backward (without id now.ids) removed less
+
+      pub removed_value : uses_of cap forward (members - 1) ≡ with_ids now (without id now.ids)
+      removed_value = viewed cap (members - 1) forward backward (without id now.ids) removed less ∙ (λ i. record { cap = cap_is i; ids = without id now.ids })
+
+    -- what is no member comes directly behind the front
+    module _ (none : is_member id now.ids ≡ false) where
+      joined : (end : End) → IsFront cap before front end → IsRing cap forward backward (put end id now.ids)
+      joined Oldest is = ring_after (id ∷ now.ids) (ring-oldest cap after before now.ids ring_now front id (omega arith) lt none is)
+      joined Newest is =
+          let front_is = read_before cap front (omega arith) is in
+          ring_after (now.ids ++ id ∷ [])
+          (ring-newest cap after before now.ids ring_now front id (subst (λ q. q < cap + 1) (sym front_is) (ring.back cap (omega arith)).0) lt none
+          (ap (slice_index after) front_is ∙ (ring.back cap (omega arith)).1))
+
+      more : (end : End) → length (put end id now.ids) ≡ members + 1
+      more Oldest = let long = count in omega arith
+      more Newest = let long = count in omega (arith, length-append now.ids (id ∷ []))
+
+      pub joined_kept : (end : End) → IsFront cap before front end → IsRing cap forward backward (ids_of cap forward (members + 1))
+      joined_kept end is = kept cap (members + 1) forward backward (put end id now.ids) (joined end is) (more end)
+
+      pub joined_value : (end : End) → IsFront cap before front end → uses_of cap forward (members + 1) ≡ with_ids now (put end id now.ids)
+      joined_value end is = viewed cap (members + 1) forward backward (put end id now.ids) (joined end is) (more end) ∙ (λ i. record { cap = cap_is i; ids = put end id now.ids })

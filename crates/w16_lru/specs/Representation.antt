@@ -1,27 +1,36 @@
--- What the code keeps of an order of use: every id once, its members first.
-use Rattle.std.specs.Prelude.{◌≡◌, ◌-◌, ◌<◌, ◌≤◌, ◌^◌, ℕ, List, [], ◌∷◌, ◌++◌, if◌then◌else◌, nat_eq, nat_lt, length, take, AllPairs}
-use Rattle.std.specs.List.{list_any}
+-- How the code keeps an order of use: a ring of ids, linked both ways. A number above all ids stands between its newest member and its oldest.
+use Rattle.std.specs.Prelude.{◌≡◌, ◌+◌, ◌<◌, ℕ, zero, suc, false, List, [], ◌∷◌, length, slice_index}
 use Rattle.w16_model.specs.Discards.{is_member}
-use Rattle.w16_lru.specs.declared.End.{End}
-use Rattle.w16_lru.specs.declared.End.TheVariants.{Oldest, Newest}
-use Rattle.w16_lru.specs.Uses.{Uses}
+use Rattle.w16_lru.specs.Uses.{Uses, AreUses}
 
-pub record IsKept (positions : List ℕ) (members : ℕ) : Type 0 where
-  pub within : members ≤ length positions
-  -- the ids that have a position are those below the number of positions
-  pub every : (id : ℕ) → list_any (nat_eq id) positions ≡ nat_lt id (length positions)
-  pub apart : AllPairs (λ a b. a ≡ b → ⊥) positions
-  pub few : length positions < 2 ^ 32
+-- the first n on the way along the links
+abbrev pub follow : ℕ → List ℕ → ℕ → List ℕ
+follow zero after from = []
+follow (suc n) after from = from ∷ follow n after (slice_index after from)
+
+-- the way along the links from a number on: these ids, and then the end
+abbrev pub Leads : List ℕ → ℕ → List ℕ → ℕ → Type 0
+Leads after from [] end = from ≡ end
+Leads after from (id ∷ ids) end = (from ≡ id) × Leads after (slice_index after id) ids end
+
+-- these links stay below a number, and the others lead back
+abbrev pub LeadBack : ℕ → List ℕ → List ℕ → Type 0
+LeadBack count after before = (q : ℕ) → q < count → (slice_index after q < count) × (slice_index before (slice_index after q) ≡ q)
+
+-- the ring of these ids: what is no member is linked to itself
+pub record IsRing (cap : ℕ) (after before ids : List ℕ) : Type 0 where
+  pub after_long : length after ≡ cap + 1
+  pub before_long : length before ≡ cap + 1
+  pub forth : LeadBack (cap + 1) after before
+  pub back : LeadBack (cap + 1) before after
+  pub around : Leads after (slice_index after cap) ids cap
+  pub alone : (id : ℕ) → id < cap → is_member id ids ≡ false → slice_index after id ≡ id
+  pub uses : AreUses (record { cap = cap; ids = ids })
+
+-- the members of a ring: as many from the oldest on
+abbrev pub ids_of : ℕ → List ℕ → ℕ → List ℕ
+ids_of cap after members = follow members after (slice_index after cap)
 
 -- the order that they are
-abbrev pub uses_of : List ℕ → ℕ → Uses
-uses_of positions members = record { cap = length positions; ids = take members positions }
-
--- the ids of the members once an id is one of them: a member keeps its place, and any other goes behind them
-abbrev pub joined : ℕ → List ℕ → List ℕ
-joined id ids = if is_member id ids then ids else ids ++ id ∷ []
-
--- where the member at an end stands
-abbrev pub position_of : End → ℕ → ℕ
-position_of Oldest members = 0
-position_of Newest members = members - 1
+abbrev pub uses_of : ℕ → List ℕ → ℕ → Uses
+uses_of cap after members = record { cap = cap; ids = ids_of cap after members }

@@ -1,15 +1,19 @@
-//! The order of use of a heap's discardable objects: their ids, each at most once, oldest first. No call but the constructor takes memory.
+//! The order of use of a heap's discardable objects: their ids, each at most once, oldest first.
+//!
+//! No call but the constructor takes memory, and each but [`Order::nth`] takes constant time.
 #![tactic(auto)]
 
-ghost use Rattle.std.specs.Prelude.{◌≡◌, ◌<◌, [], Some, length, slice_get, IfOk};
+ghost use Rattle.std.specs.Prelude.{◌≡◌, ◌+◌, ◌<◌, ℕ, [], Some, None, false, length, slice_get, slice_index, IfOk};
+ghost use Rattle.std.specs.List.{range_with_len, swap};
+ghost use Rattle.w16_model.specs.Discards.{is_member};
 ghost use Rattle.w16_model.specs.Changes.{newest, oldest, without};
-ghost use Rattle.w16_lru.specs.Representation.{joined, position_of};
 ghost use Rattle.w16_lru.specs.Uses.{AreUses, at_end};
 
+mod oldest_first;
 #[cfg(test)]
 mod tests;
 
-use indexmap::IndexSet;
+pub use oldest_first::OldestFirst;
 use std::alloc::{AllocError, Global};
 use std::marker::Model;
 
@@ -21,23 +25,30 @@ pub enum End {
 }
 
 /// The ids below a number that are in use, oldest first.
+///
+/// They are linked in a ring by two tables, with a place for each id and one for `cap`, which stands
+/// between the newest and the oldest.
 #[derive(Drop)]
 pub struct Order {
-    /// Every id below the number, the members first: so a change moves positions alone, and takes no memory.
-    positions: IndexSet<u32>,
-    /// How many of them are members.
+    /// What comes behind each. An id that is no member comes behind itself.
+    after: Vec<u32>,
+    /// What comes before each: where one table leads, the other leads back.
+    before: Vec<u32>,
+    /// The ids are below it.
+    cap: u32,
+    /// How many ids are members.
     members: usize,
 }
 
 impl Model for Order {
     ghost use Rattle.w16_lru.specs.Uses.{Uses};
-    ghost use Rattle.w16_lru.specs.Representation.{IsKept, uses_of};
+    ghost use Rattle.w16_lru.specs.Representation.{IsRing, ids_of, uses_of};
 
     ghost Value = { Uses };
 
-    ghost view = { λ s. uses_of s.positions.keys s.members };
+    ghost view = { λ s. uses_of s.cap s.after.items s.members };
 
-    ghost invariant = { λ s. IsKept s.positions.keys s.members };
+    ghost invariant = { λ s. IsRing s.cap s.after.items s.before.items (ids_of s.cap s.after.items s.members) };
 }
 
 impl Order {
@@ -45,15 +56,12 @@ impl Order {
     pub fn with_room(alloc: Global, cap: u32) -> Result<Order, AllocError>
         ensures { IfOk result (λ made. made ≡ record { cap = cap; ids = [] }) }
     {
-        let mut positions = IndexSet::with_capacity(alloc, cap as usize)?;
-        for id in 0..cap {
-            // There is room for every id.
-            let Ok(_) = positions.insert(id) else {
-                unreachable!()
-            };
-        }
+        let after = each_alone(alloc, cap)?;
+        let before = each_alone(alloc, cap)?;
         Ok(Order {
-            positions,
+            after,
+            before,
+            cap,
             members: 0,
         })
     }
@@ -65,15 +73,61 @@ impl Order {
         self.members
     }
 
-    /// The i-th member, the oldest first, from 0; none behind the newest.
+    /// The i-th member, the oldest first, from 0; none behind the newest. It walks there from the
+    /// oldest.
     pub fn nth(&self, i: usize) -> Option<u32>
         ensures value { result ≡ slice_get self.now.ids i }
         ensures uses { AreUses self.now }
     {
-        if i < self.members {
-            self.positions.get_index(i).copied()
-        } else {
-            None
+        if i >= self.members {
+            return None;
+        }
+        let mut id = self.after[self.cap as usize];
+        for _k in 0..i {
+            id = self.after[id as usize];
+        }
+        Some(id)
+    }
+
+    /// The oldest member; none where there is no member.
+    pub fn first(&self) -> Option<u32>
+        ensures value { result ≡ slice_get self.now.ids 0 }
+        ensures uses { AreUses self.now }
+    {
+        let oldest = self.after[self.cap as usize];
+        if oldest == self.cap {
+            return None;
+        }
+        Some(oldest)
+    }
+
+    /// The member directly behind a member; none behind the newest, nor for what is no member.
+    pub fn next(&self, id: u32) -> Option<u32>
+        ensures behind { (i : ℕ) → slice_get self.now.ids i ≡ Some id → result ≡ slice_get self.now.ids (i + 1) }
+        ensures none { is_member id self.now.ids ≡ false → result ≡ None }
+        ensures uses { AreUses self.now }
+    {
+        if id >= self.cap {
+            return None;
+        }
+        let next = self.after[id as usize];
+        if next == self.cap || next == id {
+            return None;
+        }
+        Some(next)
+    }
+
+    /// The members, the oldest first, each found from the one before.
+    pub fn oldest_first(&self) -> OldestFirst<'_>
+        ensures order { result.order.now ≡ self.now }
+        ensures left { result.left ≡ length self.now.ids }
+        ensures uses { AreUses self.now }
+        ensures next { result.next ≡ slice_get self.now.ids 0 }
+    {
+        OldestFirst {
+            order: self,
+            next: self.first(),
+            left: self.len(),
         }
     }
 
@@ -101,9 +155,13 @@ impl Order {
         ensures value { self.new ≡ record self.old { ids = at_end end id self.old.ids } }
         ensures uses { AreUses self.new }
     {
-        let at = self.join(id);
-        self.positions
-            .move_index(at, position_of(end, self.members));
+        self.remove(id);
+        let front = match end {
+            End::Oldest => self.cap,
+            End::Newest => self.before[self.cap as usize],
+        };
+        exchange(&mut self.after, &mut self.before, front, id);
+        self.members += 1;
     }
 
     /// An id is no member any more, if it was one.
@@ -111,43 +169,36 @@ impl Order {
         ensures value { self.new ≡ record self.old { ids = without id self.old.ids } }
         ensures uses { AreUses self.new }
     {
-        let Some(at) = self.positions.get_index_of(&id) else {
+        if id >= self.cap || self.after[id as usize] == id {
             return;
-        };
-        if at < self.members {
-            let last = self.members - 1;
-            self.positions.move_index(at, last);
-            self.members = last;
         }
-    }
-
-    /// Where an id stands, once it is made a member: where it was, or else directly behind the others.
-    fn join(&mut self, id: u32) -> usize
-        requires { id < self.old.cap }
-        ensures value { self.new ≡ record self.old { ids = joined id self.old.ids } }
-        ensures at { slice_get self.new.ids result ≡ Some id }
-    {
-        let Some(at) = self.positions.get_index_of(&id) else {
-            unreachable!()
-        };
-        if at < self.members {
-            return at;
-        }
-        // No order is kept behind the members, so the two can change places.
-        let behind = self.members;
-        self.positions.swap_indices(at, behind);
-        self.members += 1;
-        behind
+        let front = self.before[id as usize];
+        exchange(&mut self.after, &mut self.before, front, id);
+        self.members -= 1;
     }
 }
 
-/// The position of the member at an end.
-fn position_of(end: End, members: usize) -> usize
-    requires { 0 < members }
-    ensures { result ≡ position_of end members }
+/// A table of the numbers up to `cap`, each linked to itself.
+fn each_alone(alloc: Global, cap: u32) -> Result<Vec<u32>, AllocError>
+    ensures { IfOk result (λ links. links.items ≡ range_with_len 0 (cap + 1)) }
 {
-    match end {
-        End::Oldest => 0,
-        End::Newest => members - 1,
+    let mut links = Vec::with_capacity(alloc, cap as usize + 1)?;
+    for id in 0..=cap {
+        links.push(id)?;
     }
+    Ok(links)
+}
+
+/// Exchanges what comes behind `front` and behind `id`. So an id that was alone comes directly behind
+/// `front`, and an id that was directly behind `front` is alone.
+fn exchange(after: &mut [u32], before: &mut [u32], front: u32, id: u32)
+    requires front { front < length after.old }
+    requires id { id < length after.old }
+    requires behind_front { slice_index after.old front < length before.old }
+    requires behind_id { slice_index after.old id < length before.old }
+    ensures after { after.new ≡ swap after.old front id }
+    ensures before { before.new ≡ swap before.old (slice_index after.old front) (slice_index after.old id) }
+{
+    before.swap(after[front as usize] as usize, after[id as usize] as usize);
+    after.swap(front as usize, id as usize);
 }

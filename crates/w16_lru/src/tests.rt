@@ -22,11 +22,29 @@ fn members(order: &Order) -> [Option<u32>; 5] {
     ]
 }
 
+/// The first five members, each found behind the one before.
+fn walked(order: &Order) -> [Option<u32>; 5] {
+    let first = order.first();
+    let second = behind(order, first);
+    let third = behind(order, second);
+    let fourth = behind(order, third);
+    [first, second, third, fourth, behind(order, fourth)]
+}
+
+fn behind(order: &Order, id: Option<u32>) -> Option<u32> {
+    match id {
+        Some(id) => order.next(id),
+        None => None,
+    }
+}
+
 #[test]
 fn begins_empty(rt: HostRuntime) -> Result<(), Fail> {
     let order = five(&rt)?;
     assert_eq!(rt; order.len(), 0);
     assert_eq!(rt; order.nth(0), None);
+    assert_eq!(rt; order.first(), None);
+    assert_eq!(rt; order.next(0), None);
     Ok(())
 }
 
@@ -75,6 +93,26 @@ fn removed_is_no_member(rt: HostRuntime) -> Result<(), Fail> {
     order.remove(0);
     order.remove(7);
     assert_eq!(rt; order.len(), 2);
+    Ok(())
+}
+
+#[test]
+fn next_goes_from_the_oldest_to_the_newest(rt: HostRuntime) -> Result<(), Fail> {
+    let mut order = five(&rt)?;
+    order.newest(3);
+    order.newest(0);
+    order.oldest(4);
+    order.newest(2);
+    assert_eq!(rt; walked(&order), [Some(4), Some(3), Some(0), Some(2), None]);
+    order.remove(3);
+    assert_eq!(rt; walked(&order), [Some(4), Some(0), Some(2), None, None]);
+    assert_eq!(rt; order.next(2), None);
+    assert_eq!(rt; order.next(3), None);
+    assert_eq!(rt; order.next(5), None);
+    order.remove(4);
+    assert_eq!(rt; order.first(), Some(0));
+    order.newest(0);
+    assert_eq!(rt; walked(&order), [Some(2), Some(0), None, None, None]);
     Ok(())
 }
 

@@ -2,3 +2,4 @@ pub mod World
 pub mod Machine
 pub mod Codes
 pub mod Law
+pub mod Fewest

@@ -65,7 +65,7 @@ module _ (lo hi : ℕ) (xs : List Block) (order : List ℕ) (n : ℕ) (h : Optio
         | inr l ↦ all j (omega arith)
       ]
 
-  no_stretch : ArePlaced lo hi xs → (k : ℕ) → room_for (snapshot lo hi xs order) k h < n → NoStretch lo hi xs order k h n
+  pub no_stretch : ArePlaced lo hi xs → (k : ℕ) → room_for (snapshot lo hi xs order) k h < n → NoStretch lo hi xs order k h n
   no_stretch placed k l place a b arranged free =
       let ids : List ℕ = take k (eligible xs order h) in
       omega (arith, none_longer lo hi (blocks_without xs ids h) (placed_filter lo hi (λ x. not (is_member x.id ids || is_about h x.id)) xs placed) place a b arranged free)

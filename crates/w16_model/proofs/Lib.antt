@@ -29,4 +29,12 @@ pub mod Trials
 pub mod Prefixes
 pub mod Answered
 pub mod Outcomes
+pub mod Fewest
 pub mod Cuts
+pub mod LeftOut
+pub mod Replaced
+pub mod KindChanges
+pub mod Growth
+pub mod Reallocations
+pub mod Absence
+pub mod KeptRest

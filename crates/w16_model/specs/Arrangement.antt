@@ -1,5 +1,5 @@
 -- Arrangements: every way in which the loose blocks of a heap may slide.
-use Rattle.std.specs.Prelude.{ℕ, ◌+◌, ◌≤◌, ◌&&◌, IsTrue, List, All, AllPairs}
+use Rattle.std.specs.Prelude.{◌≡◌, ℕ, ◌+◌, ◌-◌, ◌<◌, ◌≤◌, ◌&&◌, IsTrue, List, All, AllPairs}
 use Rattle.w16_model.specs.declared.Block.{Block}
 use Rattle.w16_model.specs.Gap.{is_pinned, is_loose, begins_in, Misses, IsClear, IsGap}
 
@@ -12,3 +12,8 @@ pub record IsArrangement (lo hi : ℕ) (xs : List Block) (place : Block → ℕ)
 pub record IsFreeStretch (lo hi : ℕ) (xs : List Block) (place : Block → ℕ) (a b : ℕ) : Type 0 where
   pub clear : IsClear is_pinned lo hi xs a b
   pub misses : All (λ x. IsTrue (is_loose x) → Misses (place x) x.size a b) xs
+
+-- n is the length of the longest free stretch of any arrangement, and 0 where there is none
+pub record IsLongestStretch (lo hi : ℕ) (xs : List Block) (n : ℕ) : Type 0 where
+  pub none_longer : (place : Block → ℕ) (a b : ℕ) → IsArrangement lo hi xs place → IsFreeStretch lo hi xs place a b → b - a ≤ n
+  pub one_as_long : 0 < n → (place : Block → ℕ) × (a : ℕ) × (b : ℕ) × IsArrangement lo hi xs place × IsFreeStretch lo hi xs place a b × (b - a ≡ n)

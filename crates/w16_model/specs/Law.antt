@@ -9,7 +9,7 @@ use Rattle.w16_model.specs.declared.Hold.TheVariants.{Pinned}
 use Rattle.w16_model.specs.declared.Kind.TheVariants.{Discardable}
 use Rattle.w16_model.specs.declared.TheConstants.{FIRST_SLOT, MOST_SLOTS, GRAIN, LARGEST_SIZE, GMEM_MOVEABLE, GMEM_NOCOMPACT, GMEM_NODISCARD, GMEM_ZEROINIT, GMEM_DISCARDABLE, GMEM_DDESHARE, GMEM_DISCARDED}
 use Rattle.w16_model.specs.Gap.{is_pinned, is_any, room, longest_hole, hole_after, gaps, holes, loose_bytes, block_end, IsGap, IsHole, IsGapOf, ArePlaced, IsLaid}
-use Rattle.w16_model.specs.Arrangement.{IsArrangement, IsFreeStretch}
+use Rattle.w16_model.specs.Arrangement.{IsArrangement, IsFreeStretch, IsLongestStretch}
 use Rattle.w16_model.specs.Discards.{eligible, is_member, blocks_without, needed, room_for, snapshot}
 use Rattle.std.specs.FinMap as finmap
 use Rattle.w16_model.specs.Heap.{Heap, Object, IsHeap, blocks, object_at, is_pinned_object}
@@ -84,13 +84,9 @@ pub record RoomIsLargest (lo hi : ℕ) (xs : List Block) : Type 0 where
 abbrev pub LargestLaw : Type 0
 LargestLaw = (lo hi : ℕ) (xs : List Block) → ArePlaced lo hi xs → RoomIsLargest lo hi xs
 
--- room is the length of the longest free stretch of any arrangement, and 0 where there is none
-pub record RoomIsLongest (lo hi : ℕ) (xs : List Block) : Type 0 where
-  pub none_longer : (place : Block → ℕ) (a b : ℕ) → IsArrangement lo hi xs place → IsFreeStretch lo hi xs place a b → b - a ≤ room lo hi xs
-  pub one_as_long : 0 < room lo hi xs → (place : Block → ℕ) × (a : ℕ) × (b : ℕ) × IsArrangement lo hi xs place × IsFreeStretch lo hi xs place a b × (b - a ≡ room lo hi xs)
-
+-- room is the length of the longest free stretch of any arrangement
 abbrev pub RoomLaw : Type 0
-RoomLaw = (lo hi : ℕ) (xs : List Block) → ArePlaced lo hi xs → RoomIsLongest lo hi xs
+RoomLaw = (lo hi : ℕ) (xs : List Block) → ArePlaced lo hi xs → IsLongestStretch lo hi xs (room lo hi xs)
 
 -- there is no less room in a longer range
 abbrev pub LongerLaw : Type 0

@@ -11,5 +11,7 @@ pub mod Walk
 pub mod Calls
 pub mod Far
 pub mod Law
+pub mod Fewest
+pub mod Reallocation
 pub mod Table
 pub mod Codes

@@ -4,6 +4,7 @@ use Rattle.std.specs.Io.KnownBytes.{Keeps}
 use Rattle.std.proofs.KnownBytes.{Appends-nil, Appends-trans, Appends-kept}
 use Rattle.w16_machine.specs.World.{World}
 use Rattle.w16_machine.specs.Machine.{Event, Run}
+use Rattle.w16_machine.specs.Fewest.{AreFewest}
 use Rattle.w16_script.specs.Registers.{stored_all}
 use Rattle.w16_script.specs.State.{State}
 use Rattle.w16_script.specs.Grammar.{Said, Reads, target_of}
@@ -13,6 +14,11 @@ use Rattle.w16_script.specs.Output.{Prints, PrintsLine, RunsLines}
 Run-append : (old mid new : World) (events more : List Event) → Run old events mid → Run mid more new → Run old (events ++ more) new
 Run-append old mid new [] more p q = subst (λ (w : World). Run w more new) p q
 Run-append old mid new (event ∷ events) more p q = (p.0, Run-append event.after mid new events more p.1 q)
+
+-- in which each call discards as few as it can
+Fewest-append : (old mid new : World) (events more : List Event) → Run old events mid → AreFewest old events → AreFewest mid more → AreFewest old (events ++ more)
+Fewest-append old mid new [] more run p q = subst (λ (w : World). AreFewest w more) run q
+Fewest-append old mid new (event ∷ events) more run p q = (p.0, Fewest-append event.after mid new events more run.1 p.1 q)
 
 -- and so does what lines print
 Prints-append : (a b c : List ℕ) (lines others : List (List ℕ)) (events more : List Event) (output rest : List ℕ) → Prints a lines events output b → Prints b others more rest c
@@ -43,7 +49,7 @@ Prints-one registers line said events output new reads prints is =
 
 -- no line
 pub RunsLines-none : (a : Option (List ℕ)) (v : State) → RunsLines a v [] a v
-RunsLines-none a v = record { events = []; output = []; run = refl; prints = (refl, refl, refl); appends = Appends-nil a }
+RunsLines-none a v = record { events = []; output = []; run = refl; prints = (refl, refl, refl); appends = Appends-nil a; fewest = tt }
 
 -- lines, and then others
 pub RunsLines-append : (a b c : Option (List ℕ)) (v w x : State) (lines others : List (List ℕ)) → RunsLines a v lines b w → RunsLines b w others c x → RunsLines a v (lines ++ others) c x
@@ -53,8 +59,9 @@ RunsLines-append a b c v w x lines others p q = record {
   run = Run-append v.world w.world x.world p.events q.events p.run q.run;
   prints = Prints-append v.registers w.registers x.registers lines others p.events q.events p.output q.output p.prints q.prints;
   appends = Appends-trans a b c p.output q.output p.appends q.appends;
+  fewest = Fewest-append v.world w.world x.world p.events q.events p.run p.fewest q.fewest;
 }
 
 -- what was written stays
 pub RunsLines-kept : (a b c : Option (List ℕ)) (v w : State) (lines : List (List ℕ)) → RunsLines a v lines b w → Keeps b c → RunsLines a v lines c w
-RunsLines-kept a b c v w lines p q = record { events = p.events; output = p.output; run = p.run; prints = p.prints; appends = Appends-kept a b c p.output p.appends q }
+RunsLines-kept a b c v w lines p q = record { events = p.events; output = p.output; run = p.run; prints = p.prints; appends = Appends-kept a b c p.output p.appends q; fewest = p.fewest }

@@ -3,6 +3,7 @@ use Rattle.std.specs.Prelude.{◌≡◌, ℕ, ◌+◌, List, [], ◌∷◌, ◌+
 use Rattle.std.specs.List.{flat_map, AllByRecursion}
 use Rattle.std.specs.Io.KnownBytes.{Keeps}
 use Rattle.w16_machine.specs.Machine.{Command, Event, Run}
+use Rattle.w16_machine.specs.Fewest.{AreFewest}
 use Rattle.w16_script.specs.declared.outcome.RunFault.{RunFault}
 use Rattle.w16_script.specs.declared.outcome.RunFault.TheVariants.{Write, Memory, TooLong}
 use Rattle.w16_script.specs.State.{State}
@@ -21,6 +22,7 @@ abbrev pub FailsAt : Option (List ℕ) → State → List ℕ → RunFault → O
 -- its command was done, and a front of its reply was written
 FailsAt held old line Write holds new =
     (events : List Event) × (output : List ℕ) × Run old.world events new.world × Prints old.registers (line ∷ []) events output new.registers × AppendsFront held holds output
+    × AreFewest old.world events
 -- its command wants memory, and nothing was done
 FailsAt held old line Memory holds new =
     (target : Option ℕ) × (command : Command) × Reads old.registers line (Said.Says target command) × TakesMemory command × (new ≡ old) × Keeps held holds

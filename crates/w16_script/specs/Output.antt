@@ -5,6 +5,7 @@ use Rattle.w16_model.specs.declared.Item.{Item}
 use Rattle.w16_machine.specs.World.{World, IsWorldWalk}
 use Rattle.w16_machine.specs.Machine as machine
 use Rattle.w16_machine.specs.Machine.{Event, Run}
+use Rattle.w16_machine.specs.Fewest.{AreFewest}
 use Rattle.w16_script.specs.Registers.{stored_all}
 use Rattle.w16_script.specs.State.{State}
 use Rattle.w16_script.specs.Words.{words_of}
@@ -40,6 +41,7 @@ pub record RunsLines (held : Option (List ℕ)) (old : State) (lines : List (Lis
   pub run : Run old.world events new.world
   pub prints : Prints old.registers lines events output new.registers
   pub appends : Appends held holds output
+  pub fewest : AreFewest old.world events
 
 -- whether a line has a reply
 abbrev pub has_reply : List ℕ → Bool

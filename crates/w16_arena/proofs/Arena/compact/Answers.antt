@@ -1,5 +1,7 @@
 use Rattle.std.proofs.Common.{refl, sym, arith}
 use Rattle.w16_model.specs.Table.{heap_in}
+use Rattle.w16_model.proofs.Sound.{sound_heap}
+use Rattle.w16_model.proofs.Fewest.{compaction_law}
 use Rattle.w16_compact.proofs.Rests.{rest_same}
 use Rattle.w16_arena.proofs.Moved.{moved_few}
 use Rattle.w16_arena.proofs.Unmoved.{unmoved}
@@ -26,3 +28,11 @@ returns-clause-rest g c =
       range = record { lo = refl; hi = refl; grain = refl; ids = refl; sound = c.is_sound.ensures };
       memory = rest_same c.args.self.now.table.lo c.args.self.now.table.hi c.args.space.now;
     })
+
+pub returns-clause-fewest : goal.returns-clause-fewest
+returns-clause-fewest g c =
+    compaction_law _ _ _ _ (sound_heap c.args.self.now.table c.is_sound.ensures (g.S.Space.bytes c.args.space.now) c.requires.inside c.has_bytes.ensures) (returns-clause-compacted g c)
+
+pub returns-then-n-gt0-clause-fewest : goal.returns-then-n-gt0-clause-fewest
+returns-then-n-gt0-clause-fewest g c =
+    compaction_law _ _ _ _ (sound_heap c.args.self.now.table c.is_sound.ensures (g.S.Space.bytes c.args.space.now) c.requires.inside c.has_bytes.ensures) c.slide_discarding.ensures.compacted

@@ -1,37 +1,48 @@
-use Rattle.std.proofs.Common.{◌-◌, arith}
-use Rattle.w16_lru.proofs.Changes.{IsKept-moved, AreUses-kept}
-use Rattle.w16_lru.proofs.Outcomes.{uses, remove_none, remove_other, remove_member}
+use Rattle.std.proofs.Common.{◌≡◌, arith}
+use Rattle.std.specs.List.{swap}
+use Rattle.std.specs.Prelude.{slice_index}
+use Rattle.std.specs.Vec.{with_items}
+use Rattle.w16_lru.proofs.Outcomes.{same_without, alone_none, large_none, removed_kept, removed_value, exchanged_after, exchanged_before}
 use Rattle.w16_lru.proofs.Order.remove.Goals as goal
+use Rattle.w16_lru.proofs.Order.remove.Goals.{then-id-self-via-then-id-self, then-id-self-via-else-id-self+then-index-id}
+
+pub returns-then-id-self-clause-value : goal.returns-then-id-self-clause-value
+returns-then-id-self-clause-value c =
+    let s = c.self.inside in
+    same_without s.cap s.members s.after.items s.before.items c.args.self.now c.self.invariant c.self.view_is c.args.id
+    (elim c.then-id-self.branch [
+      | then-id-self-via-then-id-self w ↦ large_none s.cap s.members s.after.items s.before.items c.args.self.now c.self.invariant c.self.view_is c.args.id w.if-id-self.true
+      | then-id-self-via-else-id-self+then-index-id w ↦
+          let small = w.if-id-self.false in
+          alone_none s.cap s.members s.after.items s.before.items c.args.self.now c.self.invariant c.self.view_is
+          c.args.id w.index.result.now (omega arith) w.index.ensures w.if-index-id.true
+    ])
+
+after_is : (c : goal.After-self-3-1) → (with_items c.self.inside.after c.exchange.new.after).items ≡ swap c.self.inside.after.items c.index-front.result.now c.args.id
+after_is c = exchanged_after c.self.inside.after c.deref_mut.result.now c.exchange.new.after c.index-front.result.now c.args.id c.deref_mut.ensures.value c.exchange.ensures.after
+
+before_is : (c : goal.After-self-3-1)
+    → (with_items c.self.inside.before c.exchange.new.before).items
+    ≡ swap c.self.inside.before.items (slice_index c.self.inside.after.items c.index-front.result.now) (slice_index c.self.inside.after.items c.args.id)
+before_is c =
+    exchanged_before c.self.inside.before c.self.inside.after.items c.deref_mut.result.now c.deref_mut-2.result.now c.exchange.new.before
+    c.index-front.result.now c.args.id c.deref_mut.ensures.value c.deref_mut-2.ensures.value c.exchange.ensures.before
 
 pub invariant_of-self : goal.invariant_of-self
 invariant_of-self c =
-    IsKept-moved c.self.inside.positions.keys c.move_index.new.self.keys c.self.inside.members (c.self.inside.members - 1) c.self.invariant (omega arith)
-    c.move_index.ensures.reordered.1 c.move_index.ensures.reordered.2 c.move_index.ensures.unique
+    let s = c.self.inside in
+    removed_kept s.cap s.members s.after.items s.before.items c.args.self.now c.self.invariant c.self.view_is
+    c.args.id c.index-front.result.now (let large = c.if-id-self.false in omega arith)
+    (with_items s.after c.exchange.new.after).items (with_items s.before c.exchange.new.before).items (after_is c) (before_is c)
+    c.index.result.now c.index.ensures c.if-index-id.false c.index-front.ensures
 
-pub returns-then-at-self-clause-value : goal.returns-then-at-self-clause-value
-returns-then-at-self-clause-value c =
-    remove_member c.self.inside.positions.keys c.self.inside.members c.args.self.now c.self.invariant c.self.view_is
-    c.args.id c.in-Some.at c.in-Some.ensures.index
-    c.move_index.new.self.keys c.move_index.ensures.reordered.1 c.if-at-self.true c.move_index.ensures.keys
+pub returns-clause-value : goal.returns-clause-value
+returns-clause-value c =
+    let s = c.self.inside in
+    removed_value s.cap s.members s.after.items s.before.items c.args.self.now c.self.invariant c.self.view_is
+    c.args.id c.index-front.result.now (let large = c.if-id-self.false in omega arith)
+    (with_items s.after c.exchange.new.after).items (with_items s.before c.exchange.new.before).items (after_is c) (before_is c)
+    c.index.result.now c.index.ensures c.if-index-id.false c.index-front.ensures
 
-pub returns-then-at-self-clause-uses : goal.returns-then-at-self-clause-uses
-returns-then-at-self-clause-uses c =
-    AreUses-kept c.move_index.new.self.keys (c.self.inside.members - 1)
-    (IsKept-moved c.self.inside.positions.keys c.move_index.new.self.keys c.self.inside.members (c.self.inside.members - 1) c.self.invariant (omega arith)
-    c.move_index.ensures.reordered.1 c.move_index.ensures.reordered.2 c.move_index.ensures.unique)
-
-pub returns-in_default-clause-value : goal.returns-in_default-clause-value
-returns-in_default-clause-value c =
-    remove_none c.self.inside.positions.keys c.self.inside.members c.args.self.now c.self.invariant c.self.view_is
-    c.args.id c.in_default.ensures.found
-
-pub returns-in_default-clause-uses : goal.returns-in_default-clause-uses
-returns-in_default-clause-uses c = uses c.self.inside.positions.keys c.self.inside.members c.args.self.now c.self.invariant c.self.view_is
-
-pub returns-else-at-self-clause-value : goal.returns-else-at-self-clause-value
-returns-else-at-self-clause-value c =
-    remove_other c.self.inside.positions.keys c.self.inside.members c.args.self.now c.self.invariant c.self.view_is
-    c.args.id c.in-Some.at c.in-Some.ensures.index c.if-at-self.false
-
-pub returns-else-at-self-clause-uses : goal.returns-else-at-self-clause-uses
-returns-else-at-self-clause-uses c = uses c.self.inside.positions.keys c.self.inside.members c.args.self.now c.self.invariant c.self.view_is
+pub returns-clause-uses : goal.returns-clause-uses
+returns-clause-uses c = (invariant_of-self c).uses

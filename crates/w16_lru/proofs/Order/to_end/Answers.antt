@@ -1,23 +1,57 @@
-use Rattle.std.proofs.Common.{◌∙◌, ap, slice_get, arith}
-use Rattle.indexmap.specs.IndexMap.{move_index}
+use Rattle.std.proofs.Common.{◌≡◌, ◌∙◌, ap, sym, arith, subst, false, ℕ, ◌<◌, get_or}
+use Rattle.std.specs.List.{swap}
+use Rattle.std.specs.Prelude.{slice_index}
+use Rattle.std.specs.Vec.{with_items}
+use Rattle.w16_model.specs.Discards.{is_member}
 use Rattle.w16_lru.specs.Uses.{Uses}
-use Rattle.w16_lru.proofs.Changes.{IsKept-moved, AreUses-kept}
-use Rattle.w16_lru.proofs.Outcomes.{end_leaves}
+use Rattle.w16_lru.proofs.Members.{taken_out}
+use Rattle.w16_lru.proofs.Outcomes.{IsFront, fits, joined_kept, joined_value, put_back, exchanged_after, exchanged_before}
 use Rattle.w16_lru.proofs.Order.to_end.Goals as goal
+use Rattle.w16_lru.proofs.Order.to_end.Goals.{in-Oldest, in-Newest}
+
+pub overflow_add-self : goal.overflow_add-self
+overflow_add-self c =
+    let s = c.self.inside in
+    let le = fits s.cap s.members s.after.items s.before.items c.remove.new.self c.self.invariant c.self.view_is in
+    record { fits = omega arith }
+
+module _ (c : goal.After-self-3-1) where
+  none : is_member c.args.id c.remove.new.self.ids ≡ false
+  none = ap (λ (u : Uses). is_member c.args.id u.ids) c.remove.ensures.value ∙ taken_out c.args.id c.args.self.now.ids
+
+  small : c.args.id < c.self.inside.cap
+  small = let lt = c.requires in let e = ap (λ (u : Uses). u.cap) (c.self.view_is ∙ c.remove.ensures.value) in omega arith
+
+  is_front : IsFront c.self.inside.cap c.self.inside.before.items c.match-end.front c.args.end
+  is_front = elim c.match-end.branch [
+    | in-Oldest w ↦ subst (IsFront c.self.inside.cap c.self.inside.before.items c.match-end.front) (sym w.in-Oldest.is) w.front-is
+    | in-Newest w ↦ subst (IsFront c.self.inside.cap c.self.inside.before.items c.match-end.front) (sym w.in-Newest.is)
+        (subst (λ (q : ℕ). q ≡ get_or c.self.inside.before.items c.self.inside.cap q) (sym w.front-is) w.index.ensures)
+  ]
+
+  after_is : (with_items c.self.inside.after c.exchange.new.after).items ≡ swap c.self.inside.after.items c.match-end.front c.args.id
+  after_is = exchanged_after c.self.inside.after c.deref_mut.result.now c.exchange.new.after c.match-end.front c.args.id c.deref_mut.ensures.value c.exchange.ensures.after
+
+  before_is : (with_items c.self.inside.before c.exchange.new.before).items
+      ≡ swap c.self.inside.before.items (slice_index c.self.inside.after.items c.match-end.front) (slice_index c.self.inside.after.items c.args.id)
+  before_is =
+      exchanged_before c.self.inside.before c.self.inside.after.items c.deref_mut.result.now c.deref_mut-2.result.now c.exchange.new.before
+      c.match-end.front c.args.id c.deref_mut.ensures.value c.deref_mut-2.ensures.value c.exchange.ensures.before
 
 pub invariant_of-self : goal.invariant_of-self
 invariant_of-self c =
-    IsKept-moved c.self.inside.positions.keys c.move_index.new.self.keys c.self.inside.members (c.self.inside.members) c.self.invariant (omega arith)
-    c.move_index.ensures.reordered.1 c.move_index.ensures.reordered.2 c.move_index.ensures.unique
+    let s = c.self.inside in
+    joined_kept s.cap s.members s.after.items s.before.items c.remove.new.self c.self.invariant c.self.view_is
+    c.args.id c.match-end.front (small c)
+    (with_items s.after c.exchange.new.after).items (with_items s.before c.exchange.new.before).items (after_is c) (before_is c) (none c) c.args.end (is_front c)
 
 pub returns-clause-value : goal.returns-clause-value
 returns-clause-value c =
-    end_leaves c.self.inside.positions.keys c.self.inside.members c.args.self.now c.self.invariant c.args.id c.join-at.result
-    (c.self.view_is ∙ c.join-at.ensures.value) (ap (λ (u : Uses). slice_get u.ids c.join-at.result) c.self.view_is ∙ c.join-at.ensures.at)
-    c.move_index.new.self.keys c.move_index.ensures.reordered.1 c.args.end (c.move_index.ensures.keys ∙ ap (move_index c.self.inside.positions.keys c.join-at.result) c.position_of.ensures)
+    let s = c.self.inside in
+    joined_value s.cap s.members s.after.items s.before.items c.remove.new.self c.self.invariant c.self.view_is
+    c.args.id c.match-end.front (small c)
+    (with_items s.after c.exchange.new.after).items (with_items s.before c.exchange.new.before).items (after_is c) (before_is c) (none c) c.args.end (is_front c)
+    ∙ put_back c.args.self.now c.remove.new.self c.args.id c.args.end c.remove.ensures.value
 
 pub returns-clause-uses : goal.returns-clause-uses
-returns-clause-uses c =
-    AreUses-kept c.move_index.new.self.keys c.self.inside.members
-    (IsKept-moved c.self.inside.positions.keys c.move_index.new.self.keys c.self.inside.members (c.self.inside.members) c.self.invariant (omega arith)
-    c.move_index.ensures.reordered.1 c.move_index.ensures.reordered.2 c.move_index.ensures.unique)
+returns-clause-uses c = (invariant_of-self c).uses

@@ -14,6 +14,7 @@ returns-in-Silent-clause-ok g c = record {
   run = refl;
   prints = Prints-one c.args.registers.now c.args.line.now Said.Silent [] [] c.args.registers.now c.in-Silent.ensures.reads refl refl;
   appends = Appends-nil _;
+  fewest = tt;
 }
 
 pub returns-in-Ok-clause-ok : goal.returns-in-Ok-clause-ok
@@ -23,11 +24,12 @@ returns-in-Ok-clause-ok g c = record {
   run = refl;
   prints = Prints-one c.args.registers.now c.args.line.now Said.Bad [] error_text c.args.registers.now c.in-Bad.ensures.reads refl refl;
   appends = c.in-Ok.ensures.ok;
+  fewest = tt;
 }
 
 pub returns-in-Err-clause-err : goal.returns-in-Err-clause-err
 returns-in-Err-clause-err g c =
-    ([], error_text, refl, Prints-one c.args.registers.now c.args.line.now Said.Bad [] error_text c.args.registers.now c.in-Bad.ensures.reads refl refl, c.in-Err.ensures.err)
+    ([], error_text, refl, Prints-one c.args.registers.now c.args.line.now Said.Bad [] error_text c.args.registers.now c.in-Bad.ensures.reads refl refl, c.in-Err.ensures.err, tt)
 
 pub returns-in-Ok-print_shown-clause-ok : goal.returns-in-Ok-print_shown-clause-ok
 returns-in-Ok-print_shown-clause-ok g c =
@@ -40,6 +42,7 @@ returns-in-Ok-print_shown-clause-ok g c =
       run = (c.in-Ok-call.ensures.step, refl {a = c.call.new.self});
       prints = Prints-one c.args.registers.now c.args.line.now (Said.Says c.in-Command.target command) (event ∷ []) text c.store.new.self c.in-Command.ensures.reads (refl, shows) c.store.ensures;
       appends = appends;
+      fewest = (c.in-Ok-call.ensures.fewest, tt);
     }
 
 pub returns-in-Err-print_shown-clause-err : goal.returns-in-Err-print_shown-clause-err
@@ -52,4 +55,5 @@ returns-in-Err-print_shown-clause-err g c =
       (c.in-Ok-call.ensures.step, refl {a = c.call.new.self}),
       Prints-one c.args.registers.now c.args.line.now (Said.Says c.in-Command.target command) (event ∷ []) text c.store.new.self c.in-Command.ensures.reads (refl, shows) c.store.ensures,
       front,
+      (c.in-Ok-call.ensures.fewest, tt),
     )

@@ -3,30 +3,31 @@ use Rattle.w16_selectors.specs.Descriptors.{descriptor_at}
 use Rattle.w16_global.specs.Joined.{forgotten}
 use Rattle.w16_global.proofs.Joining.{given_handles}
 use Rattle.w16_global.proofs.Sliding.{allocated_joined, discarded_known, known_told, known_followed, slot_left, given_moved}
+use Rattle.w16_global.proofs.Joined.{handles_shown}
 use Rattle.w16_global.proofs.global.Global16.allocate.Goals as goal
 
 pub forget-requires-clause-known : goal.forget-requires-clause-known
 forget-requires-clause-known c =
     let s = c.in-Some.ensures in
     subst (All (λ id. is_some (descriptor_at c.self.inside.selectors id) ≡ true)) (sym c.discarded.ensures)
-    (discarded_known c.self.invariant c.alloc.new.self s.cap c.args.slot c.args.attributes c.self.view_is c.requires.free c.args.size c.args.kind c.args.way s.allocated s.discarded)
+    (discarded_known c.self.invariant c.alloc.new.self s.cap c.args.slot c.args.attributes (handles_shown c.self.view_is) c.requires.free c.args.size c.args.kind c.args.way s.allocated s.discarded)
 
 pub follow-requires-clause-known : goal.follow-requires-clause-known
 follow-requires-clause-known c =
     let s = c.in-Some.ensures in
-    known_told c.self.invariant c.alloc.new.self s.cap c.args.slot c.args.attributes c.self.view_is c.requires.free c.args.size c.args.kind c.args.way s.allocated s.discarded
+    known_told c.self.invariant c.alloc.new.self s.cap c.args.slot c.args.attributes (handles_shown c.self.view_is) c.requires.free c.args.size c.args.kind c.args.way s.allocated s.discarded
     c.forget.new.selectors c.take.new.self (subst (λ ids. (q : ℕ) → descriptor_at c.forget.new.selectors q ≡ forgotten ids c.self.inside.selectors q) c.discarded.ensures c.forget.ensures.forgotten) c.forget.ensures.many c.take.ensures
 
 pub take-requires : goal.take-requires
 take-requires c =
     let s = c.in-Some.ensures in
-    slot_left c.self.invariant c.alloc.new.self s.cap c.args.slot c.args.attributes c.self.view_is c.requires.free c.args.size c.args.kind c.args.way s.allocated s.discarded
+    slot_left c.self.invariant c.alloc.new.self s.cap c.args.slot c.args.attributes (handles_shown c.self.view_is) c.requires.free c.args.size c.args.kind c.args.way s.allocated s.discarded
     c.forget.new.selectors (subst (λ ids. (q : ℕ) → descriptor_at c.forget.new.selectors q ≡ forgotten ids c.self.inside.selectors q) c.discarded.ensures c.forget.ensures.forgotten) c.forget.ensures.many
 
 pub set-requires-clause-taken : goal.set-requires-clause-taken
 set-requires-clause-taken c =
     let s = c.in-Some.ensures in
-    known_followed c.self.invariant c.alloc.new.self s.cap c.args.slot c.args.attributes c.self.view_is c.requires.free c.args.size c.args.kind c.args.way s.allocated s.discarded c.in-Some.placed.slid.from c.in-Some.placed.slid.to
+    known_followed c.self.invariant c.alloc.new.self s.cap c.args.slot c.args.attributes (handles_shown c.self.view_is) c.requires.free c.args.size c.args.kind c.args.way s.allocated s.discarded c.in-Some.placed.slid.from c.in-Some.placed.slid.to
     c.forget.new.selectors c.take.new.self c.follow.new.selectors (subst (λ ids. (q : ℕ) → descriptor_at c.forget.new.selectors q ≡ forgotten ids c.self.inside.selectors q) c.discarded.ensures c.forget.ensures.forgotten)
     c.forget.ensures.many c.take.ensures c.follow.ensures.followed
 
@@ -34,11 +35,11 @@ pub invariant_of-self-2 : goal.invariant_of-self-2
 invariant_of-self-2 c =
     let s = c.in-Some.ensures in
     let p = c.in-Some.placed in
-    allocated_joined c.self.invariant c.alloc.new.self s.cap c.args.slot c.args.attributes c.self.view_is c.requires.free c.args.size c.args.kind c.args.way s.allocated s.discarded p.at p.slid.from p.slid.to c.set.new.self s.still s.placed
+    allocated_joined c.self.invariant c.alloc.new.self s.cap c.args.slot c.args.attributes (handles_shown c.self.view_is) c.requires.free c.args.size c.args.kind c.args.way s.allocated s.discarded p.at p.slid.from p.slid.to c.set.new.self s.still s.placed
     c.forget.new.selectors c.take.new.self c.follow.new.selectors (subst (λ ids. (q : ℕ) → descriptor_at c.forget.new.selectors q ≡ forgotten ids c.self.inside.selectors q) c.discarded.ensures c.forget.ensures.forgotten) c.forget.ensures.many c.take.ensures c.follow.ensures.followed c.follow.ensures.many c.set.ensures
 
 pub returns-clause-rest : goal.returns-clause-rest
 returns-clause-rest c =
     let s = c.in-Some.ensures in
-    given_moved c.self.inside.objects c.self.inside.attributes.items _ c.self.view_is c.alloc.new.self c.args.slot c.args.attributes c.in-Some.placed.moved s.moved
-    (given_handles c.self.invariant c.alloc.new.self s.cap c.args.slot c.args.attributes c.self.view_is c.requires.free c.in-Some.placed.moved)
+    given_moved c.self.inside.objects c.self.inside.attributes.items _ (handles_shown c.self.view_is) c.alloc.new.self c.args.slot c.args.attributes c.in-Some.placed.moved s.moved
+    (given_handles c.self.invariant c.alloc.new.self s.cap c.args.slot c.args.attributes (handles_shown c.self.view_is) c.requires.free c.in-Some.placed.moved)

@@ -1,8 +1,9 @@
 use Rattle.std.proofs.Common.{◌≡◌, None, get_or, rules, ◌∙◌}
 use Rattle.w16_global.proofs.Joining.{attributes_shown}
+use Rattle.w16_global.proofs.Joined.{handles_shown}
 use Rattle.w16_global.proofs.global.Global16.attributes_of.Goals as goal
 
 pub returns : goal.returns
 returns c =
     let found : c.flatten.result ≡ get_or c.self.inside.attributes.items c.args.slot None = search rules in
-    found ∙ attributes_shown c.self.invariant c.self.view_is c.args.slot
+    found ∙ attributes_shown c.self.invariant (handles_shown c.self.view_is) c.args.slot

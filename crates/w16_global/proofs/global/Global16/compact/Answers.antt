@@ -2,6 +2,7 @@ use Rattle.std.proofs.Common.{◌≡◌, ℕ, All, is_some, true, sym, subst}
 use Rattle.w16_selectors.specs.Descriptors.{descriptor_at}
 use Rattle.w16_global.specs.Joined.{forgotten}
 use Rattle.w16_global.proofs.Sliding.{compacted_joined, compaction_known, compacted_known, known_left}
+use Rattle.w16_global.proofs.Joined.{handles_shown}
 use Rattle.w16_global.proofs.global.Global16.compact.Goals as goal
 
 pub forget-requires-clause-known : goal.forget-requires-clause-known
@@ -23,7 +24,7 @@ invariant_of-self c =
     c.forget.new.selectors c.follow.new.selectors s.still (subst (λ ids. (q : ℕ) → descriptor_at c.forget.new.selectors q ≡ forgotten ids c.self.inside.selectors q) c.discarded.ensures c.forget.ensures.forgotten)
     c.forget.ensures.many c.follow.ensures.followed c.follow.ensures.many
 
-pub returns : goal.returns
-returns c =
+pub returns-clause-step : goal.returns-clause-step
+returns-clause-step c =
     let s = c.compact-compacted.ensures in
-    compacted_known c.self.inside.objects c.self.inside.attributes.items _ c.self.view_is c.compact-compacted.new.self s.cap c.args.size c.compact-compacted.result.room c.compact-compacted.result.moved s.compacted s.moved
+    compacted_known c.self.inside.objects c.self.inside.attributes.items _ (handles_shown c.self.view_is) c.compact-compacted.new.self s.cap c.args.size c.compact-compacted.result.room c.compact-compacted.result.moved s.compacted s.moved

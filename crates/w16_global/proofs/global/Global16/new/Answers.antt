@@ -1,5 +1,6 @@
-use Rattle.std.proofs.Common.{rules, ◌≡◌, ◌+◌, None, replicate}
+use Rattle.std.proofs.Common.{ap, rules, ◌≡◌, ◌+◌, None, replicate}
 use Rattle.w16_model.specs.declared.TheConstants.{FIRST_SLOT}
+use Rattle.w16_global.specs.Parts.{Holding}
 use Rattle.w16_global.proofs.Begin.{begin_joined, begin_handles}
 use Rattle.w16_global.proofs.global.Global16.new.Goals as goal
 
@@ -11,4 +12,5 @@ invariant_of-result c =
 pub returns : goal.returns
 returns c =
     let items : c.in_ok-attributes.attributes.items ≡ replicate (FIRST_SLOT + c.args.slots) None = c.in_ok-attributes.ensures.items_if_clones_equal (λ y h. search rules) in
-    begin_handles c.args.memory c.args.slots c.requires c.in_ok-objects.objects c.in_ok-attributes.attributes.items c.in_ok-selectors.selectors c.in_ok-objects.ensures items
+    let handles = begin_handles c.args.memory c.args.slots c.requires c.in_ok-objects.objects c.in_ok-attributes.attributes.items c.in_ok-selectors.selectors c.in_ok-objects.ensures items in
+    λ i. record { handles = handles i; written = ap (λ (h : Holding). h.written) c.in_ok-objects.ensures i }

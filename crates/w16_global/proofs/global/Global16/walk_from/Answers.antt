@@ -3,18 +3,19 @@ use Rattle.w16_model.specs.declared.Owner.{Owner}
 use Rattle.w16_model.specs.Walk.{IsFirstItem}
 use Rattle.w16_model.specs.Handles.{Handles, handle_of}
 use Rattle.w16_global.proofs.Walked.{renamed, first_renamed}
+use Rattle.w16_global.proofs.Joined.{handles_shown}
 use Rattle.w16_global.proofs.global.Global16.walk_from.Goals as goal
 
 pub returns-in_err-item-clause-found : goal.returns-in_err-item-clause-found
 returns-in_err-item-clause-found c =
-    subst (IsFirstItem handle_of c.args.self.now.heap c.args.from) (sym c.from_residual.ensures)
-    (subst (λ (w : Handles). IsFirstItem handle_of w.heap c.args.from None) c.self.view_is
+    subst (IsFirstItem handle_of c.args.self.now.handles.heap c.args.from) (sym c.from_residual.ensures)
+    (subst (λ (w : Handles). IsFirstItem handle_of w.heap c.args.from None) (handles_shown c.self.view_is)
     (first_renamed c.self.inside.objects.heap c.args.from None c.in_err-item.ensures.found))
 
 pub returns-clause-found : goal.returns-clause-found
 returns-clause-found c =
     let item = c.in_ok-item.item in
     let named : option_map (λ (o : Owner). record o { name = handle_of o.kind o.name }) item.owner ≡ c.map.result = search rules in
-    subst (λ (owner : Option Owner). IsFirstItem handle_of c.args.self.now.heap c.args.from (Some (record item { owner = owner }))) named
-    (subst (λ (w : Handles). IsFirstItem handle_of w.heap c.args.from (Some (renamed item))) c.self.view_is
+    subst (λ (owner : Option Owner). IsFirstItem handle_of c.args.self.now.handles.heap c.args.from (Some (record item { owner = owner }))) named
+    (subst (λ (w : Handles). IsFirstItem handle_of w.heap c.args.from (Some (renamed item))) (handles_shown c.self.view_is)
     (first_renamed c.self.inside.objects.heap c.args.from (Some item) c.in_ok-item.ensures.found))

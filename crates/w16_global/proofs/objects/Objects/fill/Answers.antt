@@ -1,6 +1,7 @@
-use Rattle.std.proofs.Common.{◌+◌, sym, ap, ◌∙◌, subst, arith}
+use Rattle.std.proofs.Common.{◌+◌, sym, ◌∙◌, subst, arith}
 use Rattle.w16_model.specs.Bytes.{repeated}
 use Rattle.w16_model.proofs.Parts.{length-repeated, All-repeated}
+use Rattle.w16_region.specs.Bytes.{counted}
 use Rattle.w16_global.specs.Parts.{AreParts, HasPart, holding_of}
 use Rattle.w16_global.proofs.Written.{in_memory, no_part, parts_written, holding_written}
 use Rattle.w16_global.proofs.objects.Objects.fill.Goals as goal
@@ -25,6 +26,6 @@ invariant_of-self c =
 
 pub returns : goal.returns
 returns c =
-    ap (holding_of c.self.inside.arena) c.fill.ensures.bytes
+    (λ i. holding_of c.self.inside.arena (c.fill.ensures.bytes i) (c.fill.ensures.written i))
     ∙ holding_written c.self.invariant c.args.id c.self.view_is (sym c.block.ensures.value ∙ c.in-Some.is) c.args.at (repeated c.args.n c.args.byte)
-    (subst (HasPart c.args.self.now.heap c.args.id c.args.at) (sym (length-repeated c.args.n c.args.byte)) c.requires) (All-repeated c.args.n c.args.byte c.ranges.byte.fits)
+    (subst (HasPart c.args.self.now.heap c.args.id c.args.at) (sym (length-repeated c.args.n c.args.byte)) c.requires) (All-repeated c.args.n c.args.byte c.ranges.byte.fits) (λ k. counted k c.args.n)

@@ -5,4 +5,4 @@ pub returns-clause-ok : goal.returns-clause-ok
 returns-clause-ok c = freed_ok c.self.invariant c.self.view_is c.free-freed.new.self c.free-freed.new.space.bytes.items c.args.id c.free-freed.ensures.bytes.contents c.free-freed.result c.free-freed.ensures.ok
 
 pub returns-clause-err : goal.returns-clause-err
-returns-clause-err c = freed_err c.self.invariant c.self.view_is c.free-freed.new.self c.free-freed.new.space.bytes.items c.args.id c.free-freed.ensures.bytes.contents c.free-freed.result c.free-freed.ensures.err
+returns-clause-err c = freed_err c.self.invariant c.self.view_is c.free-freed.new.self c.free-freed.new.space.bytes.items c.args.id c.free-freed.ensures.bytes.contents c.free-freed.result c.free-freed.ensures.bytes.count c.free-freed.ensures.err

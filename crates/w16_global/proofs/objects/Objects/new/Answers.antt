@@ -7,4 +7,4 @@ pub invariant_of-result : goal.invariant_of-result
 invariant_of-result c = rw (c.in_ok-arena.ensures, c.in_ok-memory.ensures.bytes) (fresh_parts c.args.cap c.args.memory c.requires)
 
 pub returns : goal.returns
-returns c = (λ i. holding_of (c.in_ok-arena.ensures i) (c.in_ok-memory.ensures.bytes i)) ∙ fresh_holding c.args.cap c.args.memory c.requires
+returns c = (λ i. holding_of (c.in_ok-arena.ensures i) (c.in_ok-memory.ensures.bytes i) (c.in_ok-memory.ensures.written i)) ∙ fresh_holding c.args.cap c.args.memory c.requires

@@ -1,7 +1,7 @@
 use Rattle.std.proofs.Common.{◌≡◌, ◌≤◌, ◌+◌, ℕ, Vec, List, length, sym, subst, ap, ◌∙◌, arith, length-take, length-drop}
 use Rattle.std.specs.Vec.{with_items}
 use Rattle.w16_model.specs.Bytes.{put_part}
-use Rattle.w16_region.specs.Bytes.{with_items-put_part}
+use Rattle.w16_region.specs.Bytes.{counted, with_items-put_part}
 use Rattle.w16_global.specs.Parts.{AreParts, holding_of}
 use Rattle.w16_region.proofs.Bytes.{All-bytes}
 use Rattle.w16_global.proofs.Written.{in_memory, no_part, parts_written, holding_written}
@@ -43,5 +43,5 @@ pub returns : goal.returns
 returns c =
     let s = c.self.inside in
     let room = in_memory c.self.invariant c.args.id c.self.view_is (sym c.block.ensures.value ∙ c.in-Some.is) c.args.at (length c.args.new.now) c.requires in
-    ap (holding_of s.arena) (items_put s.memory.bytes (c.in-Some.block.at + c.args.at) c.copy_from_slice.new.self c.args.new.now c.copy_from_slice.ensures.after room)
-    ∙ holding_written c.self.invariant c.args.id c.self.view_is (sym c.block.ensures.value ∙ c.in-Some.is) c.args.at c.args.new.now c.requires (All-bytes c.args.new.now c.type_inv.new)
+    ap (λ items. holding_of s.arena items (counted s.memory.written (length c.args.new.now))) (items_put s.memory.bytes (c.in-Some.block.at + c.args.at) c.copy_from_slice.new.self c.args.new.now c.copy_from_slice.ensures.after room)
+    ∙ holding_written c.self.invariant c.args.id c.self.view_is (sym c.block.ensures.value ∙ c.in-Some.is) c.args.at c.args.new.now c.requires (All-bytes c.args.new.now c.type_inv.new) (λ k. counted k (length c.args.new.now))

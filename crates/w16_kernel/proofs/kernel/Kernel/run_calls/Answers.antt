@@ -1,6 +1,7 @@
 use Rattle.std.proofs.Common.{take, get_or, List, sym, subst, arith}
 use Rattle.std.proofs.lemmas.List.{take_more}
 use Rattle.w16_machine.specs.Machine.{Step}
+use Rattle.w16_machine.specs.Fewest.{IsFewest}
 use Rattle.w16_kernel.specs.declared.call.Call.{Call}
 use Rattle.w16_kernel.specs.declared.call.Call.TheVariants.{GlobalAlloc}
 use Rattle.w16_kernel.specs.Runs.{command_of}
@@ -13,5 +14,6 @@ loop-call-preserved c =
     let calls = c.args.calls.now in
     let call = get_or calls i (GlobalAlloc 0 0) in
     let step = subst (λ reply. Step c.loop-call.self (command_of call) reply c.call.new.self) (sym c.of.ensures) c.in_ok-reply.ensures.step in
-    let longer = ran_more c.args.self.now (take i calls) c.loop-call.answers.items c.loop-call.self call c.of.result c.call.new.self c.loop-call.invariant.ran step in
+    let few = subst (λ reply. IsFewest c.loop-call.self (record { command = command_of call; reply = reply; after = c.call.new.self })) (sym c.of.ensures) c.in_ok-reply.ensures.fewest in
+    let longer = ran_more c.args.self.now (take i calls) c.loop-call.answers.items c.loop-call.self call c.of.result c.call.new.self c.loop-call.invariant.ran step few in
     record { ran = subst (λ (cs : List Call). Ran c.args.self.now cs c.push_reserved.new.self.items c.call.new.self) (sym (take_more calls i (GlobalAlloc 0 0) (omega arith))) (rw c.push_reserved.ensures.items longer) }

@@ -1,0 +1,66 @@
+-- Members of ids that are each there once.
+use Rattle.std.specs.List.{AllByRecursion as Each, list_any}
+use Rattle.std.proofs.Common.{◌≡◌, ℕ, ◌+◌, ◌<◌, ◌≤◌, Bool, true, false, cond, not, ◌&&◌, ◌||◌, ◌==◌, nat_eq, List, [], ◌∷◌, length, refl, sym, ap, ◌∙◌, subst, arith, eqb-true, eq-eqb}
+use Rattle.std.proofs.lemmas.Bool.{false≢true, true≢false, ne_eqb}
+use Rattle.std.proofs.lemmas.Bool.Decides.{Decides-eqb}
+use Rattle.std.proofs.lemmas.Map.Made.{IsDistinct-from_AllPairs}
+use Rattle.std.proofs.lemmas.Map.Steps.{length-le_from_distinct_below}
+use Rattle.w16_model.specs.Discards.{is_member}
+use Rattle.w16_model.specs.Changes.{without}
+use Rattle.w16_model.proofs.Gaps.{EachPair, Each-from_All}
+use Rattle.w16_model.proofs.Orders.{member_without}
+use Rattle.w16_lru.specs.Uses.{Uses, AreUses}
+
+left_out : (b m : Bool) (x : ℕ) (xs ys : List ℕ) → (b || m) ≡ false → (m ≡ false → ys ≡ xs) → cond (not b) (x ∷ ys) ys ≡ x ∷ xs
+left_out true m x xs ys h f = absurd (true≢false h)
+left_out false m x xs ys h f = ap (λ (l : List ℕ). x ∷ l) (f h)
+
+-- what is no member need not be taken out
+pub without-absent : (id : ℕ) (ids : List ℕ) → is_member id ids ≡ false → without id ids ≡ ids
+without-absent id [] h = refl
+without-absent id (x ∷ ids) h = left_out (x == id) (is_member id ids) x ids (without id ids) h (without-absent id ids)
+
+no_member : (id : ℕ) (ids : List ℕ) → Each (λ x. id ≡ x → ⊥) ids → is_member id ids ≡ false
+no_member id [] h = refl
+no_member id (x ∷ ids) h = rw (ne_eqb x id (λ e. h.0 (sym e))) (no_member id ids h.1)
+
+same_test : (a b : ℕ) → (a == b) ≡ (b == a)
+same_test a b = grind arith
+
+member_test : (id : ℕ) (ids : List ℕ) → list_any (nat_eq id) ids ≡ is_member id ids
+member_test id [] = refl
+member_test id (x ∷ ids) = rw (same_test x id) (ap (λ b. (id == x) || b) (member_test id ids))
+
+-- what is taken out is no member
+pub taken_out : (id : ℕ) (ids : List ℕ) → is_member id (without id ids) ≡ false
+taken_out id ids = member_without id id ids ∙ none (is_member id ids) (id == id) (eq-eqb id id refl)
+  where
+    none : (m t : Bool) → t ≡ true → (m && not t) ≡ false
+    none true true e = refl
+    none false true e = refl
+    none m false e = absurd (false≢true e)
+
+-- one fewer without a member
+pub fewer : (x : ℕ) (ids : List ℕ) → EachPair (λ a b. a ≡ b → ⊥) ids → is_member x ids ≡ true → length (without x ids) + 1 ≡ length ids
+fewer x [] apart there = absurd (false≢true there)
+fewer x (y ∷ ids) apart there = turn (y == x) refl (fewer x ids apart.1)
+  where
+    turn : (t : Bool) → (y == x) ≡ t → (is_member x ids ≡ true → length (without x ids) + 1 ≡ length ids) → length (cond {A = List ℕ} (not t) (y ∷ without x ids) (without x ids)) + 1 ≡ length (y ∷ ids)
+    turn true e rest =
+        let none : is_member x ids ≡ false = subst (λ q. is_member q ids ≡ false) (eqb-true y x e) (no_member y ids apart.0) in
+        let same = ap (length {A = ℕ}) (without-absent x ids none) in omega arith
+    turn false e rest = let less = rest (sym (ap (λ t. t || is_member x ids) e) ∙ there) in omega arith
+
+pub member_below : (x n : ℕ) (ids : List ℕ) → Each (λ q. q < n) ids → is_member x ids ≡ true → x < n
+member_below x n [] below there = absurd (false≢true there)
+member_below x n (y ∷ ids) below there = turn (y == x) refl (member_below x n ids below.1)
+  where
+    turn : (t : Bool) → (y == x) ≡ t → (is_member x ids ≡ true → x < n) → x < n
+    turn true e rest = subst (λ q. q < n) (eqb-true y x e) below.0
+    turn false e rest = rest (sym (ap (λ t. t || is_member x ids) e) ∙ there)
+
+-- there are no more ids than numbers
+pub few : (uses : Uses) → AreUses uses → length uses.ids ≤ uses.cap
+few uses are =
+    length-le_from_distinct_below uses.ids uses.cap (IsDistinct-from_AllPairs Decides-eqb uses.ids are.apart)
+    (λ q there. member_below q uses.cap uses.ids (Each-from_All (λ k. k < uses.cap) uses.ids are.below) (sym (member_test q uses.ids) ∙ there))

@@ -1,0 +1,5 @@
+use Rattle.w16_machine.proofs.Discards.{fewest_law}
+use Rattle.w16_machine.proofs.laws.runs_discard_fewest.Goals as goal
+
+pub returns : goal.returns
+returns c = fewest_law

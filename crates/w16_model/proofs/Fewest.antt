@@ -1,0 +1,149 @@
+-- Requests discard as few as they can, by the laws on what is needed and on what others keep.
+use Rattle.std.proofs.Common.{◌≡◌, ℕ, ◌<◌, ◌⊎◌, inl, inr, Bool, true, false, cond, not, ◌||◌, ◌&&◌, ◌==◌, nat_le, List, take, Option, Some, None, refl, sym, ap, ◌∙◌, subst, arith, leb-false, ne_eqb, MatchBool, unwrap_or}
+use Rattle.std.proofs.lemmas.Bool.{false≢true}
+use Rattle.w16_model.specs.declared.Block.{Block}
+use Rattle.w16_model.specs.declared.Kind.{Kind}
+use Rattle.w16_model.specs.declared.Kind.TheVariants.{Fixed, Moveable, Discardable}
+use Rattle.w16_model.specs.declared.Way.{Way}
+use Rattle.w16_model.specs.Gap.{longest_hole}
+use Rattle.w16_model.specs.Arrangement.{IsLongestStretch}
+use Rattle.w16_model.specs.Discards.{eligible, blocks_without, is_member, is_about, needed, room_for, none_discarded_if}
+use Rattle.w16_model.specs.Heap.{Heap, IsHeap, blocks}
+use Rattle.w16_model.specs.Changes.{with_newest}
+use Rattle.w16_model.specs.Request.{Request, IsNew, Allocates, MakesRoom, compaction_prefix, eligible_count, most_room, prefix_of, snapshot_of}
+use Rattle.w16_model.specs.Handles.{Handles, handle_of}
+use Rattle.w16_model.specs.OneObject.{Enters}
+use Rattle.w16_model.specs.Calls.{IsRefusedAlloc, IsEmptyFixed, IsTooLong, HasNoSlot, kind_asked, way_asked, rounded_size, is_absent_asked, has_flag}
+use Rattle.w16_model.specs.declared.TheConstants.{GMEM_MOVEABLE}
+use Rattle.w16_model.specs.Law.{KeepsOthers}
+use Rattle.w16_model.specs.Fewest.{HasNoStretch, LacksRoom, AllocatesFewest, IsMostAfter, MakesMost, AllocationLaw, CompactionLaw, GlobalAllocLaw, GlobalCompactLaw}
+use Rattle.w16_model.proofs.Least.{discards_are_least, no_stretch, placed_filter}
+use Rattle.w16_model.proofs.Longest.{room_is_longest}
+use Rattle.w16_model.proofs.Starts.{hole_is_longest}
+use Rattle.w16_model.proofs.Others.{others_law}
+
+module _ (old : Heap) (is : IsHeap old) (n : ℕ) (h : Option ℕ) where
+  abbrev pub longest : ℕ
+  longest = longest_hole old.lo old.hi (blocks old)
+
+  -- the number of discards, by whether others may slide and may be discarded
+  abbrev pub number : Bool → Bool → Option ℕ
+  number compact discard = cond (not compact) (none_discarded_if (nat_le n longest)) (cond (not discard) (none_discarded_if (nat_le n (room_for (snapshot_of old) 0 h))) (needed (snapshot_of old) n h))
+
+  too_long : (m : ℕ) → none_discarded_if (nat_le n m) ≡ None → m < n
+  too_long m e = from (nat_le n m) refl e
+    where
+      from : (b : Bool) → nat_le n m ≡ b → none_discarded_if b ≡ None → m < n
+      from true t none = cc
+      from false t none = leb-false n m t
+
+  none_if : (b : Bool) (k : ℕ) → none_discarded_if b ≡ Some k → k ≡ 0
+  none_if true k e = cc
+  none_if false k e = cc
+
+  -- where there is none, there is no room
+  pub lacking : (way : Way) (compact discard : Bool) → way.compact ≡ compact → way.discard ≡ discard → number compact discard ≡ None → LacksRoom old h n way
+  lacking way false discard c d none = record {
+    hole = λ _ a b hole. let fit = (hole_is_longest old.lo old.hi (blocks old) is.placed).none_longer a b hole in let few = too_long longest none in omega arith;
+    slides = λ t. absurd (false≢true (sym c ∙ t));
+    discards = λ t. absurd (false≢true (sym c ∙ t));
+  }
+  lacking way true false c d none = record {
+    hole = λ f. absurd (false≢true (sym f ∙ c));
+    slides = λ _. no_stretch old.lo old.hi (blocks old) old.order n h is.placed 0 (too_long (room_for (snapshot_of old) 0 h) none);
+    discards = λ _ t. absurd (false≢true (sym d ∙ t));
+  }
+  lacking way true true c d none = record {
+    hole = λ f. absurd (false≢true (sym f ∙ c));
+    slides = λ _. (discards_are_least old.lo old.hi (blocks old) old.order is.placed n h).none 0 none;
+    discards = λ _ _ j. (discards_are_least old.lo old.hi (blocks old) old.order is.placed n h).none j none;
+  }
+
+  -- where there is one, fewer don't serve
+  pub fewer_lack : (compact discard : Bool) (k : ℕ) → number compact discard ≡ Some k → (j : ℕ) → j < k → HasNoStretch old j h n
+  fewer_lack false discard k some j lt = let no_discard = none_if (nat_le n longest) k some in absurd (omega arith)
+  fewer_lack true false k some j lt = let no_discard = none_if (nat_le n (room_for (snapshot_of old) 0 h)) k some in absurd (omega arith)
+  fewer_lack true true k some j lt = (discards_are_least old.lo old.hi (blocks old) old.order is.placed n h).fewer k j some lt
+
+  -- and none is discarded where none may be
+  pub none_goes : (compact discard : Bool) (k : ℕ) → number compact discard ≡ Some k → (compact ≡ false) ⊎ (discard ≡ false) → k ≡ 0
+  none_goes false discard k some may = none_if (nat_le n longest) k some
+  none_goes true false k some may = none_if (nat_le n (room_for (snapshot_of old) 0 h)) k some
+  none_goes true true k some (inl f) = absurd (false≢true (sym f))
+  none_goes true true k some (inr f) = absurd (false≢true (sym f))
+
+pub allocation_law : AllocationLaw
+allocation_law old new id n kind locks way answered is step = turn (prefix_of old n (Some id) way) refl step.request
+  where
+    turn : (p : Option ℕ) → prefix_of old n (Some id) way ≡ p → Request old id (record { way = way; prefix = p; becomes = IsNew way.zero n kind locks; order = with_newest id }) answered new
+        → AllocatesFewest old id n way answered new
+    turn None e request = record {
+      fewest = λ t. absurd (false≢true (sym request.0 ∙ t));
+      without = λ t _. absurd (false≢true (sym request.0 ∙ t));
+      refused = λ _. (lacking old is n (Some id) way way.compact way.discard refl refl e, request.1);
+    }
+    turn (Some k) e request =
+        let others : KeepsOthers old (Some id) k new = (others_law old new is k).0 id way request.1.0 (with_newest id request.1.0) request.1.2 in
+        record {
+          fewest = λ _. record { count = k; others = others; fewer = fewer_lack old is n (Some id) way.compact way.discard k e };
+          without = λ _ may. subst (λ (j : ℕ). KeepsOthers old (Some id) j new) (none_goes old is n (Some id) way.compact way.discard k e may) others;
+          refused = λ f. absurd (false≢true (sym f ∙ request.0));
+        }
+
+-- the most that sliding makes free is the room
+most_after : (old : Heap) → IsHeap old → (k answer : ℕ) → answer ≡ room_for (snapshot_of old) k None → IsMostAfter old k answer
+most_after old is k answer e =
+    let left : List Block = blocks_without (blocks old) (take k (eligible (blocks old) old.order None)) None in
+    subst (IsLongestStretch old.lo old.hi left) (sym e)
+    (room_is_longest old.lo old.hi left (placed_filter old.lo old.hi (λ x. not (is_member x.id (take k (eligible (blocks old) old.order None)) || is_about None x.id)) (blocks old) is.placed))
+
+pub compaction_law : CompactionLaw
+compaction_law old new n answer is step = turn (n == 0) step
+  where
+    fewer : (p : Option ℕ) → needed (snapshot_of old) n None ≡ p → (j : ℕ) → j < unwrap_or p (eligible_count old) → HasNoStretch old j None n
+    fewer None e j lt = (discards_are_least old.lo old.hi (blocks old) old.order is.placed n None).none j e
+    fewer (Some k) e j lt = (discards_are_least old.lo old.hi (blocks old) old.order is.placed n None).fewer k j e lt
+
+    turn : (b : Bool) → MatchBool b ((answer ≡ most_room old) × (new ≡ old)) (MakesRoom old n answer new) → MatchBool b (IsMostAfter old (eligible_count old) answer × (new ≡ old)) (MakesMost old n answer new)
+    turn true same = (most_after old is (eligible_count old) answer same.0, same.1)
+    turn false made = record {
+      discards = record {
+        count = compaction_prefix old n;
+        others = (others_law old new is (compaction_prefix old n)).1 made.settled;
+        fewer = fewer (needed (snapshot_of old) n None) refl;
+      };
+      most = most_after old is (compaction_prefix old n) answer made.promised;
+    }
+
+pub global_compact_law : GlobalCompactLaw
+global_compact_law old new size answer are step = compaction_law old.heap new.heap size answer are.heap step.compacted
+
+-- a handle isn't 0
+some_handle : (kind : Kind) (slot : ℕ) → handle_of kind slot ≡ 0 → ⊥
+some_handle Fixed slot e = omega arith
+some_handle Moveable slot e = omega arith
+some_handle Discardable slot e = omega arith
+
+pub global_alloc_law : GlobalAllocLaw
+global_alloc_law old new flags size handle are (inl refused) = record {
+  answered = λ some _. absurd (some refused.1);
+  refused = λ _. (ap (λ (g : Handles). g.heap) refused.2, reason refused.0);
+}
+  where
+    reason : IsRefusedAlloc old flags size → IsEmptyFixed flags size ⊎ IsTooLong size ⊎ HasNoSlot old ⊎ LacksRoom old.heap None (rounded_size size) (way_asked flags)
+    reason (inl fixed) = inl fixed
+    reason (inr (inl long)) = inr (inl long)
+    reason (inr (inr (inl full))) = inr (inr (inl full))
+    reason (inr (inr (inr room))) = inr (inr (inr (lacking old.heap are.heap (rounded_size size) None (way_asked flags) (way_asked flags).compact (way_asked flags).discard refl refl room.1)))
+global_alloc_law old new flags size handle are (inr answers) = record {
+  answered = λ _ some. (answers.slot, answers.named, made (is_absent_asked flags size) (with_bytes some) answers.made);
+  refused = λ none. absurd (some_handle (kind_asked flags) answers.slot (sym answers.named ∙ none));
+}
+  where
+    with_bytes : 0 < size → is_absent_asked flags size ≡ false
+    with_bytes some = ap (λ b. b && has_flag flags GMEM_MOVEABLE) (ne_eqb size 0 (λ e. absurd (omega (arith, e, some))))
+
+    made : (b : Bool) → b ≡ false → MatchBool b (Enters old.heap answers.slot (kind_asked flags) new.heap) (Allocates old.heap answers.slot (rounded_size size) (kind_asked flags) 0 (way_asked flags) true new.heap)
+        → AllocatesFewest old.heap answers.slot (rounded_size size) (way_asked flags) true new.heap
+    made true e m = absurd (false≢true (sym e))
+    made false e m = allocation_law old.heap new.heap answers.slot (rounded_size size) (kind_asked flags) 0 (way_asked flags) true are.heap m
