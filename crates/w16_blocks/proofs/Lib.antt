@@ -18,5 +18,6 @@ pub mod Outside
 pub mod Tagged
 pub mod Sliding
 pub mod Lifting
+pub mod Rising
 pub mod RunHoles
 pub mod RunKept

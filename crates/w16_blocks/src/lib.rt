@@ -9,6 +9,7 @@ ghost use Rattle.w16_blocks.specs.Stay.{IsBeyond};
 
 mod below;
 mod by_address;
+mod lifts;
 mod parts;
 mod runs;
 
