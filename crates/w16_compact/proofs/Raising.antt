@@ -1,6 +1,6 @@
 -- A raise from its start, by a block, to its end.
-use Rattle.std.proofs.Common.{ℕ, ◌≡◌, ◌≢◌, ◌+◌, ◌-◌, ◌<◌, ◌≤◌, ◌⊎◌, Bool, true, false, IsTrue, ◌&&◌, cond, eqb, nat_le, nat_lt, List, [], ◌∷◌, map, Some, is_some, arith, refl, sym, ap, ◌∙◌, subst, inl, inr}
-use Rattle.std.proofs.lemmas.Bool.{lt-ltb, le-ltb, lt-leb, le-leb, cases_lt, eq-eqb, cond-true, false≢true}
+use Rattle.std.proofs.Common.{ℕ, ◌≡◌, ◌≢◌, ◌+◌, ◌-◌, ◌<◌, ◌≤◌, ◌⊎◌, Bool, true, false, IsTrue, ◌&&◌, cond, eqb, nat_le, nat_lt, max, min, List, [], ◌∷◌, map, Some, is_some, arith, refl, sym, ap, ◌∙◌, subst, inl, inr}
+use Rattle.std.proofs.lemmas.Bool.{lt-ltb, le-ltb, lt-leb, le-leb, cases_lt, eq-eqb, cond-true, cond-false, ne_eqb, false≢true}
 use Rattle.std.proofs.lemmas.Bool.Decides.{eqb_tells}
 use Rattle.std.specs.List.{AllByRecursion}
 use Rattle.w16_model.specs.declared.Block.{Block}
@@ -8,11 +8,12 @@ use Rattle.w16_model.specs.declared.Span.{Span}
 use Rattle.w16_model.specs.declared.Hold.TheVariants.{Loose}
 use Rattle.w16_model.specs.Gap.{IsLaid, block_end, is_loose, is_pinned, holds_still, loose_bytes}
 use Rattle.w16_model.specs.Table.{block_with}
-use Rattle.w16_model.proofs.Gaps.{Each-map}
+use Rattle.w16_model.proofs.Gaps.{Each-map, Each-both}
 use Rattle.w16_model.proofs.Laid.{laid_each}
-use Rattle.w16_blocks.specs.Layout.{AreNamed}
-use Rattle.w16_blocks.specs.Runs.{IsCut, slid_with}
-use Rattle.w16_blocks.proofs.Lifting.{IsPassed, around}
+use Rattle.w16_blocks.specs.Layout.{Layout, IsOrdered}
+use Rattle.w16_blocks.specs.Runs.{IsCut, IsRun, IsBare, slid_with}
+use Rattle.w16_blocks.proofs.Free.{Lacks, later, lacks_free}
+use Rattle.w16_blocks.proofs.Rising.{with_back}
 use Rattle.w16_blocks.proofs.Remove.{with_same, with_other, each_with}
 use Rattle.w16_blocks.proofs.RunHoles.{All-mapped, All-unmapped}
 use Rattle.w16_blocks.proofs.Sliding.{slid_below, slid_above, slid_inside, moved_to}
@@ -21,7 +22,7 @@ use Rattle.w16_compact.specs.Open.{raised_in, raised}
 use Rattle.w16_compact.proofs.Cleared.{inside_is}
 use Rattle.w16_compact.proofs.Gathering.{moved_same}
 use Rattle.w16_compact.proofs.Loose.{loose_one, loose_none, loose_here}
-use Rattle.w16_compact.proofs.Order.{same_some}
+use Rattle.w16_compact.proofs.Settled.{same_layout}
 
 -- The bytes of loose blocks, by where they begin.
 
@@ -141,45 +142,67 @@ moved_alike : (f g : Block → Block) (bs : List Block) → AllByRecursion (λ c
 moved_alike f g [] all = refl
 moved_alike f g (b ∷ bs) all = let first = ap (λ (a : ℕ). cond (eqb b.at a) 0 b.size) all.0 in let rest = moved_alike f g bs all.1 in omega (arith, first, rest)
 
-moved_one : (f g : Block → Block) (lo hi : ℕ) (x : Block) (bs : List Block) → IsLaid lo hi bs → block_with bs x.id ≡ Some x → AllByRecursion (λ c. c.at ≢ x.at → (g c).at ≡ (f c).at) bs → (f x).at ≡ x.at
-    → moved_between bs (map g bs) ≡ moved_between bs (map f bs) + cond (eqb x.at (g x).at) 0 x.size
-moved_one f g lo hi x [] laid known alike still = absurd (false≢true (ap is_some known))
-moved_one f g lo hi x (b ∷ bs) laid known alike still =
-    let size = laid.1 in
-    elim (eqb_tells b.id x.id) [
-      | inl same ↦
-          let e : Some b ≡ Some x = sym (with_same x.id b bs same.0) ∙ known in let is : b ≡ x = cc in
-          let place = ap (λ (c : Block). c.at) is in
-          let rest = moved_alike f g bs (behind bs (Each-map (λ y. (block_end b ≤ y.at) × (0 < y.size) × (block_end y ≤ hi)) (λ y. x.at < y.at) (λ y own. let from = own.0 in omega arith) bs (laid_each (block_end b) hi bs laid.2)) alike.1) in
-          let none = cond-true (eqb b.at (f b).at) 0 b.size (eq-eqb b.at (f b).at (ap (λ (c : Block). c.at) is ∙ sym still ∙ ap (λ (c : Block). (f c).at) (sym is))) in
-          let own = ap (λ (c : Block). cond (eqb c.at (g c).at) 0 c.size) is in
-          omega (arith, rest, none, own)
-      | inr other ↦
-          let known' : block_with bs x.id ≡ Some x = sym (with_other x.id b bs other.0) ∙ known in
-          let above = (each_with (λ y. (block_end b ≤ y.at) × (0 < y.size) × (block_end y ≤ hi)) x.id x bs known' (laid_each (block_end b) hi bs laid.2)).0 in
-          let first = ap (λ (a : ℕ). cond (eqb b.at a) 0 b.size) (alike.0 (λ e. omega arith)) in
-          let rest = moved_one f g (block_end b) hi x bs laid.2 known' alike.1 still in
-          omega (arith, first, rest)
+-- and where the loose blocks of an interval move
+moved_each : (f g : Block → Block) (low high from to : ℕ) (top bound : ℕ) (bs : List Block) → IsLaid bound top bs → AllByRecursion (FitsGap low high) bs → low ≤ from → to ≤ high
+    → AllByRecursion (λ c. ((c.at < from) ⊎ (to ≤ c.at)) → (g c).at ≡ (f c).at) bs → AllByRecursion (λ c. from ≤ c.at → c.at < to → ((f c).at ≡ c.at) × ((g c).at ≢ c.at)) bs
+    → moved_between bs (map g bs) ≡ moved_between bs (map f bs) + loose_bytes bs from to
+moved_each f g low high from to top bound [] laid fits one two alike moves = refl
+moved_each f g low high from to top bound (b ∷ bs) laid fits one two alike moves =
+    let rest = moved_each f g low high from to top (block_end b) bs laid.2 fits.1 one two alike.1 moves.1 in
+    let out : ((b.at < from) ⊎ (to ≤ b.at)) → moved_between (b ∷ bs) (map g (b ∷ bs)) ≡ moved_between (b ∷ bs) (map f (b ∷ bs)) + loose_bytes (b ∷ bs) from to =
+    λ side. let first = ap (λ (a : ℕ). cond (eqb b.at a) 0 b.size) (alike.0 side) in let skip = loose_skip b bs from to side in omega (arith, rest, first, skip) in
+    elim (cases_lt b.at from) [
+      | inl below ↦ out (inl below)
+      | inr ge ↦ elim (cases_lt b.at to) [
+        | inr above ↦ out (inr above)
+        | inl lt ↦
+            let is = moves.0 ge lt in let still = is.0 in
+            let sum = loose_here b bs from to (inside_is low high b laid.1 (omega arith) (omega arith) fits.0).1 ge lt in
+            let before = cond-true (eqb b.at (f b).at) 0 b.size (eq-eqb b.at (f b).at (sym still)) in
+            let after = cond-false (eqb b.at (g b).at) 0 b.size (ne_eqb b.at (g b).at (λ e. is.1 (sym e))) in
+            omega (arith, rest, sum, before, after)
+      ]
     ]
-  where
-    behind : (cs : List Block) → AllByRecursion (λ y. x.at < y.at) cs → AllByRecursion (λ c. c.at ≢ x.at → (g c).at ≡ (f c).at) cs → AllByRecursion (λ c. (g c).at ≡ (f c).at) cs
-    behind [] one two = tt
-    behind (y ∷ ys) one two = (two.0 (λ e. let more = one.0 in omega arith), behind ys one.1 two.1)
 
--- an id's block, where blocks move
-with_back : (f : Block → Block) (x : Block) (bs : List Block) → ((c : Block) → (f c).id ≡ c.id) → ((c : Block) → f c ≡ x → c ≡ x) → block_with (map f bs) x.id ≡ Some x → block_with bs x.id ≡ Some x
-with_back f x [] ids back known = known
-with_back f x (b ∷ bs) ids back known = elim (eqb_tells (f b).id x.id) [
-  | inl same ↦
-      let is = back b (same_some x (f b) (sym (with_same x.id (f b) (map f bs) same.0) ∙ known)) in
-      with_same x.id b bs (eq-eqb b.id x.id (sym (ids b) ∙ same.1)) ∙ ap Some is
-  | inr other ↦
-      with_other x.id b bs (ap (λ (i : ℕ). eqb i x.id) (sym (ids b)) ∙ other.0) ∙ with_back f x bs ids back (sym (with_other x.id (f b) (map f bs) other.0) ∙ known)
+-- the loose blocks of an interval that blocks fill have all its bytes
+loose_run : (low high from to bound top : ℕ) (bs : List Block) → IsLaid bound top bs → AllByRecursion (FitsGap low high) bs → IsCut from bs → IsCut to bs → low ≤ from → to ≤ high
+    → ((p : ℕ) → max bound from ≤ p → p < to → AllByRecursion (Lacks p) bs → ⊥) → loose_bytes bs from to ≡ to - max bound from
+loose_run low high from to bound top [] laid fits cut cut' one two full = elim (cases_lt (max bound from) to) [
+  | inl lt ↦ absurd (full (max bound from) (omega arith) lt tt)
+  | inr ge ↦ let none : loose_bytes [] from to ≡ 0 = refl in omega (arith, none)
 ]
+loose_run low high from to bound top (b ∷ bs) laid fits cut cut' one two full =
+    let start = laid.0 in let size = laid.1 in
+    let rest = loose_run low high from to (block_end b) top bs laid.2 fits.1 cut.1 cut'.1 one two (λ p ge lt lacks. full p (omega arith) lt (inr (omega arith), lacks)) in
+    elim (cases_lt b.at from) [
+      | inl below ↦
+          let end : block_end b ≤ from = elim cut.0 [ inl e ↦ e | inr e ↦ absurd (omega arith) ] in
+          let skip = loose_skip b bs from to (inl below) in omega (arith, rest, skip, end)
+      | inr ge ↦ elim (cases_lt (max bound from) (min b.at to)) [
+        | inl less ↦ absurd (full (max bound from) (omega arith) (omega arith) (inl (omega arith), later (max bound from) (block_end b) top bs (omega arith) laid.2))
+        | inr more ↦ elim (cases_lt b.at to) [
+          | inr above ↦ let skip = loose_skip b bs from to (inr above) in omega (arith, rest, skip)
+          | inl lt ↦
+              let sum = loose_here b bs from to (inside_is low high b size (omega arith) (omega arith) fits.0).1 ge lt in
+              let end : block_end b ≤ to = elim cut'.0 [ inl e ↦ e | inr e ↦ absurd (omega arith) ] in
+              omega (arith, rest, sum, end)
+        ]
+      ]
+    ]
 
--- A step: the last block that isn't raised yet, which is x, is raised.
-module _ (old : List Block) (lo hi cap low high s to : ℕ) (laid : IsLaid lo hi old) (named : AreNamed cap old) (fits : AllByRecursion (FitsGap low high) old) (below : s ≤ high) (place : to + loose_bytes old s high ≡ high) (room : s ≤ to)
-    (cut : IsCut s old) (now : List Block) (list : now ≡ raised s high old) (x : Block) (known_now : block_with now x.id ≡ Some x) (lt : x.at < s) (from : low ≤ x.at) (last_now : AllByRecursion (λ c. (c.at ≤ x.at) ⊎ (s ≤ c.at)) now) where
+-- no block reaches over where another begins
+cut_each : (bound top : ℕ) (bs : List Block) → IsLaid bound top bs → AllByRecursion (λ c. IsCut c.at bs) bs
+cut_each bound top [] laid = tt
+cut_each bound top (b ∷ bs) laid =
+    let behind = laid_each (block_end b) top bs laid.2 in let size = laid.1 in (
+      (inr (omega arith), Each-map (λ y. (block_end b ≤ y.at) × (0 < y.size) × (block_end y ≤ top)) (λ y. (block_end y ≤ b.at) ⊎ (b.at ≤ y.at)) (λ y own. let from = own.0 in inr (omega arith)) bs behind),
+      Each-both (λ y. (block_end b ≤ y.at) × (0 < y.size) × (block_end y ≤ top)) (λ c. IsCut c.at bs) (λ c. IsCut c.at (b ∷ bs)) (λ c own cut. (inl own.0, cut)) bs behind (cut_each (block_end b) top bs laid.2),
+    )
+
+-- A step: the last run that isn't raised yet, which ends with x, is raised.
+module _ (old : List Block) (lo hi cap low high s to : ℕ) (laid : IsLaid lo hi old) (fits : AllByRecursion (FitsGap low high) old) (below : s ≤ high) (place : to + loose_bytes old s high ≡ high) (room : s ≤ to)
+    (cut : IsCut s old) (now : Layout) (ordered : IsOrdered now) (list : now.blocks ≡ raised s high old) (x : Block) (known_now : block_with now.blocks x.id ≡ Some x) (lt : x.at < s) (last_now : AllByRecursion (λ c. (c.at ≤ x.at) ⊎ (s ≤ c.at)) now.blocks)
+    (run : Span) (is : IsRun now run) (some : run.from < run.to) (from : low ≤ run.from) (ends : run.to ≡ block_end x) where
   -- what is raised stands from `to` on
   stands : (c : Block) → s ≤ c.at → c.at < high → to ≤ high - loose_bytes old c.at high
   stands c ge less = let two = loose_split old s c.at high ge (omega arith) in omega (arith, two)
@@ -192,88 +215,118 @@ module _ (old : List Block) (lo hi cap low high s to : ℕ) (laid : IsLaid lo hi
   own : (lo ≤ x.at) × (0 < x.size) × (block_end x ≤ hi)
   own = each_with (λ y. (lo ≤ y.at) × (0 < y.size) × (block_end y ≤ hi)) x.id x old known (laid_each lo hi old laid)
 
-  inside : (block_end x ≤ high) × (x.hold ≡ Loose)
-  inside = inside_is low high x own.1 from (omega arith) (each_with (FitsGap low high) x.id x old known fits)
+  end_below : run.to ≤ s
+  end_below = elim (each_with (λ b. (block_end b ≤ s) ⊎ (s ≤ b.at)) x.id x old known cut) [ inl end ↦ omega arith | inr over ↦ absurd (omega arith) ]
 
-  pub end_below : block_end x ≤ s
-  end_below = elim (each_with (λ b. (block_end b ≤ s) ⊎ (s ≤ b.at)) x.id x old known cut) [ inl end ↦ end | inr over ↦ absurd (omega arith) ]
+  -- what isn't raised yet stands where it stood
+  back : (P : Block → Type 0) → AllByRecursion P now.blocks → ((c : Block) → s ≤ c.at → P c) → AllByRecursion P old
+  back P all over = All-unmapped (λ y. (lo ≤ y.at) × (0 < y.size) × (block_end y ≤ hi)) P P (raised_in old s high)
+      (λ c _ told. elim (cases_lt c.at s) [ inl less ↦ subst P (raised_below old s high c less) told | inr ge ↦ over c ge ]) old (laid_each lo hi old laid) (subst (AllByRecursion P) list all)
 
   last : AllByRecursion (λ c. (c.at ≤ x.at) ⊎ (s ≤ c.at)) old
-  last = All-unmapped (λ y. (lo ≤ y.at) × (0 < y.size) × (block_end y ≤ hi)) (λ c. (c.at ≤ x.at) ⊎ (s ≤ c.at)) (λ c. (c.at ≤ x.at) ⊎ (s ≤ c.at)) (raised_in old s high)
-      (λ c _ is. elim (cases_lt c.at s) [
-        | inl less ↦ subst (λ (d : Block). (d.at ≤ x.at) ⊎ (s ≤ d.at)) (raised_below old s high c less) is
-        | inr ge ↦ inr ge
-      ]) old (laid_each lo hi old laid) (subst (AllByRecursion (λ c. (c.at ≤ x.at) ⊎ (s ≤ c.at))) list last_now)
+  last = back (λ c. (c.at ≤ x.at) ⊎ (s ≤ c.at)) last_now (λ c ge. inr ge)
+
+  pub cut_then : IsCut run.from old
+  cut_then = let end = end_below in back (λ c. (block_end c ≤ run.from) ⊎ (run.from ≤ c.at)) is.whole.0 (λ c ge. inr (omega arith))
+
+  cut_end : IsCut run.to old
+  cut_end = let end = end_below in back (λ c. (block_end c ≤ run.to) ⊎ (run.to ≤ c.at)) is.whole.1 (λ c ge. inr (omega arith))
+
+  full : (p : ℕ) → run.from ≤ p → p < run.to → AllByRecursion (Lacks p) old → ⊥
+  full p ge less lacks =
+      let end = end_below in let bottom = is.inside.0 in let top = is.inside.2 in
+      is.full p ge less (lacks_free p now.lo now.hi now.blocks ordered.laid (omega arith) (omega arith) (subst (AllByRecursion (Lacks p)) (sym list)
+      (All-mapped (Lacks p) (Lacks p) (Lacks p) (raised_in old s high) (λ c is_out _. by_reach old s high (Lacks p) c (λ _. is_out) (λ _. is_out) (λ ge_c less_c. let up = stands c ge_c less_c in inl (omega arith))) old lacks lacks)))
+
+  -- the bytes of the run's blocks from one of them on
+  loose_from : (q : ℕ) → run.from ≤ q → q ≤ run.to → IsCut q old → loose_bytes old q s ≡ run.to - q
+  loose_from q ge le cut_q =
+      let end = end_below in
+      let two = loose_split old q run.to s le end in
+      let none = loose_none old run.to s (Each-map (λ c. (c.at ≤ x.at) ⊎ (s ≤ c.at)) (λ c. (c.at < run.to) ⊎ (s ≤ c.at)) (λ c told. let size = own.1 in elim told [ inl under ↦ inl (omega arith) | inr over ↦ inr over ]) old last) in
+      let one = loose_run low high q run.to 0 hi old (later_from old laid) fits cut_q cut_end (omega arith) (omega arith) (λ p above less lacks. full p (omega arith) less lacks) in
+      omega (arith, two, none, one)
+    where
+      later_from : (bs : List Block) → IsLaid lo hi bs → IsLaid 0 hi bs
+      later_from [] laid_bs = omega arith
+      later_from (b ∷ bs) laid_bs = (omega arith, laid_bs.1, laid_bs.2)
+
+  abbrev size : ℕ
+  size = run.to - run.from
 
   abbrev next : ℕ
-  next = to - x.size
+  next = to - size
 
-  pub place_then : next + loose_bytes old x.at high ≡ high
-  place_then =
-      let two = loose_split old x.at s high (omega arith) below in let one = loose_only lo hi s x old laid known inside.1 lt last in
-      let end = end_below in omega (arith, two, one, place)
-
-  pub room_then : (x.size ≤ to) × (x.at ≤ next) × (next + x.size ≡ to) × (to ≤ high)
+  pub room_then : (size ≤ to) × (run.from ≤ next) × (next + size ≡ to) × (to ≤ high)
   room_then = let end = end_below in (omega arith, omega arith, omega arith, omega arith)
 
-  pub passed : AllByRecursion (IsPassed x next) now
-  passed = subst (AllByRecursion (IsPassed x next)) (sym list)
-      (All-mapped (λ c. (c.at ≤ x.at) ⊎ (s ≤ c.at)) (λ c. (c.at ≤ x.at) ⊎ (s ≤ c.at)) (IsPassed x next) (raised_in old s high)
-      (λ c is _. by_reach old s high (IsPassed x next) c (λ less. elim is [ inl under ↦ inl under | inr over ↦ absurd (omega arith) ]) (λ over. let r = room_then in inr (omega arith))
-      (λ ge less. let up = stands c ge less in let r = room_then in inr (omega arith))) old last last)
+  place_from : (q : ℕ) → run.from ≤ q → q ≤ run.to → IsCut q old → next + (q - run.from) + loose_bytes old q high ≡ high
+  place_from q ge le cut_q = let end = end_below in let two = loose_split old q s high (omega arith) below in let one = loose_from q ge le cut_q in omega (arith, two, one, place)
 
-  abbrev run : Span
-  run = record { from = x.at; to = block_end x }
+  pub place_then : next + loose_bytes old run.from high ≡ high
+  place_then = let all = place_from run.from (omega arith) (omega arith) cut_then in omega (arith, all)
 
-  one : (c : Block) → (c.at ≤ x.at) ⊎ (s ≤ c.at) → slid_with run next (raised_in old s high c) ≡ raised_in old x.at high c
-  one c is = elim (cases_lt c.at x.at) [
-    | inl less ↦ ap (slid_with run next) (raised_below old s high c (omega arith)) ∙ slid_below run next c less ∙ sym (raised_below old x.at high c less)
-    | inr ge ↦ elim is [
+  pub bare_then : IsBare run.to (next + size) now.blocks
+  bare_then =
+      let r = room_then in let sum = r.2 in let top = r.3 in let size_x = own.1 in
+      subst (AllByRecursion (λ c. (block_end c ≤ run.to) ⊎ (next + size ≤ c.at))) (sym list)
+      (All-mapped (λ c. (c.at ≤ x.at) ⊎ (s ≤ c.at)) (λ c. (block_end c ≤ run.to) ⊎ (run.to ≤ c.at)) (λ c. (block_end c ≤ run.to) ⊎ (next + size ≤ c.at)) (raised_in old s high)
+      (λ c told at. by_reach old s high (λ d. (block_end d ≤ run.to) ⊎ (next + size ≤ d.at)) c
+      (λ less. elim told [ inl under ↦ elim at [ inl e ↦ inl e | inr e ↦ absurd (omega arith) ] | inr over ↦ absurd (omega arith) ])
+      (λ over. inr (omega arith)) (λ ge less. let up = stands c ge less in inr (omega arith))) old last cut_end)
+
+  one : (c : Block) → (c.at ≤ x.at) ⊎ (s ≤ c.at) → IsCut c.at old → slid_with run next (raised_in old s high c) ≡ raised_in old run.from high c
+  one c told cut_c = let end = end_below in let size_x = own.1 in elim (cases_lt c.at run.from) [
+    | inl less ↦ ap (slid_with run next) (raised_below old s high c (omega arith)) ∙ slid_below run next c less ∙ sym (raised_below old run.from high c less)
+    | inr ge ↦ elim told [
       | inl le ↦
-          let here : c.at ≡ x.at = omega arith in let some = own.1 in
-          let same = ap (λ (a : ℕ). loose_bytes old a high) here in
           ap (slid_with run next) (raised_below old s high c (omega arith)) ∙ slid_inside run next c ge (omega arith)
-          ∙ moved_to c (next + (c.at - x.at)) (high - loose_bytes old c.at high) (let p = place_then in omega (arith, p, same))
-          ∙ sym (raised_inside old x.at high c ge (omega arith))
-      | inr over ↦ let end = end_below in elim (cases_lt c.at high) [
+          ∙ moved_to c (next + (c.at - run.from)) (high - loose_bytes old c.at high) (let p = place_from c.at ge (omega arith) cut_c in omega (arith, p))
+          ∙ sym (raised_inside old run.from high c ge (omega arith))
+      | inr over ↦ elim (cases_lt c.at high) [
         | inl less ↦
             ap (slid_with run next) (raised_inside old s high c over less)
-            ∙ slid_above run next (record c { at = high - loose_bytes old c.at high }) (let up = stands c over less in omega arith) ∙ sym (raised_inside old x.at high c ge less)
-        | inr past ↦ ap (slid_with run next) (raised_above old s high c past) ∙ slid_above run next c (omega arith) ∙ sym (raised_above old x.at high c past)
+            ∙ slid_above run next (record c { at = high - loose_bytes old c.at high }) (let up = stands c over less in omega arith) ∙ sym (raised_inside old run.from high c ge less)
+        | inr past ↦ ap (slid_with run next) (raised_above old s high c past) ∙ slid_above run next c (omega arith) ∙ sym (raised_above old run.from high c past)
       ]
     ]
   ]
 
-  each_one : (bs : List Block) → AllByRecursion (λ c. (c.at ≤ x.at) ⊎ (s ≤ c.at)) bs → map (slid_with run next) (map (raised_in old s high) bs) ≡ map (raised_in old x.at high) bs
-  each_one [] all = refl
-  each_one (b ∷ bs) all = λ i. one b all.0 i ∷ each_one bs all.1 i
+  each_one : (bs : List Block) → AllByRecursion (λ c. (c.at ≤ x.at) ⊎ (s ≤ c.at)) bs → AllByRecursion (λ c. IsCut c.at old) bs → map (slid_with run next) (map (raised_in old s high) bs) ≡ map (raised_in old run.from high) bs
+  each_one [] all cuts = refl
+  each_one (b ∷ bs) all cuts = λ i. one b all.0 cuts.0 i ∷ each_one bs all.1 cuts.1 i
 
-  pub list_then : map (slid_with run next) now ≡ raised x.at high old
-  list_then = ap (map (slid_with run next)) list ∙ each_one old last
+  pub list_then : map (slid_with run next) now.blocks ≡ raised run.from high old
+  list_then = ap (map (slid_with run next)) list ∙ each_one old last (cut_each lo hi old laid)
 
-  pub cut_then : IsCut x.at old
-  cut_then = Each-map (λ c. (block_end c ≤ x.at) ⊎ ((block_end x ≤ c.at) ⊎ (c ≡ x))) (λ c. (block_end c ≤ x.at) ⊎ (x.at ≤ c.at))
-      (λ c is. elim is [
-        | inl before ↦ inl before
-        | inr other ↦ elim other [ inl behind ↦ inr (omega arith) | inr same ↦ let at = ap (λ (d : Block). d.at) same in inr (omega arith) ]
-      ]) old (around lo hi cap x old laid named known)
-
-  pub moved_then : moved_between old (raised x.at high old) ≡ moved_between old now + cond (eqb x.at next) 0 x.size
-  moved_then =
-      let up : (raised_in old x.at high x).at ≡ next = ap (λ (d : Block). d.at) (raised_inside old x.at high x (omega arith) (omega arith)) ∙ (let p = place_then in omega (arith, p)) in
-      moved_one (raised_in old s high) (raised_in old x.at high) lo hi x old laid known
-      (Each-map (λ c. (c.at ≤ x.at) ⊎ (s ≤ c.at)) (λ c. c.at ≢ x.at → (raised_in old x.at high c).at ≡ (raised_in old s high c).at) (λ c is ne. ap (λ (d : Block). d.at) (alike c is ne)) old last)
-      (ap (λ (d : Block). d.at) (raised_below old s high x lt))
-      ∙ (λ i. moved_between old (sym list i) + cond (eqb x.at (up i)) 0 x.size)
+  -- where it stood there already no block moves, and else each of the run
+  pub moved_then : (r : ℕ) → r ≡ cond (eqb run.from next) 0 size → moved_between old (raised run.from high old) ≡ moved_between old now.blocks + r
+  moved_then r told =
+      ap (λ bs. moved_between old bs) (sym list_then) ∙ (elim (eqb_tells run.from next) [
+        | inl same ↦
+            let none : r ≡ 0 = rw same.0 at told in
+            let still = ap (λ (m : Layout). moved_between old m.blocks) (same_layout now run next same.1) in omega (arith, none, still)
+        | inr other ↦
+            let all : r ≡ size = rw other.0 at told in let end = end_below in
+            let sum = loose_from run.from (omega arith) (omega arith) cut_then in
+            let two = loose_split old run.from run.to s (omega arith) end in let rest = loose_from run.to (omega arith) (omega arith) cut_end in
+            let each = moved_each (raised_in old s high) (raised_in old run.from high) low high run.from run.to hi lo old laid fits from (omega arith)
+            (Each-map (λ c. (c.at ≤ x.at) ⊎ (s ≤ c.at)) (λ c. ((c.at < run.from) ⊎ (run.to ≤ c.at)) → (raised_in old run.from high c).at ≡ (raised_in old s high c).at) (λ c is_c side. ap (λ (d : Block). d.at) (alike c is_c side)) old last)
+            (Each-both (λ c. (c.at ≤ x.at) ⊎ (s ≤ c.at)) (λ c. IsCut c.at old) (λ c. run.from ≤ c.at → c.at < run.to → ((raised_in old s high c).at ≡ c.at) × ((raised_in old run.from high c).at ≢ c.at))
+            (λ c is_c cut_c ge less. (
+              ap (λ (d : Block). d.at) (raised_below old s high c (omega arith)),
+              (λ e. let up = ap (λ (d : Block). d.at) (raised_inside old run.from high c ge (omega arith)) in let p = place_from c.at ge (omega arith) cut_c in other.1 (omega (arith, up, p, e))),
+            )) old last (cut_each lo hi old laid)) in
+            let e = ap (moved_between old) list_then in let f = ap (moved_between old) list in
+            omega (arith, all, sum, two, rest, each, e, f)
+      ])
     where
-      alike : (c : Block) → (c.at ≤ x.at) ⊎ (s ≤ c.at) → c.at ≢ x.at → raised_in old x.at high c ≡ raised_in old s high c
-      alike c (inl le) ne = elim (cases_lt c.at x.at) [
-        | inl less ↦ raised_below old x.at high c less ∙ sym (raised_below old s high c (omega arith))
-        | inr ge ↦ absurd (ne (omega arith))
-      ]
-      alike c (inr over) ne = elim (cases_lt c.at high) [
-        | inl less ↦ raised_inside old x.at high c (omega arith) less ∙ sym (raised_inside old s high c over less)
-        | inr past ↦ raised_above old x.at high c past ∙ sym (raised_above old s high c past)
+      alike : (c : Block) → (c.at ≤ x.at) ⊎ (s ≤ c.at) → (c.at < run.from) ⊎ (run.to ≤ c.at) → raised_in old run.from high c ≡ raised_in old s high c
+      alike c is_c (inl less) = let end = end_below in raised_below old run.from high c less ∙ sym (raised_below old s high c (omega arith))
+      alike c (inl le) (inr over) = let size_x = own.1 in absurd (omega arith)
+      alike c (inr ge) (inr over) = let end = end_below in elim (cases_lt c.at high) [
+        | inl less ↦ raised_inside old run.from high c (omega arith) less ∙ sym (raised_inside old s high c ge less)
+        | inr past ↦ raised_above old run.from high c past ∙ sym (raised_above old s high c past)
       ]
 
 pub moved_start : (high : ℕ) (bs : List Block) → moved_between bs (raised high high bs) ≡ 0
