@@ -2,7 +2,6 @@ pub mod Rests
 pub mod OnePass
 pub mod Order
 pub mod Settled
-pub mod Lifted
 pub mod Gathering
 pub mod Loose
 pub mod Bounded

@@ -13,6 +13,7 @@ use Rattle.w16_model.proofs.Laid.{laid_each}
 use Rattle.w16_blocks.specs.Layout.{Layout, IsOrdered}
 use Rattle.w16_blocks.specs.Runs.{IsCut, IsRun, IsBare, slid_with}
 use Rattle.w16_blocks.proofs.Free.{Lacks, later, lacks_free}
+use Rattle.w16_blocks.proofs.Lifting.{around}
 use Rattle.w16_blocks.proofs.Rising.{with_back}
 use Rattle.w16_blocks.proofs.Remove.{with_same, with_other, each_with}
 use Rattle.w16_blocks.proofs.RunHoles.{All-mapped, All-unmapped}
@@ -199,8 +200,22 @@ cut_each bound top (b ∷ bs) laid =
       Each-both (λ y. (block_end b ≤ y.at) × (0 < y.size) × (block_end y ≤ top)) (λ c. IsCut c.at bs) (λ c. IsCut c.at (b ∷ bs)) (λ c own cut. (inl own.0, cut)) bs behind (cut_each (block_end b) top bs laid.2),
     )
 
+-- no block reaches over the low end of the interval, nor over an end of a block
+pub cut_low_now : (old : List Block) (low high s to : ℕ) → low ≤ s → s ≤ high → to + loose_bytes old s high ≡ high → s ≤ to → (now : List Block) → now ≡ raised s high old → IsCut low old → IsCut low now
+cut_low_now old low high s to le below place room now list cut =
+    subst (AllByRecursion (λ c. (block_end c ≤ low) ⊎ (low ≤ c.at))) (sym list)
+    (All-mapped (λ c. (block_end c ≤ low) ⊎ (low ≤ c.at)) (λ c. (block_end c ≤ low) ⊎ (low ≤ c.at)) (λ c. (block_end c ≤ low) ⊎ (low ≤ c.at)) (raised_in old s high)
+    (λ c at _. by_reach old s high (λ d. (block_end d ≤ low) ⊎ (low ≤ d.at)) c (λ _. at) (λ _. at) (λ ge less. let two = loose_split old s c.at high ge (omega arith) in inr (omega (arith, two, place)))) old cut cut)
+
+pub cut_end_now : (l : Layout) (x : Block) → IsOrdered l → block_with l.blocks x.id ≡ Some x → IsCut (block_end x) l.blocks
+cut_end_now l x ordered known = Each-map (λ c. (block_end c ≤ x.at) ⊎ ((block_end x ≤ c.at) ⊎ (c ≡ x))) (λ c. (block_end c ≤ block_end x) ⊎ (block_end x ≤ c.at))
+    (λ c is. elim is [
+      | inl before ↦ inl (omega arith)
+      | inr other ↦ elim other [ inl behind ↦ inr behind | inr same ↦ let at = ap (λ (d : Block). d.at) same in let long = ap (λ (d : Block). d.size) same in inl (omega arith) ]
+    ]) l.blocks (around l.lo l.hi l.cap x l.blocks ordered.laid ordered.named known)
+
 -- A step: the last run that isn't raised yet, which ends with x, is raised.
-module _ (old : List Block) (lo hi cap low high s to : ℕ) (laid : IsLaid lo hi old) (fits : AllByRecursion (FitsGap low high) old) (below : s ≤ high) (place : to + loose_bytes old s high ≡ high) (room : s ≤ to)
+module _ (old : List Block) (lo hi low high s to : ℕ) (laid : IsLaid lo hi old) (fits : AllByRecursion (FitsGap low high) old) (below : s ≤ high) (place : to + loose_bytes old s high ≡ high) (room : s ≤ to)
     (cut : IsCut s old) (now : Layout) (ordered : IsOrdered now) (list : now.blocks ≡ raised s high old) (x : Block) (known_now : block_with now.blocks x.id ≡ Some x) (lt : x.at < s) (last_now : AllByRecursion (λ c. (c.at ≤ x.at) ⊎ (s ≤ c.at)) now.blocks)
     (run : Span) (is : IsRun now run) (some : run.from < run.to) (from : low ≤ run.from) (ends : run.to ≡ block_end x) where
   -- what is raised stands from `to` on
@@ -215,7 +230,7 @@ module _ (old : List Block) (lo hi cap low high s to : ℕ) (laid : IsLaid lo hi
   own : (lo ≤ x.at) × (0 < x.size) × (block_end x ≤ hi)
   own = each_with (λ y. (lo ≤ y.at) × (0 < y.size) × (block_end y ≤ hi)) x.id x old known (laid_each lo hi old laid)
 
-  end_below : run.to ≤ s
+  pub end_below : run.to ≤ s
   end_below = elim (each_with (λ b. (block_end b ≤ s) ⊎ (s ≤ b.at)) x.id x old known cut) [ inl end ↦ omega arith | inr over ↦ absurd (omega arith) ]
 
   -- what isn't raised yet stands where it stood

@@ -79,3 +79,14 @@ cleared_down run to down some = Each-both (Lies run) (λ b. (block_end b ≤ to)
         | inr inside ↦ let from = inside.0 in let end = inside.1 in inl (from, omega arith, end)
       ]
     ])
+
+-- and of one that slides up
+pub cleared_up : (run : Span) (to : ℕ) → run.from ≤ to → run.from < run.to → (bs : List Block) → AllByRecursion (Lies run) bs → IsBare run.to (to + (run.to - run.from)) bs → AllByRecursion (IsCleared run to) bs
+cleared_up run to up some = Each-both (Lies run) (λ b. (block_end b ≤ run.to) ⊎ (to + (run.to - run.from) ≤ b.at)) (IsCleared run to)
+    (λ b at bare. let size = at.0 in elim at.1 [
+      | inl below ↦ inr (slid_below run to b (omega arith), inl (omega arith))
+      | inr other ↦ elim other [
+        | inl behind ↦ inr (slid_above run to b behind, elim bare [ inl under ↦ absurd (omega arith) | inr over ↦ inr over ])
+        | inr inside ↦ let from = inside.0 in let end = inside.1 in inl (from, omega arith, end)
+      ]
+    ])

@@ -7,13 +7,13 @@ ghost use Rattle.w16_model.specs.Heap.{IsMultiple};
 ghost use Rattle.w16_model.specs.Table.{block_with};
 ghost use Rattle.w16_blocks.specs.Layout.{IsOrdered, holes_of};
 ghost use Rattle.w16_blocks.specs.Below.{IsLastBelow};
-ghost use Rattle.w16_blocks.specs.Runs.{slid_with};
+ghost use Rattle.w16_blocks.specs.Runs.{IsRun, IsBare, slid_with};
 ghost use Rattle.w16_compact.specs.Gather.{contents, moved_between, MayGather, AreSlid};
 ghost use Rattle.w16_compact.specs.Open.{raised, opened, end_in, spare_in};
 ghost use Rattle.w16_compact.specs.Rest.{IsSameRest};
 
 use crate::slide::{are_ordered, gather};
-use w16_blocks::{Block, Blocks};
+use w16_blocks::{Block, Blocks, Span};
 use w16_holes::{HoleList, Holes};
 use w16_region::Space;
 
@@ -103,11 +103,17 @@ fn raise<S: Space, H: Holes<S>>(
     let mut from = high;
     let mut to = high;
     let mut moved = 0;
-    // From the last block down, so that each finds its new place free. Those that begin from `from` on stand from `to` on by now.
+    // From the last block down, so that each finds its new place free. Those that began from `from` on stand from `to` on by now. Those
+    // that stand directly before it slide as far, so they go with it.
     while let Some(block) = last_between(blocks, low, from) {
-        from = block.at;
-        to -= block.size;
-        moved += u64::from(lift(blocks, space, block, to));
+        let behind = block.at + block.size;
+        let run = Span {
+            from: blocks.run_begin(behind, low),
+            to: behind,
+        };
+        from = run.from;
+        to -= run.to - run.from;
+        moved += u64::from(lift(blocks, space, run, to));
     }
     moved
 }
@@ -123,31 +129,29 @@ fn last_between<H: HoleList>(blocks: &Blocks<H>, low: u32, below: u32) -> Option
     if low <= block.at { Some(block) } else { None }
 }
 
-/// Slides a block up to a place that the blocks behind it leave free. Answers how many bytes were moved, which is none where it stands
-/// there.
-fn lift<S: Space, H: Holes<S>>(
-    blocks: &mut Blocks<H>,
-    space: &mut S,
-    block: Block,
-    to: u32,
-) -> u32
+/// Slides a run of blocks up to a place that the blocks behind it leave free. Answers how many bytes were moved, which is none where it
+/// stands there.
+fn lift<S: Space, H: Holes<S>>(blocks: &mut Blocks<H>, space: &mut S, run: Span, to: u32) -> u32
     requires ordered { IsOrdered blocks.old }
-    requires known { block_with blocks.old.blocks block.id ≡ Some block }
-    requires up { (block.at ≤ to) × (to + block.size ≤ blocks.old.hi) }
-    requires last { AllByRecursion (λ b. (b.at ≤ block.at) ⊎ (to + block.size ≤ b.at)) blocks.old.blocks }
+    requires run { IsRun blocks.old run }
+    requires some { run.from < run.to }
+    requires bare { IsBare run.to (to + (run.to - run.from)) blocks.old.blocks }
     requires grained { IsMultiple blocks.old.grain to }
+    requires up { (run.from ≤ to) × (to + (run.to - run.from) ≤ blocks.old.hi) }
     requires kept { H.are_in (holes_of blocks.old) (S.bytes space.old) }
     requires inside { blocks.old.hi ≤ length (S.bytes space.old) }
-    ensures blocks { blocks.new ≡ record blocks.old { blocks = map (slid_with (record { from = block.at; to = block_end block }) to) blocks.old.blocks } }
+    ensures blocks { blocks.new ≡ record blocks.old { blocks = map (slid_with run to) blocks.old.blocks } }
     ensures ordered { IsOrdered blocks.new }
     ensures kept { H.are_in (holes_of blocks.new) (S.bytes space.new) }
     ensures contents { contents (S.bytes space.new) blocks.new.blocks
         ≡ contents (S.bytes space.old) blocks.old.blocks }
-    ensures moved { result ≡ (if block.at == to then 0 else block.size) }
+    ensures moved { result ≡ (if run.from == to then 0 else run.to - run.from) }
     ensures written { S.written space.new ≡ counted (S.written space.old) result }
     ensures rest { IsSameRest S.bytes S.lenders blocks.old.lo blocks.old.hi space.old space.new }
 {
-    let moved = if block.at == to { 0 } else { block.size };
-    blocks.shift(space, block.id, to);
-    moved
+    if run.from == to {
+        return 0;
+    }
+    blocks.lift_run(space, run, to);
+    run.to - run.from
 }

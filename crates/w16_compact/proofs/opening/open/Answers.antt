@@ -7,7 +7,6 @@ use Rattle.w16_blocks.proofs.Ordered.{sum_fits}
 use Rattle.w16_blocks.proofs.Remove.{with_id}
 use Rattle.w16_compact.specs.Gather.{gathered, moved_between, AreSlid}
 use Rattle.w16_compact.specs.Open.{raised, opened, end_in, spare_in}
-use Rattle.w16_compact.proofs.Lifted.{of_known}
 use Rattle.w16_compact.proofs.Opened.{may_low, may_high, slid_more, moved_most, moved_opened, with_opened, clear_opened, hole_opened, alone_opened}
 use Rattle.w16_compact.proofs.opening.open.Given as Given
 use Rattle.w16_compact.proofs.opening.open.Goals as goal
@@ -15,6 +14,10 @@ use Rattle.w16_compact.proofs.opening.open.Goals as goal
 -- the block that is asked for, by its own id
 known_by : (l : Layout) (id : ℕ) (x : Block) → block_with l.blocks id ≡ Some x → block_with l.blocks x.id ≡ Some x
 known_by l id x e = ap (block_with l.blocks) (with_id id x l.blocks e) ∙ e
+
+-- what holds of a block if there is one holds of the one there is, and back
+of_known : (P : Block → Type 0) (o : Option Block) (x : Block) → o ≡ Some x → IfSome o P → P x
+of_known P o x e is = subst (λ (q : Option Block). IfSome q P) e is
 
 if_known : (P : Block → Type 0) (o : Option Block) (x : Block) → o ≡ Some x → P x → IfSome o P
 if_known P o x e is = subst (λ (q : Option Block). IfSome q P) (sym e) is
