@@ -158,8 +158,9 @@ module _ (lo hi a b : ℕ) (hs : List Span) (bytes : List ℕ) (front : List Spa
     three_kept = kept_trans h.from (h.from + 8) one two three two_kept last_kept
 
     all_kept : IsKept h.from h.to bytes three
-    all_kept = let wide = before in let to = c.to in
-    kept_trans h.from h.to bytes one three (kept_wider b h.to h.from h.to bytes one (omega arith) (omega arith) one_kept) (kept_wider h.from (h.from + 8) h.from h.to one three (omega arith) (omega arith) three_kept)
+    all_kept =
+        let wide = before in let to = c.to in
+        kept_trans h.from h.to bytes one three (kept_wider b h.to h.from h.to bytes one (omega arith) (omega arith) one_kept) (kept_wider h.from (h.from + 8) h.from h.to one three (omega arith) (omega arith) three_kept)
 
     first : HasWords (record { from = h.from; to = a }) (first_of no_hole rest) three
     first =
@@ -222,8 +223,9 @@ module _ (lo hi a b : ℕ) (hs : List Span) (bytes : List ℕ) (front : List Spa
     last_front = thread_kept behind front lo h.from h.from (h.from + 4) linked last word c.below (inl (omega arith)) (relink h.from behind lo h.from front one behind_small c.below one_front)
 
     last_rest : IsThread no_hole rest last
-    last_rest = let w = wide in
-    thread_kept no_hole rest b hi h.from (h.from + 4) linked last word rest_holes (inr (omega arith)) (thread_kept no_hole rest b hi lo h.from one linked linked_kept rest_holes (inr (omega arith)) one_rest)
+    last_rest =
+        let w = wide in
+        thread_kept no_hole rest b hi h.from (h.from + 4) linked last word rest_holes (inr (omega arith)) (thread_kept no_hole rest b hi lo h.from one linked linked_kept rest_holes (inr (omega arith)) one_rest)
 
     rest_is : taken a b hs ≡ front ++ rest
     rest_is = c.left ∙ rw (le-ltb h.from a (omega arith)) refl
@@ -250,12 +252,12 @@ module _ (lo hi a b : ℕ) (hs : List Span) (bytes : List ℕ) (front : List Spa
   ]
 
 -- a hole of a thread
-hole_words : (last from to : ℕ) (hs : List Span) (bytes : List ℕ) → HasHole from to hs → IsThread last hs bytes → IsMultiple 8 from × IsMultiple 8 to × (to ≤ length bytes)
-hole_words last from to [] bytes has thread = absurd has
-hole_words last from to (h ∷ hs) bytes (inl is) thread =
+hole_words : (end from to : ℕ) (hs : List Span) (bytes : List ℕ) → HasHole from to hs → IsThread end hs bytes → IsMultiple 8 from × IsMultiple 8 to × (to ≤ length bytes)
+hole_words end from to [] bytes has thread = absurd has
+hole_words end from to (h ∷ hs) bytes (inl is) thread =
     let words = thread.0 in
     (subst (IsMultiple 8) is.0 words.low, subst (IsMultiple 8) is.1 words.high, subst (λ (n : ℕ). n ≤ length bytes) is.1 words.inside)
-hole_words last from to (h ∷ hs) bytes (inr rest) thread = hole_words last from to hs bytes rest thread.1
+hole_words end from to (h ∷ hs) bytes (inr rest) thread = hole_words end from to hs bytes rest thread.1
 
 -- [a, b) is put, and makes a hole [from, to)
 module _ (lo hi a b : ℕ) (hs : List Span) (bytes : List ℕ) (front : List Span) (from to : ℕ) (back joins : List Span) (c : IsPutAt lo hi a b hs front from to back joins)
@@ -409,7 +411,7 @@ module _ (r : Range) (hs : List Span) (bytes : List ℕ) (a n : ℕ) (roomy : Ha
       take_next = ap (λ (x : ℕ). word_in bytes (x + 4)) begin_is ∙ words.link
 
       -- where the hole ends
-      pub take_end : begin + word_in bytes begin ≡ taken_cut.1.to
+      take_end : begin + word_in bytes begin ≡ taken_cut.1.to
       take_end = let e = begin_is in let f = take_size in let has = words.some in omega arith
 
       pub take_top : begin + word_in bytes begin ≤ r.hi
@@ -436,17 +438,17 @@ module _ (r : Range) (hs : List Span) (bytes : List ℕ) (a n : ℕ) (roomy : Ha
                 (link_fits c.1.from r.lo c.1.from c.0 bytes c.3.below (thread_front no_hole c.0 (c.1 ∷ c.2) bytes cut))
           ]
 
-      pub take_written : (size next behind : ℕ) (one two three : List ℕ) → size ≡ word_in bytes begin → next ≡ word_in bytes (begin + 4) → one ≡ put_hole bytes (a + n) (begin + size) next
-          → behind ≡ first_of next (add_span (a + n) (begin + size) []) → two ≡ put_link one (last_before a hs) behind → three ≡ put_word two begin (a - begin)
-          → AreThreaded (taken a (a + n) hs) three × AreSameOutside hs bytes three
-      take_written size next behind one two three size_is next_is one_is behind_is two_is three_is =
+      pub take_written : (size next behind : ℕ) (made tied left : List ℕ) → size ≡ word_in bytes begin → next ≡ word_in bytes (begin + 4) → made ≡ put_hole bytes (a + n) (begin + size) next
+          → behind ≡ first_of next (add_span (a + n) (begin + size) []) → tied ≡ put_link made (last_before a hs) behind → left ≡ put_word tied begin (a - begin)
+          → AreThreaded (taken a (a + n) hs) left × AreSameOutside hs bytes left
+      take_written size next behind made tied left size_is next_is made_is behind_is tied_is left_is =
           let c = taken_cut in
           let end : begin + size ≡ c.1.to = ap (λ (m : ℕ). begin + m) size_is ∙ take_end in
           let link : next ≡ first_of no_hole c.2 = next_is ∙ take_next in
-          let first : one ≡ put_hole bytes (a + n) c.1.to (first_of no_hole c.2) = one_is ∙ ap (λ (m : ℕ). put_hole bytes (a + n) m next) end ∙ ap (λ (m : ℕ). put_hole bytes (a + n) c.1.to m) link in
+          let first : made ≡ put_hole bytes (a + n) c.1.to (first_of no_hole c.2) = made_is ∙ ap (λ (m : ℕ). put_hole bytes (a + n) m next) end ∙ ap (λ (m : ℕ). put_hole bytes (a + n) c.1.to m) link in
           let onward : behind ≡ first_of (first_of no_hole c.2) (add_span (a + n) c.1.to []) = behind_is ∙ ap (λ (m : ℕ). first_of next (add_span (a + n) m [])) end ∙ ap (λ (m : ℕ). first_of m (add_span (a + n) c.1.to [])) link in
-          let second = two_is ∙ ap (λ (l : List ℕ). put_link l (last_before a hs) behind) first ∙ ap (λ (m : ℕ). put_link (put_hole bytes (a + n) c.1.to (first_of no_hole c.2)) (last_before a hs) m) onward in
-          let third = three_is ∙ ap (λ (l : List ℕ). put_word l begin (a - begin)) second
+          let second = tied_is ∙ ap (λ (l : List ℕ). put_link l (last_before a hs) behind) first ∙ ap (λ (m : ℕ). put_link (put_hole bytes (a + n) c.1.to (first_of no_hole c.2)) (last_before a hs) m) onward in
+          let third = left_is ∙ ap (λ (l : List ℕ). put_word l begin (a - begin)) second
               ∙ ap (λ (m : ℕ). put_word (put_link (put_hole bytes (a + n) c.1.to (first_of no_hole c.2)) (last_before a hs) (first_of (first_of no_hole c.2) (add_span (a + n) c.1.to []))) m (a - m)) begin_is in
           subst (λ (l : List ℕ). AreThreaded (taken a (a + n) hs) l × AreSameOutside hs bytes l) (sym third)
           (taken_done r.lo r.hi a (a + n) hs bytes c.0 c.1 c.2 c.3 some low_8 high_8 roomy.small thread)
@@ -455,13 +457,13 @@ module _ (r : Range) (hs : List Span) (bytes : List ℕ) (a n : ℕ) (roomy : Ha
     abbrev put_at : (front : List Span) × (from to : ℕ) × (back joins : List Span) × IsPutAt r.lo r.hi a (a + n) hs front from to back joins
     put_at = cut_put r.lo r.hi a (a + n) hs some part.from part.to holes used_part
 
-    pub put_from : a - length_to a hs ≡ put_at.1
+    put_from : a - length_to a hs ≡ put_at.1
     put_from = let c = put_at in let e = c.5.ending in let le = c.5.below in omega arith
 
     pub put_less : length_to a hs ≤ a
     put_less = let c = put_at in let e = c.5.ending in omega arith
 
-    pub put_end : a + n + length_at (a + n) hs ≡ put_at.2
+    put_end : a + n + length_at (a + n) hs ≡ put_at.2
     put_end = let c = put_at in let e = c.5.at in let le = c.5.above in omega arith
 
     pub put_top : a + n + length_at (a + n) hs ≤ r.hi
@@ -486,15 +488,15 @@ module _ (r : Range) (hs : List Span) (bytes : List ℕ) (a n : ℕ) (roomy : Ha
           | inr hole ↦ let w = put_wide in let i = put_inside in subst (λ (o : Option ℕ). IfSome o (λ (x : ℕ). x + 8 ≤ length bytes)) (sym hole.2) (omega arith)
         ]
 
-    pub put_all : (next end ending : ℕ) (one two : List ℕ) → next ≡ next_above (a + n) hs → end ≡ length_at (a + n) hs → ending ≡ length_to a hs → one ≡ put_link bytes (last_before a hs) (a - ending)
-        → two ≡ put_words one (a - ending) (a + n + end - (a - ending)) next → AreThreaded (joined a (a + n) hs) two × AreSameOutside (joined a (a + n) hs) bytes two
-    put_all next end ending one two next_is end_is ending_is one_is two_is =
+    pub put_all : (next end ending : ℕ) (tied left : List ℕ) → next ≡ next_above (a + n) hs → end ≡ length_at (a + n) hs → ending ≡ length_to a hs → tied ≡ put_link bytes (last_before a hs) (a - ending)
+        → left ≡ put_words tied (a - ending) (a + n + end - (a - ending)) next → AreThreaded (joined a (a + n) hs) left × AreSameOutside (joined a (a + n) hs) bytes left
+    put_all next end ending tied left next_is end_is ending_is tied_is left_is =
         let c = put_at in
         let from : a - ending ≡ c.1 = ap (λ (m : ℕ). a - m) ending_is ∙ put_from in
         let to : a + n + end ≡ c.2 = ap (λ (m : ℕ). a + n + m) end_is ∙ put_end in
         let link : next ≡ first_of no_hole c.3 = next_is ∙ c.5.next in
-        let first : one ≡ put_link bytes (last_before a hs) c.1 = one_is ∙ ap (λ (m : ℕ). put_link bytes (last_before a hs) m) from in
-        let second = two_is ∙ ap (λ (l : List ℕ). put_words l (a - ending) (a + n + end - (a - ending)) next) first
+        let first : tied ≡ put_link bytes (last_before a hs) c.1 = tied_is ∙ ap (λ (m : ℕ). put_link bytes (last_before a hs) m) from in
+        let second = left_is ∙ ap (λ (l : List ℕ). put_words l (a - ending) (a + n + end - (a - ending)) next) first
             ∙ ap (λ (m : ℕ). put_words (put_link bytes (last_before a hs) c.1) m (a + n + end - m) next) from
             ∙ ap (λ (m : ℕ). put_words (put_link bytes (last_before a hs) c.1) c.1 (m - c.1) next) to
             ∙ ap (λ (m : ℕ). put_words (put_link bytes (last_before a hs) c.1) c.1 (c.2 - c.1) m) link in
