@@ -1,5 +1,5 @@
 -- Holes cut where a part is taken or put: the holes below, those that change, and the holes above.
-use Rattle.std.proofs.Common.{ℕ, suc, ◌≡◌, ◌<◌, ◌≤◌, ◌+◌, ◌-◌, ◌⊎◌, inl, inr, min, max, List, [], ◌∷◌, ◌++◌, Option, Some, None, unwrap_or, arith, refl, sym, ap, ◌∙◌, eq-eqb, false, ◌==◌}
+use Rattle.std.proofs.Common.{ℕ, suc, ◌≡◌, ◌<◌, ◌≤◌, ◌-◌, ◌⊎◌, inl, inr, min, max, List, [], ◌∷◌, ◌++◌, Option, Some, None, unwrap_or, arith, refl, ap, ◌∙◌, eq-eqb, false, ◌==◌}
 use Rattle.std.proofs.lemmas.Bool.{cases_lt, lt-ltb, le-ltb}
 use Rattle.std.proofs.lemmas.Bool.Decides.{eqb_tells}
 use Rattle.w16_model.specs.declared.Span.{Span}

@@ -6,7 +6,7 @@ use Rattle.std.proofs.lemmas.Option.{none-some, same_Some}
 use Rattle.w16_model.specs.declared.Span.{Span}
 use Rattle.w16_region.specs.Bytes.{word_in}
 use Rattle.w16_holes.specs.Holes.{AreHoles, last_before, length_at, lowest}
-use Rattle.w16_holes.specs.Thread.{IsThread, AreThreaded, no_hole, first_of, next_above, room}
+use Rattle.w16_holes.specs.Thread.{AreThreaded, no_hole, first_of, next_above, room}
 use Rattle.w16_holes.proofs.Thread.{last_cons, last_first}
 use Rattle.w16_holes.proofs.Cuts.{last_none, next_first, at_none}
 

@@ -2,12 +2,11 @@
 use Rattle.std.proofs.Common.{ℕ, suc, ◌≡◌, ◌<◌, ◌≤◌, ◌+◌, ◌^◌, ◌⊎◌, inl, inr, List, [], ◌∷◌, ◌++◌, length, Option, Some, None, unwrap_or, IfSome, arith, refl, sym, ap, ◌∙◌, subst}
 use Rattle.std.proofs.lemmas.Bool.{lt-ltb}
 use Rattle.w16_model.specs.declared.Span.{Span}
-use Rattle.w16_model.specs.Bytes.{part}
 use Rattle.w16_model.specs.Table.{IsSameOutside}
 use Rattle.w16_model.proofs.Parts.{take_lower, drop_higher, part_below, part_above}
 use Rattle.w16_region.specs.Bytes.{word_in, put_word}
 use Rattle.w16_region.proofs.Words.{length-put_word, word_in-put_word, word_in-same, IsSameOutside-put_word}
-use Rattle.w16_holes.specs.Holes.{AreHoles, IsFree, IsUsed, AreSameOutside, last_before}
+use Rattle.w16_holes.specs.Holes.{AreHoles, IsFree, AreSameOutside, last_before}
 use Rattle.w16_holes.specs.Thread.{HasWords, IsThread, first_of, put_words, put_link, room}
 use Rattle.w16_holes.proofs.Write.{apart}
 

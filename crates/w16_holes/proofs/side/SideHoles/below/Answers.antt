@@ -1,4 +1,4 @@
-use Rattle.std.proofs.Common.{ℕ, ◌≡◌, ◌+◌, ◌*◌, ap, arith, ◌∙◌, Some, None, subst, option_map}
+use Rattle.std.proofs.Common.{ℕ, ◌+◌, ap, arith, ◌∙◌, Some, None, subst}
 use Rattle.w16_holes.specs.Holes.{Range, Free, AreHoles}
 use Rattle.w16_holes.proofs.Last.{last_is, last_lower}
 use Rattle.w16_holes.proofs.Steps.{AreHoles-cells}

@@ -1,6 +1,6 @@
-use Rattle.std.proofs.Common.{ℕ, List, ◌≡◌, ◌+◌, ◌≤◌, length, arith, sym, ap, ◌∙◌, subst, IfSome, Option}
+use Rattle.std.proofs.Common.{List, ◌+◌, arith, sym, subst}
 use Rattle.w16_model.specs.declared.Span.{Span}
-use Rattle.w16_holes.specs.Holes.{Free, IsPart, IsFree, IsUsed, AreSameOutside, last_before}
+use Rattle.w16_holes.specs.Holes.{Free, IsPart, IsUsed, AreSameOutside}
 use Rattle.w16_holes.specs.Thread.{AreThreaded}
 use Rattle.w16_holes.proofs.Links.{place_behind, put_less, put_top, put_fits, put_room, put_all}
 use Rattle.w16_holes.proofs.threaded.ThreadedHolesHolesRegion.put.Goals as goal

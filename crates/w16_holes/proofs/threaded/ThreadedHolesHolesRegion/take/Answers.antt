@@ -1,6 +1,6 @@
-use Rattle.std.proofs.Common.{ℕ, List, ◌≡◌, ◌+◌, ◌≤◌, length, arith, sym, ap, ◌∙◌, subst, IfSome, Option}
+use Rattle.std.proofs.Common.{ℕ, List, ◌+◌, ◌≤◌, arith, sym, subst, IfSome}
 use Rattle.w16_model.specs.declared.Span.{Span}
-use Rattle.w16_holes.specs.Holes.{Free, IsPart, IsFree, IsUsed, AreSameOutside, last_before}
+use Rattle.w16_holes.specs.Holes.{Free, IsPart, IsFree, AreSameOutside, last_before}
 use Rattle.w16_holes.specs.Thread.{AreThreaded}
 use Rattle.w16_holes.proofs.Links.{place_behind, take_there, take_from, take_fits, take_top, take_room, take_link, take_written}
 use Rattle.w16_holes.proofs.threaded.ThreadedHolesHolesRegion.take.Goals as goal
