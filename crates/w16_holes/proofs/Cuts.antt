@@ -31,38 +31,46 @@ pub record IsTakenFrom (lo hi a b : ℕ) (hs front : List Span) (h : Span) (back
 pub cut_taken : (lo hi a b : ℕ) (hs : List Span) → a < b → AreHoles lo hi hs → IsFree a b hs → (front : List Span) × (h : Span) × (back : List Span) × IsTakenFrom lo hi a b hs front h back
 cut_taken lo hi a b [] some holes free = absurd free
 cut_taken lo hi a b (h ∷ hs) some holes (inl here) =
-    let from = here.0 in let to = here.1 in
-    ([], h, hs, record {
-      whole = refl;
-      low = holes.0;
-      from = from;
-      to = to;
-      high = holes.2;
-      below = tt;
-      above = holes.3;
-      left = rw (lt-ltb a h.to (omega arith)) refl;
-      at = last_first b h hs (omega arith) (last_none b (suc h.to) hi hs (omega arith) holes.3);
-      inside = λ lt. last_first a h hs lt (last_none a (suc h.to) hi hs (omega arith) holes.3);
-      begins = λ e. last_none a h.from hi (h ∷ hs) (omega arith) (omega arith, holes.1, holes.2, holes.3);
-    })
+    let from = here.0 in let to = here.1 in (
+      [],
+      h,
+      hs,
+      record {
+        whole = refl;
+        low = holes.0;
+        from = from;
+        to = to;
+        high = holes.2;
+        below = tt;
+        above = holes.3;
+        left = rw (lt-ltb a h.to (omega arith)) refl;
+        at = last_first b h hs (omega arith) (last_none b (suc h.to) hi hs (omega arith) holes.3);
+        inside = λ lt. last_first a h hs lt (last_none a (suc h.to) hi hs (omega arith) holes.3);
+        begins = λ e. last_none a h.from hi (h ∷ hs) (omega arith) (omega arith, holes.1, holes.2, holes.3);
+      },
+    )
 cut_taken lo hi a b (h ∷ hs) some holes (inr rest) =
     let c = cut_taken (suc h.to) hi a b hs some holes.3 rest in
     let is = c.3 in
     let has = holes.1 in
-    let low = is.low in let from = is.from in
-    (h ∷ c.0, c.1, c.2, record {
-      whole = ap (λ (l : List Span). h ∷ l) is.whole;
-      low = let first = holes.0 in omega arith;
-      from = is.from;
-      to = is.to;
-      high = is.high;
-      below = (holes.0, has, omega arith, is.below);
-      above = is.above;
-      left = rw (le-ltb a h.to (omega arith)) (ap (λ (l : List Span). h ∷ l) is.left);
-      at = last_cons b c.1.from h hs (omega arith) is.at;
-      inside = λ lt. last_cons a c.1.from h hs (omega arith) (is.inside lt);
-      begins = λ e. rw (lt-ltb h.from a (omega arith)) (ap (λ (o : Option ℕ). Some (unwrap_or o h.from)) (is.begins e));
-    })
+    let low = is.low in let from = is.from in (
+      h ∷ c.0,
+      c.1,
+      c.2,
+      record {
+        whole = ap (λ (l : List Span). h ∷ l) is.whole;
+        low = let first = holes.0 in omega arith;
+        from = is.from;
+        to = is.to;
+        high = is.high;
+        below = (holes.0, has, omega arith, is.below);
+        above = is.above;
+        left = rw (le-ltb a h.to (omega arith)) (ap (λ (l : List Span). h ∷ l) is.left);
+        at = last_cons b c.1.from h hs (omega arith) is.at;
+        inside = λ lt. last_cons a c.1.from h hs (omega arith) (is.inside lt);
+        begins = λ e. rw (lt-ltb h.from a (omega arith)) (ap (λ (o : Option ℕ). Some (unwrap_or o h.from)) (is.begins e));
+      },
+    )
 
 -- there is a hole between two places
 abbrev pub HasHole : ℕ → ℕ → List Span → Type 0
@@ -100,43 +108,57 @@ joined_first a b lo hi [] le lt holes = refl
 joined_first a b lo hi (h ∷ hs) le lt holes = let from = holes.0 in let some = holes.1 in rw (le-ltb h.to a (omega arith), lt-ltb b h.from (omega arith)) refl
 
 pub cut_below : (a b hi : ℕ) (hs : List Span) → a ≤ b → b ≤ hi → AreHoles b hi hs → (to : ℕ) × (back : List Span) × (joins : List Span) × IsPutBelow a b hi hs to back joins
-cut_below a b hi [] some top holes = (b, [], [], record {
-  whole = refl;
-  end = inl (refl, refl);
-  from = omega arith;
-  high = top;
-  above = tt;
-  made = refl;
-  at = omega arith;
-  next = refl;
-})
+cut_below a b hi [] some top holes = (
+  b,
+  [],
+  [],
+  record {
+    whole = refl;
+    end = inl (refl, refl);
+    from = omega arith;
+    high = top;
+    above = tt;
+    made = refl;
+    at = omega arith;
+    next = refl;
+  },
+)
 cut_below a b hi (h ∷ hs) some top holes =
     let from = holes.0 in let has = holes.1 in
     elim (cases_lt b h.from) [
-      | inl apart ↦ let all : AreHoles (suc b) hi (h ∷ hs) = (omega arith, has, holes.2, holes.3) in (b, h ∷ hs, [], record {
-        whole = refl;
-        end = inl (refl, refl);
-        from = omega arith;
-        high = top;
-        above = all;
-        made = joined_first a b (suc b) hi (h ∷ hs) some (omega arith) all;
-        at = at_none b (suc b) hi (h ∷ hs) (omega arith) all ∙ omega arith;
-        next = next_first b (suc b) hi (h ∷ hs) (omega arith) all;
-      })
+      | inl apart ↦ let all : AreHoles (suc b) hi (h ∷ hs) = (omega arith, has, holes.2, holes.3) in (
+        b,
+        h ∷ hs,
+        [],
+        record {
+          whole = refl;
+          end = inl (refl, refl);
+          from = omega arith;
+          high = top;
+          above = all;
+          made = joined_first a b (suc b) hi (h ∷ hs) some (omega arith) all;
+          at = at_none b (suc b) hi (h ∷ hs) (omega arith) all ∙ omega arith;
+          next = next_first b (suc b) hi (h ∷ hs) (omega arith) all;
+        },
+      )
       | inr touches ↦
           let e : h.from ≡ b = omega arith in
           let low : min a h.from ≡ a = omega arith in
-          let high : max b h.to ≡ h.to = omega arith in
-          (h.to, hs, h ∷ [], record {
-            whole = refl;
-            end = inr (inl (e, refl));
-            from = omega arith;
-            high = holes.2;
-            above = holes.3;
-            made = rw (le-ltb h.to a (omega arith), le-ltb b h.from (omega arith), low, high) (joined_first a h.to (suc h.to) hi hs (omega arith) (omega arith) holes.3);
-            at = rw (eq-eqb h.from b e) (omega arith);
-            next = rw (le-ltb b h.from (omega arith)) (next_first b (suc h.to) hi hs (omega arith) holes.3);
-          })
+          let high : max b h.to ≡ h.to = omega arith in (
+            h.to,
+            hs,
+            h ∷ [],
+            record {
+              whole = refl;
+              end = inr (inl (e, refl));
+              from = omega arith;
+              high = holes.2;
+              above = holes.3;
+              made = rw (le-ltb h.to a (omega arith), le-ltb b h.from (omega arith), low, high) (joined_first a h.to (suc h.to) hi hs (omega arith) (omega arith) holes.3);
+              at = rw (eq-eqb h.from b e) (omega arith);
+              next = rw (le-ltb b h.from (omega arith)) (next_first b (suc h.to) hi hs (omega arith) holes.3);
+            },
+          )
     ]
 
 -- [a, b) is put, and makes a hole [from, to)
@@ -183,25 +205,31 @@ used_above a b lo hi (h ∷ hs) lt some holes used =
 put_first : (lo hi a b : ℕ) (hs : List Span) → a < b → lo ≤ a → b ≤ hi → AreHoles b hi hs → (front : List Span) × (from to : ℕ) × (back joins : List Span) × IsPutAt lo hi a b hs front from to back joins
 put_first lo hi a b hs some low top holes =
     let c = cut_below a b hi hs (omega arith) top holes in
-    let is = c.3 in
-    ([], a, c.0, c.1, c.2, record {
-      whole = is.whole;
-      low = low;
-      below = omega arith;
-      above = is.from;
-      high = is.high;
-      lower = tt;
-      higher = is.above;
-      made = is.made;
-      begin = inl (refl, last_none a b hi hs (omega arith) holes);
-      end = elim is.end [
-        | inl alone ↦ inl alone.0
-        | inr hole ↦ inr hole
-      ];
-      ending = to_none a b hi hs (omega arith) holes ∙ omega arith;
-      at = is.at;
-      next = is.next;
-    })
+    let is = c.3 in (
+      [],
+      a,
+      c.0,
+      c.1,
+      c.2,
+      record {
+        whole = is.whole;
+        low = low;
+        below = omega arith;
+        above = is.from;
+        high = is.high;
+        lower = tt;
+        higher = is.above;
+        made = is.made;
+        begin = inl (refl, last_none a b hi hs (omega arith) holes);
+        end = elim is.end [
+          | inl alone ↦ inl alone.0
+          | inr hole ↦ inr hole
+        ];
+        ending = to_none a b hi hs (omega arith) holes ∙ omega arith;
+        at = is.at;
+        next = is.next;
+      },
+    )
 
 -- right behind the first hole
 put_behind : (lo hi a b : ℕ) (h : Span) (hs : List Span) → a < b → b ≤ hi → h.to ≡ a → AreHoles lo hi (h ∷ hs) → AreHoles b hi hs
@@ -211,28 +239,34 @@ put_behind lo hi a b h hs some top e holes rest =
     let c = cut_below h.from b hi hs (omega arith) top rest in
     let is = c.3 in
     let low : min a h.from ≡ h.from = omega arith in
-    let high : max b h.to ≡ b = omega arith in
-    ([], h.from, c.0, c.1, h ∷ c.2, record {
-      whole = ap (λ (l : List Span). h ∷ l) is.whole;
-      low = holes.0;
-      below = omega arith;
-      above = is.from;
-      high = is.high;
-      lower = tt;
-      higher = is.above;
-      made = rw (le-ltb h.to a (omega arith), le-ltb b h.from (omega arith), low, high) is.made;
-      begin = inr (omega arith, inl (refl, e), last_first a h hs (omega arith) (last_none a b hi hs (omega arith) rest), λ last. refl);
-      end = elim is.end [
-        | inl alone ↦ inl alone.0
-        | inr hole ↦ inr (inr hole)
-      ];
-      ending = rw (eq-eqb h.to a e) (ap (λ (n : ℕ). n - h.from) e);
-      at = elim (eqb_tells h.from b) [
-        | inl same ↦ let f = same.1 in absurd (omega arith)
-        | inr other ↦ rw (other.0) is.at
-      ];
-      next = rw (le-ltb b h.from (omega arith)) is.next;
-    })
+    let high : max b h.to ≡ b = omega arith in (
+      [],
+      h.from,
+      c.0,
+      c.1,
+      h ∷ c.2,
+      record {
+        whole = ap (λ (l : List Span). h ∷ l) is.whole;
+        low = holes.0;
+        below = omega arith;
+        above = is.from;
+        high = is.high;
+        lower = tt;
+        higher = is.above;
+        made = rw (le-ltb h.to a (omega arith), le-ltb b h.from (omega arith), low, high) is.made;
+        begin = inr (omega arith, inl (refl, e), last_first a h hs (omega arith) (last_none a b hi hs (omega arith) rest), λ last. refl);
+        end = elim is.end [
+          | inl alone ↦ inl alone.0
+          | inr hole ↦ inr (inr hole)
+        ];
+        ending = rw (eq-eqb h.to a e) (ap (λ (n : ℕ). n - h.from) e);
+        at = elim (eqb_tells h.from b) [
+          | inl same ↦ let f = same.1 in absurd (omega arith)
+          | inr other ↦ rw (other.0) is.at
+        ];
+        next = rw (le-ltb b h.from (omega arith)) is.next;
+      },
+    )
 
 pub cut_put : (lo hi a b : ℕ) (hs : List Span) → a < b → lo ≤ a → b ≤ hi → AreHoles lo hi hs → IsUsed a b hs → (front : List Span) × (from to : ℕ) × (back joins : List Span) × IsPutAt lo hi a b hs front from to back joins
 cut_put lo hi a b [] some low top holes used = put_first lo hi a b [] some low top tt
@@ -253,27 +287,33 @@ cut_put lo hi a b (h ∷ hs) some low top holes used =
             let no_begin : (h.from == b) ≡ false = elim (eqb_tells h.from b) [
               | inl same ↦ let e = same.1 in absurd (omega arith)
               | inr other ↦ other.0
-            ] in
-            (h ∷ c.0, c.1, c.2, c.3, c.4, record {
-              whole = ap (λ (l : List Span). h ∷ l) is.whole;
-              low = let first = holes.0 in omega arith;
-              below = is.below;
-              above = is.above;
-              high = is.high;
-              lower = (holes.0, has, omega arith, is.lower);
-              higher = is.higher;
-              made = rw (lt-ltb h.to a apart) (ap (λ (l : List Span). h ∷ l) is.made);
-              begin = elim is.begin [
-                | inl alone ↦ inl (alone.0, rw (lt-ltb h.from a (omega arith)) (ap (λ (o : Option ℕ). Some (unwrap_or o h.from)) alone.1))
-                | inr hole ↦ inr (hole.0, inr hole.1, last_cons a c.1 h hs (omega arith) hole.2, hole.3)
-              ];
-              end = elim is.end [
-                | inl alone ↦ inl alone
-                | inr hole ↦ inr (inr hole)
-              ];
-              ending = rw (no_end) is.ending;
-              at = rw (no_begin) is.at;
-              next = rw (le-ltb b h.from (omega arith)) is.next;
-            })
+            ] in (
+              h ∷ c.0,
+              c.1,
+              c.2,
+              c.3,
+              c.4,
+              record {
+                whole = ap (λ (l : List Span). h ∷ l) is.whole;
+                low = let first = holes.0 in omega arith;
+                below = is.below;
+                above = is.above;
+                high = is.high;
+                lower = (holes.0, has, omega arith, is.lower);
+                higher = is.higher;
+                made = rw (lt-ltb h.to a apart) (ap (λ (l : List Span). h ∷ l) is.made);
+                begin = elim is.begin [
+                  | inl alone ↦ inl (alone.0, rw (lt-ltb h.from a (omega arith)) (ap (λ (o : Option ℕ). Some (unwrap_or o h.from)) alone.1))
+                  | inr hole ↦ inr (hole.0, inr hole.1, last_cons a c.1 h hs (omega arith) hole.2, hole.3)
+                ];
+                end = elim is.end [
+                  | inl alone ↦ inl alone
+                  | inr hole ↦ inr (inr hole)
+                ];
+                ending = rw (no_end) is.ending;
+                at = rw (no_begin) is.at;
+                next = rw (le-ltb b h.from (omega arith)) is.next;
+              },
+            )
       ]
     ]

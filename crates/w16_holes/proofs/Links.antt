@@ -43,7 +43,7 @@ holes_lower lo low hi (h ∷ hs) le holes = let from = holes.0 in (omega arith, 
 pub hole_kept : (from to next : ℕ) (bytes : List ℕ) → IsMultiple 8 from → IsMultiple 8 to → to ≤ length bytes → IsKept from to bytes (put_hole bytes from to next)
 hole_kept from to next bytes low high inside = elim (cases_lt from to) [
   | inl lt ↦ let wide = room from to low high lt in
-  rw (lt-ltb from to lt) (kept_wider from (from + 8) from to bytes (put_words bytes from (to - from) next) (omega arith) wide (kept_words bytes from (to - from) next (omega arith)))
+      rw (lt-ltb from to lt) (kept_wider from (from + 8) from to bytes (put_words bytes from (to - from) next) (omega arith) wide (kept_words bytes from (to - from) next (omega arith)))
   | inr le ↦ rw (le-ltb from to le) (kept_refl from to bytes)
 ]
 
@@ -449,7 +449,7 @@ module _ (r : Range) (hs : List Span) (bytes : List ℕ) (a n : ℕ) (roomy : Ha
           let onward : behind ≡ first_of (first_of no_hole c.2) (add_span (a + n) c.1.to []) = behind_is ∙ ap (λ (m : ℕ). first_of next (add_span (a + n) m [])) end ∙ ap (λ (m : ℕ). first_of m (add_span (a + n) c.1.to [])) link in
           let second = tied_is ∙ ap (λ (l : List ℕ). put_link l (last_before a hs) behind) first ∙ ap (λ (m : ℕ). put_link (put_hole bytes (a + n) c.1.to (first_of no_hole c.2)) (last_before a hs) m) onward in
           let third = left_is ∙ ap (λ (l : List ℕ). put_word l begin (a - begin)) second
-              ∙ ap (λ (m : ℕ). put_word (put_link (put_hole bytes (a + n) c.1.to (first_of no_hole c.2)) (last_before a hs) (first_of (first_of no_hole c.2) (add_span (a + n) c.1.to []))) m (a - m)) begin_is in
+          ∙ ap (λ (m : ℕ). put_word (put_link (put_hole bytes (a + n) c.1.to (first_of no_hole c.2)) (last_before a hs) (first_of (first_of no_hole c.2) (add_span (a + n) c.1.to []))) m (a - m)) begin_is in
           subst (λ (l : List ℕ). AreThreaded (taken a (a + n) hs) l × AreSameOutside hs bytes l) (sym third)
           (taken_done r.lo r.hi a (a + n) hs bytes c.0 c.1 c.2 c.3 some low_8 high_8 roomy.small thread)
 
@@ -484,7 +484,7 @@ module _ (r : Range) (hs : List Span) (bytes : List ℕ) (a n : ℕ) (roomy : Ha
         let cut : IsThread no_hole (c.0 ++ (c.4 ++ c.3)) bytes = subst (λ (l : List Span). IsThread no_hole l bytes) c.5.whole thread in
         elim c.5.begin [
           | inl alone ↦ subst (λ (o : Option ℕ). IfSome o (λ (x : ℕ). x + 8 ≤ length bytes)) (sym (alone.1 ∙ ap (λ (x : ℕ). last_before x c.0) (sym alone.0)))
-          (link_fits (first_of no_hole (c.4 ++ c.3)) r.lo c.1 c.0 bytes c.5.lower (thread_front no_hole c.0 (c.4 ++ c.3) bytes cut))
+              (link_fits (first_of no_hole (c.4 ++ c.3)) r.lo c.1 c.0 bytes c.5.lower (thread_front no_hole c.0 (c.4 ++ c.3) bytes cut))
           | inr hole ↦ let w = put_wide in let i = put_inside in subst (λ (o : Option ℕ). IfSome o (λ (x : ℕ). x + 8 ≤ length bytes)) (sym hole.2) (omega arith)
         ]
 
@@ -497,8 +497,8 @@ module _ (r : Range) (hs : List Span) (bytes : List ℕ) (a n : ℕ) (roomy : Ha
         let link : next ≡ first_of no_hole c.3 = next_is ∙ c.5.next in
         let first : tied ≡ put_link bytes (last_before a hs) c.1 = tied_is ∙ ap (λ (m : ℕ). put_link bytes (last_before a hs) m) from in
         let second = left_is ∙ ap (λ (l : List ℕ). put_words l (a - ending) (a + n + end - (a - ending)) next) first
-            ∙ ap (λ (m : ℕ). put_words (put_link bytes (last_before a hs) c.1) m (a + n + end - m) next) from
-            ∙ ap (λ (m : ℕ). put_words (put_link bytes (last_before a hs) c.1) c.1 (m - c.1) next) to
-            ∙ ap (λ (m : ℕ). put_words (put_link bytes (last_before a hs) c.1) c.1 (c.2 - c.1) m) link in
+        ∙ ap (λ (m : ℕ). put_words (put_link bytes (last_before a hs) c.1) m (a + n + end - m) next) from
+        ∙ ap (λ (m : ℕ). put_words (put_link bytes (last_before a hs) c.1) c.1 (m - c.1) next) to
+        ∙ ap (λ (m : ℕ). put_words (put_link bytes (last_before a hs) c.1) c.1 (c.2 - c.1) m) link in
         subst (λ (l : List ℕ). AreThreaded (joined a (a + n) hs) l × AreSameOutside (joined a (a + n) hs) bytes l) (sym second)
         (put_done r.lo r.hi a (a + n) hs bytes c.0 c.1 c.2 c.3 c.4 c.5 some low_8 high_8 roomy.small inside thread)

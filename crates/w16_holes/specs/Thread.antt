@@ -71,8 +71,7 @@ stays last [] old new long same kept = tt
 stays last (h ∷ hs) old new long same kept =
     let w = kept.0 in
     let fits = room h.from h.to w.low w.high w.some in
-    let inside = w.inside in
-    (
+    let inside = w.inside in (
       record {
         low = w.low;
         high = w.high;
