@@ -57,10 +57,16 @@ fn threaded_holes(rt: HostRuntime) -> Result<(), Fail> {
 fn holes_lie_in_their_own_bytes(rt: HostRuntime) -> Result<(), Fail> {
     let mut space = Region::new(rt.alloc(), 256)?;
     let mut holes = ThreadedHoles::new(rt.alloc(), &mut space, 0, 256, 32)?;
-    assert_eq!(rt; space.view(0, 8), [0, 1, 0, 0, 255, 255, 255, 255]);
+    assert_eq!(rt;
+        space.view(0, 8),
+        [0, 1, 0, 0, 255, 255, 255, 255].as_slice()
+    );
     holes.take(&mut space, 64, 32);
-    assert_eq!(rt; space.view(0, 8), [64, 0, 0, 0, 96, 0, 0, 0]);
-    assert_eq!(rt; space.view(96, 8), [160, 0, 0, 0, 255, 255, 255, 255]);
+    assert_eq!(rt; space.view(0, 8), [64, 0, 0, 0, 96, 0, 0, 0].as_slice());
+    assert_eq!(rt;
+        space.view(96, 8),
+        [160, 0, 0, 0, 255, 255, 255, 255].as_slice()
+    );
     assert_eq!(rt; space.written(), 0);
     Ok(())
 }
