@@ -1,5 +1,5 @@
 -- An arena before anything is allocated.
-use Rattle.std.proofs.Common.{◌≡◌, ℕ, zero, suc, ◌≤◌, IfSome, Bool, List, [], length, get_or, replicate, Option, None, refl, sym, ap, ◌∙◌, subst, arith}
+use Rattle.std.proofs.Common.{◌≡◌, ℕ, zero, suc, ◌≤◌, IfSome, [], length, get_or, replicate, Option, None, refl, sym, ap, ◌∙◌, subst, arith}
 use Rattle.std.proofs.lemmas.List.{length-replicate}
 use Rattle.w16_model.specs.declared.Entry.{Entry}
 use Rattle.w16_model.specs.Heap.{IsMultiple}
@@ -40,7 +40,7 @@ module _ (cap lo hi grain : ℕ) (bounds : lo ≤ hi) (grained : IsMultiple grai
   pub sound : IsSound (empty_table cap lo hi grain)
   sound = sound_of (replicate cap none) (fresh cap lo hi grain) [] arranged (λ q x e. cc) listed (each (IsCountedBy None))
 
-  pub fresh_kept : (marks : List Bool) → length marks ≡ cap → (room : ℕ) → cap ≤ room → IsKept (replicate cap none) (fresh cap lo hi grain) (no_uses cap) marks room
-  fresh_kept marks marked room enough =
+  pub fresh_kept : (gap_rooms : ℕ) → gap_rooms ≡ cap → (room : ℕ) → cap ≤ room → IsKept (replicate cap none) (fresh cap lo hi grain) (no_uses cap) gap_rooms room
+  fresh_kept gap_rooms told room enough =
       let many : length (replicate cap none) ≡ cap = length-replicate cap none in
-      record { sound = sound; ids = sym many; ordered = sym many; marked = marked ∙ sym many; enough = omega arith }
+      record { sound = sound; ids = sym many; ordered = sym many; told = told ∙ sym many; enough = omega arith }

@@ -1,5 +1,5 @@
 -- What the call for a place leaves kept and answers.
-use Rattle.std.proofs.Common.{◌≡◌, ℕ, ◌+◌, ◌<◌, ◌≤◌, Bool, false, if◌then◌else◌, All, List, length, set, Option, Some, None, ap, ◌∙◌, arith}
+use Rattle.std.proofs.Common.{◌≡◌, ℕ, ◌+◌, ◌<◌, ◌≤◌, false, if◌then◌else◌, All, List, length, set, Option, Some, None, ap, ◌∙◌, arith}
 use Rattle.std.proofs.lemmas.List.{length-set}
 use Rattle.w16_model.specs.declared.Entry.{Entry}
 use Rattle.w16_model.specs.declared.Hold.{Hold}
@@ -25,7 +25,7 @@ use Rattle.w16_arena.proofs.Shown.{known, told}
 use Rattle.w16_arena.proofs.Standing as standing
 use Rattle.w16_compact.proofs.Rests.{rest_more}
 
-module _ {entries : List (Option Entry)} {layout : Layout} {uses : Uses} {marks : List Bool} {room : ℕ} (kept : IsKept entries layout uses marks room)
+module _ {entries : List (Option Entry)} {layout : Layout} {uses : Uses} {gap_rooms : ℕ} {room : ℕ} (kept : IsKept entries layout uses gap_rooms room)
     {discarded : List ℕ} {old : ArenaState} (shown : state_of entries layout uses.ids discarded ≡ old)
     (memory : List ℕ) (bytes : All (λ b. b < 256) memory) (inside : old.table.hi ≤ length memory)
     (id n : ℕ) (kind : Kind) (way : Way) (below : id < length old.table.entries) (none : block_with old.table.blocks id ≡ None) (some : 0 < n) (rounded : IsMultiple old.table.grain n)
@@ -63,7 +63,7 @@ module _ {entries : List (Option Entry)} {layout : Layout} {uses : Uses} {marks 
         ap (λ (l : Layout). l.cap) value ∙ ap (λ (l : Layout). l.cap) moved.same,
       )
 
-      pub kept_placed : IsKept (set entries id (Some entry)) new uses' marks room
+      pub kept_placed : IsKept (set entries id (Some entry)) new uses' gap_rooms room
       kept_placed = kept_with kept (set entries id (Some entry)) new uses' parts_after.sound (length-set entries id (Some entry)) same.3 (ap (λ (u : Uses). u.cap) uses_is)
 
       pub stands_placed : p.moved ≡ moved_between layout.blocks mid.blocks → Stands (heap_in old.table memory) id n kind way p (heap_of (set entries id (Some entry)) new uses'.ids after)

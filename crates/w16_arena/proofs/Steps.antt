@@ -50,25 +50,25 @@ reordered_sound entries layout order uses sound same once = record {
   counted = sound.counted;
 }
 
-module _ {entries : List (Option Entry)} {layout : Layout} {uses : Uses} {marks : List Bool} {room : ℕ} (kept : IsKept entries layout uses marks room) where
+module _ {entries : List (Option Entry)} {layout : Layout} {uses : Uses} {gap_rooms : ℕ} {room : ℕ} (kept : IsKept entries layout uses gap_rooms room) where
   -- beside any memory that has the range
   pub beside : (memory : List ℕ) → layout.hi ≤ length memory → AreParts entries layout uses.ids memory
   beside memory high = record { sound = kept.sound; ids = kept.ids; high = high }
 
   -- with other entries, blocks and uses, for as many ids
   pub kept_with : (entries' : List (Option Entry)) (layout' : Layout) (uses' : Uses) → IsSound (table_of entries' layout' uses'.ids) → length entries' ≡ length entries → layout'.cap ≡ layout.cap → uses'.cap ≡ uses.cap
-      → IsKept entries' layout' uses' marks room
+      → IsKept entries' layout' uses' gap_rooms room
   kept_with entries' layout' uses' sound many cap ucap = record {
     sound = sound;
     ids = cap ∙ kept.ids ∙ sym many;
     ordered = ucap ∙ kept.ordered ∙ sym many;
-    marked = kept.marked ∙ sym many;
+    told = kept.told ∙ sym many;
     enough = let e = kept.enough in omega arith;
   }
 
-  -- with other marks
-  pub kept_marked : {others : List Bool} → length others ≡ length marks → IsKept entries layout uses others room
-  kept_marked same = record { sound = kept.sound; ids = kept.ids; ordered = kept.ordered; marked = same ∙ kept.marked; enough = kept.enough }
+  -- with another table of as many ids
+  pub kept_beside : {other : ℕ} → other ≡ gap_rooms → IsKept entries layout uses other room
+  kept_beside same = record { sound = kept.sound; ids = kept.ids; ordered = kept.ordered; told = same ∙ kept.told; enough = kept.enough }
 
   module _ {discarded : List ℕ} {old : ArenaState} (shown : state_of entries layout uses.ids discarded ≡ old) where
     -- a step to a sound table over the same range

@@ -25,6 +25,7 @@ pub use requests::NoRoom;
 use std::alloc::{AllocError, Global};
 use std::marker::Model;
 use w16_blocks::Blocks;
+use w16_compact::GapRooms;
 use w16_holes::{HoleList, Holes};
 use w16_lru::Order;
 use w16_model::{Block, Entry, Span};
@@ -39,8 +40,8 @@ pub struct Arena<H: HoleList> {
     pub(crate) blocks: Blocks<H>,
     /// The discardable objects with bytes.
     pub(crate) order: Order,
-    /// A mark for each id, for the search of those to discard.
-    pub(crate) marks: Vec<bool>,
+    /// For the search of those to discard.
+    pub(crate) gap_rooms: GapRooms,
     /// What the last request discarded.
     pub(crate) discarded: Vec<u32>,
 }
@@ -54,7 +55,7 @@ impl<H: HoleList> Model for Arena<H> {
 
     ghost view = { λ s. record { table = table_of s.entries.items s.blocks s.order.ids; discarded = s.discarded.items } };
 
-    ghost invariant = { λ s. IsKept s.entries.items s.blocks s.order s.marks.items (vec_capacity s.discarded) };
+    ghost invariant = { λ s. IsKept s.entries.items s.blocks s.order s.gap_rooms (vec_capacity s.discarded) };
 }
 
 impl<H: HoleList> Arena<H> {
@@ -80,13 +81,13 @@ impl<H: HoleList> Arena<H> {
         let entries = vec![in alloc; None; cap as usize]?;
         let blocks = Blocks::with_room(alloc, cap, holes, lo, hi, grain)?;
         let order = Order::with_room(alloc, cap)?;
-        let marks = vec![in alloc; false; cap as usize]?;
+        let gap_rooms = GapRooms::with_room(alloc, cap)?;
         let discarded = Vec::with_capacity(alloc, cap as usize)?;
         Ok(Arena {
             entries,
             blocks,
             order,
-            marks,
+            gap_rooms,
             discarded,
         })
     }

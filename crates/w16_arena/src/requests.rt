@@ -170,7 +170,7 @@ impl<H: HoleList> Arena<H> {
         ensures same { self.new ≡ self.old }
         ensures sound { IsSound self.old.table }
     {
-        least_prefix(&self.blocks, space, &self.order, &mut self.marks, h, n)
+        least_prefix(&self.blocks, space, &self.order, &mut self.gap_rooms, h, n)
     }
 
     /// How many objects may be discarded at most.

@@ -15,7 +15,7 @@ use crate::Arena;
 use crate::new_place::{NOTHING, Placed, clear_if, insert, make_room};
 use crate::objects::{hold, is_discardable};
 use w16_blocks::{Block, Blocks};
-use w16_compact::room_after;
+use w16_compact::{GapRooms, room_after};
 use w16_holes::{HoleList, Holes};
 use w16_lru::Order;
 use w16_model::{Entry, Kind, Span, Way};
@@ -90,7 +90,7 @@ impl<H: HoleList> Arena<H> {
         ensures written { S.written space.new ≡ counted (S.written space.old) result.moved }
     {
         has_bytes(space);
-        let room = room_now(&self.blocks, space, &self.order, &mut self.marks);
+        let room = room_now(&self.blocks, space, &self.order, &mut self.gap_rooms);
         if room == 0 {
             return Compacted {
                 room,
@@ -117,7 +117,14 @@ impl<H: HoleList> Arena<H> {
         ensures same { self.new ≡ self.old }
     {
         let all = self.order.len();
-        room_after(&self.blocks, space, &self.order, &mut self.marks, None, all)
+        room_after(
+            &self.blocks,
+            space,
+            &self.order,
+            &mut self.gap_rooms,
+            None,
+            all,
+        )
     }
 }
 
@@ -126,16 +133,16 @@ fn room_now<S: Space, H: Holes<S>>(
     blocks: &Blocks<H>,
     space: &S,
     order: &Order,
-    marks: &mut Vec<bool>,
+    gap_rooms: &mut GapRooms,
 ) -> u32
     requires kept { H.are_in (holes_of blocks.now) (S.bytes space.now) }
     requires ids { order.now.cap ≤ blocks.now.cap }
-    requires marks { blocks.now.cap ≤ length marks.old.items }
+    requires gap_rooms { blocks.now.cap ≤ gap_rooms.old }
     ensures value { result ≡ room blocks.now.lo blocks.now.hi blocks.now.blocks }
-    ensures length { length marks.new.items ≡ length marks.old.items }
+    ensures gap_rooms { gap_rooms.new ≡ gap_rooms.old }
     ensures ordered { IsOrdered blocks.now }
 {
-    room_after(blocks, space, order, marks, None, 0)
+    room_after(blocks, space, order, gap_rooms, None, 0)
 }
 
 /// A new discardable object with bytes is the newest in the order of use; another isn't in it.

@@ -118,7 +118,7 @@ fn apply_all(alloc: Global, scratch: &Scratch, turns: u32) -> Result<u8> {
     Ok(bytes.first().copied().unwrap_or(0))
 }
 
-/// Times both for such a segment.
+/// Times both for such a segment. The first check in a scratch stands apart: it takes its pages from the system.
 fn run(rt: &(impl Clock + Eprint), alloc: Global, name: &str, load: Load, turns: u32) -> Result<u8>
     requires sites { load.sites ≤ 16000 }
     requires chains { load.chains ≤ load.sites }
@@ -130,6 +130,14 @@ fn run(rt: &(impl Clock + Eprint), alloc: Global, name: &str, load: Load, turns:
     let module = read_module(alloc, &mut store, FILE)?;
     let mut scratch = Scratch::new(alloc)?;
     eprintln!(rt; "{name}:")?;
+    let start = Instant::now(rt)?;
+    check_all(&mut store, &module, &mut scratch, 1)?;
+    tell(
+        rt,
+        "check a site, in a new scratch",
+        start,
+        u64::from(sites),
+    )?;
     let start = Instant::now(rt)?;
     check_all(&mut store, &module, &mut scratch, turns)?;
     tell(

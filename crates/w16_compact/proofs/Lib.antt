@@ -9,7 +9,8 @@ pub mod Skips
 pub mod ByAddress
 pub mod Walked
 pub mod Cleared
-pub mod Marks
 pub mod PinnedIds
 pub mod Searched
-pub mod Halved
+pub mod Told
+pub mod Filled
+pub mod Widened

@@ -1,14 +1,13 @@
 -- Room by one pass over the blocks by address.
-use Rattle.std.proofs.Common.{◌≡◌, ℕ, ◌+◌, ◌-◌, ◌<◌, ◌≤◌, max, min, Bool, true, false, cond, not, ◌&&◌, nat_le, nat_lt, IsTrue, List, [], ◌∷◌, map, filter, sum_by, refl, ap, ◌∙◌, arith, Option, Some, None, is_some, is_none, MatchOption, sym, inl, inr, zero-add, le-leb, lt-ltb}
-use Rattle.std.proofs.lemmas.Bool.{false≢true, and_left, lt-leb, le-ltb, and_right, cond-true, cond-false, and_from}
+use Rattle.std.proofs.Common.{◌≡◌, ℕ, ◌+◌, ◌-◌, ◌<◌, ◌≤◌, max, min, Bool, true, false, cond, not, ◌&&◌, nat_le, nat_lt, IsTrue, List, [], ◌∷◌, map, filter, sum_by, refl, ap, ◌∙◌, arith, None, zero-add, le-leb, lt-ltb}
+use Rattle.std.proofs.lemmas.Bool.{and_left, lt-leb, le-ltb, and_right, cond-true, cond-false, and_from}
 use Rattle.std.specs.Ordering.{ord_max, nat_cmp}
-use Rattle.std.proofs.lemmas.Bool.Decides.{nat_tests, eqb_tells}
+use Rattle.std.proofs.lemmas.Bool.Decides.{nat_tests}
 use Rattle.std.proofs.lemmas.List.Sums.{sum_by-cons}
 use Rattle.w16_model.specs.declared.Block.{Block}
 use Rattle.std.specs.List.{AllByRecursion as Each}
 use Rattle.w16_model.proofs.Gaps.{Each-map, Each-of_map, Each-filter}
 use Rattle.w16_model.proofs.Longest.{sum_filter}
-use Rattle.w16_model.specs.Table.{block_with}
 use Rattle.w16_model.specs.Discards.{blocks_without, room_for, snapshot}
 use Rattle.w16_model.specs.Gap.{is_pinned, is_loose, block_end, begins_in, first_from, loose_bytes, largest, room_from, room, IsLaid}
 use Rattle.w16_blocks.proofs.Ordered.{sum_fits}
@@ -162,22 +161,3 @@ room_whole lo hi xs order = ap (room lo hi) (none_out_all xs)
 -- so where the free bytes are fewer than n, so is the room
 pub too_few : (lo hi n free : ℕ) (xs : List Block) → IsLaid lo hi xs → free ≡ hi - lo - sum_by (λ (x : Block). x.size) xs → free < n → room lo hi xs < n
 too_few lo hi n free xs laid is few = let fit = room_fits lo hi xs laid in omega arith
-
--- nothing is left out where h has no block
-none_out : (id : ℕ) (xs : List Block) → block_with xs id ≡ None → blocks_without xs [] (Some id) ≡ xs
-none_out id [] none = refl
-none_out id (x ∷ xs) none = elim (eqb_tells x.id id) [
-  | inl same ↦ let some : Some x ≡ None = rw same.0 at none in absurd (false≢true (sym (ap is_some some)))
-  | inr other ↦ let rest : block_with xs id ≡ None = rw other.0 at none in rw other.0 (ap (λ ys. x ∷ ys) (none_out id xs rest))
-]
-
-pub too_few_for : (lo hi n free : ℕ) (xs : List Block) (order : List ℕ) (h : Option ℕ) (absent : Bool) → MatchOption h (absent ≡ true) (λ id. absent ≡ is_none (block_with xs id)) → absent ≡ true
-    → IsLaid lo hi xs → free ≡ hi - lo - sum_by (λ (x : Block). x.size) xs → free < n → room_for (snapshot lo hi xs order) 0 h < n
-too_few_for lo hi n free xs order None absent told so laid is few = let fit = too_few lo hi n free xs laid is few in let whole = room_whole lo hi xs order in omega arith
-too_few_for lo hi n free xs order (Some id) absent told so laid is few =
-    let fit = too_few lo hi n free xs laid is few in
-    let whole : room_for (snapshot lo hi xs order) 0 (Some id) ≡ room lo hi xs = ap (room lo hi) (none_out id xs (no_block (block_with xs id) (sym told ∙ so))) in omega arith
-  where
-    no_block : (o : Option Block) → is_none o ≡ true → o ≡ None
-    no_block None e = refl
-    no_block (Some x) e = absurd (false≢true e)

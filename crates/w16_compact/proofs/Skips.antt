@@ -31,7 +31,7 @@ each_here P [] x rest (suc i) here each = cc
 each_here P (y ∷ ys) x rest (suc i) here each = each_here P ys x rest i here each.1
 
 -- some of the laid blocks are laid
-laid_filter : (p : Block → Bool) (lo hi : ℕ) (xs : List Block) → IsLaid lo hi xs → IsLaid lo hi (filter p xs)
+pub laid_filter : (p : Block → Bool) (lo hi : ℕ) (xs : List Block) → IsLaid lo hi xs → IsLaid lo hi (filter p xs)
 laid_filter p lo hi [] h = h
 laid_filter p lo hi (x ∷ xs) h =
     let rest : IsLaid (block_end x) hi (filter p xs) = laid_filter p (block_end x) hi xs h.2 in
@@ -92,6 +92,14 @@ module _ (p : Block → Bool) (hi : ℕ) (xs : List Block) (total : ℕ) where
         } in
         let is : r' ≡ record { low = r.low; loose = r.loose + x.size } = q ∙ cond-false (is_pinned x) _ _ k in
         subst (λ (v : Reached). IsPassed (i + 1) most' v.low v.loose) (sym is) (subst (λ (v : ℕ). IsPassed (i + 1) v r.low (r.loose + x.size)) (sym m) now')
+
+  -- behind the last block
+  module _ (i : ℕ) (none : drop i xs ≡ []) (most : ℕ) (r : Reached) (now : IsPassed i most r.low r.loose) where
+    pub ends_now_all : r.low + r.loose ≤ hi
+    ends_now_all = subst (IsLaid (r.low + r.loose) hi) none now.laid
+
+    pub passed_end : (result : ℕ) → result ≡ max most (hi - r.low - r.loose) → result ≡ total
+    passed_end result is = is ∙ subst (λ (ys : List Block). scan hi most r.low r.loose (filter p ys) ≡ total) none now.same
 
 pub passed_start : (p : Block → Bool) (lo hi : ℕ) (xs : List Block) → IsLaid lo hi xs → IsPassed p hi xs (room lo hi (filter p xs)) 0 0 lo 0
 passed_start p lo hi xs laid = record {

@@ -6,15 +6,17 @@
 //! - [`least_prefix`] tells how many discards it takes first, [`room_after`] how much room a number of them leaves, and [`is_eligible`]
 //!   which objects they may be.
 //!
-//! No call takes memory. What is proved of them is stated over `w16_model`'s gaps and holes.
+//! No call but [`GapRooms::with_room`] takes memory. What is proved of them is stated over `w16_model`'s gaps and holes.
 #![tactic(auto)]
 
+mod gap_rooms;
 mod gaps;
 mod prefix;
 mod reach;
 mod rooms;
 mod slide;
 
+pub use gap_rooms::GapRooms;
 pub use gaps::{Gap, gap_for};
 pub use prefix::{is_eligible, least_prefix, room_after};
 pub use rooms::room;

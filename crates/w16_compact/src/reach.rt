@@ -1,6 +1,7 @@
 //! How far a pass over the blocks by address has come.
 ghost use Rattle.std.specs.Prelude.{◌≡◌, ◌+◌, ◌-◌, ◌<◌, ◌≤◌, ◌^◌, if◌then◌else◌};
 ghost use Rattle.w16_model.specs.Gap.{block_end, is_pinned};
+ghost use Rattle.w16_model.specs.Discards.{is_about};
 
 use w16_blocks::{Block, Hold};
 
@@ -46,4 +47,11 @@ pub(crate) fn is_pinned(block: &Block) -> bool
     ensures { result ≡ is_pinned block.now }
 {
     block.hold == Hold::Pinned
+}
+
+/// Whether a request about `h` is about an id.
+pub(crate) fn is_about(h: Option<u32>, id: u32) -> bool
+    ensures { result ≡ is_about h id }
+{
+    h == Some(id)
 }

@@ -1,5 +1,5 @@
 -- Requests discard as few as they can, by the laws on what is needed and on what others keep.
-use Rattle.std.proofs.Common.{◌≡◌, ℕ, ◌-◌, ◌<◌, ◌⊎◌, inl, inr, Bool, true, false, cond, not, ◌||◌, ◌&&◌, ◌==◌, nat_le, List, take, Option, Some, None, refl, sym, ap, ◌∙◌, subst, arith, leb-false, ne_eqb, MatchBool, unwrap_or}
+use Rattle.std.proofs.Common.{◌≡◌, ℕ, ◌<◌, ◌⊎◌, inl, inr, Bool, true, false, cond, not, ◌||◌, ◌&&◌, ◌==◌, nat_le, List, take, Option, Some, None, refl, sym, ap, ◌∙◌, subst, arith, leb-false, ne_eqb, MatchBool, unwrap_or}
 use Rattle.std.proofs.lemmas.Bool.{false≢true}
 use Rattle.w16_model.specs.declared.Block.{Block}
 use Rattle.w16_model.specs.declared.Kind.{Kind}
@@ -11,7 +11,7 @@ use Rattle.w16_model.specs.Discards.{eligible, blocks_without, is_member, is_abo
 use Rattle.w16_model.specs.Heap.{Heap, IsHeap, blocks}
 use Rattle.w16_model.specs.Changes.{with_newest}
 use Rattle.w16_model.specs.Request.{Request, IsNew, Allocates, MakesRoom, compaction_prefix, eligible_count, most_room, prefix_of, snapshot_of}
-use Rattle.w16_model.specs.Handles.{Handles, AreHandles, handle_of}
+use Rattle.w16_model.specs.Handles.{Handles, handle_of}
 use Rattle.w16_model.specs.OneObject.{Enters}
 use Rattle.w16_model.specs.Calls.{IsRefusedAlloc, IsEmptyFixed, IsTooLong, HasNoSlot, kind_asked, way_asked, rounded_size, is_absent_asked, has_flag}
 use Rattle.w16_model.specs.declared.TheConstants.{GMEM_MOVEABLE}
@@ -23,11 +23,11 @@ use Rattle.w16_model.proofs.Starts.{hole_is_longest}
 use Rattle.w16_model.proofs.Others.{others_law}
 
 module _ (old : Heap) (is : IsHeap old) (n : ℕ) (h : Option ℕ) where
-  abbrev longest : ℕ
+  abbrev pub longest : ℕ
   longest = longest_hole old.lo old.hi (blocks old)
 
   -- the number of discards, by whether others may slide and may be discarded
-  abbrev number : Bool → Bool → Option ℕ
+  abbrev pub number : Bool → Bool → Option ℕ
   number compact discard = cond (not compact) (none_discarded_if (nat_le n longest)) (cond (not discard) (none_discarded_if (nat_le n (room_for (snapshot_of old) 0 h))) (needed (snapshot_of old) n h))
 
   too_long : (m : ℕ) → none_discarded_if (nat_le n m) ≡ None → m < n
@@ -42,7 +42,7 @@ module _ (old : Heap) (is : IsHeap old) (n : ℕ) (h : Option ℕ) where
   none_if false k e = cc
 
   -- where there is none, there is no room
-  lacking : (way : Way) (compact discard : Bool) → way.compact ≡ compact → way.discard ≡ discard → number compact discard ≡ None → LacksRoom old h n way
+  pub lacking : (way : Way) (compact discard : Bool) → way.compact ≡ compact → way.discard ≡ discard → number compact discard ≡ None → LacksRoom old h n way
   lacking way false discard c d none = record {
     hole = λ _ a b hole. let fit = (hole_is_longest old.lo old.hi (blocks old) is.placed).none_longer a b hole in let few = too_long longest none in omega arith;
     slides = λ t. absurd (false≢true (sym c ∙ t));
@@ -60,13 +60,13 @@ module _ (old : Heap) (is : IsHeap old) (n : ℕ) (h : Option ℕ) where
   }
 
   -- where there is one, fewer don't serve
-  fewer_lack : (compact discard : Bool) (k : ℕ) → number compact discard ≡ Some k → (j : ℕ) → j < k → HasNoStretch old j h n
+  pub fewer_lack : (compact discard : Bool) (k : ℕ) → number compact discard ≡ Some k → (j : ℕ) → j < k → HasNoStretch old j h n
   fewer_lack false discard k some j lt = let no_discard = none_if (nat_le n longest) k some in absurd (omega arith)
   fewer_lack true false k some j lt = let no_discard = none_if (nat_le n (room_for (snapshot_of old) 0 h)) k some in absurd (omega arith)
   fewer_lack true true k some j lt = (discards_are_least old.lo old.hi (blocks old) old.order is.placed n h).fewer k j some lt
 
   -- and none is discarded where none may be
-  none_goes : (compact discard : Bool) (k : ℕ) → number compact discard ≡ Some k → (compact ≡ false) ⊎ (discard ≡ false) → k ≡ 0
+  pub none_goes : (compact discard : Bool) (k : ℕ) → number compact discard ≡ Some k → (compact ≡ false) ⊎ (discard ≡ false) → k ≡ 0
   none_goes false discard k some may = none_if (nat_le n longest) k some
   none_goes true false k some may = none_if (nat_le n (room_for (snapshot_of old) 0 h)) k some
   none_goes true true k some (inl f) = absurd (false≢true (sym f))

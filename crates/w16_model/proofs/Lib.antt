@@ -31,3 +31,10 @@ pub mod Answered
 pub mod Outcomes
 pub mod Fewest
 pub mod Cuts
+pub mod LeftOut
+pub mod Replaced
+pub mod KindChanges
+pub mod Growth
+pub mod Reallocations
+pub mod Absence
+pub mod KeptRest

@@ -48,14 +48,14 @@ pinned_block x None pinned held = absurd pinned
 pinned_block x (Some o) pinned held = ap holds_still (held ∙ ap (λ b. cond b Pinned Loose) pinned)
 
 -- what stays for h, if it isn't h's own block
-stays_other : (h : ℕ) (way : Way) (x : Block) → x.id ≢ h → (is_pinned x || not way.compact) ≡ true → stays_for h way x ≡ true
+pub stays_other : (h : ℕ) (way : Way) (x : Block) → x.id ≢ h → (is_pinned x || not way.compact) ≡ true → stays_for h way x ≡ true
 stays_other h way x other t = ap (λ b. not b && (is_pinned x || not way.compact)) (ne_eqb x.id h other) ∙ t
 
 or_left : (a b : Bool) → a ≡ true → (a || b) ≡ true
 or_left true b t = refl
 or_left false b t = absurd (false≢true t)
 
-or_right : (a b : Bool) → b ≡ false → (a || not b) ≡ true
+pub or_right : (a b : Bool) → b ≡ false → (a || not b) ≡ true
 or_right true b t = refl
 or_right false true t = absurd (false≢true (sym t))
 or_right false false t = refl

@@ -3,7 +3,7 @@ use Rattle.std.specs.Prelude.{ℕ, ◌+◌, Bool, true, false, not, ◌&&◌, �
 use Rattle.std.specs.List.{list_any, range_with_len}
 use Rattle.w16_model.specs.declared.Block.{Block}
 use Rattle.w16_model.specs.declared.Way.{Way}
-use Rattle.w16_model.specs.Gap.{is_pinned, room, longest_hole}
+use Rattle.w16_model.specs.Gap.{is_pinned, room, longest_hole, hole_after, block_end}
 
 abbrev pub is_member : ℕ → List ℕ → Bool
 is_member id ids = list_any (λ q. q == id) ids
@@ -53,3 +53,19 @@ abbrev pub prefix_for : Snapshot → ℕ → Option ℕ → Way → Option ℕ
 prefix_for s n h way =
     if not way.compact then none_discarded_if (nat_le n (longest_hole s.lo s.hi s.blocks))
     else (if not way.discard then none_discarded_if (nat_le n (room_for s 0 h)) else needed s n h)
+
+-- Growth of an object h that has bytes, to n.
+
+-- whether the hole directly after it is long enough
+abbrev pub fits_in_place : Snapshot → ℕ → ℕ → Bool
+fits_in_place s n h = elim (find (λ x. x.id == h) s.blocks) [
+  | Some x ↦ nat_le n (x.size + hole_after s.hi s.blocks (block_end x))
+  | None ↦ false
+]
+
+-- The number of discards by which it grows, if it may move and does: h is loose for this, and not counted. With GMEM_NOCOMPACT it fits where
+-- it stands, or in a hole of the new size.
+abbrev pub growth_for : Snapshot → ℕ → ℕ → Way → Option ℕ
+growth_for s n h way =
+    if way.compact then prefix_for s n (Some h) way
+    else none_discarded_if (fits_in_place s n h || nat_le n (longest_hole s.lo s.hi s.blocks))

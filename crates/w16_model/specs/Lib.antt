@@ -12,5 +12,6 @@ pub mod Calls
 pub mod Far
 pub mod Law
 pub mod Fewest
+pub mod Reallocation
 pub mod Table
 pub mod Codes

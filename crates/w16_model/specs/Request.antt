@@ -1,11 +1,11 @@
 -- The steps of a heap that ask for room. They may choose addresses, and what new bytes are where they needn't be zero.
-use Rattle.std.specs.Prelude.{◌≡◌, ℕ, ◌+◌, ◌-◌, ◌<◌, ◌⊎◌, Bool, true, false, not, ◌&&◌, ◌||◌, ◌==◌, if◌then◌else◌, nat_le, IsTrue, List, ◌++◌, length, take, filter, fold, sum_by, All, Option, Some, None, MatchOption, MatchBool, IsSomeAnd, option_map, unwrap_or}
+use Rattle.std.specs.Prelude.{◌≡◌, ℕ, ◌+◌, ◌-◌, ◌<◌, ◌⊎◌, Bool, true, false, not, ◌&&◌, ◌||◌, ◌==◌, nat_le, IsTrue, List, ◌++◌, length, take, filter, fold, sum_by, All, Option, Some, None, MatchOption, MatchBool, IsSomeAnd, option_map, unwrap_or}
 use Rattle.std.specs.FinMap as finmap
 use Rattle.w16_model.specs.declared.Block.{Block}
 use Rattle.w16_model.specs.declared.Kind.{Kind}
 use Rattle.w16_model.specs.declared.Way.{Way}
-use Rattle.w16_model.specs.Gap.{is_pinned, is_any, longest_hole, hole_after, block_end, IsClear}
-use Rattle.w16_model.specs.Discards.{Snapshot, snapshot, eligible, room_for, needed, prefix_for, none_discarded_if}
+use Rattle.w16_model.specs.Gap.{is_pinned, is_any, longest_hole, IsClear}
+use Rattle.w16_model.specs.Discards.{Snapshot, snapshot, eligible, room_for, needed, prefix_for, fits_in_place, growth_for}
 use Rattle.w16_model.specs.Bytes.{repeated}
 use Rattle.w16_model.specs.Heap.{Heap, Object, IsHeap, IsMultiple, blocks, object_at, bytes_at, size_of, is_pinned_object}
 use Rattle.w16_model.specs.Changes.{with_newest, with_object, with_ordered, absent}
@@ -74,20 +74,6 @@ pub record IsGrown (zero : Bool) (n : ℕ) (before o : Object) : Type 0 where
   pub same_locks : o.locks ≡ before.locks
   pub grown : (more : List ℕ) × AreNew zero (n - size_of before) more × (o.bytes ≡ option_map (λ bytes. bytes ++ more) before.bytes)
 
--- the length of the hole directly after an object
-abbrev pub hole_behind : Heap → ℕ → ℕ
-hole_behind heap id = sum_by (λ x. hole_after heap.hi (blocks heap) (block_end x)) (filter (λ x. x.id == id) (blocks heap))
-
--- whether an object may grow to n bytes where it stands
-abbrev pub fits_in_place : Heap → ℕ → Object → ℕ → Bool
-fits_in_place heap id o n = nat_le n (size_of o + hole_behind heap id)
-
--- the number of discards by which an object grows to n bytes by a request, if it does; h is loose for this, and not counted
-abbrev pub growth_prefix : Heap → ℕ → Object → ℕ → Way → Option ℕ
-growth_prefix heap id o n way =
-    if way.compact then prefix_of heap n (Some id) way
-    else none_discarded_if (fits_in_place heap id o n || nat_le n (longest_hole heap.lo heap.hi (blocks heap)))
-
 -- with GMEM_NOCOMPACT an object grows where it stands, or stands in a hole of the new size, which has none of its own bytes
 abbrev pub StaysOrMovesToHole : Heap → ℕ → ℕ → Heap → Type 0
 StaysOrMovesToHole old id n new = IsSomeAnd (finmap.get new.places id) (λ at. (finmap.get old.places id ≡ Some at) ⊎ IsClear is_any old.lo old.hi (blocks old) at (at + n))
@@ -97,10 +83,10 @@ StaysOrMovesToHole old id n new = IsSomeAnd (finmap.get new.places id) (λ at. (
 abbrev pub Grows : Heap → ℕ → Object → ℕ → Way → Bool → Heap → Type 0
 Grows old id o n way answered new =
     MatchBool (is_pinned_object o && not way.may_move)
-    (MatchBool (fits_in_place old id o n)
+    (MatchBool (fits_in_place (snapshot_of old) n id)
     ((answered ≡ true) × ((grown : Object) × IsGrown way.zero n o grown × (new ≡ with_object old id grown)))
     ((answered ≡ false) × (new ≡ old)))
-    (Request old id (record { way = way; prefix = growth_prefix old id o n way; becomes = IsGrown way.zero n o; order = λ _ order. order }) answered new
+    (Request old id (record { way = way; prefix = growth_for (snapshot_of old) n id way; becomes = IsGrown way.zero n o; order = λ _ order. order }) answered new
     × (way.compact ≡ false → answered ≡ true → StaysOrMovesToHole old id n new))
 
 -- The object o of an id to n bytes: an absent one is revived; one that is as long or longer is cut, at its address; another grows.

@@ -1,6 +1,7 @@
 //! The laws of the definitions. Each function does nothing: its contract is the law.
 ghost use Rattle.w16_model.specs.Law.{AreFigures, AreFlags, AddressLaw, OutcomeLaw, GapListLaw, RisingLaw, LongestHoleLaw, HoleAfterLaw, PinnedLaw, LargestLaw, RoomLaw, LongerLaw, LeastLaw, MoreDiscardsLaw, DiscardedLaw, OthersLaw, WalkLaw, SoundLaw, RangeLaw, NamesLaw, EmptyLaw, HandleLaw, FarLaw};
 ghost use Rattle.w16_model.specs.Fewest.{AllocationLaw, CompactionLaw, GlobalAllocLaw, GlobalCompactLaw};
+ghost use Rattle.w16_model.specs.Reallocation.{HeapLaw, KindHeapLaw, DiscardHeapLaw, RestLaw, FewestLaw, MovesLaw, OneOutcomeLaw, KindLaw, LeftOutLaw};
 
 /// The figures of the profile and the flags of the manual are these numbers. Definitions and code share the constants, so only this law
 /// would see a wrong one.
@@ -91,6 +92,45 @@ pub fn pinned_objects_keep_their_address()
 /// An allocation isn't both refused and answered.
 pub fn allocations_have_one_outcome()
     ensures { OutcomeLaw }
+{}
+
+/// A reallocation leaves a heap, answered or not: no two objects share a byte, and the rest. So do a change of kind and a discard.
+pub fn reallocations_leave_a_heap()
+    ensures sizes { HeapLaw }
+    ensures kinds { KindHeapLaw }
+    ensures discards { DiscardHeapLaw }
+{}
+
+/// An answered reallocation gives the object as many bytes as it asks for, the old ones first, and leaves it its kind and its locks. All
+/// others keep theirs but for those that it discards, and each keeps its place in the order of use.
+pub fn reallocations_keep_the_rest()
+    ensures { RestLaw }
+{}
+
+/// A reallocation discards as few objects as it can, whichever way the others slide, and is refused only where the object would get more
+/// bytes and has no place for them.
+pub fn reallocations_discard_fewest()
+    ensures { FewestLaw }
+{}
+
+/// A reallocation moves no fixed or locked object but its own, that one only where it may, and nothing where the object is cut.
+pub fn reallocations_move_little()
+    ensures { MovesLaw }
+{}
+
+/// A reallocation isn't both refused and answered, and a refused one changes nothing.
+pub fn reallocations_have_one_outcome()
+    ensures { OneOutcomeLaw }
+{}
+
+/// A change of kind changes the kind and the order of use alone; a fixed object stays fixed.
+pub fn kinds_change_alone()
+    ensures { KindLaw }
+{}
+
+/// With an object counted as loose and left out, room is the longest free stretch of the arrangements of the others.
+pub fn room_leaves_the_object_out()
+    ensures { LeftOutLaw }
 {}
 
 /// Each heap has a walk, and no other.

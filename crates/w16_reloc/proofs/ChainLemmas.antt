@@ -36,3 +36,18 @@ pub chain_returns : (bytes : List ℕ) (width count i : ℕ) (sites : List Site)
 unfolding chain_at
 chain_returns bytes width count i sites at le =
     let k : count - i ≡ 0 = omega arith in rw k refl
+
+-- The same of a chain's first site.
+pub chain_is_empty : (bytes : List ℕ) (width n : ℕ) (sites : List Site) (at : ℕ) → at ≡ 65535 → chain_at bytes width (n + 1) sites at ≡ Ok sites
+unfolding chain_at
+chain_is_empty bytes width n sites at h = let k : n + 1 ≡ suc n = omega arith in rw (k, h) refl
+
+pub chain_begins : (bytes : List ℕ) (width n : ℕ) (sites more : List Site) (at : ℕ) → nat_eq at 65535 ≡ false → site_at (length bytes) sites (record { at = at; width = width }) ≡ Ok more
+    → chain_at bytes width (n + 1) sites at ≡ chain_at bytes width n more (word_of bytes at)
+unfolding chain_at
+chain_begins bytes width n sites more at on h = let k : n + 1 ≡ suc n = omega arith in rw (k, on, h) refl
+
+pub chain_fails : (bytes : List ℕ) (width n : ℕ) (sites : List Site) (at : ℕ) (e : RelocFault) → nat_eq at 65535 ≡ false → site_at (length bytes) sites (record { at = at; width = width }) ≡ Err e
+    → chain_at bytes width (n + 1) sites at ≡ Err e
+unfolding chain_at
+chain_fails bytes width n sites at e on h = let k : n + 1 ≡ suc n = omega arith in rw (k, on, h) refl

@@ -19,6 +19,28 @@ pub fn word(bytes: &[u8], at: usize) -> u16
     LittleEndian::read_u16(&bytes[at..at + 2])
 }
 
+/// Marks the sites of a chain behind its first, fewer than the data's bytes.
+fn take_links(bytes: &[u8], width: usize, head: u16, marks: &mut [bool]) -> Result<(), RelocFault>
+    requires wide { 2 ≤ width }
+    requires narrow { width ≤ 4 }
+    requires small { length bytes.now ≤ 65536 }
+    requires same { length marks.old ≡ length bytes.now }
+    ensures own { IfErr result IsOfRecords }
+    ensures step { (sites : List Site) → AreMarks sites marks.old
+        → Marks result marks.new (chain_at bytes.now width (length bytes.now) sites head) }
+{
+    let mut at = head;
+    for _ in 0..bytes.len() {
+        if at == END {
+            return Ok(());
+        }
+        take(marks, at as usize, width)?;
+        at = word(bytes, at as usize);
+    }
+    // Each turn took bytes of its own, so there are none left for this.
+    Err(RelocFault::Overlap)
+}
+
 /// Marks the sites of a chain, from its head on.
 pub fn take_chain(
     bytes: &[u8],
@@ -34,14 +56,10 @@ pub fn take_chain(
     ensures step { (sites : List Site) → AreMarks sites marks.old
         → Marks result marks.new (chain_at bytes.now width (length bytes.now + 1) sites head) }
 {
-    let mut at = head;
-    for _ in 0..bytes.len() + 1 {
-        if at == END {
-            return Ok(());
-        }
-        take(marks, at as usize, width)?;
-        at = word(bytes, at as usize);
+    if head == END {
+        return Ok(());
     }
-    // Each turn took bytes of its own, so there are none left for this.
-    Err(RelocFault::Overlap)
+    // Many chains have one site: this one needs no loop.
+    take(marks, head as usize, width)?;
+    take_links(bytes, width, word(bytes, head as usize), marks)
 }

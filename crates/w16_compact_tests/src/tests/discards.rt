@@ -6,7 +6,7 @@ use std::alloc::{AllocError, Global};
 use std::process::Abort;
 use std::test::Fail;
 use w16_blocks::{Block, Blocks, Hold};
-use w16_compact::least_prefix;
+use w16_compact::{GapRooms, least_prefix};
 use w16_holes::SideHoles;
 use w16_lru::Order;
 use w16_model::Snapshot;
@@ -283,21 +283,21 @@ fn in_order(rt: &impl Abort, alloc: Global, ids: &[u32]) -> Result<Order, AllocE
     Ok(order)
 }
 
-/// The least number of discards for a request, which is about an id that there is, or about none.
+/// The least number of discards for a request, about an id or about none.
 fn least<S: Space>(
-    rt: &impl Abort,
     blocks: &Blocks<SideHoles>,
     space: &S,
     order: &Order,
-    marks: &mut [bool; 8],
+    table: &mut GapRooms,
     about: Option<u32>,
     size: u32,
 ) -> Option<usize>
     requires blocks { blocks.now.cap ≡ IDS }
     requires order { order.now.cap ≡ IDS }
+    requires table { table.old ≡ IDS }
+    ensures { table.new ≡ table.old }
 {
-    assert!(rt; about.is_none_or(|id| id < IDS));
-    least_prefix(blocks, space, order, marks, about, size)
+    least_prefix(blocks, space, order, table, about, size)
 }
 
 #[test]
@@ -308,14 +308,13 @@ fn counts_discards(rt: HostRuntime) -> Result<(), Fail> {
         let mut region = Region::new(rt.alloc(), heap.hi)?;
         let blocks = laid_out(&rt, rt.alloc(), *heap, &mut region)?;
         let order = in_order(&rt, rt.alloc(), heap.order)?;
-        for start in [false, true] {
-            let mut marks = [start; 8];
-            for (about, size, expected) in *asked {
-                let plain = heap.needed(rt.alloc(), *size, *about)?;
-                assert_eq!(rt; plain, *expected, "{name}: {size} by the plain program");
-                let found = least(&rt, &blocks, &region, &order, &mut marks, *about, *size);
-                assert_eq!(rt; found, *expected, "{name}: {size}");
-            }
+        let mut table = GapRooms::with_room(rt.alloc(), IDS)?;
+        // From the second on the table has what the search before it left.
+        for (about, size, expected) in *asked {
+            let plain = heap.needed(rt.alloc(), *size, *about)?;
+            assert_eq!(rt; plain, *expected, "{name}: {size} by the plain program");
+            let found = least(&blocks, &region, &order, &mut table, *about, *size);
+            assert_eq!(rt; found, *expected, "{name}: {size}");
         }
     }
     Ok(())

@@ -1,7 +1,7 @@
 use Rattle.std.proofs.Common.{◌<◌, refl, arith}
 use Rattle.w16_arena.proofs.Arranged.{same_moved}
 use Rattle.w16_arena.proofs.Rooms.{no_hole, whole_hole, none_moved}
-use Rattle.w16_arena.proofs.Steps.{kept_marked}
+use Rattle.w16_arena.proofs.Steps.{kept_beside}
 use Rattle.w16_arena.proofs.Together.{kept_slid, rest_slid, slides}
 use Rattle.w16_arena.proofs.Arena.slide_together.Goals as goal
 
@@ -13,7 +13,7 @@ returns-then-room-eq0-clause-slides g c =
     (record { room = room.result; slid = record { from = 0; to = 0 }; moved = 0 }) refl (no_hole room.ensures.ordered room.result room.ensures.value c.if-room-eq0.true) (none_moved _)
 
 pub invariant_of-self-2 : goal.invariant_of-self-2
-invariant_of-self-2 g c = kept_marked (kept_slid c.self.invariant c.self.view_is (g.S.Space.bytes c.args.space.now) c.has_bytes.ensures c.requires.inside c.in-Some.placed.slid c.in-Some.ensures.slid) c.room_now-room.ensures.length
+invariant_of-self-2 g c = kept_beside (kept_slid c.self.invariant c.self.view_is (g.S.Space.bytes c.args.space.now) c.has_bytes.ensures c.requires.inside c.in-Some.placed.slid c.in-Some.ensures.slid) c.room_now-room.ensures.gap_rooms
 
 pub returns-clause-slides : goal.returns-clause-slides
 returns-clause-slides g c =

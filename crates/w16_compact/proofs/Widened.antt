@@ -1,0 +1,165 @@
+-- A walk over what may be discarded, with the table of what is left.
+use Rattle.std.specs.List.{AllByRecursion as Each}
+use Rattle.std.specs.Prelude.{slice_index, MatchOption}
+use Rattle.std.proofs.Common.{◌≡◌, ◌≢◌, ℕ, zero, suc, ◌+◌, ◌<◌, ◌≤◌, max, inl, inr, Bool, true, false, cond, not, ◌||◌, ◌==◌, List, [], ◌∷◌, length, take, drop, set, Option, Some, None, refl, sym, ap, ◌∙◌, subst, arith, add-one, eq-eqb, ne_eqb}
+use Rattle.std.proofs.lemmas.Bool.{and_parts, not-true, not_from_false, or_from}
+use Rattle.std.proofs.lemmas.Bool.Decides.{eqb_tells}
+use Rattle.w16_model.specs.declared.Block.{Block}
+use Rattle.w16_model.specs.Gap.{IsLaid, room, is_pinned}
+use Rattle.w16_model.specs.Discards.{eligible, blocks_without, is_member, is_about, is_pinned_id, room_for, snapshot}
+use Rattle.w16_model.specs.Table.{block_with}
+use Rattle.w16_model.proofs.Gaps.{EachPair, Member, Each-from, Each-map, Each-filter, EachPair-from_AllPairs, pairs_filter, filter_member}
+use Rattle.w16_lru.specs.Uses.{Uses, AreUses}
+use Rattle.w16_blocks.specs.Layout.{Layout, IsOrdered, AreNamed, all_but}
+use Rattle.w16_blocks.proofs.Remove.{all_but_absent, IsLaid-all_but, each_with, with_id}
+use Rattle.w16_compact.specs.Told.{AreTold}
+use Rattle.w16_compact.proofs.Filled.{ids_below, named_filter}
+use Rattle.w16_compact.proofs.OnePass.{scan-room}
+use Rattle.w16_compact.proofs.PinnedIds.{is_pinned_id-some}
+use Rattle.w16_compact.proofs.Searched.{may_go}
+use Rattle.w16_compact.proofs.Skips.{laid_filter}
+use Rattle.w16_compact.proofs.Told.{gap_known, told_fits, told_without, scan_without}
+
+-- One more of some ids.
+swapped : (a b c : Bool) → (a || (b || c)) ≡ (b || (a || c))
+swapped true true c = refl
+swapped true false c = refl
+swapped false b c = refl
+
+more_taken : (k : ℕ) (ids : List ℕ) (id : ℕ) (later : List ℕ) → drop k ids ≡ id ∷ later → (q : ℕ) → is_member q (take (suc k) ids) ≡ ((id == q) || is_member q (take k ids))
+more_taken zero [] id later e q = cc
+more_taken zero (r ∷ ids) id later e q = let same : r ≡ id = cc in ap (λ (s : ℕ). (s == q) || false) same
+more_taken (suc k) [] id later e q = cc
+more_taken (suc k) (r ∷ ids) id later e q = ap (λ b. (r == q) || b) (more_taken k ids id later e q) ∙ swapped (r == q) (id == q) (is_member q (take k ids))
+
+each_dropped : (P : ℕ → Type 0) (k : ℕ) (ids : List ℕ) (id : ℕ) (later : List ℕ) → drop k ids ≡ id ∷ later → Each P ids → P id
+each_dropped P zero ids id later e all = (subst (Each P) e all).0
+each_dropped P (suc k) [] id later e all = cc
+each_dropped P (suc k) (r ∷ ids) id later e all = each_dropped P k ids id later e all.1
+
+not_taken : (k : ℕ) (ids : List ℕ) (id : ℕ) (later : List ℕ) → drop k ids ≡ id ∷ later → EachPair (λ a b. a ≡ b → ⊥) ids → is_member id (take k ids) ≡ false
+not_taken zero ids id later e apart = refl
+not_taken (suc k) [] id later e apart = cc
+not_taken (suc k) (r ∷ ids) id later e apart =
+    ap (λ b. b || is_member id (take k ids)) (ne_eqb r id (each_dropped (λ q. r ≡ q → ⊥) k ids id later e apart.0)) ∙ not_taken k ids id later e apart.1
+
+-- the blocks without one id more
+blocks_more : (ids more : List ℕ) (id : ℕ) (h : Option ℕ) → ((q : ℕ) → is_member q more ≡ ((id == q) || is_member q ids)) → (xs : List Block) → blocks_without xs more h ≡ all_but id (blocks_without xs ids h)
+blocks_more ids more id h each [] = refl
+blocks_more ids more id h each (x ∷ xs) =
+    let ih = blocks_more ids more id h each xs in
+    elim (eqb_tells id x.id) [
+      | inl same ↦
+          ap (λ c. cond {A = List Block} (not (c || is_about h x.id)) (x ∷ blocks_without xs more h) (blocks_without xs more h)) (each x.id ∙ ap (λ c. c || is_member x.id ids) same.0)
+          ∙ ih ∙ sym (gone (not (is_member x.id ids || is_about h x.id)) (eq-eqb x.id id (sym same.1)))
+      | inr other ↦
+          ap (λ c. cond {A = List Block} (not (c || is_about h x.id)) (x ∷ blocks_without xs more h) (blocks_without xs more h)) (each x.id ∙ ap (λ c. c || is_member x.id ids) other.0)
+          ∙ ap (λ (ys : List Block). cond {A = List Block} (not (is_member x.id ids || is_about h x.id)) (x ∷ ys) ys) ih
+          ∙ kept (not (is_member x.id ids || is_about h x.id)) (ne_eqb x.id id (λ e. other.1 (sym e)))
+    ]
+  where
+    gone : (b : Bool) → (x.id == id) ≡ true → all_but id (cond {A = List Block} b (x ∷ blocks_without xs ids h) (blocks_without xs ids h)) ≡ all_but id (blocks_without xs ids h)
+    gone true e = ap (λ c. cond {A = List Block} (not c) (x ∷ all_but id (blocks_without xs ids h)) (all_but id (blocks_without xs ids h))) e
+    gone false e = refl
+
+    kept : (b : Bool) → (x.id == id) ≡ false → cond {A = List Block} b (x ∷ all_but id (blocks_without xs ids h)) (all_but id (blocks_without xs ids h)) ≡ all_but id (cond {A = List Block} b (x ∷ blocks_without xs ids h) (blocks_without xs ids h))
+    kept true e = sym (ap (λ c. cond {A = List Block} (not c) (x ∷ all_but id (blocks_without xs ids h)) (all_but id (blocks_without xs ids h))) e)
+    kept false e = refl
+
+-- an id that has no block
+none_with : (id : ℕ) (xs : List Block) → block_with xs id ≡ None → Each (λ y. y.id ≢ id) xs
+none_with id [] none = tt
+none_with id (x ∷ xs) none = elim (eqb_tells x.id id) [
+  | inl same ↦ let some : Some x ≡ None = rw same.0 at none in cc
+  | inr other ↦ (other.1, none_with id xs (rw other.0 at none))
+]
+
+module _ (l : Layout) (order : List ℕ) (h : Option ℕ) (gap_of : List ℕ) where
+  -- what is left after so many discards
+  abbrev pub left_after : ℕ → List Block
+  left_after k = blocks_without l.blocks (take k (eligible l.blocks order h)) h
+
+  abbrev stays : ℕ → Block → Bool
+  stays k x = not (is_member x.id (take k (eligible l.blocks order h)) || is_about h x.id)
+
+  -- so many are discarded: the table tells of what is left, and this is its room
+  pub record IsReached (k most : ℕ) (rooms : List ℕ) : Type 0 where
+    pub told : AreTold l (left_after k) gap_of rooms
+    pub room_now : most ≡ room_for (snapshot l.lo l.hi l.blocks order) k h
+
+  -- the next one
+  module _ (ordered : IsOrdered l) (once : EachPair (λ a b. a ≡ b → ⊥) order) (k most : ℕ) (rooms : List ℕ) (now : IsReached k most rooms) (id : ℕ) (later : List ℕ)
+      (next : drop k (eligible l.blocks order h) ≡ id ∷ later) (goes : may_go l.blocks h id ≡ true) (many : l.cap < length rooms) where
+    not_gone : is_member id (take k (eligible l.blocks order h)) ≡ false
+    not_gone = not_taken k (eligible l.blocks order h) id later next (pairs_filter (λ a b. a ≡ b → ⊥) (may_go l.blocks h) order once)
+
+    named : AreNamed l.cap (left_after k)
+    named = named_filter (stays k) l.cap l.blocks ordered.named
+
+    laid : IsLaid l.lo l.hi (left_after k)
+    laid = laid_filter (stays k) l.lo l.hi l.blocks ordered.laid
+
+    without : left_after (suc k) ≡ all_but id (left_after k)
+    without = blocks_more (take k (eligible l.blocks order h)) (take (suc k) (eligible l.blocks order h)) id h (more_taken k (eligible l.blocks order h) id later next) l.blocks
+
+    module _ (b : Block) (known : block_with l.blocks id ≡ Some b) where
+      own : b.id ≡ id
+      own = with_id id b l.blocks known
+
+      counted : Member b (left_after k)
+      counted = filter_member (stays k) l.blocks b (each_with (λ y. Member y l.blocks) id b l.blocks known (Each-from (λ y. Member y l.blocks) l.blocks (λ y m. m)))
+          (subst (λ (q : ℕ). not (is_member q (take k (eligible l.blocks order h)) || is_about h q) ≡ true) (sym own)
+          (not_from_false (is_member id (take k (eligible l.blocks order h)) || is_about h id) (or_from (is_member id (take k (eligible l.blocks order h))) (is_about h id) not_gone
+          (not-true (is_about h id) (and_parts (not (is_pinned_id l.blocks id)) (not (is_about h id)) goes).1))))
+
+      loose_one : is_pinned b ≡ false
+      loose_one = sym (is_pinned_id-some l.cap l.blocks id b ordered.named known) ∙ not-true (is_pinned_id l.blocks id) (and_parts (not (is_pinned_id l.blocks id)) (not (is_about h id)) goes).0
+
+      pub known_gap : slice_index gap_of id < length rooms
+      known_gap = subst (λ (q : ℕ). slice_index gap_of q < length rooms) own
+          (gap_known l.hi gap_of rooms (λ q. q < length rooms) l.lo 0 l.cap (left_after k) many
+          (Each-map (λ (y : Block). y.id < l.cap) (λ y. y.id < length rooms) (λ y lt. omega arith) (left_after k) (ids_below l.cap (left_after k) named)) now.told b counted loose_one)
+
+      pub fits_room : slice_index rooms (slice_index gap_of id) + b.size ≤ l.hi
+      fits_room = subst (λ (q : ℕ). slice_index rooms (slice_index gap_of q) + b.size ≤ l.hi) own (told_fits l.hi gap_of rooms l.lo 0 l.cap l.lo (left_after k) laid now.told b counted loose_one)
+
+      others_cap : Each (λ y. y.id ≢ l.cap) (left_after k)
+      others_cap = Each-map (λ (y : Block). y.id < l.cap) (λ y. y.id ≢ l.cap) (λ y lt e. omega arith) (left_after k) (ids_below l.cap (left_after k) named)
+
+      told_now : AreTold l (all_but id (left_after k)) gap_of (set rooms (slice_index gap_of id) (slice_index rooms (slice_index gap_of id) + b.size))
+      told_now = subst (λ (q : ℕ). AreTold l (all_but q (left_after k)) gap_of (set rooms (slice_index gap_of q) (slice_index rooms (slice_index gap_of q) + b.size))) own
+          (told_without l.hi gap_of rooms l.cap b loose_one l.lo 0 l.cap (left_after k) named others_cap many many now.told counted)
+
+      wider_room : room l.lo l.hi (all_but id (left_after k)) ≡ max (room l.lo l.hi (left_after k)) (slice_index rooms (slice_index gap_of id) + b.size)
+      wider_room = subst (λ (q : ℕ). room l.lo l.hi (all_but q (left_after k)) ≡ max (room l.lo l.hi (left_after k)) (slice_index rooms (slice_index gap_of q) + b.size)) own
+          (sym (scan-room l.lo l.hi (all_but b.id (left_after k)) (IsLaid-all_but l.lo l.hi b.id (left_after k) laid))
+          ∙ scan_without l.hi gap_of rooms l.cap b loose_one 0 l.lo 0 l.cap (left_after k) named now.told counted
+          ∙ ap (λ (m : ℕ). max m (slice_index rooms (slice_index gap_of b.id) + b.size)) (scan-room l.lo l.hi (left_after k) laid))
+
+    -- what a widened gap leaves
+    abbrev pub Widens : Option Block → ℕ → List ℕ → Type 0
+    Widens o r rooms' = MatchOption o ((r ≡ 0) × (rooms' ≡ rooms)) (λ b. (r ≡ slice_index rooms (slice_index gap_of id) + b.size) × (rooms' ≡ set rooms (slice_index gap_of id) (slice_index rooms (slice_index gap_of id) + b.size)))
+
+    some_gone : (o : Option Block) → block_with l.blocks id ≡ o → (r : ℕ) (rooms' : List ℕ) → Widens o r rooms' → AreTold l (all_but id (left_after k)) gap_of rooms' × (room l.lo l.hi (all_but id (left_after k)) ≡ max (room l.lo l.hi (left_after k)) r)
+    some_gone None none r rooms' is =
+        let same : all_but id (left_after k) ≡ left_after k = all_but_absent id (left_after k) (Each-filter (λ (y : Block). y.id ≢ id) (stays k) l.blocks (Each-map (λ (y : Block). y.id ≢ id) (λ y. stays k y ≡ true → y.id ≢ id) (λ y f _. f) l.blocks (none_with id l.blocks none))) in
+        let nothing : max (room l.lo l.hi (left_after k)) r ≡ room l.lo l.hi (left_after k) = let zeroth = is.0 in omega arith in (
+          subst (λ (rs : List ℕ). AreTold l (all_but id (left_after k)) gap_of rs) (sym is.1) (subst (λ (ys : List Block). AreTold l ys gap_of rooms) (sym same) now.told),
+          ap (room l.lo l.hi) same ∙ sym nothing,
+        )
+    some_gone (Some b) known r rooms' is = (
+      subst (λ (rs : List ℕ). AreTold l (all_but id (left_after k)) gap_of rs) (sym is.1) (told_now b known),
+      wider_room b known ∙ ap (λ (v : ℕ). max (room l.lo l.hi (left_after k)) v) (sym is.0),
+    )
+
+    pub reached_next : (r : ℕ) (rooms' : List ℕ) → Widens (block_with l.blocks id) r rooms' → (most' : ℕ) → most' ≡ max most r → IsReached (k + 1) most' rooms'
+    reached_next r rooms' is most' best =
+        let both = some_gone (block_with l.blocks id) refl r rooms' is in
+        subst (λ (j : ℕ). IsReached j most' rooms') (sym (add-one k)) (record {
+          told = subst (λ (ys : List Block). AreTold l ys gap_of rooms') (sym without) both.0;
+          room_now = best ∙ ap (λ (m : ℕ). max m r) now.room_now ∙ sym both.1 ∙ ap (room l.lo l.hi) (sym without);
+        })
+
+-- each id of an order is there once
+pub once_each : (uses : Uses) → AreUses uses → EachPair (λ a b. a ≡ b → ⊥) uses.ids
+once_each uses are = EachPair-from_AllPairs (λ a b. a ≡ b → ⊥) uses.ids are.apart

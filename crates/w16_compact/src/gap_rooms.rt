@@ -1,0 +1,114 @@
+//! The room of each gap, in a table.
+ghost use Rattle.std.specs.Prelude.{◌≡◌, ◌+◌, ◌<◌, ◌≤◌, ◌^◌, [], length, slice_index, slice_set, IfOk, MatchOption};
+ghost use Rattle.std.specs.Option.{ForSome};
+ghost use Rattle.w16_model.specs.Gap.{room};
+ghost use Rattle.w16_model.specs.Discards.{blocks_without};
+ghost use Rattle.w16_model.specs.Table.{block_with};
+ghost use Rattle.w16_blocks.specs.Layout.{IsOrdered, holes_of};
+ghost use Rattle.w16_compact.specs.Told.{AreTold};
+
+use crate::reach::{Reached, is_about, is_pinned};
+use std::alloc::{AllocError, Global};
+use std::marker::Model;
+use w16_blocks::Blocks;
+use w16_holes::{HoleList, Holes};
+use w16_region::Space;
+
+/// Memory for the search of those to discard, for the ids below a number. Whatever it holds, each search fills it anew.
+#[derive(Drop)]
+pub struct GapRooms {
+    /// By id, in which gap its loose block lies. A gap has the id of the pinned block before it as its number, and the lowest one the
+    /// number of ids.
+    pub(crate) gap_of: Vec<u32>,
+    /// By a gap's number, its room.
+    pub(crate) rooms: Vec<u32>,
+}
+
+impl Model for GapRooms {
+    ghost use Rattle.std.specs.Prelude.{◌≡◌, ◌+◌, ℕ, vec_len};
+
+    ghost Value = { ℕ };
+
+    ghost view = { λ t. vec_len t.gap_of };
+
+    ghost invariant = { λ t. vec_len t.rooms ≡ vec_len t.gap_of + 1 };
+}
+
+impl GapRooms {
+    /// Takes all memory of a table for the ids below `cap`. An error is that there was none.
+    pub fn with_room(alloc: Global, cap: u32) -> Result<GapRooms, AllocError>
+        ensures { IfOk result (λ made. made ≡ cap) }
+    {
+        let gap_of = vec![in alloc; 0; cap as usize]?;
+        let rooms = vec![in alloc; 0; cap as usize + 1]?;
+        Ok(GapRooms { gap_of, rooms })
+    }
+}
+
+/// Fills a table by one pass over the blocks, `h`'s left out, and answers their room.
+pub(crate) fn fill<S: Space, H: Holes<S>>(
+    blocks: &Blocks<H>,
+    space: &S,
+    gap_of: &mut [u32],
+    rooms: &mut [u32],
+    h: Option<u32>,
+) -> u32
+    requires gap_of { blocks.now.cap ≤ length gap_of.old }
+    requires rooms { blocks.now.cap < length rooms.old }
+    requires kept { H.are_in (holes_of blocks.now) (S.bytes space.now) }
+    ensures value { result ≡ room blocks.now.lo blocks.now.hi (blocks_without blocks.now.blocks [] h) }
+    ensures told { AreTold blocks.now (blocks_without blocks.now.blocks [] h) gap_of.new rooms.new }
+    ensures ordered { IsOrdered blocks.now }
+{
+    let bounds = blocks.bounds();
+    let mut gap = blocks.cap();
+    let mut reached = Reached {
+        low: bounds.from,
+        loose: 0,
+    };
+    let mut most = 0;
+    for block in blocks.by_address(space) {
+        if is_about(h, block.id) {
+            continue;
+        }
+        if !is_pinned(&block) {
+            gap_of[block.id as usize] = gap;
+            reached = reached.passing(&block);
+            continue;
+        }
+        let room = reached.room_to(block.at);
+        rooms[gap as usize] = room;
+        most = most.max(room);
+        gap = block.id;
+        reached = reached.passing(&block);
+    }
+    let room = reached.room_to(bounds.to);
+    rooms[gap as usize] = room;
+    most.max(room)
+}
+
+/// Adds the size of an id's block to the room of its gap, as where it is discarded. Answers that room, and 0 for an id without a block.
+pub(crate) fn widen<H: HoleList>(
+    blocks: &Blocks<H>,
+    gap_of: &[u32],
+    rooms: &mut [u32],
+    id: u32,
+) -> u32
+    requires id { id < blocks.now.cap }
+    requires in_table { id < length gap_of.now }
+    requires gap { ForSome (block_with blocks.now.blocks id) (λ b. slice_index gap_of.now id < length rooms.old) }
+    requires fits { ForSome (block_with blocks.now.blocks id)
+        (λ b. slice_index rooms.old (slice_index gap_of.now id) + b.size < 2 ^ 32) }
+    ensures { let gap = slice_index gap_of.now id in MatchOption (block_with blocks.now.blocks id)
+        ((result ≡ 0) × (rooms.new ≡ rooms.old))
+        (λ b. (result ≡ slice_index rooms.old gap + b.size)
+        × (rooms.new ≡ slice_set rooms.old gap (slice_index rooms.old gap + b.size))) }
+{
+    let Some(block) = blocks.find(id) else {
+        return 0;
+    };
+    let gap = gap_of[id as usize] as usize;
+    let room = rooms[gap] + block.size;
+    rooms[gap] = room;
+    room
+}

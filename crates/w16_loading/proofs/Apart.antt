@@ -1,0 +1,106 @@
+-- A module that others import stays, whoever takes its explicit uses away.
+use Rattle.std.proofs.Common.{◌≡◌, ℕ, ◌-◌, ◌<◌, inl, inr, true, false, cond, not, List, [], ◌∷◌, Option, Some, None, IfSome, IsSomeAnd, is_some, refl, sym, ap, ◌∙◌, subst, arith}
+use Rattle.std.specs.FinMap as finmap
+use Rattle.std.proofs.lemmas.Bool.{cases_eq}
+use Rattle.w16_model.proofs.KeptHeaps.{inserted_here, inserted_other}
+use Rattle.w16_loading.specs.File.{Resource, numbered}
+use Rattle.w16_loading.specs.Modules.{World, Load, Module, Named, module_at, module_in, imports, importers}
+use Rattle.w16_loading.specs.Modules.Named.{Loaded, BuiltIn}
+use Rattle.w16_loading.specs.Free.{Go, used_less, is_left_over, swept}
+use Rattle.w16_loading.specs.Law.{IsWorld, IsLoad, UsesApartLaw}
+use Rattle.w16_loading.proofs.Absences.{all_retained, none_gone, put_same}
+use Rattle.w16_loading.proofs.Importers.{HasImporter, Idle, importer_of, idle_parts, none_idle}
+use Rattle.w16_loading.proofs.Bound.{world_used_less}
+
+-- what a handle names that names a module
+pub loaded_is : (p : Option Named) (m : Module) → module_in p ≡ Some m → p ≡ Some (Loaded m)
+loaded_is None m e = cc
+loaded_is (Some (Loaded n)) m e = let f : n ≡ m = cc in ap (λ (x : Module). Some (Loaded x)) f
+loaded_is (Some (BuiltIn name)) m e = cc
+
+module _ (old : World) (is : IsWorld old) (handle : ℕ) (m : Module) (loaded : finmap.get old.modules handle ≡ Some (Loaded m)) where
+  abbrev less : World
+  less = record old { modules = finmap.insert old.modules handle (Loaded (record m { uses = m.uses - 1 })) }
+
+  is_less : used_less old handle ≡ less
+  is_less = ap (λ p. world_used_less old handle (module_in p)) loaded
+
+  -- its importers still import it, and those of other modules those
+  imported_still : (k : ℕ) → HasImporter old.modules k → HasImporter less.modules k
+  imported_still k h = elim (cases_eq h.who handle) [
+    | inl e ↦ record {
+      who = handle;
+      importer = Loaded (record m { uses = m.uses - 1 });
+      there = inserted_here old.modules handle (Loaded (record m { uses = m.uses - 1 })) handle refl;
+      other = λ f. h.other (e ∙ f);
+      uses = same h.importer (sym h.there ∙ ap (finmap.get old.modules) e ∙ loaded) h.uses;
+    }
+    | inr d ↦ record {
+      who = h.who;
+      importer = h.importer;
+      there = inserted_other old.modules handle (Loaded (record m { uses = m.uses - 1 })) h.who d ∙ h.there;
+      other = h.other;
+      uses = h.uses;
+    }
+  ]
+    where
+      same : (n : Named) → Some n ≡ Some (Loaded m) → imports n k ≡ true → imports (Loaded (record m { uses = m.uses - 1 })) k ≡ true
+      same n e t = let f : n ≡ Loaded m = cc in subst (λ (x : Named). imports x k ≡ true) f t
+
+  -- so none is idle
+  still_used : 0 < importers old.modules handle → (k : ℕ) → Idle less.modules k → ⊥
+  still_used imported k h = elim (cases_eq k handle) [
+    | inl e ↦ h.alone (imported_still k (subst (HasImporter old.modules) (sym e) (importer_of old.modules handle imported)))
+    | inr d ↦ none_idle old is k (record {
+      idle = h.idle;
+      loaded = sym (inserted_other old.modules handle (Loaded (record m { uses = m.uses - 1 })) k d) ∙ h.loaded;
+      unused = h.unused;
+      alone = λ i. h.alone (imported_still k i);
+    })
+  ]
+
+  none_goes : 0 < importers old.modules handle → (gone : List ℕ) (left : World) → Go less gone left → left ≡ less
+  none_goes imported [] left go = go.1
+  none_goes imported (k ∷ gone) left go = absurd (still_used imported k (idle_parts less.modules k go.0))
+
+  -- modules that were there are there
+  there_still : (a : ℕ) → is_some (module_at old.modules a) ≡ true → is_some (module_at less.modules a) ≡ true
+  there_still a t = elim (cases_eq a handle) [
+    | inl e ↦ ap (λ p. is_some (module_in p)) (inserted_here old.modules handle (Loaded (record m { uses = m.uses - 1 })) a e)
+    | inr d ↦ ap (λ p. is_some (module_in p)) (inserted_other old.modules handle (Loaded (record m { uses = m.uses - 1 })) a d) ∙ t
+  ]
+
+  -- and so no resource is left over
+  has_module : (place : ℕ) (P : Resource → Type 0) (p : Option Module) → IsSomeAnd (elim p [ None ↦ None | Some n ↦ numbered n.tables.resources place ]) P → is_some p ≡ true
+  has_module place P None h = absurd h
+  has_module place P (Some n) h = refl
+
+  none_over : (q : ℕ) → is_left_over less q ≡ false
+  none_over q = turn (finmap.get old.loads q) (is.loads q)
+    where
+      turn : (p : Option Load) → IfSome p (IsLoad old q) → elim p [ None ↦ false | Some load ↦ not (is_some (module_at less.modules load.handle)) ] ≡ false
+      turn None h = refl
+      turn (Some load) h = ap not (there_still load.handle (has_module load.place _ (module_at old.modules load.handle) h.resource))
+
+  same_swept : swept less ≡ less
+  same_swept = (λ i. record (none_gone (is_left_over less) less none_over i) { loads = finmap.retain_keys less.loads (λ q. not (is_left_over less q)) })
+      ∙ (λ i. record less { loads = all_retained less.loads (is_left_over less) none_over i })
+
+  unused_same : m.uses ≡ 0 → less ≡ old
+  unused_same e = (λ i. record old { modules = finmap.insert old.modules handle (Loaded (record m { uses = one_less i })) }) ∙ (λ i. record old { modules = put_same old.modules handle (Loaded m) loaded i })
+    where
+      one_less : m.uses - 1 ≡ m.uses
+      one_less = omega (arith, e)
+
+pub uses_apart_law : UsesApartLaw
+uses_apart_law old new handle answer m is at imported f = record {
+  answered = f.answered ∙ ap (λ b. cond b 1 0) (ap (λ (w : World). finmap.contains_key w.modules handle) left ∙ ap is_some (inserted_here old.modules handle (Loaded (record m { uses = m.uses - 1 })) handle refl));
+  less = f.after ∙ ap swept left ∙ same_swept old is handle m loaded ∙ sym (is_less old is handle m loaded);
+  unused = λ e. f.after ∙ ap swept left ∙ same_swept old is handle m loaded ∙ unused_same old is handle m loaded e;
+}
+  where
+    loaded : finmap.get old.modules handle ≡ Some (Loaded m)
+    loaded = loaded_is (finmap.get old.modules handle) m at
+
+    left : f.left ≡ less old is handle m loaded
+    left = none_goes old is handle m loaded imported f.gone f.left (subst (λ (w : World). Go w f.gone f.left) (is_less old is handle m loaded) f.went)

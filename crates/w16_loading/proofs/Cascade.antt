@@ -1,0 +1,97 @@
+-- The order in which unused modules go doesn't matter: what is idle stays so until it goes, and two go in either order.
+use Rattle.std.proofs.Common.{◌≡◌, ◌≢◌, ℕ, inl, inr, ◌⊎◌, Bool, true, not, List, [], ◌∷◌, Option, Some, None, sym, ap, ◌∙◌, subst}
+use Rattle.std.specs.FinMap as finmap
+use Rattle.std.proofs.lemmas.Bool.{false≢true, cases_eq}
+use Rattle.w16_model.specs.Discards.{is_member}
+use Rattle.w16_model.proofs.KeptHeaps.{taken_here, taken_other}
+use Rattle.w16_model.proofs.Prefixes.{filter_swapped}
+use Rattle.w16_loading.specs.Modules.{World, Module, Named, module_in, is_idle}
+use Rattle.w16_loading.specs.Modules.Named.{Loaded}
+use Rattle.w16_loading.specs.Release.{without_objects}
+use Rattle.w16_loading.specs.Free.{Go, without_module}
+use Rattle.w16_loading.specs.Law.{OneEndLaw}
+use Rattle.w16_loading.proofs.Absences.{retained_swapped, removed_swapped}
+use Rattle.w16_loading.proofs.Importers.{HasImporter, Idle, idle_parts, is_then_idle}
+use Rattle.w16_loading.proofs.Bound.{world_without}
+
+-- the world without a module that is there
+abbrev gone_with : World → ℕ → Module → World
+gone_with world handle m = let left = without_objects (λ q. is_member q m.slots) world in record left { modules = finmap.remove left.modules handle }
+
+went : (world : World) (handle : ℕ) (m : Module) → finmap.get world.modules handle ≡ Some (Loaded m) → without_module world handle ≡ gone_with world handle m
+went world handle m e = ap (λ p. world_without world handle (module_in p)) e
+
+-- what is idle stays idle until it goes
+stays_idle : (world : World) (handle k : ℕ) (m : Module) → k ≢ handle → Idle world.modules k → Idle (gone_with world handle m).modules k
+stays_idle world handle k m d h = record {
+  idle = h.idle;
+  loaded = taken_other world.modules handle k d ∙ h.loaded;
+  unused = h.unused;
+  alone = λ i. h.alone (record { who = i.who; importer = i.importer; there = before i; other = i.other; uses = i.uses });
+}
+  where
+    before : (i : HasImporter (finmap.remove world.modules handle) k) → finmap.get world.modules i.who ≡ Some i.importer
+    before i = elim (cases_eq i.who handle) [
+      | inl e ↦ absurd (none (sym (taken_here world.modules handle i.who e) ∙ i.there))
+      | inr f ↦ sym (taken_other world.modules handle i.who f) ∙ i.there
+    ]
+      where
+        none : ◌≡◌ {A = Option Named} None (Some i.importer) → ⊥
+        none e = cc
+
+-- two go in either order
+swapped : (world : World) (a b : ℕ) (m n : Module) → gone_with (gone_with world a m) b n ≡ gone_with (gone_with world b n) a m
+swapped world a b m n = λ i. record world {
+  handles = record world.handles {
+    heap = record world.handles.heap {
+      objects = retained_swapped world.handles.heap.objects in_m in_n i;
+      places = retained_swapped world.handles.heap.places in_m in_n i;
+      order = filter_swapped (λ q. not (in_n q)) (λ q. not (in_m q)) world.handles.heap.order i;
+    };
+    attributes = retained_swapped world.handles.attributes in_m in_n i;
+  };
+  owned = retained_swapped world.owned in_m in_n i;
+  modules = removed_swapped world.modules a b i;
+}
+  where
+    in_m : ℕ → Bool
+    in_m q = is_member q m.slots
+
+    in_n : ℕ → Bool
+    in_n q = is_member q n.slots
+
+-- what is idle may go first
+goes_first : (old : World) (k : ℕ) → Idle old.modules k → (xs : List ℕ) (end : World) → Go old xs end → (rest : List ℕ) × Go (without_module old k) rest end
+goes_first old k idle [] end go = absurd (false≢true (sym (go.0 k) ∙ is_then_idle old.modules k idle))
+goes_first old k idle (x ∷ xs) end go = turn (λ later. goes_first (without_module old x) k later xs end go.1) (cases_eq k x)
+  where
+    first : Idle old.modules x
+    first = idle_parts old.modules x go.0
+
+    turn : (Idle (without_module old x).modules k → (rest : List ℕ) × Go (without_module (without_module old x) k) rest end) → (k ≡ x) ⊎ (k ≢ x) → (rest : List ℕ) × Go (without_module old k) rest end
+    turn again (inl e) = (xs, subst (λ h. Go (without_module old h) xs end) (sym e) go.1)
+    turn again (inr d) =
+        let later : Idle (without_module old x).modules k = subst (λ (w : World). Idle w.modules k) (sym (went old x first.idle first.loaded)) (stays_idle old x k first.idle d idle) in
+        let rest : (rest : List ℕ) × Go (without_module (without_module old x) k) rest end = again later in
+        let sooner : Idle (gone_with old k idle.idle).modules x = stays_idle old k x idle.idle (λ e. d (sym e)) first in
+        let same : without_module (without_module old x) k ≡ without_module (without_module old k) x = both_ways later sooner in (
+          x ∷ rest.0,
+          (
+            subst (λ (w : World). is_idle w.modules x ≡ true) (sym (went old k idle.idle idle.loaded)) (is_then_idle (gone_with old k idle.idle).modules x sooner),
+            subst (λ (w : World). Go w rest.0 end) same rest.1,
+          ),
+        )
+      where
+        both_ways : Idle (without_module old x).modules k → Idle (gone_with old k idle.idle).modules x → without_module (without_module old x) k ≡ without_module (without_module old k) x
+        both_ways later sooner =
+            ap (λ (w : World). without_module w k) (went old x first.idle first.loaded)
+            ∙ went (gone_with old x first.idle) k idle.idle (taken_other old.modules x k d ∙ idle.loaded)
+            ∙ swapped old x k first.idle idle.idle
+            ∙ sym (ap (λ (w : World). without_module w x) (went old k idle.idle idle.loaded) ∙ went (gone_with old k idle.idle) x first.idle (taken_other old.modules k x (λ e. d (sym e)) ∙ first.loaded))
+
+pub one_end_law : OneEndLaw
+one_end_law old a b [] [] go other = go.1 ∙ sym other.1
+one_end_law old a b (x ∷ xs) [] go other = absurd (false≢true (sym (other.0 x) ∙ go.0))
+one_end_law old a b xs (y ∷ ys) go other =
+    let rest : (rest : List ℕ) × Go (without_module old y) rest a = goes_first old y (idle_parts old.modules y other.0) xs a go in
+    one_end_law (without_module old y) a b rest.0 ys rest.1 other.1

@@ -1,0 +1,90 @@
+-- An allocation, and a write of all its bytes.
+use Rattle.std.proofs.Common.{◌≡◌, ℕ, inl, inr, Bool, true, false, cond, ◌<◌, IsSomeAnd, List, ◌++◌, length, All, Option, Some, None, option_map, refl, sym, ap, ◌∙◌, subst, arith}
+use Rattle.std.specs.Cmp.{nat_cmp_total}
+use Rattle.std.specs.Ordering.{nat_cmp}
+use Rattle.std.specs.FinMap as finmap
+use Rattle.std.specs.FinMap.{FinMap, same_map, nat_cmp-IsAntisymmetric}
+use Rattle.std.proofs.lemmas.Bool.{false≢true, cases_eq}
+use Rattle.std.proofs.lemmas.List.{append-nil, drop_all}
+use Rattle.w16_model.specs.Heap.{Heap, Object}
+use Rattle.w16_model.specs.Changes.{update, with_newest, with_ordered}
+use Rattle.w16_model.specs.Request.{Request, IsNew, AreNew, Settles, discarded, stays_for, prefix_of}
+use Rattle.w16_model.specs.Bytes.{put_part}
+use Rattle.w16_model.specs.Far.{after_write}
+use Rattle.w16_model.proofs.KeptHeaps.{inserted_here, inserted_other, written_heap}
+use Rattle.w16_loading.specs.Fill.{Fills, any_way}
+use Rattle.w16_loading.specs.Law.{FillLaw}
+
+-- the last object put under an id counts
+put_twice : (m : FinMap nat_cmp Object) (id : ℕ) (a b : Object) → finmap.insert (finmap.insert m id a) id b ≡ finmap.insert m id b
+put_twice m id a b = same_map nat_cmp_total nat_cmp-IsAntisymmetric (finmap.insert (finmap.insert m id a) id b) (finmap.insert m id b) (λ q. elim (cases_eq q id) [
+  | inl e ↦ inserted_here (finmap.insert m id a) id b q e ∙ sym (inserted_here m id b q e)
+  | inr d ↦ inserted_other (finmap.insert m id a) id b q d ∙ inserted_other m id a q d ∙ sym (inserted_other m id b q d)
+])
+
+-- an object that was put and then changed
+put_changed : (m : FinMap nat_cmp Object) (id : ℕ) (a : Object) (f : Object → Object) → update (finmap.insert m id a) id f ≡ finmap.insert m id (f a)
+put_changed m id a f =
+    (λ i. elim (inserted_here m id a id refl i) [ Some p ↦ finmap.insert (finmap.insert m id a) id (f p) | None ↦ finmap.insert m id a ]) ∙ put_twice m id a (f a)
+
+-- all bytes replaced
+all_replaced : (b bytes : List ℕ) → length b ≡ length bytes → put_part b 0 bytes ≡ bytes
+all_replaced b bytes e = ap (λ rest. bytes ++ rest) (drop_all (length bytes) b (omega (arith, e))) ∙ append-nil bytes
+
+module _ (old : Heap) (slot : ℕ) (o : Object) (bytes : List ℕ) (ours : All (λ b. b < 256) bytes) where
+  abbrev with_bytes : List ℕ → Object
+  with_bytes b = record o { bytes = Some b }
+
+  abbrev put : ℕ → Object → Heap
+  put k x = with_ordered (discarded old k (Some slot)) slot x (with_newest slot x)
+
+  abbrev Good : ℕ → Object → Heap → Type 0
+  Good k x new = Settles old (stays_for slot any_way) (put k x) new
+
+  -- what is written into the heap in which the object has other bytes
+  abbrev standing : ℕ → List ℕ → FinMap nat_cmp ℕ → Heap
+  standing k b places = record (put k (with_bytes b)) { places = places }
+
+  written : (k : ℕ) (b : List ℕ) (places : FinMap nat_cmp ℕ) → length b ≡ length bytes → Good k (with_bytes b) (standing k b places) → Good k (with_bytes bytes) (after_write (standing k b places) slot 0 bytes)
+  written k b places e s = record {
+    same = λ i. record (put k (with_bytes bytes)) { places = places; objects = objects i };
+    sound = written_heap (standing k b places) s.sound slot (with_bytes b) (inserted_here (discarded old k (Some slot)).objects slot (with_bytes b) slot refl) b refl 0 bytes (omega (arith, e)) ours;
+    kept = s.kept;
+  }
+    where
+      objects : update (finmap.insert (discarded old k (Some slot)).objects slot (with_bytes b)) slot (λ x. record x { bytes = option_map (λ c. put_part c 0 bytes) x.bytes })
+          ≡ finmap.insert (discarded old k (Some slot)).objects slot (with_bytes bytes)
+      objects = put_changed (discarded old k (Some slot)).objects slot (with_bytes b) (λ x. record x { bytes = option_map (λ c. put_part c 0 bytes) x.bytes })
+          ∙ ap (λ c. finmap.insert (discarded old k (Some slot)).objects slot (with_bytes c)) (all_replaced b bytes e)
+
+  -- a new object of the right kind has some bytes
+  some_bytes : (x : Object) → IsNew false (length bytes) o.kind o.locks x → (b : List ℕ) × (length b ≡ length bytes) × (x ≡ with_bytes b)
+  some_bytes x is = from x.bytes refl is.new_bytes
+    where
+      from : (p : Option (List ℕ)) → x.bytes ≡ p → IsSomeAnd p (AreNew false (length bytes)) → (b : List ℕ) × (length b ≡ length bytes) × (x ≡ with_bytes b)
+      from None e new = absurd new
+      from (Some b) e new = (b, new.0, λ i. record { kind = is.same_kind i; locks = is.same_locks i; bytes = e i })
+
+  written_any : (k : ℕ) (x : Object) (next : Heap) → IsNew false (length bytes) o.kind o.locks x → Good k x next → Good k (with_bytes bytes) (after_write next slot 0 bytes)
+  written_any k x next is s =
+      let b : (b : List ℕ) × (length b ≡ length bytes) × (x ≡ with_bytes b) = some_bytes x is in
+      let t : Good k (with_bytes b.0) next = subst (λ y. Good k y next) b.2 s in
+      subst (λ (h : Heap). Good k (with_bytes bytes) (after_write h slot 0 bytes)) (sym t.same) (written k b.0 next.places b.1 (subst (Good k (with_bytes b.0)) t.same t))
+
+  abbrev Gives : Option ℕ → Bool → Heap → Type 0
+  Gives p answered new = Request old slot (record { way = any_way; prefix = p; becomes = λ x. x ≡ with_bytes bytes; order = with_newest slot }) answered new
+
+  request : (next : Heap) (p : Option ℕ) (answered : Bool) → Request old slot (record { way = any_way; prefix = p; becomes = IsNew false (length bytes) o.kind o.locks; order = with_newest slot }) answered next
+      → Gives p answered (elim answered [ true ↦ after_write next slot 0 bytes | false ↦ next ])
+  request next None true r = absurd (false≢true (sym r.0))
+  request next None false r = r
+  request next (Some k) false r = absurd (false≢true r.0)
+  request next (Some k) true r = (refl, (with_bytes bytes, refl, written_any k r.1.0 next r.1.1 r.1.2))
+
+pub fill_law : FillLaw
+fill_law old next slot o bytes answered there absent ours a = turn answered a.request
+  where
+    turn : (t : Bool) → Request old slot (record { way = any_way; prefix = prefix_of old (length bytes) (Some slot) any_way; becomes = IsNew false (length bytes) o.kind o.locks; order = with_newest slot }) t next
+        → Fills old slot bytes t (cond t (after_write next slot 0 bytes) next)
+    turn true r = record { before = o; there = there; absent = absent; some = a.some; rounded = a.rounded; are_bytes = ours; request = request old slot o bytes ours next (prefix_of old (length bytes) (Some slot) any_way) true r }
+    turn false r = record { before = o; there = there; absent = absent; some = a.some; rounded = a.rounded; are_bytes = ours; request = request old slot o bytes ours next (prefix_of old (length bytes) (Some slot) any_way) false r }

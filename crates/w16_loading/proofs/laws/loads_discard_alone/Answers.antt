@@ -1,0 +1,5 @@
+use Rattle.w16_loading.proofs.Kept.{fills_law}
+use Rattle.w16_loading.proofs.laws.loads_discard_alone.Goals as goal
+
+pub returns : goal.returns
+returns c = fills_law

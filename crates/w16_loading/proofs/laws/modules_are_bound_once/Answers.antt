@@ -1,0 +1,5 @@
+use Rattle.w16_loading.proofs.Bound.{bound_law}
+use Rattle.w16_loading.proofs.laws.modules_are_bound_once.Goals as goal
+
+pub returns : goal.returns
+returns c = bound_law

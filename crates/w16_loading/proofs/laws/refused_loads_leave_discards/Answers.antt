@@ -1,0 +1,5 @@
+use Rattle.w16_loading.proofs.RefusedLoad.{refused_load_law}
+use Rattle.w16_loading.proofs.laws.refused_loads_leave_discards.Goals as goal
+
+pub returns : goal.returns
+returns c = refused_load_law

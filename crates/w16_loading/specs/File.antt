@@ -1,0 +1,109 @@
+-- What a module file says, apart from how it says it: what the formats of files and relocations give to a load.
+use Rattle.std.specs.Prelude.{◌≡◌, ℕ, ◌-◌, ◌<◌, ◌≤◌, Bool, false, ◌==◌, if◌then◌else◌, List, [], length, find, All, MatchResult, Option, None, Result, unwrap_or, option_map, slice_get}
+use Rattle.w16_model.specs.declared.Kind.{Kind}
+use Rattle.w16_model.specs.declared.TheConstants.{GRAIN, LARGEST_SIZE}
+use Rattle.std.specs.List.{AllZip}
+use Rattle.w16_model.specs.Heap.{IsMultiple}
+use Rattle.w16_model.specs.Calls.{rounded_size}
+use Rattle.w16_store.specs.Names.{is_named}
+
+-- a selector and an offset
+pub record Far : Type 0 where
+  pub selector : ℕ
+  pub offset : ℕ
+
+-- Tables. What is numbered in a file is numbered from 1.
+
+-- a segment: its object's kind and size, whether it refuses writes, and whether a load gives it its bytes
+pub record Segment : Type 0 where
+  pub kind : Kind
+  pub is_code : Bool
+  pub is_preload : Bool
+  pub size : ℕ
+
+-- where an ordinal of the entry table leads
+pub data Entry : Type 0 where
+  InSegment : (number offset : ℕ) → Entry
+  Constant : (value : ℕ) → Entry
+
+-- a resource's type or name
+pub data Label : Type 0 where
+  Number : (value : ℕ) → Label
+  Text : (text : List ℕ) → Label
+
+-- a resource: the length is that in the file
+pub record Resource : Type 0 where
+  pub kind_of : Label
+  pub label : Label
+  pub length_in : ℕ
+  pub kind : Kind
+
+pub record Tables : Type 0 where
+  pub name : List ℕ
+  pub is_library : Bool
+  pub segments : List Segment
+  pub references : List (List ℕ)
+  pub entries : List (Option Entry)
+  pub names : List (List ℕ × ℕ)
+  pub resources : List Resource
+
+abbrev pub numbered : {X : Type 0} → List X → ℕ → Option X
+numbered xs number = if number == 0 then None else slice_get xs (number - 1)
+
+abbrev pub entry_at : Tables → ℕ → Option Entry
+entry_at tables ordinal = unwrap_or (numbered tables.entries ordinal) None
+
+-- of equal names the first counts, also where its ordinal has no entry
+abbrev pub entry_named : Tables → List ℕ → Option Entry
+entry_named tables name = unwrap_or (option_map (λ e. entry_at tables e.1) (find (λ e. is_named e.0 name) tables.names)) None
+
+abbrev pub is_label : Label → Label → Bool
+is_label (Number m) (Number n) = m == n
+is_label (Text s) (Text t) = is_named s t
+is_label other label = false
+
+-- The whole file.
+
+-- where a relocation record points
+pub data Target : Type 0 where
+  Internal : (number offset : ℕ) → Target
+  InternalEntry : (ordinal : ℕ) → Target
+  Import : (reference ordinal : ℕ) → Target
+  ImportName : (reference : ℕ) (name : List ℕ) → Target
+  -- a system fixup, which isn't applied
+  System : Target
+
+-- A segment's target for each relocation record, or none where its relocations aren't sound; and, given a value for each, the bytes of its
+-- object.
+pub record SegmentData : Type 0 where
+  pub targets : Option (List Target)
+  pub image : List Far → List ℕ
+
+pub record ModuleFile : Type 0 where
+  pub tables : Tables
+  pub segments : List SegmentData
+  -- of each resource, the bytes of its object: those of the file, and zeros after them
+  pub contents : List (List ℕ)
+
+abbrev pub targets_of : SegmentData → List Target
+targets_of s = unwrap_or s.targets []
+
+-- What a file says, or the number that a load answers where it isn't accepted: 12, 13 or 14 by its target system, else 11.
+abbrev pub Format : Type 0
+Format = List ℕ → Result ModuleFile ℕ
+
+-- What a load relies on in a file that is accepted: as many of each as there are segments and resources, sizes and images that go together.
+pub record IsSegmentData (segment : Segment) (s : SegmentData) : Type 0 where
+  pub some : 0 < segment.size
+  pub small : segment.size ≤ LARGEST_SIZE
+  pub rounded : IsMultiple GRAIN segment.size
+  pub image : (values : List Far) → (length (s.image values) ≡ segment.size) × All (λ b. b < 256) (s.image values)
+
+pub record IsModuleFile (read : ModuleFile) : Type 0 where
+  pub segments : AllZip IsSegmentData read.tables.segments read.segments
+  pub contents : AllZip (λ r (bytes : List ℕ). length bytes ≡ rounded_size r.length_in) read.tables.resources read.contents
+  pub bytes : All (All (λ b. b < 256)) read.contents
+
+-- and the numbers of files that aren't
+abbrev pub IsFormat : Format → Type 0
+IsFormat format = (file : List ℕ) → MatchResult (format file) IsModuleFile (λ answer. (11 ≤ answer) × (answer ≤ 14))

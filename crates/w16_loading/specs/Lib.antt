@@ -1,0 +1,14 @@
+pub mod File
+pub mod Modules
+pub mod Fill
+pub mod Release
+pub mod Closure
+pub mod Naming
+pub mod Load
+pub mod Fetch
+pub mod Free
+pub mod Resource
+pub mod Machine
+pub mod Law
+pub mod Codes
+pub mod Fewest

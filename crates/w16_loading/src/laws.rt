@@ -1,0 +1,98 @@
+//! The laws of the definitions. Each function does nothing: its contract is the law.
+ghost use Rattle.w16_loading.specs.Fewest.{LoadFewestLaw, FetchFewestLaw};
+ghost use Rattle.w16_loading.specs.Law.{EmptyOfFilesLaw, FetchFaultsLaw, CodeLaw, RefusedLoadLaw, OneEndLaw, UsesApartLaw, FetchAgainLaw, FetchLaw, FetchRefusedLaw, OneClosureLaw, EarlyRefusalLaw, FillLaw, EmptyLaw, ClosureEndsLaw, UndoneLaw, FillsLaw, BoundOnceLaw};
+
+/// A fetch takes the bytes of what it discards, and keeps all else of the other objects.
+pub fn fetches_keep_others()
+    ensures { FetchLaw }
+{}
+
+/// A refused fetch changes nothing.
+pub fn refused_fetch_changes_nothing()
+    ensures { FetchRefusedLaw }
+{}
+
+/// Files decide which modules a load finds.
+pub fn files_decide_a_closure()
+    ensures { OneClosureLaw }
+{}
+
+/// A load that is refused before it takes a handle changes nothing.
+pub fn early_refusal_changes_nothing()
+    ensures { EarlyRefusalLaw }
+{}
+
+/// An allocation and a write give a segment its bytes.
+pub fn segments_are_allocated_and_written()
+    ensures { FillLaw }
+{}
+
+/// The world in which nothing is loaded is one.
+pub fn nothing_loaded_is_a_world()
+    ensures { EmptyLaw }
+{}
+
+/// A load comes to an end over any files, also where each asks for one more: handles are few.
+pub fn each_closure_ends()
+    ensures { ClosureEndsLaw }
+{}
+
+/// What a load that has got no bytes yet takes back leaves the world as it was.
+pub fn names_are_taken_back()
+    ensures { UndoneLaw }
+{}
+
+/// The requests of a load discard what they may, and keep all else.
+pub fn loads_discard_alone()
+    ensures { FillsLaw }
+{}
+
+/// What was bound at load stays.
+pub fn modules_are_bound_once()
+    ensures { BoundOnceLaw }
+{}
+
+/// Code that was discarded and is fetched has the bytes that it had.
+pub fn fetched_code_is_as_it_was()
+    ensures { FetchAgainLaw }
+{}
+
+/// A fetch discards as few objects as it can, and is refused only where there is no room.
+pub fn fetches_discard_fewest()
+    ensures { FetchFewestLaw }
+{}
+
+/// Taking explicit uses away never lets a module go that others import.
+pub fn uses_and_importers_are_apart()
+    ensures { UsesApartLaw }
+{}
+
+/// Which unused module goes first doesn't matter.
+pub fn modules_go_to_one_end()
+    ensures { OneEndLaw }
+{}
+
+/// Each request of a load discards as few objects as it can, and is refused only where there is no room.
+pub fn loads_discard_fewest()
+    ensures { LoadFewestLaw }
+{}
+
+/// A refused load leaves all but its discards as it was, however far it came.
+pub fn refused_loads_leave_discards()
+    ensures { RefusedLoadLaw }
+{}
+
+/// Code that has bytes has those that its file gives it, relocated, after each step of each family, whatever was moved, discarded or fetched.
+pub fn code_reads_as_its_file()
+    ensures { CodeLaw }
+{}
+
+/// Over files that stay, only the device and want of room refuse a fetch.
+pub fn fetches_are_never_damaged()
+    ensures { FetchFaultsLaw }
+{}
+
+/// Where nothing is loaded, all that is loaded is of its file.
+pub fn nothing_loaded_is_of_files()
+    ensures { EmptyOfFilesLaw }
+{}

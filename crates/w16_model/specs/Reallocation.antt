@@ -1,0 +1,161 @@
+-- Reallocation, told by what it leaves: of the object, of the others, of where they stand, and when it is refused. Nothing here says how
+-- room is made.
+use Rattle.std.specs.Prelude.{◌≡◌, ◌≢◌, ℕ, ◌+◌, ◌-◌, ◌<◌, ◌≤◌, ◌⊎◌, Bool, true, false, not, ◌&&◌, ◌||◌, if◌then◌else◌, IsTrue, IfOk, IfSome, IsSomeAnd, List, [], ◌∷◌, ◌++◌, length, take, drop, filter, map, All, AllPairs, Option, Some, Ok, Err, is_some, unwrap_or}
+use Rattle.std.specs.FinMap as finmap
+use Rattle.w16_model.specs.declared.Block.{Block}
+use Rattle.w16_model.specs.declared.Hold.TheVariants.{Loose}
+use Rattle.w16_model.specs.declared.Kind.{Kind}
+use Rattle.w16_model.specs.declared.Refusal.TheVariants as refusals
+use Rattle.w16_model.specs.declared.Way.{Way}
+use Rattle.w16_model.specs.Gap.{is_pinned, is_loose, is_any, begins_in, Misses, ArePlaced, IsClear, IsGap}
+use Rattle.w16_model.specs.Discards.{eligible, is_member, is_about, room_for, snapshot}
+use Rattle.w16_model.specs.Bytes.{repeated}
+use Rattle.w16_model.specs.Heap.{Heap, Object, IsHeap, blocks, object_at, size_of, is_fixed, is_discardable, is_in_order, is_pinned_object}
+use Rattle.w16_model.specs.Changes.{without}
+use Rattle.w16_model.specs.Request.{Reallocates}
+use Rattle.w16_model.specs.OneObject.{after_modify, after_discard}
+use Rattle.w16_model.specs.Law.{KeepsOthers, KeepsAddresses, StandsStill}
+use Rattle.w16_model.specs.Fewest.{DiscardsFewest, LacksRoom}
+
+-- The object, and the rest.
+
+-- the bytes at another size: the same ones as far as both go, and zeros after them where these are asked for
+pub record AreResized (zero : Bool) (n : ℕ) (before after : List ℕ) : Type 0 where
+  pub long : length after ≡ n
+  pub same : take (length before) after ≡ take n before
+  pub zeros : IsTrue zero → drop (length before) after ≡ repeated (n - length before) 0
+
+-- the object at another size, one without bytes as if it had had none of them: its kind and its locks are the same
+pub record IsResized (zero : Bool) (n : ℕ) (before after : Object) : Type 0 where
+  pub kind : after.kind ≡ before.kind
+  pub locks : after.locks ≡ before.locks
+  pub bytes : IsSomeAnd after.bytes (AreResized zero n (unwrap_or before.bytes []))
+
+-- the order of use without these
+abbrev pub without_all : List ℕ → List ℕ → List ℕ
+without_all ids order = filter (λ q. not (is_member q ids)) order
+
+-- whether an object gets its place in the order: it had no bytes, and is discardable
+abbrev pub is_revived : Object → Bool
+is_revived o = not (is_some o.bytes) && is_discardable o.kind
+
+-- What an answered reallocation leaves. The first so many that may be are discarded; all others are as they were, also in the order of use,
+-- in which an object that had no bytes is the newest, and one that had some keeps its place.
+pub record KeepsRest (old : Heap) (id n : ℕ) (o : Object) (way : Way) (new : Heap) : Type 0 where
+  pub low : new.lo ≡ old.lo
+  pub high : new.hi ≡ old.hi
+  pub grain : new.grain ≡ old.grain
+  pub object : IsSomeAnd (object_at new id) (IsResized way.zero n o)
+  pub count : ℕ
+  pub others : KeepsOthers old (Some id) count new
+  pub order : new.order ≡ without_all (take count (eligible (blocks old) old.order (Some id))) old.order ++ (if is_revived o then id ∷ [] else [])
+
+-- Refusals.
+
+-- the heap has free bytes directly after the object, up to the size n
+abbrev pub IsFreeBehind : Heap → ℕ → Object → ℕ → Type 0
+IsFreeBehind heap id o n = IsSomeAnd (finmap.get heap.places id) (λ at. IsClear is_any heap.lo heap.hi (blocks heap) (at + size_of o) (at + n))
+
+-- whether an object may not be moved for its own growth: it is fixed or locked, and that isn't allowed (no GMEM_MOVEABLE)
+abbrev pub is_held : Object → Way → Bool
+is_held o way = is_some o.bytes && (is_pinned_object o && not way.may_move)
+
+-- Why an object doesn't get n bytes: one that may not move hasn't the free bytes behind it; any other has no room, and with GMEM_NOCOMPACT
+-- hasn't these bytes either.
+abbrev pub LacksPlace : Heap → ℕ → ℕ → Object → Way → Type 0
+LacksPlace old id n o way =
+    ((is_held o way ≡ true) × (IsFreeBehind old id o n → ⊥))
+    ⊎ ((is_held o way ≡ false) × LacksRoom old (Some id) n way × (way.compact ≡ false → IsFreeBehind old id o n → ⊥))
+
+-- A reallocation discards as few as it can, and none where it may not or needn't. It is refused only where the object would have to have
+-- more bytes, and has no place for them; then nothing is changed.
+pub record ReallocatesFewest (old : Heap) (id n : ℕ) (o : Object) (way : Way) (answered : Bool) (new : Heap) : Type 0 where
+  pub fewest : answered ≡ true → DiscardsFewest old (Some id) n new
+  pub without : answered ≡ true → (way.compact ≡ false) ⊎ (way.discard ≡ false) ⊎ (n ≤ size_of o) ⊎ (is_held o way ≡ true) → KeepsOthers old (Some id) 0 new
+  pub refused : answered ≡ false → (size_of o < n) × LacksPlace old id n o way × (new ≡ old)
+
+-- Addresses.
+
+-- What an answered reallocation moves. A cut, and the growth of an object that may not move, leave every address; else the fixed and the
+-- locked keep theirs, and with GMEM_NOCOMPACT all others do, and the object stands where it stood or where the heap had as much free.
+pub record MovesLittle (old : Heap) (id n : ℕ) (o : Object) (way : Way) (new : Heap) : Type 0 where
+  pub others : KeepsAddresses old (Some id) way.compact new
+  pub still : (n ≤ size_of o) ⊎ (is_held o way ≡ true) → (q : ℕ) → StandsStill old new q
+  pub hole : way.compact ≡ false → IsSomeAnd (finmap.get new.places id) (λ at. (finmap.get old.places id ≡ Some at) ⊎ IsClear is_any old.lo old.hi (blocks old) at (at + n))
+
+-- Change of kind.
+
+-- What it leaves: the object with the new kind, and all else. In the order an object that is discardable now and wasn't is the newest, one
+-- that was so keeps its place, and one that isn't any more has none.
+pub record ChangesKind (old : Heap) (id : ℕ) (o : Object) (kind : Kind) (new : Heap) : Type 0 where
+  pub object : object_at new id ≡ Some (record o { kind = kind })
+  pub others : (q : ℕ) → q ≢ id → object_at new q ≡ object_at old q
+  pub places : new.places ≡ old.places
+  pub range : (new.lo ≡ old.lo) × (new.hi ≡ old.hi) × (new.grain ≡ old.grain)
+  pub same : kind ≡ o.kind → new.order ≡ old.order
+  pub rest : without id new.order ≡ without id old.order
+  pub newest : kind ≢ o.kind → is_in_order (object_at new id) ≡ true → new.order ≡ without id old.order ++ id ∷ []
+
+-- Room with an object left out.
+
+-- the blocks with that of the object counted as loose
+abbrev pub loosened : Option ℕ → List Block → List Block
+loosened h xs = map (λ (x : Block). if is_about h x.id then record x { hold = Loose } else x) xs
+
+-- whether a block is counted: it is loose, none of these, and not the object's
+abbrev pub is_counted : List ℕ → Option ℕ → Block → Bool
+is_counted ids h x = is_loose x && not (is_member x.id ids || is_about h x.id)
+
+-- each loose block, without these and the object, has a place in the gap where it stands, and no two of them share a byte; the gaps are
+-- those of the heap with the object loose
+pub record IsArrangementWithout (lo hi : ℕ) (xs : List Block) (ids : List ℕ) (h : Option ℕ) (place : Block → ℕ) : Type 0 where
+  pub kept : (a b : ℕ) → IsGap lo hi (loosened h xs) a b → All (λ x. IsTrue (is_counted ids h x) → IsTrue (begins_in a b x) → (a ≤ place x) × (place x + x.size ≤ b)) xs
+  pub apart : AllPairs (λ x y. IsTrue (is_counted ids h x) → IsTrue (is_counted ids h y) → Misses (place x) x.size (place y) (place y + y.size)) xs
+
+-- an interval without a byte of these or of a pinned block
+pub record IsFreeWithout (lo hi : ℕ) (xs : List Block) (ids : List ℕ) (h : Option ℕ) (place : Block → ℕ) (a b : ℕ) : Type 0 where
+  pub clear : IsClear is_pinned lo hi (loosened h xs) a b
+  pub misses : All (λ x. IsTrue (is_counted ids h x) → Misses (place x) x.size a b) xs
+
+-- n is the length of the longest free stretch of any such arrangement, and 0 where there is none
+pub record IsLongestWithout (lo hi : ℕ) (xs : List Block) (ids : List ℕ) (h : Option ℕ) (n : ℕ) : Type 0 where
+  pub none_longer : (place : Block → ℕ) (a b : ℕ) → IsArrangementWithout lo hi xs ids h place → IsFreeWithout lo hi xs ids h place a b → b - a ≤ n
+  pub one_as_long : 0 < n → (place : Block → ℕ) × (a : ℕ) × (b : ℕ) × IsArrangementWithout lo hi xs ids h place × IsFreeWithout lo hi xs ids h place a b × (b - a ≡ n)
+
+-- The laws.
+
+-- a reallocation, a change of kind and a discard leave a heap
+abbrev pub HeapLaw : Type 0
+HeapLaw = (old new : Heap) (id n : ℕ) (way : Way) (answered : Bool) → IsHeap old → Reallocates old id n way answered new → IsHeap new
+
+abbrev pub KindHeapLaw : Type 0
+KindHeapLaw = (old : Heap) (id : ℕ) (kind : Kind) → IsHeap old → IfOk (after_modify old id kind) IsHeap
+
+abbrev pub DiscardHeapLaw : Type 0
+DiscardHeapLaw = (old : Heap) (id : ℕ) → IsHeap old → IfOk (after_discard old id) IsHeap
+
+-- an answered one keeps the rest
+abbrev pub RestLaw : Type 0
+RestLaw = (old new : Heap) (id n : ℕ) (way : Way) → IsHeap old → Reallocates old id n way true new → IsSomeAnd (object_at old id) (λ o. KeepsRest old id n o way new)
+
+-- discards are fewest
+abbrev pub FewestLaw : Type 0
+FewestLaw = (old new : Heap) (id n : ℕ) (way : Way) (answered : Bool) → IsHeap old → Reallocates old id n way answered new → IsSomeAnd (object_at old id) (λ o. ReallocatesFewest old id n o way answered new)
+
+-- little is moved
+abbrev pub MovesLaw : Type 0
+MovesLaw = (old new : Heap) (id n : ℕ) (way : Way) → IsHeap old → Reallocates old id n way true new → IsSomeAnd (object_at old id) (λ o. MovesLittle old id n o way new)
+
+-- one that is answered somehow is never refused, and a refused one changes nothing
+abbrev pub OneOutcomeLaw : Type 0
+OneOutcomeLaw = (old new : Heap) (id n : ℕ) (way : Way) → Reallocates old id n way false new → (new ≡ old) × ((other : Heap) → Reallocates old id n way true other → ⊥)
+
+-- a change of kind is refused for a fixed object, and for the kind Fixed; else it changes the kind and the order alone
+abbrev pub KindLaw : Type 0
+KindLaw = (old : Heap) (id : ℕ) (kind : Kind) → IsHeap old → IfSome (object_at old id) (λ o.
+    ((is_fixed o.kind || is_fixed kind) ≡ true → after_modify old id kind ≡ Err refusals.Fixed)
+    × ((is_fixed o.kind || is_fixed kind) ≡ false → (new : Heap) × (after_modify old id kind ≡ Ok new) × ChangesKind old id o kind new))
+
+-- with the object loose and left out, and the first k that may be discarded left out too, room is the longest free stretch
+abbrev pub LeftOutLaw : Type 0
+LeftOutLaw = (lo hi : ℕ) (xs : List Block) (order : List ℕ) (k : ℕ) (h : Option ℕ) → ArePlaced lo hi xs → IsLongestWithout lo hi xs (take k (eligible xs order h)) h (room_for (snapshot lo hi xs order) k h)

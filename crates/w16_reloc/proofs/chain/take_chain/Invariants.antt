@@ -1,8 +1,0 @@
-use Rattle.std.proofs.Common.{◌≡◌, ◌+◌, ◌-◌, length, List}
-use Rattle.w16_reloc.specs.Sites.{Site}
-use Rattle.w16_reloc.specs.Check.{AreMarks, chain_at}
-use Rattle.w16_reloc.proofs.chain.take_chain.Given as goal
-
-abbrev pub invariant-loop : goal.invariant-loop
-invariant-loop l = (length l.marks ≡ length l.bytes) × ((sites : List Site) → AreMarks sites l.fn.marks
-    → (more : List Site) × AreMarks more l.marks × (chain_at l.bytes l.width (length l.bytes + 1 - l.counter) more l.at ≡ chain_at l.bytes l.width (length l.bytes + 1) sites l.head))
