@@ -23,12 +23,12 @@ use Rattle.w16_loading.proofs.KeptCode.{IsFilled, image_of, read_in, fills_bytes
 
 -- Places in lists.
 
-member_place : {X : Type 0} (xs : List X) (x : X) → Member x xs → (i : ℕ) × (slice_get xs i ≡ Some x)
+pub member_place : {X : Type 0} (xs : List X) (x : X) → Member x xs → (i : ℕ) × (slice_get xs i ≡ Some x)
 member_place [] x m = absurd m
 member_place (y ∷ xs) x (inl e) = (0, ap Some (sym e))
 member_place (y ∷ xs) x (inr m) = let r : (i : ℕ) × (slice_get xs i ≡ Some x) = member_place xs x m in (suc r.0, r.1)
 
-place_member : {X : Type 0} (xs : List X) (i : ℕ) (x : X) → slice_get xs i ≡ Some x → Member x xs
+pub place_member : {X : Type 0} (xs : List X) (i : ℕ) (x : X) → slice_get xs i ≡ Some x → Member x xs
 place_member [] i x e = cc
 place_member (y ∷ xs) zero x e = let f : y ≡ x = cc in inl (sym f)
 place_member (y ∷ xs) (suc i) x e = inr (place_member xs i x e)
@@ -39,13 +39,13 @@ zip_place (x ∷ xs) [] i p e = cc
 zip_place (x ∷ xs) (y ∷ ys) zero p e = (ap (option_map (λ q. q.0)) e, ap (option_map (λ q. q.1)) e)
 zip_place (x ∷ xs) (y ∷ ys) (suc i) p e = zip_place xs ys i p e
 
-index_place : {X : Type 0} (xs : List X) (i : ℕ) (x d : X) → slice_get xs i ≡ Some x → slice_index_or xs i d ≡ x
+pub index_place : {X : Type 0} (xs : List X) (i : ℕ) (x d : X) → slice_get xs i ≡ Some x → slice_index_or xs i d ≡ x
 index_place [] i x d e = cc
 index_place (y ∷ xs) zero x d e = cc
 index_place (y ∷ xs) (suc i) x d e = index_place xs i x d e
 
 -- where all differ, one is at one place
-one_place : (xs : List ℕ) (i j q : ℕ) → EachPair (λ a b. a ≢ b) xs → slice_get xs i ≡ Some q → slice_get xs j ≡ Some q → i ≡ j
+pub one_place : (xs : List ℕ) (i j q : ℕ) → EachPair (λ a b. a ≢ b) xs → slice_get xs i ≡ Some q → slice_get xs j ≡ Some q → i ≡ j
 one_place [] i j q differ e f = cc
 one_place (x ∷ xs) zero zero q differ e f = refl
 one_place (x ∷ xs) zero (suc j) q differ e f = let same : x ≡ q = cc in absurd (Each-at (λ b. x ≢ b) xs differ.0 q (place_member xs j q f) same)

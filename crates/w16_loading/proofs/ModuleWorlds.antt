@@ -237,7 +237,7 @@ again_world b old is handle (Some (Loaded m)) e = turn (b && not m.tables.is_lib
 -- Names.
 
 -- what no entry has, none is found for
-find_none : {X : Type 0} (p : X → Bool) (xs : List X) → find p xs ≡ None → (x : X) → Member x xs → p x ≡ false
+pub find_none : {X : Type 0} (p : X → Bool) (xs : List X) → find p xs ≡ None → (x : X) → Member x xs → p x ≡ false
 find_none p [] e x m = absurd m
 find_none p (y ∷ xs) e x m = turn (p y) refl e (λ f. find_none p xs f x) m
   where
