@@ -19,7 +19,7 @@ use Rattle.w16_loading.specs.declared.TheConstants.{MOST_USES}
 use Rattle.w16_loading.specs.declared.FetchFault.{FetchFault}
 use Rattle.w16_loading.specs.declared.FetchFault.TheVariants as faults
 use Rattle.w16_loading.specs.File.{Format, IsFormat, Segment, Resource, numbered}
-use Rattle.w16_loading.specs.Modules.{World, Load, Owned, Module, IsSegmentOf, IsResourceOf, module_at, is_owned}
+use Rattle.w16_loading.specs.Modules.{World, Load, Owned, Module, IsSegmentOf, IsResourceOf, module_at, usage}
 use Rattle.w16_loading.specs.Release.{without_objects}
 use Rattle.w16_loading.specs.Load.{Answer, Refuses}
 use Rattle.w16_loading.specs.Fetch.{Reply, Fetches}
@@ -40,10 +40,13 @@ use Rattle.w16_loading.proofs.ShrunkWorlds.{shrunk, shrunk_world}
 
 -- A lock.
 
+no_free : (a b : ℕ) → HandleCommand.GlobalLock a ≡ HandleCommand.GlobalFree b → ⊥
+no_free a b e = cc
+
 locked_world : (old : World) → IsWorld old → (handle : ℕ) → IsWorld (locked old handle).1
 locked_world old is handle = world_stays old is next (handle_law old.handles next (HandleCommand.GlobalLock handle) (global_lock old.handles handle).0 is.handles (refl, refl))
     (λ slot kind size code h. stays_owned old.handles.heap next.heap slot kind size
-    (call_stays old.handles slot (owned_there old slot kind size code h) is.handles (HandleCommand.GlobalLock handle) (global_lock old.handles handle).0 next (λ k e. cc) (refl, refl)) h.object)
+    (call_stays old.handles slot (owned_there old slot kind size code h) is.handles (HandleCommand.GlobalLock handle) (global_lock old.handles handle).0 next (λ k e f. no_free handle k e) (refl, refl)) h.object)
   where
     next : Handles
     next = (global_lock old.handles handle).1
@@ -400,7 +403,7 @@ module _ (old : World) (is : IsWorld old) (slot : ℕ) (load : Load) (there : fi
   last_world : IsWorld (shrunk old gone old.modules left_loads)
   last_world = shrunk_world old is gone old.modules left_loads is.numbers is.names (λ handle m e. (m, e, record { slots = refl; tables = refl })) used kept_slots fewer other_load (λ q l before at e. (before, e, record { slots = refl; tables = refl })) owners
     where
-      used : (handle : ℕ) (m : Module) → module_at old.modules handle ≡ Some m → _
+      used : (handle : ℕ) (m : Module) → module_at old.modules handle ≡ Some m → (0 < usage old.modules handle) × (m.uses ≤ MOST_USES)
       used handle m e = let sound : IsModule old handle m = subst (λ p. IfSome p (IsModule old handle)) e (is.modules handle) in (sound.used, sound.full)
 
 free_resource_world : (old : World) → IsWorld old → (handle : ℕ) → IsWorld (free_resource old handle).1
