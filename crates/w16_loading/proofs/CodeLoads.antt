@@ -67,7 +67,7 @@ module _ (format : Format) (a : Around) where
   abbrev pub AreOfFiles : Closure → Type 0
   AreOfFiles closure = Each IsOfFile closure.found
 
-  abbrev tested : List Found → ModuleFile → Option Referent → Reading
+  abbrev pub tested : List Found → ModuleFile → Option Referent → Reading
   tested found read m = elim m [ Some referent ↦ Meant referent | None ↦ cond (are_sound read) (cond (nat_lt (length found) a.free) (Read read) (Refused 0)) (Refused 11) ]
 
   read_sound : (found : List Found) (r read : ModuleFile) (s t : Bool) → cond {A = Reading} s (cond t (Read r) (Refused 0)) (Refused 11) ≡ Read read → r ≡ read
@@ -79,7 +79,7 @@ module _ (format : Format) (a : Around) where
   read_meant found r read (Some referent) e = cc
   read_meant found r read None e = read_sound found r read (are_sound r) (nat_lt (length found) a.free) e
 
-  abbrev formatted : List Found → Result ModuleFile ℕ → Reading
+  abbrev pub formatted : List Found → Result ModuleFile ℕ → Reading
   formatted found r = elim r [ Err answer ↦ Refused answer | Ok read ↦ tested found read (meant a found read.tables.name) ]
 
   read_formatted : (found : List Found) (read : ModuleFile) (r : Result ModuleFile ℕ) → formatted found r ≡ Read read → ◌≡◌ {A = Option ModuleFile} (elim r [ Ok x ↦ Some x | Err _ ↦ None ]) (Some read)
@@ -98,7 +98,7 @@ module _ (format : Format) (a : Around) where
   each_more [] ys h k = k
   each_more (x ∷ xs) ys h k = (h.0, each_more xs ys h.1 k)
 
-  abbrev of_reading : Closure → ℕ → List ℕ → Reading → Result Closure ℕ
+  abbrev pub of_reading : Closure → ℕ → List ℕ → Reading → Result Closure ℕ
   of_reading closure place name r = elim r [
     | Refused answer ↦ Err (cond (answer == 0) 0 20)
     | Meant referent ↦ Ok (with_bound closure place referent)
@@ -118,10 +118,10 @@ module _ (format : Format) (a : Around) where
   next_of : (closure : Closure) (place : ℕ) (name : List ℕ) → AreOfFiles closure → IfOk (followed format a closure place name) AreOfFiles
   next_of closure place name h = next_meant closure place name h (meant a closure.found name)
 
-  abbrev from_next : ℕ → Result Closure ℕ → Result Closure ℕ
+  abbrev pub from_next : ℕ → Result Closure ℕ → Result Closure ℕ
   from_next n r = elim r [ Ok next ↦ after format a n next | Err answer ↦ Err answer ]
 
-  abbrev from_list : ℕ → Closure → List (ℕ × List ℕ) → Result Closure ℕ
+  abbrev pub from_list : ℕ → Closure → List (ℕ × List ℕ) → Result Closure ℕ
   from_list n closure p = elim p [ [] ↦ Ok closure | (x ∷ rest) ↦ from_next n (followed format a (record closure { pending = rest }) x.0 x.1) ]
 
   by_next : (n : ℕ) → ((next : Closure) → AreOfFiles next → IfOk (after format a n next) AreOfFiles) → (r : Result Closure ℕ) → IfOk r AreOfFiles → IfOk (from_next n r) AreOfFiles

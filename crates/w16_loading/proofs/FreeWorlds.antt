@@ -18,7 +18,7 @@ use Rattle.w16_loading.specs.Modules.Named.{Loaded, BuiltIn}
 use Rattle.w16_loading.specs.Release.{without_objects}
 use Rattle.w16_loading.specs.Free.{Go, Frees, used_less, without_module, swept, is_left_over}
 use Rattle.w16_loading.specs.Law.{IsWorld, IsModule, IsLoad, IsObjectOf}
-use Rattle.w16_loading.proofs.Undone.{retained}
+use Rattle.w16_loading.proofs.Undone.{retained, kept_all}
 use Rattle.w16_loading.proofs.Absences.{same_values, all_retained}
 use Rattle.w16_loading.proofs.Apart.{loaded_is}
 use Rattle.w16_loading.proofs.Bound.{world_used_less, world_without}
@@ -90,25 +90,24 @@ or_either false b t = inr t
 none_yet : (start : World) → HasGone start start
 none_yet start = record {
   gone = λ q. false;
-  is_now = sym (λ i. record start {
-    handles = record start.handles {
-      heap = record start.handles.heap {
-        objects = all_retained start.handles.heap.objects (λ q. false) (λ q. refl) i;
-        places = all_retained start.handles.heap.places (λ q. false) (λ q. refl) i;
-        order = all_left start.handles.heap.order i;
-      };
-      attributes = all_retained start.handles.attributes (λ q. false) (λ q. refl) i;
-    };
-    owned = all_retained start.owned (λ q. false) (λ q. refl) i;
-  });
+  is_now = sym same;
   modules = λ handle. inl refl;
   of_gone = λ q t. absurd (false≢true t);
   all_gone = λ handle m q e f member. no_value (finmap.get start.modules handle) (Loaded m) f e;
 }
   where
-    all_left : (xs : List ℕ) → filter (λ q. not false) xs ≡ xs
-    all_left [] = refl
-    all_left (x ∷ xs) = ap (λ (r : List ℕ). x ∷ r) (all_left xs)
+    same : record (without_objects (λ q. false) start) { modules = start.modules } ≡ start
+    same = λ i. record start {
+      handles = record start.handles {
+        heap = record start.handles.heap {
+          objects = all_retained start.handles.heap.objects (λ q. false) (λ q. refl) i;
+          places = all_retained start.handles.heap.places (λ q. false) (λ q. refl) i;
+          order = kept_all (λ q. false) start.handles.heap.order (λ q m. refl) i;
+        };
+        attributes = all_retained start.handles.attributes (λ q. false) (λ q. refl) i;
+      };
+      owned = all_retained start.owned (λ q. false) (λ q. refl) i;
+    }
 
 -- one more goes
 one_more : (start now : World) (handle : ℕ) (m : Module) → HasGone start now → finmap.get now.modules handle ≡ Some (Loaded m) → HasGone start (gone_with now handle m)
