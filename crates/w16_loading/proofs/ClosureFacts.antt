@@ -17,7 +17,7 @@ all_fail : {X : Type 0} (p : X → Bool) (xs : List X) → length xs ≤ positio
 all_fail p [] le x m = absurd m
 all_fail p (y ∷ xs) le x m = turn (p y) refl le (λ more k. all_fail p xs more x k) m
   where
-    turn : (b : Bool) → p y ≡ b → suc (length xs) ≤ cond (not b) (1 + position_or_len p xs) 0 → (length xs ≤ position_or_len p xs → Member x xs → p x ≡ false) → Member x (y ∷ xs) → p x ≡ false
+    turn : (b : Bool) → p y ≡ b → length (y ∷ xs) ≤ cond (not b) (1 + position_or_len p xs) 0 → (length xs ≤ position_or_len p xs → Member x xs → p x ≡ false) → Member x (y ∷ xs) → p x ≡ false
     turn true t le rest m = absurd (omega (arith, le))
     turn false t le rest (inl same) = ap p same ∙ t
     turn false t le rest (inr m) = rest (omega (arith, le)) m
@@ -118,7 +118,7 @@ module _ (format : Format) (a : Around) where
         (each_mapped (length closure.found) (length (closure.found ++ one ∷ [])) read.tables.references (omega (arith, long)));
     bound = each_both (λ (x : ℕ × Referent). x.0 < length (closure.found ++ one ∷ [])) closure.bound ((place, New (length closure.found)) ∷ [])
         (each_longer closure.bound (length closure.found) (length (closure.found ++ one ∷ [])) (omega (arith, long)) is.bound) (omega (arith, long, lt), tt);
-    asked = λ p some few. asked p some few (nat_lt p (length closure.found)) refl;
+    asked = λ p some few. asks p some few (nat_lt p (length closure.found)) refl;
   }
     where
       one : Found
@@ -134,12 +134,12 @@ module _ (format : Format) (a : Around) where
       newest f (inl e) = ap (λ (g : Found). a.named (name_of g)) e ∙ unnamed.0
       newest f (inr m) = absurd m
 
-      asked : (p : ℕ) → 0 < p → p < length (closure.found ++ record { file = file; read = read } ∷ []) → (b : Bool) → nat_lt p (length closure.found) ≡ b
+      asks : (p : ℕ) → 0 < p → p < length (closure.found ++ record { file = file; read = read } ∷ []) → (b : Bool) → nat_lt p (length closure.found) ≡ b
           → (by : ℕ) × Member {X = ℕ × Referent} (by, New p) (closure.bound ++ (place, New (length closure.found)) ∷ []) × (by ≢ p)
-      asked p some few true t =
+      asks p some few true t =
           let was : (by : ℕ) × Member {X = ℕ × Referent} (by, New p) closure.bound × (by ≢ p) = is.asked p some (ltb-true p (length closure.found) t) in
           (was.0, in_first {A = ℕ × Referent} (was.0, New p) closure.bound ((place, New (length closure.found)) ∷ []) was.1, was.2)
-      asked p some few false t =
+      asks p some few false t =
           let le : length closure.found ≤ p = ltb-false p (length closure.found) t in
           let same : p ≡ length closure.found = omega (arith, le, few, long) in
           (place, in_second {A = ℕ × Referent} (place, New p) closure.bound ((place, New (length closure.found)) ∷ []) (inl (λ i. (place, New (same i)))), λ e. absurd (omega (arith, e, lt, le)))
