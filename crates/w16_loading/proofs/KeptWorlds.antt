@@ -89,9 +89,9 @@ stays_owned old new slot kind size stays owned = turn (object_at old slot) (obje
     turn (Some p) (Some r) h k = (k.kind ∙ h.0, sizes p.bytes r.bytes h.1 k.size)
 
 -- such a world is one
-module _ (old : World) (is : IsWorld old) (next : Handles) (are : AreHandles next) (keeps : (slot : ℕ) (kind : Kind) (size : ℕ) (code : Bool) → IsObjectOf old slot kind size code → IsOwned next.heap slot kind size) where
+module _ (old : World) (is : IsWorld old) (next : Handles) (are : AreHandles next) (failures : ℕ) (keeps : (slot : ℕ) (kind : Kind) (size : ℕ) (code : Bool) → IsObjectOf old slot kind size code → IsOwned next.heap slot kind size) where
   abbrev new : World
-  new = record old { handles = next }
+  new = record old { handles = next; failures = failures }
 
   object_stays : (slot : ℕ) (kind : Kind) (size : ℕ) (code : Bool) → IsObjectOf old slot kind size code → IsObjectOf new slot kind size code
   object_stays slot kind size code h = record { object = keeps slot kind size code h; owned = h.owned }
@@ -132,8 +132,8 @@ module _ (old : World) (is : IsWorld old) (next : Handles) (are : AreHandles nex
   owner_is slot (Some o) (handle, number, m, inl s) = (handle, number, m, inl (segment_is slot handle number m s))
   owner_is slot (Some o) (handle, number, m, inr r) = (handle, number, m, inr (resource_is slot handle number m r))
 
-  pub world_stays : IsWorld new
-  world_stays = record {
+  pub world_recounted : IsWorld new
+  world_recounted = record {
     handles = are;
     numbers = is.numbers;
     names = is.names;
@@ -144,3 +144,11 @@ module _ (old : World) (is : IsWorld old) (next : Handles) (are : AreHandles nex
     no_resource = λ slot a i b j m n s r. is.no_resource slot a i b j m n (segment_was slot a i m s) (resource_was slot b j n r);
     owners = λ slot. owner_is slot (finmap.get old.owned slot) (is.owners slot);
   }
+
+-- and at the same count of failures
+pub world_stays : (old : World) → IsWorld old → (next : Handles) → AreHandles next → ((slot : ℕ) (kind : Kind) (size : ℕ) (code : Bool) → IsObjectOf old slot kind size code → IsOwned next.heap slot kind size) → IsWorld (record old { handles = next })
+world_stays old is next are keeps = world_recounted old is next are old.failures keeps
+
+-- whatever the count
+pub recounted : (world : World) → IsWorld world → (failures : ℕ) → IsWorld (record world { failures = failures })
+recounted world is failures = world_recounted world is world.handles is.handles failures (λ slot kind size code h. h.object)

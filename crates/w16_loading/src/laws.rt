@@ -1,6 +1,6 @@
 //! The laws of the definitions. Each function does nothing: its contract is the law.
 ghost use Rattle.w16_loading.specs.Fewest.{LoadFewestLaw, FetchFewestLaw};
-ghost use Rattle.w16_loading.specs.Law.{CallsKeepWorldsLaw, EmptyOfFilesLaw, FetchFaultsLaw, CodeLaw, RefusedLoadLaw, OneEndLaw, UsesApartLaw, FetchAgainLaw, FetchLaw, FetchRefusedLaw, OneClosureLaw, EarlyRefusalLaw, FillLaw, EmptyLaw, ClosureEndsLaw, UndoneLaw, FillsLaw, BoundOnceLaw};
+ghost use Rattle.w16_loading.specs.Law.{KeepsWorldsLaw, CallsKeepWorldsLaw, EmptyOfFilesLaw, FetchFaultsLaw, CodeLaw, RefusedLoadLaw, OneEndLaw, UsesApartLaw, FetchAgainLaw, FetchLaw, FetchRefusedLaw, OneClosureLaw, EarlyRefusalLaw, FillLaw, EmptyLaw, ClosureEndsLaw, UndoneLaw, FillsLaw, BoundOnceLaw};
 
 /// A fetch takes the bytes of what it discards, and keeps all else of the other objects.
 pub fn fetches_keep_others()
@@ -100,4 +100,9 @@ pub fn nothing_loaded_is_of_files()
 /// The calls on handles keep what holds of every world: modules keep their objects, of the kinds and sizes that their files say.
 pub fn calls_keep_worlds()
     ensures { CallsKeepWorldsLaw }
+{}
+
+/// Each step of each family keeps what holds of every world.
+pub fn steps_keep_worlds()
+    ensures { KeepsWorldsLaw }
 {}
