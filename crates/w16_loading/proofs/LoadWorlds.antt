@@ -10,6 +10,7 @@ use Rattle.w16_model.specs.Discards.{is_member}
 use Rattle.w16_model.specs.Heap.{Heap, Object, IsHeap, object_at}
 use Rattle.w16_model.specs.Handles.{AreHandles}
 use Rattle.w16_model.specs.Calls.{rounded_size}
+use Rattle.w16_model.specs.Law.{KeepsOthers}
 use Rattle.w16_model.proofs.Gaps.{Member, EachPair, Each-at, Each-from_All, EachPair-from_AllPairs, filter_member}
 use Rattle.w16_model.proofs.Discards.{is_member-true, true-is_member}
 use Rattle.w16_model.proofs.KeptHeaps.{inserted_here, inserted_other}
@@ -64,7 +65,7 @@ one_owned old slot bytes new is f q kind size long h = by_id (cases_eq q slot)
         let before : IsOwned old slot kind size = subst (λ x. IsOwned old x kind size) e h in
         let is_kind : (f.before.kind ≡ kind) × IfSome f.before.bytes (λ b. length b ≡ size) = subst (λ p. IsSomeAnd p (λ o. (o.kind ≡ kind) × IfSome o.bytes (λ b. length b ≡ size))) f.there before in
         subst (λ p. IsSomeAnd p (λ o. (o.kind ≡ kind) × IfSome o.bytes (λ b. length b ≡ size))) (sym (ap (object_at new) e ∙ filled_object old slot bytes new f)) (is_kind.0, long e)
-    by_id (inr d) = let k : (k : ℕ) × _ = filled_others old slot bytes new is f in stays_owned old new q kind size (other_stays old new (Some slot) k.0 q k.1 (apart d) there) h
+    by_id (inr d) = let k : (k : ℕ) × KeepsOthers old (Some slot) k new = filled_others old slot bytes new is f in stays_owned old new q kind size (other_stays old new (Some slot) k.0 q k.1 (apart d) there) h
 
 all_owned : (old new : Heap) (xs : List (ℕ × List ℕ)) → IsHeap old → FillsAll is_of_device old xs None new → (q : ℕ) (kind : Kind) (size : ℕ) → ((x : ℕ × List ℕ) → Member x xs → q ≡ x.0 → length x.1 ≡ size) → IsOwned old q kind size → IsOwned new q kind size
 all_owned old new [] is f q kind size long h = subst (λ (x : Heap). IsOwned x q kind size) (sym f.1) h
@@ -404,7 +405,7 @@ module _ (format : Format) (is_format : IsFormat format) (old : World) (is : IsW
   few_uses g = turn (g.place == 0)
     where
       turn : (b : Bool) → cond b 1 0 ≤ MOST_USES
-      turn true = omega arith
+      turn true = let most : MOST_USES ≡ 65000 = refl in omega (arith, most)
       turn false = omega arith
 
   new_module : (g : Given) → Member g gs → IsModule new g.handle (module_of g)

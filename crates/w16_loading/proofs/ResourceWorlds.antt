@@ -197,7 +197,7 @@ module _ (old : World) (is : IsWorld old) (slot : ℕ) (free : IsFreeSlot old.ha
       new_load = record {
         resource = subst (λ p. IsSomeAnd p (λ x. IsObjectOf made slot x.kind (rounded_size x.length_in) false)) (sym at) here;
         used = omega arith;
-        full = omega arith;
+        full = let most : MOST_USES ≡ 65000 = refl in omega (arith, most);
       }
 
       turn : (p : Option Load) → IfSome p (IsLoad old q) → IfSome p (IsLoad made q)
