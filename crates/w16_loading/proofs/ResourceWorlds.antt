@@ -246,11 +246,11 @@ module _ (old : World) (is : IsWorld old) (slot : ℕ) (free : IsFreeSlot old.ha
   its_module None e = cc
   its_module (Some m) e = (m, refl)
 
-  owner_is : (q : ℕ) → (q ≡ slot) ⊎ (q ≢ slot) → Owners made q (finmap.get made.owned q)
-  owner_is q (inl same) =
+  made_owner : (q : ℕ) → (q ≡ slot) ⊎ (q ≢ slot) → Owners made q (finmap.get made.owned q)
+  made_owner q (inl same) =
       let m : (m : Module) × (module_at old.modules handle ≡ Some m) = its_module (module_at old.modules handle) at in
       subst (Owners made q) (sym (inserted_here old.owned slot owner q same)) (handle, place, m.0, inr (record { loaded = m.1; loads = 1; has = inserted_here old.loads slot first q same }))
-  owner_is q (inr other) = subst (Owners made q) (sym (inserted_other old.owned slot owner q other)) (turn (finmap.get old.owned q) (is.owners q))
+  made_owner q (inr other) = subst (Owners made q) (sym (inserted_other old.owned slot owner q other)) (turn (finmap.get old.owned q) (is.owners q))
     where
       turn : (p : Option Owned) → Owners old q p → Owners made q p
       turn None h = tt
@@ -267,7 +267,7 @@ module _ (old : World) (is : IsWorld old) (slot : ℕ) (free : IsFreeSlot old.ha
     one_segment = λ q a i b j m n s t. is.one_segment q a i b j m n (segment_before q a i m s) (segment_before q b j n t);
     one_object = one_object;
     no_resource = no_resource;
-    owners = λ q. owner_is q (cases_eq q slot);
+    owners = λ q. made_owner q (cases_eq q slot);
   }
 
 -- LoadResource.

@@ -1,9 +1,11 @@
 -- Each step of each family keeps what holds of every world.
-use Rattle.std.proofs.Common.{◌≡◌, ◌≢◌, ℕ, inl, inr, ◌⊎◌, Bool, true, false, List, [], length, Option, Some, None, IfSome, IsSomeAnd, MatchResult, is_some, Result, Ok, Err, refl, sym, ap, ◌∙◌, subst}
+use Rattle.std.proofs.Common.{◌≡◌, ◌≢◌, ℕ, inl, inr, ◌⊎◌, Bool, true, false, List, [], ◌∷◌, length, Option, Some, None, IfSome, IsSomeAnd, MatchResult, is_some, Result, Ok, Err, refl, sym, ap, ◌∙◌, subst}
+use Rattle.std.specs.List.{AllByRecursion as Each}
 use Rattle.std.specs.FinMap as finmap
 use Rattle.w16_model.specs.declared.Kind.{Kind}
 use Rattle.w16_model.specs.declared.Kind.TheVariants.{Discardable}
 use Rattle.w16_model.specs.Heap.{Heap, Object, object_at}
+use Rattle.w16_model.proofs.Gaps.{Each-from_All}
 use Rattle.w16_model.proofs.KeptHandles.{other_handles}
 use Rattle.w16_loading.specs.declared.FetchFault.{FetchFault}
 use Rattle.w16_loading.specs.File.{Format, IsFormat, ModuleFile}
@@ -15,8 +17,9 @@ use Rattle.w16_loading.specs.Closure.Referent.{There, New}
 use Rattle.w16_loading.specs.Naming.{named, fills}
 use Rattle.w16_loading.specs.Load.{Answer, Refuses, Loads, LoadsFile, LoadsNew, Fulfils, used_again, undone, left}
 use Rattle.w16_loading.specs.Fetch.{Reply}
-use Rattle.w16_loading.specs.Machine.{Command, IsCommand, Step, FamilyStep, ModuleCommand, ModuleStep}
-use Rattle.w16_loading.specs.Law.{IsWorld, IsObjectOf, IsKeptAt, OnlyDiscards, TablesAreItsFiles, KeepsWorldsLaw}
+use Rattle.w16_loading.specs.Machine.{Command, IsCommand, Event, Step, FamilyStep, Run, ModuleCommand, ModuleStep}
+use Rattle.w16_loading.specs.Law.{IsWorld, IsObjectOf, IsKeptAt, OnlyDiscards, IsOfFiles, TablesAreItsFiles, KeepsWorldsLaw, RunsKeepWorldsLaw}
+use Rattle.w16_loading.proofs.CodeLaw.{code_law}
 use Rattle.w16_loading.proofs.RefusedLoad.{undone_discards}
 use Rattle.w16_loading.proofs.KeptWorlds.{IsOwned, world_stays, recounted}
 use Rattle.w16_loading.proofs.WorldSteps.{call_keeps_world}
@@ -96,3 +99,13 @@ counted_world world failures is = recounted (record world { failures = failures 
 
 pub keeps_worlds_law : KeepsWorldsLaw
 keeps_worlds_law format old new command reply is_format is of known step = counted_world new old.failures (stepped format is_format old is of.tables (record new { failures = old.failures }) command reply known step.step)
+
+pub runs_law : RunsKeepWorldsLaw
+runs_law format old new events is_format is of known run = each old events (Each-from_All (λ (e : Event). IsCommand e.command) events known) is of run
+  where
+    each : (now : World) (events : List Event) → Each (λ (e : Event). IsCommand e.command) events → IsWorld now → IsOfFiles format now → Run format now events new → IsWorld new × IsOfFiles format new
+    each now [] known is of run = (subst IsWorld (sym run) is, subst (IsOfFiles format) (sym run) of)
+    each now (event ∷ events) known is of run = each event.after events known.1
+        (keeps_worlds_law format now event.after event.command event.reply is_format is of known.0 run.0)
+        (code_law format now event.after event.command event.reply is of run.0)
+        run.1

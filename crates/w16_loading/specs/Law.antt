@@ -25,7 +25,7 @@ use Rattle.w16_loading.specs.Load.Answer.{Says, StoreFails}
 use Rattle.w16_loading.specs.Fetch.{Reply, Fetches, read_of, segment_bytes, is_code}
 use Rattle.w16_loading.specs.Free.{Go, Frees, used_less}
 use Rattle.w16_loading.specs.Resource.{resource_at}
-use Rattle.w16_loading.specs.Machine.{Command, IsCommand, HandleStep, Step}
+use Rattle.w16_loading.specs.Machine.{Command, IsCommand, Event, HandleStep, Step, Run}
 
 -- Worlds.
 
@@ -95,6 +95,10 @@ CallsKeepWorldsLaw = (old new : World) (command : HandleCommand) (reply : Reply)
 -- the code that a script reads is always its file's, relocated
 abbrev pub CodeLaw : Type 0
 CodeLaw = (format : Format) (old new : World) (command : Command) (reply : Reply) → IsWorld old → IsOfFiles format old → Step format old command reply new → IsOfFiles format new
+
+-- So do whole runs: whatever a script has done, the machine is in a world, and all in it is of its file.
+abbrev pub RunsKeepWorldsLaw : Type 0
+RunsKeepWorldsLaw = (format : Format) (old new : World) (events : List Event) → IsFormat format → IsWorld old → IsOfFiles format old → All (λ e. IsCommand e.command) events → Run format old events new → IsWorld new × IsOfFiles format new
 
 -- what was bound at load stays until the module goes
 abbrev pub BoundOnceLaw : Type 0

@@ -1,6 +1,6 @@
 //! The laws of the definitions. Each function does nothing: its contract is the law.
 ghost use Rattle.w16_loading.specs.Fewest.{LoadFewestLaw, FetchFewestLaw};
-ghost use Rattle.w16_loading.specs.Law.{KeepsWorldsLaw, CallsKeepWorldsLaw, EmptyOfFilesLaw, FetchFaultsLaw, CodeLaw, RefusedLoadLaw, OneEndLaw, UsesApartLaw, FetchAgainLaw, FetchLaw, FetchRefusedLaw, OneClosureLaw, EarlyRefusalLaw, FillLaw, EmptyLaw, ClosureEndsLaw, UndoneLaw, FillsLaw, BoundOnceLaw};
+ghost use Rattle.w16_loading.specs.Law.{RunsKeepWorldsLaw, KeepsWorldsLaw, CallsKeepWorldsLaw, EmptyOfFilesLaw, FetchFaultsLaw, CodeLaw, RefusedLoadLaw, OneEndLaw, UsesApartLaw, FetchAgainLaw, FetchLaw, FetchRefusedLaw, OneClosureLaw, EarlyRefusalLaw, FillLaw, EmptyLaw, ClosureEndsLaw, UndoneLaw, FillsLaw, BoundOnceLaw};
 
 /// A fetch takes the bytes of what it discards, and keeps all else of the other objects.
 pub fn fetches_keep_others()
@@ -105,4 +105,9 @@ pub fn calls_keep_worlds()
 /// Each step of each family keeps what holds of every world.
 pub fn steps_keep_worlds()
     ensures { KeepsWorldsLaw }
+{}
+
+/// Whatever a run has done, the machine is in a world, and all in it is of its file: code reads as its file's relocated bytes in every world of a run.
+pub fn runs_keep_worlds()
+    ensures { RunsKeepWorldsLaw }
 {}
