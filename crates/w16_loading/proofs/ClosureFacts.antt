@@ -32,6 +32,17 @@ no_place p xs e x m = turn (nat_lt (position_or_len p xs) (length xs)) refl e
 abbrev name_of : Found → List ℕ
 name_of f = f.read.tables.name
 
+-- What holds of a closure on the way.
+pub record IsClosure (a : Around) (closure : Closure) : Type 0 where
+  -- names are new, and different
+  pub new : (f : Found) → Member f closure.found → a.named (name_of f) ≡ None
+  pub apart : EachPair (λ f g. is_named (name_of f) (name_of g) ≡ false) closure.found
+  -- references are of modules that were found
+  pub pending : Each (λ x. x.0 < length closure.found) closure.pending
+  pub bound : Each (λ x. x.0 < length closure.found) closure.bound
+  -- each new module but the first is meant by another
+  pub asked : (place : ℕ) → 0 < place → place < length closure.found → (by : ℕ) × Member {X = ℕ × Referent} (by, New place) closure.bound × (by ≢ place)
+
 module _ (format : Format) (a : Around) where
   -- what nothing means, nothing has the name of
   meant_none : (found : List Found) (name : List ℕ) → meant a found name ≡ None → (a.named name ≡ None) × ((f : Found) → Member f found → is_named (name_of f) name ≡ false)
@@ -68,27 +79,16 @@ module _ (format : Format) (a : Around) where
       turn None e = cc
       turn (Some bytes) e = read_formatted found read (format bytes) e
 
-  -- What holds of a closure on the way.
-  pub record IsClosure (closure : Closure) : Type 0 where
-    -- names are new, and different
-    pub new : (f : Found) → Member f closure.found → a.named (name_of f) ≡ None
-    pub apart : EachPair (λ f g. is_named (name_of f) (name_of g) ≡ false) closure.found
-    -- references are of modules that were found
-    pub pending : Each (λ x. x.0 < length closure.found) closure.pending
-    pub bound : Each (λ x. x.0 < length closure.found) closure.bound
-    -- each new module but the first is meant by another
-    pub asked : (place : ℕ) → 0 < place → place < length closure.found → (by : ℕ) × Member {X = ℕ × Referent} (by, New place) closure.bound × (by ≢ place)
-
   each_both : {X : Type 0} (P : X → Type 0) (xs ys : List X) → Each P xs → Each P ys → Each P (xs ++ ys)
   each_both P [] ys h k = k
   each_both P (x ∷ xs) ys h k = (h.0, each_both P xs ys h.1 k)
 
   each_longer : {Y : Type 0} (xs : List (ℕ × Y)) (m n : ℕ) → m ≤ n → Each (λ x. x.0 < m) xs → Each (λ x. x.0 < n) xs
   each_longer [] m n le h = tt
-  each_longer (x ∷ xs) m n le h = (let lt : x.0 < m = h.0 in omega (arith, lt, le), each_longer xs m n le h.1)
+  each_longer (x ∷ xs) m n le h = ((let lt : x.0 < m = h.0 in omega (arith, lt, le)), each_longer xs m n le h.1)
 
   -- one more reference is bound
-  bound_more : (closure : Closure) (place : ℕ) (referent : Referent) → place < length closure.found → IsClosure closure → IsClosure (with_bound closure place referent)
+  bound_more : (closure : Closure) (place : ℕ) (referent : Referent) → place < length closure.found → IsClosure a closure → IsClosure a (with_bound closure place referent)
   bound_more closure place referent lt is = record {
     new = is.new;
     apart = is.apart;
@@ -108,8 +108,8 @@ module _ (format : Format) (a : Around) where
   each_mapped place n (name ∷ names) lt = (lt, each_mapped place n names lt)
 
   -- one more module is found, for a reference of another
-  found_more : (closure : Closure) (place : ℕ) (file : List ℕ) (read : ModuleFile) → place < length closure.found → IsClosure closure → meant a closure.found read.tables.name ≡ None
-      → IsClosure (with_bound (with_found closure file read) place (New (length closure.found)))
+  found_more : (closure : Closure) (place : ℕ) (file : List ℕ) (read : ModuleFile) → place < length closure.found → IsClosure a closure → meant a closure.found read.tables.name ≡ None
+      → IsClosure a (with_bound (with_found closure file read) place (New (length closure.found)))
   found_more closure place file read lt is none = record {
     new = λ f m. elim (parted f closure.found (one ∷ []) m) [ inl k ↦ is.new f k | inr k ↦ newest f k ];
     apart = apart_more closure.found one is.apart unnamed.1;
@@ -144,34 +144,34 @@ module _ (format : Format) (a : Around) where
           let same : p ≡ length closure.found = omega (arith, le, few, long) in
           (place, in_second {A = ℕ × Referent} (place, New p) closure.bound ((place, New (length closure.found)) ∷ []) (inl (λ i. (place, New (same i)))), λ e. absurd (omega (arith, e, lt, le)))
 
-  next_reading : (closure : Closure) (place : ℕ) (name : List ℕ) → place < length closure.found → IsClosure closure → (r : Reading) → reading format a closure.found (dll name) ≡ r → IfOk (of_reading format a closure place name r) IsClosure
+  next_reading : (closure : Closure) (place : ℕ) (name : List ℕ) → place < length closure.found → IsClosure a closure → (r : Reading) → reading format a closure.found (dll name) ≡ r → IfOk (of_reading format a closure place name r) (IsClosure a)
   next_reading closure place name lt is (Refused answer) e = tt
   next_reading closure place name lt is (Meant referent) e = bound_more closure place referent lt is
   next_reading closure place name lt is (Read read) e = found_more closure place (dll name) read lt is (read_new closure.found (dll name) read e)
 
-  next_meant : (closure : Closure) (place : ℕ) (name : List ℕ) → place < length closure.found → IsClosure closure → (m : Option Referent)
-      → IfOk {E = ℕ} (elim m [ Some referent ↦ Ok (with_bound closure place referent) | None ↦ of_reading format a closure place name (reading format a closure.found (dll name)) ]) IsClosure
+  next_meant : (closure : Closure) (place : ℕ) (name : List ℕ) → place < length closure.found → IsClosure a closure → (m : Option Referent)
+      → IfOk {E = ℕ} (elim m [ Some referent ↦ Ok (with_bound closure place referent) | None ↦ of_reading format a closure place name (reading format a closure.found (dll name)) ]) (IsClosure a)
   next_meant closure place name lt is (Some referent) = bound_more closure place referent lt is
   next_meant closure place name lt is None = next_reading closure place name lt is (reading format a closure.found (dll name)) refl
 
-  by_next : (n : ℕ) → ((next : Closure) → IsClosure next → IfOk (after format a n next) IsClosure) → (r : Result Closure ℕ) → IfOk r IsClosure → IfOk (from_next format a n r) IsClosure
+  by_next : (n : ℕ) → ((next : Closure) → IsClosure a next → IfOk (after format a n next) (IsClosure a)) → (r : Result Closure ℕ) → IfOk r (IsClosure a) → IfOk (from_next format a n r) (IsClosure a)
   by_next n again (Ok next) k = again next k
   by_next n again (Err answer) k = tt
 
-  by_list : (n : ℕ) → ((next : Closure) → IsClosure next → IfOk (after format a n next) IsClosure) → (closure : Closure) → IsClosure closure → (p : List (ℕ × List ℕ)) → closure.pending ≡ p → IfOk (from_list format a n closure p) IsClosure
+  by_list : (n : ℕ) → ((next : Closure) → IsClosure a next → IfOk (after format a n next) (IsClosure a)) → (closure : Closure) → IsClosure a closure → (p : List (ℕ × List ℕ)) → closure.pending ≡ p → IfOk (from_list format a n closure p) (IsClosure a)
   by_list n again closure is [] e = is
   by_list n again closure is (x ∷ rest) e =
       let few : Each (λ (y : ℕ × List ℕ). y.0 < length closure.found) (x ∷ rest) = subst (Each (λ (y : ℕ × List ℕ). y.0 < length closure.found)) e is.pending in
       by_next n again (followed format a (record closure { pending = rest }) x.0 x.1)
       (next_meant (record closure { pending = rest }) x.0 x.1 few.0 (record { new = is.new; apart = is.apart; pending = few.1; bound = is.bound; asked = is.asked }) (meant a closure.found x.1))
 
-  all_after : (n : ℕ) (closure : Closure) → IsClosure closure → IfOk (after format a n closure) IsClosure
+  all_after : (n : ℕ) (closure : Closure) → IsClosure a closure → IfOk (after format a n closure) (IsClosure a)
   all_after zero closure is = is
   all_after (suc n) closure is = by_list n (λ next k. all_after n next k) closure is closure.pending refl
 
   -- of a module asked for, and all that it needs
-  pub closure_is : (file : List ℕ) (read : ModuleFile) (closure : Closure) (n : ℕ) → reading format a [] file ≡ Read read → after format a n (begun file read) ≡ Ok closure → IsClosure closure
-  closure_is file read closure n e f = subst (λ r. IfOk r IsClosure) f (all_after n (begun file read) (record {
+  pub closure_is : (file : List ℕ) (read : ModuleFile) (closure : Closure) (n : ℕ) → reading format a [] file ≡ Read read → after format a n (begun file read) ≡ Ok closure → IsClosure a closure
+  closure_is file read closure n e f = subst (λ r. IfOk r (IsClosure a)) f (all_after n (begun file read) (record {
     new = λ g m. elim m [ inl same ↦ ap (λ (x : Found). a.named (name_of x)) same ∙ (meant_none [] read.tables.name (read_new [] file read e)).0 | inr k ↦ absurd k ];
     apart = (tt, tt);
     pending = each_mapped 0 1 read.tables.references (omega arith);

@@ -206,7 +206,7 @@ put_here module_of place (f ∷ fs) (h ∷ hs) (s ∷ ss) old differ g (inr m) =
 
 -- The world.
 module _ (format : Format) (is_format : IsFormat format) (old : World) (is : IsWorld old) (closure : Closure) (choice : Choice) (good : IsChoice old closure.found choice)
-    (of_files : AreOfFiles format (around old) closure) (facts : IsClosure format (around old) closure) (heap : Heap) (filled : FillsAll is_of_device (named old closure choice).handles.heap (fills old closure choice) None heap) where
+    (of_files : AreOfFiles format (around old) closure) (facts : IsClosure (around old) closure) (heap : Heap) (filled : FillsAll is_of_device (named old closure choice).handles.heap (fills old closure choice) None heap) where
   abbrev gs : List Given
   gs = given closure choice
 

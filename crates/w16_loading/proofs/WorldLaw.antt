@@ -55,7 +55,7 @@ discards_world old is heap d = world_stays old is (record old.handles { heap = h
     (λ q kind size code h. kept_owned old.handles.heap heap q kind size (d.objects q) h.object)
 
 module _ (format : Format) (is_format : IsFormat format) (old : World) (is : IsWorld old) where
-  fulfilled : (closure : Closure) → AreOfFiles format (around old) closure → IsClosure format (around old) closure → (answer : Answer) (new : World) → Fulfils old closure answer new → IsWorld new
+  fulfilled : (closure : Closure) → AreOfFiles format (around old) closure → IsClosure (around old) closure → (answer : Answer) (new : World) → Fulfils old closure answer new → IsWorld new
   fulfilled closure of_files facts answer new f = subst IsWorld (sym f.after) (turn f.fault f.filled)
     where
       turn : (fault : Option FetchFault) → FillsAll is_of_device (named old closure f.choice).handles.heap (fills old closure f.choice) fault f.heap → IsWorld (left fault (with_heap (named old closure f.choice) f.heap) (undone old f.choice f.heap))
