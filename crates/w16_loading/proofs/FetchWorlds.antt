@@ -71,7 +71,7 @@ pub read_file : (format : Format) → IsFormat format → (p : Option (List ℕ)
 read_file format is None = tt
 read_file format is (Some file) = turn (format file) (is file)
   where
-    turn : (r : Result ModuleFile ℕ) → MatchResult r IsModuleFile (λ answer. (11 ≤ answer) × (answer ≤ 14)) → IfSome {A = ModuleFile} (elim r [ Ok read ↦ Some read | Err _ ↦ None ]) IsModuleFile
+    turn : (r : Result ModuleFile ℕ) → MatchResult r IsModuleFile (λ answer. (11 ≤ answer) × (answer ≤ 14)) → IfSome {T = ModuleFile} (elim r [ Ok read ↦ Some read | Err _ ↦ None ]) IsModuleFile
     turn (Ok read) h = h
     turn (Err answer) h = tt
 

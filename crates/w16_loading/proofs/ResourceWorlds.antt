@@ -345,7 +345,7 @@ lock_world format is_format old new is tables handle reply step = by_slot (slot_
 resource_there : (old : World) (handle : ℕ) (x : ℕ × Load) → slot_of_resource old handle ≡ Some x → finmap.get old.loads x.0 ≡ Some x.1
 resource_there old handle x = turn (slot_of_handle old.handles handle)
   where
-    by_load : (slot : ℕ) (p : Option Load) → finmap.get old.loads slot ≡ p → option_map {A = Load} (λ load. (slot, load)) p ≡ Some x → finmap.get old.loads x.0 ≡ Some x.1
+    by_load : (slot : ℕ) (p : Option Load) → finmap.get old.loads slot ≡ p → ◌≡◌ {A = Option (ℕ × Load)} (option_map (λ load. (slot, load)) p) (Some x) → finmap.get old.loads x.0 ≡ Some x.1
     by_load slot None e f = cc
     by_load slot (Some load) e f =
         let same : ◌≡◌ {A = ℕ × Load} (slot, load) x = cc in
