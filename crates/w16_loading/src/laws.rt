@@ -1,6 +1,6 @@
 //! The laws of the definitions. Each function does nothing: its contract is the law.
 ghost use Rattle.w16_loading.specs.Fewest.{LoadFewestLaw, FetchFewestLaw};
-ghost use Rattle.w16_loading.specs.Law.{RunsKeepWorldsLaw, KeepsWorldsLaw, CallsKeepWorldsLaw, EmptyOfFilesLaw, FetchFaultsLaw, CodeLaw, RefusedLoadLaw, OneEndLaw, UsesApartLaw, FetchAgainLaw, FetchLaw, FetchRefusedLaw, OneClosureLaw, EarlyRefusalLaw, FillLaw, EmptyLaw, ClosureEndsLaw, UndoneLaw, FillsLaw, BoundOnceLaw};
+ghost use Rattle.w16_loading.specs.Law.{CodeReadsLaw, RunsKeepWorldsLaw, KeepsWorldsLaw, CallsKeepWorldsLaw, EmptyOfFilesLaw, FetchFaultsLaw, CodeLaw, RefusedLoadLaw, OneEndLaw, UsesApartLaw, FetchAgainLaw, FetchLaw, FetchRefusedLaw, OneClosureLaw, EarlyRefusalLaw, FillLaw, EmptyLaw, ClosureEndsLaw, UndoneLaw, FillsLaw, BoundOnceLaw};
 
 /// A fetch takes the bytes of what it discards, and keeps all else of the other objects.
 pub fn fetches_keep_others()
@@ -110,4 +110,9 @@ pub fn steps_keep_worlds()
 /// Whatever a run has done, the machine is in a world, and all in it is of its file: code reads as its file's relocated bytes in every world of a run.
 pub fn runs_keep_worlds()
     ensures { RunsKeepWorldsLaw }
+{}
+
+/// What a far read of code answers is a part of its file's bytes, relocated, also where it is fetched for the read.
+pub fn reads_of_code_are_its_files()
+    ensures { CodeReadsLaw }
 {}
