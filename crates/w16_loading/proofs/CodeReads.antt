@@ -52,10 +52,10 @@ code_reads_law format old new pointer count bytes slot handle number m is of ste
     after next f g =
         let good : IsOfFiles format next = code_kept format old next (fetched_code format old (far_slot old.handles (selector_in pointer)) None next is.handles.heap (world_fetches format old is (far_slot old.handles (selector_in pointer))) f) of in
         let there : slot_of_selector next.handles (selector_in pointer) ≡ Some slot =
-            same_selector old.handles next.handles (fills_there is_of_device old.handles.heap next.handles.heap ((far_slot old.handles (selector_in pointer), f.bytes) ∷ []) None is.handles.heap f.filled) (selector_in pointer) ∙ named in
+        same_selector old.handles next.handles (fills_there is_of_device old.handles.heap next.handles.heap ((far_slot old.handles (selector_in pointer), f.bytes) ∷ []) None is.handles.heap f.filled) (selector_in pointer) ∙ named in
         let in_next : IsSegmentOf next slot handle number m = record { loaded = ap (λ (w : World). module_at w.modules handle) f.rest ∙ segment.loaded; has = segment.has } in
         let read : IsSomeAnd (segment_bytes format next m number) (λ image. bytes ≡ part image (offset_in pointer) count) =
-            read_bytes format next (selector_in pointer) (offset_in pointer) count slot handle number m bytes good.code in_next (ap (λ (w : World). is_code w slot) f.rest ∙ coded) there g.0 in
+        read_bytes format next (selector_in pointer) (offset_in pointer) count slot handle number m bytes good.code in_next (ap (λ (w : World). is_code w slot) f.rest ∙ coded) there g.0 in
         subst (λ p. IsSomeAnd p (λ image. bytes ≡ part image (offset_in pointer) count)) (ap (λ (w : World). image_of format w.files m.file m.values number) f.rest) read
 
     fetched : (fault : Option FetchFault) (next : World) → Fetches format old (far_slot old.handles (selector_in pointer)) fault next

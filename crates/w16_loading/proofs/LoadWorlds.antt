@@ -253,9 +253,11 @@ module _ (format : Format) (is_format : IsFormat format) (old : World) (is : IsW
       let i : (i : ℕ) × (slice_get (zip pairs images) i ≡ Some y.0) = member_place (zip pairs images) y.0 y.1 in
       let at : (slice_get pairs i.0 ≡ Some y.0.0) × (slice_get images i.0 ≡ Some y.0.1) = zip_place pairs images i.0 y.0 i.1 in
       let left : (slice_get g.slots i.0 ≡ Some y.0.0.0) × (slice_get g.found.read.tables.segments i.0 ≡ Some y.0.0.1) = zip_place g.slots g.found.read.tables.segments i.0 y.0.0 at.0 in
-      let right : (slice_get g.found.read.segments i.0 ≡ Some y.0.1.0) × (slice_get (module_of g).values i.0 ≡ Some y.0.1.1) = zip_place g.found.read.segments (module_of g).values i.0 y.0.1 at.1 in
-      (y.0.0.1, subst (λ q. Member {X = ℕ × Segment} (q, y.0.0.1) (segments_of gs)) (sym y.2) (given_segment gs g y.0.0 member (place_member pairs i.0 y.0.0 at.0)),
-      ap length y.3 ∙ (data_size i.0 y.0.0.1 y.0.1.0 left.1 right.0 y.0.1.1))
+      let right : (slice_get g.found.read.segments i.0 ≡ Some y.0.1.0) × (slice_get (module_of g).values i.0 ≡ Some y.0.1.1) = zip_place g.found.read.segments (module_of g).values i.0 y.0.1 at.1 in (
+        y.0.0.1,
+        subst (λ q. Member {X = ℕ × Segment} (q, y.0.0.1) (segments_of gs)) (sym y.2) (given_segment gs g y.0.0 member (place_member pairs i.0 y.0.0 at.0)),
+        ap length y.3 ∙ (data_size i.0 y.0.0.1 y.0.1.0 left.1 right.0 y.0.1.1),
+      )
     where
       file : IsModuleFile g.found.read
       file = subst (λ p. IfSome p IsModuleFile) (Each-at (IsOfFile format (around old)) closure.found of_files g.found (given_found 0 closure.found choice.handles choice.slots g member)) (read_file format is_format (file_of old.files g.found.file))
@@ -263,7 +265,7 @@ module _ (format : Format) (is_format : IsFormat format) (old : World) (is : IsW
       data_size : (i : ℕ) (segment : Segment) (s : SegmentData) → slice_get g.found.read.tables.segments i ≡ Some segment → slice_get g.found.read.segments i ≡ Some s → (values : List Far) → length (s.image values) ≡ segment.size
       data_size i segment s e f values =
           let both : IsSomeAnd (slice_get g.found.read.segments i) (IsSegmentData segment) = subst (λ p. MatchOption p (Unit {0}) (λ x. IsSomeAnd (slice_get g.found.read.segments i) (IsSegmentData x))) e
-              (AllZip-left IsSegmentData g.found.read.tables.segments g.found.read.segments file.segments i) in
+          (AllZip-left IsSegmentData g.found.read.tables.segments g.found.read.segments file.segments i) in
           let is_data : IsSegmentData segment s = subst (λ p. IsSomeAnd p (IsSegmentData segment)) f both in
           (is_data.image values).0
 
@@ -482,9 +484,10 @@ module _ (format : Format) (is_format : IsFormat format) (old : World) (is : IsW
 
       turn : ((g : Given) × Member g gs × (g.handle ≡ a) × (slice_get g.slots (i - 1) ≡ Some q)) ⊎ IsSegmentOf old q a i m → ((g : Given) × Member g gs × (g.handle ≡ b) × (slice_get g.slots (j - 1) ≡ Some q)) ⊎ IsSegmentOf old q b j n → (a ≡ b) × (i ≡ j)
       turn (inl u) (inl v) =
-          let same : v.0 ≡ u.0 = one_given 0 closure.found choice.handles choice.slots u.0 v.0 q slots_differ u.1 v.1 (place_member u.0.slots (i - 1) q u.3) (place_member v.0.slots (j - 1) q v.3) in
-          (sym u.2 ∙ (λ k. (sym same k).handle) ∙ v.2,
-          place i j s.has.0 t.has.0 (one_place u.0.slots (i - 1) (j - 1) q (given_slots_differ 0 closure.found choice.handles choice.slots u.0 slots_differ u.1) u.3 (ap (λ (g : Given). slice_get g.slots (j - 1)) (sym same) ∙ v.3)))
+          let same : v.0 ≡ u.0 = one_given 0 closure.found choice.handles choice.slots u.0 v.0 q slots_differ u.1 v.1 (place_member u.0.slots (i - 1) q u.3) (place_member v.0.slots (j - 1) q v.3) in (
+            sym u.2 ∙ (λ k. (sym same k).handle) ∙ v.2,
+            place i j s.has.0 t.has.0 (one_place u.0.slots (i - 1) (j - 1) q (given_slots_differ 0 closure.found choice.handles choice.slots u.0 slots_differ u.1) u.3 (ap (λ (g : Given). slice_get g.slots (j - 1)) (sym same) ∙ v.3)),
+          )
       turn (inl u) (inr v) = absurd (false≢true (sym (ap is_some (slot_free q (i - 1) u.0 u.1 u.3)) ∙ segment_object old is q b j n v))
       turn (inr u) (inl v) = absurd (false≢true (sym (ap is_some (slot_free q (j - 1) v.0 v.1 v.3)) ∙ segment_object old is q a i m u))
       turn (inr u) (inr v) = is.one_segment q a i b j m n u v
@@ -551,11 +554,15 @@ module _ (format : Format) (is_format : IsFormat format) (old : World) (is : IsW
       let g : (g : Given) × Member g gs × Member r.0 (zip g.slots g.found.read.tables.segments) = segment_given gs r.0 r.1 in
       let i : (i : ℕ) × (slice_get (zip g.0.slots g.0.found.read.tables.segments) i ≡ Some r.0) = member_place (zip g.0.slots g.0.found.read.tables.segments) r.0 g.2 in
       let at : slice_get g.0.slots i.0 ≡ Some r.0.0 = (zip_place g.0.slots g.0.found.read.tables.segments i.0 r.0 i.1).0 in
-      subst (Owners new q) (sym (ap (finmap.get new.owned) (sym r.2) ∙ named_owned old (segments_of gs) segments_differ r.0 r.1))
-      (g.0.handle, i.0 + 1, module_of g.0, inl (record {
-        loaded = ap module_in (put_here module_of 0 closure.found choice.handles choice.slots old.modules handles_differ g.0 g.1);
-        has = (omega arith, ap (slice_get g.0.slots) (back i.0) ∙ at ∙ ap Some r.2);
-      }))
+      subst (Owners new q) (sym (ap (finmap.get new.owned) (sym r.2) ∙ named_owned old (segments_of gs) segments_differ r.0 r.1)) (
+        g.0.handle,
+        i.0 + 1,
+        module_of g.0,
+        inl (record {
+          loaded = ap module_in (put_here module_of 0 closure.found choice.handles choice.slots old.modules handles_differ g.0 g.1);
+          has = (omega arith, ap (slice_get g.0.slots) (back i.0) ∙ at ∙ ap Some r.2);
+        }),
+      )
     where
       back : (n : ℕ) → n + 1 - 1 ≡ n
       back n = omega arith

@@ -205,17 +205,20 @@ module _ (old : World) (is : IsWorld old) (handle : ℕ) (m : Module) (there : f
       here : h ≡ handle → Some n ≡ Some more → (0 < usage modules h) × (n.uses ≤ MOST_USES)
       here same e =
           let f : n ≡ more = cc in
-          let some : 0 < m.uses + 1 + importers modules h = omega arith in
-          (subst (λ p. 0 < usage_with p (importers modules h)) (sym (inserted_here old.modules handle (Loaded more) h same)) some,
-          subst (λ (x : Module). x.uses ≤ MOST_USES) (sym f) (omega (arith, few)))
+          let some : 0 < m.uses + 1 + importers modules h = omega arith in (
+            subst (λ p. 0 < usage_with p (importers modules h)) (sym (inserted_here old.modules handle (Loaded more) h same)) some,
+            subst (λ (x : Module). x.uses ≤ MOST_USES) (sym f) (omega (arith, few)),
+          )
 
       elsewhere : h ≢ handle → (0 < usage modules h) × (n.uses ≤ MOST_USES)
       elsewhere other =
           let at : finmap.get old.modules h ≡ Some (Loaded n) = loaded_is (finmap.get old.modules h) n (ap module_in (sym (inserted_other old.modules handle (Loaded more) h other)) ∙ e) in
           let sound : IsModule old h n = subst (λ p. IfSome (module_in p) (IsModule old h)) at (is.modules h) in
-          let lt : 0 < n.uses + importers old.modules h = subst (λ p. 0 < usage_with p (importers old.modules h)) at sound.used in
-          (subst (λ p. 0 < usage_with p (importers modules h)) (sym (inserted_other old.modules handle (Loaded more) h other ∙ at))
-          (still_used old.modules modules h n.uses n.uses (omega arith) (importers_stay old.modules modules h (named_after h)) lt), sound.full)
+          let lt : 0 < n.uses + importers old.modules h = subst (λ p. 0 < usage_with p (importers old.modules h)) at sound.used in (
+            subst (λ p. 0 < usage_with p (importers modules h)) (sym (inserted_other old.modules handle (Loaded more) h other ∙ at))
+                (still_used old.modules modules h n.uses n.uses (omega arith) (importers_stay old.modules modules h (named_after h)) lt),
+            sound.full,
+          )
 
   pub used_world : IsWorld (after_use old handle m)
   used_world = module_world old is modules numbers names sources stays used
@@ -315,9 +318,11 @@ module _ (old : World) (is : IsWorld old) (handle : ℕ) (name : List ℕ) (free
       let was : (h ≢ handle) × (module_at old.modules h ≡ Some m) = loaded_now h m e in
       let at : finmap.get old.modules h ≡ Some (Loaded m) = loaded_is (finmap.get old.modules h) m was.1 in
       let sound : IsModule old h m = subst (λ p. IfSome (module_in p) (IsModule old h)) at (is.modules h) in
-      let lt : 0 < m.uses + importers old.modules h = subst (λ p. 0 < usage_with p (importers old.modules h)) at sound.used in
-      (subst (λ p. 0 < usage_with p (importers with_built_in h)) (sym (inserted_other old.modules handle (BuiltIn name) h was.0 ∙ at))
-      (still_used old.modules with_built_in h m.uses m.uses (omega arith) (importers_stay old.modules with_built_in h (named_still h)) lt), sound.full)
+      let lt : 0 < m.uses + importers old.modules h = subst (λ p. 0 < usage_with p (importers old.modules h)) at sound.used in (
+        subst (λ p. 0 < usage_with p (importers with_built_in h)) (sym (inserted_other old.modules handle (BuiltIn name) h was.0 ∙ at))
+            (still_used old.modules with_built_in h m.uses m.uses (omega arith) (importers_stay old.modules with_built_in h (named_still h)) lt),
+        sound.full,
+      )
 
   pub built_world : IsWorld (record old { modules = with_built_in })
   built_world = module_world old is with_built_in built_numbers built_names

@@ -58,7 +58,7 @@ module _ (old : World) (is : IsWorld old) (gone : ℕ → Bool) (modules : Modul
     (kept_loads : (slot : ℕ) (load : Load) → finmap.get loads slot ≡ Some load → gone slot ≡ false)
     (kept_modules : (slot : ℕ) (load : Load) (before : Module) → finmap.get loads slot ≡ Some load → module_at old.modules load.handle ≡ Some before → (m : Module) × (module_at modules load.handle ≡ Some m) × SameModule m before)
     (owners : (slot handle number : ℕ) (m : Module) → gone slot ≡ false → IsSegmentOf old slot handle number m ⊎ IsResourceOf old slot handle number m
-        → (n : Module) × (IsSegmentOf (shrunk old gone modules loads) slot handle number n ⊎ IsResourceOf (shrunk old gone modules loads) slot handle number n)) where
+    → (n : Module) × (IsSegmentOf (shrunk old gone modules loads) slot handle number n ⊎ IsResourceOf (shrunk old gone modules loads) slot handle number n)) where
   abbrev new : World
   new = shrunk old gone modules loads
 
