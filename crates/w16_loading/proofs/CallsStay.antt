@@ -1,12 +1,10 @@
 -- What calls on handles leave of an object that is there and isn't freed: its kind, and its size or no bytes.
-use Rattle.std.proofs.Common.{◌≡◌, ◌≢◌, ℕ, ◌+◌, ◌-◌, inl, inr, Bool, true, false, cond, not, if◌then◌else◌, ◌==◌, nat_lt, List, take, Option, Some, None, IfSome, IsSomeAnd, is_some, IfOk, Result, Ok, Err, MatchBool, refl, sym, ap, ◌∙◌, subst}
+use Rattle.std.proofs.Common.{◌≡◌, ◌≢◌, ℕ, ◌+◌, ◌-◌, inl, inr, Bool, true, false, cond, not, if◌then◌else◌, ◌==◌, nat_lt, List, Option, Some, None, is_some, IfOk, Result, Ok, Err, MatchBool, refl, sym, ap, ◌∙◌, subst}
 use Rattle.std.specs.FinMap as finmap
-use Rattle.std.proofs.lemmas.Bool.{false≢true, cases_Bool, cases_eq}
-use Rattle.w16_model.specs.declared.Kind.TheVariants.{Discardable}
+use Rattle.std.proofs.lemmas.Bool.{false≢true}
 use Rattle.w16_model.specs.declared.Refusal.{Refusal}
 use Rattle.w16_model.specs.declared.Refusal.TheVariants as refusals
-use Rattle.w16_model.specs.Discards.{eligible, is_member}
-use Rattle.w16_model.specs.Heap.{Heap, Object, blocks, object_at, bytes_at, is_fixed}
+use Rattle.w16_model.specs.Heap.{Heap, Object, object_at, is_fixed}
 use Rattle.w16_model.specs.Changes.{with_object, with_ordered, with_newest, newest, oldest, touched, removed}
 use Rattle.w16_model.specs.OneObject.{Enters, after_free, after_lock, after_unlock, refused_order}
 use Rattle.w16_model.specs.Request.{IsNew, Allocates, MakesRoom, most_room, compaction_prefix, prefix_of}
@@ -14,8 +12,7 @@ use Rattle.w16_model.specs.Handles.{Handles, AreHandles, slot_of_handle, selecto
 use Rattle.w16_model.specs.Calls.{HandleCommand, Answer, HandleStep, AnswersAlloc, GlobalCompacts, locks_at, handle_or_0, global_free, global_lock, global_unlock, is_absent_asked, kind_asked, way_asked, rounded_size}
 use Rattle.w16_model.specs.Calls.Answer.{Word, Dword, Walked}
 use Rattle.w16_model.specs.Calls.HandleCommand.{GlobalAlloc, GlobalFree, GlobalLock, GlobalUnlock, GlobalSize, GlobalFlags, GlobalHandle, GetSelectorBase, GetSelectorLimit, GlobalCompact, GlobalLRUNewest, GlobalLRUOldest, Moved, Walk}
-use Rattle.w16_model.specs.Law.{KeepsOthers}
-use Rattle.w16_model.proofs.KeptHeaps.{inserted_here, inserted_other, taken_here, taken_other, bytes_in}
+use Rattle.w16_model.proofs.KeptHeaps.{inserted_other, taken_other}
 use Rattle.w16_model.proofs.KeptHandles.{settled}
 use Rattle.w16_model.proofs.Others.{others_law}
 use Rattle.w16_loading.proofs.KeptWorlds.{Stays, same_stays, put_stays, other_stays}

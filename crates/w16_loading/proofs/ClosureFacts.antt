@@ -1,9 +1,8 @@
 -- What a closure has found: modules of names that nothing had, each but the first asked for by another.
-use Rattle.std.proofs.Common.{◌≡◌, ◌≢◌, ℕ, zero, suc, ◌+◌, ◌<◌, ◌≤◌, ◌==◌, inl, inr, ◌⊎◌, Bool, true, false, cond, not, nat_lt, List, [], ◌∷◌, ◌++◌, length, map, position, Option, Some, None, Result, Ok, Err, IfOk, option_map, refl, sym, ap, ◌∙◌, subst, arith, ltb-true, ltb-false, length-append}
+use Rattle.std.proofs.Common.{◌≡◌, ◌≢◌, ℕ, zero, suc, ◌+◌, ◌<◌, ◌≤◌, inl, inr, Bool, true, false, cond, not, nat_lt, List, [], ◌∷◌, ◌++◌, length, map, position, Option, Some, None, Result, Ok, Err, IfOk, option_map, refl, sym, ap, ◌∙◌, subst, arith, ltb-true, ltb-false, length-append}
 use Rattle.std.specs.List.{AllByRecursion as Each, position_or_len}
 use Rattle.std.specs.Option.{option_or}
-use Rattle.std.proofs.lemmas.Bool.{false≢true}
-use Rattle.w16_model.proofs.Gaps.{Member, EachPair, Each-at, Each-from}
+use Rattle.w16_model.proofs.Gaps.{Member, EachPair}
 use Rattle.w16_store.specs.Names.{is_named}
 use Rattle.w16_loading.specs.File.{Format, ModuleFile}
 use Rattle.w16_loading.specs.Closure.{Around, Closure, Found, Reading, Referent, reading, meant, are_sound, followed, after, begun, dll, with_bound, with_found}

@@ -1,5 +1,5 @@
 -- What a script reads of code is its file's, relocated.
-use Rattle.std.proofs.Common.{◌≡◌, ℕ, ◌+◌, ◌/◌, inl, inr, Bool, true, false, ◌&&◌, ◌==◌, if◌then◌else◌, List, [], ◌∷◌, length, Option, Some, None, IfSome, IsSomeAnd, MatchOption, MatchBool, is_some, unwrap_or, refl, sym, ap, ◌∙◌, subst}
+use Rattle.std.proofs.Common.{◌≡◌, ℕ, ◌+◌, ◌/◌, Bool, true, false, ◌&&◌, ◌==◌, if◌then◌else◌, List, [], ◌∷◌, Option, Some, None, IfSome, IsSomeAnd, MatchOption, MatchBool, is_some, unwrap_or, refl, sym, ap, ◌∙◌, subst}
 use Rattle.w16_model.specs.declared.FarFault.{FarFault}
 use Rattle.w16_model.specs.Bytes.{part}
 use Rattle.w16_model.specs.Heap.{object_at, bytes_at}
@@ -12,9 +12,9 @@ use Rattle.w16_loading.specs.declared.FetchFault.{FetchFault}
 use Rattle.w16_loading.specs.File.{Format}
 use Rattle.w16_loading.specs.Modules.{World, Module, IsSegmentOf, module_at, is_owned}
 use Rattle.w16_loading.specs.Fill.{is_of_device}
-use Rattle.w16_loading.specs.Fetch.{Reply, Fetches, segment_bytes, is_code, far_read, gives, is_not_present, reply_of_far}
+use Rattle.w16_loading.specs.Fetch.{Fetches, segment_bytes, is_code, far_read, gives, is_not_present, reply_of_far}
 use Rattle.w16_loading.specs.Fetch.Reply.{Plain, Failed}
-use Rattle.w16_loading.specs.Law.{IsWorld, CodeIsItsFiles, IsOfFiles, CodeReadsLaw}
+use Rattle.w16_loading.specs.Law.{CodeIsItsFiles, IsOfFiles, CodeReadsLaw}
 use Rattle.w16_loading.proofs.KeptCode.{code_kept, fetched_code, image_of}
 use Rattle.w16_loading.proofs.CodeSteps.{world_fetches}
 use Rattle.w16_loading.proofs.FetchWorlds.{fills_there}

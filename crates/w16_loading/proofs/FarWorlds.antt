@@ -1,13 +1,13 @@
 -- Far accesses keep what holds of every world, with the fetches that they ask for.
-use Rattle.std.proofs.Common.{◌≡◌, ◌≢◌, ℕ, ◌+◌, ◌<◌, ◌≤◌, inl, inr, ◌⊎◌, Bool, true, false, cond, ◌&&◌, List, length, All, Option, Some, None, IfSome, IsSomeAnd, MatchOption, MatchBool, option_map, refl, sym, ap, ◌∙◌, subst}
-use Rattle.std.proofs.lemmas.Bool.{false≢true, cases_eq}
+use Rattle.std.proofs.Common.{◌≡◌, ◌≢◌, ℕ, ◌+◌, ◌<◌, ◌≤◌, inl, inr, ◌⊎◌, Bool, true, false, cond, ◌&&◌, List, length, All, Option, Some, None, IfSome, IsSomeAnd, MatchOption, MatchBool, option_map, refl, sym, ◌∙◌, subst}
+use Rattle.std.proofs.lemmas.Bool.{cases_eq}
 use Rattle.w16_model.specs.declared.Kind.{Kind}
 use Rattle.w16_model.specs.declared.FarFault.{FarFault}
 use Rattle.w16_model.specs.declared.FarFault.TheVariants as far
 use Rattle.w16_model.specs.Bytes.{part, put_part, repeated}
-use Rattle.w16_model.specs.Heap.{Heap, Object, object_at}
+use Rattle.w16_model.specs.Heap.{Object, object_at}
 use Rattle.w16_model.specs.OneObject.{after_touch}
-use Rattle.w16_model.specs.Handles.{Handles, AreHandles, selector_in, offset_in}
+use Rattle.w16_model.specs.Handles.{Handles, selector_in, offset_in}
 use Rattle.w16_model.specs.Far as far_access
 use Rattle.w16_model.specs.Far.{FarAnswer, FarCommand, IsFarCommand, far_fault, far_slot, far_bytes, after_write}
 use Rattle.w16_model.proofs.Parts.{length-put_part, All-repeated}
@@ -20,7 +20,7 @@ use Rattle.w16_loading.specs.Modules.{World, is_owned}
 use Rattle.w16_loading.specs.Fetch.{Reply, Fetches, Accesses, far_read, far_write, gives, is_not_present, refuses_write, with_handles}
 use Rattle.w16_loading.specs.Fetch.Reply.{Failed}
 use Rattle.w16_loading.specs.Machine.{FarStep}
-use Rattle.w16_loading.specs.Law.{IsWorld, IsObjectOf, TablesAreItsFiles}
+use Rattle.w16_loading.specs.Law.{IsWorld, TablesAreItsFiles}
 use Rattle.w16_loading.proofs.KeptWorlds.{IsOwned, world_stays}
 use Rattle.w16_loading.proofs.FetchWorlds.{fetched_world}
 

@@ -1,6 +1,5 @@
 -- A fetch keeps what holds of every world: what it gives has the size that the world has of it, where the module's tables are its file's.
 use Rattle.std.proofs.Common.{◌≡◌, ◌≢◌, ℕ, ◌-◌, ◌<◌, ◌≤◌, ◌==◌, inl, inr, ◌⊎◌, Bool, true, false, cond, List, [], ◌∷◌, length, take, Option, Some, None, IfSome, IsSomeAnd, MatchOption, MatchResult, is_some, option_map, unwrap_or, slice_get, slice_index_or, Result, Ok, Err, refl, sym, ap, ◌∙◌, subst, arith, ne_eqb}
-use Rattle.std.specs.List.{AllZip}
 use Rattle.std.specs.FinMap as finmap
 use Rattle.std.proofs.lemmas.Bool.{false≢true, cases_Bool, cases_eq}
 use Rattle.std.proofs.lemmas.Slice.Zip.{AllZip-left}
@@ -15,10 +14,9 @@ use Rattle.w16_model.proofs.KeptHandles.{other_handles}
 use Rattle.w16_store.specs.Files.{file_of}
 use Rattle.w16_loading.specs.declared.FetchFault.{FetchFault}
 use Rattle.w16_loading.specs.File.{Format, IsFormat, IsModuleFile, IsSegmentData, ModuleFile, Tables, Segment, SegmentData, Resource, Far, numbered}
-use Rattle.w16_loading.specs.Modules.{World, Load, Owned, Module, IsSegmentOf, IsResourceOf, module_at, with_heap}
+use Rattle.w16_loading.specs.Modules.{World, Load, Owned, Module, IsSegmentOf, IsResourceOf}
 use Rattle.w16_loading.specs.Fill.{Fills, FillsAll, asked_of, is_of_device}
 use Rattle.w16_loading.specs.Fetch.{Fetches, IsImage, read_of, segment_bytes, resource_bytes}
-use Rattle.w16_loading.specs.Resource.{resource_at}
 use Rattle.w16_loading.specs.Law.{IsWorld, IsModule, IsObjectOf, IsLoad, TablesAreItsFiles}
 use Rattle.w16_loading.proofs.Fetched.{refused}
 use Rattle.w16_loading.proofs.Kept.{fills_law}
@@ -28,7 +26,6 @@ use Rattle.w16_loading.proofs.Fewest.{filled_heap}
 use Rattle.w16_loading.proofs.KeptCode.{filled_others}
 use Rattle.w16_loading.proofs.CodeLoads.{read_by}
 use Rattle.w16_loading.proofs.KeptWorlds.{IsOwned, other_stays, stays_owned, world_stays}
-use Rattle.w16_loading.proofs.WorldSteps.{owned_there}
 
 -- Fills leave objects where they were.
 

@@ -1,11 +1,10 @@
 -- Uses that end keep what holds of every world: what goes are modules that nobody uses, with their objects and those of their resources.
-use Rattle.std.proofs.Common.{◌≡◌, ◌≢◌, ℕ, zero, suc, ◌+◌, ◌-◌, ◌<◌, ◌≤◌, inl, inr, ◌⊎◌, Bool, true, false, cond, not, ◌&&◌, ◌||◌, List, [], ◌∷◌, filter, Option, Some, None, IfSome, IsSomeAnd, is_some, slice_get, refl, sym, ap, ◌∙◌, subst, arith, add-one}
+use Rattle.std.proofs.Common.{◌≡◌, ◌≢◌, ℕ, zero, suc, ◌+◌, ◌-◌, ◌<◌, ◌≤◌, inl, inr, ◌⊎◌, Bool, true, false, cond, not, ◌||◌, List, [], ◌∷◌, filter, Option, Some, None, IfSome, IsSomeAnd, is_some, slice_get, refl, sym, ap, ◌∙◌, subst, arith}
 use Rattle.std.specs.Ordering.{nat_cmp}
 use Rattle.std.specs.FinMap as finmap
 use Rattle.std.specs.FinMap.{FinMap}
-use Rattle.std.proofs.lemmas.Bool.{false≢true, cases_Bool, cases_eq, not-true}
+use Rattle.std.proofs.lemmas.Bool.{false≢true, cases_eq}
 use Rattle.w16_model.specs.Discards.{is_member}
-use Rattle.w16_model.specs.Heap.{Heap}
 use Rattle.w16_model.proofs.Gaps.{Member}
 use Rattle.w16_model.proofs.Discards.{is_member-true, true-is_member}
 use Rattle.w16_model.proofs.KeptHeaps.{inserted_here, inserted_other, taken_here, taken_other}
@@ -14,17 +13,17 @@ use Rattle.w16_store.specs.Names.{is_named}
 use Rattle.w16_model.specs.Calls.{rounded_size}
 use Rattle.w16_loading.specs.File.{Resource, numbered}
 use Rattle.w16_loading.specs.Modules.{World, Load, Module, Modules, Named, IsSegmentOf, IsResourceOf, name_of, module_at, module_in, usage, usage_with, importers, is_idle}
-use Rattle.w16_loading.specs.Modules.Named.{Loaded, BuiltIn}
+use Rattle.w16_loading.specs.Modules.Named.{Loaded}
 use Rattle.w16_loading.specs.Release.{without_objects}
 use Rattle.w16_loading.specs.Free.{Go, Frees, used_less, without_module, swept, is_left_over}
 use Rattle.w16_loading.specs.Law.{IsWorld, IsModule, IsLoad, IsObjectOf}
 use Rattle.w16_loading.proofs.Undone.{retained, kept_all}
 use Rattle.w16_loading.proofs.Absences.{same_values, all_retained}
 use Rattle.w16_loading.proofs.Apart.{loaded_is}
-use Rattle.w16_loading.proofs.Bound.{world_used_less, world_without}
+use Rattle.w16_loading.proofs.Bound.{world_used_less}
 use Rattle.w16_loading.proofs.Cascade.{gone_with, went}
 use Rattle.w16_loading.proofs.CodeLoads.{place_member, member_place}
-use Rattle.w16_loading.proofs.Importers.{Idle, HasImporter, idle_parts, is_then_idle, importer_of, of_importer}
+use Rattle.w16_loading.proofs.Importers.{Idle, idle_parts, is_then_idle, of_importer}
 use Rattle.w16_loading.proofs.ModuleWorlds.{SameModule, IsNumber, AreNamesApart}
 use Rattle.w16_loading.proofs.ShrunkWorlds.{shrunk, shrunk_world, value_left, value_gone}
 
@@ -233,8 +232,8 @@ module _ (old : World) (is : IsWorld old) (less end : World) (is_less : less ≡
   abbrev loads : FinMap nat_cmp Load
   loads = finmap.retain_keys old.loads (λ q. not (over q))
 
-  abbrev new : World
-  new = shrunk old all_gone end.modules loads
+  abbrev remaining : World
+  remaining = shrunk old all_gone end.modules loads
 
   same_loads : end.loads ≡ old.loads
   same_loads = ap (λ (w : World). w.loads) h.is_now ∙ ap (λ (w : World). w.loads) is_less
@@ -380,13 +379,13 @@ module _ (old : World) (is : IsWorld old) (less end : World) (is_less : less ≡
       turn m same (inl there) = (m, ap module_in there, same)
       turn m same (inr none) = absurd (false≢true (sym (not_over q load e) ∙ over_load q load (fewer q load e) ∙ ap (λ p. not (is_some (module_in p))) none))
 
-  owners : (q a number : ℕ) (m : Module) → all_gone q ≡ false → IsSegmentOf old q a number m ⊎ IsResourceOf old q a number m → (n : Module) × (IsSegmentOf new q a number n ⊎ IsResourceOf new q a number n)
+  owners : (q a number : ℕ) (m : Module) → all_gone q ≡ false → IsSegmentOf old q a number m ⊎ IsResourceOf old q a number m → (n : Module) × (IsSegmentOf remaining q a number n ⊎ IsResourceOf remaining q a number n)
   owners q a number m t (inl s) =
       let now : (n : Module) × (finmap.get less.modules a ≡ Some (Loaded n)) × SameModule n m = l.after a m (loaded_is (finmap.get old.modules a) m s.loaded) in
       let at : slice_get now.0.slots (number - 1) ≡ Some q = ap (λ x. slice_get x (number - 1)) now.2.slots ∙ s.has.1 in
       turn now.0 now.1 at (left_or_gone a now.0 now.1)
     where
-      turn : (n : Module) → finmap.get less.modules a ≡ Some (Loaded n) → slice_get n.slots (number - 1) ≡ Some q → (finmap.get end.modules a ≡ Some (Loaded n)) ⊎ (finmap.get end.modules a ≡ None) → (n : Module) × (IsSegmentOf new q a number n ⊎ IsResourceOf new q a number n)
+      turn : (n : Module) → finmap.get less.modules a ≡ Some (Loaded n) → slice_get n.slots (number - 1) ≡ Some q → (finmap.get end.modules a ≡ Some (Loaded n)) ⊎ (finmap.get end.modules a ≡ None) → (n : Module) × (IsSegmentOf remaining q a number n ⊎ IsResourceOf remaining q a number n)
       turn n was at (inl there) = (n, inl (record { loaded = ap module_in there; has = (s.has.0, at) }))
       turn n was at (inr none) = absurd (false≢true (sym t ∙ or_left (h.gone q) (over q) (h.all_gone a n q was none (place_member n.slots (number - 1) q at))))
   owners q a number m t (inr r) = turn (over q) refl
@@ -394,19 +393,19 @@ module _ (old : World) (is : IsWorld old) (less end : World) (is_less : less ≡
       load : Load
       load = record { handle = a; place = number; loads = r.loads }
 
-      turn : (b : Bool) → over q ≡ b → (n : Module) × (IsSegmentOf new q a number n ⊎ IsResourceOf new q a number n)
+      turn : (b : Bool) → over q ≡ b → (n : Module) × (IsSegmentOf remaining q a number n ⊎ IsResourceOf remaining q a number n)
       turn true f = absurd (false≢true (sym t ∙ or_right (h.gone q) (over q) f))
       turn false f =
           let has : finmap.get loads q ≡ Some load = value_left old.loads over q f ∙ r.has in
           let now : (n : Module) × (module_at end.modules a ≡ Some n) × SameModule n m = kept_modules q load m has r.loaded in
           (now.0, inr (record { loaded = now.1; loads = r.loads; has = has }))
 
-  left_world : IsWorld new
+  left_world : IsWorld remaining
   left_world = shrunk_world old is all_gone end.modules loads numbers names (λ a m e. let s : (was : Module) × (finmap.get old.modules a ≡ Some (Loaded was)) × SameModule m was × (m.uses ≤ was.uses) = source a m e in (s.0, ap module_in s.1, s.2))
       used kept_slots fewer kept_loads kept_modules owners
 
   -- which is the one that is swept
-  is_swept : swept end ≡ new
+  is_swept : swept end ≡ remaining
   is_swept =
       (λ i. record (without_objects over (h.is_now i)) { modules = end.modules; loads = finmap.retain_keys end.loads (λ q. not (over q)) })
       ∙ (λ i. record (without_objects over (record (without_objects h.gone (is_less i)) { modules = end.modules })) { modules = end.modules; loads = finmap.retain_keys end.loads (λ q. not (over q)) })

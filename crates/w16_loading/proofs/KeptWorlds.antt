@@ -1,5 +1,5 @@
 -- A world stays one where its objects keep their kinds, and their sizes or no bytes at all.
-use Rattle.std.proofs.Common.{◌≡◌, ◌≢◌, ℕ, ◌<◌, ◌≤◌, inl, inr, ◌⊎◌, Bool, true, false, List, [], ◌∷◌, length, take, Option, Some, None, IfSome, IsSomeAnd, is_some, slice_get, refl, sym, ap, ◌∙◌, subst}
+use Rattle.std.proofs.Common.{◌≡◌, ◌≢◌, ℕ, inl, inr, ◌⊎◌, Bool, true, false, List, [], ◌∷◌, length, take, Option, Some, None, IfSome, IsSomeAnd, is_some, refl, sym, ap, ◌∙◌, subst}
 use Rattle.std.specs.List.{AllZip}
 use Rattle.std.specs.FinMap as finmap
 use Rattle.std.proofs.lemmas.Bool.{false≢true, cases_Bool, cases_eq}
@@ -13,7 +13,7 @@ use Rattle.w16_model.specs.Calls.{rounded_size}
 use Rattle.w16_model.specs.Law.{KeepsOthers}
 use Rattle.w16_model.proofs.KeptHeaps.{inserted_here, inserted_other}
 use Rattle.w16_loading.specs.File.{Segment, Resource}
-use Rattle.w16_loading.specs.Modules.{World, Load, Module, Named, Owned, IsSegmentOf, IsResourceOf, module_at, is_owned}
+use Rattle.w16_loading.specs.Modules.{World, Load, Module, Owned, IsSegmentOf, IsResourceOf, module_at}
 use Rattle.w16_loading.specs.Resource.{resource_at}
 use Rattle.w16_loading.specs.Law.{IsWorld, IsModule, IsObjectOf, IsLoad}
 

@@ -1,48 +1,44 @@
 -- A load that has come to its end keeps what holds of every world.
-use Rattle.std.proofs.Common.{◌≡◌, ◌≢◌, ℕ, zero, suc, ◌+◌, ◌-◌, ◌<◌, ◌≤◌, ◌==◌, inl, inr, ◌⊎◌, Bool, true, false, cond, not, ◌||◌, List, [], ◌∷◌, ◌++◌, length, fold, filter, flat_map, filter_map, map, zip, slice_get, slice_index_or, All, AllPairs, Option, Some, None, IfSome, IsSomeAnd, MatchOption, is_some, refl, sym, ap, ◌∙◌, subst, arith, eq-eqb}
+use Rattle.std.proofs.Common.{◌≡◌, ◌≢◌, ℕ, zero, suc, ◌+◌, ◌-◌, ◌<◌, ◌≤◌, ◌==◌, inl, inr, ◌⊎◌, Bool, true, false, cond, List, [], ◌∷◌, length, fold, filter, flat_map, map, zip, slice_get, slice_index_or, Option, Some, None, IfSome, IsSomeAnd, MatchOption, is_some, refl, sym, ap, ◌∙◌, subst, arith, eq-eqb}
 use Rattle.std.specs.List.{AllZip, AllByRecursion as Each}
 use Rattle.std.specs.Ordering.{nat_cmp}
 use Rattle.std.specs.FinMap as finmap
-use Rattle.std.proofs.lemmas.Bool.{false≢true, cases_Bool, cases_eq}
+use Rattle.std.proofs.lemmas.Bool.{false≢true, cases_eq}
 use Rattle.std.proofs.lemmas.Slice.Zip.{AllZip-left}
 use Rattle.w16_model.specs.declared.Kind.{Kind}
-use Rattle.w16_model.specs.Discards.{is_member}
 use Rattle.w16_model.specs.Heap.{Heap, Object, IsHeap, object_at}
 use Rattle.w16_model.specs.Handles.{AreHandles}
 use Rattle.w16_model.specs.Calls.{rounded_size}
 use Rattle.w16_model.specs.Law.{KeepsOthers}
 use Rattle.w16_model.proofs.Gaps.{Member, EachPair, Each-at, Each-from_All, EachPair-from_AllPairs, filter_member}
-use Rattle.w16_model.proofs.Discards.{is_member-true, true-is_member}
+use Rattle.w16_model.proofs.Discards.{true-is_member}
 use Rattle.w16_model.proofs.KeptHeaps.{inserted_here, inserted_other}
 use Rattle.w16_store.specs.Names.{is_named}
 use Rattle.w16_store.specs.Files.{file_of}
 use Rattle.w16_loading.specs.declared.TheConstants.{MOST_USES}
-use Rattle.w16_loading.specs.declared.FetchFault.{FetchFault}
-use Rattle.w16_loading.specs.File.{Format, IsFormat, IsModuleFile, IsSegmentData, ModuleFile, Segment, SegmentData, Resource, Far, numbered}
-use Rattle.w16_loading.specs.Modules.{World, Load, Owned, Module, Modules, Named, IsFreeModule, IsSegmentOf, IsResourceOf, name_of, module_at, module_in, imports, importers, usage, usage_with, with_heap}
-use Rattle.w16_loading.specs.Modules.Named.{Loaded, BuiltIn}
+use Rattle.w16_loading.specs.File.{Format, IsFormat, IsModuleFile, IsSegmentData, Segment, SegmentData, Resource, Far, numbered}
+use Rattle.w16_loading.specs.Modules.{World, Load, Owned, Module, Modules, Named, IsFreeModule, IsSegmentOf, IsResourceOf, name_of, module_at, module_in, importers, usage_with, with_heap}
+use Rattle.w16_loading.specs.Modules.Named.{Loaded}
 use Rattle.w16_loading.specs.Fill.{Fills, FillsAll, asked_of, is_of_device}
 use Rattle.w16_loading.specs.Closure.{Closure, Found, Referent, around}
 use Rattle.w16_loading.specs.Closure.Referent.{New}
-use Rattle.w16_loading.specs.Naming.{Choice, IsChoice, AreSlots, Given, all_slots, given, given_from, segments_of, with_segment, with_modules, unbound, bound, imports_at, handle_meant, named, filled_at_once, fills_of, fills}
+use Rattle.w16_loading.specs.Naming.{Choice, IsChoice, Given, all_slots, given, given_from, segments_of, with_segment, with_modules, bound, imports_at, handle_meant, named, fills_of, fills}
 use Rattle.w16_loading.specs.Resource.{resource_at}
 use Rattle.w16_loading.specs.Law.{IsWorld, IsModule, IsObjectOf, IsLoad}
-use Rattle.w16_loading.proofs.Undone.{zipped, in_first, in_second, parted, chosen, IsNamed, fold_named}
+use Rattle.w16_loading.proofs.Undone.{in_first, in_second, parted, chosen, fold_named}
 use Rattle.w16_loading.proofs.Fetched.{refused}
-use Rattle.w16_loading.proofs.Kept.{fills_law}
 use Rattle.w16_loading.proofs.Fewest.{filled_heap}
 use Rattle.w16_loading.proofs.Again.{filled_object}
-use Rattle.w16_loading.proofs.Named.{AreApart, given_slots_apart, apart_after, named_handles, free_slot}
-use Rattle.w16_loading.proofs.RefusedLoad.{filled_chosen}
+use Rattle.w16_loading.proofs.Named.{AreApart, given_slots_apart, named_handles, free_slot}
 use Rattle.w16_loading.proofs.Apart.{loaded_is}
-use Rattle.w16_loading.proofs.Importers.{HasImporter, importer_of, of_importer}
+use Rattle.w16_loading.proofs.Importers.{HasImporter, of_importer}
 use Rattle.w16_loading.proofs.KeptCode.{filled_others, segment_object}
 use Rattle.w16_loading.proofs.KeptWorlds.{IsOwned, other_stays, stays_owned}
 use Rattle.w16_loading.proofs.WorldSteps.{owned_there}
 use Rattle.w16_loading.proofs.FetchWorlds.{filled_handles, read_file}
 use Rattle.w16_loading.proofs.ModuleWorlds.{IsNumber, AreNamesApart, importers_stay, still_used, not_named, named_back}
 use Rattle.w16_loading.proofs.ClosureFacts.{IsClosure}
-use Rattle.w16_loading.proofs.CodeLoads.{Segments, IsOfFile, AreOfFiles, read_by, filled_image, given_found, given_slot, given_slots_differ, one_given, member_place, place_member, zip_place, index_place, one_place, same_files, same_owned}
+use Rattle.w16_loading.proofs.CodeLoads.{Segments, IsOfFile, AreOfFiles, filled_image, given_found, given_slot, given_slots_differ, one_given, member_place, place_member, zip_place, index_place, one_place, same_owned}
 
 -- Fills of several objects.
 

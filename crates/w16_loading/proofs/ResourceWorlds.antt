@@ -1,14 +1,14 @@
 -- The calls on resources keep what holds of every world.
-use Rattle.std.proofs.Common.{◌≡◌, ◌≢◌, ℕ, ◌+◌, ◌-◌, ◌<◌, ◌≤◌, inl, inr, ◌⊎◌, Bool, true, false, cond, not, ◌&&◌, ◌||◌, ◌==◌, nat_lt, List, [], ◌∷◌, length, Option, Some, None, IfSome, IsSomeAnd, MatchOption, MatchBool, is_some, option_map, slice_get, refl, sym, ap, ◌∙◌, subst, arith, ltb-true, ltb-false, eqb-true, eq-eqb, ne_eqb}
+use Rattle.std.proofs.Common.{◌≡◌, ◌≢◌, ℕ, ◌+◌, ◌-◌, ◌<◌, ◌≤◌, inl, inr, ◌⊎◌, Bool, true, false, cond, ◌&&◌, ◌||◌, ◌==◌, nat_lt, List, [], ◌∷◌, length, Option, Some, None, IfSome, IsSomeAnd, MatchOption, MatchBool, is_some, option_map, slice_get, refl, sym, ap, ◌∙◌, subst, arith, ltb-true, eq-eqb, ne_eqb}
 use Rattle.std.specs.List.{AllZip, find}
 use Rattle.std.specs.Ordering.{nat_cmp}
 use Rattle.std.specs.FinMap as finmap
 use Rattle.std.specs.FinMap.{FinMap}
-use Rattle.std.proofs.lemmas.Bool.{false≢true, cases_Bool, cases_eq, and_parts}
+use Rattle.std.proofs.lemmas.Bool.{false≢true, cases_eq}
 use Rattle.w16_model.specs.declared.TheConstants.{LARGEST_SIZE}
 use Rattle.w16_model.specs.declared.Kind.{Kind}
-use Rattle.w16_model.specs.Heap.{Heap, Object, object_at, bytes_at}
-use Rattle.w16_model.specs.Handles.{Handles, AreHandles, IsFreeSlot, handle_of, slot_of_handle}
+use Rattle.w16_model.specs.Heap.{Object, object_at, bytes_at}
+use Rattle.w16_model.specs.Handles.{Handles, IsFreeSlot, handle_of, slot_of_handle}
 use Rattle.w16_model.specs.Calls as calls
 use Rattle.w16_model.specs.Calls.{HandleCommand, rounded_size, global_lock}
 use Rattle.w16_model.proofs.Gaps.{Member}
@@ -30,12 +30,12 @@ use Rattle.w16_loading.specs.Law.{IsWorld, IsModule, IsObjectOf, IsLoad, TablesA
 use Rattle.w16_loading.proofs.Bound.{freed_outcome}
 use Rattle.w16_loading.proofs.Importers.{there_entry, entry_there}
 use Rattle.w16_loading.proofs.KeptCode.{segment_object}
-use Rattle.w16_loading.proofs.CodeLoads.{place_member, member_place}
+use Rattle.w16_loading.proofs.CodeLoads.{member_place}
 use Rattle.w16_loading.proofs.CallsStay.{call_stays}
 use Rattle.w16_loading.proofs.KeptWorlds.{stays_owned, world_stays}
 use Rattle.w16_loading.proofs.WorldSteps.{owned_there}
 use Rattle.w16_loading.proofs.FetchWorlds.{fetched_world}
-use Rattle.w16_loading.proofs.ModuleWorlds.{SameModule, find_none}
+use Rattle.w16_loading.proofs.ModuleWorlds.{find_none}
 use Rattle.w16_loading.proofs.ShrunkWorlds.{shrunk, shrunk_world}
 
 -- A lock.
@@ -60,10 +60,10 @@ module _ (old : World) (is : IsWorld old) (slot : ℕ) (load : Load) (there : fi
   abbrev loads : FinMap nat_cmp Load
   loads = finmap.insert old.loads slot counted
 
-  abbrev new : World
-  new = record old { loads = loads }
+  abbrev with_count : World
+  with_count = record old { loads = loads }
 
-  segment_was : (q handle number : ℕ) (m : Module) → IsSegmentOf new q handle number m → IsSegmentOf old q handle number m
+  segment_was : (q handle number : ℕ) (m : Module) → IsSegmentOf with_count q handle number m → IsSegmentOf old q handle number m
   segment_was q handle number m s = record { loaded = s.loaded; has = s.has }
 
   -- a load under a slot is of the same place as it was, and the other way round
@@ -89,47 +89,47 @@ module _ (old : World) (is : IsWorld old) (slot : ℕ) (load : Load) (there : fi
           let f : load ≡ record { handle = handle; place = place; loads = n } = cc in
           λ i. Some (record { handle = (f i).handle; place = (f i).place; loads = count })
 
-  resource_was : (q handle place : ℕ) (m : Module) → IsResourceOf new q handle place m → IsResourceOf old q handle place m
+  resource_was : (q handle place : ℕ) (m : Module) → IsResourceOf with_count q handle place m → IsResourceOf old q handle place m
   resource_was q handle place m r = let was : (before : ℕ) × (finmap.get old.loads q ≡ Some (record { handle = handle; place = place; loads = before })) = load_was q handle place r.loads r.has in
       record { loaded = r.loaded; loads = was.0; has = was.1 }
 
-  segments_are : (slots : List ℕ) (segments : List Segment) → AllZip (λ q (g : Segment). IsObjectOf old q g.kind g.size g.is_code) slots segments → AllZip (λ q (g : Segment). IsObjectOf new q g.kind g.size g.is_code) slots segments
+  segments_are : (slots : List ℕ) (segments : List Segment) → AllZip (λ q (g : Segment). IsObjectOf old q g.kind g.size g.is_code) slots segments → AllZip (λ q (g : Segment). IsObjectOf with_count q g.kind g.size g.is_code) slots segments
   segments_are [] [] h = tt
   segments_are [] (g ∷ gs) h = absurd h
   segments_are (q ∷ qs) [] h = absurd h
   segments_are (q ∷ qs) (g ∷ gs) h = (record { object = h.0.object; owned = h.0.owned }, segments_are qs gs h.1)
 
-  module_is : (handle : ℕ) (p : Option Module) → IfSome p (IsModule old handle) → IfSome p (IsModule new handle)
+  module_is : (handle : ℕ) (p : Option Module) → IfSome p (IsModule old handle) → IfSome p (IsModule with_count handle)
   module_is handle None h = tt
   module_is handle (Some m) h = record { segments = segments_are m.slots m.tables.segments h.segments; used = h.used; full = h.full }
 
-  object_is : (q : ℕ) (p : Option Resource) → IsSomeAnd p (λ r. IsObjectOf old q r.kind (rounded_size r.length_in) false) → IsSomeAnd p (λ r. IsObjectOf new q r.kind (rounded_size r.length_in) false)
+  object_is : (q : ℕ) (p : Option Resource) → IsSomeAnd p (λ r. IsObjectOf old q r.kind (rounded_size r.length_in) false) → IsSomeAnd p (λ r. IsObjectOf with_count q r.kind (rounded_size r.length_in) false)
   object_is q None h = absurd h
   object_is q (Some r) h = record { object = h.object; owned = h.owned }
 
-  load_is : (q : ℕ) → IfSome (finmap.get loads q) (IsLoad new q)
+  load_is : (q : ℕ) → IfSome (finmap.get loads q) (IsLoad with_count q)
   load_is q = elim (cases_eq q slot) [
-    | inl same ↦ subst (λ p. IfSome p (IsLoad new q)) (sym (inserted_here old.loads slot counted q same)) (subst (λ k. IsLoad new k counted) (sym same) here)
-    | inr other ↦ subst (λ p. IfSome p (IsLoad new q)) (sym (inserted_other old.loads slot counted q other)) (turn (finmap.get old.loads q) (is.loads q))
+    | inl same ↦ subst (λ p. IfSome p (IsLoad with_count q)) (sym (inserted_here old.loads slot counted q same)) (subst (λ k. IsLoad with_count k counted) (sym same) here)
+    | inr other ↦ subst (λ p. IfSome p (IsLoad with_count q)) (sym (inserted_other old.loads slot counted q other)) (turn (finmap.get old.loads q) (is.loads q))
   ]
     where
-      here : IsLoad new slot counted
+      here : IsLoad with_count slot counted
       here = let sound : IsLoad old slot load = subst (λ p. IfSome p (IsLoad old slot)) there (is.loads slot) in
           record { resource = object_is slot (resource_at old load.handle load.place) sound.resource; used = some; full = few }
 
-      turn : (p : Option Load) → IfSome p (IsLoad old q) → IfSome p (IsLoad new q)
+      turn : (p : Option Load) → IfSome p (IsLoad old q) → IfSome p (IsLoad with_count q)
       turn None h = tt
       turn (Some l) h = record { resource = object_is q (resource_at old l.handle l.place) h.resource; used = h.used; full = h.full }
 
   owner_is : (q : ℕ) (p : Option Owned) → IfSome p (λ _. (handle number : ℕ) × (m : Module) × (IsSegmentOf old q handle number m ⊎ IsResourceOf old q handle number m))
-      → IfSome p (λ _. (handle number : ℕ) × (m : Module) × (IsSegmentOf new q handle number m ⊎ IsResourceOf new q handle number m))
+      → IfSome p (λ _. (handle number : ℕ) × (m : Module) × (IsSegmentOf with_count q handle number m ⊎ IsResourceOf with_count q handle number m))
   owner_is q None h = tt
   owner_is q (Some o) (handle, number, m, inl s) = (handle, number, m, inl (record { loaded = s.loaded; has = s.has }))
   owner_is q (Some o) (handle, number, m, inr r) =
       let now : (now : ℕ) × (finmap.get loads q ≡ Some (record { handle = handle; place = number; loads = now })) = load_now q handle number r.loads r.has in
       (handle, number, m, inr (record { loaded = r.loaded; loads = now.0; has = now.1 }))
 
-  counted_world : IsWorld new
+  counted_world : IsWorld with_count
   counted_world = record {
     handles = is.handles;
     numbers = is.numbers;

@@ -1,23 +1,22 @@
 -- A world stays one where some objects go, and with them the modules or the loads of resources whose they are.
-use Rattle.std.proofs.Common.{◌≡◌, ◌≢◌, ℕ, ◌+◌, ◌-◌, ◌<◌, ◌≤◌, inl, inr, ◌⊎◌, Bool, true, false, cond, not, List, [], ◌∷◌, length, Option, Some, None, IfSome, IsSomeAnd, is_some, slice_get, refl, sym, ap, ◌∙◌, subst}
+use Rattle.std.proofs.Common.{◌≡◌, ℕ, ◌-◌, ◌<◌, ◌≤◌, inl, inr, ◌⊎◌, Bool, true, false, cond, not, List, [], ◌∷◌, length, Option, Some, None, IfSome, IsSomeAnd, is_some, slice_get, refl, sym, ap, ◌∙◌, subst}
 use Rattle.std.specs.List.{AllZip}
 use Rattle.std.specs.Ordering.{nat_cmp}
 use Rattle.std.specs.FinMap as finmap
 use Rattle.std.specs.FinMap.{FinMap}
-use Rattle.std.proofs.lemmas.Bool.{false≢true, cases_Bool}
-use Rattle.w16_model.specs.Heap.{Heap, Object, object_at}
+use Rattle.std.proofs.lemmas.Bool.{cases_Bool}
+use Rattle.w16_model.specs.Heap.{Object}
 use Rattle.w16_model.specs.Handles.{Handles, AreHandles, IsSlot}
 use Rattle.w16_model.specs.Calls.{rounded_size}
 use Rattle.w16_model.proofs.Gaps.{Member}
 use Rattle.w16_loading.specs.declared.TheConstants.{MOST_USES}
 use Rattle.w16_loading.specs.File.{Tables, Segment, Resource, numbered}
-use Rattle.w16_loading.specs.Modules.{World, Load, Owned, Module, Modules, Named, IsSegmentOf, IsResourceOf, module_at, usage}
+use Rattle.w16_loading.specs.Modules.{World, Load, Owned, Module, Modules, IsSegmentOf, IsResourceOf, module_at, usage}
 use Rattle.w16_loading.specs.Release.{heap_without, without_objects}
 use Rattle.w16_loading.specs.Resource.{resource_at}
 use Rattle.w16_loading.specs.Law.{IsWorld, IsModule, IsObjectOf, IsLoad}
 use Rattle.w16_loading.proofs.Undone.{retained}
-use Rattle.w16_loading.proofs.Released.{released_heap, left_object, gone_object}
-use Rattle.w16_loading.proofs.CodeLoads.{place_member}
+use Rattle.w16_loading.proofs.Released.{released_heap}
 use Rattle.w16_loading.proofs.ModuleWorlds.{SameModule, IsNumber, AreNamesApart}
 
 -- a value in a map from which keys went

@@ -1,5 +1,5 @@
 -- Each step of each family keeps what holds of every world.
-use Rattle.std.proofs.Common.{◌≡◌, ◌≢◌, ℕ, inl, inr, ◌⊎◌, Bool, true, false, List, [], ◌∷◌, length, Option, Some, None, IfSome, IsSomeAnd, MatchResult, is_some, Result, Ok, Err, refl, sym, ap, ◌∙◌, subst}
+use Rattle.std.proofs.Common.{◌≡◌, ℕ, inl, inr, Bool, true, false, List, [], ◌∷◌, length, Option, Some, None, IfSome, IsSomeAnd, MatchResult, is_some, Result, Ok, Err, refl, sym, ap, subst}
 use Rattle.std.specs.List.{AllByRecursion as Each}
 use Rattle.std.specs.FinMap as finmap
 use Rattle.w16_model.specs.declared.Kind.{Kind}
@@ -8,17 +8,17 @@ use Rattle.w16_model.specs.Heap.{Heap, Object, object_at}
 use Rattle.w16_model.proofs.Gaps.{Each-from_All}
 use Rattle.w16_model.proofs.KeptHandles.{other_handles}
 use Rattle.w16_loading.specs.declared.FetchFault.{FetchFault}
-use Rattle.w16_loading.specs.File.{Format, IsFormat, ModuleFile}
+use Rattle.w16_loading.specs.File.{Format, IsFormat}
 use Rattle.w16_loading.specs.Modules.{World, with_heap}
 use Rattle.w16_loading.specs.Fill.{FillsAll, is_of_device}
 use Rattle.w16_loading.specs.Closure.{Closure, Reading, reading, around, begun, after}
 use Rattle.w16_loading.specs.Closure.Reading.{Refused, Meant, Read}
 use Rattle.w16_loading.specs.Closure.Referent.{There, New}
 use Rattle.w16_loading.specs.Naming.{named, fills}
-use Rattle.w16_loading.specs.Load.{Answer, Refuses, Loads, LoadsFile, LoadsNew, Fulfils, used_again, undone, left}
+use Rattle.w16_loading.specs.Load.{Answer, Refuses, Loads, LoadsFile, LoadsNew, Fulfils, undone, left}
 use Rattle.w16_loading.specs.Fetch.{Reply}
-use Rattle.w16_loading.specs.Machine.{Command, IsCommand, Event, Step, FamilyStep, Run, ModuleCommand, ModuleStep}
-use Rattle.w16_loading.specs.Law.{IsWorld, IsObjectOf, IsKeptAt, OnlyDiscards, IsOfFiles, TablesAreItsFiles, KeepsWorldsLaw, RunsKeepWorldsLaw}
+use Rattle.w16_loading.specs.Machine.{Command, IsCommand, Event, FamilyStep, Run, ModuleCommand, ModuleStep}
+use Rattle.w16_loading.specs.Law.{IsWorld, IsKeptAt, OnlyDiscards, IsOfFiles, TablesAreItsFiles, KeepsWorldsLaw, RunsKeepWorldsLaw}
 use Rattle.w16_loading.proofs.CodeLaw.{code_law}
 use Rattle.w16_loading.proofs.RefusedLoad.{undone_discards}
 use Rattle.w16_loading.proofs.KeptWorlds.{IsOwned, world_stays, recounted}

@@ -1,7 +1,6 @@
 -- The calls on handles keep what holds of every world.
-use Rattle.std.proofs.Common.{◌≡◌, ◌≢◌, ℕ, inl, inr, ◌⊎◌, Bool, true, false, List, Option, Some, None, IfSome, IsSomeAnd, is_some, option_map, unwrap_or, MatchBool, refl, sym, ap, ◌∙◌, subst}
-use Rattle.std.specs.FinMap as finmap
-use Rattle.std.proofs.lemmas.Bool.{false≢true, cases_Bool}
+use Rattle.std.proofs.Common.{◌≡◌, ◌≢◌, ℕ, Bool, true, false, Option, Some, None, IsSomeAnd, is_some, option_map, unwrap_or, MatchBool, refl, sym, ap, ◌∙◌, subst}
+use Rattle.std.proofs.lemmas.Bool.{false≢true}
 use Rattle.w16_model.specs.declared.Kind.{Kind}
 use Rattle.w16_model.specs.Heap.{Object, object_at}
 use Rattle.w16_model.specs.Handles.{Handles, AreHandles, slot_of_handle}
@@ -14,7 +13,7 @@ use Rattle.w16_loading.specs.Modules.{World, is_owned}
 use Rattle.w16_loading.specs.Fetch.{Reply}
 use Rattle.w16_loading.specs.Machine.{ByHandles, HandleStep, owns, word}
 use Rattle.w16_loading.specs.Law.{IsWorld, IsObjectOf, CallsKeepWorldsLaw}
-use Rattle.w16_loading.proofs.KeptWorlds.{Stays, IsOwned, stays_owned, world_stays}
+use Rattle.w16_loading.proofs.KeptWorlds.{Stays, stays_owned, world_stays}
 use Rattle.w16_loading.proofs.CallsStay.{call_stays}
 
 -- an object of a module is there
