@@ -1,6 +1,6 @@
 //! The laws of the definitions. Each function does nothing: its contract is the law.
-ghost use Rattle.w16_loading.specs.Fewest.{LoadFewestLaw, FetchFewestLaw};
-ghost use Rattle.w16_loading.specs.Law.{CodeReadsLaw, RunsKeepWorldsLaw, KeepsWorldsLaw, CallsKeepWorldsLaw, EmptyOfFilesLaw, FetchFaultsLaw, CodeLaw, RefusedLoadLaw, OneEndLaw, UsesApartLaw, FetchAgainLaw, FetchLaw, FetchRefusedLaw, OneClosureLaw, EarlyRefusalLaw, FillLaw, EmptyLaw, ClosureEndsLaw, UndoneLaw, FillsLaw, BoundOnceLaw};
+ghost use Rattle.w16_loading.specs.Fewest.{FetchFewestLaw, LoadFewestLaw};
+ghost use Rattle.w16_loading.specs.Law.{BoundOnceLaw, CallsKeepWorldsLaw, ClosureEndsLaw, CodeLaw, CodeReadsLaw, EarlyRefusalLaw, EmptyLaw, EmptyOfFilesLaw, FetchAgainLaw, FetchFaultsLaw, FetchLaw, FetchRefusedLaw, FillLaw, FillsLaw, KeepsWorldsLaw, OneClosureLaw, OneEndLaw, RefusedLoadLaw, RunsKeepWorldsLaw, UndoneLaw, UsesApartLaw};
 
 /// A fetch takes the bytes of what it discards, and keeps all else of the other objects.
 pub fn fetches_keep_others()
