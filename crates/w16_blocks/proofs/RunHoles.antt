@@ -149,13 +149,16 @@ module _ (l : Layout) (ordered : IsOrdered l) (run : Span) (is : IsRun l run) (s
 
   each_at : AllByRecursion At l.blocks
   each_at = Each-both (Lies run) (λ b. ((run.from ≤ b.at) × (block_end b ≤ run.to)) ⊎ ((block_end b ≤ to) ⊎ (to + size ≤ b.at))) At
-      (λ b at clear. let own = at.0 in (own, elim clear [
-        | inl inside ↦ inl inside
-        | inr out ↦ elim at.1 [
-          | inl before ↦ inr (inl before, out)
-          | inr other ↦ elim other [ inl behind ↦ inr (inr behind, out) | inr inside ↦ inl inside ]
-        ]
-      ])) l.blocks (lies_of run l.lo l.hi l.blocks ordered.laid is.whole.0 is.whole.1) way.clear
+      (λ b at clear. let own = at.0 in (
+        own,
+        elim clear [
+          | inl inside ↦ inl inside
+          | inr out ↦ elim at.1 [
+            | inl before ↦ inr (inl before, out)
+            | inr other ↦ elim other [ inl behind ↦ inr (inr behind, out) | inr inside ↦ inl inside ]
+          ]
+        ],
+      )) l.blocks (lies_of run l.lo l.hi l.blocks ordered.laid is.whole.0 is.whole.1) way.clear
 
   some_entered : a < a + apart
   some_entered = let b = way.some.0 in omega arith

@@ -13,7 +13,14 @@ use w16_holes::{HoleList, Holes};
 use w16_region::Space;
 
 /// The table and the cells, where the blocks of a run have slid up to a place, one after another from the last.
-fn retag_run_up(slots: &mut [Block], begins: &mut [u32], bounds: Span, grain: u32, run: Span, to: u32)
+fn retag_run_up(
+    slots: &mut [Block],
+    begins: &mut [u32],
+    bounds: Span,
+    grain: u32,
+    run: Span,
+    to: u32,
+)
     requires tables { AreTables (length slots.old) bounds.from bounds.to grain slots.old begins.old }
     requires run { IsRun (layout_in (length slots.old) bounds.from bounds.to grain slots.old begins.old) run }
     requires grained { IsMultiple grain to }

@@ -138,12 +138,7 @@ raised_all ws low s high le (b ∷ bs) all = λ i. one (cases_lt b.at s) i ∷ r
       | inr over ↦ raised_above ws s high b over ∙ sym (raised_above ws low high b over)
     ]
 
--- the bytes moved, where all but one block stand in both lists alike
-moved_alike : (f g : Block → Block) (bs : List Block) → AllByRecursion (λ c. (g c).at ≡ (f c).at) bs → moved_between bs (map g bs) ≡ moved_between bs (map f bs)
-moved_alike f g [] all = refl
-moved_alike f g (b ∷ bs) all = let first = ap (λ (a : ℕ). cond (eqb b.at a) 0 b.size) all.0 in let rest = moved_alike f g bs all.1 in omega (arith, first, rest)
-
--- and where the loose blocks of an interval move
+-- the bytes moved, where the loose blocks of an interval move and all others stand in both lists alike
 moved_each : (f g : Block → Block) (low high from to : ℕ) (top bound : ℕ) (bs : List Block) → IsLaid bound top bs → AllByRecursion (FitsGap low high) bs → low ≤ from → to ≤ high
     → AllByRecursion (λ c. ((c.at < from) ⊎ (to ≤ c.at)) → (g c).at ≡ (f c).at) bs → AllByRecursion (λ c. from ≤ c.at → c.at < to → ((f c).at ≡ c.at) × ((g c).at ≢ c.at)) bs
     → moved_between bs (map g bs) ≡ moved_between bs (map f bs) + loose_bytes bs from to

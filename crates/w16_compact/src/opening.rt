@@ -79,12 +79,7 @@ pub fn open<S: Space, H: Holes<S>>(
 
 /// Slides the loose blocks of `low` up to `high`, two addresses, up to `high`, in their order, so that what is free there lies below them.
 /// Answers how many bytes were moved, as `gather` does; as many were written.
-fn raise<S: Space, H: Holes<S>>(
-    blocks: &mut Blocks<H>,
-    space: &mut S,
-    low: u32,
-    high: u32,
-) -> u64
+fn raise<S: Space, H: Holes<S>>(blocks: &mut Blocks<H>, space: &mut S, low: u32, high: u32) -> u64
     requires gap { MayGather blocks.old low high }
     requires grained { IsMultiple blocks.old.grain high }
     requires kept { H.are_in (holes_of blocks.old) (S.bytes space.old) }

@@ -78,6 +78,36 @@ const OPENINGS: &[Opening] = &[
         holes: &[span!(32, 96)],
     },
     Opening {
+        name: "runs above",
+        heap: Snapshot {
+            lo: 0,
+            hi: 512,
+            blocks: &[
+                loose!(0, 32, 32),
+                loose!(1, 64, 64),
+                loose!(2, 128, 32),
+                loose!(3, 192, 32),
+                loose!(4, 224, 96),
+                loose!(5, 416, 32),
+                loose!(6, 448, 64),
+            ],
+            order: &[],
+        },
+        gap: span!(0, 512),
+        id: 0,
+        places: &[
+            (0, 0),
+            (1, 192),
+            (2, 256),
+            (3, 288),
+            (4, 320),
+            (5, 416),
+            (6, 448),
+        ],
+        moved: 256,
+        holes: &[span!(32, 192)],
+    },
+    Opening {
         name: "nothing above",
         heap: Snapshot {
             lo: 0,
@@ -130,7 +160,10 @@ fn opens<S: Space>(
     } = case.gap;
     mark(rt, blocks, space);
     let list = listed(alloc, blocks, space)?;
-    assert!(rt; case.id < IDS && blocks.bounds().to <= space.len(), "{name}");
+    assert!(rt;
+        case.id < IDS && blocks.bounds().to <= space.len(),
+        "{name}"
+    );
     assert!(rt; may_gather(blocks, &list, low, high), "{name}");
     assert!(rt; is_grained(low) && is_grained(high), "{name}");
     let within = match blocks.find(case.id) {

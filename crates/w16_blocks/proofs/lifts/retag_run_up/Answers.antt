@@ -48,11 +48,11 @@ loop-at-preserved c =
     record {
       tables = subst (λ (n : ℕ). AreTables n c.args.bounds.from c.args.bounds.to c.args.grain c.retag.new.slots c.retag.new.begins) inv.slots c.retag.ensures.tables;
       list = c.retag.ensures.blocks ∙ list_next (layout_in (length c.args.slots.now) c.args.bounds.from c.args.bounds.to c.args.grain c.args.slots.now c.args.begins.now) c.requires.tables.ordered c.requires.tables.ids c.args.run c.requires.run c.args.to c.requires.up.0 c.requires.up.1 c.requires.bare c.loop-at.at c.loop-at-test.true inv.end inv.cut
-    (layout_in (length c.loop-at.slots) c.args.bounds.from c.args.bounds.to c.args.grain c.loop-at.slots c.loop-at.begins) (ordered_now inv.tables inv.slots) (λ i. record { cap = inv.slots i; lo = c.args.bounds.from; hi = c.args.bounds.to; grain = c.args.grain; blocks = inv.list i }) c.in-Some.block c.in-Some.ensures;
+          (layout_in (length c.loop-at.slots) c.args.bounds.from c.args.bounds.to c.args.grain c.loop-at.slots c.loop-at.begins) (ordered_now inv.tables inv.slots) (λ i. record { cap = inv.slots i; lo = c.args.bounds.from; hi = c.args.bounds.to; grain = c.args.grain; blocks = inv.list i }) c.in-Some.block c.in-Some.ensures;
       cut = cut_next (layout_in (length c.args.slots.now) c.args.bounds.from c.args.bounds.to c.args.grain c.args.slots.now c.args.begins.now) c.requires.tables.ordered c.requires.tables.ids c.args.run c.requires.run c.args.to c.requires.up.0 c.requires.up.1 c.requires.bare c.loop-at.at c.loop-at-test.true inv.end inv.cut
-    (layout_in (length c.loop-at.slots) c.args.bounds.from c.args.bounds.to c.args.grain c.loop-at.slots c.loop-at.begins) (ordered_now inv.tables inv.slots) (λ i. record { cap = inv.slots i; lo = c.args.bounds.from; hi = c.args.bounds.to; grain = c.args.grain; blocks = inv.list i }) c.in-Some.block c.in-Some.ensures;
+          (layout_in (length c.loop-at.slots) c.args.bounds.from c.args.bounds.to c.args.grain c.loop-at.slots c.loop-at.begins) (ordered_now inv.tables inv.slots) (λ i. record { cap = inv.slots i; lo = c.args.bounds.from; hi = c.args.bounds.to; grain = c.args.grain; blocks = inv.list i }) c.in-Some.block c.in-Some.ensures;
       from = begins_in (layout_in (length c.args.slots.now) c.args.bounds.from c.args.bounds.to c.args.grain c.args.slots.now c.args.begins.now) c.requires.tables.ordered c.requires.tables.ids c.args.run c.requires.run c.args.to c.requires.up.0 c.requires.up.1 c.requires.bare c.loop-at.at c.loop-at-test.true inv.end inv.cut
-    (layout_in (length c.loop-at.slots) c.args.bounds.from c.args.bounds.to c.args.grain c.loop-at.slots c.loop-at.begins) (ordered_now inv.tables inv.slots) (λ i. record { cap = inv.slots i; lo = c.args.bounds.from; hi = c.args.bounds.to; grain = c.args.grain; blocks = inv.list i }) c.in-Some.block c.in-Some.ensures;
+          (layout_in (length c.loop-at.slots) c.args.bounds.from c.args.bounds.to c.args.grain c.loop-at.slots c.loop-at.begins) (ordered_now inv.tables inv.slots) (λ i. record { cap = inv.slots i; lo = c.args.bounds.from; hi = c.args.bounds.to; grain = c.args.grain; blocks = inv.list i }) c.in-Some.block c.in-Some.ensures;
       end = let below = c.in-Some.ensures.below in let end = inv.end in omega arith;
       slots = c.retag.ensures.slots ∙ inv.slots;
       begins = c.retag.ensures.begins ∙ inv.begins;

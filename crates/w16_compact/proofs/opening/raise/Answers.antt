@@ -69,9 +69,10 @@ run_begin-requires-clause-grained g c =
 
 pub run_begin-requires-clause-whole : goal.run_begin-requires-clause-whole
 run_begin-requires-clause-whole g c =
-    let l = c.args.blocks.now in let inv = c.loop-block.invariant in let is = c.in-Some.ensures.value in
-    (cut_low_now l.blocks c.args.low c.args.high c.loop-block.from c.loop-block.to inv.low inv.high inv.place inv.room c.loop-block.blocks.blocks inv.list (cut_low c.args.low c.args.high l.blocks c.requires.gap.inside.1 c.requires.gap.loose),
-    cut_end_now c.loop-block.blocks c.in-Some.block inv.ordered is.0.known)
+    let l = c.args.blocks.now in let inv = c.loop-block.invariant in let is = c.in-Some.ensures.value in (
+      cut_low_now l.blocks c.args.low c.args.high c.loop-block.from c.loop-block.to inv.low inv.high inv.place inv.room c.loop-block.blocks.blocks inv.list (cut_low c.args.low c.args.high l.blocks c.requires.gap.inside.1 c.requires.gap.loose),
+      cut_end_now c.loop-block.blocks c.in-Some.block inv.ordered is.0.known,
+    )
 
 pub overflow_sub-to : goal.overflow_sub-to
 overflow_sub-to g c =
@@ -136,11 +137,11 @@ loop-block-preserved g c =
       list = list;
       low = c.run_begin.ensures.low;
       high = let end = end_below l.blocks l.lo l.hi c.args.low c.args.high c.loop-block.from c.loop-block.to c.are_ordered.ensures.laid c.requires.gap.loose inv.high inv.place inv.room inv.cut c.loop-block.blocks inv.ordered inv.list
-    c.in-Some.block is.0.known is.0.below is.0.last (record { from = c.run_begin.result; to = block_end c.in-Some.block }) c.run_begin.ensures.run (run_some c.loop-block.blocks c.in-Some.block inv.ordered is.0.known c.args.low c.run_begin.result is.1 c.run_begin.ensures.run c.run_begin.ensures.first) c.run_begin.ensures.low refl in let two = inv.high in let order = run.inside.1 in omega arith;
+          c.in-Some.block is.0.known is.0.below is.0.last (record { from = c.run_begin.result; to = block_end c.in-Some.block }) c.run_begin.ensures.run (run_some c.loop-block.blocks c.in-Some.block inv.ordered is.0.known c.args.low c.run_begin.result is.1 c.run_begin.ensures.run c.run_begin.ensures.first) c.run_begin.ensures.low refl in let two = inv.high in let order = run.inside.1 in omega arith;
       cut = cut_then l.blocks l.lo l.hi c.args.low c.args.high c.loop-block.from c.loop-block.to c.are_ordered.ensures.laid c.requires.gap.loose inv.high inv.place inv.room inv.cut c.loop-block.blocks inv.ordered inv.list
-    c.in-Some.block is.0.known is.0.below is.0.last (record { from = c.run_begin.result; to = block_end c.in-Some.block }) c.run_begin.ensures.run (run_some c.loop-block.blocks c.in-Some.block inv.ordered is.0.known c.args.low c.run_begin.result is.1 c.run_begin.ensures.run c.run_begin.ensures.first) c.run_begin.ensures.low refl;
+          c.in-Some.block is.0.known is.0.below is.0.last (record { from = c.run_begin.result; to = block_end c.in-Some.block }) c.run_begin.ensures.run (run_some c.loop-block.blocks c.in-Some.block inv.ordered is.0.known c.args.low c.run_begin.result is.1 c.run_begin.ensures.run c.run_begin.ensures.first) c.run_begin.ensures.low refl;
       place = place_then l.blocks l.lo l.hi c.args.low c.args.high c.loop-block.from c.loop-block.to c.are_ordered.ensures.laid c.requires.gap.loose inv.high inv.place inv.room inv.cut c.loop-block.blocks inv.ordered inv.list
-    c.in-Some.block is.0.known is.0.below is.0.last (record { from = c.run_begin.result; to = block_end c.in-Some.block }) c.run_begin.ensures.run (run_some c.loop-block.blocks c.in-Some.block inv.ordered is.0.known c.args.low c.run_begin.result is.1 c.run_begin.ensures.run c.run_begin.ensures.first) c.run_begin.ensures.low refl;
+          c.in-Some.block is.0.known is.0.below is.0.last (record { from = c.run_begin.result; to = block_end c.in-Some.block }) c.run_begin.ensures.run (run_some c.loop-block.blocks c.in-Some.block inv.ordered is.0.known c.args.low c.run_begin.result is.1 c.run_begin.ensures.run c.run_begin.ensures.first) c.run_begin.ensures.low refl;
       room = room.1;
       grained = multiple_less l.grain c.loop-block.to (block_end c.in-Some.block - c.run_begin.result) inv.grained
           (subst (λ (n : ℕ). IsMultiple n (block_end c.in-Some.block - c.run_begin.result)) grain (multiple_less c.loop-block.blocks.grain (block_end c.in-Some.block) c.run_begin.result run.grained.1 run.grained.0));
