@@ -18,6 +18,7 @@ pub mod Singles
 pub mod Told
 pub mod Steps
 pub mod Shown
+pub mod Modified
 pub mod Refusals
 pub mod Next
 pub mod Fresh

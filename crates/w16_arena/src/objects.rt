@@ -256,7 +256,7 @@ pub(crate) fn hold(entry: Entry) -> Hold
 }
 
 /// Whether an object of this kind keeps its address.
-fn is_fixed(kind: Kind) -> bool
+pub(crate) fn is_fixed(kind: Kind) -> bool
     ensures { result ≡ is_fixed kind }
 {
     kind == Kind::Fixed
