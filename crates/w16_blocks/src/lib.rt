@@ -15,7 +15,7 @@ pub use by_address::ByAddress;
 pub use parts::Part;
 use std::alloc::{AllocError, Global};
 use std::marker::Model;
-use w16_holes::{HoleList, Holes};
+use w16_holes::{HoleList, Holes, units_in, units_over};
 pub use w16_model::{Block, Hold, Span};
 use w16_region::Space;
 
@@ -62,7 +62,7 @@ fn unit_of(place: u32, lo: u32, grain: u32) -> usize
     requires grained { IsMultiple grain place }
     ensures { place ≡ lo + grain * result }
 {
-    ((place - lo) / grain) as usize
+    units_in(place - lo, grain) as usize
 }
 
 /// What the `size` bytes at a place have beyond those at another.
@@ -368,7 +368,7 @@ impl<H: HoleList> Blocks<H> {
         ensures value { result ≡ slice_get self.now.blocks (rank at self.now.blocks) }
         ensures ordered { IsOrdered self.now }
     {
-        let mut unit = at.saturating_sub(self.lo).div_ceil(self.grain) as usize;
+        let mut unit = units_over(at.saturating_sub(self.lo), self.grain) as usize;
         while unit < self.begins.len() {
             let begin = self.begins[unit] as usize;
             if begin > 0 {
@@ -376,7 +376,7 @@ impl<H: HoleList> Blocks<H> {
             }
             // Nothing begins in a hole, so from its begin it is passed in one step.
             let hole = self.holes.at(space, self.lo + unit as u32 * self.grain);
-            unit += (hole / self.grain).max(1) as usize;
+            unit += units_in(hole, self.grain).max(1) as usize;
         }
         None
     }

@@ -12,6 +12,8 @@ pub mod laws;
 mod side;
 #[cfg(test)]
 mod tests;
+mod grain;
 
 pub use holes::{HoleList, Holes};
 pub use side::SideHoles;
+pub use grain::{units_in, units_over};

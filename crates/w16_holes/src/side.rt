@@ -4,7 +4,7 @@ ghost use Rattle.w16_model.specs.Heap.{IsMultiple};
 ghost use Rattle.w16_holes.specs.Holes.{AreHoles, add_span};
 ghost use Rattle.w16_holes.specs.Cells.{IsApart, IsInside, IsBeginOf};
 
-use crate::{HoleList, Holes};
+use crate::{HoleList, Holes, units_in};
 use std::alloc::{AllocError, Global};
 use std::marker::Model;
 use w16_region::Space;
@@ -18,7 +18,7 @@ fn unit_of(place: u32, lo: u32, grain: u32) -> usize
     requires grained { IsMultiple grain place }
     ensures { grain * result ≡ place - lo }
 {
-    ((place - lo) / grain) as usize
+    units_in(place - lo, grain) as usize
 }
 
 /// How many bytes lie before a unit.
