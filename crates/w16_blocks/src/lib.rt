@@ -7,7 +7,9 @@ ghost use Rattle.std.specs.Option.{ForSome};
 ghost use Rattle.w16_model.specs.Heap.{IsMultiple};
 ghost use Rattle.w16_blocks.specs.Stay.{IsBeyond};
 
+mod below;
 mod by_address;
+mod lifts;
 mod parts;
 mod runs;
 

@@ -9,6 +9,8 @@ pub mod Skips
 pub mod ByAddress
 pub mod Walked
 pub mod Cleared
+pub mod Raising
+pub mod Opened
 pub mod PinnedIds
 pub mod Searched
 pub mod Told

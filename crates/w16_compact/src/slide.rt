@@ -69,7 +69,7 @@ pub fn gather<S: Space, H: Holes<S>>(
 }
 
 /// Does nothing: what holds of all blocks.
-fn are_ordered<H: HoleList>(blocks: &Blocks<H>)
+pub(crate) fn are_ordered<H: HoleList>(blocks: &Blocks<H>)
     ensures { IsOrdered blocks.now }
 {
     let _ = blocks.bounds();

@@ -56,6 +56,7 @@ macro_rules! span {
 }
 
 mod discards;
+mod opened;
 
 /// How many ids there are.
 const IDS: u32 = 8;
