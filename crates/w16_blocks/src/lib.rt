@@ -177,6 +177,7 @@ impl<H: HoleList> Blocks<H> {
         requires id { id < self.old.cap }
         requires known { IsSome (block_with self.old.blocks id) }
         requires kept { H.are_in (holes_of self.old) (S.bytes space.old) }
+        requires inside { self.old.hi ≤ length (S.bytes space.old) }
         ensures value { self.new ≡ record self.old { blocks = all_but id self.old.blocks } }
         ensures ordered { IsOrdered self.new }
         ensures kept { H.are_in (holes_of self.new) (S.bytes space.new) }
@@ -201,6 +202,7 @@ impl<H: HoleList> Blocks<H> {
         requires known { IsSome (block_with self.old.blocks id) }
         requires fits { ForSome (block_with self.old.blocks id) (λ b. FitsFor self.old (record b { size = size })) }
         requires kept { H.are_in (holes_of self.old) (S.bytes space.old) }
+        requires inside { self.old.hi ≤ length (S.bytes space.old) }
         ensures value { IfSome (block_with self.old.blocks id) (λ b. self.new ≡ record self.old { blocks = replaced (record b { size = size }) self.old.blocks }) }
         ensures ordered { IsOrdered self.new }
         ensures kept { H.are_in (holes_of self.new) (S.bytes space.new) }
@@ -245,6 +247,7 @@ impl<H: HoleList> Blocks<H> {
         requires less { size < block.size }
         requires fits { FitsFor self.old (record block { size = size }) }
         requires kept { H.are_in (holes_of self.old) (S.bytes space.old) }
+        requires inside { self.old.hi ≤ length (S.bytes space.old) }
         ensures value { self.new ≡ record self.old { blocks = replaced (record block { size = size }) self.old.blocks } }
         ensures ordered { IsOrdered self.new }
         ensures kept { H.are_in (holes_of self.new) (S.bytes space.new) }

@@ -2,3 +2,4 @@ pub mod Bytes
 mod Lends
 mod Pairs
 mod Frames
+pub mod Words

@@ -1,6 +1,7 @@
-use Rattle.std.proofs.Common.{List, arith, subst}
+use Rattle.std.proofs.Common.{List, ap, arith, subst}
 use Rattle.w16_model.specs.declared.Span.{Span}
 use Rattle.w16_holes.specs.Holes.{AreSameOutside}
+use Rattle.w16_blocks.specs.Layout.{Layout}
 use Rattle.w16_blocks.proofs.Keeping.{lies_in, place_grained, part_kept, used_kept, with_size, unit_inside, layout_dropped, IsKept-drop}
 use Rattle.w16_blocks.proofs.Blocks.remove.Goals as goal
 
@@ -15,6 +16,12 @@ put-requires-clause-part g c = part_kept c.self.invariant c.self.inside.slots.ok
 
 pub put-requires-clause-used : goal.put-requires-clause-used
 put-requires-clause-used g c = used_kept c.self.invariant c.self.inside.slots.ok.0 c.self.view_is c.args.id c.block_of-block.ensures.known
+
+pub put-requires-clause-inside : goal.put-requires-clause-inside
+put-requires-clause-inside g c =
+    let end = (lies_in c.self.invariant c.self.inside.slots.ok.0 c.self.view_is c.args.id c.block_of-block.ensures.known).2 in
+    let top = ap (λ (l : Layout). l.hi) c.self.view_is in
+    let inside = c.requires.inside in omega arith
 
 pub index_mut-requires-2 : goal.index_mut-requires-2
 index_mut-requires-2 g c =
