@@ -1,5 +1,5 @@
 -- Each step of a run discards as few as it can.
-use Rattle.std.proofs.Common.{◌≡◌, ℕ, List, [], ◌∷◌, subst}
+use Rattle.std.proofs.Common.{◌≡◌, List, [], ◌∷◌, subst}
 use Rattle.std.specs.List.{AllByRecursion as Each}
 use Rattle.w16_model.proofs.Gaps.{Each-from_All}
 use Rattle.w16_model.proofs.Fewest.{global_alloc_law, global_compact_law}
