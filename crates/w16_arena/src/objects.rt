@@ -1,5 +1,5 @@
 //! What becomes of single objects. None of these calls asks for room.
-ghost use Rattle.std.specs.Prelude.{◌≡◌, ◌<◌, Ok, Err, Some, None, length, IfErr, IfSome, IfNone, IsSomeAnd, IsTrue, true, OnOk};
+ghost use Rattle.std.specs.Prelude.{◌≡◌, ◌<◌, ◌≤◌, Ok, Err, Some, None, length, IfErr, IfSome, IfNone, IsSomeAnd, IsTrue, true, OnOk};
 ghost use Rattle.w16_model.specs.Heap.{is_discardable, is_fixed, object_at};
 ghost use Rattle.w16_model.specs.OneObject.{Enters, after_free, after_release, after_lock, after_unlock, after_discard, after_touch, after_newest, after_oldest, refused_order};
 ghost use Rattle.w16_model.specs.Table.{block_with, entry_at, hold_of_entry, IsCountedBy};
@@ -30,6 +30,7 @@ impl<H: HoleList> Arena<H> {
     where
         H: Holes<S>,
         requires kept { H.are_in (holes_in self.old.table) (S.bytes space.old) }
+        requires inside { self.old.table.hi ≤ length (S.bytes space.old) }
         ensures steps { Steps self.old self.new (λ old new. new ≡ after_release old id) }
         ensures bytes { KeepsBytes S.bytes S.lenders S.written self.new.table.lo self.new.table.hi self.new.table.blocks space.old space.new }
         ensures kept { H.are_in (holes_in self.new.table) (S.bytes space.new) }
@@ -46,6 +47,7 @@ impl<H: HoleList> Arena<H> {
     where
         H: Holes<S>,
         requires kept { H.are_in (holes_in self.old.table) (S.bytes space.old) }
+        requires inside { self.old.table.hi ≤ length (S.bytes space.old) }
         ensures ok { OnOk result (Steps self.old self.new (λ old new. after_free old id ≡ Ok new)) }
         ensures err { IfErr result (λ r. (self.new ≡ self.old) × Steps self.old self.new (λ old new. after_free old id ≡ Err r)) }
         ensures bytes { KeepsBytes S.bytes S.lenders S.written self.new.table.lo self.new.table.hi self.new.table.blocks space.old space.new }
@@ -105,6 +107,7 @@ impl<H: HoleList> Arena<H> {
     where
         H: Holes<S>,
         requires kept { H.are_in (holes_in self.old.table) (S.bytes space.old) }
+        requires inside { self.old.table.hi ≤ length (S.bytes space.old) }
         ensures ok { OnOk result (Steps self.old self.new (λ old new. after_discard old id ≡ Ok new)) }
         ensures err { IfErr result (λ r. (self.new ≡ self.old) × Steps self.old self.new (λ old new. after_discard old id ≡ Err r)) }
         ensures bytes { KeepsBytes S.bytes S.lenders S.written self.new.table.lo self.new.table.hi self.new.table.blocks space.old space.new }
@@ -185,6 +188,7 @@ impl<H: HoleList> Arena<H> {
     where
         H: Holes<S>,
         requires kept { H.are_in (holes_in self.old.table) (S.bytes space.old) }
+        requires inside { self.old.table.hi ≤ length (S.bytes space.old) }
         requires unlocked { IsSomeAnd (entry_at self.old.table id) (λ e. e.locks ≡ 0) }
         ensures steps { Steps self.old self.new (λ old new. new ≡ changes.absent old id) }
         ensures blocks { self.new.table.blocks ≡ all_but id self.old.table.blocks }
@@ -222,6 +226,7 @@ impl<H: HoleList> Arena<H> {
 fn remove_block<S: Space, H: Holes<S>>(blocks: &mut Blocks<H>, space: &mut S, id: u32)
     requires id { id < blocks.old.cap }
     requires kept { H.are_in (holes_of blocks.old) (S.bytes space.old) }
+    requires inside { blocks.old.hi ≤ length (S.bytes space.old) }
     ensures value { blocks.new ≡ record blocks.old { blocks = all_but id blocks.old.blocks } }
     ensures ordered { IsOrdered blocks.new }
     ensures kept { H.are_in (holes_of blocks.new) (S.bytes space.new) }
