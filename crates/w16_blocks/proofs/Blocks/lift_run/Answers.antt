@@ -3,7 +3,8 @@ use Rattle.std.specs.Vec.{with_items}
 use Rattle.std.proofs.lemmas.List.{with_items_is}
 use Rattle.w16_model.specs.declared.Block.{Block}
 use Rattle.w16_model.specs.declared.Span.{Span}
-use Rattle.w16_blocks.specs.Layout.{holes_of}
+use Rattle.w16_holes.specs.Holes.{Range}
+use Rattle.w16_blocks.specs.Layout.{Layout, holes_of}
 use Rattle.w16_blocks.specs.Kept.{blocks_in, AreTables, IsKept}
 use Rattle.w16_blocks.specs.Runs.{slid_with}
 use Rattle.w16_blocks.specs.Stay.{AreSameBut}
@@ -29,6 +30,17 @@ put-requires-clause-part g c = part_left c.self.invariant c.self.view_is c.requi
 
 pub put-requires-clause-used : goal.put-requires-clause-used
 put-requires-clause-used g c = used_left c.self.invariant c.self.view_is c.requires.run c.requires.some (way_up c.args.self.now c.args.run c.requires.run c.requires.some c.args.to c.min-apart.result c.requires.up.0 c.requires.up.1 c.requires.bare c.requires.grained c.min-apart.ensures) c.take.ensures.range c.take.ensures.holes
+
+pub put-requires-clause-inside : goal.put-requires-clause-inside
+put-requires-clause-inside g c =
+    let part = put-requires-clause-part g c in
+    let to = part.to in
+    let then = ap (λ (r : Range). r.hi) c.take.ensures.range in
+    let first = ap (λ (r : Range). r.hi) c.self.invariant.ranged in
+    let top = ap (λ (l : Layout). l.hi) c.self.view_is in
+    let inside = c.requires.inside in
+    let long = c.take.ensures.bytes.long in
+    let longer = c.slide.ensures.length in omega arith
 
 -- what the tables are afterwards
 module _ (g : Given.Over) (c : goal.After-self-2-1 g) where

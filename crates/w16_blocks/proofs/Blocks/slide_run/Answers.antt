@@ -33,7 +33,7 @@ put-requires-clause-used g c = used_left c.self.invariant c.self.view_is c.requi
 
 pub put-requires-clause-inside : goal.put-requires-clause-inside
 put-requires-clause-inside g c =
-    let part = part_left c.self.invariant c.self.view_is c.requires.run c.requires.some c.requires.down.1 c.requires.down.0 c.requires.bare c.min-apart.ensures c.take.ensures.range c.take.ensures.holes c.requires.grained in
+    let part = put-requires-clause-part g c in
     let to = part.to in
     let then = ap (λ (r : Range). r.hi) c.take.ensures.range in
     let first = ap (λ (r : Range). r.hi) c.self.invariant.ranged in
