@@ -163,14 +163,7 @@ impl<H: HoleList> Arena<H> {
         ensures same { self.new ≡ self.old }
         ensures sound { IsSound self.old.table }
     {
-        least_prefix(
-            &self.blocks,
-            space,
-            &self.order,
-            &mut self.gap_rooms,
-            h,
-            n,
-        )
+        least_prefix(&self.blocks, space, &self.order, &mut self.gap_rooms, h, n)
     }
 
     /// How many objects may be discarded at most.

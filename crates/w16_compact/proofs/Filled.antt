@@ -88,8 +88,7 @@ module _ (p : Block → Bool) (lo hi cap : ℕ) (xs : List Block) where
                 gaps = λ q none. settled.gaps q none.1;
                 ended = λ q other none. settled.ended q (λ s. none.0 (sym s)) none.1 ∙ get_or-set_other rooms gap q room 0 other;
               })
-              (subst (λ (ys : List Block). Tells hi r.low r.loose gap ys gap_of' rooms') (sym (cond-true (p x) (x ∷ filter p rest) (filter p rest) e))
-              (
+              (subst (λ (ys : List Block). Tells hi r.low r.loose gap ys gap_of' rooms') (sym (cond-true (p x) (x ∷ filter p rest) (filter p rest) e)) (
                 (λ t.
                     let here : slice_index rooms' gap ≡ room = settled.ended gap (λ s. now.other.0 (sym s)) now.other.1 ∙ get_or-set_same rooms gap room 0 lt in
                     (omega arith, told)),

@@ -82,7 +82,7 @@ module _ (hi : ℕ) (gap_of : List ℕ) where
     scan_widened best low loose more gap [] told = omega (arith, told)
     scan_widened best low loose more gap (y ∷ ys) told =
         elim (is_pinned y) as (λ t. is_pinned y ≡ t → cond t (scan hi (max best (y.at - low - loose)) (block_end y) 0 ys) (scan hi best low (loose + y.size) ys)
-            ≡ max (cond t (scan hi (max best (y.at - low - (loose + more))) (block_end y) 0 ys) (scan hi best low ((loose + more) + y.size) ys)) (slice_index rooms gap + more)) [
+        ≡ max (cond t (scan hi (max best (y.at - low - (loose + more))) (block_end y) 0 ys) (scan hi best low ((loose + more) + y.size) ys)) (slice_index rooms gap + more)) [
           | true ↦ λ t.
               let now = (told.0 t).0 in
               let first : max best (y.at - low - loose) ≡ max (slice_index rooms gap + more) (max best (y.at - low - (loose + more))) = omega arith in
@@ -115,8 +115,7 @@ module _ (hi : ℕ) (gap_of : List ℕ) where
           let known = named.0 in
           subst (λ (zs : List Block). Tells hi low loose gap zs gap_of (wider x)) (sym kept) (
             (λ t.
-                let other : gap ≢ slice_index gap_of x.id = gap_known (λ q. gap ≢ q) (block_end y) 0 y.id ys (λ e. none.0 (sym e)) (Each-map (λ z. z.id ≢ gap) (λ z. gap ≢ z.id) (λ z f e. f (sym e)) ys none.1) (told.0 t).1 x m loose_one in
-                (
+                let other : gap ≢ slice_index gap_of x.id = gap_known (λ q. gap ≢ q) (block_end y) 0 y.id ys (λ e. none.0 (sym e)) (Each-map (λ z. z.id ≢ gap) (λ z. gap ≢ z.id) (λ z f e. f (sym e)) ys none.1) (told.0 t).1 x m loose_one in (
                   ap (λ r. low + loose + r) (get_or-set_other rooms (slice_index gap_of x.id) gap (slice_index rooms (slice_index gap_of x.id) + x.size) 0 other) ∙ (told.0 t).0,
                   told_without (block_end y) 0 y.id ys named.2 named.1 many (omega arith) (told.0 t).1 m,
                 )),
@@ -141,7 +140,7 @@ module _ (hi : ℕ) (gap_of : List ℕ) where
           let kept : all_but x.id (y ∷ ys) ≡ y ∷ all_but x.id ys = all_but_other x.id y ys (ne_eqb y.id x.id (λ e. apart (sym e))) in
           ap (scan hi best low loose) kept
           ∙ elim (is_pinned y) as (λ t. is_pinned y ≡ t → cond t (scan hi (max best (y.at - low - loose)) (block_end y) 0 (all_but x.id ys)) (scan hi best low (loose + y.size) (all_but x.id ys))
-              ≡ max (cond t (scan hi (max best (y.at - low - loose)) (block_end y) 0 ys) (scan hi best low (loose + y.size) ys)) (slice_index rooms (slice_index gap_of x.id) + x.size)) [
+          ≡ max (cond t (scan hi (max best (y.at - low - loose)) (block_end y) 0 ys) (scan hi best low (loose + y.size) ys)) (slice_index rooms (slice_index gap_of x.id) + x.size)) [
             | true ↦ λ t. scan_without (max best (y.at - low - loose)) (block_end y) 0 y.id ys named.2 (told.0 t).1 m
             | false ↦ λ f. scan_without best low (loose + y.size) gap ys named.2 (told.1 f).1 m
           ] refl

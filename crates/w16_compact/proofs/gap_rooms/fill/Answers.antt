@@ -59,7 +59,7 @@ loop-block-preserved-then-not-is_pinned g c =
     let counted = ap not (sym c.is_about.ensures ∙ c.if-is_about.false) in
     let loose = sym c.is_pinned.ensures ∙ c.if-not-is_pinned.true in
     let lt : c.in-Some.block.id < length c.loop-block.gap_of = let many = c.requires.gap_of in let long = c.loop-block.auto.gap_of in
-        let id = id_here l.cap l.blocks c.in-Some.block _ now.passed.0 here c.bounds-bounds.ensures.ordered.named in omega arith in
+    let id = id_here l.cap l.blocks c.in-Some.block _ now.passed.0 here c.bounds-bounds.ensures.ordered.named in omega arith in
     record {
       may = on.0;
       ends = on.1;
