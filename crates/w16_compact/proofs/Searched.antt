@@ -1,13 +1,30 @@
 -- What may be discarded, along the order of use, and how many of these are needed.
 use Rattle.std.proofs.Common.{◌≡◌, ℕ, ◌+◌, ◌<◌, ◌≤◌, inl, inr, Bool, true, false, not, ◌&&◌, nat_le, List, [], ◌∷◌, zero, suc, length, drop, Option, Some, None, refl, sym, ap, ◌∙◌, subst, arith, le-leb, length-drop}
-use Rattle.std.specs.List.{find, range_with_len}
+use Rattle.std.specs.List.{slice_get, find, range_with_len}
 use Rattle.std.proofs.lemmas.Bool.{cases_lt, cond-true, cond-false, lt-leb}
+use Rattle.std.proofs.lemmas.List.Elements.{All-get_or}
 use Rattle.std.proofs.lemmas.List.Sums.{length-filter, count_by-le-length}
+use Rattle.std.proofs.lemmas.Option.{slice_get_within, get_or_from_slice_get}
 use Rattle.w16_model.specs.declared.Block.{Block}
 use Rattle.w16_model.specs.Gap.{room}
 use Rattle.w16_model.specs.Discards.{is_about, is_pinned_id, eligible, blocks_without, room_for, needed, snapshot}
 use Rattle.w16_model.proofs.Discards.{more_discards_law}
 use Rattle.w16_model.proofs.Least.{take_past}
+use Rattle.w16_lru.specs.Uses.{Uses, AreUses}
+
+-- each member of an order is an id
+pub below_cap : (most : ℕ) (uses : Uses) (i id : ℕ) (later : List ℕ) → AreUses uses → uses.cap ≤ most → drop i uses.ids ≡ id ∷ later → id < most
+below_cap most uses i id later are le e =
+    let got = got_dropped uses.ids i id later e in
+    let here = All-get_or (λ q. q < uses.cap) uses.ids i id (slice_get_within uses.ids i id got) are.below in
+    let same = get_or_from_slice_get uses.ids i id id got in
+    omega arith
+  where
+    got_dropped : (ids : List ℕ) (i id : ℕ) (later : List ℕ) → drop i ids ≡ id ∷ later → slice_get ids i ≡ Some id
+    got_dropped [] zero id later e = cc
+    got_dropped [] (suc i) id later e = cc
+    got_dropped (x ∷ xs) zero id later e = let same : x ≡ id = cc in ap Some same
+    got_dropped (x ∷ xs) (suc i) id later e = got_dropped xs i id later e
 
 -- whether a request about h may discard an object of the order
 abbrev pub may_go : List Block → Option ℕ → ℕ → Bool
