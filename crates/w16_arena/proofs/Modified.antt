@@ -24,7 +24,7 @@ use Rattle.w16_arena.proofs.Reordered.{same_reorders, end_reorders, without_reor
 use Rattle.w16_arena.proofs.Singles.{put_parts, put_heap}
 use Rattle.w16_arena.proofs.Steps.{state_of, beside, some_parts, kept_with, steps_to}
 
-module _ {entries : List (Option Entry)} {layout : Layout} {uses : Uses} {marks : List Bool} {room : ℕ} (kept : IsKept entries layout uses marks room)
+module _ {entries : List (Option Entry)} {layout : Layout} {uses : Uses} {gap_rooms : ℕ} {room : ℕ} (kept : IsKept entries layout uses gap_rooms room)
     (id : ℕ) (d : Entry) (there : get_or entries id None ≡ Some d) (kind : Kind) (loose : (is_fixed d.kind || is_fixed kind) ≡ false) where
   abbrev entry : Entry
   entry = record d { kind = kind }
@@ -87,7 +87,7 @@ module _ {entries : List (Option Entry)} {layout : Layout} {uses : Uses} {marks 
       has_same None = refl
       has_same (Some x) = refl
 
-  pub kept_modified : {after : Uses} → after ≡ record uses { ids = order } → IsKept (set entries id (Some entry)) layout after marks room
+  pub kept_modified : {after : Uses} → after ≡ record uses { ids = order } → IsKept (set entries id (Some entry)) layout after gap_rooms room
   kept_modified {after} after_is = kept_with kept (set entries id (Some entry)) layout after (subst (λ (u : Uses). IsSound (table_of (set entries id (Some entry)) layout u.ids)) (sym after_is) sound_modified)
       (length-set entries id (Some entry)) refl (ap (λ (u : Uses). u.cap) after_is)
 
