@@ -16,7 +16,7 @@ use Rattle.w16_model.specs.Handles.{Handles, AreHandles, slot_of_handle, handle_
 use Rattle.w16_model.specs.Calls.{has_flag, rounded_size}
 use Rattle.w16_model.specs.Law.{KeepsOthers}
 use Rattle.w16_model.specs.Reallocation.{ChangesKind, KeepsRest, LacksPlace, ReallocatesFewest}
-use Rattle.w16_model.specs.Resizes.{way_asked_again, kind_modified, modified, IsNull, Again, Empties, Resizes, GlobalReAllocs, ResizeLaw, NullLaw, ResizeFewestLaw}
+use Rattle.w16_model.specs.Resizes.{way_asked_again, kind_modified, modified, IsNull, Again, AnswersDiscard, Empties, Resizes, GlobalReAllocs, ResizeLaw, NullLaw, ResizeFewestLaw}
 use Rattle.w16_model.proofs.Naming.{names_law}
 use Rattle.w16_model.proofs.KeptHandles.{moved_handles, other_handles, same_updated}
 use Rattle.w16_model.proofs.KindChanges.{kind_law, kind_heap_law, modify_none}
@@ -95,11 +95,11 @@ module _ (old : Handles) (is : AreHandles old) where
   resized_handles : (handle size flags answer : ℕ) (new : Handles) → GlobalReAllocs old handle size flags answer new → AreHandles new
   resized_handles handle size flags answer new step = turn (slot_of_handle old handle) step
     where
-      discards : (slot : ℕ) (r : Result Heap Refusal) → after_discard old.heap slot ≡ r → elim r [ Ok heap ↦ Again old handle heap answer new | Err _ ↦ IsNull old answer new ] → AreHandles new
+      discards : (slot : ℕ) (r : Result Heap Refusal) → after_discard old.heap slot ≡ r → AnswersDiscard old handle answer new r → AreHandles new
       discards slot (Ok heap) e again = again_handles handle heap answer new (discarded_handles slot heap e) again
       discards slot (Err refusal) e null = null_handles answer new null
 
-      empties : (slot : ℕ) (m : Bool) → MatchBool m (elim (after_discard old.heap slot) [ Ok heap ↦ Again old handle heap answer new | Err _ ↦ IsNull old answer new ]) (IsNull old answer new) → AreHandles new
+      empties : (slot : ℕ) (m : Bool) → MatchBool m (AnswersDiscard old handle answer new (after_discard old.heap slot)) (IsNull old answer new) → AreHandles new
       empties slot true g = discards slot (after_discard old.heap slot) refl g
       empties slot false g = null_handles answer new g
 
@@ -149,11 +149,11 @@ null_law old new handle size flags is step = turn (slot_of_handle old handle) re
     never : (slot : ℕ) → slot_of_handle old handle ≡ Some slot → (heap : Heap) → Again old handle heap 0 new → new.heap ≡ old.heap
     never slot found heap again = absurd (found_some old handle slot found (sym again.0))
 
-    discards : (slot : ℕ) → slot_of_handle old handle ≡ Some slot → (r : Result Heap Refusal) → elim r [ Ok heap ↦ Again old handle heap 0 new | Err _ ↦ IsNull old 0 new ] → new.heap ≡ old.heap
+    discards : (slot : ℕ) → slot_of_handle old handle ≡ Some slot → (r : Result Heap Refusal) → AnswersDiscard old handle 0 new r → new.heap ≡ old.heap
     discards slot found (Ok heap) g = never slot found heap g
     discards slot found (Err refusal) g = null_heap old new 0 g
 
-    empties : (slot : ℕ) → slot_of_handle old handle ≡ Some slot → (m : Bool) → MatchBool m (elim (after_discard old.heap slot) [ Ok heap ↦ Again old handle heap 0 new | Err _ ↦ IsNull old 0 new ]) (IsNull old 0 new) → new.heap ≡ old.heap
+    empties : (slot : ℕ) → slot_of_handle old handle ≡ Some slot → (m : Bool) → MatchBool m (AnswersDiscard old handle 0 new (after_discard old.heap slot)) (IsNull old 0 new) → new.heap ≡ old.heap
     empties slot found true g = discards slot found (after_discard old.heap slot) g
     empties slot found false g = null_heap old new 0 g
 
@@ -190,14 +190,14 @@ module _ (old new : Handles) (is : AreHandles old) (handle size flags answer slo
   answered_fewest : (answered : Bool) (heap : Heap) → Reallocates old.heap slot (rounded_size size) (way_asked_again flags) answered heap → MatchBool answered (Again old handle heap answer new) (IsNull old answer new) → IsSomeAnd (object_at old.heap slot) Fewest
   answered_fewest true heap r again = some_of (object_at old.heap slot) (λ o. ReallocatesFewest old.heap slot (rounded_size size) o (way_asked_again flags) true heap) Fewest
       (λ o f. (
-      (λ _. subst (ReallocatesFewest old.heap slot (rounded_size size) o (way_asked_again flags) true) (sym (ap (λ (h : Handles). h.heap) again.1)) f),
-      (λ none. absurd (found_some old handle slot found (sym again.0 ∙ none))),
+        (λ _. subst (ReallocatesFewest old.heap slot (rounded_size size) o (way_asked_again flags) true) (sym (ap (λ (h : Handles). h.heap) again.1)) f),
+        (λ none. absurd (found_some old handle slot found (sym again.0 ∙ none))),
       ))
       (fewest_law old.heap heap slot (rounded_size size) (way_asked_again flags) true is.heap r)
   answered_fewest false heap r null = some_of (object_at old.heap slot) (λ o. ReallocatesFewest old.heap slot (rounded_size size) o (way_asked_again flags) false heap) Fewest
       (λ o f. (
-      (λ some. absurd (some null.0)),
-      (λ _. ((f.refused refl).0, (f.refused refl).1, null_heap old new answer null)),
+        (λ some. absurd (some null.0)),
+        (λ _. ((f.refused refl).0, (f.refused refl).1, null_heap old new answer null)),
       ))
       (fewest_law old.heap heap slot (rounded_size size) (way_asked_again flags) false is.heap r)
 

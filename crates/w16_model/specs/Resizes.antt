@@ -1,7 +1,8 @@
 -- GlobalReAlloc and GlobalDiscard on handles: the cases in their order, and what each answers and leaves.
-use Rattle.std.specs.Prelude.{◌≡◌, ◌≢◌, ℕ, ◌<◌, ◌≤◌, Bool, true, false, ◌==◌, if◌then◌else◌, nat_lt, MatchBool, MatchOption, IsSomeAnd, Some, Ok, Err}
+use Rattle.std.specs.Prelude.{◌≡◌, ◌≢◌, ℕ, ◌<◌, ◌≤◌, Bool, true, false, ◌==◌, if◌then◌else◌, nat_lt, MatchBool, MatchOption, IsSomeAnd, Some, Result, Ok, Err}
 use Rattle.w16_model.specs.declared.Kind.{Kind}
 use Rattle.w16_model.specs.declared.Kind.TheVariants.{Moveable, Discardable}
+use Rattle.w16_model.specs.declared.Refusal.{Refusal}
 use Rattle.w16_model.specs.declared.Way.{Way}
 use Rattle.w16_model.specs.declared.TheConstants.{LARGEST_SIZE, GMEM_MOVEABLE, GMEM_MODIFY, GMEM_DISCARDABLE}
 use Rattle.w16_model.specs.Heap.{Heap, object_at, size_of}
@@ -31,10 +32,15 @@ IsNull old answer new = (answer ≡ 0) × (new ≡ record old { moved = 0 })
 abbrev pub Again : Handles → ℕ → Heap → ℕ → Handles → Type 0
 Again old handle heap answer new = (answer ≡ handle) × (new ≡ record old { heap = heap; moved = moved_bytes old.heap heap })
 
+-- what is answered to a discard: the handle again, or NULL where it is refused
+abbrev pub AnswersDiscard : Handles → ℕ → ℕ → Handles → Result Heap Refusal → Type 0
+AnswersDiscard old handle answer new (Ok heap) = Again old handle heap answer new
+AnswersDiscard old handle answer new (Err refusal) = IsNull old answer new
+
 -- a size of 0: with GMEM_MOVEABLE an object that is discardable and not locked is discarded, also if it is so already (GlobalDiscard)
 abbrev pub Empties : Handles → ℕ → ℕ → ℕ → ℕ → Handles → Type 0
 Empties old handle slot flags answer new = MatchBool (has_flag flags GMEM_MOVEABLE)
-    (elim (after_discard old.heap slot) [ Ok heap ↦ Again old handle heap answer new | Err _ ↦ IsNull old answer new ])
+    (AnswersDiscard old handle answer new (after_discard old.heap slot))
     (IsNull old answer new)
 
 -- a size above 0: NULL over the limit, or where the heap refuses it
@@ -48,10 +54,10 @@ abbrev pub GlobalReAllocs : Handles → ℕ → ℕ → ℕ → ℕ → Handles 
 GlobalReAllocs old handle size flags answer new = MatchOption (slot_of_handle old handle)
     (IsNull old answer new)
     (λ slot. MatchBool (has_flag flags GMEM_MODIFY)
-        (Again old handle (modified old.heap slot (kind_modified flags)) answer new)
-        (MatchBool (size == 0)
-            (Empties old handle slot flags answer new)
-            (Resizes old handle slot flags size answer new)))
+    (Again old handle (modified old.heap slot (kind_modified flags)) answer new)
+    (MatchBool (size == 0)
+    (Empties old handle slot flags answer new)
+    (Resizes old handle slot flags size answer new)))
 
 -- GlobalDiscard is a GlobalReAlloc of size 0
 abbrev pub GlobalDiscards : Handles → ℕ → ℕ → Handles → Type 0
