@@ -10,20 +10,23 @@ use Rattle.w16_model.specs.declared.Refusal.{Refusal}
 use Rattle.w16_model.specs.OneObject.{Enters, after_free}
 use Rattle.w16_compact.specs.Gather.{contents}
 use Rattle.w16_model.specs.Changes.{with_object}
-use Rattle.w16_arena.specs.State.{ArenaState, Steps, IsSameRange, entry_of}
+use Rattle.w16_model.specs.declared.Span.{Span}
+use Rattle.w16_holes.specs.Thread.{AreThreaded}
+use Rattle.w16_arena.specs.State.{ArenaState, Steps, IsSameRange, entry_of, holes_in}
 use Rattle.w16_arena.proofs.Keeping.{heap_kept}
 use Rattle.w16_arena.proofs.Lookups.{is_heap, entry_is, size_here, place_here, ends_in_memory, no_entry, no_block}
 use Rattle.w16_global.specs.Parts.{AreParts, Holding, holding_of}
 use Rattle.w16_global.proofs.Written.{beside}
 
 -- another table over the same range, and a memory as long
-pub parts_after : {s : ArenaState} {memory : List ℕ} → AreParts s memory → {new : ArenaState} {after : List ℕ} → IsSameRange s.table new.table → length after ≡ length memory → All (λ b. b < 256) after → AreParts new after
-parts_after parts range long bytes = record {
+pub parts_after : {s : ArenaState} {memory : List ℕ} → AreParts s memory → {new : ArenaState} {after : List ℕ} → IsSameRange s.table new.table → length after ≡ length memory → All (λ b. b < 256) after → AreThreaded (holes_in new.table) after → AreParts new after
+parts_after parts range long bytes kept = record {
   sound = range.sound;
   low = range.lo ∙ parts.low;
   grain = range.grain ∙ parts.grain;
   high = range.hi ∙ parts.high ∙ sym long;
   bytes = bytes;
+  kept = kept;
   few = let n = range.ids in let few = parts.few in omega arith;
 }
 
@@ -31,9 +34,9 @@ module _ {s : ArenaState} {memory : List ℕ} (parts : AreParts s memory) where
   pub whole : s.table.hi ≤ length memory
   whole = let e = parts.high in omega arith
 
-  -- a step that asks for no room
-  pub parts_stepped : {new : ArenaState} {step : Heap → Heap → Type 0} → Steps s new step → AreParts new memory
-  parts_stepped p = parts_after parts p.range refl parts.bytes
+  -- a step that leaves the holes
+  pub parts_stepped : {new : ArenaState} {step : Heap → Heap → Type 0} → Steps s new step → holes_in new.table ≡ holes_in s.table → AreParts new memory
+  parts_stepped p same = parts_after parts p.range refl parts.bytes (subst (λ (hs : List Span). AreThreaded hs memory) (sym same) parts.kept)
 
   module _ {count : ℕ} {h : Holding} (shown : holding_of s memory count ≡ h) where
     -- what the parts have, the value has, and the other way round
