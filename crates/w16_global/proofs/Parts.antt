@@ -18,25 +18,9 @@ use Rattle.w16_arena.proofs.Lookups.{is_heap, entry_is, size_here, place_here, e
 use Rattle.w16_global.specs.Parts.{AreParts, Holding, holding_of}
 use Rattle.w16_global.proofs.Written.{beside}
 
--- another table over the same range, and a memory as long
-pub parts_after : {s : ArenaState} {memory : List ℕ} → AreParts s memory → {new : ArenaState} {after : List ℕ} → IsSameRange s.table new.table → length after ≡ length memory → All (λ b. b < 256) after → AreThreaded (holes_in new.table) after → AreParts new after
-parts_after parts range long bytes kept = record {
-  sound = range.sound;
-  low = range.lo ∙ parts.low;
-  grain = range.grain ∙ parts.grain;
-  high = range.hi ∙ parts.high ∙ sym long;
-  bytes = bytes;
-  kept = kept;
-  few = let n = range.ids in let few = parts.few in omega arith;
-}
-
 module _ {s : ArenaState} {memory : List ℕ} (parts : AreParts s memory) where
   pub whole : s.table.hi ≤ length memory
   whole = let e = parts.high in omega arith
-
-  -- a step that leaves the holes
-  pub parts_stepped : {new : ArenaState} {step : Heap → Heap → Type 0} → Steps s new step → holes_in new.table ≡ holes_in s.table → AreParts new memory
-  parts_stepped p same = parts_after parts p.range refl parts.bytes (subst (λ (hs : List Span). AreThreaded hs memory) (sym same) parts.kept)
 
   module _ {count : ℕ} {h : Holding} (shown : holding_of s memory count ≡ h) where
     -- what the parts have, the value has, and the other way round

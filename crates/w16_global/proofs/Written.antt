@@ -127,7 +127,7 @@ module _ {state : ArenaState} {memory : List ℕ} (parts : AreParts state memory
         let t : Table = state.table in
         let mine : Member x t.blocks × (x.id ≡ q) = member_with t.blocks q x is in
         used_part x.at (block_end x) at (at + length new) (holes_in t) from to
-        (Each-at (λ c. IsUsed c.at (block_end c) (holes_in t)) t.blocks (used_each t.lo t.hi t.blocks (laid_placed t.lo t.hi t.blocks parts.sound.table.laid)) x mine.0)
+        (Each-at (λ c. IsUsed c.at (block_end c) (holes_in t)) t.blocks (used_each t.lo t.hi t.blocks parts.sound.table.laid) x mine.0)
 
     pub parts_after_write : AreParts state (put_part memory at new)
     parts_after_write = parts_written parts at new room ours used
