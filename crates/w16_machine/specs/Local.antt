@@ -158,6 +158,7 @@ Stays old value answer new = (answer ≡ value) × (new ≡ old)
 pub record Becomes (old : LocalWorld) (at : LocalHeap) (heap : Heap) (new : LocalWorld) : Type 0 where
   pub table : Table
   pub is_local : IsLocalTable table
+  pub range : (table.lo ≡ at.table.lo) × (table.hi ≡ at.table.hi)
   pub same : heap_in table at.bytes ≡ heap
   pub rest : new ≡ with_table old at.slot table
 

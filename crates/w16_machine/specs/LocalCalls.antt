@@ -128,10 +128,12 @@ LocalLocks old name answer new = OnNamed old name 0 answer new (λ o.
     let pointer = near_pointer (heap_of o.heap) o.id in
     Leaves old o.heap (after_lock (heap_of o.heap) o.id) (λ _. pointer) (lock_refused pointer) answer new)
 
+abbrev pub locks_left : ℕ → Heap → ℕ
+locks_left id heap = if nat_lt 0 (locks_at heap id) then 1 else 0
+
 -- LocalUnlock: 1 where locks are left, else 0; 0 also for a fixed object and for a bad name
 abbrev pub LocalUnlocks : LocalWorld → ℕ → ℕ → LocalWorld → Type 0
-LocalUnlocks old name answer new = OnNamed old name 0 answer new (λ o.
-    Leaves old o.heap (after_unlock (heap_of o.heap) o.id) (λ heap. if nat_lt 0 (locks_at heap o.id) then 1 else 0) (λ _. 0) answer new)
+LocalUnlocks old name answer new = OnNamed old name 0 answer new (λ o. Leaves old o.heap (after_unlock (heap_of o.heap) o.id) (locks_left o.id) (λ _. 0) answer new)
 
 -- LocalReAlloc with LMEM_MODIFY: the name, and a moveable or discardable object becomes what the flags say; a fixed one stays as it is
 abbrev pub ModifiesObject : LocalWorld → ℕ → ℕ → ℕ → LocalWorld → LocalObject → Type 0
