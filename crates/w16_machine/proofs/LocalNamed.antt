@@ -26,7 +26,8 @@ use Rattle.w16_model.proofs.Tables.{object_is}
 use Rattle.w16_model.specs.Calls.{has_flag}
 use Rattle.w16_machine.specs.declared.local.TheConstants.{LMEM_MOVEABLE, LMEM_DISCARDABLE}
 use Rattle.w16_machine.specs.Local.{AreNamed, rounded_up}
-use Rattle.w16_machine.specs.LocalCalls.{MakesObject, ResizesObject, is_absent_asked, local_kind, local_way, moveable_or_discardable}
+use Rattle.w16_machine.proofs.LocalOutcomes.{IsAltered, IsRoomed}
+use Rattle.w16_machine.specs.LocalCalls.{LocalCommand, MakesObject, ResizesObject, is_absent_asked, local_kind, local_way, moveable_or_discardable}
 
 -- a fixed object has bytes
 abbrev pub HasName : Object → Type 0
@@ -49,7 +50,7 @@ named_in t is memory after whole same named id =
 loose_named : (o : Object) → is_fixed o.kind ≡ false → HasName o
 loose_named o loose f = absurd (false≢true (sym loose ∙ f))
 
-pub not_fixed : (flags : ℕ) → is_fixed (moveable_or_discardable flags) ≡ false
+not_fixed : (flags : ℕ) → is_fixed (moveable_or_discardable flags) ≡ false
 not_fixed flags = turn (has_flag flags LMEM_DISCARDABLE)
   where
     turn : (b : Bool) → is_fixed (cond b Discardable Moveable) ≡ false
@@ -96,7 +97,7 @@ module _ (old : Heap) (named : AreNamed old) where
   if_ok true r s f g = f refl
   if_ok false r s f g = g refl
 
-  pub lock_named : (id : ℕ) → IfOk (after_lock old id) AreNamed
+  lock_named : (id : ℕ) → IfOk (after_lock old id) AreNamed
   lock_named id = turn (object_at old id) refl
     where
       turn : (p : Option Object) → object_at old id ≡ p → IfOk (elim p as (λ _. Result Heap Refusal) [
@@ -110,7 +111,7 @@ module _ (old : Heap) (named : AreNamed old) where
           if_ok (is_fixed o.kind) (Err refusals.Fixed) (cond (o.locks == 255) (Err refusals.LockFull) (Ok locked)) (λ _. tt) (λ _.
           if_ok (o.locks == 255) (Err refusals.LockFull) (Ok locked) (λ _. tt) (λ _. named_put locked id (record o { locks = o.locks + 1 }) refl (has_name id o e))))
 
-  pub unlock_named : (id : ℕ) → IfOk (after_unlock old id) AreNamed
+  unlock_named : (id : ℕ) → IfOk (after_unlock old id) AreNamed
   unlock_named id = turn (object_at old id) refl
     where
       turn : (p : Option Object) → object_at old id ≡ p → IfOk (elim p as (λ _. Result Heap Refusal) [
@@ -122,14 +123,14 @@ module _ (old : Heap) (named : AreNamed old) where
           let less : Heap = with_object old id (record o { locks = o.locks - 1 }) in
           if_ok (is_fixed o.kind) (Err refusals.Fixed) (Ok less) (λ _. tt) (λ _. named_put less id (record o { locks = o.locks - 1 }) refl (has_name id o e))
 
-  pub free_named : (id : ℕ) → IfOk (after_free old id) AreNamed
+  free_named : (id : ℕ) → IfOk (after_free old id) AreNamed
   free_named id = turn (object_at old id)
     where
       turn : (p : Option Object) → IfOk (elim p as (λ _. Result Heap Refusal) [ None ↦ Ok old | Some o ↦ cond (nat_lt 0 o.locks) (Err refusals.Locked) (Ok (removed old id)) ]) AreNamed
       turn None = named
       turn (Some o) = if_ok (nat_lt 0 o.locks) (Err refusals.Locked) (Ok (removed old id)) (λ _. tt) (λ _. named_removed id)
 
-  pub discard_named : (id : ℕ) → IfOk (after_discard old id) AreNamed
+  discard_named : (id : ℕ) → IfOk (after_discard old id) AreNamed
   discard_named id = turn (object_at old id) refl
     where
       turn : (p : Option Object) → object_at old id ≡ p → IfOk (elim p as (λ _. Result Heap Refusal) [
@@ -141,7 +142,7 @@ module _ (old : Heap) (named : AreNamed old) where
           if_ok (nat_lt 0 o.locks) (Err refusals.Locked) (cond (is_discardable o.kind) (Ok (absent old id)) (Err refusals.NotDiscardable)) (λ _. tt) (λ _.
           if_ok (is_discardable o.kind) (Ok (absent old id)) (Err refusals.NotDiscardable) (λ t. named_absent id o e t) (λ _. tt))
 
-  pub modify_named : (id : ℕ) (kind : Kind) → is_fixed kind ≡ false → IfOk (after_modify old id kind) AreNamed
+  modify_named : (id : ℕ) (kind : Kind) → is_fixed kind ≡ false → IfOk (after_modify old id kind) AreNamed
   modify_named id kind loose = turn (object_at old id) refl
     where
       turn : (p : Option Object) → object_at old id ≡ p → IfOk (elim p as (λ _. Result Heap Refusal) [
@@ -174,7 +175,7 @@ module _ (old : Heap) (named : AreNamed old) where
 
   -- the steps that ask for room
   module _ (is : IsHeap old) where
-    pub room_named : (n answer : ℕ) (new : Heap) → MakesRoom old n answer new → AreNamed new
+    room_named : (n answer : ℕ) (new : Heap) → MakesRoom old n answer new → AreNamed new
     room_named n answer new made q = named_other new None (compaction_prefix old n) ((others_law old new is (compaction_prefix old n)).1 made.settled) q none
       where
         none : ◌≡◌ {A = Option ℕ} None (Some q) → ⊥
@@ -191,14 +192,14 @@ module _ (old : Heap) (named : AreNamed old) where
         some_bytes None h = absurd h
         some_bytes (Some b) h = refl
 
-    pub made_named : (flags size id answer : ℕ) (new : Heap) → MakesObject old flags size id answer new → AreNamed new
+    made_named : (flags size id answer : ℕ) (new : Heap) → MakesObject old flags size id answer new → AreNamed new
     made_named flags size id answer new m = turn (is_absent_asked flags size) refl m.made
       where
         turn : (b : Bool) → is_absent_asked flags size ≡ b → MatchBool b (Enters old id (local_kind flags) new) (Allocates old id (rounded_up size) (local_kind flags) 0 (local_way flags) true new) → AreNamed new
         turn true t enters = named_put new id (record { kind = local_kind flags; locks = 0; bytes = None }) (ap (λ (h : Heap). h.objects) enters.entered) (loose_named (record { kind = local_kind flags; locks = 0; bytes = None }) (asked_loose flags size t))
         turn false t allocates = allocated_named id (rounded_up size) (local_kind flags) (local_way flags) new allocates
 
-    pub resized_named : (id size flags answer : ℕ) (new : Heap) → ResizesObject old id size flags answer new → AreNamed new
+    resized_named : (id size flags answer : ℕ) (new : Heap) → ResizesObject old id size flags answer new → AreNamed new
     resized_named id size flags answer new r = turn (object_at old id) (rest_law old new id (rounded_up size) (local_way flags) is r.resized)
       where
         own : (zero : Bool) (o : Object) (n : ℕ) (p : Option Object) → IsSomeAnd p (IsResized zero n o) → IfSome p HasName
@@ -212,3 +213,15 @@ module _ (old : Heap) (named : AreNamed old) where
         turn : (p : Option Object) → IsSomeAnd p (λ o. KeepsRest old id (rounded_up size) o (local_way flags) new) → AreNamed new
         turn None h = absurd h
         turn (Some o) h = named_own new id h.count h.others (own (local_way flags).zero o (rounded_up size) (object_at new id) h.object)
+
+    pub roomed_named : (command : LocalCommand) (answer : ℕ) (new : Heap) → IsRoomed old command answer new → AreNamed new
+    roomed_named command answer new (inl (flags, size, id, free, made)) = made_named flags size id answer new made
+    roomed_named command answer new (inr (inl (size, made))) = room_named size answer new made
+    roomed_named command answer new (inr (inr (size, flags, id, named_id, resized))) = resized_named id size flags answer new resized
+
+  pub altered_named : (id : ℕ) (new : Heap) → IsAltered old id new → AreNamed new
+  altered_named id new (inl e) = subst (λ r. IfOk r AreNamed) e (free_named id)
+  altered_named id new (inr (inl e)) = subst (λ r. IfOk r AreNamed) e (lock_named id)
+  altered_named id new (inr (inr (inl e))) = subst (λ r. IfOk r AreNamed) e (unlock_named id)
+  altered_named id new (inr (inr (inr (inl e)))) = subst (λ r. IfOk r AreNamed) e (discard_named id)
+  altered_named id new (inr (inr (inr (inr (flags, e))))) = subst (λ r. IfOk r AreNamed) e (modify_named id (moveable_or_discardable flags) (not_fixed flags))

@@ -1,5 +1,5 @@
 //! The laws of local heaps. Each function does nothing: its contract is the law.
-ghost use Rattle.w16_machine.specs.LocalLaw.{AreFigures, AreFlags, NamesLaw, NamedLaw};
+ghost use Rattle.w16_machine.specs.LocalLaw.{AreFigures, AreFlags, BeginLaw, EmptyLaw, FrameLaw, GoesLaw, GoneLaw, NamedLaw, NamesLaw, NeverBackLaw, NewHeapLaw, RunLaw, WorldLaw};
 
 /// The figures of local heaps and the flags of the Local calls are these numbers.
 pub fn figures_of_local_heaps()
@@ -7,8 +7,34 @@ pub fn figures_of_local_heaps()
     ensures flags { AreFlags }
 {}
 
-/// In a local heap a name, and a near pointer, is found exactly where an object has it: no two objects have one name.
+/// In a local heap a name, and a near pointer, is found exactly where an object has it: no two objects have one name. Each has one.
 pub fn local_names_are_exact()
     ensures names { NamesLaw }
     ensures named { NamedLaw }
+{}
+
+/// A local heap begins exactly where these conditions hold, over the range from start rounded up to end rounded down, and without objects.
+pub fn local_heaps_begin_empty()
+    ensures begin { BeginLaw }
+    ensures empty { NewHeapLaw }
+{}
+
+/// Each step of each family keeps what holds of every world with local heaps: each lies in its segment, and no two of its objects share a
+/// byte. So do whole runs.
+pub fn steps_keep_local_worlds()
+    ensures begin { EmptyLaw }
+    ensures step { WorldLaw }
+    ensures run { RunLaw }
+{}
+
+/// A local call changes bytes in the range of the chosen heap alone, and no address, no order of use and no other heap of the world.
+pub fn local_calls_keep_the_rest()
+    ensures { FrameLaw }
+{}
+
+/// A local heap goes exactly where its segment loses its range, and only LocalInit brings one, which has no object.
+pub fn local_heaps_never_come_back()
+    ensures goes { GoesLaw }
+    ensures never { NeverBackLaw }
+    ensures gone { GoneLaw }
 {}
