@@ -1,5 +1,5 @@
 -- Where a local heap may begin, and that it has no object then.
-use Rattle.std.proofs.Common.{◌≡◌, ◌≢◌, ℕ, zero, suc, ◌+◌, ◌-◌, ◌*◌, ◌/◌, ◌<◌, ◌≤◌, inl, inr, Bool, true, false, cond, ◌&&◌, ◌==◌, nat_le, nat_lt, min, IsTrue, IfSome, IsSomeAnd, List, [], ◌∷◌, length, get_or, replicate, All, Option, Some, None, option_map, is_some, refl, sym, ap, ◌∙◌, subst, arith, leb-true, ltb-true}
+use Rattle.std.proofs.Common.{◌≡◌, ℕ, zero, suc, ◌+◌, ◌*◌, ◌/◌, ◌<◌, ◌≤◌, Bool, true, false, cond, ◌&&◌, nat_le, nat_lt, min, IsTrue, IfSome, IsSomeAnd, List, [], length, get_or, replicate, Option, Some, None, option_map, is_some, refl, sym, ap, ◌∙◌, subst, arith, leb-true, ltb-true}
 use Rattle.std.specs.Ordering.{nat_cmp}
 use Rattle.std.specs.FinMap as finmap
 use Rattle.std.specs.FinMap.{get-empty}
@@ -12,7 +12,7 @@ use Rattle.w16_model.specs.Heap.{Heap, Object, IsMultiple, object_at, is_fixed}
 use Rattle.w16_model.specs.Handles.{slot_of_selector}
 use Rattle.w16_model.specs.Table.{Table, IsSound, IsCountedBy, entry_at, hold_of_entry, is_listed, by_id, heap_in}
 use Rattle.w16_model.proofs.Gaps.{All-from_Each, AllPairs-from_EachPair}
-use Rattle.w16_machine.specs.declared.local.TheConstants.{LOCAL_GRAIN, LOCAL_ENTRIES, LAST_LOCAL_END}
+use Rattle.w16_machine.specs.declared.local.TheConstants.{LOCAL_GRAIN, LOCAL_ENTRIES}
 use Rattle.w16_machine.specs.Local.{LocalWorld, Beginning, IsLocalTable, IsLocalIn, AreNamed, segment_bytes, is_range, range_in, beginning, beginning_in, new_table, selector_or_ds, rounded_up, rounded_down}
 use Rattle.w16_machine.specs.LocalLaw.{MayBegin, BeginLaw, NewHeapLaw}
 

@@ -1,32 +1,32 @@
 -- What is known of the local heap that DS names, and of the worlds that a local call leaves.
-use Rattle.std.proofs.Common.{◌≡◌, ◌≢◌, ℕ, ◌+◌, ◌≤◌, ◌<◌, inl, inr, Bool, true, false, cond, List, length, take, drop, All, Option, Some, None, IfSome, IsSomeAnd, option_map, is_some, refl, sym, ap, ◌∙◌, subst, arith}
+use Rattle.std.proofs.Common.{◌≡◌, ◌≢◌, ℕ, ◌<◌, List, length, All, Option, Some, None, IfSome, IsSomeAnd, option_map, refl, sym, ap, ◌∙◌, subst, arith}
 use Rattle.std.specs.FinMap as finmap
-use Rattle.std.proofs.lemmas.Bool.{cases_eq}
 use Rattle.w16_model.specs.Bytes.{put_part}
 use Rattle.w16_model.specs.Heap.{Heap, Object, IsHeap, object_at, bytes_at}
 use Rattle.w16_model.specs.Far.{after_write}
 use Rattle.w16_model.specs.Handles.{slot_of_selector}
-use Rattle.w16_model.specs.Table.{Table, heap_in}
+use Rattle.w16_model.specs.Table.{Table}
 use Rattle.std.proofs.lemmas.List.{take_all}
 use Rattle.w16_model.proofs.Parts.{length-put_part, part-put_part}
 use Rattle.w16_model.proofs.Sound.{sound_law}
 use Rattle.w16_model.proofs.Heaps.{get-update_same, get-update_other}
-use Rattle.w16_model.proofs.KeptHeaps.{bytes_in, inserted_here, inserted_other}
-use Rattle.w16_machine.specs.Local.{LocalWorld, LocalHeap, LocalObject, IsLocalWorld, IsLocalIn, Acts, segment_bytes, heap_of, local_in, chosen, object_named, id_named, with_local}
+use Rattle.w16_model.proofs.KeptHeaps.{bytes_in, inserted_here}
+use Rattle.w16_machine.specs.Local.{LocalWorld, LocalHeap, LocalObject, IsLocalWorld, IsLocalIn, Acts, segment_bytes, heap_of, local_in, chosen, object_named, id_named}
 
 -- A local heap is there: its table, and its segment's bytes.
 pub record IsThere (w : LocalWorld) (at : LocalHeap) : Type 0 where
   pub table : finmap.get w.tables at.slot ≡ Some at.table
   pub bytes : segment_bytes w at.slot ≡ Some at.bytes
 
+-- the one of a slot's table and bytes
+abbrev found : ℕ → Option Table → Option (List ℕ) → Option LocalHeap
+found slot t b = elim t [ None ↦ None | Some t ↦ option_map (λ bytes. record { slot = slot; table = t; bytes = bytes }) b ]
+
 -- the one in a slot is there
 pub local_there : (w : LocalWorld) (slot : ℕ) (at : LocalHeap) → local_in w slot ≡ Some at → IsThere w at × (at.slot ≡ slot)
 local_there w slot at e = turn (finmap.get w.tables slot) refl (segment_bytes w slot) refl e
   where
-    abbrev found : Option Table → Option (List ℕ) → Option LocalHeap
-    found t b = elim t [ None ↦ None | Some t ↦ option_map (λ bytes. record { slot = slot; table = t; bytes = bytes }) b ]
-
-    turn : (t : Option Table) → finmap.get w.tables slot ≡ t → (b : Option (List ℕ)) → segment_bytes w slot ≡ b → found t b ≡ Some at → IsThere w at × (at.slot ≡ slot)
+    turn : (t : Option Table) → finmap.get w.tables slot ≡ t → (b : Option (List ℕ)) → segment_bytes w slot ≡ b → found slot t b ≡ Some at → IsThere w at × (at.slot ≡ slot)
     turn None p b q e = cc
     turn (Some t) p None q e = cc
     turn (Some t) p (Some bytes) q e =
@@ -37,8 +37,8 @@ local_there w slot at e = turn (finmap.get w.tables slot) refl (segment_bytes w 
 -- and what is there is the one in its slot
 pub there_local : (w : LocalWorld) (at : LocalHeap) → IsThere w at → local_in w at.slot ≡ Some at
 there_local w at is =
-    ap (λ (t : Option Table). elim t [ None ↦ None | Some t ↦ option_map (λ bytes. record { slot = at.slot; table = t; bytes = bytes }) (segment_bytes w at.slot) ]) is.table
-    ∙ ap (option_map (λ (bytes : List ℕ). record { slot = at.slot; table = at.table; bytes = bytes })) is.bytes
+    ap (λ (t : Option Table). found at.slot t (segment_bytes w at.slot)) is.table
+    ∙ ap (λ (b : Option (List ℕ)). found at.slot (Some at.table) b) is.bytes
 
 -- the chosen one is there
 pub chosen_there : (w : LocalWorld) (at : LocalHeap) → chosen w ≡ Some at → IsThere w at
@@ -48,13 +48,13 @@ chosen_there w at e = turn (slot_of_selector w.world.handles w.ds) e
     turn None e = cc
     turn (Some slot) e = (local_there w slot at e).0
 
+abbrev with_id : LocalHeap → Option ℕ → Option LocalObject
+with_id at p = option_map (λ id. record { heap = at; id = id }) p
+
 -- a named object is in the chosen heap
 pub named_there : (w : LocalWorld) (name : ℕ) (o : LocalObject) → object_named w name ≡ Some o → (chosen w ≡ Some o.heap) × (id_named (heap_of o.heap) name ≡ Some o.id)
 named_there w name o e = turn (chosen w) refl e
   where
-    abbrev with_id : LocalHeap → Option ℕ → Option LocalObject
-    with_id at p = option_map (λ id. record { heap = at; id = id }) p
-
     by_id : (at : LocalHeap) → chosen w ≡ Some at → (p : Option ℕ) → id_named (heap_of at) name ≡ p → with_id at p ≡ Some o → (chosen w ≡ Some o.heap) × (id_named (heap_of o.heap) name ≡ Some o.id)
     by_id at c None p e = cc
     by_id at c (Some id) p e =

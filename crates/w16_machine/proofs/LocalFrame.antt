@@ -1,16 +1,15 @@
 -- What a local call leaves of the world.
-use Rattle.std.proofs.Common.{◌≡◌, ◌≢◌, ℕ, inl, inr, List, length, Option, Some, None, IsSomeAnd, refl, sym, ap, ◌∙◌, subst}
+use Rattle.std.proofs.Common.{◌≡◌, ℕ, inl, inr, Some, IsSomeAnd, refl, sym, ap, ◌∙◌, subst}
 use Rattle.std.specs.FinMap as finmap
 use Rattle.std.proofs.lemmas.Bool.{cases_eq}
 use Rattle.w16_model.specs.Heap.{Heap, Object, object_at}
-use Rattle.w16_model.specs.Table.{Table, IsSameOutside}
+use Rattle.w16_model.specs.Table.{Table}
 use Rattle.w16_model.proofs.KeptHeaps.{inserted_here, inserted_other}
-use Rattle.w16_machine.specs.Machine.{Reply}
-use Rattle.w16_machine.specs.Machine.Reply.{Word, Dword, Bytes, Done, Fault, Walked}
-use Rattle.w16_machine.specs.Local.{LocalWorld, LocalHeap, IsLocalWorld, Becomes, Acts, heap_of, chosen, new_table, with_table, with_local}
+use Rattle.w16_machine.specs.Machine.Reply.{Word, Done}
+use Rattle.w16_machine.specs.Local.{LocalWorld, LocalHeap, Acts, heap_of, chosen, new_table, with_local}
 use Rattle.w16_machine.specs.LocalCalls.{LocalCommand}
 use Rattle.w16_machine.specs.LocalCalls.LocalCommand.{DS}
-use Rattle.w16_machine.specs.LocalLaw.{IsRewritten, IsObjectKept, IsHeapKept, KeepsRest, MayBegin, FrameLaw}
+use Rattle.w16_machine.specs.LocalLaw.{IsRewritten, IsObjectKept, IsHeapKept, KeepsRest, FrameLaw}
 use Rattle.w16_machine.proofs.LocalFacts.{IsThere, chosen_there, object_of, segment_after, segment_other}
 use Rattle.w16_machine.proofs.LocalBegins.{begin_law}
 use Rattle.w16_machine.proofs.LocalOutcomes.{Outcome, IsRoomed, outcome}
@@ -45,9 +44,11 @@ module _ (old : LocalWorld) (at : LocalHeap) (c : chosen old ≡ Some at) where
   -- and its segment its bytes outside
   rewritten : (P : Heap → Type 0) (a : (new : LocalWorld) × Acts old at P new) (slot : ℕ) → IsObjectKept old a.0 slot
   rewritten P (new, a) slot = elim (cases_eq slot at.slot) [
-    | inl e ↦ inr (subst (λ p. IsSomeAnd p (λ h. (h.slot ≡ slot) × IsSomeAnd (object_at old.world.handles.heap slot) (λ before. IsSomeAnd (object_at new.world.handles.heap slot) (IsRewritten h before)))) (sym c)
-        (sym e, subst (λ p. IsSomeAnd p (λ before. IsSomeAnd (object_at new.world.handles.heap slot) (IsRewritten at before))) (sym (ap (object_at old.world.handles.heap) e ∙ o.1))
-        (subst (λ p. IsSomeAnd p (IsRewritten at o.0)) (sym (now slot e)) (record { kind = refl; locks = refl; had = o.2; has = (a.long, a.outside) }))))
+    | inl e ↦ inr (subst (λ p. IsSomeAnd p (λ h. (h.slot ≡ slot) × IsSomeAnd (object_at old.world.handles.heap slot) (λ before. IsSomeAnd (object_at new.world.handles.heap slot) (IsRewritten h before)))) (sym c) (
+      sym e,
+      subst (λ p. IsSomeAnd p (λ before. IsSomeAnd (object_at new.world.handles.heap slot) (IsRewritten at before))) (sym (ap (object_at old.world.handles.heap) e ∙ o.1))
+          (subst (λ p. IsSomeAnd p (IsRewritten at o.0)) (sym (now slot e)) (record { kind = refl; locks = refl; had = o.2; has = (a.long, a.outside) })),
+    ))
     | inr d ↦ inl (ap (λ (w : LocalWorld). object_at w.world.handles.heap slot) a.rest ∙ segment_other old.world.handles.heap at.slot a.bytes slot d)
   ]
     where

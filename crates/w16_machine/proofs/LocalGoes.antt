@@ -1,5 +1,5 @@
 -- Local heaps go with their segments, and don't come back.
-use Rattle.std.proofs.Common.{◌≡◌, ◌≢◌, ℕ, ◌≤◌, ◌⊎◌, inl, inr, Bool, true, false, cond, nat_le, List, [], ◌∷◌, length, Option, Some, None, IsSomeAnd, refl, sym, ap, ◌∙◌, subst, arith, leb-true}
+use Rattle.std.proofs.Common.{◌≡◌, ℕ, ◌≤◌, ◌⊎◌, inl, inr, Bool, true, false, cond, nat_le, List, [], ◌∷◌, length, Option, Some, None, IsSomeAnd, refl, sym, ap, ◌∙◌, subst, leb-true}
 use Rattle.std.specs.List.{AllByRecursion as Each}
 use Rattle.std.specs.FinMap as finmap
 use Rattle.std.proofs.lemmas.Bool.{cases_eq, le-leb}
@@ -7,12 +7,11 @@ use Rattle.w16_model.specs.Heap.{bytes_at}
 use Rattle.w16_model.specs.Table.{Table}
 use Rattle.w16_model.proofs.Gaps.{Each-from_All}
 use Rattle.w16_model.proofs.KeptHeaps.{inserted_here, inserted_other}
-use Rattle.w16_machine.specs.Machine.{Reply}
-use Rattle.w16_machine.specs.Machine.Reply.{Word, Dword, Bytes, Done, Fault, Walked}
-use Rattle.w16_machine.specs.Local.{LocalWorld, LocalHeap, heap_of, chosen, new_table}
+use Rattle.w16_machine.specs.Machine.Reply.{Word, Done}
+use Rattle.w16_machine.specs.Local.{LocalWorld, LocalHeap, chosen, new_table}
 use Rattle.w16_machine.specs.LocalCalls.{LocalCommand}
 use Rattle.w16_machine.specs.LocalCalls.LocalCommand.{DS}
-use Rattle.w16_machine.specs.LocalMachine.{Command, Event, Run}
+use Rattle.w16_machine.specs.LocalMachine.{Event, Run}
 use Rattle.w16_machine.specs.LocalMachine.Command.{OfMachine, OfLocals}
 use Rattle.w16_machine.specs.LocalLaw.{IsBegun, BeginsNone, GoesLaw, NeverBackLaw, GoneLaw}
 use Rattle.w16_machine.proofs.LocalFacts.{chosen_there}

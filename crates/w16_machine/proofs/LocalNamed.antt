@@ -13,7 +13,7 @@ use Rattle.w16_model.specs.Discards.{eligible, is_member}
 use Rattle.w16_model.specs.Heap.{Heap, Object, IsHeap, blocks, object_at, is_fixed, is_discardable}
 use Rattle.w16_model.specs.Changes.{with_object, with_ordered, with_newest, removed, absent, touched}
 use Rattle.w16_model.specs.OneObject.{Enters, after_lock, after_unlock, after_free, after_discard, after_modify}
-use Rattle.w16_model.specs.Request.{Allocates, Reallocates, MakesRoom, AreNew, IsNew, Settles, Asked, compaction_prefix, discarded, prefix_of, stays_for}
+use Rattle.w16_model.specs.Request.{Allocates, MakesRoom, AreNew, IsNew, Settles, Asked, compaction_prefix, discarded, prefix_of, stays_for}
 use Rattle.w16_model.specs.Law.{KeepsOthers}
 use Rattle.w16_model.specs.Reallocation.{KeepsRest, IsResized, AreResized}
 use Rattle.w16_model.specs.Table.{Table, IsTable, heap_in, object_in, block_with, entry_at}

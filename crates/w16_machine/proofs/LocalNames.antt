@@ -1,5 +1,5 @@
 -- One name, one object; and one object begins at a near pointer.
-use Rattle.std.proofs.Common.{◌≡◌, ◌≢◌, ℕ, ◌+◌, ◌*◌, ◌<◌, ◌≤◌, inl, inr, Bool, true, false, cond, ◌==◌, List, [], ◌∷◌, length, find, Option, Some, None, option_map, unwrap_or, is_some, IfSome, refl, sym, ap, ◌∙◌, subst, arith, eqb-true, eq-eqb}
+use Rattle.std.proofs.Common.{◌≡◌, ℕ, ◌+◌, ◌*◌, ◌<◌, ◌≤◌, inl, inr, Bool, true, false, cond, ◌==◌, List, [], ◌∷◌, length, find, Option, Some, None, option_map, unwrap_or, is_some, IfSome, refl, sym, ap, ◌∙◌, subst, arith, eqb-true, eq-eqb}
 use Rattle.std.specs.Ordering.{nat_cmp}
 use Rattle.std.specs.FinMap as finmap
 use Rattle.std.specs.FinMap.{FinMap, entries_sorted, get-entries}
@@ -12,7 +12,7 @@ use Rattle.w16_model.proofs.Heaps.{IsBlockOf, block_member, member_block, found_
 use Rattle.w16_model.proofs.KeptHeaps.{bytes_in}
 use Rattle.w16_model.proofs.Places.{two_placed, same_id}
 use Rattle.w16_machine.specs.declared.local.TheConstants.{LOCAL_GRAIN}
-use Rattle.w16_machine.specs.Local.{AreNamed, name_of, name_at, is_name, id_named, id_at}
+use Rattle.w16_machine.specs.Local.{name_of, name_at, is_name, id_named, id_at}
 use Rattle.w16_machine.specs.LocalLaw.{NamesLaw, NamedLaw}
 
 -- The first of a list that passes a test.

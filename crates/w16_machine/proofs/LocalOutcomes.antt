@@ -1,5 +1,5 @@
 -- What a local call does, in four ways: nothing; a heap begins; an object of the chosen heap is changed where it stands; room is made there.
-use Rattle.std.proofs.Common.{◌≡◌, ℕ, ◌⊎◌, inl, inr, Bool, true, false, ◌==◌, MatchBool, MatchOption, Option, Some, None, Result, Ok, Err, refl, sym, subst}
+use Rattle.std.proofs.Common.{◌≡◌, ℕ, ◌⊎◌, inl, inr, Bool, true, false, ◌==◌, MatchBool, MatchOption, Option, Some, None, Result, Ok, Err, refl}
 use Rattle.w16_model.specs.declared.Refusal.{Refusal}
 use Rattle.w16_model.specs.Heap.{Heap}
 use Rattle.w16_model.specs.Request.{MakesRoom, most_room}

@@ -1,30 +1,28 @@
 -- Each step of each family keeps what holds of every world with local heaps.
-use Rattle.std.proofs.Common.{◌≡◌, ◌≢◌, ℕ, ◌+◌, ◌<◌, ◌≤◌, inl, inr, Bool, true, false, cond, ◌==◌, nat_le, MatchBool, MatchOption, IfOk, IfSome, IsSomeAnd, List, [], ◌∷◌, length, All, Option, Some, None, option_map, Result, Ok, Err, is_some, refl, sym, ap, ◌∙◌, subst, arith, leb-true}
+use Rattle.std.proofs.Common.{◌≡◌, ◌≢◌, ℕ, ◌<◌, ◌≤◌, inl, inr, Bool, true, false, cond, nat_le, IfSome, IsSomeAnd, List, [], ◌∷◌, length, All, Option, Some, None, option_map, refl, sym, ap, ◌∙◌, subst, arith, leb-true}
 use Rattle.std.specs.List.{AllByRecursion as Each}
 use Rattle.std.specs.Ordering.{nat_cmp}
 use Rattle.std.specs.FinMap as finmap
 use Rattle.std.specs.FinMap.{FinMap, get-empty, get-retain_keys, nat_cmp-IsAntisymmetric}
 use Rattle.std.proofs.lemmas.Bool.{cases_eq}
-use Rattle.w16_model.specs.Heap.{Heap, Object, IsHeap, object_at, bytes_at}
+use Rattle.w16_model.specs.Heap.{Heap, Object, object_at, bytes_at}
 use Rattle.w16_model.specs.Far.{after_write}
-use Rattle.w16_model.specs.Handles.{Handles, AreHandles}
+use Rattle.w16_model.specs.Handles.{AreHandles}
 use Rattle.w16_model.specs.Table.{Table, heap_in}
 use Rattle.w16_model.proofs.Gaps.{Each-from_All}
 use Rattle.w16_model.proofs.KeptHandles.{other_handles, same_updated}
 use Rattle.w16_model.proofs.KeptHeaps.{bytes_in, inserted_here, inserted_other, written_heap}
 use Rattle.w16_model.specs.Bytes.{put_part}
-use Rattle.w16_machine.specs.World.{World, IsWorld}
-use Rattle.w16_machine.specs.Machine as machine
-use Rattle.w16_machine.specs.Machine.{Reply}
-use Rattle.w16_machine.specs.Machine.Reply.{Word, Dword, Bytes, Done, Fault, Walked}
+use Rattle.w16_machine.specs.World.{IsWorld}
+use Rattle.w16_machine.specs.Machine.Reply.{Word, Done}
 use Rattle.w16_machine.specs.Local.{LocalWorld, LocalHeap, IsLocalWorld, IsLocalIn, AreNamed, Becomes, Acts, segment_bytes, heap_of, empty_local_world, has_range, left_in, new_table, with_table, with_local}
 use Rattle.w16_machine.specs.LocalCalls.{LocalCommand}
 use Rattle.w16_machine.specs.LocalCalls.LocalCommand.{DS}
-use Rattle.w16_machine.specs.LocalMachine.{Command, Event, IsCommand, Step, Run, beside}
+use Rattle.w16_machine.specs.LocalMachine.{Event, IsCommand, Run, beside}
 use Rattle.w16_machine.specs.LocalMachine.Command.{OfMachine, OfLocals}
-use Rattle.w16_machine.specs.LocalLaw.{EmptyLaw, WorldLaw, RunLaw, MayBegin}
+use Rattle.w16_machine.specs.LocalLaw.{EmptyLaw, WorldLaw, RunLaw}
 use Rattle.w16_machine.proofs.Worlds.{empty_world_law, world_law}
-use Rattle.w16_machine.proofs.LocalFacts.{IsThere, chosen_there, named_there, local_here, bytes_here, heap_here, object_of, segment_after, segment_other}
+use Rattle.w16_machine.proofs.LocalFacts.{IsThere, chosen_there, local_here, heap_here, object_of, segment_after, segment_other}
 use Rattle.w16_machine.proofs.LocalBegins.{begin_law, new_local}
 use Rattle.w16_machine.proofs.LocalNamed.{named_in, altered_named, roomed_named}
 use Rattle.w16_machine.proofs.LocalOutcomes.{Outcome, IsRoomed, outcome}

@@ -1,6 +1,6 @@
 -- Local heaps: each in a segment, which is one object of the global heap. A local heap is kept as a table over its segment's bytes, and it is the
 -- heap that the table stands for in them. So a far write into the segment, and a move of it, are no steps of the local heap.
-use Rattle.std.specs.Prelude.{◌≡◌, ℕ, ◌+◌, ◌-◌, ◌*◌, ◌/◌, ◌<◌, ◌≤◌, Bool, true, false, ◌&&◌, ◌==◌, if◌then◌else◌, nat_le, nat_lt, min, List, [], length, replicate, find, All, Option, Some, None, option_map, is_some, IsTrue, IfSome, IsSomeAnd}
+use Rattle.std.specs.Prelude.{◌≡◌, ℕ, ◌+◌, ◌-◌, ◌*◌, ◌/◌, ◌<◌, ◌≤◌, Bool, true, false, ◌&&◌, ◌==◌, if◌then◌else◌, nat_le, nat_lt, min, List, [], length, replicate, find, All, Option, Some, None, option_map, is_some, IfSome, IsSomeAnd}
 use Rattle.std.specs.Ordering.{nat_cmp}
 use Rattle.std.specs.FinMap as finmap
 use Rattle.std.specs.FinMap.{FinMap}

@@ -1,12 +1,12 @@
 -- The laws that show the definitions of local heaps to be the right ones. Each is the contract of a function of the module `local_laws`.
-use Rattle.std.specs.Prelude.{◌≡◌, ◌≢◌, ℕ, ◌+◌, ◌<◌, ◌≤◌, ◌⊎◌, ◌↔◌, Bool, true, false, List, length, All, Option, Some, None, is_some, option_map, IfSome, IsSomeAnd}
+use Rattle.std.specs.Prelude.{◌≡◌, ◌≢◌, ℕ, ◌+◌, ◌<◌, ◌≤◌, ◌⊎◌, ◌↔◌, true, List, length, All, Option, Some, None, is_some, option_map, IsSomeAnd}
 use Rattle.std.specs.FinMap as finmap
 use Rattle.w16_model.specs.declared.Span.{Span}
+use Rattle.w16_model.specs.declared.Kind.{Kind}
 use Rattle.w16_model.specs.declared.Kind.TheVariants.{Discardable}
 use Rattle.w16_model.specs.declared.TheConstants.{MOST_SLOTS}
 use Rattle.w16_model.specs.Heap.{Heap, Object, IsHeap, IsMultiple, empty_heap, object_at, bytes_at, is_pinned_object}
-use Rattle.w16_model.specs.Fewest.{AllocatesFewest, CompactsFewest, LacksRoom}
-use Rattle.w16_model.specs.Reallocation.{ReallocatesFewest}
+use Rattle.w16_model.specs.Law.{StandsStill}
 use Rattle.w16_model.specs.Far.{FarCommand, IsFarCommand}
 use Rattle.w16_model.specs.Handles.{slot_of_selector}
 use Rattle.w16_model.specs.Table.{Table, IsSameOutside, heap_in}
@@ -15,10 +15,10 @@ use Rattle.w16_machine.specs.World.{with_handles}
 use Rattle.w16_machine.specs.Machine as machine
 use Rattle.w16_machine.specs.Machine.{Reply}
 use Rattle.w16_machine.specs.Machine.Reply.{Word}
-use Rattle.w16_machine.specs.Machine.Command as commands
+use Rattle.w16_machine.specs.Machine.Command.{OfFar}
 use Rattle.w16_machine.specs.Local.{LocalWorld, LocalHeap, Beginning, IsLocalWorld, AreNamed, empty_local_world, segment_bytes, heap_of, local_in, chosen, name_at, id_named, id_at, beginning, selector_or_ds, new_table}
 use Rattle.w16_machine.specs.LocalCalls.{LocalCommand, LocalStep}
-use Rattle.w16_machine.specs.LocalCalls.LocalCommand.{LocalInit, LocalAlloc, LocalReAlloc, LocalDiscard, LocalFree, LocalLock, LocalUnlock, LocalSize, LocalFlags}
+use Rattle.w16_machine.specs.LocalCalls.LocalCommand.{LocalInit, LocalReAlloc, LocalDiscard, LocalFree, LocalLock, LocalUnlock, LocalSize, LocalFlags}
 use Rattle.w16_machine.specs.LocalMachine.{Command, IsCommand, Step, Event, Run}
 use Rattle.w16_machine.specs.LocalMachine.Command.{OfMachine, OfLocals}
 
@@ -134,7 +134,7 @@ named_by other = None
 -- an object that a call doesn't name keeps all, or it was discardable and not locked and loses its bytes alone; a fixed or locked one keeps its near pointer
 pub record IsLocalKept (old new : Heap) (q : ℕ) (o : Object) : Type 0 where
   pub object : (object_at new q ≡ Some o) ⊎ ((o.kind ≡ Discardable) × (o.locks ≡ 0) × (object_at new q ≡ Some (record o { bytes = None })))
-  pub place : is_pinned_object o ≡ true → finmap.get new.places q ≡ finmap.get old.places q
+  pub place : is_pinned_object o ≡ true → StandsStill old new q
 
 abbrev pub OthersLaw : Type 0
 OthersLaw = (old new : LocalWorld) (command : LocalCommand) (reply : Reply) (at after : LocalHeap) (q : ℕ) (o : Object) → IsLocalWorld old → LocalStep old command reply new
@@ -143,14 +143,18 @@ OthersLaw = (old new : LocalWorld) (command : LocalCommand) (reply : Reply) (at 
 
 -- Far accesses.
 
+-- all of an object but what its bytes are
+abbrev pub but_bytes : Object → Kind × ℕ × Option ℕ
+but_bytes o = (o.kind, o.locks, option_map length o.bytes)
+
 -- a far access leaves each local heap but for bytes of its objects: each has as many, its kind, its locks and its near pointer
 pub record HasSameObjects (old new : Heap) : Type 0 where
   pub rest : new ≡ record old { objects = new.objects }
-  pub objects : (id : ℕ) → option_map (λ (o : Object). (o.kind, o.locks, option_map length o.bytes)) (object_at new id) ≡ option_map (λ (o : Object). (o.kind, o.locks, option_map length o.bytes)) (object_at old id)
+  pub objects : (id : ℕ) → option_map but_bytes (object_at new id) ≡ option_map but_bytes (object_at old id)
 
 abbrev pub FarLaw : Type 0
-FarLaw = (old new : LocalWorld) (command : FarCommand) (reply : Reply) → IsLocalWorld old → IsFarCommand command → Step old (OfMachine (commands.OfFar command)) reply new
-    → (new.tables ≡ old.tables) × ((slot : ℕ) → IfSome (local_in old slot) (λ at. IsSomeAnd (local_in new slot) (λ after. HasSameObjects (heap_of at) (heap_of after))))
+FarLaw = (old new : LocalWorld) (command : FarCommand) (reply : Reply) → IsLocalWorld old → IsFarCommand command → Step old (OfMachine (OfFar command)) reply new
+    → (new.tables ≡ old.tables) × ((slot : ℕ) (at after : LocalHeap) → local_in old slot ≡ Some at → local_in new slot ≡ Some after → HasSameObjects (heap_of at) (heap_of after))
 
 -- Heaps that go.
 

@@ -1,5 +1,5 @@
 //! The laws of local heaps. Each function does nothing: its contract is the law.
-ghost use Rattle.w16_machine.specs.LocalLaw.{AreFigures, AreFlags, BeginLaw, EmptyLaw, FrameLaw, GoesLaw, GoneLaw, NamedLaw, NamesLaw, NeverBackLaw, NewHeapLaw, RunLaw, WorldLaw};
+ghost use Rattle.w16_machine.specs.LocalLaw.{AreFigures, AreFlags, BeginLaw, EmptyLaw, FarLaw, FrameLaw, GoesLaw, GoneLaw, NamedLaw, NamesLaw, NeverBackLaw, NewHeapLaw, OthersLaw, RunLaw, WorldLaw};
 
 /// The figures of local heaps and the flags of the Local calls are these numbers.
 pub fn figures_of_local_heaps()
@@ -37,4 +37,15 @@ pub fn local_heaps_never_come_back()
     ensures goes { GoesLaw }
     ensures never { NeverBackLaw }
     ensures gone { GoneLaw }
+{}
+
+/// An object of the chosen heap that a local call doesn't name keeps its kind, its locks and its bytes, or is discarded; a fixed or locked
+/// one keeps its near pointer.
+pub fn local_calls_keep_other_objects()
+    ensures { OthersLaw }
+{}
+
+/// A far access changes bytes of local objects, and nothing else of any local heap.
+pub fn far_accesses_keep_local_heaps()
+    ensures { FarLaw }
 {}
