@@ -22,6 +22,7 @@ pub mod Modified
 pub mod Refusals
 pub mod Next
 pub mod Fresh
+pub mod Joining
 pub mod Allocated
 pub mod Standing
 pub mod Walks

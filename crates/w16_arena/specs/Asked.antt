@@ -42,11 +42,11 @@ pub record IsSlid (old : Heap) (c : Compacted) (new : Heap) : Type 0 where
   pub moved : c.moved ≡ moved_bytes old new
   pub few : old.lo + c.moved ≤ old.hi
 
--- n new bytes for an id without bytes, where nothing has to be discarded
-pub record Stands (old : Heap) (id n : ℕ) (kind : Kind) (way : Way) (p : Placed) (new : Heap) : Type 0 where
+-- n bytes for an id, where nothing has to be discarded: it becomes an object such as is asked, and the order of use is what is asked with it
+pub record Stands (old : Heap) (id n : ℕ) (becomes : Object → Type 0) (order : Object → List ℕ → List ℕ) (way : Way) (p : Placed) (new : Heap) : Type 0 where
   pub object : Object
-  pub is_new : IsNew way.zero n kind 0 object
-  pub settled : Settles old (stays_for id way) (with_ordered old id object (with_newest id object)) new
+  pub such : becomes object
+  pub settled : Settles old (stays_for id way) (with_ordered old id object (order object)) new
   pub placed : IsPlaced old id n p new
 
 -- others have slid, so that a hole is as long as it can be without a discard
