@@ -1,5 +1,5 @@
 -- What the call for a place leaves kept and answers.
-use Rattle.std.proofs.Common.{◌≡◌, ℕ, ◌+◌, ◌<◌, ◌≤◌, true, false, ◌&&◌, if◌then◌else◌, All, List, length, set, Option, Some, None, refl, ap, ◌∙◌, subst, sym, arith}
+use Rattle.std.proofs.Common.{◌≡◌, ℕ, ◌+◌, ◌<◌, ◌≤◌, true, false, ◌&&◌, if◌then◌else◌, All, List, length, set, slice_range, Option, Some, None, refl, ap, ◌∙◌, subst, sym, arith}
 use Rattle.std.proofs.lemmas.List.{length-set}
 use Rattle.w16_model.specs.declared.Entry.{Entry}
 use Rattle.w16_model.specs.declared.Hold.{Hold}
@@ -91,7 +91,7 @@ module _ {entries : List (Option Entry)} {layout : Layout} {uses : Uses} {gap_ro
       stands_placed still counted = told kept shown (λ t. Stands (heap_in t memory) id n (IsNew way.zero n kind 0) (with_newest id) way p (heap_of (set entries id (Some entry)) new uses'.ids after))
           (standing.stands parts id n entry locks way lt absent some grains p moved place hold_is value ordered made reorders (λ off. ap (λ (l : Layout). l.blocks) (still off))
           (record { same_kind = refl; same_locks = refl; new_bytes = fresh p.at n mid_memory after in_memory (moved.bytes bytes) way.zero filled })
-          (joined parts id kind absent 0 _ ∙ sym ids_are) counted)
+          (joined parts id kind absent 0 (slice_range after p.at (p.at + n)) ∙ sym ids_are) counted)
 
       pub rest_placed : {X : Type 0} {bytes : X → List ℕ} {lenders : X → List GName} {x y z : X}
           → IsSameRest bytes lenders layout.lo layout.hi x y → IsSameRest bytes lenders p.at (p.at + n) y z → KeepsRest bytes lenders old.table x (table_of (set entries id (Some entry)) new uses'.ids) z

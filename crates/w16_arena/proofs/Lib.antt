@@ -31,3 +31,7 @@ pub mod Together
 pub mod Oldest
 pub mod Answering
 pub mod Viewed
+pub mod Sized
+pub mod Longer
+pub mod Resized
+pub mod PutBack

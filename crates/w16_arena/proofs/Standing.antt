@@ -66,6 +66,7 @@ module _ {entries : List (Option Entry)} {layout : Layout} {order memory : List 
 
       module _ {new : Layout} (value : new ≡ record mid { blocks = placed (named hold) mid.blocks }) (ordered : IsOrdered new)
           {after : List ℕ} (made : Makes p.at n mid_memory after) {uses : List ℕ} (reorders : ReordersOne id (is_discardable entry.kind && true) order uses) where
+        new_is : new ≡ record mid { blocks = placed (named (hold_of_entry entry)) mid.blocks }
         new_is = value ∙ ap (λ h. record mid { blocks = placed (named h) mid.blocks }) hold_is
 
         ordered_new : IsOrdered (record mid { blocks = placed (named (hold_of_entry entry)) mid.blocks })

@@ -52,7 +52,7 @@ pub record IsPlaced (old : Heap) (id n : ℕ) (p : Placed) (new : Heap) : Type 0
 pub record IsResized (old : Heap) (id n : ℕ) (way : Way) (p : Placed) (discarded : List ℕ) (new : Heap) : Type 0 where
   pub reallocated : Reallocates old id n way true new
   pub placed : IsPlaced old id n p new
-  pub discarded : HasDiscardedFor old id n way discarded
+  pub listed : HasDiscardedFor old id n way discarded
 
 -- what a compaction answers beside the room: objects have slid in a range alone; and so many bytes were moved, no more than the heap has
 pub record IsSlid (old : Heap) (c : Compacted) (new : Heap) : Type 0 where
