@@ -1,14 +1,14 @@
 -- What a request for room leaves beside its step: who was discarded, who stands elsewhere, and what was moved.
-use Rattle.std.specs.Prelude.{◌≡◌, ◌≢◌, ℕ, ◌+◌, ◌<◌, ◌≤◌, ◌⊎◌, List, length, take, Option, Some, IfSome}
+use Rattle.std.specs.Prelude.{◌≡◌, ◌≢◌, ℕ, ◌+◌, ◌<◌, ◌≤◌, ◌⊎◌, not, ◌&&◌, if◌then◌else◌, nat_le, List, length, take, Option, Some, None, IfSome, IsSomeAnd}
 use Rattle.std.specs.FinMap as finmap
 use Rattle.w16_model.specs.declared.Kind.{Kind}
 use Rattle.w16_model.specs.declared.Span.{Span}
 use Rattle.w16_model.specs.declared.Way.{Way}
 use Rattle.w16_model.specs.Gap.{is_pinned, longest_hole}
-use Rattle.w16_model.specs.Discards.{eligible}
-use Rattle.w16_model.specs.Heap.{Heap, Object, blocks}
+use Rattle.w16_model.specs.Discards.{eligible, growth_for}
+use Rattle.w16_model.specs.Heap.{Heap, Object, blocks, object_at, is_pinned_object}
 use Rattle.w16_model.specs.Changes.{with_newest, with_ordered}
-use Rattle.w16_model.specs.Request.{IsNew, Settles, stays_for, moved_bytes, prefix_of, discarded}
+use Rattle.w16_model.specs.Request.{IsNew, Settles, stays_for, moved_bytes, prefix_of, discarded, snapshot_of}
 use Rattle.w16_model.specs.Table.{heap_in}
 use Rattle.w16_arena.specs.declared.new_place.Placed.{Placed}
 use Rattle.w16_arena.specs.declared.without_discard.Compacted.{Compacted}
@@ -22,6 +22,19 @@ first_eligible heap k h = take k (eligible (blocks heap) heap.order h)
 pub record HasDiscarded (old : Heap) (id n : ℕ) (way : Way) (discarded : List ℕ) : Type 0 where
   pub prefix : ℕ
   pub needed : prefix_of old n (Some id) way ≡ Some prefix
+  pub listed : discarded ≡ first_eligible old prefix (Some id)
+
+-- the number of discards by which a reallocation of an object to n bytes is answered, if it is
+abbrev pub reallocation_prefix : Heap → ℕ → Object → ℕ → Way → Option ℕ
+reallocation_prefix old id o n way = elim o.bytes [
+  | None ↦ prefix_of old n (Some id) way
+  | Some bytes ↦ if nat_le n (length bytes) then Some 0 else (if is_pinned_object o && not way.may_move then Some 0 else growth_for (snapshot_of old) n id way)
+]
+
+-- what an answered reallocation discarded: as many of the eligible as it needs
+pub record HasDiscardedFor (old : Heap) (id n : ℕ) (way : Way) (discarded : List ℕ) : Type 0 where
+  pub prefix : ℕ
+  pub needed : IsSomeAnd (object_at old id) (λ o. reallocation_prefix old id o n way ≡ Some prefix)
   pub listed : discarded ≡ first_eligible old prefix (Some id)
 
 -- an object that stands outside a range stands where it stood

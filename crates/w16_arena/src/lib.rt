@@ -16,6 +16,7 @@ mod discards;
 mod modify;
 mod new_place;
 mod objects;
+mod reallocate;
 mod requests;
 mod walk;
 mod without_discard;
