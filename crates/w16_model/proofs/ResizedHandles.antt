@@ -132,7 +132,7 @@ some_handle Fixed slot e = omega arith
 some_handle Moveable slot e = omega arith
 some_handle Discardable slot e = omega arith
 
-found_some : (old : Handles) (handle slot : ℕ) → slot_of_handle old handle ≡ Some slot → handle ≢ 0
+pub found_some : (old : Handles) (handle slot : ℕ) → slot_of_handle old handle ≡ Some slot → handle ≢ 0
 found_some old handle slot found none = turn (object_at old.heap slot) ((names_law old handle slot).0.0 found)
   where
     turn : (p : Option Object) → IsSomeAnd p (λ o. handle ≡ handle_of o.kind slot) → ⊥
