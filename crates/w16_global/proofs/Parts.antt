@@ -1,5 +1,5 @@
 -- The objects' arena and memory, and the heap that they stand for.
-use Rattle.std.proofs.Common.{◌≡◌, ℕ, ◌+◌, ◌^◌, ◌<◌, ◌≤◌, ◌⊎◌, IfSome, IfNone, All, List, length, Option, Some, None, Result, Ok, Err, OnOk, IfErr, option_map, refl, sym, ap, ◌∙◌, subst, arith}
+use Rattle.std.proofs.Common.{◌≡◌, ℕ, ◌+◌, ◌^◌, ◌<◌, ◌≤◌, ◌⊎◌, IfSome, IfNone, List, length, Option, Some, None, Result, Ok, Err, OnOk, IfErr, option_map, refl, sym, ap, ◌∙◌, subst, arith}
 use Rattle.std.specs.FinMap as finmap
 use Rattle.w16_model.specs.declared.Block.{Block}
 use Rattle.w16_model.specs.declared.Kind.{Kind}
@@ -10,9 +10,7 @@ use Rattle.w16_model.specs.declared.Refusal.{Refusal}
 use Rattle.w16_model.specs.OneObject.{Enters, after_free}
 use Rattle.w16_compact.specs.Gather.{contents}
 use Rattle.w16_model.specs.Changes.{with_object}
-use Rattle.w16_model.specs.declared.Span.{Span}
-use Rattle.w16_holes.specs.Thread.{AreThreaded}
-use Rattle.w16_arena.specs.State.{ArenaState, Steps, IsSameRange, entry_of, holes_in}
+use Rattle.w16_arena.specs.State.{ArenaState, Steps, entry_of}
 use Rattle.w16_arena.proofs.Keeping.{heap_kept}
 use Rattle.w16_arena.proofs.Lookups.{is_heap, entry_is, size_here, place_here, ends_in_memory, no_entry, no_block}
 use Rattle.w16_global.specs.Parts.{AreParts, Holding, holding_of}
