@@ -103,7 +103,7 @@ module _ (old : LocalWorld) (is : IsLocalWorld old) where
         })
 
   -- by what a local call does
-  local_world : (command : LocalCommand) (answer : ℕ) (new : LocalWorld) → Outcome old command answer new → IsLocalWorld new
+  pub local_world : (command : LocalCommand) (answer : ℕ) (new : LocalWorld) → Outcome old command answer new → IsLocalWorld new
   local_world command answer new (inl same) = subst IsLocalWorld (sym same) is
   local_world command answer new (inr (inl init)) =
       subst IsLocalWorld (sym init.rest) (tabled_world init.begun.slot (new_table init.begun.range) (new_local old init.selector init.start init.end init.begun ((begin_law old init.selector init.start init.end init.begun).0 init.may)))

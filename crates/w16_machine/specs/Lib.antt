@@ -7,3 +7,4 @@ pub mod Local
 pub mod LocalCalls
 pub mod LocalMachine
 pub mod LocalLaw
+pub mod LocalFewest

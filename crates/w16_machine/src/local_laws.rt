@@ -1,5 +1,6 @@
 //! The laws of local heaps. Each function does nothing: its contract is the law.
 ghost use Rattle.w16_machine.specs.LocalLaw.{AreFigures, AreFlags, BeginLaw, EmptyLaw, FarLaw, FrameLaw, GoesLaw, GoneLaw, NamedLaw, NamesLaw, NeverBackLaw, NewHeapLaw, OthersLaw, RunLaw, WorldLaw};
+ghost use Rattle.w16_machine.specs.LocalFewest.{AllocLaw, CompactLaw, ReallocLaw};
 
 /// The figures of local heaps and the flags of the Local calls are these numbers.
 pub fn figures_of_local_heaps()
@@ -48,4 +49,12 @@ pub fn local_calls_keep_other_objects()
 /// A far access changes bytes of local objects, and nothing else of any local heap.
 pub fn far_accesses_keep_local_heaps()
     ensures { FarLaw }
+{}
+
+/// A local call for room discards as few objects of its heap as it can, whichever way the others slide, and is refused for room only where
+/// no discards would have made it; then nothing changes.
+pub fn local_calls_discard_fewest()
+    ensures alloc { AllocLaw }
+    ensures realloc { ReallocLaw }
+    ensures compact { CompactLaw }
 {}
