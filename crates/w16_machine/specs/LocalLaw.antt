@@ -16,8 +16,8 @@ use Rattle.w16_machine.specs.Machine as machine
 use Rattle.w16_machine.specs.Machine.{Reply}
 use Rattle.w16_machine.specs.Machine.Reply.{Word}
 use Rattle.w16_machine.specs.Machine.Command.{OfFar}
-use Rattle.w16_machine.specs.Local.{LocalWorld, LocalHeap, Beginning, IsLocalWorld, AreNamed, empty_local_world, segment_bytes, heap_of, local_in, chosen, name_at, id_named, id_at, beginning, selector_or_ds, new_table}
-use Rattle.w16_machine.specs.LocalCalls.{LocalCommand, LocalStep}
+use Rattle.w16_machine.specs.Local.{LocalWorld, LocalHeap, Beginning, IsLocalWorld, IsLowestFree, AreNamed, empty_local_world, segment_bytes, heap_of, local_in, chosen, name_at, id_named, id_at, beginning, selector_or_ds, new_table}
+use Rattle.w16_machine.specs.LocalCalls.{LocalCommand, LocalStep, MakesObject, IsRefusedAlloc}
 use Rattle.w16_machine.specs.LocalCalls.LocalCommand.{LocalInit, LocalReAlloc, LocalDiscard, LocalFree, LocalLock, LocalUnlock, LocalSize, LocalFlags}
 use Rattle.w16_machine.specs.LocalMachine.{Command, IsCommand, Step, Event, Run}
 use Rattle.w16_machine.specs.LocalMachine.Command.{OfMachine, OfLocals}
@@ -140,6 +140,10 @@ abbrev pub OthersLaw : Type 0
 OthersLaw = (old new : LocalWorld) (command : LocalCommand) (reply : Reply) (at after : LocalHeap) (q : ℕ) (o : Object) → IsLocalWorld old → LocalStep old command reply new
     → chosen old ≡ Some at → local_in new at.slot ≡ Some after
     → object_at (heap_of at) q ≡ Some o → ((name : ℕ) → named_by command ≡ Some name → name_at (heap_of at) q ≢ Some name) → IsLocalKept (heap_of at) (heap_of after) q o
+
+-- an allocation isn't both refused and answered
+abbrev pub OutcomeLaw : Type 0
+OutcomeLaw = (heap next : Heap) (flags size id answer : ℕ) → IsHeap heap → IsLowestFree heap id → MakesObject heap flags size id answer next → IsRefusedAlloc heap flags size → ⊥
 
 -- Far accesses.
 

@@ -1,5 +1,5 @@
 //! The laws of local heaps. Each function does nothing: its contract is the law.
-ghost use Rattle.w16_machine.specs.LocalLaw.{AreFigures, AreFlags, BeginLaw, EmptyLaw, FarLaw, FrameLaw, GoesLaw, GoneLaw, NamedLaw, NamesLaw, NeverBackLaw, NewHeapLaw, OthersLaw, RunLaw, WorldLaw};
+ghost use Rattle.w16_machine.specs.LocalLaw.{AreFigures, AreFlags, BeginLaw, EmptyLaw, FarLaw, FrameLaw, GoesLaw, GoneLaw, NamedLaw, NamesLaw, NeverBackLaw, NewHeapLaw, OthersLaw, OutcomeLaw, RunLaw, WorldLaw};
 ghost use Rattle.w16_machine.specs.LocalFewest.{AllocLaw, CompactLaw, ReallocLaw};
 
 /// The figures of local heaps and the flags of the Local calls are these numbers.
@@ -44,6 +44,11 @@ pub fn local_heaps_never_come_back()
 /// one keeps its near pointer.
 pub fn local_calls_keep_other_objects()
     ensures { OthersLaw }
+{}
+
+/// A local allocation isn't both refused and answered.
+pub fn local_allocations_have_one_outcome()
+    ensures { OutcomeLaw }
 {}
 
 /// A far access changes bytes of local objects, and nothing else of any local heap.
