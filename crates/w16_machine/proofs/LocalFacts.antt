@@ -11,7 +11,7 @@ use Rattle.w16_model.proofs.Parts.{length-put_part, part-put_part}
 use Rattle.w16_model.proofs.Sound.{sound_law}
 use Rattle.w16_model.proofs.Heaps.{get-update_same, get-update_other}
 use Rattle.w16_model.proofs.KeptHeaps.{bytes_in, inserted_here}
-use Rattle.w16_machine.specs.Local.{LocalWorld, LocalHeap, LocalObject, IsLocalWorld, IsLocalIn, Acts, segment_bytes, heap_of, local_in, chosen, object_named, id_named}
+use Rattle.w16_machine.specs.Local.{LocalWorld, LocalHeap, LocalObject, IsLocalWorld, IsLocalIn, Becomes, Acts, segment_bytes, heap_of, local_in, chosen, object_named, id_named}
 
 -- A local heap is there: its table, and its segment's bytes.
 pub record IsThere (w : LocalWorld) (at : LocalHeap) : Type 0 where
@@ -110,3 +110,10 @@ acted_there old new at P there a =
       table = ap (λ (w : LocalWorld). finmap.get w.tables at.slot) a.rest ∙ inserted_here old.tables at.slot a.table at.slot refl;
       bytes = ap (λ (w : LocalWorld). segment_bytes w at.slot) a.rest ∙ ap bytes_in (segment_after old.world.handles.heap at.slot o.0 o.1 at.bytes o.2 a.bytes a.long);
     }
+
+-- and after it became another with the same bytes
+pub became_there : (old new : LocalWorld) (at : LocalHeap) (next : Heap) → IsThere old at → (b : Becomes old at next new) → IsThere new (record { slot = at.slot; table = b.table; bytes = at.bytes })
+became_there old new at next there b = record {
+  table = ap (λ (w : LocalWorld). finmap.get w.tables at.slot) b.rest ∙ inserted_here old.tables at.slot b.table at.slot refl;
+  bytes = ap (λ (w : LocalWorld). segment_bytes w at.slot) b.rest ∙ there.bytes;
+}

@@ -5,8 +5,7 @@ use Rattle.std.proofs.lemmas.Bool.{false≢true}
 use Rattle.w16_model.specs.declared.Block.{Block}
 use Rattle.w16_model.specs.Gap.{block_end}
 use Rattle.w16_model.specs.Heap.{Heap, Object, IsHeap, blocks, object_at, size_of, is_fixed}
-use Rattle.w16_model.specs.OneObject.{Enters}
-use Rattle.w16_model.specs.Request.{Allocates, MakesRoom, most_room}
+use Rattle.w16_model.specs.Request.{MakesRoom, most_room}
 use Rattle.w16_model.specs.Calls.{has_flag}
 use Rattle.w16_model.specs.Fewest.{AllocatesFewest, CompactsFewest, LacksRoom}
 use Rattle.w16_model.specs.Reallocation.{LacksPlace, ReallocatesFewest}
@@ -15,11 +14,11 @@ use Rattle.w16_model.proofs.Gaps.{Each-at, Each-from_All}
 use Rattle.w16_model.proofs.Heaps.{IsBlockOf, block_member}
 use Rattle.w16_model.proofs.Reallocations.{fewest_law}
 use Rattle.w16_machine.specs.declared.local.TheConstants.{LMEM_MOVEABLE, LMEM_MODIFY}
-use Rattle.w16_machine.specs.Local.{LocalWorld, LocalHeap, IsLocalWorld, Acts, Stays, heap_of, local_in, chosen, name_of, name_at, rounded_up}
-use Rattle.w16_machine.specs.LocalCalls.{MakesObject, ResizesObject, AllocatesIn, CompactsIn, ModifiesObject, DiscardsObject, SizesObject, IsRefusedAlloc, IsEmptyFixed, HasNoEntry, is_absent_asked, local_kind, local_way}
+use Rattle.w16_machine.specs.Local.{LocalWorld, LocalHeap, IsLocalWorld, Becomes, Acts, Stays, heap_of, local_in, chosen, name_of, name_at, rounded_up}
+use Rattle.w16_machine.specs.LocalCalls.{EntersObject, AllocatesObject, ResizesObject, AllocatesIn, CompactsIn, ModifiesObject, DiscardsObject, SizesObject, IsRefusedAlloc, IsEmptyFixed, HasNoEntry, is_absent_asked, local_kind, local_way}
 use Rattle.w16_machine.specs.LocalCalls.LocalCommand.{LocalAlloc, LocalReAlloc}
 use Rattle.w16_machine.specs.LocalFewest.{Left, AllocFewest, ReallocFewest, AllocLaw, ReallocLaw, CompactLaw}
-use Rattle.w16_machine.proofs.LocalFacts.{IsThere, chosen_there, named_there, there_local, heap_here, acted_there}
+use Rattle.w16_machine.proofs.LocalFacts.{IsThere, chosen_there, named_there, there_local, heap_here, acted_there, became_there}
 use Rattle.w16_machine.proofs.LocalNames.{block_placed}
 use Rattle.w16_machine.proofs.LocalOutcomes.{outcome}
 use Rattle.w16_machine.proofs.LocalWorlds.{local_world}
@@ -65,22 +64,28 @@ module _ (old : LocalWorld) (is : IsLocalWorld old) (at : LocalHeap) (c : chosen
       reason (inl fixed) = inl fixed
       reason (inr (inl full)) = inr (inl full)
       reason (inr (inr room)) = inr (inr (lacking (heap_of at) (heap_here old is at there) (rounded_up size) None (local_way flags) (local_way flags).compact (local_way flags).discard refl refl room.1))
-  allocs now flags size answer (inr (id, free, acts)) = record {
-    answered = λ _ some. (
-      id,
-      left (MakesObject (heap_of at) flags size id answer) (λ next. (name_at next id ≡ Some answer) × AllocatesFewest (heap_of at) id (rounded_up size) (local_way flags) true next)
-          (λ next m. (m.named, made next (is_absent_asked flags size) (with_bytes some) m.made)) acts,
-    );
-    refused = λ none. absurd (not_0 now (MakesObject (heap_of at) flags size id answer) id answer (λ next m. m.named) acts none);
-  }
+  allocs now flags size answer (inr (id, free, makes)) = turn (is_absent_asked flags size) refl makes
     where
       with_bytes : 0 < size → is_absent_asked flags size ≡ false
       with_bytes some = ap (λ b. b && has_flag flags LMEM_MOVEABLE) (ne_eqb size 0 (λ e. absurd (omega (arith, e, some))))
 
-      made : (next : Heap) (b : Bool) → b ≡ false → MatchBool b (Enters (heap_of at) id (local_kind flags) next) (Allocates (heap_of at) id (rounded_up size) (local_kind flags) 0 (local_way flags) true next)
-          → AllocatesFewest (heap_of at) id (rounded_up size) (local_way flags) true next
-      made next true e m = absurd (false≢true (sym e))
-      made next false e m = allocation_law (heap_of at) next id (rounded_up size) (local_kind flags) 0 (local_way flags) true (heap_here old is at there) m
+      -- the name of an object without bytes isn't 0
+      entered_some : (next : Heap) → EntersObject (heap_of at) flags id answer next → Becomes old at next new → answer ≢ 0
+      entered_some next e b zero =
+          let mine : LocalHeap = record { slot = at.slot; table = b.table; bytes = at.bytes } in
+          let mine_there : IsThere new mine = became_there old new at next there b in
+          some_name (heap_of mine) (heap_here new now mine mine_there) b.is_local.low id (ap (λ (h : Heap). name_at h id) b.same ∙ e.named ∙ ap Some zero)
+
+      turn : (b : Bool) → is_absent_asked flags size ≡ b → MatchBool b ((next : Heap) × EntersObject (heap_of at) flags id answer next × Becomes old at next new) (Acts old at (AllocatesObject (heap_of at) flags size id answer) new) → AllocFewest old at flags size answer new
+      turn true t e = record { answered = λ _ some. absurd (false≢true (sym (with_bytes some) ∙ t)); refused = λ none. absurd (entered_some e.0 e.1 e.2 none) }
+      turn false t acts = record {
+        answered = λ _ some. (
+          id,
+          left (AllocatesObject (heap_of at) flags size id answer) (λ next. (name_at next id ≡ Some answer) × AllocatesFewest (heap_of at) id (rounded_up size) (local_way flags) true next)
+              (λ next m. (m.named, allocation_law (heap_of at) next id (rounded_up size) (local_kind flags) 0 (local_way flags) true (heap_here old is at there) m.allocated)) acts,
+        );
+        refused = λ none. absurd (not_0 now (AllocatesObject (heap_of at) flags size id answer) id answer (λ next m. m.named) acts none);
+      }
 
   compacts : (size answer : ℕ) → CompactsIn old size answer new at → Left new at (CompactsFewest (heap_of at) size answer)
   compacts size answer = turn (size == 0) refl

@@ -72,7 +72,7 @@ frame old new command answer (inr (inl init)) = same_objects old new (ap (λ (w 
   | inl e ↦ inr (inl (ap (finmap.get old.tables) e ∙ ((begin_law old init.selector init.start init.end init.begun).0 init.may).none))
   | inr d ↦ inl (ap (λ (w : LocalWorld). finmap.get w.tables slot) init.rest ∙ inserted_other old.tables init.begun.slot (new_table init.begun.range) slot d)
 ])
-frame old new command answer (inr (inr (at, c, inl (next, id, named, altered, becomes)))) =
+frame old new command answer (inr (inr (at, c, inl (next, stepped, becomes)))) =
     same_objects old new (ap (λ (w : LocalWorld). w.world) becomes.rest) (table_put old at c new becomes.table (ap (λ (w : LocalWorld). w.tables) becomes.rest) becomes.range)
 frame old new command answer (inr (inr (at, c, inr acts))) = acts_rest old at c (IsRoomed (heap_of at) command answer) new acts
 

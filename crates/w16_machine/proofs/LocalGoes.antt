@@ -67,7 +67,7 @@ module _ (old new : LocalWorld) (slot : ℕ) (none : finmap.get old.tables slot 
     })
     | inr d ↦ inl (ap (λ (w : LocalWorld). finmap.get w.tables slot) init.rest ∙ inserted_other old.tables init.begun.slot (new_table init.begun.range) slot d ∙ none)
   ]
-  called command answer (inr (inr (at, c, inl (next, id, named, altered, becomes)))) = inl (put_elsewhere at c becomes.table (ap (λ (w : LocalWorld). w.tables) becomes.rest))
+  called command answer (inr (inr (at, c, inl (next, stepped, becomes)))) = inl (put_elsewhere at c becomes.table (ap (λ (w : LocalWorld). w.tables) becomes.rest))
   called command answer (inr (inr (at, c, inr acts))) = inl (put_elsewhere at c acts.table (ap (λ (w : LocalWorld). w.tables) acts.rest))
 
 pub never_back_law : NeverBackLaw

@@ -1,5 +1,5 @@
 -- Steps of a local heap leave each fixed object its bytes.
-use Rattle.std.proofs.Common.{◌≡◌, ◌≢◌, ℕ, ◌+◌, ◌-◌, ◌≤◌, inl, inr, Bool, true, false, cond, not, ◌&&◌, ◌||◌, ◌==◌, nat_lt, MatchBool, IfOk, IfSome, IsSomeAnd, List, [], length, take, slice_range, Option, Some, None, Result, Ok, Err, option_map, is_some, unwrap_or, refl, sym, ap, ◌∙◌, subst}
+use Rattle.std.proofs.Common.{◌≡◌, ◌≢◌, ℕ, ◌+◌, ◌-◌, ◌≤◌, inl, inr, Bool, true, false, cond, not, ◌&&◌, ◌||◌, ◌==◌, nat_lt, IfOk, IfSome, IsSomeAnd, List, [], length, take, slice_range, Option, Some, None, Result, Ok, Err, option_map, is_some, unwrap_or, refl, sym, ap, ◌∙◌, subst}
 use Rattle.std.specs.FinMap as finmap
 use Rattle.std.proofs.lemmas.Bool.{false≢true, cases_Bool, cases_eq, and_parts}
 use Rattle.w16_model.specs.declared.Block.{Block}
@@ -12,7 +12,7 @@ use Rattle.w16_model.specs.declared.Way.{Way}
 use Rattle.w16_model.specs.Discards.{eligible, is_member}
 use Rattle.w16_model.specs.Heap.{Heap, Object, IsHeap, blocks, object_at, is_fixed, is_discardable}
 use Rattle.w16_model.specs.Changes.{with_object, with_ordered, with_newest, removed, absent, touched}
-use Rattle.w16_model.specs.OneObject.{Enters, after_lock, after_unlock, after_free, after_discard, after_modify}
+use Rattle.w16_model.specs.OneObject.{after_lock, after_unlock, after_free, after_discard, after_modify}
 use Rattle.w16_model.specs.Request.{Allocates, MakesRoom, AreNew, IsNew, Settles, Asked, compaction_prefix, discarded, prefix_of, stays_for}
 use Rattle.w16_model.specs.Law.{KeepsOthers}
 use Rattle.w16_model.specs.Reallocation.{KeepsRest, IsResized, AreResized}
@@ -26,8 +26,8 @@ use Rattle.w16_model.proofs.Tables.{object_is}
 use Rattle.w16_model.specs.Calls.{has_flag}
 use Rattle.w16_machine.specs.declared.local.TheConstants.{LMEM_MOVEABLE, LMEM_DISCARDABLE}
 use Rattle.w16_machine.specs.Local.{AreNamed, rounded_up}
-use Rattle.w16_machine.proofs.LocalOutcomes.{IsAltered, IsRoomed}
-use Rattle.w16_machine.specs.LocalCalls.{LocalCommand, MakesObject, ResizesObject, is_absent_asked, local_kind, local_way, moveable_or_discardable}
+use Rattle.w16_machine.proofs.LocalOutcomes.{IsAltered, IsRoomed, IsStepped}
+use Rattle.w16_machine.specs.LocalCalls.{LocalCommand, ResizesObject, is_absent_asked, local_kind, local_way, moveable_or_discardable}
 
 -- a fixed object has bytes
 abbrev pub HasName : Object → Type 0
@@ -192,13 +192,6 @@ module _ (old : Heap) (named : AreNamed old) where
         some_bytes None h = absurd h
         some_bytes (Some b) h = refl
 
-    made_named : (flags size id answer : ℕ) (new : Heap) → MakesObject old flags size id answer new → AreNamed new
-    made_named flags size id answer new m = turn (is_absent_asked flags size) refl m.made
-      where
-        turn : (b : Bool) → is_absent_asked flags size ≡ b → MatchBool b (Enters old id (local_kind flags) new) (Allocates old id (rounded_up size) (local_kind flags) 0 (local_way flags) true new) → AreNamed new
-        turn true t enters = named_put new id (record { kind = local_kind flags; locks = 0; bytes = None }) (ap (λ (h : Heap). h.objects) enters.entered) (loose_named (record { kind = local_kind flags; locks = 0; bytes = None }) (asked_loose flags size t))
-        turn false t allocates = allocated_named id (rounded_up size) (local_kind flags) (local_way flags) new allocates
-
     resized_named : (id size flags answer : ℕ) (new : Heap) → ResizesObject old id size flags answer new → AreNamed new
     resized_named id size flags answer new r = turn (object_at old id) (rest_law old new id (rounded_up size) (local_way flags) is r.resized)
       where
@@ -215,13 +208,18 @@ module _ (old : Heap) (named : AreNamed old) where
         turn (Some o) h = named_own new id h.count h.others (own (local_way flags).zero o (rounded_up size) (object_at new id) h.object)
 
     pub roomed_named : (command : LocalCommand) (answer : ℕ) (new : Heap) → IsRoomed old command answer new → AreNamed new
-    roomed_named command answer new (inl (flags, size, id, free, made)) = made_named flags size id answer new made
+    roomed_named command answer new (inl (flags, size, id, free, made)) = allocated_named id (rounded_up size) (local_kind flags) (local_way flags) new made.allocated
     roomed_named command answer new (inr (inl (size, made))) = room_named size answer new made
     roomed_named command answer new (inr (inr (size, flags, id, named_id, resized))) = resized_named id size flags answer new resized
 
-  pub altered_named : (id : ℕ) (new : Heap) → IsAltered old id new → AreNamed new
+  altered_named : (id : ℕ) (new : Heap) → IsAltered old id new → AreNamed new
   altered_named id new (inl e) = subst (λ r. IfOk r AreNamed) e (free_named id)
   altered_named id new (inr (inl e)) = subst (λ r. IfOk r AreNamed) e (lock_named id)
   altered_named id new (inr (inr (inl e))) = subst (λ r. IfOk r AreNamed) e (unlock_named id)
   altered_named id new (inr (inr (inr (inl e)))) = subst (λ r. IfOk r AreNamed) e (discard_named id)
   altered_named id new (inr (inr (inr (inr (flags, e))))) = subst (λ r. IfOk r AreNamed) e (modify_named id (moveable_or_discardable flags) (not_fixed flags))
+
+  pub stepped_named : (command : LocalCommand) (new : Heap) → IsStepped old command new → AreNamed new
+  stepped_named command new (inl (id, named_id, altered)) = altered_named id new altered
+  stepped_named command new (inr (flags, size, id, t, enters)) =
+      named_put new id (record { kind = local_kind flags; locks = 0; bytes = None }) (ap (λ (h : Heap). h.objects) enters.entered) (loose_named (record { kind = local_kind flags; locks = 0; bytes = None }) (asked_loose flags size t))

@@ -1,5 +1,5 @@
 -- What a local call leaves of the objects that it doesn't name.
-use Rattle.std.proofs.Common.{◌≡◌, ◌≢◌, ℕ, ◌+◌, ◌-◌, inl, inr, Bool, true, false, cond, not, ◌&&◌, ◌||◌, ◌==◌, nat_lt, MatchBool, IfOk, IfSome, IsSomeAnd, take, Option, Some, None, Result, Ok, Err, is_some, refl, sym, ap, ◌∙◌, subst}
+use Rattle.std.proofs.Common.{◌≡◌, ◌≢◌, ℕ, ◌+◌, ◌-◌, inl, inr, Bool, true, false, cond, not, ◌&&◌, ◌||◌, ◌==◌, nat_lt, IfOk, IfSome, IsSomeAnd, take, Option, Some, None, Result, Ok, Err, is_some, refl, sym, ap, ◌∙◌, subst}
 use Rattle.std.specs.FinMap as finmap
 use Rattle.std.proofs.lemmas.Bool.{false≢true, cases_Bool, cases_eq}
 use Rattle.w16_model.specs.declared.Kind.{Kind}
@@ -10,26 +10,26 @@ use Rattle.w16_model.specs.declared.Way.{Way}
 use Rattle.w16_model.specs.Discards.{eligible, is_member}
 use Rattle.w16_model.specs.Heap.{Heap, Object, IsHeap, blocks, object_at, is_fixed, is_discardable, is_pinned_object}
 use Rattle.w16_model.specs.Changes.{with_object, with_ordered, with_newest, removed, absent, touched}
-use Rattle.w16_model.specs.OneObject.{Enters, after_lock, after_unlock, after_free, after_discard, after_modify}
+use Rattle.w16_model.specs.OneObject.{after_lock, after_unlock, after_free, after_discard, after_modify}
 use Rattle.w16_model.specs.Request.{Allocates, MakesRoom, IsNew, Settles, Asked, compaction_prefix, discarded, prefix_of, stays_for}
 use Rattle.w16_model.specs.Law.{KeepsOthers, KeepsAddresses, StandsStill}
 use Rattle.w16_model.specs.Reallocation.{KeepsRest, MovesLittle}
 use Rattle.w16_model.specs.Table.{Table, heap_in}
 use Rattle.w16_model.proofs.Heaps.{get-update_other}
-use Rattle.w16_model.proofs.KeptHeaps.{inserted_here, inserted_other, taken_other}
+use Rattle.w16_model.proofs.KeptHeaps.{inserted_other, taken_other}
 use Rattle.w16_model.proofs.KeptRest.{rest_law}
 use Rattle.w16_model.proofs.Others.{others_law}
 use Rattle.w16_model.proofs.Outcomes.{address_law}
 use Rattle.w16_model.proofs.Reallocations.{asked, moves_law}
 use Rattle.w16_machine.specs.Machine.Reply.{Word, Done}
 use Rattle.w16_machine.specs.Local.{LocalWorld, LocalHeap, IsLocalWorld, segment_bytes, heap_of, local_in, chosen, name_at, new_table, rounded_up}
-use Rattle.w16_machine.specs.LocalCalls.{LocalCommand, MakesObject, ResizesObject, is_absent_asked, local_kind, local_way, moveable_or_discardable}
+use Rattle.w16_machine.specs.LocalCalls.{LocalCommand, ResizesObject, local_kind, local_way, moveable_or_discardable}
 use Rattle.w16_machine.specs.LocalCalls.LocalCommand.{DS}
 use Rattle.w16_machine.specs.LocalLaw.{IsLocalKept, OthersLaw, named_by}
-use Rattle.w16_machine.proofs.LocalFacts.{IsThere, chosen_there, there_local, local_here, heap_here, acted_there}
+use Rattle.w16_machine.proofs.LocalFacts.{IsThere, chosen_there, there_local, local_here, heap_here, acted_there, became_there}
 use Rattle.w16_machine.proofs.LocalBegins.{begin_law}
 use Rattle.w16_machine.proofs.LocalNames.{names_law}
-use Rattle.w16_machine.proofs.LocalOutcomes.{IsAltered, IsNamedIn, IsRoomed, IsDone, Outcome, outcome}
+use Rattle.w16_machine.proofs.LocalOutcomes.{IsAltered, IsNamedIn, IsRoomed, IsStepped, IsDone, Outcome, outcome}
 
 stands_same : (old new : Heap) (q : ℕ) → finmap.get new.places q ≡ finmap.get old.places q → StandsStill old new q
 stands_same old new q e = turn (finmap.get old.places q) e
@@ -149,13 +149,6 @@ module _ (old : Heap) (q : ℕ) (o : Object) (there : object_at old q ≡ Some o
         let r : (k : ℕ) × (what.prefix ≡ Some k) × ((p : Object) × what.becomes p × Settles old (stays_for id what.way) (with_ordered (discarded old k (Some id)) id p (what.order p)) new) = asked old id what new a.request in
         room_kept new (Some id) r.0 way.compact (not_some id other) ((others_law old new is r.0).0 id way r.2.0 (with_newest id r.2.0) r.2.2) ((address_law old new is r.0).0 id way r.2.0 (with_newest id r.2.0) r.2.2)
 
-    made_kept : (flags size id answer : ℕ) (new : Heap) → q ≢ id → MakesObject old flags size id answer new → Kept new
-    made_kept flags size id answer new other m = turn (is_absent_asked flags size) m.made
-      where
-        turn : (b : Bool) → MatchBool b (Enters old id (local_kind flags) new) (Allocates old id (rounded_up size) (local_kind flags) 0 (local_way flags) true new) → Kept new
-        turn true enters = put_kept id other new (record { kind = local_kind flags; locks = 0; bytes = None }) (ap (λ (h : Heap). h.objects) enters.entered) (ap (λ (h : Heap). h.places) enters.entered)
-        turn false a = allocated_kept id (rounded_up size) (local_kind flags) (local_way flags) new other a
-
     compacted_kept : (size answer : ℕ) (new : Heap) → MakesRoom old size answer new → Kept new
     compacted_kept size answer new m =
         room_kept new None (compaction_prefix old size) true none_some ((others_law old new is (compaction_prefix old size)).1 m.settled) ((address_law old new is (compaction_prefix old size)).1 m.settled)
@@ -178,11 +171,20 @@ module _ (old : LocalWorld) (is : IsLocalWorld old) (at : LocalHeap) (c : chosen
   other : (id : ℕ) → IsNamedIn (heap_of at) command id → q ≢ id
   other id named e = unnamed named.name named.asked (ap (name_at (heap_of at)) e ∙ (names_law (heap_of at) named.name id heap (local_here old is at here).0.grain).0.0 named.has)
 
-  roomed_kept : (next : Heap) → IsRoomed (heap_of at) command answer next → IsLocalKept (heap_of at) next q o
-  roomed_kept next (inl (flags, size, id, free, made)) = made_kept (heap_of at) q o there heap flags size id answer next (λ e. taken (sym there ∙ ap (object_at (heap_of at)) e ∙ free.free.1)) made
+  -- a free entry is another's
+  in_use : (id : ℕ) → object_at (heap_of at) id ≡ None → q ≢ id
+  in_use id unused e = never (sym there ∙ ap (object_at (heap_of at)) e ∙ unused)
     where
-      taken : ◌≡◌ {A = Option Object} (Some o) None → ⊥
-      taken e = cc
+      never : ◌≡◌ {A = Option Object} (Some o) None → ⊥
+      never f = cc
+
+  stepped_kept : (next : Heap) → IsStepped (heap_of at) command next → IsLocalKept (heap_of at) next q o
+  stepped_kept next (inl (id, named, altered)) = altered_kept (heap_of at) q o there id (other id named) next altered
+  stepped_kept next (inr (flags, size, id, t, enters)) =
+      put_kept (heap_of at) q o there id (in_use id enters.unused) next (record { kind = local_kind flags; locks = 0; bytes = None }) (ap (λ (h : Heap). h.objects) enters.entered) (ap (λ (h : Heap). h.places) enters.entered)
+
+  roomed_kept : (next : Heap) → IsRoomed (heap_of at) command answer next → IsLocalKept (heap_of at) next q o
+  roomed_kept next (inl (flags, size, id, free, made)) = allocated_kept (heap_of at) q o there heap id (rounded_up size) (local_kind flags) (local_way flags) next (in_use id free.free.1) made.allocated
   roomed_kept next (inr (inl (size, made))) = compacted_kept (heap_of at) q o there heap size answer next made
   roomed_kept next (inr (inr (size, flags, id, named, resized))) = resized_kept (heap_of at) q o there heap id size flags answer next (other id named) resized
 
@@ -198,11 +200,8 @@ module _ (old : LocalWorld) (is : IsLocalWorld old) (at : LocalHeap) (c : chosen
       subst (λ (h : LocalHeap). IsLocalKept (heap_of at) (heap_of h) q o) is_after kept
 
   done_kept : (new : LocalWorld) (after : LocalHeap) → local_in new at.slot ≡ Some after → IsDone old command answer new at → IsLocalKept (heap_of at) (heap_of after) q o
-  done_kept new after e (inl (next, id, named, altered, becomes)) = in_place new after (record { slot = at.slot; table = becomes.table; bytes = at.bytes }) e
-      (record {
-        table = ap (λ (w : LocalWorld). finmap.get w.tables at.slot) becomes.rest ∙ inserted_here old.tables at.slot becomes.table at.slot refl;
-        bytes = ap (λ (w : LocalWorld). segment_bytes w at.slot) becomes.rest ∙ here.bytes;
-      }) refl (subst (λ (h : Heap). IsLocalKept (heap_of at) h q o) (sym becomes.same) (altered_kept (heap_of at) q o there id (other id named) next altered))
+  done_kept new after e (inl (next, stepped, becomes)) = in_place new after (record { slot = at.slot; table = becomes.table; bytes = at.bytes }) e
+      (became_there old new at next here becomes) refl (subst (λ (h : Heap). IsLocalKept (heap_of at) h q o) (sym becomes.same) (stepped_kept next stepped))
   done_kept new after e (inr acts) =
       in_place new after (record { slot = at.slot; table = acts.table; bytes = acts.bytes }) e (acted_there old new at (IsRoomed (heap_of at) command answer) here acts) refl (roomed_kept (heap_in acts.table acts.bytes) acts.acted)
 

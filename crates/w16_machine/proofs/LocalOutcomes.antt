@@ -4,11 +4,11 @@ use Rattle.w16_model.specs.declared.Refusal.{Refusal}
 use Rattle.w16_model.specs.Heap.{Heap}
 use Rattle.w16_model.specs.Request.{MakesRoom, most_room}
 use Rattle.w16_model.specs.Table.{heap_in}
-use Rattle.w16_model.specs.OneObject.{after_lock, after_unlock, after_free, after_discard, after_modify}
+use Rattle.w16_model.specs.OneObject.{Enters, after_lock, after_unlock, after_free, after_discard, after_modify}
 use Rattle.w16_model.specs.Calls.{has_flag}
 use Rattle.w16_machine.specs.declared.local.TheConstants.{LMEM_MOVEABLE, LMEM_MODIFY}
 use Rattle.w16_machine.specs.Local.{LocalWorld, LocalHeap, LocalObject, Beginning, Becomes, Acts, Stays, IsLowestFree, heap_of, chosen, object_named, id_named, beginning, new_table, with_table}
-use Rattle.w16_machine.specs.LocalCalls.{LocalCommand, Answers, Leaves, MakesObject, ResizesObject, AllocatesIn, CompactsIn, LocalInits, OnNamed, ModifiesObject, DiscardsObject, SizesObject, moveable_or_discardable, lock_refused, locks_left, near_pointer}
+use Rattle.w16_machine.specs.LocalCalls.{LocalCommand, Answers, Leaves, EntersObject, AllocatesObject, ResizesObject, is_absent_asked, local_kind, AllocatesIn, CompactsIn, LocalInits, OnNamed, ModifiesObject, DiscardsObject, SizesObject, moveable_or_discardable, lock_refused, locks_left, near_pointer}
 use Rattle.w16_machine.specs.LocalCalls.LocalCommand.{LocalInit, LocalAlloc, LocalReAlloc, LocalDiscard, LocalFree, LocalLock, LocalUnlock, LocalSize, LocalFlags, LocalHandle, LocalCompact, DS}
 use Rattle.w16_machine.specs.LocalLaw.{named_by}
 use Rattle.w16_machine.proofs.LocalFacts.{named_there}
@@ -28,7 +28,7 @@ pub record IsNamedIn (heap : Heap) (command : LocalCommand) (id : ℕ) : Type 0 
 -- room is made: for a new object, for an object's other size, or for no object
 abbrev pub IsRoomed : Heap → LocalCommand → ℕ → Heap → Type 0
 IsRoomed heap command answer next =
-    ((flags size id : ℕ) × IsLowestFree heap id × MakesObject heap flags size id answer next)
+    ((flags size id : ℕ) × IsLowestFree heap id × AllocatesObject heap flags size id answer next)
     ⊎ ((size : ℕ) × MakesRoom heap size answer next)
     ⊎ ((size flags id : ℕ) × IsNamedIn heap command id × ResizesObject heap id size flags answer next)
 
@@ -43,11 +43,17 @@ pub record IsInit (old : LocalWorld) (command : LocalCommand) (answer : ℕ) (ne
   pub answered : answer ≡ 1
   pub rest : new ≡ with_table old begun.slot (new_table begun.range)
 
+-- an object without bytes is made
+abbrev pub IsEntered : Heap → Heap → Type 0
+IsEntered heap next = (flags size id : ℕ) × (is_absent_asked flags size ≡ true) × Enters heap id (local_kind flags) next
+
+-- a call asks for no room
+abbrev pub IsStepped : Heap → LocalCommand → Heap → Type 0
+IsStepped heap command next = ((id : ℕ) × IsNamedIn heap command id × IsAltered heap id next) ⊎ IsEntered heap next
+
 -- what was done in a local heap
 abbrev pub IsDone : LocalWorld → LocalCommand → ℕ → LocalWorld → LocalHeap → Type 0
-IsDone old command answer new at =
-    ((next : Heap) × (id : ℕ) × IsNamedIn (heap_of at) command id × IsAltered (heap_of at) id next × Becomes old at next new)
-    ⊎ Acts old at (IsRoomed (heap_of at) command answer) new
+IsDone old command answer new at = ((next : Heap) × IsStepped (heap_of at) command next × Becomes old at next new) ⊎ Acts old at (IsRoomed (heap_of at) command answer) new
 
 abbrev pub Outcome : LocalWorld → LocalCommand → ℕ → LocalWorld → Type 0
 Outcome old command answer new = (new ≡ old) ⊎ IsInit old command answer new ⊎ ((at : LocalHeap) × (chosen old ≡ Some at) × IsDone old command answer new at)
@@ -90,7 +96,7 @@ module _ (old : LocalWorld) (command : LocalCommand) (answer : ℕ) (new : Local
 
   leaves : (o : LocalObject) → chosen old ≡ Some o.heap → IsNamedIn (heap_of o.heap) command o.id → (r : Result Heap Refusal) → ((next : Heap) → r ≡ Ok next → IsAltered (heap_of o.heap) o.id next)
       → (taken : Heap → ℕ) (refused : Refusal → ℕ) → Leaves old o.heap r taken refused answer new → Out
-  leaves o c named (Ok next) f taken refused l = inr (inr (o.heap, c, inl (next, o.id, named, f next refl, l.1)))
+  leaves o c named (Ok next) f taken refused l = inr (inr (o.heap, c, inl (next, inl (o.id, named, f next refl), l.1)))
   leaves o c named (Err refusal) f taken refused l = stayed (refused refusal) l
 
   inits : (selector start end : ℕ) → command ≡ LocalInit selector start end → LocalInits old selector start end answer new → Out
@@ -102,7 +108,11 @@ module _ (old : LocalWorld) (command : LocalCommand) (answer : ℕ) (new : Local
 
   allocates : (flags size : ℕ) (at : LocalHeap) → chosen old ≡ Some at → AllocatesIn old flags size answer new at → Out
   allocates flags size at c (inl refused) = stayed 0 refused.1
-  allocates flags size at c (inr made) = inr (inr (at, c, inr (acts_as old at (MakesObject (heap_of at) flags size made.0 answer) (IsRoomed (heap_of at) command answer) new (λ heap m. inl (flags, size, made.0, made.1, m)) made.2)))
+  allocates flags size at c (inr (id, free, makes)) = turn (is_absent_asked flags size) refl makes
+    where
+      turn : (b : Bool) → is_absent_asked flags size ≡ b → MatchBool b ((next : Heap) × EntersObject (heap_of at) flags id answer next × Becomes old at next new) (Acts old at (AllocatesObject (heap_of at) flags size id answer) new) → Out
+      turn true t e = inr (inr (at, c, inl (e.0, inr (flags, size, id, t, e.1.entered), e.2)))
+      turn false t a = inr (inr (at, c, inr (acts_as old at (AllocatesObject (heap_of at) flags size id answer) (IsRoomed (heap_of at) command answer) new (λ heap m. inl (flags, size, id, free, m)) a)))
 
   compacts : (size : ℕ) (at : LocalHeap) → chosen old ≡ Some at → CompactsIn old size answer new at → Out
   compacts size at c = turn (size == 0)

@@ -76,18 +76,26 @@ IsRefusedAlloc heap flags size = IsEmptyFixed flags size ⊎ HasNoEntry heap ⊎
 abbrev pub is_absent_asked : ℕ → ℕ → Bool
 is_absent_asked flags size = (size == 0) && has_flag flags LMEM_MOVEABLE
 
--- else an entry's object is made, as the heap allocates its bytes, and answered by its name
-pub record MakesObject (heap : Heap) (flags size id answer : ℕ) (next : Heap) : Type 0 where
-  pub made : MatchBool (is_absent_asked flags size)
-      (Enters heap id (local_kind flags) next)
-      (Allocates heap id (rounded_up size) (local_kind flags) 0 (local_way flags) true next)
+-- else it gets the lowest free entry, without bytes,
+pub record EntersObject (heap : Heap) (flags id answer : ℕ) (next : Heap) : Type 0 where
+  pub entered : Enters heap id (local_kind flags) next
   pub named : name_at next id ≡ Some answer
+
+-- or with bytes, as the heap allocates them, and its name is the answer
+pub record AllocatesObject (heap : Heap) (flags size id answer : ℕ) (next : Heap) : Type 0 where
+  pub allocated : Allocates heap id (rounded_up size) (local_kind flags) 0 (local_way flags) true next
+  pub named : name_at next id ≡ Some answer
+
+abbrev pub MakesObject : LocalWorld → LocalHeap → ℕ → ℕ → ℕ → ℕ → LocalWorld → Type 0
+MakesObject old at flags size id answer new = MatchBool (is_absent_asked flags size)
+    ((next : Heap) × EntersObject (heap_of at) flags id answer next × Becomes old at next new)
+    (Acts old at (AllocatesObject (heap_of at) flags size id answer) new)
 
 -- LocalAlloc
 abbrev pub AllocatesIn : LocalWorld → ℕ → ℕ → ℕ → LocalWorld → LocalHeap → Type 0
 AllocatesIn old flags size answer new at =
     (IsRefusedAlloc (heap_of at) flags size × Stays old 0 answer new)
-    ⊎ ((id : ℕ) × IsLowestFree (heap_of at) id × Acts old at (MakesObject (heap_of at) flags size id answer) new)
+    ⊎ ((id : ℕ) × IsLowestFree (heap_of at) id × MakesObject old at flags size id answer new)
 
 abbrev pub LocalAllocs : LocalWorld → ℕ → ℕ → ℕ → LocalWorld → Type 0
 LocalAllocs old flags size answer new = MatchOption (chosen old) (Stays old 0 answer new) (AllocatesIn old flags size answer new)

@@ -143,7 +143,7 @@ OthersLaw = (old new : LocalWorld) (command : LocalCommand) (reply : Reply) (at 
 
 -- an allocation isn't both refused and answered
 abbrev pub OutcomeLaw : Type 0
-OutcomeLaw = (heap next : Heap) (flags size id answer : ℕ) → IsHeap heap → IsLowestFree heap id → MakesObject heap flags size id answer next → IsRefusedAlloc heap flags size → ⊥
+OutcomeLaw = (old new : LocalWorld) (at : LocalHeap) (flags size id answer : ℕ) → IsHeap (heap_of at) → IsLowestFree (heap_of at) id → MakesObject old at flags size id answer new → IsRefusedAlloc (heap_of at) flags size → ⊥
 
 -- Far accesses.
 
