@@ -210,14 +210,14 @@ module _ (old : Heap) (named : AreNamed old) where
     pub roomed_named : (command : LocalCommand) (answer : ℕ) (new : Heap) → IsRoomed old command answer new → AreNamed new
     roomed_named command answer new (inl (flags, size, id, free, made)) = allocated_named id (rounded_up size) (local_kind flags) (local_way flags) new made.allocated
     roomed_named command answer new (inr (inl (size, made))) = room_named size answer new made
-    roomed_named command answer new (inr (inr (size, flags, id, named_id, resized))) = resized_named id size flags answer new resized
+    roomed_named command answer new (inr (inr (inl (size, flags, id, named_id, resized)))) = resized_named id size flags answer new resized
+    roomed_named command answer new (inr (inr (inr (id, named_id, inl e)))) = subst (λ r. IfOk r AreNamed) e (free_named id)
+    roomed_named command answer new (inr (inr (inr (id, named_id, inr e)))) = subst (λ r. IfOk r AreNamed) e (discard_named id)
 
   altered_named : (id : ℕ) (new : Heap) → IsAltered old id new → AreNamed new
-  altered_named id new (inl e) = subst (λ r. IfOk r AreNamed) e (free_named id)
-  altered_named id new (inr (inl e)) = subst (λ r. IfOk r AreNamed) e (lock_named id)
-  altered_named id new (inr (inr (inl e))) = subst (λ r. IfOk r AreNamed) e (unlock_named id)
-  altered_named id new (inr (inr (inr (inl e)))) = subst (λ r. IfOk r AreNamed) e (discard_named id)
-  altered_named id new (inr (inr (inr (inr (flags, e))))) = subst (λ r. IfOk r AreNamed) e (modify_named id (moveable_or_discardable flags) (not_fixed flags))
+  altered_named id new (inl e) = subst (λ r. IfOk r AreNamed) e (lock_named id)
+  altered_named id new (inr (inl e)) = subst (λ r. IfOk r AreNamed) e (unlock_named id)
+  altered_named id new (inr (inr (flags, e))) = subst (λ r. IfOk r AreNamed) e (modify_named id (moveable_or_discardable flags) (not_fixed flags))
 
   pub stepped_named : (command : LocalCommand) (new : Heap) → IsStepped old command new → AreNamed new
   stepped_named command new (inl (id, named_id, altered)) = altered_named id new altered

@@ -29,7 +29,7 @@ use Rattle.w16_machine.specs.LocalLaw.{IsLocalKept, OthersLaw, named_by}
 use Rattle.w16_machine.proofs.LocalFacts.{IsThere, chosen_there, there_local, local_here, heap_here, acted_there, became_there}
 use Rattle.w16_machine.proofs.LocalBegins.{begin_law}
 use Rattle.w16_machine.proofs.LocalNames.{names_law}
-use Rattle.w16_machine.proofs.LocalOutcomes.{IsAltered, IsNamedIn, IsRoomed, IsStepped, IsDone, Outcome, outcome}
+use Rattle.w16_machine.proofs.LocalOutcomes.{IsAltered, IsGivenUp, IsNamedIn, IsRoomed, IsStepped, IsDone, Outcome, outcome}
 
 stands_same : (old new : Heap) (q : ℕ) → finmap.get new.places q ≡ finmap.get old.places q → StandsStill old new q
 stands_same old new q e = turn (finmap.get old.places q) e
@@ -117,11 +117,13 @@ module _ (old : Heap) (q : ℕ) (o : Object) (there : object_at old q ≡ Some o
             if_ok (is_fixed o.kind || is_fixed kind) (Err refusals.Fixed) (Ok changed) tt (put_kept changed (record o { kind = kind }) refl refl)
 
     altered_kept : (new : Heap) → IsAltered old id new → Kept new
-    altered_kept new (inl e) = subst (λ r. IfOk r Kept) e free_kept
-    altered_kept new (inr (inl e)) = subst (λ r. IfOk r Kept) e lock_kept
-    altered_kept new (inr (inr (inl e))) = subst (λ r. IfOk r Kept) e unlock_kept
-    altered_kept new (inr (inr (inr (inl e)))) = subst (λ r. IfOk r Kept) e discard_kept
-    altered_kept new (inr (inr (inr (inr (flags, e))))) = subst (λ r. IfOk r Kept) e (modify_kept (moveable_or_discardable flags))
+    altered_kept new (inl e) = subst (λ r. IfOk r Kept) e lock_kept
+    altered_kept new (inr (inl e)) = subst (λ r. IfOk r Kept) e unlock_kept
+    altered_kept new (inr (inr (flags, e))) = subst (λ r. IfOk r Kept) e (modify_kept (moveable_or_discardable flags))
+
+    given_up_kept : (new : Heap) → IsGivenUp old id new → Kept new
+    given_up_kept new (inl e) = subst (λ r. IfOk r Kept) e free_kept
+    given_up_kept new (inr e) = subst (λ r. IfOk r Kept) e discard_kept
 
   -- A step that makes room.
   room_kept : (new : Heap) (h : Option ℕ) (k : ℕ) (may_move : Bool) → h ≢ Some q → KeepsOthers old h k new → KeepsAddresses old h may_move new → Kept new
@@ -186,7 +188,8 @@ module _ (old : LocalWorld) (is : IsLocalWorld old) (at : LocalHeap) (c : chosen
   roomed_kept : (next : Heap) → IsRoomed (heap_of at) command answer next → IsLocalKept (heap_of at) next q o
   roomed_kept next (inl (flags, size, id, free, made)) = allocated_kept (heap_of at) q o there heap id (rounded_up size) (local_kind flags) (local_way flags) next (in_use id free.free.1) made.allocated
   roomed_kept next (inr (inl (size, made))) = compacted_kept (heap_of at) q o there heap size answer next made
-  roomed_kept next (inr (inr (size, flags, id, named, resized))) = resized_kept (heap_of at) q o there heap id size flags answer next (other id named) resized
+  roomed_kept next (inr (inr (inl (size, flags, id, named, resized)))) = resized_kept (heap_of at) q o there heap id size flags answer next (other id named) resized
+  roomed_kept next (inr (inr (inr (id, named, given_up)))) = given_up_kept (heap_of at) q o there id (other id named) next given_up
 
   -- the same heap
   same_kept_local : (after : LocalHeap) → ◌≡◌ {A = Option LocalHeap} (Some at) (Some after) → IsLocalKept (heap_of at) (heap_of after) q o

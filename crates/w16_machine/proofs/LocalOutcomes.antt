@@ -1,5 +1,5 @@
 -- What a local call does, in four ways: nothing; a heap begins; an object of the chosen heap is changed where it stands; room is made there.
-use Rattle.std.proofs.Common.{◌≡◌, ℕ, ◌⊎◌, inl, inr, Bool, true, false, ◌==◌, MatchBool, MatchOption, Option, Some, None, Result, Ok, Err, refl}
+use Rattle.std.proofs.Common.{◌≡◌, ℕ, ◌⊎◌, inl, inr, Bool, true, false, ◌==◌, MatchBool, MatchOption, Option, Some, None, Result, Ok, Err, refl, sym, subst}
 use Rattle.w16_model.specs.declared.Refusal.{Refusal}
 use Rattle.w16_model.specs.Heap.{Heap}
 use Rattle.w16_model.specs.Request.{MakesRoom, most_room}
@@ -8,7 +8,7 @@ use Rattle.w16_model.specs.OneObject.{Enters, after_lock, after_unlock, after_fr
 use Rattle.w16_model.specs.Calls.{has_flag}
 use Rattle.w16_machine.specs.declared.local.TheConstants.{LMEM_MOVEABLE, LMEM_MODIFY}
 use Rattle.w16_machine.specs.Local.{LocalWorld, LocalHeap, LocalObject, Beginning, Becomes, Acts, Stays, IsLowestFree, heap_of, chosen, object_named, id_named, beginning, new_table, with_table}
-use Rattle.w16_machine.specs.LocalCalls.{LocalCommand, Answers, Leaves, EntersObject, AllocatesObject, ResizesObject, is_absent_asked, local_kind, AllocatesIn, CompactsIn, LocalInits, OnNamed, ModifiesObject, DiscardsObject, SizesObject, moveable_or_discardable, lock_refused, locks_left, near_pointer}
+use Rattle.w16_machine.specs.LocalCalls.{LocalCommand, Answers, Leaves, GivesUp, EntersObject, AllocatesObject, ResizesObject, is_absent_asked, local_kind, AllocatesIn, CompactsIn, LocalInits, OnNamed, ModifiesObject, DiscardsObject, SizesObject, moveable_or_discardable, lock_refused, locks_left, near_pointer}
 use Rattle.w16_machine.specs.LocalCalls.LocalCommand.{LocalInit, LocalAlloc, LocalReAlloc, LocalDiscard, LocalFree, LocalLock, LocalUnlock, LocalSize, LocalFlags, LocalHandle, LocalCompact, DS}
 use Rattle.w16_machine.specs.LocalLaw.{named_by}
 use Rattle.w16_machine.proofs.LocalFacts.{named_there}
@@ -16,7 +16,7 @@ use Rattle.w16_machine.proofs.LocalFacts.{named_there}
 -- an object is changed where it stands
 abbrev pub IsAltered : Heap → ℕ → Heap → Type 0
 IsAltered heap id next =
-    (after_free heap id ≡ Ok next) ⊎ (after_lock heap id ≡ Ok next) ⊎ (after_unlock heap id ≡ Ok next) ⊎ (after_discard heap id ≡ Ok next)
+    (after_lock heap id ≡ Ok next) ⊎ (after_unlock heap id ≡ Ok next)
     ⊎ ((flags : ℕ) × (after_modify heap id (moveable_or_discardable flags) ≡ Ok next))
 
 -- the object that a call names
@@ -25,12 +25,17 @@ pub record IsNamedIn (heap : Heap) (command : LocalCommand) (id : ℕ) : Type 0 
   pub asked : named_by command ≡ Some name
   pub has : id_named heap name ≡ Some id
 
--- room is made: for a new object, for an object's other size, or for no object
+-- an object gives its bytes up
+abbrev pub IsGivenUp : Heap → ℕ → Heap → Type 0
+IsGivenUp heap id next = (after_free heap id ≡ Ok next) ⊎ (after_discard heap id ≡ Ok next)
+
+-- room is made: for a new object, for an object's other size, for no object, or by giving bytes up
 abbrev pub IsRoomed : Heap → LocalCommand → ℕ → Heap → Type 0
 IsRoomed heap command answer next =
     ((flags size id : ℕ) × IsLowestFree heap id × AllocatesObject heap flags size id answer next)
     ⊎ ((size : ℕ) × MakesRoom heap size answer next)
     ⊎ ((size flags id : ℕ) × IsNamedIn heap command id × ResizesObject heap id size flags answer next)
+    ⊎ ((id : ℕ) × IsNamedIn heap command id × IsGivenUp heap id next)
 
 -- LocalInit began a heap
 pub record IsInit (old : LocalWorld) (command : LocalCommand) (answer : ℕ) (new : LocalWorld) : Type 0 where
@@ -99,6 +104,16 @@ module _ (old : LocalWorld) (command : LocalCommand) (answer : ℕ) (new : Local
   leaves o c named (Ok next) f taken refused l = inr (inr (o.heap, c, inl (next, inl (o.id, named, f next refl), l.1)))
   leaves o c named (Err refusal) f taken refused l = stayed (refused refusal) l
 
+  gives_up : (o : LocalObject) → chosen old ≡ Some o.heap → IsNamedIn (heap_of o.heap) command o.id → (r : Result Heap Refusal) → ((next : Heap) → r ≡ Ok next → IsGivenUp (heap_of o.heap) o.id next)
+      → (taken refused : ℕ) → GivesUp old o.heap r taken refused answer new → Out
+  gives_up o c named (Ok heap) f taken refused l = inr (inr (
+    o.heap,
+    c,
+    inr (acts_as old o.heap (λ next. next ≡ heap) (IsRoomed (heap_of o.heap) command answer) new
+        (λ next same. inr (inr (inr (o.id, named, subst (IsGivenUp (heap_of o.heap) o.id) (sym same) (f heap refl))))) l.1),
+  ))
+  gives_up o c named (Err refusal) f taken refused l = stayed refused l
+
   inits : (selector start end : ℕ) → command ≡ LocalInit selector start end → LocalInits old selector start end answer new → Out
   inits selector start end asked = turn (beginning old selector start end) refl
     where
@@ -125,20 +140,20 @@ module _ (old : LocalWorld) (command : LocalCommand) (answer : ℕ) (new : Local
       → MatchBool (has_flag flags LMEM_MODIFY) (ModifiesObject old name flags answer new o) (MatchBool (size == 0) (DiscardsObject old name flags answer new o) (SizesObject old size flags answer new o)) → Out
   reallocates name size flags o c named = modify (has_flag flags LMEM_MODIFY)
     where
-      discards : (b : Bool) → MatchBool b (Leaves old o.heap (after_discard (heap_of o.heap) o.id) (λ _. name) (λ _. 0) answer new) (Stays old 0 answer new) → Out
-      discards true l = leaves o c named (after_discard (heap_of o.heap) o.id) (λ next e. inr (inr (inr (inl e)))) (λ _. name) (λ _. 0) l
+      discards : (b : Bool) → MatchBool b (GivesUp old o.heap (after_discard (heap_of o.heap) o.id) name 0 answer new) (Stays old 0 answer new) → Out
+      discards true l = gives_up o c named (after_discard (heap_of o.heap) o.id) (λ next e. inr e) name 0 l
       discards false s = stayed 0 s
 
       sizes : SizesObject old size flags answer new o → Out
       sizes (inl refused) = stayed 0 refused.1
-      sizes (inr a) = inr (inr (o.heap, c, inr (acts_as old o.heap (ResizesObject (heap_of o.heap) o.id size flags answer) (IsRoomed (heap_of o.heap) command answer) new (λ heap r. inr (inr (size, flags, o.id, named, r))) a)))
+      sizes (inr a) = inr (inr (o.heap, c, inr (acts_as old o.heap (ResizesObject (heap_of o.heap) o.id size flags answer) (IsRoomed (heap_of o.heap) command answer) new (λ heap r. inr (inr (inl (size, flags, o.id, named, r)))) a)))
 
       by_size : (b : Bool) → MatchBool b (DiscardsObject old name flags answer new o) (SizesObject old size flags answer new o) → Out
       by_size true d = discards (has_flag flags LMEM_MOVEABLE) d
       by_size false s = sizes s
 
       modify : (b : Bool) → MatchBool b (ModifiesObject old name flags answer new o) (MatchBool (size == 0) (DiscardsObject old name flags answer new o) (SizesObject old size flags answer new o)) → Out
-      modify true l = leaves o c named (after_modify (heap_of o.heap) o.id (moveable_or_discardable flags)) (λ next e. inr (inr (inr (inr (flags, e))))) (λ _. name) (λ _. name) l
+      modify true l = leaves o c named (after_modify (heap_of o.heap) o.id (moveable_or_discardable flags)) (λ next e. inr (inr (flags, e))) (λ _. name) (λ _. name) l
       modify false s = by_size (size == 0) s
 
 pub outcome : (old : LocalWorld) (command : LocalCommand) (answer : ℕ) (new : LocalWorld) → Answers old command answer new → Outcome old command answer new
@@ -148,14 +163,14 @@ outcome old (LocalReAlloc name size flags) answer new step =
     on_named old (LocalReAlloc name size flags) answer new name 0 _ refl (λ o c named s. reallocates old (LocalReAlloc name size flags) answer new name size flags o c named s) step
 outcome old (LocalDiscard name) answer new step = on_named old (LocalDiscard name) answer new name 0 _ refl (λ o c named s. reallocates old (LocalDiscard name) answer new name 0 LMEM_MOVEABLE o c named s) step
 outcome old (LocalFree name) answer new step =
-    on_named old (LocalFree name) answer new name name (λ o. Leaves old o.heap (after_free (heap_of o.heap) o.id) (λ _. 0) (λ _. name) answer new) refl
-    (λ o c named l. leaves old (LocalFree name) answer new o c named (after_free (heap_of o.heap) o.id) (λ next e. inl e) (λ _. 0) (λ _. name) l) step
+    on_named old (LocalFree name) answer new name name (λ o. GivesUp old o.heap (after_free (heap_of o.heap) o.id) 0 name answer new) refl
+    (λ o c named l. gives_up old (LocalFree name) answer new o c named (after_free (heap_of o.heap) o.id) (λ next e. inl e) 0 name l) step
 outcome old (LocalLock name) answer new step =
     on_named old (LocalLock name) answer new name 0 (λ o. Leaves old o.heap (after_lock (heap_of o.heap) o.id) (λ _. near_pointer (heap_of o.heap) o.id) (lock_refused (near_pointer (heap_of o.heap) o.id)) answer new) refl
-    (λ o c named l. leaves old (LocalLock name) answer new o c named (after_lock (heap_of o.heap) o.id) (λ next e. inr (inl e)) (λ _. near_pointer (heap_of o.heap) o.id) (lock_refused (near_pointer (heap_of o.heap) o.id)) l) step
+    (λ o c named l. leaves old (LocalLock name) answer new o c named (after_lock (heap_of o.heap) o.id) (λ next e. inl e) (λ _. near_pointer (heap_of o.heap) o.id) (lock_refused (near_pointer (heap_of o.heap) o.id)) l) step
 outcome old (LocalUnlock name) answer new step =
     on_named old (LocalUnlock name) answer new name 0 (λ o. Leaves old o.heap (after_unlock (heap_of o.heap) o.id) (locks_left o.id) (λ _. 0) answer new) refl
-    (λ o c named l. leaves old (LocalUnlock name) answer new o c named (after_unlock (heap_of o.heap) o.id) (λ next e. inr (inr (inl e))) (locks_left o.id) (λ _. 0) l) step
+    (λ o c named l. leaves old (LocalUnlock name) answer new o c named (after_unlock (heap_of o.heap) o.id) (λ next e. inr (inl e)) (locks_left o.id) (λ _. 0) l) step
 outcome old (LocalSize name) answer new step = inl step.1
 outcome old (LocalFlags name) answer new step = inl step.1
 outcome old (LocalHandle pointer) answer new step = inl step.1

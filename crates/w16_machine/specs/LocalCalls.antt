@@ -113,14 +113,19 @@ LocalCompacts old size answer new = MatchOption (chosen old) (Stays old 0 answer
 abbrev pub OnNamed : LocalWorld → ℕ → ℕ → ℕ → LocalWorld → (LocalObject → Type 0) → Type 0
 OnNamed old name otherwise answer new so = MatchOption (object_named old name) (Stays old otherwise answer new) so
 
--- a step that asks for no room, with the answer where it is taken, and the answer where it is refused and the world stays
+-- a step that moves no byte and gives none up, with the answer where it is taken, and the answer where it is refused and the world stays
 abbrev pub Leaves : LocalWorld → LocalHeap → Result Heap Refusal → (Heap → ℕ) → (Refusal → ℕ) → ℕ → LocalWorld → Type 0
 Leaves old at (Ok heap) taken refused answer new = (answer ≡ taken heap) × Becomes old at heap new
 Leaves old at (Err refusal) taken refused answer new = Stays old (refused refusal) answer new
 
+-- the same of a step that gives bytes up: what these are then is any
+abbrev pub GivesUp : LocalWorld → LocalHeap → Result Heap Refusal → ℕ → ℕ → ℕ → LocalWorld → Type 0
+GivesUp old at (Ok heap) taken refused answer new = (answer ≡ taken) × Acts old at (λ next. next ≡ heap) new
+GivesUp old at (Err refusal) taken refused answer new = Stays old refused answer new
+
 -- LocalFree: 0, and the object is gone; the argument where the name is bad or the object locked
 abbrev pub LocalFrees : LocalWorld → ℕ → ℕ → LocalWorld → Type 0
-LocalFrees old name answer new = OnNamed old name name answer new (λ o. Leaves old o.heap (after_free (heap_of o.heap) o.id) (λ _. 0) (λ _. name) answer new)
+LocalFrees old name answer new = OnNamed old name name answer new (λ o. GivesUp old o.heap (after_free (heap_of o.heap) o.id) 0 name answer new)
 
 -- the near pointer of an object that has bytes
 abbrev pub near_pointer : Heap → ℕ → ℕ
@@ -151,7 +156,7 @@ ModifiesObject old name flags answer new o = Leaves old o.heap (after_modify (he
 -- other object, and without LMEM_MOVEABLE.
 abbrev pub DiscardsObject : LocalWorld → ℕ → ℕ → ℕ → LocalWorld → LocalObject → Type 0
 DiscardsObject old name flags answer new o = MatchBool (has_flag flags LMEM_MOVEABLE)
-    (Leaves old o.heap (after_discard (heap_of o.heap) o.id) (λ _. name) (λ _. 0) answer new)
+    (GivesUp old o.heap (after_discard (heap_of o.heap) o.id) name 0 answer new)
     (Stays old 0 answer new)
 
 -- with another size: the object's name, which a fixed object that is moved has anew, once the heap has reallocated it; 0 where it can't
