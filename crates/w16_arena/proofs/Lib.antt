@@ -35,3 +35,4 @@ pub mod Sized
 pub mod Longer
 pub mod Resized
 pub mod PutBack
+pub mod Kept
