@@ -36,3 +36,5 @@ pub mod Longer
 pub mod Resized
 pub mod PutBack
 pub mod Kept
+pub mod Fitting
+pub mod InPlace

@@ -37,8 +37,8 @@ impl<H: HoleList> Arena<H> {
         ensures kept { H.are_in (holes_in self.new.table) (S.bytes space.new) }
         ensures written { S.written space.new ≡ S.written space.old }
     {
-        self.is_sound();
         has_bytes(space);
+        self.blocks.bounds();
         resize(&mut self.blocks, space, block, size);
         self.forget_discards();
         Placed {
@@ -73,7 +73,6 @@ impl<H: HoleList> Arena<H> {
         ensures kept { H.are_in (holes_in self.new.table) (S.bytes space.new) }
         ensures written { IfOk result (λ _. S.written space.new ≡ counted (S.written space.old) (if way.zero then size - block.size else 0)) }
     {
-        self.is_sound();
         has_bytes(space);
         if block.size + self.blocks.free_after(space, block.id) < size {
             return Err(NoRoom);
