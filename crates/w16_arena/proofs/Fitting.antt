@@ -45,3 +45,10 @@ module _ (l : Layout) (b : Block) (known : block_with l.blocks b.id ≡ Some b) 
         (All-all_but (λ x. IsTrue (is_any x) → block_end b ≤ x.at → next ≤ x.at) b.id l.blocks below.1);
     grained = (itself.grained.0, rounded);
   }
+
+  -- the block with the hole behind it is no longer than the bound
+  pub spare_small : b.size + hole_after l.hi l.blocks (block_end b) ≤ l.hi
+  spare_small = let top = below.0 in let end = itself.inside.2 in omega arith
+
+  pub ends_inside : b.at + b.size ≤ l.hi
+  ends_inside = itself.inside.2

@@ -38,3 +38,4 @@ pub mod PutBack
 pub mod Kept
 pub mod Fitting
 pub mod InPlace
+pub mod Extending

@@ -74,6 +74,7 @@ impl<H: HoleList> Arena<H> {
         ensures written { IfOk result (λ _. S.written space.new ≡ counted (S.written space.old) (if way.zero then size - block.size else 0)) }
     {
         has_bytes(space);
+        self.blocks.bounds();
         if block.size + self.blocks.free_after(space, block.id) < size {
             return Err(NoRoom);
         }
