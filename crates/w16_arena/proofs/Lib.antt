@@ -11,6 +11,8 @@ pub mod Arranged
 pub mod Rooms
 pub mod Gathering
 pub mod Keeping
+pub mod ButFor
+pub mod Shifted
 pub mod Unmoved
 pub mod Changed
 pub mod Reordered

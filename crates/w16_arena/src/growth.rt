@@ -92,6 +92,7 @@ fn move_to_hole<S: Space, H: Holes<S>>(
     ensures kept { H.are_in (holes_of blocks.new) (S.bytes space.new) }
     ensures written { S.written space.new ≡ counted (S.written space.old) result.moved }
 {
+    let _ = blocks.bounds();
     let moved = shift_to(blocks, space, block, at);
     Placed {
         at,
@@ -198,6 +199,7 @@ fn move_to_gap<S: Space, H: Holes<S>>(
     ensures kept { H.are_in (holes_of blocks.new) (S.bytes space.new) }
     ensures written { S.written space.new ≡ counted (S.written space.old) result.moved }
 {
+    let _ = blocks.bounds();
     let gathered = gather(blocks, space, gap.low, gap.high);
     has_bytes(space);
     let at = gap.low + gap.loose;
@@ -234,7 +236,8 @@ fn shift_to<S: Space, H: Holes<S>>(
     ensures written { S.written space.new ≡ counted (S.written space.old) result }
 {
     let _ = blocks.bounds();
+    let moved = if to == block.at { 0 } else { block.size };
     blocks.shift(space, block.id, to);
     has_bytes(space);
-    if to == block.at { 0 } else { block.size }
+    moved
 }
