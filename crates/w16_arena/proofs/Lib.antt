@@ -13,6 +13,7 @@ pub mod Gathering
 pub mod Keeping
 pub mod ButFor
 pub mod Shifted
+pub mod Opening
 pub mod Unmoved
 pub mod Changed
 pub mod Reordered
