@@ -14,6 +14,7 @@ pub mod Keeping
 pub mod ButFor
 pub mod Shifted
 pub mod Opening
+pub mod OtherGap
 pub mod Unmoved
 pub mod Changed
 pub mod Reordered

@@ -122,6 +122,7 @@ fn slide_for<S: Space, H: Holes<S>>(
     ensures refused { IfNone result ((room blocks.old.lo blocks.old.hi (all_but block.id blocks.old.blocks) < size)
         × (blocks.new ≡ blocks.old) × (space.new ≡ space.old)) }
 {
+    let _ = blocks.bounds();
     let gap = gap_for(blocks, space, Some(block.id), size)?;
     if gap.low <= block.at && block.at < gap.high {
         Some(open_own(blocks, space, block, size, gap))
