@@ -58,9 +58,6 @@ others_say heap slot q other = same_described heap (absent heap slot) q (get-upd
 modified_is : (heap new : Heap) (slot : ℕ) (kind : Kind) → after_modify heap slot kind ≡ Ok new → modified heap slot kind ≡ new
 modified_is heap new slot kind done = ap (λ (r : Result Heap Refusal). elim r as (λ _. Heap) [ Ok new ↦ new | Err _ ↦ heap ]) done
 
-unmodified_is : (heap : Heap) (slot : ℕ) (kind : Kind) (refusal : Refusal) → after_modify heap slot kind ≡ Err refusal → modified heap slot kind ≡ heap
-unmodified_is heap slot kind refusal refused = ap (λ (r : Result Heap Refusal). elim r as (λ _. Heap) [ Ok new ↦ new | Err _ ↦ heap ]) refused
-
 module _ {h : Holding} {xs : List (Option Attributes)} {t : selectors.DescriptorTable} (are : AreJoined h xs t) (new : Holding) (cap : new.cap ≡ h.cap) (slot : ℕ) where
   -- another heap under the same attributes
   same_slots : record (handles_of h xs 0) { heap = new.heap } ≡ handles_of new xs 0
@@ -68,13 +65,6 @@ module _ {h : Holding} {xs : List (Option Attributes)} {t : selectors.Descriptor
 
   -- a change of kind
   module _ {U : Type 0} (kind : Kind) (r : Result U Refusal) (ok : OnOk r (after_modify h.heap slot kind ≡ Ok new.heap)) (err : IfErr r (λ e. (after_modify h.heap slot kind ≡ Err e) × (new ≡ h))) where
-    heap_is : modified h.heap slot kind ≡ new.heap
-    heap_is = turn r ok err
-      where
-        turn : (r : Result U Refusal) → OnOk r (after_modify h.heap slot kind ≡ Ok new.heap) → IfErr r (λ e. (after_modify h.heap slot kind ≡ Err e) × (new ≡ h)) → modified h.heap slot kind ≡ new.heap
-        turn (Ok u) done refused = modified_is h.heap new.heap slot kind done
-        turn (Err e) done refused = unmodified_is h.heap slot kind e refused.0 ∙ sym (ap (λ (k : Holding). k.heap) refused.1)
-
     pub modified_joined : AreJoined new xs t
     modified_joined = turn r ok err
       where
@@ -98,11 +88,6 @@ module _ {h : Holding} {xs : List (Option Attributes)} {t : selectors.Descriptor
             (says done (object_at h.heap slot) refl (kind_law h.heap slot kind are.handles.heap))
         turn (Err e) done refused = subst (λ k. AreJoined k xs t) (sym refused.1) are
 
-    pub modified_shown : {m : ℕ} {w : Handles} → handles_of h xs m ≡ w → handles_of new xs m ≡ record w { heap = modified w.heap slot kind }
-    modified_shown {m} shown =
-        (λ i. record { slots = cap i - FIRST_SLOT; heap = sym heap_is i; attributes = attributes_in xs; moved = m })
-        ∙ ap (λ (v : Handles). record v { heap = modified v.heap slot kind }) shown
-
   -- an object that gave up its bytes
   module _ {m : ℕ} {w : Handles} (shown : handles_of h xs m ≡ w) (known : is_some (object_at w.heap slot) ≡ true) (done : after_discard h.heap slot ≡ Ok new.heap) where
     there : is_some (object_at h.heap slot) ≡ true
@@ -113,20 +98,6 @@ module _ {h : Holding} {xs : List (Option Attributes)} {t : selectors.Descriptor
 
     in_table : slot < length t
     in_table = subst (λ n. slot < n) (sym are.selectors_many) (slot_there h xs t are slot there).1
-
-    -- its selector is taken
-    pub emptied_taken : is_some (descriptor_at t slot) ≡ true
-    emptied_taken = ap is_some (are.described slot) ∙ from (object_at h.heap slot) there
-      where
-        from : (p : Option Object) → is_some p ≡ true → is_some (option_map (descriptor_for h.heap slot) p) ≡ true
-        from None e = absurd (false≢true e)
-        from (Some o) e = refl
-
-    pub emptied_shown : (after_discard w.heap slot ≡ Ok new.heap) × (handles_of new xs m ≡ record w { heap = new.heap })
-    emptied_shown = (
-      subst (λ (v : Handles). after_discard v.heap slot ≡ Ok new.heap) shown done,
-      (λ i. record { slots = cap i - FIRST_SLOT; heap = new.heap; attributes = attributes_in xs; moved = m }) ∙ ap (λ (v : Handles). record v { heap = new.heap }) shown,
-    )
 
     pub emptied_joined : (after : selectors.DescriptorTable) → after ≡ set t slot (Some unset) → AreJoined new xs after
     emptied_joined after is = record {
