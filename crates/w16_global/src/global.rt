@@ -127,17 +127,18 @@ impl Global16 {
         ensures written { self.new.written ≡ (if result then counted (counted self.old.written self.new.handles.moved)
             (if way.zero then size - unwrap_or (option_map length (bytes_at self.old.handles.heap slot)) 0 else 0) else self.old.written) }
     {
-        let Some(placed) = self.objects.realloc(slot as u32, size, way) else {
+        let Some(place) = self.objects.realloc(slot as u32, size, way) else {
             return false;
         };
-        self.moved = placed.moved as u32;
+        self.moved = place.moved as u32;
         forget(&mut self.selectors, self.objects.discarded());
-        follow(&self.objects, &mut self.selectors, placed.slid);
+        follow(&self.objects, &mut self.selectors, place.slid);
+        let limit = size - 1;
         self.selectors.set(
             slot,
             Descriptor {
-                base: placed.at,
-                limit: size - 1,
+                base: place.at,
+                limit,
                 present: true,
                 kind: SelKind::Data,
             },

@@ -129,9 +129,9 @@ impl Objects {
         ensures cap { self.new.cap ≡ self.old.cap }
         ensures refused { IfNone result (self.new ≡ self.old) }
     {
-        let placed = self.arena.realloc(&mut self.memory, id, size, way).ok()?;
+        let place = self.arena.realloc(&mut self.memory, id, size, way).ok()?;
         has_bytes(&self.memory);
-        Some(placed)
+        Some(place)
     }
 
     /// The ids that the last request discarded, oldest first.

@@ -20,13 +20,13 @@ follow-requires-clause-known c =
 pub set-requires-clause-taken : goal.set-requires-clause-taken
 set-requires-clause-taken c =
     let s = c.in-Some.ensures in
-    known_followed c.self.invariant c.realloc.new.self s.cap c.args.slot (handles_shown c.self.view_is) c.requires.object c.args.size c.args.way s.reallocated s.discarded c.in-Some.placed.slid.from c.in-Some.placed.slid.to
+    known_followed c.self.invariant c.realloc.new.self s.cap c.args.slot (handles_shown c.self.view_is) c.requires.object c.args.size c.args.way s.reallocated s.discarded c.in-Some.place.slid.from c.in-Some.place.slid.to
     c.forget.new.selectors c.follow.new.selectors (subst (λ ids. (q : ℕ) → descriptor_at c.forget.new.selectors q ≡ forgotten ids c.self.inside.selectors q) c.discarded.ensures c.forget.ensures.forgotten) c.follow.ensures.followed
 
 pub invariant_of-self-2 : goal.invariant_of-self-2
 invariant_of-self-2 c =
     let s = c.in-Some.ensures in
-    let p = c.in-Some.placed in
+    let p = c.in-Some.place in
     reallocated_joined c.self.invariant c.realloc.new.self s.cap c.args.slot (handles_shown c.self.view_is) c.requires.object c.args.size c.args.way s.reallocated s.discarded p.at p.slid.from p.slid.to
     c.forget.new.selectors c.follow.new.selectors c.set.new.self s.still s.placed (subst (λ ids. (q : ℕ) → descriptor_at c.forget.new.selectors q ≡ forgotten ids c.self.inside.selectors q) c.discarded.ensures c.forget.ensures.forgotten)
     c.forget.ensures.many c.follow.ensures.followed c.follow.ensures.many c.set.ensures
