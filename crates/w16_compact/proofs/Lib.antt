@@ -16,3 +16,4 @@ pub mod Searched
 pub mod Told
 pub mod Filled
 pub mod Widened
+pub mod AllLoose
