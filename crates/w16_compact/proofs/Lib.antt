@@ -3,6 +3,7 @@ pub mod OnePass
 pub mod Order
 pub mod Settled
 pub mod Gathering
+pub mod Packed
 pub mod Loose
 pub mod Bounded
 pub mod Skips
