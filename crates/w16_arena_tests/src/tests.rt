@@ -38,25 +38,30 @@ const THREE: &[Step] = &[
     Step::Alloc(2, 32, Kind::Moveable, AS_IT_STANDS),
 ];
 
+/// What is known of an object without locks.
+macro_rules! unlocked {
+    ($kind:expr) => {
+        Some(Entry {
+            kind: $kind,
+            locks: 0,
+        })
+    };
+}
+
+const ENTRIES: &[(u32, Option<Entry>)] = &[
+    (3, unlocked!(Kind::Fixed)),
+    (1, unlocked!(Kind::Discardable)),
+    (0, None),
+    (4_294_967_295, None),
+];
+
 #[test]
 fn looks_up_entries(rt: HostRuntime) -> Result<(), Fail> {
     let bench = Bench::with(&rt, rt.alloc(), THREE)?;
-    let kinds = [
-        (3, Some(Kind::Fixed)),
-        (1, Some(Kind::Discardable)),
-        (0, None),
-        (4_294_967_295, None),
-    ];
-    for (id, kind) in kinds {
-        let entry = kind.map(unlocked);
-        assert!(rt; bench.entry(id) == entry, "at {id}");
+    for (id, entry) in ENTRIES {
+        assert!(rt; bench.entry(*id) == *entry, "at {id}");
     }
     Ok(())
-}
-
-/// What is known of an object without locks.
-fn unlocked(kind: Kind) -> Entry {
-    Entry { kind, locks: 0 }
 }
 
 /// The fixed object of the three.
@@ -75,29 +80,37 @@ const SECOND: Block = Block {
     hold: Hold::Loose,
 };
 
+const BLOCKS: &[(u32, Option<Block>)] = &[
+    (3, Some(FIRST)),
+    (2, Some(SECOND)),
+    (1, None),
+    (6, None),
+];
+
 #[test]
 fn looks_up_blocks(rt: HostRuntime) -> Result<(), Fail> {
     let bench = Bench::with(&rt, rt.alloc(), THREE)?;
-    let by_id = [(3, Some(FIRST)), (2, Some(SECOND)), (1, None), (6, None)];
-    for (id, block) in by_id {
-        assert!(rt; bench.block(id) == block, "at {id}");
+    for (id, block) in BLOCKS {
+        assert!(rt; bench.block(*id) == *block, "at {id}");
     }
     Ok(())
 }
+
+/// The lowest block at an address or behind it.
+const NEXT: &[(u32, Option<Block>)] = &[
+    (0, Some(FIRST)),
+    (1, Some(SECOND)),
+    (64, Some(SECOND)),
+    (65, None),
+];
 
 #[test]
 fn looks_up_the_next_block(rt: HostRuntime) -> Result<(), Fail> {
     let empty = Bench::new(&rt, rt.alloc())?;
     assert!(rt; empty.next_block(0).is_none());
     let bench = Bench::with(&rt, rt.alloc(), THREE)?;
-    let by_address = [
-        (0, Some(FIRST)),
-        (1, Some(SECOND)),
-        (64, Some(SECOND)),
-        (65, None),
-    ];
-    for (from, block) in by_address {
-        assert!(rt; bench.next_block(from) == block, "from {from}");
+    for (from, block) in NEXT {
+        assert!(rt; bench.next_block(*from) == *block, "from {from}");
     }
     Ok(())
 }
@@ -108,14 +121,17 @@ const ZEROS: Way = Way {
     ..DISCARDING
 };
 
+/// Places, lengths, and the byte there.
+const CLEARED: &[(u32, u32, u8)] = &[(0, 32, 7), (32, 32, 0), (64, 192, 7)];
+
 #[test]
 fn clears_new_bytes(rt: HostRuntime) -> Result<(), Fail> {
     let mut bench = Bench::new(&rt, rt.alloc())?;
     bench.fill(&rt, 0, 256, 7);
     bench.act(&rt, Step::Alloc(0, 32, Kind::Moveable, DISCARDING));
     bench.act(&rt, Step::Alloc(1, 32, Kind::Discardable, ZEROS));
-    for (at, n, byte) in [(0, 32, 7), (32, 32, 0), (64, 192, 7)] {
-        assert!(rt; bench.is_filled(&rt, at, n, byte), "at {at}");
+    for (at, n, byte) in CLEARED {
+        assert!(rt; bench.is_filled(&rt, *at, *n, *byte), "at {at}");
     }
     bench.act(&rt, Step::Release(0));
     bench.act(&rt, Step::Alloc(2, 256, Kind::Moveable, ZEROS));
@@ -131,20 +147,26 @@ const TWO: &[Step] = &[
     Step::Enter(2, Kind::Discardable),
 ];
 
+/// How many bytes an object has.
+const SIZES: &[(u32, Option<usize>)] = &[(0, Some(32)), (1, Some(64)), (2, None), (6, None)];
+
+/// The same once the first is released, and another takes the room behind the second.
+const SIZES_THEN: &[(u32, Option<usize>)] = &[(0, None), (1, Some(64)), (3, Some(192))];
+
 #[test]
 fn tells_bytes(rt: HostRuntime) -> Result<(), Fail> {
     let mut bench = Bench::with(&rt, rt.alloc(), TWO)?;
     bench.fill(&rt, 0, 32, 5);
     bench.fill(&rt, 32, 64, 6);
     assert!(rt; bench.has_only(&rt, 0, 5) && bench.has_only(&rt, 1, 6));
-    for (id, size) in [(0, Some(32)), (1, Some(64)), (2, None), (6, None)] {
-        assert!(rt; bench.size(&rt, id) == size, "at {id}");
+    for (id, size) in SIZES {
+        assert!(rt; bench.size(&rt, *id) == *size, "at {id}");
     }
     bench.act(&rt, Step::Release(0));
     bench.act(&rt, Step::Alloc(3, 192, Kind::Moveable, SLIDING));
     assert!(rt; bench.has_only(&rt, 1, 6));
-    for (id, size) in [(0, None), (1, Some(64)), (3, Some(192))] {
-        assert!(rt; bench.size(&rt, id) == size, "at {id} then");
+    for (id, size) in SIZES_THEN {
+        assert!(rt; bench.size(&rt, *id) == *size, "at {id} then");
     }
     Ok(())
 }

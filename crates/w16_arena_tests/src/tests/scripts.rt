@@ -686,19 +686,21 @@ fn walks_by_address(rt: HostRuntime) -> Result<(), Fail> {
     Ok(())
 }
 
+/// The items of the heap with holes by their numbers.
+const ITEMS: &[(usize, Option<Item>)] = &[
+    (0, Some(object!(0, 32, 0, Kind::Fixed, 0))),
+    (1, Some(hole!(32, 64))),
+    (2, Some(object!(96, 32, 2, Kind::Discardable, 1))),
+    (3, Some(hole!(128, 128))),
+    (4, None),
+    (9, None),
+];
+
 #[test]
 fn walks_by_number(rt: HostRuntime) -> Result<(), Fail> {
     let bench = Bench::with(&rt, rt.alloc(), WITH_HOLES)?;
-    let items = [
-        (0, Some(object!(0, 32, 0, Kind::Fixed, 0))),
-        (1, Some(hole!(32, 64))),
-        (2, Some(object!(96, 32, 2, Kind::Discardable, 1))),
-        (3, Some(hole!(128, 128))),
-        (4, None),
-        (9, None),
-    ];
-    for (i, item) in items {
-        assert!(rt; bench.walk(i) == item, "item {i}");
+    for (i, item) in ITEMS {
+        assert!(rt; bench.walk(*i) == *item, "item {i}");
     }
     Ok(())
 }
