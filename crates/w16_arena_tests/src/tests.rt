@@ -5,6 +5,7 @@ mod discards;
 mod scripts;
 
 use bench::{Bench, Step};
+use std::process::Abort;
 use std::test::Fail;
 use w16_model::{Block, Entry, Hold, Kind, Way};
 
@@ -55,12 +56,20 @@ const ENTRIES: &[(u32, Option<Entry>)] = &[
     (4_294_967_295, None),
 ];
 
+/// The first id of the table with another entry.
+fn other_entry(bench: &Bench) -> Option<u32> {
+    for (id, entry) in ENTRIES {
+        if bench.entry(*id) != *entry {
+            return Some(*id);
+        }
+    }
+    None
+}
+
 #[test]
 fn looks_up_entries(rt: HostRuntime) -> Result<(), Fail> {
     let bench = Bench::with(&rt, rt.alloc(), THREE)?;
-    for (id, entry) in ENTRIES {
-        assert!(rt; bench.entry(*id) == *entry, "at {id}");
-    }
+    assert!(rt; other_entry(&bench).is_none());
     Ok(())
 }
 
@@ -87,12 +96,20 @@ const BLOCKS: &[(u32, Option<Block>)] = &[
     (6, None),
 ];
 
+/// The first id of the table with another block.
+fn other_block(bench: &Bench) -> Option<u32> {
+    for (id, block) in BLOCKS {
+        if bench.block(*id) != *block {
+            return Some(*id);
+        }
+    }
+    None
+}
+
 #[test]
 fn looks_up_blocks(rt: HostRuntime) -> Result<(), Fail> {
     let bench = Bench::with(&rt, rt.alloc(), THREE)?;
-    for (id, block) in BLOCKS {
-        assert!(rt; bench.block(*id) == *block, "at {id}");
-    }
+    assert!(rt; other_block(&bench).is_none());
     Ok(())
 }
 
@@ -104,14 +121,27 @@ const NEXT: &[(u32, Option<Block>)] = &[
     (65, None),
 ];
 
+/// The first address of the table with another block behind it.
+fn other_next_block(bench: &Bench) -> Option<u32> {
+    for (from, block) in NEXT {
+        if bench.next_block(*from) != *block {
+            return Some(*from);
+        }
+    }
+    None
+}
+
 #[test]
 fn looks_up_the_next_block(rt: HostRuntime) -> Result<(), Fail> {
-    let empty = Bench::new(&rt, rt.alloc())?;
-    assert!(rt; empty.next_block(0).is_none());
     let bench = Bench::with(&rt, rt.alloc(), THREE)?;
-    for (from, block) in NEXT {
-        assert!(rt; bench.next_block(*from) == *block, "from {from}");
-    }
+    assert!(rt; other_next_block(&bench).is_none());
+    Ok(())
+}
+
+#[test]
+fn looks_up_no_next_block(rt: HostRuntime) -> Result<(), Fail> {
+    let bench = Bench::new(&rt, rt.alloc())?;
+    assert!(rt; bench.next_block(0).is_none());
     Ok(())
 }
 
@@ -124,19 +154,26 @@ const ZEROS: Way = Way {
 /// Places, lengths, and the byte there.
 const CLEARED: &[(u32, u32, u8)] = &[(0, 32, 7), (32, 32, 0), (64, 192, 7)];
 
+/// The first place of the table with another byte.
+fn other_byte(rt: &impl Abort, bench: &Bench) -> Option<u32> {
+    for (at, n, byte) in CLEARED {
+        if !bench.is_filled(rt, *at, *n, *byte) {
+            return Some(*at);
+        }
+    }
+    None
+}
+
 #[test]
 fn clears_new_bytes(rt: HostRuntime) -> Result<(), Fail> {
     let mut bench = Bench::new(&rt, rt.alloc())?;
     bench.fill(&rt, 0, 256, 7);
     bench.act(&rt, Step::Alloc(0, 32, Kind::Moveable, DISCARDING));
     bench.act(&rt, Step::Alloc(1, 32, Kind::Discardable, ZEROS));
-    for (at, n, byte) in CLEARED {
-        assert!(rt; bench.is_filled(&rt, *at, *n, *byte), "at {at}");
-    }
+    assert!(rt; other_byte(&rt, &bench).is_none());
     bench.act(&rt, Step::Release(0));
     bench.act(&rt, Step::Alloc(2, 256, Kind::Moveable, ZEROS));
-    assert!(rt; bench.is_filled(&rt, 0, 256, 0));
-    assert!(rt; bench.has_discarded(&[1]));
+    assert!(rt; bench.is_filled(&rt, 0, 256, 0) && bench.has_discarded(&[1]));
     Ok(())
 }
 
@@ -153,21 +190,27 @@ const SIZES: &[(u32, Option<usize>)] = &[(0, Some(32)), (1, Some(64)), (2, None)
 /// The same once the first is released, and another takes the room behind the second.
 const SIZES_THEN: &[(u32, Option<usize>)] = &[(0, None), (1, Some(64)), (3, Some(192))];
 
+/// The first id of a table with another number of bytes.
+fn other_size(rt: &impl Abort, bench: &Bench, sizes: &[(u32, Option<usize>)]) -> Option<u32> {
+    for (id, size) in sizes {
+        if bench.size(rt, *id) != *size {
+            return Some(*id);
+        }
+    }
+    None
+}
+
 #[test]
 fn tells_bytes(rt: HostRuntime) -> Result<(), Fail> {
     let mut bench = Bench::with(&rt, rt.alloc(), TWO)?;
     bench.fill(&rt, 0, 32, 5);
     bench.fill(&rt, 32, 64, 6);
     assert!(rt; bench.has_only(&rt, 0, 5) && bench.has_only(&rt, 1, 6));
-    for (id, size) in SIZES {
-        assert!(rt; bench.size(&rt, *id) == *size, "at {id}");
-    }
+    assert!(rt; other_size(&rt, &bench, SIZES).is_none());
     bench.act(&rt, Step::Release(0));
     bench.act(&rt, Step::Alloc(3, 192, Kind::Moveable, SLIDING));
     assert!(rt; bench.has_only(&rt, 1, 6));
-    for (id, size) in SIZES_THEN {
-        assert!(rt; bench.size(&rt, *id) == *size, "at {id} then");
-    }
+    assert!(rt; other_size(&rt, &bench, SIZES_THEN).is_none());
     Ok(())
 }
 

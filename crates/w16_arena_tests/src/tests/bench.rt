@@ -14,7 +14,7 @@ use w16_region::{Region, Space};
 const IDS: u32 = 6;
 
 /// One call of an arena.
-#[derive(Clone, Copy, Debug)]
+#[derive(Clone, Copy)]
 pub(super) enum Step {
     Enter(u32, Kind),
     Alloc(u32, u32, Kind, Way),
@@ -36,7 +36,7 @@ pub(super) enum Step {
 }
 
 /// What it answers.
-#[derive(Clone, Copy, Debug, PartialEq, Eq)]
+#[derive(Clone, Copy, PartialEq, Eq)]
 pub(super) enum Answer {
     Done,
     Refused(Refusal),
