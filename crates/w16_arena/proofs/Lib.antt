@@ -39,3 +39,4 @@ pub mod Kept
 pub mod Fitting
 pub mod InPlace
 pub mod Extending
+pub mod Loosened

@@ -1,5 +1,5 @@
 -- What a request for room leaves beside its step: who was discarded, who stands elsewhere, and what was moved.
-use Rattle.std.specs.Prelude.{◌≡◌, ◌≢◌, ℕ, ◌+◌, ◌<◌, ◌≤◌, ◌⊎◌, ◌&&◌, not, true, nat_le, if◌then◌else◌, List, length, take, Option, None, Some, IfSome, IsSomeAnd}
+use Rattle.std.specs.Prelude.{◌≡◌, ◌≢◌, ℕ, ◌+◌, ◌<◌, ◌≤◌, ◌⊎◌, ◌&&◌, Bool, not, true, nat_le, if◌then◌else◌, List, length, take, Option, None, Some, IfSome, IsSomeAnd}
 use Rattle.std.specs.FinMap as finmap
 use Rattle.w16_model.specs.declared.Span.{Span}
 use Rattle.w16_model.specs.declared.Way.{Way}
@@ -8,7 +8,8 @@ use Rattle.w16_model.specs.Discards.{eligible, growth_for}
 use Rattle.w16_model.specs.Heap.{Heap, Object, blocks, object_at, is_pinned_object}
 use Rattle.w16_model.specs.Changes.{with_ordered}
 use Rattle.w16_model.specs.Request.{Reallocates, Settles, stays_for, moved_bytes, prefix_of, snapshot_of, discarded}
-use Rattle.w16_model.specs.Table.{heap_in}
+use Rattle.w16_model.specs.Table.{Table, heap_in}
+use Rattle.w16_arena.specs.Growth.{may_grow}
 use Rattle.w16_arena.specs.declared.new_place.Placed.{Placed}
 use Rattle.w16_arena.specs.declared.without_discard.Compacted.{Compacted}
 use Rattle.w16_arena.specs.State.{ArenaState, IsSameRange}
@@ -22,6 +23,10 @@ pub record HasDiscarded (old : Heap) (id n : ℕ) (way : Way) (discarded : List 
   pub prefix : ℕ
   pub needed : prefix_of old n (Some id) way ≡ Some prefix
   pub listed : discarded ≡ first_eligible old prefix (Some id)
+
+-- whether an object may have n bytes without a discard: where others may slide, there is room once it is left out; else it fits where it stands, or in a hole
+abbrev pub may_grow_in : Table → ℕ → ℕ → Bool → Bool
+may_grow_in t id n compact = may_grow (record { cap = length t.entries; lo = t.lo; hi = t.hi; grain = t.grain; blocks = t.blocks }) id n compact
 
 -- the number of discards by which an object's reallocation to n bytes is answered, if it is
 abbrev pub reallocation_prefix : Heap → ℕ → Object → ℕ → Way → Option ℕ

@@ -1,14 +1,13 @@
 -- Room that is made for new bytes: the blocks that slid for it, and the place that it leaves.
-use Rattle.std.specs.Prelude.{ℕ, ◌+◌, ◌-◌, ◌<◌, ◌≤◌, ◌≡◌, ◌⊎◌, ◌||◌, Bool, if◌then◌else◌, nat_le, List, [], ◌∷◌, length, find, All, MatchOption}
+use Rattle.std.specs.Prelude.{ℕ, ◌+◌, ◌-◌, ◌<◌, ◌≤◌, ◌≡◌, ◌⊎◌, Bool, if◌then◌else◌, nat_le, List, [], ◌∷◌, length, find, All, MatchOption}
 use Rattle.std.specs.List.{AllByRecursion}
 use Rattle.w16_model.specs.Bytes.{part}
 use Rattle.w16_model.specs.declared.Block.{Block}
 use Rattle.w16_model.specs.declared.Hold.TheVariants.{Loose}
 use Rattle.w16_model.specs.Gap.{block_end, is_pinned, Misses, IsClear, holes, room, longest_hole}
-use Rattle.w16_model.specs.Discards.{fits_in_place, snapshot}
 use Rattle.w16_model.specs.Heap.{IsMultiple}
 use Rattle.w16_model.specs.Table.{Table}
-use Rattle.w16_blocks.specs.Layout.{Layout, IsOrdered, all_but}
+use Rattle.w16_blocks.specs.Layout.{Layout, IsOrdered}
 use Rattle.w16_compact.specs.declared.gaps.Gap.{Gap}
 use Rattle.w16_compact.specs.Gap.{HasRoom, IsLowest}
 
@@ -56,15 +55,3 @@ IsLowestPlace l n at = MatchOption (find (λ s. nat_le n (s.to - s.from)) (holes
 -- the same of a table
 abbrev pub most_in : Table → Bool → ℕ
 most_in t compact = if compact then room t.lo t.hi t.blocks else longest_hole t.lo t.hi t.blocks
-
--- A layout without the block of an id.
-abbrev pub but_for : ℕ → Layout → Layout
-but_for id l = record l { blocks = all_but id l.blocks }
-
--- whether an object may have n bytes without a discard: with sliding, where there is room once it is left out; else where it stands, or in a hole
-abbrev pub may_grow : Layout → ℕ → ℕ → Bool → Bool
-may_grow l id n compact = if compact then nat_le n (room l.lo l.hi (all_but id l.blocks)) else (fits_in_place (snapshot l.lo l.hi l.blocks []) n id || nat_le n (longest_hole l.lo l.hi l.blocks))
-
--- the same of a table
-abbrev pub may_grow_in : Table → ℕ → ℕ → Bool → Bool
-may_grow_in t id n compact = if compact then nat_le n (room t.lo t.hi (all_but id t.blocks)) else (fits_in_place (snapshot t.lo t.hi t.blocks []) n id || nat_le n (longest_hole t.lo t.hi t.blocks))

@@ -10,7 +10,8 @@ ghost use Rattle.w16_blocks.specs.Layout.{IsOrdered, all_but, holes_of};
 ghost use Rattle.w16_compact.specs.Gather.{moved_between};
 ghost use Rattle.w16_compact.specs.Rest.{IsSameRest};
 ghost use Rattle.w16_region.specs.Bytes.{counted};
-ghost use Rattle.w16_arena.specs.NewPlace.{AreMoved, AreFreeBytes, but_for, may_grow};
+ghost use Rattle.w16_arena.specs.Growth.{but_for, may_grow};
+ghost use Rattle.w16_arena.specs.NewPlace.{AreMoved, AreFreeBytes};
 
 use crate::new_place::Placed;
 use w16_blocks::Blocks;
@@ -26,7 +27,7 @@ pub(crate) fn make_way<S: Space, H: Holes<S>>(
 ) -> Option<Placed>
     requires id { id < blocks.old.cap }
     requires known { IsSome (block_with blocks.old.blocks id) }
-    requires loose { ForSome (block_with blocks.old.blocks id) (λ b. (b.hold ≡ Loose) × (b.size < size)) }
+    requires loose { IfSome (block_with blocks.old.blocks id) (λ b. (b.hold ≡ Loose) × (b.size < size)) }
     requires rounded { IsMultiple blocks.old.grain size }
     requires kept { H.are_in (holes_of blocks.old) (S.bytes space.old) }
     requires inside { blocks.old.hi ≤ length (S.bytes space.old) }

@@ -7,8 +7,7 @@ ghost use Rattle.w16_model.specs.Table.{IsSound, block_with, entry_at, heap_in};
 ghost use Rattle.w16_model.specs.Request.{IsGrown, Reallocates, StaysOrMovesToHole};
 ghost use Rattle.w16_model.specs.Reallocation.{ReallocatesFewest};
 ghost use Rattle.w16_arena.specs.State.{KeepsRest, holes_in};
-ghost use Rattle.w16_arena.specs.NewPlace.{may_grow_in};
-ghost use Rattle.w16_arena.specs.Asked.{HasDiscardedFor, IsPlaced, IsResized, Stands};
+ghost use Rattle.w16_arena.specs.Asked.{HasDiscardedFor, IsPlaced, IsResized, Stands, may_grow_in};
 
 use crate::Arena;
 use crate::grown::grow_block;

@@ -8,7 +8,7 @@ use Rattle.w16_blocks.specs.Layout.{Layout}
 use Rattle.w16_arena.specs.Asked.{IsResized}
 use Rattle.w16_arena.specs.declared.new_place.Placed.{Placed}
 use Rattle.w16_arena.specs.State.{ArenaState, KeepsRest, table_of, heap_of, holes_in}
-use Rattle.w16_arena.specs.NewPlace.{but_for}
+use Rattle.w16_arena.specs.Growth.{but_for}
 use Rattle.w16_compact.proofs.Rests.{rest_more, rest_wider}
 use Rattle.w16_arena.proofs.Shown.{known as known_in, told}
 use Rattle.w16_arena.proofs.Fitting.{id_known, fits_more, spare_small, ends_inside}
