@@ -2,14 +2,16 @@
 use Rattle.std.proofs.Common.{◌≡◌, ℕ, ◌+◌, ◌-◌, ◌<◌, ◌≤◌, IsTrue, Some, refl, arith, inl, inr}
 use Rattle.std.specs.List.{AllByRecursion as Each}
 use Rattle.w16_model.specs.declared.Block.{Block}
-use Rattle.w16_model.specs.Gap.{block_end, first_from, hole_after, is_any}
+use Rattle.w16_model.specs.Gap.{Misses, block_end, first_from, hole_after, is_any}
 use Rattle.w16_model.specs.Heap.{IsMultiple}
 use Rattle.w16_model.specs.Table.{block_with}
 use Rattle.w16_model.proofs.Gaps.{Each-map, Each-both, first_from-below}
 use Rattle.w16_blocks.specs.Layout.{Layout, IsOrdered, IsApart, Fits, FitsFor, all_but}
-use Rattle.w16_blocks.proofs.Remove.{All-all_but, each_with}
+use Rattle.w16_blocks.proofs.Remove.{All-all_but, each_with, others_differ}
 use Rattle.w16_blocks.proofs.Sliding.{named_each}
 use Rattle.w16_blocks.proofs.Step.{fits_itself}
+use Rattle.w16_arena.specs.Growth.{but_for}
+use Rattle.w16_arena.specs.NewPlace.{AreFreeBytes}
 
 module _ (l : Layout) (b : Block) (known : block_with l.blocks b.id ≡ Some b) (ordered : IsOrdered l) where
   -- a block's id is one
@@ -52,3 +54,13 @@ module _ (l : Layout) (b : Block) (known : block_with l.blocks b.id ≡ Some b) 
 
   pub ends_inside : b.at + b.size ≤ l.hi
   ends_inside = itself.inside.2
+
+-- a block fits with a size that is free where it stands, once it is left out
+pub fits_free : (l : Layout) (x : Block) → block_with l.blocks x.id ≡ Some x → IsOrdered l → (n : ℕ) → 0 < n → IsMultiple l.grain n → AreFreeBytes (but_for x.id l) n x.at → FitsFor l (record x { size = n })
+fits_free l x known ordered n some rounded free = record {
+  id = id_known l x known ordered;
+  free = others_differ x.id l.blocks;
+  inside = (free.above, some, free.below);
+  apart = Each-map (λ c. Misses c.at c.size x.at (x.at + n)) (λ c. IsApart (record x { size = n }) c) (λ c m. elim m [ inl before ↦ inr before | inr behind ↦ inl behind ]) (all_but x.id l.blocks) free.misses;
+  grained = (free.grained, rounded);
+}

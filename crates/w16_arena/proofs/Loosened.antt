@@ -140,3 +140,14 @@ module _ (l : Layout) (ordered : IsOrdered l) (b : Block) (known : block_with l.
 
   pub unheld : {again : Layout} → again ≡ record new { blocks = replaced b new.blocks } → again ≡ l
   unheld {again} is = is ∙ ap (λ (k : Layout). record k { blocks = replaced b k.blocks }) value ∙ ap (λ bs. record l { blocks = bs }) (back_again l ordered b known hold)
+
+-- A layout in which a block took the place of the one of its id.
+module _ (l : Layout) {new : Layout} (x : Block) (value : new ≡ record l { blocks = replaced x l.blocks }) where
+  pub but_same : all_but x.id new.blocks ≡ all_but x.id l.blocks
+  but_same = ap (λ (k : Layout). all_but x.id k.blocks) value ∙ same_but x l.blocks
+
+  pub but_for_same : but_for x.id new ≡ but_for x.id l
+  but_for_same = ap (but_for x.id) value ∙ ap (λ bs. record l { blocks = bs }) (same_but x l.blocks)
+
+  pub is_placed : new ≡ record (but_for x.id new) { blocks = placed x (all_but x.id new.blocks) }
+  is_placed = value ∙ sym (λ i. record (but_for_same i) { blocks = placed x (but_same i) })
