@@ -40,3 +40,4 @@ pub mod Fitting
 pub mod InPlace
 pub mod Extending
 pub mod Loosened
+pub mod Regrown

@@ -166,6 +166,7 @@ impl<H: HoleList> Arena<H> {
         ensures sound { IsSound self.old.table }
     {
         has_bytes(space);
+        self.blocks.bounds();
         let placed = grow_block(&mut self.blocks, space, block, size, way.compact)?;
         clear_if(
             way.zero,
