@@ -94,7 +94,7 @@ no_place heap is q o there = from (finmap.get heap.places q) refl
         absurd (false≢true (sym none ∙ sym (is.at_bytes q) ∙ some))
 
 -- so a discarded one has none
-gone : (old new : Heap) → IsHeap new → (q : ℕ) → IsSomeAnd (object_at old q) (λ o. (o.kind ≡ Discardable) × (o.locks ≡ 0) × (is_some o.bytes ≡ true) × (object_at new q ≡ Some (record o { bytes = None }))) → finmap.get new.places q ≡ None
+pub gone : (old new : Heap) → IsHeap new → (q : ℕ) → IsSomeAnd (object_at old q) (λ o. (o.kind ≡ Discardable) × (o.locks ≡ 0) × (is_some o.bytes ≡ true) × (object_at new q ≡ Some (record o { bytes = None }))) → finmap.get new.places q ≡ None
 gone old new is q = from (object_at old q)
   where
     from : (p : Option Object) → IsSomeAnd p (λ o. (o.kind ≡ Discardable) × (o.locks ≡ 0) × (is_some o.bytes ≡ true) × (object_at new q ≡ Some (record o { bytes = None }))) → finmap.get new.places q ≡ None

@@ -41,3 +41,4 @@ pub mod InPlace
 pub mod Extending
 pub mod Loosened
 pub mod Regrown
+pub mod Growing

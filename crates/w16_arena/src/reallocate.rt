@@ -127,6 +127,7 @@ impl<H: HoleList> Arena<H> {
         ensures kept { H.are_in (holes_in self.new.table) (S.bytes space.new) }
         ensures written { IfOk result (λ p. S.written space.new ≡ counted (counted (S.written space.old) p.moved) (if way.zero then size - block.size else 0)) }
     {
+        self.is_sound();
         has_bytes(space);
         let Some(k) = self.least_discards(space, Some(block.id), size) else {
             return Err(NoRoom);
