@@ -15,6 +15,7 @@ pub mod ButFor
 pub mod Shifted
 pub mod Opening
 pub mod OtherGap
+pub mod Ways
 pub mod Unmoved
 pub mod Changed
 pub mod Reordered

@@ -55,7 +55,34 @@ pub(crate) fn make_way<S: Space, H: Holes<S>>(
     let Some(block) = blocks.find(id) else {
         unreachable!();
     };
-    if size - block.size <= blocks.free_after(space, id) {
+    find_way(blocks, space, block, size, compact)
+}
+
+/// The same of a block.
+fn find_way<S: Space, H: Holes<S>>(
+    blocks: &mut Blocks<H>,
+    space: &mut S,
+    block: Block,
+    size: u32,
+    compact: bool,
+) -> Option<Placed>
+    requires known { block_with blocks.old.blocks block.id ≡ Some block }
+    requires loose { block.hold ≡ Loose }
+    requires more { block.size < size }
+    requires rounded { IsMultiple blocks.old.grain size }
+    requires kept { H.are_in (holes_of blocks.old) (S.bytes space.old) }
+    requires inside { blocks.old.hi ≤ length (S.bytes space.old) }
+    ensures way { IfSome result (λ p. HasWay size block blocks.old (S.bytes space.old) p blocks.new (S.bytes space.new)) }
+    ensures enough { IfSome result (λ _. IsTrue (may_grow blocks.old block.id size compact)) }
+    ensures still { compact ≡ false → IfSome result (λ p. (all_but block.id blocks.new.blocks ≡ all_but block.id blocks.old.blocks)
+        × ((p.at ≡ block.at) ⊎ IsClear is_any blocks.old.lo blocks.old.hi blocks.old.blocks p.at (p.at + size))) }
+    ensures rest { IsSameRest S.bytes S.lenders blocks.old.lo blocks.old.hi space.old space.new }
+    ensures kept { H.are_in (holes_of blocks.new) (S.bytes space.new) }
+    ensures written { IfSome result (λ p. S.written space.new ≡ counted (S.written space.old) p.moved) }
+    ensures refused { IfNone result ((may_grow blocks.old block.id size compact ≡ false) × (blocks.new ≡ blocks.old) × (space.new ≡ space.old)) }
+{
+    let _ = blocks.bounds();
+    if size - block.size <= blocks.free_after(space, block.id) {
         return Some(Placed {
             at: block.at,
             slid: NOTHING,
