@@ -1,11 +1,9 @@
 -- Blocks but for an object's, and bytes that are free for it.
-use Rattle.std.specs.List.{AllByRecursion as Each}
 use Rattle.std.proofs.Common.{◌≡◌, ℕ, ◌+◌, ◌-◌, ◌<◌, ◌≤◌, ◌==◌, ◌⊎◌, inl, inr, true, false, cond, eqb, IsTrue, List, [], ◌∷◌, Option, Some, refl, sym, ap, ◌∙◌, subst, arith, eq-eqb}
 use Rattle.std.proofs.lemmas.Bool.{ne_eqb}
 use Rattle.std.proofs.lemmas.Bool.Decides.{eqb_tells}
 use Rattle.w16_model.specs.declared.Block.{Block}
 use Rattle.w16_model.specs.Gap.{block_end, first_from, hole_after, is_any, is_pinned, IsClear, Misses}
-use Rattle.w16_model.specs.Heap.{IsMultiple}
 use Rattle.w16_model.specs.Table.{block_with}
 use Rattle.w16_model.proofs.Gaps.{Each-map, Each-both, Each-from_All, All-from_Each, first_from-below}
 use Rattle.w16_model.proofs.Laid.{laid_each}

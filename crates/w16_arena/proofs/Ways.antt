@@ -1,5 +1,5 @@
 -- When there is a place where an object may grow, and what the place tells.
-use Rattle.std.proofs.Common.{◌≡◌, ℕ, ◌+◌, ◌-◌, ◌<◌, ◌≤◌, ◌==◌, ◌⊎◌, ◌||◌, inl, inr, Bool, true, false, cond, nat_le, IsTrue, IfNone, IfSome, List, [], Option, Some, None, refl, sym, ap, ◌∙◌, subst, arith, le-leb, eq-eqb}
+use Rattle.std.proofs.Common.{◌≡◌, ℕ, ◌+◌, ◌-◌, ◌<◌, ◌≤◌, ◌==◌, ◌⊎◌, Bool, true, false, cond, nat_le, IsTrue, IfSome, List, [], Option, Some, None, refl, sym, ap, ◌∙◌, subst, arith, le-leb, eq-eqb}
 use Rattle.std.specs.Option.{ForSome}
 use Rattle.std.proofs.lemmas.Bool.{cond-true, false≢true, lt-leb, or_from, or_left, or_right}
 use Rattle.w16_model.specs.declared.Block.{Block}
@@ -14,7 +14,7 @@ use Rattle.w16_compact.specs.Gather.{moved_between}
 use Rattle.w16_compact.proofs.Gathering.{moved_same}
 use Rattle.w16_compact.proofs.LeftOut.{ordered_without}
 use Rattle.w16_arena.specs.declared.new_place.Placed.{Placed}
-use Rattle.w16_arena.specs.NewPlace.{AreMoved, AreFreeBytes, most_for}
+use Rattle.w16_arena.specs.NewPlace.{AreMoved, AreFreeBytes}
 use Rattle.w16_arena.specs.Growth.{but_for, may_grow, HasWay}
 use Rattle.w16_arena.proofs.Arranged.{free_fits, same_moved}
 use Rattle.w16_arena.proofs.ButFor.{behind_free, hole_clear}

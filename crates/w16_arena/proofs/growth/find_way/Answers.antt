@@ -1,10 +1,9 @@
-use Rattle.std.proofs.Common.{◌≡◌, ◌+◌, ◌<◌, ◌⊎◌, inr, rules, IfSome, refl, sym, ap, ◌∙◌, subst, arith}
+use Rattle.std.proofs.Common.{◌≡◌, ◌+◌, inr, IfSome, refl, sym, ◌∙◌, subst, arith}
 use Rattle.w16_model.specs.declared.Block.{Block}
 use Rattle.w16_model.specs.Gap.{block_end, hole_after, is_any, IsClear}
 use Rattle.w16_arena.proofs.ButFor.{free_but, own_below}
 use Rattle.w16_arena.proofs.Rooms.{hole_free}
 use Rattle.w16_arena.proofs.Ways.{way_here, enough_here, enough_hole, none_still, slid_enough, clear_bytes}
-use Rattle.w16_arena.proofs.growth.find_way.Given as Given
 use Rattle.w16_arena.proofs.growth.find_way.Goals as goal
 
 pub free_after-requires-clause-id : goal.free_after-requires-clause-id

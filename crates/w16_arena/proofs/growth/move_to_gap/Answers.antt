@@ -1,4 +1,4 @@
-use Rattle.std.proofs.Common.{◌≡◌, ◌+◌, ◌<◌, ◌≤◌, refl, arith}
+use Rattle.std.proofs.Common.{◌+◌, arith}
 use Rattle.w16_blocks.proofs.Ordered.{sum_fits}
 use Rattle.w16_compact.proofs.LeftOut.{may_with}
 use Rattle.w16_compact.proofs.Opened.{moved_most}

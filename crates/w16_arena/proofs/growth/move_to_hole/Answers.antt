@@ -1,6 +1,5 @@
-use Rattle.std.proofs.Common.{◌≡◌, ◌+◌, ◌==◌, ℕ, if◌then◌else◌, Some, refl, ap, ◌∙◌, arith}
+use Rattle.std.proofs.Common.{Some, refl, ap, ◌∙◌, arith}
 use Rattle.w16_blocks.specs.Layout.{Layout, all_but}
-use Rattle.w16_compact.specs.Gather.{moved_between}
 use Rattle.w16_compact.proofs.Gathering.{moved_same}
 use Rattle.w16_compact.proofs.LeftOut.{ordered_without}
 use Rattle.w16_arena.specs.Growth.{but_for}
