@@ -23,6 +23,14 @@ two_both R S T f [] (c ∷ cs) r s = absurd r
 two_both R S T f (b ∷ bs) [] r s = absurd r
 two_both R S T f (b ∷ bs) (c ∷ cs) r s = (f b c r.0 s.0, two_both R S T f bs cs r.1 s.1)
 
+pub two_then : (R S T : Block → Block → Type 0) → ((a b c : Block) → R a b → S b c → T a c) → (zs bs cs : List Block) → EachTwo R zs bs → EachTwo S bs cs → EachTwo T zs cs
+two_then R S T f [] [] [] r s = tt
+two_then R S T f [] [] (c ∷ cs) r s = absurd s
+two_then R S T f [] (b ∷ bs) cs r s = absurd r
+two_then R S T f (a ∷ zs) [] cs r s = absurd r
+two_then R S T f (a ∷ zs) (b ∷ bs) [] r s = absurd s
+two_then R S T f (a ∷ zs) (b ∷ bs) (c ∷ cs) r s = (f a b c r.0 s.0, two_then R S T f zs bs cs r.1 s.1)
+
 -- a block of the first list has one of the second
 pub two_member : (R : Block → Block → Type 0) (bs cs : List Block) → EachTwo R bs cs → (b : Block) → Member b bs → (c : Block) × Member c cs × R b c
 two_member R [] cs two b m = absurd m
