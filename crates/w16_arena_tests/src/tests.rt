@@ -3,6 +3,7 @@ ghost use Rattle.std.specs.Prelude.{◌≡◌, ◌<◌, ◌≤◌, length, IsTru
 ghost use Rattle.w16_model.specs.Heap.{IsMultiple};
 
 mod discards;
+mod growth;
 mod scripts;
 
 use std::alloc::{AllocError, Global};

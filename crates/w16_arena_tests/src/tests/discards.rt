@@ -108,7 +108,7 @@ fn room_of(answer: Answer) -> Option<u32> {
 }
 
 /// The blocks of an arena by address.
-fn blocks(
+pub(super) fn blocks(
     alloc: Global,
     arena: &Arena<SideHoles>,
     region: &Region,
@@ -125,7 +125,11 @@ fn blocks(
 }
 
 /// The heap of an arena, for the plain program.
-fn plain<'a>(arena: &Arena<SideHoles>, blocks: &'a [Block], order: &'a [u32]) -> Snapshot<'a> {
+pub(super) fn plain<'a>(
+    arena: &Arena<SideHoles>,
+    blocks: &'a [Block],
+    order: &'a [u32],
+) -> Snapshot<'a> {
     let bounds = arena.bounds();
     Snapshot {
         lo: bounds.from,
