@@ -223,8 +223,8 @@ fn grows(rt: &impl Abort, alloc: Global, growth: Growth) -> Result<(), AllocErro
     let order = in_order(alloc, &arena)?;
     let blocks = blocks(alloc, &arena, &region)?;
     let before = plain(&arena, &blocks, &order);
-    let eligible = before.eligible(alloc, Some(0))?;
     assert!(rt; before.is_placed(), "{name}");
+    let eligible = before.eligible(alloc, Some(0))?;
     let count = count_of(alloc, before, block, growth)?;
     assert_eq!(rt;
         count,
