@@ -1,44 +1,51 @@
 -- What is known of the local heap that DS names, and of the worlds that a local call leaves.
-use Rattle.std.proofs.Common.{◌≡◌, ◌≢◌, ℕ, ◌<◌, List, length, All, Option, Some, None, IfSome, IsSomeAnd, option_map, refl, sym, ap, ◌∙◌, subst, arith}
+use Rattle.std.proofs.Common.{◌≡◌, ◌≢◌, ℕ, ◌<◌, ◌≤◌, Bool, true, false, cond, nat_le, leb-true, List, length, All, Option, Some, None, IfSome, IsSomeAnd, option_map, refl, sym, ap, ◌∙◌, subst, arith}
 use Rattle.std.specs.FinMap as finmap
 use Rattle.w16_model.specs.Bytes.{put_part}
 use Rattle.w16_model.specs.Heap.{Heap, Object, IsHeap, object_at, bytes_at}
 use Rattle.w16_model.specs.Far.{after_write}
 use Rattle.w16_model.specs.Handles.{slot_of_selector}
 use Rattle.w16_model.specs.Table.{Table}
+use Rattle.std.proofs.lemmas.Bool.{le-leb}
 use Rattle.std.proofs.lemmas.List.{take_all}
 use Rattle.w16_model.proofs.Parts.{length-put_part, part-put_part}
 use Rattle.w16_model.proofs.Sound.{sound_law}
 use Rattle.w16_model.proofs.Heaps.{get-update_same, get-update_other}
 use Rattle.w16_model.proofs.KeptHeaps.{bytes_in, inserted_here}
-use Rattle.w16_machine.specs.Local.{LocalWorld, LocalHeap, LocalObject, IsLocalWorld, IsLocalIn, Becomes, Acts, segment_bytes, heap_of, local_in, chosen, object_named, id_named}
+use Rattle.w16_machine.specs.Local.{LocalWorld, LocalHeap, LocalObject, IsLocalWorld, IsLocalIn, Becomes, Acts, segment_bytes, heap_of, local_of, local_in, chosen, object_named, id_named}
 
--- A local heap is there: its table, and its segment's bytes.
+-- A local heap is there: its table, and its segment's bytes, which have its range.
 pub record IsThere (w : LocalWorld) (at : LocalHeap) : Type 0 where
   pub table : finmap.get w.tables at.slot ≡ Some at.table
   pub bytes : segment_bytes w at.slot ≡ Some at.bytes
+  pub inside : at.table.hi ≤ length at.bytes
 
 -- the one of a slot's table and bytes
 abbrev found : ℕ → Option Table → Option (List ℕ) → Option LocalHeap
-found slot t b = elim t [ None ↦ None | Some t ↦ option_map (λ bytes. record { slot = slot; table = t; bytes = bytes }) b ]
+found slot t b = elim t [ None ↦ None | Some t ↦ elim b [ None ↦ None | Some bytes ↦ local_of slot t bytes ] ]
 
 -- the one in a slot is there
 pub local_there : (w : LocalWorld) (slot : ℕ) (at : LocalHeap) → local_in w slot ≡ Some at → IsThere w at × (at.slot ≡ slot)
 local_there w slot at e = turn (finmap.get w.tables slot) refl (segment_bytes w slot) refl e
   where
+    inside : (t : Table) → finmap.get w.tables slot ≡ Some t → (bytes : List ℕ) → segment_bytes w slot ≡ Some bytes → (l : Bool) → nat_le t.hi (length bytes) ≡ l
+        → ◌≡◌ {A = Option LocalHeap} (cond l (Some (record { slot = slot; table = t; bytes = bytes })) None) (Some at) → IsThere w at × (at.slot ≡ slot)
+    inside t p bytes q false l e = cc
+    inside t p bytes q true l e =
+        let mine : LocalHeap = record { slot = slot; table = t; bytes = bytes } in
+        let same : mine ≡ at = cc in
+        subst (λ (h : LocalHeap). IsThere w h × (h.slot ≡ slot)) same (record { table = p; bytes = q; inside = leb-true t.hi (length bytes) l }, refl)
+
     turn : (t : Option Table) → finmap.get w.tables slot ≡ t → (b : Option (List ℕ)) → segment_bytes w slot ≡ b → found slot t b ≡ Some at → IsThere w at × (at.slot ≡ slot)
     turn None p b q e = cc
     turn (Some t) p None q e = cc
-    turn (Some t) p (Some bytes) q e =
-        let mine : LocalHeap = record { slot = slot; table = t; bytes = bytes } in
-        let same : mine ≡ at = cc in
-        subst (λ (h : LocalHeap). IsThere w h × (h.slot ≡ slot)) same (record { table = p; bytes = q }, refl)
+    turn (Some t) p (Some bytes) q e = inside t p bytes q (nat_le t.hi (length bytes)) refl e
 
 -- and what is there is the one in its slot
 pub there_local : (w : LocalWorld) (at : LocalHeap) → IsThere w at → local_in w at.slot ≡ Some at
 there_local w at is =
-    ap (λ (t : Option Table). found at.slot t (segment_bytes w at.slot)) is.table
-    ∙ ap (λ (b : Option (List ℕ)). found at.slot (Some at.table) b) is.bytes
+    ap (λ (t : Option Table). found at.slot t (segment_bytes w at.slot)) is.table ∙ ap (λ (b : Option (List ℕ)). found at.slot (Some at.table) b) is.bytes
+    ∙ ap (λ l. cond {A = Option LocalHeap} l (Some at) None) (le-leb at.table.hi (length at.bytes) is.inside)
 
 -- the chosen one is there
 pub chosen_there : (w : LocalWorld) (at : LocalHeap) → chosen w ≡ Some at → IsThere w at
@@ -109,6 +116,7 @@ acted_there old new at P there a =
     record {
       table = ap (λ (w : LocalWorld). finmap.get w.tables at.slot) a.rest ∙ inserted_here old.tables at.slot a.table at.slot refl;
       bytes = ap (λ (w : LocalWorld). segment_bytes w at.slot) a.rest ∙ ap bytes_in (segment_after old.world.handles.heap at.slot o.0 o.1 at.bytes o.2 a.bytes a.long);
+      inside = omega (arith, a.range.1, a.long, there.inside);
     }
 
 -- and after it became another with the same bytes
@@ -116,4 +124,5 @@ pub became_there : (old new : LocalWorld) (at : LocalHeap) (next : Heap) → IsT
 became_there old new at next there b = record {
   table = ap (λ (w : LocalWorld). finmap.get w.tables at.slot) b.rest ∙ inserted_here old.tables at.slot b.table at.slot refl;
   bytes = ap (λ (w : LocalWorld). segment_bytes w at.slot) b.rest ∙ there.bytes;
+  inside = omega (arith, b.range.1, there.inside);
 }

@@ -46,11 +46,15 @@ pub record LocalHeap : Type 0 where
 abbrev pub heap_of : LocalHeap → Heap
 heap_of at = heap_in at.table at.bytes
 
+-- that of a table in these bytes of its segment, if they have its range
+abbrev pub local_of : ℕ → Table → List ℕ → Option LocalHeap
+local_of slot t bytes = if nat_le t.hi (length bytes) then Some (record { slot = slot; table = t; bytes = bytes }) else None
+
 -- the local heap in a slot's object, if there is one
 abbrev pub local_in : LocalWorld → ℕ → Option LocalHeap
 local_in w slot = elim (finmap.get w.tables slot) [
   | None ↦ None
-  | Some t ↦ option_map (λ bytes. record { slot = slot; table = t; bytes = bytes }) (segment_bytes w slot)
+  | Some t ↦ elim (segment_bytes w slot) [ None ↦ None | Some bytes ↦ local_of slot t bytes ]
 ]
 
 -- the one that DS names; it is looked up at each call
