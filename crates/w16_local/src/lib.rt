@@ -3,7 +3,7 @@
 //! A heap's bytes are its segment's, so a call that needs them takes the global heap beside this value.
 #![tactic(auto)]
 
-ghost use Rattle.std.specs.Prelude.{◌≡◌, ◌≤◌, option_map, None, Some, IfOk, IfSome, IfNone};
+ghost use Rattle.std.specs.Prelude.{◌≡◌, ◌≤◌, ◌/◌, option_map, None, Some, IfOk, IfSome, IfNone};
 ghost use Rattle.std.specs.FinMap as finmap;
 ghost use Rattle.w16_model.specs.Table.{Table};
 ghost use Rattle.w16_machine.specs.Local.{IsLocalTable};
@@ -12,6 +12,7 @@ use std::alloc::{AllocError, Global};
 use std::marker::Model;
 use w16_arena::Arena;
 use w16_holes::SideHoles;
+use w16_model::names::slot_of;
 use w16_model::{FIRST_SLOT, MOST_SLOTS};
 
 /// The local heaps in the objects of a global heap. Its value is their tables, by slot.
@@ -50,22 +51,29 @@ impl LocalHeaps {
         Ok(LocalHeaps { heaps })
     }
 
-    /// Takes a slot's heap away, if it has one. No byte changes.
-    pub fn drop_heap(&mut self, slot: u16)
+    /// Takes the heap in a handle's object away, if it has one. No byte changes.
+    pub fn drop_heap(&mut self, handle: u16)
+        ensures { self.new ≡ finmap.remove self.old (handle / 8) }
+    {
+        self.drop_slot(slot_of(handle));
+    }
+
+    /// Where the heap in a handle's object ends, if it has one.
+    pub fn heap_end(&self, handle: u16) -> Option<u32>
+        ensures { result ≡ option_map (λ (t : Table). t.hi) (finmap.get self.now (handle / 8)) }
+    {
+        let heap = self.heap_of(slot_of(handle))?;
+        Some(heap.bounds().to)
+    }
+
+    /// Takes a slot's heap away, if it has one.
+    fn drop_slot(&mut self, slot: u16)
         ensures { self.new ≡ finmap.remove self.old slot }
     {
         if slot as usize >= self.heaps.len() {
             return;
         }
         let _gone = self.heaps[slot as usize].take();
-    }
-
-    /// Where a slot's heap ends in its segment, if it has one.
-    pub fn heap_end(&self, slot: u16) -> Option<u32>
-        ensures { result ≡ option_map (λ (t : Table). t.hi) (finmap.get self.now slot) }
-    {
-        let heap = self.heap_of(slot)?;
-        Some(heap.bounds().to)
     }
 
     /// A slot's heap, if it has one.

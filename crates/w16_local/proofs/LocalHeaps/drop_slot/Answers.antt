@@ -3,7 +3,7 @@ use Rattle.std.specs.FinMap as finmap
 use Rattle.w16_arena.specs.State.{ArenaState}
 use Rattle.w16_local.specs.Kept.{tables_of}
 use Rattle.w16_local.proofs.Locals.{none_past, remove_nothing, tables_unset}
-use Rattle.w16_local.proofs.LocalHeaps.drop_heap.Goals as goal
+use Rattle.w16_local.proofs.LocalHeaps.drop_slot.Goals as goal
 
 pub returns-then-slot-len : goal.returns-then-slot-len
 returns-then-slot-len c = sym (remove_nothing c.args.self.now c.args.slot (ap (λ m. finmap.get m c.args.slot) (sym c.self.view_is) ∙ none_past c.self.inside.heaps.items c.args.slot (let e = c.if-slot-len.true in omega (arith, e, c.self.inside.heaps.ok.0))))
