@@ -25,21 +25,12 @@ tables_at xs slot = get-by_id (λ _ (h : ArenaState). h.table) xs slot
 pub no_tables : (xs : List (Option ArenaState)) → ((q : ℕ) → get_or xs q None ≡ None) → tables_of xs ≡ finmap.empty
 no_tables xs none = same_map nat_cmp_total nat_cmp-IsAntisymmetric (tables_of xs) finmap.empty (λ q. tables_at xs q ∙ ap (option_map table_of) (none q) ∙ sym (get-empty nat_cmp q))
 
-pub no_heaps : (xs : List (Option ArenaState)) → ((q : ℕ) → get_or xs q None ≡ None) → AreKept xs
-no_heaps xs none = λ q. subst (λ p. IfSome p (λ (h : ArenaState). IsLocalTable h.table)) (sym (none q)) tt
-
 -- a slot loses its own
 pub tables_unset : (xs : List (Option ArenaState)) (slot : ℕ) → slot < length xs → tables_of (set xs slot None) ≡ finmap.remove (tables_of xs) slot
 tables_unset xs slot lt = same_map nat_cmp_total nat_cmp-IsAntisymmetric (tables_of (set xs slot None)) (finmap.remove (tables_of xs) slot) (λ q. elim (cases_eq q slot) [
   | inl e ↦ tables_at (set xs slot None) q ∙ ap (λ k. option_map table_of (get_or (set xs slot None) k None)) e ∙ ap (option_map table_of) (get_or-set_same xs slot None None lt) ∙ sym (taken_here (tables_of xs) slot q e)
   | inr d ↦ tables_at (set xs slot None) q ∙ ap (option_map table_of) (get_or-set_other xs slot q None None d) ∙ sym (tables_at xs q) ∙ sym (taken_other (tables_of xs) slot q d)
 ])
-
-pub kept_unset : (xs : List (Option ArenaState)) (slot : ℕ) → slot < length xs → AreKept xs → AreKept (set xs slot None)
-kept_unset xs slot lt kept = λ q. elim (cases_eq q slot) [
-  | inl e ↦ subst (λ p. IfSome p (λ (h : ArenaState). IsLocalTable h.table)) (sym (ap (λ k. get_or (set xs slot None) k None) e ∙ get_or-set_same xs slot None None lt)) tt
-  | inr d ↦ subst (λ p. IfSome p (λ (h : ArenaState). IsLocalTable h.table)) (sym (get_or-set_other xs slot q None None d)) (kept q)
-]
 
 -- nothing is taken where there is none
 pub remove_nothing : (m : FinMap nat_cmp Table) (k : ℕ) → finmap.get m k ≡ None → finmap.remove m k ≡ m
