@@ -1,13 +1,11 @@
 //! Numbers of discards, as in the plain program.
 
-use super::{AS_IT_STANDS, Answer, DISCARDING, SLIDING, Step, act, in_order, made};
+use super::bench::{Answer, Bench, Step};
+use super::{AS_IT_STANDS, DISCARDING, SLIDING};
 use std::alloc::{AllocError, Global};
 use std::process::Abort;
 use std::test::Fail;
-use w16_arena::Arena;
-use w16_holes::SideHoles;
 use w16_model::{Block, Kind, Snapshot, Way};
-use w16_region::Region;
 
 /// A heap that some calls leave, and requests there with how many discards they make, if they are answered.
 #[derive(Clone, Copy)]
@@ -107,31 +105,59 @@ fn room_of(answer: Answer) -> Option<u32> {
     }
 }
 
-/// The blocks of an arena by address.
-fn blocks(
-    alloc: Global,
-    arena: &Arena<SideHoles>,
-    region: &Region,
-) -> Result<Vec<Block>, AllocError> {
-    let mut blocks = Vec::new(alloc);
-    let mut from = 0;
-    for _ in 0..arena.cap() {
-        if let Some(block) = arena.next_block(region, from) {
-            blocks.push(block)?;
-            from = block.at.saturating_add(1);
-        }
-    }
-    Ok(blocks)
+/// A heap as it stands, for the plain program.
+#[derive(Drop)]
+struct Plain {
+    blocks: Vec<Block>,
+    order: Vec<u32>,
 }
 
-/// The heap of an arena, for the plain program.
-fn plain<'a>(arena: &Arena<SideHoles>, blocks: &'a [Block], order: &'a [u32]) -> Snapshot<'a> {
-    let bounds = arena.bounds();
-    Snapshot {
-        lo: bounds.from,
-        hi: bounds.to,
-        blocks,
-        order,
+impl Plain {
+    fn of(alloc: Global, bench: &Bench) -> Result<Plain, AllocError> {
+        let blocks = bench.blocks(alloc)?;
+        let order = bench.order(alloc)?;
+        Ok(Plain { blocks, order })
+    }
+
+    fn snapshot(&self) -> Snapshot<'_> {
+        Snapshot {
+            lo: 0,
+            hi: 256,
+            blocks: &self.blocks,
+            order: &self.order,
+        }
+    }
+
+    /// Those that a request may discard, the least recently used first.
+    fn eligible(&self, alloc: Global, about: Option<u32>) -> Result<Vec<u32>, AllocError> {
+        self.snapshot().eligible(alloc, about)
+    }
+
+    /// How many a request for so many bytes for an id discards, if it is answered.
+    fn prefix(
+        &self,
+        rt: &impl Abort,
+        alloc: Global,
+        asked: (u32, u32, Way),
+    ) -> Result<Option<usize>, AllocError> {
+        let (id, size, way) = asked;
+        let snapshot = self.snapshot();
+        assert!(rt; snapshot.is_placed());
+        snapshot.prefix(alloc, size, Some(id), way)
+    }
+
+    /// How many discards so many bytes need.
+    fn needed(&self, rt: &impl Abort, alloc: Global, n: u32) -> Result<Option<usize>, AllocError> {
+        let snapshot = self.snapshot();
+        assert!(rt; snapshot.is_placed());
+        snapshot.needed(alloc, n, None)
+    }
+
+    /// The longest hole that there could be with so many discards.
+    fn room_for(&self, rt: &impl Abort, alloc: Global, count: usize) -> Result<u32, AllocError> {
+        let snapshot = self.snapshot();
+        assert!(rt; snapshot.is_placed());
+        snapshot.room_for(alloc, count, None)
     }
 }
 
@@ -145,58 +171,51 @@ fn asks(
 ) -> Result<(), AllocError> {
     let Heap { name, steps, .. } = heap;
     let (id, size, count) = asked;
-    let (mut arena, mut region) = made(rt, alloc, steps)?;
-    let order = in_order(alloc, &arena)?;
-    let blocks = blocks(alloc, &arena, &region)?;
-    let before = plain(&arena, &blocks, &order);
-    assert!(rt; before.is_placed(), "{name}");
-    let expected = before.prefix(alloc, size, Some(id), way)?;
+    let mut bench = Bench::with(rt, alloc, steps)?;
+    let before = Plain::of(alloc, &bench)?;
+    let expected = before.prefix(rt, alloc, (id, size, way))?;
     if way.discard {
         assert_eq!(rt; expected, count, "{name}: {size} by the plain program");
     }
     let eligible = before.eligible(alloc, Some(id))?;
-    let step = Step::Alloc(id, size, Kind::Discardable, way);
-    let answer = act(rt, &mut arena, &mut region, step);
+    let answer = bench.act(rt, Step::Alloc(id, size, Kind::Discardable, way));
     let first = expected.unwrap_or(0).min(eligible.len());
-    assert_eq!(rt; arena.discarded(), &eligible[..first], "{name}: {size}");
-    assert_eq!(rt;
-        answer == Answer::NoRoom,
-        expected.is_none(),
-        "{name}: {size}"
-    );
+    assert!(rt; bench.has_discarded(&eligible[..first]), "{name}: {size}");
+    assert_eq!(rt; answer == Answer::NoRoom, expected.is_none(), "{name}: {size}");
     Ok(())
 }
 
 /// Makes room for so many bytes in a heap. It discards as many as the plain program says, and answers the room there is then.
 fn compacts(rt: &impl Abort, alloc: Global, heap: Heap, n: u32) -> Result<(), AllocError> {
     let Heap { name, steps, .. } = heap;
-    let (mut arena, mut region) = made(rt, alloc, steps)?;
-    let order = in_order(alloc, &arena)?;
-    let blocks = blocks(alloc, &arena, &region)?;
-    let before = plain(&arena, &blocks, &order);
-    assert!(rt; before.is_placed(), "{name}");
+    let mut bench = Bench::with(rt, alloc, steps)?;
+    let before = Plain::of(alloc, &bench)?;
     let eligible = before.eligible(alloc, None)?;
     let all = eligible.len();
-    let needed = before.needed(alloc, n, None)?;
-    let first = needed.unwrap_or(all).min(all);
-    let room = before.room_for(alloc, first, None)?;
-    let most = before.room_for(alloc, all, None)?;
-    let answer = act(rt, &mut arena, &mut region, Step::RoomAll);
-    assert_eq!(rt; answer, Answer::Room(most), "{name}");
-    let answer = act(rt, &mut arena, &mut region, Step::Compact(n));
-    assert_eq!(rt; arena.discarded(), &eligible[..first], "{name}: {n}");
+    let first = before.needed(rt, alloc, n)?.unwrap_or(all).min(all);
+    let room = before.room_for(rt, alloc, first)?;
+    let most = before.room_for(rt, alloc, all)?;
+    assert_eq!(rt; bench.act(rt, Step::RoomAll), Answer::Room(most), "{name}");
+    let answer = bench.act(rt, Step::Compact(n));
+    assert!(rt; bench.has_discarded(&eligible[..first]), "{name}: {n}");
     assert_eq!(rt; room_of(answer), Some(room), "{name}: {n}");
+    Ok(())
+}
+
+/// Makes each request of a heap in each way.
+fn asks_all(rt: &impl Abort, alloc: Global, heap: Heap) -> Result<(), AllocError> {
+    for asked in heap.asked {
+        asks(rt, alloc, heap, *asked, AS_IT_STANDS)?;
+        asks(rt, alloc, heap, *asked, SLIDING)?;
+        asks(rt, alloc, heap, *asked, DISCARDING)?;
+    }
     Ok(())
 }
 
 #[test]
 fn discards_as_few_as_are_needed(rt: HostRuntime) -> Result<(), Fail> {
     for heap in HEAPS {
-        for asked in heap.asked {
-            asks(&rt, rt.alloc(), *heap, *asked, AS_IT_STANDS)?;
-            asks(&rt, rt.alloc(), *heap, *asked, SLIDING)?;
-            asks(&rt, rt.alloc(), *heap, *asked, DISCARDING)?;
-        }
+        asks_all(&rt, rt.alloc(), *heap)?;
     }
     Ok(())
 }
