@@ -2,7 +2,7 @@
 ghost use Rattle.std.specs.Prelude.{◌≡◌, ◌<◌, ◌||◌, Ok, Err, IfErr, OnOk};
 ghost use Rattle.w16_model.specs.Heap.{is_fixed};
 ghost use Rattle.w16_model.specs.OneObject.{after_modify};
-ghost use Rattle.w16_arena.specs.State.{Steps, relisted};
+ghost use Rattle.w16_arena.specs.State.{Steps, holes_in, relisted};
 
 use crate::Arena;
 use crate::objects::{is_discardable, is_fixed};
@@ -17,6 +17,7 @@ impl<H: HoleList> Arena<H> {
     pub fn modify(&mut self, id: u32, kind: Kind) -> Result<(), Refusal>
         ensures ok { OnOk result (Steps self.old self.new (λ old new. after_modify old id kind ≡ Ok new)) }
         ensures err { IfErr result (λ r. (self.new ≡ self.old) × Steps self.old self.new (λ old new. after_modify old id kind ≡ Err r)) }
+        ensures holes { holes_in self.new.table ≡ holes_in self.old.table }
     {
         let Some(entry) = self.entry(id) else {
             return Err(Refusal::Absent);

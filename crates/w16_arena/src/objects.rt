@@ -20,7 +20,8 @@ impl<H: HoleList> Arena<H> {
     pub fn enter(&mut self, id: u32, kind: Kind)
         requires id { id < length self.old.table.entries }
         requires free { entry_at self.old.table id ≡ None }
-        ensures { Steps self.old self.new (λ old new. Enters old id kind new) }
+        ensures steps { Steps self.old self.new (λ old new. Enters old id kind new) }
+        ensures holes { holes_in self.new.table ≡ holes_in self.old.table }
     {
         self.entries[id as usize] = Some(Entry { kind, locks: 0 });
     }
@@ -68,6 +69,7 @@ impl<H: HoleList> Arena<H> {
     pub fn lock(&mut self, id: u32) -> Result<(), Refusal>
         ensures ok { OnOk result (Steps self.old self.new (λ old new. after_lock old id ≡ Ok new)) }
         ensures err { IfErr result (λ r. (self.new ≡ self.old) × Steps self.old self.new (λ old new. after_lock old id ≡ Err r)) }
+        ensures holes { holes_in self.new.table ≡ holes_in self.old.table }
     {
         if self.block(id).is_none() {
             return Err(Refusal::Absent);
@@ -90,6 +92,7 @@ impl<H: HoleList> Arena<H> {
     pub fn unlock(&mut self, id: u32) -> Result<(), Refusal>
         ensures ok { OnOk result (Steps self.old self.new (λ old new. after_unlock old id ≡ Ok new)) }
         ensures err { IfErr result (λ r. (self.new ≡ self.old) × Steps self.old self.new (λ old new. after_unlock old id ≡ Err r)) }
+        ensures holes { holes_in self.new.table ≡ holes_in self.old.table }
     {
         let Some(entry) = self.entry(id) else {
             return Ok(());
@@ -128,7 +131,8 @@ impl<H: HoleList> Arena<H> {
 
     /// An object was used: a discardable one with bytes becomes the newest, any other is as it was.
     pub fn touch(&mut self, id: u32)
-        ensures { Steps self.old self.new (λ old new. new ≡ after_touch old id) }
+        ensures steps { Steps self.old self.new (λ old new. new ≡ after_touch old id) }
+        ensures holes { holes_in self.new.table ≡ holes_in self.old.table }
     {
         if self.is_listed(id) {
             self.order.newest(id);
@@ -150,6 +154,7 @@ impl<H: HoleList> Arena<H> {
     pub fn to_newest(&mut self, id: u32) -> Result<(), Refusal>
         ensures ok { OnOk result (Steps self.old self.new (λ old new. after_newest old id ≡ Ok new)) }
         ensures err { IfErr result (λ r. (self.new ≡ self.old) × Steps self.old self.new (λ old new. after_newest old id ≡ Err r)) }
+        ensures holes { holes_in self.new.table ≡ holes_in self.old.table }
     {
         self.to_end(id, End::Newest)
     }
@@ -158,6 +163,7 @@ impl<H: HoleList> Arena<H> {
     pub fn to_oldest(&mut self, id: u32) -> Result<(), Refusal>
         ensures ok { OnOk result (Steps self.old self.new (λ old new. after_oldest old id ≡ Ok new)) }
         ensures err { IfErr result (λ r. (self.new ≡ self.old) × Steps self.old self.new (λ old new. after_oldest old id ≡ Err r)) }
+        ensures holes { holes_in self.new.table ≡ holes_in self.old.table }
     {
         self.to_end(id, End::Oldest)
     }
@@ -166,6 +172,7 @@ impl<H: HoleList> Arena<H> {
     fn to_end(&mut self, id: u32, end: End) -> Result<(), Refusal>
         ensures ok { OnOk result (Steps self.old self.new (λ old new. after_end end old id ≡ Ok new)) }
         ensures err { IfErr result (λ r. (self.new ≡ self.old) × Steps self.old self.new (λ old new. after_end end old id ≡ Err r)) }
+        ensures holes { holes_in self.new.table ≡ holes_in self.old.table }
     {
         self.check_in_order(id)?;
         self.order.to_end(id, end);
@@ -176,7 +183,8 @@ impl<H: HoleList> Arena<H> {
     fn set_locks(&mut self, id: u32, kind: Kind, locks: u8)
         requires kind { IsSomeAnd (entry_at self.old.table id) (λ e. e.kind ≡ kind) }
         requires counted { IsCountedBy (block_with self.old.table.blocks id) (record { kind = kind; locks = locks }) }
-        ensures { Steps self.old self.new (λ old new. IfSome (object_at old id) (λ o. new ≡ changes.with_object old id (record o { locks = locks }))) }
+        ensures steps { Steps self.old self.new (λ old new. IfSome (object_at old id) (λ o. new ≡ changes.with_object old id (record o { locks = locks }))) }
+        ensures holes { holes_in self.new.table ≡ holes_in self.old.table }
     {
         let entry = Entry { kind, locks };
         set_hold(&mut self.blocks, id, hold(entry));
@@ -243,6 +251,7 @@ fn set_hold<H: HoleList>(blocks: &mut Blocks<H>, id: u32, hold: Hold)
     ensures none { IfNone (block_with blocks.old.blocks id) (blocks.new ≡ blocks.old) }
     ensures some { IfSome (block_with blocks.old.blocks id) (λ b. blocks.new ≡ record blocks.old { blocks = replaced (record b { hold = hold }) blocks.old.blocks }) }
     ensures ordered { IsOrdered blocks.new }
+    ensures holes { holes_of blocks.new ≡ holes_of blocks.old }
 {
     if blocks.find(id).is_some() {
         blocks.set_hold(id, hold);

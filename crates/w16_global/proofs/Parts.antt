@@ -1,5 +1,5 @@
 -- The objects' arena and memory, and the heap that they stand for.
-use Rattle.std.proofs.Common.{◌≡◌, ℕ, ◌+◌, ◌^◌, ◌<◌, ◌≤◌, ◌⊎◌, IfSome, IfNone, All, List, length, Option, Some, None, Result, Ok, Err, OnOk, IfErr, option_map, refl, sym, ap, ◌∙◌, subst, arith}
+use Rattle.std.proofs.Common.{◌≡◌, ℕ, ◌+◌, ◌^◌, ◌<◌, ◌≤◌, ◌⊎◌, IfSome, IfNone, List, length, Option, Some, None, Result, Ok, Err, OnOk, IfErr, option_map, refl, sym, ap, ◌∙◌, subst, arith}
 use Rattle.std.specs.FinMap as finmap
 use Rattle.w16_model.specs.declared.Block.{Block}
 use Rattle.w16_model.specs.declared.Kind.{Kind}
@@ -10,30 +10,15 @@ use Rattle.w16_model.specs.declared.Refusal.{Refusal}
 use Rattle.w16_model.specs.OneObject.{Enters, after_free}
 use Rattle.w16_compact.specs.Gather.{contents}
 use Rattle.w16_model.specs.Changes.{with_object}
-use Rattle.w16_arena.specs.State.{ArenaState, Steps, IsSameRange, entry_of}
+use Rattle.w16_arena.specs.State.{ArenaState, Steps, entry_of}
 use Rattle.w16_arena.proofs.Keeping.{heap_kept}
 use Rattle.w16_arena.proofs.Lookups.{is_heap, entry_is, size_here, place_here, ends_in_memory, no_entry, no_block}
 use Rattle.w16_global.specs.Parts.{AreParts, Holding, holding_of}
 use Rattle.w16_global.proofs.Written.{beside}
 
--- another table over the same range, and a memory as long
-pub parts_after : {s : ArenaState} {memory : List ℕ} → AreParts s memory → {new : ArenaState} {after : List ℕ} → IsSameRange s.table new.table → length after ≡ length memory → All (λ b. b < 256) after → AreParts new after
-parts_after parts range long bytes = record {
-  sound = range.sound;
-  low = range.lo ∙ parts.low;
-  grain = range.grain ∙ parts.grain;
-  high = range.hi ∙ parts.high ∙ sym long;
-  bytes = bytes;
-  few = let n = range.ids in let few = parts.few in omega arith;
-}
-
 module _ {s : ArenaState} {memory : List ℕ} (parts : AreParts s memory) where
   pub whole : s.table.hi ≤ length memory
   whole = let e = parts.high in omega arith
-
-  -- a step that asks for no room
-  pub parts_stepped : {new : ArenaState} {step : Heap → Heap → Type 0} → Steps s new step → AreParts new memory
-  parts_stepped p = parts_after parts p.range refl parts.bytes
 
   module _ {count : ℕ} {h : Holding} (shown : holding_of s memory count ≡ h) where
     -- what the parts have, the value has, and the other way round

@@ -1,5 +1,5 @@
 //! The global heap's state, and the steps that its calls are made of.
-ghost use Rattle.std.specs.Prelude.{◌≡◌, ◌≤◌, ◌<◌, IfOk, IfErr, OnOk, IsSome, Ok, Err, if◌then◌else◌};
+ghost use Rattle.std.specs.Prelude.{◌≡◌, ◌%◌, ◌≤◌, ◌<◌, IfOk, IfErr, OnOk, IsSome, Ok, Err, if◌then◌else◌};
 ghost use Rattle.std.specs.FinMap as finmap;
 ghost use Rattle.w16_model.specs.Heap.{Heap, object_at, IsMultiple};
 ghost use Rattle.w16_model.specs.Changes.{removed};
@@ -44,7 +44,8 @@ impl Global16 {
     /// A heap over `memory` bytes, a multiple of 32, with so many selectors, at most 8,160, in which nothing is allocated. It takes all its
     /// memory here; an error is that there was none.
     pub fn new(alloc: Global, memory: u32, slots: u32) -> Result<Global16, AllocError>
-        requires { slots ≤ MOST_SLOTS }
+        requires grained { memory % GRAIN ≡ 0 }
+        requires few { slots ≤ MOST_SLOTS }
         ensures { IfOk result (λ made. made ≡ record { handles = empty_handles memory slots; written = 0 }) }
     {
         let cap = FIRST_SLOT + slots;

@@ -1,5 +1,5 @@
 //! The objects of the global heap: an arena over memory of its own.
-ghost use Rattle.std.specs.Prelude.{◌≡◌, ◌≢◌, ◌+◌, ◌-◌, ◌^◌, ◌<◌, ◌≤◌, ◌⊎◌, ℕ, [], Ok, Err, None, Some, length, IfOk, IfErr, OnOk, IfSome, IfNone, IsSomeAnd, option_map, unwrap_or, is_some, take, if◌then◌else◌};
+ghost use Rattle.std.specs.Prelude.{◌≡◌, ◌≢◌, ◌+◌, ◌-◌, ◌%◌, ◌^◌, ◌<◌, ◌≤◌, ◌⊎◌, ℕ, [], Ok, Err, None, Some, length, IfOk, IfErr, OnOk, IfSome, IfNone, IsSomeAnd, option_map, unwrap_or, is_some, take, if◌then◌else◌};
 ghost use Rattle.std.specs.FinMap as finmap;
 ghost use Rattle.w16_model.specs.Heap.{IsHeap, object_at, bytes_at, empty_heap, IsMultiple};
 ghost use Rattle.w16_model.specs.Changes.{with_object};
@@ -16,14 +16,14 @@ ghost use Rattle.w16_global.specs.Parts.{HasPart};
 use std::alloc::{AllocError, Global};
 use std::marker::Model;
 use w16_arena::{Arena, Compacted, Placed};
-use w16_holes::SideHoles;
+use w16_holes::ThreadedHoles;
 use w16_model::{Block, Entry, GRAIN, Item, Kind, Refusal, Way};
 use w16_region::{Region, Space, has_bytes};
 
-/// The objects of the global heap: where they are, and their bytes.
+/// The objects of the global heap: where they are, and their bytes. Its holes are kept in the free bytes.
 #[derive(Drop)]
 pub(crate) struct Objects {
-    arena: Arena<SideHoles>,
+    arena: Arena<ThreadedHoles>,
     memory: Region,
 }
 
@@ -40,14 +40,16 @@ impl Model for Objects {
 }
 
 impl Objects {
-    /// No object yet, ids below `cap`, and so many bytes of memory.
-    pub fn new(alloc: Global, cap: u32, memory: u32) -> Result<Objects, AllocError>
-        requires { cap ≤ 8192 }
-        ensures { IfOk result (λ made. made ≡ record { cap = cap; heap = empty_heap 0 memory GRAIN; discarded = []; written = 0 }) }
+    /// No object yet, ids below `cap`, and so many bytes of memory, a multiple of the grain.
+    pub fn new(alloc: Global, cap: u32, size: u32) -> Result<Objects, AllocError>
+        requires few { cap ≤ 8192 }
+        requires grained { size % GRAIN ≡ 0 }
+        ensures { IfOk result (λ made. made ≡ record { cap = cap; heap = empty_heap 0 size GRAIN; discarded = []; written = 0 }) }
     {
-        let holes = SideHoles::new(alloc, 0, memory, GRAIN)?;
-        let arena = Arena::new(alloc, cap, holes, 0, memory, GRAIN)?;
-        let memory = Region::new(alloc, memory)?;
+        let mut memory = Region::new(alloc, size)?;
+        let holes = ThreadedHoles::new(alloc, &mut memory, 0, size, GRAIN)?;
+        let arena = Arena::new(alloc, cap, holes, 0, size, GRAIN)?;
+        has_bytes(&memory);
         Ok(Objects { arena, memory })
     }
 

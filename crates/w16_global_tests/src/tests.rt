@@ -156,6 +156,7 @@ fn plays(rt: &impl Abort, alloc: Global, script: Script) -> Result<(), AllocErro
         memory,
         lines,
     } = script;
+    assert_eq!(rt; memory % 32, 0, "{name}: memory");
     let mut heap = Global16::new(alloc, memory, 16)?;
     for line in lines {
         let (call, answer) = *line;

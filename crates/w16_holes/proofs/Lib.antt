@@ -1,4 +1,5 @@
 pub mod Units
+pub mod Below
 pub mod Change
 pub mod Told
 pub mod Look

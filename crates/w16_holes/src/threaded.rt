@@ -2,7 +2,7 @@
 ghost use Rattle.std.specs.Prelude.{◌≡◌, ◌+◌, ◌-◌, ◌<◌, ◌≤◌, [], length, IfOk, IfErr, IfSome};
 ghost use Rattle.w16_model.specs.Heap.{IsMultiple};
 ghost use Rattle.w16_model.specs.Table.{IsSameOutside};
-ghost use Rattle.w16_holes.specs.Holes.{AreHoles, IsPlace, last_before, add_span};
+ghost use Rattle.w16_holes.specs.Holes.{AreHoles, IsFree, IsPart, IsPlace, last_before, length_to, add_span};
 ghost use Rattle.w16_holes.specs.Thread.{AreThreaded, first_of, next_above, put_words, put_hole, put_link, threaded_stay};
 
 use crate::{HoleList, Holes, SideHoles};
@@ -40,34 +40,64 @@ fn set_hole(space: &mut Region, from: u32, to: u32, next: u32) -> u32
     next
 }
 
-/// Links the last hole that begins below a place, if there is one, to another.
-fn link_below(side: &SideHoles, space: &mut Region, place: u32, next: u32)
-    requires place { IsPlace side.now.range place }
-    requires room { IfSome (last_before place side.now.holes) (λ at. at + 8 ≤ length space.old.bytes.items) }
-    ensures bytes { space.new.bytes.items ≡ put_link space.old.bytes.items (last_before place side.now.holes) next }
+/// Links a hole, if there is one, to another.
+fn link(space: &mut Region, hole: Option<u32>, next: u32)
+    requires { IfSome hole (λ at. at + 8 ≤ length space.old.bytes.items) }
+    ensures bytes { space.new.bytes.items ≡ put_link space.old.bytes.items hole next }
     ensures length { length space.new.bytes.items ≡ length space.old.bytes.items }
     ensures written { space.new.written ≡ space.old.written }
 {
-    if let Some(begin) = side.below(place) {
+    if let Some(begin) = hole {
         space.set_word(begin + 4, next);
     }
 }
 
-/// Where the first hole begins that begins above a place, `NO_HOLE` where none does.
-fn next_above(side: &SideHoles, space: &Region, place: u32) -> u32
+/// Where the first hole begins that begins above a place, `NO_HOLE` where none does, by the last
+/// one that begins below it.
+fn next_above(side: &SideHoles, space: &Region, place: u32, below: Option<u32>) -> u32
     requires place { IsPlace side.now.range place }
+    requires below { below ≡ last_before place side.now.holes }
+    requires ordered { AreHoles side.now.range.lo side.now.range.hi side.now.holes }
     requires kept { AreThreaded side.now.holes space.now.bytes.items }
-    ensures value { result ≡ next_above place side.now.holes }
-    ensures ordered { AreHoles side.now.range.lo side.now.range.hi side.now.holes }
+    ensures { result ≡ next_above place side.now.holes }
 {
-    let last = side.below(place);
     if side.at(space, place) > 0 {
         return space.word_at(place + 4);
     }
-    match last {
+    match below {
         Some(begin) => space.word_at(begin + 4),
         None => side.lowest(space, 0).unwrap_or(NO_HOLE),
     }
+}
+
+/// The length of the hole that ends at a place, 0 where none does, by the last one that begins
+/// below it.
+fn ending_at(side: &SideHoles, space: &Region, place: u32, below: Option<u32>) -> u32
+    requires below { below ≡ last_before place side.now.holes }
+    requires ordered { AreHoles side.now.range.lo side.now.range.hi side.now.holes }
+    requires kept { AreThreaded side.now.holes space.now.bytes.items }
+    ensures { result ≡ length_to place side.now.holes }
+{
+    if let Some(begin) = below {
+        if begin + space.word_at(begin) == place {
+            return place - begin;
+        }
+    }
+    0
+}
+
+/// Where the hole begins that has a part, by the last one that begins below it.
+fn hole_of(side: &SideHoles, space: &Region, place: u32, n: u32, below: Option<u32>) -> Option<u32>
+    requires part { IsPart side.now.range place n }
+    requires free { IsFree place (place + n) side.now.holes }
+    requires below { below ≡ last_before place side.now.holes }
+    requires ordered { AreHoles side.now.range.lo side.now.range.hi side.now.holes }
+    ensures { result ≡ last_before (place + n) side.now.holes }
+{
+    if side.at(space, place) > 0 {
+        return Some(place);
+    }
+    below
 }
 
 /// Holes in the memory itself, as a thread through the free bytes: each hole has its size as a
@@ -151,11 +181,12 @@ impl Holes<Region> for ThreadedHoles {
     }
 
     fn take(&mut self, space: &mut Region, place: u32, n: u32) {
-        if let Some(begin) = self.side.below(place + n) {
+        let below = self.side.below(place);
+        if let Some(begin) = hole_of(&self.side, space, place, n, below) {
             let end = begin + space.word_at(begin);
             let next = space.word_at(begin + 4);
             let behind = set_hole(space, place + n, end, next);
-            link_below(&self.side, space, place, behind);
+            link(space, below, behind);
             // Where nothing stays free before the part, these four bytes are the part's own.
             space.set_word(begin, place - begin);
             self.side.take_out(place, n);
@@ -163,11 +194,12 @@ impl Holes<Region> for ThreadedHoles {
     }
 
     fn put(&mut self, space: &mut Region, place: u32, n: u32) {
-        let next = next_above(&self.side, space, place + n);
+        let below = self.side.below(place);
+        let next = next_above(&self.side, space, place + n, below);
         let end = place + n + self.side.at(space, place + n);
-        let from = place - self.side.ending_at(space, place);
+        let from = place - ending_at(&self.side, space, place, below);
         // Where the hole below is joined, its words are written anew after this.
-        link_below(&self.side, space, place, from);
+        link(space, below, from);
         set_words(space, from, end - from, next);
         self.side.put_back(place, n);
     }

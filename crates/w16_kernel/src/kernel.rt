@@ -1,5 +1,5 @@
 //! The machine's state, and its steps.
-ghost use Rattle.std.specs.Prelude.{◌≡◌, ◌+◌, ◌^◌, ◌<◌, ◌≤◌, List, map, slice_get, All, IfSome, IfOk, IsOk, OnErr};
+ghost use Rattle.std.specs.Prelude.{◌≡◌, ◌+◌, ◌%◌, ◌^◌, ◌<◌, ◌≤◌, List, map, slice_get, All, IfSome, IfOk, IsOk, OnErr};
 ghost use Rattle.w16_model.specs.Handles.{handle_of};
 ghost use Rattle.w16_model.specs.Walk.{IsFirstItem};
 ghost use Rattle.w16_machine.specs.World.{empty_world, IsWorldWalk};
@@ -12,7 +12,7 @@ use crate::step::step;
 use std::alloc::{AllocError, Global};
 use std::marker::Model;
 use w16_global::Global16;
-use w16_model::{Item, MOST_SLOTS};
+use w16_model::{GRAIN, Item, MOST_SLOTS};
 
 /// The machine. Its value is the world that a script sees.
 #[derive(Drop)]
@@ -33,9 +33,11 @@ impl Model for Kernel {
 }
 
 impl Kernel {
-    /// A machine over `memory` bytes and so many selectors, at most 8,160, in which nothing is allocated. It takes all its memory here.
+    /// A machine over `memory` bytes, a multiple of 32, and so many selectors, at most 8,160, in which nothing is allocated. It takes all its
+    /// memory here; an error is that there was none.
     pub fn new(alloc: Global, memory: u32, slots: u32) -> Result<Kernel, AllocError>
-        requires { slots ≤ MOST_SLOTS }
+        requires grained { memory % GRAIN ≡ 0 }
+        requires few { slots ≤ MOST_SLOTS }
         ensures { IfOk result (λ kernel. kernel ≡ empty_world memory slots) }
     {
         let global = Global16::new(alloc, memory, slots)?;

@@ -11,7 +11,7 @@ use std::alloc::{AllocError, Global};
 use std::process::Abort;
 use std::test::Fail;
 use w16_kernel::{Answer, Call, Kernel};
-use w16_model::MOST_SLOTS;
+use w16_model::{GRAIN, MOST_SLOTS};
 use w16_script::{RunFault, run};
 
 /// The bytes of a row's script.
@@ -31,7 +31,8 @@ fn play(
     output: &mut Vec<u8>,
 ) -> Result<Result<(u32, u32), RunFault>, AllocError> {
     let script = script_of(alloc, row)?;
-    let mut kernel = Kernel::new(alloc, row.memory, row.selectors.min(MOST_SLOTS))?;
+    let memory = row.memory - row.memory % GRAIN;
+    let mut kernel = Kernel::new(alloc, memory, row.selectors.min(MOST_SLOTS))?;
     let mut reader = script.as_slice();
     let ended = run(alloc, &mut reader, output, &mut kernel);
     Ok(ended.map(|counts| (counts.lines, counts.replies)))
