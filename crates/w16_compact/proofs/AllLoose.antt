@@ -44,9 +44,12 @@ module _ (l : Layout) (n : ℕ) (ordered : IsOrdered l) where
 
   pub walked_all : list_any is_pinned l.blocks ≡ false → (r : Reached) → r.low ≡ l.lo → r.loose ≡ sum_by size_of l.blocks → (j : ℕ) × (drop j l.blocks ≡ []) × IsWalked l n ordered j r
   walked_all none r low loose =
-      let end = walked_from l.blocks 0 refl (record { low = l.lo; loose = 0 }) (walk_start l n ordered l.lo refl) (each_loose l.blocks none) in
-      (end.0, end.1, subst (λ (v : Reached). IsWalked l n ordered end.0 v)
-          (λ i. let v : Reached = record { low = sym low i; loose = (let same : 0 + sum_by size_of l.blocks ≡ r.loose = omega arith in same) i } in v) end.2)
+      let end = walked_from l.blocks 0 refl (record { low = l.lo; loose = 0 }) (walk_start l n ordered l.lo refl) (each_loose l.blocks none) in (
+        end.0,
+        end.1,
+        subst (λ (v : Reached). IsWalked l n ordered end.0 v)
+            (λ i. let v : Reached = record { low = sym low i; loose = (let same : 0 + sum_by size_of l.blocks ≡ r.loose = omega arith in same) i } in v) end.2,
+      )
 
 -- the room
 scan_loose : (hi best start used : ℕ) (xs : List Block) → Each (λ x. is_pinned x ≡ false) xs → scan hi best start used xs ≡ max best (hi - start - used - sum_by size_of xs)
@@ -87,8 +90,8 @@ module _ (l : Layout) (ordered : IsOrdered l) (h : Option ℕ) (own : ℕ) (left
   told_is {made} {gap} {gap_of'} {rooms'} gap_of rooms made_is gap_is many more filled put =
       let each : Each (λ x. (is_pinned x ≡ false) × (slice_index gap_of' x.id ≡ l.cap)) l.blocks = both l.blocks (each_loose l.blocks none) (ids_below l.cap l.blocks ordered.named) in
       tells_loose l.hi l.lo 0 l.cap gap_of' rooms' rest (Each-filter _ _ l.blocks (Each-map _ _ (λ x f t. f) l.blocks each))
-          (let now : slice_index rooms' l.cap ≡ made = ap (λ (rs : List ℕ). slice_index rs l.cap) put ∙ ap (λ (g : ℕ). slice_index (set rooms gap made) g) (sym gap_is) ∙ get_or-set_same rooms gap made 0 (omega arith) in
-          let fit = fits in omega arith)
+      (let now : slice_index rooms' l.cap ≡ made = ap (λ (rs : List ℕ). slice_index rs l.cap) put ∙ ap (λ (g : ℕ). slice_index (set rooms gap made) g) (sym gap_is) ∙ get_or-set_same rooms gap made 0 (omega arith) in
+      let fit = fits in omega arith)
     where
       both : (xs : List Block) → Each (λ x. is_pinned x ≡ false) xs → Each (λ x. x.id < l.cap) xs → Each (λ x. (is_pinned x ≡ false) × (slice_index gap_of' x.id ≡ l.cap)) xs
       both [] loose below = tt
