@@ -1,5 +1,5 @@
 -- The holes where a run of blocks slides down: what its new place has beyond the old one is taken, and what the old one has beyond the new is put.
-use Rattle.std.proofs.Common.{ℕ, ◌≡◌, ◌+◌, ◌-◌, ◌<◌, ◌≤◌, ◌⊎◌, min, List, [], ◌∷◌, map, sum_by, arith, refl, sym, ap, subst, inl, inr}
+use Rattle.std.proofs.Common.{ℕ, ◌≡◌, ◌+◌, ◌-◌, ◌<◌, ◌≤◌, ◌⊎◌, min, List, [], ◌∷◌, map, sum_by, arith, refl, sym, ap, ◌∙◌, subst, inl, inr}
 use Rattle.std.proofs.lemmas.Bool.{cases_lt}
 use Rattle.std.proofs.lemmas.List.Sums.{sum_by-cons}
 use Rattle.std.specs.List.{AllByRecursion}
@@ -27,21 +27,22 @@ pub All-unmapped : (R P Q : Block → Type 0) (f : Block → Block) → ((b : Bl
 All-unmapped R P Q f step [] one two = tt
 All-unmapped R P Q f step (b ∷ bs) one two = (step b one.0 two.0, All-unmapped R P Q f step bs one.1 two.1)
 
--- a block that slides keeps its size
-slid_size : (run : Span) (to : ℕ) (b : Block) → (slid_with run to b).size ≡ b.size
-slid_size run to b = elim (cases_lt b.at run.from) [
-  | inl below ↦ ap (λ (c : Block). c.size) (slid_below run to b below)
-  | inr from ↦ elim (cases_lt b.at run.to) [
-    | inl inside ↦ ap (λ (c : Block). c.size) (slid_inside run to b from inside)
-    | inr above ↦ ap (λ (c : Block). c.size) (slid_above run to b above)
+-- what doesn't depend on a block's address stays where it slides
+module _ (f : Block → ℕ) (same : (b : Block) (at : ℕ) → f (record b { at = at }) ≡ f b) where
+  slid_same : (run : Span) (to : ℕ) (b : Block) → f (slid_with run to b) ≡ f b
+  slid_same run to b = elim (cases_lt b.at run.from) [
+    | inl below ↦ ap f (slid_below run to b below)
+    | inr from ↦ elim (cases_lt b.at run.to) [
+      | inl inside ↦ ap f (slid_inside run to b from inside) ∙ same b _
+      | inr above ↦ ap f (slid_above run to b above)
+    ]
   ]
-]
 
-pub sum-slid : (run : Span) (to : ℕ) (bs : List Block) → sum_by (λ (b : Block). b.size) (map (slid_with run to) bs) ≡ sum_by (λ (b : Block). b.size) bs
-sum-slid run to [] = refl
-sum-slid run to (b ∷ bs) =
-    let first = sum_by-cons (λ (c : Block). c.size) (slid_with run to b) (map (slid_with run to) bs) in let old = sum_by-cons (λ (c : Block). c.size) b bs in
-    let size = slid_size run to b in let rest = sum-slid run to bs in omega arith
+  pub sum-slid : (run : Span) (to : ℕ) (bs : List Block) → sum_by f (map (slid_with run to) bs) ≡ sum_by f bs
+  sum-slid run to [] = refl
+  sum-slid run to (b ∷ bs) =
+      let first = sum_by-cons f (slid_with run to b) (map (slid_with run to) bs) in let old = sum_by-cons f b bs in
+      let one = slid_same run to b in let rest = sum-slid run to bs in omega arith
 
 -- a block is before the run, behind it, or in it
 abbrev pub Lies : Span → Block → Type 0

@@ -1,5 +1,5 @@
 -- What is kept where a run of blocks slides.
-use Rattle.std.proofs.Common.{ℕ, ◌≡◌, ◌+◌, ◌-◌, ◌<◌, ◌≤◌, min, List, length, map, sum_by, arith, sym, ap, ◌∙◌, subst}
+use Rattle.std.proofs.Common.{ℕ, ◌≡◌, ◌+◌, ◌-◌, ◌<◌, ◌≤◌, min, List, length, map, sum_by, arith, refl, sym, ap, ◌∙◌, subst}
 use Rattle.w16_model.specs.declared.Block.{Block}
 use Rattle.w16_model.specs.declared.Span.{Span}
 use Rattle.w16_model.specs.Bytes.{part, put_part}
@@ -7,7 +7,7 @@ use Rattle.w16_model.specs.Gap.{IsLaid, holes}
 use Rattle.w16_model.specs.Heap.{IsMultiple}
 use Rattle.w16_holes.specs.Holes.{Range, IsFree, IsUsed, IsPart, AreSameIn, AreSameOutside, taken, joined}
 use Rattle.w16_blocks.specs.Layout.{Layout, holes_of}
-use Rattle.w16_blocks.specs.Kept.{blocks_in, layout_in, AreTables, IsKept}
+use Rattle.w16_blocks.specs.Kept.{blocks_in, layout_in, pins_in, AreTables, IsKept}
 use Rattle.w16_blocks.specs.Runs.{IsRun, IsBare, slid_with}
 use Rattle.w16_blocks.specs.Stay.{AreSameBut}
 use Rattle.w16_blocks.proofs.Slid.{free_stays, come_along, others_stay}
@@ -15,7 +15,7 @@ use Rattle.w16_blocks.proofs.RunHoles as run_holes
 use Rattle.w16_blocks.proofs.RunHoles.{IsWay, sum-slid}
 
 -- Tables that tell a layout `l`, and a run of it that slides to a place.
-module _ {cap lo hi g : ℕ} {slots : List Block} {cells : List ℕ} {free : ℕ} {range : Range} {kept : List Span} (k : IsKept cap lo hi g slots cells free range kept)
+module _ {cap lo hi g : ℕ} {slots : List Block} {cells : List ℕ} {free pinned : ℕ} {range : Range} {kept : List Span} (k : IsKept cap lo hi g slots cells free pinned range kept)
     {l : Layout} (is_l : layout_in cap lo hi g slots cells ≡ l) {run : Span} (is_run : IsRun l run) (some : run.from < run.to) {to a c apart : ℕ} (way_l : IsWay l run to a c apart) where
   abbrev now : Layout
   now = layout_in cap lo hi g slots cells
@@ -63,10 +63,11 @@ module _ {cap lo hi g : ℕ} {slots : List Block} {cells : List ℕ} {free : ℕ
       leaves = joins ∙ ap (joined c (c + apart)) takes_between
           ∙ run_holes.holes_run now k.tables.ordered run is some to a c apart way (subst (λ (bs : List Block). IsLaid lo hi bs) blocks tables.ordered.laid)
 
-      pub IsKept-run : IsKept cap lo hi g slots' cells' free range' kept'
+      pub IsKept-run : IsKept cap lo hi g slots' cells' free pinned range' kept'
       IsKept-run = record {
         tables = tables;
-        counted = let sum = ap (sum_by (λ (b : Block). b.size)) blocks ∙ sum-slid run to now.blocks in let counted = k.counted in omega arith;
+        counted = let sum = ap (sum_by (λ (b : Block). b.size)) blocks ∙ sum-slid (λ (b : Block). b.size) (λ b at. refl) run to now.blocks in let counted = k.counted in omega arith;
+        pins = k.pins ∙ sym (ap (sum_by pins_in) blocks ∙ sum-slid pins_in (λ b at. refl) run to now.blocks);
         ranged = same_then ∙ same ∙ k.ranged;
         between = leaves ∙ ap (holes lo hi) (sym blocks);
       }

@@ -3,8 +3,10 @@
 #![tactic(auto)]
 
 ghost use Rattle.std.specs.Prelude.{◌≡◌, ◌≢◌, ◌+◌, ◌-◌, ◌*◌, ◌^◌, ◌<◌, ◌≤◌, ◌==◌, [], length, IfOk, IsSome, IfSome, vec_len, slice_get, sum_by, Some, if◌then◌else◌};
+ghost use Rattle.std.specs.List.{list_any};
 ghost use Rattle.std.specs.Option.{ForSome};
 ghost use Rattle.w16_model.specs.Heap.{IsMultiple};
+ghost use Rattle.w16_blocks.specs.Kept.{pins_of};
 ghost use Rattle.w16_blocks.specs.Stay.{IsBeyond};
 
 mod below;
@@ -38,6 +40,8 @@ pub struct Blocks<H: HoleList> {
     begins: Vec<u32>,
     /// The bytes that no block has.
     free: u32,
+    /// How many blocks are pinned.
+    pinned: u32,
     holes: H,
     lo: u32,
     hi: u32,
@@ -53,7 +57,17 @@ impl<H: HoleList> Model for Blocks<H> {
 
     ghost view = { λ s. layout_in (vec_len s.slots) s.lo s.hi s.grain s.slots.items s.begins.items };
 
-    ghost invariant = { λ s. IsKept (vec_len s.slots) s.lo s.hi s.grain s.slots.items s.begins.items s.free (H.range s.holes) (H.holes s.holes) };
+    ghost invariant = { λ s. IsKept (vec_len s.slots) s.lo s.hi s.grain s.slots.items s.begins.items s.free s.pinned (H.range s.holes) (H.holes s.holes) };
+}
+
+/// How many blocks keep their address, of one with this hold.
+fn pins_of(hold: Hold) -> u32
+    ensures { result ≡ pins_of hold }
+{
+    match hold {
+        Hold::Pinned => 1,
+        Hold::Loose => 0,
+    }
 }
 
 /// In which unit a place lies that begins one.
@@ -90,7 +104,7 @@ fn beyond(other: u32, place: u32, size: u32) -> Span
 
 impl<H: HoleList> Blocks<H> {
     ghost use Rattle.w16_model.specs.Table.{block_with};
-    ghost use Rattle.w16_model.specs.Gap.{hole_after, block_end};
+    ghost use Rattle.w16_model.specs.Gap.{hole_after, block_end, is_pinned};
     ghost use Rattle.w16_holes.specs.Holes.{lowest, longest, add_span, AreSameOutside};
     ghost use Rattle.w16_model.specs.Bytes.{part};
     ghost use Rattle.w16_region.specs.Bytes.{counted};
@@ -123,6 +137,7 @@ impl<H: HoleList> Blocks<H> {
             slots,
             begins,
             free: hi - lo,
+            pinned: 0,
             holes,
             lo,
             hi,
@@ -168,6 +183,7 @@ impl<H: HoleList> Blocks<H> {
         self.slots[block.id as usize] = block;
         self.begins[unit] = block.id + 1;
         self.free -= block.size;
+        self.pinned += pins_of(block.hold);
     }
 
     /// Takes an id's block away, whose bytes join the holes. Bytes outside the holes that are then stay.
@@ -191,6 +207,7 @@ impl<H: HoleList> Blocks<H> {
         self.slots[id as usize] = NO_BLOCK;
         self.begins[unit] = 0;
         self.free += block.size;
+        self.pinned -= pins_of(block.hold);
     }
 
     /// Gives an id's block another size, with which it meets no other block. What it has more is taken from the hole behind it, and what it
@@ -325,6 +342,7 @@ impl<H: HoleList> Blocks<H> {
     {
         let block = self.block_of(id);
         self.slots[id as usize] = Block { hold, ..block };
+        self.pinned = self.pinned - pins_of(block.hold) + pins_of(hold);
     }
 
     /// Where the lowest hole of at least `n` bytes begins, none where none is so long. Each hole has a byte, so for 0 it is the lowest there
@@ -413,6 +431,13 @@ impl<H: HoleList> Blocks<H> {
             from: self.lo,
             to: self.hi,
         }
+    }
+
+    /// Whether a block is pinned.
+    pub fn has_pinned(&self) -> bool
+        ensures { result ≡ list_any is_pinned self.now.blocks }
+    {
+        self.pinned > 0
     }
 
     /// How many ids there are.

@@ -152,6 +152,9 @@ fn changes_one_block(rt: HostRuntime) -> Result<(), Fail> {
     blocks.set_hold(0, Hold::Pinned);
     assert_eq!(rt; blocks.find(0), Some(block(0, 32, 32, Hold::Pinned)));
     blocks.remove(&mut space, 2);
+    assert!(rt; blocks.has_pinned());
+    blocks.set_hold(0, Hold::Loose);
+    assert!(rt; !blocks.has_pinned());
     assert_eq!(rt; blocks.find(2), None);
     assert_eq!(rt; blocks.longest(&space), 96);
     assert_eq!(rt; blocks.free(), 192);

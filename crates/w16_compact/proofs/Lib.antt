@@ -3,6 +3,7 @@ pub mod OnePass
 pub mod Order
 pub mod Settled
 pub mod Gathering
+pub mod Packed
 pub mod Loose
 pub mod Bounded
 pub mod Skips
@@ -16,3 +17,4 @@ pub mod Searched
 pub mod Told
 pub mod Filled
 pub mod Widened
+pub mod AllLoose

@@ -37,6 +37,14 @@ pub fn gap_for<S: Space, H: Holes<S>>(blocks: &Blocks<H>, space: &S, n: u32) -> 
     if blocks.free() < n {
         return None;
     }
+    if !blocks.has_pinned() {
+        // All is one gap.
+        let whole = Reached {
+            low: bounds.from,
+            loose: bounds.to - bounds.from - blocks.free(),
+        };
+        return gap_to(whole, bounds.to, n);
+    }
     let mut reached = Reached {
         low: bounds.from,
         loose: 0,

@@ -3,3 +3,4 @@ mod Lends
 mod Pairs
 mod Frames
 pub mod Words
+pub mod Slides

@@ -1,4 +1,4 @@
-use Rattle.std.proofs.Common.{◌≡◌, ℕ, ◌+◌, ◌<◌, ◌≤◌, drop, [], Option, Some, None, IsSome, MatchOption, arith, sym, ap, ◌∙◌, subst}
+use Rattle.std.proofs.Common.{◌≡◌, ℕ, ◌+◌, ◌-◌, ◌<◌, ◌≤◌, drop, [], Option, Some, None, IsSome, MatchOption, arith, sym, ap, ◌∙◌, subst}
 use Rattle.std.proofs.lemmas.Bool.{false≢true}
 use Rattle.w16_model.specs.declared.Span.{Span}
 use Rattle.w16_model.specs.Gap.{room}
@@ -6,6 +6,8 @@ use Rattle.w16_blocks.specs.Layout.{Layout, IsOrdered}
 use Rattle.w16_compact.specs.declared.gaps.Gap.{Gap}
 use Rattle.w16_compact.specs.declared.reach.Reached.{Reached}
 use Rattle.w16_compact.specs.Gap.{HasRoom}
+use Rattle.w16_blocks.proofs.Ordered.{sum_fits}
+use Rattle.w16_compact.proofs.AllLoose.{walked_all}
 use Rattle.w16_compact.proofs.ByAddress.{all_left, may_begin}
 use Rattle.w16_compact.proofs.OnePass.{too_few}
 use Rattle.w16_compact.proofs.Skips.{rest_is}
@@ -71,9 +73,27 @@ module _ (l : Layout) (n : ℕ) (ordered : IsOrdered l) (some : 0 < n) (i : ℕ)
 pub returns-clause-found : goal.returns-clause-found
 returns-clause-found g c =
     let inv = c.loop-block.invariant.2 in
-    last c.args.blocks.now c.args.n inv.0 c.requires.some inv.1.0 c.loop-block.reached inv.1.2 (inv.1.1 ∙ c.in-None.ensures.steps.0) c.bounds-bounds.result.to c.gap_to.result (ap (λ (s : Span). s.to) c.bounds-bounds.ensures.value) c.gap_to.ensures
+    last c.args.blocks.now c.args.n inv.0 c.requires.some inv.1.0 c.loop-block.reached inv.1.2 (inv.1.1 ∙ c.in-None.ensures.steps.0) c.bounds-bounds.result.to c.gap_to-2.result (ap (λ (s : Span). s.to) c.bounds-bounds.ensures.value) c.gap_to-2.ensures
 
 pub returns-clause-enough : goal.returns-clause-enough
 returns-clause-enough g c =
     let inv = c.loop-block.invariant.2 in
-    enough c.args.blocks.now c.args.n inv.0 c.requires.some inv.1.0 c.loop-block.reached inv.1.2 (inv.1.1 ∙ c.in-None.ensures.steps.0) c.gap_to.result (returns-clause-found g c)
+    enough c.args.blocks.now c.args.n inv.0 c.requires.some inv.1.0 c.loop-block.reached inv.1.2 (inv.1.1 ∙ c.in-None.ensures.steps.0) c.gap_to-2.result (returns-clause-found g c)
+
+-- where all is one gap
+module _ (g : _) (c : goal.After-gap_to g) where
+  walked : (j : ℕ) × (drop j c.args.blocks.now.blocks ≡ []) × IsWalked c.args.blocks.now c.args.n c.bounds-bounds.ensures.ordered j (record { low = c.bounds-bounds.result.from; loose = c.bounds-bounds.result.to - c.bounds-bounds.result.from - c.free-then-not-has_pinned.result })
+  walked =
+      let l = c.args.blocks.now in let from = ap (λ (s : Span). s.from) c.bounds-bounds.ensures.value in let to = ap (λ (s : Span). s.to) c.bounds-bounds.ensures.value in
+      let fit = sum_fits l.lo l.hi l.blocks c.bounds-bounds.ensures.ordered.laid in let free = c.free-then-not-has_pinned.ensures.value in
+      walked_all l c.args.n c.bounds-bounds.ensures.ordered (sym c.has_pinned.ensures ∙ c.if-not-has_pinned.true) _ from (omega arith)
+
+pub returns-then-not-has_pinned-clause-found : goal.returns-then-not-has_pinned-clause-found
+returns-then-not-has_pinned-clause-found g c =
+    let w = walked g c in
+    last c.args.blocks.now c.args.n c.bounds-bounds.ensures.ordered c.requires.some w.0 _ w.2 w.1 c.bounds-bounds.result.to c.gap_to.result (ap (λ (s : Span). s.to) c.bounds-bounds.ensures.value) c.gap_to.ensures
+
+pub returns-then-not-has_pinned-clause-enough : goal.returns-then-not-has_pinned-clause-enough
+returns-then-not-has_pinned-clause-enough g c =
+    let w = walked g c in
+    enough c.args.blocks.now c.args.n c.bounds-bounds.ensures.ordered c.requires.some w.0 _ w.2 w.1 c.gap_to.result (returns-then-not-has_pinned-clause-found g c)
