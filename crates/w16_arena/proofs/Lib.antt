@@ -11,6 +11,11 @@ pub mod Arranged
 pub mod Rooms
 pub mod Gathering
 pub mod Keeping
+pub mod ButFor
+pub mod Shifted
+pub mod Opening
+pub mod OtherGap
+pub mod Ways
 pub mod Unmoved
 pub mod Changed
 pub mod Reordered

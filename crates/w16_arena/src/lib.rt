@@ -13,6 +13,7 @@ ghost use Rattle.w16_arena.specs.State.{empty_table, holes_in};
 
 mod bytes;
 mod discards;
+mod growth;
 mod modify;
 mod new_place;
 mod objects;

@@ -169,7 +169,7 @@ fn gather_all<S: Space>(blocks: &mut Blocks<SideHoles>, space: &mut S) -> u64
     if blocks.find(0).is_some() {
         blocks.remove(space, 0);
     }
-    match gap_for(blocks, space, UNIT) {
+    match gap_for(blocks, space, None, UNIT) {
         Some(gap) => gather(blocks, space, gap.low, gap.high),
         None => 0,
     }

@@ -14,6 +14,7 @@ use Rattle.w16_blocks.specs.Layout.{Layout, IsOrdered, AreNamed, all_but}
 use Rattle.w16_blocks.proofs.Ordered.{sum_fits}
 use Rattle.w16_blocks.proofs.Remove.{all_but_absent, sum-all_but}
 use Rattle.w16_compact.specs.declared.reach.Reached.{Reached}
+use Rattle.w16_compact.specs.Gap.{others}
 use Rattle.w16_compact.specs.Told.{Tells}
 use Rattle.w16_compact.proofs.OnePass.{scan, scan-room, none_out_all}
 use Rattle.w16_compact.proofs.PinnedIds.{none_with}
@@ -30,6 +31,15 @@ each_loose (x ∷ xs) none = let both = neither (is_pinned x) (list_any is_pinne
     neither : (s t : Bool) → (s || t) ≡ false → (s ≡ false) × (t ≡ false)
     neither true t e = absurd (false≢true (sym e))
     neither false t e = (refl, e)
+
+-- so there is none with a block left out
+pub none_in : (h : Option ℕ) (xs : List Block) → list_any is_pinned xs ≡ false → list_any is_pinned (others h xs) ≡ false
+none_in None xs none = none
+none_in (Some id) xs none = back (others (Some id) xs) (Each-filter _ _ xs (Each-map _ _ (λ x f t. f) xs (each_loose xs none)))
+  where
+    back : (ys : List Block) → Each (λ x. is_pinned x ≡ false) ys → list_any is_pinned ys ≡ false
+    back [] all = refl
+    back (y ∷ ys) all = ap (λ (t : Bool). t || list_any is_pinned ys) all.0 ∙ back ys all.1
 
 -- the walk over all of them
 module _ (l : Layout) (n : ℕ) (ordered : IsOrdered l) where

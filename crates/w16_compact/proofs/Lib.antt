@@ -9,6 +9,7 @@ pub mod Bounded
 pub mod Skips
 pub mod ByAddress
 pub mod Walked
+pub mod LeftOut
 pub mod Cleared
 pub mod Raising
 pub mod Opened
