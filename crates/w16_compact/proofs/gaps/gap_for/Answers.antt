@@ -17,16 +17,16 @@ use Rattle.w16_compact.proofs.Skips.{rest_is}
 use Rattle.w16_compact.proofs.Walked.{IsWalked, fits_here, walk_start, gap_here, walked_next, gap_last, none_found, enough_room}
 use Rattle.w16_compact.proofs.gaps.gap_for.Goals as goal
 
-pub overflow_add-free : goal.overflow_add-free
-overflow_add-free g c =
+pub overflow_add-spare : goal.overflow_add-spare
+overflow_add-spare g c =
     let l = c.args.blocks.now in let ordered = c.bounds-bounds.ensures.ordered in
     let free = c.free.ensures.value in let own = c.left_out.ensures.value in let all = sum_fits l.lo l.hi l.blocks ordered.laid in let small = ordered.small in
     record { fits = omega (arith, free, own, all, small) }
 
-pub returns-then-free-left_out-clause-found : goal.returns-then-free-left_out-clause-found
-returns-then-free-left_out-clause-found g c =
+pub returns-then-spare-n-clause-found : goal.returns-then-spare-n-clause-found
+returns-then-spare-n-clause-found g c =
     let l = c.args.blocks.now in let left = ordered_without c.args.h l c.bounds-bounds.ensures.ordered in
-    let free = c.free.ensures.value in let own = c.left_out.ensures.value in let less = c.if-free-left_out.true in
+    let free = c.free.ensures.value in let own = c.left_out.ensures.value in let less = c.if-spare-n.true in
     too_few l.lo l.hi c.args.n (l.hi - l.lo - sum_by (λ (x : Block). x.size) (others c.args.h l.blocks)) (others c.args.h l.blocks) left.laid refl (omega arith)
 
 pub loop-block-init : goal.loop-block-init
@@ -137,3 +137,17 @@ pub returns-then-not-has_pinned-clause-enough : goal.returns-then-not-has_pinned
 returns-then-not-has_pinned-clause-enough g c =
     let w = walked g c in
     enough (left g c) c.args.n (ordered g c) c.requires.some w.0 _ w.2 w.1 c.gap_to.result (returns-then-not-has_pinned-clause-found g c)
+
+-- the bytes of the others lie between the bounds
+pub overflow_sub-whole : goal.overflow_sub-whole
+overflow_sub-whole g c =
+    let l = c.args.blocks.now in let from = ap (λ (s : Span). s.from) c.bounds-bounds.ensures.value in let to = ap (λ (s : Span). s.to) c.bounds-bounds.ensures.value in
+    let fit = sum_fits l.lo l.hi l.blocks c.bounds-bounds.ensures.ordered.laid in omega arith
+
+pub overflow_sub-whole-then-not-has_pinned : goal.overflow_sub-whole-then-not-has_pinned
+overflow_sub-whole-then-not-has_pinned g c =
+    let l = c.args.blocks.now in let from = ap (λ (s : Span). s.from) c.bounds-bounds.ensures.value in let to = ap (λ (s : Span). s.to) c.bounds-bounds.ensures.value in
+    let fit = sum_fits l.lo l.hi l.blocks c.bounds-bounds.ensures.ordered.laid in let free = c.free.ensures.value in let own = c.left_out.ensures.value in omega arith
+
+pub gap_to-requires : goal.gap_to-requires
+gap_to-requires g c = let ordered = overflow_sub-whole g c in omega arith
