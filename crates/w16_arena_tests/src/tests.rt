@@ -4,10 +4,10 @@ mod bench;
 mod discards;
 mod scripts;
 
-use bench::{Answer, Bench, Step};
+use bench::{Bench, Step};
 use std::process::Abort;
 use std::test::Fail;
-use w16_model::{Block, Entry, Hold, Kind, Refusal, Way};
+use w16_model::{Block, Entry, Hold, Kind, Way};
 
 /// A request that moves no other object.
 const AS_IT_STANDS: Way = Way {
@@ -39,102 +39,141 @@ const THREE: &[Step] = &[
     Step::Alloc(2, 32, Kind::Moveable, AS_IT_STANDS),
 ];
 
+/// What is known of an object without locks.
+macro_rules! unlocked {
+    ($kind:expr) => {
+        Some(Entry {
+            kind: $kind,
+            locks: 0,
+        })
+    };
+}
+
+const ENTRIES: &[(u32, Option<Entry>)] = &[
+    (3, unlocked!(Kind::Fixed)),
+    (1, unlocked!(Kind::Discardable)),
+    (0, None),
+    (4_294_967_295, None),
+];
+
+/// The first id of the table with another entry.
+fn other_entry(bench: &Bench) -> Option<u32> {
+    for (id, entry) in ENTRIES {
+        if bench.entry(*id) != *entry {
+            return Some(*id);
+        }
+    }
+    None
+}
+
 #[test]
 fn looks_up_entries(rt: HostRuntime) -> Result<(), Fail> {
     let bench = Bench::with(&rt, rt.alloc(), THREE)?;
-    let fixed = Entry {
-        kind: Kind::Fixed,
-        locks: 0,
-    };
-    let absent = Entry {
-        kind: Kind::Discardable,
-        locks: 0,
-    };
-    assert_eq!(rt; bench.entry(3), Some(fixed));
-    assert_eq!(rt; bench.entry(1), Some(absent));
-    assert_eq!(rt; bench.entry(0), None);
-    assert_eq!(rt; bench.entry(4_294_967_295), None);
+    assert!(rt; other_entry(&bench).is_none());
     Ok(())
+}
+
+/// The fixed object of the three.
+const FIRST: Block = Block {
+    id: 3,
+    at: 0,
+    size: 64,
+    hold: Hold::Pinned,
+};
+
+/// The moveable one.
+const SECOND: Block = Block {
+    id: 2,
+    at: 64,
+    size: 32,
+    hold: Hold::Loose,
+};
+
+const BLOCKS: &[(u32, Option<Block>)] = &[
+    (3, Some(FIRST)),
+    (2, Some(SECOND)),
+    (1, None),
+    (6, None),
+];
+
+/// The first id of the table with another block.
+fn other_block(bench: &Bench) -> Option<u32> {
+    for (id, block) in BLOCKS {
+        if bench.block(*id) != *block {
+            return Some(*id);
+        }
+    }
+    None
 }
 
 #[test]
 fn looks_up_blocks(rt: HostRuntime) -> Result<(), Fail> {
-    let empty = Bench::new(&rt, rt.alloc())?;
-    assert_eq!(rt; empty.next_block(0), None);
     let bench = Bench::with(&rt, rt.alloc(), THREE)?;
-    let first = Block {
-        id: 3,
-        at: 0,
-        size: 64,
-        hold: Hold::Pinned,
-    };
-    let second = Block {
-        id: 2,
-        at: 64,
-        size: 32,
-        hold: Hold::Loose,
-    };
-    assert_eq!(rt; bench.block(3), Some(first));
-    assert_eq!(rt; bench.block(2), Some(second));
-    assert_eq!(rt; bench.block(1), None);
-    assert_eq!(rt; bench.block(6), None);
-    assert_eq!(rt; bench.next_block(0), Some(first));
-    assert_eq!(rt; bench.next_block(1), Some(second));
-    assert_eq!(rt; bench.next_block(64), Some(second));
-    assert_eq!(rt; bench.next_block(65), None);
+    assert!(rt; other_block(&bench).is_none());
     Ok(())
 }
 
-/// How many of 255 calls are done.
-fn done(rt: &impl Abort, bench: &mut Bench, step: Step) -> u32 {
-    let mut done = 0u32;
-    for _ in 0..255 {
-        if bench.act(rt, step) == Answer::Done {
-            done = done.saturating_add(1);
+/// The lowest block at an address or behind it.
+const NEXT: &[(u32, Option<Block>)] = &[
+    (0, Some(FIRST)),
+    (1, Some(SECOND)),
+    (64, Some(SECOND)),
+    (65, None),
+];
+
+/// The first address of the table with another block behind it.
+fn other_next_block(bench: &Bench) -> Option<u32> {
+    for (from, block) in NEXT {
+        if bench.next_block(*from) != *block {
+            return Some(*from);
         }
     }
-    done
+    None
 }
 
 #[test]
-fn counts_locks(rt: HostRuntime) -> Result<(), Fail> {
-    let steps = [
-        Step::Alloc(0, 32, Kind::Discardable, AS_IT_STANDS),
-        Step::Alloc(1, 32, Kind::Discardable, AS_IT_STANDS),
-    ];
-    let mut bench = Bench::with(&rt, rt.alloc(), &steps)?;
-    assert_eq!(rt; done(&rt, &mut bench, Step::Lock(0)), 255);
-    assert_eq!(rt; bench.act(&rt, Step::Oldest(0)), Answer::Done);
-    assert_eq!(rt; bench.act(&rt, Step::Lock(0)), Answer::Refused(Refusal::LockFull));
-    assert_eq!(rt; bench.order(rt.alloc())?.as_slice(), [0, 1].as_slice());
-    let full = Entry {
-        kind: Kind::Discardable,
-        locks: 255,
-    };
-    assert_eq!(rt; bench.entry(0), Some(full));
-    assert_eq!(rt; done(&rt, &mut bench, Step::Unlock(0)), 255);
-    assert_eq!(rt; bench.act(&rt, Step::Free(0)), Answer::Done);
-    assert_eq!(rt; bench.entry(0), None);
+fn looks_up_the_next_block(rt: HostRuntime) -> Result<(), Fail> {
+    let bench = Bench::with(&rt, rt.alloc(), THREE)?;
+    assert!(rt; other_next_block(&bench).is_none());
     Ok(())
+}
+
+#[test]
+fn looks_up_no_next_block(rt: HostRuntime) -> Result<(), Fail> {
+    let bench = Bench::new(&rt, rt.alloc())?;
+    assert!(rt; bench.next_block(0).is_none());
+    Ok(())
+}
+
+/// A request for zeros.
+const ZEROS: Way = Way {
+    zero: true,
+    ..DISCARDING
+};
+
+/// Places, lengths, and the byte there.
+const CLEARED: &[(u32, u32, u8)] = &[(0, 32, 7), (32, 32, 0), (64, 192, 7)];
+
+/// The first place of the table with another byte.
+fn other_byte(rt: &impl Abort, bench: &Bench) -> Option<u32> {
+    for (at, n, byte) in CLEARED {
+        if !bench.is_filled(rt, *at, *n, *byte) {
+            return Some(*at);
+        }
+    }
+    None
 }
 
 #[test]
 fn clears_new_bytes(rt: HostRuntime) -> Result<(), Fail> {
     let mut bench = Bench::new(&rt, rt.alloc())?;
     bench.fill(&rt, 0, 256, 7);
-    let zeros = Way {
-        zero: true,
-        ..DISCARDING
-    };
     bench.act(&rt, Step::Alloc(0, 32, Kind::Moveable, DISCARDING));
-    bench.act(&rt, Step::Alloc(1, 32, Kind::Discardable, zeros));
-    assert!(rt; bench.is_filled(&rt, 0, 32, 7));
-    assert!(rt; bench.is_filled(&rt, 32, 32, 0));
-    assert!(rt; bench.is_filled(&rt, 64, 192, 7));
+    bench.act(&rt, Step::Alloc(1, 32, Kind::Discardable, ZEROS));
+    assert!(rt; other_byte(&rt, &bench).is_none());
     bench.act(&rt, Step::Release(0));
-    bench.act(&rt, Step::Alloc(2, 256, Kind::Moveable, zeros));
-    assert!(rt; bench.is_filled(&rt, 0, 256, 0));
-    assert!(rt; bench.has_discarded(&[1]));
+    bench.act(&rt, Step::Alloc(2, 256, Kind::Moveable, ZEROS));
+    assert!(rt; bench.is_filled(&rt, 0, 256, 0) && bench.has_discarded(&[1]));
     Ok(())
 }
 
@@ -145,23 +184,33 @@ const TWO: &[Step] = &[
     Step::Enter(2, Kind::Discardable),
 ];
 
+/// How many bytes an object has.
+const SIZES: &[(u32, Option<usize>)] = &[(0, Some(32)), (1, Some(64)), (2, None), (6, None)];
+
+/// The same once the first is released, and another takes the room behind the second.
+const SIZES_THEN: &[(u32, Option<usize>)] = &[(0, None), (1, Some(64)), (3, Some(192))];
+
+/// The first id of a table with another number of bytes.
+fn other_size(rt: &impl Abort, bench: &Bench, sizes: &[(u32, Option<usize>)]) -> Option<u32> {
+    for (id, size) in sizes {
+        if bench.size(rt, *id) != *size {
+            return Some(*id);
+        }
+    }
+    None
+}
+
 #[test]
 fn tells_bytes(rt: HostRuntime) -> Result<(), Fail> {
     let mut bench = Bench::with(&rt, rt.alloc(), TWO)?;
     bench.fill(&rt, 0, 32, 5);
     bench.fill(&rt, 32, 64, 6);
-    assert_eq!(rt; bench.size(&rt, 0), Some(32));
-    assert!(rt; bench.has_only(&rt, 0, 5));
-    assert_eq!(rt; bench.size(&rt, 1), Some(64));
-    assert!(rt; bench.has_only(&rt, 1, 6));
-    assert_eq!(rt; bench.size(&rt, 2), None);
-    assert_eq!(rt; bench.size(&rt, 6), None);
+    assert!(rt; bench.has_only(&rt, 0, 5) && bench.has_only(&rt, 1, 6));
+    assert!(rt; other_size(&rt, &bench, SIZES).is_none());
     bench.act(&rt, Step::Release(0));
     bench.act(&rt, Step::Alloc(3, 192, Kind::Moveable, SLIDING));
-    assert_eq!(rt; bench.size(&rt, 0), None);
-    assert_eq!(rt; bench.size(&rt, 1), Some(64));
     assert!(rt; bench.has_only(&rt, 1, 6));
-    assert_eq!(rt; bench.size(&rt, 3), Some(192));
+    assert!(rt; other_size(&rt, &bench, SIZES_THEN).is_none());
     Ok(())
 }
 
@@ -169,8 +218,7 @@ fn tells_bytes(rt: HostRuntime) -> Result<(), Fail> {
 fn lends_bytes(rt: HostRuntime) -> Result<(), Fail> {
     let mut bench = Bench::with(&rt, rt.alloc(), TWO)?;
     bench.fill_object(&rt, 1, 7);
-    assert!(rt; bench.has_only(&rt, 0, 0));
-    assert!(rt; bench.has_only(&rt, 1, 7));
-    assert_eq!(rt; bench.written(), 64);
+    assert!(rt; bench.has_only(&rt, 0, 0) && bench.has_only(&rt, 1, 7));
+    assert!(rt; bench.written() == 64);
     Ok(())
 }

@@ -14,12 +14,16 @@ use w16_region::{Region, Space};
 const IDS: u32 = 6;
 
 /// One call of an arena.
-#[derive(Clone, Copy, Debug)]
+#[derive(Clone, Copy)]
 pub(super) enum Step {
     Enter(u32, Kind),
     Alloc(u32, u32, Kind, Way),
     Lock(u32),
     Unlock(u32),
+    /// 255 locks of one object.
+    Locks(u32),
+    /// 255 locks less.
+    Unlocks(u32),
     Free(u32),
     Release(u32),
     Discard(u32),
@@ -32,7 +36,7 @@ pub(super) enum Step {
 }
 
 /// What it answers.
-#[derive(Clone, Copy, Debug, PartialEq, Eq)]
+#[derive(Clone, Copy, PartialEq, Eq)]
 pub(super) enum Answer {
     Done,
     Refused(Refusal),
@@ -61,8 +65,8 @@ fn is_multiple(of: u32, n: u32) -> bool
 /// A heap as it stands: its walk, the order of use, what is known of each id, and how many bytes were written.
 #[derive(Drop, PartialEq, Eq)]
 pub(super) struct Seen {
-    items: Vec<Item>,
-    order: Vec<u32>,
+    pub items: Vec<Item>,
+    pub order: Vec<u32>,
     entries: Vec<Option<Entry>>,
     written: u64,
 }
@@ -117,6 +121,8 @@ impl Bench {
             Step::Discard(id) => self.discard(rt, id),
             Step::Compact(n) => self.compact(rt, n),
             Step::RoomAll => self.room_all(),
+            Step::Locks(id) => self.repeat(Step::Lock(id)),
+            Step::Unlocks(id) => self.repeat(Step::Unlock(id)),
             _ => self.mark(step),
         }
     }
@@ -135,6 +141,17 @@ impl Bench {
             }
             _ => Answer::NoRoom,
         }
+    }
+
+    /// Makes a call that needs no memory 255 times: the last answer, or the first that isn't `Done`.
+    fn repeat(&mut self, step: Step) -> Answer {
+        for _ in 1..255 {
+            let answer = self.mark(step);
+            if answer != Answer::Done {
+                return answer;
+            }
+        }
+        self.mark(step)
     }
 
     fn enter(&mut self, rt: &impl Abort, id: u32, kind: Kind) -> Answer {

@@ -498,6 +498,45 @@ const SCRIPTS: &[Script] = &[
         order: &[0],
     },
     Script {
+        name: "a full count of locks, and a refused lock that is no use",
+        lines: &[
+            (
+                Step::Alloc(0, 32, Kind::Discardable, AS_IT_STANDS),
+                placed!(0),
+                &[],
+            ),
+            (
+                Step::Alloc(1, 32, Kind::Discardable, AS_IT_STANDS),
+                placed!(32),
+                &[],
+            ),
+            (Step::Locks(0), Answer::Done, &[]),
+            (Step::Oldest(0), Answer::Done, &[]),
+            (Step::Lock(0), Answer::Refused(Refusal::LockFull), &[]),
+        ],
+        walk: &[
+            object!(0, 32, 0, Kind::Discardable, 255),
+            object!(32, 32, 1, Kind::Discardable, 0),
+            hole!(64, 192),
+        ],
+        order: &[0, 1],
+    },
+    Script {
+        name: "as many locks less",
+        lines: &[
+            (
+                Step::Alloc(0, 32, Kind::Discardable, AS_IT_STANDS),
+                placed!(0),
+                &[],
+            ),
+            (Step::Locks(0), Answer::Done, &[]),
+            (Step::Unlocks(0), Answer::Done, &[]),
+            (Step::Free(0), Answer::Done, &[]),
+        ],
+        walk: &[hole!(0, 256)],
+        order: &[],
+    },
+    Script {
         name: "the change of kind",
         lines: &[
             (
@@ -518,7 +557,11 @@ const SCRIPTS: &[Script] = &[
             (Step::Lock(0), Answer::Done, &[]),
             (Step::Modify(0, Kind::Discardable), Answer::Done, &[]),
             (Step::Modify(1, Kind::Discardable), Answer::Done, &[]),
-            (Step::Alloc(3, 32, Kind::Discardable, AS_IT_STANDS), placed!(96), &[]),
+            (
+                Step::Alloc(3, 32, Kind::Discardable, AS_IT_STANDS),
+                placed!(96),
+                &[],
+            ),
             (Step::Modify(3, Kind::Moveable), Answer::Done, &[]),
             (
                 Step::Modify(2, Kind::Moveable),
@@ -556,43 +599,37 @@ fn is_refusal(answer: Answer) -> bool {
 fn expect(
     rt: &impl Abort,
     alloc: Global,
-    name: &str,
     bench: &mut Bench,
     line: &(Step, Answer, &[u32]),
-) -> Result<(), AllocError> {
+) -> Result<bool, AllocError> {
     let (step, answer, discarded) = *line;
     let before = bench.seen(alloc)?;
     let found = bench.act(rt, step);
-    assert_eq!(rt; found, answer, "{name}: {step:?}");
-    assert!(rt; bench.has_discarded(discarded), "{name}: {step:?}: discarded");
     let after = bench.seen(alloc)?;
-    assert!(rt; !is_refusal(answer) || after == before, "{name}: {step:?}: left");
-    Ok(())
+    Ok(
+        found == answer
+            && bench.has_discarded(discarded)
+            && (!is_refusal(answer) || after == before),
+    )
 }
 
-/// Makes the calls of a script in a new heap, and looks at what they leave.
-fn plays(rt: &impl Abort, alloc: Global, script: Script) -> Result<(), AllocError> {
-    let Script {
-        name,
-        lines,
-        walk,
-        order,
-    } = script;
+/// Makes the calls of a script in a new heap, and tells whether they leave what they should.
+fn plays(rt: &impl Abort, alloc: Global, script: Script) -> Result<bool, AllocError> {
     let mut bench = Bench::new(rt, alloc)?;
-    for line in lines {
-        expect(rt, alloc, name, &mut bench, line)?;
+    for line in script.lines {
+        if !expect(rt, alloc, &mut bench, line)? {
+            return Ok(false);
+        }
     }
-    let items = bench.items(alloc)?;
-    assert_eq!(rt; items.as_slice(), walk, "{name}: walk");
-    let ids = bench.order(alloc)?;
-    assert_eq!(rt; ids.as_slice(), order, "{name}: order");
-    Ok(())
+    let seen = bench.seen(alloc)?;
+    Ok(seen.items.as_slice() == script.walk && seen.order.as_slice() == script.order)
 }
 
 #[test]
 fn answers_calls(rt: HostRuntime) -> Result<(), Fail> {
     for script in SCRIPTS {
-        plays(&rt, rt.alloc(), *script)?;
+        let agrees = plays(&rt, rt.alloc(), *script)?;
+        assert!(rt; agrees, "{}", script.name);
     }
     Ok(())
 }
@@ -606,55 +643,81 @@ const WITH_HOLES: &[Step] = &[
     Step::Release(1),
 ];
 
+/// Two objects that fill the heap.
+const FULL: &[Step] = &[
+    Step::Alloc(3, 96, Kind::Moveable, AS_IT_STANDS),
+    Step::Alloc(0, 160, Kind::Moveable, AS_IT_STANDS),
+];
+
+/// Calls, and what stands then at an address or behind it.
+type Walk = (&'static [Step], &'static [(u32, Option<Item>)]);
+
+const WALKS: &[Walk] = &[
+    (&[], &[(0, Some(hole!(0, 256))), (1, None)]),
+    (
+        WITH_HOLES,
+        &[
+            (0, Some(object!(0, 32, 0, Kind::Fixed, 0))),
+            (1, Some(hole!(32, 64))),
+            (32, Some(hole!(32, 64))),
+            (33, Some(object!(96, 32, 2, Kind::Discardable, 1))),
+            (96, Some(object!(96, 32, 2, Kind::Discardable, 1))),
+            (97, Some(hole!(128, 128))),
+            (129, None),
+        ],
+    ),
+    (
+        FULL,
+        &[
+            (0, Some(object!(0, 96, 3, Kind::Moveable, 0))),
+            (1, Some(object!(96, 160, 0, Kind::Moveable, 0))),
+            (97, None),
+        ],
+    ),
+];
+
+/// The first address of the table with another item behind it.
+fn other_item(bench: &Bench, items: &[(u32, Option<Item>)]) -> Option<u32> {
+    for (from, item) in items {
+        if bench.walk_from(*from) != *item {
+            return Some(*from);
+        }
+    }
+    None
+}
+
 #[test]
 fn walks_by_address(rt: HostRuntime) -> Result<(), Fail> {
-    let empty = Bench::new(&rt, rt.alloc())?;
-    assert_eq!(rt; empty.walk_from(0), Some(hole!(0, 256)));
-    assert_eq!(rt; empty.walk_from(1), None);
-    let bench = Bench::with(&rt, rt.alloc(), WITH_HOLES)?;
-    let fixed = object!(0, 32, 0, Kind::Fixed, 0);
-    let locked = object!(96, 32, 2, Kind::Discardable, 1);
-    for (from, item) in [
-        (0, Some(fixed)),
-        (1, Some(hole!(32, 64))),
-        (32, Some(hole!(32, 64))),
-        (33, Some(locked)),
-        (96, Some(locked)),
-        (97, Some(hole!(128, 128))),
-        (129, None),
-    ] {
-        assert_eq!(rt; bench.walk_from(from), item, "from {from}");
+    for (steps, items) in WALKS {
+        let bench = Bench::with(&rt, rt.alloc(), steps)?;
+        assert!(rt; other_item(&bench, items).is_none());
     }
     Ok(())
+}
+
+/// The items of the heap with holes by their numbers.
+const ITEMS: &[(usize, Option<Item>)] = &[
+    (0, Some(object!(0, 32, 0, Kind::Fixed, 0))),
+    (1, Some(hole!(32, 64))),
+    (2, Some(object!(96, 32, 2, Kind::Discardable, 1))),
+    (3, Some(hole!(128, 128))),
+    (4, None),
+    (9, None),
+];
+
+/// The first number of the table with another item.
+fn other_item_at(bench: &Bench) -> Option<usize> {
+    for (i, item) in ITEMS {
+        if bench.walk(*i) != *item {
+            return Some(*i);
+        }
+    }
+    None
 }
 
 #[test]
 fn walks_by_number(rt: HostRuntime) -> Result<(), Fail> {
     let bench = Bench::with(&rt, rt.alloc(), WITH_HOLES)?;
-    for (i, item) in [
-        (0, Some(object!(0, 32, 0, Kind::Fixed, 0))),
-        (1, Some(hole!(32, 64))),
-        (2, Some(object!(96, 32, 2, Kind::Discardable, 1))),
-        (3, Some(hole!(128, 128))),
-        (4, None),
-        (9, None),
-    ] {
-        assert_eq!(rt; bench.walk(i), item, "item {i}");
-    }
-    Ok(())
-}
-
-#[test]
-fn walks_a_full_heap(rt: HostRuntime) -> Result<(), Fail> {
-    let steps = [
-        Step::Alloc(3, 96, Kind::Moveable, AS_IT_STANDS),
-        Step::Alloc(0, 160, Kind::Moveable, AS_IT_STANDS),
-    ];
-    let bench = Bench::with(&rt, rt.alloc(), &steps)?;
-    let first = object!(0, 96, 3, Kind::Moveable, 0);
-    let second = object!(96, 160, 0, Kind::Moveable, 0);
-    assert_eq!(rt; bench.walk_from(0), Some(first));
-    assert_eq!(rt; bench.walk_from(1), Some(second));
-    assert_eq!(rt; bench.walk_from(97), None);
+    assert!(rt; other_item_at(&bench).is_none());
     Ok(())
 }
