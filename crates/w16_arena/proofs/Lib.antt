@@ -27,6 +27,7 @@ pub mod Modified
 pub mod Refusals
 pub mod Next
 pub mod Fresh
+pub mod Joining
 pub mod Allocated
 pub mod Standing
 pub mod Walks
@@ -35,3 +36,14 @@ pub mod Together
 pub mod Oldest
 pub mod Answering
 pub mod Viewed
+pub mod Sized
+pub mod Longer
+pub mod Resized
+pub mod PutBack
+pub mod Kept
+pub mod Fitting
+pub mod InPlace
+pub mod Extending
+pub mod Loosened
+pub mod Regrown
+pub mod Growing
