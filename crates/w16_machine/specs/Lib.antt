@@ -3,3 +3,8 @@ pub mod Machine
 pub mod Codes
 pub mod Law
 pub mod Fewest
+pub mod Local
+pub mod LocalCalls
+pub mod LocalMachine
+pub mod LocalLaw
+pub mod LocalFewest
