@@ -214,7 +214,10 @@ pub(super) const SCRIPTS: &[Script] = &[
             (Call::Written, Answer::Count(128)),
             (Call::Base(0x107), Answer::Long(64)),
             (Call::Limit(0x107), Answer::Long(63)),
-            (Call::Read(0x107, 30, &[0x5A, 0x5A, 0, 0]), Answer::Far(Ok(()))),
+            (
+                Call::Read(0x107, 30, &[0x5A, 0x5A, 0, 0]),
+                Answer::Far(Ok(())),
+            ),
             (Call::Lock(0x106), Answer::Long(0x0107_0000)),
             (Call::ReAlloc(0x106, 1, 0), Answer::Word(0x106)),
             (Call::Moved, Answer::Count(0)),
