@@ -218,7 +218,7 @@ module _ (old : LocalWorld) (is : IsLocalWorld old) (at : LocalHeap) (c : chosen
     | inr d ↦ same_kept_local after (sym (there_local new at (record {
       table = ap (λ (w : LocalWorld). finmap.get w.tables at.slot) init.rest ∙ inserted_other old.tables init.begun.slot (new_table init.begun.range) at.slot d ∙ here.table;
       bytes = ap (λ (w : LocalWorld). segment_bytes w at.slot) init.rest ∙ here.bytes;
-        inside = here.inside;
+      inside = here.inside;
     })) ∙ e)
   ]
   called_kept new after e (inr (inr (by, d, done))) =
