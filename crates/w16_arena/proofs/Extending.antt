@@ -3,7 +3,7 @@ use Rattle.std.proofs.Common.{◌≡◌, ◌≢◌, ℕ, ◌+◌, ◌-◌, ◌<�
 use Rattle.w16_model.specs.declared.Block.{Block}
 use Rattle.w16_model.specs.declared.Entry.{Entry}
 use Rattle.w16_model.specs.Bytes.{part, put_part, repeated}
-use Rattle.w16_model.specs.Gap.{Misses, block_end, hole_after}
+use Rattle.w16_model.specs.Gap.{Misses}
 use Rattle.w16_model.specs.Heap.{Object}
 use Rattle.w16_model.specs.Request.{IsGrown}
 use Rattle.w16_model.specs.Table.{block_with}

@@ -1,12 +1,12 @@
 -- A block with another size fits where it stands: with less, and with more where the hole behind it is long enough.
-use Rattle.std.proofs.Common.{◌≡◌, ℕ, ◌+◌, ◌-◌, ◌<◌, ◌≤◌, IsTrue, Some, refl, arith, inl, inr}
+use Rattle.std.proofs.Common.{◌≡◌, ℕ, ◌+◌, ◌<◌, ◌≤◌, IsTrue, Some, refl, arith, inl, inr}
 use Rattle.std.specs.List.{AllByRecursion as Each}
 use Rattle.w16_model.specs.declared.Block.{Block}
 use Rattle.w16_model.specs.Gap.{Misses, block_end, first_from, hole_after, is_any}
 use Rattle.w16_model.specs.Heap.{IsMultiple}
 use Rattle.w16_model.specs.Table.{block_with}
 use Rattle.w16_model.proofs.Gaps.{Each-map, Each-both, first_from-below}
-use Rattle.w16_blocks.specs.Layout.{Layout, IsOrdered, IsApart, Fits, FitsFor, all_but}
+use Rattle.w16_blocks.specs.Layout.{Layout, IsOrdered, IsApart, FitsFor, all_but}
 use Rattle.w16_blocks.proofs.Remove.{All-all_but, each_with, others_differ}
 use Rattle.w16_blocks.proofs.Sliding.{named_each}
 use Rattle.w16_blocks.proofs.Step.{fits_itself}

@@ -1,6 +1,5 @@
 -- A growth, by what was found and made for it.
-use Rattle.std.proofs.Common.{◌≡◌, ◌≢◌, ℕ, ◌+◌, ◌<◌, ◌≤◌, inl, inr, Bool, true, false, not, ◌&&◌, ◌||◌, ◌==◌, cond, nat_le, if◌then◌else◌, IsTrue, IsSomeAnd, MatchOption, All, List, [], ◌∷◌, length, replicate, take, fold, Option, Some, None, refl, sym, ap, ◌∙◌, subst, arith, eq-eqb, leb-true, leb-false, le-leb}
-use Rattle.std.specs.FinMap as finmap
+use Rattle.std.proofs.Common.{◌≡◌, ℕ, ◌<◌, ◌≤◌, inl, inr, Bool, true, false, not, ◌&&◌, ◌||◌, ◌==◌, cond, nat_le, IsSomeAnd, MatchOption, All, List, [], ◌∷◌, length, replicate, take, fold, Option, Some, None, refl, sym, ap, ◌∙◌, subst, arith, eq-eqb, leb-true, leb-false, le-leb}
 use Rattle.std.proofs.lemmas.Bool.{false≢true, and_parts, cases_Bool}
 use Rattle.std.proofs.lemmas.List.{length-replicate}
 use Rattle.w16_model.specs.declared.Block.{Block}
@@ -21,7 +20,7 @@ use Rattle.w16_model.proofs.Discards.{from_take, absents_of_block, room-discarde
 use Rattle.w16_model.proofs.Prefixes.{prefix_now, prefix_kept, prefix_needed, needed_by_members, needed_enough, eligible_by_members, room_by_members}
 use Rattle.w16_model.proofs.Answered.{settles_after, moved_after}
 use Rattle.w16_blocks.specs.Layout.{all_but}
-use Rattle.w16_arena.specs.Asked.{Stands, IsPlaced, IsResized, HasDiscardedFor, Discards, may_grow_in}
+use Rattle.w16_arena.specs.Asked.{Stands, IsResized, Discards, may_grow_in}
 use Rattle.w16_arena.specs.declared.new_place.Placed.{Placed}
 use Rattle.w16_arena.specs.State.{ArenaState}
 use Rattle.w16_arena.proofs.Parts.{AreParts}

@@ -1,5 +1,5 @@
 -- An object that got another size where it stands: what its call leaves kept and answers.
-use Rattle.std.proofs.Common.{◌≡◌, ◌≢◌, ℕ, ◌+◌, ◌-◌, ◌<◌, ◌≤◌, ◌⊎◌, inl, inr, Bool, true, false, not, ◌&&◌, cond, nat_le, if◌then◌else◌, IfSome, All, List, [], length, take, drop, replicate, slice_range, Option, Some, None, option_map, refl, sym, ap, ◌∙◌, subst, arith, le-leb, ne_eqb}
+use Rattle.std.proofs.Common.{◌≡◌, ◌≢◌, ℕ, ◌+◌, ◌<◌, ◌≤◌, ◌⊎◌, true, false, not, ◌&&◌, cond, IfSome, List, [], length, take, drop, replicate, slice_range, Option, Some, None, option_map, refl, sym, ap, ◌∙◌, subst, arith, le-leb, ne_eqb}
 use Rattle.std.specs.FinMap as finmap
 use Rattle.std.proofs.lemmas.Bool.{lt-leb}
 use Rattle.std.specs.FinMap.{FinMap}
@@ -9,26 +9,26 @@ use Rattle.std.specs.Borrow.{GName}
 use Rattle.w16_model.specs.declared.Block.{Block}
 use Rattle.w16_model.specs.declared.Entry.{Entry}
 use Rattle.w16_model.specs.declared.Way.{Way}
-use Rattle.w16_model.specs.Bytes.{part, put_part, repeated}
-use Rattle.w16_model.specs.Gap.{Misses, block_end, hole_after, holds_still}
+use Rattle.w16_model.specs.Bytes.{part}
+use Rattle.w16_model.specs.Gap.{block_end, hole_after, holds_still}
 use Rattle.w16_model.specs.Heap.{Heap, Object, IsMultiple}
 use Rattle.w16_model.specs.Changes.{with_object}
 use Rattle.w16_model.specs.Request.{IsGrown, Reallocates}
 use Rattle.w16_model.specs.Table.{Table, block_with, heap_in}
 use Rattle.w16_model.proofs.Parts.{range_part}
-use Rattle.w16_blocks.specs.Layout.{Layout, IsOrdered, IsApart, FitsFor, all_but, replaced}
+use Rattle.w16_blocks.specs.Layout.{Layout, IsOrdered, all_but, replaced}
 use Rattle.w16_compact.specs.Gather.{contents}
 use Rattle.w16_compact.specs.Rest.{IsSameRest}
 use Rattle.w16_lru.specs.Uses.{Uses}
 use Rattle.w16_arena.specs.declared.new_place.Placed.{Placed}
 use Rattle.w16_arena.specs.Asked.{IsResized, IsPlaced}
-use Rattle.w16_arena.specs.State.{ArenaState, KeepsRest, table_of, heap_of}
+use Rattle.w16_arena.specs.State.{KeepsRest, table_of, heap_of}
 use Rattle.w16_arena.specs.Representation.{IsKept}
 use Rattle.w16_arena.proofs.Parts.{AreParts}
 use Rattle.w16_arena.proofs.With.{with-without}
 use Rattle.w16_arena.proofs.Keeping.{bytes_with}
 use Rattle.w16_arena.proofs.Unmoved.{unmoved}
-use Rattle.w16_arena.proofs.Steps.{state_of, beside, some_parts, kept_with}
+use Rattle.w16_arena.proofs.Steps.{beside, some_parts, kept_with}
 use Rattle.w16_arena.proofs.Answering.{still_same}
 use Rattle.w16_arena.proofs.Resized.{resized_parts, resized_heap}
 use Rattle.w16_arena.proofs.Sized as sized

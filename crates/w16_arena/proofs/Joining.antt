@@ -2,7 +2,7 @@
 use Rattle.std.proofs.Common.{◌≡◌, ℕ, Bool, true, false, ◌&&◌, if◌then◌else◌, List, get_or, Option, Some, None, refl, ap, ◌∙◌}
 use Rattle.w16_model.specs.declared.Entry.{Entry}
 use Rattle.w16_model.specs.declared.Kind.{Kind}
-use Rattle.w16_model.specs.Heap.{Object, is_discardable}
+use Rattle.w16_model.specs.Heap.{is_discardable}
 use Rattle.w16_model.specs.Discards.{is_member}
 use Rattle.w16_model.specs.Changes.{newest, without, with_newest}
 use Rattle.w16_model.specs.Table.{block_with, is_listed}

@@ -5,7 +5,7 @@ use Rattle.std.specs.List.{AllByRecursion}
 use Rattle.w16_model.specs.declared.Block.{Block}
 use Rattle.w16_model.specs.declared.Span.{Span}
 use Rattle.w16_model.specs.Bytes.{part}
-use Rattle.w16_model.specs.Gap.{block_end, holes}
+use Rattle.w16_model.specs.Gap.{block_end}
 use Rattle.w16_model.specs.Table.{block_with}
 use Rattle.w16_holes.specs.Holes.{IsUsed}
 use Rattle.w16_blocks.specs.Layout.{Layout, IsOrdered, all_but, placed, replaced, holes_of}

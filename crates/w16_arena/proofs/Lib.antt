@@ -47,3 +47,4 @@ pub mod Extending
 pub mod Loosened
 pub mod Regrown
 pub mod Growing
+pub mod Reallocated

@@ -1,12 +1,12 @@
 -- Blocks in which one has another hold: the others are the same, and so is what is free.
-use Rattle.std.proofs.Common.{◌≡◌, ℕ, ◌+◌, ◌-◌, ◌<◌, ◌≤◌, Bool, true, false, ◌||◌, ◌==◌, ◌^◌, cond, nat_le, if◌then◌else◌, IsTrue, List, [], ◌∷◌, Option, Some, None, refl, sym, ap, ◌∙◌, subst, arith, eq-eqb, inl, inr}
+use Rattle.std.proofs.Common.{◌≡◌, ℕ, ◌+◌, ◌-◌, ◌<◌, ◌≤◌, Bool, true, false, ◌||◌, ◌^◌, cond, nat_le, IsTrue, List, [], ◌∷◌, Option, Some, None, refl, sym, ap, ◌∙◌, subst, arith, eq-eqb, inl, inr}
 use Rattle.std.specs.List.{AllByRecursion as Each}
 use Rattle.std.proofs.lemmas.Bool.{cases_lt, lt-ltb, le-ltb}
 use Rattle.std.proofs.lemmas.Bool.Decides.{eqb_tells}
 use Rattle.w16_model.specs.declared.Block.{Block}
 use Rattle.w16_model.specs.declared.Hold.{Hold}
 use Rattle.w16_model.specs.Discards.{fits_in_place, snapshot}
-use Rattle.w16_model.specs.Gap.{Misses, IsClear, IsHole, block_end, first_from, hole_after, is_any, longest_hole, room}
+use Rattle.w16_model.specs.Gap.{Misses, IsClear, block_end, first_from, hole_after, is_any, longest_hole, room}
 use Rattle.w16_model.specs.Law.{HoleIsLongest}
 use Rattle.w16_model.specs.Table.{block_with}
 use Rattle.w16_model.proofs.Gaps.{Each-from_All, All-from_Each, first_from-below, first_from-greatest}
@@ -80,6 +80,7 @@ module _ (l : Layout) (ordered : IsOrdered l) (b : Block) (known : block_with l.
       where
         old : HoleIsLongest l.lo l.hi l.blocks
         old = hole_is_longest l.lo l.hi l.blocks (laid_placed l.lo l.hi l.blocks ordered.laid)
+
         new : HoleIsLongest l.lo l.hi then_blocks
         new = hole_is_longest l.lo l.hi then_blocks (laid_placed l.lo l.hi then_blocks laid.laid)
 

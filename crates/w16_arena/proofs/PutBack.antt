@@ -1,5 +1,5 @@
 -- An object that got bytes while it was left out of the heap: of the whole heap the same holds.
-use Rattle.std.proofs.Common.{◌≡◌, ◌≢◌, ℕ, ◌+◌, ◌<◌, ◌≤◌, ◌⊎◌, Bool, true, false, not, ◌&&◌, ◌||◌, ◌==◌, cond, if◌then◌else◌, IsTrue, IfSome, IsSomeAnd, List, filter, sum_by, Option, Some, None, option_map, unwrap_or, refl, sym, ap, ◌∙◌, subst, arith, eq-eqb, inl, inr}
+use Rattle.std.proofs.Common.{◌≡◌, ◌≢◌, ℕ, ◌+◌, ◌<◌, ◌≤◌, ◌⊎◌, not, ◌==◌, IsTrue, IfSome, Option, Some, None, unwrap_or, sym, ap, ◌∙◌, eq-eqb, inl, inr}
 use Rattle.std.specs.Ordering.{nat_cmp}
 use Rattle.std.specs.Cmp.{nat_cmp_total}
 use Rattle.std.specs.FinMap as finmap
@@ -7,13 +7,13 @@ use Rattle.std.specs.FinMap.{FinMap, same_map, nat_cmp-IsAntisymmetric}
 use Rattle.std.proofs.lemmas.Bool.{cases_eq, false≢true, and_parts}
 use Rattle.w16_model.specs.declared.Block.{Block}
 use Rattle.w16_model.specs.declared.Way.{Way}
-use Rattle.w16_model.specs.Heap.{Heap, Object, object_at, blocks}
+use Rattle.w16_model.specs.Heap.{Heap, Object, blocks}
 use Rattle.w16_model.specs.Changes.{removed}
 use Rattle.w16_model.specs.Request.{stays_for, moved_bytes}
 use Rattle.w16_model.proofs.Gaps.{Each-at, Each-from, Each-from_All, All-from_Each}
 use Rattle.w16_model.proofs.Heaps.{IsBlockOf, block_member, member_block}
 use Rattle.w16_model.proofs.KeptHeaps.{inserted_here, inserted_other, taken_other}
-use Rattle.w16_arena.specs.Asked.{Stands, IsStill}
+use Rattle.w16_arena.specs.Asked.{Stands}
 use Rattle.w16_arena.specs.declared.new_place.Placed.{Placed}
 
 -- what is put where something was taken away is as if nothing had been

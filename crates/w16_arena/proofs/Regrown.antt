@@ -1,5 +1,5 @@
 -- An object that got more bytes, where it stood or elsewhere: what its call leaves kept and answers. It is looked at as if it had been absent.
-use Rattle.std.proofs.Common.{◌≡◌, ◌≢◌, ℕ, ◌+◌, ◌-◌, ◌<◌, ◌≤◌, ◌⊎◌, inl, inr, Bool, true, false, not, ◌&&◌, ◌==◌, cond, if◌then◌else◌, IsTrue, IfSome, IsSomeAnd, All, List, length, filter, sum_by, get_or, set, slice_range, Option, Some, None, refl, sym, ap, ◌∙◌, subst, arith, eq-eqb}
+use Rattle.std.proofs.Common.{◌≡◌, ℕ, ◌+◌, ◌-◌, ◌<◌, ◌≤◌, ◌⊎◌, inl, inr, Bool, true, false, not, ◌&&◌, ◌==◌, cond, if◌then◌else◌, IsTrue, IfSome, IsSomeAnd, All, List, length, get_or, set, slice_range, Option, Some, None, refl, sym, ap, ◌∙◌, subst, arith, eq-eqb}
 use Rattle.std.specs.FinMap as finmap
 use Rattle.std.proofs.lemmas.List.{length-set, set-set, set-get_or}
 use Rattle.w16_model.specs.declared.Block.{Block}
@@ -7,8 +7,8 @@ use Rattle.w16_model.specs.declared.Entry.{Entry}
 use Rattle.w16_model.specs.declared.Way.{Way}
 use Rattle.w16_model.specs.Bytes.{part, put_part, repeated}
 use Rattle.w16_model.specs.Gap.{IsClear, Misses, is_any}
-use Rattle.w16_model.specs.Heap.{Heap, Object, IsMultiple, blocks, object_at, is_discardable}
-use Rattle.w16_model.specs.Changes.{removed, without}
+use Rattle.w16_model.specs.Heap.{Heap, Object, IsMultiple, blocks, is_discardable}
+use Rattle.w16_model.specs.Changes.{without}
 use Rattle.w16_model.specs.Request.{IsGrown, StaysOrMovesToHole, is_elsewhere, moved_bytes}
 use Rattle.w16_model.specs.Table.{Table, IsCountedBy, block_with, heap_in, hold_of_entry, is_listed}
 use Rattle.w16_model.proofs.Gaps.{Each-at, Each-from, Each-from_All, All-from_Each, EachPair-from_AllPairs, AllPairs-from_EachPair, pairs_filter}

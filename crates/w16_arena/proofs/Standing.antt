@@ -1,5 +1,5 @@
 -- An object at a place that was found or made: what its call asks, and the heap after it. Its id has no block before.
-use Rattle.std.proofs.Common.{◌≡◌, ◌≢◌, ℕ, ◌+◌, ◌<◌, ◌≤◌, ◌⊎◌, inl, inr, Bool, true, false, not, ◌&&◌, ◌||◌, ◌==◌, IsTrue, IfSome, All, List, length, set, slice_range, Option, Some, None, option_map, refl, sym, ap, ◌∙◌, subst, arith}
+use Rattle.std.proofs.Common.{◌≡◌, ◌≢◌, ℕ, ◌+◌, ◌<◌, ◌≤◌, ◌⊎◌, inl, inr, Bool, true, false, not, ◌&&◌, ◌||◌, ◌==◌, IsTrue, IfSome, List, length, set, slice_range, Option, Some, None, option_map, refl, sym, ap, ◌∙◌, subst, arith}
 use Rattle.std.specs.Cmp.{nat_cmp_total}
 use Rattle.std.specs.FinMap as finmap
 use Rattle.std.specs.FinMap.{same_map, nat_cmp-IsAntisymmetric}
@@ -10,8 +10,7 @@ use Rattle.w16_model.specs.declared.Hold.{Hold}
 use Rattle.w16_model.specs.declared.Way.{Way}
 use Rattle.w16_model.specs.Gap.{is_pinned}
 use Rattle.w16_model.specs.Heap.{Heap, Object, IsMultiple, blocks, is_discardable}
-use Rattle.w16_model.specs.Changes.{with_ordered}
-use Rattle.w16_model.specs.Request.{Settles, stays_for}
+use Rattle.w16_model.specs.Request.{stays_for}
 use Rattle.w16_model.specs.Table.{block_with, hold_of_entry}
 use Rattle.w16_model.proofs.Gaps.{Member, Each-from, Each-at, All-from_Each}
 use Rattle.w16_blocks.specs.Layout.{Layout, IsOrdered, Fits, placed}

@@ -79,12 +79,7 @@ impl<H: HoleList> Arena<H> {
             return Err(NoRoom);
         }
         resize(&mut self.blocks, space, block, size);
-        clear_if(
-            way.zero,
-            space,
-            block.at + block.size,
-            size - block.size,
-        );
+        clear_if(way.zero, space, block.at + block.size, size - block.size);
         self.forget_discards();
         Ok(Placed {
             at: block.at,

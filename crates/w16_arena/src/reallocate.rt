@@ -169,12 +169,7 @@ impl<H: HoleList> Arena<H> {
         has_bytes(space);
         self.blocks.bounds();
         let placed = grow_block(&mut self.blocks, space, block, size, way.compact)?;
-        clear_if(
-            way.zero,
-            space,
-            placed.at + block.size,
-            size - block.size,
-        );
+        clear_if(way.zero, space, placed.at + block.size, size - block.size);
         Some(placed)
     }
 }

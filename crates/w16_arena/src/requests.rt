@@ -161,7 +161,12 @@ impl<H: HoleList> Arena<H> {
     }
 
     /// The least number of discards that make room for `n` bytes, where `h` isn't counted; none where no number does. Nothing changes.
-    pub(crate) fn least_discards<S: Space>(&mut self, space: &S, h: Option<u32>, n: u32) -> Option<usize>
+    pub(crate) fn least_discards<S: Space>(
+        &mut self,
+        space: &S,
+        h: Option<u32>,
+        n: u32,
+    ) -> Option<usize>
     where
         H: Holes<S>,
         requires kept { H.are_in (holes_in self.old.table) (S.bytes space.now) }

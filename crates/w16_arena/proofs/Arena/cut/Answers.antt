@@ -1,6 +1,6 @@
-use Rattle.std.proofs.Common.{◌≡◌, ◌+◌, ◌≤◌, [], length, Some, refl, arith}
+use Rattle.std.proofs.Common.{◌≡◌, ◌≤◌, [], length, Some, refl, arith}
 use Rattle.w16_model.specs.Heap.{IsMultiple}
-use Rattle.w16_model.specs.Table.{Table, block_with, heap_in}
+use Rattle.w16_model.specs.Table.{block_with, heap_in}
 use Rattle.w16_arena.specs.Asked.{IsResized}
 use Rattle.w16_arena.specs.declared.new_place.Placed.{Placed}
 use Rattle.w16_arena.specs.State.{KeepsRest, table_of, heap_of}

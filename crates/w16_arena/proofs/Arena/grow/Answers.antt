@@ -1,4 +1,4 @@
-use Rattle.std.proofs.Common.{◌≡◌, IfOk, OnErr, false, refl, sym, ◌∙◌}
+use Rattle.std.proofs.Common.{refl, sym, ◌∙◌}
 use Rattle.w16_arena.proofs.Growing.{refused_now, grows_now}
 use Rattle.w16_arena.proofs.Arena.grow.Goals as goal
 

@@ -1,4 +1,4 @@
-use Rattle.std.proofs.Common.{◌≡◌, ◌+◌, ◌-◌, ◌≤◌, false, [], length, IfSome, Some, refl, subst, sym, ◌∙◌, arith}
+use Rattle.std.proofs.Common.{◌≡◌, ◌+◌, ◌≤◌, false, [], length, IfSome, Some, refl, subst, sym, arith}
 use Rattle.w16_model.specs.declared.Block.{Block}
 use Rattle.w16_model.specs.Gap.{block_end, hole_after}
 use Rattle.w16_model.specs.Heap.{IsMultiple}
@@ -14,7 +14,7 @@ use Rattle.w16_arena.proofs.Shown.{known as known_in, told}
 use Rattle.w16_arena.proofs.Fitting.{id_known, fits_more, spare_small, ends_inside}
 use Rattle.w16_arena.proofs.InPlace.{kept_resized, rest_resized, is_extended, not_extended}
 use Rattle.w16_arena.proofs.Keeping.{same_in, used_placed}
-use Rattle.w16_arena.proofs.Extending.{in_mid, long_after, others_after, grown_after}
+use Rattle.w16_arena.proofs.Extending.{long_after, others_after, grown_after}
 use Rattle.w16_arena.proofs.Arena.grow_in_place.Goals as goal
 
 pub free_after-requires-clause-id : goal.free_after-requires-clause-id
@@ -35,8 +35,7 @@ returns-then-block-free_after-clause-refused g c =
     let l : Layout = c.self.inside.blocks in let b : Block = c.args.block in let n = c.args.size in
     let known : block_with l.blocks b.id ≡ Some b = known_in c.self.invariant c.self.view_is (λ t. block_with t.blocks b.id ≡ Some b) c.requires.known in
     let free : c.free_after.result ≡ hole_after l.hi l.blocks (block_end b) = subst (λ p. IfSome p (λ (b : Block). c.free_after.result ≡ hole_after l.hi l.blocks (block_end b))) known c.free_after.ensures.value in
-    let short = c.if-block-free_after.true in
-    (
+    let short = c.if-block-free_after.true in (
       told c.self.invariant c.self.view_is (λ t. Reallocates (heap_in t m) b.id n c.args.way false (heap_in t m))
           (not_extended c.self.invariant b known n m (known_in c.self.invariant c.self.view_is (λ t. t.hi ≤ length m) c.requires.inside) (known_in c.self.invariant c.self.view_is (λ t. IsMultiple t.grain n) c.requires.rounded) c.args.way c.requires.more c.requires.held (omega arith)),
       refl,

@@ -1,9 +1,8 @@
-use Rattle.std.proofs.Common.{◌≡◌, ◌+◌, ◌-◌, ◌≤◌, false, length, IsSomeAnd, Some, arith, ap, subst, sym, inl, inr}
+use Rattle.std.proofs.Common.{◌≡◌, ◌+◌, ◌≤◌, length, IsSomeAnd, Some, arith}
 use Rattle.w16_model.specs.declared.Block.{Block}
-use Rattle.w16_model.specs.Heap.{IsMultiple, Object, object_at}
+use Rattle.w16_model.specs.Heap.{IsMultiple, object_at}
 use Rattle.w16_model.specs.Request.{IsGrown, StaysOrMovesToHole}
 use Rattle.w16_model.specs.Table.{block_with, heap_in}
-use Rattle.w16_blocks.specs.Layout.{Layout}
 use Rattle.w16_compact.proofs.Rests.{rest_wider}
 use Rattle.w16_arena.specs.Asked.{Stands}
 use Rattle.w16_arena.specs.Growth.{but_for}
@@ -48,7 +47,7 @@ returns-clause-hole g c =
     let inside = known_in c.self.invariant c.self.view_is (λ t. t.hi ≤ length m) c.requires.inside in
     let rounded = known_in c.self.invariant c.self.view_is (λ t. IsMultiple t.grain n) c.requires.rounded in
     λ off. told c.self.invariant c.self.view_is (λ t. StaysOrMovesToHole (heap_in t m) b.id n (heap_of c.self.inside.entries.items c.grow_block.new.blocks c.self.inside.order.ids (g.S.Space.bytes c.clear_if.new.space)))
-      (hole_grown c.self.invariant b known c.bounds.ensures.ordered m inside n c.requires.more rounded c.args.way p e.value e.laid e.slid e.free e.object c.has_bytes.ensures c.clear_if.ensures.bytes (λ off. (e.still off).0) (e.still off).1)
+    (hole_grown c.self.invariant b known c.bounds.ensures.ordered m inside n c.requires.more rounded c.args.way p e.value e.laid e.slid e.free e.object c.has_bytes.ensures c.clear_if.ensures.bytes (λ off. (e.still off).0) (e.still off).1)
 
 pub returns-clause-rest : goal.returns-clause-rest
 returns-clause-rest g c =

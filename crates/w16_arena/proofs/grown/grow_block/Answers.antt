@@ -1,4 +1,4 @@
-use Rattle.std.proofs.Common.{◌≡◌, ◌+◌, ◌<◌, ◌≤◌, ◌==◌, length, refl, subst, ap, sym, ◌∙◌, arith, if◌then◌else◌, inl, inr}
+use Rattle.std.proofs.Common.{◌+◌, ◌==◌, subst, ap, sym, ◌∙◌, arith, if◌then◌else◌}
 use Rattle.w16_model.specs.declared.Block.{Block}
 use Rattle.w16_model.specs.Heap.{IsMultiple}
 use Rattle.w16_blocks.specs.Layout.{Layout, all_but}

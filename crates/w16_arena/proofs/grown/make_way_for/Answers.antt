@@ -3,7 +3,7 @@ use Rattle.w16_model.specs.declared.Block.{Block}
 use Rattle.w16_model.specs.declared.Hold.TheVariants.{Loose}
 use Rattle.w16_model.specs.declared.Span.{Span}
 use Rattle.w16_model.specs.Table.{block_with}
-use Rattle.w16_blocks.specs.Layout.{Layout, IsOrdered, replaced, holes_of}
+use Rattle.w16_blocks.specs.Layout.{Layout, replaced, holes_of}
 use Rattle.w16_compact.specs.Gather.{moved_between}
 use Rattle.w16_arena.specs.Growth.{but_for}
 use Rattle.w16_arena.specs.NewPlace.{AreMoved, AreFreeBytes}
@@ -141,8 +141,8 @@ returns-clause-still g c =
     let there : block_with m.blocks b.id ≡ Some (record b { at = p.at; hold = Loose }) = (e.object (record b { hold = Loose }) first).0 in
     let again = subst (λ p. IfSome p (λ (x : Block). c.set_hold-2.new.self ≡ record m { blocks = replaced (record x { hold = b.hold }) m.blocks })) there c.set_hold-2.ensures.value in
     λ off.
-      let s = e.still off in
-      (but_held m e.laid (record b { at = p.at; hold = Loose }) there b.hold again c.set_hold-2.ensures.ordered ∙ s.0 ∙ but_held l c.bounds.ensures.ordered b c.requires.known Loose value c.set_hold.ensures.ordered, elim (s.1 (record b { hold = Loose }) first) [ inl stays ↦ inl stays | inr clear ↦ inr (clear_held l c.bounds.ensures.ordered b c.requires.known Loose value c.set_hold.ensures.ordered clear) ])
+    let s = e.still off in
+    (but_held m e.laid (record b { at = p.at; hold = Loose }) there b.hold again c.set_hold-2.ensures.ordered ∙ s.0 ∙ but_held l c.bounds.ensures.ordered b c.requires.known Loose value c.set_hold.ensures.ordered, elim (s.1 (record b { hold = Loose }) first) [ inl stays ↦ inl stays | inr clear ↦ inr (clear_held l c.bounds.ensures.ordered b c.requires.known Loose value c.set_hold.ensures.ordered clear) ])
 
 pub returns-clause-kept : goal.returns-clause-kept
 returns-clause-kept g c =

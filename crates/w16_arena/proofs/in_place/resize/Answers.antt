@@ -1,7 +1,6 @@
-use Rattle.std.proofs.Common.{◌≡◌, IfSome, Some, refl, subst}
+use Rattle.std.proofs.Common.{◌≡◌, IfSome, refl, subst}
 use Rattle.w16_model.specs.declared.Block.{Block}
 use Rattle.w16_blocks.specs.Layout.{Layout, replaced}
-use Rattle.w16_blocks.specs.Stay.{AreSameOutsideBoth}
 use Rattle.w16_arena.proofs.Kept.{own_kept, others_kept}
 use Rattle.w16_arena.proofs.in_place.resize.Goals as goal
 
