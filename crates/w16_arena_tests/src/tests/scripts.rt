@@ -613,16 +613,27 @@ fn expect(
     )
 }
 
-/// Makes the calls of a script in a new heap, and tells whether they leave what they should.
-fn plays(rt: &impl Abort, alloc: Global, script: Script) -> Result<bool, AllocError> {
-    let mut bench = Bench::new(rt, alloc)?;
+/// Makes the calls of a script, and tells whether each is answered as it should be.
+fn makes(
+    rt: &impl Abort,
+    alloc: Global,
+    script: Script,
+    bench: &mut Bench,
+) -> Result<bool, AllocError> {
     for line in script.lines {
-        if !expect(rt, alloc, &mut bench, line)? {
+        if !expect(rt, alloc, bench, line)? {
             return Ok(false);
         }
     }
+    Ok(true)
+}
+
+/// Makes the calls of a script in a new heap, and tells whether they leave what they should.
+fn plays(rt: &impl Abort, alloc: Global, script: Script) -> Result<bool, AllocError> {
+    let mut bench = Bench::new(rt, alloc)?;
+    let is_made = makes(rt, alloc, script, &mut bench)?;
     let seen = bench.seen(alloc)?;
-    Ok(seen.items.as_slice() == script.walk && seen.order.as_slice() == script.order)
+    Ok(is_made && seen.items.as_slice() == script.walk && seen.order.as_slice() == script.order)
 }
 
 #[test]
