@@ -1,219 +1,239 @@
-//! The calls of the kernel, as tables of calls with the answers that were worked out by hand.
-ghost use Rattle.std.specs.Prelude.{ℕ};
 ghost use Rattle.w16_kernel.specs.Runs.{IsCall};
 
-mod scripts;
-
-use scripts::SCRIPTS;
 use std::alloc::{AllocError, Global};
-use std::marker::Model;
-use std::process::Abort;
 use std::test::Fail;
 use w16_kernel::{Call, Kernel, MOST_READ, Reply};
-use w16_model::{FarFault, Item};
+use w16_model::{FarFault, Item, Kind, Owner};
 
-/// One call of a kernel.
-#[derive(Clone, Copy, Debug)]
-enum Step {
-    Alloc(u16, u32),
-    Free(u16),
-    Lock(u16),
-    /// So many locks of one handle.
-    Locks(u16, u32),
-    Unlock(u16),
-    /// So many unlocks of one handle.
-    Unlocks(u16, u32),
-    Newest(u16),
-    Oldest(u16),
-    Write(u32, &'static [u8]),
-    /// Whether the four bytes at a far pointer are these.
-    Has(u32, [u8; 4]),
-    Walk,
-    WalkFrom(u32),
-    WalkAt(usize),
-    /// Whether the walk gives the same by number as by address.
-    SameWalk(usize, u32),
+/// A machine over 4,096 bytes and 16 selectors.
+fn small(alloc: Global) -> Result<Kernel, AllocError> {
+    Kernel::new(alloc, 4096, 16)
 }
 
-/// What it answers; none is a reply of another form, or an error.
-#[derive(Clone, Copy, Debug, PartialEq, Eq)]
-enum Answer {
-    Word(Option<u16>),
-    Dword(Option<u32>),
-    /// The first of several words, and how many were the same.
-    Words(Option<u16>, u32),
-    /// The first of several double words, and how many were the same.
-    Dwords(Option<u32>, u32),
-    Access(Option<Result<(), FarFault>>),
-    Is(bool),
-    Parts(Option<u32>),
-    Item(Option<Item>),
+/// The reply to a call.
+fn answer<'r>(
+    kernel: &mut Kernel,
+    call: &Call<'_>,
+    room: &'r mut [u8; MOST_READ],
+) -> Option<Reply<'r>>
+    requires { IsCall call.now }
+{
+    kernel.call(call, room).ok()
 }
 
-/// A new machine of so many bytes with 16 selectors, and calls with their answers.
-#[derive(Clone, Copy)]
-struct Script {
-    name: &'static str,
-    memory: u32,
-    lines: &'static [(Step, Answer)],
-}
-
-/// A machine with 16 selectors.
-///
-/// To a proof it has no value, and its methods promise nothing: what the kernel promises of a call is used where the method makes it, and no
-/// test carries it further.
-#[derive(Drop)]
-struct Machine {
-    kernel: Kernel,
-}
-
-impl Model for Machine {
-    ghost Value = { ℕ };
-
-    ghost view = { λ _. 0 };
-}
-
-impl Machine {
-    fn new(alloc: Global, memory: u32) -> Result<Machine, AllocError> {
-        let kernel = Kernel::new(alloc, memory, 16)?;
-        Ok(Machine { kernel })
-    }
-
-    /// The reply to a call.
-    fn reply<'r>(&mut self, call: &Call<'_>, room: &'r mut [u8; MOST_READ]) -> Option<Reply<'r>>
-        requires { IsCall call.now }
-    {
-        self.kernel.call(call, room).ok()
-    }
-
-    /// The word that a call is answered, or none.
-    fn word(&mut self, call: Call<'_>) -> Option<u16>
-        requires { IsCall call }
-    {
-        match self.reply(&call, &mut [0; MOST_READ]) {
-            Some(Reply::Word(word)) => Some(word),
-            _ => None,
-        }
-    }
-
-    /// The double word that a call is answered, or none.
-    fn dword(&mut self, call: Call<'_>) -> Option<u32>
-        requires { IsCall call }
-    {
-        match self.reply(&call, &mut [0; MOST_READ]) {
-            Some(Reply::Dword(dword)) => Some(dword),
-            _ => None,
-        }
-    }
-
-    /// Locks an object so many times.
-    fn locks(&mut self, handle: u16, n: u32) -> Answer {
-        let first = self.dword(Call::GlobalLock { handle });
-        let mut same = 1u32;
-        for _ in 1..n {
-            if self.dword(Call::GlobalLock { handle }) == first {
-                same = same.saturating_add(1);
-            }
-        }
-        Answer::Dwords(first, same)
-    }
-
-    /// Unlocks an object so many times.
-    fn unlocks(&mut self, handle: u16, n: u32) -> Answer {
-        let first = self.word(Call::GlobalUnlock { handle });
-        let mut same = 1u32;
-        for _ in 1..n {
-            if self.word(Call::GlobalUnlock { handle }) == first {
-                same = same.saturating_add(1);
-            }
-        }
-        Answer::Words(first, same)
-    }
-
-    /// Whether a write is answered, or the fault that it meets.
-    fn write(&mut self, pointer: u32, bytes: &[u8]) -> Option<Result<(), FarFault>> {
-        match self.reply(&Call::Write { pointer, bytes }, &mut [0; MOST_READ]) {
-            Some(Reply::Done) => Some(Ok(())),
-            Some(Reply::Fault(fault)) => Some(Err(fault)),
-            _ => None,
-        }
-    }
-
-    /// Whether the four bytes at a far pointer are these.
-    fn has(&mut self, pointer: u32, wanted: [u8; 4]) -> bool {
-        match self.reply(&Call::Read { pointer, count: 4 }, &mut [0; MOST_READ]) {
-            Some(Reply::Bytes(bytes)) => bytes == wanted.as_slice(),
-            _ => false,
-        }
-    }
-
-    /// How many parts the heap has.
-    fn parts(&mut self) -> Option<u32> {
-        match self.reply(&Call::Walk, &mut [0; MOST_READ]) {
-            Some(Reply::Walk(parts)) => Some(parts),
-            _ => None,
-        }
-    }
-
-    /// What stands at an address or behind it.
-    fn walk_from(&self, from: u32) -> Option<Item> {
-        self.kernel.walk_from(from)
-    }
-
-    /// The item of a number.
-    fn walk_at(&self, i: usize) -> Option<Item> {
-        self.kernel.walk_at(i)
-    }
-
-    /// A call about an object as a whole.
-    fn asks(&mut self, step: Step) -> Answer {
-        match step {
-            Step::Alloc(flags, size) => Answer::Word(self.word(Call::GlobalAlloc { flags, size })),
-            Step::Free(handle) => Answer::Word(self.word(Call::GlobalFree { handle })),
-            Step::Lock(handle) => Answer::Dword(self.dword(Call::GlobalLock { handle })),
-            Step::Unlock(handle) => Answer::Word(self.word(Call::GlobalUnlock { handle })),
-            Step::Newest(handle) => Answer::Word(self.word(Call::GlobalLRUNewest { handle })),
-            Step::Oldest(handle) => Answer::Word(self.word(Call::GlobalLRUOldest { handle })),
-            _ => Answer::Is(false),
-        }
-    }
-
-    /// Makes a call.
-    fn act(&mut self, step: Step) -> Answer {
-        match step {
-            Step::Locks(handle, n) => self.locks(handle, n),
-            Step::Unlocks(handle, n) => self.unlocks(handle, n),
-            Step::Write(pointer, bytes) => Answer::Access(self.write(pointer, bytes)),
-            Step::Has(pointer, bytes) => Answer::Is(self.has(pointer, bytes)),
-            Step::Walk => Answer::Parts(self.parts()),
-            Step::WalkFrom(from) => Answer::Item(self.walk_from(from)),
-            Step::WalkAt(i) => Answer::Item(self.walk_at(i)),
-            Step::SameWalk(i, from) => Answer::Is(self.walk_at(i) == self.walk_from(from)),
-            _ => self.asks(step),
-        }
+/// The word that a call is answered, or none.
+fn word(kernel: &mut Kernel, call: Call<'_>) -> Option<u16>
+    requires { IsCall call }
+{
+    match answer(kernel, &call, &mut [0; MOST_READ]) {
+        Some(Reply::Word(word)) => Some(word),
+        _ => None,
     }
 }
 
-/// Makes the calls of a script.
-fn plays(rt: &impl Abort, alloc: Global, script: Script) -> Result<(), AllocError> {
-    let Script {
-        name,
-        memory,
-        lines,
-    } = script;
-    let mut machine = Machine::new(alloc, memory)?;
-    for line in lines {
-        let (step, answer) = *line;
-        let found = machine.act(step);
-        assert_eq!(rt; found, answer, "{name}: {step:?}");
+/// The double word that a call is answered, or none.
+fn dword(kernel: &mut Kernel, call: Call<'_>) -> Option<u32>
+    requires { IsCall call }
+{
+    match answer(kernel, &call, &mut [0; MOST_READ]) {
+        Some(Reply::Dword(dword)) => Some(dword),
+        _ => None,
     }
+}
+
+/// The handle of a new object.
+fn allocated(kernel: &mut Kernel, flags: u16, size: u32) -> Option<u16> {
+    word(kernel, Call::GlobalAlloc { flags, size })
+}
+
+#[test]
+fn names_by_kind(rt: HostRuntime) -> Result<(), Fail> {
+    let mut kernel = small(rt.alloc())?;
+    assert_eq!(rt; allocated(&mut kernel, 0, 1), Some(0x107));
+    assert_eq!(rt; allocated(&mut kernel, 2, 1), Some(0x10E));
+    assert_eq!(rt;
+        word(&mut kernel, Call::GlobalFree { handle: 0x106 }),
+        Some(0x106)
+    );
+    assert_eq!(rt;
+        word(&mut kernel, Call::GlobalFree { handle: 0x10F }),
+        Some(0x10F)
+    );
+    assert_eq!(rt;
+        word(&mut kernel, Call::GlobalFree { handle: 0x107 }),
+        Some(0)
+    );
+    assert_eq!(rt;
+        word(&mut kernel, Call::GlobalFree { handle: 0x10E }),
+        Some(0)
+    );
+    assert_eq!(rt;
+        word(&mut kernel, Call::GlobalFree { handle: 0x10E }),
+        Some(0x10E)
+    );
     Ok(())
 }
 
 #[test]
-fn answers_calls(rt: HostRuntime) -> Result<(), Fail> {
-    for script in SCRIPTS {
-        plays(&rt, rt.alloc(), *script)?;
+fn counts_255_locks(rt: HostRuntime) -> Result<(), Fail> {
+    let mut kernel = small(rt.alloc())?;
+    assert_eq!(rt; allocated(&mut kernel, 2, 1), Some(0x106));
+    for _ in 0..255u32 {
+        assert_eq!(rt;
+            dword(&mut kernel, Call::GlobalLock { handle: 0x106 }),
+            Some(0x0107_0000)
+        );
     }
+    assert_eq!(rt;
+        dword(&mut kernel, Call::GlobalLock { handle: 0x106 }),
+        Some(0)
+    );
+    for _ in 0..254u32 {
+        assert_eq!(rt;
+            word(&mut kernel, Call::GlobalUnlock { handle: 0x106 }),
+            Some(1)
+        );
+    }
+    assert_eq!(rt;
+        word(&mut kernel, Call::GlobalFree { handle: 0x106 }),
+        Some(0x106)
+    );
+    assert_eq!(rt;
+        word(&mut kernel, Call::GlobalUnlock { handle: 0x106 }),
+        Some(0)
+    );
+    assert_eq!(rt;
+        word(&mut kernel, Call::GlobalUnlock { handle: 0x106 }),
+        Some(0)
+    );
+    assert_eq!(rt;
+        word(&mut kernel, Call::GlobalFree { handle: 0x106 }),
+        Some(0)
+    );
+    Ok(())
+}
+
+#[test]
+fn refuses_what_has_no_room(rt: HostRuntime) -> Result<(), Fail> {
+    let mut kernel = small(rt.alloc())?;
+    assert_eq!(rt; allocated(&mut kernel, 0, 0), Some(0));
+    assert_eq!(rt; allocated(&mut kernel, 2, 65_537), Some(0));
+    assert_eq!(rt; allocated(&mut kernel, 2, 4097), Some(0));
+    assert_eq!(rt; allocated(&mut kernel, 2, 4065), Some(0x106));
+    assert_eq!(rt; allocated(&mut kernel, 2, 1), Some(0));
+    assert_eq!(rt;
+        word(&mut kernel, Call::GlobalFree { handle: 0x106 }),
+        Some(0)
+    );
+    Ok(())
+}
+
+#[test]
+fn has_16_slots(rt: HostRuntime) -> Result<(), Fail> {
+    let mut kernel = small(rt.alloc())?;
+    for slot in 0..16u16 {
+        assert_eq!(rt; allocated(&mut kernel, 2, 1), Some(0x106 + 8 * slot));
+    }
+    assert_eq!(rt; allocated(&mut kernel, 2, 1), Some(0));
+    Ok(())
+}
+
+/// Whether a write is answered, or the fault that it meets.
+fn write(kernel: &mut Kernel, pointer: u32, bytes: &[u8]) -> Option<Result<(), FarFault>> {
+    match answer(kernel, &Call::Write { pointer, bytes }, &mut [0; MOST_READ]) {
+        Some(Reply::Done) => Some(Ok(())),
+        Some(Reply::Fault(fault)) => Some(Err(fault)),
+        _ => None,
+    }
+}
+
+/// Whether the four bytes at a far pointer are these.
+fn has(kernel: &mut Kernel, pointer: u32, wanted: [u8; 4]) -> bool {
+    match answer(
+        kernel,
+        &Call::Read { pointer, count: 4 },
+        &mut [0; MOST_READ],
+    ) {
+        Some(Reply::Bytes(bytes)) => bytes == wanted.as_slice(),
+        _ => false,
+    }
+}
+
+#[test]
+fn reads_what_was_written(rt: HostRuntime) -> Result<(), Fail> {
+    let mut kernel = small(rt.alloc())?;
+    assert_eq!(rt; allocated(&mut kernel, 0x42, 32), Some(0x106));
+    assert_eq!(rt; allocated(&mut kernel, 0x42, 32), Some(0x10E));
+    assert_eq!(rt; write(&mut kernel, 0x0107_001F, &[7]), Some(Ok(())));
+    assert_eq!(rt;
+        write(&mut kernel, 0x0107_0020, &[8]),
+        Some(Err(FarFault::Limit))
+    );
+    assert_eq!(rt;
+        write(&mut kernel, 0x0106_0000, &[8]),
+        Some(Err(FarFault::BadSelector))
+    );
+    assert!(rt; has(&mut kernel, 0x0107_001C, [0, 0, 0, 7]));
+    assert!(rt; has(&mut kernel, 0x010F_0000, [0, 0, 0, 0]));
+    Ok(())
+}
+
+/// What a walk says of a discardable object with 32 bytes at an address.
+fn discardable_at(at: u32, handle: u16) -> Option<Item> {
+    Some(Item {
+        at,
+        size: 32,
+        owner: Some(Owner {
+            name: handle as u32,
+            kind: Kind::Discardable,
+            locks: 0,
+        }),
+    })
+}
+
+/// A hole of 32 bytes, as a walk tells it.
+fn hole_at(at: u32) -> Option<Item> {
+    Some(Item {
+        at,
+        size: 32,
+        owner: None,
+    })
+}
+
+#[test]
+fn orders_and_walks(rt: HostRuntime) -> Result<(), Fail> {
+    let mut kernel = Kernel::new(rt.alloc(), 96, 16)?;
+    assert_eq!(rt; allocated(&mut kernel, 0x102, 32), Some(0x106));
+    assert_eq!(rt; allocated(&mut kernel, 0x102, 32), Some(0x10E));
+    assert_eq!(rt; allocated(&mut kernel, 2, 32), Some(0x116));
+    assert_eq!(rt;
+        word(&mut kernel, Call::GlobalLRUNewest { handle: 0x106 }),
+        Some(0x106)
+    );
+    assert_eq!(rt;
+        word(&mut kernel, Call::GlobalLRUOldest { handle: 0x106 }),
+        Some(0x106)
+    );
+    assert_eq!(rt;
+        word(&mut kernel, Call::GlobalLRUNewest { handle: 0x116 }),
+        Some(0)
+    );
+    assert_eq!(rt;
+        word(&mut kernel, Call::GlobalFree { handle: 0x116 }),
+        Some(0)
+    );
+    assert!(rt;
+        matches!(
+            answer(&mut kernel, &Call::Walk, &mut [0; MOST_READ]),
+            Some(Reply::Walk(3))
+        )
+    );
+    assert_eq!(rt; kernel.walk_from(0), discardable_at(0, 0x106));
+    assert_eq!(rt; kernel.walk_from(1), discardable_at(32, 0x10E));
+    assert_eq!(rt; kernel.walk_from(33), hole_at(64));
+    assert_eq!(rt; kernel.walk_from(65), None);
+    assert_eq!(rt; kernel.walk_at(1), discardable_at(32, 0x10E));
+    assert_eq!(rt; kernel.walk_at(2), kernel.walk_from(33));
+    assert_eq!(rt; kernel.walk_at(3), None);
     Ok(())
 }

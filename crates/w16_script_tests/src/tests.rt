@@ -5,6 +5,7 @@ mod walks;
 
 use arrayvec::ArrayVec;
 use std::io::{Error, ErrorKind, Result, Write};
+use std::process::Abort;
 use std::test::Fail;
 use w16_kernel::{Call, Reply};
 use w16_model::FarFault;
@@ -13,7 +14,7 @@ use w16_script::{Line, MOST_BYTES, Registers, RunFault, print_error, print_reply
 /// A writer that takes so many bytes, at most so many at once, and then fails.
 #[derive(Drop)]
 pub struct Short {
-    pub taken: ArrayVec<u8, 96>,
+    pub taken: ArrayVec<u8, 64>,
     pub left: usize,
     pub at_once: usize,
 }
@@ -42,103 +43,165 @@ pub fn limited(left: usize, at_once: usize) -> Short {
     }
 }
 
-/// What a line that goes to no register asks for: the call's name, and its numbers.
-fn told(line: &[u8]) -> Option<(&'static str, [u32; 3])> {
+/// The handle of a line that frees one.
+fn freed(line: &[u8]) -> Option<u16> {
     match read_line(line, &Registers::new(), &mut [0; MOST_BYTES]) {
-        Line::Command { target: None, call } => Some(told_of(call)),
+        Line::Command {
+            call: Call::GlobalFree { handle },
+            ..
+        } => Some(handle),
         _ => None,
     }
 }
 
-/// A call's name, and its numbers. A handle and a selector are numbers too.
-fn told_of(call: Call<'_>) -> (&'static str, [u32; 3]) {
-    match call {
-        Call::GlobalAlloc { flags, size } => ("alloc", [u32::from(flags), size, 0]),
-        Call::GlobalFree { handle } => ("free", [u32::from(handle), 0, 0]),
-        Call::GlobalLock { handle } => ("lock", [u32::from(handle), 0, 0]),
-        Call::GlobalUnlock { handle } => ("unlock", [u32::from(handle), 0, 0]),
-        Call::GlobalSize { handle } => ("size", [u32::from(handle), 0, 0]),
-        Call::GlobalFlags { handle } => ("flags", [u32::from(handle), 0, 0]),
-        Call::GlobalHandle { selector } => ("handle", [u32::from(selector), 0, 0]),
-        Call::GetSelectorBase { selector } => ("base", [u32::from(selector), 0, 0]),
-        Call::GetSelectorLimit { selector } => ("limit", [u32::from(selector), 0, 0]),
-        Call::GlobalCompact { size } => ("compact", [size, 0, 0]),
-        Call::GlobalLRUNewest { handle } => ("newest", [u32::from(handle), 0, 0]),
-        Call::GlobalLRUOldest { handle } => ("oldest", [u32::from(handle), 0, 0]),
-        Call::Moved => ("moved", [0, 0, 0]),
-        Call::Walk => ("walk", [0, 0, 0]),
-        Call::Read { pointer, count } => ("read", [pointer, count, 0]),
-        Call::Write { pointer, bytes } => {
-            let count = bytes.len().min(MOST_BYTES) as u32;
-            ("write", [pointer, number_of(bytes), count])
-        }
-        Call::Fill {
-            pointer,
-            count,
-            byte,
-        } => ("fill", [pointer, count, u32::from(byte)]),
+/// The call of a line that has one and goes to no register.
+fn call_of<'a>(line: &[u8], room: &'a mut [u8; MOST_BYTES]) -> Option<Call<'a>> {
+    match read_line(line, &Registers::new(), room) {
+        Line::Command { target: None, call } => Some(call),
+        _ => None,
     }
-}
-
-/// Some bytes as a number in base 256.
-fn number_of(bytes: &[u8]) -> u32 {
-    let mut number = 0u32;
-    for byte in bytes {
-        number = number.wrapping_mul(256).wrapping_add(u32::from(*byte));
-    }
-    number
 }
 
 #[test]
 fn reads_each_call(rt: HostRuntime) {
-    let lines: [(&[u8], &str, [u32; 3]); 22] = [
-        (b"GlobalAlloc 0x42 100", "alloc", [0x42, 100, 0]),
-        (
-            b"GlobalAlloc 0xffff 4294967295",
-            "alloc",
-            [65_535, 4_294_967_295, 0],
-        ),
-        (b"GlobalFree 0x106", "free", [0x106, 0, 0]),
-        (b"GlobalLock 262", "lock", [262, 0, 0]),
-        (b"GlobalUnlock 0x0106", "unlock", [0x106, 0, 0]),
-        (b"GlobalSize 0x106", "size", [0x106, 0, 0]),
-        (b"GlobalFlags 0x106", "flags", [0x106, 0, 0]),
-        (b"GlobalHandle 0x107", "handle", [0x107, 0, 0]),
-        (b"GetSelectorBase 0x107", "base", [0x107, 0, 0]),
-        (b"GetSelectorLimit 0x107", "limit", [0x107, 0, 0]),
-        (
-            b"GlobalCompact 0xffffffff",
-            "compact",
-            [4_294_967_295, 0, 0],
-        ),
-        (b"GlobalLRUNewest 0x106", "newest", [0x106, 0, 0]),
-        (b"GlobalLRUOldest 0x106", "oldest", [0x106, 0, 0]),
-        (b" Moved ", "moved", [0, 0, 0]),
-        (b"Walk", "walk", [0, 0, 0]),
-        (b"Read 0x01070000 4", "read", [0x0107_0000, 4, 0]),
-        (b"Read 0xffffffff 1024", "read", [0xffff_ffff, 1024, 0]),
-        (b"Read 0 0x0", "read", [0, 0, 0]),
-        (
-            b"Write 0x01070000 4e45Ff",
-            "write",
-            [0x0107_0000, 0x4e_45ff, 3],
-        ),
-        (b"Write 1 004e", "write", [1, 0x4e, 2]),
-        (
-            b"Fill 0x01070000 65536 255",
-            "fill",
-            [0x0107_0000, 65_536, 255],
-        ),
-        (b"Fill 0 0 0", "fill", [0, 0, 0]),
-    ];
-    for (at, (line, name, numbers)) in lines.iter().enumerate() {
-        assert_eq!(rt; told(line), Some((*name, *numbers)), "at {at}");
-    }
+    let mut room = [0; MOST_BYTES];
+    assert!(rt;
+        matches!(
+            call_of(b"GlobalAlloc 0x42 100", &mut room),
+            Some(Call::GlobalAlloc {
+                flags: 0x42,
+                size: 100
+            })
+        )
+    );
+    assert!(rt;
+        matches!(
+            call_of(b"GlobalFree 0x106", &mut room),
+            Some(Call::GlobalFree { handle: 0x106 })
+        )
+    );
+    assert!(rt;
+        matches!(
+            call_of(b"GlobalLock 262", &mut room),
+            Some(Call::GlobalLock { handle: 262 })
+        )
+    );
+    assert!(rt;
+        matches!(
+            call_of(b"GlobalUnlock 0x0106", &mut room),
+            Some(Call::GlobalUnlock { handle: 0x106 })
+        )
+    );
+}
+
+#[test]
+fn reads_each_question(rt: HostRuntime) {
+    let mut room = [0; MOST_BYTES];
+    assert!(rt;
+        matches!(
+            call_of(b"GlobalSize 0x106", &mut room),
+            Some(Call::GlobalSize { handle: 0x106 })
+        )
+    );
+    assert!(rt;
+        matches!(
+            call_of(b"GlobalFlags 0x106", &mut room),
+            Some(Call::GlobalFlags { handle: 0x106 })
+        )
+    );
+    assert!(rt;
+        matches!(
+            call_of(b"GlobalHandle 0x107", &mut room),
+            Some(Call::GlobalHandle { selector: 0x107 })
+        )
+    );
+    assert!(rt;
+        matches!(
+            call_of(b"GetSelectorBase 0x107", &mut room),
+            Some(Call::GetSelectorBase { selector: 0x107 })
+        )
+    );
+    assert!(rt;
+        matches!(
+            call_of(b"GetSelectorLimit 0x107", &mut room),
+            Some(Call::GetSelectorLimit { selector: 0x107 })
+        )
+    );
+}
+
+#[test]
+fn reads_compactions(rt: HostRuntime) {
+    let mut room = [0; MOST_BYTES];
+    assert!(rt;
+        matches!(
+            call_of(b"GlobalCompact 0xffffffff", &mut room),
+            Some(Call::GlobalCompact {
+                size: 4_294_967_295
+            })
+        )
+    );
+    assert!(rt; matches!(call_of(b" Moved ", &mut room), Some(Call::Moved)));
+    assert!(rt; call_of(b"Moved 1", &mut room).is_none());
+    assert!(rt; call_of(b"GlobalCompact", &mut room).is_none());
+}
+
+#[test]
+fn reads_what_is_asked_of_the_order(rt: HostRuntime) {
+    let mut room = [0; MOST_BYTES];
+    assert!(rt;
+        matches!(
+            call_of(b"GlobalLRUNewest 0x106", &mut room),
+            Some(Call::GlobalLRUNewest { handle: 0x106 })
+        )
+    );
+    assert!(rt;
+        matches!(
+            call_of(b"GlobalLRUOldest 0x106", &mut room),
+            Some(Call::GlobalLRUOldest { handle: 0x106 })
+        )
+    );
+    assert!(rt; matches!(call_of(b"Walk", &mut room), Some(Call::Walk)));
+    assert!(rt; call_of(b"GlobalLRUNewest", &mut room).is_none());
+    assert!(rt; call_of(b"GlobalLRUOldest 0x10000", &mut room).is_none());
+    assert!(rt; call_of(b"Walk 0", &mut room).is_none());
+    assert!(rt; call_of(b"walk", &mut room).is_none());
+}
+
+#[test]
+fn reads_far_accesses(rt: HostRuntime) {
+    let mut room = [0; MOST_BYTES];
+    assert!(rt;
+        matches!(
+            call_of(b"Read 0x01070000 4", &mut room),
+            Some(Call::Read {
+                pointer: 0x0107_0000,
+                count: 4
+            })
+        )
+    );
+    assert!(rt;
+        matches!(
+            call_of(b"Fill 0x01070000 65536 255", &mut room),
+            Some(Call::Fill {
+                pointer: 0x0107_0000,
+                count: 65_536,
+                byte: 255
+            })
+        )
+    );
+    assert!(rt; call_of(b"Fill 0x01070000 65537 255", &mut room).is_none());
+    assert!(rt; call_of(b"Fill 0x01070000 1 256", &mut room).is_none());
+    assert!(rt; call_of(b"Fill 0x01070000 1", &mut room).is_none());
+    let Some(Call::Write { pointer, bytes }) = call_of(b"Write 0x01070000 4e45Ff", &mut room) else {
+        return rt.abort();
+    };
+    assert_eq!(rt; pointer, 0x0107_0000);
+    assert_eq!(rt; bytes, [0x4e, 0x45, 0xff].as_slice());
 }
 
 #[test]
 fn reads_numbers(rt: HostRuntime) {
-    let words: [(&[u8], u32); 9] = [
+    let words: [(&[u8], u16); 9] = [
         (b"GlobalFree 0", 0),
         (b"GlobalFree 65535", 65535),
         (b"GlobalFree 0000000000000000000000000000262", 262),
@@ -150,24 +213,40 @@ fn reads_numbers(rt: HostRuntime) {
         (b"GlobalFree 00", 0),
     ];
     for (line, handle) in words {
-        assert_eq!(rt; told(line), Some(("free", [handle, 0, 0])), "at {handle}");
+        assert_eq!(rt; freed(line), Some(handle), "at {handle}");
     }
 }
 
-/// Whether a line is answered as one that says nothing that is known.
-fn is_bad(line: &[u8]) -> bool {
-    matches!(
-        read_line(line, &Registers::new(), &mut [0; MOST_BYTES]),
-        Line::Bad
-    )
-}
-
-/// Whether a line has no reply.
-fn is_silent(line: &[u8]) -> bool {
-    matches!(
-        read_line(line, &Registers::new(), &mut [0; MOST_BYTES]),
-        Line::Silent
-    )
+#[test]
+fn reads_the_largest_numbers(rt: HostRuntime) {
+    let mut room = [0; MOST_BYTES];
+    assert!(rt;
+        matches!(
+            call_of(b"GlobalAlloc 0xffff 4294967295", &mut room),
+            Some(Call::GlobalAlloc {
+                flags: 65535,
+                size: 4_294_967_295
+            })
+        )
+    );
+    assert!(rt;
+        matches!(
+            call_of(b"Read 0xffffffff 1024", &mut room),
+            Some(Call::Read {
+                pointer: 0xffff_ffff,
+                count: 1024
+            })
+        )
+    );
+    assert!(rt;
+        matches!(
+            call_of(b"Read 0 0x0", &mut room),
+            Some(Call::Read {
+                pointer: 0,
+                count: 0
+            })
+        )
+    );
 }
 
 #[test]
@@ -191,24 +270,20 @@ fn refuses_other_numbers(rt: HostRuntime) {
         b"Read 4294967296 0",
     ];
     for (at, line) in lines.iter().enumerate() {
-        assert!(rt; is_bad(line), "at {at}");
+        assert!(rt;
+            matches!(
+                read_line(line, &Registers::new(), &mut [0; MOST_BYTES]),
+                Line::Bad
+            ),
+            "at {at}"
+        );
     }
 }
 
 #[test]
 fn refuses_other_lines(rt: HostRuntime) {
-    let lines: [&[u8]; 35] = [
+    let lines: [&[u8]; 25] = [
         b"Frob",
-        b"Moved 1",
-        b"GlobalCompact",
-        b"GlobalLRUNewest",
-        b"GlobalLRUOldest 0x10000",
-        b"Walk 0",
-        b"walk",
-        b"Fill 0x01070000 65537 255",
-        b"Fill 0x01070000 1 256",
-        b"Fill 0x01070000 1",
-        b"Read 0",
         b"globalfree 1",
         b"GLOBALFREE 1",
         b"GlobalFre 1",
@@ -235,7 +310,13 @@ fn refuses_other_lines(rt: HostRuntime) {
         b"Write 0 12 34",
     ];
     for (at, line) in lines.iter().enumerate() {
-        assert!(rt; is_bad(line), "at {at}");
+        assert!(rt;
+            matches!(
+                read_line(line, &Registers::new(), &mut [0; MOST_BYTES]),
+                Line::Bad
+            ),
+            "at {at}"
+        );
     }
 }
 
@@ -252,7 +333,13 @@ fn passes_over_silent_lines(rt: HostRuntime) {
         b";;",
     ];
     for (at, line) in lines.iter().enumerate() {
-        assert!(rt; is_silent(line), "at {at}");
+        assert!(rt;
+            matches!(
+                read_line(line, &Registers::new(), &mut [0; MOST_BYTES]),
+                Line::Silent
+            ),
+            "at {at}"
+        );
     }
 }
 
@@ -281,30 +368,33 @@ fn reads_bytes(rt: HostRuntime) {
     assert_eq!(rt; written(2050), None);
 }
 
-/// Whether a reply is printed as this text.
-fn is_printed(reply: &Reply<'_>, text: &[u8]) -> bool {
+fn assert_prints(rt: &impl Abort, reply: &Reply<'_>, text: &[u8]) {
     let mut writer = limited(64, 64);
-    print_reply(&mut writer, reply).is_ok() && writer.taken.as_slice() == text
+    assert!(rt; print_reply(&mut writer, reply).is_ok());
+    assert_eq!(rt; writer.taken.as_slice(), text);
 }
 
 #[test]
 fn prints_each_reply(rt: HostRuntime) {
-    let replies: [(Reply<'_>, &[u8]); 11] = [
-        (Reply::Word(0), b"0000\n"),
-        (Reply::Word(0xa1F), b"0a1f\n"),
-        (Reply::Dword(0x0107_0000), b"01070000\n"),
-        (Reply::Dword(0xffff_ffff), b"ffffffff\n"),
-        (Reply::Done, b"ok\n"),
-        (Reply::Walk(2), b"end\n"),
-        (Reply::Bytes(&[]), b"bytes\n"),
-        (Reply::Bytes(&[0x4e, 0x05, 0xab]), b"bytes 4e05ab\n"),
-        (Reply::Fault(FarFault::BadSelector), b"fault selector\n"),
-        (Reply::Fault(FarFault::NotPresent), b"fault notpresent\n"),
-        (Reply::Fault(FarFault::Limit), b"fault limit\n"),
-    ];
-    for (at, (reply, text)) in replies.iter().enumerate() {
-        assert!(rt; is_printed(reply, text), "at {at}");
-    }
+    assert_prints(&rt, &Reply::Word(0), b"0000\n");
+    assert_prints(&rt, &Reply::Word(0xa1F), b"0a1f\n");
+    assert_prints(&rt, &Reply::Dword(0x0107_0000), b"01070000\n");
+    assert_prints(&rt, &Reply::Dword(0xffff_ffff), b"ffffffff\n");
+    assert_prints(&rt, &Reply::Done, b"ok\n");
+    assert_prints(&rt, &Reply::Walk(2), b"end\n");
+    assert_prints(&rt, &Reply::Bytes(&[]), b"bytes\n");
+    assert_prints(&rt, &Reply::Bytes(&[0x4e, 0x05, 0xab]), b"bytes 4e05ab\n");
+    assert_prints(
+        &rt,
+        &Reply::Fault(FarFault::BadSelector),
+        b"fault selector\n",
+    );
+    assert_prints(
+        &rt,
+        &Reply::Fault(FarFault::NotPresent),
+        b"fault notpresent\n",
+    );
+    assert_prints(&rt, &Reply::Fault(FarFault::Limit), b"fault limit\n");
 }
 
 #[test]
@@ -315,28 +405,16 @@ fn prints_1024_bytes(rt: HostRuntime) -> std::result::Result<(), Fail> {
     Ok(())
 }
 
-/// Whether a writer that takes so many bytes, and so many at once, gets just these of the reply to an access, and then fails.
-fn stops_after(left: usize, at_once: usize, taken: &[u8]) -> bool {
-    let mut writer = limited(left, at_once);
-    print_reply(&mut writer, &Reply::Fault(FarFault::NotPresent)).is_err()
-        && writer.taken.as_slice() == taken
-}
-
 #[test]
 fn fails_after_each_number_of_bytes(rt: HostRuntime) {
     let text = b"fault notpresent\n";
     for left in 0..text.len() {
         for at_once in [1, 3, 64] {
-            assert!(rt;
-                stops_after(left, at_once, &text[..left]),
-                "{left} by {at_once}"
-            );
+            let mut writer = limited(left, at_once);
+            assert!(rt; print_reply(&mut writer, &Reply::Fault(FarFault::NotPresent)).is_err());
+            assert_eq!(rt; writer.taken.as_slice(), &text[..left]);
         }
     }
-}
-
-#[test]
-fn prints_errors_byte_by_byte(rt: HostRuntime) {
     let mut slow = limited(64, 1);
     assert!(rt; print_error(&mut slow).is_ok());
     assert_eq!(rt; slow.taken.as_slice(), b"error syntax\n".as_slice());
