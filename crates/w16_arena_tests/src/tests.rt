@@ -2,6 +2,7 @@
 
 mod bench;
 mod discards;
+mod growth;
 mod scripts;
 
 use bench::{Bench, Step};

@@ -6,6 +6,7 @@ mod far;
 mod follow;
 mod global;
 mod objects;
+mod realloc;
 
 pub use global::Global16;
 pub use w16_model::FarFault;

@@ -4,9 +4,10 @@ use Rattle.w16_model.specs.Calls as calls
 use Rattle.w16_model.specs.Far as far
 use Rattle.w16_machine.specs.Machine as machine
 use Rattle.w16_machine.specs.Machine.{Command}
-use Rattle.w16_machine.specs.Machine.Command.{OfHandles, OfFar}
+use Rattle.w16_machine.specs.Machine.Command.{OfHandles, OfResizes, OfFar}
+use Rattle.w16_machine.specs.Resizes as resizes
 use Rattle.w16_kernel.specs.declared.call.Call.{Call}
-use Rattle.w16_kernel.specs.declared.call.Call.TheVariants.{GlobalAlloc, GlobalFree, GlobalLock, GlobalUnlock, GlobalSize, GlobalFlags, GlobalHandle, GetSelectorBase, GetSelectorLimit, GlobalCompact, GlobalLRUNewest, GlobalLRUOldest, Moved, Walk, Read, Write, Fill}
+use Rattle.w16_kernel.specs.declared.call.Call.TheVariants.{GlobalAlloc, GlobalFree, GlobalLock, GlobalUnlock, GlobalSize, GlobalFlags, GlobalHandle, GetSelectorBase, GetSelectorLimit, GlobalCompact, GlobalReAlloc, GlobalDiscard, GlobalLRUNewest, GlobalLRUOldest, Moved, Walk, Read, Write, Fill}
 use Rattle.w16_kernel.specs.declared.call.Reply.{Reply}
 use Rattle.w16_kernel.specs.declared.call.Reply.TheVariants as replies
 use Rattle.w16_kernel.specs.declared.call.Answer.{Answer}
@@ -25,6 +26,8 @@ command_of (GlobalHandle selector) = OfHandles (calls.HandleCommand.GlobalHandle
 command_of (GetSelectorBase selector) = OfHandles (calls.HandleCommand.GetSelectorBase selector)
 command_of (GetSelectorLimit selector) = OfHandles (calls.HandleCommand.GetSelectorLimit selector)
 command_of (GlobalCompact size) = OfHandles (calls.HandleCommand.GlobalCompact size)
+command_of (GlobalReAlloc handle size flags) = OfResizes (resizes.ResizeCommand.GlobalReAlloc handle size flags)
+command_of (GlobalDiscard handle) = OfResizes (resizes.ResizeCommand.GlobalDiscard handle)
 command_of (GlobalLRUNewest handle) = OfHandles (calls.HandleCommand.GlobalLRUNewest handle)
 command_of (GlobalLRUOldest handle) = OfHandles (calls.HandleCommand.GlobalLRUOldest handle)
 command_of Moved = OfHandles calls.HandleCommand.Moved

@@ -26,6 +26,8 @@ pub enum Call<'a> {
     GetSelectorBase { selector: u16 },
     GetSelectorLimit { selector: u16 },
     GlobalCompact { size: u32 },
+    GlobalReAlloc { handle: u16, size: u32, flags: u16 },
+    GlobalDiscard { handle: u16 },
     GlobalLRUNewest { handle: u16 },
     GlobalLRUOldest { handle: u16 },
     Moved,

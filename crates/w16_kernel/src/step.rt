@@ -79,6 +79,12 @@ pub fn step<'r>(
             Ok(Reply::Dword(global.get_selector_limit(selector)))
         }
         Call::GlobalCompact { size } => Ok(Reply::Dword(global.global_compact(size))),
+        Call::GlobalReAlloc {
+            handle,
+            size,
+            flags,
+        } => Ok(Reply::Word(global.global_realloc(handle, size, flags))),
+        Call::GlobalDiscard { handle } => Ok(Reply::Word(global.global_discard(handle))),
         Call::GlobalLRUNewest { handle } => Ok(Reply::Word(global.global_lru_newest(handle))),
         Call::GlobalLRUOldest { handle } => Ok(Reply::Word(global.global_lru_oldest(handle))),
         Call::Moved => Ok(Reply::Dword(global.moved() as u32)),

@@ -219,6 +219,10 @@ fn orders_and_walks(rt: HostRuntime) -> Result<(), Fail> {
         Some(0)
     );
     assert_eq!(rt;
+        word(&mut kernel, Call::GlobalDiscard { handle: 0x116 }),
+        Some(0)
+    );
+    assert_eq!(rt;
         word(&mut kernel, Call::GlobalFree { handle: 0x116 }),
         Some(0)
     );
@@ -235,5 +239,31 @@ fn orders_and_walks(rt: HostRuntime) -> Result<(), Fail> {
     assert_eq!(rt; kernel.walk_at(1), discardable_at(32, 0x10E));
     assert_eq!(rt; kernel.walk_at(2), kernel.walk_from(33));
     assert_eq!(rt; kernel.walk_at(3), None);
+    Ok(())
+}
+
+#[test]
+fn reallocates(rt: HostRuntime) -> Result<(), Fail> {
+    let mut kernel = Kernel::new(rt.alloc(), 64, 16)?;
+    assert_eq!(rt; allocated(&mut kernel, 0x102, 32), Some(0x106));
+    assert_eq!(rt;
+        word(
+            &mut kernel,
+            Call::GlobalReAlloc {
+                handle: 0x106,
+                size: 64,
+                flags: 0x42,
+            }
+        ),
+        Some(0x106)
+    );
+    assert_eq!(rt;
+        word(&mut kernel, Call::GlobalDiscard { handle: 0x106 }),
+        Some(0x106)
+    );
+    assert_eq!(rt;
+        word(&mut kernel, Call::GlobalFlags { handle: 0x106 }),
+        Some(0x4100)
+    );
     Ok(())
 }

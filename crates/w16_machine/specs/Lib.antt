@@ -1,4 +1,5 @@
 pub mod World
+pub mod Resizes
 pub mod Machine
 pub mod Codes
 pub mod Law

@@ -45,7 +45,7 @@ module _ (old : Handles) (is : AreHandles old) where
   ])
 
   -- a change of kind, or none
-  modified_handles : (slot : ℕ) (kind : Kind) → AreHandles (record old { heap = modified old.heap slot kind })
+  pub modified_handles : (slot : ℕ) (kind : Kind) → AreHandles (record old { heap = modified old.heap slot kind })
   modified_handles slot kind = turn (object_at old.heap slot) refl (kind_law old.heap slot kind is.heap)
     where
       refused : (refusal : Refusal) → after_modify old.heap slot kind ≡ Err refusal → AreHandles (record old { heap = modified old.heap slot kind })
@@ -63,7 +63,7 @@ module _ (old : Handles) (is : AreHandles old) where
       turn (Some o) there law = elim (cases_Bool (is_fixed o.kind || is_fixed kind)) [ inl t ↦ refused refusals.Fixed (law.0 t) | inr f ↦ changed o there (law.1 f) ]
 
   -- a discard
-  discarded_handles : (slot : ℕ) (heap : Heap) → after_discard old.heap slot ≡ Ok heap → AreHandles (record old { heap = heap })
+  pub discarded_handles : (slot : ℕ) (heap : Heap) → after_discard old.heap slot ≡ Ok heap → AreHandles (record old { heap = heap })
   discarded_handles slot heap done =
       let same : heap ≡ absent old.heap slot = discard_absent old.heap heap slot done in
       let sound : IsHeap heap = subst (λ (r : Result Heap Refusal). IfOk r IsHeap) done (discard_heap_law old.heap slot is.heap) in
@@ -71,7 +71,7 @@ module _ (old : Handles) (is : AreHandles old) where
       (λ q. ap (λ (h : Heap). is_some (object_at h q)) same ∙ same_updated old.heap.objects slot (λ (o : Object). record o { bytes = None }) q)
 
   -- an answered reallocation
-  reallocated_handles : (slot n : ℕ) (way : Way) (heap : Heap) → Reallocates old.heap slot n way true heap → AreHandles (record old { heap = heap })
+  pub reallocated_handles : (slot n : ℕ) (way : Way) (heap : Heap) → Reallocates old.heap slot n way true heap → AreHandles (record old { heap = heap })
   reallocated_handles slot n way heap r = turn (object_at old.heap slot) refl (rest_law old.heap heap slot n way is.heap r)
     where
       gone : (p r : Option Object) → IsSomeAnd p (λ o. (o.kind ≡ Discardable) × (o.locks ≡ 0) × (is_some o.bytes ≡ true) × (r ≡ Some (record o { bytes = None }))) → is_some r ≡ is_some p
@@ -132,7 +132,7 @@ some_handle Fixed slot e = omega arith
 some_handle Moveable slot e = omega arith
 some_handle Discardable slot e = omega arith
 
-found_some : (old : Handles) (handle slot : ℕ) → slot_of_handle old handle ≡ Some slot → handle ≢ 0
+pub found_some : (old : Handles) (handle slot : ℕ) → slot_of_handle old handle ≡ Some slot → handle ≢ 0
 found_some old handle slot found none = turn (object_at old.heap slot) ((names_law old handle slot).0.0 found)
   where
     turn : (p : Option Object) → IsSomeAnd p (λ o. handle ≡ handle_of o.kind slot) → ⊥
@@ -202,7 +202,7 @@ module _ (old new : Handles) (is : AreHandles old) (handle size flags answer slo
       (fewest_law old.heap heap slot (rounded_size size) (way_asked_again flags) false is.heap r)
 
 pub resize_fewest_law : ResizeFewestLaw
-resize_fewest_law old new handle size flags answer slot is found same some small step = turn (slot_of_handle old handle) found step
+resize_fewest_law old new handle size flags answer is step slot found same some small = turn (slot_of_handle old handle) found step
   where
     resizes : (long : Bool) → nat_lt LARGEST_SIZE size ≡ long → MatchBool long (IsNull old answer new) ((answered : Bool) × (heap : Heap) × Reallocates old.heap slot (rounded_size size) (way_asked_again flags) answered heap × MatchBool answered (Again old handle heap answer new) (IsNull old answer new)) → IsSomeAnd (object_at old.heap slot) (Fewest old new is handle size flags answer slot found)
     resizes true long g = let over : LARGEST_SIZE < size = ltb-true LARGEST_SIZE size long in absurd (omega (arith, over, small))

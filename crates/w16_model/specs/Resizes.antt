@@ -63,6 +63,14 @@ GlobalReAllocs old handle size flags answer new = MatchOption (slot_of_handle ol
 abbrev pub GlobalDiscards : Handles → ℕ → ℕ → Handles → Type 0
 GlobalDiscards old handle answer new = GlobalReAllocs old handle 0 GMEM_MOVEABLE answer new
 
+-- Fewest discards, where an object's handle and a size are given: an answered one has discarded as few as it can; a refused one has changed
+-- nothing, and the object would get more bytes and lacks a place for them.
+abbrev pub ReallocFewest : Handles → ℕ → ℕ → ℕ → ℕ → Handles → Type 0
+ReallocFewest old handle size flags answer new = (slot : ℕ) → slot_of_handle old handle ≡ Some slot → has_flag flags GMEM_MODIFY ≡ false → 0 < size → size ≤ LARGEST_SIZE
+    → IsSomeAnd (object_at old.heap slot) (λ o.
+    (answer ≢ 0 → ReallocatesFewest old.heap slot (rounded_size size) o (way_asked_again flags) true new.heap)
+    × (answer ≡ 0 → (size_of o < rounded_size size) × LacksPlace old.heap slot (rounded_size size) o (way_asked_again flags) × (new.heap ≡ old.heap)))
+
 -- The laws.
 
 -- it keeps what holds of handles
@@ -75,8 +83,4 @@ NullLaw = (old new : Handles) (handle size flags : ℕ) → AreHandles old → G
 
 -- one that asks for a size discards as few as it can, and is NULL only where the object would get more bytes and lacks a place for them
 abbrev pub ResizeFewestLaw : Type 0
-ResizeFewestLaw = (old new : Handles) (handle size flags answer slot : ℕ) → AreHandles old → slot_of_handle old handle ≡ Some slot → has_flag flags GMEM_MODIFY ≡ false → 0 < size → size ≤ LARGEST_SIZE
-    → GlobalReAllocs old handle size flags answer new
-    → IsSomeAnd (object_at old.heap slot) (λ o.
-    (answer ≢ 0 → ReallocatesFewest old.heap slot (rounded_size size) o (way_asked_again flags) true new.heap)
-    × (answer ≡ 0 → (size_of o < rounded_size size) × LacksPlace old.heap slot (rounded_size size) o (way_asked_again flags) × (new.heap ≡ old.heap)))
+ResizeFewestLaw = (old new : Handles) (handle size flags answer : ℕ) → AreHandles old → GlobalReAllocs old handle size flags answer new → ReallocFewest old handle size flags answer new

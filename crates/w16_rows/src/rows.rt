@@ -201,8 +201,62 @@ pub fn of_order() -> [Row; 3] {
         ),
         tight(
             "flags that forbid discards, and an order that is set",
-            b"GlobalAlloc 0x102 32\nGlobalAlloc 2 32\nGlobalAlloc 0x102 32\nGlobalAlloc 0x22 32\nGlobalAlloc 0x12 32\nGlobalLRUNewest 0x10e\nGlobalLRUOldest 0x116\nGlobalAlloc 2 32\nGlobalFlags 0x116\nGlobalFlags 0x106\n",
-            b"0106\n010e\n0116\n0000\n0000\n0000\n0116\n011e\n4100\n0100\n",
+            b"GlobalAlloc 0x102 32\nGlobalAlloc 2 32\nGlobalAlloc 0x102 32\nGlobalAlloc 0x22 32\nGlobalAlloc 0x12 32\nGlobalLRUNewest 0x10e\nGlobalLRUOldest 0x116\nGlobalAlloc 2 32\nGlobalFlags 0x116\nGlobalFlags 0x106\nGlobalReAlloc 0x106 0 0x80\nGlobalFlags 0x106\nGlobalDiscard 0x106\n",
+            b"0106\n010e\n0116\n0000\n0000\n0000\n0116\n011e\n4100\n0100\n0106\n0000\n0000\n",
+            13,
+        ),
+    ]
+}
+
+/// Rows on objects that get another size or kind.
+pub fn of_reallocation() -> [Row; 7] {
+    [
+        small(
+            "a discarded object gets bytes again",
+            b"GlobalAlloc 0x142 10\nWrite 0x01070000 ff\nGlobalDiscard 0x106\nGlobalSize 0x106\nGlobalReAlloc 0x106 10 0x40\nRead 0x01070000 1\nGlobalFlags 0x106\nGlobalAlloc 2 0\nGlobalFlags 0x10e\nGlobalAlloc 0 0\n",
+            b"0106\nok\n0106\n00000000\n0106\nbytes 00\n0100\n010e\n4000\n0000\n",
+            10,
+            10,
+        ),
+        narrow(
+            "a locked object moves where that is asked for",
+            b"GlobalAlloc 0x42 32\nGlobalAlloc 0x42 32\nGlobalLock 0x106\nWrite 0x01070000 5a\nGlobalReAlloc 0x106 64 0\nGlobalReAlloc 0x106 64 2\nMoved\nGetSelectorBase 0x107\nRead 0x01070000 1\nGlobalFlags 0x106\n",
+            b"0106\n010e\n01070000\nok\n0000\n0106\n00000020\n00000040\nbytes 5a\n0001\n",
+            10,
+        ),
+        narrow(
+            "an object grows in its gap, and the other slides away",
+            b"GlobalAlloc 2 32\nGlobalAlloc 2 32\nGlobalAlloc 2 32\nGlobalFree 0x106\nGlobalReAlloc 0x10e 96 0\nMoved\nGetSelectorBase 0x10f\nGetSelectorBase 0x117\n",
+            b"0106\n010e\n0116\n0000\n010e\n00000040\n00000000\n00000060\n",
+            8,
+        ),
+        Row {
+            memory: 160,
+            ..small(
+                "others slide up for an object, and it is cut while it is locked",
+                b"GlobalAlloc 2 32\nGlobalAlloc 0x102 32\nGlobalAlloc 2 32\nGlobalReAlloc 0x106 96 0\nMoved\nGlobalFlags 0x10e\nGetSelectorBase 0x10f\nGetSelectorBase 0x117\nGlobalLock 0x106\nGlobalReAlloc 0x106 32 0\nWalk\n",
+                b"0106\n010e\n0116\n0106\n00000040\n0100\n00000060\n00000080\n01070000\n0106\n00000000 00000020 0106 moveable 1\n00000020 00000040 free\n00000060 00000020 010e discardable 0\n00000080 00000020 0116 moveable 0\nend\n",
+                11,
+                11,
+            )
+        },
+        small(
+            "zeros come behind the rounded size, and a cut moves the limit",
+            b"GlobalAlloc 0x42 1\nFill 0x01070000 32 0x5a\nGlobalReAlloc 0x106 10 0x40\nGlobalReAlloc 0x106 40 0x40\nRead 0x0107001e 4\nGetSelectorLimit 0x107\nGlobalReAlloc 0x106 1 2\nGetSelectorLimit 0x107\nRead 0x01070020 1\nRead 0x0107001f 1\nMoved\n",
+            b"0106\nok\n0106\n0106\nbytes 5a5a0000\n0000003f\n0106\n0000001f\nfault limit\nbytes 5a\n00000000\n",
+            11,
+            11,
+        ),
+        narrow(
+            "reallocations that are refused",
+            b"GlobalAlloc 0x142 32\nGlobalReAlloc 0x107 32 2\nGlobalReAlloc 0x106 65537 2\nGlobalReAlloc 0x106 0 0\nGlobalLock 0x106\nGlobalDiscard 0x106\nGlobalReAlloc 0x106 160 2\nGlobalUnlock 0x106\nGlobalDiscard 0x106\nGlobalDiscard 0x106\nGlobalFlags 0x106\nGlobalReAlloc 0x106 0 0x82\nGlobalFlags 0x106\nGlobalDiscard 0x106\nGlobalDiscard 0x10e\nMoved\nGlobalReAlloc 0x106 32\nGlobalDiscard\n",
+            b"0106\n0000\n0000\n0000\n01070000\n0000\n0000\n0000\n0106\n0106\n4100\n0106\n4000\n0000\n0000\n00000000\nerror syntax\nerror syntax\n",
+            18,
+        ),
+        tight(
+            "another is discarded for growth, and its selector says so",
+            b"GlobalAlloc 2 32\nGlobalAlloc 0x102 32\nGlobalAlloc 0x102 32\nGlobalReAlloc 0x106 64 0x20\nGlobalReAlloc 0x106 64 0x10\nGlobalReAlloc 0x106 64 0\nGlobalFlags 0x10e\nGetSelectorBase 0x10f\nGlobalFlags 0x116\nGetSelectorLimit 0x107\n",
+            b"0106\n010e\n0116\n0000\n0000\n0106\n4100\n00000000\n0100\n0000003f\n",
             10,
         ),
     ]

@@ -9,7 +9,8 @@ use Rattle.w16_script.specs.declared.arguments.Parameter.TheVariants as p
 use Rattle.w16_model.specs.Calls as calls
 use Rattle.w16_model.specs.Far as far
 use Rattle.w16_machine.specs.Machine.{Command}
-use Rattle.w16_machine.specs.Machine.Command.{OfHandles, OfFar}
+use Rattle.w16_machine.specs.Machine.Command.{OfHandles, OfResizes, OfFar}
+use Rattle.w16_machine.specs.Resizes as resizes
 use Rattle.w16_kernel.specs.declared.call.TheConstants.{MOST_READ, MOST_FILLED}
 use Rattle.w16_script.specs.declared.bytes.TheConstants.{MOST_BYTES}
 use Rattle.w16_script.specs.Words.{words_of}
@@ -104,6 +105,8 @@ row_of name.GlobalHandle = row OfHandles (codes "GlobalHandle") (p.Word ∷ []) 
 row_of name.GetSelectorBase = row OfHandles (codes "GetSelectorBase") (p.Word ∷ []) calls.HandleCommand.GetSelectorBase
 row_of name.GetSelectorLimit = row OfHandles (codes "GetSelectorLimit") (p.Word ∷ []) calls.HandleCommand.GetSelectorLimit
 row_of name.GlobalCompact = row OfHandles (codes "GlobalCompact") (p.Dword ∷ []) calls.HandleCommand.GlobalCompact
+row_of name.GlobalReAlloc = row OfResizes (codes "GlobalReAlloc") (p.Word ∷ p.Dword ∷ p.Word ∷ []) resizes.ResizeCommand.GlobalReAlloc
+row_of name.GlobalDiscard = row OfResizes (codes "GlobalDiscard") (p.Word ∷ []) resizes.ResizeCommand.GlobalDiscard
 row_of name.GlobalLRUNewest = row OfHandles (codes "GlobalLRUNewest") (p.Word ∷ []) calls.HandleCommand.GlobalLRUNewest
 row_of name.GlobalLRUOldest = row OfHandles (codes "GlobalLRUOldest") (p.Word ∷ []) calls.HandleCommand.GlobalLRUOldest
 row_of name.Moved = row OfHandles (codes "Moved") [] calls.HandleCommand.Moved
@@ -115,7 +118,7 @@ row_of name.Fill = row OfFar (codes "Fill") (p.Dword ∷ p.Count MOST_FILLED ∷
 -- all of them
 abbrev pub all_names : List Name
 all_names = name.GlobalAlloc ∷ name.GlobalFree ∷ name.GlobalLock ∷ name.GlobalUnlock ∷ name.GlobalSize ∷ name.GlobalFlags ∷ name.GlobalHandle ∷ name.GetSelectorBase ∷ name.GetSelectorLimit
-    ∷ name.GlobalCompact ∷ name.GlobalLRUNewest ∷ name.GlobalLRUOldest ∷ name.Moved ∷ name.Walk ∷ name.Read ∷ name.Write ∷ name.Fill ∷ []
+    ∷ name.GlobalCompact ∷ name.GlobalReAlloc ∷ name.GlobalDiscard ∷ name.GlobalLRUNewest ∷ name.GlobalLRUOldest ∷ name.Moved ∷ name.Walk ∷ name.Read ∷ name.Write ∷ name.Fill ∷ []
 
 abbrev pub text_of : Name → List ℕ
 text_of name = (row_of name).text

@@ -48,6 +48,12 @@ fn build<'a>(name: Name, a: &[Argument<'a>]) -> Call<'a>
             selector: word(a, 0),
         },
         Name::GlobalCompact => Call::GlobalCompact { size: dword(a, 0) },
+        Name::GlobalReAlloc => Call::GlobalReAlloc {
+            handle: word(a, 0),
+            size: dword(a, 1),
+            flags: word(a, 2),
+        },
+        Name::GlobalDiscard => Call::GlobalDiscard { handle: word(a, 0) },
         Name::GlobalLRUNewest => Call::GlobalLRUNewest { handle: word(a, 0) },
         Name::GlobalLRUOldest => Call::GlobalLRUOldest { handle: word(a, 0) },
         Name::Moved => Call::Moved,

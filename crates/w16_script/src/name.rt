@@ -18,6 +18,8 @@ pub enum Name {
     GetSelectorBase,
     GetSelectorLimit,
     GlobalCompact,
+    GlobalReAlloc,
+    GlobalDiscard,
     GlobalLRUNewest,
     GlobalLRUOldest,
     Moved,
@@ -68,7 +70,12 @@ pub fn find(word: &[u8]) -> Option<(Name, &'static [Parameter])>
             _ if is(word, b"GlobalHandle") => Some((Name::GlobalHandle, &[Word])),
             _ => None,
         },
-        13 if is(word, b"GlobalCompact") => Some((Name::GlobalCompact, &[Dword])),
+        13 => match word {
+            _ if is(word, b"GlobalCompact") => Some((Name::GlobalCompact, &[Dword])),
+            _ if is(word, b"GlobalReAlloc") => Some((Name::GlobalReAlloc, &[Word, Dword, Word])),
+            _ if is(word, b"GlobalDiscard") => Some((Name::GlobalDiscard, &[Word])),
+            _ => None,
+        },
         15 => match word {
             _ if is(word, b"GetSelectorBase") => Some((Name::GetSelectorBase, &[Word])),
             _ if is(word, b"GlobalLRUNewest") => Some((Name::GlobalLRUNewest, &[Word])),
