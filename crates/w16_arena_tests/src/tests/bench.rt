@@ -18,6 +18,7 @@ const IDS: u32 = 6;
 pub(super) enum Step {
     Enter(u32, Kind),
     Alloc(u32, u32, Kind, Way),
+    Realloc(u32, u32, Way),
     Lock(u32),
     Unlock(u32),
     /// 255 locks of one object.
@@ -116,6 +117,7 @@ impl Bench {
         match step {
             Step::Enter(id, kind) => self.enter(rt, id, kind),
             Step::Alloc(id, size, kind, way) => self.alloc(rt, id, size, kind, way),
+            Step::Realloc(id, size, way) => self.realloc(rt, id, size, way),
             Step::Free(id) => self.free(rt, id),
             Step::Release(id) => self.release(rt, id),
             Step::Discard(id) => self.discard(rt, id),
@@ -166,6 +168,17 @@ impl Bench {
         assert!(rt; 0 < size && 0 < grain && is_multiple(grain, size));
         assert!(rt; self.arena.bounds().to <= self.region.len());
         match self.arena.alloc(&mut self.region, id, size, kind, way) {
+            Ok(placed) => Answer::Placed(placed),
+            Err(NoRoom) => Answer::NoRoom,
+        }
+    }
+
+    fn realloc(&mut self, rt: &impl Abort, id: u32, size: u32, way: Way) -> Answer {
+        let grain = self.arena.grain();
+        assert!(rt; self.arena.entry(id).is_some());
+        assert!(rt; 0 < size && 0 < grain && is_multiple(grain, size));
+        assert!(rt; self.arena.bounds().to <= self.region.len());
+        match self.arena.realloc(&mut self.region, id, size, way) {
             Ok(placed) => Answer::Placed(placed),
             Err(NoRoom) => Answer::NoRoom,
         }

@@ -5,7 +5,7 @@ use super::{AS_IT_STANDS, DISCARDING, SLIDING};
 use std::alloc::{AllocError, Global};
 use std::process::Abort;
 use std::test::Fail;
-use w16_model::{Block, Kind, Snapshot, Way};
+use w16_model::{Block, Hold, Kind, Snapshot, Way};
 
 /// A heap that some calls leave, and requests there with how many discards they make, if they are answered.
 #[derive(Clone, Copy)]
@@ -107,13 +107,13 @@ fn room_of(answer: Answer) -> Option<u32> {
 
 /// A heap as it stands, for the plain program.
 #[derive(Drop)]
-struct Plain {
+pub(super) struct Plain {
     blocks: Vec<Block>,
     order: Vec<u32>,
 }
 
 impl Plain {
-    fn of(alloc: Global, bench: &Bench) -> Result<Plain, AllocError> {
+    pub fn of(alloc: Global, bench: &Bench) -> Result<Plain, AllocError> {
         let blocks = bench.blocks(alloc)?;
         let order = bench.order(alloc)?;
         Ok(Plain { blocks, order })
@@ -129,7 +129,7 @@ impl Plain {
     }
 
     /// Those that a request may discard, the least recently used first.
-    fn eligible(&self, alloc: Global, about: Option<u32>) -> Result<Vec<u32>, AllocError> {
+    pub fn eligible(&self, alloc: Global, about: Option<u32>) -> Result<Vec<u32>, AllocError> {
         self.snapshot().eligible(alloc, about)
     }
 
@@ -144,6 +144,23 @@ impl Plain {
         let snapshot = self.snapshot();
         assert!(rt; snapshot.is_placed());
         snapshot.prefix(alloc, size, Some(id), way)
+    }
+
+    /// How many the growth of an object to so many bytes discards, if it is answered. One that may not move needs the hole behind it.
+    pub fn growth(
+        &self,
+        rt: &impl Abort,
+        alloc: Global,
+        block: Block,
+        asked: (u32, Way),
+    ) -> Result<Option<usize>, AllocError> {
+        let (size, way) = asked;
+        let snapshot = self.snapshot();
+        assert!(rt; snapshot.is_placed());
+        if block.hold == Hold::Loose || way.may_move {
+            return snapshot.growth(alloc, size, block.id, way);
+        }
+        Ok(snapshot.fits_in_place(size, block.id).then_some(0))
     }
 
     /// How many discards so many bytes need.

@@ -1,15 +1,13 @@
 //! Growth of an object, as in the plain program: how many discards it makes, where it stands then, and its bytes.
-ghost use Rattle.w16_model.specs.Gap.{ArePlaced};
 
-use super::discards::{blocks, plain};
-use super::{AS_IT_STANDS, DISCARDING, SLIDING, Step, in_order, is_multiple, made};
+use super::bench::{Answer, Bench, Step};
+use super::discards::Plain;
+use super::{AS_IT_STANDS, DISCARDING, SLIDING};
 use std::alloc::{AllocError, Global};
 use std::process::Abort;
 use std::test::Fail;
-use w16_arena::{Arena, Placed};
-use w16_holes::SideHoles;
-use w16_model::{Block, Hold, Kind, Snapshot, Span, Way};
-use w16_region::{Region, Space};
+use w16_arena::Placed;
+use w16_model::{Block, Kind, Span, Way};
 
 /// The object 0 of a heap that some calls leave, to so many bytes.
 #[derive(Clone, Copy)]
@@ -172,88 +170,68 @@ const GROWTHS: &[Growth] = &[
     },
 ];
 
-/// How many discards the growth of object 0 makes by the plain program, if it is answered.
-fn count_of(
+/// What the call answers.
+fn answer_of(growth: Growth) -> Answer {
+    match growth.answer {
+        Some((_, at, moved, slid)) => Answer::Placed(Placed { at, slid, moved }),
+        None => Answer::NoRoom,
+    }
+}
+
+/// Where the object stands then.
+fn place_of(growth: Growth, block: Block) -> u32 {
+    match growth.answer {
+        Some((_, at, _, _)) => at,
+        None => block.at,
+    }
+}
+
+/// The ids that the growth discards by the plain program, or none where it is refused.
+fn discards_of(
+    rt: &impl Abort,
     alloc: Global,
-    before: Snapshot<'_>,
+    bench: &Bench,
     block: Block,
     growth: Growth,
-) -> Result<Option<usize>, AllocError>
-    requires { ArePlaced before.lo before.hi before.blocks.now }
-{
-    let Growth { size, way, .. } = growth;
-    if block.hold == Hold::Loose || way.may_move {
-        return before.growth(alloc, size, 0, way);
-    }
-    Ok(before.fits_in_place(size, 0).then_some(0))
-}
-
-/// Makes the reallocation of object 0.
-fn reallocates(
-    rt: &impl Abort,
-    arena: &mut Arena<SideHoles>,
-    region: &mut Region,
-    growth: Growth,
-) -> Option<Placed> {
-    let Growth { size, way, .. } = growth;
-    let grain = arena.grain();
-    assert!(rt; arena.entry(0).is_some());
-    assert!(rt; 0 < size && 0 < grain && is_multiple(grain, size));
-    assert!(rt; arena.bounds().to <= region.len());
-    arena.realloc(region, 0, size, way).ok()
-}
-
-/// The bytes from an address on.
-fn bytes_at<'a>(rt: &impl Abort, region: &'a Region, at: u32, n: u32) -> &'a [u8] {
-    let room = region.len();
-    assert!(rt; at <= room && n <= room - at);
-    region.view(at, n)
-}
-
-/// Grows an object in a heap, and compares.
-fn grows(rt: &impl Abort, alloc: Global, growth: Growth) -> Result<(), AllocError> {
-    let Growth { name, steps, .. } = growth;
-    let (mut arena, mut region) = made(rt, alloc, steps)?;
-    let Some(block) = arena.block(0) else {
-        return rt.abort();
+) -> Result<Option<Vec<u32>>, AllocError> {
+    let before = Plain::of(alloc, bench)?;
+    let Some(count) = before.growth(rt, alloc, block, (growth.size, growth.way))? else {
+        return Ok(None);
     };
-    let room = region.len();
-    assert!(rt; block.at <= room && block.size <= room - block.at);
-    region.fill(block.at, block.size, 7);
-    let order = in_order(alloc, &arena)?;
-    let blocks = blocks(alloc, &arena, &region)?;
-    let before = plain(&arena, &blocks, &order);
-    assert!(rt; before.is_placed(), "{name}");
-    let eligible = before.eligible(alloc, Some(0))?;
-    let count = count_of(alloc, before, block, growth)?;
-    assert_eq!(rt;
-        count,
-        growth.answer.map(|answer| answer.0),
-        "{name}: by the plain program"
-    );
-    let found = reallocates(rt, &mut arena, &mut region, growth);
-    let wanted = growth.answer.map(|answer| Placed {
-        at: answer.1,
-        moved: answer.2,
-        slid: answer.3,
-    });
-    assert_eq!(rt; found, wanted, "{name}");
-    let first = count.unwrap_or(0).min(eligible.len());
-    assert_eq!(rt; arena.discarded(), &eligible[..first], "{name}: discarded");
-    let at = found.map_or(block.at, |placed| placed.at);
-    let sevens = vec![in alloc; 7u8; block.size as usize]?;
-    assert_eq!(rt;
-        bytes_at(rt, &region, at, block.size),
-        sevens.as_slice(),
-        "{name}: bytes"
-    );
-    Ok(())
+    let mut ids = before.eligible(alloc, Some(block.id))?;
+    ids.truncate(count);
+    Ok(Some(ids))
+}
+
+/// Whether these are discarded, as many as were worked out.
+fn has_discarded(bench: &Bench, ids: Option<&[u32]>, growth: Growth) -> bool {
+    match (ids, growth.answer) {
+        (Some(ids), Some((count, _, _, _))) => ids.len() == count && bench.has_discarded(ids),
+        (None, None) => bench.has_discarded(&[]),
+        _ => false,
+    }
+}
+
+/// Grows an object in a heap: as the plain program says, to where was worked out, and with its bytes.
+fn grows(rt: &impl Abort, alloc: Global, growth: Growth) -> Result<bool, AllocError> {
+    let mut bench = Bench::with(rt, alloc, growth.steps)?;
+    let block = bench.block(0).expect(rt, "a block");
+    bench.fill_object(rt, 0, 7);
+    let ids = discards_of(rt, alloc, &bench, block, growth)?;
+    let answer = bench.act(rt, Step::Realloc(0, growth.size, growth.way));
+    let at = place_of(growth, block);
+    Ok(
+        answer == answer_of(growth)
+            && has_discarded(&bench, ids.as_deref(), growth)
+            && bench.is_filled(rt, at, block.size, 7),
+    )
 }
 
 #[test]
 fn grows_as_the_plain_program_says(rt: HostRuntime) -> Result<(), Fail> {
     for growth in GROWTHS {
-        grows(&rt, rt.alloc(), *growth)?;
+        let agrees = grows(&rt, rt.alloc(), *growth)?;
+        assert!(rt; agrees, "{}", growth.name);
     }
     Ok(())
 }
