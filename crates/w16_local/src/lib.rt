@@ -8,6 +8,10 @@ ghost use Rattle.std.specs.FinMap as finmap;
 ghost use Rattle.w16_model.specs.Table.{Table};
 ghost use Rattle.w16_machine.specs.Local.{IsLocalTable};
 
+mod asked;
+mod chosen;
+mod look;
+
 use std::alloc::{AllocError, Global};
 use std::marker::Model;
 use w16_arena::Arena;
@@ -77,7 +81,7 @@ impl LocalHeaps {
     }
 
     /// A slot's heap, if it has one.
-    fn heap_of(&self, slot: u16) -> Option<&Arena<SideHoles>>
+    pub(crate) fn heap_of(&self, slot: u16) -> Option<&Arena<SideHoles>>
         ensures none { IfNone result (finmap.get self.now slot ≡ None) }
         ensures some { IfSome result (λ h. (finmap.get self.now slot ≡ Some h.now.table) × IsLocalTable h.now.table) }
     {

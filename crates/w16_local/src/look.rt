@@ -1,0 +1,105 @@
+//! Objects of one local heap, by name and by near pointer.
+ghost use Rattle.std.specs.Prelude.{◌≡◌, ℕ, List, Some, length, option_map, unwrap_or};
+ghost use Rattle.w16_model.specs.Heap.{bytes_at, object_at};
+ghost use Rattle.w16_model.specs.Table.{heap_in};
+ghost use Rattle.w16_machine.specs.Local as local;
+ghost use Rattle.w16_machine.specs.Local.{IsLocalTable};
+ghost use Rattle.w16_machine.specs.LocalCalls as calls;
+ghost use Rattle.w16_local.specs.Parts.{IsOver};
+
+use w16_arena::Arena;
+use w16_holes::SideHoles;
+use w16_machine::local::{LMEM_DISCARDABLE, LMEM_DISCARDED};
+use w16_model::Kind;
+use w16_region::Window;
+
+/// The object that begins at a near pointer, if one does.
+pub(crate) fn id_at(heap: &Arena<SideHoles>, pointer: u16) -> Option<u32>
+    ensures { (bytes : List ℕ) → IsOver heap.now.table bytes → local.id_at (heap_in heap.now.table bytes) pointer ≡ result }
+{
+    let at = pointer as u32;
+    // Holes beside the memory need none of it.
+    let window = Window::new(&mut []);
+    let block = heap.next_block(&window, at)?;
+    if block.at == at { Some(block.id) } else { None }
+}
+
+/// What an object is called: a fixed one by its near pointer, any other by its entry.
+pub(crate) fn name_at(heap: &Arena<SideHoles>, id: u32) -> Option<u16>
+    requires { IsLocalTable heap.now.table }
+    ensures { (bytes : List ℕ) → IsOver heap.now.table bytes → local.name_at (heap_in heap.now.table bytes) id ≡ result }
+{
+    let entry = heap.entry(id)?;
+    if entry.kind == Kind::Fixed {
+        let block = heap.block(id)?;
+        Some(block.at as u16)
+    } else {
+        Some((4 * id + 2) as u16)
+    }
+}
+
+/// Where the object that has a name may be, if there is one.
+fn candidate(heap: &Arena<SideHoles>, name: u16) -> Option<u32>
+    ensures { (bytes : List ℕ) → IsOver heap.now.table bytes → (id : ℕ) → local.name_at (heap_in heap.now.table bytes) id ≡ Some name → result ≡ Some id }
+{
+    if name % 4 == 2 {
+        Some((name / 4) as u32)
+    } else {
+        id_at(heap, name)
+    }
+}
+
+/// The object that has a name, if there is one.
+pub(crate) fn id_named(heap: &Arena<SideHoles>, name: u16) -> Option<u32>
+    requires { IsLocalTable heap.now.table }
+    ensures { (bytes : List ℕ) → IsOver heap.now.table bytes → local.id_named (heap_in heap.now.table bytes) name ≡ result }
+{
+    let id = candidate(heap, name)?;
+    if name_at(heap, id) == Some(name) {
+        Some(id)
+    } else {
+        None
+    }
+}
+
+/// The name of the object that begins at a near pointer, or 0.
+pub(crate) fn handle_at(heap: &Arena<SideHoles>, pointer: u16) -> u16
+    requires { IsLocalTable heap.now.table }
+    ensures { (bytes : List ℕ) → IsOver heap.now.table bytes → unwrap_or (calls.name_from (heap_in heap.now.table bytes) pointer) 0 ≡ result }
+{
+    let Some(id) = id_at(heap, pointer) else {
+        return 0;
+    };
+    name_at(heap, id).unwrap_or(0)
+}
+
+/// An object's size in bytes, 0 for one without any.
+pub(crate) fn size_of(heap: &Arena<SideHoles>, id: u32) -> u16
+    requires { IsLocalTable heap.now.table }
+    ensures { (bytes : List ℕ) → IsOver heap.now.table bytes → unwrap_or (option_map length (bytes_at (heap_in heap.now.table bytes) id)) 0 ≡ result }
+{
+    let Some(block) = heap.block(id) else {
+        return 0;
+    };
+    block.size as u16
+}
+
+/// An object's lock count, and bits that say whether it is discardable, and absent; 0 where there is none.
+pub(crate) fn flags_of(heap: &Arena<SideHoles>, id: u32) -> u16
+    ensures { (bytes : List ℕ) → IsOver heap.now.table bytes → unwrap_or (option_map calls.local_flags_of (object_at (heap_in heap.now.table bytes) id)) 0 ≡ result }
+{
+    let Some(entry) = heap.entry(id) else {
+        return 0;
+    };
+    let discardable = if entry.kind == Kind::Discardable {
+        LMEM_DISCARDABLE
+    } else {
+        0
+    };
+    let absent = if heap.block(id).is_some() {
+        0
+    } else {
+        LMEM_DISCARDED
+    };
+    entry.locks as u16 + discardable + absent
+}
