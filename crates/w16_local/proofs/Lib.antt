@@ -1,1 +1,3 @@
 pub mod Locals
+pub mod Looks
+pub mod Chosen

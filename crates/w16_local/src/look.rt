@@ -1,6 +1,6 @@
 //! Objects of one local heap, by name and by near pointer.
-ghost use Rattle.std.specs.Prelude.{◌≡◌, ℕ, List, Some, length, option_map, unwrap_or};
-ghost use Rattle.w16_model.specs.Heap.{bytes_at, object_at};
+ghost use Rattle.std.specs.Prelude.{◌≡◌, if◌then◌else◌, ℕ, List, Some, length, option_map, unwrap_or};
+ghost use Rattle.w16_model.specs.Heap.{bytes_at, object_at, is_fixed, is_discardable};
 ghost use Rattle.w16_model.specs.Table.{heap_in};
 ghost use Rattle.w16_machine.specs.Local as local;
 ghost use Rattle.w16_machine.specs.Local.{IsLocalTable};
@@ -30,7 +30,7 @@ pub(crate) fn name_at(heap: &Arena<SideHoles>, id: u32) -> Option<u16>
     ensures { (bytes : List ℕ) → IsOver heap.now.table bytes → local.name_at (heap_in heap.now.table bytes) id ≡ result }
 {
     let entry = heap.entry(id)?;
-    if entry.kind == Kind::Fixed {
+    if is_fixed(entry.kind) {
         let block = heap.block(id)?;
         Some(block.at as u16)
     } else {
@@ -55,11 +55,8 @@ pub(crate) fn id_named(heap: &Arena<SideHoles>, name: u16) -> Option<u32>
     ensures { (bytes : List ℕ) → IsOver heap.now.table bytes → local.id_named (heap_in heap.now.table bytes) name ≡ result }
 {
     let id = candidate(heap, name)?;
-    if name_at(heap, id) == Some(name) {
-        Some(id)
-    } else {
-        None
-    }
+    let found = name_at(heap, id)?;
+    if found == name { Some(id) } else { None }
 }
 
 /// The name of the object that begins at a near pointer, or 0.
@@ -91,15 +88,28 @@ pub(crate) fn flags_of(heap: &Arena<SideHoles>, id: u32) -> u16
     let Some(entry) = heap.entry(id) else {
         return 0;
     };
-    let discardable = if entry.kind == Kind::Discardable {
-        LMEM_DISCARDABLE
-    } else {
-        0
-    };
-    let absent = if heap.block(id).is_some() {
-        0
-    } else {
-        LMEM_DISCARDED
-    };
+    let discardable = bit_if(is_discardable(entry.kind), LMEM_DISCARDABLE);
+    let absent = bit_if(heap.block(id).is_none(), LMEM_DISCARDED);
     entry.locks as u16 + discardable + absent
+}
+
+/// Whether an object of this kind keeps its near pointer.
+fn is_fixed(kind: Kind) -> bool
+    ensures { result ≡ is_fixed kind }
+{
+    kind == Kind::Fixed
+}
+
+/// Whether an object of this kind may lose its bytes.
+fn is_discardable(kind: Kind) -> bool
+    ensures { result ≡ is_discardable kind }
+{
+    kind == Kind::Discardable
+}
+
+/// A bit, where it is set.
+fn bit_if(set: bool, bit: u16) -> u16
+    ensures { result ≡ if set then bit else 0 }
+{
+    if set { bit } else { 0 }
 }
