@@ -143,3 +143,6 @@ module _ {t : Table} {bytes : List ℕ} (over : IsOver t bytes) where
 
   pub object_in_entry : (id : ℕ) (e : Option Entry) → entry_at t id ≡ e → object_at (heap_in t bytes) id ≡ option_map (object_in t.blocks bytes id) e
   object_in_entry id e is = object_here parts id ∙ ap (option_map (object_in t.blocks bytes id)) is
+
+  pub place_in : (id : ℕ) (b : Option Block) → block_with t.blocks id ≡ b → unwrap_or (finmap.get (heap_in t bytes).places id) 0 ≡ unwrap_or (option_map (λ (x : Block). x.at) b) 0
+  place_in id b is = ap (λ (n : Option ℕ). unwrap_or n 0) (place_here parts id ∙ ap (option_map (λ (x : Block). x.at)) is)

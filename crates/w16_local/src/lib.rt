@@ -11,6 +11,7 @@ ghost use Rattle.w16_machine.specs.Local.{IsLocalTable};
 mod asked;
 mod chosen;
 mod look;
+mod steps;
 
 use std::alloc::{AllocError, Global};
 use std::marker::Model;

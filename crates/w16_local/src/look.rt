@@ -1,5 +1,6 @@
 //! Objects of one local heap, by name and by near pointer.
 ghost use Rattle.std.specs.Prelude.{◌≡◌, if◌then◌else◌, ℕ, List, Some, length, option_map, unwrap_or};
+ghost use Rattle.w16_model.specs.Calls.{locks_at};
 ghost use Rattle.w16_model.specs.Heap.{bytes_at, object_at, is_fixed, is_discardable};
 ghost use Rattle.w16_model.specs.Table.{heap_in};
 ghost use Rattle.w16_machine.specs.Local as local;
@@ -91,6 +92,27 @@ pub(crate) fn flags_of(heap: &Arena<SideHoles>, id: u32) -> u16
     let discardable = bit_if(is_discardable(entry.kind), LMEM_DISCARDABLE);
     let absent = bit_if(heap.block(id).is_none(), LMEM_DISCARDED);
     entry.locks as u16 + discardable + absent
+}
+
+/// An object's near pointer, 0 for one without bytes.
+pub(crate) fn place_of(heap: &Arena<SideHoles>, id: u32) -> u16
+    requires { IsLocalTable heap.now.table }
+    ensures { (bytes : List ℕ) → IsOver heap.now.table bytes → calls.near_pointer (heap_in heap.now.table bytes) id ≡ result }
+{
+    let Some(block) = heap.block(id) else {
+        return 0;
+    };
+    block.at as u16
+}
+
+/// An object's lock count, 0 where there is none.
+pub(crate) fn locks_of(heap: &Arena<SideHoles>, id: u32) -> u8
+    ensures { (bytes : List ℕ) → IsOver heap.now.table bytes → locks_at (heap_in heap.now.table bytes) id ≡ result }
+{
+    let Some(entry) = heap.entry(id) else {
+        return 0;
+    };
+    entry.locks
 }
 
 /// Whether an object of this kind keeps its near pointer.
