@@ -1,3 +1,4 @@
 pub mod Locals
 pub mod Looks
 pub mod Chosen
+pub mod Stepping

@@ -48,24 +48,25 @@ none_past xs slot le = tables_at xs slot ∙ ap (option_map table_of) (past xs s
     past (d ∷ es) zero le = absurd (omega arith)
     past (d ∷ es) (suc slot) le = past es slot (omega arith)
 
+-- a look-up inside the list is the same whatever stands for a place outside
+default_any : (ys : List (Option ArenaState)) (i : ℕ) (a b : Option ArenaState) → i < length ys → get_or ys i a ≡ get_or ys i b
+default_any [] i a b lt = absurd (omega arith)
+default_any (y ∷ ys) zero a b lt = refl
+default_any (y ∷ ys) (suc i) a b lt = default_any ys i a b (omega arith)
+
 -- A slot's heap, as it is lent.
 module _ (xs : List (Option ArenaState)) (kept : AreKept xs) {tables : FinMap nat_cmp Table} (shown : tables_of xs ≡ tables) (slot : ℕ) where
-  any_default : (ys : List (Option ArenaState)) (i : ℕ) (a b : Option ArenaState) → i < length ys → get_or ys i a ≡ get_or ys i b
-  any_default [] i a b lt = absurd (omega arith)
-  any_default (y ∷ ys) zero a b lt = refl
-  any_default (y ∷ ys) (suc i) a b lt = any_default ys i a b (omega arith)
-
   is_table : (p : Option ArenaState) → get_or xs slot None ≡ p → finmap.get tables slot ≡ option_map table_of p
   is_table p there = ap (λ m. finmap.get m slot) (sym shown) ∙ tables_at xs slot ∙ ap (option_map table_of) there
 
   pub lent_none : slot < length xs → (d : Option ArenaState) (r : Option (Bor ArenaState)) → option_copied r ≡ get_or xs slot d → IfNone r (finmap.get tables slot ≡ None)
-  lent_none lt d None value = is_table None (any_default xs slot None d lt ∙ sym value)
+  lent_none lt d None value = is_table None (default_any xs slot None d lt ∙ sym value)
   lent_none lt d (Some h) value = tt
 
   pub lent_some : slot < length xs → (d : Option ArenaState) (r : Option (Bor ArenaState)) → option_copied r ≡ get_or xs slot d → IfSome r (λ h. (finmap.get tables slot ≡ Some h.now.table) × IsLocalTable h.now.table)
   lent_some lt d None value = tt
   lent_some lt d (Some h) value =
-      let there : get_or xs slot None ≡ Some h.now = any_default xs slot None d lt ∙ sym value in
+      let there : get_or xs slot None ≡ Some h.now = default_any xs slot None d lt ∙ sym value in
       (is_table (Some h.now) there, subst (λ p. IfSome p (λ (h : ArenaState). IsLocalTable h.table)) there (kept slot))
 
 -- a slot gets one
@@ -110,13 +111,10 @@ module _ (xs : List (Option ArenaState)) (kept : AreKept xs) {tables : FinMap na
       within (y ∷ ys) (suc slot) h e = let rest : slot < length ys = within ys slot h e in omega arith
 
   pub not_none : (d r : Option ArenaState) → r ≡ get_or xs slot d → r ≡ None → ⊥
-  not_none d r value none = let p : Some there.0 ≡ None = sym there.1 ∙ default xs slot None d in_range ∙ sym value ∙ none in cc
-    where
-      default : (ys : List (Option ArenaState)) (i : ℕ) (a b : Option ArenaState) → i < length ys → get_or ys i a ≡ get_or ys i b
-      default [] i a b lt = absurd (omega arith)
-      default (y ∷ ys) zero a b lt = refl
-      default (y ∷ ys) (suc i) a b lt = default ys i a b (omega arith)
+  not_none d r value none = let p : Some there.0 ≡ None = sym there.1 ∙ default_any xs slot None d in_range ∙ sym value ∙ none in cc
 
   module _ (d : Option ArenaState) (h : ArenaState) (value : get_or xs slot d ≡ Some h) where
     pub here : (finmap.get tables slot ≡ Some h.table) × IsLocalTable h.table
-    here = lent_some xs kept shown slot in_range d (Some (record { now = h })) (sym value)
+    here =
+        let is : get_or xs slot None ≡ Some h = default_any xs slot None d in_range ∙ value in
+        (is_table xs kept shown slot (Some h) is, subst (λ p. IfSome p (λ (h : ArenaState). IsLocalTable h.table)) is (kept slot))
