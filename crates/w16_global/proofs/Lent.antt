@@ -17,7 +17,7 @@ use Rattle.w16_region.specs.Bytes.{counted, with_items-put_part}
 use Rattle.w16_selectors.specs.Descriptors as selectors
 use Rattle.w16_arena.proofs.Lookups.{bytes_here, ends_in_memory}
 use Rattle.w16_arena.specs.State.{ArenaState}
-use Rattle.w16_global.specs.Joined.{handles_of, AreJoined}
+use Rattle.w16_global.specs.Joined.{Global, handles_of, AreJoined}
 use Rattle.w16_global.specs.Lent.{Lends}
 use Rattle.w16_global.specs.Parts.{AreParts, HasPart, Holding, holding_of}
 use Rattle.w16_global.proofs.Described.{write_same}
@@ -79,18 +79,33 @@ module _ {state : ArenaState} {memory : List ℕ} (parts : AreParts state memory
       at_0 : x.at + 0 ≡ x.at
       at_0 = omega arith
 
-      pub lends : (done : List ℕ → List ℕ → Type 0) → done seen after → Lends h.heap id done
+      abbrev lends : (done : List ℕ → List ℕ → Type 0) → done seen after → Lends h.heap id done
       lends done does = record { bytes = seen; after = after; had = had ∙ ap Some (sym is_seen); long = long; are_bytes = ours; does = does }
 
       pub lent_parts : AreParts state (with_items v (put_part v.items x.at after)).items
       lent_parts = subst (AreParts state) (sym (same ∙ ap (λ k. put_part memory k after) (sym at_0))) (parts_filled parts id shown is 0 after has ours)
 
-      pub lent_holding : holding_of state (with_items v (put_part v.items x.at after)).items (counted count x.size) ≡ record h { heap = after_write h.heap id 0 after; written = counted h.written (length seen) }
+      lent_holding : holding_of state (with_items v (put_part v.items x.at after)).items (counted count x.size) ≡ record h { heap = after_write h.heap id 0 after; written = counted h.written (length seen) }
       lent_holding =
           let n : x.size ≡ length seen = sym many ∙ long in
           ap (λ items. holding_of state items (counted count x.size)) (same ∙ ap (λ k. put_part memory k after) (sym at_0))
           ∙ holding_written parts id shown is 0 after has ours (λ k. counted k x.size)
           ∙ ap (λ k. record h { heap = after_write h.heap id 0 after; written = counted h.written k }) n
+
+      pub lent_as : (done : List ℕ → List ℕ → Type 0) → done seen after → (lent : Lends h.heap id done)
+          × (holding_of state (with_items v (put_part v.items x.at after)).items (counted count x.size) ≡ record h { heap = after_write h.heap id 0 lent.after; written = counted h.written (length lent.bytes) })
+      lent_as done does = (lends done does, lent_holding)
+
+-- the value of the whole
+abbrev global_of : Holding → List (Option Attributes) → ℕ → Global
+global_of h xs m = record { handles = handles_of h xs m; written = h.written }
+
+pub lent_shown : (h : Holding) (xs : List (Option Attributes)) (m : ℕ) {g : Global} → global_of h xs m ≡ g → (slot : ℕ) (done : List ℕ → List ℕ → Type 0) (new : Holding)
+    → (lent : Lends h.heap slot done) × (new ≡ record h { heap = after_write h.heap slot 0 lent.after; written = counted h.written (length lent.bytes) })
+    → (lent : Lends g.handles.heap slot done) × (global_of new xs m ≡ record g { handles = record g.handles { heap = after_write g.handles.heap slot 0 lent.after }; written = counted g.written (length lent.bytes) })
+lent_shown h xs m shown slot done new said =
+    subst (λ (g : Global). (lent : Lends g.handles.heap slot done) × (global_of new xs m ≡ record g { handles = record g.handles { heap = after_write g.handles.heap slot 0 lent.after }; written = counted g.written (length lent.bytes) }))
+    shown (said.0, ap (λ k. global_of k xs m) said.1)
 
 -- The handles with an object's bytes rewritten are some, and the selectors are right.
 pub lent_joined : {h : Holding} {xs : List (Option Attributes)} {t : selectors.DescriptorTable} → AreJoined h xs t → (new : Holding) (slot : ℕ) (done : List ℕ → List ℕ → Type 0) (lent : Lends h.heap slot done)

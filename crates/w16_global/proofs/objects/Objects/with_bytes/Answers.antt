@@ -1,5 +1,5 @@
 use Rattle.std.proofs.Common.{refl, sym, ◌∙◌}
-use Rattle.w16_global.proofs.Lent.{no_bytes, inside, may, lends, lent_parts, lent_holding}
+use Rattle.w16_global.proofs.Lent.{no_bytes, inside, may, lent_as, lent_parts}
 use Rattle.w16_global.proofs.objects.Objects.with_bytes.Goals as goal
 
 pub unreachable-requires : goal.unreachable-requires
@@ -18,6 +18,5 @@ invariant_of-self g c =
 
 pub returns : goal.returns
 returns g c =
-    (lends c.self.invariant c.self.view_is c.args.id c.in-Some.block (sym c.block.ensures.value ∙ c.in-Some.is) c.self.inside.memory.bytes refl c.work-answer.new.bytes c.view_mut.result.now c.view_mut.ensures.value c.work-answer.ensures.long c.has_bytes.ensures
-      _ c.work-answer.ensures.done,
-      lent_holding c.self.invariant c.self.view_is c.args.id c.in-Some.block (sym c.block.ensures.value ∙ c.in-Some.is) c.self.inside.memory.bytes refl c.work-answer.new.bytes c.view_mut.result.now c.view_mut.ensures.value c.work-answer.ensures.long c.has_bytes.ensures)
+    lent_as c.self.invariant c.self.view_is c.args.id c.in-Some.block (sym c.block.ensures.value ∙ c.in-Some.is) c.self.inside.memory.bytes refl c.work-answer.new.bytes c.view_mut.result.now c.view_mut.ensures.value c.work-answer.ensures.long c.has_bytes.ensures
+    _ c.work-answer.ensures.done
