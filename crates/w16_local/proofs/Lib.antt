@@ -1,4 +1,4 @@
 pub mod Locals
 pub mod Looks
-pub mod Chosen
+pub mod Choices
 pub mod Stepping

@@ -99,7 +99,7 @@ module _ (xs : List (Option ArenaState)) (kept : AreKept xs) {tables : FinMap na
   there = turn (get_or xs slot None) refl (subst IsSome (ap (λ m. finmap.get m slot) (sym shown) ∙ tables_at xs slot) known)
     where
       turn : (p : Option ArenaState) → get_or xs slot None ≡ p → IsSome (option_map table_of p) → (h : ArenaState) × (get_or xs slot None ≡ Some h)
-      turn None e some = absurd some
+      turn None e some = cc
       turn (Some h) e some = (h, e)
 
   pub in_range : slot < length xs

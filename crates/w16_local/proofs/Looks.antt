@@ -3,6 +3,7 @@ use Rattle.std.proofs.Common.{◌≡◌, ◌≢◌, ℕ, ◌+◌, ◌*◌, ◌/�
 use Rattle.std.specs.FinMap as finmap
 use Rattle.w16_model.specs.declared.Block.{Block}
 use Rattle.w16_model.specs.declared.Entry.{Entry}
+use Rattle.w16_model.specs.Calls.{locks_at}
 use Rattle.w16_model.specs.Gap.{block_end}
 use Rattle.w16_model.specs.Heap.{Heap, Object, IsHeap, object_at, bytes_at, is_fixed, is_discardable, IsMultiple}
 use Rattle.w16_model.specs.Table.{Table, block_with, entry_at, heap_in, object_in}
@@ -12,6 +13,7 @@ use Rattle.w16_model.proofs.Tables.{member_with}
 use Rattle.w16_arena.proofs.Parts.{AreParts}
 use Rattle.w16_arena.proofs.Lookups.{in_list, is_heap, object_here, place_here, size_here}
 use Rattle.w16_machine.specs.Local.{IsLocalTable, id_at, id_named, name_at, name_of}
+use Rattle.w16_machine.specs.LocalCalls.{local_flags_of}
 use Rattle.w16_machine.proofs.LocalNames.{names_law}
 use Rattle.w16_local.specs.Parts.{IsOver}
 
@@ -39,6 +41,12 @@ block_by_four t is id x e =
 -- an entry's id
 pub entry_small : (t : Table) → IsLocalTable t → (id : ℕ) (e : Entry) → entry_at t id ≡ Some e → id < 1024
 entry_small t is id e there = let many : length t.entries ≡ 1024 = is.entries in let lt = in_list t.entries id e there in omega (arith, many, lt)
+
+pub none_some : {x : ℕ} → ◌≡◌ {A = Option ℕ} None (Some x) → ⊥
+none_some e = cc
+
+pub some_other : {x y : ℕ} → x ≢ y → ◌≡◌ {A = Option ℕ} (Some x) (Some y) → ⊥
+some_other {x} {y} other e = let same : x ≡ y = cc in other same
 
 each : {P Q : Block → Type 0} → ((c : Block) → P c → Q c) → (b : Option Block) → IfSome b P → IfSome b Q
 each f None h = tt
@@ -68,13 +76,13 @@ module _ {t : Table} {bytes : List ℕ} (over : IsOver t bytes) where
     at_block b is at = at_place b.id (place_here parts b.id ∙ ap (option_map (λ (x : Block). x.at)) is ∙ ap Some at)
 
     not_at : ((q : ℕ) → IfSome (block_with t.blocks q) (λ c. c.at ≢ pointer)) → id_at (heap_in t bytes) pointer ≡ None
-    not_at no = turn (id_at (heap_in t bytes) pointer) refl
+    not_at never = turn (id_at (heap_in t bytes) pointer) refl
       where
         turn : (p : Option ℕ) → id_at (heap_in t bytes) pointer ≡ p → p ≡ None
         turn None e = refl
         turn (Some id) e =
             let x : (x : Block) × (block_with t.blocks id ≡ Some x) × (x.at ≡ pointer) = placed pointer id ((names_law (heap_in t bytes) pointer id heap_is over.is_local.grain).1.0 e) in
-            absurd (subst (λ b. IfSome b (λ (c : Block). c.at ≢ pointer)) x.1 (no id) x.2)
+            absurd (subst (λ b. IfSome b (λ (c : Block). c.at ≢ pointer)) x.1 (never id) x.2)
 
     pub at_none : ((q : ℕ) → IfSome (block_with t.blocks q) (λ c. c.at < pointer)) → id_at (heap_in t bytes) pointer ≡ None
     at_none below = not_at (λ q. each (λ c lt e. omega (arith, lt, e)) (block_with t.blocks q) (below q))
@@ -113,12 +121,12 @@ module _ {t : Table} {bytes : List ℕ} (over : IsOver t bytes) where
 
     pub entry_candidate : (name : ℕ) → name % 4 ≡ 2 → name_at (heap_in t bytes) id ≡ Some name → name / 4 ≡ id
     entry_candidate name two e = elim (named_by name e) [
-      | inl p ↦ let x = placed name id p in let m = block_by_four t over.is_local id x.0 x.1 in absurd (never m.0 (sym x.2 ∙ m.1))
+      | inl p ↦ let x = placed name id p in let m = block_by_four t over.is_local id x.0 x.1 in absurd (odd m.0 (sym x.2 ∙ m.1))
       | inr n ↦ omega (arith, n)
     ]
       where
-        never : (m : ℕ) → name ≡ 4 * m → ⊥
-        never m n = omega (arith, two, n)
+        odd : (m : ℕ) → name ≡ 4 * m → ⊥
+        odd m n = omega (arith, two, n)
 
     pub place_candidate : (name : ℕ) → name % 4 ≢ 2 → name_at (heap_in t bytes) id ≡ Some name → id_at (heap_in t bytes) name ≡ Some id
     place_candidate name other e = elim (named_by name e) [
@@ -131,11 +139,15 @@ module _ {t : Table} {bytes : List ℕ} (over : IsOver t bytes) where
   named_here name id e = (names_law (heap_in t bytes) name id heap_is over.is_local.grain).0.1 e
 
   pub named_none : (name : ℕ) → ((id : ℕ) → name_at (heap_in t bytes) id ≡ Some name → ⊥) → id_named (heap_in t bytes) name ≡ None
-  named_none name no = turn (id_named (heap_in t bytes) name) refl
+  named_none name never = turn (id_named (heap_in t bytes) name) refl
     where
       turn : (p : Option ℕ) → id_named (heap_in t bytes) name ≡ p → p ≡ None
       turn None e = refl
-      turn (Some id) e = absurd (no id ((names_law (heap_in t bytes) name id heap_is over.is_local.grain).0.0 e))
+      turn (Some id) e = absurd (never id ((names_law (heap_in t bytes) name id heap_is over.is_local.grain).0.0 e))
+
+  -- none has it where the one that may doesn't
+  pub not_named : (name id : ℕ) → ((q : ℕ) → name_at (heap_in t bytes) q ≡ Some name → ◌≡◌ {A = Option ℕ} (Some id) (Some q)) → (r : Option ℕ) → name_at (heap_in t bytes) id ≡ r → (r ≡ Some name → ⊥) → id_named (heap_in t bytes) name ≡ None
+  not_named name id may r is other = named_none name (λ q e. let same : id ≡ q = (let both = may q e in cc) in other (sym is ∙ ap (name_at (heap_in t bytes)) same ∙ e))
 
   -- Sizes and flags.
   pub size_in : (id : ℕ) (b : Option Block) → block_with t.blocks id ≡ b → unwrap_or (option_map (length {A = ℕ}) (bytes_at (heap_in t bytes) id)) 0 ≡ unwrap_or (option_map (λ (x : Block). x.size) b) 0
@@ -146,3 +158,9 @@ module _ {t : Table} {bytes : List ℕ} (over : IsOver t bytes) where
 
   pub place_in : (id : ℕ) (b : Option Block) → block_with t.blocks id ≡ b → unwrap_or (finmap.get (heap_in t bytes).places id) 0 ≡ unwrap_or (option_map (λ (x : Block). x.at) b) 0
   place_in id b is = ap (λ (n : Option ℕ). unwrap_or n 0) (place_here parts id ∙ ap (option_map (λ (x : Block). x.at)) is)
+
+  pub locks_in : (id : ℕ) (e : Option Entry) → entry_at t id ≡ e → locks_at (heap_in t bytes) id ≡ unwrap_or (option_map (λ (o : Object). o.locks) (option_map (object_in t.blocks bytes id) e)) 0
+  locks_in id e is = ap (λ (p : Option Object). unwrap_or (option_map (λ (o : Object). o.locks) p) 0) (object_in_entry id e is)
+
+  pub flags_in : (id : ℕ) (e : Option Entry) → entry_at t id ≡ e → unwrap_or (option_map local_flags_of (object_at (heap_in t bytes) id)) 0 ≡ unwrap_or (option_map local_flags_of (option_map (object_in t.blocks bytes id) e)) 0
+  flags_in id e is = ap (λ (p : Option Object). unwrap_or (option_map local_flags_of p) 0) (object_in_entry id e is)

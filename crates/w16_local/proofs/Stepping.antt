@@ -15,7 +15,7 @@ use Rattle.w16_arena.specs.State.{ArenaState, Steps}
 use Rattle.w16_local.specs.Kept.{tables_of, AreKept}
 use Rattle.w16_local.specs.Parts.{Calls, IsNamed, alone, with_parts}
 use Rattle.w16_local.specs.Steps.{Stepped, answer_of, outcome}
-use Rattle.w16_local.proofs.Chosen.{is_named}
+use Rattle.w16_local.proofs.Choices.{is_named}
 use Rattle.w16_local.proofs.Locals.{here, in_range, insert_nothing, kept_replaced, tables_replaced}
 
 -- what an arena tells of a step

@@ -10,12 +10,14 @@ use w16_global::Global16;
 use w16_holes::SideHoles;
 
 /// A local heap, and its segment's slot.
+#[derive(Drop)]
 pub(crate) struct Chosen<'a> {
     pub slot: u16,
     pub heap: &'a Arena<SideHoles>,
 }
 
 /// An object in a local heap.
+#[derive(Drop)]
 pub(crate) struct Named<'a> {
     pub slot: u16,
     pub heap: &'a Arena<SideHoles>,
@@ -46,8 +48,12 @@ impl LocalHeaps {
         ensures none { IfNone result (local.object_named (alone global.now.handles self.now ds) name ≡ None) }
         ensures some { IfSome result (λ n. IsNamed global.now.handles self.now ds name n.slot n.heap.now.table n.id) }
     {
-        let Chosen { slot, heap } = self.chosen(global, ds)?;
-        let id = id_named(heap, name)?;
-        Some(Named { slot, heap, id })
+        let chosen = self.chosen(global, ds)?;
+        let id = id_named(chosen.heap, name)?;
+        Some(Named {
+            slot: chosen.slot,
+            heap: chosen.heap,
+            id,
+        })
     }
 }
