@@ -1,5 +1,5 @@
 -- What a local heap's table tells of its heap: names, near pointers, sizes.
-use Rattle.std.proofs.Common.{◌≡◌, ◌≢◌, ℕ, ◌+◌, ◌*◌, ◌/◌, ◌%◌, ◌<◌, ◌≤◌, ◌⊎◌, inl, inr, Bool, true, false, cond, if◌then◌else◌, IfSome, List, length, Option, Some, None, option_map, unwrap_or, refl, sym, ap, ◌∙◌, subst, arith}
+use Rattle.std.proofs.Common.{◌≡◌, ◌≢◌, ℕ, ◌+◌, ◌*◌, ◌/◌, ◌%◌, ◌<◌, ◌≤◌, ◌⊎◌, inl, inr, Bool, true, false, not, cond, if◌then◌else◌, IfSome, is_some, List, length, slice_range, Option, Some, None, option_map, unwrap_or, refl, sym, ap, ◌∙◌, subst, arith}
 use Rattle.std.specs.FinMap as finmap
 use Rattle.w16_model.specs.declared.Block.{Block}
 use Rattle.w16_model.specs.declared.Entry.{Entry}
@@ -13,6 +13,7 @@ use Rattle.w16_model.proofs.Tables.{member_with}
 use Rattle.w16_arena.proofs.Parts.{AreParts}
 use Rattle.w16_arena.proofs.Lookups.{in_list, is_heap, object_here, place_here, size_here}
 use Rattle.w16_machine.specs.Local.{IsLocalTable, id_at, id_named, name_at, name_of}
+use Rattle.w16_machine.specs.declared.local.TheConstants.{LMEM_DISCARDABLE, LMEM_DISCARDED}
 use Rattle.w16_machine.specs.LocalCalls.{local_flags_of}
 use Rattle.w16_machine.proofs.LocalNames.{names_law}
 use Rattle.w16_local.specs.Parts.{IsOver}
@@ -164,3 +165,11 @@ module _ {t : Table} {bytes : List ℕ} (over : IsOver t bytes) where
 
   pub flags_in : (id : ℕ) (e : Option Entry) → entry_at t id ≡ e → unwrap_or (option_map local_flags_of (object_at (heap_in t bytes) id)) 0 ≡ unwrap_or (option_map local_flags_of (option_map (object_in t.blocks bytes id) e)) 0
   flags_in id e is = ap (λ (p : Option Object). unwrap_or (option_map local_flags_of p) 0) (object_in_entry id e is)
+
+  absent_bit : (b : Option Block) → (if is_some (option_map (λ (x : Block). slice_range bytes x.at (x.at + x.size)) b) then 0 else LMEM_DISCARDED) ≡ (if not (is_some b) then LMEM_DISCARDED else 0)
+  absent_bit None = refl
+  absent_bit (Some x) = refl
+
+  pub flags_told : (id : ℕ) (e : Entry) → entry_at t id ≡ Some e → (d a : ℕ) → d ≡ (if is_discardable e.kind then LMEM_DISCARDABLE else 0) → a ≡ (if not (is_some (block_with t.blocks id)) then LMEM_DISCARDED else 0)
+      → unwrap_or (option_map local_flags_of (object_at (heap_in t bytes) id)) 0 ≡ e.locks + d + a
+  flags_told id e is d a d_is a_is = flags_in id (Some e) is ∙ (λ i. e.locks + sym d_is i + (absent_bit (block_with t.blocks id) ∙ sym a_is) i)

@@ -8,7 +8,7 @@ use Rattle.w16_model.specs.Handles.{Handles}
 use Rattle.w16_model.specs.Heap.{Heap}
 use Rattle.w16_model.specs.OneObject.{after_lock}
 use Rattle.w16_model.specs.Table.{Table, heap_in}
-use Rattle.w16_machine.specs.Local.{LocalHeap, LocalObject, LocalWorld, IsLocalTable, Becomes, Stays, object_named}
+use Rattle.w16_machine.specs.Local.{LocalHeap, LocalObject, LocalWorld, IsLocalTable, Becomes, Stays, heap_of, object_named}
 use Rattle.w16_machine.specs.LocalCalls.{Leaves, OnNamed, lock_refused, near_pointer}
 use Rattle.w16_machine.specs.LocalCalls.LocalCommand.{LocalLock}
 use Rattle.w16_arena.specs.State.{ArenaState, Steps}
@@ -112,3 +112,6 @@ lock_calls {handles} {tables} {ds} {name} {slot} {t} {id} n pointer is r new s s
 pub none_calls : (handles : Handles) (tables : FinMap nat_cmp Table) (ds name otherwise : ℕ) (so : LocalWorld → LocalObject → Type 0) → object_named (alone handles tables ds) name ≡ None → (rest : LocalWorld)
     → OnNamed (with_parts rest handles tables ds) name otherwise otherwise (with_parts rest handles tables ds) (so (with_parts rest handles tables ds))
 none_calls handles tables ds name otherwise so none rest = subst (λ o. MatchOption o (Stays (with_parts rest handles tables ds) otherwise otherwise (with_parts rest handles tables ds)) (so (with_parts rest handles tables ds))) (sym none) (refl, refl)
+
+pub lock_none : (handles : Handles) (tables : FinMap nat_cmp Table) (ds name : ℕ) → object_named (alone handles tables ds) name ≡ None → Calls handles tables ds (LocalLock name) 0 handles tables
+lock_none handles tables ds name = none_calls handles tables ds name 0 (λ old o. Leaves old o.heap (after_lock (heap_of o.heap) o.id) (λ _. near_pointer (heap_of o.heap) o.id) (lock_refused (near_pointer (heap_of o.heap) o.id)) 0 old)

@@ -1,8 +1,8 @@
 //! Objects of one local heap, by name and by near pointer.
-ghost use Rattle.std.specs.Prelude.{◌≡◌, if◌then◌else◌, ℕ, List, Some, length, option_map, unwrap_or};
+ghost use Rattle.std.specs.Prelude.{◌≡◌, if◌then◌else◌, ℕ, List, Some, is_some, not, length, option_map, unwrap_or};
 ghost use Rattle.w16_model.specs.Calls.{locks_at};
 ghost use Rattle.w16_model.specs.Heap.{bytes_at, object_at, is_fixed, is_discardable};
-ghost use Rattle.w16_model.specs.Table.{heap_in};
+ghost use Rattle.w16_model.specs.Table.{block_with, heap_in};
 ghost use Rattle.w16_machine.specs.Local as local;
 ghost use Rattle.w16_machine.specs.Local.{IsLocalTable};
 ghost use Rattle.w16_machine.specs.LocalCalls as calls;
@@ -90,7 +90,7 @@ pub(crate) fn flags_of(heap: &Arena<SideHoles>, id: u32) -> u16
         return 0;
     };
     let discardable = bit_if(is_discardable(entry.kind), LMEM_DISCARDABLE);
-    let absent = bit_if(heap.block(id).is_none(), LMEM_DISCARDED);
+    let absent = bit_if(is_absent(heap, id), LMEM_DISCARDED);
     entry.locks as u16 + discardable + absent
 }
 
@@ -113,6 +113,13 @@ pub(crate) fn locks_of(heap: &Arena<SideHoles>, id: u32) -> u8
         return 0;
     };
     entry.locks
+}
+
+/// Whether an id has no bytes.
+fn is_absent(heap: &Arena<SideHoles>, id: u32) -> bool
+    ensures { result ≡ not (is_some (block_with heap.now.table.blocks id)) }
+{
+    heap.block(id).is_none()
 }
 
 /// Whether an object of this kind keeps its near pointer.

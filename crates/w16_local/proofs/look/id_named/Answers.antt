@@ -6,7 +6,7 @@ pub returns-in_err-id : goal.returns-in_err-id
 returns-in_err-id c bytes over = named_none over c.args.name (λ id e. none_some (c.in_err-id.ensures bytes over id e)) ∙ sym c.from_residual.ensures
 
 pub returns-in_err-found : goal.returns-in_err-found
-returns-in_err-found c bytes over = not_named over c.args.name c.in_ok-id.id (c.in_ok-id.ensures bytes over) None (c.in_err-found.ensures bytes over) none_some ∙ sym c.from_residual-2.ensures
+returns-in_err-found c bytes over = not_named over c.args.name c.in_ok-id.id (c.in_ok-id.ensures bytes over) None (c.in_err-found.ensures bytes over) none_some ∙ sym c.from_residual-in_err-found.ensures
 
 pub returns-then-found-name : goal.returns-then-found-name
 returns-then-found-name c bytes over = named_here over c.args.name c.in_ok-id.id (c.in_ok-found.ensures bytes over ∙ ap Some (let e = c.if-found-name.true in omega (arith, e)))

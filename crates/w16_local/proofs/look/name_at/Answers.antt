@@ -7,7 +7,7 @@ returns-in_err-entry c bytes over = name_none over c.args.id (sym c.in_err-entry
 
 pub returns-in_err-block : goal.returns-in_err-block
 returns-in_err-block c bytes over =
-    name_fixed over c.args.id c.in_ok-entry.entry (sym c.in_ok-entry.ensures.value) (sym c.is_fixed.ensures ∙ c.if-is_fixed.true) None (sym c.in_err-block.ensures.value) ∙ sym c.from_residual-2.ensures
+    name_fixed over c.args.id c.in_ok-entry.entry (sym c.in_ok-entry.ensures.value) (sym c.is_fixed.ensures ∙ c.if-is_fixed.true) None (sym c.in_err-block.ensures.value) ∙ sym c.from_residual-in_err-block.ensures
 
 pub overflow_cast-result : goal.overflow_cast-result
 overflow_cast-result c = let small = (block_small c.args.heap.now.table c.requires c.args.id c.in_ok-block.block (sym c.in_ok-block.ensures.value)).0 in omega (arith, small)
