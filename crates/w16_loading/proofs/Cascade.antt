@@ -15,10 +15,10 @@ use Rattle.w16_loading.proofs.Importers.{HasImporter, Idle, idle_parts, is_then_
 use Rattle.w16_loading.proofs.Bound.{world_without}
 
 -- the world without a module that is there
-abbrev gone_with : World → ℕ → Module → World
+abbrev pub gone_with : World → ℕ → Module → World
 gone_with world handle m = let left = without_objects (λ q. is_member q m.slots) world in record left { modules = finmap.remove left.modules handle }
 
-went : (world : World) (handle : ℕ) (m : Module) → finmap.get world.modules handle ≡ Some (Loaded m) → without_module world handle ≡ gone_with world handle m
+pub went : (world : World) (handle : ℕ) (m : Module) → finmap.get world.modules handle ≡ Some (Loaded m) → without_module world handle ≡ gone_with world handle m
 went world handle m e = ap (λ p. world_without world handle (module_in p)) e
 
 -- what is idle stays idle until it goes

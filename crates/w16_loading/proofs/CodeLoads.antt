@@ -23,29 +23,29 @@ use Rattle.w16_loading.proofs.KeptCode.{IsFilled, image_of, read_in, fills_bytes
 
 -- Places in lists.
 
-member_place : {X : Type 0} (xs : List X) (x : X) → Member x xs → (i : ℕ) × (slice_get xs i ≡ Some x)
+pub member_place : {X : Type 0} (xs : List X) (x : X) → Member x xs → (i : ℕ) × (slice_get xs i ≡ Some x)
 member_place [] x m = absurd m
 member_place (y ∷ xs) x (inl e) = (0, ap Some (sym e))
 member_place (y ∷ xs) x (inr m) = let r : (i : ℕ) × (slice_get xs i ≡ Some x) = member_place xs x m in (suc r.0, r.1)
 
-place_member : {X : Type 0} (xs : List X) (i : ℕ) (x : X) → slice_get xs i ≡ Some x → Member x xs
+pub place_member : {X : Type 0} (xs : List X) (i : ℕ) (x : X) → slice_get xs i ≡ Some x → Member x xs
 place_member [] i x e = cc
 place_member (y ∷ xs) zero x e = let f : y ≡ x = cc in inl (sym f)
 place_member (y ∷ xs) (suc i) x e = inr (place_member xs i x e)
 
-zip_place : {A B : Type 0} (xs : List A) (ys : List B) (i : ℕ) (p : A × B) → slice_get (zip xs ys) i ≡ Some p → (slice_get xs i ≡ Some p.0) × (slice_get ys i ≡ Some p.1)
+pub zip_place : {A B : Type 0} (xs : List A) (ys : List B) (i : ℕ) (p : A × B) → slice_get (zip xs ys) i ≡ Some p → (slice_get xs i ≡ Some p.0) × (slice_get ys i ≡ Some p.1)
 zip_place [] ys i p e = cc
 zip_place (x ∷ xs) [] i p e = cc
 zip_place (x ∷ xs) (y ∷ ys) zero p e = (ap (option_map (λ q. q.0)) e, ap (option_map (λ q. q.1)) e)
 zip_place (x ∷ xs) (y ∷ ys) (suc i) p e = zip_place xs ys i p e
 
-index_place : {X : Type 0} (xs : List X) (i : ℕ) (x d : X) → slice_get xs i ≡ Some x → slice_index_or xs i d ≡ x
+pub index_place : {X : Type 0} (xs : List X) (i : ℕ) (x d : X) → slice_get xs i ≡ Some x → slice_index_or xs i d ≡ x
 index_place [] i x d e = cc
 index_place (y ∷ xs) zero x d e = cc
 index_place (y ∷ xs) (suc i) x d e = index_place xs i x d e
 
 -- where all differ, one is at one place
-one_place : (xs : List ℕ) (i j q : ℕ) → EachPair (λ a b. a ≢ b) xs → slice_get xs i ≡ Some q → slice_get xs j ≡ Some q → i ≡ j
+pub one_place : (xs : List ℕ) (i j q : ℕ) → EachPair (λ a b. a ≢ b) xs → slice_get xs i ≡ Some q → slice_get xs j ≡ Some q → i ≡ j
 one_place [] i j q differ e f = cc
 one_place (x ∷ xs) zero zero q differ e f = refl
 one_place (x ∷ xs) zero (suc j) q differ e f = let same : x ≡ q = cc in absurd (Each-at (λ b. x ≢ b) xs differ.0 q (place_member xs j q f) same)
@@ -67,7 +67,7 @@ module _ (format : Format) (a : Around) where
   abbrev pub AreOfFiles : Closure → Type 0
   AreOfFiles closure = Each IsOfFile closure.found
 
-  abbrev tested : List Found → ModuleFile → Option Referent → Reading
+  abbrev pub tested : List Found → ModuleFile → Option Referent → Reading
   tested found read m = elim m [ Some referent ↦ Meant referent | None ↦ cond (are_sound read) (cond (nat_lt (length found) a.free) (Read read) (Refused 0)) (Refused 11) ]
 
   read_sound : (found : List Found) (r read : ModuleFile) (s t : Bool) → cond {A = Reading} s (cond t (Read r) (Refused 0)) (Refused 11) ≡ Read read → r ≡ read
@@ -79,7 +79,7 @@ module _ (format : Format) (a : Around) where
   read_meant found r read (Some referent) e = cc
   read_meant found r read None e = read_sound found r read (are_sound r) (nat_lt (length found) a.free) e
 
-  abbrev formatted : List Found → Result ModuleFile ℕ → Reading
+  abbrev pub formatted : List Found → Result ModuleFile ℕ → Reading
   formatted found r = elim r [ Err answer ↦ Refused answer | Ok read ↦ tested found read (meant a found read.tables.name) ]
 
   read_formatted : (found : List Found) (read : ModuleFile) (r : Result ModuleFile ℕ) → formatted found r ≡ Read read → ◌≡◌ {A = Option ModuleFile} (elim r [ Ok x ↦ Some x | Err _ ↦ None ]) (Some read)
@@ -98,7 +98,7 @@ module _ (format : Format) (a : Around) where
   each_more [] ys h k = k
   each_more (x ∷ xs) ys h k = (h.0, each_more xs ys h.1 k)
 
-  abbrev of_reading : Closure → ℕ → List ℕ → Reading → Result Closure ℕ
+  abbrev pub of_reading : Closure → ℕ → List ℕ → Reading → Result Closure ℕ
   of_reading closure place name r = elim r [
     | Refused answer ↦ Err (cond (answer == 0) 0 20)
     | Meant referent ↦ Ok (with_bound closure place referent)
@@ -118,10 +118,10 @@ module _ (format : Format) (a : Around) where
   next_of : (closure : Closure) (place : ℕ) (name : List ℕ) → AreOfFiles closure → IfOk (followed format a closure place name) AreOfFiles
   next_of closure place name h = next_meant closure place name h (meant a closure.found name)
 
-  abbrev from_next : ℕ → Result Closure ℕ → Result Closure ℕ
+  abbrev pub from_next : ℕ → Result Closure ℕ → Result Closure ℕ
   from_next n r = elim r [ Ok next ↦ after format a n next | Err answer ↦ Err answer ]
 
-  abbrev from_list : ℕ → Closure → List (ℕ × List ℕ) → Result Closure ℕ
+  abbrev pub from_list : ℕ → Closure → List (ℕ × List ℕ) → Result Closure ℕ
   from_list n closure p = elim p [ [] ↦ Ok closure | (x ∷ rest) ↦ from_next n (followed format a (record closure { pending = rest }) x.0 x.1) ]
 
   by_next : (n : ℕ) → ((next : Closure) → AreOfFiles next → IfOk (after format a n next) AreOfFiles) → (r : Result Closure ℕ) → IfOk r AreOfFiles → IfOk (from_next n r) AreOfFiles
@@ -142,14 +142,14 @@ module _ (format : Format) (a : Around) where
 
 -- What modules a load adds.
 
-given_found : (place : ℕ) (fs : List Found) (hs : List ℕ) (ss : List (List ℕ)) (g : Given) → Member g (given_from place fs hs ss) → Member g.found fs
+pub given_found : (place : ℕ) (fs : List Found) (hs : List ℕ) (ss : List (List ℕ)) (g : Given) → Member g (given_from place fs hs ss) → Member g.found fs
 given_found place [] hs ss g m = absurd m
 given_found place (f ∷ fs) [] ss g m = absurd m
 given_found place (f ∷ fs) (h ∷ hs) [] g m = absurd m
 given_found place (f ∷ fs) (h ∷ hs) (s ∷ ss) g (inl e) = inl (λ i. (e i).found)
 given_found place (f ∷ fs) (h ∷ hs) (s ∷ ss) g (inr m) = inr (given_found (place + 1) fs hs ss g m)
 
-given_slot : (place : ℕ) (fs : List Found) (hs : List ℕ) (ss : List (List ℕ)) (g : Given) (q : ℕ) → Member g (given_from place fs hs ss) → Member q g.slots → Member q (flat_map (λ s. s) ss)
+pub given_slot : (place : ℕ) (fs : List Found) (hs : List ℕ) (ss : List (List ℕ)) (g : Given) (q : ℕ) → Member g (given_from place fs hs ss) → Member q g.slots → Member q (flat_map (λ s. s) ss)
 given_slot place [] hs ss g q m n = absurd m
 given_slot place (f ∷ fs) [] ss g q m n = absurd m
 given_slot place (f ∷ fs) (h ∷ hs) [] g q m n = absurd m
@@ -170,7 +170,7 @@ first_apart (x ∷ s) more differ = (each_first s more differ.0, first_apart s m
     each_first [] more h = tt
     each_first (y ∷ s) more h = (h.0, each_first s more h.1)
 
-one_given : (place : ℕ) (fs : List Found) (hs : List ℕ) (ss : List (List ℕ)) (g h : Given) (q : ℕ) → EachPair (λ a b. a ≢ b) (flat_map (λ s. s) ss)
+pub one_given : (place : ℕ) (fs : List Found) (hs : List ℕ) (ss : List (List ℕ)) (g h : Given) (q : ℕ) → EachPair (λ a b. a ≢ b) (flat_map (λ s. s) ss)
     → Member g (given_from place fs hs ss) → Member h (given_from place fs hs ss) → Member q g.slots → Member q h.slots → h ≡ g
 one_given place [] hs ss g h q differ m n a b = absurd m
 one_given place (f ∷ fs) [] ss g h q differ m n a b = absurd m
@@ -181,12 +181,12 @@ one_given place (f ∷ fs) (k ∷ hs) (s ∷ ss) g h q differ (inr m) (inl d) a 
 one_given place (f ∷ fs) (k ∷ hs) (s ∷ ss) g h q differ (inr m) (inr n) a b = one_given (place + 1) fs hs ss g h q (apart_after s (flat_map (λ s. s) ss) differ) m n a b
 
 -- its slots differ
-given_apart : (place : ℕ) (fs : List Found) (hs : List ℕ) (ss : List (List ℕ)) (g : Given) → EachPair (λ a b. a ≢ b) (flat_map (λ s. s) ss) → Member g (given_from place fs hs ss) → EachPair (λ a b. a ≢ b) g.slots
-given_apart place [] hs ss g differ m = absurd m
-given_apart place (f ∷ fs) [] ss g differ m = absurd m
-given_apart place (f ∷ fs) (h ∷ hs) [] g differ m = absurd m
-given_apart place (f ∷ fs) (h ∷ hs) (s ∷ ss) g differ (inl e) = subst (λ (x : Given). EachPair (λ a b. a ≢ b) x.slots) (sym e) (first_apart s (flat_map (λ s. s) ss) differ)
-given_apart place (f ∷ fs) (h ∷ hs) (s ∷ ss) g differ (inr m) = given_apart (place + 1) fs hs ss g (apart_after s (flat_map (λ s. s) ss) differ) m
+pub given_slots_differ : (place : ℕ) (fs : List Found) (hs : List ℕ) (ss : List (List ℕ)) (g : Given) → EachPair (λ a b. a ≢ b) (flat_map (λ s. s) ss) → Member g (given_from place fs hs ss) → EachPair (λ a b. a ≢ b) g.slots
+given_slots_differ place [] hs ss g differ m = absurd m
+given_slots_differ place (f ∷ fs) [] ss g differ m = absurd m
+given_slots_differ place (f ∷ fs) (h ∷ hs) [] g differ m = absurd m
+given_slots_differ place (f ∷ fs) (h ∷ hs) (s ∷ ss) g differ (inl e) = subst (λ (x : Given). EachPair (λ a b. a ≢ b) x.slots) (sym e) (first_apart s (flat_map (λ s. s) ss) differ)
+given_slots_differ place (f ∷ fs) (h ∷ hs) (s ∷ ss) g differ (inr m) = given_slots_differ (place + 1) fs hs ss g (apart_after s (flat_map (λ s. s) ss) differ) m
 
 -- a module that is there once they have names is one of them, or was there
 pub new_or_old : (module_of : Given → Module) (gs : List Given) (old : Modules) (handle : ℕ) (m : Module) → module_at (with_modules module_of gs old) handle ≡ Some m
@@ -207,11 +207,11 @@ new_or_old module_of (g ∷ gs) old handle m e = turn (new_or_old module_of gs (
 
 -- What names leave.
 
-same_files : (w : World) (xs : List (ℕ × Segment)) → (fold with_segment w xs).files ≡ w.files
+pub same_files : (w : World) (xs : List (ℕ × Segment)) → (fold with_segment w xs).files ≡ w.files
 same_files w [] = refl
 same_files w (x ∷ xs) = same_files (with_segment w x) xs
 
-same_owned : (w : World) (xs : List (ℕ × Segment)) (q : ℕ) → ((x : ℕ × Segment) → Member x xs → q ≢ x.0) → finmap.get (fold with_segment w xs).owned q ≡ finmap.get w.owned q
+pub same_owned : (w : World) (xs : List (ℕ × Segment)) (q : ℕ) → ((x : ℕ × Segment) → Member x xs → q ≢ x.0) → finmap.get (fold with_segment w xs).owned q ≡ finmap.get w.owned q
 same_owned w [] q out = refl
 same_owned w (x ∷ xs) q out = same_owned (with_segment w x) xs q (λ y m. out y (inr m)) ∙ inserted_other w.owned x.0 (record { size = x.1.size; is_code = x.1.is_code }) q (out x (inl refl))
 
@@ -224,10 +224,10 @@ still_absent w (x ∷ xs) q e = still_absent (with_segment w x) xs q (elim (case
 
 -- What is filled is some segment's image.
 
-abbrev Segments : Type 0
+abbrev pub Segments : Type 0
 Segments = (ℕ × Segment) × (SegmentData × List Far)
 
-filled_image : (ys : List Segments) (x : ℕ × List ℕ) → Member x (filter_map filled_at_once ys) → (y : Segments) × Member y ys × (x.0 ≡ y.0.0) × (x.1 ≡ y.1.0.image y.1.1)
+pub filled_image : (ys : List Segments) (x : ℕ × List ℕ) → Member x (filter_map filled_at_once ys) → (y : Segments) × Member y ys × (x.0 ≡ y.0.0) × (x.1 ≡ y.1.0.image y.1.1)
 filled_image [] x m = absurd m
 filled_image (y ∷ ys) x m = turn (is_fixed y.0.1.kind || y.0.1.is_preload) (λ n. filled_image ys x n) m
   where
@@ -330,7 +330,7 @@ module _ (format : Format) (old : World) (is : IsWorld old) (closure : Closure) 
 
       imaged : (b : List ℕ) → IsImageAt module_of g slot b → segment_bytes format new (module_of g) number ≡ Some b
       imaged b h =
-          let same : h.place ≡ number - 1 = one_place g.slots h.place (number - 1) slot (given_apart 0 closure.found choice.handles choice.slots g segments_apart member) h.slot_at at in
+          let same : h.place ≡ number - 1 = one_place g.slots h.place (number - 1) slot (given_slots_differ 0 closure.found choice.handles choice.slots g segments_apart member) h.slot_at at in
           let data_there : numbered g.found.read.segments number ≡ Some h.data_of = ap (λ b. cond b None (slice_get g.found.read.segments (number - 1))) (ne_eqb number 0 some) ∙ ap (slice_get g.found.read.segments) (sym same) ∙ h.data_at in
           let values_there : slice_index_or (module_of g).values (number - 1) [] ≡ h.values = ap (λ n. slice_index_or (module_of g).values n []) (sym same) ∙ index_place (module_of g).values h.place h.values [] h.values_at in
           ap (λ (p : Option ModuleFile). elim p [ None ↦ None | Some r ↦ option_map (λ (s : SegmentData). s.image (slice_index_or (module_of g).values (number - 1) [])) (numbered r.segments number) ]) read

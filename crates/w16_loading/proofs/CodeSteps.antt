@@ -145,7 +145,7 @@ module _ (format : Format) where
       by_test false e = turn e (far_fault world.handles selector offset (length slice)) refl
 
   -- what is fetched in a world is its image
-  world_fetches : (old : World) → IsWorld old → (slot : ℕ) → FetchesCode format old slot
+  pub world_fetches : (old : World) → IsWorld old → (slot : ℕ) → FetchesCode format old slot
   world_fetches old is slot handle number m bytes s coded image = segment_image format old slot handle number m bytes is s image
 
   accessed : (access : World → FarAnswer × World) → ((world : World) → KeepsCode format world (access world).1) → (old new : World) → IsWorld old → (selector : ℕ) (reply : Reply) → Accesses format access old selector reply new → Good old → Good new

@@ -114,7 +114,7 @@ abbrev pub IsFilled : ℕ → List ℕ → List (ℕ × List ℕ) → Type 0
 IsFilled q b xs = Member {X = ℕ × List ℕ} (q, b) xs
 
 -- one fill keeps the others
-filled_others : (old : Heap) (slot : ℕ) (bytes : List ℕ) (new : Heap) → IsHeap old → Fills old slot bytes true new → (k : ℕ) × KeepsOthers old (Some slot) k new
+pub filled_others : (old : Heap) (slot : ℕ) (bytes : List ℕ) (new : Heap) → IsHeap old → Fills old slot bytes true new → (k : ℕ) × KeepsOthers old (Some slot) k new
 filled_others old slot bytes new is f =
     let s : (k : ℕ) × (o : Object) × _ = settled old slot any_way (prefix_of old (length bytes) (Some slot) any_way) (λ o. o ≡ record f.before { bytes = Some bytes }) (with_newest slot) new f.request in
     (s.0, (others_law old new is s.0).0 slot any_way s.1 (with_newest slot s.1) s.2)

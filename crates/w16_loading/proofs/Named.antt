@@ -30,13 +30,13 @@ pub apart_after : (s more : List ℕ) → EachPair (λ a b. a ≢ b) (s ++ more)
 apart_after [] more differ = differ
 apart_after (a ∷ s) more differ = apart_after s more differ.1
 
-given_apart : (place : ℕ) (fs : List Found) (hs : List ℕ) (ss : List (List ℕ)) → EachPair (λ a b. a ≢ b) (flat_map (λ s. s) ss) → AreApart (segments_of (given_from place fs hs ss))
-given_apart place [] hs ss differ = tt
-given_apart place (f ∷ fs) [] ss differ = tt
-given_apart place (f ∷ fs) (h ∷ hs) [] differ = tt
-given_apart place (f ∷ fs) (h ∷ hs) (s ∷ ss) differ =
+pub given_slots_apart : (place : ℕ) (fs : List Found) (hs : List ℕ) (ss : List (List ℕ)) → EachPair (λ a b. a ≢ b) (flat_map (λ s. s) ss) → AreApart (segments_of (given_from place fs hs ss))
+given_slots_apart place [] hs ss differ = tt
+given_slots_apart place (f ∷ fs) [] ss differ = tt
+given_slots_apart place (f ∷ fs) (h ∷ hs) [] differ = tt
+given_slots_apart place (f ∷ fs) (h ∷ hs) (s ∷ ss) differ =
     zip_apart s f.read.tables.segments (flat_map (λ s. s) ss) (segments_of (given_from (place + 1) fs hs ss)) differ (λ x m. chosen (place + 1) fs hs ss x m)
-    (given_apart (place + 1) fs hs ss (apart_after s (flat_map (λ s. s) ss) differ))
+    (given_slots_apart (place + 1) fs hs ss (apart_after s (flat_map (λ s. s) ss) differ))
 
 -- objects without bytes in free slots
 entered_all : (w : World) (xs : List (ℕ × Segment)) → AreHandles w.handles → Each (λ x. IsFreeSlot w.handles x.0) xs → AreApart xs → AreHandles (fold with_segment w xs).handles
@@ -56,7 +56,7 @@ free_slot old closure choice good q m = Each-at (IsFreeSlot old.handles) (all_sl
 pub named_handles : (old : World) (closure : Closure) (choice : Choice) → AreHandles old.handles → IsChoice old closure.found choice → AreHandles (named old closure choice).handles
 named_handles old closure choice is good = entered_all old (segments_of (given closure choice)) is
     (Each-from (λ (x : ℕ × Segment). IsFreeSlot old.handles x.0) (segments_of (given closure choice)) (λ x m. free_slot old closure choice good x.0 (chosen 0 closure.found choice.handles choice.slots x m)))
-    (given_apart 0 closure.found choice.handles choice.slots (EachPair-from_AllPairs (λ (a b : ℕ). a ≢ b) (flat_map (λ s. s) choice.slots) good.slots.apart))
+    (given_slots_apart 0 closure.found choice.handles choice.slots (EachPair-from_AllPairs (λ (a b : ℕ). a ≢ b) (flat_map (λ s. s) choice.slots) good.slots.apart))
 
 pub load_fewest_law : LoadFewestLaw
 load_fewest_law old closure choice fault heap is good filled = all_fewest (named old closure choice).handles.heap (fills old closure choice) fault heap (named_handles old closure choice is.handles good).heap filled

@@ -2,12 +2,15 @@
 use Rattle.std.specs.Prelude.{◌≡◌, ◌≢◌, ℕ, ◌+◌, ◌<◌, ◌≤◌, ◌⊎◌, Bool, true, false, List, length, All, if◌then◌else◌, Option, Some, None, IfSome, IsSomeAnd, Result}
 use Rattle.std.specs.List.{AllZip, AllByRecursion}
 use Rattle.std.specs.FinMap as finmap
-use Rattle.w16_model.specs.Handles.{AreHandles, empty_handles}
+use Rattle.w16_model.specs.Bytes.{part}
+use Rattle.w16_model.specs.Far.FarCommand.{Read}
+use Rattle.w16_machine.specs.Machine as machine
+use Rattle.w16_model.specs.Handles.{AreHandles, empty_handles, slot_of_selector, selector_in, offset_in}
 use Rattle.w16_model.specs.Heap.{Heap, Object, IsHeap, object_at, bytes_at}
 use Rattle.w16_model.specs.declared.TheConstants.{MOST_SLOTS}
 use Rattle.w16_model.specs.declared.Kind.TheVariants.{Discardable}
 use Rattle.w16_model.specs.Request.{Allocates}
-use Rattle.w16_model.specs.Calls.{rounded_size}
+use Rattle.w16_model.specs.Calls.{HandleCommand, rounded_size}
 use Rattle.w16_model.specs.Far.{after_write}
 use Rattle.w16_model.specs.declared.Kind.{Kind}
 use Rattle.w16_model.specs.Law.{KeepsOthers}
@@ -23,9 +26,10 @@ use Rattle.w16_loading.specs.Naming.{Choice, IsChoice, named}
 use Rattle.w16_loading.specs.Load.{Answer, Loads, undone}
 use Rattle.w16_loading.specs.Load.Answer.{Says, StoreFails}
 use Rattle.w16_loading.specs.Fetch.{Reply, Fetches, read_of, segment_bytes, is_code}
+use Rattle.w16_loading.specs.Fetch.Reply.{Plain}
 use Rattle.w16_loading.specs.Free.{Go, Frees, used_less}
 use Rattle.w16_loading.specs.Resource.{resource_at}
-use Rattle.w16_loading.specs.Machine.{Command, IsCommand, Step}
+use Rattle.w16_loading.specs.Machine.{Command, IsCommand, Event, HandleStep, FarStep, Step, Run}
 
 -- Worlds.
 
@@ -88,9 +92,24 @@ EmptyOfFilesLaw = (format : Format) (memory slots : ℕ) (files : List (List ℕ
 abbrev pub KeepsWorldsLaw : Type 0
 KeepsWorldsLaw = (format : Format) (old new : World) (command : Command) (reply : Reply) → IsFormat format → IsWorld old → IsOfFiles format old → IsCommand command → Step format old command reply new → IsWorld new
 
+-- and of the calls on handles this is proved without files: what a module owns keeps its kind and its size, whatever is moved or discarded
+abbrev pub CallsKeepWorldsLaw : Type 0
+CallsKeepWorldsLaw = (old new : World) (command : HandleCommand) (reply : Reply) → IsWorld old → HandleStep old command reply new → IsWorld new
+
 -- the code that a script reads is always its file's, relocated
 abbrev pub CodeLaw : Type 0
 CodeLaw = (format : Format) (old new : World) (command : Command) (reply : Reply) → IsWorld old → IsOfFiles format old → Step format old command reply new → IsOfFiles format new
+
+-- So do whole runs: whatever a script has done, the machine is in a world, and all in it is of its file.
+abbrev pub RunsKeepWorldsLaw : Type 0
+RunsKeepWorldsLaw = (format : Format) (old new : World) (events : List Event) → IsFormat format → IsWorld old → IsOfFiles format old → All (λ e. IsCommand e.command) events → Run format old events new → IsWorld new × IsOfFiles format new
+
+-- What a far read of code answers is a part of its file's bytes, relocated: also where the code was discarded and is fetched for it.
+abbrev pub CodeReadsLaw : Type 0
+CodeReadsLaw = (format : Format) (old new : World) (pointer count : ℕ) (bytes : List ℕ) (slot handle number : ℕ) (m : Module) → IsWorld old → IsOfFiles format old
+    → FarStep format old (Read pointer count) (Plain (machine.Reply.Bytes bytes)) new
+    → slot_of_selector old.handles (selector_in pointer) ≡ Some slot → IsSegmentOf old slot handle number m → is_code old slot ≡ true
+    → IsSomeAnd (segment_bytes format old m number) (λ image. bytes ≡ part image (offset_in pointer) count)
 
 -- what was bound at load stays until the module goes
 abbrev pub BoundOnceLaw : Type 0

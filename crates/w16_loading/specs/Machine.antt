@@ -1,5 +1,5 @@
 -- The machine with modules, family by family: the calls on handles, far accesses, modules, resources.
-use Rattle.std.specs.Prelude.{◌≡◌, ℕ, ◌≤◌, ◌<◌, ◌⊎◌, Bool, true, false, MatchBool, List, Option, Some, MatchOption, option_map, unwrap_or}
+use Rattle.std.specs.Prelude.{◌≡◌, ℕ, ◌≤◌, ◌<◌, ◌⊎◌, Bool, true, false, MatchBool, List, Option, Some, MatchOption, option_map, unwrap_or, [], ◌∷◌}
 use Rattle.std.specs.FinMap as finmap
 use Rattle.w16_model.specs.Handles.{Handles, slot_of_handle, selector_in, offset_in, dword_of}
 use Rattle.w16_model.specs.Bytes.{repeated}
@@ -126,3 +126,16 @@ pub record Step (format : Format) (old : World) (command : Command) (reply : Rep
   pub counted : old.failures ≤ new.failures
   pub failed : reply ≡ Failed faults.Store → old.failures < new.failures
   pub step : FamilyStep format old command reply (record new { failures = old.failures })
+
+-- Runs.
+
+-- a step of a run: the command, its reply, and the world after it
+pub record Event : Type 0 where
+  pub command : Command
+  pub reply : Reply
+  pub after : World
+
+-- the machine may take these steps, one after another, from old to new
+abbrev pub Run : Format → World → List Event → World → Type 0
+Run format old [] new = new ≡ old
+Run format old (event ∷ events) new = Step format old event.command event.reply event.after × Run format event.after events new

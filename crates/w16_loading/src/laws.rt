@@ -1,6 +1,6 @@
 //! The laws of the definitions. Each function does nothing: its contract is the law.
-ghost use Rattle.w16_loading.specs.Fewest.{LoadFewestLaw, FetchFewestLaw};
-ghost use Rattle.w16_loading.specs.Law.{EmptyOfFilesLaw, FetchFaultsLaw, CodeLaw, RefusedLoadLaw, OneEndLaw, UsesApartLaw, FetchAgainLaw, FetchLaw, FetchRefusedLaw, OneClosureLaw, EarlyRefusalLaw, FillLaw, EmptyLaw, ClosureEndsLaw, UndoneLaw, FillsLaw, BoundOnceLaw};
+ghost use Rattle.w16_loading.specs.Fewest.{FetchFewestLaw, LoadFewestLaw};
+ghost use Rattle.w16_loading.specs.Law.{BoundOnceLaw, CallsKeepWorldsLaw, ClosureEndsLaw, CodeLaw, CodeReadsLaw, EarlyRefusalLaw, EmptyLaw, EmptyOfFilesLaw, FetchAgainLaw, FetchFaultsLaw, FetchLaw, FetchRefusedLaw, FillLaw, FillsLaw, KeepsWorldsLaw, OneClosureLaw, OneEndLaw, RefusedLoadLaw, RunsKeepWorldsLaw, UndoneLaw, UsesApartLaw};
 
 /// A fetch takes the bytes of what it discards, and keeps all else of the other objects.
 pub fn fetches_keep_others()
@@ -95,4 +95,24 @@ pub fn fetches_are_never_damaged()
 /// Where nothing is loaded, all that is loaded is of its file.
 pub fn nothing_loaded_is_of_files()
     ensures { EmptyOfFilesLaw }
+{}
+
+/// The calls on handles keep what holds of every world: modules keep their objects, of the kinds and sizes that their files say.
+pub fn calls_keep_worlds()
+    ensures { CallsKeepWorldsLaw }
+{}
+
+/// Each step of each family keeps what holds of every world.
+pub fn steps_keep_worlds()
+    ensures { KeepsWorldsLaw }
+{}
+
+/// Whatever a run has done, the machine is in a world, and all in it is of its file: code reads as its file's relocated bytes in every world of a run.
+pub fn runs_keep_worlds()
+    ensures { RunsKeepWorldsLaw }
+{}
+
+/// What a far read of code answers is a part of its file's bytes, relocated, also where it is fetched for the read.
+pub fn reads_of_code_are_its_files()
+    ensures { CodeReadsLaw }
 {}

@@ -1,0 +1,345 @@
+-- A world stays one where its modules keep their slots and tables, names stay different, and each module stays in use.
+use Rattle.std.proofs.Common.{◌≡◌, ◌≢◌, ℕ, zero, suc, ◌+◌, ◌-◌, ◌<◌, ◌≤◌, inl, inr, ◌⊎◌, Bool, true, false, cond, not, ◌&&◌, nat_lt, List, [], ◌∷◌, Option, Some, None, IfSome, IsSomeAnd, MatchOption, option_map, slice_get, refl, sym, ap, ◌∙◌, subst, arith, ltb-true}
+use Rattle.std.specs.List.{AllZip, find}
+use Rattle.std.specs.FinMap as finmap
+use Rattle.std.proofs.lemmas.Bool.{false≢true, cases_eq}
+use Rattle.w16_model.specs.Calls.{rounded_size}
+use Rattle.w16_model.proofs.Gaps.{Member}
+use Rattle.w16_model.proofs.KeptHeaps.{inserted_here, inserted_other}
+use Rattle.w16_store.specs.Names.{is_named}
+use Rattle.w16_store.proofs.Naming.{is_named-Decides}
+use Rattle.w16_loading.specs.declared.TheConstants.{FIRST_MODULE, MOST_MODULES, MOST_USES}
+use Rattle.w16_loading.specs.File.{Tables, Segment, Resource, numbered}
+use Rattle.w16_loading.specs.Modules.{World, Load, Owned, Module, Modules, Named, IsFreeModule, IsSegmentOf, IsResourceOf, name_of, handle_named, module_at, module_in, imports, importers, usage, usage_with}
+use Rattle.w16_loading.specs.Modules.Named.{Loaded, BuiltIn}
+use Rattle.w16_loading.specs.Load.{Answer, used_again, after_use}
+use Rattle.w16_loading.specs.Load.Answer.{Says}
+use Rattle.w16_loading.specs.Machine.{AddsBuiltIn, GivesBuiltIn, built_in}
+use Rattle.w16_loading.specs.Resource.{resource_at}
+use Rattle.w16_loading.specs.Law.{IsWorld, IsModule, IsObjectOf, IsLoad}
+use Rattle.w16_loading.proofs.Apart.{loaded_is}
+use Rattle.w16_loading.proofs.Importers.{HasImporter, importer_of, of_importer, there_entry}
+
+-- a module of two sets of modules, with the same slots and tables
+pub record SameModule (m before : Module) : Type 0 where
+  pub slots : m.slots ≡ before.slots
+  pub tables : m.tables ≡ before.tables
+
+-- each handle's range
+abbrev pub IsNumber : ℕ → Type 0
+IsNumber handle = (FIRST_MODULE ≤ handle) × (handle < FIRST_MODULE + MOST_MODULES)
+
+abbrev pub AreNamesApart : Modules → Type 0
+AreNamesApart modules = (a b : ℕ) (m n : Named) → finmap.get modules a ≡ Some m → finmap.get modules b ≡ Some n → is_named (name_of m) (name_of n) ≡ true → a ≡ b
+
+module _ (old : World) (is : IsWorld old) (modules : Modules)
+    (numbers : (handle : ℕ) → IfSome (finmap.get modules handle) (λ _. IsNumber handle))
+    (names : AreNamesApart modules)
+    (sources : (handle : ℕ) (m : Module) → module_at modules handle ≡ Some m → (before : Module) × (module_at old.modules handle ≡ Some before) × SameModule m before)
+    (stays : (handle : ℕ) (before : Module) → module_at old.modules handle ≡ Some before → (m : Module) × (module_at modules handle ≡ Some m) × SameModule m before)
+    (used : (handle : ℕ) (m : Module) → module_at modules handle ≡ Some m → (0 < usage modules handle) × (m.uses ≤ MOST_USES)) where
+  abbrev new : World
+  new = record old { modules = modules }
+
+  object_is : (slot : ℕ) (g : Segment) → IsObjectOf old slot g.kind g.size g.is_code → IsObjectOf new slot g.kind g.size g.is_code
+  object_is slot g h = record { object = h.object; owned = h.owned }
+
+  segments_are : (slots : List ℕ) (segments : List Segment) → AllZip (λ slot (g : Segment). IsObjectOf old slot g.kind g.size g.is_code) slots segments → AllZip (λ slot (g : Segment). IsObjectOf new slot g.kind g.size g.is_code) slots segments
+  segments_are [] [] h = tt
+  segments_are [] (g ∷ gs) h = absurd h
+  segments_are (q ∷ qs) [] h = absurd h
+  segments_are (q ∷ qs) (g ∷ gs) h = (object_is q g h.0, segments_are qs gs h.1)
+
+  module_is : (handle : ℕ) (p : Option Module) → module_at modules handle ≡ p → IfSome p (IsModule new handle)
+  module_is handle None e = tt
+  module_is handle (Some m) e =
+      let was : (before : Module) × (module_at old.modules handle ≡ Some before) × SameModule m before = sources handle m e in
+      let sound : IsModule old handle was.0 = subst (λ p. IfSome p (IsModule old handle)) was.1 (is.modules handle) in
+      record {
+        segments = subst (λ (t : Tables). AllZip (λ slot (g : Segment). IsObjectOf new slot g.kind g.size g.is_code) m.slots t.segments) (sym was.2.tables)
+            (subst (λ s. AllZip (λ slot (g : Segment). IsObjectOf new slot g.kind g.size g.is_code) s was.0.tables.segments) (sym was.2.slots) (segments_are was.0.slots was.0.tables.segments sound.segments));
+        used = (used handle m e).0;
+        full = (used handle m e).1;
+      }
+
+  -- the table of a loaded resource's module is the same
+  resource_is : (handle place slot : ℕ) (p : Option Module) → module_at old.modules handle ≡ p → IsSomeAnd (elim p as (λ _. Option Resource) [ None ↦ None | Some n ↦ numbered n.tables.resources place ]) (λ r. IsObjectOf old slot r.kind (rounded_size r.length_in) false)
+      → IsSomeAnd (resource_at new handle place) (λ r. IsObjectOf new slot r.kind (rounded_size r.length_in) false)
+  resource_is handle place slot None e h = absurd h
+  resource_is handle place slot (Some before) e h =
+      let now : (m : Module) × (module_at modules handle ≡ Some m) × SameModule m before = stays handle before e in
+      subst (λ p. IsSomeAnd (elim p as (λ _. Option Resource) [ None ↦ None | Some n ↦ numbered n.tables.resources place ]) (λ r. IsObjectOf new slot r.kind (rounded_size r.length_in) false)) (sym now.1)
+      (subst (λ (t : Tables). IsSomeAnd (numbered t.resources place) (λ r. IsObjectOf new slot r.kind (rounded_size r.length_in) false)) (sym now.2.tables) (turn (numbered before.tables.resources place) h))
+    where
+      turn : (q : Option Resource) → IsSomeAnd q (λ r. IsObjectOf old slot r.kind (rounded_size r.length_in) false) → IsSomeAnd q (λ r. IsObjectOf new slot r.kind (rounded_size r.length_in) false)
+      turn None h = absurd h
+      turn (Some r) h = record { object = h.object; owned = h.owned }
+
+  load_is : (slot : ℕ) (p : Option Load) → IfSome p (IsLoad old slot) → IfSome p (IsLoad new slot)
+  load_is slot None h = tt
+  load_is slot (Some load) h = record { resource = resource_is load.handle load.place slot (module_at old.modules load.handle) refl h.resource; used = h.used; full = h.full }
+
+  segment_was : (slot handle number : ℕ) (m : Module) → IsSegmentOf new slot handle number m → (before : Module) × IsSegmentOf old slot handle number before
+  segment_was slot handle number m s =
+      let was : (before : Module) × (module_at old.modules handle ≡ Some before) × SameModule m before = sources handle m s.loaded in
+      (was.0, record { loaded = was.1; has = (s.has.0, ap (λ q. slice_get q (number - 1)) (sym was.2.slots) ∙ s.has.1) })
+
+  resource_was : (slot handle place : ℕ) (m : Module) → IsResourceOf new slot handle place m → (before : Module) × IsResourceOf old slot handle place before
+  resource_was slot handle place m r =
+      let was : (before : Module) × (module_at old.modules handle ≡ Some before) × SameModule m before = sources handle m r.loaded in
+      (was.0, record { loaded = was.1; loads = r.loads; has = r.has })
+
+  owner_is : (slot : ℕ) (p : Option Owned) → IfSome p (λ _. (handle number : ℕ) × (m : Module) × (IsSegmentOf old slot handle number m ⊎ IsResourceOf old slot handle number m))
+      → IfSome p (λ _. (handle number : ℕ) × (m : Module) × (IsSegmentOf new slot handle number m ⊎ IsResourceOf new slot handle number m))
+  owner_is slot None h = tt
+  owner_is slot (Some o) (handle, number, m, inl s) =
+      let now : (n : Module) × (module_at modules handle ≡ Some n) × SameModule n m = stays handle m s.loaded in
+      (handle, number, now.0, inl (record { loaded = now.1; has = (s.has.0, ap (λ q. slice_get q (number - 1)) now.2.slots ∙ s.has.1) }))
+  owner_is slot (Some o) (handle, number, m, inr r) =
+      let now : (n : Module) × (module_at modules handle ≡ Some n) × SameModule n m = stays handle m r.loaded in
+      (handle, number, now.0, inr (record { loaded = now.1; loads = r.loads; has = r.has }))
+
+  pub module_world : IsWorld new
+  module_world = record {
+    handles = is.handles;
+    numbers = numbers;
+    names = names;
+    modules = λ handle. module_is handle (module_at modules handle) refl;
+    loads = λ slot. load_is slot (finmap.get old.loads slot) (is.loads slot);
+    one_segment = λ slot a i b j m n s t.
+        let x : (before : Module) × IsSegmentOf old slot a i before = segment_was slot a i m s in
+        let y : (before : Module) × IsSegmentOf old slot b j before = segment_was slot b j n t in
+        is.one_segment slot a i b j x.0 y.0 x.1 y.1;
+    one_object = λ s t handle place m n x y.
+        let u : (before : Module) × IsResourceOf old s handle place before = resource_was s handle place m x in
+        let v : (before : Module) × IsResourceOf old t handle place before = resource_was t handle place n y in
+        is.one_object s t handle place u.0 v.0 u.1 v.1;
+    no_resource = λ slot a i b j m n s r.
+        let x : (before : Module) × IsSegmentOf old slot a i before = segment_was slot a i m s in
+        let y : (before : Module) × IsResourceOf old slot b j before = resource_was slot b j n r in
+        is.no_resource slot a i b j x.0 y.0 x.1 y.1;
+    owners = λ slot. owner_is slot (finmap.get old.owned slot) (is.owners slot);
+  }
+
+-- Uses.
+
+-- importers stay where what each handle names stays, with its imports
+pub importers_stay : (old new : Modules) (handle : ℕ) → ((who : ℕ) (n : Named) → finmap.get old who ≡ Some n → (now : Named) × (finmap.get new who ≡ Some now) × (imports now handle ≡ imports n handle)) → HasImporter old handle → HasImporter new handle
+importers_stay old new handle stays h =
+    let now : (now : Named) × (finmap.get new h.who ≡ Some now) × (imports now handle ≡ imports h.importer handle) = stays h.who h.importer h.there in
+    record { who = h.who; importer = now.0; there = now.1; other = h.other; uses = now.2 ∙ h.uses }
+
+-- and so does a use
+pub still_used : (old new : Modules) (handle uses more : ℕ) → uses ≤ more → (HasImporter old handle → HasImporter new handle) → 0 < uses + importers old handle → 0 < more + importers new handle
+still_used old new handle uses more le stays lt = turn (importers old handle) refl
+  where
+    turn : (n : ℕ) → importers old handle ≡ n → 0 < more + importers new handle
+    turn zero e = omega (arith, lt, le, e)
+    turn (suc n) e = let some : 0 < importers new handle = of_importer new handle (stays (importer_of old handle (omega (arith, e)))) in omega (arith, some)
+
+-- One use more.
+module _ (old : World) (is : IsWorld old) (handle : ℕ) (m : Module) (there : finmap.get old.modules handle ≡ Some (Loaded m)) (few : m.uses < MOST_USES) where
+  abbrev more : Module
+  more = record m { uses = m.uses + 1 }
+
+  abbrev modules : Modules
+  modules = finmap.insert old.modules handle (Loaded more)
+
+  -- what a handle names now, it named with the same name and imports
+  named_before : (a : ℕ) (n : Named) → finmap.get modules a ≡ Some n → (before : Named) × (finmap.get old.modules a ≡ Some before) × (name_of n ≡ name_of before)
+  named_before a n e = elim (cases_eq a handle) [
+    | inl same ↦ (Loaded m, ap (finmap.get old.modules) same ∙ there, name (sym e ∙ inserted_here old.modules handle (Loaded more) a same))
+    | inr other ↦ (n, sym (inserted_other old.modules handle (Loaded more) a other) ∙ e, refl)
+  ]
+    where
+      name : Some n ≡ Some (Loaded more) → name_of n ≡ m.tables.name
+      name e = let f : n ≡ Loaded more = cc in ap name_of f
+
+  named_after : (k a : ℕ) (n : Named) → finmap.get old.modules a ≡ Some n → (now : Named) × (finmap.get modules a ≡ Some now) × (imports now k ≡ imports n k)
+  named_after k a n e = elim (cases_eq a handle) [
+    | inl same ↦ (Loaded more, inserted_here old.modules handle (Loaded more) a same, alike (sym e ∙ ap (finmap.get old.modules) same ∙ there))
+    | inr other ↦ (n, inserted_other old.modules handle (Loaded more) a other ∙ e, refl)
+  ]
+    where
+      alike : Some n ≡ Some (Loaded m) → imports (Loaded more) k ≡ imports n k
+      alike e = let f : n ≡ Loaded m = cc in ap (λ (x : Named). imports x k) (sym f)
+
+  numbers : (h : ℕ) → IfSome (finmap.get modules h) (λ _. IsNumber h)
+  numbers h = turn (finmap.get modules h) refl
+    where
+      turn : (p : Option Named) → finmap.get modules h ≡ p → IfSome p (λ _. IsNumber h)
+      turn None e = tt
+      turn (Some n) e = let b : (before : Named) × (finmap.get old.modules h ≡ Some before) × (name_of n ≡ name_of before) = named_before h n e in
+          subst (λ p. IfSome p (λ _. IsNumber h)) b.1 (is.numbers h)
+
+  names : AreNamesApart modules
+  names a b x y e f t =
+      let u : (before : Named) × (finmap.get old.modules a ≡ Some before) × (name_of x ≡ name_of before) = named_before a x e in
+      let v : (before : Named) × (finmap.get old.modules b ≡ Some before) × (name_of y ≡ name_of before) = named_before b y f in
+      is.names a b u.0 v.0 u.1 v.1 (subst (λ s. is_named s (name_of v.0) ≡ true) u.2 (subst (λ s. is_named (name_of x) s ≡ true) v.2 t))
+
+  sources : (h : ℕ) (n : Module) → module_at modules h ≡ Some n → (before : Module) × (module_at old.modules h ≡ Some before) × SameModule n before
+  sources h n e = elim (cases_eq h handle) [
+    | inl same ↦ (m, ap (module_at old.modules) same ∙ ap module_in there, alike (sym e ∙ ap module_in (inserted_here old.modules handle (Loaded more) h same)))
+    | inr other ↦ (n, ap module_in (sym (inserted_other old.modules handle (Loaded more) h other)) ∙ e, record { slots = refl; tables = refl })
+  ]
+    where
+      alike : Some n ≡ Some more → SameModule n m
+      alike e = let f : n ≡ more = cc in record { slots = ap (λ (x : Module). x.slots) f; tables = ap (λ (x : Module). x.tables) f }
+
+  stays : (h : ℕ) (before : Module) → module_at old.modules h ≡ Some before → (n : Module) × (module_at modules h ≡ Some n) × SameModule n before
+  stays h before e = elim (cases_eq h handle) [
+    | inl same ↦ (more, ap module_in (inserted_here old.modules handle (Loaded more) h same), alike (sym e ∙ ap (module_at old.modules) same ∙ ap module_in there))
+    | inr other ↦ (before, ap module_in (inserted_other old.modules handle (Loaded more) h other) ∙ e, record { slots = refl; tables = refl })
+  ]
+    where
+      alike : Some before ≡ Some m → SameModule more before
+      alike e = let f : before ≡ m = cc in record { slots = ap (λ (x : Module). x.slots) (sym f); tables = ap (λ (x : Module). x.tables) (sym f) }
+
+  used : (h : ℕ) (n : Module) → module_at modules h ≡ Some n → (0 < usage modules h) × (n.uses ≤ MOST_USES)
+  used h n e = elim (cases_eq h handle) [
+    | inl same ↦ here same (sym e ∙ ap module_in (inserted_here old.modules handle (Loaded more) h same))
+    | inr other ↦ elsewhere other
+  ]
+    where
+      here : h ≡ handle → Some n ≡ Some more → (0 < usage modules h) × (n.uses ≤ MOST_USES)
+      here same e =
+          let f : n ≡ more = cc in
+          let some : 0 < m.uses + 1 + importers modules h = omega arith in (
+            subst (λ p. 0 < usage_with p (importers modules h)) (sym (inserted_here old.modules handle (Loaded more) h same)) some,
+            subst (λ (x : Module). x.uses ≤ MOST_USES) (sym f) (omega (arith, few)),
+          )
+
+      elsewhere : h ≢ handle → (0 < usage modules h) × (n.uses ≤ MOST_USES)
+      elsewhere other =
+          let at : finmap.get old.modules h ≡ Some (Loaded n) = loaded_is (finmap.get old.modules h) n (ap module_in (sym (inserted_other old.modules handle (Loaded more) h other)) ∙ e) in
+          let sound : IsModule old h n = subst (λ p. IfSome (module_in p) (IsModule old h)) at (is.modules h) in
+          let lt : 0 < n.uses + importers old.modules h = subst (λ p. 0 < usage_with p (importers old.modules h)) at sound.used in (
+            subst (λ p. 0 < usage_with p (importers modules h)) (sym (inserted_other old.modules handle (Loaded more) h other ∙ at))
+                (still_used old.modules modules h n.uses n.uses (omega arith) (importers_stay old.modules modules h (named_after h)) lt),
+            sound.full,
+          )
+
+  pub used_world : IsWorld (after_use old handle m)
+  used_world = module_world old is modules numbers names sources stays used
+
+-- a load of a module that is there
+abbrev outcome_again : World → ℕ → Module → Bool → Bool → Answer × World
+outcome_again old handle m s t = cond {A = Answer × World} s (Says 16, old) (cond t (Says handle, after_use old handle m) (Says 0, old))
+
+pub again_world : (b : Bool) (old : World) → IsWorld old → (handle : ℕ) (p : Option Named) → finmap.get old.modules handle ≡ p → IsWorld (used_again b old handle p).1
+again_world b old is handle None e = is
+again_world b old is handle (Some (BuiltIn name)) e = is
+again_world b old is handle (Some (Loaded m)) e = turn (b && not m.tables.is_library) (nat_lt m.uses MOST_USES) refl
+  where
+    turn : (s t : Bool) → nat_lt m.uses MOST_USES ≡ t → IsWorld (outcome_again old handle m s t).1
+    turn true t f = is
+    turn false true f = used_world old is handle m e (ltb-true m.uses MOST_USES f)
+    turn false false f = is
+
+-- Names.
+
+-- what no entry has, none is found for
+pub find_none : {X : Type 0} (p : X → Bool) (xs : List X) → find p xs ≡ None → (x : X) → Member x xs → p x ≡ false
+find_none p [] e x m = absurd m
+find_none p (y ∷ xs) e x m = turn (p y) refl e (λ f. find_none p xs f x) m
+  where
+    turn : (b : Bool) → p y ≡ b → cond b (Some y) (find p xs) ≡ None → (find p xs ≡ None → Member x xs → p x ≡ false) → Member x (y ∷ xs) → p x ≡ false
+    turn true t e rest m = cc
+    turn false t e rest (inl same) = ap p same ∙ t
+    turn false t e rest (inr m) = rest e m
+
+pub not_named : (modules : Modules) (name : List ℕ) → handle_named modules name ≡ None → (handle : ℕ) (n : Named) → finmap.get modules handle ≡ Some n → is_named (name_of n) name ≡ false
+not_named modules name e handle n there = find_none (λ (x : ℕ × Named). is_named (name_of x.1) name) (finmap.entries modules) (none (find (λ (x : ℕ × Named). is_named (name_of x.1) name) (finmap.entries modules)) e) (handle, n) (there_entry modules handle n there)
+  where
+    none : (p : Option (ℕ × Named)) → option_map (λ (x : ℕ × Named). x.0) p ≡ None → p ≡ None
+    none None e = refl
+    none (Some x) e = cc
+
+pub named_back : (a b : List ℕ) → is_named a b ≡ true → is_named b a ≡ true
+named_back a b t = (is_named-Decides b a).1 (sym ((is_named-Decides a b).0 t))
+
+-- A built-in.
+module _ (old : World) (is : IsWorld old) (handle : ℕ) (name : List ℕ) (free : IsFreeModule old.modules handle) (unnamed : handle_named old.modules name ≡ None) where
+  abbrev with_built_in : Modules
+  with_built_in = finmap.insert old.modules handle (BuiltIn name)
+
+  some_not_none : (n : Named) → ◌≡◌ {A = Option Named} None (Some n) → ⊥
+  some_not_none n e = cc
+
+  built_numbers : (h : ℕ) → IfSome (finmap.get with_built_in h) (λ _. IsNumber h)
+  built_numbers h = elim (cases_eq h handle) [
+    | inl same ↦ subst (λ p. IfSome p (λ _. IsNumber h)) (sym (inserted_here old.modules handle (BuiltIn name) h same)) (subst IsNumber (sym same) (free.0, free.1))
+    | inr other ↦ subst (λ p. IfSome p (λ _. IsNumber h)) (sym (inserted_other old.modules handle (BuiltIn name) h other)) (is.numbers h)
+  ]
+
+  -- what a handle names: the built-in, or what it named
+  now : (a : ℕ) (n : Named) → finmap.get with_built_in a ≡ Some n → ((a ≡ handle) × (n ≡ BuiltIn name)) ⊎ (finmap.get old.modules a ≡ Some n)
+  now a n e = elim (cases_eq a handle) [
+    | inl same ↦ inl (same, is_built_in (sym e ∙ inserted_here old.modules handle (BuiltIn name) a same))
+    | inr other ↦ inr (sym (inserted_other old.modules handle (BuiltIn name) a other) ∙ e)
+  ]
+    where
+      is_built_in : Some n ≡ Some (BuiltIn name) → n ≡ BuiltIn name
+      is_built_in e = cc
+
+  built_names : AreNamesApart with_built_in
+  built_names a b x y e f t = turn (now a x e) (now b y f)
+    where
+      turn : ((a ≡ handle) × (x ≡ BuiltIn name)) ⊎ (finmap.get old.modules a ≡ Some x) → ((b ≡ handle) × (y ≡ BuiltIn name)) ⊎ (finmap.get old.modules b ≡ Some y) → a ≡ b
+      turn (inl u) (inl v) = u.0 ∙ sym v.0
+      turn (inl u) (inr v) = absurd (false≢true (sym (not_named old.modules name unnamed b y v) ∙ named_back name (name_of y) (subst (λ (n : Named). is_named (name_of n) (name_of y) ≡ true) u.1 t)))
+      turn (inr u) (inl v) = absurd (false≢true (sym (not_named old.modules name unnamed a x u) ∙ subst (λ (n : Named). is_named (name_of x) (name_of n) ≡ true) v.1 t))
+      turn (inr u) (inr v) = is.names a b x y u v t
+
+  none_there : (h : ℕ) (m : Module) → h ≡ handle → module_at old.modules h ≡ Some m → ⊥
+  none_there h m same e = no (sym (ap module_in (ap (finmap.get old.modules) same ∙ free.2)) ∙ e)
+    where
+      no : ◌≡◌ {A = Option Module} None (Some m) → ⊥
+      no e = cc
+
+  loaded_now : (h : ℕ) (m : Module) → module_at with_built_in h ≡ Some m → (h ≢ handle) × (module_at old.modules h ≡ Some m)
+  loaded_now h m e = elim (cases_eq h handle) [
+    | inl same ↦ absurd (no (sym (ap module_in (inserted_here old.modules handle (BuiltIn name) h same)) ∙ e))
+    | inr other ↦ (other, ap module_in (sym (inserted_other old.modules handle (BuiltIn name) h other)) ∙ e)
+  ]
+    where
+      no : ◌≡◌ {A = Option Module} None (Some m) → ⊥
+      no e = cc
+
+  named_still : (k a : ℕ) (n : Named) → finmap.get old.modules a ≡ Some n → (now : Named) × (finmap.get with_built_in a ≡ Some now) × (imports now k ≡ imports n k)
+  named_still k a n e = elim (cases_eq a handle) [
+    | inl same ↦ absurd (some_not_none n (sym (ap (finmap.get old.modules) same ∙ free.2) ∙ e))
+    | inr other ↦ (n, inserted_other old.modules handle (BuiltIn name) a other ∙ e, refl)
+  ]
+
+  built_used : (h : ℕ) (m : Module) → module_at with_built_in h ≡ Some m → (0 < usage with_built_in h) × (m.uses ≤ MOST_USES)
+  built_used h m e =
+      let was : (h ≢ handle) × (module_at old.modules h ≡ Some m) = loaded_now h m e in
+      let at : finmap.get old.modules h ≡ Some (Loaded m) = loaded_is (finmap.get old.modules h) m was.1 in
+      let sound : IsModule old h m = subst (λ p. IfSome (module_in p) (IsModule old h)) at (is.modules h) in
+      let lt : 0 < m.uses + importers old.modules h = subst (λ p. 0 < usage_with p (importers old.modules h)) at sound.used in (
+        subst (λ p. 0 < usage_with p (importers with_built_in h)) (sym (inserted_other old.modules handle (BuiltIn name) h was.0 ∙ at))
+            (still_used old.modules with_built_in h m.uses m.uses (omega arith) (importers_stay old.modules with_built_in h (named_still h)) lt),
+        sound.full,
+      )
+
+  pub built_world : IsWorld (record old { modules = with_built_in })
+  built_world = module_world old is with_built_in built_numbers built_names
+      (λ h m e. (m, (loaded_now h m e).1, record { slots = refl; tables = refl }))
+      (λ h before e. elim (cases_eq h handle) [
+        | inl same ↦ absurd (none_there h before same e)
+        | inr other ↦ (before, ap module_in (inserted_other old.modules handle (BuiltIn name) h other) ∙ e, record { slots = refl; tables = refl })
+      ])
+      built_used
+
+pub built_in_world : (old new : World) → IsWorld old → (name : List ℕ) (answer : ℕ) → GivesBuiltIn old name answer new → IsWorld new
+built_in_world old new is name answer step = turn (handle_named old.modules name) refl step
+  where
+    adds : handle_named old.modules name ≡ None → AddsBuiltIn old name answer new → IsWorld new
+    adds e (inl f) = subst IsWorld (sym f.2) is
+    adds e (inr f) = subst IsWorld (sym f.1) (built_world old is answer name f.0 e)
+
+    turn : (p : Option ℕ) → handle_named old.modules name ≡ p → MatchOption p (AddsBuiltIn old name answer new) (λ handle. (answer ≡ built_in (finmap.get old.modules handle) handle) × (new ≡ old)) → IsWorld new
+    turn None e f = adds e f
+    turn (Some handle) e f = subst IsWorld (sym f.1) is

@@ -1,0 +1,5 @@
+use Rattle.w16_loading.proofs.WorldLaw.{keeps_worlds_law}
+use Rattle.w16_loading.proofs.laws.steps_keep_worlds.Goals as goal
+
+pub returns : goal.returns
+returns c = keeps_worlds_law
