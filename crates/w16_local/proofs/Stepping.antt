@@ -1,16 +1,21 @@
 -- A step of one local heap that asks for no room: in the list of heaps, and as a call's.
-use Rattle.std.proofs.Common.{◌≡◌, ℕ, ◌-◌, ◌<◌, ◌≤◌, Bool, true, false, nat_lt, if◌then◌else◌, IfErr, OnErr, OnOk, IsSome, List, length, get_or, set, MatchOption, Option, Some, None, option_map, unwrap_or, Result, Ok, Err, refl, sym, ap, ◌∙◌, subst, arith}
+use Rattle.std.proofs.Common.{◌≡◌, inl, inr, lt-ltb, le-ltb, ℕ, ◌-◌, ◌<◌, ◌≤◌, Bool, true, false, nat_lt, if◌then◌else◌, IfErr, OnErr, OnOk, IsSome, List, length, get_or, set, MatchOption, Option, Some, None, option_map, unwrap_or, Result, Ok, Err, refl, sym, ap, ◌∙◌, subst, arith}
 use Rattle.std.specs.Ordering.{nat_cmp}
 use Rattle.std.specs.FinMap as finmap
 use Rattle.std.specs.FinMap.{FinMap}
 use Rattle.w16_model.specs.declared.Refusal.{Refusal}
+use Rattle.w16_model.specs.declared.Refusal.TheVariants as refusals
+use Rattle.w16_model.specs.Calls.{locks_at}
+use Rattle.w16_model.specs.Changes.{with_object}
 use Rattle.w16_model.specs.Handles.{Handles}
-use Rattle.w16_model.specs.Heap.{Heap}
-use Rattle.w16_model.specs.OneObject.{after_lock}
+use Rattle.w16_model.specs.Heap.{Heap, Object, object_at, is_fixed}
+use Rattle.w16_model.specs.OneObject.{after_lock, after_unlock}
 use Rattle.w16_model.specs.Table.{Table, heap_in}
+use Rattle.w16_model.proofs.KeptHeaps.{inserted_here}
+use Rattle.std.proofs.lemmas.Bool.{cases_lt}
 use Rattle.w16_machine.specs.Local.{LocalHeap, LocalObject, LocalWorld, IsLocalTable, Becomes, Stays, heap_of, object_named}
-use Rattle.w16_machine.specs.LocalCalls.{Leaves, OnNamed, lock_refused, near_pointer}
-use Rattle.w16_machine.specs.LocalCalls.LocalCommand.{LocalLock}
+use Rattle.w16_machine.specs.LocalCalls.{Leaves, OnNamed, lock_refused, locks_left, near_pointer}
+use Rattle.w16_machine.specs.LocalCalls.LocalCommand.{LocalLock, LocalUnlock}
 use Rattle.w16_arena.specs.State.{ArenaState, Steps}
 use Rattle.w16_local.specs.Kept.{tables_of, AreKept}
 use Rattle.w16_local.specs.Parts.{Calls, IsNamed, alone, with_parts}
@@ -115,3 +120,20 @@ none_calls handles tables ds name otherwise so none rest = subst (λ o. MatchOpt
 
 pub lock_none : (handles : Handles) (tables : FinMap nat_cmp Table) (ds name : ℕ) → object_named (alone handles tables ds) name ≡ None → Calls handles tables ds (LocalLock name) 0 handles tables
 lock_none handles tables ds name = none_calls handles tables ds name 0 (λ old o. Leaves old o.heap (after_lock (heap_of o.heap) o.id) (λ _. near_pointer (heap_of o.heap) o.id) (lock_refused (near_pointer (heap_of o.heap) o.id)) 0 old)
+
+pub unlock_calls : {handles : Handles} {tables : FinMap nat_cmp Table} {ds name slot : ℕ} {t : Table} {id : ℕ} (n : IsNamed handles tables ds name slot t id) (locks : ℕ) → locks_at (heap_in t n.heap.bytes) id ≡ locks
+    → {X : Type 0} (r : Result X Refusal) (new : FinMap nat_cmp Table) (s : Stepped tables slot (λ a b. after_unlock a id ≡ outcome r b) new) → OnErr r (new ≡ tables)
+    → (answer : ℕ) → answer ≡ answer_of r (if nat_lt 1 locks then 1 else 0) (λ _. 0) → Calls handles tables ds (LocalUnlock name) answer handles new
+unlock_calls {handles} {tables} {ds} {name} {slot} {t} {id} n locks is {X} r new s same answer told rest =
+    on_named n rest 0 answer (with_parts rest handles new ds) (λ o. Leaves (with_parts rest handles tables ds) o.heap (after_unlock (heap_of o.heap) o.id) (locks_left o.id) (λ _. 0) answer (with_parts rest handles new ds))
+    (leaves n rest (λ h. after_unlock h id) r new s same (locks_left id) (λ _. 0) answer (told ∙ link r (taken_so n rest (λ h. after_unlock h id) r new s same)))
+  where
+    link : (r : Result X Refusal) → after_unlock (heap_in t n.heap.bytes) id ≡ outcome r (heap_in s.after n.heap.bytes) → answer_of r (if nat_lt 1 locks then 1 else 0) (λ _. 0) ≡ answer_of r (locks_left id (heap_in s.after n.heap.bytes)) (λ _. 0)
+    link (Err e) so = refl
+    link (Ok done) so =
+        let before : Heap = heap_in t n.heap.bytes in
+        let after : Heap = heap_in s.after n.heap.bytes in
+        ap (λ b. if b then 1 else 0) (ap (nat_lt 1) (sym is) ∙ sym (more_than_one (locks_at before id)) ∙ ap (nat_lt 0) (sym (unlocked before after id so)))
+
+pub unlock_none : (handles : Handles) (tables : FinMap nat_cmp Table) (ds name : ℕ) → object_named (alone handles tables ds) name ≡ None → Calls handles tables ds (LocalUnlock name) 0 handles tables
+unlock_none handles tables ds name = none_calls handles tables ds name 0 (λ old o. Leaves old o.heap (after_unlock (heap_of o.heap) o.id) (locks_left o.id) (λ _. 0) 0 old)

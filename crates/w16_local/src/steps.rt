@@ -1,5 +1,5 @@
 //! Steps of local objects that ask for no room and give none up: no byte moves.
-ghost use Rattle.std.specs.Prelude.{◌≡◌, OnErr, IsSome};
+ghost use Rattle.std.specs.Prelude.{◌≡◌, OnErr, IsSome, if◌then◌else◌, nat_lt};
 ghost use Rattle.std.specs.FinMap as finmap;
 ghost use Rattle.w16_arena.specs.State.{Steps};
 ghost use Rattle.w16_machine.specs.LocalCalls as calls;
@@ -44,11 +44,9 @@ impl LocalHeaps {
         let Some(Named { slot, heap, id }) = self.named(global, ds, name) else {
             return 0;
         };
-        let left = locks_of(heap, id) > 1;
-        match self.step(slot, id, Step::Unlock) {
-            Ok(()) => left as u16,
-            Err(_) => 0,
-        }
+        let locks = locks_of(heap, id);
+        let done = self.step(slot, id, Step::Unlock);
+        unlock_answer(done, locks)
     }
 
     /// A step of an object in a slot's heap, which changes the heap's table alone.
@@ -84,6 +82,16 @@ fn lock_answer(done: Result<(), Refusal>, pointer: u16) -> u16
 {
     match done {
         Ok(()) | Err(Refusal::Fixed) => pointer,
+        Err(_) => 0,
+    }
+}
+
+/// What `LocalUnlock` answers of an object that had so many locks.
+fn unlock_answer(done: Result<(), Refusal>, locks: u8) -> u16
+    ensures { result ≡ answer_of done (if nat_lt 1 locks then 1 else 0) (λ _. 0) }
+{
+    match done {
+        Ok(()) => (locks > 1) as u16,
         Err(_) => 0,
     }
 }
