@@ -121,6 +121,34 @@ none_calls handles tables ds name otherwise so none rest = subst (λ o. MatchOpt
 pub lock_none : (handles : Handles) (tables : FinMap nat_cmp Table) (ds name : ℕ) → object_named (alone handles tables ds) name ≡ None → Calls handles tables ds (LocalLock name) 0 handles tables
 lock_none handles tables ds name = none_calls handles tables ds name 0 (λ old o. Leaves old o.heap (after_lock (heap_of o.heap) o.id) (λ _. near_pointer (heap_of o.heap) o.id) (lock_refused (near_pointer (heap_of o.heap) o.id)) 0 old)
 
+-- LocalUnlock leaves one lock less.
+module _ (a b : Heap) (id : ℕ) where
+  unlocked : after_unlock a id ≡ Ok b → locks_at b id ≡ locks_at a id - 1
+  unlocked e = turn (object_at a id) refl e
+    where
+      less : Object → Object
+      less o = record o { locks = o.locks - 1 }
+
+      by_kind : (o : Object) → (f : Bool) → ◌≡◌ {A = Result Heap Refusal} (if f then Err refusals.Fixed else Ok (with_object a id (record o { locks = o.locks - 1 }))) (Ok b) → locks_at b id ≡ o.locks - 1
+      by_kind o true e = cc
+      by_kind o false e =
+          let is : with_object a id (record o { locks = o.locks - 1 }) ≡ b = cc in
+          ap (λ (h : Heap). locks_at h id) (sym is) ∙ ap (λ (p : Option Object). unwrap_or (option_map (λ (o : Object). o.locks) p) 0) (inserted_here a.objects id (record o { locks = o.locks - 1 }) id refl)
+
+      turn : (p : Option Object) → object_at a id ≡ p → ◌≡◌ {A = Result Heap Refusal} (elim p [ None ↦ Ok a | Some o ↦ if is_fixed o.kind then Err refusals.Fixed else Ok (with_object a id (record o { locks = o.locks - 1 })) ]) (Ok b)
+          → locks_at b id ≡ unwrap_or (option_map (λ (o : Object). o.locks) p) 0 - 1
+      turn None there e =
+          let is : a ≡ b = cc in
+          ap (λ (h : Heap). locks_at h id) (sym is) ∙ ap (λ (p : Option Object). unwrap_or (option_map (λ (o : Object). o.locks) p) 0) there
+      turn (Some o) there e = by_kind o (is_fixed o.kind) e
+
+  more_than_one : (n : ℕ) → nat_lt 0 (n - 1) ≡ nat_lt 1 n
+  more_than_one n = elim (cases_lt 1 n) [
+    | inl more ↦ lt-ltb 0 (n - 1) (omega (arith, more)) ∙ sym (lt-ltb 1 n more)
+    | inr not ↦ le-ltb 0 (n - 1) (omega (arith, not)) ∙ sym (le-ltb 1 n (omega (arith, not)))
+  ]
+
+-- LocalUnlock
 pub unlock_calls : {handles : Handles} {tables : FinMap nat_cmp Table} {ds name slot : ℕ} {t : Table} {id : ℕ} (n : IsNamed handles tables ds name slot t id) (locks : ℕ) → locks_at (heap_in t n.heap.bytes) id ≡ locks
     → {X : Type 0} (r : Result X Refusal) (new : FinMap nat_cmp Table) (s : Stepped tables slot (λ a b. after_unlock a id ≡ outcome r b) new) → OnErr r (new ≡ tables)
     → (answer : ℕ) → answer ≡ answer_of r (if nat_lt 1 locks then 1 else 0) (λ _. 0) → Calls handles tables ds (LocalUnlock name) answer handles new
