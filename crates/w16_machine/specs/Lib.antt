@@ -9,3 +9,4 @@ pub mod LocalCalls
 pub mod LocalMachine
 pub mod LocalLaw
 pub mod LocalFewest
+pub mod LocalRuns
