@@ -10,3 +10,4 @@ pub mod LocalMachine
 pub mod LocalLaw
 pub mod LocalFewest
 pub mod LocalRuns
+pub mod LocalStays

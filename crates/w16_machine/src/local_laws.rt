@@ -2,6 +2,7 @@
 ghost use Rattle.w16_machine.specs.LocalLaw.{AreFigures, AreFlags, BeginLaw, EmptyLaw, FarLaw, FrameLaw, GoesLaw, GoneLaw, NamedLaw, NamesLaw, NeverBackLaw, NewHeapLaw, OthersLaw, OutcomeLaw, RunLaw, WorldLaw};
 ghost use Rattle.w16_machine.specs.LocalFewest.{AllocLaw, CompactLaw, ReallocLaw};
 ghost use Rattle.w16_machine.specs.LocalRuns.{FewestLaw};
+ghost use Rattle.w16_machine.specs.LocalStays.{SizesLaw, TablesLaw};
 
 /// The figures of local heaps and the flags of the Local calls are these numbers.
 pub fn figures_of_local_heaps()
@@ -69,4 +70,11 @@ pub fn local_calls_discard_fewest()
 /// and is refused for room only where no discards would have made it.
 pub fn local_runs_discard_fewest()
     ensures { FewestLaw }
+{}
+
+/// GlobalAlloc, GlobalFree, GlobalReAlloc, GlobalDiscard and GlobalCompact alone may take bytes of an object: a step of any other command
+/// leaves each as many, and each local heap its table.
+pub fn other_steps_keep_local_heaps()
+    ensures sizes { SizesLaw }
+    ensures tables { TablesLaw }
 {}
