@@ -2,14 +2,13 @@
 ghost use Rattle.std.specs.Prelude.{◌≡◌, length};
 ghost use Rattle.w16_model.specs.Table.{heap_in};
 ghost use Rattle.w16_local.specs.Acts.{Acted, MayActOver};
+ghost use Rattle.w16_local.specs.declared.acts.Act.TheVariants.{Alloc, Compact, Discard, Free, Realloc};
 
 use crate::heap::LocalHeap;
 use crate::look::name_at;
-use w16_arena::Arena;
 use w16_global::Work;
-use w16_holes::SideHoles;
 use w16_model::{Kind, Way};
-use w16_region::{Space, Window};
+use w16_region::{Space, Window, has_bytes};
 
 /// What is done to a heap: each act has its call's answer. Sizes are whole grains, but for a compaction's.
 #[derive(Clone, Copy, Debug)]
@@ -27,15 +26,13 @@ pub(crate) enum Act {
         size: u32,
         way: Way,
     },
-    /// An object gives up its bytes. It answers its name, or 0.
+    /// An object that may gives up its bytes. It answers 0.
     Discard {
         id: u32,
-        name: u16,
     },
-    /// An object goes. It answers 0, or the name where it stays.
+    /// An object that may goes. It answers 0.
     Free {
         id: u32,
-        name: u16,
     },
     /// Room is made for some bytes. It answers the length of the longest hole, or for 0 bytes how long one could be.
     Compact {
@@ -76,8 +73,8 @@ impl LocalHeap {
                 way,
             } => self.alloc(space, id, size, kind, way),
             Act::Realloc { id, size, way } => self.realloc(space, id, size, way),
-            Act::Discard { id, name } => self.discard(space, id, name),
-            Act::Free { id, name } => self.free(space, id, name),
+            Act::Discard { id } => self.discard(space, id),
+            Act::Free { id } => self.free(space, id),
             Act::Compact { size } => self.compact(space, size),
         }
     }
@@ -89,9 +86,12 @@ impl LocalHeap {
         ensures long { length (S.bytes space.new) ≡ length (S.bytes space.old) }
         ensures loans { S.lenders space.new ≡ S.lenders space.old }
     {
-        if self.arena.alloc(space, id, size, kind, way).is_err() {
+        has_bytes(space);
+        let placed = self.arena.alloc(space, id, size, kind, way);
+        if placed.is_err() {
             return 0;
         }
+        has_bytes(space);
         self.free.set(id as usize, 0);
         name_at(&self.arena, id).unwrap_or(0)
     }
@@ -103,37 +103,42 @@ impl LocalHeap {
         ensures long { length (S.bytes space.new) ≡ length (S.bytes space.old) }
         ensures loans { S.lenders space.new ≡ S.lenders space.old }
     {
-        if self.arena.realloc(space, id, size, way).is_err() {
+        has_bytes(space);
+        let placed = self.arena.realloc(space, id, size, way);
+        if placed.is_err() {
             return 0;
         }
+        has_bytes(space);
         name_at(&self.arena, id).unwrap_or(0)
     }
 
     /// An object gives up its bytes.
-    fn discard<S: Space>(&mut self, space: &mut S, id: u32, name: u16) -> u16
-        requires { MayActOver (Discard id name) self.old (S.bytes space.old) }
-        ensures acted { Acted (Discard id name) self.old (S.bytes space.old) result self.new (S.bytes space.new) }
+    fn discard<S: Space>(&mut self, space: &mut S, id: u32) -> u16
+        requires { MayActOver (Discard id) self.old (S.bytes space.old) }
+        ensures acted { Acted (Discard id) self.old (S.bytes space.old) result self.new (S.bytes space.new) }
         ensures long { length (S.bytes space.new) ≡ length (S.bytes space.old) }
         ensures loans { S.lenders space.new ≡ S.lenders space.old }
     {
         match self.arena.discard(space, id) {
-            Ok(()) => name,
-            Err(_) => 0,
+            Ok(()) => 0,
+            Err(_) => unreachable!(),
         }
     }
 
     /// An object goes.
-    fn free<S: Space>(&mut self, space: &mut S, id: u32, name: u16) -> u16
-        requires { MayActOver (Free id name) self.old (S.bytes space.old) }
-        ensures acted { Acted (Free id name) self.old (S.bytes space.old) result self.new (S.bytes space.new) }
+    fn free<S: Space>(&mut self, space: &mut S, id: u32) -> u16
+        requires { MayActOver (Free id) self.old (S.bytes space.old) }
+        ensures acted { Acted (Free id) self.old (S.bytes space.old) result self.new (S.bytes space.new) }
         ensures long { length (S.bytes space.new) ≡ length (S.bytes space.old) }
         ensures loans { S.lenders space.new ≡ S.lenders space.old }
     {
-        if self.arena.free(space, id).is_err() {
-            return name;
+        match self.arena.free(space, id) {
+            Ok(()) => {
+                self.free.set(id as usize, 1);
+                0
+            }
+            Err(_) => unreachable!(),
         }
-        self.free.set(id as usize, 1);
-        0
     }
 
     /// Room is made for some bytes, or for 0 it is only asked how much there could be.
@@ -143,6 +148,7 @@ impl LocalHeap {
         ensures long { length (S.bytes space.new) ≡ length (S.bytes space.old) }
         ensures loans { S.lenders space.new ≡ S.lenders space.old }
     {
+        has_bytes(space);
         self.arena.compact(space, size).room as u16
     }
 }

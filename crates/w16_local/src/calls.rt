@@ -7,6 +7,7 @@ use crate::LocalHeaps;
 use crate::acts::Act;
 use crate::chosen::{Chosen, Named};
 use crate::flags::{has_flag, local_kind, local_way, moveable_or_discardable, rounded_up};
+use crate::look::{may_discard, may_free};
 use crate::steps::Step;
 use w16_global::Global16;
 use w16_machine::local::{LMEM_MODIFY, LMEM_MOVEABLE};
@@ -57,7 +58,7 @@ impl LocalHeaps {
     ) -> u16
         ensures { Calls global.old.handles self.old ds (LocalReAlloc name size flags) result global.new.handles self.new }
     {
-        let Some(Named { slot, id, .. }) = self.named(global, ds, name) else {
+        let Some(Named { slot, heap, id }) = self.named(global, ds, name) else {
             return 0;
         };
         if has_flag(flags, LMEM_MODIFY) {
@@ -72,11 +73,11 @@ impl LocalHeaps {
             };
             return self.act(global, slot, act);
         }
-        if has_flag(flags, LMEM_MOVEABLE) {
-            self.act(global, slot, Act::Discard { id, name })
-        } else {
-            0
+        if !has_flag(flags, LMEM_MOVEABLE) || !may_discard(heap, id) {
+            return 0;
         }
+        self.act(global, slot, Act::Discard { id });
+        name
     }
 
     /// `LocalDiscard`: a discardable object that isn't locked gives up its bytes, if it has any. It answers the name, or 0.
@@ -90,10 +91,14 @@ impl LocalHeaps {
     pub fn local_free(&mut self, global: &mut Global16, ds: u16, name: u16) -> u16
         ensures { Calls global.old.handles self.old ds (LocalFree name) result global.new.handles self.new }
     {
-        let Some(Named { slot, id, .. }) = self.named(global, ds, name) else {
+        let Some(Named { slot, heap, id }) = self.named(global, ds, name) else {
             return name;
         };
-        self.act(global, slot, Act::Free { id, name })
+        if !may_free(heap, id) {
+            return name;
+        }
+        self.act(global, slot, Act::Free { id });
+        0
     }
 
     /// `LocalCompact`: room is made for some bytes, as in the global heap. It answers the longest hole that there is then, or for a size of 0

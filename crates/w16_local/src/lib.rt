@@ -112,6 +112,7 @@ impl LocalHeaps {
         if slot as usize >= self.heaps.len() {
             return None;
         }
-        self.heaps[slot as usize].as_deref()
+        let held = self.heaps[slot as usize].as_ref()?;
+        Some(held.as_ref())
     }
 }

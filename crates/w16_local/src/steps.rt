@@ -58,6 +58,7 @@ impl LocalHeaps {
             unreachable!();
         };
         let done = heap.step(id, step);
+        heap.is_local();
         self.heaps[slot as usize] = Some(heap);
         done
     }
