@@ -5,3 +5,4 @@ pub mod Entries
 pub mod OneHeap
 pub mod OneAct
 pub mod Stepping
+pub mod Acting

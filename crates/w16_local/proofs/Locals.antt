@@ -20,7 +20,7 @@ remove_nothing m k none = same_map nat_cmp_total nat_cmp-IsAntisymmetric (finmap
 ])
 
 -- nothing changes where the same is put
-pub insert_nothing : (m : FinMap nat_cmp Table) (k : ℕ) (x : Table) → finmap.get m k ≡ Some x → finmap.insert m k x ≡ m
+pub insert_nothing : {X : Type 0} (m : FinMap nat_cmp X) (k : ℕ) (x : X) → finmap.get m k ≡ Some x → finmap.insert m k x ≡ m
 insert_nothing m k x there = same_map nat_cmp_total nat_cmp-IsAntisymmetric (finmap.insert m k x) m (λ q. elim (cases_eq q k) [
   | inl e ↦ inserted_here m k x q e ∙ sym there ∙ ap (finmap.get m) (sym e)
   | inr d ↦ inserted_other m k x q d
@@ -55,10 +55,10 @@ module _ {X : Type 0} where
     no_tables xs none = same_map nat_cmp_total nat_cmp-IsAntisymmetric (tables_of xs table) finmap.empty (λ q. tables_at xs q ∙ ap (option_map table) (none q) ∙ sym (get-empty nat_cmp q))
 
     -- a slot loses its own
-    pub tables_unset : (xs : List (Option X)) (slot : ℕ) → slot < length xs → tables_of (set xs slot None) table ≡ finmap.remove (tables_of xs table) slot
-    tables_unset xs slot lt = same_map nat_cmp_total nat_cmp-IsAntisymmetric (tables_of (set xs slot None) table) (finmap.remove (tables_of xs table) slot) (λ q. elim (cases_eq q slot) [
-      | inl e ↦ tables_at (set xs slot None) q ∙ ap (λ k. option_map table (get_or (set xs slot None) k None)) e ∙ ap (option_map table) (get_or-set_same xs slot None None lt) ∙ sym (taken_here (tables_of xs table) slot q e)
-      | inr d ↦ tables_at (set xs slot None) q ∙ ap (option_map table) (get_or-set_other xs slot q None None d) ∙ sym (tables_at xs q) ∙ sym (taken_other (tables_of xs table) slot q d)
+    pub tables_unset : (xs : List (Option X)) (slot : ℕ) (gone : Option X) → gone ≡ None → slot < length xs → tables_of (set xs slot gone) table ≡ finmap.remove (tables_of xs table) slot
+    tables_unset xs slot gone none lt = same_map nat_cmp_total nat_cmp-IsAntisymmetric (tables_of (set xs slot gone) table) (finmap.remove (tables_of xs table) slot) (λ q. elim (cases_eq q slot) [
+      | inl e ↦ tables_at (set xs slot gone) q ∙ ap (λ k. option_map table (get_or (set xs slot gone) k None)) e ∙ ap (option_map table) (get_or-set_same xs slot gone None lt ∙ none) ∙ sym (taken_here (tables_of xs table) slot q e)
+      | inr d ↦ tables_at (set xs slot gone) q ∙ ap (option_map table) (get_or-set_other xs slot q gone None d) ∙ sym (tables_at xs q) ∙ sym (taken_other (tables_of xs table) slot q d)
     ])
 
     pub none_past : (xs : List (Option X)) (slot : ℕ) → length xs ≤ slot → finmap.get (tables_of xs table) slot ≡ None
@@ -106,10 +106,10 @@ module _ {X : Type 0} where
   listed_none xs slots none q some = absurd (false≢true (sym (ap is_some (none q)) ∙ some))
 
   -- a slot loses its heap
-  pub listed_unset : (xs : List (Option X)) (slots : List ℕ) (slot : ℕ) → slot < length xs → AreListed xs slots → AreListed (set xs slot None) slots
-  listed_unset xs slots slot lt listed q some = elim (cases_eq q slot) [
-    | inl e ↦ absurd (false≢true (sym (ap is_some (ap (λ k. get_or (set xs slot None) k None) e ∙ get_or-set_same xs slot None None lt)) ∙ some))
-    | inr d ↦ listed q (sym (ap is_some (get_or-set_other xs slot q None None d)) ∙ some)
+  pub listed_unset : (xs : List (Option X)) (slots : List ℕ) (slot : ℕ) (gone : Option X) → gone ≡ None → slot < length xs → AreListed xs slots → AreListed (set xs slot gone) slots
+  listed_unset xs slots slot gone none lt listed q some = elim (cases_eq q slot) [
+    | inl e ↦ absurd (false≢true (sym (ap is_some (ap (λ k. get_or (set xs slot gone) k None) e ∙ get_or-set_same xs slot gone None lt ∙ none)) ∙ some))
+    | inr d ↦ listed q (sym (ap is_some (get_or-set_other xs slot q gone None d)) ∙ some)
   ]
 
   -- a slot that has one gets another in its place

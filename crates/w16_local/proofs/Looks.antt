@@ -57,7 +57,7 @@ module _ {t : Table} {bytes : List ℕ} (over : IsOver t bytes) where
   parts : AreParts t.entries (record { cap = length t.entries; lo = t.lo; hi = t.hi; grain = t.grain; blocks = t.blocks }) t.order bytes
   parts = record { sound = over.is_local.sound; ids = refl; high = over.inside }
 
-  heap_is : IsHeap (heap_in t bytes)
+  pub heap_is : IsHeap (heap_in t bytes)
   heap_is = is_heap parts over.are_bytes
 
   -- a place is a block's

@@ -17,6 +17,8 @@ use Rattle.w16_model.proofs.Others.{others_law}
 use Rattle.w16_model.proofs.Reallocations.{asked}
 use Rattle.w16_model.proofs.Sound.{sound_heap}
 use Rattle.w16_compact.specs.Gather.{contents}
+use Rattle.w16_arena.specs.declared.new_place.Placed.{Placed}
+use Rattle.w16_arena.specs.Asked.{IsPlaced}
 use Rattle.w16_arena.specs.State.{IsSameRange, entry_of}
 use Rattle.w16_arena.proofs.Keeping.{heap_kept}
 use Rattle.w16_arena.proofs.Lookups.{entry_is, no_block, no_entry}
@@ -55,6 +57,23 @@ some_at : {X : Type 0} (P : X → Type 0) (p : Option X) → IsSomeAnd p P → i
 some_at P None h = absurd h
 some_at P (Some x) h = refl
 
+-- a result that isn't an error is answered, and one that is, isn't
+pub answered : {X E : Type 0} (r : Result X E) → is_err r ≡ false → is_ok r ≡ true
+answered (Ok x) e = refl
+answered (Err x) e = absurd (false≢true (sym e))
+
+pub refused : {X E : Type 0} (r : Result X E) → is_err r ≡ true → is_ok r ≡ false
+refused (Ok x) e = absurd (false≢true e)
+refused (Err x) e = refl
+
+pub on_err : {X E : Type 0} (r : Result X E) (P : Type 0) → is_err r ≡ true → OnErr r P → P
+on_err (Ok x) P e h = absurd (false≢true e)
+on_err (Err x) P e h = h
+
+pub if_ok : {X E : Type 0} (r : Result X E) (P : X → Type 0) → is_err r ≡ false → IfOk r P → (x : X) × P x
+if_ok (Ok x) P e h = (x, h)
+if_ok (Err x) P e h = absurd (false≢true (sym e))
+
 -- The heap before.
 module _ {t : Table} {free : List ℕ} (kept : IsKept t free) (bytes : List ℕ) (inside : t.hi ≤ length bytes) where
   parts : AreParts t.entries (record { cap = length t.entries; lo = t.lo; hi = t.hi; grain = t.grain; blocks = t.blocks }) t.order bytes
@@ -83,6 +102,21 @@ module _ {t : Table} {free : List ℕ} (kept : IsKept t free) (bytes : List ℕ)
           inner [] id h = absurd (false≢true h)
           inner (x ∷ xs) zero h = omega arith
           inner (x ∷ xs) (suc id) h = let lt : id < length xs = inner xs id h in omega arith
+
+  -- What giving bytes up leaves of the free entries.
+  module _ {s : Table} (range : IsSameRange t s) where
+    pub discard_kept : (id : ℕ) → after_discard (heap_in t bytes) id ≡ Ok (heap_in s bytes) → IsKept s free
+    discard_kept id e = same_free kept range bytes bytes inside refl (discarded (heap_in t bytes) (heap_in s bytes) id e)
+
+    pub free_kept : (id : ℕ) → IsSome (object_at (heap_in t bytes) id) → after_free (heap_in t bytes) id ≡ Ok (heap_in s bytes) → IsKept s (set free id 1)
+    free_kept id some e = turn (object_at (heap_in t bytes) id) refl some
+      where
+        turn : (p : Option Object) → object_at (heap_in t bytes) id ≡ p → IsSome p → IsKept s (set free id 1)
+        turn None there h = absurd (false≢true h)
+        turn (Some o) there h =
+            let gone : removed (heap_in t bytes) id ≡ heap_in s bytes = free_gone (heap_in t bytes) id o there (heap_in s bytes) e in
+            set_free kept range bytes bytes inside refl id false (entry_lt id some) (ap (λ (h : Heap). is_some (object_at h id)) (sym gone) ∙ removed_here (heap_in t bytes) id)
+            (λ q d. ap (λ (h : Heap). is_some (object_at h q)) (sym gone) ∙ removed_others (heap_in t bytes) id q d)
 
   module _ (all : All (λ b. b < 256) bytes) where
     heap_is : IsHeap (heap_in t bytes)
@@ -118,55 +152,67 @@ module _ {t : Table} {free : List ℕ} (kept : IsKept t free) (bytes : List ℕ)
           never : {x : ℕ} → ◌≡◌ {A = Option ℕ} None (Some x) → ⊥
           never e = cc
 
-      -- What each act leaves of the free entries.
-      pub alloc_kept : (id n : ℕ) (kind : Kind) (way : Way) → id < 1024 → Allocates (heap_in t bytes) id n kind 0 way true (heap_in s after) → (at : ℕ) → finmap.get (heap_in s after).places id ≡ Some at → All (λ b. b < 256) after → IsKept s (set free id 0)
-      alloc_kept id n kind way lt a at placed are = set_free kept range bytes after inside long id true lt (there_placed (heap_in s after) (sound_heap s range.sound after inside_after are) id at placed) (allocated_others id n kind way a)
+      pub over_after : All (λ b. b < 256) after → IsOver s after
+      over_after are = record { is_local = is_local kept range; inside = inside_after; are_bytes = are }
 
-      pub realloc_kept : (id n : ℕ) (way : Way) → Reallocates (heap_in t bytes) id n way true (heap_in s after) → IsKept s free
-      realloc_kept id n way a = same_free kept range bytes after inside long (reallocated_same id n way a)
+      pub heap_after : All (λ b. b < 256) after → IsHeap (heap_in s after)
+      heap_after are = sound_heap s range.sound after inside_after are
+
+      -- What each act leaves of the free entries.
+      pub alloc_kept : {E : Type 0} (r : Result Placed E) → is_err r ≡ false → (id n : ℕ) (kind : Kind) (way : Way) → id < 1024 → Allocates (heap_in t bytes) id n kind 0 way (is_ok r) (heap_in s after)
+          → IfOk r (λ p. IsPlaced (heap_in t bytes) id n p (heap_in s after)) → All (λ b. b < 256) after → IsKept s (set free id 0)
+      alloc_kept r is id n kind way lt a placed are =
+          let p = if_ok r (λ p. IsPlaced (heap_in t bytes) id n p (heap_in s after)) is placed in
+          set_free kept range bytes after inside long id true lt (there_placed (heap_in s after) (heap_after are) id p.0.at p.1.place)
+          (allocated_others id n kind way (subst (λ b. Allocates (heap_in t bytes) id n kind 0 way b (heap_in s after)) (answered r is) a))
+
+      pub realloc_kept : {X E : Type 0} (r : Result X E) → is_err r ≡ false → (id n : ℕ) (way : Way) → Reallocates (heap_in t bytes) id n way (is_ok r) (heap_in s after) → IsKept s free
+      realloc_kept r is id n way a = same_free kept range bytes after inside long (reallocated_same id n way (subst (λ b. Reallocates (heap_in t bytes) id n way b (heap_in s after)) (answered r is) a))
 
       pub compact_kept : (n answer : ℕ) → MakesRoom (heap_in t bytes) n answer (heap_in s after) → IsKept s free
       compact_kept n answer a = same_free kept range bytes after inside long (compacted_same n answer a)
-
-      pub discard_kept : (id : ℕ) → after_discard (heap_in t bytes) id ≡ Ok (heap_in s after) → IsKept s free
-      discard_kept id e = same_free kept range bytes after inside long (discarded (heap_in t bytes) (heap_in s after) id e)
-
-      pub free_kept : (id : ℕ) → IsSome (object_at (heap_in t bytes) id) → after_free (heap_in t bytes) id ≡ Ok (heap_in s after) → IsKept s (set free id 1)
-      free_kept id some e = turn (object_at (heap_in t bytes) id) refl some
-        where
-          turn : (p : Option Object) → object_at (heap_in t bytes) id ≡ p → IsSome p → IsKept s (set free id 1)
-          turn None there h = absurd (false≢true h)
-          turn (Some o) there h =
-              let gone : removed (heap_in t bytes) id ≡ heap_in s after = free_gone (heap_in t bytes) id o there (heap_in s after) e in
-              set_free kept range bytes after inside long id false (entry_lt id some) (ap (λ (h : Heap). is_some (object_at h id)) (sym gone) ∙ removed_here (heap_in t bytes) id)
-              (λ q d. ap (λ (h : Heap). is_some (object_at h q)) (sym gone) ∙ removed_others (heap_in t bytes) id q d)
 
 -- What an act leaves, in words of the heap's value.
 module _ {t v : Table} (shown : t ≡ v) (bytes : List ℕ) where
   pub may_shown : (act : Act) → MayActOver act v bytes → MayActOver act t bytes
   may_shown act may = subst (λ (t : Table). MayActOver act t bytes) (sym shown) may
 
-  module _ (act : Act) (answer : ℕ) (s : Table) (after : List ℕ) (range : IsSameRange t s) (outside : IsSameOutside t.lo t.hi bytes after) where
-    pub acted : Done act (heap_in t bytes) answer (heap_in s after) → Acted act v bytes answer s after
-    acted done = subst (λ (t : Table). Acted act t bytes answer s after) shown (record { range = range; outside = outside; act_is = inr done })
+  module _ (s : Table) (after : List ℕ) (range : IsSameRange t s) (outside : IsSameOutside t.lo t.hi bytes after) where
+    acted : (act : Act) (answer : ℕ) → Done act (heap_in t bytes) answer (heap_in s after) → Acted act v bytes answer s after
+    acted act answer done = subst (λ (t : Table). Acted act t bytes answer s after) shown (record { range = range; outside = outside; act_is = inr done })
 
-    -- a refused request has left all as it was
-    pub idle : (told : Heap → Type 0) → ((h : Heap) → told h → h ≡ heap_in t bytes → Idle act (heap_in t bytes) answer) → told (heap_in s after) → s ≡ t → after ≡ bytes → Acted act v bytes answer s after
-    idle told turn is same still = subst (λ (t : Table). Acted act t bytes answer s after) shown (record { range = range; outside = outside; act_is = inl (turn (heap_in s after) is (λ i. heap_in (same i) (still i)), same, still) })
+    idle : (act : Act) (answer : ℕ) → Idle act (heap_in t bytes) answer → s ≡ t → after ≡ bytes → Acted act v bytes answer s after
+    idle act answer is same still = subst (λ (t : Table). Acted act t bytes answer s after) shown (record { range = range; outside = outside; act_is = inl (is, same, still) })
 
--- a result that isn't an error is answered, and one that is, isn't
-pub answered : {X E : Type 0} (r : Result X E) → is_err r ≡ false → is_ok r ≡ true
-answered (Ok x) e = refl
-answered (Err x) e = absurd (false≢true (sym e))
+    -- Requests that are refused.
+    module _ {X E : Type 0} (r : Result X E) (is : is_err r ≡ true) (same : s ≡ t) (still : after ≡ bytes) where
+      again : heap_in s after ≡ heap_in t bytes
+      again i = heap_in (same i) (still i)
 
-pub refused : {X E : Type 0} (r : Result X E) → is_err r ≡ true → is_ok r ≡ false
-refused (Ok x) e = absurd (false≢true e)
-refused (Err x) e = refl
+      pub alloc_idle : (id n : ℕ) (kind : Kind) (way : Way) → Allocates (heap_in t bytes) id n kind 0 way (is_ok r) (heap_in s after) → Acted (Alloc id n kind way) v bytes 0 s after
+      alloc_idle id n kind way a = idle (Alloc id n kind way) 0 (subst (Allocates (heap_in t bytes) id n kind 0 way false) again (subst (λ b. Allocates (heap_in t bytes) id n kind 0 way b (heap_in s after)) (refused r is) a), refl) same still
 
-pub on_err : {X E : Type 0} (r : Result X E) (P : Type 0) → is_err r ≡ true → OnErr r P → P
-on_err (Ok x) P e h = absurd (false≢true e)
-on_err (Err x) P e h = h
+      pub realloc_idle : (id n : ℕ) (way : Way) → Reallocates (heap_in t bytes) id n way (is_ok r) (heap_in s after) → Acted (Realloc id n way) v bytes 0 s after
+      realloc_idle id n way a = idle (Realloc id n way) 0 (subst (Reallocates (heap_in t bytes) id n way false) again (subst (λ b. Reallocates (heap_in t bytes) id n way b (heap_in s after)) (refused r is) a), refl) same still
 
-pub if_ok : {X E : Type 0} (r : Result X E) (P : X → Type 0) → is_err r ≡ false → IfOk r P → (x : X) × P x
-if_ok (Ok x) P e h = (x, h)
-if_ok (Err x) P e h = absurd (false≢true (sym e))
+    -- Requests that are answered: the object has the name that is looked up, for it stands somewhere.
+    module _ {E : Type 0} (r : Result Placed E) (is : is_err r ≡ false) (heap : IsHeap (heap_in s after)) (id n : ℕ) (placed : IfOk r (λ p. IsPlaced (heap_in t bytes) id n p (heap_in s after))) (name : Option ℕ) (named : name_at (heap_in s after) id ≡ name) where
+      its_name : name_at (heap_in s after) id ≡ Some (unwrap_or name 0)
+      its_name = let p = if_ok r (λ p. IsPlaced (heap_in t bytes) id n p (heap_in s after)) is placed in named_placed (heap_in s after) heap id p.0.at p.1.place name named
+
+      pub alloc_done : (kind : Kind) (way : Way) → Allocates (heap_in t bytes) id n kind 0 way (is_ok r) (heap_in s after) → Acted (Alloc id n kind way) v bytes (unwrap_or name 0) s after
+      alloc_done kind way a = acted (Alloc id n kind way) (unwrap_or name 0) (subst (λ b. Allocates (heap_in t bytes) id n kind 0 way b (heap_in s after)) (answered r is) a, its_name)
+
+      pub realloc_done : (way : Way) → Reallocates (heap_in t bytes) id n way (is_ok r) (heap_in s after) → Acted (Realloc id n way) v bytes (unwrap_or name 0) s after
+      realloc_done way a = acted (Realloc id n way) (unwrap_or name 0) (subst (λ b. Reallocates (heap_in t bytes) id n way b (heap_in s after)) (answered r is) a, its_name)
+
+  -- an object gives up its bytes, or goes; those of each other are the same
+  module _ (s : Table) (after : List ℕ) (range : IsSameRange t s) (outside : IsSameOutside s.lo s.hi bytes after) (same : contents after s.blocks ≡ contents bytes s.blocks) where
+    kept_outside : IsSameOutside t.lo t.hi bytes after
+    kept_outside = subst (λ (p : ℕ × ℕ). IsSameOutside p.0 p.1 bytes after) (λ i. (range.lo i, range.hi i)) outside
+
+    pub discard_done : (id : ℕ) → after_discard (heap_in t bytes) id ≡ Ok (heap_in s bytes) → Acted (Discard id) v bytes 0 s after
+    discard_done id e = acted s after range kept_outside (Discard id) 0 (e ∙ ap Ok (sym (heap_kept bytes after s same)))
+
+    pub free_done : (id : ℕ) → after_free (heap_in t bytes) id ≡ Ok (heap_in s bytes) → Acted (Free id) v bytes 0 s after
+    free_done id e = acted s after range kept_outside (Free id) 0 (e ∙ ap Ok (sym (heap_kept bytes after s same)))

@@ -47,6 +47,10 @@ module _ {X : Type 0} (table : X → Table) (xs : List (Option X)) {tables : Fin
   same_tables (Ok done) e = tt
   same_tables (Err refusal) e = tables_stepped ∙ ap (finmap.insert tables slot) e ∙ insert_nothing tables slot (table h) (here table xs shown slot known d h value)
 
+-- what holds of a slot's table
+pub holds_in : (P : Table → Type 0) {m : Option Table} {t : Table} → m ≡ Some t → IsSomeAnd m P → P t
+holds_in P e h = subst (λ (m : Option Table). IsSomeAnd m P) e h
+
 -- a slot of which something holds has a table
 pub known_in : (m : Option Table) (P : Table → Type 0) → IsSomeAnd m P → IsSome m
 known_in None P h = absurd h
@@ -106,6 +110,13 @@ none_calls handles tables ds name otherwise so none rest = subst (λ o. MatchOpt
 pub lock_none : (handles : Handles) (tables : FinMap nat_cmp Table) (ds name : ℕ) → object_named (alone handles tables ds) name ≡ None → Calls handles tables ds (LocalLock name) 0 handles tables
 lock_none handles tables ds name = none_calls handles tables ds name 0 (λ old o. Leaves old o.heap (after_lock (heap_of o.heap) o.id) (λ _. near_pointer (heap_of o.heap) o.id) (lock_refused (near_pointer (heap_of o.heap) o.id)) 0 old)
 
+-- locks are left where there was more than one
+more_than_one : (n : ℕ) → nat_lt 0 (n - 1) ≡ nat_lt 1 n
+more_than_one n = elim (cases_lt 1 n) [
+  | inl more ↦ lt-ltb 0 (n - 1) (omega (arith, more)) ∙ sym (lt-ltb 1 n more)
+  | inr not ↦ le-ltb 0 (n - 1) (omega (arith, not)) ∙ sym (le-ltb 1 n (omega (arith, not)))
+]
+
 -- LocalUnlock leaves one lock less.
 module _ (a b : Heap) (id : ℕ) where
   unlocked : after_unlock a id ≡ Ok b → locks_at b id ≡ locks_at a id - 1
@@ -126,12 +137,6 @@ module _ (a b : Heap) (id : ℕ) where
           let is : a ≡ b = cc in
           ap (λ (h : Heap). locks_at h id) (sym is) ∙ ap (λ (p : Option Object). unwrap_or (option_map (λ (o : Object). o.locks) p) 0) there
       turn (Some o) there e = by_kind o (is_fixed o.kind) e
-
-  more_than_one : (n : ℕ) → nat_lt 0 (n - 1) ≡ nat_lt 1 n
-  more_than_one n = elim (cases_lt 1 n) [
-    | inl more ↦ lt-ltb 0 (n - 1) (omega (arith, more)) ∙ sym (lt-ltb 1 n more)
-    | inr not ↦ le-ltb 0 (n - 1) (omega (arith, not)) ∙ sym (le-ltb 1 n (omega (arith, not)))
-  ]
 
 -- LocalUnlock
 pub unlock_calls : {handles : Handles} {tables : FinMap nat_cmp Table} {ds name slot : ℕ} {t : Table} {id : ℕ} (n : IsNamed handles tables ds name slot t id) (locks : ℕ) → locks_at (heap_in t n.heap.bytes) id ≡ locks

@@ -112,7 +112,9 @@ impl LocalHeaps {
         if slot as usize >= self.heaps.len() {
             return None;
         }
-        let held = self.heaps[slot as usize].as_ref()?;
+        let Some(held) = self.heaps[slot as usize].as_ref() else {
+            return None;
+        };
         Some(held.as_ref())
     }
 }
