@@ -1,5 +1,5 @@
 -- An act in the object of a slot, as a call's step.
-use Rattle.std.proofs.Common.{◌≡◌, ◌≢◌, ℕ, ◌<◌, ◌≤◌, ◌⊎◌, inl, inr, true, false, IsSome, List, length, get_or, set, All, Option, Some, None, option_map, refl, sym, ap, ◌∙◌, subst, arith}
+use Rattle.std.proofs.Common.{◌≡◌, ◌≢◌, ℕ, ◌<◌, ◌≤◌, ◌⊎◌, inl, inr, true, false, IsSome, IsSomeAnd, List, length, get_or, set, All, Option, Some, None, option_map, refl, sym, ap, ◌∙◌, subst, arith}
 use Rattle.std.specs.FinMap as finmap
 use Rattle.std.specs.Ordering.{nat_cmp}
 use Rattle.std.specs.FinMap.{FinMap}
@@ -9,10 +9,11 @@ use Rattle.w16_model.specs.Handles.{Handles}
 use Rattle.w16_model.specs.Heap.{Heap, Object, bytes_at, object_at}
 use Rattle.w16_model.specs.Table.{Table, IsSameOutside, heap_in}
 use Rattle.w16_arena.specs.State.{IsSameRange}
+use Rattle.w16_global.specs.Lent.{Lends}
 use Rattle.w16_machine.specs.Local.{LocalHeap, LocalWorld, Acts, IsLocalTable}
 use Rattle.w16_machine.proofs.LocalFacts.{object_of, put_all}
 use Rattle.w16_local.specs.declared.acts.Act.{Act}
-use Rattle.w16_local.specs.Acts.{Acted, ActedIn, Done, Idle, MayAct, MayActIn}
+use Rattle.w16_local.specs.Acts.{Acted, ActedIn, Done, Idle, MayAct, MayActIn, MayActOver}
 use Rattle.w16_local.specs.Parts.{IsIn, with_parts}
 use Rattle.w16_local.proofs.Locals.{insert_nothing}
 
@@ -31,6 +32,19 @@ same_write heap slot bytes had = λ i. record heap { objects = objects i }
 
     objects : (after_write heap slot 0 bytes).objects ≡ heap.objects
     objects = ap (λ p. elim p as (λ _. FinMap nat_cmp Object) [ Some o ↦ finmap.insert heap.objects slot (over o) | None ↦ heap.objects ]) o.1 ∙ ap (finmap.insert heap.objects slot) same ∙ insert_nothing heap.objects slot o.0 o.1
+
+-- what may be done to the bytes of a slot's object
+pub may_lent : {handles : Handles} {tables : FinMap nat_cmp Table} {slot : ℕ} {act : Act} (may : MayActIn handles tables slot act) (t : Table) → finmap.get tables slot ≡ Some t → IsSomeAnd (bytes_at handles.heap slot) (λ bytes. MayActOver act t bytes)
+may_lent {handles} {tables} {slot} {act} may t is =
+    let both : ◌≡◌ {A = Option Table} (Some may.table) (Some t) = sym may.was ∙ is in
+    let same : may.table ≡ t = cc in
+    subst (λ (b : Option (List ℕ)). IsSomeAnd b (λ bytes. MayActOver act t bytes)) (sym may.had) (subst (λ (t : Table). MayActOver act t may.bytes) same may.may)
+
+-- and what was done there
+pub acted_in : {handles : Handles} {tables : FinMap nat_cmp Table} {slot : ℕ} {act : Act} {answer : ℕ} (t s : Table) → finmap.get tables slot ≡ Some t → IsLocalTable s
+    → (lent : Lends handles.heap slot (λ bytes after. Acted act t bytes answer s after)) (next : Handles) → next ≡ record handles { heap = after_write handles.heap slot 0 lent.after }
+    → (new : FinMap nat_cmp Table) → new ≡ finmap.insert tables slot s → ActedIn handles tables slot act answer next new
+acted_in t s was is_local lent next next_is new new_is = record { before = t; bytes = lent.bytes; was = was; had = lent.had; table = s; after = lent.after; is_local = is_local; long = lent.long; are_bytes = lent.are_bytes; acted = lent.does; rest = (new_is, next_is) }
 
 -- what may be done in the heap that DS names
 pub may_in : {handles : Handles} {tables : FinMap nat_cmp Table} {ds slot : ℕ} {t : Table} (is : IsIn handles tables ds slot t) (act : Act) → MayAct act (heap_in t is.bytes) → MayActIn handles tables slot act

@@ -6,3 +6,5 @@ pub mod OneHeap
 pub mod OneAct
 pub mod Stepping
 pub mod Acting
+pub mod Calling
+pub mod Beginning

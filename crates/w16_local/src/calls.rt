@@ -73,7 +73,10 @@ impl LocalHeaps {
             };
             return self.act(global, slot, act);
         }
-        if !has_flag(flags, LMEM_MOVEABLE) || !may_discard(heap, id) {
+        if !has_flag(flags, LMEM_MOVEABLE) {
+            return 0;
+        }
+        if !may_discard(heap, id) {
             return 0;
         }
         self.act(global, slot, Act::Discard { id });

@@ -71,7 +71,9 @@ impl LocalHeap {
     /// Says that it is a local heap, as each is. It has no effect.
     pub fn is_local(&self)
         ensures { IsLocalTable self.now }
-    {}
+    {
+        let _arena = &self.arena;
+    }
 
     /// The lowest free entry.
     pub fn lowest_free(&self) -> Option<u32>
