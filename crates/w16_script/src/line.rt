@@ -1,7 +1,7 @@
 //! Lines of a script.
 ghost use Rattle.std.specs.Prelude.{◌≡◌, ◌≤◌, ◌<◌, ◌∷◌, ℕ, List, length, IfSome, IfNone, Option, Some};
 ghost use Rattle.w16_script.specs.Words.{words_of};
-ghost use Rattle.w16_machine.specs.Machine.{Command};
+ghost use Rattle.w16_machine.specs.LocalMachine.{Command};
 ghost use Rattle.w16_kernel.specs.Runs.{command_of, IsCall};
 ghost use Rattle.w16_script.specs.Grammar.{Reads, GoesTo, Makes, text_of, parameters_of, command_with};
 ghost use Rattle.w16_script.specs.Values.{values_of, AreFit};
@@ -70,6 +70,33 @@ fn build<'a>(name: Name, a: &[Argument<'a>]) -> Call<'a>
             pointer: dword(a, 0),
             count: count(a, 1),
             byte: byte(a, 2),
+        },
+        Name::LocalInit => Call::LocalInit {
+            selector: word(a, 0),
+            start: word(a, 1),
+            end: dword(a, 2),
+        },
+        Name::LocalAlloc => Call::LocalAlloc {
+            flags: word(a, 0),
+            size: word(a, 1),
+        },
+        Name::LocalReAlloc => Call::LocalReAlloc {
+            name: word(a, 0),
+            size: word(a, 1),
+            flags: word(a, 2),
+        },
+        Name::LocalDiscard => Call::LocalDiscard { name: word(a, 0) },
+        Name::LocalFree => Call::LocalFree { name: word(a, 0) },
+        Name::LocalLock => Call::LocalLock { name: word(a, 0) },
+        Name::LocalUnlock => Call::LocalUnlock { name: word(a, 0) },
+        Name::LocalSize => Call::LocalSize { name: word(a, 0) },
+        Name::LocalFlags => Call::LocalFlags { name: word(a, 0) },
+        Name::LocalHandle => Call::LocalHandle {
+            pointer: word(a, 0),
+        },
+        Name::LocalCompact => Call::LocalCompact { size: word(a, 0) },
+        Name::DS => Call::DS {
+            selector: word(a, 0),
         },
     }
 }

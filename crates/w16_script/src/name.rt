@@ -27,6 +27,18 @@ pub enum Name {
     Read,
     Write,
     Fill,
+    LocalInit,
+    LocalAlloc,
+    LocalReAlloc,
+    LocalDiscard,
+    LocalFree,
+    LocalLock,
+    LocalUnlock,
+    LocalSize,
+    LocalFlags,
+    LocalHandle,
+    LocalCompact,
+    DS,
 }
 
 /// Whether a word is this text.
@@ -43,6 +55,7 @@ pub fn find(word: &[u8]) -> Option<(Name, &'static [Parameter])>
     ensures none { IfNone result ((name : _) → word.now ≡ text_of name → ⊥) }
 {
     match word.len() {
+        2 if is(word, b"DS") => Some((Name::DS, &[Word])),
         4 => match word {
             _ if is(word, b"Walk") => Some((Name::Walk, &[])),
             _ if is(word, b"Read") => Some((Name::Read, &[Dword, Count(MOST_READ as u32)])),
@@ -54,20 +67,34 @@ pub fn find(word: &[u8]) -> Option<(Name, &'static [Parameter])>
             _ if is(word, b"Write") => Some((Name::Write, &[Dword, Bytes])),
             _ => None,
         },
+        9 => match word {
+            _ if is(word, b"LocalInit") => Some((Name::LocalInit, &[Word, Word, Dword])),
+            _ if is(word, b"LocalFree") => Some((Name::LocalFree, &[Word])),
+            _ if is(word, b"LocalLock") => Some((Name::LocalLock, &[Word])),
+            _ if is(word, b"LocalSize") => Some((Name::LocalSize, &[Word])),
+            _ => None,
+        },
         10 => match word {
             _ if is(word, b"GlobalFree") => Some((Name::GlobalFree, &[Word])),
             _ if is(word, b"GlobalLock") => Some((Name::GlobalLock, &[Word])),
             _ if is(word, b"GlobalSize") => Some((Name::GlobalSize, &[Word])),
+            _ if is(word, b"LocalAlloc") => Some((Name::LocalAlloc, &[Word, Word])),
+            _ if is(word, b"LocalFlags") => Some((Name::LocalFlags, &[Word])),
             _ => None,
         },
         11 => match word {
             _ if is(word, b"GlobalAlloc") => Some((Name::GlobalAlloc, &[Word, Dword])),
             _ if is(word, b"GlobalFlags") => Some((Name::GlobalFlags, &[Word])),
+            _ if is(word, b"LocalUnlock") => Some((Name::LocalUnlock, &[Word])),
+            _ if is(word, b"LocalHandle") => Some((Name::LocalHandle, &[Word])),
             _ => None,
         },
         12 => match word {
             _ if is(word, b"GlobalUnlock") => Some((Name::GlobalUnlock, &[Word])),
             _ if is(word, b"GlobalHandle") => Some((Name::GlobalHandle, &[Word])),
+            _ if is(word, b"LocalReAlloc") => Some((Name::LocalReAlloc, &[Word, Word, Word])),
+            _ if is(word, b"LocalDiscard") => Some((Name::LocalDiscard, &[Word])),
+            _ if is(word, b"LocalCompact") => Some((Name::LocalCompact, &[Word])),
             _ => None,
         },
         13 => match word {
