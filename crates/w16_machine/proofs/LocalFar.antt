@@ -9,7 +9,7 @@ use Rattle.w16_model.specs.declared.Entry.{Entry}
 use Rattle.w16_model.specs.declared.FarFault.{FarFault}
 use Rattle.w16_model.specs.Bytes.{part, put_part, repeated}
 use Rattle.w16_model.specs.Gap.{block_end}
-use Rattle.w16_model.specs.Heap.{Object, object_at, bytes_at}
+use Rattle.w16_model.specs.Heap.{Object, object_at}
 use Rattle.w16_model.specs.OneObject.{after_touch}
 use Rattle.w16_model.specs.Handles.{Handles, selector_in, offset_in}
 use Rattle.w16_model.specs.Far.{FarCommand, FarAnswer, FarStep, far_fault, far_slot, far_bytes, far_read, far_write, after_write}
@@ -24,19 +24,14 @@ use Rattle.w16_model.proofs.Laid.{laid_each}
 use Rattle.w16_model.proofs.Parts.{length-put_part}
 use Rattle.w16_model.proofs.Tables.{object_is, member_with, length_range}
 use Rattle.w16_machine.specs.Machine.{far_answer_in}
-use Rattle.w16_machine.specs.Local.{LocalWorld, LocalHeap, IsLocalIn, segment_bytes, heap_of}
+use Rattle.w16_machine.specs.Local.{LocalWorld, LocalHeap, IsLocalWorld, IsLocalIn, segment_bytes, heap_of}
+use Rattle.w16_machine.specs.LocalMachine.{beside}
 use Rattle.w16_machine.specs.LocalLaw.{HasSameObjects, FarLaw, but_bytes}
+use Rattle.w16_machine.specs.LocalStays.{HasSameSizes, size_at}
 use Rattle.w16_machine.proofs.LocalFacts.{IsThere, local_there, local_here}
 use Rattle.w16_machine.proofs.LocalWorlds.{IsLocalAt, left_over, left_is}
 
 -- How many bytes there are.
-
-abbrev size_at : Handles → ℕ → Option ℕ
-size_at handles q = option_map length (bytes_at handles.heap q)
-
--- each object has as many as before
-abbrev HasSameSizes : Handles → Handles → Type 0
-HasSameSizes old new = (q : ℕ) → size_at new q ≡ size_at old q
 
 abbrev SameAfter : Handles → FarAnswer × Handles → Type 0
 SameAfter old outcome = HasSameSizes old outcome.1
@@ -107,9 +102,15 @@ left_same (Some t) (Some before) (Some after) h e =
     let same : length after ≡ length before = cc in
     ap (λ l. cond {A = Option Table} l (Some t) None) (le-leb t.hi (length after) (omega (arith, same, h.1)))
 
-far_reply : (old new : Handles) (command : FarCommand) (answer : Option FarAnswer) → IsSomeAnd answer (λ answer. FarStep old command answer new) → HasSameSizes old new
+pub far_reply : (old new : Handles) (command : FarCommand) (answer : Option FarAnswer) → IsSomeAnd answer (λ answer. FarStep old command answer new) → HasSameSizes old new
 far_reply old new command None h = absurd h
 far_reply old new command (Some answer) h = far_same old new command answer h
+
+-- so all are left where each object has as many
+pub tables_stay : (old new : LocalWorld) → IsLocalWorld old → new ≡ beside old new.world → HasSameSizes old.world.handles new.world.handles → new.tables ≡ old.tables
+tables_stay old new is rest sizes = same_map nat_cmp_total nat_cmp-IsAntisymmetric new.tables old.tables (λ slot.
+    ap (λ (w : LocalWorld). finmap.get w.tables slot) rest ∙ left_is new.world.handles.heap old.tables slot
+    ∙ left_same (finmap.get old.tables slot) (segment_bytes old slot) (segment_bytes new slot) (is.locals slot) (sizes slot))
 
 pub local_far_law : FarLaw
 local_far_law old new command reply is known step = (
@@ -126,9 +127,7 @@ local_far_law old new command reply is known step = (
     sizes = far_reply old.world.handles new.world.handles command (far_answer_in reply) step.0.0
 
     same_tables : new.tables ≡ old.tables
-    same_tables = same_map nat_cmp_total nat_cmp-IsAntisymmetric new.tables old.tables (λ slot.
-        ap (λ (w : LocalWorld). finmap.get w.tables slot) step.1 ∙ left_is new.world.handles.heap old.tables slot
-        ∙ left_same (finmap.get old.tables slot) (segment_bytes old slot) (segment_bytes new slot) (is.locals slot) (sizes slot))
+    same_tables = tables_stay old new is step.1 sizes
 
     same_table : (at after : LocalHeap) → IsThere old at → IsThere new after → after.slot ≡ at.slot → after.table ≡ at.table
     same_table at after was now e = let some : ◌≡◌ {A = Option Table} (Some after.table) (Some at.table) = sym now.table ∙ ap (λ m. finmap.get m after.slot) same_tables ∙ ap (finmap.get old.tables) e ∙ was.table in cc

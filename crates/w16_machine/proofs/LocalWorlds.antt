@@ -55,7 +55,8 @@ left_is heap tables slot =
     turn (Some t) None = refl
     turn (Some t) (Some bytes) = refl
 
-machine_world : (old new : LocalWorld) → IsLocalWorld old → IsWorld new.world → new ≡ beside old new.world → IsLocalWorld new
+-- a step of another family
+pub machine_world : (old new : LocalWorld) → IsLocalWorld old → IsWorld new.world → new ≡ beside old new.world → IsLocalWorld new
 machine_world old new is world rest = subst IsLocalWorld (sym rest) (record { world = world; locals = λ slot. subst (λ t. IsLocalAt t (bytes_at new.world.handles.heap slot)) (sym (left_is new.world.handles.heap old.tables slot)) (turn (finmap.get old.tables slot) (segment_bytes old slot) (bytes_at new.world.handles.heap slot) (is.locals slot)) })
   where
     inside : (t : Table) (before after : List ℕ) → IsLocalIn t before → (b : Bool) → nat_le t.hi (length after) ≡ b → IsLocalAt (cond b (Some t) None) (Some after)

@@ -9,3 +9,5 @@ pub mod LocalCalls
 pub mod LocalMachine
 pub mod LocalLaw
 pub mod LocalFewest
+pub mod LocalRuns
+pub mod LocalStays

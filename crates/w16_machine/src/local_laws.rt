@@ -1,6 +1,8 @@
 //! The laws of local heaps. Each function does nothing: its contract is the law.
 ghost use Rattle.w16_machine.specs.LocalLaw.{AreFigures, AreFlags, BeginLaw, EmptyLaw, FarLaw, FrameLaw, GoesLaw, GoneLaw, NamedLaw, NamesLaw, NeverBackLaw, NewHeapLaw, OthersLaw, OutcomeLaw, RunLaw, WorldLaw};
 ghost use Rattle.w16_machine.specs.LocalFewest.{AllocLaw, CompactLaw, ReallocLaw};
+ghost use Rattle.w16_machine.specs.LocalRuns.{FewestLaw};
+ghost use Rattle.w16_machine.specs.LocalStays.{SizesLaw, TablesLaw};
 
 /// The figures of local heaps and the flags of the Local calls are these numbers.
 pub fn figures_of_local_heaps()
@@ -62,4 +64,17 @@ pub fn local_calls_discard_fewest()
     ensures alloc { AllocLaw }
     ensures realloc { ReallocLaw }
     ensures compact { CompactLaw }
+{}
+
+/// In every run of the machine with local heaps each call for room discards as few objects as it can, of the global heap or of a local one,
+/// and is refused for room only where no discards would have made it.
+pub fn local_runs_discard_fewest()
+    ensures { FewestLaw }
+{}
+
+/// GlobalAlloc, GlobalFree, GlobalReAlloc, GlobalDiscard and GlobalCompact alone may take bytes of an object: a step of any other command
+/// leaves each as many, and each local heap its table.
+pub fn other_steps_keep_local_heaps()
+    ensures sizes { SizesLaw }
+    ensures tables { TablesLaw }
 {}

@@ -3,8 +3,8 @@ ghost use Rattle.w16_kernel.specs.Runs.{IsCall};
 
 use crate::hosts::{Broken, Endless, Short};
 use crate::rows::{
-    LIFE, LIFE_OUTPUT, Row, of_bytes, of_compaction, of_lines, of_memory, of_objects, of_order,
-    of_questions, of_reallocation, of_registers,
+    LIFE, LIFE_OUTPUT, Row, of_bytes, of_compaction, of_lines, of_local_heaps, of_memory,
+    of_objects, of_order, of_questions, of_reallocation, of_registers,
 };
 use arrayvec::ArrayVec;
 use std::alloc::{AllocError, Global};
@@ -103,6 +103,14 @@ fn the_order_is_answered_for(rt: HostRuntime) -> Result<(), Fail> {
 #[test]
 fn reallocation_is_answered_for(rt: HostRuntime) -> Result<(), Fail> {
     for row in of_reallocation() {
+        expect_answered(&rt, &row)?;
+    }
+    Ok(())
+}
+
+#[test]
+fn local_heaps_are_answered_for(rt: HostRuntime) -> Result<(), Fail> {
+    for row in of_local_heaps() {
         expect_answered(&rt, &row)?;
     }
     Ok(())

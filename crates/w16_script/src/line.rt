@@ -1,7 +1,7 @@
 //! Lines of a script.
 ghost use Rattle.std.specs.Prelude.{◌≡◌, ◌≤◌, ◌<◌, ◌∷◌, ℕ, List, length, IfSome, IfNone, Option, Some};
 ghost use Rattle.w16_script.specs.Words.{words_of};
-ghost use Rattle.w16_machine.specs.Machine.{Command};
+ghost use Rattle.w16_machine.specs.LocalMachine.{Command};
 ghost use Rattle.w16_kernel.specs.Runs.{command_of, IsCall};
 ghost use Rattle.w16_script.specs.Grammar.{Reads, GoesTo, Makes, text_of};
 ghost use Rattle.w16_script.specs.Lines.{said_of, IsRunnable};
@@ -137,6 +137,58 @@ fn call<'a>(
                 count: count.number,
                 byte,
             })
+        }
+        Name::LocalInit => {
+            let (selector, start, end) = three::<u16, u16, u32>(text, registers)?;
+            Some(Call::LocalInit {
+                selector,
+                start,
+                end,
+            })
+        }
+        Name::LocalAlloc => {
+            let (flags, size) = two::<u16, u16>(text, registers)?;
+            Some(Call::LocalAlloc { flags, size })
+        }
+        Name::LocalReAlloc => {
+            let (name, size, flags) = three::<u16, u16, u16>(text, registers)?;
+            Some(Call::LocalReAlloc { name, size, flags })
+        }
+        Name::LocalDiscard => {
+            let name = one::<u16>(text, registers)?;
+            Some(Call::LocalDiscard { name })
+        }
+        Name::LocalFree => {
+            let name = one::<u16>(text, registers)?;
+            Some(Call::LocalFree { name })
+        }
+        Name::LocalLock => {
+            let name = one::<u16>(text, registers)?;
+            Some(Call::LocalLock { name })
+        }
+        Name::LocalUnlock => {
+            let name = one::<u16>(text, registers)?;
+            Some(Call::LocalUnlock { name })
+        }
+        Name::LocalSize => {
+            let name = one::<u16>(text, registers)?;
+            Some(Call::LocalSize { name })
+        }
+        Name::LocalFlags => {
+            let name = one::<u16>(text, registers)?;
+            Some(Call::LocalFlags { name })
+        }
+        Name::LocalHandle => {
+            let pointer = one::<u16>(text, registers)?;
+            Some(Call::LocalHandle { pointer })
+        }
+        Name::LocalCompact => {
+            let size = one::<u16>(text, registers)?;
+            Some(Call::LocalCompact { size })
+        }
+        Name::DS => {
+            let selector = one::<u16>(text, registers)?;
+            Some(Call::DS { selector })
         }
     }
 }

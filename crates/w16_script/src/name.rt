@@ -24,6 +24,18 @@ pub enum Name {
     Read,
     Write,
     Fill,
+    LocalInit,
+    LocalAlloc,
+    LocalReAlloc,
+    LocalDiscard,
+    LocalFree,
+    LocalLock,
+    LocalUnlock,
+    LocalSize,
+    LocalFlags,
+    LocalHandle,
+    LocalCompact,
+    DS,
 }
 
 /// Whether a word is this text.
@@ -57,6 +69,18 @@ fn spelling(name: Name) -> &'static [u8]
         Name::Read => b"Read",
         Name::Write => b"Write",
         Name::Fill => b"Fill",
+        Name::LocalInit => b"LocalInit",
+        Name::LocalAlloc => b"LocalAlloc",
+        Name::LocalReAlloc => b"LocalReAlloc",
+        Name::LocalDiscard => b"LocalDiscard",
+        Name::LocalFree => b"LocalFree",
+        Name::LocalLock => b"LocalLock",
+        Name::LocalUnlock => b"LocalUnlock",
+        Name::LocalSize => b"LocalSize",
+        Name::LocalFlags => b"LocalFlags",
+        Name::LocalHandle => b"LocalHandle",
+        Name::LocalCompact => b"LocalCompact",
+        Name::DS => b"DS",
     }
 }
 
@@ -66,6 +90,7 @@ fn guess(word: &[u8]) -> Option<Name>
     ensures none { IfNone result ((name : Name) → word.now ≡ text_of name → ⊥) }
 {
     match word.len() {
+        2 => Some(Name::DS),
         4 => match word[0] {
             b'W' => Some(Name::Walk),
             b'R' => Some(Name::Read),
@@ -77,20 +102,34 @@ fn guess(word: &[u8]) -> Option<Name>
             b'W' => Some(Name::Write),
             _ => None,
         },
-        10 => match word[6] {
-            b'F' => Some(Name::GlobalFree),
-            b'L' => Some(Name::GlobalLock),
-            b'S' => Some(Name::GlobalSize),
+        9 => match word[5] {
+            b'I' => Some(Name::LocalInit),
+            b'F' => Some(Name::LocalFree),
+            b'L' => Some(Name::LocalLock),
+            b'S' => Some(Name::LocalSize),
             _ => None,
         },
-        11 => match word[6] {
-            b'A' => Some(Name::GlobalAlloc),
-            b'F' => Some(Name::GlobalFlags),
+        10 => match word[7] {
+            b'r' => Some(Name::GlobalFree),
+            b'o' => Some(Name::GlobalLock),
+            b'i' => Some(Name::GlobalSize),
+            b'l' => Some(Name::LocalAlloc),
+            b'a' => Some(Name::LocalFlags),
             _ => None,
         },
-        12 => match word[6] {
-            b'U' => Some(Name::GlobalUnlock),
-            b'H' => Some(Name::GlobalHandle),
+        11 => match word[8] {
+            b'l' => Some(Name::GlobalAlloc),
+            b'a' => Some(Name::GlobalFlags),
+            b'o' => Some(Name::LocalUnlock),
+            b'd' => Some(Name::LocalHandle),
+            _ => None,
+        },
+        12 => match word[11] {
+            b'k' => Some(Name::GlobalUnlock),
+            b'e' => Some(Name::GlobalHandle),
+            b'c' => Some(Name::LocalReAlloc),
+            b'd' => Some(Name::LocalDiscard),
+            b't' => Some(Name::LocalCompact),
             _ => None,
         },
         13 => match word[6] {

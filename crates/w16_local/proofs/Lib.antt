@@ -1,0 +1,4 @@
+pub mod Locals
+pub mod Looks
+pub mod Choices
+pub mod Stepping

@@ -1,0 +1,4 @@
+pub mod Codes
+pub mod Kept
+pub mod Parts
+pub mod Steps
