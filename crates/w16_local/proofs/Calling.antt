@@ -1,5 +1,5 @@
 -- The calls that act in a local heap.
-use Rattle.std.proofs.Common.{◌≡◌, ◌≢◌, ℕ, ◌+◌, ◌*◌, ◌<◌, ◌≤◌, ◌⊎◌, ◌==◌, ◌&&◌, inl, inr, Bool, true, false, MatchBool, MatchOption, OnErr, IsSome, IsSomeAnd, if◌then◌else◌, List, length, Option, Some, None, Result, Ok, Err, is_ok, is_some, refl, sym, ap, ◌∙◌, subst, arith, eq-eqb, ne_eqb}
+use Rattle.std.proofs.Common.{◌≡◌, ◌≢◌, ℕ, ◌+◌, ◌*◌, ◌/◌, ◌<◌, ◌≤◌, ◌⊎◌, ◌==◌, ◌&&◌, inl, inr, Bool, true, false, MatchBool, MatchOption, OnErr, IsSome, IsSomeAnd, if◌then◌else◌, List, length, Option, Some, None, Result, Ok, Err, is_ok, is_some, refl, sym, ap, ◌∙◌, subst, arith, eq-eqb, ne_eqb}
 use Rattle.std.specs.FinMap as finmap
 use Rattle.std.specs.Ordering.{nat_cmp}
 use Rattle.std.specs.FinMap.{FinMap}
@@ -7,12 +7,13 @@ use Rattle.std.proofs.lemmas.Bool.{cases_lt, false≢true}
 use Rattle.w16_model.specs.declared.Kind.{Kind}
 use Rattle.w16_model.specs.declared.Kind.TheVariants.{Discardable, Fixed, Moveable}
 use Rattle.w16_model.specs.declared.Refusal.{Refusal}
+use Rattle.w16_model.specs.declared.Way.{Way}
 use Rattle.w16_model.specs.Calls.{has_flag}
 use Rattle.w16_model.specs.Changes.{with_newest, with_object}
 use Rattle.w16_model.specs.Handles.{Handles}
 use Rattle.w16_model.specs.Heap.{Heap, Object, is_fixed, object_at}
 use Rattle.w16_model.specs.OneObject.{Enters, after_discard, after_free, after_modify}
-use Rattle.w16_model.specs.Request.{Allocates, IsNew, Reallocates, prefix_of}
+use Rattle.w16_model.specs.Request.{Allocates, IsNew, MakesRoom, Reallocates, most_room, prefix_of}
 use Rattle.w16_model.specs.Table.{Table, entry_at, heap_in, object_in}
 use Rattle.w16_model.proofs.KeptHeaps.{inserted_here}
 use Rattle.w16_model.proofs.Tables.{object_is}
@@ -20,11 +21,12 @@ use Rattle.w16_model.proofs.Prefixes.{none_about}
 use Rattle.w16_model.proofs.Reallocations.{not_asked}
 use Rattle.w16_machine.specs.declared.local.TheConstants.{LMEM_DISCARDABLE, LMEM_MODIFY, LMEM_MOVEABLE}
 use Rattle.w16_machine.specs.Local.{LocalHeap, LocalObject, LocalWorld, Acts, Becomes, IsFreeEntry, IsLowestFree, Stays, chosen, heap_of, name_at, name_of, object_named, rounded_up}
-use Rattle.w16_machine.specs.LocalCalls.{AllocatesIn, AllocatesObject, DiscardsObject, EntersObject, GivesUp, IsRefusedAlloc, Leaves, MakesObject, ModifiesObject, ResizesObject, SizesObject, is_absent_asked, local_kind, local_way, moveable_or_discardable}
-use Rattle.w16_machine.specs.LocalCalls.LocalCommand.{LocalAlloc, LocalFree, LocalReAlloc}
+use Rattle.w16_machine.specs.LocalCalls.{AllocatesIn, AllocatesObject, CompactsIn, DiscardsObject, EntersObject, GivesUp, IsRefusedAlloc, Leaves, MakesObject, ModifiesObject, ResizesObject, SizesObject, is_absent_asked, local_kind, local_way, moveable_or_discardable}
+use Rattle.w16_machine.specs.LocalCalls.LocalCommand.{LocalAlloc, LocalCompact, LocalFree, LocalReAlloc}
 use Rattle.w16_machine.proofs.LocalNames.{names_law}
+use Rattle.w16_local.specs.declared.acts.Act.{Act}
 use Rattle.w16_local.specs.declared.acts.Act.TheVariants.{Alloc, Compact, Discard, Free, Realloc}
-use Rattle.w16_local.specs.Acts.{ActedIn, Done, Idle}
+use Rattle.w16_local.specs.Acts.{ActedIn, Done, Idle, IsSize}
 use Rattle.w16_local.specs.Kept.{IsFull, IsLowest}
 use Rattle.w16_local.specs.Parts.{Calls, IsIn, IsNamed, alone, with_parts}
 use Rattle.w16_local.specs.Steps.{Stepped, answer_of, outcome}
@@ -84,7 +86,7 @@ module _ {handles : Handles} {tables : FinMap nat_cmp Table} {ds name slot : ℕ
         → Calls handles tables ds (LocalReAlloc name size flags) name handles new
     modify_calls f r new s same rest = on_named n rest 0 name (with_parts rest handles new ds) (Case (with_parts rest handles tables ds) name (with_parts rest handles new ds))
         (subst (λ b. MatchBool b (ModifiesObject (with_parts rest handles tables ds) name flags name (with_parts rest handles new ds) named_object) (Sizes (with_parts rest handles tables ds) name (with_parts rest handles new ds) named_object)) (sym f)
-            (leaves n rest (λ h. after_modify h id (moveable_or_discardable flags)) r new s same (λ _. name) (λ _. name) name (told r)))
+        (leaves n rest (λ h. after_modify h id (moveable_or_discardable flags)) r new s same (λ _. name) (λ _. name) name (told r)))
       where
         told : {X : Type 0} (r : Result X Refusal) → name ≡ answer_of r name (λ _. name)
         told (Ok x) = refl
@@ -126,6 +128,17 @@ module _ {handles : Handles} {tables : FinMap nat_cmp Table} {ds name slot : ℕ
 
       pub discard_unasked : has_flag flags LMEM_MOVEABLE ≡ false → Calls handles tables ds (LocalReAlloc name size flags) 0 handles tables
       discard_unasked m = asked_to f 0 handles tables none false m (λ rest. (refl, refl))
+
+-- an act with these numbers
+pub alloc_as : {handles next : Handles} {tables new : FinMap nat_cmp Table} {slot answer id : ℕ} {n m : ℕ} {kind other : Kind} {way way' : Way} → n ≡ m → kind ≡ other → way ≡ way' → ActedIn handles tables slot (Alloc id n kind way) answer next new → ActedIn handles tables slot (Alloc id m other way') answer next new
+alloc_as {handles} {next} {tables} {new} {slot} {answer} {id} e f g a = subst (λ (act : Act). ActedIn handles tables slot act answer next new) (λ i. Alloc id (e i) (f i) (g i)) a
+
+pub realloc_as : {handles next : Handles} {tables new : FinMap nat_cmp Table} {slot answer id : ℕ} {n m : ℕ} {way way' : Way} → n ≡ m → way ≡ way' → ActedIn handles tables slot (Realloc id n way) answer next new → ActedIn handles tables slot (Realloc id m way') answer next new
+realloc_as {handles} {next} {tables} {new} {slot} {answer} {id} e g a = subst (λ (act : Act). ActedIn handles tables slot act answer next new) (λ i. Realloc id (e i) (g i)) a
+
+-- a size in whole grains may be asked for
+pub rounded_size : (size n : ℕ) → n ≡ rounded_up size → 0 < size → IsSize n
+rounded_size size n is some = (omega (arith, is, some), ((size + 3) / 4, is))
 
 -- LocalAlloc
 module _ {handles : Handles} {tables : FinMap nat_cmp Table} {ds slot : ℕ} {t : Table} (is : IsIn handles tables ds slot t) where
@@ -171,10 +184,13 @@ module _ {handles : Handles} {tables : FinMap nat_cmp Table} {ds slot : ℕ} {t 
       pub alloc_calls : 0 < size → {answer : ℕ} {next : Handles} {new : FinMap nat_cmp Table} → ActedIn handles tables slot (Alloc id (rounded_up size) (local_kind flags) (local_way flags)) answer next new → Calls handles tables ds (LocalAlloc flags size) answer next new
       alloc_calls some {answer} {next} {new} a = alloc_in answer next new (λ rest. elim (acting.outcome is a rest) [
         | inl same ↦ inl (inr (inr (some, room same.0.0)), (same.0.1, same.1))
-        | inr acts ↦ inr (id, is_lowest,
-            subst (λ b. MatchBool b ((h : Heap) × EntersObject heap flags id answer h × Becomes (with_parts rest handles tables ds) here h (with_parts rest next new ds)) (Acts (with_parts rest handles tables ds) here (AllocatesObject heap flags size id answer) (with_parts rest next new ds)))
-            (sym (ap (λ b. b && has_flag flags LMEM_MOVEABLE) (ne_eqb size 0 (λ e. absurd (omega (arith, e, some))))))
-            (acts_as (AllocatesObject heap flags size id answer) acts (record { allocated = acts.acted.0; named = acts.acted.1 })))
+        | inr acts ↦ inr (
+          id,
+          is_lowest,
+          subst (λ b. MatchBool b ((h : Heap) × EntersObject heap flags id answer h × Becomes (with_parts rest handles tables ds) here h (with_parts rest next new ds)) (Acts (with_parts rest handles tables ds) here (AllocatesObject heap flags size id answer) (with_parts rest next new ds)))
+              (sym (ap (λ b. b && has_flag flags LMEM_MOVEABLE) (ne_eqb size 0 (λ e. absurd (omega (arith, e, some))))))
+              (acts_as (AllocatesObject heap flags size id answer) acts (record { allocated = acts.acted.0; named = acts.acted.1 })),
+        )
       ])
         where
           room : Allocates heap id (rounded_up size) (local_kind flags) 0 (local_way flags) false heap → prefix_of heap (rounded_up size) None (local_way flags) ≡ None
@@ -225,10 +241,13 @@ module _ {handles : Handles} {tables : FinMap nat_cmp Table} {ds slot : ℕ} {t 
           }
 
           pub enter_calls : Calls handles tables ds (LocalAlloc flags size) (4 * id + 2) handles new
-          enter_calls = alloc_in (4 * id + 2) handles new (λ rest. inr (id, is_lowest,
-              subst (λ b. MatchBool b ((h : Heap) × EntersObject heap flags id (4 * id + 2) h × Becomes (with_parts rest handles tables ds) here h (with_parts rest handles new ds)) (Acts (with_parts rest handles tables ds) here (AllocatesObject heap flags size id (4 * id + 2)) (with_parts rest handles new ds)))
-              (sym (ap (λ b. b && has_flag flags LMEM_MOVEABLE) (eq-eqb size 0 none) ∙ m))
-              (made, record { entered = record { unused = no_object id lowest.free; entered = entered ∙ ap (λ (k : Kind). with_object heap id (record { kind = k; locks = 0; bytes = None })) kind_is }; named = named }, becomes rest)))
+          enter_calls = alloc_in (4 * id + 2) handles new (λ rest. inr (
+            id,
+            is_lowest,
+            subst (λ b. MatchBool b ((h : Heap) × EntersObject heap flags id (4 * id + 2) h × Becomes (with_parts rest handles tables ds) here h (with_parts rest handles new ds)) (Acts (with_parts rest handles tables ds) here (AllocatesObject heap flags size id (4 * id + 2)) (with_parts rest handles new ds)))
+                (sym (ap (λ b. b && has_flag flags LMEM_MOVEABLE) (eq-eqb size 0 none) ∙ m))
+                (made, record { entered = record { unused = no_object id lowest.free; entered = entered ∙ ap (λ (k : Kind). with_object heap id (record { kind = k; locks = 0; bytes = None })) kind_is }; named = named }, becomes rest),
+          ))
 
 -- where DS names no heap
 pub alloc_none : (handles : Handles) (tables : FinMap nat_cmp Table) (ds flags size : ℕ) → chosen (alone handles tables ds) ≡ None → Calls handles tables ds (LocalAlloc flags size) 0 handles tables
@@ -240,3 +259,18 @@ free_none handles tables ds name = none_calls handles tables ds name name (λ ol
 
 pub realloc_none : (handles : Handles) (tables : FinMap nat_cmp Table) (ds name size flags : ℕ) → object_named (alone handles tables ds) name ≡ None → Calls handles tables ds (LocalReAlloc name size flags) 0 handles tables
 realloc_none handles tables ds name size flags = none_calls handles tables ds name 0 (λ old o. MatchBool (has_flag flags LMEM_MODIFY) (ModifiesObject old name flags 0 old o) (MatchBool (size == 0) (DiscardsObject old name flags 0 old o) (SizesObject old size flags 0 old o)))
+
+-- LocalCompact
+pub compact_calls : {handles : Handles} {tables : FinMap nat_cmp Table} {ds slot : ℕ} {t : Table} (is : IsIn handles tables ds slot t) (size : ℕ) {answer : ℕ} {next : Handles} {new : FinMap nat_cmp Table} → ActedIn handles tables slot (Compact size) answer next new
+    → Calls handles tables ds (LocalCompact size) answer next new
+compact_calls {handles} {tables} {ds} {slot} {t} is size {answer} {next} {new} a rest =
+    subst (λ (c : Option LocalHeap). MatchOption c (Stays (with_parts rest handles tables ds) 0 answer (with_parts rest next new ds)) (CompactsIn (with_parts rest handles tables ds) size answer (with_parts rest next new ds))) (sym is.is_chosen)
+    (elim (acting.outcome is a rest) [
+      | inl same ↦ subst (λ b. MatchBool b (Stays (with_parts rest handles tables ds) (most_room (heap_in t is.bytes)) answer (with_parts rest next new ds)) (Acts (with_parts rest handles tables ds) (record { slot = slot; table = t; bytes = is.bytes }) (MakesRoom (heap_in t is.bytes) size answer) (with_parts rest next new ds)))
+          (sym (eq-eqb size 0 same.0.0)) (same.0.1, same.1)
+      | inr acts ↦ subst (λ b. MatchBool b (Stays (with_parts rest handles tables ds) (most_room (heap_in t is.bytes)) answer (with_parts rest next new ds)) (Acts (with_parts rest handles tables ds) (record { slot = slot; table = t; bytes = is.bytes }) (MakesRoom (heap_in t is.bytes) size answer) (with_parts rest next new ds)))
+          (sym (ne_eqb size 0 (λ e. absurd (let some = acts.acted.0 in omega (arith, e, some))))) (acts_as (MakesRoom (heap_in t is.bytes) size answer) acts acts.acted.1)
+    ])
+
+pub compact_none : (handles : Handles) (tables : FinMap nat_cmp Table) (ds size : ℕ) → chosen (alone handles tables ds) ≡ None → Calls handles tables ds (LocalCompact size) 0 handles tables
+compact_none handles tables ds size none rest = subst (λ (c : Option LocalHeap). MatchOption c (Stays (with_parts rest handles tables ds) 0 0 (with_parts rest handles tables ds)) (CompactsIn (with_parts rest handles tables ds) size 0 (with_parts rest handles tables ds))) (sym none) (refl, refl)

@@ -1,6 +1,7 @@
 -- What a local heap's table tells of its heap: names, near pointers, sizes.
-use Rattle.std.proofs.Common.{◌≡◌, ◌≢◌, ℕ, ◌+◌, ◌*◌, ◌/◌, ◌%◌, ◌<◌, ◌≤◌, ◌⊎◌, inl, inr, zero, suc, ◌==◌, nat_lt, is_ok, Result, Ok, Err, Bool, true, false, not, cond, if◌then◌else◌, IfSome, is_some, List, length, slice_range, Option, Some, None, option_map, unwrap_or, refl, sym, ap, ◌∙◌, subst, arith}
+use Rattle.std.proofs.Common.{◌≡◌, ◌≢◌, ℕ, ◌+◌, ◌*◌, ◌/◌, ◌%◌, ◌<◌, ◌≤◌, ◌⊎◌, inl, inr, ◌==◌, nat_lt, lt-ltb, le-ltb, ne_eqb, eq-eqb, is_ok, Result, Ok, Err, Bool, true, false, not, cond, if◌then◌else◌, IfSome, is_some, List, length, slice_range, Option, Some, None, option_map, unwrap_or, refl, sym, ap, ◌∙◌, subst, arith}
 use Rattle.std.specs.FinMap as finmap
+use Rattle.std.proofs.lemmas.Bool.{cases_lt}
 use Rattle.w16_model.specs.declared.Block.{Block}
 use Rattle.w16_model.specs.declared.Entry.{Entry}
 use Rattle.w16_model.specs.declared.Refusal.{Refusal}
@@ -183,8 +184,10 @@ module _ {t : Table} {bytes : List ℕ} (over : IsOver t bytes) where
   free_told id e is = ap (λ (p : Option Object). is_ok (elim p as (λ _. Result Heap Refusal) [ None ↦ Ok (heap_in t bytes) | Some o ↦ cond (nat_lt 0 o.locks) (Err refusals.Locked) (Ok (removed (heap_in t bytes) id)) ])) (object_in_entry id e is) ∙ by_entry e
     where
       by_locks : (n : ℕ) → is_ok (cond {A = Result Heap Refusal} (nat_lt 0 n) (Err refusals.Locked) (Ok (removed (heap_in t bytes) id))) ≡ (n == 0)
-      by_locks zero = refl
-      by_locks (suc n) = refl
+      by_locks n = elim (cases_lt 0 n) [
+        | inl some ↦ ap (λ b. is_ok (cond {A = Result Heap Refusal} b (Err refusals.Locked) (Ok (removed (heap_in t bytes) id)))) (lt-ltb 0 n some) ∙ sym (ne_eqb n 0 (λ e. absurd (omega (arith, e, some))))
+        | inr none ↦ ap (λ b. is_ok (cond {A = Result Heap Refusal} b (Err refusals.Locked) (Ok (removed (heap_in t bytes) id)))) (le-ltb 0 n none) ∙ sym (eq-eqb n 0 (omega (arith, none)))
+      ]
 
       by_entry : (e : Option Entry) → is_ok (elim (option_map (object_in t.blocks bytes id) e) as (λ _. Result Heap Refusal) [ None ↦ Ok (heap_in t bytes) | Some o ↦ cond (nat_lt 0 o.locks) (Err refusals.Locked) (Ok (removed (heap_in t bytes) id)) ])
           ≡ (elim e [ None ↦ true | Some e ↦ e.locks == 0 ])

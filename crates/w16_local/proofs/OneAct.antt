@@ -1,7 +1,7 @@
 -- One act on one local heap over bytes.
-use Rattle.std.proofs.Common.{◌≡◌, ◌≢◌, ℕ, ◌+◌, ◌*◌, ◌<◌, ◌≤◌, ◌==◌, inl, inr, Bool, true, false, MatchBool, if◌then◌else◌, IfErr, IfOk, IsOk, IsSome, IsSomeAnd, OnErr, is_err, List, [], ◌∷◌, length, zero, suc, get_or, set, All, Option, Some, None, option_map, unwrap_or, is_ok, is_some, Result, Ok, Err, refl, sym, ap, ◌∙◌, subst, arith, eq-eqb, ne_eqb}
+use Rattle.std.proofs.Common.{◌≡◌, ◌≢◌, ℕ, ◌+◌, ◌*◌, ◌<◌, ◌≤◌, ◌⊎◌, ◌==◌, inl, inr, Bool, true, false, MatchBool, if◌then◌else◌, IfErr, IfOk, IsOk, IsSome, IsSomeAnd, OnErr, is_err, List, [], ◌∷◌, length, zero, suc, get_or, set, All, Option, Some, None, option_map, unwrap_or, is_ok, is_some, Result, Ok, Err, refl, sym, ap, ◌∙◌, subst, arith, eq-eqb, ne_eqb}
 use Rattle.std.specs.FinMap as finmap
-use Rattle.std.proofs.lemmas.Bool.{cases_eq, false≢true}
+use Rattle.std.proofs.lemmas.Bool.{cases_eq, cases_lt, false≢true}
 use Rattle.w16_model.specs.declared.Block.{Block}
 use Rattle.w16_model.specs.declared.Kind.{Kind}
 use Rattle.w16_model.specs.declared.Refusal.{Refusal}
@@ -10,8 +10,10 @@ use Rattle.w16_model.specs.Changes.{removed, with_newest}
 use Rattle.w16_model.specs.Heap.{Heap, Object, IsHeap, IsMultiple, bytes_at, object_at, is_fixed}
 use Rattle.w16_model.specs.OneObject.{after_discard, after_free}
 use Rattle.w16_model.specs.Reallocation.{KeepsRest}
-use Rattle.w16_model.specs.Request.{Allocates, Compacts, IsNew, MakesRoom, Reallocates, compaction_prefix, most_room, prefix_of}
-use Rattle.w16_model.specs.Table.{Table, IsSameOutside, block_with, entry_at, heap_in}
+use Rattle.w16_model.specs.Arrangement.{IsLongestStretch}
+use Rattle.w16_model.specs.Fewest.{CompactsFewest, IsMostAfter, MakesMost}
+use Rattle.w16_model.specs.Request.{Allocates, Compacts, eligible_count, IsNew, MakesRoom, Reallocates, compaction_prefix, most_room, prefix_of}
+use Rattle.w16_model.specs.Table.{Table, IsSameOutside, IsSound, block_with, entry_at, heap_in}
 use Rattle.w16_model.proofs.KeptRest.{rest_law}
 use Rattle.w16_model.proofs.Others.{others_law}
 use Rattle.w16_model.proofs.Reallocations.{asked}
@@ -30,6 +32,7 @@ use Rattle.w16_local.specs.declared.acts.Act.TheVariants.{Alloc, Compact, Discar
 use Rattle.w16_local.specs.Acts.{Acted, Done, Idle, IsSize, MayAct, MayActOver}
 use Rattle.w16_local.specs.Kept.{IsKept}
 use Rattle.w16_local.specs.Parts.{IsOver}
+use Rattle.w16_local.proofs.Alike.{same_table}
 use Rattle.w16_local.proofs.Entries.{HasOthers, HasSame, discarded, free_gone, is_local, kept_others, mapped, removed_here, removed_others, same_free, set_free}
 
 -- an object that stands somewhere has a name
@@ -73,6 +76,24 @@ on_err (Err x) P e h = h
 pub if_ok : {X E : Type 0} (r : Result X E) (P : X → Type 0) → is_err r ≡ false → IfOk r P → (x : X) × P x
 if_ok (Ok x) P e h = (x, h)
 if_ok (Err x) P e h = absurd (false≢true (sym e))
+
+-- a compaction for 0 bytes, or for some
+pub compacted : (n answer : ℕ) (old new : Heap) → Compacts old n answer new → ((n ≡ 0) × (answer ≡ most_room old) × (new ≡ old)) ⊎ ((0 < n) × MakesRoom old n answer new)
+compacted n answer old new c = elim (cases_lt 0 n) [
+  | inl some ↦ inr (some, subst (λ b. MatchBool b ((answer ≡ most_room old) × (new ≡ old)) (MakesRoom old n answer new)) (ne_eqb n 0 (λ e. absurd (omega (arith, e, some)))) c)
+  | inr none ↦ let zero : n ≡ 0 = omega (arith, none) in let idle : (answer ≡ most_room old) × (new ≡ old) = subst (λ b. MatchBool b ((answer ≡ most_room old) × (new ≡ old)) (MakesRoom old n answer new)) (eq-eqb n 0 zero) c in inl (zero, idle.0, idle.1)
+]
+
+-- what it answers lies in the range
+longest_bound : (lo hi : ℕ) (xs : List Block) (n : ℕ) → IsLongestStretch lo hi xs n → 0 < n → lo + n ≤ hi
+longest_bound lo hi xs n is some = let s = is.one_as_long some in let above = s.4.clear.above in let below = s.4.clear.below in let long = s.5 in omega (arith, above, below, long)
+
+pub compact_bound : (old new : Heap) (n answer : ℕ) → CompactsFewest old n answer new → 0 < answer → old.lo + answer ≤ old.hi
+compact_bound old new n answer = turn (n == 0)
+  where
+    turn : (b : Bool) → MatchBool b (IsMostAfter old (eligible_count old) answer × (new ≡ old)) (MakesMost old n answer new) → 0 < answer → old.lo + answer ≤ old.hi
+    turn true c some = longest_bound old.lo old.hi _ answer c.0 some
+    turn false c some = longest_bound old.lo old.hi _ answer c.most some
 
 -- The heap before.
 module _ {t : Table} {free : List ℕ} (kept : IsKept t free) (bytes : List ℕ) (inside : t.hi ≤ length bytes) where
@@ -169,8 +190,11 @@ module _ {t : Table} {free : List ℕ} (kept : IsKept t free) (bytes : List ℕ)
       pub realloc_kept : {X E : Type 0} (r : Result X E) → is_err r ≡ false → (id n : ℕ) (way : Way) → Reallocates (heap_in t bytes) id n way (is_ok r) (heap_in s after) → IsKept s free
       realloc_kept r is id n way a = same_free kept range bytes after inside long (reallocated_same id n way (subst (λ b. Reallocates (heap_in t bytes) id n way b (heap_in s after)) (answered r is) a))
 
-      pub compact_kept : (n answer : ℕ) → MakesRoom (heap_in t bytes) n answer (heap_in s after) → IsKept s free
-      compact_kept n answer a = same_free kept range bytes after inside long (compacted_same n answer a)
+      pub compact_kept : (n answer : ℕ) → Compacts (heap_in t bytes) n answer (heap_in s after) → IsKept s free
+      compact_kept n answer c = same_free kept range bytes after inside long (elim (compacted n answer (heap_in t bytes) (heap_in s after) c) [
+        | inl idle ↦ (λ q. ap (λ (h : Heap). is_some (object_at h q)) idle.2)
+        | inr roomed ↦ compacted_same n answer roomed.1
+      ])
 
 -- What an act leaves, in words of the heap's value.
 module _ {t v : Table} (shown : t ≡ v) (bytes : List ℕ) where
@@ -205,6 +229,13 @@ module _ {t v : Table} (shown : t ≡ v) (bytes : List ℕ) where
 
       pub realloc_done : (way : Way) → Reallocates (heap_in t bytes) id n way (is_ok r) (heap_in s after) → Acted (Realloc id n way) v bytes (unwrap_or name 0) s after
       realloc_done way a = acted (Realloc id n way) (unwrap_or name 0) (subst (λ b. Reallocates (heap_in t bytes) id n way b (heap_in s after)) (answered r is) a, its_name)
+
+    -- A compaction; for 0 bytes the table is the same, as the heap is.
+    pub compact_acted : IsSound t → t.hi ≤ length bytes → (n answer : ℕ) → Compacts (heap_in t bytes) n answer (heap_in s after) → (n ≡ 0 → after ≡ bytes) → Acted (Compact n) v bytes answer s after
+    compact_acted sound inside n answer c still = elim (compacted n answer (heap_in t bytes) (heap_in s after) c) [
+      | inl same ↦ idle (Compact n) answer (same.0, same.1) (same_table t s sound range bytes inside (ap (heap_in s) (sym (still same.0)) ∙ same.2)) (still same.0)
+      | inr roomed ↦ acted (Compact n) answer (roomed.0, roomed.1)
+    ]
 
   -- an object gives up its bytes, or goes; those of each other are the same
   module _ (s : Table) (after : List ℕ) (range : IsSameRange t s) (outside : IsSameOutside s.lo s.hi bytes after) (same : contents after s.blocks ≡ contents bytes s.blocks) where

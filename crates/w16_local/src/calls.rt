@@ -25,7 +25,11 @@ impl LocalHeaps {
             return 0;
         };
         if size == 0 {
-            return self.enter(slot, id, flags);
+            if !has_flag(flags, LMEM_MOVEABLE) {
+                return 0;
+            }
+            let _ = self.step(slot, id, Step::Enter(moveable_or_discardable(flags)));
+            return (4 * id + 2) as u16;
         }
         let act = Act::Alloc {
             id,
@@ -34,15 +38,6 @@ impl LocalHeaps {
             way: local_way(flags),
         };
         self.act(global, slot, act)
-    }
-
-    /// The same for no bytes.
-    fn enter(&mut self, slot: u16, id: u32, flags: u16) -> u16 {
-        if !has_flag(flags, LMEM_MOVEABLE) {
-            return 0;
-        }
-        let _ = self.step(slot, id, Step::Enter(moveable_or_discardable(flags)));
-        (4 * id + 2) as u16
     }
 
     /// `LocalReAlloc`: an object gets another size, rounded up to 4 bytes; its first bytes stay. It answers the object's name, which a fixed

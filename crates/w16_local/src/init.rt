@@ -60,7 +60,7 @@ impl LocalHeaps {
         let Some(segment) = global.segment(selector_or(ds, selector)) else {
             return None;
         };
-        if self.kept(segment.slot).is_some() {
+        if let Some(_heap) = self.kept(segment.slot) {
             return None;
         }
         let Some(range) = range_in(segment.size, start, end) else {

@@ -36,12 +36,12 @@ returns-clause-acted g c =
     let over = over_after c.self.invariant bytes may.0 c.has_bytes.ensures rest.range after rest.memory.long c.has_bytes-2.ensures in
     subst (λ n. Acted (Alloc c.args.id c.args.size c.args.kind c.args.way) c.args.self.now bytes n c.alloc-placed.new.self.table after) (sym c.unwrap_or.ensures)
     (alloc_done c.self.view_is bytes c.alloc-placed.new.self.table after rest.range rest.memory.outside
-        c.alloc-placed.result is (heap_after c.self.invariant bytes may.0 c.has_bytes.ensures rest.range after rest.memory.long c.has_bytes-2.ensures) c.args.id c.args.size c.alloc-placed.ensures.placed c.name_at.result (c.name_at.ensures after over)
-        c.args.kind c.args.way c.alloc-placed.ensures.allocated)
+    c.alloc-placed.result is (heap_after c.self.invariant bytes may.0 c.has_bytes.ensures rest.range after rest.memory.long c.has_bytes-2.ensures) c.args.id c.args.size c.alloc-placed.ensures.placed c.name_at.result (c.name_at.ensures after over)
+    c.args.kind c.args.way c.alloc-placed.ensures.allocated)
 
 pub invariant_of-self-2 : goal.invariant_of-self-2
 invariant_of-self-2 g c =
     let may = may_shown c.self.view_is (g.S.Space.bytes c.args.space.now) (Alloc c.args.id c.args.size c.args.kind c.args.way) c.requires in
     subst (λ (free : List ℕ). IsKept c.alloc-placed.new.self.table free) (sym c.set.ensures)
     (alloc_kept c.self.invariant (g.S.Space.bytes c.args.space.now) may.0 c.has_bytes.ensures c.alloc-placed.ensures.rest.range (g.S.Space.bytes c.alloc-placed.new.space) c.alloc-placed.ensures.rest.memory.long
-        c.alloc-placed.result (sym c.is_err.ensures.value ∙ c.if-is_err.false) c.args.id c.args.size c.args.kind c.args.way may.1.0.0 c.alloc-placed.ensures.allocated c.alloc-placed.ensures.placed c.has_bytes-2.ensures)
+    c.alloc-placed.result (sym c.is_err.ensures.value ∙ c.if-is_err.false) c.args.id c.args.size c.args.kind c.args.way may.1.0.0 c.alloc-placed.ensures.allocated c.alloc-placed.ensures.placed c.has_bytes-2.ensures)

@@ -36,8 +36,8 @@ returns-clause-acted g c =
     let over = over_after c.self.invariant bytes may.0 c.has_bytes.ensures rest.range after rest.memory.long c.has_bytes-2.ensures in
     subst (λ n. Acted (Realloc c.args.id c.args.size c.args.way) c.args.self.now bytes n c.realloc-placed.new.self.table after) (sym c.unwrap_or.ensures)
     (realloc_done c.self.view_is bytes c.realloc-placed.new.self.table after rest.range rest.memory.outside
-        c.realloc-placed.result is (heap_after c.self.invariant bytes may.0 c.has_bytes.ensures rest.range after rest.memory.long c.has_bytes-2.ensures) c.args.id c.args.size c.realloc-placed.ensures.placed c.name_at.result (c.name_at.ensures after over)
-        c.args.way c.realloc-placed.ensures.reallocated)
+    c.realloc-placed.result is (heap_after c.self.invariant bytes may.0 c.has_bytes.ensures rest.range after rest.memory.long c.has_bytes-2.ensures) c.args.id c.args.size c.realloc-placed.ensures.placed c.name_at.result (c.name_at.ensures after over)
+    c.args.way c.realloc-placed.ensures.reallocated)
 
 pub invariant_of-self-2 : goal.invariant_of-self-2
 invariant_of-self-2 g c =
