@@ -1,8 +1,11 @@
-use Rattle.w16_local.proofs.Sweeping.{swept_all, swept_gone, swept_kept, swept_none}
+use Rattle.w16_local.proofs.Sweeping.{swept_all, swept_none}
 use Rattle.w16_local.proofs.sweep.sweep_listed.Goals as goal
 
 pub live-init : goal.live-init
 live-init c = ?
+
+pub look_at-requires : goal.look_at-requires
+look_at-requires c = ?
 
 pub live-preserved : goal.live-preserved
 live-preserved c = ?
