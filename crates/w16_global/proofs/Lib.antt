@@ -15,4 +15,3 @@ pub mod Walked
 pub mod Changing
 pub mod Reallocating
 pub mod Resizing
-pub mod Lent

@@ -6,7 +6,7 @@ ghost use Rattle.w16_script.specs.Words.{words_of, is_blank};
 fn blank(byte: u8) -> bool
     ensures { result ≡ is_blank byte }
 {
-    byte <= b' ' && (byte == b' ' || byte == b'\t')
+    byte == b' ' || byte == b'\t'
 }
 
 /// The text from its first byte on that is no blank.
