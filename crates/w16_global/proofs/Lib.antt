@@ -15,3 +15,4 @@ pub mod Walked
 pub mod Changing
 pub mod Reallocating
 pub mod Resizing
+pub mod Lent

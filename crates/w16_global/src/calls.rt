@@ -34,7 +34,7 @@ impl Global16 {
     }
 
     /// The slot of the object whose selector this is.
-    fn slot_of_selector(&self, selector: u16) -> Option<u16>
+    pub(crate) fn slot_of_selector(&self, selector: u16) -> Option<u16>
         ensures { result ≡ handles.slot_of_selector self.now.handles selector }
     {
         self.selectors.find(selector).map(|_| slot_of(selector))

@@ -11,8 +11,10 @@ ghost use Rattle.w16_model.specs.Bytes.{part, repeated};
 ghost use Rattle.w16_region.specs.Bytes.{counted};
 ghost use Rattle.w16_arena.specs.State.{entry_of};
 ghost use Rattle.w16_arena.specs.Asked.{HasDiscarded, HasDiscardedFor, IsStill, first_eligible};
+ghost use Rattle.w16_global.specs.Lent.{Lends};
 ghost use Rattle.w16_global.specs.Parts.{HasPart};
 
+use crate::lend::Work;
 use std::alloc::{AllocError, Global};
 use std::marker::Model;
 use w16_arena::{Arena, Compacted, Placed};
@@ -282,6 +284,20 @@ impl Objects {
             unreachable!();
         };
         self.memory.fill(block.at + at, n, byte);
+    }
+
+    /// Does a work on an object's bytes.
+    pub fn with_bytes<W: Work>(&mut self, id: u32, work: &W, state: &mut W::State) -> W::Answer
+        requires { IsSomeAnd (bytes_at self.old.heap id) (λ bytes. W.may work.now state.old bytes) }
+        ensures { (lent : Lends self.old.heap id (λ bytes after. W.does work.now state.old bytes result state.new after))
+            × (self.new ≡ record self.old { heap = after_write self.old.heap id 0 lent.after; written = counted self.old.written (length lent.bytes) }) }
+    {
+        let Some(block) = self.arena.block(id) else {
+            unreachable!();
+        };
+        let answer = work.work(state, self.memory.view_mut(block.at, block.size));
+        has_bytes(&self.memory);
+        answer
     }
 
     /// How many bytes of the memory were slid, filled or lent to be written so far.

@@ -1,9 +1,14 @@
 -- What a local heap's table tells of its heap: names, near pointers, sizes.
-use Rattle.std.proofs.Common.{◌≡◌, ◌≢◌, ℕ, ◌+◌, ◌*◌, ◌/◌, ◌%◌, ◌<◌, ◌≤◌, ◌⊎◌, inl, inr, Bool, true, false, not, cond, if◌then◌else◌, IfSome, is_some, List, length, slice_range, Option, Some, None, option_map, unwrap_or, refl, sym, ap, ◌∙◌, subst, arith}
+use Rattle.std.proofs.Common.{◌≡◌, ◌≢◌, ℕ, ◌+◌, ◌*◌, ◌/◌, ◌%◌, ◌<◌, ◌≤◌, ◌⊎◌, inl, inr, ◌==◌, nat_lt, lt-ltb, le-ltb, ne_eqb, eq-eqb, is_ok, Result, Ok, Err, Bool, true, false, not, cond, if◌then◌else◌, IfSome, is_some, List, length, slice_range, Option, Some, None, option_map, unwrap_or, refl, sym, ap, ◌∙◌, subst, arith}
 use Rattle.std.specs.FinMap as finmap
+use Rattle.std.proofs.lemmas.Bool.{cases_lt}
 use Rattle.w16_model.specs.declared.Block.{Block}
 use Rattle.w16_model.specs.declared.Entry.{Entry}
+use Rattle.w16_model.specs.declared.Refusal.{Refusal}
+use Rattle.w16_model.specs.declared.Refusal.TheVariants as refusals
 use Rattle.w16_model.specs.Calls.{locks_at}
+use Rattle.w16_model.specs.Changes.{absent, removed}
+use Rattle.w16_model.specs.OneObject.{after_discard, after_free}
 use Rattle.w16_model.specs.Gap.{block_end}
 use Rattle.w16_model.specs.Heap.{Heap, Object, IsHeap, object_at, bytes_at, is_fixed, is_discardable, IsMultiple}
 use Rattle.w16_model.specs.Table.{Table, block_with, entry_at, heap_in, object_in}
@@ -57,7 +62,7 @@ module _ {t : Table} {bytes : List ℕ} (over : IsOver t bytes) where
   parts : AreParts t.entries (record { cap = length t.entries; lo = t.lo; hi = t.hi; grain = t.grain; blocks = t.blocks }) t.order bytes
   parts = record { sound = over.is_local.sound; ids = refl; high = over.inside }
 
-  heap_is : IsHeap (heap_in t bytes)
+  pub heap_is : IsHeap (heap_in t bytes)
   heap_is = is_heap parts over.are_bytes
 
   -- a place is a block's
@@ -173,3 +178,33 @@ module _ {t : Table} {bytes : List ℕ} (over : IsOver t bytes) where
   pub flags_told : (id : ℕ) (e : Entry) → entry_at t id ≡ Some e → (d a : ℕ) → d ≡ (if is_discardable e.kind then LMEM_DISCARDABLE else 0) → a ≡ (if not (is_some (block_with t.blocks id)) then LMEM_DISCARDED else 0)
       → unwrap_or (option_map local_flags_of (object_at (heap_in t bytes) id)) 0 ≡ e.locks + d + a
   flags_told id e is d a d_is a_is = flags_in id (Some e) is ∙ (λ i. e.locks + sym d_is i + (absent_bit (block_with t.blocks id) ∙ sym a_is) i)
+
+  -- What may be freed or discarded.
+  pub free_told : (id : ℕ) (e : Option Entry) → entry_at t id ≡ e → is_ok (after_free (heap_in t bytes) id) ≡ (elim e [ None ↦ true | Some e ↦ e.locks == 0 ])
+  free_told id e is = ap (λ (p : Option Object). is_ok (elim p as (λ _. Result Heap Refusal) [ None ↦ Ok (heap_in t bytes) | Some o ↦ cond (nat_lt 0 o.locks) (Err refusals.Locked) (Ok (removed (heap_in t bytes) id)) ])) (object_in_entry id e is) ∙ by_entry e
+    where
+      by_locks : (n : ℕ) → is_ok (cond {A = Result Heap Refusal} (nat_lt 0 n) (Err refusals.Locked) (Ok (removed (heap_in t bytes) id))) ≡ (n == 0)
+      by_locks n = elim (cases_lt 0 n) [
+        | inl some ↦ ap (λ b. is_ok (cond {A = Result Heap Refusal} b (Err refusals.Locked) (Ok (removed (heap_in t bytes) id)))) (lt-ltb 0 n some) ∙ sym (ne_eqb n 0 (λ e. absurd (omega (arith, e, some))))
+        | inr none ↦ ap (λ b. is_ok (cond {A = Result Heap Refusal} b (Err refusals.Locked) (Ok (removed (heap_in t bytes) id)))) (le-ltb 0 n none) ∙ sym (eq-eqb n 0 (omega (arith, none)))
+      ]
+
+      by_entry : (e : Option Entry) → is_ok (elim (option_map (object_in t.blocks bytes id) e) as (λ _. Result Heap Refusal) [ None ↦ Ok (heap_in t bytes) | Some o ↦ cond (nat_lt 0 o.locks) (Err refusals.Locked) (Ok (removed (heap_in t bytes) id)) ])
+          ≡ (elim e [ None ↦ true | Some e ↦ e.locks == 0 ])
+      by_entry None = refl
+      by_entry (Some e) = by_locks e.locks
+
+  pub discard_told : (id : ℕ) (e : Option Entry) → entry_at t id ≡ e → is_ok (after_discard (heap_in t bytes) id) ≡ (elim e [ None ↦ false | Some e ↦ cond (nat_lt 0 e.locks) false (is_discardable e.kind) ])
+  discard_told id e is =
+      ap (λ (p : Option Object). is_ok (elim p as (λ _. Result Heap Refusal) [ None ↦ Err refusals.NotDiscardable | Some o ↦ cond (nat_lt 0 o.locks) (Err refusals.Locked) (cond (is_discardable o.kind) (Ok (absent (heap_in t bytes) id)) (Err refusals.NotDiscardable)) ])) (object_in_entry id e is)
+      ∙ by_entry e
+    where
+      by_kind : (b d : Bool) → is_ok (cond {A = Result Heap Refusal} b (Err refusals.Locked) (cond d (Ok (absent (heap_in t bytes) id)) (Err refusals.NotDiscardable))) ≡ cond b false d
+      by_kind true d = refl
+      by_kind false true = refl
+      by_kind false false = refl
+
+      by_entry : (e : Option Entry) → is_ok (elim (option_map (object_in t.blocks bytes id) e) as (λ _. Result Heap Refusal) [ None ↦ Err refusals.NotDiscardable | Some o ↦ cond (nat_lt 0 o.locks) (Err refusals.Locked) (cond (is_discardable o.kind) (Ok (absent (heap_in t bytes) id)) (Err refusals.NotDiscardable)) ])
+          ≡ (elim e [ None ↦ false | Some e ↦ cond (nat_lt 0 e.locks) false (is_discardable e.kind) ])
+      by_entry None = refl
+      by_entry (Some e) = by_kind (nat_lt 0 e.locks) (is_discardable e.kind)

@@ -1,5 +1,5 @@
 -- A step of one local heap that asks for no room: in the list of heaps, and as a call's.
-use Rattle.std.proofs.Common.{◌≡◌, inl, inr, lt-ltb, le-ltb, ℕ, ◌-◌, ◌<◌, ◌≤◌, Bool, true, false, nat_lt, if◌then◌else◌, IfErr, OnErr, OnOk, IsSome, List, length, get_or, set, MatchOption, Option, Some, None, option_map, unwrap_or, Result, Ok, Err, refl, sym, ap, ◌∙◌, subst, arith}
+use Rattle.std.proofs.Common.{◌≡◌, inl, inr, lt-ltb, le-ltb, ℕ, ◌-◌, ◌<◌, ◌≤◌, Bool, true, false, nat_lt, if◌then◌else◌, OnErr, IsSome, IsSomeAnd, List, length, get_or, set, MatchOption, Option, Some, None, option_map, unwrap_or, Result, Ok, Err, refl, sym, ap, ◌∙◌, subst, arith}
 use Rattle.std.specs.Ordering.{nat_cmp}
 use Rattle.std.specs.FinMap as finmap
 use Rattle.std.specs.FinMap.{FinMap}
@@ -16,56 +16,45 @@ use Rattle.std.proofs.lemmas.Bool.{cases_lt}
 use Rattle.w16_machine.specs.Local.{LocalHeap, LocalObject, LocalWorld, IsLocalTable, Becomes, Stays, heap_of, object_named}
 use Rattle.w16_machine.specs.LocalCalls.{Leaves, OnNamed, lock_refused, locks_left, near_pointer}
 use Rattle.w16_machine.specs.LocalCalls.LocalCommand.{LocalLock, LocalUnlock}
-use Rattle.w16_arena.specs.State.{ArenaState, Steps}
-use Rattle.w16_local.specs.Kept.{tables_of, AreKept}
+use Rattle.w16_local.specs.Kept.{tables_of, AreListed}
 use Rattle.w16_local.specs.Parts.{Calls, IsNamed, alone, with_parts}
-use Rattle.w16_local.specs.Steps.{Stepped, answer_of, outcome}
+use Rattle.w16_local.specs.Steps.{Stepped, Turns, answer_of, outcome}
 use Rattle.w16_local.proofs.Choices.{is_named}
-use Rattle.w16_local.proofs.Locals.{here, in_range, insert_nothing, kept_replaced, tables_replaced}
+use Rattle.w16_local.proofs.Locals.{default_any, here, in_range, insert_nothing, listed_replaced, tables_replaced}
 
--- what an arena tells of a step
-pub told : {X : Type 0} (a b : ArenaState) (after : Heap → Result Heap Refusal) (r : Result X Refusal) → OnOk r (Steps a b (λ x y. after x ≡ Ok y)) → IfErr r (λ e. (b ≡ a) × Steps a b (λ x y. after x ≡ Err e))
-    → Steps a b (λ x y. after x ≡ outcome r y)
-told a b after (Ok done) ok err = ok
-told a b after (Err e) ok err = err.1
+-- A heap is taken out of the list, takes a step, and is put back.
+module _ {X : Type 0} (table : X → Table) (xs : List (Option X)) {tables : FinMap nat_cmp Table} (shown : tables_of xs table ≡ tables) (slot : ℕ) (known : IsSome (finmap.get tables slot))
+    (d : Option X) (h : X) (value : get_or xs slot d ≡ Some h) (s : X) (gone : Option X) where
+  pub listed_stepped : (live : List ℕ) → AreListed xs live → AreListed (set (set xs slot gone) slot (Some s)) live
+  listed_stepped live listed = listed_replaced xs live slot h gone s (default_any xs slot None d (in_range table xs shown slot known) ∙ value) listed
 
-pub still : {X : Type 0} (a b : ArenaState) (P : Refusal → Type 0) (r : Result X Refusal) → IfErr r (λ e. (b ≡ a) × P e) → OnErr r (b ≡ a)
-still a b P (Ok done) err = tt
-still a b P (Err e) err = err.0
+  pub tables_stepped : tables_of (set (set xs slot gone) slot (Some s)) table ≡ finmap.insert tables slot (table s)
+  tables_stepped = tables_replaced table xs slot gone s (in_range table xs shown slot known) ∙ ap (λ m. finmap.insert m slot (table s)) shown
 
-module _ (xs : List (Option ArenaState)) (kept : AreKept xs) {tables : FinMap nat_cmp Table} (shown : tables_of xs ≡ tables) (slot : ℕ) (known : IsSome (finmap.get tables slot))
-    (d : Option ArenaState) (h : ArenaState) (value : get_or xs slot d ≡ Some h) (s : ArenaState) (gone : Option ArenaState) where
-  before : (finmap.get tables slot ≡ Some h.table) × IsLocalTable h.table
-  before = here xs kept shown slot known d h value
-
-  module _ {step : Heap → Heap → Type 0} (steps : Steps h s step) where
-    after : IsLocalTable s.table
-    after = record {
-      sound = steps.range.sound;
-      grain = steps.range.grain ∙ before.1.grain;
-      entries = steps.range.ids ∙ before.1.entries;
-      low = subst (λ n. 4 ≤ n) (sym steps.range.lo) before.1.low;
-      high = subst (λ n. n ≤ 65536) (sym steps.range.hi) before.1.high;
-    }
-
-    pub kept_stepped : AreKept (set (set xs slot gone) slot (Some s))
-    kept_stepped = kept_replaced xs slot gone s (in_range xs kept shown slot known) kept after
-
-    pub stepped : Stepped tables slot step (tables_of (set (set xs slot gone) slot (Some s)))
-    stepped = record {
-      before = h.table;
-      after = s.table;
-      was = before.0;
-      range = (steps.range.lo, steps.range.hi);
-      is_local = after;
-      heaps = steps.heaps;
-      rest = tables_replaced xs slot gone s (in_range xs kept shown slot known) ∙ ap (λ m. finmap.insert m slot s.table) shown;
-    }
+  pub stepped : {step : Heap → Heap → Type 0} → IsLocalTable (table s) → Turns (table h) (table s) step → Stepped tables slot step (tables_of (set (set xs slot gone) slot (Some s)) table)
+  stepped is_local turns = record {
+    before = table h;
+    after = table s;
+    was = here table xs shown slot known d h value;
+    range = (turns.range.lo, turns.range.hi);
+    is_local = is_local;
+    heaps = turns.heaps;
+    rest = tables_stepped;
+  }
 
   -- where the heap is as it was, so are the tables
-  pub same_tables : {X : Type 0} (r : Result X Refusal) → OnErr r (s ≡ h) → OnErr r (tables_of (set (set xs slot gone) slot (Some s)) ≡ tables)
+  pub same_tables : {Y : Type 0} (r : Result Y Refusal) → OnErr r (table s ≡ table h) → OnErr r (tables_of (set (set xs slot gone) slot (Some s)) table ≡ tables)
   same_tables (Ok done) e = tt
-  same_tables (Err refusal) e = tables_replaced xs slot gone s (in_range xs kept shown slot known) ∙ (λ i. finmap.insert (shown i) slot (e i).table) ∙ insert_nothing tables slot h.table before.0
+  same_tables (Err refusal) e = tables_stepped ∙ ap (finmap.insert tables slot) e ∙ insert_nothing tables slot (table h) (here table xs shown slot known d h value)
+
+-- what holds of a slot's table
+pub holds_in : (P : Table → Type 0) {m : Option Table} {t : Table} → m ≡ Some t → IsSomeAnd m P → P t
+holds_in P e h = subst (λ (m : Option Table). IsSomeAnd m P) e h
+
+-- a slot of which something holds has a table
+pub known_in : (m : Option Table) (P : Table → Type 0) → IsSomeAnd m P → IsSome m
+known_in None P h = absurd h
+known_in (Some t) P h = refl
 
 -- The calls.
 module _ {handles : Handles} {tables : FinMap nat_cmp Table} {ds name slot : ℕ} {t : Table} {id : ℕ} (n : IsNamed handles tables ds name slot t id) (rest : LocalWorld) where
@@ -121,6 +110,13 @@ none_calls handles tables ds name otherwise so none rest = subst (λ o. MatchOpt
 pub lock_none : (handles : Handles) (tables : FinMap nat_cmp Table) (ds name : ℕ) → object_named (alone handles tables ds) name ≡ None → Calls handles tables ds (LocalLock name) 0 handles tables
 lock_none handles tables ds name = none_calls handles tables ds name 0 (λ old o. Leaves old o.heap (after_lock (heap_of o.heap) o.id) (λ _. near_pointer (heap_of o.heap) o.id) (lock_refused (near_pointer (heap_of o.heap) o.id)) 0 old)
 
+-- locks are left where there was more than one
+more_than_one : (n : ℕ) → nat_lt 0 (n - 1) ≡ nat_lt 1 n
+more_than_one n = elim (cases_lt 1 n) [
+  | inl more ↦ lt-ltb 0 (n - 1) (omega (arith, more)) ∙ sym (lt-ltb 1 n more)
+  | inr not ↦ le-ltb 0 (n - 1) (omega (arith, not)) ∙ sym (le-ltb 1 n (omega (arith, not)))
+]
+
 -- LocalUnlock leaves one lock less.
 module _ (a b : Heap) (id : ℕ) where
   unlocked : after_unlock a id ≡ Ok b → locks_at b id ≡ locks_at a id - 1
@@ -141,12 +137,6 @@ module _ (a b : Heap) (id : ℕ) where
           let is : a ≡ b = cc in
           ap (λ (h : Heap). locks_at h id) (sym is) ∙ ap (λ (p : Option Object). unwrap_or (option_map (λ (o : Object). o.locks) p) 0) there
       turn (Some o) there e = by_kind o (is_fixed o.kind) e
-
-  more_than_one : (n : ℕ) → nat_lt 0 (n - 1) ≡ nat_lt 1 n
-  more_than_one n = elim (cases_lt 1 n) [
-    | inl more ↦ lt-ltb 0 (n - 1) (omega (arith, more)) ∙ sym (lt-ltb 1 n more)
-    | inr not ↦ le-ltb 0 (n - 1) (omega (arith, not)) ∙ sym (le-ltb 1 n (omega (arith, not)))
-  ]
 
 -- LocalUnlock
 pub unlock_calls : {handles : Handles} {tables : FinMap nat_cmp Table} {ds name slot : ℕ} {t : Table} {id : ℕ} (n : IsNamed handles tables ds name slot t id) (locks : ℕ) → locks_at (heap_in t n.heap.bytes) id ≡ locks

@@ -1,3 +1,4 @@
+pub mod Acts
 pub mod Codes
 pub mod Kept
 pub mod Parts

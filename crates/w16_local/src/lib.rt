@@ -8,11 +8,19 @@ ghost use Rattle.std.specs.FinMap as finmap;
 ghost use Rattle.w16_model.specs.Table.{Table};
 ghost use Rattle.w16_machine.specs.Local.{IsLocalTable};
 
+mod act;
+mod acts;
 mod asked;
+mod calls;
 mod chosen;
+mod flags;
+mod heap;
+mod init;
 mod look;
 mod steps;
+mod sweep;
 
+use crate::heap::LocalHeap;
 use std::alloc::{AllocError, Global};
 use std::marker::Model;
 use w16_arena::Arena;
@@ -24,7 +32,11 @@ use w16_model::{FIRST_SLOT, MOST_SLOTS};
 #[derive(Drop)]
 pub struct LocalHeaps {
     /// By slot.
-    heaps: Vec<Option<Arena<SideHoles>>>,
+    heaps: Vec<Option<Box<LocalHeap>>>,
+    /// The slots that have a heap, and maybe some that had one.
+    live: Vec<u16>,
+    /// For new heaps.
+    alloc: Global,
 }
 
 impl Model for LocalHeaps {
@@ -32,15 +44,15 @@ impl Model for LocalHeaps {
     ghost use Rattle.std.specs.FinMap.{FinMap};
     ghost use Rattle.w16_model.specs.Table.{Table};
     ghost use Rattle.w16_local.specs.Codes.{tables_code};
-    ghost use Rattle.w16_local.specs.Kept.{tables_of, AreKept};
+    ghost use Rattle.w16_local.specs.Kept.{tables_of, AreListed};
 
     ghost Value = { FinMap nat_cmp Table };
 
     ghost coded = { tables_code };
 
-    ghost view = { λ s. tables_of s.heaps.items };
+    ghost view = { λ s. tables_of s.heaps.items (λ h. h.value) };
 
-    ghost invariant = { λ s. AreKept s.heaps.items };
+    ghost invariant = { λ s. AreListed s.heaps.items s.live.items };
 }
 
 impl LocalHeaps {
@@ -53,7 +65,8 @@ impl LocalHeaps {
         for _ in 0..FIRST_SLOT + slots {
             heaps.push(None)?;
         }
-        Ok(LocalHeaps { heaps })
+        let live = Vec::with_capacity(alloc, slots as usize)?;
+        Ok(LocalHeaps { heaps, live, alloc })
     }
 
     /// Takes the heap in a handle's object away, if it has one. No byte changes.
@@ -86,9 +99,22 @@ impl LocalHeaps {
         ensures none { IfNone result (finmap.get self.now slot ≡ None) }
         ensures some { IfSome result (λ h. (finmap.get self.now slot ≡ Some h.now.table) × IsLocalTable h.now.table) }
     {
+        let heap = self.kept(slot)?;
+        heap.is_local();
+        Some(heap.arena())
+    }
+
+    /// The same with what is kept beside it.
+    pub(crate) fn kept(&self, slot: u16) -> Option<&LocalHeap>
+        ensures none { IfNone result (finmap.get self.now slot ≡ None) }
+        ensures some { IfSome result (λ h. finmap.get self.now slot ≡ Some h.now) }
+    {
         if slot as usize >= self.heaps.len() {
             return None;
         }
-        self.heaps[slot as usize].as_ref()
+        let Some(held) = self.heaps[slot as usize].as_ref() else {
+            return None;
+        };
+        Some(held.as_ref())
     }
 }

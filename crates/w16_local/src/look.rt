@@ -1,7 +1,8 @@
 //! Objects of one local heap, by name and by near pointer.
-ghost use Rattle.std.specs.Prelude.{◌≡◌, if◌then◌else◌, ℕ, List, Some, is_some, not, length, option_map, unwrap_or};
+ghost use Rattle.std.specs.Prelude.{◌≡◌, if◌then◌else◌, ℕ, List, Some, is_ok, is_some, not, length, option_map, unwrap_or};
 ghost use Rattle.w16_model.specs.Calls.{locks_at};
 ghost use Rattle.w16_model.specs.Heap.{bytes_at, object_at, is_fixed, is_discardable};
+ghost use Rattle.w16_model.specs.OneObject.{after_discard, after_free};
 ghost use Rattle.w16_model.specs.Table.{block_with, heap_in};
 ghost use Rattle.w16_machine.specs.Local as local;
 ghost use Rattle.w16_machine.specs.Local.{IsLocalTable};
@@ -113,6 +114,29 @@ pub(crate) fn locks_of(heap: &Arena<SideHoles>, id: u32) -> u8
         return 0;
     };
     entry.locks
+}
+
+/// Whether an object may be freed: one that isn't locked.
+pub(crate) fn may_free(heap: &Arena<SideHoles>, id: u32) -> bool
+    ensures { (bytes : List ℕ) → IsOver heap.now.table bytes → is_ok (after_free (heap_in heap.now.table bytes) id) ≡ result }
+{
+    let Some(entry) = heap.entry(id) else {
+        return true;
+    };
+    entry.locks == 0
+}
+
+/// Whether an object may be discarded: a discardable one that isn't locked.
+pub(crate) fn may_discard(heap: &Arena<SideHoles>, id: u32) -> bool
+    ensures { (bytes : List ℕ) → IsOver heap.now.table bytes → is_ok (after_discard (heap_in heap.now.table bytes) id) ≡ result }
+{
+    let Some(entry) = heap.entry(id) else {
+        return false;
+    };
+    if entry.locks > 0 {
+        return false;
+    }
+    is_discardable(entry.kind)
 }
 
 /// Whether an id has no bytes.

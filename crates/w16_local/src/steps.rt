@@ -1,23 +1,22 @@
 //! Steps of local objects that ask for no room and give none up: no byte moves.
-ghost use Rattle.std.specs.Prelude.{◌≡◌, OnErr, IsSome, if◌then◌else◌, nat_lt};
+ghost use Rattle.std.specs.Prelude.{◌≡◌, OnErr, IsSomeAnd, if◌then◌else◌, nat_lt};
 ghost use Rattle.std.specs.FinMap as finmap;
-ghost use Rattle.w16_arena.specs.State.{Steps};
 ghost use Rattle.w16_machine.specs.LocalCalls as calls;
 ghost use Rattle.w16_machine.specs.LocalCalls.LocalCommand.{LocalLock, LocalUnlock};
 ghost use Rattle.w16_local.specs.Parts.{Calls};
-ghost use Rattle.w16_local.specs.Steps.{Stepped, after_step, outcome, answer_of};
+ghost use Rattle.w16_local.specs.Steps.{MayStep, Stepped, after_step, outcome, answer_of};
 
 use crate::LocalHeaps;
 use crate::chosen::Named;
 use crate::look::{locks_of, place_of};
-use w16_arena::Arena;
 use w16_global::Global16;
-use w16_holes::SideHoles;
 use w16_model::{Kind, Refusal};
 
 /// What is done to one object.
 #[derive(Clone, Copy, Debug)]
 pub(crate) enum Step {
+    /// A new object without bytes.
+    Enter(Kind),
     Lock,
     Unlock,
     Modify(Kind),
@@ -51,28 +50,17 @@ impl LocalHeaps {
 
     /// A step of an object in a slot's heap, which changes the heap's table alone.
     pub(crate) fn step(&mut self, slot: u16, id: u32, step: Step) -> Result<(), Refusal>
-        requires { IsSome (finmap.get self.old slot) }
+        requires { IsSomeAnd (finmap.get self.old slot) (MayStep step id) }
         ensures stepped { Stepped self.old slot (λ old new. after_step step old id ≡ outcome result new) self.new }
         ensures refused { OnErr result (self.new ≡ self.old) }
     {
         let Some(mut heap) = self.heaps[slot as usize].take() else {
             unreachable!();
         };
-        let done = take_step(&mut heap, id, step);
+        let done = heap.step(id, step);
+        heap.is_local();
         self.heaps[slot as usize] = Some(heap);
         done
-    }
-}
-
-/// The same in one heap.
-fn take_step(heap: &mut Arena<SideHoles>, id: u32, step: Step) -> Result<(), Refusal>
-    ensures steps { Steps heap.old heap.new (λ old new. after_step step old id ≡ outcome result new) }
-    ensures refused { OnErr result (heap.new ≡ heap.old) }
-{
-    match step {
-        Step::Lock => heap.lock(id),
-        Step::Unlock => heap.unlock(id),
-        Step::Modify(kind) => heap.modify(id, kind),
     }
 }
 
