@@ -1,5 +1,5 @@
 -- The beginning of a local heap.
-use Rattle.std.proofs.Common.{◌≡◌, ℕ, zero, suc, ◌<◌, ◌≤◌, Bool, true, false, cond, if◌then◌else◌, ◌==◌, ◌&&◌, nat_le, nat_lt, min, MatchOption, List, [], ◌∷◌, ◌++◌, length, get_or, set, Option, Some, None, option_map, is_some, refl, sym, ap, ◌∙◌, subst, arith}
+use Rattle.std.proofs.Common.{◌≡◌, ℕ, zero, suc, ◌<◌, ◌≤◌, Bool, true, false, cond, if◌then◌else◌, ◌==◌, ◌&&◌, nat_le, nat_lt, min, MatchOption, OnErr, Result, Ok, Err, List, [], ◌∷◌, ◌++◌, length, get_or, set, Option, Some, None, option_map, is_some, refl, sym, ap, ◌∙◌, subst, arith}
 use Rattle.std.specs.Cmp.{nat_cmp_total}
 use Rattle.std.specs.FinMap as finmap
 use Rattle.std.specs.Ordering.{nat_cmp}
@@ -89,3 +89,8 @@ nothing_more [] zero = refl
 nothing_more [] (suc q) = refl
 nothing_more (x ∷ xs) zero = refl
 nothing_more (x ∷ xs) (suc q) = nothing_more xs q
+
+-- what holds anyway holds where there was no memory
+pub on_any : {X E : Type 0} (r : Result X E) (P : Type 0) → P → OnErr r P
+on_any (Ok x) P p = tt
+on_any (Err e) P p = p

@@ -67,9 +67,16 @@ module _ (heap : Heap) where
   left_at : (m : FinMap nat_cmp Table) (slot : ℕ) → finmap.get (left_in heap m) slot ≡ cond (has_range heap m slot) (finmap.get m slot) None
   left_at m slot = get-retain_keys m (has_range heap m) slot (λ x t. ap (has_range heap m) (sym (nat_cmp-IsAntisymmetric slot x t)))
 
+  -- what a look at a listed slot tells
+  pub looked : {X : Type 0} (table : X → Table) (xs ys : List (Option X)) → ys ≡ xs → (live : List ℕ) (i slot : ℕ) → slot ≡ get_or live i 0 → (r b : Bool) → r ≡ has_range heap (tables_of ys table) slot → r ≡ b → has_range heap (tables_of xs table) (get_or live i 0) ≡ b
+  looked table xs ys same live i slot at r b told is = (λ j. has_range heap (tables_of (sym same j) table) (sym at j)) ∙ sym told ∙ is
+
   module _ {X : Type 0} (table : X → Table) (old : FinMap nat_cmp Table) where
-    pub swept_none : (heaps : List (Option X)) (live : List ℕ) → AreListed heaps live → tables_of heaps table ≡ old → AreSwept heap table old (length live) heaps live
-    swept_none heaps live listed same = record { listed = listed; inside = omega arith; ranged = λ k le lt. absurd (omega (arith, le, lt)); left = λ q. inl (ap (λ m. finmap.get m q) same) }
+    pub swept_none : (heaps : List (Option X)) (live : List ℕ) → AreListed heaps live → tables_of heaps table ≡ old → (n : ℕ) → n ≡ length live → AreSwept heap table old n heaps live
+    swept_none heaps live listed same n many = record { listed = listed; inside = omega (arith, many); ranged = λ k le lt. absurd (omega (arith, many, le, lt)); left = λ q. inl (ap (λ m. finmap.get m q) same) }
+
+    pub swept_at : (i n : ℕ) → n ≡ i → (heaps : List (Option X)) (live : List ℕ) → AreSwept heap table old i heaps live → AreSwept heap table old n heaps live
+    swept_at i n e heaps live is = subst (λ n. AreSwept heap table old n heaps live) (sym e) is
 
     -- once all have been looked at, what is left is what is to be
     pub swept_all : (heaps : List (Option X)) (live : List ℕ) → AreSwept heap table old 0 heaps live → tables_of heaps table ≡ left_in heap old
