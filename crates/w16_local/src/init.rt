@@ -1,10 +1,11 @@
 //! The beginning of a local heap.
-ghost use Rattle.std.specs.Prelude.{◌≡◌, ◌≤◌, ◌<◌, ◌&&◌, ℕ, nat_le, nat_lt, min, length, slice_index_or, IfOk, IfSome, IfNone, OnErr, OnOk, Some, None, ◌==◌, if◌then◌else◌};
+ghost use Rattle.std.specs.Prelude.{◌≡◌, ◌≤◌, ◌<◌, ◌&&◌, ℕ, nat_le, nat_lt, min, length, slice_index_or, IfOk, IfSome, IfNone, IsTrue, OnErr, OnOk, Some, None, ◌==◌, if◌then◌else◌};
 ghost use Rattle.std.specs.FinMap as finmap;
 ghost use Rattle.w16_model.specs.Heap.{IsMultiple};
 ghost use Rattle.w16_machine.specs.declared.local.TheConstants.{LAST_LOCAL_END, LOCAL_GRAIN};
 ghost use Rattle.w16_machine.specs.Local as local;
 ghost use Rattle.w16_machine.specs.LocalCalls.LocalCommand.{LocalInit};
+ghost use Rattle.w16_local.specs.Kept.{IsListed};
 ghost use Rattle.w16_local.specs.Parts.{Calls, alone};
 
 use crate::LocalHeaps;
@@ -85,7 +86,7 @@ impl LocalHeaps {
         let heap = LocalHeap::new(self.alloc, begun.range)?;
         let held = Box::new(self.alloc, heap)?;
         reach(&mut self.heaps, begun.slot)?;
-        self.live.push(begun.slot)?;
+        list_slot(&mut self.live, begun.slot)?;
         self.heaps[begun.slot as usize] = Some(held);
         Ok(())
     }
@@ -107,6 +108,32 @@ fn reach(heaps: &mut Vec<Option<Box<LocalHeap>>>, slot: u16) -> Result<(), Alloc
         heaps.push(None)?;
     }
     Ok(())
+}
+
+/// Sees to it that a slot is listed. Each is listed once.
+fn list_slot(live: &mut Vec<u16>, slot: u16) -> Result<(), AllocError>
+    ensures kept { (q : ℕ) → IsListed live.old.items q → IsListed live.new.items q }
+    ensures listed { OnOk result (IsListed live.new.items slot) }
+{
+    if lists(live, slot) {
+        return Ok(());
+    }
+    live.push(slot)?;
+    Ok(())
+}
+
+/// Whether a slot is listed.
+fn lists(live: &[u16], slot: u16) -> bool
+    ensures { IsTrue result → IsListed live.now slot }
+{
+    let mut i = 0;
+    'slots: while i < live.len() {
+        if live[i] == slot {
+            return true;
+        }
+        i += 1;
+    }
+    false
 }
 
 /// The range of a new heap in a segment of so many bytes, if it may lie there.
