@@ -1,5 +1,5 @@
 -- The beginning of a local heap.
-use Rattle.std.proofs.Common.{◌≡◌, ℕ, ◌<◌, ◌≤◌, Bool, true, false, cond, if◌then◌else◌, ◌==◌, MatchOption, List, [], ◌∷◌, ◌++◌, length, get_or, set, Option, Some, None, option_map, is_some, refl, sym, ap, ◌∙◌, subst, arith}
+use Rattle.std.proofs.Common.{◌≡◌, ℕ, zero, suc, ◌<◌, ◌≤◌, Bool, true, false, cond, if◌then◌else◌, ◌==◌, ◌&&◌, nat_le, nat_lt, min, MatchOption, OnErr, Result, Ok, Err, List, [], ◌∷◌, ◌++◌, length, get_or, set, Option, Some, None, option_map, is_some, refl, sym, ap, ◌∙◌, subst, arith}
 use Rattle.std.specs.Cmp.{nat_cmp_total}
 use Rattle.std.specs.FinMap as finmap
 use Rattle.std.specs.Ordering.{nat_cmp}
@@ -8,13 +8,18 @@ use Rattle.w16_model.specs.declared.Span.{Span}
 use Rattle.w16_model.specs.Handles.{Handles, slot_of_selector}
 use Rattle.w16_model.specs.Heap.{bytes_at}
 use Rattle.w16_model.specs.Table.{Table}
-use Rattle.w16_machine.specs.Local.{Beginning, LocalWorld, Stays, beginning, beginning_in, new_table, range_in, with_table}
+use Rattle.w16_machine.specs.Local.{Beginning, LocalWorld, Stays, beginning, beginning_in, new_table, range_in, rounded_down, rounded_up, with_table}
 use Rattle.w16_machine.specs.LocalCalls.LocalCommand.{LocalInit}
 use Rattle.w16_machine.specs.LocalLaw.{MayBegin}
 use Rattle.w16_machine.proofs.LocalBegins.{begin_law}
 use Rattle.w16_local.specs.Kept.{AreListed, tables_of}
 use Rattle.w16_local.specs.Parts.{Calls, alone, with_parts}
 use Rattle.w16_local.proofs.Locals.{tables_at}
+
+-- The range, as its test has it.
+pub range_told : (size start end from to : ℕ) → from ≡ rounded_up start → to ≡ rounded_down end → (b : Bool) → b ≡ ((nat_le 4 start && nat_le end (min size 65536)) && nat_lt from to)
+    → ◌≡◌ {A = Option Span} (if b then Some (record { from = from; to = to }) else None) (range_in size start end)
+range_told size start end from to up down b is = λ i. cond {A = Option Span} ((is ∙ (λ j. (nat_le 4 start && nat_le end (min size 65536)) && nat_lt (up j) (down j))) i) (Some (record { from = up i; to = down i })) None
 
 -- Where a heap may begin.
 module _ (h : Handles) (ts : FinMap nat_cmp Table) (ds selector start end : ℕ) (named : ℕ) (is : named ≡ (if selector == 0 then ds else selector)) where
@@ -77,3 +82,15 @@ module _ {X : Type 0} (table : X → Table) (xs ys : List (Option X)) (same : (q
 module _ {X : Type 0} (xs ys : List (Option X)) (same : (q : ℕ) → get_or ys q None ≡ get_or xs q None) where
   pub listed_reached : (slots : List ℕ) → AreListed xs slots → AreListed ys slots
   listed_reached slots listed q some = listed q (sym (ap is_some (same q)) ∙ some)
+
+-- nothing is added where nothing stands
+pub nothing_more : {X : Type 0} (xs : List (Option X)) (q : ℕ) → get_or (xs ++ None ∷ []) q None ≡ get_or xs q None
+nothing_more [] zero = refl
+nothing_more [] (suc q) = refl
+nothing_more (x ∷ xs) zero = refl
+nothing_more (x ∷ xs) (suc q) = nothing_more xs q
+
+-- what holds anyway holds where there was no memory
+pub on_any : {X E : Type 0} (r : Result X E) (P : Type 0) → P → OnErr r P
+on_any (Ok x) P p = tt
+on_any (Err e) P p = p

@@ -28,7 +28,7 @@ insert_nothing m k x there = same_map nat_cmp_total nat_cmp-IsAntisymmetric (fin
 
 module _ {X : Type 0} where
   -- past the list's end there is none
-  past : (xs : List (Option X)) (slot : ℕ) → length xs ≤ slot → get_or xs slot None ≡ None
+  pub past : (xs : List (Option X)) (slot : ℕ) → length xs ≤ slot → get_or xs slot None ≡ None
   past [] slot le = refl
   past (d ∷ es) zero le = absurd (omega arith)
   past (d ∷ es) (suc slot) le = past es slot (omega arith)

@@ -11,6 +11,7 @@ use Rattle.w16_model.specs.Table.{Table}
 use Rattle.w16_model.proofs.Naming.{names_law}
 use Rattle.w16_machine.specs.Local.{has_range, left_in}
 use Rattle.w16_local.specs.Kept.{AreListed, IsListed, tables_of}
+use Rattle.w16_local.specs.Swept.{AreSwept}
 use Rattle.w16_local.proofs.Locals.{tables_at}
 
 -- The object of a slot is that of its selector.
@@ -42,16 +43,21 @@ module _ (h : Handles) (slot : ℕ) where
 module _ (heap : Heap) where
   -- whether these bytes have a table's range
   abbrev ranged_by : Option Table → ℕ → Bool
-  ranged_by t slot = elim t [ None ↦ false | Some t ↦ elim (bytes_at heap slot) [ None ↦ false | Some bytes ↦ nat_le t.hi (length bytes) ] ]
+  ranged_by t slot = elim t as (λ _. Bool) [ None ↦ false | Some t ↦ elim (bytes_at heap slot) as (λ _. Bool) [ None ↦ false | Some bytes ↦ nat_le t.hi (length bytes) ] ]
 
   no_range : (m : FinMap nat_cmp Table) (slot : ℕ) → finmap.get m slot ≡ None → has_range heap m slot ≡ false
   no_range m slot none = ap (λ t. ranged_by t slot) none
 
+  -- whether a table ends in so many bytes
+  abbrev ends_in : Table → Option ℕ → Bool
+  ends_in t None = false
+  ends_in t (Some n) = nat_le t.hi n
+
   -- a slot's heap has its range where it ends in the object
-  pub range_told : (m : FinMap nat_cmp Table) (slot : ℕ) (t : Table) → finmap.get m slot ≡ Some t → (r : Option ℕ) → r ≡ option_map (length {A = ℕ}) (bytes_at heap slot) → (elim r [ None ↦ false | Some n ↦ nat_le t.hi n ]) ≡ has_range heap m slot
-  range_told m slot t kept r size = sym (ap (λ t. ranged_by t slot) kept ∙ turn (bytes_at heap slot) ∙ ap (λ (r : Option ℕ). elim r [ None ↦ false | Some n ↦ nat_le t.hi n ]) (sym size))
+  pub range_told : (m : FinMap nat_cmp Table) (slot : ℕ) (t : Table) → finmap.get m slot ≡ Some t → (r : Option ℕ) → r ≡ option_map (length {A = ℕ}) (bytes_at heap slot) → ends_in t r ≡ has_range heap m slot
+  range_told m slot t kept r size = sym (ap (λ t. ranged_by t slot) kept ∙ turn (bytes_at heap slot) ∙ ap (ends_in t) (sym size))
     where
-      turn : (b : Option (List ℕ)) → (elim b [ None ↦ false | Some bytes ↦ nat_le t.hi (length bytes) ]) ≡ (elim (option_map (length {A = ℕ}) b) [ None ↦ false | Some n ↦ nat_le t.hi n ])
+      turn : (b : Option (List ℕ)) → (elim b as (λ _. Bool) [ None ↦ false | Some bytes ↦ nat_le t.hi (length bytes) ]) ≡ ends_in t (option_map (length {A = ℕ}) b)
       turn None = refl
       turn (Some bytes) = refl
 
@@ -61,19 +67,19 @@ module _ (heap : Heap) where
   left_at : (m : FinMap nat_cmp Table) (slot : ℕ) → finmap.get (left_in heap m) slot ≡ cond (has_range heap m slot) (finmap.get m slot) None
   left_at m slot = get-retain_keys m (has_range heap m) slot (λ x t. ap (has_range heap m) (sym (nat_cmp-IsAntisymmetric slot x t)))
 
-  -- Of the listed slots those from a place on have been looked at: each has its range, and no heap has gone but those that haven't.
-  pub record AreSwept {X : Type 0} (table : X → Table) (old : FinMap nat_cmp Table) (i : ℕ) (heaps : List (Option X)) (live : List ℕ) : Type 0 where
-    pub listed : AreListed heaps live
-    pub inside : i ≤ length live
-    pub ranged : (k : ℕ) → i ≤ k → k < length live → has_range heap (tables_of heaps table) (get_or live k 0) ≡ true
-    pub left : (q : ℕ) → (finmap.get (tables_of heaps table) q ≡ finmap.get old q) ⊎ ((finmap.get (tables_of heaps table) q ≡ None) × (has_range heap old q ≡ false))
+  -- what a look at a listed slot tells
+  pub looked : {X : Type 0} (table : X → Table) (xs ys : List (Option X)) → ys ≡ xs → (live : List ℕ) (i slot : ℕ) → slot ≡ get_or live i 0 → (r b : Bool) → r ≡ has_range heap (tables_of ys table) slot → r ≡ b → has_range heap (tables_of xs table) (get_or live i 0) ≡ b
+  looked table xs ys same live i slot at r b told is = (λ j. has_range heap (tables_of (sym same j) table) (sym at j)) ∙ sym told ∙ is
 
   module _ {X : Type 0} (table : X → Table) (old : FinMap nat_cmp Table) where
-    pub swept_none : (heaps : List (Option X)) (live : List ℕ) → AreListed heaps live → tables_of heaps table ≡ old → AreSwept table old (length live) heaps live
-    swept_none heaps live listed same = record { listed = listed; inside = omega arith; ranged = λ k le lt. absurd (omega (arith, le, lt)); left = λ q. inl (ap (λ m. finmap.get m q) same) }
+    pub swept_none : (heaps : List (Option X)) (live : List ℕ) → AreListed heaps live → tables_of heaps table ≡ old → (n : ℕ) → n ≡ length live → AreSwept heap table old n heaps live
+    swept_none heaps live listed same n many = record { listed = listed; inside = omega (arith, many); ranged = λ k le lt. absurd (omega (arith, many, le, lt)); left = λ q. inl (ap (λ m. finmap.get m q) same) }
+
+    pub swept_at : (i n : ℕ) → n ≡ i → (heaps : List (Option X)) (live : List ℕ) → AreSwept heap table old i heaps live → AreSwept heap table old n heaps live
+    swept_at i n e heaps live is = subst (λ n. AreSwept heap table old n heaps live) (sym e) is
 
     -- once all have been looked at, what is left is what is to be
-    pub swept_all : (heaps : List (Option X)) (live : List ℕ) → AreSwept table old 0 heaps live → tables_of heaps table ≡ left_in heap old
+    pub swept_all : (heaps : List (Option X)) (live : List ℕ) → AreSwept heap table old 0 heaps live → tables_of heaps table ≡ left_in heap old
     swept_all heaps live is = same_map nat_cmp_total nat_cmp-IsAntisymmetric (tables_of heaps table) (left_in heap old) (λ q. at q ∙ sym (left_at old q))
       where
         -- a slot that has a heap has its range
@@ -93,12 +99,9 @@ module _ (heap : Heap) where
           | inr gone ↦ gone.0 ∙ sym (ap (λ b. cond b (finmap.get old q) None) gone.1)
         ]
 
-    module _ (i : ℕ) (heaps : List (Option X)) (live : List ℕ) (is : AreSwept table old (i + 1) heaps live) where
-      slot : ℕ
-      slot = get_or live i 0
-
+    module _ (i : ℕ) (heaps : List (Option X)) (live : List ℕ) (is : AreSwept heap table old (i + 1) heaps live) where
       -- a slot whose heap stays
-      pub swept_kept : has_range heap (tables_of heaps table) (get_or live i 0) ≡ true → AreSwept table old i heaps live
+      pub swept_kept : has_range heap (tables_of heaps table) (get_or live i 0) ≡ true → AreSwept heap table old i heaps live
       swept_kept here = record {
         listed = is.listed;
         inside = let le = is.inside in omega (arith, le);
@@ -122,7 +125,7 @@ module _ (heap : Heap) where
           | inr d ↦ ap (λ t. ranged_by t (get_or live k 0)) (table_rest (get_or live k 0) d) ∙ is.ranged k le lt
         ]
 
-        pub swept_gone : AreSwept table old i next slots
+        pub swept_gone : AreSwept heap table old i next slots
         swept_gone = record {
           listed = λ q some. elim (cases_eq q (get_or live i 0)) [
             | inl e ↦ absurd (false≢true (sym (ap is_some (ap (λ k. get_or next k None) e ∙ taken)) ∙ some))

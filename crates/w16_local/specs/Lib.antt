@@ -3,3 +3,4 @@ pub mod Codes
 pub mod Kept
 pub mod Parts
 pub mod Steps
+pub mod Swept

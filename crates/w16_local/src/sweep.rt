@@ -1,8 +1,12 @@
 //! Heaps that go with the bytes of their segments.
-ghost use Rattle.std.specs.Prelude.{◌≡◌, ◌≢◌, ℕ, None, length, option_map, slice_index_or};
+ghost use Rattle.std.specs.Prelude.{◌≡◌, ◌≢◌, ◌+◌, ◌<◌, ℕ, None, length, option_map, slice_index_or};
+ghost use Rattle.std.specs.FinMap.{FinMap};
+ghost use Rattle.std.specs.Ordering.{nat_cmp};
+ghost use Rattle.w16_model.specs.Table.{Table};
 ghost use Rattle.w16_model.specs.Heap.{bytes_at};
 ghost use Rattle.w16_machine.specs.Local as local;
 ghost use Rattle.w16_local.specs.Kept.{AreListed, tables_of};
+ghost use Rattle.w16_local.specs.Swept.{AreSwept};
 
 use crate::LocalHeaps;
 use crate::heap::LocalHeap;
@@ -29,12 +33,27 @@ fn sweep_listed(heaps: &mut Vec<Option<Box<LocalHeap>>>, live: &mut Vec<u16>, gl
     let mut i = live.len();
     'live: while i > 0 {
         i -= 1;
-        let slot = live[i];
-        if !has_range(heaps, slot, global) {
-            take_away(heaps, slot);
-            live.swap_remove(i);
-        }
+        look_at(heaps, live, i, global);
     }
+}
+
+/// Looks at the heap of the slot at a place of the list, where those of the places behind have been looked at.
+fn look_at(
+    heaps: &mut Vec<Option<Box<LocalHeap>>>,
+    live: &mut Vec<u16>,
+    i: usize,
+    global: &Global16,
+)
+    requires { i < length live.old.items }
+    ensures { (old : FinMap nat_cmp Table) → AreSwept global.now.handles.heap (λ h. h.value) old (i + 1) heaps.old.items live.old.items
+        → AreSwept global.now.handles.heap (λ h. h.value) old i heaps.new.items live.new.items }
+{
+    let slot = live[i];
+    if has_range(heaps, slot, global) {
+        return;
+    }
+    take_away(heaps, slot);
+    live.swap_remove(i);
 }
 
 /// Takes a slot's heap out of the list, if it has one.
