@@ -1,5 +1,5 @@
 -- An act in the object of a slot, as a call's step.
-use Rattle.std.proofs.Common.{◌≡◌, ◌≢◌, ℕ, ◌<◌, ◌≤◌, ◌⊎◌, inl, inr, true, false, IsSome, IsSomeAnd, List, length, get_or, set, All, Option, Some, None, option_map, refl, sym, ap, ◌∙◌, subst, arith}
+use Rattle.std.proofs.Common.{◌≡◌, ℕ, ◌⊎◌, inl, inr, IsSomeAnd, List, length, Option, Some, None, option_map, refl, sym, ap, ◌∙◌, subst}
 use Rattle.std.specs.FinMap as finmap
 use Rattle.std.specs.Ordering.{nat_cmp}
 use Rattle.std.specs.FinMap.{FinMap}
@@ -7,8 +7,7 @@ use Rattle.w16_model.specs.Bytes.{put_part}
 use Rattle.w16_model.specs.Far.{after_write}
 use Rattle.w16_model.specs.Handles.{Handles}
 use Rattle.w16_model.specs.Heap.{Heap, Object, bytes_at, object_at}
-use Rattle.w16_model.specs.Table.{Table, IsSameOutside, heap_in}
-use Rattle.w16_arena.specs.State.{IsSameRange}
+use Rattle.w16_model.specs.Table.{Table, heap_in}
 use Rattle.w16_global.specs.Lent.{Lends}
 use Rattle.w16_machine.specs.Local.{LocalHeap, LocalWorld, Acts, IsLocalTable}
 use Rattle.w16_machine.proofs.LocalFacts.{object_of, put_all}

@@ -1,8 +1,7 @@
 -- A heap has one table: two sound ones over one range that stand for the same heap are the same.
-use Rattle.std.proofs.Common.{◌≡◌, ℕ, ◌<◌, ◌≤◌, inl, inr, List, [], ◌∷◌, length, get_or, Option, None, option_map, refl, sym, ap, ◌∙◌, subst, arith}
+use Rattle.std.proofs.Common.{◌≡◌, ℕ, ◌<◌, ◌≤◌, inl, inr, List, [], ◌∷◌, length, get_or, None, option_map, refl, sym, ap, ◌∙◌, subst, arith}
 use Rattle.std.proofs.lemmas.List.{same_lists}
 use Rattle.w16_model.specs.declared.Block.{Block}
-use Rattle.w16_model.specs.declared.Entry.{Entry}
 use Rattle.w16_model.specs.Gap.{block_end, IsLaid}
 use Rattle.w16_model.specs.Heap.{Heap, object_at}
 use Rattle.w16_model.specs.Table.{Table, IsSound, heap_in}

@@ -1,5 +1,5 @@
 -- The calls that act in a local heap.
-use Rattle.std.proofs.Common.{◌≡◌, ◌≢◌, ℕ, ◌+◌, ◌*◌, ◌/◌, ◌<◌, ◌≤◌, ◌⊎◌, ◌==◌, ◌&&◌, inl, inr, Bool, true, false, MatchBool, MatchOption, OnErr, IsSome, IsSomeAnd, if◌then◌else◌, List, length, Option, Some, None, Result, Ok, Err, is_ok, is_some, refl, sym, ap, ◌∙◌, subst, arith, eq-eqb, ne_eqb}
+use Rattle.std.proofs.Common.{◌≡◌, ℕ, ◌+◌, ◌*◌, ◌/◌, ◌<◌, ◌≤◌, ◌==◌, ◌&&◌, inl, inr, Bool, true, false, MatchBool, MatchOption, OnErr, IsSome, if◌then◌else◌, length, Option, Some, None, Result, Ok, Err, is_ok, is_some, refl, sym, ap, ◌∙◌, subst, arith, eq-eqb, ne_eqb}
 use Rattle.std.specs.FinMap as finmap
 use Rattle.std.specs.Ordering.{nat_cmp}
 use Rattle.std.specs.FinMap.{FinMap}
@@ -12,21 +12,21 @@ use Rattle.w16_model.specs.Calls.{has_flag}
 use Rattle.w16_model.specs.Changes.{with_newest, with_object}
 use Rattle.w16_model.specs.Handles.{Handles}
 use Rattle.w16_model.specs.Heap.{Heap, Object, is_fixed, object_at}
-use Rattle.w16_model.specs.OneObject.{Enters, after_discard, after_free, after_modify}
-use Rattle.w16_model.specs.Request.{Allocates, IsNew, MakesRoom, Reallocates, most_room, prefix_of}
+use Rattle.w16_model.specs.OneObject.{after_discard, after_free, after_modify}
+use Rattle.w16_model.specs.Request.{Allocates, IsNew, MakesRoom, most_room, prefix_of}
 use Rattle.w16_model.specs.Table.{Table, entry_at, heap_in, object_in}
 use Rattle.w16_model.proofs.KeptHeaps.{inserted_here}
 use Rattle.w16_model.proofs.Tables.{object_is}
 use Rattle.w16_model.proofs.Prefixes.{none_about}
 use Rattle.w16_model.proofs.Reallocations.{not_asked}
 use Rattle.w16_machine.specs.declared.local.TheConstants.{LMEM_DISCARDABLE, LMEM_MODIFY, LMEM_MOVEABLE}
-use Rattle.w16_machine.specs.Local.{LocalHeap, LocalObject, LocalWorld, Acts, Becomes, IsFreeEntry, IsLowestFree, Stays, chosen, heap_of, name_at, name_of, object_named, rounded_up}
-use Rattle.w16_machine.specs.LocalCalls.{AllocatesIn, AllocatesObject, CompactsIn, DiscardsObject, EntersObject, GivesUp, IsRefusedAlloc, Leaves, MakesObject, ModifiesObject, ResizesObject, SizesObject, is_absent_asked, local_kind, local_way, moveable_or_discardable}
+use Rattle.w16_machine.specs.Local.{LocalHeap, LocalObject, LocalWorld, Acts, Becomes, IsLowestFree, Stays, chosen, heap_of, name_at, name_of, object_named, rounded_up}
+use Rattle.w16_machine.specs.LocalCalls.{AllocatesIn, AllocatesObject, CompactsIn, DiscardsObject, EntersObject, GivesUp, ModifiesObject, ResizesObject, SizesObject, local_kind, local_way, moveable_or_discardable}
 use Rattle.w16_machine.specs.LocalCalls.LocalCommand.{LocalAlloc, LocalCompact, LocalFree, LocalReAlloc}
 use Rattle.w16_machine.proofs.LocalNames.{names_law}
 use Rattle.w16_local.specs.declared.acts.Act.{Act}
 use Rattle.w16_local.specs.declared.acts.Act.TheVariants.{Alloc, Compact, Discard, Free, Realloc}
-use Rattle.w16_local.specs.Acts.{ActedIn, Done, Idle, IsSize}
+use Rattle.w16_local.specs.Acts.{ActedIn, IsSize}
 use Rattle.w16_local.specs.Kept.{IsFull, IsLowest}
 use Rattle.w16_local.specs.Parts.{Calls, IsIn, IsNamed, alone, with_parts}
 use Rattle.w16_local.specs.Steps.{Stepped, answer_of, outcome}

@@ -1,13 +1,12 @@
 -- One act on one local heap over bytes.
-use Rattle.std.proofs.Common.{◌≡◌, ◌≢◌, ℕ, ◌+◌, ◌*◌, ◌<◌, ◌≤◌, ◌⊎◌, ◌==◌, inl, inr, Bool, true, false, MatchBool, if◌then◌else◌, IfErr, IfOk, IsOk, IsSome, IsSomeAnd, OnErr, is_err, List, [], ◌∷◌, length, zero, suc, get_or, set, All, Option, Some, None, option_map, unwrap_or, is_ok, is_some, Result, Ok, Err, refl, sym, ap, ◌∙◌, subst, arith, eq-eqb, ne_eqb}
+use Rattle.std.proofs.Common.{◌≡◌, ℕ, ◌+◌, ◌*◌, ◌<◌, ◌≤◌, ◌⊎◌, ◌==◌, inl, inr, Bool, true, false, MatchBool, if◌then◌else◌, IfOk, IsSome, IsSomeAnd, OnErr, is_err, List, [], ◌∷◌, length, zero, suc, get_or, set, All, Option, Some, None, unwrap_or, is_ok, is_some, Result, Ok, Err, refl, sym, ap, ◌∙◌, subst, arith, eq-eqb, ne_eqb}
 use Rattle.std.specs.FinMap as finmap
 use Rattle.std.proofs.lemmas.Bool.{cases_eq, cases_lt, false≢true}
 use Rattle.w16_model.specs.declared.Block.{Block}
 use Rattle.w16_model.specs.declared.Kind.{Kind}
-use Rattle.w16_model.specs.declared.Refusal.{Refusal}
 use Rattle.w16_model.specs.declared.Way.{Way}
 use Rattle.w16_model.specs.Changes.{removed, with_newest}
-use Rattle.w16_model.specs.Heap.{Heap, Object, IsHeap, IsMultiple, bytes_at, object_at, is_fixed}
+use Rattle.w16_model.specs.Heap.{Heap, Object, IsHeap, IsMultiple, object_at, is_fixed}
 use Rattle.w16_model.specs.OneObject.{after_discard, after_free}
 use Rattle.w16_model.specs.Reallocation.{KeepsRest}
 use Rattle.w16_model.specs.Arrangement.{IsLongestStretch}
@@ -25,11 +24,10 @@ use Rattle.w16_arena.specs.State.{IsSameRange, entry_of}
 use Rattle.w16_arena.proofs.Keeping.{heap_kept}
 use Rattle.w16_arena.proofs.Lookups.{entry_is, no_block, no_entry}
 use Rattle.w16_arena.proofs.Parts.{AreParts}
-use Rattle.w16_machine.specs.declared.local.TheConstants.{LOCAL_ENTRIES}
-use Rattle.w16_machine.specs.Local.{IsFreeEntry, IsLocalTable, name_at, name_of}
+use Rattle.w16_machine.specs.Local.{name_at, name_of}
 use Rattle.w16_local.specs.declared.acts.Act.{Act}
 use Rattle.w16_local.specs.declared.acts.Act.TheVariants.{Alloc, Compact, Discard, Free, Realloc}
-use Rattle.w16_local.specs.Acts.{Acted, Done, Idle, IsSize, MayAct, MayActOver}
+use Rattle.w16_local.specs.Acts.{Acted, Done, Idle, MayActOver}
 use Rattle.w16_local.specs.Kept.{IsKept}
 use Rattle.w16_local.specs.Parts.{IsOver}
 use Rattle.w16_local.proofs.Alike.{same_table}

@@ -1,5 +1,5 @@
 -- One local heap: its free entries, and steps that ask for no room.
-use Rattle.std.proofs.Common.{◌≡◌, ◌≢◌, ℕ, ◌<◌, ◌≤◌, inl, inr, Bool, true, false, nat_le, if◌then◌else◌, IfErr, OnErr, OnOk, List, length, get_or, replicate, set, Option, Some, None, is_some, Result, Ok, Err, refl, sym, ap, ◌∙◌, subst, arith}
+use Rattle.std.proofs.Common.{◌≡◌, ℕ, ◌<◌, ◌≤◌, inl, inr, Bool, true, false, nat_le, if◌then◌else◌, IfErr, OnErr, OnOk, List, length, get_or, set, Option, Some, None, is_some, Result, Ok, Err, refl, sym, ap, ◌∙◌, subst, arith}
 use Rattle.std.specs.List.{position, position_or_len}
 use Rattle.std.proofs.lemmas.Bool.{cases_lt, false≢true, lt-ltb}
 use Rattle.std.proofs.lemmas.List.{length-replicate}
@@ -16,8 +16,7 @@ use Rattle.w16_model.specs.Table.{Table, entry_at, heap_in}
 use Rattle.w16_arena.specs.State.{ArenaState, Steps, empty_table}
 use Rattle.w16_arena.proofs.Fresh.{sound, no_entry}
 use Rattle.w16_machine.specs.declared.local.TheConstants.{LOCAL_ENTRIES}
-use Rattle.w16_machine.specs.Local.{IsLocalTable, new_table}
-use Rattle.w16_local.specs.Kept.{AreFree, IsFull, IsKept, IsLowest}
+use Rattle.w16_local.specs.Kept.{IsFull, IsKept, IsLowest}
 use Rattle.w16_local.specs.Steps.{Turns, outcome}
 use Rattle.w16_local.proofs.Entries.{HasSame, any_inside, any_memory, bit, put_here, put_others, same_free, set_free}
 

@@ -1,5 +1,5 @@
 -- A step of one local heap that asks for no room: in the list of heaps, and as a call's.
-use Rattle.std.proofs.Common.{◌≡◌, inl, inr, lt-ltb, le-ltb, ℕ, ◌-◌, ◌<◌, ◌≤◌, Bool, true, false, nat_lt, if◌then◌else◌, OnErr, IsSome, IsSomeAnd, List, length, get_or, set, MatchOption, Option, Some, None, option_map, unwrap_or, Result, Ok, Err, refl, sym, ap, ◌∙◌, subst, arith}
+use Rattle.std.proofs.Common.{◌≡◌, inl, inr, lt-ltb, le-ltb, ℕ, ◌-◌, ◌≤◌, Bool, true, false, nat_lt, if◌then◌else◌, OnErr, IsSome, IsSomeAnd, List, length, get_or, set, MatchOption, Option, Some, None, option_map, unwrap_or, Result, Ok, Err, refl, sym, ap, ◌∙◌, subst, arith}
 use Rattle.std.specs.Ordering.{nat_cmp}
 use Rattle.std.specs.FinMap as finmap
 use Rattle.std.specs.FinMap.{FinMap}
@@ -13,7 +13,7 @@ use Rattle.w16_model.specs.OneObject.{after_lock, after_unlock}
 use Rattle.w16_model.specs.Table.{Table, heap_in}
 use Rattle.w16_model.proofs.KeptHeaps.{inserted_here}
 use Rattle.std.proofs.lemmas.Bool.{cases_lt}
-use Rattle.w16_machine.specs.Local.{LocalHeap, LocalObject, LocalWorld, IsLocalTable, Becomes, Stays, heap_of, object_named}
+use Rattle.w16_machine.specs.Local.{LocalObject, LocalWorld, IsLocalTable, Becomes, Stays, heap_of, object_named}
 use Rattle.w16_machine.specs.LocalCalls.{Leaves, OnNamed, lock_refused, locks_left, near_pointer}
 use Rattle.w16_machine.specs.LocalCalls.LocalCommand.{LocalLock, LocalUnlock}
 use Rattle.w16_local.specs.Kept.{tables_of, AreListed}

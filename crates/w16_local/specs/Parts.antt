@@ -7,7 +7,7 @@ use Rattle.w16_model.specs.Handles.{Handles}
 use Rattle.w16_model.specs.Heap.{bytes_at}
 use Rattle.w16_model.specs.Table.{Table, heap_in}
 use Rattle.w16_machine.specs.World.{with_handles}
-use Rattle.w16_machine.specs.Local.{LocalWorld, LocalHeap, IsLocalTable, chosen, empty_local_world, id_named}
+use Rattle.w16_machine.specs.Local.{LocalWorld, IsLocalTable, chosen, empty_local_world, id_named}
 use Rattle.w16_machine.specs.LocalCalls.{LocalCommand, Answers}
 
 -- a world with these handles, tables of local heaps, and DS

@@ -1,5 +1,5 @@
 -- Steps of one local heap that ask for no room and give up no byte.
-use Rattle.std.specs.Prelude.{◌≡◌, ◌≤◌, ◌<◌, ℕ, List, length, Option, None, Some, Result, Ok, Err}
+use Rattle.std.specs.Prelude.{◌≡◌, ◌≤◌, ◌<◌, ℕ, List, length, None, Some, Result, Ok, Err}
 use Rattle.std.specs.Ordering.{nat_cmp}
 use Rattle.std.specs.FinMap as finmap
 use Rattle.std.specs.FinMap.{FinMap}
@@ -11,7 +11,6 @@ use Rattle.w16_model.specs.Table.{Table, entry_at, heap_in}
 use Rattle.w16_arena.specs.State.{IsSameRange}
 use Rattle.w16_machine.specs.declared.local.TheConstants.{LOCAL_ENTRIES}
 use Rattle.w16_machine.specs.Local.{IsLocalTable}
-use Rattle.w16_machine.specs.LocalCalls.{lock_refused}
 use Rattle.w16_local.specs.declared.steps.Step.{Step}
 use Rattle.w16_local.specs.declared.steps.Step.TheVariants.{Enter, Lock, Modify, Unlock}
 

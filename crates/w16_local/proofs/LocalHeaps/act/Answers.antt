@@ -1,5 +1,4 @@
 use Rattle.std.proofs.Common.{sym, subst, ◌∙◌, ap, is_some, arith, Some}
-use Rattle.std.specs.FinMap as finmap
 use Rattle.w16_global.specs.Joined.{Global}
 use Rattle.w16_machine.specs.Local.{IsLocalTable}
 use Rattle.w16_local.proofs.Acting.{acted_in, may_lent}

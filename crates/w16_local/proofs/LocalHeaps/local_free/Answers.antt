@@ -1,4 +1,4 @@
-use Rattle.std.proofs.Common.{sym, ◌∙◌}
+use Rattle.std.proofs.Common.{◌∙◌}
 use Rattle.w16_local.specs.declared.acts.Act.TheVariants.{Free}
 use Rattle.w16_local.proofs.Acting.{may_in}
 use Rattle.w16_local.proofs.Calling.{free_calls, free_none, free_refused, named_there}

@@ -1,4 +1,4 @@
-use Rattle.std.proofs.Common.{◌≡◌, None, Some, sym, ap, ◌∙◌, arith}
+use Rattle.std.proofs.Common.{Some, sym, ap, ◌∙◌, arith}
 use Rattle.w16_local.proofs.Looks.{entry_candidate, place_candidate}
 use Rattle.w16_local.proofs.look.candidate.Goals as goal
 

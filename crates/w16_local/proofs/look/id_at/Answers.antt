@@ -1,4 +1,4 @@
-use Rattle.std.proofs.Common.{◌≡◌, None, Some, sym, ap, ◌∙◌, arith}
+use Rattle.std.proofs.Common.{sym, ◌∙◌, arith}
 use Rattle.w16_local.proofs.Looks.{at_none, at_block, at_above}
 use Rattle.w16_local.proofs.look.id_at.Goals as goal
 

@@ -1,4 +1,4 @@
-use Rattle.std.proofs.Common.{◌≡◌, None, Some, sym, ap, ◌∙◌, arith}
+use Rattle.std.proofs.Common.{None, Some, sym, ap, ◌∙◌, arith}
 use Rattle.w16_local.proofs.Looks.{named_here, named_none, none_some, not_named, some_other}
 use Rattle.w16_local.proofs.look.id_named.Goals as goal
 

@@ -1,4 +1,4 @@
-use Rattle.std.proofs.Common.{◌≡◌, None, Some, sym, ap, ◌∙◌, arith}
+use Rattle.std.proofs.Common.{None, Some, sym, ◌∙◌}
 use Rattle.w16_local.proofs.Looks.{locks_in}
 use Rattle.w16_local.proofs.look.locks_of.Goals as goal
 

@@ -1,4 +1,4 @@
-use Rattle.std.proofs.Common.{◌≡◌, None, Some, sym, ap, ◌∙◌, arith}
+use Rattle.std.proofs.Common.{None, Some, sym, ◌∙◌, arith}
 use Rattle.w16_local.proofs.Looks.{block_small, name_none, name_fixed, name_loose}
 use Rattle.w16_local.proofs.look.name_at.Goals as goal
 

@@ -1,4 +1,4 @@
-use Rattle.std.proofs.Common.{◌≡◌, None, Some, sym, ap, ◌∙◌, arith}
+use Rattle.std.proofs.Common.{None, Some, sym, ◌∙◌, arith}
 use Rattle.w16_local.proofs.Looks.{block_small, place_in}
 use Rattle.w16_local.proofs.look.place_of.Goals as goal
 

@@ -1,4 +1,4 @@
-use Rattle.std.proofs.Common.{◌≡◌, None, Some, sym, ap, ◌∙◌, arith}
+use Rattle.std.proofs.Common.{None, Some, sym, ◌∙◌, arith}
 use Rattle.w16_local.proofs.Looks.{block_small, size_in}
 use Rattle.w16_local.proofs.look.size_of.Goals as goal
 

@@ -1,4 +1,4 @@
-use Rattle.std.proofs.Common.{List, ap, arith, inl, inr, subst, sym, ◌∙◌, ℕ}
+use Rattle.std.proofs.Common.{ap, arith, inl, inr}
 use Rattle.std.proofs.lemmas.Bool.{cases_lt}
 use Rattle.w16_local.specs.declared.acts.Act.TheVariants.{Compact}
 use Rattle.w16_local.proofs.OneAct.{compact_acted, compact_bound, compact_kept, may_shown}

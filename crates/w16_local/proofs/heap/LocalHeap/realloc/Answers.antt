@@ -1,4 +1,4 @@
-use Rattle.std.proofs.Common.{List, ap, arith, subst, sym, ◌∙◌, ℕ}
+use Rattle.std.proofs.Common.{List, ap, subst, sym, ◌∙◌, ℕ}
 use Rattle.w16_arena.specs.State.{ArenaState}
 use Rattle.w16_local.specs.Acts.{Acted}
 use Rattle.w16_local.specs.Kept.{IsKept}
