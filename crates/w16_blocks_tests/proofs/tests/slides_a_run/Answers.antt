@@ -1,8 +1,11 @@
 use Rattle.std.proofs.Common.{refl}
-use Rattle.w16_blocks_tests.proofs.tests.bench.run_ends.Goals as goal
+use Rattle.w16_blocks_tests.proofs.tests.slides_a_run.Goals as goal
 
 pub run_end-requires-clause-grained : goal.run_end-requires-clause-grained
 run_end-requires-clause-grained g c = rw c.in_ok-blocks.ensures.value (4, refl)
 
 pub run_end-requires-2-clause-grained : goal.run_end-requires-2-clause-grained
 run_end-requires-2-clause-grained g c = rw c.in_ok-blocks.ensures.value (6, refl)
+
+pub slide_run-requires-clause-grained : goal.slide_run-requires-clause-grained
+slide_run-requires-clause-grained g c = rw c.in_ok-blocks.ensures.value (2, refl)

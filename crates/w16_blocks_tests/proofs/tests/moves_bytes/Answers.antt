@@ -3,7 +3,7 @@ use Rattle.w16_model.specs.declared.Block.{Block}
 use Rattle.w16_model.specs.declared.Hold.TheVariants.{Loose}
 use Rattle.w16_blocks.specs.Layout.{Fits, all_but}
 use Rattle.w16_blocks_tests.specs.Sample.{three_blocks}
-use Rattle.w16_blocks_tests.proofs.tests.bench.Bench.shifted.Goals as goal
+use Rattle.w16_blocks_tests.proofs.tests.moves_bytes.Goals as goal
 
 abbrev third : Block
 third = record { id = 3; at = 160; size = 32; hold = Loose }

@@ -3,7 +3,7 @@ use Rattle.w16_model.specs.declared.Block.{Block}
 use Rattle.w16_model.specs.declared.Hold.TheVariants.{Loose}
 use Rattle.w16_blocks.specs.Layout.{Fits, all_but}
 use Rattle.w16_blocks_tests.specs.Sample.{three_blocks}
-use Rattle.w16_blocks_tests.proofs.tests.bench.Bench.grown.Goals as goal
+use Rattle.w16_blocks_tests.proofs.tests.grows.Goals as goal
 
 abbrev first : Block
 first = record { id = 0; at = 32; size = 32; hold = Loose }
