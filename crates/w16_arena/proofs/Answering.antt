@@ -94,7 +94,7 @@ no_place heap is q o there = from (finmap.get heap.places q) refl
         absurd (false≢true (sym none ∙ sym (is.at_bytes q) ∙ some))
 
 -- so a discarded one has none
-gone : (old new : Heap) → IsHeap new → (q : ℕ) → IsSomeAnd (object_at old q) (λ o. (o.kind ≡ Discardable) × (o.locks ≡ 0) × (is_some o.bytes ≡ true) × (object_at new q ≡ Some (record o { bytes = None }))) → finmap.get new.places q ≡ None
+pub gone : (old new : Heap) → IsHeap new → (q : ℕ) → IsSomeAnd (object_at old q) (λ o. (o.kind ≡ Discardable) × (o.locks ≡ 0) × (is_some o.bytes ≡ true) × (object_at new q ≡ Some (record o { bytes = None }))) → finmap.get new.places q ≡ None
 gone old new is q = from (object_at old q)
   where
     from : (p : Option Object) → IsSomeAnd p (λ o. (o.kind ≡ Discardable) × (o.locks ≡ 0) × (is_some o.bytes ≡ true) × (object_at new q ≡ Some (record o { bytes = None }))) → finmap.get new.places q ≡ None
@@ -152,8 +152,8 @@ module _ (old : ArenaState) (sound : IsSound old.table) (memory : List ℕ) (ins
       | inr off ↦ prefix_hole t.lo t.hi (blocks h) t.order n (Some id) way off (let e = longest in let k : n ≤ longest_hole t.lo t.hi t.blocks = subst (λ b. n ≤ (if b then room t.lo t.hi t.blocks else longest_hole t.lo t.hi t.blocks)) off enough in omega arith)
     ]
 
-    pub allocates_now : {p : Placed} {new : Heap} → n ≤ most_in t way.compact → Stands h id n kind way p new → Allocates h id n kind 0 way true new
-    allocates_now {p} {new} enough s = allocates_after h id n kind way 0 some rounded without_bytes (prefix_0 enough) s.object s.is_new new s.settled
+    pub allocates_now : {p : Placed} {new : Heap} → n ≤ most_in t way.compact → Stands h id n (IsNew way.zero n kind 0) (with_newest id) way p new → Allocates h id n kind 0 way true new
+    allocates_now {p} {new} enough s = allocates_after h id n kind way 0 some rounded without_bytes (prefix_0 enough) s.object s.such new s.settled
 
     pub discards_none : n ≤ most_in t way.compact → {ids : List ℕ} → ids ≡ [] → HasDiscarded h id n way ids
     discards_none enough e = record { prefix = 0; needed = prefix_0 enough; listed = e }
@@ -216,12 +216,12 @@ module _ (old : ArenaState) (sound : IsSound old.table) (memory : List ℕ) (ins
         pub discards_then : {ids : List ℕ} → ids ≡ mid.discarded → HasDiscarded h id n way ids
         discards_then e = record { prefix = k; needed = prefix_is ∙ some_is; listed = e ∙ discards.listed ∙ ap (take k) (eligible_same (Some id)) }
 
-        module _ {p : Placed} {new : Heap} (s : Stands (heap_in mid.table memory) id n kind way p new) where
-          stands : Stands (discarded h k (Some id)) id n kind way p new
-          stands = subst (λ g. Stands g id n kind way p new) (discards.heaps memory inside) s
+        module _ {p : Placed} {new : Heap} (s : Stands (heap_in mid.table memory) id n (IsNew way.zero n kind 0) (with_newest id) way p new) where
+          stands : Stands (discarded h k (Some id)) id n (IsNew way.zero n kind 0) (with_newest id) way p new
+          stands = subst (λ g. Stands g id n (IsNew way.zero n kind 0) (with_newest id) way p new) (discards.heaps memory inside) s
 
           pub allocates_then : Allocates h id n kind 0 way true new
-          allocates_then = allocates_after h id n kind way k some rounded without_bytes (prefix_is ∙ some_is) stands.object stands.is_new new stands.settled
+          allocates_then = allocates_after h id n kind way k some rounded without_bytes (prefix_is ∙ some_is) stands.object stands.such new stands.settled
 
           module _ (bytes : All (λ b. b < 256) memory) where
             moved_then : p.moved ≡ moved_bytes h new

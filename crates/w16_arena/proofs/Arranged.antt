@@ -53,9 +53,6 @@ module _ {low high : ℕ} {old : Layout} {memory : List ℕ} {new : Layout} {aft
       let here = with_member new.blocks r.0 (named_pairs new.cap new.blocks moved.ordered.named) r.1 in
       (r.0, r.1, r.2, ap (λ q. unwrap_or (option_map (λ (y : Block). y.at) (block_with new.blocks q)) 0) (sym id) ∙ ap (λ b. unwrap_or (option_map (λ (y : Block). y.at) b) 0) here)
 
-  down : (x y : Block) → Slides low high memory after x y → y.at ≤ x.at
-  down x y s = elim s.place [ inl e ↦ omega arith | inr f ↦ f.2 ]
-
   -- no pinned byte is in a loose block
   clear_at : (x : Block) → Member x xs → IsTrue (is_loose x) → IsClear is_pinned old.lo old.hi xs x.at (block_end x)
   clear_at x m t = clear_from is_pinned old.lo old.hi xs (sized old.lo old.hi xs placed_old) x.at (block_end x) (inside old.lo old.hi xs placed_old x m).0 (inside old.lo old.hi xs placed_old x m).2
@@ -75,17 +72,18 @@ module _ {low high : ℕ} {old : Layout} {memory : List ℕ} {new : Layout} {aft
       let y = stands x m in
       let own = gap_around is_pinned old.lo old.hi xs (sized old.lo old.hi xs placed_old) x.at (block_end x) (omega arith) (clear_at x m loose) in
       let one = gap_same is_pinned old.lo old.hi xs (sized old.lo old.hi xs placed_old) a b (last_to is_pinned old.lo xs x.at) (first_from is_pinned old.hi xs (last_to is_pinned old.lo xs x.at)) x.at gap own.0 from to own.1 (let end = own.2 in omega arith) in
-      (lower from to some y.0 y.2 y.3, let fall = down x y.0 y.2 in omega (arith, fall, y.3, one.1, own.2))
+      within from to some (omega (arith, one.1, own.2)) y.0 y.2 y.3
     where
-      lower : a ≤ x.at → x.at < b → 0 < x.size → (y : Block) → Slides low high memory after x y → place x ≡ y.at → a ≤ place x
-      lower from to some y s e = elim s.place [
-        | inl same ↦ omega arith
+      within : a ≤ x.at → x.at < b → 0 < x.size → x.at + x.size ≤ b → (y : Block) → Slides low high memory after x y → place x ≡ y.at → (a ≤ place x) × (place x + x.size ≤ b)
+      within from to some end y s e = elim s.place [
+        | inl same ↦ (omega arith, omega arith)
         | inr f ↦
-            let lt : low < high = omega (arith, f.1, f.2, f.3) in
+            let lt : low < high = omega (arith, f.3, f.4) in
+            let size : y.size ≡ x.size = ap (λ (z : Block). z.size) s.same in
             let whole = gap_around is_pinned old.lo old.hi xs (sized old.lo old.hi xs placed_old) low high lt (moved.unpinned lt) in
             let one = gap_same is_pinned old.lo old.hi xs (sized old.lo old.hi xs placed_old) a b (last_to is_pinned old.lo xs low) (first_from is_pinned old.hi xs (last_to is_pinned old.lo xs low)) x.at gap whole.0 from to
-            (omega (arith, whole.1, f.1, f.2)) (omega (arith, whole.2, f.3)) in
-            omega (arith, one.0, whole.1, f.1, e)
+            (omega (arith, whole.1, f.3)) (omega (arith, whole.2, f.4)) in
+            (omega (arith, one.0, whole.1, f.1, e), omega (arith, one.1, whole.2, f.2, e, size))
       ]
 
   apart_after : (x y : Block) → Member x xs → Member y xs → (x.id ≡ y.id → ⊥) → IsTrue (is_loose x) → IsTrue (is_loose y) → Misses (place x) x.size (place y) (place y + y.size)

@@ -14,10 +14,10 @@ use Rattle.w16_arena.specs.NewPlace.{EachTwo, AreMoved, AreFreeBytes}
 use Rattle.w16_arena.proofs.Pairs.{Stands, two_gathered, two_slides}
 
 -- at multiples of the grain
-sum_grains : (g a b : ℕ) → IsMultiple g a → IsMultiple g b → IsMultiple g (a + b)
+pub sum_grains : (g a b : ℕ) → IsMultiple g a → IsMultiple g b → IsMultiple g (a + b)
 sum_grains g a b p q = (p.0 + q.0, let e = p.1 in let f = q.1 in omega (arith, e, f))
 
-loose_grains : (g : ℕ) (xs : List Block) (a b : ℕ) → Each (IsGrained g) xs → IsMultiple g (loose_bytes xs a b)
+pub loose_grains : (g : ℕ) (xs : List Block) (a b : ℕ) → Each (IsGrained g) xs → IsMultiple g (loose_bytes xs a b)
 loose_grains g [] a b all = (0, omega arith)
 loose_grains g (x ∷ xs) a b all = subst (IsMultiple g) (sym (loose_one x xs a b)) (turn (is_loose x && begins_in a b x) (loose_grains g xs a b all.1))
   where

@@ -1,12 +1,13 @@
 -- What the call for a place leaves kept and answers.
-use Rattle.std.proofs.Common.{◌≡◌, ℕ, ◌+◌, ◌<◌, ◌≤◌, false, if◌then◌else◌, All, List, length, set, Option, Some, None, ap, ◌∙◌, arith}
+use Rattle.std.proofs.Common.{◌≡◌, ℕ, ◌+◌, ◌<◌, ◌≤◌, true, false, ◌&&◌, if◌then◌else◌, All, List, length, set, slice_range, Option, Some, None, refl, ap, ◌∙◌, subst, sym, arith}
 use Rattle.std.proofs.lemmas.List.{length-set}
 use Rattle.w16_model.specs.declared.Entry.{Entry}
 use Rattle.w16_model.specs.declared.Hold.{Hold}
 use Rattle.w16_model.specs.declared.Kind.{Kind}
 use Rattle.w16_model.specs.declared.Way.{Way}
 use Rattle.w16_model.specs.Heap.{IsMultiple, is_discardable}
-use Rattle.w16_model.specs.Changes.{newest}
+use Rattle.w16_model.specs.Changes.{newest, with_newest}
+use Rattle.w16_model.specs.Request.{IsNew}
 use Rattle.w16_model.specs.Table.{block_with, hold_of_entry, heap_in}
 use Rattle.w16_model.specs.Bytes.{put_part, repeated}
 use Rattle.w16_blocks.specs.Layout.{Layout, IsOrdered, Fits, placed}
@@ -22,6 +23,10 @@ use Rattle.w16_arena.specs.NewPlace.{AreMoved, AreFreeBytes}
 use Rattle.w16_arena.proofs.Parts.{AreParts}
 use Rattle.w16_arena.proofs.Steps.{state_of, beside, kept_with}
 use Rattle.w16_arena.proofs.Shown.{known, told}
+use Rattle.w16_arena.proofs.Changed.{ReordersOne}
+use Rattle.w16_arena.proofs.Cleared.{Makes, makes, fresh}
+use Rattle.w16_arena.proofs.Joining.{joins, joined}
+use Rattle.w16_arena.proofs.Allocated.{AreLocks}
 use Rattle.w16_arena.proofs.Standing as standing
 use Rattle.w16_compact.proofs.Rests.{rest_more}
 
@@ -45,19 +50,34 @@ module _ {entries : List (Option Entry)} {layout : Layout} {uses : Uses} {gap_ro
   abbrev entry : Entry
   entry = record { kind = kind; locks = 0 }
 
-  module _ {hold : Hold} (hold_is : hold ≡ hold_of_entry entry) (still : way.compact ≡ false → mid ≡ layout) where
+  locks : AreLocks entry
+  locks = (omega arith, λ _. refl)
+
+  module _ {hold : Hold} (hold_is : hold ≡ hold_of_entry entry) where
     pub may_insert : Fits mid (record { id = id; at = p.at; size = n; hold = hold })
-    may_insert = standing.may_insert parts bytes id n kind way lt absent some grains p moved place hold_is still
+    may_insert = standing.may_insert parts id n entry locks way lt absent some grains p moved place hold_is
 
     module _ {new : Layout} (value : new ≡ record mid { blocks = placed (record { id = id; at = p.at; size = n; hold = hold }) mid.blocks }) (ordered : IsOrdered new)
         {after : List ℕ} (filled : after ≡ (if way.zero then put_part mid_memory p.at (repeated n 0) else mid_memory))
         {uses' : Uses} (uses_is : uses' ≡ record uses { ids = if is_discardable kind then newest id uses.ids else uses.ids }) where
+      in_memory : p.at + n ≤ length mid_memory
+      in_memory = standing.in_memory parts id n entry locks way lt absent some grains p moved place
+
+      made : Makes p.at n mid_memory after
+      made = makes p.at n mid_memory after in_memory (moved.bytes bytes) way.zero filled
+
+      ids_are : uses'.ids ≡ (if is_discardable kind then newest id uses.ids else uses.ids)
+      ids_are = ap (λ (u : Uses). u.ids) uses_is
+
+      reorders : ReordersOne id (is_discardable kind && true) uses.ids uses'.ids
+      reorders = subst (ReordersOne id (is_discardable kind && true) uses.ids) (sym ids_are) (joins parts id kind absent)
+
       parts_after : AreParts (set entries id (Some entry)) new uses'.ids after
-      parts_after = standing.parts_after parts bytes id n kind way lt absent some grains p moved place hold_is still value ordered filled (ap (λ (u : Uses). u.ids) uses_is)
+      parts_after = standing.parts_after parts id n entry locks way lt absent some grains p moved place hold_is value ordered made reorders
 
       same : (new.lo ≡ layout.lo) × (new.hi ≡ layout.hi) × (new.grain ≡ layout.grain) × (new.cap ≡ layout.cap)
-      same = let l = ap (λ (l : Layout). l.lo) value ∙ ap (λ (l : Layout). l.lo) moved.same in (
-        l,
+      same = (
+        ap (λ (l : Layout). l.lo) value ∙ ap (λ (l : Layout). l.lo) moved.same,
         ap (λ (l : Layout). l.hi) value ∙ ap (λ (l : Layout). l.hi) moved.same,
         ap (λ (l : Layout). l.grain) value ∙ ap (λ (l : Layout). l.grain) moved.same,
         ap (λ (l : Layout). l.cap) value ∙ ap (λ (l : Layout). l.cap) moved.same,
@@ -66,9 +86,12 @@ module _ {entries : List (Option Entry)} {layout : Layout} {uses : Uses} {gap_ro
       pub kept_placed : IsKept (set entries id (Some entry)) new uses' gap_rooms room
       kept_placed = kept_with kept (set entries id (Some entry)) new uses' parts_after.sound (length-set entries id (Some entry)) same.3 (ap (λ (u : Uses). u.cap) uses_is)
 
-      pub stands_placed : p.moved ≡ moved_between layout.blocks mid.blocks → Stands (heap_in old.table memory) id n kind way p (heap_of (set entries id (Some entry)) new uses'.ids after)
-      stands_placed counted = told kept shown (λ t. Stands (heap_in t memory) id n kind way p (heap_of (set entries id (Some entry)) new uses'.ids after))
-          (standing.stands parts bytes id n kind way lt absent some grains p moved place hold_is still value ordered filled (ap (λ (u : Uses). u.ids) uses_is) counted)
+      pub stands_placed : (way.compact ≡ false → mid ≡ layout) → p.moved ≡ moved_between layout.blocks mid.blocks
+          → Stands (heap_in old.table memory) id n (IsNew way.zero n kind 0) (with_newest id) way p (heap_of (set entries id (Some entry)) new uses'.ids after)
+      stands_placed still counted = told kept shown (λ t. Stands (heap_in t memory) id n (IsNew way.zero n kind 0) (with_newest id) way p (heap_of (set entries id (Some entry)) new uses'.ids after))
+          (standing.stands parts id n entry locks way lt absent some grains p moved place hold_is value ordered made reorders (λ off. ap (λ (l : Layout). l.blocks) (still off))
+          (record { same_kind = refl; same_locks = refl; new_bytes = fresh p.at n mid_memory after in_memory (moved.bytes bytes) way.zero filled })
+          (joined parts id kind absent 0 (slice_range after p.at (p.at + n)) ∙ sym ids_are) counted)
 
       pub rest_placed : {X : Type 0} {bytes : X → List ℕ} {lenders : X → List GName} {x y z : X}
           → IsSameRest bytes lenders layout.lo layout.hi x y → IsSameRest bytes lenders p.at (p.at + n) y z → KeepsRest bytes lenders old.table x (table_of (set entries id (Some entry)) new uses'.ids) z

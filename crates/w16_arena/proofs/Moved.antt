@@ -23,11 +23,11 @@ use Rattle.w16_arena.proofs.Lookups.{named_pairs, place_here}
 use Rattle.w16_arena.proofs.Listed.{listed_permutation}
 
 -- no order of the blocks changes the bytes of those that pass a test
-bytes_by : (p : Block → Bool) (xs : List Block) → sum_by (λ x. x.size) (filter p xs) ≡ sum_by (λ x. cond (p x) x.size 0) xs
+pub bytes_by : (p : Block → Bool) (xs : List Block) → sum_by (λ x. x.size) (filter p xs) ≡ sum_by (λ x. cond (p x) x.size 0) xs
 bytes_by p [] = refl
 bytes_by p (x ∷ xs) = omega (arith, sum_filter p x xs, bytes_by p xs, sum_by-cons (λ (y : Block). cond (p y) y.size 0) x xs)
 
-bytes_permutation : (p : Block → Bool) (xs ys : List Block) → IsPermutation xs ys → sum_by (λ x. x.size) (filter p ys) ≡ sum_by (λ x. x.size) (filter p xs)
+pub bytes_permutation : (p : Block → Bool) (xs ys : List Block) → IsPermutation xs ys → sum_by (λ x. x.size) (filter p ys) ≡ sum_by (λ x. x.size) (filter p xs)
 bytes_permutation p xs ys perm = bytes_by p ys ∙ sum_by-IsPermutation (λ (x : Block). cond (p x) x.size 0) xs ys perm ∙ sym (bytes_by p xs)
 
 -- blocks by address have no more bytes than their range

@@ -23,6 +23,14 @@ two_both R S T f [] (c ∷ cs) r s = absurd r
 two_both R S T f (b ∷ bs) [] r s = absurd r
 two_both R S T f (b ∷ bs) (c ∷ cs) r s = (f b c r.0 s.0, two_both R S T f bs cs r.1 s.1)
 
+pub two_then : (R S T : Block → Block → Type 0) → ((a b c : Block) → R a b → S b c → T a c) → (zs bs cs : List Block) → EachTwo R zs bs → EachTwo S bs cs → EachTwo T zs cs
+two_then R S T f [] [] [] r s = tt
+two_then R S T f [] [] (c ∷ cs) r s = absurd s
+two_then R S T f [] (b ∷ bs) cs r s = absurd r
+two_then R S T f (a ∷ zs) [] cs r s = absurd r
+two_then R S T f (a ∷ zs) (b ∷ bs) [] r s = absurd s
+two_then R S T f (a ∷ zs) (b ∷ bs) (c ∷ cs) r s = (f a b c r.0 s.0, two_then R S T f zs bs cs r.1 s.1)
+
 -- a block of the first list has one of the second
 pub two_member : (R : Block → Block → Type 0) (bs cs : List Block) → EachTwo R bs cs → (b : Block) → Member b bs → (c : Block) × Member c cs × R b c
 two_member R [] cs two b m = absurd m
@@ -61,9 +69,9 @@ two_contents memory after (b ∷ bs) (c ∷ cs) e =
     let heads : ◌≡◌ {A = ℕ × List ℕ} (c.id, part after c.at c.size) (b.id, part memory b.at b.size) = cc in
     (ap (λ (p : ℕ × List ℕ). p.1) heads, two_contents memory after bs cs rest)
 
--- where the blocks between two addresses slid down
+-- where the blocks between two addresses slid
 abbrev pub Stands : ℕ → ℕ → Block → Block → Type 0
-Stands low high b c = (c ≡ record b { at = c.at }) × ((c.at ≡ b.at) ⊎ ((b.hold ≡ Loose) × (low ≤ c.at) × (c.at ≤ b.at) × (block_end b ≤ high)))
+Stands low high b c = (c ≡ record b { at = c.at }) × ((c.at ≡ b.at) ⊎ ((b.hold ≡ Loose) × (low ≤ c.at) × (block_end c ≤ high) × (low ≤ b.at) × (block_end b ≤ high)))
 
 two_packed : (low high from top to : ℕ) (bs : List Block) → IsLaid from top bs → low ≤ to → to ≤ from → Each (FitsGap low high) bs → EachTwo (Stands low high) bs (packed high to bs)
 two_packed low high from top to [] laid le down all = tt
@@ -72,7 +80,7 @@ two_packed low high from top to (b ∷ bs) laid le down all =
     elim (cases_lt b.at high) [
       | inl lt ↦
           let is = inside_is low high b laid.1 (omega arith) lt all.0 in
-          rw (lt-ltb b.at high lt) ((refl, inr (is.1, le, omega arith, is.0)), two_packed low high (block_end b) top (to + b.size) bs laid.2 (omega arith) (omega arith) all.1)
+          rw (lt-ltb b.at high lt) ((refl, inr (is.1, le, (let end = is.0 in omega arith), omega arith, is.0)), two_packed low high (block_end b) top (to + b.size) bs laid.2 (omega arith) (omega arith) all.1)
       | inr ge ↦ rw (le-ltb b.at high ge) (two_same (Stands low high) (λ x. (refl, inl refl)) (b ∷ bs))
     ]
 

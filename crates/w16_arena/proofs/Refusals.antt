@@ -1,11 +1,12 @@
 -- The steps that ask for no room, by what the table has at an id: those that are refused, and those that two steps make.
-use Rattle.std.proofs.Common.{◌≡◌, ℕ, ◌+◌, ◌-◌, ◌≤◌, ◌==◌, true, false, nat_lt, IfSome, is_some, List, length, slice_range, Option, Some, None, Ok, Err, option_map, refl, sym, ap, ◌∙◌, subst, arith}
+use Rattle.std.proofs.Common.{◌≡◌, ℕ, ◌+◌, ◌-◌, ◌≤◌, ◌==◌, ◌||◌, true, false, nat_lt, IfSome, is_some, List, length, slice_range, Option, Some, None, Ok, Err, option_map, refl, sym, ap, ◌∙◌, subst, arith}
 use Rattle.w16_model.specs.declared.Block.{Block}
 use Rattle.w16_model.specs.declared.Entry.{Entry}
+use Rattle.w16_model.specs.declared.Kind.{Kind}
 use Rattle.w16_model.specs.declared.Refusal.TheVariants as refusals
 use Rattle.w16_model.specs.Heap.{Heap, Object, object_at, is_fixed, is_discardable}
 use Rattle.w16_model.specs.Changes.{absent, with_object}
-use Rattle.w16_model.specs.OneObject.{after_lock, after_unlock, after_free, after_discard, after_touch, after_release, refused_order}
+use Rattle.w16_model.specs.OneObject.{after_lock, after_unlock, after_free, after_discard, after_modify, after_touch, after_release, refused_order}
 use Rattle.w16_model.specs.Table.{IsSound, block_with, entry_at, object_in, heap_in}
 use Rattle.w16_model.proofs.Tables.{object_is}
 use Rattle.w16_arena.specs.State.{ArenaState, Steps}
@@ -47,6 +48,9 @@ module _ (s : ArenaState) (sound : IsSound s.table) (id : ℕ) where
     pub free_none : Steps s s (λ a b. after_free a id ≡ Ok b)
     free_none = still (λ a b. after_free a id ≡ Ok b) (λ memory high. told.free_none (heap_in s.table memory) id (none_at memory high))
 
+    pub modify_none : (kind : Kind) → (s ≡ s) × Steps s s (λ a b. after_modify a id kind ≡ Err refusals.Absent)
+    modify_none kind = (refl, still (λ a b. after_modify a id kind ≡ Err refusals.Absent) (λ memory high. told.modify_none (heap_in s.table memory) id (none_at memory high) kind))
+
     pub discard_none : (s ≡ s) × Steps s s (λ a b. after_discard a id ≡ Err refusals.NotDiscardable)
     discard_none = (refl, still (λ a b. after_discard a id ≡ Err refusals.NotDiscardable) (λ memory high. told.discard_none (heap_in s.table memory) id (none_at memory high)))
 
@@ -78,6 +82,9 @@ module _ (s : ArenaState) (sound : IsSound s.table) (id : ℕ) where
 
     there_at : (memory : List ℕ) → s.table.hi ≤ length memory → object_at (heap_in s.table memory) id ≡ Some (object_in s.table.blocks memory id e)
     there_at memory high = at memory high ∙ ap (option_map (object_in s.table.blocks memory id)) there
+
+    pub modify_fixed : (kind : Kind) → (is_fixed e.kind || is_fixed kind) ≡ true → (s ≡ s) × Steps s s (λ a b. after_modify a id kind ≡ Err refusals.Fixed)
+    modify_fixed kind t = (refl, still (λ a b. after_modify a id kind ≡ Err refusals.Fixed) (λ memory high. told.modify_fixed (heap_in s.table memory) id (object_in s.table.blocks memory id e) (there_at memory high) kind t))
 
     pub free_locked : nat_lt 0 e.locks ≡ true → (s ≡ s) × Steps s s (λ a b. after_free a id ≡ Err refusals.Locked)
     free_locked t = (refl, still (λ a b. after_free a id ≡ Err refusals.Locked) (λ memory high. told.free_locked (heap_in s.table memory) id (object_in s.table.blocks memory id e) (there_at memory high) t))

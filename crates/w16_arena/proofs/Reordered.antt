@@ -27,7 +27,7 @@ or_true true = refl
 or_true false = refl
 
 -- another id is in it as before
-member_other : (id q : ℕ) (order : List ℕ) → id ≢ q → is_member q (without id order) ≡ is_member q order
+pub member_other : (id q : ℕ) (order : List ℕ) → id ≢ q → is_member q (without id order) ≡ is_member q order
 member_other id q order d = member_without q id order ∙ ap (λ t. is_member q order && not t) (ne_eqb q id (λ e. d (sym e))) ∙ and_true (is_member q order)
 
 without_once : (id : ℕ) (order : List ℕ) → AllPairs (λ a b. a ≡ b → ⊥) order → AllPairs (λ a b. a ≡ b → ⊥) (without id order)

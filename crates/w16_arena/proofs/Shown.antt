@@ -11,9 +11,18 @@ use Rattle.w16_model.specs.Changes.{removed, absent, with_object, newest, withou
 use Rattle.w16_model.specs.OneObject.{Enters, after_touch, refused_order}
 use Rattle.w16_model.specs.Table.{Table, IsSound, IsCountedBy, block_with, entry_at, hold_of_entry, heap_in}
 use Rattle.w16_blocks.specs.Layout as layouts
-use Rattle.w16_blocks.specs.Layout.{Layout, IsOrdered, replaced}
+use Rattle.w16_blocks.specs.Layout.{Layout, IsOrdered, all_but, holes_of, placed, replaced}
+use Rattle.w16_blocks.proofs.Free.{Lacks, AreHoles-holes, free_lacks, lacks_free}
+use Rattle.w16_blocks.proofs.Place.{All-placed}
+use Rattle.w16_blocks.proofs.Remove.{All-all_but, All-back}
+use Rattle.w16_blocks.proofs.Step.{All-first}
+use Rattle.w16_holes.proofs.Sets.{same_holes}
+use Rattle.w16_model.specs.declared.Block.{Block}
+use Rattle.w16_model.specs.Gap.{IsLaid, holes}
+use Rattle.w16_model.proofs.Gaps.{Each-at}
+use Rattle.w16_model.proofs.Tables.{member_with}
 use Rattle.w16_lru.specs.Uses.{Uses}
-use Rattle.w16_arena.specs.State.{ArenaState, Steps, table_of, heap_of, after_end}
+use Rattle.w16_arena.specs.State.{ArenaState, Steps, table_of, heap_of, holes_in, after_end}
 use Rattle.w16_arena.specs.Representation.{IsKept}
 use Rattle.w16_arena.proofs.Lookups.{in_list, no_block, past_end}
 use Rattle.w16_lru.specs.declared.End.{End}
@@ -44,6 +53,10 @@ module _ {entries : List (Option Entry)} {layout : Layout} {uses : Uses} {gap_ro
 
   pub told : (P : Table → Type 0) → P (table_of entries layout uses.ids) → P old.table
   told P h = subst (λ (o : ArenaState). P o.table) shown h
+
+  -- the holes are those between the blocks, whatever the entries and the order are
+  pub holes_shown : holes_of layout ≡ holes_in old.table
+  holes_shown = told (λ t. holes_of layout ≡ holes_in t) refl
 
   -- an entry that is there, with what is known of it
   pub entry_such : (id : ℕ) (P : Entry → Type 0) → IsSomeAnd (entry_at old.table id) P → (e : Entry) × (get_or entries id None ≡ Some e) × (id < length entries) × P e
@@ -158,3 +171,23 @@ module _ {entries : List (Option Entry)} {layout : Layout} {uses : Uses} {gap_ro
 -- past the ids no block is
 pub block_past : {entries : List (Option Entry)} {layout : Layout} {uses : Uses} {gap_rooms : ℕ} {room : ℕ} → IsKept entries layout uses gap_rooms room → (id : ℕ) → length entries ≤ id → block_with layout.blocks id ≡ None
 block_past {entries} {layout} {uses} kept id le = no_block (beside kept (replicate layout.hi 0) (let e = length-replicate {A = ℕ} layout.hi 0 in omega arith)) id (past_end entries id le)
+
+-- a block that is held otherwise leaves the holes
+pub holes_held : (l new : Layout) (id : ℕ) (hold : Hold) → IsOrdered l → IsOrdered new → (b : Option Block) → block_with l.blocks id ≡ b → is_some b ≡ true
+    → IfSome b (λ x. new ≡ record l { blocks = replaced (record x { hold = hold }) l.blocks }) → holes_of new ≡ holes_of l
+holes_held l new id hold before after None e there some = absurd (false≢true there)
+holes_held l new id hold before after (Some x) e there some =
+    let held : Block = record x { hold = hold } in
+    let mine = member_with l.blocks id x e in
+    let known : block_with l.blocks x.id ≡ Some x = ap (block_with l.blocks) mine.1 ∙ e in
+    let laid : IsLaid l.lo l.hi (replaced held l.blocks) = subst (λ (m : Layout). IsLaid m.lo m.hi m.blocks) some after.laid in
+    ap holes_of some ∙ same_holes l.hi l.lo l.lo (holes l.lo l.hi (replaced held l.blocks)) (holes_of l)
+    (AreHoles-holes l.lo l.lo l.hi (replaced held l.blocks) (omega arith) laid) (AreHoles-holes l.lo l.lo l.hi l.blocks (omega arith) before.laid)
+    (λ p is.
+    let lacks = free_lacks p l.lo l.hi (replaced held l.blocks) laid is in
+    let each = All-first (Lacks p) held (all_but x.id l.blocks) lacks.2 in
+    lacks_free p l.lo l.hi l.blocks before.laid lacks.0 lacks.1 (All-back l.cap (Lacks p) x.id x l.blocks before.named known each.0 each.1))
+    (λ p is.
+    let lacks = free_lacks p l.lo l.hi l.blocks before.laid is in
+    lacks_free p l.lo l.hi (replaced held l.blocks) laid lacks.0 lacks.1
+    (All-placed (Lacks p) held (all_but x.id l.blocks) (Each-at (Lacks p) l.blocks lacks.2 x mine.0) (All-all_but (Lacks p) x.id l.blocks lacks.2)))

@@ -100,7 +100,7 @@ module _ {entries : List (Option Entry)} {layout : Layout} {order memory : List 
           let some : 0 < b.size = (Each-at (λ (x : Block). (layout.lo ≤ x.at) × (0 < x.size) × (block_end x ≤ layout.hi)) layout.blocks (laid_each layout.lo layout.hi layout.blocks parts.sound.table.laid) b (member_with layout.blocks q b e).0).1 in
           place_here parts q ∙ ap (option_map (λ (x : Block). x.at)) e ∙ ap Some (sym (elim s.place [
             | inl same ↦ same
-            | inr slid ↦ elim out [ inl below ↦ absurd (omega (arith, slid.1)) | inr above ↦ absurd (omega (arith, slid.2, slid.3)) ]
+            | inr slid ↦ let size : c.size ≡ b.size = ap (λ (x : Block). x.size) s.same in elim out [ inl below ↦ absurd (omega (arith, slid.1)) | inr above ↦ absurd (omega (arith, slid.2, size)) ]
           ]))
 
   -- and so does a pinned one, wherever

@@ -1,5 +1,5 @@
--- A new object at a place that was found or made: what its call asks, and the heap after it.
-use Rattle.std.proofs.Common.{◌≡◌, ◌≢◌, ℕ, ◌+◌, ◌<◌, ◌≤◌, ◌⊎◌, inl, inr, Bool, true, false, not, ◌||◌, ◌==◌, if◌then◌else◌, IsTrue, IfSome, All, List, length, set, slice_range, Option, Some, None, option_map, refl, sym, ap, ◌∙◌, subst, arith}
+-- An object at a place that was found or made: what its call asks, and the heap after it. Its id has no block before.
+use Rattle.std.proofs.Common.{◌≡◌, ◌≢◌, ℕ, ◌+◌, ◌<◌, ◌≤◌, ◌⊎◌, inl, inr, Bool, true, false, not, ◌&&◌, ◌||◌, ◌==◌, IsTrue, IfSome, List, length, set, slice_range, Option, Some, None, option_map, refl, sym, ap, ◌∙◌, subst, arith}
 use Rattle.std.specs.Cmp.{nat_cmp_total}
 use Rattle.std.specs.FinMap as finmap
 use Rattle.std.specs.FinMap.{same_map, nat_cmp-IsAntisymmetric}
@@ -7,15 +7,12 @@ use Rattle.std.proofs.lemmas.Bool.{false≢true, cases_Bool, and_parts}
 use Rattle.w16_model.specs.declared.Block.{Block}
 use Rattle.w16_model.specs.declared.Entry.{Entry}
 use Rattle.w16_model.specs.declared.Hold.{Hold}
-use Rattle.w16_model.specs.declared.Kind.{Kind}
 use Rattle.w16_model.specs.declared.Way.{Way}
 use Rattle.w16_model.specs.Gap.{is_pinned}
 use Rattle.w16_model.specs.Heap.{Heap, Object, IsMultiple, blocks, is_discardable}
-use Rattle.w16_model.specs.Changes.{newest, with_ordered, with_newest}
-use Rattle.w16_model.specs.Request.{Settles, stays_for}
+use Rattle.w16_model.specs.Request.{stays_for}
 use Rattle.w16_model.specs.Table.{block_with, hold_of_entry}
 use Rattle.w16_model.proofs.Gaps.{Member, Each-from, Each-at, All-from_Each}
-use Rattle.w16_model.specs.Bytes.{put_part, repeated}
 use Rattle.w16_blocks.specs.Layout.{Layout, IsOrdered, Fits, placed}
 use Rattle.w16_compact.specs.Gather.{moved_between}
 use Rattle.w16_arena.specs.declared.new_place.Placed.{Placed}
@@ -25,22 +22,20 @@ use Rattle.w16_arena.specs.NewPlace.{Slides, AreMoved, AreFreeBytes}
 use Rattle.w16_arena.proofs.Parts.{AreParts}
 use Rattle.w16_arena.proofs.Lookups.{is_heap, place_here}
 use Rattle.w16_arena.proofs.Listed.{listed_with, is_listed}
-use Rattle.w16_arena.proofs.Allocated.{differ, fits, new_parts, objects, order_new, place_new, others_stay}
+use Rattle.w16_arena.proofs.Changed.{ReordersOne}
+use Rattle.w16_arena.proofs.Allocated.{AreLocks, differ, fits, new_parts, objects, place_new, others_stay}
 use Rattle.w16_arena.proofs.Slid.{slid_parts, slid_object, slid_with, slid_still, slid_pinned}
 use Rattle.w16_arena.proofs.Pairs.{BothOrNone}
 use Rattle.w16_arena.proofs.Moved.{moved_is, moved_few}
-use Rattle.w16_arena.proofs.Cleared.{Makes, makes}
+use Rattle.w16_arena.proofs.Cleared.{Makes}
 
-module _ {entries : List (Option Entry)} {layout : Layout} {order memory : List ℕ} (parts : AreParts entries layout order memory) (bytes : All (λ b. b < 256) memory)
-    (id n : ℕ) (kind : Kind) (way : Way) (lt : id < length entries) (absent : block_with layout.blocks id ≡ None) (some : 0 < n) (rounded : IsMultiple layout.grain n) where
+module _ {entries : List (Option Entry)} {layout : Layout} {order memory : List ℕ} (parts : AreParts entries layout order memory)
+    (id n : ℕ) (entry : Entry) (locks : AreLocks entry) (way : Way) (lt : id < length entries) (absent : block_with layout.blocks id ≡ None) (some : 0 < n) (rounded : IsMultiple layout.grain n) where
   abbrev before : Heap
   before = heap_of entries layout order memory
 
   other : (x : Block) → Member x layout.blocks → x.id ≢ id
-  other x m = Each-at (λ (c : Block). c.id ≢ id) layout.blocks (differ parts id n kind lt absent some rounded) x m
-
-  abbrev entry : Entry
-  entry = record { kind = kind; locks = 0 }
+  other x m = Each-at (λ (c : Block). c.id ≢ id) layout.blocks (differ parts id n entry locks lt absent some rounded) x m
 
   -- Others slid or not, and the object stands at a place that is free then.
   module _ {mid : Layout} {mid_memory : List ℕ} (p : Placed) (moved : AreMoved p.slid.from p.slid.to layout memory mid mid_memory) (place : AreFreeBytes mid n p.at) where
@@ -64,85 +59,78 @@ module _ {entries : List (Option Entry)} {layout : Layout} {order memory : List 
     abbrev named : Hold → Block
     named h = record { id = id; at = p.at; size = n; hold = h }
 
-    module _ {hold : Hold} (hold_is : hold ≡ hold_of_entry entry) (still : way.compact ≡ false → mid ≡ layout) where
+    module _ {hold : Hold} (hold_is : hold ≡ hold_of_entry entry) where
       pub may_insert : Fits mid (named hold)
-      may_insert = subst (λ h. Fits mid (named h)) (sym hold_is) (fits mid_parts id n kind lt mid_absent some mid_rounded p.at place)
+      may_insert = subst (λ h. Fits mid (named h)) (sym hold_is) (fits mid_parts id n entry locks lt mid_absent some mid_rounded p.at place)
 
       module _ {new : Layout} (value : new ≡ record mid { blocks = placed (named hold) mid.blocks }) (ordered : IsOrdered new)
-          {after : List ℕ} (filled : after ≡ (if way.zero then put_part mid_memory p.at (repeated n 0) else mid_memory))
-          {uses : List ℕ} (uses_is : uses ≡ (if is_discardable kind then newest id order else order)) where
+          {after : List ℕ} (made : Makes p.at n mid_memory after) {uses : List ℕ} (reorders : ReordersOne id (is_discardable entry.kind && true) order uses) where
         new_is : new ≡ record mid { blocks = placed (named (hold_of_entry entry)) mid.blocks }
         new_is = value ∙ ap (λ h. record mid { blocks = placed (named h) mid.blocks }) hold_is
-
-        made : Makes way.zero p.at n mid_memory after
-        made = makes way.zero p.at n mid_memory after some in_memory (moved.bytes bytes) filled
 
         ordered_new : IsOrdered (record mid { blocks = placed (named (hold_of_entry entry)) mid.blocks })
         ordered_new = subst IsOrdered new_is ordered
 
-        granted_parts : AreParts (set entries id (Some entry)) (record mid { blocks = placed (named (hold_of_entry entry)) mid.blocks }) (if is_discardable kind then newest id order else order) after
-        granted_parts = new_parts mid_parts id n kind lt mid_absent some mid_rounded p.at place ordered_new way.zero after made
+        granted_parts : AreParts (set entries id (Some entry)) (record mid { blocks = placed (named (hold_of_entry entry)) mid.blocks }) uses after
+        granted_parts = new_parts mid_parts id n entry locks lt mid_absent some mid_rounded p.at place reorders ordered_new after made
 
         pub parts_after : AreParts (set entries id (Some entry)) new uses after
-        parts_after = subst (λ u. AreParts (set entries id (Some entry)) new u after) (sym uses_is)
-            (subst (λ l. AreParts (set entries id (Some entry)) l (if is_discardable kind then newest id order else order) after) (sym new_is) granted_parts)
+        parts_after = subst (λ l. AreParts (set entries id (Some entry)) l uses after) (sym new_is) granted_parts
 
         abbrev granted : Heap
-        granted = heap_of (set entries id (Some entry)) (record mid { blocks = placed (named (hold_of_entry entry)) mid.blocks }) (if is_discardable kind then newest id order else order) after
+        granted = heap_of (set entries id (Some entry)) (record mid { blocks = placed (named (hold_of_entry entry)) mid.blocks }) uses after
 
         abbrev o : Object
-        o = record { kind = kind; locks = 0; bytes = Some (slice_range after p.at (p.at + n)) }
+        o = record { kind = entry.kind; locks = entry.locks; bytes = Some (slice_range after p.at (p.at + n)) }
 
         -- each other stands where it slid to
         place_mid : (q : ℕ) → q ≢ id → finmap.get granted.places q ≡ finmap.get (heap_of entries mid order mid_memory).places q
-        place_mid q d = (others_stay mid_parts id n kind lt mid_absent some mid_rounded p.at place ordered_new way.zero after made q d).1
-
-        place_same : way.compact ≡ false → (q : ℕ) → finmap.get (heap_of entries mid order mid_memory).places q ≡ finmap.get before.places q
-        place_same off q = place_here mid_parts q ∙ ap (λ (l : Layout). option_map (λ (x : Block). x.at) (block_with l.blocks q)) (still off) ∙ sym (place_here parts q)
+        place_mid q d = (others_stay mid_parts id n entry locks lt mid_absent some mid_rounded p.at place reorders ordered_new after made q d).1
 
         objects_same : granted.objects ≡ finmap.insert before.objects id o
         objects_same =
             let mid_same : (heap_of entries mid order mid_memory).objects ≡ before.objects = same_map nat_cmp_total nat_cmp-IsAntisymmetric (heap_of entries mid order mid_memory).objects before.objects (slid_object parts moved) in
-            same_map nat_cmp_total nat_cmp-IsAntisymmetric granted.objects (finmap.insert (heap_of entries mid order mid_memory).objects id o) (objects mid_parts id n kind lt mid_absent some mid_rounded p.at place ordered_new way.zero after made)
+            same_map nat_cmp_total nat_cmp-IsAntisymmetric granted.objects (finmap.insert (heap_of entries mid order mid_memory).objects id o) (objects mid_parts id n entry locks lt mid_absent some mid_rounded p.at place reorders ordered_new after made)
             ∙ ap (λ os. finmap.insert os id o) mid_same
 
-        stays : (x : Block) → Member x layout.blocks → IsTrue (stays_for id way x) → finmap.get granted.places x.id ≡ Some x.at
-        stays x m t =
-            let here = listed_with parts x m in
-            place_mid x.id (other x m) ∙ elim (cases_Bool way.compact) [
-              | inl on ↦ slid_pinned parts moved x.id x here (first (is_pinned x) (ap (λ v. is_pinned x || not v) (sym on) ∙ (and_parts (not (x.id == id)) (is_pinned x || not way.compact) t).1))
-              | inr off ↦ place_same off x.id ∙ place_here parts x.id ∙ ap (option_map (λ (y : Block). y.at)) here
-            ]
-          where
-            first : (t : Bool) → (t || not true) ≡ true → t ≡ true
-            first true e = refl
-            first false e = absurd (false≢true e)
+        module _ (still : way.compact ≡ false → mid.blocks ≡ layout.blocks) where
+          place_same : way.compact ≡ false → (q : ℕ) → finmap.get (heap_of entries mid order mid_memory).places q ≡ finmap.get before.places q
+          place_same off q = place_here mid_parts q ∙ ap (λ (bs : List Block). option_map (λ (x : Block). x.at) (block_with bs q)) (still off) ∙ sym (place_here parts q)
 
-        settled : Settles before (stays_for id way) (with_ordered before id o (with_newest id o)) granted
-        settled = record {
-          same =
-              let lo = ap (λ (l : Layout). l.lo) moved.same in let hi = ap (λ (l : Layout). l.hi) moved.same in let grain = ap (λ (l : Layout). l.grain) moved.same in
-              let listed = order_new mid_parts id n kind lt mid_absent some mid_rounded p.at place ordered_new way.zero after made in
-              λ i. record { lo = lo i; hi = hi i; grain = grain i; objects = objects_same i; places = granted.places; order = sym listed i };
-          sound = is_heap granted_parts made.bytes;
-          kept = All-from_Each (λ x. IsTrue (stays_for id way x) → finmap.get granted.places x.id ≡ Some x.at) (blocks before)
-              (Each-from (λ x. IsTrue (stays_for id way x) → finmap.get granted.places x.id ≡ Some x.at) (blocks before) (λ x m. stays x (is_listed parts x m)));
-        }
+          stays : (x : Block) → Member x layout.blocks → IsTrue (stays_for id way x) → finmap.get granted.places x.id ≡ Some x.at
+          stays x m t =
+              let here = listed_with parts x m in
+              place_mid x.id (other x m) ∙ elim (cases_Bool way.compact) [
+                | inl on ↦ slid_pinned parts moved x.id x here (first (is_pinned x) (ap (λ v. is_pinned x || not v) (sym on) ∙ (and_parts (not (x.id == id)) (is_pinned x || not way.compact) t).1))
+                | inr off ↦ place_same off x.id ∙ place_here parts x.id ∙ ap (option_map (λ (y : Block). y.at)) here
+              ]
+            where
+              first : (t : Bool) → (t || not true) ≡ true → t ≡ true
+              first true e = refl
+              first false e = absurd (false≢true e)
 
-        stands_granted : p.moved ≡ moved_between layout.blocks mid.blocks → Stands before id n kind way p granted
-        stands_granted counted = record {
-          object = o;
-          is_new = record { same_kind = refl; same_locks = refl; new_bytes = made.fresh };
-          settled = settled;
-          placed = record {
-            place = place_new mid_parts id n kind lt mid_absent some mid_rounded p.at place ordered_new way.zero after made;
-            inside = let hi = ap (λ (l : Layout). l.hi) moved.same in let end = place.below in omega arith;
-            still = λ q d. subst (λ (at : Option ℕ). IfSome at (λ at. ((at < p.slid.from) ⊎ (p.slid.to ≤ at)) → finmap.get before.places q ≡ Some at)) (sym (place_mid q d)) (slid_still parts moved q);
-            moved = counted ∙ moved_is parts moved mid_parts granted (λ b m. place_mid b.id (other b m));
-            few = let e = counted ∙ moved_is parts moved mid_parts granted (λ b m. place_mid b.id (other b m)) in omega (arith, e, moved_few (table_of entries layout order) parts.sound memory parts.high granted);
-          };
-        }
+          -- The object is such as is asked, and the order of use is what is asked with it.
+          module _ {becomes : Object → Type 0} {order_with : Object → List ℕ → List ℕ} (such : becomes o) (listed : order_with o order ≡ uses) (counted : p.moved ≡ moved_between layout.blocks mid.blocks) where
+            stands_granted : Stands before id n becomes order_with way p granted
+            stands_granted = record {
+              object = o;
+              such = such;
+              settled = record {
+                same =
+                    let lo = ap (λ (l : Layout). l.lo) moved.same in let hi = ap (λ (l : Layout). l.hi) moved.same in let grain = ap (λ (l : Layout). l.grain) moved.same in
+                    λ i. record { lo = lo i; hi = hi i; grain = grain i; objects = objects_same i; places = granted.places; order = sym listed i };
+                sound = is_heap granted_parts made.bytes;
+                kept = All-from_Each (λ x. IsTrue (stays_for id way x) → finmap.get granted.places x.id ≡ Some x.at) (blocks before)
+                    (Each-from (λ x. IsTrue (stays_for id way x) → finmap.get granted.places x.id ≡ Some x.at) (blocks before) (λ x m. stays x (is_listed parts x m)));
+              };
+              placed = record {
+                place = place_new mid_parts id n entry locks lt mid_absent some mid_rounded p.at place reorders ordered_new after made;
+                inside = let hi = ap (λ (l : Layout). l.hi) moved.same in let end = place.below in omega arith;
+                still = λ q d. subst (λ (at : Option ℕ). IfSome at (λ at. ((at < p.slid.from) ⊎ (p.slid.to ≤ at)) → finmap.get before.places q ≡ Some at)) (sym (place_mid q d)) (slid_still parts moved q);
+                moved = counted ∙ moved_is parts moved mid_parts granted (λ b m. place_mid b.id (other b m));
+                few = let e = counted ∙ moved_is parts moved mid_parts granted (λ b m. place_mid b.id (other b m)) in omega (arith, e, moved_few (table_of entries layout order) parts.sound memory parts.high granted);
+              };
+            }
 
-        pub stands : p.moved ≡ moved_between layout.blocks mid.blocks → Stands before id n kind way p (heap_of (set entries id (Some entry)) new uses after)
-        stands counted = subst (λ u. Stands before id n kind way p (heap_of (set entries id (Some entry)) new u after)) (sym uses_is)
-            (subst (λ l. Stands before id n kind way p (heap_of (set entries id (Some entry)) l (if is_discardable kind then newest id order else order) after)) (sym new_is) (stands_granted counted))
+            pub stands : Stands before id n becomes order_with way p (heap_of (set entries id (Some entry)) new uses after)
+            stands = subst (λ l. Stands before id n becomes order_with way p (heap_of (set entries id (Some entry)) l uses after)) (sym new_is) stands_granted

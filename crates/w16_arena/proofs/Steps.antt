@@ -92,7 +92,7 @@ module _ {entries : List (Option Entry)} {layout : Layout} {uses : Uses} {gap_ro
     touched_is = ap (λ t. cond t (newest id uses.ids) uses.ids) there
 
   -- some memory that has the range
-  some_parts : AreParts entries layout uses.ids (replicate layout.hi 0)
+  pub some_parts : AreParts entries layout uses.ids (replicate layout.hi 0)
   some_parts = beside (replicate layout.hi 0) (let e = length-replicate {A = ℕ} layout.hi 0 in omega arith)
 
   -- An id's object is taken away.

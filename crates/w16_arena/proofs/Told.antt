@@ -1,13 +1,14 @@
 -- What the single steps of a heap say, by what it has at an id.
-use Rattle.std.proofs.Common.{◌≡◌, ℕ, ◌+◌, ◌-◌, ◌==◌, true, false, nat_lt, is_some, Some, None, Ok, Err, refl}
+use Rattle.std.proofs.Common.{◌≡◌, ℕ, ◌+◌, ◌-◌, ◌==◌, ◌||◌, true, false, nat_lt, is_some, Some, None, Ok, Err, refl}
+use Rattle.w16_model.specs.declared.Kind.{Kind}
 use Rattle.w16_model.specs.declared.Refusal.TheVariants as refusals
 use Rattle.w16_model.specs.Heap.{Heap, Object, object_at, is_fixed, is_discardable}
 use Rattle.w16_model.specs.Changes.{absent, removed, touched, with_object, with_ordered}
-use Rattle.w16_model.specs.OneObject.{after_lock, after_unlock, after_free, after_discard, refused_order, after_newest, after_oldest}
+use Rattle.w16_model.specs.OneObject.{after_lock, after_unlock, after_free, after_discard, after_modify, refused_order, after_newest, after_oldest}
 use Rattle.w16_lru.specs.declared.End.{End}
 use Rattle.w16_lru.specs.declared.End.TheVariants.{Oldest, Newest}
 use Rattle.w16_lru.specs.Uses.{at_end}
-use Rattle.w16_arena.specs.State.{after_end}
+use Rattle.w16_arena.specs.State.{after_end, relisted}
 
 module _ (heap : Heap) (id : ℕ) where
   module _ (none : object_at heap id ≡ None) where
@@ -19,6 +20,9 @@ module _ (heap : Heap) (id : ℕ) where
 
     pub free_none : after_free heap id ≡ Ok heap
     free_none = rw (none, after_free) refl
+
+    pub modify_none : (kind : Kind) → after_modify heap id kind ≡ Err refusals.Absent
+    modify_none kind = rw (none, after_modify) refl
 
     pub discard_none : after_discard heap id ≡ Err refusals.NotDiscardable
     discard_none = rw (none, after_discard) refl
@@ -44,6 +48,13 @@ module _ (heap : Heap) (id : ℕ) where
 
     pub unlock_ok : is_fixed o.kind ≡ false → after_unlock heap id ≡ Ok (with_object heap id (record o { locks = o.locks - 1 }))
     unlock_ok b = rw (there, after_unlock, b) refl
+
+    pub modify_fixed : (kind : Kind) → (is_fixed o.kind || is_fixed kind) ≡ true → after_modify heap id kind ≡ Err refusals.Fixed
+    modify_fixed kind b = rw (there, after_modify, b) refl
+
+    pub modify_ok : (kind : Kind) → (is_fixed o.kind || is_fixed kind) ≡ false
+        → after_modify heap id kind ≡ Ok (with_ordered heap id (record o { kind = kind }) (λ order. relisted (is_discardable o.kind) (is_discardable kind) (is_some o.bytes) id order))
+    modify_ok kind b = rw (there, after_modify, b) refl
 
     pub free_locked : nat_lt 0 o.locks ≡ true → after_free heap id ≡ Err refusals.Locked
     free_locked b = rw (there, after_free, b) refl

@@ -1,5 +1,5 @@
--- Where each object stands as it stood, nothing was moved.
-use Rattle.std.proofs.Common.{◌≡◌, ℕ, Bool, false, cond, not, List, [], ◌∷◌, filter, sum_by, Option, Some, None, unwrap_or, refl, ap, ◌∙◌, eq-eqb}
+-- Where each object stands as it stood, or nowhere, nothing was moved.
+use Rattle.std.proofs.Common.{◌≡◌, ℕ, ◌⊎◌, inl, inr, Bool, false, cond, not, List, [], ◌∷◌, filter, sum_by, Option, Some, None, unwrap_or, refl, ap, ◌∙◌, eq-eqb}
 use Rattle.std.specs.Ordering.{nat_cmp}
 use Rattle.std.specs.FinMap as finmap
 use Rattle.std.specs.FinMap.{FinMap}
@@ -13,24 +13,34 @@ here : (p : Option ℕ) → is_elsewhere (unwrap_or p 0) p ≡ false
 here None = refl
 here (Some at) = ap not (eq-eqb at at refl)
 
+-- every object stands where it stood, or nowhere
+abbrev pub NoneElsewhere : Heap → Heap → Type 0
+NoneElsewhere heap new = (q : ℕ) → (finmap.get new.places q ≡ finmap.get heap.places q) ⊎ (finmap.get new.places q ≡ None)
+
+not_elsewhere : (p r : Option ℕ) → (r ≡ p) ⊎ (r ≡ None) → is_elsewhere (unwrap_or p 0) r ≡ false
+not_elsewhere p r (inl same) = ap (is_elsewhere (unwrap_or p 0)) same ∙ here p
+not_elsewhere p r (inr none) = ap (is_elsewhere (unwrap_or p 0)) none
+
 -- none of the blocks is elsewhere
 abbrev AreHere : Heap → Heap → List Block → Type 0
 AreHere heap new xs = Each (λ (x : Block). is_elsewhere x.at (finmap.get new.places x.id) ≡ false) xs
 
-more_here : (heap new : Heap) → new.places ≡ heap.places → (id : ℕ) (o : Object) (es : List (ℕ × Object)) (b : Option (List ℕ)) → AreHere heap new (filter_map (block_of heap.places) es)
+more_here : (heap new : Heap) → NoneElsewhere heap new → (id : ℕ) (o : Object) (es : List (ℕ × Object)) (b : Option (List ℕ)) → AreHere heap new (filter_map (block_of heap.places) es)
     → AreHere heap new (filter_map (block_of heap.places) ((id, record o { bytes = b }) ∷ es))
-more_here heap new same id o es None rest = rest
-more_here heap new same id o es (Some bytes) rest =
-    (ap (λ (places : FinMap nat_cmp ℕ). is_elsewhere (unwrap_or (finmap.get heap.places id) 0) (finmap.get places id)) same ∙ here (finmap.get heap.places id), rest)
+more_here heap new stay id o es None rest = rest
+more_here heap new stay id o es (Some bytes) rest = (not_elsewhere (finmap.get heap.places id) (finmap.get new.places id) (stay id), rest)
 
-none_elsewhere : (heap new : Heap) → new.places ≡ heap.places → (es : List (ℕ × Object)) → AreHere heap new (filter_map (block_of heap.places) es)
-none_elsewhere heap new same [] = tt
-none_elsewhere heap new same ((id, o) ∷ es) = more_here heap new same id o es o.bytes (none_elsewhere heap new same es)
+none_elsewhere : (heap new : Heap) → NoneElsewhere heap new → (es : List (ℕ × Object)) → AreHere heap new (filter_map (block_of heap.places) es)
+none_elsewhere heap new stay [] = tt
+none_elsewhere heap new stay ((id, o) ∷ es) = more_here heap new stay id o es o.bytes (none_elsewhere heap new stay es)
 
 -- a sum over none
 none_summed : (p : Block → Bool) (xs : List Block) → Each (λ x. p x ≡ false) xs → sum_by (λ (x : Block). x.size) (filter p xs) ≡ 0
 none_summed p [] all = refl
 none_summed p (x ∷ xs) all = ap (λ b. sum_by (λ (x : Block). x.size) (cond b (x ∷ filter p xs) (filter p xs))) all.0 ∙ none_summed p xs all.1
 
+pub none_moved : (heap new : Heap) → NoneElsewhere heap new → moved_bytes heap new ≡ 0
+none_moved heap new stay = none_summed (λ x. is_elsewhere x.at (finmap.get new.places x.id)) (blocks heap) (none_elsewhere heap new stay (finmap.entries heap.objects))
+
 pub unmoved : (heap new : Heap) → new.places ≡ heap.places → moved_bytes heap new ≡ 0
-unmoved heap new same = none_summed (λ x. is_elsewhere x.at (finmap.get new.places x.id)) (blocks heap) (none_elsewhere heap new same (finmap.entries heap.objects))
+unmoved heap new same = none_moved heap new (λ q. inl (ap (λ (places : FinMap nat_cmp ℕ). finmap.get places q) same))

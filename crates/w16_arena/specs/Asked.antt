@@ -1,15 +1,15 @@
 -- What a request for room leaves beside its step: who was discarded, who stands elsewhere, and what was moved.
-use Rattle.std.specs.Prelude.{◌≡◌, ◌≢◌, ℕ, ◌+◌, ◌<◌, ◌≤◌, ◌⊎◌, List, length, take, Option, Some, IfSome}
+use Rattle.std.specs.Prelude.{◌≡◌, ◌≢◌, ℕ, ◌+◌, ◌<◌, ◌≤◌, ◌⊎◌, ◌&&◌, Bool, not, true, nat_le, if◌then◌else◌, List, length, take, Option, None, Some, IfSome, IsSomeAnd}
 use Rattle.std.specs.FinMap as finmap
-use Rattle.w16_model.specs.declared.Kind.{Kind}
 use Rattle.w16_model.specs.declared.Span.{Span}
 use Rattle.w16_model.specs.declared.Way.{Way}
 use Rattle.w16_model.specs.Gap.{is_pinned, longest_hole}
-use Rattle.w16_model.specs.Discards.{eligible}
-use Rattle.w16_model.specs.Heap.{Heap, Object, blocks}
-use Rattle.w16_model.specs.Changes.{with_newest, with_ordered}
-use Rattle.w16_model.specs.Request.{IsNew, Settles, stays_for, moved_bytes, prefix_of, discarded}
-use Rattle.w16_model.specs.Table.{heap_in}
+use Rattle.w16_model.specs.Discards.{eligible, growth_for}
+use Rattle.w16_model.specs.Heap.{Heap, Object, blocks, object_at, is_pinned_object}
+use Rattle.w16_model.specs.Changes.{with_ordered}
+use Rattle.w16_model.specs.Request.{Reallocates, Settles, stays_for, moved_bytes, prefix_of, snapshot_of, discarded}
+use Rattle.w16_model.specs.Table.{Table, heap_in}
+use Rattle.w16_arena.specs.Growth.{may_grow}
 use Rattle.w16_arena.specs.declared.new_place.Placed.{Placed}
 use Rattle.w16_arena.specs.declared.without_discard.Compacted.{Compacted}
 use Rattle.w16_arena.specs.State.{ArenaState, IsSameRange}
@@ -24,6 +24,23 @@ pub record HasDiscarded (old : Heap) (id n : ℕ) (way : Way) (discarded : List 
   pub needed : prefix_of old n (Some id) way ≡ Some prefix
   pub listed : discarded ≡ first_eligible old prefix (Some id)
 
+-- whether an object may have n bytes without a discard: where others may slide, there is room once it is left out; else it fits where it stands, or in a hole
+abbrev pub may_grow_in : Table → ℕ → ℕ → Bool → Bool
+may_grow_in t id n compact = may_grow (record { cap = length t.entries; lo = t.lo; hi = t.hi; grain = t.grain; blocks = t.blocks }) id n compact
+
+-- the number of discards by which an object's reallocation to n bytes is answered, if it is
+abbrev pub reallocation_prefix : Heap → ℕ → Object → ℕ → Way → Option ℕ
+reallocation_prefix old id o n way = elim o.bytes as (λ _. Option ℕ) [
+  | None ↦ prefix_of old n (Some id) way
+  | Some bytes ↦ if nat_le n (length bytes) then Some 0 else (if is_pinned_object o && not way.may_move then Some 0 else growth_for (snapshot_of old) n id way)
+]
+
+-- what an answered reallocation discarded: as many of the eligible as it needs
+pub record HasDiscardedFor (old : Heap) (id n : ℕ) (way : Way) (discarded : List ℕ) : Type 0 where
+  pub prefix : ℕ
+  pub needed : IsSomeAnd (object_at old id) (λ o. reallocation_prefix old id o n way ≡ Some prefix)
+  pub listed : discarded ≡ first_eligible old prefix (Some id)
+
 -- an object that stands outside a range stands where it stood
 abbrev pub IsStill : Span → Heap → Heap → ℕ → Type 0
 IsStill slid old new q = IfSome (finmap.get new.places q) (λ at. ((at < slid.from) ⊎ (slid.to ≤ at)) → finmap.get old.places q ≡ Some at)
@@ -36,17 +53,23 @@ pub record IsPlaced (old : Heap) (id n : ℕ) (p : Placed) (new : Heap) : Type 0
   pub moved : p.moved ≡ moved_bytes old new
   pub few : old.lo + p.moved ≤ old.hi
 
+-- an answered reallocation, with what it tells
+pub record IsResized (old : Heap) (id n : ℕ) (way : Way) (p : Placed) (discarded : List ℕ) (new : Heap) : Type 0 where
+  pub reallocated : Reallocates old id n way true new
+  pub placed : IsPlaced old id n p new
+  pub listed : HasDiscardedFor old id n way discarded
+
 -- what a compaction answers beside the room: objects have slid in a range alone; and so many bytes were moved, no more than the heap has
 pub record IsSlid (old : Heap) (c : Compacted) (new : Heap) : Type 0 where
   pub still : (q : ℕ) → IsStill c.slid old new q
   pub moved : c.moved ≡ moved_bytes old new
   pub few : old.lo + c.moved ≤ old.hi
 
--- n new bytes for an id without bytes, where nothing has to be discarded
-pub record Stands (old : Heap) (id n : ℕ) (kind : Kind) (way : Way) (p : Placed) (new : Heap) : Type 0 where
+-- n bytes for an id, where nothing has to be discarded: it becomes an object such as is asked, and the order of use is what is asked with it
+pub record Stands (old : Heap) (id n : ℕ) (becomes : Object → Type 0) (order : Object → List ℕ → List ℕ) (way : Way) (p : Placed) (new : Heap) : Type 0 where
   pub object : Object
-  pub is_new : IsNew way.zero n kind 0 object
-  pub settled : Settles old (stays_for id way) (with_ordered old id object (with_newest id object)) new
+  pub such : becomes object
+  pub settled : Settles old (stays_for id way) (with_ordered old id object (order object)) new
   pub placed : IsPlaced old id n p new
 
 -- others have slid, so that a hole is as long as it can be without a discard

@@ -18,10 +18,10 @@ EachTwo R [] (c ∷ cs) = ⊥
 EachTwo R (b ∷ bs) [] = ⊥
 EachTwo R (b ∷ bs) (c ∷ cs) = R b c × EachTwo R bs cs
 
--- a block that stands where it stood, or is a loose one that slid down between two addresses; its bytes came along
+-- a block that stands where it stood, or is a loose one that slid between two addresses; its bytes came along
 pub record Slides (low high : ℕ) (memory after : List ℕ) (b c : Block) : Type 0 where
   pub same : c ≡ record b { at = c.at }
-  pub place : (c.at ≡ b.at) ⊎ ((b.hold ≡ Loose) × (low ≤ c.at) × (c.at ≤ b.at) × (block_end b ≤ high))
+  pub place : (c.at ≡ b.at) ⊎ ((b.hold ≡ Loose) × (low ≤ c.at) × (block_end c ≤ high) × (low ≤ b.at) × (block_end b ≤ high))
   pub bytes : part after c.at c.size ≡ part memory b.at b.size
 
 -- blocks and a memory, and the same once blocks between two addresses slid

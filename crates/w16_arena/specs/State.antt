@@ -1,11 +1,12 @@
 -- What an arena is, and a step of its heap in every memory.
-use Rattle.std.specs.Prelude.{◌≡◌, ℕ, ◌≤◌, List, [], length, replicate, Option, None, Result}
+use Rattle.std.specs.Prelude.{◌≡◌, ℕ, ◌≤◌, ◌&&◌, if◌then◌else◌, Bool, List, [], length, replicate, Option, None, Result}
 use Rattle.w16_model.specs.declared.Entry.{Entry}
 use Rattle.w16_model.specs.declared.Refusal.{Refusal}
 use Rattle.w16_model.specs.declared.Block.{Block}
 use Rattle.w16_model.specs.declared.Span.{Span}
 use Rattle.w16_model.specs.Gap.{holes}
 use Rattle.w16_model.specs.Heap.{Heap, Object}
+use Rattle.w16_model.specs.Changes.{newest, without}
 use Rattle.w16_model.specs.OneObject.{after_newest, after_oldest}
 use Rattle.w16_model.specs.Table.{Table, IsSound, heap_in}
 use Rattle.std.specs.Borrow.{GName}
@@ -69,3 +70,7 @@ pub record Steps (old new : ArenaState) (step : Heap → Heap → Type 0) : Type
 abbrev pub after_end : End → Heap → ℕ → Result Heap Refusal
 after_end Oldest heap id = after_oldest heap id
 after_end Newest heap id = after_newest heap id
+
+-- the order of use once an id was, or wasn't, and is, or isn't, discardable
+abbrev pub relisted : Bool → Bool → Bool → ℕ → List ℕ → List ℕ
+relisted was is has_bytes id order = if was && is then order else (if is && has_bytes then newest id order else without id order)

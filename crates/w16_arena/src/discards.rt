@@ -1,5 +1,5 @@
 //! Discards, by least recent use.
-ghost use Rattle.std.specs.Prelude.{◌≡◌, ◌<◌, ◌≤◌, [], slice_get, Option, Some, None, MatchOption};
+ghost use Rattle.std.specs.Prelude.{◌≡◌, ◌<◌, ◌≤◌, [], length, slice_get, Option, Some, None, MatchOption};
 ghost use Rattle.w16_model.specs.Discards.{eligible};
 ghost use Rattle.w16_arena.specs.Asked.{Discards};
 ghost use Rattle.w16_arena.specs.State.{KeepsBytes, holes_in};
@@ -17,6 +17,7 @@ impl<H: HoleList> Arena<H> {
     where
         H: Holes<S>,
         requires kept { H.are_in (holes_in self.old.table) (S.bytes space.old) }
+        requires inside { self.old.table.hi ≤ length (S.bytes space.old) }
         ensures discards { Discards k h self.old self.new }
         ensures bytes { KeepsBytes S.bytes S.lenders S.written self.new.table.lo self.new.table.hi self.new.table.blocks space.old space.new }
         ensures kept { H.are_in (holes_in self.new.table) (S.bytes space.new) }

@@ -13,8 +13,13 @@ ghost use Rattle.w16_arena.specs.State.{empty_table, holes_in};
 
 mod bytes;
 mod discards;
+mod grown;
+mod growth;
+mod in_place;
+mod modify;
 mod new_place;
 mod objects;
+mod reallocate;
 mod requests;
 mod walk;
 mod without_discard;

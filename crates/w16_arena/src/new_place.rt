@@ -81,7 +81,7 @@ fn gather_for<S: Space, H: Holes<S>>(
     ensures written { IfSome result (λ p. S.written space.new ≡ counted (S.written space.old) p.moved) }
     ensures refused { IfNone result ((most_for blocks.old true < size) × (blocks.new ≡ blocks.old) × (space.new ≡ space.old)) }
 {
-    let gap = gap_for(blocks, space, size)?;
+    let gap = gap_for(blocks, space, None, size)?;
     let moved = gather(blocks, space, gap.low, gap.high);
     has_bytes(space);
     Some(Placed {

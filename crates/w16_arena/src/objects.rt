@@ -1,5 +1,5 @@
 //! What becomes of single objects. None of these calls asks for room.
-ghost use Rattle.std.specs.Prelude.{◌≡◌, ◌<◌, Ok, Err, Some, None, length, IfErr, IfSome, IfNone, IsSomeAnd, IsTrue, true, OnOk};
+ghost use Rattle.std.specs.Prelude.{◌≡◌, ◌<◌, ◌≤◌, Ok, Err, Some, None, length, IfErr, IfSome, IfNone, IsSomeAnd, IsTrue, true, OnOk};
 ghost use Rattle.w16_model.specs.Heap.{is_discardable, is_fixed, object_at};
 ghost use Rattle.w16_model.specs.OneObject.{Enters, after_free, after_release, after_lock, after_unlock, after_discard, after_touch, after_newest, after_oldest, refused_order};
 ghost use Rattle.w16_model.specs.Table.{block_with, entry_at, hold_of_entry, IsCountedBy};
@@ -20,7 +20,8 @@ impl<H: HoleList> Arena<H> {
     pub fn enter(&mut self, id: u32, kind: Kind)
         requires id { id < length self.old.table.entries }
         requires free { entry_at self.old.table id ≡ None }
-        ensures { Steps self.old self.new (λ old new. Enters old id kind new) }
+        ensures steps { Steps self.old self.new (λ old new. Enters old id kind new) }
+        ensures holes { holes_in self.new.table ≡ holes_in self.old.table }
     {
         self.entries[id as usize] = Some(Entry { kind, locks: 0 });
     }
@@ -30,6 +31,7 @@ impl<H: HoleList> Arena<H> {
     where
         H: Holes<S>,
         requires kept { H.are_in (holes_in self.old.table) (S.bytes space.old) }
+        requires inside { self.old.table.hi ≤ length (S.bytes space.old) }
         ensures steps { Steps self.old self.new (λ old new. new ≡ after_release old id) }
         ensures bytes { KeepsBytes S.bytes S.lenders S.written self.new.table.lo self.new.table.hi self.new.table.blocks space.old space.new }
         ensures kept { H.are_in (holes_in self.new.table) (S.bytes space.new) }
@@ -46,6 +48,7 @@ impl<H: HoleList> Arena<H> {
     where
         H: Holes<S>,
         requires kept { H.are_in (holes_in self.old.table) (S.bytes space.old) }
+        requires inside { self.old.table.hi ≤ length (S.bytes space.old) }
         ensures ok { OnOk result (Steps self.old self.new (λ old new. after_free old id ≡ Ok new)) }
         ensures err { IfErr result (λ r. (self.new ≡ self.old) × Steps self.old self.new (λ old new. after_free old id ≡ Err r)) }
         ensures bytes { KeepsBytes S.bytes S.lenders S.written self.new.table.lo self.new.table.hi self.new.table.blocks space.old space.new }
@@ -66,6 +69,7 @@ impl<H: HoleList> Arena<H> {
     pub fn lock(&mut self, id: u32) -> Result<(), Refusal>
         ensures ok { OnOk result (Steps self.old self.new (λ old new. after_lock old id ≡ Ok new)) }
         ensures err { IfErr result (λ r. (self.new ≡ self.old) × Steps self.old self.new (λ old new. after_lock old id ≡ Err r)) }
+        ensures holes { holes_in self.new.table ≡ holes_in self.old.table }
     {
         if self.block(id).is_none() {
             return Err(Refusal::Absent);
@@ -88,6 +92,7 @@ impl<H: HoleList> Arena<H> {
     pub fn unlock(&mut self, id: u32) -> Result<(), Refusal>
         ensures ok { OnOk result (Steps self.old self.new (λ old new. after_unlock old id ≡ Ok new)) }
         ensures err { IfErr result (λ r. (self.new ≡ self.old) × Steps self.old self.new (λ old new. after_unlock old id ≡ Err r)) }
+        ensures holes { holes_in self.new.table ≡ holes_in self.old.table }
     {
         let Some(entry) = self.entry(id) else {
             return Ok(());
@@ -105,6 +110,7 @@ impl<H: HoleList> Arena<H> {
     where
         H: Holes<S>,
         requires kept { H.are_in (holes_in self.old.table) (S.bytes space.old) }
+        requires inside { self.old.table.hi ≤ length (S.bytes space.old) }
         ensures ok { OnOk result (Steps self.old self.new (λ old new. after_discard old id ≡ Ok new)) }
         ensures err { IfErr result (λ r. (self.new ≡ self.old) × Steps self.old self.new (λ old new. after_discard old id ≡ Err r)) }
         ensures bytes { KeepsBytes S.bytes S.lenders S.written self.new.table.lo self.new.table.hi self.new.table.blocks space.old space.new }
@@ -125,7 +131,8 @@ impl<H: HoleList> Arena<H> {
 
     /// An object was used: a discardable one with bytes becomes the newest, any other is as it was.
     pub fn touch(&mut self, id: u32)
-        ensures { Steps self.old self.new (λ old new. new ≡ after_touch old id) }
+        ensures steps { Steps self.old self.new (λ old new. new ≡ after_touch old id) }
+        ensures holes { holes_in self.new.table ≡ holes_in self.old.table }
     {
         if self.is_listed(id) {
             self.order.newest(id);
@@ -147,6 +154,7 @@ impl<H: HoleList> Arena<H> {
     pub fn to_newest(&mut self, id: u32) -> Result<(), Refusal>
         ensures ok { OnOk result (Steps self.old self.new (λ old new. after_newest old id ≡ Ok new)) }
         ensures err { IfErr result (λ r. (self.new ≡ self.old) × Steps self.old self.new (λ old new. after_newest old id ≡ Err r)) }
+        ensures holes { holes_in self.new.table ≡ holes_in self.old.table }
     {
         self.to_end(id, End::Newest)
     }
@@ -155,6 +163,7 @@ impl<H: HoleList> Arena<H> {
     pub fn to_oldest(&mut self, id: u32) -> Result<(), Refusal>
         ensures ok { OnOk result (Steps self.old self.new (λ old new. after_oldest old id ≡ Ok new)) }
         ensures err { IfErr result (λ r. (self.new ≡ self.old) × Steps self.old self.new (λ old new. after_oldest old id ≡ Err r)) }
+        ensures holes { holes_in self.new.table ≡ holes_in self.old.table }
     {
         self.to_end(id, End::Oldest)
     }
@@ -163,6 +172,7 @@ impl<H: HoleList> Arena<H> {
     fn to_end(&mut self, id: u32, end: End) -> Result<(), Refusal>
         ensures ok { OnOk result (Steps self.old self.new (λ old new. after_end end old id ≡ Ok new)) }
         ensures err { IfErr result (λ r. (self.new ≡ self.old) × Steps self.old self.new (λ old new. after_end end old id ≡ Err r)) }
+        ensures holes { holes_in self.new.table ≡ holes_in self.old.table }
     {
         self.check_in_order(id)?;
         self.order.to_end(id, end);
@@ -173,7 +183,8 @@ impl<H: HoleList> Arena<H> {
     fn set_locks(&mut self, id: u32, kind: Kind, locks: u8)
         requires kind { IsSomeAnd (entry_at self.old.table id) (λ e. e.kind ≡ kind) }
         requires counted { IsCountedBy (block_with self.old.table.blocks id) (record { kind = kind; locks = locks }) }
-        ensures { Steps self.old self.new (λ old new. IfSome (object_at old id) (λ o. new ≡ changes.with_object old id (record o { locks = locks }))) }
+        ensures steps { Steps self.old self.new (λ old new. IfSome (object_at old id) (λ o. new ≡ changes.with_object old id (record o { locks = locks }))) }
+        ensures holes { holes_in self.new.table ≡ holes_in self.old.table }
     {
         let entry = Entry { kind, locks };
         set_hold(&mut self.blocks, id, hold(entry));
@@ -185,6 +196,7 @@ impl<H: HoleList> Arena<H> {
     where
         H: Holes<S>,
         requires kept { H.are_in (holes_in self.old.table) (S.bytes space.old) }
+        requires inside { self.old.table.hi ≤ length (S.bytes space.old) }
         requires unlocked { IsSomeAnd (entry_at self.old.table id) (λ e. e.locks ≡ 0) }
         ensures steps { Steps self.old self.new (λ old new. new ≡ changes.absent old id) }
         ensures blocks { self.new.table.blocks ≡ all_but id self.old.table.blocks }
@@ -222,6 +234,7 @@ impl<H: HoleList> Arena<H> {
 fn remove_block<S: Space, H: Holes<S>>(blocks: &mut Blocks<H>, space: &mut S, id: u32)
     requires id { id < blocks.old.cap }
     requires kept { H.are_in (holes_of blocks.old) (S.bytes space.old) }
+    requires inside { blocks.old.hi ≤ length (S.bytes space.old) }
     ensures value { blocks.new ≡ record blocks.old { blocks = all_but id blocks.old.blocks } }
     ensures ordered { IsOrdered blocks.new }
     ensures kept { H.are_in (holes_of blocks.new) (S.bytes space.new) }
@@ -238,6 +251,7 @@ fn set_hold<H: HoleList>(blocks: &mut Blocks<H>, id: u32, hold: Hold)
     ensures none { IfNone (block_with blocks.old.blocks id) (blocks.new ≡ blocks.old) }
     ensures some { IfSome (block_with blocks.old.blocks id) (λ b. blocks.new ≡ record blocks.old { blocks = replaced (record b { hold = hold }) blocks.old.blocks }) }
     ensures ordered { IsOrdered blocks.new }
+    ensures holes { holes_of blocks.new ≡ holes_of blocks.old }
 {
     if blocks.find(id).is_some() {
         blocks.set_hold(id, hold);
@@ -256,7 +270,7 @@ pub(crate) fn hold(entry: Entry) -> Hold
 }
 
 /// Whether an object of this kind keeps its address.
-fn is_fixed(kind: Kind) -> bool
+pub(crate) fn is_fixed(kind: Kind) -> bool
     ensures { result ≡ is_fixed kind }
 {
     kind == Kind::Fixed

@@ -161,7 +161,12 @@ impl<H: HoleList> Arena<H> {
     }
 
     /// The least number of discards that make room for `n` bytes, where `h` isn't counted; none where no number does. Nothing changes.
-    fn least_discards<S: Space>(&mut self, space: &S, h: Option<u32>, n: u32) -> Option<usize>
+    pub(crate) fn least_discards<S: Space>(
+        &mut self,
+        space: &S,
+        h: Option<u32>,
+        n: u32,
+    ) -> Option<usize>
     where
         H: Holes<S>,
         requires kept { H.are_in (holes_in self.old.table) (S.bytes space.now) }
@@ -181,7 +186,7 @@ impl<H: HoleList> Arena<H> {
     }
 
     /// Nothing was discarded.
-    fn forget_discards(&mut self)
+    pub(crate) fn forget_discards(&mut self)
         ensures { self.new ≡ record self.old { discarded = [] } }
     {
         self.discarded.clear();
@@ -189,7 +194,7 @@ impl<H: HoleList> Arena<H> {
 }
 
 /// Whether a request may discard others.
-fn may_discard(way: Way) -> bool
+pub(crate) fn may_discard(way: Way) -> bool
     ensures { result ≡ (way.compact && way.discard) }
 {
     way.compact && way.discard

@@ -5,7 +5,7 @@ ghost use Rattle.w16_model.specs.Heap.{IsMultiple, is_discardable};
 ghost use Rattle.w16_model.specs.Gap.{room};
 ghost use Rattle.w16_model.specs.Changes as changes;
 ghost use Rattle.w16_model.specs.Table.{block_with, heap_in, IsSound};
-ghost use Rattle.w16_model.specs.Request.{most_room};
+ghost use Rattle.w16_model.specs.Request.{IsNew, most_room};
 ghost use Rattle.w16_blocks.specs.Layout.{IsOrdered, holes_of};
 ghost use Rattle.w16_arena.specs.State.{KeepsRest, holes_in};
 ghost use Rattle.w16_arena.specs.NewPlace.{most_in};
@@ -48,7 +48,7 @@ impl<H: HoleList> Arena<H> {
         requires rounded { IsMultiple self.old.table.grain size }
         requires kept { H.are_in (holes_in self.old.table) (S.bytes space.old) }
         requires inside { self.old.table.hi ≤ length (S.bytes space.old) }
-        ensures stands { IfSome result (λ p. Stands (heap_in self.old.table (S.bytes space.old)) id size kind way p
+        ensures stands { IfSome result (λ p. Stands (heap_in self.old.table (S.bytes space.old)) id size (IsNew way.zero size kind 0) (changes.with_newest id) way p
             (heap_in self.new.table (S.bytes space.new))) }
         ensures enough { IfSome result (λ _. size ≤ most_in self.old.table way.compact) }
         ensures refused { IfNone result ((most_in self.old.table way.compact < size) × (self.new ≡ self.old) × (space.new ≡ space.old)) }

@@ -1,17 +1,14 @@
 //! The calls of an arena.
-ghost use Rattle.std.specs.Prelude.{◌≡◌, ◌<◌, ◌≤◌, length, IsTrue};
-ghost use Rattle.w16_model.specs.Heap.{IsMultiple};
 
+mod bench;
 mod discards;
+mod growth;
 mod scripts;
 
-use std::alloc::{AllocError, Global};
+use bench::{Bench, Step};
 use std::process::Abort;
 use std::test::Fail;
-use w16_arena::{Arena, Compacted, NoRoom, Placed};
-use w16_holes::SideHoles;
-use w16_model::{Block, Entry, Hold, Item, Kind, Refusal, Way};
-use w16_region::{Region, Space};
+use w16_model::{Block, Entry, Hold, Kind, Way};
 
 /// A request that moves no other object.
 const AS_IT_STANDS: Way = Way {
@@ -36,184 +33,6 @@ const DISCARDING: Way = Way {
     may_move: false,
 };
 
-/// How many ids there are.
-const IDS: u32 = 6;
-
-/// One call of an arena.
-#[derive(Clone, Copy)]
-enum Step {
-    Enter(u32, Kind),
-    Alloc(u32, u32, Kind, Way),
-    Lock(u32),
-    Unlock(u32),
-    Free(u32),
-    Release(u32),
-    Discard(u32),
-    Touch(u32),
-    Newest(u32),
-    Oldest(u32),
-    Compact(u32),
-    RoomAll,
-}
-
-/// What it answers.
-#[derive(Clone, Copy, Debug, PartialEq, Eq)]
-enum Answer {
-    Done,
-    Refused(Refusal),
-    NoRoom,
-    Placed(Placed),
-    Compacted(Compacted),
-    Room(u32),
-}
-
-macro_rules! told {
-    ($call:expr) => {
-        match $call {
-            Ok(()) => Answer::Done,
-            Err(refusal) => Answer::Refused(refusal),
-        }
-    };
-}
-
-/// Whether a number is a multiple of another one.
-fn is_multiple(of: u32, n: u32) -> bool
-    requires { 0 < of }
-    ensures { IsTrue result → IsMultiple of n }
-{
-    n % of == 0
-}
-
-/// No object, of six ids, over 256 bytes.
-fn six(rt: &impl Abort, alloc: Global) -> Result<Arena<SideHoles>, AllocError> {
-    assert!(rt; is_multiple(32, 0));
-    let holes = SideHoles::new(alloc, 0, 256, 32)?;
-    Arena::new(alloc, IDS, holes, 0, 256, 32)
-}
-
-/// Makes a call.
-fn act(rt: &impl Abort, arena: &mut Arena<SideHoles>, region: &mut Region, step: Step) -> Answer {
-    match step {
-        Step::Enter(id, kind) => {
-            assert!(rt; id < arena.cap() && arena.entry(id).is_none());
-            arena.enter(id, kind);
-            Answer::Done
-        }
-        Step::Alloc(id, size, kind, way) => {
-            let grain = arena.grain();
-            assert!(rt; id < arena.cap() && arena.block(id).is_none());
-            assert!(rt; 0 < size && 0 < grain && is_multiple(grain, size));
-            assert!(rt; arena.bounds().to <= region.len());
-            match arena.alloc(region, id, size, kind, way) {
-                Ok(placed) => Answer::Placed(placed),
-                Err(NoRoom) => Answer::NoRoom,
-            }
-        }
-        Step::Lock(id) => told!(arena.lock(id)),
-        Step::Unlock(id) => told!(arena.unlock(id)),
-        Step::Free(id) => told!(arena.free(region, id)),
-        Step::Release(id) => {
-            arena.release(region, id);
-            Answer::Done
-        }
-        Step::Discard(id) => told!(arena.discard(region, id)),
-        Step::Touch(id) => {
-            arena.touch(id);
-            Answer::Done
-        }
-        Step::Newest(id) => told!(arena.to_newest(id)),
-        Step::Oldest(id) => told!(arena.to_oldest(id)),
-        Step::Compact(n) => {
-            assert!(rt; arena.bounds().to <= region.len());
-            Answer::Compacted(arena.compact(region, n))
-        }
-        Step::RoomAll => Answer::Room(arena.room_all(region)),
-    }
-}
-
-/// A whole walk.
-fn shown(
-    alloc: Global,
-    arena: &Arena<SideHoles>,
-    region: &Region,
-) -> Result<Vec<Item>, AllocError> {
-    let mut items = Vec::new(alloc);
-    let mut from = 0;
-    for _ in 0..20 {
-        let Some(item) = arena.walk_from(region, from) else {
-            return Ok(items);
-        };
-        items.push(item)?;
-        from = item.at + 1;
-    }
-    Ok(items)
-}
-
-/// The order of use, oldest first.
-fn in_order(alloc: Global, arena: &Arena<SideHoles>) -> Result<Vec<u32>, AllocError> {
-    let mut ids = Vec::new(alloc);
-    for i in 0..IDS {
-        if let Some(id) = arena.nth(i as usize) {
-            ids.push(id)?;
-        }
-    }
-    Ok(ids)
-}
-
-/// What is known of each id.
-fn entries(alloc: Global, arena: &Arena<SideHoles>) -> Result<Vec<Option<Entry>>, AllocError> {
-    let mut entries = Vec::new(alloc);
-    for id in 0..IDS {
-        entries.push(arena.entry(id))?;
-    }
-    Ok(entries)
-}
-
-/// Whether an answer says that nothing was changed.
-fn is_refusal(answer: Answer) -> bool {
-    matches!(answer, Answer::Refused(_) | Answer::NoRoom)
-}
-
-/// Makes a call that has an answer and, as a request, discards some. A refused one changes nothing.
-fn expect(
-    rt: &impl Abort,
-    alloc: Global,
-    name: &str,
-    arena: &mut Arena<SideHoles>,
-    region: &mut Region,
-    line: &(Step, Answer, &[u32]),
-) -> Result<(), AllocError> {
-    let (step, answer, discarded) = *line;
-    let walk = shown(alloc, arena, region)?;
-    let order = in_order(alloc, arena)?;
-    let known = entries(alloc, arena)?;
-    let written = region.written();
-    let found = act(rt, arena, region, step);
-    assert_eq!(rt; found, answer, "{name}");
-    assert_eq!(rt; arena.discarded(), discarded, "{name}: discarded");
-    if is_refusal(answer) {
-        assert_eq!(rt; shown(alloc, arena, region)?, walk, "{name}: walk");
-        assert_eq!(rt; in_order(alloc, arena)?, order, "{name}: order");
-        assert_eq!(rt; entries(alloc, arena)?, known, "{name}: entries");
-        assert_eq!(rt; region.written(), written, "{name}: written");
-    }
-    Ok(())
-}
-
-/// The heap that some calls leave.
-fn made(
-    rt: &impl Abort,
-    alloc: Global,
-    steps: &[Step],
-) -> Result<(Arena<SideHoles>, Region), AllocError> {
-    let mut arena = six(rt, alloc)?;
-    let mut region = Region::new(alloc, 256)?;
-    for step in steps {
-        act(rt, &mut arena, &mut region, *step);
-    }
-    Ok((arena, region))
-}
-
 /// A fixed object, an absent one and a moveable one behind the first.
 const THREE: &[Step] = &[
     Step::Alloc(3, 64, Kind::Fixed, AS_IT_STANDS),
@@ -221,146 +40,142 @@ const THREE: &[Step] = &[
     Step::Alloc(2, 32, Kind::Moveable, AS_IT_STANDS),
 ];
 
+/// What is known of an object without locks.
+macro_rules! unlocked {
+    ($kind:expr) => {
+        Some(Entry {
+            kind: $kind,
+            locks: 0,
+        })
+    };
+}
+
+const ENTRIES: &[(u32, Option<Entry>)] = &[
+    (3, unlocked!(Kind::Fixed)),
+    (1, unlocked!(Kind::Discardable)),
+    (0, None),
+    (4_294_967_295, None),
+];
+
+/// The first id of the table with another entry.
+fn other_entry(bench: &Bench) -> Option<u32> {
+    for (id, entry) in ENTRIES {
+        if bench.entry(*id) != *entry {
+            return Some(*id);
+        }
+    }
+    None
+}
+
 #[test]
 fn looks_up_entries(rt: HostRuntime) -> Result<(), Fail> {
-    let (arena, _) = made(&rt, rt.alloc(), THREE)?;
-    assert_eq!(rt;
-        arena.entry(3),
-        Some(Entry {
-            kind: Kind::Fixed,
-            locks: 0
-        })
-    );
-    assert_eq!(rt;
-        arena.entry(1),
-        Some(Entry {
-            kind: Kind::Discardable,
-            locks: 0
-        })
-    );
-    assert_eq!(rt; arena.entry(0), None);
-    assert_eq!(rt; arena.entry(4_294_967_295), None);
+    let bench = Bench::with(&rt, rt.alloc(), THREE)?;
+    assert!(rt; other_entry(&bench).is_none());
     Ok(())
+}
+
+/// The fixed object of the three.
+const FIRST: Block = Block {
+    id: 3,
+    at: 0,
+    size: 64,
+    hold: Hold::Pinned,
+};
+
+/// The moveable one.
+const SECOND: Block = Block {
+    id: 2,
+    at: 64,
+    size: 32,
+    hold: Hold::Loose,
+};
+
+const BLOCKS: &[(u32, Option<Block>)] = &[
+    (3, Some(FIRST)),
+    (2, Some(SECOND)),
+    (1, None),
+    (6, None),
+];
+
+/// The first id of the table with another block.
+fn other_block(bench: &Bench) -> Option<u32> {
+    for (id, block) in BLOCKS {
+        if bench.block(*id) != *block {
+            return Some(*id);
+        }
+    }
+    None
 }
 
 #[test]
 fn looks_up_blocks(rt: HostRuntime) -> Result<(), Fail> {
-    let (empty, none) = made(&rt, rt.alloc(), &[])?;
-    assert_eq!(rt; empty.next_block(&none, 0), None);
-    let (arena, region) = made(&rt, rt.alloc(), THREE)?;
-    let first = Block {
-        id: 3,
-        at: 0,
-        size: 64,
-        hold: Hold::Pinned,
-    };
-    let second = Block {
-        id: 2,
-        at: 64,
-        size: 32,
-        hold: Hold::Loose,
-    };
-    assert_eq!(rt; arena.block(3), Some(first));
-    assert_eq!(rt; arena.block(2), Some(second));
-    assert_eq!(rt; arena.block(1), None);
-    assert_eq!(rt; arena.block(6), None);
-    assert_eq!(rt; arena.next_block(&region, 0), Some(first));
-    assert_eq!(rt; arena.next_block(&region, 1), Some(second));
-    assert_eq!(rt; arena.next_block(&region, 64), Some(second));
-    assert_eq!(rt; arena.next_block(&region, 65), None);
+    let bench = Bench::with(&rt, rt.alloc(), THREE)?;
+    assert!(rt; other_block(&bench).is_none());
+    Ok(())
+}
+
+/// The lowest block at an address or behind it.
+const NEXT: &[(u32, Option<Block>)] = &[
+    (0, Some(FIRST)),
+    (1, Some(SECOND)),
+    (64, Some(SECOND)),
+    (65, None),
+];
+
+/// The first address of the table with another block behind it.
+fn other_next_block(bench: &Bench) -> Option<u32> {
+    for (from, block) in NEXT {
+        if bench.next_block(*from) != *block {
+            return Some(*from);
+        }
+    }
+    None
+}
+
+#[test]
+fn looks_up_the_next_block(rt: HostRuntime) -> Result<(), Fail> {
+    let bench = Bench::with(&rt, rt.alloc(), THREE)?;
+    assert!(rt; other_next_block(&bench).is_none());
     Ok(())
 }
 
 #[test]
-fn counts_locks(rt: HostRuntime) -> Result<(), Fail> {
-    let mut arena = six(&rt, rt.alloc())?;
-    let mut region = Region::new(rt.alloc(), 256)?;
-    act(
-        &rt,
-        &mut arena,
-        &mut region,
-        Step::Alloc(0, 32, Kind::Discardable, AS_IT_STANDS),
-    );
-    act(
-        &rt,
-        &mut arena,
-        &mut region,
-        Step::Alloc(1, 32, Kind::Discardable, AS_IT_STANDS),
-    );
-    for _ in 0..255 {
-        assert_eq!(rt; arena.lock(0), Ok(()));
-    }
-    assert_eq!(rt; arena.to_oldest(0), Ok(()));
-    assert_eq!(rt; arena.lock(0), Err(Refusal::LockFull));
-    assert_eq!(rt; in_order(rt.alloc(), &arena)?.as_slice(), [0, 1].as_slice());
-    assert_eq!(rt;
-        arena.entry(0),
-        Some(Entry {
-            kind: Kind::Discardable,
-            locks: 255
-        })
-    );
-    for _ in 0..255 {
-        assert_eq!(rt; arena.unlock(0), Ok(()));
-    }
-    assert_eq!(rt; arena.free(&mut region, 0), Ok(()));
-    assert_eq!(rt; arena.entry(0), None);
+fn looks_up_no_next_block(rt: HostRuntime) -> Result<(), Fail> {
+    let bench = Bench::new(&rt, rt.alloc())?;
+    assert!(rt; bench.next_block(0).is_none());
     Ok(())
+}
+
+/// A request for zeros.
+const ZEROS: Way = Way {
+    zero: true,
+    ..DISCARDING
+};
+
+/// Places, lengths, and the byte there.
+const CLEARED: &[(u32, u32, u8)] = &[(0, 32, 7), (32, 32, 0), (64, 192, 7)];
+
+/// The first place of the table with another byte.
+fn other_byte(rt: &impl Abort, bench: &Bench) -> Option<u32> {
+    for (at, n, byte) in CLEARED {
+        if !bench.is_filled(rt, *at, *n, *byte) {
+            return Some(*at);
+        }
+    }
+    None
 }
 
 #[test]
 fn clears_new_bytes(rt: HostRuntime) -> Result<(), Fail> {
-    let mut arena = six(&rt, rt.alloc())?;
-    let mut region = Region::new(rt.alloc(), 256)?;
-    region.fill(0, 256, 7);
-    let zeros = Way {
-        zero: true,
-        ..DISCARDING
-    };
-    act(
-        &rt,
-        &mut arena,
-        &mut region,
-        Step::Alloc(0, 32, Kind::Moveable, DISCARDING),
-    );
-    act(
-        &rt,
-        &mut arena,
-        &mut region,
-        Step::Alloc(1, 32, Kind::Discardable, zeros),
-    );
-    assert!(rt; region.len() == 256);
-    assert!(rt; region.view(0, 32).iter().all(|byte| *byte == 7));
-    assert!(rt; region.view(32, 32).iter().all(|byte| *byte == 0));
-    assert!(rt; region.view(64, 192).iter().all(|byte| *byte == 7));
-    act(&rt, &mut arena, &mut region, Step::Release(0));
-    act(
-        &rt,
-        &mut arena,
-        &mut region,
-        Step::Alloc(2, 256, Kind::Moveable, zeros),
-    );
-    assert!(rt; region.len() == 256);
-    assert!(rt; region.view(0, 256).iter().all(|byte| *byte == 0));
-    assert_eq!(rt; arena.discarded(), [1].as_slice());
+    let mut bench = Bench::new(&rt, rt.alloc())?;
+    bench.fill(&rt, 0, 256, 7);
+    bench.act(&rt, Step::Alloc(0, 32, Kind::Moveable, DISCARDING));
+    bench.act(&rt, Step::Alloc(1, 32, Kind::Discardable, ZEROS));
+    assert!(rt; other_byte(&rt, &bench).is_none());
+    bench.act(&rt, Step::Release(0));
+    bench.act(&rt, Step::Alloc(2, 256, Kind::Moveable, ZEROS));
+    assert!(rt; bench.is_filled(&rt, 0, 256, 0) && bench.has_discarded(&[1]));
     Ok(())
-}
-
-/// Whether an object has so many bytes, all of them this one.
-fn is_filled(arena: &Arena<SideHoles>, region: &Region, id: u32, size: usize, byte: u8) -> bool {
-    if arena.bounds().to > region.len() {
-        return false;
-    }
-    match arena.bytes(region, id) {
-        Some(bytes) => bytes.len() == size && bytes.iter().all(|other| *other == byte),
-        None => false,
-    }
-}
-
-/// How many bytes an object has, if it has any.
-fn size_of(rt: &impl Abort, arena: &Arena<SideHoles>, region: &Region, id: u32) -> Option<usize> {
-    assert!(rt; arena.bounds().to <= region.len());
-    arena.bytes(region, id).map(|bytes| bytes.len())
 }
 
 /// Two objects with bytes, one behind the other, and an absent one.
@@ -370,38 +185,41 @@ const TWO: &[Step] = &[
     Step::Enter(2, Kind::Discardable),
 ];
 
+/// How many bytes an object has.
+const SIZES: &[(u32, Option<usize>)] = &[(0, Some(32)), (1, Some(64)), (2, None), (6, None)];
+
+/// The same once the first is released, and another takes the room behind the second.
+const SIZES_THEN: &[(u32, Option<usize>)] = &[(0, None), (1, Some(64)), (3, Some(192))];
+
+/// The first id of a table with another number of bytes.
+fn other_size(rt: &impl Abort, bench: &Bench, sizes: &[(u32, Option<usize>)]) -> Option<u32> {
+    for (id, size) in sizes {
+        if bench.size(rt, *id) != *size {
+            return Some(*id);
+        }
+    }
+    None
+}
+
 #[test]
 fn tells_bytes(rt: HostRuntime) -> Result<(), Fail> {
-    let (mut arena, mut region) = made(&rt, rt.alloc(), TWO)?;
-    assert!(rt; region.len() == 256);
-    region.fill(0, 32, 5);
-    region.fill(32, 64, 6);
-    assert!(rt; is_filled(&arena, &region, 0, 32, 5));
-    assert!(rt; is_filled(&arena, &region, 1, 64, 6));
-    assert_eq!(rt; size_of(&rt, &arena, &region, 2), None);
-    assert_eq!(rt; size_of(&rt, &arena, &region, 6), None);
-    act(&rt, &mut arena, &mut region, Step::Release(0));
-    act(
-        &rt,
-        &mut arena,
-        &mut region,
-        Step::Alloc(3, 192, Kind::Moveable, SLIDING),
-    );
-    assert_eq!(rt; size_of(&rt, &arena, &region, 0), None);
-    assert!(rt; is_filled(&arena, &region, 1, 64, 6));
-    assert_eq!(rt; size_of(&rt, &arena, &region, 3), Some(192));
+    let mut bench = Bench::with(&rt, rt.alloc(), TWO)?;
+    bench.fill(&rt, 0, 32, 5);
+    bench.fill(&rt, 32, 64, 6);
+    assert!(rt; bench.has_only(&rt, 0, 5) && bench.has_only(&rt, 1, 6));
+    assert!(rt; other_size(&rt, &bench, SIZES).is_none());
+    bench.act(&rt, Step::Release(0));
+    bench.act(&rt, Step::Alloc(3, 192, Kind::Moveable, SLIDING));
+    assert!(rt; bench.has_only(&rt, 1, 6));
+    assert!(rt; other_size(&rt, &bench, SIZES_THEN).is_none());
     Ok(())
 }
 
 #[test]
 fn lends_bytes(rt: HostRuntime) -> Result<(), Fail> {
-    let (arena, mut region) = made(&rt, rt.alloc(), TWO)?;
-    let block = arena.block(1).expect(&rt, "a block");
-    assert!(rt; arena.bounds().to <= region.len());
-    Arena::bytes_mut(&mut region, &arena, block).fill(7);
-    assert!(rt; region.len() == 256);
-    assert!(rt; is_filled(&arena, &region, 0, 32, 0));
-    assert!(rt; is_filled(&arena, &region, 1, 64, 7));
-    assert_eq!(rt; region.written(), 64);
+    let mut bench = Bench::with(&rt, rt.alloc(), TWO)?;
+    bench.fill_object(&rt, 1, 7);
+    assert!(rt; bench.has_only(&rt, 0, 0) && bench.has_only(&rt, 1, 7));
+    assert!(rt; bench.written() == 64);
     Ok(())
 }

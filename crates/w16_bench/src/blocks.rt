@@ -127,7 +127,8 @@ fn first_byte<S: Space>(blocks: &Blocks<SideHoles>, space: &S, id: u32) -> u8
 
 /// Frees blocks and allocates them again, `turns` times, and adds up where the holes for them were.
 fn pairs<S: Space>(blocks: &mut Blocks<SideHoles>, space: &mut S, turns: u32) -> u64
-    requires { 0 < blocks.old.cap }
+    requires some { 0 < blocks.old.cap }
+    requires inside { blocks.old.hi ≤ length (S.bytes space.old) }
     ensures cap { blocks.new.cap ≡ blocks.old.cap }
     ensures hi { blocks.new.hi ≡ blocks.old.hi }
     ensures long { length (S.bytes space.new) ≡ length (S.bytes space.old) }
@@ -144,7 +145,8 @@ fn pairs<S: Space>(blocks: &mut Blocks<SideHoles>, space: &mut S, turns: u32) ->
 /// Takes an id's block away, asks for the lowest hole that is as long, and puts the block back where it was. Where the blocks before it
 /// leave no hole, that is the one that it left. Answers where the hole was, or 0 where the id has no block.
 fn free_and_alloc<S: Space>(blocks: &mut Blocks<SideHoles>, space: &mut S, id: u32) -> u32
-    requires { id < blocks.old.cap }
+    requires id { id < blocks.old.cap }
+    requires inside { blocks.old.hi ≤ length (S.bytes space.old) }
     ensures cap { blocks.new.cap ≡ blocks.old.cap }
     ensures hi { blocks.new.hi ≡ blocks.old.hi }
     ensures long { length (S.bytes space.new) ≡ length (S.bytes space.old) }
@@ -167,7 +169,7 @@ fn gather_all<S: Space>(blocks: &mut Blocks<SideHoles>, space: &mut S) -> u64
     if blocks.find(0).is_some() {
         blocks.remove(space, 0);
     }
-    match gap_for(blocks, space, UNIT) {
+    match gap_for(blocks, space, None, UNIT) {
         Some(gap) => gather(blocks, space, gap.low, gap.high),
         None => 0,
     }

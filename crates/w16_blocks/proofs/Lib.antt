@@ -11,10 +11,13 @@ pub mod Shift
 pub mod Slid
 pub mod Shifting
 pub mod Next
+pub mod Downward
 pub mod Walk
 pub mod Passed
 pub mod Outside
 pub mod Tagged
 pub mod Sliding
+pub mod Lifting
+pub mod Rising
 pub mod RunHoles
 pub mod RunKept

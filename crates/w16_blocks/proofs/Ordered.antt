@@ -1,13 +1,16 @@
 -- A layout stays ordered where a block is added or taken away.
-use Rattle.std.proofs.Common.{ℕ, ◌≡◌, ◌≢◌, ◌+◌, ◌<◌, ◌≤◌, ◌^◌, List, [], ◌∷◌, length, map, eqb, true, false, sum_by, refl, arith, sym, inl, inr}
+use Rattle.std.proofs.Common.{ℕ, ◌≡◌, ◌≢◌, ◌+◌, ◌<◌, ◌≤◌, ◌^◌, Bool, List, [], ◌∷◌, length, map, eqb, true, false, ◌||◌, nat_lt, sum_by, refl, arith, sym, ap, ◌∙◌, inl, inr, lt-ltb}
 use Rattle.std.proofs.lemmas.Bool.{ne_eqb, eqb-true, or_cases, false≢true}
 use Rattle.std.proofs.lemmas.List.{length-map}
 use Rattle.std.proofs.lemmas.List.Sums.{sum_by-cons}
 use Rattle.std.proofs.lemmas.Map.Steps.{length-le_from_distinct_below}
 use Rattle.std.specs.List.{AllByRecursion, list_any, IsDistinct}
 use Rattle.w16_model.specs.declared.Block.{Block}
-use Rattle.w16_model.specs.Gap.{IsLaid, block_end}
+use Rattle.w16_model.specs.declared.Hold.{Hold}
+use Rattle.w16_model.specs.declared.Hold.TheVariants.{Pinned, Loose}
+use Rattle.w16_model.specs.Gap.{IsLaid, block_end, is_pinned, holds_still}
 use Rattle.w16_blocks.specs.Layout.{Layout, AreNamed, IsGrained, IsOrdered, Fits, placed, all_but}
+use Rattle.w16_blocks.specs.Kept.{pins_of, pins_in}
 use Rattle.w16_blocks.proofs.Place.{All-placed, IsLaid-placed, AreNamed-placed}
 use Rattle.w16_blocks.proofs.Remove.{All-all_but, IsLaid-all_but, AreNamed-all_but}
 
@@ -67,3 +70,23 @@ pub sum_fits : (lo hi : ℕ) (bs : List Block) → IsLaid lo hi bs → lo + sum_
 sum_fits lo hi [] laid = let none : sum_by (λ (b : Block). b.size) [] ≡ 0 = refl in omega arith
 sum_fits lo hi (b ∷ bs) laid =
     let from = laid.0 in let rest = sum_fits (block_end b) hi bs laid.2 in let sum = sum_by-cons (λ (c : Block). c.size) b bs in omega arith
+
+pub pins_small : (h : Hold) → pins_of h ≤ 1
+pins_small Pinned = omega arith
+pins_small Loose = omega arith
+
+-- each block has a byte, so no more are counted than there are bytes
+pub pins_fit : (lo hi : ℕ) (bs : List Block) → IsLaid lo hi bs → sum_by pins_in bs ≤ sum_by (λ (b : Block). b.size) bs
+pins_fit lo hi [] laid = let none : sum_by pins_in [] ≡ 0 = refl in omega arith
+pins_fit lo hi (b ∷ bs) laid =
+    let one = pins_small b.hold in let some = laid.1 in let rest = pins_fit (block_end b) hi bs laid.2 in
+    let pins = sum_by-cons pins_in b bs in let sum = sum_by-cons (λ (c : Block). c.size) b bs in omega arith
+
+-- where none is counted, each block is loose
+pub counted_any : (bs : List Block) → list_any is_pinned bs ≡ nat_lt 0 (sum_by pins_in bs)
+counted_any [] = refl
+counted_any (b ∷ bs) = ap (λ (t : Bool). is_pinned b || t) (counted_any bs) ∙ more b.hold ∙ ap (nat_lt 0) (sym (sum_by-cons pins_in b bs))
+  where
+    more : (h : Hold) → (holds_still h || nat_lt 0 (sum_by pins_in bs)) ≡ nat_lt 0 (pins_of h + sum_by pins_in bs)
+    more Pinned = sym (lt-ltb 0 (1 + sum_by pins_in bs) (omega arith))
+    more Loose = ap (nat_lt 0) (omega arith)

@@ -1,5 +1,5 @@
 -- The holes where a run of blocks slides down: what its new place has beyond the old one is taken, and what the old one has beyond the new is put.
-use Rattle.std.proofs.Common.{ℕ, ◌≡◌, ◌+◌, ◌-◌, ◌<◌, ◌≤◌, ◌⊎◌, min, List, [], ◌∷◌, map, sum_by, arith, refl, sym, ap, subst, inl, inr}
+use Rattle.std.proofs.Common.{ℕ, ◌≡◌, ◌+◌, ◌-◌, ◌<◌, ◌≤◌, ◌⊎◌, min, List, [], ◌∷◌, map, sum_by, arith, refl, sym, ap, ◌∙◌, subst, inl, inr}
 use Rattle.std.proofs.lemmas.Bool.{cases_lt}
 use Rattle.std.proofs.lemmas.List.Sums.{sum_by-cons}
 use Rattle.std.specs.List.{AllByRecursion}
@@ -7,7 +7,8 @@ use Rattle.w16_model.specs.declared.Block.{Block}
 use Rattle.w16_model.specs.declared.Span.{Span}
 use Rattle.w16_model.specs.Gap.{IsLaid, block_end, holes}
 use Rattle.w16_model.specs.Heap.{IsMultiple}
-use Rattle.w16_model.proofs.Gaps.{Each-map}
+use Rattle.w16_model.proofs.Gaps.{Each-map, Each-both}
+use Rattle.w16_holes.proofs.Units.{multiple_sum}
 use Rattle.w16_holes.specs.Holes.{AreHoles, IsFree, IsUsed, IsPart, taken, joined}
 use Rattle.w16_holes.specs.Law.{IsIn}
 use Rattle.w16_holes.proofs.Sets.{AreHoles-taken, taken_in, in_taken, AreHoles-joined, joined_in, in_joined}
@@ -26,21 +27,22 @@ pub All-unmapped : (R P Q : Block → Type 0) (f : Block → Block) → ((b : Bl
 All-unmapped R P Q f step [] one two = tt
 All-unmapped R P Q f step (b ∷ bs) one two = (step b one.0 two.0, All-unmapped R P Q f step bs one.1 two.1)
 
--- a block that slides keeps its size
-slid_size : (run : Span) (to : ℕ) (b : Block) → (slid_with run to b).size ≡ b.size
-slid_size run to b = elim (cases_lt b.at run.from) [
-  | inl below ↦ ap (λ (c : Block). c.size) (slid_below run to b below)
-  | inr from ↦ elim (cases_lt b.at run.to) [
-    | inl inside ↦ ap (λ (c : Block). c.size) (slid_inside run to b from inside)
-    | inr above ↦ ap (λ (c : Block). c.size) (slid_above run to b above)
+-- what doesn't depend on a block's address stays where it slides
+module _ (f : Block → ℕ) (same : (b : Block) (at : ℕ) → f (record b { at = at }) ≡ f b) where
+  slid_same : (run : Span) (to : ℕ) (b : Block) → f (slid_with run to b) ≡ f b
+  slid_same run to b = elim (cases_lt b.at run.from) [
+    | inl below ↦ ap f (slid_below run to b below)
+    | inr from ↦ elim (cases_lt b.at run.to) [
+      | inl inside ↦ ap f (slid_inside run to b from inside) ∙ same b _
+      | inr above ↦ ap f (slid_above run to b above)
+    ]
   ]
-]
 
-pub sum-slid : (run : Span) (to : ℕ) (bs : List Block) → sum_by (λ (b : Block). b.size) (map (slid_with run to) bs) ≡ sum_by (λ (b : Block). b.size) bs
-sum-slid run to [] = refl
-sum-slid run to (b ∷ bs) =
-    let first = sum_by-cons (λ (c : Block). c.size) (slid_with run to b) (map (slid_with run to) bs) in let old = sum_by-cons (λ (c : Block). c.size) b bs in
-    let size = slid_size run to b in let rest = sum-slid run to bs in omega arith
+  pub sum-slid : (run : Span) (to : ℕ) (bs : List Block) → sum_by f (map (slid_with run to) bs) ≡ sum_by f bs
+  sum-slid run to [] = refl
+  sum-slid run to (b ∷ bs) =
+      let first = sum_by-cons f (slid_with run to b) (map (slid_with run to) bs) in let old = sum_by-cons f b bs in
+      let one = slid_same run to b in let rest = sum-slid run to bs in omega arith
 
 -- a block is before the run, behind it, or in it
 abbrev pub Lies : Span → Block → Type 0
@@ -59,193 +61,266 @@ lies_of run lo hi (b ∷ bs) laid one two = (
   lies_of run (block_end b) hi bs laid.2 one.1 two.1,
 )
 
-module _ (l : Layout) (ordered : IsOrdered l) (run : Span) (is : IsRun l run) (some : run.from < run.to) (to : ℕ) (down : to < run.from) (low : l.lo ≤ to) (bare : IsBare to run.from l.blocks) where
+-- A way of a run to a place: what the place has beyond the run is [a, a + apart), what the run has beyond the place is [c, c + apart), and no other block has a byte of the place.
+pub record IsWay (l : Layout) (run : Span) (to a c apart : ℕ) : Type 0 where
+  pub low : l.lo ≤ to
+  pub high : to + (run.to - run.from) ≤ l.hi
+  pub some : (0 < apart) × (apart ≤ run.to - run.from)
+  pub entered : (to ≤ a) × (a + apart ≤ to + (run.to - run.from))
+  pub left : (run.from ≤ c) × (c + apart ≤ run.to)
+  pub entered_out : (a + apart ≤ run.from) ⊎ (run.to ≤ a)
+  pub left_out : (c + apart ≤ to) ⊎ (to + (run.to - run.from) ≤ c)
+  pub entered_rest : (p : ℕ) → to ≤ p → p < to + (run.to - run.from) → ((a ≤ p) × (p < a + apart)) ⊎ ((run.from ≤ p) × (p < run.to))
+  pub left_rest : (p : ℕ) → run.from ≤ p → p < run.to → ((c ≤ p) × (p < c + apart)) ⊎ ((to ≤ p) × (p < to + (run.to - run.from)))
+  pub clear : AllByRecursion (λ b. ((run.from ≤ b.at) × (block_end b ≤ run.to)) ⊎ ((block_end b ≤ to) ⊎ (to + (run.to - run.from) ≤ b.at))) l.blocks
+  pub grained : IsMultiple l.grain a × IsMultiple l.grain c × IsMultiple l.grain apart
+
+module _ (g from end to apart : ℕ) (one : IsMultiple g from) (two : IsMultiple g end) (three : IsMultiple g to) where
+  part_grained : (apart ≡ end - from) ⊎ ((apart ≡ from - to) ⊎ (apart ≡ to - from)) → IsMultiple g apart
+  part_grained (inl all) = subst (IsMultiple g) (sym all) (multiple_less g end from two one)
+  part_grained (inr (inl down)) = subst (IsMultiple g) (sym down) (multiple_less g from to one three)
+  part_grained (inr (inr up)) = subst (IsMultiple g) (sym up) (multiple_less g to from three one)
+
+-- the way down and the way up
+pub way_down : (l : Layout) (run : Span) → IsRun l run → run.from < run.to → (to apart : ℕ) → to < run.from → l.lo ≤ to → IsBare to run.from l.blocks → IsMultiple l.grain to → apart ≡ min (run.to - run.from) (run.from - to) → IsWay l run to to (run.to - apart) apart
+way_down l run is some to apart down low bare grained least =
+    let top = is.inside.2 in
+    let bounds : (0 < apart) × (apart ≤ run.to - run.from) × (apart ≤ run.from - to) × ((apart ≡ run.to - run.from) ⊎ (apart ≡ run.from - to)) = elim (cases_lt (run.from - to) (run.to - run.from)) [
+      | inl less ↦ (omega arith, omega arith, omega arith, inr (omega arith))
+      | inr more ↦ (omega arith, omega arith, omega arith, inl (omega arith))
+    ] in
+    let first = bounds.0 in let second = bounds.1 in let third = bounds.2 in
+    let part = part_grained l.grain run.from run.to to apart is.grained.0 is.grained.1 grained (elim bounds.3 [ inl all ↦ inl all | inr rest ↦ inr (inl rest) ]) in
+    record {
+      low = low;
+      high = omega arith;
+      some = (first, second);
+      entered = (omega arith, omega arith);
+      left = (omega arith, omega arith);
+      entered_out = inl (omega arith);
+      left_out = inr (elim bounds.3 [ inl all ↦ omega arith | inr rest ↦ omega arith ]);
+      entered_rest = λ p ge lt. elim (cases_lt p (to + apart)) [ inl in_new ↦ inl (ge, in_new) | inr past ↦ inr (elim bounds.3 [ inl all ↦ absurd (omega arith) | inr rest ↦ (omega arith, omega arith) ]) ];
+      left_rest = λ p ge lt. elim (cases_lt p (run.to - apart)) [ inl before ↦ inr (elim bounds.3 [ inl all ↦ absurd (omega arith) | inr rest ↦ (omega arith, omega arith) ]) | inr in_left ↦ inl (in_left, omega arith) ];
+      clear = Each-both (λ b. (block_end b ≤ to) ⊎ (run.from ≤ b.at)) (λ b. (block_end b ≤ run.to) ⊎ (run.to ≤ b.at)) (λ b. ((run.from ≤ b.at) × (block_end b ≤ run.to)) ⊎ ((block_end b ≤ to) ⊎ (to + (run.to - run.from) ≤ b.at)))
+          (λ b one two. elim one [
+            | inl under ↦ inr (inl under)
+            | inr over ↦ elim two [ inl end ↦ inl (over, end) | inr behind ↦ inr (inr (omega arith)) ]
+          ]) l.blocks bare is.whole.1;
+      grained = (grained, multiple_less l.grain run.to apart is.grained.1 part, part);
+    }
+
+pub way_up : (l : Layout) (run : Span) → IsRun l run → run.from < run.to → (to apart : ℕ) → run.from < to → to + (run.to - run.from) ≤ l.hi → IsBare run.to (to + (run.to - run.from)) l.blocks → IsMultiple l.grain to → apart ≡ min (run.to - run.from) (to - run.from)
+    → IsWay l run to (to + (run.to - run.from) - apart) run.from apart
+way_up l run is some to apart up high bare grained least =
+    let bottom = is.inside.0 in
+    let bounds : (0 < apart) × (apart ≤ run.to - run.from) × (apart ≤ to - run.from) × ((apart ≡ run.to - run.from) ⊎ (apart ≡ to - run.from)) = elim (cases_lt (to - run.from) (run.to - run.from)) [
+      | inl less ↦ (omega arith, omega arith, omega arith, inr (omega arith))
+      | inr more ↦ (omega arith, omega arith, omega arith, inl (omega arith))
+    ] in
+    let first = bounds.0 in let second = bounds.1 in let third = bounds.2 in
+    let part = part_grained l.grain run.from run.to to apart is.grained.0 is.grained.1 grained (elim bounds.3 [ inl all ↦ inl all | inr rest ↦ inr (inr rest) ]) in
+    record {
+      low = omega arith;
+      high = high;
+      some = (first, second);
+      entered = (omega arith, omega arith);
+      left = (omega arith, omega arith);
+      entered_out = inr (elim bounds.3 [ inl all ↦ omega arith | inr rest ↦ omega arith ]);
+      left_out = inl (omega arith);
+      entered_rest = λ p ge lt. elim (cases_lt p (to + (run.to - run.from) - apart)) [ inl before ↦ inr (elim bounds.3 [ inl all ↦ absurd (omega arith) | inr rest ↦ (omega arith, omega arith) ]) | inr in_new ↦ inl (in_new, omega arith) ];
+      left_rest = λ p ge lt. elim (cases_lt p (run.from + apart)) [ inl in_left ↦ inl (ge, in_left) | inr past ↦ inr (elim bounds.3 [ inl all ↦ absurd (omega arith) | inr rest ↦ (omega arith, omega arith) ]) ];
+      clear = Each-both (λ b. (block_end b ≤ run.to) ⊎ (to + (run.to - run.from) ≤ b.at)) (λ b. (block_end b ≤ run.from) ⊎ (run.from ≤ b.at)) (λ b. ((run.from ≤ b.at) × (block_end b ≤ run.to)) ⊎ ((block_end b ≤ to) ⊎ (to + (run.to - run.from) ≤ b.at)))
+          (λ b one two. elim one [
+            | inl under ↦ elim two [ inl before ↦ inr (inl (omega arith)) | inr from ↦ inl (from, under) ]
+            | inr over ↦ inr (inr over)
+          ]) l.blocks bare is.whole.0;
+      grained = (multiple_less l.grain (to + (run.to - run.from)) apart (multiple_sum l.grain to (run.to - run.from) grained (multiple_less l.grain run.to run.from is.grained.1 is.grained.0)) part, is.grained.0, part);
+    }
+
+module _ (l : Layout) (ordered : IsOrdered l) (run : Span) (is : IsRun l run) (some : run.from < run.to) (to a c apart : ℕ) (way : IsWay l run to a c apart) where
   abbrev size : ℕ
   size = run.to - run.from
 
-  -- as many bytes has the new place beyond the old one, and the old one beyond the new
-  module _ {apart : ℕ} (least : apart ≡ min size (run.from - to)) where
-    bounds : (0 < apart) × (apart ≤ size) × (apart ≤ run.from - to) × ((apart ≡ size) ⊎ (apart ≡ run.from - to))
-    bounds = elim (cases_lt (run.from - to) size) [
-      | inl less ↦ (omega arith, omega arith, omega arith, inr (omega arith))
-      | inr more ↦ (omega arith, omega arith, omega arith, inl (omega arith))
-    ]
+  are : AreHoles l.lo l.hi (holes_of l)
+  are = AreHoles-holes l.lo l.lo l.hi l.blocks (let one = is.inside.0 in let two = is.inside.2 in omega arith) ordered.laid
 
-    are : AreHoles l.lo l.hi (holes_of l)
-    are = AreHoles-holes l.lo l.lo l.hi l.blocks (let one = is.inside.0 in let two = is.inside.2 in omega arith) ordered.laid
+  -- a block is in the run, or misses both places
+  abbrev At : Block → Type 0
+  At b = (0 < b.size) × (((run.from ≤ b.at) × (block_end b ≤ run.to)) ⊎ (((block_end b ≤ run.from) ⊎ (run.to ≤ b.at)) × ((block_end b ≤ to) ⊎ (to + size ≤ b.at))))
 
-    abbrev entered : ℕ
-    entered = to + apart
+  each_at : AllByRecursion At l.blocks
+  each_at = Each-both (Lies run) (λ b. ((run.from ≤ b.at) × (block_end b ≤ run.to)) ⊎ ((block_end b ≤ to) ⊎ (to + size ≤ b.at))) At
+      (λ b at clear. let own = at.0 in (
+        own,
+        elim clear [
+          | inl inside ↦ inl inside
+          | inr out ↦ elim at.1 [
+            | inl before ↦ inr (inl before, out)
+            | inr other ↦ elim other [ inl behind ↦ inr (inr behind, out) | inr inside ↦ inl inside ]
+          ]
+        ],
+      )) l.blocks (lies_of run l.lo l.hi l.blocks ordered.laid is.whole.0 is.whole.1) way.clear
 
-    taken_some : to < entered
-    taken_some = let b = bounds.0 in omega arith
+  some_entered : a < a + apart
+  some_entered = let b = way.some.0 in omega arith
 
-    pub free_entered : IsFree to entered (holes_of l)
-    free_entered =
-        let most = bounds.2 in let top = is.inside.2 in
-        free_of to entered l.lo l.hi (holes_of l) taken_some are
-        (λ p from below. lacks_free p l.lo l.hi l.blocks ordered.laid (omega arith) (omega arith)
-        (Each-map (λ b. (block_end b ≤ to) ⊎ (run.from ≤ b.at)) (Lacks p) (λ b out. elim out [ inl before ↦ inr (omega arith) | inr behind ↦ inl (omega arith) ]) l.blocks bare))
+  pub free_entered : IsFree a (a + apart) (holes_of l)
+  free_entered =
+      let low = way.low in let high = way.high in let from = way.entered.0 in let end = way.entered.1 in
+      free_of a (a + apart) l.lo l.hi (holes_of l) some_entered are
+      (λ p ge lt. lacks_free p l.lo l.hi l.blocks ordered.laid (omega arith) (omega arith)
+      (Each-map At (Lacks p) (λ b at. let own = at.0 in elim at.1 [
+        | inl inside ↦ let one = inside.0 in let two = inside.1 in elim way.entered_out [ inl before ↦ inl (omega arith) | inr behind ↦ inr (omega arith) ]
+        | inr out ↦ elim out.1 [ inl before ↦ inr (omega arith) | inr behind ↦ inl (omega arith) ]
+      ]) l.blocks each_at))
 
-    abbrev mid : List Span
-    mid = taken to entered (holes_of l)
+  abbrev mid : List Span
+  mid = taken a (a + apart) (holes_of l)
 
-    are_then : AreHoles l.lo l.hi mid
-    are_then = AreHoles-taken l.hi to entered taken_some l.lo (holes_of l) are free_entered
+  are_then : AreHoles l.lo l.hi mid
+  are_then = AreHoles-taken l.hi a (a + apart) some_entered l.lo (holes_of l) are free_entered
 
-    -- what is still free then was free, and is not the new place
-    free_then : (p : ℕ) → IsIn p mid → IsIn p (holes_of l) × ((p < to) ⊎ (to + size ≤ p))
-    free_then p free =
-        let r = in_taken l.hi to entered taken_some l.lo p (holes_of l) are free_entered free in (
-          r.0,
-          elim r.1 [
-            | inl below ↦ inl below
-            | inr above ↦ elim (cases_lt p (to + size)) [
-              | inl inside ↦ elim bounds.3 [ inl all ↦ absurd (omega arith) | inr part ↦ absurd (is.full p (omega arith) (omega arith) r.0) ]
-              | inr past ↦ inr past
+  -- what is still free then was free, and is not the new place
+  free_then : (p : ℕ) → IsIn p mid → IsIn p (holes_of l) × ((p < to) ⊎ (to + size ≤ p))
+  free_then p free =
+      let r = in_taken l.hi a (a + apart) some_entered l.lo p (holes_of l) are free_entered free in (
+        r.0,
+        elim (cases_lt p to) [
+          | inl below ↦ inl below
+          | inr from ↦ elim (cases_lt p (to + size)) [
+            | inl inside ↦ elim (way.entered_rest p from inside) [
+              | inl own ↦ let one = own.0 in let two = own.1 in elim r.1 [ inl less ↦ absurd (omega arith) | inr more ↦ absurd (omega arith) ]
+              | inr in_run ↦ absurd (is.full p in_run.0 in_run.1 r.0)
             ]
-          ],
-        )
-
-    abbrev left : ℕ
-    left = run.to - apart
-
-    left_end : left + apart ≡ run.to
-    left_end = let b = bounds.1 in omega arith
-
-    pub used_left : IsUsed left (left + apart) mid
-    used_left =
-        let b = bounds.1 in let first = bounds.0 in
-        used_of left (left + apart) l.lo l.hi mid (omega arith) are_then (λ p from below free. is.full p (omega arith) (let e = left_end in omega arith) (free_then p free).0)
-
-    pub used_then : IsUsed to (to + size) mid
-    used_then = used_of to (to + size) l.lo l.hi mid (omega arith) are_then (λ p from below free. elim (free_then p free).1 [ inl before ↦ omega arith | inr behind ↦ omega arith ])
-
-    pub used_run : IsUsed run.from (run.from + size) (holes_of l)
-    used_run = used_of run.from (run.from + size) l.lo l.hi (holes_of l) (omega arith) are (λ p from below free. is.full p from (omega arith) free)
-
-    abbrev after : List Span
-    after = joined left (left + apart) mid
-
-    are_after : AreHoles l.lo l.hi after
-    are_after = let b = bounds.1 in let c = bounds.0 in let top = is.inside.2 in let bottom = is.inside.0 in let e = left_end in AreHoles-joined left (left + apart) l.lo l.hi mid (omega arith) (omega arith) (omega arith) are_then used_left
-
-    -- what is free afterwards
-    free_after : (p : ℕ) → IsIn p after → (IsIn p (holes_of l) ⊎ ((left ≤ p) × (p < run.to))) × ((p < to) ⊎ (to + size ≤ p))
-    free_after p free = elim (in_joined left (left + apart) p mid free) [
-      | inl rest ↦ let r = free_then p rest in (inl r.0, r.1)
-      | inr own ↦ let s = own.0 in let e = own.1 in let f = left_end in (inr (s, omega arith), inr (elim bounds.3 [ inl all ↦ omega arith | inr part ↦ omega arith ]))
-    ]
-
-    pub used_after : IsUsed to (to + size) after
-    used_after = used_of to (to + size) l.lo l.hi after (omega arith) are_after (λ p from below free. elim (free_after p free).1 [ inl before ↦ omega arith | inr behind ↦ omega arith ])
-
-    lies_each : AllByRecursion (Lies run) l.blocks
-    lies_each = lies_of run l.lo l.hi l.blocks ordered.laid is.whole.0 is.whole.1
-
-    -- a byte that is free afterwards is in no block, where those of the run have slid
-    lacks_then : (p : ℕ) → IsIn p after → (b : Block) → Lies run b → ((left ≤ p) × (p < run.to)) ⊎ Lacks p b → Lacks p (slid_with run to b)
-    lacks_then p free b at was =
-        let some_bytes = at.0 in let out = (free_after p free).1 in let e = left_end in let s = bounds.1 in
-        elim at.1 [
-          | inl before ↦ subst (Lacks p) (sym (slid_below run to b (omega arith))) (elim was [ inl own ↦ let from = own.0 in inr (omega arith) | inr lacks ↦ lacks ])
-          | inr other ↦ elim other [
-            | inl behind ↦ subst (Lacks p) (sym (slid_above run to b behind)) (elim was [ inl own ↦ let end = own.1 in inl (omega arith) | inr lacks ↦ lacks ])
-            | inr inside ↦
-                let from = inside.0 in let end = inside.1 in
-                subst (Lacks p) (sym (slid_inside run to b from (omega arith))) (elim out [ inl below ↦ inl (omega arith) | inr above ↦ inr (omega arith) ])
+            | inr past ↦ inr past
           ]
-        ]
+        ],
+      )
 
-    -- and back
-    lacked_by : (p q : ℕ) → (b : Block) → Lies run b → (((p < to) ⊎ (to + size ≤ p)) × ((p < run.from) ⊎ (run.to ≤ p)) × (q ≡ p)) ⊎ ((to ≤ p) × (p < to + size) × (q ≡ p - to + run.from)) → Lacks p (slid_with run to b) → Lacks q b
-    lacked_by p q b at which lacks =
-        let some_bytes = at.0 in
-        elim at.1 [
-          | inl before ↦ let same = slid_below run to b (omega arith) in let lacks' : Lacks p b = subst (Lacks p) same lacks in elim which [
-            | inl out ↦ let e = out.2 in elim lacks' [ inl x ↦ inl (omega arith) | inr x ↦ inr (omega arith) ]
-            | inr in_new ↦ let one = in_new.0 in let e = in_new.2 in inr (omega arith)
-          ]
-          | inr other ↦ elim other [
-            | inl behind ↦ let same = slid_above run to b behind in let lacks' : Lacks p b = subst (Lacks p) same lacks in elim which [
-              | inl out ↦ let e = out.2 in elim lacks' [ inl x ↦ inl (omega arith) | inr x ↦ inr (omega arith) ]
-              | inr in_new ↦ let one = in_new.1 in let e = in_new.2 in inl (omega arith)
-            ]
-            | inr inside ↦
-                let from = inside.0 in let end = inside.1 in
-                let lacks' : Lacks p (record b { at = to + (b.at - run.from) }) = subst (Lacks p) (slid_inside run to b from (omega arith)) lacks in
-                elim which [
-                  | inl out ↦ let e = out.2 in elim out.1 [ inl x ↦ inl (omega arith) | inr x ↦ inr (omega arith) ]
-                  | inr in_new ↦ let one = in_new.0 in let e = in_new.2 in elim lacks' [ inl x ↦ inl (omega arith) | inr x ↦ inr (omega arith) ]
-                ]
-          ]
-        ]
+  pub used_left : IsUsed c (c + apart) mid
+  used_left =
+      let first = way.some.0 in let from = way.left.0 in let end = way.left.1 in
+      used_of c (c + apart) l.lo l.hi mid (omega arith) are_then (λ p ge lt free. is.full p (omega arith) (omega arith) (free_then p free).0)
 
-    -- a byte that no block has afterwards is not in the new place
-    not_new : (p : ℕ) → AllByRecursion (Lacks p) (map (slid_with run to) l.blocks) → (p < to) ⊎ (to + size ≤ p)
-    not_new p all = elim (cases_lt p to) [
-      | inl below ↦ inl below
-      | inr from ↦ elim (cases_lt p (to + size)) [
-        | inl inside ↦
-            let bottom = is.inside.0 in let top = is.inside.2 in
-            absurd (is.full (p - to + run.from) (omega arith) (omega arith) (lacks_free (p - to + run.from) l.lo l.hi l.blocks ordered.laid (omega arith) (omega arith)
-            (All-unmapped (Lies run) (Lacks (p - to + run.from)) (Lacks p) (slid_with run to) (λ b at lacks. lacked_by p (p - to + run.from) b at (inr (from, inside, refl)) lacks) l.blocks lies_each all)))
-        | inr past ↦ inr past
+  pub used_then : IsUsed to (to + size) mid
+  used_then = used_of to (to + size) l.lo l.hi mid (omega arith) are_then (λ p from below free. elim (free_then p free).1 [ inl before ↦ omega arith | inr behind ↦ omega arith ])
+
+  pub used_run : IsUsed run.from (run.from + size) (holes_of l)
+  used_run = used_of run.from (run.from + size) l.lo l.hi (holes_of l) (omega arith) are (λ p from below free. is.full p from (omega arith) free)
+
+  abbrev after : List Span
+  after = joined c (c + apart) mid
+
+  are_after : AreHoles l.lo l.hi after
+  are_after =
+      let first = way.some.0 in let from = way.left.0 in let end = way.left.1 in let top = is.inside.2 in let bottom = is.inside.0 in
+      AreHoles-joined c (c + apart) l.lo l.hi mid (omega arith) (omega arith) (omega arith) are_then used_left
+
+  -- what is free afterwards
+  free_after : (p : ℕ) → IsIn p after → (IsIn p (holes_of l) ⊎ ((c ≤ p) × (p < c + apart))) × ((p < to) ⊎ (to + size ≤ p))
+  free_after p free = elim (in_joined c (c + apart) p mid free) [
+    | inl rest ↦ let r = free_then p rest in (inl r.0, r.1)
+    | inr own ↦ let s = own.0 in let e = own.1 in (inr (s, e), elim way.left_out [ inl before ↦ inl (omega arith) | inr behind ↦ inr (omega arith) ])
+  ]
+
+  pub used_after : IsUsed to (to + size) after
+  used_after = used_of to (to + size) l.lo l.hi after (omega arith) are_after (λ p from below free. elim (free_after p free).1 [ inl before ↦ omega arith | inr behind ↦ omega arith ])
+
+  -- by cases of where a block lies
+  module _ (P : Block → Type 0) (b : Block) (at : At b) (inside : run.from ≤ b.at → block_end b ≤ run.to → P (record b { at = to + (b.at - run.from) })) (outside : (block_end b ≤ run.from) ⊎ (run.to ≤ b.at) → (block_end b ≤ to) ⊎ (to + size ≤ b.at) → P b) where
+    by_side : P (slid_with run to b)
+    by_side = let own = at.0 in elim at.1 [
+      | inl in_run ↦ let from = in_run.0 in let end = in_run.1 in subst P (sym (slid_inside run to b from (omega arith))) (inside from end)
+      | inr out ↦ elim out.0 [
+        | inl before ↦ subst P (sym (slid_below run to b (omega arith))) (outside out.0 out.1)
+        | inr behind ↦ subst P (sym (slid_above run to b behind)) (outside out.0 out.1)
       ]
     ]
 
-    pub holes_run : IsLaid l.lo l.hi (map (slid_with run to) l.blocks) → after ≡ holes l.lo l.hi (map (slid_with run to) l.blocks)
-    holes_run laid =
-        are_between l.lo l.hi (map (slid_with run to) l.blocks) after laid are_after
-        (λ p free. elim (free_after p free).0 [
-          | inl old ↦
-              let r = free_lacks p l.lo l.hi l.blocks ordered.laid old in
-              (r.0, r.1, All-mapped (Lies run) (Lacks p) (Lacks p) (slid_with run to) (λ b at lacks. lacks_then p free b at (inr lacks)) l.blocks lies_each r.2)
-          | inr own ↦
-              let s = own.0 in let e = own.1 in let bottom = is.inside.0 in let top = is.inside.2 in let few = bounds.1 in
-              (omega arith, omega arith, All-mapped (Lies run) (Lies run) (Lacks p) (slid_with run to) (λ b at same. lacks_then p free b at (inl own)) l.blocks lies_each lies_each)
-        ])
-        (λ p bottom top all.
-        let out = not_new p all in
-        joined_in left (left + apart) p mid (elim (cases_lt p left) [
-          | inl before ↦ inl (still p bottom top all out (elim (cases_lt p run.from) [
-            | inl below ↦ inl below
-            | inr from ↦ let e = left_end in absurd (elim bounds.3 [ inl whole ↦ omega arith | inr part ↦ elim out [ inl x ↦ omega arith | inr x ↦ omega arith ] ])
-          ]))
-          | inr from ↦ elim (cases_lt p run.to) [
-            | inl own ↦ let e = left_end in inr (from, omega arith)
-            | inr behind ↦ inl (still p bottom top all out (inr behind))
-          ]
-        ]))
-      where
-        still : (p : ℕ) → l.lo ≤ p → p < l.hi → AllByRecursion (Lacks p) (map (slid_with run to) l.blocks) → (p < to) ⊎ (to + size ≤ p) → (p < run.from) ⊎ (run.to ≤ p) → IsIn p mid
-        still p bottom top all out outside =
-            let few = bounds.1 in
-            taken_in l.hi to entered taken_some l.lo p (holes_of l) are free_entered (elim out [ inl below ↦ inl below | inr above ↦ inr (omega arith) ])
-            (lacks_free p l.lo l.hi l.blocks ordered.laid bottom top
-            (All-unmapped (Lies run) (Lacks p) (Lacks p) (slid_with run to) (λ b at lacks. lacked_by p p b at (inl (out, outside, refl)) lacks) l.blocks lies_each all))
+  -- a byte that is free afterwards is in no block, where those of the run have slid
+  lacks_then : (p : ℕ) → IsIn p after → (b : Block) → At b → ((c ≤ p) × (p < c + apart)) ⊎ Lacks p b → Lacks p (slid_with run to b)
+  lacks_then p free b at was =
+      let own = at.0 in
+      by_side (Lacks p) b at
+      (λ from end. elim (free_after p free).1 [ inl below ↦ inl (omega arith) | inr above ↦ inr (omega arith) ])
+      (λ out _. elim was [
+        | inl left ↦ let one = left.0 in let two = left.1 in let low = way.left.0 in let high = way.left.1 in elim out [ inl before ↦ inr (omega arith) | inr behind ↦ inl (omega arith) ]
+        | inr lacks ↦ lacks
+      ])
 
-    -- the parts lie in the range
-    part_size : (g : ℕ) → IsMultiple g run.from → IsMultiple g run.to → IsMultiple g to → IsMultiple g apart
-    part_size g one two three = elim bounds.3 [
-      | inl all ↦ subst (IsMultiple g) (sym all) (multiple_less g run.to run.from two one)
-      | inr part ↦ subst (IsMultiple g) (sym part) (multiple_less g run.from to one three)
+  -- and back
+  lacked_by : (p q : ℕ) → (b : Block) → At b → (((p < run.from) ⊎ (run.to ≤ p)) × (q ≡ p)) ⊎ ((to ≤ p) × (p < to + size) × (q ≡ p - to + run.from)) → Lacks p (slid_with run to b) → Lacks q b
+  lacked_by p q b at which =
+      let own = at.0 in
+      by_side (λ d. Lacks p d → Lacks q b) b at
+      (λ from end lacks. elim which [
+        | inl out ↦ let e = out.1 in elim out.0 [ inl x ↦ inl (omega arith) | inr x ↦ inr (omega arith) ]
+        | inr in_new ↦ let one = in_new.0 in let e = in_new.2 in elim lacks [ inl x ↦ inl (omega arith) | inr x ↦ inr (omega arith) ]
+      ])
+      (λ out _ lacks. elim which [
+        | inl same ↦ let e = same.1 in elim lacks [ inl x ↦ inl (omega arith) | inr x ↦ inr (omega arith) ]
+        | inr in_new ↦ let one = in_new.0 in let two = in_new.1 in let e = in_new.2 in elim out [ inl before ↦ inr (omega arith) | inr behind ↦ inl (omega arith) ]
+      ])
+
+  -- a byte that no block has afterwards is not in the new place
+  not_new : (p : ℕ) → AllByRecursion (Lacks p) (map (slid_with run to) l.blocks) → (p < to) ⊎ (to + size ≤ p)
+  not_new p all = elim (cases_lt p to) [
+    | inl below ↦ inl below
+    | inr from ↦ elim (cases_lt p (to + size)) [
+      | inl inside ↦
+          let bottom = is.inside.0 in let top = is.inside.2 in
+          absurd (is.full (p - to + run.from) (omega arith) (omega arith) (lacks_free (p - to + run.from) l.lo l.hi l.blocks ordered.laid (omega arith) (omega arith)
+          (All-unmapped At (Lacks (p - to + run.from)) (Lacks p) (slid_with run to) (λ b at lacks. lacked_by p (p - to + run.from) b at (inr (from, inside, refl)) lacks) l.blocks each_at all)))
+      | inr past ↦ inr past
     ]
+  ]
 
-    pub part_entered : IsMultiple l.grain to → IsPart (range_of l) to apart
-    part_entered grained = let b = bounds.0 in let c = bounds.2 in let top = is.inside.2 in record {
-      some = b;
-      from = low;
-      to = omega arith;
-      grained = grained;
-      rounded = part_size l.grain is.grained.0 is.grained.1 grained;
-    }
+  pub holes_run : IsLaid l.lo l.hi (map (slid_with run to) l.blocks) → after ≡ holes l.lo l.hi (map (slid_with run to) l.blocks)
+  holes_run laid =
+      are_between l.lo l.hi (map (slid_with run to) l.blocks) after laid are_after
+      (λ p free. elim (free_after p free).0 [
+        | inl old ↦
+            let r = free_lacks p l.lo l.hi l.blocks ordered.laid old in
+            (r.0, r.1, All-mapped At (Lacks p) (Lacks p) (slid_with run to) (λ b at lacks. lacks_then p free b at (inr lacks)) l.blocks each_at r.2)
+        | inr own ↦
+            let s = own.0 in let e = own.1 in let bottom = is.inside.0 in let top = is.inside.2 in let low = way.left.0 in let high = way.left.1 in
+            (omega arith, omega arith, All-mapped At At (Lacks p) (slid_with run to) (λ b at same. lacks_then p free b at (inl own)) l.blocks each_at each_at)
+      ])
+      (λ p bottom top all.
+      let out = not_new p all in
+      joined_in c (c + apart) p mid (elim (cases_lt p run.from) [
+        | inl before ↦ inl (still p bottom top all out (inl before))
+        | inr from ↦ elim (cases_lt p run.to) [
+          | inr behind ↦ inl (still p bottom top all out (inr behind))
+          | inl inside ↦ elim (way.left_rest p from inside) [
+            | inl own ↦ inr own
+            | inr in_new ↦ let one = in_new.0 in let two = in_new.1 in elim out [ inl x ↦ absurd (omega arith) | inr x ↦ absurd (omega arith) ]
+          ]
+        ]
+      ]))
+    where
+      still : (p : ℕ) → l.lo ≤ p → p < l.hi → AllByRecursion (Lacks p) (map (slid_with run to) l.blocks) → (p < to) ⊎ (to + size ≤ p) → (p < run.from) ⊎ (run.to ≤ p) → IsIn p mid
+      still p bottom top all out outside =
+          let from = way.entered.0 in let end = way.entered.1 in
+          taken_in l.hi a (a + apart) some_entered l.lo p (holes_of l) are free_entered (elim out [ inl below ↦ inl (omega arith) | inr above ↦ inr (omega arith) ])
+          (lacks_free p l.lo l.hi l.blocks ordered.laid bottom top
+          (All-unmapped At (Lacks p) (Lacks p) (slid_with run to) (λ b at lacks. lacked_by p p b at (inl (outside, refl)) lacks) l.blocks each_at all))
 
-    pub part_left : IsMultiple l.grain to → IsPart (range_of l) left apart
-    part_left grained = let b = bounds.0 in let c = bounds.1 in let top = is.inside.2 in let bottom = is.inside.0 in let rounded = part_size l.grain is.grained.0 is.grained.1 grained in record {
-      some = b;
-      from = omega arith;
-      to = omega arith;
-      grained = multiple_less l.grain run.to apart is.grained.1 rounded;
-      rounded = rounded;
-    }
+  -- the parts lie in the range
+  pub part_entered : IsPart (range_of l) a apart
+  part_entered = let low = way.low in let high = way.high in let from = way.entered.0 in let end = way.entered.1 in record {
+    some = way.some.0;
+    from = omega arith;
+    to = omega arith;
+    grained = way.grained.0;
+    rounded = way.grained.2;
+  }
+
+  pub part_left : IsPart (range_of l) c apart
+  part_left = let from = way.left.0 in let end = way.left.1 in let top = is.inside.2 in let bottom = is.inside.0 in record {
+    some = way.some.0;
+    from = omega arith;
+    to = omega arith;
+    grained = way.grained.1;
+    rounded = way.grained.2;
+  }

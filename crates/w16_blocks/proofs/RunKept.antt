@@ -1,5 +1,5 @@
 -- What is kept where a run of blocks slides.
-use Rattle.std.proofs.Common.{ℕ, ◌≡◌, ◌+◌, ◌-◌, ◌<◌, ◌≤◌, min, List, length, map, sum_by, arith, sym, ap, ◌∙◌, subst}
+use Rattle.std.proofs.Common.{ℕ, ◌≡◌, ◌+◌, ◌-◌, ◌<◌, ◌≤◌, min, List, length, map, sum_by, arith, refl, sym, ap, ◌∙◌, subst}
 use Rattle.w16_model.specs.declared.Block.{Block}
 use Rattle.w16_model.specs.declared.Span.{Span}
 use Rattle.w16_model.specs.Bytes.{part, put_part}
@@ -7,37 +7,30 @@ use Rattle.w16_model.specs.Gap.{IsLaid, holes}
 use Rattle.w16_model.specs.Heap.{IsMultiple}
 use Rattle.w16_holes.specs.Holes.{Range, IsFree, IsUsed, IsPart, AreSameIn, AreSameOutside, taken, joined}
 use Rattle.w16_blocks.specs.Layout.{Layout, holes_of}
-use Rattle.w16_blocks.specs.Kept.{blocks_in, layout_in, AreTables, IsKept}
+use Rattle.w16_blocks.specs.Kept.{blocks_in, layout_in, pins_in, AreTables, IsKept}
 use Rattle.w16_blocks.specs.Runs.{IsRun, IsBare, slid_with}
 use Rattle.w16_blocks.specs.Stay.{AreSameBut}
 use Rattle.w16_blocks.proofs.Slid.{free_stays, come_along, others_stay}
 use Rattle.w16_blocks.proofs.RunHoles as run_holes
-use Rattle.w16_blocks.proofs.RunHoles.{sum-slid}
+use Rattle.w16_blocks.proofs.RunHoles.{IsWay, sum-slid}
 
 -- Tables that tell a layout `l`, and a run of it that slides to a place.
-module _ {cap lo hi g : ℕ} {slots : List Block} {cells : List ℕ} {free : ℕ} {range : Range} {kept : List Span} (k : IsKept cap lo hi g slots cells free range kept)
-    {l : Layout} (is_l : layout_in cap lo hi g slots cells ≡ l) {run : Span} (is_run : IsRun l run) (some : run.from < run.to) {to : ℕ} (down : to < run.from) (low_l : l.lo ≤ to) (bare_l : IsBare to run.from l.blocks)
-    {apart : ℕ} (least : apart ≡ min (run.to - run.from) (run.from - to)) where
+module _ {cap lo hi g : ℕ} {slots : List Block} {cells : List ℕ} {free pinned : ℕ} {range : Range} {kept : List Span} (k : IsKept cap lo hi g slots cells free pinned range kept)
+    {l : Layout} (is_l : layout_in cap lo hi g slots cells ≡ l) {run : Span} (is_run : IsRun l run) (some : run.from < run.to) {to a c apart : ℕ} (way_l : IsWay l run to a c apart) where
   abbrev now : Layout
   now = layout_in cap lo hi g slots cells
 
   is : IsRun now run
   is = subst (λ (m : Layout). IsRun m run) (sym is_l) is_run
 
-  low : lo ≤ to
-  low = subst (λ (m : Layout). m.lo ≤ to) (sym is_l) low_l
+  way : IsWay now run to a c apart
+  way = subst (λ (m : Layout). IsWay m run to a c apart) (sym is_l) way_l
 
-  bare : IsBare to run.from now.blocks
-  bare = subst (λ (m : Layout). IsBare to run.from m.blocks) (sym is_l) bare_l
+  pub part_entered : IsPart range a apart
+  part_entered = subst (λ (r : Range). IsPart r a apart) (sym k.ranged) (run_holes.part_entered now k.tables.ordered run is some to a c apart way)
 
-  grained_now : IsMultiple l.grain to → IsMultiple g to
-  grained_now = subst (λ (m : Layout). IsMultiple m.grain to → IsMultiple g to) is_l (λ h. h)
-
-  pub part_entered : IsMultiple l.grain to → IsPart range to apart
-  part_entered grained = subst (λ (r : Range). IsPart r to apart) (sym k.ranged) (run_holes.part_entered now k.tables.ordered run is some to down low bare least (grained_now grained))
-
-  pub free_entered : IsFree to (to + apart) kept
-  free_entered = subst (IsFree to (to + apart)) (sym k.between) (run_holes.free_entered now k.tables.ordered run is some to down low bare least)
+  pub free_entered : IsFree a (a + apart) kept
+  free_entered = subst (IsFree a (a + apart)) (sym k.between) (run_holes.free_entered now k.tables.ordered run is some to a c apart way)
 
   -- the run lies inside, there and here
   module _ {m : ℕ} (inside : l.hi ≤ m) where
@@ -45,47 +38,48 @@ module _ {cap lo hi g : ℕ} {slots : List Block} {cells : List ℕ} {free : ℕ
     source_in = let end = is_run.inside.2 in omega arith
 
     target_in : to + (run.to - run.from) ≤ m
-    target_in = let end = is_run.inside.2 in omega arith
+    target_in = let end = way_l.high in omega arith
 
   -- once the new place is taken
-  module _ {range_then : Range} {mid : List Span} (same : range_then ≡ range) (takes : mid ≡ taken to (to + apart) kept) where
-    takes_between : mid ≡ taken to (to + apart) (holes_of now)
-    takes_between = takes ∙ ap (taken to (to + apart)) k.between
+  module _ {range_then : Range} {mid : List Span} (same : range_then ≡ range) (takes : mid ≡ taken a (a + apart) kept) where
+    takes_between : mid ≡ taken a (a + apart) (holes_of now)
+    takes_between = takes ∙ ap (taken a (a + apart)) k.between
 
-    pub part_left : IsMultiple l.grain to → IsPart range_then (run.to - apart) apart
-    part_left grained = subst (λ (r : Range). IsPart r (run.to - apart) apart) (sym (same ∙ k.ranged)) (run_holes.part_left now k.tables.ordered run is some to down low bare least (grained_now grained))
+    pub part_left : IsPart range_then c apart
+    part_left = subst (λ (r : Range). IsPart r c apart) (sym (same ∙ k.ranged)) (run_holes.part_left now k.tables.ordered run is some to a c apart way)
 
-    pub used_left : IsUsed (run.to - apart) (run.to - apart + apart) mid
-    used_left = subst (IsUsed (run.to - apart) (run.to - apart + apart)) (sym takes_between) (run_holes.used_left now k.tables.ordered run is some to down low bare least)
+    pub used_left : IsUsed c (c + apart) mid
+    used_left = subst (IsUsed c (c + apart)) (sym takes_between) (run_holes.used_left now k.tables.ordered run is some to a c apart way)
 
     -- the slide leaves the bytes of the holes that there are then
     pub same_free : {second third : List ℕ} → l.hi ≤ length second → third ≡ put_part second to (part second run.from (run.to - run.from)) → AreSameIn mid second third
     same_free {second} {third} inside slid = free_stays run.from to (run.to - run.from) second third slid (source_in inside) (target_in inside) mid
-        (subst (IsUsed to (to + (run.to - run.from))) (sym takes_between) (run_holes.used_then now k.tables.ordered run is some to down low bare least))
+        (subst (IsUsed to (to + (run.to - run.from))) (sym takes_between) (run_holes.used_then now k.tables.ordered run is some to a c apart way))
 
     -- and once the old one is put, and the tables tell the blocks where they have slid
-    module _ {range' : Range} {kept' : List Span} (same_then : range' ≡ range_then) (joins : kept' ≡ joined (run.to - apart) (run.to - apart + apart) mid)
+    module _ {range' : Range} {kept' : List Span} (same_then : range' ≡ range_then) (joins : kept' ≡ joined c (c + apart) mid)
         {slots' : List Block} {cells' : List ℕ} (tables : AreTables cap lo hi g slots' cells') (blocks : blocks_in slots' cells' ≡ map (slid_with run to) (blocks_in slots cells)) where
       leaves : kept' ≡ holes lo hi (map (slid_with run to) now.blocks)
-      leaves = joins ∙ ap (joined (run.to - apart) (run.to - apart + apart)) takes_between
-          ∙ run_holes.holes_run now k.tables.ordered run is some to down low bare least (subst (λ (bs : List Block). IsLaid lo hi bs) blocks tables.ordered.laid)
+      leaves = joins ∙ ap (joined c (c + apart)) takes_between
+          ∙ run_holes.holes_run now k.tables.ordered run is some to a c apart way (subst (λ (bs : List Block). IsLaid lo hi bs) blocks tables.ordered.laid)
 
-      pub IsKept-run : IsKept cap lo hi g slots' cells' free range' kept'
+      pub IsKept-run : IsKept cap lo hi g slots' cells' free pinned range' kept'
       IsKept-run = record {
         tables = tables;
-        counted = let sum = ap (sum_by (λ (b : Block). b.size)) blocks ∙ sum-slid run to now.blocks in let counted = k.counted in omega arith;
+        counted = let sum = ap (sum_by (λ (b : Block). b.size)) blocks ∙ sum-slid (λ (b : Block). b.size) (λ b at. refl) run to now.blocks in let counted = k.counted in omega arith;
+        pins = k.pins ∙ sym (ap (sum_by pins_in) blocks ∙ sum-slid pins_in (λ b at. refl) run to now.blocks);
         ranged = same_then ∙ same ∙ k.ranged;
         between = leaves ∙ ap (holes lo hi) (sym blocks);
       }
 
       used_now : IsUsed to (to + (run.to - run.from)) kept'
-      used_now = subst (IsUsed to (to + (run.to - run.from))) (sym (joins ∙ ap (joined (run.to - apart) (run.to - apart + apart)) takes_between)) (run_holes.used_after now k.tables.ordered run is some to down low bare least)
+      used_now = subst (IsUsed to (to + (run.to - run.from))) (sym (joins ∙ ap (joined c (c + apart)) takes_between)) (run_holes.used_after now k.tables.ordered run is some to a c apart way)
 
       -- the bytes
       module _ {first second third last : List ℕ} (inside : l.hi ≤ length first) (take_same : AreSameOutside kept first second) (slid : third ≡ put_part second to (part second run.from (run.to - run.from))) (put_same : AreSameOutside kept' third last) where
         pub come_too : part last to (run.to - run.from) ≡ part first run.from (run.to - run.from)
         come_too = come_along run.from to (run.to - run.from) first second third last kept kept' take_same slid put_same (source_in inside) (target_in inside)
-            (subst (IsUsed run.from (run.from + (run.to - run.from))) (sym k.between) (run_holes.used_run now k.tables.ordered run is some to down low bare least)) used_now
+            (subst (IsUsed run.from (run.from + (run.to - run.from))) (sym k.between) (run_holes.used_run now k.tables.ordered run is some to a c apart way)) used_now
 
         pub others_same : AreSameBut to (run.to - run.from) (holes_of l) kept' first last
         others_same = subst (λ (hs : List Span). AreSameBut to (run.to - run.from) hs kept' first last) (k.between ∙ ap holes_of is_l)

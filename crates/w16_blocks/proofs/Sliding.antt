@@ -32,7 +32,7 @@ pub slid_inside : (run : Span) (to : ℕ) (b : Block) → run.from ≤ b.at → 
 slid_inside run to b le lt = rw (le-leb run.from b.at le, lt-ltb b.at run.to lt) refl
 
 -- one that slides to where its run's first byte does
-moved_to : (b : Block) (p q : ℕ) → p ≡ q → record b { at = p } ≡ record b { at = q }
+pub moved_to : (b : Block) (p q : ℕ) → p ≡ q → record b { at = p } ≡ record b { at = q }
 moved_to b p q e = ap (λ (at : ℕ). let r : Block = record b { at = at } in r) e
 
 pub map-same : (f : Block → Block) (bs : List Block) → AllByRecursion (λ b. f b ≡ b) bs → map f bs ≡ bs
@@ -123,7 +123,7 @@ pub some_at : (run : Span) (to at : ℕ) (bs : List Block) → to ≤ run.from �
 some_at run to at bs down from lt ready filled none = filled at (omega arith) lt
     (Each-both (IsReady run to at) (λ b. b.at ≢ at) (Lacks at) (λ b one two. elim one [ inl below ↦ inr (omega arith) | inr above ↦ let le = above.0 in inl (omega arith) ]) bs ready none)
 
-named_each : (cap : ℕ) (bs : List Block) → AreNamed cap bs → AllByRecursion (λ c. c.id < cap) bs
+pub named_each : (cap : ℕ) (bs : List Block) → AreNamed cap bs → AllByRecursion (λ c. c.id < cap) bs
 named_each cap [] named = tt
 named_each cap (b ∷ bs) named = (named.0, named_each cap bs named.2)
 

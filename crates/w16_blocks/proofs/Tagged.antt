@@ -33,7 +33,7 @@ module _ {cap lo hi g : ℕ} {slots : List Block} {cells : List ℕ} (t : AreTab
     slot_in = (t.begun u (begin - 1) tells).inside
 
     module _ (d : Block) where
-      is_slot : get_or slots (begin - 1) d ≡ slot_of slots (begin - 1)
+      pub is_slot : get_or slots (begin - 1) d ≡ slot_of slots (begin - 1)
       is_slot = read_any slots (begin - 1) d no_block slot_in
 
       pub begins_at : (get_or slots (begin - 1) d).at ≡ place

@@ -2,7 +2,8 @@
 use Rattle.std.specs.Prelude.{ℕ, zero, suc, ◌<◌, ◌≤◌, ◌≡◌, ◌+◌, ◌*◌, ◌-◌, ◌^◌, List, [], ◌∷◌, length, slice_index, slice_index_or, sum_by}
 use Rattle.w16_model.specs.declared.Block.{Block}
 use Rattle.w16_model.specs.declared.Span.{Span}
-use Rattle.w16_model.specs.declared.Hold.TheVariants.{Loose}
+use Rattle.w16_model.specs.declared.Hold.{Hold}
+use Rattle.w16_model.specs.declared.Hold.TheVariants.{Pinned, Loose}
 use Rattle.w16_holes.specs.Holes.{Range}
 use Rattle.w16_blocks.specs.Layout.{Layout, range_of, holes_of, IsOrdered}
 
@@ -49,9 +50,18 @@ pub record AreTables (cap lo hi grain : ℕ) (slots : List Block) (cells : List 
   pub begun : AreBegun lo grain slots cells
   pub found : AreFound slots cells
 
--- the bytes that no block has are counted, and the holes are those between the blocks
-pub record IsKept (cap lo hi grain : ℕ) (slots : List Block) (cells : List ℕ) (free : ℕ) (range : Range) (kept : List Span) : Type 0 where
+-- how many blocks keep their address, of one
+abbrev pub pins_of : Hold → ℕ
+pins_of Pinned = 1
+pins_of Loose = 0
+
+abbrev pub pins_in : Block → ℕ
+pins_in b = pins_of b.hold
+
+-- the bytes that no block has are counted, and so are the blocks that keep their address, and the holes are those between the blocks
+pub record IsKept (cap lo hi grain : ℕ) (slots : List Block) (cells : List ℕ) (free pinned : ℕ) (range : Range) (kept : List Span) : Type 0 where
   pub tables : AreTables cap lo hi grain slots cells
   pub counted : free + (lo + sum_by (λ b. b.size) (blocks_in slots cells)) ≡ hi
+  pub pins : pinned ≡ sum_by pins_in (blocks_in slots cells)
   pub ranged : range ≡ range_of (layout_in cap lo hi grain slots cells)
   pub between : kept ≡ holes_of (layout_in cap lo hi grain slots cells)

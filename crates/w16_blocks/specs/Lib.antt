@@ -3,3 +3,4 @@ pub mod Kept
 pub mod Stay
 pub mod Parts
 pub mod Runs
+pub mod Below

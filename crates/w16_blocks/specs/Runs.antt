@@ -23,6 +23,10 @@ pub record IsRun (l : Layout) (s : Span) : Type 0 where
 abbrev pub EndsAt : Layout → ℕ → ℕ → Type 0
 EndsAt l high end = (end ≡ high) ⊎ AllByRecursion (λ b. b.at ≢ end) l.blocks
 
+-- and begins where no block ends, or at `low`
+abbrev pub BeginsAt : Layout → ℕ → ℕ → Type 0
+BeginsAt l low begin = (begin ≡ low) ⊎ AllByRecursion (λ b. block_end b ≢ begin) l.blocks
+
 -- no block has a byte of [from, to)
 abbrev pub IsBare : ℕ → ℕ → List Block → Type 0
 IsBare from to bs = AllByRecursion (λ b. (block_end b ≤ from) ⊎ (to ≤ b.at)) bs

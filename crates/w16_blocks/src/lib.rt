@@ -3,11 +3,15 @@
 #![tactic(auto)]
 
 ghost use Rattle.std.specs.Prelude.{◌≡◌, ◌≢◌, ◌+◌, ◌-◌, ◌*◌, ◌^◌, ◌<◌, ◌≤◌, ◌==◌, [], length, IfOk, IsSome, IfSome, vec_len, slice_get, sum_by, Some, if◌then◌else◌};
+ghost use Rattle.std.specs.List.{list_any};
 ghost use Rattle.std.specs.Option.{ForSome};
 ghost use Rattle.w16_model.specs.Heap.{IsMultiple};
+ghost use Rattle.w16_blocks.specs.Kept.{pins_of};
 ghost use Rattle.w16_blocks.specs.Stay.{IsBeyond};
 
+mod below;
 mod by_address;
+mod lifts;
 mod parts;
 mod runs;
 
@@ -15,7 +19,7 @@ pub use by_address::ByAddress;
 pub use parts::Part;
 use std::alloc::{AllocError, Global};
 use std::marker::Model;
-use w16_holes::{HoleList, Holes};
+use w16_holes::{HoleList, Holes, units_in, units_over};
 pub use w16_model::{Block, Hold, Span};
 use w16_region::Space;
 
@@ -36,6 +40,8 @@ pub struct Blocks<H: HoleList> {
     begins: Vec<u32>,
     /// The bytes that no block has.
     free: u32,
+    /// How many blocks are pinned.
+    pinned: u32,
     holes: H,
     lo: u32,
     hi: u32,
@@ -51,7 +57,17 @@ impl<H: HoleList> Model for Blocks<H> {
 
     ghost view = { λ s. layout_in (vec_len s.slots) s.lo s.hi s.grain s.slots.items s.begins.items };
 
-    ghost invariant = { λ s. IsKept (vec_len s.slots) s.lo s.hi s.grain s.slots.items s.begins.items s.free (H.range s.holes) (H.holes s.holes) };
+    ghost invariant = { λ s. IsKept (vec_len s.slots) s.lo s.hi s.grain s.slots.items s.begins.items s.free s.pinned (H.range s.holes) (H.holes s.holes) };
+}
+
+/// How many blocks keep their address, of one with this hold.
+fn pins_of(hold: Hold) -> u32
+    ensures { result ≡ pins_of hold }
+{
+    match hold {
+        Hold::Pinned => 1,
+        Hold::Loose => 0,
+    }
 }
 
 /// In which unit a place lies that begins one.
@@ -62,7 +78,7 @@ fn unit_of(place: u32, lo: u32, grain: u32) -> usize
     requires grained { IsMultiple grain place }
     ensures { place ≡ lo + grain * result }
 {
-    ((place - lo) / grain) as usize
+    units_in(place - lo, grain) as usize
 }
 
 /// What the `size` bytes at a place have beyond those at another.
@@ -88,7 +104,7 @@ fn beyond(other: u32, place: u32, size: u32) -> Span
 
 impl<H: HoleList> Blocks<H> {
     ghost use Rattle.w16_model.specs.Table.{block_with};
-    ghost use Rattle.w16_model.specs.Gap.{hole_after, block_end};
+    ghost use Rattle.w16_model.specs.Gap.{hole_after, block_end, is_pinned};
     ghost use Rattle.w16_holes.specs.Holes.{lowest, longest, add_span, AreSameOutside};
     ghost use Rattle.w16_model.specs.Bytes.{part};
     ghost use Rattle.w16_region.specs.Bytes.{counted};
@@ -121,6 +137,7 @@ impl<H: HoleList> Blocks<H> {
             slots,
             begins,
             free: hi - lo,
+            pinned: 0,
             holes,
             lo,
             hi,
@@ -166,6 +183,7 @@ impl<H: HoleList> Blocks<H> {
         self.slots[block.id as usize] = block;
         self.begins[unit] = block.id + 1;
         self.free -= block.size;
+        self.pinned += pins_of(block.hold);
     }
 
     /// Takes an id's block away, whose bytes join the holes. Bytes outside the holes that are then stay.
@@ -175,6 +193,7 @@ impl<H: HoleList> Blocks<H> {
         requires id { id < self.old.cap }
         requires known { IsSome (block_with self.old.blocks id) }
         requires kept { H.are_in (holes_of self.old) (S.bytes space.old) }
+        requires inside { self.old.hi ≤ length (S.bytes space.old) }
         ensures value { self.new ≡ record self.old { blocks = all_but id self.old.blocks } }
         ensures ordered { IsOrdered self.new }
         ensures kept { H.are_in (holes_of self.new) (S.bytes space.new) }
@@ -188,6 +207,7 @@ impl<H: HoleList> Blocks<H> {
         self.slots[id as usize] = NO_BLOCK;
         self.begins[unit] = 0;
         self.free += block.size;
+        self.pinned -= pins_of(block.hold);
     }
 
     /// Gives an id's block another size, with which it meets no other block. What it has more is taken from the hole behind it, and what it
@@ -199,6 +219,7 @@ impl<H: HoleList> Blocks<H> {
         requires known { IsSome (block_with self.old.blocks id) }
         requires fits { ForSome (block_with self.old.blocks id) (λ b. FitsFor self.old (record b { size = size })) }
         requires kept { H.are_in (holes_of self.old) (S.bytes space.old) }
+        requires inside { self.old.hi ≤ length (S.bytes space.old) }
         ensures value { IfSome (block_with self.old.blocks id) (λ b. self.new ≡ record self.old { blocks = replaced (record b { size = size }) self.old.blocks }) }
         ensures ordered { IsOrdered self.new }
         ensures kept { H.are_in (holes_of self.new) (S.bytes space.new) }
@@ -243,6 +264,7 @@ impl<H: HoleList> Blocks<H> {
         requires less { size < block.size }
         requires fits { FitsFor self.old (record block { size = size }) }
         requires kept { H.are_in (holes_of self.old) (S.bytes space.old) }
+        requires inside { self.old.hi ≤ length (S.bytes space.old) }
         ensures value { self.new ≡ record self.old { blocks = replaced (record block { size = size }) self.old.blocks } }
         ensures ordered { IsOrdered self.new }
         ensures kept { H.are_in (holes_of self.new) (S.bytes space.new) }
@@ -320,6 +342,7 @@ impl<H: HoleList> Blocks<H> {
     {
         let block = self.block_of(id);
         self.slots[id as usize] = Block { hold, ..block };
+        self.pinned = self.pinned - pins_of(block.hold) + pins_of(hold);
     }
 
     /// Where the lowest hole of at least `n` bytes begins, none where none is so long. Each hole has a byte, so for 0 it is the lowest there
@@ -368,7 +391,7 @@ impl<H: HoleList> Blocks<H> {
         ensures value { result ≡ slice_get self.now.blocks (rank at self.now.blocks) }
         ensures ordered { IsOrdered self.now }
     {
-        let mut unit = at.saturating_sub(self.lo).div_ceil(self.grain) as usize;
+        let mut unit = units_over(at.saturating_sub(self.lo), self.grain) as usize;
         while unit < self.begins.len() {
             let begin = self.begins[unit] as usize;
             if begin > 0 {
@@ -376,7 +399,7 @@ impl<H: HoleList> Blocks<H> {
             }
             // Nothing begins in a hole, so from its begin it is passed in one step.
             let hole = self.holes.at(space, self.lo + unit as u32 * self.grain);
-            unit += (hole / self.grain).max(1) as usize;
+            unit += units_in(hole, self.grain).max(1) as usize;
         }
         None
     }
@@ -408,6 +431,13 @@ impl<H: HoleList> Blocks<H> {
             from: self.lo,
             to: self.hi,
         }
+    }
+
+    /// Whether a block is pinned.
+    pub fn has_pinned(&self) -> bool
+        ensures { result ≡ list_any is_pinned self.now.blocks }
+    {
+        self.pinned > 0
     }
 
     /// How many ids there are.

@@ -1,6 +1,6 @@
 //! The parts of a range: its blocks, and the holes between them.
 use crate::{Block, Blocks, Span};
-use w16_holes::{HoleList, Holes};
+use w16_holes::{HoleList, Holes, units_over};
 use w16_region::Space;
 
 /// A part of a range: a block, or a hole between blocks.
@@ -26,7 +26,7 @@ impl<H: HoleList> Blocks<H> {
         ensures none { IfNone result (IsBehindAll self.now at) }
         ensures ordered { IsOrdered self.now }
     {
-        let first = at.saturating_sub(self.lo).div_ceil(self.grain) as usize;
+        let first = units_over(at.saturating_sub(self.lo), self.grain) as usize;
         for unit in first..self.begins.len() {
             let begin = self.begins[unit] as usize;
             if begin > 0 {

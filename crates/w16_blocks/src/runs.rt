@@ -29,7 +29,14 @@ fn block_at(slots: &[Block], begins: &[u32], bounds: Span, grain: u32, place: u3
 }
 
 /// The table and the cells, with a block at another place.
-fn retag(slots: &mut [Block], begins: &mut [u32], bounds: Span, grain: u32, block: Block, to: u32)
+pub(crate) fn retag(
+    slots: &mut [Block],
+    begins: &mut [u32],
+    bounds: Span,
+    grain: u32,
+    block: Block,
+    to: u32,
+)
     requires tables { AreTables (length slots.old) bounds.from bounds.to grain slots.old begins.old }
     requires known { block_with (blocks_in slots.old begins.old) block.id ≡ Some block }
     requires fits { FitsFor (layout_in (length slots.old) bounds.from bounds.to grain slots.old begins.old) (record block { at = to }) }

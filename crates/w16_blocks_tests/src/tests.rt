@@ -115,12 +115,46 @@ fn slides_a_run(rt: HostRuntime) -> Result<(), Fail> {
 }
 
 #[test]
+fn lifts_a_run(rt: HostRuntime) -> Result<(), Fail> {
+    let mut space = Region::new(rt.alloc(), 256)?;
+    let mut blocks = three(&rt, &mut space)?;
+    space.fill(128, 32, 5);
+    space.fill(160, 32, 7);
+    assert_eq!(rt; blocks.run_begin(192, 160), 160);
+    assert_eq!(rt; blocks.run_begin(128, 0), 128);
+    let begin = blocks.run_begin(192, 0);
+    assert_eq!(rt; begin, 128);
+    // Over its own bytes.
+    let run = Span {
+        from: begin,
+        to: 192,
+    };
+    blocks.lift_run(&mut space, run, 160);
+    assert_eq!(rt; blocks.find(2), Some(block(2, 160, 32, Hold::Pinned)));
+    assert_eq!(rt; blocks.find(3), Some(block(3, 192, 32, Hold::Loose)));
+    assert_eq!(rt; space.view(160, 32), [5; 32].as_slice());
+    assert_eq!(rt; space.view(192, 32), [7; 32].as_slice());
+    assert_eq!(rt; space.written(), 128);
+    assert_eq!(rt; blocks.longest(&space), 96);
+    assert_eq!(rt; blocks.hole_for(&space, 96), Some(64));
+    assert_eq!(rt; blocks.hole_for(&space, 97), None);
+    assert_eq!(rt;
+        blocks.next_from(&space, 64),
+        Some(block(2, 160, 32, Hold::Pinned))
+    );
+    Ok(())
+}
+
+#[test]
 fn changes_one_block(rt: HostRuntime) -> Result<(), Fail> {
     let mut space = Region::new(rt.alloc(), 256)?;
     let mut blocks = three(&rt, &mut space)?;
     blocks.set_hold(0, Hold::Pinned);
     assert_eq!(rt; blocks.find(0), Some(block(0, 32, 32, Hold::Pinned)));
     blocks.remove(&mut space, 2);
+    assert!(rt; blocks.has_pinned());
+    blocks.set_hold(0, Hold::Loose);
+    assert!(rt; !blocks.has_pinned());
     assert_eq!(rt; blocks.find(2), None);
     assert_eq!(rt; blocks.longest(&space), 96);
     assert_eq!(rt; blocks.free(), 192);
@@ -147,6 +181,30 @@ fn walks_by_address(rt: HostRuntime) -> Result<(), Fail> {
         ids.push(block.id)?;
     }
     assert_eq!(rt; ids.as_slice(), [0, 2, 3].as_slice());
+    Ok(())
+}
+
+#[test]
+fn walks_down(rt: HostRuntime) -> Result<(), Fail> {
+    let mut space = Region::new(rt.alloc(), 256)?;
+    let blocks = three(&rt, &mut space)?;
+    // From above all on, each time from where the block before begins.
+    assert_eq!(rt;
+        blocks.last_below(1000),
+        Some(block(3, 160, 32, Hold::Loose))
+    );
+    assert_eq!(rt;
+        blocks.last_below(160),
+        Some(block(2, 128, 32, Hold::Pinned))
+    );
+    assert_eq!(rt; blocks.last_below(128), Some(block(0, 32, 32, Hold::Loose)));
+    assert_eq!(rt; blocks.last_below(32), None);
+    // From inside a block, which is then the last.
+    assert_eq!(rt;
+        blocks.last_below(129),
+        Some(block(2, 128, 32, Hold::Pinned))
+    );
+    assert_eq!(rt; blocks.last_below(0), None);
     Ok(())
 }
 

@@ -39,7 +39,7 @@ slid_gathered low high from top (b ∷ bs) laid all = elim (cases_lt b.at low) [
 ]
 
 -- what doesn't meet the hole
-abbrev Past : ℕ → ℕ → Block → Type 0
+abbrev pub Past : ℕ → ℕ → Block → Type 0
 Past end high b = (block_end b ≤ end) ⊎ (high ≤ b.at)
 
 clear_packed : (low high from top to end : ℕ) (bs : List Block) → IsLaid from top bs → low ≤ from → AllByRecursion (FitsGap low high) bs → to + loose_bytes bs low high ≤ end → AllByRecursion (Past end high) (packed high to bs)
@@ -55,7 +55,7 @@ clear_packed low high from top to end (b ∷ bs) laid le all room =
       | inr ge ↦ rw (le-ltb b.at high ge) (inr ge, Each-map (λ y. (b.at + b.size ≤ y.at) × (0 < y.size)) (Past end high) (λ y f. let k = f.0 in inr (omega arith)) bs (laid_from (block_end b) top bs laid.2))
     ]
 
-clear_from : (low high from top end : ℕ) (bs : List Block) → IsLaid from top bs → AllByRecursion (FitsGap low high) bs → low ≤ high → low + loose_bytes bs low high ≤ end → AllByRecursion (Past end high) (gathered low high bs)
+pub clear_from : (low high from top end : ℕ) (bs : List Block) → IsLaid from top bs → AllByRecursion (FitsGap low high) bs → low ≤ high → low + loose_bytes bs low high ≤ end → AllByRecursion (Past end high) (gathered low high bs)
 clear_from low high from top end [] laid all order room = tt
 clear_from low high from top end (b ∷ bs) laid all order room =
     let some = laid.1 in
@@ -99,7 +99,7 @@ tiled_packed low high from top to c d (b ∷ bs) laid le all above some below mi
           omega arith
     ]
 
-tiled : (low high from top c d : ℕ) (bs : List Block) → IsLaid from top bs → AllByRecursion (FitsGap low high) bs → low ≤ c → c < d → c < low + loose_bytes bs low high
+pub tiled : (low high from top c d : ℕ) (bs : List Block) → IsLaid from top bs → AllByRecursion (FitsGap low high) bs → low ≤ c → c < d → c < low + loose_bytes bs low high
     → AllByRecursion (λ y. Misses y.at y.size c d) (gathered low high bs) → ⊥
 tiled low high from top c d [] laid all above some below misses = let none : loose_bytes [] low high ≡ 0 = refl in omega arith
 tiled low high from top c d (b ∷ bs) laid all above some below misses = elim (cases_lt b.at low) [
@@ -127,21 +127,14 @@ pinned_same P (b ∷ bs) (c ∷ cs) slid all = (
 joined : (a b c d at size : ℕ) → 0 < size → a < d → c < b → a < b → c < d → Misses at size a b → Misses at size c d → Misses at size (min a c) (max b d)
 joined a b c d at size z l1 l2 l3 l4 f g = grind arith
 
--- Of a gap one hole is left.
-module _ (l : Layout) (low high : ℕ) (laid : IsLaid l.lo l.hi l.blocks) (may : MayGather l low high) (gap : IsGap l.lo l.hi l.blocks low high) where
-  abbrev new : List Block
-  new = gathered low high l.blocks
-
-  abbrev free : ℕ
-  free = low + loose_bytes l.blocks low high
-
-  missed : (a b : ℕ) → IsClear is_any l.lo l.hi new a b → AllByRecursion (λ y. Misses y.at y.size a b) new
+-- Where blocks slid, what is free and meets a gap lies in it.
+module _ (l : Layout) (low high : ℕ) (laid : IsLaid l.lo l.hi l.blocks) (may : MayGather l low high) (gap : IsGap l.lo l.hi l.blocks low high) (new : List Block) (slid : AreSlid l.blocks new) where
+  pub missed : (a b : ℕ) → IsClear is_any l.lo l.hi new a b → AllByRecursion (λ y. Misses y.at y.size a b) new
   missed a b clear = Each-map (λ x. IsTrue (is_any x) → Misses x.at x.size a b) (λ y. Misses y.at y.size a b) (λ y f. f refl) new (Each-from_All _ new clear.misses)
 
-  -- what is free and meets the gap lies in it, behind the slid blocks
-  within : (a b : ℕ) → IsClear is_any l.lo l.hi new a b → a < b → a < high → low < b → (free ≤ a) × (b ≤ high)
-  within a b clear some begins ends =
-      let none_pinned = pinned_same (λ y. Misses y.at y.size a b) l.blocks new (slid_gathered low high l.lo l.hi l.blocks laid may.loose) (missed a b clear) in
+  pub within_gap : (a b : ℕ) → IsClear is_any l.lo l.hi new a b → a < b → a < high → low < b → (low ≤ a) × (b ≤ high)
+  within_gap a b clear some begins ends =
+      let none_pinned = pinned_same (λ y. Misses y.at y.size a b) l.blocks new slid (missed a b clear) in
       let z = gap.some in
       let lo_min : l.lo ≤ min a low = let one = clear.above in let two = may.inside.0 in omega arith in
       let hi_max : max b high ≤ l.hi = let one = clear.below in let two = may.inside.2 in omega arith in
@@ -151,37 +144,62 @@ module _ (l : Layout) (low high : ℕ) (laid : IsLaid l.lo l.hi l.blocks) (may :
         misses = All-from_Each _ l.blocks (both l.blocks (laid_from l.lo l.hi l.blocks laid) none_pinned (Each-from_All _ l.blocks gap.clear.misses));
       } in
       let same : (min a low ≡ low) × (max b high ≡ high) = gap.maximal (min a low) (max b high) (omega arith) (omega arith) wider in
-      let same_low = same.0 in let same_high = same.1 in
-      let above : low ≤ a = omega arith in (
-        elim (cases_lt a free) [
-          | inl lt ↦ absurd (tiled low high l.lo l.hi a b l.blocks laid may.loose above some lt (missed a b clear))
-          | inr ge ↦ ge
-        ],
-        omega arith,
-      )
+      let same_low = same.0 in let same_high = same.1 in (omega arith, omega arith)
     where
       both : (bs : List Block) → AllByRecursion (λ x. (l.lo ≤ x.at) × (0 < x.size)) bs → AllByRecursion (λ x. IsTrue (is_pinned x) → Misses x.at x.size a b) bs → AllByRecursion (λ x. IsTrue (is_pinned x) → Misses x.at x.size low high) bs
           → AllByRecursion (λ x. IsTrue (is_pinned x) → Misses x.at x.size (min a low) (max b high)) bs
       both [] sizes one two = tt
       both (x ∷ xs) sizes one two = ((λ t. joined a b low high x.at x.size sizes.0.1 begins ends some gap.some (one.0 t) (two.0 t)), both xs sizes.1 one.1 two.1)
 
+  -- so where it lies in [free, stop), that is the one hole
+  module _ (free stop : ℕ) (order : (low ≤ free) × (stop ≤ high)) (clear_new : IsClear is_any l.lo l.hi new free stop) (within : (a b : ℕ) → IsClear is_any l.lo l.hi new a b → a < b → low ≤ a → b ≤ high → (free ≤ a) × (b ≤ stop)) where
+    inner : (a b : ℕ) → IsClear is_any l.lo l.hi new a b → a < b → a < high → low < b → (free ≤ a) × (b ≤ stop)
+    inner a b clear some begins ends = let is = within_gap a b clear some begins ends in within a b clear some is.0 is.1
+
+    pub one_hole : free < stop → IsHole l.lo l.hi new free stop
+    one_hole some = record {
+      some = some;
+      clear = clear_new;
+      maximal = λ c d c_below d_above clear. let low_is = order.0 in let high_is = order.1 in
+          let is = inner c d clear (omega arith) (omega arith) (omega arith) in
+          let one = is.0 in let two = is.1 in (omega arith, omega arith);
+    }
+
+    pub no_other : (a b : ℕ) → IsHole l.lo l.hi new a b → (b ≤ low) ⊎ ((high ≤ a) ⊎ ((a ≡ free) × (b ≡ stop)))
+    no_other a b hole = elim (cases_lt low b) [
+      | inr k ↦ inl k
+      | inl ends ↦ elim (cases_lt a high) [
+        | inr k ↦ inr (inl k)
+        | inl begins ↦
+            let is = inner a b hole.clear hole.some begins ends in
+            let same : (free ≡ a) × (stop ≡ b) = hole.maximal free stop is.0 is.1 clear_new in
+            inr (inr (sym same.0, sym same.1))
+      ]
+    ]
+
+-- Of a gap one hole is left.
+module _ (l : Layout) (low high : ℕ) (laid : IsLaid l.lo l.hi l.blocks) (may : MayGather l low high) (gap : IsGap l.lo l.hi l.blocks low high) where
+  abbrev new : List Block
+  new = gathered low high l.blocks
+
+  abbrev free : ℕ
+  free = low + loose_bytes l.blocks low high
+
+  slid : AreSlid l.blocks new
+  slid = slid_gathered low high l.lo l.hi l.blocks laid may.loose
+
+  -- what is free in the gap lies behind the slid blocks
+  behind : (a b : ℕ) → IsClear is_any l.lo l.hi new a b → a < b → low ≤ a → b ≤ high → (free ≤ a) × (b ≤ high)
+  behind a b clear some above below = (
+    elim (cases_lt a free) [
+      | inl lt ↦ absurd (tiled low high l.lo l.hi a b l.blocks laid may.loose above some lt (missed l low high laid may gap new slid a b clear))
+      | inr ge ↦ ge
+    ],
+    below,
+  )
+
   pub hole_gathered : free < high → IsHole l.lo l.hi new free high
-  hole_gathered some = record {
-    some = some;
-    clear = clear_gathered l low high laid may;
-    maximal = λ c d c_below d_above clear. let z = gap.some in
-        let is = within c d clear (omega arith) (omega arith) (omega arith) in
-        let one = is.0 in let two = is.1 in (omega arith, omega arith);
-  }
+  hole_gathered = one_hole l low high laid may gap new slid free high (omega arith, omega arith) (clear_gathered l low high laid may) behind
 
   pub alone_gathered : (a b : ℕ) → IsHole l.lo l.hi new a b → (b ≤ low) ⊎ ((high ≤ a) ⊎ ((a ≡ free) × (b ≡ high)))
-  alone_gathered a b hole = elim (cases_lt low b) [
-    | inr k ↦ inl k
-    | inl ends ↦ elim (cases_lt a high) [
-      | inr k ↦ inr (inl k)
-      | inl begins ↦
-          let is = within a b hole.clear hole.some begins ends in
-          let same : (free ≡ a) × (high ≡ b) = hole.maximal free high is.0 is.1 (clear_gathered l low high laid may) in
-          inr (inr (sym same.0, sym same.1))
-    ]
-  ]
+  alone_gathered = no_other l low high laid may gap new slid free high (omega arith, omega arith) (clear_gathered l low high laid may) behind

@@ -10,11 +10,7 @@ use Rattle.w16_model.proofs.Gaps.{Each-map, Each-filter}
 use Rattle.w16_blocks.specs.Layout.{AreNamed}
 use Rattle.w16_compact.specs.declared.reach.Reached.{Reached}
 use Rattle.w16_compact.specs.Told.{Tells}
-use Rattle.w16_compact.proofs.Skips.{passed}
-
-pub ids_below : (cap : ℕ) (xs : List Block) → AreNamed cap xs → Each (λ x. x.id < cap) xs
-ids_below cap [] named = tt
-ids_below cap (x ∷ xs) named = (named.0, ids_below cap xs named.2)
+use Rattle.w16_compact.proofs.Skips.{passed, ids_below}
 
 pub named_filter : (p : Block → Bool) (cap : ℕ) (xs : List Block) → AreNamed cap xs → AreNamed cap (filter p xs)
 named_filter p cap [] named = tt

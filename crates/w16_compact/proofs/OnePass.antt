@@ -151,7 +151,7 @@ pub room_fits : (lo hi : ℕ) (xs : List Block) → IsLaid lo hi xs → room lo 
 room_fits lo hi xs laid = let one = scan-room lo hi xs laid in let two = scan_fits hi 0 lo 0 lo xs laid (omega arith) in omega arith
 
 -- the room with none left out
-none_out_all : (xs : List Block) → blocks_without xs [] None ≡ xs
+pub none_out_all : (xs : List Block) → blocks_without xs [] None ≡ xs
 none_out_all [] = refl
 none_out_all (x ∷ xs) = ap (λ ys. x ∷ ys) (none_out_all xs)
 

@@ -6,7 +6,7 @@ use Rattle.w16_model.specs.declared.Block.{Block}
 use Rattle.w16_model.specs.Gap.{IsLaid, block_end}
 
 -- two blocks that are read alike
-same_some : (b c : Block) → Some c ≡ Some b → c ≡ b
+pub same_some : (b c : Block) → Some c ≡ Some b → c ≡ b
 same_some b c e = cc
 
 pub each_got : (P : Block → Type 0) (bs : List Block) (i : ℕ) (b : Block) → slice_get bs i ≡ Some b → AllByRecursion P bs → P b

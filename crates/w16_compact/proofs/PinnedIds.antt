@@ -8,16 +8,20 @@ use Rattle.w16_model.specs.Discards.{is_pinned_id}
 use Rattle.w16_model.specs.Table.{block_with}
 use Rattle.w16_blocks.specs.Layout.{AreNamed}
 
-pub is_pinned_id-none : (xs : List Block) (id : ℕ) → block_with xs id ≡ None → is_pinned_id xs id ≡ false
-is_pinned_id-none [] id e = refl
-is_pinned_id-none (x ∷ xs) id e = elim (eqb_tells x.id id) [
-  | inl same ↦ let f : Some x ≡ None = rw same.0 at e in cc
-  | inr other ↦ rw other.0 (is_pinned_id-none xs id (rw other.0 at e))
+-- an id that has no block
+pub none_with : (id : ℕ) (xs : List Block) → block_with xs id ≡ None → AllByRecursion (λ y. y.id ≢ id) xs
+none_with id [] none = tt
+none_with id (x ∷ xs) none = elim (eqb_tells x.id id) [
+  | inl same ↦ let some : Some x ≡ None = rw same.0 at none in cc
+  | inr other ↦ (other.1, none_with id xs (rw other.0 at none))
 ]
 
 absent : (xs : List Block) (id : ℕ) → AllByRecursion (λ c. c.id ≢ id) xs → is_pinned_id xs id ≡ false
 absent [] id all = refl
 absent (x ∷ xs) id all = rw (ne_eqb x.id id all.0) (absent xs id all.1)
+
+pub is_pinned_id-none : (xs : List Block) (id : ℕ) → block_with xs id ≡ None → is_pinned_id xs id ≡ false
+is_pinned_id-none xs id none = absent xs id (none_with id xs none)
 
 pub is_pinned_id-some : (cap : ℕ) (xs : List Block) (id : ℕ) (b : Block) → AreNamed cap xs → block_with xs id ≡ Some b → is_pinned_id xs id ≡ is_pinned b
 is_pinned_id-some cap [] id b named e = cc

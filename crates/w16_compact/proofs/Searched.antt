@@ -26,13 +26,6 @@ below_cap most uses i id later are le e =
     got_dropped (x ∷ xs) zero id later e = let same : x ≡ id = cc in ap Some same
     got_dropped (x ∷ xs) (suc i) id later e = got_dropped xs i id later e
 
--- and those behind it
-pub rest_after : (ids : List ℕ) (i id : ℕ) (later : List ℕ) → drop i ids ≡ id ∷ later → drop (suc i) ids ≡ later
-rest_after [] zero id later e = cc
-rest_after [] (suc i) id later e = cc
-rest_after (x ∷ xs) zero id later e = cc
-rest_after (x ∷ xs) (suc i) id later e = rest_after xs i id later e
-
 -- whether a request about h may discard an object of the order
 abbrev pub may_go : List Block → Option ℕ → ℕ → Bool
 may_go xs h id = not (is_pinned_id xs id) && not (is_about h id)

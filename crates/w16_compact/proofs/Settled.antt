@@ -7,6 +7,7 @@ use Rattle.w16_model.specs.Bytes.{part}
 use Rattle.w16_model.specs.declared.Block.{Block}
 use Rattle.w16_model.specs.declared.Span.{Span}
 use Rattle.w16_model.specs.Gap.{block_end}
+use Rattle.w16_model.proofs.Gaps.{Each-both}
 use Rattle.w16_holes.specs.Holes.{IsUsed}
 use Rattle.w16_blocks.specs.Layout.{Layout}
 use Rattle.w16_blocks.specs.Runs.{IsBare, slid_with}
@@ -39,26 +40,23 @@ same_layout l run to here = ap (λ bs. let r : Layout = record { cap = l.cap; lo
 abbrev held : List ℕ → Block → ℕ × List ℕ
 held bytes c = (c.id, part bytes c.at c.size)
 
+-- a block in a run that slides, or one that stays and that its new place misses
+abbrev pub IsCleared : Span → ℕ → Block → Type 0
+IsCleared run to b = ((run.from ≤ b.at) × (b.at < run.to) × (block_end b ≤ run.to)) ⊎ ((slid_with run to b ≡ b) × ((block_end b ≤ to) ⊎ (to + (run.to - run.from) ≤ b.at)))
+
 -- each block has its bytes again
-module _ (new old : List ℕ) (run : Span) (to : ℕ) (some : run.from < run.to) (down : to < run.from) (before after : List Span) (moved : part new to (run.to - run.from) ≡ part old run.from (run.to - run.from)) (same : AreSameBut to (run.to - run.from) before after old new) where
-  one : (b : Block) → Lies run b → (block_end b ≤ to) ⊎ (run.from ≤ b.at) → IsUsed b.at (block_end b) before → IsUsed (slid_with run to b).at (block_end (slid_with run to b)) after
-      → held new (slid_with run to b) ≡ held old b
-  one b at bare was is = let size = at.0 in elim at.1 [
-    | inl below ↦ elsewhere (slid_below run to b (omega arith)) (elim bare [ inl under ↦ inl under | inr over ↦ absurd (omega arith) ])
-    | inr other ↦ elim other [
-      | inl behind ↦ elsewhere (slid_above run to b behind) (inr (omega arith))
-      | inr inside ↦
-          let from = inside.0 in let end = inside.1 in
-          ap (held new) (slid_inside run to b from (omega arith))
-          ∙ ap (λ (bytes : List ℕ). let r : ℕ × List ℕ = (b.id, bytes) in r) (come b from end)
-    ]
+module _ (new old : List ℕ) (run : Span) (to : ℕ) (before after : List Span) (moved : part new to (run.to - run.from) ≡ part old run.from (run.to - run.from)) (same : AreSameBut to (run.to - run.from) before after old new) where
+  one : (b : Block) → IsCleared run to b → IsUsed b.at (block_end b) before → IsUsed (slid_with run to b).at (block_end (slid_with run to b)) after → held new (slid_with run to b) ≡ held old b
+  one b at was is = elim at [
+    | inl inside ↦
+        let from = inside.0 in let lt = inside.1 in let end = inside.2 in
+        ap (held new) (slid_inside run to b from lt)
+        ∙ ap (λ (bytes : List ℕ). let r : ℕ × List ℕ = (b.id, bytes) in r) (come b from end)
+    | inr out ↦
+        ap (held new) out.0
+        ∙ ap (λ (bytes : List ℕ). let r : ℕ × List ℕ = (b.id, bytes) in r) (same.same b.at b.size was (subst (λ (c : Block). IsUsed c.at (block_end c) after) out.0 is) out.1)
   ]
     where
-      elsewhere : slid_with run to b ≡ b → (block_end b ≤ to) ⊎ (to + (run.to - run.from) ≤ b.at) → held new (slid_with run to b) ≡ held old b
-      elsewhere e out =
-          ap (held new) e
-          ∙ ap (λ (bytes : List ℕ). let r : ℕ × List ℕ = (b.id, bytes) in r) (same.same b.at b.size was (subst (λ (c : Block). IsUsed c.at (block_end c) after) e is) out)
-
       come : (b : Block) → run.from ≤ b.at → block_end b ≤ run.to → part new (to + (b.at - run.from)) b.size ≡ part old b.at b.size
       come b from end =
           sym (part_of_part new to (run.to - run.from) (b.at - run.from) b.size (omega arith))
@@ -66,7 +64,29 @@ module _ (new old : List ℕ) (run : Span) (to : ℕ) (some : run.from < run.to)
           ∙ part_of_part old run.from (run.to - run.from) (b.at - run.from) b.size (omega arith)
           ∙ ap (λ (at : ℕ). part old at b.size) (let e : run.from + (b.at - run.from) ≡ b.at = omega arith in e)
 
-  pub contents_run : (bs : List Block) → AllByRecursion (Lies run) bs → IsBare to run.from bs → AllByRecursion (λ b. IsUsed b.at (block_end b) before) bs → AllByRecursion (λ b. IsUsed b.at (block_end b) after) (map (slid_with run to) bs)
+  pub contents_run : (bs : List Block) → AllByRecursion (IsCleared run to) bs → AllByRecursion (λ b. IsUsed b.at (block_end b) before) bs → AllByRecursion (λ b. IsUsed b.at (block_end b) after) (map (slid_with run to) bs)
       → contents new (map (slid_with run to) bs) ≡ contents old bs
-  contents_run [] at bare was is = refl
-  contents_run (b ∷ bs) at bare was is = λ i. one b at.0 bare.0 was.0 is.0 i ∷ contents_run bs at.1 bare.1 was.1 is.1 i
+  contents_run [] at was is = refl
+  contents_run (b ∷ bs) at was is = λ i. one b at.0 was.0 is.0 i ∷ contents_run bs at.1 was.1 is.1 i
+
+-- of a run that slides down
+pub cleared_down : (run : Span) (to : ℕ) → to < run.from → run.from < run.to → (bs : List Block) → AllByRecursion (Lies run) bs → IsBare to run.from bs → AllByRecursion (IsCleared run to) bs
+cleared_down run to down some = Each-both (Lies run) (λ b. (block_end b ≤ to) ⊎ (run.from ≤ b.at)) (IsCleared run to)
+    (λ b at bare. let size = at.0 in elim at.1 [
+      | inl below ↦ inr (slid_below run to b (omega arith), elim bare [ inl under ↦ inl under | inr over ↦ absurd (omega arith) ])
+      | inr other ↦ elim other [
+        | inl behind ↦ inr (slid_above run to b behind, inr (omega arith))
+        | inr inside ↦ let from = inside.0 in let end = inside.1 in inl (from, omega arith, end)
+      ]
+    ])
+
+-- and of one that slides up
+pub cleared_up : (run : Span) (to : ℕ) → run.from ≤ to → run.from < run.to → (bs : List Block) → AllByRecursion (Lies run) bs → IsBare run.to (to + (run.to - run.from)) bs → AllByRecursion (IsCleared run to) bs
+cleared_up run to up some = Each-both (Lies run) (λ b. (block_end b ≤ run.to) ⊎ (to + (run.to - run.from) ≤ b.at)) (IsCleared run to)
+    (λ b at bare. let size = at.0 in elim at.1 [
+      | inl below ↦ inr (slid_below run to b (omega arith), inl (omega arith))
+      | inr other ↦ elim other [
+        | inl behind ↦ inr (slid_above run to b behind, elim bare [ inl under ↦ absurd (omega arith) | inr over ↦ inr over ])
+        | inr inside ↦ let from = inside.0 in let end = inside.1 in inl (from, omega arith, end)
+      ]
+    ])

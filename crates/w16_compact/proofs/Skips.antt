@@ -14,15 +14,15 @@ use Rattle.w16_compact.proofs.OnePass.{scan, scan-room}
 abbrev pub passed : Reached → Block → Reached
 passed r x = cond (is_pinned x) (record { low = block_end x; loose = 0 }) (record { low = r.low; loose = r.loose + x.size })
 
--- the blocks behind the i-th
+-- what is behind the i-th
+pub rest_after : {A : Type 0} (xs : List A) (i : ℕ) (x : A) (rest : List A) → drop i xs ≡ x ∷ rest → drop (suc i) xs ≡ rest
+rest_after [] zero x rest here = cc
+rest_after [] (suc i) x rest here = cc
+rest_after (y ∷ ys) zero x rest here = cc
+rest_after (y ∷ ys) (suc i) x rest here = rest_after ys i x rest here
+
 pub rest_is : (xs : List Block) (x : Block) (rest : List Block) (i : ℕ) → drop i xs ≡ x ∷ rest → drop (i + 1) xs ≡ rest
-rest_is xs x rest i here = rw add-one (behind xs i here)
-  where
-    behind : (xs : List Block) (i : ℕ) → drop i xs ≡ x ∷ rest → drop (suc i) xs ≡ rest
-    behind [] zero here = cc
-    behind [] (suc i) here = cc
-    behind (y ∷ ys) zero here = cc
-    behind (y ∷ ys) (suc i) here = behind ys i here
+rest_is xs x rest i here = rw add-one (rest_after xs i x rest here)
 
 -- what holds of each block holds of the i-th
 pub each_here : (P : Block → Type 0) (xs : List Block) (x : Block) (rest : List Block) (i : ℕ) → drop i xs ≡ x ∷ rest → AllByRecursion P xs → P x
@@ -107,9 +107,9 @@ passed_start p lo hi xs laid = record {
   same = scan-room lo hi (filter p xs) (laid_filter p lo hi xs laid);
 }
 
+pub ids_below : (cap : ℕ) (xs : List Block) → AreNamed cap xs → AllByRecursion (λ x. x.id < cap) xs
+ids_below cap [] named = tt
+ids_below cap (x ∷ xs) named = (named.0, ids_below cap xs named.2)
+
 pub id_here : (cap : ℕ) (xs : List Block) (x : Block) (rest : List Block) (i : ℕ) → drop i xs ≡ x ∷ rest → AreNamed cap xs → x.id < cap
-id_here cap xs x rest i here named = each_here (λ y. y.id < cap) xs x rest i here (each_id xs named)
-  where
-    each_id : (xs : List Block) → AreNamed cap xs → AllByRecursion (λ y. y.id < cap) xs
-    each_id [] named = tt
-    each_id (x ∷ xs) named = (named.0, each_id xs named.2)
+id_here cap xs x rest i here named = each_here (λ y. y.id < cap) xs x rest i here (ids_below cap xs named)

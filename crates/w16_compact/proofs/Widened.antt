@@ -1,9 +1,9 @@
 -- A walk over what may be discarded, with the table of what is left.
 use Rattle.std.specs.List.{AllByRecursion as Each}
 use Rattle.std.specs.Prelude.{slice_index, MatchOption}
-use Rattle.std.proofs.Common.{◌≡◌, ◌≢◌, ℕ, zero, suc, ◌+◌, ◌<◌, ◌≤◌, max, inl, inr, Bool, true, false, cond, not, ◌||◌, ◌==◌, List, [], ◌∷◌, length, take, drop, set, Option, Some, None, refl, sym, ap, ◌∙◌, subst, arith, add-one, eq-eqb, ne_eqb}
+use Rattle.std.proofs.Common.{◌≡◌, ◌≢◌, ℕ, zero, suc, ◌+◌, ◌<◌, ◌≤◌, max, Bool, true, false, cond, not, ◌&&◌, ◌||◌, ◌==◌, filter, List, [], ◌∷◌, length, take, drop, set, Option, Some, None, refl, sym, ap, ◌∙◌, subst, arith, add-one, ne_eqb}
 use Rattle.std.proofs.lemmas.Bool.{and_parts, not-true, not_from_false, or_from}
-use Rattle.std.proofs.lemmas.Bool.Decides.{eqb_tells}
+use Rattle.std.proofs.lemmas.Bool.Decides.{nat_tests}
 use Rattle.w16_model.specs.declared.Block.{Block}
 use Rattle.w16_model.specs.Gap.{IsLaid, room, is_pinned}
 use Rattle.w16_model.specs.Discards.{eligible, blocks_without, is_member, is_about, is_pinned_id, room_for, snapshot}
@@ -13,11 +13,11 @@ use Rattle.w16_lru.specs.Uses.{Uses, AreUses}
 use Rattle.w16_blocks.specs.Layout.{Layout, IsOrdered, AreNamed, all_but}
 use Rattle.w16_blocks.proofs.Remove.{all_but_absent, IsLaid-all_but, each_with, with_id}
 use Rattle.w16_compact.specs.Told.{AreTold}
-use Rattle.w16_compact.proofs.Filled.{ids_below, named_filter}
+use Rattle.w16_compact.proofs.Filled.{named_filter}
 use Rattle.w16_compact.proofs.OnePass.{scan-room}
-use Rattle.w16_compact.proofs.PinnedIds.{is_pinned_id-some}
+use Rattle.w16_compact.proofs.PinnedIds.{none_with, is_pinned_id-some}
 use Rattle.w16_compact.proofs.Searched.{may_go}
-use Rattle.w16_compact.proofs.Skips.{laid_filter}
+use Rattle.w16_compact.proofs.Skips.{ids_below, laid_filter}
 use Rattle.w16_compact.proofs.Told.{gap_known, told_fits, told_without, scan_without}
 
 -- One more of some ids.
@@ -44,35 +44,29 @@ not_taken (suc k) (r ∷ ids) id later e apart =
     ap (λ b. b || is_member id (take k ids)) (ne_eqb r id (each_dropped (λ q. r ≡ q → ⊥) k ids id later e apart.0)) ∙ not_taken k ids id later e apart.1
 
 -- the blocks without one id more
-blocks_more : (ids more : List ℕ) (id : ℕ) (h : Option ℕ) → ((q : ℕ) → is_member q more ≡ ((id == q) || is_member q ids)) → (xs : List Block) → blocks_without xs more h ≡ all_but id (blocks_without xs ids h)
-blocks_more ids more id h each [] = refl
-blocks_more ids more id h each (x ∷ xs) =
-    let ih = blocks_more ids more id h each xs in
-    elim (eqb_tells id x.id) [
-      | inl same ↦
-          ap (λ c. cond {A = List Block} (not (c || is_about h x.id)) (x ∷ blocks_without xs more h) (blocks_without xs more h)) (each x.id ∙ ap (λ c. c || is_member x.id ids) same.0)
-          ∙ ih ∙ sym (gone (not (is_member x.id ids || is_about h x.id)) (eq-eqb x.id id (sym same.1)))
-      | inr other ↦
-          ap (λ c. cond {A = List Block} (not (c || is_about h x.id)) (x ∷ blocks_without xs more h) (blocks_without xs more h)) (each x.id ∙ ap (λ c. c || is_member x.id ids) other.0)
-          ∙ ap (λ (ys : List Block). cond {A = List Block} (not (is_member x.id ids || is_about h x.id)) (x ∷ ys) ys) ih
-          ∙ kept (not (is_member x.id ids || is_about h x.id)) (ne_eqb x.id id (λ e. other.1 (sym e)))
-    ]
+filter_both : (p q r : Block → Bool) → ((x : Block) → r x ≡ (p x && q x)) → (xs : List Block) → filter r xs ≡ filter q (filter p xs)
+filter_both p q r same [] = refl
+filter_both p q r same (x ∷ xs) = turn (p x) (same x) (filter_both p q r same xs)
   where
-    gone : (b : Bool) → (x.id == id) ≡ true → all_but id (cond {A = List Block} b (x ∷ blocks_without xs ids h) (blocks_without xs ids h)) ≡ all_but id (blocks_without xs ids h)
-    gone true e = ap (λ c. cond {A = List Block} (not c) (x ∷ all_but id (blocks_without xs ids h)) (all_but id (blocks_without xs ids h))) e
-    gone false e = refl
+    turn : (b : Bool) → r x ≡ (b && q x) → filter r xs ≡ filter q (filter p xs) → filter r (x ∷ xs) ≡ filter q (cond {A = List Block} b (x ∷ filter p xs) (filter p xs))
+    turn true e rest = λ i. cond {A = List Block} (e i) (x ∷ rest i) (rest i)
+    turn false e rest = (λ i. cond {A = List Block} (e i) (x ∷ filter r xs) (filter r xs)) ∙ rest
 
-    kept : (b : Bool) → (x.id == id) ≡ false → cond {A = List Block} b (x ∷ all_but id (blocks_without xs ids h)) (all_but id (blocks_without xs ids h)) ≡ all_but id (cond {A = List Block} b (x ∷ blocks_without xs ids h) (blocks_without xs ids h))
-    kept true e = sym (ap (λ c. cond {A = List Block} (not c) (x ∷ all_but id (blocks_without xs ids h)) (all_but id (blocks_without xs ids h))) e)
-    kept false e = refl
+one_out : (a b c : Bool) → not ((a || b) || c) ≡ (not (b || c) && not a)
+one_out true true c = refl
+one_out true false true = refl
+one_out true false false = refl
+one_out false true c = refl
+one_out false false true = refl
+one_out false false false = refl
 
--- an id that has no block
-none_with : (id : ℕ) (xs : List Block) → block_with xs id ≡ None → Each (λ y. y.id ≢ id) xs
-none_with id [] none = tt
-none_with id (x ∷ xs) none = elim (eqb_tells x.id id) [
-  | inl same ↦ let some : Some x ≡ None = rw same.0 at none in cc
-  | inr other ↦ (other.1, none_with id xs (rw other.0 at none))
-]
+turned : (a b : ℕ) → (a == b) ≡ (b == a)
+turned a b = grind (arith, nat_tests)
+
+blocks_more : (ids more : List ℕ) (id : ℕ) (h : Option ℕ) → ((q : ℕ) → is_member q more ≡ ((id == q) || is_member q ids)) → (xs : List Block) → blocks_without xs more h ≡ all_but id (blocks_without xs ids h)
+blocks_more ids more id h each =
+    filter_both (λ x. not (is_member x.id ids || is_about h x.id)) (λ x. not (x.id == id)) (λ x. not (is_member x.id more || is_about h x.id))
+    (λ x. ap (λ b. not (b || is_about h x.id)) (each x.id ∙ ap (λ b. b || is_member x.id ids) (turned id x.id)) ∙ one_out (x.id == id) (is_member x.id ids) (is_about h x.id))
 
 module _ (l : Layout) (order : List ℕ) (h : Option ℕ) (gap_of : List ℕ) where
   -- what is left after so many discards

@@ -1,10 +1,20 @@
 -- A gap with room.
-use Rattle.std.specs.Prelude.{ℕ, ◌+◌, ◌≤◌, ◌≡◌}
+use Rattle.std.specs.Prelude.{ℕ, ◌+◌, ◌≤◌, ◌≡◌, List, Option, Some, None}
+use Rattle.w16_model.specs.declared.Block.{Block}
 use Rattle.w16_model.specs.Gap.{IsGap, loose_bytes}
 use Rattle.w16_model.specs.Heap.{IsMultiple}
-use Rattle.w16_blocks.specs.Layout.{Layout}
+use Rattle.w16_blocks.specs.Layout.{Layout, all_but}
 use Rattle.w16_compact.specs.declared.gaps.Gap.{Gap}
 use Rattle.w16_compact.specs.Gather.{MayGather}
+
+-- the blocks but for that of h
+abbrev pub others : Option ℕ → List Block → List Block
+others None bs = bs
+others (Some id) bs = all_but id bs
+
+-- the layout of these
+abbrev pub without : Option ℕ → Layout → Layout
+without h l = record l { blocks = others h l.blocks }
 
 -- a gap with room for n bytes beside its loose blocks, whose bytes it tells; it may be gathered
 pub record HasRoom (l : Layout) (n : ℕ) (g : Gap) : Type 0 where

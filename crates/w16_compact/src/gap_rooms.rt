@@ -1,13 +1,15 @@
 //! The room of each gap, in a table.
-ghost use Rattle.std.specs.Prelude.{◌≡◌, ◌+◌, ◌<◌, ◌≤◌, ◌^◌, [], length, slice_index, slice_set, IfOk, MatchOption};
+ghost use Rattle.std.specs.Prelude.{◌≡◌, false, ◌+◌, ◌<◌, ◌≤◌, ◌^◌, [], length, slice_index, slice_set, sum_by, IfOk, MatchOption};
+ghost use Rattle.std.specs.List.{list_any};
 ghost use Rattle.std.specs.Option.{ForSome};
-ghost use Rattle.w16_model.specs.Gap.{room};
+ghost use Rattle.w16_model.specs.Gap.{is_pinned, room};
 ghost use Rattle.w16_model.specs.Discards.{blocks_without};
 ghost use Rattle.w16_model.specs.Table.{block_with};
 ghost use Rattle.w16_blocks.specs.Layout.{IsOrdered, holes_of};
 ghost use Rattle.w16_compact.specs.Told.{AreTold};
 
 use crate::reach::{Reached, is_about, is_pinned};
+use crate::slide::are_ordered;
 use std::alloc::{AllocError, Global};
 use std::marker::Model;
 use w16_blocks::Blocks;
@@ -61,6 +63,9 @@ pub(crate) fn fill<S: Space, H: Holes<S>>(
     ensures ordered { IsOrdered blocks.now }
 {
     let bounds = blocks.bounds();
+    if !blocks.has_pinned() {
+        return fill_whole(blocks, gap_of, rooms, h);
+    }
     let mut gap = blocks.cap();
     let mut reached = Reached {
         low: bounds.from,
@@ -85,6 +90,44 @@ pub(crate) fn fill<S: Space, H: Holes<S>>(
     let room = reached.room_to(bounds.to);
     rooms[gap as usize] = room;
     most.max(room)
+}
+
+/// The same where no block is pinned, so that all is one gap.
+fn fill_whole<H: HoleList>(
+    blocks: &Blocks<H>,
+    gap_of: &mut [u32],
+    rooms: &mut [u32],
+    h: Option<u32>,
+) -> u32
+    requires loose { list_any is_pinned blocks.now.blocks ≡ false }
+    requires gap_of { blocks.now.cap ≤ length gap_of.old }
+    requires rooms { blocks.now.cap < length rooms.old }
+    ensures value { result ≡ room blocks.now.lo blocks.now.hi (blocks_without blocks.now.blocks [] h) }
+    ensures told { AreTold blocks.now (blocks_without blocks.now.blocks [] h) gap_of.new rooms.new }
+{
+    are_ordered(blocks);
+    let gap = blocks.cap();
+    let room = blocks.free() + own_size(blocks, h);
+    gap_of.fill(gap);
+    rooms[gap as usize] = room;
+    room
+}
+
+/// The bytes of the block that is left out.
+fn own_size<H: HoleList>(blocks: &Blocks<H>, h: Option<u32>) -> u32
+    ensures { result + sum_by (λ b. b.size) (blocks_without blocks.now.blocks [] h) ≡ sum_by (λ b. b.size) blocks.now.blocks }
+{
+    are_ordered(blocks);
+    let Some(id) = h else {
+        return 0;
+    };
+    if blocks.cap() <= id {
+        return 0;
+    }
+    match blocks.find(id) {
+        Some(block) => block.size,
+        None => 0,
+    }
 }
 
 /// Adds the size of an id's block to the room of its gap, as where it is discarded. Answers that room, and 0 for an id without a block.

@@ -2,7 +2,7 @@
 //!
 //! - [`room`] tells how much compaction can make.
 //! - [`gap_for`] tells where it can make enough.
-//! - [`gather`] makes it there.
+//! - [`gather`] makes it there, and [`open`] directly behind one of the blocks.
 //! - [`least_prefix`] tells how many discards it takes first, [`room_after`] how much room a number of them leaves, and [`is_eligible`]
 //!   which objects they may be.
 //!
@@ -11,6 +11,7 @@
 
 mod gap_rooms;
 mod gaps;
+mod opening;
 mod prefix;
 mod reach;
 mod rooms;
@@ -18,6 +19,7 @@ mod slide;
 
 pub use gap_rooms::GapRooms;
 pub use gaps::{Gap, gap_for};
+pub use opening::open;
 pub use prefix::{is_eligible, least_prefix, room_after};
 pub use rooms::room;
 pub use slide::gather;

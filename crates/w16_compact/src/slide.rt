@@ -53,7 +53,7 @@ pub fn gather<S: Space, H: Holes<S>>(
     ensures rest { IsSameRest S.bytes S.lenders blocks.old.lo blocks.old.hi space.old space.new }
 {
     are_ordered(blocks);
-    let mut to = low;
+    let mut to = packed_to(blocks, space, low, high);
     let mut moved = 0;
     // What is free lies directly behind the settled ones, so the next is found in one step. Those that stand directly behind it slide as far,
     // so they go with it.
@@ -68,8 +68,22 @@ pub fn gather<S: Space, H: Holes<S>>(
     moved
 }
 
+/// Up to where the gap's blocks stand packed from `low` on: to the lowest hole, if that begins in the gap.
+fn packed_to<S: Space, H: Holes<S>>(blocks: &Blocks<H>, space: &S, low: u32, high: u32) -> u32
+    requires gap { MayGather blocks.now low high }
+    requires grained { IsMultiple blocks.now.grain low }
+    requires kept { H.are_in (holes_of blocks.now) (S.bytes space.now) }
+    ensures run { IsRun blocks.now (record { from = low; to = result }) }
+    ensures high { result ≤ high }
+{
+    match blocks.hole_for(space, 0) {
+        Some(hole) if low <= hole && hole <= high => hole,
+        _ => low,
+    }
+}
+
 /// Does nothing: what holds of all blocks.
-fn are_ordered<H: HoleList>(blocks: &Blocks<H>)
+pub(crate) fn are_ordered<H: HoleList>(blocks: &Blocks<H>)
     ensures { IsOrdered blocks.now }
 {
     let _ = blocks.bounds();

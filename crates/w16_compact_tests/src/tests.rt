@@ -56,6 +56,7 @@ macro_rules! span {
 }
 
 mod discards;
+mod opened;
 
 /// How many ids there are.
 const IDS: u32 = 8;
@@ -367,7 +368,7 @@ fn compacts<S: Space>(
     let (size, expected) = case.asked;
     assert!(rt; 0 < size && blocks.bounds().to <= space.len());
     mark(rt, blocks, space);
-    let found = gap_for(blocks, space, size);
+    let found = gap_for(blocks, space, None, size);
     assert_eq!(rt; found, expected, "{name}: gap");
     let before = space.written();
     let moved = match found {

@@ -1,39 +1,40 @@
 -- The objects before anything is allocated.
-use Rattle.std.proofs.Common.{◌≡◌, ℕ, ◌<◌, ◌≤◌, [], Option, None, option_map, refl, sym, ap, ◌∙◌, arith}
+use Rattle.std.proofs.Common.{◌≡◌, ℕ, ◌<◌, ◌≤◌, All, List, [], length, Option, None, option_map, refl, sym, ap, ◌∙◌, arith}
 use Rattle.std.specs.Ordering.{nat_cmp}
 use Rattle.std.specs.FinMap.{get-empty}
 use Rattle.std.proofs.lemmas.List.{length-replicate}
-use Rattle.std.proofs.lemmas.List.Elements.{All-replicate}
-use Rattle.w16_model.specs.Bytes.{repeated}
 use Rattle.w16_model.specs.declared.Entry.{Entry}
 use Rattle.w16_model.specs.declared.TheConstants.{GRAIN}
 use Rattle.w16_model.specs.Heap.{empty_heap}
 use Rattle.w16_model.specs.Table.{object_in, heap_in}
+use Rattle.w16_holes.specs.Holes.{add_span}
+use Rattle.w16_holes.specs.Thread.{AreThreaded}
 use Rattle.w16_arena.specs.State.{ArenaState, empty_table}
 use Rattle.w16_arena.proofs.Lookups.{same_heap, object_here, place_here}
 use Rattle.w16_arena.proofs.Fresh.{sound, no_entry}
 use Rattle.w16_global.specs.Parts.{AreParts, holding_of}
 use Rattle.w16_global.proofs.Written.{beside}
 
-module _ (cap memory : ℕ) (few : cap ≤ 8192) where
+-- all of a memory is a hole
+module _ (cap memory : ℕ) (few : cap ≤ 8192) (bytes : List ℕ) (long : length bytes ≡ memory) (ours : All (λ b. b < 256) bytes) (kept : AreThreaded (add_span 0 memory []) bytes) where
   abbrev fresh : ArenaState
   fresh = record { table = empty_table cap 0 memory GRAIN; discarded = [] }
 
-  pub fresh_parts : AreParts (record { table = empty_table cap 0 memory GRAIN; discarded = [] }) (repeated memory 0)
-  unfolding repeated
+  pub fresh_parts : AreParts (record { table = empty_table cap 0 memory GRAIN; discarded = [] }) bytes
   fresh_parts = record {
     sound = sound cap 0 memory GRAIN (omega arith) (0, refl);
     low = refl;
     grain = refl;
-    high = sym (length-replicate memory 0);
-    bytes = All-replicate (λ b. b < 256) memory 0 (omega arith);
+    high = sym long;
+    bytes = ours;
+    kept = kept;
     few = let n = length-replicate {A = Option Entry} cap None in omega arith;
   }
 
-  fresh_heap : heap_in (empty_table cap 0 memory GRAIN) (repeated memory 0) ≡ empty_heap 0 memory GRAIN
-  fresh_heap = same_heap (heap_in (empty_table cap 0 memory GRAIN) (repeated memory 0)) (empty_heap 0 memory GRAIN) refl refl refl refl
-      (λ q. object_here (beside fresh_parts) q ∙ ap (option_map (object_in [] (repeated memory 0) q)) (no_entry cap q) ∙ sym (get-empty nat_cmp q))
+  fresh_heap : heap_in (empty_table cap 0 memory GRAIN) bytes ≡ empty_heap 0 memory GRAIN
+  fresh_heap = same_heap (heap_in (empty_table cap 0 memory GRAIN) bytes) (empty_heap 0 memory GRAIN) refl refl refl refl
+      (λ q. object_here (beside fresh_parts) q ∙ ap (option_map (object_in [] bytes q)) (no_entry cap q) ∙ sym (get-empty nat_cmp q))
       (λ q. place_here (beside fresh_parts) q ∙ sym (get-empty nat_cmp q))
 
-  pub fresh_holding : holding_of (record { table = empty_table cap 0 memory GRAIN; discarded = [] }) (repeated memory 0) 0 ≡ record { cap = cap; heap = empty_heap 0 memory GRAIN; discarded = []; written = 0 }
+  pub fresh_holding : holding_of (record { table = empty_table cap 0 memory GRAIN; discarded = [] }) bytes 0 ≡ record { cap = cap; heap = empty_heap 0 memory GRAIN; discarded = []; written = 0 }
   fresh_holding = λ i. record { cap = length-replicate {A = Option Entry} cap None i; heap = fresh_heap i; discarded = []; written = 0 }

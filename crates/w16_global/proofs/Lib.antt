@@ -12,3 +12,7 @@ pub mod Sliding
 pub mod Fresh
 pub mod Forgotten
 pub mod Walked
+pub mod Changing
+pub mod Reallocating
+pub mod Resizing
+pub mod Lent

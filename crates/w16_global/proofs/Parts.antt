@@ -1,39 +1,24 @@
 -- The objects' arena and memory, and the heap that they stand for.
-use Rattle.std.proofs.Common.{◌≡◌, ℕ, ◌+◌, ◌^◌, ◌<◌, ◌≤◌, ◌⊎◌, IfSome, IfNone, All, List, length, Option, Some, None, Result, Ok, Err, OnOk, IfErr, option_map, refl, sym, ap, ◌∙◌, subst, arith}
+use Rattle.std.proofs.Common.{◌≡◌, ℕ, ◌+◌, ◌^◌, ◌<◌, ◌≤◌, ◌⊎◌, IfSome, IfNone, List, length, Option, Some, None, Result, Ok, Err, OnOk, IfErr, option_map, refl, sym, ap, ◌∙◌, subst, arith, All, is_some, true}
 use Rattle.std.specs.FinMap as finmap
 use Rattle.w16_model.specs.declared.Block.{Block}
 use Rattle.w16_model.specs.declared.Kind.{Kind}
 use Rattle.w16_model.specs.declared.TheConstants.{GRAIN}
-use Rattle.w16_model.specs.Heap.{Heap, IsHeap, object_at, bytes_at}
+use Rattle.w16_model.specs.Heap.{Heap, Object, IsHeap, object_at, bytes_at}
 use Rattle.w16_model.specs.Table.{block_with, entry_at, heap_in}
 use Rattle.w16_model.specs.declared.Refusal.{Refusal}
-use Rattle.w16_model.specs.OneObject.{Enters, after_free}
+use Rattle.w16_model.specs.OneObject.{Enters}
 use Rattle.w16_compact.specs.Gather.{contents}
 use Rattle.w16_model.specs.Changes.{with_object}
-use Rattle.w16_arena.specs.State.{ArenaState, Steps, IsSameRange, entry_of}
+use Rattle.w16_arena.specs.State.{ArenaState, Steps, entry_of}
 use Rattle.w16_arena.proofs.Keeping.{heap_kept}
 use Rattle.w16_arena.proofs.Lookups.{is_heap, entry_is, size_here, place_here, ends_in_memory, no_entry, no_block}
 use Rattle.w16_global.specs.Parts.{AreParts, Holding, holding_of}
 use Rattle.w16_global.proofs.Written.{beside}
 
--- another table over the same range, and a memory as long
-pub parts_after : {s : ArenaState} {memory : List ℕ} → AreParts s memory → {new : ArenaState} {after : List ℕ} → IsSameRange s.table new.table → length after ≡ length memory → All (λ b. b < 256) after → AreParts new after
-parts_after parts range long bytes = record {
-  sound = range.sound;
-  low = range.lo ∙ parts.low;
-  grain = range.grain ∙ parts.grain;
-  high = range.hi ∙ parts.high ∙ sym long;
-  bytes = bytes;
-  few = let n = range.ids in let few = parts.few in omega arith;
-}
-
 module _ {s : ArenaState} {memory : List ℕ} (parts : AreParts s memory) where
   pub whole : s.table.hi ≤ length memory
   whole = let e = parts.high in omega arith
-
-  -- a step that asks for no room
-  pub parts_stepped : {new : ArenaState} {step : Heap → Heap → Type 0} → Steps s new step → AreParts new memory
-  parts_stepped p = parts_after parts p.range refl parts.bytes
 
   module _ {count : ℕ} {h : Holding} (shown : holding_of s memory count ≡ h) where
     -- what the parts have, the value has, and the other way round
@@ -63,6 +48,14 @@ module _ {s : ArenaState} {memory : List ℕ} (parts : AreParts s memory) where
 
     pub place_shown : (id : ℕ) → finmap.get h.heap.places id ≡ option_map (λ (x : Block). x.at) (block_with s.table.blocks id)
     place_shown id = told (λ heap. finmap.get heap.places id ≡ option_map (λ (x : Block). x.at) (block_with s.table.blocks id)) (place_here (beside parts) id)
+
+    -- an object that is there has an entry
+    pub entry_known : (id : ℕ) → is_some (object_at h.heap id) ≡ true → is_some (entry_at s.table id) ≡ true
+    entry_known id there = ap is_some (entry_shown id) ∙ mapped (object_at h.heap id) ∙ there
+      where
+        mapped : (p : Option Object) → is_some (option_map entry_of p) ≡ is_some p
+        mapped None = refl
+        mapped (Some o) = refl
 
     -- an id without an object has no entry and no block
     pub no_entry_known : (id : ℕ) → object_at h.heap id ≡ None → entry_at s.table id ≡ None
@@ -120,17 +113,17 @@ module _ {s : ArenaState} {memory : List ℕ} (parts : AreParts s memory) where
         holding_stepped p (heap_in new.table memory) refl
         ∙ (λ i. record h { heap = (p.heaps memory whole).entered i }) ∙ ap (λ (k : Holding). record h { heap = with_object k.heap id (record { kind = kind; locks = 0; bytes = None }) }) shown
 
-    -- an object that was taken away, or is refused, where the bytes of the others stay
-    module _ (new : ArenaState) (after : List ℕ) (id : ℕ) (same : contents after new.table.blocks ≡ contents memory new.table.blocks) where
-      pub freed_ok : {X : Type 0} (r : Result X Refusal) → OnOk r (Steps s new (λ a b. after_free a id ≡ Ok b)) → OnOk r (after_free h.heap id ≡ Ok (heap_in new.table after))
-      freed_ok (Ok x) p = told (λ heap. after_free heap id ≡ Ok (heap_in new.table after)) (p.heaps memory whole ∙ ap Ok (sym (heap_kept memory after new.table same)))
-      freed_ok (Err e) p = tt
+    -- a step that takes an object or its bytes away, or is refused, where the bytes of the others stay
+    module _ (leaves : Heap → ℕ → Result Heap Refusal) (new : ArenaState) (after : List ℕ) (id : ℕ) (same : contents after new.table.blocks ≡ contents memory new.table.blocks) where
+      pub given_ok : {X : Type 0} (r : Result X Refusal) → OnOk r (Steps s new (λ a b. leaves a id ≡ Ok b)) → OnOk r (leaves h.heap id ≡ Ok (heap_in new.table after))
+      given_ok (Ok x) p = told (λ heap. leaves heap id ≡ Ok (heap_in new.table after)) (p.heaps memory whole ∙ ap Ok (sym (heap_kept memory after new.table same)))
+      given_ok (Err e) p = tt
 
-      pub freed_err : {X : Type 0} (r : Result X Refusal) {later : ℕ} → later ≡ count → IfErr r (λ e. (new ≡ s) × Steps s new (λ a b. after_free a id ≡ Err e))
-          → IfErr r (λ e. (after_free h.heap id ≡ Err e) × (holding_of new after later ≡ h))
-      freed_err (Ok x) none p = tt
-      freed_err (Err e) {later} none p =
+      pub given_err : {X : Type 0} (r : Result X Refusal) {later : ℕ} → later ≡ count → IfErr r (λ e. (new ≡ s) × Steps s new (λ a b. leaves a id ≡ Err e))
+          → IfErr r (λ e. (leaves h.heap id ≡ Err e) × (holding_of new after later ≡ h))
+      given_err (Ok x) none p = tt
+      given_err (Err e) {later} none p =
           let still : contents after s.table.blocks ≡ contents memory s.table.blocks = subst (λ (x : ArenaState). contents after x.table.blocks ≡ contents memory x.table.blocks) p.0 same in (
-            told (λ heap. after_free heap id ≡ Err e) (p.1.heaps memory whole),
+            told (λ heap. leaves heap id ≡ Err e) (p.1.heaps memory whole),
             ap (λ (x : ArenaState). holding_of x after later) p.0 ∙ (λ i. record { cap = length s.table.entries; heap = heap_kept memory after s.table still i; discarded = s.discarded; written = none i }) ∙ shown,
           )

@@ -87,7 +87,7 @@ followed_other heap from to t u q same = ap (λ (d : Option Descriptor). elim (f
 ]) same
 
 -- Each slot's selector says what it has to, once some objects were discarded, and others have slid.
-says_all : (old new : Heap) → IsHeap new → (about : Option ℕ) (k : ℕ) → KeepsOthers old about k new → (from to : ℕ) (t told : selectors.DescriptorTable) (ids : List ℕ) → ids ≡ take k (eligible (blocks old) old.order about)
+pub says_all : (old new : Heap) → IsHeap new → (about : Option ℕ) (k : ℕ) → KeepsOthers old about k new → (from to : ℕ) (t told : selectors.DescriptorTable) (ids : List ℕ) → ids ≡ take k (eligible (blocks old) old.order about)
     → ((q : ℕ) → descriptor_at told q ≡ forgotten ids t q) → ((q : ℕ) → descriptor_at t q ≡ described old q) → (q : ℕ) → about ≢ Some q → StandStill old new from to q → followed new from to told q ≡ described new q
 says_all old new is about k keeps from to t told ids ids_is forgot describes q other still = elim (cases_Bool (is_member q (take k (eligible (blocks old) old.order about)))) [
   | inl gone ↦ gone_says old new is about k keeps from to told q gone (forgot q ∙ ap (λ b. if b then Some unset else descriptor_at t q) (ap (is_member q) ids_is ∙ gone))

@@ -1,5 +1,5 @@
 -- The bytes at an address in an object, and the heap after some of them are replaced.
-use Rattle.std.proofs.Common.{◌≡◌, ◌≢◌, ℕ, ◌+◌, ◌-◌, ◌<◌, ◌≤◌, inl, inr, IsSomeAnd, List, [], ◌++◌, length, get_or, slice_range, take, drop, All, Option, Some, None, option_map, unwrap_or, refl, sym, ap, ◌∙◌, subst, arith, length-drop}
+use Rattle.std.proofs.Common.{◌≡◌, ◌≢◌, ℕ, ◌+◌, ◌-◌, ◌<◌, ◌≤◌, inl, inr, IsSomeAnd, List, [], ◌∷◌, ◌++◌, length, get_or, slice_range, take, drop, All, Option, Some, None, option_map, unwrap_or, refl, sym, ap, ◌∙◌, subst, arith, length-drop}
 use Rattle.std.proofs.lemmas.Bool.{cases_eq}
 use Rattle.std.proofs.lemmas.List.{drop-take, take-take, drop-drop, drop-append-le, length-take-le}
 use Rattle.std.proofs.Math.Seq.{take-append-add}
@@ -8,15 +8,21 @@ use Rattle.w16_model.specs.declared.Entry.{Entry}
 use Rattle.w16_model.specs.Heap.{Heap, Object, object_at, bytes_at}
 use Rattle.w16_model.specs.Far.{after_write}
 use Rattle.w16_model.specs.Table.{Table, block_with, object_in, heap_in}
-use Rattle.w16_model.proofs.Gaps.{Member}
+use Rattle.w16_model.proofs.Gaps.{Member, Each-at}
 use Rattle.w16_model.proofs.Heaps.{get-update_same, get-update_other}
 use Rattle.w16_model.proofs.Laid.{laid_placed}
 use Rattle.w16_model.proofs.Starts.{two}
 use Rattle.w16_model.proofs.Tables.{member_with, length_range}
+use Rattle.w16_model.specs.declared.Span.{Span}
 use Rattle.w16_model.specs.Bytes.{part, put_part}
+use Rattle.w16_model.specs.Gap.{block_end}
 use Rattle.w16_model.proofs.Parts.{length-put_part, range_apart, All-put_part}
+use Rattle.w16_holes.specs.Holes.{IsUsed}
+use Rattle.w16_holes.specs.Thread.{threaded_stay}
+use Rattle.w16_holes.proofs.Write.{AreSameIn-put_part}
 use Rattle.w16_blocks.specs.Layout.{Layout}
-use Rattle.w16_arena.specs.State.{ArenaState}
+use Rattle.w16_blocks.proofs.Outside.{used_each}
+use Rattle.w16_arena.specs.State.{ArenaState, holes_in}
 use Rattle.w16_arena.proofs.Parts as arena
 use Rattle.w16_global.specs.Parts.{AreParts, Holding, HasPart, holding_of}
 use Rattle.w16_arena.proofs.Lookups.{object_here, bytes_here, ends_in_memory, same_heap}
@@ -68,16 +74,23 @@ layout_in t = record { cap = length t.entries; lo = t.lo; hi = t.hi; grain = t.g
 pub beside : {state : ArenaState} {memory : List ℕ} → AreParts state memory → arena.AreParts state.table.entries (layout_in state.table) state.table.order memory
 beside parts = record { sound = parts.sound; ids = refl; high = let e = parts.high in omega arith }
 
--- A write into the memory leaves the parts sound.
-pub parts_written : {state : ArenaState} {memory : List ℕ} → AreParts state memory → (at : ℕ) (new : List ℕ) → at + length new ≤ length memory → All (λ b. b < 256) new → AreParts state (put_part memory at new)
-parts_written {memory = memory} parts at new le ours = record {
+-- A write into the memory where no hole is leaves the parts sound.
+parts_written : {state : ArenaState} {memory : List ℕ} → AreParts state memory → (at : ℕ) (new : List ℕ) → at + length new ≤ length memory → All (λ b. b < 256) new
+    → IsUsed at (at + length new) (holes_in state.table) → AreParts state (put_part memory at new)
+parts_written {state} {memory} parts at new le ours used = record {
   sound = parts.sound;
   low = parts.low;
   grain = parts.grain;
   high = parts.high ∙ sym (length-put_part memory at new le);
   bytes = All-put_part (λ b. b < 256) memory at new parts.bytes ours;
+  kept = threaded_stay (holes_in state.table) memory (put_part memory at new) parts.kept (AreSameIn-put_part (holes_in state.table) memory at new le used);
   few = parts.few;
 }
+
+-- a part of what meets no hole meets none
+used_part : (a b c d : ℕ) (hs : List Span) → a ≤ c → d ≤ b → IsUsed a b hs → IsUsed c d hs
+used_part a b c d [] from to used = tt
+used_part a b c d (h ∷ hs) from to used = (elim used.0 [ inl before ↦ inl (omega arith) | inr behind ↦ inr (omega arith) ], used_part a b c d hs from to used.1)
 
 module _ {state : ArenaState} {memory : List ℕ} (parts : AreParts state memory) (q : ℕ) where
   -- Of the value that the parts stand for, where an id has a block.
@@ -107,6 +120,17 @@ module _ {state : ArenaState} {memory : List ℕ} (parts : AreParts state memory
   module _ {x : Block} (is : block_with state.table.blocks q ≡ Some x) (at : ℕ) (new : List ℕ) (from : x.at ≤ at) (to : at + length new ≤ x.at + x.size) (ours : All (λ b. b < 256) new) where
     room : at + length new ≤ length memory
     room = let end = (ends_in_memory (beside parts) q x is).1 in omega arith
+
+    -- it meets no hole
+    used : IsUsed at (at + length new) (holes_in state.table)
+    used =
+        let t : Table = state.table in
+        let mine : Member x t.blocks × (x.id ≡ q) = member_with t.blocks q x is in
+        used_part x.at (block_end x) at (at + length new) (holes_in t) from to
+        (Each-at (λ c. IsUsed c.at (block_end c) (holes_in t)) t.blocks (used_each t.lo t.hi t.blocks parts.sound.table.laid) x mine.0)
+
+    pub parts_after_write : AreParts state (put_part memory at new)
+    parts_after_write = parts_written parts at new room ours used
 
     -- each other id has the bytes that it had
     others_keep : (r : ℕ) → r ≢ q → (b : Option Block) → block_with state.table.blocks r ≡ b → option_map (bytes_of (put_part memory at new)) b ≡ option_map (bytes_of memory) b
@@ -144,9 +168,9 @@ module _ {state : ArenaState} {memory : List ℕ} (parts : AreParts state memory
     objects_written : (r : ℕ) → object_at after r ≡ object_at (after_write before q (at - x.at) new) r
     objects_written r = elim (cases_eq r q) [
       | inl same ↦ subst (λ k. object_at after k ≡ object_at (after_write before q (at - x.at) new) k) (sym same)
-          (object_here (beside (parts_written parts at new room ours)) q ∙ here (get_or state.table.entries q None)
+          (object_here (beside parts_after_write) q ∙ here (get_or state.table.entries q None)
           ∙ sym (get-update_same before.objects q written ∙ ap (option_map written) (object_here (beside parts) q)))
-      | inr other ↦ object_here (beside (parts_written parts at new room ours)) r ∙ there other (get_or state.table.entries r None)
+      | inr other ↦ object_here (beside parts_after_write) r ∙ there other (get_or state.table.entries r None)
           ∙ sym (get-update_other before.objects q written r other ∙ object_here (beside parts) r)
     ]
       where
@@ -169,3 +193,8 @@ module _ {state : ArenaState} {memory : List ℕ} (parts : AreParts state memory
       let there : x.at + at - x.at ≡ at = omega arith in
       (λ i. record { cap = length state.table.entries; heap = (heap_written is (x.at + at) new (omega arith) (omega (arith, within)) ours ∙ ap (λ k. after_write (heap_in state.table memory) q k new) there) i; discarded = state.discarded; written = more count })
       ∙ ap (λ (h : Holding). record h { heap = after_write h.heap q at new; written = more h.written }) shown
+
+  -- and the parts are sound
+  pub parts_filled : {count : ℕ} {h : Holding} (shown : holding_of state memory count ≡ h) {x : Block} (is : block_with state.table.blocks q ≡ Some x) (at : ℕ) (new : List ℕ) → HasPart h.heap q at (length new) → All (λ b. b < 256) new
+      → AreParts state (put_part memory (x.at + at) new)
+  parts_filled shown {x} is at new has ours = let within = in_block shown is at (length new) has in parts_after_write is (x.at + at) new (omega arith) (omega (arith, within)) ours

@@ -1,12 +1,12 @@
 -- The objects, their attributes and their selectors together, and the handles that they stand for.
-use Rattle.std.specs.Prelude.{◌≡◌, ℕ, ◌-◌, ◌≤◌, ◌==◌, true, ◌&&◌, if◌then◌else◌, nat_le, nat_lt, List, length, Option, Some, None, option_map, unwrap_or, refl}
+use Rattle.std.specs.Prelude.{◌≡◌, ℕ, ◌-◌, ◌≤◌, ◌==◌, true, ◌&&◌, ◌||◌, if◌then◌else◌, nat_le, nat_lt, List, length, Option, Some, None, option_map, unwrap_or, refl}
 use Rattle.std.specs.Coded.{Coded, code_by, coded×, coded_ℕ}
 use Rattle.std.specs.Ordering.{nat_cmp}
 use Rattle.std.specs.FinMap as finmap
 use Rattle.std.specs.FinMap.{FinMap}
 use Rattle.w16_model.specs.declared.Attributes.{Attributes}
-use Rattle.w16_model.specs.declared.TheConstants.{FIRST_SLOT, GMEM_ZEROINIT}
-use Rattle.w16_model.specs.Calls.{has_flag, rounded_size}
+use Rattle.w16_model.specs.declared.TheConstants.{FIRST_SLOT, GMEM_MODIFY, GMEM_ZEROINIT}
+use Rattle.w16_model.specs.Calls.{global_size, has_flag, rounded_size}
 use Rattle.w16_model.specs.Codes.{handles_code}
 use Rattle.w16_model.specs.Discards.{is_member}
 use Rattle.w16_model.specs.Heap.{Heap, Object, object_at}
@@ -38,6 +38,11 @@ global_code = code_by (Handles × ℕ) (coded× handles_code coded_ℕ) (λ g. (
 -- how many zeros GlobalAlloc puts into an object that it answers
 abbrev pub zeroed : ℕ → ℕ → ℕ → ℕ
 zeroed flags size handle = if handle == 0 then 0 else (if has_flag flags GMEM_ZEROINIT then rounded_size size else 0)
+
+-- and behind the bytes of an object that GlobalReAlloc lengthens
+abbrev pub zeroed_behind : Handles → ℕ → ℕ → ℕ → ℕ → ℕ
+zeroed_behind old handle size flags answer = if (answer == 0) || has_flag flags GMEM_MODIFY then 0
+    else (if has_flag flags GMEM_ZEROINIT then rounded_size size - global_size old handle else 0)
 
 -- the descriptor of an object: where it stands, and the offset of its last byte
 abbrev pub descriptor_for : Heap → ℕ → Object → Descriptor

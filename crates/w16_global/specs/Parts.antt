@@ -5,7 +5,8 @@ use Rattle.w16_model.specs.declared.TheConstants.{GRAIN}
 use Rattle.w16_model.specs.Codes.{heap_code}
 use Rattle.w16_model.specs.Heap.{Heap, bytes_at}
 use Rattle.w16_model.specs.Table.{IsSound, heap_in}
-use Rattle.w16_arena.specs.State.{ArenaState}
+use Rattle.w16_holes.specs.Thread.{AreThreaded}
+use Rattle.w16_arena.specs.State.{ArenaState, holes_in}
 
 -- a heap, how many ids its objects may have, the ids that its last request discarded, and how many bytes of its memory were written so far
 pub record Holding : Type 0 where
@@ -23,13 +24,14 @@ holding_code = code_by (ℕ × (Heap × (List ℕ × ℕ))) (coded× coded_ℕ (
 abbrev pub holding_of : ArenaState → List ℕ → ℕ → Holding
 holding_of state memory written = record { cap = length state.table.entries; heap = heap_in state.table memory; discarded = state.discarded; written = written }
 
--- what holds of them: the arena is over all of the memory, from 0 on, at multiples of the grain
+-- what holds of them: the arena is over all of the memory, from 0 on, at multiples of the grain, and its holes are a thread through the free bytes
 pub record AreParts (state : ArenaState) (memory : List ℕ) : Type 0 where
   pub sound : IsSound state.table
   pub low : state.table.lo ≡ 0
   pub grain : state.table.grain ≡ GRAIN
   pub high : state.table.hi ≡ length memory
   pub bytes : All (λ b. b < 256) memory
+  pub kept : AreThreaded (holes_in state.table) memory
   pub few : length state.table.entries ≤ 8192
 
 -- an object has n bytes from an offset on

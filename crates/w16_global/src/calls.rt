@@ -21,7 +21,7 @@ use w16_model::{
 
 impl Global16 {
     /// The slot of the object whose handle this is: a call takes the exact handle.
-    fn slot_of_handle(&self, handle: u16) -> Option<u16>
+    pub(crate) fn slot_of_handle(&self, handle: u16) -> Option<u16>
         ensures { result ≡ handles.slot_of_handle self.now.handles handle }
     {
         let slot = slot_of(handle);
@@ -34,7 +34,7 @@ impl Global16 {
     }
 
     /// The slot of the object whose selector this is.
-    fn slot_of_selector(&self, selector: u16) -> Option<u16>
+    pub(crate) fn slot_of_selector(&self, selector: u16) -> Option<u16>
         ensures { result ≡ handles.slot_of_selector self.now.handles selector }
     {
         self.selectors.find(selector).map(|_| slot_of(selector))
@@ -247,7 +247,7 @@ impl Global16 {
         })
     }
 
-    /// How many bytes the last `global_alloc` or `global_compact` moved: the sizes of the objects that stand at another address since.
+    /// How many bytes the last `global_alloc`, `global_realloc`, `global_discard` or `global_compact` moved: the sizes of the objects that stand at another address since.
     pub fn moved(&self) -> u64
         ensures value { result ≡ self.now.handles.moved }
         ensures few { result < 2 ^ 32 }
@@ -320,7 +320,7 @@ impl Global16 {
 }
 
 /// Whether a flag is given.
-fn has_flag(flags: u16, flag: u16) -> bool
+pub(crate) fn has_flag(flags: u16, flag: u16) -> bool
     ensures { result ≡ calls.has_flag flags flag }
 {
     flags & flag != 0
@@ -340,7 +340,7 @@ fn kind_asked(flags: u16) -> Kind
 }
 
 /// How flags let room be made.
-fn way_asked(flags: u16) -> Way
+pub(crate) fn way_asked(flags: u16) -> Way
     ensures { result ≡ calls.way_asked flags }
 {
     Way {
@@ -361,7 +361,7 @@ fn attributes_asked(flags: u16) -> Attributes
 }
 
 /// A size rounded up to whole grains.
-fn rounded(size: u32) -> u32
+pub(crate) fn rounded(size: u32) -> u32
     requires { size ≤ LARGEST_SIZE }
     ensures { result ≡ calls.rounded_size size }
 {

@@ -11,7 +11,7 @@ use w16_model::{Block, Span};
 use w16_selectors::{Descriptor, SelKind, Selectors};
 
 /// The descriptor of an object without bytes.
-const NOT_PRESENT: Descriptor = Descriptor {
+pub(crate) const NOT_PRESENT: Descriptor = Descriptor {
     base: 0,
     limit: 0,
     present: false,

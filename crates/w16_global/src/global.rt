@@ -1,15 +1,16 @@
 //! The global heap's state, and the steps that its calls are made of.
-ghost use Rattle.std.specs.Prelude.{◌≡◌, ◌≤◌, ◌<◌, IfOk, IfErr, OnOk, IsSome, Ok, Err, if◌then◌else◌};
+ghost use Rattle.std.specs.Prelude.{◌≡◌, ◌%◌, ◌≤◌, ◌<◌, IfOk, IfErr, OnOk, IsSome, Ok, Err, if◌then◌else◌, ◌-◌, length, option_map, unwrap_or};
 ghost use Rattle.std.specs.FinMap as finmap;
-ghost use Rattle.w16_model.specs.Heap.{Heap, object_at, IsMultiple};
+ghost use Rattle.w16_model.specs.Heap.{Heap, object_at, bytes_at, IsMultiple};
 ghost use Rattle.w16_model.specs.Changes.{removed};
-ghost use Rattle.w16_model.specs.Request.{Allocates, moved_bytes};
-ghost use Rattle.w16_model.specs.OneObject.{Enters, after_lock, after_unlock, after_free, after_newest, after_oldest, after_touch};
+ghost use Rattle.w16_model.specs.Request.{Allocates, Reallocates, moved_bytes};
+ghost use Rattle.w16_model.specs.OneObject.{Enters, after_discard, after_lock, after_unlock, after_free, after_newest, after_oldest, after_touch};
 ghost use Rattle.w16_model.specs.Handles.{IsFreeSlot, empty_handles};
 ghost use Rattle.w16_model.specs.Calls.{GlobalCompacts};
+ghost use Rattle.w16_model.specs.Resizes.{modified};
 ghost use Rattle.w16_region.specs.Bytes.{counted};
 
-use crate::follow::{follow, forget};
+use crate::follow::{NOT_PRESENT, follow, forget};
 use crate::objects::Objects;
 use std::alloc::{AllocError, Global};
 use std::marker::Model;
@@ -44,7 +45,8 @@ impl Global16 {
     /// A heap over `memory` bytes, a multiple of 32, with so many selectors, at most 8,160, in which nothing is allocated. It takes all its
     /// memory here; an error is that there was none.
     pub fn new(alloc: Global, memory: u32, slots: u32) -> Result<Global16, AllocError>
-        requires { slots ≤ MOST_SLOTS }
+        requires grained { memory % GRAIN ≡ 0 }
+        requires few { slots ≤ MOST_SLOTS }
         ensures { IfOk result (λ made. made ≡ record { handles = empty_handles memory slots; written = 0 }) }
     {
         let cap = FIRST_SLOT + slots;
@@ -112,6 +114,39 @@ impl Global16 {
         true
     }
 
+    /// So many bytes, above 0 and a multiple of the grain, for an object that is there, if there is room for them as the way has it. Its
+    /// selector follows, and so do those of objects that were discarded for it, or have slid.
+    pub(crate) fn reallocate(&mut self, slot: u16, size: u32, way: Way) -> bool
+        requires object { IsSome (object_at self.old.handles.heap slot) }
+        requires some { 0 < size }
+        requires rounded { IsMultiple GRAIN size }
+        ensures reallocated { Reallocates self.old.handles.heap slot size way result self.new.handles.heap }
+        ensures rest { self.new.handles ≡ record self.old.handles {
+          heap = self.new.handles.heap;
+          moved = if result then moved_bytes self.old.handles.heap self.new.handles.heap else self.old.handles.moved;
+        } }
+        ensures written { self.new.written ≡ (if result then counted (counted self.old.written self.new.handles.moved)
+            (if way.zero then size - unwrap_or (option_map length (bytes_at self.old.handles.heap slot)) 0 else 0) else self.old.written) }
+    {
+        let Some(place) = self.objects.realloc(slot as u32, size, way) else {
+            return false;
+        };
+        self.moved = place.moved as u32;
+        forget(&mut self.selectors, self.objects.discarded());
+        follow(&self.objects, &mut self.selectors, place.slid);
+        let limit = size - 1;
+        self.selectors.set(
+            slot,
+            Descriptor {
+                base: place.at,
+                limit,
+                present: true,
+                kind: SelKind::Data,
+            },
+        );
+        true
+    }
+
     /// Compaction for so many bytes: the longest hole there is then, or what it could be for 0 bytes.
     pub(crate) fn compact(&mut self, size: u32) -> u32
         ensures step { GlobalCompacts self.old.handles size result self.new.handles }
@@ -134,6 +169,24 @@ impl Global16 {
         self.attributes[slot as usize] = None;
         self.selectors.give(slot);
         Ok(())
+    }
+
+    /// A discardable object that isn't locked gives up its bytes, if it has any, and its selector says so.
+    pub(crate) fn discard(&mut self, slot: u16) -> Result<(), Refusal>
+        requires { IsSome (object_at self.old.handles.heap slot) }
+        ensures ok { OnOk result ((after_discard self.old.handles.heap slot ≡ Ok self.new.handles.heap) × (self.new ≡ record self.old { handles = record self.old.handles { heap = self.new.handles.heap } })) }
+        ensures err { IfErr result (λ refusal. (after_discard self.old.handles.heap slot ≡ Err refusal) × (self.new ≡ self.old)) }
+    {
+        self.objects.discard(slot as u32)?;
+        self.selectors.set(slot, NOT_PRESENT);
+        Ok(())
+    }
+
+    /// A moveable object becomes discardable, or a discardable one moveable. A fixed one stays as it is.
+    pub(crate) fn modify(&mut self, slot: u16, kind: Kind)
+        ensures { self.new ≡ record self.old { handles = record self.old.handles { heap = modified self.old.handles.heap slot kind } } }
+    {
+        let _ = self.objects.modify(slot as u32, kind);
     }
 
     /// One lock more.

@@ -5,7 +5,10 @@ mod calls;
 mod far;
 mod follow;
 mod global;
+mod lend;
 mod objects;
+mod realloc;
 
 pub use global::Global16;
+pub use lend::{Segment, Work};
 pub use w16_model::FarFault;

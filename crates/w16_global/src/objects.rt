@@ -1,29 +1,31 @@
 //! The objects of the global heap: an arena over memory of its own.
-ghost use Rattle.std.specs.Prelude.{◌≡◌, ◌≢◌, ◌+◌, ◌-◌, ◌^◌, ◌<◌, ◌≤◌, ◌⊎◌, ℕ, [], Ok, Err, None, Some, length, IfOk, IfErr, OnOk, IfSome, IfNone, IsSomeAnd, option_map, unwrap_or, is_some, take, if◌then◌else◌};
+ghost use Rattle.std.specs.Prelude.{◌≡◌, ◌≢◌, ◌+◌, ◌-◌, ◌%◌, ◌^◌, ◌<◌, ◌≤◌, ◌⊎◌, ℕ, [], Ok, Err, None, Some, length, IfOk, IfErr, OnOk, IfSome, IfNone, IsSomeAnd, option_map, unwrap_or, is_some, take, if◌then◌else◌, IsSome};
 ghost use Rattle.std.specs.FinMap as finmap;
 ghost use Rattle.w16_model.specs.Heap.{IsHeap, object_at, bytes_at, empty_heap, IsMultiple};
 ghost use Rattle.w16_model.specs.Changes.{with_object};
-ghost use Rattle.w16_model.specs.Request.{Allocates, Compacts, compaction_prefix, moved_bytes};
-ghost use Rattle.w16_model.specs.OneObject.{after_free, after_lock, after_unlock, after_touch, after_newest, after_oldest};
+ghost use Rattle.w16_model.specs.Request.{Allocates, Compacts, Reallocates, compaction_prefix, moved_bytes};
+ghost use Rattle.w16_model.specs.OneObject.{after_discard, after_free, after_modify, after_lock, after_unlock, after_touch, after_newest, after_oldest};
 ghost use Rattle.w16_model.specs.Far.{after_write};
 ghost use Rattle.w16_model.specs.Walk.{IsFirstItem, by_its_id};
 ghost use Rattle.w16_model.specs.Bytes.{part, repeated};
 ghost use Rattle.w16_region.specs.Bytes.{counted};
 ghost use Rattle.w16_arena.specs.State.{entry_of};
-ghost use Rattle.w16_arena.specs.Asked.{HasDiscarded, IsStill, first_eligible};
+ghost use Rattle.w16_arena.specs.Asked.{HasDiscarded, HasDiscardedFor, IsStill, first_eligible};
+ghost use Rattle.w16_global.specs.Lent.{Lends};
 ghost use Rattle.w16_global.specs.Parts.{HasPart};
 
+use crate::lend::Work;
 use std::alloc::{AllocError, Global};
 use std::marker::Model;
 use w16_arena::{Arena, Compacted, Placed};
-use w16_holes::SideHoles;
+use w16_holes::ThreadedHoles;
 use w16_model::{Block, Entry, GRAIN, Item, Kind, Refusal, Way};
 use w16_region::{Region, Space, has_bytes};
 
-/// The objects of the global heap: where they are, and their bytes.
+/// The objects of the global heap: where they are, and their bytes. Its holes are kept in the free bytes.
 #[derive(Drop)]
 pub(crate) struct Objects {
-    arena: Arena<SideHoles>,
+    arena: Arena<ThreadedHoles>,
     memory: Region,
 }
 
@@ -40,14 +42,16 @@ impl Model for Objects {
 }
 
 impl Objects {
-    /// No object yet, ids below `cap`, and so many bytes of memory.
-    pub fn new(alloc: Global, cap: u32, memory: u32) -> Result<Objects, AllocError>
-        requires { cap ≤ 8192 }
-        ensures { IfOk result (λ made. made ≡ record { cap = cap; heap = empty_heap 0 memory GRAIN; discarded = []; written = 0 }) }
+    /// No object yet, ids below `cap`, and so many bytes of memory, a multiple of the grain.
+    pub fn new(alloc: Global, cap: u32, size: u32) -> Result<Objects, AllocError>
+        requires few { cap ≤ 8192 }
+        requires grained { size % GRAIN ≡ 0 }
+        ensures { IfOk result (λ made. made ≡ record { cap = cap; heap = empty_heap 0 size GRAIN; discarded = []; written = 0 }) }
     {
-        let holes = SideHoles::new(alloc, 0, memory, GRAIN)?;
-        let arena = Arena::new(alloc, cap, holes, 0, memory, GRAIN)?;
-        let memory = Region::new(alloc, memory)?;
+        let mut memory = Region::new(alloc, size)?;
+        let holes = ThreadedHoles::new(alloc, &mut memory, 0, size, GRAIN)?;
+        let arena = Arena::new(alloc, cap, holes, 0, size, GRAIN)?;
+        has_bytes(&memory);
         Ok(Objects { arena, memory })
     }
 
@@ -112,6 +116,28 @@ impl Objects {
         Some(placed)
     }
 
+    /// So many bytes for an object that is there, above 0 and a multiple of the grain, if there is room for them as the way has it.
+    pub fn realloc(&mut self, id: u32, size: u32, way: Way) -> Option<Placed>
+        requires object { IsSome (object_at self.old.heap id) }
+        requires some { 0 < size }
+        requires rounded { IsMultiple GRAIN size }
+        ensures reallocated { Reallocates self.old.heap id size way (is_some result) self.new.heap }
+        ensures placed { IfSome result (λ p. finmap.get self.new.heap.places id ≡ Some p.at) }
+        ensures inside { IfSome result (λ p. p.at + size < 2 ^ 32) }
+        ensures discarded { IfSome result (λ _. HasDiscardedFor self.old.heap id size way self.new.discarded) }
+        ensures still { IfSome result (λ p. (q : ℕ) → q ≢ id → IsStill p.slid self.old.heap self.new.heap q) }
+        ensures moved { IfSome result (λ p. p.moved ≡ moved_bytes self.old.heap self.new.heap) }
+        ensures few { IfSome result (λ p. p.moved < 2 ^ 32) }
+        ensures written { IfSome result (λ p. self.new.written ≡ counted (counted self.old.written p.moved)
+            (if way.zero then size - unwrap_or (option_map length (bytes_at self.old.heap id)) 0 else 0)) }
+        ensures cap { self.new.cap ≡ self.old.cap }
+        ensures refused { IfNone result (self.new ≡ self.old) }
+    {
+        let place = self.arena.realloc(&mut self.memory, id, size, way).ok()?;
+        has_bytes(&self.memory);
+        Some(place)
+    }
+
     /// The ids that the last request discarded, oldest first.
     pub fn discarded(&self) -> &[u32]
         ensures { result.now ≡ self.now.discarded }
@@ -155,6 +181,28 @@ impl Objects {
         let freed = self.arena.free(&mut self.memory, id);
         has_bytes(&self.memory);
         freed
+    }
+
+    /// A discardable object that isn't locked gives up its bytes, if it has any.
+    pub fn discard(&mut self, id: u32) -> Result<(), Refusal>
+        ensures ok { OnOk result (after_discard self.old.heap id ≡ Ok self.new.heap) }
+        ensures err { IfErr result (λ r. (after_discard self.old.heap id ≡ Err r) × (self.new ≡ self.old)) }
+        ensures cap { self.new.cap ≡ self.old.cap }
+        ensures written { self.new.written ≡ self.old.written }
+    {
+        let discarded = self.arena.discard(&mut self.memory, id);
+        has_bytes(&self.memory);
+        discarded
+    }
+
+    /// A moveable object becomes discardable, or a discardable one moveable. A fixed one stays so, and none becomes fixed.
+    pub fn modify(&mut self, id: u32, kind: Kind) -> Result<(), Refusal>
+        ensures ok { OnOk result (after_modify self.old.heap id kind ≡ Ok self.new.heap) }
+        ensures err { IfErr result (λ r. (after_modify self.old.heap id kind ≡ Err r) × (self.new ≡ self.old)) }
+        ensures cap { self.new.cap ≡ self.old.cap }
+        ensures written { self.new.written ≡ self.old.written }
+    {
+        self.arena.modify(id, kind)
     }
 
     /// One lock more. An absent object isn't locked, a fixed one counts none, and a count of 255 is full.
@@ -236,6 +284,20 @@ impl Objects {
             unreachable!();
         };
         self.memory.fill(block.at + at, n, byte);
+    }
+
+    /// Does a work on an object's bytes.
+    pub fn with_bytes<W: Work>(&mut self, id: u32, work: &W, state: &mut W::State) -> W::Answer
+        requires { IsSomeAnd (bytes_at self.old.heap id) (λ bytes. W.may work.now state.old bytes) }
+        ensures { (lent : Lends self.old.heap id (λ bytes after. W.does work.now state.old bytes result state.new after))
+            × (self.new ≡ record self.old { heap = after_write self.old.heap id 0 lent.after; written = counted self.old.written (length lent.bytes) }) }
+    {
+        let Some(block) = self.arena.block(id) else {
+            unreachable!();
+        };
+        let answer = work.work(state, self.memory.view_mut(block.at, block.size));
+        has_bytes(&self.memory);
+        answer
     }
 
     /// How many bytes of the memory were slid, filled or lent to be written so far.

@@ -12,6 +12,8 @@ use w16_global::{FarFault, Global16};
 #[derive(Clone, Copy, Debug)]
 enum Call {
     Alloc(u16, u32),
+    ReAlloc(u16, u32, u16),
+    Discard(u16),
     Free(u16),
     Lock(u16),
     /// So many locks of one handle.
@@ -105,6 +107,10 @@ fn walks_from(heap: &Global16, from: u32) -> Answer {
 fn changes(heap: &mut Global16, call: Call) -> Answer {
     match call {
         Call::Alloc(flags, size) => Answer::Word(heap.global_alloc(flags, size)),
+        Call::ReAlloc(handle, size, flags) => {
+            Answer::Word(heap.global_realloc(handle, size, flags))
+        }
+        Call::Discard(handle) => Answer::Word(heap.global_discard(handle)),
         Call::Free(handle) => Answer::Word(heap.global_free(handle)),
         Call::Lock(handle) => Answer::Long(heap.global_lock(handle)),
         Call::Locks(handle, n) => locks(heap, handle, n),
@@ -156,6 +162,7 @@ fn plays(rt: &impl Abort, alloc: Global, script: Script) -> Result<(), AllocErro
         memory,
         lines,
     } = script;
+    assert_eq!(rt; memory % 32, 0, "{name}: memory");
     let mut heap = Global16::new(alloc, memory, 16)?;
     for line in lines {
         let (call, answer) = *line;

@@ -1,7 +1,13 @@
 pub mod Units
+pub mod Below
 pub mod Change
 pub mod Told
 pub mod Look
+pub mod Last
 pub mod Steps
 pub mod Sets
 pub mod Write
+pub mod Thread
+pub mod Cuts
+pub mod Links
+pub mod Next

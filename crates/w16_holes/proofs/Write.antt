@@ -7,7 +7,7 @@ use Rattle.w16_model.proofs.Parts.{take-put_part, drop-put_part, part_below, par
 use Rattle.w16_holes.specs.Holes.{IsFree, IsUsed, AreSameIn}
 
 -- a free part and a used one share no byte
-apart : (a b x y : ℕ) (hs : List Span) → IsFree a b hs → IsUsed x y hs → (b ≤ x) ⊎ (y ≤ a)
+pub apart : (a b x y : ℕ) (hs : List Span) → IsFree a b hs → IsUsed x y hs → (b ≤ x) ⊎ (y ≤ a)
 apart a b x y [] free used = absurd free
 apart a b x y (h ∷ hs) free used = elim free [
   | inl here ↦ let s = here.0 in let e = here.1 in elim used.0 [

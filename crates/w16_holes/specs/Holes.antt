@@ -1,5 +1,5 @@
 -- The holes between two bounds, by address: what is asked of them, and what taking and putting makes of them.
-use Rattle.std.specs.Prelude.{◌⊎◌, ℕ, suc, ◌<◌, ◌≤◌, ◌≡◌, ◌+◌, ◌-◌, max, min, nat_lt, nat_le, if◌then◌else◌, ◌==◌, List, [], ◌∷◌, length, map, Option, option_map}
+use Rattle.std.specs.Prelude.{◌⊎◌, ℕ, suc, ◌<◌, ◌≤◌, ◌≡◌, ◌+◌, ◌-◌, max, min, nat_lt, nat_le, if◌then◌else◌, ◌==◌, List, [], ◌∷◌, length, map, Option, Some, None, option_map, unwrap_or}
 use Rattle.std.specs.List.{find, fold}
 use Rattle.w16_model.specs.declared.Span.{Span}
 use Rattle.w16_model.specs.Heap.{IsMultiple}
@@ -49,6 +49,11 @@ length_at a (h ∷ hs) = if h.from == a then size_of h else length_at a hs
 abbrev pub length_to : ℕ → List Span → ℕ
 length_to a [] = 0
 length_to a (h ∷ hs) = if h.to == a then size_of h else length_to a hs
+
+-- where the last hole begins that begins below a place
+abbrev pub last_before : ℕ → List Span → Option ℕ
+last_before a [] = None
+last_before a (h ∷ hs) = if nat_lt h.from a then Some (unwrap_or (last_before a hs) h.from) else last_before a hs
 
 -- the length of the longest hole, 0 where there is none
 abbrev pub longest : List Span → ℕ

@@ -1,3 +1,4 @@
 pub mod Holes
 pub mod Cells
 pub mod Law
+pub mod Thread

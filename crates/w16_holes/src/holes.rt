@@ -1,5 +1,5 @@
 //! What code over holes is generic in.
-ghost use Rattle.std.specs.Prelude.{◌≡◌, ◌+◌, ◌≤◌, List, ℕ};
+ghost use Rattle.std.specs.Prelude.{◌≡◌, ◌+◌, ◌≤◌, List, ℕ, length};
 ghost use Rattle.w16_model.specs.declared.Span.{Span};
 ghost use Rattle.w16_holes.specs.Holes.{Range, AreHoles, IsFree, IsUsed, IsPlace, IsPart, lowest, length_at, length_to, longest, taken, joined, AreSameIn, AreSameOutside};
 
@@ -66,11 +66,12 @@ pub trait Holes<S: Space>: HoleList {
         ensures lenders { S.lenders space.new ≡ S.lenders space.old };
 
     /// Puts `n` bytes from a place on, which meet no hole, and joins them with the holes that they
-    /// touch.
+    /// touch. They lie in the space, as a hole's own words may be written there.
     fn put(&mut self, space: &mut S, place: u32, n: u32)
         requires kept { are_in (Self.holes self.old) (S.bytes space.old) }
         requires part { IsPart (Self.range self.old) place n }
         requires used { IsUsed place (place + n) (Self.holes self.old) }
+        requires inside { place + n ≤ length (S.bytes space.old) }
         ensures holes { Self.holes self.new ≡ joined place (place + n) (Self.holes self.old) }
         ensures range { Self.range self.new ≡ Self.range self.old }
         ensures kept { are_in (Self.holes self.new) (S.bytes space.new) }

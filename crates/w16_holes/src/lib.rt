@@ -4,14 +4,19 @@
 //! - [`Holes`] is what code over holes is generic in, whether they are kept in the free bytes
 //!   themselves or beside them.
 //! - [`SideHoles`] keeps them beside the memory, of which no byte is read or written.
+//! - [`ThreadedHoles`] keeps them in the memory itself, as a thread from hole to hole.
 //! - [`laws`] says what taking and putting means for the free bytes.
 #![tactic(auto)]
 
+mod grain;
 mod holes;
 pub mod laws;
 mod side;
 #[cfg(test)]
 mod tests;
+mod threaded;
 
+pub use grain::{units_in, units_over};
 pub use holes::{HoleList, Holes};
 pub use side::SideHoles;
+pub use threaded::ThreadedHoles;

@@ -1,10 +1,10 @@
 //! Holes beside the memory.
 ghost use Rattle.std.specs.Prelude.{◌≡◌, ◌+◌, ◌*◌, ◌-◌, ◌^◌, ◌<◌, ◌≤◌, ◌∷◌, [], ℕ, length, slice_index, IfOk};
 ghost use Rattle.w16_model.specs.Heap.{IsMultiple};
-ghost use Rattle.w16_holes.specs.Holes.{AreHoles, add_span};
+ghost use Rattle.w16_holes.specs.Holes.{AreHoles, IsFree, IsUsed, IsPlace, IsPart, last_before, taken, joined, add_span};
 ghost use Rattle.w16_holes.specs.Cells.{IsApart, IsInside, IsBeginOf};
 
-use crate::{HoleList, Holes};
+use crate::{HoleList, Holes, units_in};
 use std::alloc::{AllocError, Global};
 use std::marker::Model;
 use w16_region::Space;
@@ -18,7 +18,7 @@ fn unit_of(place: u32, lo: u32, grain: u32) -> usize
     requires grained { IsMultiple grain place }
     ensures { grain * result ≡ place - lo }
 {
-    ((place - lo) / grain) as usize
+    units_in(place - lo, grain) as usize
 }
 
 /// How many bytes lie before a unit.
@@ -86,6 +86,53 @@ impl SideHoles {
             grain,
         })
     }
+
+    /// Where the last hole begins that begins below a place.
+    pub fn below(&self, place: u32) -> Option<u32>
+        requires { IsPlace self.now.range place }
+        ensures value { result ≡ last_before place self.now.holes }
+        ensures ordered { AreHoles self.now.range.lo self.now.range.hi self.now.holes }
+    {
+        let unit = unit_of(place, self.lo, self.grain);
+        if let Some(begin) = self.lengths.last_below(unit) {
+            return Some(self.lo + bytes_before(begin, self.grain));
+        }
+        None
+    }
+
+    /// Takes `n` bytes from a place on, which are a part of one hole.
+    pub(crate) fn take_out(&mut self, place: u32, n: u32)
+        requires part { IsPart self.old.range place n }
+        requires free { IsFree place (place + n) self.old.holes }
+        ensures holes { self.new.holes ≡ taken place (place + n) self.old.holes }
+        ensures range { self.new.range ≡ self.old.range }
+    {
+        let unit = unit_of(place, self.lo, self.grain);
+        let next = unit_of(place + n, self.lo, self.grain);
+        if let Some(begin) = self.lengths.last_below(unit + 1) {
+            let from = bytes_before(begin, self.grain);
+            let end = from + self.lengths.get(begin);
+            self.lengths.set(begin, place - self.lo - from);
+            self.lengths.set(next, end - (place + n - self.lo));
+        }
+    }
+
+    /// Puts `n` bytes from a place on, which meet no hole, and joins them with the holes that they
+    /// touch.
+    pub(crate) fn put_back(&mut self, place: u32, n: u32)
+        requires part { IsPart self.old.range place n }
+        requires used { IsUsed place (place + n) self.old.holes }
+        ensures holes { self.new.holes ≡ joined place (place + n) self.old.holes }
+        ensures range { self.new.range ≡ self.old.range }
+    {
+        let unit = unit_of(place, self.lo, self.grain);
+        let next = unit_of(place + n, self.lo, self.grain);
+        let begin = begin_of(&self.lengths, self.grain, unit);
+        let end = place + n - self.lo + self.lengths.get(next);
+        self.lengths.set(next, 0);
+        self.lengths
+            .set(begin, end - bytes_before(begin, self.grain));
+    }
 }
 
 impl HoleList for SideHoles {
@@ -121,23 +168,10 @@ impl<S: Space> Holes<S> for SideHoles {
     }
 
     fn take(&mut self, _space: &mut S, place: u32, n: u32) {
-        let unit = unit_of(place, self.lo, self.grain);
-        let next = unit_of(place + n, self.lo, self.grain);
-        if let Some(begin) = self.lengths.last_below(unit + 1) {
-            let from = bytes_before(begin, self.grain);
-            let end = from + self.lengths.get(begin);
-            self.lengths.set(begin, place - self.lo - from);
-            self.lengths.set(next, end - (place + n - self.lo));
-        }
+        self.take_out(place, n);
     }
 
     fn put(&mut self, _space: &mut S, place: u32, n: u32) {
-        let unit = unit_of(place, self.lo, self.grain);
-        let next = unit_of(place + n, self.lo, self.grain);
-        let begin = begin_of(&self.lengths, self.grain, unit);
-        let end = place + n - self.lo + self.lengths.get(next);
-        self.lengths.set(next, 0);
-        self.lengths
-            .set(begin, end - bytes_before(begin, self.grain));
+        self.put_back(place, n);
     }
 }

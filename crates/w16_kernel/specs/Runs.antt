@@ -3,10 +3,13 @@ use Rattle.std.specs.Prelude.{◌≤◌, length}
 use Rattle.w16_model.specs.Calls as calls
 use Rattle.w16_model.specs.Far as far
 use Rattle.w16_machine.specs.Machine as machine
-use Rattle.w16_machine.specs.Machine.{Command}
-use Rattle.w16_machine.specs.Machine.Command.{OfHandles, OfFar}
+use Rattle.w16_machine.specs.Machine.Command.{OfHandles, OfResizes, OfFar}
+use Rattle.w16_machine.specs.Resizes as resizes
+use Rattle.w16_machine.specs.LocalCalls as locals
+use Rattle.w16_machine.specs.LocalMachine.{Command}
+use Rattle.w16_machine.specs.LocalMachine.Command.{OfMachine, OfLocals}
 use Rattle.w16_kernel.specs.declared.call.Call.{Call}
-use Rattle.w16_kernel.specs.declared.call.Call.TheVariants.{GlobalAlloc, GlobalFree, GlobalLock, GlobalUnlock, GlobalSize, GlobalFlags, GlobalHandle, GetSelectorBase, GetSelectorLimit, GlobalCompact, GlobalLRUNewest, GlobalLRUOldest, Moved, Walk, Read, Write, Fill}
+use Rattle.w16_kernel.specs.declared.call.Call.TheVariants.{GlobalAlloc, GlobalFree, GlobalLock, GlobalUnlock, GlobalSize, GlobalFlags, GlobalHandle, GetSelectorBase, GetSelectorLimit, GlobalCompact, GlobalReAlloc, GlobalDiscard, GlobalLRUNewest, GlobalLRUOldest, Moved, Walk, Read, Write, Fill, LocalInit, LocalAlloc, LocalReAlloc, LocalDiscard, LocalFree, LocalLock, LocalUnlock, LocalSize, LocalFlags, LocalHandle, LocalCompact, DS}
 use Rattle.w16_kernel.specs.declared.call.Reply.{Reply}
 use Rattle.w16_kernel.specs.declared.call.Reply.TheVariants as replies
 use Rattle.w16_kernel.specs.declared.call.Answer.{Answer}
@@ -15,23 +18,37 @@ use Rattle.w16_kernel.specs.declared.call.TheConstants.{MOST_READ, MOST_FILLED}
 
 -- the command of a call
 abbrev pub command_of : Call → Command
-command_of (GlobalAlloc flags size) = OfHandles (calls.HandleCommand.GlobalAlloc flags size)
-command_of (GlobalFree handle) = OfHandles (calls.HandleCommand.GlobalFree handle)
-command_of (GlobalLock handle) = OfHandles (calls.HandleCommand.GlobalLock handle)
-command_of (GlobalUnlock handle) = OfHandles (calls.HandleCommand.GlobalUnlock handle)
-command_of (GlobalSize handle) = OfHandles (calls.HandleCommand.GlobalSize handle)
-command_of (GlobalFlags handle) = OfHandles (calls.HandleCommand.GlobalFlags handle)
-command_of (GlobalHandle selector) = OfHandles (calls.HandleCommand.GlobalHandle selector)
-command_of (GetSelectorBase selector) = OfHandles (calls.HandleCommand.GetSelectorBase selector)
-command_of (GetSelectorLimit selector) = OfHandles (calls.HandleCommand.GetSelectorLimit selector)
-command_of (GlobalCompact size) = OfHandles (calls.HandleCommand.GlobalCompact size)
-command_of (GlobalLRUNewest handle) = OfHandles (calls.HandleCommand.GlobalLRUNewest handle)
-command_of (GlobalLRUOldest handle) = OfHandles (calls.HandleCommand.GlobalLRUOldest handle)
-command_of Moved = OfHandles calls.HandleCommand.Moved
-command_of Walk = OfHandles calls.HandleCommand.Walk
-command_of (Read pointer count) = OfFar (far.FarCommand.Read pointer count)
-command_of (Write pointer bytes) = OfFar (far.FarCommand.Write pointer bytes.now)
-command_of (Fill pointer count byte) = OfFar (far.FarCommand.Fill pointer count byte)
+command_of (GlobalAlloc flags size) = OfMachine (OfHandles (calls.HandleCommand.GlobalAlloc flags size))
+command_of (GlobalFree handle) = OfMachine (OfHandles (calls.HandleCommand.GlobalFree handle))
+command_of (GlobalLock handle) = OfMachine (OfHandles (calls.HandleCommand.GlobalLock handle))
+command_of (GlobalUnlock handle) = OfMachine (OfHandles (calls.HandleCommand.GlobalUnlock handle))
+command_of (GlobalSize handle) = OfMachine (OfHandles (calls.HandleCommand.GlobalSize handle))
+command_of (GlobalFlags handle) = OfMachine (OfHandles (calls.HandleCommand.GlobalFlags handle))
+command_of (GlobalHandle selector) = OfMachine (OfHandles (calls.HandleCommand.GlobalHandle selector))
+command_of (GetSelectorBase selector) = OfMachine (OfHandles (calls.HandleCommand.GetSelectorBase selector))
+command_of (GetSelectorLimit selector) = OfMachine (OfHandles (calls.HandleCommand.GetSelectorLimit selector))
+command_of (GlobalCompact size) = OfMachine (OfHandles (calls.HandleCommand.GlobalCompact size))
+command_of (GlobalReAlloc handle size flags) = OfMachine (OfResizes (resizes.ResizeCommand.GlobalReAlloc handle size flags))
+command_of (GlobalDiscard handle) = OfMachine (OfResizes (resizes.ResizeCommand.GlobalDiscard handle))
+command_of (GlobalLRUNewest handle) = OfMachine (OfHandles (calls.HandleCommand.GlobalLRUNewest handle))
+command_of (GlobalLRUOldest handle) = OfMachine (OfHandles (calls.HandleCommand.GlobalLRUOldest handle))
+command_of Moved = OfMachine (OfHandles calls.HandleCommand.Moved)
+command_of Walk = OfMachine (OfHandles calls.HandleCommand.Walk)
+command_of (Read pointer count) = OfMachine (OfFar (far.FarCommand.Read pointer count))
+command_of (Write pointer bytes) = OfMachine (OfFar (far.FarCommand.Write pointer bytes.now))
+command_of (Fill pointer count byte) = OfMachine (OfFar (far.FarCommand.Fill pointer count byte))
+command_of (LocalInit selector start end) = OfLocals (locals.LocalCommand.LocalInit selector start end)
+command_of (LocalAlloc flags size) = OfLocals (locals.LocalCommand.LocalAlloc flags size)
+command_of (LocalReAlloc name size flags) = OfLocals (locals.LocalCommand.LocalReAlloc name size flags)
+command_of (LocalDiscard name) = OfLocals (locals.LocalCommand.LocalDiscard name)
+command_of (LocalFree name) = OfLocals (locals.LocalCommand.LocalFree name)
+command_of (LocalLock name) = OfLocals (locals.LocalCommand.LocalLock name)
+command_of (LocalUnlock name) = OfLocals (locals.LocalCommand.LocalUnlock name)
+command_of (LocalSize name) = OfLocals (locals.LocalCommand.LocalSize name)
+command_of (LocalFlags name) = OfLocals (locals.LocalCommand.LocalFlags name)
+command_of (LocalHandle pointer) = OfLocals (locals.LocalCommand.LocalHandle pointer)
+command_of (LocalCompact size) = OfLocals (locals.LocalCommand.LocalCompact size)
+command_of (DS selector) = OfLocals (locals.LocalCommand.DS selector)
 
 -- the machine's reply
 abbrev pub reply_of : Reply → machine.Reply
@@ -61,3 +78,8 @@ IsCall call = Unit {0}
 abbrev pub IsReply : Reply → Type 0
 IsReply (replies.Bytes bytes) = length bytes.now ≤ MOST_READ
 IsReply reply = Unit {0}
+
+-- which commands take memory of the host
+abbrev pub TakesMemory : Command → Type 0
+TakesMemory (OfLocals (locals.LocalCommand.LocalInit selector start end)) = Unit {0}
+TakesMemory command = ⊥

@@ -26,6 +26,8 @@ pub enum Call<'a> {
     GetSelectorBase { selector: u16 },
     GetSelectorLimit { selector: u16 },
     GlobalCompact { size: u32 },
+    GlobalReAlloc { handle: u16, size: u32, flags: u16 },
+    GlobalDiscard { handle: u16 },
     GlobalLRUNewest { handle: u16 },
     GlobalLRUOldest { handle: u16 },
     Moved,
@@ -35,6 +37,40 @@ pub enum Call<'a> {
     Write { pointer: u32, bytes: &'a [u8] },
     /// At most [`MOST_FILLED`] bytes are filled.
     Fill { pointer: u32, count: u32, byte: u8 },
+    /// A selector of 0 is DS. It takes memory.
+    LocalInit { selector: u16, start: u16, end: u32 },
+    LocalAlloc { flags: u16, size: u16 },
+    LocalReAlloc { name: u16, size: u16, flags: u16 },
+    LocalDiscard { name: u16 },
+    LocalFree { name: u16 },
+    LocalLock { name: u16 },
+    LocalUnlock { name: u16 },
+    LocalSize { name: u16 },
+    LocalFlags { name: u16 },
+    LocalHandle { pointer: u16 },
+    LocalCompact { size: u16 },
+    /// The segment in whose local heap the other Local calls act, by its selector.
+    DS { selector: u16 },
+}
+
+impl Call<'_> {
+    ghost use Rattle.std.specs.Prelude.{◌≡◌};
+    ghost use Rattle.w16_machine.specs.LocalStays.{may_take_bytes};
+    ghost use Rattle.w16_kernel.specs.Runs.{command_of};
+
+    /// Whether the call may take bytes of an object of the global heap, and so a local heap with them.
+    pub fn may_take_bytes(&self) -> bool
+        ensures { result ≡ may_take_bytes (command_of self.now) }
+    {
+        match self {
+            Call::GlobalAlloc { .. }
+            | Call::GlobalFree { .. }
+            | Call::GlobalCompact { .. }
+            | Call::GlobalReAlloc { .. }
+            | Call::GlobalDiscard { .. } => true,
+            _ => false,
+        }
+    }
 }
 
 /// The answer to one command. Its bytes lie in the room that the caller lent.

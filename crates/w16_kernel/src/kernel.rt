@@ -1,49 +1,65 @@
 //! The machine's state, and its steps.
-ghost use Rattle.std.specs.Prelude.{◌≡◌, ◌+◌, ◌^◌, ◌<◌, ◌≤◌, List, map, slice_get, All, IfSome, IfOk, IsOk, OnErr};
+ghost use Rattle.std.specs.Prelude.{◌≡◌, ◌+◌, ◌%◌, ◌^◌, ◌<◌, ◌≤◌, List, map, slice_get, All, IfSome, IfOk, OnErr};
 ghost use Rattle.w16_model.specs.Handles.{handle_of};
 ghost use Rattle.w16_model.specs.Walk.{IsFirstItem};
-ghost use Rattle.w16_machine.specs.World.{empty_world, IsWorldWalk};
-ghost use Rattle.w16_machine.specs.Machine.{Step, Event, Run};
-ghost use Rattle.w16_machine.specs.Fewest.{IsFewest, AreFewest};
-ghost use Rattle.w16_kernel.specs.Runs.{command_of, reply_of, answer_of, IsCall, IsReply};
+ghost use Rattle.w16_machine.specs.World.{IsWorldWalk};
+ghost use Rattle.w16_machine.specs.Local.{empty_local_world};
+ghost use Rattle.w16_machine.specs.LocalMachine.{Step, Event, Run};
+ghost use Rattle.w16_machine.specs.LocalRuns.{IsFewest, AreFewest};
+ghost use Rattle.w16_kernel.specs.Runs.{command_of, reply_of, answer_of, IsCall, IsReply, TakesMemory};
+ghost use Rattle.w16_kernel.specs.Stops.{StopsEarly};
 
 use crate::call::{Answer, Call, MOST_READ, Reply};
-use crate::step::step;
+use crate::step::{step, sweep};
 use std::alloc::{AllocError, Global};
 use std::marker::Model;
 use w16_global::Global16;
-use w16_model::{Item, MOST_SLOTS};
+use w16_local::LocalHeaps;
+use w16_model::{GRAIN, Item, MOST_SLOTS};
 
 /// The machine. Its value is the world that a script sees.
 #[derive(Drop)]
 pub struct Kernel {
     alloc: Global,
     global: Global16,
+    locals: LocalHeaps,
+    ds: u16,
 }
 
 impl Model for Kernel {
-    ghost use Rattle.w16_machine.specs.World.{World};
-    ghost use Rattle.w16_machine.specs.Codes.{world_code};
+    ghost use Rattle.w16_machine.specs.Local.{LocalWorld, IsLocalWorld};
+    ghost use Rattle.w16_kernel.specs.Codes.{local_world_code};
+    ghost use Rattle.w16_kernel.specs.Parts.{world_of};
 
-    ghost Value = { World };
+    ghost Value = { LocalWorld };
 
-    ghost coded = { world_code };
+    ghost coded = { local_world_code };
 
-    ghost view = { λ k. record { handles = k.global.handles } };
+    ghost view = { λ k. world_of k.global.handles k.locals k.ds };
+
+    ghost invariant = { λ k. IsLocalWorld (world_of k.global.handles k.locals k.ds) };
 }
 
 impl Kernel {
-    /// A machine over `memory` bytes and so many selectors, at most 8,160, in which nothing is allocated. It takes all its memory here.
+    /// A machine over `memory` bytes, a multiple of 32, and so many selectors, at most 8,160, in which nothing is allocated. It takes its
+    /// memory here, but for that of local heaps; an error is that there was none.
     pub fn new(alloc: Global, memory: u32, slots: u32) -> Result<Kernel, AllocError>
-        requires { slots ≤ MOST_SLOTS }
-        ensures { IfOk result (λ kernel. kernel ≡ empty_world memory slots) }
+        requires grained { memory % GRAIN ≡ 0 }
+        requires few { slots ≤ MOST_SLOTS }
+        ensures { IfOk result (λ kernel. kernel ≡ empty_local_world memory slots) }
     {
         let global = Global16::new(alloc, memory, slots)?;
-        Ok(Kernel { alloc, global })
+        let locals = LocalHeaps::new(alloc, slots)?;
+        Ok(Kernel {
+            alloc,
+            global,
+            locals,
+            ds: 0,
+        })
     }
 
-    /// One step of the machine. Bytes that are read are put into the room, and the reply borrows them there. It takes no memory, and always
-    /// answers.
+    /// One step of the machine. Bytes that are read are put into the room, and the reply borrows them there. `LocalInit` alone takes memory:
+    /// an error is that there was none, and the world is the same. Every other call answers.
     pub fn call<'r>(
         &mut self,
         call: &Call<'_>,
@@ -53,16 +69,19 @@ impl Kernel {
         ensures step { IfOk result (λ reply. Step self.old (command_of call.now) (reply_of reply) self.new) }
         ensures fewest { IfOk result (λ reply. IsFewest self.old (record { command = command_of call.now; reply = reply_of reply; after = self.new })) }
         ensures short { IfOk result (λ reply. IsReply reply) }
-        ensures answers { IsOk result }
+        ensures wanted { OnErr result (TakesMemory (command_of call.now)) }
+        ensures refused { OnErr result (self.new ≡ self.old) }
     {
+        let reply = step(&mut self.global, &mut self.locals, &mut self.ds, call, room)?;
+        sweep(&mut self.locals, &self.global, call);
         self.global.are_handles();
-        step(&mut self.global, call, room)
+        Ok(reply)
     }
 
     /// The i-th part of the heap by address, from 0 on: an object's bytes, the object named by its handle, or a hole. None behind the last. It
     /// goes over the parts before it: a whole walk is quicker by [`Kernel::walk_from`].
     pub fn walk_at(&self, i: usize) -> Option<Item>
-        ensures { (items : List Item) × IsWorldWalk self.now items × (result ≡ slice_get items i) }
+        ensures { (items : List Item) × IsWorldWalk self.now.world items × (result ≡ slice_get items i) }
     {
         self.global.are_handles();
         self.global.walk(i)
@@ -70,25 +89,25 @@ impl Kernel {
 
     /// The first part of the heap that begins at an address or above it; none behind the last.
     pub fn walk_from(&self, from: u32) -> Option<Item>
-        ensures found { IsFirstItem handle_of self.now.handles.heap from result }
+        ensures found { IsFirstItem handle_of self.now.world.handles.heap from result }
         ensures inside { IfSome result (λ item. (0 < item.size) × (item.at + item.size < 2 ^ 32)) }
         ensures words { IfSome result (λ item. IfSome item.owner (λ owner. owner.name < 2 ^ 16)) }
 
         // All parts together are the walk of the world.
-        ensures whole { (items : List Item) × IsWorldWalk self.now items }
+        ensures whole { (items : List Item) × IsWorldWalk self.now.world items }
     {
         self.global.are_handles();
         self.global.walk_from(from)
     }
 
     /// Calls one after another, and their answers: a run of the machine, in which each call for room discards as few objects as it can.
-    /// Where there is no memory for the answers, nothing was done.
+    /// An error is that there was no memory, for the answers or for a `LocalInit`: the calls before it were done, and no other.
     pub fn run_calls(&mut self, calls: &[Call<'_>]) -> Result<Vec<Answer>, AllocError>
         requires { All IsCall calls.now }
         ensures run { IfOk result (λ answers. (events : List Event) × Run self.old events self.new × (map (λ e. e.command) events ≡ map command_of calls.now)
             × (map (λ e. e.reply) events ≡ map answer_of answers.items)
             × AreFewest self.old events) }
-        ensures refused { OnErr result (self.new ≡ self.old) }
+        ensures refused { OnErr result (StopsEarly self.old calls.now self.new) }
     {
         let mut answers = Vec::with_capacity(self.alloc, calls.len())?;
         let mut room = [0; MOST_READ];

@@ -1,16 +1,20 @@
 //! One step of the machine over its parts.
-ghost use Rattle.std.specs.Prelude.{◌≡◌, ◌≤◌, List, length, IfOk, IsOk};
+ghost use Rattle.std.specs.Prelude.{◌≡◌, ◌≤◌, List, length, IfOk, OnErr};
 ghost use Rattle.w16_model.specs.Handles.{handle_of};
 ghost use Rattle.w16_model.specs.Far.{FarCommand};
 ghost use Rattle.w16_model.specs.Far as far;
 ghost use Rattle.w16_model.specs.Walk.{IsWalk};
-ghost use Rattle.w16_machine.specs.World.{World, with_handles};
-ghost use Rattle.w16_machine.specs.Machine.{Step, FarReplies};
-ghost use Rattle.w16_kernel.specs.Runs.{command_of, reply_of, IsCall, IsReply};
+ghost use Rattle.w16_machine.specs.Machine.{FarReplies};
+ghost use Rattle.w16_machine.specs.Local.{LocalWorld};
+ghost use Rattle.w16_machine.specs.LocalStays.{may_take_bytes};
+ghost use Rattle.w16_local.specs.Parts.{with_parts};
+ghost use Rattle.w16_kernel.specs.Runs.{command_of, reply_of, IsCall, IsReply, TakesMemory};
+ghost use Rattle.w16_kernel.specs.Parts.{Unswept, swept};
 
 use crate::call::{Call, MOST_READ, Reply};
 use std::alloc::AllocError;
 use w16_global::Global16;
+use w16_local::LocalHeaps;
 use w16_model::Item;
 use w16_model::names::{offset_in, selector_in};
 
@@ -53,16 +57,29 @@ fn part_count(global: &Global16) -> u32
     global.walk_len()
 }
 
-/// One step, in whatever world has this heap as its part: it changes that alone. Bytes that are read are put into the room.
+/// Takes away the local heaps whose segments a call may have taken bytes of.
+pub fn sweep(locals: &mut LocalHeaps, global: &Global16, call: &Call<'_>)
+    ensures { locals.new ≡ swept (may_take_bytes (command_of call.now)) global.now.handles.heap locals.old }
+{
+    if call.may_take_bytes() {
+        locals.sweep(global);
+    }
+}
+
+/// One step, in whatever world has these parts: it changes them alone. Local heaps are swept behind it. Bytes that are read are put into
+/// the room. An error is that there was no memory for a new local heap, and nothing was done.
 pub fn step<'r>(
     global: &mut Global16,
+    locals: &mut LocalHeaps,
+    ds: &mut u16,
     call: &Call<'_>,
     room: &'r mut [u8; MOST_READ],
 ) -> Result<Reply<'r>, AllocError>
     requires { IsCall call.now }
-    ensures step { IfOk result (λ reply. (rest : World) → Step (with_handles rest global.old.handles) (command_of call.now) (reply_of reply) (with_handles rest global.new.handles)) }
+    ensures step { IfOk result (λ reply. (rest : LocalWorld) → Unswept (with_parts rest global.old.handles locals.old ds.old) (command_of call.now) (reply_of reply) (with_parts rest global.new.handles locals.new ds.new)) }
     ensures short { IfOk result (λ reply. IsReply reply) }
-    ensures answers { IsOk result }
+    ensures wanted { OnErr result (TakesMemory (command_of call.now)) }
+    ensures refused { OnErr result ((global.new ≡ global.old) × (locals.new ≡ locals.old) × (ds.new ≡ ds.old)) }
 {
     match *call {
         Call::GlobalAlloc { flags, size } => Ok(Reply::Word(global.global_alloc(flags, size))),
@@ -79,6 +96,12 @@ pub fn step<'r>(
             Ok(Reply::Dword(global.get_selector_limit(selector)))
         }
         Call::GlobalCompact { size } => Ok(Reply::Dword(global.global_compact(size))),
+        Call::GlobalReAlloc {
+            handle,
+            size,
+            flags,
+        } => Ok(Reply::Word(global.global_realloc(handle, size, flags))),
+        Call::GlobalDiscard { handle } => Ok(Reply::Word(global.global_discard(handle))),
         Call::GlobalLRUNewest { handle } => Ok(Reply::Word(global.global_lru_newest(handle))),
         Call::GlobalLRUOldest { handle } => Ok(Reply::Word(global.global_lru_oldest(handle))),
         Call::Moved => Ok(Reply::Dword(global.moved() as u32)),
@@ -90,5 +113,30 @@ pub fn step<'r>(
             count,
             byte,
         } => Ok(fill(global, pointer, count, byte)),
+        Call::LocalInit {
+            selector,
+            start,
+            end,
+        } => Ok(Reply::Word(locals.local_init(global, *ds, selector, start, end)?)),
+        Call::LocalAlloc { flags, size } => {
+            Ok(Reply::Word(locals.local_alloc(global, *ds, flags, size)))
+        }
+        Call::LocalReAlloc { name, size, flags } => Ok(Reply::Word(locals.local_realloc(
+            global, *ds, name, size, flags,
+        ))),
+        Call::LocalDiscard { name } => Ok(Reply::Word(locals.local_discard(global, *ds, name))),
+        Call::LocalFree { name } => Ok(Reply::Word(locals.local_free(global, *ds, name))),
+        Call::LocalLock { name } => Ok(Reply::Word(locals.local_lock(global, *ds, name))),
+        Call::LocalUnlock { name } => Ok(Reply::Word(locals.local_unlock(global, *ds, name))),
+        Call::LocalSize { name } => Ok(Reply::Word(locals.local_size(global, *ds, name))),
+        Call::LocalFlags { name } => Ok(Reply::Word(locals.local_flags(global, *ds, name))),
+        Call::LocalHandle { pointer } => {
+            Ok(Reply::Word(locals.local_handle(global, *ds, pointer)))
+        }
+        Call::LocalCompact { size } => Ok(Reply::Word(locals.local_compact(global, *ds, size))),
+        Call::DS { selector } => {
+            *ds = selector;
+            Ok(Reply::Done)
+        }
     }
 }

@@ -1,8 +1,9 @@
 -- Each step of a run discards as few as it can.
-use Rattle.std.proofs.Common.{◌≡◌, ℕ, List, [], ◌∷◌, subst}
+use Rattle.std.proofs.Common.{◌≡◌, List, [], ◌∷◌, subst}
 use Rattle.std.specs.List.{AllByRecursion as Each}
 use Rattle.w16_model.proofs.Gaps.{Each-from_All}
 use Rattle.w16_model.proofs.Fewest.{global_alloc_law, global_compact_law}
+use Rattle.w16_model.proofs.ResizedHandles.{resize_fewest_law}
 use Rattle.w16_machine.specs.World.{World, IsWorld}
 use Rattle.w16_machine.specs.Machine.{Event, Command, Reply, Run, IsCommand, Step}
 use Rattle.w16_machine.specs.Fewest.{IsFewest, AreFewest, FewestLaw}
@@ -17,6 +18,8 @@ step_fewest old event is step = record {
   alloc = λ flags size handle c r. global_alloc_law old.handles event.after.handles flags size handle is.handles
       (told old event c r step).0;
   compact = λ size answer c r. global_compact_law old.handles event.after.handles size answer is.handles
+      (told old event c r step).0;
+  realloc = λ handle size flags answer c r. resize_fewest_law old.handles event.after.handles handle size flags answer is.handles
       (told old event c r step).0;
 }
 

@@ -7,15 +7,18 @@ use Rattle.w16_model.specs.Far as far
 use Rattle.w16_model.specs.Far.{FarCommand, FarStep, IsFarCommand}
 use Rattle.w16_model.specs.Handles.{Handles}
 use Rattle.w16_machine.specs.World.{World, with_handles}
+use Rattle.w16_machine.specs.Resizes.{ResizeCommand, ResizeStep}
 
 -- a command of one of the families
 pub data Command : Type 0 where
   OfHandles : HandleCommand → Command
+  OfResizes : ResizeCommand → Command
   OfFar : FarCommand → Command
 
 -- its numbers are in their range, where they have one
 abbrev pub IsCommand : Command → Type 0
 IsCommand (OfHandles command) = Unit {0}
+IsCommand (OfResizes command) = Unit {0}
 IsCommand (OfFar command) = IsFarCommand command
 
 -- what is printed of an answer, whichever family gave it
@@ -46,12 +49,16 @@ far_answer_in other = None
 abbrev pub HandleReplies : Handles → HandleCommand → Reply → Handles → Type 0
 HandleReplies old command reply new = IsSomeAnd (answer_in reply) (λ answer. HandleStep old command answer new)
 
+abbrev pub ResizeReplies : Handles → ResizeCommand → Reply → Handles → Type 0
+ResizeReplies old command reply new = IsSomeAnd (answer_in reply) (λ answer. ResizeStep old command answer new)
+
 abbrev pub FarReplies : Handles → FarCommand → Reply → Handles → Type 0
 FarReplies old command reply new = IsSomeAnd (far_answer_in reply) (λ answer. FarStep old command answer new)
 
 -- one step: from old, the machine may give this reply to the command and go on to new; a family changes its own part of the world alone
 abbrev pub Step : World → Command → Reply → World → Type 0
 Step old (OfHandles command) reply new = HandleReplies old.handles command reply new.handles × (new ≡ with_handles old new.handles)
+Step old (OfResizes command) reply new = ResizeReplies old.handles command reply new.handles × (new ≡ with_handles old new.handles)
 Step old (OfFar command) reply new = FarReplies old.handles command reply new.handles × (new ≡ with_handles old new.handles)
 
 -- Runs.

@@ -38,7 +38,7 @@ module _ (old : Heap) (is : IsHeap old) (id : ℕ) (o : Object) (there : object_
   counted : IsCounted o
   counted = subst (λ p. IfSome p IsCounted) there (is.counted id)
 
-  absent_heap : IsHeap (absent old id)
+  pub absent_heap : IsHeap (absent old id)
   absent_heap = record {
     placed = same_placed old is (update old.objects id bare) (finmap.remove old.places id) (without id old.order) left_stands;
     grained = same_grained old is (update old.objects id bare) (finmap.remove old.places id) (without id old.order) left_stands;
@@ -63,8 +63,13 @@ module _ (old : Heap) (is : IsHeap old) (id : ℕ) (o : Object) (there : object_
   }
 
 -- what a discard answers, by whether the object is locked and discardable
-abbrev answer : Heap → ℕ → Bool → Bool → Result Heap Refusal
+abbrev pub answer : Heap → ℕ → Bool → Bool → Result Heap Refusal
 answer old id locked discardable = cond {A = Result Heap Refusal} locked (Err refusals.Locked) (cond {A = Result Heap Refusal} discardable (Ok (absent old id)) (Err refusals.NotDiscardable))
+
+-- it is this one
+pub discard_is : (old : Heap) (id : ℕ) (p : Option Object) → object_at old id ≡ p
+    → after_discard old id ≡ elim p [ None ↦ Err refusals.NotDiscardable | Some o ↦ answer old id (nat_lt 0 o.locks) (is_discardable o.kind) ]
+discard_is old id p there = ap (λ (p : Option Object). elim p [ None ↦ Err refusals.NotDiscardable | Some o ↦ answer old id (nat_lt 0 o.locks) (is_discardable o.kind) ]) there
 
 pub discard_heap_law : DiscardHeapLaw
 discard_heap_law old id is = turn (object_at old id) refl
@@ -74,9 +79,19 @@ discard_heap_law old id is = turn (object_at old id) refl
     by_test o there false false t = tt
     by_test o there false true t = absent_heap old is id o there (let le : o.locks ≤ 0 = ltb-false 0 o.locks t in omega arith)
 
-    step_is : (p : Option Object) → object_at old id ≡ p → after_discard old id ≡ elim p [ None ↦ Err refusals.NotDiscardable | Some o ↦ answer old id (nat_lt 0 o.locks) (is_discardable o.kind) ]
-    step_is p there = ap (λ (p : Option Object). elim p [ None ↦ Err refusals.NotDiscardable | Some o ↦ answer old id (nat_lt 0 o.locks) (is_discardable o.kind) ]) there
-
     turn : (p : Option Object) → object_at old id ≡ p → IfOk (after_discard old id) IsHeap
-    turn None there = subst (λ (r : Result Heap Refusal). IfOk r IsHeap) (sym (step_is None there)) tt
-    turn (Some o) there = subst (λ (r : Result Heap Refusal). IfOk r IsHeap) (sym (step_is (Some o) there)) (by_test o there (nat_lt 0 o.locks) (is_discardable o.kind) refl)
+    turn None there = subst (λ (r : Result Heap Refusal). IfOk r IsHeap) (sym (discard_is old id None there)) tt
+    turn (Some o) there = subst (λ (r : Result Heap Refusal). IfOk r IsHeap) (sym (discard_is old id (Some o) there)) (by_test o there (nat_lt 0 o.locks) (is_discardable o.kind) refl)
+
+-- where it is answered the object is absent
+pub discard_absent : (old new : Heap) (id : ℕ) → after_discard old id ≡ Ok new → new ≡ absent old id
+discard_absent old new id done = turn (object_at old id) refl
+  where
+    by_test : (locked discardable : Bool) → answer old id locked discardable ≡ Ok new → new ≡ absent old id
+    by_test true discardable e = cc
+    by_test false true e = cc
+    by_test false false e = cc
+
+    turn : (p : Option Object) → object_at old id ≡ p → new ≡ absent old id
+    turn None there = let both : ◌≡◌ {A = Result Heap Refusal} (Err refusals.NotDiscardable) (Ok new) = sym (discard_is old id None there) ∙ done in cc
+    turn (Some o) there = by_test (nat_lt 0 o.locks) (is_discardable o.kind) (sym (discard_is old id (Some o) there) ∙ done)

@@ -184,6 +184,14 @@ second_of : (a b : Bool) → (a || b) ≡ false → b ≡ false
 second_of true b f = absurd (false≢true (sym f))
 second_of false b f = f
 
+-- without an object it is refused
+pub modify_none : (old : Heap) (id : ℕ) (kind : Kind) → object_at old id ≡ None → after_modify old id kind ≡ Err refusals.Absent
+modify_none old id kind there = ap (λ (p : Option Object). elim p [
+  | None ↦ Err refusals.Absent
+  | Some o ↦ cond {A = Result Heap Refusal} (is_fixed o.kind || is_fixed kind) (Err refusals.Fixed)
+      (Ok (with_ordered old id (record o { kind = kind }) (λ order. cond {A = List ℕ} (is_discardable o.kind && is_discardable kind) order (with_newest id (record o { kind = kind }) order))))
+]) there
+
 pub kind_law : KindLaw
 kind_law old id kind is = turn (object_at old id) refl
   where
@@ -204,9 +212,5 @@ kind_heap_law old id kind is = turn (object_at old id) refl
     if_ok o there false f = changed_heap old is id kind o there (second_of (is_fixed o.kind) (is_fixed kind) f)
 
     turn : (p : Option Object) → object_at old id ≡ p → IfOk (after_modify old id kind) IsHeap
-    turn None there = subst (λ (r : Result Heap Refusal). IfOk r IsHeap) (sym (ap (λ (p : Option Object). elim p [
-      | None ↦ Err refusals.Absent
-      | Some o ↦ cond {A = Result Heap Refusal} (is_fixed o.kind || is_fixed kind) (Err refusals.Fixed)
-          (Ok (with_ordered old id (record o { kind = kind }) (λ order. cond {A = List ℕ} (is_discardable o.kind && is_discardable kind) order (with_newest id (record o { kind = kind }) order))))
-    ]) there)) tt
+    turn None there = subst (λ (r : Result Heap Refusal). IfOk r IsHeap) (sym (modify_none old id kind there)) tt
     turn (Some o) there = subst (λ (r : Result Heap Refusal). IfOk r IsHeap) (sym (step_is old is id kind o there)) (if_ok o there (is_fixed o.kind || is_fixed kind) refl)

@@ -38,3 +38,4 @@ pub mod Growth
 pub mod Reallocations
 pub mod Absence
 pub mod KeptRest
+pub mod ResizedHandles

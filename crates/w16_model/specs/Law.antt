@@ -7,7 +7,7 @@ use Rattle.w16_model.specs.declared.Item.{Item}
 use Rattle.w16_model.specs.declared.Way.{Way}
 use Rattle.w16_model.specs.declared.Hold.TheVariants.{Pinned}
 use Rattle.w16_model.specs.declared.Kind.TheVariants.{Discardable}
-use Rattle.w16_model.specs.declared.TheConstants.{FIRST_SLOT, MOST_SLOTS, GRAIN, LARGEST_SIZE, GMEM_MOVEABLE, GMEM_NOCOMPACT, GMEM_NODISCARD, GMEM_ZEROINIT, GMEM_DISCARDABLE, GMEM_DDESHARE, GMEM_DISCARDED}
+use Rattle.w16_model.specs.declared.TheConstants.{FIRST_SLOT, MOST_SLOTS, GRAIN, LARGEST_SIZE, GMEM_MOVEABLE, GMEM_NOCOMPACT, GMEM_NODISCARD, GMEM_ZEROINIT, GMEM_MODIFY, GMEM_DISCARDABLE, GMEM_DDESHARE, GMEM_DISCARDED}
 use Rattle.w16_model.specs.Gap.{is_pinned, is_any, room, longest_hole, hole_after, gaps, holes, loose_bytes, block_end, IsGap, IsHole, IsGapOf, ArePlaced, IsLaid}
 use Rattle.w16_model.specs.Arrangement.{IsArrangement, IsFreeStretch, IsLongestStretch}
 use Rattle.w16_model.specs.Discards.{eligible, is_member, blocks_without, needed, room_for, snapshot}
@@ -36,6 +36,7 @@ pub record AreFlags : Type 0 where
   pub nocompact : GMEM_NOCOMPACT ≡ 16
   pub nodiscard : GMEM_NODISCARD ≡ 32
   pub zeroinit : GMEM_ZEROINIT ≡ 64
+  pub modify : GMEM_MODIFY ≡ 128
   pub discardable : GMEM_DISCARDABLE ≡ 256
   pub ddeshare : GMEM_DDESHARE ≡ 8192
   pub discarded : GMEM_DISCARDED ≡ 16384

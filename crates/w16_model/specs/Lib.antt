@@ -13,5 +13,6 @@ pub mod Far
 pub mod Law
 pub mod Fewest
 pub mod Reallocation
+pub mod Resizes
 pub mod Table
 pub mod Codes

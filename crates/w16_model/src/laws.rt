@@ -2,6 +2,7 @@
 ghost use Rattle.w16_model.specs.Law.{AreFigures, AreFlags, AddressLaw, OutcomeLaw, GapListLaw, RisingLaw, LongestHoleLaw, HoleAfterLaw, PinnedLaw, LargestLaw, RoomLaw, LongerLaw, LeastLaw, MoreDiscardsLaw, DiscardedLaw, OthersLaw, WalkLaw, SoundLaw, RangeLaw, NamesLaw, EmptyLaw, HandleLaw, FarLaw};
 ghost use Rattle.w16_model.specs.Fewest.{AllocationLaw, CompactionLaw, GlobalAllocLaw, GlobalCompactLaw};
 ghost use Rattle.w16_model.specs.Reallocation.{HeapLaw, KindHeapLaw, DiscardHeapLaw, RestLaw, FewestLaw, MovesLaw, OneOutcomeLaw, KindLaw, LeftOutLaw};
+ghost use Rattle.w16_model.specs.Resizes.{ResizeLaw, NullLaw, ResizeFewestLaw};
 
 /// The figures of the profile and the flags of the manual are these numbers. Definitions and code share the constants, so only this law
 /// would see a wrong one.
@@ -131,6 +132,13 @@ pub fn kinds_change_alone()
 /// With an object counted as loose and left out, room is the longest free stretch of the arrangements of the others.
 pub fn room_leaves_the_object_out()
     ensures { LeftOutLaw }
+{}
+
+/// `GlobalReAlloc` keeps what holds of handles, leaves the same heap where it is NULL, and discards as few objects as it can.
+pub fn reallocations_keep_handles()
+    ensures handles { ResizeLaw }
+    ensures null { NullLaw }
+    ensures fewest { ResizeFewestLaw }
 {}
 
 /// Each heap has a walk, and no other.

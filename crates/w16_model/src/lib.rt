@@ -129,6 +129,9 @@ pub const GMEM_NODISCARD: u16 = 0x0020;
 /// `GlobalAlloc`: the new bytes are zeros.
 pub const GMEM_ZEROINIT: u16 = 0x0040;
 
+/// `GlobalReAlloc`: the object's kind is changed, and not its size.
+pub const GMEM_MODIFY: u16 = 0x0080;
+
 /// `GlobalAlloc`, `GlobalFlags`: the object is discardable.
 pub const GMEM_DISCARDABLE: u16 = 0x0100;
 

@@ -2,3 +2,5 @@ pub mod Bytes
 mod Lends
 mod Pairs
 mod Frames
+pub mod Words
+pub mod Slides

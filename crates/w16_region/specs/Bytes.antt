@@ -3,7 +3,8 @@ use Rattle.std.specs.Vec.{with_items}
 use Rattle.std.specs.Prelude.{Vec, ℕ, ◌+◌, ◌^◌, ◌-◌, ◌≤◌, ◌≡◌, List, ◌++◌, take, drop, min, max, length}
 use Rattle.std.proofs.Common.{arith, length-append, length-drop, ◌∙◌, ap}
 use Rattle.std.proofs.lemmas.List.{length-take-le, take_at}
-use Rattle.w16_model.specs.Bytes.{put_part}
+use Rattle.byteorder.specs.Endian.{little_number, little_bytes}
+use Rattle.w16_model.specs.Bytes.{part, put_part}
 use Rattle.w16_model.proofs.Parts.{length-put_part, length-repeated}
 
 -- the new bytes, cut or filled up from the old ones to their length
@@ -13,6 +14,14 @@ fitted old new = take (length old) (new ++ drop (length new) old)
 -- the count after `size` more bytes: it stops at the largest u64, and never falls
 abbrev pub counted : ℕ → ℕ → ℕ
 counted count size = max count (min (count + size) (2 ^ 64 - 1))
+
+-- the double word of the four bytes at a place, the lowest first; a proof does not look inside unless it says so, or the four would be written out there
+unfoldable pub word_in : List ℕ → ℕ → ℕ
+word_in bytes at = little_number 4 (part bytes at 4)
+
+-- the bytes with a double word put at a place, its lowest byte first
+unfoldable pub put_word : List ℕ → ℕ → ℕ → List ℕ
+put_word bytes at value = put_part bytes at (little_bytes 4 value)
 
 -- what shows that the length stays where a part is filled or slid over
 pub ruleset lengths = (length-put_part, length-repeated)

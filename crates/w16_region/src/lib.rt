@@ -3,7 +3,7 @@
 //!
 //! - [`Space`] is what code over memory is generic in. Each range lies inside by condition, so no
 //!   call refuses one, and no call but `Region::new` takes memory.
-//! - [`Region`] is a space with memory of its own.
+//! - [`Region`] is a space with memory of its own, whose double words can be read and set uncounted.
 //! - [`Window`] is a space over a slice that was lent.
 //! - [`Framed`] is what both are: the bytes of some [`Storage`], and the count.
 #![tactic(auto)]

@@ -177,3 +177,27 @@ fn region_is_changed_in_place(rt: HostRuntime) -> Result<(), Fail> {
     assert_eq!(rt; region.written(), 4);
     Ok(())
 }
+
+/// A word has its lowest byte first, at any place, and what stands beside it stays.
+#[test]
+fn words_are_set_and_read(rt: HostRuntime) -> Result<(), Fail> {
+    let mut region = Region::new(rt.alloc(), 12)?;
+    region.fill(0, 12, 9);
+    region.set_word(4, 0x0403_0201);
+    assert_eq!(rt;
+        region.view(0, 12),
+        [9, 9, 9, 9, 1, 2, 3, 4, 9, 9, 9, 9].as_slice()
+    );
+    assert_eq!(rt; region.word_at(4), 0x0403_0201);
+    assert_eq!(rt; region.word_at(2), 0x0201_0909);
+    region.set_word(7, 0xffff_fffe);
+    assert_eq!(rt;
+        region.view(0, 12),
+        [9, 9, 9, 9, 1, 2, 3, 0xfe, 0xff, 0xff, 0xff, 9].as_slice()
+    );
+    assert_eq!(rt; region.word_at(7), 0xffff_fffe);
+    region.set_word(8, 0);
+    assert_eq!(rt; region.word_at(8), 0);
+    assert_eq!(rt; region.written(), 12);
+    Ok(())
+}

@@ -201,9 +201,121 @@ pub fn of_order() -> [Row; 3] {
         ),
         tight(
             "flags that forbid discards, and an order that is set",
-            b"GlobalAlloc 0x102 32\nGlobalAlloc 2 32\nGlobalAlloc 0x102 32\nGlobalAlloc 0x22 32\nGlobalAlloc 0x12 32\nGlobalLRUNewest 0x10e\nGlobalLRUOldest 0x116\nGlobalAlloc 2 32\nGlobalFlags 0x116\nGlobalFlags 0x106\n",
-            b"0106\n010e\n0116\n0000\n0000\n0000\n0116\n011e\n4100\n0100\n",
+            b"GlobalAlloc 0x102 32\nGlobalAlloc 2 32\nGlobalAlloc 0x102 32\nGlobalAlloc 0x22 32\nGlobalAlloc 0x12 32\nGlobalLRUNewest 0x10e\nGlobalLRUOldest 0x116\nGlobalAlloc 2 32\nGlobalFlags 0x116\nGlobalFlags 0x106\nGlobalReAlloc 0x106 0 0x80\nGlobalFlags 0x106\nGlobalDiscard 0x106\n",
+            b"0106\n010e\n0116\n0000\n0000\n0000\n0116\n011e\n4100\n0100\n0106\n0000\n0000\n",
+            13,
+        ),
+    ]
+}
+
+/// Rows on objects that get another size or kind.
+pub fn of_reallocation() -> [Row; 7] {
+    [
+        small(
+            "a discarded object gets bytes again",
+            b"GlobalAlloc 0x142 10\nWrite 0x01070000 ff\nGlobalDiscard 0x106\nGlobalSize 0x106\nGlobalReAlloc 0x106 10 0x40\nRead 0x01070000 1\nGlobalFlags 0x106\nGlobalAlloc 2 0\nGlobalFlags 0x10e\nGlobalAlloc 0 0\n",
+            b"0106\nok\n0106\n00000000\n0106\nbytes 00\n0100\n010e\n4000\n0000\n",
             10,
+            10,
+        ),
+        narrow(
+            "a locked object moves where that is asked for",
+            b"GlobalAlloc 0x42 32\nGlobalAlloc 0x42 32\nGlobalLock 0x106\nWrite 0x01070000 5a\nGlobalReAlloc 0x106 64 0\nGlobalReAlloc 0x106 64 2\nMoved\nGetSelectorBase 0x107\nRead 0x01070000 1\nGlobalFlags 0x106\n",
+            b"0106\n010e\n01070000\nok\n0000\n0106\n00000020\n00000040\nbytes 5a\n0001\n",
+            10,
+        ),
+        narrow(
+            "an object grows in its gap, and the other slides away",
+            b"GlobalAlloc 2 32\nGlobalAlloc 2 32\nGlobalAlloc 2 32\nGlobalFree 0x106\nGlobalReAlloc 0x10e 96 0\nMoved\nGetSelectorBase 0x10f\nGetSelectorBase 0x117\n",
+            b"0106\n010e\n0116\n0000\n010e\n00000040\n00000000\n00000060\n",
+            8,
+        ),
+        Row {
+            memory: 160,
+            ..small(
+                "others slide up for an object, and it is cut while it is locked",
+                b"GlobalAlloc 2 32\nGlobalAlloc 0x102 32\nGlobalAlloc 2 32\nGlobalReAlloc 0x106 96 0\nMoved\nGlobalFlags 0x10e\nGetSelectorBase 0x10f\nGetSelectorBase 0x117\nGlobalLock 0x106\nGlobalReAlloc 0x106 32 0\nWalk\n",
+                b"0106\n010e\n0116\n0106\n00000040\n0100\n00000060\n00000080\n01070000\n0106\n00000000 00000020 0106 moveable 1\n00000020 00000040 free\n00000060 00000020 010e discardable 0\n00000080 00000020 0116 moveable 0\nend\n",
+                11,
+                11,
+            )
+        },
+        small(
+            "zeros come behind the rounded size, and a cut moves the limit",
+            b"GlobalAlloc 0x42 1\nFill 0x01070000 32 0x5a\nGlobalReAlloc 0x106 10 0x40\nGlobalReAlloc 0x106 40 0x40\nRead 0x0107001e 4\nGetSelectorLimit 0x107\nGlobalReAlloc 0x106 1 2\nGetSelectorLimit 0x107\nRead 0x01070020 1\nRead 0x0107001f 1\nMoved\n",
+            b"0106\nok\n0106\n0106\nbytes 5a5a0000\n0000003f\n0106\n0000001f\nfault limit\nbytes 5a\n00000000\n",
+            11,
+            11,
+        ),
+        narrow(
+            "reallocations that are refused",
+            b"GlobalAlloc 0x142 32\nGlobalReAlloc 0x107 32 2\nGlobalReAlloc 0x106 65537 2\nGlobalReAlloc 0x106 0 0\nGlobalLock 0x106\nGlobalDiscard 0x106\nGlobalReAlloc 0x106 160 2\nGlobalUnlock 0x106\nGlobalDiscard 0x106\nGlobalDiscard 0x106\nGlobalFlags 0x106\nGlobalReAlloc 0x106 0 0x82\nGlobalFlags 0x106\nGlobalDiscard 0x106\nGlobalDiscard 0x10e\nMoved\nGlobalReAlloc 0x106 32\nGlobalDiscard\n",
+            b"0106\n0000\n0000\n0000\n01070000\n0000\n0000\n0000\n0106\n0106\n4100\n0106\n4000\n0000\n0000\n00000000\nerror syntax\nerror syntax\n",
+            18,
+        ),
+        tight(
+            "another is discarded for growth, and its selector says so",
+            b"GlobalAlloc 2 32\nGlobalAlloc 0x102 32\nGlobalAlloc 0x102 32\nGlobalReAlloc 0x106 64 0x20\nGlobalReAlloc 0x106 64 0x10\nGlobalReAlloc 0x106 64 0\nGlobalFlags 0x10e\nGetSelectorBase 0x10f\nGlobalFlags 0x116\nGetSelectorLimit 0x107\n",
+            b"0106\n010e\n0116\n0000\n0000\n0106\n4100\n00000000\n0100\n0000003f\n",
+            10,
+        ),
+    ]
+}
+
+/// Rows on local heaps, and the segments that they lie in.
+pub fn of_local_heaps() -> [Row; 7] {
+    [
+        Row {
+            memory: 256,
+            ..small(
+                "local objects slide, and their segment too",
+                b"GlobalAlloc 2 32\nGlobalAlloc 0x42 128\nLocalInit 0x10f 16 128\nDS 0x10f\nLocalAlloc 0x42 10\nLocalAlloc 0x42 8\nLocalAlloc 0x42 8\nLocalFree 2\nLocalLock 6\nWrite 0x010f001c beef\nWrite 0x010f0024 cafe\nLocalCompact 96\nLocalUnlock 6\nLocalCompact 96\nLocalLock 6\nLocalHandle 0x18\nGlobalFree 0x106\nGlobalCompact 256\nGetSelectorBase 0x10f\nRead 0x010f0010 2\nRead 0x010f0018 2\n",
+                b"0106\n010e\n0001\nok\n0002\n0006\n000a\n0000\n001c\nok\nok\n0054\n0000\n0060\n0010\n000a\n0000\n00000080\n00000000\nbytes beef\nbytes cafe\n",
+                21,
+                21,
+            )
+        },
+        small(
+            "names, flags and refusals of local objects",
+            b"GlobalAlloc 0x42 64\nLocalAlloc 2 4\nLocalInit 0x107 0 64\nLocalInit 0x107 4 64\nDS 0x107\nLocalAlloc 0 10\nLocalAlloc 0xf42 8\nLocalFlags 6\nLocalAlloc 2 40\nLocalAlloc 2 4\nLocalFlags 6\nLocalLock 6\nLocalReAlloc 4 16 0\nLocalSize 4\nLocalFree 0x99\n",
+            b"0106\n0000\n0000\n0001\nok\n0004\n0006\n0f00\n000a\n000e\n4f00\n0000\n0000\n000c\n0099\n",
+            15,
+            15,
+        ),
+        small(
+            "a local heap goes with its segment's bytes",
+            b"GlobalAlloc 0x142 64\nLocalInit 0x107 4 64\nLocalInit 0x107 4 64\nDS 0x107\nLocalAlloc 0x40 8\nLocalSize 4\nGlobalCompact 4096\nGlobalReAlloc 0x106 64 0x40\nLocalSize 4\nLocalInit 0x107 4 64\n",
+            b"0106\n0001\n0000\nok\n0004\n0008\n00001000\n0106\n0000\n0001\n",
+            10,
+            10,
+        ),
+        small(
+            "a segment that is cut, and grown again",
+            b"GlobalAlloc 0x42 128\nLocalInit 0x107 4 64\nDS 0x107\nLocalAlloc 0 8\nGlobalReAlloc 0x106 64 0\nLocalSize 4\nGlobalReAlloc 0x106 32 0\nLocalSize 4\nGlobalReAlloc 0x106 128 0\nLocalSize 4\nLocalFree 4\n",
+            b"0106\n0001\nok\n0004\n0106\n0008\n0106\n0000\n0106\n0000\n0004\n",
+            11,
+            11,
+        ),
+        small(
+            "DS is looked up at each call",
+            b"GlobalAlloc 0x42 64\nGlobalAlloc 0x42 64\nLocalInit 0 4 64\nDS 0x107\nLocalInit 0 4 64\nLocalInit 0x10f 8 64\nLocalAlloc 2 4\nLocalAlloc 2 4\nDS 0x10f\nLocalAlloc 2 4\nLocalLock 2\nLocalLock 6\nDS 0x106\nLocalLock 2\nDS 0x107\nLocalLock 6\nGlobalFree 0x106\nLocalLock 2\n",
+            b"0106\n010e\n0000\nok\n0001\n0001\n0002\n0006\nok\n0002\n0008\n0000\nok\n0000\nok\n0008\n0000\n0000\n",
+            18,
+            18,
+        ),
+        small(
+            "a fixed local object that is moved has another name",
+            b"GlobalAlloc 0x42 64\nLocalInit 0x107 4 64\nDS 0x107\nLocalAlloc 0 8\nLocalAlloc 0 8\nLocalReAlloc 4 16 0\nLocalReAlloc 4 16 2\nLocalSize 4\nLocalSize 0x14\nLocalHandle 0x14\nLocalHandle 4\n",
+            b"0106\n0001\nok\n0004\n000c\n0000\n0014\n0000\n0010\n0014\n0000\n",
+            11,
+            11,
+        ),
+        small(
+            "local objects that are discarded, changed and revived",
+            b"GlobalAlloc 0x42 64\nLocalInit 0x107 4 64\nDS 0x107\nLocalAlloc 0x102 8\nLocalLock 2\nLocalDiscard 2\nLocalUnlock 2\nLocalDiscard 2\nLocalFlags 2\nLocalReAlloc 2 0 0x80\nLocalFlags 2\nLocalReAlloc 2 12 0x40\nLocalLock 2\nRead 0x01070004 2\nMoved\nLocalAlloc 2\nLocalSize 65536\n",
+            b"0106\n0001\nok\n0002\n0004\n0000\n0000\n0002\n4f00\n0002\n4000\n0002\n0004\nbytes 0000\n00000000\nerror syntax\nerror syntax\n",
+            17,
+            17,
         ),
     ]
 }

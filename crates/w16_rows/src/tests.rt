@@ -3,15 +3,15 @@ ghost use Rattle.w16_kernel.specs.Runs.{IsCall};
 
 use crate::hosts::{Broken, Endless, Short};
 use crate::rows::{
-    LIFE, LIFE_OUTPUT, Row, of_bytes, of_compaction, of_lines, of_memory, of_objects, of_order,
-    of_questions, of_registers,
+    LIFE, LIFE_OUTPUT, Row, of_bytes, of_compaction, of_lines, of_local_heaps, of_memory,
+    of_objects, of_order, of_questions, of_reallocation, of_registers,
 };
 use arrayvec::ArrayVec;
 use std::alloc::{AllocError, Global};
 use std::process::Abort;
 use std::test::Fail;
 use w16_kernel::{Answer, Call, Kernel};
-use w16_model::MOST_SLOTS;
+use w16_model::{GRAIN, MOST_SLOTS};
 use w16_script::{RunFault, run};
 
 /// The bytes of a row's script.
@@ -31,7 +31,8 @@ fn play(
     output: &mut Vec<u8>,
 ) -> Result<Result<(u32, u32), RunFault>, AllocError> {
     let script = script_of(alloc, row)?;
-    let mut kernel = Kernel::new(alloc, row.memory, row.selectors.min(MOST_SLOTS))?;
+    let memory = row.memory - row.memory % GRAIN;
+    let mut kernel = Kernel::new(alloc, memory, row.selectors.min(MOST_SLOTS))?;
     let mut reader = script.as_slice();
     let ended = run(alloc, &mut reader, output, &mut kernel);
     Ok(ended.map(|counts| (counts.lines, counts.replies)))
@@ -94,6 +95,22 @@ fn compaction_is_answered_for(rt: HostRuntime) -> Result<(), Fail> {
 #[test]
 fn the_order_is_answered_for(rt: HostRuntime) -> Result<(), Fail> {
     for row in of_order() {
+        expect_answered(&rt, &row)?;
+    }
+    Ok(())
+}
+
+#[test]
+fn reallocation_is_answered_for(rt: HostRuntime) -> Result<(), Fail> {
+    for row in of_reallocation() {
+        expect_answered(&rt, &row)?;
+    }
+    Ok(())
+}
+
+#[test]
+fn local_heaps_are_answered_for(rt: HostRuntime) -> Result<(), Fail> {
+    for row in of_local_heaps() {
         expect_answered(&rt, &row)?;
     }
     Ok(())

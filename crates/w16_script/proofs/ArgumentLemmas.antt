@@ -1,13 +1,12 @@
 -- Lemmas on the arguments of commands.
-use Rattle.std.proofs.Common.{◌≡◌, ℕ, ◌*◌, ◌≤◌, List, length, ap, ◌∙◌, sym, arith}
-use Rattle.std.specs.List.{slice_get}
-use Rattle.std.proofs.lemmas.Option.{slice_get-map}
-use Rattle.std.specs.Prelude.{Ok, Option, Some, None, IfNone, option_map}
-use Rattle.w16_script.specs.declared.arguments.Argument as code
+use Rattle.std.proofs.Common.{◌≡◌, ℕ, ◌*◌, ◌≤◌, List, [], ◌∷◌, length, refl, sym, subst, ◌∙◌, arith}
+use Rattle.std.specs.Prelude.{Ok, Option, Some, None, IfNone}
+use Rattle.w16_machine.specs.LocalMachine.{Command}
+use Rattle.w16_script.specs.declared.name.Name.{Name}
+use Rattle.w16_script.specs.declared.arguments.Parameter.{Parameter}
 use Rattle.w16_script.specs.declared.arguments.Parameter.TheVariants as p
 use Rattle.w16_script.specs.Numbers.{IsNumber}
-use Rattle.w16_script.specs.Grammar.{Argument, IsArgument}
-use Rattle.w16_script.specs.Values.{value_of, values_of}
+use Rattle.w16_script.specs.Grammar.{Argument, IsArgument, AreArguments, Makes, parameters_of, command_with}
 use Rattle.hex.specs.Hex.{decode_of}
 use Rattle.hex.proofs.HexLemmas.{decode_of-ok}
 
@@ -18,15 +17,6 @@ length-bytes word bytes h = (decode_of-ok word bytes h).2
 pub IfNone-weaker : {X P Q : Type 0} (o : Option X) → (P → Q) → IfNone o P → IfNone o Q
 IfNone-weaker None f h = f h
 IfNone-weaker (Some x) f h = h
-
--- The argument at a place, as a value.
-
-at : (arguments : List code.Argument) (place : ℕ) (found : Option code.Argument) → slice_get arguments place ≡ found → slice_get (values_of arguments) place ≡ option_map value_of found
-at arguments place found e = slice_get-map value_of arguments place ∙ ap (option_map value_of) e
-
-pub at_value : {X : Type 0} (f : Option Argument → X) (arguments : List code.Argument) (place : ℕ) (found : Option code.Argument) → slice_get arguments place ≡ found
-    → f (option_map value_of found) ≡ f (slice_get (values_of arguments) place)
-at_value f arguments place found e = ap f (sym (at arguments place found e))
 
 -- Words that a parameter doesn't take.
 
@@ -45,3 +35,46 @@ no_count registers word most none value h = absurd h
 pub no_byte : (registers word : List ℕ) → ((n : ℕ) → IsNumber registers word n → n ≤ 255 → ⊥) → (value : Argument) → IsArgument registers word p.Byte value → ⊥
 no_byte registers word none (Argument.Byte n) h = none n h.0 (omega (arith, h.1))
 no_byte registers word none value h = absurd h
+
+-- the first word is no value
+pub no_value : (registers first : List ℕ) (words behind : List (List ℕ)) (parameter : Parameter) → words ≡ first ∷ behind → ((other : Argument) → IsArgument registers first parameter other → ⊥)
+    → (word : List ℕ) (rest : List (List ℕ)) (other : Argument) → words ≡ word ∷ rest → IsArgument registers word parameter other → ⊥
+no_value registers first words behind parameter is none word rest other too reads =
+    let same : first ∷ behind ≡ word ∷ rest = sym is ∙ too in
+    let words_same : word ≡ first = cc in
+    none other (subst (λ (w : List ℕ). IsArgument registers w parameter other) words_same reads)
+
+-- Arguments, one by one.
+
+pub nothing_left : (registers : List ℕ) (words : List (List ℕ)) → words ≡ [] → AreArguments registers words [] []
+nothing_left registers words is = rw is tt
+
+pub something_left : (registers : List ℕ) (words : List (List ℕ)) → (words ≡ [] → ⊥) → (values : List Argument) → AreArguments registers words [] values → ⊥
+something_left registers [] some values h = some refl
+something_left registers (word ∷ words) some values h = absurd h
+
+pub more : (registers word : List ℕ) (words rest : List (List ℕ)) (parameter : Parameter) (parameters : List Parameter) (value : Argument) (values : List Argument) → words ≡ word ∷ rest
+    → IsArgument registers word parameter value → AreArguments registers rest parameters values → AreArguments registers words (parameter ∷ parameters) (value ∷ values)
+more registers word words rest parameter parameters value values is first others = rw is (first, others)
+
+pub no_first : (registers : List ℕ) (words : List (List ℕ)) (parameter : Parameter) (parameters : List Parameter)
+    → ((word : List ℕ) (rest : List (List ℕ)) (other : Argument) → words ≡ word ∷ rest → IsArgument registers word parameter other → ⊥)
+    → (values : List Argument) → AreArguments registers words (parameter ∷ parameters) values → ⊥
+no_first registers [] parameter parameters none values h = absurd h
+no_first registers (word ∷ words) parameter parameters none [] h = absurd h
+no_first registers (word ∷ words) parameter parameters none (value ∷ values) h = none word words value refl h.0
+
+pub no_rest : (registers word : List ℕ) (words rest : List (List ℕ)) (parameter : Parameter) (parameters : List Parameter) → words ≡ word ∷ rest
+    → ((values : List Argument) → AreArguments registers rest parameters values → ⊥) → (values : List Argument) → AreArguments registers words (parameter ∷ parameters) values → ⊥
+no_rest registers word words rest parameter parameters is none [] h = absurd (rw is at h)
+no_rest registers word words rest parameter parameters is none (value ∷ values) h = none values (rw is at h).1
+
+-- Commands of their arguments.
+
+pub makes : (registers : List ℕ) (words : List (List ℕ)) (name : Name) (parameters : List Parameter) (arguments : List Argument) (command : Command) → AreArguments registers words parameters arguments
+    → parameters_of name ≡ parameters → command ≡ command_with name arguments → Makes registers name words command
+makes registers words name parameters arguments command right same is = record { arguments = arguments; right = subst (λ (l : List Parameter). AreArguments registers words l arguments) (sym same) right; is = is }
+
+pub makes_none : (registers : List ℕ) (words : List (List ℕ)) (name : Name) (parameters : List Parameter) → ((values : List Argument) → AreArguments registers words parameters values → ⊥)
+    → parameters_of name ≡ parameters → (command : Command) → Makes registers name words command → ⊥
+makes_none registers words name parameters none same command made = none made.arguments (subst (λ (l : List Parameter). AreArguments registers words l made.arguments) same made.right)

@@ -3,6 +3,7 @@ use Rattle.std.proofs.Common.{◌≡◌, ℕ, zero, suc, ◌+◌, ◌*◌, ◌<�
 use Rattle.std.specs.Prelude.{◌==◌, ◌&&◌, nat_lt, slice_index, MatchOption}
 use Rattle.std.proofs.lemmas.Bool.{cases_lt}
 use Rattle.std.proofs.lemmas.Bool.Decides.{nat_tests}
+use Rattle.std.specs.Char.{digit_value}
 use Rattle.hex.specs.Hex.{decode_of, decode_pairs, hex_digit_value, pair_value}
 use Rattle.hex.specs.declared.error.FromHexError.{FromHexError}
 use Rattle.hex.specs.declared.error.FromHexError.TheVariants.{InvalidHexCharacter}
@@ -46,6 +47,38 @@ values_right = refl
 
 pub value-at : (byte : ℕ) → byte < 256 → Stands (hex_digit_value byte) (slice_index VALUES.now byte)
 value-at byte small = right-at VALUES.now 256 byte small values_right
+
+-- a digit's value is the same for both libraries
+agree : Option ℕ → ℕ → Bool
+agree None digit = nat_lt 15 digit
+agree (Some value) digit = value == digit
+
+all_agree : ℕ → Bool
+all_agree zero = true
+all_agree (suc n) = agree (hex_digit_value n) (digit_value n) && all_agree n
+
+agree-at : (n byte : ℕ) → byte < n → all_agree n ≡ true → agree (hex_digit_value byte) (digit_value byte) ≡ true
+unfolding all_agree
+agree-at zero byte small e = absurd (omega (arith, small))
+agree-at (suc n) byte small e =
+    let parts = both (agree (hex_digit_value n) (digit_value n)) (all_agree n) e in
+    elim (cases_lt byte n) [
+      | inl below ↦ agree-at n byte below parts.1
+      | inr above ↦ let same : n ≡ byte = omega (arith, small, above) in subst (λ k. agree (hex_digit_value k) (digit_value k) ≡ true) same parts.0
+    ]
+
+bytes_agree : all_agree 256 ≡ true
+unfolding all_agree agree
+bytes_agree = refl
+
+digit-known : (other : Option ℕ) (digit x base : ℕ) → agree other digit ≡ true → Stands other x → base ≤ 16 → (x < base → x ≡ digit) × (base ≤ x → base ≤ digit)
+unfolding agree
+digit-known None digit x base e h few = let large : 15 < digit = grind (arith, nat_tests) in (λ less. absurd (omega (arith, less, h, few)), λ more. omega (arith, large, few))
+digit-known (Some value) digit x base e h few = let same : value ≡ digit = grind (arith, nat_tests) in (λ less. omega (arith, same, h.0), λ more. omega (arith, same, h.0, more))
+
+-- what the table has is a digit's value in each base up to 16
+pub digit-values : (byte x base : ℕ) → byte < 256 → Stands (hex_digit_value byte) x → base ≤ 16 → (x < base → x ≡ digit_value byte) × (base ≤ x → base ≤ digit_value byte)
+digit-values byte x base small h few = digit-known (hex_digit_value byte) (digit_value byte) x base (agree-at 256 byte small bytes_agree) h few
 
 known : (digit : Option ℕ) (x : ℕ) → Stands digit x → (x ≡ 16 → ⊥) → digit ≡ Some x
 known None x h other = absurd (other h)

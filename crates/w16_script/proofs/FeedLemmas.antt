@@ -1,5 +1,5 @@
 -- Lemmas on bytes that are fed.
-use Rattle.std.proofs.Common.{◌≡◌, ◌≢◌, ℕ, ◌+◌, ◌≤◌, Bool, List, [], ◌∷◌, ◌++◌, Option, length, length-append, map, refl, sym, ap, ◌∙◌, append-nil, append_assoc, subst, inl, inr, arith}
+use Rattle.std.proofs.Common.{◌≡◌, ◌≢◌, ℕ, ◌+◌, ◌<◌, ◌≤◌, Bool, List, [], ◌∷◌, ◌++◌, Option, length, length-append, map, refl, sym, ap, ◌∙◌, append-nil, append_assoc, subst, inl, inr, arith}
 use Rattle.std.specs.Prelude.{count_by, if◌then◌else◌}
 use Rattle.std.specs.List.{flat_map, AllByRecursion}
 use Rattle.std.specs.Io.KnownBytes.{Keeps}
@@ -88,6 +88,14 @@ Feeds-ends a b s t v w line same ran short empty lines replies =
       replies = replies ∙ ap (λ (l : List ℕ). s.replies + (if has_reply l then 1 else 0)) same ∙ omega arith;
     }
 
+-- a line and its LF, where none was unfinished
+pub Feeds-whole : (a b : Option (List ℕ)) (s t : Progress) (v w : State) (line text : List ℕ) → s.line ≡ [] → HasNoLf line → length line ≤ 4096 → text ≡ without_cr line → RunsLines a v (text ∷ []) b w
+    → t.line ≡ [] → t.lines ≡ s.lines + 1 → t.replies ≡ s.replies + (if has_reply text then 1 else 0) → Feeds a s v (ended line) b t w
+Feeds-whole a b s t v w line text nothing one_line short same ran empty lines replies =
+    let whole : s.line ++ line ≡ line = ap (λ (l : List ℕ). l ++ line) nothing in
+    Feeds-trans a a b s (with_bytes s line) t v v w line (10 ∷ []) (Feeds-held a s (with_bytes s line) v v line one_line refl refl)
+    (Feeds-ends a b (with_bytes s line) t v w text (same ∙ ap without_cr (sym whole)) ran (omega (arith, short, ap length whole)) empty lines replies)
+
 -- Where it stops.
 
 -- bytes of one line pass a limit
@@ -149,6 +157,15 @@ Stops-line a b s t v w x line fault one_line is same fits few fails = record {
   fits = fits;
   stops = StopsHere-line a b t w x fault few fails;
 }
+
+-- and so did a line that was run where it stood
+pub Stops-whole : (a b : Option (List ℕ)) (s : Progress) (v x : State) (line : List ℕ) (fault : RunFault) → s.line ≡ [] → HasNoLf line → length line ≤ 4096 → IsWithinLimits s → s.lines < 1000000
+    → FailsAt a v (without_cr line) fault b x → Stops a s v (ended line) fault b x
+Stops-whole a b s v x line fault nothing one_line short fits few fails =
+    let whole : s.line ++ line ≡ line = ap (λ (l : List ℕ). l ++ line) nothing in
+    let within : IsWithinLimits (with_bytes s line) = record { replies = fits.replies; lines = fits.lines; last = λ filled. few; short = omega (arith, short, ap length whole) } in
+    Stops-line a b s (with_bytes s line) v v x line fault one_line refl refl within (λ full. omega (arith, full, few))
+    (subst (λ (l : List ℕ). FailsAt a v (without_cr l) fault b x) (sym whole) fails)
 
 -- bytes were fed before, and others follow
 pub Stops-later : (a b c : Option (List ℕ)) (s t : Progress) (v w x : State) (whole done bytes behind : List ℕ) (fault : RunFault) → whole ≡ done ++ (bytes ++ behind)

@@ -4,7 +4,6 @@ pub mod RegisterLemmas
 pub mod OneNumberLemmas
 pub mod ArgumentLemmas
 pub mod DigitLemmas
-pub mod StageLemmas
 pub mod ReadingLemmas
 pub mod SpellingLemmas
 pub mod PrintLemmas

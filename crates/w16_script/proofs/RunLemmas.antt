@@ -2,22 +2,22 @@
 use Rattle.std.proofs.Common.{◌≡◌, ℕ, List, [], ◌∷◌, ◌++◌, Option, refl, sym, ap, ◌∙◌, append-nil, append_assoc, subst}
 use Rattle.std.specs.Io.KnownBytes.{Keeps}
 use Rattle.std.proofs.KnownBytes.{Appends-nil, Appends-trans, Appends-kept}
-use Rattle.w16_machine.specs.World.{World}
-use Rattle.w16_machine.specs.Machine.{Event, Run}
-use Rattle.w16_machine.specs.Fewest.{AreFewest}
+use Rattle.w16_machine.specs.Local.{LocalWorld}
+use Rattle.w16_machine.specs.LocalMachine.{Event, Run}
+use Rattle.w16_machine.specs.LocalRuns.{AreFewest}
 use Rattle.w16_script.specs.Registers.{stored_all}
 use Rattle.w16_script.specs.State.{State}
 use Rattle.w16_script.specs.Grammar.{Said, Reads, target_of}
 use Rattle.w16_script.specs.Output.{Prints, PrintsLine, RunsLines}
 
 -- one run goes on with another
-Run-append : (old mid new : World) (events more : List Event) → Run old events mid → Run mid more new → Run old (events ++ more) new
-Run-append old mid new [] more p q = subst (λ (w : World). Run w more new) p q
+Run-append : (old mid new : LocalWorld) (events more : List Event) → Run old events mid → Run mid more new → Run old (events ++ more) new
+Run-append old mid new [] more p q = subst (λ (w : LocalWorld). Run w more new) p q
 Run-append old mid new (event ∷ events) more p q = (p.0, Run-append event.after mid new events more p.1 q)
 
 -- in which each call discards as few as it can
-Fewest-append : (old mid new : World) (events more : List Event) → Run old events mid → AreFewest old events → AreFewest mid more → AreFewest old (events ++ more)
-Fewest-append old mid new [] more run p q = subst (λ (w : World). AreFewest w more) run q
+Fewest-append : (old mid new : LocalWorld) (events more : List Event) → Run old events mid → AreFewest old events → AreFewest mid more → AreFewest old (events ++ more)
+Fewest-append old mid new [] more run p q = subst (λ (w : LocalWorld). AreFewest w more) run q
 Fewest-append old mid new (event ∷ events) more run p q = (p.0, Fewest-append event.after mid new events more run.1 p.1 q)
 
 -- and so does what lines print

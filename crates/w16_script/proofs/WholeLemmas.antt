@@ -4,7 +4,7 @@ use Rattle.std.specs.Prelude.{◌==◌, count_by}
 use Rattle.std.proofs.lemmas.Bool.Decides.{nat_tests}
 use Rattle.std.specs.Io.KnownBytes.{Consumes, IsAtEnd}
 use Rattle.std.proofs.KnownBytes.{Consumes-trans}
-use Rattle.w16_machine.specs.World.{World}
+use Rattle.w16_machine.specs.Local.{LocalWorld}
 use Rattle.w16_script.specs.declared.outcome.Ended.{Ended}
 use Rattle.w16_script.specs.declared.outcome.RunFault.{RunFault}
 use Rattle.w16_script.specs.declared.outcome.RunFault.TheVariants.{Read, Write, Memory, TooLong}
@@ -48,7 +48,7 @@ Finishes-none a s v counts empty lines replies = record {
 }
 
 -- the text was fed, and its end came
-pub Script-from : (a b c : Option (List ℕ)) (t : Progress) (v x : World) (w : State) (registers text : List ℕ) (counts : Ended) → Feeds a fresh (start v) text b t w → IsWithinLimits t
+pub Script-from : (a b c : Option (List ℕ)) (t : Progress) (v x : LocalWorld) (w : State) (registers text : List ℕ) (counts : Ended) → Feeds a fresh (start v) text b t w → IsWithinLimits t
     → Finishes b t w c (state_with x registers) counts → Script a v text c x counts
 Script-from a b c t v x w registers text counts p small q =
     let bound = length-last_of t.line t.lines small.last small.lines in
@@ -70,7 +70,7 @@ Script-from a b c t v x w registers text counts p small q =
 -- Faults.
 
 -- a piece met a fault
-StopsWithin-piece : (a b c : Option (List ℕ)) (t : Progress) (v x : World) (w : State) (registers text piece : List ℕ) (fault : RunFault) → Feeds a fresh (start v) text b t w
+StopsWithin-piece : (a b c : Option (List ℕ)) (t : Progress) (v x : LocalWorld) (w : State) (registers text piece : List ℕ) (fault : RunFault) → Feeds a fresh (start v) text b t w
     → length piece ≤ 65536 → Stops b t w piece fault c (state_with x registers) → StopsWithin a v (text ++ piece) fault c x
 StopsWithin-piece a b c t v x w registers text piece fault p small q =
     let size : length piece ≡ length q.front + length (q.byte ∷ q.more) = ap (length {A = ℕ}) q.whole ∙ length-append q.front (q.byte ∷ q.more) in
@@ -91,20 +91,20 @@ StopsWithin-piece a b c t v x w registers text piece fault p small q =
       near = omega (arith, size, small);
     }
 
-pub FailsLater-piece : (left a b c : Option (List ℕ)) (t : Progress) (v x : World) (w : State) (registers text piece : List ℕ) (fault : RunFault) → Feeds a fresh (start v) text b t w
+pub FailsLater-piece : (left a b c : Option (List ℕ)) (t : Progress) (v x : LocalWorld) (w : State) (registers text piece : List ℕ) (fault : RunFault) → Feeds a fresh (start v) text b t w
     → length piece ≤ 65536 → Stops b t w piece fault c (state_with x registers) → FailsLater left a v (text ++ piece) fault c x
 FailsLater-piece left a b c t v x w registers text piece Read p small q = absurd q.stops.2
 FailsLater-piece left a b c t v x w registers text piece Write p small q = inl (StopsWithin-piece a b c t v x w registers text piece Write p small q)
 FailsLater-piece left a b c t v x w registers text piece Memory p small q = inl (StopsWithin-piece a b c t v x w registers text piece Memory p small q)
 FailsLater-piece left a b c t v x w registers text piece TooLong p small q = StopsWithin-piece a b c t v x w registers text piece TooLong p small q
 
-StopsLast-from : (left a b c : Option (List ℕ)) (t : Progress) (v x : World) (w : State) (registers text : List ℕ) (fault : RunFault) → IsAtEnd left → Feeds a fresh (start v) text b t w
+StopsLast-from : (left a b c : Option (List ℕ)) (t : Progress) (v x : LocalWorld) (w : State) (registers text : List ℕ) (fault : RunFault) → IsAtEnd left → Feeds a fresh (start v) text b t w
     → IsWithinLimits t → 0 < length t.line → FailsAt b w t.line fault c (state_with x registers) → StopsLast left a v text fault c x
 StopsLast-from left a b c t v x w registers text fault end p small filled q =
     record { at_end = end; between = b; here = t; state = w; feeds = p; fits = small; filled = filled; registers = registers; fails = q }
 
 -- the last line met a fault
-pub FailsLater-last : (left a b c : Option (List ℕ)) (t : Progress) (v x : World) (w : State) (registers text : List ℕ) (fault : RunFault) → IsAtEnd left → Feeds a fresh (start v) text b t w
+pub FailsLater-last : (left a b c : Option (List ℕ)) (t : Progress) (v x : LocalWorld) (w : State) (registers text : List ℕ) (fault : RunFault) → IsAtEnd left → Feeds a fresh (start v) text b t w
     → IsWithinLimits t → 0 < length t.line → FailsAt b w t.line fault c (state_with x registers) → FailsLater left a v text fault c x
 FailsLater-last left a b c t v x w registers text Read end p small filled q = absurd q
 FailsLater-last left a b c t v x w registers text Write end p small filled q = inr (inl (StopsLast-from left a b c t v x w registers text Write end p small filled q))
@@ -112,7 +112,7 @@ FailsLater-last left a b c t v x w registers text Memory end p small filled q = 
 FailsLater-last left a b c t v x w registers text TooLong end p small filled q = absurd q
 
 -- any fault behind the start is one of the run
-pub Fails-later : (left held : Option (List ℕ)) (old : World) (text : List ℕ) (fault : RunFault) (holds : Option (List ℕ)) (new : World) → FailsLater left held old text fault holds new
+pub Fails-later : (left held : Option (List ℕ)) (old : LocalWorld) (text : List ℕ) (fault : RunFault) (holds : Option (List ℕ)) (new : LocalWorld) → FailsLater left held old text fault holds new
     → Fails left held old text fault holds new
 Fails-later left held old text Read holds new h = h
 Fails-later left held old text Write holds new h = h

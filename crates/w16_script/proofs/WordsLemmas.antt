@@ -1,5 +1,6 @@
 -- Lemmas on the words of a line.
-use Rattle.std.proofs.Common.{◌≡◌, ℕ, zero, suc, ◌<◌, ◌≤◌, true, false, List, [], ◌∷◌, length, take, drop, get_or, refl, ap, ◌∙◌, arith}
+use Rattle.std.specs.Prelude.{if◌then◌else◌}
+use Rattle.std.proofs.Common.{◌≡◌, ℕ, zero, suc, ◌<◌, ◌≤◌, Bool, true, false, List, [], ◌∷◌, length, take, drop, get_or, refl, sym, ap, ◌∙◌, arith}
 use Rattle.w16_script.specs.Words.{words_of, is_blank, with_byte}
 
 -- a byte before a blank is a word of its own
@@ -10,6 +11,25 @@ with_byte-before_blank x y ys (w ∷ ws) h = rw h refl
 -- a byte before a word goes onto it
 with_byte-before_word : (x y : ℕ) (ys w : List ℕ) (ws : List (List ℕ)) → is_blank y ≡ false → with_byte x (y ∷ ys) (w ∷ ws) ≡ (x ∷ w) ∷ ws
 with_byte-before_word x y ys w ws h = rw h refl
+
+if-some : (test : Bool) (word other : List ℕ) (words others : List (List ℕ)) → (if test then word ∷ words else other ∷ others) ≡ [] → ⊥
+if-some true word other words others e = cc
+if-some false word other words others e = cc
+
+with_byte-some : (x : ℕ) (ys : List ℕ) (ws : List (List ℕ)) → with_byte x ys ws ≡ [] → ⊥
+with_byte-some x [] ws e = cc
+with_byte-some x (y ∷ ys) [] e = cc
+with_byte-some x (y ∷ ys) (w ∷ ws) e = if-some (is_blank y) (x ∷ []) (x ∷ w) (w ∷ ws) ws e
+
+-- where the first byte is no blank there is a word
+words_of_some : (xs : List ℕ) → 0 < length xs → is_blank (get_or xs 0 0) ≡ false → words_of xs ≡ [] → ⊥
+words_of_some [] some first e = absurd (omega arith)
+words_of_some (x ∷ xs) some first e = with_byte-some x xs (words_of xs) (rw first at e)
+
+-- so none is left only where no byte is
+pub words_of_none : (text rest : List ℕ) → words_of rest ≡ words_of text → (0 < length rest → is_blank (get_or rest 0 0) ≡ false) → (length rest ≡ 0 → words_of text ≡ []) × (words_of text ≡ [] → length rest ≡ 0)
+words_of_none text [] same begins = (λ e. sym same, λ e. refl)
+words_of_none text (x ∷ xs) same begins = (λ e. absurd (omega (arith, e)), λ e. absurd (words_of_some (x ∷ xs) (omega arith) (begins (omega arith)) (same ∙ e)))
 
 -- the front of a line up to a blank is its first word
 pub words_of_split : (xs : List ℕ) (n : ℕ) → 0 < n → n ≤ length xs → ((k : ℕ) → k < n → is_blank (get_or xs k 0) ≡ false)

@@ -2,8 +2,9 @@
 use Rattle.std.specs.Prelude.{◌≡◌, ℕ, ◌+◌, List, [], ◌∷◌, ◌++◌, length, map, count_by, Option}
 use Rattle.std.specs.List.{flat_map, AllByRecursion}
 use Rattle.std.specs.Io.KnownBytes.{Keeps}
-use Rattle.w16_machine.specs.Machine.{Command, Event, Run}
-use Rattle.w16_machine.specs.Fewest.{AreFewest}
+use Rattle.w16_machine.specs.LocalMachine.{Command, Event, Run}
+use Rattle.w16_machine.specs.LocalRuns.{AreFewest}
+use Rattle.w16_kernel.specs.Runs.{TakesMemory}
 use Rattle.w16_script.specs.declared.outcome.RunFault.{RunFault}
 use Rattle.w16_script.specs.declared.outcome.RunFault.TheVariants.{Write, Memory, TooLong}
 use Rattle.w16_script.specs.State.{State}
@@ -12,10 +13,6 @@ use Rattle.w16_script.specs.Written.{AppendsFront}
 use Rattle.w16_script.specs.Output.{Prints, RunsLines, has_reply}
 use Rattle.w16_script.specs.Text.{ended, HasNoLf, IsRaw, without_cr}
 use Rattle.w16_script.specs.Progress.{Progress, IsWithinLimits, IsOver}
-
--- which commands may want memory of the host: none
-abbrev pub TakesMemory : Command → Type 0
-TakesMemory command = ⊥
 
 -- the line met a fault
 abbrev pub FailsAt : Option (List ℕ) → State → List ℕ → RunFault → Option (List ℕ) → State → Type 0

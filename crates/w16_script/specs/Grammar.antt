@@ -8,8 +8,11 @@ use Rattle.w16_script.specs.declared.arguments.Parameter.{Parameter}
 use Rattle.w16_script.specs.declared.arguments.Parameter.TheVariants as p
 use Rattle.w16_model.specs.Calls as calls
 use Rattle.w16_model.specs.Far as far
-use Rattle.w16_machine.specs.Machine.{Command}
-use Rattle.w16_machine.specs.Machine.Command.{OfHandles, OfFar}
+use Rattle.w16_machine.specs.Machine.Command.{OfHandles, OfResizes, OfFar}
+use Rattle.w16_machine.specs.Resizes as resizes
+use Rattle.w16_machine.specs.LocalCalls as locals
+use Rattle.w16_machine.specs.LocalMachine.{Command}
+use Rattle.w16_machine.specs.LocalMachine.Command.{OfMachine, OfLocals}
 use Rattle.w16_kernel.specs.declared.call.TheConstants.{MOST_READ, MOST_FILLED}
 use Rattle.w16_script.specs.declared.bytes.TheConstants.{MOST_BYTES}
 use Rattle.w16_script.specs.Words.{words_of}
@@ -93,29 +96,54 @@ pub record Row : Type 0 where
 abbrev row : {Family : Type 0} → (Family → Command) → List ℕ → (parameters : List Parameter) → Maker Family parameters → Row
 row {Family} of_family text parameters maker = record { text = text; parameters = parameters; command = λ arguments. of_family (made Family parameters maker arguments 0) }
 
+-- the families below local heaps
+abbrev of_handles : calls.HandleCommand → Command
+of_handles command = OfMachine (OfHandles command)
+
+abbrev of_resizes : resizes.ResizeCommand → Command
+of_resizes command = OfMachine (OfResizes command)
+
+abbrev of_far : far.FarCommand → Command
+of_far command = OfMachine (OfFar command)
+
 abbrev pub row_of : Name → Row
-row_of name.GlobalAlloc = row OfHandles (codes "GlobalAlloc") (p.Word ∷ p.Dword ∷ []) calls.HandleCommand.GlobalAlloc
-row_of name.GlobalFree = row OfHandles (codes "GlobalFree") (p.Word ∷ []) calls.HandleCommand.GlobalFree
-row_of name.GlobalLock = row OfHandles (codes "GlobalLock") (p.Word ∷ []) calls.HandleCommand.GlobalLock
-row_of name.GlobalUnlock = row OfHandles (codes "GlobalUnlock") (p.Word ∷ []) calls.HandleCommand.GlobalUnlock
-row_of name.GlobalSize = row OfHandles (codes "GlobalSize") (p.Word ∷ []) calls.HandleCommand.GlobalSize
-row_of name.GlobalFlags = row OfHandles (codes "GlobalFlags") (p.Word ∷ []) calls.HandleCommand.GlobalFlags
-row_of name.GlobalHandle = row OfHandles (codes "GlobalHandle") (p.Word ∷ []) calls.HandleCommand.GlobalHandle
-row_of name.GetSelectorBase = row OfHandles (codes "GetSelectorBase") (p.Word ∷ []) calls.HandleCommand.GetSelectorBase
-row_of name.GetSelectorLimit = row OfHandles (codes "GetSelectorLimit") (p.Word ∷ []) calls.HandleCommand.GetSelectorLimit
-row_of name.GlobalCompact = row OfHandles (codes "GlobalCompact") (p.Dword ∷ []) calls.HandleCommand.GlobalCompact
-row_of name.GlobalLRUNewest = row OfHandles (codes "GlobalLRUNewest") (p.Word ∷ []) calls.HandleCommand.GlobalLRUNewest
-row_of name.GlobalLRUOldest = row OfHandles (codes "GlobalLRUOldest") (p.Word ∷ []) calls.HandleCommand.GlobalLRUOldest
-row_of name.Moved = row OfHandles (codes "Moved") [] calls.HandleCommand.Moved
-row_of name.Walk = row OfHandles (codes "Walk") [] calls.HandleCommand.Walk
-row_of name.Read = row OfFar (codes "Read") (p.Dword ∷ p.Count MOST_READ ∷ []) far.FarCommand.Read
-row_of name.Write = row OfFar (codes "Write") (p.Dword ∷ p.Bytes ∷ []) far.FarCommand.Write
-row_of name.Fill = row OfFar (codes "Fill") (p.Dword ∷ p.Count MOST_FILLED ∷ p.Byte ∷ []) far.FarCommand.Fill
+row_of name.GlobalAlloc = row of_handles (codes "GlobalAlloc") (p.Word ∷ p.Dword ∷ []) calls.HandleCommand.GlobalAlloc
+row_of name.GlobalFree = row of_handles (codes "GlobalFree") (p.Word ∷ []) calls.HandleCommand.GlobalFree
+row_of name.GlobalLock = row of_handles (codes "GlobalLock") (p.Word ∷ []) calls.HandleCommand.GlobalLock
+row_of name.GlobalUnlock = row of_handles (codes "GlobalUnlock") (p.Word ∷ []) calls.HandleCommand.GlobalUnlock
+row_of name.GlobalSize = row of_handles (codes "GlobalSize") (p.Word ∷ []) calls.HandleCommand.GlobalSize
+row_of name.GlobalFlags = row of_handles (codes "GlobalFlags") (p.Word ∷ []) calls.HandleCommand.GlobalFlags
+row_of name.GlobalHandle = row of_handles (codes "GlobalHandle") (p.Word ∷ []) calls.HandleCommand.GlobalHandle
+row_of name.GetSelectorBase = row of_handles (codes "GetSelectorBase") (p.Word ∷ []) calls.HandleCommand.GetSelectorBase
+row_of name.GetSelectorLimit = row of_handles (codes "GetSelectorLimit") (p.Word ∷ []) calls.HandleCommand.GetSelectorLimit
+row_of name.GlobalCompact = row of_handles (codes "GlobalCompact") (p.Dword ∷ []) calls.HandleCommand.GlobalCompact
+row_of name.GlobalReAlloc = row of_resizes (codes "GlobalReAlloc") (p.Word ∷ p.Dword ∷ p.Word ∷ []) resizes.ResizeCommand.GlobalReAlloc
+row_of name.GlobalDiscard = row of_resizes (codes "GlobalDiscard") (p.Word ∷ []) resizes.ResizeCommand.GlobalDiscard
+row_of name.GlobalLRUNewest = row of_handles (codes "GlobalLRUNewest") (p.Word ∷ []) calls.HandleCommand.GlobalLRUNewest
+row_of name.GlobalLRUOldest = row of_handles (codes "GlobalLRUOldest") (p.Word ∷ []) calls.HandleCommand.GlobalLRUOldest
+row_of name.Moved = row of_handles (codes "Moved") [] calls.HandleCommand.Moved
+row_of name.Walk = row of_handles (codes "Walk") [] calls.HandleCommand.Walk
+row_of name.Read = row of_far (codes "Read") (p.Dword ∷ p.Count MOST_READ ∷ []) far.FarCommand.Read
+row_of name.Write = row of_far (codes "Write") (p.Dword ∷ p.Bytes ∷ []) far.FarCommand.Write
+row_of name.Fill = row of_far (codes "Fill") (p.Dword ∷ p.Count MOST_FILLED ∷ p.Byte ∷ []) far.FarCommand.Fill
+row_of name.LocalInit = row OfLocals (codes "LocalInit") (p.Word ∷ p.Word ∷ p.Dword ∷ []) locals.LocalCommand.LocalInit
+row_of name.LocalAlloc = row OfLocals (codes "LocalAlloc") (p.Word ∷ p.Word ∷ []) locals.LocalCommand.LocalAlloc
+row_of name.LocalReAlloc = row OfLocals (codes "LocalReAlloc") (p.Word ∷ p.Word ∷ p.Word ∷ []) locals.LocalCommand.LocalReAlloc
+row_of name.LocalDiscard = row OfLocals (codes "LocalDiscard") (p.Word ∷ []) locals.LocalCommand.LocalDiscard
+row_of name.LocalFree = row OfLocals (codes "LocalFree") (p.Word ∷ []) locals.LocalCommand.LocalFree
+row_of name.LocalLock = row OfLocals (codes "LocalLock") (p.Word ∷ []) locals.LocalCommand.LocalLock
+row_of name.LocalUnlock = row OfLocals (codes "LocalUnlock") (p.Word ∷ []) locals.LocalCommand.LocalUnlock
+row_of name.LocalSize = row OfLocals (codes "LocalSize") (p.Word ∷ []) locals.LocalCommand.LocalSize
+row_of name.LocalFlags = row OfLocals (codes "LocalFlags") (p.Word ∷ []) locals.LocalCommand.LocalFlags
+row_of name.LocalHandle = row OfLocals (codes "LocalHandle") (p.Word ∷ []) locals.LocalCommand.LocalHandle
+row_of name.LocalCompact = row OfLocals (codes "LocalCompact") (p.Word ∷ []) locals.LocalCommand.LocalCompact
+row_of name.DS = row OfLocals (codes "DS") (p.Word ∷ []) locals.LocalCommand.DS
 
 -- all of them
 abbrev pub all_names : List Name
 all_names = name.GlobalAlloc ∷ name.GlobalFree ∷ name.GlobalLock ∷ name.GlobalUnlock ∷ name.GlobalSize ∷ name.GlobalFlags ∷ name.GlobalHandle ∷ name.GetSelectorBase ∷ name.GetSelectorLimit
-    ∷ name.GlobalCompact ∷ name.GlobalLRUNewest ∷ name.GlobalLRUOldest ∷ name.Moved ∷ name.Walk ∷ name.Read ∷ name.Write ∷ name.Fill ∷ []
+    ∷ name.GlobalCompact ∷ name.GlobalReAlloc ∷ name.GlobalDiscard ∷ name.GlobalLRUNewest ∷ name.GlobalLRUOldest ∷ name.Moved ∷ name.Walk ∷ name.Read ∷ name.Write ∷ name.Fill
+    ∷ name.LocalInit ∷ name.LocalAlloc ∷ name.LocalReAlloc ∷ name.LocalDiscard ∷ name.LocalFree ∷ name.LocalLock ∷ name.LocalUnlock ∷ name.LocalSize ∷ name.LocalFlags ∷ name.LocalHandle ∷ name.LocalCompact ∷ name.DS ∷ []
 
 abbrev pub text_of : Name → List ℕ
 text_of name = (row_of name).text

@@ -3,8 +3,6 @@ pub mod State
 pub mod Words
 pub mod Numbers
 pub mod Grammar
-pub mod Values
-pub mod Rooms
 pub mod Lines
 pub mod Laws
 pub mod Written

@@ -2,10 +2,11 @@
 use Rattle.std.specs.Prelude.{◌≡◌, ℕ, Bool, not, List, [], ◌∷◌, ◌++◌, Option}
 use Rattle.std.specs.Io.KnownBytes.{Appends}
 use Rattle.w16_model.specs.declared.Item.{Item}
-use Rattle.w16_machine.specs.World.{World, IsWorldWalk}
+use Rattle.w16_machine.specs.World.{IsWorldWalk}
 use Rattle.w16_machine.specs.Machine as machine
-use Rattle.w16_machine.specs.Machine.{Event, Run}
-use Rattle.w16_machine.specs.Fewest.{AreFewest}
+use Rattle.w16_machine.specs.Local.{LocalWorld}
+use Rattle.w16_machine.specs.LocalMachine.{Event, Run}
+use Rattle.w16_machine.specs.LocalRuns.{AreFewest}
 use Rattle.w16_script.specs.Registers.{stored_all}
 use Rattle.w16_script.specs.State.{State}
 use Rattle.w16_script.specs.Words.{words_of}
@@ -13,8 +14,8 @@ use Rattle.w16_script.specs.Grammar.{Said, Reads, is_silent, target_of}
 use Rattle.w16_script.specs.Printed.{reply_text, walk_text, error_text}
 
 -- what is printed for a reply, in the world that its command left: for `Walked` the walk of that world
-abbrev pub Shows : World → machine.Reply → List ℕ → Type 0
-Shows world (machine.Reply.Walked count) output = (items : List Item) × IsWorldWalk world items × (output ≡ walk_text items)
+abbrev pub Shows : LocalWorld → machine.Reply → List ℕ → Type 0
+Shows world (machine.Reply.Walked count) output = (items : List Item) × IsWorldWalk world.world items × (output ≡ walk_text items)
 Shows world reply output = output ≡ reply_text reply
 
 -- what a line that says this prints, where its command, if it is one, is the only event

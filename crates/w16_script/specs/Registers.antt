@@ -2,7 +2,7 @@
 use Rattle.std.specs.Prelude.{◌≡◌, ℕ, ◌<◌, List, [], ◌∷◌, replicate, slice_set, Option, Some}
 use Rattle.std.specs.Fmt.{decimal}
 use Rattle.w16_machine.specs.Machine as machine
-use Rattle.w16_machine.specs.Machine.{Event}
+use Rattle.w16_machine.specs.LocalMachine.{Event}
 
 -- before the first line
 abbrev pub zeros : List ℕ

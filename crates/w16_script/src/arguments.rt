@@ -1,21 +1,17 @@
 //! The arguments of commands.
-ghost use Rattle.std.specs.Prelude.{◌≡◌, ℕ, ◌^◌, ◌<◌, ◌≤◌, ◌↔◌, IsTrue, IfSome, IfNone, List, [], ◌∷◌, length};
+ghost use Rattle.std.specs.Prelude.{◌≡◌, ℕ, ◌≤◌, IfSome, IfNone, List, [], ◌∷◌};
 ghost use Rattle.w16_script.specs.Words.{words_of};
 ghost use Rattle.w16_script.specs.Numbers.{IsNumber};
-ghost use Rattle.w16_script.specs.Grammar.{Argument as Value, IsArgument, AreArguments, word as word_at, dword as dword_at, count as count_at, byte as byte_at, bytes as bytes_at};
-ghost use Rattle.w16_script.specs.Values.{value_of, values_of, Fits, AreFit};
-ghost use Rattle.w16_script.specs.Rooms.{room_of, rooms_in, rooms_with};
+ghost use Rattle.w16_script.specs.declared.arguments.Parameter as asked;
+ghost use Rattle.w16_script.specs.declared.arguments.Parameter.TheVariants as p;
+ghost use Rattle.w16_script.specs.Grammar.{Argument, IsArgument, AreArguments};
 
-use crate::bytes::{MOST_BYTES, bytes as read_bytes};
+use crate::bytes::{MOST_BYTES, bytes};
 use crate::number::number;
 use crate::registers::Registers;
-use crate::words::split_word;
-use arrayvec::ArrayVec;
+use crate::words::{has_no_words, split_word};
 
-/// The most parameters that a command has.
-const MOST_PARAMETERS: usize = 3;
-
-/// What a command asks of a word.
+/// What a command asks of a word. The grammar speaks of these; the code asks by the types below.
 #[derive(Clone, Copy)]
 pub enum Parameter {
     Word,
@@ -26,76 +22,16 @@ pub enum Parameter {
     Bytes,
 }
 
-/// An argument of a command. Bytes are lent.
-#[derive(Clone, Copy)]
-pub enum Argument<'a> {
-    Word(u16),
-    Dword(u32),
-    Count(u32),
-    Byte(u8),
-    Bytes(&'a [u8]),
-}
+/// What a word stands for, by its parameter: a number of its type.
+pub trait Value: Copy {
+    ghost parameter: { asked.Parameter };
 
-// An array in place fills its places with it.
-impl Default for Argument<'_> {
-    fn default() -> Self {
-        Argument::Word(0)
-    }
-}
+    ghost argument: { Self → Argument };
 
-/// The word at a place.
-#[tactic(auto, using(crate::proofs::ArgumentLemmas::at_value))]
-pub fn word(arguments: &[Argument<'_>], place: usize) -> u16
-    ensures { result ≡ word_at (values_of arguments.now) place }
-{
-    match arguments.get(place) {
-        Some(Argument::Word(word)) => *word,
-        _ => 0,
-    }
-}
-
-/// The double word at a place.
-#[tactic(auto, using(crate::proofs::ArgumentLemmas::at_value))]
-pub fn dword(arguments: &[Argument<'_>], place: usize) -> u32
-    ensures { result ≡ dword_at (values_of arguments.now) place }
-{
-    match arguments.get(place) {
-        Some(Argument::Dword(dword)) => *dword,
-        _ => 0,
-    }
-}
-
-/// The count at a place.
-#[tactic(auto, using(crate::proofs::ArgumentLemmas::at_value))]
-pub fn count(arguments: &[Argument<'_>], place: usize) -> u32
-    ensures { result ≡ count_at (values_of arguments.now) place }
-{
-    match arguments.get(place) {
-        Some(Argument::Count(count)) => *count,
-        _ => 0,
-    }
-}
-
-/// The byte at a place.
-#[tactic(auto, using(crate::proofs::ArgumentLemmas::at_value))]
-pub fn byte(arguments: &[Argument<'_>], place: usize) -> u8
-    ensures { result ≡ byte_at (values_of arguments.now) place }
-{
-    match arguments.get(place) {
-        Some(Argument::Byte(byte)) => *byte,
-        _ => 0,
-    }
-}
-
-/// The bytes at a place.
-#[tactic(auto, using(crate::proofs::ArgumentLemmas::at_value))]
-pub fn bytes<'a>(arguments: &[Argument<'a>], place: usize) -> &'a [u8]
-    ensures { result.now ≡ bytes_at (values_of arguments.now) place }
-{
-    match arguments.get(place) {
-        Some(Argument::Bytes(bytes)) => bytes,
-        _ => &[],
-    }
+    /// The value that a word is.
+    fn read(word: &[u8], registers: &Registers) -> Option<Self>
+        ensures found { IfSome result (λ value. IsArgument registers.now word.now parameter (argument value)) }
+        ensures none { IfNone result ((other : Argument) → IsArgument registers.now word.now parameter other → ⊥) };
 }
 
 /// The number that a word is, up to this one.
@@ -107,71 +43,138 @@ fn number_up_to(word: &[u8], most: u32, registers: &Registers) -> Option<u32>
     if number <= most { Some(number) } else { None }
 }
 
-/// The argument that a word is. The room is for bytes, if they are asked.
-fn read_argument<'a>(
-    word: &[u8],
-    parameter: Parameter,
-    registers: &Registers,
-    room: Option<&'a mut [u8; MOST_BYTES]>,
-) -> Option<Argument<'a>>
-    requires { room_of parameter ≤ rooms_with room }
-    ensures found { IfSome result (λ a. IsArgument registers.now word.now parameter (value_of a)) }
-    ensures fits { IfSome result (λ a. Fits parameter a) }
-    ensures none { IfNone result ((value : Value) → IsArgument registers.now word.now parameter value → ⊥) }
-{
-    match parameter {
-        Parameter::Word => {
-            let number = number_up_to(word, 65_535, registers)?;
-            Some(Argument::Word(number as u16))
-        }
-        Parameter::Dword => {
-            let number = number(word, registers)?;
-            Some(Argument::Dword(number))
-        }
-        Parameter::Count(most) => {
-            let number = number_up_to(word, most, registers)?;
-            Some(Argument::Count(number))
-        }
-        Parameter::Byte => {
-            let number = number_up_to(word, 255, registers)?;
-            Some(Argument::Byte(number as u8))
-        }
-        Parameter::Bytes => {
-            let room = room?;
-            let bytes = read_bytes(word, room)?;
-            Some(Argument::Bytes(bytes))
-        }
+/// A word.
+impl Value for u16 {
+    ghost parameter = { p.Word };
+
+    ghost argument = { λ n. Argument.Word n };
+
+    fn read(word: &[u8], registers: &Registers) -> Option<u16> {
+        let number = number_up_to(word, 65_535, registers)?;
+        Some(number as u16)
     }
 }
 
-/// The arguments that the words of the text are. The room is for their bytes, of which one parameter asks at most.
-pub fn read_arguments<'a>(
+/// A double word.
+impl Value for u32 {
+    ghost parameter = { p.Dword };
+
+    ghost argument = { λ n. Argument.Dword n };
+
+    fn read(word: &[u8], registers: &Registers) -> Option<u32> {
+        number(word, registers)
+    }
+}
+
+/// A byte.
+impl Value for u8 {
+    ghost parameter = { p.Byte };
+
+    ghost argument = { λ n. Argument.Byte n };
+
+    fn read(word: &[u8], registers: &Registers) -> Option<u8> {
+        let number = number_up_to(word, 255, registers)?;
+        Some(number as u8)
+    }
+}
+
+/// A number up to this one.
+#[derive(Clone, Copy)]
+pub struct Count<const MOST: u32> {
+    pub number: u32,
+    ghost few: { number ≤ MOST },
+}
+
+impl<const MOST: u32> Value for Count<MOST> {
+    ghost parameter = { p.Count MOST };
+
+    ghost argument = { λ count. Argument.Count count.number };
+
+    fn read(word: &[u8], registers: &Registers) -> Option<Count<MOST>> {
+        let number = number_up_to(word, MOST, registers)?;
+        Some(Count { number })
+    }
+}
+
+/// The value that the next word is, and what stands behind it.
+#[tactic(auto, using(crate::proofs::ArgumentLemmas::no_value))]
+fn split_value<'a, V: Value>(text: &'a [u8], registers: &Registers) -> Option<(V, &'a [u8])>
+    ensures found { IfSome result (λ read. (word : List ℕ) × (words_of text.now ≡ word ∷ words_of read.1.now) × IsArgument registers.now word V.parameter (V.argument read.0)) }
+    ensures none { IfNone result ((word : List ℕ) (rest : List (List ℕ)) (other : Argument) → words_of text.now ≡ word ∷ rest → IsArgument registers.now word V.parameter other → ⊥) }
+{
+    let (word, behind) = split_word(text)?;
+    let value = V::read(word, registers)?;
+    Some((value, behind))
+}
+
+/// No arguments.
+#[tactic(auto, using(crate::proofs::ArgumentLemmas::nothing_left, crate::proofs::ArgumentLemmas::something_left))]
+pub fn nothing(text: &[u8], registers: &Registers) -> Option<()>
+    ensures found { IfSome result (λ _. AreArguments registers.now (words_of text.now) [] []) }
+    ensures none { IfNone result ((values : List Argument) → AreArguments registers.now (words_of text.now) [] values → ⊥) }
+{
+    if has_no_words(text) { Some(()) } else { None }
+}
+
+/// The one argument that the text is.
+#[tactic(auto, using(crate::proofs::ArgumentLemmas::more, crate::proofs::ArgumentLemmas::no_first, crate::proofs::ArgumentLemmas::no_rest))]
+pub fn one<V: Value>(text: &[u8], registers: &Registers) -> Option<V>
+    ensures found { IfSome result (λ value. AreArguments registers.now (words_of text.now) (V.parameter ∷ []) (V.argument value ∷ [])) }
+    ensures none { IfNone result ((values : List Argument) → AreArguments registers.now (words_of text.now) (V.parameter ∷ []) values → ⊥) }
+{
+    let (value, rest) = split_value(text, registers)?;
+    nothing(rest, registers)?;
+    Some(value)
+}
+
+/// The two arguments that the text is.
+#[tactic(auto, using(crate::proofs::ArgumentLemmas::more, crate::proofs::ArgumentLemmas::no_first, crate::proofs::ArgumentLemmas::no_rest))]
+pub fn two<V: Value, W: Value>(text: &[u8], registers: &Registers) -> Option<(V, W)>
+    ensures found { IfSome result (λ values. AreArguments registers.now (words_of text.now) (V.parameter ∷ W.parameter ∷ []) (V.argument values.0 ∷ W.argument values.1 ∷ [])) }
+    ensures none { IfNone result ((values : List Argument) → AreArguments registers.now (words_of text.now) (V.parameter ∷ W.parameter ∷ []) values → ⊥) }
+{
+    let (first, rest) = split_value(text, registers)?;
+    let second = one(rest, registers)?;
+    Some((first, second))
+}
+
+/// The three arguments that the text is.
+#[tactic(auto, using(crate::proofs::ArgumentLemmas::more, crate::proofs::ArgumentLemmas::no_first, crate::proofs::ArgumentLemmas::no_rest))]
+pub fn three<V: Value, W: Value, X: Value>(text: &[u8], registers: &Registers) -> Option<(V, W, X)>
+    ensures found { IfSome result (λ values. AreArguments registers.now (words_of text.now) (V.parameter ∷ W.parameter ∷ X.parameter ∷ []) (V.argument values.0 ∷ W.argument values.1 ∷ X.argument values.2 ∷ [])) }
+    ensures none { IfNone result ((values : List Argument) → AreArguments registers.now (words_of text.now) (V.parameter ∷ W.parameter ∷ X.parameter ∷ []) values → ⊥) }
+{
+    let (first, rest) = split_value(text, registers)?;
+    let (second, third) = two(rest, registers)?;
+    Some((first, second, third))
+}
+
+/// The bytes that the text is, in the room that is lent.
+#[tactic(auto, using(crate::proofs::ArgumentLemmas::more, crate::proofs::ArgumentLemmas::no_first, crate::proofs::ArgumentLemmas::no_rest))]
+fn bytes_alone<'a>(
     text: &[u8],
-    parameters: &[Parameter],
     registers: &Registers,
     room: &'a mut [u8; MOST_BYTES],
-) -> Option<ArrayVec<Argument<'a>, MOST_PARAMETERS>>
-    requires few { length parameters.now ≤ MOST_PARAMETERS }
-    requires one { rooms_in parameters.now ≤ 1 }
-    ensures found { IfSome result (λ a. AreArguments registers.now (words_of text.now) parameters.now (values_of a.items)) }
-    ensures fits { IfSome result (λ a. AreFit parameters.now a.items) }
-    ensures none { IfNone result ((values : List Value) → AreArguments registers.now (words_of text.now) parameters.now values → ⊥) }
+) -> Option<&'a [u8]>
+    ensures found { IfSome result (λ bytes. AreArguments registers.now (words_of text.now) (p.Bytes ∷ []) (Argument.Bytes bytes.now ∷ [])) }
+    ensures none { IfNone result ((values : List Argument) → AreArguments registers.now (words_of text.now) (p.Bytes ∷ []) values → ⊥) }
 {
-    let mut arguments = ArrayVec::new();
-    let mut rest = text;
-    let mut room = Some(room);
-    for parameter in parameters {
-        let (word, behind) = split_word(rest)?;
-        let lent = match parameter {
-            Parameter::Bytes => room.take(),
-            _ => None,
-        };
-        let argument = read_argument(word, *parameter, registers, lent)?;
-        arguments.push(argument);
-        rest = behind;
-    }
-    match split_word(rest) {
-        Some(_) => None,
-        None => Some(arguments),
-    }
+    let (word, rest) = split_word(text)?;
+    nothing(rest, registers)?;
+    bytes(word, room)
+}
+
+/// The two arguments that the text is, the second of them bytes, in the room that is lent.
+#[tactic(auto, using(crate::proofs::ArgumentLemmas::more, crate::proofs::ArgumentLemmas::no_first, crate::proofs::ArgumentLemmas::no_rest))]
+pub fn with_bytes<'a, V: Value>(
+    text: &[u8],
+    registers: &Registers,
+    room: &'a mut [u8; MOST_BYTES],
+) -> Option<(V, &'a [u8])>
+    ensures found { IfSome result (λ values. AreArguments registers.now (words_of text.now) (V.parameter ∷ p.Bytes ∷ []) (V.argument values.0 ∷ Argument.Bytes values.1.now ∷ [])) }
+    ensures none { IfNone result ((values : List Argument) → AreArguments registers.now (words_of text.now) (V.parameter ∷ p.Bytes ∷ []) values → ⊥) }
+{
+    let (value, rest) = split_value(text, registers)?;
+    let bytes = bytes_alone(rest, registers, room)?;
+    Some((value, bytes))
 }

@@ -37,7 +37,7 @@ fn entry(table: &[u8; 256], byte: u8) -> u8
 }
 
 /// What a byte stands for as a digit, its letters in either case; [`NO_DIGIT`] where it is none.
-fn value_of(byte: u8) -> u8
+pub fn value_of(byte: u8) -> u8
     ensures { MatchOption (hex_digit_value byte) (result ≡ NO_DIGIT) (λ value. (result ≡ value) × (value < NO_DIGIT)) }
 {
     entry(VALUES, byte)

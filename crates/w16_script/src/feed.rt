@@ -1,5 +1,5 @@
 //! Bytes of a script, in pieces.
-ghost use Rattle.std.specs.Prelude.{◌≡◌, ◌+◌, ◌<◌, ◌≤◌, [], ◌∷◌, ◌++◌, length, OnOk, OnErr, IfOk, IfErr, IfSome, IfNone, if◌then◌else◌};
+ghost use Rattle.std.specs.Prelude.{◌≡◌, ◌+◌, ◌<◌, ◌≤◌, [], ◌∷◌, ◌++◌, length, IsTrue, OnOk, OnErr, IfOk, IfErr, IfSome, IfNone, if◌then◌else◌};
 ghost use Rattle.std.specs.Io.BufRead.{strip_last};
 ghost use Rattle.w16_script.specs.Text.{ended, HasNoLf};
 ghost use Rattle.w16_script.specs.Progress.{with_bytes, IsWithinLimits, Overflows, room_of};
@@ -70,6 +70,13 @@ impl Unfinished {
         }
         Ok(())
     }
+
+    /// Whether a line may be run where it stands: none is unfinished, and it passes no limit.
+    fn takes_whole(&self, line: &[u8]) -> bool
+        ensures { IsTrue result → (self.now.line.items ≡ []) × (self.now.lines < MOST_LINES) × (length line.now ≤ LONGEST_LINE) }
+    {
+        self.line.is_empty() && self.lines < MOST_LINES && line.len() <= LONGEST_LINE
+    }
 }
 
 /// The line up to the first LF, and what stands behind it.
@@ -117,6 +124,32 @@ fn end_line<W: Write>(
     Ok(())
 }
 
+/// Runs a line that an LF ends, where it stands: to hold it first would copy it, and clear it afterwards.
+fn run_whole<W: Write>(
+    state: &mut Unfinished,
+    writer: &mut W,
+    kernel: &mut Kernel,
+    line: &[u8],
+) -> Result<(), RunFault>
+    requires fits { IsWithinLimits (progress_of state.old) }
+    requires few { state.old.lines < MOST_LINES }
+    requires nothing { state.old.line.items ≡ [] }
+    requires one_line { HasNoLf line.now }
+    requires short { length line.now ≤ LONGEST_LINE }
+    ensures ok { OnOk result (Feeds (W.contents writer.old) (progress_of state.old) (state_of state.old kernel.old) (ended line.now) (W.contents writer.new) (progress_of state.new) (state_of state.new kernel.new)) }
+    ensures within { OnOk result (IsWithinLimits (progress_of state.new)) }
+    ensures room { OnOk result (room_of (progress_of state.new) + length (ended line.now) ≤ room_of (progress_of state.old)) }
+    ensures err { IfErr result (λ fault. FailsAt (W.contents writer.old) (state_of state.old kernel.old) (strip_last 13 line.now) fault (W.contents writer.new) (state_of state.new kernel.new)) }
+{
+    let text = without_cr(line);
+    let replied = run_line(writer, kernel, &mut state.registers, &mut state.rooms, text)?;
+    state.lines += 1;
+    if replied {
+        state.replies += 1;
+    }
+    Ok(())
+}
+
 /// Takes the bytes of a line and the LF that ends it, and runs it.
 fn take_line<W: Write>(
     state: &mut Unfinished,
@@ -131,6 +164,9 @@ fn take_line<W: Write>(
     ensures room { OnOk result (room_of (progress_of state.new) + length (ended line.now) ≤ room_of (progress_of state.old)) }
     ensures err { IfErr result (λ fault. Stops (W.contents writer.old) (progress_of state.old) (state_of state.old kernel.old) (ended line.now) fault (W.contents writer.new) (state_of state.new kernel.new)) }
 {
+    if state.takes_whole(line) {
+        return run_whole(state, writer, kernel, line);
+    }
     state.hold(line)?;
     if state.lines == MOST_LINES {
         return Err(RunFault::TooLong);

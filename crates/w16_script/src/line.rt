@@ -1,18 +1,20 @@
 //! Lines of a script.
 ghost use Rattle.std.specs.Prelude.{◌≡◌, ◌≤◌, ◌<◌, ◌∷◌, ℕ, List, length, IfSome, IfNone, Option, Some};
 ghost use Rattle.w16_script.specs.Words.{words_of};
-ghost use Rattle.w16_machine.specs.Machine.{Command};
+ghost use Rattle.w16_machine.specs.LocalMachine.{Command};
 ghost use Rattle.w16_kernel.specs.Runs.{command_of, IsCall};
-ghost use Rattle.w16_script.specs.Grammar.{Reads, GoesTo, Makes, text_of, parameters_of, command_with};
-ghost use Rattle.w16_script.specs.Values.{values_of, AreFit};
+ghost use Rattle.w16_script.specs.Grammar.{Reads, GoesTo, Makes, text_of};
 ghost use Rattle.w16_script.specs.Lines.{said_of, IsRunnable};
 
-use crate::arguments::{Argument, Parameter, byte, bytes, count, dword, read_arguments, word};
+use crate::arguments::{Count, nothing, one, three, two, with_bytes};
 use crate::bytes::MOST_BYTES;
 use crate::name::{Name, find};
 use crate::registers::{Registers, register};
 use crate::words::split_word;
-use w16_kernel::Call;
+use w16_kernel::{Call, MOST_FILLED, MOST_READ};
+
+/// The most bytes that a `Read` may ask for.
+const READ_AT_MOST: u32 = MOST_READ as u32;
 
 /// What a line says: nothing, nothing that is known, or a command, whose reply goes to the target, if there
 /// is one.
@@ -21,51 +23,6 @@ pub enum Line<'a> {
     Silent,
     Bad,
     Command { target: Option<u8>, call: Call<'a> },
-}
-
-/// The call of a command with these arguments.
-fn build<'a>(name: Name, a: &[Argument<'a>]) -> Call<'a>
-    ensures command { command_of result ≡ command_with name (values_of a.now) }
-    ensures call { AreFit (parameters_of name) a.now → IsCall result }
-{
-    match name {
-        Name::GlobalAlloc => Call::GlobalAlloc {
-            flags: word(a, 0),
-            size: dword(a, 1),
-        },
-        Name::GlobalFree => Call::GlobalFree { handle: word(a, 0) },
-        Name::GlobalLock => Call::GlobalLock { handle: word(a, 0) },
-        Name::GlobalUnlock => Call::GlobalUnlock { handle: word(a, 0) },
-        Name::GlobalSize => Call::GlobalSize { handle: word(a, 0) },
-        Name::GlobalFlags => Call::GlobalFlags { handle: word(a, 0) },
-        Name::GlobalHandle => Call::GlobalHandle {
-            selector: word(a, 0),
-        },
-        Name::GetSelectorBase => Call::GetSelectorBase {
-            selector: word(a, 0),
-        },
-        Name::GetSelectorLimit => Call::GetSelectorLimit {
-            selector: word(a, 0),
-        },
-        Name::GlobalCompact => Call::GlobalCompact { size: dword(a, 0) },
-        Name::GlobalLRUNewest => Call::GlobalLRUNewest { handle: word(a, 0) },
-        Name::GlobalLRUOldest => Call::GlobalLRUOldest { handle: word(a, 0) },
-        Name::Moved => Call::Moved,
-        Name::Walk => Call::Walk,
-        Name::Read => Call::Read {
-            pointer: dword(a, 0),
-            count: count(a, 1),
-        },
-        Name::Write => Call::Write {
-            pointer: dword(a, 0),
-            bytes: bytes(a, 1),
-        },
-        Name::Fill => Call::Fill {
-            pointer: dword(a, 0),
-            count: count(a, 1),
-            byte: byte(a, 2),
-        },
-    }
 }
 
 /// The register before a command, `rN =`, and what stands behind it.
@@ -81,40 +38,174 @@ fn split_target<'a>(word: &[u8], text: &'a [u8]) -> Option<(u8, &'a [u8])>
     }
 }
 
-/// The command of this name and with these parameters that the text makes.
+/// The call of this name that the text makes.
+#[tactic(auto, using(crate::proofs::ArgumentLemmas::makes, crate::proofs::ArgumentLemmas::makes_none))]
 fn call<'a>(
     name: Name,
-    parameters: &[Parameter],
     text: &[u8],
     registers: &Registers,
     room: &'a mut [u8; MOST_BYTES],
 ) -> Option<Call<'a>>
-    requires { parameters.now ≡ parameters_of name }
     ensures found { IfSome result (λ call. Makes registers.now name (words_of text.now) (command_of call)) }
     ensures call { IfSome result (λ call. IsCall call) }
     ensures none { IfNone result ((command : Command) → Makes registers.now name (words_of text.now) command → ⊥) }
 {
-    let arguments = read_arguments(text, parameters, registers, room)?;
-    Some(build(name, arguments.as_slice()))
+    match name {
+        Name::GlobalAlloc => {
+            let (flags, size) = two::<u16, u32>(text, registers)?;
+            Some(Call::GlobalAlloc { flags, size })
+        }
+        Name::GlobalFree => {
+            let handle = one::<u16>(text, registers)?;
+            Some(Call::GlobalFree { handle })
+        }
+        Name::GlobalLock => {
+            let handle = one::<u16>(text, registers)?;
+            Some(Call::GlobalLock { handle })
+        }
+        Name::GlobalUnlock => {
+            let handle = one::<u16>(text, registers)?;
+            Some(Call::GlobalUnlock { handle })
+        }
+        Name::GlobalSize => {
+            let handle = one::<u16>(text, registers)?;
+            Some(Call::GlobalSize { handle })
+        }
+        Name::GlobalFlags => {
+            let handle = one::<u16>(text, registers)?;
+            Some(Call::GlobalFlags { handle })
+        }
+        Name::GlobalHandle => {
+            let selector = one::<u16>(text, registers)?;
+            Some(Call::GlobalHandle { selector })
+        }
+        Name::GetSelectorBase => {
+            let selector = one::<u16>(text, registers)?;
+            Some(Call::GetSelectorBase { selector })
+        }
+        Name::GetSelectorLimit => {
+            let selector = one::<u16>(text, registers)?;
+            Some(Call::GetSelectorLimit { selector })
+        }
+        Name::GlobalCompact => {
+            let size = one::<u32>(text, registers)?;
+            Some(Call::GlobalCompact { size })
+        }
+        Name::GlobalReAlloc => {
+            let (handle, size, flags) = three::<u16, u32, u16>(text, registers)?;
+            Some(Call::GlobalReAlloc {
+                handle,
+                size,
+                flags,
+            })
+        }
+        Name::GlobalDiscard => {
+            let handle = one::<u16>(text, registers)?;
+            Some(Call::GlobalDiscard { handle })
+        }
+        Name::GlobalLRUNewest => {
+            let handle = one::<u16>(text, registers)?;
+            Some(Call::GlobalLRUNewest { handle })
+        }
+        Name::GlobalLRUOldest => {
+            let handle = one::<u16>(text, registers)?;
+            Some(Call::GlobalLRUOldest { handle })
+        }
+        Name::Moved => {
+            nothing(text, registers)?;
+            Some(Call::Moved)
+        }
+        Name::Walk => {
+            nothing(text, registers)?;
+            Some(Call::Walk)
+        }
+        Name::Read => {
+            let (pointer, count) = two::<u32, Count<READ_AT_MOST>>(text, registers)?;
+            Some(Call::Read {
+                pointer,
+                count: count.number,
+            })
+        }
+        Name::Write => {
+            let (pointer, bytes) = with_bytes::<u32>(text, registers, room)?;
+            Some(Call::Write { pointer, bytes })
+        }
+        Name::Fill => {
+            let (pointer, count, byte) = three::<u32, Count<MOST_FILLED>, u8>(text, registers)?;
+            Some(Call::Fill {
+                pointer,
+                count: count.number,
+                byte,
+            })
+        }
+        Name::LocalInit => {
+            let (selector, start, end) = three::<u16, u16, u32>(text, registers)?;
+            Some(Call::LocalInit {
+                selector,
+                start,
+                end,
+            })
+        }
+        Name::LocalAlloc => {
+            let (flags, size) = two::<u16, u16>(text, registers)?;
+            Some(Call::LocalAlloc { flags, size })
+        }
+        Name::LocalReAlloc => {
+            let (name, size, flags) = three::<u16, u16, u16>(text, registers)?;
+            Some(Call::LocalReAlloc { name, size, flags })
+        }
+        Name::LocalDiscard => {
+            let name = one::<u16>(text, registers)?;
+            Some(Call::LocalDiscard { name })
+        }
+        Name::LocalFree => {
+            let name = one::<u16>(text, registers)?;
+            Some(Call::LocalFree { name })
+        }
+        Name::LocalLock => {
+            let name = one::<u16>(text, registers)?;
+            Some(Call::LocalLock { name })
+        }
+        Name::LocalUnlock => {
+            let name = one::<u16>(text, registers)?;
+            Some(Call::LocalUnlock { name })
+        }
+        Name::LocalSize => {
+            let name = one::<u16>(text, registers)?;
+            Some(Call::LocalSize { name })
+        }
+        Name::LocalFlags => {
+            let name = one::<u16>(text, registers)?;
+            Some(Call::LocalFlags { name })
+        }
+        Name::LocalHandle => {
+            let pointer = one::<u16>(text, registers)?;
+            Some(Call::LocalHandle { pointer })
+        }
+        Name::LocalCompact => {
+            let size = one::<u16>(text, registers)?;
+            Some(Call::LocalCompact { size })
+        }
+        Name::DS => {
+            let selector = one::<u16>(text, registers)?;
+            Some(Call::DS { selector })
+        }
+    }
 }
 
-/// The register before a command, if there is one, the command's name with its parameters, and what stands behind it.
-fn head<'a>(
-    word: &[u8],
-    text: &'a [u8],
-) -> Option<(Option<u8>, Name, &'static [Parameter], &'a [u8])>
-    ensures found { IfSome result (λ head. GoesTo (word.now ∷ words_of text.now) head.0 (text_of head.1 ∷ words_of head.3.now)) }
-    ensures parameters { IfSome result (λ head. head.2.now ≡ parameters_of head.1) }
+/// The register before a command, if there is one, the command's name, and what stands behind it.
+fn head<'a>(word: &[u8], text: &'a [u8]) -> Option<(Option<u8>, Name, &'a [u8])>
+    ensures found { IfSome result (λ head. GoesTo (word.now ∷ words_of text.now) head.0 (text_of head.1 ∷ words_of head.2.now)) }
     ensures small { IfSome result (λ head. IfSome head.0 (λ r. r < 100)) }
     ensures none { IfNone result ((target : Option ℕ) (name : Name) (rest : List (List ℕ)) → GoesTo (word.now ∷ words_of text.now) target (text_of name ∷ rest) → ⊥) }
 {
     let Some((register, command)) = split_target(word, text) else {
-        let (name, parameters) = find(word)?;
-        return Some((None, name, parameters, text));
+        let name = find(word)?;
+        return Some((None, name, text));
     };
     let (word, behind) = split_word(command)?;
-    let (name, parameters) = find(word)?;
-    Some((Some(register), name, parameters, behind))
+    let name = find(word)?;
+    Some((Some(register), name, behind))
 }
 
 /// Reads a line, from which its LF and a CR directly before it were taken off, with what the registers have.
@@ -130,10 +221,10 @@ pub fn read_line<'a>(line: &[u8], registers: &Registers, room: &'a mut [u8; MOST
     if word[0] == b';' {
         return Line::Silent;
     }
-    let Some((target, name, parameters, text)) = head(word, behind) else {
+    let Some((target, name, text)) = head(word, behind) else {
         return Line::Bad;
     };
-    match call(name, parameters, text, registers, room) {
+    match call(name, text, registers, room) {
         Some(call) => Line::Command { target, call },
         None => Line::Bad,
     }

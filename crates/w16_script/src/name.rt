@@ -1,9 +1,6 @@
 //! The names of commands.
 ghost use Rattle.std.specs.Prelude.{◌≡◌, ◌↔◌, IsTrue, IfSome, IfNone};
-ghost use Rattle.w16_script.specs.Grammar.{text_of, parameters_of};
-
-use crate::arguments::Parameter::{self, Byte, Bytes, Count, Dword, Word};
-use w16_kernel::{MOST_FILLED, MOST_READ};
+ghost use Rattle.w16_script.specs.Grammar.{text_of};
 
 /// A command, without its arguments.
 #[derive(Clone, Copy)]
@@ -18,6 +15,8 @@ pub enum Name {
     GetSelectorBase,
     GetSelectorLimit,
     GlobalCompact,
+    GlobalReAlloc,
+    GlobalDiscard,
     GlobalLRUNewest,
     GlobalLRUOldest,
     Moved,
@@ -25,6 +24,18 @@ pub enum Name {
     Read,
     Write,
     Fill,
+    LocalInit,
+    LocalAlloc,
+    LocalReAlloc,
+    LocalDiscard,
+    LocalFree,
+    LocalLock,
+    LocalUnlock,
+    LocalSize,
+    LocalFlags,
+    LocalHandle,
+    LocalCompact,
+    DS,
 }
 
 /// Whether a word is this text.
@@ -34,48 +45,119 @@ fn is(word: &[u8], text: &[u8]) -> bool
     word == text
 }
 
-/// The command of this name, whose case counts, and its parameters.
-pub fn find(word: &[u8]) -> Option<(Name, &'static [Parameter])>
-    ensures found { IfSome result (λ found. word.now ≡ text_of found.0) }
-    ensures parameters { IfSome result (λ found. found.1.now ≡ parameters_of found.0) }
-    ensures none { IfNone result ((name : _) → word.now ≡ text_of name → ⊥) }
+/// How a command is written.
+fn spelling(name: Name) -> &'static [u8]
+    ensures { result.now ≡ text_of name }
+{
+    match name {
+        Name::GlobalAlloc => b"GlobalAlloc",
+        Name::GlobalFree => b"GlobalFree",
+        Name::GlobalLock => b"GlobalLock",
+        Name::GlobalUnlock => b"GlobalUnlock",
+        Name::GlobalSize => b"GlobalSize",
+        Name::GlobalFlags => b"GlobalFlags",
+        Name::GlobalHandle => b"GlobalHandle",
+        Name::GetSelectorBase => b"GetSelectorBase",
+        Name::GetSelectorLimit => b"GetSelectorLimit",
+        Name::GlobalCompact => b"GlobalCompact",
+        Name::GlobalReAlloc => b"GlobalReAlloc",
+        Name::GlobalDiscard => b"GlobalDiscard",
+        Name::GlobalLRUNewest => b"GlobalLRUNewest",
+        Name::GlobalLRUOldest => b"GlobalLRUOldest",
+        Name::Moved => b"Moved",
+        Name::Walk => b"Walk",
+        Name::Read => b"Read",
+        Name::Write => b"Write",
+        Name::Fill => b"Fill",
+        Name::LocalInit => b"LocalInit",
+        Name::LocalAlloc => b"LocalAlloc",
+        Name::LocalReAlloc => b"LocalReAlloc",
+        Name::LocalDiscard => b"LocalDiscard",
+        Name::LocalFree => b"LocalFree",
+        Name::LocalLock => b"LocalLock",
+        Name::LocalUnlock => b"LocalUnlock",
+        Name::LocalSize => b"LocalSize",
+        Name::LocalFlags => b"LocalFlags",
+        Name::LocalHandle => b"LocalHandle",
+        Name::LocalCompact => b"LocalCompact",
+        Name::DS => b"DS",
+    }
+}
+
+/// The only command that this word may name: its length and a letter tell.
+fn guess(word: &[u8]) -> Option<Name>
+    ensures only { IfSome result (λ guess. (name : Name) → word.now ≡ text_of name → name ≡ guess) }
+    ensures none { IfNone result ((name : Name) → word.now ≡ text_of name → ⊥) }
 {
     match word.len() {
-        4 => match word {
-            _ if is(word, b"Walk") => Some((Name::Walk, &[])),
-            _ if is(word, b"Read") => Some((Name::Read, &[Dword, Count(MOST_READ as u32)])),
-            _ if is(word, b"Fill") => Some((Name::Fill, &[Dword, Count(MOST_FILLED), Byte])),
+        2 => Some(Name::DS),
+        4 => match word[0] {
+            b'W' => Some(Name::Walk),
+            b'R' => Some(Name::Read),
+            b'F' => Some(Name::Fill),
             _ => None,
         },
-        5 => match word {
-            _ if is(word, b"Moved") => Some((Name::Moved, &[])),
-            _ if is(word, b"Write") => Some((Name::Write, &[Dword, Bytes])),
+        5 => match word[0] {
+            b'M' => Some(Name::Moved),
+            b'W' => Some(Name::Write),
             _ => None,
         },
-        10 => match word {
-            _ if is(word, b"GlobalFree") => Some((Name::GlobalFree, &[Word])),
-            _ if is(word, b"GlobalLock") => Some((Name::GlobalLock, &[Word])),
-            _ if is(word, b"GlobalSize") => Some((Name::GlobalSize, &[Word])),
+        9 => match word[5] {
+            b'I' => Some(Name::LocalInit),
+            b'F' => Some(Name::LocalFree),
+            b'L' => Some(Name::LocalLock),
+            b'S' => Some(Name::LocalSize),
             _ => None,
         },
-        11 => match word {
-            _ if is(word, b"GlobalAlloc") => Some((Name::GlobalAlloc, &[Word, Dword])),
-            _ if is(word, b"GlobalFlags") => Some((Name::GlobalFlags, &[Word])),
+        10 => match word[7] {
+            b'r' => Some(Name::GlobalFree),
+            b'o' => Some(Name::GlobalLock),
+            b'i' => Some(Name::GlobalSize),
+            b'l' => Some(Name::LocalAlloc),
+            b'a' => Some(Name::LocalFlags),
             _ => None,
         },
-        12 => match word {
-            _ if is(word, b"GlobalUnlock") => Some((Name::GlobalUnlock, &[Word])),
-            _ if is(word, b"GlobalHandle") => Some((Name::GlobalHandle, &[Word])),
+        11 => match word[8] {
+            b'l' => Some(Name::GlobalAlloc),
+            b'a' => Some(Name::GlobalFlags),
+            b'o' => Some(Name::LocalUnlock),
+            b'd' => Some(Name::LocalHandle),
             _ => None,
         },
-        13 if is(word, b"GlobalCompact") => Some((Name::GlobalCompact, &[Dword])),
-        15 => match word {
-            _ if is(word, b"GetSelectorBase") => Some((Name::GetSelectorBase, &[Word])),
-            _ if is(word, b"GlobalLRUNewest") => Some((Name::GlobalLRUNewest, &[Word])),
-            _ if is(word, b"GlobalLRUOldest") => Some((Name::GlobalLRUOldest, &[Word])),
+        12 => match word[11] {
+            b'k' => Some(Name::GlobalUnlock),
+            b'e' => Some(Name::GlobalHandle),
+            b'c' => Some(Name::LocalReAlloc),
+            b'd' => Some(Name::LocalDiscard),
+            b't' => Some(Name::LocalCompact),
             _ => None,
         },
-        16 if is(word, b"GetSelectorLimit") => Some((Name::GetSelectorLimit, &[Word])),
+        13 => match word[6] {
+            b'C' => Some(Name::GlobalCompact),
+            b'R' => Some(Name::GlobalReAlloc),
+            b'D' => Some(Name::GlobalDiscard),
+            _ => None,
+        },
+        15 => match word[9] {
+            b'o' => Some(Name::GetSelectorBase),
+            b'N' => Some(Name::GlobalLRUNewest),
+            b'O' => Some(Name::GlobalLRUOldest),
+            _ => None,
+        },
+        16 => Some(Name::GetSelectorLimit),
         _ => None,
+    }
+}
+
+/// The command of this name, whose case counts.
+pub fn find(word: &[u8]) -> Option<Name>
+    ensures found { IfSome result (λ name. word.now ≡ text_of name) }
+    ensures none { IfNone result ((name : Name) → word.now ≡ text_of name → ⊥) }
+{
+    let name = guess(word)?;
+    if is(word, spelling(name)) {
+        Some(name)
+    } else {
+        None
     }
 }

@@ -1,11 +1,23 @@
 //! Numbers in text.
 ghost use Rattle.std.specs.Prelude.{◌≡◌, ℕ, ◌+◌, ◌*◌, ◌^◌, ◌<◌, ◌≤◌, IfSome, IfNone, Some};
+ghost use Rattle.std.specs.Char.{digit_value};
 ghost use Rattle.w16_script.specs.Numbers.{IsDigits, IsLiteral, IsForm, IsOfRegister, IsNumber};
 
+use crate::bytes::value_of;
 use crate::registers::{Registers, split_register};
 
 /// How many values a word has.
 const WORDS: u32 = 65_536;
+
+/// The digit of the base that a byte is.
+fn digit_of(byte: u8, base: u32) -> Option<u32>
+    requires { base ≤ 16 }
+    ensures found { IfSome result (λ digit. (digit ≡ digit_value byte) × (digit < base)) }
+    ensures none { IfNone result (base ≤ digit_value byte) }
+{
+    let digit = u32::from(value_of(byte));
+    if digit < base { Some(digit) } else { None }
+}
 
 /// The number that digits of the base stand for.
 fn digits(text: &[u8], base: u32) -> Option<u32>
@@ -15,7 +27,7 @@ fn digits(text: &[u8], base: u32) -> Option<u32>
 {
     let mut value: u32 = 0;
     for byte in text {
-        let digit = char::from(*byte).to_digit(base)?;
+        let digit = digit_of(*byte, base)?;
         value = value.checked_mul(base)?.checked_add(digit)?;
     }
     Some(value)

@@ -10,17 +10,18 @@ ghost use Rattle.w16_script.specs.Feeding.{FailsAt};
 use crate::bytes::MOST_BYTES;
 use crate::line::{Line, read_line};
 use crate::outcome::RunFault;
-use crate::print::{print_error, print_reply};
+use crate::print::{TEXT_ROOM, TextRoom, write_error, write_reply};
 use crate::registers::Registers;
 use crate::walk::print_walk;
-use std::io::{self, Write};
+use std::io::{ErrorKind, Write};
 use w16_kernel::{Kernel, MOST_READ, Reply};
 
-/// Room for the bytes of one line: those that it writes, and those that it reads.
+/// Room for the bytes of one line: those that it writes, those that it reads, and those of its reply's text.
 #[derive(Drop)]
 pub struct Rooms {
     written: [u8; MOST_BYTES],
     read: [u8; MOST_READ],
+    text: TextRoom,
 }
 
 impl Rooms {
@@ -28,18 +29,24 @@ impl Rooms {
         Rooms {
             written: [0; MOST_BYTES],
             read: [0; MOST_READ],
+            text: [0; TEXT_ROOM],
         }
     }
 }
 
 /// Prints what is shown for a reply, in the world that its command left.
-fn print_shown<W: Write>(writer: &mut W, kernel: &Kernel, reply: &Reply<'_>) -> io::Result<()>
+fn print_shown<W: Write>(
+    writer: &mut W,
+    kernel: &Kernel,
+    reply: &Reply<'_>,
+    room: &mut TextRoom,
+) -> Result<(), ErrorKind>
     ensures ok { OnOk result ((output : List ℕ) × Shows kernel.now (reply_of reply.now) output × Appends (W.contents writer.old) (W.contents writer.new) output) }
     ensures err { OnErr result ((output : List ℕ) × Shows kernel.now (reply_of reply.now) output × AppendsFront (W.contents writer.old) (W.contents writer.new) output) }
 {
     match reply {
         Reply::Walk(_) => print_walk(writer, kernel),
-        _ => print_reply(writer, reply),
+        _ => write_reply(writer, reply, room),
     }
 }
 
@@ -57,14 +64,14 @@ pub fn run_line<W: Write>(
 {
     match read_line(line, registers, &mut rooms.written) {
         Line::Silent => Ok(false),
-        Line::Bad => match print_error(writer) {
+        Line::Bad => match write_error(writer) {
             Ok(()) => Ok(true),
             Err(_) => Err(RunFault::Write),
         },
         Line::Command { target, call } => match kernel.call(&call, &mut rooms.read) {
             Ok(reply) => {
                 registers.store(target, &reply);
-                match print_shown(writer, kernel, &reply) {
+                match print_shown(writer, kernel, &reply, &mut rooms.text) {
                     Ok(()) => Ok(true),
                     Err(_) => Err(RunFault::Write),
                 }

@@ -9,7 +9,7 @@ ghost use Rattle.w16_script.specs.Printed.{kind_text, owner_text, item_text, wal
 use crate::print::{append, append_digits, print_end};
 use crate::write::write_whole;
 use arrayvec::ArrayVec;
-use std::io::{Result, Write};
+use std::io::{self, ErrorKind, Write};
 use w16_kernel::Kernel;
 use w16_model::{Item, Kind, Owner};
 
@@ -29,7 +29,7 @@ fn kind_name(kind: Kind) -> &'static [u8]
 }
 
 /// Appends what a walk says of an object. An error is that there was no room.
-fn append_owner(line: &mut ItemLine, owner: Owner) -> Result<()>
+fn append_owner(line: &mut ItemLine, owner: Owner) -> io::Result<()>
     requires name { owner.name < 2 ^ 16 }
     requires room { array_vec_len line.old ≤ 18 }
     ensures ok { OnOk result (line.new.items ≡ line.old.items ++ owner_text (Some owner)) }
@@ -43,7 +43,7 @@ fn append_owner(line: &mut ItemLine, owner: Owner) -> Result<()>
 }
 
 /// An item's line.
-fn item_line(item: &Item) -> Result<ItemLine>
+fn item_line(item: &Item) -> io::Result<ItemLine>
     requires { IfSome item.now.owner (λ owner. owner.name < 2 ^ 16) }
     ensures { IfOk result (λ line. line.items ≡ item_text item.now) }
 {
@@ -61,19 +61,21 @@ fn item_line(item: &Item) -> Result<ItemLine>
 }
 
 /// Prints an item as one line. It fails as `print_reply` does.
-fn print_item<W: Write>(writer: &mut W, item: &Item) -> Result<()>
+fn print_item<W: Write>(writer: &mut W, item: &Item) -> Result<(), ErrorKind>
     requires { IfSome item.now.owner (λ owner. owner.name < 2 ^ 16) }
     ensures ok { OnOk result (Appends (W.contents writer.old) (W.contents writer.new) (item_text item.now)) }
     ensures err { OnErr result (AppendsFront (W.contents writer.old) (W.contents writer.new) (item_text item.now)) }
 {
-    let line = item_line(item)?;
-    write_whole(writer, line.as_slice())
+    match item_line(item) {
+        Ok(line) => write_whole(writer, line.as_slice()),
+        Err(error) => Err(error.kind()),
+    }
 }
 
 /// Prints the walk of the heap: a line for each item, and `end`. It fails as `print_reply` does, after a front of these lines.
-pub fn print_walk<W: Write>(writer: &mut W, kernel: &Kernel) -> Result<()>
-    ensures ok { OnOk result ((items : List Item) × IsWorldWalk kernel.now items × Appends (W.contents writer.old) (W.contents writer.new) (walk_text items)) }
-    ensures err { OnErr result ((items : List Item) × IsWorldWalk kernel.now items × AppendsFront (W.contents writer.old) (W.contents writer.new) (walk_text items)) }
+pub fn print_walk<W: Write>(writer: &mut W, kernel: &Kernel) -> Result<(), ErrorKind>
+    ensures ok { OnOk result ((items : List Item) × IsWorldWalk kernel.now.world items × Appends (W.contents writer.old) (W.contents writer.new) (walk_text items)) }
+    ensures err { OnErr result ((items : List Item) × IsWorldWalk kernel.now.world items × AppendsFront (W.contents writer.old) (W.contents writer.new) (walk_text items)) }
 {
     let mut from = 0;
     'items: while let Some(item) = kernel.walk_from(from) {

@@ -1,8 +1,6 @@
 //! A line, word by word.
-ghost use Rattle.std.specs.Prelude.{◌≡◌, ◌<◌, ◌≤◌, ◌++◌, [], ◌∷◌, true, false, length, List, ℕ, IfNone, IfSome, slice_index};
+ghost use Rattle.std.specs.Prelude.{◌≡◌, ◌<◌, ◌≤◌, ◌↔◌, [], ◌∷◌, true, false, length, List, ℕ, IsTrue, IfNone, IfSome, slice_index};
 ghost use Rattle.w16_script.specs.Words.{words_of, is_blank};
-
-use memchr::memchr2;
 
 /// Whether a byte is a space or a tab.
 fn blank(byte: u8) -> bool
@@ -26,16 +24,18 @@ fn without_blanks(text: &[u8]) -> &[u8]
     rest
 }
 
-/// How many bytes come before the first blank.
+/// How many bytes come before the first blank. Words are short, so a plain loop serves better than `memchr2`.
 fn word_length(text: &[u8]) -> usize
     ensures within { result ≤ length text.now }
     ensures before { (k : ℕ) → k < result → is_blank (slice_index text.now k) ≡ false }
     ensures stop { result < length text.now → is_blank (slice_index text.now result) ≡ true }
 {
-    match memchr2(b' ', b'\t', text) {
-        Some(at) => at,
-        None => text.len(),
+    'bytes: for at in 0..text.len() {
+        if blank(text[at]) {
+            return at;
+        }
     }
+    text.len()
 }
 
 /// The first word and what stands behind it. There is none only where there are but blanks.
@@ -52,4 +52,11 @@ pub fn split_word(text: &[u8]) -> Option<(&[u8], &[u8])>
     let length = word_length(rest);
     let (word, behind) = rest.split_at(length);
     Some((word, behind))
+}
+
+/// Whether a text has no words.
+pub fn has_no_words(text: &[u8]) -> bool
+    ensures { IsTrue result ↔ (words_of text.now ≡ []) }
+{
+    without_blanks(text).is_empty()
 }

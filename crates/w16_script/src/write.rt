@@ -3,28 +3,26 @@ ghost use Rattle.std.specs.Prelude.{◌≤◌, OnOk, OnErr, IfOk, take, length};
 ghost use Rattle.std.specs.Io.KnownBytes.{Appends, Keeps};
 ghost use Rattle.w16_script.specs.Written.{AppendsFront};
 
-use std::io::{Error, ErrorKind, Result, Write};
+use std::io::{self, Error, ErrorKind, Write};
 
 /// One write. An interruption has written nothing, and is no fault.
-fn write_some<W: Write>(writer: &mut W, bytes: &[u8]) -> Result<usize>
+fn write_some<W: Write>(writer: &mut W, bytes: &[u8]) -> Result<usize, ErrorKind>
     ensures ok { IfOk result (λ n. (n ≤ length bytes.now) × Appends (W.contents writer.old) (W.contents writer.new) (take n bytes.now)) }
     ensures err { OnErr result (Keeps (W.contents writer.old) (W.contents writer.new)) }
 {
     match writer.write(bytes) {
-        Ok(0) => Err(Error::from(ErrorKind::WriteZero)),
+        Ok(0) => Err(ErrorKind::WriteZero),
         Ok(count) => Ok(count),
-        Err(error) => {
-            if error.kind() == ErrorKind::Interrupted {
-                Ok(0)
-            } else {
-                Err(error)
-            }
-        }
+        Err(error) => match error.kind() {
+            ErrorKind::Interrupted => Ok(0),
+            kind => Err(kind),
+        },
     }
 }
 
 /// Writes all the bytes, or fails after a front of them: where the writer failed, or took nothing.
-pub fn write_whole<W: Write>(writer: &mut W, bytes: &[u8]) -> Result<()>
+/// Of the writer's error only the kind is kept: an `io::Error` is large, and each `Result` has room for one.
+pub fn write_whole<W: Write>(writer: &mut W, bytes: &[u8]) -> Result<(), ErrorKind>
     ensures ok { OnOk result (Appends (W.contents writer.old) (W.contents writer.new) bytes.now) }
     ensures err { OnErr result (AppendsFront (W.contents writer.old) (W.contents writer.new) bytes.now) }
 {
@@ -39,11 +37,11 @@ pub fn write_whole<W: Write>(writer: &mut W, bytes: &[u8]) -> Result<()>
     if at == bytes.len() {
         return Ok(());
     }
-    Err(Error::from(ErrorKind::TimedOut))
+    Err(ErrorKind::TimedOut)
 }
 
 /// Flushes the writer, tried again where it was interrupted. What it holds stays.
-pub fn flush_writer<W: Write>(writer: &mut W) -> Result<()>
+pub fn flush_writer<W: Write>(writer: &mut W) -> io::Result<()>
     ensures { Keeps (W.contents writer.old) (W.contents writer.new) }
 {
     'tries: for _ in 0..u64::MAX {

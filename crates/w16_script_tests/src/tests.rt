@@ -146,6 +146,30 @@ fn reads_compactions(rt: HostRuntime) {
 }
 
 #[test]
+fn reads_reallocations(rt: HostRuntime) {
+    let mut room = [0; MOST_BYTES];
+    assert!(rt;
+        matches!(
+            call_of(b"GlobalReAlloc 0x106 0x10000 0x42", &mut room),
+            Some(Call::GlobalReAlloc {
+                handle: 0x106,
+                size: 65_536,
+                flags: 0x42,
+            })
+        )
+    );
+    assert!(rt;
+        matches!(
+            call_of(b"GlobalDiscard 0x106", &mut room),
+            Some(Call::GlobalDiscard { handle: 0x106 })
+        )
+    );
+    assert!(rt; call_of(b"GlobalReAlloc 0x106 32", &mut room).is_none());
+    assert!(rt; call_of(b"GlobalReAlloc 0x106 32 0x10000", &mut room).is_none());
+    assert!(rt; call_of(b"GlobalDiscard 0x106 0", &mut room).is_none());
+}
+
+#[test]
 fn reads_what_is_asked_of_the_order(rt: HostRuntime) {
     let mut room = [0; MOST_BYTES];
     assert!(rt;

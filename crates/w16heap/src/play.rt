@@ -1,6 +1,6 @@
 //! Runs of a script on a new machine.
 ghost use Rattle.std.specs.Prelude.{◌≡◌, OnOk, IfOk, IfErr};
-ghost use Rattle.w16_machine.specs.World.{empty_world};
+ghost use Rattle.w16_machine.specs.Local.{empty_local_world};
 ghost use Rattle.w16heap.specs.Faults.{IsMemorySize, IsSelectorCount, IsSizeFault};
 
 use crate::fault::Fault;
@@ -32,7 +32,7 @@ fn check(options: &Options<'_>) -> Result<(), Fault>
 /// The machine that the options ask for, in which nothing is allocated. An error is want of memory.
 fn machine(alloc: Global, options: &Options<'_>) -> Result<Kernel, Fault>
     requires { IsMemorySize options.now.memory × IsSelectorCount options.now.selectors }
-    ensures ok { IfOk result (λ kernel. kernel ≡ empty_world options.now.memory options.now.selectors) }
+    ensures ok { IfOk result (λ kernel. kernel ≡ empty_local_world options.now.memory options.now.selectors) }
     ensures err { IfErr result (λ fault. fault ≡ Fault.Memory) }
 {
     Kernel::new(alloc, options.memory, options.selectors).map_err(|_| Fault::Memory)

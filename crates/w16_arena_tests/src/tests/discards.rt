@@ -1,13 +1,11 @@
 //! Numbers of discards, as in the plain program.
 
-use super::{AS_IT_STANDS, Answer, DISCARDING, SLIDING, Step, act, in_order, made};
+use super::bench::{Answer, Bench, Step};
+use super::{AS_IT_STANDS, DISCARDING, SLIDING};
 use std::alloc::{AllocError, Global};
 use std::process::Abort;
 use std::test::Fail;
-use w16_arena::Arena;
-use w16_holes::SideHoles;
-use w16_model::{Block, Kind, Snapshot, Way};
-use w16_region::Region;
+use w16_model::{Block, Hold, Kind, Snapshot, Way};
 
 /// A heap that some calls leave, and requests there with how many discards they make, if they are answered.
 #[derive(Clone, Copy)]
@@ -107,96 +105,169 @@ fn room_of(answer: Answer) -> Option<u32> {
     }
 }
 
-/// The blocks of an arena by address.
-fn blocks(
-    alloc: Global,
-    arena: &Arena<SideHoles>,
-    region: &Region,
-) -> Result<Vec<Block>, AllocError> {
-    let mut blocks = Vec::new(alloc);
-    let mut from = 0;
-    for _ in 0..arena.cap() {
-        if let Some(block) = arena.next_block(region, from) {
-            blocks.push(block)?;
-            from = block.at.saturating_add(1);
+/// A heap as it stands, for the plain program.
+#[derive(Drop)]
+pub(super) struct Plain {
+    blocks: Vec<Block>,
+    order: Vec<u32>,
+}
+
+impl Plain {
+    pub fn of(alloc: Global, bench: &Bench) -> Result<Plain, AllocError> {
+        let blocks = bench.blocks(alloc)?;
+        let order = bench.order(alloc)?;
+        Ok(Plain { blocks, order })
+    }
+
+    fn snapshot(&self) -> Snapshot<'_> {
+        Snapshot {
+            lo: 0,
+            hi: 256,
+            blocks: &self.blocks,
+            order: &self.order,
         }
     }
-    Ok(blocks)
-}
 
-/// The heap of an arena, for the plain program.
-fn plain<'a>(arena: &Arena<SideHoles>, blocks: &'a [Block], order: &'a [u32]) -> Snapshot<'a> {
-    let bounds = arena.bounds();
-    Snapshot {
-        lo: bounds.from,
-        hi: bounds.to,
-        blocks,
-        order,
+    /// Those that a request may discard, the least recently used first.
+    pub fn eligible(&self, alloc: Global, about: Option<u32>) -> Result<Vec<u32>, AllocError> {
+        self.snapshot().eligible(alloc, about)
+    }
+
+    /// How many a request for so many bytes for an id discards, if it is answered.
+    fn prefix(
+        &self,
+        rt: &impl Abort,
+        alloc: Global,
+        asked: (u32, u32, Way),
+    ) -> Result<Option<usize>, AllocError> {
+        let (id, size, way) = asked;
+        let snapshot = self.snapshot();
+        assert!(rt; snapshot.is_placed());
+        snapshot.prefix(alloc, size, Some(id), way)
+    }
+
+    /// How many the growth of an object to so many bytes discards, if it is answered. One that may not move needs the hole behind it.
+    pub fn growth(
+        &self,
+        rt: &impl Abort,
+        alloc: Global,
+        block: Block,
+        asked: (u32, Way),
+    ) -> Result<Option<usize>, AllocError> {
+        let (size, way) = asked;
+        let snapshot = self.snapshot();
+        assert!(rt; snapshot.is_placed());
+        if block.hold == Hold::Loose || way.may_move {
+            return snapshot.growth(alloc, size, block.id, way);
+        }
+        Ok(snapshot.fits_in_place(size, block.id).then_some(0))
+    }
+
+    /// How many discards so many bytes need.
+    fn needed(&self, rt: &impl Abort, alloc: Global, n: u32) -> Result<Option<usize>, AllocError> {
+        let snapshot = self.snapshot();
+        assert!(rt; snapshot.is_placed());
+        snapshot.needed(alloc, n, None)
+    }
+
+    /// The longest hole that there could be with so many discards.
+    fn room_for(&self, rt: &impl Abort, alloc: Global, count: usize) -> Result<u32, AllocError> {
+        let snapshot = self.snapshot();
+        assert!(rt; snapshot.is_placed());
+        snapshot.room_for(alloc, count, None)
     }
 }
 
-/// Makes a request in a heap. It discards as many as the plain program says, the least recently used first.
+/// The ids that a request discards by the plain program, or none where it is refused.
+fn discards_of(
+    rt: &impl Abort,
+    alloc: Global,
+    bench: &Bench,
+    asked: (u32, u32, Way),
+) -> Result<Option<Vec<u32>>, AllocError> {
+    let before = Plain::of(alloc, bench)?;
+    let Some(count) = before.prefix(rt, alloc, asked)? else {
+        return Ok(None);
+    };
+    let mut ids = before.eligible(alloc, Some(asked.0))?;
+    ids.truncate(count);
+    Ok(Some(ids))
+}
+
+/// Makes a request in a heap. It discards as many as the plain program says, the least recently used first; in a way that lets it discard, that
+/// is the number that was worked out.
 fn asks(
     rt: &impl Abort,
     alloc: Global,
     heap: Heap,
     asked: (u32, u32, Option<usize>),
     way: Way,
-) -> Result<(), AllocError> {
-    let Heap { name, steps, .. } = heap;
+) -> Result<bool, AllocError> {
     let (id, size, count) = asked;
-    let (mut arena, mut region) = made(rt, alloc, steps)?;
-    let order = in_order(alloc, &arena)?;
-    let blocks = blocks(alloc, &arena, &region)?;
-    let before = plain(&arena, &blocks, &order);
-    assert!(rt; before.is_placed(), "{name}");
-    let expected = before.prefix(alloc, size, Some(id), way)?;
-    if way.discard {
-        assert_eq!(rt; expected, count, "{name}: {size} by the plain program");
+    let mut bench = Bench::with(rt, alloc, heap.steps)?;
+    let discards = discards_of(rt, alloc, &bench, (id, size, way))?;
+    let answer = bench.act(rt, Step::Alloc(id, size, Kind::Discardable, way));
+    let is_refused = answer == Answer::NoRoom;
+    Ok(match discards {
+        Some(ids) => {
+            !is_refused && bench.has_discarded(&ids) && (!way.discard || count == Some(ids.len()))
+        }
+        None => is_refused && bench.has_discarded(&[]) && (!way.discard || count.is_none()),
+    })
+}
+
+/// What the plain program says of a compaction.
+#[derive(Drop)]
+struct Foretold {
+    /// The ids that are discarded.
+    ids: Vec<u32>,
+    /// The longest hole then.
+    room: u32,
+    /// The longest hole that there could be.
+    most: u32,
+}
+
+/// What the plain program says of a compaction to so many bytes.
+fn foretells(
+    rt: &impl Abort,
+    alloc: Global,
+    bench: &Bench,
+    n: u32,
+) -> Result<Foretold, AllocError> {
+    let before = Plain::of(alloc, bench)?;
+    let mut ids = before.eligible(alloc, None)?;
+    let most = before.room_for(rt, alloc, ids.len())?;
+    if let Some(count) = before.needed(rt, alloc, n)? {
+        ids.truncate(count);
     }
-    let eligible = before.eligible(alloc, Some(id))?;
-    let step = Step::Alloc(id, size, Kind::Discardable, way);
-    let answer = act(rt, &mut arena, &mut region, step);
-    let first = expected.unwrap_or(0).min(eligible.len());
-    assert_eq!(rt; arena.discarded(), &eligible[..first], "{name}: {size}");
-    assert_eq!(rt;
-        answer == Answer::NoRoom,
-        expected.is_none(),
-        "{name}: {size}"
-    );
-    Ok(())
+    let room = before.room_for(rt, alloc, ids.len())?;
+    Ok(Foretold { ids, room, most })
 }
 
 /// Makes room for so many bytes in a heap. It discards as many as the plain program says, and answers the room there is then.
-fn compacts(rt: &impl Abort, alloc: Global, heap: Heap, n: u32) -> Result<(), AllocError> {
-    let Heap { name, steps, .. } = heap;
-    let (mut arena, mut region) = made(rt, alloc, steps)?;
-    let order = in_order(alloc, &arena)?;
-    let blocks = blocks(alloc, &arena, &region)?;
-    let before = plain(&arena, &blocks, &order);
-    assert!(rt; before.is_placed(), "{name}");
-    let eligible = before.eligible(alloc, None)?;
-    let all = eligible.len();
-    let needed = before.needed(alloc, n, None)?;
-    let first = needed.unwrap_or(all).min(all);
-    let room = before.room_for(alloc, first, None)?;
-    let most = before.room_for(alloc, all, None)?;
-    let answer = act(rt, &mut arena, &mut region, Step::RoomAll);
-    assert_eq!(rt; answer, Answer::Room(most), "{name}");
-    let answer = act(rt, &mut arena, &mut region, Step::Compact(n));
-    assert_eq!(rt; arena.discarded(), &eligible[..first], "{name}: {n}");
-    assert_eq!(rt; room_of(answer), Some(room), "{name}: {n}");
+fn compacts(rt: &impl Abort, alloc: Global, heap: Heap, n: u32) -> Result<bool, AllocError> {
+    let mut bench = Bench::with(rt, alloc, heap.steps)?;
+    let Foretold { ids, room, most } = foretells(rt, alloc, &bench, n)?;
+    let could = bench.act(rt, Step::RoomAll);
+    let answer = bench.act(rt, Step::Compact(n));
+    Ok(could == Answer::Room(most) && room_of(answer) == Some(room) && bench.has_discarded(&ids))
+}
+
+/// Makes each request of a heap in each way.
+fn asks_all(rt: &impl Abort, alloc: Global, heap: Heap) -> Result<(), AllocError> {
+    for asked in heap.asked {
+        for way in [AS_IT_STANDS, SLIDING, DISCARDING] {
+            let agrees = asks(rt, alloc, heap, *asked, way)?;
+            assert!(rt; agrees, "{}: {asked:?}, {way:?}", heap.name);
+        }
+    }
     Ok(())
 }
 
 #[test]
 fn discards_as_few_as_are_needed(rt: HostRuntime) -> Result<(), Fail> {
     for heap in HEAPS {
-        for asked in heap.asked {
-            asks(&rt, rt.alloc(), *heap, *asked, AS_IT_STANDS)?;
-            asks(&rt, rt.alloc(), *heap, *asked, SLIDING)?;
-            asks(&rt, rt.alloc(), *heap, *asked, DISCARDING)?;
-        }
+        asks_all(&rt, rt.alloc(), *heap)?;
     }
     Ok(())
 }
@@ -205,7 +276,8 @@ fn discards_as_few_as_are_needed(rt: HostRuntime) -> Result<(), Fail> {
 fn compaction_discards_as_few_as_are_needed(rt: HostRuntime) -> Result<(), Fail> {
     for heap in HEAPS {
         for n in [1, 32, 64, 96, 128, 160, 192, 256, 288] {
-            compacts(&rt, rt.alloc(), *heap, n)?;
+            let agrees = compacts(&rt, rt.alloc(), *heap, n)?;
+            assert!(rt; agrees, "{}: {n}", heap.name);
         }
     }
     Ok(())

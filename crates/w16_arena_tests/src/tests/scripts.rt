@@ -1,12 +1,12 @@
 //! Calls one after another, with answers that were worked out by hand.
 
-use super::{
-    AS_IT_STANDS, Answer, DISCARDING, SLIDING, Step, act, expect, in_order, made, shown, six,
-};
+use super::bench::{Answer, Bench, Step};
+use super::{AS_IT_STANDS, DISCARDING, SLIDING};
+use std::alloc::{AllocError, Global};
+use std::process::Abort;
 use std::test::Fail;
 use w16_arena::{Compacted, Placed};
 use w16_model::{Item, Kind, Owner, Refusal, Span};
-use w16_region::Region;
 
 /// Nothing was slid.
 const NOTHING: Span = Span { from: 0, to: 0 };
@@ -497,32 +497,150 @@ const SCRIPTS: &[Script] = &[
         ],
         order: &[0],
     },
+    Script {
+        name: "a full count of locks, and a refused lock that is no use",
+        lines: &[
+            (
+                Step::Alloc(0, 32, Kind::Discardable, AS_IT_STANDS),
+                placed!(0),
+                &[],
+            ),
+            (
+                Step::Alloc(1, 32, Kind::Discardable, AS_IT_STANDS),
+                placed!(32),
+                &[],
+            ),
+            (Step::Locks(0), Answer::Done, &[]),
+            (Step::Oldest(0), Answer::Done, &[]),
+            (Step::Lock(0), Answer::Refused(Refusal::LockFull), &[]),
+        ],
+        walk: &[
+            object!(0, 32, 0, Kind::Discardable, 255),
+            object!(32, 32, 1, Kind::Discardable, 0),
+            hole!(64, 192),
+        ],
+        order: &[0, 1],
+    },
+    Script {
+        name: "as many locks less",
+        lines: &[
+            (
+                Step::Alloc(0, 32, Kind::Discardable, AS_IT_STANDS),
+                placed!(0),
+                &[],
+            ),
+            (Step::Locks(0), Answer::Done, &[]),
+            (Step::Unlocks(0), Answer::Done, &[]),
+            (Step::Free(0), Answer::Done, &[]),
+        ],
+        walk: &[hole!(0, 256)],
+        order: &[],
+    },
+    Script {
+        name: "the change of kind",
+        lines: &[
+            (
+                Step::Alloc(0, 32, Kind::Moveable, AS_IT_STANDS),
+                placed!(0),
+                &[],
+            ),
+            (
+                Step::Alloc(1, 32, Kind::Discardable, AS_IT_STANDS),
+                placed!(32),
+                &[],
+            ),
+            (
+                Step::Alloc(2, 32, Kind::Fixed, AS_IT_STANDS),
+                placed!(64),
+                &[],
+            ),
+            (Step::Lock(0), Answer::Done, &[]),
+            (Step::Modify(0, Kind::Discardable), Answer::Done, &[]),
+            (Step::Modify(1, Kind::Discardable), Answer::Done, &[]),
+            (
+                Step::Alloc(3, 32, Kind::Discardable, AS_IT_STANDS),
+                placed!(96),
+                &[],
+            ),
+            (Step::Modify(3, Kind::Moveable), Answer::Done, &[]),
+            (
+                Step::Modify(2, Kind::Moveable),
+                Answer::Refused(Refusal::Fixed),
+                &[],
+            ),
+            (
+                Step::Modify(1, Kind::Fixed),
+                Answer::Refused(Refusal::Fixed),
+                &[],
+            ),
+            (
+                Step::Modify(5, Kind::Moveable),
+                Answer::Refused(Refusal::Absent),
+                &[],
+            ),
+        ],
+        walk: &[
+            object!(0, 32, 0, Kind::Discardable, 1),
+            object!(32, 32, 1, Kind::Discardable, 0),
+            object!(64, 32, 2, Kind::Fixed, 0),
+            object!(96, 32, 3, Kind::Moveable, 0),
+            hole!(128, 128),
+        ],
+        order: &[1, 0],
+    },
 ];
+
+/// Whether an answer says that nothing was changed.
+fn is_refusal(answer: Answer) -> bool {
+    matches!(answer, Answer::Refused(_) | Answer::NoRoom)
+}
+
+/// Makes a call that has an answer and, as a request, discards some. A refused one changes nothing.
+fn expect(
+    rt: &impl Abort,
+    alloc: Global,
+    bench: &mut Bench,
+    line: &(Step, Answer, &[u32]),
+) -> Result<bool, AllocError> {
+    let (step, answer, discarded) = *line;
+    let before = bench.seen(alloc)?;
+    let found = bench.act(rt, step);
+    let after = bench.seen(alloc)?;
+    Ok(
+        found == answer
+            && bench.has_discarded(discarded)
+            && (!is_refusal(answer) || after == before),
+    )
+}
+
+/// Makes the calls of a script, and tells whether each is answered as it should be.
+fn makes(
+    rt: &impl Abort,
+    alloc: Global,
+    script: Script,
+    bench: &mut Bench,
+) -> Result<bool, AllocError> {
+    for line in script.lines {
+        if !expect(rt, alloc, bench, line)? {
+            return Ok(false);
+        }
+    }
+    Ok(true)
+}
+
+/// Makes the calls of a script in a new heap, and tells whether they leave what they should.
+fn plays(rt: &impl Abort, alloc: Global, script: Script) -> Result<bool, AllocError> {
+    let mut bench = Bench::new(rt, alloc)?;
+    let is_made = makes(rt, alloc, script, &mut bench)?;
+    let seen = bench.seen(alloc)?;
+    Ok(is_made && seen.items.as_slice() == script.walk && seen.order.as_slice() == script.order)
+}
 
 #[test]
 fn answers_calls(rt: HostRuntime) -> Result<(), Fail> {
     for script in SCRIPTS {
-        let Script {
-            name,
-            lines,
-            walk,
-            order,
-        } = *script;
-        let mut arena = six(&rt, rt.alloc())?;
-        let mut region = Region::new(rt.alloc(), 256)?;
-        for line in lines {
-            expect(&rt, rt.alloc(), name, &mut arena, &mut region, line)?;
-        }
-        assert_eq!(rt;
-            shown(rt.alloc(), &arena, &region)?.as_slice(),
-            walk,
-            "{name}: walk"
-        );
-        assert_eq!(rt;
-            in_order(rt.alloc(), &arena)?.as_slice(),
-            order,
-            "{name}: order"
-        );
+        let agrees = plays(&rt, rt.alloc(), *script)?;
+        assert!(rt; agrees, "{}", script.name);
     }
     Ok(())
 }
@@ -536,68 +654,81 @@ const WITH_HOLES: &[Step] = &[
     Step::Release(1),
 ];
 
+/// Two objects that fill the heap.
+const FULL: &[Step] = &[
+    Step::Alloc(3, 96, Kind::Moveable, AS_IT_STANDS),
+    Step::Alloc(0, 160, Kind::Moveable, AS_IT_STANDS),
+];
+
+/// Calls, and what stands then at an address or behind it.
+type Walk = (&'static [Step], &'static [(u32, Option<Item>)]);
+
+const WALKS: &[Walk] = &[
+    (&[], &[(0, Some(hole!(0, 256))), (1, None)]),
+    (
+        WITH_HOLES,
+        &[
+            (0, Some(object!(0, 32, 0, Kind::Fixed, 0))),
+            (1, Some(hole!(32, 64))),
+            (32, Some(hole!(32, 64))),
+            (33, Some(object!(96, 32, 2, Kind::Discardable, 1))),
+            (96, Some(object!(96, 32, 2, Kind::Discardable, 1))),
+            (97, Some(hole!(128, 128))),
+            (129, None),
+        ],
+    ),
+    (
+        FULL,
+        &[
+            (0, Some(object!(0, 96, 3, Kind::Moveable, 0))),
+            (1, Some(object!(96, 160, 0, Kind::Moveable, 0))),
+            (97, None),
+        ],
+    ),
+];
+
+/// The first address of the table with another item behind it.
+fn other_item(bench: &Bench, items: &[(u32, Option<Item>)]) -> Option<u32> {
+    for (from, item) in items {
+        if bench.walk_from(*from) != *item {
+            return Some(*from);
+        }
+    }
+    None
+}
+
 #[test]
 fn walks_by_address(rt: HostRuntime) -> Result<(), Fail> {
-    let (empty, none) = made(&rt, rt.alloc(), &[])?;
-    assert_eq!(rt; empty.walk_from(&none, 0), Some(hole!(0, 256)));
-    assert_eq!(rt; empty.walk_from(&none, 1), None);
-    let (arena, region) = made(&rt, rt.alloc(), WITH_HOLES)?;
-    assert_eq!(rt;
-        arena.walk_from(&region, 0),
-        Some(object!(0, 32, 0, Kind::Fixed, 0))
-    );
-    assert_eq!(rt; arena.walk_from(&region, 1), Some(hole!(32, 64)));
-    assert_eq!(rt; arena.walk_from(&region, 32), Some(hole!(32, 64)));
-    let locked = object!(96, 32, 2, Kind::Discardable, 1);
-    assert_eq!(rt; arena.walk_from(&region, 33), Some(locked));
-    assert_eq!(rt; arena.walk_from(&region, 96), Some(locked));
-    assert_eq!(rt; arena.walk_from(&region, 97), Some(hole!(128, 128)));
-    assert_eq!(rt; arena.walk_from(&region, 129), None);
+    for (steps, items) in WALKS {
+        let bench = Bench::with(&rt, rt.alloc(), steps)?;
+        assert!(rt; other_item(&bench, items).is_none());
+    }
     Ok(())
+}
+
+/// The items of the heap with holes by their numbers.
+const ITEMS: &[(usize, Option<Item>)] = &[
+    (0, Some(object!(0, 32, 0, Kind::Fixed, 0))),
+    (1, Some(hole!(32, 64))),
+    (2, Some(object!(96, 32, 2, Kind::Discardable, 1))),
+    (3, Some(hole!(128, 128))),
+    (4, None),
+    (9, None),
+];
+
+/// The first number of the table with another item.
+fn other_item_at(bench: &Bench) -> Option<usize> {
+    for (i, item) in ITEMS {
+        if bench.walk(*i) != *item {
+            return Some(*i);
+        }
+    }
+    None
 }
 
 #[test]
 fn walks_by_number(rt: HostRuntime) -> Result<(), Fail> {
-    let (arena, region) = made(&rt, rt.alloc(), WITH_HOLES)?;
-    assert_eq!(rt;
-        arena.walk(&region, 0),
-        Some(object!(0, 32, 0, Kind::Fixed, 0))
-    );
-    assert_eq!(rt; arena.walk(&region, 1), Some(hole!(32, 64)));
-    assert_eq!(rt;
-        arena.walk(&region, 2),
-        Some(object!(96, 32, 2, Kind::Discardable, 1))
-    );
-    assert_eq!(rt; arena.walk(&region, 3), Some(hole!(128, 128)));
-    assert_eq!(rt; arena.walk(&region, 4), None);
-    assert_eq!(rt; arena.walk(&region, 9), None);
-    Ok(())
-}
-
-#[test]
-fn walks_a_full_heap(rt: HostRuntime) -> Result<(), Fail> {
-    let mut arena = six(&rt, rt.alloc())?;
-    let mut region = Region::new(rt.alloc(), 256)?;
-    act(
-        &rt,
-        &mut arena,
-        &mut region,
-        Step::Alloc(3, 96, Kind::Moveable, AS_IT_STANDS),
-    );
-    act(
-        &rt,
-        &mut arena,
-        &mut region,
-        Step::Alloc(0, 160, Kind::Moveable, AS_IT_STANDS),
-    );
-    assert_eq!(rt;
-        arena.walk_from(&region, 0),
-        Some(object!(0, 96, 3, Kind::Moveable, 0))
-    );
-    assert_eq!(rt;
-        arena.walk_from(&region, 1),
-        Some(object!(96, 160, 0, Kind::Moveable, 0))
-    );
-    assert_eq!(rt; arena.walk_from(&region, 97), None);
+    let bench = Bench::with(&rt, rt.alloc(), WITH_HOLES)?;
+    assert!(rt; other_item_at(&bench).is_none());
     Ok(())
 }

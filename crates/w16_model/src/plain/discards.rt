@@ -93,6 +93,46 @@ impl<'a> Snapshot<'a> {
         self.needed(alloc, size, about)
     }
 
+    /// Whether an object's block and the hole directly after it have `size` bytes together. They
+    /// haven't where no block is the object's.
+    pub fn fits_in_place(&self, size: u32, id: u32) -> bool
+        requires { ArePlaced self.now.lo self.now.hi self.now.blocks.now }
+        ensures { result
+            ≡ defined.fits_in_place (snapshot self.now.lo self.now.hi self.now.blocks.now self.now.order.now)
+            size id }
+    {
+        for block in self.blocks {
+            if block.id == id {
+                let hole = self.hole_after(block.at + block.size);
+                return u64::from(size) <= u64::from(block.size) + u64::from(hole);
+            }
+        }
+        false
+    }
+
+    /// The number of discards by which an object that has bytes, and may move, grows to `size`
+    /// bytes, or `None` where it doesn't (`GlobalReAlloc`). One that may not move grows where it
+    /// fits in place. An error says that memory is missing.
+    pub fn growth(
+        &self,
+        alloc: Global,
+        size: u32,
+        id: u32,
+        way: Way,
+    ) -> Result<Option<usize>, AllocError>
+        requires { ArePlaced self.now.lo self.now.hi self.now.blocks.now }
+        ensures { IfOk result
+            (λ count. count
+            ≡ defined.growth_for (snapshot self.now.lo self.now.hi self.now.blocks.now self.now.order.now)
+            size id way) }
+    {
+        if way.compact {
+            return self.prefix(alloc, size, Some(id), way);
+        }
+        let fits = self.fits_in_place(size, id) || size <= self.longest_hole();
+        Ok(fits.then_some(0))
+    }
+
     /// Whether this is the id of a pinned block.
     fn is_pinned_id(&self, id: u32) -> bool
         ensures { result ≡ defined.is_pinned_id self.now.blocks.now id }

@@ -1,3 +1,5 @@
+ghost use Rattle.std.specs.Prelude.{◌≡◌, ◌%◌};
+
 use crate::tests::limited;
 use std::alloc::{AllocError, Global};
 use std::test::Fail;
@@ -7,7 +9,9 @@ use w16_script::{RunFault, run};
 type Tested = std::result::Result<(), Fail>;
 
 /// What the run of a script prints over so much memory.
-fn printed(alloc: Global, memory: u32, script: &[u8]) -> std::result::Result<Vec<u8>, AllocError> {
+fn printed(alloc: Global, memory: u32, script: &[u8]) -> std::result::Result<Vec<u8>, AllocError>
+    requires { memory % 32 ≡ 0 }
+{
     let mut kernel = Kernel::new(alloc, memory, 16)?;
     let mut text = Vec::new(alloc);
     let mut reader = script;

@@ -16,4 +16,4 @@ pub returns-then-entry-clause-err : goal.returns-then-entry-clause-err
 returns-then-entry-clause-err g c = lock_full c.args.self.now c.entry.ensures.sound c.args.id c.in-Some.entry (sym c.entry.ensures.value ∙ c.in-Some.is) (ap is_some (sym c.block.ensures.value) ∙ c.if-is_none.ensures) (sym c.is_fixed.ensures ∙ c.if-is_fixed.false) (eq-eqb c.in-Some.entry.locks 255 c.if-entry.true)
 
 pub returns-clause-ok : goal.returns-clause-ok
-returns-clause-ok g c = lock_ok c.args.self.now c.entry.ensures.sound c.args.id c.in-Some.entry (sym c.entry.ensures.value ∙ c.in-Some.is) (ap is_some (sym c.block.ensures.value) ∙ c.if-is_none.ensures) (c.in-Some.entry.locks + 1) refl (sym c.is_fixed.ensures ∙ c.if-is_fixed.false) (ne_eqb c.in-Some.entry.locks 255 c.if-entry.false) c.set_locks.ensures c.touch.ensures
+returns-clause-ok g c = lock_ok c.args.self.now c.entry.ensures.sound c.args.id c.in-Some.entry (sym c.entry.ensures.value ∙ c.in-Some.is) (ap is_some (sym c.block.ensures.value) ∙ c.if-is_none.ensures) (c.in-Some.entry.locks + 1) refl (sym c.is_fixed.ensures ∙ c.if-is_fixed.false) (ne_eqb c.in-Some.entry.locks 255 c.if-entry.false) c.set_locks.ensures.steps c.touch.ensures.steps

@@ -8,20 +8,20 @@ use Rattle.w16_arena.proofs.Arena.place.Goals as goal
 pub insert-requires-clause-fits : goal.insert-requires-clause-fits
 insert-requires-clause-fits g c =
     may_insert c.self.invariant c.self.view_is (g.S.Space.bytes c.args.space.now) c.has_bytes.ensures c.requires.inside c.args.id c.args.size c.args.kind c.args.way c.requires.id c.requires.absent c.requires.some c.requires.rounded
-    c.in_ok-placed.placed c.in_ok-placed.ensures.slid c.in_ok-placed.ensures.free c.hold.ensures (λ off. (c.in_ok-placed.ensures.still off).0)
+    c.in_ok-placed.placed c.in_ok-placed.ensures.slid c.in_ok-placed.ensures.free c.hold.ensures
 
 pub invariant_of-self-2 : goal.invariant_of-self-2
 invariant_of-self-2 g c =
     let moved = moved_kept c.in_ok-placed.placed.slid.from c.in_ok-placed.placed.slid.to _ _ _ _ _ c.in_ok-placed.ensures.slid c.insert.ensures.bytes.contents c.insert.ensures.bytes.rest.long c.insert.ensures.small in
     kept_placed c.self.invariant c.self.view_is (g.S.Space.bytes c.args.space.now) c.has_bytes.ensures c.requires.inside c.args.id c.args.size c.args.kind c.args.way c.requires.id c.requires.absent c.requires.some c.requires.rounded
-    c.in_ok-placed.placed moved c.in_ok-placed.ensures.free c.hold.ensures (λ off. (c.in_ok-placed.ensures.still off).0) c.insert.ensures.value c.insert.ensures.ordered c.clear_if.ensures.bytes c.list_new.ensures
+    c.in_ok-placed.placed moved c.in_ok-placed.ensures.free c.hold.ensures c.insert.ensures.value c.insert.ensures.ordered c.clear_if.ensures.bytes c.list_new.ensures
 
 pub returns-clause-stands : goal.returns-clause-stands
 returns-clause-stands g c =
     let moved = moved_kept c.in_ok-placed.placed.slid.from c.in_ok-placed.placed.slid.to _ _ _ _ _ c.in_ok-placed.ensures.slid c.insert.ensures.bytes.contents c.insert.ensures.bytes.rest.long c.insert.ensures.small in
     stands_placed c.self.invariant c.self.view_is (g.S.Space.bytes c.args.space.now) c.has_bytes.ensures c.requires.inside c.args.id c.args.size c.args.kind c.args.way c.requires.id c.requires.absent c.requires.some c.requires.rounded
-    c.in_ok-placed.placed moved c.in_ok-placed.ensures.free c.hold.ensures (λ off. (c.in_ok-placed.ensures.still off).0) c.insert.ensures.value c.insert.ensures.ordered c.clear_if.ensures.bytes c.list_new.ensures
-    c.in_ok-placed.ensures.moved
+    c.in_ok-placed.placed moved c.in_ok-placed.ensures.free c.hold.ensures c.insert.ensures.value c.insert.ensures.ordered c.clear_if.ensures.bytes c.list_new.ensures
+    (λ off. (c.in_ok-placed.ensures.still off).0) c.in_ok-placed.ensures.moved
 
 pub returns-clause-rest : goal.returns-clause-rest
 returns-clause-rest g c =
@@ -29,7 +29,7 @@ returns-clause-rest g c =
     let lo = ap (λ (l : Layout). l.lo) slid.same in let hi = ap (λ (l : Layout). l.hi) slid.same in
     let moved = moved_kept c.in_ok-placed.placed.slid.from c.in_ok-placed.placed.slid.to _ _ _ _ _ slid c.insert.ensures.bytes.contents c.insert.ensures.bytes.rest.long c.insert.ensures.small in
     rest_placed c.self.invariant c.self.view_is (g.S.Space.bytes c.args.space.now) c.has_bytes.ensures c.requires.inside c.args.id c.args.size c.args.kind c.args.way c.requires.id c.requires.absent c.requires.some c.requires.rounded
-    c.in_ok-placed.placed moved c.in_ok-placed.ensures.free c.hold.ensures (λ off. (c.in_ok-placed.ensures.still off).0) c.insert.ensures.value c.insert.ensures.ordered c.clear_if.ensures.bytes c.list_new.ensures
+    c.in_ok-placed.placed moved c.in_ok-placed.ensures.free c.hold.ensures c.insert.ensures.value c.insert.ensures.ordered c.clear_if.ensures.bytes c.list_new.ensures
     (rest_more c.in_ok-placed.ensures.rest c.insert.ensures.bytes.rest (omega arith) (omega arith)) c.clear_if.ensures.rest
 
 pub returns-clause-kept : goal.returns-clause-kept

@@ -1,5 +1,7 @@
 use Rattle.std.proofs.Common.{ℕ, arith, ap, ◌∙◌, subst, if◌then◌else◌}
 use Rattle.w16_region.specs.Bytes.{counted}
+use Rattle.w16_model.specs.Changes.{with_newest}
+use Rattle.w16_model.specs.Request.{IsNew}
 use Rattle.w16_model.specs.Table.{heap_in}
 use Rattle.w16_arena.specs.Asked.{Stands}
 use Rattle.w16_arena.proofs.Keeping.{heap_kept}
@@ -34,7 +36,7 @@ returns g c =
     let bytes = c.discard_first.ensures.bytes in
     let p = c.in-Some-place.ensures in
     let new = heap_in c.place.new.self.table (g.S.Space.bytes c.place.new.space) in
-    let stands = subst (λ h. Stands h c.args.id c.args.size c.args.kind c.args.way c.in-Some-place.placed new) (heap_kept m (g.S.Space.bytes c.discard_first.new.space) mid.table bytes.contents) p.stands in
+    let stands = subst (λ h. Stands h c.args.id c.args.size (IsNew c.args.way.zero c.args.size c.args.kind 0) (with_newest c.args.id) c.args.way c.in-Some-place.placed new) (heap_kept m (g.S.Space.bytes c.discard_first.new.space) mid.table bytes.contents) p.stands in
     record {
       allocated = allocates_then c.args.self.now found.sound m c.requires.inside c.args.id c.args.size c.args.kind c.args.way c.requires.absent c.requires.some c.requires.rounded c.requires.may found.value c.in-Some.k c.in-Some.is mid discards stands;
       placed = placed_then c.args.self.now found.sound m c.requires.inside c.args.id c.args.size c.args.kind c.args.way c.requires.absent c.requires.some c.requires.rounded c.requires.may found.value c.in-Some.k c.in-Some.is mid discards stands c.has_bytes.ensures;

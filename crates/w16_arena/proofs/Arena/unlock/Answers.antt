@@ -9,4 +9,4 @@ pub returns-then-is_fixed-clause-err : goal.returns-then-is_fixed-clause-err
 returns-then-is_fixed-clause-err g c = unlock_fixed c.args.self.now c.entry.ensures.sound c.args.id c.in-Some.entry (sym c.entry.ensures.value ∙ c.in-Some.is) (sym c.is_fixed.ensures ∙ c.if-is_fixed.true)
 
 pub returns-clause-ok : goal.returns-clause-ok
-returns-clause-ok g c = unlock_ok c.args.self.now c.entry.ensures.sound c.args.id c.in-Some.entry (sym c.entry.ensures.value ∙ c.in-Some.is) c.saturating_sub.result c.saturating_sub.ensures (sym c.is_fixed.ensures ∙ c.if-is_fixed.false) c.set_locks.ensures
+returns-clause-ok g c = unlock_ok c.args.self.now c.entry.ensures.sound c.args.id c.in-Some.entry (sym c.entry.ensures.value ∙ c.in-Some.is) c.saturating_sub.result c.saturating_sub.ensures (sym c.is_fixed.ensures ∙ c.if-is_fixed.false) c.set_locks.ensures.steps

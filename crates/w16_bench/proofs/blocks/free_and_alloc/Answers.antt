@@ -14,4 +14,4 @@ fits_back l id b lt known ordered =
     (fits_itself l b b.hold (omega arith) (subst (λ (k : ℕ). block_with l.blocks k ≡ Some b) (sym same) known) ordered)
 
 pub insert-requires-clause-fits : goal.insert-requires-clause-fits
-insert-requires-clause-fits g c = rw c.remove.ensures.value (fits_back c.args.blocks.now c.args.id c.in-Some.block c.requires (sym c.in-Some.ensures.value) c.in-Some.ensures.ordered)
+insert-requires-clause-fits g c = rw c.remove.ensures.value (fits_back c.args.blocks.now c.args.id c.in-Some.block c.requires.id (sym c.in-Some.ensures.value) c.in-Some.ensures.ordered)

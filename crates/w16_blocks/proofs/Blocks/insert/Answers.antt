@@ -1,6 +1,6 @@
-use Rattle.std.proofs.Common.{List, add-one, subst}
+use Rattle.std.proofs.Common.{List, add-one, arith, subst}
 use Rattle.w16_model.specs.declared.Span.{Span}
-use Rattle.w16_blocks.proofs.Keeping.{free_for, size_below, layout_added, IsKept-add}
+use Rattle.w16_blocks.proofs.Keeping.{free_for, size_below, pins_room, layout_added, IsKept-add}
 use Rattle.w16_blocks.proofs.Blocks.insert.Goals as goal
 
 pub take-requires-clause-free : goal.take-requires-clause-free
@@ -9,9 +9,13 @@ take-requires-clause-free g c = free_for c.self.invariant c.self.inside.slots.ok
 pub overflow_sub-self : goal.overflow_sub-self
 overflow_sub-self g c = size_below c.self.invariant c.self.inside.slots.ok.0 c.self.view_is c.requires.fits
 
+pub overflow_add-self : goal.overflow_add-self
+overflow_add-self g c =
+    let lt = pins_room c.self.invariant c.self.inside.slots.ok.0 c.self.view_is c.requires.fits in let one = c.pins_of.ensures in record { fits = omega arith }
+
 pub invariant_of-self : goal.invariant_of-self
 invariant_of-self g c =
-    IsKept-add c.self.invariant c.self.inside.slots.ok.0 c.self.view_is c.requires.fits c.unit_of-unit.result c.unit_of-unit.ensures (add-one c.args.block.id) c.take.ensures.range c.take.ensures.holes
+    IsKept-add c.self.invariant c.self.inside.slots.ok.0 c.self.view_is c.requires.fits c.unit_of-unit.result c.unit_of-unit.ensures (add-one c.args.block.id) c.pins_of.ensures c.take.ensures.range c.take.ensures.holes
 
 pub returns-clause-value : goal.returns-clause-value
 returns-clause-value g c = layout_added c.self.invariant c.self.inside.slots.ok.0 c.self.view_is c.requires.fits c.unit_of-unit.result c.unit_of-unit.ensures (add-one c.args.block.id)

@@ -13,10 +13,10 @@ use Rattle.w16_blocks.proofs.Blocks.next_from.Goals as goal
 pub loop-unit-init : goal.loop-unit-init
 loop-unit-init g c =
     let s = c.self.inside in
-    let is : c.div_ceil-unit.result ≡ div_ceil (c.args.at - s.lo) s.grain = c.div_ceil-unit.ensures ∙ ap (λ (n : ℕ). div_ceil n s.grain) c.saturating_sub.ensures in
-    subst (λ (l : Layout). slice_get l.blocks (rank c.args.at l.blocks) ≡ slice_get (blocks_in s.slots.items (drop c.div_ceil-unit.result s.begins.items)) 0) c.self.view_is
-    (first_by_unit s.lo s.grain c.args.at s.slots.items s.begins.items c.div_ceil-unit.result c.self.invariant.tables.begun
-    (units_below s.lo s.grain c.args.at c.div_ceil-unit.result c.self.invariant.tables.some is) (units_above s.lo s.grain c.args.at c.div_ceil-unit.result c.self.invariant.tables.some is))
+    let is : c.units_over-unit.result ≡ div_ceil (c.args.at - s.lo) s.grain = c.units_over-unit.ensures ∙ ap (λ (n : ℕ). div_ceil n s.grain) c.saturating_sub.ensures in
+    subst (λ (l : Layout). slice_get l.blocks (rank c.args.at l.blocks) ≡ slice_get (blocks_in s.slots.items (drop c.units_over-unit.result s.begins.items)) 0) c.self.view_is
+    (first_by_unit s.lo s.grain c.args.at s.slots.items s.begins.items c.units_over-unit.result c.self.invariant.tables.begun
+    (units_below s.lo s.grain c.args.at c.units_over-unit.result c.self.invariant.tables.some is) (units_above s.lo s.grain c.args.at c.units_over-unit.result c.self.invariant.tables.some is))
 
 pub index-requires-then-begin-gt0 : goal.index-requires-then-begin-gt0
 index-requires-then-begin-gt0 g c =
@@ -40,7 +40,7 @@ at-hole-requires-clause-place g c =
     (unit_place c.self.invariant.tables c.loop-unit.unit (omega arith))
 
 pub loop-unit-smaller : goal.loop-unit-smaller
-loop-unit-smaller g c = let lt = c.loop-unit-test.true in let many = c.self.inside.begins.ok.0 in let step = c.max.ensures in omega arith
+loop-unit-smaller g c = let lt = c.loop-unit-test.true in let many = c.self.inside.begins.ok.0 in let step = c.max.ensures in let whole = c.units_in.ensures in omega arith
 
 pub loop-unit-preserved : goal.loop-unit-preserved
 loop-unit-preserved g c =
@@ -50,7 +50,7 @@ loop-unit-preserved g c =
     let place : s.lo + c.loop-unit.unit * s.grain ≡ s.lo + s.grain * c.loop-unit.unit = omega arith in
     let hole : c.at-hole.result ≡ length_at (s.lo + s.grain * c.loop-unit.unit) (holes s.lo s.hi (blocks_in s.slots.items s.begins.items)) = c.at-hole.ensures ∙ ap (length_at (s.lo + c.loop-unit.unit * s.grain)) c.self.invariant.between ∙ ap (λ (a : ℕ). length_at a (holes s.lo s.hi (blocks_in s.slots.items s.begins.items))) place in
     let clear = clear_in s.slots.len s.lo s.hi s.grain s.slots.items s.begins.items c.self.invariant.tables c.loop-unit.unit c.at-hole.result none hole in
-    c.loop-unit.invariant ∙ ap (λ (bs : List Block). slice_get bs 0) (pass s.slots.items s.begins.items c.loop-unit.unit c.max.result (λ k from to. clear k from (let step = c.max.ensures in omega arith)))
+    c.loop-unit.invariant ∙ ap (λ (bs : List Block). slice_get bs 0) (pass s.slots.items s.begins.items c.loop-unit.unit c.max.result (λ k from to. clear k from (let step = c.max.ensures in let whole = c.units_in.ensures in omega arith)))
 
 pub returns-clause-value : goal.returns-clause-value
 returns-clause-value g c =

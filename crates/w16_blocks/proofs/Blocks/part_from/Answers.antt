@@ -24,7 +24,7 @@ returns-then-begin-gt0-clause-block g c =
     let block = get_or_read s.slots.items (c.index.result.now - 1) c.index-then-begin-gt0.result.now (omega arith) c.index-then-begin-gt0.ensures no_block in
     subst (λ (l : Layout). IsFirstBlock l c.args.at c.index-then-begin-gt0.result.now) c.self.view_is
     (subst (IsFirstBlock (layout_in s.slots.len s.lo s.hi s.grain s.slots.items s.begins.items) c.args.at) (sym block)
-    (block_first c.self.invariant.tables c.args.at c.loop-unit.unit c.loop-unit.invariant c.saturating_sub.result c.div_ceil-first.result c.saturating_sub.ensures c.div_ceil-first.ensures (omega arith) (c.index.result.now - 1) tells))
+    (block_first c.self.invariant.tables c.args.at c.loop-unit.unit c.loop-unit.invariant c.saturating_sub.result c.units_over-first.result c.saturating_sub.ensures c.units_over-first.ensures (omega arith) (c.index.result.now - 1) tells))
 
 pub at-hole-requires-clause-place : goal.at-hole-requires-clause-place
 at-hole-requires-clause-place g c =
@@ -44,11 +44,11 @@ returns-then-hole-gt0-clause-hole g c =
     let cell = get_or_read s.begins.items c.loop-unit.unit c.index.result.now (omega arith) c.index.ensures 0 in
     let place = s.lo + c.loop-unit.unit * s.grain in
     subst (λ (l : Layout). IsFirstHole l c.args.at (record { from = place; to = place + c.at-hole.result })) c.self.view_is
-    (hole_first c.self.invariant.tables c.args.at c.loop-unit.unit c.loop-unit.invariant c.saturating_sub.result c.div_ceil-first.result c.saturating_sub.ensures c.div_ceil-first.ensures (omega arith)
+    (hole_first c.self.invariant.tables c.args.at c.loop-unit.unit c.loop-unit.invariant c.saturating_sub.result c.units_over-first.result c.saturating_sub.ensures c.units_over-first.ensures (omega arith)
     place c.at-hole.result (omega arith) (omega arith) c.self.invariant.between c.at-hole.ensures c.if-hole-gt0.true)
 
 pub returns-clause-none : goal.returns-clause-none
 returns-clause-none g c =
     let past = c.loop-unit-test.false in let many = c.self.inside.begins.ok.0 in
     subst (λ (l : Layout). IsBehindAll l c.args.at) c.self.view_is
-    (none_first c.self.invariant.tables c.args.at c.loop-unit.unit c.loop-unit.invariant c.saturating_sub.result c.div_ceil-first.result c.saturating_sub.ensures c.div_ceil-first.ensures (omega arith) (omega arith))
+    (none_first c.self.invariant.tables c.args.at c.loop-unit.unit c.loop-unit.invariant c.saturating_sub.result c.units_over-first.result c.saturating_sub.ensures c.units_over-first.ensures (omega arith) (omega arith))

@@ -1,7 +1,8 @@
-use Rattle.std.proofs.Common.{List, arith, subst}
+use Rattle.std.proofs.Common.{List, ap, arith, subst}
 use Rattle.w16_model.specs.declared.Span.{Span}
 use Rattle.w16_holes.specs.Holes.{AreSameOutside}
-use Rattle.w16_blocks.proofs.Keeping.{lies_in, place_grained, part_kept, used_kept, with_size, unit_inside, layout_dropped, IsKept-drop}
+use Rattle.w16_blocks.specs.Layout.{Layout}
+use Rattle.w16_blocks.proofs.Keeping.{lies_in, place_grained, part_kept, used_kept, with_size, pins_below, unit_inside, layout_dropped, IsKept-drop}
 use Rattle.w16_blocks.proofs.Blocks.remove.Goals as goal
 
 pub unit_of-unit-requires-clause-from : goal.unit_of-unit-requires-clause-from
@@ -16,6 +17,12 @@ put-requires-clause-part g c = part_kept c.self.invariant c.self.inside.slots.ok
 pub put-requires-clause-used : goal.put-requires-clause-used
 put-requires-clause-used g c = used_kept c.self.invariant c.self.inside.slots.ok.0 c.self.view_is c.args.id c.block_of-block.ensures.known
 
+pub put-requires-clause-inside : goal.put-requires-clause-inside
+put-requires-clause-inside g c =
+    let end = (lies_in c.self.invariant c.self.inside.slots.ok.0 c.self.view_is c.args.id c.block_of-block.ensures.known).2 in
+    let top = ap (λ (l : Layout). l.hi) c.self.view_is in
+    let inside = c.requires.inside in omega arith
+
 pub index_mut-requires-2 : goal.index_mut-requires-2
 index_mut-requires-2 g c =
     let lt = unit_inside c.self.invariant c.self.inside.slots.ok.0 c.self.view_is c.args.id c.block_of-block.ensures.known c.unit_of-unit.result c.unit_of-unit.ensures in let length_is = c.self.inside.begins.ok.0 in omega arith
@@ -24,8 +31,12 @@ pub overflow_add-self : goal.overflow_add-self
 overflow_add-self g c =
     let le = with_size c.self.invariant c.self.inside.slots.ok.0 c.self.view_is c.args.id c.block_of-block.ensures.known in let small = c.self.invariant.tables.ordered.small in record { fits = omega arith }
 
+pub overflow_sub-self : goal.overflow_sub-self
+overflow_sub-self g c =
+    let le = pins_below c.self.invariant c.self.inside.slots.ok.0 c.self.view_is c.args.id c.block_of-block.ensures.known in let one = c.pins_of.ensures in omega arith
+
 pub invariant_of-self : goal.invariant_of-self
-invariant_of-self g c = IsKept-drop c.self.invariant c.self.inside.slots.ok.0 c.self.view_is c.args.id c.block_of-block.ensures.known c.unit_of-unit.result c.unit_of-unit.ensures c.put.ensures.range c.put.ensures.holes
+invariant_of-self g c = IsKept-drop c.self.invariant c.self.inside.slots.ok.0 c.self.view_is c.args.id c.block_of-block.ensures.known c.unit_of-unit.result c.unit_of-unit.ensures c.pins_of.ensures c.put.ensures.range c.put.ensures.holes
 
 pub returns-clause-value : goal.returns-clause-value
 returns-clause-value g c = layout_dropped c.self.invariant c.self.inside.slots.ok.0 c.self.view_is c.args.id c.block_of-block.ensures.known c.unit_of-unit.result c.unit_of-unit.ensures

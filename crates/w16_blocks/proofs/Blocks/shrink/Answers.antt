@@ -1,7 +1,8 @@
-use Rattle.std.proofs.Common.{List, arith, subst}
+use Rattle.std.proofs.Common.{List, ap, arith, subst}
 use Rattle.w16_model.specs.declared.Span.{Span}
 use Rattle.w16_holes.specs.Holes.{AreSameOutside}
-use Rattle.w16_blocks.proofs.Keeping.{part_put, used_put, with_size, layout_sized, IsKept-less}
+use Rattle.w16_blocks.specs.Layout.{Layout}
+use Rattle.w16_blocks.proofs.Keeping.{lies_in, part_put, used_put, with_size, layout_sized, IsKept-less}
 use Rattle.w16_blocks.proofs.Blocks.shrink.Goals as goal
 
 pub put-requires-clause-part : goal.put-requires-clause-part
@@ -9,6 +10,13 @@ put-requires-clause-part g c = part_put c.self.invariant c.self.inside.slots.ok.
 
 pub put-requires-clause-used : goal.put-requires-clause-used
 put-requires-clause-used g c = used_put c.self.invariant c.self.inside.slots.ok.0 c.self.view_is c.args.block c.requires.known c.requires.fits c.requires.less
+
+pub put-requires-clause-inside : goal.put-requires-clause-inside
+put-requires-clause-inside g c =
+    let end = (lies_in c.self.invariant c.self.inside.slots.ok.0 c.self.view_is c.args.block.id c.requires.known).2 in
+    let top = ap (λ (l : Layout). l.hi) c.self.view_is in
+    let less = c.requires.less in
+    let inside = c.requires.inside in omega arith
 
 pub overflow_add-self : goal.overflow_add-self
 overflow_add-self g c =

@@ -3,7 +3,7 @@ use Rattle.std.specs.Prelude.{slice_index, sum_by}
 use Rattle.std.proofs.lemmas.List.{length-replicate}
 use Rattle.w16_model.specs.declared.Block.{Block}
 use Rattle.w16_model.specs.Gap.{holes}
-use Rattle.w16_blocks.specs.Kept.{no_block, slot_of, blocks_in, layout_in}
+use Rattle.w16_blocks.specs.Kept.{no_block, slot_of, blocks_in, layout_in, pins_in}
 use Rattle.w16_blocks.proofs.Tables.{blocks_in-none, AreTables-none, get_or-replicate_same}
 use Rattle.w16_blocks.proofs.Blocks.with_room.Goals as goal
 
@@ -40,6 +40,7 @@ invariant_of-result g c =
       tables = AreTables-none (clear g c) (no_blocks g c)
           c.requires.some (omega arith) (omega arith) le c.requires.grained (long g c) (short g c);
       counted = let none : sum_by (λ (b : Block). b.size) (blocks_in c.in_ok-slots.slots.items c.in_ok-begins.begins.items) ≡ 0 = ap (sum_by (λ (b : Block). b.size)) (told g c) in omega arith;
+      pins = sym (ap (sum_by pins_in) (told g c));
       ranged = c.requires.range;
       between = c.requires.whole ∙ ap (holes c.args.lo c.args.hi) (sym (told g c));
     }

@@ -113,25 +113,17 @@ returns-clause-told g c =
     (ends_now_all p l.hi l.blocks _ now.passed.0 none c.loop-block.most c.loop-block.reached now.passed.2) lt (c.room_to-room-2.ensures ∙ ap (λ (k : ℕ). k - c.loop-block.reached.low - c.loop-block.reached.loose) to) refl
 
 -- the next block's place and the bytes before it
-pub passing-reached-requires-clause-end : goal.passing-reached-requires-clause-end
-passing-reached-requires-clause-end g c =
+pub passing-reached-requires : goal.passing-reached-requires
+passing-reached-requires g c =
     let l = c.args.blocks.now in let now = c.loop-block.invariant in
-    (fits_now (λ x. not (is_about c.args.h x.id)) l.hi l.blocks _ c.in-Some.block _ now.passed.0 (now.passed.1 ∙ c.in-Some.ensures.steps) c.loop-block.most c.loop-block.reached now.passed.2 c.bounds-bounds.ensures.ordered.small).0
+    let fits = fits_now (λ x. not (is_about c.args.h x.id)) l.hi l.blocks _ c.in-Some.block _ now.passed.0 (now.passed.1 ∙ c.in-Some.ensures.steps) c.loop-block.most c.loop-block.reached now.passed.2 c.bounds-bounds.ensures.ordered.small in
+    record { end = fits.0; sum = fits.1 }
 
-pub passing-reached-requires-clause-sum : goal.passing-reached-requires-clause-sum
-passing-reached-requires-clause-sum g c =
+pub passing-reached-requires-in-loop-block : goal.passing-reached-requires-in-loop-block
+passing-reached-requires-in-loop-block g c =
     let l = c.args.blocks.now in let now = c.loop-block.invariant in
-    (fits_now (λ x. not (is_about c.args.h x.id)) l.hi l.blocks _ c.in-Some.block _ now.passed.0 (now.passed.1 ∙ c.in-Some.ensures.steps) c.loop-block.most c.loop-block.reached now.passed.2 c.bounds-bounds.ensures.ordered.small).1
-
-pub passing-reached-requires-in-loop-block-clause-end : goal.passing-reached-requires-in-loop-block-clause-end
-passing-reached-requires-in-loop-block-clause-end g c =
-    let l = c.args.blocks.now in let now = c.loop-block.invariant in
-    (fits_now (λ x. not (is_about c.args.h x.id)) l.hi l.blocks _ c.in-Some.block _ now.passed.0 (now.passed.1 ∙ c.in-Some.ensures.steps) c.loop-block.most c.loop-block.reached now.passed.2 c.bounds-bounds.ensures.ordered.small).0
-
-pub passing-reached-requires-in-loop-block-clause-sum : goal.passing-reached-requires-in-loop-block-clause-sum
-passing-reached-requires-in-loop-block-clause-sum g c =
-    let l = c.args.blocks.now in let now = c.loop-block.invariant in
-    (fits_now (λ x. not (is_about c.args.h x.id)) l.hi l.blocks _ c.in-Some.block _ now.passed.0 (now.passed.1 ∙ c.in-Some.ensures.steps) c.loop-block.most c.loop-block.reached now.passed.2 c.bounds-bounds.ensures.ordered.small).1
+    let fits = fits_now (λ x. not (is_about c.args.h x.id)) l.hi l.blocks _ c.in-Some.block _ now.passed.0 (now.passed.1 ∙ c.in-Some.ensures.steps) c.loop-block.most c.loop-block.reached now.passed.2 c.bounds-bounds.ensures.ordered.small in
+    record { end = fits.0; sum = fits.1 }
 
 pub room_to-room-requires : goal.room_to-room-requires
 room_to-room-requires g c =

@@ -1,19 +1,33 @@
-use Rattle.std.proofs.Common.{◌≡◌, ℕ, ◌+◌, ◌<◌, ◌≤◌, drop, [], Option, Some, None, IsSome, MatchOption, arith, sym, ap, ◌∙◌, subst}
+use Rattle.std.proofs.Common.{◌≡◌, ℕ, ◌+◌, ◌-◌, ◌<◌, ◌≤◌, sum_by, refl, drop, List, [], ◌∷◌, Option, Some, None, false, IsSome, MatchOption, arith, sym, ap, ◌∙◌, subst}
 use Rattle.std.proofs.lemmas.Bool.{false≢true}
+use Rattle.w16_model.specs.declared.Block.{Block}
 use Rattle.w16_model.specs.declared.Span.{Span}
+use Rattle.w16_model.specs.Discards.{is_about}
 use Rattle.w16_model.specs.Gap.{room}
 use Rattle.w16_blocks.specs.Layout.{Layout, IsOrdered}
+use Rattle.w16_blocks.proofs.Ordered.{sum_fits}
 use Rattle.w16_compact.specs.declared.gaps.Gap.{Gap}
 use Rattle.w16_compact.specs.declared.reach.Reached.{Reached}
-use Rattle.w16_compact.specs.Gap.{HasRoom}
+use Rattle.w16_compact.specs.Gap.{others, without, HasRoom}
+use Rattle.w16_compact.proofs.AllLoose.{walked_all, none_in}
 use Rattle.w16_compact.proofs.ByAddress.{all_left, may_begin}
+use Rattle.w16_compact.proofs.LeftOut.{ordered_without, none_left, next_in, next_out}
 use Rattle.w16_compact.proofs.OnePass.{too_few}
 use Rattle.w16_compact.proofs.Skips.{rest_is}
 use Rattle.w16_compact.proofs.Walked.{IsWalked, fits_here, walk_start, gap_here, walked_next, gap_last, none_found, enough_room}
 use Rattle.w16_compact.proofs.gaps.gap_for.Goals as goal
 
-pub returns-then-free-n-clause-found : goal.returns-then-free-n-clause-found
-returns-then-free-n-clause-found g c = let l = c.args.blocks.now in too_few l.lo l.hi c.args.n c.free.result l.blocks c.bounds-bounds.ensures.ordered.laid c.free.ensures.value c.if-free-n.true
+pub overflow_add-spare : goal.overflow_add-spare
+overflow_add-spare g c =
+    let l = c.args.blocks.now in let ordered = c.bounds-bounds.ensures.ordered in
+    let free = c.free.ensures.value in let own = c.left_out.ensures.value in let all = sum_fits l.lo l.hi l.blocks ordered.laid in let small = ordered.small in
+    record { fits = omega (arith, free, own, all, small) }
+
+pub returns-then-spare-n-clause-found : goal.returns-then-spare-n-clause-found
+returns-then-spare-n-clause-found g c =
+    let l = c.args.blocks.now in let left = ordered_without c.args.h l c.bounds-bounds.ensures.ordered in
+    let free = c.free.ensures.value in let own = c.left_out.ensures.value in let less = c.if-spare-n.true in
+    too_few l.lo l.hi c.args.n (l.hi - l.lo - sum_by (λ (x : Block). x.size) (others c.args.h l.blocks)) (others c.args.h l.blocks) left.laid refl (omega arith)
 
 pub loop-block-init : goal.loop-block-init
 loop-block-init g c =
@@ -22,34 +36,51 @@ loop-block-init g c =
     let same : it.blocks.now ≡ l = ap (λ x. x.blocks.now) is ∙ c.by_address-block-items.ensures.blocks in
     let space : it.space.now ≡ c.args.space.now = ap (λ x. x.space.now) is ∙ c.by_address-block-items.ensures.space in
     let first : it.from ≡ 0 = ap (λ x. x.from) is ∙ c.by_address-block-items.ensures.from in
-    let ordered = c.bounds-bounds.ensures.ordered in (
+    let ordered = ordered_without c.args.h l c.bounds-bounds.ensures.ordered in (
       may_begin g.H.Holes.are_in l it.blocks.now (g.S.Space.bytes c.args.space.now) (g.S.Space.bytes it.space.now) same (ap g.S.Space.bytes space) c.requires.kept,
       tt,
-      (ordered, (0, all_left l it.blocks.now it.from same first, walk_start l c.args.n ordered c.bounds-bounds.result.from (ap (λ (s : Span). s.from) c.bounds-bounds.ensures.value))),
+      (
+        ordered,
+        (
+          0,
+          ap (others c.args.h) (all_left l it.blocks.now it.from same first),
+          walk_start (without c.args.h l) c.args.n ordered c.bounds-bounds.result.from (ap (λ (s : Span). s.from) c.bounds-bounds.ensures.value),
+        ),
+      ),
     )
+
+-- a block that is left out
+pub loop-block-preserved-then-is_about : goal.loop-block-preserved-then-is_about
+loop-block-preserved-then-is_about g c =
+    let inv = c.loop-block.invariant.2 in let on = c.in-Some.ensures.goes.on c.loop-block.invariant.1 in
+    let here = inv.1.1 ∙ ap (others c.args.h) c.in-Some.ensures.steps ∙ next_out c.args.h c.in-Some.block _ (sym c.is_about.ensures ∙ c.if-is_about.true) in
+    (on.0, on.1, (inv.0, (inv.1.0, here, inv.1.2)))
+
+-- the next of the others
+module _ (h : Option ℕ) (l : Layout) (i : ℕ) (rest : List Block) (x : Block) (more : List Block) where
+  next : drop i (others h l.blocks) ≡ others h rest → rest ≡ x ∷ more → is_about h x.id ≡ false → drop i (without h l).blocks ≡ x ∷ others h more
+  next there steps other = there ∙ ap (others h) steps ∙ next_in h x more other
 
 pub returns-in-Some-gap_before-clause-found : goal.returns-in-Some-gap_before-clause-found
 returns-in-Some-gap_before-clause-found g c =
-    let l = c.args.blocks.now in let inv = c.loop-block.invariant.2 in let is = c.in-Some-gap_before.ensures in
-    subst (HasRoom l c.args.n) (sym is.0) (gap_here l c.args.n inv.0 c.in-Some.block _ inv.1.0 (inv.1.1 ∙ c.in-Some.ensures.steps) c.loop-block.reached inv.1.2 is.2 c.requires.some is.1)
+    let l = without c.args.h c.args.blocks.now in let inv = c.loop-block.invariant.2 in let is = c.in-Some-gap_before.ensures in
+    let here = next c.args.h c.args.blocks.now inv.1.0 _ c.in-Some.block _ inv.1.1 c.in-Some.ensures.steps (sym c.is_about.ensures ∙ c.if-is_about.false) in
+    subst (HasRoom l c.args.n) (sym is.0) (gap_here l c.args.n inv.0 c.in-Some.block _ inv.1.0 here c.loop-block.reached inv.1.2 is.2 c.requires.some is.1)
 
 pub returns-in-Some-gap_before-clause-enough : goal.returns-in-Some-gap_before-clause-enough
-returns-in-Some-gap_before-clause-enough g c = λ _. enough_room c.args.blocks.now c.args.n c.loop-block.invariant.2.0 c.in-Some-gap_before.gap (returns-in-Some-gap_before-clause-found g c)
+returns-in-Some-gap_before-clause-enough g c = λ _. enough_room (without c.args.h c.args.blocks.now) c.args.n c.loop-block.invariant.2.0 c.in-Some-gap_before.gap (returns-in-Some-gap_before-clause-found g c)
 
-pub passing-reached-requires-clause-end : goal.passing-reached-requires-clause-end
-passing-reached-requires-clause-end g c =
+pub passing-reached-requires : goal.passing-reached-requires
+passing-reached-requires g c =
     let inv = c.loop-block.invariant.2 in
-    (fits_here c.args.blocks.now c.args.n inv.0 c.in-Some.block _ inv.1.0 (inv.1.1 ∙ c.in-Some.ensures.steps) c.loop-block.reached inv.1.2).0
-
-pub passing-reached-requires-clause-sum : goal.passing-reached-requires-clause-sum
-passing-reached-requires-clause-sum g c =
-    let inv = c.loop-block.invariant.2 in
-    (fits_here c.args.blocks.now c.args.n inv.0 c.in-Some.block _ inv.1.0 (inv.1.1 ∙ c.in-Some.ensures.steps) c.loop-block.reached inv.1.2).1
+    let here = next c.args.h c.args.blocks.now inv.1.0 _ c.in-Some.block _ inv.1.1 c.in-Some.ensures.steps (sym c.is_about.ensures ∙ c.if-is_about.false) in
+    let fits = fits_here (without c.args.h c.args.blocks.now) c.args.n inv.0 c.in-Some.block _ inv.1.0 here c.loop-block.reached inv.1.2 in
+    record { end = fits.0; sum = fits.1 }
 
 pub loop-block-preserved : goal.loop-block-preserved
 loop-block-preserved g c =
-    let l = c.args.blocks.now in let inv = c.loop-block.invariant.2 in
-    let here = inv.1.1 ∙ c.in-Some.ensures.steps in
+    let l = without c.args.h c.args.blocks.now in let inv = c.loop-block.invariant.2 in
+    let here = next c.args.h c.args.blocks.now inv.1.0 _ c.in-Some.block _ inv.1.1 c.in-Some.ensures.steps (sym c.is_about.ensures ∙ c.if-is_about.false) in
     let on = c.in-Some.ensures.goes.on c.loop-block.invariant.1 in (
       on.0,
       on.1,
@@ -71,9 +102,52 @@ module _ (l : Layout) (n : ℕ) (ordered : IsOrdered l) (some : 0 < n) (i : ℕ)
 pub returns-clause-found : goal.returns-clause-found
 returns-clause-found g c =
     let inv = c.loop-block.invariant.2 in
-    last c.args.blocks.now c.args.n inv.0 c.requires.some inv.1.0 c.loop-block.reached inv.1.2 (inv.1.1 ∙ c.in-None.ensures.steps.0) c.bounds-bounds.result.to c.gap_to.result (ap (λ (s : Span). s.to) c.bounds-bounds.ensures.value) c.gap_to.ensures
+    last (without c.args.h c.args.blocks.now) c.args.n inv.0 c.requires.some inv.1.0 c.loop-block.reached inv.1.2 (inv.1.1 ∙ ap (others c.args.h) c.in-None.ensures.steps.0 ∙ none_left c.args.h) c.bounds-bounds.result.to c.gap_to-2.result
+    (ap (λ (s : Span). s.to) c.bounds-bounds.ensures.value) c.gap_to-2.ensures
 
 pub returns-clause-enough : goal.returns-clause-enough
 returns-clause-enough g c =
     let inv = c.loop-block.invariant.2 in
-    enough c.args.blocks.now c.args.n inv.0 c.requires.some inv.1.0 c.loop-block.reached inv.1.2 (inv.1.1 ∙ c.in-None.ensures.steps.0) c.gap_to.result (returns-clause-found g c)
+    enough (without c.args.h c.args.blocks.now) c.args.n inv.0 c.requires.some inv.1.0 c.loop-block.reached inv.1.2 (inv.1.1 ∙ ap (others c.args.h) c.in-None.ensures.steps.0 ∙ none_left c.args.h) c.gap_to-2.result (returns-clause-found g c)
+
+-- where all is one gap
+module _ (g : _) (c : goal.After-gap_to g) where
+  abbrev left : Layout
+  left = without c.args.h c.args.blocks.now
+
+  ordered : IsOrdered left
+  ordered = ordered_without c.args.h c.args.blocks.now c.bounds-bounds.ensures.ordered
+
+  walked : (j : ℕ) × (drop j left.blocks ≡ []) × IsWalked left c.args.n ordered j (record { low = c.bounds-bounds.result.from; loose = c.bounds-bounds.result.to - c.bounds-bounds.result.from - (c.free.result + c.left_out.result) })
+  walked =
+      let l = c.args.blocks.now in let from = ap (λ (s : Span). s.from) c.bounds-bounds.ensures.value in let to = ap (λ (s : Span). s.to) c.bounds-bounds.ensures.value in
+      let fit = sum_fits l.lo l.hi l.blocks c.bounds-bounds.ensures.ordered.laid in let free = c.free.ensures.value in let own = c.left_out.ensures.value in
+      walked_all left c.args.n ordered (none_in c.args.h l.blocks (sym c.has_pinned.ensures ∙ c.if-not-has_pinned.true)) _ (from ∙ low c.args.h l) (omega arith)
+    where
+      low : (h : Option ℕ) (l : Layout) → l.lo ≡ (without h l).lo
+      low None l = refl
+      low (Some id) l = refl
+
+pub returns-then-not-has_pinned-clause-found : goal.returns-then-not-has_pinned-clause-found
+returns-then-not-has_pinned-clause-found g c =
+    let w = walked g c in
+    last (left g c) c.args.n (ordered g c) c.requires.some w.0 _ w.2 w.1 c.bounds-bounds.result.to c.gap_to.result (ap (λ (s : Span). s.to) c.bounds-bounds.ensures.value) c.gap_to.ensures
+
+pub returns-then-not-has_pinned-clause-enough : goal.returns-then-not-has_pinned-clause-enough
+returns-then-not-has_pinned-clause-enough g c =
+    let w = walked g c in
+    enough (left g c) c.args.n (ordered g c) c.requires.some w.0 _ w.2 w.1 c.gap_to.result (returns-then-not-has_pinned-clause-found g c)
+
+-- the bytes of the others lie between the bounds
+pub overflow_sub-whole : goal.overflow_sub-whole
+overflow_sub-whole g c =
+    let l = c.args.blocks.now in let from = ap (λ (s : Span). s.from) c.bounds-bounds.ensures.value in let to = ap (λ (s : Span). s.to) c.bounds-bounds.ensures.value in
+    let fit = sum_fits l.lo l.hi l.blocks c.bounds-bounds.ensures.ordered.laid in omega arith
+
+pub overflow_sub-whole-then-not-has_pinned : goal.overflow_sub-whole-then-not-has_pinned
+overflow_sub-whole-then-not-has_pinned g c =
+    let l = c.args.blocks.now in let from = ap (λ (s : Span). s.from) c.bounds-bounds.ensures.value in let to = ap (λ (s : Span). s.to) c.bounds-bounds.ensures.value in
+    let fit = sum_fits l.lo l.hi l.blocks c.bounds-bounds.ensures.ordered.laid in let free = c.free.ensures.value in let own = c.left_out.ensures.value in omega arith
+
+pub gap_to-requires : goal.gap_to-requires
+gap_to-requires g c = let ordered = overflow_sub-whole g c in omega arith

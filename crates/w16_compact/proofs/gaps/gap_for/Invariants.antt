@@ -1,5 +1,6 @@
 use Rattle.std.proofs.Common.{ℕ, ◌≡◌, drop}
 use Rattle.w16_blocks.specs.Layout.{IsOrdered, from_address}
+use Rattle.w16_compact.specs.Gap.{others, without}
 use Rattle.w16_compact.proofs.Walked.{IsWalked}
 use Rattle.w16_compact.proofs.gaps.gap_for.Given as goal
 
@@ -7,4 +8,5 @@ abbrev pub invariant-loop-block : goal.invariant-loop-block
 invariant-loop-block g l =
     (goal.iterator-loop-block g).can_next l.block-iterator ×
     (goal.iterator-loop-block g).is_finite l.block-iterator ×
-    ((ordered : IsOrdered l.fn.blocks) × ((i : ℕ) × (drop i l.fn.blocks.blocks ≡ from_address l.block-iterator.from l.block-iterator.blocks.now.blocks) × IsWalked l.fn.blocks l.n ordered i l.reached))
+    ((ordered : IsOrdered (without l.fn.h l.fn.blocks))
+    × ((i : ℕ) × (drop i (others l.fn.h l.fn.blocks.blocks) ≡ others l.fn.h (from_address l.block-iterator.from l.block-iterator.blocks.now.blocks)) × IsWalked (without l.fn.h l.fn.blocks) l.n ordered i l.reached))

@@ -6,7 +6,7 @@ use Rattle.w16_blocks.specs.Layout.{Layout}
 use Rattle.w16_compact.specs.Gather.{gathered, moved_between, FitsGap, AreSlid}
 use Rattle.w16_compact.proofs.Cleared.{slid_gathered, clear_gathered, hole_gathered, alone_gathered}
 use Rattle.w16_compact.proofs.Rests.{rest_more, rest_same}
-use Rattle.w16_compact.proofs.Gathering.{AreKept, run_start, kept_start, moved_same, some_run, above, cuts, bare_to, grained_at, fits_then, list_then, run_then, kept_then, moved_step, at_most, list_end}
+use Rattle.w16_compact.proofs.Gathering.{AreKept, kept_start, moved_same, some_run, above, cuts, bare_to, grained_at, fits_then, list_then, run_then, kept_then, moved_step, at_most, list_end}
 use Rattle.w16_compact.proofs.slide.gather.Given as Given
 use Rattle.w16_compact.proofs.slide.gather.Goals as goal
 
@@ -17,10 +17,10 @@ loop-block-init g c =
       bounds = (refl, refl, refl, refl);
       ordered = c.are_ordered.ensures;
       list = refl;
-      settled = run_start l c.args.low c.args.high gap c.requires.grained;
-      high = gap.inside.1;
+      settled = c.packed_to-to.ensures.run;
+      high = c.packed_to-to.ensures.high;
       fits = gap.loose;
-      stay = kept_start c.args.low l.blocks;
+      stay = kept_start c.packed_to-to.result l.blocks;
       moved = sym (moved_same l.blocks);
       small = omega arith;
       written = omega arith;

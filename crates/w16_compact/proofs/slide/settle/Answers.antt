@@ -6,7 +6,7 @@ use Rattle.w16_blocks.specs.Layout.{Layout, holes_of}
 use Rattle.w16_blocks.specs.Stay.{AreSameBut}
 use Rattle.w16_blocks.proofs.Outside.{used_each, outside_but}
 use Rattle.w16_blocks.proofs.RunHoles.{lies_of}
-use Rattle.w16_compact.proofs.Settled.{same_layout, contents_run}
+use Rattle.w16_compact.proofs.Settled.{same_layout, contents_run, cleared_down}
 use Rattle.w16_compact.proofs.slide.settle.Goals as goal
 
 pub returns-then-run-to-clause-blocks : goal.returns-then-run-to-clause-blocks
@@ -17,8 +17,8 @@ returns-clause-contents g c =
     let l = c.args.blocks.now in let run = c.args.run in let after = c.slide_run.new.self in
     let new = ap (λ (x : Layout). x.blocks) c.slide_run.ensures.value in
     let down = c.requires.down.1 in let ne = c.if-run-to.false in
-    rw new (contents_run (g.S.Space.bytes c.slide_run.new.space) (g.S.Space.bytes c.args.space.now) run c.args.to c.requires.some (omega arith) (holes_of l) (holes_of after) c.slide_run.ensures.contents c.slide_run.ensures.bytes l.blocks
-    (lies_of run l.lo l.hi l.blocks c.requires.ordered.laid c.requires.run.whole.0 c.requires.run.whole.1) c.requires.bare (used_each l.lo l.hi l.blocks c.requires.ordered.laid)
+    rw new (contents_run (g.S.Space.bytes c.slide_run.new.space) (g.S.Space.bytes c.args.space.now) run c.args.to (holes_of l) (holes_of after) c.slide_run.ensures.contents c.slide_run.ensures.bytes l.blocks
+    (cleared_down run c.args.to (omega arith) c.requires.some l.blocks (lies_of run l.lo l.hi l.blocks c.requires.ordered.laid c.requires.run.whole.0 c.requires.run.whole.1) c.requires.bare) (used_each l.lo l.hi l.blocks c.requires.ordered.laid)
     (subst (AllByRecursion (λ x. IsUsed x.at (block_end x) (holes_of after))) new (used_each after.lo after.hi after.blocks c.slide_run.ensures.ordered.laid)))
 
 pub returns-clause-rest : goal.returns-clause-rest

@@ -3,7 +3,7 @@ use Rattle.std.proofs.Common.{ap}
 use Rattle.std.proofs.lemmas.Result.{IfErr-weaker}
 use Rattle.w16_script.specs.State.{state_with}
 use Rattle.w16_script.specs.Unfinished.{progress_of}
-use Rattle.w16_script.proofs.FeedLemmas.{Stops-overflow, Stops-full, Stops-line}
+use Rattle.w16_script.proofs.FeedLemmas.{Stops-overflow, Stops-full, Stops-line, Stops-whole}
 use Rattle.w16_script.proofs.feed.take_line.Goals as goal
 
 pub returns-in_err-hold-clause-err : goal.returns-in_err-hold-clause-err
@@ -22,3 +22,8 @@ returns-clause-err g c =
     (λ fault fails. Stops-line _ _ (progress_of c.args.state.now) (progress_of c.hold.new.self) _ _ _ c.args.line.now fault c.requires.one_line c.in_ok-hold.ensures.ok
     (ap (state_with c.args.kernel.now) c.hold.ensures.registers) c.in_ok-hold.ensures.within c.if-state-eq-MOST_LINES.false fails)
     c.end_line.ensures.err
+
+pub returns-then-takes_whole-clause-err : goal.returns-then-takes_whole-clause-err
+returns-then-takes_whole-clause-err g c =
+    let (nothing, few, short) = c.takes_whole.ensures c.if-takes_whole.true in
+    IfErr-weaker c.run_whole.result _ _ (λ fault fails. Stops-whole _ _ (progress_of c.args.state.now) _ _ c.args.line.now fault nothing c.requires.one_line short c.requires.fits few fails) c.run_whole.ensures.err

@@ -8,12 +8,12 @@ pieces-init g c = record { printed = PrintedTo-none _ _ }
 
 pub pieces-preserved : goal.pieces-preserved
 pieces-preserved g c =
-    let parts = split-at _ _ _ 32 c.split_at.ensures.front c.split_at.ensures.back in
+    let parts = split-at _ _ _ 1024 c.split_at.ensures.front c.split_at.ensures.back in
     record { printed = PrintedTo-more _ _ _ _ _ _ _ _ c.pieces.invariant.printed parts c.digits_of.ensures c.in_ok-write_whole.ensures.ok }
 
 pub returns-in_err-write_whole-clause-err : goal.returns-in_err-write_whole-clause-err
 returns-in_err-write_whole-clause-err g c =
-    let parts = split-at _ _ _ 32 c.split_at.ensures.front c.split_at.ensures.back in
+    let parts = split-at _ _ _ 1024 c.split_at.ensures.front c.split_at.ensures.back in
     on_err c.from_residual.result (PrintedTo-fails _ _ _ _ _ _ _ _ c.pieces.invariant.printed parts c.digits_of.ensures c.in_err-write_whole.ensures.err)
 
 pub returns-clause-ok : goal.returns-clause-ok

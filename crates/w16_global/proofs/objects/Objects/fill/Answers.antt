@@ -1,9 +1,9 @@
-use Rattle.std.proofs.Common.{◌+◌, sym, ◌∙◌, subst, arith}
+use Rattle.std.proofs.Common.{sym, ◌∙◌, subst, arith}
 use Rattle.w16_model.specs.Bytes.{repeated}
 use Rattle.w16_model.proofs.Parts.{length-repeated, All-repeated}
 use Rattle.w16_region.specs.Bytes.{counted}
 use Rattle.w16_global.specs.Parts.{AreParts, HasPart, holding_of}
-use Rattle.w16_global.proofs.Written.{in_memory, no_part, parts_written, holding_written}
+use Rattle.w16_global.proofs.Written.{in_memory, no_part, parts_filled, holding_written}
 use Rattle.w16_global.proofs.objects.Objects.fill.Goals as goal
 
 pub unreachable-requires : goal.unreachable-requires
@@ -19,10 +19,9 @@ fill-requires c = in_memory c.self.invariant c.args.id c.self.view_is (sym c.blo
 
 pub invariant_of-self : goal.invariant_of-self
 invariant_of-self c =
-    let room = in_memory c.self.invariant c.args.id c.self.view_is (sym c.block.ensures.value ∙ c.in-Some.is) c.args.at c.args.n c.requires in
-    let long = length-repeated c.args.n c.args.byte in
     subst (AreParts c.self.inside.arena) (sym c.fill.ensures.bytes)
-    (parts_written c.self.invariant (c.in-Some.block.at + c.args.at) (repeated c.args.n c.args.byte) (omega (arith, room, long)) (All-repeated c.args.n c.args.byte c.ranges.byte.fits))
+    (parts_filled c.self.invariant c.args.id c.self.view_is (sym c.block.ensures.value ∙ c.in-Some.is) c.args.at (repeated c.args.n c.args.byte)
+    (subst (HasPart c.args.self.now.heap c.args.id c.args.at) (sym (length-repeated c.args.n c.args.byte)) c.requires) (All-repeated c.args.n c.args.byte c.ranges.byte.fits))
 
 pub returns : goal.returns
 returns c =

@@ -1,10 +1,25 @@
-use Rattle.std.proofs.Common.{◌∙◌}
-use Rattle.w16_global.specs.Parts.{holding_of}
+use Rattle.std.proofs.Common.{◌/◌, arith, refl, sym, ◌∙◌, subst}
+use Rattle.w16_holes.specs.Holes.{Free}
+use Rattle.w16_holes.specs.Thread.{AreThreaded}
+use Rattle.w16_arena.specs.State.{ArenaState}
+use Rattle.w16_global.specs.Parts.{AreParts, holding_of}
 use Rattle.w16_global.proofs.Fresh.{fresh_parts, fresh_holding}
 use Rattle.w16_global.proofs.objects.Objects.new.Goals as goal
 
+pub new-requires-2-clause-high : goal.new-requires-2-clause-high
+new-requires-2-clause-high c = let whole = c.requires.grained in (c.args.size / 32, omega arith)
+
+pub new-requires-2-clause-wide : goal.new-requires-2-clause-wide
+new-requires-2-clause-wide c = (4, refl)
+
 pub invariant_of-result : goal.invariant_of-result
-invariant_of-result c = rw (c.in_ok-arena.ensures, c.in_ok-memory.ensures.bytes) (fresh_parts c.args.cap c.args.memory c.requires)
+invariant_of-result c =
+    subst (λ (s : ArenaState). AreParts s c.new-2.new.space.bytes.items) (sym c.in_ok-arena.ensures)
+    (fresh_parts c.args.cap c.args.size c.requires.few c.new-2.new.space.bytes.items (c.in_ok-holes.ensures.length ∙ c.in_ok-memory.ensures.length) c.has_bytes.ensures
+    (subst (λ (f : Free). AreThreaded f.holes c.new-2.new.space.bytes.items) c.in_ok-holes.ensures.value c.in_ok-holes.ensures.kept))
 
 pub returns : goal.returns
-returns c = (λ i. holding_of (c.in_ok-arena.ensures i) (c.in_ok-memory.ensures.bytes i) (c.in_ok-memory.ensures.written i)) ∙ fresh_holding c.args.cap c.args.memory c.requires
+returns c =
+    (λ i. holding_of (c.in_ok-arena.ensures i) c.new-2.new.space.bytes.items ((c.in_ok-holes.ensures.written ∙ c.in_ok-memory.ensures.written) i))
+    ∙ fresh_holding c.args.cap c.args.size c.requires.few c.new-2.new.space.bytes.items (c.in_ok-holes.ensures.length ∙ c.in_ok-memory.ensures.length) c.has_bytes.ensures
+    (subst (λ (f : Free). AreThreaded f.holes c.new-2.new.space.bytes.items) c.in_ok-holes.ensures.value c.in_ok-holes.ensures.kept)

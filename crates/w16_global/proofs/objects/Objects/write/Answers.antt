@@ -4,7 +4,7 @@ use Rattle.w16_model.specs.Bytes.{put_part}
 use Rattle.w16_region.specs.Bytes.{counted, with_items-put_part}
 use Rattle.w16_global.specs.Parts.{AreParts, holding_of}
 use Rattle.w16_region.proofs.Bytes.{All-bytes}
-use Rattle.w16_global.proofs.Written.{in_memory, no_part, parts_written, holding_written}
+use Rattle.w16_global.proofs.Written.{in_memory, no_part, parts_filled, holding_written}
 use Rattle.w16_global.proofs.objects.Objects.write.Goals as goal
 
 -- a vector into which `new` is put, where `left` is what the loan left there
@@ -37,7 +37,7 @@ invariant_of-self c =
     let s = c.self.inside in
     let room = in_memory c.self.invariant c.args.id c.self.view_is (sym c.block.ensures.value ∙ c.in-Some.is) c.args.at (length c.args.new.now) c.requires in
     subst (AreParts s.arena) (sym (items_put s.memory.bytes (c.in-Some.block.at + c.args.at) c.copy_from_slice.new.self c.args.new.now c.copy_from_slice.ensures.after room))
-    (parts_written c.self.invariant (c.in-Some.block.at + c.args.at) c.args.new.now room (All-bytes c.args.new.now c.type_inv.new))
+    (parts_filled c.self.invariant c.args.id c.self.view_is (sym c.block.ensures.value ∙ c.in-Some.is) c.args.at c.args.new.now c.requires (All-bytes c.args.new.now c.type_inv.new))
 
 pub returns : goal.returns
 returns c =

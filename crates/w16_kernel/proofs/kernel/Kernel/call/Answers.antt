@@ -1,8 +1,11 @@
-use Rattle.w16_kernel.proofs.Stepping.{in_world, fewest_in_world}
+use Rattle.w16_kernel.proofs.Stepping.{told_step, told_fewest, told_world}
 use Rattle.w16_kernel.proofs.kernel.Kernel.call.Goals as goal
 
 pub returns-clause-step : goal.returns-clause-step
-returns-clause-step c = in_world _ _ _ _ c.self.view_is _ c.step.ensures.step
+returns-clause-step c = rw (← c.self.view_is) (rw c.sweep.ensures (told_step _ _ _ c.self.invariant c.in_ok-reply.reply (c.in_ok-reply.ensures.step c.args.self.now)))
 
 pub returns-clause-fewest : goal.returns-clause-fewest
-returns-clause-fewest c = fewest_in_world _ _ _ _ c.are_handles.ensures c.self.view_is _ c.step.ensures.step
+returns-clause-fewest c = rw (← c.self.view_is) (rw c.sweep.ensures (told_fewest _ _ _ c.self.invariant c.in_ok-reply.reply (c.in_ok-reply.ensures.step c.args.self.now)))
+
+pub invariant_of-self-2 : goal.invariant_of-self-2
+invariant_of-self-2 c = rw c.sweep.ensures (told_world _ _ _ c.self.invariant c.in_ok-reply.reply (c.in_ok-reply.ensures.step c.args.self.now) c.are_handles.ensures)

@@ -1,7 +1,7 @@
 use Rattle.std.proofs.Common.{take, get_or, List, sym, subst, arith}
 use Rattle.std.proofs.lemmas.List.{take_more}
-use Rattle.w16_machine.specs.Machine.{Step}
-use Rattle.w16_machine.specs.Fewest.{IsFewest}
+use Rattle.w16_machine.specs.LocalMachine.{Step}
+use Rattle.w16_machine.specs.LocalRuns.{IsFewest}
 use Rattle.w16_kernel.specs.declared.call.Call.{Call}
 use Rattle.w16_kernel.specs.declared.call.Call.TheVariants.{GlobalAlloc}
 use Rattle.w16_kernel.specs.Runs.{command_of}

@@ -1,0 +1,111 @@
+use Rattle.std.proofs.Common.{◌≡◌, ◌+◌, ◌≤◌, false, [], length, IfSome, Some, refl, subst, sym, arith}
+use Rattle.w16_model.specs.declared.Block.{Block}
+use Rattle.w16_model.specs.Gap.{block_end, hole_after}
+use Rattle.w16_model.specs.Heap.{IsMultiple}
+use Rattle.w16_model.specs.Request.{Reallocates}
+use Rattle.w16_model.specs.Table.{block_with, heap_in}
+use Rattle.w16_blocks.specs.Layout.{Layout}
+use Rattle.w16_arena.specs.Asked.{IsResized}
+use Rattle.w16_arena.specs.declared.new_place.Placed.{Placed}
+use Rattle.w16_arena.specs.State.{ArenaState, KeepsRest, table_of, heap_of, holes_in}
+use Rattle.w16_arena.specs.Growth.{but_for}
+use Rattle.w16_compact.proofs.Rests.{rest_more, rest_wider}
+use Rattle.w16_arena.proofs.Shown.{known as known_in, told}
+use Rattle.w16_arena.proofs.Fitting.{id_known, fits_more, spare_small, ends_inside}
+use Rattle.w16_arena.proofs.InPlace.{kept_resized, rest_resized, is_extended, not_extended}
+use Rattle.w16_arena.proofs.Keeping.{same_in, used_placed}
+use Rattle.w16_arena.proofs.Extending.{long_after, others_after, grown_after}
+use Rattle.w16_arena.proofs.Arena.grow_in_place.Goals as goal
+
+pub free_after-requires-clause-id : goal.free_after-requires-clause-id
+free_after-requires-clause-id g c = id_known c.self.inside.blocks c.args.block (known_in c.self.invariant c.self.view_is (λ t. block_with t.blocks c.args.block.id ≡ Some c.args.block) c.requires.known) c.bounds.ensures.ordered
+
+pub overflow_add-block : goal.overflow_add-block
+overflow_add-block g c =
+    let l : Layout = c.self.inside.blocks in let b : Block = c.args.block in
+    let known : block_with l.blocks b.id ≡ Some b = known_in c.self.invariant c.self.view_is (λ t. block_with t.blocks b.id ≡ Some b) c.requires.known in
+    let free : c.free_after.result ≡ hole_after l.hi l.blocks (block_end b) = subst (λ p. IfSome p (λ (b : Block). c.free_after.result ≡ hole_after l.hi l.blocks (block_end b))) known c.free_after.ensures.value in
+    let least = spare_small l b known c.bounds.ensures.ordered in
+    let small = c.bounds.ensures.ordered.small in
+    record { fits = omega arith }
+
+pub returns-then-block-free_after-clause-refused : goal.returns-then-block-free_after-clause-refused
+returns-then-block-free_after-clause-refused g c =
+    let m = g.S.Space.bytes c.args.space.now in
+    let l : Layout = c.self.inside.blocks in let b : Block = c.args.block in let n = c.args.size in
+    let known : block_with l.blocks b.id ≡ Some b = known_in c.self.invariant c.self.view_is (λ t. block_with t.blocks b.id ≡ Some b) c.requires.known in
+    let free : c.free_after.result ≡ hole_after l.hi l.blocks (block_end b) = subst (λ p. IfSome p (λ (b : Block). c.free_after.result ≡ hole_after l.hi l.blocks (block_end b))) known c.free_after.ensures.value in
+    let short = c.if-block-free_after.true in (
+      told c.self.invariant c.self.view_is (λ t. Reallocates (heap_in t m) b.id n c.args.way false (heap_in t m))
+          (not_extended c.self.invariant b known n m (known_in c.self.invariant c.self.view_is (λ t. t.hi ≤ length m) c.requires.inside) (known_in c.self.invariant c.self.view_is (λ t. IsMultiple t.grain n) c.requires.rounded) c.args.way c.requires.more c.requires.held (omega arith)),
+      refl,
+      refl,
+    )
+
+pub resize-requires-clause-id : goal.resize-requires-clause-id
+resize-requires-clause-id g c = id_known c.self.inside.blocks c.args.block (known_in c.self.invariant c.self.view_is (λ t. block_with t.blocks c.args.block.id ≡ Some c.args.block) c.requires.known) c.bounds.ensures.ordered
+
+pub resize-requires-clause-fits : goal.resize-requires-clause-fits
+resize-requires-clause-fits g c =
+    let l : Layout = c.self.inside.blocks in let b : Block = c.args.block in
+    let known : block_with l.blocks b.id ≡ Some b = known_in c.self.invariant c.self.view_is (λ t. block_with t.blocks b.id ≡ Some b) c.requires.known in
+    let free : c.free_after.result ≡ hole_after l.hi l.blocks (block_end b) = subst (λ p. IfSome p (λ (b : Block). c.free_after.result ≡ hole_after l.hi l.blocks (block_end b))) known c.free_after.ensures.value in
+    let long = c.if-block-free_after.false in
+    fits_more l b known c.bounds.ensures.ordered c.args.size c.requires.more (omega arith) (known_in c.self.invariant c.self.view_is (λ t. IsMultiple t.grain c.args.size) c.requires.rounded)
+
+pub overflow_add-block-2 : goal.overflow_add-block-2
+overflow_add-block-2 g c =
+    let l : Layout = c.self.inside.blocks in let b : Block = c.args.block in
+    let end = ends_inside l b (known_in c.self.invariant c.self.view_is (λ t. block_with t.blocks b.id ≡ Some b) c.requires.known) c.bounds.ensures.ordered in
+    let small = c.bounds.ensures.ordered.small in
+    record { fits = omega arith }
+
+pub clear_if-requires : goal.clear_if-requires
+clear_if-requires g c =
+    let l : Layout = c.self.inside.blocks in let b : Block = c.args.block in
+    let known : block_with l.blocks b.id ≡ Some b = known_in c.self.invariant c.self.view_is (λ t. block_with t.blocks b.id ≡ Some b) c.requires.known in
+    let free : c.free_after.result ≡ hole_after l.hi l.blocks (block_end b) = subst (λ p. IfSome p (λ (b : Block). c.free_after.result ≡ hole_after l.hi l.blocks (block_end b))) known c.free_after.ensures.value in
+    let enough = c.if-block-free_after.false in
+    let end = (fits_more l b known c.bounds.ensures.ordered c.args.size c.requires.more (omega arith) (known_in c.self.invariant c.self.view_is (λ t. IsMultiple t.grain c.args.size) c.requires.rounded)).inside.2 in
+    let inside = known_in c.self.invariant c.self.view_is (λ t. t.hi ≤ length (g.S.Space.bytes c.args.space.now)) c.requires.inside in
+    let long = c.resize.ensures.bytes.rest.long in
+    let more = c.requires.more in
+    omega arith
+
+pub invariant_of-self : goal.invariant_of-self
+invariant_of-self g c = kept_resized c.self.invariant c.args.block (known_in c.self.invariant c.self.view_is (λ t. block_with t.blocks c.args.block.id ≡ Some c.args.block) c.requires.known) c.args.size c.resize.ensures.value c.resize.ensures.ordered
+
+pub returns-clause-resized : goal.returns-clause-resized
+returns-clause-resized g c =
+    let m = g.S.Space.bytes c.args.space.now in let mid = g.S.Space.bytes c.resize.new.space in let after = g.S.Space.bytes c.clear_if.new.space in
+    let l : Layout = c.self.inside.blocks in let b : Block = c.args.block in let n = c.args.size in
+    let p : Placed = record { at = b.at; slid = record { from = 0; to = 0 }; moved = 0 } in
+    let known : block_with l.blocks b.id ≡ Some b = known_in c.self.invariant c.self.view_is (λ t. block_with t.blocks b.id ≡ Some b) c.requires.known in
+    let free : c.free_after.result ≡ hole_after l.hi l.blocks (block_end b) = subst (λ p. IfSome p (λ (b : Block). c.free_after.result ≡ hole_after l.hi l.blocks (block_end b))) known c.free_after.ensures.value in
+    let enough = c.if-block-free_after.false in
+    let fits = fits_more l b known c.bounds.ensures.ordered c.args.size c.requires.more (omega arith) (known_in c.self.invariant c.self.view_is (λ t. IsMultiple t.grain c.args.size) c.requires.rounded) in
+    let inside = known_in c.self.invariant c.self.view_is (λ t. t.hi ≤ length m) c.requires.inside in
+    let kept = c.resize.ensures in let more = c.requires.more in
+    let long = long_after c.self.invariant b known n fits more kept.value kept.ordered m mid after inside kept.bytes.rest.long kept.small kept.bytes.contents kept.own c.args.way.zero c.clear_if.ensures.bytes in
+    let others = others_after c.self.invariant b known n fits more kept.value kept.ordered m mid after inside kept.bytes.rest.long kept.small kept.bytes.contents kept.own c.args.way.zero c.clear_if.ensures.bytes in
+    let grown = grown_after c.self.invariant b known n fits more kept.value kept.ordered m mid after inside kept.bytes.rest.long kept.small kept.bytes.contents kept.own c.args.way.zero c.clear_if.ensures.bytes in
+    rw c.forget_discards.ensures (told c.self.invariant c.self.view_is (λ t. IsResized (heap_in t m) b.id n c.args.way p [] (heap_of c.self.inside.entries.items c.resize.new.blocks c.self.inside.order.ids after))
+    (is_extended c.self.invariant b known n kept.value kept.ordered m inside after long others (omega arith) (known_in c.self.invariant c.self.view_is (λ t. IsMultiple t.grain n) c.requires.rounded) c.args.way p refl refl fits.inside.2
+    more c.requires.held (omega arith) grown refl))
+
+pub returns-clause-rest : goal.returns-clause-rest
+returns-clause-rest g c =
+    let l : Layout = c.self.inside.blocks in let b : Block = c.args.block in
+    let known : block_with l.blocks b.id ≡ Some b = known_in c.self.invariant c.self.view_is (λ t. block_with t.blocks b.id ≡ Some b) c.requires.known in
+    let free : c.free_after.result ≡ hole_after l.hi l.blocks (block_end b) = subst (λ p. IfSome p (λ (b : Block). c.free_after.result ≡ hole_after l.hi l.blocks (block_end b))) known c.free_after.ensures.value in
+    let enough = c.if-block-free_after.false in
+    let fits = fits_more l b known c.bounds.ensures.ordered c.args.size c.requires.more (omega arith) (known_in c.self.invariant c.self.view_is (λ t. IsMultiple t.grain c.args.size) c.requires.rounded) in let from = fits.inside.0 in let end = fits.inside.2 in let more = c.requires.more in
+    rw c.forget_discards.ensures (told c.self.invariant c.self.view_is (λ t. KeepsRest g.S.Space.bytes g.S.Space.lenders t c.args.space.now (table_of c.self.inside.entries.items c.resize.new.blocks c.self.inside.order.ids) c.clear_if.new.space)
+    (rest_resized c.self.invariant b known c.args.size c.resize.ensures.value c.resize.ensures.ordered (rest_more c.resize.ensures.bytes.rest c.clear_if.ensures.rest (omega arith) (omega arith))))
+
+pub returns-clause-kept : goal.returns-clause-kept
+returns-clause-kept g c =
+    let b : Block = c.args.block in let n = c.args.size in let more = c.requires.more in
+    let wide = rest_wider {low = b.at} {high = b.at + n} c.clear_if.ensures.rest (omega arith) (omega arith) in
+    subst (λ (s : ArenaState). g.H.Holes.are_in (holes_in s.table) (g.S.Space.bytes c.clear_if.new.space)) (sym c.forget_discards.ensures) (g.met.H.Holes.stay _ (g.S.Space.bytes c.resize.new.space) (g.S.Space.bytes c.clear_if.new.space) c.resize.ensures.kept
+    (same_in b.at (b.at + n) _ _ _ wide.long wide.outside (used_placed (but_for b.id c.self.inside.blocks) c.resize.new.blocks (record b { size = n }) c.resize.ensures.value c.resize.ensures.ordered)))

@@ -1,0 +1,66 @@
+use Rattle.std.proofs.Common.{◌≡◌, ◌+◌, ◌≤◌, length, IsSomeAnd, Some, arith}
+use Rattle.w16_model.specs.declared.Block.{Block}
+use Rattle.w16_model.specs.Heap.{IsMultiple, object_at}
+use Rattle.w16_model.specs.Request.{IsGrown, StaysOrMovesToHole}
+use Rattle.w16_model.specs.Table.{block_with, heap_in}
+use Rattle.w16_compact.proofs.Rests.{rest_wider}
+use Rattle.w16_arena.specs.Asked.{Stands}
+use Rattle.w16_arena.specs.Growth.{but_for}
+use Rattle.w16_arena.specs.State.{KeepsRest, table_of, heap_of}
+use Rattle.w16_arena.proofs.Fitting.{id_known}
+use Rattle.w16_arena.proofs.Keeping.{same_in, used_placed}
+use Rattle.w16_arena.proofs.Shown.{known as known_in, told}
+use Rattle.w16_arena.proofs.Sized.{of_object}
+use Rattle.w16_arena.proofs.Regrown.{kept_grown, rest_grown, stands_grown, hole_grown}
+use Rattle.w16_arena.proofs.Arena.grow_now.Goals as goal
+
+pub grow_block-requires-clause-id : goal.grow_block-requires-clause-id
+grow_block-requires-clause-id g c =
+    id_known c.self.inside.blocks c.args.block (known_in c.self.invariant c.self.view_is (λ t. block_with t.blocks c.args.block.id ≡ Some c.args.block) c.requires.known) c.bounds.ensures.ordered
+
+pub invariant_of-self-2 : goal.invariant_of-self-2
+invariant_of-self-2 g c =
+    let m = g.S.Space.bytes c.args.space.now in
+    let b : Block = c.args.block in let n = c.args.size in let e = c.in_ok-placed.ensures in let p = c.in_ok-placed.placed in
+    let known = known_in c.self.invariant c.self.view_is (λ t. block_with t.blocks b.id ≡ Some b) c.requires.known in
+    let inside = known_in c.self.invariant c.self.view_is (λ t. t.hi ≤ length m) c.requires.inside in
+    let rounded = known_in c.self.invariant c.self.view_is (λ t. IsMultiple t.grain n) c.requires.rounded in
+    kept_grown c.self.invariant b known c.bounds.ensures.ordered m inside n c.requires.more rounded c.args.way p e.value e.laid e.slid e.free e.object c.has_bytes.ensures c.clear_if.ensures.bytes
+
+pub returns-clause-stands : goal.returns-clause-stands
+returns-clause-stands g c =
+    let m = g.S.Space.bytes c.args.space.now in
+    let b : Block = c.args.block in let n = c.args.size in let e = c.in_ok-placed.ensures in let p = c.in_ok-placed.placed in
+    let known = known_in c.self.invariant c.self.view_is (λ t. block_with t.blocks b.id ≡ Some b) c.requires.known in
+    let inside = known_in c.self.invariant c.self.view_is (λ t. t.hi ≤ length m) c.requires.inside in
+    let rounded = known_in c.self.invariant c.self.view_is (λ t. IsMultiple t.grain n) c.requires.rounded in
+    told c.self.invariant c.self.view_is (λ t. IsSomeAnd (object_at (heap_in t m) b.id) (λ o. Stands (heap_in t m) b.id n (IsGrown c.args.way.zero n o) (λ _ order. order) c.args.way p (heap_of c.self.inside.entries.items c.grow_block.new.blocks c.self.inside.order.ids (g.S.Space.bytes c.clear_if.new.space))))
+    (of_object (table_of c.self.inside.entries.items c.self.inside.blocks c.self.inside.order.ids) c.self.invariant.sound m inside b known
+    (λ o. Stands (heap_of c.self.inside.entries.items c.self.inside.blocks c.self.inside.order.ids m) b.id n (IsGrown c.args.way.zero n o) (λ _ order. order) c.args.way p (heap_of c.self.inside.entries.items c.grow_block.new.blocks c.self.inside.order.ids (g.S.Space.bytes c.clear_if.new.space)))
+    (stands_grown c.self.invariant b known c.bounds.ensures.ordered m inside n c.requires.more rounded c.args.way p e.value e.laid e.slid e.free e.object c.has_bytes.ensures c.clear_if.ensures.bytes (λ off. (e.still off).0) e.moved))
+
+pub returns-clause-hole : goal.returns-clause-hole
+returns-clause-hole g c =
+    let m = g.S.Space.bytes c.args.space.now in
+    let b : Block = c.args.block in let n = c.args.size in let e = c.in_ok-placed.ensures in let p = c.in_ok-placed.placed in
+    let known = known_in c.self.invariant c.self.view_is (λ t. block_with t.blocks b.id ≡ Some b) c.requires.known in
+    let inside = known_in c.self.invariant c.self.view_is (λ t. t.hi ≤ length m) c.requires.inside in
+    let rounded = known_in c.self.invariant c.self.view_is (λ t. IsMultiple t.grain n) c.requires.rounded in
+    λ off. told c.self.invariant c.self.view_is (λ t. StaysOrMovesToHole (heap_in t m) b.id n (heap_of c.self.inside.entries.items c.grow_block.new.blocks c.self.inside.order.ids (g.S.Space.bytes c.clear_if.new.space)))
+    (hole_grown c.self.invariant b known c.bounds.ensures.ordered m inside n c.requires.more rounded c.args.way p e.value e.laid e.slid e.free e.object c.has_bytes.ensures c.clear_if.ensures.bytes (λ off. (e.still off).0) (e.still off).1)
+
+pub returns-clause-rest : goal.returns-clause-rest
+returns-clause-rest g c =
+    let m = g.S.Space.bytes c.args.space.now in
+    let b : Block = c.args.block in let n = c.args.size in let e = c.in_ok-placed.ensures in let p = c.in_ok-placed.placed in
+    let known = known_in c.self.invariant c.self.view_is (λ t. block_with t.blocks b.id ≡ Some b) c.requires.known in
+    let inside = known_in c.self.invariant c.self.view_is (λ t. t.hi ≤ length m) c.requires.inside in
+    let rounded = known_in c.self.invariant c.self.view_is (λ t. IsMultiple t.grain n) c.requires.rounded in
+    told c.self.invariant c.self.view_is (λ t. KeepsRest g.S.Space.bytes g.S.Space.lenders t c.args.space.now (table_of c.self.inside.entries.items c.grow_block.new.blocks c.self.inside.order.ids) c.clear_if.new.space) (rest_grown c.self.invariant b known c.bounds.ensures.ordered m inside n c.requires.more rounded c.args.way p e.value e.laid e.slid e.free e.object c.has_bytes.ensures c.clear_if.ensures.bytes e.rest c.clear_if.ensures.rest)
+
+pub returns-clause-kept : goal.returns-clause-kept
+returns-clause-kept g c =
+    let b : Block = c.args.block in let n = c.args.size in let e = c.in_ok-placed.ensures in let p = c.in_ok-placed.placed in let more = c.requires.more in
+    let wide = rest_wider {low = p.at} {high = p.at + n} c.clear_if.ensures.rest (omega arith) (omega arith) in
+    g.met.H.Holes.stay _ (g.S.Space.bytes c.grow_block.new.space) (g.S.Space.bytes c.clear_if.new.space) e.kept
+    (same_in p.at (p.at + n) _ _ _ wide.long wide.outside (used_placed (but_for b.id c.grow_block.new.blocks) c.grow_block.new.blocks (record b { at = p.at; size = n }) e.value e.laid))

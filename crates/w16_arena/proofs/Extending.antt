@@ -1,0 +1,53 @@
+-- An object that got more bytes where it stands: its own and new ones, and the others' as they were.
+use Rattle.std.proofs.Common.{◌≡◌, ◌≢◌, ℕ, ◌+◌, ◌-◌, ◌<◌, ◌≤◌, inl, inr, Bool, not, ◌==◌, if◌then◌else◌, All, List, length, slice_range, Option, Some, None, option_map, refl, sym, ap, ◌∙◌, arith, ne_eqb}
+use Rattle.w16_model.specs.declared.Block.{Block}
+use Rattle.w16_model.specs.declared.Entry.{Entry}
+use Rattle.w16_model.specs.Bytes.{part, put_part, repeated}
+use Rattle.w16_model.specs.Gap.{Misses}
+use Rattle.w16_model.specs.Heap.{Object}
+use Rattle.w16_model.specs.Request.{IsGrown}
+use Rattle.w16_model.specs.Table.{block_with}
+use Rattle.w16_model.proofs.Gaps.{Each-at, filter_member}
+use Rattle.w16_model.proofs.Parts.{range_part}
+use Rattle.w16_model.proofs.Tables.{member_with}
+use Rattle.w16_blocks.specs.Layout.{Layout, IsOrdered, IsApart, FitsFor, all_but, replaced}
+use Rattle.w16_compact.specs.Gather.{contents}
+use Rattle.w16_lru.specs.Uses.{Uses}
+use Rattle.w16_arena.specs.State.{table_of}
+use Rattle.w16_arena.specs.Representation.{IsKept}
+use Rattle.w16_arena.proofs.Cleared.{Makes}
+use Rattle.w16_arena.proofs.Longer as longer
+use Rattle.w16_arena.proofs.InPlace.{others_with}
+use Rattle.w16_arena.proofs.Sized as sized
+
+module _ {entries : List (Option Entry)} {layout : Layout} {uses : Uses} {gap_rooms : ℕ} {room : ℕ} (kept : IsKept entries layout uses gap_rooms room)
+    (b : Block) (known : block_with layout.blocks b.id ≡ Some b) (n : ℕ) (fits : FitsFor layout (record b { size = n })) (more : b.size < n) {new : Layout} (value : new ≡ record layout { blocks = replaced (record b { size = n }) layout.blocks }) (laid : IsOrdered new)
+    (memory mid after : List ℕ) (inside : layout.hi ≤ length memory) (mid_long : length mid ≡ length memory) (small : All (λ b. b < 256) mid)
+    (others : contents mid (all_but b.id layout.blocks) ≡ contents memory (all_but b.id layout.blocks)) (own : (m : ℕ) → m ≤ b.size → m ≤ n → part mid b.at m ≡ part memory b.at m)
+    (zero : Bool) (filled : after ≡ (if zero then put_part mid (b.at + b.size) (repeated (n - b.size) 0) else mid)) where
+  pub in_mid : b.at + n ≤ length mid
+  in_mid = let end = fits.inside.2 in omega arith
+
+  made : Makes b.at n mid after
+  made = longer.made b.at b.size n mid after more in_mid small zero filled
+
+  pub long_after : length after ≡ length memory
+  long_after = made.long ∙ mid_long
+
+  -- another block is beside it
+  beside : (x : Block) → x.id ≢ b.id → (q : ℕ) → block_with layout.blocks q ≡ Some x → Misses x.at x.size b.at (b.at + n)
+  beside x d q e =
+      let among = filter_member (λ (c : Block). not (c.id == b.id)) layout.blocks x (member_with layout.blocks q x e).0 (ap not (ne_eqb x.id b.id d)) in
+      elim (Each-at (λ c. IsApart (record b { size = n }) c) (all_but b.id layout.blocks) fits.apart x among) [ inl before ↦ inr before | inr behind ↦ inl behind ]
+
+  pub others_after : (q : ℕ) → q ≢ b.id
+      → option_map (λ (x : Block). slice_range after x.at (x.at + x.size)) (block_with layout.blocks q) ≡ option_map (λ (x : Block). slice_range memory x.at (x.at + x.size)) (block_with layout.blocks q)
+  others_after q d = from (block_with layout.blocks q) refl ∙ others_with kept b known n value laid memory mid others q d
+    where
+      from : (p : Option Block) → block_with layout.blocks q ≡ p → option_map (λ (x : Block). slice_range after x.at (x.at + x.size)) p ≡ option_map (λ (x : Block). slice_range mid x.at (x.at + x.size)) p
+      from None e = refl
+      from (Some x) e = ap Some (made.others x.at x.size (beside x (λ i. d (sym (member_with layout.blocks q x e).1 ∙ i)) q e))
+
+  pub grown_after : let object : Object = sized.object (table_of entries layout uses.ids) kept.sound memory inside b known in IsGrown zero n object (record object { bytes = Some (slice_range after b.at (b.at + n)) })
+  grown_after = longer.is_grown b.at b.size n mid after more in_mid small zero filled (slice_range memory b.at (b.at + b.size)) (sized.own_size (table_of entries layout uses.ids) kept.sound memory inside b known)
+      (own b.size (omega arith) (omega arith) ∙ sym (range_part memory b.at b.size)) _ _

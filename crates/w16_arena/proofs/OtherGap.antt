@@ -1,0 +1,118 @@
+-- A gap that is gathered for a block that stands elsewhere.
+use Rattle.std.proofs.Common.{◌≡◌, ℕ, ◌+◌, ◌<◌, ◌≤◌, ◌==◌, ◌⊎◌, inl, inr, IsTrue, List, [], ◌∷◌, length, All, Option, Some, None, refl, sym, ap, ◌∙◌, subst, arith, eq-eqb}
+use Rattle.std.proofs.lemmas.Bool.{cond-true, false≢true}
+use Rattle.std.proofs.lemmas.Bool.Decides.{eqb_tells}
+use Rattle.w16_model.specs.declared.Block.{Block}
+use Rattle.w16_model.specs.declared.Hold.TheVariants.{Loose}
+use Rattle.w16_model.specs.Bytes.{part}
+use Rattle.w16_model.specs.Gap.{block_end, holds_still, is_any, is_pinned, loose_bytes, IsClear, Misses}
+use Rattle.w16_model.specs.Table.{block_with}
+use Rattle.w16_model.proofs.Gaps.{Each-from_All, All-from_Each}
+use Rattle.w16_blocks.specs.Layout.{Layout, AreNamed, IsOrdered, all_but}
+use Rattle.w16_blocks.proofs.Remove.{all_but_same, all_but_other, all_but_absent, rest_differs, with_same, with_other, each_with, All-all_but, All-back}
+use Rattle.w16_compact.specs.declared.gaps.Gap.{Gap}
+use Rattle.w16_compact.specs.Gap.{without, HasRoom}
+use Rattle.w16_compact.specs.Gather.{contents, gathered, moved_between, FitsGap, MayGather}
+use Rattle.w16_compact.proofs.LeftOut.{may_with}
+use Rattle.w16_compact.proofs.Loose.{loose_one}
+use Rattle.w16_compact.proofs.Raising.{loose_skip}
+use Rattle.w16_arena.specs.NewPlace.{Slides, AreMoved, AreFreeBytes}
+use Rattle.w16_arena.proofs.ButFor.{moved_both, slides_ids, own_lies}
+use Rattle.w16_arena.proofs.Gathering.{gathered_moved, gathered_free}
+use Rattle.w16_arena.proofs.Pairs.{BothOrNone, with_two}
+
+-- the loose bytes of an interval, without a block outside
+loose_outside : (cap a e : ℕ) (x : Block) (bs : List Block) → AreNamed cap bs → block_with bs x.id ≡ Some x → (x.at < a) ⊎ (e ≤ x.at) → loose_bytes bs a e ≡ loose_bytes (all_but x.id bs) a e
+loose_outside cap a e x [] named known out = cc
+loose_outside cap a e x (b ∷ bs) named known out = elim (eqb_tells b.id x.id) [
+  | inl same ↦
+      let f : Some b ≡ Some x = sym (with_same x.id b bs same.0) ∙ known in let is : b ≡ x = cc in
+      let rest : all_but x.id (b ∷ bs) ≡ bs = all_but_same x.id b bs same.0 ∙ all_but_absent x.id bs (rest_differs cap x.id b bs same.1 named) in
+      loose_skip b bs a e (subst (λ (c : Block). (c.at < a) ⊎ (e ≤ c.at)) (sym is) out) ∙ ap (λ (cs : List Block). loose_bytes cs a e) (sym rest)
+  | inr other ↦
+      let rest = loose_outside cap a e x bs named.2 (sym (with_other x.id b bs other.0) ∙ known) out in
+      let left = ap (λ (cs : List Block). loose_bytes cs a e) (all_but_other x.id b bs other.0) in
+      let one = loose_one b bs a e in let two = loose_one b (all_but x.id bs) a e in
+      omega (arith, rest, left, one, two)
+]
+
+module _ {l : Layout} (ordered : IsOrdered l) (x : Block) (known : block_with l.blocks x.id ≡ Some x) (loose : x.hold ≡ Loose) {n : ℕ} {gap : Gap} (has : HasRoom (without (Some x.id) l) n gap) (other : (x.at < gap.low) ⊎ (gap.high ≤ x.at)) where
+  may_all : MayGather l gap.low gap.high
+  may_all = may_with l ordered x.id x known loose n gap has
+
+  outside : (block_end x ≤ gap.low) ⊎ (gap.high ≤ x.at)
+  outside = elim (each_with (FitsGap gap.low gap.high) x.id x l.blocks known may_all.loose) [
+    | inl front ↦ inl front
+    | inr e ↦ elim e [
+      | inl behind ↦ inr behind
+      | inr inside ↦ elim other [
+        | inl lower ↦ absurd (let from = inside.0 in omega arith)
+        | inr above ↦ inr above
+      ]
+    ]
+  ]
+
+  -- a loose block is in no pinned one's way
+  abbrev Missed : ℕ → ℕ → Block → Type 0
+  Missed a e y = IsTrue (is_pinned y) → Misses y.at y.size a e
+
+  -- so the gap has the room with it too
+  pub room_all : HasRoom l n gap
+  room_all = record {
+    gap = record {
+      some = has.gap.some;
+      clear = record {
+        above = has.gap.clear.above;
+        below = has.gap.clear.below;
+        misses = All-from_Each _ l.blocks (All-back l.cap (Missed gap.low gap.high) x.id x l.blocks ordered.named known (λ t. absurd (false≢true (sym (ap holds_still loose) ∙ t))) (Each-from_All _ (all_but x.id l.blocks) has.gap.clear.misses));
+      };
+      maximal = λ a e low high wider. has.gap.maximal a e low high (record {
+        above = wider.above;
+        below = wider.below;
+        misses = All-from_Each _ (all_but x.id l.blocks) (All-all_but (Missed a e) x.id l.blocks (Each-from_All _ l.blocks wider.misses));
+      });
+    };
+    loose = has.loose ∙ sym (loose_outside l.cap gap.low gap.high x l.blocks ordered.named known other);
+    room = has.room;
+    grained = has.grained;
+    may = may_all;
+  }
+
+  -- once it is gathered
+  pub all_free : {mid : Layout} → mid ≡ record l { blocks = gathered gap.low gap.high l.blocks } → IsClear is_any l.lo l.hi mid.blocks (gap.low + loose_bytes l.blocks gap.low gap.high) gap.high → AreFreeBytes mid n (gap.low + gap.loose)
+  all_free value clear = gathered_free ordered room_all value clear
+
+  module _ {mid : Layout} (value : mid ≡ record l { blocks = gathered gap.low gap.high l.blocks }) (laid : IsOrdered mid) (memory after : List ℕ) (bytes : contents after mid.blocks ≡ contents memory l.blocks) (long : length after ≡ length memory)
+      (small : All (λ b. b < 256) after) where
+    pub all_moved : AreMoved gap.low gap.high l memory mid after
+    all_moved = gathered_moved ordered room_all value bytes long laid small
+
+    -- the block stands where it stood, with its bytes
+    stays : (block_with mid.blocks x.id ≡ Some x) × (part after x.at x.size ≡ part memory x.at x.size)
+    stays = from (block_with mid.blocks x.id) (subst (λ (o : Option Block). BothOrNone R o (block_with mid.blocks x.id)) known (with_two R (slides_ids gap.low gap.high memory after) l.blocks mid.blocks all_moved.blocks x.id))
+      where
+        R : Block → Block → Type 0
+        R = Slides gap.low gap.high memory after
+
+        same : (c : Block) → Slides gap.low gap.high memory after x c → c ≡ x
+        same c s = s.same ∙ ap (λ (a : ℕ). let r : Block = record x { at = a } in r) (elim s.place [
+          | inl e ↦ e
+          | inr f ↦ let some = (own_lies ordered x known).1 in let from_low = f.3 in let to_high = f.4 in elim outside [ inl front ↦ absurd (omega arith) | inr behind ↦ absurd (omega arith) ]
+        ])
+
+        from : (o : Option Block) → BothOrNone (Slides gap.low gap.high memory after) (Some x) o → (o ≡ Some x) × (part after x.at x.size ≡ part memory x.at x.size)
+        from None s = absurd s
+        from (Some c) s = (ap Some (same c s), subst (λ (d : Block). part after d.at d.size ≡ part memory x.at x.size) (same c s) s.bytes)
+
+    pub known_mid : block_with mid.blocks x.id ≡ Some x
+    known_mid = stays.0
+
+    pub bytes_mid : part after x.at x.size ≡ part memory x.at x.size
+    bytes_mid = stays.1
+
+    -- so what was moved was others'
+    pub others_moved : moved_between l.blocks mid.blocks ≡ moved_between (all_but x.id l.blocks) (all_but x.id mid.blocks)
+    others_moved =
+        let all = moved_both (Slides gap.low gap.high memory after) (slides_ids gap.low gap.high memory after) x.id l.cap l.blocks mid.blocks all_moved.blocks ordered.named (subst (λ k. AreNamed k mid.blocks) (ap (λ (m : Layout). m.cap) value) laid.named) x x known known_mid in
+        let none = cond-true (x.at == x.at) 0 x.size (eq-eqb x.at x.at refl) in
+        omega (arith, all, none)

@@ -1,0 +1,69 @@
+-- An object that got bytes while it was left out of the heap: of the whole heap the same holds.
+use Rattle.std.proofs.Common.{◌≡◌, ◌≢◌, ℕ, ◌+◌, ◌<◌, ◌≤◌, ◌⊎◌, not, ◌==◌, IsTrue, IfSome, Option, Some, None, unwrap_or, sym, ap, ◌∙◌, eq-eqb, inl, inr}
+use Rattle.std.specs.Ordering.{nat_cmp}
+use Rattle.std.specs.Cmp.{nat_cmp_total}
+use Rattle.std.specs.FinMap as finmap
+use Rattle.std.specs.FinMap.{FinMap, same_map, nat_cmp-IsAntisymmetric}
+use Rattle.std.proofs.lemmas.Bool.{cases_eq, false≢true, and_parts}
+use Rattle.w16_model.specs.declared.Block.{Block}
+use Rattle.w16_model.specs.declared.Way.{Way}
+use Rattle.w16_model.specs.Heap.{Heap, Object, blocks}
+use Rattle.w16_model.specs.Changes.{removed}
+use Rattle.w16_model.specs.Request.{stays_for, moved_bytes}
+use Rattle.w16_model.proofs.Gaps.{Each-at, Each-from, Each-from_All, All-from_Each}
+use Rattle.w16_model.proofs.Heaps.{IsBlockOf, block_member, member_block}
+use Rattle.w16_model.proofs.KeptHeaps.{inserted_here, inserted_other, taken_other}
+use Rattle.w16_arena.specs.Asked.{Stands}
+use Rattle.w16_arena.specs.declared.new_place.Placed.{Placed}
+
+-- what is put where something was taken away is as if nothing had been
+put_where_taken : {X : Type 0} (m : FinMap nat_cmp X) (id : ℕ) (x : X) → finmap.insert (finmap.remove m id) id x ≡ finmap.insert m id x
+put_where_taken m id x = same_map nat_cmp_total nat_cmp-IsAntisymmetric (finmap.insert (finmap.remove m id) id x) (finmap.insert m id x) (λ q. elim (cases_eq q id) [
+  | inl e ↦ inserted_here (finmap.remove m id) id x q e ∙ sym (inserted_here m id x q e)
+  | inr d ↦ inserted_other (finmap.remove m id) id x q d ∙ taken_other m id q d ∙ sym (inserted_other m id x q d)
+])
+
+module _ (heap : Heap) (id : ℕ) where
+  -- the other blocks are left
+  left : (x : Block) → x.id ≢ id → IsBlockOf heap x → IsBlockOf (removed heap id) x
+  left x d b = record {
+    object = b.object;
+    bytes = b.bytes;
+    is_there = taken_other heap.objects id x.id d ∙ b.is_there;
+    has_bytes = b.has_bytes;
+    place = b.place ∙ ap (λ p. unwrap_or p 0) (sym (taken_other heap.places id x.id d));
+    size = b.size;
+    hold = b.hold;
+  }
+
+  pub put_back : {n : ℕ} {becomes : Object → Type 0} {way : Way} {p : Placed} {new : Heap} → Stands (removed heap id) id n becomes (λ _ _. heap.order) way p new
+      → (moved : ℕ) → moved ≡ moved_bytes heap new → heap.lo + moved ≤ heap.hi → Stands heap id n becomes (λ _ order. order) way (record p { moved = moved }) new
+  put_back {n} {becomes} {way} {p} {new} s moved counted few = record {
+    object = s.object;
+    such = s.such;
+    settled = record {
+      same = s.settled.same ∙ (λ i. record { lo = heap.lo; hi = heap.hi; grain = heap.grain; objects = put_where_taken heap.objects id s.object i; places = new.places; order = heap.order });
+      sound = s.settled.sound;
+      kept = All-from_Each Stays (blocks heap) (Each-from Stays (blocks heap) (λ x m t.
+          let d : x.id ≢ id = λ e. other x.id e (and_parts (not (x.id == id)) _ t).0 in
+          Each-at Stays (blocks (removed heap id)) (Each-from_All Stays (blocks (removed heap id)) s.settled.kept) x (block_member (removed heap id) x (left x d (member_block heap x m))) t));
+    };
+    placed = record {
+      place = s.placed.place;
+      inside = s.placed.inside;
+      still = λ q d. there q d (finmap.get new.places q) (s.placed.still q d);
+      moved = counted;
+      few = few;
+    };
+  }
+    where
+      Stays : Block → Type 0
+      Stays x = IsTrue (stays_for id way x) → finmap.get new.places x.id ≡ Some x.at
+
+      other : (q : ℕ) → q ≡ id → IsTrue (not (q == id)) → ⊥
+      other q e t = false≢true (sym (ap not (eq-eqb q id e)) ∙ t)
+
+      there : (q : ℕ) → q ≢ id → (at : Option ℕ) → IfSome at (λ at. ((at < p.slid.from) ⊎ (p.slid.to ≤ at)) → finmap.get (removed heap id).places q ≡ Some at)
+          → IfSome at (λ at. ((at < p.slid.from) ⊎ (p.slid.to ≤ at)) → finmap.get heap.places q ≡ Some at)
+      there q d None f = tt
+      there q d (Some at) f = λ out. sym (taken_other heap.places id q d) ∙ f out

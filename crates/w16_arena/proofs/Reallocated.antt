@@ -1,0 +1,97 @@
+-- A reallocation by its cases: an object without bytes, and one with a block.
+use Rattle.std.proofs.Common.{◌≡◌, ℕ, ◌+◌, ◌-◌, ◌≤◌, Bool, true, false, not, ◌&&◌, ◌||◌, nat_lt, if◌then◌else◌, is_ok, IfSome, IsSomeAnd, IfOk, OnErr, List, length, slice_range, Option, Some, None, Result, Ok, Err, option_map, unwrap_or, sym, ap, ◌∙◌, subst, arith}
+use Rattle.w16_region.specs.Bytes.{counted}
+use Rattle.w16_model.specs.declared.Block.{Block}
+use Rattle.w16_model.specs.declared.Entry.{Entry}
+use Rattle.w16_model.specs.declared.Way.{Way}
+use Rattle.w16_model.specs.Gap.{holds_still}
+use Rattle.w16_model.specs.Heap.{Heap, Object, bytes_at, is_fixed, object_at}
+use Rattle.w16_model.specs.Request.{Allocates, Reallocates, ReallocatesObject}
+use Rattle.w16_model.specs.Table.{Table, IsSound, IsCountedBy, block_with, entry_at, heap_in, hold_of_entry, object_in}
+use Rattle.w16_model.proofs.Tables.{object_is, member_with}
+use Rattle.w16_blocks.specs.Layout.{Layout}
+use Rattle.w16_arena.proofs.Lookups.{holds_at}
+use Rattle.w16_arena.proofs.Sized.{still_hold}
+use Rattle.w16_arena.specs.Asked.{HasDiscarded, HasDiscardedFor, IsPlaced, IsResized, reallocation_prefix}
+use Rattle.w16_arena.specs.declared.new_place.Placed.{Placed}
+use Rattle.w16_arena.specs.declared.requests.NoRoom.{NoRoom}
+
+-- An object without bytes has no locks, so it gets bytes as a new one does.
+module _ (t : Table) (sound : IsSound t) (memory : List ℕ) (inside : t.hi ≤ length memory) (id : ℕ) (e : Entry) (there : entry_at t id ≡ Some e) (none : block_with t.blocks id ≡ None) where
+  abbrev h : Heap
+  h = heap_in t memory
+
+  abbrev absent : Object
+  absent = record { kind = e.kind; locks = e.locks; bytes = None }
+
+  absent_is : object_at h id ≡ Some absent
+  absent_is = object_is t sound.table memory inside id ∙ ap (option_map (object_in t.blocks memory id)) there
+      ∙ ap (λ (p : Option Block). let o : Object = record { kind = e.kind; locks = e.locks; bytes = option_map (λ (x : Block). slice_range memory x.at (x.at + x.size)) p } in Some o) none
+
+  unlocked : e.locks ≡ 0
+  unlocked =
+      let counted : IsCountedBy (block_with t.blocks id) e = subst (λ p. IfSome p (IsCountedBy (block_with t.blocks id))) there (sound.counted id) in
+      counted.2 none
+
+  pub revived : (n : ℕ) (way : Way) (answered : Bool) (new : Heap) → Allocates h id n e.kind 0 way answered new → Reallocates h id n way answered new
+  revived n way answered new a = record {
+    some = a.some;
+    rounded = a.rounded;
+    object = subst (λ p. IsSomeAnd p (λ o. ReallocatesObject h id o n way answered new)) (sym absent_is) (subst (λ k. Allocates h id n e.kind k way answered new) (sym unlocked) a);
+  }
+
+  pub revived_discards : (n : ℕ) (way : Way) (ids : List ℕ) → HasDiscarded h id n way ids → HasDiscardedFor h id n way ids
+  revived_discards n way ids d = record {
+    prefix = d.prefix;
+    needed = subst (λ p. IsSomeAnd p (λ o. reallocation_prefix h id o n way ≡ Some d.prefix)) (sym absent_is) d.needed;
+    listed = d.listed;
+  }
+
+  pub no_size : unwrap_or (option_map (length {A = ℕ}) (bytes_at h id)) 0 ≡ 0
+  no_size = ap (λ (p : Option Object). unwrap_or (option_map (length {A = ℕ}) (elim p as (λ _. Option (List ℕ)) [ Some o ↦ o.bytes | None ↦ None ])) 0) absent_is
+
+-- answered, or refused
+pub by_result : (h new : Heap) (id n : ℕ) (way : Way) (ids : List ℕ) (A : Type 0) (r : Result Placed NoRoom) → IfOk r (λ p. IsResized h id n way p ids new) → OnErr r A → (A → Reallocates h id n way false new) → Reallocates h id n way (is_ok r) new
+by_result h new id n way ids A (Ok p) ok err f = ok.reallocated
+by_result h new id n way ids A (Err e) ok err f = f err
+
+pub placed_of : (h new : Heap) (id n : ℕ) (way : Way) (ids : List ℕ) (r : Result Placed NoRoom) → IfOk r (λ p. IsResized h id n way p ids new) → IfOk r (λ p. IsPlaced h id n p new)
+placed_of h new id n way ids (Ok p) ok = ok.placed
+placed_of h new id n way ids (Err e) ok = tt
+
+pub listed_of : (h new : Heap) (id n : ℕ) (way : Way) (ids : List ℕ) (r : Result Placed NoRoom) → IfOk r (λ p. IsResized h id n way p ids new) → IfOk r (λ _. HasDiscardedFor h id n way ids)
+listed_of h new id n way ids (Ok p) ok = ok.listed
+listed_of h new id n way ids (Err e) ok = tt
+
+-- no byte more is counted
+pub counted_none : (w : ℕ) → counted w 0 ≡ w
+counted_none w = omega arith
+
+-- what is written where nothing was moved
+pub still_written : (r : Result Placed NoRoom) (before after k : ℕ) → IfOk r (λ p. p.moved ≡ 0) → IfOk r (λ _. after ≡ counted before k) → IfOk r (λ p. after ≡ counted (counted before p.moved) k)
+still_written (Ok p) before after k none is = is ∙ ap (λ w. counted w k) (sym (counted_none before)) ∙ ap (λ m. counted (counted before m) k) (sym none)
+still_written (Err e) before after k none is = tt
+
+-- a size is told by the heap
+pub size_written : (r : Result Placed NoRoom) (before after : ℕ) (zero : Bool) (n a b : ℕ) → a ≡ b → IfOk r (λ p. after ≡ counted (counted before p.moved) (if zero then n - a else 0)) → IfOk r (λ p. after ≡ counted (counted before p.moved) (if zero then n - b else 0))
+size_written r before after zero n a b same is = subst (λ s. IfOk r (λ p. after ≡ counted (counted before p.moved) (if zero then n - s else 0))) same is
+
+pub cut_written : (zero : Bool) (before after moved n s : ℕ) → moved ≡ 0 → after ≡ before → n ≤ s → after ≡ counted (counted before moved) (if zero then n - s else 0)
+cut_written true before after moved n s none is le = omega arith
+cut_written false before after moved n s none is le = omega arith
+
+pub revived_listed : (t : Table) (sound : IsSound t) (memory : List ℕ) (inside : t.hi ≤ length memory) (id : ℕ) (e : Entry) (there : entry_at t id ≡ Some e) (none : block_with t.blocks id ≡ None) (n : ℕ) (way : Way) (ids : List ℕ) (r : Result Placed NoRoom)
+    → IfOk r (λ _. HasDiscarded (heap_in t memory) id n way ids) → IfOk r (λ _. HasDiscardedFor (heap_in t memory) id n way ids)
+revived_listed t sound memory inside id e there none n way ids (Ok p) d = revived_discards t sound memory inside id e there none n way ids d
+revived_listed t sound memory inside id e there none n way ids (Err x) d = tt
+
+-- a block that was found is its id's
+pub found_known : (t : Table) (id : ℕ) (b : Block) → Some b ≡ block_with t.blocks id → (b.id ≡ id) × (block_with t.blocks b.id ≡ Some b)
+found_known t id b is = let same = (member_with t.blocks id b (sym is)).1 in (same, ap (block_with t.blocks) same ∙ sym is)
+
+-- whether it may not move is told by its entry
+pub held_by : (t : Table) → IsSound t → (id : ℕ) (e : Entry) → Some e ≡ entry_at t id → (b : Block) → Some b ≡ block_with t.blocks id → (way : Way) (v : Bool) → v ≡ ((is_fixed e.kind || nat_lt 0 e.locks) && not way.may_move) → (holds_still b.hold && not way.may_move) ≡ v
+held_by t sound id e there b is way v told =
+    let layout : Layout = record { cap = length t.entries; lo = t.lo; hi = t.hi; grain = t.grain; blocks = t.blocks } in
+    let hold : b.hold ≡ hold_of_entry e = subst (λ p. IsSomeAnd p (λ e. b.hold ≡ hold_of_entry e)) (sym there) (holds_at t.entries layout t.order sound id b (sym is)) in
+    ap (λ p. p && not way.may_move) (ap holds_still hold ∙ still_hold (is_fixed e.kind || nat_lt 0 e.locks)) ∙ sym told

@@ -1,0 +1,178 @@
+-- An object that got more bytes, where it stood or elsewhere: what its call leaves kept and answers. It is looked at as if it had been absent.
+use Rattle.std.proofs.Common.{◌≡◌, ℕ, ◌+◌, ◌-◌, ◌<◌, ◌≤◌, ◌⊎◌, inl, inr, Bool, true, false, not, ◌&&◌, ◌==◌, cond, if◌then◌else◌, IsTrue, IfSome, IsSomeAnd, All, List, length, get_or, set, slice_range, Option, Some, None, refl, sym, ap, ◌∙◌, subst, arith, eq-eqb}
+use Rattle.std.specs.FinMap as finmap
+use Rattle.std.proofs.lemmas.List.{length-set, set-set, set-get_or}
+use Rattle.w16_model.specs.declared.Block.{Block}
+use Rattle.w16_model.specs.declared.Entry.{Entry}
+use Rattle.w16_model.specs.declared.Way.{Way}
+use Rattle.w16_model.specs.Bytes.{part, put_part, repeated}
+use Rattle.w16_model.specs.Gap.{IsClear, Misses, is_any}
+use Rattle.w16_model.specs.Heap.{Heap, Object, IsMultiple, blocks, is_discardable}
+use Rattle.w16_model.specs.Changes.{without}
+use Rattle.w16_model.specs.Request.{IsGrown, StaysOrMovesToHole, is_elsewhere, moved_bytes}
+use Rattle.w16_model.specs.Table.{Table, IsCountedBy, block_with, heap_in, hold_of_entry, is_listed}
+use Rattle.w16_model.proofs.Gaps.{Each-at, Each-from, Each-from_All, All-from_Each, EachPair-from_AllPairs, AllPairs-from_EachPair, pairs_filter}
+use Rattle.w16_model.proofs.Parts.{range_part}
+use Rattle.w16_blocks.specs.Layout.{Layout, IsOrdered, all_but, placed}
+use Rattle.w16_blocks.proofs.Remove.{IsLaid-all_but, All-all_but, sum-all_but}
+use Rattle.w16_compact.specs.Gather.{moved_between}
+use Rattle.w16_compact.specs.Rest.{IsSameRest}
+use Rattle.w16_compact.proofs.Rests.{rest_more}
+use Rattle.w16_lru.specs.Uses.{Uses}
+use Rattle.std.specs.Borrow.{GName}
+use Rattle.w16_arena.specs.declared.new_place.Placed.{Placed}
+use Rattle.w16_arena.specs.Asked.{Stands}
+use Rattle.w16_arena.specs.State.{KeepsRest, table_of, heap_of}
+use Rattle.w16_arena.specs.Representation.{IsKept}
+use Rattle.w16_arena.specs.Growth.{but_for}
+use Rattle.w16_arena.specs.NewPlace.{AreMoved, AreFreeBytes}
+use Rattle.w16_arena.proofs.Parts.{AreParts}
+use Rattle.w16_arena.proofs.With.{with-without}
+use Rattle.w16_arena.proofs.Lookups.{IsArranged, in_list}
+use Rattle.w16_arena.proofs.Listed.{is_listed as in_blocks, listed_permutation}
+use Rattle.w16_arena.proofs.Moved.{bytes_by, bytes_permutation, moved_few}
+use Rattle.w16_arena.proofs.Changed.{ReordersOne}
+use Rattle.w16_arena.proofs.Reordered.{member_other}
+use Rattle.w16_arena.proofs.Singles.{removed_parts, removed_heap}
+use Rattle.w16_arena.proofs.Steps.{beside, kept_with}
+use Rattle.w16_arena.proofs.Sized as sized
+use Rattle.w16_arena.proofs.Cleared.{Makes}
+use Rattle.w16_arena.proofs.Longer as longer
+use Rattle.w16_arena.proofs.Allocated.{AreLocks}
+use Rattle.w16_arena.proofs.Standing as standing
+use Rattle.w16_arena.proofs.PutBack.{put_back}
+
+module _ {entries : List (Option Entry)} {layout : Layout} {uses : Uses} {gap_rooms : ℕ} {room : ℕ} (kept : IsKept entries layout uses gap_rooms room)
+    (b : Block) (known : block_with layout.blocks b.id ≡ Some b) (ordered : IsOrdered layout) (memory : List ℕ) (inside : layout.hi ≤ length memory) (n : ℕ) (more : b.size < n) (rounded : IsMultiple layout.grain n) (way : Way) where
+  abbrev t : Table
+  t = table_of entries layout uses.ids
+
+  abbrev h : Heap
+  h = heap_in t memory
+
+  parts : AreParts entries layout uses.ids memory
+  parts = beside kept memory inside
+
+  abbrev entry_is : (e : Entry) × (get_or entries b.id None ≡ Some e) × (b.hold ≡ hold_of_entry e)
+  entry_is = sized.entry_known t kept.sound memory inside b known
+
+  abbrev entry : Entry
+  entry = entry_is.0
+
+  lt : b.id < length entries
+  lt = in_list entries b.id entry entry_is.1
+
+  -- Without it.
+  arranged : IsArranged (record layout { blocks = all_but b.id layout.blocks })
+  arranged = record {
+    laid = IsLaid-all_but layout.lo layout.hi b.id layout.blocks kept.sound.table.laid;
+    ids = AllPairs-from_EachPair (λ x y. x.id ≡ y.id → ⊥) (all_but b.id layout.blocks) (pairs_filter (λ x y. x.id ≡ y.id → ⊥) (λ (x : Block). not (x.id == b.id)) layout.blocks (EachPair-from_AllPairs (λ x y. x.id ≡ y.id → ⊥) layout.blocks kept.sound.table.ids));
+    grained = All-from_Each (λ x. IsMultiple layout.grain x.at × IsMultiple layout.grain x.size) (all_but b.id layout.blocks)
+        (All-all_but (λ x. IsMultiple layout.grain x.at × IsMultiple layout.grain x.size) b.id layout.blocks (Each-from_All (λ x. IsMultiple layout.grain x.at × IsMultiple layout.grain x.size) layout.blocks kept.sound.grained));
+    low_grained = kept.sound.low_grained;
+  }
+
+  left : AreParts (set entries b.id None) (but_for b.id layout) (without b.id uses.ids) memory
+  left = removed_parts parts b.id lt arranged
+
+  lt_left : b.id < length (set entries b.id None)
+  lt_left = let e = length-set entries b.id None in omega (arith, e, lt)
+
+  absent : block_with (all_but b.id layout.blocks) b.id ≡ None
+  absent = with-without b.id layout.blocks b.id ∙ ap (λ v. cond {A = Option Block} v None (block_with layout.blocks b.id)) (eq-eqb b.id b.id refl)
+
+  locks : AreLocks entry
+  locks = (counted.0, counted.1)
+    where
+      counted : IsCountedBy (block_with layout.blocks b.id) entry
+      counted = subst (λ p. IfSome p (IsCountedBy (block_with layout.blocks b.id))) entry_is.1 (kept.sound.counted b.id)
+
+  entries_again : set (set entries b.id None) b.id (Some entry) ≡ entries
+  entries_again = set-set entries b.id None (Some entry) ∙ ap (set entries b.id) (sym entry_is.1) ∙ set-get_or entries b.id None
+
+  reorders : ReordersOne b.id (is_discardable entry.kind && true) (without b.id uses.ids) uses.ids
+  reorders = record {
+    here = kept.sound.in_order b.id ∙ (λ i. is_listed (entry_is.1 i) (known i));
+    there = λ q d. sym (member_other b.id q uses.ids d);
+    once = kept.sound.no_repeats;
+  }
+
+  some : 0 < n
+  some = omega arith
+
+  -- With its bytes, its own and new ones.
+  module _ (p : Placed) {new : Layout} {mid : List ℕ} (value : new ≡ record (but_for b.id new) { blocks = placed (record b { at = p.at; size = n }) (all_but b.id new.blocks) }) (laid : IsOrdered new)
+      (moved : AreMoved p.slid.from p.slid.to (but_for b.id layout) memory (but_for b.id new) mid) (place : AreFreeBytes (but_for b.id new) n p.at) (came : part mid p.at b.size ≡ part memory b.at b.size) (small : All (λ b. b < 256) memory)
+      {after : List ℕ} (filled : after ≡ (if way.zero then put_part mid (p.at + b.size) (repeated (n - b.size) 0) else mid)) where
+    pub in_mid : p.at + n ≤ length mid
+    in_mid = standing.in_memory left b.id n entry locks way lt_left absent some rounded p moved place
+
+    made : Makes p.at n mid after
+    made = longer.made p.at b.size n mid after more in_mid (moved.bytes small) way.zero filled
+
+    parts_after : AreParts entries new uses.ids after
+    parts_after = subst (λ es. AreParts es new uses.ids after) entries_again (standing.parts_after left b.id n entry locks way lt_left absent some rounded p moved place entry_is.2 value laid made reorders)
+
+    pub kept_grown : IsKept entries new uses gap_rooms room
+    kept_grown = kept_with kept entries new uses parts_after.sound refl (ap (λ (l : Layout). l.cap) moved.same) refl
+
+    pub rest_grown : {X : Type 0} {bytes : X → List ℕ} {lenders : X → List GName} {x y z : X}
+        → IsSameRest bytes lenders layout.lo layout.hi x y → IsSameRest bytes lenders (p.at + b.size) (p.at + b.size + (n - b.size)) y z → KeepsRest bytes lenders t x (table_of entries new uses.ids) z
+    rest_grown first cleared =
+        let lo = ap (λ (l : Layout). l.lo) moved.same in let hi = ap (λ (l : Layout). l.hi) moved.same in let above = place.above in let end = place.below in
+        record {
+          range = record { lo = lo; hi = hi; grain = ap (λ (l : Layout). l.grain) moved.same; ids = refl; sound = parts_after.sound };
+          memory = rest_more first cleared (omega arith) (omega arith);
+        }
+
+    abbrev grown : Heap
+    grown = heap_of entries new uses.ids after
+
+    abbrev object : Object
+    object = sized.object t kept.sound memory inside b known
+
+    abbrev less : Placed
+    less = record p { moved = moved_between (all_but b.id layout.blocks) (all_but b.id new.blocks) }
+
+    module _ (still : way.compact ≡ false → all_but b.id new.blocks ≡ all_but b.id layout.blocks) where
+      stands_left : Stands (heap_of (set entries b.id None) (but_for b.id layout) (without b.id uses.ids) memory) b.id n (IsGrown way.zero n object) (λ _ _. uses.ids) way less grown
+      stands_left = subst (λ es. Stands (heap_of (set entries b.id None) (but_for b.id layout) (without b.id uses.ids) memory) b.id n (IsGrown way.zero n object) (λ _ _. uses.ids) way less (heap_of es new uses.ids after)) entries_again
+          (standing.stands left b.id n entry locks way lt_left absent some rounded less moved place entry_is.2 value laid made reorders still {becomes = IsGrown way.zero n object} {order_with = λ _ _. uses.ids}
+          (longer.is_grown p.at b.size n mid after more in_mid (moved.bytes small) way.zero filled (slice_range memory b.at (b.at + b.size)) (sized.own_size t kept.sound memory inside b known) (came ∙ sym (range_part memory b.at b.size)) entry.kind entry.locks)
+          refl refl)
+
+      abbrev Elsewhere : Block → Bool
+      Elsewhere x = is_elsewhere x.at (finmap.get grown.places x.id)
+
+      -- the bytes that were moved are those of the others and its own
+      all_moved : moved_bytes h grown ≡ moved_between (all_but b.id layout.blocks) (all_but b.id new.blocks) + (if p.at == b.at then 0 else b.size)
+      all_moved =
+          let others = sym stands_left.placed.moved in
+          let listed = bytes_permutation Elsewhere (all_but b.id layout.blocks) (blocks (heap_of (set entries b.id None) (but_for b.id layout) (without b.id uses.ids) memory)) (listed_permutation left) in
+          let whole = bytes_permutation Elsewhere layout.blocks (blocks h) (listed_permutation parts) in
+          let by = bytes_by Elsewhere layout.blocks in
+          let by_left = bytes_by Elsewhere (all_but b.id layout.blocks) in
+          let split = sum-all_but layout.cap (λ x. cond (Elsewhere x) x.size 0) b.id b layout.blocks ordered.named known in
+          let own = ap (λ at. cond (is_elsewhere b.at at) b.size 0) stands_left.placed.place ∙ turn (p.at == b.at) in
+          omega (arith, others, listed, whole, by, by_left, split, own)
+        where
+          turn : (v : Bool) → cond (not v) b.size 0 ≡ (if v then 0 else b.size)
+          turn true = refl
+          turn false = refl
+
+      pub stands_grown : p.moved ≡ moved_between (all_but b.id layout.blocks) (all_but b.id new.blocks) + (if p.at == b.at then 0 else b.size) → Stands h b.id n (IsGrown way.zero n object) (λ _ order. order) way p grown
+      stands_grown counted =
+          let all = counted ∙ sym all_moved in
+          put_back h b.id (subst (λ g. Stands g b.id n (IsGrown way.zero n object) (λ _ _. uses.ids) way less grown) (removed_heap parts b.id lt arranged) stands_left)
+          p.moved all (omega (arith, all, moved_few t kept.sound memory inside grown))
+
+      pub hole_grown : (p.at ≡ b.at) ⊎ IsClear is_any layout.lo layout.hi layout.blocks p.at (p.at + n) → StaysOrMovesToHole h b.id n grown
+      hole_grown where_to = subst (λ at. IsSomeAnd at (λ at. (finmap.get h.places b.id ≡ Some at) ⊎ IsClear is_any h.lo h.hi (blocks h) at (at + n))) (sym stands_left.placed.place) (elim where_to [
+        | inl same ↦ inl (sized.stands_at t kept.sound memory inside b known ∙ ap Some (sym same))
+        | inr k ↦ inr (record {
+          above = k.above;
+          below = k.below;
+          misses = All-from_Each (λ x. IsTrue (is_any x) → Misses x.at x.size p.at (p.at + n)) (blocks h) (Each-from (λ x. IsTrue (is_any x) → Misses x.at x.size p.at (p.at + n)) (blocks h)
+              (λ x m. Each-at (λ x. IsTrue (is_any x) → Misses x.at x.size p.at (p.at + n)) layout.blocks (Each-from_All (λ x. IsTrue (is_any x) → Misses x.at x.size p.at (p.at + n)) layout.blocks k.misses) x (in_blocks parts x m)));
+        })
+      ])

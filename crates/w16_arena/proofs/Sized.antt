@@ -1,0 +1,186 @@
+-- The object of a block, and its reallocation by what was found and made for it.
+use Rattle.std.proofs.Common.{◌≡◌, ℕ, ◌+◌, ◌<◌, ◌≤◌, Bool, true, false, not, ◌&&◌, nat_le, cond, MatchBool, IsSomeAnd, IsTrue, List, [], ◌∷◌, length, take, get_or, slice_range, Option, Some, None, option_map, unwrap_or, refl, sym, ap, ◌∙◌, subst, arith, le-leb, inl, inr}
+use Rattle.std.specs.FinMap as finmap
+use Rattle.std.specs.List.{AllByRecursion as Each}
+use Rattle.std.proofs.lemmas.Bool.{lt-leb}
+use Rattle.std.proofs.lemmas.Bool.Decides.{eqb_tells}
+use Rattle.w16_model.specs.declared.Block.{Block}
+use Rattle.w16_model.specs.declared.Entry.{Entry}
+use Rattle.w16_model.specs.declared.Hold.{Hold}
+use Rattle.w16_model.specs.declared.Hold.TheVariants.{Pinned, Loose}
+use Rattle.w16_model.specs.declared.Way.{Way}
+use Rattle.w16_model.specs.Gap.{holds_still, block_end, first_from, hole_after, is_any}
+use Rattle.w16_model.specs.Discards.{fits_in_place, growth_for, snapshot}
+use Rattle.w16_model.specs.Heap.{Heap, Object, IsMultiple, blocks, object_at, bytes_at, is_pinned_object}
+use Rattle.w16_model.specs.Changes.{with_object}
+use Rattle.w16_model.specs.Request.{Request, IsGrown, Grows, Reallocates, ReallocatesObject, StaysOrMovesToHole, snapshot_of}
+use Rattle.w16_model.specs.Table.{Table, IsSound, block_with, heap_in, hold_of_entry, object_in}
+use Rattle.w16_model.proofs.Gaps.{Member, Each-at, Each-from, first_from-below, first_from-greatest}
+use Rattle.w16_model.proofs.Heaps.{block_member}
+use Rattle.w16_model.proofs.Tables.{length_range, member_with, table_block}
+use Rattle.w16_blocks.specs.Layout.{Layout}
+use Rattle.w16_blocks.proofs.Free.{laid_le}
+use Rattle.w16_arena.specs.Asked.{reallocation_prefix}
+use Rattle.w16_arena.proofs.Parts.{AreParts}
+use Rattle.w16_arena.proofs.Listed.{is_listed, listed_with}
+use Rattle.w16_arena.proofs.Lookups.{holds_at, object_here, bytes_here, place_here, ends_in_memory}
+
+-- what keeps a block's address
+pub still_hold : (b : Bool) → holds_still (cond {A = Hold} b Pinned Loose) ≡ b
+still_hold true = refl
+still_hold false = refl
+
+-- a member's id has a block
+member_some : (xs : List Block) (x : Block) → Member x xs → block_with xs x.id ≡ None → ⊥
+member_some [] x m none = m
+member_some (y ∷ ys) x m none = elim (eqb_tells y.id x.id) [
+  | inl same ↦ let some : ◌≡◌ {A = Option Block} (Some y) None = rw same.0 at none in cc
+  | inr other ↦ elim m [ inl e ↦ other.1 (ap (λ (z : Block). z.id) (sym e)) | inr k ↦ member_some ys x k (rw other.0 at none) ]
+]
+
+module _ (t : Table) (sound : IsSound t) (memory : List ℕ) (inside : t.hi ≤ length memory) (b : Block) (known : block_with t.blocks b.id ≡ Some b) where
+  abbrev layout : Layout
+  layout = record { cap = length t.entries; lo = t.lo; hi = t.hi; grain = t.grain; blocks = t.blocks }
+
+  pub parts : AreParts t.entries layout t.order memory
+  parts = record { sound = sound; ids = refl; high = inside }
+
+  abbrev h : Heap
+  h = heap_in t memory
+
+  -- its entry
+  pub entry_known : (e : Entry) × (get_or t.entries b.id None ≡ Some e) × (b.hold ≡ hold_of_entry e)
+  entry_known = from (get_or t.entries b.id None) refl (holds_at t.entries layout t.order sound b.id b known)
+    where
+      from : (p : Option Entry) → get_or t.entries b.id None ≡ p → IsSomeAnd p (λ e. b.hold ≡ hold_of_entry e) → (e : Entry) × (get_or t.entries b.id None ≡ Some e) × (b.hold ≡ hold_of_entry e)
+      from None e h = absurd h
+      from (Some d) e h = (d, e, h)
+
+  -- its bytes
+  abbrev pub own : List ℕ
+  own = slice_range memory b.at (b.at + b.size)
+
+  pub own_size : length own ≡ b.size
+  own_size = length_range memory b.at b.size (ends_in_memory parts b.id b known).1
+
+  abbrev pub object : Object
+  object = record { kind = entry_known.0.kind; locks = entry_known.0.locks; bytes = Some own }
+
+  pub object_is : object_at h b.id ≡ Some object
+  object_is = object_here parts b.id ∙ ap (option_map (object_in t.blocks memory b.id)) entry_known.1
+      ∙ ap (λ (p : Option Block). let o : Object = record { kind = entry_known.0.kind; locks = entry_known.0.locks; bytes = option_map (λ (x : Block). slice_range memory x.at (x.at + x.size)) p } in Some o) known
+
+  pub stands_at : finmap.get h.places b.id ≡ Some b.at
+  stands_at = place_here parts b.id ∙ ap (option_map (λ (x : Block). x.at)) known
+
+  -- the range
+  pub range_is : t.lo ≤ t.hi
+  range_is = laid_le t.lo t.hi t.blocks sound.table.laid
+
+  pub size_is : unwrap_or (option_map (length {A = ℕ}) (bytes_at h b.id)) 0 ≡ b.size
+  size_is = ap (λ p. unwrap_or (option_map (length {A = ℕ}) p) 0) (bytes_here parts b.id ∙ ap (option_map (λ (x : Block). slice_range memory x.at (x.at + x.size))) known) ∙ own_size
+
+  -- what holds of it holds of the heap's object
+  pub of_object : (P : Object → Type 0) → P object → IsSomeAnd (object_at h b.id) P
+  of_object P is = subst (λ p. IsSomeAnd p P) (sym object_is) is
+
+  pub pinned_is : is_pinned_object object ≡ holds_still b.hold
+  pinned_is = sym (ap holds_still entry_known.2 ∙ still_hold (is_pinned_object object))
+
+  -- The hole behind it is the heap's.
+  first_le : (xs ys : List Block) → ((x : Block) → Member x ys → Member x xs) → (a : ℕ) → first_from is_any t.hi xs a ≤ first_from is_any t.hi ys a
+  first_le xs ys among a =
+      let all : (first_from is_any t.hi xs a ≤ t.hi) × Each (λ x. IsTrue (is_any x) → a ≤ x.at → first_from is_any t.hi xs a ≤ x.at) xs = first_from-below is_any t.hi xs a (first_from is_any t.hi xs a) (omega arith) in
+      first_from-greatest is_any t.hi ys a (first_from is_any t.hi xs a) all.0
+      (Each-from (λ x. IsTrue (is_any x) → a ≤ x.at → first_from is_any t.hi xs a ≤ x.at) ys (λ x m. Each-at (λ x. IsTrue (is_any x) → a ≤ x.at → first_from is_any t.hi xs a ≤ x.at) xs all.1 x (among x m)))
+
+  hole_same : (a : ℕ) → hole_after t.hi (blocks h) a ≡ hole_after t.hi t.blocks a
+  hole_same a =
+      let to : first_from is_any t.hi (blocks h) a ≤ first_from is_any t.hi t.blocks a = first_le (blocks h) t.blocks (λ x m. block_member h x (table_block t sound.table memory inside x m)) a in
+      let back : first_from is_any t.hi t.blocks a ≤ first_from is_any t.hi (blocks h) a = first_le t.blocks (blocks h) (is_listed parts) a in
+      omega arith
+
+  -- so it fits in the heap where it fits by the blocks
+  abbrev fits_with : List Block → ℕ → Option Block → Bool
+  fits_with xs n p = elim p as (λ _. Bool) [
+    | Some x ↦ nat_le n (x.size + hole_after t.hi xs (block_end x))
+    | None ↦ false
+  ]
+
+  pub fits_by_blocks : (order : List ℕ) (n : ℕ) → fits_in_place (snapshot t.lo t.hi t.blocks order) n b.id ≡ nat_le n (b.size + hole_after t.hi t.blocks (block_end b))
+  fits_by_blocks order n = ap (fits_with t.blocks n) known
+
+  known_in_heap : block_with (blocks h) b.id ≡ Some b
+  known_in_heap = from (block_with (blocks h) b.id) refl
+    where
+      from : (p : Option Block) → block_with (blocks h) b.id ≡ p → p ≡ Some b
+      from None e = absurd (member_some (blocks h) b (block_member h b (table_block t sound.table memory inside b (member_with t.blocks b.id b known).0)) e)
+      from (Some x) e =
+          let m = member_with (blocks h) b.id x e in
+          sym (listed_with parts x (is_listed parts x m.0)) ∙ ap (block_with t.blocks) m.1 ∙ known
+
+  pub fits_in_heap : (n : ℕ) → fits_in_place (snapshot_of h) n b.id ≡ nat_le n (b.size + hole_after t.hi t.blocks (block_end b))
+  fits_in_heap n = ap (fits_with (blocks h) n) known_in_heap ∙ ap (λ k. nat_le n (b.size + k)) (hole_same (block_end b))
+
+  module _ (n : ℕ) (some : 0 < n) (rounded : IsMultiple t.grain n) (way : Way) where
+    abbrev held : Bool
+    held = is_pinned_object object && not way.may_move
+
+    held_is : (v : Bool) → (holds_still b.hold && not way.may_move) ≡ v → held ≡ v
+    held_is v is = ap (λ p. p && not way.may_move) pinned_is ∙ is
+
+    -- It is as long, or longer.
+    module _ (less : n ≤ b.size) where
+      short : nat_le n (length own) ≡ true
+      short = le-leb n (length own) (omega (arith, own_size))
+
+      pub cuts : (new : Heap) → new ≡ with_object h b.id (record object { bytes = Some (take n own) }) → Reallocates h b.id n way true new
+      cuts new is = record {
+        some = some;
+        rounded = rounded;
+        object = of_object (λ o. ReallocatesObject h b.id o n way true new) (subst (λ v. MatchBool v ((true ≡ true) × (new ≡ with_object h b.id (record object { bytes = Some (take n own) }))) (Grows h b.id object n way true new)) (sym short) (refl, is));
+      }
+
+      pub cut_prefix : IsSomeAnd (object_at h b.id) (λ o. reallocation_prefix h b.id o n way ≡ Some 0)
+      cut_prefix = of_object (λ o. reallocation_prefix h b.id o n way ≡ Some 0) (ap (λ v. cond {A = Option ℕ} v (Some 0) (cond held (Some 0) (growth_for (snapshot_of h) n b.id way))) short)
+
+    -- It is shorter.
+    module _ (more : b.size < n) where
+      long : nat_le n (length own) ≡ false
+      long = lt-leb n (length own) (omega (arith, own_size))
+
+      abbrev Extends : Bool → Heap → Bool → Type 0
+      Extends answered new fits = MatchBool fits ((answered ≡ true) × ((grown : Object) × IsGrown way.zero n object grown × (new ≡ with_object h b.id grown))) ((answered ≡ false) × (new ≡ h))
+
+      abbrev Asks : Bool → Heap → Type 0
+      Asks answered new = Request h b.id (record { way = way; prefix = growth_for (snapshot_of h) n b.id way; becomes = IsGrown way.zero n object; order = λ _ order. order }) answered new × (way.compact ≡ false → answered ≡ true → StaysOrMovesToHole h b.id n new)
+
+      grows : (answered : Bool) (new : Heap) (v : Bool) → held ≡ v → MatchBool v (Extends answered new (fits_in_place (snapshot_of h) n b.id)) (Asks answered new) → Reallocates h b.id n way answered new
+      grows answered new v is step = record {
+        some = some;
+        rounded = rounded;
+        object = of_object (λ o. ReallocatesObject h b.id o n way answered new) (subst (λ w. MatchBool w ((answered ≡ true) × (new ≡ with_object h b.id (record object { bytes = Some (take n own) }))) (Grows h b.id object n way answered new)) (sym long)
+            (subst (λ w. MatchBool w (Extends answered new (fits_in_place (snapshot_of h) n b.id)) (Asks answered new)) (sym is) step));
+      }
+
+      -- It may not move.
+      module _ (keeps : (holds_still b.hold && not way.may_move) ≡ true) where
+        pub extends : fits_in_place (snapshot_of h) n b.id ≡ true → (new : Heap) → (grown : Object) × IsGrown way.zero n object grown × (new ≡ with_object h b.id grown) → Reallocates h b.id n way true new
+        extends fits new grown = grows true new true (held_is true keeps) (subst (Extends true new) (sym fits) (refl, grown))
+
+        pub doesnt_extend : fits_in_place (snapshot_of h) n b.id ≡ false → Reallocates h b.id n way false h
+        doesnt_extend fits = grows false h true (held_is true keeps) (subst (Extends false h) (sym fits) (refl, refl))
+
+        pub extend_prefix : IsSomeAnd (object_at h b.id) (λ o. reallocation_prefix h b.id o n way ≡ Some 0)
+        extend_prefix = of_object (λ o. reallocation_prefix h b.id o n way ≡ Some 0)
+            (ap (λ v. cond {A = Option ℕ} v (Some 0) (cond held (Some 0) (growth_for (snapshot_of h) n b.id way))) long ∙ ap (λ v. cond {A = Option ℕ} v (Some 0) (growth_for (snapshot_of h) n b.id way)) (held_is true keeps))
+
+      -- It may move.
+      module _ (free : (holds_still b.hold && not way.may_move) ≡ false) where
+        pub asks : (answered : Bool) (new : Heap) → Request h b.id (record { way = way; prefix = growth_for (snapshot_of h) n b.id way; becomes = IsGrown way.zero n object; order = λ _ order. order }) answered new
+            → (way.compact ≡ false → answered ≡ true → StaysOrMovesToHole h b.id n new) → Reallocates h b.id n way answered new
+        asks answered new request hole = grows answered new false (held_is false free) (request, hole)
+
+        pub ask_prefix : (k : ℕ) → growth_for (snapshot_of h) n b.id way ≡ Some k → IsSomeAnd (object_at h b.id) (λ o. reallocation_prefix h b.id o n way ≡ Some k)
+        ask_prefix k is = of_object (λ o. reallocation_prefix h b.id o n way ≡ Some k)
+            (ap (λ v. cond {A = Option ℕ} v (Some 0) (cond held (Some 0) (growth_for (snapshot_of h) n b.id way))) long ∙ ap (λ v. cond {A = Option ℕ} v (Some 0) (growth_for (snapshot_of h) n b.id way)) (held_is false free) ∙ is)

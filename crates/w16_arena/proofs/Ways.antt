@@ -1,0 +1,115 @@
+-- When there is a place where an object may grow, and what the place tells.
+use Rattle.std.proofs.Common.{◌≡◌, ℕ, ◌+◌, ◌-◌, ◌<◌, ◌≤◌, ◌==◌, ◌⊎◌, Bool, true, false, cond, nat_le, IsTrue, IfSome, List, [], Option, Some, None, refl, sym, ap, ◌∙◌, subst, arith, le-leb, eq-eqb}
+use Rattle.std.specs.Option.{ForSome}
+use Rattle.std.proofs.lemmas.Bool.{cond-true, false≢true, lt-leb, or_from, or_left, or_right}
+use Rattle.w16_model.specs.declared.Block.{Block}
+use Rattle.w16_model.specs.Bytes.{part}
+use Rattle.w16_model.specs.Discards.{fits_in_place, snapshot}
+use Rattle.w16_model.specs.Gap.{block_end, hole_after, is_any, longest_hole, room, IsClear, Misses}
+use Rattle.w16_model.specs.Table.{block_with}
+use Rattle.w16_model.proofs.Gaps.{All-from_Each, Each-map}
+use Rattle.w16_blocks.specs.Layout.{Layout, IsOrdered, all_but}
+use Rattle.w16_blocks.proofs.Remove.{with_id}
+use Rattle.w16_compact.specs.Gather.{moved_between}
+use Rattle.w16_compact.proofs.Gathering.{moved_same}
+use Rattle.w16_compact.proofs.LeftOut.{ordered_without}
+use Rattle.w16_arena.specs.declared.new_place.Placed.{Placed}
+use Rattle.w16_arena.specs.NewPlace.{AreMoved, AreFreeBytes}
+use Rattle.w16_arena.specs.Growth.{but_for, may_grow, HasWay}
+use Rattle.w16_arena.proofs.Arranged.{free_fits, same_moved}
+use Rattle.w16_arena.proofs.ButFor.{behind_free, hole_clear}
+use Rattle.w16_arena.proofs.Rooms.{first_hole, hole_enough, hole_missing}
+
+-- A block of a layout.
+module _ {l : Layout} (ordered : IsOrdered l) (b : Block) (known : block_with l.blocks b.id ≡ Some b) (n : ℕ) where
+  fits_is : fits_in_place (snapshot l.lo l.hi l.blocks []) n b.id ≡ nat_le n (b.size + hole_after l.hi l.blocks (block_end b))
+  fits_is = ap (λ (o : Option Block). elim o [
+    | Some x ↦ nat_le n (x.size + hole_after l.hi l.blocks (block_end x))
+    | None ↦ false
+  ]) known
+
+  -- with sliding there is a place where others slid and left one
+  pub enough_slid : {low high : ℕ} {memory after : List ℕ} (new : Layout) (at : ℕ) → AreMoved low high (but_for b.id l) memory (but_for b.id new) after → AreFreeBytes (but_for b.id new) n at → IsTrue (may_grow l b.id n true)
+  enough_slid new at moved free = le-leb n (room l.lo l.hi (all_but b.id l.blocks)) (free_fits (ordered_without (Some b.id) l ordered) moved n at free)
+
+  -- it may grow where it stands
+  module _ (more : b.size < n) (behind : ℕ) (is : behind ≡ hole_after l.hi l.blocks (block_end b)) (long : n - b.size ≤ behind) where
+    free_here : AreFreeBytes (but_for b.id l) n b.at
+    free_here = behind_free ordered b known n (b.at + n) (hole_clear ordered b known n more (omega arith)) (omega arith)
+
+    pub way_here : (memory : List ℕ) → HasWay n b l memory (record { at = b.at; slid = record { from = 0; to = 0 }; moved = 0 }) l memory
+    way_here memory = record {
+      block = known;
+      bytes = refl;
+      slid = same_moved 0 (but_for b.id l) memory (ordered_without (Some b.id) l ordered);
+      laid = ordered;
+      free = free_here;
+      moved = let none = moved_same (all_but b.id l.blocks) in let same = cond-true (b.at == b.at) 0 b.size (eq-eqb b.at b.at refl) in omega (arith, none, same);
+    }
+
+    pub enough_here : (compact : Bool) → IsTrue (may_grow l b.id n compact)
+    enough_here true = enough_slid l b.at (same_moved 0 (but_for b.id l) [] (ordered_without (Some b.id) l ordered)) free_here
+    enough_here false = or_left (fits_in_place (snapshot l.lo l.hi l.blocks []) n b.id) (nat_le n (longest_hole l.lo l.hi l.blocks)) (fits_is ∙ le-leb n (b.size + hole_after l.hi l.blocks (block_end b)) (omega arith))
+
+  -- or in a hole
+  pub enough_hole : (at : ℕ) → Some at ≡ first_hole l n → AreFreeBytes (but_for b.id l) n at → (compact : Bool) → IsTrue (may_grow l b.id n compact)
+  enough_hole at found free true = enough_slid l at (same_moved 0 (but_for b.id l) [] (ordered_without (Some b.id) l ordered)) free
+  enough_hole at found free false = or_right (fits_in_place (snapshot l.lo l.hi l.blocks []) n b.id) (nat_le n (longest_hole l.lo l.hi l.blocks)) (le-leb n (longest_hole l.lo l.hi l.blocks) (hole_enough ordered n at found false))
+
+  -- and without one, and with no hole behind it, it may not
+  pub none_still : 0 < n → (behind : ℕ) → behind ≡ hole_after l.hi l.blocks (block_end b) → behind < n - b.size → None ≡ first_hole l n → (compact : Bool) → compact ≡ false → may_grow l b.id n compact ≡ false
+  none_still some behind is short none true off = absurd (false≢true (sym off))
+  none_still some behind is short none false off = or_from (fits_in_place (snapshot l.lo l.hi l.blocks []) n b.id) (nat_le n (longest_hole l.lo l.hi l.blocks))
+      (fits_is ∙ lt-leb n (b.size + hole_after l.hi l.blocks (block_end b)) (omega arith)) (lt-leb n (longest_hole l.lo l.hi l.blocks) (hole_missing ordered n some none false refl))
+
+  -- what gaps answer
+  pub slid_enough : (memory after : List ℕ) (new : Layout) (o : Option Placed) → IfSome o (λ p. HasWay n b l memory p new after) → (compact : Bool) → compact ≡ true → IfSome o (λ _. IsTrue (may_grow l b.id n compact))
+  slid_enough memory after new None way compact on = tt
+  slid_enough memory after new (Some p) way compact on = subst (λ t. IsTrue (may_grow l b.id n t)) (sym on) (enough_slid new p.at way.slid way.free)
+
+-- a hole is clear
+pub clear_bytes : {l : Layout} (n at : ℕ) → AreFreeBytes l n at → IsClear is_any l.lo l.hi l.blocks at (at + n)
+clear_bytes {l} n at free = record {
+  above = free.above;
+  below = free.below;
+  misses = All-from_Each _ l.blocks (Each-map (λ x. Misses x.at x.size at (at + n)) (λ x. IsTrue (is_any x) → Misses x.at x.size at (at + n)) (λ x f t. f) l.blocks free.misses);
+}
+
+-- The same by the object's id.
+module _ (old : Layout) (id : ℕ) (b : Block) (here : block_with old.blocks id ≡ Some b) where
+  pub same_id : b.id ≡ id
+  same_id = with_id id b old.blocks here
+
+  pub known_own : block_with old.blocks b.id ≡ Some b
+  known_own = ap (block_with old.blocks) same_id ∙ here
+
+  of_block : (P : Block → Type 0) → P b → ForSome (block_with old.blocks id) P
+  of_block P p x e = let same : ◌≡◌ {A = Option Block} (Some b) (Some x) = sym here ∙ e in let is : b ≡ x = cc in subst P is p
+
+  module _ (n : ℕ) (memory after : List ℕ) (new : Layout) where
+    pub way_object : (o : Option Placed) → IfSome o (λ p. HasWay n b old memory p new after)
+        → IfSome o (λ p. ForSome (block_with old.blocks id) (λ x. (block_with new.blocks id ≡ Some (record x { at = p.at })) × (part after p.at x.size ≡ part memory x.at x.size)))
+    way_object None way = tt
+    way_object (Some p) way = of_block (λ x. (block_with new.blocks id ≡ Some (record x { at = p.at })) × (part after p.at x.size ≡ part memory x.at x.size)) (ap (block_with new.blocks) (sym same_id) ∙ way.block, way.bytes)
+
+    pub way_slid : (o : Option Placed) → IfSome o (λ p. HasWay n b old memory p new after) → IfSome o (λ p. AreMoved p.slid.from p.slid.to (but_for id old) memory (but_for id new) after)
+    way_slid None way = tt
+    way_slid (Some p) way = subst (λ q. AreMoved p.slid.from p.slid.to (but_for q old) memory (but_for q new) after) same_id way.slid
+
+    pub way_free : (o : Option Placed) → IfSome o (λ p. HasWay n b old memory p new after) → IfSome o (λ p. AreFreeBytes (but_for id new) n p.at)
+    way_free None way = tt
+    way_free (Some p) way = subst (λ q. AreFreeBytes (but_for q new) n p.at) same_id way.free
+
+    pub way_moved : (o : Option Placed) → IfSome o (λ p. HasWay n b old memory p new after)
+        → IfSome o (λ p. ForSome (block_with old.blocks id) (λ x. p.moved ≡ moved_between (all_but id old.blocks) (all_but id new.blocks) + cond (p.at == x.at) 0 x.size))
+    way_moved None way = tt
+    way_moved (Some p) way = of_block (λ x. p.moved ≡ moved_between (all_but id old.blocks) (all_but id new.blocks) + cond (p.at == x.at) 0 x.size)
+        (subst (λ q. p.moved ≡ moved_between (all_but q old.blocks) (all_but q new.blocks) + cond (p.at == b.at) 0 b.size) same_id way.moved)
+
+  pub way_still : (new : Layout) (size : ℕ) (compact : Bool) (o : Option Placed) → (compact ≡ false → IfSome o (λ p. (all_but b.id new.blocks ≡ all_but b.id old.blocks) × ((p.at ≡ b.at) ⊎ IsClear is_any old.lo old.hi old.blocks p.at (p.at + size))))
+      → compact ≡ false → IfSome o (λ p. (all_but id new.blocks ≡ all_but id old.blocks) × ForSome (block_with old.blocks id) (λ x. (p.at ≡ x.at) ⊎ IsClear is_any old.lo old.hi old.blocks p.at (p.at + size)))
+  way_still new size compact None still off = tt
+  way_still new size compact (Some p) still off = (
+    subst (λ q. all_but q new.blocks ≡ all_but q old.blocks) same_id (still off).0,
+    of_block (λ x. (p.at ≡ x.at) ⊎ IsClear is_any old.lo old.hi old.blocks p.at (p.at + size)) (still off).1,
+  )

@@ -1,0 +1,53 @@
+use Rattle.std.proofs.Common.{◌≡◌, ◌+◌, inr, IfSome, refl, sym, ◌∙◌, subst, arith}
+use Rattle.w16_model.specs.declared.Block.{Block}
+use Rattle.w16_model.specs.Gap.{block_end, hole_after, is_any, IsClear}
+use Rattle.w16_arena.proofs.ButFor.{free_but, own_below}
+use Rattle.w16_arena.proofs.Rooms.{hole_free}
+use Rattle.w16_arena.proofs.Ways.{way_here, enough_here, enough_hole, none_still, slid_enough, clear_bytes}
+use Rattle.w16_arena.proofs.growth.find_way.Goals as goal
+
+pub free_after-requires-clause-id : goal.free_after-requires-clause-id
+free_after-requires-clause-id g c = own_below c.bounds.ensures.ordered c.args.block c.requires.known
+
+-- where it stands
+pub returns-then-size-block-clause-way : goal.returns-then-size-block-clause-way
+returns-then-size-block-clause-way g c =
+    let l = c.args.blocks.now in
+    let behind = subst (λ o. IfSome o (λ (b : Block). c.free_after.result ≡ hole_after l.hi l.blocks (block_end b))) c.requires.known c.free_after.ensures.value in
+    way_here c.bounds.ensures.ordered c.args.block c.requires.known c.args.size c.requires.more c.free_after.result behind c.if-size-block.true (g.S.Space.bytes c.args.space.now)
+
+pub returns-then-size-block-clause-enough : goal.returns-then-size-block-clause-enough
+returns-then-size-block-clause-enough g c =
+    let l = c.args.blocks.now in
+    let behind = subst (λ o. IfSome o (λ (b : Block). c.free_after.result ≡ hole_after l.hi l.blocks (block_end b))) c.requires.known c.free_after.ensures.value in
+    enough_here c.bounds.ensures.ordered c.args.block c.requires.known c.args.size c.requires.more c.free_after.result behind c.if-size-block.true c.args.compact
+
+-- in a hole
+pub move_to_hole-requires-clause-free : goal.move_to_hole-requires-clause-free
+move_to_hole-requires-clause-free g c = hole_free c.bounds.ensures.ordered c.args.size c.in-Some.at (sym c.in-Some.is ∙ c.hole_for.ensures.value)
+
+pub returns-in-Some-clause-enough : goal.returns-in-Some-clause-enough
+returns-in-Some-clause-enough g c =
+    let found = sym c.in-Some.is ∙ c.hole_for.ensures.value in
+    enough_hole c.bounds.ensures.ordered c.args.block c.requires.known c.args.size c.in-Some.at found
+    (free_but c.args.block.id c.args.size c.in-Some.at (hole_free c.bounds.ensures.ordered c.args.size c.in-Some.at found)) c.args.compact
+
+pub returns-in-Some-clause-still : goal.returns-in-Some-clause-still
+returns-in-Some-clause-still g c = λ off.
+    let l = c.args.blocks.now in
+    let clear = clear_bytes c.args.size c.in-Some.at (hole_free c.bounds.ensures.ordered c.args.size c.in-Some.at (sym c.in-Some.is ∙ c.hole_for.ensures.value)) in
+    (c.move_to_hole.ensures.still, inr (subst (λ a. IsClear is_any l.lo l.hi l.blocks a (a + c.args.size)) (sym c.move_to_hole.ensures.at) clear))
+
+-- in a gap
+pub returns-then-compact-clause-enough : goal.returns-then-compact-clause-enough
+returns-then-compact-clause-enough g c = slid_enough c.bounds.ensures.ordered c.args.block c.requires.known c.args.size _ _ _ c.slide_for.result c.slide_for.ensures.way c.args.compact c.if-compact.true
+
+-- nowhere
+pub returns-else-compact-clause-refused : goal.returns-else-compact-clause-refused
+returns-else-compact-clause-refused g c =
+    let l = c.args.blocks.now in let more = c.requires.more in
+    let behind = subst (λ o. IfSome o (λ (b : Block). c.free_after.result ≡ hole_after l.hi l.blocks (block_end b))) c.requires.known c.free_after.ensures.value in (
+      none_still c.bounds.ensures.ordered c.args.block c.requires.known c.args.size (omega arith) c.free_after.result behind c.if-size-block.false (sym c.in_default.is ∙ c.hole_for.ensures.value) c.args.compact c.if-compact.false,
+      refl,
+      refl,
+    )

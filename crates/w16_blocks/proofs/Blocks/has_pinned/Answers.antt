@@ -1,0 +1,10 @@
+use Rattle.std.proofs.Common.{nat_lt, ap, sym, ◌∙◌}
+use Rattle.std.specs.List.{list_any}
+use Rattle.w16_model.specs.Gap.{is_pinned}
+use Rattle.w16_blocks.specs.Layout.{Layout}
+use Rattle.w16_blocks.specs.Kept.{blocks_in}
+use Rattle.w16_blocks.proofs.Ordered.{counted_any}
+use Rattle.w16_blocks.proofs.Blocks.has_pinned.Goals as goal
+
+pub returns : goal.returns
+returns g c = let s = c.self.inside in ap (nat_lt 0) c.self.invariant.pins ∙ sym (counted_any (blocks_in s.slots.items s.begins.items)) ∙ ap (λ (l : Layout). list_any is_pinned l.blocks) c.self.view_is

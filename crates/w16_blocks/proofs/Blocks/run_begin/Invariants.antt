@@ -1,0 +1,12 @@
+use Rattle.std.proofs.Common.{◌≤◌}
+use Rattle.w16_blocks.specs.Runs.{IsRun}
+use Rattle.w16_blocks.proofs.Blocks.run_begin.Given as goal
+
+abbrev pub invariant-loop-begin : goal.invariant-loop-begin
+invariant-loop-begin g l = record {
+  run : IsRun l.self (record { from = l.begin; to = l.to });
+  low : l.low ≤ l.begin;
+}
+
+abbrev pub decreases-loop-begin : goal.decreases-loop-begin
+decreases-loop-begin g l = l.begin

@@ -1,0 +1,24 @@
+use Rattle.std.proofs.Common.{ℕ, ◌≡◌, ◌-◌, ◌∙◌, arith, refl, ap, sym, subst}
+use Rattle.std.specs.Prelude.{slice_index}
+use Rattle.std.specs.Int.{div_ceil}
+use Rattle.w16_blocks.specs.Below.{IsLastBelow}
+use Rattle.w16_blocks.specs.Kept.{blocks_in}
+use Rattle.w16_blocks.proofs.Downward.{none_below, last_here}
+use Rattle.w16_blocks.proofs.Tagged.{is_slot, slot_in}
+use Rattle.w16_blocks.proofs.below.block_below.Goals as goal
+
+pub bounds-slots-begin : goal.bounds-slots-begin
+bounds-slots-begin c = let some = c.if-begin-gt0.true in slot_in c.requires.tables (c.loop-unit.unit - 1) refl refl (λ e. omega arith)
+
+pub returns-then-begin-gt0 : goal.returns-then-begin-gt0
+returns-then-begin-gt0 c =
+    let some = c.if-begin-gt0.true in let lt = c.loop-unit-test.true in
+    let v = c.loop-unit.unit - 1 in
+    let is : c.div_ceil-below.result ≡ div_ceil (c.args.place - c.args.bounds.from) c.args.grain = c.div_ceil-below.ensures ∙ ap (λ (n : ℕ). div_ceil n c.args.grain) c.saturating_sub.ensures in
+    subst (IsLastBelow (blocks_in c.args.slots.now c.args.begins.now) c.args.place) (sym (is_slot c.requires.tables v refl refl (λ e. omega arith) _))
+    (last_here c.requires.tables c.args.place c.div_ceil-below.result c.loop-unit.unit is c.loop-unit.invariant v (slice_index c.args.begins.now v - 1) (omega arith) (omega arith) (omega arith))
+
+pub returns : goal.returns
+returns c =
+    let is : c.div_ceil-below.result ≡ div_ceil (c.args.place - c.args.bounds.from) c.args.grain = c.div_ceil-below.ensures ∙ ap (λ (n : ℕ). div_ceil n c.args.grain) c.saturating_sub.ensures in
+    none_below c.requires.tables c.args.place c.div_ceil-below.result c.loop-unit.unit is c.loop-unit.invariant (omega arith)

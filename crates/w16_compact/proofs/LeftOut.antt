@@ -1,0 +1,95 @@
+-- A layout with an object's block left out, and a gap of what is left.
+use Rattle.std.proofs.Common.{◌≡◌, ℕ, ◌+◌, ◌<◌, ◌≤◌, inl, inr, max, min, true, false, IsTrue, List, [], ◌∷◌, length, Option, Some, None, refl, sym, ap, ◌∙◌, arith}
+use Rattle.std.proofs.lemmas.Bool.{cases_lt, false≢true}
+use Rattle.std.proofs.lemmas.Bool.Decides.{eqb_tells}
+use Rattle.w16_model.specs.declared.Block.{Block}
+use Rattle.w16_model.specs.declared.Hold.TheVariants.{Loose}
+use Rattle.w16_model.specs.Discards.{is_about}
+use Rattle.w16_model.specs.Gap.{IsClear, Misses, is_pinned, block_end}
+use Rattle.w16_model.specs.Table.{block_with}
+use Rattle.w16_model.proofs.Gaps.{Each-both, Each-from_All, All-from_Each}
+use Rattle.w16_model.proofs.Laid.{laid_each}
+use Rattle.w16_blocks.specs.Layout.{Layout, IsOrdered, IsGrained, IsApart, all_but}
+use Rattle.w16_blocks.proofs.Remove.{all_but_same, all_but_other, with_same, with_other, each_with, others_apart, IsLaid-all_but, AreNamed-all_but, All-back, All-all_but}
+use Rattle.w16_compact.specs.Gap.{others, without, HasRoom}
+use Rattle.w16_compact.specs.Gather.{FitsGap, MayGather}
+use Rattle.w16_compact.specs.declared.gaps.Gap.{Gap}
+
+few_left : (id : ℕ) (xs : List Block) → length (all_but id xs) ≤ length xs
+few_left id [] = omega arith
+few_left id (x ∷ xs) = let rest = few_left id xs in elim (eqb_tells x.id id) [
+  | inl same ↦ let is = ap (λ (ys : List Block). length ys) (all_but_same id x xs same.0) in omega (arith, rest, is)
+  | inr other ↦ let is = ap (λ (ys : List Block). length ys) (all_but_other id x xs other.0) in omega (arith, rest, is)
+]
+
+-- what is left is a layout
+pub ordered_without : (h : Option ℕ) (l : Layout) → IsOrdered l → IsOrdered (without h l)
+ordered_without None l ordered = ordered
+ordered_without (Some id) l ordered = record {
+  laid = IsLaid-all_but l.lo l.hi id l.blocks ordered.laid;
+  named = AreNamed-all_but l.cap id l.blocks ordered.named;
+  grained = All-all_but (IsGrained l.grain) id l.blocks ordered.grained;
+  from = ordered.from;
+  small = ordered.small;
+  few = let few = ordered.few in let less = few_left id l.blocks in omega arith;
+}
+
+-- The next block in a walk, and its end.
+pub none_left : (h : Option ℕ) → others h [] ≡ []
+none_left None = refl
+none_left (Some id) = refl
+
+pub next_out : (h : Option ℕ) (x : Block) (xs : List Block) → is_about h x.id ≡ true → others h (x ∷ xs) ≡ others h xs
+next_out None x xs out = absurd (false≢true out)
+next_out (Some id) x xs out = all_but_same id x xs out
+
+pub next_in : (h : Option ℕ) (x : Block) (xs : List Block) → is_about h x.id ≡ false → others h (x ∷ xs) ≡ x ∷ others h xs
+next_in None x xs other = refl
+next_in (Some id) x xs other = all_but_other id x xs other
+
+-- an id without a block leaves all of them
+pub absent_left : (id : ℕ) (xs : List Block) → block_with xs id ≡ None → all_but id xs ≡ xs
+absent_left id [] none = refl
+absent_left id (x ∷ xs) none = elim (eqb_tells x.id id) [
+  | inl same ↦ let no : ◌≡◌ {A = Option Block} (Some x) None = sym (with_same id x xs same.0) ∙ none in cc
+  | inr other ↦ all_but_other id x xs other.0 ∙ ap (λ (ys : List Block). x ∷ ys) (absent_left id xs (sym (with_other id x xs other.0) ∙ none))
+]
+
+-- A gap of what is left, and the loose block that is left out: it doesn't reach over an end of the gap, so the gap may be gathered with it.
+pub may_with : (l : Layout) → IsOrdered l → (id : ℕ) (x : Block) → block_with l.blocks id ≡ Some x → x.hold ≡ Loose → (n : ℕ) (g : Gap) → HasRoom (without (Some id) l) n g → MayGather l g.low g.high
+may_with l ordered id x known loose n g has = record {
+  inside = has.may.inside;
+  loose = All-back l.cap (FitsGap g.low g.high) id x l.blocks ordered.named known fits has.may.loose;
+}
+  where
+    lies : (l.lo ≤ x.at) × (0 < x.size) × (block_end x ≤ l.hi)
+    lies = each_with (λ y. (l.lo ≤ y.at) × (0 < y.size) × (block_end y ≤ l.hi)) id x l.blocks known (laid_each l.lo l.hi l.blocks ordered.laid)
+
+    -- an interval without a pinned byte, and one more that meets it, are one
+    joined : (at size low high p n : ℕ) → 0 < n → at < high → low < at + size → Misses p n low high → Misses at size p (p + n) → Misses p n (min at low) (max (at + size) high)
+    joined at size low high p n some one two f k = grind arith
+
+    wider : x.at < g.high → g.low < block_end x → IsClear is_pinned l.lo l.hi (all_but id l.blocks) (min x.at g.low) (max (block_end x) g.high)
+    wider one two =
+        let a = has.gap.clear.above in let b = has.gap.clear.below in let from = lies.0 in let to = lies.2 in record {
+          above = omega arith;
+          below = omega arith;
+          misses = All-from_Each _ (all_but id l.blocks)
+              (Each-both (λ y. (0 < y.size) × IsApart x y) (λ y. IsTrue (is_pinned y) → Misses y.at y.size g.low g.high) (λ y. IsTrue (is_pinned y) → Misses y.at y.size (min x.at g.low) (max (block_end x) g.high))
+              (λ y k f t. joined x.at x.size g.low g.high y.at y.size k.0 one two (f t) k.1) (all_but id l.blocks)
+              (Each-both (λ y. (l.lo ≤ y.at) × (0 < y.size) × (block_end y ≤ l.hi)) (IsApart x) (λ y. (0 < y.size) × IsApart x y) (λ y in_it k. (in_it.1, k)) (all_but id l.blocks)
+              (All-all_but (λ y. (l.lo ≤ y.at) × (0 < y.size) × (block_end y ≤ l.hi)) id l.blocks (laid_each l.lo l.hi l.blocks ordered.laid)) (others_apart l.lo l.hi l.cap id x l.blocks ordered.laid ordered.named known))
+              (Each-from_All _ (all_but id l.blocks) has.gap.clear.misses));
+        }
+
+    fits : FitsGap g.low g.high x
+    fits = elim (cases_lt x.at g.high) [
+      | inr above ↦ inr (inl above)
+      | inl one ↦ elim (cases_lt g.low (block_end x)) [
+        | inr below ↦ inl below
+        | inl two ↦
+            let same = has.gap.maximal (min x.at g.low) (max (block_end x) g.high) (omega arith) (omega arith) (wider one two) in
+            let low = same.0 in let high = same.1 in
+            inr (inr (omega arith, omega arith, loose))
+      ]
+    ]

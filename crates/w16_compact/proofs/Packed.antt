@@ -1,0 +1,77 @@
+-- From an address of a gap up to the lowest hole the blocks stand packed.
+use Rattle.std.proofs.Common.{ℕ, suc, zero, ◌≡◌, ◌-◌, ◌≤◌, ◌⊎◌, List, [], ◌∷◌, Some, is_some, refl, arith, sym, ap, subst, inl, inr, le-leb}
+use Rattle.std.proofs.lemmas.Bool.{cases_lt, false≢true}
+use Rattle.std.specs.List.{AllByRecursion}
+use Rattle.w16_model.specs.declared.Block.{Block}
+use Rattle.w16_model.specs.declared.Span.{Span}
+use Rattle.w16_model.specs.Gap.{block_end}
+use Rattle.w16_model.specs.Heap.{IsMultiple}
+use Rattle.w16_model.proofs.Gaps.{Each-map}
+use Rattle.w16_holes.specs.Holes.{AreHoles, lowest}
+use Rattle.w16_holes.specs.Law.{IsIn}
+use Rattle.w16_holes.proofs.Units.{multiple_sum}
+use Rattle.w16_blocks.specs.Layout.{Layout, IsGrained, IsOrdered, holes_of}
+use Rattle.w16_blocks.specs.Runs.{IsRun}
+use Rattle.w16_blocks.proofs.Free.{Lacks, AreHoles-holes, free_lacks, lacks_free}
+use Rattle.w16_compact.specs.Gather.{MayGather}
+use Rattle.w16_compact.proofs.Gathering.{cut_low}
+
+in_above : (p lo hi : ℕ) (hs : List Span) → AreHoles lo hi hs → IsIn p hs → lo ≤ p
+in_above p lo hi [] are is = absurd is
+in_above p lo hi (h ∷ hs) are is = let from = are.0 in let some = are.1 in elim is [
+  | inl here ↦ let at = here.0 in omega arith
+  | inr later ↦ let rest = in_above p _ hi hs are.3 later in omega arith
+]
+
+-- the lowest hole begins at the lowest free byte
+lowest_first : (a lo hi : ℕ) (hs : List Span) → AreHoles lo hi hs → Some a ≡ lowest 0 hs → IsIn a hs × ((p : ℕ) → IsIn p hs → a ≤ p)
+lowest_first a lo hi [] are e = absurd (false≢true (sym (ap is_some e)))
+lowest_first a lo hi (h ∷ hs) are e =
+    let f : Some a ≡ Some h.from = rw (le-leb 0 (h.to - h.from) (omega arith)) at e in let same : a ≡ h.from = cc in let some = are.1 in (
+      inl (omega arith, omega arith),
+      (λ p is. elim is [ inl here ↦ let at = here.0 in omega arith | inr later ↦ let rest = in_above p _ hi hs are.3 later in omega arith ]),
+    )
+
+-- where a byte is free and the one before it isn't, a block ends
+end_grained : (g p : ℕ) (bs : List Block) → AllByRecursion (IsGrained g) bs → AllByRecursion (Lacks (suc p)) bs → AllByRecursion (Lacks p) bs ⊎ IsMultiple g (suc p)
+end_grained g p [] grained lacks = inl tt
+end_grained g p (b ∷ bs) grained lacks = elim (end_grained g p bs grained.1 lacks.1) [
+  | inr ends ↦ inr ends
+  | inl rest ↦ elim lacks.0 [
+    | inl before ↦ inl (inl (omega arith), rest)
+    | inr behind ↦ elim (cases_lt p (block_end b)) [
+      | inl at ↦ let is : block_end b ≡ suc p = omega arith in inr (subst (IsMultiple g) is (multiple_sum g b.at b.size grained.0.0 grained.0.1))
+      | inr over ↦ inl (inr over, rest)
+    ]
+  ]
+]
+
+module _ (l : Layout) (ordered : IsOrdered l) (low high : ℕ) (may : MayGather l low high) (grained : IsMultiple l.grain low) (hole : ℕ) (is : Some hole ≡ lowest 0 (holes_of l)) (from : low ≤ hole) (to : hole ≤ high) where
+  first : IsIn hole (holes_of l) × ((p : ℕ) → IsIn p (holes_of l) → hole ≤ p)
+  first = lowest_first hole l.lo l.hi (holes_of l) (AreHoles-holes l.lo l.lo l.hi l.blocks (omega arith) ordered.laid) is
+
+  lacks : AllByRecursion (Lacks hole) l.blocks
+  lacks = (free_lacks hole l.lo l.hi l.blocks ordered.laid first.0).2
+
+  grained_hole : (k : ℕ) → k ≡ hole → IsMultiple l.grain hole
+  grained_hole zero e = let same : low ≡ hole = omega arith in subst (IsMultiple l.grain) same grained
+  grained_hole (suc p) e = elim (cases_lt low hole) [
+    | inr ge ↦ let same : low ≡ hole = omega arith in subst (IsMultiple l.grain) same grained
+    | inl lt ↦ elim (end_grained l.grain p l.blocks ordered.grained (subst (λ (k : ℕ). AllByRecursion (Lacks k) l.blocks) (sym e) lacks)) [
+      | inr ends ↦ subst (IsMultiple l.grain) e ends
+      | inl all ↦
+          let above = may.inside.0 in let top = may.inside.2 in
+          let least = first.1 p (lacks_free p l.lo l.hi l.blocks ordered.laid (omega arith) (omega arith) all) in absurd (omega arith)
+    ]
+  ]
+
+  pub run_packed : IsRun l (record { from = low; to = hole })
+  run_packed = let top = may.inside.2 in record {
+    inside = (may.inside.0, from, omega arith);
+    grained = (grained, grained_hole hole refl);
+    whole = (
+      cut_low low high l.blocks may.inside.1 may.loose,
+      Each-map (Lacks hole) (λ b. (block_end b ≤ hole) ⊎ (hole ≤ b.at)) (λ b lack. elim lack [ inl before ↦ inr (omega arith) | inr behind ↦ inl behind ]) l.blocks lacks,
+    );
+    full = λ p low_p high_p free. let least = first.1 p free in absurd (omega arith);
+  }

@@ -1,0 +1,37 @@
+use Rattle.std.proofs.Common.{◌≡◌, ◌+◌, ◌≤◌}
+use Rattle.w16_model.specs.Gap.{loose_bytes}
+use Rattle.w16_model.specs.Heap.{IsMultiple}
+use Rattle.w16_region.specs.Bytes.{counted}
+use Rattle.w16_blocks.specs.Layout.{IsOrdered, holes_of}
+use Rattle.w16_blocks.specs.Runs.{IsCut}
+use Rattle.w16_compact.specs.Gather.{contents, moved_between}
+use Rattle.w16_compact.specs.Open.{raised}
+use Rattle.w16_compact.specs.Rest.{IsSameRest}
+use Rattle.w16_compact.proofs.opening.raise.Given as goal
+
+abbrev pub invariant-loop-block : goal.invariant-loop-block
+invariant-loop-block g l =
+    let bytes = g.S.Space.bytes in
+    record {
+      bounds : (l.blocks.cap ≡ l.fn.blocks.cap) × (l.blocks.lo ≡ l.fn.blocks.lo) × (l.blocks.hi ≡ l.fn.blocks.hi) × (l.blocks.grain ≡ l.fn.blocks.grain);
+      ordered : IsOrdered l.blocks;
+      -- the blocks: those that began from `from` on are raised
+      list : l.blocks.blocks ≡ raised l.from l.high l.fn.blocks.blocks;
+      low : l.low ≤ l.from;
+      high : l.from ≤ l.high;
+      cut : IsCut l.from l.fn.blocks.blocks;
+      place : l.to + loose_bytes l.fn.blocks.blocks l.from l.high ≡ l.high;
+      room : l.from ≤ l.to;
+      grained : IsMultiple l.fn.blocks.grain l.to;
+      -- the count
+      moved : l.moved ≡ moved_between l.fn.blocks.blocks l.blocks.blocks;
+      small : l.moved + l.to ≤ l.high;
+      written : g.S.Space.written l.space ≡ counted (g.S.Space.written l.fn.space) l.moved;
+      -- the space
+      contents : contents (bytes l.space) l.blocks.blocks ≡ contents (bytes l.fn.space) l.fn.blocks.blocks;
+      kept : g.H.Holes.are_in (holes_of l.blocks) (bytes l.space);
+      rest : IsSameRest bytes g.S.Space.lenders l.fn.blocks.lo l.fn.blocks.hi l.fn.space l.space;
+    }
+
+abbrev pub decreases-loop-block : goal.decreases-loop-block
+decreases-loop-block g l = l.from

@@ -1,0 +1,152 @@
+//! A gap is opened behind one of its blocks.
+ghost use Rattle.std.specs.Prelude.{◌≡◌, ℕ, ◌+◌, ◌<◌, ◌≤◌, ◌⊎◌, ◌-◌, ◌==◌, length, map, Some, IsSome, IfSome, if◌then◌else◌, MatchOption};
+ghost use Rattle.std.specs.List.{AllByRecursion};
+ghost use Rattle.w16_region.specs.Bytes.{counted};
+ghost use Rattle.w16_model.specs.Gap.{block_end, is_any, IsClear, IsGap, IsHole, loose_bytes};
+ghost use Rattle.w16_model.specs.Heap.{IsMultiple};
+ghost use Rattle.w16_model.specs.Table.{block_with};
+ghost use Rattle.w16_blocks.specs.Layout.{IsOrdered, holes_of};
+ghost use Rattle.w16_blocks.specs.Below.{IsLastBelow};
+ghost use Rattle.w16_blocks.specs.Runs.{IsRun, IsBare, slid_with};
+ghost use Rattle.w16_compact.specs.Gather.{contents, moved_between, MayGather, AreSlid};
+ghost use Rattle.w16_compact.specs.Open.{raised, opened, end_in, spare_in};
+ghost use Rattle.w16_compact.specs.Rest.{IsSameRest};
+
+use crate::slide::{are_ordered, gather};
+use w16_blocks::{Block, Blocks, Span};
+use w16_holes::{HoleList, Holes};
+use w16_region::Space;
+
+/// Opens the gap from `low` to `high`, two addresses, behind an id's block, which stands in it and is loose there: the loose blocks up to
+/// and with it slide down to `low`, and those above it slide up to `high`, both in their order (profile). So one hole is left in a gap,
+/// directly behind the block, as long as the gap less its loose blocks; none where they fill it.
+///
+/// Answers how many bytes were moved: the sizes of the blocks whose address changed, together. As
+/// many bytes were written, so a block that stays isn't written, and none is written twice.
+pub fn open<S: Space, H: Holes<S>>(
+    blocks: &mut Blocks<H>,
+    space: &mut S,
+    low: u32,
+    high: u32,
+    id: u32,
+) -> u64
+    requires id { id < blocks.old.cap }
+    requires known { IsSome (block_with blocks.old.blocks id) }
+    requires within { IfSome (block_with blocks.old.blocks id) (λ b. (low ≤ b.at) × (block_end b ≤ high)) }
+    requires gap { MayGather blocks.old low high }
+    requires grained { IsMultiple blocks.old.grain low × IsMultiple blocks.old.grain high }
+    requires kept { H.are_in (holes_of blocks.old) (S.bytes space.old) }
+    requires inside { blocks.old.hi ≤ length (S.bytes space.old) }
+    ensures blocks { IfSome (block_with blocks.old.blocks id) (λ b. blocks.new
+        ≡ record blocks.old { blocks = opened low (block_end b) high blocks.old.blocks }) }
+    ensures ordered { IsOrdered blocks.new }
+    ensures kept { H.are_in (holes_of blocks.new) (S.bytes space.new) }
+    ensures slid { AreSlid blocks.old.blocks blocks.new.blocks }
+    ensures contents { contents (S.bytes space.new) blocks.new.blocks
+        ≡ contents (S.bytes space.old) blocks.old.blocks }
+    ensures place { IfSome (block_with blocks.old.blocks id) (λ b. block_with blocks.new.blocks id
+        ≡ Some (record b { at = low + loose_bytes blocks.old.blocks low b.at })) }
+    ensures clear { IfSome (block_with blocks.old.blocks id) (λ b.
+        let free = end_in blocks.old.blocks low b in
+        let spare = spare_in blocks.old.blocks low high in
+        IsClear is_any blocks.old.lo blocks.old.hi blocks.new.blocks free (free + spare)) }
+    ensures hole { IfSome (block_with blocks.old.blocks id) (λ b.
+        let free = end_in blocks.old.blocks low b in
+        let spare = spare_in blocks.old.blocks low high in
+        IsGap blocks.old.lo blocks.old.hi blocks.old.blocks low high
+        → 0 < spare → IsHole blocks.old.lo blocks.old.hi blocks.new.blocks free (free + spare)) }
+    ensures alone { IfSome (block_with blocks.old.blocks id) (λ b.
+        let free = end_in blocks.old.blocks low b in
+        let spare = spare_in blocks.old.blocks low high in
+        IsGap blocks.old.lo blocks.old.hi blocks.old.blocks low high
+        → (p q : ℕ) → IsHole blocks.old.lo blocks.old.hi blocks.new.blocks p q
+        → (q ≤ low) ⊎ ((high ≤ p) ⊎ ((p ≡ free) × (q ≡ free + spare)))) }
+    ensures full { IsGap blocks.old.lo blocks.old.hi blocks.old.blocks low high
+        → spare_in blocks.old.blocks low high ≡ 0
+        → (p q : ℕ) → IsHole blocks.old.lo blocks.old.hi blocks.new.blocks p q
+        → (q ≤ low) ⊎ (high ≤ p) }
+    ensures moved { result ≡ moved_between blocks.old.blocks blocks.new.blocks }
+    ensures written { S.written space.new ≡ counted (S.written space.old) result }
+    ensures rest { IsSameRest S.bytes S.lenders blocks.old.lo blocks.old.hi space.old space.new }
+{
+    let Some(block) = blocks.find(id) else {
+        unreachable!();
+    };
+    let end = block.at + block.size;
+    let down = gather(blocks, space, low, end);
+    down + raise(blocks, space, end, high)
+}
+
+/// Slides the loose blocks of `low` up to `high`, two addresses, up to `high`, in their order, so that what is free there lies below them.
+/// Answers how many bytes were moved, as `gather` does; as many were written.
+fn raise<S: Space, H: Holes<S>>(blocks: &mut Blocks<H>, space: &mut S, low: u32, high: u32) -> u64
+    requires gap { MayGather blocks.old low high }
+    requires grained { IsMultiple blocks.old.grain high }
+    requires kept { H.are_in (holes_of blocks.old) (S.bytes space.old) }
+    requires inside { blocks.old.hi ≤ length (S.bytes space.old) }
+    ensures blocks { blocks.new ≡ record blocks.old { blocks = raised low high blocks.old.blocks } }
+    ensures ordered { IsOrdered blocks.new }
+    ensures kept { H.are_in (holes_of blocks.new) (S.bytes space.new) }
+    ensures slid { AreSlid blocks.old.blocks blocks.new.blocks }
+    ensures contents { contents (S.bytes space.new) blocks.new.blocks
+        ≡ contents (S.bytes space.old) blocks.old.blocks }
+    ensures moved { result ≡ moved_between blocks.old.blocks blocks.new.blocks }
+    ensures written { S.written space.new ≡ counted (S.written space.old) result }
+    ensures rest { IsSameRest S.bytes S.lenders blocks.old.lo blocks.old.hi space.old space.new }
+{
+    are_ordered(blocks);
+    let mut from = high;
+    let mut to = high;
+    let mut moved = 0;
+    // From the last block down, so that each finds its new place free. Those that began from `from` on stand from `to` on by now. Those
+    // that stand directly before it slide as far, so they go with it.
+    while let Some(block) = last_between(blocks, low, from) {
+        let behind = block.at + block.size;
+        let run = Span {
+            from: blocks.run_begin(behind, low),
+            to: behind,
+        };
+        from = run.from;
+        to -= run.to - run.from;
+        moved += u64::from(lift(blocks, space, run, to));
+    }
+    moved
+}
+
+/// The last block that begins at a place or above it, and below another.
+fn last_between<H: HoleList>(blocks: &Blocks<H>, low: u32, below: u32) -> Option<Block>
+    ensures value { MatchOption result
+        (AllByRecursion (λ b. (b.at < low) ⊎ (below ≤ b.at)) blocks.now.blocks)
+        (λ b. IsLastBelow blocks.now.blocks below b × (low ≤ b.at)) }
+    ensures ordered { IsOrdered blocks.now }
+{
+    let block = blocks.last_below(below)?;
+    if low <= block.at { Some(block) } else { None }
+}
+
+/// Slides a run of blocks up to a place that the blocks behind it leave free. Answers how many bytes were moved, which is none where it
+/// stands there.
+fn lift<S: Space, H: Holes<S>>(blocks: &mut Blocks<H>, space: &mut S, run: Span, to: u32) -> u32
+    requires ordered { IsOrdered blocks.old }
+    requires run { IsRun blocks.old run }
+    requires some { run.from < run.to }
+    requires bare { IsBare run.to (to + (run.to - run.from)) blocks.old.blocks }
+    requires grained { IsMultiple blocks.old.grain to }
+    requires up { (run.from ≤ to) × (to + (run.to - run.from) ≤ blocks.old.hi) }
+    requires kept { H.are_in (holes_of blocks.old) (S.bytes space.old) }
+    requires inside { blocks.old.hi ≤ length (S.bytes space.old) }
+    ensures blocks { blocks.new ≡ record blocks.old { blocks = map (slid_with run to) blocks.old.blocks } }
+    ensures ordered { IsOrdered blocks.new }
+    ensures kept { H.are_in (holes_of blocks.new) (S.bytes space.new) }
+    ensures contents { contents (S.bytes space.new) blocks.new.blocks
+        ≡ contents (S.bytes space.old) blocks.old.blocks }
+    ensures moved { result ≡ (if run.from == to then 0 else run.to - run.from) }
+    ensures written { S.written space.new ≡ counted (S.written space.old) result }
+    ensures rest { IsSameRest S.bytes S.lenders blocks.old.lo blocks.old.hi space.old space.new }
+{
+    if run.from == to {
+        return 0;
+    }
+    blocks.lift_run(space, run, to);
+    run.to - run.from
+}

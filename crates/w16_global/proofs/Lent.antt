@@ -1,0 +1,127 @@
+-- An object's bytes, lent to a work.
+use Rattle.std.proofs.Common.{◌≡◌, ℕ, ◌+◌, ◌-◌, ◌<◌, ◌≤◌, IsSomeAnd, List, ◌++◌, length, take, drop, All, Option, Some, None, option_map, refl, sym, ap, ◌∙◌, subst, arith, length-drop, slice_range, Vec}
+use Rattle.std.specs.Vec.{with_items}
+use Rattle.std.proofs.lemmas.List.{length-take-le, take_at}
+use Rattle.std.proofs.lemmas.List.Elements.{All-take, All-drop}
+use Rattle.std.proofs.Math.Seq.{drop-append-add}
+use Rattle.w16_model.specs.Bytes.{part, put_part}
+use Rattle.w16_model.specs.declared.Attributes.{Attributes}
+use Rattle.w16_model.specs.declared.Block.{Block}
+use Rattle.w16_model.specs.Far.{after_write}
+use Rattle.w16_model.specs.Handles.{AreHandles}
+use Rattle.w16_model.specs.Heap.{Heap, Object, object_at, bytes_at}
+use Rattle.w16_model.specs.Table.{block_with}
+use Rattle.w16_model.proofs.KeptHandles.{other_handles, same_updated}
+use Rattle.w16_model.proofs.KeptHeaps.{written_heap}
+use Rattle.w16_region.specs.Bytes.{counted, with_items-put_part}
+use Rattle.w16_selectors.specs.Descriptors as selectors
+use Rattle.w16_arena.proofs.Lookups.{bytes_here, ends_in_memory}
+use Rattle.w16_arena.specs.State.{ArenaState}
+use Rattle.w16_global.specs.Joined.{Global, handles_of, AreJoined}
+use Rattle.w16_global.specs.Lent.{Lends}
+use Rattle.w16_global.specs.Parts.{AreParts, HasPart, Holding, holding_of}
+use Rattle.w16_global.proofs.Described.{write_same}
+use Rattle.w16_global.proofs.Joined.{joined_same}
+use Rattle.w16_global.proofs.Written.{beside, holding_written, parts_filled}
+
+-- a part of bytes is bytes
+part_bytes : (m : List ℕ) (at : ℕ) (new : List ℕ) → at + length new ≤ length m → All (λ b. b < 256) (put_part m at new) → All (λ b. b < 256) new
+part_bytes m at new le all =
+    let rest : List ℕ = drop (length new) (drop at m) in
+    let front : length (take at m) ≡ at = length-take-le at m (omega arith) in
+    let place : length (take at m) + 0 ≡ at = omega arith in
+    let behind : drop at (put_part m at new) ≡ new ++ rest = ap (λ k. drop k (put_part m at new)) (sym place) ∙ drop-append-add (take at m) (new ++ rest) 0 in
+    subst (All (λ b. b < 256)) (take_at new rest (length new) refl) (All-take (λ b. b < 256) (length new) (new ++ rest) (subst (All (λ b. b < 256)) behind (All-drop (λ b. b < 256) at (put_part m at new) all)))
+
+module _ {state : ArenaState} {memory : List ℕ} (parts : AreParts state memory) {count : ℕ} {h : Holding} (shown : holding_of state memory count ≡ h) (id : ℕ) where
+  abbrev bytes_of : Block → List ℕ
+  bytes_of x = slice_range memory x.at (x.at + x.size)
+
+  bytes_shown : (p : Option Block) → block_with state.table.blocks id ≡ p → bytes_at h.heap id ≡ option_map bytes_of p
+  bytes_shown p is = ap (λ (h : Holding). bytes_at h.heap id) (sym shown) ∙ bytes_here (beside parts) id ∙ ap (option_map bytes_of) is
+
+  -- an object with bytes has a block
+  pub no_bytes : (P : List ℕ → Type 0) → IsSomeAnd (bytes_at h.heap id) P → block_with state.table.blocks id ≡ None → ⊥
+  no_bytes P some e = subst (λ b. IsSomeAnd b P) (bytes_shown None e) some
+
+  module _ (x : Block) (is : block_with state.table.blocks id ≡ Some x) where
+    -- its bytes are at its block
+    had : bytes_at h.heap id ≡ Some (part memory x.at x.size)
+    had = let size : x.at + x.size - x.at ≡ x.size = omega arith in bytes_shown (Some x) is ∙ ap (λ k. Some (take k (drop x.at memory))) size
+
+    pub inside : x.at + x.size ≤ length memory
+    inside = (ends_in_memory (beside parts) id x is).1
+
+    pub may : (P : List ℕ → Type 0) → IsSomeAnd (bytes_at h.heap id) P → (seen : List ℕ) → seen ≡ part memory x.at x.size → P seen
+    may P some seen e = subst P (sym e) (subst (λ b. IsSomeAnd b P) had some)
+
+    -- and others stand there after it
+    module _ {Z : Type 0} (v : Vec ℕ Z) (items : v.items ≡ memory) (after seen : List ℕ) (is_seen : seen ≡ part memory x.at x.size) (long : length after ≡ length seen)
+        (all : All (λ b. b < 256) (with_items v (put_part v.items x.at after)).items) where
+      size : length (part memory x.at x.size) ≡ x.size
+      size = length-take-le x.size (drop x.at memory) (let behind = length-drop x.at memory in let i = inside in omega arith)
+
+      many : length after ≡ x.size
+      many = long ∙ ap length is_seen ∙ size
+
+      fits : x.at + length after ≤ length memory
+      fits = let i = inside in let m = many in omega (arith, m, i)
+
+      same : (with_items v (put_part v.items x.at after)).items ≡ put_part memory x.at after
+      same = with_items-put_part v x.at after (subst (λ (m : List ℕ). x.at + length after ≤ length m) (sym items) fits) ∙ ap (λ m. put_part m x.at after) items
+
+      ours : All (λ b. b < 256) after
+      ours = part_bytes memory x.at after fits (subst (All (λ b. b < 256)) same all)
+
+      has : HasPart h.heap id 0 (length after)
+      has = let s = size in let m = many in subst (λ (b : Option (List ℕ)). IsSomeAnd b (λ bytes. 0 + length after ≤ length bytes)) (sym had) (omega (arith, s, m))
+
+      at_0 : x.at + 0 ≡ x.at
+      at_0 = omega arith
+
+      abbrev lends : (done : List ℕ → List ℕ → Type 0) → done seen after → Lends h.heap id done
+      lends done does = record { bytes = seen; after = after; had = had ∙ ap Some (sym is_seen); long = long; are_bytes = ours; does = does }
+
+      pub lent_parts : AreParts state (with_items v (put_part v.items x.at after)).items
+      lent_parts = subst (AreParts state) (sym (same ∙ ap (λ k. put_part memory k after) (sym at_0))) (parts_filled parts id shown is 0 after has ours)
+
+      lent_holding : holding_of state (with_items v (put_part v.items x.at after)).items (counted count x.size) ≡ record h { heap = after_write h.heap id 0 after; written = counted h.written (length seen) }
+      lent_holding =
+          let n : x.size ≡ length seen = sym many ∙ long in
+          ap (λ items. holding_of state items (counted count x.size)) (same ∙ ap (λ k. put_part memory k after) (sym at_0))
+          ∙ holding_written parts id shown is 0 after has ours (λ k. counted k x.size)
+          ∙ ap (λ k. record h { heap = after_write h.heap id 0 after; written = counted h.written k }) n
+
+      pub lent_as : (done : List ℕ → List ℕ → Type 0) → done seen after → (lent : Lends h.heap id done)
+          × (holding_of state (with_items v (put_part v.items x.at after)).items (counted count x.size) ≡ record h { heap = after_write h.heap id 0 lent.after; written = counted h.written (length lent.bytes) })
+      lent_as done does = (lends done does, lent_holding)
+
+-- the value of the whole
+abbrev global_of : Holding → List (Option Attributes) → ℕ → Global
+global_of h xs m = record { handles = handles_of h xs m; written = h.written }
+
+pub lent_shown : (h : Holding) (xs : List (Option Attributes)) (m : ℕ) {g : Global} → global_of h xs m ≡ g → (slot : ℕ) (done : List ℕ → List ℕ → Type 0) (new : Holding)
+    → (lent : Lends h.heap slot done) × (new ≡ record h { heap = after_write h.heap slot 0 lent.after; written = counted h.written (length lent.bytes) })
+    → (lent : Lends g.handles.heap slot done) × (global_of new xs m ≡ record g { handles = record g.handles { heap = after_write g.handles.heap slot 0 lent.after }; written = counted g.written (length lent.bytes) })
+lent_shown h xs m shown slot done new said =
+    subst (λ (g : Global). (lent : Lends g.handles.heap slot done) × (global_of new xs m ≡ record g { handles = record g.handles { heap = after_write g.handles.heap slot 0 lent.after }; written = counted g.written (length lent.bytes) }))
+    shown (said.0, ap (λ k. global_of k xs m) said.1)
+
+-- The handles with an object's bytes rewritten are some, and the selectors are right.
+pub lent_joined : {h : Holding} {xs : List (Option Attributes)} {t : selectors.DescriptorTable} → AreJoined h xs t → (new : Holding) (slot : ℕ) (done : List ℕ → List ℕ → Type 0) (lent : Lends h.heap slot done)
+    {count : ℕ} → new ≡ record h { heap = after_write h.heap slot 0 lent.after; written = count } → AreJoined new xs t
+lent_joined {h} {xs} {t} are new slot done lent {count} said = of_object (object_at h.heap slot) refl lent.had
+  where
+    with_object : (o : Object) → object_at h.heap slot ≡ Some o → o.bytes ≡ Some lent.bytes → AreJoined new xs t
+    with_object o there has =
+        let long = lent.long in
+        let fits : 0 + length lent.after ≤ length lent.bytes = omega (arith, long) in
+        let after : Heap = after_write h.heap slot 0 lent.after in
+        let handles : AreHandles (record (handles_of h xs 0) { heap = after }) =
+        other_handles (handles_of h xs 0) are.handles after (written_heap h.heap are.handles.heap slot o there lent.bytes has 0 lent.after fits lent.are_bytes) refl refl
+        (same_updated h.heap.objects slot (λ (o : Object). record o { bytes = option_map (λ (b : List ℕ). put_part b 0 lent.after) o.bytes })) in
+        subst (λ k. AreJoined k xs t) (sym said) (joined_same h xs t are (record h { heap = after; written = count }) refl handles (write_same h.heap slot 0 lent.after lent.bytes o there has fits))
+
+    of_object : (p : Option Object) → object_at h.heap slot ≡ p → (elim p as (λ _. Option (List ℕ)) [ Some o ↦ o.bytes | None ↦ None ]) ≡ Some lent.bytes → AreJoined new xs t
+    of_object None there has = cc
+    of_object (Some o) there has = with_object o there has

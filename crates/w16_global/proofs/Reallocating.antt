@@ -1,0 +1,169 @@
+-- What is joined, where an object got another size, for which others may have been discarded or have slid.
+use Rattle.std.proofs.Common.{◌≡◌, ◌≢◌, ℕ, ◌-◌, ◌<◌, ◌≤◌, inl, inr, Bool, true, false, cond, not, ◌&&◌, nat_le, nat_lt, if◌then◌else◌, IsSomeAnd, All, List, [], take, length, get_or, set, Option, Some, None, option_map, is_some, unwrap_or, refl, sym, ap, ◌∙◌, subst, arith}
+use Rattle.std.specs.FinMap as finmap
+use Rattle.std.proofs.lemmas.Bool.{false≢true, cases_eq, le-leb, lt-leb}
+use Rattle.std.proofs.lemmas.List.{get_or-set_same, get_or-set_other, length-set}
+use Rattle.w16_model.specs.declared.Attributes.{Attributes}
+use Rattle.w16_model.specs.declared.Way.{Way}
+use Rattle.w16_model.specs.declared.TheConstants.{FIRST_SLOT}
+use Rattle.w16_model.specs.Discards.{eligible, growth_for}
+use Rattle.w16_model.specs.Heap.{Heap, Object, IsHeap, blocks, object_at, bytes_at, is_pinned_object}
+use Rattle.w16_model.specs.Changes.{with_newest, with_ordered}
+use Rattle.w16_model.specs.Request.{Asked, IsNew, IsGrown, Reallocates, Settles, discarded, moved_bytes, prefix_of, snapshot_of, stays_for}
+use Rattle.w16_model.specs.Law.{KeepsOthers}
+use Rattle.w16_model.specs.Handles.{Handles, AreHandles}
+use Rattle.w16_model.specs.Reallocation.{AreResized, IsResized, KeepsRest}
+use Rattle.w16_model.proofs.Growth.{IsCase}
+use Rattle.w16_model.proofs.Others.{others_law}
+use Rattle.w16_model.proofs.Reallocations.{asked, by_case, none_discarded, heap_law}
+use Rattle.w16_model.proofs.KeptRest.{rest_law}
+use Rattle.w16_model.proofs.ResizedHandles.{reallocated_handles}
+use Rattle.w16_arena.specs.Asked.{HasDiscardedFor, reallocation_prefix}
+use Rattle.w16_selectors.specs.Descriptors as selectors
+use Rattle.w16_selectors.specs.Descriptors.{descriptor_at}
+use Rattle.w16_selectors.specs.declared.Descriptor.{Descriptor}
+use Rattle.w16_selectors.specs.declared.SelKind.TheVariants.{Data}
+use Rattle.w16_global.specs.Parts.{Holding}
+use Rattle.w16_global.specs.Joined.{attributes_in, handles_of, described, followed, forgotten, AreJoined}
+use Rattle.w16_global.proofs.Joined.{described_some, slot_there}
+use Rattle.w16_global.proofs.Described.{made_here}
+use Rattle.w16_global.proofs.Forgotten.{each_discarded, still_taken, was_there}
+use Rattle.w16_global.proofs.Sliding.{StandStill, each_known, says_all}
+
+-- What an answered reallocation leaves of the others, where so many were to be discarded.
+module _ (old : Heap) (is : IsHeap old) (id n : ℕ) (way : Way) (new : Heap) where
+  -- the number, by whether the object may not move, by whether its bytes are enough, and by these
+  abbrev by_hold : Bool → Option ℕ
+  by_hold held = cond {A = Option ℕ} held (Some 0) (growth_for (snapshot_of old) n id way)
+
+  abbrev by_size : Object → Bool → Option ℕ
+  by_size o enough = cond {A = Option ℕ} enough (Some 0) (by_hold (is_pinned_object o && not way.may_move))
+
+  abbrev by_bytes : Object → Option (List ℕ) → Option ℕ
+  by_bytes o b = elim b [ None ↦ prefix_of old n (Some id) way | Some bytes ↦ by_size o (nat_le n (length bytes)) ]
+
+  abbrev Keeps : Object → Type 0
+  Keeps o = (k : ℕ) → reallocation_prefix old id o n way ≡ Some k → KeepsOthers old (Some id) k new
+
+  only : (a b : ℕ) → ◌≡◌ {A = Option ℕ} (Some a) (Some b) → KeepsOthers old (Some id) a new → KeepsOthers old (Some id) b new
+  only a b e keeps = let same : a ≡ b = cc in subst (λ k. KeepsOthers old (Some id) k new) same keeps
+
+  by_each : (o : Object) → IsCase old id n o way true new → Keeps o
+  by_each o (inl revives) k e =
+      let what : Asked = record { way = way; prefix = prefix_of old n (Some id) way; becomes = IsNew way.zero n o.kind o.locks; order = with_newest id } in
+      let r : (k : ℕ) × (what.prefix ≡ Some k) × ((p : Object) × what.becomes p × Settles old (stays_for id what.way) (with_ordered (discarded old k (Some id)) id p (what.order p)) new) = asked old id what new revives.allocated.request in
+      only r.0 k (sym r.1 ∙ sym (ap (by_bytes o) revives.none) ∙ e) ((others_law old new is r.0).0 id way r.2.0 (with_newest id r.2.0) r.2.2)
+  by_each o (inr (inl cuts)) k e =
+      only 0 k (sym (ap (by_size o) (le-leb n (length cuts.bytes) cuts.short)) ∙ sym (ap (by_bytes o) cuts.has) ∙ e)
+      (subst (KeepsOthers old (Some id) 0) (sym cuts.left) (none_discarded old id (record o { bytes = Some (take n cuts.bytes) })))
+  by_each o (inr (inr (inl extends))) k e = elim extends.outcome [
+    | inl fits ↦ only 0 k (sym (ap by_hold extends.held) ∙ sym (ap (by_size o) (lt-leb n (length extends.bytes) extends.long)) ∙ sym (ap (by_bytes o) extends.has) ∙ e)
+        (subst (KeepsOthers old (Some id) 0) (sym fits.2.2) (none_discarded old id fits.2.0))
+    | inr short ↦ absurd (false≢true (sym short.1))
+  ]
+  by_each o (inr (inr (inr asks))) k e =
+      let what : Asked = record { way = way; prefix = growth_for (snapshot_of old) n id way; becomes = IsGrown way.zero n o; order = λ _ order. order } in
+      let r : (k : ℕ) × (what.prefix ≡ Some k) × ((p : Object) × what.becomes p × Settles old (stays_for id what.way) (with_ordered (discarded old k (Some id)) id p (what.order p)) new) = asked old id what new asks.request in
+      only r.0 k (sym r.1 ∙ sym (ap by_hold asks.held) ∙ sym (ap (by_size o) (lt-leb n (length asks.bytes) asks.long)) ∙ sym (ap (by_bytes o) asks.has) ∙ e)
+      ((others_law old new is r.0).0 id way r.2.0 (λ order. order) r.2.2)
+
+  kept_by : Reallocates old id n way true new → (k : ℕ) → IsSomeAnd (object_at old id) (λ o. reallocation_prefix old id o n way ≡ Some k) → KeepsOthers old (Some id) k new
+  kept_by r k needed = turn (object_at old id) (by_case old new id n way true Keeps (λ o there c. by_each o c) r) needed
+    where
+      turn : (p : Option Object) → IsSomeAnd p Keeps → IsSomeAnd p (λ o. reallocation_prefix old id o n way ≡ Some k) → KeepsOthers old (Some id) k new
+      turn None f g = absurd f
+      turn (Some o) f g = f k g
+
+  -- it has the bytes that were asked for
+  sized_by : Reallocates old id n way true new → IsSomeAnd (bytes_at new id) (λ bytes. length bytes ≡ n)
+  sized_by r = from (object_at old id) (rest_law old new id n way is r)
+    where
+      long : (zero : Bool) (before : List ℕ) (b : Option (List ℕ)) → IsSomeAnd b (AreResized zero n before) → IsSomeAnd b (λ bytes. length bytes ≡ n)
+      long zero before None f = absurd f
+      long zero before (Some bytes) f = f.long
+
+      resized : (o : Object) (p : Option Object) → IsSomeAnd p (IsResized way.zero n o) → IsSomeAnd (elim p as (λ _. Option (List ℕ)) [ Some o ↦ o.bytes | None ↦ None ]) (λ bytes. length bytes ≡ n)
+      resized o None f = absurd f
+      resized o (Some p) f = long way.zero (unwrap_or o.bytes []) p.bytes f.bytes
+
+      from : (p : Option Object) → IsSomeAnd p (λ o. KeepsRest old id n o way new) → IsSomeAnd (bytes_at new id) (λ bytes. length bytes ≡ n)
+      from None f = absurd f
+      from (Some o) f = resized o (object_at new id) f.object
+
+-- An object that is there got another size.
+module _ {h : Holding} {xs : List (Option Attributes)} {t : selectors.DescriptorTable} (are : AreJoined h xs t) (new : Holding) (cap : new.cap ≡ h.cap) (slot : ℕ)
+    {m : ℕ} {w : Handles} (shown : handles_of h xs m ≡ w) (known : is_some (object_at w.heap slot) ≡ true) (n : ℕ) (way : Way)
+    (reallocated : Reallocates h.heap slot n way true new.heap) (has : HasDiscardedFor h.heap slot n way new.discarded) where
+  there : is_some (object_at h.heap slot) ≡ true
+  there = subst (λ (v : Handles). is_some (object_at v.heap slot) ≡ true) (sym shown) known
+
+  in_table : slot < length t
+  in_table = subst (λ n. slot < n) (sym are.selectors_many) (slot_there h xs t are slot there).1
+
+  sound : IsHeap new.heap
+  sound = heap_law h.heap new.heap slot n way true are.handles.heap reallocated
+
+  keeps : KeepsOthers h.heap (Some slot) has.prefix new.heap
+  keeps = kept_by h.heap are.handles.heap slot n way new.heap reallocated has.prefix has.needed
+
+  sized : IsSomeAnd (bytes_at new.heap slot) (λ bytes. length bytes ≡ n)
+  sized = sized_by h.heap are.handles.heap slot n way new.heap reallocated
+
+  -- those that were discarded had a selector
+  pub discarded_known : All (λ id. is_some (descriptor_at t id) ≡ true) new.discarded
+  discarded_known = subst (All (λ id. is_some (descriptor_at t id) ≡ true)) (sym has.listed) (each_discarded h.heap new.heap (Some slot) has.prefix keeps t are.described)
+
+  -- each object has a descriptor once these were told
+  pub known_told : (told : selectors.DescriptorTable) → ((q : ℕ) → descriptor_at told q ≡ forgotten new.discarded t q) → (q : ℕ) → is_some (object_at new.heap q) ≡ true → is_some (descriptor_at told q) ≡ true
+  known_told told forgot q here = still_taken new.discarded t told q forgot (each_known are q (elim (cases_eq q slot) [
+    | inl e ↦ ap (λ k. is_some (object_at h.heap k)) e ∙ there
+    | inr other ↦ was_there h.heap new.heap (Some slot) has.prefix keeps q (λ e. let same : slot ≡ q = cc in other (sym same)) here
+  ]))
+
+  -- and the object has its own once selectors have followed
+  pub known_followed : (from to : ℕ) (told second : selectors.DescriptorTable) → ((q : ℕ) → descriptor_at told q ≡ forgotten new.discarded t q) → ((q : ℕ) → descriptor_at second q ≡ followed new.heap from to told q)
+      → is_some (descriptor_at second slot) ≡ true
+  known_followed from to told second forgot follows = ap is_some (follows slot) ∙ by_place (finmap.get new.heap.places slot)
+    where
+      made : is_some (object_at new.heap slot) ≡ true
+      made = from_bytes (object_at new.heap slot) sized
+        where
+          from_bytes : (p : Option Object) → IsSomeAnd (elim p as (λ _. Option (List ℕ)) [ Some o ↦ o.bytes | None ↦ None ]) (λ bytes. length bytes ≡ n) → is_some p ≡ true
+          from_bytes None f = absurd f
+          from_bytes (Some o) f = refl
+
+      taken : is_some (descriptor_at told slot) ≡ true
+      taken = known_told told forgot slot made
+
+      either : (b : Bool) → is_some (if b then described new.heap slot else descriptor_at told slot) ≡ true
+      either true = described_some new.heap slot ∙ made
+      either false = taken
+
+      by_place : (p : Option ℕ) → is_some (elim p as (λ _. Option Descriptor) [ None ↦ descriptor_at told slot | Some at ↦ if nat_le from at && nat_lt at to then described new.heap slot else descriptor_at told slot ]) ≡ true
+      by_place None = taken
+      by_place (Some at) = either (nat_le from at && nat_lt at to)
+
+  pub reallocated_joined : (at from to : ℕ) (told second after : selectors.DescriptorTable) → ((q : ℕ) → q ≢ slot → StandStill h.heap new.heap from to q) → finmap.get new.heap.places slot ≡ Some at
+      → ((q : ℕ) → descriptor_at told q ≡ forgotten new.discarded t q) → length told ≡ length t → ((q : ℕ) → descriptor_at second q ≡ followed new.heap from to told q) → length second ≡ length told
+      → after ≡ set second slot (Some (record { base = at; limit = n - 1; present = true; kind = Data })) → AreJoined new xs after
+  reallocated_joined at from to told second after still placed forgot many_told follows many_second is =
+      let d : Descriptor = record { base = at; limit = n - 1; present = true; kind = Data } in
+      let many : length second ≡ length t = many_second ∙ many_told in
+      record {
+        handles = subst AreHandles (λ i. record { slots = sym cap i - FIRST_SLOT; heap = new.heap; attributes = attributes_in xs; moved = 0 }) (reallocated_handles (handles_of h xs 0) are.handles slot n way new.heap reallocated);
+        described = λ q. ap (λ (l : selectors.DescriptorTable). get_or l q None) is ∙ elim (cases_eq q slot) as (λ _. get_or (set second slot (Some d)) q None ≡ described new.heap q) [
+          | inl e ↦ ap (λ k. get_or (set second slot (Some d)) k None) e ∙ get_or-set_same second slot (Some d) None (subst (λ k. slot < k) (sym many) in_table)
+              ∙ sym (ap (λ k. described new.heap k) e ∙ made_here new.heap slot n at (bytes_at new.heap slot) refl sized placed)
+          | inr other ↦ get_or-set_other second slot q (Some d) None other ∙ follows q
+              ∙ says_all h.heap new.heap sound (Some slot) has.prefix keeps from to t told new.discarded has.listed forgot are.described q (λ e. let same : slot ≡ q = cc in other (sym same)) (still q other)
+        ];
+        attributes_many = are.attributes_many ∙ sym cap;
+        selectors_many = ap length is ∙ length-set second slot (Some d) ∙ many ∙ are.selectors_many ∙ sym cap;
+        some = subst (λ n. FIRST_SLOT ≤ n) (sym cap) are.some;
+      }
+
+  -- the handles that these are
+  pub reallocated_shown : (moved : ℕ) → moved ≡ moved_bytes h.heap new.heap → handles_of new xs moved ≡ record w { heap = new.heap; moved = moved_bytes w.heap new.heap }
+  reallocated_shown moved is =
+      (λ i. record { slots = cap i - FIRST_SLOT; heap = new.heap; attributes = attributes_in xs; moved = is i })
+      ∙ ap (λ (v : Handles). record v { heap = new.heap; moved = moved_bytes v.heap new.heap }) shown

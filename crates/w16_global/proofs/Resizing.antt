@@ -1,0 +1,124 @@
+-- What GlobalReAlloc and GlobalDiscard answer.
+use Rattle.std.proofs.Common.{◌≡◌, ◌≢◌, ℕ, ◌+◌, ◌-◌, ◌*◌, ◌/◌, ◌<◌, ◌≤◌, ◌||◌, ◌==◌, ◌&&◌, inl, inr, Bool, true, false, cond, nat_lt, MatchBool, MatchOption, List, length, Option, Some, None, Result, Ok, Err, option_map, unwrap_or, refl, sym, ap, ◌∙◌, subst, arith, eq-eqb, ne_eqb, max, min, ◌^◌}
+use Rattle.std.specs.FinMap as finmap
+use Rattle.std.proofs.lemmas.Bool.{cases_eq, le-ltb}
+use Rattle.w16_model.specs.declared.Kind.{Kind}
+use Rattle.w16_model.specs.declared.Way.{Way}
+use Rattle.w16_model.specs.declared.Refusal.{Refusal}
+use Rattle.w16_model.specs.declared.Refusal.TheVariants as refusals
+use Rattle.w16_model.specs.declared.TheConstants.{LARGEST_SIZE, GMEM_MOVEABLE, GMEM_MODIFY, GMEM_ZEROINIT}
+use Rattle.w16_model.specs.Heap.{Heap, Object, object_at, bytes_at, is_fixed, is_discardable}
+use Rattle.w16_model.specs.Changes.{absent, with_ordered, with_newest}
+use Rattle.w16_model.specs.Request.{Reallocates, moved_bytes}
+use Rattle.w16_model.specs.OneObject.{after_modify, after_discard}
+use Rattle.w16_model.specs.Handles.{Handles, slot_of_handle}
+use Rattle.w16_model.specs.Calls.{has_flag, rounded_size, global_size}
+use Rattle.w16_model.specs.Resizes.{way_asked_again, kind_modified, modified, IsNull, Again, AnswersDiscard, Empties, Resizes, GlobalReAllocs, GlobalDiscards}
+use Rattle.w16_model.proofs.Absence.{discard_absent}
+use Rattle.w16_model.proofs.Growth.{one_outcome_law}
+use Rattle.w16_model.proofs.KeptHeaps.{taken_here, taken_other}
+use Rattle.w16_model.proofs.ResizedHandles.{found_some}
+use Rattle.w16_region.specs.Bytes.{counted}
+use Rattle.w16_arena.proofs.Unmoved.{none_moved, unmoved}
+use Rattle.w16_global.specs.Joined.{zeroed_behind}
+
+-- What is moved.
+
+-- a change of kind moves nothing
+modified_unmoved : (heap : Heap) (slot : ℕ) (kind : Kind) → moved_bytes heap (modified heap slot kind) ≡ 0
+modified_unmoved heap slot kind = unmoved heap (modified heap slot kind) (turn (object_at heap slot))
+  where
+    test : (o : Object) (b : Bool) → (elim (cond {A = Result Heap Refusal} b (Err refusals.Fixed)
+        (Ok (with_ordered heap slot (record o { kind = kind }) (λ order. cond {A = List ℕ} (is_discardable o.kind && is_discardable kind) order (with_newest slot (record o { kind = kind }) order)))))
+        as (λ _. Heap) [ Ok new ↦ new | Err _ ↦ heap ]).places ≡ heap.places
+    test o true = refl
+    test o false = refl
+
+    turn : (p : Option Object) → (elim (elim p as (λ _. Result Heap Refusal) [
+      | None ↦ Err refusals.Absent
+      | Some o ↦ cond {A = Result Heap Refusal} (is_fixed o.kind || is_fixed kind) (Err refusals.Fixed)
+          (Ok (with_ordered heap slot (record o { kind = kind }) (λ order. cond {A = List ℕ} (is_discardable o.kind && is_discardable kind) order (with_newest slot (record o { kind = kind }) order))))
+    ]) as (λ _. Heap) [ Ok new ↦ new | Err _ ↦ heap ]).places ≡ heap.places
+    turn None = refl
+    turn (Some o) = test o (is_fixed o.kind || is_fixed kind)
+
+-- nor does a discard
+discard_unmoved : (heap new : Heap) (slot : ℕ) → after_discard heap slot ≡ Ok new → moved_bytes heap new ≡ 0
+discard_unmoved heap new slot done = ap (moved_bytes heap) (discard_absent heap new slot done) ∙ none_moved heap (absent heap slot) (λ q. elim (cases_eq q slot) [
+  | inl e ↦ inr (taken_here heap.places slot q e)
+  | inr other ↦ inl (taken_other heap.places slot q other)
+])
+
+-- What a size of 0 answers for an object that was discarded, where nothing was moved last.
+pub empties_ok : (v : Handles) → v.moved ≡ 0 → (handle slot flags : ℕ) (new : Handles) → has_flag flags GMEM_MOVEABLE ≡ true → after_discard v.heap slot ≡ Ok new.heap → new ≡ record v { heap = new.heap }
+    → Empties v handle slot flags handle new
+empties_ok v still handle slot flags new moveable done rest =
+    subst (λ m. MatchBool m (AnswersDiscard v handle handle new (after_discard v.heap slot)) (IsNull v handle new)) (sym moveable)
+    (subst (AnswersDiscard v handle handle new) (sym done) (refl, rest ∙ (λ i. record v { heap = new.heap; moved = (still ∙ sym (discard_unmoved v.heap new.heap slot done)) i })))
+
+-- What GlobalReAlloc answers for an object, from the handles w, where v is w with nothing moved last.
+module _ (w v : Handles) (v_is : v ≡ record w { moved = 0 }) (handle size flags slot : ℕ) (found : slot_of_handle v handle ≡ Some slot) (new : Handles) where
+  abbrev by_size : ℕ → Bool → Type 0
+  by_size answer none = MatchBool none (Empties w handle slot flags answer new) (Resizes w handle slot flags size answer new)
+
+  abbrev by_modify : ℕ → Bool → Type 0
+  by_modify answer m = MatchBool m (Again w handle (modified w.heap slot (kind_modified flags)) answer new) (by_size answer (size == 0))
+
+  answers : (answer : ℕ) (m : Bool) → has_flag flags GMEM_MODIFY ≡ m → by_modify answer m → GlobalReAllocs w handle size flags answer new
+  answers answer m e h = subst (λ p. MatchOption p (IsNull w answer new) (λ slot. MatchBool (has_flag flags GMEM_MODIFY)
+      (Again w handle (modified w.heap slot (kind_modified flags)) answer new)
+      (MatchBool (size == 0) (Empties w handle slot flags answer new) (Resizes w handle slot flags size answer new))))
+      (sym (sym (ap (λ (x : Handles). slot_of_handle x handle) v_is) ∙ found)) (subst (by_modify answer) (sym e) h)
+
+  -- another kind
+  pub answers_modified : (kind : Kind) → kind ≡ kind_modified flags → has_flag flags GMEM_MODIFY ≡ true → new ≡ record v { heap = modified v.heap slot kind } → GlobalReAllocs w handle size flags handle new
+  answers_modified kind kind_is modify rest = answers handle true modify
+      (refl, rest ∙ (λ i. record (v_is i) { heap = modified (v_is i).heap slot (kind_is i) }) ∙ (λ i. record w { heap = modified w.heap slot (kind_modified flags); moved = sym (modified_unmoved w.heap slot (kind_modified flags)) i }))
+
+  module _ (kept : has_flag flags GMEM_MODIFY ≡ false) (some : size ≡ 0 → ⊥) (small : size ≤ LARGEST_SIZE) (n : ℕ) (n_is : n ≡ rounded_size size) (way : Way) (way_is : way ≡ way_asked_again flags) where
+    sized : (answer : ℕ) (answered : Bool) → Reallocates w.heap slot (rounded_size size) (way_asked_again flags) answered new.heap → MatchBool answered (Again w handle new.heap answer new) (IsNull w answer new)
+        → GlobalReAllocs w handle size flags answer new
+    sized answer answered r h = answers answer false kept (subst (by_size answer) (sym (ne_eqb size 0 some)) (subst (λ long. MatchBool long (IsNull w answer new)
+        ((answered : Bool) × (heap : Heap) × Reallocates w.heap slot (rounded_size size) (way_asked_again flags) answered heap × MatchBool answered (Again w handle heap answer new) (IsNull w answer new)))
+        (sym (le-ltb LARGEST_SIZE size small)) (answered, new.heap, r, h)))
+
+    asked : (answered : Bool) → Reallocates v.heap slot n way answered new.heap → Reallocates w.heap slot (rounded_size size) (way_asked_again flags) answered new.heap
+    asked answered h =
+        subst (λ x. Reallocates w.heap slot (rounded_size size) x answered new.heap) way_is
+        (subst (λ k. Reallocates w.heap slot k way answered new.heap) n_is
+        (subst (λ (x : Handles). Reallocates x.heap slot n way answered new.heap) v_is h))
+
+    -- another size
+    pub answers_bytes : Reallocates v.heap slot n way true new.heap → new ≡ record v { heap = new.heap; moved = moved_bytes v.heap new.heap } → GlobalReAllocs w handle size flags handle new
+    answers_bytes h rest = sized handle true (asked true h) (refl, rest ∙ ap (λ (x : Handles). record x { heap = new.heap; moved = moved_bytes x.heap new.heap }) v_is)
+
+    -- and none, where there is no room
+    pub answers_no_room : Reallocates v.heap slot n way false new.heap → new ≡ record v { heap = new.heap } → GlobalReAllocs w handle size flags 0 new
+    answers_no_room h rest =
+        let same : new.heap ≡ w.heap = (one_outcome_law w.heap new.heap slot (rounded_size size) (way_asked_again flags) (asked false h)).0 in
+        sized 0 false (asked false h) (refl, rest ∙ ap (λ (x : Handles). record x { heap = new.heap }) v_is ∙ (λ i. record w { heap = same i; moved = 0 }))
+
+-- GlobalDiscard moves nothing,
+discards_unmoved : (old : Handles) (handle answer : ℕ) (new : Handles) → GlobalDiscards old handle answer new → new.moved ≡ 0
+discards_unmoved old handle answer new step = turn (slot_of_handle old handle) step
+  where
+    by_answer : (slot : ℕ) (r : Result Heap Refusal) → after_discard old.heap slot ≡ r → AnswersDiscard old handle answer new r → new.moved ≡ 0
+    by_answer slot (Ok heap) e again = ap (λ (x : Handles). x.moved) again.1 ∙ discard_unmoved old.heap heap slot e
+    by_answer slot (Err refusal) e null = ap (λ (x : Handles). x.moved) null.1
+
+    turn : (p : Option ℕ) → MatchOption p (IsNull old answer new) (λ slot. AnswersDiscard old handle answer new (after_discard old.heap slot)) → new.moved ≡ 0
+    turn None null = ap (λ (x : Handles). x.moved) null.1
+    turn (Some slot) g = by_answer slot (after_discard old.heap slot) refl g
+
+-- and so writes nothing
+pub discard_written : (old : Handles) (handle answer : ℕ) (new : Handles) → GlobalDiscards old handle answer new → (before after : ℕ)
+    → after ≡ counted (counted before new.moved) (zeroed_behind old handle 0 GMEM_MOVEABLE answer) → after ≡ before
+discard_written old handle answer new step before after is =
+    is ∙ (λ i. counted (counted before (discards_unmoved old handle answer new step i)) (no_zeros ((answer == 0) || has_flag GMEM_MOVEABLE GMEM_MODIFY) i)) ∙ ap (λ k. counted k 0) (counted_none before) ∙ counted_none before
+  where
+    no_zeros : (b : Bool) → cond {A = ℕ} b 0 0 ≡ 0
+    no_zeros true = refl
+    no_zeros false = refl
+
+    counted_none : (count : ℕ) → counted count 0 ≡ count
+    counted_none count = omega arith

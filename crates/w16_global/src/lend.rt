@@ -1,0 +1,70 @@
+//! An object's bytes, lent to what is done to them.
+ghost use Rattle.std.specs.Prelude.{◌≡◌, ◌<◌, ◌^◌, ℕ, List, false, length, None, Some, IfSome, IfNone, IsSomeAnd, option_map};
+ghost use Rattle.w16_model.specs.Far.{after_write};
+ghost use Rattle.w16_model.specs.Heap.{bytes_at};
+ghost use Rattle.w16_model.specs.Handles as handles;
+ghost use Rattle.w16_region.specs.Bytes.{counted};
+ghost use Rattle.w16_global.specs.Lent.{Lends};
+
+use crate::global::Global16;
+
+/// Something that is done to an object's bytes, and to a state beside them. A loan out of a value that has an invariant can't be followed past
+/// the call that lends it; so a caller hands its work in.
+pub trait Work {
+    /// What changes beside the bytes.
+    type State;
+
+    type Answer;
+
+    /// When it may be done: the work, the state and the bytes.
+    ghost may: { Self → Self.State → List ℕ → Type 0 };
+
+    /// What it does: the work, the state and the bytes before it, its answer, and the state and the bytes after it.
+    ghost does: { Self → Self.State → List ℕ → Self.Answer → Self.State → List ℕ → Type 0 };
+
+    /// Does it. There are as many bytes after it as before it.
+    fn work(&self, state: &mut Self::State, bytes: &mut [u8]) -> Self::Answer
+        requires small { length bytes.old < 2 ^ 32 }
+        requires may { may self.now state.old bytes.old }
+        ensures long { length bytes.new ≡ length bytes.old }
+        ensures done { does self.now state.old bytes.old result state.new bytes.new };
+}
+
+/// An object with bytes: its slot, and how many they are.
+#[derive(Clone, Copy, Debug, PartialEq, Eq)]
+pub struct Segment {
+    pub slot: u16,
+    pub size: u32,
+}
+
+impl Global16 {
+    /// The object that a selector names, if it has bytes.
+    pub fn segment(&self, selector: u16) -> Option<Segment>
+        ensures found { IfSome result (λ s. (handles.slot_of_selector self.now.handles selector ≡ Some s.slot) × (option_map length (bytes_at self.now.handles.heap s.slot) ≡ Some s.size)) }
+        ensures none { IfNone result ((slot : ℕ) → handles.slot_of_selector self.now.handles selector ≡ Some slot → bytes_at self.now.handles.heap slot ≡ None) }
+    {
+        let slot = self.slot_of_selector(selector)?;
+        let size = self.objects.size(slot as u32)?;
+        Some(Segment { slot, size })
+    }
+
+    /// Whether a slot's object is code. None is yet.
+    pub fn is_code(&self, _slot: u16) -> bool
+        ensures { result ≡ false }
+    {
+        false
+    }
+
+    /// Does a work on the bytes of a slot's object. Nothing else of the handles changes: no address, no order of use, no count of bytes moved.
+    /// All bytes that are lent count as written.
+    pub fn with_bytes<W: Work>(&mut self, slot: u16, work: &W, state: &mut W::State) -> W::Answer
+        requires { IsSomeAnd (bytes_at self.old.handles.heap slot) (λ bytes. W.may work.now state.old bytes) }
+        ensures { (lent : Lends self.old.handles.heap slot (λ bytes after. W.does work.now state.old bytes result state.new after))
+            × (self.new ≡ record self.old {
+              handles = record self.old.handles { heap = after_write self.old.handles.heap slot 0 lent.after };
+              written = counted self.old.written (length lent.bytes);
+            }) }
+    {
+        self.objects.with_bytes(slot as u32, work, state)
+    }
+}

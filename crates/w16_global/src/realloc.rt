@@ -1,0 +1,102 @@
+//! The calls of programs that give an object another size or another kind.
+ghost use Rattle.std.specs.Prelude.{◌≡◌, IsSome};
+ghost use Rattle.w16_model.specs.Heap.{object_at};
+ghost use Rattle.w16_model.specs.Resizes as resizes;
+ghost use Rattle.w16_region.specs.Bytes.{counted};
+ghost use Rattle.w16_global.specs.Joined.{zeroed_behind};
+
+use crate::calls::{has_flag, rounded, way_asked};
+use crate::global::Global16;
+use w16_model::{GMEM_DISCARDABLE, GMEM_MODIFY, GMEM_MOVEABLE, Kind, LARGEST_SIZE, Way};
+
+impl Global16 {
+    /// `GlobalReAlloc`: the handle, or 0 where it is bad or the request is refused, and then nothing has changed.
+    ///
+    /// With `GMEM_MODIFY` the size isn't looked at: an object that isn't fixed becomes discardable with `GMEM_DISCARDABLE`, else moveable. A
+    /// size of 0 with `GMEM_MOVEABLE` discards a discardable object that isn't locked, as it may be already; a size of 0 is refused
+    /// otherwise, and so is one over 65,536. The size is rounded up to 32 bytes: the object keeps its first bytes, and more come behind
+    /// them, zeros with `GMEM_ZEROINIT`; one without bytes gets new ones. It is cut where it stands. To grow, it may move, and others
+    /// slide and are discarded, as in [`Global16::global_alloc`]; a fixed or locked one moves with `GMEM_MOVEABLE` alone, and grows
+    /// into the hole behind it without.
+    pub fn global_realloc(&mut self, handle: u16, size: u32, flags: u16) -> u16
+        ensures step { resizes.GlobalReAllocs self.old.handles handle size flags result self.new.handles }
+        ensures written { self.new.written ≡ counted (counted self.old.written self.new.handles.moved) (zeroed_behind self.old.handles handle size flags result) }
+        ensures fewest { resizes.ReallocFewest self.old.handles handle size flags result self.new.handles }
+    {
+        self.are_handles();
+        self.change_object(handle, size, flags)
+    }
+
+    /// The same: another size or kind for an object, and its handle.
+    fn change_object(&mut self, handle: u16, size: u32, flags: u16) -> u16
+        ensures step { resizes.GlobalReAllocs self.old.handles handle size flags result self.new.handles }
+        ensures written { self.new.written ≡ counted (counted self.old.written self.new.handles.moved) (zeroed_behind self.old.handles handle size flags result) }
+    {
+        self.moved = 0;
+        let Some(slot) = self.slot_of_handle(handle) else {
+            return 0;
+        };
+        if has_flag(flags, GMEM_MODIFY) {
+            self.modify(slot, kind_modified(flags));
+            return handle;
+        }
+        if size == 0 {
+            return self.empty(slot, handle, flags);
+        }
+        if size > LARGEST_SIZE {
+            return 0;
+        }
+        if self.reallocate(slot, rounded(size), way_asked_again(flags)) {
+            handle
+        } else {
+            0
+        }
+    }
+
+    /// The same for a size of 0: the handle of an object that was discarded, or 0. Nothing is moved.
+    fn empty(&mut self, slot: u16, handle: u16, flags: u16) -> u16
+        requires object { IsSome (object_at self.old.handles.heap slot) }
+        requires unmoved { self.old.handles.moved ≡ 0 }
+        ensures step { resizes.Empties self.old.handles handle slot flags result self.new.handles }
+        ensures written { self.new.written ≡ self.old.written }
+        ensures unmoved { self.new.handles.moved ≡ 0 }
+    {
+        if !has_flag(flags, GMEM_MOVEABLE) {
+            return 0;
+        }
+        match self.discard(slot) {
+            Ok(()) => handle,
+            Err(_) => 0,
+        }
+    }
+
+    /// `GlobalDiscard`: the handle, and a discardable object that isn't locked gives up its bytes, if it has any. 0 for a bad handle, and
+    /// for any other object, which keeps them. It is a `GlobalReAlloc` to 0 bytes with `GMEM_MOVEABLE`.
+    pub fn global_discard(&mut self, handle: u16) -> u16
+        ensures step { resizes.GlobalDiscards self.old.handles handle result self.new.handles }
+        ensures written { self.new.written ≡ self.old.written }
+    {
+        self.change_object(handle, 0, GMEM_MOVEABLE)
+    }
+}
+
+/// How flags of a reallocation let room be made: with `GMEM_MOVEABLE` the object itself may be moved, fixed or locked.
+fn way_asked_again(flags: u16) -> Way
+    ensures { result ≡ resizes.way_asked_again flags }
+{
+    Way {
+        may_move: has_flag(flags, GMEM_MOVEABLE),
+        ..way_asked(flags)
+    }
+}
+
+/// The kind that `GMEM_MODIFY` asks for.
+fn kind_modified(flags: u16) -> Kind
+    ensures { result ≡ resizes.kind_modified flags }
+{
+    if has_flag(flags, GMEM_DISCARDABLE) {
+        Kind::Discardable
+    } else {
+        Kind::Moveable
+    }
+}

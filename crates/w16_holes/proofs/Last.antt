@@ -1,0 +1,55 @@
+-- The last hole that begins below a place, by cells.
+use Rattle.std.proofs.Common.{ℕ, zero, suc, ◌≡◌, ◌<◌, ◌≤◌, ◌+◌, ◌*◌, List, [], ◌∷◌, Option, Some, None, option_map, arith, refl, sym, ap, ◌∙◌, subst, inl, inr}
+use Rattle.std.specs.Prelude.{slice_index}
+use Rattle.std.proofs.lemmas.Bool.{cases_lt, lt-ltb, le-ltb}
+use Rattle.w16_tree.specs.Last.{last_below}
+use Rattle.w16_holes.specs.Holes.{last_before}
+use Rattle.w16_holes.specs.Cells.{spans}
+use Rattle.w16_holes.proofs.Units.{up, above}
+use Rattle.w16_holes.proofs.Told.{IsLastOf, last_told}
+
+-- none begins below a place before all holes
+before_none : (g : ℕ) (ns : List ℕ) (u a : ℕ) → ((j : ℕ) → 0 < slice_index ns j → a ≤ u + g * j) → last_before a (spans g u ns) ≡ None
+before_none g [] u a from = refl
+before_none g (m ∷ ms) u a from =
+    let rest : last_before a (spans g (u + g) ms) ≡ None = before_none g ms (u + g) a (λ j has. let r : a ≤ u + g * suc j = from (suc j) has in omega arith) in
+    elim (cases_lt u (u + m)) [
+      | inl lt ↦ let first : a ≤ u + g * 0 = from 0 (omega arith) in rw (lt-ltb u (u + m) lt, le-ltb u a (omega arith)) rest
+      | inr le ↦ rw (le-ltb u (u + m) le) rest
+    ]
+
+-- the hole of a cell, where all that begin behind it begin from the place on
+before_some : (g : ℕ) (ns : List ℕ) (u k a : ℕ) → 0 < slice_index ns k → u + g * k < a → ((j : ℕ) → k < j → 0 < slice_index ns j → a ≤ u + g * j) → last_before a (spans g u ns) ≡ Some (u + g * k)
+before_some g [] u k a has lt from = absurd (omega arith)
+before_some g (m ∷ ms) u zero a has lt from =
+    let e : u ≡ u + g * 0 = omega arith in
+    let rest : last_before a (spans g (u + g) ms) ≡ None = before_none g ms (u + g) a (λ j other. let r : a ≤ u + g * suc j = from (suc j) (omega arith) other in omega arith) in
+    rw (lt-ltb u (u + m) (omega arith), lt-ltb u a (omega arith), rest) (ap (λ (n : ℕ). Some n) e)
+before_some g (m ∷ ms) u (suc k) a has lt from =
+    let e : u + g + g * k ≡ u + g * suc k = omega arith in
+    let rest : last_before a (spans g (u + g) ms) ≡ Some (u + g + g * k) = before_some g ms (u + g) k a has (omega arith) (λ j more other. let r : a ≤ u + g * suc j = from (suc j) (omega arith) other in omega arith) in
+    elim (cases_lt u (u + m)) [
+      | inl some ↦ rw (lt-ltb u (u + m) some, lt-ltb u a (omega arith), rest) (ap (λ (n : ℕ). Some n) e)
+      | inr none ↦ rw (le-ltb u (u + m) none) (rest ∙ ap (λ (n : ℕ). Some n) e)
+    ]
+
+last_of : (g u q a : ℕ) (ns : List ℕ) (r : Option ℕ) → 0 < g → u + g * q ≡ a → IsLastOf ns q r → option_map (λ (k : ℕ). u + g * k) r ≡ last_before a (spans g u ns)
+last_of g u q a ns (Some k) wide at told =
+    let less = above g k q told.0 in
+    sym (before_some g ns u k a told.1 (omega arith) (λ j more has. elim (cases_lt j q) [
+      | inl before ↦ let z = told.2 j more before in absurd (omega arith)
+      | inr from ↦ let r = up g q j from in omega arith
+    ]))
+last_of g u q a ns None wide at told = sym (before_none g ns u a (λ j has. elim (cases_lt j q) [
+  | inl before ↦ let z = told j before in absurd (omega arith)
+  | inr from ↦ let r = up g q j from in omega arith
+]))
+
+pub last_is : (g u q a : ℕ) (ns : List ℕ) (r : Option ℕ) → 0 < g → u + g * q ≡ a → r ≡ last_below ns q → option_map (λ (k : ℕ). u + g * k) r ≡ last_before a (spans g u ns)
+last_is g u q a ns r wide at is = last_of g u q a ns r wide at (subst (IsLastOf ns q) (sym is) (last_told ns q))
+
+-- it begins below
+pub last_lower : (g : ℕ) (ns : List ℕ) (q k : ℕ) → Some k ≡ last_below ns q → g * k ≤ g * q
+last_lower g ns q k is =
+    let told : IsLastOf ns q (Some k) = subst (IsLastOf ns q) (sym is) (last_told ns q) in
+    let lt = told.0 in up g k q (omega arith)

@@ -1,0 +1,46 @@
+use Rattle.std.proofs.Common.{ℕ, ◌+◌, ap, arith, ◌∙◌, Some, None, subst}
+use Rattle.w16_holes.specs.Holes.{Range, Free, AreHoles}
+use Rattle.w16_holes.proofs.Last.{last_is, last_lower}
+use Rattle.w16_holes.proofs.Steps.{AreHoles-cells}
+use Rattle.w16_holes.specs.declared.side.SideHoles.TheInside.{Inside}
+use Rattle.w16_holes.proofs.side.SideHoles.below.Goals as goal
+
+abbrev range : Inside → Range
+range s = record { lo = s.lo; hi = s.hi; grain = s.grain }
+
+pub bytes_before-requires-clause-small : goal.bytes_before-requires-clause-small
+bytes_before-requires-clause-small c =
+    let s = c.self.inside in
+    let le = last_lower s.grain s.lengths c.unit_of-unit.result c.in-Some.begin c.in-Some.ensures in
+    let is = c.unit_of-unit.ensures in omega arith
+
+pub overflow_add-result : goal.overflow_add-result
+overflow_add-result c =
+    let s = c.self.inside in
+    let le = last_lower s.grain s.lengths c.unit_of-unit.result c.in-Some.begin c.in-Some.ensures in
+    let is = c.unit_of-unit.ensures in
+    let from = c.requires.from in
+    let low = ap (λ (f : Free). f.range.lo) c.self.view_is in
+    record { fits = omega arith }
+
+pub returns-in-Some-clause-value : goal.returns-in-Some-clause-value
+returns-in-Some-clause-value c =
+    let s = c.self.inside in
+    let is = c.unit_of-unit.ensures in
+    let from = c.requires.from in
+    let low = ap (λ (f : Free). f.range.lo) c.self.view_is in
+    rw (← c.self.view_is) (ap (λ (n : ℕ). Some (s.lo + n)) c.bytes_before.ensures ∙ last_is s.grain s.lo c.unit_of-unit.result c.args.place s.lengths (Some c.in-Some.begin) c.self.invariant.some (omega arith) c.in-Some.ensures)
+
+pub returns-in-Some-clause-ordered : goal.returns-in-Some-clause-ordered
+returns-in-Some-clause-ordered c = subst (λ (f : Free). AreHoles f.range.lo f.range.hi f.holes) c.self.view_is (AreHoles-cells (range c.self.inside) c.self.inside.lengths c.self.invariant)
+
+pub returns-clause-value : goal.returns-clause-value
+returns-clause-value c =
+    let s = c.self.inside in
+    let is = c.unit_of-unit.ensures in
+    let from = c.requires.from in
+    let low = ap (λ (f : Free). f.range.lo) c.self.view_is in
+    rw (← c.self.view_is) (last_is s.grain s.lo c.unit_of-unit.result c.args.place s.lengths None c.self.invariant.some (omega arith) c.in_default.ensures)
+
+pub returns-clause-ordered : goal.returns-clause-ordered
+returns-clause-ordered c = subst (λ (f : Free). AreHoles f.range.lo f.range.hi f.holes) c.self.view_is (AreHoles-cells (range c.self.inside) c.self.inside.lengths c.self.invariant)

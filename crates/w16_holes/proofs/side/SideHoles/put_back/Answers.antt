@@ -1,0 +1,40 @@
+use Rattle.std.proofs.Common.{ℕ, ◌+◌, ◌*◌, ◌-◌, length, arith, sym, ap, ◌∙◌, subst}
+use Rattle.std.specs.Prelude.{slice_index}
+use Rattle.std.proofs.lemmas.List.{length-set}
+use Rattle.w16_model.specs.Heap.{IsMultiple}
+use Rattle.w16_holes.specs.Holes.{Range, Free}
+use Rattle.w16_holes.specs.Cells.{spans, AreCells}
+use Rattle.w16_holes.proofs.Units.{multiple_sum}
+use Rattle.w16_holes.proofs.Told.{put_lt, put_spans}
+use Rattle.w16_holes.proofs.Steps.{two_sets, is_put, AreCells-put}
+use Rattle.w16_holes.specs.declared.side.SideHoles.TheInside.{Inside}
+use Rattle.w16_holes.proofs.side.SideHoles.put_back.Goals as goal
+
+abbrev range : Inside → Range
+range s = record { lo = s.lo; hi = s.hi; grain = s.grain }
+
+pub unit_of-next-requires-clause-grained : goal.unit_of-next-requires-clause-grained
+unit_of-next-requires-clause-grained c =
+    let grain = ap (λ (f : Free). f.range.grain) c.self.view_is in
+    subst (λ (m : ℕ). IsMultiple m (c.args.place + c.args.n)) (sym grain) (multiple_sum c.args.self.now.range.grain c.args.place c.args.n c.requires.part.grained c.requires.part.rounded)
+
+pub set-requires-2 : goal.set-requires-2
+set-requires-2 c =
+    let t = is_put (range c.self.inside) c.self.inside.lengths c.args.self.now c.self.view_is c.self.invariant c.args.place c.args.n c.unit_of-unit.result c.unit_of-next.result c.requires.part c.unit_of-unit.ensures c.unit_of-next.ensures c.begin_of-begin.result c.begin_of-begin.ensures c.requires.used in
+    let lt = put_lt t in let e = ap length c.set.ensures in omega (arith, length-set {A = ℕ})
+
+pub invariant_of-self : goal.invariant_of-self
+invariant_of-self c =
+    let s = c.self.inside in let k = c.begin_of-begin.result in let p = c.unit_of-unit.result in let q = c.unit_of-next.result in
+    let t = is_put (range c.self.inside) c.self.inside.lengths c.args.self.now c.self.view_is c.self.invariant c.args.place c.args.n c.unit_of-unit.result c.unit_of-next.result c.requires.part c.unit_of-unit.ensures c.unit_of-next.ensures c.begin_of-begin.result c.begin_of-begin.ensures c.requires.used in
+    let cells = two_sets s.lengths c.set.new.self c.set-2.new.self q k 0 (c.args.place + c.args.n - s.lo + c.get.result - c.bytes_before.result) 0 (s.grain * q + slice_index s.lengths q - s.grain * k)
+    c.set.ensures c.set-2.ensures (omega arith) (omega arith) in
+    subst (AreCells (range s)) (sym cells) (AreCells-put (range s) s.lengths c.args.place (c.args.place + c.args.n) p q c.self.invariant k t)
+
+pub returns-clause-holes : goal.returns-clause-holes
+returns-clause-holes c =
+    let s = c.self.inside in let k = c.begin_of-begin.result in let p = c.unit_of-unit.result in let q = c.unit_of-next.result in
+    let t = is_put (range c.self.inside) c.self.inside.lengths c.args.self.now c.self.view_is c.self.invariant c.args.place c.args.n c.unit_of-unit.result c.unit_of-next.result c.requires.part c.unit_of-unit.ensures c.unit_of-next.ensures c.begin_of-begin.result c.begin_of-begin.ensures c.requires.used in
+    let cells = two_sets s.lengths c.set.new.self c.set-2.new.self q k 0 (c.args.place + c.args.n - s.lo + c.get.result - c.bytes_before.result) 0 (s.grain * q + slice_index s.lengths q - s.grain * k)
+    c.set.ensures c.set-2.ensures (omega arith) (omega arith) in
+    rw (← c.self.view_is) (ap (spans s.grain s.lo) cells ∙ put_spans t)

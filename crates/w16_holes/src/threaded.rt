@@ -1,0 +1,206 @@
+//! Holes in the memory itself.
+ghost use Rattle.std.specs.Prelude.{◌≡◌, ◌+◌, ◌-◌, ◌<◌, ◌≤◌, [], length, IfOk, IfErr, IfSome};
+ghost use Rattle.w16_model.specs.Heap.{IsMultiple};
+ghost use Rattle.w16_model.specs.Table.{IsSameOutside};
+ghost use Rattle.w16_holes.specs.Holes.{AreHoles, IsFree, IsPart, IsPlace, last_before, length_to, add_span};
+ghost use Rattle.w16_holes.specs.Thread.{AreThreaded, first_of, next_above, put_words, put_hole, put_link, threaded_stay};
+
+use crate::{HoleList, Holes, SideHoles};
+use std::alloc::{AllocError, Global};
+use std::marker::Model;
+use w16_region::Region;
+
+/// What the last hole has in place of the next.
+const NO_HOLE: u32 = 0xffff_ffff;
+
+/// Writes a hole's two words: its size, and where the next one begins.
+fn set_words(space: &mut Region, at: u32, size: u32, next: u32)
+    requires { at + 8 ≤ length space.old.bytes.items }
+    ensures bytes { space.new.bytes.items ≡ put_words space.old.bytes.items at size next }
+    ensures length { length space.new.bytes.items ≡ length space.old.bytes.items }
+    ensures written { space.new.written ≡ space.old.written }
+{
+    space.set_word(at, size);
+    space.set_word(at + 4, next);
+}
+
+/// Makes what lies between two places a hole before the hole `next`, if anything lies there, and
+/// tells which hole is the first from there on.
+fn set_hole(space: &mut Region, from: u32, to: u32, next: u32) -> u32
+    requires { from < to → from + 8 ≤ length space.old.bytes.items }
+    ensures bytes { space.new.bytes.items ≡ put_hole space.old.bytes.items from to next }
+    ensures first { result ≡ first_of next (add_span from to []) }
+    ensures length { length space.new.bytes.items ≡ length space.old.bytes.items }
+    ensures written { space.new.written ≡ space.old.written }
+{
+    if from < to {
+        set_words(space, from, to - from, next);
+        return from;
+    }
+    next
+}
+
+/// Links a hole, if there is one, to another.
+fn link(space: &mut Region, hole: Option<u32>, next: u32)
+    requires { IfSome hole (λ at. at + 8 ≤ length space.old.bytes.items) }
+    ensures bytes { space.new.bytes.items ≡ put_link space.old.bytes.items hole next }
+    ensures length { length space.new.bytes.items ≡ length space.old.bytes.items }
+    ensures written { space.new.written ≡ space.old.written }
+{
+    if let Some(begin) = hole {
+        space.set_word(begin + 4, next);
+    }
+}
+
+/// Where the first hole begins that begins above a place, `NO_HOLE` where none does, by the last
+/// one that begins below it.
+fn next_above(side: &SideHoles, space: &Region, place: u32, below: Option<u32>) -> u32
+    requires place { IsPlace side.now.range place }
+    requires below { below ≡ last_before place side.now.holes }
+    requires ordered { AreHoles side.now.range.lo side.now.range.hi side.now.holes }
+    requires kept { AreThreaded side.now.holes space.now.bytes.items }
+    ensures { result ≡ next_above place side.now.holes }
+{
+    if side.at(space, place) > 0 {
+        return space.word_at(place + 4);
+    }
+    match below {
+        Some(begin) => space.word_at(begin + 4),
+        None => side.lowest(space, 0).unwrap_or(NO_HOLE),
+    }
+}
+
+/// The length of the hole that ends at a place, 0 where none does, by the last one that begins
+/// below it.
+fn ending_at(side: &SideHoles, space: &Region, place: u32, below: Option<u32>) -> u32
+    requires below { below ≡ last_before place side.now.holes }
+    requires ordered { AreHoles side.now.range.lo side.now.range.hi side.now.holes }
+    requires kept { AreThreaded side.now.holes space.now.bytes.items }
+    ensures { result ≡ length_to place side.now.holes }
+{
+    if let Some(begin) = below {
+        if begin + space.word_at(begin) == place {
+            return place - begin;
+        }
+    }
+    0
+}
+
+/// Where the hole begins that has a part, by the last one that begins below it.
+fn hole_of(side: &SideHoles, space: &Region, place: u32, n: u32, below: Option<u32>) -> Option<u32>
+    requires part { IsPart side.now.range place n }
+    requires free { IsFree place (place + n) side.now.holes }
+    requires below { below ≡ last_before place side.now.holes }
+    requires ordered { AreHoles side.now.range.lo side.now.range.hi side.now.holes }
+    ensures { result ≡ last_before (place + n) side.now.holes }
+{
+    if side.at(space, place) > 0 {
+        return Some(place);
+    }
+    below
+}
+
+/// Holes in the memory itself, as a thread through the free bytes: each hole has its size as a
+/// double word where it begins, and behind it as another where the next hole begins, FFFFFFFF for
+/// the last. Both have their lowest byte first.
+///
+/// The thread is what is promised. Beside it lengths are kept as [`SideHoles`] keeps them, so that
+/// a hole, and the one below it, are found without a walk.
+#[derive(Drop)]
+pub struct ThreadedHoles {
+    side: SideHoles,
+}
+
+impl Model for ThreadedHoles {
+    ghost use Rattle.w16_holes.specs.Holes.{Free};
+    ghost use Rattle.w16_holes.specs.Thread.{HasRoom};
+
+    ghost Value = { Free };
+
+    ghost view = { λ s. s.side };
+
+    ghost invariant = { λ s. HasRoom s.side.range };
+}
+
+impl ThreadedHoles {
+    /// The range [lo, hi) of a memory, all free, at multiples of the grain, which is a multiple of
+    /// 8: so each hole has room for its two words. Only they are written. What stands beside the
+    /// memory is taken here, all that it ever has; fails where there is not enough, and then
+    /// nothing is written.
+    pub fn new(
+        alloc: Global,
+        space: &mut Region,
+        lo: u32,
+        hi: u32,
+        grain: u32,
+    ) -> Result<ThreadedHoles, AllocError>
+        requires bounds { lo ≤ hi }
+        requires inside { hi ≤ length space.old.bytes.items }
+        requires some { 0 < grain }
+        requires low { IsMultiple grain lo }
+        requires high { IsMultiple grain hi }
+        requires wide { IsMultiple 8 grain }
+        ensures value { IfOk result (λ made. made ≡ record { range = record { lo = lo; hi = hi; grain = grain }; holes = add_span lo hi [] }) }
+        ensures kept { IfOk result (λ made. AreThreaded made.holes space.new.bytes.items) }
+        ensures bytes { IsSameOutside lo hi space.old.bytes.items space.new.bytes.items }
+        ensures length { length space.new.bytes.items ≡ length space.old.bytes.items }
+        ensures written { space.new.written ≡ space.old.written }
+        ensures err { IfErr result (λ _. space.new.bytes.items ≡ space.old.bytes.items) }
+    {
+        let side = SideHoles::new(alloc, lo, hi, grain)?;
+        set_hole(space, lo, hi, NO_HOLE);
+        Ok(ThreadedHoles { side })
+    }
+}
+
+impl HoleList for ThreadedHoles {
+    ghost range = { λ h. h.range };
+
+    ghost holes = { λ h. h.holes };
+}
+
+impl Holes<Region> for ThreadedHoles {
+    ghost are_in = { λ hs bytes. AreThreaded hs bytes };
+
+    ghost stay = { λ hs old new kept same. threaded_stay hs old new kept same };
+
+    fn lowest(&self, space: &Region, n: u32) -> Option<u32> {
+        self.side.lowest(space, n)
+    }
+
+    fn at(&self, space: &Region, place: u32) -> u32 {
+        self.side.at(space, place)
+    }
+
+    fn ending_at(&self, space: &Region, place: u32) -> u32 {
+        self.side.ending_at(space, place)
+    }
+
+    fn longest(&self, space: &Region) -> u32 {
+        self.side.longest(space)
+    }
+
+    fn take(&mut self, space: &mut Region, place: u32, n: u32) {
+        let below = self.side.below(place);
+        if let Some(begin) = hole_of(&self.side, space, place, n, below) {
+            let end = begin + space.word_at(begin);
+            let next = space.word_at(begin + 4);
+            let behind = set_hole(space, place + n, end, next);
+            link(space, below, behind);
+            // Where nothing stays free before the part, these four bytes are the part's own.
+            space.set_word(begin, place - begin);
+            self.side.take_out(place, n);
+        }
+    }
+
+    fn put(&mut self, space: &mut Region, place: u32, n: u32) {
+        let below = self.side.below(place);
+        let next = next_above(&self.side, space, place + n, below);
+        let end = place + n + self.side.at(space, place + n);
+        let from = place - ending_at(&self.side, space, place, below);
+        // Where the hole below is joined, its words are written anew after this.
+        link(space, below, from);
+        set_words(space, from, end - from, next);
+        self.side.put_back(place, n);
+    }
+}

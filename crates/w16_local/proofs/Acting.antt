@@ -1,0 +1,92 @@
+-- An act in the object of a slot, as a call's step.
+use Rattle.std.proofs.Common.{◌≡◌, ℕ, ◌⊎◌, inl, inr, IsSomeAnd, List, length, Option, Some, None, option_map, refl, sym, ap, ◌∙◌, subst}
+use Rattle.std.specs.FinMap as finmap
+use Rattle.std.specs.Ordering.{nat_cmp}
+use Rattle.std.specs.FinMap.{FinMap}
+use Rattle.w16_model.specs.Bytes.{put_part}
+use Rattle.w16_model.specs.Far.{after_write}
+use Rattle.w16_model.specs.Handles.{Handles}
+use Rattle.w16_model.specs.Heap.{Heap, Object, bytes_at, object_at}
+use Rattle.w16_model.specs.Table.{Table, heap_in}
+use Rattle.w16_global.specs.Lent.{Lends}
+use Rattle.w16_machine.specs.Local.{LocalHeap, LocalWorld, Acts, IsLocalTable}
+use Rattle.w16_machine.proofs.LocalFacts.{object_of, put_all}
+use Rattle.w16_local.specs.declared.acts.Act.{Act}
+use Rattle.w16_local.specs.Acts.{Acted, ActedIn, Done, Idle, MayAct, MayActIn, MayActOver}
+use Rattle.w16_local.specs.Parts.{IsIn, with_parts}
+use Rattle.w16_local.proofs.Locals.{insert_nothing}
+
+-- bytes that are written over themselves
+same_write : (heap : Heap) (slot : ℕ) (bytes : List ℕ) → bytes_at heap slot ≡ Some bytes → after_write heap slot 0 bytes ≡ heap
+same_write heap slot bytes had = λ i. record heap { objects = objects i }
+  where
+    over : Object → Object
+    over o = record o { bytes = option_map (λ bs. put_part bs 0 bytes) o.bytes }
+
+    o : (o : Object) × (object_at heap slot ≡ Some o) × (o.bytes ≡ Some bytes)
+    o = object_of heap slot bytes had
+
+    same : over o.0 ≡ o.0
+    same = λ i. record o.0 { bytes = (ap (option_map (λ bs. put_part bs 0 bytes)) o.2 ∙ ap Some (put_all bytes bytes refl) ∙ sym o.2) i }
+
+    objects : (after_write heap slot 0 bytes).objects ≡ heap.objects
+    objects = ap (λ p. elim p as (λ _. FinMap nat_cmp Object) [ Some o ↦ finmap.insert heap.objects slot (over o) | None ↦ heap.objects ]) o.1 ∙ ap (finmap.insert heap.objects slot) same ∙ insert_nothing heap.objects slot o.0 o.1
+
+-- what may be done to the bytes of a slot's object
+pub may_lent : {handles : Handles} {tables : FinMap nat_cmp Table} {slot : ℕ} {act : Act} (may : MayActIn handles tables slot act) (t : Table) → finmap.get tables slot ≡ Some t → IsSomeAnd (bytes_at handles.heap slot) (λ bytes. MayActOver act t bytes)
+may_lent {handles} {tables} {slot} {act} may t is =
+    let both : ◌≡◌ {A = Option Table} (Some may.table) (Some t) = sym may.was ∙ is in
+    let same : may.table ≡ t = cc in
+    subst (λ (b : Option (List ℕ)). IsSomeAnd b (λ bytes. MayActOver act t bytes)) (sym may.had) (subst (λ (t : Table). MayActOver act t may.bytes) same may.may)
+
+-- and what was done there
+pub acted_in : {handles : Handles} {tables : FinMap nat_cmp Table} {slot : ℕ} {act : Act} {answer : ℕ} (t s : Table) → finmap.get tables slot ≡ Some t → IsLocalTable s
+    → (lent : Lends handles.heap slot (λ bytes after. Acted act t bytes answer s after)) (next : Handles) → next ≡ record handles { heap = after_write handles.heap slot 0 lent.after }
+    → (new : FinMap nat_cmp Table) → new ≡ finmap.insert tables slot s → ActedIn handles tables slot act answer next new
+acted_in t s was is_local lent next next_is new new_is = record { before = t; bytes = lent.bytes; was = was; had = lent.had; table = s; after = lent.after; is_local = is_local; long = lent.long; are_bytes = lent.are_bytes; acted = lent.does; rest = (new_is, next_is) }
+
+-- what may be done in the heap that DS names
+pub may_in : {handles : Handles} {tables : FinMap nat_cmp Table} {ds slot : ℕ} {t : Table} (is : IsIn handles tables ds slot t) (act : Act) → MayAct act (heap_in t is.bytes) → MayActIn handles tables slot act
+may_in is act may = record { table = _; bytes = is.bytes; was = is.kept; had = is.had; may = (is.over.inside, may) }
+
+-- and what that leaves: the same world, or one in which the heap acted
+module _ {handles : Handles} {tables : FinMap nat_cmp Table} {ds slot : ℕ} {t : Table} (is : IsIn handles tables ds slot t) {act : Act} {answer : ℕ} {next : Handles} {new : FinMap nat_cmp Table} (a : ActedIn handles tables slot act answer next new) (rest : LocalWorld) where
+  same_table : a.before ≡ t
+  same_table = let both : ◌≡◌ {A = Option Table} (Some a.before) (Some t) = sym a.was ∙ is.kept in cc
+
+  same_bytes : a.bytes ≡ is.bytes
+  same_bytes = let both : ◌≡◌ {A = Option (List ℕ)} (Some a.bytes) (Some is.bytes) = sym a.had ∙ is.had in cc
+
+  acted : Acted act t is.bytes answer a.table a.after
+  acted = subst (λ (p : Table × List ℕ). Acted act p.0 p.1 answer a.table a.after) (λ i. (same_table i, same_bytes i)) a.acted
+
+  abbrev old : LocalWorld
+  old = with_parts rest handles tables ds
+
+  abbrev left : LocalWorld
+  left = with_parts rest next new ds
+
+  abbrev at : LocalHeap
+  at = record { slot = slot; table = t; bytes = is.bytes }
+
+  pub outcome : (Idle act (heap_in t is.bytes) answer × (left ≡ old)) ⊎ Acts old at (Done act (heap_in t is.bytes) answer) left
+  outcome = turn acted.act_is
+    where
+      turn : (Idle act (heap_in t is.bytes) answer × (a.table ≡ t) × (a.after ≡ is.bytes)) ⊎ Done act (heap_in t is.bytes) answer (heap_in a.table a.after)
+          → (Idle act (heap_in t is.bytes) answer × (left ≡ old)) ⊎ Acts old at (Done act (heap_in t is.bytes) answer) left
+      turn (inl same) =
+          let tables_same : new ≡ tables = a.rest.0 ∙ ap (finmap.insert tables slot) same.1 ∙ insert_nothing tables slot t is.kept in
+          let heap_same : after_write handles.heap slot 0 a.after ≡ handles.heap = ap (after_write handles.heap slot 0) same.2 ∙ same_write handles.heap slot is.bytes is.had in
+          let next_same : next ≡ handles = a.rest.1 ∙ (λ i. record handles { heap = heap_same i }) in
+          inl (same.0, λ i. with_parts rest (next_same i) (tables_same i) ds)
+      turn (inr done) = inr (record {
+        table = a.table;
+        bytes = a.after;
+        is_local = a.is_local;
+        range = (acted.range.lo, acted.range.hi);
+        long = a.long ∙ ap length same_bytes;
+        outside = acted.outside;
+        are_bytes = a.are_bytes;
+        acted = done;
+        rest = λ i. with_parts rest (a.rest.1 i) (a.rest.0 i) ds;
+      })

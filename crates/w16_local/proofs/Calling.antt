@@ -1,0 +1,276 @@
+-- The calls that act in a local heap.
+use Rattle.std.proofs.Common.{◌≡◌, ℕ, ◌+◌, ◌*◌, ◌/◌, ◌<◌, ◌≤◌, ◌==◌, ◌&&◌, inl, inr, Bool, true, false, MatchBool, MatchOption, OnErr, IsSome, if◌then◌else◌, length, Option, Some, None, Result, Ok, Err, is_ok, is_some, refl, sym, ap, ◌∙◌, subst, arith, eq-eqb, ne_eqb}
+use Rattle.std.specs.FinMap as finmap
+use Rattle.std.specs.Ordering.{nat_cmp}
+use Rattle.std.specs.FinMap.{FinMap}
+use Rattle.std.proofs.lemmas.Bool.{cases_lt, false≢true}
+use Rattle.w16_model.specs.declared.Kind.{Kind}
+use Rattle.w16_model.specs.declared.Kind.TheVariants.{Discardable, Fixed, Moveable}
+use Rattle.w16_model.specs.declared.Refusal.{Refusal}
+use Rattle.w16_model.specs.declared.Way.{Way}
+use Rattle.w16_model.specs.Calls.{has_flag}
+use Rattle.w16_model.specs.Changes.{with_newest, with_object}
+use Rattle.w16_model.specs.Handles.{Handles}
+use Rattle.w16_model.specs.Heap.{Heap, Object, is_fixed, object_at}
+use Rattle.w16_model.specs.OneObject.{after_discard, after_free, after_modify}
+use Rattle.w16_model.specs.Request.{Allocates, IsNew, MakesRoom, most_room, prefix_of}
+use Rattle.w16_model.specs.Table.{Table, entry_at, heap_in, object_in}
+use Rattle.w16_model.proofs.KeptHeaps.{inserted_here}
+use Rattle.w16_model.proofs.Tables.{object_is}
+use Rattle.w16_model.proofs.Prefixes.{none_about}
+use Rattle.w16_model.proofs.Reallocations.{not_asked}
+use Rattle.w16_machine.specs.declared.local.TheConstants.{LMEM_DISCARDABLE, LMEM_MODIFY, LMEM_MOVEABLE}
+use Rattle.w16_machine.specs.Local.{LocalHeap, LocalObject, LocalWorld, Acts, Becomes, IsLowestFree, Stays, chosen, heap_of, name_at, name_of, object_named, rounded_up}
+use Rattle.w16_machine.specs.LocalCalls.{AllocatesIn, AllocatesObject, CompactsIn, DiscardsObject, EntersObject, GivesUp, ModifiesObject, ResizesObject, SizesObject, local_kind, local_way, moveable_or_discardable}
+use Rattle.w16_machine.specs.LocalCalls.LocalCommand.{LocalAlloc, LocalCompact, LocalFree, LocalReAlloc}
+use Rattle.w16_machine.proofs.LocalNames.{names_law}
+use Rattle.w16_local.specs.declared.acts.Act.{Act}
+use Rattle.w16_local.specs.declared.acts.Act.TheVariants.{Alloc, Compact, Discard, Free, Realloc}
+use Rattle.w16_local.specs.Acts.{ActedIn, IsSize}
+use Rattle.w16_local.specs.Kept.{IsFull, IsLowest}
+use Rattle.w16_local.specs.Parts.{Calls, IsIn, IsNamed, alone, with_parts}
+use Rattle.w16_local.specs.Steps.{Stepped, answer_of, outcome}
+use Rattle.w16_local.proofs.Acting as acting
+use Rattle.w16_local.proofs.Entries.{mapped}
+use Rattle.w16_local.proofs.Looks.{heap_is}
+use Rattle.w16_local.proofs.Stepping.{leaves, none_calls, on_named}
+
+-- a name's object is there
+pub named_there : {handles : Handles} {tables : FinMap nat_cmp Table} {ds name slot : ℕ} {t : Table} {id : ℕ} (n : IsNamed handles tables ds name slot t id) → IsSome (object_at (heap_in t n.heap.bytes) id)
+named_there {handles} {tables} {ds} {name} {slot} {t} {id} n = turn (object_at (heap_in t n.heap.bytes) id) ((names_law (heap_in t n.heap.bytes) name id (heap_is n.heap.over) n.heap.over.is_local.grain).0.0 n.has)
+  where
+    turn : (p : Option Object) → (elim p as (λ _. Option ℕ) [ None ↦ None | Some o ↦ name_of (heap_in t n.heap.bytes) id o ]) ≡ Some name → IsSome p
+    turn None e = cc
+    turn (Some o) e = refl
+
+-- a heap acts so, told in other words
+acts_as : {old new : LocalWorld} {at : LocalHeap} {P : Heap → Type 0} (Q : Heap → Type 0) (a : Acts old at P new) → Q (heap_in a.table a.bytes) → Acts old at Q new
+acts_as Q a so = record { table = a.table; bytes = a.bytes; is_local = a.is_local; range = a.range; long = a.long; outside = a.outside; are_bytes = a.are_bytes; acted = so; rest = a.rest }
+
+-- bytes are given up
+gives_up : {old new : LocalWorld} {at : LocalHeap} (r : Result Heap Refusal) (taken refused : ℕ) → Acts old at (λ next. r ≡ Ok next) new → GivesUp old at r taken refused taken new
+gives_up {old} {new} {at} r taken refused a = subst (λ r. GivesUp old at r taken refused taken new) (sym a.acted) (refl, acts_as (λ next. next ≡ heap_in a.table a.bytes) a refl)
+
+gives_none : (old : LocalWorld) (at : LocalHeap) (r : Result Heap Refusal) (taken refused : ℕ) → is_ok r ≡ false → GivesUp old at r taken refused refused old
+gives_none old at (Ok heap) taken refused e = absurd (false≢true (sym e))
+gives_none old at (Err refusal) taken refused e = (refl, refl)
+
+module _ {handles : Handles} {tables : FinMap nat_cmp Table} {ds name slot : ℕ} {t : Table} {id : ℕ} (n : IsNamed handles tables ds name slot t id) where
+  abbrev before : Heap
+  before = heap_in t n.heap.bytes
+
+  -- LocalFree
+  pub free_calls : {answer : ℕ} {next : Handles} {new : FinMap nat_cmp Table} → ActedIn handles tables slot (Free id) answer next new → Calls handles tables ds (LocalFree name) 0 next new
+  free_calls {answer} {next} {new} a rest =
+      on_named n rest name 0 (with_parts rest next new ds) (λ o. GivesUp (with_parts rest handles tables ds) o.heap (after_free (heap_of o.heap) o.id) 0 name 0 (with_parts rest next new ds)) (elim (acting.outcome n.heap a rest) [
+        | inl same ↦ absurd same.0
+        | inr acts ↦ gives_up (after_free before id) 0 name acts
+      ])
+
+  pub free_refused : is_ok (after_free before id) ≡ false → Calls handles tables ds (LocalFree name) name handles tables
+  free_refused e rest =
+      on_named n rest name name (with_parts rest handles tables ds) (λ o. GivesUp (with_parts rest handles tables ds) o.heap (after_free (heap_of o.heap) o.id) 0 name name (with_parts rest handles tables ds)) (gives_none (with_parts rest handles tables ds) (record { slot = slot; table = t; bytes = n.heap.bytes }) (after_free before id) 0 name e)
+
+  -- LocalReAlloc
+  module _ (size flags : ℕ) where
+    abbrev named_object : LocalObject
+    named_object = record { heap = record { slot = slot; table = t; bytes = n.heap.bytes }; id = id }
+
+    abbrev Sizes : LocalWorld → ℕ → LocalWorld → LocalObject → Type 0
+    Sizes old answer new o = MatchBool (size == 0) (DiscardsObject old name flags answer new o) (SizesObject old size flags answer new o)
+
+    abbrev Case : LocalWorld → ℕ → LocalWorld → LocalObject → Type 0
+    Case old answer new o = MatchBool (has_flag flags LMEM_MODIFY) (ModifiesObject old name flags answer new o) (Sizes old answer new o)
+
+    pub modify_calls : has_flag flags LMEM_MODIFY ≡ true → {X : Type 0} (r : Result X Refusal) (new : FinMap nat_cmp Table) → Stepped tables slot (λ a b. after_modify a id (moveable_or_discardable flags) ≡ outcome r b) new → OnErr r (new ≡ tables)
+        → Calls handles tables ds (LocalReAlloc name size flags) name handles new
+    modify_calls f r new s same rest = on_named n rest 0 name (with_parts rest handles new ds) (Case (with_parts rest handles tables ds) name (with_parts rest handles new ds))
+        (subst (λ b. MatchBool b (ModifiesObject (with_parts rest handles tables ds) name flags name (with_parts rest handles new ds) named_object) (Sizes (with_parts rest handles tables ds) name (with_parts rest handles new ds) named_object)) (sym f)
+        (leaves n rest (λ h. after_modify h id (moveable_or_discardable flags)) r new s same (λ _. name) (λ _. name) name (told r)))
+      where
+        told : {X : Type 0} (r : Result X Refusal) → name ≡ answer_of r name (λ _. name)
+        told (Ok x) = refl
+        told (Err e) = refl
+
+    module _ (f : has_flag flags LMEM_MODIFY ≡ false) (answer : ℕ) (next : Handles) (new : FinMap nat_cmp Table) where
+      not_modified : ((rest : LocalWorld) → Sizes (with_parts rest handles tables ds) answer (with_parts rest next new ds) named_object) → Calls handles tables ds (LocalReAlloc name size flags) answer next new
+      not_modified so rest = on_named n rest 0 answer (with_parts rest next new ds) (Case (with_parts rest handles tables ds) answer (with_parts rest next new ds))
+          (subst (λ b. MatchBool b (ModifiesObject (with_parts rest handles tables ds) name flags answer (with_parts rest next new ds) named_object) (Sizes (with_parts rest handles tables ds) answer (with_parts rest next new ds) named_object)) (sym f) (so rest))
+
+      pub resize_calls : 0 < size → ActedIn handles tables slot (Realloc id (rounded_up size) (local_way flags)) answer next new → Calls handles tables ds (LocalReAlloc name size flags) answer next new
+      resize_calls some a = not_modified (λ rest.
+          subst (λ b. MatchBool b (DiscardsObject (with_parts rest handles tables ds) name flags answer (with_parts rest next new ds) named_object) (SizesObject (with_parts rest handles tables ds) size flags answer (with_parts rest next new ds) named_object))
+          (sym (ne_eqb size 0 (λ e. absurd (omega (arith, e, some)))))
+          (elim (acting.outcome n.heap a rest) [
+            | inl same ↦ inl (same.0.0, (same.0.1, same.1))
+            | inr acts ↦ inr (acts_as (ResizesObject before id size flags answer) acts (record { resized = acts.acted.0; named = acts.acted.1 }))
+          ]))
+
+      module _ (none : size ≡ 0) where
+        of_none : ((rest : LocalWorld) → DiscardsObject (with_parts rest handles tables ds) name flags answer (with_parts rest next new ds) named_object) → Calls handles tables ds (LocalReAlloc name size flags) answer next new
+        of_none so = not_modified (λ rest.
+            subst (λ b. MatchBool b (DiscardsObject (with_parts rest handles tables ds) name flags answer (with_parts rest next new ds) named_object) (SizesObject (with_parts rest handles tables ds) size flags answer (with_parts rest next new ds) named_object))
+            (sym (eq-eqb size 0 none)) (so rest))
+
+        asked_to : (b : Bool) → has_flag flags LMEM_MOVEABLE ≡ b → ((rest : LocalWorld) → MatchBool b (GivesUp (with_parts rest handles tables ds) named_object.heap (after_discard before id) name 0 answer (with_parts rest next new ds)) (Stays (with_parts rest handles tables ds) 0 answer (with_parts rest next new ds)))
+            → Calls handles tables ds (LocalReAlloc name size flags) answer next new
+        asked_to b m so = of_none (λ rest. subst (λ b. MatchBool b (GivesUp (with_parts rest handles tables ds) named_object.heap (after_discard before id) name 0 answer (with_parts rest next new ds)) (Stays (with_parts rest handles tables ds) 0 answer (with_parts rest next new ds))) (sym m) (so rest))
+
+    module _ (f : has_flag flags LMEM_MODIFY ≡ false) (none : size ≡ 0) where
+      pub discard_calls : has_flag flags LMEM_MOVEABLE ≡ true → {answer : ℕ} {next : Handles} {new : FinMap nat_cmp Table} → ActedIn handles tables slot (Discard id) answer next new → Calls handles tables ds (LocalReAlloc name size flags) name next new
+      discard_calls m {answer} {next} {new} a = asked_to f name next new none true m (λ rest. elim (acting.outcome n.heap a rest) [
+        | inl same ↦ absurd same.0
+        | inr acts ↦ gives_up (after_discard before id) name 0 acts
+      ])
+
+      pub discard_refused : has_flag flags LMEM_MOVEABLE ≡ true → is_ok (after_discard before id) ≡ false → Calls handles tables ds (LocalReAlloc name size flags) 0 handles tables
+      discard_refused m e = asked_to f 0 handles tables none true m (λ rest. gives_none (with_parts rest handles tables ds) named_object.heap (after_discard before id) name 0 e)
+
+      pub discard_unasked : has_flag flags LMEM_MOVEABLE ≡ false → Calls handles tables ds (LocalReAlloc name size flags) 0 handles tables
+      discard_unasked m = asked_to f 0 handles tables none false m (λ rest. (refl, refl))
+
+-- an act with these numbers
+pub alloc_as : {handles next : Handles} {tables new : FinMap nat_cmp Table} {slot answer id : ℕ} {n m : ℕ} {kind other : Kind} {way way' : Way} → n ≡ m → kind ≡ other → way ≡ way' → ActedIn handles tables slot (Alloc id n kind way) answer next new → ActedIn handles tables slot (Alloc id m other way') answer next new
+alloc_as {handles} {next} {tables} {new} {slot} {answer} {id} e f g a = subst (λ (act : Act). ActedIn handles tables slot act answer next new) (λ i. Alloc id (e i) (f i) (g i)) a
+
+pub realloc_as : {handles next : Handles} {tables new : FinMap nat_cmp Table} {slot answer id : ℕ} {n m : ℕ} {way way' : Way} → n ≡ m → way ≡ way' → ActedIn handles tables slot (Realloc id n way) answer next new → ActedIn handles tables slot (Realloc id m way') answer next new
+realloc_as {handles} {next} {tables} {new} {slot} {answer} {id} e g a = subst (λ (act : Act). ActedIn handles tables slot act answer next new) (λ i. Realloc id (e i) (g i)) a
+
+-- a size in whole grains may be asked for
+pub rounded_size : (size n : ℕ) → n ≡ rounded_up size → 0 < size → IsSize n
+rounded_size size n is some = (omega (arith, is, some), ((size + 3) / 4, is))
+
+-- LocalAlloc
+module _ {handles : Handles} {tables : FinMap nat_cmp Table} {ds slot : ℕ} {t : Table} (is : IsIn handles tables ds slot t) where
+  abbrev heap : Heap
+  heap = heap_in t is.bytes
+
+  abbrev here : LocalHeap
+  here = record { slot = slot; table = t; bytes = is.bytes }
+
+  object_in_table : (q : ℕ) → is_some (object_at heap q) ≡ is_some (entry_at t q)
+  object_in_table q = ap is_some (object_is t is.over.is_local.sound.table is.bytes is.over.inside q) ∙ mapped (object_in t.blocks is.bytes q) (entry_at t q)
+
+  none_if : {X Y : Type 0} (p : Option X) (q : Option Y) → is_some p ≡ is_some q → q ≡ None → p ≡ None
+  none_if None q e n = refl
+  none_if (Some x) q e n = absurd (false≢true (sym (e ∙ ap is_some n)))
+
+  pub no_object : (q : ℕ) → entry_at t q ≡ None → object_at heap q ≡ None
+  no_object q none = none_if (object_at heap q) (entry_at t q) (object_in_table q) none
+
+  no_entry : (q : ℕ) → object_at heap q ≡ None → entry_at t q ≡ None
+  no_entry q none = none_if (entry_at t q) (object_at heap q) (sym (object_in_table q)) none
+
+  module _ (flags size : ℕ) where
+    alloc_in : (answer : ℕ) (next : Handles) (new : FinMap nat_cmp Table) → ((rest : LocalWorld) → AllocatesIn (with_parts rest handles tables ds) flags size answer (with_parts rest next new ds) here) → Calls handles tables ds (LocalAlloc flags size) answer next new
+    alloc_in answer next new so rest = subst (λ (c : Option LocalHeap). MatchOption c (Stays (with_parts rest handles tables ds) 0 answer (with_parts rest next new ds)) (AllocatesIn (with_parts rest handles tables ds) flags size answer (with_parts rest next new ds))) (sym is.is_chosen) (so rest)
+
+    pub alloc_full : IsFull t → Calls handles tables ds (LocalAlloc flags size) 0 handles tables
+    alloc_full full = alloc_in 0 handles tables (λ rest. inl (inr (inl (λ q free. full q free.0 (no_entry q free.1))), (refl, refl)))
+
+    pub alloc_empty : size ≡ 0 → has_flag flags LMEM_MOVEABLE ≡ false → Calls handles tables ds (LocalAlloc flags size) 0 handles tables
+    alloc_empty none f = alloc_in 0 handles tables (λ rest. inl (inl (none, f), (refl, refl)))
+
+    module _ (id : ℕ) (lowest : IsLowest t id) where
+      is_lowest : IsLowestFree heap id
+      is_lowest = record {
+        free = (lowest.known, no_object id lowest.free);
+        lowest = λ q free. elim (cases_lt q id) [
+          | inl less ↦ absurd (lowest.lowest q less (no_entry q free.1))
+          | inr not ↦ not
+        ];
+      }
+
+      pub alloc_calls : 0 < size → {answer : ℕ} {next : Handles} {new : FinMap nat_cmp Table} → ActedIn handles tables slot (Alloc id (rounded_up size) (local_kind flags) (local_way flags)) answer next new → Calls handles tables ds (LocalAlloc flags size) answer next new
+      alloc_calls some {answer} {next} {new} a = alloc_in answer next new (λ rest. elim (acting.outcome is a rest) [
+        | inl same ↦ inl (inr (inr (some, room same.0.0)), (same.0.1, same.1))
+        | inr acts ↦ inr (
+          id,
+          is_lowest,
+          subst (λ b. MatchBool b ((h : Heap) × EntersObject heap flags id answer h × Becomes (with_parts rest handles tables ds) here h (with_parts rest next new ds)) (Acts (with_parts rest handles tables ds) here (AllocatesObject heap flags size id answer) (with_parts rest next new ds)))
+              (sym (ap (λ b. b && has_flag flags LMEM_MOVEABLE) (ne_eqb size 0 (λ e. absurd (omega (arith, e, some))))))
+              (acts_as (AllocatesObject heap flags size id answer) acts (record { allocated = acts.acted.0; named = acts.acted.1 })),
+        )
+      ])
+        where
+          room : Allocates heap id (rounded_up size) (local_kind flags) 0 (local_way flags) false heap → prefix_of heap (rounded_up size) None (local_way flags) ≡ None
+          room a = sym (none_about heap (heap_is is.over) id (no_object id lowest.free) (rounded_up size) (local_way flags))
+              ∙ (not_asked heap id (record { way = local_way flags; prefix = prefix_of heap (rounded_up size) (Some id) (local_way flags); becomes = IsNew (local_way flags).zero (rounded_up size) (local_kind flags) 0; order = with_newest id }) heap a.request).0
+
+      -- without bytes
+      module _ (none : size ≡ 0) (m : has_flag flags LMEM_MOVEABLE ≡ true) where
+        kind_is : moveable_or_discardable flags ≡ local_kind flags
+        kind_is = sym (ap (λ b. if b then moveable_or_discardable flags else Fixed) m)
+
+        loose : is_fixed (moveable_or_discardable flags) ≡ false
+        loose = turn (has_flag flags LMEM_DISCARDABLE)
+          where
+            turn : (b : Bool) → is_fixed (if b then Discardable else Moveable) ≡ false
+            turn true = refl
+            turn false = refl
+
+        module _ {X : Type 0} (r : Result X Refusal) (new : FinMap nat_cmp Table) (s : Stepped tables slot (λ a b. ◌≡◌ {A = Result Heap Refusal} (Ok (with_object a id (record { kind = moveable_or_discardable flags; locks = 0; bytes = None }))) (outcome r b)) new) where
+          was_it : s.before ≡ t
+          was_it = let both : ◌≡◌ {A = Option Table} (Some s.before) (Some t) = sym s.was ∙ is.kept in cc
+
+          abbrev made : Heap
+          made = heap_in s.after is.bytes
+
+          abbrev object : Object
+          object = record { kind = moveable_or_discardable flags; locks = 0; bytes = None }
+
+          entered : made ≡ with_object heap id object
+          entered = turn r (subst (λ (b : Table). ◌≡◌ {A = Result Heap Refusal} (Ok (with_object (heap_in b is.bytes) id object)) (outcome r made)) was_it (s.heaps is.bytes (subst (λ (b : Table). b.hi ≤ length is.bytes) (sym was_it) is.over.inside)))
+            where
+              turn : {X : Type 0} (r : Result X Refusal) → ◌≡◌ {A = Result Heap Refusal} (Ok (with_object heap id object)) (outcome r made) → made ≡ with_object heap id object
+              turn (Ok x) e = let same : with_object heap id object ≡ made = cc in sym same
+              turn (Err x) e = cc
+
+          named : name_at made id ≡ Some (4 * id + 2)
+          named = ap (λ (h : Heap). name_at h id) entered
+              ∙ ap (λ (p : Option Object). elim p as (λ _. Option ℕ) [ None ↦ None | Some o ↦ name_of (with_object heap id object) id o ]) (inserted_here heap.objects id object id refl)
+              ∙ ap (λ b. if b then finmap.get (with_object heap id object).places id else Some (4 * id + 2)) loose
+
+          becomes : (rest : LocalWorld) → Becomes (with_parts rest handles tables ds) here made (with_parts rest handles new ds)
+          becomes rest = record {
+            table = s.after;
+            is_local = s.is_local;
+            range = (s.range.0 ∙ ap (λ (b : Table). b.lo) was_it, s.range.1 ∙ ap (λ (b : Table). b.hi) was_it);
+            same = refl;
+            rest = ap (λ m. with_parts rest handles m ds) s.rest;
+          }
+
+          pub enter_calls : Calls handles tables ds (LocalAlloc flags size) (4 * id + 2) handles new
+          enter_calls = alloc_in (4 * id + 2) handles new (λ rest. inr (
+            id,
+            is_lowest,
+            subst (λ b. MatchBool b ((h : Heap) × EntersObject heap flags id (4 * id + 2) h × Becomes (with_parts rest handles tables ds) here h (with_parts rest handles new ds)) (Acts (with_parts rest handles tables ds) here (AllocatesObject heap flags size id (4 * id + 2)) (with_parts rest handles new ds)))
+                (sym (ap (λ b. b && has_flag flags LMEM_MOVEABLE) (eq-eqb size 0 none) ∙ m))
+                (made, record { entered = record { unused = no_object id lowest.free; entered = entered ∙ ap (λ (k : Kind). with_object heap id (record { kind = k; locks = 0; bytes = None })) kind_is }; named = named }, becomes rest),
+          ))
+
+-- where DS names no heap
+pub alloc_none : (handles : Handles) (tables : FinMap nat_cmp Table) (ds flags size : ℕ) → chosen (alone handles tables ds) ≡ None → Calls handles tables ds (LocalAlloc flags size) 0 handles tables
+alloc_none handles tables ds flags size none rest = subst (λ (c : Option LocalHeap). MatchOption c (Stays (with_parts rest handles tables ds) 0 0 (with_parts rest handles tables ds)) (AllocatesIn (with_parts rest handles tables ds) flags size 0 (with_parts rest handles tables ds))) (sym none) (refl, refl)
+
+-- what a bad name leaves
+pub free_none : (handles : Handles) (tables : FinMap nat_cmp Table) (ds name : ℕ) → object_named (alone handles tables ds) name ≡ None → Calls handles tables ds (LocalFree name) name handles tables
+free_none handles tables ds name = none_calls handles tables ds name name (λ old o. GivesUp old o.heap (after_free (heap_of o.heap) o.id) 0 name name old)
+
+pub realloc_none : (handles : Handles) (tables : FinMap nat_cmp Table) (ds name size flags : ℕ) → object_named (alone handles tables ds) name ≡ None → Calls handles tables ds (LocalReAlloc name size flags) 0 handles tables
+realloc_none handles tables ds name size flags = none_calls handles tables ds name 0 (λ old o. MatchBool (has_flag flags LMEM_MODIFY) (ModifiesObject old name flags 0 old o) (MatchBool (size == 0) (DiscardsObject old name flags 0 old o) (SizesObject old size flags 0 old o)))
+
+-- LocalCompact
+pub compact_calls : {handles : Handles} {tables : FinMap nat_cmp Table} {ds slot : ℕ} {t : Table} (is : IsIn handles tables ds slot t) (size : ℕ) {answer : ℕ} {next : Handles} {new : FinMap nat_cmp Table} → ActedIn handles tables slot (Compact size) answer next new
+    → Calls handles tables ds (LocalCompact size) answer next new
+compact_calls {handles} {tables} {ds} {slot} {t} is size {answer} {next} {new} a rest =
+    subst (λ (c : Option LocalHeap). MatchOption c (Stays (with_parts rest handles tables ds) 0 answer (with_parts rest next new ds)) (CompactsIn (with_parts rest handles tables ds) size answer (with_parts rest next new ds))) (sym is.is_chosen)
+    (elim (acting.outcome is a rest) [
+      | inl same ↦ subst (λ b. MatchBool b (Stays (with_parts rest handles tables ds) (most_room (heap_in t is.bytes)) answer (with_parts rest next new ds)) (Acts (with_parts rest handles tables ds) (record { slot = slot; table = t; bytes = is.bytes }) (MakesRoom (heap_in t is.bytes) size answer) (with_parts rest next new ds)))
+          (sym (eq-eqb size 0 same.0.0)) (same.0.1, same.1)
+      | inr acts ↦ subst (λ b. MatchBool b (Stays (with_parts rest handles tables ds) (most_room (heap_in t is.bytes)) answer (with_parts rest next new ds)) (Acts (with_parts rest handles tables ds) (record { slot = slot; table = t; bytes = is.bytes }) (MakesRoom (heap_in t is.bytes) size answer) (with_parts rest next new ds)))
+          (sym (ne_eqb size 0 (λ e. absurd (let some = acts.acted.0 in omega (arith, e, some))))) (acts_as (MakesRoom (heap_in t is.bytes) size answer) acts acts.acted.1)
+    ])
+
+pub compact_none : (handles : Handles) (tables : FinMap nat_cmp Table) (ds size : ℕ) → chosen (alone handles tables ds) ≡ None → Calls handles tables ds (LocalCompact size) 0 handles tables
+compact_none handles tables ds size none rest = subst (λ (c : Option LocalHeap). MatchOption c (Stays (with_parts rest handles tables ds) 0 0 (with_parts rest handles tables ds)) (CompactsIn (with_parts rest handles tables ds) size 0 (with_parts rest handles tables ds))) (sym none) (refl, refl)

@@ -1,0 +1,12 @@
+pub mod Locals
+pub mod Looks
+pub mod Choices
+pub mod Entries
+pub mod Alike
+pub mod OneHeap
+pub mod OneAct
+pub mod Stepping
+pub mod Acting
+pub mod Calling
+pub mod Beginning
+pub mod Sweeping

@@ -1,0 +1,52 @@
+use Rattle.std.proofs.Common.{Ok, Result, arith, subst, sym, ◌≡◌, ◌∙◌, IsSomeAnd, None, Option}
+use Rattle.w16_model.specs.declared.Kind.{Kind}
+use Rattle.w16_model.specs.declared.Refusal.{Refusal}
+use Rattle.w16_model.specs.Changes.{with_object}
+use Rattle.w16_model.specs.Heap.{Heap}
+use Rattle.w16_model.specs.Table.{Table}
+use Rattle.w16_local.specs.Kept.{IsFull, IsLowest}
+use Rattle.w16_local.specs.Steps.{MayStep, Stepped, outcome}
+use Rattle.w16_local.specs.declared.acts.Act.TheVariants.{Alloc}
+use Rattle.w16_local.specs.declared.steps.Step.TheVariants.{Enter}
+use Rattle.w16_local.proofs.Acting.{may_in}
+use Rattle.w16_local.proofs.Calling.{alloc_as, alloc_calls, alloc_empty, alloc_full, alloc_none, enter_calls, no_object, rounded_size}
+use Rattle.w16_local.proofs.Stepping.{holds_in}
+use Rattle.w16_local.proofs.LocalHeaps.local_alloc.Goals as goal
+
+pub returns-in_default : goal.returns-in_default
+returns-in_default c = alloc_none c.args.global.now.handles c.args.self.now c.args.ds c.args.flags c.args.size c.in_default.ensures.none
+
+pub returns-in_default-free_entry : goal.returns-in_default-free_entry
+returns-in_default-free_entry c = let is = c.in-Some.ensures.some in alloc_full is c.args.flags c.args.size (holds_in IsFull is.kept c.in_default-free_entry.ensures.none)
+
+pub returns-then-not-has_flag : goal.returns-then-not-has_flag
+returns-then-not-has_flag c = alloc_empty c.in-Some.ensures.some c.args.flags c.args.size c.if-size-eq0.true (sym c.has_flag.ensures ∙ c.if-not-has_flag.true)
+
+pub step-requires : goal.step-requires
+step-requires c =
+    let is = c.in-Some.ensures.some in
+    let lowest = holds_in (λ (t : Table). IsLowest t c.in-Some-free_entry.id) is.kept c.in-Some-free_entry.ensures.found in
+    subst (λ (m : Option Table). IsSomeAnd m (MayStep (Enter c.moveable_or_discardable.result) c.in-Some-free_entry.id)) (sym is.kept) (lowest.known, lowest.free)
+
+pub overflow_cast-result : goal.overflow_cast-result
+overflow_cast-result c = let is = c.in-Some.ensures.some in let lowest = holds_in (λ (t : Table). IsLowest t c.in-Some-free_entry.id) is.kept c.in-Some-free_entry.ensures.found in let lt = lowest.known in omega (arith, lt)
+
+pub returns-then-size-eq0 : goal.returns-then-size-eq0
+returns-then-size-eq0 c =
+    let is = c.in-Some.ensures.some in
+    let lowest = holds_in (λ (t : Table). IsLowest t c.in-Some-free_entry.id) is.kept c.in-Some-free_entry.ensures.found in
+    enter_calls is c.args.flags c.args.size c.in-Some-free_entry.id lowest c.if-size-eq0.true (sym c.has_flag.ensures ∙ c.if-not-has_flag.false) c.step.result c.step.new.self
+    (subst (λ (k : Kind). Stepped c.args.self.now c.in-Some.field-0.slot (λ a b. ◌≡◌ {A = Result Heap Refusal} (Ok (with_object a c.in-Some-free_entry.id (record { kind = k; locks = 0; bytes = None }))) (outcome c.step.result b)) c.step.new.self) c.moveable_or_discardable.ensures c.step.ensures.stepped)
+
+pub act-requires : goal.act-requires
+act-requires c =
+    let is = c.in-Some.ensures.some in
+    let lowest = holds_in (λ (t : Table). IsLowest t c.in-Some-free_entry.id) is.kept c.in-Some-free_entry.ensures.found in
+    may_in is (Alloc c.in-Some-free_entry.id c.rounded_up.result c.local_kind.result c.local_way.result)
+    ((lowest.known, no_object is c.in-Some-free_entry.id lowest.free), rounded_size c.args.size c.rounded_up.result c.rounded_up.ensures (let some = c.if-size-eq0.false in omega (arith, some)))
+
+pub returns : goal.returns
+returns c =
+    let is = c.in-Some.ensures.some in
+    let lowest = holds_in (λ (t : Table). IsLowest t c.in-Some-free_entry.id) is.kept c.in-Some-free_entry.ensures.found in
+    alloc_calls is c.args.flags c.args.size c.in-Some-free_entry.id lowest (let some = c.if-size-eq0.false in omega (arith, some)) (alloc_as c.rounded_up.ensures c.local_kind.ensures c.local_way.ensures c.act.ensures)

@@ -1,0 +1,247 @@
+-- One act on one local heap over bytes.
+use Rattle.std.proofs.Common.{◌≡◌, ℕ, ◌+◌, ◌*◌, ◌<◌, ◌≤◌, ◌⊎◌, ◌==◌, inl, inr, Bool, true, false, MatchBool, if◌then◌else◌, IfOk, IsSome, IsSomeAnd, OnErr, is_err, List, [], ◌∷◌, length, zero, suc, get_or, set, All, Option, Some, None, unwrap_or, is_ok, is_some, Result, Ok, Err, refl, sym, ap, ◌∙◌, subst, arith, eq-eqb, ne_eqb}
+use Rattle.std.specs.FinMap as finmap
+use Rattle.std.proofs.lemmas.Bool.{cases_eq, cases_lt, false≢true}
+use Rattle.w16_model.specs.declared.Block.{Block}
+use Rattle.w16_model.specs.declared.Kind.{Kind}
+use Rattle.w16_model.specs.declared.Way.{Way}
+use Rattle.w16_model.specs.Changes.{removed, with_newest}
+use Rattle.w16_model.specs.Heap.{Heap, Object, IsHeap, IsMultiple, object_at, is_fixed}
+use Rattle.w16_model.specs.OneObject.{after_discard, after_free}
+use Rattle.w16_model.specs.Reallocation.{KeepsRest}
+use Rattle.w16_model.specs.Arrangement.{IsLongestStretch}
+use Rattle.w16_model.specs.Fewest.{CompactsFewest, IsMostAfter, MakesMost}
+use Rattle.w16_model.specs.Request.{Allocates, Compacts, eligible_count, IsNew, MakesRoom, Reallocates, compaction_prefix, most_room, prefix_of}
+use Rattle.w16_model.specs.Table.{Table, IsSameOutside, IsSound, block_with, entry_at, heap_in}
+use Rattle.w16_model.proofs.KeptRest.{rest_law}
+use Rattle.w16_model.proofs.Others.{others_law}
+use Rattle.w16_model.proofs.Reallocations.{asked}
+use Rattle.w16_model.proofs.Sound.{sound_heap}
+use Rattle.w16_compact.specs.Gather.{contents}
+use Rattle.w16_arena.specs.declared.new_place.Placed.{Placed}
+use Rattle.w16_arena.specs.Asked.{IsPlaced}
+use Rattle.w16_arena.specs.State.{IsSameRange, entry_of}
+use Rattle.w16_arena.proofs.Keeping.{heap_kept}
+use Rattle.w16_arena.proofs.Lookups.{entry_is, no_block, no_entry}
+use Rattle.w16_arena.proofs.Parts.{AreParts}
+use Rattle.w16_machine.specs.Local.{name_at, name_of}
+use Rattle.w16_local.specs.declared.acts.Act.{Act}
+use Rattle.w16_local.specs.declared.acts.Act.TheVariants.{Alloc, Compact, Discard, Free, Realloc}
+use Rattle.w16_local.specs.Acts.{Acted, Done, Idle, MayActOver}
+use Rattle.w16_local.specs.Kept.{IsKept}
+use Rattle.w16_local.specs.Parts.{IsOver}
+use Rattle.w16_local.proofs.Alike.{same_table}
+use Rattle.w16_local.proofs.Entries.{HasOthers, HasSame, discarded, free_gone, is_local, kept_others, mapped, removed_here, removed_others, same_free, set_free}
+
+-- an object that stands somewhere has a name
+pub named_placed : (heap : Heap) → IsHeap heap → (id at : ℕ) → finmap.get heap.places id ≡ Some at → (r : Option ℕ) → name_at heap id ≡ r → name_at heap id ≡ Some (unwrap_or r 0)
+named_placed heap is id at placed (Some n) e = e
+named_placed heap is id at placed None e = absurd (turn (object_at heap id) refl e)
+  where
+    by_kind : (b : Bool) (o : Object) → (if b then finmap.get heap.places id else Some (4 * id + 2)) ≡ None → ⊥
+    by_kind true o e = let both : Some at ≡ None = sym placed ∙ e in cc
+    by_kind false o e = cc
+
+    turn : (p : Option Object) → object_at heap id ≡ p → (elim p as (λ _. Option ℕ) [ None ↦ None | Some o ↦ name_of heap id o ]) ≡ None → ⊥
+    turn None there e = false≢true (sym (ap (λ (p : Option Object). is_some (elim p as (λ _. Option (List ℕ)) [ Some o ↦ o.bytes | None ↦ None ])) there) ∙ sym (is.at_bytes id) ∙ ap is_some placed)
+    turn (Some o) there e = by_kind (is_fixed o.kind) o e
+
+-- and is there
+there_placed : (heap : Heap) → IsHeap heap → (id at : ℕ) → finmap.get heap.places id ≡ Some at → is_some (object_at heap id) ≡ true
+there_placed heap is id at placed = turn (object_at heap id) (sym (is.at_bytes id) ∙ ap is_some placed)
+  where
+    turn : (p : Option Object) → is_some (elim p as (λ _. Option (List ℕ)) [ Some o ↦ o.bytes | None ↦ None ]) ≡ true → is_some p ≡ true
+    turn None e = absurd (false≢true e)
+    turn (Some o) e = refl
+
+some_at : {X : Type 0} (P : X → Type 0) (p : Option X) → IsSomeAnd p P → is_some p ≡ true
+some_at P None h = absurd h
+some_at P (Some x) h = refl
+
+-- a result that isn't an error is answered, and one that is, isn't
+pub answered : {X E : Type 0} (r : Result X E) → is_err r ≡ false → is_ok r ≡ true
+answered (Ok x) e = refl
+answered (Err x) e = absurd (false≢true (sym e))
+
+pub refused : {X E : Type 0} (r : Result X E) → is_err r ≡ true → is_ok r ≡ false
+refused (Ok x) e = absurd (false≢true e)
+refused (Err x) e = refl
+
+pub on_err : {X E : Type 0} (r : Result X E) (P : Type 0) → is_err r ≡ true → OnErr r P → P
+on_err (Ok x) P e h = absurd (false≢true e)
+on_err (Err x) P e h = h
+
+pub if_ok : {X E : Type 0} (r : Result X E) (P : X → Type 0) → is_err r ≡ false → IfOk r P → (x : X) × P x
+if_ok (Ok x) P e h = (x, h)
+if_ok (Err x) P e h = absurd (false≢true (sym e))
+
+-- a compaction for 0 bytes, or for some
+pub compacted : (n answer : ℕ) (old new : Heap) → Compacts old n answer new → ((n ≡ 0) × (answer ≡ most_room old) × (new ≡ old)) ⊎ ((0 < n) × MakesRoom old n answer new)
+compacted n answer old new c = elim (cases_lt 0 n) [
+  | inl some ↦ inr (some, subst (λ b. MatchBool b ((answer ≡ most_room old) × (new ≡ old)) (MakesRoom old n answer new)) (ne_eqb n 0 (λ e. absurd (omega (arith, e, some)))) c)
+  | inr none ↦ let zero : n ≡ 0 = omega (arith, none) in let idle : (answer ≡ most_room old) × (new ≡ old) = subst (λ b. MatchBool b ((answer ≡ most_room old) × (new ≡ old)) (MakesRoom old n answer new)) (eq-eqb n 0 zero) c in inl (zero, idle.0, idle.1)
+]
+
+-- what it answers lies in the range
+longest_bound : (lo hi : ℕ) (xs : List Block) (n : ℕ) → IsLongestStretch lo hi xs n → 0 < n → lo + n ≤ hi
+longest_bound lo hi xs n is some = let s = is.one_as_long some in let above = s.4.clear.above in let below = s.4.clear.below in let long = s.5 in omega (arith, above, below, long)
+
+pub compact_bound : (old new : Heap) (n answer : ℕ) → CompactsFewest old n answer new → 0 < answer → old.lo + answer ≤ old.hi
+compact_bound old new n answer = turn (n == 0)
+  where
+    turn : (b : Bool) → MatchBool b (IsMostAfter old (eligible_count old) answer × (new ≡ old)) (MakesMost old n answer new) → 0 < answer → old.lo + answer ≤ old.hi
+    turn true c some = longest_bound old.lo old.hi _ answer c.0 some
+    turn false c some = longest_bound old.lo old.hi _ answer c.most some
+
+-- The heap before.
+module _ {t : Table} {free : List ℕ} (kept : IsKept t free) (bytes : List ℕ) (inside : t.hi ≤ length bytes) where
+  parts : AreParts t.entries (record { cap = length t.entries; lo = t.lo; hi = t.hi; grain = t.grain; blocks = t.blocks }) t.order bytes
+  parts = record { sound = kept.is_local.sound; ids = refl; high = inside }
+
+  pub known : (id : ℕ) → id < 1024 → id < length t.entries
+  known id lt = let many : length t.entries ≡ 1024 = kept.is_local.entries in omega (arith, many, lt)
+
+  pub grained : (size : ℕ) → IsMultiple 4 size → IsMultiple t.grain size
+  grained size m = subst (λ g. IsMultiple g size) (sym kept.is_local.grain) m
+
+  pub absent : (id : ℕ) → object_at (heap_in t bytes) id ≡ None → block_with t.blocks id ≡ None
+  absent id none = no_block parts id (no_entry parts id none)
+
+  pub has_entry : (id : ℕ) → IsSome (object_at (heap_in t bytes) id) → IsSome (entry_at t id)
+  has_entry id some = sym (ap is_some (entry_is parts id)) ∙ mapped entry_of (object_at (heap_in t bytes) id) ∙ some
+
+  -- an entry that has an object is one
+  pub entry_lt : (id : ℕ) → IsSome (object_at (heap_in t bytes) id) → id < 1024
+  entry_lt id some = within t.entries id (has_entry id some) kept.is_local.entries
+    where
+      within : {X : Type 0} (xs : List (Option X)) (id : ℕ) → IsSome (get_or xs id None) → length xs ≡ 1024 → id < 1024
+      within xs id some many = let lt = inner xs id some in omega (arith, lt, many)
+        where
+          inner : {X : Type 0} (xs : List (Option X)) (id : ℕ) → IsSome (get_or xs id None) → id < length xs
+          inner [] id h = absurd (false≢true h)
+          inner (x ∷ xs) zero h = omega arith
+          inner (x ∷ xs) (suc id) h = let lt : id < length xs = inner xs id h in omega arith
+
+  -- What giving bytes up leaves of the free entries.
+  module _ {s : Table} (range : IsSameRange t s) where
+    pub discard_kept : (id : ℕ) → after_discard (heap_in t bytes) id ≡ Ok (heap_in s bytes) → IsKept s free
+    discard_kept id e = same_free kept range bytes bytes inside refl (discarded (heap_in t bytes) (heap_in s bytes) id e)
+
+    pub free_kept : (id : ℕ) → IsSome (object_at (heap_in t bytes) id) → after_free (heap_in t bytes) id ≡ Ok (heap_in s bytes) → IsKept s (set free id 1)
+    free_kept id some e = turn (object_at (heap_in t bytes) id) refl some
+      where
+        turn : (p : Option Object) → object_at (heap_in t bytes) id ≡ p → IsSome p → IsKept s (set free id 1)
+        turn None there h = absurd (false≢true h)
+        turn (Some o) there h =
+            let gone : removed (heap_in t bytes) id ≡ heap_in s bytes = free_gone (heap_in t bytes) id o there (heap_in s bytes) e in
+            set_free kept range bytes bytes inside refl id false (entry_lt id some) (ap (λ (h : Heap). is_some (object_at h id)) (sym gone) ∙ removed_here (heap_in t bytes) id)
+            (λ q d. ap (λ (h : Heap). is_some (object_at h q)) (sym gone) ∙ removed_others (heap_in t bytes) id q d)
+
+  module _ (all : All (λ b. b < 256) bytes) where
+    heap_is : IsHeap (heap_in t bytes)
+    heap_is = sound_heap t kept.is_local.sound bytes inside all
+
+    -- The heap after.
+    module _ {s : Table} (range : IsSameRange t s) (after : List ℕ) (long : length after ≡ length bytes) where
+      pub inside_after : s.hi ≤ length after
+      inside_after = let hi = range.hi in omega (arith, inside, long, hi)
+
+      other : {x y : ℕ} → ◌≡◌ {A = Option ℕ} (Some x) (Some y) → y ≡ x
+      other e = cc
+
+      allocated_others : (id n : ℕ) (kind : Kind) (way : Way) → Allocates (heap_in t bytes) id n kind 0 way true (heap_in s after) → HasOthers id (heap_in t bytes) (heap_in s after)
+      allocated_others id n kind way a q d =
+          let r = asked (heap_in t bytes) id (record { way = way; prefix = prefix_of (heap_in t bytes) n (Some id) way; becomes = IsNew way.zero n kind 0; order = with_newest id }) (heap_in s after) a.request in
+          kept_others (heap_in t bytes) (heap_in s after) (Some id) r.0 ((others_law (heap_in t bytes) (heap_in s after) heap_is r.0).0 id way r.2.0 (with_newest id r.2.0) r.2.2) q (λ e. d (other e))
+
+      reallocated_same : (id n : ℕ) (way : Way) → Reallocates (heap_in t bytes) id n way true (heap_in s after) → HasSame (heap_in t bytes) (heap_in s after)
+      reallocated_same id n way a = turn (object_at (heap_in t bytes) id) refl (rest_law (heap_in t bytes) (heap_in s after) id n way heap_is a)
+        where
+          turn : (p : Option Object) → object_at (heap_in t bytes) id ≡ p → IsSomeAnd p (λ o. KeepsRest (heap_in t bytes) id n o way (heap_in s after)) → HasSame (heap_in t bytes) (heap_in s after)
+          turn None there h = absurd h
+          turn (Some o) there h = λ q. elim (cases_eq q id) [
+            | inl e ↦ ap (λ k. is_some (object_at (heap_in s after) k)) e ∙ some_at _ (object_at (heap_in s after) id) h.object ∙ sym (ap (λ k. is_some (object_at (heap_in t bytes) k)) e ∙ ap is_some there)
+            | inr d ↦ kept_others (heap_in t bytes) (heap_in s after) (Some id) h.count h.others q (λ e. d (other e))
+          ]
+
+      compacted_same : (n answer : ℕ) → MakesRoom (heap_in t bytes) n answer (heap_in s after) → HasSame (heap_in t bytes) (heap_in s after)
+      compacted_same n answer a q =
+          kept_others (heap_in t bytes) (heap_in s after) None (compaction_prefix (heap_in t bytes) n) ((others_law (heap_in t bytes) (heap_in s after) heap_is (compaction_prefix (heap_in t bytes) n)).1 a.settled) q (λ e. never e)
+        where
+          never : {x : ℕ} → ◌≡◌ {A = Option ℕ} None (Some x) → ⊥
+          never e = cc
+
+      pub over_after : All (λ b. b < 256) after → IsOver s after
+      over_after are = record { is_local = is_local kept range; inside = inside_after; are_bytes = are }
+
+      pub heap_after : All (λ b. b < 256) after → IsHeap (heap_in s after)
+      heap_after are = sound_heap s range.sound after inside_after are
+
+      -- What each act leaves of the free entries.
+      pub alloc_kept : {E : Type 0} (r : Result Placed E) → is_err r ≡ false → (id n : ℕ) (kind : Kind) (way : Way) → id < 1024 → Allocates (heap_in t bytes) id n kind 0 way (is_ok r) (heap_in s after)
+          → IfOk r (λ p. IsPlaced (heap_in t bytes) id n p (heap_in s after)) → All (λ b. b < 256) after → IsKept s (set free id 0)
+      alloc_kept r is id n kind way lt a placed are =
+          let p = if_ok r (λ p. IsPlaced (heap_in t bytes) id n p (heap_in s after)) is placed in
+          set_free kept range bytes after inside long id true lt (there_placed (heap_in s after) (heap_after are) id p.0.at p.1.place)
+          (allocated_others id n kind way (subst (λ b. Allocates (heap_in t bytes) id n kind 0 way b (heap_in s after)) (answered r is) a))
+
+      pub realloc_kept : {X E : Type 0} (r : Result X E) → is_err r ≡ false → (id n : ℕ) (way : Way) → Reallocates (heap_in t bytes) id n way (is_ok r) (heap_in s after) → IsKept s free
+      realloc_kept r is id n way a = same_free kept range bytes after inside long (reallocated_same id n way (subst (λ b. Reallocates (heap_in t bytes) id n way b (heap_in s after)) (answered r is) a))
+
+      pub compact_kept : (n answer : ℕ) → Compacts (heap_in t bytes) n answer (heap_in s after) → IsKept s free
+      compact_kept n answer c = same_free kept range bytes after inside long (elim (compacted n answer (heap_in t bytes) (heap_in s after) c) [
+        | inl idle ↦ (λ q. ap (λ (h : Heap). is_some (object_at h q)) idle.2)
+        | inr roomed ↦ compacted_same n answer roomed.1
+      ])
+
+-- What an act leaves, in words of the heap's value.
+module _ {t v : Table} (shown : t ≡ v) (bytes : List ℕ) where
+  pub may_shown : (act : Act) → MayActOver act v bytes → MayActOver act t bytes
+  may_shown act may = subst (λ (t : Table). MayActOver act t bytes) (sym shown) may
+
+  module _ (s : Table) (after : List ℕ) (range : IsSameRange t s) (outside : IsSameOutside t.lo t.hi bytes after) where
+    acted : (act : Act) (answer : ℕ) → Done act (heap_in t bytes) answer (heap_in s after) → Acted act v bytes answer s after
+    acted act answer done = subst (λ (t : Table). Acted act t bytes answer s after) shown (record { range = range; outside = outside; act_is = inr done })
+
+    idle : (act : Act) (answer : ℕ) → Idle act (heap_in t bytes) answer → s ≡ t → after ≡ bytes → Acted act v bytes answer s after
+    idle act answer is same still = subst (λ (t : Table). Acted act t bytes answer s after) shown (record { range = range; outside = outside; act_is = inl (is, same, still) })
+
+    -- Requests that are refused.
+    module _ {X E : Type 0} (r : Result X E) (is : is_err r ≡ true) (same : s ≡ t) (still : after ≡ bytes) where
+      again : heap_in s after ≡ heap_in t bytes
+      again i = heap_in (same i) (still i)
+
+      pub alloc_idle : (id n : ℕ) (kind : Kind) (way : Way) → Allocates (heap_in t bytes) id n kind 0 way (is_ok r) (heap_in s after) → Acted (Alloc id n kind way) v bytes 0 s after
+      alloc_idle id n kind way a = idle (Alloc id n kind way) 0 (subst (Allocates (heap_in t bytes) id n kind 0 way false) again (subst (λ b. Allocates (heap_in t bytes) id n kind 0 way b (heap_in s after)) (refused r is) a), refl) same still
+
+      pub realloc_idle : (id n : ℕ) (way : Way) → Reallocates (heap_in t bytes) id n way (is_ok r) (heap_in s after) → Acted (Realloc id n way) v bytes 0 s after
+      realloc_idle id n way a = idle (Realloc id n way) 0 (subst (Reallocates (heap_in t bytes) id n way false) again (subst (λ b. Reallocates (heap_in t bytes) id n way b (heap_in s after)) (refused r is) a), refl) same still
+
+    -- Requests that are answered: the object has the name that is looked up, for it stands somewhere.
+    module _ {E : Type 0} (r : Result Placed E) (is : is_err r ≡ false) (heap : IsHeap (heap_in s after)) (id n : ℕ) (placed : IfOk r (λ p. IsPlaced (heap_in t bytes) id n p (heap_in s after))) (name : Option ℕ) (named : name_at (heap_in s after) id ≡ name) where
+      its_name : name_at (heap_in s after) id ≡ Some (unwrap_or name 0)
+      its_name = let p = if_ok r (λ p. IsPlaced (heap_in t bytes) id n p (heap_in s after)) is placed in named_placed (heap_in s after) heap id p.0.at p.1.place name named
+
+      pub alloc_done : (kind : Kind) (way : Way) → Allocates (heap_in t bytes) id n kind 0 way (is_ok r) (heap_in s after) → Acted (Alloc id n kind way) v bytes (unwrap_or name 0) s after
+      alloc_done kind way a = acted (Alloc id n kind way) (unwrap_or name 0) (subst (λ b. Allocates (heap_in t bytes) id n kind 0 way b (heap_in s after)) (answered r is) a, its_name)
+
+      pub realloc_done : (way : Way) → Reallocates (heap_in t bytes) id n way (is_ok r) (heap_in s after) → Acted (Realloc id n way) v bytes (unwrap_or name 0) s after
+      realloc_done way a = acted (Realloc id n way) (unwrap_or name 0) (subst (λ b. Reallocates (heap_in t bytes) id n way b (heap_in s after)) (answered r is) a, its_name)
+
+    -- A compaction; for 0 bytes the table is the same, as the heap is.
+    pub compact_acted : IsSound t → t.hi ≤ length bytes → (n answer : ℕ) → Compacts (heap_in t bytes) n answer (heap_in s after) → (n ≡ 0 → after ≡ bytes) → Acted (Compact n) v bytes answer s after
+    compact_acted sound inside n answer c still = elim (compacted n answer (heap_in t bytes) (heap_in s after) c) [
+      | inl same ↦ idle (Compact n) answer (same.0, same.1) (same_table t s sound range bytes inside (ap (heap_in s) (sym (still same.0)) ∙ same.2)) (still same.0)
+      | inr roomed ↦ acted (Compact n) answer (roomed.0, roomed.1)
+    ]
+
+  -- an object gives up its bytes, or goes; those of each other are the same
+  module _ (s : Table) (after : List ℕ) (range : IsSameRange t s) (outside : IsSameOutside s.lo s.hi bytes after) (same : contents after s.blocks ≡ contents bytes s.blocks) where
+    kept_outside : IsSameOutside t.lo t.hi bytes after
+    kept_outside = subst (λ (p : ℕ × ℕ). IsSameOutside p.0 p.1 bytes after) (λ i. (range.lo i, range.hi i)) outside
+
+    pub discard_done : (id : ℕ) → after_discard (heap_in t bytes) id ≡ Ok (heap_in s bytes) → Acted (Discard id) v bytes 0 s after
+    discard_done id e = acted s after range kept_outside (Discard id) 0 (e ∙ ap Ok (sym (heap_kept bytes after s same)))
+
+    pub free_done : (id : ℕ) → after_free (heap_in t bytes) id ≡ Ok (heap_in s bytes) → Acted (Free id) v bytes 0 s after
+    free_done id e = acted s after range kept_outside (Free id) 0 (e ∙ ap Ok (sym (heap_kept bytes after s same)))

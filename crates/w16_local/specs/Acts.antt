@@ -1,0 +1,76 @@
+-- What is done to one local heap over the bytes of its segment.
+use Rattle.std.specs.Prelude.{◌≡◌, ◌≤◌, ◌<◌, ◌⊎◌, ℕ, List, length, All, true, false, Some, Ok, IsOk, IsSome}
+use Rattle.std.specs.Ordering.{nat_cmp}
+use Rattle.std.specs.FinMap as finmap
+use Rattle.std.specs.FinMap.{FinMap}
+use Rattle.w16_model.specs.Far.{after_write}
+use Rattle.w16_model.specs.Handles.{Handles}
+use Rattle.w16_model.specs.Heap.{Heap, IsMultiple, bytes_at, object_at}
+use Rattle.w16_model.specs.OneObject.{after_discard, after_free}
+use Rattle.w16_model.specs.Request.{Allocates, MakesRoom, Reallocates, most_room}
+use Rattle.w16_model.specs.Table.{Table, IsSameOutside, heap_in}
+use Rattle.w16_arena.specs.State.{IsSameRange}
+use Rattle.w16_machine.specs.declared.local.TheConstants.{LOCAL_GRAIN}
+use Rattle.w16_machine.specs.Local.{IsFreeEntry, IsLocalTable, name_at}
+use Rattle.w16_local.specs.declared.acts.Act.{Act}
+use Rattle.w16_local.specs.declared.acts.Act.TheVariants.{Alloc, Compact, Discard, Free, Realloc}
+
+-- a size that may be asked for
+abbrev pub IsSize : ℕ → Type 0
+IsSize size = (0 < size) × IsMultiple LOCAL_GRAIN size
+
+-- When an act may be done to a heap: a new object needs an entry that is free, and another size an object; what is discarded or freed may be.
+abbrev pub MayAct : Act → Heap → Type 0
+MayAct (Alloc id size kind way) heap = IsFreeEntry heap id × IsSize size
+MayAct (Realloc id size way) heap = IsSome (object_at heap id) × IsSize size
+MayAct (Discard id) heap = IsOk (after_discard heap id)
+MayAct (Free id) heap = IsSome (object_at heap id) × IsOk (after_free heap id)
+MayAct (Compact size) heap = Unit {0}
+
+-- and to a table over bytes that have its range
+abbrev pub MayActOver : Act → Table → List ℕ → Type 0
+MayActOver act table bytes = (table.hi ≤ length bytes) × MayAct act (heap_in table bytes)
+
+-- an act that is done: the heap before it, its answer, and the heap after it
+abbrev pub Done : Act → Heap → ℕ → Heap → Type 0
+Done (Alloc id size kind way) heap answer next = Allocates heap id size kind 0 way true next × (name_at next id ≡ Some answer)
+Done (Realloc id size way) heap answer next = Reallocates heap id size way true next × (name_at next id ≡ Some answer)
+Done (Discard id) heap answer next = after_discard heap id ≡ Ok next
+Done (Free id) heap answer next = after_free heap id ≡ Ok next
+Done (Compact size) heap answer next = (0 < size) × MakesRoom heap size answer next
+
+-- an act that changes nothing, and its answer: a refused request, and a compaction for 0 bytes
+abbrev pub Idle : Act → Heap → ℕ → Type 0
+Idle (Alloc id size kind way) heap answer = Allocates heap id size kind 0 way false heap × (answer ≡ 0)
+Idle (Realloc id size way) heap answer = Reallocates heap id size way false heap × (answer ≡ 0)
+Idle (Discard id) heap answer = ⊥
+Idle (Free id) heap answer = ⊥
+Idle (Compact size) heap answer = (size ≡ 0) × (answer ≡ most_room heap)
+
+-- An act on a heap's table and its segment's bytes: in its range alone bytes change.
+pub record Acted (act : Act) (table : Table) (bytes : List ℕ) (answer : ℕ) (left : Table) (after : List ℕ) : Type 0 where
+  pub range : IsSameRange table left
+  pub outside : IsSameOutside table.lo table.hi bytes after
+  pub act_is : (Idle act (heap_in table bytes) answer × (left ≡ table) × (after ≡ bytes)) ⊎ Done act (heap_in table bytes) answer (heap_in left after)
+
+-- when it may be done in the object of a slot
+pub record MayActIn (handles : Handles) (tables : FinMap nat_cmp Table) (slot : ℕ) (act : Act) : Type 0 where
+  pub table : Table
+  pub bytes : List ℕ
+  pub was : finmap.get tables slot ≡ Some table
+  pub had : bytes_at handles.heap slot ≡ Some bytes
+  pub may : MayActOver act table bytes
+
+-- What it does there: one heap's table becomes another, and the object's bytes are replaced by as many.
+pub record ActedIn (handles : Handles) (tables : FinMap nat_cmp Table) (slot : ℕ) (act : Act) (answer : ℕ) (next : Handles) (new : FinMap nat_cmp Table) : Type 0 where
+  pub before : Table
+  pub bytes : List ℕ
+  pub was : finmap.get tables slot ≡ Some before
+  pub had : bytes_at handles.heap slot ≡ Some bytes
+  pub table : Table
+  pub after : List ℕ
+  pub is_local : IsLocalTable table
+  pub long : length after ≡ length bytes
+  pub are_bytes : All (λ b. b < 256) after
+  pub acted : Acted act before bytes answer table after
+  pub rest : (new ≡ finmap.insert tables slot table) × (next ≡ record handles { heap = after_write handles.heap slot 0 after })

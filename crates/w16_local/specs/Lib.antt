@@ -1,0 +1,6 @@
+pub mod Acts
+pub mod Codes
+pub mod Kept
+pub mod Parts
+pub mod Steps
+pub mod Swept

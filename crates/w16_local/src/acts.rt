@@ -1,0 +1,154 @@
+//! What is done to one local heap over the bytes of its segment.
+ghost use Rattle.std.specs.Prelude.{◌≡◌, length};
+ghost use Rattle.w16_model.specs.Table.{heap_in};
+ghost use Rattle.w16_local.specs.Acts.{Acted, MayActOver};
+ghost use Rattle.w16_local.specs.declared.acts.Act.TheVariants.{Alloc, Compact, Discard, Free, Realloc};
+
+use crate::heap::LocalHeap;
+use crate::look::name_at;
+use w16_global::Work;
+use w16_model::{Kind, Way};
+use w16_region::{Space, Window, has_bytes};
+
+/// What is done to a heap: each act has its call's answer. Sizes are whole grains, but for a compaction's.
+#[derive(Clone, Copy, Debug)]
+pub(crate) enum Act {
+    /// So many bytes for a free entry. It answers the new object's name, or 0.
+    Alloc {
+        id: u32,
+        size: u32,
+        kind: Kind,
+        way: Way,
+    },
+    /// Another size for an object. It answers its name, or 0.
+    Realloc {
+        id: u32,
+        size: u32,
+        way: Way,
+    },
+    /// An object that may gives up its bytes. It answers 0.
+    Discard {
+        id: u32,
+    },
+    /// An object that may goes. It answers 0.
+    Free {
+        id: u32,
+    },
+    /// Room is made for some bytes. It answers the length of the longest hole, or for 0 bytes how long one could be.
+    Compact {
+        size: u32,
+    },
+}
+
+impl Work for Act {
+    type State = LocalHeap;
+
+    type Answer = u16;
+
+    ghost use Rattle.w16_local.specs.Acts.{Acted, MayActOver};
+
+    ghost may = { λ act table bytes. MayActOver act table bytes };
+
+    ghost does = { λ act table bytes answer left after. Acted act table bytes answer left after };
+
+    fn work(&self, heap: &mut LocalHeap, bytes: &mut [u8]) -> u16 {
+        let mut window = Window::new(bytes);
+        heap.act(&mut window, *self)
+    }
+}
+
+impl LocalHeap {
+    /// Does an act.
+    fn act<S: Space>(&mut self, space: &mut S, act: Act) -> u16
+        requires { MayActOver act self.old (S.bytes space.old) }
+        ensures acted { Acted act self.old (S.bytes space.old) result self.new (S.bytes space.new) }
+        ensures long { length (S.bytes space.new) ≡ length (S.bytes space.old) }
+        ensures loans { S.lenders space.new ≡ S.lenders space.old }
+    {
+        match act {
+            Act::Alloc {
+                id,
+                size,
+                kind,
+                way,
+            } => self.alloc(space, id, size, kind, way),
+            Act::Realloc { id, size, way } => self.realloc(space, id, size, way),
+            Act::Discard { id } => self.discard(space, id),
+            Act::Free { id } => self.free(space, id),
+            Act::Compact { size } => self.compact(space, size),
+        }
+    }
+
+    /// So many bytes for a free entry.
+    fn alloc<S: Space>(&mut self, space: &mut S, id: u32, size: u32, kind: Kind, way: Way) -> u16
+        requires { MayActOver (Alloc id size kind way) self.old (S.bytes space.old) }
+        ensures acted { Acted (Alloc id size kind way) self.old (S.bytes space.old) result self.new (S.bytes space.new) }
+        ensures long { length (S.bytes space.new) ≡ length (S.bytes space.old) }
+        ensures loans { S.lenders space.new ≡ S.lenders space.old }
+    {
+        has_bytes(space);
+        let placed = self.arena.alloc(space, id, size, kind, way);
+        if placed.is_err() {
+            return 0;
+        }
+        has_bytes(space);
+        self.free.set(id as usize, 0);
+        name_at(&self.arena, id).unwrap_or(0)
+    }
+
+    /// Another size for an object.
+    fn realloc<S: Space>(&mut self, space: &mut S, id: u32, size: u32, way: Way) -> u16
+        requires { MayActOver (Realloc id size way) self.old (S.bytes space.old) }
+        ensures acted { Acted (Realloc id size way) self.old (S.bytes space.old) result self.new (S.bytes space.new) }
+        ensures long { length (S.bytes space.new) ≡ length (S.bytes space.old) }
+        ensures loans { S.lenders space.new ≡ S.lenders space.old }
+    {
+        has_bytes(space);
+        let placed = self.arena.realloc(space, id, size, way);
+        if placed.is_err() {
+            return 0;
+        }
+        has_bytes(space);
+        name_at(&self.arena, id).unwrap_or(0)
+    }
+
+    /// An object gives up its bytes.
+    fn discard<S: Space>(&mut self, space: &mut S, id: u32) -> u16
+        requires { MayActOver (Discard id) self.old (S.bytes space.old) }
+        ensures acted { Acted (Discard id) self.old (S.bytes space.old) result self.new (S.bytes space.new) }
+        ensures long { length (S.bytes space.new) ≡ length (S.bytes space.old) }
+        ensures loans { S.lenders space.new ≡ S.lenders space.old }
+    {
+        match self.arena.discard(space, id) {
+            Ok(()) => 0,
+            Err(_) => unreachable!(),
+        }
+    }
+
+    /// An object goes.
+    fn free<S: Space>(&mut self, space: &mut S, id: u32) -> u16
+        requires { MayActOver (Free id) self.old (S.bytes space.old) }
+        ensures acted { Acted (Free id) self.old (S.bytes space.old) result self.new (S.bytes space.new) }
+        ensures long { length (S.bytes space.new) ≡ length (S.bytes space.old) }
+        ensures loans { S.lenders space.new ≡ S.lenders space.old }
+    {
+        match self.arena.free(space, id) {
+            Ok(()) => {
+                self.free.set(id as usize, 1);
+                0
+            }
+            Err(_) => unreachable!(),
+        }
+    }
+
+    /// Room is made for some bytes, or for 0 it is only asked how much there could be.
+    fn compact<S: Space>(&mut self, space: &mut S, size: u32) -> u16
+        requires { MayActOver (Compact size) self.old (S.bytes space.old) }
+        ensures acted { Acted (Compact size) self.old (S.bytes space.old) result self.new (S.bytes space.new) }
+        ensures long { length (S.bytes space.new) ≡ length (S.bytes space.old) }
+        ensures loans { S.lenders space.new ≡ S.lenders space.old }
+    {
+        has_bytes(space);
+        self.arena.compact(space, size).room as u16
+    }
+}

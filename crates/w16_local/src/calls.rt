@@ -1,0 +1,112 @@
+//! The calls that make local objects, give them another size or kind, discard and free them, and make room.
+ghost use Rattle.std.specs.Prelude.{◌≡◌};
+ghost use Rattle.w16_machine.specs.LocalCalls.LocalCommand.{LocalAlloc, LocalCompact, LocalDiscard, LocalFree, LocalReAlloc};
+ghost use Rattle.w16_local.specs.Parts.{Calls};
+
+use crate::LocalHeaps;
+use crate::acts::Act;
+use crate::chosen::{Chosen, Named};
+use crate::flags::{has_flag, local_kind, local_way, moveable_or_discardable, rounded_up};
+use crate::look::{may_discard, may_free};
+use crate::steps::Step;
+use w16_global::Global16;
+use w16_machine::local::{LMEM_MODIFY, LMEM_MOVEABLE};
+
+impl LocalHeaps {
+    /// `LocalAlloc`: a new object's name, or 0: for a fixed object of size 0, where no entry is free, and where there is no room. The size
+    /// is rounded up to 4 bytes; a moveable object of size 0 has no bytes. Others slide or are discarded for it as in the global heap.
+    pub fn local_alloc(&mut self, global: &mut Global16, ds: u16, flags: u16, size: u16) -> u16
+        ensures { Calls global.old.handles self.old ds (LocalAlloc flags size) result global.new.handles self.new }
+    {
+        let Some(Chosen { slot, .. }) = self.chosen(global, ds) else {
+            return 0;
+        };
+        let Some(id) = self.free_entry(slot) else {
+            return 0;
+        };
+        if size == 0 {
+            if !has_flag(flags, LMEM_MOVEABLE) {
+                return 0;
+            }
+            let _ = self.step(slot, id, Step::Enter(moveable_or_discardable(flags)));
+            return (4 * id + 2) as u16;
+        }
+        let act = Act::Alloc {
+            id,
+            size: rounded_up(size),
+            kind: local_kind(flags),
+            way: local_way(flags),
+        };
+        self.act(global, slot, act)
+    }
+
+    /// `LocalReAlloc`: an object gets another size, rounded up to 4 bytes; its first bytes stay. It answers the object's name, which a fixed
+    /// one that was moved has anew; 0 for a bad name, and where there is no room. With `LMEM_MODIFY` a moveable object gets the kind that
+    /// the flags say, whatever the size. A size of 0 with `LMEM_MOVEABLE` discards the object.
+    pub fn local_realloc(
+        &mut self,
+        global: &mut Global16,
+        ds: u16,
+        name: u16,
+        size: u16,
+        flags: u16,
+    ) -> u16
+        ensures { Calls global.old.handles self.old ds (LocalReAlloc name size flags) result global.new.handles self.new }
+    {
+        let Some(Named { slot, heap, id }) = self.named(global, ds, name) else {
+            return 0;
+        };
+        if has_flag(flags, LMEM_MODIFY) {
+            let _ = self.step(slot, id, Step::Modify(moveable_or_discardable(flags)));
+            return name;
+        }
+        if size > 0 {
+            let act = Act::Realloc {
+                id,
+                size: rounded_up(size),
+                way: local_way(flags),
+            };
+            return self.act(global, slot, act);
+        }
+        if !has_flag(flags, LMEM_MOVEABLE) {
+            return 0;
+        }
+        if !may_discard(heap, id) {
+            return 0;
+        }
+        self.act(global, slot, Act::Discard { id });
+        name
+    }
+
+    /// `LocalDiscard`: a discardable object that isn't locked gives up its bytes, if it has any. It answers the name, or 0.
+    pub fn local_discard(&mut self, global: &mut Global16, ds: u16, name: u16) -> u16
+        ensures { Calls global.old.handles self.old ds (LocalDiscard name) result global.new.handles self.new }
+    {
+        self.local_realloc(global, ds, name, 0, LMEM_MOVEABLE)
+    }
+
+    /// `LocalFree`: 0, and the object is gone; or the name, where it is bad or the object locked.
+    pub fn local_free(&mut self, global: &mut Global16, ds: u16, name: u16) -> u16
+        ensures { Calls global.old.handles self.old ds (LocalFree name) result global.new.handles self.new }
+    {
+        let Some(Named { slot, heap, id }) = self.named(global, ds, name) else {
+            return name;
+        };
+        if !may_free(heap, id) {
+            return name;
+        }
+        self.act(global, slot, Act::Free { id });
+        0
+    }
+
+    /// `LocalCompact`: room is made for some bytes, as in the global heap. It answers the longest hole that there is then, or for a size of 0
+    /// how long one could be, and then nothing changes. 0 where DS names no local heap.
+    pub fn local_compact(&mut self, global: &mut Global16, ds: u16, size: u16) -> u16
+        ensures { Calls global.old.handles self.old ds (LocalCompact size) result global.new.handles self.new }
+    {
+        let Some(Chosen { slot, .. }) = self.chosen(global, ds) else {
+            return 0;
+        };
+        self.act(global, slot, Act::Compact { size: size as u32 })
+    }
+}

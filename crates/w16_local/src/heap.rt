@@ -1,0 +1,148 @@
+//! One local heap, without the bytes that it is over.
+ghost use Rattle.std.specs.Prelude.{◌≡◌, ◌≤◌, ◌<◌, ℕ, None, length, replicate, slice_index_or, IfOk, IfSome, IfNone, OnErr};
+ghost use Rattle.w16_model.specs.Heap.{IsMultiple};
+ghost use Rattle.w16_model.specs.Table.{entry_at};
+ghost use Rattle.w16_model.specs.OneObject.{Enters, after_lock, after_modify, after_unlock};
+ghost use Rattle.w16_machine.specs.declared.local.TheConstants.{LOCAL_ENTRIES};
+ghost use Rattle.w16_machine.specs.Local.{IsLocalTable, new_table};
+ghost use Rattle.w16_local.specs.Kept.{IsFull, IsLowest};
+ghost use Rattle.w16_local.specs.Steps.{MayStep, Turns, after_step, outcome};
+
+use crate::steps::Step;
+use std::alloc::{AllocError, Global};
+use std::marker::Model;
+use w16_arena::Arena;
+use w16_holes::SideHoles;
+use w16_machine::local::{LOCAL_ENTRIES, LOCAL_GRAIN};
+use w16_model::{Kind, Refusal, Span};
+use w16_tree::Maxima;
+
+/// A local heap. Its value is its table.
+#[derive(Drop)]
+pub(crate) struct LocalHeap {
+    pub(crate) arena: Arena<SideHoles>,
+    /// For each entry 1 where it is free, else 0: so the lowest is found in as many steps as their number has binary digits.
+    pub(crate) free: Maxima,
+}
+
+impl Model for LocalHeap {
+    ghost use Rattle.w16_model.specs.Table.{Table};
+    ghost use Rattle.w16_local.specs.Codes.{table_code};
+    ghost use Rattle.w16_local.specs.Kept.{IsKept};
+
+    ghost Value = { Table };
+
+    ghost coded = { table_code };
+
+    ghost view = { λ s. s.arena.table };
+
+    ghost invariant = { λ s. IsKept s.arena.table s.free };
+}
+
+impl LocalHeap {
+    /// No object yet, over a range of at least a grain. An error is that there was no memory.
+    pub fn new(alloc: Global, range: Span) -> Result<LocalHeap, AllocError>
+        requires low { 4 ≤ range.from }
+        requires some { range.from < range.to }
+        requires high { range.to ≤ 65536 }
+        requires grained { IsMultiple 4 range.from }
+        ensures { IfOk result (λ made. made ≡ new_table range) }
+    {
+        let holes = SideHoles::new(alloc, range.from, range.to, LOCAL_GRAIN)?;
+        let arena = Arena::new(
+            alloc,
+            LOCAL_ENTRIES,
+            holes,
+            range.from,
+            range.to,
+            LOCAL_GRAIN,
+        )?;
+        let free = all_free(alloc)?;
+        Ok(LocalHeap { arena, free })
+    }
+
+    /// Its objects, without which of its entries are free.
+    pub fn arena(&self) -> &Arena<SideHoles>
+        ensures { result.now.table ≡ self.now }
+    {
+        &self.arena
+    }
+
+    /// Says that it is a local heap, as each is. It has no effect.
+    pub fn is_local(&self)
+        ensures { IsLocalTable self.now }
+    {
+        let _arena = &self.arena;
+    }
+
+    /// The lowest free entry.
+    pub fn lowest_free(&self) -> Option<u32>
+        ensures found { IfSome result (λ id. IsLowest self.now id) }
+        ensures none { IfNone result (IsFull self.now) }
+    {
+        let id = self.free.first_at_least(1)?;
+        Some(id as u32)
+    }
+
+    /// A step of an object.
+    pub fn step(&mut self, id: u32, step: Step) -> Result<(), Refusal>
+        requires { MayStep step id self.old }
+        ensures turns { Turns self.old self.new (λ old new. after_step step old id ≡ outcome result new) }
+        ensures refused { OnErr result (self.new ≡ self.old) }
+    {
+        match step {
+            Step::Enter(kind) => {
+                self.enter(id, kind);
+                Ok(())
+            }
+            Step::Lock => self.lock(id),
+            Step::Unlock => self.unlock(id),
+            Step::Modify(kind) => self.modify(id, kind),
+        }
+    }
+
+    /// A new object without bytes.
+    fn enter(&mut self, id: u32, kind: Kind)
+        requires id { id < LOCAL_ENTRIES }
+        requires free { entry_at self.old id ≡ None }
+        ensures { Turns self.old self.new (λ old new. Enters old id kind new) }
+    {
+        self.arena.enter(id, kind);
+        self.free.set(id as usize, 0);
+    }
+
+    /// One lock more.
+    fn lock(&mut self, id: u32) -> Result<(), Refusal>
+        ensures turns { Turns self.old self.new (λ old new. after_lock old id ≡ outcome result new) }
+        ensures refused { OnErr result (self.new ≡ self.old) }
+    {
+        self.arena.lock(id)
+    }
+
+    /// One lock less.
+    fn unlock(&mut self, id: u32) -> Result<(), Refusal>
+        ensures turns { Turns self.old self.new (λ old new. after_unlock old id ≡ outcome result new) }
+        ensures refused { OnErr result (self.new ≡ self.old) }
+    {
+        self.arena.unlock(id)
+    }
+
+    /// Another kind.
+    fn modify(&mut self, id: u32, kind: Kind) -> Result<(), Refusal>
+        ensures turns { Turns self.old self.new (λ old new. after_modify old id kind ≡ outcome result new) }
+        ensures refused { OnErr result (self.new ≡ self.old) }
+    {
+        self.arena.modify(id, kind)
+    }
+}
+
+/// That all entries are free.
+fn all_free(alloc: Global) -> Result<Maxima, AllocError>
+    ensures { IfOk result (λ free. (length free ≡ LOCAL_ENTRIES) × ((q : ℕ) → q < LOCAL_ENTRIES → slice_index_or free q 0 ≡ 1)) }
+{
+    let mut free = Maxima::zeros(alloc, LOCAL_ENTRIES as usize)?;
+    for id in 0..LOCAL_ENTRIES {
+        free.set(id as usize, 1);
+    }
+    Ok(free)
+}

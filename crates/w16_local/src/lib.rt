@@ -1,0 +1,120 @@
+//! Local heaps: in a range of a global object's bytes, objects that are named by near pointers and by entries.
+//!
+//! A heap's bytes are its segment's, so a call that needs them takes the global heap beside this value.
+#![tactic(auto)]
+
+ghost use Rattle.std.specs.Prelude.{◌≡◌, ◌≤◌, ◌/◌, option_map, None, Some, IfOk, IfSome, IfNone};
+ghost use Rattle.std.specs.FinMap as finmap;
+ghost use Rattle.w16_model.specs.Table.{Table};
+ghost use Rattle.w16_machine.specs.Local.{IsLocalTable};
+
+mod act;
+mod acts;
+mod asked;
+mod calls;
+mod chosen;
+mod flags;
+mod heap;
+mod init;
+mod look;
+mod steps;
+mod sweep;
+
+use crate::heap::LocalHeap;
+use std::alloc::{AllocError, Global};
+use std::marker::Model;
+use w16_arena::Arena;
+use w16_holes::SideHoles;
+use w16_model::names::slot_of;
+use w16_model::{FIRST_SLOT, MOST_SLOTS};
+
+/// The local heaps in the objects of a global heap. Its value is their tables, by slot.
+#[derive(Drop)]
+pub struct LocalHeaps {
+    /// By slot.
+    heaps: Vec<Option<Box<LocalHeap>>>,
+    /// The slots that have a heap, and maybe some that had one.
+    live: Vec<u16>,
+    /// For new heaps.
+    alloc: Global,
+}
+
+impl Model for LocalHeaps {
+    ghost use Rattle.std.specs.Ordering.{nat_cmp};
+    ghost use Rattle.std.specs.FinMap.{FinMap};
+    ghost use Rattle.w16_model.specs.Table.{Table};
+    ghost use Rattle.w16_local.specs.Codes.{tables_code};
+    ghost use Rattle.w16_local.specs.Kept.{tables_of, AreListed};
+
+    ghost Value = { FinMap nat_cmp Table };
+
+    ghost coded = { tables_code };
+
+    ghost view = { λ s. tables_of s.heaps.items (λ h. h.value) };
+
+    ghost invariant = { λ s. AreListed s.heaps.items s.live.items };
+}
+
+impl LocalHeaps {
+    /// No heap yet, for so many slots, at most 8,160. An error is that there was no memory.
+    pub fn new(alloc: Global, slots: u32) -> Result<LocalHeaps, AllocError>
+        requires { slots ≤ MOST_SLOTS }
+        ensures { IfOk result (λ made. made ≡ finmap.empty) }
+    {
+        let mut heaps = Vec::with_capacity(alloc, (FIRST_SLOT + slots) as usize)?;
+        for _ in 0..FIRST_SLOT + slots {
+            heaps.push(None)?;
+        }
+        let live = Vec::with_capacity(alloc, slots as usize)?;
+        Ok(LocalHeaps { heaps, live, alloc })
+    }
+
+    /// Takes the heap in a handle's object away, if it has one. No byte changes.
+    pub fn drop_heap(&mut self, handle: u16)
+        ensures { self.new ≡ finmap.remove self.old (handle / 8) }
+    {
+        self.drop_slot(slot_of(handle));
+    }
+
+    /// Where the heap in a handle's object ends, if it has one.
+    pub fn heap_end(&self, handle: u16) -> Option<u32>
+        ensures { result ≡ option_map (λ (t : Table). t.hi) (finmap.get self.now (handle / 8)) }
+    {
+        let heap = self.heap_of(slot_of(handle))?;
+        Some(heap.bounds().to)
+    }
+
+    /// Takes a slot's heap away, if it has one.
+    fn drop_slot(&mut self, slot: u16)
+        ensures { self.new ≡ finmap.remove self.old slot }
+    {
+        if slot as usize >= self.heaps.len() {
+            return;
+        }
+        let _gone = self.heaps[slot as usize].take();
+    }
+
+    /// A slot's heap, if it has one.
+    pub(crate) fn heap_of(&self, slot: u16) -> Option<&Arena<SideHoles>>
+        ensures none { IfNone result (finmap.get self.now slot ≡ None) }
+        ensures some { IfSome result (λ h. (finmap.get self.now slot ≡ Some h.now.table) × IsLocalTable h.now.table) }
+    {
+        let heap = self.kept(slot)?;
+        heap.is_local();
+        Some(heap.arena())
+    }
+
+    /// The same with what is kept beside it.
+    pub(crate) fn kept(&self, slot: u16) -> Option<&LocalHeap>
+        ensures none { IfNone result (finmap.get self.now slot ≡ None) }
+        ensures some { IfSome result (λ h. finmap.get self.now slot ≡ Some h.now) }
+    {
+        if slot as usize >= self.heaps.len() {
+            return None;
+        }
+        let Some(held) = self.heaps[slot as usize].as_ref() else {
+            return None;
+        };
+        Some(held.as_ref())
+    }
+}

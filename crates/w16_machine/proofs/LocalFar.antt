@@ -1,0 +1,139 @@
+-- A far access leaves each local heap but for bytes of its objects.
+use Rattle.std.proofs.Common.{◌≡◌, ℕ, ◌+◌, ◌≤◌, ◌<◌, inl, inr, cond, IsSomeAnd, List, length, slice_range, Option, Some, None, option_map, refl, sym, ap, ◌∙◌, subst, arith}
+use Rattle.std.specs.Cmp.{nat_cmp_total}
+use Rattle.std.specs.FinMap as finmap
+use Rattle.std.specs.FinMap.{same_map, nat_cmp-IsAntisymmetric}
+use Rattle.std.proofs.lemmas.Bool.{cases_eq, le-leb}
+use Rattle.w16_model.specs.declared.Block.{Block}
+use Rattle.w16_model.specs.declared.Entry.{Entry}
+use Rattle.w16_model.specs.declared.FarFault.{FarFault}
+use Rattle.w16_model.specs.Bytes.{part, put_part, repeated}
+use Rattle.w16_model.specs.Gap.{block_end}
+use Rattle.w16_model.specs.Heap.{Object, object_at}
+use Rattle.w16_model.specs.OneObject.{after_touch}
+use Rattle.w16_model.specs.Handles.{Handles, selector_in, offset_in}
+use Rattle.w16_model.specs.Far.{FarCommand, FarAnswer, FarStep, far_fault, far_slot, far_bytes, far_read, far_write, after_write}
+use Rattle.w16_model.specs.Far.FarCommand.{Read, Write, Fill}
+use Rattle.w16_model.specs.Far.FarAnswer.{Bytes, Done, Fault}
+use Rattle.w16_model.specs.Table.{Table, IsTable, heap_in, object_in, block_with, entry_at}
+use Rattle.w16_model.proofs.Accesses.{Reached, reached}
+use Rattle.w16_model.proofs.Gaps.{Each-at, Member}
+use Rattle.w16_model.proofs.Heaps.{get-update_same, get-update_other}
+use Rattle.w16_model.proofs.KeptHeaps.{bytes_in}
+use Rattle.w16_model.proofs.Laid.{laid_each}
+use Rattle.w16_model.proofs.Parts.{length-put_part}
+use Rattle.w16_model.proofs.Tables.{object_is, member_with, length_range}
+use Rattle.w16_machine.specs.Machine.{far_answer_in}
+use Rattle.w16_machine.specs.Local.{LocalWorld, LocalHeap, IsLocalWorld, IsLocalIn, segment_bytes, heap_of}
+use Rattle.w16_machine.specs.LocalMachine.{beside}
+use Rattle.w16_machine.specs.LocalLaw.{HasSameObjects, FarLaw, but_bytes}
+use Rattle.w16_machine.specs.LocalStays.{HasSameSizes, size_at}
+use Rattle.w16_machine.proofs.LocalFacts.{IsThere, local_there, local_here}
+use Rattle.w16_machine.proofs.LocalWorlds.{IsLocalAt, left_over, left_is}
+
+-- How many bytes there are.
+
+abbrev SameAfter : Handles → FarAnswer × Handles → Type 0
+SameAfter old outcome = HasSameSizes old outcome.1
+
+module _ (old : Handles) (selector offset : ℕ) where
+  abbrev slot : ℕ
+  slot = far_slot old selector
+
+  read_same : (n : ℕ) → SameAfter old (far_read old selector offset n)
+  read_same n = turn (far_fault old selector offset n)
+    where
+      turn : (f : Option FarFault) → SameAfter old (elim f [ Some fault ↦ (Fault fault, old) | None ↦ (Bytes (part (far_bytes old selector) offset n), record old { heap = after_touch old.heap slot }) ])
+      turn (Some fault) = λ q. refl
+      turn None = λ q. refl
+
+  written_same : (slice : List ℕ) → Reached old slot (offset + length slice) → HasSameSizes old (record old { heap = after_touch (after_write old.heap slot offset slice) slot })
+  written_same slice r q = elim (cases_eq q slot) [
+    | inl e ↦
+        ap (λ i. option_map length (bytes_in (object_at (after_write old.heap slot offset slice) i))) e
+        ∙ ap (λ p. option_map length (bytes_in p)) (get-update_same old.heap.objects slot (λ (o : Object). record o { bytes = option_map (λ bytes. put_part bytes offset slice) o.bytes })
+        ∙ ap (option_map (λ (o : Object). let p : Object = record o { bytes = option_map (λ bytes. put_part bytes offset slice) o.bytes } in p)) r.there)
+        ∙ ap (λ b. option_map length (option_map (λ (bytes : List ℕ). put_part bytes offset slice) b)) r.has
+        ∙ ap Some (length-put_part r.bytes offset slice r.fits)
+        ∙ sym (ap (λ i. size_at old i) e ∙ ap (option_map length) r.here)
+    | inr d ↦ ap (λ p. option_map length (bytes_in p)) (get-update_other old.heap.objects slot (λ (o : Object). record o { bytes = option_map (λ bytes. put_part bytes offset slice) o.bytes }) q d)
+  ]
+
+  write_same : (slice : List ℕ) → SameAfter old (far_write old selector offset slice)
+  write_same slice = turn (far_fault old selector offset (length slice)) refl
+    where
+      turn : (f : Option FarFault) → far_fault old selector offset (length slice) ≡ f
+          → SameAfter old (elim f [ Some fault ↦ (Fault fault, old) | None ↦ (Done, record old { heap = after_touch (after_write old.heap slot offset slice) slot }) ])
+      turn (Some fault) e = λ q. refl
+      turn None e = written_same slice (reached old selector offset (length slice) e)
+
+far_same : (old new : Handles) (command : FarCommand) (answer : FarAnswer) → FarStep old command answer new → HasSameSizes old new
+far_same old new (Read pointer count) answer step = subst (HasSameSizes old) (sym step.1) (read_same old (selector_in pointer) (offset_in pointer) count)
+far_same old new (Write pointer bytes) answer step = subst (HasSameSizes old) (sym step.1) (write_same old (selector_in pointer) (offset_in pointer) bytes)
+far_same old new (Fill pointer count byte) answer step = subst (HasSameSizes old) (sym step.1) (write_same old (selector_in pointer) (offset_in pointer) (repeated count byte))
+
+-- The heap of a table in other bytes.
+module _ (t : Table) (is : IsTable t) (memory after : List ℕ) (whole : t.hi ≤ length memory) (same : t.hi ≤ length after) where
+  inside : (x : Block) → Member x t.blocks → x.at + x.size ≤ t.hi
+  inside x m = (Each-at (λ x. (t.lo ≤ x.at) × (0 < x.size) × (block_end x ≤ t.hi)) t.blocks (laid_each t.lo t.hi t.blocks is.laid) x m).2
+
+  lengths : (id : ℕ) (b : Option Block) → block_with t.blocks id ≡ b
+      → option_map length (option_map (λ (x : Block). slice_range after x.at (x.at + x.size)) b) ≡ option_map length (option_map (λ (x : Block). slice_range memory x.at (x.at + x.size)) b)
+  lengths id None e = refl
+  lengths id (Some x) e = let le : x.at + x.size ≤ t.hi = inside x (member_with t.blocks id x e).0 in
+      ap Some (length_range after x.at x.size (omega (arith, le, same)) ∙ sym (length_range memory x.at x.size (omega (arith, le, whole))))
+
+  same_objects : HasSameObjects (heap_in t memory) (heap_in t after)
+  same_objects = record {
+    rest = refl;
+    objects = λ id. ap (option_map but_bytes) (object_is t is after same id) ∙ turn id (entry_at t id) ∙ sym (ap (option_map but_bytes) (object_is t is memory whole id));
+  }
+    where
+      turn : (id : ℕ) (e : Option Entry) → option_map but_bytes (option_map (object_in t.blocks after id) e) ≡ option_map but_bytes (option_map (object_in t.blocks memory id) e)
+      turn id None = refl
+      turn id (Some e) = λ i. Some (e.kind, e.locks, lengths id (block_with t.blocks id) refl i)
+
+-- a heap is left where its segment has as many bytes
+left_same : (p : Option Table) (before after : Option (List ℕ)) → IsLocalAt p before → option_map length after ≡ option_map length before → left_over p after ≡ p
+left_same None before after h e = refl
+left_same (Some t) None after h e = absurd h
+left_same (Some t) (Some before) None h e = cc
+left_same (Some t) (Some before) (Some after) h e =
+    let same : length after ≡ length before = cc in
+    ap (λ l. cond {A = Option Table} l (Some t) None) (le-leb t.hi (length after) (omega (arith, same, h.1)))
+
+pub far_reply : (old new : Handles) (command : FarCommand) (answer : Option FarAnswer) → IsSomeAnd answer (λ answer. FarStep old command answer new) → HasSameSizes old new
+far_reply old new command None h = absurd h
+far_reply old new command (Some answer) h = far_same old new command answer h
+
+-- so all are left where each object has as many
+pub tables_stay : (old new : LocalWorld) → IsLocalWorld old → new ≡ beside old new.world → HasSameSizes old.world.handles new.world.handles → new.tables ≡ old.tables
+tables_stay old new is rest sizes = same_map nat_cmp_total nat_cmp-IsAntisymmetric new.tables old.tables (λ slot.
+    ap (λ (w : LocalWorld). finmap.get w.tables slot) rest ∙ left_is new.world.handles.heap old.tables slot
+    ∙ left_same (finmap.get old.tables slot) (segment_bytes old slot) (segment_bytes new slot) (is.locals slot) (sizes slot))
+
+pub local_far_law : FarLaw
+local_far_law old new command reply is known step = (
+  same_tables,
+  (λ slot at after e f.
+      let was : IsThere old at × (at.slot ≡ slot) = local_there old slot at e in
+      let now : IsThere new after × (after.slot ≡ slot) = local_there new slot after f in
+      let t : after.table ≡ at.table = same_table at after was.0 now.0 (now.1 ∙ sym was.1) in
+      let here : IsLocalIn at.table at.bytes = local_here old is at was.0 in
+      subst (λ t. HasSameObjects (heap_of at) (heap_in t after.bytes)) (sym t) (same_objects at.table here.0.sound.table at.bytes after.bytes here.1 (long at after was.0 now.0 (now.1 ∙ sym was.1) here.1))),
+)
+  where
+    sizes : HasSameSizes old.world.handles new.world.handles
+    sizes = far_reply old.world.handles new.world.handles command (far_answer_in reply) step.0.0
+
+    same_tables : new.tables ≡ old.tables
+    same_tables = tables_stay old new is step.1 sizes
+
+    same_table : (at after : LocalHeap) → IsThere old at → IsThere new after → after.slot ≡ at.slot → after.table ≡ at.table
+    same_table at after was now e = let some : ◌≡◌ {A = Option Table} (Some after.table) (Some at.table) = sym now.table ∙ ap (λ m. finmap.get m after.slot) same_tables ∙ ap (finmap.get old.tables) e ∙ was.table in cc
+
+    long : (at after : LocalHeap) → IsThere old at → IsThere new after → after.slot ≡ at.slot → at.table.hi ≤ length at.bytes → at.table.hi ≤ length after.bytes
+    long at after was now e le =
+        let some : ◌≡◌ {A = Option ℕ} (Some (length after.bytes)) (Some (length at.bytes)) = sym (ap (option_map length) now.bytes) ∙ sizes after.slot ∙ ap (λ q. size_at old.world.handles q) e ∙ ap (option_map length) was.bytes in
+        let same : length after.bytes ≡ length at.bytes = cc in
+        omega (arith, same, le)

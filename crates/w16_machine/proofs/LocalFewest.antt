@@ -1,0 +1,140 @@
+-- Local calls for room discard as few as they can, as each heap's requests do.
+use Rattle.std.proofs.Common.{◌≡◌, ◌≢◌, ℕ, ◌+◌, ◌*◌, ◌<◌, ◌≤◌, ◌⊎◌, inl, inr, Bool, true, false, cond, ◌&&◌, ◌==◌, MatchBool, MatchOption, IsSomeAnd, Option, Some, None, refl, sym, ap, ◌∙◌, subst, arith, ne_eqb}
+use Rattle.std.specs.FinMap as finmap
+use Rattle.std.proofs.lemmas.Bool.{false≢true}
+use Rattle.w16_model.specs.declared.Block.{Block}
+use Rattle.w16_model.specs.Gap.{block_end}
+use Rattle.w16_model.specs.Heap.{Heap, Object, IsHeap, blocks, object_at, size_of, is_fixed}
+use Rattle.w16_model.specs.Request.{MakesRoom, most_room}
+use Rattle.w16_model.specs.Calls.{has_flag}
+use Rattle.w16_model.specs.Fewest.{AllocatesFewest, CompactsFewest, LacksRoom}
+use Rattle.w16_model.specs.Reallocation.{LacksPlace, ReallocatesFewest}
+use Rattle.w16_model.proofs.Fewest.{allocation_law, compaction_law, lacking}
+use Rattle.w16_model.proofs.Gaps.{Each-at, Each-from_All}
+use Rattle.w16_model.proofs.Heaps.{IsBlockOf, block_member}
+use Rattle.w16_model.proofs.Reallocations.{fewest_law}
+use Rattle.w16_machine.specs.declared.local.TheConstants.{LMEM_MOVEABLE, LMEM_MODIFY}
+use Rattle.w16_machine.specs.Local.{LocalWorld, LocalHeap, IsLocalWorld, Becomes, Acts, Stays, heap_of, local_in, chosen, name_of, name_at, rounded_up}
+use Rattle.w16_machine.specs.LocalCalls.{EntersObject, AllocatesObject, ResizesObject, AllocatesIn, CompactsIn, ModifiesObject, DiscardsObject, SizesObject, IsRefusedAlloc, IsEmptyFixed, HasNoEntry, is_absent_asked, local_kind, local_way}
+use Rattle.w16_machine.specs.LocalCalls.LocalCommand.{LocalAlloc, LocalReAlloc}
+use Rattle.w16_machine.specs.LocalFewest.{Left, AllocFewest, ReallocFewest, AllocLaw, ReallocLaw, CompactLaw}
+use Rattle.w16_machine.proofs.LocalFacts.{IsThere, chosen_there, named_there, there_local, heap_here, acted_there, became_there}
+use Rattle.w16_machine.proofs.LocalNames.{block_placed}
+use Rattle.w16_machine.proofs.LocalOutcomes.{outcome}
+use Rattle.w16_machine.proofs.LocalWorlds.{local_world}
+
+-- no name is 0
+some_name : (heap : Heap) → IsHeap heap → 4 ≤ heap.lo → (id : ℕ) → name_at heap id ≡ Some 0 → ⊥
+some_name heap is low id = turn (object_at heap id)
+  where
+    by_kind : (f : Bool) → cond f (finmap.get heap.places id) (Some (4 * id + 2)) ≡ Some 0 → ⊥
+    by_kind true e =
+        let x : (x : Block) × IsBlockOf heap x × (x.id ≡ id) × (x.at ≡ 0) = block_placed heap is id 0 e in
+        omega (arith, low, x.3, (Each-at (λ x. (heap.lo ≤ x.at) × (0 < x.size) × (block_end x ≤ heap.hi)) (blocks heap) (Each-from_All _ (blocks heap) is.placed.inside) x.0 (block_member heap x.0 x.1)).0)
+    by_kind false e = let same : 4 * id + 2 ≡ 0 = cc in omega (arith, same)
+
+    turn : (p : Option Object) → ◌≡◌ {A = Option ℕ} (elim p [ None ↦ None | Some o ↦ name_of heap id o ]) (Some 0) → ⊥
+    turn None e = cc
+    turn (Some o) e = by_kind (is_fixed o.kind) e
+
+module _ (old : LocalWorld) (is : IsLocalWorld old) (at : LocalHeap) (c : chosen old ≡ Some at) (new : LocalWorld) where
+  there : IsThere old at
+  there = chosen_there old at c
+
+  -- what a step that acted leaves
+  left : (P Q : Heap → Type 0) → ((heap : Heap) → P heap → Q heap) → Acts old at P new → Left new at Q
+  left P Q f a =
+      let mine : LocalHeap = record { slot = at.slot; table = a.table; bytes = a.bytes } in
+      subst (λ p. IsSomeAnd p (λ after. Q (heap_of after))) (sym (there_local new mine (acted_there old new at P there a))) (f (heap_of mine) a.acted)
+
+  -- and what one leaves that stays
+  left_same : (Q : Heap → Type 0) → new ≡ old → Q (heap_of at) → Left new at Q
+  left_same Q same q = subst (λ p. IsSomeAnd p (λ after. Q (heap_of after))) (sym (ap (λ (w : LocalWorld). local_in w at.slot) same ∙ there_local old at there)) q
+
+  -- in a world with local heaps no answered name is 0
+  not_0 : IsLocalWorld new → (P : Heap → Type 0) (id answer : ℕ) → ((heap : Heap) → P heap → name_at heap id ≡ Some answer) → Acts old at P new → answer ≢ 0
+  not_0 now P id answer named a e =
+      let mine : LocalHeap = record { slot = at.slot; table = a.table; bytes = a.bytes } in
+      some_name (heap_of mine) (heap_here new now mine (acted_there old new at P there a)) a.is_local.low id (named (heap_of mine) a.acted ∙ ap Some e)
+
+  allocs : IsLocalWorld new → (flags size answer : ℕ) → AllocatesIn old flags size answer new at → AllocFewest old at flags size answer new
+  allocs now flags size answer (inl refused) = record { answered = λ some _. absurd (some refused.1.0); refused = λ _. (refused.1.1, reason refused.0) }
+    where
+      reason : IsRefusedAlloc (heap_of at) flags size → IsEmptyFixed flags size ⊎ HasNoEntry (heap_of at) ⊎ LacksRoom (heap_of at) None (rounded_up size) (local_way flags)
+      reason (inl fixed) = inl fixed
+      reason (inr (inl full)) = inr (inl full)
+      reason (inr (inr room)) = inr (inr (lacking (heap_of at) (heap_here old is at there) (rounded_up size) None (local_way flags) (local_way flags).compact (local_way flags).discard refl refl room.1))
+  allocs now flags size answer (inr (id, free, makes)) = turn (is_absent_asked flags size) refl makes
+    where
+      with_bytes : 0 < size → is_absent_asked flags size ≡ false
+      with_bytes some = ap (λ b. b && has_flag flags LMEM_MOVEABLE) (ne_eqb size 0 (λ e. absurd (omega (arith, e, some))))
+
+      -- the name of an object without bytes isn't 0
+      entered_some : (next : Heap) → EntersObject (heap_of at) flags id answer next → Becomes old at next new → answer ≢ 0
+      entered_some next e b zero =
+          let mine : LocalHeap = record { slot = at.slot; table = b.table; bytes = at.bytes } in
+          let mine_there : IsThere new mine = became_there old new at next there b in
+          some_name (heap_of mine) (heap_here new now mine mine_there) b.is_local.low id (ap (λ (h : Heap). name_at h id) b.same ∙ e.named ∙ ap Some zero)
+
+      turn : (b : Bool) → is_absent_asked flags size ≡ b → MatchBool b ((next : Heap) × EntersObject (heap_of at) flags id answer next × Becomes old at next new) (Acts old at (AllocatesObject (heap_of at) flags size id answer) new) → AllocFewest old at flags size answer new
+      turn true t e = record { answered = λ _ some. absurd (false≢true (sym (with_bytes some) ∙ t)); refused = λ none. absurd (entered_some e.0 e.1 e.2 none) }
+      turn false t acts = record {
+        answered = λ _ some. (
+          id,
+          left (AllocatesObject (heap_of at) flags size id answer) (λ next. (name_at next id ≡ Some answer) × AllocatesFewest (heap_of at) id (rounded_up size) (local_way flags) true next)
+              (λ next m. (m.named, allocation_law (heap_of at) next id (rounded_up size) (local_kind flags) 0 (local_way flags) true (heap_here old is at there) m.allocated)) acts,
+        );
+        refused = λ none. absurd (not_0 now (AllocatesObject (heap_of at) flags size id answer) id answer (λ next m. m.named) acts none);
+      }
+
+  compacts : (size answer : ℕ) → CompactsIn old size answer new at → Left new at (CompactsFewest (heap_of at) size answer)
+  compacts size answer = turn (size == 0) refl
+    where
+      turn : (b : Bool) → (size == 0) ≡ b → MatchBool b (Stays old (most_room (heap_of at)) answer new) (Acts old at (MakesRoom (heap_of at) size answer) new) → Left new at (CompactsFewest (heap_of at) size answer)
+      turn true e s = left_same (CompactsFewest (heap_of at) size answer) s.1
+          (compaction_law (heap_of at) (heap_of at) size answer (heap_here old is at there) (subst (λ b. MatchBool b ((answer ≡ most_room (heap_of at)) × (heap_of at ≡ heap_of at)) (MakesRoom (heap_of at) size answer (heap_of at))) (sym e) (s.0, refl)))
+      turn false e a = left (MakesRoom (heap_of at) size answer) (CompactsFewest (heap_of at) size answer)
+          (λ next m. compaction_law (heap_of at) next size answer (heap_here old is at there) (subst (λ b. MatchBool b ((answer ≡ most_room (heap_of at)) × (next ≡ heap_of at)) (MakesRoom (heap_of at) size answer next)) (sym e) m)) a
+
+pub local_alloc_law : AllocLaw
+local_alloc_law old new flags size answer at is step c =
+    allocs old is at c new (local_world old is (LocalAlloc flags size) answer new (outcome old (LocalAlloc flags size) answer new step)) flags size answer
+    (subst (λ p. MatchOption p (Stays old 0 answer new) (AllocatesIn old flags size answer new)) c step)
+
+pub local_compact_law : CompactLaw
+local_compact_law old new size answer at is step c = compacts old is at c new size answer (subst (λ p. MatchOption p (Stays old 0 answer new) (CompactsIn old size answer new)) c step)
+
+pub local_realloc_law : ReallocLaw
+local_realloc_law old new name size flags answer o is step named unmodified some =
+    turn (has_flag flags LMEM_MODIFY) unmodified (size == 0) (ne_eqb size 0 (λ e. absurd (omega (arith, e, some)))) (subst (λ p. MatchOption p (Stays old 0 answer new) (λ o. MatchBool (has_flag flags LMEM_MODIFY) (ModifiesObject old name flags answer new o) (MatchBool (size == 0) (DiscardsObject old name flags answer new o) (SizesObject old size flags answer new o)))) named step)
+  where
+    c : chosen old ≡ Some o.heap
+    c = (named_there old name o named).0
+
+    heap : IsHeap (heap_of o.heap)
+    heap = heap_here old is o.heap (chosen_there old o.heap c)
+
+    now : IsLocalWorld new
+    now = local_world old is (LocalReAlloc name size flags) answer new (outcome old (LocalReAlloc name size flags) answer new step)
+
+    refusal : (p : Option Object) → IsSomeAnd p (λ before. ReallocatesFewest (heap_of o.heap) o.id (rounded_up size) before (local_way flags) false (heap_of o.heap))
+        → IsSomeAnd p (λ before. (size_of before < rounded_up size) × LacksPlace (heap_of o.heap) o.id (rounded_up size) before (local_way flags))
+    refusal None h = absurd h
+    refusal (Some before) h = let r : (size_of before < rounded_up size) × LacksPlace (heap_of o.heap) o.id (rounded_up size) before (local_way flags) × (heap_of o.heap ≡ heap_of o.heap) = h.refused refl in (r.0, r.1)
+
+    sizes : SizesObject old size flags answer new o → ReallocFewest old o size flags answer new
+    sizes (inl refused) = record {
+      answered = λ some. absurd (some refused.1.0);
+      refused = λ _. (refused.1.1, refusal (object_at (heap_of o.heap) o.id) (fewest_law (heap_of o.heap) (heap_of o.heap) o.id (rounded_up size) (local_way flags) false heap refused.0));
+    }
+    sizes (inr acts) = record {
+      answered = λ _. left old is o.heap c new (ResizesObject (heap_of o.heap) o.id size flags answer)
+          (λ next. (name_at next o.id ≡ Some answer) × IsSomeAnd (object_at (heap_of o.heap) o.id) (λ before. ReallocatesFewest (heap_of o.heap) o.id (rounded_up size) before (local_way flags) true next))
+          (λ next r. (r.named, fewest_law (heap_of o.heap) next o.id (rounded_up size) (local_way flags) true heap r.resized)) acts;
+      refused = λ none. absurd (not_0 old is o.heap c new now (ResizesObject (heap_of o.heap) o.id size flags answer) o.id answer (λ next r. r.named) acts none);
+    }
+
+    turn : (m : Bool) → m ≡ false → (z : Bool) → z ≡ false → MatchBool m (ModifiesObject old name flags answer new o) (MatchBool z (DiscardsObject old name flags answer new o) (SizesObject old size flags answer new o)) → ReallocFewest old o size flags answer new
+    turn true e z f s = absurd (false≢true (sym e))
+    turn false e true f s = absurd (false≢true (sym f))
+    turn false e false f s = sizes s

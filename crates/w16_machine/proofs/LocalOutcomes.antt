@@ -1,0 +1,178 @@
+-- What a local call does, in four ways: nothing; a heap begins; an object of the chosen heap is changed where it stands; room is made there.
+use Rattle.std.proofs.Common.{◌≡◌, ℕ, ◌⊎◌, inl, inr, Bool, true, false, ◌==◌, MatchBool, MatchOption, Option, Some, None, Result, Ok, Err, refl, sym, subst}
+use Rattle.w16_model.specs.declared.Refusal.{Refusal}
+use Rattle.w16_model.specs.Heap.{Heap}
+use Rattle.w16_model.specs.Request.{MakesRoom, most_room}
+use Rattle.w16_model.specs.Table.{heap_in}
+use Rattle.w16_model.specs.OneObject.{Enters, after_lock, after_unlock, after_free, after_discard, after_modify}
+use Rattle.w16_model.specs.Calls.{has_flag}
+use Rattle.w16_machine.specs.declared.local.TheConstants.{LMEM_MOVEABLE, LMEM_MODIFY}
+use Rattle.w16_machine.specs.Local.{LocalWorld, LocalHeap, LocalObject, Beginning, Becomes, Acts, Stays, IsLowestFree, heap_of, chosen, object_named, id_named, beginning, new_table, with_table}
+use Rattle.w16_machine.specs.LocalCalls.{LocalCommand, Answers, Leaves, GivesUp, EntersObject, AllocatesObject, ResizesObject, is_absent_asked, local_kind, AllocatesIn, CompactsIn, LocalInits, OnNamed, ModifiesObject, DiscardsObject, SizesObject, moveable_or_discardable, lock_refused, locks_left, near_pointer}
+use Rattle.w16_machine.specs.LocalCalls.LocalCommand.{LocalInit, LocalAlloc, LocalReAlloc, LocalDiscard, LocalFree, LocalLock, LocalUnlock, LocalSize, LocalFlags, LocalHandle, LocalCompact, DS}
+use Rattle.w16_machine.specs.LocalLaw.{named_by}
+use Rattle.w16_machine.proofs.LocalFacts.{named_there}
+
+-- an object is changed where it stands
+abbrev pub IsAltered : Heap → ℕ → Heap → Type 0
+IsAltered heap id next =
+    (after_lock heap id ≡ Ok next) ⊎ (after_unlock heap id ≡ Ok next)
+    ⊎ ((flags : ℕ) × (after_modify heap id (moveable_or_discardable flags) ≡ Ok next))
+
+-- the object that a call names
+pub record IsNamedIn (heap : Heap) (command : LocalCommand) (id : ℕ) : Type 0 where
+  pub name : ℕ
+  pub asked : named_by command ≡ Some name
+  pub has : id_named heap name ≡ Some id
+
+-- an object gives its bytes up
+abbrev pub IsGivenUp : Heap → ℕ → Heap → Type 0
+IsGivenUp heap id next = (after_free heap id ≡ Ok next) ⊎ (after_discard heap id ≡ Ok next)
+
+-- room is made: for a new object, for an object's other size, for no object, or by giving bytes up
+abbrev pub IsRoomed : Heap → LocalCommand → ℕ → Heap → Type 0
+IsRoomed heap command answer next =
+    ((flags size id : ℕ) × IsLowestFree heap id × AllocatesObject heap flags size id answer next)
+    ⊎ ((size : ℕ) × MakesRoom heap size answer next)
+    ⊎ ((size flags id : ℕ) × IsNamedIn heap command id × ResizesObject heap id size flags answer next)
+    ⊎ ((id : ℕ) × IsNamedIn heap command id × IsGivenUp heap id next)
+
+-- LocalInit began a heap
+pub record IsInit (old : LocalWorld) (command : LocalCommand) (answer : ℕ) (new : LocalWorld) : Type 0 where
+  pub selector : ℕ
+  pub start : ℕ
+  pub end : ℕ
+  pub begun : Beginning
+  pub asked : command ≡ LocalInit selector start end
+  pub may : beginning old selector start end ≡ Some begun
+  pub answered : answer ≡ 1
+  pub rest : new ≡ with_table old begun.slot (new_table begun.range)
+
+-- an object without bytes is made
+abbrev pub IsEntered : Heap → Heap → Type 0
+IsEntered heap next = (flags size id : ℕ) × (is_absent_asked flags size ≡ true) × Enters heap id (local_kind flags) next
+
+-- a call asks for no room
+abbrev pub IsStepped : Heap → LocalCommand → Heap → Type 0
+IsStepped heap command next = ((id : ℕ) × IsNamedIn heap command id × IsAltered heap id next) ⊎ IsEntered heap next
+
+-- what was done in a local heap
+abbrev pub IsDone : LocalWorld → LocalCommand → ℕ → LocalWorld → LocalHeap → Type 0
+IsDone old command answer new at = ((next : Heap) × IsStepped (heap_of at) command next × Becomes old at next new) ⊎ Acts old at (IsRoomed (heap_of at) command answer) new
+
+abbrev pub Outcome : LocalWorld → LocalCommand → ℕ → LocalWorld → Type 0
+Outcome old command answer new = (new ≡ old) ⊎ IsInit old command answer new ⊎ ((at : LocalHeap) × (chosen old ≡ Some at) × IsDone old command answer new at)
+
+acts_as : (old : LocalWorld) (at : LocalHeap) (P Q : Heap → Type 0) (new : LocalWorld) → ((heap : Heap) → P heap → Q heap) → Acts old at P new → Acts old at Q new
+acts_as old at P Q new f a = record {
+  table = a.table;
+  bytes = a.bytes;
+  is_local = a.is_local;
+  range = a.range;
+  long = a.long;
+  outside = a.outside;
+  are_bytes = a.are_bytes;
+  acted = f (heap_in a.table a.bytes) a.acted;
+  rest = a.rest;
+}
+
+module _ (old : LocalWorld) (command : LocalCommand) (answer : ℕ) (new : LocalWorld) where
+  abbrev Out : Type 0
+  Out = Outcome old command answer new
+
+  stayed : (value : ℕ) → Stays old value answer new → Out
+  stayed value s = inl s.1
+
+  on_chosen : (so : LocalHeap → Type 0) → ((at : LocalHeap) → chosen old ≡ Some at → so at → Out) → MatchOption (chosen old) (Stays old 0 answer new) so → Out
+  on_chosen so f = turn (chosen old) refl
+    where
+      turn : (p : Option LocalHeap) → chosen old ≡ p → MatchOption p (Stays old 0 answer new) so → Out
+      turn None e s = stayed 0 s
+      turn (Some at) e s = f at e s
+
+  on_named : (name otherwise : ℕ) (so : LocalObject → Type 0) → named_by command ≡ Some name → ((o : LocalObject) → chosen old ≡ Some o.heap → IsNamedIn (heap_of o.heap) command o.id → so o → Out) → OnNamed old name otherwise answer new so → Out
+  on_named name otherwise so asked f = turn (object_named old name) refl
+    where
+      turn : (p : Option LocalObject) → object_named old name ≡ p → MatchOption p (Stays old otherwise answer new) so → Out
+      turn None e s = stayed otherwise s
+      turn (Some o) e s =
+          let t : (chosen old ≡ Some o.heap) × (id_named (heap_of o.heap) name ≡ Some o.id) = named_there old name o e in
+          f o t.0 (record { name = name; asked = asked; has = t.1 }) s
+
+  leaves : (o : LocalObject) → chosen old ≡ Some o.heap → IsNamedIn (heap_of o.heap) command o.id → (r : Result Heap Refusal) → ((next : Heap) → r ≡ Ok next → IsAltered (heap_of o.heap) o.id next)
+      → (taken : Heap → ℕ) (refused : Refusal → ℕ) → Leaves old o.heap r taken refused answer new → Out
+  leaves o c named (Ok next) f taken refused l = inr (inr (o.heap, c, inl (next, inl (o.id, named, f next refl), l.1)))
+  leaves o c named (Err refusal) f taken refused l = stayed (refused refusal) l
+
+  gives_up : (o : LocalObject) → chosen old ≡ Some o.heap → IsNamedIn (heap_of o.heap) command o.id → (r : Result Heap Refusal) → ((next : Heap) → r ≡ Ok next → IsGivenUp (heap_of o.heap) o.id next)
+      → (taken refused : ℕ) → GivesUp old o.heap r taken refused answer new → Out
+  gives_up o c named (Ok heap) f taken refused l = inr (inr (
+    o.heap,
+    c,
+    inr (acts_as old o.heap (λ next. next ≡ heap) (IsRoomed (heap_of o.heap) command answer) new
+        (λ next same. inr (inr (inr (o.id, named, subst (IsGivenUp (heap_of o.heap) o.id) (sym same) (f heap refl))))) l.1),
+  ))
+  gives_up o c named (Err refusal) f taken refused l = stayed refused l
+
+  inits : (selector start end : ℕ) → command ≡ LocalInit selector start end → LocalInits old selector start end answer new → Out
+  inits selector start end asked = turn (beginning old selector start end) refl
+    where
+      turn : (p : Option Beginning) → beginning old selector start end ≡ p → MatchOption p (Stays old 0 answer new) (λ b. (answer ≡ 1) × (new ≡ with_table old b.slot (new_table b.range))) → Out
+      turn None e s = stayed 0 s
+      turn (Some b) e s = inr (inl (record { selector = selector; start = start; end = end; begun = b; asked = asked; may = e; answered = s.0; rest = s.1 }))
+
+  allocates : (flags size : ℕ) (at : LocalHeap) → chosen old ≡ Some at → AllocatesIn old flags size answer new at → Out
+  allocates flags size at c (inl refused) = stayed 0 refused.1
+  allocates flags size at c (inr (id, free, makes)) = turn (is_absent_asked flags size) refl makes
+    where
+      turn : (b : Bool) → is_absent_asked flags size ≡ b → MatchBool b ((next : Heap) × EntersObject (heap_of at) flags id answer next × Becomes old at next new) (Acts old at (AllocatesObject (heap_of at) flags size id answer) new) → Out
+      turn true t e = inr (inr (at, c, inl (e.0, inr (flags, size, id, t, e.1.entered), e.2)))
+      turn false t a = inr (inr (at, c, inr (acts_as old at (AllocatesObject (heap_of at) flags size id answer) (IsRoomed (heap_of at) command answer) new (λ heap m. inl (flags, size, id, free, m)) a)))
+
+  compacts : (size : ℕ) (at : LocalHeap) → chosen old ≡ Some at → CompactsIn old size answer new at → Out
+  compacts size at c = turn (size == 0)
+    where
+      turn : (b : Bool) → MatchBool b (Stays old (most_room (heap_of at)) answer new) (Acts old at (MakesRoom (heap_of at) size answer) new) → Out
+      turn true s = stayed (most_room (heap_of at)) s
+      turn false a = inr (inr (at, c, inr (acts_as old at (MakesRoom (heap_of at) size answer) (IsRoomed (heap_of at) command answer) new (λ heap m. inr (inl (size, m))) a)))
+
+  reallocates : (name size flags : ℕ) (o : LocalObject) → chosen old ≡ Some o.heap → IsNamedIn (heap_of o.heap) command o.id
+      → MatchBool (has_flag flags LMEM_MODIFY) (ModifiesObject old name flags answer new o) (MatchBool (size == 0) (DiscardsObject old name flags answer new o) (SizesObject old size flags answer new o)) → Out
+  reallocates name size flags o c named = modify (has_flag flags LMEM_MODIFY)
+    where
+      discards : (b : Bool) → MatchBool b (GivesUp old o.heap (after_discard (heap_of o.heap) o.id) name 0 answer new) (Stays old 0 answer new) → Out
+      discards true l = gives_up o c named (after_discard (heap_of o.heap) o.id) (λ next e. inr e) name 0 l
+      discards false s = stayed 0 s
+
+      sizes : SizesObject old size flags answer new o → Out
+      sizes (inl refused) = stayed 0 refused.1
+      sizes (inr a) = inr (inr (o.heap, c, inr (acts_as old o.heap (ResizesObject (heap_of o.heap) o.id size flags answer) (IsRoomed (heap_of o.heap) command answer) new (λ heap r. inr (inr (inl (size, flags, o.id, named, r)))) a)))
+
+      by_size : (b : Bool) → MatchBool b (DiscardsObject old name flags answer new o) (SizesObject old size flags answer new o) → Out
+      by_size true d = discards (has_flag flags LMEM_MOVEABLE) d
+      by_size false s = sizes s
+
+      modify : (b : Bool) → MatchBool b (ModifiesObject old name flags answer new o) (MatchBool (size == 0) (DiscardsObject old name flags answer new o) (SizesObject old size flags answer new o)) → Out
+      modify true l = leaves o c named (after_modify (heap_of o.heap) o.id (moveable_or_discardable flags)) (λ next e. inr (inr (flags, e))) (λ _. name) (λ _. name) l
+      modify false s = by_size (size == 0) s
+
+pub outcome : (old : LocalWorld) (command : LocalCommand) (answer : ℕ) (new : LocalWorld) → Answers old command answer new → Outcome old command answer new
+outcome old (LocalInit selector start end) answer new step = inits old (LocalInit selector start end) answer new selector start end refl step
+outcome old (LocalAlloc flags size) answer new step = on_chosen old (LocalAlloc flags size) answer new (AllocatesIn old flags size answer new) (allocates old (LocalAlloc flags size) answer new flags size) step
+outcome old (LocalReAlloc name size flags) answer new step =
+    on_named old (LocalReAlloc name size flags) answer new name 0 _ refl (λ o c named s. reallocates old (LocalReAlloc name size flags) answer new name size flags o c named s) step
+outcome old (LocalDiscard name) answer new step = on_named old (LocalDiscard name) answer new name 0 _ refl (λ o c named s. reallocates old (LocalDiscard name) answer new name 0 LMEM_MOVEABLE o c named s) step
+outcome old (LocalFree name) answer new step =
+    on_named old (LocalFree name) answer new name name (λ o. GivesUp old o.heap (after_free (heap_of o.heap) o.id) 0 name answer new) refl
+    (λ o c named l. gives_up old (LocalFree name) answer new o c named (after_free (heap_of o.heap) o.id) (λ next e. inl e) 0 name l) step
+outcome old (LocalLock name) answer new step =
+    on_named old (LocalLock name) answer new name 0 (λ o. Leaves old o.heap (after_lock (heap_of o.heap) o.id) (λ _. near_pointer (heap_of o.heap) o.id) (lock_refused (near_pointer (heap_of o.heap) o.id)) answer new) refl
+    (λ o c named l. leaves old (LocalLock name) answer new o c named (after_lock (heap_of o.heap) o.id) (λ next e. inl e) (λ _. near_pointer (heap_of o.heap) o.id) (lock_refused (near_pointer (heap_of o.heap) o.id)) l) step
+outcome old (LocalUnlock name) answer new step =
+    on_named old (LocalUnlock name) answer new name 0 (λ o. Leaves old o.heap (after_unlock (heap_of o.heap) o.id) (locks_left o.id) (λ _. 0) answer new) refl
+    (λ o c named l. leaves old (LocalUnlock name) answer new o c named (after_unlock (heap_of o.heap) o.id) (λ next e. inr (inl e)) (locks_left o.id) (λ _. 0) l) step
+outcome old (LocalSize name) answer new step = inl step.1
+outcome old (LocalFlags name) answer new step = inl step.1
+outcome old (LocalHandle pointer) answer new step = inl step.1
+outcome old (LocalCompact size) answer new step = on_chosen old (LocalCompact size) answer new (CompactsIn old size answer new) (compacts old (LocalCompact size) answer new size) step
+outcome old (DS selector) answer new step = absurd step

@@ -1,0 +1,42 @@
+-- A local allocation that is answered isn't refused.
+use Rattle.std.proofs.Common.{◌≡◌, ℕ, ◌<◌, inl, inr, Bool, true, false, ◌&&◌, ◌==◌, MatchBool, Option, Some, None, refl, sym, ap, ◌∙◌, arith, ne_eqb}
+use Rattle.std.proofs.lemmas.Bool.{false≢true}
+use Rattle.w16_model.specs.Heap.{Heap, IsHeap}
+use Rattle.w16_model.specs.Changes.{with_newest}
+use Rattle.w16_model.specs.Request.{IsNew, prefix_of}
+use Rattle.w16_model.specs.Calls.{has_flag}
+use Rattle.w16_model.proofs.Prefixes.{none_about}
+use Rattle.w16_model.proofs.Reallocations.{asked}
+use Rattle.w16_machine.specs.declared.local.TheConstants.{LMEM_MOVEABLE}
+use Rattle.w16_machine.specs.Local.{LocalWorld, LocalHeap, Becomes, Acts, IsLowestFree, heap_of, rounded_up}
+use Rattle.w16_machine.specs.LocalCalls.{EntersObject, AllocatesObject, is_absent_asked, local_kind, local_way}
+use Rattle.w16_machine.specs.LocalLaw.{OutcomeLaw}
+
+-- what isn't asked to be without bytes was made with some, for which there was room
+module _ (old new : LocalWorld) (at : LocalHeap) (flags size id answer : ℕ) where
+  abbrev Made : Bool → Type 0
+  Made b = MatchBool b ((next : Heap) × EntersObject (heap_of at) flags id answer next × Becomes old at next new) (Acts old at (AllocatesObject (heap_of at) flags size id answer) new)
+
+  with_bytes : (b : Bool) → b ≡ false → Made b → Acts old at (AllocatesObject (heap_of at) flags size id answer) new
+  with_bytes true e m = absurd (false≢true (sym e))
+  with_bytes false e m = m
+
+  roomed : IsHeap (heap_of at) → IsLowestFree (heap_of at) id → Acts old at (AllocatesObject (heap_of at) flags size id answer) new → prefix_of (heap_of at) (rounded_up size) None (local_way flags) ≡ None → ⊥
+  roomed is free a none = none_some (sym none ∙ sym (none_about (heap_of at) is id free.free.1 (rounded_up size) (local_way flags))
+      ∙ (asked (heap_of at) id (record { way = local_way flags; prefix = prefix_of (heap_of at) (rounded_up size) (Some id) (local_way flags); becomes = IsNew (local_way flags).zero (rounded_up size) (local_kind flags) 0; order = with_newest id }) _ a.acted.allocated.request).1)
+    where
+      none_some : {k : ℕ} → ◌≡◌ {A = Option ℕ} None (Some k) → ⊥
+      none_some e = cc
+
+pub outcome_law : OutcomeLaw
+outcome_law old new at flags size id answer is free made (inl fixed) = nothing size fixed.0 (with_bytes old new at flags size id answer (is_absent_asked flags size) (ap (λ b. (size == 0) && b) fixed.1 ∙ never (size == 0)) made).acted.allocated.some
+  where
+    never : (b : Bool) → (b && false) ≡ false
+    never true = refl
+    never false = refl
+
+    nothing : (n : ℕ) → n ≡ 0 → 0 < rounded_up n → ⊥
+    nothing n e lt = omega (arith, e, lt)
+outcome_law old new at flags size id answer is free made (inr (inl full)) = full id free.free
+outcome_law old new at flags size id answer is free made (inr (inr room)) =
+    roomed old new at flags size id answer is free (with_bytes old new at flags size id answer (is_absent_asked flags size) (ap (λ b. b && has_flag flags LMEM_MOVEABLE) (ne_eqb size 0 (λ e. absurd (omega (arith, e, room.0))))) made) room.1

@@ -1,0 +1,190 @@
+-- The laws that show the definitions of local heaps to be the right ones. Each is the contract of a function of the module `local_laws`.
+use Rattle.std.specs.Prelude.{◌≡◌, ◌≢◌, ℕ, ◌+◌, ◌<◌, ◌≤◌, ◌⊎◌, ◌↔◌, true, List, length, All, Option, Some, None, is_some, option_map, IsSomeAnd}
+use Rattle.std.specs.FinMap as finmap
+use Rattle.w16_model.specs.declared.Span.{Span}
+use Rattle.w16_model.specs.declared.Kind.{Kind}
+use Rattle.w16_model.specs.declared.Kind.TheVariants.{Discardable}
+use Rattle.w16_model.specs.declared.TheConstants.{MOST_SLOTS}
+use Rattle.w16_model.specs.Heap.{Heap, Object, IsHeap, IsMultiple, empty_heap, object_at, bytes_at, is_pinned_object}
+use Rattle.w16_model.specs.Law.{StandsStill}
+use Rattle.w16_model.specs.Far.{FarCommand, IsFarCommand}
+use Rattle.w16_model.specs.Handles.{slot_of_selector}
+use Rattle.w16_model.specs.Table.{Table, IsSameOutside, heap_in}
+use Rattle.w16_machine.specs.declared.local.TheConstants.{LOCAL_GRAIN, LOCAL_ENTRIES, LAST_LOCAL_END, LMEM_MOVEABLE, LMEM_NOCOMPACT, LMEM_NODISCARD, LMEM_ZEROINIT, LMEM_MODIFY, LMEM_DISCARDABLE, LMEM_DISCARDED}
+use Rattle.w16_machine.specs.World.{with_handles}
+use Rattle.w16_machine.specs.Machine as machine
+use Rattle.w16_machine.specs.Machine.{Reply}
+use Rattle.w16_machine.specs.Machine.Reply.{Word}
+use Rattle.w16_machine.specs.Machine.Command.{OfFar}
+use Rattle.w16_machine.specs.Local.{LocalWorld, LocalHeap, Beginning, IsLocalWorld, IsLowestFree, AreNamed, empty_local_world, segment_bytes, heap_of, local_in, chosen, name_at, id_named, id_at, beginning, selector_or_ds, new_table}
+use Rattle.w16_machine.specs.LocalCalls.{LocalCommand, LocalStep, MakesObject, IsRefusedAlloc}
+use Rattle.w16_machine.specs.LocalCalls.LocalCommand.{LocalInit, LocalReAlloc, LocalDiscard, LocalFree, LocalLock, LocalUnlock, LocalSize, LocalFlags}
+use Rattle.w16_machine.specs.LocalMachine.{Command, IsCommand, Step, Event, Run}
+use Rattle.w16_machine.specs.LocalMachine.Command.{OfMachine, OfLocals}
+
+-- The figures.
+
+-- the figures of the profile
+pub record AreFigures : Type 0 where
+  pub grain : LOCAL_GRAIN ≡ 4
+  pub entries : LOCAL_ENTRIES ≡ 1024
+  pub end : LAST_LOCAL_END ≡ 65536
+
+-- the flags of LocalAlloc, LocalReAlloc and LocalFlags, as the manual has them
+pub record AreFlags : Type 0 where
+  pub moveable : LMEM_MOVEABLE ≡ 2
+  pub nocompact : LMEM_NOCOMPACT ≡ 16
+  pub nodiscard : LMEM_NODISCARD ≡ 32
+  pub zeroinit : LMEM_ZEROINIT ≡ 64
+  pub modify : LMEM_MODIFY ≡ 128
+  pub discardable : LMEM_DISCARDABLE ≡ 3840
+  pub discarded : LMEM_DISCARDED ≡ 16384
+
+-- Names.
+
+-- a name, and a near pointer, is found exactly where an object has it: so no two objects have one name, and none begin at one place
+abbrev pub NamesLaw : Type 0
+NamesLaw = (heap : Heap) (name id : ℕ) → IsHeap heap → heap.grain ≡ LOCAL_GRAIN
+    → ((id_named heap name ≡ Some id) ↔ (name_at heap id ≡ Some name)) × ((id_at heap name ≡ Some id) ↔ (finmap.get heap.places id ≡ Some name))
+
+-- each object has a name
+abbrev pub NamedLaw : Type 0
+NamedLaw = (heap : Heap) (id : ℕ) → IsHeap heap → AreNamed heap → is_some (name_at heap id) ≡ is_some (object_at heap id)
+
+-- The beginning of a local heap.
+
+-- What LocalInit asks, and where the new heap lies: the segment has bytes up to the end and no local heap; the start isn't below 4, the end
+-- not over 65,536; and between them there is a whole grain.
+pub record MayBegin (w : LocalWorld) (selector start end : ℕ) (b : Beginning) : Type 0 where
+  pub selected : slot_of_selector w.world.handles (selector_or_ds w selector) ≡ Some b.slot
+  pub none : finmap.get w.tables b.slot ≡ None
+  pub inside : IsSomeAnd (segment_bytes w b.slot) (λ bytes. end ≤ length bytes)
+  pub low : 4 ≤ start
+  pub high : end ≤ 65536
+  pub from : IsMultiple 4 b.range.from × (start ≤ b.range.from) × (b.range.from < start + 4)
+  pub to : IsMultiple 4 b.range.to × (b.range.to ≤ end) × (end < b.range.to + 4)
+  pub some : b.range.from < b.range.to
+
+abbrev pub BeginLaw : Type 0
+BeginLaw = (w : LocalWorld) (selector start end : ℕ) (b : Beginning) → (beginning w selector start end ≡ Some b) ↔ MayBegin w selector start end b
+
+-- a new heap has no object
+abbrev pub NewHeapLaw : Type 0
+NewHeapLaw = (range : Span) (bytes : List ℕ) → heap_in (new_table range) bytes ≡ empty_heap range.from range.to LOCAL_GRAIN
+
+-- Worlds.
+
+abbrev pub EmptyLaw : Type 0
+EmptyLaw = (memory slots : ℕ) → slots ≤ MOST_SLOTS → IsLocalWorld (empty_local_world memory slots)
+
+-- each step of each family keeps what holds of every world with local heaps
+abbrev pub WorldLaw : Type 0
+WorldLaw = (old new : LocalWorld) (command : Command) (reply : Reply) → IsLocalWorld old → IsCommand command → Step old command reply new → IsLocalWorld new
+
+-- so does each run
+abbrev pub RunLaw : Type 0
+RunLaw = (old new : LocalWorld) (events : List Event) → IsLocalWorld old → All (λ e. IsCommand e.command) events → Run old events new → IsLocalWorld new
+
+-- What a local call leaves.
+
+-- the segment of a local heap has as many bytes as before, and outside the heap's range the same
+pub record IsRewritten (at : LocalHeap) (before after : Object) : Type 0 where
+  pub kind : after.kind ≡ before.kind
+  pub locks : after.locks ≡ before.locks
+  pub had : before.bytes ≡ Some at.bytes
+  pub has : IsSomeAnd after.bytes (λ bytes. (length bytes ≡ length at.bytes) × IsSameOutside at.table.lo at.table.hi at.bytes bytes)
+
+-- the slot's object is as it was, but for bytes in the range of the local heap that DS names
+abbrev pub IsObjectKept : LocalWorld → LocalWorld → ℕ → Type 0
+IsObjectKept old new slot =
+    (object_at new.world.handles.heap slot ≡ object_at old.world.handles.heap slot)
+    ⊎ IsSomeAnd (chosen old) (λ at. (at.slot ≡ slot)
+    × IsSomeAnd (object_at old.world.handles.heap slot) (λ before. IsSomeAnd (object_at new.world.handles.heap slot) (IsRewritten at before)))
+
+-- so is each local heap but the one that DS names, which keeps its range; where there was none one may have begun
+abbrev pub IsHeapKept : LocalWorld → LocalWorld → ℕ → Type 0
+IsHeapKept old new slot =
+    (finmap.get new.tables slot ≡ finmap.get old.tables slot)
+    ⊎ (finmap.get old.tables slot ≡ None)
+    ⊎ IsSomeAnd (chosen old) (λ at. (at.slot ≡ slot) × IsSomeAnd (finmap.get new.tables slot) (λ t. (t.lo ≡ at.table.lo) × (t.hi ≡ at.table.hi)))
+
+-- Whatever a local call answers: no address, no order of use and no other part of the handles changes, the number of bytes moved among them.
+pub record KeepsRest (old new : LocalWorld) : Type 0 where
+  pub handles : new.world.handles ≡ record old.world.handles { heap = record old.world.handles.heap { objects = new.world.handles.heap.objects } }
+  pub world : new.world ≡ with_handles old.world new.world.handles
+  pub objects : (slot : ℕ) → IsObjectKept old new slot
+  pub heaps : (slot : ℕ) → IsHeapKept old new slot
+
+abbrev pub FrameLaw : Type 0
+FrameLaw = (old new : LocalWorld) (command : LocalCommand) (reply : Reply) → IsLocalWorld old → LocalStep old command reply new → KeepsRest old new
+
+-- Inside the local heap.
+
+-- the name in a call
+abbrev pub named_by : LocalCommand → Option ℕ
+named_by (LocalReAlloc name size flags) = Some name
+named_by (LocalDiscard name) = Some name
+named_by (LocalFree name) = Some name
+named_by (LocalLock name) = Some name
+named_by (LocalUnlock name) = Some name
+named_by (LocalSize name) = Some name
+named_by (LocalFlags name) = Some name
+named_by other = None
+
+-- an object that a call doesn't name keeps all, or it was discardable and not locked and loses its bytes alone; a fixed or locked one keeps its near pointer
+pub record IsLocalKept (old new : Heap) (q : ℕ) (o : Object) : Type 0 where
+  pub object : (object_at new q ≡ Some o) ⊎ ((o.kind ≡ Discardable) × (o.locks ≡ 0) × (object_at new q ≡ Some (record o { bytes = None })))
+  pub place : is_pinned_object o ≡ true → StandsStill old new q
+
+abbrev pub OthersLaw : Type 0
+OthersLaw = (old new : LocalWorld) (command : LocalCommand) (reply : Reply) (at after : LocalHeap) (q : ℕ) (o : Object) → IsLocalWorld old → LocalStep old command reply new
+    → chosen old ≡ Some at → local_in new at.slot ≡ Some after
+    → object_at (heap_of at) q ≡ Some o → ((name : ℕ) → named_by command ≡ Some name → name_at (heap_of at) q ≢ Some name) → IsLocalKept (heap_of at) (heap_of after) q o
+
+-- an allocation isn't both refused and answered
+abbrev pub OutcomeLaw : Type 0
+OutcomeLaw = (old new : LocalWorld) (at : LocalHeap) (flags size id answer : ℕ) → IsHeap (heap_of at) → IsLowestFree (heap_of at) id → MakesObject old at flags size id answer new → IsRefusedAlloc (heap_of at) flags size → ⊥
+
+-- Far accesses.
+
+-- all of an object but what its bytes are
+abbrev pub but_bytes : Object → Kind × ℕ × Option ℕ
+but_bytes o = (o.kind, o.locks, option_map length o.bytes)
+
+-- a far access leaves each local heap but for bytes of its objects: each has as many, its kind, its locks and its near pointer
+pub record HasSameObjects (old new : Heap) : Type 0 where
+  pub rest : new ≡ record old { objects = new.objects }
+  pub objects : (id : ℕ) → option_map but_bytes (object_at new id) ≡ option_map but_bytes (object_at old id)
+
+abbrev pub FarLaw : Type 0
+FarLaw = (old new : LocalWorld) (command : FarCommand) (reply : Reply) → IsLocalWorld old → IsFarCommand command → Step old (OfMachine (OfFar command)) reply new
+    → (new.tables ≡ old.tables) × ((slot : ℕ) (at after : LocalHeap) → local_in old slot ≡ Some at → local_in new slot ≡ Some after → HasSameObjects (heap_of at) (heap_of after))
+
+-- Heaps that go.
+
+-- a step of the other families leaves a local heap exactly where its segment still has its range
+abbrev pub GoesLaw : Type 0
+GoesLaw = (old new : LocalWorld) (command : machine.Command) (reply : Reply) → Step old (OfMachine command) reply new → (slot : ℕ) (t : Table)
+    → (finmap.get new.tables slot ≡ Some t) ↔ ((finmap.get old.tables slot ≡ Some t) × IsSomeAnd (bytes_at new.world.handles.heap slot) (λ bytes. t.hi ≤ length bytes))
+
+-- a heap began: LocalInit answered 1, and it has no object
+pub record IsBegun (command : Command) (reply : Reply) (new : LocalWorld) (slot : ℕ) : Type 0 where
+  pub selector : ℕ
+  pub start : ℕ
+  pub end : ℕ
+  pub asked : command ≡ OfLocals (LocalInit selector start end)
+  pub answered : reply ≡ Word 1
+  pub range : Span
+  pub begun : finmap.get new.tables slot ≡ Some (new_table range)
+
+-- where there is no local heap there is none after a step, unless one began
+abbrev pub NeverBackLaw : Type 0
+NeverBackLaw = (old new : LocalWorld) (command : Command) (reply : Reply) → Step old command reply new → (slot : ℕ) → finmap.get old.tables slot ≡ None
+    → (finmap.get new.tables slot ≡ None) ⊎ IsBegun command reply new slot
+
+-- so a heap that is gone is gone after any run in which no LocalInit is answered 1
+abbrev pub BeginsNone : Event → Type 0
+BeginsNone event = (selector start end : ℕ) → event.command ≡ OfLocals (LocalInit selector start end) → event.reply ≢ Word 1
+
+abbrev pub GoneLaw : Type 0
+GoneLaw = (old new : LocalWorld) (events : List Event) → Run old events new → All BeginsNone events → (slot : ℕ) → finmap.get old.tables slot ≡ None → finmap.get new.tables slot ≡ None

@@ -1,0 +1,80 @@
+//! The laws of local heaps. Each function does nothing: its contract is the law.
+ghost use Rattle.w16_machine.specs.LocalLaw.{AreFigures, AreFlags, BeginLaw, EmptyLaw, FarLaw, FrameLaw, GoesLaw, GoneLaw, NamedLaw, NamesLaw, NeverBackLaw, NewHeapLaw, OthersLaw, OutcomeLaw, RunLaw, WorldLaw};
+ghost use Rattle.w16_machine.specs.LocalFewest.{AllocLaw, CompactLaw, ReallocLaw};
+ghost use Rattle.w16_machine.specs.LocalRuns.{FewestLaw};
+ghost use Rattle.w16_machine.specs.LocalStays.{SizesLaw, TablesLaw};
+
+/// The figures of local heaps and the flags of the Local calls are these numbers.
+pub fn figures_of_local_heaps()
+    ensures figures { AreFigures }
+    ensures flags { AreFlags }
+{}
+
+/// In a local heap a name, and a near pointer, is found exactly where an object has it: no two objects have one name. Each has one.
+pub fn local_names_are_exact()
+    ensures names { NamesLaw }
+    ensures named { NamedLaw }
+{}
+
+/// A local heap begins exactly where these conditions hold, over the range from start rounded up to end rounded down, and without objects.
+pub fn local_heaps_begin_empty()
+    ensures begin { BeginLaw }
+    ensures empty { NewHeapLaw }
+{}
+
+/// Each step of each family keeps what holds of every world with local heaps: each lies in its segment, and no two of its objects share a
+/// byte. So do whole runs.
+pub fn steps_keep_local_worlds()
+    ensures begin { EmptyLaw }
+    ensures step { WorldLaw }
+    ensures run { RunLaw }
+{}
+
+/// A local call changes bytes in the range of the chosen heap alone, and no address, no order of use and no other heap of the world.
+pub fn local_calls_keep_the_rest()
+    ensures { FrameLaw }
+{}
+
+/// A local heap goes exactly where its segment loses its range, and only LocalInit brings one, which has no object.
+pub fn local_heaps_never_come_back()
+    ensures goes { GoesLaw }
+    ensures never { NeverBackLaw }
+    ensures gone { GoneLaw }
+{}
+
+/// An object of the chosen heap that a local call doesn't name keeps its kind, its locks and its bytes, or is discarded; a fixed or locked
+/// one keeps its near pointer.
+pub fn local_calls_keep_other_objects()
+    ensures { OthersLaw }
+{}
+
+/// A local allocation isn't both refused and answered.
+pub fn local_allocations_have_one_outcome()
+    ensures { OutcomeLaw }
+{}
+
+/// A far access changes bytes of local objects, and nothing else of any local heap.
+pub fn far_accesses_keep_local_heaps()
+    ensures { FarLaw }
+{}
+
+/// A local call for room discards as few objects of its heap as it can, whichever way the others slide, and is refused for room only where
+/// no discards would have made it; then nothing changes.
+pub fn local_calls_discard_fewest()
+    ensures alloc { AllocLaw }
+    ensures realloc { ReallocLaw }
+    ensures compact { CompactLaw }
+{}
+
+/// In every run of the machine with local heaps each call for room discards as few objects as it can, of the global heap or of a local one,
+/// and is refused for room only where no discards would have made it.
+pub fn local_runs_discard_fewest()
+    ensures { FewestLaw }
+{}
+
+/// GlobalAlloc, GlobalFree, GlobalReAlloc, GlobalDiscard and GlobalCompact alone may take bytes of an object: a step of any other command
+/// leaves each as many, and each local heap its table.
+pub fn other_steps_keep_local_heaps()
+    ensures sizes { SizesLaw }
+    ensures tables { TablesLaw }
+{}

@@ -1,0 +1,12 @@
+use Rattle.std.proofs.Common.{ℕ, List, ap, ◌∙◌}
+use Rattle.w16_region.specs.Bytes.{word_in}
+use Rattle.w16_region.proofs.Words.{items-put_word, word_in-put_word}
+use Rattle.w16_region.proofs.region.Region.set_word.Goals as goal
+
+pub returns-clause-bytes : goal.returns-clause-bytes
+returns-clause-bytes c = items-put_word c.args.self.now.bytes c.args.at c.args.value c.lend_part.result.now c.write_u32.new.buf c.requires c.lend_part.ensures.value c.write_u32.ensures
+
+pub returns-clause-word : goal.returns-clause-word
+returns-clause-word c =
+    ap (λ (l : List ℕ). word_in l c.args.at) (items-put_word c.args.self.now.bytes c.args.at c.args.value c.lend_part.result.now c.write_u32.new.buf c.requires c.lend_part.ensures.value c.write_u32.ensures)
+    ∙ word_in-put_word c.args.self.now.bytes.items c.args.at c.args.value c.requires c.ranges.value.fits

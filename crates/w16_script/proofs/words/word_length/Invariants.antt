@@ -1,0 +1,7 @@
+use Rattle.std.proofs.Common.{◌≡◌, ℕ, ◌<◌, get_or, false}
+use Rattle.w16_script.specs.Words.{is_blank}
+use Rattle.w16_script.proofs.words.word_length.Given as goal
+
+-- no blank stands before this byte
+abbrev pub invariant-bytes : goal.invariant-bytes
+invariant-bytes l = record { before : (k : ℕ) → k < l.at → is_blank (get_or l.text k 0) ≡ false }
