@@ -1,9 +1,8 @@
-ghost use Rattle.std.specs.Prelude.{All};
 ghost use Rattle.w16_kernel.specs.Runs.{IsCall};
 
 use std::alloc::{AllocError, Global};
 use std::test::Fail;
-use w16_kernel::{Answer, Call, Kernel, MOST_READ, Reply};
+use w16_kernel::{Call, Kernel, MOST_READ, Reply};
 use w16_model::{FarFault, Item, Kind, Owner};
 
 /// A machine over 4,096 bytes and 16 selectors.
@@ -266,89 +265,5 @@ fn reallocates(rt: HostRuntime) -> Result<(), Fail> {
         word(&mut kernel, Call::GlobalFlags { handle: 0x106 }),
         Some(0x4100)
     );
-    Ok(())
-}
-
-/// Calls on a local heap of 60 bytes.
-fn local_calls() -> [Call<'static>; 14]
-    ensures { All IsCall result }
-{
-    [
-        Call::GlobalAlloc {
-            flags: 0x42,
-            size: 64,
-        },
-        Call::LocalInit {
-            selector: 0x107,
-            start: 4,
-            end: 64,
-        },
-        Call::DS { selector: 0x107 },
-        Call::LocalAlloc { flags: 2, size: 8 },
-        Call::LocalAlloc {
-            flags: 0x102,
-            size: 0,
-        },
-        Call::LocalLock { name: 2 },
-        Call::LocalUnlock { name: 2 },
-        Call::LocalSize { name: 2 },
-        Call::LocalFlags { name: 6 },
-        Call::LocalHandle { pointer: 4 },
-        Call::LocalReAlloc {
-            name: 2,
-            size: 12,
-            flags: 0,
-        },
-        Call::LocalDiscard { name: 6 },
-        Call::LocalCompact { size: 0 },
-        Call::LocalFree { name: 2 },
-    ]
-}
-
-/// The words that they are answered; DS has none.
-const LOCAL_WORDS: [Option<u16>; 14] = [
-    Some(0x106),
-    Some(1),
-    None,
-    Some(2),
-    Some(6),
-    Some(4),
-    Some(0),
-    Some(8),
-    Some(0x4F00),
-    Some(2),
-    Some(2),
-    Some(6),
-    Some(48),
-    Some(0),
-];
-
-/// The word of an answer, or none.
-fn word_of(answer: &Answer) -> Option<u16> {
-    match answer {
-        Answer::Word(word) => Some(*word),
-        _ => None,
-    }
-}
-
-/// Whether the answers have these words.
-fn have_words(answers: &[Answer], words: &[Option<u16>]) -> bool {
-    if answers.len() != words.len() {
-        return false;
-    }
-    for i in 0..words.len() {
-        if word_of(&answers[i]) != words[i] {
-            return false;
-        }
-    }
-    true
-}
-
-#[test]
-fn local_calls_are_answered(rt: HostRuntime) -> Result<(), Fail> {
-    let mut kernel = small(rt.alloc())?;
-    let calls = local_calls();
-    let answers = kernel.run_calls(calls.as_slice())?;
-    assert!(rt; have_words(answers.as_slice(), LOCAL_WORDS.as_slice()));
     Ok(())
 }
