@@ -73,7 +73,7 @@ impl Bench {
             return Told::Other;
         }
         match self.kernel.call(call, &mut [0; MOST_READ]) {
-            Ok(reply) => told(&reply),
+            Ok(reply) => as_told(&reply),
             Err(_) => Told::Other,
         }
     }
@@ -102,7 +102,7 @@ fn fits(call: &Call<'_>) -> bool
 }
 
 /// A reply, as a table has it.
-fn told(reply: &Reply<'_>) -> Told {
+fn as_told(reply: &Reply<'_>) -> Told {
     match *reply {
         Reply::Word(word) => Told::Word(word),
         Reply::Dword(dword) => Told::Dword(dword),
