@@ -1,11 +1,38 @@
 //! The last block below an address, for walks from high addresses to low ones.
-ghost use Rattle.std.specs.Prelude.{◌≤◌, length, MatchOption};
+ghost use Rattle.std.specs.Prelude.{◌≡◌, ◌<◌, ◌≤◌, ℕ, IsTrue, length, slice_index, MatchOption};
 ghost use Rattle.std.specs.List.{AllByRecursion};
 ghost use Rattle.w16_blocks.specs.Below.{IsLastBelow};
 ghost use Rattle.w16_blocks.specs.Kept.{blocks_in, AreTables};
 
 use crate::{Block, Blocks, Span};
 use w16_holes::HoleList;
+
+/// How many cells are looked at together.
+const TOGETHER: usize = 8;
+
+/// Whether no block begins in these cells. Their bits together have no branch, so all are looked at at once.
+fn are_blank(cells: &[u32; TOGETHER]) -> bool
+    ensures { IsTrue result → (k : ℕ) → k < TOGETHER → slice_index cells.now k ≡ 0 }
+{
+    let [a, b, c, d, e, f, g, h] = *cells;
+    (a | b | c | d) | (e | f | g | h) == 0
+}
+
+/// Up to which cell below another a block may begin: those behind it were looked at together, and none does.
+fn last_filled(begins: &[u32], below: usize) -> usize
+    requires { below ≤ length begins.now }
+    ensures within { result ≤ below }
+    ensures blank { (k : ℕ) → result ≤ k → k < below → slice_index begins.now k ≡ 0 }
+{
+    let mut end = below;
+    'together: while let Some((_, cells)) = begins[..end].split_last_chunk::<TOGETHER>() {
+        if !are_blank(cells) {
+            return end;
+        }
+        end -= TOGETHER;
+    }
+    end
+}
 
 /// The last block that the cells tell below a place.
 pub(crate) fn block_below(
@@ -20,7 +47,7 @@ pub(crate) fn block_below(
         MatchOption result (AllByRecursion (λ b. place ≤ b.at) blocks) (IsLastBelow blocks place) }
 {
     let below = place.saturating_sub(bounds.from).div_ceil(grain) as usize;
-    for unit in (0..below.min(begins.len())).rev() {
+    for unit in (0..last_filled(begins, below.min(begins.len()))).rev() {
         let begin = begins[unit] as usize;
         if begin > 0 {
             return Some(slots[begin - 1]);

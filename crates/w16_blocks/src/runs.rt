@@ -125,13 +125,11 @@ impl<H: HoleList> Blocks<H> {
     {
         let size = run.to - run.from;
         let apart = size.min(run.from - to);
-        self.holes.take(space, to, apart);
-        space.slide(run.from, to, size);
-        self.holes.put(space, run.to - apart, apart);
         let bounds = Span {
             from: self.lo,
             to: self.hi,
         };
+        // Before the bytes, so that the tables are still near from the look for the run's end.
         retag_run(
             &mut self.slots,
             &mut self.begins,
@@ -140,5 +138,8 @@ impl<H: HoleList> Blocks<H> {
             run,
             to,
         );
+        self.holes.take(space, to, apart);
+        space.slide(run.from, to, size);
+        self.holes.put(space, run.to - apart, apart);
     }
 }

@@ -2,10 +2,11 @@
 use Rattle.std.proofs.Common.{ℕ, zero, suc, ◌≡◌, ◌<◌, ◌≤◌, ◌+◌, ◌*◌, List, [], ◌∷◌, Option, Some, None, option_map, arith, refl, sym, ap, ◌∙◌, subst, inl, inr}
 use Rattle.std.specs.Prelude.{slice_index}
 use Rattle.std.proofs.lemmas.Bool.{cases_lt, lt-ltb, le-ltb}
+use Rattle.std.proofs.lemmas.Option.{none-some, same_Some}
 use Rattle.w16_tree.specs.Last.{last_below}
 use Rattle.w16_holes.specs.Holes.{last_before}
 use Rattle.w16_holes.specs.Cells.{spans}
-use Rattle.w16_holes.proofs.Units.{up, above}
+use Rattle.w16_holes.proofs.Units.{up, above, at_most}
 use Rattle.w16_holes.proofs.Told.{IsLastOf, last_told}
 
 -- none begins below a place before all holes
@@ -53,3 +54,24 @@ pub last_lower : (g : ℕ) (ns : List ℕ) (q k : ℕ) → Some k ≡ last_below
 last_lower g ns q k is =
     let told : IsLastOf ns q (Some k) = subst (IsLastOf ns q) (sym is) (last_told ns q) in
     let lt = told.0 in up g k q (omega arith)
+
+-- a place has one cell
+one_cell : (g u : ℕ) (r s : Option ℕ) → 0 < g → option_map (λ (k : ℕ). u + g * k) r ≡ option_map (λ (k : ℕ). u + g * k) s → r ≡ s
+one_cell g u None None wide e = refl
+one_cell g u None (Some j) wide e = absurd (none-some (u + g * j) e)
+one_cell g u (Some k) None wide e = absurd (none-some (u + g * k) (sym e))
+one_cell g u (Some k) (Some j) wide e =
+    let same : u + g * k ≡ u + g * j = same_Some (u + g * k) (u + g * j) e in
+    let le = at_most g k j wide (omega arith) in let ge = at_most g j k wide (omega arith) in
+    let is : k ≡ j = omega arith in ap (λ (n : ℕ). Some n) is
+
+-- the last hole below a place, told by its cell
+pub last_cell : (g u q a : ℕ) (ns : List ℕ) (r : Option ℕ) → 0 < g → u + g * q ≡ a → option_map (λ (k : ℕ). u + g * k) r ≡ last_before a (spans g u ns) → r ≡ last_below ns q
+last_cell g u q a ns r wide at is = one_cell g u r (last_below ns q) wide (is ∙ sym (last_is g u q a ns (last_below ns q) wide at refl))
+
+-- a cell more
+pub last_here : (ns : List ℕ) (i : ℕ) → 0 < slice_index ns i → Some i ≡ last_below ns (i + 1)
+last_here ns i has = let e : suc i ≡ i + 1 = omega arith in subst (λ (n : ℕ). Some i ≡ last_below ns n) e (rw (lt-ltb 0 (slice_index ns i) has) refl)
+
+pub last_lower_down : (ns : List ℕ) (i : ℕ) → slice_index ns i ≤ 0 → last_below ns i ≡ last_below ns (i + 1)
+last_lower_down ns i none = let e : suc i ≡ i + 1 = omega arith in subst (λ (n : ℕ). last_below ns i ≡ last_below ns n) e (rw (le-ltb 0 (slice_index ns i) none) refl)

@@ -1,5 +1,5 @@
 -- The cells of a range after a part was taken or put.
-use Rattle.std.proofs.Common.{ℕ, ◌≡◌, ◌<◌, ◌+◌, ◌*◌, ◌-◌, List, set, Some, arith, sym, ap, ◌∙◌, subst}
+use Rattle.std.proofs.Common.{ℕ, zero, suc, [], ◌∷◌, refl, ◌≡◌, ◌<◌, ◌+◌, ◌*◌, ◌-◌, List, set, Some, arith, sym, ap, ◌∙◌, subst}
 use Rattle.std.specs.Prelude.{slice_index}
 use Rattle.std.proofs.lemmas.List.{length-set}
 use Rattle.w16_tree.specs.Last.{last_below}
@@ -10,6 +10,14 @@ use Rattle.w16_holes.proofs.Look.{are_holes}
 
 pub AreHoles-cells : (r : Range) (ns : List ℕ) → AreCells r ns → AreHoles r.lo r.hi (spans r.grain r.lo ns)
 AreHoles-cells r ns cells = are_holes r.grain ns r.lo r.hi cells.ordered cells.apart cells.inside
+
+-- two cells may be set in either order
+pub sets_apart : (ns : List ℕ) (i j x y : ℕ) → (i ≡ j → ⊥) → set (set ns i x) j y ≡ set (set ns j y) i x
+sets_apart [] i j x y other = refl
+sets_apart (n ∷ ns) zero zero x y other = absurd (other refl)
+sets_apart (n ∷ ns) zero (suc j) x y other = refl
+sets_apart (n ∷ ns) (suc i) zero x y other = refl
+sets_apart (n ∷ ns) (suc i) (suc j) x y other = ap (λ (l : List ℕ). n ∷ l) (sets_apart ns i j x y (λ e. other (ap (λ (k : ℕ). suc k) e)))
 
 -- two cells set, in other words
 pub two_sets : (ns one two : List ℕ) (i j x y v w : ℕ) → one ≡ set ns i x → two ≡ set one j y → x ≡ v → y ≡ w → two ≡ set (set ns i v) j w

@@ -190,7 +190,7 @@ module _ {g u size : ℕ} {ns : List ℕ} {a b p q : ℕ} (t : IsTake g u size n
       | inr none ↦ omega arith
     ]
 
-    k_below_q : k < q
+    pub k_below_q : k < q
     k_below_q = let from = take_from in below g k q (omega arith)
 
     -- nothing is left behind
@@ -276,6 +276,9 @@ module _ {g u size : ℕ} {ns : List ℕ} {a b p q k : ℕ} (t : IsPut g u size 
 
   p_below_q : p < q
   p_below_q = below g p q (omega arith)
+
+  pub put_before : k < q
+  put_before = let from = begin_from in let less = p_below_q in omega arith
 
   here : slice_index ns k ≡ g * p - g * k
   here = elim t.begin [

@@ -1,8 +1,9 @@
 //! Holes beside the memory.
-ghost use Rattle.std.specs.Prelude.{◌≡◌, ◌+◌, ◌*◌, ◌-◌, ◌^◌, ◌<◌, ◌≤◌, ◌∷◌, [], ℕ, length, slice_index, IfOk};
+ghost use Rattle.std.specs.Prelude.{◌≡◌, ◌+◌, ◌*◌, ◌-◌, ◌^◌, ◌<◌, ◌≤◌, ◌∷◌, [], ℕ, length, slice_index, option_map, IfOk};
 ghost use Rattle.w16_model.specs.Heap.{IsMultiple};
-ghost use Rattle.w16_holes.specs.Holes.{AreHoles, IsFree, IsUsed, IsPlace, IsPart, last_before, taken, joined, add_span};
+ghost use Rattle.w16_holes.specs.Holes.{AreHoles, IsFree, IsUsed, IsPlace, IsPart, last_before, length_to, taken, joined, add_span};
 ghost use Rattle.w16_holes.specs.Cells.{IsApart, IsInside, IsBeginOf};
+ghost use Rattle.w16_tree.specs.Last.{last_below};
 
 use crate::{HoleList, Holes, units_in};
 use std::alloc::{AllocError, Global};
@@ -30,17 +31,38 @@ fn bytes_before(unit: usize, grain: u32) -> u32
     unit as u32 * grain
 }
 
-/// The unit where the hole begins that ends where a unit begins, or that unit where none does.
-fn begin_of(lengths: &Maxima, grain: u32, unit: usize) -> usize
+/// Where the last hole begins that begins below a place, if there is one: in which unit, and at which address.
+#[derive(Clone, Copy)]
+pub(crate) struct Below {
+    pub(crate) unit: Option<usize>,
+    pub(crate) begin: Option<u32>,
+}
+
+/// The unit where the last hole begins that begins in a unit or below it, by the one below it.
+fn last_to(lengths: &Maxima, unit: usize, below: Option<usize>) -> Option<usize>
+    requires inside { unit < length lengths.now }
+    requires below { below ≡ last_below lengths.now unit }
+    ensures { result ≡ last_below lengths.now (unit + 1) }
+{
+    if lengths.get(unit) > 0 {
+        Some(unit)
+    } else {
+        below
+    }
+}
+
+/// The unit where the hole begins that ends where a unit begins, or that unit where none does, by the last one that begins below it.
+fn begin_of(lengths: &Maxima, grain: u32, unit: usize, below: Option<usize>) -> usize
     requires some { 0 < grain }
     requires small { grain * unit < 2 ^ 32 }
     requires inside { unit ≤ length lengths.now }
     requires apart { IsApart grain lengths.now }
     requires fits { IsInside grain (2 ^ 32 - 1) lengths.now }
+    requires below { below ≡ last_below lengths.now unit }
     ensures { IsBeginOf grain unit lengths.now result }
 {
     let end = bytes_before(unit, grain);
-    match lengths.last_below(unit) {
+    match below {
         Some(begin) if bytes_before(begin, grain) + lengths.get(begin) == end => begin,
         _ => unit,
     }
@@ -88,20 +110,39 @@ impl SideHoles {
     }
 
     /// Where the last hole begins that begins below a place.
-    pub fn below(&self, place: u32) -> Option<u32>
+    pub(crate) fn below(&self, place: u32) -> Below
         requires { IsPlace self.now.range place }
-        ensures value { result ≡ last_before place self.now.holes }
+        ensures value { result.begin ≡ last_before place self.now.holes }
+        ensures unit { option_map (λ k. self.now.range.lo + self.now.range.grain * k) result.unit ≡ last_before place self.now.holes }
         ensures ordered { AreHoles self.now.range.lo self.now.range.hi self.now.holes }
     {
         let unit = unit_of(place, self.lo, self.grain);
-        if let Some(begin) = self.lengths.last_below(unit) {
-            return Some(self.lo + bytes_before(begin, self.grain));
+        let Some(begin) = self.lengths.last_below(unit) else {
+            return Below {
+                unit: None,
+                begin: None,
+            };
+        };
+        Below {
+            unit: Some(begin),
+            begin: Some(self.lo + bytes_before(begin, self.grain)),
         }
-        None
     }
 
-    /// Takes `n` bytes from a place on, which are a part of one hole.
-    pub(crate) fn take_out(&mut self, place: u32, n: u32)
+    /// The length of the hole that ends at a place, 0 where none does. The last hole below the place is known.
+    pub(crate) fn length_below(&self, place: u32, below: Option<usize>) -> u32
+        requires place { IsPlace self.now.range place }
+        requires below { option_map (λ k. self.now.range.lo + self.now.range.grain * k) below ≡ last_before place self.now.holes }
+        ensures { result ≡ length_to place self.now.holes }
+    {
+        let unit = unit_of(place, self.lo, self.grain);
+        let begin = begin_of(&self.lengths, self.grain, unit, below);
+        place - self.lo - bytes_before(begin, self.grain)
+    }
+
+    /// Takes `n` bytes from a place on, which are a part of one hole. The last hole below the place is known.
+    pub(crate) fn take_out(&mut self, place: u32, n: u32, below: Option<usize>)
+        requires below { option_map (λ k. self.old.range.lo + self.old.range.grain * k) below ≡ last_before place self.old.holes }
         requires part { IsPart self.old.range place n }
         requires free { IsFree place (place + n) self.old.holes }
         ensures holes { self.new.holes ≡ taken place (place + n) self.old.holes }
@@ -109,17 +150,19 @@ impl SideHoles {
     {
         let unit = unit_of(place, self.lo, self.grain);
         let next = unit_of(place + n, self.lo, self.grain);
-        if let Some(begin) = self.lengths.last_below(unit + 1) {
+        if let Some(begin) = last_to(&self.lengths, unit, below) {
             let from = bytes_before(begin, self.grain);
             let end = from + self.lengths.get(begin);
-            self.lengths.set(begin, place - self.lo - from);
+            // The rest first: as long as the whole hole is told, it goes no further up than to what the two have in common.
             self.lengths.set(next, end - (place + n - self.lo));
+            self.lengths.set(begin, place - self.lo - from);
         }
     }
 
     /// Puts `n` bytes from a place on, which meet no hole, and joins them with the holes that they
-    /// touch.
-    pub(crate) fn put_back(&mut self, place: u32, n: u32)
+    /// touch. The last hole below the place is known.
+    pub(crate) fn put_back(&mut self, place: u32, n: u32, below: Option<usize>)
+        requires below { option_map (λ k. self.old.range.lo + self.old.range.grain * k) below ≡ last_before place self.old.holes }
         requires part { IsPart self.old.range place n }
         requires used { IsUsed place (place + n) self.old.holes }
         ensures holes { self.new.holes ≡ joined place (place + n) self.old.holes }
@@ -127,11 +170,12 @@ impl SideHoles {
     {
         let unit = unit_of(place, self.lo, self.grain);
         let next = unit_of(place + n, self.lo, self.grain);
-        let begin = begin_of(&self.lengths, self.grain, unit);
+        let begin = begin_of(&self.lengths, self.grain, unit, below);
         let end = place + n - self.lo + self.lengths.get(next);
-        self.lengths.set(next, 0);
+        // The whole hole first: then the one that is joined goes no further up than to what the two have in common.
         self.lengths
             .set(begin, end - bytes_before(begin, self.grain));
+        self.lengths.set(next, 0);
     }
 }
 
@@ -158,9 +202,7 @@ impl<S: Space> Holes<S> for SideHoles {
     }
 
     fn ending_at(&self, _space: &S, place: u32) -> u32 {
-        let unit = unit_of(place, self.lo, self.grain);
-        let begin = begin_of(&self.lengths, self.grain, unit);
-        place - self.lo - bytes_before(begin, self.grain)
+        self.length_below(place, self.below(place).unit)
     }
 
     fn longest(&self, _space: &S) -> u32 {
@@ -168,10 +210,12 @@ impl<S: Space> Holes<S> for SideHoles {
     }
 
     fn take(&mut self, _space: &mut S, place: u32, n: u32) {
-        self.take_out(place, n);
+        let below = self.below(place);
+        self.take_out(place, n, below.unit);
     }
 
     fn put(&mut self, _space: &mut S, place: u32, n: u32) {
-        self.put_back(place, n);
+        let below = self.below(place);
+        self.put_back(place, n, below.unit);
     }
 }

@@ -70,22 +70,6 @@ fn next_above(side: &SideHoles, space: &Region, place: u32, below: Option<u32>) 
     }
 }
 
-/// The length of the hole that ends at a place, 0 where none does, by the last one that begins
-/// below it.
-fn ending_at(side: &SideHoles, space: &Region, place: u32, below: Option<u32>) -> u32
-    requires below { below ≡ last_before place side.now.holes }
-    requires ordered { AreHoles side.now.range.lo side.now.range.hi side.now.holes }
-    requires kept { AreThreaded side.now.holes space.now.bytes.items }
-    ensures { result ≡ length_to place side.now.holes }
-{
-    if let Some(begin) = below {
-        if begin + space.word_at(begin) == place {
-            return place - begin;
-        }
-    }
-    0
-}
-
 /// Where the hole begins that has a part, by the last one that begins below it.
 fn hole_of(side: &SideHoles, space: &Region, place: u32, n: u32, below: Option<u32>) -> Option<u32>
     requires part { IsPart side.now.range place n }
@@ -182,25 +166,25 @@ impl Holes<Region> for ThreadedHoles {
 
     fn take(&mut self, space: &mut Region, place: u32, n: u32) {
         let below = self.side.below(place);
-        if let Some(begin) = hole_of(&self.side, space, place, n, below) {
+        if let Some(begin) = hole_of(&self.side, space, place, n, below.begin) {
             let end = begin + space.word_at(begin);
             let next = space.word_at(begin + 4);
             let behind = set_hole(space, place + n, end, next);
-            link(space, below, behind);
+            link(space, below.begin, behind);
             // Where nothing stays free before the part, these four bytes are the part's own.
             space.set_word(begin, place - begin);
-            self.side.take_out(place, n);
+            self.side.take_out(place, n, below.unit);
         }
     }
 
     fn put(&mut self, space: &mut Region, place: u32, n: u32) {
         let below = self.side.below(place);
-        let next = next_above(&self.side, space, place + n, below);
+        let next = next_above(&self.side, space, place + n, below.begin);
         let end = place + n + self.side.at(space, place + n);
-        let from = place - ending_at(&self.side, space, place, below);
+        let from = place - self.side.length_below(place, below.unit);
         // Where the hole below is joined, its words are written anew after this.
-        link(space, below, from);
+        link(space, below.begin, from);
         set_words(space, from, end - from, next);
-        self.side.put_back(place, n);
+        self.side.put_back(place, n, below.unit);
     }
 }

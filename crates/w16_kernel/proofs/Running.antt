@@ -44,7 +44,7 @@ ran_more old calls kept now call answer new ran step few =
     }
 
 -- the next call wants memory, and there is none
-pub ran_stops : (old : LocalWorld) (calls : List Call) (i : ℕ) (kept : List Answer) (now : LocalWorld) → Ran old (take i calls) kept now → IsSomeAnd (slice_get calls i) (λ call. TakesMemory (command_of call)) → StopsEarly old calls now
+pub ran_stops : (old : LocalWorld) (calls : List Call) (i : ℕ) (kept : List Answer) (now : LocalWorld) → Ran old (take i calls) kept now → IsSomeAnd (slice_get calls i) (λ call. TakesMemory now (command_of call)) → StopsEarly old calls now
 ran_stops old calls i kept now ran wanted = record { done = i; events = ran.events; run = ran.run; commands = ran.commands; fewest = ran.fewest; wanted = inr wanted }
 
 -- nothing was done

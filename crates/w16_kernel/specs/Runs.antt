@@ -1,10 +1,11 @@
 -- Calls and replies as the machine sees them.
-use Rattle.std.specs.Prelude.{◌≤◌, length}
+use Rattle.std.specs.Prelude.{◌≤◌, length, IsSome}
 use Rattle.w16_model.specs.Calls as calls
 use Rattle.w16_model.specs.Far as far
 use Rattle.w16_machine.specs.Machine as machine
 use Rattle.w16_machine.specs.Machine.Command.{OfHandles, OfResizes, OfFar}
 use Rattle.w16_machine.specs.Resizes as resizes
+use Rattle.w16_machine.specs.Local.{LocalWorld, beginning}
 use Rattle.w16_machine.specs.LocalCalls as locals
 use Rattle.w16_machine.specs.LocalMachine.{Command}
 use Rattle.w16_machine.specs.LocalMachine.Command.{OfMachine, OfLocals}
@@ -79,7 +80,7 @@ abbrev pub IsReply : Reply → Type 0
 IsReply (replies.Bytes bytes) = length bytes.now ≤ MOST_READ
 IsReply reply = Unit {0}
 
--- which commands take memory of the host
-abbrev pub TakesMemory : Command → Type 0
-TakesMemory (OfLocals (locals.LocalCommand.LocalInit selector start end)) = Unit {0}
-TakesMemory command = ⊥
+-- which commands take memory of the host in a world: one by which a local heap begins
+abbrev pub TakesMemory : LocalWorld → Command → Type 0
+TakesMemory old (OfLocals (locals.LocalCommand.LocalInit selector start end)) = IsSome (beginning old selector start end)
+TakesMemory old command = ⊥

@@ -13,4 +13,4 @@ pub record StopsEarly (old : LocalWorld) (calls : List Call) (new : LocalWorld) 
   pub run : Run old events new
   pub commands : map (λ e. e.command) events ≡ map command_of (take done calls)
   pub fewest : AreFewest old events
-  pub wanted : (done ≡ 0) ⊎ IsSomeAnd (slice_get calls done) (λ call. TakesMemory (command_of call))
+  pub wanted : (done ≡ 0) ⊎ IsSomeAnd (slice_get calls done) (λ call. TakesMemory new (command_of call))

@@ -58,8 +58,8 @@ impl Kernel {
         })
     }
 
-    /// One step of the machine. Bytes that are read are put into the room, and the reply borrows them there. `LocalInit` alone takes memory:
-    /// an error is that there was none, and the world is the same. Every other call answers.
+    /// One step of the machine. Bytes that are read are put into the room, and the reply borrows them there. A `LocalInit` by which a heap
+    /// begins takes memory: an error is that there was none, and the world is the same. Every other call answers.
     pub fn call<'r>(
         &mut self,
         call: &Call<'_>,
@@ -69,7 +69,7 @@ impl Kernel {
         ensures step { IfOk result (λ reply. Step self.old (command_of call.now) (reply_of reply) self.new) }
         ensures fewest { IfOk result (λ reply. IsFewest self.old (record { command = command_of call.now; reply = reply_of reply; after = self.new })) }
         ensures short { IfOk result (λ reply. IsReply reply) }
-        ensures wanted { OnErr result (TakesMemory (command_of call.now)) }
+        ensures wanted { OnErr result (TakesMemory self.old (command_of call.now)) }
         ensures refused { OnErr result (self.new ≡ self.old) }
     {
         let reply = step(&mut self.global, &mut self.locals, &mut self.ds, call, room)?;

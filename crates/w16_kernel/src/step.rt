@@ -78,7 +78,7 @@ pub fn step<'r>(
     requires { IsCall call.now }
     ensures step { IfOk result (λ reply. (rest : LocalWorld) → Unswept (with_parts rest global.old.handles locals.old ds.old) (command_of call.now) (reply_of reply) (with_parts rest global.new.handles locals.new ds.new)) }
     ensures short { IfOk result (λ reply. IsReply reply) }
-    ensures wanted { OnErr result (TakesMemory (command_of call.now)) }
+    ensures wanted { OnErr result ((rest : LocalWorld) → TakesMemory (with_parts rest global.old.handles locals.old ds.old) (command_of call.now)) }
     ensures refused { OnErr result ((global.new ≡ global.old) × (locals.new ≡ locals.old) × (ds.new ≡ ds.old)) }
 {
     match *call {

@@ -1,5 +1,5 @@
 -- The beginning of a local heap.
-use Rattle.std.proofs.Common.{◌≡◌, ℕ, zero, suc, Bool, cond, if◌then◌else◌, ◌==◌, ◌&&◌, nat_le, nat_lt, min, MatchOption, OnErr, Result, Ok, Err, List, [], ◌∷◌, ◌++◌, length, get_or, Option, Some, None, option_map, is_some, refl, sym, ap, ◌∙◌, subst}
+use Rattle.std.proofs.Common.{◌≡◌, ℕ, zero, suc, Bool, cond, if◌then◌else◌, ◌==◌, ◌&&◌, nat_le, nat_lt, min, MatchOption, OnErr, Result, Ok, Err, List, [], ◌∷◌, ◌++◌, length, get_or, Option, Some, None, IsSome, option_map, is_some, refl, sym, ap, ◌∙◌, subst}
 use Rattle.std.specs.Cmp.{nat_cmp_total}
 use Rattle.std.specs.FinMap as finmap
 use Rattle.std.specs.Ordering.{nat_cmp}
@@ -13,7 +13,7 @@ use Rattle.w16_machine.specs.LocalCalls.LocalCommand.{LocalInit}
 use Rattle.w16_machine.specs.LocalLaw.{MayBegin}
 use Rattle.w16_machine.proofs.LocalBegins.{begin_law}
 use Rattle.w16_local.specs.Kept.{AreListed, tables_of}
-use Rattle.w16_local.specs.Parts.{Calls, alone, with_parts}
+use Rattle.w16_local.specs.Parts.{Calls, MayBegin as MayBeginIn, alone, with_parts}
 use Rattle.w16_local.proofs.Locals.{tables_at}
 
 -- The range, as its test has it.
@@ -73,6 +73,10 @@ module _ (h : Handles) (ts : FinMap nat_cmp Table) (ds selector start end : ℕ)
 
     pub init_calls : (new : FinMap nat_cmp Table) → new ≡ finmap.insert ts b.slot (new_table b.range) → Calls h ts ds (LocalInit selector start end) 1 h new
     init_calls new is = init_by (Some b) e 1 new (λ rest. (refl, ap (λ m. with_parts rest h m ds) is))
+
+-- a heap may begin there in each world with these parts
+pub may_begin : (h : Handles) (ts : FinMap nat_cmp Table) (ds selector start end : ℕ) (b : Beginning) → beginning (alone h ts ds) selector start end ≡ Some b → MayBeginIn h ts ds selector start end
+may_begin h ts ds selector start end b e rest = subst IsSome (sym e) refl
 
 -- The list of heaps, with more slots.
 module _ {X : Type 0} (table : X → Table) (xs ys : List (Option X)) (same : (q : ℕ) → get_or ys q None ≡ get_or xs q None) where

@@ -120,11 +120,15 @@ module _ {X : Type 0} where
   ])
 
   -- a slot gets one, and is listed
-  pub listed_added : (xs : List (Option X)) (slots : List ℕ) (slot : ℕ) (h : X) → AreListed xs slots → AreListed (set xs slot (Some h)) (slots ++ slot ∷ [])
-  listed_added xs slots slot h listed q some = elim (cases_eq q slot) [
-    | inl e ↦ (length slots, omega (arith, length-append slots (slot ∷ [])), get_or-append_seam slots slot [] 0 ∙ sym e)
-    | inr d ↦ more (listed q (sym (ap is_some (get_or-set_other xs slot q (Some h) None d)) ∙ some))
+  pub listed_put : (xs : List (Option X)) (slots more : List ℕ) (slot : ℕ) (h : X) → AreListed xs slots → ((q : ℕ) → IsListed slots q → IsListed more q) → IsListed more slot → AreListed (set xs slot (Some h)) more
+  listed_put xs slots more slot h listed kept is q some = elim (cases_eq q slot) [
+    | inl e ↦ subst (IsListed more) (sym e) is
+    | inr d ↦ kept q (listed q (sym (ap is_some (get_or-set_other xs slot q (Some h) None d)) ∙ some))
   ]
-    where
-      more : IsListed slots q → IsListed (slots ++ slot ∷ []) q
-      more l = (l.0, omega (arith, l.1, length-append slots (slot ∷ [])), get_or_append_left slots (slot ∷ []) 0 l.0 l.1 ∙ l.2)
+
+-- A slot is put behind those that are listed.
+pub listed_more : (slots : List ℕ) (slot q : ℕ) → IsListed slots q → IsListed (slots ++ slot ∷ []) q
+listed_more slots slot q l = (l.0, omega (arith, l.1, length-append slots (slot ∷ [])), get_or_append_left slots (slot ∷ []) 0 l.0 l.1 ∙ l.2)
+
+pub listed_last : (slots : List ℕ) (slot : ℕ) → IsListed (slots ++ slot ∷ []) slot
+listed_last slots slot = (length slots, omega (arith, length-append slots (slot ∷ [])), get_or-append_seam slots slot [] 0)

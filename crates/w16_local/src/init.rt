@@ -1,11 +1,12 @@
 //! The beginning of a local heap.
-ghost use Rattle.std.specs.Prelude.{◌≡◌, ◌≤◌, ◌<◌, ◌&&◌, ℕ, nat_le, nat_lt, min, length, slice_index_or, IfOk, IfSome, IfNone, OnErr, OnOk, Some, None, ◌==◌, if◌then◌else◌};
+ghost use Rattle.std.specs.Prelude.{◌≡◌, ◌≤◌, ◌<◌, ◌&&◌, ℕ, nat_le, nat_lt, min, length, slice_index_or, IfOk, IfSome, IfNone, IsTrue, OnErr, OnOk, Some, None, ◌==◌, if◌then◌else◌};
 ghost use Rattle.std.specs.FinMap as finmap;
 ghost use Rattle.w16_model.specs.Heap.{IsMultiple};
 ghost use Rattle.w16_machine.specs.declared.local.TheConstants.{LAST_LOCAL_END, LOCAL_GRAIN};
 ghost use Rattle.w16_machine.specs.Local as local;
 ghost use Rattle.w16_machine.specs.LocalCalls.LocalCommand.{LocalInit};
-ghost use Rattle.w16_local.specs.Parts.{Calls, alone};
+ghost use Rattle.w16_local.specs.Kept.{IsListed};
+ghost use Rattle.w16_local.specs.Parts.{Calls, MayBegin, alone};
 
 use crate::LocalHeaps;
 use crate::flags::rounded_up;
@@ -25,8 +26,8 @@ struct Begun {
 impl LocalHeaps {
     /// `LocalInit`: 1, and a heap without objects begins in the object of a selector, or of DS where that is 0; else 0. It lies from `start`,
     /// rounded up to 4, to `end`, rounded down to 4: 0 where the selector is bad, its object has no bytes or a local heap already, `start`
-    /// is below 4, `end` over the object's size or 65,536, or nothing is between them. An error is that there was no memory; then nothing
-    /// has changed.
+    /// is below 4, `end` over the object's size or 65,536, or nothing is between them. An error is that a heap may begin there, and there was
+    /// no memory for it; then nothing has changed.
     pub fn local_init(
         &mut self,
         global: &Global16,
@@ -36,6 +37,7 @@ impl LocalHeaps {
         end: u32,
     ) -> Result<u16, AllocError>
         ensures step { IfOk result (λ answer. Calls global.now.handles self.old ds (LocalInit selector start end) answer global.now.handles self.new) }
+        ensures wanted { OnErr result (MayBegin global.now.handles self.old ds selector start end) }
         ensures refused { OnErr result (self.new ≡ self.old) }
     {
         let Some(begun) = self.beginning(global, ds, selector, start, end) else {
@@ -85,7 +87,7 @@ impl LocalHeaps {
         let heap = LocalHeap::new(self.alloc, begun.range)?;
         let held = Box::new(self.alloc, heap)?;
         reach(&mut self.heaps, begun.slot)?;
-        self.live.push(begun.slot)?;
+        list_slot(&mut self.live, begun.slot)?;
         self.heaps[begun.slot as usize] = Some(held);
         Ok(())
     }
@@ -107,6 +109,32 @@ fn reach(heaps: &mut Vec<Option<Box<LocalHeap>>>, slot: u16) -> Result<(), Alloc
         heaps.push(None)?;
     }
     Ok(())
+}
+
+/// Sees to it that a slot is listed. Each is listed once.
+fn list_slot(live: &mut Vec<u16>, slot: u16) -> Result<(), AllocError>
+    ensures kept { (q : ℕ) → IsListed live.old.items q → IsListed live.new.items q }
+    ensures listed { OnOk result (IsListed live.new.items slot) }
+{
+    if lists(live, slot) {
+        return Ok(());
+    }
+    live.push(slot)?;
+    Ok(())
+}
+
+/// Whether a slot is listed.
+fn lists(live: &[u16], slot: u16) -> bool
+    ensures { IsTrue result → IsListed live.now slot }
+{
+    let mut i = 0;
+    'slots: while i < live.len() {
+        if live[i] == slot {
+            return true;
+        }
+        i += 1;
+    }
+    false
 }
 
 /// The range of a new heap in a segment of so many bytes, if it may lie there.

@@ -33,7 +33,7 @@ use w16_model::{FIRST_SLOT, MOST_SLOTS};
 pub struct LocalHeaps {
     /// By slot.
     heaps: Vec<Option<Box<LocalHeap>>>,
-    /// The slots that have a heap, and maybe some that had one.
+    /// The slots that have a heap, each once, and those that had one until `drop_heap` since the last sweep.
     live: Vec<u16>,
     /// For new heaps.
     alloc: Global,

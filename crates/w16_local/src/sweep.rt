@@ -15,8 +15,8 @@ use w16_model::names::selector_of;
 use w16_model::{FIRST_SLOT, MOST_SLOTS};
 
 impl LocalHeaps {
-    /// Takes away each heap whose object is freed, has no bytes, or was cut below the heap's end, in time of the number of heaps. For after a
-    /// call on the global heap. It takes no memory.
+    /// Takes away each heap whose object is freed, has no bytes, or was cut below the heap's end, by a look at each slot that has a heap. For
+    /// after a call on the global heap. It takes no memory.
     pub fn sweep(&mut self, global: &Global16)
         ensures { self.new ≡ local.left_in global.now.handles.heap self.old }
     {

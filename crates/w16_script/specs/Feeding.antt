@@ -22,7 +22,7 @@ FailsAt held old line Write holds new =
     × AreFewest old.world events
 -- its command wants memory, and nothing was done
 FailsAt held old line Memory holds new =
-    (target : Option ℕ) × (command : Command) × Reads old.registers line (Said.Says target command) × TakesMemory command × (new ≡ old) × Keeps held holds
+    (target : Option ℕ) × (command : Command) × Reads old.registers line (Said.Says target command) × TakesMemory old.world command × (new ≡ old) × Keeps held holds
 -- no line meets another
 FailsAt held old line fault holds new = ⊥
 

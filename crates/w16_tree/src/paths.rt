@@ -1,5 +1,5 @@
 //! The ways up and down the tree.
-ghost use Rattle.std.specs.Prelude.{◌≡◌, ◌+◌, ◌^◌, ◌<◌, ◌≤◌, ℕ, Some, length, drop, slice_index};
+ghost use Rattle.std.specs.Prelude.{◌≡◌, ◌+◌, ◌-◌, ◌*◌, ◌%◌, ◌^◌, ◌<◌, ◌≤◌, ℕ, Some, length, drop, slice_index, if◌then◌else◌};
 ghost use Rattle.w16_tree.specs.Tree.{begin, IsUpheldBut, IsUpheld, IsLastLeaf};
 
 /// Makes the nodes above a changed one their children's maxima.
@@ -22,6 +22,25 @@ pub(crate) fn carry_up(nodes: &mut [u32], leaves: usize, changed: usize)
     }
 }
 
+/// A node's right child, or its left one. A sum has no branch, which would be mispredicted at every second level.
+fn child(node: usize, right: bool) -> usize
+    requires { node < 2 ^ 35 }
+    ensures { result ≡ (if right then 2 * node + 1 else 2 * node) }
+{
+    2 * node + right as usize
+}
+
+/// What a right child's left neighbour has, and 0 for a left child. A product has no branch, which would be mispredicted at every second
+/// level.
+fn elder(nodes: &[u32], node: usize) -> u32
+    requires some { 0 < node }
+    requires inside { node ≤ length nodes.now }
+    ensures right { node % 2 ≡ 1 → result ≡ slice_index nodes.now (node - 1) }
+    ensures left { node % 2 ≡ 0 → result ≡ 0 }
+{
+    nodes[node - 1] * (node % 2) as u32
+}
+
 /// The place among the leaves of the first number of at least `n`, where the root tells of one.
 pub(crate) fn first_leaf(nodes: &[u32], height: usize, leaves: usize, n: u32) -> usize
     requires small { leaves ≤ 2 ^ 34 }
@@ -35,10 +54,7 @@ pub(crate) fn first_leaf(nodes: &[u32], height: usize, leaves: usize, n: u32) ->
 {
     let mut i = 1;
     for _level in 0..height {
-        i *= 2;
-        if nodes[i] < n {
-            i += 1;
-        }
+        i = child(i, nodes[2 * i] < n);
     }
     i - leaves
 }
@@ -56,10 +72,7 @@ fn last_leaf(nodes: &[u32], height: usize, leaves: usize, node: usize) -> usize
 {
     let mut i = node;
     for _level in 0..height {
-        i *= 2;
-        if nodes[i + 1] > 0 {
-            i += 1;
-        }
+        i = child(i, nodes[2 * i + 1] > 0);
     }
     i - leaves
 }
@@ -81,7 +94,7 @@ pub(crate) fn last_leaf_before(
 {
     let mut i = end;
     for level in 0..height {
-        if i % 2 == 1 && nodes[i - 1] > 0 {
+        if elder(nodes, i) > 0 {
             return Some(last_leaf(nodes, level, leaves, i - 1));
         }
         i /= 2;

@@ -3,7 +3,7 @@ ghost use Rattle.std.specs.Prelude.{◌≡◌, ◌%◌};
 use crate::tests::limited;
 use std::alloc::{AllocError, Global};
 use std::test::Fail;
-use w16_kernel::{Call, Kernel, MOST_READ};
+use w16_kernel::Kernel;
 use w16_script::{RunFault, run};
 
 type Tested = std::result::Result<(), Fail>;
@@ -40,55 +40,44 @@ fn walks_over_each_kind(rt: HostRuntime) -> Tested {
     Ok(())
 }
 
-/// A walk of 64 bytes, of which a discardable object has the lower half.
-const WALK: &[u8] = b"00000000 00000020 0106 discardable 0\n00000020 00000020 free\nend\n";
-
 #[test]
 fn counts_locks_in_decimal(rt: HostRuntime) -> Tested {
-    let mut kernel = Kernel::new(rt.alloc(), 32, 1)?;
-    let mut room = [0; MOST_READ];
-    let _ = kernel.call(&Call::GlobalAlloc { flags: 2, size: 32 }, &mut room)?;
+    let mut script = Vec::new(rt.alloc());
+    script.extend_from_slice(b"GlobalAlloc 2 32\n")?;
     for _ in 0..255u32 {
-        let _ = kernel.call(&Call::GlobalLock { handle: 0x106 }, &mut room)?;
+        script.extend_from_slice(b"GlobalLock 0x106\n")?;
     }
-    let mut writer = limited(64, 64);
-    let ended = run(
-        rt.alloc(),
-        &mut b"Walk".as_slice(),
-        &mut writer,
-        &mut kernel,
-    );
-    assert!(rt; ended.is_ok());
-    assert_eq!(rt;
-        writer.taken.as_slice(),
-        b"00000000 00000020 0106 moveable 255\nend\n".as_slice()
-    );
+    script.extend_from_slice(b"Walk\n")?;
+    let text = printed(rt.alloc(), 32, &script)?;
+    assert_eq!(rt; text.len(), 5 + 255 * 9 + 40);
+    assert!(rt; text.ends_with(b"\n00000000 00000020 0106 moveable 255\nend\n"));
     Ok(())
+}
+
+/// A new object, and a walk of 64 bytes, of which it has the lower half.
+const WALK: &[u8] = b"0106\n00000000 00000020 0106 discardable 0\n00000020 00000020 free\nend\n";
+
+/// Whether a run over a writer that takes so many bytes, and so many at once, ends so, and writes just these.
+fn stops_after(
+    alloc: Global,
+    left: usize,
+    at_once: usize,
+    fault: Option<RunFault>,
+) -> std::result::Result<bool, AllocError> {
+    let mut kernel = Kernel::new(alloc, 64, 16)?;
+    let mut writer = limited(left, at_once);
+    let mut reader = b"GlobalAlloc 0x102 32\nWalk\n".as_slice();
+    let ended = run(alloc, &mut reader, &mut writer, &mut kernel);
+    Ok(ended.err() == fault && writer.taken.as_slice() == &WALK[..left.min(WALK.len())])
 }
 
 #[test]
 fn fails_in_the_middle_of_a_walk(rt: HostRuntime) -> Tested {
     for left in 0..=WALK.len() {
-        for at_once in [1, 3, 64] {
-            let mut kernel = Kernel::new(rt.alloc(), 64, 16)?;
-            let asked = Call::GlobalAlloc {
-                flags: 0x102,
-                size: 32,
-            };
-            let _ = kernel.call(&asked, &mut [0; MOST_READ])?;
-            let mut writer = limited(left, at_once);
-            let ended = run(
-                rt.alloc(),
-                &mut b"Walk\n".as_slice(),
-                &mut writer,
-                &mut kernel,
-            );
-            assert_eq!(rt;
-                ended.err(),
-                (left < WALK.len()).then_some(RunFault::Write),
-                "at {left}"
-            );
-            assert_eq!(rt; writer.taken.as_slice(), &WALK[..left]);
+        for at_once in [1, 3, 96] {
+            let fault = (left < WALK.len()).then_some(RunFault::Write);
+            let stops = stops_after(rt.alloc(), left, at_once, fault)?;
+            assert!(rt; stops, "{left} by {at_once}");
         }
     }
     Ok(())

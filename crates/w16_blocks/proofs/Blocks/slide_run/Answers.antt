@@ -43,7 +43,7 @@ put-requires-clause-inside g c =
     let longer = c.slide.ensures.length in omega arith
 
 -- what the tables are afterwards
-module _ (g : Given.Over) (c : goal.After-self-2-1 g) where
+module _ (g : Given.Over) (c : goal.After-put g) where
   long : length c.deref_mut.result.now ≡ c.self.inside.slots.len
   long = let a = c.deref_mut.ensures.len in let b = c.self.inside.slots.ok.0 in omega arith
 

@@ -1,4 +1,5 @@
 use Rattle.std.proofs.Common.{refl}
+use Rattle.w16_local.proofs.Beginning.{on_any}
 use Rattle.w16_kernel.proofs.step.step.Goals as goal
 
 pub returns-in_ok-local_init-in-LocalInit-clause-step : goal.returns-in_ok-local_init-in-LocalInit-clause-step
@@ -33,3 +34,6 @@ returns-in-LocalHandle-clause-step c = λ rest. rw c.in-LocalHandle.is (c.local_
 
 pub returns-in-LocalCompact-clause-step : goal.returns-in-LocalCompact-clause-step
 returns-in-LocalCompact-clause-step c = λ rest. rw c.in-LocalCompact.is (c.local_compact.ensures rest)
+
+pub returns-in_err-local_init-in-LocalInit-clause-wanted : goal.returns-in_err-local_init-in-LocalInit-clause-wanted
+returns-in_err-local_init-in-LocalInit-clause-wanted c = on_any c.from_residual.result _ (λ rest. rw c.in-LocalInit.is (c.in_err-local_init-in-LocalInit.ensures.wanted rest))

@@ -1,8 +1,7 @@
-use Rattle.std.proofs.Common.{List, ap, arith, set, Some, subst, sym, ◌∙◌, ℕ}
+use Rattle.std.proofs.Common.{ap, arith, ◌∙◌}
 use Rattle.std.specs.FinMap as finmap
-use Rattle.w16_local.specs.Kept.{AreListed}
 use Rattle.w16_local.proofs.Beginning.{listed_reached, on_any, tables_reached}
-use Rattle.w16_local.proofs.Locals.{listed_added, tables_set}
+use Rattle.w16_local.proofs.Locals.{listed_put, tables_set}
 use Rattle.w16_local.proofs.LocalHeaps.begin.Goals as goal
 
 pub invariant_of-self : goal.invariant_of-self
@@ -10,8 +9,7 @@ invariant_of-self c = listed_reached c.self.inside.heaps.items c.reach.new.heaps
 
 pub invariant_of-self-2 : goal.invariant_of-self-2
 invariant_of-self-2 c =
-    subst (λ (live : List ℕ). AreListed (set c.reach.new.heaps.items c.args.begun.slot (Some c.in_ok-held.held)) live) (sym c.in_ok-push.ensures.items)
-    (listed_added c.reach.new.heaps.items c.self.inside.live.items c.args.begun.slot c.in_ok-held.held (listed_reached c.self.inside.heaps.items c.reach.new.heaps.items c.reach.ensures.same c.self.inside.live.items c.self.invariant))
+    listed_put c.reach.new.heaps.items c.self.inside.live.items c.list_slot.new.live.items c.args.begun.slot c.in_ok-held.held (listed_reached c.self.inside.heaps.items c.reach.new.heaps.items c.reach.ensures.same c.self.inside.live.items c.self.invariant) c.list_slot.ensures.kept c.in_ok-list_slot.ensures.listed
 
 pub index_mut-requires : goal.index_mut-requires
 index_mut-requires c = let long = c.in_ok-reach.ensures.long in omega (arith, long, c.reach.new.heaps.ok.0)
@@ -25,9 +23,8 @@ returns-clause-made c =
 pub returns-in_err-reach-clause-refused : goal.returns-in_err-reach-clause-refused
 returns-in_err-reach-clause-refused c = on_any c.from_residual-in_err-reach.result _ (tables_reached _ c.self.inside.heaps.items c.reach.new.heaps.items c.reach.ensures.same ∙ c.self.view_is)
 
-pub invariant_of-self-in_err-push : goal.invariant_of-self-in_err-push
-invariant_of-self-in_err-push c =
-    subst (λ (live : List ℕ). AreListed c.reach.new.heaps.items live) (sym c.in_err-push.ensures.items) (listed_reached c.self.inside.heaps.items c.reach.new.heaps.items c.reach.ensures.same c.self.inside.live.items c.self.invariant)
+pub invariant_of-self-in_err-list_slot : goal.invariant_of-self-in_err-list_slot
+invariant_of-self-in_err-list_slot c q some = c.list_slot.ensures.kept q (listed_reached c.self.inside.heaps.items c.reach.new.heaps.items c.reach.ensures.same c.self.inside.live.items c.self.invariant q some)
 
-pub returns-in_err-push-clause-refused : goal.returns-in_err-push-clause-refused
-returns-in_err-push-clause-refused c = on_any c.from_residual-in_err-push.result _ (tables_reached _ c.self.inside.heaps.items c.reach.new.heaps.items c.reach.ensures.same ∙ c.self.view_is)
+pub returns-in_err-list_slot-clause-refused : goal.returns-in_err-list_slot-clause-refused
+returns-in_err-list_slot-clause-refused c = on_any c.from_residual-in_err-list_slot.result _ (tables_reached _ c.self.inside.heaps.items c.reach.new.heaps.items c.reach.ensures.same ∙ c.self.view_is)

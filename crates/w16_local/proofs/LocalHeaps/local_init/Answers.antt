@@ -1,5 +1,5 @@
 use Rattle.std.proofs.Common.{arith}
-use Rattle.w16_local.proofs.Beginning.{init_calls, init_none, may}
+use Rattle.w16_local.proofs.Beginning.{init_calls, init_none, may, may_begin, on_any}
 use Rattle.w16_local.proofs.LocalHeaps.local_init.Goals as goal
 
 pub returns-in_default-clause-step : goal.returns-in_default-clause-step
@@ -13,3 +13,6 @@ begin-requires c =
 
 pub returns-clause-step : goal.returns-clause-step
 returns-clause-step c = init_calls c.args.global.now.handles c.args.self.now c.args.ds c.args.selector c.args.start c.args.end _ c.in-Some.ensures.some c.begin.new.self c.in_ok-begin.ensures.made
+
+pub returns-in_err-begin-clause-wanted : goal.returns-in_err-begin-clause-wanted
+returns-in_err-begin-clause-wanted c = on_any c.from_residual.result _ (may_begin c.args.global.now.handles c.args.self.now c.args.ds c.args.selector c.args.start c.args.end _ c.in-Some.ensures.some)

@@ -23,16 +23,24 @@ overflow_add-result c =
     let low = ap (λ (f : Free). f.range.lo) c.self.view_is in
     record { fits = omega arith }
 
-pub returns-in-Some-clause-value : goal.returns-in-Some-clause-value
-returns-in-Some-clause-value c =
+pub returns-in_default-clause-value : goal.returns-in_default-clause-value
+returns-in_default-clause-value c =
     let s = c.self.inside in
     let is = c.unit_of-unit.ensures in
     let from = c.requires.from in
     let low = ap (λ (f : Free). f.range.lo) c.self.view_is in
-    rw (← c.self.view_is) (ap (λ (n : ℕ). Some (s.lo + n)) c.bytes_before.ensures ∙ last_is s.grain s.lo c.unit_of-unit.result c.args.place s.lengths (Some c.in-Some.begin) c.self.invariant.some (omega arith) c.in-Some.ensures)
+    rw (← c.self.view_is) (last_is s.grain s.lo c.unit_of-unit.result c.args.place s.lengths None c.self.invariant.some (omega arith) c.in_default.ensures)
 
-pub returns-in-Some-clause-ordered : goal.returns-in-Some-clause-ordered
-returns-in-Some-clause-ordered c = subst (λ (f : Free). AreHoles f.range.lo f.range.hi f.holes) c.self.view_is (AreHoles-cells (range c.self.inside) c.self.inside.lengths c.self.invariant)
+pub returns-in_default-clause-unit : goal.returns-in_default-clause-unit
+returns-in_default-clause-unit c =
+    let s = c.self.inside in
+    let is = c.unit_of-unit.ensures in
+    let from = c.requires.from in
+    let low = ap (λ (f : Free). f.range.lo) c.self.view_is in
+    rw (← c.self.view_is) (last_is s.grain s.lo c.unit_of-unit.result c.args.place s.lengths None c.self.invariant.some (omega arith) c.in_default.ensures)
+
+pub returns-in_default-clause-ordered : goal.returns-in_default-clause-ordered
+returns-in_default-clause-ordered c = subst (λ (f : Free). AreHoles f.range.lo f.range.hi f.holes) c.self.view_is (AreHoles-cells (range c.self.inside) c.self.inside.lengths c.self.invariant)
 
 pub returns-clause-value : goal.returns-clause-value
 returns-clause-value c =
@@ -40,7 +48,15 @@ returns-clause-value c =
     let is = c.unit_of-unit.ensures in
     let from = c.requires.from in
     let low = ap (λ (f : Free). f.range.lo) c.self.view_is in
-    rw (← c.self.view_is) (last_is s.grain s.lo c.unit_of-unit.result c.args.place s.lengths None c.self.invariant.some (omega arith) c.in_default.ensures)
+    rw (← c.self.view_is) (ap (λ (n : ℕ). Some (s.lo + n)) c.bytes_before.ensures ∙ last_is s.grain s.lo c.unit_of-unit.result c.args.place s.lengths (Some c.in-Some.begin) c.self.invariant.some (omega arith) c.in-Some.ensures)
+
+pub returns-clause-unit : goal.returns-clause-unit
+returns-clause-unit c =
+    let s = c.self.inside in
+    let is = c.unit_of-unit.ensures in
+    let from = c.requires.from in
+    let low = ap (λ (f : Free). f.range.lo) c.self.view_is in
+    rw (← c.self.view_is) (last_is s.grain s.lo c.unit_of-unit.result c.args.place s.lengths (Some c.in-Some.begin) c.self.invariant.some (omega arith) c.in-Some.ensures)
 
 pub returns-clause-ordered : goal.returns-clause-ordered
 returns-clause-ordered c = subst (λ (f : Free). AreHoles f.range.lo f.range.hi f.holes) c.self.view_is (AreHoles-cells (range c.self.inside) c.self.inside.lengths c.self.invariant)

@@ -1,12 +1,13 @@
-use Rattle.std.proofs.Common.{ℕ, ◌+◌, ◌*◌, ◌-◌, length, arith, sym, ap, ◌∙◌, subst}
+use Rattle.std.proofs.Common.{ℕ, option_map, ◌≡◌, ◌+◌, ◌*◌, ◌-◌, length, arith, sym, ap, ◌∙◌, subst}
 use Rattle.std.specs.Prelude.{slice_index}
 use Rattle.std.proofs.lemmas.List.{length-set}
 use Rattle.w16_model.specs.Heap.{IsMultiple}
-use Rattle.w16_holes.specs.Holes.{Range, Free}
+use Rattle.w16_holes.specs.Holes.{Range, Free, last_before}
 use Rattle.w16_holes.specs.Cells.{spans, AreCells}
 use Rattle.w16_holes.proofs.Units.{multiple_sum}
-use Rattle.w16_holes.proofs.Told.{put_lt, put_spans}
-use Rattle.w16_holes.proofs.Steps.{two_sets, is_put, AreCells-put}
+use Rattle.w16_holes.proofs.Last.{last_cell}
+use Rattle.w16_holes.proofs.Told.{put_lt, put_next, put_before, put_spans}
+use Rattle.w16_holes.proofs.Steps.{two_sets, sets_apart, is_put, AreCells-put}
 use Rattle.w16_holes.specs.declared.side.SideHoles.TheInside.{Inside}
 use Rattle.w16_holes.proofs.side.SideHoles.put_back.Goals as goal
 
@@ -18,23 +19,37 @@ unit_of-next-requires-clause-grained c =
     let grain = ap (λ (f : Free). f.range.grain) c.self.view_is in
     subst (λ (m : ℕ). IsMultiple m (c.args.place + c.args.n)) (sym grain) (multiple_sum c.args.self.now.range.grain c.args.place c.args.n c.requires.part.grained c.requires.part.rounded)
 
+pub begin_of-begin-requires-clause-below : goal.begin_of-begin-requires-clause-below
+begin_of-begin-requires-clause-below c =
+    let s = c.self.inside in
+    let low = ap (λ (f : Free). f.range.lo) c.self.view_is in let from = c.requires.part.from in let is = c.unit_of-unit.ensures in
+    last_cell s.grain s.lo c.unit_of-unit.result c.args.place s.lengths c.args.below c.self.invariant.some (omega arith)
+    (subst (λ (f : Free). option_map (λ (k : ℕ). f.range.lo + f.range.grain * k) c.args.below ≡ last_before c.args.place f.holes) (sym c.self.view_is) c.requires.below)
+
+pub set-requires : goal.set-requires
+set-requires c =
+    let t = is_put (range c.self.inside) c.self.inside.lengths c.args.self.now c.self.view_is c.self.invariant c.args.place c.args.n c.unit_of-unit.result c.unit_of-next.result c.requires.part c.unit_of-unit.ensures c.unit_of-next.ensures c.begin_of-begin.result c.begin_of-begin.ensures c.requires.used in
+    put_lt t
+
 pub set-requires-2 : goal.set-requires-2
 set-requires-2 c =
     let t = is_put (range c.self.inside) c.self.inside.lengths c.args.self.now c.self.view_is c.self.invariant c.args.place c.args.n c.unit_of-unit.result c.unit_of-next.result c.requires.part c.unit_of-unit.ensures c.unit_of-next.ensures c.begin_of-begin.result c.begin_of-begin.ensures c.requires.used in
-    let lt = put_lt t in let e = ap length c.set.ensures in omega (arith, length-set {A = ℕ})
+    let lt = put_next t in let e = ap length c.set.ensures in omega (arith, length-set {A = ℕ})
 
 pub invariant_of-self : goal.invariant_of-self
 invariant_of-self c =
     let s = c.self.inside in let k = c.begin_of-begin.result in let p = c.unit_of-unit.result in let q = c.unit_of-next.result in
     let t = is_put (range c.self.inside) c.self.inside.lengths c.args.self.now c.self.view_is c.self.invariant c.args.place c.args.n c.unit_of-unit.result c.unit_of-next.result c.requires.part c.unit_of-unit.ensures c.unit_of-next.ensures c.begin_of-begin.result c.begin_of-begin.ensures c.requires.used in
-    let cells = two_sets s.lengths c.set.new.self c.set-2.new.self q k 0 (c.args.place + c.args.n - s.lo + c.get.result - c.bytes_before.result) 0 (s.grain * q + slice_index s.lengths q - s.grain * k)
-    c.set.ensures c.set-2.ensures (omega arith) (omega arith) in
+    let less = put_before t in
+    let cells = two_sets s.lengths c.set.new.self c.set-2.new.self k q (c.args.place + c.args.n - s.lo + c.get.result - c.bytes_before.result) 0 (s.grain * q + slice_index s.lengths q - s.grain * k) 0
+    c.set.ensures c.set-2.ensures (omega arith) (omega arith) ∙ sets_apart s.lengths k q (s.grain * q + slice_index s.lengths q - s.grain * k) 0 (λ e. omega arith) in
     subst (AreCells (range s)) (sym cells) (AreCells-put (range s) s.lengths c.args.place (c.args.place + c.args.n) p q c.self.invariant k t)
 
 pub returns-clause-holes : goal.returns-clause-holes
 returns-clause-holes c =
     let s = c.self.inside in let k = c.begin_of-begin.result in let p = c.unit_of-unit.result in let q = c.unit_of-next.result in
     let t = is_put (range c.self.inside) c.self.inside.lengths c.args.self.now c.self.view_is c.self.invariant c.args.place c.args.n c.unit_of-unit.result c.unit_of-next.result c.requires.part c.unit_of-unit.ensures c.unit_of-next.ensures c.begin_of-begin.result c.begin_of-begin.ensures c.requires.used in
-    let cells = two_sets s.lengths c.set.new.self c.set-2.new.self q k 0 (c.args.place + c.args.n - s.lo + c.get.result - c.bytes_before.result) 0 (s.grain * q + slice_index s.lengths q - s.grain * k)
-    c.set.ensures c.set-2.ensures (omega arith) (omega arith) in
+    let less = put_before t in
+    let cells = two_sets s.lengths c.set.new.self c.set-2.new.self k q (c.args.place + c.args.n - s.lo + c.get.result - c.bytes_before.result) 0 (s.grain * q + slice_index s.lengths q - s.grain * k) 0
+    c.set.ensures c.set-2.ensures (omega arith) (omega arith) ∙ sets_apart s.lengths k q (s.grain * q + slice_index s.lengths q - s.grain * k) 0 (λ e. omega arith) in
     rw (← c.self.view_is) (ap (spans s.grain s.lo) cells ∙ put_spans t)
