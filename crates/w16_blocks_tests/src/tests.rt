@@ -1,241 +1,226 @@
 //! Three blocks in a small heap, and what each call answers and changes there.
-ghost use Rattle.std.specs.Prelude.{◌≡◌, length, IfOk};
-ghost use Rattle.w16_blocks_tests.specs.Sample.{three_blocks};
 
-use std::alloc::AllocError;
+mod bench;
+
+use bench::{Bench, run_begins, run_ends};
 use std::test::Fail;
-use w16_blocks::{Block, Blocks, Hold, Part, Span};
-use w16_holes::SideHoles;
-use w16_region::{Region, Space};
+use w16_blocks::{Block, Hold, Part, Span};
 
-fn block(id: u32, at: u32, size: u32, hold: Hold) -> Block
-    ensures { result ≡ record { id = id; at = at; size = size; hold = hold } }
-{
-    Block { id, at, size, hold }
+const FIRST: Block = Block {
+    id: 0,
+    at: 32,
+    size: 32,
+    hold: Hold::Loose,
+};
+
+const SECOND: Block = Block {
+    id: 2,
+    at: 128,
+    size: 32,
+    hold: Hold::Pinned,
+};
+
+const LAST: Block = Block {
+    id: 3,
+    at: 160,
+    size: 32,
+    hold: Hold::Loose,
+};
+
+/// A question about blocks, with its answer.
+#[derive(Clone, Copy)]
+enum Asked {
+    Find(u32, Option<Block>),
+    Next(u32, Option<Block>),
+    Below(u32, Option<Block>),
+    Part(u32, Option<Part>),
+    Hole(u32, Option<u32>),
+    After(u32, Option<u32>),
+    Byte(u32, u8),
 }
 
-fn hole(from: u32, to: u32) -> Part {
-    Part::Hole(Span { from, to })
+/// Whether a question has its answer.
+fn is_so(bench: &Bench, asked: &Asked) -> bool {
+    match *asked {
+        Asked::Find(id, wanted) => bench.find(id) == wanted,
+        Asked::Next(at, wanted) => bench.next_from(at) == wanted,
+        Asked::Below(at, wanted) => bench.last_below(at) == wanted,
+        Asked::Part(at, wanted) => bench.part_from(at) == wanted,
+        Asked::Hole(n, wanted) => bench.hole_for(n) == wanted,
+        Asked::After(id, wanted) => bench.free_after(id) == wanted,
+        Asked::Byte(at, byte) => bench.is_filled(at, byte),
+    }
 }
 
-/// Three blocks of a heap of 256 bytes: holes of 32, 64 and 64 bytes.
-fn three<S: Space>(rt: &impl AllocGlobal, space: &mut S) -> Result<Blocks<SideHoles>, AllocError>
-    ensures value { IfOk result (λ blocks. blocks ≡ three_blocks) }
-    ensures long { length (S.bytes space.new) ≡ length (S.bytes space.old) }
-{
-    let holes = SideHoles::new(rt.alloc(), 0, 256, 32)?;
-    let mut blocks = Blocks::with_room(rt.alloc(), 4, holes, 0, 256, 32)?;
-    blocks.insert(space, block(2, 128, 32, Hold::Pinned));
-    blocks.insert(space, block(0, 32, 32, Hold::Loose));
-    blocks.insert(space, block(3, 160, 32, Hold::Loose));
-    Ok(blocks)
+/// The first question with another answer.
+fn first_wrong(bench: &Bench, all: &[Asked]) -> Option<usize> {
+    all.iter().position(|asked| !is_so(bench, asked))
 }
+
+const LOOKS: &[Asked] = &[
+    Asked::Find(2, Some(SECOND)),
+    Asked::Find(1, None),
+    Asked::Next(0, Some(FIRST)),
+    Asked::Next(33, Some(SECOND)),
+    Asked::Next(160, Some(LAST)),
+    Asked::Next(161, None),
+    Asked::Next(1000, None),
+];
 
 #[test]
 fn looks_up(rt: HostRuntime) -> Result<(), Fail> {
-    let mut space = Region::new(rt.alloc(), 256)?;
-    let blocks = three(&rt, &mut space)?;
-    assert_eq!(rt; blocks.find(2), Some(block(2, 128, 32, Hold::Pinned)));
-    assert_eq!(rt; blocks.find(1), None);
-    assert_eq!(rt; blocks.cap(), 4);
-    assert_eq!(rt; blocks.grain(), 32);
-    assert_eq!(rt; blocks.bounds(), Span { from: 0, to: 256 });
-    assert_eq!(rt; blocks.free(), 160);
-    assert_eq!(rt;
-        blocks.next_from(&space, 0),
-        Some(block(0, 32, 32, Hold::Loose))
-    );
-    assert_eq!(rt;
-        blocks.next_from(&space, 33),
-        Some(block(2, 128, 32, Hold::Pinned))
-    );
-    assert_eq!(rt;
-        blocks.next_from(&space, 160),
-        Some(block(3, 160, 32, Hold::Loose))
-    );
-    assert_eq!(rt; blocks.next_from(&space, 161), None);
-    assert_eq!(rt; blocks.next_from(&space, 1000), None);
+    let bench = Bench::new(rt.alloc())?;
+    assert_eq!(rt; first_wrong(&bench, LOOKS), None);
+    let whole = Span { from: 0, to: 256 };
+    assert!(rt; bench.sizes() == (4, 32, whole) && bench.state() == (160, 64, true));
     Ok(())
 }
+
+const HOLES: &[Asked] = &[
+    Asked::Hole(0, Some(0)),
+    Asked::Hole(32, Some(0)),
+    Asked::Hole(33, Some(64)),
+    Asked::Hole(65, None),
+    Asked::After(0, Some(64)),
+    Asked::After(2, Some(0)),
+    Asked::After(3, Some(64)),
+];
 
 #[test]
 fn finds_holes(rt: HostRuntime) -> Result<(), Fail> {
-    let mut space = Region::new(rt.alloc(), 256)?;
-    let blocks = three(&rt, &mut space)?;
-    assert_eq!(rt; blocks.hole_for(&space, 0), Some(0));
-    assert_eq!(rt; blocks.hole_for(&space, 32), Some(0));
-    assert_eq!(rt; blocks.hole_for(&space, 33), Some(64));
-    assert_eq!(rt; blocks.hole_for(&space, 65), None);
-    assert_eq!(rt; blocks.longest(&space), 64);
-    assert_eq!(rt; blocks.free_after(&space, 0), 64);
-    assert_eq!(rt; blocks.free_after(&space, 2), 0);
-    assert_eq!(rt; blocks.free_after(&space, 3), 64);
+    let bench = Bench::new(rt.alloc())?;
+    assert_eq!(rt; first_wrong(&bench, HOLES), None);
     Ok(())
 }
+
+const SHIFTED: &[Asked] = &[
+    Asked::Find(3, Some(Block { at: 64, ..LAST })),
+    Asked::Byte(64, 7),
+    Asked::Next(64, Some(Block { at: 64, ..LAST })),
+    Asked::Next(129, None),
+];
 
 #[test]
 fn moves_bytes(rt: HostRuntime) -> Result<(), Fail> {
-    let mut space = Region::new(rt.alloc(), 256)?;
-    let mut blocks = three(&rt, &mut space)?;
-    space.fill(160, 32, 7);
-    blocks.shift(&mut space, 3, 64);
-    assert_eq!(rt; blocks.find(3), Some(block(3, 64, 32, Hold::Loose)));
-    assert_eq!(rt; space.view(64, 32), [7; 32].as_slice());
-    assert_eq!(rt; space.written(), 64);
-    assert_eq!(rt; blocks.longest(&space), 96);
-    assert_eq!(rt; blocks.free(), 160);
-    assert_eq!(rt;
-        blocks.next_from(&space, 64),
-        Some(block(3, 64, 32, Hold::Loose))
-    );
-    assert_eq!(rt; blocks.next_from(&space, 129), None);
+    let bench = Bench::shifted(rt.alloc())?;
+    assert_eq!(rt; first_wrong(&bench, SHIFTED), None);
+    assert!(rt; bench.written() == 64 && bench.state() == (160, 96, true));
     Ok(())
 }
+
+const SLID: &[Asked] = &[
+    Asked::Find(2, Some(Block { at: 64, ..SECOND })),
+    Asked::Find(3, Some(Block { at: 96, ..LAST })),
+    Asked::Byte(64, 5),
+    Asked::Byte(96, 7),
+    Asked::Hole(128, Some(128)),
+    Asked::Next(128, None),
+];
 
 #[test]
 fn slides_a_run(rt: HostRuntime) -> Result<(), Fail> {
-    let mut space = Region::new(rt.alloc(), 256)?;
-    let mut blocks = three(&rt, &mut space)?;
-    space.fill(128, 32, 5);
-    space.fill(160, 32, 7);
-    assert_eq!(rt; blocks.run_end(128, 160), 160);
-    assert_eq!(rt; blocks.run_end(192, 256), 192);
-    let end = blocks.run_end(128, 256);
-    assert_eq!(rt; end, 192);
-    blocks.slide_run(&mut space, Span { from: 128, to: end }, 64);
-    assert_eq!(rt; blocks.find(2), Some(block(2, 64, 32, Hold::Pinned)));
-    assert_eq!(rt; blocks.find(3), Some(block(3, 96, 32, Hold::Loose)));
-    assert_eq!(rt; space.view(64, 32), [5; 32].as_slice());
-    assert_eq!(rt; space.view(96, 32), [7; 32].as_slice());
-    assert_eq!(rt; space.written(), 128);
-    assert_eq!(rt; blocks.longest(&space), 128);
-    assert_eq!(rt; blocks.hole_for(&space, 128), Some(128));
-    assert_eq!(rt; blocks.next_from(&space, 128), None);
+    assert!(rt; run_ends(rt.alloc())? == [160, 192, 192]);
+    let bench = Bench::slid(rt.alloc())?;
+    assert_eq!(rt; first_wrong(&bench, SLID), None);
+    assert!(rt; bench.written() == 128 && bench.state() == (160, 128, true));
     Ok(())
 }
+
+const LIFTED: &[Asked] = &[
+    Asked::Find(2, Some(Block { at: 160, ..SECOND })),
+    Asked::Find(3, Some(Block { at: 192, ..LAST })),
+    Asked::Byte(160, 5),
+    Asked::Byte(192, 7),
+    Asked::Hole(96, Some(64)),
+    Asked::Hole(97, None),
+    Asked::Next(64, Some(Block { at: 160, ..SECOND })),
+];
 
 #[test]
 fn lifts_a_run(rt: HostRuntime) -> Result<(), Fail> {
-    let mut space = Region::new(rt.alloc(), 256)?;
-    let mut blocks = three(&rt, &mut space)?;
-    space.fill(128, 32, 5);
-    space.fill(160, 32, 7);
-    assert_eq!(rt; blocks.run_begin(192, 160), 160);
-    assert_eq!(rt; blocks.run_begin(128, 0), 128);
-    let begin = blocks.run_begin(192, 0);
-    assert_eq!(rt; begin, 128);
-    // Over its own bytes.
-    let run = Span {
-        from: begin,
-        to: 192,
-    };
-    blocks.lift_run(&mut space, run, 160);
-    assert_eq!(rt; blocks.find(2), Some(block(2, 160, 32, Hold::Pinned)));
-    assert_eq!(rt; blocks.find(3), Some(block(3, 192, 32, Hold::Loose)));
-    assert_eq!(rt; space.view(160, 32), [5; 32].as_slice());
-    assert_eq!(rt; space.view(192, 32), [7; 32].as_slice());
-    assert_eq!(rt; space.written(), 128);
-    assert_eq!(rt; blocks.longest(&space), 96);
-    assert_eq!(rt; blocks.hole_for(&space, 96), Some(64));
-    assert_eq!(rt; blocks.hole_for(&space, 97), None);
-    assert_eq!(rt;
-        blocks.next_from(&space, 64),
-        Some(block(2, 160, 32, Hold::Pinned))
-    );
+    assert!(rt; run_begins(rt.alloc())? == [160, 128, 128]);
+    let bench = Bench::lifted(rt.alloc())?;
+    assert_eq!(rt; first_wrong(&bench, LIFTED), None);
+    assert!(rt; bench.written() == 128 && bench.state() == (160, 96, true));
     Ok(())
 }
+
+const PINNED: &[Asked] = &[
+    Asked::Find(
+        0,
+        Some(Block {
+            hold: Hold::Pinned,
+            ..FIRST
+        }),
+    ),
+    Asked::Find(2, None),
+];
 
 #[test]
 fn changes_one_block(rt: HostRuntime) -> Result<(), Fail> {
-    let mut space = Region::new(rt.alloc(), 256)?;
-    let mut blocks = three(&rt, &mut space)?;
-    blocks.set_hold(0, Hold::Pinned);
-    assert_eq!(rt; blocks.find(0), Some(block(0, 32, 32, Hold::Pinned)));
-    blocks.remove(&mut space, 2);
-    assert!(rt; blocks.has_pinned());
-    blocks.set_hold(0, Hold::Loose);
-    assert!(rt; !blocks.has_pinned());
-    assert_eq!(rt; blocks.find(2), None);
-    assert_eq!(rt; blocks.longest(&space), 96);
-    assert_eq!(rt; blocks.free(), 192);
+    let bench = Bench::pinned(rt.alloc())?;
+    assert_eq!(rt; first_wrong(&bench, PINNED), None);
+    assert!(rt; bench.state() == (192, 96, true));
+    let bench = Bench::loosened(rt.alloc())?;
+    assert!(rt; bench.state() == (192, 96, false));
     Ok(())
 }
 
+const GROWN: &[Asked] = &[
+    Asked::Find(0, Some(Block { size: 96, ..FIRST })),
+    Asked::Hole(33, Some(192)),
+];
+
 #[test]
 fn grows(rt: HostRuntime) -> Result<(), Fail> {
-    let mut space = Region::new(rt.alloc(), 256)?;
-    let mut blocks = three(&rt, &mut space)?;
-    blocks.resize(&mut space, 0, 96);
-    assert_eq!(rt; blocks.find(0), Some(block(0, 32, 96, Hold::Loose)));
-    assert_eq!(rt; blocks.hole_for(&space, 33), Some(192));
-    assert_eq!(rt; blocks.free(), 96);
+    let bench = Bench::grown(rt.alloc())?;
+    assert_eq!(rt; first_wrong(&bench, GROWN), None);
+    assert!(rt; bench.state() == (96, 64, true));
     Ok(())
 }
 
 #[test]
 fn walks_by_address(rt: HostRuntime) -> Result<(), Fail> {
-    let mut space = Region::new(rt.alloc(), 256)?;
-    let blocks = three(&rt, &mut space)?;
-    let mut ids = Vec::new(rt.alloc());
-    for block in blocks.by_address(&space) {
-        ids.push(block.id)?;
-    }
-    assert_eq!(rt; ids.as_slice(), [0, 2, 3].as_slice());
+    let bench = Bench::new(rt.alloc())?;
+    assert!(rt; bench.has_order(&[0, 2, 3]));
     Ok(())
 }
+
+/// From above all on, each time from where the block before begins; then from inside a block, which is the last, and from the lowest place.
+const BELOW: &[Asked] = &[
+    Asked::Below(1000, Some(LAST)),
+    Asked::Below(160, Some(SECOND)),
+    Asked::Below(128, Some(FIRST)),
+    Asked::Below(32, None),
+    Asked::Below(129, Some(SECOND)),
+    Asked::Below(0, None),
+];
 
 #[test]
 fn walks_down(rt: HostRuntime) -> Result<(), Fail> {
-    let mut space = Region::new(rt.alloc(), 256)?;
-    let blocks = three(&rt, &mut space)?;
-    // From above all on, each time from where the block before begins.
-    assert_eq!(rt;
-        blocks.last_below(1000),
-        Some(block(3, 160, 32, Hold::Loose))
-    );
-    assert_eq!(rt;
-        blocks.last_below(160),
-        Some(block(2, 128, 32, Hold::Pinned))
-    );
-    assert_eq!(rt; blocks.last_below(128), Some(block(0, 32, 32, Hold::Loose)));
-    assert_eq!(rt; blocks.last_below(32), None);
-    // From inside a block, which is then the last.
-    assert_eq!(rt;
-        blocks.last_below(129),
-        Some(block(2, 128, 32, Hold::Pinned))
-    );
-    assert_eq!(rt; blocks.last_below(0), None);
+    let bench = Bench::new(rt.alloc())?;
+    assert_eq!(rt; first_wrong(&bench, BELOW), None);
     Ok(())
 }
 
+/// From 0 on, each time from the end of the part before; then from inside a block, from inside a hole, and behind where the last part begins.
+const PARTS: &[Asked] = &[
+    Asked::Part(0, Some(Part::Hole(Span { from: 0, to: 32 }))),
+    Asked::Part(32, Some(Part::Block(FIRST))),
+    Asked::Part(64, Some(Part::Hole(Span { from: 64, to: 128 }))),
+    Asked::Part(128, Some(Part::Block(SECOND))),
+    Asked::Part(160, Some(Part::Block(LAST))),
+    Asked::Part(192, Some(Part::Hole(Span { from: 192, to: 256 }))),
+    Asked::Part(256, None),
+    Asked::Part(33, Some(Part::Hole(Span { from: 64, to: 128 }))),
+    Asked::Part(96, Some(Part::Block(SECOND))),
+    Asked::Part(193, None),
+    Asked::Part(1000, None),
+];
+
 #[test]
 fn walks_by_part(rt: HostRuntime) -> Result<(), Fail> {
-    let mut space = Region::new(rt.alloc(), 256)?;
-    let blocks = three(&rt, &mut space)?;
-    // From 0 on, each time from the end of the part before.
-    assert_eq!(rt; blocks.part_from(&space, 0), Some(hole(0, 32)));
-    assert_eq!(rt;
-        blocks.part_from(&space, 32),
-        Some(Part::Block(block(0, 32, 32, Hold::Loose)))
-    );
-    assert_eq!(rt; blocks.part_from(&space, 64), Some(hole(64, 128)));
-    assert_eq!(rt;
-        blocks.part_from(&space, 128),
-        Some(Part::Block(block(2, 128, 32, Hold::Pinned)))
-    );
-    assert_eq!(rt;
-        blocks.part_from(&space, 160),
-        Some(Part::Block(block(3, 160, 32, Hold::Loose)))
-    );
-    assert_eq!(rt; blocks.part_from(&space, 192), Some(hole(192, 256)));
-    assert_eq!(rt; blocks.part_from(&space, 256), None);
-    // From inside a block, from inside a hole, and behind where the last part begins.
-    assert_eq!(rt; blocks.part_from(&space, 33), Some(hole(64, 128)));
-    assert_eq!(rt;
-        blocks.part_from(&space, 96),
-        Some(Part::Block(block(2, 128, 32, Hold::Pinned)))
-    );
-    assert_eq!(rt; blocks.part_from(&space, 193), None);
-    assert_eq!(rt; blocks.part_from(&space, 1000), None);
+    let bench = Bench::new(rt.alloc())?;
+    assert_eq!(rt; first_wrong(&bench, PARTS), None);
     Ok(())
 }

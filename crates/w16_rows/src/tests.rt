@@ -3,16 +3,17 @@ ghost use Rattle.w16_kernel.specs.Runs.{IsCall};
 
 use crate::hosts::{Broken, Endless, Short};
 use crate::rows::{
-    LIFE, LIFE_OUTPUT, Row, of_bytes, of_compaction, of_lines, of_local_heaps, of_memory,
-    of_objects, of_order, of_questions, of_reallocation, of_registers,
+    LIFE, LIFE_OUTPUT, OF_BYTES, OF_COMPACTION, OF_LINES, OF_LOCAL_HEAPS, OF_MEMORY, OF_OBJECTS,
+    OF_ORDER, OF_QUESTIONS, OF_REALLOCATION, OF_REGISTERS, Row,
 };
 use arrayvec::ArrayVec;
 use std::alloc::{AllocError, Global};
+use std::io::Read;
 use std::process::Abort;
 use std::test::Fail;
 use w16_kernel::{Answer, Call, Kernel};
 use w16_model::{GRAIN, MOST_SLOTS};
-use w16_script::{RunFault, run};
+use w16_script::{Ended, RunFault, run};
 
 /// The bytes of a row's script.
 fn script_of(alloc: Global, row: &Row) -> Result<Vec<u8>, AllocError> {
@@ -52,76 +53,57 @@ fn expect_answered(rt: &(impl Abort + AllocGlobal), row: &Row) -> Result<(), All
     Ok(())
 }
 
-#[test]
-fn lines_are_answered(rt: HostRuntime) -> Result<(), Fail> {
-    for row in of_lines() {
-        expect_answered(&rt, &row)?;
+/// Plays rows, and compares.
+fn expect_all(rt: &(impl Abort + AllocGlobal), rows: &[Row]) -> Result<(), Fail> {
+    for row in rows {
+        expect_answered(rt, row)?;
     }
     Ok(())
+}
+
+#[test]
+fn lines_are_answered(rt: HostRuntime) -> Result<(), Fail> {
+    expect_all(&rt, OF_LINES)
 }
 
 #[test]
 fn memory_is_answered_for(rt: HostRuntime) -> Result<(), Fail> {
-    for row in of_memory() {
-        expect_answered(&rt, &row)?;
-    }
-    Ok(())
+    expect_all(&rt, OF_MEMORY)
 }
 
 #[test]
 fn bytes_are_answered(rt: HostRuntime) -> Result<(), Fail> {
-    for row in of_bytes() {
-        expect_answered(&rt, &row)?;
-    }
-    Ok(())
+    expect_all(&rt, OF_BYTES)
 }
 
 #[test]
 fn objects_are_answered_for(rt: HostRuntime) -> Result<(), Fail> {
-    for row in of_objects() {
-        expect_answered(&rt, &row)?;
-    }
-    Ok(())
+    expect_all(&rt, OF_OBJECTS)
 }
 
 #[test]
 fn compaction_is_answered_for(rt: HostRuntime) -> Result<(), Fail> {
-    for row in of_compaction() {
-        expect_answered(&rt, &row)?;
-    }
-    Ok(())
+    expect_all(&rt, OF_COMPACTION)
 }
 
 #[test]
 fn the_order_is_answered_for(rt: HostRuntime) -> Result<(), Fail> {
-    for row in of_order() {
-        expect_answered(&rt, &row)?;
-    }
-    Ok(())
+    expect_all(&rt, OF_ORDER)
 }
 
 #[test]
 fn reallocation_is_answered_for(rt: HostRuntime) -> Result<(), Fail> {
-    for row in of_reallocation() {
-        expect_answered(&rt, &row)?;
-    }
-    Ok(())
+    expect_all(&rt, OF_REALLOCATION)
 }
 
 #[test]
 fn local_heaps_are_answered_for(rt: HostRuntime) -> Result<(), Fail> {
-    for row in of_local_heaps() {
-        expect_answered(&rt, &row)?;
-    }
-    Ok(())
+    expect_all(&rt, OF_LOCAL_HEAPS)
 }
 
 #[test]
 fn questions_are_answered(rt: HostRuntime) -> Result<(), Fail> {
-    for row in of_questions() {
-        expect_answered(&rt, &row)?;
-    }
-    Ok(())
+    expect_all(&rt, OF_QUESTIONS)
 }
 
 /// A text, so many times.
@@ -132,23 +114,38 @@ fn append_times(text: &mut Vec<u8>, part: &[u8], times: u32) -> Result<(), Alloc
     Ok(())
 }
 
+/// Parts of a script one after another, each so many times.
+const LOCKS: &[(&[u8], u32)] = &[
+    (b"GlobalAlloc 2 32\n", 1),
+    (b"GlobalLock 0x106\n", 256),
+    (b"GlobalFlags 0x106\nGlobalFree 0x106\n", 1),
+    (b"GlobalUnlock 0x106\n", 256),
+    (b"GlobalFree 0x106\n", 1),
+];
+
+/// And of the replies.
+const LOCKS_OUTPUT: &[(&[u8], u32)] = &[
+    (b"0106\n", 1),
+    (b"01070000\n", 255),
+    (b"00000000\n00ff\n0106\n", 1),
+    (b"0001\n", 254),
+    (b"0000\n", 3),
+];
+
+/// The whole text.
+fn joined(alloc: Global, parts: &[(&[u8], u32)]) -> Result<Vec<u8>, AllocError> {
+    let mut text = Vec::new(alloc);
+    for (part, times) in parts {
+        append_times(&mut text, part, *times)?;
+    }
+    Ok(text)
+}
+
 #[test]
 fn locks_up_to_the_full_count(rt: HostRuntime) -> Result<(), Fail> {
-    let mut script = Vec::new(rt.alloc());
-    let mut wanted = Vec::new(rt.alloc());
-    append_times(&mut script, b"GlobalAlloc 2 32\n", 1)?;
-    append_times(&mut script, b"GlobalLock 0x106\n", 256)?;
-    append_times(&mut script, b"GlobalFlags 0x106\nGlobalFree 0x106\n", 1)?;
-    append_times(&mut script, b"GlobalUnlock 0x106\n", 256)?;
-    append_times(&mut script, b"GlobalFree 0x106\n", 1)?;
-    append_times(&mut wanted, b"0106\n", 1)?;
-    append_times(&mut wanted, b"01070000\n", 255)?;
-    append_times(&mut wanted, b"00000000\n00ff\n0106\n", 1)?;
-    append_times(&mut wanted, b"0001\n", 254)?;
-    append_times(&mut wanted, b"0000\n", 3)?;
-    let mut kernel = Kernel::new(rt.alloc(), 4096, 16)?;
-    let mut output = Vec::new(rt.alloc());
-    let ended = run(rt.alloc(), &mut script.as_slice(), &mut output, &mut kernel);
+    let script = joined(rt.alloc(), LOCKS)?;
+    let wanted = joined(rt.alloc(), LOCKS_OUTPUT)?;
+    let (ended, output) = ended_of(rt.alloc(), script.as_slice())?;
     assert!(rt; ended.is_ok());
     assert_eq!(rt; output.as_slice(), wanted.as_slice());
     Ok(())
@@ -156,10 +153,7 @@ fn locks_up_to_the_full_count(rt: HostRuntime) -> Result<(), Fail> {
 
 #[test]
 fn registers_are_answered_for(rt: HostRuntime) -> Result<(), Fail> {
-    for row in of_registers() {
-        expect_answered(&rt, &row)?;
-    }
-    Ok(())
+    expect_all(&rt, OF_REGISTERS)
 }
 
 /// One object's life as calls.
@@ -206,14 +200,23 @@ fn a_life_by_calls(rt: HostRuntime) -> Result<(), Fail> {
     Ok(())
 }
 
+/// How a run over a reader ended, and what was printed.
+fn ended_of<R: Read + Drop>(
+    alloc: Global,
+    mut reader: R,
+) -> Result<(Result<Ended, RunFault>, Vec<u8>), AllocError> {
+    let mut kernel = Kernel::new(alloc, 4096, 16)?;
+    let mut output = Vec::new(alloc);
+    let ended = run(alloc, &mut reader, &mut output, &mut kernel);
+    Ok((ended, output))
+}
+
 #[test]
 fn a_reader_fails_in_a_line(rt: HostRuntime) -> Result<(), Fail> {
-    let mut kernel = Kernel::new(rt.alloc(), 4096, 16)?;
-    let mut reader = Broken {
+    let reader = Broken {
         bytes: b"GlobalAlloc 0x42 100\nGlobalLock 0x106\nWrite 0x01070000 4e45\nRead 0x0107",
     };
-    let mut output = Vec::new(rt.alloc());
-    let ended = run(rt.alloc(), &mut reader, &mut output, &mut kernel);
+    let (ended, output) = ended_of(rt.alloc(), reader)?;
     assert!(rt; ended == Err(RunFault::Read));
     assert_eq!(rt; output.as_slice(), b"0106\n01070000\nok\n".as_slice());
     Ok(())
@@ -221,51 +224,49 @@ fn a_reader_fails_in_a_line(rt: HostRuntime) -> Result<(), Fail> {
 
 #[test]
 fn a_reader_fails_after_the_deciding_byte(rt: HostRuntime) -> Result<(), Fail> {
-    let mut kernel = Kernel::new(rt.alloc(), 4096, 16)?;
-    let row = Row {
-        script: b"",
-        letters: 4097,
-        ..of_lines()[0]
+    let letters = vec![in rt.alloc(); b'a'; 4097]?;
+    let reader = Broken {
+        bytes: letters.as_slice(),
     };
-    let script = script_of(rt.alloc(), &row)?;
-    let mut reader = Broken {
-        bytes: script.as_slice(),
-    };
-    let mut output = Vec::new(rt.alloc());
-    let ended = run(rt.alloc(), &mut reader, &mut output, &mut kernel);
+    let (ended, output) = ended_of(rt.alloc(), reader)?;
     assert!(rt; ended == Err(RunFault::TooLong));
     assert!(rt; output.is_empty());
     Ok(())
 }
 
+/// Whether a run over a writer of so many bytes ends by it, and just these were written.
+fn stops_at(alloc: Global, left: usize) -> Result<bool, AllocError> {
+    let mut kernel = Kernel::new(alloc, 4096, 16)?;
+    let mut reader = LIFE;
+    let mut writer = Short {
+        taken: ArrayVec::new(),
+        left,
+    };
+    let ended = run(alloc, &mut reader, &mut writer, &mut kernel);
+    let taken = writer.taken.as_slice();
+    Ok(ended == Err(RunFault::Write) && taken.len() == left && LIFE_OUTPUT.starts_with(taken))
+}
+
 #[test]
 fn a_writer_fails_at_each_byte(rt: HostRuntime) -> Result<(), Fail> {
     for left in 0..LIFE_OUTPUT.len() {
-        let mut kernel = Kernel::new(rt.alloc(), 4096, 16)?;
-        let mut reader = LIFE;
-        let mut writer = Short {
-            taken: ArrayVec::new(),
-            left,
-        };
-        let ended = run(rt.alloc(), &mut reader, &mut writer, &mut kernel);
-        assert!(rt; ended == Err(RunFault::Write), "at {left}");
-        assert!(rt;
-            writer.taken.len() == left && LIFE_OUTPUT.starts_with(writer.taken.as_slice()),
-            "at {left}"
-        );
+        let stops = stops_at(rt.alloc(), left)?;
+        assert!(rt; stops, "at {left}");
     }
     Ok(())
+}
+
+/// Whether a run over one byte for ever ends as too long, and nothing was printed.
+fn is_too_long(alloc: Global, byte: u8) -> Result<bool, AllocError> {
+    let (ended, output) = ended_of(alloc, Endless { byte })?;
+    Ok(ended == Err(RunFault::TooLong) && output.is_empty())
 }
 
 #[test]
 fn endless_readers_are_too_long(rt: HostRuntime) -> Result<(), Fail> {
     for byte in [b'\n', b'a'] {
-        let mut kernel = Kernel::new(rt.alloc(), 4096, 16)?;
-        let mut reader = Endless { byte };
-        let mut output = Vec::new(rt.alloc());
-        let ended = run(rt.alloc(), &mut reader, &mut output, &mut kernel);
-        assert!(rt; ended == Err(RunFault::TooLong), "of {byte}");
-        assert!(rt; output.is_empty(), "of {byte}");
+        let long = is_too_long(rt.alloc(), byte)?;
+        assert!(rt; long, "of {byte}");
     }
     Ok(())
 }

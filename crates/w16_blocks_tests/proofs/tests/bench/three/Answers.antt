@@ -1,7 +1,7 @@
 use Rattle.std.proofs.Common.{[], ◌∷◌, inr, arith, refl}
 use Rattle.w16_model.specs.declared.Hold.TheVariants.{Pinned, Loose}
 use Rattle.w16_blocks.specs.Layout.{Layout, Fits}
-use Rattle.w16_blocks_tests.proofs.tests.three.Goals as goal
+use Rattle.w16_blocks_tests.proofs.tests.bench.three.Goals as goal
 
 abbrev none : Layout
 none = record { cap = 4; lo = 0; hi = 256; grain = 32; blocks = [] }

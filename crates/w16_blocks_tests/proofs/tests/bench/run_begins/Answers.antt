@@ -1,0 +1,5 @@
+use Rattle.std.proofs.Common.{refl}
+use Rattle.w16_blocks_tests.proofs.tests.bench.run_begins.Goals as goal
+
+pub run_begin-requires-clause-grained : goal.run_begin-requires-clause-grained
+run_begin-requires-clause-grained c = rw c.in_ok-blocks.ensures.value (6, refl)

@@ -1,5 +1,0 @@
-use Rattle.std.proofs.Common.{refl}
-use Rattle.w16_blocks_tests.proofs.tests.lifts_a_run.Goals as goal
-
-pub run_begin-requires-clause-grained : goal.run_begin-requires-clause-grained
-run_begin-requires-clause-grained g c = rw c.in_ok-blocks.ensures.value (6, refl)
