@@ -20,6 +20,12 @@ const MEMORY: &str = "1048576";
 /// The number of selectors where none is asked for.
 const SELECTORS: &str = "1024";
 
+const MEMORY_HELP: &str = "Bytes of the global heap, a multiple of 32 from 32 to 16777216";
+
+const SELECTORS_HELP: &str = "How many objects there may be at once, from 1 to 8160";
+
+const SCRIPT_HELP: &str = "The script; standard input without it, or where it is -";
+
 /// The program's version.
 const VERSION: &str = "0.1.0";
 
@@ -29,32 +35,25 @@ const EXAMPLES: &str = "Examples:
   echo 'GlobalAlloc 2 100' | w16heap --memory 4096 --selectors 16
   w16heap - < examples/tour.txt";
 
+/// An option with a number, which is `value` where it isn't given.
+fn number<'a>(alloc: Global, name: &'a str, value: &'a str, help: &'a str) -> Arg<'a> {
+    Arg::new(alloc, name)
+        .long(name)
+        .value_name("N")
+        .value_parser(value_parser!(u32))
+        .default_value(value)
+        .help(help)
+}
+
 /// The command line that the program takes.
 fn command<'a>(alloc: Global) -> Result<Command<'a>, Error> {
-    let memory = Arg::new(alloc, "memory")
-        .long("memory")
-        .value_name("N")
-        .value_parser(value_parser!(u32))
-        .default_value(MEMORY)
-        .help("Bytes of the global heap, a multiple of 32 from 32 to 16777216");
-    let selectors = Arg::new(alloc, "selectors")
-        .long("selectors")
-        .value_name("N")
-        .value_parser(value_parser!(u32))
-        .default_value(SELECTORS)
-        .help("How many objects there may be at once, from 1 to 8160");
-    let script = Arg::new(alloc, "SCRIPT").help(
-        "The script; standard input without it, or where it is -",
-    );
-    Ok(
-        Command::new(alloc, "w16heap")
-            .version(VERSION)
-            .about("Runs a script of memory calls of Windows 3.1 and prints one reply for each")
-            .after_help(EXAMPLES)
-            .arg(memory)?
-            .arg(selectors)?
-            .arg(script)?,
-    )
+    Command::new(alloc, "w16heap")
+        .version(VERSION)
+        .about("Runs a script of memory calls of Windows 3.1 and prints one reply for each")
+        .after_help(EXAMPLES)
+        .arg(number(alloc, "memory", MEMORY, MEMORY_HELP))?
+        .arg(number(alloc, "selectors", SELECTORS, SELECTORS_HELP))?
+        .arg(Arg::new(alloc, "SCRIPT").help(SCRIPT_HELP))
 }
 
 /// Reads the words of a command line, the program's name first. An error is `clap`'s, also where help or the version is asked for.
