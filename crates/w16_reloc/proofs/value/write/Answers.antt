@@ -1,4 +1,4 @@
-use Rattle.std.proofs.Common.{◌≡◌, ℕ, suc, zero, ◌+◌, ◌-◌, ◌%◌, ◌/◌, ◌∙◌, ap, ◌<◌, [], ◌∷◌, cond, refl, arith, get_or}
+use Rattle.std.proofs.Common.{◌≡◌, ℕ, suc, zero, ◌+◌, ◌-◌, ◌%◌, ◌/◌, ◌∙◌, ap, ◌<◌, [], ◌∷◌, cond, refl, arith, get_or, rules}
 use Rattle.std.specs.Prelude.{nat_lt, nat_le, ◌&&◌}
 use Rattle.std.proofs.lemmas.Bool.Decides.{nat_tests}
 use Rattle.w16_reloc.proofs.value.write.Goals as goal
@@ -25,3 +25,6 @@ pointer_written offset selector at o new mid old second first = second ∙ ap (�
 
 pub returns-in-Pointer : goal.returns-in-Pointer
 returns-in-Pointer c = λ o. rw c.in-Pointer.is (pointer_written c.args.far.offset c.args.far.selector c.args.at o _ _ _ (c.set_word-in-Pointer-2.ensures o) (c.set_word-in-Pointer.ensures o))
+
+pub returns-in-LowByte : goal.returns-in-LowByte
+returns-in-LowByte c = search rules

@@ -1,4 +1,4 @@
-use Rattle.std.proofs.Common.{◌≡◌, ◌∷◌, false, get_or, arith}
+use Rattle.std.proofs.Common.{◌≡◌, ◌∷◌, false, get_or, arith, rules}
 use Rattle.std.specs.Prelude.{◌==◌}
 use Rattle.std.proofs.lemmas.Bool.Decides.{nat_tests}
 use Rattle.w16_script.specs.Words.{words_of}
@@ -10,3 +10,6 @@ returns-in-None-clause-reads c =
     let loud : (get_or c.in-Some.word.now 0 0 == 59) ≡ false = grind (arith, nat_tests) in
     Reads-unmade c.args.registers.now c.args.line.now (c.in-Some.word.now ∷ words_of c.in-Some.behind.now) (words_of c.in-Some-head.text.now) c.in-Some-head.target c.in-Some-head.name
     c.in-Some.ensures.some loud c.in-Some-head.ensures.found c.in-None.ensures.none
+
+pub returns-in_default-head-clause-reads : goal.returns-in_default-head-clause-reads
+returns-in_default-head-clause-reads c = search rules

@@ -1,5 +1,5 @@
 use Rattle.std.proofs.lemmas.Result.{err_from_is_err_and}
-use Rattle.std.proofs.Common.{[], ◌++◌, take, length-take, arith, subst, sym, ap}
+use Rattle.std.proofs.Common.{[], ◌++◌, take, length-take, arith, subst, sym, ap, rules}
 use Rattle.std.proofs.lemmas.Result.{IfOk-weaker, IfErr-weaker}
 use Rattle.std.proofs.KnownBytes.{Consumes-nil, Consumes-trans}
 use Rattle.w16_script.specs.State.{state_with}
@@ -61,3 +61,6 @@ returns-then-count-eq0-clause-err g c =
       FailsLater-last _ _ _ _ _ _ _ _ _ text fault (c.in-Ok.ensures.end c.if-count-eq0.true) (Feeds-kept _ _ _ _ _ _ _ text feeds c.flush_writer.ensures) c.pieces.invariant.fits filled fails,
     ))
     c.finish.ensures.err
+
+pub returns-then-is_err-clause-ok : goal.returns-then-is_err-clause-ok
+returns-then-is_err-clause-ok g c = search rules

@@ -1,4 +1,4 @@
-use Rattle.std.proofs.Common.{sym}
+use Rattle.std.proofs.Common.{sym, rules}
 use Rattle.w16_global.proofs.Joined.{handles_shown}
 use Rattle.w16_global.proofs.Resizing.{empties_ok}
 use Rattle.w16_global.proofs.global.Global16.empty.Goals as goal
@@ -7,3 +7,6 @@ pub returns-in-Ok-clause-step : goal.returns-in-Ok-clause-step
 returns-in-Ok-clause-step c =
     let s = c.in-Ok.ensures.ok in
     empties_ok c.args.self.now.handles c.requires.unmoved c.args.handle c.args.slot c.args.flags c.discard.new.self.handles (sym c.if-not-has_flag.ensures) s.0 (handles_shown s.1)
+
+pub returns-in-Err-clause-step : goal.returns-in-Err-clause-step
+returns-in-Err-clause-step c = search rules

@@ -1,4 +1,4 @@
-use Rattle.std.proofs.Common.{◌≡◌, ℕ, All, is_some, true, sym, subst}
+use Rattle.std.proofs.Common.{◌≡◌, ℕ, All, is_some, true, sym, subst, rules}
 use Rattle.w16_selectors.specs.Descriptors.{descriptor_at}
 use Rattle.w16_global.specs.Joined.{forgotten}
 use Rattle.w16_global.proofs.Reallocating.{discarded_known, known_told, known_followed, reallocated_joined, reallocated_shown}

@@ -18,3 +18,9 @@ returns-clause-few c =
     let high = c.self.invariant.high in
     let small = c.self.inside.memory.small in
     omega arith
+
+pub returns-clause-moved : goal.returns-clause-moved
+returns-clause-moved c = search rules
+
+pub returns-clause-written : goal.returns-clause-written
+returns-clause-written c = search rules

@@ -19,3 +19,6 @@ returns-in-Ok-clause-honest g c = λ honest.
     let is : Some c.in-Some.listed.now ≡ find (λ m. is_named m name) names = search rules in
     let read = c.in-Ok.ensures.honest honest in
     length_from_read names (g.D.Disk.files c.args.self.now.disk) name c.in-Some.listed.now read.0 c.in-Ok.len is read.1 read.2
+
+pub returns-in-Err-clause-honest : goal.returns-in-Err-clause-honest
+returns-in-Err-clause-honest g c = search rules
