@@ -1,0 +1,11 @@
+use Rattle.std.proofs.Common.{rules}
+use Rattle.w16_selectors.proofs.Selectors.lowest_free.Goals as goal
+
+pub returns-clause-found : goal.returns-clause-found
+returns-clause-found c = search rules
+
+pub returns-clause-lowest : goal.returns-clause-lowest
+returns-clause-lowest c = search rules
+
+pub returns-clause-few : goal.returns-clause-few
+returns-clause-few c = search rules
