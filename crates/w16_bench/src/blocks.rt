@@ -22,10 +22,24 @@ pub fn time<S: Space>(
     requires long { length (S.bytes space.old) ≡ SIZE }
     ensures { length (S.bytes space.new) ≡ SIZE }
 {
-    let mut blocks = packed(rt.alloc(), space, count)?;
     eprintln!(rt; "{count} blocks")?;
-    time_looks(rt, &blocks, space, turns)?;
-    time_changes(rt, &mut blocks, space, turns)
+    let mut blocks = packed(rt.alloc(), space, count)?;
+    time_all(rt, &mut blocks, space, turns)
+}
+
+/// Times the loops over such blocks.
+fn time_all<S: Space>(
+    rt: &(impl Clock + Print + Eprint),
+    blocks: &mut Blocks<SideHoles>,
+    space: &mut S,
+    turns: u32,
+) -> Result<()>
+    requires some { 0 < blocks.old.cap }
+    requires inside { blocks.old.hi ≤ length (S.bytes space.old) }
+    ensures { length (S.bytes space.new) ≡ length (S.bytes space.old) }
+{
+    time_looks(rt, blocks, space, turns)?;
+    time_changes(rt, blocks, space, turns)
 }
 
 /// Times what changes no block.
@@ -38,20 +52,51 @@ fn time_looks<S: Space>(
     requires some { 0 < blocks.now.cap }
     requires inside { blocks.now.hi ≤ length (S.bytes space.now) }
 {
-    let steps = u64::from(turns);
+    let count = blocks.cap();
+    let found = time_find(rt, blocks, turns)?;
+    let next = time_next(rt, blocks, space, turns)?;
+    let read = time_read(rt, blocks, space, turns)?;
+    println!(rt; "looks at {count} blocks: {found} {next} {read}")?;
+    Ok(())
+}
+
+/// Times `find`.
+fn time_find(rt: &(impl Clock + Eprint), blocks: &Blocks<SideHoles>, turns: u32) -> Result<u64>
+    requires { 0 < blocks.now.cap }
+{
     let start = Instant::now(rt)?;
     let found = find(blocks, turns);
-    tell(rt, "find", start, steps)?;
+    tell(rt, "find", start, u64::from(turns))?;
+    Ok(found)
+}
 
+/// Times `next`.
+fn time_next<S: Space>(
+    rt: &(impl Clock + Eprint),
+    blocks: &Blocks<SideHoles>,
+    space: &S,
+    turns: u32,
+) -> Result<u64> {
     let start = Instant::now(rt)?;
     let next = next(blocks, space, turns);
-    tell(rt, "next", start, steps)?;
+    tell(rt, "next", start, u64::from(turns))?;
+    Ok(next)
+}
 
+/// Times `read`.
+fn time_read<S: Space>(
+    rt: &(impl Clock + Eprint),
+    blocks: &Blocks<SideHoles>,
+    space: &S,
+    turns: u32,
+) -> Result<u64>
+    requires some { 0 < blocks.now.cap }
+    requires inside { blocks.now.hi ≤ length (S.bytes space.now) }
+{
     let start = Instant::now(rt)?;
     let read = read(blocks, space, turns);
-    tell(rt, "far read", start, steps)?;
-    println!(rt; "{found} {next} {read}")?;
-    Ok(())
+    tell(rt, "far read", start, u64::from(turns))?;
+    Ok(read)
 }
 
 /// Times frees and allocations, and a gather.
@@ -65,15 +110,46 @@ fn time_changes<S: Space>(
     requires inside { blocks.old.hi ≤ length (S.bytes space.old) }
     ensures { length (S.bytes space.new) ≡ length (S.bytes space.old) }
 {
+    let count = blocks.cap();
+    let holes = time_pairs(rt, blocks, space, turns)?;
+    let moved = time_gather(rt, blocks, space)?;
+    println!(rt; "changes of {count} blocks: {holes} {moved}")?;
+    Ok(())
+}
+
+/// Times `pairs`.
+fn time_pairs<S: Space>(
+    rt: &(impl Clock + Eprint),
+    blocks: &mut Blocks<SideHoles>,
+    space: &mut S,
+    turns: u32,
+) -> Result<u64>
+    requires some { 0 < blocks.old.cap }
+    requires inside { blocks.old.hi ≤ length (S.bytes space.old) }
+    ensures cap { blocks.new.cap ≡ blocks.old.cap }
+    ensures hi { blocks.new.hi ≡ blocks.old.hi }
+    ensures long { length (S.bytes space.new) ≡ length (S.bytes space.old) }
+{
     let start = Instant::now(rt)?;
     let holes = pairs(blocks, space, turns);
     tell(rt, "free and alloc", start, u64::from(turns))?;
+    Ok(holes)
+}
 
+/// Times `gather_all`, for each block that it moves.
+fn time_gather<S: Space>(
+    rt: &(impl Clock + Eprint),
+    blocks: &mut Blocks<SideHoles>,
+    space: &mut S,
+) -> Result<u64>
+    requires some { 0 < blocks.old.cap }
+    requires inside { blocks.old.hi ≤ length (S.bytes space.old) }
+    ensures { length (S.bytes space.new) ≡ length (S.bytes space.old) }
+{
     let start = Instant::now(rt)?;
     let moved = gather_all(blocks, space);
     tell(rt, "gather, a block", start, moved / u64::from(UNIT))?;
-    println!(rt; "{holes} {moved}")?;
-    Ok(())
+    Ok(moved)
 }
 
 /// So many blocks, each of one unit, from the lowest address on and with no hole between them.

@@ -4,11 +4,13 @@
 //! The first argument is the number of turns of each loop; a file is read once for a thousand of them. The times go to standard error, so that standard output is the same each time.
 #![tactic(auto)]
 
+ghost use Rattle.std.specs.Prelude.{◌≡◌, length};
+
 use anyhow::Result;
 use std::env;
 use std::rt::{Clock, Env};
 use std::time::Instant;
-use w16_region::Region;
+use w16_region::{Region, Space};
 
 mod blocks;
 mod memory;
@@ -45,13 +47,25 @@ fn tell(rt: &(impl Eprint + Clock), name: &str, start: Instant, steps: u64) -> R
     Ok(())
 }
 
+/// Times memory, and blocks that lie in it.
+fn time_space<S: Space>(rt: &HostRuntime, space: &mut S, turns: u32) -> Result<()>
+    requires { length (S.bytes space.old) ≡ SIZE }
+{
+    memory::time(rt, space, turns)?;
+    blocks::time(rt, space, 100, turns)?;
+    blocks::time(rt, space, 1000, turns)?;
+    blocks::time(rt, space, 8000, turns)
+}
+
+/// Times them in new memory.
+fn time_region(rt: &HostRuntime, turns: u32) -> Result<()> {
+    let mut region = Region::new(rt.alloc(), SIZE)?;
+    time_space(rt, &mut region, turns)
+}
+
 fn main(rt: HostRuntime) -> Result<()> {
     let turns = turns_asked(&rt)?;
-    let mut region = Region::new(rt.alloc(), SIZE)?;
-    memory::time(&rt, &mut region, turns)?;
-    blocks::time(&rt, &mut region, 100, turns)?;
-    blocks::time(&rt, &mut region, 1000, turns)?;
-    blocks::time(&rt, &mut region, 8000, turns)?;
+    time_region(&rt, turns)?;
     modules::time(&rt, rt.alloc(), turns)?;
     relocation::time(&rt, rt.alloc(), turns)
 }

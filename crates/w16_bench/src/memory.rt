@@ -43,22 +43,44 @@ fn view<S: Space>(space: &S, turns: u32) -> u64
     total
 }
 
-/// Times fills, slides and views of a space.
-pub fn time<S: Space>(rt: &(impl Clock + Eprint + Print), space: &mut S, turns: u32) -> Result<()>
+/// Times `fill`.
+fn time_fill<S: Space>(rt: &(impl Clock + Eprint), space: &mut S, turns: u32) -> Result<()>
     requires { length (S.bytes space.old) ≡ SIZE }
     ensures { length (S.bytes space.new) ≡ SIZE }
 {
     let start = Instant::now(rt)?;
     fill(space, turns);
-    tell(rt, "fill", start, u64::from(turns))?;
+    tell(rt, "fill", start, u64::from(turns))
+}
 
+/// Times `slide`.
+fn time_slide<S: Space>(rt: &(impl Clock + Eprint), space: &mut S, turns: u32) -> Result<()>
+    requires { length (S.bytes space.old) ≡ SIZE }
+    ensures { length (S.bytes space.new) ≡ SIZE }
+{
     let start = Instant::now(rt)?;
     slide(space, turns);
-    tell(rt, "slide", start, u64::from(turns))?;
+    tell(rt, "slide", start, u64::from(turns))
+}
 
+/// Times `view`.
+fn time_view<S: Space>(rt: &(impl Clock + Eprint), space: &S, turns: u32) -> Result<u64>
+    requires { length (S.bytes space.now) ≡ SIZE }
+{
     let start = Instant::now(rt)?;
     let bytes = view(space, turns);
     tell(rt, "view", start, u64::from(turns))?;
+    Ok(bytes)
+}
+
+/// Times fills, slides and views of a space.
+pub fn time<S: Space>(rt: &(impl Clock + Eprint + Print), space: &mut S, turns: u32) -> Result<()>
+    requires { length (S.bytes space.old) ≡ SIZE }
+    ensures { length (S.bytes space.new) ≡ SIZE }
+{
+    time_fill(rt, space, turns)?;
+    time_slide(rt, space, turns)?;
+    let bytes = time_view(rt, space, turns)?;
     println!(rt; "memory: {bytes}")?;
     Ok(())
 }

@@ -84,22 +84,69 @@ fn push_bundle(bytes: &mut Vec<u8>) -> Result<(), AllocError> {
     Ok(())
 }
 
-/// The file of a module that has so many bundles of entries, and a name for each entry.
+/// A module that has so many bundles of entries, and a name for each entry.
+fn push_module(bytes: &mut Vec<u8>, bundles: u16) -> Result<(), AllocError>
+    requires { bundles ≤ 16 }
+{
+    push_headers(bytes, bundles)?;
+    push_segments(bytes)?;
+    push_names(bytes, BUNDLE * bundles)?;
+    for _ in 0..bundles {
+        push_bundle(bytes)?;
+    }
+    Ok(())
+}
+
+/// The file of such a module.
 fn file(alloc: Global, bundles: u16) -> Result<Vec<u8>, AllocError>
     requires { bundles ≤ 16 }
 {
     let mut bytes = Vec::new(alloc);
-    push_headers(&mut bytes, bundles)?;
-    push_segments(&mut bytes)?;
-    push_names(&mut bytes, BUNDLE * bundles)?;
-    for _ in 0..bundles {
-        push_bundle(&mut bytes)?;
-    }
+    push_module(&mut bytes, bundles)?;
     Ok(bytes)
 }
 
-/// Reads such a file, `turns` times. Answers how many segments and entries were read in all.
-fn read(
+/// A store of such a file.
+fn store_of(alloc: Global, bundles: u16) -> Result<MemStore, AllocError>
+    requires { bundles ≤ 16 }
+{
+    let bytes = file(alloc, bundles)?;
+    let mut store = MemStore::new(alloc);
+    store.add(FILE, bytes.as_slice())?;
+    Ok(store)
+}
+
+/// Reads the file once. Answers how many segments and entries were read.
+fn read(alloc: Global, store: &mut MemStore) -> Result<u64> {
+    let module = read_module(alloc, store, FILE)?;
+    Ok((module.segment_count() as u64).wrapping_add(module.entry_count() as u64))
+}
+
+/// Reads the file, `turns` times. Answers how many segments and entries were read in all.
+fn read_all(alloc: Global, store: &mut MemStore, turns: u32) -> Result<u64> {
+    let mut total = 0u64;
+    for _ in 0..turns {
+        total = total.wrapping_add(read(alloc, store)?);
+    }
+    Ok(total)
+}
+
+/// Times `read_all`.
+fn time_read(
+    rt: &(impl Clock + Eprint),
+    alloc: Global,
+    name: &str,
+    store: &mut MemStore,
+    turns: u32,
+) -> Result<u64> {
+    let start = Instant::now(rt)?;
+    let total = read_all(alloc, store, turns)?;
+    tell(rt, name, start, u64::from(turns))?;
+    Ok(total)
+}
+
+/// Times the reading of a module of so many bundles.
+fn time_bundles(
     rt: &(impl Clock + Eprint),
     alloc: Global,
     name: &str,
@@ -108,24 +155,15 @@ fn read(
 ) -> Result<u64>
     requires { bundles ≤ 16 }
 {
-    let mut store = MemStore::new(alloc);
-    store.add(FILE, file(alloc, bundles)?.as_slice())?;
-    let start = Instant::now(rt)?;
-    let mut total = 0u64;
-    for _ in 0..turns {
-        let module = read_module(alloc, &mut store, FILE)?;
-        total = total.wrapping_add(module.segment_count() as u64);
-        total = total.wrapping_add(module.entry_count() as u64);
-    }
-    tell(rt, name, start, u64::from(turns))?;
-    Ok(total)
+    let mut store = store_of(alloc, bundles)?;
+    time_read(rt, alloc, name, &mut store, turns)
 }
 
 /// Times the reading of modules of 253 segments: one of 2,000 names and entries, and one of twice as many.
 pub fn time(rt: &(impl Clock + Eprint + Print), alloc: Global, turns: u32) -> Result<()> {
     let turns = (turns / 1000).max(1);
-    let once = read(rt, alloc, "read 2000 names", 8, turns)?;
-    let twice = read(rt, alloc, "read 4000 names", 16, turns)?;
+    let once = time_bundles(rt, alloc, "read 2000 names", 8, turns)?;
+    let twice = time_bundles(rt, alloc, "read 4000 names", 16, turns)?;
     println!(rt; "modules: {once} {twice}")?;
     Ok(())
 }

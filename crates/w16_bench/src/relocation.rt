@@ -70,19 +70,46 @@ fn push_links(bytes: &mut Vec<u8>, load: Load) -> Result<(), AllocError>
     Ok(())
 }
 
-/// The file of such a segment.
+/// The records: one for each chain, at its first site.
+fn push_records(bytes: &mut Vec<u8>, chains: u16) -> Result<(), AllocError>
+    requires { chains ≤ 16000 }
+{
+    push_words(bytes, &[chains])?;
+    for chain in 0..chains {
+        push_words(bytes, &[3, SITE * chain, 1, 0])?;
+    }
+    Ok(())
+}
+
+/// A module with such a segment.
+fn push_module(bytes: &mut Vec<u8>, load: Load) -> Result<(), AllocError>
+    requires sites { load.sites ≤ 16000 }
+    requires chains { load.chains ≤ load.sites }
+{
+    push_front(bytes, SITE * load.sites)?;
+    push_links(bytes, load)?;
+    push_records(bytes, load.chains)
+}
+
+/// The file of such a module.
 fn file(alloc: Global, load: Load) -> Result<Vec<u8>, AllocError>
     requires sites { load.sites ≤ 16000 }
     requires chains { load.chains ≤ load.sites }
 {
     let mut bytes = Vec::new(alloc);
-    push_front(&mut bytes, SITE * load.sites)?;
-    push_links(&mut bytes, load)?;
-    push_words(&mut bytes, &[load.chains])?;
-    for chain in 0..load.chains {
-        push_words(&mut bytes, &[3, SITE * chain, 1, 0])?;
-    }
+    push_module(&mut bytes, load)?;
     Ok(bytes)
+}
+
+/// A store of such a file.
+fn store_of(alloc: Global, load: Load) -> Result<MemStore, AllocError>
+    requires sites { load.sites ≤ 16000 }
+    requires chains { load.chains ≤ load.sites }
+{
+    let bytes = file(alloc, load)?;
+    let mut store = MemStore::new(alloc);
+    store.add(FILE, bytes.as_slice())?;
+    Ok(store)
 }
 
 /// Checks the segment, `turns` times.
@@ -118,43 +145,75 @@ fn apply_all(alloc: Global, scratch: &Scratch, turns: u32) -> Result<u8> {
     Ok(bytes.first().copied().unwrap_or(0))
 }
 
-/// Times both for such a segment. The first check in a scratch stands apart: it takes its pages from the system.
+/// Times `check_all`, for each of so many sites.
+fn time_check(
+    rt: &(impl Clock + Eprint),
+    name: &str,
+    store: &mut MemStore,
+    module: &Module,
+    scratch: &mut Scratch,
+    turns: u32,
+    sites: u32,
+) -> Result<()> {
+    let start = Instant::now(rt)?;
+    check_all(store, module, scratch, turns)?;
+    tell(rt, name, start, u64::from(turns) * u64::from(sites))
+}
+
+/// Times `apply_all`, for each of so many sites.
+fn time_apply(
+    rt: &(impl Clock + Eprint),
+    alloc: Global,
+    scratch: &Scratch,
+    turns: u32,
+    sites: u32,
+) -> Result<u8> {
+    let start = Instant::now(rt)?;
+    let first = apply_all(alloc, scratch, turns)?;
+    let steps = u64::from(turns) * u64::from(sites);
+    tell(rt, "apply to a site", start, steps)?;
+    Ok(first)
+}
+
+/// Times both in a new scratch. The first check there stands apart: it takes its pages from the system.
+fn time_both(
+    rt: &(impl Clock + Eprint),
+    alloc: Global,
+    store: &mut MemStore,
+    module: &Module,
+    turns: u32,
+    sites: u32,
+) -> Result<u8> {
+    let mut scratch = Scratch::new(alloc)?;
+    let scratch = &mut scratch;
+    let first = "check a site, in a new scratch";
+    time_check(rt, first, store, module, scratch, 1, sites)?;
+    time_check(rt, "check a site", store, module, scratch, turns, sites)?;
+    time_apply(rt, alloc, scratch, turns, sites)
+}
+
+/// Times both for the module of a store.
+fn time_module(
+    rt: &(impl Clock + Eprint),
+    alloc: Global,
+    store: &mut MemStore,
+    turns: u32,
+    sites: u32,
+) -> Result<u8> {
+    let module = read_module(alloc, store, FILE)?;
+    time_both(rt, alloc, store, &module, turns, sites)
+}
+
+/// Times both for such a segment.
 fn run(rt: &(impl Clock + Eprint), alloc: Global, name: &str, load: Load, turns: u32) -> Result<u8>
     requires sites { load.sites ≤ 16000 }
     requires chains { load.chains ≤ load.sites }
 {
     let sites = u32::from(load.sites);
     let turns = (turns / sites.max(1)).max(1);
-    let mut store = MemStore::new(alloc);
-    store.add(FILE, file(alloc, load)?.as_slice())?;
-    let module = read_module(alloc, &mut store, FILE)?;
-    let mut scratch = Scratch::new(alloc)?;
     eprintln!(rt; "{name}:")?;
-    let start = Instant::now(rt)?;
-    check_all(&mut store, &module, &mut scratch, 1)?;
-    tell(
-        rt,
-        "check a site, in a new scratch",
-        start,
-        u64::from(sites),
-    )?;
-    let start = Instant::now(rt)?;
-    check_all(&mut store, &module, &mut scratch, turns)?;
-    tell(
-        rt,
-        "check a site",
-        start,
-        u64::from(turns) * u64::from(sites),
-    )?;
-    let start = Instant::now(rt)?;
-    let first = apply_all(alloc, &scratch, turns)?;
-    tell(
-        rt,
-        "apply to a site",
-        start,
-        u64::from(turns) * u64::from(sites),
-    )?;
-    Ok(first)
+    let mut store = store_of(alloc, load)?;
+    time_module(rt, alloc, &mut store, turns, sites)
 }
 
 /// Times a check and an application of chains, and of records of one site each.

@@ -1,6 +1,6 @@
 //! The command line.
 use clap::{Arg, Command, Error, value_parser};
-use std::alloc::Global;
+use std::alloc::{AllocError, Global};
 use std::convert::AsStr;
 
 /// What the command line asks for.
@@ -46,7 +46,7 @@ fn number<'a>(alloc: Global, name: &'a str, value: &'a str, help: &'a str) -> Ar
 }
 
 /// The command line that the program takes.
-fn command<'a>(alloc: Global) -> Result<Command<'a>, Error> {
+fn command<'a>(alloc: Global) -> Result<Command<'a>, AllocError> {
     Command::new(alloc, "w16heap")
         .version(VERSION)
         .about("Runs a script of memory calls of Windows 3.1 and prints one reply for each")

@@ -38,22 +38,48 @@ fn machine(alloc: Global, options: &Options<'_>) -> Result<Kernel, Fault>
     Kernel::new(alloc, options.memory, options.selectors).map_err(|_| Fault::Memory)
 }
 
-/// Runs the script of a reader. What was replied is flushed before the run's own fault is told, and a failure there is the write fault.
-fn run_script(
-    rt: &HostRuntime,
-    options: &Options<'_>,
-    mut reader: impl Read + Drop,
-) -> Result<(), Fault>
-    requires { IsMemorySize options.now.memory × IsSelectorCount options.now.selectors }
-{
-    let alloc = rt.alloc();
-    let mut kernel = machine(alloc, options)?;
-    let mut writer = BufWriter::new(alloc, io::writer(rt)).map_err(|_| Fault::Memory)?;
-    let ended = run(alloc, &mut reader, &mut writer, &mut kernel);
-    writer.flush().map_err(|_| Fault::Write)?;
+/// Runs a script, and flushes what was replied before the run's own fault is told: a failure there is the write fault.
+fn run_flushed(
+    alloc: Global,
+    reader: &mut impl Read,
+    writer: &mut impl Write,
+    kernel: &mut Kernel,
+) -> Result<(), Fault> {
+    let ended = run(alloc, reader, writer, kernel);
+    if writer.flush().is_err() {
+        return Err(Fault::Write);
+    }
     match ended {
         Ok(_) => Ok(()),
         Err(fault) => Err(Fault::from(fault)),
+    }
+}
+
+/// Runs a script, whose replies go to standard output.
+fn run_printed(rt: &HostRuntime, reader: &mut impl Read, kernel: &mut Kernel) -> Result<(), Fault> {
+    match BufWriter::new(rt.alloc(), io::writer(rt)) {
+        Ok(mut writer) => run_flushed(rt.alloc(), reader, &mut writer, kernel),
+        Err(_) => Err(Fault::Memory),
+    }
+}
+
+/// Runs the script of a reader on a new machine.
+fn run_script(rt: &HostRuntime, options: &Options<'_>, reader: &mut impl Read) -> Result<(), Fault>
+    requires { IsMemorySize options.now.memory × IsSelectorCount options.now.selectors }
+{
+    match machine(rt.alloc(), options) {
+        Ok(mut kernel) => run_printed(rt, reader, &mut kernel),
+        Err(fault) => Err(fault),
+    }
+}
+
+/// Runs the script of a file.
+fn run_file(rt: &HostRuntime, options: &Options<'_>, path: &str) -> Result<(), Fault>
+    requires { IsMemorySize options.now.memory × IsSelectorCount options.now.selectors }
+{
+    match File::open(rt, path) {
+        Ok(mut file) => run_script(rt, options, &mut file),
+        Err(_) => Err(Fault::Read),
     }
 }
 
@@ -61,7 +87,7 @@ fn run_script(
 pub fn play(rt: &HostRuntime, options: &Options<'_>) -> Result<(), Fault> {
     check(options)?;
     match options.script {
-        Some(path) => run_script(rt, options, File::open(rt, path).map_err(|_| Fault::Read)?),
-        None => run_script(rt, options, rt.reader()),
+        Some(path) => run_file(rt, options, path),
+        None => run_script(rt, options, &mut rt.reader()),
     }
 }
