@@ -324,8 +324,19 @@ fn compacts_in_a_window(rt: &impl Abort, alloc: Global, case: &Case) -> Result<b
 /// Whether compaction leaves a case's holes.
 fn leaves_holes(rt: &impl Abort, alloc: Global, case: &Case) -> Result<bool, AllocError> {
     let mut bench = Bench::of(rt, alloc, case.heap())?;
-    assert!(rt; compacts(rt, &mut bench, case));
-    has_holes(rt, alloc, &bench, case.heap(), case.holes)
+    settles(rt, alloc, &mut bench, case)
+}
+
+/// The same of blocks that are there.
+fn settles<S: Space>(
+    rt: &impl Abort,
+    alloc: Global,
+    bench: &mut Bench<S>,
+    case: &Case,
+) -> Result<bool, AllocError> {
+    let compacts = compacts(rt, bench, case);
+    let holes = has_holes(rt, alloc, bench, case.heap(), case.holes)?;
+    Ok(compacts && holes)
 }
 
 /// The blocks whose ids aren't marked.

@@ -272,9 +272,19 @@ const DISCARDS: &[Discards] = &[
 /// The bytes of the first request of a heap that takes another number of discards.
 fn other_count(rt: &impl Abort, alloc: Global, case: &Discards) -> Result<Option<u32>, AllocError> {
     let bench = Bench::of(rt, alloc, case.heap)?;
+    other_order(rt, alloc, &bench, case)
+}
+
+/// The same of blocks that are there.
+fn other_order(
+    rt: &impl Abort,
+    alloc: Global,
+    bench: &Bench<Region>,
+    case: &Discards,
+) -> Result<Option<u32>, AllocError> {
     // From the second request on its table has what the search before it left.
     let mut search = Search::new(rt, alloc, case.heap.order)?;
-    Ok(other_search(rt, &bench, &mut search, case.asked))
+    Ok(other_search(rt, bench, &mut search, case.asked))
 }
 
 /// The same of one search after another.

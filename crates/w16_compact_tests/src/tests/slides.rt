@@ -164,11 +164,21 @@ fn slides(
 }
 
 /// Whether they leave their case's holes too.
+fn settles(
+    rt: &impl Abort,
+    alloc: Global,
+    bench: &mut Bench<Region>,
+    case: &Sliding,
+) -> Result<bool, AllocError> {
+    let slides = slides(rt, alloc, bench, case)?;
+    let holes = has_holes(rt, alloc, bench, case.heap, case.holes)?;
+    Ok(slides && holes)
+}
+
+/// The same in a memory of its own.
 fn agrees(rt: &impl Abort, alloc: Global, case: &Sliding) -> Result<bool, AllocError> {
     let mut bench = Bench::of(rt, alloc, case.heap)?;
-    let slides = slides(rt, alloc, &mut bench, case)?;
-    let holes = has_holes(rt, alloc, &bench, case.heap, case.holes)?;
-    Ok(slides && holes)
+    settles(rt, alloc, &mut bench, case)
 }
 
 /// Slides the blocks of each case.
