@@ -1,16 +1,10 @@
 //! Arrangements of blocks: answers that were worked out by hand, and those of the plain program.
-ghost use Rattle.std.specs.Prelude.{◌≡◌, ◌≢◌, ◌<◌, ◌≤◌, length, IsTrue, IfOk};
-ghost use Rattle.w16_model.specs.Gap.{block_end};
-ghost use Rattle.w16_model.specs.Heap.{IsMultiple};
-ghost use Rattle.w16_blocks.specs.Layout.{Fits, IsApart};
-ghost use Rattle.w16_compact.specs.Gather.{FitsGap, MayGather};
-
+use bench::Bench;
 use std::alloc::{AllocError, Global};
 use std::process::Abort;
 use std::test::Fail;
-use w16_blocks::{Block, Blocks, Hold, Span};
-use w16_compact::{Gap, gap_for, gather, room};
-use w16_holes::SideHoles;
+use w16_blocks::{Block, Hold, Span};
+use w16_compact::Gap;
 use w16_model::Snapshot;
 use w16_region::{Region, Space, Window};
 
@@ -55,16 +49,13 @@ macro_rules! span {
     };
 }
 
+mod bench;
 mod discards;
-mod opened;
-
-/// How many ids there are.
-const IDS: u32 = 8;
+mod slides;
 
 const NONE: [bool; 8] = [false; 8];
 
 /// Blocks of a heap, and what compaction does there.
-#[derive(Clone, Copy)]
 struct Case {
     name: &'static str,
     lo: u32,
@@ -253,279 +244,113 @@ const CASES: &[Case] = &[
         moved: 0,
         holes: &[span!(0, 64), span!(96, 160)],
     },
+    Case {
+        name: "a gap from 32 to 128 that its loose blocks fill",
+        lo: 0,
+        hi: 256,
+        blocks: &[
+            pinned!(0, 0, 32),
+            loose!(1, 32, 64),
+            loose!(2, 96, 32),
+            pinned!(3, 128, 32),
+        ],
+        room: 96,
+        skipped: (&NONE, 96),
+        asked: (32, Some(gap!(160, 256, 0))),
+        places: &[(0, 0), (1, 32), (2, 96), (3, 128)],
+        moved: 0,
+        holes: &[span!(160, 256)],
+    },
 ];
 
-/// The blocks by address, in a list.
-fn listed<S: Space>(
+/// Whether compaction in a heap does what its case tells.
+fn compacts<S: Space>(rt: &impl Abort, bench: &mut Bench<S>, case: &Case) -> bool {
+    let (size, gap) = case.asked;
+    bench.mark(rt);
+    let written = bench.written().saturating_add(case.moved);
+    let told = bench.compact(rt, size);
+    told == (gap, case.moved) && bench.written() == written && is_left(bench, case.places)
+}
+
+/// Whether the blocks stand at these addresses, each with its bytes.
+fn is_left<S: Space>(bench: &Bench<S>, places: &[(u32, u32)]) -> bool {
+    bench.has_places(places) && bench.is_marked()
+}
+
+/// Whether the plain program has these holes between a heap's blocks as they stand.
+fn has_holes<S: Space>(
+    rt: &impl Abort,
     alloc: Global,
-    blocks: &Blocks<SideHoles>,
-    space: &S,
-) -> Result<Vec<Block>, AllocError>
-    ensures { IfOk result (λ list. list.items ≡ blocks.now.blocks) }
-{
-    blocks.by_address(space).collect(alloc)
+    bench: &Bench<S>,
+    heap: Snapshot,
+    holes: &[Span],
+) -> Result<bool, AllocError> {
+    let blocks = bench.list(alloc)?;
+    let left = Snapshot {
+        blocks: &blocks,
+        ..heap
+    };
+    are_holes(rt, alloc, left, holes)
 }
 
-/// Whether a block may be added to others at multiples of 32.
-fn fits(blocks: &Blocks<SideHoles>, others: &[Block], block: &Block) -> bool
-    requires grain { blocks.now.grain ≡ 32 }
-    requires others { others.now ≡ blocks.now.blocks }
-    ensures { IsTrue result → Fits blocks.now block.now }
-{
-    if !is_inside(blocks, block) || !is_grained(block.at) || !is_grained(block.size) {
-        return false;
-    }
-    others.iter().all(|other| is_apart(block, other))
-}
-
-/// Whether a block has bytes, inside the bounds, and its id is one.
-fn is_inside(blocks: &Blocks<SideHoles>, block: &Block) -> bool
-    ensures id { IsTrue result → block.now.id < blocks.now.cap }
-    ensures inside { IsTrue result → (blocks.now.lo ≤ block.now.at) × (0 < block.now.size)
-        × (block_end block.now ≤ blocks.now.hi) }
-{
-    let bounds = blocks.bounds();
-    block.id < blocks.cap()
-        && bounds.from <= block.at
-        && 0 < block.size
-        && u64::from(block.at) + u64::from(block.size) <= u64::from(bounds.to)
-}
-
-/// Whether two blocks have different ids and share no byte.
-fn is_apart(block: &Block, other: &Block) -> bool
-    ensures id { IsTrue result → other.now.id ≢ block.now.id }
-    ensures bytes { IsTrue result → IsApart block.now other.now }
-{
-    let end = u64::from(block.at) + u64::from(block.size);
-    let other_end = u64::from(other.at) + u64::from(other.size);
-    other.id != block.id && (end <= u64::from(other.at) || other_end <= u64::from(block.at))
-}
-
-/// Whether a number is a multiple of 32.
-fn is_grained(n: u32) -> bool
-    ensures { IsTrue result → IsMultiple 32 n }
-{
-    n % 32 == 0
-}
-
-/// The blocks of a heap.
-fn laid_out<S: Space>(
+/// Whether the plain program has these holes in a heap.
+fn are_holes(
     rt: &impl Abort,
     alloc: Global,
     heap: Snapshot,
-    space: &mut S,
-) -> Result<Blocks<SideHoles>, AllocError>
-    ensures grain { IfOk result (λ blocks. blocks.grain ≡ 32) }
-    ensures ids { IfOk result (λ blocks. blocks.cap ≡ IDS) }
-{
-    assert!(rt; heap.lo <= heap.hi && is_grained(heap.lo));
-    let holes = SideHoles::new(alloc, heap.lo, heap.hi, 32)?;
-    let mut blocks = Blocks::with_room(alloc, IDS, holes, heap.lo, heap.hi, 32)?;
-    for block in heap.blocks {
-        let others = listed(alloc, &blocks, space)?;
-        assert!(rt; fits(&blocks, &others, block));
-        blocks.insert(space, *block);
-    }
-    Ok(blocks)
+    holes: &[Span],
+) -> Result<bool, AllocError> {
+    assert!(rt; heap.is_placed());
+    Ok(heap.holes(alloc)?.as_slice() == holes)
 }
 
-/// Gives each block bytes that are its id.
-fn mark<S: Space>(rt: &impl Abort, blocks: &Blocks<SideHoles>, space: &mut S)
-    ensures { length (S.bytes space.new) ≡ length (S.bytes space.old) }
-{
-    for id in 0..blocks.cap() {
-        if let Some(block) = blocks.find(id) {
-            let end = u64::from(block.at) + u64::from(block.size);
-            assert!(rt; end <= u64::from(space.len()) && id < IDS);
-            space.fill(block.at, block.size, id as u8);
-        }
-    }
-}
-
-/// Each block has the bytes that are its id.
-fn expect_marks<S: Space>(rt: &impl Abort, name: &str, blocks: &Blocks<SideHoles>, space: &S) {
-    for block in blocks.by_address(space) {
-        let end = u64::from(block.at) + u64::from(block.size);
-        assert!(rt; end <= u64::from(space.len()));
-        let bytes = space.view(block.at, block.size);
-        assert!(rt;
-            bytes.iter().all(|byte| u32::from(*byte) == block.id),
-            "{name}: bytes"
-        );
-    }
-}
-
-/// Gathers the gap that has room, and tells how many bytes were moved.
-fn compacts<S: Space>(
+/// Compaction over some memory.
+fn compacts_over<S: Space + Drop>(
     rt: &impl Abort,
+    alloc: Global,
     case: &Case,
-    blocks: &mut Blocks<SideHoles>,
-    space: &mut S,
-) -> u64
-    ensures { blocks.new.grain ≡ blocks.old.grain }
-{
-    let name = case.name;
-    let (size, expected) = case.asked;
-    assert!(rt; 0 < size && blocks.bounds().to <= space.len());
-    mark(rt, blocks, space);
-    let found = gap_for(blocks, space, None, size);
-    assert_eq!(rt; found, expected, "{name}: gap");
-    let before = space.written();
-    let moved = match found {
-        Some(gap) => gather(blocks, space, gap.low, gap.high),
-        None => 0,
-    };
-    assert_eq!(rt;
-        space.written(),
-        before.saturating_add(moved),
-        "{name}: count"
-    );
-    expect_marks(rt, name, blocks, space);
-    let places = blocks.by_address(space).map(|block| (block.id, block.at));
-    assert!(rt; places.eq(case.places.iter().copied()), "{name}: places");
-    moved
+    space: S,
+) -> Result<bool, AllocError> {
+    let mut bench = Bench::over(rt, alloc, case.heap(), space)?;
+    Ok(compacts(rt, &mut bench, case))
 }
 
-#[test]
-fn gathers_in_a_region(rt: HostRuntime) -> Result<(), Fail> {
-    for case in CASES {
-        let mut region = Region::new(rt.alloc(), case.hi)?;
-        let mut blocks = laid_out(&rt, rt.alloc(), case.heap(), &mut region)?;
-        let moved = compacts(&rt, case, &mut blocks, &mut region);
-        assert_eq!(rt; moved, case.moved, "{}: moved", case.name);
-    }
-    Ok(())
+/// Compaction over memory that was lent.
+fn compacts_in_a_window(rt: &impl Abort, alloc: Global, case: &Case) -> Result<bool, AllocError> {
+    let mut bytes = vec![in alloc; 0; case.hi as usize]?;
+    compacts_over(rt, alloc, case, Window::new(&mut bytes))
 }
 
-#[test]
-fn gathers_in_a_window(rt: HostRuntime) -> Result<(), Fail> {
-    for case in CASES {
-        let mut bytes = vec![in rt.alloc(); 0; case.hi as usize]?;
-        let mut window = Window::new(&mut bytes);
-        let mut blocks = laid_out(&rt, rt.alloc(), case.heap(), &mut window)?;
-        let moved = compacts(&rt, case, &mut blocks, &mut window);
-        assert_eq!(rt; moved, case.moved, "{}: moved", case.name);
-    }
-    Ok(())
+/// Whether compaction leaves a case's holes.
+fn leaves_holes(rt: &impl Abort, alloc: Global, case: &Case) -> Result<bool, AllocError> {
+    let mut bench = Bench::of(rt, alloc, case.heap())?;
+    settles(rt, alloc, &mut bench, case)
 }
 
-/// Whether blocks may be gathered between two addresses.
-fn may_gather(blocks: &Blocks<SideHoles>, list: &[Block], low: u32, high: u32) -> bool
-    requires { list.now ≡ blocks.now.blocks }
-    ensures { IsTrue result → MayGather blocks.now low high }
-{
-    let bounds = blocks.bounds();
-    bounds.from <= low
-        && low <= high
-        && high <= bounds.to
-        && list.iter().all(|block| fits_gap(block, low, high))
+/// The same of blocks that are there.
+fn settles<S: Space>(
+    rt: &impl Abort,
+    alloc: Global,
+    bench: &mut Bench<S>,
+    case: &Case,
+) -> Result<bool, AllocError> {
+    let compacts = compacts(rt, bench, case);
+    let holes = has_holes(rt, alloc, bench, case.heap(), case.holes)?;
+    Ok(compacts && holes)
 }
 
-/// Whether a block lies outside a gap, or inside and may slide.
-fn fits_gap(block: &Block, low: u32, high: u32) -> bool
-    ensures { IsTrue result → FitsGap low high block.now }
-{
-    let end = u64::from(block.at) + u64::from(block.size);
-    end <= u64::from(low)
-        || high <= block.at
-        || (low <= block.at && end <= u64::from(high) && block.hold == Hold::Loose)
-}
-
-/// A heap with a gap from 32 to 128 that its loose blocks fill.
-const FULL: Case = Case {
-    name: "a full gap",
-    lo: 0,
-    hi: 256,
-    blocks: &[
-        pinned!(0, 0, 32),
-        loose!(1, 32, 64),
-        loose!(2, 96, 32),
-        pinned!(3, 128, 32),
-    ],
-    room: 96,
-    skipped: (&NONE, 96),
-    asked: (32, Some(gap!(160, 256, 0))),
-    places: &[(0, 0), (1, 32), (2, 96), (3, 128)],
-    moved: 0,
-    holes: &[span!(160, 256)],
-};
-
-#[test]
-fn leaves_a_full_gap(rt: HostRuntime) -> Result<(), Fail> {
-    let mut region = Region::new(rt.alloc(), FULL.hi)?;
-    let mut blocks = laid_out(&rt, rt.alloc(), FULL.heap(), &mut region)?;
-    compacts(&rt, &FULL, &mut blocks, &mut region);
-    let before = region.written();
-    let list = listed(rt.alloc(), &blocks, &region)?;
-    assert!(rt; may_gather(&blocks, &list, 32, 128) && blocks.bounds().to <= region.len());
-    assert_eq!(rt; gather(&mut blocks, &mut region, 32, 128), 0);
-    assert_eq!(rt; region.written(), before);
-    let places = blocks.by_address(&region).map(|block| (block.id, block.at));
-    assert!(rt; places.eq(FULL.places.iter().copied()));
-    Ok(())
-}
-
-#[test]
-fn leaves_one_hole(rt: HostRuntime) -> Result<(), Fail> {
-    for case in CASES {
-        let name = case.name;
-        let mut region = Region::new(rt.alloc(), case.hi)?;
-        let mut blocks = laid_out(&rt, rt.alloc(), case.heap(), &mut region)?;
-        compacts(&rt, case, &mut blocks, &mut region);
-        let left = listed(rt.alloc(), &blocks, &region)?;
-        let after = Snapshot {
-            blocks: &left,
-            ..case.heap()
-        };
-        assert!(rt; after.is_placed(), "{name}");
-        assert_eq!(rt;
-            after.holes(rt.alloc())?.as_slice(),
-            case.holes,
-            "{name}: holes"
-        );
-    }
-    Ok(())
-}
-
-#[test]
-fn measures_room(rt: HostRuntime) -> Result<(), Fail> {
-    for case in CASES {
-        let name = case.name;
-        let mut region = Region::new(rt.alloc(), case.hi)?;
-        let blocks = laid_out(&rt, rt.alloc(), case.heap(), &mut region)?;
-        assert_eq!(rt;
-            room_of(&rt, case, case.blocks),
-            case.room,
-            "{name}: plain room"
-        );
-        assert_eq!(rt;
-            room_beside(&rt, &blocks, &region, &NONE),
-            case.room,
-            "{name}: room"
-        );
-        let (skip, left) = case.skipped;
-        let mut kept = Vec::new(rt.alloc());
-        for block in case.blocks {
-            let marked = skip.get(block.id as usize).copied();
-            if marked == Some(false) {
-                kept.push(*block)?;
-            }
+/// The blocks whose ids aren't marked.
+fn kept(alloc: Global, blocks: &[Block], skip: &[bool]) -> Result<Vec<Block>, AllocError> {
+    let mut kept = Vec::new(alloc);
+    for block in blocks {
+        if skip.get(block.id as usize) == Some(&false) {
+            kept.push(*block)?;
         }
-        assert_eq!(rt;
-            room_of(&rt, case, &kept),
-            left,
-            "{name}: plain room without"
-        );
-        assert_eq!(rt;
-            room_beside(&rt, &blocks, &region, skip),
-            left,
-            "{name}: room without"
-        );
     }
-    Ok(())
+    Ok(kept)
 }
 
-/// The room of some blocks, by the plain program.
+/// The room of some blocks in a case's heap, by the plain program.
 fn room_of(rt: &impl Abort, case: &Case, blocks: &[Block]) -> u32 {
     let plain = Snapshot {
         blocks,
@@ -535,13 +360,74 @@ fn room_of(rt: &impl Abort, case: &Case, blocks: &[Block]) -> u32 {
     plain.room()
 }
 
-/// The room beside what isn't marked.
-fn room_beside<S: Space>(
-    rt: &impl Abort,
-    blocks: &Blocks<SideHoles>,
-    space: &S,
-    skip: &[bool],
-) -> u32 {
-    assert!(rt; blocks.cap() as usize <= skip.len());
-    room(blocks, space, skip)
+/// A case's two rooms, by the plain program.
+fn plain_rooms(rt: &impl Abort, alloc: Global, case: &Case) -> Result<(u32, u32), AllocError> {
+    let kept = kept(alloc, case.blocks, case.skipped.0)?;
+    Ok((room_of(rt, case, case.blocks), room_of(rt, case, &kept)))
+}
+
+/// The same by the code under test.
+fn rooms(rt: &impl Abort, alloc: Global, case: &Case) -> Result<(u32, u32), AllocError> {
+    let bench = Bench::of(rt, alloc, case.heap())?;
+    Ok((bench.room(rt, &NONE), bench.room(rt, case.skipped.0)))
+}
+
+/// Whether a heap has its case's rooms, by the plain program too.
+fn has_rooms(rt: &impl Abort, alloc: Global, case: &Case) -> Result<bool, AllocError> {
+    let plain = plain_rooms(rt, alloc, case)?;
+    let rooms = rooms(rt, alloc, case)?;
+    let expected = (case.room, case.skipped.1);
+    Ok(plain == expected && rooms == expected)
+}
+
+/// What is looked at in a heap.
+#[derive(Clone, Copy)]
+enum Look {
+    Region,
+    Window,
+    Holes,
+    Rooms,
+}
+
+/// Whether a heap does what its case tells.
+fn agrees(rt: &impl Abort, alloc: Global, case: &Case, look: Look) -> Result<bool, AllocError> {
+    match look {
+        Look::Region => compacts_over(rt, alloc, case, Region::new(alloc, case.hi)?),
+        Look::Window => compacts_in_a_window(rt, alloc, case),
+        Look::Holes => leaves_holes(rt, alloc, case),
+        Look::Rooms => has_rooms(rt, alloc, case),
+    }
+}
+
+/// Looks at each heap.
+fn look_at_all(rt: &impl Abort, alloc: Global, look: Look) -> Result<(), AllocError> {
+    for case in CASES {
+        let agrees = agrees(rt, alloc, case, look)?;
+        assert!(rt; agrees, "{}", case.name);
+    }
+    Ok(())
+}
+
+#[test]
+fn gathers_in_a_region(rt: HostRuntime) -> Result<(), Fail> {
+    look_at_all(&rt, rt.alloc(), Look::Region)?;
+    Ok(())
+}
+
+#[test]
+fn gathers_in_a_window(rt: HostRuntime) -> Result<(), Fail> {
+    look_at_all(&rt, rt.alloc(), Look::Window)?;
+    Ok(())
+}
+
+#[test]
+fn leaves_one_hole(rt: HostRuntime) -> Result<(), Fail> {
+    look_at_all(&rt, rt.alloc(), Look::Holes)?;
+    Ok(())
+}
+
+#[test]
+fn measures_room(rt: HostRuntime) -> Result<(), Fail> {
+    look_at_all(&rt, rt.alloc(), Look::Rooms)?;
+    Ok(())
 }

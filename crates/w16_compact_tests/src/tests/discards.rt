@@ -1,23 +1,21 @@
 //! How many discards make room: answers that were worked out by hand, and those of the plain program.
-ghost use Rattle.std.specs.Prelude.{◌≡◌, IfOk};
 
-use super::{IDS, laid_out};
+use super::bench::{Bench, Search};
 use std::alloc::{AllocError, Global};
 use std::process::Abort;
 use std::test::Fail;
-use w16_blocks::{Block, Blocks, Hold};
-use w16_compact::{GapRooms, least_prefix};
-use w16_holes::SideHoles;
-use w16_lru::Order;
+use w16_blocks::{Block, Hold};
 use w16_model::Snapshot;
-use w16_region::{Region, Space};
+use w16_region::Region;
+
+/// What a request is about, the bytes asked for, and the number of discards.
+type Asked = (Option<u32>, u32, Option<usize>);
 
 /// A heap with an order of use, and how many discards make room there.
 struct Discards {
     name: &'static str,
     heap: Snapshot<'static>,
-    /// What a request is about, the bytes asked for, and the number of discards.
-    asked: &'static [(Option<u32>, u32, Option<usize>)],
+    asked: &'static [Asked],
 }
 
 const DISCARDS: &[Discards] = &[
@@ -271,51 +269,70 @@ const DISCARDS: &[Discards] = &[
     },
 ];
 
-/// Some ids as an order of use, the one used longest ago first.
-fn in_order(rt: &impl Abort, alloc: Global, ids: &[u32]) -> Result<Order, AllocError>
-    ensures { IfOk result (λ order. order.cap ≡ IDS) }
-{
-    let mut order = Order::with_room(alloc, IDS)?;
-    for id in ids {
-        assert!(rt; *id < IDS);
-        order.newest(*id);
-    }
-    Ok(order)
+/// The bytes of the first request of a heap that takes another number of discards.
+fn other_count(rt: &impl Abort, alloc: Global, case: &Discards) -> Result<Option<u32>, AllocError> {
+    let bench = Bench::of(rt, alloc, case.heap)?;
+    other_order(rt, alloc, &bench, case)
 }
 
-/// The least number of discards for a request, about an id or about none.
-fn least<S: Space>(
-    blocks: &Blocks<SideHoles>,
-    space: &S,
-    order: &Order,
-    table: &mut GapRooms,
-    about: Option<u32>,
-    size: u32,
-) -> Option<usize>
-    requires blocks { blocks.now.cap ≡ IDS }
-    requires order { order.now.cap ≡ IDS }
-    requires table { table.old ≡ IDS }
-    ensures { table.new ≡ table.old }
-{
-    least_prefix(blocks, space, order, table, about, size)
+/// The same of blocks that are there.
+fn other_order(
+    rt: &impl Abort,
+    alloc: Global,
+    bench: &Bench<Region>,
+    case: &Discards,
+) -> Result<Option<u32>, AllocError> {
+    // From the second request on its table has what the search before it left.
+    let mut search = Search::new(rt, alloc, case.heap.order)?;
+    Ok(other_search(rt, bench, &mut search, case.asked))
+}
+
+/// The same of one search after another.
+fn other_search(
+    rt: &impl Abort,
+    bench: &Bench<Region>,
+    search: &mut Search,
+    all: &[Asked],
+) -> Option<u32> {
+    for asked in all {
+        let (about, size, expected) = *asked;
+        if bench.least(rt, search, about, size) != expected {
+            return Some(size);
+        }
+    }
+    None
+}
+
+/// The same by the plain program.
+fn other_plain_count(
+    rt: &impl Abort,
+    alloc: Global,
+    case: &Discards,
+) -> Result<Option<u32>, AllocError> {
+    assert!(rt; case.heap.is_placed());
+    for asked in case.asked {
+        let (about, size, expected) = *asked;
+        if case.heap.needed(alloc, size, about)? != expected {
+            return Ok(Some(size));
+        }
+    }
+    Ok(None)
+}
+
+/// The same by the plain program, or else by a search.
+fn first_wrong(rt: &impl Abort, alloc: Global, case: &Discards) -> Result<Option<u32>, AllocError> {
+    let plain = other_plain_count(rt, alloc, case)?;
+    if plain.is_some() {
+        return Ok(plain);
+    }
+    other_count(rt, alloc, case)
 }
 
 #[test]
 fn counts_discards(rt: HostRuntime) -> Result<(), Fail> {
     for case in DISCARDS {
-        let Discards { name, heap, asked } = case;
-        assert!(rt; heap.is_placed(), "{name}");
-        let mut region = Region::new(rt.alloc(), heap.hi)?;
-        let blocks = laid_out(&rt, rt.alloc(), *heap, &mut region)?;
-        let order = in_order(&rt, rt.alloc(), heap.order)?;
-        let mut table = GapRooms::with_room(rt.alloc(), IDS)?;
-        // From the second on the table has what the search before it left.
-        for (about, size, expected) in *asked {
-            let plain = heap.needed(rt.alloc(), *size, *about)?;
-            assert_eq!(rt; plain, *expected, "{name}: {size} by the plain program");
-            let found = least(&blocks, &region, &order, &mut table, *about, *size);
-            assert_eq!(rt; found, *expected, "{name}: {size}");
-        }
+        let wrong = first_wrong(&rt, rt.alloc(), case)?;
+        assert!(rt; wrong.is_none(), "{}: {wrong:?}", case.name);
     }
     Ok(())
 }

@@ -3,7 +3,7 @@ use Rattle.std.proofs.lemmas.Iterator.{items_from_collect}
 use Rattle.std.proofs.lemmas.Iterator.Consumers.{YieldsList-from_first}
 use Rattle.w16_blocks.specs.Layout.{from_address}
 use Rattle.w16_compact.proofs.ByAddress.{all_left}
-use Rattle.w16_compact_tests.proofs.tests.listed.Goals as goal
+use Rattle.w16_compact_tests.proofs.tests.bench.listed.Goals as goal
 
 pub returns : goal.returns
 returns g c =
