@@ -88,7 +88,7 @@ impl Five {
     }
 }
 
-/// Makes the changes of a table in an order without members, and tells whether each leaves the members that it should.
+/// Makes the changes of a table, and tells whether each leaves the members that it should.
 fn leaves(rt: &impl Abort, five: &mut Five, lines: &[(Change, &[u32])]) -> bool {
     for (change, members) in lines {
         five.change(rt, *change);
