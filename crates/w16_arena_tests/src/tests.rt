@@ -57,21 +57,14 @@ const ENTRIES: &[(u32, Option<Entry>)] = &[
     (4_294_967_295, None),
 ];
 
-/// The first id of the table with another entry.
-fn other_entry(bench: &Bench) -> Option<u32> {
+/// Whether the entries are those of the table.
+fn has_entries(bench: &Bench) -> bool {
     for (id, entry) in ENTRIES {
         if bench.entry(*id) != *entry {
-            return Some(*id);
+            return false;
         }
     }
-    None
-}
-
-#[test]
-fn looks_up_entries(rt: HostRuntime) -> Result<(), Fail> {
-    let bench = Bench::with(&rt, rt.alloc(), THREE)?;
-    assert!(rt; other_entry(&bench).is_none());
-    Ok(())
+    true
 }
 
 /// The fixed object of the three.
@@ -97,21 +90,14 @@ const BLOCKS: &[(u32, Option<Block>)] = &[
     (6, None),
 ];
 
-/// The first id of the table with another block.
-fn other_block(bench: &Bench) -> Option<u32> {
+/// Whether the blocks are those of the table.
+fn has_blocks(bench: &Bench) -> bool {
     for (id, block) in BLOCKS {
         if bench.block(*id) != *block {
-            return Some(*id);
+            return false;
         }
     }
-    None
-}
-
-#[test]
-fn looks_up_blocks(rt: HostRuntime) -> Result<(), Fail> {
-    let bench = Bench::with(&rt, rt.alloc(), THREE)?;
-    assert!(rt; other_block(&bench).is_none());
-    Ok(())
+    true
 }
 
 /// The lowest block at an address or behind it.
@@ -122,20 +108,20 @@ const NEXT: &[(u32, Option<Block>)] = &[
     (65, None),
 ];
 
-/// The first address of the table with another block behind it.
-fn other_next_block(bench: &Bench) -> Option<u32> {
+/// Whether the next blocks are those of the table.
+fn has_next_blocks(bench: &Bench) -> bool {
     for (from, block) in NEXT {
         if bench.next_block(*from) != *block {
-            return Some(*from);
+            return false;
         }
     }
-    None
+    true
 }
 
 #[test]
-fn looks_up_the_next_block(rt: HostRuntime) -> Result<(), Fail> {
+fn looks_up_entries_and_blocks(rt: HostRuntime) -> Result<(), Fail> {
     let bench = Bench::with(&rt, rt.alloc(), THREE)?;
-    assert!(rt; other_next_block(&bench).is_none());
+    assert!(rt; has_entries(&bench) && has_blocks(&bench) && has_next_blocks(&bench));
     Ok(())
 }
 
@@ -155,26 +141,35 @@ const ZEROS: Way = Way {
 /// Places, lengths, and the byte there.
 const CLEARED: &[(u32, u32, u8)] = &[(0, 32, 7), (32, 32, 0), (64, 192, 7)];
 
-/// The first place of the table with another byte.
-fn other_byte(rt: &impl Abort, bench: &Bench) -> Option<u32> {
+/// Whether the bytes are those of the table.
+fn has_bytes(rt: &impl Abort, bench: &Bench) -> bool {
     for (at, n, byte) in CLEARED {
         if !bench.is_filled(rt, *at, *n, *byte) {
-            return Some(*at);
+            return false;
         }
     }
-    None
+    true
+}
+
+/// Whether new objects have zeros where they are wanted, and what else there is stays.
+fn clears(rt: &impl Abort, bench: &mut Bench) -> bool {
+    bench.fill(rt, 0, 256, 7);
+    bench.act(rt, Step::Alloc(0, 32, Kind::Moveable, DISCARDING));
+    bench.act(rt, Step::Alloc(1, 32, Kind::Discardable, ZEROS));
+    has_bytes(rt, bench)
+}
+
+/// Whether one that takes all memory, as another is discarded, has zeros.
+fn clears_all(rt: &impl Abort, bench: &mut Bench) -> bool {
+    bench.act(rt, Step::Release(0));
+    bench.act(rt, Step::Alloc(2, 256, Kind::Moveable, ZEROS));
+    bench.is_filled(rt, 0, 256, 0) && bench.has_discarded(&[1])
 }
 
 #[test]
 fn clears_new_bytes(rt: HostRuntime) -> Result<(), Fail> {
     let mut bench = Bench::new(&rt, rt.alloc())?;
-    bench.fill(&rt, 0, 256, 7);
-    bench.act(&rt, Step::Alloc(0, 32, Kind::Moveable, DISCARDING));
-    bench.act(&rt, Step::Alloc(1, 32, Kind::Discardable, ZEROS));
-    assert!(rt; other_byte(&rt, &bench).is_none());
-    bench.act(&rt, Step::Release(0));
-    bench.act(&rt, Step::Alloc(2, 256, Kind::Moveable, ZEROS));
-    assert!(rt; bench.is_filled(&rt, 0, 256, 0) && bench.has_discarded(&[1]));
+    assert!(rt; clears(&rt, &mut bench) && clears_all(&rt, &mut bench));
     Ok(())
 }
 
@@ -191,35 +186,46 @@ const SIZES: &[(u32, Option<usize>)] = &[(0, Some(32)), (1, Some(64)), (2, None)
 /// The same once the first is released, and another takes the room behind the second.
 const SIZES_THEN: &[(u32, Option<usize>)] = &[(0, None), (1, Some(64)), (3, Some(192))];
 
-/// The first id of a table with another number of bytes.
-fn other_size(rt: &impl Abort, bench: &Bench, sizes: &[(u32, Option<usize>)]) -> Option<u32> {
+/// Whether the objects have as many bytes as in a table.
+fn has_sizes(rt: &impl Abort, bench: &Bench, sizes: &[(u32, Option<usize>)]) -> bool {
     for (id, size) in sizes {
         if bench.size(rt, *id) != *size {
-            return Some(*id);
+            return false;
         }
     }
-    None
+    true
+}
+
+/// Whether both objects have the bytes that are written there.
+fn tells(rt: &impl Abort, bench: &mut Bench) -> bool {
+    bench.fill(rt, 0, 32, 5);
+    bench.fill(rt, 32, 64, 6);
+    bench.has_only(rt, 0, 5) && bench.has_only(rt, 1, 6) && has_sizes(rt, bench, SIZES)
+}
+
+/// Whether the second still has its bytes once the first is gone and another has slid it down.
+fn tells_then(rt: &impl Abort, bench: &mut Bench) -> bool {
+    bench.act(rt, Step::Release(0));
+    bench.act(rt, Step::Alloc(3, 192, Kind::Moveable, SLIDING));
+    bench.has_only(rt, 1, 6) && has_sizes(rt, bench, SIZES_THEN)
 }
 
 #[test]
 fn tells_bytes(rt: HostRuntime) -> Result<(), Fail> {
     let mut bench = Bench::with(&rt, rt.alloc(), TWO)?;
-    bench.fill(&rt, 0, 32, 5);
-    bench.fill(&rt, 32, 64, 6);
-    assert!(rt; bench.has_only(&rt, 0, 5) && bench.has_only(&rt, 1, 6));
-    assert!(rt; other_size(&rt, &bench, SIZES).is_none());
-    bench.act(&rt, Step::Release(0));
-    bench.act(&rt, Step::Alloc(3, 192, Kind::Moveable, SLIDING));
-    assert!(rt; bench.has_only(&rt, 1, 6));
-    assert!(rt; other_size(&rt, &bench, SIZES_THEN).is_none());
+    assert!(rt; tells(&rt, &mut bench) && tells_then(&rt, &mut bench));
     Ok(())
+}
+
+/// Whether bytes that are written as they are lent are the second object's, and count.
+fn lends(rt: &impl Abort, bench: &mut Bench) -> bool {
+    bench.fill_object(rt, 1, 7);
+    bench.has_only(rt, 0, 0) && bench.has_only(rt, 1, 7) && bench.written() == 64
 }
 
 #[test]
 fn lends_bytes(rt: HostRuntime) -> Result<(), Fail> {
     let mut bench = Bench::with(&rt, rt.alloc(), TWO)?;
-    bench.fill_object(&rt, 1, 7);
-    assert!(rt; bench.has_only(&rt, 0, 0) && bench.has_only(&rt, 1, 7));
-    assert!(rt; bench.written() == 64);
+    assert!(rt; lends(&rt, &mut bench));
     Ok(())
 }

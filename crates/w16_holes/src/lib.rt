@@ -12,8 +12,6 @@ mod grain;
 mod holes;
 pub mod laws;
 mod side;
-#[cfg(test)]
-mod tests;
 mod threaded;
 
 pub use grain::{units_in, units_over};

@@ -10,8 +10,6 @@ ghost use Rattle.w16_model.specs.Changes.{newest, oldest, without};
 ghost use Rattle.w16_lru.specs.Uses.{AreUses, at_end};
 
 mod oldest_first;
-#[cfg(test)]
-mod tests;
 
 pub use oldest_first::OldestFirst;
 use std::alloc::{AllocError, Global};

@@ -6,9 +6,6 @@ ghost use Rattle.std.specs.Prelude.{◌≡◌, ◌+◌, ◌^◌, ◌<◌, ◌≤
 ghost use Rattle.memchr.specs.Find.{IsFirst};
 ghost use Rattle.w16_selectors.specs.Descriptors.{descriptor_at, descriptor_of, IsUntaken, IsFreeRun, unset, place_of};
 
-#[cfg(test)]
-mod tests;
-
 use memchr::memchr;
 use std::alloc::{AllocError, Global};
 use std::marker::Model;

@@ -13,8 +13,6 @@ ghost use Rattle.std.specs.Prelude.{◌≡◌, ◌+◌, ◌<◌, ◌≤◌, ◌^
 ghost use Rattle.std.specs.List.{position, fold};
 
 mod paths;
-#[cfg(test)]
-mod tests;
 
 use paths::{carry_up, first_leaf, last_leaf_before};
 use std::alloc::{AllocError, Global};

@@ -63,6 +63,13 @@ fn is_multiple(of: u32, n: u32) -> bool
     n % of == 0
 }
 
+/// Whether an object may have so many bytes: some, and whole grains.
+fn is_size(grain: u32, size: u32) -> bool
+    ensures { IsTrue result → (0 < size) × IsMultiple grain size }
+{
+    0 < size && 0 < grain && is_multiple(grain, size)
+}
+
 /// A heap as it stands: its walk, the order of use, what is known of each id, and how many bytes were written.
 #[derive(Drop, PartialEq, Eq)]
 pub(super) struct Seen {
@@ -165,7 +172,7 @@ impl Bench {
     fn alloc(&mut self, rt: &impl Abort, id: u32, size: u32, kind: Kind, way: Way) -> Answer {
         let grain = self.arena.grain();
         assert!(rt; id < self.arena.cap() && self.arena.block(id).is_none());
-        assert!(rt; 0 < size && 0 < grain && is_multiple(grain, size));
+        assert!(rt; is_size(grain, size));
         assert!(rt; self.arena.bounds().to <= self.region.len());
         match self.arena.alloc(&mut self.region, id, size, kind, way) {
             Ok(placed) => Answer::Placed(placed),
@@ -176,7 +183,7 @@ impl Bench {
     fn realloc(&mut self, rt: &impl Abort, id: u32, size: u32, way: Way) -> Answer {
         let grain = self.arena.grain();
         assert!(rt; self.arena.entry(id).is_some());
-        assert!(rt; 0 < size && 0 < grain && is_multiple(grain, size));
+        assert!(rt; is_size(grain, size));
         assert!(rt; self.arena.bounds().to <= self.region.len());
         match self.arena.realloc(&mut self.region, id, size, way) {
             Ok(placed) => Answer::Placed(placed),
@@ -318,8 +325,10 @@ impl Bench {
     /// How many bytes an object has, if it has any.
     pub fn size(&self, rt: &impl Abort, id: u32) -> Option<usize> {
         assert!(rt; self.arena.bounds().to <= self.region.len());
-        let bytes = self.arena.bytes(&self.region, id)?;
-        Some(bytes.len())
+        match self.arena.bytes(&self.region, id) {
+            Some(bytes) => Some(bytes.len()),
+            None => None,
+        }
     }
 
     /// Whether an object has bytes, all of them this one.

@@ -8,7 +8,6 @@ use std::test::Fail;
 use w16_model::{Block, Hold, Kind, Snapshot, Way};
 
 /// A heap that some calls leave, and requests there with how many discards they make, if they are answered.
-#[derive(Clone, Copy)]
 struct Heap {
     name: &'static str,
     steps: &'static [Step],
@@ -128,9 +127,16 @@ impl Plain {
         }
     }
 
-    /// Those that a request may discard, the least recently used first.
-    pub fn eligible(&self, alloc: Global, about: Option<u32>) -> Result<Vec<u32>, AllocError> {
-        self.snapshot().eligible(alloc, about)
+    /// The least recently used of those that a request may discard, so many of them.
+    pub fn oldest(
+        &self,
+        alloc: Global,
+        about: Option<u32>,
+        count: usize,
+    ) -> Result<Vec<u32>, AllocError> {
+        let mut ids = self.snapshot().eligible(alloc, about)?;
+        ids.truncate(count);
+        Ok(ids)
     }
 
     /// How many a request for so many bytes for an id discards, if it is answered.
@@ -170,6 +176,22 @@ impl Plain {
         snapshot.needed(alloc, n, None)
     }
 
+    /// What a compaction to so many bytes does.
+    fn foretells(&self, rt: &impl Abort, alloc: Global, n: u32) -> Result<Foretold, AllocError> {
+        let all = self.all(alloc)?;
+        let most = self.room_for(rt, alloc, all)?;
+        let count = self.needed(rt, alloc, n)?.unwrap_or(all);
+        let room = self.room_for(rt, alloc, count)?;
+        let ids = self.oldest(alloc, None, count)?;
+        Ok(Foretold { ids, room, most })
+    }
+
+    /// How many a compaction may discard.
+    fn all(&self, alloc: Global) -> Result<usize, AllocError> {
+        let ids = self.snapshot().eligible(alloc, None)?;
+        Ok(ids.len())
+    }
+
     /// The longest hole that there could be with so many discards.
     fn room_for(&self, rt: &impl Abort, alloc: Global, count: usize) -> Result<u32, AllocError> {
         let snapshot = self.snapshot();
@@ -189,8 +211,7 @@ fn discards_of(
     let Some(count) = before.prefix(rt, alloc, asked)? else {
         return Ok(None);
     };
-    let mut ids = before.eligible(alloc, Some(asked.0))?;
-    ids.truncate(count);
+    let ids = before.oldest(alloc, Some(asked.0), count)?;
     Ok(Some(ids))
 }
 
@@ -199,21 +220,44 @@ fn discards_of(
 fn asks(
     rt: &impl Abort,
     alloc: Global,
-    heap: Heap,
-    asked: (u32, u32, Option<usize>),
+    heap: &Heap,
+    asked: &(u32, u32, Option<usize>),
     way: Way,
 ) -> Result<bool, AllocError> {
-    let (id, size, count) = asked;
     let mut bench = Bench::with(rt, alloc, heap.steps)?;
-    let discards = discards_of(rt, alloc, &bench, (id, size, way))?;
+    asks_in(rt, alloc, &mut bench, asked, way)
+}
+
+/// The same in a heap that stands.
+fn asks_in(
+    rt: &impl Abort,
+    alloc: Global,
+    bench: &mut Bench,
+    asked: &(u32, u32, Option<usize>),
+    way: Way,
+) -> Result<bool, AllocError> {
+    let (id, size, count) = *asked;
+    let discards = discards_of(rt, alloc, bench, (id, size, way))?;
     let answer = bench.act(rt, Step::Alloc(id, size, Kind::Discardable, way));
+    let ids = discards.as_deref();
+    Ok(has_discarded(bench, answer, ids) && (!way.discard || count == count_of(ids)))
+}
+
+/// Whether just these are discarded by a request, or it is refused.
+fn has_discarded(bench: &Bench, answer: Answer, ids: Option<&[u32]>) -> bool {
     let is_refused = answer == Answer::NoRoom;
-    Ok(match discards {
-        Some(ids) => {
-            !is_refused && bench.has_discarded(&ids) && (!way.discard || count == Some(ids.len()))
-        }
-        None => is_refused && bench.has_discarded(&[]) && (!way.discard || count.is_none()),
-    })
+    match ids {
+        Some(ids) => !is_refused && bench.has_discarded(ids),
+        None => is_refused && bench.has_discarded(&[]),
+    }
+}
+
+/// How many ids there are, if there are any at all.
+fn count_of(ids: Option<&[u32]>) -> Option<usize> {
+    match ids {
+        Some(ids) => Some(ids.len()),
+        None => None,
+    }
 }
 
 /// What the plain program says of a compaction.
@@ -235,30 +279,41 @@ fn foretells(
     n: u32,
 ) -> Result<Foretold, AllocError> {
     let before = Plain::of(alloc, bench)?;
-    let mut ids = before.eligible(alloc, None)?;
-    let most = before.room_for(rt, alloc, ids.len())?;
-    if let Some(count) = before.needed(rt, alloc, n)? {
-        ids.truncate(count);
-    }
-    let room = before.room_for(rt, alloc, ids.len())?;
-    Ok(Foretold { ids, room, most })
+    before.foretells(rt, alloc, n)
 }
 
 /// Makes room for so many bytes in a heap. It discards as many as the plain program says, and answers the room there is then.
-fn compacts(rt: &impl Abort, alloc: Global, heap: Heap, n: u32) -> Result<bool, AllocError> {
+fn compacts(rt: &impl Abort, alloc: Global, heap: &Heap, n: u32) -> Result<bool, AllocError> {
     let mut bench = Bench::with(rt, alloc, heap.steps)?;
-    let Foretold { ids, room, most } = foretells(rt, alloc, &bench, n)?;
+    compacts_in(rt, alloc, &mut bench, n)
+}
+
+/// The same in a heap that stands.
+fn compacts_in(
+    rt: &impl Abort,
+    alloc: Global,
+    bench: &mut Bench,
+    n: u32,
+) -> Result<bool, AllocError> {
+    let foretold = foretells(rt, alloc, bench, n)?;
+    Ok(comes_true(rt, bench, n, &foretold))
+}
+
+/// Whether a compaction does what is foretold.
+fn comes_true(rt: &impl Abort, bench: &mut Bench, n: u32, foretold: &Foretold) -> bool {
     let could = bench.act(rt, Step::RoomAll);
     let answer = bench.act(rt, Step::Compact(n));
-    Ok(could == Answer::Room(most) && room_of(answer) == Some(room) && bench.has_discarded(&ids))
+    could == Answer::Room(foretold.most)
+        && room_of(answer) == Some(foretold.room)
+        && bench.has_discarded(&foretold.ids)
 }
 
 /// Makes each request of a heap in each way.
-fn asks_all(rt: &impl Abort, alloc: Global, heap: Heap) -> Result<(), AllocError> {
+fn asks_all(rt: &impl Abort, alloc: Global, heap: &Heap) -> Result<(), AllocError> {
     for asked in heap.asked {
         for way in [AS_IT_STANDS, SLIDING, DISCARDING] {
-            let agrees = asks(rt, alloc, heap, *asked, way)?;
-            assert!(rt; agrees, "{}: {asked:?}, {way:?}", heap.name);
+            let agrees = asks(rt, alloc, heap, asked, way)?;
+            assert!(rt; agrees, "{}", heap.name);
         }
     }
     Ok(())
@@ -267,7 +322,7 @@ fn asks_all(rt: &impl Abort, alloc: Global, heap: Heap) -> Result<(), AllocError
 #[test]
 fn discards_as_few_as_are_needed(rt: HostRuntime) -> Result<(), Fail> {
     for heap in HEAPS {
-        asks_all(&rt, rt.alloc(), *heap)?;
+        asks_all(&rt, rt.alloc(), heap)?;
     }
     Ok(())
 }
@@ -276,8 +331,8 @@ fn discards_as_few_as_are_needed(rt: HostRuntime) -> Result<(), Fail> {
 fn compaction_discards_as_few_as_are_needed(rt: HostRuntime) -> Result<(), Fail> {
     for heap in HEAPS {
         for n in [1, 32, 64, 96, 128, 160, 192, 256, 288] {
-            let agrees = compacts(&rt, rt.alloc(), *heap, n)?;
-            assert!(rt; agrees, "{}: {n}", heap.name);
+            let agrees = compacts(&rt, rt.alloc(), heap, n)?;
+            assert!(rt; agrees, "{}", heap.name);
         }
     }
     Ok(())

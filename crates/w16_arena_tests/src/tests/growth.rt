@@ -10,7 +10,6 @@ use w16_arena::Placed;
 use w16_model::{Block, Kind, Span, Way};
 
 /// The object 0 of a heap that some calls leave, to so many bytes.
-#[derive(Clone, Copy)]
 struct Growth {
     name: &'static str,
     steps: &'static [Step],
@@ -171,7 +170,7 @@ const GROWTHS: &[Growth] = &[
 ];
 
 /// What the call answers.
-fn answer_of(growth: Growth) -> Answer {
+fn answer_of(growth: &Growth) -> Answer {
     match growth.answer {
         Some((_, at, moved, slid)) => Answer::Placed(Placed { at, slid, moved }),
         None => Answer::NoRoom,
@@ -179,7 +178,7 @@ fn answer_of(growth: Growth) -> Answer {
 }
 
 /// Where the object stands then.
-fn place_of(growth: Growth, block: Block) -> u32 {
+fn place_of(growth: &Growth, block: Block) -> u32 {
     match growth.answer {
         Some((_, at, _, _)) => at,
         None => block.at,
@@ -192,19 +191,18 @@ fn discards_of(
     alloc: Global,
     bench: &Bench,
     block: Block,
-    growth: Growth,
+    growth: &Growth,
 ) -> Result<Option<Vec<u32>>, AllocError> {
     let before = Plain::of(alloc, bench)?;
     let Some(count) = before.growth(rt, alloc, block, (growth.size, growth.way))? else {
         return Ok(None);
     };
-    let mut ids = before.eligible(alloc, Some(block.id))?;
-    ids.truncate(count);
+    let ids = before.oldest(alloc, Some(block.id), count)?;
     Ok(Some(ids))
 }
 
 /// Whether these are discarded, as many as were worked out.
-fn has_discarded(bench: &Bench, ids: Option<&[u32]>, growth: Growth) -> bool {
+fn has_discarded(bench: &Bench, ids: Option<&[u32]>, growth: &Growth) -> bool {
     match (ids, growth.answer) {
         (Some(ids), Some((count, _, _, _))) => ids.len() == count && bench.has_discarded(ids),
         (None, None) => bench.has_discarded(&[]),
@@ -213,24 +211,43 @@ fn has_discarded(bench: &Bench, ids: Option<&[u32]>, growth: Growth) -> bool {
 }
 
 /// Grows an object in a heap: as the plain program says, to where was worked out, and with its bytes.
-fn grows(rt: &impl Abort, alloc: Global, growth: Growth) -> Result<bool, AllocError> {
+fn grows(rt: &impl Abort, alloc: Global, growth: &Growth) -> Result<bool, AllocError> {
     let mut bench = Bench::with(rt, alloc, growth.steps)?;
+    grows_in(rt, alloc, &mut bench, growth)
+}
+
+/// The same in a heap that stands.
+fn grows_in(
+    rt: &impl Abort,
+    alloc: Global,
+    bench: &mut Bench,
+    growth: &Growth,
+) -> Result<bool, AllocError> {
     let block = bench.block(0).expect(rt, "a block");
     bench.fill_object(rt, 0, 7);
-    let ids = discards_of(rt, alloc, &bench, block, growth)?;
+    let ids = discards_of(rt, alloc, bench, block, growth)?;
+    Ok(becomes(rt, bench, block, growth, ids.as_deref()))
+}
+
+/// Whether the growth answers what it should, discards just these, and leaves the bytes where the object stands then.
+fn becomes(
+    rt: &impl Abort,
+    bench: &mut Bench,
+    block: Block,
+    growth: &Growth,
+    ids: Option<&[u32]>,
+) -> bool {
     let answer = bench.act(rt, Step::Realloc(0, growth.size, growth.way));
     let at = place_of(growth, block);
-    Ok(
-        answer == answer_of(growth)
-            && has_discarded(&bench, ids.as_deref(), growth)
-            && bench.is_filled(rt, at, block.size, 7),
-    )
+    answer == answer_of(growth)
+        && has_discarded(bench, ids, growth)
+        && bench.is_filled(rt, at, block.size, 7)
 }
 
 #[test]
 fn grows_as_the_plain_program_says(rt: HostRuntime) -> Result<(), Fail> {
     for growth in GROWTHS {
-        let agrees = grows(&rt, rt.alloc(), *growth)?;
+        let agrees = grows(&rt, rt.alloc(), growth)?;
         assert!(rt; agrees, "{}", growth.name);
     }
     Ok(())

@@ -1,6 +1,6 @@
 //! Calls one after another, with answers that were worked out by hand.
 
-use super::bench::{Answer, Bench, Step};
+use super::bench::{Answer, Bench, Seen, Step};
 use super::{AS_IT_STANDS, DISCARDING, SLIDING};
 use std::alloc::{AllocError, Global};
 use std::process::Abort;
@@ -76,7 +76,6 @@ macro_rules! hole {
 }
 
 /// Calls with their answers and what is discarded then, and the heap that they leave.
-#[derive(Clone, Copy)]
 struct Script {
     name: &'static str,
     lines: &'static [(Step, Answer, &'static [u32])],
@@ -617,7 +616,7 @@ fn expect(
 fn makes(
     rt: &impl Abort,
     alloc: Global,
-    script: Script,
+    script: &Script,
     bench: &mut Bench,
 ) -> Result<bool, AllocError> {
     for line in script.lines {
@@ -629,17 +628,34 @@ fn makes(
 }
 
 /// Makes the calls of a script in a new heap, and tells whether they leave what they should.
-fn plays(rt: &impl Abort, alloc: Global, script: Script) -> Result<bool, AllocError> {
+fn plays(rt: &impl Abort, alloc: Global, script: &Script) -> Result<bool, AllocError> {
     let mut bench = Bench::new(rt, alloc)?;
-    let is_made = makes(rt, alloc, script, &mut bench)?;
+    plays_in(rt, alloc, script, &mut bench)
+}
+
+/// The same in a heap that stands.
+fn plays_in(
+    rt: &impl Abort,
+    alloc: Global,
+    script: &Script,
+    bench: &mut Bench,
+) -> Result<bool, AllocError> {
+    if !makes(rt, alloc, script, bench)? {
+        return Ok(false);
+    }
     let seen = bench.seen(alloc)?;
-    Ok(is_made && seen.items.as_slice() == script.walk && seen.order.as_slice() == script.order)
+    Ok(leaves(script, &seen))
+}
+
+/// Whether a heap has the walk and the order of use that a script should leave.
+fn leaves(script: &Script, seen: &Seen) -> bool {
+    seen.items.as_slice() == script.walk && seen.order.as_slice() == script.order
 }
 
 #[test]
 fn answers_calls(rt: HostRuntime) -> Result<(), Fail> {
     for script in SCRIPTS {
-        let agrees = plays(&rt, rt.alloc(), *script)?;
+        let agrees = plays(&rt, rt.alloc(), script)?;
         assert!(rt; agrees, "{}", script.name);
     }
     Ok(())
@@ -687,21 +703,21 @@ const WALKS: &[Walk] = &[
     ),
 ];
 
-/// The first address of the table with another item behind it.
-fn other_item(bench: &Bench, items: &[(u32, Option<Item>)]) -> Option<u32> {
+/// Whether what stands at the addresses of a table, or behind them, is what it has.
+fn has_items(bench: &Bench, items: &[(u32, Option<Item>)]) -> bool {
     for (from, item) in items {
         if bench.walk_from(*from) != *item {
-            return Some(*from);
+            return false;
         }
     }
-    None
+    true
 }
 
 #[test]
 fn walks_by_address(rt: HostRuntime) -> Result<(), Fail> {
     for (steps, items) in WALKS {
         let bench = Bench::with(&rt, rt.alloc(), steps)?;
-        assert!(rt; other_item(&bench, items).is_none());
+        assert!(rt; has_items(&bench, items));
     }
     Ok(())
 }
@@ -716,19 +732,19 @@ const ITEMS: &[(usize, Option<Item>)] = &[
     (9, None),
 ];
 
-/// The first number of the table with another item.
-fn other_item_at(bench: &Bench) -> Option<usize> {
+/// Whether the items of these numbers are those of the table.
+fn has_items_by_number(bench: &Bench) -> bool {
     for (i, item) in ITEMS {
         if bench.walk(*i) != *item {
-            return Some(*i);
+            return false;
         }
     }
-    None
+    true
 }
 
 #[test]
 fn walks_by_number(rt: HostRuntime) -> Result<(), Fail> {
     let bench = Bench::with(&rt, rt.alloc(), WITH_HOLES)?;
-    assert!(rt; other_item_at(&bench).is_none());
+    assert!(rt; has_items_by_number(&bench));
     Ok(())
 }

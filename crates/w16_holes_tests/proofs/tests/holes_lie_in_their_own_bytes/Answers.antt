@@ -1,6 +1,6 @@
 use Rattle.std.proofs.Common.{arith, sym, subst}
 use Rattle.w16_holes.specs.Holes.{Free, IsPart}
-use Rattle.w16_holes.proofs.tests.holes_lie_in_their_own_bytes.Goals as goal
+use Rattle.w16_holes_tests.proofs.tests.holes_lie_in_their_own_bytes.Goals as goal
 
 pub new-requires-2-clause-high : goal.new-requires-2-clause-high
 new-requires-2-clause-high g c = (8, omega arith)

@@ -1,5 +1,5 @@
 use Rattle.std.proofs.Common.{arith}
-use Rattle.w16_holes.proofs.tests.threaded_holes.Goals as goal
+use Rattle.w16_holes_tests.proofs.tests.threaded_holes.Goals as goal
 
 pub new-requires-2-clause-high : goal.new-requires-2-clause-high
 new-requires-2-clause-high g c = (8, omega arith)

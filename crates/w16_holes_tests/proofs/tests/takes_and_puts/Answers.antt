@@ -1,13 +1,9 @@
 use Rattle.std.proofs.Common.{ℕ, ◌≡◌, ◌+◌, ◌*◌, ◌<◌, ◌≤◌, arith, sym, subst, ◌∙◌}
-use Rattle.w16_holes.specs.Holes.{Range, IsPlace, IsPart}
-use Rattle.w16_holes.proofs.tests.takes_and_puts.Goals as goal
+use Rattle.w16_holes.specs.Holes.{Range, IsPart}
+use Rattle.w16_holes_tests.proofs.tests.takes_and_puts.Goals as goal
 
 abbrev suite : Range
 suite = record { lo = 0; hi = 256; grain = 32 }
-
--- the i-th unit
-place : (r : Range) (i : ℕ) → r ≡ suite → i ≤ 8 → IsPlace r (32 * i)
-place r i e le = subst (λ (s : Range). IsPlace s (32 * i)) (sym e) (record { from = omega arith; to = omega arith; grained = (i, omega arith) })
 
 -- n units from the i-th on
 part : (r : Range) (i n : ℕ) → r ≡ suite → 0 < n → i + n ≤ 8 → IsPart r (32 * i) (32 * n)
@@ -22,32 +18,11 @@ part r i n e some le = subst (λ (s : Range). IsPart s (32 * i) (32 * n)) (sym e
 pub take-requires-clause-part : goal.take-requires-clause-part
 take-requires-clause-part g c = part _ 2 1 (cc) (omega arith) (omega arith)
 
-pub at-requires-clause-place : goal.at-requires-clause-place
-at-requires-clause-place g c = place _ 2 (cc) (omega arith)
-
-pub at-requires-2-clause-place : goal.at-requires-2-clause-place
-at-requires-2-clause-place g c = place _ 3 (cc) (omega arith)
-
-pub ending_at-requires-clause-place : goal.ending_at-requires-clause-place
-ending_at-requires-clause-place g c = place _ 2 (cc) (omega arith)
-
-pub ending_at-requires-2-clause-place : goal.ending_at-requires-2-clause-place
-ending_at-requires-2-clause-place g c = place _ 3 (cc) (omega arith)
-
-pub ending_at-requires-3-clause-place : goal.ending_at-requires-3-clause-place
-ending_at-requires-3-clause-place g c = place _ 8 (cc) (omega arith)
-
 pub take-requires-2-clause-part : goal.take-requires-2-clause-part
 take-requires-2-clause-part g c = part _ 0 2 (cc) (omega arith) (omega arith)
 
 pub take-requires-3-clause-part : goal.take-requires-3-clause-part
 take-requires-3-clause-part g c = part _ 4 1 (cc) (omega arith) (omega arith)
-
-pub at-requires-3-clause-place : goal.at-requires-3-clause-place
-at-requires-3-clause-place g c = place _ 3 (cc) (omega arith)
-
-pub at-requires-4-clause-place : goal.at-requires-4-clause-place
-at-requires-4-clause-place g c = place _ 5 (cc) (omega arith)
 
 pub put-requires-clause-part : goal.put-requires-clause-part
 put-requires-clause-part g c = part _ 0 1 (cc) (omega arith) (omega arith)
