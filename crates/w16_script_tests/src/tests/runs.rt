@@ -1,279 +1,229 @@
-use crate::tests::{Short, limited};
-use std::alloc::{AllocError, Global};
-use std::io::{Error, ErrorKind, Read, Result};
-use std::test::Fail;
+//! Whole runs, as tables of hosts with how a run over them ends and what they note.
+
+mod scripts;
+
+use crate::tests::host::{Host, PLAN, Part, Plan};
+use scripts::{COUNTED, DIALOGUE, DIALOGUES, ENDLESS, SCRIPTS, WRITTEN};
+use std::alloc::Global;
+use std::io::{BufWriter, ErrorKind};
 use w16_kernel::Kernel;
 use w16_script::{Ended, RunFault, run};
 
-type Tested = std::result::Result<(), Fail>;
-
-/// A reader that gives a text, at most so many bytes at once, and then is at its end or fails.
-#[derive(Drop)]
-struct Pieces<'a> {
-    text: &'a [u8],
-    at_once: usize,
-    fails: bool,
+/// A talking host, with how a run over it ends on a machine of 4,096 bytes, and what it notes.
+#[derive(Clone, Copy)]
+pub struct Dialogue {
+    pub name: &'static str,
+    pub text: &'static [Part<'static>],
+    pub breaks: bool,
+    pub room: usize,
+    pub flushes: u32,
+    pub trouble: ErrorKind,
+    pub ended: Result<Ended, RunFault>,
+    pub notes: &'static [Part<'static>],
 }
 
-impl Read for Pieces<'_> {
-    fn read(&mut self, buf: &mut [u8]) -> Result<usize> {
-        if self.text.is_empty() && self.fails {
-            return Err(Error::from(ErrorKind::Other));
+/// A silent one, with how a run over it ends on a machine of so many bytes.
+#[derive(Clone, Copy)]
+pub struct Script {
+    pub name: &'static str,
+    pub text: &'static [Part<'static>],
+    /// How many bytes are read at once, in one run after another.
+    pub by: &'static [usize],
+    pub breaks: bool,
+    pub interrupts: bool,
+    pub memory: u32,
+    pub ended: Result<Ended, RunFault>,
+    pub notes: &'static [Part<'static>],
+}
+
+/// The machine of so many bytes, if it has memory.
+fn machine(alloc: Global, memory: u32) -> Option<Kernel> {
+    if memory % 32 != 0 {
+        return None;
+    }
+    Kernel::new(alloc, memory, 16).ok()
+}
+
+/// How a run on this machine ended that reads from a host, and writes to it.
+fn play(alloc: Global, kernel: &mut Kernel, host: &Host<'_>) -> Result<Ended, RunFault> {
+    let mut reader = host;
+    let mut writer = host;
+    run(alloc, &mut reader, &mut writer, kernel)
+}
+
+/// How it ended on a new machine of so many bytes. There is none where the machine had no memory.
+fn outcome(alloc: Global, memory: u32, host: &Host<'_>) -> Option<Result<Ended, RunFault>> {
+    let mut kernel = machine(alloc, memory)?;
+    Some(play(alloc, &mut kernel, host))
+}
+
+/// Whether a run over a script's host ends as the script says, and the host notes what it says.
+fn is_played(alloc: Global, script: &Script, at_once: usize) -> bool {
+    let host = Host::new(Plan {
+        text: script.text,
+        at_once,
+        breaks: script.breaks,
+        interrupts: script.interrupts,
+        ..PLAN
+    });
+    let ended = outcome(alloc, script.memory, &host);
+    ended == Some(script.ended) && host.has_noted(script.notes)
+}
+
+#[test]
+fn plays_scripts(rt: HostRuntime) {
+    for script in SCRIPTS {
+        for at_once in script.by {
+            assert!(rt;
+                is_played(rt.alloc(), script, *at_once),
+                "{} by {at_once}",
+                script.name
+            );
         }
-        let count = buf.len().min(self.text.len()).min(self.at_once);
-        buf[..count].copy_from_slice(&self.text[..count]);
-        self.text = &self.text[count..];
-        Ok(count)
     }
 }
 
-/// A reader that gives a byte so many times. Every second call is interrupted.
-#[derive(Drop)]
-struct Repeated {
-    byte: u8,
-    left: u64,
-    interrupted: bool,
+/// The host of a dialogue.
+fn talking(dialogue: &Dialogue) -> Host<'static> {
+    Host::new(Plan {
+        text: dialogue.text,
+        breaks: dialogue.breaks,
+        room: dialogue.room,
+        flushes: dialogue.flushes,
+        trouble: dialogue.trouble,
+        talks: true,
+        ..PLAN
+    })
 }
 
-impl Read for Repeated {
-    fn read(&mut self, buf: &mut [u8]) -> Result<usize> {
-        self.interrupted = !self.interrupted;
-        if self.interrupted {
-            return Err(Error::from(ErrorKind::Interrupted));
-        }
-        let count = (buf.len() as u64).min(self.left);
-        for byte in buf[..count as usize].iter_mut() {
-            *byte = self.byte;
-        }
-        self.left -= count;
-        Ok(count as usize)
+/// Whether a run over a dialogue's host ends as the dialogue says, and the host notes what it says.
+fn is_held(alloc: Global, dialogue: &Dialogue) -> bool {
+    let host = talking(dialogue);
+    let ended = outcome(alloc, 4096, &host);
+    ended == Some(dialogue.ended) && host.has_noted(dialogue.notes)
+}
+
+#[test]
+fn holds_dialogues(rt: HostRuntime) {
+    for dialogue in DIALOGUES {
+        assert!(rt; is_held(rt.alloc(), dialogue), "{}", dialogue.name);
     }
 }
 
-/// A reader of one byte for ever, so many times at once, which counts its reads.
-#[derive(Drop)]
-struct Endless {
-    byte: u8,
-    at_once: usize,
-    reads: u32,
-}
-
-impl Read for Endless {
-    fn read(&mut self, buf: &mut [u8]) -> Result<usize> {
-        self.reads = self.reads.saturating_add(1);
-        let count = self.at_once.min(buf.len());
-        buf[..count].fill(self.byte);
-        Ok(count)
-    }
-}
-
-/// A machine of 4,096 bytes and 16 selectors.
-fn machine(alloc: Global) -> std::result::Result<Kernel, AllocError> {
-    Kernel::new(alloc, 4096, 16)
-}
-
-/// How the run of a text ended over a reader that gives so many bytes at once, and what was written.
-fn outcome(
+/// How a run on this machine ended that writes through a buffer.
+fn play_through_a_buffer(
     alloc: Global,
-    text: &[u8],
-    at_once: usize,
-    fails: bool,
-) -> std::result::Result<(std::result::Result<Ended, RunFault>, Vec<u8>), AllocError> {
-    let mut kernel = machine(alloc)?;
-    let mut written = Vec::new(alloc);
-    let mut reader = Pieces {
+    kernel: &mut Kernel,
+    host: &Host<'_>,
+) -> Option<Result<Ended, RunFault>> {
+    let mut reader = host;
+    let mut writer = BufWriter::new(alloc, host).ok()?;
+    Some(run(alloc, &mut reader, &mut writer, kernel))
+}
+
+/// Whether the dialogue is the same where the writer before the host has a buffer.
+fn is_held_through_a_buffer(alloc: Global, dialogue: &Dialogue) -> bool {
+    let host = talking(dialogue);
+    let Some(mut kernel) = machine(alloc, 4096) else {
+        return false;
+    };
+    play_through_a_buffer(alloc, &mut kernel, &host) == Some(dialogue.ended)
+        && host.has_noted(dialogue.notes)
+}
+
+#[test]
+fn replies_through_a_buffer_before_it_reads_on(rt: HostRuntime) {
+    assert!(rt; is_held_through_a_buffer(rt.alloc(), &DIALOGUE));
+}
+
+/// Whether the run of a text has so many lines and replies, each of which says that its line is bad.
+fn is_counted(alloc: Global, text: &'static [Part<'static>], ended: Ended, at_once: usize) -> bool {
+    let host = Host::new(Plan {
         text,
         at_once,
-        fails,
-    };
-    let ended = run(alloc, &mut reader, &mut written, &mut kernel);
-    Ok((ended, written))
-}
-
-/// How the run of a byte ended that comes so many times.
-fn repeated_outcome(
-    alloc: Global,
-    byte: u8,
-    left: u64,
-) -> std::result::Result<std::result::Result<Ended, RunFault>, AllocError> {
-    let mut kernel = machine(alloc)?;
-    let mut reader = Repeated {
-        byte,
-        left,
-        interrupted: false,
-    };
-    Ok(run(alloc, &mut reader, &mut Vec::new(alloc), &mut kernel))
+        ..PLAN
+    });
+    outcome(alloc, 4096, &host) == Some(Ok(ended))
+        && host.has_noted(&[(ended.replies as u64, b"error syntax\n")])
 }
 
 #[test]
-fn counts_lines_and_replies(rt: HostRuntime) -> Tested {
-    let scripts: [(&[u8], u32, u32); 13] = [
-        (b"", 0, 0),
-        (b"\n\n ; a comment\n\t\n", 4, 0),
-        (b"Frob\n", 1, 1),
-        (b"Frob", 1, 1),
-        (b"\nFrob", 2, 1),
-        (b"Frob\r\n\r\n;\r\n", 3, 1),
-        (b"\r\r\n", 1, 1),
-        (b"\r", 1, 1),
-        (b";\r", 1, 0),
-        (b" ", 1, 0),
-        (
-            b"Read 0 1025\nGlobalAlloc 2\n\nr100 = GlobalAlloc 2 1",
-            4,
-            3,
-        ),
-        (b"\n\r\n\rFrob\n", 3, 1),
-        (b"; Frob\nFrob ; Frob\n", 2, 1),
-    ];
-    for (text, lines, replies) in scripts {
+fn counts_lines_and_replies(rt: HostRuntime) {
+    for (text, lines, replies) in COUNTED {
+        let ended = Ended {
+            lines: *lines,
+            replies: *replies,
+        };
         for at_once in [1, 2, 3, 100_000] {
-            let (ended, written) = outcome(rt.alloc(), text, at_once, false)?;
-            assert_eq!(rt;
-                ended,
-                Ok(Ended { lines, replies }),
-                "{lines} lines, {replies} replies"
+            assert!(rt;
+                is_counted(rt.alloc(), text, ended, at_once),
+                "{lines} lines, {replies} replies, by {at_once}"
             );
-            assert_eq!(rt; written.len() as u64, 13 * replies as u64);
-            assert!(rt; written.is_empty() || written.starts_with(b"error syntax\n"));
         }
     }
-    Ok(())
 }
 
-#[test]
-fn limits_the_length_of_a_line(rt: HostRuntime) -> Tested {
-    let done = Ok(Ended {
-        lines: 1,
-        replies: 0,
+/// A script with what is written of it.
+#[derive(Clone, Copy)]
+pub struct Written {
+    pub text: &'static [Part<'static>],
+    pub memory: u32,
+    pub ended: Ended,
+    pub written: &'static [u8],
+}
+
+/// Whether a writer that takes so many bytes, and so many at once, gets just these of what a script writes, and fails if that isn't all.
+fn stops_after(alloc: Global, script: &Written, room: usize, room_at_once: usize) -> bool {
+    let host = Host::new(Plan {
+        text: script.text,
+        room,
+        room_at_once,
+        ..PLAN
     });
-    let long = Err(RunFault::TooLong);
-    let ends: [(usize, &[u8], std::result::Result<Ended, RunFault>); 6] = [
-        (4096, b"\n", done),
-        (4097, b"\n", long),
-        (4095, b"\r\n", done),
-        (4096, b"\r\n", long),
-        (4096, b"", done),
-        (4097, b"", long),
-    ];
-    for (blanks, end, want) in ends {
-        let mut text = vec![in rt.alloc(); b' '; blanks]?;
-        text.extend_from_slice(end)?;
-        for at_once in [1, 4096, 4097, 100_000] {
-            let (ended, written) = outcome(rt.alloc(), text.as_slice(), at_once, false)?;
-            assert_eq!(rt; ended, want, "{blanks} blanks by {at_once}");
-            assert!(rt; written.is_empty());
-        }
-    }
-    Ok(())
-}
-
-#[test]
-fn limits_the_lines(rt: HostRuntime) -> Tested {
-    let million = Ok(Ended {
-        lines: 1_000_000,
-        replies: 0,
-    });
-    assert_eq!(rt; repeated_outcome(rt.alloc(), b'\n', 1_000_000)?, million);
-    assert_eq!(rt;
-        repeated_outcome(rt.alloc(), b'\n', 1_000_001)?,
-        Err(RunFault::TooLong)
-    );
-    assert_eq!(rt;
-        repeated_outcome(rt.alloc(), b'\n', u64::MAX)?,
-        Err(RunFault::TooLong)
-    );
-    assert_eq!(rt;
-        repeated_outcome(rt.alloc(), b'a', u64::MAX)?,
-        Err(RunFault::TooLong)
-    );
-    Ok(())
-}
-
-#[test]
-fn decides_by_the_byte_that_passes_a_limit(rt: HostRuntime) -> Tested {
-    let text = vec![in rt.alloc(); b'a'; 4097]?;
-    let (ended, _) = outcome(rt.alloc(), text.as_slice(), 1, true)?;
-    assert_eq!(rt; ended, Err(RunFault::TooLong));
-    let (ended, _) = outcome(rt.alloc(), &text.as_slice()[..4096], 1, true)?;
-    assert_eq!(rt; ended, Err(RunFault::Read));
-    Ok(())
-}
-
-/// How a run ended over one byte for ever, so many times at once, and how often it read.
-fn endless_outcome(
-    alloc: Global,
-    byte: u8,
-    at_once: usize,
-) -> std::result::Result<(std::result::Result<Ended, RunFault>, u32), AllocError> {
-    let mut kernel = machine(alloc)?;
-    let mut reader = Endless {
-        byte,
-        at_once,
-        reads: 0,
+    let count = room.min(script.written.len());
+    let ended = if count < script.written.len() {
+        Err(RunFault::Write)
+    } else {
+        Ok(script.ended)
     };
-    let mut writer = Vec::new(alloc);
-    let ended = run(alloc, &mut reader, &mut writer, &mut kernel);
-    Ok((ended, reader.reads))
+    outcome(alloc, script.memory, &host) == Some(ended) && host.has_taken(&script.written[..count])
 }
 
 #[test]
-fn reads_nothing_behind_the_piece_that_passes_a_limit(rt: HostRuntime) -> Tested {
-    let cases = [
-        (b'a', 1, 4097),
-        (b'a', 1000, 5),
-        (b'a', 4096, 2),
-        (b'a', 4097, 1),
-        (b'\n', 1000, 1001),
-        (b'\n', 9901, 101),
-    ];
-    for (byte, at_once, reads) in cases {
-        let (ended, found) = endless_outcome(rt.alloc(), byte, at_once)?;
-        assert_eq!(rt; ended, Err(RunFault::TooLong), "{byte} by {at_once}");
-        assert_eq!(rt; found, reads, "{byte} by {at_once}");
+fn stops_at_each_byte_that_is_not_taken(rt: HostRuntime) {
+    for script in WRITTEN {
+        for room in 0..=script.written.len() {
+            for at_once in [1, 3, 5, 64, 96] {
+                assert!(rt;
+                    stops_after(rt.alloc(), script, room, at_once),
+                    "{room} by {at_once}"
+                );
+            }
+        }
     }
-    Ok(())
 }
 
-#[test]
-fn fails_to_read(rt: HostRuntime) -> Tested {
-    for at_once in [1, 7, 100_000] {
-        let (ended, written) = outcome(rt.alloc(), b"Frob\nFrob\n\nFrob", at_once, true)?;
-        assert_eq!(rt; ended, Err(RunFault::Read));
-        assert_eq!(rt;
-            written.as_slice(),
-            b"error syntax\nerror syntax\n".as_slice()
-        );
-    }
-    Ok(())
-}
-
-/// How a run of three bad lines ended over this writer.
-fn bad_lines(
+/// How often a text is read, by so many bytes at once, until it is too long.
+fn reads_until_too_long(
     alloc: Global,
-    writer: &mut Short,
-) -> std::result::Result<std::result::Result<Ended, RunFault>, AllocError> {
-    let mut kernel = machine(alloc)?;
-    let mut text: &[u8] = b"Frob\n\nFrob\nFrob";
-    Ok(run(alloc, &mut text, writer, &mut kernel))
+    text: &'static [Part<'static>],
+    at_once: usize,
+) -> Option<u32> {
+    let host = Host::new(Plan {
+        text,
+        at_once,
+        ..PLAN
+    });
+    match outcome(alloc, 4096, &host) {
+        Some(Err(RunFault::TooLong)) => Some(host.reads()),
+        _ => None,
+    }
 }
 
 #[test]
-fn fails_to_write(rt: HostRuntime) -> Tested {
-    let text = b"error syntax\nerror syntax\nerror syntax\n";
-    for left in 0..text.len() {
-        let mut writer = limited(left, 5);
-        assert_eq!(rt; bad_lines(rt.alloc(), &mut writer)?, Err(RunFault::Write));
-        assert_eq!(rt; writer.taken.as_slice(), &text[..left]);
+fn reads_nothing_behind_the_piece_that_passes_a_limit(rt: HostRuntime) {
+    for (text, at_once, reads) in ENDLESS {
+        let found = reads_until_too_long(rt.alloc(), text, *at_once);
+        assert!(rt; found == Some(*reads), "{reads} by {at_once}");
     }
-    for at_once in [1, 64] {
-        let mut writer = limited(text.len(), at_once);
-        let whole = Ok(Ended {
-            lines: 4,
-            replies: 3,
-        });
-        assert_eq!(rt; bad_lines(rt.alloc(), &mut writer)?, whole);
-        assert_eq!(rt; writer.taken.as_slice(), text.as_slice());
-    }
-    Ok(())
 }
