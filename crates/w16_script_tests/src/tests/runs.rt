@@ -22,7 +22,7 @@ pub struct Dialogue {
     pub notes: &'static [Part<'static>],
 }
 
-/// A silent one, with how a run over it ends on a machine of so many bytes.
+/// A host that doesn't talk, with how a run over it ends on a machine of so many bytes.
 #[derive(Clone, Copy)]
 pub struct Script {
     pub name: &'static str,

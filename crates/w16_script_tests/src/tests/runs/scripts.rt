@@ -61,7 +61,7 @@ pub static WRITTEN: &[Written] = &[
 /// Three lines, each of which waits for the reply to the one before it; the last has no LF.
 const LINES: &[Part<'_>] = &[(1, b"Frob\n"), (1, b"GlobalAlloc 2 32\n"), (1, b"Frob")];
 
-/// A host that gives them one by one.
+/// A run over a host that gives them one by one.
 pub const DIALOGUE: Dialogue = Dialogue {
     name: "replies before it reads on",
     text: LINES,
