@@ -58,7 +58,7 @@ impl<H: HoleList> Arena<H> {
             return Ok(());
         };
         if entry.locks > 0 {
-            return Err(Refusal::Locked);
+            return Err(Refusal::Locked); // someone has its address
         }
         self.release(space, id);
         Ok(())
@@ -72,13 +72,13 @@ impl<H: HoleList> Arena<H> {
         ensures holes { holes_in self.new.table ≡ holes_in self.old.table }
     {
         if self.block(id).is_none() {
-            return Err(Refusal::Absent);
+            return Err(Refusal::Absent); // it has no address
         }
         let Some(entry) = self.entry(id) else {
             return Err(Refusal::Absent);
         };
         if is_fixed(entry.kind) {
-            return Err(Refusal::Fixed);
+            return Err(Refusal::Fixed); // it never moves, so it counts no locks
         }
         if entry.locks == 255 {
             return Err(Refusal::LockFull);
@@ -120,10 +120,10 @@ impl<H: HoleList> Arena<H> {
             return Err(Refusal::NotDiscardable);
         };
         if entry.locks > 0 {
-            return Err(Refusal::Locked);
+            return Err(Refusal::Locked); // someone reads its bytes
         }
         if !is_discardable(entry.kind) {
-            return Err(Refusal::NotDiscardable);
+            return Err(Refusal::NotDiscardable); // no one could make its bytes again
         }
         self.give_up(space, id);
         Ok(())
