@@ -3,7 +3,9 @@
 
 mod call;
 mod kernel;
+mod sizes;
 mod step;
 
 pub use call::{Answer, Call, Chunk, MOST_FILLED, MOST_READ, Reply};
 pub use kernel::Kernel;
+pub use sizes::{MOST_MEMORY, SizeFault, check_sizes};

@@ -1,10 +1,10 @@
 //! Sample files, as they are and with a byte changed, and small segments.
+use answers::{LIBRARY, Sample};
 use std::alloc::Global;
-use std::process::Abort;
 use std::test::Fail;
-use w16_ne::read_module;
-use w16_reloc::{Far, RelocFault, Scratch, apply, check};
-use w16_store::{FuseStore, MemStore, Store, StoreFault};
+use w16_ne::{Module, read_module};
+use w16_reloc::{RelocFault, Scratch, apply, check};
+use w16_store::{MemStore, Store};
 
 mod answers;
 mod liars;
@@ -41,25 +41,50 @@ fn store_of(alloc: Global, lines: &[&str], changes: &[(usize, u8)]) -> Result<Me
     Ok(store)
 }
 
-/// What a check of the file's first segment answers.
-fn check_first<S: Store>(
-    alloc: Global,
+/// What a check of this segment of a module answers; None where it has no such segment.
+fn check_segment<S: Store>(
     store: &mut S,
+    module: &Module,
+    segment: usize,
     scratch: &mut Scratch,
-) -> Result<Result<(), RelocFault>, Fail> {
-    let module = read_module(alloc, store, b"FILE")?;
-    if module.segment_count() == 0 {
-        return Err(Fail::from("no segment"));
+) -> Option<Result<(), RelocFault>> {
+    if segment == 0 || module.segment_count() < segment {
+        return None;
     }
-    Ok(check(store, b"FILE", &module, 1, scratch))
+    Some(check(store, b"FILE", module, segment, scratch))
 }
 
-/// Whether what a scratch holds, relocated with these targets, has these bytes.
-fn has_image(alloc: Global, scratch: &Scratch, targets: &[Far], want: &str) -> Result<bool, Fail> {
-    let mut bytes = Vec::from_slice(alloc, scratch.bytes())?;
-    if scratch.records().len() != targets.len() {
+/// What a check of the library's first segment answers where some bytes of the file are changed.
+fn check_changed(
+    alloc: Global,
+    changes: &[(usize, u8)],
+    scratch: &mut Scratch,
+) -> Result<Option<Result<(), RelocFault>>, Fail> {
+    let mut store = store_of(alloc, LIBRARY.lines, changes)?;
+    let module = read_module(alloc, &mut store, b"FILE")?;
+    Ok(check_segment(&mut store, &module, 1, scratch))
+}
+
+/// Whether what a scratch holds, relocated with a sample's targets, has its bytes.
+fn has_image(alloc: Global, scratch: &Scratch, sample: &Sample) -> Result<bool, Fail> {
+    if scratch.records().len() != sample.targets.len() {
         return Ok(false);
     }
-    apply(bytes.as_mut_slice(), scratch.records(), targets);
-    Ok(bytes.as_slice() == bytes_of(alloc, &[want])?.as_slice())
+    let mut bytes = Vec::from_slice(alloc, scratch.bytes())?;
+    apply(bytes.as_mut_slice(), scratch.records(), sample.targets);
+    Ok(bytes.as_slice() == bytes_of(alloc, &[sample.image])?.as_slice())
+}
+
+/// Whether a sample's segment is sound in its store, and has its bytes.
+fn is_relocated<S: Store>(
+    alloc: Global,
+    store: &mut S,
+    module: &Module,
+    sample: &Sample,
+    scratch: &mut Scratch,
+) -> Result<bool, Fail> {
+    if check_segment(store, module, sample.segment, scratch) != Some(Ok(())) {
+        return Ok(false);
+    }
+    has_image(alloc, scratch, sample)
 }

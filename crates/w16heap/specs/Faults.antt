@@ -1,5 +1,7 @@
 -- The program's faults and their exit statuses.
-use Rattle.std.specs.Prelude.{◌≡◌, ◌≤◌, ◌%◌, ℕ}
+use Rattle.std.specs.Prelude.{ℕ}
+use Rattle.w16_kernel.specs.declared.sizes.SizeFault.{SizeFault}
+use Rattle.w16_kernel.specs.declared.sizes.SizeFault.TheVariants as size
 use Rattle.w16_script.specs.declared.outcome.RunFault.{RunFault}
 use Rattle.w16_script.specs.declared.outcome.RunFault.TheVariants as run
 use Rattle.w16_script.specs.Status as script
@@ -23,16 +25,7 @@ of_run run.Write = fault.Write
 of_run run.Memory = fault.Memory
 of_run run.TooLong = fault.TooLong
 
--- a size of the global heap's memory that the program takes
-abbrev pub IsMemorySize : ℕ → Type 0
-IsMemorySize memory = (32 ≤ memory) × (memory ≤ 16777216) × (memory % 32 ≡ 0)
-
--- a number of selectors that it takes
-abbrev pub IsSelectorCount : ℕ → Type 0
-IsSelectorCount selectors = (1 ≤ selectors) × (selectors ≤ 8160)
-
--- the fault of sizes that it doesn't take: the memory's comes first
-abbrev pub IsSizeFault : ℕ → ℕ → Fault → Type 0
-IsSizeFault memory selectors fault.MemorySize = IsMemorySize memory → ⊥
-IsSizeFault memory selectors fault.SelectorCount = IsMemorySize memory × (IsSelectorCount selectors → ⊥)
-IsSizeFault memory selectors other = ⊥
+-- sizes that no machine has are the program's fault of the same name
+abbrev pub of_size : SizeFault → Fault
+of_size size.MemorySize = fault.MemorySize
+of_size size.SelectorCount = fault.SelectorCount

@@ -5,6 +5,7 @@ ghost use Rattle.w16heap.specs.Faults.{status_of};
 use std::process::ExitCode;
 use std::{fmt, io};
 use thiserror::Error;
+use w16_kernel::SizeFault;
 use w16_script::RunFault;
 
 /// A fault of a run of the program, but for those of its command line.
@@ -54,6 +55,19 @@ impl From<RunFault> for Fault {
             RunFault::Write => Fault::Write,
             RunFault::Memory => Fault::Memory,
             RunFault::TooLong => Fault::TooLong,
+        }
+    }
+}
+
+impl From<SizeFault> for Fault {
+    ghost use Rattle.w16heap.specs.Faults.{of_size};
+
+    ghost from_gives = { λ fault e. e ≡ of_size fault };
+
+    fn from(fault: SizeFault) -> Fault {
+        match fault {
+            SizeFault::MemorySize => Fault::MemorySize,
+            SizeFault::SelectorCount => Fault::SelectorCount,
         }
     }
 }

@@ -1,33 +1,15 @@
 //! Runs of a script on a new machine.
-ghost use Rattle.std.specs.Prelude.{◌≡◌, OnOk, IfOk, IfErr};
+ghost use Rattle.std.specs.Prelude.{◌≡◌, IfOk, IfErr};
 ghost use Rattle.w16_machine.specs.Local.{empty_local_world};
-ghost use Rattle.w16heap.specs.Faults.{IsMemorySize, IsSelectorCount, IsSizeFault};
+ghost use Rattle.w16_kernel.specs.Sizes.{IsMemorySize, IsSelectorCount};
 
 use crate::fault::Fault;
 use crate::options::Options;
 use std::alloc::Global;
 use std::fs::File;
 use std::io::{self, BufWriter, Read, Write};
-use w16_kernel::Kernel;
-use w16_model::{GRAIN, MOST_SLOTS};
+use w16_kernel::{Kernel, check_sizes};
 use w16_script::run;
-
-/// The most bytes that a heap may have: 16 MiB.
-const MOST_MEMORY: u32 = 16_777_216;
-
-/// Checks the sizes that were asked for: a memory's size that can't be is told first.
-fn check(options: &Options<'_>) -> Result<(), Fault>
-    ensures ok { OnOk result (IsMemorySize options.now.memory × IsSelectorCount options.now.selectors) }
-    ensures err { IfErr result (IsSizeFault options.now.memory options.now.selectors) }
-{
-    if options.memory == 0 || options.memory > MOST_MEMORY || options.memory % GRAIN != 0 {
-        return Err(Fault::MemorySize);
-    }
-    if options.selectors == 0 || options.selectors > MOST_SLOTS {
-        return Err(Fault::SelectorCount);
-    }
-    Ok(())
-}
 
 /// The machine that the options ask for, in which nothing is allocated. An error is want of memory.
 fn machine(alloc: Global, options: &Options<'_>) -> Result<Kernel, Fault>
@@ -85,7 +67,7 @@ fn run_file(rt: &HostRuntime, options: &Options<'_>, path: &str) -> Result<(), F
 
 /// Does what the command line asks for. A size that can't be is told first, then a script that can't be opened, then want of memory.
 pub fn play(rt: &HostRuntime, options: &Options<'_>) -> Result<(), Fault> {
-    check(options)?;
+    check_sizes(options.memory, options.selectors)?;
     match options.script {
         Some(path) => run_file(rt, options, path),
         None => run_script(rt, options, &mut rt.reader()),

@@ -9,7 +9,7 @@ const PLACE: &str = "00000000000000000000000040000000";
 
 /// A library of two code segments. The first has a chain of far pointers at 1 and 6, and an offset at 0B that is added to, all of segment 2,
 /// offset 4.
-pub const TLIB: [&str; 16] = [
+const LIBRARY_LINES: &[&str] = &[
     EMPTY_HEADER,
     ZEROS,
     ZEROS,
@@ -29,7 +29,7 @@ pub const TLIB: [&str; 16] = [
 ];
 
 /// An application of one code segment, with the far pointers TLIB.1 at 1, TLIB.GETB at 6 and TLIB.9 at 0B.
-pub const TAPP: [&str; 13] = [
+const APPLICATION_LINES: &[&str] = &[
     EMPTY_HEADER,
     ZEROS,
     ZEROS,
@@ -45,40 +45,62 @@ pub const TAPP: [&str; 13] = [
     "060003010b0001000900",
 ];
 
-/// Segment 2 of TLIB at selector 010F, where it has its two targets.
-pub const TLIB_TARGETS: [Far; 2] = [
-    Far {
-        selector: 0x10f,
-        offset: 4,
-    },
-    Far {
-        selector: 0x10f,
-        offset: 4,
-    },
-];
+/// A segment of a sample file, where its targets are, and its bytes with them.
+pub struct Sample {
+    pub lines: &'static [&'static str],
+    pub segment: usize,
+    pub targets: &'static [Far],
+    pub image: &'static str,
+}
 
-pub const TLIB_IMAGE: &str = "9a04000f019a04000f01b81400cb9090";
+/// The library's first segment, whose targets are both in its second, at selector 010F.
+pub static LIBRARY: Sample = Sample {
+    lines: LIBRARY_LINES,
+    segment: 1,
+    targets: &[
+        Far {
+            selector: 0x10f,
+            offset: 4,
+        },
+        Far {
+            selector: 0x10f,
+            offset: 4,
+        },
+    ],
+    image: "9a04000f019a04000f01b81400cb9090",
+};
 
-/// TLIB's segments at selectors 010F and 0117. It has no ordinal 9.
-pub const TAPP_TARGETS: [Far; 3] = [
-    Far {
-        selector: 0x10f,
-        offset: 0,
-    },
-    Far {
-        selector: 0x117,
-        offset: 4,
-    },
-    Far {
-        selector: 0,
-        offset: 0,
-    },
-];
+/// The library's second segment, which has no records.
+pub static LIBRARY_END: Sample = Sample {
+    lines: LIBRARY_LINES,
+    segment: 2,
+    targets: &[],
+    image: "01020304cb909090",
+};
 
-pub const TAPP_IMAGE: &str = "9a00000f019a040017019a00000000cb";
+/// The application's segment, with the library's at selectors 010F and 0117. The library has no ordinal 9.
+pub static APPLICATION: Sample = Sample {
+    lines: APPLICATION_LINES,
+    segment: 1,
+    targets: &[
+        Far {
+            selector: 0x10f,
+            offset: 0,
+        },
+        Far {
+            selector: 0x117,
+            offset: 4,
+        },
+        Far {
+            selector: 0,
+            offset: 0,
+        },
+    ],
+    image: "9a00000f019a040017019a00000000cb",
+};
 
-/// A byte of TLIB changed, and what its first segment is then.
-pub const CHANGED: [(usize, u8, Result<(), RelocFault>); 7] = [
+/// A byte of the library changed, and what its first segment is then.
+pub static CHANGED: &[(usize, u8, Result<(), RelocFault>)] = &[
     (0xd2, 0x0b, Err(RelocFault::BadRecord)),
     (0xd6, 0x03, Err(RelocFault::BadRecord)),
     (0xc1, 0x0d, Err(RelocFault::SiteOutside)),
@@ -87,3 +109,9 @@ pub const CHANGED: [(usize, u8, Result<(), RelocFault>); 7] = [
     (0xd2, 0x83, Ok(())),
     (0xd3, 0x03, Ok(())),
 ];
+
+/// A bit that no loader looks at, set in the library's first record.
+pub static IGNORED_BIT: [(usize, u8); 1] = [(0xd2, 0x83)];
+
+/// A chain of the library's first segment, led back to its first site.
+pub static RETURNING_CHAIN: [(usize, u8); 2] = [(0xc6, 1), (0xc7, 0)];

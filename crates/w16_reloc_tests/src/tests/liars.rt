@@ -1,6 +1,11 @@
 //! Stores that don't tell what their files are.
-use super::answers::{TAPP, TAPP_IMAGE, TAPP_TARGETS};
-use super::*;
+use super::answers::APPLICATION;
+use super::{check_segment, is_relocated, store_of};
+use std::alloc::Global;
+use std::test::Fail;
+use w16_ne::{Module, read_module};
+use w16_reloc::{RelocFault, Scratch};
+use w16_store::{MemStore, Store, StoreFault};
 
 /// What a lie is: each byte is this, or this fault.
 type Lie = Result<u8, StoreFault>;
@@ -36,76 +41,102 @@ impl Store for Liar {
     }
 }
 
-const SHORT: Result<(), RelocFault> = Err(RelocFault::Store(StoreFault::Short));
+/// What a check answers.
+type Checked = Result<(), RelocFault>;
 
-const MISSING: Result<(), RelocFault> = Err(RelocFault::Store(StoreFault::Missing));
+const SHORT: Checked = Err(RelocFault::Store(StoreFault::Short));
 
-const BAD: Result<(), RelocFault> = Err(RelocFault::BadRecord);
+const MISSING: Checked = Err(RelocFault::Store(StoreFault::Missing));
 
-const OVERLAP: Result<(), RelocFault> = Err(RelocFault::Overlap);
+const BAD: Checked = Err(RelocFault::BadRecord);
 
-/// A lie, and what a check of the application's segment answers where it is told at the read of the data, of the count, of the records, of the
-/// length of the one imported name, and of that name's last byte.
-const LIES: [(Lie, [Result<(), RelocFault>; 5]); 4] = [
-    (Err(StoreFault::Short), [SHORT, SHORT, SHORT, BAD, BAD]),
-    (Err(StoreFault::Missing), [MISSING; 5]),
-    (Ok(0), [OVERLAP, Ok(()), BAD, Ok(()), Ok(())]),
-    (Ok(0xff), [Ok(()), SHORT, Ok(()), BAD, Ok(())]),
+const OVERLAP: Checked = Err(RelocFault::Overlap);
+
+/// A lie, the read at which it is told, or 0 for all, and what a check of the application's segment answers then.
+type Told = (Lie, u32, Checked);
+
+/// Lies at the read of the data, of the count, of the records, of the length of the one imported name, and of that name's last byte.
+static LIES: &[Told] = &[
+    (Err(StoreFault::Short), 1, SHORT),
+    (Err(StoreFault::Short), 2, SHORT),
+    (Err(StoreFault::Short), 3, SHORT),
+    (Err(StoreFault::Short), 4, BAD),
+    (Err(StoreFault::Short), 5, BAD),
+    (Err(StoreFault::Missing), 1, MISSING),
+    (Err(StoreFault::Missing), 2, MISSING),
+    (Err(StoreFault::Missing), 3, MISSING),
+    (Err(StoreFault::Missing), 4, MISSING),
+    (Err(StoreFault::Missing), 5, MISSING),
+    (Ok(0), 1, OVERLAP),
+    (Ok(0), 2, Ok(())),
+    (Ok(0), 3, BAD),
+    (Ok(0), 4, Ok(())),
+    (Ok(0), 5, Ok(())),
+    (Ok(0xff), 1, Ok(())),
+    (Ok(0xff), 2, SHORT),
+    (Ok(0xff), 3, Ok(())),
+    (Ok(0xff), 4, BAD),
+    (Ok(0xff), 5, Ok(())),
 ];
 
-/// What a check by such a liar answers, and whether the scratch serves an honest store afterwards.
-fn check_lied(
+/// The application's store and module.
+fn application(alloc: Global) -> Result<(MemStore, Module), Fail> {
+    let mut store = store_of(alloc, APPLICATION.lines, &[])?;
+    let module = read_module(alloc, &mut store, b"FILE")?;
+    Ok((store, module))
+}
+
+/// Whether a check by a liar answers as it is told, and the scratch serves an honest store afterwards.
+fn is_answered(
     alloc: Global,
-    lie: Lie,
-    at: u32,
+    honest: &mut MemStore,
+    module: &Module,
+    told: Told,
     scratch: &mut Scratch,
-) -> Result<(Result<(), RelocFault>, bool), Fail> {
-    let mut honest = store_of(alloc, &TAPP, &[])?;
-    let module = read_module(alloc, &mut honest, b"FILE")?;
-    if module.segment_count() == 0 {
-        return Err(Fail::from("no segment"));
-    }
+) -> Result<bool, Fail> {
+    let (lie, at, want) = told;
     let mut liar = Liar {
-        inner: store_of(alloc, &TAPP, &[])?,
+        inner: store_of(alloc, APPLICATION.lines, &[])?,
         lie,
         at,
         reads: 0,
     };
-    let answer = check(&mut liar, b"FILE", &module, 1, scratch);
-    let again = check(&mut honest, b"FILE", &module, 1, scratch);
-    let serves = again == Ok(()) && has_image(alloc, scratch, &TAPP_TARGETS, TAPP_IMAGE)?;
-    Ok((answer, serves))
+    if check_segment(&mut liar, module, 1, scratch) != Some(want) {
+        return Ok(false);
+    }
+    is_relocated(alloc, honest, module, &APPLICATION, scratch)
 }
 
 #[test]
 fn one_lie_is_answered(rt: HostRuntime) -> Result<(), Fail> {
     let mut scratch = Scratch::new(rt.alloc())?;
-    for (lie, answers) in LIES {
-        let mut at = 0u32;
-        for want in answers {
-            at = at.saturating_add(1);
-            let (answer, serves) = check_lied(rt.alloc(), lie, at, &mut scratch)?;
-            assert!(rt;
-                answer == want && serves,
-                "{lie:?} at read {at}: {answer:?}"
-            );
-        }
+    let (mut honest, module) = application(rt.alloc())?;
+    for told in LIES {
+        assert!(rt;
+            is_answered(rt.alloc(), &mut honest, &module, *told, &mut scratch)?,
+            "{told:?}"
+        );
     }
     Ok(())
 }
 
-/// All bytes are the same, so many records are all the same too: none, or fixups of the system's, or none of them is well formed.
+/// What is told where each byte that is read is this one, so that the records are all the same too: none, or fixups of the system's, or none of
+/// them is well formed.
+fn told_by(byte: u8) -> Told {
+    let is_sound = byte == 0 || byte & 3 == 3;
+    (Ok(byte), 0, if is_sound { Ok(()) } else { BAD })
+}
+
 #[test]
 fn lies_alone_are_answered(rt: HostRuntime) -> Result<(), Fail> {
     let mut scratch = Scratch::new(rt.alloc())?;
+    let (mut honest, module) = application(rt.alloc())?;
     for byte in 0..=255u8 {
-        let want = if byte == 0 || byte & 3 == 3 {
-            Ok(())
-        } else {
-            BAD
-        };
-        let (answer, serves) = check_lied(rt.alloc(), Ok(byte), 0, &mut scratch)?;
-        assert!(rt; answer == want && serves, "all bytes {byte}: {answer:?}");
+        let told = told_by(byte);
+        assert!(rt;
+            is_answered(rt.alloc(), &mut honest, &module, told, &mut scratch)?,
+            "{told:?}"
+        );
     }
     Ok(())
 }
