@@ -79,43 +79,53 @@ static LIES: &[Told] = &[
     (Ok(0xff), 5, Ok(())),
 ];
 
-/// The application's store and module.
-fn application(alloc: Global) -> Result<(MemStore, Module), Fail> {
-    let mut store = store_of(alloc, APPLICATION.lines, &[])?;
-    let module = read_module(alloc, &mut store, b"FILE")?;
-    Ok((store, module))
+/// The application in an honest store, and a scratch for its checks.
+#[derive(Drop)]
+struct Bench {
+    honest: MemStore,
+    module: Module,
+    scratch: Scratch,
 }
 
-/// Whether a check by a liar answers as it is told, and the scratch serves an honest store afterwards.
-fn is_answered(
-    alloc: Global,
-    honest: &mut MemStore,
-    module: &Module,
-    told: Told,
-    scratch: &mut Scratch,
-) -> Result<bool, Fail> {
-    let (lie, at, want) = told;
-    let mut liar = Liar {
-        inner: store_of(alloc, APPLICATION.lines, &[])?,
-        lie,
-        at,
-        reads: 0,
-    };
-    if check_segment(&mut liar, module, 1, scratch) != Some(want) {
-        return Ok(false);
+impl Bench {
+    fn new(alloc: Global) -> Result<Bench, Fail> {
+        let mut honest = store_of(alloc, APPLICATION.lines, &[])?;
+        let module = read_module(alloc, &mut honest, b"FILE")?;
+        let scratch = Scratch::new(alloc)?;
+        Ok(Bench {
+            honest,
+            module,
+            scratch,
+        })
     }
-    is_relocated(alloc, honest, module, &APPLICATION, scratch)
+
+    /// Whether a check by a liar answers as it is told, and the scratch serves an honest store afterwards.
+    fn is_answered(&mut self, alloc: Global, told: Told) -> Result<bool, Fail> {
+        let (lie, at, want) = told;
+        let mut liar = Liar {
+            inner: store_of(alloc, APPLICATION.lines, &[])?,
+            lie,
+            at,
+            reads: 0,
+        };
+        if check_segment(&mut liar, &self.module, 1, &mut self.scratch) != Some(want) {
+            return Ok(false);
+        }
+        is_relocated(
+            alloc,
+            &mut self.honest,
+            &self.module,
+            &APPLICATION,
+            &mut self.scratch,
+        )
+    }
 }
 
 #[test]
 fn one_lie_is_answered(rt: HostRuntime) -> Result<(), Fail> {
-    let mut scratch = Scratch::new(rt.alloc())?;
-    let (mut honest, module) = application(rt.alloc())?;
+    let mut bench = Bench::new(rt.alloc())?;
     for told in LIES {
-        assert!(rt;
-            is_answered(rt.alloc(), &mut honest, &module, *told, &mut scratch)?,
-            "{told:?}"
-        );
+        assert!(rt; bench.is_answered(rt.alloc(), *told)?, "{told:?}");
     }
     Ok(())
 }
@@ -129,13 +139,11 @@ fn told_by(byte: u8) -> Told {
 
 #[test]
 fn lies_alone_are_answered(rt: HostRuntime) -> Result<(), Fail> {
-    let mut scratch = Scratch::new(rt.alloc())?;
-    let (mut honest, module) = application(rt.alloc())?;
+    let mut bench = Bench::new(rt.alloc())?;
     for byte in 0..=255u8 {
-        let told = told_by(byte);
         assert!(rt;
-            is_answered(rt.alloc(), &mut honest, &module, told, &mut scratch)?,
-            "{told:?}"
+            bench.is_answered(rt.alloc(), told_by(byte))?,
+            "all bytes {byte}"
         );
     }
     Ok(())
