@@ -57,7 +57,7 @@ fn first_wrong(bench: &Bench, all: &[Asked]) -> Option<usize> {
     all.iter().position(|asked| !is_so(bench, asked))
 }
 
-const LOOKS: &[Asked] = &[
+static LOOKS: &[Asked] = &[
     Asked::Find(2, Some(SECOND)),
     Asked::Find(1, None),
     Asked::Next(0, Some(FIRST)),
@@ -76,7 +76,7 @@ fn looks_up(rt: HostRuntime) -> Result<(), Fail> {
     Ok(())
 }
 
-const HOLES: &[Asked] = &[
+static HOLES: &[Asked] = &[
     Asked::Hole(0, Some(0)),
     Asked::Hole(32, Some(0)),
     Asked::Hole(33, Some(64)),
@@ -93,7 +93,7 @@ fn finds_holes(rt: HostRuntime) -> Result<(), Fail> {
     Ok(())
 }
 
-const SHIFTED: &[Asked] = &[
+static SHIFTED: &[Asked] = &[
     Asked::Find(3, Some(Block { at: 64, ..LAST })),
     Asked::Byte(64, 7),
     Asked::Next(64, Some(Block { at: 64, ..LAST })),
@@ -108,7 +108,7 @@ fn moves_bytes(rt: HostRuntime) -> Result<(), Fail> {
     Ok(())
 }
 
-const SLID: &[Asked] = &[
+static SLID: &[Asked] = &[
     Asked::Find(2, Some(Block { at: 64, ..SECOND })),
     Asked::Find(3, Some(Block { at: 96, ..LAST })),
     Asked::Byte(64, 5),
@@ -126,7 +126,7 @@ fn slides_a_run(rt: HostRuntime) -> Result<(), Fail> {
     Ok(())
 }
 
-const LIFTED: &[Asked] = &[
+static LIFTED: &[Asked] = &[
     Asked::Find(2, Some(Block { at: 160, ..SECOND })),
     Asked::Find(3, Some(Block { at: 192, ..LAST })),
     Asked::Byte(160, 5),
@@ -145,7 +145,7 @@ fn lifts_a_run(rt: HostRuntime) -> Result<(), Fail> {
     Ok(())
 }
 
-const PINNED: &[Asked] = &[
+static PINNED: &[Asked] = &[
     Asked::Find(
         0,
         Some(Block {
@@ -166,7 +166,7 @@ fn changes_one_block(rt: HostRuntime) -> Result<(), Fail> {
     Ok(())
 }
 
-const GROWN: &[Asked] = &[
+static GROWN: &[Asked] = &[
     Asked::Find(0, Some(Block { size: 96, ..FIRST })),
     Asked::Hole(33, Some(192)),
 ];
@@ -187,7 +187,7 @@ fn walks_by_address(rt: HostRuntime) -> Result<(), Fail> {
 }
 
 /// From above all on, each time from where the block before begins; then from inside a block, which is the last, and from the lowest place.
-const BELOW: &[Asked] = &[
+static BELOW: &[Asked] = &[
     Asked::Below(1000, Some(LAST)),
     Asked::Below(160, Some(SECOND)),
     Asked::Below(128, Some(FIRST)),
@@ -204,7 +204,7 @@ fn walks_down(rt: HostRuntime) -> Result<(), Fail> {
 }
 
 /// From 0 on, each time from the end of the part before; then from inside a block, from inside a hole, and behind where the last part begins.
-const PARTS: &[Asked] = &[
+static PARTS: &[Asked] = &[
     Asked::Part(0, Some(Part::Hole(Span { from: 0, to: 32 }))),
     Asked::Part(32, Some(Part::Block(FIRST))),
     Asked::Part(64, Some(Part::Hole(Span { from: 64, to: 128 }))),
