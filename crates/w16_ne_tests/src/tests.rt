@@ -10,20 +10,18 @@ mod mutants;
 mod samples;
 mod vectors;
 
-/// The bytes that lines of hexadecimal digits say.
+/// The byte that two hexadecimal digits say.
+fn byte_of(digits: &[u8]) -> Option<u8> {
+    let text = str::from_utf8(digits).ok()?;
+    u8::from_str_radix(text, 16).ok()
+}
+
+/// The bytes that lines of hexadecimal digits say, two for each.
 fn bytes_of(alloc: Global, lines: &[&str]) -> Result<Vec<u8>, Fail> {
     let mut bytes = Vec::new(alloc);
-    let mut high = None;
     for line in lines {
-        for digit in line.chars() {
-            let digit = digit.to_digit(16).ok_or("no digit")? as u8;
-            high = match high {
-                None => Some(digit),
-                Some(high) => {
-                    bytes.push(16u8.wrapping_mul(high).wrapping_add(digit))?;
-                    None
-                }
-            };
+        for digits in line.as_bytes().chunks(2) {
+            bytes.push(byte_of(digits).ok_or("no byte")?)?;
         }
     }
     Ok(bytes)

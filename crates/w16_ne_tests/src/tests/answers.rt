@@ -4,7 +4,7 @@
 //! answer, which each table begins with. Four digits are the sum of other tables.
 
 /// TLIB: the file, 248 bytes.
-pub const TLIB: [&str; 5] = [
+pub static TLIB: &[&str] = &[
     "4d5a000000000000000000000000000000000000000000000000000000000000000000000000000000000000000000000000",
     "00000000000000000000400000004e45050a67000e0000000000008000000000000000000000000000000200000005004000",
     "5000500066006600b500000001000400000002000000000000000a030c001000501110000f0008001010080004544c494200",
@@ -12,17 +12,17 @@ pub const TLIB: [&str; 5] = [
     "0000b81000cb90900200030001000200040005040b0002000400000000000000000000000000000001020304cb909090",
 ];
 
-pub const TLIB_WHOLE: &str = "ab39";
+pub const TLIB_WHOLE: u64 = 0xab39;
 
 /// For each proper prefix.
-pub const TLIB_CUT: [&str; 3] = [
+pub static TLIB_CUT: &[&str] = &[
     "MMTTTTTTTTTTTTTTTTTTTTTTTTTTTTTTTTTTTTTTTTTTTTTTTTTTTTTTTTTTTTTTNNTTTTTTTTTTTTTTTTTTTTTTTTTTTTTTTTTT",
     "TTTTTTTTTTTTTTTTTTTTTTTTTTTTTTTTTTTTTTTTTTTTTTTTTTTTTTTTTTTTTTTTTTTTTTTTTTTTTTTTTTTTTTTTTTTTTTTTTTTT",
     "TTTTTTTTTTTTTTTTTTTTTTTTTTTTTTTTTTTTTTTTTTTTTTTT",
 ];
 
 /// For each byte, made 00, 01, 7F, 80 and FF.
-pub const TLIB_CHANGED: [&str; 26] = [
+pub static TLIB_CHANGED: &[&str] = &[
     "MMMMM MMMMM ..... ..... ..... ..... ..... ..... ..... ..... ..... ..... ..... ..... ..... ..... .....",
     "..... ..... ..... ..... ..... ..... ..... ..... ..... ..... ..... ..... ..... ..... ..... ..... .....",
     "..... ..... ..... ..... ..... ..... ..... ..... ..... ..... ..... ..... ..... ..... ..... ..... .....",
@@ -52,7 +52,7 @@ pub const TLIB_CHANGED: [&str; 26] = [
 ];
 
 /// TAPP: the file, 202 bytes.
-pub const TAPP: [&str; 5] = [
+pub static TAPP: &[&str] = &[
     "4d5a000000000000000000000000000000000000000000000000000000000000000000000000000000000000000000000000",
     "00000000000000000000400000004e45050a5d00010000000000000000000000000000000000000000000100010060004000",
     "48004800500052000000000000000400000002000000000000000a030a00100050111000045441505000000001000004544c",
@@ -60,17 +60,17 @@ pub const TAPP: [&str; 5] = [
     "0900",
 ];
 
-pub const TAPP_WHOLE: &str = "6564";
+pub const TAPP_WHOLE: u64 = 0x6564;
 
 /// For each proper prefix.
-pub const TAPP_CUT: [&str; 3] = [
+pub static TAPP_CUT: &[&str] = &[
     "MMTTTTTTTTTTTTTTTTTTTTTTTTTTTTTTTTTTTTTTTTTTTTTTTTTTTTTTTTTTTTTTNNTTTTTTTTTTTTTTTTTTTTTTTTTTTTTTTTTT",
     "TTTTTTTTTTTTTTTTTTTTTTTTTTTTTTTTTTTTTTTTTTTTTTTTTTTTTTTTTTTTTTTTTTTTTTTTTTTTTTTTTTTTTTTTTTTTTTTTTTTT",
     "TT",
 ];
 
 /// For each byte, made 00, 01, 7F, 80 and FF.
-pub const TAPP_CHANGED: [&str; 27] = [
+pub static TAPP_CHANGED: &[&str] = &[
     "MMMMM MMMMM .be015ddbb678aeef .b28eaf74fc9e46bd .1d93c2997ac8d7fd .9cdeec7f2408ab23 .f389edd97c0d0491",
     ".7a7ddd61f27a6a86 .1bc4dcd993390abd .630437b5355507a6 .0a7f4b26f032d5f4 .07a4e06382a3fda2",
     ".0fceed7597df1fff .185327bbda9b9cf2 .5aa610d70619b17d .e0e3acf82886701a .79e390fba57ad111",
@@ -101,23 +101,23 @@ pub const TAPP_CHANGED: [&str; 27] = [
 ];
 
 /// TRES: the file, 192 bytes.
-pub const TRES: [&str; 4] = [
+pub static TRES: &[&str] = &[
     "4d5a000000000000000000000000000000000000000000000000000000000000000000000000000000000000000000000000",
     "00000000000000000000400000004e45050a6000010000000000008000000000000000000000000000000000000000004000",
     "40005800600060000000000000000400000002000000000000000a0304000a800100000000000b0001003010018000000000",
     "000004545245530000000000000000000000000000000000000048656c6c6f2c207265736f7572636521",
 ];
 
-pub const TRES_WHOLE: &str = "b2fa";
+pub const TRES_WHOLE: u64 = 0xb2fa;
 
 /// For each proper prefix.
-pub const TRES_CUT: [&str; 2] = [
+pub static TRES_CUT: &[&str] = &[
     "MMTTTTTTTTTTTTTTTTTTTTTTTTTTTTTTTTTTTTTTTTTTTTTTTTTTTTTTTTTTTTTTNNTTTTTTTTTTTTTTTTTTTTTTTTTTTTTTTTTT",
     "TTTTTTTTTTTTTTTTTTTTTTTTTTTTTTTTTTTTTTTTTTTTTTTTTTTTTTTTTTTTTTTTTTTTTTTTTTTTT...............",
 ];
 
 /// For each byte, made 00, 01, 7F, 80 and FF.
-pub const TRES_CHANGED: [&str; 20] = [
+pub static TRES_CHANGED: &[&str] = &[
     "MMMMM MMMMM ..... ..... ..... ..... ..... ..... ..... ..... ..... ..... ..... ..... ..... ..... .....",
     "..... ..... ..... ..... ..... ..... ..... ..... ..... ..... ..... ..... ..... ..... ..... ..... .....",
     "..... ..... ..... ..... ..... ..... ..... ..... ..... ..... ..... ..... ..... ..... ..... ..... .....",

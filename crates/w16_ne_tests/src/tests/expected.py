@@ -227,20 +227,20 @@ def main():
             words.append("".join(word))
         print(f"\n/// {name}: the file, {len(data)} bytes.")
         hexa = data.hex()
-        print(f"pub const {name}: [&str; {-(-len(hexa) // 100)}] = [")
+        print(f"pub static {name}: &[&str] = &[")
         for i in range(0, len(hexa), 100):
             print(f'    "{hexa[i:i + 100]}",')
         print("];")
-        print(f"\npub const {name}_WHOLE: &str = \"{whole}\";")
+        print(f"\npub const {name}_WHOLE: u64 = 0x{whole};")
         print(f"\n/// For each proper prefix.")
         parts = [cuts[i:i + 100] for i in range(0, len(cuts), 100)]
-        print(f"pub const {name}_CUT: [&str; {len(parts)}] = [")
+        print(f"pub static {name}_CUT: &[&str] = &[")
         for part in parts:
             print(f'    "{part}",')
         print("];")
         print(f"\n/// For each byte, made 00, 01, 7F, 80 and FF.")
         lines = rows(words)
-        print(f"pub const {name}_CHANGED: [&str; {len(lines)}] = [")
+        print(f"pub static {name}_CHANGED: &[&str] = &[")
         for line in lines:
             print(f'    "{line}",')
         print("];")
