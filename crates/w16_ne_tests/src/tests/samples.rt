@@ -1,6 +1,6 @@
 //! The sample files, whole.
 use super::answers::{TAPP, TLIB, TRES};
-use super::{bytes_of, read};
+use super::read;
 use std::alloc::Global;
 use std::process::Abort;
 use std::test::Fail;
@@ -109,12 +109,6 @@ static ENTRIES: &[(u16, Option<Entry>)] = &[
 /// Names, with the library's ordinals.
 static ORDINALS: &[(&[u8], u16)] = &[(b"GETA", 1), (b"getB", 2), (b"TLIB", 0)];
 
-/// The module of a sample file.
-fn module_of(alloc: Global, file: &[&str]) -> Result<Module, Fail> {
-    let bytes = bytes_of(alloc, file)?;
-    Ok(read(alloc, bytes.as_slice())?)
-}
-
 /// Whether a module has these segments and no more.
 fn has_segments(module: &Module, wanted: &[Segment]) -> bool {
     for i in 0..module.segment_count() {
@@ -193,24 +187,23 @@ fn has_header(module: &Module, wanted: &Sample) -> bool {
         && module.imported_names() == wanted.imported_names
 }
 
-fn check(rt: &impl Abort, module: &Module, wanted: &Sample) {
-    assert!(rt; has_header(module, wanted));
-    assert!(rt; has_segments(module, wanted.segments));
-    assert!(rt; has_references(module, wanted.references));
-    assert!(rt; has_resources(module, wanted.resources));
-}
-
-#[test]
-fn a_library(rt: HostRuntime) -> Result<(), Fail> {
-    let module = module_of(rt.alloc(), TLIB)?;
-    check(&rt, &module, &LIBRARY);
-    assert!(rt; module.description() == b"T".as_slice());
+fn check(rt: &impl Abort, alloc: Global, file: &[u8], wanted: &Sample) -> Result<(), Fail> {
+    let module = read(alloc, file)?;
+    assert!(rt; has_header(&module, wanted));
+    assert!(rt; has_segments(&module, wanted.segments));
+    assert!(rt; has_references(&module, wanted.references));
+    assert!(rt; has_resources(&module, wanted.resources));
     Ok(())
 }
 
 #[test]
+fn a_library(rt: HostRuntime) -> Result<(), Fail> {
+    check(&rt, rt.alloc(), TLIB, &LIBRARY)
+}
+
+#[test]
 fn entries_of_a_library(rt: HostRuntime) -> Result<(), Fail> {
-    let module = module_of(rt.alloc(), TLIB)?;
+    let module = read(rt.alloc(), TLIB)?;
     assert!(rt; has_entries(&module, ENTRIES));
     assert!(rt; has_ordinals(&module, ORDINALS));
     Ok(())
@@ -218,14 +211,10 @@ fn entries_of_a_library(rt: HostRuntime) -> Result<(), Fail> {
 
 #[test]
 fn an_application(rt: HostRuntime) -> Result<(), Fail> {
-    let module = module_of(rt.alloc(), TAPP)?;
-    check(&rt, &module, &APPLICATION);
-    Ok(())
+    check(&rt, rt.alloc(), TAPP, &APPLICATION)
 }
 
 #[test]
 fn a_file_of_resources(rt: HostRuntime) -> Result<(), Fail> {
-    let module = module_of(rt.alloc(), TRES)?;
-    check(&rt, &module, &RESOURCES);
-    Ok(())
+    check(&rt, rt.alloc(), TRES, &RESOURCES)
 }
