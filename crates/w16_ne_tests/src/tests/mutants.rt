@@ -4,7 +4,7 @@ use bitflags::Flags;
 use std::alloc::Global;
 use std::process::Abort;
 use std::str::Chars;
-use w16_ne::{Entry, Module, NeFault, ResourceName};
+use w16_ne::{Entry, Module, NeFault, Resource, ResourceName};
 
 static PROBES: &[&str] = &["GETA", "getb", "TLIB", "TAPP", "TRES", "T", ""];
 
@@ -17,7 +17,13 @@ impl Sum {
         self.0 = self.0.wrapping_mul(31).wrapping_add(number) % 65521;
     }
 
-    fn add_all(&mut self, bytes: &[u8]) {
+    fn add_all(&mut self, numbers: &[u64]) {
+        for number in numbers {
+            self.add(*number);
+        }
+    }
+
+    fn add_bytes(&mut self, bytes: &[u8]) {
         for byte in bytes {
             self.add(u64::from(*byte));
         }
@@ -25,15 +31,12 @@ impl Sum {
 
     fn add_text(&mut self, text: &[u8]) {
         self.add(text.len() as u64);
-        self.add_all(text);
+        self.add_bytes(text);
     }
 
     fn add_label(&mut self, label: &ResourceName) {
         match label {
-            ResourceName::Number(number) => {
-                self.add(0);
-                self.add(u64::from(*number));
-            }
+            ResourceName::Number(number) => self.add_all(&[0, u64::from(*number)]),
             ResourceName::Text(text) => {
                 self.add(1);
                 self.add_text(text.as_slice());
@@ -41,14 +44,36 @@ impl Sum {
         }
     }
 
+    fn add_texts(&mut self, module: &Module) {
+        self.add_bytes(module.header());
+        self.add_text(module.name());
+        self.add_text(module.description());
+        for i in 0..module.reference_count() {
+            self.add_text(module.reference(i + 1));
+        }
+        self.add(module.imported_names());
+    }
+
     fn add_segments(&mut self, module: &Module) {
         for i in 0..module.segment_count() {
             let segment = module.segment(i + 1);
-            self.add(u64::from(segment.place));
-            self.add(u64::from(segment.len));
-            self.add(u64::from(segment.flags.bits()));
-            self.add(u64::from(segment.size));
-            self.add(u64::from(segment.records));
+            self.add_all(&[
+                u64::from(segment.place),
+                u64::from(segment.len),
+                u64::from(segment.flags.bits()),
+                u64::from(segment.size),
+                u64::from(segment.records),
+            ]);
+        }
+    }
+
+    fn add_entry(&mut self, entry: Option<Entry>) {
+        match entry {
+            None => self.add(0),
+            Some(Entry::InSegment { segment, offset }) => {
+                self.add_all(&[1, u64::from(segment), u64::from(offset)]);
+            }
+            Some(Entry::Constant(value)) => self.add_all(&[2, u64::from(value)]),
         }
     }
 
@@ -57,30 +82,37 @@ impl Sum {
             if usize::from(ordinal) > module.entry_count() {
                 break;
             }
-            match module.entry(ordinal) {
-                None => self.add(0),
-                Some(Entry::InSegment { segment, offset }) => {
-                    self.add(1);
-                    self.add(u64::from(segment));
-                    self.add(u64::from(offset));
-                }
-                Some(Entry::Constant(value)) => {
-                    self.add(2);
-                    self.add(u64::from(value));
-                }
-            }
+            self.add_entry(module.entry(ordinal));
         }
+    }
+
+    fn add_resource(&mut self, kind: &ResourceName, resource: &Resource) {
+        self.add_label(kind);
+        self.add_label(&resource.id);
+        self.add_all(&[
+            u64::from(resource.place),
+            u64::from(resource.len),
+            u64::from(resource.flags.bits()),
+        ]);
     }
 
     fn add_resources(&mut self, module: &Module) {
         for i in 0..module.resource_count() {
             if let Some((kind, resource)) = module.resource(i + 1) {
-                self.add_label(kind);
-                self.add_label(&resource.id);
-                self.add(u64::from(resource.place));
-                self.add(u64::from(resource.len));
-                self.add(u64::from(resource.flags.bits()));
+                self.add_resource(kind, resource);
             }
+        }
+    }
+
+    fn add_counts(&mut self, module: &Module) {
+        self.add_all(&[
+            module.segment_count() as u64,
+            module.reference_count() as u64,
+            module.entry_count() as u64,
+            module.resource_count() as u64,
+        ]);
+        for probe in PROBES {
+            self.add(u64::from(module.ordinal_of(probe.as_bytes())));
         }
     }
 }
@@ -88,23 +120,11 @@ impl Sum {
 /// A sum over all that a module's readers give.
 fn sum_of(module: &Module) -> u64 {
     let mut sum = Sum(0);
-    sum.add_all(module.header());
-    sum.add_text(module.name());
-    sum.add_text(module.description());
-    for i in 0..module.reference_count() {
-        sum.add_text(module.reference(i + 1));
-    }
-    sum.add(module.imported_names());
+    sum.add_texts(module);
     sum.add_segments(module);
     sum.add_entries(module);
     sum.add_resources(module);
-    sum.add(module.segment_count() as u64);
-    sum.add(module.reference_count() as u64);
-    sum.add(module.entry_count() as u64);
-    sum.add(module.resource_count() as u64);
-    for probe in PROBES {
-        sum.add(u64::from(module.ordinal_of(probe.as_bytes())));
-    }
+    sum.add_counts(module);
     sum.0
 }
 
@@ -146,16 +166,13 @@ fn is_next(wanted: &mut Chars<'_>, whole: u64, answer: Result<u64, NeFault>) -> 
     }
 }
 
-/// The first length at which the answer isn't the wanted one.
-fn wrong_cut(alloc: Global, bytes: &[u8], whole: u64, table: &str) -> Option<usize> {
+fn check_cuts(rt: &impl Abort, alloc: Global, bytes: &[u8], whole: u64, table: &str) {
     let mut wanted = table.chars();
     for len in 0..bytes.len() {
         let answer = answer_of(read(alloc, &bytes[..len]));
-        if !is_next(&mut wanted, whole, answer) {
-            return Some(len);
-        }
+        assert!(rt; is_next(&mut wanted, whole, answer), "cut at {len}");
     }
-    wanted.next().map(|_| bytes.len())
+    assert!(rt; wanted.next().is_none());
 }
 
 /// Whether the answers are the wanted ones where a byte is changed.
@@ -170,22 +187,22 @@ fn has_changes(alloc: Global, bytes: &[u8], whole: u64, at: usize, wanted: &str)
     wanted.next().is_none()
 }
 
-/// The first byte at whose change an answer isn't the wanted one.
-fn wrong_change(alloc: Global, bytes: &[u8], whole: u64, table: &str) -> Option<usize> {
+fn check_changes(rt: &impl Abort, alloc: Global, bytes: &[u8], whole: u64, table: &str) {
     let mut words = table.split_ascii_whitespace();
     for at in 0..bytes.len() {
         let wanted = words.next().unwrap_or("");
-        if !has_changes(alloc, bytes, whole, at, wanted) {
-            return Some(at);
-        }
+        assert!(rt;
+            has_changes(alloc, bytes, whole, at, wanted),
+            "byte {at}: {wanted}"
+        );
     }
-    words.next().map(|_| bytes.len())
+    assert!(rt; words.next().is_none());
 }
 
 fn check(rt: &impl Abort, alloc: Global, bytes: &[u8], whole: u64, cuts: &str, changes: &str) {
-    assert_eq!(rt; answer_of(read(alloc, bytes)), Ok(whole));
-    assert_eq!(rt; wrong_cut(alloc, bytes, whole, cuts), None);
-    assert_eq!(rt; wrong_change(alloc, bytes, whole, changes), None);
+    assert!(rt; answer_of(read(alloc, bytes)) == Ok(whole));
+    check_cuts(rt, alloc, bytes, whole, cuts);
+    check_changes(rt, alloc, bytes, whole, changes);
 }
 
 #[test]
