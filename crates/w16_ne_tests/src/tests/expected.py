@@ -199,14 +199,16 @@ def answer(data):
         return str(fault)
 
 
-def rows(words):
+def print_static(name, quote, words, between):
+    """Prints a text of words, in lines of some 100 letters."""
     lines, line = [], ""
     for word in words:
-        if len(line) + len(word) > 100:
-            lines.append(line)
+        if len(line) + len(between) + len(word) > 100:
+            lines.append(line + between)
             line = ""
-        line += (" " if line else "") + word
-    return lines + [line]
+        line += (between if line else "") + word
+    print(f"pub static {name} = {quote}\\")
+    print("\\\n".join("    " + line for line in lines + [line]) + '";')
 
 
 def main():
@@ -226,24 +228,12 @@ def main():
                 word.append("." if said == whole else said)
             words.append("".join(word))
         print(f"\n/// {name}: the file, {len(data)} bytes.")
-        hexa = data.hex()
-        print(f"pub const {name}: [&str; {-(-len(hexa) // 100)}] = [")
-        for i in range(0, len(hexa), 100):
-            print(f'    "{hexa[i:i + 100]}",')
-        print("];")
-        print(f"\npub const {name}_WHOLE: &str = \"{whole}\";")
-        print(f"\n/// For each proper prefix.")
-        parts = [cuts[i:i + 100] for i in range(0, len(cuts), 100)]
-        print(f"pub const {name}_CUT: [&str; {len(parts)}] = [")
-        for part in parts:
-            print(f'    "{part}",')
-        print("];")
-        print(f"\n/// For each byte, made 00, 01, 7F, 80 and FF.")
-        lines = rows(words)
-        print(f"pub const {name}_CHANGED: [&str; {len(lines)}] = [")
-        for line in lines:
-            print(f'    "{line}",')
-        print("];")
+        print_static(f"{name}: &[u8]", 'b"', [f"\\x{byte:02x}" for byte in data], "")
+        print(f"\npub const {name}_WHOLE: u64 = 0x{whole};")
+        print("\n/// For each proper prefix.")
+        print_static(f"{name}_CUT: &str", '"', cuts, "")
+        print("\n/// For each byte, made 00, 01, 7F, 80 and FF.")
+        print_static(f"{name}_CHANGED: &str", '"', words, " ")
 
 
 main()

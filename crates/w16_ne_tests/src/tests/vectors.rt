@@ -1,52 +1,59 @@
 //! Single changes whose fault is known, and stores that have no file or fail.
 use super::answers::{TLIB, TRES};
-use super::{bytes_of, read, read_changed};
+use super::{read, read_changed};
+use std::alloc::{AllocError, Global};
 use std::process::Abort;
 use std::test::Fail;
 use w16_ne::{NeFault, read_module};
 use w16_store::{FuseStore, MemStore, StoreFault};
 
+/// The fault of a file with these bytes, if it has one.
+fn fault_of(alloc: Global, bytes: &[u8]) -> Option<NeFault> {
+    read(alloc, bytes).err()
+}
+
+/// The same with one byte changed.
+fn fault_of_changed(alloc: Global, bytes: &[u8], at: usize, byte: u8) -> Option<NeFault> {
+    read_changed(alloc, bytes, at, byte).err()
+}
+
+/// A place, the byte that it gets, and the fault of the file then.
+static FAULTS: &[(usize, u8, NeFault)] = &[
+    (0x76, 0x01, NeFault::Target(1)),
+    (0x4d, 0x88, NeFault::Unsupported),
+    (0x84, 0x58, NeFault::Unsupported),
+    (0x72, 0x10, NeFault::BadTable),
+    (0x90, 0x00, NeFault::BadTable),
+    (0xa8, 0x03, NeFault::BadTable),
+];
+
 #[test]
-fn prefixes_of_a_library(rt: HostRuntime) -> Result<(), Fail> {
-    let bytes = bytes_of(rt.alloc(), &TLIB)?;
-    for len in 0..bytes.len() {
+fn prefixes_of_a_library(rt: HostRuntime) {
+    for len in 0..TLIB.len() {
         let want = match len {
             0 | 1 => NeFault::NotMz,
             64 | 65 => NeFault::NotNe,
             _ => NeFault::Truncated,
         };
-        let said = read(rt.alloc(), &bytes[..len]).err();
+        let said = fault_of(rt.alloc(), &TLIB[..len]);
         assert!(rt; said == Some(want), "the first {len} bytes");
     }
-    Ok(())
 }
 
 #[test]
-fn changes_with_one_fault(rt: HostRuntime) -> Result<(), Fail> {
-    let mut bytes = bytes_of(rt.alloc(), &TLIB)?;
-    let rows = [
-        (0x76, 0x01, NeFault::Target(1)),
-        (0x4d, 0x88, NeFault::Unsupported),
-        (0x84, 0x58, NeFault::Unsupported),
-        (0x72, 0x10, NeFault::BadTable),
-        (0x90, 0x00, NeFault::BadTable),
-        (0xa8, 0x03, NeFault::BadTable),
-    ];
-    for (at, byte, want) in rows {
-        let said = read_changed(rt.alloc(), &mut bytes, at, byte).err();
-        assert!(rt; said == Some(want), "byte {at}");
+fn changes_with_one_fault(rt: HostRuntime) {
+    for (at, byte, want) in FAULTS {
+        let said = fault_of_changed(rt.alloc(), TLIB, *at, *byte);
+        assert!(rt; said == Some(*want), "byte {at}");
     }
-    Ok(())
 }
 
 #[test]
-fn resources_may_end_within_a_unit(rt: HostRuntime) -> Result<(), Fail> {
-    let mut bytes = bytes_of(rt.alloc(), &TRES)?;
-    let said = read_changed(rt.alloc(), &mut bytes, 0x8c, 0x02).err();
+fn resources_may_end_within_a_unit(rt: HostRuntime) {
+    let said = fault_of_changed(rt.alloc(), TRES, 0x8c, 0x02);
     assert!(rt; said == Some(NeFault::Truncated));
-    let less = bytes.len().saturating_sub(1);
-    assert!(rt; read(rt.alloc(), bytes.get(..less).ok_or("short")?).is_ok());
-    Ok(())
+    let less = &TRES[..TRES.len().saturating_sub(1)];
+    assert!(rt; fault_of(rt.alloc(), less).is_none());
 }
 
 #[test]
@@ -57,25 +64,24 @@ fn no_file(rt: HostRuntime) -> Result<(), Fail> {
     Ok(())
 }
 
+/// How often the library is read where the read of this number fails, and the fault.
+fn read_with_fuse(alloc: Global, fuse: u32) -> Result<(u64, Option<NeFault>), AllocError> {
+    let mut store = MemStore::new(alloc);
+    store.add(b"FILE", TLIB)?;
+    let mut store = FuseStore::new(store, fuse);
+    let said = read_module(alloc, &mut store, b"FILE").err();
+    Ok((store.reads(), said))
+}
+
 #[test]
 fn each_read_fails_in_turn(rt: HostRuntime) -> Result<(), Fail> {
-    let bytes = bytes_of(rt.alloc(), &TLIB)?;
-    let mut fuse = 1u32;
-    for _ in 0..100 {
-        let mut store = MemStore::new(rt.alloc());
-        store.add(b"FILE", bytes.as_slice())?;
-        let mut store = FuseStore::new(store, fuse);
-        let said = read_module(rt.alloc(), &mut store, b"FILE");
-        if store.reads() < u64::from(fuse) {
-            assert!(rt; said.is_ok());
+    for fuse in 1..101u32 {
+        let (reads, said) = read_with_fuse(rt.alloc(), fuse)?;
+        if reads < u64::from(fuse) && said.is_none() {
             return Ok(());
         }
-        assert!(rt;
-            said.err() == Some(NeFault::Store(StoreFault::Device)),
-            "read {fuse}"
-        );
-        assert_eq!(rt; store.reads(), u64::from(fuse));
-        fuse = fuse.wrapping_add(1);
+        let wanted = (u64::from(fuse), Some(NeFault::Store(StoreFault::Device)));
+        assert!(rt; (reads, said) == wanted, "read {fuse}");
     }
     Err(Fail::from("too many reads"))
 }
