@@ -8,12 +8,12 @@ use crate::rows::{
 };
 use arrayvec::ArrayVec;
 use std::alloc::{AllocError, Global};
-use std::io::Read;
+use std::io::{Read, Write};
 use std::process::Abort;
 use std::test::Fail;
-use w16_kernel::{Answer, Call, Kernel};
+use w16_kernel::{Answer, Call, Kernel, Reply};
 use w16_model::{GRAIN, MOST_SLOTS};
-use w16_script::{Ended, RunFault, run};
+use w16_script::{RunFault, run};
 
 /// The bytes of a row's script.
 fn script_of(alloc: Global, row: &Row) -> Result<Vec<u8>, AllocError> {
@@ -25,6 +25,19 @@ fn script_of(alloc: Global, row: &Row) -> Result<Vec<u8>, AllocError> {
     Ok(script)
 }
 
+/// Runs a script on a new machine, and answers how it ended as a row has it.
+fn run_new<R: Read, W: Write>(
+    alloc: Global,
+    memory: u32,
+    selectors: u32,
+    reader: &mut R,
+    writer: &mut W,
+) -> Result<Result<(u32, u32), RunFault>, AllocError> {
+    let mut kernel = Kernel::new(alloc, memory - memory % GRAIN, selectors.min(MOST_SLOTS))?;
+    let ended = run(alloc, reader, writer, &mut kernel);
+    Ok(ended.map(|counts| (counts.lines, counts.replies)))
+}
+
 /// Runs a row, and answers how it ended.
 fn play(
     alloc: Global,
@@ -32,11 +45,13 @@ fn play(
     output: &mut Vec<u8>,
 ) -> Result<Result<(u32, u32), RunFault>, AllocError> {
     let script = script_of(alloc, row)?;
-    let memory = row.memory - row.memory % GRAIN;
-    let mut kernel = Kernel::new(alloc, memory, row.selectors.min(MOST_SLOTS))?;
-    let mut reader = script.as_slice();
-    let ended = run(alloc, &mut reader, output, &mut kernel);
-    Ok(ended.map(|counts| (counts.lines, counts.replies)))
+    run_new(
+        alloc,
+        row.memory,
+        row.selectors,
+        &mut script.as_slice(),
+        output,
+    )
 }
 
 /// Plays a row, and compares.
@@ -141,13 +156,24 @@ fn joined(alloc: Global, parts: &[(&[u8], u32)]) -> Result<Vec<u8>, AllocError> 
     Ok(text)
 }
 
+/// Whether a run on a small machine ends by this fault, or with its script where there is none, and this was printed.
+fn ends<R: Read>(
+    alloc: Global,
+    reader: &mut R,
+    fault: Option<RunFault>,
+    printed: &[u8],
+) -> Result<bool, AllocError> {
+    let mut output = Vec::new(alloc);
+    let ended = run_new(alloc, 4096, 16, reader, &mut output)?;
+    Ok(ended.err() == fault && output.as_slice() == printed)
+}
+
 #[test]
 fn locks_up_to_the_full_count(rt: HostRuntime) -> Result<(), Fail> {
     let script = joined(rt.alloc(), LOCKS)?;
     let wanted = joined(rt.alloc(), LOCKS_OUTPUT)?;
-    let (ended, output) = ended_of(rt.alloc(), script.as_slice())?;
-    assert!(rt; ended.is_ok());
-    assert_eq!(rt; output.as_slice(), wanted.as_slice());
+    let prints = ends(rt.alloc(), &mut script.as_slice(), None, &wanted)?;
+    assert!(rt; prints);
     Ok(())
 }
 
@@ -179,70 +205,77 @@ fn life() -> [Call<'static>; 6]
     ]
 }
 
-#[test]
-fn a_life_by_calls(rt: HostRuntime) -> Result<(), Fail> {
-    let mut kernel = Kernel::new(rt.alloc(), 4096, 16)?;
-    let calls = life();
-    let answers = kernel.run_calls(calls.as_slice())?;
-    let [
-        Answer::Word(handle),
-        Answer::Dword(pointer),
-        Answer::Done,
-        Answer::Bytes(bytes),
-        Answer::Word(locks),
-        Answer::Word(freed),
-    ] = answers.as_slice()
-    else {
-        return rt.abort();
-    };
-    assert!(rt; *handle == 0x106 && *pointer == 0x0107_0000 && *locks == 0 && *freed == 0);
-    assert_eq!(rt; bytes.as_slice(), b"NE\0\0".as_slice());
-    Ok(())
+/// And the replies that each must have.
+static LIFE_REPLIES: &[Reply<'static>] = &[
+    Reply::Word(0x106),
+    Reply::Dword(0x0107_0000),
+    Reply::Done,
+    Reply::Bytes(b"NE\0\0"),
+    Reply::Word(0),
+    Reply::Word(0),
+];
+
+/// Whether an answer keeps a reply that is a number, nothing or bytes.
+fn keeps(answer: &Answer, reply: &Reply<'_>) -> bool {
+    match (answer, reply) {
+        (Answer::Word(word), Reply::Word(wanted)) => word == wanted,
+        (Answer::Dword(dword), Reply::Dword(wanted)) => dword == wanted,
+        (Answer::Bytes(bytes), Reply::Bytes(wanted)) => bytes.as_slice() == *wanted,
+        (Answer::Done, Reply::Done) => true,
+        _ => false,
+    }
 }
 
-/// How a run over a reader ended, and what was printed.
-fn ended_of<R: Read + Drop>(
-    alloc: Global,
-    mut reader: R,
-) -> Result<(Result<Ended, RunFault>, Vec<u8>), AllocError> {
+/// Whether answers keep just these replies.
+fn keep_all(answers: &[Answer], replies: &[Reply<'_>]) -> bool {
+    answers.len() == replies.len()
+        && answers
+            .iter()
+            .zip(replies)
+            .all(|(answer, reply)| keeps(answer, reply))
+}
+
+/// The answers to the calls of a life on a new machine.
+fn life_answers(alloc: Global) -> Result<Vec<Answer>, AllocError> {
     let mut kernel = Kernel::new(alloc, 4096, 16)?;
-    let mut output = Vec::new(alloc);
-    let ended = run(alloc, &mut reader, &mut output, &mut kernel);
-    Ok((ended, output))
+    kernel.run_calls(&life())
+}
+
+#[test]
+fn a_life_by_calls(rt: HostRuntime) -> Result<(), Fail> {
+    let answers = life_answers(rt.alloc())?;
+    assert!(rt; keep_all(&answers, LIFE_REPLIES), "{answers:?}");
+    Ok(())
 }
 
 #[test]
 fn a_reader_fails_in_a_line(rt: HostRuntime) -> Result<(), Fail> {
-    let reader = Broken {
+    let mut reader = Broken {
         bytes: b"GlobalAlloc 0x42 100\nGlobalLock 0x106\nWrite 0x01070000 4e45\nRead 0x0107",
     };
-    let (ended, output) = ended_of(rt.alloc(), reader)?;
-    assert!(rt; ended == Err(RunFault::Read));
-    assert_eq!(rt; output.as_slice(), b"0106\n01070000\nok\n".as_slice());
+    let printed = b"0106\n01070000\nok\n";
+    let fails = ends(rt.alloc(), &mut reader, Some(RunFault::Read), printed)?;
+    assert!(rt; fails);
     Ok(())
 }
 
 #[test]
 fn a_reader_fails_after_the_deciding_byte(rt: HostRuntime) -> Result<(), Fail> {
     let letters = vec![in rt.alloc(); b'a'; 4097]?;
-    let reader = Broken {
-        bytes: letters.as_slice(),
-    };
-    let (ended, output) = ended_of(rt.alloc(), reader)?;
-    assert!(rt; ended == Err(RunFault::TooLong));
-    assert!(rt; output.is_empty());
+    let mut reader = Broken { bytes: &letters };
+    let long = ends(rt.alloc(), &mut reader, Some(RunFault::TooLong), b"")?;
+    assert!(rt; long);
     Ok(())
 }
 
 /// Whether a run over a writer of so many bytes ends by it, and just these were written.
 fn stops_at(alloc: Global, left: usize) -> Result<bool, AllocError> {
-    let mut kernel = Kernel::new(alloc, 4096, 16)?;
     let mut reader = LIFE;
     let mut writer = Short {
         taken: ArrayVec::new(),
         left,
     };
-    let ended = run(alloc, &mut reader, &mut writer, &mut kernel);
+    let ended = run_new(alloc, 4096, 16, &mut reader, &mut writer)?;
     let taken = writer.taken.as_slice();
     Ok(ended == Err(RunFault::Write) && taken.len() == left && LIFE_OUTPUT.starts_with(taken))
 }
@@ -256,16 +289,15 @@ fn a_writer_fails_at_each_byte(rt: HostRuntime) -> Result<(), Fail> {
     Ok(())
 }
 
-/// Whether a run over one byte for ever ends as too long, and nothing was printed.
-fn is_too_long(alloc: Global, byte: u8) -> Result<bool, AllocError> {
-    let (ended, output) = ended_of(alloc, Endless { byte })?;
-    Ok(ended == Err(RunFault::TooLong) && output.is_empty())
-}
-
 #[test]
 fn endless_readers_are_too_long(rt: HostRuntime) -> Result<(), Fail> {
     for byte in [b'\n', b'a'] {
-        let long = is_too_long(rt.alloc(), byte)?;
+        let long = ends(
+            rt.alloc(),
+            &mut Endless { byte },
+            Some(RunFault::TooLong),
+            b"",
+        )?;
         assert!(rt; long, "of {byte}");
     }
     Ok(())
