@@ -1,4 +1,4 @@
-use Rattle.std.proofs.Common.{refl}
+use Rattle.std.proofs.Common.{refl, rules}
 use Rattle.w16_local.proofs.Beginning.{on_any}
 use Rattle.w16_kernel.proofs.step.step.Goals as goal
 
@@ -37,3 +37,12 @@ returns-in-LocalCompact-clause-step c = λ rest. rw c.in-LocalCompact.is (c.loca
 
 pub returns-in_err-local_init-in-LocalInit-clause-wanted : goal.returns-in_err-local_init-in-LocalInit-clause-wanted
 returns-in_err-local_init-in-LocalInit-clause-wanted c = on_any c.from_residual.result _ (λ rest. rw c.in-LocalInit.is (c.in_err-local_init-in-LocalInit.ensures.wanted rest))
+
+pub returns-in-GlobalDiscard-clause-step : goal.returns-in-GlobalDiscard-clause-step
+returns-in-GlobalDiscard-clause-step c = search rules
+
+pub returns-in-DS-clause-step : goal.returns-in-DS-clause-step
+returns-in-DS-clause-step c = search rules
+
+pub returns-in-DS-clause-wanted : goal.returns-in-DS-clause-wanted
+returns-in-DS-clause-wanted c = search rules

@@ -1,0 +1,7 @@
+use Rattle.std.proofs.Common.{rules}
+use Rattle.w16_model.specs.Bytes.{repeated}
+use Rattle.w16_region.proofs.region.Region.new.Goals as goal
+
+pub returns-clause-bytes : goal.returns-clause-bytes
+unfolding repeated
+returns-clause-bytes c = search rules

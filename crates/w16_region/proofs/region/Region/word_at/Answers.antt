@@ -1,0 +1,7 @@
+use Rattle.std.proofs.Common.{rules}
+use Rattle.w16_region.specs.Bytes.{word_in}
+use Rattle.w16_region.proofs.region.Region.word_at.Goals as goal
+
+pub returns : goal.returns
+unfolding word_in
+returns c = search rules
