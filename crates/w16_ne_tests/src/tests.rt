@@ -1,8 +1,7 @@
 //! Sample files, whole, cut and changed.
-use std::alloc::{AllocError, Global};
-use std::process::Abort;
-use w16_ne::{Entry, Module, NeFault, ResourceName, read_module};
-use w16_store::{FuseStore, MemStore, Store, StoreFault};
+use std::alloc::Global;
+use w16_ne::{Module, NeFault, read_module};
+use w16_store::MemStore;
 
 mod answers;
 mod mutants;

@@ -202,7 +202,10 @@ fn check(rt: &impl Abort, alloc: Global, file: &[u8], wanted: &Sample) -> Result
 
 #[test]
 fn a_library(rt: HostRuntime) -> Result<(), Fail> {
-    check(&rt, rt.alloc(), TLIB, &LIBRARY)
+    let module = read(rt.alloc(), TLIB)?;
+    compare(&rt, &module, &LIBRARY);
+    assert!(rt; module.description() == b"T".as_slice());
+    Ok(())
 }
 
 #[test]

@@ -7,16 +7,6 @@ use std::test::Fail;
 use w16_ne::{NeFault, read_module};
 use w16_store::{FuseStore, MemStore, StoreFault};
 
-/// The fault of a file with these bytes, if it has one.
-fn fault_of(alloc: Global, bytes: &[u8]) -> Option<NeFault> {
-    read(alloc, bytes).err()
-}
-
-/// The same with one byte changed.
-fn fault_of_changed(alloc: Global, bytes: &[u8], at: usize, byte: u8) -> Option<NeFault> {
-    read_changed(alloc, bytes, at, byte).err()
-}
-
 /// A place, the byte that it gets, and the fault of the file then.
 static FAULTS: &[(usize, u8, NeFault)] = &[
     (0x76, 0x01, NeFault::Target(1)),
@@ -26,6 +16,16 @@ static FAULTS: &[(usize, u8, NeFault)] = &[
     (0x90, 0x00, NeFault::BadTable),
     (0xa8, 0x03, NeFault::BadTable),
 ];
+
+/// The fault of a file with these bytes, if it has one.
+fn fault_of(alloc: Global, bytes: &[u8]) -> Option<NeFault> {
+    read(alloc, bytes).err()
+}
+
+/// The same with one byte changed.
+fn fault_of_changed(alloc: Global, bytes: &[u8], at: usize, byte: u8) -> Option<NeFault> {
+    read_changed(alloc, bytes, at, byte).err()
+}
 
 #[test]
 fn prefixes_of_a_library(rt: HostRuntime) {
