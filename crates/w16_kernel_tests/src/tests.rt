@@ -8,6 +8,7 @@ use scripts::SCRIPTS;
 use std::alloc::{AllocError, Global};
 use std::process::Abort;
 use std::test::Fail;
+use w16_kernel::{SizeFault, check_sizes};
 
 /// A new machine of so many bytes with 16 selectors, and what is asked of it with the answers.
 #[derive(Clone, Copy)]
@@ -39,4 +40,25 @@ fn answers_calls(rt: HostRuntime) -> Result<(), Fail> {
         plays(&rt, rt.alloc(), *script)?;
     }
     Ok(())
+}
+
+/// Sizes of memory, numbers of selectors, and what is said of them.
+static SIZES: &[(u32, u32, Result<(), SizeFault>)] = &[
+    (32, 1, Ok(())),
+    (16_777_216, 8160, Ok(())),
+    (0, 1, Err(SizeFault::MemorySize)),
+    (31, 1, Err(SizeFault::MemorySize)),
+    (33, 1, Err(SizeFault::MemorySize)),
+    (16_777_248, 1, Err(SizeFault::MemorySize)),
+    (32, 0, Err(SizeFault::SelectorCount)),
+    (32, 8161, Err(SizeFault::SelectorCount)),
+    (0, 0, Err(SizeFault::MemorySize)),
+];
+
+#[test]
+fn sizes_are_checked(rt: HostRuntime) {
+    for (memory, selectors, wanted) in SIZES {
+        let said = check_sizes(*memory, *selectors);
+        assert!(rt; said == *wanted, "{memory} bytes, {selectors} selectors");
+    }
 }
