@@ -1,4 +1,4 @@
-use Rattle.std.proofs.Common.{[], ◌∷◌, refl}
+use Rattle.std.proofs.Common.{[], ◌∷◌, refl, rules}
 use Rattle.std.proofs.KnownBytes.{Appends-nil}
 use Rattle.w16_machine.specs.LocalMachine.{Event}
 use Rattle.w16_kernel.specs.Runs.{command_of, reply_of}
@@ -57,3 +57,6 @@ returns-in-Err-print_shown-clause-err g c =
       front,
       (c.in-Ok-call.ensures.fewest, tt),
     )
+
+pub returns-in-Err-call-clause-err : goal.returns-in-Err-call-clause-err
+returns-in-Err-call-clause-err g c = search rules
