@@ -75,7 +75,7 @@ fn has_image(alloc: Global, scratch: &Scratch, sample: &Sample) -> Result<bool, 
     Ok(bytes.as_slice() == bytes_of(alloc, &[sample.image])?.as_slice())
 }
 
-/// Whether a sample's segment is sound in its store, and has its bytes.
+/// Whether a sample's file has its segments, and the one it tells of is sound in its store and has its bytes.
 fn is_relocated<S: Store>(
     alloc: Global,
     store: &mut S,
@@ -83,6 +83,9 @@ fn is_relocated<S: Store>(
     sample: &Sample,
     scratch: &mut Scratch,
 ) -> Result<bool, Fail> {
+    if module.segment_count() != sample.segments {
+        return Ok(false);
+    }
     if check_segment(store, module, sample.segment, scratch) != Some(Ok(())) {
         return Ok(false);
     }

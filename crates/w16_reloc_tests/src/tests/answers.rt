@@ -48,6 +48,8 @@ const APPLICATION_LINES: &[&str] = &[
 /// A segment of a sample file, where its targets are, and its bytes with them.
 pub struct Sample {
     pub lines: &'static [&'static str],
+    /// How many segments the file has.
+    pub segments: usize,
     pub segment: usize,
     pub targets: &'static [Far],
     pub image: &'static str,
@@ -56,6 +58,7 @@ pub struct Sample {
 /// The library's first segment, whose targets are both in its second, at selector 010F.
 pub static LIBRARY: Sample = Sample {
     lines: LIBRARY_LINES,
+    segments: 2,
     segment: 1,
     targets: &[
         Far {
@@ -73,6 +76,7 @@ pub static LIBRARY: Sample = Sample {
 /// The library's second segment, which has no records.
 pub static LIBRARY_END: Sample = Sample {
     lines: LIBRARY_LINES,
+    segments: 2,
     segment: 2,
     targets: &[],
     image: "01020304cb909090",
@@ -81,6 +85,7 @@ pub static LIBRARY_END: Sample = Sample {
 /// The application's segment, with the library's at selectors 010F and 0117. The library has no ordinal 9.
 pub static APPLICATION: Sample = Sample {
     lines: APPLICATION_LINES,
+    segments: 1,
     segment: 1,
     targets: &[
         Far {
