@@ -1,4 +1,4 @@
-//! Three blocks in a small memory, as one call after another leaves them.
+//! Three blocks in a small memory, as they were made or as one call after another leaves them.
 ghost use Rattle.std.specs.Prelude.{◌≡◌, length, IfOk, ℕ};
 ghost use Rattle.w16_blocks_tests.specs.Sample.{three_blocks};
 
@@ -7,6 +7,25 @@ use std::marker::Model;
 use w16_blocks::{Block, Blocks, Hold, Part, Span};
 use w16_holes::SideHoles;
 use w16_region::{Region, Space};
+
+/// What became of the three blocks.
+#[derive(Clone, Copy)]
+pub(super) enum State {
+    /// They are as they were made.
+    New,
+    /// The last block, with sevens in it, stands directly behind the first.
+    Shifted,
+    /// The last two, with fives and sevens in them, stand directly behind the first.
+    Slid,
+    /// The last two, with fives and sevens in them, stand one grain further up, over their own bytes.
+    Lifted,
+    /// The first is pinned, and the second is gone.
+    Pinned,
+    /// The second is gone, and the first was pinned and is loose again.
+    Loosened,
+    /// The first has the bytes up to the second.
+    Grown,
+}
 
 pub(super) fn block(id: u32, at: u32, size: u32, hold: Hold) -> Block
     ensures { result ≡ record { id = id; at = at; size = size; hold = hold } }
@@ -27,6 +46,86 @@ pub(super) fn three<S: Space>(alloc: Global, space: &mut S) -> Result<Blocks<Sid
     Ok(blocks)
 }
 
+/// Where runs end, from the second block on, up to its end, and from the last one's end on, and up to the bound.
+fn run_ends(blocks: &Blocks<SideHoles>) -> [u32; 3]
+    requires three { blocks.now ≡ three_blocks }
+{
+    [
+        blocks.run_end(128, 160),
+        blocks.run_end(192, 256),
+        blocks.run_end(128, 256),
+    ]
+}
+
+/// Where runs begin that end with the last block, from its begin on, with nothing, and from the bound on.
+fn run_begins(blocks: &Blocks<SideHoles>) -> [u32; 3]
+    requires three { blocks.now ≡ three_blocks }
+{
+    [
+        blocks.run_begin(192, 160),
+        blocks.run_begin(128, 0),
+        blocks.run_begin(192, 0),
+    ]
+}
+
+fn shift<S: Space>(blocks: &mut Blocks<SideHoles>, space: &mut S)
+    requires three { blocks.old ≡ three_blocks }
+    requires long { length (S.bytes space.old) ≡ 256 }
+{
+    space.fill(160, 32, 7);
+    blocks.shift(space, 3, 64);
+}
+
+/// Moves the last two blocks down or up.
+fn move_run<S: Space>(blocks: &mut Blocks<SideHoles>, space: &mut S, up: bool)
+    requires three { blocks.old ≡ three_blocks }
+    requires long { length (S.bytes space.old) ≡ 256 }
+{
+    space.fill(128, 32, 5);
+    space.fill(160, 32, 7);
+    let run = Span { from: 128, to: 192 };
+    if up {
+        blocks.lift_run(space, run, 160);
+    } else {
+        blocks.slide_run(space, run, 64);
+    }
+}
+
+/// Takes the second block away, and pins the first.
+fn pin<S: Space>(blocks: &mut Blocks<SideHoles>, space: &mut S)
+    requires three { blocks.old ≡ three_blocks }
+    requires long { length (S.bytes space.old) ≡ 256 }
+{
+    blocks.set_hold(0, Hold::Pinned);
+    blocks.remove(space, 2);
+}
+
+/// The same in the other order, and the first is loose again.
+fn loosen<S: Space>(blocks: &mut Blocks<SideHoles>, space: &mut S)
+    requires three { blocks.old ≡ three_blocks }
+    requires long { length (S.bytes space.old) ≡ 256 }
+{
+    blocks.remove(space, 2);
+    blocks.set_hold(0, Hold::Pinned);
+    blocks.set_hold(0, Hold::Loose);
+}
+
+/// Brings the three blocks to a state.
+fn change<S: Space>(blocks: &mut Blocks<SideHoles>, space: &mut S, state: State)
+    requires three { blocks.old ≡ three_blocks }
+    requires long { length (S.bytes space.old) ≡ 256 }
+{
+    match state {
+        State::New => {}
+        State::Shifted => shift(blocks, space),
+        State::Slid => move_run(blocks, space, false),
+        State::Lifted => move_run(blocks, space, true),
+        State::Pinned => pin(blocks, space),
+        State::Loosened => loosen(blocks, space),
+        State::Grown => blocks.resize(space, 0, 96),
+    }
+}
+
 /// Blocks and their memory, to be asked.
 ///
 /// To a proof it has no value, and its methods have no clauses: what a call promises is used where a method makes it, and no test carries
@@ -35,6 +134,9 @@ pub(super) fn three<S: Space>(alloc: Global, space: &mut S) -> Result<Blocks<Sid
 pub(super) struct Bench {
     blocks: Blocks<SideHoles>,
     space: Region,
+    /// Where runs ended and began in the new blocks.
+    run_ends: [u32; 3],
+    run_begins: [u32; 3],
 }
 
 impl Model for Bench {
@@ -44,67 +146,19 @@ impl Model for Bench {
 }
 
 impl Bench {
-    /// The three blocks as they are.
-    pub fn new(alloc: Global) -> Result<Bench, AllocError> {
-        let mut space = Region::new(alloc, 256)?;
-        let blocks = three(alloc, &mut space)?;
-        Ok(Bench { blocks, space })
-    }
-
-    /// The last block, with sevens in it, stands directly behind the first.
-    pub fn shifted(alloc: Global) -> Result<Bench, AllocError> {
+    /// The three blocks in a state. Where their runs end and begin is asked while they are new.
+    pub fn made(alloc: Global, state: State) -> Result<Bench, AllocError> {
         let mut space = Region::new(alloc, 256)?;
         let mut blocks = three(alloc, &mut space)?;
-        space.fill(160, 32, 7);
-        blocks.shift(&mut space, 3, 64);
-        Ok(Bench { blocks, space })
-    }
-
-    /// The last two, with fives and sevens in them, stand directly behind the first.
-    pub fn slid(alloc: Global) -> Result<Bench, AllocError> {
-        let mut space = Region::new(alloc, 256)?;
-        let mut blocks = three(alloc, &mut space)?;
-        space.fill(128, 32, 5);
-        space.fill(160, 32, 7);
-        blocks.slide_run(&mut space, Span { from: 128, to: 192 }, 64);
-        Ok(Bench { blocks, space })
-    }
-
-    /// The last two, with fives and sevens in them, stand one grain further up, over their own bytes.
-    pub fn lifted(alloc: Global) -> Result<Bench, AllocError> {
-        let mut space = Region::new(alloc, 256)?;
-        let mut blocks = three(alloc, &mut space)?;
-        space.fill(128, 32, 5);
-        space.fill(160, 32, 7);
-        blocks.lift_run(&mut space, Span { from: 128, to: 192 }, 160);
-        Ok(Bench { blocks, space })
-    }
-
-    /// The first is pinned, and the second is gone.
-    pub fn pinned(alloc: Global) -> Result<Bench, AllocError> {
-        let mut space = Region::new(alloc, 256)?;
-        let mut blocks = three(alloc, &mut space)?;
-        blocks.set_hold(0, Hold::Pinned);
-        blocks.remove(&mut space, 2);
-        Ok(Bench { blocks, space })
-    }
-
-    /// The second is gone, and the first was pinned and is loose again.
-    pub fn loosened(alloc: Global) -> Result<Bench, AllocError> {
-        let mut space = Region::new(alloc, 256)?;
-        let mut blocks = three(alloc, &mut space)?;
-        blocks.remove(&mut space, 2);
-        blocks.set_hold(0, Hold::Pinned);
-        blocks.set_hold(0, Hold::Loose);
-        Ok(Bench { blocks, space })
-    }
-
-    /// The first has the bytes up to the second.
-    pub fn grown(alloc: Global) -> Result<Bench, AllocError> {
-        let mut space = Region::new(alloc, 256)?;
-        let mut blocks = three(alloc, &mut space)?;
-        blocks.resize(&mut space, 0, 96);
-        Ok(Bench { blocks, space })
+        let run_ends = run_ends(&blocks);
+        let run_begins = run_begins(&blocks);
+        change(&mut blocks, &mut space, state);
+        Ok(Bench {
+            blocks,
+            space,
+            run_ends,
+            run_begins,
+        })
     }
 
     pub fn find(&self, id: u32) -> Option<Block> {
@@ -133,17 +187,15 @@ impl Bench {
 
     /// The bytes of the hole behind an id's block, if it has one.
     pub fn free_after(&self, id: u32) -> Option<u32> {
-        if id >= self.blocks.cap() {
-            return None;
+        if id < self.blocks.cap() && self.blocks.find(id).is_some() {
+            Some(self.blocks.free_after(&self.space, id))
+        } else {
+            None
         }
-        let Some(_block) = self.blocks.find(id) else {
-            return None;
-        };
-        Some(self.blocks.free_after(&self.space, id))
     }
 
     /// The free bytes, those of the longest hole, and whether a block is pinned.
-    pub fn state(&self) -> (u32, u32, bool) {
+    pub fn totals(&self) -> (u32, u32, bool) {
         (
             self.blocks.free(),
             self.blocks.longest(&self.space),
@@ -161,7 +213,7 @@ impl Bench {
         if u64::from(at) + 32 > u64::from(self.space.len()) {
             return false;
         }
-        self.space.view(at, 32).iter().all(|b| *b == byte)
+        self.space.view(at, 32) == [byte; 32].as_slice()
     }
 
     /// How many bytes of the memory were written.
@@ -169,33 +221,17 @@ impl Bench {
         self.space.written()
     }
 
-    /// Whether the blocks by address have these ids.
-    pub fn has_order(&self, ids: &[u32]) -> bool {
-        self.blocks
-            .by_address(&self.space)
-            .map(|block| block.id)
-            .eq(ids.iter().copied())
+    /// The first four blocks by address.
+    pub fn walk(&self) -> [Option<Block>; 4] {
+        let mut walk = self.blocks.by_address(&self.space);
+        [walk.next(), walk.next(), walk.next(), walk.next()]
     }
-}
 
-/// Where runs end, from the second block on, up to its end, and from the last one's end on, and up to the bound.
-pub(super) fn run_ends(alloc: Global) -> Result<[u32; 3], AllocError> {
-    let mut space = Region::new(alloc, 256)?;
-    let blocks = three(alloc, &mut space)?;
-    Ok([
-        blocks.run_end(128, 160),
-        blocks.run_end(192, 256),
-        blocks.run_end(128, 256),
-    ])
-}
+    pub fn run_ends(&self) -> [u32; 3] {
+        self.run_ends
+    }
 
-/// Where runs begin that end with the last block, from its begin on, with nothing, and from the bound on.
-pub(super) fn run_begins(alloc: Global) -> Result<[u32; 3], AllocError> {
-    let mut space = Region::new(alloc, 256)?;
-    let blocks = three(alloc, &mut space)?;
-    Ok([
-        blocks.run_begin(192, 160),
-        blocks.run_begin(128, 0),
-        blocks.run_begin(192, 0),
-    ])
+    pub fn run_begins(&self) -> [u32; 3] {
+        self.run_begins
+    }
 }

@@ -3,7 +3,7 @@ use Rattle.w16_model.specs.declared.Block.{Block}
 use Rattle.w16_model.specs.declared.Hold.TheVariants.{Loose}
 use Rattle.w16_blocks.specs.Layout.{Fits, all_but}
 use Rattle.w16_blocks_tests.specs.Sample.{three_blocks}
-use Rattle.w16_blocks_tests.proofs.tests.bench.Bench.shifted.Goals as goal
+use Rattle.w16_blocks_tests.proofs.tests.bench.shift.Goals as goal
 
 abbrev third : Block
 third = record { id = 3; at = 160; size = 32; hold = Loose }
@@ -19,4 +19,4 @@ fits_there x e = subst (λ (y : Block). Fits (record three_blocks { blocks = all
 })
 
 pub shift-requires-clause-fits : goal.shift-requires-clause-fits
-shift-requires-clause-fits c = rw c.in_ok-blocks.ensures.value (λ x e. fits_there x (cc))
+shift-requires-clause-fits g c = rw c.requires.three (λ x e. fits_there x (cc))

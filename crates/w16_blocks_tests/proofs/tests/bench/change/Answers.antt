@@ -3,7 +3,7 @@ use Rattle.w16_model.specs.declared.Block.{Block}
 use Rattle.w16_model.specs.declared.Hold.TheVariants.{Loose}
 use Rattle.w16_blocks.specs.Layout.{Fits, all_but}
 use Rattle.w16_blocks_tests.specs.Sample.{three_blocks}
-use Rattle.w16_blocks_tests.proofs.tests.bench.Bench.grown.Goals as goal
+use Rattle.w16_blocks_tests.proofs.tests.bench.change.Goals as goal
 
 abbrev first : Block
 first = record { id = 0; at = 32; size = 32; hold = Loose }
@@ -19,4 +19,4 @@ fits_longer x e = subst (λ (y : Block). Fits (record three_blocks { blocks = al
 })
 
 pub resize-requires-clause-fits : goal.resize-requires-clause-fits
-resize-requires-clause-fits c = rw c.in_ok-blocks.ensures.value (λ x e. fits_longer x (cc))
+resize-requires-clause-fits g c = rw c.requires.three (λ x e. fits_longer x (cc))
