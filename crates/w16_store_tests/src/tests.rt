@@ -1,24 +1,16 @@
-//! One suite of checks for every store, and what each of them does beside it.
-use std::process::Abort;
+//! One table of questions for every store, and what each of them does beside it.
+mod cases;
+mod odd_names;
+mod one_file;
+
+use cases::{FILES, Kind, NEW_FOLDER, Step, cases};
+use odd_names::OddNames;
+use one_file::OneFile;
+use std::alloc::{AllocError, Global};
+use std::rt::Files;
 use std::test::Fail;
-use w16_store::{FuseStore, MemStore, Store, StoreFault};
-
-mod folders;
-
-/// The files of each store under test.
-pub const FILES: [(&str, &str); 3] = [
-    ("HELLO.TXT", "hello"),
-    ("Empty.txt", ""),
-    ("x\u{e4}.TXT", "umlaut"),
-];
-
-fn memory(rt: &HostRuntime) -> Result<MemStore, Fail> {
-    let mut store = MemStore::new(rt.alloc());
-    for (name, text) in FILES {
-        store.add(name.as_bytes(), text.as_bytes())?;
-    }
-    Ok(store)
-}
+use std::{fs, io};
+use w16_store::{DirFault, DirStore, FuseStore, MemStore, Store, StoreFault};
 
 /// What a read of so many bytes answers, the bytes as a number in base 256 where there are any.
 fn read<S: Store>(store: &mut S, name: &str, at: u64, count: usize) -> Result<u64, StoreFault> {
@@ -32,66 +24,153 @@ fn read<S: Store>(store: &mut S, name: &str, at: u64, count: usize) -> Result<u6
     Ok(value)
 }
 
-pub fn check_store<S: Store>(rt: &impl Abort, store: &mut S) {
-    let hello = 0x68_65_6c_6c_6f;
-    let rows = [
-        ("HELLO.TXT", 0, 5, Ok(hello)),
-        ("hello.Txt", 0, 5, Ok(hello)),
-        ("HELLO.TXT", 1, 2, Ok(0x65_6c)),
-        ("HELLO.TXT", 4, 1, Ok(0x6f)),
-        ("HELLO.TXT", 5, 0, Ok(0)),
-        ("HELLO.TXT", 6, 0, Err(StoreFault::Short)),
-        ("HELLO.TXT", 5, 1, Err(StoreFault::Short)),
-        ("HELLO.TXT", 0, 6, Err(StoreFault::Short)),
-        ("HELLO.TXT", u64::MAX, 0, Err(StoreFault::Short)),
-        ("HELLO.TXT", u64::MAX, 8, Err(StoreFault::Short)),
-        ("EMPTY.TXT", 0, 0, Ok(0)),
-        ("EMPTY.TXT", 0, 1, Err(StoreFault::Short)),
-        ("X\u{e4}.txt", 0, 1, Ok(0x75)),
-        ("X\u{c4}.txt", 0, 1, Err(StoreFault::Missing)),
-        ("HELLO", 0, 0, Err(StoreFault::Missing)),
-        ("", 0, 0, Err(StoreFault::Missing)),
-    ];
-    for (name, at, count, want) in rows {
-        assert!(rt;
-            read(store, name, at, count) == want,
-            "{name} at {at}, {count} bytes"
-        );
+/// Changes files, where a step does.
+fn change(rt: &HostRuntime, step: Step) -> io::Result<()> {
+    match step {
+        Step::Write(path, text) => fs::write(rt, path, text),
+        Step::Remove(path) => fs::remove_file(rt, path),
+        Step::MakeFolder(path) => fs::create_dir_all(rt, path),
+        Step::Link(to, path) => rt.symlink(to, path),
+        _ => Ok(()),
     }
-    assert!(rt; store.len_of(b"hello.txt") == Ok(5));
-    assert!(rt; store.len_of(b"EMPTY.TXT") == Ok(0));
-    assert!(rt; store.len_of(b"HELLO") == Err(StoreFault::Missing));
 }
 
-#[test]
-fn memory_holds_its_files(rt: HostRuntime) -> Result<(), Fail> {
-    check_store(&rt, &mut memory(&rt)?);
-    check_store(&rt, &mut FuseStore::new(memory(&rt)?, 0));
-    Ok(())
+/// Whether a change is made, or a question has its answer.
+fn is_so<S: Store>(rt: &HostRuntime, store: &mut S, step: Step) -> bool {
+    match step {
+        Step::Read(name, at, count, wanted) => read(store, name, at, count) == wanted,
+        Step::Len(name, wanted) => store.len_of(name) == wanted,
+        Step::Refused(_) => false,
+        _ => change(rt, step).is_ok(),
+    }
 }
 
-#[test]
-fn added_bytes_replace_those_of_the_name(rt: HostRuntime) -> Result<(), Fail> {
-    let mut store = memory(&rt)?;
+/// How many steps go right before the first that doesn't.
+fn right_steps<S: Store>(rt: &HostRuntime, store: &mut S, steps: &[Step]) -> usize {
+    for (i, step) in steps.iter().enumerate() {
+        if !is_so(rt, store, *step) {
+            return i;
+        }
+    }
+    steps.len()
+}
+
+fn memory(alloc: Global) -> Result<MemStore, AllocError> {
+    let mut store = MemStore::new(alloc);
+    for (name, text) in FILES {
+        store.add(name.as_bytes(), text.as_bytes())?;
+    }
+    Ok(store)
+}
+
+fn in_memory(rt: &HostRuntime, steps: &[Step]) -> Result<usize, DirFault> {
+    let mut store = memory(rt.alloc())?;
+    Ok(right_steps(rt, &mut store, steps))
+}
+
+fn behind_a_fuse(rt: &HostRuntime, steps: &[Step]) -> Result<usize, DirFault> {
+    let mut store = FuseStore::new(memory(rt.alloc())?, 0);
+    Ok(right_steps(rt, &mut store, steps))
+}
+
+fn replaced(rt: &HostRuntime, steps: &[Step]) -> Result<usize, DirFault> {
+    let mut store = memory(rt.alloc())?;
     store.add(b"hello.txt", b"bye")?;
-    assert!(rt; store.len_of(b"HELLO.TXT") == Ok(3));
-    assert!(rt; read(&mut store, "Hello.txt", 0, 3) == Ok(0x62_79_65));
-    assert!(rt; read(&mut store, "Empty.txt", 0, 0) == Ok(0));
+    Ok(right_steps(rt, &mut store, steps))
+}
+
+fn on_one_file(rt: &HostRuntime, fails: bool, steps: &[Step]) -> Result<usize, DirFault> {
+    let mut store = DirStore::new(rt.alloc(), OneFile { fails })?;
+    Ok(right_steps(rt, &mut store, steps))
+}
+
+/// Makes changes one after another.
+fn change_all(rt: &HostRuntime, steps: &[Step]) -> io::Result<()> {
+    for step in steps {
+        change(rt, *step)?;
+    }
     Ok(())
+}
+
+fn in_folder<R: Files + AllocGlobal + Clone + Drop>(
+    rt: &HostRuntime,
+    system: &R,
+    path: &str,
+    steps: &[Step],
+) -> Result<usize, DirFault> {
+    let mut store = DirStore::from_folder(system, rt.alloc(), path)?;
+    Ok(right_steps(rt, &mut store, steps))
+}
+
+fn among_odd_names(rt: &HostRuntime, steps: &[Step]) -> Result<usize, DirFault> {
+    in_folder(rt, &OddNames(rt.clone()?), "store_files", steps)
+}
+
+/// A folder of its own with the files, and what a case changes before it is opened.
+fn make_folder(rt: &HostRuntime, before: &[Step]) -> io::Result<()> {
+    let _ = fs::remove_dir_all(rt, "store_files");
+    change_all(rt, NEW_FOLDER)?;
+    change_all(rt, before)
+}
+
+/// How many steps go right in a store, or why there is none.
+fn outcome(rt: &HostRuntime, store: Kind, steps: &[Step]) -> Result<usize, DirFault> {
+    match store {
+        Kind::Memory => in_memory(rt, steps),
+        Kind::Fuse => behind_a_fuse(rt, steps),
+        Kind::Replaced => replaced(rt, steps),
+        Kind::Folder(path) => in_folder(rt, rt, path, steps),
+        Kind::OddNames => among_odd_names(rt, steps),
+        Kind::OneFile(fails) => on_one_file(rt, fails, steps),
+    }
+}
+
+/// Whether a step says that there is no store, for this reason.
+fn is_refused(step: Option<Step>, fault: DirFault) -> bool {
+    match step {
+        Some(Step::Refused(wanted)) => wanted == fault,
+        _ => false,
+    }
+}
+
+/// How many steps are as wanted before the first that isn't.
+fn right_steps_of(rt: &HostRuntime, store: Kind, steps: &[Step]) -> usize {
+    match outcome(rt, store, steps) {
+        Ok(right) => right,
+        Err(fault) if is_refused(steps.first().copied(), fault) => 1,
+        Err(_) => 0,
+    }
+}
+
+#[test]
+fn stores_answer(rt: HostRuntime) -> Result<(), Fail> {
+    for case in cases() {
+        make_folder(&rt, case.before)?;
+        let steps = case.steps();
+        let right = right_steps_of(&rt, case.store, steps);
+        assert!(rt; right == steps.len(), "{}: step {right}", case.name);
+    }
+    fs::remove_dir_all(&rt, "store_files")?;
+    Ok(())
+}
+
+/// Whether a length and then a read, of this number, answer as they should where the third fails.
+fn is_read(store: &mut FuseStore<MemStore>, number: u64) -> bool {
+    let wanted = if number == 3 {
+        Err(StoreFault::Device)
+    } else {
+        Ok(0x68)
+    };
+    store.len_of(b"HELLO.TXT") == Ok(5)
+        && read(store, "HELLO.TXT", 0, 1) == wanted
+        && store.reads() == number
 }
 
 #[test]
 fn a_fuse_blows_once(rt: HostRuntime) -> Result<(), Fail> {
-    let mut store = FuseStore::new(memory(&rt)?, 3);
-    for count in 1..6 {
-        assert!(rt; store.len_of(b"HELLO.TXT") == Ok(5));
-        let want = if count == 3 {
-            Err(StoreFault::Device)
-        } else {
-            Ok(0x68)
-        };
-        assert!(rt; read(&mut store, "HELLO.TXT", 0, 1) == want, "read {count}");
-        assert_eq!(rt; store.reads(), count);
+    let mut store = FuseStore::new(memory(rt.alloc())?, 3);
+    for number in 1..6 {
+        assert!(rt; is_read(&mut store, number), "read {number}");
     }
     Ok(())
 }

@@ -1,0 +1,71 @@
+//! A system with a name that is no UTF-8.
+use std::alloc::{AllocError, Allocator, Global};
+use std::fs::{Metadata, OpenOptions};
+use std::io;
+use std::io::Cursor;
+use std::rt::Files;
+
+/// A system whose folders list a name that is no UTF-8 before a good one.
+#[derive(Drop)]
+pub(super) struct OddNames(pub HostRuntime);
+
+impl Clone for OddNames {
+    fn clone(&self) -> Result<OddNames, AllocError> {
+        Ok(OddNames(self.0.clone()?))
+    }
+}
+
+impl Alloc for OddNames {
+    type A = Global;
+
+    fn alloc(&self) -> Global {
+        self.0.alloc()
+    }
+}
+
+impl Files for OddNames {
+    type File = <HostRuntime as Files>::File;
+
+    type Dir = Cursor<Vec<u8>>;
+
+    fn open_file(&self, how: &OpenOptions, path: &str) -> io::Result<Self::File> {
+        self.0.open_file(how, path)
+    }
+
+    fn open_dir(&self, _path: &str) -> io::Result<Cursor<Vec<u8>>> {
+        let names = b"\xff.TXT\0HELLO.TXT\0".to_vec(self.alloc())?;
+        Ok(Cursor::new(names))
+    }
+
+    fn metadata(&self, path: &str) -> io::Result<Metadata> {
+        self.0.metadata(path)
+    }
+
+    fn symlink_metadata(&self, path: &str) -> io::Result<Metadata> {
+        self.0.symlink_metadata(path)
+    }
+
+    fn copy(&self, from: &str, to: &str) -> io::Result<u64> {
+        self.0.copy(from, to)
+    }
+
+    fn rename(&self, from: &str, to: &str) -> io::Result<()> {
+        self.0.rename(from, to)
+    }
+
+    fn remove_file(&self, path: &str) -> io::Result<()> {
+        self.0.remove_file(path)
+    }
+
+    fn create_dir(&self, path: &str) -> io::Result<()> {
+        self.0.create_dir(path)
+    }
+
+    fn remove_dir(&self, path: &str) -> io::Result<()> {
+        self.0.remove_dir(path)
+    }
+
+    fn remove_dir_all<B: Allocator>(&self, alloc: B, path: &str) -> io::Result<()> {
+        self.0.remove_dir_all(alloc, path)
+    }
+}
