@@ -1,8 +1,7 @@
-//! The calls of an order of use, as tables of changes with the members that they leave.
+//! The calls of an order of use, as rows of changes with the members that each leaves.
 
 use std::alloc::{AllocError, Global};
 use std::marker::Model;
-use std::process::Abort;
 use std::test::Fail;
 use w16_lru::Order;
 
@@ -14,50 +13,48 @@ enum Change {
     Remove(u32),
 }
 
-/// An order of the ids 0 to 4. To a proof it has no value: what an order promises is used where a method calls it, and no loop carries it.
+/// An order of the ids below its room. To a proof it has no value: what an order promises is used where a method calls it, and no loop carries
+/// it.
 #[derive(Drop)]
-struct Five {
+struct Bench {
     order: Order,
+    room: u32,
 }
 
-impl Model for Five {
+impl Model for Bench {
     ghost use Rattle.std.specs.Prelude.{◌≡◌, ℕ};
 
     ghost Value = { ℕ };
 
     ghost view = { λ _. 0 };
 
-    ghost invariant = { λ s. s.order.cap ≡ 5 };
+    ghost invariant = { λ s. s.order.cap ≡ s.room };
 }
 
-impl Five {
+impl Bench {
     /// No member yet.
-    fn new(alloc: Global) -> Result<Five, AllocError> {
-        let order = Order::with_room(alloc, 5)?;
-        Ok(Five { order })
+    fn new(alloc: Global, room: u32) -> Result<Bench, AllocError> {
+        let order = Order::with_room(alloc, room)?;
+        Ok(Bench { order, room })
     }
 
-    fn change(&mut self, rt: &impl Abort, change: Change) {
+    /// Makes a change; false where the order has no room for its id.
+    fn change(&mut self, change: Change) -> bool {
         match change {
-            Change::Newest(id) => self.newest(rt, id),
-            Change::Oldest(id) => self.oldest(rt, id),
+            Change::Newest(id) if id < self.room => self.order.newest(id),
+            Change::Oldest(id) if id < self.room => self.order.oldest(id),
             Change::Remove(id) => self.order.remove(id),
+            _ => return false,
         }
+        true
     }
 
-    fn newest(&mut self, rt: &impl Abort, id: u32) {
-        assert!(rt; id < 5);
-        self.order.newest(id);
-    }
-
-    fn oldest(&mut self, rt: &impl Abort, id: u32) {
-        assert!(rt; id < 5);
-        self.order.oldest(id);
-    }
-
-    /// Whether these are the members, the oldest first.
+    /// Whether these are the members, the oldest first, however they are asked for.
     fn has(&self, ids: &[u32]) -> bool {
-        self.order.len() == ids.len() && self.has_by_number(ids) && self.has_by_walk(ids)
+        self.order.len() == ids.len()
+            && self.has_by_number(ids)
+            && self.has_by_walk(ids)
+            && self.has_no_other(ids)
     }
 
     /// The same by their numbers, of which the order has no more.
@@ -70,7 +67,7 @@ impl Five {
         true
     }
 
-    /// The same, each found behind the one before.
+    /// The same, each found behind the one before, and none behind the last.
     fn has_by_walk(&self, ids: &[u32]) -> bool {
         let mut found = self.order.first();
         for id in ids {
@@ -82,129 +79,107 @@ impl Five {
         found.is_none()
     }
 
-    /// Whether nothing comes behind any of these.
-    fn ends_at(&self, ids: &[u32]) -> bool {
-        ids.iter().all(|id| self.order.next(*id).is_none())
-    }
-}
-
-/// Makes the changes of a table, and tells whether each leaves the members that it should.
-fn leaves(rt: &impl Abort, five: &mut Five, lines: &[(Change, &[u32])]) -> bool {
-    for (change, members) in lines {
-        five.change(rt, *change);
-        if !five.has(members) {
-            return false;
+    /// Whether nothing comes behind an id that is none of these. 5 is past every room.
+    fn has_no_other(&self, ids: &[u32]) -> bool {
+        for id in 0..6 {
+            if !ids.contains(&id) && self.order.next(id).is_some() {
+                return false;
+            }
         }
+        true
     }
-    true
 }
 
-#[test]
-fn begins_empty(rt: HostRuntime) -> Result<(), Fail> {
-    let five = Five::new(rt.alloc())?;
-    assert!(rt; five.has(&[]) && five.ends_at(&[0]));
-    Ok(())
-}
+/// A change, and the members that it leaves.
+type Line = (Change, &'static [u32]);
 
-fn has_none(order: &Order) -> bool {
-    order.len() == 0 && order.nth(0).is_none()
-}
-
-#[test]
-fn room_for_none(rt: HostRuntime) -> Result<(), Fail> {
-    let mut order = Order::with_room(rt.alloc(), 0)?;
-    assert!(rt; has_none(&order));
-    order.remove(0);
-    assert!(rt; has_none(&order));
-    Ok(())
-}
-
-const NEWEST: &[(Change, &[u32])] = &[
-    (Change::Newest(3), &[3]),
-    (Change::Newest(1), &[3, 1]),
-    (Change::Newest(3), &[1, 3]),
+/// What a row shows, the room of its order, and the changes that are made from no member on.
+static ROWS: &[(&str, u32, &[Line])] = &[
+    ("a new order has no member", 5, &[]),
+    (
+        "an order without room has none either",
+        0,
+        &[(Change::Remove(0), &[])],
+    ),
+    (
+        "the newest goes last",
+        5,
+        &[
+            (Change::Newest(3), &[3]),
+            (Change::Newest(1), &[3, 1]),
+            (Change::Newest(3), &[1, 3]),
+        ],
+    ),
+    (
+        "the oldest goes first",
+        5,
+        &[
+            (Change::Oldest(3), &[3]),
+            (Change::Oldest(1), &[1, 3]),
+            (Change::Oldest(3), &[3, 1]),
+        ],
+    ),
+    (
+        "a removed one is no member, and its removal again changes nothing",
+        5,
+        &[
+            (Change::Newest(4), &[4]),
+            (Change::Newest(0), &[4, 0]),
+            (Change::Newest(2), &[4, 0, 2]),
+            (Change::Remove(0), &[4, 2]),
+            (Change::Remove(0), &[4, 2]),
+            (Change::Remove(7), &[4, 2]),
+        ],
+    ),
+    (
+        "a walk goes from the oldest to the newest",
+        5,
+        &[
+            (Change::Newest(3), &[3]),
+            (Change::Newest(0), &[3, 0]),
+            (Change::Oldest(4), &[4, 3, 0]),
+            (Change::Newest(2), &[4, 3, 0, 2]),
+            (Change::Remove(3), &[4, 0, 2]),
+            (Change::Remove(4), &[0, 2]),
+            (Change::Newest(0), &[2, 0]),
+        ],
+    ),
+    (
+        "the order of use is kept",
+        5,
+        &[
+            (Change::Newest(2), &[2]),
+            (Change::Newest(0), &[2, 0]),
+            (Change::Newest(4), &[2, 0, 4]),
+            (Change::Newest(1), &[2, 0, 4, 1]),
+            (Change::Newest(3), &[2, 0, 4, 1, 3]),
+            (Change::Newest(0), &[2, 4, 1, 3, 0]),
+            (Change::Remove(1), &[2, 4, 3, 0]),
+            (Change::Oldest(3), &[3, 2, 4, 0]),
+            (Change::Remove(3), &[2, 4, 0]),
+            (Change::Remove(0), &[2, 4]),
+            (Change::Oldest(1), &[1, 2, 4]),
+            (Change::Newest(3), &[1, 2, 4, 3]),
+            (Change::Newest(0), &[1, 2, 4, 3, 0]),
+            (Change::Newest(1), &[2, 4, 3, 0, 1]),
+        ],
+    ),
 ];
 
-#[test]
-fn newest_goes_last(rt: HostRuntime) -> Result<(), Fail> {
-    let mut five = Five::new(rt.alloc())?;
-    assert!(rt; leaves(&rt, &mut five, NEWEST));
-    Ok(())
+/// Whether a new order has no member, and each change leaves those that it should.
+fn leaves(alloc: Global, room: u32, lines: &[Line]) -> Result<bool, AllocError> {
+    let mut bench = Bench::new(alloc, room)?;
+    let mut right = bench.has(&[]);
+    for (change, members) in lines {
+        right = right && bench.change(*change) && bench.has(members);
+    }
+    Ok(right)
 }
 
-const OLDEST: &[(Change, &[u32])] = &[
-    (Change::Oldest(3), &[3]),
-    (Change::Oldest(1), &[1, 3]),
-    (Change::Oldest(3), &[3, 1]),
-];
-
 #[test]
-fn oldest_goes_first(rt: HostRuntime) -> Result<(), Fail> {
-    let mut five = Five::new(rt.alloc())?;
-    assert!(rt; leaves(&rt, &mut five, OLDEST));
-    Ok(())
-}
-
-/// The last two are no members.
-const REMOVED: &[(Change, &[u32])] = &[
-    (Change::Newest(4), &[4]),
-    (Change::Newest(0), &[4, 0]),
-    (Change::Newest(2), &[4, 0, 2]),
-    (Change::Remove(0), &[4, 2]),
-    (Change::Remove(0), &[4, 2]),
-    (Change::Remove(7), &[4, 2]),
-];
-
-#[test]
-fn removed_is_no_member(rt: HostRuntime) -> Result<(), Fail> {
-    let mut five = Five::new(rt.alloc())?;
-    assert!(rt; leaves(&rt, &mut five, REMOVED));
-    Ok(())
-}
-
-const WALKED: &[(Change, &[u32])] = &[
-    (Change::Newest(3), &[3]),
-    (Change::Newest(0), &[3, 0]),
-    (Change::Oldest(4), &[4, 3, 0]),
-    (Change::Newest(2), &[4, 3, 0, 2]),
-    (Change::Remove(3), &[4, 0, 2]),
-];
-
-const WALKED_THEN: &[(Change, &[u32])] = &[
-    (Change::Remove(4), &[0, 2]),
-    (Change::Newest(0), &[2, 0]),
-];
-
-#[test]
-fn next_goes_from_the_oldest_to_the_newest(rt: HostRuntime) -> Result<(), Fail> {
-    let mut five = Five::new(rt.alloc())?;
-    assert!(rt; leaves(&rt, &mut five, WALKED));
-    // The newest, a removed one, and no id.
-    assert!(rt; five.ends_at(&[2, 3, 5]));
-    assert!(rt; leaves(&rt, &mut five, WALKED_THEN));
-    Ok(())
-}
-
-const USED: &[(Change, &[u32])] = &[
-    (Change::Newest(2), &[2]),
-    (Change::Newest(0), &[2, 0]),
-    (Change::Newest(4), &[2, 0, 4]),
-    (Change::Newest(1), &[2, 0, 4, 1]),
-    (Change::Newest(3), &[2, 0, 4, 1, 3]),
-    (Change::Newest(0), &[2, 4, 1, 3, 0]),
-    (Change::Remove(1), &[2, 4, 3, 0]),
-    (Change::Oldest(3), &[3, 2, 4, 0]),
-    (Change::Remove(3), &[2, 4, 0]),
-    (Change::Remove(0), &[2, 4]),
-    (Change::Oldest(1), &[1, 2, 4]),
-    (Change::Newest(3), &[1, 2, 4, 3]),
-    (Change::Newest(0), &[1, 2, 4, 3, 0]),
-    (Change::Newest(1), &[2, 4, 3, 0, 1]),
-];
-
-#[test]
-fn keeps_the_order_of_use(rt: HostRuntime) -> Result<(), Fail> {
-    let mut five = Five::new(rt.alloc())?;
-    assert!(rt; leaves(&rt, &mut five, USED));
+fn changes_leave_their_members(rt: HostRuntime) -> Result<(), Fail> {
+    for (name, room, lines) in ROWS {
+        assert!(rt; leaves(rt.alloc(), *room, lines)?, "{name}");
+    }
     Ok(())
 }

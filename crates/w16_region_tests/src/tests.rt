@@ -1,10 +1,11 @@
-//! Callers that are generic in the space, with the exact bytes in their contracts, and one suite
-//! that runs on a region and on a window.
-ghost use Rattle.std.specs.Prelude.{◌≡◌, ◌+◌, ◌^◌, ◌<◌, ◌≤◌, ◌⊎◌, length};
+//! Callers that are generic in the space, with the exact bytes in their contracts, and rows of calls
+//! that are made on a region and on a window.
+ghost use Rattle.std.specs.Prelude.{◌≡◌, ◌+◌, ◌^◌, ◌<◌, ◌≤◌, ◌⊎◌, IsTrue, ℕ, length};
 ghost use Rattle.w16_model.specs.Bytes.{part, put_part, repeated};
 ghost use Rattle.w16_region.specs.Bytes.{counted};
 
-use std::process::Abort;
+use std::alloc::{AllocError, Global};
+use std::marker::Model;
 use std::test::Fail;
 use w16_region::{Region, Space, Window};
 
@@ -68,136 +69,337 @@ fn copy_in_region(region: &mut Region, from: u32, to: u32, size: u32)
     copy_apart(region, from, to, size);
 }
 
-/// What a space of twelve bytes shows.
-fn expect<S: Space>(rt: &impl Abort, space: &S, bytes: &[u8], written: u64)
-    requires { length (S.bytes space.now) ≡ 12 }
+/// Whether a part lies in twelve bytes.
+fn is_inside(at: u32, size: u32) -> bool
+    ensures { IsTrue result → at + size ≤ 12 }
 {
-    assert_eq!(rt; space.len(), 12);
-    assert_eq!(rt; space.view(0, 12), bytes);
-    assert_eq!(rt; space.written(), written);
+    at <= 12 && size <= 12 - at
 }
 
-fn fills<S: Space>(rt: &impl Abort, space: &mut S)
-    requires { length (S.bytes space.old) ≡ 12 }
-    ensures { length (S.bytes space.new) ≡ 12 }
+/// Whether as many bytes as these lie in twelve bytes.
+fn fits(at: u32, bytes: &[u8]) -> bool
+    ensures { IsTrue result → at + length bytes.now ≤ 12 }
 {
-    expect(rt, space, &[0, 0, 0, 0, 0, 0, 0, 0, 0, 0, 0, 0], 0);
-    space.fill(2, 3, 7);
-    expect(rt, space, &[0, 0, 7, 7, 7, 0, 0, 0, 0, 0, 0, 0], 3);
+    bytes.len() <= 12 && is_inside(at, bytes.len() as u32)
 }
 
-fn views<S: Space>(rt: &impl Abort, space: &mut S)
-    requires { length (S.bytes space.old) ≡ 12 }
-    ensures { length (S.bytes space.new) ≡ 12 }
+/// Whether two parts do not meet.
+fn are_apart(from: u32, source_size: u32, to: u32, target_size: u32) -> bool
+    requires source { from + source_size ≤ 12 }
+    requires target { to + target_size ≤ 12 }
+    ensures { IsTrue result → (from + source_size ≤ to) ⊎ (to + target_size ≤ from) }
 {
-    put(space, 0, &[1, 2, 3, 4, 5, 6]);
-    expect(rt, space, &[1, 2, 3, 4, 5, 6, 0, 0, 0, 0, 0, 0], 9);
-    assert_eq!(rt; space.view(1, 3), [2, 3, 4].as_slice());
+    from + source_size <= to || to + target_size <= from
 }
 
-fn slides<S: Space>(rt: &impl Abort, space: &mut S)
-    requires { length (S.bytes space.old) ≡ 12 }
-    ensures { length (S.bytes space.new) ≡ 12 }
-{
-    space.slide(0, 2, 6);
-    expect(rt, space, &[1, 2, 1, 2, 3, 4, 5, 6, 0, 0, 0, 0], 15);
-    space.slide(4, 1, 4);
-    expect(rt, space, &[1, 3, 4, 5, 6, 4, 5, 6, 0, 0, 0, 0], 19);
+/// A call of a space.
+#[derive(Clone, Copy)]
+enum Call {
+    /// The part from a place on, which is these bytes.
+    View(u32, &'static [u8]),
+    Put(u32, &'static [u8]),
+    /// A place, a size and the byte.
+    Fill(u32, u32, u8),
+    /// From a place to another, and a size.
+    Slide(u32, u32, u32),
+    Copy(u32, u32, u32),
+    /// A pair: the source from a place on, which is these bytes, and the one byte at another place, which is given another value.
+    Pair(u32, &'static [u8], u32, u8),
 }
 
-fn pairs<S: Space>(rt: &impl Abort, space: &mut S)
-    requires { length (S.bytes space.old) ≡ 12 }
-    ensures { length (S.bytes space.new) ≡ 12 }
-{
-    copy_apart(space, 1, 8, 3);
-    expect(rt, space, &[1, 3, 4, 5, 6, 4, 5, 6, 3, 4, 5, 0], 22);
-    copy_apart(space, 9, 0, 2);
-    expect(rt, space, &[4, 5, 4, 5, 6, 4, 5, 6, 3, 4, 5, 0], 24);
-    let (source, target) = space.pair(0, 2, 11, 1);
-    assert_eq!(rt; source, [4, 5].as_slice());
-    target.fill(5);
-    expect(rt, space, &[4, 5, 4, 5, 6, 4, 5, 6, 3, 4, 5, 5], 25);
+/// A space of twelve bytes. To a proof it has no value: what a call promises is used where a method makes it, and no loop carries it.
+#[derive(Drop)]
+struct Bench<S: Space> {
+    space: S,
 }
 
-/// Empty ranges at the end change nothing and count nothing.
-fn ends<S: Space>(rt: &impl Abort, space: &mut S)
-    requires { length (S.bytes space.old) ≡ 12 }
-    ensures { length (S.bytes space.new) ≡ 12 }
-{
-    assert!(rt; space.view(12, 0).is_empty());
-    put(space, 12, &[]);
-    space.fill(12, 0, 9);
-    space.slide(12, 0, 0);
-    space.slide(0, 12, 0);
-    copy_apart(space, 12, 12, 0);
-    expect(rt, space, &[4, 5, 4, 5, 6, 4, 5, 6, 3, 4, 5, 5], 25);
+impl<S: Space> Model for Bench<S> {
+    ghost Value = { ℕ };
+
+    ghost view = { λ _. 0 };
+
+    ghost invariant = { λ s. length (S.bytes s.space) ≡ 12 };
 }
 
-/// Each call, on a space of twelve zero bytes of which none counts as written.
-fn suite<S: Space>(rt: &impl Abort, space: &mut S)
-    requires { length (S.bytes space.old) ≡ 12 }
-{
-    fills(rt, space);
-    views(rt, space);
-    slides(rt, space);
-    pairs(rt, space);
-    ends(rt, space);
+impl<S: Space> Bench<S> {
+    /// Makes a call; false where it would be outside, or a part isn't what it should be.
+    fn call(&mut self, call: Call) -> bool {
+        match call {
+            Call::View(at, bytes) => return self.shows(at, bytes),
+            Call::Pair(from, source, to, byte) => return self.pair(from, source, to, byte),
+            Call::Copy(from, to, size) => return self.copy(from, to, size),
+            Call::Put(at, bytes) => return self.put(at, bytes),
+            Call::Fill(at, size, byte) if is_inside(at, size) => self.space.fill(at, size, byte),
+            Call::Slide(from, to, size) if is_inside(from, size) && is_inside(to, size) => {
+                self.space.slide(from, to, size);
+            }
+            _ => return false,
+        }
+        true
+    }
+
+    fn shows(&self, at: u32, bytes: &[u8]) -> bool {
+        fits(at, bytes) && self.space.view(at, bytes.len() as u32) == bytes
+    }
+
+    fn put(&mut self, at: u32, bytes: &[u8]) -> bool {
+        let may = fits(at, bytes);
+        if may {
+            put(&mut self.space, at, bytes);
+        }
+        may
+    }
+
+    fn copy(&mut self, from: u32, to: u32, size: u32) -> bool {
+        let may = is_inside(from, size) && is_inside(to, size) && are_apart(from, size, to, size);
+        if may {
+            copy_apart(&mut self.space, from, to, size);
+        }
+        may
+    }
+
+    fn pair(&mut self, from: u32, source: &[u8], to: u32, byte: u8) -> bool {
+        if !fits(from, source) || !is_inside(to, 1) {
+            return false;
+        }
+        let size = source.len() as u32;
+        if !are_apart(from, size, to, 1) {
+            return false;
+        }
+        let (found, target) = self.space.pair(from, size, to, 1);
+        let same = found == source;
+        target.fill(byte);
+        same
+    }
+
+    /// Whether it has these bytes, and so many count as written.
+    fn has(&self, bytes: &[u8], written: u64) -> bool {
+        self.space.len() == 12 && self.shows(0, bytes) && self.space.written() == written
+    }
+
+    /// The first line whose call isn't as it should be, or leaves other bytes or another count.
+    fn first_wrong(&mut self, lines: &[Line]) -> Option<&'static str> {
+        for (name, call, bytes, written) in lines {
+            if !self.call(*call) || !self.has(bytes, *written) {
+                return Some(name);
+            }
+        }
+        None
+    }
 }
 
-#[test]
-fn region_is_zero_and_a_space(rt: HostRuntime) -> Result<(), Fail> {
-    let mut region = Region::new(rt.alloc(), 12)?;
-    suite(&rt, &mut region);
-    Ok(())
+/// What is shown, a call, the bytes that it leaves, and how many count as written then.
+type Line = (&'static str, Call, &'static [u8], u64);
+
+/// On a space of twelve zero bytes of which none counts as written. Empty ranges at the end change nothing and count nothing.
+static LINES: &[Line] = &[
+    (
+        "a new space is of zeros",
+        Call::View(0, &[0, 0]),
+        &[0, 0, 0, 0, 0, 0, 0, 0, 0, 0, 0, 0],
+        0,
+    ),
+    (
+        "a part is filled",
+        Call::Fill(2, 3, 7),
+        &[0, 0, 7, 7, 7, 0, 0, 0, 0, 0, 0, 0],
+        3,
+    ),
+    (
+        "bytes are put",
+        Call::Put(0, &[1, 2, 3, 4, 5, 6]),
+        &[1, 2, 3, 4, 5, 6, 0, 0, 0, 0, 0, 0],
+        9,
+    ),
+    (
+        "a part is viewed",
+        Call::View(1, &[2, 3, 4]),
+        &[1, 2, 3, 4, 5, 6, 0, 0, 0, 0, 0, 0],
+        9,
+    ),
+    (
+        "a part slides up over itself",
+        Call::Slide(0, 2, 6),
+        &[1, 2, 1, 2, 3, 4, 5, 6, 0, 0, 0, 0],
+        15,
+    ),
+    (
+        "a part slides down over itself",
+        Call::Slide(4, 1, 4),
+        &[1, 3, 4, 5, 6, 4, 5, 6, 0, 0, 0, 0],
+        19,
+    ),
+    (
+        "a part is copied up",
+        Call::Copy(1, 8, 3),
+        &[1, 3, 4, 5, 6, 4, 5, 6, 3, 4, 5, 0],
+        22,
+    ),
+    (
+        "a part is copied down",
+        Call::Copy(9, 0, 2),
+        &[4, 5, 4, 5, 6, 4, 5, 6, 3, 4, 5, 0],
+        24,
+    ),
+    (
+        "a pair's source is read, and its target written",
+        Call::Pair(0, &[4, 5], 11, 5),
+        &[4, 5, 4, 5, 6, 4, 5, 6, 3, 4, 5, 5],
+        25,
+    ),
+    (
+        "an empty part is viewed",
+        Call::View(12, &[]),
+        &[4, 5, 4, 5, 6, 4, 5, 6, 3, 4, 5, 5],
+        25,
+    ),
+    (
+        "no bytes are put",
+        Call::Put(12, &[]),
+        &[4, 5, 4, 5, 6, 4, 5, 6, 3, 4, 5, 5],
+        25,
+    ),
+    (
+        "an empty part is filled",
+        Call::Fill(12, 0, 9),
+        &[4, 5, 4, 5, 6, 4, 5, 6, 3, 4, 5, 5],
+        25,
+    ),
+    (
+        "an empty part slides down",
+        Call::Slide(12, 0, 0),
+        &[4, 5, 4, 5, 6, 4, 5, 6, 3, 4, 5, 5],
+        25,
+    ),
+    (
+        "an empty part slides up",
+        Call::Slide(0, 12, 0),
+        &[4, 5, 4, 5, 6, 4, 5, 6, 3, 4, 5, 5],
+        25,
+    ),
+    (
+        "an empty part is copied",
+        Call::Copy(12, 12, 0),
+        &[4, 5, 4, 5, 6, 4, 5, 6, 3, 4, 5, 5],
+        25,
+    ),
+];
+
+fn first_wrong_line(alloc: Global) -> Result<Option<&'static str>, AllocError> {
+    let space = Region::new(alloc, 12)?;
+    let mut bench = Bench { space };
+    Ok(bench.first_wrong(LINES))
+}
+
+fn first_wrong_of_window(bytes: &mut [u8; 12]) -> Option<&'static str> {
+    let space = Window::new(bytes);
+    let mut bench = Bench { space };
+    bench.first_wrong(LINES)
+}
+
+/// Whether a slice is changed through windows over it.
+fn slice_is_changed() -> bool {
+    let mut bytes = [1, 2, 3, 4, 5];
+    copy_in_slice(&mut bytes, 0, 3, 2);
+    let copied = bytes == [1, 2, 3, 1, 2];
+    blank_in_slice(&mut bytes, 1, 2);
+    copied && bytes == [1, 0, 0, 1, 2]
 }
 
 #[test]
 fn window_is_a_space_over_its_slice(rt: HostRuntime) {
     let mut bytes = [0; 12];
-    let mut window = Window::new(&mut bytes);
-    suite(&rt, &mut window);
-    assert_eq!(rt; bytes, [4, 5, 4, 5, 6, 4, 5, 6, 3, 4, 5, 5]);
+    assert_eq!(rt; first_wrong_of_window(&mut bytes), None);
+    assert!(rt; bytes == [4, 5, 4, 5, 6, 4, 5, 6, 3, 4, 5, 5] && slice_is_changed());
 }
 
-#[test]
-fn slice_is_changed_through_its_window(rt: HostRuntime) {
-    let mut bytes = [1, 2, 3, 4, 5];
-    copy_in_slice(&mut bytes, 0, 3, 2);
-    assert_eq!(rt; bytes, [1, 2, 3, 1, 2]);
-    blank_in_slice(&mut bytes, 1, 2);
-    assert_eq!(rt; bytes, [1, 0, 0, 1, 2]);
-}
-
-#[test]
-fn region_is_changed_in_place(rt: HostRuntime) -> Result<(), Fail> {
-    let mut region = Region::new(rt.alloc(), 6)?;
+/// Whether a region is changed in place.
+fn region_is_changed(alloc: Global) -> Result<bool, AllocError> {
+    let mut region = Region::new(alloc, 6)?;
     region.fill(0, 2, 8);
     copy_in_region(&mut region, 0, 4, 2);
-    assert_eq!(rt; region.view(0, 6), [8, 8, 0, 0, 8, 8].as_slice());
-    assert_eq!(rt; region.written(), 4);
-    Ok(())
+    Ok(region.view(0, 6) == [8, 8, 0, 0, 8, 8].as_slice() && region.written() == 4)
+}
+
+/// A word that is set at a place, with the bytes of the region afterwards, or one that is read there.
+#[derive(Clone, Copy)]
+enum Word {
+    Set(u32, u32, &'static [u8]),
+    Read(u32, u32),
 }
 
 /// A word has its lowest byte first, at any place, and what stands beside it stays.
+static WORDS: &[(&str, Word)] = &[
+    (
+        "a word is set",
+        Word::Set(4, 0x0403_0201, &[9, 9, 9, 9, 1, 2, 3, 4, 9, 9, 9, 9]),
+    ),
+    ("a word is read", Word::Read(4, 0x0403_0201)),
+    (
+        "a word is read across its begin",
+        Word::Read(2, 0x0201_0909),
+    ),
+    (
+        "a word is set at an odd place",
+        Word::Set(
+            7,
+            0xffff_fffe,
+            &[9, 9, 9, 9, 1, 2, 3, 0xfe, 0xff, 0xff, 0xff, 9],
+        ),
+    ),
+    ("a word is read at an odd place", Word::Read(7, 0xffff_fffe)),
+    (
+        "the last word is set",
+        Word::Set(8, 0, &[9, 9, 9, 9, 1, 2, 3, 0xfe, 0, 0, 0, 0]),
+    ),
+    ("the last word is read", Word::Read(8, 0)),
+];
+
+impl Bench<Region> {
+    /// Whether a word is read, or leaves the bytes that it should and the count of twelve.
+    fn word(&mut self, word: Word) -> bool {
+        match word {
+            Word::Set(at, value, bytes) if is_inside(at, 4) => {
+                self.space.set_word(at, value);
+                self.has(bytes, 12)
+            }
+            Word::Read(at, value) if is_inside(at, 4) => self.space.word_at(at) == value,
+            _ => false,
+        }
+    }
+
+    /// The first word that isn't as it should be.
+    fn first_wrong_word(&mut self) -> Option<&'static str> {
+        for (name, word) in WORDS {
+            if !self.word(*word) {
+                return Some(name);
+            }
+        }
+        None
+    }
+}
+
+fn first_wrong_word(alloc: Global) -> Result<Option<&'static str>, AllocError> {
+    let mut space = Region::new(alloc, 12)?;
+    space.fill(0, 12, 9);
+    let mut bench = Bench { space };
+    Ok(bench.first_wrong_word())
+}
+
+/// The first of a region's calls that isn't as it should be.
+fn first_wrong_of_region(alloc: Global) -> Result<Option<&'static str>, AllocError> {
+    if let Some(name) = first_wrong_line(alloc)? {
+        return Ok(Some(name));
+    }
+    if !region_is_changed(alloc)? {
+        return Ok(Some("a region is changed in place"));
+    }
+    first_wrong_word(alloc)
+}
+
 #[test]
-fn words_are_set_and_read(rt: HostRuntime) -> Result<(), Fail> {
-    let mut region = Region::new(rt.alloc(), 12)?;
-    region.fill(0, 12, 9);
-    region.set_word(4, 0x0403_0201);
-    assert_eq!(rt;
-        region.view(0, 12),
-        [9, 9, 9, 9, 1, 2, 3, 4, 9, 9, 9, 9].as_slice()
-    );
-    assert_eq!(rt; region.word_at(4), 0x0403_0201);
-    assert_eq!(rt; region.word_at(2), 0x0201_0909);
-    region.set_word(7, 0xffff_fffe);
-    assert_eq!(rt;
-        region.view(0, 12),
-        [9, 9, 9, 9, 1, 2, 3, 0xfe, 0xff, 0xff, 0xff, 9].as_slice()
-    );
-    assert_eq!(rt; region.word_at(7), 0xffff_fffe);
-    region.set_word(8, 0);
-    assert_eq!(rt; region.word_at(8), 0);
-    assert_eq!(rt; region.written(), 12);
+fn region_is_a_space_and_has_words(rt: HostRuntime) -> Result<(), Fail> {
+    let wrong = first_wrong_of_region(rt.alloc())?;
+    assert!(rt; wrong.is_none(), "{wrong:?}");
     Ok(())
 }

@@ -1,63 +1,57 @@
 //! The sample files, and what is to come of them, from outside this program.
+use super::bench::Checked;
 use w16_reloc::{Far, RelocFault};
-
-const EMPTY_HEADER: &str = "4d5a0000000000000000000000000000";
-
-const ZEROS: &str = "00000000000000000000000000000000";
-
-const PLACE: &str = "00000000000000000000000040000000";
 
 /// A library of two code segments. The first has a chain of far pointers at 1 and 6, and an offset at 0B that is added to, all of segment 2,
 /// offset 4.
-const LIBRARY_LINES: &[&str] = &[
-    EMPTY_HEADER,
-    ZEROS,
-    ZEROS,
-    PLACE,
-    "4e45050a67000e000000000000800000",
-    "00000000000000000000000002000000",
-    "050040005000500066006600b5000000",
-    "01000400000002000000000000000a03",
-    "0c001000501110000f00080010100800",
-    "04544c49420000044745544101000447",
-    "45544202000000010101000001ff01cd",
-    "3f020400000154000000000000000000",
-    "9a060000009affff0000b81000cb9090",
-    "0200030001000200040005040b000200",
-    "04000000000000000000000000000000",
-    "01020304cb909090",
-];
+const LIBRARY_FILE: &[u8] = b"\
+    \x4d\x5a\x00\x00\x00\x00\x00\x00\x00\x00\x00\x00\x00\x00\x00\x00\
+    \x00\x00\x00\x00\x00\x00\x00\x00\x00\x00\x00\x00\x00\x00\x00\x00\
+    \x00\x00\x00\x00\x00\x00\x00\x00\x00\x00\x00\x00\x00\x00\x00\x00\
+    \x00\x00\x00\x00\x00\x00\x00\x00\x00\x00\x00\x00\x40\x00\x00\x00\
+    \x4e\x45\x05\x0a\x67\x00\x0e\x00\x00\x00\x00\x00\x00\x80\x00\x00\
+    \x00\x00\x00\x00\x00\x00\x00\x00\x00\x00\x00\x00\x02\x00\x00\x00\
+    \x05\x00\x40\x00\x50\x00\x50\x00\x66\x00\x66\x00\xb5\x00\x00\x00\
+    \x01\x00\x04\x00\x00\x00\x02\x00\x00\x00\x00\x00\x00\x00\x0a\x03\
+    \x0c\x00\x10\x00\x50\x11\x10\x00\x0f\x00\x08\x00\x10\x10\x08\x00\
+    \x04\x54\x4c\x49\x42\x00\x00\x04\x47\x45\x54\x41\x01\x00\x04\x47\
+    \x45\x54\x42\x02\x00\x00\x00\x01\x01\x01\x00\x00\x01\xff\x01\xcd\
+    \x3f\x02\x04\x00\x00\x01\x54\x00\x00\x00\x00\x00\x00\x00\x00\x00\
+    \x9a\x06\x00\x00\x00\x9a\xff\xff\x00\x00\xb8\x10\x00\xcb\x90\x90\
+    \x02\x00\x03\x00\x01\x00\x02\x00\x04\x00\x05\x04\x0b\x00\x02\x00\
+    \x04\x00\x00\x00\x00\x00\x00\x00\x00\x00\x00\x00\x00\x00\x00\x00\
+    \x01\x02\x03\x04\xcb\x90\x90\x90";
 
 /// An application of one code segment, with the far pointers TLIB.1 at 1, TLIB.GETB at 6 and TLIB.9 at 0B.
-const APPLICATION_LINES: &[&str] = &[
-    EMPTY_HEADER,
-    ZEROS,
-    ZEROS,
-    PLACE,
-    "4e45050a5d0001000000000000000000",
-    "00000000000000000000000001000100",
-    "00004000480048005000520000000000",
-    "00000400000002000000000000000a03",
-    "0a001000501110000454415050000000",
-    "01000004544c49420447455442000000",
-    "9affff00009affff00009affff0000cb",
-    "03000301010001000100030206000100",
-    "060003010b0001000900",
-];
+const APPLICATION_FILE: &[u8] = b"\
+    \x4d\x5a\x00\x00\x00\x00\x00\x00\x00\x00\x00\x00\x00\x00\x00\x00\
+    \x00\x00\x00\x00\x00\x00\x00\x00\x00\x00\x00\x00\x00\x00\x00\x00\
+    \x00\x00\x00\x00\x00\x00\x00\x00\x00\x00\x00\x00\x00\x00\x00\x00\
+    \x00\x00\x00\x00\x00\x00\x00\x00\x00\x00\x00\x00\x40\x00\x00\x00\
+    \x4e\x45\x05\x0a\x5d\x00\x01\x00\x00\x00\x00\x00\x00\x00\x00\x00\
+    \x00\x00\x00\x00\x00\x00\x00\x00\x00\x00\x00\x00\x01\x00\x01\x00\
+    \x00\x00\x40\x00\x48\x00\x48\x00\x50\x00\x52\x00\x00\x00\x00\x00\
+    \x00\x00\x04\x00\x00\x00\x02\x00\x00\x00\x00\x00\x00\x00\x0a\x03\
+    \x0a\x00\x10\x00\x50\x11\x10\x00\x04\x54\x41\x50\x50\x00\x00\x00\
+    \x01\x00\x00\x04\x54\x4c\x49\x42\x04\x47\x45\x54\x42\x00\x00\x00\
+    \x9a\xff\xff\x00\x00\x9a\xff\xff\x00\x00\x9a\xff\xff\x00\x00\xcb\
+    \x03\x00\x03\x01\x01\x00\x01\x00\x01\x00\x03\x02\x06\x00\x01\x00\
+    \x06\x00\x03\x01\x0b\x00\x01\x00\x09\x00";
 
 /// A segment of a sample file, where its targets are, and its bytes with them.
 pub struct Sample {
-    pub lines: &'static [&'static str],
+    pub file: &'static [u8],
     /// How many segments the file has.
     pub segments: usize,
     pub segment: usize,
     pub targets: &'static [Far],
-    pub image: &'static str,
+    /// At most 16 bytes.
+    pub image: &'static [u8],
 }
 
 /// The library's first segment, whose targets are both in its second, at selector 010F.
-pub static LIBRARY: Sample = Sample {
-    lines: LIBRARY_LINES,
+static LIBRARY: Sample = Sample {
+    file: LIBRARY_FILE,
     segments: 2,
     segment: 1,
     targets: &[
@@ -70,21 +64,21 @@ pub static LIBRARY: Sample = Sample {
             offset: 4,
         },
     ],
-    image: "9a04000f019a04000f01b81400cb9090",
+    image: b"\x9a\x04\x00\x0f\x01\x9a\x04\x00\x0f\x01\xb8\x14\x00\xcb\x90\x90",
 };
 
 /// The library's second segment, which has no records.
-pub static LIBRARY_END: Sample = Sample {
-    lines: LIBRARY_LINES,
+static LIBRARY_END: Sample = Sample {
+    file: LIBRARY_FILE,
     segments: 2,
     segment: 2,
     targets: &[],
-    image: "01020304cb909090",
+    image: b"\x01\x02\x03\x04\xcb\x90\x90\x90",
 };
 
 /// The application's segment, with the library's at selectors 010F and 0117. The library has no ordinal 9.
 pub static APPLICATION: Sample = Sample {
-    lines: APPLICATION_LINES,
+    file: APPLICATION_FILE,
     segments: 1,
     segment: 1,
     targets: &[
@@ -101,22 +95,122 @@ pub static APPLICATION: Sample = Sample {
             offset: 0,
         },
     ],
-    image: "9a00000f019a040017019a00000000cb",
+    image: b"\x9a\x00\x00\x0f\x01\x9a\x04\x00\x17\x01\x9a\x00\x00\x00\x00\xcb",
 };
 
-/// A byte of the library changed, and what its first segment is then.
-pub static CHANGED: &[(usize, u8, Result<(), RelocFault>)] = &[
-    (0xd2, 0x0b, Err(RelocFault::BadRecord)),
-    (0xd6, 0x03, Err(RelocFault::BadRecord)),
-    (0xc1, 0x0d, Err(RelocFault::SiteOutside)),
-    (0xc1, 0x03, Err(RelocFault::Overlap)),
-    (0xdc, 0x05, Err(RelocFault::Overlap)),
-    (0xd2, 0x83, Ok(())),
-    (0xd3, 0x03, Ok(())),
+/// The segments by name.
+#[derive(Clone, Copy)]
+pub enum Which {
+    Library,
+    LibraryEnd,
+    Application,
+}
+
+pub fn sample_of(which: Which) -> &'static Sample {
+    match which {
+        Which::Library => &LIBRARY,
+        Which::LibraryEnd => &LIBRARY_END,
+        Which::Application => &APPLICATION,
+    }
+}
+
+/// What is wanted of a sample's segment.
+#[derive(Clone, Copy)]
+pub enum Wanted {
+    /// Nothing is in a scratch before the first check.
+    Nothing,
+    /// A check has this answer.
+    Answer(Checked),
+    /// The file has the sample's segments, a check finds nothing wrong, and the segment gets its bytes.
+    Image,
+}
+
+/// A sample, some of whose bytes are changed, and what is wanted of it then.
+pub struct Row {
+    pub name: &'static str,
+    pub sample: Which,
+    pub changes: &'static [(usize, u8)],
+    pub wanted: Wanted,
+}
+
+/// One after another with the same scratch.
+pub static ROWS: &[Row] = &[
+    Row {
+        name: "a new scratch is empty",
+        sample: Which::Library,
+        changes: &[],
+        wanted: Wanted::Nothing,
+    },
+    Row {
+        name: "the first segment of a library has its image",
+        sample: Which::Library,
+        changes: &[],
+        wanted: Wanted::Image,
+    },
+    Row {
+        name: "a segment without records is as in its file",
+        sample: Which::LibraryEnd,
+        changes: &[],
+        wanted: Wanted::Image,
+    },
+    Row {
+        name: "an application has its image",
+        sample: Which::Application,
+        changes: &[],
+        wanted: Wanted::Image,
+    },
+    Row {
+        name: "no part has this number",
+        sample: Which::Library,
+        changes: &[(0xd2, 0x0b)],
+        wanted: Wanted::Answer(Err(RelocFault::BadRecord)),
+    },
+    Row {
+        name: "a library has no such segment",
+        sample: Which::Library,
+        changes: &[(0xd6, 0x03)],
+        wanted: Wanted::Answer(Err(RelocFault::BadRecord)),
+    },
+    Row {
+        name: "a chain that leads out of the segment",
+        sample: Which::Library,
+        changes: &[(0xc1, 0x0d)],
+        wanted: Wanted::Answer(Err(RelocFault::SiteOutside)),
+    },
+    Row {
+        name: "a chain whose sites share bytes",
+        sample: Which::Library,
+        changes: &[(0xc1, 0x03)],
+        wanted: Wanted::Answer(Err(RelocFault::Overlap)),
+    },
+    Row {
+        name: "a site that shares bytes with another record's",
+        sample: Which::Library,
+        changes: &[(0xdc, 0x05)],
+        wanted: Wanted::Answer(Err(RelocFault::Overlap)),
+    },
+    Row {
+        name: "a bit of the part that no loader looks at",
+        sample: Which::Library,
+        changes: &[(0xd2, 0x83)],
+        wanted: Wanted::Answer(Ok(())),
+    },
+    Row {
+        name: "a fixup of the system's needs no target",
+        sample: Which::Library,
+        changes: &[(0xd3, 0x03)],
+        wanted: Wanted::Answer(Ok(())),
+    },
+    Row {
+        name: "a chain that leads back to its first site",
+        sample: Which::Library,
+        changes: &[(0xc6, 0x01), (0xc7, 0x00)],
+        wanted: Wanted::Answer(Err(RelocFault::Overlap)),
+    },
+    Row {
+        name: "a bit that no loader looks at leaves the image",
+        sample: Which::Library,
+        changes: &[(0xd2, 0x83)],
+        wanted: Wanted::Image,
+    },
 ];
-
-/// A bit that no loader looks at, set in the library's first record.
-pub static IGNORED_BIT: [(usize, u8); 1] = [(0xd2, 0x83)];
-
-/// A chain of the library's first segment, led back to its first site.
-pub static RETURNING_CHAIN: [(usize, u8); 2] = [(0xc6, 1), (0xc7, 0)];

@@ -1,10 +1,5 @@
 //! Each part of a far pointer, stored over a chain and added at one site.
-use super::bytes_of;
-use std::alloc::Global;
-use std::test::Fail;
 use w16_reloc::{Far, Fixup, Part, Record, Target, apply};
-
-const TARGET: Target = Target::Entry { ordinal: 1 };
 
 /// The far pointer 1234:FE80.
 const FAR: Far = Far {
@@ -12,54 +7,91 @@ const FAR: Far = Far {
     offset: 0xfe80,
 };
 
-/// The bytes of a segment, whether the value is added, the part and its offset, and the bytes afterwards.
-static ROWS: &[(&str, bool, Part, u16, &str)] = &[
-    ("0300aaffffaa", false, Part::LowByte, 0, "8000aa80ffaa"),
-    ("0300aaffffaa", false, Part::Offset, 0, "80feaa80feaa"),
-    ("0300aaffffaa", false, Part::Selector, 0, "3412aa3412aa"),
-    ("aaffff0000aa", false, Part::Pointer, 1, "aa80fe3412aa"),
-    ("aaffff0000aa", false, Part::Pointer, 0xffff, "aaffff0000aa"),
-    ("aa0000000090", true, Part::LowByte, 5, "aa0000000010"),
-    ("aa90010000aa", true, Part::Offset, 1, "aa10000000aa"),
-    ("aa90010000aa", true, Part::Selector, 1, "aa34120000aa"),
-    ("aa90010000aa", true, Part::Pointer, 1, "aa10003412aa"),
+/// A record of one fixup, whose value is added or stored.
+macro_rules! fixup {
+    ($way:ident, $part:ident, $offset:expr) => {
+        Record::$way(Fixup {
+            part: Part::$part,
+            offset: $offset,
+            target: Target::Entry { ordinal: 1 },
+        })
+    };
+}
+
+/// What is shown, the bytes of a segment, its record, and the bytes afterwards.
+static ROWS: &[(&str, [u8; 6], Record, [u8; 6])] = &[
+    (
+        "the low byte is stored over a chain",
+        [0x03, 0x00, 0xaa, 0xff, 0xff, 0xaa],
+        fixup!(Stored, LowByte, 0),
+        [0x80, 0x00, 0xaa, 0x80, 0xff, 0xaa],
+    ),
+    (
+        "the offset is stored over a chain",
+        [0x03, 0x00, 0xaa, 0xff, 0xff, 0xaa],
+        fixup!(Stored, Offset, 0),
+        [0x80, 0xfe, 0xaa, 0x80, 0xfe, 0xaa],
+    ),
+    (
+        "the selector is stored over a chain",
+        [0x03, 0x00, 0xaa, 0xff, 0xff, 0xaa],
+        fixup!(Stored, Selector, 0),
+        [0x34, 0x12, 0xaa, 0x34, 0x12, 0xaa],
+    ),
+    (
+        "the pointer is stored at one site",
+        [0xaa, 0xff, 0xff, 0x00, 0x00, 0xaa],
+        fixup!(Stored, Pointer, 1),
+        [0xaa, 0x80, 0xfe, 0x34, 0x12, 0xaa],
+    ),
+    (
+        "nothing is stored over an empty chain",
+        [0xaa, 0xff, 0xff, 0x00, 0x00, 0xaa],
+        fixup!(Stored, Pointer, 0xffff),
+        [0xaa, 0xff, 0xff, 0x00, 0x00, 0xaa],
+    ),
+    (
+        "the low byte is added",
+        [0xaa, 0x00, 0x00, 0x00, 0x00, 0x90],
+        fixup!(Added, LowByte, 5),
+        [0xaa, 0x00, 0x00, 0x00, 0x00, 0x10],
+    ),
+    (
+        "the offset is added",
+        [0xaa, 0x90, 0x01, 0x00, 0x00, 0xaa],
+        fixup!(Added, Offset, 1),
+        [0xaa, 0x10, 0x00, 0x00, 0x00, 0xaa],
+    ),
+    (
+        "the selector is set where it would be added",
+        [0xaa, 0x90, 0x01, 0x00, 0x00, 0xaa],
+        fixup!(Added, Selector, 1),
+        [0xaa, 0x34, 0x12, 0x00, 0x00, 0xaa],
+    ),
+    (
+        "the offset of a pointer is added, and its selector set",
+        [0xaa, 0x90, 0x01, 0x00, 0x00, 0xaa],
+        fixup!(Added, Pointer, 1),
+        [0xaa, 0x10, 0x00, 0x34, 0x12, 0xaa],
+    ),
+    (
+        "a fixup of the system's is not applied",
+        [0xaa, 0xff, 0xff, 0x00, 0x00, 0xaa],
+        Record::System,
+        [0xaa, 0xff, 0xff, 0x00, 0x00, 0xaa],
+    ),
 ];
 
 /// Whether a segment of these bytes has those afterwards.
-fn is_written(alloc: Global, before: &str, record: Record, after: &str) -> Result<bool, Fail> {
-    let mut bytes = bytes_of(alloc, &[before])?;
-    apply(bytes.as_mut_slice(), &[record], &[FAR]);
-    Ok(bytes.as_slice() == bytes_of(alloc, &[after])?.as_slice())
-}
-
-/// A record of one fixup, whose value is added or stored.
-fn record_of(added: bool, part: Part, offset: u16) -> Record {
-    let fixup = Fixup {
-        part,
-        offset,
-        target: TARGET,
-    };
-    if added {
-        Record::Added(fixup)
-    } else {
-        Record::Stored(fixup)
-    }
+fn is_written(before: &[u8; 6], record: Record, after: &[u8; 6]) -> bool {
+    let mut bytes = *before;
+    apply(&mut bytes, &[record], &[FAR]);
+    bytes == *after
 }
 
 #[test]
-fn parts_are_written(rt: HostRuntime) -> Result<(), Fail> {
-    for (before, added, part, offset, after) in ROWS {
-        let record = record_of(*added, *part, *offset);
-        assert!(rt;
-            is_written(rt.alloc(), before, record, after)?,
-            "{before}, {part:?}, {added}"
-        );
+fn parts_are_written(rt: HostRuntime) {
+    for (name, before, record, after) in ROWS {
+        assert!(rt; is_written(before, *record, after), "{name}");
     }
-    Ok(())
-}
-
-#[test]
-fn system_fixups_are_not_applied(rt: HostRuntime) -> Result<(), Fail> {
-    assert!(rt; is_written(rt.alloc(), "aaffff0000aa", Record::System, "aaffff0000aa")?);
-    Ok(())
 }

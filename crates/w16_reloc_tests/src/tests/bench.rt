@@ -1,0 +1,185 @@
+//! A sample file in a store that may lie, and a scratch for checks of its segments.
+use super::answers::{APPLICATION, Row, Sample, Wanted, sample_of};
+use std::alloc::Global;
+use std::marker::Model;
+use std::test::Fail;
+use w16_ne::{Module, read_module};
+use w16_reloc::{RelocFault, Scratch, apply, check};
+use w16_store::{MemStore, Store, StoreFault};
+
+/// What a check answers.
+pub type Checked = Result<(), RelocFault>;
+
+/// What a lie is: each byte is this, or this fault.
+pub type Lie = Result<u8, StoreFault>;
+
+/// At which of its reads a store lies.
+#[derive(Clone, Copy)]
+pub enum When {
+    Never,
+    Always,
+    /// At the read of this number, from 1.
+    Read(u32),
+}
+
+/// A store in memory that lies at some of its reads.
+#[derive(Drop)]
+struct Liar {
+    inner: MemStore,
+    lie: Lie,
+    when: When,
+    reads: u32,
+}
+
+impl Liar {
+    /// Counts its reads from here on, and lies at those.
+    fn begin(&mut self, lie: Lie, when: When) {
+        self.lie = lie;
+        self.when = when;
+        self.reads = 0;
+    }
+
+    /// Whether the read that is counted last is one where it lies.
+    fn lies(&self) -> bool {
+        match self.when {
+            When::Never => false,
+            When::Always => true,
+            When::Read(read) => self.reads == read,
+        }
+    }
+}
+
+impl Store for Liar {
+    ghost files = { λ s. s.inner };
+
+    ghost failures = { λ _. 0 };
+
+    ghost is_honest = { ⊥ };
+
+    fn read_at(&mut self, name: &[u8], at: u64, buf: &mut [u8]) -> Result<(), StoreFault> {
+        self.reads = self.reads.saturating_add(1);
+        if !self.lies() {
+            return self.inner.read_at(name, at, buf);
+        }
+        buf.fill(self.lie?);
+        Ok(())
+    }
+
+    fn len_of(&mut self, name: &[u8]) -> Result<u64, StoreFault> {
+        self.inner.len_of(name)
+    }
+}
+
+/// A store with these bytes as its file, some of them changed.
+fn store_of(alloc: Global, file: &[u8], changes: &[(usize, u8)]) -> Result<MemStore, Fail> {
+    let mut bytes = Vec::from_slice(alloc, file)?;
+    for (at, byte) in changes {
+        *bytes.get_mut(*at).ok_or("no such byte")? = *byte;
+    }
+    let mut store = MemStore::new(alloc);
+    store.add(b"FILE", bytes.as_slice())?;
+    Ok(store)
+}
+
+/// A file in a store that tells the truth at first, and what it says.
+#[derive(Drop)]
+struct Opened {
+    store: Liar,
+    module: Module,
+}
+
+impl Opened {
+    fn new(alloc: Global, file: &[u8], changes: &[(usize, u8)]) -> Result<Opened, Fail> {
+        let mut inner = store_of(alloc, file, changes)?;
+        let module = read_module(alloc, &mut inner, b"FILE")?;
+        let store = Liar {
+            inner,
+            lie: Ok(0),
+            when: When::Never,
+            reads: 0,
+        };
+        Ok(Opened { store, module })
+    }
+}
+
+/// A file, and a scratch that serves one file after another.
+///
+/// To a proof it has no value: what a check promises is used where a method makes it, and no loop carries it.
+#[derive(Drop)]
+pub struct Bench {
+    opened: Opened,
+    scratch: Scratch,
+}
+
+impl Model for Bench {
+    ghost use Rattle.std.specs.Prelude.{ℕ};
+
+    ghost Value = { ℕ };
+
+    ghost view = { λ _. 0 };
+}
+
+impl Bench {
+    /// The application, and a scratch that has not served yet.
+    pub fn new(alloc: Global) -> Result<Bench, Fail> {
+        let opened = Opened::new(alloc, APPLICATION.file, &[])?;
+        let scratch = Scratch::new(alloc)?;
+        Ok(Bench { opened, scratch })
+    }
+
+    /// What a check of a segment answers; None where the file has no such segment.
+    fn check(&mut self, segment: usize) -> Option<Checked> {
+        let Opened { store, module } = &mut self.opened;
+        if segment == 0 || module.segment_count() < segment {
+            return None;
+        }
+        Some(check(store, b"FILE", module, segment, &mut self.scratch))
+    }
+
+    /// Whether what the scratch holds, relocated with a sample's targets, has its bytes.
+    fn has_image(&self, sample: &Sample) -> bool {
+        let (found, records) = (self.scratch.bytes(), self.scratch.records());
+        let mut room = [0u8; 16];
+        if found.len() > room.len() || records.len() != sample.targets.len() {
+            return false;
+        }
+        let bytes = &mut room[..found.len()];
+        bytes.copy_from_slice(found);
+        apply(bytes, records, sample.targets);
+        &*bytes == sample.image
+    }
+
+    /// Whether the file has the sample's segments, and the one that it tells of is sound and has its bytes.
+    fn is_relocated(&mut self, sample: &Sample) -> bool {
+        self.opened.module.segment_count() == sample.segments
+            && self.check(sample.segment) == Some(Ok(()))
+            && self.has_image(sample)
+    }
+
+    /// Takes another sample's file, some of its bytes changed, in place of the one before.
+    pub fn open(&mut self, alloc: Global, row: &Row) -> Result<(), Fail> {
+        let sample = sample_of(row.sample);
+        self.opened = Opened::new(alloc, sample.file, row.changes)?;
+        Ok(())
+    }
+
+    /// Whether the row's sample that was opened is as it is wanted. The scratch is the one of the rows before.
+    pub fn is_as_wanted(&mut self, row: &Row) -> bool {
+        let sample = sample_of(row.sample);
+        match row.wanted {
+            Wanted::Nothing => {
+                self.scratch.bytes().is_empty() && self.scratch.records().is_empty()
+            }
+            Wanted::Answer(answer) => self.check(sample.segment) == Some(answer),
+            Wanted::Image => self.is_relocated(sample),
+        }
+    }
+
+    /// Whether a check of the application answers a lie with this, and the scratch serves the honest store afterwards.
+    pub fn is_answered(&mut self, lie: Lie, when: When, wanted: Checked) -> bool {
+        self.opened.store.begin(lie, when);
+        let answer = self.check(1);
+        self.opened.store.begin(lie, When::Never);
+        answer == Some(wanted) && self.is_relocated(&APPLICATION)
+    }
+}

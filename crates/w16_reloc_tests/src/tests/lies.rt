@@ -1,0 +1,105 @@
+//! Stores that fail, or don't tell what their files are.
+use super::bench::{Bench, Checked, Lie, When};
+use std::alloc::Global;
+use std::test::Fail;
+use w16_reloc::RelocFault;
+use w16_store::StoreFault;
+
+const CUT_OFF: Lie = Err(StoreFault::Short);
+
+const GONE: Lie = Err(StoreFault::Missing);
+
+const BROKEN: Lie = Err(StoreFault::Device);
+
+const SHORT: Checked = Err(RelocFault::Store(StoreFault::Short));
+
+const MISSING: Checked = Err(RelocFault::Store(StoreFault::Missing));
+
+const FAILED: Checked = Err(RelocFault::Store(StoreFault::Device));
+
+const BAD: Checked = Err(RelocFault::BadRecord);
+
+const OVERLAP: Checked = Err(RelocFault::Overlap);
+
+/// What is said of the file, how, at which read, and what a check of the application's segment answers then.
+type Told = (&'static str, Lie, u32, Checked);
+
+/// A check reads the data, the count, the records, and of the one imported name its length and its last byte.
+static LIES: &[Told] = &[
+    ("the data are cut off", CUT_OFF, 1, SHORT),
+    ("the count is cut off", CUT_OFF, 2, SHORT),
+    ("the records are cut off", CUT_OFF, 3, SHORT),
+    ("the name's length is cut off", CUT_OFF, 4, BAD),
+    ("the name's end is cut off", CUT_OFF, 5, BAD),
+    ("the file is gone before the data", GONE, 1, MISSING),
+    ("the file is gone before the count", GONE, 2, MISSING),
+    ("the file is gone before the records", GONE, 3, MISSING),
+    (
+        "the file is gone before the name's length",
+        GONE,
+        4,
+        MISSING,
+    ),
+    ("the file is gone before the name's end", GONE, 5, MISSING),
+    ("the device fails at the data", BROKEN, 1, FAILED),
+    ("the device fails at the count", BROKEN, 2, FAILED),
+    ("the device fails at the records", BROKEN, 3, FAILED),
+    ("the device fails at the name's length", BROKEN, 4, FAILED),
+    ("the device fails at the name's end", BROKEN, 5, FAILED),
+    ("no sixth read is made", BROKEN, 6, Ok(())),
+    ("the data are zeros", Ok(0), 1, OVERLAP),
+    ("the count is zero", Ok(0), 2, Ok(())),
+    ("the records are zeros", Ok(0), 3, BAD),
+    ("the name's length is zero", Ok(0), 4, Ok(())),
+    ("the name's end is zero", Ok(0), 5, Ok(())),
+    ("the data are all FF", Ok(0xff), 1, Ok(())),
+    ("the count is FFFF", Ok(0xff), 2, SHORT),
+    ("the records are all FF", Ok(0xff), 3, Ok(())),
+    ("the name's length is FF", Ok(0xff), 4, BAD),
+    ("the name's end is FF", Ok(0xff), 5, Ok(())),
+];
+
+/// The first lie that isn't answered as it should be.
+fn first_wrong(bench: &mut Bench) -> Option<&'static str> {
+    for (name, lie, read, wanted) in LIES {
+        if !bench.is_answered(*lie, When::Read(*read), *wanted) {
+            return Some(name);
+        }
+    }
+    None
+}
+
+/// What is answered where each byte that is read is this one, so that the records are all the same too: none, or fixups of the system's, or
+/// none of them is well formed.
+fn answer_to(byte: u8) -> Checked {
+    if byte == 0 || byte & 3 == 3 {
+        Ok(())
+    } else {
+        BAD
+    }
+}
+
+/// The first byte whose lie at every read isn't answered as it should be.
+fn first_wrong_byte(bench: &mut Bench) -> Option<u8> {
+    for byte in 0..=255u8 {
+        if !bench.is_answered(Ok(byte), When::Always, answer_to(byte)) {
+            return Some(byte);
+        }
+    }
+    None
+}
+
+fn wrong_lie_and_byte(alloc: Global) -> Result<(Option<&'static str>, Option<u8>), Fail> {
+    let mut bench = Bench::new(alloc)?;
+    Ok((first_wrong(&mut bench), first_wrong_byte(&mut bench)))
+}
+
+#[test]
+fn lies_are_answered(rt: HostRuntime) -> Result<(), Fail> {
+    let (lie, byte) = wrong_lie_and_byte(rt.alloc())?;
+    assert!(rt;
+        lie.is_none() && byte.is_none(),
+        "{lie:?}, all bytes {byte:?}"
+    );
+    Ok(())
+}
