@@ -2,7 +2,6 @@
 use w16_script::RunFault;
 
 /// A script on a new machine, what is printed, and how it ends.
-#[derive(Debug, Clone, Copy, Drop)]
 pub struct Row {
     pub name: &'static str,
     /// Bytes of the global heap.
@@ -24,7 +23,7 @@ pub const LIFE: &[u8] =
 pub const LIFE_OUTPUT: &[u8] = b"0106\n01070000\nok\nbytes 4e450000\n0000\n0000\n";
 
 /// Rows on lines: silent, bad and too long.
-pub const OF_LINES: &[Row] = &[
+static OF_LINES: &[Row] = &[
     Row {
         name: "an empty script",
         memory: 4096,
@@ -64,7 +63,7 @@ pub const OF_LINES: &[Row] = &[
 ];
 
 /// Rows on objects and the memory that they have.
-pub const OF_MEMORY: &[Row] = &[
+static OF_MEMORY: &[Row] = &[
     Row {
         name: "the whole memory",
         memory: 4096,
@@ -95,7 +94,7 @@ pub const OF_MEMORY: &[Row] = &[
 ];
 
 /// Rows on the bytes of objects.
-pub const OF_BYTES: &[Row] = &[
+static OF_BYTES: &[Row] = &[
     Row {
         name: "far reads and their faults",
         memory: 4096,
@@ -126,7 +125,7 @@ pub const OF_BYTES: &[Row] = &[
 ];
 
 /// Rows on objects that slide.
-pub const OF_COMPACTION: &[Row] = &[
+static OF_COMPACTION: &[Row] = &[
     Row {
         name: "an object slides",
         memory: 128,
@@ -166,7 +165,7 @@ pub const OF_COMPACTION: &[Row] = &[
 ];
 
 /// Rows on discards, and the order in which they come.
-pub const OF_ORDER: &[Row] = &[
+static OF_ORDER: &[Row] = &[
     Row {
         name: "the one not used for longest is discarded",
         memory: 96,
@@ -197,7 +196,7 @@ pub const OF_ORDER: &[Row] = &[
 ];
 
 /// Rows on objects that get another size or kind.
-pub const OF_REALLOCATION: &[Row] = &[
+static OF_REALLOCATION: &[Row] = &[
     Row {
         name: "a discarded object gets bytes again",
         memory: 4096,
@@ -264,7 +263,7 @@ pub const OF_REALLOCATION: &[Row] = &[
 ];
 
 /// Rows on local heaps, and the segments that they lie in.
-pub const OF_LOCAL_HEAPS: &[Row] = &[
+static OF_LOCAL_HEAPS: &[Row] = &[
     Row {
         name: "local objects slide, and their segment too",
         memory: 256,
@@ -331,7 +330,7 @@ pub const OF_LOCAL_HEAPS: &[Row] = &[
 ];
 
 /// Rows on what objects and selectors are asked.
-pub const OF_QUESTIONS: &[Row] = &[
+static OF_QUESTIONS: &[Row] = &[
     Row {
         name: "a moveable object is asked for",
         memory: 4096,
@@ -380,7 +379,7 @@ pub const OF_QUESTIONS: &[Row] = &[
 ];
 
 /// Rows on registers.
-pub const OF_REGISTERS: &[Row] = &[
+static OF_REGISTERS: &[Row] = &[
     Row {
         name: "one object's life by registers",
         memory: 4096,
@@ -411,7 +410,7 @@ pub const OF_REGISTERS: &[Row] = &[
 ];
 
 /// Rows on one object's life.
-pub const OF_OBJECTS: &[Row] = &[
+static OF_OBJECTS: &[Row] = &[
     Row {
         name: "one object's life",
         memory: 4096,
@@ -449,3 +448,19 @@ pub const OF_OBJECTS: &[Row] = &[
         ended: Ok((6, 6)),
     },
 ];
+
+/// All rows, by what they are on. Only this function names the tables, so that a proof meets their contents once.
+pub fn tables() -> [&'static [Row]; 10] {
+    [
+        OF_LINES,
+        OF_MEMORY,
+        OF_BYTES,
+        OF_OBJECTS,
+        OF_COMPACTION,
+        OF_ORDER,
+        OF_REALLOCATION,
+        OF_LOCAL_HEAPS,
+        OF_QUESTIONS,
+        OF_REGISTERS,
+    ]
+}

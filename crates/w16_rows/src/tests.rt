@@ -2,10 +2,7 @@ ghost use Rattle.std.specs.Prelude.{All};
 ghost use Rattle.w16_kernel.specs.Runs.{IsCall};
 
 use crate::hosts::{Broken, Endless, Short};
-use crate::rows::{
-    LIFE, LIFE_OUTPUT, OF_BYTES, OF_COMPACTION, OF_LINES, OF_LOCAL_HEAPS, OF_MEMORY, OF_OBJECTS,
-    OF_ORDER, OF_QUESTIONS, OF_REALLOCATION, OF_REGISTERS, Row,
-};
+use crate::rows::{LIFE, LIFE_OUTPUT, Row, tables};
 use arrayvec::ArrayVec;
 use std::alloc::{AllocError, Global};
 use std::io::{Read, Write};
@@ -69,7 +66,7 @@ fn expect_answered(rt: &(impl Abort + AllocGlobal), row: &Row) -> Result<(), All
 }
 
 /// Plays rows, and compares.
-fn expect_all(rt: &(impl Abort + AllocGlobal), rows: &[Row]) -> Result<(), Fail> {
+fn expect_all(rt: &(impl Abort + AllocGlobal), rows: &[Row]) -> Result<(), AllocError> {
     for row in rows {
         expect_answered(rt, row)?;
     }
@@ -77,48 +74,11 @@ fn expect_all(rt: &(impl Abort + AllocGlobal), rows: &[Row]) -> Result<(), Fail>
 }
 
 #[test]
-fn lines_are_answered(rt: HostRuntime) -> Result<(), Fail> {
-    expect_all(&rt, OF_LINES)
-}
-
-#[test]
-fn memory_is_answered_for(rt: HostRuntime) -> Result<(), Fail> {
-    expect_all(&rt, OF_MEMORY)
-}
-
-#[test]
-fn bytes_are_answered(rt: HostRuntime) -> Result<(), Fail> {
-    expect_all(&rt, OF_BYTES)
-}
-
-#[test]
-fn objects_are_answered_for(rt: HostRuntime) -> Result<(), Fail> {
-    expect_all(&rt, OF_OBJECTS)
-}
-
-#[test]
-fn compaction_is_answered_for(rt: HostRuntime) -> Result<(), Fail> {
-    expect_all(&rt, OF_COMPACTION)
-}
-
-#[test]
-fn the_order_is_answered_for(rt: HostRuntime) -> Result<(), Fail> {
-    expect_all(&rt, OF_ORDER)
-}
-
-#[test]
-fn reallocation_is_answered_for(rt: HostRuntime) -> Result<(), Fail> {
-    expect_all(&rt, OF_REALLOCATION)
-}
-
-#[test]
-fn local_heaps_are_answered_for(rt: HostRuntime) -> Result<(), Fail> {
-    expect_all(&rt, OF_LOCAL_HEAPS)
-}
-
-#[test]
-fn questions_are_answered(rt: HostRuntime) -> Result<(), Fail> {
-    expect_all(&rt, OF_QUESTIONS)
+fn rows_are_answered(rt: HostRuntime) -> Result<(), Fail> {
+    for rows in tables() {
+        expect_all(&rt, rows)?;
+    }
+    Ok(())
 }
 
 /// A text, so many times.
@@ -175,11 +135,6 @@ fn locks_up_to_the_full_count(rt: HostRuntime) -> Result<(), Fail> {
     let prints = ends(rt.alloc(), &mut script.as_slice(), None, &wanted)?;
     assert!(rt; prints);
     Ok(())
-}
-
-#[test]
-fn registers_are_answered_for(rt: HostRuntime) -> Result<(), Fail> {
-    expect_all(&rt, OF_REGISTERS)
 }
 
 /// One object's life as calls.

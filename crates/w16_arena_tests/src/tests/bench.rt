@@ -7,13 +7,13 @@ use std::marker::Model;
 use std::process::Abort;
 use w16_arena::{Arena, Compacted, NoRoom, Placed};
 use w16_holes::SideHoles;
-use w16_model::{Block, Entry, Item, Kind, Refusal, Way};
+use w16_model::{Block, Entry, Item, Kind, Refusal, Snapshot, Way};
 use w16_region::{Region, Space};
 
 /// How many ids there are.
 const IDS: u32 = 6;
 
-/// One call of an arena.
+/// One call of an arena, or a look at it or at its memory.
 #[derive(Clone, Copy)]
 pub(super) enum Step {
     Enter(u32, Kind),
@@ -34,6 +34,28 @@ pub(super) enum Step {
     Modify(u32, Kind),
     Compact(u32),
     RoomAll,
+    /// One byte over a part of the memory.
+    Fill(u32, u32, u8),
+    /// One byte over an object's bytes, as they are lent to be written.
+    FillObject(u32, u8),
+    /// Whether a part of the memory has this one byte alone.
+    IsFilled(u32, u32, u8),
+    /// Whether an object has bytes, all of them this one.
+    HasOnly(u32, u8),
+    /// How many bytes an object has, if it has any.
+    Size(u32),
+    /// What is known of an id.
+    Entry(u32),
+    /// An id's block.
+    Block(u32),
+    /// The lowest block at an address or behind it.
+    NextBlock(u32),
+    /// What stands at an address or behind it.
+    WalkFrom(u32),
+    /// The item of a number.
+    Walk(usize),
+    /// How many bytes were written.
+    Written,
 }
 
 /// What it answers.
@@ -45,6 +67,12 @@ pub(super) enum Answer {
     Placed(Placed),
     Compacted(Compacted),
     Room(u32),
+    Is(bool),
+    Size(Option<usize>),
+    Entry(Option<Entry>),
+    Block(Option<Block>),
+    Item(Option<Item>),
+    Written(u64),
 }
 
 /// Whether a call was refused, and why.
@@ -52,6 +80,14 @@ fn told(done: Result<(), Refusal>) -> Answer {
     match done {
         Ok(()) => Answer::Done,
         Err(refusal) => Answer::Refused(refusal),
+    }
+}
+
+/// Where a request's bytes stand, or that there is no room.
+fn placed(done: Result<Placed, NoRoom>) -> Answer {
+    match done {
+        Ok(placed) => Answer::Placed(placed),
+        Err(NoRoom) => Answer::NoRoom,
     }
 }
 
@@ -70,12 +106,18 @@ fn is_size(grain: u32, size: u32) -> bool
     0 < size && 0 < grain && is_multiple(grain, size)
 }
 
+/// Calls, and the heap that they leave.
+pub(super) struct Heap {
+    pub steps: &'static [Step],
+    pub left: Snapshot<'static>,
+}
+
 /// A heap as it stands: its walk, the order of use, what is known of each id, and how many bytes were written.
-#[derive(Drop, PartialEq, Eq)]
+#[derive(Clone, Copy, PartialEq, Eq)]
 pub(super) struct Seen {
-    pub items: Vec<Item>,
-    pub order: Vec<u32>,
-    entries: Vec<Option<Entry>>,
+    items: [Option<Item>; 20],
+    order: [Option<u32>; 6],
+    entries: [Option<Entry>; 6],
     written: u64,
 }
 
@@ -125,13 +167,28 @@ impl Bench {
             Step::Enter(id, kind) => self.enter(rt, id, kind),
             Step::Alloc(id, size, kind, way) => self.alloc(rt, id, size, kind, way),
             Step::Realloc(id, size, way) => self.realloc(rt, id, size, way),
-            Step::Free(id) => self.free(rt, id),
-            Step::Release(id) => self.release(rt, id),
-            Step::Discard(id) => self.discard(rt, id),
-            Step::Compact(n) => self.compact(rt, n),
-            Step::RoomAll => self.room_all(),
             Step::Locks(id) => self.repeat(Step::Lock(id)),
             Step::Unlocks(id) => self.repeat(Step::Unlock(id)),
+            Step::Fill(at, n, byte) => self.fill(rt, at, n, byte),
+            Step::FillObject(id, byte) => self.fill_object(rt, id, byte),
+            Step::IsFilled(at, n, byte) => Answer::Is(self.is_filled(rt, at, n, byte)),
+            Step::HasOnly(id, byte) => Answer::Is(self.has_only(rt, id, byte)),
+            Step::Size(id) => Answer::Size(self.size(rt, id)),
+            _ => self.change(rt, step),
+        }
+    }
+
+    /// A call that may change the memory.
+    fn change(&mut self, rt: &impl Abort, step: Step) -> Answer {
+        assert!(rt; self.arena.bounds().to <= self.region.len());
+        match step {
+            Step::Free(id) => told(self.arena.free(&mut self.region, id)),
+            Step::Discard(id) => told(self.arena.discard(&mut self.region, id)),
+            Step::Compact(n) => Answer::Compacted(self.arena.compact(&mut self.region, n)),
+            Step::Release(id) => {
+                self.arena.release(&mut self.region, id);
+                Answer::Done
+            }
             _ => self.mark(step),
         }
     }
@@ -148,6 +205,20 @@ impl Bench {
                 self.arena.touch(id);
                 Answer::Done
             }
+            Step::RoomAll => Answer::Room(self.arena.room_all(&self.region)),
+            _ => self.tell(step),
+        }
+    }
+
+    /// A look, which changes nothing.
+    fn tell(&self, step: Step) -> Answer {
+        match step {
+            Step::Entry(id) => Answer::Entry(self.arena.entry(id)),
+            Step::Block(id) => Answer::Block(self.arena.block(id)),
+            Step::NextBlock(from) => Answer::Block(self.next_block(from)),
+            Step::WalkFrom(from) => Answer::Item(self.walk_from(from)),
+            Step::Walk(i) => Answer::Item(self.arena.walk(&self.region, i)),
+            Step::Written => Answer::Written(self.region.written()),
             _ => Answer::NoRoom,
         }
     }
@@ -172,167 +243,36 @@ impl Bench {
     fn alloc(&mut self, rt: &impl Abort, id: u32, size: u32, kind: Kind, way: Way) -> Answer {
         let grain = self.arena.grain();
         assert!(rt; id < self.arena.cap() && self.arena.block(id).is_none());
-        assert!(rt; is_size(grain, size));
-        assert!(rt; self.arena.bounds().to <= self.region.len());
-        match self.arena.alloc(&mut self.region, id, size, kind, way) {
-            Ok(placed) => Answer::Placed(placed),
-            Err(NoRoom) => Answer::NoRoom,
-        }
+        assert!(rt; is_size(grain, size) && self.arena.bounds().to <= self.region.len());
+        placed(self.arena.alloc(&mut self.region, id, size, kind, way))
     }
 
     fn realloc(&mut self, rt: &impl Abort, id: u32, size: u32, way: Way) -> Answer {
         let grain = self.arena.grain();
-        assert!(rt; self.arena.entry(id).is_some());
-        assert!(rt; is_size(grain, size));
+        assert!(rt; self.arena.entry(id).is_some() && is_size(grain, size));
         assert!(rt; self.arena.bounds().to <= self.region.len());
-        match self.arena.realloc(&mut self.region, id, size, way) {
-            Ok(placed) => Answer::Placed(placed),
-            Err(NoRoom) => Answer::NoRoom,
-        }
+        placed(self.arena.realloc(&mut self.region, id, size, way))
     }
 
-    fn free(&mut self, rt: &impl Abort, id: u32) -> Answer {
-        assert!(rt; self.arena.bounds().to <= self.region.len());
-        told(self.arena.free(&mut self.region, id))
-    }
-
-    fn release(&mut self, rt: &impl Abort, id: u32) -> Answer {
-        assert!(rt; self.arena.bounds().to <= self.region.len());
-        self.arena.release(&mut self.region, id);
+    fn fill(&mut self, rt: &impl Abort, at: u32, n: u32, byte: u8) -> Answer {
+        assert!(rt; at <= self.region.len() && n <= self.region.len() - at);
+        self.region.fill(at, n, byte);
         Answer::Done
     }
 
-    fn discard(&mut self, rt: &impl Abort, id: u32) -> Answer {
+    fn fill_object(&mut self, rt: &impl Abort, id: u32, byte: u8) -> Answer {
+        let block = self.arena.block(id).expect(rt, "a block");
         assert!(rt; self.arena.bounds().to <= self.region.len());
-        told(self.arena.discard(&mut self.region, id))
+        Arena::bytes_mut(&mut self.region, &self.arena, block).fill(byte);
+        Answer::Done
     }
 
-    fn compact(&mut self, rt: &impl Abort, n: u32) -> Answer {
-        assert!(rt; self.arena.bounds().to <= self.region.len());
-        Answer::Compacted(self.arena.compact(&mut self.region, n))
-    }
-
-    fn room_all(&mut self) -> Answer {
-        Answer::Room(self.arena.room_all(&self.region))
-    }
-
-    /// What is known of an id.
-    pub fn entry(&self, id: u32) -> Option<Entry> {
-        self.arena.entry(id)
-    }
-
-    /// An id's block.
-    pub fn block(&self, id: u32) -> Option<Block> {
-        self.arena.block(id)
-    }
-
-    /// The lowest block at an address or behind it.
-    pub fn next_block(&self, from: u32) -> Option<Block> {
-        self.arena.next_block(&self.region, from)
-    }
-
-    /// What stands at an address or behind it.
-    pub fn walk_from(&self, from: u32) -> Option<Item> {
-        self.arena.walk_from(&self.region, from)
-    }
-
-    /// The item of a number.
-    pub fn walk(&self, i: usize) -> Option<Item> {
-        self.arena.walk(&self.region, i)
-    }
-
-    /// Whether the last request discarded just these, in this order.
-    pub fn has_discarded(&self, ids: &[u32]) -> bool {
-        self.arena.discarded() == ids
-    }
-
-    /// How many bytes were written.
-    pub fn written(&self) -> u64 {
-        self.region.written()
-    }
-
-    /// An object's place in the order of use, the oldest first.
-    fn nth(&self, i: usize) -> Option<u32> {
-        self.arena.nth(i)
-    }
-
-    /// A whole walk.
-    pub fn items(&self, alloc: Global) -> Result<Vec<Item>, AllocError> {
-        let mut items = Vec::new(alloc);
-        let mut from = 0;
-        for _ in 0..20 {
-            let Some(item) = self.walk_from(from) else {
-                return Ok(items);
-            };
-            items.push(item)?;
-            from = item.at.saturating_add(1);
-        }
-        Ok(items)
-    }
-
-    /// The order of use, oldest first.
-    pub fn order(&self, alloc: Global) -> Result<Vec<u32>, AllocError> {
-        let mut ids = Vec::new(alloc);
-        for i in 0..IDS {
-            if let Some(id) = self.nth(i as usize) {
-                ids.push(id)?;
-            }
-        }
-        Ok(ids)
-    }
-
-    /// What is known of each id.
-    pub fn entries(&self, alloc: Global) -> Result<Vec<Option<Entry>>, AllocError> {
-        let mut entries = Vec::new(alloc);
-        for id in 0..IDS {
-            entries.push(self.entry(id))?;
-        }
-        Ok(entries)
-    }
-
-    /// The blocks by address.
-    pub fn blocks(&self, alloc: Global) -> Result<Vec<Block>, AllocError> {
-        let mut blocks = Vec::new(alloc);
-        let mut from = 0;
-        for _ in 0..IDS {
-            if let Some(block) = self.next_block(from) {
-                blocks.push(block)?;
-                from = block.at.saturating_add(1);
-            }
-        }
-        Ok(blocks)
-    }
-
-    /// Writes one byte over a part of the memory.
-    pub fn fill(&mut self, rt: &impl Abort, at: u32, n: u32, byte: u8) {
-        assert!(rt; at <= self.region.len() && n <= self.region.len() - at);
-        self.region.fill(at, n, byte);
-    }
-
-    /// Whether a part of the memory has this one byte alone.
-    pub fn is_filled(&self, rt: &impl Abort, at: u32, n: u32, byte: u8) -> bool {
+    fn is_filled(&self, rt: &impl Abort, at: u32, n: u32, byte: u8) -> bool {
         assert!(rt; at <= self.region.len() && n <= self.region.len() - at);
         is_all(self.region.view(at, n), byte)
     }
 
-    /// Writes one byte over an object's bytes, as they are lent to be written.
-    pub fn fill_object(&mut self, rt: &impl Abort, id: u32, byte: u8) {
-        let block = self.arena.block(id).expect(rt, "a block");
-        assert!(rt; self.arena.bounds().to <= self.region.len());
-        Arena::bytes_mut(&mut self.region, &self.arena, block).fill(byte);
-    }
-
-    /// How many bytes an object has, if it has any.
-    pub fn size(&self, rt: &impl Abort, id: u32) -> Option<usize> {
-        assert!(rt; self.arena.bounds().to <= self.region.len());
-        match self.arena.bytes(&self.region, id) {
-            Some(bytes) => Some(bytes.len()),
-            None => None,
-        }
-    }
-
-    /// Whether an object has bytes, all of them this one.
-    pub fn has_only(&self, rt: &impl Abort, id: u32, byte: u8) -> bool {
+    fn has_only(&self, rt: &impl Abort, id: u32, byte: u8) -> bool {
         assert!(rt; self.arena.bounds().to <= self.region.len());
         match self.arena.bytes(&self.region, id) {
             Some(bytes) => is_all(bytes, byte),
@@ -340,22 +280,113 @@ impl Bench {
         }
     }
 
+    fn size(&self, rt: &impl Abort, id: u32) -> Option<usize> {
+        assert!(rt; self.arena.bounds().to <= self.region.len());
+        match self.arena.bytes(&self.region, id) {
+            Some(bytes) => Some(bytes.len()),
+            None => None,
+        }
+    }
+
+    fn next_block(&self, from: u32) -> Option<Block> {
+        self.arena.next_block(&self.region, from)
+    }
+
+    fn walk_from(&self, from: u32) -> Option<Item> {
+        self.arena.walk_from(&self.region, from)
+    }
+
+    /// Whether the last request discarded just this one, or none.
+    pub fn has_discarded(&self, id: Option<u32>) -> bool {
+        match id {
+            Some(id) => self.arena.discarded() == [id].as_slice(),
+            None => self.arena.discarded().is_empty(),
+        }
+    }
+
+    /// Whether the last request discarded so many, the first of these.
+    pub fn has_discarded_first(&self, ids: &[u32], count: usize) -> bool {
+        let discarded = self.arena.discarded();
+        discarded.len() == count && ids.starts_with(discarded)
+    }
+
+    /// Whether these are the items by address.
+    pub fn has_walk(&self, items: &[Item]) -> bool {
+        let mut from = 0;
+        for item in items {
+            if self.walk_from(from) != Some(*item) {
+                return false;
+            }
+            from = item.at.saturating_add(1);
+        }
+        self.walk_from(from).is_none()
+    }
+
+    /// Whether these are the blocks by address.
+    fn has_blocks(&self, blocks: &[Block]) -> bool {
+        let mut from = 0;
+        for block in blocks {
+            if self.next_block(from) != Some(*block) {
+                return false;
+            }
+            from = block.at.saturating_add(1);
+        }
+        self.next_block(from).is_none()
+    }
+
+    /// Whether this is the order of use, the oldest first.
+    pub fn has_order(&self, ids: &[u32]) -> bool {
+        for i in 0..IDS as usize {
+            if self.arena.nth(i) != ids.get(i).copied() {
+                return false;
+            }
+        }
+        true
+    }
+
+    /// Whether it has these blocks and this order of use.
+    pub fn stands(&self, heap: Snapshot) -> bool {
+        self.has_blocks(heap.blocks) && self.has_order(heap.order)
+    }
+
+    /// The items by address.
+    fn items(&self) -> [Option<Item>; 20] {
+        let mut items = [None; 20];
+        let mut from = 0;
+        for place in &mut items {
+            *place = self.walk_from(from);
+            if let Some(item) = place {
+                from = item.at.saturating_add(1);
+            }
+        }
+        items
+    }
+
     /// The heap as it stands.
-    pub fn seen(&self, alloc: Global) -> Result<Seen, AllocError> {
-        let items = self.items(alloc)?;
-        let order = self.order(alloc)?;
-        let entries = self.entries(alloc)?;
-        let written = self.written();
-        Ok(Seen {
-            items,
+    pub fn seen(&self) -> Seen {
+        let mut order = [None; 6];
+        for (i, place) in order.iter_mut().enumerate() {
+            *place = self.arena.nth(i);
+        }
+        let mut entries = [None; 6];
+        for (id, place) in (0..IDS).zip(&mut entries) {
+            *place = self.arena.entry(id);
+        }
+        Seen {
+            items: self.items(),
             order,
             entries,
-            written,
-        })
+            written: self.region.written(),
+        }
     }
 }
 
 /// Whether all bytes are this one.
 fn is_all(bytes: &[u8], byte: u8) -> bool {
-    bytes.iter().all(|other| *other == byte)
+    for other in bytes {
+        if *other != byte {
+            return false;
+        }
+    }
+    true
 }

@@ -156,14 +156,25 @@ fn stands_in(blocks: &Blocks<SideHoles>, id: u32, gap: Span) -> bool
     }
 }
 
-/// Whether all bytes of a block are its id.
-fn is_filled<S: Space>(space: &S, block: &Block) -> bool {
+/// Gives a block in a memory this one byte alone.
+fn fill<S: Space>(rt: &impl Abort, space: &mut S, block: Block, byte: u8) {
+    let end = u64::from(block.at) + u64::from(block.size);
+    assert!(rt; end <= u64::from(space.len()));
+    space.fill(block.at, block.size, byte);
+}
+
+/// Whether a block lies in a memory, and has this one byte alone.
+fn is_all<S: Space>(space: &S, block: Block, byte: u8) -> bool {
     let end = u64::from(block.at) + u64::from(block.size);
     if end > u64::from(space.len()) {
         return false;
     }
-    let bytes = space.view(block.at, block.size);
-    bytes.iter().all(|byte| u32::from(*byte) == block.id)
+    for other in space.view(block.at, block.size) {
+        if *other != byte {
+            return false;
+        }
+    }
+    true
 }
 
 /// No blocks yet, between two bounds.
@@ -178,10 +189,14 @@ fn no_blocks(
     Blocks::with_room(alloc, IDS, holes, lo, hi, 32)
 }
 
-/// How blocks are slid in a gap: down, or apart behind an id's block.
+/// How blocks are slid.
 #[derive(Clone, Copy)]
 pub(super) enum Slide {
+    /// Down in the gap that has room for so many bytes: that gap, if there is one.
+    Compact(u32, Option<Gap>),
+    /// Down in a gap.
     Gather(Span),
+    /// Apart in a gap, behind an id's block.
     Open(Span, u32),
 }
 
@@ -254,32 +269,33 @@ impl<S: Space> Bench<S> {
     /// Gives an id's block, if it has one, bytes that are the id.
     fn fill(&mut self, rt: &impl Abort, id: u32) {
         assert!(rt; id < IDS && id < self.blocks.cap());
-        let Some(block) = self.blocks.find(id) else {
-            return;
-        };
-        let end = u64::from(block.at) + u64::from(block.size);
-        assert!(rt; end <= u64::from(self.space.len()));
-        self.space.fill(block.at, block.size, id as u8);
+        if let Some(block) = self.blocks.find(id) {
+            fill(rt, &mut self.space, block, id as u8);
+        }
     }
 
     /// Whether each block has the bytes that are its id.
-    pub fn is_marked(&self) -> bool {
-        self.blocks
-            .by_address(&self.space)
-            .all(|block| is_filled(&self.space, &block))
+    pub fn is_marked(&self, rt: &impl Abort) -> bool {
+        for id in 0..IDS {
+            if !self.is_filled(rt, id) {
+                return false;
+            }
+        }
+        true
     }
 
-    /// Whether the blocks by address have these ids and addresses.
-    pub fn has_places(&self, places: &[(u32, u32)]) -> bool {
-        self.blocks
-            .by_address(&self.space)
-            .map(|block| (block.id, block.at))
-            .eq(places.iter().copied())
+    /// Whether an id's block, if it has one, has only bytes that are the id.
+    fn is_filled(&self, rt: &impl Abort, id: u32) -> bool {
+        assert!(rt; id < IDS && id < self.blocks.cap());
+        match self.blocks.find(id) {
+            Some(block) => is_all(&self.space, block, id as u8),
+            None => true,
+        }
     }
 
-    /// The blocks by address.
-    pub fn list(&self, alloc: Global) -> Result<Vec<Block>, AllocError> {
-        listed(alloc, &self.blocks, &self.space)
+    /// Whether these are the blocks by address.
+    pub fn stand(&self, alloc: Global, blocks: &[Block]) -> Result<bool, AllocError> {
+        Ok(listed(alloc, &self.blocks, &self.space)?.as_slice() == blocks)
     }
 
     /// How many bytes of the memory were written.
@@ -287,50 +303,63 @@ impl<S: Space> Bench<S> {
         self.space.written()
     }
 
+    /// Whether there is so much room beside the ids that are marked, for each of these.
+    pub fn has_rooms(&self, rt: &impl Abort, rooms: &[(&[bool], u32)]) -> bool {
+        for (skip, room) in rooms {
+            if self.room(rt, skip) != *room {
+                return false;
+            }
+        }
+        true
+    }
+
     /// The room beside what isn't marked.
-    pub fn room(&self, rt: &impl Abort, skip: &[bool]) -> u32 {
+    fn room(&self, rt: &impl Abort, skip: &[bool]) -> u32 {
         assert!(rt; self.blocks.cap() as usize <= skip.len());
         room(&self.blocks, &self.space, skip)
     }
 
-    /// Gathers the gap that has room for `n` bytes, if there is one: that gap, and how many bytes were moved.
-    pub fn compact(&mut self, rt: &impl Abort, n: u32) -> (Option<Gap>, u64) {
-        assert!(rt; 0 < n && self.blocks.bounds().to <= self.space.len());
-        let Some(gap) = gap_for(&self.blocks, &self.space, None, n) else {
-            return (None, 0);
-        };
-        let moved = gather(&mut self.blocks, &mut self.space, gap.low, gap.high);
-        (Some(gap), moved)
-    }
-
-    /// Slides blocks in a gap, and tells how many bytes were moved.
-    pub fn slide(
+    /// Whether blocks are slid as they should be, and so many bytes were moved.
+    pub fn slides(
         &mut self,
         rt: &impl Abort,
         alloc: Global,
         slide: Slide,
-    ) -> Result<u64, AllocError> {
+        moved: u64,
+    ) -> Result<bool, AllocError> {
         match slide {
-            Slide::Gather(gap) => self.gather(rt, alloc, gap),
-            Slide::Open(gap, id) => self.open(rt, alloc, gap, id),
+            Slide::Compact(n, gap) => Ok(self.compact(rt, n) == (gap, moved)),
+            Slide::Gather(gap) => Ok(self.slide_in(rt, alloc, gap, None)? == moved),
+            Slide::Open(gap, id) => Ok(self.slide_in(rt, alloc, gap, Some(id))? == moved),
         }
     }
 
-    fn gather(&mut self, rt: &impl Abort, alloc: Global, gap: Span) -> Result<u64, AllocError> {
-        let may = may_slide(alloc, &self.blocks, &self.space, gap)?;
-        assert!(rt; may);
-        Ok(gather(&mut self.blocks, &mut self.space, gap.from, gap.to))
+    /// Gathers the gap that has room for `n` bytes, if there is one: that gap, and how many bytes were moved.
+    fn compact(&mut self, rt: &impl Abort, n: u32) -> (Option<Gap>, u64) {
+        assert!(rt; 0 < n && self.blocks.bounds().to <= self.space.len());
+        match gap_for(&self.blocks, &self.space, None, n) {
+            Some(gap) => {
+                let moved = gather(&mut self.blocks, &mut self.space, gap.low, gap.high);
+                (Some(gap), moved)
+            }
+            None => (None, 0),
+        }
     }
 
-    fn open(
+    /// Slides blocks down in a gap, or apart behind an id's block, and tells how many bytes were moved.
+    fn slide_in(
         &mut self,
         rt: &impl Abort,
         alloc: Global,
         gap: Span,
-        id: u32,
+        id: Option<u32>,
     ) -> Result<u64, AllocError> {
         let may = may_slide(alloc, &self.blocks, &self.space, gap)?;
-        assert!(rt; may && stands_in(&self.blocks, id, gap));
+        assert!(rt; may);
+        let Some(id) = id else {
+            return Ok(gather(&mut self.blocks, &mut self.space, gap.from, gap.to));
+        };
+        assert!(rt; stands_in(&self.blocks, id, gap));
         Ok(open(&mut self.blocks, &mut self.space, gap.from, gap.to, id))
     }
 

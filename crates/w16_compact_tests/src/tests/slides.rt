@@ -1,80 +1,324 @@
-//! Gaps that are gathered, or opened behind one of their blocks: answers that were worked out by hand.
+//! Blocks that slide together, or apart behind one of them: what is left then.
 
 use super::bench::{Bench, Slide};
-use super::{has_holes, is_left};
 use std::alloc::{AllocError, Global};
 use std::process::Abort;
 use std::test::Fail;
 use w16_blocks::{Block, Hold, Span};
+use w16_compact::Gap;
 use w16_model::Snapshot;
-use w16_region::Region;
+use w16_region::{Region, Space, Window};
+
+macro_rules! gap {
+    ($low:expr, $high:expr, $loose:expr) => {
+        Gap {
+            low: $low,
+            high: $high,
+            loose: $loose,
+        }
+    };
+}
+
+macro_rules! span {
+    ($from:expr, $to:expr) => {
+        Span {
+            from: $from,
+            to: $to,
+        }
+    };
+}
+
+/// A heap with nothing in its order of use.
+macro_rules! heap {
+    ($lo:expr, $hi:expr, $blocks:expr) => {
+        Snapshot {
+            lo: $lo,
+            hi: $hi,
+            blocks: $blocks,
+            order: &[],
+        }
+    };
+}
+
+const NONE: [bool; 8] = [false; 8];
 
 /// Blocks of a heap, and what is left once they are slid.
-struct Sliding {
+struct Case {
     name: &'static str,
     heap: Snapshot<'static>,
+    /// Ids that are left out, and the room then.
+    rooms: &'static [(&'static [bool], u32)],
     slide: Slide,
-    /// Then each id with its address, by address.
-    places: &'static [(u32, u32)],
     /// The bytes moved.
     moved: u64,
+    /// The blocks then, by address.
+    left: &'static [Block],
     /// The holes then.
     holes: &'static [Span],
 }
 
-const OPENINGS: &[Sliding] = &[
-    Sliding {
+static CASES: &[Case] = &[
+    Case {
+        name: "an empty heap is one gap, with nothing to slide",
+        heap: heap!(0, 256, &[]),
+        rooms: &[(&NONE, 256), (&NONE, 256)],
+        slide: Slide::Compact(256, Some(gap!(0, 256, 0))),
+        moved: 0,
+        left: &[],
+        holes: &[span!(0, 256)],
+    },
+    Case {
+        name: "three loose blocks slide to the low end in their order",
+        heap: heap!(
+            0,
+            320,
+            &[loose!(5, 32, 32), loose!(1, 96, 64), loose!(3, 256, 32)]
+        ),
+        rooms: &[
+            (&NONE, 192),
+            (
+                &[false, true, false, false, false, false, false, false],
+                256,
+            ),
+        ],
+        slide: Slide::Compact(192, Some(gap!(0, 320, 128))),
+        moved: 128,
+        left: &[loose!(5, 0, 32), loose!(1, 32, 64), loose!(3, 96, 32)],
+        holes: &[span!(128, 320)],
+    },
+    Case {
+        name: "a block that stands at the low end stays",
+        heap: heap!(64, 256, &[loose!(2, 64, 32), loose!(7, 128, 32)]),
+        rooms: &[
+            (&NONE, 128),
+            (
+                &[false, false, false, false, false, false, false, true],
+                160,
+            ),
+        ],
+        slide: Slide::Compact(100, Some(gap!(64, 256, 64))),
+        moved: 32,
+        left: &[loose!(2, 64, 32), loose!(7, 96, 32)],
+        holes: &[span!(128, 256)],
+    },
+    Case {
+        name: "a locked block keeps its address, and the lowest gap with room is gathered",
+        heap: heap!(
+            0,
+            512,
+            &[
+                loose!(0, 32, 32),
+                pinned!(1, 96, 32),
+                loose!(2, 160, 32),
+                loose!(3, 224, 32),
+                pinned!(4, 288, 32),
+                loose!(5, 384, 32),
+            ]
+        ),
+        rooms: &[
+            (&NONE, 160),
+            (
+                &[false, true, false, false, false, false, false, false],
+                192,
+            ),
+        ],
+        slide: Slide::Compact(96, Some(gap!(128, 288, 64))),
+        moved: 64,
+        left: &[
+            loose!(0, 32, 32),
+            pinned!(1, 96, 32),
+            loose!(2, 128, 32),
+            loose!(3, 160, 32),
+            pinned!(4, 288, 32),
+            loose!(5, 384, 32),
+        ],
+        holes: &[
+            span!(0, 32),
+            span!(64, 96),
+            span!(192, 288),
+            span!(320, 384),
+            span!(416, 512),
+        ],
+    },
+    Case {
+        name: "a gap that is one grain too short is passed",
+        heap: heap!(
+            0,
+            512,
+            &[
+                loose!(0, 32, 32),
+                pinned!(1, 96, 32),
+                loose!(2, 160, 32),
+                loose!(3, 224, 32),
+                pinned!(4, 288, 32),
+                loose!(5, 384, 32),
+            ]
+        ),
+        rooms: &[
+            (&NONE, 160),
+            (
+                &[false, false, false, false, true, false, false, false],
+                288,
+            ),
+        ],
+        slide: Slide::Compact(97, Some(gap!(320, 512, 32))),
+        moved: 32,
+        left: &[
+            loose!(0, 32, 32),
+            pinned!(1, 96, 32),
+            loose!(2, 160, 32),
+            loose!(3, 224, 32),
+            pinned!(4, 288, 32),
+            loose!(5, 320, 32),
+        ],
+        holes: &[
+            span!(0, 32),
+            span!(64, 96),
+            span!(128, 160),
+            span!(192, 224),
+            span!(256, 288),
+            span!(352, 512),
+        ],
+    },
+    Case {
+        name: "a gap with nothing loose has a hole already",
+        heap: heap!(0, 192, &[pinned!(0, 0, 32), pinned!(1, 128, 64)]),
+        rooms: &[
+            (&NONE, 96),
+            (
+                &[true, false, false, false, false, false, false, false],
+                128,
+            ),
+        ],
+        slide: Slide::Compact(96, Some(gap!(32, 128, 0))),
+        moved: 0,
+        left: &[pinned!(0, 0, 32), pinned!(1, 128, 64)],
+        holes: &[span!(32, 128)],
+    },
+    Case {
+        name: "a long block slides over where it stood",
+        heap: heap!(0, 256, &[loose!(6, 32, 192)]),
+        rooms: &[
+            (&NONE, 64),
+            (
+                &[false, false, false, false, false, false, true, false],
+                256,
+            ),
+        ],
+        slide: Slide::Compact(64, Some(gap!(0, 256, 192))),
+        moved: 192,
+        left: &[loose!(6, 0, 192)],
+        holes: &[span!(192, 256)],
+    },
+    Case {
+        name: "a full heap has no room",
+        heap: heap!(0, 96, &[loose!(0, 0, 32), loose!(1, 32, 64)]),
+        rooms: &[
+            (&NONE, 0),
+            (&[true, true, false, false, false, false, false, false], 96),
+        ],
+        slide: Slide::Compact(32, None),
+        moved: 0,
+        left: &[loose!(0, 0, 32), loose!(1, 32, 64)],
+        holes: &[],
+    },
+    Case {
+        name: "two gaps are not one",
+        heap: heap!(0, 160, &[pinned!(0, 64, 32)]),
+        rooms: &[
+            (&NONE, 64),
+            (
+                &[true, false, false, false, false, false, false, false],
+                160,
+            ),
+        ],
+        slide: Slide::Compact(65, None),
+        moved: 0,
+        left: &[pinned!(0, 64, 32)],
+        holes: &[span!(0, 64), span!(96, 160)],
+    },
+    Case {
+        name: "a gap from 32 to 128 that its loose blocks fill",
+        heap: heap!(
+            0,
+            256,
+            &[
+                pinned!(0, 0, 32),
+                loose!(1, 32, 64),
+                loose!(2, 96, 32),
+                pinned!(3, 128, 32),
+            ]
+        ),
+        rooms: &[(&NONE, 96), (&NONE, 96)],
+        slide: Slide::Compact(32, Some(gap!(160, 256, 0))),
+        moved: 0,
+        left: &[
+            pinned!(0, 0, 32),
+            loose!(1, 32, 64),
+            loose!(2, 96, 32),
+            pinned!(3, 128, 32),
+        ],
+        holes: &[span!(160, 256)],
+    },
+    Case {
         name: "blocks below and above",
-        heap: Snapshot {
-            lo: 0,
-            hi: 512,
-            blocks: &[
+        heap: heap!(
+            0,
+            512,
+            &[
                 pinned!(0, 0, 32),
                 loose!(1, 64, 32),
                 loose!(2, 128, 64),
                 loose!(3, 224, 32),
                 loose!(4, 288, 64),
                 pinned!(5, 448, 32),
-            ],
-            order: &[],
-        },
+            ]
+        ),
+        rooms: &[],
         slide: Slide::Open(span!(32, 448), 2),
-        places: &[(0, 0), (1, 32), (2, 64), (3, 352), (4, 384), (5, 448)],
         moved: 192,
+        left: &[
+            pinned!(0, 0, 32),
+            loose!(1, 32, 32),
+            loose!(2, 64, 64),
+            loose!(3, 352, 32),
+            loose!(4, 384, 64),
+            pinned!(5, 448, 32),
+        ],
         holes: &[span!(128, 352), span!(480, 512)],
     },
-    Sliding {
+    Case {
         name: "blocks that stand where they belong",
-        heap: Snapshot {
-            lo: 64,
-            hi: 320,
-            blocks: &[loose!(1, 64, 32), loose!(2, 128, 32), loose!(3, 288, 32)],
-            order: &[],
-        },
+        heap: heap!(
+            64,
+            320,
+            &[loose!(1, 64, 32), loose!(2, 128, 32), loose!(3, 288, 32)]
+        ),
+        rooms: &[],
         slide: Slide::Open(span!(64, 320), 1),
-        places: &[(1, 64), (2, 256), (3, 288)],
         moved: 32,
+        left: &[loose!(1, 64, 32), loose!(2, 256, 32), loose!(3, 288, 32)],
         holes: &[span!(96, 256)],
     },
-    Sliding {
+    Case {
         name: "over its own bytes",
-        heap: Snapshot {
-            lo: 0,
-            hi: 256,
-            blocks: &[loose!(4, 0, 32), loose!(2, 32, 96), loose!(3, 128, 64)],
-            order: &[],
-        },
+        heap: heap!(
+            0,
+            256,
+            &[loose!(4, 0, 32), loose!(2, 32, 96), loose!(3, 128, 64)]
+        ),
+        rooms: &[],
         slide: Slide::Open(span!(0, 256), 4),
-        places: &[(4, 0), (2, 96), (3, 192)],
         moved: 160,
+        left: &[loose!(4, 0, 32), loose!(2, 96, 96), loose!(3, 192, 64)],
         holes: &[span!(32, 96)],
     },
-    Sliding {
+    Case {
         name: "runs above",
-        heap: Snapshot {
-            lo: 0,
-            hi: 512,
-            blocks: &[
+        heap: heap!(
+            0,
+            512,
+            &[
                 loose!(0, 32, 32),
                 loose!(1, 64, 64),
                 loose!(2, 128, 32),
@@ -82,122 +326,180 @@ const OPENINGS: &[Sliding] = &[
                 loose!(4, 224, 96),
                 loose!(5, 416, 32),
                 loose!(6, 448, 64),
-            ],
-            order: &[],
-        },
+            ]
+        ),
+        rooms: &[],
         slide: Slide::Open(span!(0, 512), 0),
-        places: &[
-            (0, 0),
-            (1, 192),
-            (2, 256),
-            (3, 288),
-            (4, 320),
-            (5, 416),
-            (6, 448),
-        ],
         moved: 256,
+        left: &[
+            loose!(0, 0, 32),
+            loose!(1, 192, 64),
+            loose!(2, 256, 32),
+            loose!(3, 288, 32),
+            loose!(4, 320, 96),
+            loose!(5, 416, 32),
+            loose!(6, 448, 64),
+        ],
         holes: &[span!(32, 192)],
     },
-    Sliding {
+    Case {
         name: "nothing above",
-        heap: Snapshot {
-            lo: 0,
-            hi: 256,
-            blocks: &[loose!(0, 64, 32), loose!(7, 160, 64)],
-            order: &[],
-        },
+        heap: heap!(0, 256, &[loose!(0, 64, 32), loose!(7, 160, 64)]),
+        rooms: &[],
         slide: Slide::Open(span!(0, 256), 7),
-        places: &[(0, 0), (7, 32)],
         moved: 96,
+        left: &[loose!(0, 0, 32), loose!(7, 32, 64)],
         holes: &[span!(96, 256)],
     },
-    Sliding {
+    Case {
         name: "a full gap",
-        heap: Snapshot {
-            lo: 0,
-            hi: 192,
-            blocks: &[
+        heap: heap!(
+            0,
+            192,
+            &[
                 pinned!(0, 0, 32),
                 loose!(1, 32, 64),
                 loose!(2, 96, 32),
                 pinned!(3, 128, 32),
-            ],
-            order: &[],
-        },
+            ]
+        ),
+        rooms: &[],
         slide: Slide::Open(span!(32, 128), 1),
-        places: &[(0, 0), (1, 32), (2, 96), (3, 128)],
         moved: 0,
-        holes: &[span!(160, 192)],
-    },
-];
-
-const FULL: &[Sliding] = &[Sliding {
-    name: "nothing moves in a full gap",
-    heap: Snapshot {
-        lo: 0,
-        hi: 256,
-        blocks: &[
+        left: &[
             pinned!(0, 0, 32),
             loose!(1, 32, 64),
             loose!(2, 96, 32),
             pinned!(3, 128, 32),
         ],
-        order: &[],
+        holes: &[span!(160, 192)],
     },
-    slide: Slide::Gather(span!(32, 128)),
-    places: &[(0, 0), (1, 32), (2, 96), (3, 128)],
-    moved: 0,
-    holes: &[span!(160, 256)],
-}];
+    Case {
+        name: "nothing moves in a full gap",
+        heap: heap!(
+            0,
+            256,
+            &[
+                pinned!(0, 0, 32),
+                loose!(1, 32, 64),
+                loose!(2, 96, 32),
+                pinned!(3, 128, 32),
+            ]
+        ),
+        rooms: &[],
+        slide: Slide::Gather(span!(32, 128)),
+        moved: 0,
+        left: &[
+            pinned!(0, 0, 32),
+            loose!(1, 32, 64),
+            loose!(2, 96, 32),
+            pinned!(3, 128, 32),
+        ],
+        holes: &[span!(160, 256)],
+    },
+];
 
-/// Whether blocks that are slid move as many bytes as their case tells, and stand as it tells then.
-fn slides(
+/// All cases. Only this function names the table, so that a proof meets its contents once.
+fn cases() -> &'static [Case] {
+    CASES
+}
+
+/// Whether the blocks of a case are slid as it tells, in this memory.
+fn slides<S: Space + Drop>(
     rt: &impl Abort,
     alloc: Global,
-    bench: &mut Bench<Region>,
-    case: &Sliding,
+    case: &Case,
+    space: S,
+) -> Result<bool, AllocError> {
+    let mut bench = Bench::over(rt, alloc, case.heap, space)?;
+    slides_in(rt, alloc, case, &mut bench)
+}
+
+/// The same of blocks that are there.
+fn slides_in<S: Space>(
+    rt: &impl Abort,
+    alloc: Global,
+    case: &Case,
+    bench: &mut Bench<S>,
 ) -> Result<bool, AllocError> {
     bench.mark(rt);
+    let has_rooms = bench.has_rooms(rt, case.rooms);
     let written = bench.written().saturating_add(case.moved);
-    let moved = bench.slide(rt, alloc, case.slide)?;
-    Ok(moved == case.moved && bench.written() == written && is_left(bench, case.places))
+    let slides = bench.slides(rt, alloc, case.slide, case.moved)?;
+    let stand = bench.stand(alloc, case.left)?;
+    Ok(has_rooms && slides && stand && bench.is_marked(rt) && bench.written() == written)
 }
 
-/// Whether they leave their case's holes too.
-fn settles(
+/// The same in memory that was lent.
+fn slides_in_a_window(rt: &impl Abort, alloc: Global, case: &Case) -> Result<bool, AllocError> {
+    let mut bytes = vec![in alloc; 0; case.heap.hi as usize]?;
+    slides(rt, alloc, case, Window::new(&mut bytes))
+}
+
+/// Whether the plain program has a case's holes between the blocks that it leaves.
+fn leaves_holes(alloc: Global, case: &Case) -> Result<bool, AllocError> {
+    let left = Snapshot {
+        blocks: case.left,
+        ..case.heap
+    };
+    if !left.is_placed() {
+        return Ok(false);
+    }
+    Ok(left.holes(alloc)?.as_slice() == case.holes)
+}
+
+/// The blocks whose ids aren't marked.
+fn kept(alloc: Global, blocks: &[Block], skip: &[bool]) -> Result<Vec<Block>, AllocError> {
+    let mut kept = Vec::new(alloc);
+    for block in blocks {
+        if skip.get(block.id as usize) == Some(&false) {
+            kept.push(*block)?;
+        }
+    }
+    Ok(kept)
+}
+
+/// The room in a heap of the blocks whose ids aren't marked, by the plain program.
+fn plain_room(
     rt: &impl Abort,
     alloc: Global,
-    bench: &mut Bench<Region>,
-    case: &Sliding,
-) -> Result<bool, AllocError> {
-    let slides = slides(rt, alloc, bench, case)?;
-    let holes = has_holes(rt, alloc, bench, case.heap, case.holes)?;
-    Ok(slides && holes)
+    heap: Snapshot,
+    skip: &[bool],
+) -> Result<u32, AllocError> {
+    let kept = kept(alloc, heap.blocks, skip)?;
+    let plain = Snapshot {
+        blocks: &kept,
+        ..heap
+    };
+    assert!(rt; plain.is_placed());
+    Ok(plain.room())
 }
 
-/// The same in a memory of its own.
-fn agrees(rt: &impl Abort, alloc: Global, case: &Sliding) -> Result<bool, AllocError> {
-    let mut bench = Bench::of(rt, alloc, case.heap)?;
-    settles(rt, alloc, &mut bench, case)
+/// Whether a case has its rooms, by the plain program.
+fn has_plain_rooms(rt: &impl Abort, alloc: Global, case: &Case) -> Result<bool, AllocError> {
+    for (skip, room) in case.rooms {
+        if plain_room(rt, alloc, case.heap, skip)? != *room {
+            return Ok(false);
+        }
+    }
+    Ok(true)
 }
 
-/// Slides the blocks of each case.
-fn slide_all(rt: &impl Abort, alloc: Global, all: &[Sliding]) -> Result<(), AllocError> {
-    for case in all {
-        let agrees = agrees(rt, alloc, case)?;
+/// Whether a case does what it tells, in a memory of its own and in one that was lent.
+fn agrees(rt: &impl Abort, alloc: Global, case: &Case) -> Result<bool, AllocError> {
+    Ok(
+        slides(rt, alloc, case, Region::new(alloc, case.heap.hi)?)?
+            && slides_in_a_window(rt, alloc, case)?
+            && leaves_holes(alloc, case)?
+            && has_plain_rooms(rt, alloc, case)?,
+    )
+}
+
+#[test]
+fn slides_blocks(rt: HostRuntime) -> Result<(), Fail> {
+    for case in cases() {
+        let agrees = agrees(&rt, rt.alloc(), case)?;
         assert!(rt; agrees, "{}", case.name);
     }
-    Ok(())
-}
-
-#[test]
-fn leaves_a_full_gap(rt: HostRuntime) -> Result<(), Fail> {
-    slide_all(&rt, rt.alloc(), FULL)?;
-    Ok(())
-}
-
-#[test]
-fn opens_a_gap(rt: HostRuntime) -> Result<(), Fail> {
-    slide_all(&rt, rt.alloc(), OPENINGS)?;
     Ok(())
 }
