@@ -25,15 +25,11 @@ impl<H: HoleList> Arena<H> {
         if is_either_fixed(entry.kind, kind) {
             return Err(Refusal::Fixed);
         }
+        let was = is_discardable(entry.kind);
+        let is = is_discardable(kind);
         let has_bytes = self.block(id).is_some();
         self.entries[id as usize] = Some(Entry { kind, ..entry });
-        relist(
-            &mut self.order,
-            id,
-            is_discardable(entry.kind),
-            is_discardable(kind),
-            has_bytes,
-        );
+        relist(&mut self.order, id, was, is, has_bytes);
         Ok(())
     }
 }

@@ -1,4 +1,5 @@
-use Rattle.std.proofs.Common.{is_some, sym, ap, ◌∙◌}
+use Rattle.std.proofs.lemmas.Grind.{common_steps}
+use Rattle.std.proofs.Common.{is_some, sym, ap, ◌∙◌, arith}
 use Rattle.w16_model.specs.Table.{block_with, entry_at}
 use Rattle.w16_arena.specs.State.{ArenaState, relisted}
 use Rattle.w16_arena.proofs.Shown.{holes_shown}
@@ -16,13 +17,19 @@ pub invariant_of-self : goal.invariant_of-self
 invariant_of-self g c =
     let has = c.is_some-has_bytes.ensures ∙ ap is_some c.block.ensures.value ∙ ap (λ (s : ArenaState). is_some (block_with s.table.blocks c.args.id)) (sym c.self.view_is) in
     kept_modified c.self.invariant c.args.id c.in-Some.entry (ap (λ (s : ArenaState). entry_at s.table c.args.id) c.self.view_is ∙ sym c.entry.ensures.value ∙ c.in-Some.is) c.args.kind (sym c.is_either_fixed.ensures ∙ c.if-is_either_fixed.false)
-    (c.relist.ensures ∙ (λ i. record c.self.inside.order { ids = relisted (c.is_discardable.ensures i) (c.is_discardable-2.ensures i) (has i) c.args.id c.self.inside.order.ids }))
+    (c.relist.ensures ∙ (λ i. record c.self.inside.order { ids = relisted (c.is_discardable-was.ensures i) (c.is_discardable-is.ensures i) (has i) c.args.id c.self.inside.order.ids }))
 
 pub returns-clause-ok : goal.returns-clause-ok
 returns-clause-ok g c =
     let has = c.is_some-has_bytes.ensures ∙ ap is_some c.block.ensures.value ∙ ap (λ (s : ArenaState). is_some (block_with s.table.blocks c.args.id)) (sym c.self.view_is) in
     steps_modified c.self.invariant c.args.id c.in-Some.entry (ap (λ (s : ArenaState). entry_at s.table c.args.id) c.self.view_is ∙ sym c.entry.ensures.value ∙ c.in-Some.is) c.args.kind (sym c.is_either_fixed.ensures ∙ c.if-is_either_fixed.false) c.self.view_is
-    (c.relist.ensures ∙ (λ i. record c.self.inside.order { ids = relisted (c.is_discardable.ensures i) (c.is_discardable-2.ensures i) (has i) c.args.id c.self.inside.order.ids }))
+    (c.relist.ensures ∙ (λ i. record c.self.inside.order { ids = relisted (c.is_discardable-was.ensures i) (c.is_discardable-is.ensures i) (has i) c.args.id c.self.inside.order.ids }))
 
 pub returns-clause-holes : goal.returns-clause-holes
 returns-clause-holes g c = holes_shown c.self.invariant c.self.view_is
+
+pub index_mut-requires : goal.index_mut-requires
+index_mut-requires g c = grind (arith, common_steps)
+
+pub relist-requires : goal.relist-requires
+relist-requires g c = grind (arith, common_steps)

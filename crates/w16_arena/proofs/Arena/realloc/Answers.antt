@@ -1,4 +1,5 @@
-use Rattle.std.proofs.Common.{◌≡◌, ℕ, ◌-◌, ◌≤◌, true, false, is_ok, length, IfOk, IsSome, option_map, unwrap_or, sym, ◌∙◌, subst, if◌then◌else◌}
+use Rattle.std.proofs.lemmas.Grind.{common_steps}
+use Rattle.std.proofs.Common.{◌≡◌, ℕ, ◌-◌, ◌≤◌, true, false, is_ok, length, IfOk, IsSome, option_map, unwrap_or, sym, ◌∙◌, subst, if◌then◌else◌, arith}
 use Rattle.std.proofs.lemmas.Bool.{false≢true}
 use Rattle.w16_model.specs.declared.Block.{Block}
 use Rattle.w16_model.specs.Heap.{bytes_at}
@@ -184,3 +185,6 @@ returns-else-is_held-clause-written g c =
     let f = found_known t c.args.id b c.in-Some-block.ensures.value in
     let s = subst (λ q. unwrap_or (option_map (length {A = ℕ}) (bytes_at (heap_in t m) q)) 0 ≡ b.size) f.0 (size_is t c.in-Some.ensures.sound m c.requires.inside b f.1) in
     size_written c.grow.result (g.S.Space.written c.args.space.now) (g.S.Space.written c.grow.new.space) c.args.way.zero n b.size (unwrap_or (option_map (length {A = ℕ}) (bytes_at (heap_in t m) c.args.id)) 0) (sym s) c.grow.ensures.written
+
+pub alloc-requires-clause-id : goal.alloc-requires-clause-id
+alloc-requires-clause-id g c = grind (arith, common_steps)

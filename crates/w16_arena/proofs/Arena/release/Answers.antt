@@ -1,4 +1,5 @@
-use Rattle.std.proofs.Common.{◌≡◌, None, is_some, sym, ap, ◌∙◌}
+use Rattle.std.proofs.lemmas.Grind.{common_steps}
+use Rattle.std.proofs.Common.{◌≡◌, None, is_some, sym, ap, ◌∙◌, arith}
 use Rattle.w16_model.specs.Table.{entry_at}
 use Rattle.w16_arena.proofs.Shown.{entry_known, known, nothing, kept_without, steps_without, steps_same}
 use Rattle.w16_arena.proofs.Keeping.{keeps_same}
@@ -21,3 +22,9 @@ returns-else-is_some-clause-steps g c =
 
 pub returns-else-is_some-clause-bytes : goal.returns-else-is_some-clause-bytes
 returns-else-is_some-clause-bytes g c = keeps_same c.args.self.now.table.lo c.args.self.now.table.hi c.args.self.now.table.blocks c.args.space.now
+
+pub remove_block-requires-clause-id : goal.remove_block-requires-clause-id
+remove_block-requires-clause-id g c = grind (arith, common_steps)
+
+pub index_mut-requires : goal.index_mut-requires
+index_mut-requires g c = grind (arith, common_steps)

@@ -1,4 +1,5 @@
-use Rattle.std.proofs.Common.{◌∙◌}
+use Rattle.std.proofs.lemmas.Grind.{common_steps}
+use Rattle.std.proofs.Common.{◌∙◌, arith}
 use Rattle.w16_arena.proofs.Shown.{holes_shown, kept_set, steps_set}
 use Rattle.w16_arena.proofs.Arena.set_locks.Goals as goal
 
@@ -12,3 +13,9 @@ returns-clause-steps g c = steps_set c.self.invariant c.self.view_is c.args.id (
 
 pub returns-clause-holes : goal.returns-clause-holes
 returns-clause-holes g c = c.set_hold.ensures.holes ∙ holes_shown c.self.invariant c.self.view_is
+
+pub set_hold-requires : goal.set_hold-requires
+set_hold-requires g c = grind (arith, common_steps)
+
+pub index_mut-requires : goal.index_mut-requires
+index_mut-requires g c = grind (arith, common_steps)

@@ -1,3 +1,4 @@
+use Rattle.std.proofs.lemmas.Grind.{common_steps}
 use Rattle.std.proofs.Common.{List, add-one, arith, subst}
 use Rattle.w16_model.specs.declared.Span.{Span}
 use Rattle.w16_blocks.proofs.Keeping.{free_for, size_below, pins_room, layout_added, IsKept-add}
@@ -25,3 +26,6 @@ returns-clause-ordered g c = (invariant_of-self g c).tables.ordered
 
 pub returns-clause-kept : goal.returns-clause-kept
 returns-clause-kept g c = subst (λ (hs : List Span). g.H.Holes.are_in hs (g.S.Space.bytes c.take.new.space)) (invariant_of-self g c).between c.take.ensures.kept
+
+pub take-requires-clause-part : goal.take-requires-clause-part
+take-requires-clause-part g c = grind (arith, common_steps)

@@ -1,3 +1,4 @@
+use Rattle.std.proofs.lemmas.Grind.{common_steps}
 use Rattle.std.proofs.Common.{ℕ, List, length, map, ◌≡◌, ◌∙◌, ◌-◌, ap, sym, arith, subst}
 use Rattle.std.specs.Vec.{with_items}
 use Rattle.std.proofs.lemmas.List.{with_items_is}
@@ -84,3 +85,9 @@ returns-clause-bytes g c =
     subst (λ (hs : List Span). AreSameBut c.args.to (c.args.run.to - c.args.run.from) (holes_of c.args.self.now) hs (g.S.Space.bytes c.args.space.now) (g.S.Space.bytes c.put.new.space)) (invariant_of-self g c).between
     (others_same c.self.invariant c.self.view_is c.requires.run c.requires.some (way_up c.args.self.now c.args.run c.requires.run c.requires.some c.args.to c.min-apart.result c.requires.up.0 c.requires.up.1 c.requires.bare c.requires.grained c.min-apart.ensures) c.take.ensures.range c.take.ensures.holes
     c.put.ensures.range c.put.ensures.holes (tables g c) (blocks g c) c.requires.inside c.take.ensures.bytes c.slide.ensures.bytes c.put.ensures.bytes)
+
+pub returns-clause-value : goal.returns-clause-value
+returns-clause-value g c = grind (arith, common_steps)
+
+pub returns-clause-ordered : goal.returns-clause-ordered
+returns-clause-ordered g c = grind (arith, common_steps)

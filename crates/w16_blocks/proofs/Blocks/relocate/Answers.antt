@@ -1,3 +1,4 @@
+use Rattle.std.proofs.lemmas.Grind.{common_steps}
 use Rattle.std.proofs.Common.{List, add-one, ap, arith, subst}
 use Rattle.w16_model.specs.declared.Span.{Span}
 use Rattle.w16_holes.specs.Holes.{Range}
@@ -79,3 +80,6 @@ returns-clause-bytes g c =
     subst (λ (hs : List Span). AreSameBut c.args.to c.args.block.size (holes_of c.args.self.now) hs (g.S.Space.bytes c.args.space.now) (g.S.Space.bytes c.put.new.space)) (invariant_of-self g c).between
     (others_same c.self.invariant c.self.inside.slots.ok.0 c.self.view_is c.args.block c.requires.known c.requires.fits c.beyond-entered.ensures c.beyond-left.ensures
     c.take.ensures.range c.take.ensures.holes c.put.ensures.range c.put.ensures.holes c.requires.inside c.take.ensures.bytes c.slide.ensures.bytes c.put.ensures.bytes)
+
+pub index_mut-requires-2 : goal.index_mut-requires-2
+index_mut-requires-2 g c = grind (arith, common_steps)

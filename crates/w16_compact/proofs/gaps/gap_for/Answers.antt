@@ -1,3 +1,4 @@
+use Rattle.std.proofs.lemmas.Grind.{common_steps}
 use Rattle.std.proofs.Common.{◌≡◌, ℕ, ◌+◌, ◌-◌, ◌<◌, ◌≤◌, sum_by, refl, drop, List, [], ◌∷◌, Option, Some, None, false, IsSome, MatchOption, arith, sym, ap, ◌∙◌, subst}
 use Rattle.std.proofs.lemmas.Bool.{false≢true}
 use Rattle.w16_model.specs.declared.Block.{Block}
@@ -151,3 +152,6 @@ overflow_sub-whole-then-not-has_pinned g c =
 
 pub gap_to-requires : goal.gap_to-requires
 gap_to-requires g c = let ordered = overflow_sub-whole g c in omega arith
+
+pub returns-clause-lowest : goal.returns-clause-lowest
+returns-clause-lowest g c = grind (arith, common_steps)

@@ -1,3 +1,4 @@
+use Rattle.std.proofs.lemmas.Grind.{common_steps}
 use Rattle.std.proofs.lemmas.Result.{err_from_is_err_and}
 use Rattle.std.proofs.Common.{ℕ, List, ◌++◌, [], length-append, sym, ap, ◌∙◌, append-nil, append_assoc, arith}
 use Rattle.std.proofs.lemmas.Result.{IfErr-weaker}
@@ -36,3 +37,12 @@ returns-clause-err g c =
     (whole ∙ ap (λ (l : List ℕ). done ++ l) (sym (append-nil (c.lines.rest.now ++ []) ∙ append-nil c.lines.rest.now))) feeds
     (Stops-overflow _ (progress_of c.lines.state) _ _ c.lines.rest.now [] fault c.in_default.ensures.none (ap (state_with c.lines.kernel) c.hold.ensures.registers) over.0 over.1))
     c.hold.ensures.err
+
+pub lines-smaller : goal.lines-smaller
+lines-smaller g c = grind (arith, common_steps)
+
+pub returns-clause-ok : goal.returns-clause-ok
+returns-clause-ok g c = grind (arith, common_steps)
+
+pub returns-clause-room : goal.returns-clause-room
+returns-clause-room g c = grind (arith, common_steps)

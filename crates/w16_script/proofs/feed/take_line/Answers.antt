@@ -1,5 +1,6 @@
+use Rattle.std.proofs.lemmas.Grind.{common_steps}
 use Rattle.std.proofs.lemmas.Result.{err_from_is_err_and}
-use Rattle.std.proofs.Common.{ap}
+use Rattle.std.proofs.Common.{ap, arith}
 use Rattle.std.proofs.lemmas.Result.{IfErr-weaker}
 use Rattle.w16_script.specs.State.{state_with}
 use Rattle.w16_script.specs.Unfinished.{progress_of}
@@ -27,3 +28,9 @@ pub returns-then-takes_whole-clause-err : goal.returns-then-takes_whole-clause-e
 returns-then-takes_whole-clause-err g c =
     let (nothing, few, short) = c.takes_whole.ensures c.if-takes_whole.true in
     IfErr-weaker c.run_whole.result _ _ (λ fault fails. Stops-whole _ _ (progress_of c.args.state.now) _ _ c.args.line.now fault nothing c.requires.one_line short c.requires.fits few fails) c.run_whole.ensures.err
+
+pub returns-clause-ok : goal.returns-clause-ok
+returns-clause-ok g c = grind (arith, common_steps)
+
+pub returns-clause-room : goal.returns-clause-room
+returns-clause-room g c = grind (arith, common_steps)

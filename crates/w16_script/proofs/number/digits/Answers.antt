@@ -1,3 +1,4 @@
+use Rattle.std.proofs.lemmas.Grind.{common_steps}
 use Rattle.std.proofs.Common.{arith, sym, ap, ◌∙◌, ◌≡◌, ◌<◌, ◌+◌, ◌*◌, drop, get_or, rules}
 use Rattle.std.specs.Char.{digit_value}
 use Rattle.w16_script.proofs.NumberLemmas.{value_behind, value_behind-step, value_behind-whole, all_digits-step}
@@ -26,3 +27,9 @@ loop-byte-preserved c =
           ∙ sym (value_behind-step c.args.base c.loop-byte.value c.in_ok-digit.digit c.loop-byte.byte-index c.args.text.now c.loop-byte-test.true digit) ∙ c.loop-byte.invariant.value;
       digits = sym (all_digits-step c.args.base c.in_ok-digit.digit c.loop-byte.byte-index c.args.text.now c.loop-byte-test.true digit small) ∙ c.loop-byte.invariant.digits;
     }
+
+pub returns-in_err-digit-clause-none : goal.returns-in_err-digit-clause-none
+returns-in_err-digit-clause-none c = grind (arith, common_steps)
+
+pub returns-clause-found : goal.returns-clause-found
+returns-clause-found c = grind (arith, common_steps)

@@ -13,3 +13,9 @@ returns-in-Some-eq43-default-clause-none c =
 
 pub returns-in-Some-eq46-lo-clause-found : goal.returns-in-Some-eq46-lo-clause-found
 returns-in-Some-eq46-lo-clause-found c = grind (arith, common_steps)
+
+pub returns-in-None-clause-found : goal.returns-in-None-clause-found
+returns-in-None-clause-found c = grind (arith, common_steps)
+
+pub returns-in-Some-eq46-hi-clause-found : goal.returns-in-Some-eq46-hi-clause-found
+returns-in-Some-eq46-hi-clause-found c = grind (arith, common_steps)

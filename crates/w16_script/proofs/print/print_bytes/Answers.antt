@@ -1,3 +1,4 @@
+use Rattle.std.proofs.lemmas.Grind.{common_steps}
 use Rattle.std.proofs.Common.{◌≡◌, codes, ◌++◌, [], ◌∷◌, List, ℕ, sym, subst, arith, append-nil, ap, ◌∙◌}
 use Rattle.std.proofs.KnownBytes.{Appends-nil}
 use Rattle.std.proofs.lemmas.Result.{on_err_weaker}
@@ -20,3 +21,6 @@ returns-clause-err g c =
     let text : reply_text (machine.Reply.Bytes c.args.bytes.now) ≡ codes "bytes " ++ digits = bytes_text c.args.bytes.now (grind arith) in
     on_err_weaker c.print_digits.result (λ front. subst (AppendsFront _ _) (ap (λ (l : List ℕ). codes "bytes " ++ l) (append-nil digits) ∙ sym text)
     (AppendsFront-between _ _ _ (codes "bytes ") digits [] c.in_ok-write_whole.ensures.ok front)) c.print_digits.ensures.err
+
+pub returns-clause-ok : goal.returns-clause-ok
+returns-clause-ok g c = grind (arith, common_steps)

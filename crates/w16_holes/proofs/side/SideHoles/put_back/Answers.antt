@@ -1,3 +1,4 @@
+use Rattle.std.proofs.lemmas.Grind.{common_steps}
 use Rattle.std.proofs.Common.{ℕ, option_map, ◌≡◌, ◌+◌, ◌*◌, ◌-◌, length, arith, sym, ap, ◌∙◌, subst}
 use Rattle.std.specs.Prelude.{slice_index}
 use Rattle.std.proofs.lemmas.List.{length-set}
@@ -53,3 +54,12 @@ returns-clause-holes c =
     let cells = two_sets s.lengths c.set.new.self c.set-2.new.self k q (c.args.place + c.args.n - s.lo + c.get.result - c.bytes_before.result) 0 (s.grain * q + slice_index s.lengths q - s.grain * k) 0
     c.set.ensures c.set-2.ensures (omega arith) (omega arith) ∙ sets_apart s.lengths k q (s.grain * q + slice_index s.lengths q - s.grain * k) 0 (λ e. omega arith) in
     rw (← c.self.view_is) (ap (spans s.grain s.lo) cells ∙ put_spans t)
+
+pub begin_of-begin-requires-clause-inside : goal.begin_of-begin-requires-clause-inside
+begin_of-begin-requires-clause-inside c = grind (arith, common_steps)
+
+pub get-requires : goal.get-requires
+get-requires c = grind (arith, common_steps)
+
+pub overflow_add-end-2 : goal.overflow_add-end-2
+overflow_add-end-2 c = grind (arith, common_steps)

@@ -1,3 +1,4 @@
+use Rattle.std.proofs.lemmas.Grind.{common_steps}
 use Rattle.std.proofs.Common.{ℕ, length, option_map, ◌≡◌, ◌+◌, ◌*◌, ◌-◌, arith, sym, ap, ◌∙◌, subst}
 use Rattle.std.specs.Prelude.{slice_index}
 use Rattle.std.proofs.lemmas.List.{length-set}
@@ -78,3 +79,6 @@ pub returns-in_default-clause-holes : goal.returns-in_default-clause-holes
 returns-in_default-clause-holes c =
     let t = is_take (range c.self.inside) c.self.inside.lengths c.args.self.now c.self.view_is c.self.invariant c.args.place c.args.n c.unit_of-unit.result c.unit_of-next.result c.requires.part c.unit_of-unit.ensures c.unit_of-next.ensures c.requires.free in
     absurd (take_none t c.in_default.ensures)
+
+pub last_to-requires-clause-inside : goal.last_to-requires-clause-inside
+last_to-requires-clause-inside c = grind (arith, common_steps)

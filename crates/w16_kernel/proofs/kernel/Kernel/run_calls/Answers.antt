@@ -1,3 +1,4 @@
+use Rattle.std.proofs.lemmas.Grind.{common_steps}
 use Rattle.std.proofs.Common.{take, get_or, List, sym, subst, arith}
 use Rattle.std.proofs.lemmas.List.{take_more}
 use Rattle.w16_machine.specs.LocalMachine.{Step}
@@ -17,3 +18,12 @@ loop-call-preserved c =
     let few = subst (λ reply. IsFewest c.loop-call.self (record { command = command_of call; reply = reply; after = c.call.new.self })) (sym c.of.ensures) c.in_ok-reply.ensures.fewest in
     let longer = ran_more c.args.self.now (take i calls) c.loop-call.answers.items c.loop-call.self call c.of.result c.call.new.self c.loop-call.invariant.ran step few in
     record { ran = subst (λ (cs : List Call). Ran c.args.self.now cs c.push_reserved.new.self.items c.call.new.self) (sym (take_more calls i (GlobalAlloc 0 0) (omega arith))) (rw c.push_reserved.ensures.items longer) }
+
+pub returns-in_err-answers-clause-refused : goal.returns-in_err-answers-clause-refused
+returns-in_err-answers-clause-refused c = grind (arith, common_steps)
+
+pub push_reserved-requires : goal.push_reserved-requires
+push_reserved-requires c = grind (arith, common_steps)
+
+pub returns-clause-run : goal.returns-clause-run
+returns-clause-run c = grind (arith, common_steps)

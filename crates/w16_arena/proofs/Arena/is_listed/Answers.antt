@@ -1,0 +1,6 @@
+use Rattle.std.proofs.lemmas.Grind.{common_steps}
+use Rattle.std.proofs.Common.{arith}
+use Rattle.w16_arena.proofs.Arena.is_listed.Goals as goal
+
+pub returns-then-is_discardable-clause-known : goal.returns-then-is_discardable-clause-known
+returns-then-is_discardable-clause-known g c = grind (arith, common_steps)

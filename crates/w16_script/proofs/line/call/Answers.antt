@@ -1,0 +1,16 @@
+use Rattle.w16_script.proofs.ArgumentLemmas.{makes, makes_none}
+use Rattle.std.proofs.lemmas.Grind.{common_steps}
+use Rattle.std.proofs.Common.{arith}
+use Rattle.w16_script.proofs.line.call.Goals as goal
+
+pub returns-in_ok-pointer-in-Read-clause-found : goal.returns-in_ok-pointer-in-Read-clause-found
+returns-in_ok-pointer-in-Read-clause-found c = grind (arith, common_steps, makes, makes_none)
+
+pub returns-in_ok-pointer-in-Write-clause-found : goal.returns-in_ok-pointer-in-Write-clause-found
+returns-in_ok-pointer-in-Write-clause-found c = grind (arith, common_steps, makes, makes_none)
+
+pub returns-in_ok-pointer-in-Fill-clause-found : goal.returns-in_ok-pointer-in-Fill-clause-found
+returns-in_ok-pointer-in-Fill-clause-found c = grind (arith, common_steps, makes, makes_none)
+
+pub returns-in_ok-selector-in-DS-clause-found : goal.returns-in_ok-selector-in-DS-clause-found
+returns-in_ok-selector-in-DS-clause-found c = grind (arith, common_steps, makes, makes_none)
