@@ -1,3 +1,5 @@
+use Rattle.std.proofs.lemmas.Grind.{common_steps}
+use Rattle.std.proofs.Common.{arith}
 use Rattle.w16_local.proofs.Locals.{listed_none, no_tables}
 use Rattle.w16_local.proofs.LocalHeaps.new.Goals as goal
 
@@ -6,3 +8,6 @@ invariant_of-result c = listed_none c.loop.heaps.items _ c.loop.invariant
 
 pub returns : goal.returns
 returns c = no_tables _ c.loop.heaps.items c.loop.invariant
+
+pub loop-preserved : goal.loop-preserved
+loop-preserved c = grind (arith, common_steps)

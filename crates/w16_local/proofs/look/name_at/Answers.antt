@@ -1,3 +1,4 @@
+use Rattle.std.proofs.lemmas.Grind.{common_steps}
 use Rattle.std.proofs.Common.{None, Some, sym, ◌∙◌, arith}
 use Rattle.w16_local.proofs.Looks.{block_small, name_none, name_fixed, name_loose}
 use Rattle.w16_local.proofs.look.name_at.Goals as goal
@@ -17,3 +18,12 @@ returns-in_ok-block c bytes over = name_fixed over c.args.id c.in_ok-entry.entry
 
 pub returns-else-is_fixed : goal.returns-else-is_fixed
 returns-else-is_fixed c bytes over = name_loose over c.args.id c.in_ok-entry.entry (sym c.in_ok-entry.ensures.value) (sym c.is_fixed.ensures ∙ c.if-is_fixed.false)
+
+pub overflow_mul-result : goal.overflow_mul-result
+overflow_mul-result c = grind (arith, common_steps)
+
+pub overflow_add-result : goal.overflow_add-result
+overflow_add-result c = grind (arith, common_steps)
+
+pub overflow_cast-result-else-is_fixed : goal.overflow_cast-result-else-is_fixed
+overflow_cast-result-else-is_fixed c = grind (arith, common_steps)

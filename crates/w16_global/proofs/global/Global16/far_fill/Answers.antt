@@ -1,3 +1,6 @@
+use Rattle.w16_region.specs.Bytes.{lengths}
+use Rattle.std.proofs.lemmas.Grind.{common_steps}
+use Rattle.std.proofs.Common.{arith}
 use Rattle.w16_model.specs.Bytes.{repeated}
 use Rattle.w16_model.proofs.Parts.{length-repeated, All-repeated}
 use Rattle.w16_global.proofs.Access.{has_part, written_joined, fill_known}
@@ -17,3 +20,6 @@ pub returns-clause-ok : goal.returns-clause-ok
 returns-clause-ok c =
     let ok = c.in_ok-slot.ensures.ok in
     fill_known c.self.invariant (handles_shown c.self.view_is) c.args.selector c.args.offset c.args.n c.in_ok-slot.slot ok.0 ok.1 c.args.byte c.fill.new.self c.fill.ensures c.touch.new.self.handles (handles_shown c.touch.ensures)
+
+pub returns-in_err-slot-clause-err : goal.returns-in_err-slot-clause-err
+returns-in_err-slot-clause-err c = grind (arith, common_steps, lengths)
