@@ -8,7 +8,7 @@ use crate::disk::{Disk, DiskFailure};
 use crate::folder::DirFault;
 use crate::part::has_part;
 use std::alloc::Global;
-use std::fs::OpenFile;
+use std::fs::{DirEntry, OpenFile};
 use std::io::{Error, ErrorKind, Read, Seek, SeekFrom};
 use std::rt::Files;
 use std::{fs, io};
@@ -48,6 +48,20 @@ impl<R: Files + Drop> SystemDisk<R> {
         Ok((file, metadata.len()))
     }
 
+    /// Adds an entry's name to the list, where it is a regular file.
+    fn list(
+        &self,
+        alloc: Global,
+        entry: &DirEntry<R>,
+        names: &mut Vec<String>,
+    ) -> Result<(), DirFault> {
+        if entry.path().is_file(&self.runtime) {
+            let name = String::from_str(alloc, entry.file_name())?;
+            names.push(name).map_err(|_| DirFault::Memory)?;
+        }
+        Ok(())
+    }
+
     fn read_part(&self, name: &str, at: u64, buf: &mut [u8]) -> io::Result<u64> {
         let (mut file, len) = self.open(name)?;
         if has_part(len, at, buf.len()) {
@@ -79,17 +93,13 @@ impl<R: Files + AllocGlobal + Clone + Drop> Disk for SystemDisk<R> {
     ghost refuses = { λ _ _. Unit {0} };
 
     fn names(&self, alloc: Global) -> Result<Vec<String>, DirFault> {
-        let mut names = Vec::new(alloc);
         let entries = fs::read_dir(&self.runtime, self.folder.as_str()).map_err(fault_of)?;
+        let mut names = Vec::new(alloc);
         for entry in entries {
-            let entry = match entry {
-                Ok(entry) => entry,
-                Err(e) if e.kind() == ErrorKind::InvalidFilename => continue,
+            match entry {
+                Ok(entry) => self.list(alloc, &entry, &mut names)?,
+                Err(e) if e.kind() == ErrorKind::InvalidFilename => {}
                 Err(e) => return Err(fault_of(e)),
-            };
-            if entry.path().is_file(&self.runtime) {
-                let name = String::from_str(alloc, entry.file_name())?;
-                names.push(name).map_err(|_| DirFault::Memory)?;
             }
         }
         Ok(names)
