@@ -13,3 +13,11 @@ returns-in_err-texts-clause-exact g c = search rules
 pub returns-then-has_empty-clause-exact : goal.returns-then-has_empty-clause-exact
 unfolding references_at
 returns-then-has_empty-clause-exact g c = search rules
+
+pub returns-then-count-eq0-clause-exact : goal.returns-then-count-eq0-clause-exact
+unfolding references_at
+returns-then-count-eq0-clause-exact g c = search rules
+
+pub returns-in_err-words-clause-exact : goal.returns-in_err-words-clause-exact
+unfolding references_at
+returns-in_err-words-clause-exact g c = search rules

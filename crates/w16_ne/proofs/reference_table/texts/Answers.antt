@@ -1,4 +1,4 @@
-use Rattle.std.proofs.Common.{◌≡◌, ℕ, ◌*◌, ◌+◌, ◌∙◌, List, [], ◌∷◌, ◌++◌, map, arith}
+use Rattle.std.proofs.Common.{◌≡◌, ℕ, ◌*◌, ◌+◌, ◌∙◌, List, [], ◌∷◌, ◌++◌, map, arith, rules}
 use Rattle.std.proofs.lemmas.Result.{err_from_is_err_and}
 use Rattle.std.proofs.lemmas.List.{map_push}
 use Rattle.w16_store.specs.Files.{file_of}
@@ -29,3 +29,11 @@ loop-i-preserved g c =
           let pushed : map (λ t. t.items) c.push.new.self.items ≡ map (λ t. t.items) c.loop-i.texts.items ++ c.in_ok-text.text.items ∷ [] = rw c.in_ok-push.ensures.items (map_push (λ t. t.items) c.loop-i.texts.items c.in_ok-text.text) in
           rw pushed (goes_on entry (map (λ t. t.items) c.loop-i.texts.items) c.args.count c.loop-i.i c.in_ok-text.text.items (texts_at file c.args.names c.args.table.now c.args.count) c.loop-i-test.true said (c.loop-i.invariant.2 honest)),
     )
+
+pub returns-in_err-push-clause-exact : goal.returns-in_err-push-clause-exact
+unfolding texts_at
+returns-in_err-push-clause-exact g c = search rules
+
+pub returns-clause-exact : goal.returns-clause-exact
+unfolding texts_at
+returns-clause-exact g c = search rules

@@ -9,3 +9,23 @@ returns-in-Some-clause-ends g c = search rules
 pub returns-in-Some-clause-exact : goal.returns-in-Some-clause-exact
 unfolding block_at
 returns-in-Some-clause-exact g c = search rules
+
+pub returns-in_err-read_or-clause-exact : goal.returns-in_err-read_or-clause-exact
+unfolding block_at
+returns-in_err-read_or-clause-exact g c = search rules
+
+pub returns-then-word-eq0-clause-exact : goal.returns-then-word-eq0-clause-exact
+unfolding block_at
+returns-then-word-eq0-clause-exact g c = search rules
+
+pub returns-in_err-read_or-2-clause-exact : goal.returns-in_err-read_or-2-clause-exact
+unfolding block_at
+returns-in_err-read_or-2-clause-exact g c = search rules
+
+pub returns-in_default-clause-exact : goal.returns-in_default-clause-exact
+unfolding block_at
+returns-in_default-clause-exact g c = search rules
+
+pub returns-in_default-2-clause-exact : goal.returns-in_default-2-clause-exact
+unfolding block_at
+returns-in_default-2-clause-exact g c = search rules

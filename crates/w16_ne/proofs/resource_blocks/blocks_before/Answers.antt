@@ -40,3 +40,9 @@ pub returns-then-place-len-clause-exact : goal.returns-then-place-len-clause-exa
 returns-then-place-len-clause-exact g c = λ honest known.
     let file = file_of (g.S.Store.files c.args.store.now) c.args.name.now in
     stops file c.loop.blocks.items c.args.len c.loop.counter c.loop.place _ _ c.loop-test.true (past_the_end file c.args.len c.loop.place known c.if-place-len.true) (c.loop.invariant.3 honest known)
+
+pub returns-in_err-push-in-Some-clause-exact : goal.returns-in_err-push-in-Some-clause-exact
+returns-in_err-push-in-Some-clause-exact g c = search rules
+
+pub returns-clause-exact : goal.returns-clause-exact
+returns-clause-exact g c = search rules

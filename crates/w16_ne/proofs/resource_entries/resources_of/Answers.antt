@@ -1,4 +1,4 @@
-use Rattle.std.proofs.Common.{◌≡◌, ℕ, ◌*◌, ◌+◌, ◌∙◌, [], ◌∷◌, ◌++◌, map, arith}
+use Rattle.std.proofs.Common.{◌≡◌, ℕ, ◌*◌, ◌+◌, ◌∙◌, [], ◌∷◌, ◌++◌, map, arith, rules}
 use Rattle.std.proofs.lemmas.Result.{err_from_is_err_and}
 use Rattle.std.proofs.lemmas.List.{map_push}
 use Rattle.w16_store.specs.Files.{file_of}
@@ -28,3 +28,11 @@ loop-i-preserved g c =
           let pushed : map entry_of c.push.new.self.items ≡ map entry_of c.loop-i.resources.items ++ entry_of c.in_ok-resource.resource ∷ [] = rw c.in_ok-push.ensures.items (map_push entry_of c.loop-i.resources.items c.in_ok-resource.resource) in
           rw pushed (goes_on item (map entry_of c.loop-i.resources.items) c.args.block.count c.loop-i.i (entry_of c.in_ok-resource.resource) (resources_of file c.args.table c.args.shift c.args.block) c.loop-i-test.true said (c.loop-i.invariant.2 honest)),
     )
+
+pub returns-in_err-push-clause-exact : goal.returns-in_err-push-clause-exact
+unfolding resources_of
+returns-in_err-push-clause-exact g c = search rules
+
+pub returns-clause-exact : goal.returns-clause-exact
+unfolding resources_of
+returns-clause-exact g c = search rules

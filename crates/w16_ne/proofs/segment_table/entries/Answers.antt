@@ -26,3 +26,11 @@ loop-i-preserved g c =
           rw c.in_ok-push.ensures.items (goes_on entry c.loop-i.segments.items c.args.count c.loop-i.i c.in_ok-segment.segment (entries_at (file_of (g.S.Store.files c.args.store.now) c.args.name.now) c.args.shift c.args.table.now c.args.count) c.loop-i-test.true said (c.loop-i.invariant.2 honest)),
       search rules,
     )
+
+pub returns-in_err-push-clause-exact : goal.returns-in_err-push-clause-exact
+unfolding entries_at
+returns-in_err-push-clause-exact g c = search rules
+
+pub returns-clause-exact : goal.returns-clause-exact
+unfolding entries_at
+returns-clause-exact g c = search rules
