@@ -1,3 +1,4 @@
+use Rattle.std.proofs.lemmas.Grind.{common_steps}
 use Rattle.std.proofs.Common.{◌≡◌, arith}
 use Rattle.std.specs.List.{swap}
 use Rattle.std.specs.Prelude.{slice_index}
@@ -46,3 +47,9 @@ returns-clause-value c =
 
 pub returns-clause-uses : goal.returns-clause-uses
 returns-clause-uses c = (invariant_of-self c).uses
+
+pub exchange-requires-clause-behind_front : goal.exchange-requires-clause-behind_front
+exchange-requires-clause-behind_front c = grind (arith, common_steps)
+
+pub overflow_sub-self : goal.overflow_sub-self
+overflow_sub-self c = grind (arith, common_steps)

@@ -1,3 +1,4 @@
+use Rattle.std.proofs.lemmas.Grind.{common_steps}
 use Rattle.std.proofs.Common.{◌≡◌, ◌∙◌, ap, sym, arith, subst, false, ℕ, ◌<◌, get_or}
 use Rattle.std.specs.List.{swap}
 use Rattle.std.specs.Prelude.{slice_index}
@@ -55,3 +56,6 @@ returns-clause-value c =
 
 pub returns-clause-uses : goal.returns-clause-uses
 returns-clause-uses c = (invariant_of-self c).uses
+
+pub exchange-requires-clause-behind_front : goal.exchange-requires-clause-behind_front
+exchange-requires-clause-behind_front c = grind (arith, common_steps)
