@@ -11,33 +11,27 @@ use std::test::Fail;
 use w16_kernel::{SizeFault, check_sizes};
 
 /// A new machine of so many bytes with 16 selectors, and what is asked of it with the answers.
-#[derive(Clone, Copy)]
 struct Script {
     name: &'static str,
     memory: u32,
     lines: &'static [(Step, Told)],
 }
 
-/// Asks what a script asks.
-fn plays(rt: &impl Abort, alloc: Global, script: Script) -> Result<(), AllocError> {
-    let Script {
-        name,
-        memory,
-        lines,
-    } = script;
-    let mut bench = Bench::new(rt, alloc, memory)?;
-    for line in lines {
-        let (step, answer) = *line;
-        let found = bench.act(step);
-        assert_eq!(rt; found, answer, "{name}: {step:?}");
-    }
-    Ok(())
+/// The number of a script's first step, counted from 0, that is answered otherwise.
+fn first_wrong(
+    rt: &impl Abort,
+    alloc: Global,
+    script: &Script,
+) -> Result<Option<usize>, AllocError> {
+    let mut bench = Bench::new(rt, alloc, script.memory)?;
+    Ok(bench.first_wrong(script.lines))
 }
 
 #[test]
 fn answers_calls(rt: HostRuntime) -> Result<(), Fail> {
     for script in SCRIPTS {
-        plays(&rt, rt.alloc(), *script)?;
+        let wrong = first_wrong(&rt, rt.alloc(), script)?;
+        assert!(rt; wrong.is_none(), "{}: {wrong:?}", script.name);
     }
     Ok(())
 }

@@ -10,33 +10,27 @@ use std::process::Abort;
 use std::test::Fail;
 
 /// A new global heap of so many bytes with 16 selectors and no local heap, and calls with their answers.
-#[derive(Clone, Copy)]
 struct Script {
     name: &'static str,
     memory: u32,
     lines: &'static [(Call, u32)],
 }
 
-/// Makes the calls of a script.
-fn plays(rt: &impl Abort, alloc: Global, script: Script) -> Result<(), AllocError> {
-    let Script {
-        name,
-        memory,
-        lines,
-    } = script;
-    let mut bench = Bench::new(rt, alloc, memory)?;
-    for line in lines {
-        let (call, answer) = *line;
-        let found = bench.act(call)?;
-        assert_eq!(rt; found, answer, "{name}: {call:?}");
-    }
-    Ok(())
+/// The number of a script's first call, counted from 0, that is answered otherwise.
+fn first_wrong(
+    rt: &impl Abort,
+    alloc: Global,
+    script: &Script,
+) -> Result<Option<usize>, AllocError> {
+    let mut bench = Bench::new(rt, alloc, script.memory)?;
+    bench.first_wrong(script.lines)
 }
 
 #[test]
 fn answers_calls(rt: HostRuntime) -> Result<(), Fail> {
     for script in SCRIPTS {
-        plays(&rt, rt.alloc(), *script)?;
+        let wrong = first_wrong(&rt, rt.alloc(), script)?;
+        assert!(rt; wrong.is_none(), "{}: {wrong:?}", script.name);
     }
     Ok(())
 }

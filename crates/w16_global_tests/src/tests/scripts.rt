@@ -1,10 +1,11 @@
 //! Calls one after another in a new heap, with their answers. The first handle is `0x106`, and the next eight above it; a fixed object's
 //! handle, and any object's selector, is odd.
 
-use super::{Answer, Call, Script};
+use super::Script;
+use super::bench::{Answer, Call};
 use w16_global::FarFault;
 
-pub(super) const SCRIPTS: &[Script] = &[
+pub(super) static SCRIPTS: &[Script] = &[
     Script {
         name: "tells of objects",
         memory: 4096,

@@ -9,7 +9,7 @@ use w16_kernel::{Call, Kernel, MOST_FILLED, MOST_READ, Reply};
 use w16_model::{FarFault, Item};
 
 /// What is asked of the machine.
-#[derive(Clone, Copy, Debug)]
+#[derive(Clone, Copy)]
 pub(super) enum Step {
     Call(Call<'static>),
     /// A call so many times, with the same answer each time.
@@ -21,7 +21,7 @@ pub(super) enum Step {
 }
 
 /// What it answers.
-#[derive(Clone, Copy, Debug, PartialEq, Eq)]
+#[derive(Clone, Copy, PartialEq)]
 pub(super) enum Told {
     Word(u16),
     Dword(u32),
@@ -52,13 +52,23 @@ impl Model for Bench {
 
 impl Bench {
     pub fn new(rt: &impl Abort, alloc: Global, memory: u32) -> Result<Bench, AllocError> {
-        assert_eq!(rt; memory % 32, 0, "memory");
+        assert!(rt; memory % 32 == 0);
         let kernel = Kernel::new(alloc, memory, 16)?;
         Ok(Bench { kernel })
     }
 
+    /// The number of the first step that is answered otherwise.
+    pub fn first_wrong(&mut self, lines: &[(Step, Told)]) -> Option<usize> {
+        for (at, (step, told)) in lines.iter().enumerate() {
+            if self.act(*step) != *told {
+                return Some(at);
+            }
+        }
+        None
+    }
+
     /// Asks the machine.
-    pub fn act(&mut self, step: Step) -> Told {
+    fn act(&mut self, step: Step) -> Told {
         match step {
             Step::Call(call) => self.tell(&call),
             Step::Times(times, call) => self.tell_all(times, &call),

@@ -34,7 +34,7 @@ const HOLE_AT_64: Told = Told::Item(Some(Item {
     owner: None,
 }));
 
-pub(super) const SCRIPTS: &[Script] = &[
+pub(super) static SCRIPTS: &[Script] = &[
     Script {
         name: "names by kind",
         memory: 4096,

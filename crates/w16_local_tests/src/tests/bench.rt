@@ -8,7 +8,7 @@ use w16_global::Global16;
 use w16_local::LocalHeaps;
 
 /// A call.
-#[derive(Clone, Copy, Debug)]
+#[derive(Clone, Copy)]
 pub(super) enum Call {
     GlobalAlloc(u16, u32),
     GlobalReAlloc(u16, u32, u16),
@@ -65,8 +65,12 @@ impl Model for Bench {
 impl Bench {
     /// A memory of so many bytes, 16 selectors, and no heap.
     pub fn new(rt: &impl Abort, alloc: Global, memory: u32) -> Result<Bench, AllocError> {
-        assert_eq!(rt; memory % 32, 0, "memory");
-        let global = Global16::new(alloc, memory, 16)?;
+        assert!(rt; memory % 32 == 0);
+        Bench::over(alloc, Global16::new(alloc, memory, 16)?)
+    }
+
+    /// The same over a global heap.
+    fn over(alloc: Global, global: Global16) -> Result<Bench, AllocError> {
         let local = LocalHeaps::new(alloc, 16)?;
         Ok(Bench {
             global,
@@ -75,8 +79,18 @@ impl Bench {
         })
     }
 
+    /// The number of the first call that is answered otherwise.
+    pub fn first_wrong(&mut self, lines: &[(Call, u32)]) -> Result<Option<usize>, AllocError> {
+        for (at, (call, answer)) in lines.iter().enumerate() {
+            if self.act(*call)? != *answer {
+                return Ok(Some(at));
+            }
+        }
+        Ok(None)
+    }
+
     /// Makes a call.
-    pub fn act(&mut self, call: Call) -> Result<u32, AllocError> {
+    fn act(&mut self, call: Call) -> Result<u32, AllocError> {
         match call {
             Call::Init(selector, start, end) => self.init(selector, start, end),
             Call::Ds(selector) => {

@@ -3,7 +3,7 @@
 use super::Script;
 use super::bench::{Call, FAULT};
 
-pub(super) const SCRIPTS: &[Script] = &[
+pub(super) static SCRIPTS: &[Script] = &[
     Script {
         name: "begins where it may",
         memory: 4096,

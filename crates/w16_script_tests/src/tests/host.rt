@@ -195,14 +195,6 @@ impl<'a> Host<'a> {
         }
     }
 
-    /// Whether it took just these bytes, where it notes no more than what it takes.
-    pub fn has_taken(&self, bytes: &[u8]) -> bool {
-        match self.state.try_borrow() {
-            Ok(state) => state.notes.as_slice() == bytes,
-            Err(_) => false,
-        }
-    }
-
     /// How often it was read.
     pub fn reads(&self) -> u32 {
         match self.state.try_borrow() {

@@ -4,7 +4,7 @@ mod tables;
 
 use arrayvec::ArrayVec;
 use std::alloc::Global;
-use tables::{BAD, BYTES, COMMANDS, NUMBERS, SILENT};
+use tables::{BYTES, NO_TEXT, ROWS};
 use w16_kernel::Call;
 use w16_script::{Line, MOST_BYTES, Registers, read_line};
 
@@ -19,69 +19,42 @@ pub fn filled() -> Registers {
     registers
 }
 
-/// Whether a line is a command whose reply goes there, and its call is printed so for a programmer.
-fn is_command(alloc: Global, line: &[u8], goes: Option<u8>, text: &str) -> bool {
+/// Whether a call, with the register that its reply goes to, is printed so for a programmer.
+fn is_shown(alloc: Global, target: Option<u8>, call: &Call<'_>, text: &str) -> bool {
+    match format!(in alloc; "{target:?} {call:?}") {
+        Ok(found) => found.as_str() == text,
+        Err(_) => false,
+    }
+}
+
+/// Whether a line is read so.
+fn is_read(alloc: Global, line: &[u8], text: &str) -> bool {
     match read_line(line, &filled(), &mut [0; MOST_BYTES]) {
-        Line::Command { target, call } => match format!(in alloc; "{call:?}") {
-            Ok(found) => target == goes && found.as_str() == text,
-            Err(_) => false,
-        },
-        _ => false,
+        Line::Command { target, call } => is_shown(alloc, target, &call, text),
+        Line::Bad => text == "bad",
+        Line::Silent => text == "silent",
+    }
+}
+
+/// Whether the line of a row is read as the row says.
+fn holds(alloc: Global, row: &str) -> bool {
+    match row.split_once(" -> ") {
+        Some((line, text)) => is_read(alloc, line.as_bytes(), text),
+        None => false,
     }
 }
 
 #[test]
-fn reads_commands(rt: HostRuntime) {
-    for (at, (line, target, text)) in COMMANDS.iter().enumerate() {
-        assert!(rt; is_command(rt.alloc(), line, *target, text), "at {at}");
-    }
-}
-
-/// Whether a line is answered as one that says nothing that is known.
-fn is_bad(line: &[u8]) -> bool {
-    matches!(read_line(line, &filled(), &mut [0; MOST_BYTES]), Line::Bad)
-}
-
-#[test]
-fn refuses_other_lines(rt: HostRuntime) {
-    for (at, line) in BAD.iter().enumerate() {
-        assert!(rt; is_bad(line), "at {at}");
-    }
-}
-
-/// Whether a line has no reply.
-fn is_silent(line: &[u8]) -> bool {
-    matches!(
-        read_line(line, &filled(), &mut [0; MOST_BYTES]),
-        Line::Silent
-    )
-}
-
-#[test]
-fn passes_over_silent_lines(rt: HostRuntime) {
-    for (at, line) in SILENT.iter().enumerate() {
-        assert!(rt; is_silent(line), "at {at}");
-    }
-}
-
-/// The number that a word is, as a double word.
-fn number(word: &[u8]) -> Option<u32> {
-    let mut line: ArrayVec<u8, 64> = ArrayVec::new();
-    let _ = line.try_extend_from_slice(b"GlobalAlloc 0 ");
-    let _ = line.try_extend_from_slice(word);
-    match read_line(line.as_slice(), &filled(), &mut [0; MOST_BYTES]) {
-        Line::Command {
-            call: Call::GlobalAlloc { size, .. },
-            ..
-        } => Some(size),
-        _ => None,
+fn reads_lines(rt: HostRuntime) {
+    for row in ROWS.split('\n') {
+        assert!(rt; holds(rt.alloc(), row), "{row}");
     }
 }
 
 #[test]
-fn reads_numbers_from_registers(rt: HostRuntime) {
-    for (at, (word, want)) in NUMBERS.iter().enumerate() {
-        assert!(rt; number(word) == *want, "at {at}");
+fn reads_lines_that_are_no_text(rt: HostRuntime) {
+    for (line, text) in NO_TEXT {
+        assert!(rt; is_read(rt.alloc(), line, text), "the one that is {text}");
     }
 }
 

@@ -54,7 +54,7 @@ fn stops_after(room: usize, room_at_once: usize) -> bool {
         ..PLAN
     });
     print_reply(&mut &host, &Reply::Fault(FarFault::NotPresent)).is_err()
-        && host.has_taken(&FAULT[..room.min(FAULT.len())])
+        && host.has_noted(&[(1, &FAULT[..room.min(FAULT.len())])])
 }
 
 #[test]
@@ -73,7 +73,7 @@ fn errors_are_printed_byte_by_byte() -> bool {
         room_at_once: 1,
         ..PLAN
     });
-    print_error(&mut &host).is_ok() && host.has_taken(b"error syntax\n")
+    print_error(&mut &host).is_ok() && host.has_noted(&[(1, b"error syntax\n")])
 }
 
 #[test]

@@ -1,18 +1,22 @@
 //! Whole runs, as tables of hosts with how a run over them ends and what they note.
 
+ghost use Rattle.std.specs.Prelude.{ℕ};
+
 mod scripts;
 
 use crate::tests::host::{Host, PLAN, Part, Plan};
-use scripts::{COUNTED, DIALOGUE, DIALOGUES, ENDLESS, SCRIPTS, WRITTEN};
+use scripts::{COUNTED, DIALOGUES, ENDLESS, WRITTEN, scripts};
 use std::alloc::Global;
 use std::io::{BufWriter, ErrorKind};
+use std::marker::Model;
 use w16_kernel::Kernel;
 use w16_script::{Ended, RunFault, run};
 
 /// A talking host, with how a run over it ends on a machine of 4,096 bytes, and what it notes.
-#[derive(Clone, Copy)]
 pub struct Dialogue {
     pub name: &'static str,
+    /// Whether the writer before the host has a buffer.
+    pub buffered: bool,
     pub text: &'static [Part<'static>],
     pub breaks: bool,
     pub room: usize,
@@ -23,7 +27,6 @@ pub struct Dialogue {
 }
 
 /// A host that doesn't talk, with how a run over it ends on a machine of so many bytes.
-#[derive(Clone, Copy)]
 pub struct Script {
     pub name: &'static str,
     pub text: &'static [Part<'static>],
@@ -36,25 +39,66 @@ pub struct Script {
     pub notes: &'static [Part<'static>],
 }
 
-/// The machine of so many bytes, if it has memory.
-fn machine(alloc: Global, memory: u32) -> Option<Kernel> {
-    if memory % 32 != 0 {
-        return None;
+/// A machine. To a proof it has no value, so no test carries what a run says of it.
+#[derive(Drop)]
+struct Machine {
+    kernel: Kernel,
+}
+
+impl Model for Machine {
+    ghost Value = { ℕ };
+
+    ghost view = { λ _. 0 };
+}
+
+impl Machine {
+    /// The machine of so many bytes, if it has memory.
+    fn new(alloc: Global, memory: u32) -> Option<Machine> {
+        if memory % 32 != 0 {
+            return None;
+        }
+        match Kernel::new(alloc, memory, 16) {
+            Ok(kernel) => Some(Machine { kernel }),
+            Err(_) => None,
+        }
     }
-    Kernel::new(alloc, memory, 16).ok()
+
+    /// How a run ended that reads from a host, and writes to it, through a buffer or not.
+    fn play(
+        &mut self,
+        alloc: Global,
+        host: &Host<'_>,
+        buffered: bool,
+    ) -> Option<Result<Ended, RunFault>> {
+        if buffered {
+            return self.play_through_a_buffer(alloc, host);
+        }
+        let mut reader = host;
+        let mut writer = host;
+        Some(run(alloc, &mut reader, &mut writer, &mut self.kernel))
+    }
+
+    /// How it ended where the writer before the host has a buffer.
+    fn play_through_a_buffer(
+        &mut self,
+        alloc: Global,
+        host: &Host<'_>,
+    ) -> Option<Result<Ended, RunFault>> {
+        let mut reader = host;
+        let mut writer = BufWriter::new(alloc, host).ok()?;
+        Some(run(alloc, &mut reader, &mut writer, &mut self.kernel))
+    }
 }
 
-/// How a run on this machine ended that reads from a host, and writes to it.
-fn play(alloc: Global, kernel: &mut Kernel, host: &Host<'_>) -> Result<Ended, RunFault> {
-    let mut reader = host;
-    let mut writer = host;
-    run(alloc, &mut reader, &mut writer, kernel)
-}
-
-/// How it ended on a new machine of so many bytes. There is none where the machine had no memory.
-fn outcome(alloc: Global, memory: u32, host: &Host<'_>) -> Option<Result<Ended, RunFault>> {
-    let mut kernel = machine(alloc, memory)?;
-    Some(play(alloc, &mut kernel, host))
+/// How a run ended on a new machine of so many bytes, through a buffer or not. There is none where the machine had no memory.
+fn outcome(
+    alloc: Global,
+    memory: u32,
+    host: &Host<'_>,
+    buffered: bool,
+) -> Option<Result<Ended, RunFault>> {
+    let mut machine = Machine::new(alloc, memory)?;
+    machine.play(alloc, host, buffered)
 }
 
 /// Whether a run over a script's host ends as the script says, and the host notes what it says.
@@ -66,20 +110,25 @@ fn is_played(alloc: Global, script: &Script, at_once: usize) -> bool {
         interrupts: script.interrupts,
         ..PLAN
     });
-    let ended = outcome(alloc, script.memory, &host);
+    let ended = outcome(alloc, script.memory, &host, false);
     ended == Some(script.ended) && host.has_noted(script.notes)
+}
+
+/// How many bytes are read at once where a run over a script's host is otherwise.
+fn first_wrong(alloc: Global, script: &Script) -> Option<usize> {
+    for at_once in script.by {
+        if !is_played(alloc, script, *at_once) {
+            return Some(*at_once);
+        }
+    }
+    None
 }
 
 #[test]
 fn plays_scripts(rt: HostRuntime) {
-    for script in SCRIPTS {
-        for at_once in script.by {
-            assert!(rt;
-                is_played(rt.alloc(), script, *at_once),
-                "{} by {at_once}",
-                script.name
-            );
-        }
+    for script in scripts() {
+        let wrong = first_wrong(rt.alloc(), script);
+        assert!(rt; wrong.is_none(), "{} by {wrong:?}", script.name);
     }
 }
 
@@ -99,7 +148,7 @@ fn talking(dialogue: &Dialogue) -> Host<'static> {
 /// Whether a run over a dialogue's host ends as the dialogue says, and the host notes what it says.
 fn is_held(alloc: Global, dialogue: &Dialogue) -> bool {
     let host = talking(dialogue);
-    let ended = outcome(alloc, 4096, &host);
+    let ended = outcome(alloc, 4096, &host, dialogue.buffered);
     ended == Some(dialogue.ended) && host.has_noted(dialogue.notes)
 }
 
@@ -110,32 +159,6 @@ fn holds_dialogues(rt: HostRuntime) {
     }
 }
 
-/// How a run on this machine ended that writes through a buffer.
-fn play_through_a_buffer(
-    alloc: Global,
-    kernel: &mut Kernel,
-    host: &Host<'_>,
-) -> Option<Result<Ended, RunFault>> {
-    let mut reader = host;
-    let mut writer = BufWriter::new(alloc, host).ok()?;
-    Some(run(alloc, &mut reader, &mut writer, kernel))
-}
-
-/// Whether the dialogue is the same where the writer before the host has a buffer.
-fn is_held_through_a_buffer(alloc: Global, dialogue: &Dialogue) -> bool {
-    let host = talking(dialogue);
-    let Some(mut kernel) = machine(alloc, 4096) else {
-        return false;
-    };
-    play_through_a_buffer(alloc, &mut kernel, &host) == Some(dialogue.ended)
-        && host.has_noted(dialogue.notes)
-}
-
-#[test]
-fn replies_through_a_buffer_before_it_reads_on(rt: HostRuntime) {
-    assert!(rt; is_held_through_a_buffer(rt.alloc(), &DIALOGUE));
-}
-
 /// Whether the run of a text has so many lines and replies, each of which says that its line is bad.
 fn is_counted(alloc: Global, text: &'static [Part<'static>], ended: Ended, at_once: usize) -> bool {
     let host = Host::new(Plan {
@@ -143,7 +166,7 @@ fn is_counted(alloc: Global, text: &'static [Part<'static>], ended: Ended, at_on
         at_once,
         ..PLAN
     });
-    outcome(alloc, 4096, &host) == Some(Ok(ended))
+    outcome(alloc, 4096, &host, false) == Some(Ok(ended))
         && host.has_noted(&[(ended.replies as u64, b"error syntax\n")])
 }
 
@@ -164,7 +187,6 @@ fn counts_lines_and_replies(rt: HostRuntime) {
 }
 
 /// A script with what is written of it.
-#[derive(Clone, Copy)]
 pub struct Written {
     pub text: &'static [Part<'static>],
     pub memory: u32,
@@ -186,7 +208,8 @@ fn stops_after(alloc: Global, script: &Written, room: usize, room_at_once: usize
     } else {
         Ok(script.ended)
     };
-    outcome(alloc, script.memory, &host) == Some(ended) && host.has_taken(&script.written[..count])
+    outcome(alloc, script.memory, &host, false) == Some(ended)
+        && host.has_noted(&[(1, &script.written[..count])])
 }
 
 #[test]
@@ -214,7 +237,7 @@ fn reads_until_too_long(
         at_once,
         ..PLAN
     });
-    match outcome(alloc, 4096, &host) {
+    match outcome(alloc, 4096, &host, false) {
         Some(Err(RunFault::TooLong)) => Some(host.reads()),
         _ => None,
     }

@@ -1,339 +1,218 @@
 //! Lines, with what they are read as.
 
-/// Lines, the registers that their replies go to, and their calls.
-pub static COMMANDS: &[(&[u8], Option<u8>, &str)] = &[
-    (
-        b"GlobalAlloc 0x42 100",
-        None,
-        "GlobalAlloc { flags: 66, size: 100 }",
-    ),
-    (
-        b"GlobalAlloc 0xffff 4294967295",
-        None,
-        "GlobalAlloc { flags: 65535, size: 4294967295 }",
-    ),
-    (b"GlobalFree 0x106", None, "GlobalFree { handle: 262 }"),
-    (b"GlobalLock 262", None, "GlobalLock { handle: 262 }"),
-    (b"GlobalUnlock 0x0106", None, "GlobalUnlock { handle: 262 }"),
-    (b"GlobalSize 0x106", None, "GlobalSize { handle: 262 }"),
-    (b"GlobalFlags 0x106", None, "GlobalFlags { handle: 262 }"),
-    (
-        b"GlobalHandle 0x107",
-        None,
-        "GlobalHandle { selector: 263 }",
-    ),
-    (
-        b"GetSelectorBase 0x107",
-        None,
-        "GetSelectorBase { selector: 263 }",
-    ),
-    (
-        b"GetSelectorLimit 0x107",
-        None,
-        "GetSelectorLimit { selector: 263 }",
-    ),
-    (
-        b"GlobalCompact 0xffffffff",
-        None,
-        "GlobalCompact { size: 4294967295 }",
-    ),
-    (
-        b"GlobalReAlloc 0x106 0x10000 0x42",
-        None,
-        "GlobalReAlloc { handle: 262, size: 65536, flags: 66 }",
-    ),
-    (
-        b"GlobalDiscard 0x106",
-        None,
-        "GlobalDiscard { handle: 262 }",
-    ),
-    (
-        b"GlobalLRUNewest 0x106",
-        None,
-        "GlobalLRUNewest { handle: 262 }",
-    ),
-    (
-        b"GlobalLRUOldest 0x106",
-        None,
-        "GlobalLRUOldest { handle: 262 }",
-    ),
-    (b" Moved ", None, "Moved"),
-    (b"Walk", None, "Walk"),
-    (
-        b"Read 0x01070000 4",
-        None,
-        "Read { pointer: 17235968, count: 4 }",
-    ),
-    (
-        b"Read 0xffffffff 1024",
-        None,
-        "Read { pointer: 4294967295, count: 1024 }",
-    ),
-    (b"Read 0 0x0", None, "Read { pointer: 0, count: 0 }"),
-    (
-        b"Write 0x01070000 4e45Ff",
-        None,
-        "Write { pointer: 17235968, bytes: [78, 69, 255] }",
-    ),
-    (
-        b"Write 1 004e",
-        None,
-        "Write { pointer: 1, bytes: [0, 78] }",
-    ),
-    (
-        b"Fill 0x01070000 65536 255",
-        None,
-        "Fill { pointer: 17235968, count: 65536, byte: 255 }",
-    ),
-    (
-        b"Fill 0 0 0",
-        None,
-        "Fill { pointer: 0, count: 0, byte: 0 }",
-    ),
-    (
-        b"LocalInit 0x107 16 65536",
-        None,
-        "LocalInit { selector: 263, start: 16, end: 65536 }",
-    ),
-    (
-        b"LocalAlloc 0x42 65535",
-        None,
-        "LocalAlloc { flags: 66, size: 65535 }",
-    ),
-    (
-        b"LocalReAlloc 6 8 0x80",
-        None,
-        "LocalReAlloc { name: 6, size: 8, flags: 128 }",
-    ),
-    (b"LocalDiscard 6", None, "LocalDiscard { name: 6 }"),
-    (b"LocalFree 6", None, "LocalFree { name: 6 }"),
-    (b"LocalLock 6", None, "LocalLock { name: 6 }"),
-    (b"LocalUnlock 6", None, "LocalUnlock { name: 6 }"),
-    (b"LocalSize 6", None, "LocalSize { name: 6 }"),
-    (b"LocalFlags 6", None, "LocalFlags { name: 6 }"),
-    (b"LocalHandle 0x10", None, "LocalHandle { pointer: 16 }"),
-    (b"LocalCompact 0xffff", None, "LocalCompact { size: 65535 }"),
-    (b"DS 0x107", None, "DS { selector: 263 }"),
-    (b"GlobalFree 0", None, "GlobalFree { handle: 0 }"),
-    (b"GlobalFree 65535", None, "GlobalFree { handle: 65535 }"),
-    (
-        b"GlobalFree 0000000000000000000000000000262",
-        None,
-        "GlobalFree { handle: 262 }",
-    ),
-    (b"GlobalFree 0x0", None, "GlobalFree { handle: 0 }"),
-    (b"GlobalFree 0xfFfF", None, "GlobalFree { handle: 65535 }"),
-    (b"GlobalFree 0x00000106", None, "GlobalFree { handle: 262 }"),
-    (
-        b" \t GlobalFree\t\t262 \t",
-        None,
-        "GlobalFree { handle: 262 }",
-    ),
-    (b"GlobalFree 0x1", None, "GlobalFree { handle: 1 }"),
-    (b"GlobalFree 00", None, "GlobalFree { handle: 0 }"),
-    (b"GlobalFree r99", None, "GlobalFree { handle: 65535 }"),
-    (b"GlobalFree r0.hi", None, "GlobalFree { handle: 263 }"),
-    (
-        b"Read r42 r5",
-        None,
-        "Read { pointer: 4294967295, count: 1024 }",
-    ),
-    (
-        b"r0 = GlobalLock 262",
-        Some(0),
-        "GlobalLock { handle: 262 }",
-    ),
-    (
-        b"r7 = GlobalLock 262",
-        Some(7),
-        "GlobalLock { handle: 262 }",
-    ),
-    (b"r9 = GlobalFree 1", Some(9), "GlobalFree { handle: 1 }"),
-    (
-        b"r10 = GlobalAlloc 2 1",
-        Some(10),
-        "GlobalAlloc { flags: 2, size: 1 }",
-    ),
-    (
-        b"r42 = GlobalUnlock 1",
-        Some(42),
-        "GlobalUnlock { handle: 1 }",
-    ),
-    (b"r99 = Read 0 4", Some(99), "Read { pointer: 0, count: 4 }"),
-    (
-        b"r1 = Write 0 4e",
-        Some(1),
-        "Write { pointer: 0, bytes: [78] }",
-    ),
-    (
-        b" \tr1\t=\tGlobalLock 1 ",
-        Some(1),
-        "GlobalLock { handle: 1 }",
-    ),
-    (b"r1 = GlobalLock r1", Some(1), "GlobalLock { handle: 262 }"),
-    (
-        b"r20 = GlobalLock r20.lo",
-        Some(20),
-        "GlobalLock { handle: 0 }",
-    ),
-];
+/// Each row is a line, an arrow, and what the line is read as: the register that its reply goes to and its call, as a programmer sees them, or
+/// that it is bad, or silent.
+///
+/// First commands. Then lines that say none: a number that its place doesn't take, no command at all, no target. Then lines without a reply, and
+/// at last numbers from registers.
+pub static ROWS: &str = "\
+GlobalAlloc 0x42 100 -> None GlobalAlloc { flags: 66, size: 100 }
+GlobalAlloc 0xffff 4294967295 -> None GlobalAlloc { flags: 65535, size: 4294967295 }
+GlobalFree 0x106 -> None GlobalFree { handle: 262 }
+GlobalLock 262 -> None GlobalLock { handle: 262 }
+GlobalUnlock 0x0106 -> None GlobalUnlock { handle: 262 }
+GlobalSize 0x106 -> None GlobalSize { handle: 262 }
+GlobalFlags 0x106 -> None GlobalFlags { handle: 262 }
+GlobalHandle 0x107 -> None GlobalHandle { selector: 263 }
+GetSelectorBase 0x107 -> None GetSelectorBase { selector: 263 }
+GetSelectorLimit 0x107 -> None GetSelectorLimit { selector: 263 }
+GlobalCompact 0xffffffff -> None GlobalCompact { size: 4294967295 }
+GlobalReAlloc 0x106 0x10000 0x42 -> None GlobalReAlloc { handle: 262, size: 65536, flags: 66 }
+GlobalDiscard 0x106 -> None GlobalDiscard { handle: 262 }
+GlobalLRUNewest 0x106 -> None GlobalLRUNewest { handle: 262 }
+GlobalLRUOldest 0x106 -> None GlobalLRUOldest { handle: 262 }
+ Moved  -> None Moved
+Walk -> None Walk
+Read 0x01070000 4 -> None Read { pointer: 17235968, count: 4 }
+Read 0xffffffff 1024 -> None Read { pointer: 4294967295, count: 1024 }
+Read 0 0x0 -> None Read { pointer: 0, count: 0 }
+Write 0x01070000 4e45Ff -> None Write { pointer: 17235968, bytes: [78, 69, 255] }
+Write 1 004e -> None Write { pointer: 1, bytes: [0, 78] }
+Fill 0x01070000 65536 255 -> None Fill { pointer: 17235968, count: 65536, byte: 255 }
+Fill 0 0 0 -> None Fill { pointer: 0, count: 0, byte: 0 }
+LocalInit 0x107 16 65536 -> None LocalInit { selector: 263, start: 16, end: 65536 }
+LocalAlloc 0x42 65535 -> None LocalAlloc { flags: 66, size: 65535 }
+LocalReAlloc 6 8 0x80 -> None LocalReAlloc { name: 6, size: 8, flags: 128 }
+LocalDiscard 6 -> None LocalDiscard { name: 6 }
+LocalFree 6 -> None LocalFree { name: 6 }
+LocalLock 6 -> None LocalLock { name: 6 }
+LocalUnlock 6 -> None LocalUnlock { name: 6 }
+LocalSize 6 -> None LocalSize { name: 6 }
+LocalFlags 6 -> None LocalFlags { name: 6 }
+LocalHandle 0x10 -> None LocalHandle { pointer: 16 }
+LocalCompact 0xffff -> None LocalCompact { size: 65535 }
+DS 0x107 -> None DS { selector: 263 }
+GlobalFree 0 -> None GlobalFree { handle: 0 }
+GlobalFree 65535 -> None GlobalFree { handle: 65535 }
+GlobalFree 0000000000000000000000000000262 -> None GlobalFree { handle: 262 }
+GlobalFree 0x0 -> None GlobalFree { handle: 0 }
+GlobalFree 0xfFfF -> None GlobalFree { handle: 65535 }
+GlobalFree 0x00000106 -> None GlobalFree { handle: 262 }
+ \t GlobalFree\t\t262 \t -> None GlobalFree { handle: 262 }
+GlobalFree 0x1 -> None GlobalFree { handle: 1 }
+GlobalFree 00 -> None GlobalFree { handle: 0 }
+GlobalFree r99 -> None GlobalFree { handle: 65535 }
+GlobalFree r0.hi -> None GlobalFree { handle: 263 }
+Read r42 r5 -> None Read { pointer: 4294967295, count: 1024 }
+r0 = GlobalLock 262 -> Some(0) GlobalLock { handle: 262 }
+r7 = GlobalLock 262 -> Some(7) GlobalLock { handle: 262 }
+r9 = GlobalFree 1 -> Some(9) GlobalFree { handle: 1 }
+r10 = GlobalAlloc 2 1 -> Some(10) GlobalAlloc { flags: 2, size: 1 }
+r42 = GlobalUnlock 1 -> Some(42) GlobalUnlock { handle: 1 }
+r99 = Read 0 4 -> Some(99) Read { pointer: 0, count: 4 }
+r1 = Write 0 4e -> Some(1) Write { pointer: 0, bytes: [78] }
+ \tr1\t=\tGlobalLock 1  -> Some(1) GlobalLock { handle: 1 }
+r1 = GlobalLock r1 -> Some(1) GlobalLock { handle: 262 }
+r20 = GlobalLock r20.lo -> Some(20) GlobalLock { handle: 0 }
+GlobalFree 65536 -> bad
+GlobalFree 0x10000 -> bad
+GlobalFree 4294967296 -> bad
+GlobalFree 18446744073709551616 -> bad
+GlobalFree 0x -> bad
+GlobalFree 0X10 -> bad
+GlobalFree 0x000000106 -> bad
+GlobalFree 10a -> bad
+GlobalFree 0x10g -> bad
+GlobalFree -1 -> bad
+GlobalFree +1 -> bad
+GlobalFree 1_0 -> bad
+GlobalFree a -> bad
+GlobalAlloc 2 4294967296 -> bad
+Read 0 1025 -> bad
+Read 4294967296 0 -> bad
+GlobalFree r99+1 -> bad
+GlobalFree r0 -> bad
+Read r42 r5+1 -> bad
+Read r42 r99 -> bad
+Read r42+1 0 -> bad
+Frob -> bad
+Moved 1 -> bad
+GlobalCompact -> bad
+GlobalLRUNewest -> bad
+GlobalLRUOldest 0x10000 -> bad
+Walk 0 -> bad
+walk -> bad
+Fill 0x01070000 65537 255 -> bad
+Fill 0x01070000 1 256 -> bad
+Fill 0x01070000 1 -> bad
+Read 0 -> bad
+globalfree 1 -> bad
+GLOBALFREE 1 -> bad
+GlobalFre 1 -> bad
+GlobalFreeX 1 -> bad
+GlobalFree -> bad
+GlobalFree 1 2 -> bad
+GlobalFree 1 ; a comment -> bad
+GlobalAlloc 2 -> bad
+GlobalAlloc 2 1 0 -> bad
+r100 = GlobalAlloc 2 1 -> bad
+r1=GlobalLock 262 -> bad
+r1 = -> bad
+= -> bad
+GlobalFree 1\r -> bad
+\r -> bad
+\x0b -> bad
+GlobalFree\x0b1 -> bad
+GlobalFree \x0c1 -> bad
+GlobalFree 1\x00 -> bad
+x ; -> bad
+Write 0 -> bad
+Write 0 0x12 -> bad
+Write 0 12 34 -> bad
+GlobalReAlloc 0x106 32 -> bad
+GlobalReAlloc 0x106 32 0x10000 -> bad
+GlobalDiscard 0x106 0 -> bad
+LocalInit 0 4 -> bad
+LocalInit 0x10000 4 64 -> bad
+LocalInit 0 65536 64 -> bad
+LocalAlloc 2 65536 -> bad
+LocalReAlloc 6 8 -> bad
+LocalCompact 0x10000 -> bad
+DS -> bad
+DS 0x10000 -> bad
+r100 = GlobalLock 1 -> bad
+r07 = GlobalLock 1 -> bad
+r00 = GlobalLock 1 -> bad
+r = GlobalLock 1 -> bad
+x1 = GlobalLock 1 -> bad
+r1x = GlobalLock 1 -> bad
+r1.lo = GlobalLock 1 -> bad
+r1+1 = GlobalLock 1 -> bad
+1 = GlobalLock 1 -> bad
+r1=GlobalLock 1 -> bad
+r1 =GlobalLock 1 -> bad
+r1= GlobalLock 1 -> bad
+r1 = -> bad
+r1 -> bad
+= -> bad
+= GlobalLock 1 -> bad
+r1 == GlobalLock 1 -> bad
+r1 = = GlobalLock 1 -> bad
+r1 = r2 = GlobalLock 1 -> bad
+r1 GlobalLock 1 -> bad
+r1 = 262 -> bad
+r1 = r2 -> bad
+r1 = Frob -> bad
+r1 = ; a comment -> bad
+ -> silent
+  -> silent
+\t \t -> silent
+; -> silent
+ \t; a comment -> silent
+;GlobalFree 1 -> silent
+;; -> silent
+GlobalAlloc 0 r0 -> None GlobalAlloc { flags: 0, size: 17235971 }
+GlobalAlloc 0 r0.lo -> None GlobalAlloc { flags: 0, size: 3 }
+GlobalAlloc 0 r0.hi -> None GlobalAlloc { flags: 0, size: 263 }
+GlobalAlloc 0 r0+0 -> None GlobalAlloc { flags: 0, size: 17235971 }
+GlobalAlloc 0 r0+2 -> None GlobalAlloc { flags: 0, size: 17235973 }
+GlobalAlloc 0 r0+0x1D -> None GlobalAlloc { flags: 0, size: 17236000 }
+GlobalAlloc 0 r0+010 -> None GlobalAlloc { flags: 0, size: 17235981 }
+GlobalAlloc 0 r1 -> None GlobalAlloc { flags: 0, size: 262 }
+GlobalAlloc 0 r1.hi -> None GlobalAlloc { flags: 0, size: 0 }
+GlobalAlloc 0 r1+4294967033 -> None GlobalAlloc { flags: 0, size: 4294967295 }
+GlobalAlloc 0 r2 -> None GlobalAlloc { flags: 0, size: 0 }
+GlobalAlloc 0 r2+0xffffffff -> None GlobalAlloc { flags: 0, size: 4294967295 }
+GlobalAlloc 0 r42 -> None GlobalAlloc { flags: 0, size: 4294967295 }
+GlobalAlloc 0 r42.lo -> None GlobalAlloc { flags: 0, size: 65535 }
+GlobalAlloc 0 r42.hi -> None GlobalAlloc { flags: 0, size: 65535 }
+GlobalAlloc 0 r42+0x0 -> None GlobalAlloc { flags: 0, size: 4294967295 }
+GlobalAlloc 0 r99 -> None GlobalAlloc { flags: 0, size: 65535 }
+GlobalAlloc 0 r42+1 -> bad
+GlobalAlloc 0 r1+4294967034 -> bad
+GlobalAlloc 0 r0+4294967296 -> bad
+GlobalAlloc 0 r0+0x100000000 -> bad
+GlobalAlloc 0 r0.lo+1 -> bad
+GlobalAlloc 0 r0.hi+1 -> bad
+GlobalAlloc 0 r0+1+1 -> bad
+GlobalAlloc 0 r0+r1 -> bad
+GlobalAlloc 0 r0+ -> bad
+GlobalAlloc 0 r0+0x -> bad
+GlobalAlloc 0 r0+-1 -> bad
+GlobalAlloc 0 r0++1 -> bad
+GlobalAlloc 0 r0-1 -> bad
+GlobalAlloc 0 r0. -> bad
+GlobalAlloc 0 r0.l -> bad
+GlobalAlloc 0 r0.low -> bad
+GlobalAlloc 0 r0.LO -> bad
+GlobalAlloc 0 r0.lo.lo -> bad
+GlobalAlloc 0 r0lo -> bad
+GlobalAlloc 0 r100 -> bad
+GlobalAlloc 0 r100+1 -> bad
+GlobalAlloc 0 r100.lo -> bad
+GlobalAlloc 0 r07 -> bad
+GlobalAlloc 0 r07+1 -> bad
+GlobalAlloc 0 r00 -> bad
+GlobalAlloc 0 r -> bad
+GlobalAlloc 0 r+1 -> bad
+GlobalAlloc 0 R0 -> bad
+GlobalAlloc 0 1+r0 -> bad
+GlobalAlloc 0 r0 +1 -> bad";
 
-/// Lines that say no command: a number that its place doesn't take, no command at all, no target.
-pub static BAD: &[&[u8]] = &[
-    b"GlobalFree 65536",
-    b"GlobalFree 0x10000",
-    b"GlobalFree 4294967296",
-    b"GlobalFree 18446744073709551616",
-    b"GlobalFree 0x",
-    b"GlobalFree 0X10",
-    b"GlobalFree 0x000000106",
-    b"GlobalFree 10a",
-    b"GlobalFree 0x10g",
-    b"GlobalFree -1",
-    b"GlobalFree +1",
-    b"GlobalFree 1_0",
-    b"GlobalFree a",
-    b"GlobalAlloc 2 4294967296",
-    b"Read 0 1025",
-    b"Read 4294967296 0",
-    b"GlobalFree r99+1",
-    b"GlobalFree r0",
-    b"Read r42 r5+1",
-    b"Read r42 r99",
-    b"Read r42+1 0",
-    b"Frob",
-    b"Moved 1",
-    b"GlobalCompact",
-    b"GlobalLRUNewest",
-    b"GlobalLRUOldest 0x10000",
-    b"Walk 0",
-    b"walk",
-    b"Fill 0x01070000 65537 255",
-    b"Fill 0x01070000 1 256",
-    b"Fill 0x01070000 1",
-    b"Read 0",
-    b"globalfree 1",
-    b"GLOBALFREE 1",
-    b"GlobalFre 1",
-    b"GlobalFreeX 1",
-    b"GlobalFree",
-    b"GlobalFree 1 2",
-    b"GlobalFree 1 ; a comment",
-    b"GlobalAlloc 2",
-    b"GlobalAlloc 2 1 0",
-    b"r100 = GlobalAlloc 2 1",
-    b"r1=GlobalLock 262",
-    b"r1 =",
-    b"=",
-    b"GlobalFree 1\r",
-    b"\r",
-    b"\x0b",
-    b"GlobalFree\x0b1",
-    b"GlobalFree \x0c1",
-    b"GlobalFree 1\x00",
-    b"GlobalFree 1\xff",
-    b"x ;",
-    b"Write 0",
-    b"Write 0 0x12",
-    b"Write 0 12 34",
-    b"GlobalReAlloc 0x106 32",
-    b"GlobalReAlloc 0x106 32 0x10000",
-    b"GlobalDiscard 0x106 0",
-    b"LocalInit 0 4",
-    b"LocalInit 0x10000 4 64",
-    b"LocalInit 0 65536 64",
-    b"LocalAlloc 2 65536",
-    b"LocalReAlloc 6 8",
-    b"LocalCompact 0x10000",
-    b"DS",
-    b"DS 0x10000",
-    b"r100 = GlobalLock 1",
-    b"r07 = GlobalLock 1",
-    b"r00 = GlobalLock 1",
-    b"r = GlobalLock 1",
-    b"x1 = GlobalLock 1",
-    b"r1x = GlobalLock 1",
-    b"r1.lo = GlobalLock 1",
-    b"r1+1 = GlobalLock 1",
-    b"1 = GlobalLock 1",
-    b"r1=GlobalLock 1",
-    b"r1 =GlobalLock 1",
-    b"r1= GlobalLock 1",
-    b"r1 =",
-    b"r1",
-    b"=",
-    b"= GlobalLock 1",
-    b"r1 == GlobalLock 1",
-    b"r1 = = GlobalLock 1",
-    b"r1 = r2 = GlobalLock 1",
-    b"r1 GlobalLock 1",
-    b"r1 = 262",
-    b"r1 = r2",
-    b"r1 = Frob",
-    b"r1 = ; a comment",
-];
-
-/// Lines without a reply.
-pub static SILENT: &[&[u8]] = &[
-    b"",
-    b" ",
-    b"\t \t",
-    b";",
-    b" \t; a comment",
-    b";GlobalFree 1",
-    b";\x00\x0b\xff\r",
-    b";;",
-];
-
-/// Words, and the numbers that they are.
-pub static NUMBERS: &[(&[u8], Option<u32>)] = &[
-    (b"r0", Some(0x0107_0003)),
-    (b"r0.lo", Some(3)),
-    (b"r0.hi", Some(0x0107)),
-    (b"r0+0", Some(0x0107_0003)),
-    (b"r0+2", Some(0x0107_0005)),
-    (b"r0+0x1D", Some(0x0107_0020)),
-    (b"r0+010", Some(0x0107_000d)),
-    (b"r1", Some(262)),
-    (b"r1.hi", Some(0)),
-    (b"r1+4294967033", Some(0xffff_ffff)),
-    (b"r2", Some(0)),
-    (b"r2+0xffffffff", Some(0xffff_ffff)),
-    (b"r42", Some(0xffff_ffff)),
-    (b"r42.lo", Some(0xffff)),
-    (b"r42.hi", Some(0xffff)),
-    (b"r42+0x0", Some(0xffff_ffff)),
-    (b"r99", Some(65_535)),
-    (b"r42+1", None),
-    (b"r1+4294967034", None),
-    (b"r0+4294967296", None),
-    (b"r0+0x100000000", None),
-    (b"r0.lo+1", None),
-    (b"r0.hi+1", None),
-    (b"r0+1+1", None),
-    (b"r0+r1", None),
-    (b"r0+", None),
-    (b"r0+0x", None),
-    (b"r0+-1", None),
-    (b"r0++1", None),
-    (b"r0-1", None),
-    (b"r0.", None),
-    (b"r0.l", None),
-    (b"r0.low", None),
-    (b"r0.LO", None),
-    (b"r0.lo.lo", None),
-    (b"r0lo", None),
-    (b"r100", None),
-    (b"r100+1", None),
-    (b"r100.lo", None),
-    (b"r07", None),
-    (b"r07+1", None),
-    (b"r00", None),
-    (b"r", None),
-    (b"r+1", None),
-    (b"R0", None),
-    (b"1+r0", None),
-    (b"r0 +1", None),
+/// The same of bytes that are no text.
+pub static NO_TEXT: &[(&[u8], &str)] = &[
+    (b"GlobalFree 1\xff", "bad"),
+    (b";\x00\x0b\xff\r", "silent"),
 ];
 
 /// How many digits are written, and how many bytes they are.
