@@ -15,7 +15,7 @@ use Rattle.w16_ne.specs.References.{text_at, texts_at, references_at}
 use Rattle.w16_ne.specs.Entries.{table_at}
 use Rattle.w16_ne.specs.Resources as resources
 use Rattle.w16_ne.specs.Resources.{Label, Typed, block_at, blocks_from, blocks_at, label_at, resource_at, resources_of, typed_at, all_typed, is_placed, are_placed, are_all_placed, resource_count, typed_in, resources_at}
-use Rattle.w16_ne.specs.Modules.{tables_at}
+use Rattle.w16_ne.specs.Modules.{tables_behind, tables_at}
 use Rattle.w16_ne.specs.Law.{IsOfEnd, FrontLaw}
 use Rattle.w16_ne.proofs.SegmentsFormat.{bind_ok}
 
@@ -185,7 +185,7 @@ module _ (file more : List ℕ) where
       choose (nat_lt 65535 (resource_count types)) _ _ _ _ (same _) (bind _ _ _ _ (all_placed_front (2 ^ word_of shift 0) types) (λ _. same _)))))))
 
   tables_front : IsFront (tables_at front) (tables_at whole)
-  unfolding tables_at
+  unfolding tables_at tables_behind
   tables_front =
       bind _ _ _ _ place_front (λ ne. bind _ _ _ _ (header_front ne) (λ header. bind _ _ _ _ (same (fields_of header)) (λ _.
       bind _ _ _ _ (segments_front ne header) (λ segments. bind _ _ _ _ (resident_front ne header) (λ resident. bind _ _ _ _ (references_front ne header) (λ references.

@@ -11,7 +11,7 @@ use Rattle.w16_ne.specs.Names.{Entry, names_at, resident_at, table_names, nonres
 use Rattle.w16_ne.specs.References.{references_at}
 use Rattle.w16_ne.specs.Entries.{entries_in, table_at}
 use Rattle.w16_ne.specs.Resources.{resources_at}
-use Rattle.w16_ne.specs.Modules.{Tables, tables_of, tables_at}
+use Rattle.w16_ne.specs.Modules.{Tables, tables_of, tables_behind, tables_at}
 use Rattle.w16_ne.specs.NamesFormat.{AreNames, AreListed}
 use Rattle.w16_ne.specs.EntriesFormat.{IsEntryTable}
 use Rattle.w16_ne.specs.ModuleFormat.{IsPart, IsModule}
@@ -108,7 +108,7 @@ module _ (file header : List ℕ) where
 
 module _ (file : List ℕ) (t : Tables) where
   module_is : tables_at (Some file) ≡ Ok t → IsModule file t
-  unfolding tables_at
+  unfolding tables_at tables_behind
   module_is h =
       let ne = bind_ok (place_at (Some file)) _ t h in
       let header = bind_ok (header_at (Some file) ne.0) _ t ne.1.1 in
@@ -141,7 +141,7 @@ module _ (file : List ℕ) (t : Tables) where
       })
 
   module_read : IsModule file t → tables_at (Some file) ≡ Ok t
-  unfolding tables_at
+  unfolding tables_at tables_behind
   module_read is =
       let ne = old_read file t.place is.old in
       let header = header_read file t.place t.header is.header in

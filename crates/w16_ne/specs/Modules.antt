@@ -47,12 +47,9 @@ tables_of place header segments resident references entries nonresident resource
   resources = resources;
 }
 
--- The parts are tested in this order, and the first fault counts.
-unfoldable pub tables_at : Option (List ℕ) → Reading Tables
-tables_at file = do
-  ne ← place_at file
-  header ← header_at file ne
-  _ ← fields_of header
+-- the tables behind a header
+unfoldable pub tables_behind : Option (List ℕ) → ℕ → List ℕ → Reading Tables
+tables_behind file ne header = do
   segments ← segments_at file ne header
   resident ← resident_at file ne header
   references ← references_at file ne header
@@ -60,6 +57,14 @@ tables_at file = do
   nonresident ← nonresident_at file header
   resources ← resources_at file ne header
   Ok (tables_of ne header segments resident references entries nonresident resources)
+
+-- The parts are tested in this order, and the first fault counts.
+unfoldable pub tables_at : Option (List ℕ) → Reading Tables
+tables_at file = do
+  ne ← place_at file
+  header ← header_at file ne
+  _ ← fields_of header
+  tables_behind file ne header
 
 -- where the imported names begin in the file: their offset counts from the header
 abbrev pub imported_place : Tables → ℕ

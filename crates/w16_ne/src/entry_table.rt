@@ -1,5 +1,5 @@
 //! The entry table.
-ghost use Rattle.std.specs.Prelude.{◌≡◌, ℕ, ◌<◌, ◌≤◌, ◌+◌, ◌*◌, length};
+ghost use Rattle.std.specs.Prelude.{◌≡◌, ℕ, ◌<◌, ◌≤◌, ◌+◌, ◌*◌, length, slice_index};
 ghost use Rattle.w16_store.specs.Files.{file_of};
 ghost use Rattle.w16_ne.specs.Reading.{Gives, Tells};
 ghost use Rattle.w16_ne.specs.Header.{segment_count};
@@ -85,6 +85,14 @@ fn bundle(
     Ok(entries)
 }
 
+/// Where the bundle at an index ends.
+fn end_of(table: &[u8], at: usize) -> usize
+    requires { at + 1 < length table.now }
+    ensures { result ≡ at + 2 + slice_index table.now at * entry_size (slice_index table.now (at + 1)) }
+{
+    at + 2 + usize::from(table[at]) * size_of_entry(table[at + 1])
+}
+
 /// The entries by ordinal, the first of ordinal 1.
 #[tactic(auto, unfolding(crate::specs::Entries::entries_in))]
 fn entries_of(alloc: Global, table: &[u8], segments: u16) -> Result<Vec<Option<Entry>>, NeFault>
@@ -102,7 +110,7 @@ fn entries_of(alloc: Global, table: &[u8], segments: u16) -> Result<Vec<Option<E
         }
         let count = table[at];
         let indicator = table[at + 1];
-        let end = at + 2 + usize::from(count) * size_of_entry(indicator);
+        let end = end_of(table, at);
         if end > table.len() || entries.len() + usize::from(count) > 65535 {
             return Err(NeFault::BadTable);
         }

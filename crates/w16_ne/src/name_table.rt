@@ -1,7 +1,7 @@
 //! Tables of names.
-ghost use Rattle.std.specs.Prelude.{◌≡◌, ℕ, ◌<◌, ◌≤◌, ◌+◌, ◌^◌, length, map, option_map, Ok};
+ghost use Rattle.std.specs.Prelude.{◌≡◌, ℕ, ◌<◌, ◌≤◌, ◌+◌, ◌-◌, ◌^◌, length, take, map, option_map, Ok};
 ghost use Rattle.w16_store.specs.Files.{file_of};
-ghost use Rattle.w16_ne.specs.Reading.{Gives, length_at};
+ghost use Rattle.w16_ne.specs.Reading.{Gives, length_at, word_of};
 ghost use Rattle.w16_ne.specs.Names.{entry, name_at, names_from, names_at, resident_at};
 
 use crate::fault::NeFault;
@@ -9,6 +9,18 @@ use crate::name::Name;
 use crate::reading::{file_len, read_or, table, word};
 use std::alloc::Global;
 use w16_store::Store;
+
+/// The entry whose text and ordinal these bytes are.
+fn name_in(mut text: Vec<u8>) -> Name
+    requires some { 2 < length text.items }
+    requires few { length text.items ≤ 257 }
+    ensures { entry result ≡ (take (length text.items - 2) text.items, word_of text.items (length text.items - 2)) }
+{
+    let len = text.len() - 2;
+    let ordinal = word(text.as_slice(), len);
+    text.truncate(len);
+    Name { text, ordinal }
+}
 
 /// The entry at an offset, or none where the table ends.
 #[tactic(auto, unfolding(crate::specs::Names::name_at))]
@@ -30,10 +42,8 @@ fn name_of<S: Store>(
     if len == 0 {
         return Ok(None);
     }
-    let mut text = table(alloc, store, name, at + 1, len + 2, NeFault::Truncated)?;
-    let ordinal = word(text.as_slice(), len);
-    text.truncate(len);
-    Ok(Some(Name { text, ordinal }))
+    let text = table(alloc, store, name, at + 1, len + 2, NeFault::Truncated)?;
+    Ok(Some(name_in(text)))
 }
 
 /// The entries from an offset on, in a file of so many bytes.

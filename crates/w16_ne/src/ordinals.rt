@@ -11,12 +11,22 @@ use std::alloc::{AllocError, Global};
 /// Names, upper-cased, with their ordinals, in the order of the tables.
 pub type Ordinals = IndexMap<Vec<u8>, u16>;
 
+/// Writes a text, upper-cased.
+fn write_upper(text: &[u8], room: &mut [u8])
+    requires { length text.now ≡ length room.old }
+    ensures { room.new ≡ str_to_ascii_uppercase text.now }
+{
+    for (i, byte) in text.iter().enumerate() {
+        room[i] = byte.to_ascii_uppercase();
+    }
+}
+
 fn upper(alloc: Global, text: &[u8]) -> Result<Vec<u8>, AllocError>
     ensures { IfOk result (λ upper. upper.items ≡ str_to_ascii_uppercase text.now) }
 {
-    text.iter()
-        .map(|byte| byte.to_ascii_uppercase())
-        .collect(alloc)
+    let mut upper = vec![in alloc; 0u8; text.len()]?;
+    write_upper(text, upper.as_mut_slice());
+    Ok(upper)
 }
 
 /// The ordinals of names, of which the first of equal ones counts.
@@ -32,16 +42,6 @@ pub fn ordinals(alloc: Global, names: &[Name]) -> Result<Ordinals, AllocError>
         }
     }
     Ok(ordinals)
-}
-
-/// Writes a text, upper-cased.
-fn write_upper(text: &[u8], room: &mut [u8])
-    requires { length text.now ≡ length room.old }
-    ensures { room.new ≡ str_to_ascii_uppercase text.now }
-{
-    for (i, byte) in text.iter().enumerate() {
-        room[i] = byte.to_ascii_uppercase();
-    }
 }
 
 /// The ordinal of a name, 0 where there is none.

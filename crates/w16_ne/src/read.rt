@@ -3,7 +3,8 @@ ghost use Rattle.std.specs.Prelude.{◌≡◌, ◌≤◌, ◌++◌, drop, length
 ghost use Rattle.w16_store.specs.Files.{file_of};
 ghost use Rattle.w16_ne.specs.Reading.{Gives};
 ghost use Rattle.w16_ne.specs.Names.{entry, distinct, listed};
-ghost use Rattle.w16_ne.specs.Modules.{first_text, tables_at};
+ghost use Rattle.w16_ne.specs.Header.{segment_count, shift_of};
+ghost use Rattle.w16_ne.specs.Modules.{first_text, tables_behind, tables_at};
 
 use crate::entry_table::entries;
 use crate::fault::NeFault;
@@ -43,6 +44,72 @@ fn all_ordinals(
     ordinals(alloc, resident.as_slice())
 }
 
+/// The names of a module.
+#[derive(Drop)]
+struct ModuleNames {
+    name: Vec<u8>,
+    description: Vec<u8>,
+    ordinals: Ordinals,
+}
+
+/// The names that two tables of names have.
+fn names(
+    alloc: Global,
+    mut resident: Vec<Name>,
+    mut nonresident: Vec<Name>,
+) -> Result<ModuleNames, AllocError>
+    ensures name { IfOk result (λ n. n.name.items ≡ first_text (map entry resident.items)) }
+    ensures description { IfOk result (λ n. n.description.items ≡ first_text (map entry nonresident.items)) }
+    ensures ordinals { IfOk result (λ n. listed n.ordinals.entries ≡ distinct (drop 1 (map entry resident.items) ++ drop 1 (map entry nonresident.items))) }
+    ensures short { IfOk result (λ n. All (λ e. length e.0 ≤ 255) (listed n.ordinals.entries)) }
+{
+    let name = take_first(alloc, &mut resident);
+    let description = take_first(alloc, &mut nonresident);
+    let ordinals = all_ordinals(alloc, resident, nonresident)?;
+    Ok(ModuleNames {
+        name,
+        description,
+        ordinals,
+    })
+}
+
+/// The tables behind a header.
+#[tactic(auto, unfolding(crate::specs::Modules::tables_behind))]
+fn tables<S: Store>(
+    alloc: Global,
+    store: &mut S,
+    name: &[u8],
+    ne: u32,
+    header: [u8; 64],
+) -> Result<Module, NeFault>
+    requires len { length header ≡ 64 }
+    requires few { segment_count header ≤ 253 }
+    requires shift { shift_of header ≤ 15 }
+    ensures files { S.files store.new ≡ S.files store.old }
+    ensures failures { S.failures store.old ≤ S.failures store.new }
+    ensures exact { S.is_honest → Gives (λ tables. tables) (file_of (S.files store.old) name.now)
+        (S.failures store.old) (S.failures store.new) result (tables_behind (file_of (S.files store.old) name.now) ne header) }
+{
+    let segments = segments(alloc, store, name, ne, &header)?;
+    let resident = resident(alloc, store, name, ne, &header)?;
+    let references = references(alloc, store, name, ne, &header)?;
+    let entries = entries(alloc, store, name, ne, &header)?;
+    let nonresident = nonresident_names(alloc, store, name, &header)?;
+    let types = resources(alloc, store, name, ne, &header)?;
+    let names = names(alloc, resident, nonresident)?;
+    Ok(Module {
+        place: ne,
+        header,
+        name: names.name,
+        description: names.description,
+        ordinals: names.ordinals,
+        segments,
+        references,
+        entries,
+        types,
+    })
+}
+
 /// The tables of the module in a file, or the file's first fault.
 ///
 /// `Store` is answered where the store answered a fault, but where the file is too short: that is a fault of the file. `OutOfMemory` is answered
@@ -57,21 +124,5 @@ pub fn read_module<S: Store>(alloc: Global, store: &mut S, name: &[u8]) -> Resul
     let ne = place(store, name)?;
     let header = header(store, name, ne)?;
     test_fields(&header)?;
-    let segments = segments(alloc, store, name, ne, &header)?;
-    let mut resident = resident(alloc, store, name, ne, &header)?;
-    let references = references(alloc, store, name, ne, &header)?;
-    let entries = entries(alloc, store, name, ne, &header)?;
-    let mut nonresident = nonresident_names(alloc, store, name, &header)?;
-    let types = resources(alloc, store, name, ne, &header)?;
-    Ok(Module {
-        place: ne,
-        header,
-        name: take_first(alloc, &mut resident),
-        description: take_first(alloc, &mut nonresident),
-        ordinals: all_ordinals(alloc, resident, nonresident)?,
-        segments,
-        references,
-        entries,
-        types,
-    })
+    tables(alloc, store, name, ne, header)
 }

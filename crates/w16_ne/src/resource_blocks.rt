@@ -1,7 +1,7 @@
 //! The blocks of the resource table.
-ghost use Rattle.std.specs.Prelude.{◌≡◌, ℕ, ◌<◌, ◌≤◌, ◌+◌, ◌*◌, ◌^◌, Ok, All, IfOk, IfSome};
+ghost use Rattle.std.specs.Prelude.{◌≡◌, ℕ, ◌<◌, ◌≤◌, ◌+◌, ◌*◌, ◌^◌, Ok, Some, None, All, IfOk, IfSome, length, nat_le, if◌then◌else◌};
 ghost use Rattle.w16_store.specs.Files.{file_of};
-ghost use Rattle.w16_ne.specs.Reading.{Gives, length_at};
+ghost use Rattle.w16_ne.specs.Reading.{Gives, length_at, word_of};
 ghost use Rattle.w16_ne.specs.Resources.{block_at, blocks_from, blocks_at};
 
 use crate::fault::NeFault;
@@ -18,6 +18,24 @@ pub struct Block {
     pub count: u16,
     /// The offset of the first in the file; each takes 12 bytes.
     pub at: u64,
+}
+
+/// The block of such a head at an offset, or none where it ends past the file, which has so many bytes.
+fn inside(head: &[u8], at: u64, len: u64) -> Option<Block>
+    requires { length head.now ≡ 8 }
+    ensures { result ≡ (if nat_le (at + 8 + 12 * word_of head.now 2) len then Some (record { kind = word_of head.now 0; count = word_of head.now 2; at = at + 8 }) else None) }
+{
+    let count = word(head, 2);
+    let first = at.checked_add(8)?;
+    let end = first.checked_add(12 * u64::from(count))?;
+    if end > len {
+        return None;
+    }
+    Some(Block {
+        kind: word(head, 0),
+        count,
+        at: first,
+    })
 }
 
 /// The block at an offset, or none where the table ends, in a file of so many bytes.
@@ -41,16 +59,9 @@ fn block_of<S: Store>(
     }
     let mut head = [0u8; 8];
     read_or(store, name, at, &mut head, NeFault::Truncated)?;
-    let count = word(&head, 2);
-    // What is 8 bytes behind the place was read, so no sum is too large where the store is honest.
-    let first = at.saturating_add(8);
-    match first.checked_add(12 * u64::from(count)) {
-        Some(end) if end <= len => Ok(Some(Block {
-            kind: word(&head, 0),
-            count,
-            at: first,
-        })),
-        _ => Err(NeFault::Truncated),
+    match inside(&head, at, len) {
+        Some(block) => Ok(Some(block)),
+        None => Err(NeFault::Truncated),
     }
 }
 

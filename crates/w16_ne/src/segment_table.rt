@@ -90,16 +90,11 @@ fn data<S: Store>(
     let end = u64::from(place) + u64::from(len);
     reaches(store, name, end)?;
     let records = records(store, name, flags, end)?;
-    let size = if len < least {
-        rounded(least)
-    } else {
-        rounded(len)
-    };
     Ok(Segment {
         place,
         len,
         flags: SegmentFlags(flags),
-        size,
+        size: rounded(len.max(least)),
         records,
     })
 }

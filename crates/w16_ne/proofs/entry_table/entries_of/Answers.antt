@@ -28,8 +28,8 @@ returns-then-end-table c =
     let table = c.args.table.now in
     let more = goes_further (length table) c.loop.at (slice_index table c.loop.at) c.if-at-table.false c.if-table-at-eq0.false in
     let bad : is_bad table c.loop.at (length c.loop.entries.items) ≡ true = elim c.then-end-table.branch [
-      | then-end-table-via-then-end-table w ↦ bad_by_end (length table) (end_of table c.loop.at) (length c.loop.entries.items + slice_index table c.loop.at) (rw (c.from.ensures, c.size_of_entry.ensures.size) at w.if-end-table.true)
-      | then-end-table-via-else-end-table+then-len-from-gt65535 w ↦ bad_by_count (length table) (end_of table c.loop.at) (length c.loop.entries.items + slice_index table c.loop.at) (omega (arith, w.if-len-from-gt65535.true, w.len.ensures, w.from-else-end-table.ensures))
+      | then-end-table-via-then-end-table w ↦ bad_by_end (length table) (end_of table c.loop.at) (length c.loop.entries.items + slice_index table c.loop.at) (rw c.end_of-end.ensures at w.if-end-table.true)
+      | then-end-table-via-else-end-table+then-len-from-gt65535 w ↦ bad_by_count (length table) (end_of table c.loop.at) (length c.loop.entries.items + slice_index table c.loop.at) (omega (arith, w.if-len-from-gt65535.true, w.len.ensures, w.from.ensures))
     ] in
     is_refused table c.args.segments c.loop.entries.items (length table) c.loop.counter c.loop.at _ c.loop-test.true more bad c.loop.invariant.2
 
@@ -37,8 +37,8 @@ pub returns-in_err-bundle : goal.returns-in_err-bundle
 returns-in_err-bundle c =
     let table = c.args.table.now in
     let more = goes_further (length table) c.loop.at (slice_index table c.loop.at) c.if-at-table.false c.if-table-at-eq0.false in
-    let end : end_of table c.loop.at ≤ length table = rw (c.from.ensures, c.size_of_entry.ensures.size) at c.if-end-table.false in
-    let few : length c.loop.entries.items + slice_index table c.loop.at ≤ 65535 = omega (arith, c.if-len-from-gt65535.false, c.len.ensures, c.from-else-end-table.ensures) in
+    let end : end_of table c.loop.at ≤ length table = rw c.end_of-end.ensures at c.if-end-table.false in
+    let few : length c.loop.entries.items + slice_index table c.loop.at ≤ 65535 = omega (arith, c.if-len-from-gt65535.false, c.len.ensures, c.from.ensures) in
     let p = err_from_is_err_and c.from_residual.result c.from_residual.ensures.1 in
     rw (p.1, p.2) (told_on _ (here table c.args.segments c.loop.at) _ c.in_err-bundle.ensures
     (λ e. stops table c.args.segments c.loop.entries.items (length table) c.loop.counter c.loop.at _ _ c.loop-test.true more (is_sound _ _ _ end few) e c.loop.invariant.2))
@@ -49,12 +49,12 @@ loop-preserved c =
     let at = c.loop.at in
     let front = c.loop.entries.items in
     let more = goes_further (length table) at (slice_index table at) c.if-at-table.false c.if-table-at-eq0.false in
-    let end : end_of table at ≤ length table = rw (c.from.ensures, c.size_of_entry.ensures.size) at c.if-end-table.false in
-    let few : length front + slice_index table at ≤ 65535 = omega (arith, c.if-len-from-gt65535.false, c.len.ensures, c.from-else-end-table.ensures) in
+    let end : end_of table at ≤ length table = rw c.end_of-end.ensures at c.if-end-table.false in
+    let few : length front + slice_index table at ≤ 65535 = omega (arith, c.if-len-from-gt65535.false, c.len.ensures, c.from.ensures) in
     let xs = c.in_ok-bundle.bundle.items in
     let long = bundle-length table c.args.segments (slice_index table (at + 1)) (slice_index table at) (at + 2) xs c.in_ok-bundle.ensures in
     let items = c.in_ok-append.ensures.items in (
       c.if-end-table.false,
       rw (items, length-append front xs, long) few,
-      rw (items, length-append front xs, long, c.from.ensures, c.size_of_entry.ensures.size) (goes_on table c.args.segments front (length table) c.loop.counter at xs _ c.loop-test.true more (is_sound _ _ _ end few) c.in_ok-bundle.ensures c.loop.invariant.2),
+      rw (items, length-append front xs, long, c.end_of-end.ensures) (goes_on table c.args.segments front (length table) c.loop.counter at xs _ c.loop-test.true more (is_sound _ _ _ end few) c.in_ok-bundle.ensures c.loop.invariant.2),
     )

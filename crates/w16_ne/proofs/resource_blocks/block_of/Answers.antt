@@ -22,10 +22,6 @@ pub returns-in_err-read_or-2-clause-exact : goal.returns-in_err-read_or-2-clause
 unfolding block_at
 returns-in_err-read_or-2-clause-exact g c = search rules
 
-pub returns-in_default-clause-exact : goal.returns-in_default-clause-exact
+pub returns-in-None-clause-exact : goal.returns-in-None-clause-exact
 unfolding block_at
-returns-in_default-clause-exact g c = search rules
-
-pub returns-in_default-2-clause-exact : goal.returns-in_default-2-clause-exact
-unfolding block_at
-returns-in_default-2-clause-exact g c = search rules
+returns-in-None-clause-exact g c = search rules

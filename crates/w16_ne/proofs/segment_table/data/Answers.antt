@@ -6,10 +6,6 @@ pub returns-in_err-records-clause-exact : goal.returns-in_err-records-clause-exa
 unfolding data_at
 returns-in_err-records-clause-exact g c = search rules
 
-pub returns-then-len-least-clause-exact : goal.returns-then-len-least-clause-exact
+pub returns-clause-exact : goal.returns-clause-exact
 unfolding data_at
-returns-then-len-least-clause-exact g c = search rules
-
-pub returns-else-len-least-clause-exact : goal.returns-else-len-least-clause-exact
-unfolding data_at
-returns-else-len-least-clause-exact g c = search rules
+returns-clause-exact g c = search rules
