@@ -1,12 +1,12 @@
 //! The entry table.
-ghost use Rattle.std.specs.Prelude.{◌≡◌, ℕ, ◌<◌, ◌≤◌, ◌+◌, ◌*◌, length, slice_index};
+ghost use Rattle.std.specs.Prelude.{◌≡◌, ℕ, ◌<◌, ◌≤◌, ◌+◌, ◌*◌, ◌||◌, false, length, nat_lt, slice_index};
 ghost use Rattle.w16_store.specs.Files.{file_of};
 ghost use Rattle.w16_ne.specs.Reading.{Gives, Tells};
 ghost use Rattle.w16_ne.specs.Header.{segment_count};
 ghost use Rattle.w16_ne.specs.Entries.{entry_size, entry_in, sound_entry, bundle_in, entries_in, table_at};
 
 use crate::fault::NeFault;
-use crate::reading::{table, word};
+use crate::reading::{is_end, table, word};
 use std::alloc::Global;
 use w16_store::Store;
 
@@ -93,6 +93,20 @@ fn end_of(table: &[u8], at: usize) -> usize
     at + 2 + usize::from(table[at]) * size_of_entry(table[at + 1])
 }
 
+/// Whether the bundle at an index, after so many ordinals, goes past the table or past 65,535 ordinals.
+fn is_bad(table: &[u8], at: usize, ordinals: usize) -> bool
+    requires at { at < length table.now }
+    requires ordinals { ordinals ≤ 65535 }
+    ensures bad { result ≡ (nat_lt (length table.now) (at + 2 + slice_index table.now at * entry_size (slice_index table.now (at + 1)))
+        || nat_lt 65535 (ordinals + slice_index table.now at)) }
+    ensures inside { result ≡ false → at + 2 + slice_index table.now at * entry_size (slice_index table.now (at + 1)) ≤ length table.now }
+    ensures few { result ≡ false → ordinals + slice_index table.now at ≤ 65535 }
+{
+    at + 1 >= table.len()
+        || end_of(table, at) > table.len()
+        || ordinals + usize::from(table[at]) > 65535
+}
+
 /// The entries by ordinal, the first of ordinal 1.
 #[tactic(auto, unfolding(crate::specs::Entries::entries_in))]
 fn entries_of(alloc: Global, table: &[u8], segments: u16) -> Result<Vec<Option<Entry>>, NeFault>
@@ -102,21 +116,15 @@ fn entries_of(alloc: Global, table: &[u8], segments: u16) -> Result<Vec<Option<E
     let mut entries = Vec::new(alloc);
     let mut at = 0;
     for _ in 0..table.len() {
-        if at >= table.len() || table[at] == 0 {
+        if is_end(table, at) {
             return Ok(entries);
         }
-        if at + 1 >= table.len() {
+        if is_bad(table, at, entries.len()) {
             return Err(NeFault::BadTable);
         }
-        let count = table[at];
-        let indicator = table[at + 1];
-        let end = end_of(table, at);
-        if end > table.len() || entries.len() + usize::from(count) > 65535 {
-            return Err(NeFault::BadTable);
-        }
-        let mut bundle = bundle(alloc, table, segments, indicator, count, at + 2)?;
+        let mut bundle = bundle(alloc, table, segments, table[at + 1], table[at], at + 2)?;
         entries.append(&mut bundle)?;
-        at = end;
+        at = end_of(table, at);
     }
     Ok(entries)
 }

@@ -1,14 +1,25 @@
 //! The nonresident names.
-ghost use Rattle.std.specs.Prelude.{◌≡◌, ℕ, ◌≤◌, ◌+◌, length, map};
+ghost use Rattle.std.specs.Prelude.{◌≡◌, ℕ, ◌≤◌, ◌+◌, length, take, drop, map, slice_index, IfOk};
 ghost use Rattle.w16_store.specs.Files.{file_of};
-ghost use Rattle.w16_ne.specs.Reading.{Gives, Tells};
+ghost use Rattle.w16_ne.specs.Reading.{Gives, Tells, word_of};
 ghost use Rattle.w16_ne.specs.Names.{entry, table_names, nonresident_at};
 
 use crate::fault::NeFault;
 use crate::name::Name;
-use crate::reading::{dword, table, word};
-use std::alloc::Global;
+use crate::reading::{dword, is_end, table, word};
+use std::alloc::{AllocError, Global};
 use w16_store::Store;
+
+/// The entry at an index of a table, all of whose bytes are there.
+fn name_at(alloc: Global, table: &[u8], at: usize) -> Result<Name, AllocError>
+    requires { at + 3 + slice_index table.now at ≤ length table.now }
+    ensures { IfOk result (λ n. entry n ≡ (take (slice_index table.now at) (drop (at + 1) table.now), word_of table.now (at + 1 + slice_index table.now at))) }
+{
+    let len = usize::from(table[at]);
+    let text = Vec::from_slice(alloc, &table[at + 1..][..len])?;
+    let ordinal = word(table, at + 1 + len);
+    Ok(Name { text, ordinal })
+}
 
 /// The entries of a table that is there whole.
 #[tactic(auto, unfolding(crate::specs::Names::table_names))]
@@ -19,17 +30,15 @@ fn names_of(alloc: Global, table: &[u8]) -> Result<Vec<Name>, NeFault>
     let mut names = Vec::new(alloc);
     let mut at = 0;
     for _ in 0..table.len() {
-        if at >= table.len() || table[at] == 0 {
+        if is_end(table, at) {
             return Ok(names);
         }
-        let len = usize::from(table[at]);
-        let end = at + 3 + len;
+        let end = at + 3 + usize::from(table[at]);
         if end > table.len() {
             return Err(NeFault::BadTable);
         }
-        let text = Vec::from_slice(alloc, &table[at + 1..][..len])?;
-        let ordinal = word(table, at + 1 + len);
-        names.push(Name { text, ordinal })?;
+        let name = name_at(alloc, table, at)?;
+        names.push(name)?;
         at = end;
     }
     Ok(names)

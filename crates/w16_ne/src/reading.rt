@@ -1,5 +1,5 @@
 //! Parts of a file, read through a store.
-ghost use Rattle.std.specs.Prelude.{◌≡◌, ℕ, ◌<◌, ◌≤◌, ◌+◌, length, IfOk};
+ghost use Rattle.std.specs.Prelude.{◌≡◌, ℕ, ◌<◌, ◌≤◌, ◌+◌, ◌==◌, ◌||◌, false, length, nat_le, slice_index, IfOk};
 ghost use Rattle.w16_ne.specs.declared.fault.NeFault.TheVariants.{Truncated};
 ghost use Rattle.w16_store.specs.Files.{file_of};
 ghost use Rattle.w16_ne.specs.Reading.{Gives, IsOfFile, bytes_or, length_at, reaches, word_of, dword_of};
@@ -74,6 +74,14 @@ pub fn file_len<S: Store>(store: &mut S, name: &[u8]) -> Result<u64, NeFault>
         Ok(len) => Ok(len),
         Err(e) => Err(NeFault::Store(e)),
     }
+}
+
+/// Whether a table of bytes ends at an index, at its own end or at a byte of 0.
+pub fn is_end(table: &[u8], at: usize) -> bool
+    ensures end { result ≡ (nat_le (length table.now) at || slice_index table.now at == 0) }
+    ensures more { result ≡ false → at < length table.now }
+{
+    at >= table.len() || table[at] == 0
 }
 
 /// A word at an index.

@@ -1,6 +1,8 @@
-use Rattle.std.proofs.Common.{◌≡◌, ◌∙◌, arith, rules}
+use Rattle.std.proofs.Common.{◌≡◌, ◌≤◌, ◌∙◌, arith, rules}
 use Rattle.std.proofs.lemmas.Result.{err_from_is_err_and}
+use Rattle.std.proofs.lemmas.List.Elements.{All-push}
 use Rattle.w16_store.specs.Files.{file_of}
+use Rattle.w16_ne.specs.declared.resource_blocks.Block.{Block}
 use Rattle.w16_ne.specs.Resources.{block_at, blocks_from}
 use Rattle.w16_ne.proofs.Until.{fails_on}
 use Rattle.w16_ne.proofs.Blocks.{end_of, goes_on, stops, is_done, past_the_end, block_ends}
@@ -24,7 +26,7 @@ pub loop-preserved : goal.loop-preserved
 loop-preserved g c = (
   c.in_ok-block_of.ensures.files ∙ c.loop.invariant.0,
   omega (arith, c.loop.invariant.1, c.in_ok-block_of.ensures.failures),
-  search rules,
+  rw c.in_ok-push-in-Some.ensures.items (All-push (λ (b : Block). end_of b ≤ c.args.len) c.loop.blocks.items c.in-Some.found c.loop.invariant.2 (rw c.in-Some.is at c.in_ok-block_of.ensures.ends)),
   λ honest known.
       let file = file_of (g.S.Store.files c.args.store.now) c.args.name.now in
       let said = rw (c.loop.invariant.0, c.in-Some.is) at c.in_ok-block_of.ensures.exact honest known in
