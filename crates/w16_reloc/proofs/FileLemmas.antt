@@ -12,7 +12,7 @@ use Rattle.w16_ne.specs.Names.{resident_at, nonresident_at}
 use Rattle.w16_ne.specs.References.{references_at}
 use Rattle.w16_ne.specs.Entries.{table_at}
 use Rattle.w16_ne.specs.Resources.{resources_at}
-use Rattle.w16_ne.specs.Modules.{Tables, tables_at, tables_of}
+use Rattle.w16_ne.specs.Modules.{Tables, tables_at, tables_behind, tables_of}
 use Rattle.w16_reloc.specs.Segments.{LiesIn}
 
 -- what was read went through each step
@@ -92,7 +92,7 @@ segments_lie file ne header segments k s h found =
     ] h
 
 pub module_lies : (file : List ℕ) (t : Tables) (k : ℕ) (s : Segment) → tables_at (Some file) ≡ Ok t → slice_get t.segments k ≡ Some s → LiesIn file s
-unfolding tables_at
+unfolding tables_at tables_behind
 module_lies file t k s h found =
     let p = bind_ok (place_at (Some file)) _ t h in
     let header = bind_ok (header_at (Some file) p.0) _ t p.2 in
