@@ -1,5 +1,6 @@
 //! The resource table as a whole.
-ghost use Rattle.std.specs.Prelude.{◌≡◌, ℕ, ◌<◌, ◌≤◌, ◌+◌, ◌*◌, ◌^◌, All, length, map, IfOk};
+ghost use Rattle.std.specs.Prelude.{◌≡◌, ℕ, ◌<◌, ◌≤◌, ◌+◌, ◌*◌, ◌^◌, All, Ok, Err, length, map, nat_lt, if◌then◌else◌, IfOk};
+ghost use Rattle.w16_ne.specs.declared.fault.NeFault.TheVariants.{BadTable};
 ghost use Rattle.w16_store.specs.Files.{file_of};
 ghost use Rattle.w16_ne.specs.Reading.{Gives};
 ghost use Rattle.w16_ne.specs.Resources.{resource_count, entry_of, typed_of, is_placed, are_placed, are_all_placed, typed_in, resources_at};
@@ -68,6 +69,16 @@ fn test_all_places<S: Store>(
     Ok(())
 }
 
+/// The bytes of a unit, where the shift isn't over 15.
+fn unit_of(shift: u16) -> Result<u32, NeFault>
+    ensures { result ≡ (if nat_lt 15 shift then Err BadTable else Ok (2 ^ shift)) }
+{
+    if shift > 15 {
+        return Err(NeFault::BadTable);
+    }
+    Ok(unit(shift))
+}
+
 /// The resources of a table's blocks, each block's under its type.
 #[tactic(auto, unfolding(crate::specs::Resources::typed_in))]
 fn typed_in<S: Store>(
@@ -86,14 +97,12 @@ fn typed_in<S: Store>(
         (S.failures store.old) (S.failures store.new) result (typed_in (file_of (S.files store.old) name.now) table shift blocks.now) }
     ensures few { IfOk result (λ v. resource_count (map typed_of v.items) ≤ 65535) }
 {
-    if shift > 15 {
-        return Err(NeFault::BadTable);
-    }
+    let unit = unit_of(shift)?;
     let types = all_types(alloc, store, name, table, shift, blocks)?;
     if are_too_many(types.as_slice()) {
         return Err(NeFault::Unsupported);
     }
-    test_all_places(store, name, unit(shift), types.as_slice())?;
+    test_all_places(store, name, unit, types.as_slice())?;
     Ok(types)
 }
 

@@ -1,5 +1,5 @@
 //! The segment table.
-ghost use Rattle.std.specs.Prelude.{◌≡◌, ℕ, ◌<◌, ◌≤◌, ◌+◌, ◌*◌, ◌^◌, length, All, IfOk};
+ghost use Rattle.std.specs.Prelude.{◌≡◌, ℕ, ◌<◌, ◌≤◌, ◌+◌, ◌*◌, ◌^◌, length, max, All, IfOk};
 ghost use Rattle.w16_store.specs.Files.{file_of};
 ghost use Rattle.w16_ne.specs.Reading.{Gives};
 ghost use Rattle.w16_ne.specs.Header.{shift_of, segment_count};
@@ -35,11 +35,13 @@ fn full_if_zero(n: u16) -> u32
     }
 }
 
-fn rounded(n: u32) -> u32
-    requires { n ≤ 65536 }
-    ensures { result ≡ rounded n }
+/// The bytes of an object for so many bytes of data, and at least so many.
+fn size_of(len: u32, least: u32) -> u32
+    requires len { len ≤ 65536 }
+    requires least { least ≤ 65536 }
+    ensures { result ≡ rounded (max len least) }
 {
-    (n + 31) / 32 * 32
+    (len.max(least) + 31) / 32 * 32
 }
 
 /// The bytes of a unit.
@@ -94,7 +96,7 @@ fn data<S: Store>(
         place,
         len,
         flags: SegmentFlags(flags),
-        size: rounded(len.max(least)),
+        size: size_of(len, least),
         records,
     })
 }
@@ -127,7 +129,7 @@ fn entry<S: Store>(
             place: 0,
             len: 0,
             flags: SegmentFlags(flags),
-            size: rounded(least),
+            size: size_of(0, least),
             records: 0,
         });
     }

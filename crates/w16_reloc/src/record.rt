@@ -1,5 +1,6 @@
 //! Relocation records.
-ghost use Rattle.std.specs.Prelude.{◌≡◌, ℕ, ◌+◌, ◌<◌, length};
+ghost use Rattle.std.specs.Prelude.{◌≡◌, ℕ, ◌+◌, ◌<◌, ◌==◌, length, bit_and, if◌then◌else◌};
+ghost use Rattle.w16_reloc.specs.declared.record.Record.TheVariants.{Stored, Added};
 ghost use Rattle.w16_reloc.specs.Records.{part_of, internal_of, imported_of, target_at, record_at};
 
 use crate::chain::word;
@@ -54,9 +55,9 @@ pub enum Record {
 
 /// The part that an address type stands for. Its top bit doesn't count.
 fn part_of(kind: u8) -> Option<Part>
-    ensures { result ≡ part_of kind }
+    ensures { result ≡ part_of (bit_and kind 127) }
 {
-    match kind {
+    match kind & 0x7f {
         0 => Some(Part::LowByte),
         2 => Some(Part::Selector),
         3 => Some(Part::Pointer),
@@ -118,6 +119,17 @@ fn target_at(segments: usize, references: usize, bytes: &[u8], at: usize) -> Opt
     }
 }
 
+/// The record of a fixup, by its relocation type.
+fn of_fixup(kind: u8, fixup: Fixup) -> Record
+    ensures { result ≡ (if bit_and kind 4 == 0 then Stored fixup else Added fixup) }
+{
+    if kind & 4 == 0 {
+        Record::Stored(fixup)
+    } else {
+        Record::Added(fixup)
+    }
+}
+
 /// The record at an index, in a module of so many segments and references; none where it isn't well formed. The text of an import by name isn't
 /// asked for.
 #[tactic(auto, unfolding(crate::specs::Records::record_at))]
@@ -128,16 +140,12 @@ pub fn record_at(segments: usize, references: usize, bytes: &[u8], at: usize) ->
     if bytes[at + 1] & 3 == 3 {
         return Some(Record::System);
     }
-    let part = part_of(bytes[at] & 0x7f)?;
+    let part = part_of(bytes[at])?;
     let target = target_at(segments, references, bytes, at)?;
     let fixup = Fixup {
         part,
         offset: word(bytes, at + 2),
         target,
     };
-    if bytes[at + 1] & 4 == 0 {
-        Some(Record::Stored(fixup))
-    } else {
-        Some(Record::Added(fixup))
-    }
+    Some(of_fixup(bytes[at + 1], fixup))
 }

@@ -2,9 +2,9 @@ use Rattle.std.proofs.Common.{rules}
 use Rattle.w16_ne.specs.Resources.{typed_in}
 use Rattle.w16_ne.proofs.resource_table.typed_in.Goals as goal
 
-pub returns-then-shift-gt15-clause-exact : goal.returns-then-shift-gt15-clause-exact
+pub returns-in_err-unit-clause-exact : goal.returns-in_err-unit-clause-exact
 unfolding typed_in
-returns-then-shift-gt15-clause-exact g c = search rules
+returns-in_err-unit-clause-exact g c = search rules
 
 pub returns-in_err-types-clause-exact : goal.returns-in_err-types-clause-exact
 unfolding typed_in
