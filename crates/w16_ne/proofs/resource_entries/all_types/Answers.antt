@@ -1,12 +1,56 @@
-use Rattle.std.proofs.lemmas.Grind.{common_steps}
-use Rattle.std.proofs.Common.{arith, rules}
+use Rattle.std.proofs.Common.{◌≡◌, ℕ, suc, ◌+◌, ◌<◌, ◌≤◌, ◌∙◌, List, Option, [], ◌∷◌, ◌++◌, Ok, Err, length, drop, get_or, map, refl, sym, ap, add-one, arith, rules}
+use Rattle.std.proofs.Math.Seq.{drop-cons}
+use Rattle.std.proofs.Math.ListN.{drop_of_length-le}
+use Rattle.std.proofs.lemmas.Result.{err_from_is_err_and}
+use Rattle.std.proofs.lemmas.List.{append-nil, map_push}
+use Rattle.w16_store.specs.Files.{file_of}
+use Rattle.w16_ne.specs.declared.fault.NeFault.{NeFault}
+use Rattle.w16_ne.specs.declared.resource_blocks.Block.{Block}
+use Rattle.w16_ne.specs.Reading.{Reading}
+use Rattle.w16_ne.specs.Resources.{Typed, typed_of, typed_at, all_typed}
+use Rattle.w16_ne.proofs.Each.{with_front, regroup}
+use Rattle.w16_ne.proofs.Until.{fails_on}
 use Rattle.w16_ne.proofs.resource_entries.all_types.Goals as goal
 
+module _ (file : Option (List ℕ)) (table shift : ℕ) (blocks : List Block) (i : ℕ) (front : List Typed) (total : Reading (List Typed)) where
+  goes_on : (d : Block) (x : Typed) → i < length blocks → typed_at file table shift (get_or blocks i d) ≡ Ok x
+      → with_front front (all_typed file table shift (drop i blocks)) ≡ total → with_front (front ++ x ∷ []) (all_typed file table shift (drop (i + 1) blocks)) ≡ total
+  goes_on d x lt h so_far =
+      let one : with_front front (all_typed file table shift (drop i blocks)) ≡ with_front (front ++ x ∷ []) (all_typed file table shift (drop (i + 1) blocks)) = rw (drop-cons blocks i d lt, h, add-one) (regroup front x (all_typed file table shift (drop (suc i) blocks))) in
+      sym one ∙ so_far
+
+  stops : (d : Block) (e : NeFault) → i < length blocks → typed_at file table shift (get_or blocks i d) ≡ Err e → with_front front (all_typed file table shift (drop i blocks)) ≡ total → total ≡ Err e
+  stops d e lt h so_far =
+      let one : with_front front (all_typed file table shift (drop i blocks)) ≡ Err e = rw (drop-cons blocks i d lt, h) refl in
+      sym so_far ∙ one
+
+  is_done : length blocks ≤ i → with_front front (all_typed file table shift (drop i blocks)) ≡ total → total ≡ Ok front
+  is_done le so_far =
+      let one : with_front front (all_typed file table shift (drop i blocks)) ≡ Ok front = rw (drop_of_length-le blocks le) (ap (λ ys. Ok ys) (append-nil front)) in
+      sym so_far ∙ one
+
 pub returns-in_err-found-clause-exact : goal.returns-in_err-found-clause-exact
-returns-in_err-found-clause-exact g c = grind (arith, common_steps)
+returns-in_err-found-clause-exact g c = λ honest.
+    let file = file_of (g.S.Store.files c.args.store.now) c.args.name.now in
+    let p = err_from_is_err_and c.from_residual.result c.from_residual.ensures.1 in
+    let said = rw c.loop-block.invariant.0 at c.in_err-found.ensures.exact honest in
+    rw (p.1, p.2) (fails_on file _ _ _ c.in_err-found.field-0.0 _ (all_typed file c.args.table c.args.shift c.args.blocks.now) c.loop-block.invariant.1 said
+    (λ e. stops file c.args.table c.args.shift c.args.blocks.now c.loop-block.block-index (map typed_of c.loop-block.types.items) _ _ _ c.loop-block-test.true e (c.loop-block.invariant.2 honest)))
+
+pub loop-block-preserved : goal.loop-block-preserved
+loop-block-preserved g c = (
+  c.in_ok-found.ensures.files ∙ c.loop-block.invariant.0,
+  omega (arith, c.loop-block.invariant.1, c.in_ok-found.ensures.failures),
+  λ honest.
+      let file = file_of (g.S.Store.files c.args.store.now) c.args.name.now in
+      let said = rw c.loop-block.invariant.0 at c.in_ok-found.ensures.exact honest in
+      let pushed : map typed_of c.push.new.self.items ≡ map typed_of c.loop-block.types.items ++ typed_of c.in_ok-found.found ∷ [] = rw c.in_ok-push.ensures.items (map_push typed_of c.loop-block.types.items c.in_ok-found.found) in
+      rw pushed (goes_on file c.args.table c.args.shift c.args.blocks.now c.loop-block.block-index (map typed_of c.loop-block.types.items) _ _ (typed_of c.in_ok-found.found) c.loop-block-test.true said (c.loop-block.invariant.2 honest)),
+)
 
 pub returns-in_err-push-clause-exact : goal.returns-in_err-push-clause-exact
 returns-in_err-push-clause-exact g c = search rules
 
 pub returns-clause-exact : goal.returns-clause-exact
-returns-clause-exact g c = grind (arith, common_steps)
+returns-clause-exact g c = λ honest.
+    is_done (file_of (g.S.Store.files c.args.store.now) c.args.name.now) c.args.table c.args.shift c.args.blocks.now c.loop-block.block-index (map typed_of c.loop-block.types.items) _ c.loop-block-test.false (c.loop-block.invariant.2 honest)
