@@ -47,4 +47,5 @@ pub mod Extending
 pub mod Loosened
 pub mod Regrown
 pub mod Growing
+pub mod Written
 pub mod Reallocated

@@ -1,3 +1,4 @@
+use Rattle.w16_arena.proofs.Written.{counted_none}
 -- A reallocation by its cases: an object without bytes, and one with a block.
 use Rattle.std.proofs.Common.{◌≡◌, ℕ, ◌+◌, ◌-◌, ◌≤◌, Bool, true, false, not, ◌&&◌, ◌||◌, nat_lt, if◌then◌else◌, is_ok, IfSome, IsSomeAnd, IfOk, OnErr, List, length, slice_range, Option, Some, None, Result, Ok, Err, option_map, unwrap_or, sym, ap, ◌∙◌, subst, arith}
 use Rattle.w16_region.specs.Bytes.{counted}
@@ -63,10 +64,6 @@ pub listed_of : (h new : Heap) (id n : ℕ) (way : Way) (ids : List ℕ) (r : Re
 listed_of h new id n way ids (Ok p) ok = ok.listed
 listed_of h new id n way ids (Err e) ok = tt
 
--- no byte more is counted
-pub counted_none : (w : ℕ) → counted w 0 ≡ w
-counted_none w = omega arith
-
 -- what is written where nothing was moved
 pub still_written : (r : Result Placed NoRoom) (before after k : ℕ) → IfOk r (λ p. p.moved ≡ 0) → IfOk r (λ _. after ≡ counted before k) → IfOk r (λ p. after ≡ counted (counted before p.moved) k)
 still_written (Ok p) before after k none is = is ∙ ap (λ w. counted w k) (sym (counted_none before)) ∙ ap (λ m. counted (counted before m) k) (sym none)
@@ -95,3 +92,12 @@ held_by t sound id e there b is way v told =
     let layout : Layout = record { cap = length t.entries; lo = t.lo; hi = t.hi; grain = t.grain; blocks = t.blocks } in
     let hold : b.hold ≡ hold_of_entry e = subst (λ p. IsSomeAnd p (λ e. b.hold ≡ hold_of_entry e)) (sym there) (holds_at t.entries layout t.order sound id b (sym is)) in
     ap (λ p. p && not way.may_move) (ap holds_still hold ∙ still_hold (is_fixed e.kind || nat_lt 0 e.locks)) ∙ sym told
+
+-- what is written for one that has no bytes
+pub revived_written : (r : Result Placed NoRoom) (before after : ℕ) (zero : Bool) (n s : ℕ) → s ≡ 0 → IfOk r (λ p. after ≡ counted (counted before p.moved) (if zero then n else 0)) → IfOk r (λ p. after ≡ counted (counted before p.moved) (if zero then n - s else 0))
+revived_written r before after zero n s none is = let all : n ≡ n - s = omega arith in subst (λ k. IfOk r (λ p. after ≡ counted (counted before p.moved) (if zero then k else 0))) all is
+
+-- what a refused request leaves, without why it is refused
+pub unchanged : (A B C : Type 0) (r : Result Placed NoRoom) → OnErr r (A × B × C) → OnErr r (B × C)
+unchanged A B C (Ok p) f = tt
+unchanged A B C (Err e) f = (f.1, f.2)

@@ -5,7 +5,7 @@
 //! for in a memory. No call but [`Arena::new`] takes memory of the host.
 #![tactic(auto)]
 
-ghost use Rattle.std.specs.Prelude.{◌≡◌, ◌<◌, ◌≤◌, ◌⊎◌, ℕ, [], length, slice_get, IfOk, IfSome, IfNone};
+ghost use Rattle.std.specs.Prelude.{◌≡◌, ◌<◌, ◌≤◌, ◌⊎◌, ℕ, [], length, replicate, slice_get, None, IfOk, IfSome, IfNone};
 ghost use Rattle.w16_model.specs.Heap.{IsMultiple};
 ghost use Rattle.w16_model.specs.Table.{block_with, entry_at, IsSound};
 ghost use Rattle.w16_holes.specs.Holes.{add_span};
@@ -82,7 +82,7 @@ impl<H: HoleList> Arena<H> {
         requires whole { H.holes holes ≡ add_span lo hi [] }
         ensures { IfOk result (λ made. made ≡ record { table = empty_table cap lo hi grain; discarded = [] }) }
     {
-        let entries = vec![in alloc; None; cap as usize]?;
+        let entries = no_entries(alloc, cap)?;
         let blocks = Blocks::with_room(alloc, cap, holes, lo, hi, grain)?;
         let order = Order::with_room(alloc, cap)?;
         let gap_rooms = GapRooms::with_room(alloc, cap)?;
@@ -162,4 +162,11 @@ impl<H: HoleList> Arena<H> {
     {
         &self.discarded
     }
+}
+
+/// The entries of so many ids, where no object is yet.
+fn no_entries(alloc: Global, cap: u32) -> Result<Vec<Option<Entry>>, AllocError>
+    ensures { IfOk result (λ entries. entries.items ≡ replicate cap None) }
+{
+    vec![in alloc; None; cap as usize]
 }

@@ -84,6 +84,22 @@ module _ {cap lo hi g : ℕ} {slots : List Block} {cells : List ℕ} (t : AreTab
   missed : (a e : ℕ) → IsHole lo hi (blocks_in slots cells) a e → (k id : ℕ) → slice_index cells k ≡ suc id → Misses (slot_of slots id).at (slot_of slots id).size a e
   missed a e hole k id tells = each_told (λ x. IsTrue (is_any x) → Misses x.at x.size a e) slots cells k id tells (Each-from_All (λ x. IsTrue (is_any x) → Misses x.at x.size a e) (blocks_in slots cells) hole.clear.misses) refl
 
+  -- none below the first unit at or above a place is at or above it
+  pub passed_first : (at less first : ℕ) → less ≡ at - lo → first ≡ div_ceil less g → ArePassed lo hi g at slots cells first
+  passed_first at less first less_is first_is = λ k under from.
+      let below = units_below lo g at first t.some (first_is ∙ ap (λ (n : ℕ). div_ceil n g) less_is) k under in absurd (omega arith)
+
+  -- one unit more, in which neither begins
+  pub passed_more : (at u : ℕ) → ArePassed lo hi g at slots cells u → (place n : ℕ) {kept : List Span} → place ≡ lo + g * u → slice_index cells u ≡ 0 → kept ≡ holes lo hi (blocks_in slots cells) → n ≡ length_at place kept → n ≡ 0
+      → ArePassed lo hi g at slots cells (u + 1)
+  passed_more at u passed place n {kept} here clear between long none = λ k under from. elim (cases_lt k u) [
+    | inl below ↦ passed k below from
+    | inr over ↦
+        let same : k ≡ u = omega arith in
+        let length : length_at (lo + g * u) (holes lo hi (blocks_in slots cells)) ≡ 0 = ap (length_at (lo + g * u)) (sym between) ∙ ap (λ (p : ℕ). length_at p kept) (sym here) ∙ sym long ∙ none in
+        subst (λ (k : ℕ). (slice_index cells k ≡ 0) × (length_at (lo + g * k) (holes lo hi (blocks_in slots cells)) ≡ 0)) (sym same) (clear, length)
+  ]
+
   -- where the units below u are passed, from the first at or above the place on
   module _ (at u : ℕ) (passed : ArePassed lo hi g at slots cells u) (less first : ℕ) (less_is : less ≡ at - lo) (first_is : first ≡ div_ceil less g) (reached : first ≤ u) where
     from_first : (k : ℕ) → first ≤ k → at ≤ lo + g * k

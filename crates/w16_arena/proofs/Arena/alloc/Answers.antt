@@ -1,9 +1,9 @@
-use Rattle.std.proofs.Common.{sym, ap, ◌∙◌, is_ok}
+use Rattle.std.proofs.Common.{sym, ap, ◌∙◌, is_ok, subst}
 use Rattle.w16_model.specs.Table.{heap_in}
 use Rattle.w16_model.specs.Request.{Allocates}
 use Rattle.w16_model.proofs.Sound.{sound_heap}
 use Rattle.w16_model.proofs.Fewest.{allocation_law}
-use Rattle.w16_arena.specs.State.{ArenaState}
+use Rattle.w16_arena.specs.State.{ArenaState, holes_in}
 use Rattle.w16_arena.proofs.Answering.{allocates_now, discards_none, refused_kept}
 use Rattle.w16_arena.proofs.Arena.alloc.Goals as goal
 
@@ -14,6 +14,9 @@ returns-in-Some-clause-allocated g c =
 pub returns-in-Some-clause-discarded : goal.returns-in-Some-clause-discarded
 returns-in-Some-clause-discarded g c =
     discards_none c.args.self.now c.in-Some.ensures.sound (g.S.Space.bytes c.args.space.now) c.requires.inside c.args.id c.args.size c.args.kind c.args.way c.requires.absent c.requires.some c.requires.rounded c.in-Some.ensures.enough (ap (λ (s : ArenaState). s.discarded) c.forget_discards.ensures)
+
+pub returns-then-not-may_discard-clause-refused : goal.returns-then-not-may_discard-clause-refused
+returns-then-not-may_discard-clause-refused g c = (c.in_default.ensures.refused.1, c.in_default.ensures.refused.2)
 
 pub returns-then-not-may_discard-clause-allocated : goal.returns-then-not-may_discard-clause-allocated
 returns-then-not-may_discard-clause-allocated g c =
@@ -41,3 +44,36 @@ returns-clause-fewest g c =
     let answered : Allocates (heap_in c.args.self.now.table m) c.args.id c.args.size c.args.kind 0 c.args.way (is_ok c.place_discarding.result) (heap_in c.place_discarding.new.self.table (g.S.Space.bytes c.place_discarding.new.space)) =
     rw (← r.1, ← r.2) c.place_discarding.ensures.allocated in
     allocation_law _ _ _ _ _ _ _ _ (sound_heap c.args.self.now.table c.in_default.ensures.sound m c.requires.inside c.has_bytes.ensures) answered
+
+pub returns-in-Some-clause-rest : goal.returns-in-Some-clause-rest
+returns-in-Some-clause-rest g c = rw c.forget_discards.ensures c.in-Some.ensures.rest
+
+pub returns-in-Some-clause-kept : goal.returns-in-Some-clause-kept
+returns-in-Some-clause-kept g c = subst (λ (s : ArenaState). g.H.Holes.are_in (holes_in s.table) (g.S.Space.bytes c.place.new.space)) (sym c.forget_discards.ensures) c.in-Some.ensures.kept
+
+pub returns-then-not-may_discard-clause-rest : goal.returns-then-not-may_discard-clause-rest
+returns-then-not-may_discard-clause-rest g c = c.in_default.ensures.rest
+
+pub place_discarding-requires-clause-id : goal.place_discarding-requires-clause-id
+place_discarding-requires-clause-id g c = rw c.in_default.ensures.refused.1 c.requires.id
+
+pub place_discarding-requires-clause-absent : goal.place_discarding-requires-clause-absent
+place_discarding-requires-clause-absent g c = rw c.in_default.ensures.refused.1 c.requires.absent
+
+pub place_discarding-requires-clause-rounded : goal.place_discarding-requires-clause-rounded
+place_discarding-requires-clause-rounded g c = rw c.in_default.ensures.refused.1 c.requires.rounded
+
+pub place_discarding-requires-clause-inside : goal.place_discarding-requires-clause-inside
+place_discarding-requires-clause-inside g c = let r = c.in_default.ensures.refused in rw (r.1, r.2) c.requires.inside
+
+pub place_discarding-requires-clause-may : goal.place_discarding-requires-clause-may
+place_discarding-requires-clause-may g c = sym c.may_discard.ensures ∙ c.if-not-may_discard.false
+
+pub returns-clause-refused : goal.returns-clause-refused
+returns-clause-refused g c = let r = c.in_default.ensures.refused in rw (← r.1, ← r.2) c.place_discarding.ensures.refused
+
+pub returns-clause-rest : goal.returns-clause-rest
+returns-clause-rest g c = let r = c.in_default.ensures.refused in rw (← r.1, ← r.2) c.place_discarding.ensures.rest
+
+pub returns-clause-written : goal.returns-clause-written
+returns-clause-written g c = rw (← c.in_default.ensures.refused.2) c.place_discarding.ensures.written

@@ -14,3 +14,9 @@ returns-then-is_discardable-clause-ok g c = order_ok c.args.self.now c.entry.ens
 
 pub returns-else-is_discardable-clause-err : goal.returns-else-is_discardable-clause-err
 returns-else-is_discardable-clause-err g c = order_other c.args.self.now c.entry.ensures.sound c.args.id c.in-Some.entry (sym c.entry.ensures.value ∙ c.in-Some.is) (ap is_some (sym c.block.ensures.value) ∙ c.if-is_none.ensures) (sym c.is_discardable.ensures ∙ c.if-is_discardable.false)
+
+pub returns-else-is_discardable-clause-ok : goal.returns-else-is_discardable-clause-ok
+returns-else-is_discardable-clause-ok g c = tt
+
+pub returns-else-is_discardable-clause-listed : goal.returns-else-is_discardable-clause-listed
+returns-else-is_discardable-clause-listed g c = tt

@@ -1,4 +1,5 @@
-use Rattle.std.proofs.Common.{refl, sym, arith}
+use Rattle.w16_arena.specs.State.{ArenaState}
+use Rattle.std.proofs.Common.{refl, sym, arith, ap}
 use Rattle.w16_model.specs.Table.{heap_in}
 use Rattle.w16_model.proofs.Sound.{sound_heap}
 use Rattle.w16_model.proofs.Fewest.{compaction_law}
@@ -36,3 +37,6 @@ returns-clause-fewest g c =
 pub returns-then-n-gt0-clause-fewest : goal.returns-then-n-gt0-clause-fewest
 returns-then-n-gt0-clause-fewest g c =
     compaction_law _ _ _ _ (sound_heap c.args.self.now.table c.is_sound.ensures (g.S.Space.bytes c.args.space.now) c.requires.inside c.has_bytes.ensures) c.slide_discarding.ensures.compacted
+
+pub returns-clause-none : goal.returns-clause-none
+returns-clause-none g c = λ _. (ap (λ (s : ArenaState). s.discarded) c.forget_discards.ensures, refl)

@@ -1,4 +1,5 @@
-use Rattle.std.proofs.Common.{sym, ◌∙◌}
+use Rattle.w16_model.specs.declared.Entry.{Entry}
+use Rattle.std.proofs.Common.{sym, ◌∙◌, ◌≡◌, IsSomeAnd, Option, subst, arith}
 use Rattle.std.proofs.lemmas.Bool.{lt-ltb, le-ltb}
 use Rattle.w16_arena.proofs.Refusals.{discard_none, discard_locked, discard_other, discard_ok}
 use Rattle.w16_arena.proofs.Keeping.{keeps_same}
@@ -24,3 +25,12 @@ returns-then-entry-gt0-clause-bytes g c = keeps_same c.args.self.now.table.lo c.
 
 pub returns-then-not-is_discardable-clause-bytes : goal.returns-then-not-is_discardable-clause-bytes
 returns-then-not-is_discardable-clause-bytes g c = keeps_same c.args.self.now.table.lo c.args.self.now.table.hi c.args.self.now.table.blocks c.args.space.now
+
+pub returns-then-entry-gt0-clause-ok : goal.returns-then-entry-gt0-clause-ok
+returns-then-entry-gt0-clause-ok g c = tt
+
+pub returns-then-not-is_discardable-clause-ok : goal.returns-then-not-is_discardable-clause-ok
+returns-then-not-is_discardable-clause-ok g c = tt
+
+pub give_up-requires-clause-unlocked : goal.give_up-requires-clause-unlocked
+give_up-requires-clause-unlocked g c = subst (λ (o : Option Entry). IsSomeAnd o (λ e. e.locks ≡ 0)) (sym (sym c.entry.ensures.value ∙ c.in-Some.is)) (omega arith)

@@ -18,3 +18,6 @@ returns-in_default-clause-bytes g c = keeps_same c.args.self.now.table.lo c.args
 
 pub returns-then-entry-gt0-clause-bytes : goal.returns-then-entry-gt0-clause-bytes
 returns-then-entry-gt0-clause-bytes g c = keeps_same c.args.self.now.table.lo c.args.self.now.table.hi c.args.self.now.table.blocks c.args.space.now
+
+pub returns-then-entry-gt0-clause-ok : goal.returns-then-entry-gt0-clause-ok
+returns-then-entry-gt0-clause-ok g c = tt

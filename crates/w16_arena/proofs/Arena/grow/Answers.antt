@@ -1,4 +1,5 @@
-use Rattle.std.proofs.Common.{refl, sym, ◌∙◌}
+use Rattle.std.proofs.Common.{refl, sym, subst, ◌∙◌}
+use Rattle.w16_arena.specs.State.{ArenaState, holes_in}
 use Rattle.w16_arena.proofs.Growing.{refused_now, grows_now}
 use Rattle.w16_arena.proofs.Arena.grow.Goals as goal
 
@@ -17,3 +18,30 @@ returns-clause-resized g c = let r = c.in_default.ensures.refused in rw (← r.1
 
 pub returns-clause-refused : goal.returns-clause-refused
 returns-clause-refused g c = let r = c.in_default.ensures.refused in rw (← r.1, ← r.2) c.grow_discarding.ensures.refused
+
+pub returns-in-Some-clause-rest : goal.returns-in-Some-clause-rest
+returns-in-Some-clause-rest g c = rw c.forget_discards.ensures c.in-Some.ensures.rest
+
+pub returns-in-Some-clause-kept : goal.returns-in-Some-clause-kept
+returns-in-Some-clause-kept g c = subst (λ (s : ArenaState). g.H.Holes.are_in (holes_in s.table) (g.S.Space.bytes c.grow_now.new.space)) (sym c.forget_discards.ensures) c.in-Some.ensures.kept
+
+pub returns-then-not-may_discard-clause-rest : goal.returns-then-not-may_discard-clause-rest
+returns-then-not-may_discard-clause-rest g c = c.in_default.ensures.rest
+
+pub grow_discarding-requires-clause-known : goal.grow_discarding-requires-clause-known
+grow_discarding-requires-clause-known g c = rw c.in_default.ensures.refused.1 c.requires.known
+
+pub grow_discarding-requires-clause-rounded : goal.grow_discarding-requires-clause-rounded
+grow_discarding-requires-clause-rounded g c = rw c.in_default.ensures.refused.1 c.requires.rounded
+
+pub grow_discarding-requires-clause-inside : goal.grow_discarding-requires-clause-inside
+grow_discarding-requires-clause-inside g c = let r = c.in_default.ensures.refused in rw (r.1, r.2) c.requires.inside
+
+pub grow_discarding-requires-clause-may : goal.grow_discarding-requires-clause-may
+grow_discarding-requires-clause-may g c = sym c.may_discard.ensures ∙ c.if-not-may_discard.false
+
+pub returns-clause-rest : goal.returns-clause-rest
+returns-clause-rest g c = let r = c.in_default.ensures.refused in rw (← r.1, ← r.2) c.grow_discarding.ensures.rest
+
+pub returns-clause-written : goal.returns-clause-written
+returns-clause-written g c = rw (← c.in_default.ensures.refused.2) c.grow_discarding.ensures.written

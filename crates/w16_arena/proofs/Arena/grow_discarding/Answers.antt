@@ -1,3 +1,4 @@
+use Rattle.w16_compact.proofs.Rests.{rest_same}
 use Rattle.std.proofs.Common.{ℕ, ap, ◌∙◌, subst, refl, sym, if◌then◌else◌, ◌-◌, IsSomeAnd}
 use Rattle.std.proofs.lemmas.Bool.{false≢true}
 use Rattle.w16_region.specs.Bytes.{counted}
@@ -49,3 +50,6 @@ returns g c =
       kept = p.kept;
       written = p.written ∙ ap (λ (w : ℕ). counted (counted w c.in-Some-grow_now.placed.moved) (if c.args.way.zero then c.args.size - b.size else 0)) bytes.count;
     }
+
+pub returns-in_default-clause-rest : goal.returns-in_default-clause-rest
+returns-in_default-clause-rest g c = let found = c.least_discards.ensures in rw found.same (record { range = record { lo = refl; hi = refl; grain = refl; ids = refl; sound = found.sound }; memory = rest_same c.args.self.now.table.lo c.args.self.now.table.hi c.args.space.now })

@@ -1,4 +1,6 @@
-use Rattle.std.proofs.Common.{◌≡◌, ◌+◌, ◌≤◌, false, [], length, IfSome, Some, refl, subst, sym, arith}
+use Rattle.w16_arena.proofs.Written.{counted_if}
+use Rattle.w16_region.specs.Bytes.{counted}
+use Rattle.std.proofs.Common.{◌≡◌, ◌+◌, ◌≤◌, false, [], length, IfSome, Some, refl, subst, sym, arith, ℕ, ◌-◌, ap, ◌∙◌, if◌then◌else◌}
 use Rattle.w16_model.specs.declared.Block.{Block}
 use Rattle.w16_model.specs.Gap.{block_end, hole_after}
 use Rattle.w16_model.specs.Heap.{IsMultiple}
@@ -109,3 +111,8 @@ returns-clause-kept g c =
     let wide = rest_wider {low = b.at} {high = b.at + n} c.clear_if.ensures.rest (omega arith) (omega arith) in
     subst (λ (s : ArenaState). g.H.Holes.are_in (holes_in s.table) (g.S.Space.bytes c.clear_if.new.space)) (sym c.forget_discards.ensures) (g.met.H.Holes.stay _ (g.S.Space.bytes c.resize.new.space) (g.S.Space.bytes c.clear_if.new.space) c.resize.ensures.kept
     (same_in b.at (b.at + n) _ _ _ wide.long wide.outside (used_placed (but_for b.id c.self.inside.blocks) c.resize.new.blocks (record b { size = n }) c.resize.ensures.value c.resize.ensures.ordered)))
+
+pub returns-clause-written : goal.returns-clause-written
+returns-clause-written g c =
+    c.clear_if.ensures.written ∙ counted_if c.args.way.zero (g.S.Space.written c.resize.new.space) (c.args.size - c.args.block.size)
+    ∙ ap (λ (w : ℕ). counted w (if c.args.way.zero then c.args.size - c.args.block.size else 0)) c.resize.ensures.bytes.count

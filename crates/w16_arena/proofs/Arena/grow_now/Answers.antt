@@ -1,12 +1,14 @@
-use Rattle.std.proofs.Common.{◌≡◌, ◌+◌, ◌≤◌, length, IsSomeAnd, Some, arith}
+use Rattle.w16_arena.proofs.Written.{counted_if}
+use Rattle.w16_region.specs.Bytes.{counted}
+use Rattle.std.proofs.Common.{◌≡◌, ◌+◌, ◌≤◌, length, IsSomeAnd, Some, arith, ℕ, ◌-◌, true, ap, ◌∙◌, refl, if◌then◌else◌}
 use Rattle.w16_model.specs.declared.Block.{Block}
 use Rattle.w16_model.specs.Heap.{IsMultiple, object_at}
 use Rattle.w16_model.specs.Request.{IsGrown, StaysOrMovesToHole}
-use Rattle.w16_model.specs.Table.{block_with, heap_in}
-use Rattle.w16_compact.proofs.Rests.{rest_wider}
-use Rattle.w16_arena.specs.Asked.{Stands}
+use Rattle.w16_model.specs.Table.{block_with, heap_in, IsSound}
+use Rattle.w16_compact.proofs.Rests.{rest_wider, rest_same}
+use Rattle.w16_arena.specs.Asked.{Stands, may_grow_in}
 use Rattle.w16_arena.specs.Growth.{but_for}
-use Rattle.w16_arena.specs.State.{KeepsRest, table_of, heap_of}
+use Rattle.w16_arena.specs.State.{KeepsRest, table_of, heap_of, ArenaState}
 use Rattle.w16_arena.proofs.Fitting.{id_known}
 use Rattle.w16_arena.proofs.Keeping.{same_in, used_placed}
 use Rattle.w16_arena.proofs.Shown.{known as known_in, told}
@@ -64,3 +66,34 @@ returns-clause-kept g c =
     let wide = rest_wider {low = p.at} {high = p.at + n} c.clear_if.ensures.rest (omega arith) (omega arith) in
     g.met.H.Holes.stay _ (g.S.Space.bytes c.grow_block.new.space) (g.S.Space.bytes c.clear_if.new.space) e.kept
     (same_in p.at (p.at + n) _ _ _ wide.long wide.outside (used_placed (but_for b.id c.grow_block.new.blocks) c.grow_block.new.blocks (record b { at = p.at; size = n }) e.value e.laid))
+
+pub returns-clause-written : goal.returns-clause-written
+returns-clause-written g c =
+    c.clear_if.ensures.written ∙ counted_if c.args.way.zero (g.S.Space.written c.grow_block.new.space) (c.args.size - c.args.block.size)
+    ∙ ap (λ (w : ℕ). counted w (if c.args.way.zero then c.args.size - c.args.block.size else 0)) c.in_ok-placed.ensures.written
+
+pub returns-clause-discarded : goal.returns-clause-discarded
+returns-clause-discarded g c = ap (λ (s : ArenaState). s.discarded) c.self.view_is
+
+pub returns-clause-sound : goal.returns-clause-sound
+returns-clause-sound g c = told c.self.invariant c.self.view_is (λ t. IsSound t) c.self.invariant.sound
+
+pub returns-clause-enough : goal.returns-clause-enough
+returns-clause-enough g c = told c.self.invariant c.self.view_is (λ t. may_grow_in t c.args.block.id c.args.size c.args.way.compact ≡ true) c.in_ok-placed.ensures.enough
+
+pub invariant_of-self : goal.invariant_of-self
+invariant_of-self g c = rw c.in_err-placed.ensures.refused.1 c.self.invariant
+
+pub grow_block-requires-clause-known : goal.grow_block-requires-clause-known
+grow_block-requires-clause-known g c = known_in c.self.invariant c.self.view_is (λ t. block_with t.blocks c.args.block.id ≡ Some c.args.block) c.requires.known
+
+pub grow_block-requires-clause-rounded : goal.grow_block-requires-clause-rounded
+grow_block-requires-clause-rounded g c = known_in c.self.invariant c.self.view_is (λ t. IsMultiple t.grain c.args.size) c.requires.rounded
+
+pub grow_block-requires-clause-inside : goal.grow_block-requires-clause-inside
+grow_block-requires-clause-inside g c = known_in c.self.invariant c.self.view_is (λ t. t.hi ≤ length (g.S.Space.bytes c.args.space.now)) c.requires.inside
+
+pub returns-in_err-placed-clause-rest : goal.returns-in_err-placed-clause-rest
+returns-in_err-placed-clause-rest g c = let r = c.in_err-placed.ensures.refused in
+    told c.self.invariant c.self.view_is (λ t. KeepsRest g.S.Space.bytes g.S.Space.lenders t c.args.space.now (table_of c.self.inside.entries.items c.grow_block.new.blocks c.self.inside.order.ids) c.grow_block.new.space)
+    (rw (r.1, r.2) (record { range = record { lo = refl; hi = refl; grain = refl; ids = refl; sound = c.self.invariant.sound }; memory = rest_same c.self.inside.blocks.lo c.self.inside.blocks.hi c.args.space.now }))

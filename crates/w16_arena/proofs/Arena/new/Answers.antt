@@ -1,9 +1,8 @@
-use Rattle.std.proofs.Common.{rules, ◌≡◌, None, replicate, arith}
+use Rattle.std.proofs.Common.{arith}
 use Rattle.w16_arena.proofs.Fresh.{fresh_kept}
 use Rattle.w16_arena.proofs.Arena.new.Goals as goal
 
 pub invariant_of-result : goal.invariant_of-result
 invariant_of-result g c =
-    let items : c.in_ok-entries.entries.items ≡ replicate c.args.cap None = c.in_ok-entries.ensures.items_if_clones_equal (λ y h. search rules) in
-    rw (items, c.in_ok-blocks.ensures, c.in_ok-order.ensures, c.in_ok-discarded.ensures.exact)
+    rw (c.in_ok-entries.ensures, c.in_ok-blocks.ensures, c.in_ok-order.ensures, c.in_ok-discarded.ensures.exact)
     (fresh_kept c.args.cap c.args.lo c.args.hi c.args.grain c.requires.bounds c.requires.grained c.in_ok-gap_rooms.gap_rooms c.in_ok-gap_rooms.ensures c.args.cap (omega arith))

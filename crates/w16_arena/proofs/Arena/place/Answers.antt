@@ -1,6 +1,12 @@
-use Rattle.std.proofs.Common.{◌+◌, ap, arith}
+use Rattle.w16_arena.specs.NewPlace.{most_in}
+use Rattle.w16_arena.proofs.Shown.{told}
+use Rattle.w16_model.specs.Table.{IsSound}
+use Rattle.w16_arena.specs.State.{ArenaState, KeepsRest, table_of}
+use Rattle.w16_arena.proofs.Written.{counted_if}
+use Rattle.w16_region.specs.Bytes.{counted}
+use Rattle.std.proofs.Common.{◌+◌, ap, arith, ℕ, ◌∙◌, refl, if◌then◌else◌, ◌≤◌}
 use Rattle.w16_blocks.specs.Layout.{Layout}
-use Rattle.w16_compact.proofs.Rests.{rest_more}
+use Rattle.w16_compact.proofs.Rests.{rest_more, rest_same}
 use Rattle.w16_arena.proofs.Granting.{may_insert, kept_placed, rest_placed, stands_placed}
 use Rattle.w16_arena.proofs.Keeping.{moved_kept, same_in, used_placed}
 use Rattle.w16_arena.proofs.Arena.place.Goals as goal
@@ -37,3 +43,25 @@ returns-clause-kept g c =
     let cleared = c.clear_if.ensures.rest in
     g.met.H.Holes.stay _ (g.S.Space.bytes c.insert.new.space) (g.S.Space.bytes c.clear_if.new.space) c.insert.ensures.kept
     (same_in c.in_ok-placed.placed.at (c.in_ok-placed.placed.at + c.args.size) _ _ _ cleared.long cleared.outside (used_placed _ _ _ c.insert.ensures.value c.insert.ensures.ordered))
+
+pub returns-clause-written : goal.returns-clause-written
+returns-clause-written g c =
+    c.clear_if.ensures.written ∙ counted_if c.args.way.zero (g.S.Space.written c.insert.new.space) c.args.size
+    ∙ ap (λ (w : ℕ). counted w (if c.args.way.zero then c.args.size else 0)) (c.insert.ensures.bytes.count ∙ c.in_ok-placed.ensures.written)
+
+pub returns-clause-discarded : goal.returns-clause-discarded
+returns-clause-discarded g c = ap (λ (s : ArenaState). s.discarded) c.self.view_is
+
+pub returns-clause-sound : goal.returns-clause-sound
+returns-clause-sound g c = told c.self.invariant c.self.view_is (λ t. IsSound t) c.self.invariant.sound
+
+pub invariant_of-self : goal.invariant_of-self
+invariant_of-self g c = rw c.in_err-placed.ensures.refused.1 c.self.invariant
+
+pub returns-in_err-placed-clause-rest : goal.returns-in_err-placed-clause-rest
+returns-in_err-placed-clause-rest g c = let r = c.in_err-placed.ensures.refused in
+    told c.self.invariant c.self.view_is (λ t. KeepsRest g.S.Space.bytes g.S.Space.lenders t c.args.space.now (table_of c.self.inside.entries.items c.make_room.new.blocks c.self.inside.order.ids) c.make_room.new.space)
+    (rw (r.1, r.2) (record { range = record { lo = refl; hi = refl; grain = refl; ids = refl; sound = c.self.invariant.sound }; memory = rest_same c.self.inside.blocks.lo c.self.inside.blocks.hi c.args.space.now }))
+
+pub returns-clause-enough : goal.returns-clause-enough
+returns-clause-enough g c = told c.self.invariant c.self.view_is (λ t. c.args.size ≤ most_in t c.args.way.compact) c.in_ok-placed.ensures.enough

@@ -1,4 +1,5 @@
-use Rattle.std.proofs.Common.{ℕ, arith, ap, ◌∙◌, subst, if◌then◌else◌}
+use Rattle.w16_compact.proofs.Rests.{rest_same}
+use Rattle.std.proofs.Common.{ℕ, arith, ap, ◌∙◌, subst, if◌then◌else◌, refl}
 use Rattle.w16_region.specs.Bytes.{counted}
 use Rattle.w16_model.specs.Changes.{with_newest}
 use Rattle.w16_model.specs.Request.{IsNew}
@@ -46,3 +47,9 @@ returns g c =
       kept = p.kept;
       written = p.written ∙ ap (λ (w : ℕ). counted (counted w c.in-Some-place.placed.moved) (if c.args.way.zero then c.args.size else 0)) bytes.count;
     }
+
+pub returns-in_default-clause-refused : goal.returns-in_default-clause-refused
+returns-in_default-clause-refused g c = (c.least_discards.ensures.same, refl)
+
+pub returns-in_default-clause-rest : goal.returns-in_default-clause-rest
+returns-in_default-clause-rest g c = let found = c.least_discards.ensures in rw found.same (record { range = record { lo = refl; hi = refl; grain = refl; ids = refl; sound = found.sound }; memory = rest_same c.args.self.now.table.lo c.args.self.now.table.hi c.args.space.now })

@@ -1,5 +1,5 @@
-use Rattle.std.proofs.lemmas.Grind.{common_steps}
-use Rattle.std.proofs.Common.{◌≡◌, ℕ, ◌-◌, ◌≤◌, true, false, is_ok, length, IfOk, IsSome, option_map, unwrap_or, sym, ◌∙◌, subst, if◌then◌else◌, arith}
+use Rattle.w16_arena.proofs.Lookups.{in_list}
+use Rattle.std.proofs.Common.{◌≡◌, ℕ, ◌-◌, ◌≤◌, true, false, is_ok, length, IfOk, IsSome, option_map, unwrap_or, sym, ◌∙◌, subst, if◌then◌else◌}
 use Rattle.std.proofs.lemmas.Bool.{false≢true}
 use Rattle.w16_model.specs.declared.Block.{Block}
 use Rattle.w16_model.specs.Heap.{bytes_at}
@@ -9,7 +9,7 @@ use Rattle.w16_model.proofs.Reallocations.{fewest_law}
 use Rattle.w16_model.proofs.Sound.{sound_heap}
 use Rattle.w16_arena.specs.Asked.{IsResized}
 use Rattle.w16_arena.proofs.Sized.{size_is}
-use Rattle.w16_arena.proofs.Reallocated.{revived, revived_listed, by_result, placed_of, listed_of, still_written, size_written, cut_written, found_known, held_by}
+use Rattle.w16_arena.proofs.Reallocated.{revived, revived_listed, by_result, placed_of, listed_of, still_written, size_written, cut_written, found_known, held_by, no_size, revived_written, unchanged}
 use Rattle.w16_arena.proofs.Arena.realloc.Goals as goal
 
 pub unreachable-requires : goal.unreachable-requires
@@ -187,4 +187,19 @@ returns-else-is_held-clause-written g c =
     size_written c.grow.result (g.S.Space.written c.args.space.now) (g.S.Space.written c.grow.new.space) c.args.way.zero n b.size (unwrap_or (option_map (length {A = ℕ}) (bytes_at (heap_in t m) c.args.id)) 0) (sym s) c.grow.ensures.written
 
 pub alloc-requires-clause-id : goal.alloc-requires-clause-id
-alloc-requires-clause-id g c = grind (arith, common_steps)
+alloc-requires-clause-id g c = in_list c.args.self.now.table.entries c.args.id c.in-Some.entry (sym c.in-Some.ensures.value)
+
+pub returns-in_default-block-clause-written : goal.returns-in_default-block-clause-written
+returns-in_default-block-clause-written g c =
+    let m = g.S.Space.bytes c.args.space.now in let t : Table = c.args.self.now.table in let n = c.args.size in
+    revived_written c.alloc.result (g.S.Space.written c.args.space.now) (g.S.Space.written c.alloc.new.space) c.args.way.zero n (unwrap_or (option_map (length {A = ℕ}) (bytes_at (heap_in t m) c.args.id)) 0)
+    (no_size t c.in-Some.ensures.sound m c.requires.inside c.args.id c.in-Some.entry (sym c.in-Some.ensures.value) (sym c.in_default-block.ensures.value)) c.alloc.ensures.written
+
+pub alloc-requires-clause-absent : goal.alloc-requires-clause-absent
+alloc-requires-clause-absent g c = sym c.in_default-block.ensures.value
+
+pub returns-then-is_held-clause-refused : goal.returns-then-is_held-clause-refused
+returns-then-is_held-clause-refused g c = unchanged _ _ _ c.grow_in_place.result c.grow_in_place.ensures.refused
+
+pub returns-else-is_held-clause-refused : goal.returns-else-is_held-clause-refused
+returns-else-is_held-clause-refused g c = unchanged _ _ _ c.grow.result c.grow.ensures.refused

@@ -1,4 +1,5 @@
-use Rattle.std.proofs.Common.{◌<◌, refl, arith}
+use Rattle.w16_arena.proofs.Written.{counted_none}
+use Rattle.std.proofs.Common.{◌<◌, refl, arith, sym}
 use Rattle.w16_arena.proofs.Arranged.{same_moved}
 use Rattle.w16_arena.proofs.Rooms.{no_hole, whole_hole, none_moved}
 use Rattle.w16_arena.proofs.Steps.{kept_beside}
@@ -24,3 +25,6 @@ returns-clause-slides g c =
 
 pub returns-clause-rest : goal.returns-clause-rest
 returns-clause-rest g c = rest_slid c.self.invariant c.self.view_is (g.S.Space.bytes c.args.space.now) c.has_bytes.ensures c.requires.inside c.in-Some.placed.slid c.in-Some.ensures.slid c.in-Some.ensures.rest
+
+pub returns-then-room-eq0-clause-written : goal.returns-then-room-eq0-clause-written
+returns-then-room-eq0-clause-written g c = sym (counted_none (g.S.Space.written c.args.space.now))

@@ -1,5 +1,5 @@
 -- The first part is a hole, a block, or none.
-use Rattle.std.proofs.Common.{◌≡◌, ◌-◌, ◌≤◌, ◌<◌, ℕ, IsSomeAnd, List, length, Option, Some, None, slice_get, refl, sym, ap, subst}
+use Rattle.std.proofs.Common.{◌≡◌, ◌-◌, ◌≤◌, ◌<◌, ℕ, IsSomeAnd, List, length, Option, Some, None, slice_get, refl, sym, ap, subst, arith}
 use Rattle.w16_model.specs.declared.Block.{Block}
 use Rattle.w16_model.specs.declared.Entry.{Entry}
 use Rattle.w16_model.specs.declared.Item.{Item}
@@ -54,3 +54,8 @@ returns-in-Block-clause-found g c =
 pub returns-in-Block-clause-inside : goal.returns-in-Block-clause-inside
 returns-in-Block-clause-inside g c =
     part_inside (table_of c.self.inside.entries.items c.self.inside.blocks c.self.inside.order.ids) c.self.invariant.sound c.part_from.ensures.ordered.small (rank c.args.from c.self.inside.blocks.blocks) (Some c.item_of.result) (part g c)
+
+pub returns-in-Hole-clause-inside : goal.returns-in-Hole-clause-inside
+returns-in-Hole-clause-inside g c =
+    let first = subst (λ p. IfHole p (IsFirstHole c.self.inside.blocks c.args.from)) c.in-Hole.is c.in_ok-hole.ensures.hole in
+    let hole = first.hole in let small = c.part_from.ensures.ordered.small in (omega arith, omega arith)

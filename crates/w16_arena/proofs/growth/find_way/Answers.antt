@@ -1,4 +1,7 @@
-use Rattle.std.proofs.Common.{◌≡◌, ◌+◌, inr, IfSome, refl, sym, ◌∙◌, subst, arith}
+use Rattle.w16_arena.proofs.Written.{counted_none}
+use Rattle.w16_compact.proofs.Rests.{rest_same}
+use Rattle.std.proofs.lemmas.Bool.{false≢true}
+use Rattle.std.proofs.Common.{◌≡◌, ◌+◌, inr, IfSome, refl, sym, ◌∙◌, subst, arith, inl}
 use Rattle.w16_model.specs.declared.Block.{Block}
 use Rattle.w16_model.specs.Gap.{block_end, hole_after, is_any, IsClear}
 use Rattle.w16_arena.proofs.ButFor.{free_but, own_below}
@@ -51,3 +54,18 @@ returns-else-compact-clause-refused g c =
       refl,
       refl,
     )
+
+pub returns-then-size-block-clause-still : goal.returns-then-size-block-clause-still
+returns-then-size-block-clause-still g c = λ off. (refl, inl refl)
+
+pub returns-then-size-block-clause-rest : goal.returns-then-size-block-clause-rest
+returns-then-size-block-clause-rest g c = rest_same c.args.blocks.now.lo c.args.blocks.now.hi c.args.space.now
+
+pub returns-then-size-block-clause-written : goal.returns-then-size-block-clause-written
+returns-then-size-block-clause-written g c = sym (counted_none (g.S.Space.written c.args.space.now))
+
+pub returns-then-compact-clause-still : goal.returns-then-compact-clause-still
+returns-then-compact-clause-still g c = λ off. absurd (false≢true (sym off ∙ c.if-compact.true))
+
+pub returns-else-compact-clause-rest : goal.returns-else-compact-clause-rest
+returns-else-compact-clause-rest g c = rest_same c.args.blocks.now.lo c.args.blocks.now.hi c.args.space.now

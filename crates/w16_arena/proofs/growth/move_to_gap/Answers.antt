@@ -1,4 +1,6 @@
-use Rattle.std.proofs.Common.{◌+◌, arith}
+use Rattle.w16_arena.proofs.Written.{counted_both}
+use Rattle.w16_region.specs.Bytes.{counted}
+use Rattle.std.proofs.Common.{◌+◌, arith, ℕ, sym, ap, ◌∙◌}
 use Rattle.w16_blocks.proofs.Ordered.{sum_fits}
 use Rattle.w16_compact.proofs.LeftOut.{may_with}
 use Rattle.w16_compact.proofs.Opened.{moved_most}
@@ -37,3 +39,6 @@ returns-clause-way g c =
     (free_but b.id c.args.size (c.args.gap.low + c.args.gap.loose) (all_free ordered b r.known r.loose r.gap r.other e.blocks e.clear))
     (bytes_mid ordered b r.known r.loose r.gap r.other e.blocks e.ordered _ _ e.contents e.rest.long small) f.value f.laid f.bytes f.others f.rest.long f.small
     (let others = others_moved ordered b r.known r.loose r.gap r.other e.blocks e.ordered _ _ e.contents e.rest.long small in let moved = e.moved in let own = f.moved in let same = c.from.ensures in omega (arith, others, moved, own, same))
+
+pub returns-clause-written : goal.returns-clause-written
+returns-clause-written g c = c.shift_to-own.ensures.written ∙ ap (λ (w : ℕ). counted w c.shift_to-own.result) c.gather-gathered.ensures.written ∙ counted_both (g.S.Space.written c.args.space.now) c.gather-gathered.result c.shift_to-own.result ∙ ap (λ (m : ℕ). counted (g.S.Space.written c.args.space.now) (c.gather-gathered.result + m)) (sym c.from.ensures)

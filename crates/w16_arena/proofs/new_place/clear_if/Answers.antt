@@ -1,4 +1,4 @@
-use Rattle.std.proofs.Common.{arith}
+use Rattle.std.proofs.Common.{arith, rules}
 use Rattle.w16_model.specs.Bytes.{repeated}
 use Rattle.w16_model.proofs.Parts.{length-repeated}
 use Rattle.w16_compact.proofs.Rests.{rest_put}
@@ -9,3 +9,6 @@ returns-then-asked-clause-rest g c =
     let size = length-repeated c.args.size 0 in
     let inside = c.requires in
     rest_put c.args.at (repeated c.args.size 0) c.fill.ensures.bytes c.fill.ensures.lenders (omega arith) (omega arith) (omega arith)
+
+pub returns-then-asked-clause-bytes : goal.returns-then-asked-clause-bytes
+returns-then-asked-clause-bytes g c = search rules

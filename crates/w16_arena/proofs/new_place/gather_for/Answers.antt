@@ -1,3 +1,4 @@
+use Rattle.std.proofs.Common.{rules}
 use Rattle.w16_arena.proofs.Gathering.{gathered_moved, gathered_free}
 use Rattle.w16_arena.proofs.new_place.gather_for.Goals as goal
 
@@ -7,3 +8,6 @@ returns-clause-slid g c =
 
 pub returns-clause-free : goal.returns-clause-free
 returns-clause-free g c = gathered_free c.in_ok-gap.ensures.ordered c.in_ok-gap.ensures.found c.gather-moved.ensures.blocks c.gather-moved.ensures.clear
+
+pub returns-clause-lowest : goal.returns-clause-lowest
+returns-clause-lowest g c = search rules

@@ -1,3 +1,5 @@
+use Rattle.w16_arena.proofs.Written.{counted_none}
+use Rattle.w16_compact.proofs.Rests.{rest_same}
 use Rattle.std.proofs.Common.{rules, sym, ◌∙◌}
 use Rattle.w16_compact.proofs.Gathering.{moved_same}
 use Rattle.w16_arena.proofs.Arranged.{same_moved}
@@ -19,5 +21,20 @@ returns-in-Some-clause-enough g c = hole_enough c.hole_for.ensures.ordered c.arg
 pub returns-then-compact-clause-enough : goal.returns-then-compact-clause-enough
 returns-then-compact-clause-enough g c = made_enough c.hole_for.ensures.ordered c.args.size _ _ _ c.gather_for.result c.gather_for.ensures.slid c.gather_for.ensures.free c.args.compact c.if-compact.true
 
+pub returns-else-compact-clause-still : goal.returns-else-compact-clause-still
+returns-else-compact-clause-still g c = search rules
+
 pub returns-else-compact-clause-refused : goal.returns-else-compact-clause-refused
 returns-else-compact-clause-refused g c = (hole_missing c.hole_for.ensures.ordered c.args.size c.requires.some (sym c.in_default.is ∙ c.hole_for.ensures.value) c.args.compact c.if-compact.false, search rules, search rules)
+
+pub returns-else-compact-clause-enough : goal.returns-else-compact-clause-enough
+returns-else-compact-clause-enough g c = tt
+
+pub returns-in-Some-clause-written : goal.returns-in-Some-clause-written
+returns-in-Some-clause-written g c = sym (counted_none (g.S.Space.written c.args.space.now))
+
+pub returns-in-Some-clause-rest : goal.returns-in-Some-clause-rest
+returns-in-Some-clause-rest g c = rest_same c.args.blocks.now.lo c.args.blocks.now.hi c.args.space.now
+
+pub returns-else-compact-clause-rest : goal.returns-else-compact-clause-rest
+returns-else-compact-clause-rest g c = rest_same c.args.blocks.now.lo c.args.blocks.now.hi c.args.space.now

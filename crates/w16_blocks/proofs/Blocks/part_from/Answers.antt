@@ -6,7 +6,7 @@ use Rattle.w16_blocks.specs.Layout.{Layout}
 use Rattle.w16_blocks.specs.Kept.{no_block, layout_in}
 use Rattle.w16_blocks.specs.Parts.{IsFirstHole, IsFirstBlock, IsBehindAll}
 use Rattle.w16_blocks.proofs.Next.{unit_place}
-use Rattle.w16_blocks.proofs.Passed.{hole_at, hole_first, block_first, none_first}
+use Rattle.w16_blocks.proofs.Passed.{hole_at, hole_first, block_first, none_first, passed_first, passed_more}
 use Rattle.w16_blocks.proofs.Blocks.part_from.Goals as goal
 
 pub index-requires-then-begin-gt0 : goal.index-requires-then-begin-gt0
@@ -52,3 +52,12 @@ returns-clause-none g c =
     let past = c.loop-unit-test.false in let many = c.self.inside.begins.ok.0 in
     subst (λ (l : Layout). IsBehindAll l c.args.at) c.self.view_is
     (none_first c.self.invariant.tables c.args.at c.loop-unit.unit c.loop-unit.invariant c.saturating_sub.result c.units_over-first.result c.saturating_sub.ensures c.units_over-first.ensures (omega arith) (omega arith))
+
+pub loop-unit-init : goal.loop-unit-init
+loop-unit-init g c = passed_first c.self.invariant.tables c.args.at c.saturating_sub.result c.units_over-first.result c.saturating_sub.ensures c.units_over-first.ensures
+
+pub loop-unit-preserved : goal.loop-unit-preserved
+loop-unit-preserved g c =
+    let s = c.self.inside in let lt = c.loop-unit-test.true in let many = s.begins.ok.0 in let zero_is = c.if-begin-gt0.false in let none = c.if-hole-gt0.false in
+    let cell = get_or_read s.begins.items c.loop-unit.unit c.index.result.now (omega arith) c.index.ensures 0 in
+    passed_more c.self.invariant.tables c.args.at c.loop-unit.unit c.loop-unit.invariant (s.lo + c.loop-unit.unit * s.grain) c.at-hole.result (omega arith) (omega arith) c.self.invariant.between c.at-hole.ensures (omega arith)

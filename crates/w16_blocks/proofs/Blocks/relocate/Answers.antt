@@ -1,5 +1,6 @@
+use Rattle.w16_region.specs.Bytes.{counted}
 use Rattle.std.proofs.lemmas.Grind.{common_steps}
-use Rattle.std.proofs.Common.{List, add-one, ap, arith, subst}
+use Rattle.std.proofs.Common.{List, add-one, ap, arith, subst, ℕ, ◌∙◌}
 use Rattle.w16_model.specs.declared.Span.{Span}
 use Rattle.w16_holes.specs.Holes.{Range}
 use Rattle.w16_blocks.specs.Layout.{Layout, holes_of}
@@ -83,3 +84,9 @@ returns-clause-bytes g c =
 
 pub index_mut-requires-2 : goal.index_mut-requires-2
 index_mut-requires-2 g c = grind (arith, common_steps)
+
+pub returns-clause-lenders : goal.returns-clause-lenders
+returns-clause-lenders g c = c.put.ensures.lenders ∙ c.slide.ensures.lenders ∙ c.take.ensures.lenders
+
+pub returns-clause-written : goal.returns-clause-written
+returns-clause-written g c = c.put.ensures.written ∙ c.slide.ensures.written ∙ ap (λ (w : ℕ). counted w c.args.block.size) c.take.ensures.written

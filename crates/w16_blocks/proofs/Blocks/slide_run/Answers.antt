@@ -1,4 +1,4 @@
-use Rattle.std.proofs.lemmas.Grind.{common_steps}
+use Rattle.w16_region.specs.Bytes.{counted}
 use Rattle.std.proofs.Common.{ℕ, List, length, map, ◌≡◌, ◌∙◌, ◌-◌, ap, sym, arith, subst}
 use Rattle.std.specs.Vec.{with_items}
 use Rattle.std.proofs.lemmas.List.{with_items_is}
@@ -6,7 +6,7 @@ use Rattle.w16_model.specs.declared.Block.{Block}
 use Rattle.w16_model.specs.declared.Span.{Span}
 use Rattle.w16_holes.specs.Holes.{Range}
 use Rattle.w16_blocks.specs.Layout.{Layout, holes_of}
-use Rattle.w16_blocks.specs.Kept.{blocks_in, AreTables, IsKept}
+use Rattle.w16_blocks.specs.Kept.{blocks_in, AreTables, IsKept, layout_in}
 use Rattle.w16_blocks.specs.Runs.{slid_with}
 use Rattle.w16_blocks.specs.Stay.{AreSameBut}
 use Rattle.w16_blocks.proofs.RunHoles.{way_down}
@@ -87,7 +87,18 @@ returns-clause-bytes g c =
     c.put.ensures.range c.put.ensures.holes (tables g c) (blocks g c) c.requires.inside c.take.ensures.bytes c.slide.ensures.bytes c.put.ensures.bytes)
 
 pub returns-clause-value : goal.returns-clause-value
-returns-clause-value g c = grind (arith, common_steps)
+returns-clause-value g c =
+    let s = c.self.inside in
+    let slots = (with_items s.slots c.retag_run.new.slots).items in let cells = (with_items s.begins c.retag_run.new.begins).items in
+    let after : blocks_in slots cells ≡ map (slid_with c.args.run c.args.to) (blocks_in s.slots.items s.begins.items) =
+    ap (λ (ss : List Block). blocks_in ss cells) (slots_after g c) ∙ ap (λ (cs : List ℕ). blocks_in c.retag_run.new.slots cs) (begins_after g c) ∙ blocks g c in
+    (λ i. record (layout_in s.slots.len s.lo s.hi s.grain s.slots.items s.begins.items) { blocks = after i }) ∙ ap (λ (l : Layout). record l { blocks = map (slid_with c.args.run c.args.to) l.blocks }) c.self.view_is
 
 pub returns-clause-ordered : goal.returns-clause-ordered
-returns-clause-ordered g c = grind (arith, common_steps)
+returns-clause-ordered g c = (invariant_of-self g c).tables.ordered
+
+pub returns-clause-lenders : goal.returns-clause-lenders
+returns-clause-lenders g c = c.put.ensures.lenders ∙ c.slide.ensures.lenders ∙ c.take.ensures.lenders
+
+pub returns-clause-written : goal.returns-clause-written
+returns-clause-written g c = c.put.ensures.written ∙ c.slide.ensures.written ∙ ap (λ (w : ℕ). counted w (c.args.run.to - c.args.run.from)) c.take.ensures.written
