@@ -1,5 +1,5 @@
 -- GlobalReAlloc on handles: what it keeps of them, and how few it discards.
-use Rattle.std.proofs.Common.{◌≡◌, ◌≢◌, ℕ, ◌+◌, ◌*◌, ◌<◌, ◌≤◌, inl, inr, Bool, true, false, cond, ◌&&◌, ◌||◌, ◌==◌, nat_lt, MatchBool, MatchOption, IfOk, IfSome, IsSomeAnd, List, take, Option, Some, None, Result, Ok, Err, is_some, refl, sym, ap, ◌∙◌, subst, arith, ne_eqb, ltb-true}
+use Rattle.std.proofs.Common.{◌≡◌, ◌≢◌, ℕ, ◌<◌, inl, inr, Bool, true, false, ◌||◌, ◌==◌, nat_lt, MatchBool, MatchOption, IfOk, IfSome, IsSomeAnd, take, Option, Some, None, Result, Ok, Err, is_some, refl, sym, ap, ◌∙◌, subst, arith, ne_eqb, ltb-true}
 use Rattle.std.proofs.lemmas.Bool.{false≢true, cases_Bool, cases_eq}
 use Rattle.w16_model.specs.declared.Kind.{Kind}
 use Rattle.w16_model.specs.declared.Kind.TheVariants.{Fixed, Moveable, Discardable}
@@ -14,7 +14,6 @@ use Rattle.w16_model.specs.Request.{Reallocates, moved_bytes}
 use Rattle.w16_model.specs.OneObject.{after_modify, after_discard}
 use Rattle.w16_model.specs.Handles.{Handles, AreHandles, slot_of_handle, handle_of}
 use Rattle.w16_model.specs.Calls.{has_flag, rounded_size}
-use Rattle.w16_model.specs.Law.{KeepsOthers}
 use Rattle.w16_model.specs.Reallocation.{ChangesKind, KeepsRest, LacksPlace, ReallocatesFewest}
 use Rattle.w16_model.specs.Resizes.{way_asked_again, kind_modified, modified, IsNull, Again, AnswersDiscard, Empties, Resizes, GlobalReAllocs, ResizeLaw, NullLaw, ResizeFewestLaw}
 use Rattle.w16_model.proofs.Naming.{names_law}
