@@ -38,7 +38,7 @@ fn split_target<'a>(word: &[u8], text: &'a [u8]) -> Option<(u8, &'a [u8])>
     }
 }
 
-/// The call of this name that the text makes.
+/// The call of this name that the text makes. Each arm is a `match`, since a `?` costs its proof half as much again.
 #[tactic(auto, using(crate::proofs::ArgumentLemmas::makes, crate::proofs::ArgumentLemmas::makes_none))]
 fn call<'a>(
     name: Name,
@@ -51,145 +51,145 @@ fn call<'a>(
     ensures none { IfNone result ((command : Command) → Makes registers.now name (words_of text.now) command → ⊥) }
 {
     match name {
-        Name::GlobalAlloc => {
-            let (flags, size) = two::<u16, u32>(text, registers)?;
-            Some(Call::GlobalAlloc { flags, size })
-        }
-        Name::GlobalFree => {
-            let handle = one::<u16>(text, registers)?;
-            Some(Call::GlobalFree { handle })
-        }
-        Name::GlobalLock => {
-            let handle = one::<u16>(text, registers)?;
-            Some(Call::GlobalLock { handle })
-        }
-        Name::GlobalUnlock => {
-            let handle = one::<u16>(text, registers)?;
-            Some(Call::GlobalUnlock { handle })
-        }
-        Name::GlobalSize => {
-            let handle = one::<u16>(text, registers)?;
-            Some(Call::GlobalSize { handle })
-        }
-        Name::GlobalFlags => {
-            let handle = one::<u16>(text, registers)?;
-            Some(Call::GlobalFlags { handle })
-        }
-        Name::GlobalHandle => {
-            let selector = one::<u16>(text, registers)?;
-            Some(Call::GlobalHandle { selector })
-        }
-        Name::GetSelectorBase => {
-            let selector = one::<u16>(text, registers)?;
-            Some(Call::GetSelectorBase { selector })
-        }
-        Name::GetSelectorLimit => {
-            let selector = one::<u16>(text, registers)?;
-            Some(Call::GetSelectorLimit { selector })
-        }
-        Name::GlobalCompact => {
-            let size = one::<u32>(text, registers)?;
-            Some(Call::GlobalCompact { size })
-        }
-        Name::GlobalReAlloc => {
-            let (handle, size, flags) = three::<u16, u32, u16>(text, registers)?;
-            Some(Call::GlobalReAlloc {
+        Name::GlobalAlloc => match two::<u16, u32>(text, registers) {
+            Some((flags, size)) => Some(Call::GlobalAlloc { flags, size }),
+            None => None,
+        },
+        Name::GlobalFree => match one::<u16>(text, registers) {
+            Some(handle) => Some(Call::GlobalFree { handle }),
+            None => None,
+        },
+        Name::GlobalLock => match one::<u16>(text, registers) {
+            Some(handle) => Some(Call::GlobalLock { handle }),
+            None => None,
+        },
+        Name::GlobalUnlock => match one::<u16>(text, registers) {
+            Some(handle) => Some(Call::GlobalUnlock { handle }),
+            None => None,
+        },
+        Name::GlobalSize => match one::<u16>(text, registers) {
+            Some(handle) => Some(Call::GlobalSize { handle }),
+            None => None,
+        },
+        Name::GlobalFlags => match one::<u16>(text, registers) {
+            Some(handle) => Some(Call::GlobalFlags { handle }),
+            None => None,
+        },
+        Name::GlobalHandle => match one::<u16>(text, registers) {
+            Some(selector) => Some(Call::GlobalHandle { selector }),
+            None => None,
+        },
+        Name::GetSelectorBase => match one::<u16>(text, registers) {
+            Some(selector) => Some(Call::GetSelectorBase { selector }),
+            None => None,
+        },
+        Name::GetSelectorLimit => match one::<u16>(text, registers) {
+            Some(selector) => Some(Call::GetSelectorLimit { selector }),
+            None => None,
+        },
+        Name::GlobalCompact => match one::<u32>(text, registers) {
+            Some(size) => Some(Call::GlobalCompact { size }),
+            None => None,
+        },
+        Name::GlobalReAlloc => match three::<u16, u32, u16>(text, registers) {
+            Some((handle, size, flags)) => Some(Call::GlobalReAlloc {
                 handle,
                 size,
                 flags,
-            })
-        }
-        Name::GlobalDiscard => {
-            let handle = one::<u16>(text, registers)?;
-            Some(Call::GlobalDiscard { handle })
-        }
-        Name::GlobalLRUNewest => {
-            let handle = one::<u16>(text, registers)?;
-            Some(Call::GlobalLRUNewest { handle })
-        }
-        Name::GlobalLRUOldest => {
-            let handle = one::<u16>(text, registers)?;
-            Some(Call::GlobalLRUOldest { handle })
-        }
-        Name::Moved => {
-            nothing(text, registers)?;
-            Some(Call::Moved)
-        }
-        Name::Walk => {
-            nothing(text, registers)?;
-            Some(Call::Walk)
-        }
-        Name::Read => {
-            let (pointer, count) = two::<u32, Count<READ_AT_MOST>>(text, registers)?;
-            Some(Call::Read {
+            }),
+            None => None,
+        },
+        Name::GlobalDiscard => match one::<u16>(text, registers) {
+            Some(handle) => Some(Call::GlobalDiscard { handle }),
+            None => None,
+        },
+        Name::GlobalLRUNewest => match one::<u16>(text, registers) {
+            Some(handle) => Some(Call::GlobalLRUNewest { handle }),
+            None => None,
+        },
+        Name::GlobalLRUOldest => match one::<u16>(text, registers) {
+            Some(handle) => Some(Call::GlobalLRUOldest { handle }),
+            None => None,
+        },
+        Name::Moved => match nothing(text, registers) {
+            Some(()) => Some(Call::Moved),
+            None => None,
+        },
+        Name::Walk => match nothing(text, registers) {
+            Some(()) => Some(Call::Walk),
+            None => None,
+        },
+        Name::Read => match two::<u32, Count<READ_AT_MOST>>(text, registers) {
+            Some((pointer, count)) => Some(Call::Read {
                 pointer,
                 count: count.number,
-            })
-        }
-        Name::Write => {
-            let (pointer, bytes) = with_bytes::<u32>(text, registers, room)?;
-            Some(Call::Write { pointer, bytes })
-        }
-        Name::Fill => {
-            let (pointer, count, byte) = three::<u32, Count<MOST_FILLED>, u8>(text, registers)?;
-            Some(Call::Fill {
+            }),
+            None => None,
+        },
+        Name::Write => match with_bytes::<u32>(text, registers, room) {
+            Some((pointer, bytes)) => Some(Call::Write { pointer, bytes }),
+            None => None,
+        },
+        Name::Fill => match three::<u32, Count<MOST_FILLED>, u8>(text, registers) {
+            Some((pointer, count, byte)) => Some(Call::Fill {
                 pointer,
                 count: count.number,
                 byte,
-            })
-        }
-        Name::LocalInit => {
-            let (selector, start, end) = three::<u16, u16, u32>(text, registers)?;
-            Some(Call::LocalInit {
+            }),
+            None => None,
+        },
+        Name::LocalInit => match three::<u16, u16, u32>(text, registers) {
+            Some((selector, start, end)) => Some(Call::LocalInit {
                 selector,
                 start,
                 end,
-            })
-        }
-        Name::LocalAlloc => {
-            let (flags, size) = two::<u16, u16>(text, registers)?;
-            Some(Call::LocalAlloc { flags, size })
-        }
-        Name::LocalReAlloc => {
-            let (name, size, flags) = three::<u16, u16, u16>(text, registers)?;
-            Some(Call::LocalReAlloc { name, size, flags })
-        }
-        Name::LocalDiscard => {
-            let name = one::<u16>(text, registers)?;
-            Some(Call::LocalDiscard { name })
-        }
-        Name::LocalFree => {
-            let name = one::<u16>(text, registers)?;
-            Some(Call::LocalFree { name })
-        }
-        Name::LocalLock => {
-            let name = one::<u16>(text, registers)?;
-            Some(Call::LocalLock { name })
-        }
-        Name::LocalUnlock => {
-            let name = one::<u16>(text, registers)?;
-            Some(Call::LocalUnlock { name })
-        }
-        Name::LocalSize => {
-            let name = one::<u16>(text, registers)?;
-            Some(Call::LocalSize { name })
-        }
-        Name::LocalFlags => {
-            let name = one::<u16>(text, registers)?;
-            Some(Call::LocalFlags { name })
-        }
-        Name::LocalHandle => {
-            let pointer = one::<u16>(text, registers)?;
-            Some(Call::LocalHandle { pointer })
-        }
-        Name::LocalCompact => {
-            let size = one::<u16>(text, registers)?;
-            Some(Call::LocalCompact { size })
-        }
-        Name::DS => {
-            let selector = one::<u16>(text, registers)?;
-            Some(Call::DS { selector })
-        }
+            }),
+            None => None,
+        },
+        Name::LocalAlloc => match two::<u16, u16>(text, registers) {
+            Some((flags, size)) => Some(Call::LocalAlloc { flags, size }),
+            None => None,
+        },
+        Name::LocalReAlloc => match three::<u16, u16, u16>(text, registers) {
+            Some((name, size, flags)) => Some(Call::LocalReAlloc { name, size, flags }),
+            None => None,
+        },
+        Name::LocalDiscard => match one::<u16>(text, registers) {
+            Some(name) => Some(Call::LocalDiscard { name }),
+            None => None,
+        },
+        Name::LocalFree => match one::<u16>(text, registers) {
+            Some(name) => Some(Call::LocalFree { name }),
+            None => None,
+        },
+        Name::LocalLock => match one::<u16>(text, registers) {
+            Some(name) => Some(Call::LocalLock { name }),
+            None => None,
+        },
+        Name::LocalUnlock => match one::<u16>(text, registers) {
+            Some(name) => Some(Call::LocalUnlock { name }),
+            None => None,
+        },
+        Name::LocalSize => match one::<u16>(text, registers) {
+            Some(name) => Some(Call::LocalSize { name }),
+            None => None,
+        },
+        Name::LocalFlags => match one::<u16>(text, registers) {
+            Some(name) => Some(Call::LocalFlags { name }),
+            None => None,
+        },
+        Name::LocalHandle => match one::<u16>(text, registers) {
+            Some(pointer) => Some(Call::LocalHandle { pointer }),
+            None => None,
+        },
+        Name::LocalCompact => match one::<u16>(text, registers) {
+            Some(size) => Some(Call::LocalCompact { size }),
+            None => None,
+        },
+        Name::DS => match one::<u16>(text, registers) {
+            Some(selector) => Some(Call::DS { selector }),
+            None => None,
+        },
     }
 }
 
