@@ -33,6 +33,9 @@ fn digits(text: &[u8], base: u32) -> Option<u32>
     Some(value)
 }
 
+/// How many hexadecimal digits a number has at most.
+const MOST_DIGITS: usize = 8;
+
 /// A number that stands as it is, in one of the two forms.
 fn literal(word: &[u8]) -> Option<u32>
     ensures found { IfSome result (λ n. IsLiteral word.now n) }
@@ -41,7 +44,7 @@ fn literal(word: &[u8]) -> Option<u32>
     match word {
         [] => None,
         [b'0', b'x', tail @ ..] => {
-            if tail.is_empty() || tail.len() > 8 {
+            if tail.is_empty() || tail.len() > MOST_DIGITS {
                 None
             } else {
                 digits(tail, 16)
