@@ -1,5 +1,5 @@
 -- The block that begins at a place, by the place's cell.
-use Rattle.std.proofs.Common.{ℕ, zero, suc, ◌≡◌, ◌≢◌, ◌+◌, ◌-◌, ◌*◌, ◌<◌, ◌≤◌, List, [], ◌∷◌, length, get_or, Some, arith, refl, sym, ap, ◌∙◌}
+use Rattle.std.proofs.Common.{ℕ, zero, suc, ◌≡◌, ◌≢◌, ◌+◌, ◌-◌, ◌*◌, ◌<◌, ◌≤◌, List, [], ◌∷◌, length, get_or, Some, arith, refl, sym, ap, ◌∙◌, subst}
 use Rattle.std.specs.Prelude.{slice_index}
 use Rattle.std.specs.List.{AllByRecursion}
 use Rattle.w16_model.specs.declared.Block.{Block}
@@ -48,3 +48,8 @@ module _ {cap lo hi g : ℕ} {slots : List Block} {cells : List ℕ} (t : AreTab
 pub known_by : {cap lo hi g : ℕ} {slots slots' : List Block} {cells cells' : List ℕ} {l : Layout} (x : Block) → layout_in cap lo hi g slots cells ≡ l → slots' ≡ slots → cells' ≡ cells → block_with (blocks_in slots' cells') x.id ≡ Some x → block_with l.blocks x.id ≡ Some x
 known_by {cap} {lo} {hi} {g} {slots} {slots'} {cells} {cells'} x is one two known =
     ap (λ (m : Layout). block_with m.blocks x.id) (sym is) ∙ ap (λ (ss : List Block). block_with (blocks_in ss cells) x.id) (sym one) ∙ ap (λ (cs : List ℕ). block_with (blocks_in slots' cs) x.id) (sym two) ∙ known
+
+-- and what holds of all that they tell holds of all that it has
+pub all_by : {cap lo hi g : ℕ} {slots slots' : List Block} {cells cells' : List ℕ} {l : Layout} (P : Block → Type 0) → layout_in cap lo hi g slots cells ≡ l → slots' ≡ slots → cells' ≡ cells → AllByRecursion P (blocks_in slots' cells') → AllByRecursion P l.blocks
+all_by {cap} {lo} {hi} {g} {slots} {slots'} {cells} {cells'} P is one two all =
+    subst (λ (m : Layout). AllByRecursion P m.blocks) is (subst (λ (ss : List Block). AllByRecursion P (blocks_in ss cells)) one (subst (λ (cs : List ℕ). AllByRecursion P (blocks_in slots' cs)) two all))

@@ -1,6 +1,4 @@
-use Rattle.std.proofs.Common.{sym, ap, ◌∙◌, is_ok, subst}
-use Rattle.w16_model.specs.Table.{heap_in}
-use Rattle.w16_model.specs.Request.{Allocates}
+use Rattle.std.proofs.Common.{sym, ap, ◌∙◌, subst}
 use Rattle.w16_model.proofs.Sound.{sound_heap}
 use Rattle.w16_model.proofs.Fewest.{allocation_law}
 use Rattle.w16_arena.specs.State.{ArenaState, holes_in}
@@ -37,13 +35,12 @@ pub returns-then-not-may_discard-clause-fewest : goal.returns-then-not-may_disca
 returns-then-not-may_discard-clause-fewest g c =
     allocation_law _ _ _ _ _ _ _ _ (sound_heap c.args.self.now.table c.in_default.ensures.sound (g.S.Space.bytes c.args.space.now) c.requires.inside c.has_bytes.ensures) (returns-then-not-may_discard-clause-allocated g c)
 
+pub returns-clause-allocated : goal.returns-clause-allocated
+returns-clause-allocated g c = let r = c.in_default.ensures.refused in rw (← r.1, ← r.2) c.place_discarding.ensures.allocated
+
 pub returns-clause-fewest : goal.returns-clause-fewest
 returns-clause-fewest g c =
-    let r = c.in_default.ensures.refused in
-    let m = g.S.Space.bytes c.args.space.now in
-    let answered : Allocates (heap_in c.args.self.now.table m) c.args.id c.args.size c.args.kind 0 c.args.way (is_ok c.place_discarding.result) (heap_in c.place_discarding.new.self.table (g.S.Space.bytes c.place_discarding.new.space)) =
-    rw (← r.1, ← r.2) c.place_discarding.ensures.allocated in
-    allocation_law _ _ _ _ _ _ _ _ (sound_heap c.args.self.now.table c.in_default.ensures.sound m c.requires.inside c.has_bytes.ensures) answered
+    allocation_law _ _ _ _ _ _ _ _ (sound_heap c.args.self.now.table c.in_default.ensures.sound (g.S.Space.bytes c.args.space.now) c.requires.inside c.has_bytes.ensures) (returns-clause-allocated g c)
 
 pub returns-in-Some-clause-rest : goal.returns-in-Some-clause-rest
 returns-in-Some-clause-rest g c = rw c.forget_discards.ensures c.in-Some.ensures.rest

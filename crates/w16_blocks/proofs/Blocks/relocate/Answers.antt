@@ -9,6 +9,9 @@ use Rattle.w16_blocks.proofs.Keeping.{lies_in, place_grained, unit_inside}
 use Rattle.w16_blocks.proofs.Shifting.{part_entered, free_entered, source_in, part_left, used_left, same_free, layout_shifted, IsKept-shift, come_too, others_same}
 use Rattle.w16_blocks.proofs.Blocks.relocate.Goals as goal
 
+pub returns-clause-written : goal.returns-clause-written
+returns-clause-written g c = c.put.ensures.written ∙ c.slide.ensures.written ∙ ap (λ (w : ℕ). counted w c.args.block.size) c.take.ensures.written
+
 pub unit_of-from_unit-requires-clause-from : goal.unit_of-from_unit-requires-clause-from
 unit_of-from_unit-requires-clause-from g c = (lies_in c.self.invariant c.self.inside.slots.ok.0 c.self.view_is c.args.block.id c.requires.known).0
 
@@ -87,6 +90,3 @@ index_mut-requires-2 g c = grind (arith, common_steps)
 
 pub returns-clause-lenders : goal.returns-clause-lenders
 returns-clause-lenders g c = c.put.ensures.lenders ∙ c.slide.ensures.lenders ∙ c.take.ensures.lenders
-
-pub returns-clause-written : goal.returns-clause-written
-returns-clause-written g c = c.put.ensures.written ∙ c.slide.ensures.written ∙ ap (λ (w : ℕ). counted w c.args.block.size) c.take.ensures.written

@@ -1,8 +1,14 @@
-use Rattle.std.proofs.Common.{arith}
-use Rattle.w16_blocks.proofs.Tagged.{known_by}
+use Rattle.std.proofs.Common.{arith, ◌≢◌, inl, inr}
+use Rattle.w16_blocks.proofs.Tagged.{known_by, all_by}
 use Rattle.w16_blocks.proofs.Sliding.{run_more, ends_below}
 use Rattle.w16_blocks.proofs.Step.{lies}
 use Rattle.w16_blocks.proofs.Blocks.run_end.Goals as goal
+
+pub returns-clause-last : goal.returns-clause-last
+returns-clause-last g c = let high = c.loop-end.invariant.high in let past = c.loop-end-test.false in inl (omega arith)
+
+pub returns-in_default-clause-last : goal.returns-in_default-clause-last
+returns-in_default-clause-last g c = inr (all_by (λ b. b.at ≢ c.loop-end.end) c.self.view_is c.deref.ensures.value c.deref-in-loop-end.ensures.value c.in_default.ensures)
 
 pub overflow_add-end : goal.overflow_add-end
 overflow_add-end g c =
