@@ -50,9 +50,10 @@ impl Global16 {
         ensures { IfOk result (λ made. made ≡ record { handles = empty_handles memory slots; written = 0 }) }
     {
         let cap = FIRST_SLOT + slots;
-        let objects = Objects::new(alloc, cap, memory)?;
         let attributes = vec![in alloc; None; cap as usize]?;
         let selectors = Selectors::with_room(alloc, slots)?;
+        // last, so that no way out has to drop them
+        let objects = Objects::new(alloc, cap, memory)?;
         Ok(Global16 {
             objects,
             attributes,

@@ -48,8 +48,9 @@ impl Kernel {
         requires few { slots ≤ MOST_SLOTS }
         ensures { IfOk result (λ kernel. kernel ≡ empty_local_world memory slots) }
     {
-        let global = Global16::new(alloc, memory, slots)?;
         let locals = LocalHeaps::new(alloc, slots)?;
+        // last, so that no way out has to drop it
+        let global = Global16::new(alloc, memory, slots)?;
         Ok(Kernel {
             alloc,
             global,

@@ -1,4 +1,4 @@
-use Rattle.std.proofs.Common.{◌≡◌, ℕ, All, is_some, true, sym, subst}
+use Rattle.std.proofs.Common.{◌≡◌, ℕ, All, is_some, true, sym, subst, rules}
 use Rattle.w16_selectors.specs.Descriptors.{descriptor_at}
 use Rattle.w16_global.specs.Joined.{forgotten}
 use Rattle.w16_global.proofs.Joining.{given_handles}
@@ -43,3 +43,6 @@ returns-clause-rest c =
     let s = c.in-Some.ensures in
     given_moved c.self.inside.objects c.self.inside.attributes.items _ (handles_shown c.self.view_is) c.alloc.new.self c.args.slot c.args.attributes c.in-Some.placed.moved s.moved
     (given_handles c.self.invariant c.alloc.new.self s.cap c.args.slot c.args.attributes (handles_shown c.self.view_is) c.requires.free c.in-Some.placed.moved)
+
+pub returns-clause-written : goal.returns-clause-written
+returns-clause-written c = search rules

@@ -1,4 +1,4 @@
-use Rattle.std.proofs.Common.{refl, sym, ap, ◌∙◌, subst, arith}
+use Rattle.std.proofs.Common.{refl, sym, ap, ◌∙◌, subst, arith, rules}
 use Rattle.w16_model.specs.Handles.{Handles, IsFreeSlot}
 use Rattle.w16_model.specs.Heap.{IsHeap}
 use Rattle.w16_global.proofs.Allocation.{absent_answered, bytes_answered, bytes_refused}
@@ -26,3 +26,6 @@ returns-else-allocate-clause-step c =
     (subst (λ x. IsFreeSlot x c.in-Some.slot) (sym (handles_shown c.free_slot.ensures.same)) c.in-Some.ensures.found) c.kind_asked-kind.result c.kind_asked-kind.ensures c.attributes_asked-attributes.result c.attributes_asked-attributes.ensures _ refl
     c.rounded.result c.rounded.ensures c.way_asked.result c.way_asked.ensures c.if-size-eq0.false
     (subst (λ (x : Handles). IsHeap x.heap) (sym (handles_shown c.free_slot.ensures.same)) c.self.invariant.handles.heap) s.allocated s.rest
+
+pub returns-then-not-has_flag-clause-step : goal.returns-then-not-has_flag-clause-step
+returns-then-not-has_flag-clause-step c = search rules

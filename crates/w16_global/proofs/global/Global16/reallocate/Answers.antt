@@ -1,4 +1,4 @@
-use Rattle.std.proofs.Common.{◌≡◌, ℕ, All, is_some, true, sym, subst, rules}
+use Rattle.std.proofs.Common.{◌≡◌, ℕ, All, is_some, true, sym, subst, arith, rules}
 use Rattle.w16_selectors.specs.Descriptors.{descriptor_at}
 use Rattle.w16_global.specs.Joined.{forgotten}
 use Rattle.w16_global.proofs.Reallocating.{discarded_known, known_told, known_followed, reallocated_joined, reallocated_shown}
@@ -30,3 +30,6 @@ invariant_of-self-2 c =
     reallocated_joined c.self.invariant c.realloc.new.self s.cap c.args.slot (handles_shown c.self.view_is) c.requires.object c.args.size c.args.way s.reallocated s.discarded p.at p.slid.from p.slid.to
     c.forget.new.selectors c.follow.new.selectors c.set.new.self s.still s.placed (subst (λ ids. (q : ℕ) → descriptor_at c.forget.new.selectors q ≡ forgotten ids c.self.inside.selectors q) c.discarded.ensures c.forget.ensures.forgotten)
     c.forget.ensures.many c.follow.ensures.followed c.follow.ensures.many c.set.ensures
+
+pub set-requires-clause-inside : goal.set-requires-clause-inside
+set-requires-clause-inside c = omega (arith, c.in-Some.ensures.inside)
