@@ -14,3 +14,6 @@ returns-in_ok-pointer-in-Fill-clause-found c = grind (arith, common_steps, makes
 
 pub returns-in_ok-selector-in-DS-clause-found : goal.returns-in_ok-selector-in-DS-clause-found
 returns-in_ok-selector-in-DS-clause-found c = grind (arith, common_steps, makes, makes_none)
+
+pub returns-in_ok-handle-in-GlobalLock-clause-found : goal.returns-in_ok-handle-in-GlobalLock-clause-found
+returns-in_ok-handle-in-GlobalLock-clause-found c = grind (arith, common_steps, makes, makes_none)
