@@ -1,0 +1,11 @@
+//! Tests of the calls, from the global heap's to a script's, through their public faces. They stand in a crate of their own, so that what they test is proved once.
+#![tactic(auto)]
+
+#[cfg(test)]
+mod global;
+#[cfg(test)]
+mod kernel;
+#[cfg(test)]
+mod local;
+#[cfg(test)]
+mod script;

@@ -1,0 +1,9 @@
+//! Tests of what reads files: stores, modules and relocation, through their public faces. They stand in a crate of their own, so that what they test is proved once.
+#![tactic(auto)]
+
+#[cfg(test)]
+mod ne;
+#[cfg(test)]
+mod reloc;
+#[cfg(test)]
+mod store;

@@ -1,0 +1,237 @@
+//! Three blocks in a small memory, as they were made or as one call after another leaves them.
+ghost use Rattle.std.specs.Prelude.{◌≡◌, length, IfOk, ℕ};
+ghost use Rattle.w16_heap_tests.specs.Sample.{three_blocks};
+
+use std::alloc::{AllocError, Global};
+use std::marker::Model;
+use w16_blocks::{Block, Blocks, Hold, Part, Span};
+use w16_holes::SideHoles;
+use w16_region::{Region, Space};
+
+/// What became of the three blocks.
+#[derive(Clone, Copy)]
+pub(super) enum State {
+    /// They are as they were made.
+    New,
+    /// The last block, with sevens in it, stands directly behind the first.
+    Shifted,
+    /// The last two, with fives and sevens in them, stand directly behind the first.
+    Slid,
+    /// The last two, with fives and sevens in them, stand one grain further up, over their own bytes.
+    Lifted,
+    /// The first is pinned, and the second is gone.
+    Pinned,
+    /// The second is gone, and the first was pinned and is loose again.
+    Loosened,
+    /// The first has the bytes up to the second.
+    Grown,
+}
+
+pub(super) fn block(id: u32, at: u32, size: u32, hold: Hold) -> Block
+    ensures { result ≡ record { id = id; at = at; size = size; hold = hold } }
+{
+    Block { id, at, size, hold }
+}
+
+/// Three blocks of a heap of 256 bytes: holes of 32, 64 and 64 bytes.
+pub(super) fn three<S: Space>(alloc: Global, space: &mut S) -> Result<Blocks<SideHoles>, AllocError>
+    ensures value { IfOk result (λ blocks. blocks ≡ three_blocks) }
+    ensures long { length (S.bytes space.new) ≡ length (S.bytes space.old) }
+{
+    let holes = SideHoles::new(alloc, 0, 256, 32)?;
+    let mut blocks = Blocks::with_room(alloc, 4, holes, 0, 256, 32)?;
+    blocks.insert(space, block(2, 128, 32, Hold::Pinned));
+    blocks.insert(space, block(0, 32, 32, Hold::Loose));
+    blocks.insert(space, block(3, 160, 32, Hold::Loose));
+    Ok(blocks)
+}
+
+/// Where runs end, from the second block on, up to its end, and from the last one's end on, and up to the bound.
+fn run_ends(blocks: &Blocks<SideHoles>) -> [u32; 3]
+    requires three { blocks.now ≡ three_blocks }
+{
+    [
+        blocks.run_end(128, 160),
+        blocks.run_end(192, 256),
+        blocks.run_end(128, 256),
+    ]
+}
+
+/// Where runs begin that end with the last block, from its begin on, with nothing, and from the bound on.
+fn run_begins(blocks: &Blocks<SideHoles>) -> [u32; 3]
+    requires three { blocks.now ≡ three_blocks }
+{
+    [
+        blocks.run_begin(192, 160),
+        blocks.run_begin(128, 0),
+        blocks.run_begin(192, 0),
+    ]
+}
+
+fn shift<S: Space>(blocks: &mut Blocks<SideHoles>, space: &mut S)
+    requires three { blocks.old ≡ three_blocks }
+    requires long { length (S.bytes space.old) ≡ 256 }
+{
+    space.fill(160, 32, 7);
+    blocks.shift(space, 3, 64);
+}
+
+/// Moves the last two blocks down or up.
+fn move_run<S: Space>(blocks: &mut Blocks<SideHoles>, space: &mut S, up: bool)
+    requires three { blocks.old ≡ three_blocks }
+    requires long { length (S.bytes space.old) ≡ 256 }
+{
+    space.fill(128, 32, 5);
+    space.fill(160, 32, 7);
+    let run = Span { from: 128, to: 192 };
+    if up {
+        blocks.lift_run(space, run, 160);
+    } else {
+        blocks.slide_run(space, run, 64);
+    }
+}
+
+/// Takes the second block away, and pins the first.
+fn pin<S: Space>(blocks: &mut Blocks<SideHoles>, space: &mut S)
+    requires three { blocks.old ≡ three_blocks }
+    requires long { length (S.bytes space.old) ≡ 256 }
+{
+    blocks.set_hold(0, Hold::Pinned);
+    blocks.remove(space, 2);
+}
+
+/// The same in the other order, and the first is loose again.
+fn loosen<S: Space>(blocks: &mut Blocks<SideHoles>, space: &mut S)
+    requires three { blocks.old ≡ three_blocks }
+    requires long { length (S.bytes space.old) ≡ 256 }
+{
+    blocks.remove(space, 2);
+    blocks.set_hold(0, Hold::Pinned);
+    blocks.set_hold(0, Hold::Loose);
+}
+
+/// Brings the three blocks to a state.
+fn change<S: Space>(blocks: &mut Blocks<SideHoles>, space: &mut S, state: State)
+    requires three { blocks.old ≡ three_blocks }
+    requires long { length (S.bytes space.old) ≡ 256 }
+{
+    match state {
+        State::New => {}
+        State::Shifted => shift(blocks, space),
+        State::Slid => move_run(blocks, space, false),
+        State::Lifted => move_run(blocks, space, true),
+        State::Pinned => pin(blocks, space),
+        State::Loosened => loosen(blocks, space),
+        State::Grown => blocks.resize(space, 0, 96),
+    }
+}
+
+/// Blocks and their memory, to be asked.
+///
+/// To a proof it has no value, and its methods have no clauses: what a call promises is used where a method makes it, and no test carries
+/// it further.
+#[derive(Drop)]
+pub(super) struct Bench {
+    blocks: Blocks<SideHoles>,
+    space: Region,
+    /// Where runs ended and began in the new blocks.
+    run_ends: [u32; 3],
+    run_begins: [u32; 3],
+}
+
+impl Model for Bench {
+    ghost Value = { ℕ };
+
+    ghost view = { λ _. 0 };
+}
+
+impl Bench {
+    /// The three blocks in a state. Where their runs end and begin is asked while they are new.
+    pub fn made(alloc: Global, state: State) -> Result<Bench, AllocError> {
+        let mut space = Region::new(alloc, 256)?;
+        let mut blocks = three(alloc, &mut space)?;
+        let run_ends = run_ends(&blocks);
+        let run_begins = run_begins(&blocks);
+        change(&mut blocks, &mut space, state);
+        Ok(Bench {
+            blocks,
+            space,
+            run_ends,
+            run_begins,
+        })
+    }
+
+    pub fn find(&self, id: u32) -> Option<Block> {
+        if id < self.blocks.cap() {
+            self.blocks.find(id)
+        } else {
+            None
+        }
+    }
+
+    pub fn next_from(&self, at: u32) -> Option<Block> {
+        self.blocks.next_from(&self.space, at)
+    }
+
+    pub fn last_below(&self, at: u32) -> Option<Block> {
+        self.blocks.last_below(at)
+    }
+
+    pub fn part_from(&self, at: u32) -> Option<Part> {
+        self.blocks.part_from(&self.space, at)
+    }
+
+    pub fn hole_for(&self, n: u32) -> Option<u32> {
+        self.blocks.hole_for(&self.space, n)
+    }
+
+    /// The bytes of the hole behind an id's block, if it has one.
+    pub fn free_after(&self, id: u32) -> Option<u32> {
+        if id < self.blocks.cap() && self.blocks.find(id).is_some() {
+            Some(self.blocks.free_after(&self.space, id))
+        } else {
+            None
+        }
+    }
+
+    /// The free bytes, those of the longest hole, and whether a block is pinned.
+    pub fn totals(&self) -> (u32, u32, bool) {
+        (
+            self.blocks.free(),
+            self.blocks.longest(&self.space),
+            self.blocks.has_pinned(),
+        )
+    }
+
+    /// How many ids there are, the grain, and the bounds.
+    pub fn sizes(&self) -> (u32, u32, Span) {
+        (self.blocks.cap(), self.blocks.grain(), self.blocks.bounds())
+    }
+
+    /// Whether 32 bytes are all the same one.
+    pub fn is_filled(&self, at: u32, byte: u8) -> bool {
+        if u64::from(at) + 32 > u64::from(self.space.len()) {
+            return false;
+        }
+        self.space.view(at, 32) == [byte; 32].as_slice()
+    }
+
+    /// How many bytes of the memory were written.
+    pub fn written(&self) -> u64 {
+        self.space.written()
+    }
+
+    /// The first four blocks by address.
+    pub fn walk(&self) -> [Option<Block>; 4] {
+        let mut walk = self.blocks.by_address(&self.space);
+        [walk.next(), walk.next(), walk.next(), walk.next()]
+    }
+
+    pub fn run_ends(&self) -> [u32; 3] {
+        self.run_ends
+    }
+
+    pub fn run_begins(&self) -> [u32; 3] {
+        self.run_begins
+    }
+}
