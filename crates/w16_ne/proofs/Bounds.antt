@@ -18,11 +18,5 @@ is_past len end h = grind (arith, nat_tests)
 pub is_inside : (len end : ℕ) → end ≤ len → nat_lt len end ≡ false
 is_inside len end h = grind (arith, nat_tests)
 
-pub bad_by_end : (len end count : ℕ) → len < end → (nat_lt len end || nat_lt 65535 count) ≡ true
-bad_by_end len end count h = grind (arith, nat_tests)
-
-pub bad_by_count : (len end count : ℕ) → 65535 < count → (nat_lt len end || nat_lt 65535 count) ≡ true
-bad_by_count len end count h = grind (arith, nat_tests)
-
 pub is_sound : (len end count : ℕ) → end ≤ len → count ≤ 65535 → (nat_lt len end || nat_lt 65535 count) ≡ false
 is_sound len end count h m = grind (arith, nat_tests)

@@ -6,7 +6,7 @@ use Rattle.w16_ne.specs.declared.fault.NeFault.{NeFault}
 use Rattle.w16_ne.specs.declared.fault.NeFault.TheVariants as faults
 use Rattle.w16_ne.specs.declared.entry_table.Entry.{Entry}
 use Rattle.w16_ne.specs.Reading.{Reading, ◌>>=◌, each}
-use Rattle.w16_ne.specs.Entries.{entry_size, bundle_in, bundles_from}
+use Rattle.w16_ne.specs.Entries.{bundle_end, bundle_in, bundles_from}
 use Rattle.w16_ne.proofs.Each.{with_front}
 
 bind_length : {T : Type 0} (x : T) (read : Reading (List T)) (n : ℕ) (xs : List T) → ((ys : List T) → read ≡ Ok ys → length ys ≡ n) → (read >>= λ others. Ok (x ∷ others)) ≡ Ok xs → length xs ≡ suc n
@@ -24,11 +24,8 @@ each-length item (suc n) i xs h = first_length (item i) (each item n (i + 1)) n 
 abbrev pub is_end : List ℕ → ℕ → Bool
 is_end table at = nat_le (length table) at || slice_index table at == 0
 
-abbrev pub end_of : List ℕ → ℕ → ℕ
-end_of table at = at + 2 + slice_index table at * entry_size (slice_index table (at + 1))
-
 abbrev pub is_bad : List ℕ → ℕ → ℕ → Bool
-is_bad table at ordinals = nat_lt (length table) (end_of table at) || nat_lt 65535 (ordinals + slice_index table at)
+is_bad table at ordinals = nat_lt (length table) (bundle_end table at) || nat_lt 65535 (ordinals + slice_index table at)
 
 abbrev pub here : List ℕ → ℕ → ℕ → Reading (List (Option Entry))
 here table segments at = bundle_in table segments (slice_index table (at + 1)) (slice_index table at) (at + 2)
@@ -39,10 +36,10 @@ regroup front xs (Err e) = refl
 
 pub goes_on : (table : List ℕ) (segments : ℕ) (front : List (Option Entry)) (count i at : ℕ) (xs : List (Option Entry)) (total : Reading (List (Option Entry))) → i < count → is_end table at ≡ false → is_bad table at (length front) ≡ false
     → here table segments at ≡ Ok xs → with_front front (bundles_from table segments (count - i) at (length front)) ≡ total
-    → with_front (front ++ xs) (bundles_from table segments (count - (i + 1)) (end_of table at) (length front + slice_index table at)) ≡ total
+    → with_front (front ++ xs) (bundles_from table segments (count - (i + 1)) (bundle_end table at) (length front + slice_index table at)) ≡ total
 goes_on table segments front count i at xs total lt more sound is so_far =
     let k : count - i ≡ suc (count - (i + 1)) = omega arith in
-    let rest = bundles_from table segments (count - (i + 1)) (end_of table at) (length front + slice_index table at) in
+    let rest = bundles_from table segments (count - (i + 1)) (bundle_end table at) (length front + slice_index table at) in
     let one : with_front front (bundles_from table segments (count - i) at (length front)) ≡ with_front (front ++ xs) rest = rw (k, more, sound, is) (regroup front xs rest) in
     sym one ∙ so_far
 

@@ -7,7 +7,7 @@ use Rattle.w16_ne.specs.declared.fault.NeFault.TheVariants as faults
 use Rattle.w16_ne.specs.declared.entry_table.Entry.{Entry}
 use Rattle.w16_ne.specs.declared.entry_table.Entry.TheVariants.{InSegment, Constant}
 use Rattle.w16_ne.specs.Reading.{Reading, ◌>>=◌, each}
-use Rattle.w16_ne.specs.Entries.{entry_size, entry_in, is_astray, sound_entry, bundle_in, bundles_from, entries_in}
+use Rattle.w16_ne.specs.Entries.{entry_size, bundle_end, entry_in, is_astray, sound_entry, bundle_in, bundles_from, entries_in}
 use Rattle.w16_ne.specs.EntriesFormat.{IsInside, AreEntries, AreBundles, IsEntryTable}
 use Rattle.w16_ne.proofs.Bounds.{ends_by_place, ends_by_byte, goes_further, is_sound}
 use Rattle.w16_ne.proofs.SegmentsFormat.{bind_ok, passed}
@@ -52,9 +52,6 @@ module _ (table : List ℕ) (segments indicator at : ℕ) where
       rw (sound, rest, ← are.0) refl
 
 module _ (table : List ℕ) (segments : ℕ) where
-  abbrev end_of : ℕ → ℕ
-  end_of at = at + 2 + slice_index table at * entry_size (slice_index table (at + 1))
-
   -- what is read from an index on, after so many ordinals
   record Read (at ordinals : ℕ) (es : List (Option Entry)) : Type 0 where
     bundles : List (List (Option Entry))
@@ -83,23 +80,23 @@ module _ (table : List ℕ) (segments : ℕ) where
       items_read table segments indicator at es 0 (subst (λ p. AreEntries table segments indicator p es) (sym here) are)
 
   abbrev bad : ℕ → ℕ → Bool
-  bad at ordinals = nat_lt (length table) (end_of at) || nat_lt 65535 (ordinals + slice_index table at)
+  bad at ordinals = nat_lt (length table) (bundle_end table at) || nat_lt 65535 (ordinals + slice_index table at)
 
   abbrev from : ℕ → ℕ → ℕ → Reading (List (Option Entry))
-  from n at ordinals = bundle_in table segments (slice_index table (at + 1)) (slice_index table at) (at + 2) >>= λ entries. bundles_from table segments n (end_of at) (ordinals + slice_index table at) >>= λ others. Ok (entries ++ others)
+  from n at ordinals = bundle_in table segments (slice_index table (at + 1)) (slice_index table at) (at + 2) >>= λ entries. bundles_from table segments n (bundle_end table at) (ordinals + slice_index table at) >>= λ others. Ok (entries ++ others)
 
-  turn : (n at ordinals : ℕ) (es : List (Option Entry)) → ((others : List (Option Entry)) → bundles_from table segments n (end_of at) (ordinals + slice_index table at) ≡ Ok others → Read (end_of at) (ordinals + slice_index table at) others)
+  turn : (n at ordinals : ℕ) (es : List (Option Entry)) → ((others : List (Option Entry)) → bundles_from table segments n (bundle_end table at) (ordinals + slice_index table at) ≡ Ok others → Read (bundle_end table at) (ordinals + slice_index table at) others)
       → (b : Bool) → (nat_le (length table) at || slice_index table at == 0) ≡ b → cond b (Ok []) (cond (bad at ordinals) (Err faults.BadTable) (from n at ordinals)) ≡ Ok es → Read at ordinals es
   turn n at ordinals es more true q h = over at ordinals es (ended at (nat_le (length table) at) refl q) h
   turn n at ordinals es more false q h =
       let sound = passed (bad at ordinals) faults.BadTable (from n at ordinals) es h in
-      let one = bind_ok (bundle_in table segments (slice_index table (at + 1)) (slice_index table at) (at + 2)) (λ entries. bundles_from table segments n (end_of at) (ordinals + slice_index table at) >>= λ others. Ok (entries ++ others)) es sound.1 in
-      let two = bind_ok (bundles_from table segments n (end_of at) (ordinals + slice_index table at)) (λ others. Ok (one.0 ++ others)) es one.1.1 in
+      let one = bind_ok (bundle_in table segments (slice_index table (at + 1)) (slice_index table at) (at + 2)) (λ entries. bundles_from table segments n (bundle_end table at) (ordinals + slice_index table at) >>= λ others. Ok (entries ++ others)) es sound.1 in
+      let two = bind_ok (bundles_from table segments n (bundle_end table at) (ordinals + slice_index table at)) (λ others. Ok (one.0 ++ others)) es one.1.1 in
       let same : one.0 ++ two.0 ≡ es = cc (two.1.1) in
       let first = first_bundle (slice_index table (at + 1)) (slice_index table at) (at + 2) one.0 one.1.0 in
       let rest = more two.0 two.1.0 in
       let some : 0 < slice_index table at = grind (arith, nat_tests, q) in
-      let inside : end_of at ≤ length table = grind (arith, nat_tests, sound.0) in
+      let inside : bundle_end table at ≤ length table = grind (arith, nat_tests, sound.0) in
       let few : ordinals + slice_index table at ≤ 65535 = grind (arith, nat_tests, sound.0) in
       subst (λ xs. Read at ordinals xs) same (record {
         bundles = one.0 ∷ rest.bundles;
@@ -110,7 +107,7 @@ module _ (table : List ℕ) (segments : ℕ) where
 
   read_are : (n at ordinals : ℕ) (es : List (Option Entry)) → length table ≤ at + n → bundles_from table segments n at ordinals ≡ Ok es → Read at ordinals es
   read_are zero at ordinals es le h = over at ordinals es (inl (omega arith)) h
-  read_are (suc n) at ordinals es le h = turn n at ordinals es (λ others. read_are n (end_of at) (ordinals + slice_index table at) others (omega arith)) (nat_le (length table) at || slice_index table at == 0) refl h
+  read_are (suc n) at ordinals es le h = turn n at ordinals es (λ others. read_are n (bundle_end table at) (ordinals + slice_index table at) others (omega arith)) (nat_le (length table) at || slice_index table at == 0) refl h
 
   are_over : (n at ordinals : ℕ) → (length table ≤ at) ⊎ (slice_index table at ≡ 0) → bundles_from table segments (suc n) at ordinals ≡ Ok []
   are_over n at ordinals (inl le) = let end = ends_by_place (length table) at (slice_index table at) le in rw end refl

@@ -27,6 +27,10 @@ is_astray segments (Some (InSegment segment offset)) = segment == 0 || nat_lt se
 abbrev pub sound_entry : ℕ → Option Entry → Reading (Option Entry)
 sound_entry segments entry = if is_astray segments entry then Err BadTable else Ok entry
 
+-- where a bundle ends: behind its count, its indicator and its entries
+abbrev pub bundle_end : List ℕ → ℕ → ℕ
+bundle_end table at = at + 2 + slice_index table at * entry_size (slice_index table (at + 1))
+
 -- so many entries of a bundle, whose first is at an index of the table
 unfoldable pub bundle_in : List ℕ → ℕ → ℕ → ℕ → ℕ → Reading (List (Option Entry))
 bundle_in table segments indicator count at = each (λ i. sound_entry segments (entry_in table indicator (at + i * entry_size indicator))) count 0
@@ -38,7 +42,7 @@ bundles_from table segments zero at ordinals = Ok []
 bundles_from table segments (suc n) at ordinals =
     let count = slice_index table at in
     let indicator = slice_index table (at + 1) in
-    let end = at + 2 + count * entry_size indicator in
+    let end = bundle_end table at in
     if nat_le (length table) at || count == 0 then Ok [] else
     if nat_lt (length table) end || nat_lt 65535 (ordinals + count) then Err BadTable else do
       entries ← bundle_in table segments indicator count (at + 2)

@@ -3,7 +3,7 @@ ghost use Rattle.std.specs.Prelude.{◌≡◌, ℕ, ◌<◌, ◌≤◌, ◌+◌,
 ghost use Rattle.w16_store.specs.Files.{file_of};
 ghost use Rattle.w16_ne.specs.Reading.{Gives, Tells};
 ghost use Rattle.w16_ne.specs.Header.{segment_count};
-ghost use Rattle.w16_ne.specs.Entries.{entry_size, entry_in, sound_entry, bundle_in, entries_in, table_at};
+ghost use Rattle.w16_ne.specs.Entries.{entry_size, bundle_end, entry_in, sound_entry, bundle_in, entries_in, table_at};
 
 use crate::fault::NeFault;
 use crate::reading::{is_end, table, word};
@@ -88,7 +88,7 @@ fn bundle(
 /// Where the bundle at an index ends.
 fn end_of(table: &[u8], at: usize) -> usize
     requires { at + 1 < length table.now }
-    ensures { result ≡ at + 2 + slice_index table.now at * entry_size (slice_index table.now (at + 1)) }
+    ensures { result ≡ bundle_end table.now at }
 {
     at + 2 + usize::from(table[at]) * size_of_entry(table[at + 1])
 }
@@ -97,9 +97,8 @@ fn end_of(table: &[u8], at: usize) -> usize
 fn is_bad(table: &[u8], at: usize, ordinals: usize) -> bool
     requires at { at < length table.now }
     requires ordinals { ordinals ≤ 65535 }
-    ensures bad { result ≡ (nat_lt (length table.now) (at + 2 + slice_index table.now at * entry_size (slice_index table.now (at + 1)))
-        || nat_lt 65535 (ordinals + slice_index table.now at)) }
-    ensures inside { result ≡ false → at + 2 + slice_index table.now at * entry_size (slice_index table.now (at + 1)) ≤ length table.now }
+    ensures bad { result ≡ (nat_lt (length table.now) (bundle_end table.now at) || nat_lt 65535 (ordinals + slice_index table.now at)) }
+    ensures inside { result ≡ false → bundle_end table.now at ≤ length table.now }
     ensures few { result ≡ false → ordinals + slice_index table.now at ≤ 65535 }
 {
     at + 1 >= table.len()
