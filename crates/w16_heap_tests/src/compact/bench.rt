@@ -392,7 +392,7 @@ pub(super) struct Search {
 
 impl Model for Search {
     ghost use Rattle.std.specs.Prelude.{◌≡◌, ℕ};
-    ghost use Rattle.w16_heap_tests.specs.declared.tests.bench.TheConstants.{IDS};
+    ghost use Rattle.w16_heap_tests.specs.declared.compact.bench.TheConstants.{IDS};
 
     ghost Value = { ℕ };
 
