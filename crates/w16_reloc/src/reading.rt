@@ -17,7 +17,7 @@ pub fn read<S: Store>(store: &mut S, name: &[u8], at: u64, buf: &mut [u8]) -> Re
 {
     match store.read_at(name, at, buf) {
         Ok(()) => Ok(()),
-        Err(e) => Err(RelocFault::Store(e)),
+        Err(fault) => Err(RelocFault::Store(fault)),
     }
 }
 

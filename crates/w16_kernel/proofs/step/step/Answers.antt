@@ -46,3 +46,6 @@ returns-in-DS-clause-step c = search rules
 
 pub returns-in-DS-clause-wanted : goal.returns-in-DS-clause-wanted
 returns-in-DS-clause-wanted c = search rules
+
+pub returns-in-GlobalAlloc-clause-wanted : goal.returns-in-GlobalAlloc-clause-wanted
+returns-in-GlobalAlloc-clause-wanted c = search rules

@@ -1,5 +1,5 @@
 use Rattle.std.proofs.lemmas.Grind.{common_steps}
-use Rattle.std.proofs.Common.{ℕ, List, ap, ◌∙◌, arith}
+use Rattle.std.proofs.Common.{ℕ, List, ap, ◌∙◌, arith, rules}
 use Rattle.w16_region.specs.Bytes.{word_in}
 use Rattle.w16_region.proofs.Words.{items-put_word, word_in-put_word}
 use Rattle.w16_region.proofs.region.Region.set_word.Goals as goal
@@ -20,3 +20,6 @@ invariant_of-self c = grind (arith, common_steps)
 
 pub returns-clause-length : goal.returns-clause-length
 returns-clause-length c = grind (arith, common_steps)
+
+pub returns-clause-written : goal.returns-clause-written
+returns-clause-written c = search rules

@@ -1,0 +1,5 @@
+use Rattle.std.proofs.Common.{rules}
+use Rattle.w16_compact.proofs.gaps.gap_to.Goals as goal
+
+pub returns : goal.returns
+returns c = search rules
