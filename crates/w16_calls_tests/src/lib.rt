@@ -1,4 +1,4 @@
-//! Tests of the calls, from the global heap's to a script's, through their public faces. They stand in a crate of their own, so that what they test is proved once.
+//! Tests of the calls, from the global heap's to whole scripts, through their public faces. They stand in a crate of their own, so that what they test is proved once.
 #![tactic(auto)]
 
 #[cfg(test)]
@@ -7,5 +7,9 @@ mod global;
 mod kernel;
 #[cfg(test)]
 mod local;
+#[cfg(test)]
+mod options;
+#[cfg(test)]
+mod rows;
 #[cfg(test)]
 mod script;

@@ -2,16 +2,14 @@
 #![tactic(auto)]
 
 mod fault;
-mod options;
 mod play;
-#[cfg(test)]
-mod tests;
 
 use clap::Error;
 use clap::error::ErrorKind;
 use fault::Fault;
 use std::process::ExitCode;
 use std::rt::Env;
+use w16_options::parse;
 
 /// The words of the command line, the program's name first.
 fn words_of(rt: &(impl Env + AllocGlobal)) -> std::io::Result<Vec<String>> {
@@ -37,7 +35,7 @@ fn main(rt: HostRuntime) -> ExitCode {
         Ok(words) => words,
         Err(error) => return fault::report(&rt, Fault::from(error)),
     };
-    let options = match options::parse(rt.alloc(), words.as_slice()) {
+    let options = match parse(rt.alloc(), words.as_slice()) {
         Ok(options) => options,
         Err(error) => return refuse(&rt, &error),
     };

@@ -4,11 +4,11 @@ ghost use Rattle.w16_machine.specs.Local.{empty_local_world};
 ghost use Rattle.w16_kernel.specs.Sizes.{IsMemorySize, IsSelectorCount};
 
 use crate::fault::Fault;
-use crate::options::Options;
 use std::alloc::Global;
 use std::fs::File;
 use std::io::{self, BufWriter, Read, Write};
 use w16_kernel::{Kernel, check_sizes};
+use w16_options::Options;
 use w16_script::run;
 
 /// The machine that the options ask for, in which nothing is allocated. An error is want of memory.

@@ -10,3 +10,6 @@ returns-in-Ok-clause-step c =
 
 pub returns-in-Err-clause-step : goal.returns-in-Err-clause-step
 returns-in-Err-clause-step c = search rules
+
+pub returns-then-not-has_flag-clause-step : goal.returns-then-not-has_flag-clause-step
+returns-then-not-has_flag-clause-step c = search rules

@@ -1,13 +1,19 @@
+//! Worked rows: scripts with the replies that each must have, run from script bytes to reply bytes over memory.
+//!
+//! `table.rt` is the table, to which each new command adds its own.
 ghost use Rattle.std.specs.Prelude.{All};
 ghost use Rattle.w16_kernel.specs.Runs.{IsCall};
 
-use crate::hosts::{Broken, Endless, Short};
-use crate::rows::{LIFE, LIFE_OUTPUT, Row, tables};
+mod hosts;
+mod table;
+
 use arrayvec::ArrayVec;
+use hosts::{Broken, Endless, Short};
 use std::alloc::{AllocError, Global};
 use std::io::{Read, Write};
 use std::process::Abort;
 use std::test::Fail;
+use table::{LIFE, LIFE_OUTPUT, Row, tables};
 use w16_kernel::{Answer, Call, Kernel, Reply};
 use w16_model::{GRAIN, MOST_SLOTS};
 use w16_script::{RunFault, run};

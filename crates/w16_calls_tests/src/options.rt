@@ -1,7 +1,7 @@
 //! Command lines, what is read of them, and which are refused.
-use crate::options::{Options, parse};
 use clap::error::ErrorKind;
 use std::alloc::Global;
+use w16_options::{Options, parse};
 
 /// Command lines, and what is read of them. The sizes where none is asked for are those that the help tells.
 const READ: &[(&[&str], Options<'static>)] = &[

@@ -1,4 +1,6 @@
-//! The command line.
+//! The command line of `w16heap`.
+#![tactic(auto)]
+
 use clap::{Arg, Command, Error, value_parser};
 use std::alloc::{AllocError, Global};
 use std::convert::AsStr;
