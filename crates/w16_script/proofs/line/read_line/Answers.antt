@@ -13,3 +13,6 @@ returns-in-None-clause-reads c =
 
 pub returns-in_default-head-clause-reads : goal.returns-in_default-head-clause-reads
 returns-in_default-head-clause-reads c = search rules
+
+pub returns-then-word-eq59-clause-reads : goal.returns-then-word-eq59-clause-reads
+returns-then-word-eq59-clause-reads c = search rules

@@ -15,3 +15,6 @@ returns-in_default-clause-value c = search rules
 
 pub returns-then-offset-n-clause-value : goal.returns-then-offset-n-clause-value
 returns-then-offset-n-clause-value c = search rules
+
+pub returns-then-not-descriptor-clause-value : goal.returns-then-not-descriptor-clause-value
+returns-then-not-descriptor-clause-value c = search rules
