@@ -2,6 +2,8 @@
 #![tactic(auto)]
 
 #[cfg(test)]
+mod example;
+#[cfg(test)]
 mod global;
 #[cfg(test)]
 mod kernel;

@@ -1,8 +1,6 @@
-//! The machine as a library: an object is allocated and locked, and its handle and address printed.
-#![tactic(auto)]
-
-use anyhow::Result;
+//! The machine as a library, as README.md shows it: an object is allocated and locked.
 use std::alloc::{AllocError, Global};
+use std::test::Fail;
 use w16_kernel::{Call, Kernel, MOST_READ, Reply};
 
 /// Allocates an object of 100 bytes and locks it: its handle and its far pointer, or none where it has no room.
@@ -28,9 +26,9 @@ fn allocate_anew(alloc: Global) -> Result<Option<(u16, u32)>, AllocError> {
     allocate(&mut kernel)
 }
 
-fn main(rt: HostRuntime) -> Result<()> {
-    if let Some((handle, pointer)) = allocate_anew(rt.alloc())? {
-        println!(rt; "handle {handle:04x}, address {pointer:08x}")?;
-    }
+#[test]
+fn allocates_and_locks(rt: HostRuntime) -> Result<(), Fail> {
+    let found = allocate_anew(rt.alloc())?;
+    assert!(rt; found == Some((0x0106, 0x0107_0000)));
     Ok(())
 }
