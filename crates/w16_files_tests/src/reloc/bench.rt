@@ -1,6 +1,6 @@
 //! A sample file in a store that may lie, and a scratch for checks of its segments.
 use super::answers::{APPLICATION, Row, Sample, Wanted, sample_of};
-use std::alloc::Global;
+use std::alloc::{AllocError, Global};
 use std::marker::Model;
 use std::test::Fail;
 use w16_ne::{Module, read_module};
@@ -70,14 +70,24 @@ impl Store for Liar {
     }
 }
 
-/// A store with these bytes as its file, some of them changed.
-fn store_of(alloc: Global, file: &[u8], changes: &[(usize, u8)]) -> Result<MemStore, Fail> {
-    let mut bytes = Vec::from_slice(alloc, file)?;
+/// Changes some of these bytes; false where there is no such byte.
+fn change(bytes: &mut [u8], changes: &[(usize, u8)]) -> bool {
     for (at, byte) in changes {
-        *bytes.get_mut(*at).ok_or("no such byte")? = *byte;
+        match bytes.get_mut(*at) {
+            Some(place) => *place = *byte,
+            None => return false,
+        }
     }
+    true
+}
+
+/// A store with these bytes as its file, some of them changed; with no file where there is no such byte.
+fn store_of(alloc: Global, file: &[u8], changes: &[(usize, u8)]) -> Result<MemStore, AllocError> {
+    let mut bytes = Vec::from_slice(alloc, file)?;
     let mut store = MemStore::new(alloc);
-    store.add(b"FILE", bytes.as_slice())?;
+    if change(bytes.as_mut_slice(), changes) {
+        store.add(b"FILE", bytes.as_slice())?;
+    }
     Ok(store)
 }
 

@@ -2,27 +2,21 @@
 use super::answers::ROWS;
 use super::bench::Bench;
 use std::alloc::Global;
+use std::process::Abort;
 use std::test::Fail;
 
-/// The first row that isn't as it is wanted.
-fn first_wrong(alloc: Global, bench: &mut Bench) -> Result<Option<&'static str>, Fail> {
+/// Each row has to be as it is wanted.
+fn check_rows(rt: &impl Abort, alloc: Global, bench: &mut Bench) -> Result<(), Fail> {
     for row in ROWS {
         bench.open(alloc, row)?;
-        if !bench.is_as_wanted(row) {
-            return Ok(Some(row.name));
-        }
+        let right = bench.is_as_wanted(row);
+        assert!(rt; right, "{}", row.name);
     }
-    Ok(None)
-}
-
-fn first_wrong_of_new(alloc: Global) -> Result<Option<&'static str>, Fail> {
-    let mut bench = Bench::new(alloc)?;
-    first_wrong(alloc, &mut bench)
+    Ok(())
 }
 
 #[test]
 fn samples_are_as_wanted(rt: HostRuntime) -> Result<(), Fail> {
-    let wrong = first_wrong_of_new(rt.alloc())?;
-    assert_eq!(rt; wrong, None);
-    Ok(())
+    let mut bench = Bench::new(rt.alloc())?;
+    check_rows(&rt, rt.alloc(), &mut bench)
 }
