@@ -1,8 +1,9 @@
 //! Stores that fail, or don't tell what their files are.
+use super::answers::APPLICATION;
 use super::bench::{Bench, Checked, Lie, When};
 use std::process::Abort;
 use std::test::Fail;
-use w16_reloc::RelocFault;
+use w16_reloc::{RelocFault, Scratch};
 use w16_store::StoreFault;
 
 const CUT_OFF: Lie = Err(StoreFault::Short);
@@ -60,9 +61,9 @@ static LIES: &[Told] = &[
 ];
 
 /// Each lie at one read has to be answered as it is told.
-fn check_lies(rt: &impl Abort, bench: &mut Bench) {
+fn check_lies(rt: &impl Abort, bench: &mut Bench, scratch: &mut Scratch) {
     for (name, lie, read, wanted) in LIES {
-        let right = bench.is_answered(*lie, When::Read(*read), *wanted);
+        let right = bench.is_answered(scratch, *lie, When::Read(*read), *wanted);
         assert!(rt; right, "{name}");
     }
 }
@@ -78,17 +79,18 @@ fn answer_to(byte: u8) -> Checked {
 }
 
 /// Each byte too, as a lie at every read.
-fn check_bytes(rt: &impl Abort, bench: &mut Bench) {
+fn check_bytes(rt: &impl Abort, bench: &mut Bench, scratch: &mut Scratch) {
     for byte in 0..=255u8 {
-        let right = bench.is_answered(Ok(byte), When::Always, answer_to(byte));
+        let right = bench.is_answered(scratch, Ok(byte), When::Always, answer_to(byte));
         assert!(rt; right, "all bytes {byte}");
     }
 }
 
 #[test]
 fn lies_are_answered(rt: HostRuntime) -> Result<(), Fail> {
-    let mut bench = Bench::new(rt.alloc())?;
-    check_lies(&rt, &mut bench);
-    check_bytes(&rt, &mut bench);
+    let mut scratch = Scratch::new(rt.alloc())?;
+    let mut bench = Bench::new(rt.alloc(), APPLICATION.file, &[])?;
+    check_lies(&rt, &mut bench, &mut scratch);
+    check_bytes(&rt, &mut bench, &mut scratch);
     Ok(())
 }
