@@ -1,5 +1,5 @@
 //! Gaps, and the room that they have.
-use super::cases::{Case, cases};
+use super::cases::{Case, tables};
 use std::alloc::{AllocError, Global};
 use std::test::Fail;
 use w16_model::{Snapshot, Span};
@@ -28,9 +28,11 @@ fn has_gaps(alloc: Global, case: &Case) -> Result<bool, AllocError> {
 
 #[test]
 fn finds_gaps(rt: HostRuntime) -> Result<(), Fail> {
-    for case in cases() {
-        let found = has_gaps(rt.alloc(), case)?;
-        assert!(rt; found, "{}", case.name);
+    for cases in tables() {
+        for case in cases {
+            let found = has_gaps(rt.alloc(), case)?;
+            assert!(rt; found, "{}", case.name);
+        }
     }
     Ok(())
 }
