@@ -1,8 +1,8 @@
 //! One suite that every kind of holes runs, and the kinds' own tests.
 ghost use Rattle.std.specs.Prelude.{◌≡◌, ◌+◌, ◌≤◌, ◌∷◌, [], IsTrue, length};
 ghost use Rattle.w16_holes.specs.Holes.{IsPlace, Range};
+ghost use Rattle.w16_holes.specs.Thread.{AreThreaded};
 
-use std::process::Abort;
 use std::test::Fail;
 use w16_holes::{Holes, SideHoles, ThreadedHoles};
 use w16_region::{Region, Space};
@@ -23,37 +23,27 @@ fn is_place(place: u32) -> bool
     place <= 256 && place % 32 == 0
 }
 
-/// What a look finds.
-fn found<S: Space, H: Holes<S>>(rt: &impl Abort, holes: &H, space: &S, look: Look) -> Option<u32>
-    requires kept { H.are_in (H.holes holes.now) (S.bytes space.now) }
+/// What a look finds; `None` at a place that is none.
+fn found<H: Holes<Region>>(holes: &H, space: &Region, look: Look) -> Option<u32>
+    requires kept { H.are_in (H.holes holes.now) space.now.bytes.items }
     requires range { H.range holes.now ≡ record { lo = 0; hi = 256; grain = 32 } }
 {
     match look {
         Look::Lowest(n) => holes.lowest(space, n),
         Look::Longest => Some(holes.longest(space)),
-        Look::At(place) => {
-            assert!(rt; is_place(place));
-            Some(holes.at(space, place))
-        }
-        Look::EndingAt(place) => {
-            assert!(rt; is_place(place));
-            Some(holes.ending_at(space, place))
-        }
+        Look::At(place) if is_place(place) => Some(holes.at(space, place)),
+        Look::EndingAt(place) if is_place(place) => Some(holes.ending_at(space, place)),
+        _ => None,
     }
 }
 
 /// Whether each look of a table finds what it should.
-fn tells<S: Space, H: Holes<S>>(
-    rt: &impl Abort,
-    holes: &H,
-    space: &S,
-    looks: &[(Look, Option<u32>)],
-) -> bool
-    requires kept { H.are_in (H.holes holes.now) (S.bytes space.now) }
+fn tells<H: Holes<Region>>(holes: &H, space: &Region, looks: &[(Look, Option<u32>)]) -> bool
+    requires kept { H.are_in (H.holes holes.now) space.now.bytes.items }
     requires range { H.range holes.now ≡ record { lo = 0; hi = 256; grain = 32 } }
 {
-    for (asked, answer) in looks {
-        if found(rt, holes, space, *asked) != *answer {
+    for (look, answer) in looks {
+        if found(holes, space, *look) != *answer {
             return false;
         }
     }
@@ -86,31 +76,31 @@ const THREE_PUT: &[(Look, Option<u32>)] = &[(Look::At(0), Some(128))];
 /// All are.
 const ALL_PUT: &[(Look, Option<u32>)] = &[(Look::Longest, Some(256))];
 
-/// Runs the suite, from one hole of 256 bytes at grain 32 on.
-fn takes_and_puts<S: Space, H: Holes<S>>(rt: &impl Abort, holes: &mut H, space: &mut S)
-    requires kept { H.are_in (H.holes holes.old) (S.bytes space.old) }
-    requires inside { 256 ≤ length (S.bytes space.old) }
+/// Whether the suite's looks find what they should, from one hole of 256 bytes at grain 32 on.
+fn takes_and_puts<H: Holes<Region>>(holes: &mut H, space: &mut Region) -> bool
+    requires kept { H.are_in (H.holes holes.old) space.old.bytes.items }
+    requires inside { 256 ≤ length space.old.bytes.items }
     requires range { H.range holes.old ≡ record { lo = 0; hi = 256; grain = 32 } }
     requires whole { H.holes holes.old ≡ record { from = 0; to = 256 } ∷ [] }
 {
     holes.take(space, 64, 32);
-    assert!(rt; tells(rt, holes, space, ONE_TAKEN));
+    let mut right = tells(holes, space, ONE_TAKEN);
     holes.take(space, 0, 64);
     holes.take(space, 128, 32);
-    assert!(rt; tells(rt, holes, space, FOUR_TAKEN));
+    right &= tells(holes, space, FOUR_TAKEN);
     holes.put(space, 0, 32);
-    assert!(rt; tells(rt, holes, space, ONE_PUT));
+    right &= tells(holes, space, ONE_PUT);
     holes.put(space, 32, 64);
-    assert!(rt; tells(rt, holes, space, THREE_PUT));
+    right &= tells(holes, space, THREE_PUT);
     holes.put(space, 128, 32);
-    assert!(rt; tells(rt, holes, space, ALL_PUT));
+    right && tells(holes, space, ALL_PUT)
 }
 
 #[test]
 fn side_holes(rt: HostRuntime) -> Result<(), Fail> {
     let mut space = Region::new(rt.alloc(), 256)?;
     let mut holes = SideHoles::new(rt.alloc(), 0, 256, 32)?;
-    takes_and_puts(&rt, &mut holes, &mut space);
+    assert!(rt; takes_and_puts(&mut holes, &mut space));
     Ok(())
 }
 
@@ -118,7 +108,7 @@ fn side_holes(rt: HostRuntime) -> Result<(), Fail> {
 fn threaded_holes(rt: HostRuntime) -> Result<(), Fail> {
     let mut space = Region::new(rt.alloc(), 256)?;
     let mut holes = ThreadedHoles::new(rt.alloc(), &mut space, 0, 256, 32)?;
-    takes_and_puts(&rt, &mut holes, &mut space);
+    assert!(rt; takes_and_puts(&mut holes, &mut space));
     Ok(())
 }
 
@@ -129,14 +119,23 @@ fn shows(space: &Region, at: u32, bytes: &[u8]) -> bool
     space.view(at, 8) == bytes
 }
 
+/// Whether each hole has its size and where the next one begins in its own bytes, and none of them counts as written.
+fn has_words(holes: &mut ThreadedHoles, space: &mut Region) -> bool
+    requires kept { AreThreaded holes.old.holes space.old.bytes.items }
+    requires inside { 256 ≤ length space.old.bytes.items }
+    requires whole { holes.old ≡ record { range = record { lo = 0; hi = 256; grain = 32 }; holes = record { from = 0; to = 256 } ∷ [] } }
+{
+    let mut right = shows(space, 0, &[0, 1, 0, 0, 255, 255, 255, 255]);
+    holes.take(space, 64, 32);
+    right &= shows(space, 0, &[64, 0, 0, 0, 96, 0, 0, 0]);
+    right &= shows(space, 96, &[160, 0, 0, 0, 255, 255, 255, 255]);
+    right && space.written() == 0
+}
+
 #[test]
 fn holes_lie_in_their_own_bytes(rt: HostRuntime) -> Result<(), Fail> {
     let mut space = Region::new(rt.alloc(), 256)?;
     let mut holes = ThreadedHoles::new(rt.alloc(), &mut space, 0, 256, 32)?;
-    assert!(rt; shows(&space, 0, &[0, 1, 0, 0, 255, 255, 255, 255]));
-    holes.take(&mut space, 64, 32);
-    assert!(rt; shows(&space, 0, &[64, 0, 0, 0, 96, 0, 0, 0]));
-    assert!(rt; shows(&space, 96, &[160, 0, 0, 0, 255, 255, 255, 255]));
-    assert!(rt; space.written() == 0);
+    assert!(rt; has_words(&mut holes, &mut space));
     Ok(())
 }

@@ -32,12 +32,6 @@ impl Model for Bench {
 }
 
 impl Bench {
-    /// No member yet.
-    fn new(alloc: Global, room: u32) -> Result<Bench, AllocError> {
-        let order = Order::with_room(alloc, room)?;
-        Ok(Bench { order, room })
-    }
-
     /// Makes a change; false where the order has no room for its id.
     fn change(&mut self, change: Change) -> bool {
         match change {
@@ -168,10 +162,11 @@ static ROWS: &[(&str, u32, &[Line])] = &[
 
 /// Whether a new order has no member, and each change leaves those that it should.
 fn leaves(alloc: Global, room: u32, lines: &[Line]) -> Result<bool, AllocError> {
-    let mut bench = Bench::new(alloc, room)?;
+    let order = Order::with_room(alloc, room)?;
+    let mut bench = Bench { order, room };
     let mut right = bench.has(&[]);
     for (change, members) in lines {
-        right = right && bench.change(*change) && bench.has(members);
+        right &= bench.change(*change) && bench.has(members);
     }
     Ok(right)
 }
@@ -179,7 +174,8 @@ fn leaves(alloc: Global, room: u32, lines: &[Line]) -> Result<bool, AllocError> 
 #[test]
 fn changes_leave_their_members(rt: HostRuntime) -> Result<(), Fail> {
     for (name, room, lines) in ROWS {
-        assert!(rt; leaves(rt.alloc(), *room, lines)?, "{name}");
+        let right = leaves(rt.alloc(), *room, lines)?;
+        assert!(rt; right, "{name}");
     }
     Ok(())
 }

@@ -4,8 +4,8 @@ ghost use Rattle.std.specs.Prelude.{◌≡◌, ◌+◌, ◌^◌, ◌<◌, ◌≤
 ghost use Rattle.w16_model.specs.Bytes.{part, put_part, repeated};
 ghost use Rattle.w16_region.specs.Bytes.{counted};
 
-use std::alloc::{AllocError, Global};
 use std::marker::Model;
+use std::process::Abort;
 use std::test::Fail;
 use w16_region::{Region, Space, Window};
 
@@ -125,17 +125,13 @@ impl<S: Space> Bench<S> {
     /// Makes a call; false where it would be outside, or a part isn't what it should be.
     fn call(&mut self, call: Call) -> bool {
         match call {
-            Call::View(at, bytes) => return self.shows(at, bytes),
-            Call::Pair(from, source, to, byte) => return self.pair(from, source, to, byte),
-            Call::Copy(from, to, size) => return self.copy(from, to, size),
-            Call::Put(at, bytes) => return self.put(at, bytes),
-            Call::Fill(at, size, byte) if is_inside(at, size) => self.space.fill(at, size, byte),
-            Call::Slide(from, to, size) if is_inside(from, size) && is_inside(to, size) => {
-                self.space.slide(from, to, size);
-            }
-            _ => return false,
+            Call::View(at, bytes) => self.shows(at, bytes),
+            Call::Put(at, bytes) => self.put(at, bytes),
+            Call::Fill(at, size, byte) => self.fill(at, size, byte),
+            Call::Slide(from, to, size) => self.slide(from, to, size),
+            Call::Copy(from, to, size) => self.copy(from, to, size),
+            Call::Pair(from, source, to, byte) => self.pair(from, source, to, byte),
         }
-        true
     }
 
     fn shows(&self, at: u32, bytes: &[u8]) -> bool {
@@ -150,6 +146,22 @@ impl<S: Space> Bench<S> {
         may
     }
 
+    fn fill(&mut self, at: u32, size: u32, byte: u8) -> bool {
+        let may = is_inside(at, size);
+        if may {
+            self.space.fill(at, size, byte);
+        }
+        may
+    }
+
+    fn slide(&mut self, from: u32, to: u32, size: u32) -> bool {
+        let may = is_inside(from, size) && is_inside(to, size);
+        if may {
+            self.space.slide(from, to, size);
+        }
+        may
+    }
+
     fn copy(&mut self, from: u32, to: u32, size: u32) -> bool {
         let may = is_inside(from, size) && is_inside(to, size) && are_apart(from, size, to, size);
         if may {
@@ -159,14 +171,13 @@ impl<S: Space> Bench<S> {
     }
 
     fn pair(&mut self, from: u32, source: &[u8], to: u32, byte: u8) -> bool {
-        if !fits(from, source) || !is_inside(to, 1) {
+        let may = fits(from, source)
+            && is_inside(to, 1)
+            && are_apart(from, source.len() as u32, to, 1);
+        if !may {
             return false;
         }
-        let size = source.len() as u32;
-        if !are_apart(from, size, to, 1) {
-            return false;
-        }
-        let (found, target) = self.space.pair(from, size, to, 1);
+        let (found, target) = self.space.pair(from, source.len() as u32, to, 1);
         let same = found == source;
         target.fill(byte);
         same
@@ -177,124 +188,124 @@ impl<S: Space> Bench<S> {
         self.space.len() == 12 && self.shows(0, bytes) && self.space.written() == written
     }
 
-    /// The first line whose call isn't as it should be, or leaves other bytes or another count.
-    fn first_wrong(&mut self, lines: &[Line]) -> Option<&'static str> {
-        for (name, call, bytes, written) in lines {
-            if !self.call(*call) || !self.has(bytes, *written) {
-                return Some(name);
-            }
+    /// Makes the calls of all lines, each of which has to leave its bytes and its count.
+    fn check_lines(&mut self, rt: &impl Abort) {
+        for (name, call, bytes, written) in LINES {
+            let right = self.call(*call) && self.has(bytes, *written);
+            assert!(rt; right, "{name}");
         }
-        None
     }
 }
 
 /// What is shown, a call, the bytes that it leaves, and how many count as written then.
-type Line = (&'static str, Call, &'static [u8], u64);
+type Line = (&'static str, Call, [u8; 12], u64);
 
 /// On a space of twelve zero bytes of which none counts as written. Empty ranges at the end change nothing and count nothing.
 static LINES: &[Line] = &[
     (
         "a new space is of zeros",
         Call::View(0, &[0, 0]),
-        &[0, 0, 0, 0, 0, 0, 0, 0, 0, 0, 0, 0],
+        [0, 0, 0, 0, 0, 0, 0, 0, 0, 0, 0, 0],
         0,
     ),
     (
         "a part is filled",
         Call::Fill(2, 3, 7),
-        &[0, 0, 7, 7, 7, 0, 0, 0, 0, 0, 0, 0],
+        [0, 0, 7, 7, 7, 0, 0, 0, 0, 0, 0, 0],
         3,
     ),
     (
         "bytes are put",
         Call::Put(0, &[1, 2, 3, 4, 5, 6]),
-        &[1, 2, 3, 4, 5, 6, 0, 0, 0, 0, 0, 0],
+        [1, 2, 3, 4, 5, 6, 0, 0, 0, 0, 0, 0],
         9,
     ),
     (
         "a part is viewed",
         Call::View(1, &[2, 3, 4]),
-        &[1, 2, 3, 4, 5, 6, 0, 0, 0, 0, 0, 0],
+        [1, 2, 3, 4, 5, 6, 0, 0, 0, 0, 0, 0],
         9,
     ),
     (
         "a part slides up over itself",
         Call::Slide(0, 2, 6),
-        &[1, 2, 1, 2, 3, 4, 5, 6, 0, 0, 0, 0],
+        [1, 2, 1, 2, 3, 4, 5, 6, 0, 0, 0, 0],
         15,
     ),
     (
         "a part slides down over itself",
         Call::Slide(4, 1, 4),
-        &[1, 3, 4, 5, 6, 4, 5, 6, 0, 0, 0, 0],
+        [1, 3, 4, 5, 6, 4, 5, 6, 0, 0, 0, 0],
         19,
     ),
     (
         "a part is copied up",
         Call::Copy(1, 8, 3),
-        &[1, 3, 4, 5, 6, 4, 5, 6, 3, 4, 5, 0],
+        [1, 3, 4, 5, 6, 4, 5, 6, 3, 4, 5, 0],
         22,
     ),
     (
         "a part is copied down",
         Call::Copy(9, 0, 2),
-        &[4, 5, 4, 5, 6, 4, 5, 6, 3, 4, 5, 0],
+        [4, 5, 4, 5, 6, 4, 5, 6, 3, 4, 5, 0],
         24,
     ),
     (
         "a pair's source is read, and its target written",
         Call::Pair(0, &[4, 5], 11, 5),
-        &[4, 5, 4, 5, 6, 4, 5, 6, 3, 4, 5, 5],
+        [4, 5, 4, 5, 6, 4, 5, 6, 3, 4, 5, 5],
         25,
     ),
     (
         "an empty part is viewed",
         Call::View(12, &[]),
-        &[4, 5, 4, 5, 6, 4, 5, 6, 3, 4, 5, 5],
+        [4, 5, 4, 5, 6, 4, 5, 6, 3, 4, 5, 5],
         25,
     ),
     (
         "no bytes are put",
         Call::Put(12, &[]),
-        &[4, 5, 4, 5, 6, 4, 5, 6, 3, 4, 5, 5],
+        [4, 5, 4, 5, 6, 4, 5, 6, 3, 4, 5, 5],
         25,
     ),
     (
         "an empty part is filled",
         Call::Fill(12, 0, 9),
-        &[4, 5, 4, 5, 6, 4, 5, 6, 3, 4, 5, 5],
+        [4, 5, 4, 5, 6, 4, 5, 6, 3, 4, 5, 5],
         25,
     ),
     (
         "an empty part slides down",
         Call::Slide(12, 0, 0),
-        &[4, 5, 4, 5, 6, 4, 5, 6, 3, 4, 5, 5],
+        [4, 5, 4, 5, 6, 4, 5, 6, 3, 4, 5, 5],
         25,
     ),
     (
         "an empty part slides up",
         Call::Slide(0, 12, 0),
-        &[4, 5, 4, 5, 6, 4, 5, 6, 3, 4, 5, 5],
+        [4, 5, 4, 5, 6, 4, 5, 6, 3, 4, 5, 5],
         25,
     ),
     (
         "an empty part is copied",
         Call::Copy(12, 12, 0),
-        &[4, 5, 4, 5, 6, 4, 5, 6, 3, 4, 5, 5],
+        [4, 5, 4, 5, 6, 4, 5, 6, 3, 4, 5, 5],
         25,
     ),
 ];
 
-fn first_wrong_line(alloc: Global) -> Result<Option<&'static str>, AllocError> {
-    let space = Region::new(alloc, 12)?;
+#[test]
+fn region_is_a_space(rt: HostRuntime) -> Result<(), Fail> {
+    let space = Region::new(rt.alloc(), 12)?;
     let mut bench = Bench { space };
-    Ok(bench.first_wrong(LINES))
+    bench.check_lines(&rt);
+    Ok(())
 }
 
-fn first_wrong_of_window(bytes: &mut [u8; 12]) -> Option<&'static str> {
+fn check_window(rt: &impl Abort, bytes: &mut [u8; 12]) {
     let space = Window::new(bytes);
     let mut bench = Bench { space };
-    bench.first_wrong(LINES)
+    bench.check_lines(rt);
 }
 
 /// Whether a slice is changed through windows over it.
@@ -309,22 +320,23 @@ fn slice_is_changed() -> bool {
 #[test]
 fn window_is_a_space_over_its_slice(rt: HostRuntime) {
     let mut bytes = [0; 12];
-    assert_eq!(rt; first_wrong_of_window(&mut bytes), None);
+    check_window(&rt, &mut bytes);
     assert!(rt; bytes == [4, 5, 4, 5, 6, 4, 5, 6, 3, 4, 5, 5] && slice_is_changed());
 }
 
-/// Whether a region is changed in place.
-fn region_is_changed(alloc: Global) -> Result<bool, AllocError> {
-    let mut region = Region::new(alloc, 6)?;
+#[test]
+fn region_is_changed_in_place(rt: HostRuntime) -> Result<(), Fail> {
+    let mut region = Region::new(rt.alloc(), 6)?;
     region.fill(0, 2, 8);
     copy_in_region(&mut region, 0, 4, 2);
-    Ok(region.view(0, 6) == [8, 8, 0, 0, 8, 8].as_slice() && region.written() == 4)
+    assert!(rt; region.view(0, 6) == [8, 8, 0, 0, 8, 8].as_slice() && region.written() == 4);
+    Ok(())
 }
 
 /// A word that is set at a place, with the bytes of the region afterwards, or one that is read there.
 #[derive(Clone, Copy)]
 enum Word {
-    Set(u32, u32, &'static [u8]),
+    Set(u32, u32, [u8; 12]),
     Read(u32, u32),
 }
 
@@ -332,7 +344,7 @@ enum Word {
 static WORDS: &[(&str, Word)] = &[
     (
         "a word is set",
-        Word::Set(4, 0x0403_0201, &[9, 9, 9, 9, 1, 2, 3, 4, 9, 9, 9, 9]),
+        Word::Set(4, 0x0403_0201, [9, 9, 9, 9, 1, 2, 3, 4, 9, 9, 9, 9]),
     ),
     ("a word is read", Word::Read(4, 0x0403_0201)),
     (
@@ -344,13 +356,13 @@ static WORDS: &[(&str, Word)] = &[
         Word::Set(
             7,
             0xffff_fffe,
-            &[9, 9, 9, 9, 1, 2, 3, 0xfe, 0xff, 0xff, 0xff, 9],
+            [9, 9, 9, 9, 1, 2, 3, 0xfe, 0xff, 0xff, 0xff, 9],
         ),
     ),
     ("a word is read at an odd place", Word::Read(7, 0xffff_fffe)),
     (
         "the last word is set",
-        Word::Set(8, 0, &[9, 9, 9, 9, 1, 2, 3, 0xfe, 0, 0, 0, 0]),
+        Word::Set(8, 0, [9, 9, 9, 9, 1, 2, 3, 0xfe, 0, 0, 0, 0]),
     ),
     ("the last word is read", Word::Read(8, 0)),
 ];
@@ -361,45 +373,27 @@ impl Bench<Region> {
         match word {
             Word::Set(at, value, bytes) if is_inside(at, 4) => {
                 self.space.set_word(at, value);
-                self.has(bytes, 12)
+                self.has(&bytes, 12)
             }
             Word::Read(at, value) if is_inside(at, 4) => self.space.word_at(at) == value,
             _ => false,
         }
     }
 
-    /// The first word that isn't as it should be.
-    fn first_wrong_word(&mut self) -> Option<&'static str> {
+    /// Sets and reads all words.
+    fn check_words(&mut self, rt: &impl Abort) {
         for (name, word) in WORDS {
-            if !self.word(*word) {
-                return Some(name);
-            }
+            let right = self.word(*word);
+            assert!(rt; right, "{name}");
         }
-        None
     }
-}
-
-fn first_wrong_word(alloc: Global) -> Result<Option<&'static str>, AllocError> {
-    let mut space = Region::new(alloc, 12)?;
-    space.fill(0, 12, 9);
-    let mut bench = Bench { space };
-    Ok(bench.first_wrong_word())
-}
-
-/// The first of a region's calls that isn't as it should be.
-fn first_wrong_of_region(alloc: Global) -> Result<Option<&'static str>, AllocError> {
-    if let Some(name) = first_wrong_line(alloc)? {
-        return Ok(Some(name));
-    }
-    if !region_is_changed(alloc)? {
-        return Ok(Some("a region is changed in place"));
-    }
-    first_wrong_word(alloc)
 }
 
 #[test]
-fn region_is_a_space_and_has_words(rt: HostRuntime) -> Result<(), Fail> {
-    let wrong = first_wrong_of_region(rt.alloc())?;
-    assert!(rt; wrong.is_none(), "{wrong:?}");
+fn region_has_words(rt: HostRuntime) -> Result<(), Fail> {
+    let mut space = Region::new(rt.alloc(), 12)?;
+    space.fill(0, 12, 9);
+    let mut bench = Bench { space };
+    bench.check_words(&rt);
     Ok(())
 }

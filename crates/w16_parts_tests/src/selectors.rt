@@ -1,141 +1,233 @@
-//! The calls of a table of descriptors.
-ghost use Rattle.std.specs.Prelude.{◌≡◌, ◌+◌, IfOk, None, replicate};
+//! The calls of a table of descriptors, as rows of calls with the answers that are wanted.
+ghost use Rattle.std.specs.Prelude.{◌≡◌, ◌<◌, IsTrue, IsSome, ℕ};
+ghost use Rattle.w16_selectors.specs.Descriptors.{descriptor_at, IsUntaken};
 
-use std::alloc::AllocError;
+use std::alloc::{AllocError, Global};
+use std::marker::Model;
 use std::test::Fail;
+use w16_model::names::selector_of;
 use w16_selectors::{Descriptor, FarFault, SelKind, Selectors};
 
-fn descriptor(base: u32, limit: u32, present: bool, kind: SelKind) -> Descriptor
-    ensures { result ≡ record { base = base; limit = limit; present = present; kind = kind } }
+/// One call of a table of descriptors, with the answer that is wanted where it has one.
+#[derive(Clone, Copy)]
+enum Call {
+    Take(u16),
+    Give(u16),
+    Set(u16, Descriptor),
+    Len(usize),
+    LowestFree(Option<u16>),
+    /// The length of a run, and where the lowest that is so long begins.
+    FindRun(u32, Option<u16>),
+    Find(u16, Option<Descriptor>),
+    /// A selector, an offset, a length, and whether it is a write; with the address, or the first fault.
+    Resolve(u16, u16, u32, bool, Result<u32, FarFault>),
+}
+
+/// The descriptor of a slot, none where it isn't taken.
+fn descriptor_of(selectors: &Selectors, slot: u16) -> Option<Descriptor>
+    requires { slot < 8192 }
+    ensures { result ≡ descriptor_at selectors.now slot }
 {
-    Descriptor {
-        base,
-        limit,
-        present,
-        kind,
-    }
+    selectors.find(selector_of(slot))
 }
 
-/// Six free slots, 32 to 37.
-fn six(rt: &impl AllocGlobal) -> Result<Selectors, AllocError>
-    ensures { IfOk result (λ selectors. selectors ≡ replicate 38 None) }
+/// Whether one of the slots 32 to 37 is free.
+fn is_free(selectors: &Selectors, slot: u16) -> bool
+    ensures { IsTrue result → IsUntaken selectors.now slot }
 {
-    Selectors::with_room(rt.alloc(), 6)
+    slot >= 32
+        && slot < 38
+        && (slot as usize) < selectors.len()
+        && descriptor_of(selectors, slot).is_none()
 }
 
-#[test]
-fn finds_the_lowest_free_slot(rt: HostRuntime) -> Result<(), Fail> {
-    let mut selectors = six(&rt)?;
-    assert!(rt; selectors.lowest_free() == Some(32));
-    selectors.take(32);
-    selectors.take(34);
-    assert!(rt; selectors.lowest_free() == Some(33));
-    selectors.take(33);
-    assert!(rt; selectors.lowest_free() == Some(35));
-    selectors.take(35);
-    selectors.take(36);
-    selectors.take(37);
-    assert!(rt; selectors.lowest_free() == None);
-    selectors.give(34);
-    selectors.give(36);
-    assert!(rt; selectors.lowest_free() == Some(34));
-    Ok(())
+/// Whether one of the slots up to 37 is taken.
+fn is_taken(selectors: &Selectors, slot: u16) -> bool
+    ensures { IsTrue result → IsSome (descriptor_at selectors.now slot) }
+{
+    slot < 38 && descriptor_of(selectors, slot).is_some()
 }
 
-/// The length of a run, and where the lowest that is so long begins.
-type Run = (u32, Option<u16>);
+/// A table with six free slots at first, 32 to 37. To a proof it has no value: what a call promises is used where a method makes it, and no
+/// loop carries it.
+#[derive(Drop)]
+struct Bench {
+    selectors: Selectors,
+}
 
-const RUNS_OF_SIX: &[Run] = &[(1, Some(32)), (6, Some(32)), (7, None), (0, Some(32))];
+impl Model for Bench {
+    ghost Value = { ℕ };
 
-/// The third slot is taken.
-const RUNS_BESIDE_ONE: &[Run] = &[(1, Some(32)), (3, Some(35)), (4, None)];
+    ghost view = { λ _. 0 };
+}
 
-fn has_runs(selectors: &Selectors, runs: &[Run]) -> bool {
-    for (count, first) in runs {
-        if selectors.find_run(*count) != *first {
-            return false;
+impl Bench {
+    /// Makes a call; false where it can't be made, or isn't answered as it should be.
+    fn call(&mut self, call: Call) -> bool {
+        match call {
+            Call::Take(slot) => self.take(slot),
+            Call::Give(slot) => self.give(slot),
+            Call::Set(slot, descriptor) => self.set(slot, descriptor),
+            Call::Len(slots) => self.selectors.len() == slots,
+            Call::LowestFree(slot) => self.selectors.lowest_free() == slot,
+            Call::FindRun(count, first) => self.selectors.find_run(count) == first,
+            Call::Find(selector, descriptor) => self.selectors.find(selector) == descriptor,
+            Call::Resolve(selector, offset, n, write, answer) => {
+                self.selectors.resolve(selector, offset, n, write) == answer
+            }
         }
     }
-    true
-}
 
-#[test]
-fn finds_runs(rt: HostRuntime) -> Result<(), Fail> {
-    let mut selectors = six(&rt)?;
-    assert!(rt; selectors.len() == 38);
-    assert!(rt; has_runs(&selectors, RUNS_OF_SIX));
-    selectors.take(34);
-    assert!(rt; has_runs(&selectors, RUNS_BESIDE_ONE));
-    Ok(())
-}
-
-/// Whether no descriptor is behind any of these.
-fn has_none(selectors: &Selectors, names: &[u16]) -> bool {
-    names.iter().all(|name| selectors.find(*name).is_none())
-}
-
-#[test]
-fn changes_one_slot(rt: HostRuntime) -> Result<(), Fail> {
-    let mut selectors = six(&rt)?;
-    selectors.take(34);
-    assert!(rt; selectors.find(279) == Some(descriptor(0, 0, false, SelKind::Data)));
-    let code = descriptor(4096, 31, true, SelKind::Code);
-    selectors.set(34, code);
-    assert!(rt; selectors.find(279) == Some(code) && has_none(&selectors, &[278, 271, 65535]));
-    selectors.give(34);
-    assert!(rt; has_none(&selectors, &[279]) && selectors.find_run(6) == Some(32));
-    Ok(())
-}
-
-/// A selector, an offset, a length, and whether it is a write; with the address, or the first fault.
-type Access = (u16, u16, u32, bool, Result<u32, FarFault>);
-
-const TO_DATA: &[Access] = &[
-    (263, 0, 32, true, Ok(4096)),
-    (263, 31, 1, false, Ok(4127)),
-    (263, 32, 0, false, Ok(4128)),
-    (263, 32, 1, false, Err(FarFault::Limit)),
-    (263, 33, 0, false, Err(FarFault::Limit)),
-    (263, 1, u32::MAX, true, Err(FarFault::Limit)),
-    (262, 0, 1, false, Err(FarFault::BadSelector)),
-    (271, 0, 1, false, Err(FarFault::BadSelector)),
-];
-
-const TO_CODE: &[Access] = &[
-    (263, 4, 2, false, Ok(4100)),
-    (263, 4, 2, true, Err(FarFault::ReadOnly)),
-];
-
-const TO_ABSENT_CODE: &[Access] = &[
-    (263, 40, 2, true, Err(FarFault::ReadOnly)),
-    (263, 40, 2, false, Err(FarFault::NotPresent)),
-];
-
-fn resolves_all(selectors: &Selectors, accesses: &[Access]) -> bool {
-    for (selector, offset, n, write, answer) in accesses {
-        if selectors.resolve(*selector, *offset, *n, *write) != *answer {
-            return false;
+    fn take(&mut self, slot: u16) -> bool {
+        let may = is_free(&self.selectors, slot);
+        if may {
+            self.selectors.take(slot);
         }
+        may
     }
-    true
+
+    fn give(&mut self, slot: u16) -> bool {
+        let may = is_taken(&self.selectors, slot);
+        if may {
+            self.selectors.give(slot);
+        }
+        may
+    }
+
+    fn set(&mut self, slot: u16, descriptor: Descriptor) -> bool {
+        let may = is_taken(&self.selectors, slot)
+            && descriptor.base <= 4096
+            && descriptor.limit <= 31;
+        if may {
+            self.selectors.set(slot, descriptor);
+        }
+        may
+    }
+}
+
+/// What a slot has once it is taken.
+const UNSET: Descriptor = Descriptor {
+    base: 0,
+    limit: 0,
+    present: false,
+    kind: SelKind::Data,
+};
+
+const DATA: Descriptor = Descriptor {
+    base: 4096,
+    limit: 31,
+    present: true,
+    kind: SelKind::Data,
+};
+
+const CODE: Descriptor = Descriptor {
+    base: 4096,
+    limit: 31,
+    present: true,
+    kind: SelKind::Code,
+};
+
+const ABSENT_CODE: Descriptor = Descriptor {
+    base: 4096,
+    limit: 31,
+    present: false,
+    kind: SelKind::Code,
+};
+
+/// What a row shows, and the calls that are made from six free slots on.
+static ROWS: &[(&str, &[Call])] = &[
+    (
+        "the lowest free slot is found",
+        &[
+            Call::LowestFree(Some(32)),
+            Call::Take(32),
+            Call::Take(34),
+            Call::LowestFree(Some(33)),
+            Call::Take(33),
+            Call::LowestFree(Some(35)),
+            Call::Take(35),
+            Call::Take(36),
+            Call::Take(37),
+            Call::LowestFree(None),
+            Call::Give(34),
+            Call::Give(36),
+            Call::LowestFree(Some(34)),
+        ],
+    ),
+    (
+        "runs are found",
+        &[
+            Call::Len(38),
+            Call::FindRun(1, Some(32)),
+            Call::FindRun(6, Some(32)),
+            Call::FindRun(7, None),
+            Call::FindRun(0, Some(32)),
+            Call::Take(34),
+            Call::FindRun(1, Some(32)),
+            Call::FindRun(3, Some(35)),
+            Call::FindRun(4, None),
+        ],
+    ),
+    (
+        "one slot is changed",
+        &[
+            Call::Take(34),
+            Call::Find(279, Some(UNSET)),
+            Call::Set(34, CODE),
+            Call::Find(279, Some(CODE)),
+            Call::Find(278, None),
+            Call::Find(271, None),
+            Call::Find(65535, None),
+            Call::Give(34),
+            Call::Find(279, None),
+            Call::FindRun(6, Some(32)),
+        ],
+    ),
+    (
+        "an access is resolved",
+        &[
+            Call::Take(32),
+            Call::Set(32, DATA),
+            Call::Resolve(263, 0, 32, true, Ok(4096)),
+            Call::Resolve(263, 31, 1, false, Ok(4127)),
+            Call::Resolve(263, 32, 0, false, Ok(4128)),
+            Call::Resolve(263, 32, 1, false, Err(FarFault::Limit)),
+            Call::Resolve(263, 33, 0, false, Err(FarFault::Limit)),
+            Call::Resolve(263, 1, u32::MAX, true, Err(FarFault::Limit)),
+            Call::Resolve(262, 0, 1, false, Err(FarFault::BadSelector)),
+            Call::Resolve(271, 0, 1, false, Err(FarFault::BadSelector)),
+        ],
+    ),
+    (
+        "an access is refused by kind and presence",
+        &[
+            Call::Take(32),
+            Call::Set(32, CODE),
+            Call::Resolve(263, 4, 2, false, Ok(4100)),
+            Call::Resolve(263, 4, 2, true, Err(FarFault::ReadOnly)),
+            Call::Set(32, ABSENT_CODE),
+            Call::Resolve(263, 40, 2, true, Err(FarFault::ReadOnly)),
+            Call::Resolve(263, 40, 2, false, Err(FarFault::NotPresent)),
+        ],
+    ),
+];
+
+/// Whether each call is answered as it should be.
+fn are_answered(alloc: Global, calls: &[Call]) -> Result<bool, AllocError> {
+    let selectors = Selectors::with_room(alloc, 6)?;
+    let mut bench = Bench { selectors };
+    let mut right = true;
+    for call in calls {
+        right &= bench.call(*call);
+    }
+    Ok(right)
 }
 
 #[test]
-fn resolves(rt: HostRuntime) -> Result<(), Fail> {
-    let mut selectors = six(&rt)?;
-    selectors.take(32);
-    selectors.set(32, descriptor(4096, 31, true, SelKind::Data));
-    assert!(rt; resolves_all(&selectors, TO_DATA));
-    Ok(())
-}
-
-#[test]
-fn refuses_by_kind_and_presence(rt: HostRuntime) -> Result<(), Fail> {
-    let mut selectors = six(&rt)?;
-    selectors.take(32);
-    selectors.set(32, descriptor(4096, 31, true, SelKind::Code));
-    assert!(rt; resolves_all(&selectors, TO_CODE));
-    selectors.set(32, descriptor(4096, 31, false, SelKind::Code));
-    assert!(rt; resolves_all(&selectors, TO_ABSENT_CODE));
+fn calls_are_answered(rt: HostRuntime) -> Result<(), Fail> {
+    for (name, calls) in ROWS {
+        let right = are_answered(rt.alloc(), calls)?;
+        assert!(rt; right, "{name}");
+    }
     Ok(())
 }

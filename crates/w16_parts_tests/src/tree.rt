@@ -3,22 +3,21 @@ ghost use Rattle.std.specs.Prelude.{ℕ};
 
 use std::alloc::{AllocError, Global};
 use std::marker::Model;
-use std::process::Abort;
 use std::test::Fail;
 use w16_tree::Maxima;
 
-/// One call of a list. A change answers none.
+/// One call of a list, with the answer that is wanted where it has one.
 #[derive(Clone, Copy)]
 enum Call {
     Set(usize, u32),
-    Len,
-    Max,
-    Get(usize),
-    FirstAtLeast(u32),
-    LastBelow(usize),
+    Len(usize),
+    Max(u32),
+    Get(usize, u32),
+    FirstAtLeast(u32, Option<usize>),
+    LastBelow(usize, Option<usize>),
 }
 
-/// A list, which has no value to a proof: what it promises is used in `call` alone, and no loop carries it.
+/// A list, which has no value to a proof: what it promises is used where a method calls it, and no loop carries it.
 #[derive(Drop)]
 struct Bench {
     lengths: Maxima,
@@ -31,93 +30,76 @@ impl Model for Bench {
 }
 
 impl Bench {
-    fn new(alloc: Global, len: u16) -> Result<Bench, AllocError> {
-        let lengths = Maxima::zeros(alloc, len as usize)?;
-        Ok(Bench { lengths })
-    }
-
-    fn call(&mut self, rt: &impl Abort, call: Call) -> Option<usize> {
+    /// Makes a call; false where it can't be made, or isn't answered as it should be.
+    fn call(&mut self, call: Call) -> bool {
+        let lengths = &self.lengths;
         match call {
-            Call::Set(index, value) => {
-                self.set(rt, index, value);
-                None
-            }
-            Call::Len => Some(self.lengths.len()),
-            Call::Max => Some(self.lengths.max() as usize),
-            Call::Get(index) => Some(self.get(rt, index)),
-            Call::FirstAtLeast(n) => self.first_at_least(rt, n),
-            Call::LastBelow(index) => self.last_below(rt, index),
+            Call::Set(index, value) => self.set(index, value),
+            Call::Len(len) => lengths.len() == len,
+            Call::Max(max) => lengths.max() == max,
+            Call::Get(index, value) => index < lengths.len() && lengths.get(index) == value,
+            Call::FirstAtLeast(n, index) => n > 0 && lengths.first_at_least(n) == index,
+            Call::LastBelow(end, index) => end <= lengths.len() && lengths.last_below(end) == index,
         }
     }
 
-    fn set(&mut self, rt: &impl Abort, index: usize, value: u32) {
-        assert!(rt; index < self.lengths.len());
-        self.lengths.set(index, value);
-    }
-
-    fn get(&self, rt: &impl Abort, index: usize) -> usize {
-        assert!(rt; index < self.lengths.len());
-        self.lengths.get(index) as usize
-    }
-
-    fn first_at_least(&self, rt: &impl Abort, n: u32) -> Option<usize> {
-        assert!(rt; n > 0);
-        self.lengths.first_at_least(n)
-    }
-
-    fn last_below(&self, rt: &impl Abort, index: usize) -> Option<usize> {
-        assert!(rt; index <= self.lengths.len());
-        self.lengths.last_below(index)
-    }
-}
-
-/// Makes the calls of a table, and tells whether each is answered as it should be.
-fn answers(rt: &impl Abort, bench: &mut Bench, lines: &[(Call, Option<usize>)]) -> bool {
-    for (call, answer) in lines {
-        if bench.call(rt, *call) != *answer {
-            return false;
+    fn set(&mut self, index: usize, value: u32) -> bool {
+        let may = index < self.lengths.len();
+        if may {
+            self.lengths.set(index, value);
         }
+        may
     }
-    true
 }
 
-const OF_FIVE: &[(Call, Option<usize>)] = &[
-    (Call::Len, Some(5)),
-    (Call::Max, Some(0)),
-    (Call::FirstAtLeast(1), None),
-    (Call::Set(1, 3), None),
-    (Call::Set(3, 7), None),
-    (Call::Set(4, 7), None),
-    (Call::Max, Some(7)),
-    (Call::Get(3), Some(7)),
-    (Call::Get(2), Some(0)),
-    (Call::FirstAtLeast(3), Some(1)),
-    (Call::FirstAtLeast(4), Some(3)),
-    (Call::FirstAtLeast(8), None),
-    (Call::LastBelow(3), Some(1)),
-    (Call::LastBelow(5), Some(4)),
-    (Call::LastBelow(1), None),
-    (Call::Set(3, 0), None),
-    (Call::FirstAtLeast(4), Some(4)),
+const OF_FIVE: &[Call] = &[
+    Call::Len(5),
+    Call::Max(0),
+    Call::FirstAtLeast(1, None),
+    Call::Set(1, 3),
+    Call::Set(3, 7),
+    Call::Set(4, 7),
+    Call::Max(7),
+    Call::Get(3, 7),
+    Call::Get(2, 0),
+    Call::FirstAtLeast(3, Some(1)),
+    Call::FirstAtLeast(4, Some(3)),
+    Call::FirstAtLeast(8, None),
+    Call::LastBelow(3, Some(1)),
+    Call::LastBelow(5, Some(4)),
+    Call::LastBelow(1, None),
+    Call::Set(3, 0),
+    Call::FirstAtLeast(4, Some(4)),
 ];
+
+const OF_NONE: &[Call] = &[
+    Call::Len(0),
+    Call::Max(0),
+    Call::FirstAtLeast(1, None),
+    Call::LastBelow(0, None),
+];
+
+/// Whether a list of zeros answers each call as it should.
+fn are_answered(alloc: Global, len: u16, calls: &[Call]) -> Result<bool, AllocError> {
+    let lengths = Maxima::zeros(alloc, len as usize)?;
+    let mut bench = Bench { lengths };
+    let mut right = true;
+    for call in calls {
+        right &= bench.call(*call);
+    }
+    Ok(right)
+}
 
 #[test]
 fn finds_and_changes(rt: HostRuntime) -> Result<(), Fail> {
-    let mut bench = Bench::new(rt.alloc(), 5)?;
-    assert!(rt; answers(&rt, &mut bench, OF_FIVE));
+    let right = are_answered(rt.alloc(), 5, OF_FIVE)?;
+    assert!(rt; right);
     Ok(())
 }
 
-const OF_NONE: &[(Call, Option<usize>)] = &[
-    (Call::Len, Some(0)),
-    (Call::Max, Some(0)),
-    (Call::FirstAtLeast(1), None),
-    (Call::LastBelow(0), None),
-];
-
 #[test]
 fn keeps_no_number(rt: HostRuntime) -> Result<(), Fail> {
-    let mut bench = Bench::new(rt.alloc(), 0)?;
-    assert!(rt; answers(&rt, &mut bench, OF_NONE));
+    let right = are_answered(rt.alloc(), 0, OF_NONE)?;
+    assert!(rt; right);
     Ok(())
 }

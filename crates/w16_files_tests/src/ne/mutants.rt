@@ -1,5 +1,5 @@
 //! Every proper prefix of each sample, and each byte of it changed, against answers that were worked out apart from the code.
-use super::{answers, read, read_changed};
+use super::{answers, changed, read};
 use bitflags::Flags;
 use std::alloc::Global;
 use std::process::Abort;
@@ -128,9 +128,18 @@ fn sum_of(module: &Module) -> u64 {
     sum.0
 }
 
-/// The sum of what is read, or the fault.
-fn answer_of(read: Result<Module, NeFault>) -> Result<u64, NeFault> {
-    Ok(sum_of(&read?))
+/// The sum of what is read of a file with these bytes, or the fault.
+fn answer_of(alloc: Global, bytes: &[u8]) -> Result<u64, NeFault> {
+    match read(alloc, bytes) {
+        Ok(module) => Ok(sum_of(&module)),
+        Err(fault) => Err(fault),
+    }
+}
+
+/// The same with one byte changed.
+fn answer_of_changed(alloc: Global, bytes: &[u8], at: usize, byte: u8) -> Result<u64, NeFault> {
+    let changed = changed(alloc, bytes, at, byte)?;
+    answer_of(alloc, changed.as_slice())
 }
 
 /// The letter that the tables have for a fault; they have no `?`.
@@ -169,7 +178,7 @@ fn is_next(wanted: &mut Chars<'_>, whole: u64, answer: Result<u64, NeFault>) -> 
 fn check_cuts(rt: &impl Abort, alloc: Global, bytes: &[u8], whole: u64, table: &str) {
     let mut wanted = table.chars();
     for len in 0..bytes.len() {
-        let answer = answer_of(read(alloc, &bytes[..len]));
+        let answer = answer_of(alloc, &bytes[..len]);
         assert!(rt; is_next(&mut wanted, whole, answer), "cut at {len}");
     }
     assert!(rt; wanted.next().is_none());
@@ -179,7 +188,7 @@ fn check_cuts(rt: &impl Abort, alloc: Global, bytes: &[u8], whole: u64, table: &
 fn has_changes(alloc: Global, bytes: &[u8], whole: u64, at: usize, wanted: &str) -> bool {
     let mut wanted = wanted.chars();
     for byte in [0x00, 0x01, 0x7f, 0x80, 0xff] {
-        let answer = answer_of(read_changed(alloc, bytes, at, byte));
+        let answer = answer_of_changed(alloc, bytes, at, byte);
         if !is_next(&mut wanted, whole, answer) {
             return false;
         }
@@ -200,7 +209,7 @@ fn check_changes(rt: &impl Abort, alloc: Global, bytes: &[u8], whole: u64, table
 }
 
 fn check(rt: &impl Abort, alloc: Global, bytes: &[u8], whole: u64, cuts: &str, changes: &str) {
-    assert!(rt; answer_of(read(alloc, bytes)) == Ok(whole));
+    assert!(rt; answer_of(alloc, bytes) == Ok(whole));
     check_cuts(rt, alloc, bytes, whole, cuts);
     check_changes(rt, alloc, bytes, whole, changes);
 }

@@ -1,6 +1,6 @@
-//! A sample file in a store that may lie, and a scratch for checks of its segments.
-use super::answers::{APPLICATION, Row, Sample, Wanted, sample_of};
-use std::alloc::Global;
+//! A sample file in a store that may lie, and checks of its segments.
+use super::answers::{APPLICATION, Sample, Wanted};
+use std::alloc::{AllocError, Global};
 use std::marker::Model;
 use std::test::Fail;
 use w16_ne::{Module, read_module};
@@ -70,45 +70,47 @@ impl Store for Liar {
     }
 }
 
-/// A store with these bytes as its file, some of them changed.
-fn store_of(alloc: Global, file: &[u8], changes: &[(usize, u8)]) -> Result<MemStore, Fail> {
-    let mut bytes = Vec::from_slice(alloc, file)?;
+/// Changes some of these bytes; false where there is no such byte.
+fn change(bytes: &mut [u8], changes: &[(usize, u8)]) -> bool {
     for (at, byte) in changes {
-        *bytes.get_mut(*at).ok_or("no such byte")? = *byte;
+        match bytes.get_mut(*at) {
+            Some(place) => *place = *byte,
+            None => return false,
+        }
     }
+    true
+}
+
+/// A store with these bytes as its file, some of them changed; with no file where there is no such byte.
+fn store_of(alloc: Global, file: &[u8], changes: &[(usize, u8)]) -> Result<MemStore, AllocError> {
+    let mut bytes = Vec::from_slice(alloc, file)?;
     let mut store = MemStore::new(alloc);
-    store.add(b"FILE", bytes.as_slice())?;
+    if change(bytes.as_mut_slice(), changes) {
+        store.add(b"FILE", bytes.as_slice())?;
+    }
     Ok(store)
 }
 
-/// A file in a store that tells the truth at first, and what it says.
-#[derive(Drop)]
-struct Opened {
-    store: Liar,
-    module: Module,
-}
-
-impl Opened {
-    fn new(alloc: Global, file: &[u8], changes: &[(usize, u8)]) -> Result<Opened, Fail> {
-        let mut inner = store_of(alloc, file, changes)?;
-        let module = read_module(alloc, &mut inner, b"FILE")?;
-        let store = Liar {
-            inner,
-            lie: Ok(0),
-            when: When::Never,
-            reads: 0,
-        };
-        Ok(Opened { store, module })
+/// Whether what a scratch holds, relocated with a sample's targets, has its bytes.
+fn has_image(scratch: &Scratch, sample: &Sample) -> bool {
+    let (found, records) = (scratch.bytes(), scratch.records());
+    let mut room = [0u8; 16];
+    if found.len() > room.len() || records.len() != sample.targets.len() {
+        return false;
     }
+    let bytes = &mut room[..found.len()];
+    bytes.copy_from_slice(found);
+    apply(bytes, records, sample.targets);
+    &*bytes == sample.image
 }
 
-/// A file, and a scratch that serves one file after another.
+/// A file in a store that tells the truth at first, and what it says.
 ///
 /// To a proof it has no value: what a check promises is used where a method makes it, and no loop carries it.
 #[derive(Drop)]
 pub struct Bench {
-    opened: Opened,
-    scratch: Scratch,
+    store: Liar,
+    module: Module,
 }
 
 impl Model for Bench {
@@ -120,66 +122,54 @@ impl Model for Bench {
 }
 
 impl Bench {
-    /// The application, and a scratch that has not served yet.
-    pub fn new(alloc: Global) -> Result<Bench, Fail> {
-        let opened = Opened::new(alloc, APPLICATION.file, &[])?;
-        let scratch = Scratch::new(alloc)?;
-        Ok(Bench { opened, scratch })
+    /// A file, some of its bytes changed.
+    pub fn new(alloc: Global, file: &[u8], changes: &[(usize, u8)]) -> Result<Bench, Fail> {
+        let mut inner = store_of(alloc, file, changes)?;
+        let module = read_module(alloc, &mut inner, b"FILE")?;
+        let store = Liar {
+            inner,
+            lie: Ok(0),
+            when: When::Never,
+            reads: 0,
+        };
+        Ok(Bench { store, module })
     }
 
     /// What a check of a segment answers; None where the file has no such segment.
-    fn check(&mut self, segment: usize) -> Option<Checked> {
-        let Opened { store, module } = &mut self.opened;
-        if segment == 0 || module.segment_count() < segment {
+    fn check(&mut self, scratch: &mut Scratch, segment: usize) -> Option<Checked> {
+        if segment == 0 || self.module.segment_count() < segment {
             return None;
         }
-        Some(check(store, b"FILE", module, segment, &mut self.scratch))
-    }
-
-    /// Whether what the scratch holds, relocated with a sample's targets, has its bytes.
-    fn has_image(&self, sample: &Sample) -> bool {
-        let (found, records) = (self.scratch.bytes(), self.scratch.records());
-        let mut room = [0u8; 16];
-        if found.len() > room.len() || records.len() != sample.targets.len() {
-            return false;
-        }
-        let bytes = &mut room[..found.len()];
-        bytes.copy_from_slice(found);
-        apply(bytes, records, sample.targets);
-        &*bytes == sample.image
+        Some(check(&mut self.store, b"FILE", &self.module, segment, scratch))
     }
 
     /// Whether the file has the sample's segments, and the one that it tells of is sound and has its bytes.
-    fn is_relocated(&mut self, sample: &Sample) -> bool {
-        self.opened.module.segment_count() == sample.segments
-            && self.check(sample.segment) == Some(Ok(()))
-            && self.has_image(sample)
+    fn is_relocated(&mut self, scratch: &mut Scratch, sample: &Sample) -> bool {
+        self.module.segment_count() == sample.segments
+            && self.check(scratch, sample.segment) == Some(Ok(()))
+            && has_image(scratch, sample)
     }
 
-    /// Takes another sample's file, some of its bytes changed, in place of the one before.
-    pub fn open(&mut self, alloc: Global, row: &Row) -> Result<(), Fail> {
-        let sample = sample_of(row.sample);
-        self.opened = Opened::new(alloc, sample.file, row.changes)?;
-        Ok(())
-    }
-
-    /// Whether the row's sample that was opened is as it is wanted. The scratch is the one of the rows before.
-    pub fn is_as_wanted(&mut self, row: &Row) -> bool {
-        let sample = sample_of(row.sample);
-        match row.wanted {
-            Wanted::Nothing => {
-                self.scratch.bytes().is_empty() && self.scratch.records().is_empty()
-            }
-            Wanted::Answer(answer) => self.check(sample.segment) == Some(answer),
-            Wanted::Image => self.is_relocated(sample),
+    /// Whether a sample's file is as it is wanted. The scratch may have served others.
+    pub fn is_as_wanted(&mut self, scratch: &mut Scratch, sample: &Sample, wanted: Wanted) -> bool {
+        match wanted {
+            Wanted::Nothing => scratch.bytes().is_empty() && scratch.records().is_empty(),
+            Wanted::Answer(answer) => self.check(scratch, sample.segment) == Some(answer),
+            Wanted::Image => self.is_relocated(scratch, sample),
         }
     }
 
     /// Whether a check of the application answers a lie with this, and the scratch serves the honest store afterwards.
-    pub fn is_answered(&mut self, lie: Lie, when: When, wanted: Checked) -> bool {
-        self.opened.store.begin(lie, when);
-        let answer = self.check(1);
-        self.opened.store.begin(lie, When::Never);
-        answer == Some(wanted) && self.is_relocated(&APPLICATION)
+    pub fn is_answered(
+        &mut self,
+        scratch: &mut Scratch,
+        lie: Lie,
+        when: When,
+        wanted: Checked,
+    ) -> bool {
+        self.store.begin(lie, when);
+        let answer = self.check(scratch, 1);
+        self.store.begin(lie, When::Never);
+        answer == Some(wanted) && self.is_relocated(scratch, &APPLICATION)
     }
 }

@@ -1,8 +1,9 @@
 //! Stores that fail, or don't tell what their files are.
+use super::answers::APPLICATION;
 use super::bench::{Bench, Checked, Lie, When};
-use std::alloc::Global;
+use std::process::Abort;
 use std::test::Fail;
-use w16_reloc::RelocFault;
+use w16_reloc::{RelocFault, Scratch};
 use w16_store::StoreFault;
 
 const CUT_OFF: Lie = Err(StoreFault::Short);
@@ -59,14 +60,12 @@ static LIES: &[Told] = &[
     ("the name's end is FF", Ok(0xff), 5, Ok(())),
 ];
 
-/// The first lie that isn't answered as it should be.
-fn first_wrong(bench: &mut Bench) -> Option<&'static str> {
+/// Each lie at one read has to be answered as it is told.
+fn check_lies(rt: &impl Abort, bench: &mut Bench, scratch: &mut Scratch) {
     for (name, lie, read, wanted) in LIES {
-        if !bench.is_answered(*lie, When::Read(*read), *wanted) {
-            return Some(name);
-        }
+        let right = bench.is_answered(scratch, *lie, When::Read(*read), *wanted);
+        assert!(rt; right, "{name}");
     }
-    None
 }
 
 /// What is answered where each byte that is read is this one, so that the records are all the same too: none, or fixups of the system's, or
@@ -79,27 +78,19 @@ fn answer_to(byte: u8) -> Checked {
     }
 }
 
-/// The first byte whose lie at every read isn't answered as it should be.
-fn first_wrong_byte(bench: &mut Bench) -> Option<u8> {
+/// Each byte too, as a lie at every read.
+fn check_bytes(rt: &impl Abort, bench: &mut Bench, scratch: &mut Scratch) {
     for byte in 0..=255u8 {
-        if !bench.is_answered(Ok(byte), When::Always, answer_to(byte)) {
-            return Some(byte);
-        }
+        let right = bench.is_answered(scratch, Ok(byte), When::Always, answer_to(byte));
+        assert!(rt; right, "all bytes {byte}");
     }
-    None
-}
-
-fn wrong_lie_and_byte(alloc: Global) -> Result<(Option<&'static str>, Option<u8>), Fail> {
-    let mut bench = Bench::new(alloc)?;
-    Ok((first_wrong(&mut bench), first_wrong_byte(&mut bench)))
 }
 
 #[test]
 fn lies_are_answered(rt: HostRuntime) -> Result<(), Fail> {
-    let (lie, byte) = wrong_lie_and_byte(rt.alloc())?;
-    assert!(rt;
-        lie.is_none() && byte.is_none(),
-        "{lie:?}, all bytes {byte:?}"
-    );
+    let mut scratch = Scratch::new(rt.alloc())?;
+    let mut bench = Bench::new(rt.alloc(), APPLICATION.file, &[])?;
+    check_lies(&rt, &mut bench, &mut scratch);
+    check_bytes(&rt, &mut bench, &mut scratch);
     Ok(())
 }

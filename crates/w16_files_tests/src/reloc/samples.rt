@@ -1,28 +1,29 @@
 //! The sample files, and their changes.
-use super::answers::ROWS;
+use super::answers::{ROWS, Row, sample_of};
 use super::bench::Bench;
 use std::alloc::Global;
+use std::process::Abort;
 use std::test::Fail;
+use w16_reloc::Scratch;
 
-/// The first row that isn't as it is wanted.
-fn first_wrong(alloc: Global, bench: &mut Bench) -> Result<Option<&'static str>, Fail> {
-    for row in ROWS {
-        bench.open(alloc, row)?;
-        if !bench.is_as_wanted(row) {
-            return Ok(Some(row.name));
-        }
-    }
-    Ok(None)
+/// Whether a row is as it is wanted. The scratch is the one of the rows before.
+fn is_as_wanted(alloc: Global, scratch: &mut Scratch, row: &Row) -> Result<bool, Fail> {
+    let sample = sample_of(row.sample);
+    let mut bench = Bench::new(alloc, sample.file, row.changes)?;
+    Ok(bench.is_as_wanted(scratch, sample, row.wanted))
 }
 
-fn first_wrong_of_new(alloc: Global) -> Result<Option<&'static str>, Fail> {
-    let mut bench = Bench::new(alloc)?;
-    first_wrong(alloc, &mut bench)
+/// Each row has to be as it is wanted.
+fn check_rows(rt: &impl Abort, alloc: Global, scratch: &mut Scratch) -> Result<(), Fail> {
+    for row in ROWS {
+        let right = is_as_wanted(alloc, scratch, row)?;
+        assert!(rt; right, "{}", row.name);
+    }
+    Ok(())
 }
 
 #[test]
 fn samples_are_as_wanted(rt: HostRuntime) -> Result<(), Fail> {
-    let wrong = first_wrong_of_new(rt.alloc())?;
-    assert_eq!(rt; wrong, None);
-    Ok(())
+    let mut scratch = Scratch::new(rt.alloc())?;
+    check_rows(&rt, rt.alloc(), &mut scratch)
 }

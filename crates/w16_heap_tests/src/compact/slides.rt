@@ -57,7 +57,8 @@ struct Case {
     holes: &'static [Span],
 }
 
-static CASES: &[Case] = &[
+/// Compactions that slide blocks.
+static COMPACTED: &[Case] = &[
     Case {
         name: "an empty heap is one gap, with nothing to slide",
         heap: heap!(0, 256, &[]),
@@ -210,6 +211,10 @@ static CASES: &[Case] = &[
         left: &[loose!(6, 0, 192)],
         holes: &[span!(192, 256)],
     },
+];
+
+/// Compactions that find no gap or slide nothing, and blocks that are slid in a gap that is told.
+static TOLD: &[Case] = &[
     Case {
         name: "a full heap has no room",
         heap: heap!(0, 96, &[loose!(0, 0, 32), loose!(1, 32, 64)]),
@@ -399,9 +404,12 @@ static CASES: &[Case] = &[
     },
 ];
 
-/// All cases. Only this function names the table, so that a proof meets its contents once.
-fn cases() -> &'static [Case] {
-    CASES
+fn compacted() -> &'static [Case] {
+    COMPACTED
+}
+
+fn told() -> &'static [Case] {
+    TOLD
 }
 
 /// Whether the blocks of a case are slid as it tells, in this memory.
@@ -497,9 +505,12 @@ fn agrees(rt: &impl Abort, alloc: Global, case: &Case) -> Result<bool, AllocErro
 
 #[test]
 fn slides_blocks(rt: HostRuntime) -> Result<(), Fail> {
-    for case in cases() {
-        let agrees = agrees(&rt, rt.alloc(), case)?;
-        assert!(rt; agrees, "{}", case.name);
+    // Each table has a function that alone names it: what a function names costs a proof more than in proportion to its length.
+    for cases in [compacted(), told()] {
+        for case in cases {
+            let agrees = agrees(&rt, rt.alloc(), case)?;
+            assert!(rt; agrees, "{}", case.name);
+        }
     }
     Ok(())
 }

@@ -22,7 +22,8 @@ pub struct Case {
     pub prefix: Option<usize>,
 }
 
-static CASES: &[Case] = &[
+/// Heaps of a few objects, none of them discardable.
+static PLAIN: &[Case] = &[
     Case {
         name: "the whole of an empty heap is one hole",
         heap: Snapshot {
@@ -185,6 +186,10 @@ static CASES: &[Case] = &[
         needed: None,
         prefix: None,
     },
+];
+
+/// Heaps with discardable objects, and with others that are requested there.
+static DISCARDABLE: &[Case] = &[
     Case {
         name: "a discardable object beside another",
         heap: Snapshot {
@@ -437,6 +442,10 @@ static CASES: &[Case] = &[
         needed: Some(0),
         prefix: Some(0),
     },
+];
+
+/// Heaps of several gaps, and of objects that share one.
+static DIVIDED: &[Case] = &[
     Case {
         name: "an object grows in its own gap before anything is discarded",
         heap: Snapshot {
@@ -583,7 +592,19 @@ static CASES: &[Case] = &[
     },
 ];
 
-/// All cases. Only this function names the table, whose contents cost a proof wherever it is named.
-pub fn cases() -> &'static [Case] {
-    CASES
+fn plain() -> &'static [Case] {
+    PLAIN
+}
+
+fn discardable() -> &'static [Case] {
+    DISCARDABLE
+}
+
+fn divided() -> &'static [Case] {
+    DIVIDED
+}
+
+/// All cases. Each table has a function that alone names it: what a function names costs a proof more than in proportion to its length.
+pub fn tables() -> [&'static [Case]; 3] {
+    [plain(), discardable(), divided()]
 }

@@ -1,5 +1,5 @@
 //! What a request discards.
-use super::cases::{Case, cases};
+use super::cases::{Case, tables};
 use std::alloc::{AllocError, Global};
 use std::test::Fail;
 
@@ -32,9 +32,12 @@ fn is_answered(alloc: Global, case: &Case) -> Result<bool, AllocError> {
 
 #[test]
 fn counts_discards(rt: HostRuntime) -> Result<(), Fail> {
-    for case in cases() {
-        let counted = has_rooms(rt.alloc(), case)? && is_answered(rt.alloc(), case)?;
-        assert!(rt; counted, "{}", case.name);
+    for cases in tables() {
+        for case in cases {
+            let counted = has_rooms(rt.alloc(), case)?;
+            let answered = is_answered(rt.alloc(), case)?;
+            assert!(rt; counted && answered, "{}", case.name);
+        }
     }
     Ok(())
 }
