@@ -37,15 +37,9 @@ impl<R: Files + AllocGlobal + Clone + Drop> SystemDisk<R> {
 }
 
 impl<R: Files + Drop> SystemDisk<R> {
-    /// A regular file of the folder, opened, and its length.
-    fn open(&self, name: &str) -> io::Result<(R::File, u64)> {
+    fn open(&self, name: &str) -> io::Result<R::File> {
         let path = format!(in self.alloc; "{}/{name}", self.folder)?;
-        let file = fs::open(&self.runtime, path.as_str())?;
-        let metadata = file.metadata()?;
-        if !metadata.is_file() {
-            return Err(Error::from(ErrorKind::InvalidInput));
-        }
-        Ok((file, metadata.len()))
+        fs::open(&self.runtime, path.as_str())
     }
 
     /// Adds an entry's name to the list, where it is a regular file.
@@ -57,19 +51,49 @@ impl<R: Files + Drop> SystemDisk<R> {
     ) -> Result<(), DirFault> {
         if entry.path().is_file(&self.runtime) {
             let name = String::from_str(alloc, entry.file_name())?;
-            names.push(name).map_err(|_| DirFault::Memory)?;
+            if names.push(name).is_err() {
+                return Err(DirFault::Memory);
+            }
         }
         Ok(())
     }
 
-    fn read_part(&self, name: &str, at: u64, buf: &mut [u8]) -> io::Result<u64> {
-        let (mut file, len) = self.open(name)?;
-        if has_part(len, at, buf.len()) {
-            file.seek(SeekFrom::Start(at))?;
-            file.read_exact(buf)?;
+    /// The same, where an entry was found. One whose name isn't UTF-8 is left out.
+    fn list_found(
+        &self,
+        alloc: Global,
+        found: io::Result<DirEntry<R>>,
+        names: &mut Vec<String>,
+    ) -> Result<(), DirFault> {
+        match found {
+            Ok(entry) => self.list(alloc, &entry, names),
+            Err(e) if e.kind() == ErrorKind::InvalidFilename => Ok(()),
+            Err(e) => Err(fault_of(e)),
         }
-        Ok(len)
     }
+
+    fn read_part(&self, name: &str, at: u64, buf: &mut [u8]) -> io::Result<u64> {
+        let mut file = self.open(name)?;
+        read_regular(&mut file, at, buf)
+    }
+}
+
+/// The length of a regular file. Fills the buffer from an offset on, where the file has bytes for all of it.
+fn read_regular<F: OpenFile + Read + Seek>(
+    file: &mut F,
+    at: u64,
+    buf: &mut [u8],
+) -> io::Result<u64> {
+    let metadata = file.metadata()?;
+    if !metadata.is_file() {
+        return Err(Error::from(ErrorKind::InvalidInput));
+    }
+    let len = metadata.len();
+    if has_part(len, at, buf.len()) {
+        file.seek(SeekFrom::Start(at))?;
+        file.read_exact(buf)?;
+    }
+    Ok(len)
 }
 
 /// Why a folder wasn't listed.
@@ -96,16 +120,15 @@ impl<R: Files + AllocGlobal + Clone + Drop> Disk for SystemDisk<R> {
         let entries = fs::read_dir(&self.runtime, self.folder.as_str()).map_err(fault_of)?;
         let mut names = Vec::new(alloc);
         for entry in entries {
-            match entry {
-                Ok(entry) => self.list(alloc, &entry, &mut names)?,
-                Err(e) if e.kind() == ErrorKind::InvalidFilename => {}
-                Err(e) => return Err(fault_of(e)),
-            }
+            self.list_found(alloc, entry, &mut names)?;
         }
         Ok(names)
     }
 
     fn read(&mut self, name: &str, at: u64, buf: &mut [u8]) -> Result<u64, DiskFailure> {
-        self.read_part(name, at, buf).map_err(|_| DiskFailure)
+        match self.read_part(name, at, buf) {
+            Ok(len) => Ok(len),
+            Err(_) => Err(DiskFailure),
+        }
     }
 }

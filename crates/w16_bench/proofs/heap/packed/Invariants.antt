@@ -1,8 +1,8 @@
 use Rattle.std.proofs.Common.{◌≡◌, ◌*◌, ◌<◌, ◌≤◌, length}
 use Rattle.std.specs.List.{AllByRecursion}
 use Rattle.w16_model.specs.Gap.{block_end}
-use Rattle.w16_bench.specs.declared.TheConstants.{SIZE, UNIT}
-use Rattle.w16_bench.proofs.blocks.packed.Given as goal
+use Rattle.w16_bench.specs.declared.heap.TheConstants.{SIZE, UNIT}
+use Rattle.w16_bench.proofs.heap.packed.Given as goal
 
 -- the blocks so far have the lower ids, and lie below the next
 abbrev pub invariant-loop-id : goal.invariant-loop-id

@@ -6,8 +6,8 @@ use Rattle.w16_model.specs.Gap.{block_end}
 use Rattle.w16_model.proofs.Gaps.{Each-map}
 use Rattle.w16_blocks.specs.Layout.{Layout, Fits, IsApart, IsGrained}
 use Rattle.w16_blocks.proofs.Place.{All-placed}
-use Rattle.w16_bench.specs.declared.TheConstants.{UNIT}
-use Rattle.w16_bench.proofs.blocks.packed.Goals as goal
+use Rattle.w16_bench.specs.declared.heap.TheConstants.{UNIT}
+use Rattle.w16_bench.proofs.heap.packed.Goals as goal
 
 abbrev IsBelow : ℕ → Block → Type 0
 IsBelow id b = (b.id < id) × (block_end b ≤ UNIT * id)
