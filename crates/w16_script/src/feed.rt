@@ -12,7 +12,7 @@ use crate::running::{Rooms, run_line};
 use arrayvec::ArrayVec;
 use memchr::memchr;
 use std::io::Write;
-use w16_kernel::Kernel;
+use w16_kernel::Machine;
 
 /// How many bytes a line may have before its LF.
 const LONGEST_LINE: usize = 4096;
@@ -102,17 +102,17 @@ fn without_cr(line: &[u8]) -> &[u8]
 }
 
 /// Runs the line that an LF ends.
-fn end_line<W: Write>(
+fn end_line<W: Write, K: Machine>(
     state: &mut Unfinished,
     writer: &mut W,
-    kernel: &mut Kernel,
+    kernel: &mut K,
 ) -> Result<(), RunFault>
     requires fits { IsWithinLimits (progress_of state.old) }
     requires few { state.old.lines < MOST_LINES }
-    ensures ok { OnOk result (Feeds (W.contents writer.old) (progress_of state.old) (state_of state.old kernel.old) (10 ∷ []) (W.contents writer.new) (progress_of state.new) (state_of state.new kernel.new)) }
+    ensures ok { OnOk result (Feeds (W.contents writer.old) (progress_of state.old) (state_of state.old (K.world kernel.old)) (10 ∷ []) (W.contents writer.new) (progress_of state.new) (state_of state.new (K.world kernel.new))) }
     ensures within { OnOk result (IsWithinLimits (progress_of state.new)) }
     ensures room { OnOk result (room_of (progress_of state.new) < room_of (progress_of state.old)) }
-    ensures err { IfErr result (λ fault. FailsAt (W.contents writer.old) (state_of state.old kernel.old) (strip_last 13 state.old.line.items) fault (W.contents writer.new) (state_of state.new kernel.new)) }
+    ensures err { IfErr result (λ fault. FailsAt (W.contents writer.old) (state_of state.old (K.world kernel.old)) (strip_last 13 state.old.line.items) fault (W.contents writer.new) (state_of state.new (K.world kernel.new))) }
 {
     let line = without_cr(state.line.as_slice());
     let replied = run_line(writer, kernel, &mut state.registers, &mut state.rooms, line)?;
@@ -125,10 +125,10 @@ fn end_line<W: Write>(
 }
 
 /// Runs a line that an LF ends, where it stands: to hold it first would copy it, and clear it afterwards.
-fn run_whole<W: Write>(
+fn run_whole<W: Write, K: Machine>(
     state: &mut Unfinished,
     writer: &mut W,
-    kernel: &mut Kernel,
+    kernel: &mut K,
     line: &[u8],
 ) -> Result<(), RunFault>
     requires fits { IsWithinLimits (progress_of state.old) }
@@ -136,10 +136,10 @@ fn run_whole<W: Write>(
     requires nothing { state.old.line.items ≡ [] }
     requires one_line { HasNoLf line.now }
     requires short { length line.now ≤ LONGEST_LINE }
-    ensures ok { OnOk result (Feeds (W.contents writer.old) (progress_of state.old) (state_of state.old kernel.old) (ended line.now) (W.contents writer.new) (progress_of state.new) (state_of state.new kernel.new)) }
+    ensures ok { OnOk result (Feeds (W.contents writer.old) (progress_of state.old) (state_of state.old (K.world kernel.old)) (ended line.now) (W.contents writer.new) (progress_of state.new) (state_of state.new (K.world kernel.new))) }
     ensures within { OnOk result (IsWithinLimits (progress_of state.new)) }
     ensures room { OnOk result (room_of (progress_of state.new) + length (ended line.now) ≤ room_of (progress_of state.old)) }
-    ensures err { IfErr result (λ fault. FailsAt (W.contents writer.old) (state_of state.old kernel.old) (strip_last 13 line.now) fault (W.contents writer.new) (state_of state.new kernel.new)) }
+    ensures err { IfErr result (λ fault. FailsAt (W.contents writer.old) (state_of state.old (K.world kernel.old)) (strip_last 13 line.now) fault (W.contents writer.new) (state_of state.new (K.world kernel.new))) }
 {
     let text = without_cr(line);
     let replied = run_line(writer, kernel, &mut state.registers, &mut state.rooms, text)?;
@@ -151,18 +151,18 @@ fn run_whole<W: Write>(
 }
 
 /// Takes the bytes of a line and the LF that ends it, and runs it.
-fn take_line<W: Write>(
+fn take_line<W: Write, K: Machine>(
     state: &mut Unfinished,
     writer: &mut W,
-    kernel: &mut Kernel,
+    kernel: &mut K,
     line: &[u8],
 ) -> Result<(), RunFault>
     requires fits { IsWithinLimits (progress_of state.old) }
     requires one_line { HasNoLf line.now }
-    ensures ok { OnOk result (Feeds (W.contents writer.old) (progress_of state.old) (state_of state.old kernel.old) (ended line.now) (W.contents writer.new) (progress_of state.new) (state_of state.new kernel.new)) }
+    ensures ok { OnOk result (Feeds (W.contents writer.old) (progress_of state.old) (state_of state.old (K.world kernel.old)) (ended line.now) (W.contents writer.new) (progress_of state.new) (state_of state.new (K.world kernel.new))) }
     ensures within { OnOk result (IsWithinLimits (progress_of state.new)) }
     ensures room { OnOk result (room_of (progress_of state.new) + length (ended line.now) ≤ room_of (progress_of state.old)) }
-    ensures err { IfErr result (λ fault. Stops (W.contents writer.old) (progress_of state.old) (state_of state.old kernel.old) (ended line.now) fault (W.contents writer.new) (state_of state.new kernel.new)) }
+    ensures err { IfErr result (λ fault. Stops (W.contents writer.old) (progress_of state.old) (state_of state.old (K.world kernel.old)) (ended line.now) fault (W.contents writer.new) (state_of state.new (K.world kernel.new))) }
 {
     if state.takes_whole(line) {
         return run_whole(state, writer, kernel, line);
@@ -175,17 +175,17 @@ fn take_line<W: Write>(
 }
 
 /// Takes a piece of the script, and runs the lines that end in it.
-pub fn feed<W: Write>(
+pub fn feed<W: Write, K: Machine>(
     state: &mut Unfinished,
     writer: &mut W,
-    kernel: &mut Kernel,
+    kernel: &mut K,
     piece: &[u8],
 ) -> Result<(), RunFault>
     requires { IsWithinLimits (progress_of state.old) }
-    ensures ok { OnOk result (Feeds (W.contents writer.old) (progress_of state.old) (state_of state.old kernel.old) piece.now (W.contents writer.new) (progress_of state.new) (state_of state.new kernel.new)) }
+    ensures ok { OnOk result (Feeds (W.contents writer.old) (progress_of state.old) (state_of state.old (K.world kernel.old)) piece.now (W.contents writer.new) (progress_of state.new) (state_of state.new (K.world kernel.new))) }
     ensures within { OnOk result (IsWithinLimits (progress_of state.new)) }
     ensures room { OnOk result (room_of (progress_of state.new) + length piece.now ≤ room_of (progress_of state.old)) }
-    ensures err { IfErr result (λ fault. Stops (W.contents writer.old) (progress_of state.old) (state_of state.old kernel.old) piece.now fault (W.contents writer.new) (state_of state.new kernel.new)) }
+    ensures err { IfErr result (λ fault. Stops (W.contents writer.old) (progress_of state.old) (state_of state.old (K.world kernel.old)) piece.now fault (W.contents writer.new) (state_of state.new (K.world kernel.new))) }
 {
     let mut rest = piece;
     'lines: while let Some((line, behind)) = split_line(rest) {

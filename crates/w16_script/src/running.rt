@@ -14,7 +14,7 @@ use crate::print::{TEXT_ROOM, TextRoom, write_error, write_reply};
 use crate::registers::Registers;
 use crate::walk::print_walk;
 use std::io::{ErrorKind, Write};
-use w16_kernel::{Kernel, MOST_READ, Reply};
+use w16_kernel::{MOST_READ, Machine, Reply};
 
 /// Room for the bytes of one line: those that it writes, those that it reads, and those of its reply's text.
 #[derive(Drop)]
@@ -35,14 +35,14 @@ impl Rooms {
 }
 
 /// Prints what is shown for a reply, in the world that its command left.
-fn print_shown<W: Write>(
+fn print_shown<W: Write, K: Machine>(
     writer: &mut W,
-    kernel: &Kernel,
+    kernel: &K,
     reply: &Reply<'_>,
     room: &mut TextRoom,
 ) -> Result<(), ErrorKind>
-    ensures ok { OnOk result ((output : List ℕ) × Shows kernel.now (reply_of reply.now) output × Appends (W.contents writer.old) (W.contents writer.new) output) }
-    ensures err { OnErr result ((output : List ℕ) × Shows kernel.now (reply_of reply.now) output × AppendsFront (W.contents writer.old) (W.contents writer.new) output) }
+    ensures ok { OnOk result ((output : List ℕ) × Shows (K.world kernel.now) (reply_of reply.now) output × Appends (W.contents writer.old) (W.contents writer.new) output) }
+    ensures err { OnErr result ((output : List ℕ) × Shows (K.world kernel.now) (reply_of reply.now) output × AppendsFront (W.contents writer.old) (W.contents writer.new) output) }
 {
     match reply {
         Reply::Walk(_) => print_walk(writer, kernel),
@@ -51,16 +51,16 @@ fn print_shown<W: Write>(
 }
 
 /// Runs a line, stores its reply where it says so, and says whether it has one.
-pub fn run_line<W: Write>(
+pub fn run_line<W: Write, K: Machine>(
     writer: &mut W,
-    kernel: &mut Kernel,
+    kernel: &mut K,
     registers: &mut Registers,
     rooms: &mut Rooms,
     line: &[u8],
 ) -> Result<bool, RunFault>
-    ensures ok { OnOk result (RunsLines (W.contents writer.old) (state_with kernel.old registers.old) (line.now ∷ []) (W.contents writer.new) (state_with kernel.new registers.new)) }
+    ensures ok { OnOk result (RunsLines (W.contents writer.old) (state_with (K.world kernel.old) registers.old) (line.now ∷ []) (W.contents writer.new) (state_with (K.world kernel.new) registers.new)) }
     ensures replied { IfOk result (λ replied. replied ≡ has_reply line.now) }
-    ensures err { IfErr result (λ fault. FailsAt (W.contents writer.old) (state_with kernel.old registers.old) line.now fault (W.contents writer.new) (state_with kernel.new registers.new)) }
+    ensures err { IfErr result (λ fault. FailsAt (W.contents writer.old) (state_with (K.world kernel.old) registers.old) line.now fault (W.contents writer.new) (state_with (K.world kernel.new) registers.new)) }
 {
     match read_line(line, registers, &mut rooms.written) {
         Line::Silent => Ok(false),

@@ -13,21 +13,21 @@ use crate::running::run_line;
 use crate::write::flush_writer;
 use std::alloc::Global;
 use std::io::{Read, Write};
-use w16_kernel::Kernel;
+use w16_kernel::Machine;
 
 /// How many bytes are read at once.
 const PIECE: usize = 65_536;
 
 /// Runs the last line, if there is one.
-fn finish<W: Write>(
+fn finish<W: Write, K: Machine>(
     state: &mut Unfinished,
     writer: &mut W,
-    kernel: &mut Kernel,
+    kernel: &mut K,
 ) -> Result<Ended, RunFault>
     requires { IsWithinLimits (progress_of state.old) }
-    ensures ok { IfOk result (λ counts. Finishes (W.contents writer.old) (progress_of state.old) (state_of state.old kernel.old) (W.contents writer.new) (state_of state.new kernel.new) counts) }
+    ensures ok { IfOk result (λ counts. Finishes (W.contents writer.old) (progress_of state.old) (state_of state.old (K.world kernel.old)) (W.contents writer.new) (state_of state.new (K.world kernel.new)) counts) }
     ensures err { IfErr result (λ fault. (0 < length state.old.line.items)
-        × FailsAt (W.contents writer.old) (state_of state.old kernel.old) state.old.line.items fault (W.contents writer.new) (state_of state.new kernel.new)) }
+        × FailsAt (W.contents writer.old) (state_of state.old (K.world kernel.old)) state.old.line.items fault (W.contents writer.new) (state_of state.new (K.world kernel.new))) }
 {
     let line = state.line.as_slice();
     if line.is_empty() {
@@ -45,17 +45,17 @@ fn finish<W: Write>(
 
 /// Reads a script by pieces of the buffer's length, and runs it. Before each read the writer is flushed, so that
 /// a host that waits for a reply before it writes the next line gets it.
-fn run_over<R: Read, W: Write>(
+fn run_over<R: Read, W: Write, K: Machine>(
     reader: &mut R,
     writer: &mut W,
-    kernel: &mut Kernel,
+    kernel: &mut K,
     buffer: &mut [u8],
 ) -> Result<Ended, RunFault>
     requires { length buffer.old ≡ PIECE }
     ensures ok { IfOk result (λ counts. (text : List ℕ) × Consumes (R.remaining reader.old) (R.remaining reader.new) text × IsAtEnd (R.remaining reader.new)
-        × Script (W.contents writer.old) kernel.old text (W.contents writer.new) kernel.new counts) }
+        × Script (W.contents writer.old) (K.world kernel.old) text (W.contents writer.new) (K.world kernel.new) counts) }
     ensures err { IfErr result (λ fault. (text : List ℕ) × Consumes (R.remaining reader.old) (R.remaining reader.new) text
-        × FailsLater (R.remaining reader.new) (W.contents writer.old) kernel.old text fault (W.contents writer.new) kernel.new) }
+        × FailsLater (R.remaining reader.new) (W.contents writer.old) (K.world kernel.old) text fault (W.contents writer.new) (K.world kernel.new)) }
 {
     let mut state = Unfinished::new();
     'pieces: loop {
@@ -80,16 +80,16 @@ fn run_over<R: Read, W: Write>(
 ///
 /// `RunFault` says when each fault comes. Where the reader or the writer doesn't tell its bytes, nothing is
 /// claimed of them.
-pub fn run<R: Read, W: Write>(
+pub fn run<R: Read, W: Write, K: Machine>(
     alloc: Global,
     reader: &mut R,
     writer: &mut W,
-    kernel: &mut Kernel,
+    kernel: &mut K,
 ) -> Result<Ended, RunFault>
     ensures ok { IfOk result (λ counts. (text : List ℕ) × Consumes (R.remaining reader.old) (R.remaining reader.new) text × IsAtEnd (R.remaining reader.new)
-        × Script (W.contents writer.old) kernel.old text (W.contents writer.new) kernel.new counts) }
+        × Script (W.contents writer.old) (K.world kernel.old) text (W.contents writer.new) (K.world kernel.new) counts) }
     ensures err { IfErr result (λ fault. (text : List ℕ) × Consumes (R.remaining reader.old) (R.remaining reader.new) text
-        × Fails (R.remaining reader.new) (W.contents writer.old) kernel.old text fault (W.contents writer.new) kernel.new) }
+        × Fails (R.remaining reader.new) (W.contents writer.old) (K.world kernel.old) text fault (W.contents writer.new) (K.world kernel.new)) }
 {
     let Ok(mut buffer) = vec![in alloc; 0u8; PIECE] else {
         return Err(RunFault::Memory);

@@ -10,7 +10,7 @@ use crate::print::{append, append_digits, print_end};
 use crate::write::write_whole;
 use arrayvec::ArrayVec;
 use std::io::{self, ErrorKind, Write};
-use w16_kernel::Kernel;
+use w16_kernel::Machine;
 use w16_model::{Item, Kind, Owner};
 
 /// An item's line: the longest has two double words, a handle, `discardable`, a lock count of three digits, four spaces and an LF.
@@ -73,9 +73,9 @@ fn print_item<W: Write>(writer: &mut W, item: &Item) -> Result<(), ErrorKind>
 }
 
 /// Prints the walk of the heap: a line for each item, and `end`. It fails as `print_reply` does, after a front of these lines.
-pub fn print_walk<W: Write>(writer: &mut W, kernel: &Kernel) -> Result<(), ErrorKind>
-    ensures ok { OnOk result ((items : List Item) × IsWorldWalk kernel.now.world items × Appends (W.contents writer.old) (W.contents writer.new) (walk_text items)) }
-    ensures err { OnErr result ((items : List Item) × IsWorldWalk kernel.now.world items × AppendsFront (W.contents writer.old) (W.contents writer.new) (walk_text items)) }
+pub fn print_walk<W: Write, K: Machine>(writer: &mut W, kernel: &K) -> Result<(), ErrorKind>
+    ensures ok { OnOk result ((items : List Item) × IsWorldWalk (K.world kernel.now).world items × Appends (W.contents writer.old) (W.contents writer.new) (walk_text items)) }
+    ensures err { OnErr result ((items : List Item) × IsWorldWalk (K.world kernel.now).world items × AppendsFront (W.contents writer.old) (W.contents writer.new) (walk_text items)) }
 {
     let mut from = 0;
     'items: while let Some(item) = kernel.walk_from(from) {

@@ -1,11 +1,11 @@
 use Rattle.std.proofs.lemmas.Grind.{common_steps}
 use Rattle.std.proofs.lemmas.Result.{err_from_is_err_and}
-use Rattle.std.proofs.Common.{ℕ, List, ◌++◌, [], length-append, sym, ap, ◌∙◌, append-nil, append_assoc, arith}
+use Rattle.std.proofs.Common.{ℕ, List, ◌++◌, [], length-append, sym, ap, ◌∙◌, append-nil, append_assoc, arith, refl}
 use Rattle.std.proofs.lemmas.Result.{IfErr-weaker}
 use Rattle.w16_script.specs.State.{state_with}
 use Rattle.w16_script.specs.Text.{ended}
 use Rattle.w16_script.specs.Unfinished.{progress_of}
-use Rattle.w16_script.proofs.FeedLemmas.{Feeds-trans, Stops-overflow, Stops-later}
+use Rattle.w16_script.proofs.FeedLemmas.{Feeds-trans, Feeds-held, Stops-overflow, Stops-later}
 use Rattle.w16_script.proofs.feed.feed.Goals as goal
 
 pub returns-in_err-take_line-clause-err : goal.returns-in_err-take_line-clause-err
@@ -35,7 +35,7 @@ returns-clause-err g c =
     IfErr-weaker c.hold.result _ _
     (λ fault over. Stops-later _ _ _ (progress_of c.args.state.now) (progress_of c.lines.state) _ _ _ c.args.piece.now done (c.lines.rest.now ++ []) [] fault
     (whole ∙ ap (λ (l : List ℕ). done ++ l) (sym (append-nil (c.lines.rest.now ++ []) ∙ append-nil c.lines.rest.now))) feeds
-    (Stops-overflow _ (progress_of c.lines.state) _ _ c.lines.rest.now [] fault c.in_default.ensures.none (ap (state_with c.lines.kernel) c.hold.ensures.registers) over.0 over.1))
+    (Stops-overflow _ (progress_of c.lines.state) _ _ c.lines.rest.now [] fault c.in_default.ensures.none (ap (state_with (g.K.Machine.world c.lines.kernel)) c.hold.ensures.registers) over.0 over.1))
     c.hold.ensures.err
 
 pub lines-smaller : goal.lines-smaller
@@ -46,3 +46,11 @@ returns-clause-ok g c = grind (arith, common_steps)
 
 pub returns-clause-room : goal.returns-clause-room
 returns-clause-room g c = grind (arith, common_steps)
+
+pub lines-init : goal.lines-init
+lines-init g c =
+    let now = progress_of c.args.state.now in
+    record {
+      fed = ([], refl, Feeds-held _ now now _ _ [] tt (ap (λ (l : List ℕ). record { line = l; lines = now.lines; replies = now.replies }) (sym (append-nil now.line))) refl, omega arith);
+      fits = c.requires;
+    }

@@ -34,12 +34,12 @@ returns-in-Err-clause-err g c =
 pub returns-in-Ok-print_shown-clause-ok : goal.returns-in-Ok-print_shown-clause-ok
 returns-in-Ok-print_shown-clause-ok g c =
     let command = command_of c.in-Command.call in
-    let event : Event = record { command = command; reply = reply_of c.in-Ok-call.reply; after = c.call.new.self } in
+    let event : Event = record { command = command; reply = reply_of c.in-Ok-call.reply; after = g.K.Machine.world c.call.new.self } in
     let (text, shows, appends) = c.in-Ok-print_shown.ensures.ok in
     record {
       events = event ∷ [];
       output = text;
-      run = (c.in-Ok-call.ensures.step, refl {a = c.call.new.self});
+      run = (c.in-Ok-call.ensures.step, refl {a = g.K.Machine.world c.call.new.self});
       prints = Prints-one c.args.registers.now c.args.line.now (Said.Says c.in-Command.target command) (event ∷ []) text c.store.new.self c.in-Command.ensures.reads (refl, shows) c.store.ensures;
       appends = appends;
       fewest = (c.in-Ok-call.ensures.fewest, tt);
@@ -48,11 +48,11 @@ returns-in-Ok-print_shown-clause-ok g c =
 pub returns-in-Err-print_shown-clause-err : goal.returns-in-Err-print_shown-clause-err
 returns-in-Err-print_shown-clause-err g c =
     let command = command_of c.in-Command.call in
-    let event : Event = record { command = command; reply = reply_of c.in-Ok-call.reply; after = c.call.new.self } in
+    let event : Event = record { command = command; reply = reply_of c.in-Ok-call.reply; after = g.K.Machine.world c.call.new.self } in
     let (text, shows, front) = c.in-Err-print_shown.ensures.err in (
       event ∷ [],
       text,
-      (c.in-Ok-call.ensures.step, refl {a = c.call.new.self}),
+      (c.in-Ok-call.ensures.step, refl {a = g.K.Machine.world c.call.new.self}),
       Prints-one c.args.registers.now c.args.line.now (Said.Says c.in-Command.target command) (event ∷ []) text c.store.new.self c.in-Command.ensures.reads (refl, shows) c.store.ensures,
       front,
       (c.in-Ok-call.ensures.fewest, tt),

@@ -21,7 +21,7 @@ returns-in_err-feed-clause-err g c =
 
 pub pieces-init : goal.pieces-init
 pieces-init g c = record {
-  fed = ([], Consumes-nil _, Feeds-held _ fresh (progress_of c.new-state.result) _ _ [] tt c.new-state.ensures.progress (ap (state_with c.args.kernel.now) c.new-state.ensures.registers));
+  fed = ([], Consumes-nil _, Feeds-held _ fresh (progress_of c.new-state.result) _ _ [] tt c.new-state.ensures.progress (ap (state_with (g.K.Machine.world c.args.kernel.now)) c.new-state.ensures.registers));
   fits = subst IsWithinLimits (sym c.new-state.ensures.progress) fresh-fits;
   size = c.requires;
 }

@@ -1,0 +1,58 @@
+//! What a run asks of a machine.
+ghost use Rattle.std.specs.Prelude.{◌≡◌, ◌+◌, ◌^◌, ◌<◌, List, IfSome, IfOk, OnErr};
+ghost use Rattle.w16_model.specs.Handles.{handle_of};
+ghost use Rattle.w16_model.specs.Walk.{IsFirstItem};
+ghost use Rattle.w16_machine.specs.World.{IsWorldWalk};
+ghost use Rattle.w16_machine.specs.Local.{LocalWorld};
+ghost use Rattle.w16_machine.specs.LocalMachine.{Step, Event};
+ghost use Rattle.w16_machine.specs.LocalRuns.{IsFewest};
+ghost use Rattle.w16_kernel.specs.Runs.{command_of, reply_of, IsCall, IsReply, TakesMemory};
+
+use crate::call::{Call, MOST_READ, Reply};
+use crate::kernel::Kernel;
+use std::alloc::AllocError;
+use w16_model::Item;
+
+/// A machine in a world, which is asked one call after another, as [`Kernel`] is. What runs calls stands on this, so that neither its
+/// proof nor its code needs a machine's.
+pub trait Machine {
+    /// The world that it is in.
+    ghost world: { Self → LocalWorld };
+
+    /// One call, by the definition's step, which discards as few objects as it can. Bytes that are read are put into the room. An error
+    /// is that there was no memory for a new local heap, and nothing was done.
+    fn call<'r>(
+        &mut self,
+        call: &Call<'_>,
+        room: &'r mut [u8; MOST_READ],
+    ) -> Result<Reply<'r>, AllocError>
+        requires { IsCall call.now }
+        ensures step { IfOk result (λ reply. Step (world self.old) (command_of call.now) (reply_of reply) (world self.new)) }
+        ensures fewest { IfOk result (λ reply. IsFewest (world self.old) (record { command = command_of call.now; reply = reply_of reply; after = world self.new })) }
+        ensures short { IfOk result (λ reply. IsReply reply) }
+        ensures wanted { OnErr result (TakesMemory (world self.old) (command_of call.now)) }
+        ensures refused { OnErr result (world self.new ≡ world self.old) };
+
+    /// The first part of the heap that begins at an address or above it; none behind the last.
+    fn walk_from(&self, from: u32) -> Option<Item>
+        ensures found { IsFirstItem handle_of (world self.now).world.handles.heap from result }
+        ensures inside { IfSome result (λ item. (0 < item.size) × (item.at + item.size < 2 ^ 32)) }
+        ensures words { IfSome result (λ item. IfSome item.owner (λ owner. owner.name < 2 ^ 16)) }
+        ensures whole { (items : List Item) × IsWorldWalk (world self.now).world items };
+}
+
+impl Machine for Kernel {
+    ghost world = { λ kernel. kernel };
+
+    fn call<'r>(
+        &mut self,
+        call: &Call<'_>,
+        room: &'r mut [u8; MOST_READ],
+    ) -> Result<Reply<'r>, AllocError> {
+        self.call(call, room)
+    }
+
+    fn walk_from(&self, from: u32) -> Option<Item> {
+        self.walk_from(from)
+    }
+}
