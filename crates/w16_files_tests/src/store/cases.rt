@@ -21,12 +21,10 @@ pub enum Step {
 /// Which store is asked.
 #[derive(Clone, Copy)]
 pub enum Kind {
-    /// The files in memory.
-    Memory,
-    /// The same behind a fuse that never blows.
+    /// These files in memory, added one after another.
+    Memory(&'static [File]),
+    /// The files in memory, behind a fuse that never blows.
     Fuse,
-    /// The files in memory, of which one was added again.
-    Replaced,
     /// A folder of the system, by its path.
     Folder(&'static str),
     /// The folder with the files, in a system that lists odd names.
@@ -50,11 +48,22 @@ impl Case {
     }
 }
 
+/// A file's name and its text.
+pub type File = (&'static str, &'static str);
+
 /// The files of a store in memory.
-pub static FILES: &[(&str, &str)] = &[
+pub const FILES: &[File] = &[
     ("HELLO.TXT", "hello"),
     ("Empty.txt", ""),
     ("x\u{e4}.TXT", "umlaut"),
+];
+
+/// The same, one of them added again.
+const ONE_TWICE: &[File] = &[
+    ("HELLO.TXT", "hello"),
+    ("Empty.txt", ""),
+    ("x\u{e4}.TXT", "umlaut"),
+    ("hello.txt", "bye"),
 ];
 
 /// The same in a folder of their own, beside what is no file.
@@ -91,7 +100,7 @@ static EVERY_STORE: &[Step] = &[
 static CASES: &[Case] = &[
     Case {
         name: "memory holds its files",
-        store: Kind::Memory,
+        store: Kind::Memory(FILES),
         before: &[],
         steps: None,
     },
@@ -103,7 +112,7 @@ static CASES: &[Case] = &[
     },
     Case {
         name: "added bytes replace those of the name",
-        store: Kind::Replaced,
+        store: Kind::Memory(ONE_TWICE),
         before: &[],
         steps: Some(&[
             Step::Len(b"HELLO.TXT", Ok(3)),

@@ -141,9 +141,9 @@ impl Bench {
     /// No object yet.
     pub fn new(rt: &impl Abort, alloc: Global) -> Result<Bench, AllocError> {
         assert!(rt; is_multiple(32, 0));
+        let region = Region::new(alloc, 256)?;
         let holes = SideHoles::new(alloc, 0, 256, 32)?;
         let arena = Arena::new(alloc, IDS, holes, 0, 256, 32)?;
-        let region = Region::new(alloc, 256)?;
         Ok(Bench { arena, region })
     }
 

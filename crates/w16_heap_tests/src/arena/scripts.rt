@@ -48,14 +48,17 @@ fn answers_all(rt: &impl Abort, bench: &mut Bench, lines: &[Line]) -> bool {
     true
 }
 
-/// Makes the calls of a script in a new heap, and tells whether they leave what they should.
+/// Makes the calls of a script, and tells whether they leave what they should.
+fn is_played(rt: &impl Abort, bench: &mut Bench, script: &Script) -> bool {
+    answers_all(rt, bench, script.lines)
+        && bench.has_walk(script.walk)
+        && bench.has_order(script.order)
+}
+
+/// The same in a new heap.
 fn plays(rt: &impl Abort, alloc: Global, script: &Script) -> Result<bool, AllocError> {
     let mut bench = Bench::new(rt, alloc)?;
-    Ok(
-        answers_all(rt, &mut bench, script.lines)
-            && bench.has_walk(script.walk)
-            && bench.has_order(script.order),
-    )
+    Ok(is_played(rt, &mut bench, script))
 }
 
 #[test]
