@@ -1,6 +1,4 @@
 //! Module files read whole, and relocations of a segment checked and applied.
-ghost use Rattle.std.specs.Prelude.{◌≡◌, IfOk, length};
-
 use crate::sample::{FILE, Sample, store_of};
 use crate::tell;
 use anyhow::Result;
@@ -32,6 +30,7 @@ struct Files {
 }
 
 impl Files {
+    /// Those of a sample, whose first segment isn't checked yet.
     fn new(alloc: Global, sample: Sample) -> Result<Files> {
         let mut store = store_of(alloc, sample)?;
         let scratch = Scratch::new(alloc)?;
@@ -74,6 +73,7 @@ impl Files {
         Ok(u64::from(self.bytes.first().copied().unwrap_or(0)))
     }
 
+    /// Does it once.
     fn turn(&mut self, what: Work) -> Result<u64> {
         match what {
             Work::Read => self.read(),
@@ -106,8 +106,16 @@ impl Files {
         Ok(found)
     }
 
-    /// Times checks and applications, for each of so many sites.
-    fn time_sites(&mut self, rt: &(impl Clock + Eprint), turns: u32, sites: u32) -> Result<u64> {
+    /// Times checks and applications, for each of so many sites. The first check stands apart: it takes the pages of the scratch from the
+    /// system.
+    fn time_sites(
+        &mut self,
+        rt: &(impl Clock + Eprint),
+        name: &str,
+        turns: u32,
+        sites: u32,
+    ) -> Result<u64> {
+        let _ = eprintln!(rt; "{name}:");
         let turns = (turns / sites.max(1)).max(1);
         self.time(rt, "check a site, in a new scratch", Work::Check, 1, sites)?;
         self.time(rt, "check a site", Work::Check, turns, sites)?;
@@ -120,8 +128,8 @@ impl Files {
         match sample {
             Sample::Names => self.time(rt, "read 2000 names", Work::Read, reads, 1),
             Sample::TwiceNames => self.time(rt, "read 4000 names", Work::Read, reads, 1),
-            Sample::Chains => self.time_sites(rt, turns, 15_000),
-            Sample::Singles => self.time_sites(rt, turns, 16_000),
+            Sample::Chains => self.time_sites(rt, "ten chains of 1500 sites", turns, 15_000),
+            Sample::Singles => self.time_sites(rt, "16000 records of one site", turns, 16_000),
         }
     }
 }
