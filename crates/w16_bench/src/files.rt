@@ -7,7 +7,7 @@ use std::rt::Clock;
 use std::time::Instant;
 use w16_ne::{Module, read_module};
 use w16_reloc::{Far, Scratch, apply, check};
-use w16_store::MemStore;
+use w16_store::Store;
 
 /// What is timed.
 #[derive(Clone, Copy)]
@@ -19,9 +19,9 @@ enum Work {
 
 /// A store of a sample's file, its module, and room for its first segment.
 #[derive(Drop)]
-struct Files {
+struct Files<S: Store + Drop> {
     alloc: Global,
-    store: MemStore,
+    store: S,
     scratch: Scratch,
     /// The segment's data as they were relocated, and a target for each record.
     bytes: Vec<u8>,
@@ -29,10 +29,9 @@ struct Files {
     module: Module,
 }
 
-impl Files {
-    /// Those of a sample, whose first segment isn't checked yet.
-    fn new(alloc: Global, sample: Sample) -> Result<Files> {
-        let mut store = store_of(alloc, sample)?;
+impl<S: Store + Drop> Files<S> {
+    /// Those of a store. The first segment isn't checked yet.
+    fn new(alloc: Global, mut store: S) -> Result<Files<S>> {
         let scratch = Scratch::new(alloc)?;
         let module = read_module(alloc, &mut store, FILE)?;
         Ok(Files {
@@ -140,7 +139,8 @@ fn time_sample(
     sample: Sample,
     turns: u32,
 ) -> Result<u64> {
-    let mut files = Files::new(rt.alloc(), sample)?;
+    let store = store_of(rt.alloc(), sample)?;
+    let mut files = Files::new(rt.alloc(), store)?;
     files.time_all(rt, sample, turns)
 }
 
