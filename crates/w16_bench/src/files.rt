@@ -1,6 +1,4 @@
 //! Module files read whole, and relocations of a segment checked and applied.
-ghost use Rattle.std.specs.Prelude.{◌≡◌, IfOk, length};
-
 use crate::sample::{FILE, Sample, store_of};
 use crate::tell;
 use anyhow::Result;
@@ -9,7 +7,7 @@ use std::rt::Clock;
 use std::time::Instant;
 use w16_ne::{Module, read_module};
 use w16_reloc::{Far, Scratch, apply, check};
-use w16_store::MemStore;
+use w16_store::Store;
 
 /// What is timed.
 #[derive(Clone, Copy)]
@@ -21,9 +19,9 @@ enum Work {
 
 /// A store of a sample's file, its module, and room for its first segment.
 #[derive(Drop)]
-struct Files {
+struct Files<S: Store + Drop> {
     alloc: Global,
-    store: MemStore,
+    store: S,
     scratch: Scratch,
     /// The segment's data as they were relocated, and a target for each record.
     bytes: Vec<u8>,
@@ -31,9 +29,9 @@ struct Files {
     module: Module,
 }
 
-impl Files {
-    fn new(alloc: Global, sample: Sample) -> Result<Files> {
-        let mut store = store_of(alloc, sample)?;
+impl<S: Store + Drop> Files<S> {
+    /// Those of a store. The first segment isn't checked yet.
+    fn new(alloc: Global, mut store: S) -> Result<Files<S>> {
         let scratch = Scratch::new(alloc)?;
         let module = read_module(alloc, &mut store, FILE)?;
         Ok(Files {
@@ -74,6 +72,7 @@ impl Files {
         Ok(u64::from(self.bytes.first().copied().unwrap_or(0)))
     }
 
+    /// Does it once.
     fn turn(&mut self, what: Work) -> Result<u64> {
         match what {
             Work::Read => self.read(),
@@ -106,8 +105,16 @@ impl Files {
         Ok(found)
     }
 
-    /// Times checks and applications, for each of so many sites.
-    fn time_sites(&mut self, rt: &(impl Clock + Eprint), turns: u32, sites: u32) -> Result<u64> {
+    /// Times checks and applications, for each of so many sites. The first check stands apart: it takes the pages of the scratch from the
+    /// system.
+    fn time_sites(
+        &mut self,
+        rt: &(impl Clock + Eprint),
+        name: &str,
+        turns: u32,
+        sites: u32,
+    ) -> Result<u64> {
+        let _ = eprintln!(rt; "{name}:");
         let turns = (turns / sites.max(1)).max(1);
         self.time(rt, "check a site, in a new scratch", Work::Check, 1, sites)?;
         self.time(rt, "check a site", Work::Check, turns, sites)?;
@@ -120,8 +127,8 @@ impl Files {
         match sample {
             Sample::Names => self.time(rt, "read 2000 names", Work::Read, reads, 1),
             Sample::TwiceNames => self.time(rt, "read 4000 names", Work::Read, reads, 1),
-            Sample::Chains => self.time_sites(rt, turns, 15_000),
-            Sample::Singles => self.time_sites(rt, turns, 16_000),
+            Sample::Chains => self.time_sites(rt, "ten chains of 1500 sites", turns, 15_000),
+            Sample::Singles => self.time_sites(rt, "16000 records of one site", turns, 16_000),
         }
     }
 }
@@ -132,7 +139,8 @@ fn time_sample(
     sample: Sample,
     turns: u32,
 ) -> Result<u64> {
-    let mut files = Files::new(rt.alloc(), sample)?;
+    let store = store_of(rt.alloc(), sample)?;
+    let mut files = Files::new(rt.alloc(), store)?;
     files.time_all(rt, sample, turns)
 }
 

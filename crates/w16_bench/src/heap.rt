@@ -1,5 +1,5 @@
 //! Loops over memory, and over blocks that lie in it.
-ghost use Rattle.std.specs.Prelude.{◌≡◌, ◌≤◌, ◌<◌, length, IfOk, ℕ};
+ghost use Rattle.std.specs.Prelude.{◌≡◌, ◌≤◌, length, IfOk};
 
 use crate::tell;
 use std::alloc::{AllocError, Global};
@@ -77,6 +77,8 @@ fn packed<S: Space>(
 }
 
 /// Memory, and blocks in it.
+///
+/// To a proof it has no value: what always holds of it is told here once, and by no method.
 #[derive(Drop)]
 struct Heap<S: Space> {
     space: S,

@@ -26,7 +26,7 @@ pub fn read_or<S: Store>(
     match store.read_at(name, at, buf) {
         Ok(()) => Ok(()),
         Err(StoreFault::Short) => Err(short),
-        Err(e) => Err(NeFault::Store(e)),
+        Err(fault) => Err(NeFault::Store(fault)),
     }
 }
 
