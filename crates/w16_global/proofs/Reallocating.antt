@@ -1,13 +1,13 @@
 -- What is joined, where an object got another size, for which others may have been discarded or have slid.
-use Rattle.std.proofs.Common.{◌≡◌, ◌≢◌, ℕ, ◌-◌, ◌<◌, ◌≤◌, inl, inr, Bool, true, false, cond, not, ◌&&◌, nat_le, nat_lt, if◌then◌else◌, IsSomeAnd, All, List, [], take, length, get_or, set, Option, Some, None, option_map, is_some, unwrap_or, refl, sym, ap, ◌∙◌, subst, arith}
+use Rattle.std.proofs.Common.{◌≡◌, ◌≢◌, ℕ, ◌-◌, ◌<◌, ◌≤◌, inl, inr, Bool, true, false, cond, not, ◌&&◌, nat_le, nat_lt, if◌then◌else◌, IsSomeAnd, All, List, [], take, length, get_or, set, Option, Some, None, is_some, unwrap_or, refl, sym, ap, ◌∙◌, subst}
 use Rattle.std.specs.FinMap as finmap
 use Rattle.std.proofs.lemmas.Bool.{false≢true, cases_eq, le-leb, lt-leb}
 use Rattle.std.proofs.lemmas.List.{get_or-set_same, get_or-set_other, length-set}
 use Rattle.w16_model.specs.declared.Attributes.{Attributes}
 use Rattle.w16_model.specs.declared.Way.{Way}
 use Rattle.w16_model.specs.declared.TheConstants.{FIRST_SLOT}
-use Rattle.w16_model.specs.Discards.{eligible, growth_for}
-use Rattle.w16_model.specs.Heap.{Heap, Object, IsHeap, blocks, object_at, bytes_at, is_pinned_object}
+use Rattle.w16_model.specs.Discards.{growth_for}
+use Rattle.w16_model.specs.Heap.{Heap, Object, IsHeap, object_at, bytes_at, is_pinned_object}
 use Rattle.w16_model.specs.Changes.{with_newest, with_ordered}
 use Rattle.w16_model.specs.Request.{Asked, IsNew, IsGrown, Reallocates, Settles, discarded, moved_bytes, prefix_of, snapshot_of, stays_for}
 use Rattle.w16_model.specs.Law.{KeepsOthers}

@@ -1,23 +1,21 @@
 -- What GlobalReAlloc and GlobalDiscard answer.
-use Rattle.std.proofs.Common.{◌≡◌, ◌≢◌, ℕ, ◌+◌, ◌-◌, ◌*◌, ◌/◌, ◌<◌, ◌≤◌, ◌||◌, ◌==◌, ◌&&◌, inl, inr, Bool, true, false, cond, nat_lt, MatchBool, MatchOption, List, length, Option, Some, None, Result, Ok, Err, option_map, unwrap_or, refl, sym, ap, ◌∙◌, subst, arith, eq-eqb, ne_eqb, max, min, ◌^◌}
-use Rattle.std.specs.FinMap as finmap
+use Rattle.std.proofs.Common.{◌≡◌, ℕ, ◌≤◌, ◌||◌, ◌==◌, ◌&&◌, inl, inr, Bool, true, false, cond, MatchBool, MatchOption, List, Option, Some, None, Result, Ok, Err, refl, sym, ap, ◌∙◌, subst, arith, ne_eqb}
 use Rattle.std.proofs.lemmas.Bool.{cases_eq, le-ltb}
 use Rattle.w16_model.specs.declared.Kind.{Kind}
 use Rattle.w16_model.specs.declared.Way.{Way}
 use Rattle.w16_model.specs.declared.Refusal.{Refusal}
 use Rattle.w16_model.specs.declared.Refusal.TheVariants as refusals
-use Rattle.w16_model.specs.declared.TheConstants.{LARGEST_SIZE, GMEM_MOVEABLE, GMEM_MODIFY, GMEM_ZEROINIT}
-use Rattle.w16_model.specs.Heap.{Heap, Object, object_at, bytes_at, is_fixed, is_discardable}
+use Rattle.w16_model.specs.declared.TheConstants.{LARGEST_SIZE, GMEM_MOVEABLE, GMEM_MODIFY}
+use Rattle.w16_model.specs.Heap.{Heap, Object, object_at, is_fixed, is_discardable}
 use Rattle.w16_model.specs.Changes.{absent, with_ordered, with_newest}
 use Rattle.w16_model.specs.Request.{Reallocates, moved_bytes}
-use Rattle.w16_model.specs.OneObject.{after_modify, after_discard}
+use Rattle.w16_model.specs.OneObject.{after_discard}
 use Rattle.w16_model.specs.Handles.{Handles, slot_of_handle}
-use Rattle.w16_model.specs.Calls.{has_flag, rounded_size, global_size}
+use Rattle.w16_model.specs.Calls.{has_flag, rounded_size}
 use Rattle.w16_model.specs.Resizes.{way_asked_again, kind_modified, modified, IsNull, Again, AnswersDiscard, Empties, Resizes, GlobalReAllocs, GlobalDiscards}
 use Rattle.w16_model.proofs.Absence.{discard_absent}
 use Rattle.w16_model.proofs.Growth.{one_outcome_law}
 use Rattle.w16_model.proofs.KeptHeaps.{taken_here, taken_other}
-use Rattle.w16_model.proofs.ResizedHandles.{found_some}
 use Rattle.w16_region.specs.Bytes.{counted}
 use Rattle.w16_arena.proofs.Unmoved.{none_moved, unmoved}
 use Rattle.w16_global.specs.Joined.{zeroed_behind}

@@ -1,4 +1,4 @@
-use Rattle.std.proofs.Common.{length, refl, rules}
+use Rattle.std.proofs.Common.{length, refl}
 use Rattle.w16_region.proofs.Bytes.{All-bytes}
 use Rattle.w16_global.proofs.Access.{has_part, written_joined, write_known}
 use Rattle.w16_global.proofs.Joined.{handles_shown}

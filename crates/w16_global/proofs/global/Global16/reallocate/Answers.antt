@@ -1,7 +1,7 @@
-use Rattle.std.proofs.Common.{◌≡◌, ℕ, All, is_some, true, sym, subst, arith, rules}
+use Rattle.std.proofs.Common.{◌≡◌, ℕ, All, is_some, true, sym, subst, arith}
 use Rattle.w16_selectors.specs.Descriptors.{descriptor_at}
 use Rattle.w16_global.specs.Joined.{forgotten}
-use Rattle.w16_global.proofs.Reallocating.{discarded_known, known_told, known_followed, reallocated_joined, reallocated_shown}
+use Rattle.w16_global.proofs.Reallocating.{discarded_known, known_told, known_followed, reallocated_joined}
 use Rattle.w16_global.proofs.Joined.{handles_shown}
 use Rattle.w16_global.proofs.global.Global16.reallocate.Goals as goal
 
