@@ -3,7 +3,7 @@ mod cases;
 mod odd_names;
 mod one_file;
 
-use cases::{FILES, File, Kind, NEW_FOLDER, Step, cases};
+use cases::{FILES, Kind, NEW_FOLDER, Step, cases};
 use odd_names::OddNames;
 use one_file::OneFile;
 use std::alloc::{AllocError, Global};
@@ -55,21 +55,27 @@ fn right_steps<S: Store>(rt: &HostRuntime, store: &mut S, steps: &[Step]) -> usi
     steps.len()
 }
 
-fn memory(alloc: Global, files: &[File]) -> Result<MemStore, AllocError> {
+fn memory(alloc: Global) -> Result<MemStore, AllocError> {
     let mut store = MemStore::new(alloc);
-    for (name, text) in files {
+    for (name, text) in FILES {
         store.add(name.as_bytes(), text.as_bytes())?;
     }
     Ok(store)
 }
 
-fn in_memory(rt: &HostRuntime, files: &[File], steps: &[Step]) -> Result<usize, DirFault> {
-    let mut store = memory(rt.alloc(), files)?;
+fn in_memory(rt: &HostRuntime, steps: &[Step]) -> Result<usize, DirFault> {
+    let mut store = memory(rt.alloc())?;
     Ok(right_steps(rt, &mut store, steps))
 }
 
 fn behind_a_fuse(rt: &HostRuntime, steps: &[Step]) -> Result<usize, DirFault> {
-    let mut store = FuseStore::new(memory(rt.alloc(), FILES)?, 0);
+    let mut store = FuseStore::new(memory(rt.alloc())?, 0);
+    Ok(right_steps(rt, &mut store, steps))
+}
+
+fn replaced(rt: &HostRuntime, steps: &[Step]) -> Result<usize, DirFault> {
+    let mut store = memory(rt.alloc())?;
+    store.add(b"hello.txt", b"bye")?;
     Ok(right_steps(rt, &mut store, steps))
 }
 
@@ -110,8 +116,9 @@ fn make_folder(rt: &HostRuntime, before: &[Step]) -> io::Result<()> {
 /// How many steps go right in a store, or why there is none.
 fn outcome(rt: &HostRuntime, store: Kind, steps: &[Step]) -> Result<usize, DirFault> {
     match store {
-        Kind::Memory(files) => in_memory(rt, files, steps),
+        Kind::Memory => in_memory(rt, steps),
         Kind::Fuse => behind_a_fuse(rt, steps),
+        Kind::Replaced => replaced(rt, steps),
         Kind::Folder(path) => in_folder(rt, rt, path, steps),
         Kind::OddNames => among_odd_names(rt, steps),
         Kind::OneFile(fails) => on_one_file(rt, fails, steps),
@@ -161,7 +168,7 @@ fn is_read(store: &mut FuseStore<MemStore>, number: u64) -> bool {
 
 #[test]
 fn a_fuse_blows_once(rt: HostRuntime) -> Result<(), Fail> {
-    let mut store = FuseStore::new(memory(rt.alloc(), FILES)?, 3);
+    let mut store = FuseStore::new(memory(rt.alloc())?, 3);
     for number in 1..6 {
         assert!(rt; is_read(&mut store, number), "read {number}");
     }

@@ -1,6 +1,7 @@
 //! Stores that fail, or don't tell what their files are.
 use super::answers::APPLICATION;
 use super::bench::{Bench, Checked, Lie, When};
+use std::alloc::Global;
 use std::process::Abort;
 use std::test::Fail;
 use w16_reloc::{RelocFault, Scratch};
@@ -86,11 +87,16 @@ fn check_bytes(rt: &impl Abort, bench: &mut Bench, scratch: &mut Scratch) {
     }
 }
 
+/// All lies, told of the application.
+fn check_all(rt: &impl Abort, alloc: Global, scratch: &mut Scratch) -> Result<(), Fail> {
+    let mut bench = Bench::new(alloc, APPLICATION.file, &[])?;
+    check_lies(rt, &mut bench, scratch);
+    check_bytes(rt, &mut bench, scratch);
+    Ok(())
+}
+
 #[test]
 fn lies_are_answered(rt: HostRuntime) -> Result<(), Fail> {
     let mut scratch = Scratch::new(rt.alloc())?;
-    let mut bench = Bench::new(rt.alloc(), APPLICATION.file, &[])?;
-    check_lies(&rt, &mut bench, &mut scratch);
-    check_bytes(&rt, &mut bench, &mut scratch);
-    Ok(())
+    check_all(&rt, rt.alloc(), &mut scratch)
 }

@@ -21,10 +21,12 @@ pub enum Step {
 /// Which store is asked.
 #[derive(Clone, Copy)]
 pub enum Kind {
-    /// These files in memory, added one after another.
-    Memory(&'static [File]),
-    /// The files in memory, behind a fuse that never blows.
+    /// The files in memory.
+    Memory,
+    /// The same behind a fuse that never blows.
     Fuse,
+    /// The files in memory, of which one was added again.
+    Replaced,
     /// A folder of the system, by its path.
     Folder(&'static str),
     /// The folder with the files, in a system that lists odd names.
@@ -48,22 +50,11 @@ impl Case {
     }
 }
 
-/// A file's name and its text.
-pub type File = (&'static str, &'static str);
-
 /// The files of a store in memory.
-pub const FILES: &[File] = &[
+pub static FILES: &[(&str, &str)] = &[
     ("HELLO.TXT", "hello"),
     ("Empty.txt", ""),
     ("x\u{e4}.TXT", "umlaut"),
-];
-
-/// The same, one of them added again.
-const ONE_TWICE: &[File] = &[
-    ("HELLO.TXT", "hello"),
-    ("Empty.txt", ""),
-    ("x\u{e4}.TXT", "umlaut"),
-    ("hello.txt", "bye"),
 ];
 
 /// The same in a folder of their own, beside what is no file.
@@ -100,7 +91,7 @@ static EVERY_STORE: &[Step] = &[
 static CASES: &[Case] = &[
     Case {
         name: "memory holds its files",
-        store: Kind::Memory(FILES),
+        store: Kind::Memory,
         before: &[],
         steps: None,
     },
@@ -112,7 +103,7 @@ static CASES: &[Case] = &[
     },
     Case {
         name: "added bytes replace those of the name",
-        store: Kind::Memory(ONE_TWICE),
+        store: Kind::Replaced,
         before: &[],
         steps: Some(&[
             Step::Len(b"HELLO.TXT", Ok(3)),
