@@ -18,6 +18,9 @@ const SECTOR: u16 = 4096;
 /// The bytes of a file: room for the tables, 64 KiB of data and 16,000 records.
 const LEN: usize = 0x40000;
 
+/// The bytes of each header: that of MS-DOS, and the new one behind it.
+const HEADER: u16 = 64;
+
 /// What a module has.
 #[derive(Clone, Copy)]
 struct Shape {
@@ -93,22 +96,24 @@ impl Image {
         }
     }
 
-    /// Both headers.
+    /// Both headers, each word at its place in the header; all others are zero.
     fn put_headers(&mut self, shape: Shape) {
-        let names = 64 + 8 * shape.segments;
-        let mut words = [0u16; 64];
-        words[0] = 0x5a4d;
-        words[30] = 64;
-        words[32] = 0x454e;
-        words[34] = names + 8 * (BUNDLE * shape.bundles + 1) + 1;
-        words[35] = (3 * BUNDLE + 2) * shape.bundles;
-        words[46] = shape.segments;
-        words[49] = 64;
-        words[50] = names;
-        words[51] = names;
-        words[57] = 4;
-        words[59] = 2;
-        self.put_words(&words);
+        let mut old = [0u16; HEADER as usize / 2];
+        old[0] = u16::from_le_bytes(*b"MZ");
+        old[0x3c / 2] = HEADER; // where the new header begins
+        let names = HEADER + 8 * shape.segments;
+        let mut new = [0u16; HEADER as usize / 2];
+        new[0] = u16::from_le_bytes(*b"NE");
+        new[0x04 / 2] = names + 8 * (BUNDLE * shape.bundles + 1) + 1; // where the entry table begins
+        new[0x06 / 2] = (3 * BUNDLE + 2) * shape.bundles; // the entry table's bytes
+        new[0x1c / 2] = shape.segments;
+        new[0x22 / 2] = HEADER; // where the segment table begins
+        new[0x24 / 2] = names; // where the resource table begins, which is empty
+        new[0x26 / 2] = names; // where the resident names begin
+        new[0x32 / 2] = 4; // sectors are of 2 to the power of this
+        new[0x36 / 2] = 2; // for Windows
+        self.put_words(&old);
+        self.put_words(&new);
     }
 
     /// The table of segments.

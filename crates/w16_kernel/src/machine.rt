@@ -4,7 +4,7 @@ ghost use Rattle.w16_model.specs.Handles.{handle_of};
 ghost use Rattle.w16_model.specs.Walk.{IsFirstItem};
 ghost use Rattle.w16_machine.specs.World.{IsWorldWalk};
 ghost use Rattle.w16_machine.specs.Local.{LocalWorld};
-ghost use Rattle.w16_machine.specs.LocalMachine.{Step, Event};
+ghost use Rattle.w16_machine.specs.LocalMachine.{Step};
 ghost use Rattle.w16_machine.specs.LocalRuns.{IsFewest};
 ghost use Rattle.w16_kernel.specs.Runs.{command_of, reply_of, IsCall, IsReply, TakesMemory};
 
@@ -49,10 +49,10 @@ impl Machine for Kernel {
         call: &Call<'_>,
         room: &'r mut [u8; MOST_READ],
     ) -> Result<Reply<'r>, AllocError> {
-        self.call(call, room)
+        Kernel::call(self, call, room)
     }
 
     fn walk_from(&self, from: u32) -> Option<Item> {
-        self.walk_from(from)
+        Kernel::walk_from(self, from)
     }
 }
