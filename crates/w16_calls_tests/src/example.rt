@@ -2,9 +2,10 @@
 use std::alloc::{AllocError, Global};
 use std::test::Fail;
 use w16_kernel::{Call, Kernel, MOST_READ, Reply};
+use w16_store::MemStore;
 
 /// Allocates an object of 100 bytes and locks it: its handle and its far pointer, or none where it has no room.
-fn allocate(kernel: &mut Kernel) -> Result<Option<(u16, u32)>, AllocError> {
+fn allocate(kernel: &mut Kernel<MemStore>) -> Result<Option<(u16, u32)>, AllocError> {
     let asked = Call::GlobalAlloc {
         flags: 0x42,
         size: 100,
@@ -21,8 +22,8 @@ fn allocate(kernel: &mut Kernel) -> Result<Option<(u16, u32)>, AllocError> {
 
 /// The same in a new machine.
 fn allocate_anew(alloc: Global) -> Result<Option<(u16, u32)>, AllocError> {
-    // 64 KiB of memory, for 16 objects at most.
-    let mut kernel = Kernel::new(alloc, 65_536, 16)?;
+    // 64 KiB of memory, for 16 objects at most, and no module files.
+    let mut kernel = Kernel::new(alloc, 65_536, 16, MemStore::new(alloc))?;
     allocate(&mut kernel)
 }
 

@@ -17,6 +17,7 @@ use table::{LIFE, LIFE_OUTPUT, Row, tables};
 use w16_kernel::{Answer, Call, Kernel, Reply};
 use w16_model::{GRAIN, MOST_SLOTS};
 use w16_script::{RunFault, run};
+use w16_store::MemStore;
 
 /// The bytes of a row's script.
 fn script_of(alloc: Global, row: &Row) -> Result<Vec<u8>, AllocError> {
@@ -36,7 +37,12 @@ fn run_new<R: Read, W: Write>(
     reader: &mut R,
     writer: &mut W,
 ) -> Result<Result<(u32, u32), RunFault>, AllocError> {
-    let mut kernel = Kernel::new(alloc, memory - memory % GRAIN, selectors.min(MOST_SLOTS))?;
+    let mut kernel = Kernel::new(
+        alloc,
+        memory - memory % GRAIN,
+        selectors.min(MOST_SLOTS),
+        MemStore::new(alloc),
+    )?;
     let ended = run(alloc, reader, writer, &mut kernel);
     Ok(ended.map(|counts| (counts.lines, counts.replies)))
 }
@@ -198,7 +204,7 @@ fn keep_all(answers: &[Answer], replies: &[Reply<'_>]) -> bool {
 
 /// The answers to the calls of a life on a new machine.
 fn life_answers(alloc: Global) -> Result<Vec<Answer>, AllocError> {
-    let mut kernel = Kernel::new(alloc, 4096, 16)?;
+    let mut kernel = Kernel::new(alloc, 4096, 16, MemStore::new(alloc))?;
     kernel.run_calls(&life())
 }
 

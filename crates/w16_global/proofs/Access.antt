@@ -1,24 +1,30 @@
 -- Far reads and writes of bytes that are there.
-use Rattle.std.proofs.Common.{◌≡◌, ℕ, ◌+◌, ◌<◌, ◌≤◌, IsSomeAnd, List, [], length, All, Option, None, option_map, unwrap_or, refl, sym, ap, ◌∙◌, subst, arith, length-take, length-drop}
+use Rattle.std.proofs.Common.{◌≡◌, ℕ, ◌+◌, ◌<◌, ◌≤◌, IsSomeAnd, List, [], length, All, Bool, true, false, Option, None, option_map, unwrap_or, refl, sym, ap, ◌∙◌, subst, arith, length-take, length-drop, ◌&&◌}
 use Rattle.w16_model.specs.Bytes.{part, put_part, repeated}
 use Rattle.w16_model.proofs.Parts.{length-repeated}
 use Rattle.w16_model.specs.declared.Attributes.{Attributes}
 use Rattle.w16_model.specs.Heap.{Heap, Object, object_at, bytes_at}
 use Rattle.w16_model.specs.OneObject.{after_touch}
 use Rattle.w16_model.specs.Handles.{Handles, AreHandles, Gives}
-use Rattle.w16_model.specs.Far.{far_fault, far_slot, far_bytes, far_read, far_write, after_write}
+use Rattle.w16_model.specs.Far.{far_fault, far_slot, far_bytes, far_read, data_write, far_write, after_write}
+use Rattle.w16_model.specs.Owned.{refuses_write}
 use Rattle.w16_model.specs.Far as access
 use Rattle.w16_model.proofs.KeptHeaps.{written_heap}
 use Rattle.w16_model.proofs.Accesses.{Reached, reached}
 use Rattle.w16_model.proofs.KeptHandles.{other_handles, same_updated}
 use Rattle.w16_selectors.specs.Descriptors as selectors
+use Rattle.w16_global.specs.Access.{access_fault}
 use Rattle.w16_global.specs.Parts.{Holding, HasPart}
 use Rattle.w16_global.specs.Joined.{handles_of, AreJoined}
 use Rattle.w16_global.proofs.Joined.{joined_same}
 use Rattle.w16_global.proofs.Described.{write_same}
+use Rattle.w16_global.proofs.Reach.{no_fault}
 
-module _ {h : Holding} {xs : List (Option Attributes)} {t : selectors.DescriptorTable} {m : ℕ} {w : Handles} (are : AreJoined h xs t) (shown : handles_of h xs m ≡ w) (selector offset n slot : ℕ)
-    (slot_is : slot ≡ far_slot w selector) (fine : far_fault w selector offset n ≡ None) where
+module _ {h : Holding} {xs : List (Option Attributes)} {t : selectors.DescriptorTable} {m : ℕ} {w : Handles} (are : AreJoined h xs t) (shown : handles_of h xs m ≡ w) (write : Bool) (selector offset n slot : ℕ)
+    (slot_is : slot ≡ far_slot w selector) (good : access_fault w write selector offset n ≡ None) where
+  fine : far_fault w selector offset n ≡ None
+  fine = (no_fault w write selector offset n good).0
+
   heap_is : h.heap ≡ w.heap
   heap_is = ap (λ (v : Handles). v.heap) shown
 
@@ -54,18 +60,19 @@ module _ {h : Holding} {xs : List (Option Attributes)} {t : selectors.Descriptor
         let handles : AreHandles (record (handles_of h xs 0) { heap = after }) =
         other_handles (handles_of h xs 0) are.handles after (written_heap h.heap are.handles.heap slot f.object here f.bytes f.has offset slice fits bytes) refl refl
         (same_updated h.heap.objects slot (λ (o : Object). record o { bytes = option_map (λ (b : List ℕ). put_part b offset slice) o.bytes })) in
-        subst (λ k. AreJoined k xs t) (sym said) (joined_same h xs t are (record h { heap = after; written = count }) refl handles (write_same h.heap slot offset slice f.bytes f.object here f.has fits))
+        subst (λ k. AreJoined k xs t) (sym said) (joined_same h xs t are (record h { heap = after; written = count }) refl handles (λ holds. write_same holds h.heap slot offset slice f.bytes f.object here f.has fits))
 
-    pub write_known : (after : Handles) → after ≡ record (handles_of new xs m) { heap = after_touch new.heap slot } → Gives (far_write w selector offset slice) access.FarAnswer.Done after
-    write_known after then_is =
+    pub write_known : write ≡ true → (after : Handles) → after ≡ record (handles_of new xs m) { heap = after_touch new.heap slot } → Gives (far_write w selector offset slice) access.FarAnswer.Done after
+    write_known writes after then_is =
+        let may : refuses_write w selector ≡ false = ap (λ b. b && refuses_write w selector) (sym writes) ∙ (no_fault w write selector offset n good).1 in
         let none = ap (access.far_fault w selector offset) long ∙ fine in
-        rw (none, far_write) (
+        rw (may, none, data_write) (
           refl,
           then_is ∙ ap (λ (k : Holding). record (handles_of k xs m) { heap = after_touch k.heap slot }) said
               ∙ (λ i. record (shown i) { heap = after_touch (after_write (shown i).heap (slot_is i) offset slice) (slot_is i) }),
         )
 
   -- Fill
-  pub fill_known : (byte : ℕ) {count : ℕ} (new : Holding) → new ≡ record h { heap = after_write h.heap slot offset (repeated n byte); written = count } → (after : Handles) → after ≡ record (handles_of new xs m) { heap = after_touch new.heap slot }
+  pub fill_known : (byte : ℕ) {count : ℕ} (new : Holding) → new ≡ record h { heap = after_write h.heap slot offset (repeated n byte); written = count } → write ≡ true → (after : Handles) → after ≡ record (handles_of new xs m) { heap = after_touch new.heap slot }
       → Gives (far_write w selector offset (repeated n byte)) access.FarAnswer.Done after
   fill_known byte = write_known (repeated n byte) (length-repeated n byte)

@@ -35,7 +35,7 @@ module _ {h : Holding} {xs : List (Option Attributes)} {t : selectors.Descriptor
 module _ (w : Handles) (flags slot size : ℕ) (new : Handles) (free : IsFreeSlot w slot) where
   -- an absent object
   pub answers_absent : size ≡ 0 → has_flag flags GMEM_MOVEABLE ≡ true → Enters w.heap slot (kind_asked flags) new.heap
-      → new ≡ record w { heap = new.heap; attributes = finmap.insert w.attributes slot (record { shared = has_flag flags GMEM_DDESHARE }); moved = 0 } → GlobalAllocs w flags size (handle_of (kind_asked flags) slot) new
+      → new ≡ record w { heap = new.heap; attributes = finmap.insert w.attributes slot (record { shared = has_flag flags GMEM_DDESHARE; owned = None }); moved = 0 } → GlobalAllocs w flags size (handle_of (kind_asked flags) slot) new
   answers_absent none moveable enters rest = subst (λ n. GlobalAllocs w flags n (handle_of (kind_asked flags) slot) new) (sym none) (inr (record {
     small = omega arith;
     slot = slot;
@@ -44,14 +44,14 @@ module _ (w : Handles) (flags slot size : ℕ) (new : Handles) (free : IsFreeSlo
     made = subst (λ b. MatchBool ((0 == 0) && b) (Enters w.heap slot (kind_asked flags) new.heap) (Allocates w.heap slot (rounded_size 0) (kind_asked flags) 0 (way_asked flags) true new.heap)) (sym moveable) enters;
     rest = rest ∙ (λ i. record w {
       heap = new.heap;
-      attributes = finmap.insert w.attributes slot (record { shared = has_flag flags GMEM_DDESHARE });
+      attributes = finmap.insert w.attributes slot (record { shared = has_flag flags GMEM_DDESHARE; owned = None });
       moved = sym (unmoved w.heap new.heap (ap (λ (h : Heap). h.places) enters.entered)) i;
     });
   }))
 
   -- an object with bytes
   pub answers_bytes : 0 < size → size ≤ LARGEST_SIZE → Allocates w.heap slot (rounded_size size) (kind_asked flags) 0 (way_asked flags) true new.heap
-      → new ≡ record w { heap = new.heap; attributes = finmap.insert w.attributes slot (record { shared = has_flag flags GMEM_DDESHARE }); moved = moved_bytes w.heap new.heap }
+      → new ≡ record w { heap = new.heap; attributes = finmap.insert w.attributes slot (record { shared = has_flag flags GMEM_DDESHARE; owned = None }); moved = moved_bytes w.heap new.heap }
       → GlobalAllocs w flags size (handle_of (kind_asked flags) slot) new
   answers_bytes some small allocated rest = inr (record {
     small = small;
@@ -81,7 +81,7 @@ module _ (w : Handles) (flags slot size : ℕ) (new : Handles) (free : IsFreeSlo
 abbrev AllocatesBy : Handles → ℕ → Heap → ℕ → Kind → Way → Bool → Type 0
 AllocatesBy w slot heap n kind way answered = Allocates w.heap slot n kind 0 way answered heap
 
-module _ (w : Handles) (flags slot size : ℕ) (new : Handles) (free : IsFreeSlot w slot) (kind : Kind) (kind_is : kind ≡ kind_asked flags) (a : Attributes) (a_is : a ≡ record { shared = has_flag flags GMEM_DDESHARE })
+module _ (w : Handles) (flags slot size : ℕ) (new : Handles) (free : IsFreeSlot w slot) (kind : Kind) (kind_is : kind ≡ kind_asked flags) (a : Attributes) (a_is : a ≡ record { shared = has_flag flags GMEM_DDESHARE; owned = None })
     (handle : ℕ) (handle_is : handle ≡ handle_of kind slot) where
   named : (x : ℕ) → x ≡ handle_of (kind_asked flags) slot → GlobalAllocs w flags size x new → GlobalAllocs w flags size handle new
   named x e h = subst (λ y. GlobalAllocs w flags size y new) (e ∙ ap (λ k. handle_of k slot) (sym kind_is) ∙ sym handle_is) h
@@ -113,7 +113,7 @@ module _ (w : Handles) (flags slot size : ℕ) (new : Handles) (free : IsFreeSlo
 
 -- And from the handles v, which is w with nothing moved last.
 module _ (w v : Handles) (v_is : v ≡ record w { moved = 0 }) (flags slot size : ℕ) (new : Handles) (free : IsFreeSlot v slot) (kind : Kind) (kind_is : kind ≡ kind_asked flags)
-    (a : Attributes) (a_is : a ≡ record { shared = has_flag flags GMEM_DDESHARE }) (handle : ℕ) (handle_is : handle ≡ handle_of kind slot) where
+    (a : Attributes) (a_is : a ≡ record { shared = has_flag flags GMEM_DDESHARE; owned = None }) (handle : ℕ) (handle_is : handle ≡ handle_of kind slot) where
   free_in : IsFreeSlot w slot
   free_in = subst (λ x. IsFreeSlot x slot) v_is free
 

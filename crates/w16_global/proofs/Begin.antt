@@ -12,7 +12,7 @@ use Rattle.w16_model.specs.Handles.{AreHandles, empty_handles}
 use Rattle.w16_model.proofs.Empty.{empty_law}
 use Rattle.w16_selectors.specs.Descriptors as selectors
 use Rattle.w16_global.specs.Parts.{Holding}
-use Rattle.w16_global.specs.Joined.{attributes_in, handles_of, descriptor_for, AreJoined}
+use Rattle.w16_global.specs.Joined.{attributes_in, handles_of, descriptor_for, kind_in, HasSize, AreJoined}
 use Rattle.w16_global.proofs.Joined.{attributes_at}
 
 -- a list of nothing has nothing at each place
@@ -40,7 +40,8 @@ module _ (memory slots : ℕ) (few : slots ≤ MOST_SLOTS) where
   joined : AreJoined holding attributes table
   joined = record {
     handles = subst AreHandles (sym handles_are) (empty_law memory slots few);
-    described = λ q. none_at (FIRST_SLOT + slots) q ∙ sym (ap (option_map (descriptor_for (empty_heap 0 memory GRAIN) q)) (get-empty nat_cmp q));
+    described = λ q. none_at (FIRST_SLOT + slots) q ∙ sym (ap (option_map (descriptor_for (empty_heap 0 memory GRAIN) (kind_in attributes q) q)) (get-empty nat_cmp q));
+    sized = λ q. subst HasSize (sym (none_at (FIRST_SLOT + slots) q)) tt;
     attributes_many = length-replicate (FIRST_SLOT + slots) None;
     selectors_many = length-replicate (FIRST_SLOT + slots) None;
     some = omega arith;

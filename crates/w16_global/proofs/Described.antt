@@ -1,13 +1,13 @@
 -- What each step of the heap leaves of what selectors say.
-use Rattle.std.proofs.Common.{◌≡◌, ◌≢◌, ℕ, ◌+◌, ◌-◌, ◌≤◌, ◌==◌, inl, inr, Bool, true, false, IsSomeAnd, if◌then◌else◌, not, nat_lt, List, length, Option, Some, None, Result, Ok, Err, option_map, is_some, unwrap_or, refl, sym, ap, ◌∙◌, subst}
+use Rattle.std.proofs.Common.{◌≡◌, ◌≢◌, ℕ, ◌+◌, ◌-◌, ◌≤◌, ◌==◌, inl, inr, Bool, true, false, IsSomeAnd, if◌then◌else◌, not, List, length, Option, Some, None, Result, Ok, Err, option_map, is_some, unwrap_or, refl, sym, ap, ◌∙◌, subst}
 use Rattle.std.specs.FinMap as finmap
-use Rattle.std.proofs.lemmas.Bool.{cases_eq, false≢true}
+use Rattle.std.proofs.lemmas.Bool.{cases_eq}
 use Rattle.w16_model.specs.declared.Kind.{Kind}
 use Rattle.w16_model.specs.declared.Refusal.{Refusal}
 use Rattle.w16_model.specs.declared.Refusal.TheVariants as refusals
 use Rattle.w16_model.specs.Heap.{Heap, Object, object_at, bytes_at, is_fixed}
 use Rattle.w16_model.specs.Changes.{with_object, with_ordered, removed, touched}
-use Rattle.w16_model.specs.OneObject.{after_lock, after_unlock, after_free}
+use Rattle.w16_model.specs.OneObject.{after_lock, after_unlock}
 use Rattle.w16_model.specs.Bytes.{put_part}
 use Rattle.w16_model.specs.Far.{after_write}
 use Rattle.w16_model.proofs.Parts.{length-put_part}
@@ -15,17 +15,17 @@ use Rattle.w16_model.proofs.KeptHeaps.{inserted_here, inserted_other, taken_here
 use Rattle.w16_model.proofs.Heaps.{get-update_same, get-update_other}
 use Rattle.w16_selectors.specs.Descriptors.{unset}
 use Rattle.w16_selectors.specs.declared.Descriptor.{Descriptor}
-use Rattle.w16_selectors.specs.declared.SelKind.TheVariants.{Data}
+use Rattle.w16_selectors.specs.declared.SelKind.{SelKind}
 use Rattle.w16_global.specs.Joined.{descriptor_for, described}
 
-module _ (heap : Heap) (slot : ℕ) where
+module _ (holds : SelKind) (heap : Heap) (slot : ℕ) where
   -- an object in place of one with as many bytes leaves what selectors say
-  pub with_same : (before o : Object) (order : List ℕ) → object_at heap slot ≡ Some before → descriptor_for heap slot o ≡ descriptor_for heap slot before
-      → (q : ℕ) → described (record heap { objects = finmap.insert heap.objects slot o; order = order }) q ≡ described heap q
+  pub with_same : (before o : Object) (order : List ℕ) → object_at heap slot ≡ Some before → descriptor_for heap holds slot o ≡ descriptor_for heap holds slot before
+      → (q : ℕ) → described (record heap { objects = finmap.insert heap.objects slot o; order = order }) holds q ≡ described heap holds q
   with_same before o order there same q = elim (cases_eq q slot) [
-    | inl e ↦ ap (option_map (descriptor_for heap q)) (inserted_here heap.objects slot o q e) ∙ ap (λ k. Some (descriptor_for heap k o)) e ∙ ap Some same
-        ∙ sym (ap (λ k. option_map (descriptor_for heap k) (object_at heap k)) e ∙ ap (option_map (descriptor_for heap slot)) there)
-    | inr n ↦ ap (option_map (descriptor_for heap q)) (inserted_other heap.objects slot o q n)
+    | inl e ↦ ap (option_map (descriptor_for heap holds q)) (inserted_here heap.objects slot o q e) ∙ ap (λ k. Some (descriptor_for heap holds k o)) e ∙ ap Some same
+        ∙ sym (ap (λ k. option_map (descriptor_for heap holds k) (object_at heap k)) e ∙ ap (option_map (descriptor_for heap holds slot)) there)
+    | inr n ↦ ap (option_map (descriptor_for heap holds q)) (inserted_other heap.objects slot o q n)
   ]
 
   -- GlobalLock, by its tests
@@ -38,18 +38,18 @@ module _ (heap : Heap) (slot : ℕ) where
   abbrev lock_of : Option Object → Result Heap Refusal
   lock_of p = elim p [ None ↦ Err refusals.Absent | Some o ↦ lock_by o (not (is_some o.bytes)) (is_fixed o.kind) (o.locks == 255) ]
 
-  pub lock_same : (new : Heap) → after_lock heap slot ≡ Ok new → (q : ℕ) → described new q ≡ described heap q
+  pub lock_same : (new : Heap) → after_lock heap slot ≡ Ok new → (q : ℕ) → described new holds q ≡ described heap holds q
   lock_same new done q = turn (object_at heap slot) refl done
     where
-      tests : (o : Object) → object_at heap slot ≡ Some o → (a b c : Bool) → lock_by o a b c ≡ Ok new → described new q ≡ described heap q
+      tests : (o : Object) → object_at heap slot ≡ Some o → (a b c : Bool) → lock_by o a b c ≡ Ok new → described new holds q ≡ described heap holds q
       tests o e true b c g = cc
       tests o e false true c g = cc
       tests o e false false true g = cc
       tests o e false false false g =
           let is : with_ordered heap slot (record o { locks = o.locks + 1 }) (touched slot) ≡ new = cc in
-          subst (λ (h : Heap). described h q ≡ described heap q) is (with_same o (record o { locks = o.locks + 1 }) (touched slot heap.order) e refl q)
+          subst (λ (h : Heap). described h holds q ≡ described heap holds q) is (with_same o (record o { locks = o.locks + 1 }) (touched slot heap.order) e refl q)
 
-      turn : (p : Option Object) → object_at heap slot ≡ p → lock_of p ≡ Ok new → described new q ≡ described heap q
+      turn : (p : Option Object) → object_at heap slot ≡ p → lock_of p ≡ Ok new → described new holds q ≡ described heap holds q
       turn None e h = cc
       turn (Some o) e h = tests o e (not (is_some o.bytes)) (is_fixed o.kind) (o.locks == 255) h
 
@@ -60,100 +60,82 @@ module _ (heap : Heap) (slot : ℕ) where
   abbrev unlock_of : Option Object → Result Heap Refusal
   unlock_of p = elim p [ None ↦ Ok heap | Some o ↦ unlock_by o (is_fixed o.kind) ]
 
-  pub unlock_same : (new : Heap) → after_unlock heap slot ≡ Ok new → (q : ℕ) → described new q ≡ described heap q
+  pub unlock_same : (new : Heap) → after_unlock heap slot ≡ Ok new → (q : ℕ) → described new holds q ≡ described heap holds q
   unlock_same new done q = turn (object_at heap slot) refl done
     where
-      test : (o : Object) → object_at heap slot ≡ Some o → (a : Bool) → unlock_by o a ≡ Ok new → described new q ≡ described heap q
+      test : (o : Object) → object_at heap slot ≡ Some o → (a : Bool) → unlock_by o a ≡ Ok new → described new holds q ≡ described heap holds q
       test o e true g = cc
       test o e false g =
           let is : with_object heap slot (record o { locks = o.locks - 1 }) ≡ new = cc in
-          subst (λ (h : Heap). described h q ≡ described heap q) is (with_same o (record o { locks = o.locks - 1 }) heap.order e refl q)
+          subst (λ (h : Heap). described h holds q ≡ described heap holds q) is (with_same o (record o { locks = o.locks - 1 }) heap.order e refl q)
 
-      turn : (p : Option Object) → object_at heap slot ≡ p → unlock_of p ≡ Ok new → described new q ≡ described heap q
-      turn None e h = let is : heap ≡ new = cc in ap (λ (k : Heap). described k q) (sym is)
+      turn : (p : Option Object) → object_at heap slot ≡ p → unlock_of p ≡ Ok new → described new holds q ≡ described heap holds q
+      turn None e h = let is : heap ≡ new = cc in ap (λ (k : Heap). described k holds q) (sym is)
       turn (Some o) e h = test o e (is_fixed o.kind) h
 
-  -- GlobalFree of an object
-  abbrev free_by : Bool → Result Heap Refusal
-  free_by a = if a then Err refusals.Locked else Ok (removed heap slot)
+  -- what is left without an object says nothing of it, and of others the same
+  pub removed_here : described (removed heap slot) holds slot ≡ None
+  removed_here = ap (option_map (descriptor_for (removed heap slot) holds slot)) (taken_here heap.objects slot slot refl)
 
-  abbrev free_of : Option Object → Result Heap Refusal
-  free_of p = elim p [ None ↦ Ok heap | Some o ↦ free_by (nat_lt 0 o.locks) ]
-
-  pub free_is : (new : Heap) → is_some (object_at heap slot) ≡ true → after_free heap slot ≡ Ok new → removed heap slot ≡ new
-  free_is new there done = turn (object_at heap slot) there done
+  pub removed_other : (q : ℕ) → q ≢ slot → described (removed heap slot) holds q ≡ described heap holds q
+  removed_other q n = ap (option_map (descriptor_for (removed heap slot) holds q)) (taken_other heap.objects slot q n) ∙ mapped (object_at heap q)
     where
-      test : (a : Bool) → free_by a ≡ Ok new → removed heap slot ≡ new
-      test true g = cc
-      test false g = cc
-
-      turn : (p : Option Object) → is_some p ≡ true → free_of p ≡ Ok new → removed heap slot ≡ new
-      turn None e h = absurd (false≢true e)
-      turn (Some o) e h = test (nat_lt 0 o.locks) h
-
-  -- what is left says nothing of it, and of others the same
-  pub removed_here : described (removed heap slot) slot ≡ None
-  removed_here = ap (option_map (descriptor_for (removed heap slot) slot)) (taken_here heap.objects slot slot refl)
-
-  pub removed_other : (q : ℕ) → q ≢ slot → described (removed heap slot) q ≡ described heap q
-  removed_other q n = ap (option_map (descriptor_for (removed heap slot) q)) (taken_other heap.objects slot q n) ∙ mapped (object_at heap q)
-    where
-      based : (b : Option (List ℕ)) → ◌≡◌ {A = Option Descriptor} (Some (elim b as (λ _. Descriptor) [ None ↦ unset | Some bytes ↦ record { base = unwrap_or (finmap.get (finmap.remove heap.places slot) q) 0; limit = length bytes - 1; present = true; kind = Data } ]))
-          (Some (elim b as (λ _. Descriptor) [ None ↦ unset | Some bytes ↦ record { base = unwrap_or (finmap.get heap.places q) 0; limit = length bytes - 1; present = true; kind = Data } ]))
+      based : (b : Option (List ℕ)) → ◌≡◌ {A = Option Descriptor} (Some (elim b as (λ _. Descriptor) [ None ↦ unset holds | Some bytes ↦ record { base = unwrap_or (finmap.get (finmap.remove heap.places slot) q) 0; limit = length bytes - 1; present = true; kind = holds } ]))
+          (Some (elim b as (λ _. Descriptor) [ None ↦ unset holds | Some bytes ↦ record { base = unwrap_or (finmap.get heap.places q) 0; limit = length bytes - 1; present = true; kind = holds } ]))
       based None = refl
-      based (Some bytes) = ap (λ (a : Option ℕ). let d : Descriptor = record { base = unwrap_or a 0; limit = length bytes - 1; present = true; kind = Data } in Some d) (taken_other heap.places slot q n)
+      based (Some bytes) = ap (λ (a : Option ℕ). let d : Descriptor = record { base = unwrap_or a 0; limit = length bytes - 1; present = true; kind = holds } in Some d) (taken_other heap.places slot q n)
 
-      mapped : (p : Option Object) → option_map (descriptor_for (removed heap slot) q) p ≡ option_map (descriptor_for heap q) p
+      mapped : (p : Option Object) → option_map (descriptor_for (removed heap slot) holds q) p ≡ option_map (descriptor_for heap holds q) p
       mapped None = refl
       mapped (Some o) = based o.bytes
 
   -- an absent object
-  pub entered_here : (kind : Kind) → described (with_object heap slot (record { kind = kind; locks = 0; bytes = None })) slot ≡ Some unset
-  entered_here kind = ap (option_map (descriptor_for (with_object heap slot (record { kind = kind; locks = 0; bytes = None })) slot)) (inserted_here heap.objects slot (record { kind = kind; locks = 0; bytes = None }) slot refl)
+  pub entered_here : (kind : Kind) → described (with_object heap slot (record { kind = kind; locks = 0; bytes = None })) holds slot ≡ Some (unset holds)
+  entered_here kind = ap (option_map (descriptor_for (with_object heap slot (record { kind = kind; locks = 0; bytes = None })) holds slot)) (inserted_here heap.objects slot (record { kind = kind; locks = 0; bytes = None }) slot refl)
 
-  pub entered_other : (kind : Kind) (q : ℕ) → q ≢ slot → described (with_object heap slot (record { kind = kind; locks = 0; bytes = None })) q ≡ described heap q
-  entered_other kind q n = ap (option_map (descriptor_for heap q)) (inserted_other heap.objects slot (record { kind = kind; locks = 0; bytes = None }) q n)
+  pub entered_other : (kind : Kind) (q : ℕ) → q ≢ slot → described (with_object heap slot (record { kind = kind; locks = 0; bytes = None })) holds q ≡ described heap holds q
+  entered_other kind q n = ap (option_map (descriptor_for heap holds q)) (inserted_other heap.objects slot (record { kind = kind; locks = 0; bytes = None }) q n)
 
   -- bytes written over others
-  pub write_same : (at : ℕ) (slice bytes : List ℕ) (o : Object) → object_at heap slot ≡ Some o → o.bytes ≡ Some bytes → at + length slice ≤ length bytes → (q : ℕ) → described (after_write heap slot at slice) q ≡ described heap q
+  pub write_same : (at : ℕ) (slice bytes : List ℕ) (o : Object) → object_at heap slot ≡ Some o → o.bytes ≡ Some bytes → at + length slice ≤ length bytes → (q : ℕ) → described (after_write heap slot at slice) holds q ≡ described heap holds q
   write_same at slice bytes o there has inside q =
       let written : Object = record o { bytes = option_map (λ (b : List ℕ). put_part b at slice) o.bytes } in
       let long : length (put_part bytes at slice) ≡ length bytes = length-put_part bytes at slice inside in
-      let same : descriptor_for heap slot written ≡ descriptor_for heap slot o =
-      ap (λ (b : Option (List ℕ)). descriptor_for heap slot (record o { bytes = option_map (λ (b : List ℕ). put_part b at slice) b })) has
-      ∙ (λ i. record { base = unwrap_or (finmap.get heap.places slot) 0; limit = long i - 1; present = true; kind = Data })
-      ∙ sym (ap (λ (b : Option (List ℕ)). descriptor_for heap slot (record o { bytes = b })) has) in
+      let same : descriptor_for heap holds slot written ≡ descriptor_for heap holds slot o =
+      ap (λ (b : Option (List ℕ)). descriptor_for heap holds slot (record o { bytes = option_map (λ (b : List ℕ). put_part b at slice) b })) has
+      ∙ (λ i. record { base = unwrap_or (finmap.get heap.places slot) 0; limit = long i - 1; present = true; kind = holds })
+      ∙ sym (ap (λ (b : Option (List ℕ)). descriptor_for heap holds slot (record o { bytes = b })) has) in
       elim (cases_eq q slot) [
-        | inl e ↦ ap (option_map (descriptor_for heap q)) (ap (λ k. object_at (after_write heap slot at slice) k) e ∙ get-update_same heap.objects slot (λ (o : Object). record o { bytes = option_map (λ (b : List ℕ). put_part b at slice) o.bytes })
+        | inl e ↦ ap (option_map (descriptor_for heap holds q)) (ap (λ k. object_at (after_write heap slot at slice) k) e ∙ get-update_same heap.objects slot (λ (o : Object). record o { bytes = option_map (λ (b : List ℕ). put_part b at slice) o.bytes })
             ∙ ap (option_map (λ (o : Object). record o { bytes = option_map (λ (b : List ℕ). put_part b at slice) o.bytes })) there)
-            ∙ ap (λ k. Some (descriptor_for heap k written)) e ∙ ap Some same
-            ∙ sym (ap (λ k. option_map (descriptor_for heap k) (object_at heap k)) e ∙ ap (option_map (descriptor_for heap slot)) there)
-        | inr n ↦ ap (option_map (descriptor_for heap q)) (get-update_other heap.objects slot (λ (o : Object). record o { bytes = option_map (λ (b : List ℕ). put_part b at slice) o.bytes }) q n)
+            ∙ ap (λ k. Some (descriptor_for heap holds k written)) e ∙ ap Some same
+            ∙ sym (ap (λ k. option_map (descriptor_for heap holds k) (object_at heap k)) e ∙ ap (option_map (descriptor_for heap holds slot)) there)
+        | inr n ↦ ap (option_map (descriptor_for heap holds q)) (get-update_other heap.objects slot (λ (o : Object). record o { bytes = option_map (λ (b : List ℕ). put_part b at slice) o.bytes }) q n)
       ]
 
   -- a new object with bytes at an address
   pub made_here : (size at : ℕ) → (b : Option (List ℕ)) → bytes_at heap slot ≡ b → IsSomeAnd b (λ bytes. length bytes ≡ size) → finmap.get heap.places slot ≡ Some at
-      → described heap slot ≡ Some (record { base = at; limit = size - 1; present = true; kind = Data })
+      → described heap holds slot ≡ Some (record { base = at; limit = size - 1; present = true; kind = holds })
   made_here size at b has sized placed = of_object (object_at heap slot) refl (subst (λ b. IsSomeAnd b (λ bytes. length bytes ≡ size)) (sym has) sized)
     where
-      of_bytes : (o : Object) → object_at heap slot ≡ Some o → (c : Option (List ℕ)) → o.bytes ≡ c → IsSomeAnd c (λ bytes. length bytes ≡ size) → described heap slot ≡ Some (record { base = at; limit = size - 1; present = true; kind = Data })
+      of_bytes : (o : Object) → object_at heap slot ≡ Some o → (c : Option (List ℕ)) → o.bytes ≡ c → IsSomeAnd c (λ bytes. length bytes ≡ size) → described heap holds slot ≡ Some (record { base = at; limit = size - 1; present = true; kind = holds })
       of_bytes o there None e h = absurd h
-      of_bytes o there (Some bytes) e h = ap (option_map (descriptor_for heap slot)) there ∙ ap (λ (c : Option (List ℕ)). Some (descriptor_for heap slot (record o { bytes = c }))) e
-          ∙ (λ i. Some (record { base = unwrap_or (placed i) 0; limit = h i - 1; present = true; kind = Data }))
+      of_bytes o there (Some bytes) e h = ap (option_map (descriptor_for heap holds slot)) there ∙ ap (λ (c : Option (List ℕ)). Some (descriptor_for heap holds slot (record o { bytes = c }))) e
+          ∙ (λ i. Some (record { base = unwrap_or (placed i) 0; limit = h i - 1; present = true; kind = holds }))
 
-      of_object : (p : Option Object) → object_at heap slot ≡ p → IsSomeAnd (elim p as (λ _. Option (List ℕ)) [ Some o ↦ o.bytes | None ↦ None ]) (λ bytes. length bytes ≡ size) → described heap slot ≡ Some (record { base = at; limit = size - 1; present = true; kind = Data })
+      of_object : (p : Option Object) → object_at heap slot ≡ p → IsSomeAnd (elim p as (λ _. Option (List ℕ)) [ Some o ↦ o.bytes | None ↦ None ]) (λ bytes. length bytes ≡ size) → described heap holds slot ≡ Some (record { base = at; limit = size - 1; present = true; kind = holds })
       of_object None there h = absurd h
       of_object (Some o) there h = of_bytes o there o.bytes refl h
 
 -- another heap with the same object and address at a slot
-pub same_described : (heap new : Heap) (q : ℕ) → object_at new q ≡ object_at heap q → finmap.get new.places q ≡ finmap.get heap.places q → described new q ≡ described heap q
-same_described heap new q object place = ap (option_map (descriptor_for new q)) object ∙ mapped (object_at heap q)
+pub same_described : (holds : SelKind) (heap new : Heap) (q : ℕ) → object_at new q ≡ object_at heap q → finmap.get new.places q ≡ finmap.get heap.places q → described new holds q ≡ described heap holds q
+same_described holds heap new q object place = ap (option_map (descriptor_for new holds q)) object ∙ mapped (object_at heap q)
   where
-    based : (b : Option (List ℕ)) → ◌≡◌ {A = Option Descriptor} (Some (elim b as (λ _. Descriptor) [ None ↦ unset | Some bytes ↦ record { base = unwrap_or (finmap.get new.places q) 0; limit = length bytes - 1; present = true; kind = Data } ]))
-        (Some (elim b as (λ _. Descriptor) [ None ↦ unset | Some bytes ↦ record { base = unwrap_or (finmap.get heap.places q) 0; limit = length bytes - 1; present = true; kind = Data } ]))
+    based : (b : Option (List ℕ)) → ◌≡◌ {A = Option Descriptor} (Some (elim b as (λ _. Descriptor) [ None ↦ unset holds | Some bytes ↦ record { base = unwrap_or (finmap.get new.places q) 0; limit = length bytes - 1; present = true; kind = holds } ]))
+        (Some (elim b as (λ _. Descriptor) [ None ↦ unset holds | Some bytes ↦ record { base = unwrap_or (finmap.get heap.places q) 0; limit = length bytes - 1; present = true; kind = holds } ]))
     based None = refl
-    based (Some bytes) = ap (λ (a : Option ℕ). let d : Descriptor = record { base = unwrap_or a 0; limit = length bytes - 1; present = true; kind = Data } in Some d) place
+    based (Some bytes) = ap (λ (a : Option ℕ). let d : Descriptor = record { base = unwrap_or a 0; limit = length bytes - 1; present = true; kind = holds } in Some d) place
 
-    mapped : (p : Option Object) → option_map (descriptor_for new q) p ≡ option_map (descriptor_for heap q) p
+    mapped : (p : Option Object) → option_map (descriptor_for new holds q) p ≡ option_map (descriptor_for heap holds q) p
     mapped None = refl
     mapped (Some o) = based o.bytes

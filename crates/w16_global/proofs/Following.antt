@@ -10,18 +10,19 @@ use Rattle.w16_model.specs.Heap.{Heap, Object, IsHeap, object_at, bytes_at, hold
 use Rattle.w16_model.proofs.Heaps.{IsBlockOf}
 use Rattle.w16_model.proofs.Places.{two_placed}
 use Rattle.w16_selectors.specs.Descriptors as selectors
-use Rattle.w16_selectors.specs.Descriptors.{descriptor_at}
+use Rattle.w16_selectors.specs.Descriptors.{descriptor_at, kind_at, kind_of}
 use Rattle.w16_selectors.specs.declared.Descriptor.{Descriptor}
-use Rattle.w16_selectors.specs.declared.SelKind.TheVariants.{Data}
+use Rattle.w16_selectors.specs.declared.SelKind.{SelKind}
 use Rattle.w16_global.specs.Joined.{described, followed}
 use Rattle.w16_global.proofs.Described.{made_here}
+use Rattle.w16_global.proofs.Joined.{followed_kind}
 use Rattle.w16_global.proofs.Reach.{stands}
 
 -- what `followed` is by an address, if there is one
 abbrev followed_by : Heap → ℕ → ℕ → selectors.DescriptorTable → ℕ → Option ℕ → Option Descriptor
 followed_by heap from to table slot p = elim p [
   | None ↦ descriptor_at table slot
-  | Some at ↦ if nat_le from at && nat_lt at to then described heap slot else descriptor_at table slot
+  | Some at ↦ if nat_le from at && nat_lt at to then described heap (kind_at table slot) slot else descriptor_at table slot
 ]
 
 -- An object with bytes, where the look-ups found it.
@@ -72,27 +73,31 @@ module _ (heap : Heap) (is : IsHeap heap) (old : selectors.DescriptorTable) (beg
   f : Found heap block.id block.at block.size
   f = found_at heap block.id block.at block.size sized placed
 
-  d : Descriptor
-  d = record { base = block.at; limit = block.size - 1; present = true; kind = Data }
+  -- what a selector of the block says that has followed
+  abbrev whole : SelKind → Descriptor
+  whole holds = record { base = block.at; limit = block.size - 1; present = true; kind = holds }
 
-  says : described heap block.id ≡ Some (record { base = block.at; limit = block.size - 1; present = true; kind = Data })
-  says = made_here heap block.id block.size block.at (Some f.bytes) (ap (λ (p : Option Object). elim p as (λ _. Option (List ℕ)) [ Some o ↦ o.bytes | None ↦ None ]) f.there ∙ f.has) f.long placed
+  says : (holds : SelKind) → described heap holds block.id ≡ Some (whole holds)
+  says holds = made_here holds heap block.id block.size block.at (Some f.bytes) (ap (λ (p : Option Object). elim p as (λ _. Option (List ℕ)) [ Some o ↦ o.bytes | None ↦ None ]) f.there ∙ f.has) f.long placed
+
+  same_kind : kind_at now block.id ≡ kind_at old block.id
+  same_kind = ap kind_of (so_far block.id) ∙ followed_kind heap begin from old block.id (ap is_some f.there)
 
   -- the block's own selector is a taken one
   pub taken : ((slot : ℕ) → is_some (object_at heap slot) ≡ true → is_some (descriptor_at old slot) ≡ true) → is_some (descriptor_at now block.id) ≡ true
   taken known = ap is_some (so_far block.id) ∙ ap (λ p. is_some (followed_by heap begin from old block.id p)) placed ∙ either (nat_le begin block.at && nat_lt block.at from)
     where
-      either : (b : Bool) → is_some (if b then described heap block.id else descriptor_at old block.id) ≡ true
-      either true = ap is_some says
+      either : (b : Bool) → is_some (if b then described heap (kind_at old block.id) block.id else descriptor_at old block.id) ≡ true
+      either true = ap is_some (says (kind_at old block.id))
       either false = known block.id (ap is_some f.there)
 
   -- one block further, up to a place in the block or where it ends
-  pub further : (next : ℕ) → block.at < next → next ≤ block_end block → block.id < length now → (slot : ℕ) → descriptor_at (set now block.id (Some (record { base = block.at; limit = block.size - 1; present = true; kind = Data }))) slot ≡ followed heap begin next old slot
+  pub further : (next : ℕ) → block.at < next → next ≤ block_end block → block.id < length now → (slot : ℕ) → descriptor_at (set now block.id (Some (whole (kind_at now block.id)))) slot ≡ followed heap begin next old slot
   further next past within_block within slot = elim (cases_eq slot block.id) [
-    | inl e ↦ ap (λ k. descriptor_at (set now block.id (Some (record { base = block.at; limit = block.size - 1; present = true; kind = Data }))) k) e
-        ∙ get_or-set_same now block.id (Some (record { base = block.at; limit = block.size - 1; present = true; kind = Data })) None within ∙ sym says
-        ∙ sym (ap (λ k. followed heap begin next old k) e ∙ ap (followed_by heap begin next old block.id) placed ∙ ap (λ b. if b then described heap block.id else descriptor_at old block.id) inside)
-    | inr n ↦ get_or-set_other now block.id slot (Some (record { base = block.at; limit = block.size - 1; present = true; kind = Data })) None n ∙ so_far slot ∙ other n (finmap.get heap.places slot) refl (lowest slot)
+    | inl e ↦ ap (λ k. descriptor_at (set now block.id (Some (whole (kind_at now block.id)))) k) e
+        ∙ get_or-set_same now block.id (Some (whole (kind_at now block.id))) None within ∙ ap (λ k. Some (whole k)) same_kind ∙ sym (says (kind_at old block.id))
+        ∙ sym (ap (λ k. followed heap begin next old k) e ∙ ap (followed_by heap begin next old block.id) placed ∙ ap (λ b. if b then described heap (kind_at old block.id) block.id else descriptor_at old block.id) inside)
+    | inr n ↦ get_or-set_other now block.id slot (Some (whole (kind_at now block.id))) None n ∙ so_far slot ∙ other n (finmap.get heap.places slot) refl (lowest slot)
   ]
     where
       inside : (nat_le begin block.at && nat_lt block.at next) ≡ true
@@ -119,15 +124,10 @@ module _ (heap : Heap) (is : IsHeap heap) (old : selectors.DescriptorTable) (beg
       other : slot ≢ block.id → (p : Option ℕ) → finmap.get heap.places slot ≡ p → IfSome p (λ at. (at < from) ⊎ (block.at ≤ at)) → followed heap begin from old slot ≡ followed heap begin next old slot
       other n None there low = ap (followed_by heap begin from old slot) there ∙ sym (ap (followed_by heap begin next old slot) there)
       other n (Some at) there low =
-          ap (followed_by heap begin from old slot) there ∙ ap (λ b. if b then described heap slot else descriptor_at old slot) (same_test at (strictly at n there low)) ∙ sym (ap (followed_by heap begin next old slot) there)
+          ap (followed_by heap begin from old slot) there ∙ ap (λ b. if b then described heap (kind_at old slot) slot else descriptor_at old slot) (same_test at (strictly at n there low)) ∙ sym (ap (followed_by heap begin next old slot) there)
 
 -- a slot that is taken is in the table
 pub in_table : (t : selectors.DescriptorTable) (slot : ℕ) → is_some (descriptor_at t slot) ≡ true → slot < length t
 in_table [] slot e = absurd (false≢true e)
 in_table (d ∷ t) zero e = omega arith
 in_table (d ∷ t) (suc slot) e = let rest : slot < length t = in_table t slot e in omega arith
-
--- a table that was set
-pub set_is : (after table : selectors.DescriptorTable) (block : Block) (d : Descriptor) → after ≡ set table block.id (Some d) → d ≡ record { base = block.at; limit = block.size - 1; present = true; kind = Data }
-    → (slot : ℕ) → descriptor_at after slot ≡ descriptor_at (set table block.id (Some (record { base = block.at; limit = block.size - 1; present = true; kind = Data }))) slot
-set_is after table block d is says slot = ap (λ (t : selectors.DescriptorTable). descriptor_at t slot) is ∙ (λ i. descriptor_at (set table block.id (Some (says i))) slot)

@@ -1,5 +1,5 @@
 -- The objects, their attributes and their selectors, where one slot or none has changed.
-use Rattle.std.proofs.Common.{◌≡◌, ◌≢◌, ℕ, ◌<◌, ◌≤◌, inl, inr, true, false, IfSome, List, length, get_or, set, Option, Some, None, option_map, is_some, refl, sym, ap, ◌∙◌, subst, arith}
+use Rattle.std.proofs.Common.{◌≡◌, ◌≢◌, ℕ, ◌-◌, ◌<◌, ◌≤◌, inl, inr, Bool, true, false, ◌&&◌, nat_le, nat_lt, if◌then◌else◌, IfSome, List, length, get_or, set, Option, Some, None, option_map, unwrap_or, is_some, refl, sym, ap, ◌∙◌, subst, arith}
 use Rattle.std.specs.Cmp.{nat_cmp_total}
 use Rattle.std.specs.FinMap as finmap
 use Rattle.std.specs.FinMap.{same_map, nat_cmp-IsAntisymmetric}
@@ -7,15 +7,17 @@ use Rattle.std.proofs.lemmas.Bool.{false≢true, cases_eq}
 use Rattle.std.proofs.lemmas.List.{get_or-set_same, get_or-set_other, length-set}
 use Rattle.w16_model.specs.declared.Attributes.{Attributes}
 use Rattle.w16_model.specs.declared.TheConstants.{FIRST_SLOT}
+use Rattle.w16_model.specs.Discards.{is_member}
 use Rattle.w16_model.specs.Heap.{Heap, Object, object_at}
 use Rattle.w16_model.specs.Handles.{AreHandles, IsSlot, IsFreeSlot}
 use Rattle.w16_model.proofs.Tables.{get-by_id}
 use Rattle.w16_model.proofs.KeptHeaps.{inserted_here, inserted_other, taken_here, taken_other}
 use Rattle.w16_selectors.specs.Descriptors as selectors
-use Rattle.w16_selectors.specs.Descriptors.{descriptor_at, IsUntaken}
+use Rattle.w16_selectors.specs.Descriptors.{descriptor_at, kind_of, kind_at, unset, IsUntaken}
 use Rattle.w16_selectors.specs.declared.Descriptor.{Descriptor}
+use Rattle.w16_selectors.specs.declared.SelKind.{SelKind}
 use Rattle.w16_global.specs.Parts.{Holding}
-use Rattle.w16_global.specs.Joined.{Global, attributes_in, handles_of, descriptor_for, described, AreJoined}
+use Rattle.w16_global.specs.Joined.{Global, attributes_in, handles_of, descriptor_for, described, followed, forgotten, kind_for, kind_in, HasSize, AreJoined}
 
 -- Attributes by slot.
 
@@ -41,15 +43,53 @@ attributes_unset xs slot lt = same_map nat_cmp_total nat_cmp-IsAntisymmetric (at
   | inr d ↦ attributes_at (set xs slot None) q ∙ get_or-set_other xs slot q None None d ∙ sym (attributes_at xs q) ∙ sym (taken_other (attributes_in xs) slot q d)
 ])
 
+-- what modules own has a size, where a slot gets such attributes
+pub sized_set : (xs : List (Option Attributes)) (slot : ℕ) (a : Option Attributes) → slot < length xs → ((q : ℕ) → HasSize (get_or xs q None)) → HasSize a → (q : ℕ) → HasSize (get_or (set xs slot a) q None)
+sized_set xs slot a lt sized own q = elim (cases_eq q slot) [
+  | inl e ↦ subst HasSize (sym (ap (λ k. get_or (set xs slot a) k None) e ∙ get_or-set_same xs slot a None lt)) own
+  | inr n ↦ subst HasSize (sym (get_or-set_other xs slot q a None n)) (sized q)
+]
+
 -- What is joined stays so.
 
 -- a descriptor is there just where its object is
-pub described_some : (heap : Heap) (slot : ℕ) → is_some (described heap slot) ≡ is_some (object_at heap slot)
-described_some heap slot = from (object_at heap slot)
+pub described_some : (heap : Heap) (holds : SelKind) (slot : ℕ) → is_some (described heap holds slot) ≡ is_some (object_at heap slot)
+described_some heap holds slot = from (object_at heap slot)
   where
-    from : (o : Option Object) → is_some (option_map (descriptor_for heap slot) o) ≡ is_some o
+    from : (o : Option Object) → is_some (option_map (descriptor_for heap holds slot) o) ≡ is_some o
     from None = refl
     from (Some o) = refl
+
+-- and says what it holds
+pub described_kind : (heap : Heap) (holds : SelKind) (slot : ℕ) → is_some (object_at heap slot) ≡ true → kind_of (described heap holds slot) ≡ holds
+described_kind heap holds slot there = from (object_at heap slot) there
+  where
+    of_bytes : (b : Option (List ℕ)) → (elim b as (λ _. Descriptor) [ None ↦ unset holds | Some bytes ↦ record { base = unwrap_or (finmap.get heap.places slot) 0; limit = length bytes - 1; present = true; kind = holds } ]).kind ≡ holds
+    of_bytes None = refl
+    of_bytes (Some bytes) = refl
+
+    from : (o : Option Object) → is_some o ≡ true → kind_of (option_map (descriptor_for heap holds slot) o) ≡ holds
+    from None t = absurd (false≢true t)
+    from (Some o) t = of_bytes o.bytes
+
+-- a selector that follows its object, or is told that this has no bytes, still says what it holds
+pub followed_kind : (heap : Heap) (from to : ℕ) (table : selectors.DescriptorTable) (slot : ℕ) → is_some (object_at heap slot) ≡ true → kind_of (followed heap from to table slot) ≡ kind_at table slot
+followed_kind heap from to table slot there = by_place (finmap.get heap.places slot)
+  where
+    either : (b : Bool) → kind_of (if b then described heap (kind_at table slot) slot else descriptor_at table slot) ≡ kind_at table slot
+    either true = described_kind heap (kind_at table slot) slot there
+    either false = refl
+
+    by_place : (p : Option ℕ) → kind_of (elim p as (λ _. Option Descriptor) [ None ↦ descriptor_at table slot | Some at ↦ if nat_le from at && nat_lt at to then described heap (kind_at table slot) slot else descriptor_at table slot ]) ≡ kind_at table slot
+    by_place None = refl
+    by_place (Some at) = either (nat_le from at && nat_lt at to)
+
+pub forgotten_kind : (ids : List ℕ) (table : selectors.DescriptorTable) (slot : ℕ) → kind_of (forgotten ids table slot) ≡ kind_at table slot
+forgotten_kind ids table slot = either (is_member slot ids)
+  where
+    either : (b : Bool) → kind_of (if b then Some (unset (kind_at table slot)) else descriptor_at table slot) ≡ kind_at table slot
+    either true = refl
+    either false = refl
 
 -- none is there where there is no object
 nothing : {X : Type 0} (o : Option X) → is_some o ≡ false → o ≡ None
@@ -58,25 +98,28 @@ nothing (Some x) h = absurd (false≢true (sym h))
 
 module _ (holding : Holding) (attributes : List (Option Attributes)) (table : selectors.DescriptorTable) (are : AreJoined holding attributes table) where
   -- where each slot's descriptor is what it was
-  pub joined_same : (new : Holding) → new.cap ≡ holding.cap → AreHandles (handles_of new attributes 0) → ((q : ℕ) → described new.heap q ≡ described holding.heap q) → AreJoined new attributes table
+  pub joined_same : (new : Holding) → new.cap ≡ holding.cap → AreHandles (handles_of new attributes 0) → ((holds : SelKind) (q : ℕ) → described new.heap holds q ≡ described holding.heap holds q) → AreJoined new attributes table
   joined_same new cap handles same = record {
     handles = handles;
-    described = λ q. are.described q ∙ sym (same q);
+    described = λ q. are.described q ∙ sym (same (kind_in attributes q) q);
+    sized = are.sized;
     attributes_many = are.attributes_many ∙ sym cap;
     selectors_many = are.selectors_many ∙ sym cap;
     some = subst (λ n. FIRST_SLOT ≤ n) (sym cap) are.some;
   }
 
   -- and where one slot's is another
-  pub joined_set : (new : Holding) (slot : ℕ) (a : Option Attributes) (d : Option Descriptor) (after : selectors.DescriptorTable) → new.cap ≡ holding.cap → AreHandles (handles_of new (set attributes slot a) 0)
-      → ((q : ℕ) → q ≢ slot → described new.heap q ≡ described holding.heap q) → described new.heap slot ≡ d
+  pub joined_set : (new : Holding) (slot : ℕ) (a : Option Attributes) (d : Option Descriptor) (after : selectors.DescriptorTable) → new.cap ≡ holding.cap → slot < length attributes → HasSize a → AreHandles (handles_of new (set attributes slot a) 0)
+      → ((holds : SelKind) (q : ℕ) → q ≢ slot → described new.heap holds q ≡ described holding.heap holds q) → described new.heap (kind_for a) slot ≡ d
       → length after ≡ length table → get_or after slot None ≡ d → ((q : ℕ) → q ≢ slot → get_or after q None ≡ get_or table q None) → AreJoined new (set attributes slot a) after
-  joined_set new slot a d after cap handles same here many there others = record {
+  joined_set new slot a d after cap within own handles same here many there others = record {
     handles = handles;
     described = λ q. elim (cases_eq q slot) [
-      | inl e ↦ ap (λ k. get_or after k None) e ∙ there ∙ sym here ∙ ap (λ k. described new.heap k) (sym e)
-      | inr n ↦ others q n ∙ are.described q ∙ sym (same q n)
+      | inl e ↦ ap (λ k. get_or after k None) e ∙ there ∙ sym here ∙ ap (λ x. described new.heap (kind_for x) slot) (sym (get_or-set_same attributes slot a None within))
+          ∙ ap (λ k. described new.heap (kind_in (set attributes slot a) k) k) (sym e)
+      | inr n ↦ others q n ∙ are.described q ∙ sym (same (kind_in attributes q) q n) ∙ ap (λ x. described new.heap (kind_for x) q) (sym (get_or-set_other attributes slot q a None n))
     ];
+    sized = sized_set attributes slot a within are.sized own;
     attributes_many = length-set attributes slot a ∙ are.attributes_many ∙ sym cap;
     selectors_many = many ∙ are.selectors_many ∙ sym cap;
     some = subst (λ n. FIRST_SLOT ≤ n) (sym cap) are.some;
@@ -87,14 +130,14 @@ module _ (holding : Holding) (attributes : List (Option Attributes)) (table : se
   free_slot slot free =
       let many = are.selectors_many in
       let some = are.some in
-      let gone : is_some (object_at holding.heap slot) ≡ false = sym (described_some holding.heap slot) ∙ ap is_some (sym (are.described slot) ∙ free.2) in
+      let gone : is_some (object_at holding.heap slot) ≡ false = sym (described_some holding.heap (kind_in attributes slot) slot) ∙ ap is_some (sym (are.described slot) ∙ free.2) in
       ((free.0, (let below = free.1 in omega arith)), nothing (object_at holding.heap slot) gone)
 
   pub free_selector : (slot : ℕ) → IsFreeSlot (handles_of holding attributes 0) slot → IsUntaken table slot
   free_selector slot free =
       let many = are.selectors_many in
       let some = are.some in
-      (free.0.0, (let below = free.0.1 in omega arith), are.described slot ∙ ap (option_map (descriptor_for holding.heap slot)) free.1)
+      (free.0.0, (let below = free.0.1 in omega arith), are.described slot ∙ ap (option_map (descriptor_for holding.heap (kind_in attributes slot) slot)) free.1)
 
   -- an object's slot is one
   pub slot_there : (slot : ℕ) → is_some (object_at holding.heap slot) ≡ true → (FIRST_SLOT ≤ slot) × (slot < holding.cap)
@@ -103,6 +146,17 @@ module _ (holding : Holding) (attributes : List (Option Attributes)) (table : se
       from : (p : Option Object) → is_some p ≡ true → IfSome p (λ _. IsSlot (handles_of holding attributes 0) slot) → (FIRST_SLOT ≤ slot) × (slot < holding.cap)
       from None t h = absurd (false≢true t)
       from (Some o) t h = (h.0, (let some = are.some in let below = h.1 in omega arith))
+
+  -- each selector says what its object holds
+  pub kinds_are : (slot : ℕ) → kind_at table slot ≡ kind_in attributes slot
+  kinds_are slot = ap kind_of (are.described slot) ∙ from (object_at holding.heap slot) refl
+    where
+      unowned : object_at holding.heap slot ≡ None → get_or attributes slot None ≡ None
+      unowned free = nothing (get_or attributes slot None) (ap is_some (sym (attributes_at attributes slot)) ∙ are.handles.attributed slot ∙ ap is_some free)
+
+      from : (p : Option Object) → object_at holding.heap slot ≡ p → kind_of (described holding.heap (kind_in attributes slot) slot) ≡ kind_in attributes slot
+      from None free = ap (λ (p : Option Object). kind_of (option_map (descriptor_for holding.heap (kind_in attributes slot) slot) p)) free ∙ ap kind_for (sym (unowned free))
+      from (Some o) there = described_kind holding.heap (kind_in attributes slot) slot (ap is_some there)
 
 -- the handles of what a value shows
 pub handles_shown : {shown g : Global} → shown ≡ g → shown.handles ≡ g.handles

@@ -1,12 +1,16 @@
 -- What the steps that calls are made of leave joined, and what they say of the handles.
-use Rattle.std.proofs.Common.{◌≡◌, ℕ, ◌-◌, ◌<◌, true, IfOk, OnOk, IfErr, List, length, get_or, set, Option, Some, None, Result, Ok, Err, is_some, refl, sym, ap, ◌∙◌, subst, arith}
+use Rattle.std.proofs.Common.{◌≡◌, ℕ, ◌-◌, ◌<◌, ◌≤◌, if◌then◌else◌, nat_lt, true, IfOk, OnOk, IfErr, List, length, get_or, set, Option, Some, None, Result, Ok, Err, is_some, option_map, unwrap_or, refl, sym, ap, ◌∙◌, subst, arith}
 use Rattle.std.specs.FinMap as finmap
+use Rattle.std.proofs.lemmas.Bool.{false≢true, lt-ltb, le-ltb}
 use Rattle.std.proofs.lemmas.List.{get_or-set_same, get_or-set_other, length-set}
 use Rattle.w16_model.specs.declared.Attributes.{Attributes}
 use Rattle.w16_model.specs.declared.Kind.{Kind}
 use Rattle.w16_model.specs.declared.Refusal.{Refusal}
 use Rattle.w16_model.specs.declared.TheConstants.{FIRST_SLOT}
-use Rattle.w16_model.specs.Heap.{Heap, IsHeap, object_at}
+use Rattle.w16_model.specs.declared.Refusal.TheVariants as refusals
+use Rattle.w16_model.specs.Calls.{locks_at}
+use Rattle.w16_model.specs.Owned.{without_slot}
+use Rattle.w16_model.specs.Heap.{Heap, Object, IsHeap, object_at}
 use Rattle.w16_model.specs.Changes.{with_object, removed, touched, newest, oldest}
 use Rattle.w16_model.specs.OneObject.{Enters, after_lock, after_unlock, after_free, after_touch, after_newest, after_oldest, refused_order}
 use Rattle.w16_model.specs.Handles.{Handles, AreHandles, IsFreeSlot}
@@ -14,10 +18,11 @@ use Rattle.w16_model.proofs.KeptHeaps.{touched_heap, newest_heap, oldest_heap, o
 use Rattle.w16_model.proofs.KeptHandles.{other_handles, lock_ok, unlock_ok, without_object, with_absent_object, Kept}
 use Rattle.w16_selectors.specs.Descriptors as selectors
 use Rattle.w16_selectors.specs.Descriptors.{descriptor_at, unset}
+use Rattle.w16_selectors.specs.declared.SelKind.{SelKind}
 use Rattle.w16_global.specs.Parts.{Holding}
-use Rattle.w16_global.specs.Joined.{attributes_in, handles_of, described, AreJoined}
+use Rattle.w16_global.specs.Joined.{attributes_in, handles_of, described, kind_for, HasSize, AreJoined}
 use Rattle.w16_global.proofs.Joined.{attributes_at, attributes_set, attributes_unset, joined_same, joined_set, slot_there}
-use Rattle.w16_global.proofs.Described.{lock_same, unlock_same, free_is, removed_here, removed_other, entered_here, entered_other}
+use Rattle.w16_global.proofs.Described.{lock_same, unlock_same, removed_here, removed_other, entered_here, entered_other}
 
 -- an answer that is good is good of what it answers
 good : (r : Result Heap Refusal) (P : Heap → Type 0) (heap : Heap) → IfOk r P → r ≡ Ok heap → P heap
@@ -37,20 +42,20 @@ module _ {h : Holding} {xs : List (Option Attributes)} {t : selectors.Descriptor
   -- GlobalLock leaves what is joined
   pub lock_joined : {U : Type 0} (slot : ℕ) (r : Result U Refusal) → OnOk r (after_lock h.heap slot ≡ Ok new.heap) → IfErr r (λ e. (after_lock h.heap slot ≡ Err e) × (new ≡ h)) → AreJoined new xs t
   lock_joined slot (Ok u) done refused =
-      joined_same h xs t are new cap (subst AreHandles same_slots (good (after_lock h.heap slot) (Kept (handles_of h xs 0) are.handles) new.heap (lock_ok (handles_of h xs 0) are.handles slot) done)) (lock_same h.heap slot new.heap done)
+      joined_same h xs t are new cap (subst AreHandles same_slots (good (after_lock h.heap slot) (Kept (handles_of h xs 0) are.handles) new.heap (lock_ok (handles_of h xs 0) are.handles slot) done)) (λ holds. lock_same holds h.heap slot new.heap done)
   lock_joined slot (Err e) done refused = subst (λ k. AreJoined k xs t) (sym refused.1) are
 
   -- and so does GlobalUnlock
   pub unlock_joined : {U : Type 0} (slot : ℕ) (r : Result U Refusal) → OnOk r (after_unlock h.heap slot ≡ Ok new.heap) → IfErr r (λ e. (after_unlock h.heap slot ≡ Err e) × (new ≡ h)) → AreJoined new xs t
   unlock_joined slot (Ok u) done refused =
-      joined_same h xs t are new cap (subst AreHandles same_slots (good (after_unlock h.heap slot) (Kept (handles_of h xs 0) are.handles) new.heap (unlock_ok (handles_of h xs 0) are.handles slot) done)) (unlock_same h.heap slot new.heap done)
+      joined_same h xs t are new cap (subst AreHandles same_slots (good (after_unlock h.heap slot) (Kept (handles_of h xs 0) are.handles) new.heap (unlock_ok (handles_of h xs 0) are.handles slot) done)) (λ holds. unlock_same holds h.heap slot new.heap done)
   unlock_joined slot (Err e) done refused = subst (λ k. AreJoined k xs t) (sym refused.1) are
 
   -- and a step that changes the order of use alone
   pub ordered_joined : (order : List ℕ) → IsHeap (record h.heap { order = order }) → new.heap ≡ record h.heap { order = order } → AreJoined new xs t
   ordered_joined order sound is =
       joined_same h xs t are new cap (subst AreHandles (ap (λ (k : Heap). record (handles_of h xs 0) { heap = k }) (sym is) ∙ same_slots) (other_handles (handles_of h xs 0) are.handles (record h.heap { order = order }) sound refl refl (λ q. refl)))
-      (λ q. ap (λ (k : Heap). described k q) is)
+      (λ holds q. ap (λ (k : Heap). described k holds q) is)
 
   -- an object that was used
   pub touched_joined : (slot : ℕ) → new.heap ≡ after_touch h.heap slot → AreJoined new xs t
@@ -74,31 +79,45 @@ module _ {h : Holding} {xs : List (Option Attributes)} {t : selectors.Descriptor
   oldest_joined slot (Err e) done refused = subst (λ k. AreJoined k xs t) (sym refused.1) are
 
   -- a slot's object goes
-  module _ (slot : ℕ) {m : ℕ} {w : Handles} (shown : handles_of h xs m ≡ w) (known : is_some (object_at w.heap slot) ≡ true) (done : after_free h.heap slot ≡ Ok new.heap) where
+  module _ (slot : ℕ) {m : ℕ} {w : Handles} (shown : handles_of h xs m ≡ w) (known : is_some (object_at w.heap slot) ≡ true) (gone : new.heap ≡ removed h.heap slot) where
     there : is_some (object_at h.heap slot) ≡ true
     there = subst (λ (v : Handles). is_some (object_at v.heap slot) ≡ true) (sym shown) known
-
-    gone : removed h.heap slot ≡ new.heap
-    gone = free_is h.heap slot new.heap there done
 
     left : slot < length xs
     left = subst (λ n. slot < n) (sym are.attributes_many) (slot_there h xs t are slot there).1
 
     -- the handles without it
-    pub released_ok : (after_free w.heap slot ≡ Ok new.heap) × (handles_of new (set xs slot None) m ≡ record w { heap = new.heap; attributes = finmap.remove w.attributes slot })
-    released_ok = (
-      subst (λ (v : Handles). after_free v.heap slot ≡ Ok new.heap) shown done,
-      (λ i. record { slots = cap i - FIRST_SLOT; heap = new.heap; attributes = attributes_unset xs slot left i; moved = m }) ∙ ap (λ (v : Handles). record v { heap = new.heap; attributes = finmap.remove v.attributes slot }) shown,
-    )
+    pub removed_shown : handles_of new (set xs slot None) m ≡ without_slot w slot
+    removed_shown = (λ i. record { slots = cap i - FIRST_SLOT; heap = gone i; attributes = attributes_unset xs slot left i; moved = m }) ∙ ap (λ (v : Handles). without_slot v slot) shown
 
-    pub released_joined : (after : selectors.DescriptorTable) → after ≡ set t slot None → AreJoined new (set xs slot None) after
-    released_joined after is = joined_set h xs t are new slot None None after cap
-        (subst AreHandles ((λ i. record { slots = sym cap i - FIRST_SLOT; heap = gone i; attributes = sym (attributes_unset xs slot left) i; moved = 0 })) (without_object (handles_of h xs 0) are.handles slot))
-        (λ q n. ap (λ (k : Heap). described k q) (sym gone) ∙ removed_other h.heap slot q n)
-        (ap (λ (k : Heap). described k slot) (sym gone) ∙ removed_here h.heap slot)
+    pub removed_joined : (after : selectors.DescriptorTable) → after ≡ set t slot None → AreJoined new (set xs slot None) after
+    removed_joined after is = joined_set h xs t are new slot None None after cap left tt
+        (subst AreHandles ((λ i. record { slots = sym cap i - FIRST_SLOT; heap = sym gone i; attributes = sym (attributes_unset xs slot left) i; moved = 0 })) (without_object (handles_of h xs 0) are.handles slot))
+        (λ holds q n. ap (λ (k : Heap). described k holds q) gone ∙ removed_other holds h.heap slot q n)
+        (ap (λ (k : Heap). described k (kind_for None) slot) gone ∙ removed_here (kind_for None) h.heap slot)
         (ap length is ∙ length-set t slot None)
         (ap (λ (l : selectors.DescriptorTable). get_or l slot None) is ∙ get_or-set_same t slot None None (subst (λ n. slot < n) (sym are.selectors_many) (slot_there h xs t are slot there).1))
         (λ q n. ap (λ (l : selectors.DescriptorTable). get_or l q None) is ∙ get_or-set_other t slot q None None n)
+
+-- GlobalFree of an object, by its locks
+free_by : (heap : Heap) (slot : ℕ) → Option Object → Result Heap Refusal
+free_by heap slot p = elim p [ None ↦ Ok heap | Some o ↦ if nat_lt 0 o.locks then Err refusals.Locked else Ok (removed heap slot) ]
+
+pub locked_stays : (heap : Heap) (slot : ℕ) → 0 < locks_at heap slot → after_free heap slot ≡ Err refusals.Locked
+unfolding free_by
+locked_stays heap slot some = turn (object_at heap slot) some
+  where
+    turn : (p : Option Object) → 0 < unwrap_or (option_map (λ (o : Object). o.locks) p) 0 → free_by heap slot p ≡ Err refusals.Locked
+    turn None lt = absurd (omega arith)
+    turn (Some o) lt = ap (λ b. if b then Err refusals.Locked else Ok (removed heap slot)) (lt-ltb 0 o.locks lt)
+
+pub unlocked_goes : (heap : Heap) (slot : ℕ) → is_some (object_at heap slot) ≡ true → locks_at heap slot ≤ 0 → after_free heap slot ≡ Ok (removed heap slot)
+unfolding free_by
+unlocked_goes heap slot there none = turn (object_at heap slot) there none
+  where
+    turn : (p : Option Object) → is_some p ≡ true → unwrap_or (option_map (λ (o : Object). o.locks) p) 0 ≤ 0 → free_by heap slot p ≡ Ok (removed heap slot)
+    turn None e le = absurd (false≢true e)
+    turn (Some o) e le = ap (λ b. if b then Err refusals.Locked else Ok (removed heap slot)) (le-ltb 0 o.locks le)
 
 -- A free slot gets an object.
 module _ {h : Holding} {xs : List (Option Attributes)} {t : selectors.DescriptorTable} (are : AreJoined h xs t) (new : Holding) (cap : new.cap ≡ h.cap) (slot : ℕ) (a : Attributes)
@@ -124,14 +143,14 @@ module _ {h : Holding} {xs : List (Option Attributes)} {t : selectors.Descriptor
       ∙ ap (λ (v : Handles). record v { heap = new.heap; attributes = finmap.insert v.attributes slot a }) shown
 
   -- an absent one
-  pub entered_joined : (kind : Kind) (after : selectors.DescriptorTable) → new.heap ≡ with_object h.heap slot (record { kind = kind; locks = 0; bytes = None }) → after ≡ set t slot (Some unset) → AreJoined new (set xs slot (Some a)) after
-  entered_joined kind after is taken =
+  pub entered_joined : HasSize (Some a) → (kind : Kind) (holds : SelKind) → holds ≡ kind_for (Some a) → (after : selectors.DescriptorTable) → new.heap ≡ with_object h.heap slot (record { kind = kind; locks = 0; bytes = None }) → after ≡ set t slot (Some (unset holds)) → AreJoined new (set xs slot (Some a)) after
+  entered_joined own_size kind holds holds_is after is taken =
       let entered : Heap = with_object h.heap slot (record { kind = kind; locks = 0; bytes = None }) in
       let enters : Enters h.heap slot kind entered = record { unused = free.1; entered = refl } in
-      joined_set h xs t are new slot (Some a) (Some unset) after cap
+      joined_set h xs t are new slot (Some a) (Some (unset holds)) after cap within own_size
       (subst AreHandles (λ i. record { slots = sym cap i - FIRST_SLOT; heap = sym is i; attributes = sym (attributes_set xs slot a within) i; moved = 0 }) (with_absent_object (handles_of h xs 0) are.handles a slot kind entered free enters))
-      (λ q n. ap (λ (k : Heap). described k q) is ∙ entered_other h.heap slot kind q n)
-      (ap (λ (k : Heap). described k slot) is ∙ entered_here h.heap slot kind)
-      (ap length taken ∙ length-set t slot (Some unset))
-      (ap (λ (l : selectors.DescriptorTable). get_or l slot None) taken ∙ get_or-set_same t slot (Some unset) None in_table)
-      (λ q n. ap (λ (l : selectors.DescriptorTable). get_or l q None) taken ∙ get_or-set_other t slot q (Some unset) None n)
+      (λ holds q n. ap (λ (k : Heap). described k holds q) is ∙ entered_other holds h.heap slot kind q n)
+      (ap (λ (k : Heap). described k (kind_for (Some a)) slot) is ∙ entered_here (kind_for (Some a)) h.heap slot kind ∙ ap (λ k. Some (unset k)) (sym holds_is))
+      (ap length taken ∙ length-set t slot (Some (unset holds)))
+      (ap (λ (l : selectors.DescriptorTable). get_or l slot None) taken ∙ get_or-set_same t slot (Some (unset holds)) None in_table)
+      (λ q n. ap (λ (l : selectors.DescriptorTable). get_or l q None) taken ∙ get_or-set_other t slot q (Some (unset holds)) None n)

@@ -120,7 +120,7 @@ lent_joined {h} {xs} {t} are new slot done lent {count} said = of_object (object
         let handles : AreHandles (record (handles_of h xs 0) { heap = after }) =
         other_handles (handles_of h xs 0) are.handles after (written_heap h.heap are.handles.heap slot o there lent.bytes has 0 lent.after fits lent.are_bytes) refl refl
         (same_updated h.heap.objects slot (λ (o : Object). record o { bytes = option_map (λ (b : List ℕ). put_part b 0 lent.after) o.bytes })) in
-        subst (λ k. AreJoined k xs t) (sym said) (joined_same h xs t are (record h { heap = after; written = count }) refl handles (write_same h.heap slot 0 lent.after lent.bytes o there has fits))
+        subst (λ k. AreJoined k xs t) (sym said) (joined_same h xs t are (record h { heap = after; written = count }) refl handles (λ holds. write_same holds h.heap slot 0 lent.after lent.bytes o there has fits))
 
     of_object : (p : Option Object) → object_at h.heap slot ≡ p → (elim p as (λ _. Option (List ℕ)) [ Some o ↦ o.bytes | None ↦ None ]) ≡ Some lent.bytes → AreJoined new xs t
     of_object None there has = cc

@@ -16,3 +16,4 @@ pub mod Changing
 pub mod Reallocating
 pub mod Resizing
 pub mod Lent
+pub mod Owning

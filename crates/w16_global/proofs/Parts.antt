@@ -7,9 +7,9 @@ use Rattle.w16_model.specs.declared.TheConstants.{GRAIN}
 use Rattle.w16_model.specs.Heap.{Heap, Object, IsHeap, object_at, bytes_at}
 use Rattle.w16_model.specs.Table.{block_with, entry_at, heap_in}
 use Rattle.w16_model.specs.declared.Refusal.{Refusal}
-use Rattle.w16_model.specs.OneObject.{Enters}
+use Rattle.w16_model.specs.OneObject.{Enters, after_release}
 use Rattle.w16_compact.specs.Gather.{contents}
-use Rattle.w16_model.specs.Changes.{with_object}
+use Rattle.w16_model.specs.Changes.{with_object, removed}
 use Rattle.w16_arena.specs.State.{ArenaState, Steps, entry_of}
 use Rattle.w16_arena.proofs.Keeping.{heap_kept}
 use Rattle.w16_arena.proofs.Lookups.{is_heap, entry_is, size_here, place_here, ends_in_memory, no_entry, no_block}
@@ -113,7 +113,14 @@ module _ {s : ArenaState} {memory : List ℕ} (parts : AreParts s memory) where
         holding_stepped p (heap_in new.table memory) refl
         ∙ (λ i. record h { heap = (p.heaps memory whole).entered i }) ∙ ap (λ (k : Holding). record h { heap = with_object k.heap id (record { kind = kind; locks = 0; bytes = None }) }) shown
 
-    -- a step that takes an object or its bytes away, or is refused, where the bytes of the others stay
+    -- an object that was taken away, where the bytes of the others stay
+    pub released_shown : (new : ArenaState) (after : List ℕ) (id : ℕ) {later : ℕ} → later ≡ count → contents after new.table.blocks ≡ contents memory new.table.blocks → Steps s new (λ a b. b ≡ after_release a id)
+        → holding_of new after later ≡ record h { heap = removed h.heap id }
+    released_shown new after id {later} none same p =
+        (λ i. record { cap = length new.table.entries; heap = heap_kept memory after new.table same i; discarded = new.discarded; written = none i })
+        ∙ holding_stepped p (removed (heap_in s.table memory) id) (p.heaps memory whole) ∙ ap (λ (k : Holding). record h { heap = removed k.heap id }) shown
+
+    -- a step that takes an object's bytes away, or is refused, where the bytes of the others stay
     module _ (leaves : Heap → ℕ → Result Heap Refusal) (new : ArenaState) (after : List ℕ) (id : ℕ) (same : contents after new.table.blocks ≡ contents memory new.table.blocks) where
       pub given_ok : {X : Type 0} (r : Result X Refusal) → OnOk r (Steps s new (λ a b. leaves a id ≡ Ok b)) → OnOk r (leaves h.heap id ≡ Ok (heap_in new.table after))
       given_ok (Ok x) p = told (λ heap. leaves heap id ≡ Ok (heap_in new.table after)) (p.heaps memory whole ∙ ap Ok (sym (heap_kept memory after new.table same)))

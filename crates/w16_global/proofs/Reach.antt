@@ -1,5 +1,5 @@
 -- A far access by descriptors is one by objects.
-use Rattle.std.proofs.Common.{◌≡◌, ℕ, ◌+◌, ◌-◌, ◌*◌, ◌/◌, ◌<◌, ◌≤◌, ◌⊎◌, ◌==◌, inl, inr, Bool, true, false, if◌then◌else◌, not, ◌&&◌, nat_lt, List, length, Option, Some, None, Result, Ok, Err, option_map, is_some, unwrap_or, refl, sym, ap, ◌∙◌, subst, arith, min, IfErr, OnOk, IfSome, ltb-false, ltb-true}
+use Rattle.std.proofs.Common.{◌≡◌, ℕ, ◌+◌, ◌-◌, ◌*◌, ◌/◌, ◌<◌, ◌≤◌, ◌⊎◌, ◌==◌, inl, inr, Bool, true, false, if◌then◌else◌, not, ◌&&◌, nat_lt, List, length, get_or, Option, Some, None, Result, Ok, Err, option_map, is_some, unwrap_or, refl, sym, ap, ◌∙◌, subst, arith, min, IfErr, OnOk, IfSome, ltb-false, ltb-true}
 use Rattle.std.specs.FinMap as finmap
 use Rattle.std.proofs.lemmas.Bool.{false≢true}
 use Rattle.w16_model.specs.declared.Attributes.{Attributes}
@@ -10,15 +10,21 @@ use Rattle.w16_model.specs.Gap.{block_end}
 use Rattle.w16_model.specs.Heap.{Heap, Object, IsHeap, IsMultiple, blocks, object_at, bytes_at, hold_of_object}
 use Rattle.w16_model.specs.Handles.{Handles, slot_of_selector, selector_of}
 use Rattle.w16_model.specs.Far.{far_fault, far_slot}
+use Rattle.w16_model.specs.declared.Owned.{Owned}
+use Rattle.w16_model.specs.Owned.{owned_in, refuses_write}
+use Rattle.w16_model.specs.Owned.{is_code as handles_is_code}
 use Rattle.w16_model.proofs.Gaps.{Each-at, Each-from_All}
 use Rattle.w16_model.proofs.Heaps.{IsBlockOf, block_member}
 use Rattle.w16_model.proofs.Accesses.{Reached, reached, slot_of_access}
 use Rattle.w16_selectors.specs.Descriptors as selectors
 use Rattle.w16_selectors.specs.Descriptors.{descriptor_at, descriptor_of, place_of, unset, is_code}
 use Rattle.w16_selectors.specs.declared.Descriptor.{Descriptor}
-use Rattle.w16_selectors.specs.declared.SelKind.TheVariants.{Data}
+use Rattle.w16_selectors.specs.declared.SelKind.{SelKind}
+use Rattle.w16_selectors.specs.declared.SelKind.TheVariants.{Data, Code}
+use Rattle.w16_global.specs.Access.{access_fault}
 use Rattle.w16_global.specs.Parts.{Holding}
-use Rattle.w16_global.specs.Joined.{handles_of, descriptor_for, AreJoined}
+use Rattle.w16_global.specs.Joined.{handles_of, descriptor_for, kind_in, AreJoined}
+use Rattle.w16_global.proofs.Joined.{attributes_at}
 
 -- Where an object with bytes stands.
 pub record Stands (heap : Heap) (place : ℕ) (bytes : List ℕ) : Type 0 where
@@ -44,9 +50,25 @@ placed heap is slot bytes has = from (finmap.get heap.places slot) (is.at_bytes 
     from (Some n) t = refl
 
 -- What a far access finds by descriptors, of the handles: its first fault, or none.
-abbrev pub Tells : Handles → ℕ → ℕ → ℕ → Result ℕ FarFault → Type 0
-Tells w selector offset n (Err fault) = far_fault w selector offset n ≡ Some fault
-Tells w selector offset n (Ok at) = far_fault w selector offset n ≡ None
+abbrev FaultIs : Option FarFault → Result ℕ FarFault → Type 0
+FaultIs fault (Err found) = fault ≡ Some found
+FaultIs fault (Ok at) = fault ≡ None
+
+abbrev pub Tells : Handles → Bool → ℕ → ℕ → ℕ → Result ℕ FarFault → Type 0
+Tells w write selector offset n found = FaultIs (access_fault w write selector offset n) found
+
+-- that of a write to code comes before others
+read_only : (b : Bool) (fault : Option FarFault) (found : Result ℕ FarFault) → FaultIs fault found → FaultIs (if b then Some ReadOnly else fault) (if b then Err ReadOnly else found)
+read_only true fault found h = refl
+read_only false fault found h = h
+
+-- where there is none there is none of a read
+pub no_fault : (w : Handles) (write : Bool) (selector offset n : ℕ) → access_fault w write selector offset n ≡ None → (far_fault w selector offset n ≡ None) × ((write && refuses_write w selector) ≡ false)
+no_fault w write selector offset n = turn (write && refuses_write w selector)
+  where
+    turn : (b : Bool) → (if b then Some ReadOnly else far_fault w selector offset n) ≡ None → (far_fault w selector offset n ≡ None) × (b ≡ false)
+    turn true e = cc
+    turn false e = (e, refl)
 
 -- the fault by bytes, and by what a slot has
 abbrev limit_fault : ℕ → List ℕ → Option FarFault
@@ -68,10 +90,10 @@ module _ (holding : Holding) (attributes : List (Option Attributes)) (table : se
 
   -- a selector of an object
   pub names : (selector : ℕ) (o : Object) → (selector == selector_of (selector / 8)) ≡ true → object_at holding.heap (selector / 8) ≡ Some o
-      → (slot_of_selector handles selector ≡ Some (selector / 8)) × (descriptor_of table selector ≡ Some (descriptor_for holding.heap (selector / 8) o))
+      → (slot_of_selector handles selector ≡ Some (selector / 8)) × (descriptor_of table selector ≡ Some (descriptor_for holding.heap (kind_in attributes (selector / 8)) (selector / 8) o))
   names selector o low there = (
     ap (λ (p : Option Object). slot_by (selector / 8) p (selector == selector_of (selector / 8))) there ∙ ap (λ b. slot_by (selector / 8) (Some o) b) low,
-    ap (λ b. if b then descriptor_at table (selector / 8) else None) low ∙ are.described (selector / 8) ∙ ap (option_map (descriptor_for holding.heap (selector / 8))) there,
+    ap (λ b. if b then descriptor_at table (selector / 8) else None) low ∙ are.described (selector / 8) ∙ ap (option_map (descriptor_for holding.heap (kind_in attributes (selector / 8)) (selector / 8))) there,
   )
 
   -- and another
@@ -86,7 +108,7 @@ module _ (holding : Holding) (attributes : List (Option Attributes)) (table : se
       neither (Some o) = refl
   names_none selector (inr none) = (
     ap (λ (p : Option Object). slot_by (selector / 8) p (selector == selector_of (selector / 8))) none,
-    ap (λ (d : Option Descriptor). if selector == selector_of (selector / 8) then d else None) (are.described (selector / 8) ∙ ap (option_map (descriptor_for holding.heap (selector / 8))) none) ∙ either (selector == selector_of (selector / 8)),
+    ap (λ (d : Option Descriptor). if selector == selector_of (selector / 8) then d else None) (are.described (selector / 8) ∙ ap (option_map (descriptor_for holding.heap (kind_in attributes (selector / 8)) (selector / 8))) none) ∙ either (selector == selector_of (selector / 8)),
   )
     where
       nothing : Option Descriptor
@@ -96,10 +118,14 @@ module _ (holding : Holding) (attributes : List (Option Attributes)) (table : se
       either true = refl
       either false = refl
 
-  -- data is no code
-  data_only : (write : Bool) → (write && is_code Data) ≡ false
-  data_only true = refl
-  data_only false = refl
+  -- code is what refuses to be written
+  code_kind : (b : Bool) → is_code (if b then Code else Data) ≡ b
+  code_kind true = refl
+  code_kind false = refl
+
+  refuses_code : (selector slot : ℕ) → slot_of_selector handles selector ≡ Some slot → refuses_write handles selector ≡ is_code (kind_in attributes slot)
+  refuses_code selector slot named = ap (λ p. unwrap_or (option_map (handles_is_code handles) p) false) named
+      ∙ ap (λ p. unwrap_or (option_map (λ (o : Owned). o.code) (owned_in p)) false) (attributes_at attributes slot) ∙ sym (code_kind (unwrap_or (option_map (λ (o : Owned). o.code) (owned_in (get_or attributes slot None))) false))
 
   module _ (is : IsHeap holding.heap) (write : Bool) (selector offset n : ℕ) where
     -- what is found by a descriptor
@@ -112,58 +138,73 @@ module _ (holding : Holding) (attributes : List (Option Attributes)) (table : se
           else Ok (d.base + offset)))
     ]
 
-    -- of an object without bytes
+    -- of an object, by what it holds and its fault
+    tells_kind : (found : Result ℕ FarFault) → slot_of_selector handles selector ≡ Some (selector / 8) → FaultIs (far_fault handles selector offset n) found
+        → Tells handles write selector offset n (if write && is_code (kind_in attributes (selector / 8)) then Err ReadOnly else found)
+    tells_kind found named told = subst (λ b. FaultIs (if write && b then Some ReadOnly else far_fault handles selector offset n) (if write && is_code (kind_in attributes (selector / 8)) then Err ReadOnly else found))
+        (sym (refuses_code selector (selector / 8) named)) (read_only (write && is_code (kind_in attributes (selector / 8))) (far_fault handles selector offset n) found told)
+
+    -- of one without bytes
     tells_absent : (o : Object) → o.bytes ≡ None → slot_of_selector handles selector ≡ Some (selector / 8) → object_at holding.heap (selector / 8) ≡ Some o
-        → Tells handles selector offset n (place_by (Some (descriptor_for holding.heap (selector / 8) o)))
+        → Tells handles write selector offset n (place_by (Some (descriptor_for holding.heap (kind_in attributes (selector / 8)) (selector / 8) o)))
     tells_absent o none named there =
-        let d : descriptor_for holding.heap (selector / 8) o ≡ unset = ap (λ (b : Option (List ℕ)). descriptor_for holding.heap (selector / 8) (record o { bytes = b })) none in
+        let holds : SelKind = kind_in attributes (selector / 8) in
+        let d : descriptor_for holding.heap holds (selector / 8) o ≡ unset holds = ap (λ (b : Option (List ℕ)). descriptor_for holding.heap holds (selector / 8) (record o { bytes = b })) none in
         let no_bytes : bytes_at holding.heap (selector / 8) ≡ None = ap (λ (p : Option Object). elim p as (λ _. Option (List ℕ)) [ Some o ↦ o.bytes | None ↦ None ]) there ∙ none in
         let fault : far_fault handles selector offset n ≡ Some NotPresent = ap (slot_fault handles (offset + n)) named ∙ ap (bytes_fault (offset + n)) no_bytes in
-        rw (d, data_only write) fault
+        subst (λ (x : Descriptor). Tells handles write selector offset n (place_by (Some x))) (sym d) (tells_kind (Err NotPresent) named fault)
 
     -- of one with bytes
     tells_present : (o : Object) (bytes : List ℕ) → o.bytes ≡ Some bytes → slot_of_selector handles selector ≡ Some (selector / 8) → object_at holding.heap (selector / 8) ≡ Some o
-        → Tells handles selector offset n (place_by (Some (descriptor_for holding.heap (selector / 8) o)))
+        → Tells handles write selector offset n (place_by (Some (descriptor_for holding.heap (kind_in attributes (selector / 8)) (selector / 8) o)))
     tells_present o bytes has named there =
+        let holds : SelKind = kind_in attributes (selector / 8) in
         let place : ℕ = unwrap_or (finmap.get holding.heap.places (selector / 8)) 0 in
-        let whole : Descriptor = record { base = place; limit = length bytes - 1; present = true; kind = Data } in
-        let d : descriptor_for holding.heap (selector / 8) o ≡ whole = ap (λ (b : Option (List ℕ)). descriptor_for holding.heap (selector / 8) (record o { bytes = b })) has in
+        let whole : Descriptor = record { base = place; limit = length bytes - 1; present = true; kind = holds } in
+        let d : descriptor_for holding.heap holds (selector / 8) o ≡ whole = ap (λ (b : Option (List ℕ)). descriptor_for holding.heap holds (selector / 8) (record o { bytes = b })) has in
         let here : bytes_at holding.heap (selector / 8) ≡ Some bytes = ap (λ (p : Option Object). elim p as (λ _. Option (List ℕ)) [ Some o ↦ o.bytes | None ↦ None ]) there ∙ has in
         let at : Stands holding.heap place bytes = stands holding.heap is (selector / 8) o bytes there has in
         let size : length bytes - 1 + 1 ≡ length bytes = (let some = at.some in omega arith) in
         let fault : far_fault handles selector offset n ≡ limit_fault (offset + n) bytes = ap (slot_fault handles (offset + n)) named ∙ ap (bytes_fault (offset + n)) here in
-        subst (λ (x : Descriptor). Tells handles selector offset n (place_by (Some x))) (sym d) (
-        subst (λ b. Tells handles selector offset n (if b then Err ReadOnly else (if nat_lt (length bytes - 1 + 1) (offset + n) then Err Limit else Ok (place + offset)))) (sym (data_only write)) (
-        subst (λ k. Tells handles selector offset n (if nat_lt k (offset + n) then Err Limit else Ok (place + offset))) (sym size)
+        subst (λ (x : Descriptor). Tells handles write selector offset n (place_by (Some x))) (sym d) (
+        tells_kind (if nat_lt (length bytes - 1 + 1) (offset + n) then Err Limit else Ok (place + offset)) named (
+        subst (λ k. FaultIs (far_fault handles selector offset n) (if nat_lt k (offset + n) then Err Limit else Ok (place + offset))) (sym size)
         (test place fault (nat_lt (length bytes) (offset + n)) refl)))
       where
-        test : (place : ℕ) → far_fault handles selector offset n ≡ limit_fault (offset + n) bytes → (b : Bool) → nat_lt (length bytes) (offset + n) ≡ b → Tells handles selector offset n (if b then Err Limit else Ok (place + offset))
+        test : (place : ℕ) → far_fault handles selector offset n ≡ limit_fault (offset + n) bytes → (b : Bool) → nat_lt (length bytes) (offset + n) ≡ b → FaultIs (far_fault handles selector offset n) (if b then Err Limit else Ok (place + offset))
         test place fault true t = fault ∙ ap (λ b. if b then Some Limit else None) t
         test place fault false t = fault ∙ ap (λ b. if b then Some Limit else None) t
 
     -- of each selector
-    pub resolved : Tells handles selector offset n (place_of table selector offset n write)
+    pub resolved : Tells handles write selector offset n (place_of table selector offset n write)
     resolved = turn (selector == selector_of (selector / 8)) refl (object_at holding.heap (selector / 8)) refl
       where
-        none : (slot_of_selector handles selector ≡ None) × (descriptor_of table selector ≡ None) → Tells handles selector offset n (place_by (descriptor_of table selector))
-        none h = subst (λ d. Tells handles selector offset n (place_by d)) (sym h.1) (ap (slot_fault handles (offset + n)) h.0)
+        none : (slot_of_selector handles selector ≡ None) × (descriptor_of table selector ≡ None) → Tells handles write selector offset n (place_by (descriptor_of table selector))
+        none h =
+            let may : refuses_write handles selector ≡ false = ap (λ p. unwrap_or (option_map (handles_is_code handles) p) false) h.0 in
+            subst (λ d. Tells handles write selector offset n (place_by d)) (sym h.1)
+            (subst (λ b. FaultIs (if write && b then Some ReadOnly else far_fault handles selector offset n) (Err BadSelector)) (sym may) (never write (ap (slot_fault handles (offset + n)) h.0)))
+          where
+            never : (b : Bool) → far_fault handles selector offset n ≡ Some BadSelector → FaultIs (if b && false then Some ReadOnly else far_fault handles selector offset n) (Err BadSelector)
+            never true f = f
+            never false f = f
 
-        some : (o : Object) → object_at holding.heap (selector / 8) ≡ Some o → (b : Option (List ℕ)) → o.bytes ≡ b → (slot_of_selector handles selector ≡ Some (selector / 8)) × (descriptor_of table selector ≡ Some (descriptor_for holding.heap (selector / 8) o))
-            → Tells handles selector offset n (place_by (descriptor_of table selector))
-        some o there None has h = subst (λ d. Tells handles selector offset n (place_by d)) (sym h.1) (tells_absent o has h.0 there)
-        some o there (Some bytes) has h = subst (λ d. Tells handles selector offset n (place_by d)) (sym h.1) (tells_present o bytes has h.0 there)
+        some : (o : Object) → object_at holding.heap (selector / 8) ≡ Some o → (b : Option (List ℕ)) → o.bytes ≡ b → (slot_of_selector handles selector ≡ Some (selector / 8)) × (descriptor_of table selector ≡ Some (descriptor_for holding.heap (kind_in attributes (selector / 8)) (selector / 8) o))
+            → Tells handles write selector offset n (place_by (descriptor_of table selector))
+        some o there None has h = subst (λ d. Tells handles write selector offset n (place_by d)) (sym h.1) (tells_absent o has h.0 there)
+        some o there (Some bytes) has h = subst (λ d. Tells handles write selector offset n (place_by d)) (sym h.1) (tells_present o bytes has h.0 there)
 
-        turn : (b : Bool) → (selector == selector_of (selector / 8)) ≡ b → (p : Option Object) → object_at holding.heap (selector / 8) ≡ p → Tells handles selector offset n (place_of table selector offset n write)
+        turn : (b : Bool) → (selector == selector_of (selector / 8)) ≡ b → (p : Option Object) → object_at holding.heap (selector / 8) ≡ p → Tells handles write selector offset n (place_of table selector offset n write)
         turn false low p there = none (names_none selector (inl low))
         turn true low None there = none (names_none selector (inr there))
         turn true low (Some o) there = some o there o.bytes refl (names selector o low there)
 
 -- a fault of fewer bytes is one of more
-abbrev pub FaultStays : Handles → ℕ → ℕ → ℕ → ℕ → FarFault → Type 0
-FaultStays w selector offset n m fault = far_fault w selector offset n ≡ Some fault → far_fault w selector offset m ≡ Some fault
+abbrev pub FaultStays : Handles → Bool → ℕ → ℕ → ℕ → ℕ → FarFault → Type 0
+FaultStays w write selector offset n m fault = access_fault w write selector offset n ≡ Some fault → access_fault w write selector offset m ≡ Some fault
 
-pub longer_fault : (w : Handles) (selector offset n m : ℕ) (fault : FarFault) → n ≤ m → FaultStays w selector offset n m fault
-longer_fault w selector offset n m fault le = at_slot (slot_of_selector w selector)
+pub longer_fault : (w : Handles) (write : Bool) (selector offset n m : ℕ) (fault : FarFault) → n ≤ m → FaultStays w write selector offset n m fault
+longer_fault w write selector offset n m fault le = by_kind (write && refuses_write w selector)
   where
     at_limit : (bytes : List ℕ) (a b : Bool) → nat_lt (length bytes) (offset + n) ≡ a → nat_lt (length bytes) (offset + m) ≡ b → (if a then Some Limit else None) ≡ Some fault → (if b then Some Limit else None) ≡ Some fault
     at_limit bytes false b e f h = cc
@@ -178,23 +219,27 @@ longer_fault w selector offset n m fault le = at_slot (slot_of_selector w select
     at_slot None h = h
     at_slot (Some slot) h = at_bytes (bytes_at w.heap slot) h
 
+    by_kind : (b : Bool) → (if b then Some ReadOnly else far_fault w selector offset n) ≡ Some fault → (if b then Some ReadOnly else far_fault w selector offset m) ≡ Some fault
+    by_kind true h = h
+    by_kind false h = at_slot (slot_of_selector w selector) h
+
 -- The address or the first fault of an access, by that of as many bytes, or of 4,294,967,295 where there are more.
 module _ {h : Holding} {xs : List (Option Attributes)} {t : selectors.DescriptorTable} {m : ℕ} {w : Handles} (are : AreJoined h xs t) (shown : handles_of h xs m ≡ w) (write : Bool) (selector offset n count : ℕ) (count_is : count ≡ min n 4294967295) where
-  told : (r : Result ℕ FarFault) → r ≡ place_of t selector offset count write → Tells w selector offset count r
-  told r is = subst (λ v. Tells v selector offset count r) shown (subst (Tells (handles_of h xs m) selector offset count) (sym is) (resolved h xs t m are are.handles.heap write selector offset count))
+  told : (r : Result ℕ FarFault) → r ≡ place_of t selector offset count write → Tells w write selector offset count r
+  told r is = subst (λ v. Tells v write selector offset count r) shown (subst (Tells (handles_of h xs m) write selector offset count) (sym is) (resolved h xs t m are are.handles.heap write selector offset count))
 
   -- a fault
-  pub fault_known : (r : Result ℕ FarFault) → r ≡ place_of t selector offset count write → IfErr r (λ fault. far_fault w selector offset n ≡ Some fault)
+  pub fault_known : (r : Result ℕ FarFault) → r ≡ place_of t selector offset count write → IfErr r (λ fault. access_fault w write selector offset n ≡ Some fault)
   fault_known (Ok at) is = tt
-  fault_known (Err fault) is = longer_fault w selector offset count n fault (omega (arith, count_is)) (told (Err fault) is)
+  fault_known (Err fault) is = longer_fault w write selector offset count n fault (omega (arith, count_is)) (told (Err fault) is)
 
   -- the object of a selector with low bits set is shorter than the largest double word
   short : (o : Object) (bytes : List ℕ) → object_at h.heap (selector / 8) ≡ Some o → o.bytes ≡ Some bytes → (selector == selector_of (selector / 8)) ≡ true
       → IfSome (descriptor_of t selector) (λ d. d.base + d.limit + 1 < 4294967296) → length bytes < 4294967295
   short o bytes there has low bound =
       let place : ℕ = unwrap_or (finmap.get h.heap.places (selector / 8)) 0 in
-      let d : descriptor_of t selector ≡ Some (descriptor_for h.heap (selector / 8) o) = (names h xs t m are selector o low there).1 in
-      let whole : descriptor_for h.heap (selector / 8) o ≡ record { base = place; limit = length bytes - 1; present = true; kind = Data } = ap (λ (b : Option (List ℕ)). descriptor_for h.heap (selector / 8) (record o { bytes = b })) has in
+      let d : descriptor_of t selector ≡ Some (descriptor_for h.heap (kind_in xs (selector / 8)) (selector / 8) o) = (names h xs t m are selector o low there).1 in
+      let whole : descriptor_for h.heap (kind_in xs (selector / 8)) (selector / 8) o ≡ record { base = place; limit = length bytes - 1; present = true; kind = kind_in xs (selector / 8) } = ap (λ (b : Option (List ℕ)). descriptor_for h.heap (kind_in xs (selector / 8)) (selector / 8) (record o { bytes = b })) has in
       let near : place + (length bytes - 1) + 1 < 4294967296 = subst (λ (x : Descriptor). x.base + x.limit + 1 < 4294967296) whole (subst (λ d. IfSome d (λ d. d.base + d.limit + 1 < 4294967296)) d bound) in
       let at : Stands h.heap place bytes = stands h.heap are.handles.heap (selector / 8) o bytes there has in
       multiple (length bytes) at.whole.0 (at.whole.1 ∙ ap (λ g. g * at.whole.0) are.handles.grain) (let some = at.some in omega arith)
@@ -231,10 +276,10 @@ module _ {h : Holding} {xs : List (Option Attributes)} {t : selectors.Descriptor
 
   -- where there is none, the slot
   pub slot_known : (r : Result ℕ FarFault) → r ≡ place_of t selector offset count write → OnOk r (IfSome (descriptor_of t selector) (λ d. d.base + d.limit + 1 < 4294967296))
-      → OnOk r ((selector / 8 ≡ far_slot w selector) × (far_fault w selector offset n ≡ None) × (n < 4294967296))
+      → OnOk r ((selector / 8 ≡ far_slot w selector) × (access_fault w write selector offset n ≡ None) × (n < 4294967296))
   slot_known (Err fault) is bound = tt
   slot_known (Ok at) is bound =
-      let here : far_fault (handles_of h xs m) selector offset count ≡ None = subst (Tells (handles_of h xs m) selector offset count) (sym is) (resolved h xs t m are are.handles.heap write selector offset count) in
-      let all = all_counted here bound in
-      let fine : far_fault w selector offset n ≡ None = subst (λ v. far_fault v selector offset n ≡ None) shown (subst (λ k. far_fault (handles_of h xs m) selector offset k ≡ None) all.0 here) in
-      (sym (slot_of_access w selector offset n fine), fine, all.1)
+      let here : access_fault (handles_of h xs m) write selector offset count ≡ None = subst (Tells (handles_of h xs m) write selector offset count) (sym is) (resolved h xs t m are are.handles.heap write selector offset count) in
+      let all = all_counted (no_fault (handles_of h xs m) write selector offset count here).0 bound in
+      let fine : access_fault w write selector offset n ≡ None = subst (λ v. access_fault v write selector offset n ≡ None) shown (subst (λ k. access_fault (handles_of h xs m) write selector offset k ≡ None) all.0 here) in
+      (sym (slot_of_access w selector offset n (no_fault w write selector offset n fine).0), fine, all.1)

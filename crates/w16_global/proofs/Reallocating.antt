@@ -20,12 +20,11 @@ use Rattle.w16_model.proofs.KeptRest.{rest_law}
 use Rattle.w16_model.proofs.ResizedHandles.{reallocated_handles}
 use Rattle.w16_arena.specs.Asked.{HasDiscardedFor, reallocation_prefix}
 use Rattle.w16_selectors.specs.Descriptors as selectors
-use Rattle.w16_selectors.specs.Descriptors.{descriptor_at}
+use Rattle.w16_selectors.specs.Descriptors.{descriptor_at, kind_at, kind_of}
 use Rattle.w16_selectors.specs.declared.Descriptor.{Descriptor}
-use Rattle.w16_selectors.specs.declared.SelKind.TheVariants.{Data}
 use Rattle.w16_global.specs.Parts.{Holding}
-use Rattle.w16_global.specs.Joined.{attributes_in, handles_of, described, followed, forgotten, AreJoined}
-use Rattle.w16_global.proofs.Joined.{described_some, slot_there}
+use Rattle.w16_global.specs.Joined.{attributes_in, handles_of, described, followed, forgotten, kind_in, AreJoined}
+use Rattle.w16_global.proofs.Joined.{described_some, followed_kind, forgotten_kind, kinds_are, slot_there}
 use Rattle.w16_global.proofs.Described.{made_here}
 use Rattle.w16_global.proofs.Forgotten.{each_discarded, still_taken, was_there}
 use Rattle.w16_global.proofs.Sliding.{StandStill, each_known, says_all}
@@ -111,7 +110,7 @@ module _ {h : Holding} {xs : List (Option Attributes)} {t : selectors.Descriptor
 
   -- those that were discarded had a selector
   pub discarded_known : All (λ id. is_some (descriptor_at t id) ≡ true) new.discarded
-  discarded_known = subst (All (λ id. is_some (descriptor_at t id) ≡ true)) (sym has.listed) (each_discarded h.heap new.heap (Some slot) has.prefix keeps t are.described)
+  discarded_known = subst (All (λ id. is_some (descriptor_at t id) ≡ true)) (sym has.listed) (each_discarded h.heap new.heap (Some slot) has.prefix keeps t (kind_in xs) are.described)
 
   -- each object has a descriptor once these were told
   pub known_told : (told : selectors.DescriptorTable) → ((q : ℕ) → descriptor_at told q ≡ forgotten new.discarded t q) → (q : ℕ) → is_some (object_at new.heap q) ≡ true → is_some (descriptor_at told q) ≡ true
@@ -120,43 +119,47 @@ module _ {h : Holding} {xs : List (Option Attributes)} {t : selectors.Descriptor
     | inr other ↦ was_there h.heap new.heap (Some slot) has.prefix keeps q (λ e. let same : slot ≡ q = cc in other (sym same)) here
   ]))
 
-  -- and the object has its own once selectors have followed
+  -- the object is there
+  made : is_some (object_at new.heap slot) ≡ true
+  made = from_bytes (object_at new.heap slot) sized
+    where
+      from_bytes : (p : Option Object) → IsSomeAnd (elim p as (λ _. Option (List ℕ)) [ Some o ↦ o.bytes | None ↦ None ]) (λ bytes. length bytes ≡ n) → is_some p ≡ true
+      from_bytes None f = absurd f
+      from_bytes (Some o) f = refl
+
+  -- and has its own once selectors have followed
   pub known_followed : (from to : ℕ) (told second : selectors.DescriptorTable) → ((q : ℕ) → descriptor_at told q ≡ forgotten new.discarded t q) → ((q : ℕ) → descriptor_at second q ≡ followed new.heap from to told q)
       → is_some (descriptor_at second slot) ≡ true
   known_followed from to told second forgot follows = ap is_some (follows slot) ∙ by_place (finmap.get new.heap.places slot)
     where
-      made : is_some (object_at new.heap slot) ≡ true
-      made = from_bytes (object_at new.heap slot) sized
-        where
-          from_bytes : (p : Option Object) → IsSomeAnd (elim p as (λ _. Option (List ℕ)) [ Some o ↦ o.bytes | None ↦ None ]) (λ bytes. length bytes ≡ n) → is_some p ≡ true
-          from_bytes None f = absurd f
-          from_bytes (Some o) f = refl
-
       taken : is_some (descriptor_at told slot) ≡ true
       taken = known_told told forgot slot made
 
-      either : (b : Bool) → is_some (if b then described new.heap slot else descriptor_at told slot) ≡ true
-      either true = described_some new.heap slot ∙ made
+      either : (b : Bool) → is_some (if b then described new.heap (kind_at told slot) slot else descriptor_at told slot) ≡ true
+      either true = described_some new.heap (kind_at told slot) slot ∙ made
       either false = taken
 
-      by_place : (p : Option ℕ) → is_some (elim p as (λ _. Option Descriptor) [ None ↦ descriptor_at told slot | Some at ↦ if nat_le from at && nat_lt at to then described new.heap slot else descriptor_at told slot ]) ≡ true
+      by_place : (p : Option ℕ) → is_some (elim p as (λ _. Option Descriptor) [ None ↦ descriptor_at told slot | Some at ↦ if nat_le from at && nat_lt at to then described new.heap (kind_at told slot) slot else descriptor_at told slot ]) ≡ true
       by_place None = taken
       by_place (Some at) = either (nat_le from at && nat_lt at to)
 
   pub reallocated_joined : (at from to : ℕ) (told second after : selectors.DescriptorTable) → ((q : ℕ) → q ≢ slot → StandStill h.heap new.heap from to q) → finmap.get new.heap.places slot ≡ Some at
       → ((q : ℕ) → descriptor_at told q ≡ forgotten new.discarded t q) → length told ≡ length t → ((q : ℕ) → descriptor_at second q ≡ followed new.heap from to told q) → length second ≡ length told
-      → after ≡ set second slot (Some (record { base = at; limit = n - 1; present = true; kind = Data })) → AreJoined new xs after
+      → after ≡ set second slot (Some (record { base = at; limit = n - 1; present = true; kind = kind_at second slot })) → AreJoined new xs after
   reallocated_joined at from to told second after still placed forgot many_told follows many_second is =
-      let d : Descriptor = record { base = at; limit = n - 1; present = true; kind = Data } in
+      let d : Descriptor = record { base = at; limit = n - 1; present = true; kind = kind_at second slot } in
       let many : length second ≡ length t = many_second ∙ many_told in
+      let kind_is : kind_at second slot ≡ kind_in xs slot =
+      ap kind_of (follows slot) ∙ followed_kind new.heap from to told slot made ∙ ap kind_of (forgot slot) ∙ forgotten_kind new.discarded t slot ∙ kinds_are h xs t are slot in
       record {
         handles = subst AreHandles (λ i. record { slots = sym cap i - FIRST_SLOT; heap = new.heap; attributes = attributes_in xs; moved = 0 }) (reallocated_handles (handles_of h xs 0) are.handles slot n way new.heap reallocated);
-        described = λ q. ap (λ (l : selectors.DescriptorTable). get_or l q None) is ∙ elim (cases_eq q slot) as (λ _. get_or (set second slot (Some d)) q None ≡ described new.heap q) [
+        described = λ q. ap (λ (l : selectors.DescriptorTable). get_or l q None) is ∙ elim (cases_eq q slot) as (λ _. get_or (set second slot (Some d)) q None ≡ described new.heap (kind_in xs q) q) [
           | inl e ↦ ap (λ k. get_or (set second slot (Some d)) k None) e ∙ get_or-set_same second slot (Some d) None (subst (λ k. slot < k) (sym many) in_table)
-              ∙ sym (ap (λ k. described new.heap k) e ∙ made_here new.heap slot n at (bytes_at new.heap slot) refl sized placed)
+              ∙ sym (ap (λ k. described new.heap (kind_in xs k) k) e ∙ ap (λ k. described new.heap k slot) (sym kind_is) ∙ made_here (kind_at second slot) new.heap slot n at (bytes_at new.heap slot) refl sized placed)
           | inr other ↦ get_or-set_other second slot q (Some d) None other ∙ follows q
-              ∙ says_all h.heap new.heap sound (Some slot) has.prefix keeps from to t told new.discarded has.listed forgot are.described q (λ e. let same : slot ≡ q = cc in other (sym same)) (still q other)
+              ∙ says_all h.heap new.heap sound (Some slot) has.prefix keeps from to t told (kind_in xs) (kinds_are h xs t are) new.discarded has.listed forgot are.described q (λ e. let same : slot ≡ q = cc in other (sym same)) (still q other)
         ];
+        sized = are.sized;
         attributes_many = are.attributes_many ∙ sym cap;
         selectors_many = ap length is ∙ length-set second slot (Some d) ∙ many ∙ are.selectors_many ∙ sym cap;
         some = subst (λ n. FIRST_SLOT ≤ n) (sym cap) are.some;

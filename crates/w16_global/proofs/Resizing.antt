@@ -1,18 +1,20 @@
 -- What GlobalReAlloc and GlobalDiscard answer.
-use Rattle.std.proofs.Common.{◌≡◌, ℕ, ◌≤◌, ◌||◌, ◌==◌, ◌&&◌, inl, inr, Bool, true, false, cond, MatchBool, MatchOption, List, Option, Some, None, Result, Ok, Err, refl, sym, ap, ◌∙◌, subst, arith, ne_eqb}
+use Rattle.std.proofs.Common.{◌≡◌, ℕ, ◌-◌, ◌≤◌, if◌then◌else◌, length, ◌||◌, ◌==◌, ◌&&◌, inl, inr, Bool, true, false, cond, MatchBool, MatchOption, List, Option, Some, None, Result, Ok, Err, option_map, unwrap_or, refl, sym, ap, ◌∙◌, subst, arith, ne_eqb}
 use Rattle.std.proofs.lemmas.Bool.{cases_eq, le-ltb}
 use Rattle.w16_model.specs.declared.Kind.{Kind}
+use Rattle.w16_model.specs.declared.Kind.TheVariants as kinds
 use Rattle.w16_model.specs.declared.Way.{Way}
 use Rattle.w16_model.specs.declared.Refusal.{Refusal}
 use Rattle.w16_model.specs.declared.Refusal.TheVariants as refusals
-use Rattle.w16_model.specs.declared.TheConstants.{LARGEST_SIZE, GMEM_MOVEABLE, GMEM_MODIFY}
-use Rattle.w16_model.specs.Heap.{Heap, Object, object_at, is_fixed, is_discardable}
+use Rattle.w16_model.specs.declared.TheConstants.{LARGEST_SIZE, GMEM_MOVEABLE, GMEM_MODIFY, GMEM_ZEROINIT}
+use Rattle.w16_model.specs.Heap.{Heap, Object, object_at, bytes_at, is_fixed, is_discardable}
 use Rattle.w16_model.specs.Changes.{absent, with_ordered, with_newest}
 use Rattle.w16_model.specs.Request.{Reallocates, moved_bytes}
 use Rattle.w16_model.specs.OneObject.{after_discard}
-use Rattle.w16_model.specs.Handles.{Handles, slot_of_handle}
-use Rattle.w16_model.specs.Calls.{has_flag, rounded_size}
-use Rattle.w16_model.specs.Resizes.{way_asked_again, kind_modified, modified, IsNull, Again, AnswersDiscard, Empties, Resizes, GlobalReAllocs, GlobalDiscards}
+use Rattle.w16_model.specs.Handles.{Handles, handle_of, slot_of_handle}
+use Rattle.w16_model.specs.Calls.{global_size, has_flag, rounded_size}
+use Rattle.w16_model.specs.Owned.{owns, is_owned}
+use Rattle.w16_model.specs.Resizes.{way_asked_again, kind_modified, modified, IsNull, Again, AnswersDiscard, Empties, Resizes, ReAllocsOwn, GlobalReAllocs, GlobalDiscards}
 use Rattle.w16_model.proofs.Absence.{discard_absent}
 use Rattle.w16_model.proofs.Growth.{one_outcome_law}
 use Rattle.w16_model.proofs.KeptHeaps.{taken_here, taken_other}
@@ -54,51 +56,85 @@ empties_ok v still handle slot flags new moveable done rest =
     subst (λ m. MatchBool m (AnswersDiscard v handle handle new (after_discard v.heap slot)) (IsNull v handle new)) (sym moveable)
     (subst (AnswersDiscard v handle handle new) (sym done) (refl, rest ∙ (λ i. record v { heap = new.heap; moved = (still ∙ sym (discard_unmoved v.heap new.heap slot done)) i })))
 
+-- no object's handle is NULL
+not_null : (w : Handles) (handle slot : ℕ) → slot_of_handle w handle ≡ Some slot → (handle == 0) ≡ false
+not_null w handle slot found = ne_eqb handle 0 (λ e. turn (object_at w.heap 0) (subst (λ n. slot_of_handle w n ≡ Some slot) e found))
+  where
+    by_kind : (kind : Kind) → (if 0 == handle_of kind 0 then Some 0 else None) ≡ Some slot → ⊥
+    by_kind kinds.Fixed e = cc
+    by_kind kinds.Moveable e = cc
+    by_kind kinds.Discardable e = cc
+
+    turn : (p : Option Object) → (elim p as (λ _. Option ℕ) [ Some o ↦ if 0 == handle_of o.kind 0 then Some 0 else None | None ↦ None ]) ≡ Some slot → ⊥
+    turn None e = cc
+    turn (Some o) e = by_kind o.kind e
+
 -- What GlobalReAlloc answers for an object, from the handles w, where v is w with nothing moved last.
 module _ (w v : Handles) (v_is : v ≡ record w { moved = 0 }) (handle size flags slot : ℕ) (found : slot_of_handle v handle ≡ Some slot) (new : Handles) where
-  abbrev by_size : ℕ → Bool → Type 0
-  by_size answer none = MatchBool none (Empties w handle slot flags answer new) (Resizes w handle slot flags size answer new)
+  found_in : slot_of_handle w handle ≡ Some slot
+  found_in = sym (ap (λ (x : Handles). slot_of_handle x handle) v_is) ∙ found
 
-  abbrev by_modify : ℕ → Bool → Type 0
-  by_modify answer m = MatchBool m (Again w handle (modified w.heap slot (kind_modified flags)) answer new) (by_size answer (size == 0))
+  owns_is : owns w handle ≡ is_owned v slot
+  owns_is = ap (λ p. unwrap_or (option_map (is_owned w) p) false) found_in ∙ sym (ap (λ (x : Handles). is_owned x slot) v_is)
 
-  answers : (answer : ℕ) (m : Bool) → has_flag flags GMEM_MODIFY ≡ m → by_modify answer m → GlobalReAllocs w handle size flags answer new
-  answers answer m e h = subst (λ p. MatchOption p (IsNull w answer new) (λ slot. MatchBool (has_flag flags GMEM_MODIFY)
-      (Again w handle (modified w.heap slot (kind_modified flags)) answer new)
-      (MatchBool (size == 0) (Empties w handle slot flags answer new) (Resizes w handle slot flags size answer new))))
-      (sym (sym (ap (λ (x : Handles). slot_of_handle x handle) v_is) ∙ found)) (subst (by_modify answer) (sym e) h)
+  -- NULL for an object that a module owns
+  pub answers_owned : is_owned v slot ≡ true → new ≡ v → GlobalReAllocs w handle size flags 0 new
+  answers_owned own rest = subst (λ b. MatchBool b (IsNull w 0 new) (ReAllocsOwn w handle size flags 0 new)) (sym (owns_is ∙ own)) (refl, rest ∙ v_is)
 
-  -- another kind
-  pub answers_modified : (kind : Kind) → kind ≡ kind_modified flags → has_flag flags GMEM_MODIFY ≡ true → new ≡ record v { heap = modified v.heap slot kind } → GlobalReAllocs w handle size flags handle new
-  answers_modified kind kind_is modify rest = answers handle true modify
-      (refl, rest ∙ (λ i. record (v_is i) { heap = modified (v_is i).heap slot (kind_is i) }) ∙ (λ i. record w { heap = modified w.heap slot (kind_modified flags); moved = sym (modified_unmoved w.heap slot (kind_modified flags)) i }))
+  -- how many zeros are behind the bytes of an object that was lengthened
+  pub zeros_known : has_flag flags GMEM_MODIFY ≡ false → (n : ℕ) → n ≡ rounded_size size → (way : Way) → way ≡ way_asked_again flags
+      → (if way.zero then n - unwrap_or (option_map (length {A = ℕ}) (bytes_at v.heap slot)) 0 else 0) ≡ zeroed_behind w handle size flags handle
+  zeros_known kept n n_is way way_is =
+      let more : ℕ = if has_flag flags GMEM_ZEROINIT then rounded_size size - global_size w handle else 0 in
+      (λ i. if (way_is i).zero then n_is i - unwrap_or (option_map (length {A = ℕ}) (bytes_at (v_is i).heap slot)) 0 else 0)
+      ∙ sym (ap (λ b. if b || has_flag flags GMEM_MODIFY then 0 else more) (not_null w handle slot found_in) ∙ ap (λ b. if b then 0 else more) kept
+      ∙ ap (λ p. if has_flag flags GMEM_ZEROINIT then rounded_size size - (elim p as (λ _. ℕ) [ None ↦ 0 | Some slot ↦ unwrap_or (option_map (length {A = ℕ}) (bytes_at w.heap slot)) 0 ]) else 0) found_in)
 
-  module _ (kept : has_flag flags GMEM_MODIFY ≡ false) (some : size ≡ 0 → ⊥) (small : size ≤ LARGEST_SIZE) (n : ℕ) (n_is : n ≡ rounded_size size) (way : Way) (way_is : way ≡ way_asked_again flags) where
-    sized : (answer : ℕ) (answered : Bool) → Reallocates w.heap slot (rounded_size size) (way_asked_again flags) answered new.heap → MatchBool answered (Again w handle new.heap answer new) (IsNull w answer new)
-        → GlobalReAllocs w handle size flags answer new
-    sized answer answered r h = answers answer false kept (subst (by_size answer) (sym (ne_eqb size 0 some)) (subst (λ long. MatchBool long (IsNull w answer new)
-        ((answered : Bool) × (heap : Heap) × Reallocates w.heap slot (rounded_size size) (way_asked_again flags) answered heap × MatchBool answered (Again w handle heap answer new) (IsNull w answer new)))
-        (sym (le-ltb LARGEST_SIZE size small)) (answered, new.heap, r, h)))
+  -- Of one that none owns.
+  module _ (free : is_owned v slot ≡ false) where
+    abbrev by_size : ℕ → Bool → Type 0
+    by_size answer none = MatchBool none (Empties w handle slot flags answer new) (Resizes w handle slot flags size answer new)
 
-    asked : (answered : Bool) → Reallocates v.heap slot n way answered new.heap → Reallocates w.heap slot (rounded_size size) (way_asked_again flags) answered new.heap
-    asked answered h =
-        subst (λ x. Reallocates w.heap slot (rounded_size size) x answered new.heap) way_is
-        (subst (λ k. Reallocates w.heap slot k way answered new.heap) n_is
-        (subst (λ (x : Handles). Reallocates x.heap slot n way answered new.heap) v_is h))
+    abbrev by_modify : ℕ → Bool → Type 0
+    by_modify answer m = MatchBool m (Again w handle (modified w.heap slot (kind_modified flags)) answer new) (by_size answer (size == 0))
 
-    -- another size
-    pub answers_bytes : Reallocates v.heap slot n way true new.heap → new ≡ record v { heap = new.heap; moved = moved_bytes v.heap new.heap } → GlobalReAllocs w handle size flags handle new
-    answers_bytes h rest = sized handle true (asked true h) (refl, rest ∙ ap (λ (x : Handles). record x { heap = new.heap; moved = moved_bytes x.heap new.heap }) v_is)
+    answers : (answer : ℕ) (m : Bool) → has_flag flags GMEM_MODIFY ≡ m → by_modify answer m → GlobalReAllocs w handle size flags answer new
+    answers answer m e h = subst (λ b. MatchBool b (IsNull w answer new) (ReAllocsOwn w handle size flags answer new)) (sym (owns_is ∙ free)) (subst (λ p. MatchOption p (IsNull w answer new) (λ slot. MatchBool (has_flag flags GMEM_MODIFY)
+        (Again w handle (modified w.heap slot (kind_modified flags)) answer new)
+        (MatchBool (size == 0) (Empties w handle slot flags answer new) (Resizes w handle slot flags size answer new))))
+        (sym found_in) (subst (by_modify answer) (sym e) h))
 
-    -- and none, where there is no room
-    pub answers_no_room : Reallocates v.heap slot n way false new.heap → new ≡ record v { heap = new.heap } → GlobalReAllocs w handle size flags 0 new
-    answers_no_room h rest =
-        let same : new.heap ≡ w.heap = (one_outcome_law w.heap new.heap slot (rounded_size size) (way_asked_again flags) (asked false h)).0 in
-        sized 0 false (asked false h) (refl, rest ∙ ap (λ (x : Handles). record x { heap = new.heap }) v_is ∙ (λ i. record w { heap = same i; moved = 0 }))
+    -- another kind
+    pub answers_modified : (kind : Kind) → kind ≡ kind_modified flags → has_flag flags GMEM_MODIFY ≡ true → new ≡ record v { heap = modified v.heap slot kind } → GlobalReAllocs w handle size flags handle new
+    answers_modified kind kind_is modify rest = answers handle true modify
+        (refl, rest ∙ (λ i. record (v_is i) { heap = modified (v_is i).heap slot (kind_is i) }) ∙ (λ i. record w { heap = modified w.heap slot (kind_modified flags); moved = sym (modified_unmoved w.heap slot (kind_modified flags)) i }))
+
+    module _ (kept : has_flag flags GMEM_MODIFY ≡ false) (some : size ≡ 0 → ⊥) (small : size ≤ LARGEST_SIZE) (n : ℕ) (n_is : n ≡ rounded_size size) (way : Way) (way_is : way ≡ way_asked_again flags) where
+      sized : (answer : ℕ) (answered : Bool) → Reallocates w.heap slot (rounded_size size) (way_asked_again flags) answered new.heap → MatchBool answered (Again w handle new.heap answer new) (IsNull w answer new)
+          → GlobalReAllocs w handle size flags answer new
+      sized answer answered r h = answers answer false kept (subst (by_size answer) (sym (ne_eqb size 0 some)) (subst (λ long. MatchBool long (IsNull w answer new)
+          ((answered : Bool) × (heap : Heap) × Reallocates w.heap slot (rounded_size size) (way_asked_again flags) answered heap × MatchBool answered (Again w handle heap answer new) (IsNull w answer new)))
+          (sym (le-ltb LARGEST_SIZE size small)) (answered, new.heap, r, h)))
+
+      asked : (answered : Bool) → Reallocates v.heap slot n way answered new.heap → Reallocates w.heap slot (rounded_size size) (way_asked_again flags) answered new.heap
+      asked answered h =
+          subst (λ x. Reallocates w.heap slot (rounded_size size) x answered new.heap) way_is
+          (subst (λ k. Reallocates w.heap slot k way answered new.heap) n_is
+          (subst (λ (x : Handles). Reallocates x.heap slot n way answered new.heap) v_is h))
+
+      -- another size
+      pub answers_bytes : Reallocates v.heap slot n way true new.heap → new ≡ record v { heap = new.heap; moved = moved_bytes v.heap new.heap } → GlobalReAllocs w handle size flags handle new
+      answers_bytes h rest = sized handle true (asked true h) (refl, rest ∙ ap (λ (x : Handles). record x { heap = new.heap; moved = moved_bytes x.heap new.heap }) v_is)
+
+      -- and none, where there is no room
+      pub answers_no_room : Reallocates v.heap slot n way false new.heap → new ≡ record v { heap = new.heap } → GlobalReAllocs w handle size flags 0 new
+      answers_no_room h rest =
+          let same : new.heap ≡ w.heap = (one_outcome_law w.heap new.heap slot (rounded_size size) (way_asked_again flags) (asked false h)).0 in
+          sized 0 false (asked false h) (refl, rest ∙ ap (λ (x : Handles). record x { heap = new.heap }) v_is ∙ (λ i. record w { heap = same i; moved = 0 }))
 
 -- GlobalDiscard moves nothing,
 discards_unmoved : (old : Handles) (handle answer : ℕ) (new : Handles) → GlobalDiscards old handle answer new → new.moved ≡ 0
-discards_unmoved old handle answer new step = turn (slot_of_handle old handle) step
+discards_unmoved old handle answer new step = by_owner (owns old handle) step
   where
     by_answer : (slot : ℕ) (r : Result Heap Refusal) → after_discard old.heap slot ≡ r → AnswersDiscard old handle answer new r → new.moved ≡ 0
     by_answer slot (Ok heap) e again = ap (λ (x : Handles). x.moved) again.1 ∙ discard_unmoved old.heap heap slot e
@@ -107,6 +143,14 @@ discards_unmoved old handle answer new step = turn (slot_of_handle old handle) s
     turn : (p : Option ℕ) → MatchOption p (IsNull old answer new) (λ slot. AnswersDiscard old handle answer new (after_discard old.heap slot)) → new.moved ≡ 0
     turn None null = ap (λ (x : Handles). x.moved) null.1
     turn (Some slot) g = by_answer slot (after_discard old.heap slot) refl g
+
+    by_owner : (b : Bool) → MatchBool b (IsNull old answer new) (ReAllocsOwn old handle 0 GMEM_MOVEABLE answer new) → new.moved ≡ 0
+    by_owner true null = ap (λ (x : Handles). x.moved) null.1
+    by_owner false own = turn (slot_of_handle old handle) own
+
+-- to count none changes no count
+pub counted_none : (count : ℕ) → counted count 0 ≡ count
+counted_none count = omega arith
 
 -- and so writes nothing
 pub discard_written : (old : Handles) (handle answer : ℕ) (new : Handles) → GlobalDiscards old handle answer new → (before after : ℕ)
@@ -117,6 +161,3 @@ discard_written old handle answer new step before after is =
     no_zeros : (b : Bool) → cond {A = ℕ} b 0 0 ≡ 0
     no_zeros true = refl
     no_zeros false = refl
-
-    counted_none : (count : ℕ) → counted count 0 ≡ count
-    counted_none count = omega arith

@@ -17,15 +17,16 @@ use Rattle.w16_model.proofs.KeptHeaps.{inserted_here}
 use Rattle.w16_model.proofs.Others.{others_law}
 use Rattle.w16_arena.specs.Asked.{HasDiscarded, first_eligible}
 use Rattle.w16_model.specs.Handles.{Handles, AreHandles, IsFreeSlot}
-use Rattle.w16_model.proofs.KeptHandles.{with_new_object, compacted_handles, moved_handles}
+use Rattle.w16_model.proofs.KeptHandles.{with_new_object, moved_handles}
+use Rattle.w16_model.proofs.ResizedHandles.{compacted_handles}
 use Rattle.w16_selectors.specs.Descriptors as selectors
-use Rattle.w16_selectors.specs.Descriptors.{descriptor_at, unset}
+use Rattle.w16_selectors.specs.Descriptors.{descriptor_at, kind_at, kind_of, unset}
 use Rattle.w16_selectors.specs.declared.Descriptor.{Descriptor}
-use Rattle.w16_selectors.specs.declared.SelKind.TheVariants.{Data}
+use Rattle.w16_selectors.specs.declared.SelKind.{SelKind}
 use Rattle.w16_global.specs.Parts.{Holding}
-use Rattle.w16_global.specs.Joined.{attributes_in, handles_of, descriptor_for, described, followed, forgotten, AreJoined}
+use Rattle.w16_global.specs.Joined.{attributes_in, handles_of, descriptor_for, described, followed, forgotten, kind_for, kind_in, HasSize, AreJoined}
 use Rattle.w16_model.specs.Calls.{GlobalCompacts}
-use Rattle.w16_global.proofs.Joined.{attributes_set, described_some}
+use Rattle.w16_global.proofs.Joined.{attributes_set, described_some, followed_kind, kinds_are, sized_set}
 use Rattle.w16_global.proofs.Described.{made_here, same_described}
 use Rattle.w16_global.proofs.Forgotten.{gone_says, each_discarded, still_taken, was_there}
 
@@ -33,9 +34,9 @@ use Rattle.w16_global.proofs.Forgotten.{gone_says, each_discarded, still_taken, 
 abbrev pub StandStill : Heap → Heap → ℕ → ℕ → ℕ → Type 0
 StandStill old new from to q = IfSome (finmap.get new.places q) (λ at. ((at < from) ⊎ (to ≤ at)) → finmap.get old.places q ≡ Some at)
 
-module _ (old new : Heap) (is : IsHeap new) (from to : ℕ) (table : selectors.DescriptorTable) (q : ℕ) (object : object_at new q ≡ object_at old q) (says : descriptor_at table q ≡ described old q) where
+module _ (old new : Heap) (is : IsHeap new) (from to : ℕ) (table : selectors.DescriptorTable) (q : ℕ) (holds : SelKind) (object : object_at new q ≡ object_at old q) (says : descriptor_at table q ≡ described old holds q) (kind_is : kind_at table q ≡ holds) where
   -- an object without a place says no address
-  nowhere : finmap.get new.places q ≡ None → described new q ≡ described old q
+  nowhere : finmap.get new.places q ≡ None → described new holds q ≡ described old holds q
   nowhere none = turn (object_at old q) refl
     where
       no_bytes : bytes_at new q ≡ None
@@ -48,34 +49,34 @@ module _ (old new : Heap) (is : IsHeap new) (from to : ℕ) (table : selectors.D
       based : (o : Object) → object_at old q ≡ Some o → o.bytes ≡ None
       based o there = sym (ap (λ (p : Option Object). elim p as (λ _. Option (List ℕ)) [ Some o ↦ o.bytes | None ↦ None ]) (object ∙ there)) ∙ no_bytes
 
-      same : (o : Object) → o.bytes ≡ None → descriptor_for new q o ≡ descriptor_for old q o
-      same o e = ap (λ (b : Option (List ℕ)). descriptor_for new q (record o { bytes = b })) e ∙ sym (ap (λ (b : Option (List ℕ)). descriptor_for old q (record o { bytes = b })) e)
+      same : (o : Object) → o.bytes ≡ None → descriptor_for new holds q o ≡ descriptor_for old holds q o
+      same o e = ap (λ (b : Option (List ℕ)). descriptor_for new holds q (record o { bytes = b })) e ∙ sym (ap (λ (b : Option (List ℕ)). descriptor_for old holds q (record o { bytes = b })) e)
 
-      turn : (p : Option Object) → object_at old q ≡ p → described new q ≡ described old q
-      turn None e = ap (option_map (descriptor_for new q)) (object ∙ e) ∙ sym (ap (option_map (descriptor_for old q)) e)
-      turn (Some o) e = ap (option_map (descriptor_for new q)) (object ∙ e) ∙ ap Some (same o (based o e)) ∙ sym (ap (option_map (descriptor_for old q)) e)
+      turn : (p : Option Object) → object_at old q ≡ p → described new holds q ≡ described old holds q
+      turn None e = ap (option_map (descriptor_for new holds q)) (object ∙ e) ∙ sym (ap (option_map (descriptor_for old holds q)) e)
+      turn (Some o) e = ap (option_map (descriptor_for new holds q)) (object ∙ e) ∙ ap Some (same o (based o e)) ∙ sym (ap (option_map (descriptor_for old holds q)) e)
 
   by_place : ℕ → ℕ → Option ℕ → Option Descriptor
   by_place from to p = elim p [
     | None ↦ descriptor_at table q
-    | Some at ↦ if nat_le from at && nat_lt at to then described new q else descriptor_at table q
+    | Some at ↦ if nat_le from at && nat_lt at to then described new (kind_at table q) q else descriptor_at table q
   ]
 
   -- its selector says what it has to
-  pub slid_says : StandStill old new from to q → followed new from to table q ≡ described new q
+  pub slid_says : StandStill old new from to q → followed new from to table q ≡ described new holds q
   unfolding by_place
   slid_says still = turn (finmap.get new.places q) refl still
     where
       test : (at : ℕ) → finmap.get new.places q ≡ Some at → (((at < from) ⊎ (to ≤ at)) → finmap.get old.places q ≡ Some at) → (a b : Bool) → nat_le from at ≡ a → nat_lt at to ≡ b
-          → (if nat_le from at && nat_lt at to then described new q else descriptor_at table q) ≡ described new q
-      test at there stays true true e f = ap (λ x. if x && nat_lt at to then described new q else descriptor_at table q) e ∙ ap (λ x. if x then described new q else descriptor_at table q) f
+          → (if nat_le from at && nat_lt at to then described new (kind_at table q) q else descriptor_at table q) ≡ described new holds q
+      test at there stays true true e f = ap (λ x. if x && nat_lt at to then described new (kind_at table q) q else descriptor_at table q) e ∙ ap (λ x. if x then described new (kind_at table q) q else descriptor_at table q) f ∙ ap (λ k. described new k q) kind_is
       test at there stays true false e f =
-          ap (λ x. if x && nat_lt at to then described new q else descriptor_at table q) e ∙ ap (λ x. if x then described new q else descriptor_at table q) f
-          ∙ says ∙ sym (same_described old new q object (there ∙ sym (stays (inr (ltb-false at to f)))))
+          ap (λ x. if x && nat_lt at to then described new (kind_at table q) q else descriptor_at table q) e ∙ ap (λ x. if x then described new (kind_at table q) q else descriptor_at table q) f
+          ∙ says ∙ sym (same_described holds old new q object (there ∙ sym (stays (inr (ltb-false at to f)))))
       test at there stays false b e f =
-          ap (λ x. if x && nat_lt at to then described new q else descriptor_at table q) e ∙ says ∙ sym (same_described old new q object (there ∙ sym (stays (inl (let low = leb-false from at e in omega (arith, low))))))
+          ap (λ x. if x && nat_lt at to then described new (kind_at table q) q else descriptor_at table q) e ∙ says ∙ sym (same_described holds old new q object (there ∙ sym (stays (inl (let low = leb-false from at e in omega (arith, low))))))
 
-      turn : (p : Option ℕ) → finmap.get new.places q ≡ p → IfSome p (λ at. ((at < from) ⊎ (to ≤ at)) → finmap.get old.places q ≡ Some at) → followed new from to table q ≡ described new q
+      turn : (p : Option ℕ) → finmap.get new.places q ≡ p → IfSome p (λ at. ((at < from) ⊎ (to ≤ at)) → finmap.get old.places q ≡ Some at) → followed new from to table q ≡ described new holds q
       turn None there h = ap (by_place from to) there ∙ says ∙ sym (nowhere there)
       turn (Some at) there h = ap (by_place from to) there ∙ test at there h (nat_le from at) (nat_lt at to) refl refl
 
@@ -83,22 +84,22 @@ module _ (old new : Heap) (is : IsHeap new) (from to : ℕ) (table : selectors.D
 followed_other : (heap : Heap) (from to : ℕ) (t u : selectors.DescriptorTable) (q : ℕ) → descriptor_at t q ≡ descriptor_at u q → followed heap from to t q ≡ followed heap from to u q
 followed_other heap from to t u q same = ap (λ (d : Option Descriptor). elim (finmap.get heap.places q) as (λ _. Option Descriptor) [
   | None ↦ d
-  | Some at ↦ if nat_le from at && nat_lt at to then described heap q else d
+  | Some at ↦ if nat_le from at && nat_lt at to then described heap (kind_of d) q else d
 ]) same
 
 -- Each slot's selector says what it has to, once some objects were discarded, and others have slid.
-pub says_all : (old new : Heap) → IsHeap new → (about : Option ℕ) (k : ℕ) → KeepsOthers old about k new → (from to : ℕ) (t told : selectors.DescriptorTable) (ids : List ℕ) → ids ≡ take k (eligible (blocks old) old.order about)
-    → ((q : ℕ) → descriptor_at told q ≡ forgotten ids t q) → ((q : ℕ) → descriptor_at t q ≡ described old q) → (q : ℕ) → about ≢ Some q → StandStill old new from to q → followed new from to told q ≡ described new q
-says_all old new is about k keeps from to t told ids ids_is forgot describes q other still = elim (cases_Bool (is_member q (take k (eligible (blocks old) old.order about)))) [
-  | inl gone ↦ gone_says old new is about k keeps from to told q gone (forgot q ∙ ap (λ b. if b then Some unset else descriptor_at t q) (ap (is_member q) ids_is ∙ gone))
+pub says_all : (old new : Heap) → IsHeap new → (about : Option ℕ) (k : ℕ) → KeepsOthers old about k new → (from to : ℕ) (t told : selectors.DescriptorTable) (kinds : ℕ → SelKind) → ((q : ℕ) → kind_at t q ≡ kinds q) → (ids : List ℕ) → ids ≡ take k (eligible (blocks old) old.order about)
+    → ((q : ℕ) → descriptor_at told q ≡ forgotten ids t q) → ((q : ℕ) → descriptor_at t q ≡ described old (kinds q) q) → (q : ℕ) → about ≢ Some q → StandStill old new from to q → followed new from to told q ≡ described new (kinds q) q
+says_all old new is about k keeps from to t told kinds agree ids ids_is forgot describes q other still = elim (cases_Bool (is_member q (take k (eligible (blocks old) old.order about)))) [
+  | inl gone ↦ gone_says old new is about k keeps from to told (kinds q) q gone (forgot q ∙ ap (λ b. if b then Some (unset (kind_at t q)) else descriptor_at t q) (ap (is_member q) ids_is ∙ gone) ∙ ap (λ k. Some (unset k)) (agree q))
   | inr out ↦
-      followed_other new from to told t q (forgot q ∙ ap (λ b. if b then Some unset else descriptor_at t q) (ap (is_member q) ids_is ∙ out))
-      ∙ slid_says old new is from to t q (keeps.kept q other (λ m. false≢true (sym out ∙ m))) (describes q) still
+      followed_other new from to told t q (forgot q ∙ ap (λ b. if b then Some (unset (kind_at t q)) else descriptor_at t q) (ap (is_member q) ids_is ∙ out))
+      ∙ slid_says old new is from to t q (kinds q) (keeps.kept q other (λ m. false≢true (sym out ∙ m))) (describes q) (agree q) still
 ]
 
 -- Each object has a descriptor before others are discarded and slide.
 pub each_known : {h : Holding} {xs : List (Option Attributes)} {t : selectors.DescriptorTable} → AreJoined h xs t → (slot : ℕ) → is_some (object_at h.heap slot) ≡ true → is_some (descriptor_at t slot) ≡ true
-each_known {h} {xs} {t} are slot there = ap is_some (are.described slot) ∙ described_some h.heap slot ∙ there
+each_known {h} {xs} {t} are slot there = ap is_some (are.described slot) ∙ described_some h.heap (kind_in xs slot) slot ∙ there
 
 -- what an answered request was
 granted : (old : Heap) (h : ℕ) (way : Way) (prefix : Option ℕ) (becomes : Object → Type 0) (order : Object → List ℕ → List ℕ) (new : Heap) → Request old h (record { way = way; prefix = prefix; becomes = becomes; order = order }) true new
@@ -131,7 +132,7 @@ module _ {h : Holding} {xs : List (Option Attributes)} {t : selectors.Descriptor
     -- those that were discarded had a selector
     pub discarded_known : All (λ id. is_some (descriptor_at t id) ≡ true) new.discarded
     discarded_known = subst (All (λ id. is_some (descriptor_at t id) ≡ true)) (sym ids_are)
-        (each_discarded h.heap new.heap (Some slot) s.0 keeps t are.described)
+        (each_discarded h.heap new.heap (Some slot) s.0 keeps t (kind_in xs) are.described)
 
     -- and it has the bytes that it was given
     sized : IsSomeAnd (bytes_at new.heap slot) (λ bytes. length bytes ≡ n)
@@ -142,24 +143,34 @@ module _ {h : Holding} {xs : List (Option Attributes)} {t : selectors.Descriptor
         long None f = absurd f
         long (Some b) f = f.0
 
-    pub allocated_joined : (at from to : ℕ) (after : selectors.DescriptorTable) → ((q : ℕ) → q ≢ slot → StandStill h.heap new.heap from to q) → finmap.get new.heap.places slot ≡ Some at
+    -- the object is there
+    made : is_some (object_at new.heap slot) ≡ true
+    made = ap (λ (g : Heap). is_some (object_at g slot)) s.4.same ∙ ap is_some (inserted_here (discarded h.heap s.0 (Some slot)).objects slot s.2 slot refl)
+
+    pub allocated_joined : HasSize (Some a) → (holds : SelKind) → holds ≡ kind_for (Some a) → (at from to : ℕ) (after : selectors.DescriptorTable) → ((q : ℕ) → q ≢ slot → StandStill h.heap new.heap from to q) → finmap.get new.heap.places slot ≡ Some at
         → (told first second : selectors.DescriptorTable) → ((q : ℕ) → descriptor_at told q ≡ forgotten new.discarded t q) → length told ≡ length t
-        → first ≡ set told slot (Some unset) → ((q : ℕ) → descriptor_at second q ≡ followed new.heap from to first q) → length second ≡ length first
-        → after ≡ set second slot (Some (record { base = at; limit = n - 1; present = true; kind = Data })) → AreJoined new (set xs slot (Some a)) after
-    allocated_joined at from to after still placed told first second forgot many_told first_is follows many_second taken =
-        let d : Descriptor = record { base = at; limit = n - 1; present = true; kind = Data } in
-        let many : length second ≡ length t = many_second ∙ ap length first_is ∙ length-set told slot (Some unset) ∙ many_told in
+        → first ≡ set told slot (Some (unset holds)) → ((q : ℕ) → descriptor_at second q ≡ followed new.heap from to first q) → length second ≡ length first
+        → after ≡ set second slot (Some (record { base = at; limit = n - 1; present = true; kind = kind_at second slot })) → AreJoined new (set xs slot (Some a)) after
+    allocated_joined own_size holds holds_is at from to after still placed told first second forgot many_told first_is follows many_second taken =
+        let d : Descriptor = record { base = at; limit = n - 1; present = true; kind = kind_at second slot } in
+        let in_told : slot < length told = subst (λ k. slot < k) (sym many_told) in_table in
+        let many : length second ≡ length t = many_second ∙ ap length first_is ∙ length-set told slot (Some (unset holds)) ∙ many_told in
+        let own : kind_at first slot ≡ holds = ap (λ (l : selectors.DescriptorTable). kind_at l slot) first_is ∙ ap kind_of (get_or-set_same told slot (Some (unset holds)) None in_told) in
+        let kind_is : kind_at second slot ≡ kind_for (Some a) = ap kind_of (follows slot) ∙ followed_kind new.heap from to first slot made ∙ own ∙ holds_is in
         record {
           handles = subst AreHandles (λ i. record { slots = sym cap i - FIRST_SLOT; heap = new.heap; attributes = sym (attributes_set xs slot a within) i; moved = 0 })
               (with_new_object (handles_of h xs 0) are.handles a slot s.0 s.2 (with_newest slot s.2) (stays_for slot way) new.heap free.0 s.4);
           described = λ q. elim (cases_eq q slot) [
             | inl e ↦ ap (λ (l : selectors.DescriptorTable). get_or l q None) taken ∙ ap (λ k. get_or (set second slot (Some d)) k None) e
                 ∙ get_or-set_same second slot (Some d) None (subst (λ k. slot < k) (sym many) in_table)
-                ∙ sym (ap (λ k. described new.heap k) e ∙ made_here new.heap slot n at (bytes_at new.heap slot) refl sized placed)
+                ∙ sym (ap (λ k. described new.heap (kind_in (set xs slot (Some a)) k) k) e ∙ ap (λ x. described new.heap (kind_for x) slot) (get_or-set_same xs slot (Some a) None within)
+                ∙ ap (λ k. described new.heap k slot) (sym kind_is) ∙ made_here (kind_at second slot) new.heap slot n at (bytes_at new.heap slot) refl sized placed)
             | inr other ↦ ap (λ (l : selectors.DescriptorTable). get_or l q None) taken ∙ get_or-set_other second slot q (Some d) None other ∙ follows q
-                ∙ followed_other new.heap from to first told q (ap (λ (l : selectors.DescriptorTable). get_or l q None) first_is ∙ get_or-set_other told slot q (Some unset) None other)
-                ∙ says_all h.heap new.heap s.4.sound (Some slot) s.0 keeps from to t told new.discarded ids_are forgot are.described q (λ e. let same : slot ≡ q = cc in other (sym same)) (still q other)
+                ∙ followed_other new.heap from to first told q (ap (λ (l : selectors.DescriptorTable). get_or l q None) first_is ∙ get_or-set_other told slot q (Some (unset holds)) None other)
+                ∙ says_all h.heap new.heap s.4.sound (Some slot) s.0 keeps from to t told (kind_in xs) (kinds_are h xs t are) new.discarded ids_are forgot are.described q (λ e. let same : slot ≡ q = cc in other (sym same)) (still q other)
+                ∙ ap (λ x. described new.heap (kind_for x) q) (sym (get_or-set_other xs slot q (Some a) None other))
           ];
+          sized = sized_set xs slot (Some a) within are.sized own_size;
           attributes_many = length-set xs slot (Some a) ∙ are.attributes_many ∙ sym cap;
           selectors_many = ap length taken ∙ length-set second slot (Some d) ∙ many ∙ are.selectors_many ∙ sym cap;
           some = subst (λ n. FIRST_SLOT ≤ n) (sym cap) are.some;
@@ -180,35 +191,32 @@ module _ {h : Holding} {xs : List (Option Attributes)} {t : selectors.Descriptor
             there (Some o) e f = cc
 
         unset_still : descriptor_at told slot ≡ None
-        unset_still = forgot slot ∙ ap (λ b. if b then Some unset else descriptor_at t slot) (ap (is_member slot) ids_are ∙ not_its_own)
-            ∙ are.described slot ∙ ap (option_map (descriptor_for h.heap slot)) free.1
+        unset_still = forgot slot ∙ ap (λ b. if b then Some (unset (kind_at t slot)) else descriptor_at t slot) (ap (is_member slot) ids_are ∙ not_its_own)
+            ∙ are.described slot ∙ ap (option_map (descriptor_for h.heap (kind_in xs slot) slot)) free.1
 
     -- each object has a descriptor once the others were told, and its own is taken
-    pub known_told : (told first : selectors.DescriptorTable) → ((q : ℕ) → descriptor_at told q ≡ forgotten new.discarded t q) → length told ≡ length t → first ≡ set told slot (Some unset)
+    pub known_told : (holds : SelKind) (told first : selectors.DescriptorTable) → ((q : ℕ) → descriptor_at told q ≡ forgotten new.discarded t q) → length told ≡ length t → first ≡ set told slot (Some (unset holds))
         → (q : ℕ) → is_some (object_at new.heap q) ≡ true → is_some (descriptor_at first q) ≡ true
-    known_told told first forgot many_told first_is q there = elim (cases_eq q slot) [
-      | inl e ↦ ap (λ (l : selectors.DescriptorTable). is_some (get_or l q None)) first_is ∙ ap (λ k. is_some (get_or (set told slot (Some unset)) k None)) e
-          ∙ ap is_some (get_or-set_same told slot (Some unset) None (subst (λ k. slot < k) (sym many_told) in_table))
-      | inr other ↦ ap (λ (l : selectors.DescriptorTable). is_some (get_or l q None)) first_is ∙ ap is_some (get_or-set_other told slot q (Some unset) None other)
+    known_told holds told first forgot many_told first_is q there = elim (cases_eq q slot) [
+      | inl e ↦ ap (λ (l : selectors.DescriptorTable). is_some (get_or l q None)) first_is ∙ ap (λ k. is_some (get_or (set told slot (Some (unset holds))) k None)) e
+          ∙ ap is_some (get_or-set_same told slot (Some (unset holds)) None (subst (λ k. slot < k) (sym many_told) in_table))
+      | inr other ↦ ap (λ (l : selectors.DescriptorTable). is_some (get_or l q None)) first_is ∙ ap is_some (get_or-set_other told slot q (Some (unset holds)) None other)
           ∙ still_taken new.discarded t told q forgot (each_known are q (was_there h.heap new.heap (Some slot) s.0 keeps q (λ e. let same : slot ≡ q = cc in other (sym same)) there))
     ]
 
     -- and the new one has it still once selectors have followed
-    pub known_followed : (from to : ℕ) (told first second : selectors.DescriptorTable) → ((q : ℕ) → descriptor_at told q ≡ forgotten new.discarded t q) → length told ≡ length t → first ≡ set told slot (Some unset)
+    pub known_followed : (holds : SelKind) (from to : ℕ) (told first second : selectors.DescriptorTable) → ((q : ℕ) → descriptor_at told q ≡ forgotten new.discarded t q) → length told ≡ length t → first ≡ set told slot (Some (unset holds))
         → ((q : ℕ) → descriptor_at second q ≡ followed new.heap from to first q) → is_some (descriptor_at second slot) ≡ true
-    known_followed from to told first second forgot many_told first_is follows = ap is_some (follows slot) ∙ by_place (finmap.get new.heap.places slot)
+    known_followed holds from to told first second forgot many_told first_is follows = ap is_some (follows slot) ∙ by_place (finmap.get new.heap.places slot)
       where
-        made : is_some (object_at new.heap slot) ≡ true
-        made = ap (λ (g : Heap). is_some (object_at g slot)) s.4.same ∙ ap is_some (inserted_here (discarded h.heap s.0 (Some slot)).objects slot s.2 slot refl)
-
         taken : is_some (descriptor_at first slot) ≡ true
-        taken = known_told told first forgot many_told first_is slot made
+        taken = known_told holds told first forgot many_told first_is slot made
 
-        either : (b : Bool) → is_some (if b then described new.heap slot else descriptor_at first slot) ≡ true
-        either true = described_some new.heap slot ∙ made
+        either : (b : Bool) → is_some (if b then described new.heap (kind_at first slot) slot else descriptor_at first slot) ≡ true
+        either true = described_some new.heap (kind_at first slot) slot ∙ made
         either false = taken
 
-        by_place : (p : Option ℕ) → is_some (elim p as (λ _. Option Descriptor) [ None ↦ descriptor_at first slot | Some at ↦ if nat_le from at && nat_lt at to then described new.heap slot else descriptor_at first slot ]) ≡ true
+        by_place : (p : Option ℕ) → is_some (elim p as (λ _. Option Descriptor) [ None ↦ descriptor_at first slot | Some at ↦ if nat_le from at && nat_lt at to then described new.heap (kind_at first slot) slot else descriptor_at first slot ]) ≡ true
         by_place None = taken
         by_place (Some at) = either (nat_le from at && nat_lt at to)
 
@@ -231,7 +239,7 @@ module _ {h : Holding} {xs : List (Option Attributes)} {t : selectors.Descriptor
   ]
 
   pub compaction_known : All (λ id. is_some (descriptor_at t id) ≡ true) new.discarded
-  compaction_known = subst (All (λ id. is_some (descriptor_at t id) ≡ true)) (sym kept.1) (each_discarded h.heap new.heap None kept.0 kept.2 t are.described)
+  compaction_known = subst (All (λ id. is_some (descriptor_at t id) ≡ true)) (sym kept.1) (each_discarded h.heap new.heap None kept.0 kept.2 t (kind_in xs) are.described)
 
   -- each object has a descriptor once the others were told
   pub known_left : (told : selectors.DescriptorTable) → ((q : ℕ) → descriptor_at told q ≡ forgotten new.discarded t q) → (q : ℕ) → is_some (object_at new.heap q) ≡ true → is_some (descriptor_at told q) ≡ true
@@ -241,7 +249,8 @@ module _ {h : Holding} {xs : List (Option Attributes)} {t : selectors.Descriptor
       → ((q : ℕ) → descriptor_at after q ≡ followed new.heap from to told q) → length after ≡ length told → AreJoined new xs after
   compacted_joined from to told after still forgot many_told follows many = record {
     handles = subst AreHandles (λ i. record { slots = sym cap i - FIRST_SLOT; heap = new.heap; attributes = attributes_in xs; moved = 0 }) (moved_handles (record (handles_of h xs 0) { heap = new.heap; moved = moved_bytes h.heap new.heap }) handles 0);
-    described = λ q. follows q ∙ says_all h.heap new.heap handles.heap None kept.0 kept.2 from to t told new.discarded kept.1 forgot are.described q (λ e. cc) (still q);
+    described = λ q. follows q ∙ says_all h.heap new.heap handles.heap None kept.0 kept.2 from to t told (kind_in xs) (kinds_are h xs t are) new.discarded kept.1 forgot are.described q (λ e. cc) (still q);
+    sized = are.sized;
     attributes_many = are.attributes_many ∙ sym cap;
     selectors_many = many ∙ many_told ∙ are.selectors_many ∙ sym cap;
     some = subst (λ n. FIRST_SLOT ≤ n) (sym cap) are.some;

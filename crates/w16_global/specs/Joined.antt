@@ -1,21 +1,24 @@
 -- The objects, their attributes and their selectors together, and the handles that they stand for.
-use Rattle.std.specs.Prelude.{◌≡◌, ℕ, ◌-◌, ◌≤◌, ◌==◌, true, ◌&&◌, ◌||◌, if◌then◌else◌, nat_le, nat_lt, List, length, Option, Some, None, option_map, unwrap_or, refl}
+use Rattle.std.specs.Prelude.{◌≡◌, ℕ, ◌-◌, ◌<◌, ◌≤◌, ◌==◌, true, false, ◌&&◌, ◌||◌, if◌then◌else◌, nat_le, nat_lt, List, length, IfSome, Option, Some, None, option_map, unwrap_or, slice_index_or, refl}
 use Rattle.std.specs.Coded.{Coded, code_by, coded×, coded_ℕ}
 use Rattle.std.specs.Ordering.{nat_cmp}
 use Rattle.std.specs.FinMap as finmap
 use Rattle.std.specs.FinMap.{FinMap}
 use Rattle.w16_model.specs.declared.Attributes.{Attributes}
-use Rattle.w16_model.specs.declared.TheConstants.{FIRST_SLOT, GMEM_MODIFY, GMEM_ZEROINIT}
+use Rattle.w16_model.specs.declared.Owned.{Owned}
+use Rattle.w16_model.specs.declared.TheConstants.{FIRST_SLOT, GRAIN, GMEM_MODIFY, GMEM_ZEROINIT}
 use Rattle.w16_model.specs.Calls.{global_size, has_flag, rounded_size}
 use Rattle.w16_model.specs.Codes.{handles_code}
 use Rattle.w16_model.specs.Discards.{is_member}
-use Rattle.w16_model.specs.Heap.{Heap, Object, object_at}
+use Rattle.w16_model.specs.Heap.{Heap, Object, IsMultiple, object_at}
 use Rattle.w16_model.specs.Table.{by_id}
+use Rattle.w16_model.specs.Owned.{owned_in}
 use Rattle.w16_model.specs.Handles.{Handles, AreHandles}
 use Rattle.w16_selectors.specs.Descriptors as selectors
-use Rattle.w16_selectors.specs.Descriptors.{descriptor_at, unset}
+use Rattle.w16_selectors.specs.Descriptors.{descriptor_at, kind_at, unset}
 use Rattle.w16_selectors.specs.declared.Descriptor.{Descriptor}
-use Rattle.w16_selectors.specs.declared.SelKind.TheVariants.{Data}
+use Rattle.w16_selectors.specs.declared.SelKind.{SelKind}
+use Rattle.w16_selectors.specs.declared.SelKind.TheVariants.{Data, Code}
 use Rattle.w16_global.specs.Parts.{Holding}
 
 -- the attributes that a list by slot has
@@ -44,32 +47,45 @@ abbrev pub zeroed_behind : Handles → ℕ → ℕ → ℕ → ℕ → ℕ
 zeroed_behind old handle size flags answer = if (answer == 0) || has_flag flags GMEM_MODIFY then 0
     else (if has_flag flags GMEM_ZEROINIT then rounded_size size - global_size old handle else 0)
 
--- the descriptor of an object: where it stands, and the offset of its last byte
-abbrev pub descriptor_for : Heap → ℕ → Object → Descriptor
-descriptor_for heap slot o = elim o.bytes [
-  | None ↦ unset
-  | Some bytes ↦ record { base = unwrap_or (finmap.get heap.places slot) 0; limit = length bytes - 1; present = true; kind = Data }
+-- what an object of these attributes holds
+abbrev pub kind_for : Option Attributes → SelKind
+kind_for attributes = if unwrap_or (option_map (λ (o : Owned). o.code) (owned_in attributes)) false then Code else Data
+
+abbrev pub kind_in : List (Option Attributes) → ℕ → SelKind
+kind_in attributes slot = kind_for (slice_index_or attributes slot None)
+
+-- the bytes of an owned object are some whole grains
+abbrev pub HasSize : Option Attributes → Type 0
+HasSize attributes = IfSome (owned_in attributes) (λ (o : Owned). (0 < o.size) × IsMultiple GRAIN o.size)
+
+-- the descriptor of an object that holds this: where it stands, and the offset of its last byte
+abbrev pub descriptor_for : Heap → SelKind → ℕ → Object → Descriptor
+descriptor_for heap kind slot o = elim o.bytes [
+  | None ↦ unset kind
+  | Some bytes ↦ record { base = unwrap_or (finmap.get heap.places slot) 0; limit = length bytes - 1; present = true; kind = kind }
 ]
 
--- what a slot's selector has to say of its object, if it has one
-abbrev pub described : Heap → ℕ → Option Descriptor
-described heap slot = option_map (descriptor_for heap slot) (object_at heap slot)
+-- what a slot's selector has to say of its object, if it has one, by what that holds
+abbrev pub described : Heap → SelKind → ℕ → Option Descriptor
+described heap kind slot = option_map (descriptor_for heap kind slot) (object_at heap slot)
 
 -- the table in which the selectors of the objects that begin in [from, to) say what they have to
 abbrev pub followed : Heap → ℕ → ℕ → selectors.DescriptorTable → ℕ → Option Descriptor
 followed heap from to table slot = elim (finmap.get heap.places slot) [
   | None ↦ descriptor_at table slot
-  | Some at ↦ if nat_le from at && nat_lt at to then described heap slot else descriptor_at table slot
+  | Some at ↦ if nat_le from at && nat_lt at to then described heap (kind_at table slot) slot else descriptor_at table slot
 ]
 
 -- the table in which the selectors of these ids say that their objects have no bytes
 abbrev pub forgotten : List ℕ → selectors.DescriptorTable → ℕ → Option Descriptor
-forgotten ids table slot = if is_member slot ids then Some unset else descriptor_at table slot
+forgotten ids table slot = if is_member slot ids then Some (unset (kind_at table slot)) else descriptor_at table slot
 
--- what holds of them: they stand for handles, whatever was moved last, and each selector says its object's base and limit
+-- what holds of them: they stand for handles, whatever was moved last, each selector says its object's base and limit, and whether it is code,
+-- and what modules own has a size
 pub record AreJoined (holding : Holding) (attributes : List (Option Attributes)) (table : selectors.DescriptorTable) : Type 0 where
   pub handles : AreHandles (handles_of holding attributes 0)
-  pub described : (slot : ℕ) → descriptor_at table slot ≡ described holding.heap slot
+  pub described : (slot : ℕ) → descriptor_at table slot ≡ described holding.heap (kind_in attributes slot) slot
+  pub sized : (slot : ℕ) → HasSize (slice_index_or attributes slot None)
   pub attributes_many : length attributes ≡ holding.cap
   pub selectors_many : length table ≡ holding.cap
   pub some : FIRST_SLOT ≤ holding.cap

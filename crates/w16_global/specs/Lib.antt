@@ -1,3 +1,5 @@
 pub mod Parts
 pub mod Joined
 pub mod Lent
+pub mod Access
+pub mod Owned

@@ -1,5 +1,5 @@
 //! The calls of programs, as the manual of Windows 3.1 names them.
-ghost use Rattle.std.specs.Prelude.{◌≡◌, ◌+◌, ◌^◌, ◌<◌, ◌≤◌, ℕ, if◌then◌else◌, IfSome, IfNone};
+ghost use Rattle.std.specs.Prelude.{◌≡◌, ◌+◌, ◌^◌, ◌<◌, ◌≤◌, ℕ, if◌then◌else◌, IfSome, IfNone, None};
 ghost use Rattle.std.specs.FinMap as finmap;
 ghost use Rattle.w16_model.specs.Heap.{is_discardable};
 ghost use Rattle.w16_model.specs.Calls.{GlobalAllocs, GlobalCompacts, locks_at, is_shared};
@@ -8,6 +8,7 @@ ghost use Rattle.w16_model.specs.Calls as calls;
 ghost use Rattle.w16_model.specs.Fewest.{AllocFewest, CompactsFewest};
 ghost use Rattle.w16_model.specs.Walk.{IsFirstItem, IsItemAt, IsItemCount};
 ghost use Rattle.w16_model.specs.Handles as handles;
+ghost use Rattle.w16_model.specs.Owned as owned;
 ghost use Rattle.w16_region.specs.Bytes.{counted};
 ghost use Rattle.w16_global.specs.Joined.{zeroed};
 
@@ -15,8 +16,8 @@ use crate::global::Global16;
 use w16_model::names::{dword_of, handle_of, selector_of, slot_of};
 use w16_model::{
     Attributes, Entry, GMEM_DDESHARE, GMEM_DISCARDABLE, GMEM_DISCARDED, GMEM_MOVEABLE,
-    GMEM_NOCOMPACT, GMEM_NODISCARD, GMEM_ZEROINIT, GRAIN, Item, Kind, LARGEST_SIZE, Owner, Refusal,
-    Way,
+    GMEM_NOCOMPACT, GMEM_NODISCARD, GMEM_ZEROINIT, GRAIN, Item, Kind, LARGEST_SIZE, Owned, Owner,
+    Refusal, Way,
 };
 
 impl Global16 {
@@ -41,7 +42,7 @@ impl Global16 {
     }
 
     /// The lowest slot that no object has.
-    fn free_slot(&mut self) -> Option<u16>
+    pub(crate) fn free_slot(&mut self) -> Option<u16>
         ensures same { self.new ≡ self.old }
         ensures found { IfSome result (λ slot. IsFreeSlot self.old.handles slot) }
         ensures few { IfSome result (λ slot. slot < 8192) }
@@ -51,7 +52,7 @@ impl Global16 {
     }
 
     /// The lock count of a slot's object.
-    fn locks(&self, slot: u16) -> u8
+    pub(crate) fn locks(&self, slot: u16) -> u8
         ensures { result ≡ locks_at self.now.handles.heap slot }
     {
         self.objects
@@ -64,6 +65,20 @@ impl Global16 {
         ensures { result ≡ finmap.get self.now.handles.attributes slot }
     {
         self.attributes.get(slot as usize).copied().flatten()
+    }
+
+    /// What a slot's object is to its module, if a module owns it.
+    pub(crate) fn owned_at(&self, slot: u16) -> Option<Owned>
+        ensures { result ≡ owned.owned_at self.now.handles slot }
+    {
+        self.attributes_of(slot)?.owned
+    }
+
+    /// Whether a module owns a slot's object.
+    pub(crate) fn is_owned(&self, slot: u16) -> bool
+        ensures { result ≡ owned.is_owned self.now.handles slot }
+    {
+        self.owned_at(slot).is_some()
     }
 
     /// Whether other tasks share a slot's object.
@@ -115,7 +130,7 @@ impl Global16 {
         }
     }
 
-    /// `GlobalFree`: 0, or the handle where it is bad or the object locked.
+    /// `GlobalFree`: 0, or the handle where it is bad, a module owns the object, or it is locked.
     pub fn global_free(&mut self, handle: u16) -> u16
         ensures step { Gives (calls.global_free self.old.handles handle) (calls.Answer.Word result) self.new.handles }
         ensures written { self.new.written ≡ self.old.written }
@@ -123,7 +138,10 @@ impl Global16 {
         let Some(slot) = self.slot_of_handle(handle) else {
             return handle;
         };
-        match self.release(slot) {
+        if self.is_owned(slot) {
+            return handle;
+        }
+        match self.free(slot) {
             Ok(()) => 0,
             Err(_) => handle,
         }
@@ -351,12 +369,13 @@ pub(crate) fn way_asked(flags: u16) -> Way
     }
 }
 
-/// The attributes that flags ask for.
+/// The attributes that flags ask for, of an object that no module owns.
 fn attributes_asked(flags: u16) -> Attributes
-    ensures { result ≡ record { shared = calls.has_flag flags GMEM_DDESHARE } }
+    ensures { result ≡ record { shared = calls.has_flag flags GMEM_DDESHARE; owned = None } }
 {
     Attributes {
         shared: has_flag(flags, GMEM_DDESHARE),
+        owned: None,
     }
 }
 

@@ -1,10 +1,11 @@
 //! Far access: bytes at selector:offset. An access is checked once, by the selector's descriptor, and its bytes are then the object's.
 ghost use Rattle.std.specs.Prelude.{◌≡◌, ◌<◌, ◌^◌, Some, None, length, min, OnOk, OnErr, IfOk, IfErr};
 ghost use Rattle.w16_model.specs.Bytes.{repeated};
-ghost use Rattle.w16_model.specs.Far.{far_fault, far_slot};
+ghost use Rattle.w16_model.specs.Far.{far_slot};
 ghost use Rattle.w16_model.specs.Handles.{Gives};
 ghost use Rattle.w16_model.specs.Far as access;
 ghost use Rattle.w16_region.specs.Bytes.{counted};
+ghost use Rattle.w16_global.specs.Access.{access_fault};
 
 use crate::global::Global16;
 use w16_model::FarFault;
@@ -13,9 +14,9 @@ use w16_model::names::slot_of;
 impl Global16 {
     /// The slot of the object that an access to `n` bytes reaches, or its first fault.
     fn reach(&self, selector: u16, offset: u16, n: usize, write: bool) -> Result<u16, FarFault>
-        ensures ok { IfOk result (λ slot. (slot ≡ far_slot self.now.handles selector) × (far_fault self.now.handles selector offset n ≡ None)) }
+        ensures ok { IfOk result (λ slot. (slot ≡ far_slot self.now.handles selector) × (access_fault self.now.handles write selector offset n ≡ None)) }
         ensures few { OnOk result (n < 2 ^ 32) }
-        ensures err { IfErr result (λ fault. far_fault self.now.handles selector offset n ≡ Some fault) }
+        ensures err { IfErr result (λ fault. access_fault self.now.handles write selector offset n ≡ Some fault) }
     {
         self.selectors
             .resolve(selector, offset, count_of(n), write)?;
@@ -46,7 +47,7 @@ impl Global16 {
     }
 
     /// Writes bytes over those that are there. It tells the first fault as `far_read` does, `ReadOnly` behind `BadSelector` where the object is
-    /// code; then nothing was written.
+    /// code, with bytes or without; then nothing was written.
     pub fn far_write(&mut self, selector: u16, offset: u16, bytes: &[u8]) -> Result<(), FarFault>
         ensures ok { OnOk result (Gives (access.far_write self.old.handles selector offset bytes.now) access.FarAnswer.Done self.new.handles) }
         ensures err { IfErr result (λ fault. Gives (access.far_write self.old.handles selector offset bytes.now) (access.FarAnswer.Fault fault) self.new.handles) }

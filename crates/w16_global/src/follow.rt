@@ -3,20 +3,11 @@ ghost use Rattle.std.specs.Prelude.{All, ◌≡◌, ◌+◌, ◌<◌, ◌≤◌,
 ghost use Rattle.std.specs.FinMap as finmap;
 ghost use Rattle.w16_model.specs.Heap.{IsHeap, object_at, bytes_at};
 ghost use Rattle.w16_selectors.specs.Descriptors.{descriptor_at};
-ghost use Rattle.w16_selectors.specs.declared.SelKind.TheVariants.{Data};
 ghost use Rattle.w16_global.specs.Joined.{followed, forgotten};
 
 use crate::objects::Objects;
 use w16_model::{Block, Span};
-use w16_selectors::{Descriptor, SelKind, Selectors};
-
-/// The descriptor of an object without bytes.
-pub(crate) const NOT_PRESENT: Descriptor = Descriptor {
-    base: 0,
-    limit: 0,
-    present: false,
-    kind: SelKind::Data,
-};
+use w16_selectors::Selectors;
 
 /// The lowest block from an address on that begins below another.
 fn next_within(objects: &Objects, from: u32, to: u32) -> Option<Block>
@@ -33,19 +24,6 @@ fn next_within(objects: &Objects, from: u32, to: u32) -> Option<Block>
     }
 }
 
-/// The descriptor of an object with bytes.
-fn descriptor_of(block: Block) -> Descriptor
-    requires { 0 < block.size }
-    ensures { result ≡ record { base = block.at; limit = block.size - 1; present = true; kind = Data } }
-{
-    Descriptor {
-        base: block.at,
-        limit: block.size - 1,
-        present: true,
-        kind: SelKind::Data,
-    }
-}
-
 /// Says of the selectors of objects that lost their bytes that these aren't present.
 pub(crate) fn forget(selectors: &mut Selectors, discarded: &[u32])
     requires known { All (λ id. is_some (descriptor_at selectors.old id) ≡ true) discarded.now }
@@ -54,7 +32,7 @@ pub(crate) fn forget(selectors: &mut Selectors, discarded: &[u32])
     ensures many { length selectors.new ≡ length selectors.old }
 {
     for id in discarded {
-        selectors.set(*id as u16, NOT_PRESENT);
+        selectors.vacate(*id as u16);
     }
 }
 
@@ -67,7 +45,7 @@ pub(crate) fn follow(objects: &Objects, selectors: &mut Selectors, slid: Span)
 {
     let mut from = slid.from;
     'objects: while let Some(block) = next_within(objects, from, slid.to) {
-        selectors.set(block.id as u16, descriptor_of(block));
+        selectors.place(block.id as u16, block.at, block.size - 1);
         // No other begins before this one ends.
         from = slid.to.min(block.at + block.size);
     }

@@ -1,21 +1,23 @@
 //! The global heap's state, and the steps that its calls are made of.
-ghost use Rattle.std.specs.Prelude.{◌≡◌, ◌%◌, ◌≤◌, ◌<◌, IfOk, IfErr, OnOk, IsSome, Ok, Err, if◌then◌else◌, ◌-◌, length, option_map, unwrap_or};
+ghost use Rattle.std.specs.Prelude.{◌≡◌, ◌%◌, ◌≤◌, ◌<◌, IfOk, IfErr, OnOk, IsSome, Ok, Err, Some, if◌then◌else◌, ◌-◌, length, option_map, unwrap_or};
 ghost use Rattle.std.specs.FinMap as finmap;
 ghost use Rattle.w16_model.specs.Heap.{Heap, object_at, bytes_at, IsMultiple};
 ghost use Rattle.w16_model.specs.Changes.{removed};
 ghost use Rattle.w16_model.specs.Request.{Allocates, Reallocates, moved_bytes};
 ghost use Rattle.w16_model.specs.OneObject.{Enters, after_discard, after_lock, after_unlock, after_free, after_newest, after_oldest, after_touch};
 ghost use Rattle.w16_model.specs.Handles.{IsFreeSlot, empty_handles};
+ghost use Rattle.w16_model.specs.Owned.{without_slot};
 ghost use Rattle.w16_model.specs.Calls.{GlobalCompacts};
 ghost use Rattle.w16_model.specs.Resizes.{modified};
 ghost use Rattle.w16_region.specs.Bytes.{counted};
+ghost use Rattle.w16_global.specs.Joined as joined;
 
-use crate::follow::{NOT_PRESENT, follow, forget};
+use crate::follow::{follow, forget};
 use crate::objects::Objects;
 use std::alloc::{AllocError, Global};
 use std::marker::Model;
 use w16_model::{Attributes, FIRST_SLOT, GRAIN, Kind, MOST_SLOTS, Refusal, Way};
-use w16_selectors::{Descriptor, SelKind, Selectors};
+use w16_selectors::{SelKind, Selectors};
 
 /// The global heap: objects that are named by handles, and whose bytes are reached through selectors. Its value is `Global`: the handles, and
 /// how many bytes of the memory were written so far.
@@ -64,14 +66,15 @@ impl Global16 {
 
     /// A new object without bytes in a free slot.
     pub(crate) fn enter(&mut self, slot: u16, kind: Kind, attributes: Attributes)
-        requires { IsFreeSlot self.old.handles slot }
+        requires free { IsFreeSlot self.old.handles slot }
+        requires sized { joined.HasSize (Some attributes) }
         ensures entered { Enters self.old.handles.heap slot kind self.new.handles.heap }
         ensures rest { self.new.handles ≡ record self.old.handles { heap = self.new.handles.heap; attributes = finmap.insert self.old.handles.attributes slot attributes } }
         ensures written { self.new.written ≡ self.old.written }
     {
         self.objects.enter(slot as u32, kind);
         self.attributes[slot as usize] = Some(attributes);
-        self.selectors.take(slot);
+        self.selectors.take(slot, kind_for(attributes));
     }
 
     /// A new object in a free slot, of so many bytes, a multiple of the grain, if there is room for it as the way has it. The selectors of
@@ -87,6 +90,7 @@ impl Global16 {
         requires free { IsFreeSlot self.old.handles slot }
         requires some { 0 < size }
         requires rounded { IsMultiple GRAIN size }
+        requires sized { joined.HasSize (Some attributes) }
         ensures allocated { Allocates self.old.handles.heap slot size kind 0 way result self.new.handles.heap }
         ensures rest { self.new.handles ≡ record self.old.handles {
           heap = self.new.handles.heap;
@@ -101,17 +105,9 @@ impl Global16 {
         self.moved = placed.moved as u32;
         self.attributes[slot as usize] = Some(attributes);
         forget(&mut self.selectors, self.objects.discarded());
-        self.selectors.take(slot);
+        self.selectors.take(slot, kind_for(attributes));
         follow(&self.objects, &mut self.selectors, placed.slid);
-        self.selectors.set(
-            slot,
-            Descriptor {
-                base: placed.at,
-                limit: size - 1,
-                present: true,
-                kind: SelKind::Data,
-            },
-        );
+        self.selectors.place(slot, placed.at, size - 1);
         true
     }
 
@@ -135,16 +131,7 @@ impl Global16 {
         self.moved = place.moved as u32;
         forget(&mut self.selectors, self.objects.discarded());
         follow(&self.objects, &mut self.selectors, place.slid);
-        let limit = size - 1;
-        self.selectors.set(
-            slot,
-            Descriptor {
-                base: place.at,
-                limit,
-                present: true,
-                kind: SelKind::Data,
-            },
-        );
+        self.selectors.place(slot, place.at, size - 1);
         true
     }
 
@@ -160,15 +147,26 @@ impl Global16 {
         compacted.room
     }
 
-    /// Frees an object that isn't locked.
-    pub(crate) fn release(&mut self, slot: u16) -> Result<(), Refusal>
+    /// Takes an object away, locked or not: its slot is free.
+    pub(crate) fn remove(&mut self, slot: u16)
         requires { IsSome (object_at self.old.handles.heap slot) }
-        ensures ok { OnOk result ((after_free self.old.handles.heap slot ≡ Ok self.new.handles.heap) × (self.new ≡ record self.old { handles = record self.old.handles { heap = self.new.handles.heap; attributes = finmap.remove self.old.handles.attributes slot } })) }
-        ensures err { IfErr result (λ refusal. (after_free self.old.handles.heap slot ≡ Err refusal) × (self.new ≡ self.old)) }
+        ensures { self.new ≡ record self.old { handles = without_slot self.old.handles slot } }
     {
-        self.objects.free(slot as u32)?;
+        self.objects.release(slot as u32);
         self.attributes[slot as usize] = None;
         self.selectors.give(slot);
+    }
+
+    /// Frees an object that isn't locked.
+    pub(crate) fn free(&mut self, slot: u16) -> Result<(), Refusal>
+        requires { IsSome (object_at self.old.handles.heap slot) }
+        ensures ok { OnOk result ((after_free self.old.handles.heap slot ≡ Ok (removed self.old.handles.heap slot)) × (self.new ≡ record self.old { handles = without_slot self.old.handles slot })) }
+        ensures err { IfErr result (λ refusal. (after_free self.old.handles.heap slot ≡ Err refusal) × (self.new ≡ self.old)) }
+    {
+        if self.locks(slot) > 0 {
+            return Err(Refusal::Locked);
+        }
+        self.remove(slot);
         Ok(())
     }
 
@@ -179,7 +177,7 @@ impl Global16 {
         ensures err { IfErr result (λ refusal. (after_discard self.old.handles.heap slot ≡ Err refusal) × (self.new ≡ self.old)) }
     {
         self.objects.discard(slot as u32)?;
-        self.selectors.set(slot, NOT_PRESENT);
+        self.selectors.vacate(slot);
         Ok(())
     }
 
@@ -227,5 +225,16 @@ impl Global16 {
         ensures { self.new ≡ record self.old { handles = record self.old.handles { heap = after_touch self.old.handles.heap slot } } }
     {
         self.objects.touch(slot as u32);
+    }
+}
+
+/// What an object of these attributes holds.
+fn kind_for(attributes: Attributes) -> SelKind
+    ensures { result ≡ joined.kind_for (Some attributes) }
+{
+    if attributes.owned.is_some_and(|owned| owned.code) {
+        SelKind::Code
+    } else {
+        SelKind::Data
     }
 }

@@ -1,8 +1,9 @@
 //! An object's bytes, lent to what is done to them.
-ghost use Rattle.std.specs.Prelude.{◌≡◌, ◌<◌, ◌^◌, ℕ, List, false, length, None, Some, IfSome, IfNone, IsSomeAnd, option_map};
+ghost use Rattle.std.specs.Prelude.{◌≡◌, ◌<◌, ◌^◌, ℕ, List, length, None, Some, IfSome, IfNone, IsSomeAnd, option_map};
 ghost use Rattle.w16_model.specs.Far.{after_write};
 ghost use Rattle.w16_model.specs.Heap.{bytes_at};
 ghost use Rattle.w16_model.specs.Handles as handles;
+ghost use Rattle.w16_model.specs.Owned.{is_code};
 ghost use Rattle.w16_region.specs.Bytes.{counted};
 ghost use Rattle.w16_global.specs.Lent.{Lends};
 
@@ -30,29 +31,25 @@ pub trait Work {
         ensures done { does self.now state.old bytes.old result state.new bytes.new };
 }
 
-/// An object with bytes: its slot, and how many they are.
+/// An object with bytes: its slot, how many they are, and whether it is code.
 #[derive(Clone, Copy, Debug, PartialEq, Eq)]
 pub struct Segment {
     pub slot: u16,
     pub size: u32,
+    pub code: bool,
 }
 
 impl Global16 {
     /// The object that a selector names, if it has bytes.
     pub fn segment(&self, selector: u16) -> Option<Segment>
         ensures found { IfSome result (λ s. (handles.slot_of_selector self.now.handles selector ≡ Some s.slot) × (option_map length (bytes_at self.now.handles.heap s.slot) ≡ Some s.size)) }
+        ensures code { IfSome result (λ s. s.code ≡ is_code self.now.handles s.slot) }
         ensures none { IfNone result ((slot : ℕ) → handles.slot_of_selector self.now.handles selector ≡ Some slot → bytes_at self.now.handles.heap slot ≡ None) }
     {
         let slot = self.slot_of_selector(selector)?;
         let size = self.objects.size(slot as u32)?;
-        Some(Segment { slot, size })
-    }
-
-    /// Whether a slot's object is code. None is yet.
-    pub fn is_code(&self, _slot: u16) -> bool
-        ensures { result ≡ false }
-    {
-        false
+        let code = self.is_code_at(slot);
+        Some(Segment { slot, size, code })
     }
 
     /// Does a work on the bytes of a slot's object. Nothing else of the handles changes: no address, no order of use, no count of bytes moved.

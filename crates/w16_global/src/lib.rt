@@ -7,6 +7,7 @@ mod follow;
 mod global;
 mod lend;
 mod objects;
+mod owned;
 mod realloc;
 
 pub use global::Global16;

@@ -2,9 +2,9 @@
 ghost use Rattle.std.specs.Prelude.{◌≡◌, ◌≢◌, ◌+◌, ◌-◌, ◌%◌, ◌^◌, ◌<◌, ◌≤◌, ◌⊎◌, ℕ, [], Ok, Err, None, Some, length, IfOk, IfErr, OnOk, IfSome, IfNone, IsSomeAnd, option_map, unwrap_or, is_some, take, if◌then◌else◌, IsSome};
 ghost use Rattle.std.specs.FinMap as finmap;
 ghost use Rattle.w16_model.specs.Heap.{IsHeap, object_at, bytes_at, empty_heap, IsMultiple};
-ghost use Rattle.w16_model.specs.Changes.{with_object};
+ghost use Rattle.w16_model.specs.Changes.{with_object, removed};
 ghost use Rattle.w16_model.specs.Request.{Allocates, Compacts, Reallocates, compaction_prefix, moved_bytes};
-ghost use Rattle.w16_model.specs.OneObject.{after_discard, after_free, after_modify, after_lock, after_unlock, after_touch, after_newest, after_oldest};
+ghost use Rattle.w16_model.specs.OneObject.{after_discard, after_modify, after_lock, after_unlock, after_touch, after_newest, after_oldest};
 ghost use Rattle.w16_model.specs.Far.{after_write};
 ghost use Rattle.w16_model.specs.Walk.{IsFirstItem, by_its_id};
 ghost use Rattle.w16_model.specs.Bytes.{part, repeated};
@@ -171,16 +171,12 @@ impl Objects {
         self.arena.enter(id, kind);
     }
 
-    /// Takes an object away, absent or not, unless it is locked.
-    pub fn free(&mut self, id: u32) -> Result<(), Refusal>
-        ensures ok { OnOk result (after_free self.old.heap id ≡ Ok self.new.heap) }
-        ensures err { IfErr result (λ r. (after_free self.old.heap id ≡ Err r) × (self.new ≡ self.old)) }
-        ensures cap { self.new.cap ≡ self.old.cap }
-        ensures written { self.new.written ≡ self.old.written }
+    /// Takes an object away, absent or not, locked or not.
+    pub fn release(&mut self, id: u32)
+        ensures { self.new ≡ record self.old { heap = removed self.old.heap id } }
     {
-        let freed = self.arena.free(&mut self.memory, id);
+        self.arena.release(&mut self.memory, id);
         has_bytes(&self.memory);
-        freed
     }
 
     /// A discardable object that isn't locked gives up its bytes, if it has any.

@@ -10,7 +10,7 @@ use crate::global::Global16;
 use w16_model::{GMEM_DISCARDABLE, GMEM_MODIFY, GMEM_MOVEABLE, Kind, LARGEST_SIZE, Way};
 
 impl Global16 {
-    /// `GlobalReAlloc`: the handle, or 0 where it is bad or the request is refused, and then nothing has changed.
+    /// `GlobalReAlloc`: the handle, or 0 where it is bad, a module owns the object, or the request is refused, and then nothing has changed.
     ///
     /// With `GMEM_MODIFY` the size isn't looked at: an object that isn't fixed becomes discardable with `GMEM_DISCARDABLE`, else moveable. A
     /// size of 0 with `GMEM_MOVEABLE` discards a discardable object that isn't locked, as it may be already; a size of 0 is refused
@@ -36,6 +36,9 @@ impl Global16 {
         let Some(slot) = self.slot_of_handle(handle) else {
             return 0;
         };
+        if self.is_owned(slot) {
+            return 0;
+        }
         if has_flag(flags, GMEM_MODIFY) {
             self.modify(slot, kind_modified(flags));
             return handle;
@@ -70,8 +73,8 @@ impl Global16 {
         }
     }
 
-    /// `GlobalDiscard`: the handle, and a discardable object that isn't locked gives up its bytes, if it has any. 0 for a bad handle, and
-    /// for any other object, which keeps them. It is a `GlobalReAlloc` to 0 bytes with `GMEM_MOVEABLE`.
+    /// `GlobalDiscard`: the handle, and a discardable object that isn't locked gives up its bytes, if it has any. 0 for a bad handle, for an
+    /// object that a module owns, and for any other, which keeps them. It is a `GlobalReAlloc` to 0 bytes with `GMEM_MOVEABLE`.
     pub fn global_discard(&mut self, handle: u16) -> u16
         ensures step { resizes.GlobalDiscards self.old.handles handle result self.new.handles }
         ensures written { self.new.written ≡ self.old.written }

@@ -1,57 +1,118 @@
 -- A step over the kernel's parts, and the sweep behind it, are one step of the machine.
-use Rattle.std.specs.Prelude.{◌≡◌, Bool, true, false}
-use Rattle.std.proofs.Common.{refl, sym, ap, ◌∙◌}
+use Rattle.std.proofs.Common.{◌≡◌, ℕ, ◌⊎◌, inl, inr, Bool, true, false, ◌&&◌, List, Option, Some, None, Err, IfSome, is_some, refl, sym, ap, ◌∙◌}
 use Rattle.std.specs.Ordering.{nat_cmp}
-use Rattle.std.specs.FinMap.{FinMap}
-use Rattle.w16_model.specs.Handles.{AreHandles}
+use Rattle.std.specs.FinMap as finmap
+use Rattle.std.specs.FinMap.{FinMap, get-empty}
+use Rattle.w16_model.specs.declared.Owned.{Owned}
+use Rattle.w16_model.specs.Bytes.{repeated}
+use Rattle.w16_model.specs.Far.{FarCommand, far_slot}
+use Rattle.w16_model.specs.Far.FarCommand.{Read, Write, Fill}
+use Rattle.w16_model.specs.Handles.{Handles, selector_in, offset_in}
+use Rattle.w16_model.specs.Owned.{owned_at}
 use Rattle.w16_model.specs.Table.{Table}
-use Rattle.w16_machine.specs.Machine as machine
-use Rattle.w16_machine.specs.Local.{LocalWorld, IsLocalWorld, left_in}
-use Rattle.w16_machine.specs.LocalMachine.{Command, Step, beside}
-use Rattle.w16_machine.specs.LocalMachine.Command.{OfMachine, OfLocals}
-use Rattle.w16_machine.specs.LocalStays.{may_take_bytes, step_may_take}
-use Rattle.w16_machine.specs.LocalRuns.{IsFewest}
-use Rattle.w16_machine.proofs.LocalDiscards.{local_step_fewest}
-use Rattle.w16_machine.proofs.LocalStays.{tables_law}
-use Rattle.w16_machine.proofs.LocalWorlds.{local_world_law, machine_world}
+use Rattle.w16_loading.specs.AnyStore.{AnyStep, far_reads_file, reads_files}
+use Rattle.w16_loading.specs.Families.{LoadingCommand, LoadingStep}
+use Rattle.w16_loading.specs.Families.LoadingCommand.{OfHandles, OfResizes, OfFar, OfModules, OfResources}
+use Rattle.w16_loading.specs.Fetch.{far_read, far_write, is_not_present}
+use Rattle.w16_loading.specs.File.{Format}
+use Rattle.w16_loading.specs.Modules.{Module, Named, IsSegmentOf, IsResourceOf, is_owned, module_in}
+use Rattle.w16_loading.specs.Replies as printed
+use Rattle.w16_loading.proofs.AnySteps.{reads_no_files_law}
+use Rattle.w16_machine.specs.World.{World}
+use Rattle.w16_machine.specs.Local.{left_in}
+use Rattle.w16_machine.specs.LocalStays.{call_may_take, step_may_take}
+use Rattle.w16_machine.specs.Law.{IsWorld}
+use Rattle.w16_machine.specs.Machine.{Command, IsCommand, OnHandles, after_loading}
+use Rattle.w16_machine.specs.Machine.Command.{OfLoading, OfLocals}
+use Rattle.w16_machine.specs.Fewest.{IsFewest}
+use Rattle.w16_machine.proofs.Discards.{step_fewest}
+use Rattle.w16_machine.proofs.LocalStays.{heaps_law}
+use Rattle.w16_machine.proofs.Stepped.{handles_step}
+use Rattle.w16_machine.proofs.Worlds.{world_kept}
+use Rattle.w16_local.specs.Parts.{with_parts}
 use Rattle.w16_kernel.specs.declared.call.Reply.{Reply}
 use Rattle.w16_kernel.specs.Runs.{reply_of}
-use Rattle.w16_kernel.specs.Parts.{Unswept, swept}
+use Rattle.w16_kernel.specs.Parts.{KernelStep, Unswept, may_take_bytes, swept, world_of}
 
 -- the world that the sweep leaves
-abbrev pub with_swept : LocalWorld → Command → LocalWorld
-with_swept w command = record w { tables = swept (may_take_bytes command) w.world.handles.heap w.tables }
+abbrev pub with_swept : World → Command → World
+with_swept w command = record w { heaps = swept (may_take_bytes command) w.loading.handles.heap w.heaps }
 
-pub swept_step : (old mid : LocalWorld) (command : Command) (reply : machine.Reply) → IsLocalWorld old → Unswept old command reply mid → Step old command reply (with_swept mid command)
-swept_step old mid (OfLocals command) reply is step = step
-swept_step old mid (OfMachine command) reply is step = (step.0, turn (step_may_take command) refl)
-  where
-    left : LocalWorld
-    left = beside old mid.world
+-- a format that accepts no file: what doesn't depend on the format is told by it
+pub no_format : Format
+no_format file = Err 11
 
-    -- where no bytes were taken each heap is left
-    same : step_may_take command ≡ false → left_in mid.world.handles.heap old.tables ≡ mid.tables
-    same m = tables_law old left command reply is m (step.0, refl) ∙ sym step.1
+-- Where no module is loaded, nothing is owned, and no step on handles reads a file.
 
-    ending : (tables : FinMap nat_cmp Table) → tables ≡ left_in mid.world.handles.heap old.tables → record mid { tables = tables } ≡ left
-    ending tables e = λ i. record { world = mid.world; tables = e i; ds = step.2 i }
+no_module : (handle : ℕ) (m : Module) → module_in (finmap.get (finmap.empty {X = Named} {R = nat_cmp}) handle) ≡ Some m → ⊥
+no_module handle m e = let never : ◌≡◌ {A = Option Module} None (Some m) = sym (ap module_in (get-empty {X = Named} nat_cmp handle)) ∙ e in cc
 
-    turn : (b : Bool) → step_may_take command ≡ b → record mid { tables = swept b mid.world.handles.heap mid.tables } ≡ left
-    turn true m = ending (left_in mid.world.handles.heap mid.tables) (ap (left_in mid.world.handles.heap) step.1)
-    turn false m = ending mid.tables (sym (same m))
+and_none : (a b : Bool) → b ≡ false → (a && b) ≡ false
+and_none true b none = none
+and_none false b none = refl
 
--- what holds of every world holds of the one that a step leaves, whose handles are sound
-pub step_world : (old new : LocalWorld) (command : Command) (reply : machine.Reply) → IsLocalWorld old → AreHandles new.world.handles → Step old command reply new → IsLocalWorld new
-step_world old new (OfMachine command) reply is are step = machine_world old new is (record { handles = are }) step.1
-step_world old new (OfLocals command) reply is are step = local_world_law old new (OfLocals command) reply is tt step
+module _ (handles : Handles) (heaps : FinMap nat_cmp Table) (ds : ℕ) (files : List (List ℕ × List ℕ)) (failures : ℕ) (is : IsWorld (world_of handles heaps ds files failures)) where
+  abbrev old : World
+  old = world_of handles heaps ds files failures
 
--- What the kernel tells of a reply: the step, and that it discards as few as it can.
-module _ (old mid : LocalWorld) (command : Command) (is : IsLocalWorld old) where
-  pub told_step : (reply : Reply) → Unswept old command (reply_of reply) mid → Step old command (reply_of reply) (with_swept mid command)
-  told_step reply step = swept_step old mid command (reply_of reply) is step
+  unowned : (slot : ℕ) → is_owned old.loading slot ≡ false
+  unowned slot = turn (owned_at handles slot) (is.loading.owners slot)
+    where
+      turn : (p : Option Owned) → IfSome p (λ _. (handle number : ℕ) × (m : Module) × (IsSegmentOf old.loading slot handle number m ⊎ IsResourceOf old.loading slot handle number m)) → is_some p ≡ false
+      turn None h = refl
+      turn (Some o) (handle, number, m, inl s) = absurd (no_module handle m s.loaded)
+      turn (Some o) (handle, number, m, inr r) = absurd (no_module handle m r.loaded)
 
-  pub told_fewest : (reply : Reply) → Unswept old command (reply_of reply) mid → IsFewest old (record { command = command; reply = reply_of reply; after = with_swept mid command })
-  told_fewest reply step = local_step_fewest old (record { command = command; reply = reply_of reply; after = with_swept mid command }) is (told_step reply step)
+  nothing_met : (command : FarCommand) → far_reads_file old.loading command ≡ false
+  nothing_met (Read pointer count) = and_none (is_not_present (far_read (selector_in pointer) (offset_in pointer) count old.loading).0) _ (unowned (far_slot handles (selector_in pointer)))
+  nothing_met (Write pointer bytes) = and_none (is_not_present (far_write (selector_in pointer) (offset_in pointer) bytes old.loading).0) _ (unowned (far_slot handles (selector_in pointer)))
+  nothing_met (Fill pointer count byte) = and_none (is_not_present (far_write (selector_in pointer) (offset_in pointer) (repeated count byte) old.loading).0) _ (unowned (far_slot handles (selector_in pointer)))
 
-  pub told_world : (reply : Reply) → Unswept old command (reply_of reply) mid → AreHandles mid.world.handles → IsLocalWorld (with_swept mid command)
-  told_world reply step are = step_world old (with_swept mid command) command (reply_of reply) is are (told_step reply step)
+  nothing_read : (command : LoadingCommand) (reply : printed.Reply) (next : Handles) → OnHandles handles command reply next → reads_files old.loading command ≡ false
+  nothing_read (OfHandles command) reply next s = refl
+  nothing_read (OfResizes command) reply next s = refl
+  nothing_read (OfFar command) reply next s = nothing_met command
+  nothing_read (OfModules command) reply next s = absurd s
+  nothing_read (OfResources command) reply next s = absurd s
+
+  module _ (next : Handles) (left : FinMap nat_cmp Table) (chosen : ℕ) where
+    abbrev mid : World
+    mid = world_of next left chosen files failures
+
+    -- heaps go behind a step that may take bytes, and behind any other none has to
+    ended : (format : Format) (command : LoadingCommand) (reply : printed.Reply) → OnHandles handles command reply next → left ≡ heaps → LoadingStep format old.loading command reply mid.loading → AnyStep old.loading command reply mid.loading
+        → swept (may_take_bytes (OfLoading command)) next.heap left ≡ left_in next.heap heaps
+    ended format command reply s same step any = turn command (λ none. heaps_law format old (after_loading old mid.loading) command reply is.heaps none (record { any = any; exact = λ _. step }, refl)) s
+      where
+        left_is : left_in next.heap left ≡ left_in next.heap heaps
+        left_is = ap (left_in next.heap) same
+
+        by_calls : (b : Bool) → (b ≡ false → left_in next.heap heaps ≡ heaps) → swept b next.heap left ≡ left_in next.heap heaps
+        by_calls true stay = left_is
+        by_calls false stay = same ∙ sym (stay refl)
+
+        turn : (command : LoadingCommand) → (step_may_take old.loading command ≡ false → left_in next.heap heaps ≡ heaps) → OnHandles handles command reply next
+            → swept (may_take_bytes (OfLoading command)) next.heap left ≡ left_in next.heap heaps
+        turn (OfHandles command) stay s = by_calls (call_may_take command) stay
+        turn (OfResizes command) stay s = left_is
+        turn (OfFar command) stay s = same ∙ sym (stay (nothing_met command))
+        turn (OfModules command) stay s = absurd s
+        turn (OfResources command) stay s = absurd s
+
+    swept_step : (command : Command) (reply : printed.Reply) → Unswept old command reply mid → KernelStep old command reply (with_swept mid command)
+    swept_step (OfLocals command) reply step format = step
+    swept_step (OfLoading command) reply step format =
+        let made : LoadingStep format old.loading command reply mid.loading = handles_step format old.loading next command reply (nothing_read command reply next step.0) step.0 in
+        let any : AnyStep old.loading command reply mid.loading = reads_no_files_law format old.loading mid.loading command reply (nothing_read command reply next step.0) made in
+        (record { any = any; exact = λ _. made }, (λ i. record { loading = mid.loading; heaps = ended format command reply step.0 step.2 made any i; ds = step.3 i }))
+
+    -- What the kernel tells of a reply: the step, that it discards as few as it can, and that it leaves a world.
+    module _ (command : Command) (reply : Reply) (step : (rest : World) → Unswept (with_parts rest handles heaps ds) command (reply_of reply) (with_parts rest next left chosen)) where
+      pub told_step : KernelStep old command (reply_of reply) (with_swept mid command)
+      told_step = swept_step command (reply_of reply) (step old)
+
+      pub told_fewest : IsFewest old (record { command = command; reply = reply_of reply; after = with_swept mid command })
+      told_fewest = step_fewest (Unit {0}) no_format old (record { command = command; reply = reply_of reply; after = with_swept mid command }) is (told_step no_format)
+
+      pub told_world : IsCommand command → IsWorld (with_swept mid command)
+      told_world known = world_kept (Unit {0}) no_format old (with_swept mid command) command (reply_of reply) is known (told_step no_format)

@@ -2,13 +2,14 @@
 use Rattle.std.specs.Prelude.{◌≤◌, length, IsSome}
 use Rattle.w16_model.specs.Calls as calls
 use Rattle.w16_model.specs.Far as far
-use Rattle.w16_machine.specs.Machine as machine
-use Rattle.w16_machine.specs.Machine.Command.{OfHandles, OfResizes, OfFar}
-use Rattle.w16_machine.specs.Resizes as resizes
-use Rattle.w16_machine.specs.Local.{LocalWorld, beginning}
+use Rattle.w16_loading.specs.Replies as printed
+use Rattle.w16_loading.specs.Families.LoadingCommand.{OfHandles, OfResizes, OfFar}
+use Rattle.w16_loading.specs.Resizes as resizes
+use Rattle.w16_machine.specs.World.{World}
+use Rattle.w16_machine.specs.Local.{beginning}
 use Rattle.w16_machine.specs.LocalCalls as locals
-use Rattle.w16_machine.specs.LocalMachine.{Command}
-use Rattle.w16_machine.specs.LocalMachine.Command.{OfMachine, OfLocals}
+use Rattle.w16_machine.specs.Machine.{Command}
+use Rattle.w16_machine.specs.Machine.Command.{OfLoading, OfLocals}
 use Rattle.w16_kernel.specs.declared.call.Call.{Call}
 use Rattle.w16_kernel.specs.declared.call.Call.TheVariants.{GlobalAlloc, GlobalFree, GlobalLock, GlobalUnlock, GlobalSize, GlobalFlags, GlobalHandle, GetSelectorBase, GetSelectorLimit, GlobalCompact, GlobalReAlloc, GlobalDiscard, GlobalLRUNewest, GlobalLRUOldest, Moved, Walk, Read, Write, Fill, LocalInit, LocalAlloc, LocalReAlloc, LocalDiscard, LocalFree, LocalLock, LocalUnlock, LocalSize, LocalFlags, LocalHandle, LocalCompact, DS}
 use Rattle.w16_kernel.specs.declared.call.Reply.{Reply}
@@ -19,25 +20,25 @@ use Rattle.w16_kernel.specs.declared.call.TheConstants.{MOST_READ, MOST_FILLED}
 
 -- the command of a call
 abbrev pub command_of : Call → Command
-command_of (GlobalAlloc flags size) = OfMachine (OfHandles (calls.HandleCommand.GlobalAlloc flags size))
-command_of (GlobalFree handle) = OfMachine (OfHandles (calls.HandleCommand.GlobalFree handle))
-command_of (GlobalLock handle) = OfMachine (OfHandles (calls.HandleCommand.GlobalLock handle))
-command_of (GlobalUnlock handle) = OfMachine (OfHandles (calls.HandleCommand.GlobalUnlock handle))
-command_of (GlobalSize handle) = OfMachine (OfHandles (calls.HandleCommand.GlobalSize handle))
-command_of (GlobalFlags handle) = OfMachine (OfHandles (calls.HandleCommand.GlobalFlags handle))
-command_of (GlobalHandle selector) = OfMachine (OfHandles (calls.HandleCommand.GlobalHandle selector))
-command_of (GetSelectorBase selector) = OfMachine (OfHandles (calls.HandleCommand.GetSelectorBase selector))
-command_of (GetSelectorLimit selector) = OfMachine (OfHandles (calls.HandleCommand.GetSelectorLimit selector))
-command_of (GlobalCompact size) = OfMachine (OfHandles (calls.HandleCommand.GlobalCompact size))
-command_of (GlobalReAlloc handle size flags) = OfMachine (OfResizes (resizes.ResizeCommand.GlobalReAlloc handle size flags))
-command_of (GlobalDiscard handle) = OfMachine (OfResizes (resizes.ResizeCommand.GlobalDiscard handle))
-command_of (GlobalLRUNewest handle) = OfMachine (OfHandles (calls.HandleCommand.GlobalLRUNewest handle))
-command_of (GlobalLRUOldest handle) = OfMachine (OfHandles (calls.HandleCommand.GlobalLRUOldest handle))
-command_of Moved = OfMachine (OfHandles calls.HandleCommand.Moved)
-command_of Walk = OfMachine (OfHandles calls.HandleCommand.Walk)
-command_of (Read pointer count) = OfMachine (OfFar (far.FarCommand.Read pointer count))
-command_of (Write pointer bytes) = OfMachine (OfFar (far.FarCommand.Write pointer bytes.now))
-command_of (Fill pointer count byte) = OfMachine (OfFar (far.FarCommand.Fill pointer count byte))
+command_of (GlobalAlloc flags size) = OfLoading (OfHandles (calls.HandleCommand.GlobalAlloc flags size))
+command_of (GlobalFree handle) = OfLoading (OfHandles (calls.HandleCommand.GlobalFree handle))
+command_of (GlobalLock handle) = OfLoading (OfHandles (calls.HandleCommand.GlobalLock handle))
+command_of (GlobalUnlock handle) = OfLoading (OfHandles (calls.HandleCommand.GlobalUnlock handle))
+command_of (GlobalSize handle) = OfLoading (OfHandles (calls.HandleCommand.GlobalSize handle))
+command_of (GlobalFlags handle) = OfLoading (OfHandles (calls.HandleCommand.GlobalFlags handle))
+command_of (GlobalHandle selector) = OfLoading (OfHandles (calls.HandleCommand.GlobalHandle selector))
+command_of (GetSelectorBase selector) = OfLoading (OfHandles (calls.HandleCommand.GetSelectorBase selector))
+command_of (GetSelectorLimit selector) = OfLoading (OfHandles (calls.HandleCommand.GetSelectorLimit selector))
+command_of (GlobalCompact size) = OfLoading (OfHandles (calls.HandleCommand.GlobalCompact size))
+command_of (GlobalReAlloc handle size flags) = OfLoading (OfResizes (resizes.ResizeCommand.GlobalReAlloc handle size flags))
+command_of (GlobalDiscard handle) = OfLoading (OfResizes (resizes.ResizeCommand.GlobalDiscard handle))
+command_of (GlobalLRUNewest handle) = OfLoading (OfHandles (calls.HandleCommand.GlobalLRUNewest handle))
+command_of (GlobalLRUOldest handle) = OfLoading (OfHandles (calls.HandleCommand.GlobalLRUOldest handle))
+command_of Moved = OfLoading (OfHandles calls.HandleCommand.Moved)
+command_of Walk = OfLoading (OfHandles calls.HandleCommand.Walk)
+command_of (Read pointer count) = OfLoading (OfFar (far.FarCommand.Read pointer count))
+command_of (Write pointer bytes) = OfLoading (OfFar (far.FarCommand.Write pointer bytes.now))
+command_of (Fill pointer count byte) = OfLoading (OfFar (far.FarCommand.Fill pointer count byte))
 command_of (LocalInit selector start end) = OfLocals (locals.LocalCommand.LocalInit selector start end)
 command_of (LocalAlloc flags size) = OfLocals (locals.LocalCommand.LocalAlloc flags size)
 command_of (LocalReAlloc name size flags) = OfLocals (locals.LocalCommand.LocalReAlloc name size flags)
@@ -52,22 +53,22 @@ command_of (LocalCompact size) = OfLocals (locals.LocalCommand.LocalCompact size
 command_of (DS selector) = OfLocals (locals.LocalCommand.DS selector)
 
 -- the machine's reply
-abbrev pub reply_of : Reply → machine.Reply
-reply_of (replies.Word n) = machine.Reply.Word n
-reply_of (replies.Dword n) = machine.Reply.Dword n
-reply_of (replies.Bytes bytes) = machine.Reply.Bytes bytes.now
-reply_of replies.Done = machine.Reply.Done
-reply_of (replies.Fault fault) = machine.Reply.Fault fault
-reply_of (replies.Walk count) = machine.Reply.Walked count
+abbrev pub reply_of : Reply → printed.Reply
+reply_of (replies.Word n) = printed.Reply.Word n
+reply_of (replies.Dword n) = printed.Reply.Dword n
+reply_of (replies.Bytes bytes) = printed.Reply.Bytes bytes.now
+reply_of replies.Done = printed.Reply.Done
+reply_of (replies.Fault fault) = printed.Reply.Fault fault
+reply_of (replies.Walk count) = printed.Reply.Walked count
 
 -- and that of a reply that keeps its bytes
-abbrev pub answer_of : Answer → machine.Reply
-answer_of (answers.Word n) = machine.Reply.Word n
-answer_of (answers.Dword n) = machine.Reply.Dword n
-answer_of (answers.Bytes bytes) = machine.Reply.Bytes bytes.items
-answer_of answers.Done = machine.Reply.Done
-answer_of (answers.Fault fault) = machine.Reply.Fault fault
-answer_of (answers.Walk count) = machine.Reply.Walked count
+abbrev pub answer_of : Answer → printed.Reply
+answer_of (answers.Word n) = printed.Reply.Word n
+answer_of (answers.Dword n) = printed.Reply.Dword n
+answer_of (answers.Bytes bytes) = printed.Reply.Bytes bytes.items
+answer_of answers.Done = printed.Reply.Done
+answer_of (answers.Fault fault) = printed.Reply.Fault fault
+answer_of (answers.Walk count) = printed.Reply.Walked count
 
 -- a call's numbers are those that a command may have
 abbrev pub IsCall : Call → Type 0
@@ -81,6 +82,6 @@ IsReply (replies.Bytes bytes) = length bytes.now ≤ MOST_READ
 IsReply reply = Unit {0}
 
 -- which commands take memory of the host in a world: one by which a local heap begins
-abbrev pub TakesMemory : LocalWorld → Command → Type 0
+abbrev pub TakesMemory : World → Command → Type 0
 TakesMemory old (OfLocals (locals.LocalCommand.LocalInit selector start end)) = IsSome (beginning old selector start end)
 TakesMemory old command = ⊥

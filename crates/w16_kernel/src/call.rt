@@ -55,7 +55,7 @@ pub enum Call<'a> {
 
 impl Call<'_> {
     ghost use Rattle.std.specs.Prelude.{◌≡◌};
-    ghost use Rattle.w16_machine.specs.LocalStays.{may_take_bytes};
+    ghost use Rattle.w16_kernel.specs.Parts.{may_take_bytes};
     ghost use Rattle.w16_kernel.specs.Runs.{command_of};
 
     /// Whether the call may take bytes of an object of the global heap, and so a local heap with them.

@@ -2,10 +2,10 @@
 ghost use Rattle.std.specs.Prelude.{◌≡◌, ◌+◌, ◌%◌, ◌^◌, ◌<◌, ◌≤◌, List, map, slice_get, All, IfSome, IfOk, OnErr};
 ghost use Rattle.w16_model.specs.Handles.{handle_of};
 ghost use Rattle.w16_model.specs.Walk.{IsFirstItem};
-ghost use Rattle.w16_machine.specs.World.{IsWorldWalk};
-ghost use Rattle.w16_machine.specs.Local.{empty_local_world};
-ghost use Rattle.w16_machine.specs.LocalMachine.{Step, Event, Run};
-ghost use Rattle.w16_machine.specs.LocalRuns.{IsFewest, AreFewest};
+ghost use Rattle.w16_machine.specs.World.{IsWorldWalk, empty_world};
+ghost use Rattle.w16_machine.specs.Machine.{Event, Run};
+ghost use Rattle.w16_machine.specs.Fewest.{IsFewest, AreFewest};
+ghost use Rattle.w16_kernel.specs.Parts.{KernelStep};
 ghost use Rattle.w16_kernel.specs.Runs.{command_of, reply_of, answer_of, IsCall, IsReply, TakesMemory};
 ghost use Rattle.w16_kernel.specs.Stops.{StopsEarly};
 
@@ -16,37 +16,40 @@ use std::marker::Model;
 use w16_global::Global16;
 use w16_local::LocalHeaps;
 use w16_model::{GRAIN, Item, MOST_SLOTS};
+use w16_store::Store;
 
-/// The machine. Its value is the world that a script sees.
+/// The machine over a store of module files. Its value is the world that a script sees. No call loads a module yet, so none reads the store.
 #[derive(Drop)]
-pub struct Kernel {
+pub struct Kernel<S: Store + Drop> {
     alloc: Global,
     global: Global16,
     locals: LocalHeaps,
     ds: u16,
+    store: S,
 }
 
-impl Model for Kernel {
-    ghost use Rattle.w16_machine.specs.Local.{LocalWorld, IsLocalWorld};
-    ghost use Rattle.w16_kernel.specs.Codes.{local_world_code};
+impl<S: Store + Drop> Model for Kernel<S> {
+    ghost use Rattle.w16_machine.specs.World.{World};
+    ghost use Rattle.w16_machine.specs.Law.{IsWorld};
+    ghost use Rattle.w16_kernel.specs.Codes.{world_code};
     ghost use Rattle.w16_kernel.specs.Parts.{world_of};
 
-    ghost Value = { LocalWorld };
+    ghost Value = { World };
 
-    ghost coded = { local_world_code };
+    ghost coded = { world_code };
 
-    ghost view = { λ k. world_of k.global.handles k.locals k.ds };
+    ghost view = { λ k. world_of k.global.handles k.locals k.ds (S.files k.store) (S.failures k.store) };
 
-    ghost invariant = { λ k. IsLocalWorld (world_of k.global.handles k.locals k.ds) };
+    ghost invariant = { λ k. IsWorld (world_of k.global.handles k.locals k.ds (S.files k.store) (S.failures k.store)) };
 }
 
-impl Kernel {
-    /// A machine over `memory` bytes, a multiple of 32, and so many selectors, at most 8,160, in which nothing is allocated. It takes its
-    /// memory here, but for that of local heaps; an error is that there was none.
-    pub fn new(alloc: Global, memory: u32, slots: u32) -> Result<Kernel, AllocError>
+impl<S: Store + Drop> Kernel<S> {
+    /// A machine over a store, and over `memory` bytes, a multiple of 32, with so many selectors, at most 8,160, in which nothing is allocated.
+    /// It takes its memory here, but for that of local heaps; an error is that there was none, and then the store is dropped.
+    pub fn new(alloc: Global, memory: u32, slots: u32, store: S) -> Result<Kernel<S>, AllocError>
         requires grained { memory % GRAIN ≡ 0 }
         requires few { slots ≤ MOST_SLOTS }
-        ensures { IfOk result (λ kernel. kernel ≡ empty_local_world memory slots) }
+        ensures { IfOk result (λ kernel. kernel ≡ empty_world memory slots (S.files store) (S.failures store)) }
     {
         let locals = LocalHeaps::new(alloc, slots)?;
         // last, so that no way out has to drop it
@@ -56,6 +59,7 @@ impl Kernel {
             global,
             locals,
             ds: 0,
+            store,
         })
     }
 
@@ -67,7 +71,7 @@ impl Kernel {
         room: &'r mut [u8; MOST_READ],
     ) -> Result<Reply<'r>, AllocError>
         requires { IsCall call.now }
-        ensures step { IfOk result (λ reply. Step self.old (command_of call.now) (reply_of reply) self.new) }
+        ensures step { IfOk result (λ reply. KernelStep self.old (command_of call.now) (reply_of reply) self.new) }
         ensures fewest { IfOk result (λ reply. IsFewest self.old (record { command = command_of call.now; reply = reply_of reply; after = self.new })) }
         ensures short { IfOk result (λ reply. IsReply reply) }
         ensures wanted { OnErr result (TakesMemory self.old (command_of call.now)) }
@@ -82,7 +86,7 @@ impl Kernel {
     /// The i-th part of the heap by address, from 0 on: an object's bytes, the object named by its handle, or a hole. None behind the last. It
     /// goes over the parts before it: a whole walk is quicker by [`Kernel::walk_from`].
     pub fn walk_at(&self, i: usize) -> Option<Item>
-        ensures { (items : List Item) × IsWorldWalk self.now.world items × (result ≡ slice_get items i) }
+        ensures { (items : List Item) × IsWorldWalk self.now items × (result ≡ slice_get items i) }
     {
         self.global.are_handles();
         self.global.walk(i)
@@ -90,12 +94,12 @@ impl Kernel {
 
     /// The first part of the heap that begins at an address or above it; none behind the last.
     pub fn walk_from(&self, from: u32) -> Option<Item>
-        ensures found { IsFirstItem handle_of self.now.world.handles.heap from result }
+        ensures found { IsFirstItem handle_of self.now.loading.handles.heap from result }
         ensures inside { IfSome result (λ item. (0 < item.size) × (item.at + item.size < 2 ^ 32)) }
         ensures words { IfSome result (λ item. IfSome item.owner (λ owner. owner.name < 2 ^ 16)) }
 
         // All parts together are the walk of the world.
-        ensures whole { (items : List Item) × IsWorldWalk self.now.world items }
+        ensures whole { (items : List Item) × IsWorldWalk self.now items }
     {
         self.global.are_handles();
         self.global.walk_from(from)
@@ -105,10 +109,10 @@ impl Kernel {
     /// An error is that there was no memory, for the answers or for a `LocalInit`: the calls before it were done, and no other.
     pub fn run_calls(&mut self, calls: &[Call<'_>]) -> Result<Vec<Answer>, AllocError>
         requires { All IsCall calls.now }
-        ensures run { IfOk result (λ answers. (events : List Event) × Run self.old events self.new × (map (λ e. e.command) events ≡ map command_of calls.now)
+        ensures run { IfOk result (λ answers. (events : List Event) × Run KernelStep self.old events self.new × (map (λ e. e.command) events ≡ map command_of calls.now)
             × (map (λ e. e.reply) events ≡ map answer_of answers.items)
             × AreFewest self.old events) }
-        ensures refused { OnErr result (StopsEarly self.old calls.now self.new) }
+        ensures refused { OnErr result (StopsEarly KernelStep self.old calls.now self.new) }
     {
         let mut answers = Vec::with_capacity(self.alloc, calls.len())?;
         let mut room = [0; MOST_READ];

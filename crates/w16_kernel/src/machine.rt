@@ -2,47 +2,54 @@
 ghost use Rattle.std.specs.Prelude.{◌≡◌, ◌+◌, ◌^◌, ◌<◌, List, IfSome, IfOk, OnErr};
 ghost use Rattle.w16_model.specs.Handles.{handle_of};
 ghost use Rattle.w16_model.specs.Walk.{IsFirstItem};
-ghost use Rattle.w16_machine.specs.World.{IsWorldWalk};
-ghost use Rattle.w16_machine.specs.Local.{LocalWorld};
-ghost use Rattle.w16_machine.specs.LocalMachine.{Step};
-ghost use Rattle.w16_machine.specs.LocalRuns.{IsFewest};
+ghost use Rattle.w16_loading.specs.Replies as printed;
+ghost use Rattle.w16_machine.specs.World.{IsWorldWalk, World};
+ghost use Rattle.w16_machine.specs.Machine.{Command, IsSame};
+ghost use Rattle.w16_machine.specs.Fewest.{IsFewest};
+ghost use Rattle.w16_kernel.specs.Parts.{KernelStep};
 ghost use Rattle.w16_kernel.specs.Runs.{command_of, reply_of, IsCall, IsReply, TakesMemory};
 
 use crate::call::{Call, MOST_READ, Reply};
 use crate::kernel::Kernel;
 use std::alloc::AllocError;
 use w16_model::Item;
+use w16_store::Store;
 
 /// A machine in a world, which is asked one call after another, as [`Kernel`] is. What runs calls stands on this, so that neither its
 /// proof nor its code needs a machine's.
 pub trait Machine {
     /// The world that it is in.
-    ghost world: { Self → LocalWorld };
+    ghost world: { Self → World };
 
-    /// One call, by the definition's step, which discards as few objects as it can. Bytes that are read are put into the room. An error
-    /// is that there was no memory for a new local heap, and nothing was done.
+    /// The steps that it may take.
+    ghost steps: { World → Command → printed.Reply → World → Type 0 };
+
+    /// One call: a step that it may take, which discards as few objects as it can. Bytes that are read are put into the room. An error
+    /// is that there was no memory for a new local heap, and the world is the same.
     fn call<'r>(
         &mut self,
         call: &Call<'_>,
         room: &'r mut [u8; MOST_READ],
     ) -> Result<Reply<'r>, AllocError>
         requires { IsCall call.now }
-        ensures step { IfOk result (λ reply. Step (world self.old) (command_of call.now) (reply_of reply) (world self.new)) }
+        ensures step { IfOk result (λ reply. steps (world self.old) (command_of call.now) (reply_of reply) (world self.new)) }
         ensures fewest { IfOk result (λ reply. IsFewest (world self.old) (record { command = command_of call.now; reply = reply_of reply; after = world self.new })) }
         ensures short { IfOk result (λ reply. IsReply reply) }
         ensures wanted { OnErr result (TakesMemory (world self.old) (command_of call.now)) }
-        ensures refused { OnErr result (world self.new ≡ world self.old) };
+        ensures refused { OnErr result (IsSame (world self.old) (world self.new)) };
 
     /// The first part of the heap that begins at an address or above it; none behind the last.
     fn walk_from(&self, from: u32) -> Option<Item>
-        ensures found { IsFirstItem handle_of (world self.now).world.handles.heap from result }
+        ensures found { IsFirstItem handle_of (world self.now).loading.handles.heap from result }
         ensures inside { IfSome result (λ item. (0 < item.size) × (item.at + item.size < 2 ^ 32)) }
         ensures words { IfSome result (λ item. IfSome item.owner (λ owner. owner.name < 2 ^ 16)) }
-        ensures whole { (items : List Item) × IsWorldWalk (world self.now).world items };
+        ensures whole { (items : List Item) × IsWorldWalk (world self.now) items };
 }
 
-impl Machine for Kernel {
+impl<S: Store + Drop> Machine for Kernel<S> {
     ghost world = { λ kernel. kernel };
+
+    ghost steps = { KernelStep };
 
     fn call<'r>(
         &mut self,

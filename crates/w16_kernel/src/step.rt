@@ -1,15 +1,15 @@
 //! One step of the machine over its parts.
-ghost use Rattle.std.specs.Prelude.{◌≡◌, ◌≤◌, List, length, IfOk, OnErr};
+ghost use Rattle.std.specs.Prelude.{◌≡◌, ◌<◌, ◌≤◌, All, List, length, IfOk, OnOk, OnErr};
 ghost use Rattle.w16_model.specs.Handles.{handle_of};
 ghost use Rattle.w16_model.specs.Far.{FarCommand};
 ghost use Rattle.w16_model.specs.Far as far;
 ghost use Rattle.w16_model.specs.Walk.{IsWalk};
-ghost use Rattle.w16_machine.specs.Machine.{FarReplies};
-ghost use Rattle.w16_machine.specs.Local.{LocalWorld};
-ghost use Rattle.w16_machine.specs.LocalStays.{may_take_bytes};
+ghost use Rattle.w16_loading.specs.Replies.{FarReplies};
+ghost use Rattle.w16_machine.specs.World.{World};
+ghost use Rattle.w16_machine.specs.Machine.{IsCommand};
 ghost use Rattle.w16_local.specs.Parts.{with_parts};
 ghost use Rattle.w16_kernel.specs.Runs.{command_of, reply_of, IsCall, IsReply, TakesMemory};
-ghost use Rattle.w16_kernel.specs.Parts.{Unswept, swept};
+ghost use Rattle.w16_kernel.specs.Parts.{Unswept, may_take_bytes, swept};
 
 use crate::call::{Call, MOST_READ, Reply};
 use std::alloc::AllocError;
@@ -31,7 +31,8 @@ fn read<'r>(global: &mut Global16, pointer: u32, room: &'r mut [u8]) -> Reply<'r
 
 /// The reply to a far write.
 fn write(global: &mut Global16, pointer: u32, bytes: &[u8]) -> Reply<'static>
-    ensures { FarReplies global.old.handles (far.FarCommand.Write pointer bytes.now) (reply_of result) global.new.handles }
+    ensures bytes { All (λ b. b < 256) bytes.now }
+    ensures gives { FarReplies global.old.handles (far.FarCommand.Write pointer bytes.now) (reply_of result) global.new.handles }
 {
     match global.far_write(selector_in(pointer), offset_in(pointer), bytes) {
         Ok(()) => Reply::Done,
@@ -76,9 +77,10 @@ pub fn step<'r>(
     room: &'r mut [u8; MOST_READ],
 ) -> Result<Reply<'r>, AllocError>
     requires { IsCall call.now }
-    ensures step { IfOk result (λ reply. (rest : LocalWorld) → Unswept (with_parts rest global.old.handles locals.old ds.old) (command_of call.now) (reply_of reply) (with_parts rest global.new.handles locals.new ds.new)) }
+    ensures step { IfOk result (λ reply. (rest : World) → Unswept (with_parts rest global.old.handles locals.old ds.old) (command_of call.now) (reply_of reply) (with_parts rest global.new.handles locals.new ds.new)) }
+    ensures ranged { OnOk result (IsCommand (command_of call.now)) }
     ensures short { IfOk result (λ reply. IsReply reply) }
-    ensures wanted { OnErr result ((rest : LocalWorld) → TakesMemory (with_parts rest global.old.handles locals.old ds.old) (command_of call.now)) }
+    ensures wanted { OnErr result ((rest : World) → TakesMemory (with_parts rest global.old.handles locals.old ds.old) (command_of call.now)) }
     ensures refused { OnErr result ((global.new ≡ global.old) × (locals.new ≡ locals.old) × (ds.new ≡ ds.old)) }
 {
     match *call {

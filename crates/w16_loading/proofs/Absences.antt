@@ -6,7 +6,7 @@ use Rattle.std.specs.FinMap as finmap
 use Rattle.std.specs.FinMap.{FinMap, same_map, nat_cmp-IsAntisymmetric}
 use Rattle.std.proofs.lemmas.Bool.{cases_eq}
 use Rattle.w16_model.proofs.KeptHeaps.{inserted_here, inserted_other, taken_here, taken_other}
-use Rattle.w16_loading.specs.Modules.{World}
+use Rattle.w16_loading.specs.Modules.{LoadingWorld}
 use Rattle.w16_loading.specs.Release.{without_objects}
 use Rattle.w16_loading.proofs.Undone.{retained, kept_all}
 
@@ -25,7 +25,7 @@ put_same m k x there = same_values (finmap.insert m k x) m (λ q. elim (cases_eq
 pub all_retained : {X : Type 0} (m : FinMap nat_cmp X) (gone : ℕ → Bool) → ((q : ℕ) → gone q ≡ false) → finmap.retain_keys m (λ q. not (gone q)) ≡ m
 all_retained m gone out = same_values (finmap.retain_keys m (λ q. not (gone q))) m (λ q. retained m gone q ∙ ap (λ b. cond (not b) (finmap.get m q) None) (out q))
 
-pub none_gone : (gone : ℕ → Bool) (world : World) → ((q : ℕ) → gone q ≡ false) → without_objects gone world ≡ world
+pub none_gone : (gone : ℕ → Bool) (world : LoadingWorld) → ((q : ℕ) → gone q ≡ false) → without_objects gone world ≡ world
 none_gone gone world out = λ i. record world {
   handles = record world.handles {
     heap = record world.handles.heap {
@@ -35,7 +35,6 @@ none_gone gone world out = λ i. record world {
     };
     attributes = all_retained world.handles.attributes gone out i;
   };
-  owned = all_retained world.owned gone out i;
 }
 
 -- the order in which two go doesn't matter

@@ -4,22 +4,17 @@ use Rattle.std.specs.FinMap as finmap
 use Rattle.std.proofs.lemmas.Bool.{cases_eq}
 use Rattle.w16_model.proofs.KeptHeaps.{inserted_here, inserted_other}
 use Rattle.w16_loading.specs.File.{Resource, numbered}
-use Rattle.w16_loading.specs.Modules.{World, Load, Module, Named, module_at, module_in, imports, importers}
-use Rattle.w16_loading.specs.Modules.Named.{Loaded, BuiltIn}
+use Rattle.w16_loading.specs.Modules.{LoadingWorld, Load, Module, Named, module_at, module_in, imports, importers}
+use Rattle.w16_loading.specs.Modules.Named.{Loaded}
 use Rattle.w16_loading.specs.Free.{Go, used_less, is_left_over, swept}
-use Rattle.w16_loading.specs.Law.{IsWorld, IsLoad, UsesApartLaw}
+use Rattle.w16_loading.specs.Law.{IsLoadingWorld, IsLoad, UsesApartLaw}
+use Rattle.w16_loading.proofs.Given.{loaded_is}
 use Rattle.w16_loading.proofs.Absences.{all_retained, none_gone, put_same}
 use Rattle.w16_loading.proofs.Importers.{HasImporter, Idle, importer_of, idle_parts, none_idle}
 use Rattle.w16_loading.proofs.Bound.{world_used_less}
 
--- what a handle names that names a module
-pub loaded_is : (p : Option Named) (m : Module) → module_in p ≡ Some m → p ≡ Some (Loaded m)
-loaded_is None m e = cc
-loaded_is (Some (Loaded n)) m e = let f : n ≡ m = cc in ap (λ (x : Module). Some (Loaded x)) f
-loaded_is (Some (BuiltIn name)) m e = cc
-
-module _ (old : World) (is : IsWorld old) (handle : ℕ) (m : Module) (loaded : finmap.get old.modules handle ≡ Some (Loaded m)) where
-  abbrev less : World
+module _ (old : LoadingWorld) (is : IsLoadingWorld old) (handle : ℕ) (m : Module) (loaded : finmap.get old.modules handle ≡ Some (Loaded m)) where
+  abbrev less : LoadingWorld
   less = record old { modules = finmap.insert old.modules handle (Loaded (record m { uses = m.uses - 1 })) }
 
   is_less : used_less old handle ≡ less
@@ -59,7 +54,7 @@ module _ (old : World) (is : IsWorld old) (handle : ℕ) (m : Module) (loaded : 
     })
   ]
 
-  none_goes : 0 < importers old.modules handle → (gone : List ℕ) (left : World) → Go less gone left → left ≡ less
+  none_goes : 0 < importers old.modules handle → (gone : List ℕ) (left : LoadingWorld) → Go less gone left → left ≡ less
   none_goes imported [] left go = go.1
   none_goes imported (k ∷ gone) left go = absurd (still_used imported k (idle_parts less.modules k go.0))
 
@@ -94,7 +89,7 @@ module _ (old : World) (is : IsWorld old) (handle : ℕ) (m : Module) (loaded : 
 
 pub uses_apart_law : UsesApartLaw
 uses_apart_law old new handle answer m is at imported f = record {
-  answered = f.answered ∙ ap (λ b. cond b 1 0) (ap (λ (w : World). finmap.contains_key w.modules handle) left ∙ ap is_some (inserted_here old.modules handle (Loaded (record m { uses = m.uses - 1 })) handle refl));
+  answered = f.ended.answered ∙ ap (λ b. cond b 1 0) (ap (λ (w : LoadingWorld). finmap.contains_key w.modules handle) left ∙ ap is_some (inserted_here old.modules handle (Loaded (record m { uses = m.uses - 1 })) handle refl));
   less = f.after ∙ ap swept left ∙ same_swept old is handle m loaded ∙ sym (is_less old is handle m loaded);
   unused = λ e. f.after ∙ ap swept left ∙ same_swept old is handle m loaded ∙ unused_same old is handle m loaded e;
 }
@@ -103,4 +98,4 @@ uses_apart_law old new handle answer m is at imported f = record {
     loaded = loaded_is (finmap.get old.modules handle) m at
 
     left : f.left ≡ less old is handle m loaded
-    left = none_goes old is handle m loaded imported f.gone f.left (subst (λ (w : World). Go w f.gone f.left) (is_less old is handle m loaded) f.went)
+    left = none_goes old is handle m loaded imported f.ended.gone f.left (subst (λ (w : LoadingWorld). Go w f.ended.gone f.left) (is_less old is handle m loaded) f.ended.went)

@@ -4,6 +4,7 @@ use Rattle.std.specs.Ordering.{nat_cmp}
 use Rattle.std.specs.FinMap as finmap
 use Rattle.std.specs.FinMap.{get-empty}
 use Rattle.w16_model.proofs.Empty as handles
+use Rattle.w16_model.specs.Owned.{owned_in}
 use Rattle.w16_loading.specs.Modules.{Module, Named, module_in}
 use Rattle.w16_loading.specs.Law.{EmptyLaw, EmptyOfFilesLaw}
 
@@ -31,12 +32,12 @@ empty_law memory slots files failures few = record {
   one_segment = λ slot a i b j m n x y. let h : ◌≡◌ {A = Option _} None (Some m) = sym (no_module a) ∙ x.loaded in cc;
   one_object = λ s t handle place m n x y. let h : ◌≡◌ {A = Option _} None (Some m) = sym (no_module handle) ∙ x.loaded in cc;
   no_resource = λ slot a i b j m n x y. let h : ◌≡◌ {A = Option _} None (Some m) = sym (no_module a) ∙ x.loaded in cc;
-  owners = λ q. if_none _ _ (none q);
+  owners = λ q. if_none _ _ (ap owned_in (none q));
 }
 
 -- and nothing there is of another file
 pub empty_of_files_law : EmptyOfFilesLaw
 empty_of_files_law format memory slots files failures = record {
   code = λ slot handle number m s coded. let h : ◌≡◌ {A = Option Module} None (Some m) = sym (no_module handle) ∙ s.loaded in cc;
-  tables = λ handle m e. let h : ◌≡◌ {A = Option Module} None (Some m) = sym (no_module handle) ∙ e in cc;
+  modules = λ handle m e. let h : ◌≡◌ {A = Option Module} None (Some m) = sym (no_module handle) ∙ e in cc;
 }

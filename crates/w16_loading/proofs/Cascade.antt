@@ -5,7 +5,7 @@ use Rattle.std.proofs.lemmas.Bool.{false≢true, cases_eq}
 use Rattle.w16_model.specs.Discards.{is_member}
 use Rattle.w16_model.proofs.KeptHeaps.{taken_here, taken_other}
 use Rattle.w16_model.proofs.Prefixes.{filter_swapped}
-use Rattle.w16_loading.specs.Modules.{World, Module, Named, module_in, is_idle}
+use Rattle.w16_loading.specs.Modules.{LoadingWorld, Module, Named, module_in, is_idle}
 use Rattle.w16_loading.specs.Modules.Named.{Loaded}
 use Rattle.w16_loading.specs.Release.{without_objects}
 use Rattle.w16_loading.specs.Free.{Go, without_module}
@@ -15,14 +15,14 @@ use Rattle.w16_loading.proofs.Importers.{HasImporter, Idle, idle_parts, is_then_
 use Rattle.w16_loading.proofs.Bound.{world_without}
 
 -- the world without a module that is there
-abbrev pub gone_with : World → ℕ → Module → World
+abbrev pub gone_with : LoadingWorld → ℕ → Module → LoadingWorld
 gone_with world handle m = let left = without_objects (λ q. is_member q m.slots) world in record left { modules = finmap.remove left.modules handle }
 
-pub went : (world : World) (handle : ℕ) (m : Module) → finmap.get world.modules handle ≡ Some (Loaded m) → without_module world handle ≡ gone_with world handle m
+pub went : (world : LoadingWorld) (handle : ℕ) (m : Module) → finmap.get world.modules handle ≡ Some (Loaded m) → without_module world handle ≡ gone_with world handle m
 went world handle m e = ap (λ p. world_without world handle (module_in p)) e
 
 -- what is idle stays idle until it goes
-stays_idle : (world : World) (handle k : ℕ) (m : Module) → k ≢ handle → Idle world.modules k → Idle (gone_with world handle m).modules k
+stays_idle : (world : LoadingWorld) (handle k : ℕ) (m : Module) → k ≢ handle → Idle world.modules k → Idle (gone_with world handle m).modules k
 stays_idle world handle k m d h = record {
   idle = h.idle;
   loaded = taken_other world.modules handle k d ∙ h.loaded;
@@ -40,7 +40,7 @@ stays_idle world handle k m d h = record {
         none e = cc
 
 -- two go in either order
-swapped : (world : World) (a b : ℕ) (m n : Module) → gone_with (gone_with world a m) b n ≡ gone_with (gone_with world b n) a m
+swapped : (world : LoadingWorld) (a b : ℕ) (m n : Module) → gone_with (gone_with world a m) b n ≡ gone_with (gone_with world b n) a m
 swapped world a b m n = λ i. record world {
   handles = record world.handles {
     heap = record world.handles.heap {
@@ -50,7 +50,6 @@ swapped world a b m n = λ i. record world {
     };
     attributes = retained_swapped world.handles.attributes in_m in_n i;
   };
-  owned = retained_swapped world.owned in_m in_n i;
   modules = removed_swapped world.modules a b i;
 }
   where
@@ -61,7 +60,7 @@ swapped world a b m n = λ i. record world {
     in_n q = is_member q n.slots
 
 -- what is idle may go first
-goes_first : (old : World) (k : ℕ) → Idle old.modules k → (xs : List ℕ) (end : World) → Go old xs end → (rest : List ℕ) × Go (without_module old k) rest end
+goes_first : (old : LoadingWorld) (k : ℕ) → Idle old.modules k → (xs : List ℕ) (end : LoadingWorld) → Go old xs end → (rest : List ℕ) × Go (without_module old k) rest end
 goes_first old k idle [] end go = absurd (false≢true (sym (go.0 k) ∙ is_then_idle old.modules k idle))
 goes_first old k idle (x ∷ xs) end go = turn (λ later. goes_first (without_module old x) k later xs end go.1) (cases_eq k x)
   where
@@ -71,23 +70,23 @@ goes_first old k idle (x ∷ xs) end go = turn (λ later. goes_first (without_mo
     turn : (Idle (without_module old x).modules k → (rest : List ℕ) × Go (without_module (without_module old x) k) rest end) → (k ≡ x) ⊎ (k ≢ x) → (rest : List ℕ) × Go (without_module old k) rest end
     turn again (inl e) = (xs, subst (λ h. Go (without_module old h) xs end) (sym e) go.1)
     turn again (inr d) =
-        let later : Idle (without_module old x).modules k = subst (λ (w : World). Idle w.modules k) (sym (went old x first.idle first.loaded)) (stays_idle old x k first.idle d idle) in
+        let later : Idle (without_module old x).modules k = subst (λ (w : LoadingWorld). Idle w.modules k) (sym (went old x first.idle first.loaded)) (stays_idle old x k first.idle d idle) in
         let rest : (rest : List ℕ) × Go (without_module (without_module old x) k) rest end = again later in
         let sooner : Idle (gone_with old k idle.idle).modules x = stays_idle old k x idle.idle (λ e. d (sym e)) first in
         let same : without_module (without_module old x) k ≡ without_module (without_module old k) x = both_ways later sooner in (
           x ∷ rest.0,
           (
-            subst (λ (w : World). is_idle w.modules x ≡ true) (sym (went old k idle.idle idle.loaded)) (is_then_idle (gone_with old k idle.idle).modules x sooner),
-            subst (λ (w : World). Go w rest.0 end) same rest.1,
+            subst (λ (w : LoadingWorld). is_idle w.modules x ≡ true) (sym (went old k idle.idle idle.loaded)) (is_then_idle (gone_with old k idle.idle).modules x sooner),
+            subst (λ (w : LoadingWorld). Go w rest.0 end) same rest.1,
           ),
         )
       where
         both_ways : Idle (without_module old x).modules k → Idle (gone_with old k idle.idle).modules x → without_module (without_module old x) k ≡ without_module (without_module old k) x
         both_ways later sooner =
-            ap (λ (w : World). without_module w k) (went old x first.idle first.loaded)
+            ap (λ (w : LoadingWorld). without_module w k) (went old x first.idle first.loaded)
             ∙ went (gone_with old x first.idle) k idle.idle (taken_other old.modules x k d ∙ idle.loaded)
             ∙ swapped old x k first.idle idle.idle
-            ∙ sym (ap (λ (w : World). without_module w x) (went old k idle.idle idle.loaded) ∙ went (gone_with old k idle.idle) x first.idle (taken_other old.modules k x (λ e. d (sym e)) ∙ first.loaded))
+            ∙ sym (ap (λ (w : LoadingWorld). without_module w x) (went old k idle.idle idle.loaded) ∙ went (gone_with old k idle.idle) x first.idle (taken_other old.modules k x (λ e. d (sym e)) ∙ first.loaded))
 
 pub one_end_law : OneEndLaw
 one_end_law old a b [] [] go other = go.1 ∙ sym other.1

@@ -2,33 +2,27 @@
 use Rattle.std.proofs.Common.{◌≡◌, ℕ, zero, suc, List, [], ◌∷◌, Result, Ok, Err, IfOk, refl, sym, ap, ◌∙◌, subst}
 use Rattle.w16_loading.specs.File.{Format}
 use Rattle.w16_loading.specs.Closure.{Around, Closure, followed, after}
+use Rattle.w16_loading.proofs.Readings.{from_next, from_list}
 use Rattle.w16_loading.specs.Law.{OneClosureLaw}
 
 abbrev IsDone : Result Closure ℕ → Type 0
 IsDone outcome = IfOk outcome (λ c. c.pending ≡ [])
 
 module _ (format : Format) (around : Around) where
-  -- what follows of these references
-  abbrev next_of : ℕ → Result Closure ℕ → Result Closure ℕ
-  next_of n r = elim r [ Ok next ↦ after format around n next | Err answer ↦ Err answer ]
-
-  abbrev of_list : ℕ → Closure → List (ℕ × List ℕ) → Result Closure ℕ
-  of_list n closure p = elim p [ [] ↦ Ok closure | (x ∷ rest) ↦ next_of n (followed format around (record closure { pending = rest }) x.0 x.1) ]
-
   -- with nothing pending nothing changes
   still : (n : ℕ) (closure : Closure) → closure.pending ≡ [] → after format around n closure ≡ Ok closure
   still zero closure e = refl
-  still (suc n) closure e = ap (of_list n closure) e
+  still (suc n) closure e = ap (from_list format around n closure) e
 
   -- two outcomes are one
   abbrev One : ℕ → ℕ → Type 0
   One n m = (closure : Closure) → IsDone (after format around n closure) → IsDone (after format around m closure) → after format around n closure ≡ after format around m closure
 
-  one_next : (n m : ℕ) → One n m → (r : Result Closure ℕ) → IsDone (next_of n r) → IsDone (next_of m r) → next_of n r ≡ next_of m r
+  one_next : (n m : ℕ) → One n m → (r : Result Closure ℕ) → IsDone (from_next format around n r) → IsDone (from_next format around m r) → from_next format around n r ≡ from_next format around m r
   one_next n m one (Ok next) a b = one next a b
   one_next n m one (Err answer) a b = refl
 
-  one_list : (n m : ℕ) → One n m → (closure : Closure) (p : List (ℕ × List ℕ)) → IsDone (of_list n closure p) → IsDone (of_list m closure p) → of_list n closure p ≡ of_list m closure p
+  one_list : (n m : ℕ) → One n m → (closure : Closure) (p : List (ℕ × List ℕ)) → IsDone (from_list format around n closure p) → IsDone (from_list format around m closure p) → from_list format around n closure p ≡ from_list format around m closure p
   one_list n m one closure [] a b = refl
   one_list n m one closure (x ∷ rest) a b = one_next n m one (followed format around (record closure { pending = rest }) x.0 x.1) a b
 

@@ -1,40 +1,28 @@
 -- What a closure has found: modules of names that nothing had, each but the first asked for by another.
-use Rattle.std.proofs.Common.{◌≡◌, ◌≢◌, ℕ, zero, suc, ◌+◌, ◌<◌, ◌≤◌, inl, inr, Bool, true, false, cond, not, nat_lt, List, [], ◌∷◌, ◌++◌, length, map, position, Option, Some, None, Result, Ok, Err, IfOk, option_map, refl, sym, ap, ◌∙◌, subst, arith, ltb-true, ltb-false, length-append}
-use Rattle.std.specs.List.{AllByRecursion as Each, position_or_len}
+use Rattle.std.proofs.Common.{◌≡◌, ◌≢◌, ℕ, zero, suc, ◌+◌, ◌<◌, ◌≤◌, inl, inr, Bool, true, false, nat_lt, List, [], ◌∷◌, ◌++◌, length, map, position, Option, Some, None, IfSome, Result, Ok, Err, IfOk, option_map, refl, sym, ap, ◌∙◌, subst, arith, ltb-true, ltb-false, length-append}
+use Rattle.std.specs.List.{AllByRecursion as Each}
 use Rattle.std.specs.Option.{option_or}
 use Rattle.w16_model.proofs.Gaps.{Member, EachPair}
 use Rattle.w16_store.specs.Names.{is_named}
-use Rattle.w16_loading.specs.File.{Format, ModuleFile}
-use Rattle.w16_loading.specs.Closure.{Around, Closure, Found, Reading, Referent, reading, meant, are_sound, followed, after, begun, dll, with_bound, with_found}
-use Rattle.w16_loading.specs.Closure.Reading.{Refused, Meant, Read}
+use Rattle.w16_loading.specs.File.{Format, IsFormat, IsModuleFile, ModuleFile}
+use Rattle.w16_loading.specs.Closure.{Around, Closure, Found, Referent, reading, meant, followed, after, begun, dll, with_bound, with_found}
+use Rattle.w16_loading.specs.Closure.Reading.{Read}
 use Rattle.w16_loading.specs.Closure.Referent.{There, New}
+use Rattle.w16_loading.specs.AnyStore.{AnyCloses, IsAnyClosure, with_files}
 use Rattle.w16_loading.proofs.Undone.{in_first, in_second, parted}
-use Rattle.w16_loading.proofs.CodeLoads.{tested, formatted, of_reading, from_next, from_list}
-
--- no element passes where there is no place of one
-all_fail : {X : Type 0} (p : X → Bool) (xs : List X) → length xs ≤ position_or_len p xs → (x : X) → Member x xs → p x ≡ false
-all_fail p [] le x m = absurd m
-all_fail p (y ∷ xs) le x m = turn (p y) refl le (λ more k. all_fail p xs more x k) m
-  where
-    turn : (b : Bool) → p y ≡ b → length (y ∷ xs) ≤ cond (not b) (1 + position_or_len p xs) 0 → (length xs ≤ position_or_len p xs → Member x xs → p x ≡ false) → Member x (y ∷ xs) → p x ≡ false
-    turn true t le rest m = absurd (omega (arith, le))
-    turn false t le rest (inl same) = ap p same ∙ t
-    turn false t le rest (inr m) = rest (omega (arith, le)) m
-
-no_place : {X : Type 0} (p : X → Bool) (xs : List X) → position p xs ≡ None → (x : X) → Member x xs → p x ≡ false
-no_place p xs e x m = turn (nat_lt (position_or_len p xs) (length xs)) refl e
-  where
-    turn : (b : Bool) → nat_lt (position_or_len p xs) (length xs) ≡ b → cond {A = Option ℕ} b (Some (position_or_len p xs)) None ≡ None → p x ≡ false
-    turn true t e = cc
-    turn false t e = all_fail p xs (ltb-false (position_or_len p xs) (length xs) t) x m
+use Rattle.w16_loading.proofs.Given.{no_place}
+use Rattle.w16_loading.proofs.Readings.{read_by, IsRead, reading_is, follow_cases, from_next, from_list}
+use Rattle.w16_loading.proofs.FetchWorlds.{read_file}
 
 abbrev name_of : Found → List ℕ
 name_of f = f.read.tables.name
 
 -- What holds of a closure on the way.
-pub record IsClosure (a : Around) (closure : Closure) : Type 0 where
+pub record IsClosure (named : List ℕ → Option ℕ) (closure : Closure) : Type 0 where
+  -- what was read are files of modules
+  pub files : (f : Found) → Member f closure.found → IsModuleFile f.read
   -- names are new, and different
-  pub new : (f : Found) → Member f closure.found → a.named (name_of f) ≡ None
+  pub new : (f : Found) → Member f closure.found → named (name_of f) ≡ None
   pub apart : EachPair (λ f g. is_named (name_of f) (name_of g) ≡ false) closure.found
   -- references are of modules that were found
   pub pending : Each (λ x. x.0 < length closure.found) closure.pending
@@ -42,7 +30,7 @@ pub record IsClosure (a : Around) (closure : Closure) : Type 0 where
   -- each new module but the first is meant by another
   pub asked : (place : ℕ) → 0 < place → place < length closure.found → (by : ℕ) × Member {X = ℕ × Referent} (by, New place) closure.bound × (by ≢ place)
 
-module _ (format : Format) (a : Around) where
+module _ (format : Format) (is_format : IsFormat format) (a : Around) where
   -- what nothing means, nothing has the name of
   meant_none : (found : List Found) (name : List ℕ) → meant a found name ≡ None → (a.named name ≡ None) × ((f : Found) → Member f found → is_named (name_of f) name ≡ false)
   meant_none found name e = turn (a.named name) (position (λ f. is_named (name_of f) name) found) refl refl e
@@ -52,31 +40,9 @@ module _ (format : Format) (a : Around) where
       turn None (Some r) x y e = cc
       turn (Some p) r x y e = cc
 
-  -- a file that is read as a new module has such a name
-  read_meant : (found : List Found) (r read : ModuleFile) (m : Option Referent) → tested format a found r m ≡ Read read → (m ≡ None) × (r ≡ read)
-  read_meant found r read (Some referent) e = cc
-  read_meant found r read None e = turn (are_sound r) (nat_lt (length found) a.free) e
-    where
-      turn : (s t : Bool) → cond {A = Reading} s (cond t (Read r) (Refused 0)) (Refused 11) ≡ Read read → ◌≡◌ {A = Option Referent} None None × (r ≡ read)
-      turn true true e = (refl, same e)
-        where
-          same : Read r ≡ Read read → r ≡ read
-          same e = cc
-      turn true false e = cc
-      turn false t e = cc
-
-  read_formatted : (found : List Found) (read : ModuleFile) (r : Result ModuleFile ℕ) → formatted format a found r ≡ Read read → meant a found read.tables.name ≡ None
-  read_formatted found read (Err answer) e = cc
-  read_formatted found read (Ok r) e =
-      let parts : (meant a found r.tables.name ≡ None) × (r ≡ read) = read_meant found r read (meant a found r.tables.name) e in
-      ap (λ (x : ModuleFile). meant a found x.tables.name) (sym parts.1) ∙ parts.0
-
-  read_new : (found : List Found) (file : List ℕ) (read : ModuleFile) → reading format a found file ≡ Read read → meant a found read.tables.name ≡ None
-  read_new found file read e = turn (a.file file) e
-    where
-      turn : (p : Option (List ℕ)) → ◌≡◌ {A = Reading} (elim p [ None ↦ Refused 2 | Some bytes ↦ formatted format a found (format bytes) ]) (Read read) → meant a found read.tables.name ≡ None
-      turn None e = cc
-      turn (Some bytes) e = read_formatted found read (format bytes) e
+  -- a file that is read is a module's
+  is_file : (file : List ℕ) (read : ModuleFile) → read_by format (a.file file) ≡ Some read → IsModuleFile read
+  is_file file read e = subst (λ p. IfSome p IsModuleFile) e (read_file format is_format (a.file file))
 
   each_both : {X : Type 0} (P : X → Type 0) (xs ys : List X) → Each P xs → Each P ys → Each P (xs ++ ys)
   each_both P [] ys h k = k
@@ -87,8 +53,9 @@ module _ (format : Format) (a : Around) where
   each_longer (x ∷ xs) m n le h = ((let lt : x.0 < m = h.0 in omega (arith, lt, le)), each_longer xs m n le h.1)
 
   -- one more reference is bound
-  bound_more : (closure : Closure) (place : ℕ) (referent : Referent) → place < length closure.found → IsClosure a closure → IsClosure a (with_bound closure place referent)
+  bound_more : (closure : Closure) (place : ℕ) (referent : Referent) → place < length closure.found → IsClosure a.named closure → IsClosure a.named (with_bound closure place referent)
   bound_more closure place referent lt is = record {
+    files = is.files;
     new = is.new;
     apart = is.apart;
     pending = is.pending;
@@ -107,9 +74,10 @@ module _ (format : Format) (a : Around) where
   each_mapped place n (name ∷ names) lt = (lt, each_mapped place n names lt)
 
   -- one more module is found, for a reference of another
-  found_more : (closure : Closure) (place : ℕ) (file : List ℕ) (read : ModuleFile) → place < length closure.found → IsClosure a closure → meant a closure.found read.tables.name ≡ None
-      → IsClosure a (with_bound (with_found closure file read) place (New (length closure.found)))
-  found_more closure place file read lt is none = record {
+  found_more : (closure : Closure) (place : ℕ) (file : List ℕ) (read : ModuleFile) → place < length closure.found → IsClosure a.named closure → IsModuleFile read → meant a closure.found read.tables.name ≡ None
+      → IsClosure a.named (with_bound (with_found closure file read) place (New (length closure.found)))
+  found_more closure place file read lt is its none = record {
+    files = λ f m. elim (parted f closure.found (one ∷ []) m) [ inl k ↦ is.files f k | inr (inl e) ↦ subst (λ (g : Found). IsModuleFile g.read) (sym e) its | inr (inr k) ↦ absurd k ];
     new = λ f m. elim (parted f closure.found (one ∷ []) m) [ inl k ↦ is.new f k | inr k ↦ newest f k ];
     apart = apart_more closure.found one is.apart unnamed.1;
     pending = each_both (λ (x : ℕ × List ℕ). x.0 < length (closure.found ++ one ∷ [])) closure.pending (map (λ name. (length closure.found, name)) read.tables.references)
@@ -143,37 +111,52 @@ module _ (format : Format) (a : Around) where
           let same : p ≡ length closure.found = omega (arith, le, few, long) in
           (place, in_second {A = ℕ × Referent} (place, New p) closure.bound ((place, New (length closure.found)) ∷ []) (inl (λ i. (place, New (same i)))), λ e. absurd (omega (arith, e, lt, le)))
 
-  next_reading : (closure : Closure) (place : ℕ) (name : List ℕ) → place < length closure.found → IsClosure a closure → (r : Reading) → reading format a closure.found (dll name) ≡ r → IfOk (of_reading format a closure place name r) (IsClosure a)
-  next_reading closure place name lt is (Refused answer) e = tt
-  next_reading closure place name lt is (Meant referent) e = bound_more closure place referent lt is
-  next_reading closure place name lt is (Read read) e = found_more closure place (dll name) read lt is (read_new closure.found (dll name) read e)
+  -- one reference
+  pub follows : (closure : Closure) (place : ℕ) (name : List ℕ) (next : Closure) → place < length closure.found → IsClosure a.named closure → followed format a closure place name ≡ Ok next → IsClosure a.named next
+  follows closure place name next lt is e = subst (λ r. IfOk r (IsClosure a.named)) e (follow_cases format a (λ r. IfOk r (IsClosure a.named)) closure place name (λ referent. bound_more closure place referent lt is) (λ b. tt)
+      (λ read r. found_more closure place (dll name) read lt is (is_file (dll name) read r.is_file) r.unnamed))
 
-  next_meant : (closure : Closure) (place : ℕ) (name : List ℕ) → place < length closure.found → IsClosure a closure → (m : Option Referent)
-      → IfOk {E = ℕ} (elim m [ Some referent ↦ Ok (with_bound closure place referent) | None ↦ of_reading format a closure place name (reading format a closure.found (dll name)) ]) (IsClosure a)
-  next_meant closure place name lt is (Some referent) = bound_more closure place referent lt is
-  next_meant closure place name lt is None = next_reading closure place name lt is (reading format a closure.found (dll name)) refl
+  -- the module asked for
+  pub begins : (file : List ℕ) (read : ModuleFile) → reading format a [] file ≡ Read read → IsClosure a.named (begun file read)
+  begins file read e =
+      let r : IsRead format a [] file read = reading_is format a [] file read e in record {
+        files = λ g m. elim m [ inl same ↦ subst (λ (f : Found). IsModuleFile f.read) (sym same) (is_file file read r.is_file) | inr k ↦ absurd k ];
+        new = λ g m. elim m [ inl same ↦ ap (λ (x : Found). a.named (name_of x)) same ∙ (meant_none [] read.tables.name r.unnamed).0 | inr k ↦ absurd k ];
+        apart = (tt, tt);
+        pending = each_mapped 0 1 read.tables.references (omega arith);
+        bound = tt;
+        asked = λ p some few. absurd (omega (arith, some, few));
+      }
 
-  by_next : (n : ℕ) → ((next : Closure) → IsClosure a next → IfOk (after format a n next) (IsClosure a)) → (r : Result Closure ℕ) → IfOk r (IsClosure a) → IfOk (from_next format a n r) (IsClosure a)
-  by_next n again (Ok next) k = again next k
-  by_next n again (Err answer) k = tt
+-- all that it needs, whatever files it is looked for in
+closes : (format : Format) → IsFormat format → (a : Around) (n : ℕ) (closure last : Closure) → IsClosure a.named closure → AnyCloses format a n closure last → IsClosure a.named last
+closes format is_format a zero closure last is f = subst (IsClosure a.named) (sym f.1) is
+closes format is_format a (suc n) closure last is (place, name, rest, e, files, next, step, more) =
+    let few : Each (λ (y : ℕ × List ℕ). y.0 < length closure.found) ((place, name) ∷ rest) = subst (Each (λ (y : ℕ × List ℕ). y.0 < length closure.found)) e is.pending in
+    closes format is_format a n next last (follows format is_format (with_files a files) (record closure { pending = rest }) place name next few.0
+    (record { files = is.files; new = is.new; apart = is.apart; pending = few.1; bound = is.bound; asked = is.asked }) step) more
 
-  by_list : (n : ℕ) → ((next : Closure) → IsClosure a next → IfOk (after format a n next) (IsClosure a)) → (closure : Closure) → IsClosure a closure → (p : List (ℕ × List ℕ)) → closure.pending ≡ p → IfOk (from_list format a n closure p) (IsClosure a)
-  by_list n again closure is [] e = is
-  by_list n again closure is (x ∷ rest) e =
-      let few : Each (λ (y : ℕ × List ℕ). y.0 < length closure.found) (x ∷ rest) = subst (Each (λ (y : ℕ × List ℕ). y.0 < length closure.found)) e is.pending in
-      by_next n again (followed format a (record closure { pending = rest }) x.0 x.1)
-      (next_meant (record closure { pending = rest }) x.0 x.1 few.0 (record { new = is.new; apart = is.apart; pending = few.1; bound = is.bound; asked = is.asked }) (meant a closure.found x.1))
+pub closure_is : (a : Around) (file : List ℕ) (closure : Closure) → IsAnyClosure a file closure → IsClosure a.named closure
+closure_is a file closure any = closes any.format any.is_format a any.count (begun file any.read) closure (begins any.format any.is_format (with_files a any.files) file any.read any.first) any.closes
 
-  all_after : (n : ℕ) (closure : Closure) → IsClosure a closure → IfOk (after format a n closure) (IsClosure a)
-  all_after zero closure is = is
-  all_after (suc n) closure is = by_list n (λ next k. all_after n next k) closure is closure.pending refl
+-- A closure over files that stay is one over any store.
 
-  -- of a module asked for, and all that it needs
-  pub closure_is : (file : List ℕ) (read : ModuleFile) (closure : Closure) (n : ℕ) → reading format a [] file ≡ Read read → after format a n (begun file read) ≡ Ok closure → IsClosure a closure
-  closure_is file read closure n e f = subst (λ r. IfOk r (IsClosure a)) f (all_after n (begun file read) (record {
-    new = λ g m. elim m [ inl same ↦ ap (λ (x : Found). a.named (name_of x)) same ∙ (meant_none [] read.tables.name (read_new [] file read e)).0 | inr k ↦ absurd k ];
-    apart = (tt, tt);
-    pending = each_mapped 0 1 read.tables.references (omega arith);
-    bound = tt;
-    asked = λ p some few. absurd (omega (arith, some, few));
-  }))
+ended : (format : Format) (a : Around) (closure last : Closure) → ◌≡◌ {A = Result Closure ℕ} (Ok closure) (Ok last) → last.pending ≡ [] → AnyCloses format a 0 closure last
+ended format a closure last e done = let same : last ≡ closure = cc in (ap (λ (c : Closure). c.pending) (sym same) ∙ done, same)
+
+closes_any : (format : Format) (a : Around) (n : ℕ) (closure last : Closure) → after format a n closure ≡ Ok last → last.pending ≡ [] → (m : ℕ) × AnyCloses format a m closure last
+closes_any format a zero closure last e done = (0, ended format a closure last e done)
+closes_any format a (suc n) closure last e done = by_list (λ next f. closes_any format a n next last f done) closure.pending refl e
+  where
+    by_list : ((next : Closure) → after format a n next ≡ Ok last → (m : ℕ) × AnyCloses format a m next last) → (p : List (ℕ × List ℕ)) → closure.pending ≡ p → from_list format a n closure p ≡ Ok last → (m : ℕ) × AnyCloses format a m closure last
+    by_list more [] at e = (0, ended format a closure last e done)
+    by_list more (x ∷ rest) at e = by_next (followed format a (record closure { pending = rest }) x.0 x.1) refl e
+      where
+        by_next : (r : Result Closure ℕ) → followed format a (record closure { pending = rest }) x.0 x.1 ≡ r → from_next format a n r ≡ Ok last → (m : ℕ) × AnyCloses format a m closure last
+        by_next (Ok next) f g = let c : (m : ℕ) × AnyCloses format a m next last = more next g in (suc c.0, (x.0, x.1, rest, at, a.file, next, f, c.1))
+        by_next (Err answer) f g = cc
+
+pub as_any_closure : (format : Format) → IsFormat format → (a : Around) (file : List ℕ) (read : ModuleFile) (closure : Closure) (n : ℕ) → reading format a [] file ≡ Read read → after format a n (begun file read) ≡ Ok closure → closure.pending ≡ [] → IsAnyClosure a file closure
+as_any_closure format is_format a file read closure n e f done =
+    let c : (m : ℕ) × AnyCloses format a m (begun file read) closure = closes_any format a n (begun file read) closure f done in
+    record { format = format; is_format = is_format; files = a.file; read = read; first = e; count = c.0; closes = c.1 }

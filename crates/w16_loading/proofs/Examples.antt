@@ -4,7 +4,7 @@ use Rattle.w16_loading.specs.File.{Format, ModuleFile}
 use Rattle.w16_store.specs.Names.{is_named}
 use Rattle.w16_store.specs.Files.{file_of}
 use Rattle.w16_model.specs.declared.Kind.TheVariants.{Moveable}
-use Rattle.w16_loading.specs.Modules.{World, Module, usage_with, importers_among}
+use Rattle.w16_loading.specs.Modules.{LoadingWorld, Module, usage_with, importers_among}
 use Rattle.w16_loading.specs.Modules.Named.{Loaded, BuiltIn}
 use Rattle.w16_loading.specs.Naming.{Choice, Given, unbound}
 use Rattle.w16_loading.specs.Load.{used_again, after_use}
@@ -145,17 +145,17 @@ meant_unsound = refl
 abbrev application : ℕ → Module
 application uses = record { file = codes "A.EXE"; tables = a.tables; uses = uses; slots = []; values = []; imports = [] }
 
-twice : (old : World) → used_again true old 33 (Some (Loaded (application 65000))) ≡ (Says 16, old)
+twice : (old : LoadingWorld) → used_again true old 33 (Some (Loaded (application 65000))) ≡ (Says 16, old)
 twice old = refl
 
-as_library : (old : World) → used_again false old 33 (Some (Loaded (application 1))) ≡ (Says 33, after_use old 33 (application 1))
+as_library : (old : LoadingWorld) → used_again false old 33 (Some (Loaded (application 1))) ≡ (Says 33, after_use old 33 (application 1))
 as_library old = refl
 
-full : (old : World) → used_again false old 33 (Some (Loaded (application 65000))) ≡ (Says 0, old)
+full : (old : LoadingWorld) → used_again false old 33 (Some (Loaded (application 65000))) ≡ (Says 0, old)
 full old = refl
 
 -- a built-in is never full
-never_full : (old : World) → used_again true old 33 (Some (BuiltIn (codes "KERNEL"))) ≡ (Says 33, old)
+never_full : (old : LoadingWorld) → used_again true old 33 (Some (BuiltIn (codes "KERNEL"))) ≡ (Says 33, old)
 never_full old = refl
 
 -- Uses: the module asked for begins with one, the others with none; importers count beside them, and a built-in has importers alone.

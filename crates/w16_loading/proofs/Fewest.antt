@@ -1,16 +1,19 @@
 -- The requests of loads and fetches discard as few as they can, since each is an allocation whose new bytes are given.
-use Rattle.std.proofs.Common.{◌≡◌, ◌≢◌, ℕ, inl, inr, Bool, true, false, List, [], ◌∷◌, length, Option, Some, None, refl, sym, ap, ◌∙◌, subst}
+use Rattle.std.proofs.Common.{◌≡◌, ℕ, Bool, true, false, List, length, Option, Some, None, refl, sym, ap, ◌∙◌, subst}
 use Rattle.std.proofs.lemmas.Bool.{false≢true}
 use Rattle.w16_model.specs.Heap.{Heap, Object, IsHeap}
 use Rattle.w16_model.specs.Changes.{with_newest}
 use Rattle.w16_model.specs.Request.{Request, IsNew, Allocates, prefix_of}
 use Rattle.w16_model.specs.Fewest.{AllocatesFewest}
-use Rattle.w16_model.proofs.KeptHandles.{settled}
+use Rattle.w16_model.specs.Owned.{any_way}
 use Rattle.w16_model.proofs.Fewest.{allocation_law}
 use Rattle.w16_loading.specs.declared.FetchFault.{FetchFault}
 use Rattle.w16_loading.specs.declared.FetchFault.TheVariants.{NoRoom, Store, Damaged}
-use Rattle.w16_loading.specs.Fill.{Fills, FillsAll, any_way, asked_of, is_of_device}
-use Rattle.w16_loading.specs.Fewest.{AreFewest, FetchFewestLaw}
+use Rattle.w16_loading.specs.Fill.{Fills, FillsOne, asked_of, is_of_device}
+use Rattle.w16_loading.specs.Naming.{named, fills}
+use Rattle.w16_loading.specs.Fewest.{GivesFewest, FetchFewestLaw, LoadFewestLaw}
+use Rattle.w16_loading.proofs.Fillings.{in_turn_as, one_heap}
+use Rattle.w16_loading.proofs.Named.{named_handles}
 
 -- what is filled is allocated
 pub fill_allocates : (old : Heap) (slot : ℕ) (bytes : List ℕ) (answered : Bool) (new : Heap) → (f : Fills old slot bytes answered new) → Allocates old slot (length bytes) f.before.kind f.before.locks any_way answered new
@@ -29,27 +32,19 @@ fill_allocates old slot bytes answered new f = record {
     turn None r = r
     turn (Some k) r = (r.0, (r.1.0, is_new r.1.0 r.1.1, r.1.2))
 
-one_fewest : (old : Heap) (slot : ℕ) (bytes : List ℕ) (answered : Bool) (new : Heap) → IsHeap old → Fills old slot bytes answered new → AllocatesFewest old slot (length bytes) any_way answered new
-one_fewest old slot bytes answered new is f = allocation_law old new slot (length bytes) f.before.kind f.before.locks any_way answered is (fill_allocates old slot bytes answered new f)
+fill_fewest : (old : Heap) (slot : ℕ) (bytes : List ℕ) (answered : Bool) (new : Heap) → IsHeap old → Fills old slot bytes answered new → AllocatesFewest old slot (length bytes) any_way answered new
+fill_fewest old slot bytes answered new is f = allocation_law old new slot (length bytes) f.before.kind f.before.locks any_way answered is (fill_allocates old slot bytes answered new f)
 
--- a heap in which an object was filled is one
-pub filled_heap : (old : Heap) (slot : ℕ) (bytes : List ℕ) (new : Heap) → Fills old slot bytes true new → IsHeap new
-filled_heap old slot bytes new f = (settled old slot any_way (prefix_of old (length bytes) (Some slot) any_way) (λ o. o ≡ record f.before { bytes = Some bytes }) (with_newest slot) new f.request).2.sound
-
-not_room : (f : FetchFault) → is_of_device f ≡ true → f ≢ NoRoom
-not_room NoRoom t e = absurd (false≢true t)
-not_room Store t e = absurd (false≢true (ap is_room e))
-  where
-    is_room : FetchFault → Bool
-    is_room NoRoom = true
-    is_room other = false
-not_room Damaged t e = absurd (false≢true t)
-
-pub all_fewest : (old : Heap) (xs : List (ℕ × List ℕ)) (fault : Option FetchFault) (new : Heap) → IsHeap old → FillsAll is_of_device old xs fault new → AreFewest old xs fault new
-all_fewest old [] fault new is f = f
-all_fewest old (x ∷ xs) fault new is (inl f) = inl (f.0, not_room f.0 f.1, f.2, f.3)
-all_fewest old (x ∷ xs) fault new is (inr (inl f)) = inr (inl (f.0, one_fewest old x.0 x.1 false new is f.1))
-all_fewest old (x ∷ xs) fault new is (inr (inr f)) = inr (inr (f.0, one_fewest old x.0 x.1 true f.0 is f.1, all_fewest f.0 xs fault new (filled_heap old x.0 x.1 f.0 f.1) f.2))
+pub one_fewest : (may_fail : FetchFault → Bool) (old : Heap) (slot : ℕ) (bytes : List ℕ) (fault : Option FetchFault) (new : Heap) → IsHeap old → FillsOne may_fail old slot bytes fault new → GivesFewest old slot bytes fault new
+one_fewest may_fail old slot bytes None new is f = fill_fewest old slot bytes true new is f
+one_fewest may_fail old slot bytes (Some NoRoom) new is f = fill_fewest old slot bytes false new is f
+one_fewest may_fail old slot bytes (Some Store) new is f = f.1
+one_fewest may_fail old slot bytes (Some Damaged) new is f = f.1
 
 pub fetch_fewest_law : FetchFewestLaw
-fetch_fewest_law format old new slot fault is f = all_fewest old.handles.heap ((slot, f.bytes) ∷ []) fault new.handles.heap is.handles.heap f.filled
+fetch_fewest_law format old new slot fault is f = one_fewest is_of_device old.handles.heap slot f.bytes fault new.handles.heap is.handles.heap f.filled
+
+pub load_fewest_law : LoadFewestLaw
+load_fewest_law old closure choice failure heap is good filled = in_turn_as (FillsOne is_of_device) GivesFewest
+    (λ before slot bytes fault after is f. (one_fewest is_of_device before slot bytes fault after is f, one_heap is_of_device before slot bytes fault after is f))
+    (named old closure choice).handles.heap heap (fills old closure choice) failure (named_handles old closure choice is.handles good).heap filled

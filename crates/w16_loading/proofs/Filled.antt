@@ -11,8 +11,9 @@ use Rattle.w16_model.specs.Changes.{update, with_newest, with_ordered}
 use Rattle.w16_model.specs.Request.{Request, IsNew, AreNew, Settles, discarded, stays_for, prefix_of}
 use Rattle.w16_model.specs.Bytes.{put_part}
 use Rattle.w16_model.specs.Far.{after_write}
+use Rattle.w16_model.specs.Owned.{any_way}
 use Rattle.w16_model.proofs.KeptHeaps.{inserted_here, inserted_other, written_heap}
-use Rattle.w16_loading.specs.Fill.{Fills, any_way}
+use Rattle.w16_loading.specs.Fill.{Fills}
 use Rattle.w16_loading.specs.Law.{FillLaw}
 
 -- the last object put under an id counts

@@ -1,289 +1,222 @@
--- Uses that end keep what holds of every world: what goes are modules that nobody uses, with their objects and those of their resources.
-use Rattle.std.proofs.Common.{◌≡◌, ◌≢◌, ℕ, zero, suc, ◌+◌, ◌-◌, ◌<◌, ◌≤◌, inl, inr, ◌⊎◌, Bool, true, false, cond, not, ◌||◌, List, [], ◌∷◌, filter, Option, Some, None, IfSome, IsSomeAnd, is_some, slice_get, refl, sym, ap, ◌∙◌, subst, arith}
+-- Uses that end keep what holds of every world.
+use Rattle.std.proofs.Common.{◌≡◌, ◌≢◌, ℕ, zero, suc, ◌+◌, ◌-◌, ◌<◌, ◌≤◌, inl, inr, ◌⊎◌, Bool, true, false, not, List, [], ◌∷◌, Option, Some, None, IfSome, is_some, slice_get, refl, sym, ap, ◌∙◌, subst, arith}
 use Rattle.std.specs.Ordering.{nat_cmp}
 use Rattle.std.specs.FinMap as finmap
 use Rattle.std.specs.FinMap.{FinMap}
-use Rattle.std.proofs.lemmas.Bool.{false≢true, cases_eq}
+use Rattle.std.proofs.lemmas.Bool.{false≢true, cases_Bool, cases_eq}
+use Rattle.w16_model.specs.declared.Kind.{Kind}
+use Rattle.w16_model.specs.declared.Owned.{Owned}
 use Rattle.w16_model.specs.Discards.{is_member}
+use Rattle.w16_model.specs.Handles.{AreHandles}
+use Rattle.w16_model.specs.Owned.{owned_at}
 use Rattle.w16_model.proofs.Gaps.{Member}
 use Rattle.w16_model.proofs.Discards.{is_member-true, true-is_member}
 use Rattle.w16_model.proofs.KeptHeaps.{inserted_here, inserted_other, taken_here, taken_other}
-use Rattle.w16_loading.specs.declared.TheConstants.{MOST_USES}
 use Rattle.w16_store.specs.Names.{is_named}
-use Rattle.w16_model.specs.Calls.{rounded_size}
-use Rattle.w16_loading.specs.File.{Resource, numbered}
-use Rattle.w16_loading.specs.Modules.{World, Load, Module, Modules, Named, IsSegmentOf, IsResourceOf, name_of, module_at, module_in, usage, usage_with, importers, is_idle}
+use Rattle.w16_loading.specs.declared.TheConstants.{MOST_USES}
+use Rattle.w16_loading.specs.Modules.{LoadingWorld, Load, Module, Modules, Named, IsSegmentOf, IsResourceOf, name_of, module_at, module_in, importers, usage, usage_with, is_idle}
 use Rattle.w16_loading.specs.Modules.Named.{Loaded}
-use Rattle.w16_loading.specs.Release.{without_objects}
-use Rattle.w16_loading.specs.Free.{Go, Frees, used_less, without_module, swept, is_left_over}
-use Rattle.w16_loading.specs.Law.{IsWorld, IsModule, IsLoad, IsObjectOf}
-use Rattle.w16_loading.proofs.Undone.{retained, kept_all}
-use Rattle.w16_loading.proofs.Absences.{same_values, all_retained}
-use Rattle.w16_loading.proofs.Apart.{loaded_is}
+use Rattle.w16_loading.specs.Free.{Go, Frees, used_less, without_module, is_left_over, swept}
+use Rattle.w16_loading.specs.Law.{IsLoadingWorld, IsObjectOf}
+use Rattle.w16_loading.proofs.Given.{loaded_is}
 use Rattle.w16_loading.proofs.Bound.{world_used_less}
-use Rattle.w16_loading.proofs.Cascade.{gone_with, went}
-use Rattle.w16_loading.proofs.CodeLoads.{place_member, member_place}
 use Rattle.w16_loading.proofs.Importers.{Idle, idle_parts, is_then_idle, of_importer}
-use Rattle.w16_loading.proofs.ModuleWorlds.{SameModule, IsNumber, AreNamesApart}
-use Rattle.w16_loading.proofs.ShrunkWorlds.{shrunk, shrunk_world, value_left, value_gone}
-
--- Objects that go twice go once.
-
-retained_twice : {X : Type 0} (m : FinMap nat_cmp X) (a b : ℕ → Bool) → finmap.retain_keys (finmap.retain_keys m (λ q. not (a q))) (λ q. not (b q)) ≡ finmap.retain_keys m (λ q. not (a q || b q))
-retained_twice m a b = same_values (finmap.retain_keys (finmap.retain_keys m (λ q. not (a q))) (λ q. not (b q))) (finmap.retain_keys m (λ q. not (a q || b q))) (λ q.
-    retained (finmap.retain_keys m (λ q. not (a q))) b q ∙ ap (λ p. cond (not (b q)) p None) (retained m a q) ∙ both (a q) (b q) (finmap.get m q) ∙ sym (retained m (λ q. a q || b q) q))
-  where
-    both : {X : Type 0} (s t : Bool) (p : Option X) → cond (not t) (cond (not s) p None) None ≡ cond (not (s || t)) p None
-    both true true p = refl
-    both true false p = refl
-    both false true p = refl
-    both false false p = refl
-
-filtered_twice : (xs : List ℕ) (a b : ℕ → Bool) → filter (λ q. not (b q)) (filter (λ q. not (a q)) xs) ≡ filter (λ q. not (a q || b q)) xs
-filtered_twice [] a b = refl
-filtered_twice (x ∷ xs) a b = turn (a x) (b x) refl refl (filtered_twice xs a b)
-  where
-    turn : (s t : Bool) → a x ≡ s → b x ≡ t → filter (λ q. not (b q)) (filter (λ q. not (a q)) xs) ≡ filter (λ q. not (a q || b q)) xs
-        → filter (λ q. not (b q)) (cond {A = List ℕ} (not s) (x ∷ filter (λ q. not (a q)) xs) (filter (λ q. not (a q)) xs)) ≡ cond {A = List ℕ} (not (s || t)) (x ∷ filter (λ q. not (a q || b q)) xs) (filter (λ q. not (a q || b q)) xs)
-    turn true t e f rest = rest
-    turn false true e f rest = (λ i. cond {A = List ℕ} (not (f i)) (x ∷ filter (λ q. not (b q)) (filter (λ q. not (a q)) xs)) (filter (λ q. not (b q)) (filter (λ q. not (a q)) xs))) ∙ rest
-    turn false false e f rest = (λ i. cond {A = List ℕ} (not (f i)) (x ∷ filter (λ q. not (b q)) (filter (λ q. not (a q)) xs)) (filter (λ q. not (b q)) (filter (λ q. not (a q)) xs))) ∙ ap (λ (r : List ℕ). x ∷ r) rest
-
-gone_twice : (world : World) (a b : ℕ → Bool) → without_objects b (without_objects a world) ≡ without_objects (λ q. a q || b q) world
-gone_twice world a b = λ i. record world {
-  handles = record world.handles {
-    heap = record world.handles.heap {
-      objects = retained_twice world.handles.heap.objects a b i;
-      places = retained_twice world.handles.heap.places a b i;
-      order = filtered_twice world.handles.heap.order a b i;
-    };
-    attributes = retained_twice world.handles.attributes a b i;
-  };
-  owned = retained_twice world.owned a b i;
-}
-
--- What has gone on the way: the objects of the modules that aren't there any more, and no others.
-pub record HasGone (start now : World) : Type 0 where
-  pub gone : ℕ → Bool
-  pub is_now : now ≡ record (without_objects gone start) { modules = now.modules }
-  pub modules : (handle : ℕ) → (finmap.get now.modules handle ≡ finmap.get start.modules handle) ⊎ ((finmap.get now.modules handle ≡ None) × (m : Module) × (finmap.get start.modules handle ≡ Some (Loaded m)))
-  pub of_gone : (q : ℕ) → gone q ≡ true → (handle : ℕ) × (m : Module) × (finmap.get start.modules handle ≡ Some (Loaded m)) × (finmap.get now.modules handle ≡ None) × Member q m.slots
-  pub all_gone : (handle : ℕ) (m : Module) (q : ℕ) → finmap.get start.modules handle ≡ Some (Loaded m) → finmap.get now.modules handle ≡ None → Member q m.slots → gone q ≡ true
+use Rattle.w16_loading.proofs.Cascade.{gone_with, went}
+use Rattle.w16_loading.proofs.Given.{member_place, place_member}
+use Rattle.w16_loading.proofs.Owners.{loaded_of}
+use Rattle.w16_loading.proofs.Worlds.{SameModule, same_module, IsNumber, HasOwner, is_used, is_load, follows}
+use Rattle.w16_loading.proofs.ShrunkWorlds.{stays_of, owner_left, value_left, value_gone, released_handles}
 
 no_value : {X A : Type 0} (p : Option X) (x : X) → p ≡ None → p ≡ Some x → A
 no_value p x e f = let h : ◌≡◌ {A = Option _} None (Some x) = sym e ∙ f in cc
 
-or_left : (a b : Bool) → a ≡ true → (a || b) ≡ true
-or_left true b t = refl
-or_left false b t = absurd (false≢true t)
+-- What is left on the way: modules are as they were but for their uses, and their objects and those of resources are as they were.
+pub record Leaves (old now : LoadingWorld) : Type 0 where
+  pub handles : AreHandles now.handles
+  pub loads : now.loads ≡ old.loads
+  pub named : (a : ℕ) (n : Named) → finmap.get now.modules a ≡ Some n → (was : Named) × (finmap.get old.modules a ≡ Some was) × (name_of n ≡ name_of was)
+  pub sources : (a : ℕ) (m : Module) → module_at now.modules a ≡ Some m → (was : Module) × (module_at old.modules a ≡ Some was) × SameModule m was × (m.uses ≤ was.uses)
+  pub of_segments : (a : ℕ) (m : Module) (q : ℕ) (kind : Kind) (size : ℕ) (code : Bool) → module_at now.modules a ≡ Some m → Member q m.slots → IsObjectOf old q kind size code → IsObjectOf now q kind size code
+  pub of_loads : (q : ℕ) (load : Load) (kind : Kind) (size : ℕ) (code : Bool) → finmap.get old.loads q ≡ Some load → IsObjectOf old q kind size code → IsObjectOf now q kind size code
+  pub owners : (q : ℕ) → is_some (owned_at now.handles q) ≡ true → ((a number : ℕ) × (m : Module) × IsSegmentOf now q a number m) ⊎ ((load : Load) × (finmap.get old.loads q ≡ Some load))
 
-or_right : (a b : Bool) → b ≡ true → (a || b) ≡ true
-or_right true b t = refl
-or_right false b t = t
+-- One use less.
+module _ (old : LoadingWorld) (is : IsLoadingWorld old) where
+  owned_by : (modules : Modules) → ((a : ℕ) (m : Module) → module_at old.modules a ≡ Some m → (n : Module) × (module_at modules a ≡ Some n) × SameModule n m)
+      → (q : ℕ) → is_some (owned_at old.handles q) ≡ true → ((a number : ℕ) × (m : Module) × IsSegmentOf (record old { modules = modules }) q a number m) ⊎ ((load : Load) × (finmap.get old.loads q ≡ Some load))
+  owned_by modules stays q some = turn (owned_at old.handles q) some (is.owners q)
+    where
+      turn : (p : Option Owned) → is_some p ≡ true → IfSome p (λ _. HasOwner old q) → ((a number : ℕ) × (m : Module) × IsSegmentOf (record old { modules = modules }) q a number m) ⊎ ((load : Load) × (finmap.get old.loads q ≡ Some load))
+      turn None t h = absurd (false≢true t)
+      turn (Some o) t (a, number, m, inl s) =
+          let n : (n : Module) × (module_at modules a ≡ Some n) × SameModule n m = stays a m s.loaded in
+          inl (a, number, n.0, record { loaded = n.1; has = (s.has.0, ap (λ x. slice_get x (number - 1)) n.2.slots ∙ s.has.1) })
+      turn (Some o) t (a, number, m, inr r) = inr (record { handle = a; place = number; loads = r.loads }, r.has)
 
-or_either : (a b : Bool) → (a || b) ≡ true → (a ≡ true) ⊎ (b ≡ true)
-or_either true b t = inl refl
-or_either false b t = inr t
+  all_there : Leaves old old
+  all_there = record {
+    handles = is.handles;
+    loads = refl;
+    named = λ a n e. (n, e, refl);
+    sources = λ a m e. (m, e, same_module m, omega arith);
+    of_segments = λ a m q kind size code e k h. h;
+    of_loads = λ q load kind size code e h. h;
+    owners = owned_by old.modules (λ a m e. (m, e, same_module m));
+  }
 
--- nothing has gone
-none_yet : (start : World) → HasGone start start
-none_yet start = record {
-  gone = λ q. false;
-  is_now = sym same;
-  modules = λ handle. inl refl;
-  of_gone = λ q t. absurd (false≢true t);
-  all_gone = λ handle m q e f member. no_value (finmap.get start.modules handle) (Loaded m) f e;
-}
-  where
-    same : record (without_objects (λ q. false) start) { modules = start.modules } ≡ start
-    same = λ i. record start {
-      handles = record start.handles {
-        heap = record start.handles.heap {
-          objects = all_retained start.handles.heap.objects (λ q. false) (λ q. refl) i;
-          places = all_retained start.handles.heap.places (λ q. false) (λ q. refl) i;
-          order = kept_all (λ q. false) start.handles.heap.order (λ q m. refl) i;
-        };
-        attributes = all_retained start.handles.attributes (λ q. false) (λ q. refl) i;
-      };
-      owned = all_retained start.owned (λ q. false) (λ q. refl) i;
-    }
-
--- one more goes
-one_more : (start now : World) (handle : ℕ) (m : Module) → HasGone start now → finmap.get now.modules handle ≡ Some (Loaded m) → HasGone start (gone_with now handle m)
-one_more start now handle m h there = record {
-  gone = more;
-  is_now = (λ i. record (without_objects mine (h.is_now i)) { modules = finmap.remove now.modules handle }) ∙ (λ i. record (gone_twice start h.gone mine i) { modules = finmap.remove now.modules handle });
-  modules = λ k. left k (cases_eq k handle);
-  of_gone = λ q t. which q (or_either (h.gone q) (mine q) t);
-  all_gone = λ k n q e f member. lost k n q e f member (cases_eq k handle);
-}
-  where
-    mine : ℕ → Bool
-    mine q = is_member q m.slots
-
-    more : ℕ → Bool
-    more q = h.gone q || is_member q m.slots
-
-    was : finmap.get start.modules handle ≡ Some (Loaded m)
-    was = turn (h.modules handle)
-      where
-        turn : (finmap.get now.modules handle ≡ finmap.get start.modules handle) ⊎ ((finmap.get now.modules handle ≡ None) × (n : Module) × (finmap.get start.modules handle ≡ Some (Loaded n))) → finmap.get start.modules handle ≡ Some (Loaded m)
-        turn (inl e) = sym e ∙ there
-        turn (inr e) = no_value (finmap.get now.modules handle) (Loaded m) e.0 there
-
-    left : (k : ℕ) → (k ≡ handle) ⊎ (k ≢ handle) → (finmap.get (finmap.remove now.modules handle) k ≡ finmap.get start.modules k) ⊎ ((finmap.get (finmap.remove now.modules handle) k ≡ None) × (n : Module) × (finmap.get start.modules k ≡ Some (Loaded n)))
-    left k (inl same) = inr (taken_here now.modules handle k same, m, ap (finmap.get start.modules) same ∙ was)
-    left k (inr other) = turn (h.modules k)
-      where
-        turn : (finmap.get now.modules k ≡ finmap.get start.modules k) ⊎ ((finmap.get now.modules k ≡ None) × (n : Module) × (finmap.get start.modules k ≡ Some (Loaded n)))
-            → (finmap.get (finmap.remove now.modules handle) k ≡ finmap.get start.modules k) ⊎ ((finmap.get (finmap.remove now.modules handle) k ≡ None) × (n : Module) × (finmap.get start.modules k ≡ Some (Loaded n)))
-        turn (inl e) = inl (taken_other now.modules handle k other ∙ e)
-        turn (inr e) = inr (taken_other now.modules handle k other ∙ e.0, e.1, e.2)
-
-    still_none : (k : ℕ) → finmap.get now.modules k ≡ None → finmap.get (finmap.remove now.modules handle) k ≡ None
-    still_none k e = elim (cases_eq k handle) [ inl same ↦ taken_here now.modules handle k same | inr other ↦ taken_other now.modules handle k other ∙ e ]
-
-    which : (q : ℕ) → (h.gone q ≡ true) ⊎ (mine q ≡ true) → (k : ℕ) × (n : Module) × (finmap.get start.modules k ≡ Some (Loaded n)) × (finmap.get (finmap.remove now.modules handle) k ≡ None) × Member q n.slots
-    which q (inl t) =
-        let before : (k : ℕ) × (n : Module) × (finmap.get start.modules k ≡ Some (Loaded n)) × (finmap.get now.modules k ≡ None) × Member q n.slots = h.of_gone q t in
-        (before.0, before.1, before.2, still_none before.0 before.3, before.4)
-    which q (inr t) = (handle, m, was, taken_here now.modules handle handle refl, is_member-true q m.slots t)
-
-    lost : (k : ℕ) (n : Module) (q : ℕ) → finmap.get start.modules k ≡ Some (Loaded n) → finmap.get (finmap.remove now.modules handle) k ≡ None → Member q n.slots → (k ≡ handle) ⊎ (k ≢ handle) → more q ≡ true
-    lost k n q e f member (inl same) = or_right (h.gone q) (mine q) (true-is_member q m.slots (subst (λ (x : Module). Member q x.slots) (alike (sym e ∙ ap (finmap.get start.modules) same ∙ was)) member))
-      where
-        alike : Some (Loaded n) ≡ Some (Loaded m) → n ≡ m
-        alike e = cc
-    lost k n q e f member (inr other) = or_left (h.gone q) (mine q) (h.all_gone k n q e (sym (taken_other now.modules handle k other) ∙ f) member)
-
-all_went : (start now end : World) (handles : List ℕ) → HasGone start now → Go now handles end → HasGone start end
-all_went start now end [] h go = subst (HasGone start) (sym go.1) h
-all_went start now end (handle ∷ handles) h go =
-    let idle : Idle now.modules handle = idle_parts now.modules handle go.0 in
-    all_went start (without_module now handle) end handles (subst (HasGone start) (sym (went now handle idle.idle idle.loaded)) (one_more start now handle idle.idle h idle.loaded)) go.1
-
--- in the end none is idle
-none_left : (now end : World) (handles : List ℕ) → Go now handles end → (handle : ℕ) → is_idle end.modules handle ≡ false
-none_left now end [] go handle = ap (λ (w : World). is_idle w.modules handle) go.1 ∙ go.0 handle
-none_left now end (k ∷ handles) go handle = none_left (without_module now k) end handles go.1 handle
-
--- The modules once one has a use less: each is as it was, but for its uses.
-
--- what a handle names after one use less
-pub record Lessened (old now : Modules) : Type 0 where
-  pub before : (a : ℕ) (n : Named) → finmap.get now a ≡ Some n → (was : Named) × (finmap.get old a ≡ Some was) × (name_of n ≡ name_of was)
-  pub loaded : (a : ℕ) (m : Module) → finmap.get now a ≡ Some (Loaded m) → (was : Module) × (finmap.get old a ≡ Some (Loaded was)) × SameModule m was × (m.uses ≤ was.uses)
-  pub after : (a : ℕ) (was : Module) → finmap.get old a ≡ Some (Loaded was) → (m : Module) × (finmap.get now a ≡ Some (Loaded m)) × SameModule m was
-
-same_module : (m : Module) → SameModule m m
-same_module m = record { slots = refl; tables = refl }
-
-unlessened : (old : Modules) → Lessened old old
-unlessened old = record { before = λ a n e. (n, e, refl); loaded = λ a m e. (m, e, same_module m, omega arith); after = λ a was e. (was, e, same_module was) }
-
-lessened : (old : Modules) (handle : ℕ) (m : Module) → finmap.get old handle ≡ Some (Loaded m) → Lessened old (finmap.insert old handle (Loaded (record m { uses = m.uses - 1 })))
-lessened old handle m there = record { before = λ a n e. before a n e (cases_eq a handle); loaded = λ a n e. loaded a n e (cases_eq a handle); after = λ a was e. after a was e (cases_eq a handle) }
-  where
-    less : Module
+  module _ (handle : ℕ) (m : Module) (there : finmap.get old.modules handle ≡ Some (Loaded m)) where
+    abbrev less : Module
     less = record m { uses = m.uses - 1 }
 
-    name : (n : Named) → Some n ≡ Some (Loaded (record m { uses = m.uses - 1 })) → name_of n ≡ m.tables.name
-    name n e = let f : n ≡ Loaded (record m { uses = m.uses - 1 }) = cc in ap name_of f
+    abbrev fewer : Modules
+    fewer = finmap.insert old.modules handle (Loaded less)
 
-    before : (a : ℕ) (n : Named) → finmap.get (finmap.insert old handle (Loaded (record m { uses = m.uses - 1 }))) a ≡ Some n → (a ≡ handle) ⊎ (a ≢ handle) → (was : Named) × (finmap.get old a ≡ Some was) × (name_of n ≡ name_of was)
-    before a n e (inl same) = (Loaded m, ap (finmap.get old) same ∙ there, name n (sym e ∙ inserted_here old handle (Loaded (record m { uses = m.uses - 1 })) a same))
-    before a n e (inr other) = (n, sym (inserted_other old handle (Loaded (record m { uses = m.uses - 1 })) a other) ∙ e, refl)
+    less_uses : Leaves old (record old { modules = fewer })
+    less_uses = record {
+      handles = is.handles;
+      loads = refl;
+      named = λ a n e. elim (cases_eq a handle) [
+        | inl same ↦ (Loaded m, ap (finmap.get old.modules) same ∙ there, name n (sym e ∙ inserted_here old.modules handle (Loaded less) a same))
+        | inr other ↦ (n, sym (inserted_other old.modules handle (Loaded less) a other) ∙ e, refl)
+      ];
+      sources = λ a n e. elim (cases_eq a handle) [
+        | inl same ↦ let f : SameModule n m × (n.uses ≤ m.uses) = alike n (sym e ∙ ap module_in (inserted_here old.modules handle (Loaded less) a same)) in (m, ap (module_at old.modules) same ∙ ap module_in there, f.0, f.1)
+        | inr other ↦ (n, ap module_in (sym (inserted_other old.modules handle (Loaded less) a other)) ∙ e, same_module n, omega arith)
+      ];
+      of_segments = λ a n q kind size code e k h. record { object = h.object; owned = h.owned };
+      of_loads = λ q load kind size code e h. record { object = h.object; owned = h.owned };
+      owners = owned_by fewer (λ a n e. elim (cases_eq a handle) [
+        | inl same ↦ (less, ap module_in (inserted_here old.modules handle (Loaded less) a same), back n (sym e ∙ ap (module_at old.modules) same ∙ ap module_in there))
+        | inr other ↦ (n, ap module_in (inserted_other old.modules handle (Loaded less) a other) ∙ e, same_module n)
+      ]);
+    }
+      where
+        name : (n : Named) → Some n ≡ Some (Loaded (record m { uses = m.uses - 1 })) → name_of n ≡ m.tables.name
+        name n e = let f : n ≡ Loaded (record m { uses = m.uses - 1 }) = cc in ap name_of f
 
-    fewer : (n : Module) → Some (Loaded n) ≡ Some (Loaded (record m { uses = m.uses - 1 })) → SameModule n m × (n.uses ≤ m.uses)
-    fewer n e =
-        let f : n ≡ record m { uses = m.uses - 1 } = cc in
-        (record { slots = ap (λ (x : Module). x.slots) f; tables = ap (λ (x : Module). x.tables) f }, subst (λ (x : Module). x.uses ≤ m.uses) (sym f) (omega arith))
+        alike : (n : Module) → Some n ≡ Some (record m { uses = m.uses - 1 }) → SameModule n m × (n.uses ≤ m.uses)
+        alike n e =
+            let f : n ≡ record m { uses = m.uses - 1 } = cc in
+            (record { slots = ap (λ (x : Module). x.slots) f; tables = ap (λ (x : Module). x.tables) f }, subst (λ (x : Module). x.uses ≤ m.uses) (sym f) (omega arith))
 
-    loaded : (a : ℕ) (n : Module) → finmap.get (finmap.insert old handle (Loaded (record m { uses = m.uses - 1 }))) a ≡ Some (Loaded n) → (a ≡ handle) ⊎ (a ≢ handle)
-        → (was : Module) × (finmap.get old a ≡ Some (Loaded was)) × SameModule n was × (n.uses ≤ was.uses)
-    loaded a n e (inl same) =
-        let f : SameModule n m × (n.uses ≤ m.uses) = fewer n (sym e ∙ inserted_here old handle (Loaded (record m { uses = m.uses - 1 })) a same) in
-        (m, ap (finmap.get old) same ∙ there, f.0, f.1)
-    loaded a n e (inr other) = (n, sym (inserted_other old handle (Loaded (record m { uses = m.uses - 1 })) a other) ∙ e, same_module n, omega arith)
+        back : (n : Module) → Some n ≡ Some m → SameModule (record m { uses = m.uses - 1 }) n
+        back n e = let f : m ≡ n = cc in record { slots = ap (λ (x : Module). x.slots) f; tables = ap (λ (x : Module). x.tables) f }
 
-    alike : (was : Module) → Some (Loaded was) ≡ Some (Loaded m) → SameModule (record m { uses = m.uses - 1 }) was
-    alike was e = let f : was ≡ m = cc in record { slots = ap (λ (x : Module). x.slots) (sym f); tables = ap (λ (x : Module). x.tables) (sym f) }
+  used_one_less : (handle : ℕ) → Leaves old (used_less old handle)
+  used_one_less handle = turn (module_at old.modules handle) refl
+    where
+      turn : (p : Option Module) → module_at old.modules handle ≡ p → Leaves old (world_used_less old handle p)
+      turn None e = all_there
+      turn (Some m) e = less_uses handle m (loaded_is (finmap.get old.modules handle) m e)
 
-    after : (a : ℕ) (was : Module) → finmap.get old a ≡ Some (Loaded was) → (a ≡ handle) ⊎ (a ≢ handle) → (n : Module) × (finmap.get (finmap.insert old handle (Loaded (record m { uses = m.uses - 1 }))) a ≡ Some (Loaded n)) × SameModule n was
-    after a was e (inl same) = (record m { uses = m.uses - 1 }, inserted_here old handle (Loaded (record m { uses = m.uses - 1 })) a same, alike was (sym e ∙ ap (finmap.get old) same ∙ there))
-    after a was e (inr other) = (was, inserted_other old handle (Loaded (record m { uses = m.uses - 1 })) a other ∙ e, same_module was)
+  -- a slot of a module that is left is of one segment, which was there
+  was_segment : (now : LoadingWorld) → Leaves old now → (a : ℕ) (m : Module) (q : ℕ) → module_at now.modules a ≡ Some m → Member q m.slots → (was : Module) × (i : ℕ) × IsSegmentOf old q a (i + 1) was
+  was_segment now l a m q e k =
+      let was : (was : Module) × (module_at old.modules a ≡ Some was) × SameModule m was × (m.uses ≤ was.uses) = l.sources a m e in
+      let i : (i : ℕ) × (slice_get m.slots i ≡ Some q) = member_place m.slots q k in
+      (was.0, i.0, record { loaded = was.1; has = (omega arith, ap (slice_get was.0.slots) (back i.0) ∙ ap (λ s. slice_get s i.0) (sym was.2.slots) ∙ i.1) })
+    where
+      back : (n : ℕ) → n + 1 - 1 ≡ n
+      back n = omega arith
 
--- the world with a use less is as before but for its modules
-less_is : (old : World) (handle : ℕ) → (used_less old handle ≡ record old { modules = (used_less old handle).modules }) × Lessened old.modules (used_less old handle).modules
-less_is old handle = turn (module_at old.modules handle) refl
-  where
-    turn : (p : Option Module) → module_at old.modules handle ≡ p → (world_used_less old handle p ≡ record old { modules = (world_used_less old handle p).modules }) × Lessened old.modules (world_used_less old handle p).modules
-    turn None e = (refl, unlessened old.modules)
-    turn (Some m) e = (refl, lessened old.modules handle m (loaded_is (finmap.get old.modules handle) m e))
+  one_module : (now : LoadingWorld) → Leaves old now → (a b : ℕ) (m n : Module) (q : ℕ) → module_at now.modules a ≡ Some m → Member q m.slots → module_at now.modules b ≡ Some n → Member q n.slots → a ≡ b
+  one_module now l a b m n q e k f j =
+      let x : (was : Module) × (i : ℕ) × IsSegmentOf old q a (i + 1) was = was_segment now l a m q e k in
+      let y : (was : Module) × (i : ℕ) × IsSegmentOf old q b (i + 1) was = was_segment now l b n q f j in
+      (is.one_segment q a (x.1 + 1) b (y.1 + 1) x.0 y.0 x.2 y.2).0
 
--- The world that is left.
-module _ (old : World) (is : IsWorld old) (less end : World) (is_less : less ≡ record old { modules = less.modules }) (l : Lessened old.modules less.modules) (h : HasGone less end) (busy : (handle : ℕ) → is_idle end.modules handle ≡ false) where
+  no_load : {A : Type 0} (now : LoadingWorld) → Leaves old now → (a : ℕ) (m : Module) (q : ℕ) (load : Load) → module_at now.modules a ≡ Some m → Member q m.slots → finmap.get old.loads q ≡ Some load → A
+  no_load now l a m q load e k at =
+      let x : (was : Module) × (i : ℕ) × IsSegmentOf old q a (i + 1) was = was_segment now l a m q e k in
+      let r : (n : Module) × IsResourceOf old q load.handle load.place n = loaded_of old is q load at in
+      absurd (is.no_resource q a (x.1 + 1) load.handle load.place x.0 r.0 x.2 r.1)
+
+  -- One module more goes.
+  module _ (now : LoadingWorld) (l : Leaves old now) (handle : ℕ) (m : Module) (there : finmap.get now.modules handle ≡ Some (Loaded m)) where
+    abbrev mine : ℕ → Bool
+    mine q = is_member q m.slots
+
+    -- a module that is left is another
+    still_there : (a : ℕ) (n : Named) → finmap.get (finmap.remove now.modules handle) a ≡ Some n → (a ≢ handle) × (finmap.get now.modules a ≡ Some n)
+    still_there a n e = elim (cases_eq a handle) [
+      | inl same ↦ no_value (finmap.get (finmap.remove now.modules handle) a) n (taken_here now.modules handle a same) e
+      | inr other ↦ (other, sym (taken_other now.modules handle a other) ∙ e)
+    ]
+
+    still_loaded : (a : ℕ) (n : Module) → module_at (finmap.remove now.modules handle) a ≡ Some n → (a ≢ handle) × (module_at now.modules a ≡ Some n)
+    still_loaded a n e = let r : (a ≢ handle) × (finmap.get now.modules a ≡ Some (Loaded n)) = still_there a (Loaded n) (loaded_is (finmap.get (finmap.remove now.modules handle) a) n e) in (r.0, ap module_in r.1)
+
+    not_mine : (q : ℕ) → (Member q m.slots → ⊥) → mine q ≡ false
+    not_mine q out = elim (cases_Bool (mine q)) [ inl t ↦ absurd (out (is_member-true q m.slots t)) | inr t ↦ t ]
+
+    one_less : Leaves old (gone_with now handle m)
+    one_less = record {
+      handles = released_handles now.handles l.handles mine;
+      loads = l.loads;
+      named = λ a n e. l.named a n (still_there a n e).1;
+      sources = λ a n e. l.sources a n (still_loaded a n e).1;
+      of_segments = λ a n q kind size code e k h. let r : (a ≢ handle) × (module_at now.modules a ≡ Some n) = still_loaded a n e in
+          stays_of now mine (finmap.remove now.modules handle) now.loads q kind size code (not_mine q (λ j. r.0 (one_module now l a handle n m q r.1 k (ap module_in there) j))) (l.of_segments a n q kind size code r.1 k h);
+      of_loads = λ q load kind size code at h. stays_of now mine (finmap.remove now.modules handle) now.loads q kind size code (not_mine q (λ j. no_load now l handle m q load (ap module_in there) j at)) (l.of_loads q load kind size code at h);
+      owners = λ q some. let left : (mine q ≡ false) × (is_some (owned_at now.handles q) ≡ true) = owner_left now mine (finmap.remove now.modules handle) now.loads q some in elim (l.owners q left.1) [
+        | inl s ↦ inl (s.0, s.1, s.2, record { loaded = ap module_in (taken_other now.modules handle s.0 (λ same. false≢true (sym left.0 ∙ true-is_member q m.slots (its q s.2 (place_member s.2.slots (s.1 - 1) q s.3.has.1) (sym s.3.loaded ∙ ap (module_at now.modules) same ∙ ap module_in there))))) ∙ s.3.loaded; has = s.3.has })
+        | inr load ↦ inr load
+      ];
+    }
+      where
+        its : (q : ℕ) (n : Module) → Member q n.slots → Some n ≡ Some m → Member q m.slots
+        its q n k e = let f : n ≡ m = cc in subst (λ (x : Module). Member q x.slots) f k
+
+  all_left : (now end : LoadingWorld) (handles : List ℕ) → Leaves old now → Go now handles end → Leaves old end
+  all_left now end [] l go = subst (Leaves old) (sym go.1) l
+  all_left now end (handle ∷ handles) l go =
+      let idle : Idle now.modules handle = idle_parts now.modules handle go.0 in
+      all_left (without_module now handle) end handles (subst (Leaves old) (sym (went now handle idle.idle idle.loaded)) (one_less now l handle idle.idle idle.loaded)) go.1
+
+-- in the end none is idle
+none_left : (now end : LoadingWorld) (handles : List ℕ) → Go now handles end → (handle : ℕ) → is_idle end.modules handle ≡ false
+none_left now end [] go handle = ap (λ (w : LoadingWorld). is_idle w.modules handle) go.1 ∙ go.0 handle
+none_left now end (k ∷ handles) go handle = none_left (without_module now k) end handles go.1 handle
+
+-- The sweep.
+module _ (old : LoadingWorld) (is : IsLoadingWorld old) (end : LoadingWorld) (l : Leaves old end) (busy : (handle : ℕ) → is_idle end.modules handle ≡ false) where
   abbrev over : ℕ → Bool
   over q = is_left_over end q
 
-  abbrev all_gone : ℕ → Bool
-  all_gone q = h.gone q || over q
-
   abbrev loads : FinMap nat_cmp Load
-  loads = finmap.retain_keys old.loads (λ q. not (over q))
-
-  abbrev remaining : World
-  remaining = shrunk old all_gone end.modules loads
-
-  same_loads : end.loads ≡ old.loads
-  same_loads = ap (λ (w : World). w.loads) h.is_now ∙ ap (λ (w : World). w.loads) is_less
+  loads = finmap.retain_keys end.loads (λ q. not (over q))
 
   -- what is left over, by its load
-  over_none : (q : ℕ) → finmap.get old.loads q ≡ None → over q ≡ false
-  over_none q e = ap (λ p. elim p as (λ _. Bool) [ None ↦ false | Some load ↦ not (is_some (module_at end.modules load.handle)) ]) (ap (λ (m : FinMap nat_cmp Load). finmap.get m q) same_loads ∙ e)
+  over_by : (q : ℕ) (p : Option Load) → finmap.get end.loads q ≡ p → over q ≡ (elim p as (λ _. Bool) [ None ↦ false | Some load ↦ not (is_some (module_at end.modules load.handle)) ])
+  over_by q p e = ap (λ p. elim p as (λ _. Bool) [ None ↦ false | Some load ↦ not (is_some (module_at end.modules load.handle)) ]) e
 
-  over_load : (q : ℕ) (load : Load) → finmap.get old.loads q ≡ Some load → over q ≡ not (is_some (module_at end.modules load.handle))
-  over_load q load e = ap (λ p. elim p as (λ _. Bool) [ None ↦ false | Some load ↦ not (is_some (module_at end.modules load.handle)) ]) (ap (λ (m : FinMap nat_cmp Load). finmap.get m q) same_loads ∙ e)
+  was_load : (q : ℕ) (load : Load) → finmap.get end.loads q ≡ Some load → finmap.get old.loads q ≡ Some load
+  was_load q load e = ap (λ (m : FinMap nat_cmp Load). finmap.get m q) (sym l.loads) ∙ e
 
-  -- a module that is left was there, and one that was there is left or gone
-  left_was : (a : ℕ) (n : Named) → finmap.get end.modules a ≡ Some n → finmap.get less.modules a ≡ Some n
-  left_was a n e = turn (h.modules a)
+  there_still : (q : ℕ) (load : Load) → over q ≡ false → finmap.get end.loads q ≡ Some load → (m : Module) × (module_at end.modules load.handle ≡ Some m)
+  there_still q load t e = turn (module_at end.modules load.handle) refl (sym (over_by q (Some load) e) ∙ t)
     where
-      turn : (finmap.get end.modules a ≡ finmap.get less.modules a) ⊎ ((finmap.get end.modules a ≡ None) × (m : Module) × (finmap.get less.modules a ≡ Some (Loaded m))) → finmap.get less.modules a ≡ Some n
-      turn (inl f) = sym f ∙ e
-      turn (inr f) = no_value (finmap.get end.modules a) n f.0 e
+      turn : (p : Option Module) → module_at end.modules load.handle ≡ p → not (is_some p) ≡ false → (m : Module) × (module_at end.modules load.handle ≡ Some m)
+      turn None f t = absurd (false≢true (sym t))
+      turn (Some m) f t = (m, f)
 
-  left_or_gone : (a : ℕ) (m : Module) → finmap.get less.modules a ≡ Some (Loaded m) → (finmap.get end.modules a ≡ Some (Loaded m)) ⊎ (finmap.get end.modules a ≡ None)
-  left_or_gone a m e = turn (h.modules a)
+  -- a load that is left
+  left_load : (q : ℕ) (load : Load) → finmap.get loads q ≡ Some load → (over q ≡ false) × (finmap.get end.loads q ≡ Some load)
+  left_load q load e = elim (cases_Bool (over q)) [ inl t ↦ no_value (finmap.get loads q) load (value_gone end.loads over q t) e | inr t ↦ (t, sym (value_left end.loads over q t) ∙ e) ]
+
+  -- a segment isn't left over
+  not_over : (a : ℕ) (m : Module) (q : ℕ) → module_at end.modules a ≡ Some m → Member q m.slots → over q ≡ false
+  not_over a m q e k = turn (finmap.get end.loads q) refl
     where
-      turn : (finmap.get end.modules a ≡ finmap.get less.modules a) ⊎ ((finmap.get end.modules a ≡ None) × (n : Module) × (finmap.get less.modules a ≡ Some (Loaded n))) → (finmap.get end.modules a ≡ Some (Loaded m)) ⊎ (finmap.get end.modules a ≡ None)
-      turn (inl f) = inl (f ∙ e)
-      turn (inr f) = inr f.0
-
-  numbers : (a : ℕ) → IfSome (finmap.get end.modules a) (λ _. IsNumber a)
-  numbers a = turn (finmap.get end.modules a) refl
-    where
-      turn : (p : Option Named) → finmap.get end.modules a ≡ p → IfSome p (λ _. IsNumber a)
-      turn None e = tt
-      turn (Some n) e = let was : (was : Named) × (finmap.get old.modules a ≡ Some was) × (name_of n ≡ name_of was) = l.before a n (left_was a n e) in
-          subst (λ p. IfSome p (λ _. IsNumber a)) was.1 (is.numbers a)
-
-  names : AreNamesApart end.modules
-  names a b x y e f t =
-      let u : (was : Named) × (finmap.get old.modules a ≡ Some was) × (name_of x ≡ name_of was) = l.before a x (left_was a x e) in
-      let v : (was : Named) × (finmap.get old.modules b ≡ Some was) × (name_of y ≡ name_of was) = l.before b y (left_was b y f) in
-      is.names a b u.0 v.0 u.1 v.1 (subst (λ s. is_named s (name_of v.0) ≡ true) u.2 (subst (λ s. is_named (name_of x) s ≡ true) v.2 t))
-
-  -- a module that is left, by the one that it was
-  source : (a : ℕ) (m : Module) → module_at end.modules a ≡ Some m → (was : Module) × (finmap.get old.modules a ≡ Some (Loaded was)) × SameModule m was × (m.uses ≤ was.uses)
-  source a m e = l.loaded a m (left_was a (Loaded m) (loaded_is (finmap.get end.modules a) m e))
+      turn : (p : Option Load) → finmap.get end.loads q ≡ p → over q ≡ false
+      turn None f = over_by q None f
+      turn (Some load) f = no_load old is end l a m q load e k (was_load q load f)
 
   used : (a : ℕ) (m : Module) → module_at end.modules a ≡ Some m → (0 < usage end.modules a) × (m.uses ≤ MOST_USES)
   used a m e =
       let at : finmap.get end.modules a ≡ Some (Loaded m) = loaded_is (finmap.get end.modules a) m e in
-      let was : (was : Module) × (finmap.get old.modules a ≡ Some (Loaded was)) × SameModule m was × (m.uses ≤ was.uses) = source a m e in
-      let sound : IsModule old a was.0 = subst (λ p. IfSome (module_in p) (IsModule old a)) was.1 (is.modules a) in
-      let full : was.0.uses ≤ MOST_USES = sound.full in
+      let was : (was : Module) × (module_at old.modules a ≡ Some was) × SameModule m was × (m.uses ≤ was.uses) = l.sources a m e in
+      let full : was.0.uses ≤ MOST_USES = (is_used old is a was.0 was.1).1 in
       let fewer : m.uses ≤ was.0.uses = was.3 in
       (subst (λ p. 0 < usage_with p (importers end.modules a)) (sym at) (turn at m.uses (importers end.modules a) refl refl), omega (arith, full, fewer))
     where
@@ -292,130 +225,44 @@ module _ (old : World) (is : IsWorld old) (less end : World) (is_less : less ≡
       turn at (suc n) k x y = omega (arith, x)
       turn at zero (suc k) x y = omega (arith, y)
 
-  -- objects of modules that are left don't go with modules, and aren't left over
-  segment_stays : (a : ℕ) (m : Module) (q : ℕ) → finmap.get end.modules a ≡ Some (Loaded m) → Member q m.slots → h.gone q ≡ false
-  segment_stays a m q at member = turn (h.gone q) refl
+  numbers : (a : ℕ) (p : Option Named) → finmap.get end.modules a ≡ p → IfSome p (λ _. IsNumber a)
+  numbers a None e = tt
+  numbers a (Some n) e = let was : (was : Named) × (finmap.get old.modules a ≡ Some was) × (name_of n ≡ name_of was) = l.named a n e in subst (λ p. IfSome p (λ _. IsNumber a)) was.1 (is.numbers a)
+
+  -- a module that is left, of a load
+  same_still : (q : ℕ) (load : Load) (before : Module) → finmap.get loads q ≡ Some load → module_at old.modules load.handle ≡ Some before → (m : Module) × (module_at end.modules load.handle ≡ Some m) × SameModule m before
+  same_still q load before e at =
+      let left : (over q ≡ false) × (finmap.get end.loads q ≡ Some load) = left_load q load e in
+      let m : (m : Module) × (module_at end.modules load.handle ≡ Some m) = there_still q load left.0 left.1 in
+      let was : (was : Module) × (module_at old.modules load.handle ≡ Some was) × SameModule m.0 was × (m.0.uses ≤ was.uses) = l.sources load.handle m.0 m.1 in
+      (m.0, m.1, subst (SameModule m.0) (one was.0 (sym was.1 ∙ at)) was.2)
     where
-      back : (n : ℕ) → n + 1 - 1 ≡ n
-      back n = omega arith
+      one : (n : Module) → Some n ≡ Some before → n ≡ before
+      one n e = cc
 
-      -- the slot's place in the module as it was
-      segment : (b : ℕ) (n : Module) → finmap.get less.modules b ≡ Some (Loaded n) → Member q n.slots → (was : Module) × (i : ℕ) × IsSegmentOf old q b (i + 1) was
-      segment b n e k =
-          let was : (was : Module) × (finmap.get old.modules b ≡ Some (Loaded was)) × SameModule n was × (n.uses ≤ was.uses) = l.loaded b n e in
-          let i : (i : ℕ) × (slice_get n.slots i ≡ Some q) = member_place n.slots q k in
-          (was.0, i.0, record { loaded = ap module_in was.1; has = (omega arith, ap (slice_get was.0.slots) (back i.0) ∙ ap (λ s. slice_get s i.0) (sym was.2.slots) ∙ i.1) })
+  pub swept_world : IsLoadingWorld (swept end)
+  swept_world = follows old (swept end) is (record {
+    handles = released_handles end.handles l.handles over;
+    numbers = λ a. numbers a (finmap.get end.modules a) refl;
+    names = λ a b x y e f t.
+        let u : (was : Named) × (finmap.get old.modules a ≡ Some was) × (name_of x ≡ name_of was) = l.named a x e in
+        let v : (was : Named) × (finmap.get old.modules b ≡ Some was) × (name_of y ≡ name_of was) = l.named b y f in
+        is.names a b u.0 v.0 u.1 v.1 (subst (λ s. is_named s (name_of v.0) ≡ true) u.2 (subst (λ s. is_named (name_of x) s ≡ true) v.2 t));
+    sources = λ a m e. let was : (was : Module) × (module_at old.modules a ≡ Some was) × SameModule m was × (m.uses ≤ was.uses) = l.sources a m e in (was.0, was.1, was.2);
+    used = used;
+    loads = λ q load e. let at : finmap.get old.loads q ≡ Some load = was_load q load (left_load q load e).1 in (load.loads, at, (is_load old is q load at).0, (is_load old is q load at).1);
+    still = same_still;
+    of_segments = λ a m q kind size code e k h. stays_of end over end.modules loads q kind size code (not_over a m q e k) (l.of_segments a m q kind size code e k h);
+    of_loads = λ q load kind size code e h. let left : (over q ≡ false) × (finmap.get end.loads q ≡ Some load) = left_load q load e in
+        stays_of end over end.modules loads q kind size code left.0 (l.of_loads q load kind size code (was_load q load left.1) h);
+    owners = λ q some. let left : (over q ≡ false) × (is_some (owned_at end.handles q) ≡ true) = owner_left end over end.modules loads q some in elim (l.owners q left.1) [
+      | inl s ↦ (s.0, s.1, s.2, inl (record { loaded = s.3.loaded; has = s.3.has }))
+      | inr r ↦
+          let at : finmap.get end.loads q ≡ Some r.0 = ap (λ (m : FinMap nat_cmp Load). finmap.get m q) l.loads ∙ r.1 in
+          let m : (m : Module) × (module_at end.modules r.0.handle ≡ Some m) = there_still q r.0 left.0 at in
+          (r.0.handle, r.0.place, m.0, inr (record { loaded = m.1; loads = r.0.loads; has = value_left end.loads over q left.0 ∙ at }))
+    ];
+  })
 
-      turn : (b : Bool) → h.gone q ≡ b → h.gone q ≡ false
-      turn false t = t
-      turn true t =
-          let of : (b : ℕ) × (n : Module) × (finmap.get less.modules b ≡ Some (Loaded n)) × (finmap.get end.modules b ≡ None) × Member q n.slots = h.of_gone q t in
-          let mine : (was : Module) × (i : ℕ) × IsSegmentOf old q a (i + 1) was = segment a m (left_was a (Loaded m) at) member in
-          let its : (was : Module) × (i : ℕ) × IsSegmentOf old q of.0 (i + 1) was = segment of.0 of.1 of.2 of.4 in
-          let one : (a ≡ of.0) × (mine.1 + 1 ≡ its.1 + 1) = is.one_segment q a (mine.1 + 1) of.0 (its.1 + 1) mine.0 its.0 mine.2 its.2 in
-          no_value (finmap.get end.modules a) (Loaded m) (ap (finmap.get end.modules) one.0 ∙ of.3) at
-
-  -- a resource's slot isn't a segment's
-  resource_apart : (q : ℕ) (load : Load) → finmap.get old.loads q ≡ Some load → (a : ℕ) (m : Module) → finmap.get less.modules a ≡ Some (Loaded m) → Member q m.slots → ⊥
-  resource_apart q load at a m e member =
-      let was : (was : Module) × (finmap.get old.modules a ≡ Some (Loaded was)) × SameModule m was × (m.uses ≤ was.uses) = l.loaded a m e in
-      let i : (i : ℕ) × (slice_get m.slots i ≡ Some q) = member_place m.slots q member in
-      let sound : IsLoad old q load = subst (λ p. IfSome p (IsLoad old q)) at (is.loads q) in
-      let its : (n : Module) × (module_at old.modules load.handle ≡ Some n) = load_module (module_at old.modules load.handle) refl sound.resource in
-      is.no_resource q a (i.0 + 1) load.handle load.place was.0 its.0
-      (record { loaded = ap module_in was.1; has = (omega arith, ap (slice_get was.0.slots) (back i.0) ∙ ap (λ s. slice_get s i.0) (sym was.2.slots) ∙ i.1) })
-      (record { loaded = its.1; loads = load.loads; has = at })
-    where
-      back : (n : ℕ) → n + 1 - 1 ≡ n
-      back n = omega arith
-
-      load_module : (p : Option Module) → module_at old.modules load.handle ≡ p → IsSomeAnd (elim p as (λ _. Option Resource) [ None ↦ None | Some n ↦ numbered n.tables.resources load.place ]) (λ r. IsObjectOf old q r.kind (rounded_size r.length_in) false)
-          → (n : Module) × (module_at old.modules load.handle ≡ Some n)
-      load_module None e k = absurd k
-      load_module (Some n) e k = (n, e)
-
-  kept_slots : (a : ℕ) (m : Module) (q : ℕ) → module_at end.modules a ≡ Some m → Member q m.slots → all_gone q ≡ false
-  kept_slots a m q e member = (λ i. segment_stays a m q at member i || over q) ∙ by_load (finmap.get old.loads q) refl
-    where
-      at : finmap.get end.modules a ≡ Some (Loaded m)
-      at = loaded_is (finmap.get end.modules a) m e
-
-      by_load : (p : Option Load) → finmap.get old.loads q ≡ p → over q ≡ false
-      by_load None f = over_none q f
-      by_load (Some load) f = absurd (resource_apart q load f a m (left_was a (Loaded m) at) member)
-
-  fewer : (q : ℕ) (load : Load) → finmap.get loads q ≡ Some load → finmap.get old.loads q ≡ Some load
-  fewer q load e = turn (over q) refl
-    where
-      turn : (b : Bool) → over q ≡ b → finmap.get old.loads q ≡ Some load
-      turn true t = no_value (finmap.get loads q) load (value_gone old.loads over q t) e
-      turn false t = sym (value_left old.loads over q t) ∙ e
-
-  not_over : (q : ℕ) (load : Load) → finmap.get loads q ≡ Some load → over q ≡ false
-  not_over q load e = turn (over q) refl
-    where
-      turn : (b : Bool) → over q ≡ b → over q ≡ false
-      turn true t = no_value (finmap.get loads q) load (value_gone old.loads over q t) e
-      turn false t = t
-
-  kept_loads : (q : ℕ) (load : Load) → finmap.get loads q ≡ Some load → all_gone q ≡ false
-  kept_loads q load e = (λ i. not_gone i || over q) ∙ not_over q load e
-    where
-      turn : (b : Bool) → h.gone q ≡ b → h.gone q ≡ false
-      turn false t = t
-      turn true t =
-          let of : (b : ℕ) × (n : Module) × (finmap.get less.modules b ≡ Some (Loaded n)) × (finmap.get end.modules b ≡ None) × Member q n.slots = h.of_gone q t in
-          absurd (resource_apart q load (fewer q load e) of.0 of.1 of.2 of.4)
-
-      not_gone : h.gone q ≡ false
-      not_gone = turn (h.gone q) refl
-
-  kept_modules : (q : ℕ) (load : Load) (before : Module) → finmap.get loads q ≡ Some load → module_at old.modules load.handle ≡ Some before → (m : Module) × (module_at end.modules load.handle ≡ Some m) × SameModule m before
-  kept_modules q load before e f =
-      let now : (m : Module) × (finmap.get less.modules load.handle ≡ Some (Loaded m)) × SameModule m before = l.after load.handle before (loaded_is (finmap.get old.modules load.handle) before f) in
-      turn now.0 now.2 (left_or_gone load.handle now.0 now.1)
-    where
-      turn : (m : Module) → SameModule m before → (finmap.get end.modules load.handle ≡ Some (Loaded m)) ⊎ (finmap.get end.modules load.handle ≡ None) → (m : Module) × (module_at end.modules load.handle ≡ Some m) × SameModule m before
-      turn m same (inl there) = (m, ap module_in there, same)
-      turn m same (inr none) = absurd (false≢true (sym (not_over q load e) ∙ over_load q load (fewer q load e) ∙ ap (λ p. not (is_some (module_in p))) none))
-
-  owners : (q a number : ℕ) (m : Module) → all_gone q ≡ false → IsSegmentOf old q a number m ⊎ IsResourceOf old q a number m → (n : Module) × (IsSegmentOf remaining q a number n ⊎ IsResourceOf remaining q a number n)
-  owners q a number m t (inl s) =
-      let now : (n : Module) × (finmap.get less.modules a ≡ Some (Loaded n)) × SameModule n m = l.after a m (loaded_is (finmap.get old.modules a) m s.loaded) in
-      let at : slice_get now.0.slots (number - 1) ≡ Some q = ap (λ x. slice_get x (number - 1)) now.2.slots ∙ s.has.1 in
-      turn now.0 now.1 at (left_or_gone a now.0 now.1)
-    where
-      turn : (n : Module) → finmap.get less.modules a ≡ Some (Loaded n) → slice_get n.slots (number - 1) ≡ Some q → (finmap.get end.modules a ≡ Some (Loaded n)) ⊎ (finmap.get end.modules a ≡ None) → (n : Module) × (IsSegmentOf remaining q a number n ⊎ IsResourceOf remaining q a number n)
-      turn n was at (inl there) = (n, inl (record { loaded = ap module_in there; has = (s.has.0, at) }))
-      turn n was at (inr none) = absurd (false≢true (sym t ∙ or_left (h.gone q) (over q) (h.all_gone a n q was none (place_member n.slots (number - 1) q at))))
-  owners q a number m t (inr r) = turn (over q) refl
-    where
-      load : Load
-      load = record { handle = a; place = number; loads = r.loads }
-
-      turn : (b : Bool) → over q ≡ b → (n : Module) × (IsSegmentOf remaining q a number n ⊎ IsResourceOf remaining q a number n)
-      turn true f = absurd (false≢true (sym t ∙ or_right (h.gone q) (over q) f))
-      turn false f =
-          let has : finmap.get loads q ≡ Some load = value_left old.loads over q f ∙ r.has in
-          let now : (n : Module) × (module_at end.modules a ≡ Some n) × SameModule n m = kept_modules q load m has r.loaded in
-          (now.0, inr (record { loaded = now.1; loads = r.loads; has = has }))
-
-  left_world : IsWorld remaining
-  left_world = shrunk_world old is all_gone end.modules loads numbers names (λ a m e. let s : (was : Module) × (finmap.get old.modules a ≡ Some (Loaded was)) × SameModule m was × (m.uses ≤ was.uses) = source a m e in (s.0, ap module_in s.1, s.2))
-      used kept_slots fewer kept_loads kept_modules owners
-
-  -- which is the one that is swept
-  is_swept : swept end ≡ remaining
-  is_swept =
-      (λ i. record (without_objects over (h.is_now i)) { modules = end.modules; loads = finmap.retain_keys end.loads (λ q. not (over q)) })
-      ∙ (λ i. record (without_objects over (record (without_objects h.gone (is_less i)) { modules = end.modules })) { modules = end.modules; loads = finmap.retain_keys end.loads (λ q. not (over q)) })
-      ∙ (λ i. record (gone_twice old h.gone over i) { modules = end.modules; loads = finmap.retain_keys end.loads (λ q. not (over q)) })
-      ∙ (λ i. record (without_objects all_gone old) { modules = end.modules; loads = finmap.retain_keys (same_loads i) (λ q. not (over q)) })
-
-pub free_world : (old new : World) → IsWorld old → (handle answer : ℕ) → Frees old handle answer new → IsWorld new
-free_world old new is handle answer f =
-    let less : World = used_less old handle in
-    let l : (used_less old handle ≡ record old { modules = (used_less old handle).modules }) × Lessened old.modules (used_less old handle).modules = less_is old handle in
-    let h : HasGone (used_less old handle) f.left = all_went (used_less old handle) (used_less old handle) f.left f.gone (none_yet (used_less old handle)) f.went in
-    let busy : (k : ℕ) → is_idle f.left.modules k ≡ false = none_left (used_less old handle) f.left f.gone f.went in
-    subst IsWorld (sym (f.after ∙ is_swept old is (used_less old handle) f.left l.0 l.1 h busy)) (left_world old is (used_less old handle) f.left l.0 l.1 h busy)
+pub free_world : (old new : LoadingWorld) → IsLoadingWorld old → (handle answer : ℕ) → Frees old handle answer new → IsLoadingWorld new
+free_world old new is handle answer f = subst IsLoadingWorld (sym f.after) (swept_world old is f.left (all_left old is (used_less old handle) f.left f.ended.gone (used_one_less old is handle) f.ended.went) (none_left (used_less old handle) f.left f.ended.gone f.ended.went))

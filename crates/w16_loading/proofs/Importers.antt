@@ -7,9 +7,9 @@ use Rattle.std.proofs.lemmas.Bool.{false≢true, and_parts, not-true}
 use Rattle.std.proofs.lemmas.List.Sums.{length-filter}
 use Rattle.w16_model.proofs.Gaps.{Member, member_filter, filter_member}
 use Rattle.w16_model.proofs.Heaps.{found_member, member_found, keys_rise}
-use Rattle.w16_loading.specs.Modules.{World, Module, Modules, Named, module_at, module_in, imports, importers, usage, usage_with, is_idle}
+use Rattle.w16_loading.specs.Modules.{LoadingWorld, Module, Modules, Named, module_at, module_in, imports, importers, usage, usage_with, is_idle}
 use Rattle.w16_loading.specs.Modules.Named.{Loaded, BuiltIn}
-use Rattle.w16_loading.specs.Law.{IsWorld, IsModule}
+use Rattle.w16_loading.specs.Law.{IsLoadingWorld, IsModule}
 
 -- an entry is one of a map's just where the map has it
 pub entry_there : {X : Type 0} (m : FinMap nat_cmp X) (q : ℕ) (v : X) → Member (q, v) (finmap.entries m) → finmap.get m q ≡ Some v
@@ -82,7 +82,7 @@ is_then_idle modules handle h = ap (λ p. is_some (module_in p) && (usage_with p
     none (suc n) e = absurd (h.alone (importer_of modules handle (omega (arith, e))))
 
 -- in a world no module is idle
-pub none_idle : (world : World) → IsWorld world → (handle : ℕ) → Idle world.modules handle → ⊥
+pub none_idle : (world : LoadingWorld) → IsLoadingWorld world → (handle : ℕ) → Idle world.modules handle → ⊥
 none_idle world is handle h =
     let m : IsModule world handle h.idle = subst (λ p. IfSome (module_in p) (IsModule world handle)) h.loaded (is.modules handle) in
     let used : 0 < h.idle.uses + importers world.modules handle = subst (λ p. 0 < usage_with p (importers world.modules handle)) h.loaded m.used in

@@ -1,24 +1,15 @@
--- What calls on handles leave of the bytes of an object that is there: the bytes that it had, or none.
-use Rattle.std.proofs.Common.{◌≡◌, ◌≢◌, ℕ, ◌+◌, ◌-◌, inl, inr, Bool, true, false, cond, not, if◌then◌else◌, ◌==◌, nat_lt, List, take, Option, Some, None, IfSome, IsSomeAnd, is_some, IfOk, Result, Ok, Err, MatchBool, refl, sym, ap, ◌∙◌, subst}
-use Rattle.std.specs.FinMap as finmap
-use Rattle.std.proofs.lemmas.Bool.{false≢true, cases_Bool, cases_eq}
+-- Bytes that are kept: an object has those that it had, or none.
+use Rattle.std.proofs.Common.{◌≡◌, ℕ, inl, inr, true, List, Option, Some, None, IfSome, IsSomeAnd, is_some, refl, sym, ap}
 use Rattle.w16_model.specs.declared.Kind.TheVariants.{Discardable}
-use Rattle.w16_model.specs.declared.Refusal.{Refusal}
-use Rattle.w16_model.specs.declared.Refusal.TheVariants as refusals
-use Rattle.w16_model.specs.Discards.{eligible, is_member}
-use Rattle.w16_model.specs.Heap.{Heap, Object, blocks, object_at, bytes_at, is_fixed}
-use Rattle.w16_model.specs.Changes.{with_object, with_ordered, with_newest, newest, oldest, touched, removed}
-use Rattle.w16_model.specs.OneObject.{Enters, after_free, after_lock, after_unlock, refused_order}
-use Rattle.w16_model.specs.Request.{IsNew, Allocates, MakesRoom, most_room, compaction_prefix, prefix_of}
-use Rattle.w16_model.specs.Handles.{Handles, AreHandles, slot_of_handle, selector_of, far_pointer}
-use Rattle.w16_model.specs.Calls.{HandleCommand, Answer, HandleStep, AnswersAlloc, GlobalCompacts, locks_at, handle_or_0, global_free, global_lock, global_unlock, is_absent_asked, kind_asked, way_asked, rounded_size}
-use Rattle.w16_model.specs.Calls.Answer.{Word, Dword, Walked}
-use Rattle.w16_model.specs.Calls.HandleCommand.{GlobalAlloc, GlobalFree, GlobalLock, GlobalUnlock, GlobalSize, GlobalFlags, GlobalHandle, GetSelectorBase, GetSelectorLimit, GlobalCompact, GlobalLRUNewest, GlobalLRUOldest, Moved, Walk}
-use Rattle.w16_model.specs.Law.{KeepsOthers}
-use Rattle.w16_model.proofs.KeptHeaps.{inserted_here, inserted_other, taken_here, taken_other, bytes_in}
-use Rattle.w16_model.proofs.KeptHandles.{settled}
-use Rattle.w16_model.proofs.Others.{others_law}
-use Rattle.w16_loading.specs.Law.{IsKeptAt}
+use Rattle.w16_model.specs.Heap.{Heap, Object, object_at, bytes_at}
+use Rattle.w16_model.specs.Handles.{Handles}
+use Rattle.w16_model.specs.Calls.{global_lock}
+use Rattle.w16_model.specs.Calls.HandleCommand.{GlobalLock}
+use Rattle.w16_model.specs.Outcomes.Call.{Calls}
+use Rattle.w16_model.specs.CallLaws.{KeepsContents, IsKeptOrDiscarded}
+use Rattle.w16_model.proofs.KeptHeaps.{bytes_in}
+use Rattle.w16_model.proofs.CallOutcomes.{call_outcome}
+use Rattle.w16_model.proofs.CallLaws.{contents}
 
 abbrev pub KeepsBytes : Heap → Heap → ℕ → Type 0
 KeepsBytes old new q = IfSome (bytes_at new q) (λ b. bytes_at old q ≡ Some b)
@@ -43,200 +34,17 @@ no_bytes old new q e = from_none (λ b. bytes_at old q ≡ Some b) (bytes_at new
 pub no_object : (old new : Heap) (q : ℕ) → object_at new q ≡ None → KeepsBytes old new q
 no_object old new q e = no_bytes old new q (ap bytes_in e)
 
-pub kept_bytes : (old new : Heap) (q : ℕ) → IsKeptAt old new q → KeepsBytes old new q
+pub kept_bytes : (old new : Heap) (q : ℕ) → IsKeptOrDiscarded old new q → KeepsBytes old new q
 kept_bytes old new q (inl e) = same_object old new q e
 kept_bytes old new q (inr h) = turn (object_at old q) h
-  where
-    turn : (p : Option Object) → IsSomeAnd p (λ o. (o.kind ≡ Discardable) × (o.locks ≡ 0) × (object_at new q ≡ Some (record o { bytes = None }))) → KeepsBytes old new q
-    turn None h = absurd h
-    turn (Some o) h = no_bytes old new q (ap bytes_in h.2)
-
-pub other_bytes : (old new : Heap) (h : Option ℕ) (k q : ℕ) → KeepsOthers old h k new → h ≢ Some q → KeepsBytes old new q
-other_bytes old new h k q keeps other = elim (cases_Bool (is_member q (take k (eligible (blocks old) old.order h)))) [
-  | inl t ↦ turn (object_at old q) (keeps.discarded q t)
-  | inr t ↦ same_object old new q (keeps.kept q other (λ e. false≢true (sym t ∙ e)))
-]
   where
     turn : (p : Option Object) → IsSomeAnd p (λ o. (o.kind ≡ Discardable) × (o.locks ≡ 0) × (is_some o.bytes ≡ true) × (object_at new q ≡ Some (record o { bytes = None }))) → KeepsBytes old new q
     turn None h = absurd h
     turn (Some o) h = no_bytes old new q (ap bytes_in h.3)
 
-pub bytes_then : (old mid new : Heap) (q : ℕ) → KeepsBytes old mid q → KeepsBytes mid new q → KeepsBytes old new q
-bytes_then old mid new q a b = turn (bytes_at new q) b
-  where
-    turn : (p : Option (List ℕ)) → IfSome p (λ x. bytes_at mid q ≡ Some x) → IfSome p (λ x. bytes_at old q ≡ Some x)
-    turn None h = tt
-    turn (Some x) h = subst (λ p. IfSome p (λ x. bytes_at old q ≡ Some x)) h a
-
--- an object that is put with the bytes that it had
-pub put_bytes : (old : Heap) (id : ℕ) (before after : Object) → object_at old id ≡ Some before → after.bytes ≡ before.bytes → (q : ℕ) → KeepsBytes old (with_object old id after) q
-put_bytes old id before after there same q = elim (cases_eq q id) [
-  | inl e ↦ same_bytes old (with_object old id after) q (ap bytes_in (inserted_here old.objects id after q e) ∙ same ∙ sym (ap bytes_in (ap (object_at old) e ∙ there)))
-  | inr d ↦ same_object old (with_object old id after) q (inserted_other old.objects id after q d)
-]
-
--- a choice of two results is good where each is that may be chosen
-if_ok : (P : Heap → Type 0) (b : Bool) (r s : Result Heap Refusal) → IfOk r P → IfOk s P → IfOk (cond b r s) P
-if_ok P true r s f g = f
-if_ok P false r s f g = g
-
-module _ (old : Handles) (q : ℕ) where
-  abbrev Kept : Heap → Type 0
-  Kept heap = KeepsBytes old.heap heap q
-
-  abbrev Leaves : Answer × Handles → Type 0
-  Leaves outcome = Kept outcome.1.heap
-
-  same : Kept old.heap
-  same = same_object old.heap old.heap q refl
-
-  free_ok : (slot : ℕ) → IfOk (after_free old.heap slot) Kept
-  free_ok slot = turn (object_at old.heap slot)
-    where
-      gone : Kept (removed old.heap slot)
-      gone = elim (cases_eq q slot) [
-        | inl e ↦ no_object old.heap (removed old.heap slot) q (taken_here old.heap.objects slot q e)
-        | inr d ↦ same_object old.heap (removed old.heap slot) q (taken_other old.heap.objects slot q d)
-      ]
-
-      turn : (p : Option Object) → IfOk (elim p [ None ↦ Ok old.heap | Some o ↦ if nat_lt 0 o.locks then Err refusals.Locked else Ok (removed old.heap slot) ]) Kept
-      turn None = same
-      turn (Some o) = if_ok Kept (nat_lt 0 o.locks) (Err refusals.Locked) (Ok (removed old.heap slot)) tt gone
-
-  abbrev free_outcome : ℕ → ℕ → Result Heap Refusal → Answer × Handles
-  free_outcome handle slot r = elim r [ Ok heap ↦ (Word 0, record old { heap = heap; attributes = finmap.remove old.attributes slot }) | Err _ ↦ (Word handle, old) ]
-
-  freed : (handle : ℕ) → Leaves (global_free old handle)
-  freed handle = turn (slot_of_handle old handle)
-    where
-      outcome : (slot : ℕ) (r : Result Heap Refusal) → IfOk r Kept → Leaves (free_outcome handle slot r)
-      outcome slot (Ok heap) h = h
-      outcome slot (Err _) h = same
-
-      turn : (s : Option ℕ) → Leaves (elim s [ None ↦ (Word handle, old) | Some slot ↦ free_outcome handle slot (after_free old.heap slot) ])
-      turn None = same
-      turn (Some slot) = outcome slot (after_free old.heap slot) (free_ok slot)
-
-  lock_ok : (slot : ℕ) → IfOk (after_lock old.heap slot) Kept
-  lock_ok slot = turn (object_at old.heap slot) refl
-    where
-      turn : (p : Option Object) → object_at old.heap slot ≡ p → IfOk (elim p [
-        | None ↦ Err refusals.Absent
-        | Some o ↦ if not (is_some o.bytes) then Err refusals.Absent
-            else (if is_fixed o.kind then Err refusals.Fixed
-            else (if o.locks == 255 then Err refusals.LockFull
-            else Ok (with_ordered old.heap slot (record o { locks = o.locks + 1 }) (touched slot))))
-      ]) Kept
-      turn None e = tt
-      turn (Some o) e =
-          let locked : Result Heap Refusal = Ok (with_ordered old.heap slot (record o { locks = o.locks + 1 }) (touched slot)) in
-          if_ok Kept (not (is_some o.bytes)) (Err refusals.Absent) (cond (is_fixed o.kind) (Err refusals.Fixed) (cond (o.locks == 255) (Err refusals.LockFull) locked)) tt
-          (if_ok Kept (is_fixed o.kind) (Err refusals.Fixed) (cond (o.locks == 255) (Err refusals.LockFull) locked) tt
-          (if_ok Kept (o.locks == 255) (Err refusals.LockFull) locked tt
-          (put_bytes old.heap slot o (record o { locks = o.locks + 1 }) e refl q)))
-
-  abbrev lock_outcome : ℕ → Result Heap Refusal → Answer × Handles
-  lock_outcome slot r = elim r [
-    | Ok heap ↦ (Dword (far_pointer (selector_of slot) 0), record old { heap = heap })
-    | Err refusals.Fixed ↦ (Dword (far_pointer (selector_of slot) 0), old)
-    | Err _ ↦ (Dword 0, old)
-  ]
-
-  pub locked : (handle : ℕ) → Leaves (global_lock old handle)
-  locked handle = turn (slot_of_handle old handle)
-    where
-      outcome : (slot : ℕ) (r : Result Heap Refusal) → IfOk r Kept → Leaves (lock_outcome slot r)
-      outcome slot (Ok heap) h = h
-      outcome slot (Err refusals.Fixed) h = same
-      outcome slot (Err _) h = same
-
-      turn : (s : Option ℕ) → Leaves (elim s [ None ↦ (Dword 0, old) | Some slot ↦ lock_outcome slot (after_lock old.heap slot) ])
-      turn None = same
-      turn (Some slot) = outcome slot (after_lock old.heap slot) (lock_ok slot)
-
-  unlock_ok : (slot : ℕ) → IfOk (after_unlock old.heap slot) Kept
-  unlock_ok slot = turn (object_at old.heap slot) refl
-    where
-      turn : (p : Option Object) → object_at old.heap slot ≡ p
-          → IfOk (elim p [ None ↦ Ok old.heap | Some o ↦ if is_fixed o.kind then Err refusals.Fixed else Ok (with_object old.heap slot (record o { locks = o.locks - 1 })) ]) Kept
-      turn None e = same
-      turn (Some o) e = if_ok Kept (is_fixed o.kind) (Err refusals.Fixed) (Ok (with_object old.heap slot (record o { locks = o.locks - 1 }))) tt (put_bytes old.heap slot o (record o { locks = o.locks - 1 }) e refl q)
-
-  abbrev unlock_outcome : ℕ → Result Heap Refusal → Answer × Handles
-  unlock_outcome slot r = elim r [ Ok heap ↦ (Word (if nat_lt 0 (locks_at heap slot) then 1 else 0), record old { heap = heap }) | Err _ ↦ (Word 0, old) ]
-
-  unlocked : (handle : ℕ) → Leaves (global_unlock old handle)
-  unlocked handle = turn (slot_of_handle old handle)
-    where
-      outcome : (slot : ℕ) (r : Result Heap Refusal) → IfOk r Kept → Leaves (unlock_outcome slot r)
-      outcome slot (Ok heap) h = h
-      outcome slot (Err _) h = same
-
-      turn : (s : Option ℕ) → Leaves (elim s [ None ↦ (Word 0, old) | Some slot ↦ unlock_outcome slot (after_unlock old.heap slot) ])
-      turn None = same
-      turn (Some slot) = outcome slot (after_unlock old.heap slot) (unlock_ok slot)
-
-  abbrev order_outcome : ℕ → Result Heap Refusal → Answer × Handles
-  order_outcome handle r = elim r [ Ok heap ↦ (Word handle, record old { heap = heap }) | Err _ ↦ (Word 0, old) ]
-
-  reordered : (order : ℕ → List ℕ → List ℕ) (handle : ℕ) → Leaves (handle_or_0 (λ heap id. elim (refused_order heap id) [ Some refusal ↦ Err refusal | None ↦ Ok (record heap { order = order id heap.order }) ]) old handle)
-  reordered order handle = turn (slot_of_handle old handle)
-    where
-      outcome : (slot : ℕ) (f : Option Refusal) → Leaves (order_outcome handle (elim f [ Some refusal ↦ Err refusal | None ↦ Ok (record old.heap { order = order slot old.heap.order }) ]))
-      outcome slot (Some refusal) = same
-      outcome slot None = same
-
-      turn : (s : Option ℕ) → Leaves (elim s [
-        | None ↦ (Word 0, old)
-        | Some slot ↦ order_outcome handle (elim (refused_order old.heap slot) [ Some refusal ↦ Err refusal | None ↦ Ok (record old.heap { order = order slot old.heap.order }) ])
-      ])
-      turn None = same
-      turn (Some slot) = outcome slot (refused_order old.heap slot)
-
-  module _ (are : AreHandles old) where
-    allocated : is_some (object_at old.heap q) ≡ true → (flags size handle : ℕ) (new : Handles) → AnswersAlloc old flags size handle new → Kept new.heap
-    allocated there flags size handle new a = made (is_absent_asked flags size) a.made
-      where
-        other : q ≢ a.slot
-        other e = false≢true (sym (ap is_some (ap (object_at old.heap) e ∙ a.free.1)) ∙ there)
-
-        apart : Some a.slot ≢ Some q
-        apart e = let f : a.slot ≡ q = cc in other (sym f)
-
-        made : (b : Bool) → MatchBool b (Enters old.heap a.slot (kind_asked flags) new.heap) (Allocates old.heap a.slot (rounded_size size) (kind_asked flags) 0 (way_asked flags) true new.heap) → Kept new.heap
-        made true enters = same_object old.heap new.heap q (ap (λ (h : Heap). object_at h q) enters.entered ∙ inserted_other old.heap.objects a.slot (record { kind = kind_asked flags; locks = 0; bytes = None }) q other)
-        made false allocates =
-            let s : (k : ℕ) × (o : Object) × _ = settled old.heap a.slot (way_asked flags) (prefix_of old.heap (rounded_size size) (Some a.slot) (way_asked flags))
-            (IsNew (way_asked flags).zero (rounded_size size) (kind_asked flags) 0) (with_newest a.slot) new.heap allocates.request in
-            other_bytes old.heap new.heap (Some a.slot) s.0 q ((others_law old.heap new.heap are.heap s.0).0 a.slot (way_asked flags) s.1 (with_newest a.slot s.1) s.2) apart
-
-    compacted : (size answer : ℕ) (new : Handles) → GlobalCompacts old size answer new → Kept new.heap
-    compacted size answer new c = turn (size == 0) c.compacted
-      where
-        turn : (b : Bool) → MatchBool b ((answer ≡ most_room old.heap) × (new.heap ≡ old.heap)) (MakesRoom old.heap size answer new.heap) → Kept new.heap
-        turn true e = same_object old.heap new.heap q (ap (λ (h : Heap). object_at h q) e.1)
-        turn false made = other_bytes old.heap new.heap None (compaction_prefix old.heap size) q ((others_law old.heap new.heap are.heap (compaction_prefix old.heap size)).1 made.settled) none
-          where
-            none : ◌≡◌ {A = Option ℕ} None (Some q) → ⊥
-            none e = cc
-
-    -- each call does so
-    pub call_keeps : is_some (object_at old.heap q) ≡ true → (command : HandleCommand) (answer : Answer) (new : Handles) → HandleStep old command answer new → Kept new.heap
-    call_keeps there (GlobalAlloc flags size) (Word handle) new step = elim step [
-      | inl refused ↦ subst (λ (h : Handles). Kept h.heap) (sym refused.2) same
-      | inr answered ↦ allocated there flags size handle new answered
-    ]
-    call_keeps there (GlobalFree handle) answer new step = subst (λ (h : Handles). Kept h.heap) (sym step.1) (freed handle)
-    call_keeps there (GlobalLock handle) answer new step = subst (λ (h : Handles). Kept h.heap) (sym step.1) (locked handle)
-    call_keeps there (GlobalUnlock handle) answer new step = subst (λ (h : Handles). Kept h.heap) (sym step.1) (unlocked handle)
-    call_keeps there (GlobalSize handle) answer new step = subst (λ (h : Handles). Kept h.heap) (sym step.1) same
-    call_keeps there (GlobalFlags handle) answer new step = subst (λ (h : Handles). Kept h.heap) (sym step.1) same
-    call_keeps there (GlobalHandle selector) answer new step = subst (λ (h : Handles). Kept h.heap) (sym step.1) same
-    call_keeps there (GetSelectorBase selector) answer new step = subst (λ (h : Handles). Kept h.heap) (sym step.1) same
-    call_keeps there (GetSelectorLimit selector) answer new step = subst (λ (h : Handles). Kept h.heap) (sym step.1) same
-    call_keeps there (GlobalCompact size) (Dword longest) new step = compacted size longest new step
-    call_keeps there (GlobalLRUNewest handle) answer new step = subst (λ (h : Handles). Kept h.heap) (sym step.1) (reordered newest handle)
-    call_keeps there (GlobalLRUOldest handle) answer new step = subst (λ (h : Handles). Kept h.heap) (sym step.1) (reordered oldest handle)
-    call_keeps there Moved answer new step = subst (λ (h : Handles). Kept h.heap) (sym step.1) same
-    call_keeps there Walk (Walked count) new step = subst (λ (h : Handles). Kept h.heap) (sym step.3) same
-    call_keeps there command answer new step = absurd step
+-- a lock keeps them in any handles
+pub locked : (old : Handles) (q handle : ℕ) → KeepsBytes old.heap (global_lock old handle).1.heap q
+locked old q handle =
+    let new : Handles = (global_lock old handle).1 in
+    let k : KeepsContents old new = contents old new (Calls (GlobalLock handle)) (global_lock old handle).0 (call_outcome old new (GlobalLock handle) (global_lock old handle).0 (refl, refl)) refl in
+    same_bytes old.heap new.heap q (k.bytes q)

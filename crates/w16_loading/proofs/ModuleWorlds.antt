@@ -1,125 +1,43 @@
 -- A world stays one where its modules keep their slots and tables, names stay different, and each module stays in use.
-use Rattle.std.proofs.Common.{◌≡◌, ◌≢◌, ℕ, zero, suc, ◌+◌, ◌-◌, ◌<◌, ◌≤◌, inl, inr, ◌⊎◌, Bool, true, false, cond, not, ◌&&◌, nat_lt, List, [], ◌∷◌, Option, Some, None, IfSome, IsSomeAnd, MatchOption, option_map, slice_get, refl, sym, ap, ◌∙◌, subst, arith, ltb-true}
-use Rattle.std.specs.List.{AllZip, find}
+use Rattle.std.proofs.Common.{◌≡◌, ◌≢◌, ℕ, zero, suc, ◌+◌, ◌<◌, ◌≤◌, inl, inr, ◌⊎◌, Bool, true, false, cond, List, [], ◌∷◌, Option, Some, None, IfSome, option_map, refl, sym, ap, ◌∙◌, subst, arith}
+use Rattle.std.specs.List.{find}
 use Rattle.std.specs.FinMap as finmap
 use Rattle.std.proofs.lemmas.Bool.{false≢true, cases_eq}
-use Rattle.w16_model.specs.Calls.{rounded_size}
 use Rattle.w16_model.proofs.Gaps.{Member}
 use Rattle.w16_model.proofs.KeptHeaps.{inserted_here, inserted_other}
 use Rattle.w16_store.specs.Names.{is_named}
-use Rattle.w16_store.proofs.Naming.{is_named-Decides}
-use Rattle.w16_loading.specs.declared.TheConstants.{FIRST_MODULE, MOST_MODULES, MOST_USES}
-use Rattle.w16_loading.specs.File.{Tables, Segment, Resource, numbered}
-use Rattle.w16_loading.specs.Modules.{World, Load, Owned, Module, Modules, Named, IsFreeModule, IsSegmentOf, IsResourceOf, name_of, handle_named, module_at, module_in, imports, importers, usage, usage_with}
+use Rattle.w16_loading.proofs.Given.{named_back}
+use Rattle.w16_loading.proofs.Worlds.{SameModule, IsNumber, AreNamesApart, is_load, owner_stays, follows}
+use Rattle.w16_loading.specs.declared.TheConstants.{MOST_USES}
+use Rattle.w16_loading.specs.Modules.{LoadingWorld, Module, Modules, Named, IsFreeModule, name_of, handle_named, module_at, module_in, imports, importers, usage, usage_with}
 use Rattle.w16_loading.specs.Modules.Named.{Loaded, BuiltIn}
-use Rattle.w16_loading.specs.Load.{Answer, used_again, after_use}
-use Rattle.w16_loading.specs.Load.Answer.{Says}
-use Rattle.w16_loading.specs.Machine.{AddsBuiltIn, GivesBuiltIn, built_in}
-use Rattle.w16_loading.specs.Resource.{resource_at}
-use Rattle.w16_loading.specs.Law.{IsWorld, IsModule, IsObjectOf, IsLoad}
-use Rattle.w16_loading.proofs.Apart.{loaded_is}
+use Rattle.w16_loading.specs.Load.{after_use}
+use Rattle.w16_loading.specs.Law.{IsLoadingWorld, IsModule}
+use Rattle.w16_loading.proofs.Given.{loaded_is}
 use Rattle.w16_loading.proofs.Importers.{HasImporter, importer_of, of_importer, there_entry}
 
--- a module of two sets of modules, with the same slots and tables
-pub record SameModule (m before : Module) : Type 0 where
-  pub slots : m.slots ≡ before.slots
-  pub tables : m.tables ≡ before.tables
-
--- each handle's range
-abbrev pub IsNumber : ℕ → Type 0
-IsNumber handle = (FIRST_MODULE ≤ handle) × (handle < FIRST_MODULE + MOST_MODULES)
-
-abbrev pub AreNamesApart : Modules → Type 0
-AreNamesApart modules = (a b : ℕ) (m n : Named) → finmap.get modules a ≡ Some m → finmap.get modules b ≡ Some n → is_named (name_of m) (name_of n) ≡ true → a ≡ b
-
-module _ (old : World) (is : IsWorld old) (modules : Modules)
+module _ (old : LoadingWorld) (is : IsLoadingWorld old) (modules : Modules)
     (numbers : (handle : ℕ) → IfSome (finmap.get modules handle) (λ _. IsNumber handle))
     (names : AreNamesApart modules)
     (sources : (handle : ℕ) (m : Module) → module_at modules handle ≡ Some m → (before : Module) × (module_at old.modules handle ≡ Some before) × SameModule m before)
     (stays : (handle : ℕ) (before : Module) → module_at old.modules handle ≡ Some before → (m : Module) × (module_at modules handle ≡ Some m) × SameModule m before)
     (used : (handle : ℕ) (m : Module) → module_at modules handle ≡ Some m → (0 < usage modules handle) × (m.uses ≤ MOST_USES)) where
-  abbrev new : World
+  abbrev new : LoadingWorld
   new = record old { modules = modules }
 
-  object_is : (slot : ℕ) (g : Segment) → IsObjectOf old slot g.kind g.size g.is_code → IsObjectOf new slot g.kind g.size g.is_code
-  object_is slot g h = record { object = h.object; owned = h.owned }
-
-  segments_are : (slots : List ℕ) (segments : List Segment) → AllZip (λ slot (g : Segment). IsObjectOf old slot g.kind g.size g.is_code) slots segments → AllZip (λ slot (g : Segment). IsObjectOf new slot g.kind g.size g.is_code) slots segments
-  segments_are [] [] h = tt
-  segments_are [] (g ∷ gs) h = absurd h
-  segments_are (q ∷ qs) [] h = absurd h
-  segments_are (q ∷ qs) (g ∷ gs) h = (object_is q g h.0, segments_are qs gs h.1)
-
-  module_is : (handle : ℕ) (p : Option Module) → module_at modules handle ≡ p → IfSome p (IsModule new handle)
-  module_is handle None e = tt
-  module_is handle (Some m) e =
-      let was : (before : Module) × (module_at old.modules handle ≡ Some before) × SameModule m before = sources handle m e in
-      let sound : IsModule old handle was.0 = subst (λ p. IfSome p (IsModule old handle)) was.1 (is.modules handle) in
-      record {
-        segments = subst (λ (t : Tables). AllZip (λ slot (g : Segment). IsObjectOf new slot g.kind g.size g.is_code) m.slots t.segments) (sym was.2.tables)
-            (subst (λ s. AllZip (λ slot (g : Segment). IsObjectOf new slot g.kind g.size g.is_code) s was.0.tables.segments) (sym was.2.slots) (segments_are was.0.slots was.0.tables.segments sound.segments));
-        used = (used handle m e).0;
-        full = (used handle m e).1;
-      }
-
-  -- the table of a loaded resource's module is the same
-  resource_is : (handle place slot : ℕ) (p : Option Module) → module_at old.modules handle ≡ p → IsSomeAnd (elim p as (λ _. Option Resource) [ None ↦ None | Some n ↦ numbered n.tables.resources place ]) (λ r. IsObjectOf old slot r.kind (rounded_size r.length_in) false)
-      → IsSomeAnd (resource_at new handle place) (λ r. IsObjectOf new slot r.kind (rounded_size r.length_in) false)
-  resource_is handle place slot None e h = absurd h
-  resource_is handle place slot (Some before) e h =
-      let now : (m : Module) × (module_at modules handle ≡ Some m) × SameModule m before = stays handle before e in
-      subst (λ p. IsSomeAnd (elim p as (λ _. Option Resource) [ None ↦ None | Some n ↦ numbered n.tables.resources place ]) (λ r. IsObjectOf new slot r.kind (rounded_size r.length_in) false)) (sym now.1)
-      (subst (λ (t : Tables). IsSomeAnd (numbered t.resources place) (λ r. IsObjectOf new slot r.kind (rounded_size r.length_in) false)) (sym now.2.tables) (turn (numbered before.tables.resources place) h))
-    where
-      turn : (q : Option Resource) → IsSomeAnd q (λ r. IsObjectOf old slot r.kind (rounded_size r.length_in) false) → IsSomeAnd q (λ r. IsObjectOf new slot r.kind (rounded_size r.length_in) false)
-      turn None h = absurd h
-      turn (Some r) h = record { object = h.object; owned = h.owned }
-
-  load_is : (slot : ℕ) (p : Option Load) → IfSome p (IsLoad old slot) → IfSome p (IsLoad new slot)
-  load_is slot None h = tt
-  load_is slot (Some load) h = record { resource = resource_is load.handle load.place slot (module_at old.modules load.handle) refl h.resource; used = h.used; full = h.full }
-
-  segment_was : (slot handle number : ℕ) (m : Module) → IsSegmentOf new slot handle number m → (before : Module) × IsSegmentOf old slot handle number before
-  segment_was slot handle number m s =
-      let was : (before : Module) × (module_at old.modules handle ≡ Some before) × SameModule m before = sources handle m s.loaded in
-      (was.0, record { loaded = was.1; has = (s.has.0, ap (λ q. slice_get q (number - 1)) (sym was.2.slots) ∙ s.has.1) })
-
-  resource_was : (slot handle place : ℕ) (m : Module) → IsResourceOf new slot handle place m → (before : Module) × IsResourceOf old slot handle place before
-  resource_was slot handle place m r =
-      let was : (before : Module) × (module_at old.modules handle ≡ Some before) × SameModule m before = sources handle m r.loaded in
-      (was.0, record { loaded = was.1; loads = r.loads; has = r.has })
-
-  owner_is : (slot : ℕ) (p : Option Owned) → IfSome p (λ _. (handle number : ℕ) × (m : Module) × (IsSegmentOf old slot handle number m ⊎ IsResourceOf old slot handle number m))
-      → IfSome p (λ _. (handle number : ℕ) × (m : Module) × (IsSegmentOf new slot handle number m ⊎ IsResourceOf new slot handle number m))
-  owner_is slot None h = tt
-  owner_is slot (Some o) (handle, number, m, inl s) =
-      let now : (n : Module) × (module_at modules handle ≡ Some n) × SameModule n m = stays handle m s.loaded in
-      (handle, number, now.0, inl (record { loaded = now.1; has = (s.has.0, ap (λ q. slice_get q (number - 1)) now.2.slots ∙ s.has.1) }))
-  owner_is slot (Some o) (handle, number, m, inr r) =
-      let now : (n : Module) × (module_at modules handle ≡ Some n) × SameModule n m = stays handle m r.loaded in
-      (handle, number, now.0, inr (record { loaded = now.1; loads = r.loads; has = r.has }))
-
-  pub module_world : IsWorld new
-  module_world = record {
+  pub module_world : IsLoadingWorld new
+  module_world = follows old new is (record {
     handles = is.handles;
     numbers = numbers;
     names = names;
-    modules = λ handle. module_is handle (module_at modules handle) refl;
-    loads = λ slot. load_is slot (finmap.get old.loads slot) (is.loads slot);
-    one_segment = λ slot a i b j m n s t.
-        let x : (before : Module) × IsSegmentOf old slot a i before = segment_was slot a i m s in
-        let y : (before : Module) × IsSegmentOf old slot b j before = segment_was slot b j n t in
-        is.one_segment slot a i b j x.0 y.0 x.1 y.1;
-    one_object = λ s t handle place m n x y.
-        let u : (before : Module) × IsResourceOf old s handle place before = resource_was s handle place m x in
-        let v : (before : Module) × IsResourceOf old t handle place before = resource_was t handle place n y in
-        is.one_object s t handle place u.0 v.0 u.1 v.1;
-    no_resource = λ slot a i b j m n s r.
-        let x : (before : Module) × IsSegmentOf old slot a i before = segment_was slot a i m s in
-        let y : (before : Module) × IsResourceOf old slot b j before = resource_was slot b j n r in
-        is.no_resource slot a i b j x.0 y.0 x.1 y.1;
-    owners = λ slot. owner_is slot (finmap.get old.owned slot) (is.owners slot);
-  }
+    sources = sources;
+    used = used;
+    loads = λ slot load e. (load.loads, e, (is_load old is slot load e).0, (is_load old is slot load e).1);
+    still = λ slot load before at e. stays load.handle before e;
+    of_segments = λ handle m slot kind size code e k h. record { object = h.object; owned = h.owned };
+    of_loads = λ slot load kind size code e h. record { object = h.object; owned = h.owned };
+    owners = owner_stays old is new stays (λ slot load e. (load.loads, e));
+  })
 
 -- Uses.
 
@@ -138,7 +56,7 @@ still_used old new handle uses more le stays lt = turn (importers old handle) re
     turn (suc n) e = let some : 0 < importers new handle = of_importer new handle (stays (importer_of old handle (omega (arith, e)))) in omega (arith, some)
 
 -- One use more.
-module _ (old : World) (is : IsWorld old) (handle : ℕ) (m : Module) (there : finmap.get old.modules handle ≡ Some (Loaded m)) (few : m.uses < MOST_USES) where
+module _ (old : LoadingWorld) (is : IsLoadingWorld old) (handle : ℕ) (m : Module) (there : finmap.get old.modules handle ≡ Some (Loaded m)) (few : m.uses < MOST_USES) where
   abbrev more : Module
   more = record m { uses = m.uses + 1 }
 
@@ -220,22 +138,8 @@ module _ (old : World) (is : IsWorld old) (handle : ℕ) (m : Module) (there : f
             sound.full,
           )
 
-  pub used_world : IsWorld (after_use old handle m)
+  pub used_world : IsLoadingWorld (after_use old handle m)
   used_world = module_world old is modules numbers names sources stays used
-
--- a load of a module that is there
-abbrev outcome_again : World → ℕ → Module → Bool → Bool → Answer × World
-outcome_again old handle m s t = cond {A = Answer × World} s (Says 16, old) (cond t (Says handle, after_use old handle m) (Says 0, old))
-
-pub again_world : (b : Bool) (old : World) → IsWorld old → (handle : ℕ) (p : Option Named) → finmap.get old.modules handle ≡ p → IsWorld (used_again b old handle p).1
-again_world b old is handle None e = is
-again_world b old is handle (Some (BuiltIn name)) e = is
-again_world b old is handle (Some (Loaded m)) e = turn (b && not m.tables.is_library) (nat_lt m.uses MOST_USES) refl
-  where
-    turn : (s t : Bool) → nat_lt m.uses MOST_USES ≡ t → IsWorld (outcome_again old handle m s t).1
-    turn true t f = is
-    turn false true f = used_world old is handle m e (ltb-true m.uses MOST_USES f)
-    turn false false f = is
 
 -- Names.
 
@@ -256,11 +160,8 @@ not_named modules name e handle n there = find_none (λ (x : ℕ × Named). is_n
     none None e = refl
     none (Some x) e = cc
 
-pub named_back : (a b : List ℕ) → is_named a b ≡ true → is_named b a ≡ true
-named_back a b t = (is_named-Decides b a).1 (sym ((is_named-Decides a b).0 t))
-
 -- A built-in.
-module _ (old : World) (is : IsWorld old) (handle : ℕ) (name : List ℕ) (free : IsFreeModule old.modules handle) (unnamed : handle_named old.modules name ≡ None) where
+module _ (old : LoadingWorld) (is : IsLoadingWorld old) (handle : ℕ) (name : List ℕ) (free : IsFreeModule old.modules handle) (unnamed : handle_named old.modules name ≡ None) where
   abbrev with_built_in : Modules
   with_built_in = finmap.insert old.modules handle (BuiltIn name)
 
@@ -324,7 +225,7 @@ module _ (old : World) (is : IsWorld old) (handle : ℕ) (name : List ℕ) (free
         sound.full,
       )
 
-  pub built_world : IsWorld (record old { modules = with_built_in })
+  pub built_world : IsLoadingWorld (record old { modules = with_built_in })
   built_world = module_world old is with_built_in built_numbers built_names
       (λ h m e. (m, (loaded_now h m e).1, record { slots = refl; tables = refl }))
       (λ h before e. elim (cases_eq h handle) [
@@ -332,14 +233,3 @@ module _ (old : World) (is : IsWorld old) (handle : ℕ) (name : List ℕ) (free
         | inr other ↦ (before, ap module_in (inserted_other old.modules handle (BuiltIn name) h other) ∙ e, record { slots = refl; tables = refl })
       ])
       built_used
-
-pub built_in_world : (old new : World) → IsWorld old → (name : List ℕ) (answer : ℕ) → GivesBuiltIn old name answer new → IsWorld new
-built_in_world old new is name answer step = turn (handle_named old.modules name) refl step
-  where
-    adds : handle_named old.modules name ≡ None → AddsBuiltIn old name answer new → IsWorld new
-    adds e (inl f) = subst IsWorld (sym f.2) is
-    adds e (inr f) = subst IsWorld (sym f.1) (built_world old is answer name f.0 e)
-
-    turn : (p : Option ℕ) → handle_named old.modules name ≡ p → MatchOption p (AddsBuiltIn old name answer new) (λ handle. (answer ≡ built_in (finmap.get old.modules handle) handle) × (new ≡ old)) → IsWorld new
-    turn None e f = adds e f
-    turn (Some handle) e f = subst IsWorld (sym f.1) is

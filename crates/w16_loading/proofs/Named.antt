@@ -1,17 +1,15 @@
 -- The world in which a load's modules have names: its handles are such, since slots were free and are different.
-use Rattle.std.proofs.Common.{◌≢◌, ℕ, false, ◌+◌, inl, inr, List, [], ◌∷◌, ◌++◌, fold, flat_map, zip, None, refl, sym, ◌∙◌}
+use Rattle.std.proofs.Common.{◌≢◌, ℕ, ◌+◌, inl, inr, List, [], ◌∷◌, ◌++◌, fold, flat_map, zip, None, refl, sym, ◌∙◌}
 use Rattle.std.specs.List.{AllByRecursion as Each}
 use Rattle.w16_model.specs.Handles.{AreHandles, IsFreeSlot}
 use Rattle.w16_model.proofs.Gaps.{Member, EachPair, Each-at, Each-from, Each-from_All, EachPair-from_AllPairs}
 use Rattle.w16_model.proofs.KeptHeaps.{inserted_other}
 use Rattle.w16_model.proofs.KeptHandles.{with_absent_object}
 use Rattle.w16_loading.specs.File.{Segment}
-use Rattle.w16_loading.specs.Modules.{World}
+use Rattle.w16_loading.specs.Modules.{LoadingWorld}
 use Rattle.w16_loading.specs.Closure.{Closure, Found}
-use Rattle.w16_loading.specs.Naming.{Choice, IsChoice, all_slots, given, given_from, segments_of, with_segment, named, fills}
-use Rattle.w16_loading.specs.Fewest.{LoadFewestLaw}
+use Rattle.w16_loading.specs.Naming.{attributes_of, Choice, IsChoice, all_slots, given, given_from, segments_of, with_segment, named}
 use Rattle.w16_loading.proofs.Undone.{zipped, in_first, in_second, parted, chosen}
-use Rattle.w16_loading.proofs.Fewest.{all_fewest}
 
 -- no two segments have one slot
 abbrev pub AreApart : List (ℕ × Segment) → Type 0
@@ -39,24 +37,21 @@ given_slots_apart place (f ∷ fs) (h ∷ hs) (s ∷ ss) differ =
     (given_slots_apart (place + 1) fs hs ss (apart_after s (flat_map (λ s. s) ss) differ))
 
 -- objects without bytes in free slots
-entered_all : (w : World) (xs : List (ℕ × Segment)) → AreHandles w.handles → Each (λ x. IsFreeSlot w.handles x.0) xs → AreApart xs → AreHandles (fold with_segment w xs).handles
+entered_all : (w : LoadingWorld) (xs : List (ℕ × Segment)) → AreHandles w.handles → Each (λ x. IsFreeSlot w.handles x.0) xs → AreApart xs → AreHandles (fold with_segment w xs).handles
 entered_all w [] is free apart = is
 entered_all w (x ∷ xs) is free apart =
     entered_all (with_segment w x) xs
-    (with_absent_object w.handles is (record { shared = false }) x.0 x.1.kind (with_segment w x).handles.heap free.0 (record { unused = free.0.1; entered = refl }))
+    (with_absent_object w.handles is (attributes_of x.1) x.0 x.1.kind (with_segment w x).handles.heap free.0 (record { unused = free.0.1; entered = refl }))
     (Each-from (λ (y : ℕ × Segment). IsFreeSlot (with_segment w x).handles y.0) xs (λ y m.
     let was : IsFreeSlot w.handles y.0 = Each-at (λ (y : ℕ × Segment). IsFreeSlot w.handles y.0) xs free.1 y m in
     let other : x.0 ≢ y.0 = Each-at (λ (y : ℕ × Segment). x.0 ≢ y.0) xs apart.0 y m in
     (was.0, inserted_other w.handles.heap.objects x.0 (record { kind = x.1.kind; locks = 0; bytes = None }) y.0 (λ e. other (sym e)) ∙ was.1)))
     apart.1
 
-pub free_slot : (old : World) (closure : Closure) (choice : Choice) → IsChoice old closure.found choice → (q : ℕ) → Member q (all_slots choice) → IsFreeSlot old.handles q
+pub free_slot : (old : LoadingWorld) (closure : Closure) (choice : Choice) → IsChoice old closure.found choice → (q : ℕ) → Member q (all_slots choice) → IsFreeSlot old.handles q
 free_slot old closure choice good q m = Each-at (IsFreeSlot old.handles) (all_slots choice) (Each-from_All (IsFreeSlot old.handles) (all_slots choice) good.slots.free) q m
 
-pub named_handles : (old : World) (closure : Closure) (choice : Choice) → AreHandles old.handles → IsChoice old closure.found choice → AreHandles (named old closure choice).handles
+pub named_handles : (old : LoadingWorld) (closure : Closure) (choice : Choice) → AreHandles old.handles → IsChoice old closure.found choice → AreHandles (named old closure choice).handles
 named_handles old closure choice is good = entered_all old (segments_of (given closure choice)) is
     (Each-from (λ (x : ℕ × Segment). IsFreeSlot old.handles x.0) (segments_of (given closure choice)) (λ x m. free_slot old closure choice good x.0 (chosen 0 closure.found choice.handles choice.slots x m)))
     (given_slots_apart 0 closure.found choice.handles choice.slots (EachPair-from_AllPairs (λ (a b : ℕ). a ≢ b) (flat_map (λ s. s) choice.slots) good.slots.apart))
-
-pub load_fewest_law : LoadFewestLaw
-load_fewest_law old closure choice fault heap is good filled = all_fewest (named old closure choice).handles.heap (fills old closure choice) fault heap (named_handles old closure choice is.handles good).heap filled

@@ -1,22 +1,23 @@
 -- Names that are taken back leave the same world.
-use Rattle.std.proofs.Common.{◌≡◌, ◌≢◌, ℕ, ◌+◌, inl, inr, ◌⊎◌, Bool, true, false, cond, not, List, [], ◌∷◌, ◌++◌, fold, filter, flat_map, zip, Option, Some, None, is_some, refl, sym, ap, ◌∙◌, subst}
+use Rattle.std.proofs.Common.{◌≡◌, ◌≢◌, ℕ, ◌+◌, inl, inr, ◌⊎◌, Bool, true, false, cond, not, List, [], ◌∷◌, ◌++◌, fold, filter, flat_map, zip, Option, Some, None, All, is_some, refl, sym, ap, ◌∙◌, subst}
 use Rattle.std.specs.Cmp.{nat_cmp_total}
 use Rattle.std.specs.Ordering.{nat_cmp}
 use Rattle.std.specs.FinMap as finmap
 use Rattle.std.specs.FinMap.{FinMap, same_map, nat_cmp-IsAntisymmetric, get-retain_keys}
 use Rattle.std.proofs.lemmas.Bool.{false≢true, cases_Bool}
 use Rattle.w16_model.specs.Discards.{is_member}
-use Rattle.w16_model.specs.Heap.{Heap, IsHeap, object_at, is_in_order}
-use Rattle.w16_model.specs.Handles.{IsFreeSlot}
+use Rattle.w16_model.specs.Heap.{object_at, is_in_order}
+use Rattle.w16_model.specs.Handles.{AreHandles, IsFreeSlot}
+use Rattle.w16_model.specs.Owned.{owned_in, owned_at}
 use Rattle.w16_model.proofs.Gaps.{Member, Each-from_All, Each-at}
 use Rattle.w16_model.proofs.Discards.{is_member-true, true-is_member}
 use Rattle.w16_model.proofs.KeptHeaps.{inserted_other}
 use Rattle.w16_loading.specs.File.{Segment}
-use Rattle.w16_loading.specs.Modules.{World, with_heap}
+use Rattle.w16_loading.specs.Modules.{LoadingWorld, with_heap}
 use Rattle.w16_loading.specs.Closure.{Found}
-use Rattle.w16_loading.specs.Naming.{given, given_from, all_slots, segments_of, with_segment}
-use Rattle.w16_loading.specs.Release.{heap_without}
-use Rattle.w16_loading.specs.Law.{UndoneLaw}
+use Rattle.w16_loading.specs.Naming.{given, given_from, all_slots, segments_of, with_segment, attributes_of}
+use Rattle.w16_loading.specs.Release.{without_objects}
+use Rattle.w16_loading.specs.Law.{TakenBackLaw, UndoneLaw}
 
 -- Slots of segments are slots that were chosen.
 
@@ -50,17 +51,22 @@ chosen place (f ∷ fs) (h ∷ hs) (s ∷ ss) x m = elim (parted x (zip s f.read
   | inr b ↦ in_second x.0 s (flat_map (λ s. s) ss) (chosen (place + 1) fs hs ss x b)
 ]
 
--- What naming leaves: objects under the slots of segments alone.
-pub record IsNamed (old new : Heap) (xs : List (ℕ × Segment)) : Type 0 where
-  pub rest : new ≡ record old { objects = new.objects }
-  pub others : (q : ℕ) → ((x : ℕ × Segment) → Member x xs → q ≢ x.0) → object_at new q ≡ object_at old q
+-- What naming leaves: objects and attributes under the slots of segments alone.
+pub record IsNamed (old new : LoadingWorld) (xs : List (ℕ × Segment)) : Type 0 where
+  pub rest : new ≡ record old { handles = record old.handles { heap = record old.handles.heap { objects = new.handles.heap.objects }; attributes = new.handles.attributes } }
+  pub others : (q : ℕ) → ((x : ℕ × Segment) → Member x xs → q ≢ x.0) → object_at new.handles.heap q ≡ object_at old.handles.heap q
+  pub attributes : (q : ℕ) → ((x : ℕ × Segment) → Member x xs → q ≢ x.0) → finmap.get new.handles.attributes q ≡ finmap.get old.handles.attributes q
 
-pub fold_named : (w : World) (xs : List (ℕ × Segment)) → IsNamed w.handles.heap (fold with_segment w xs).handles.heap xs
-fold_named w [] = record { rest = refl; others = λ q out. refl }
-fold_named w (x ∷ xs) = let r : IsNamed (with_segment w x).handles.heap (fold with_segment (with_segment w x) xs).handles.heap xs = fold_named (with_segment w x) xs in record {
+pub fold_named : (w : LoadingWorld) (xs : List (ℕ × Segment)) → IsNamed w (fold with_segment w xs) xs
+fold_named w [] = record { rest = refl; others = λ q out. refl; attributes = λ q out. refl }
+fold_named w (x ∷ xs) = let r : IsNamed (with_segment w x) (fold with_segment (with_segment w x) xs) xs = fold_named (with_segment w x) xs in record {
   rest = r.rest;
   others = λ q out. r.others q (λ y m. out y (inr m)) ∙ inserted_other w.handles.heap.objects x.0 (record { kind = x.1.kind; locks = 0; bytes = None }) q (out x (inl refl));
+  attributes = λ q out. r.attributes q (λ y m. out y (inr m)) ∙ inserted_other w.handles.attributes x.0 (attributes_of x.1) q (out x (inl refl));
 }
+
+pub same_owned : (w : LoadingWorld) (xs : List (ℕ × Segment)) (q : ℕ) → ((x : ℕ × Segment) → Member x xs → q ≢ x.0) → owned_at (fold with_segment w xs).handles q ≡ owned_at w.handles q
+same_owned w xs q out = ap owned_in ((fold_named w xs).attributes q out)
 
 -- What isn't there needn't go.
 pub kept_all : (gone : ℕ → Bool) (ids : List ℕ) → ((q : ℕ) → Member q ids → gone q ≡ false) → filter (λ q. not (gone q)) ids ≡ ids
@@ -70,23 +76,20 @@ kept_all gone (q ∷ ids) out = ap (λ b. cond {A = List ℕ} (not b) (q ∷ fil
 pub retained : {X : Type 0} (m : FinMap nat_cmp X) (gone : ℕ → Bool) (q : ℕ) → finmap.get (finmap.retain_keys m (λ q. not (gone q))) q ≡ cond (not (gone q)) (finmap.get m q) None
 retained m gone q = get-retain_keys m (λ q. not (gone q)) q (λ x t. ap (λ k. not (gone k)) (sym (nat_cmp-IsAntisymmetric q x t)))
 
-module _ (old : Heap) (is : IsHeap old) (slots : List ℕ) (free : (q : ℕ) → Member q slots → object_at old q ≡ None) where
+module _ (old : LoadingWorld) (is : AreHandles old.handles) (slots : List ℕ) (free : (q : ℕ) → Member q slots → object_at old.handles.heap q ≡ None) where
   abbrev gone : ℕ → Bool
   gone q = is_member q slots
 
-  no_object : (q : ℕ) → gone q ≡ true → object_at old q ≡ None
+  no_object : (q : ℕ) → gone q ≡ true → object_at old.handles.heap q ≡ None
   no_object q t = free q (is_member-true q slots t)
 
-  no_place : (q : ℕ) → gone q ≡ true → finmap.get old.places q ≡ None
-  no_place q t = from (finmap.get old.places q) (is.at_bytes q ∙ ap (λ p. is_some (elim p [ Some o ↦ o.bytes | None ↦ None ])) (no_object q t))
-    where
-      from : (p : Option ℕ) → is_some p ≡ false → p ≡ None
-      from None e = refl
-      from (Some at) e = absurd (false≢true (sym e))
+  none : {X : Type 0} (p : Option X) → is_some p ≡ false → p ≡ None
+  none None e = refl
+  none (Some at) e = absurd (false≢true (sym e))
 
-  not_in_order : (q : ℕ) → Member q old.order → gone q ≡ false
+  not_in_order : (q : ℕ) → Member q old.handles.heap.order → gone q ≡ false
   not_in_order q m = elim (cases_Bool (gone q)) [
-    | inl t ↦ absurd (false≢true (sym (is.in_order q ∙ ap is_in_order (no_object q t)) ∙ true-is_member q old.order m))
+    | inl t ↦ absurd (false≢true (sym (is.heap.in_order q ∙ ap is_in_order (no_object q t)) ∙ true-is_member q old.handles.heap.order m))
     | inr t ↦ t
   ]
 
@@ -98,21 +101,34 @@ module _ (old : Heap) (is : IsHeap old) (slots : List ℕ) (free : (q : ℕ) →
     | inr t ↦ ap (λ b. cond (not b) (finmap.get after q) None) t ∙ same q t
   ])
 
-  pub taken_back : (xs : List (ℕ × Segment)) → ((x : ℕ × Segment) → Member x xs → Member x.0 slots) → (new : Heap) → IsNamed old new xs → heap_without gone new ≡ old
-  taken_back xs inside new n = ap (heap_without gone) n.rest ∙ (λ i. record old { objects = objects i; places = places i; order = order i })
+  pub taken_away : (xs : List (ℕ × Segment)) → ((x : ℕ × Segment) → Member x xs → Member x.0 slots) → (new : LoadingWorld) → IsNamed old new xs → without_objects gone new ≡ old
+  taken_away xs inside new n =
+      ap (without_objects gone) n.rest ∙ (λ i. record old { handles = record old.handles { heap = record old.handles.heap { objects = objects i; places = places i; order = order i }; attributes = attributes i } })
     where
-      objects : finmap.retain_keys new.objects (λ q. not (gone q)) ≡ old.objects
-      objects = unchanged old.objects new.objects no_object (λ q t. n.others q (λ x m e. false≢true (sym t ∙ true-is_member q slots (subst (λ k. Member k slots) (sym e) (inside x m)))))
+      out : (q : ℕ) → gone q ≡ false → (x : ℕ × Segment) → Member x xs → q ≢ x.0
+      out q t x m e = false≢true (sym t ∙ true-is_member q slots (subst (λ k. Member k slots) (sym e) (inside x m)))
 
-      places : finmap.retain_keys old.places (λ q. not (gone q)) ≡ old.places
-      places = unchanged old.places old.places no_place (λ q t. refl)
+      objects : finmap.retain_keys new.handles.heap.objects (λ q. not (gone q)) ≡ old.handles.heap.objects
+      objects = unchanged old.handles.heap.objects new.handles.heap.objects no_object (λ q t. n.others q (out q t))
 
-      order : filter (λ q. not (gone q)) old.order ≡ old.order
-      order = kept_all gone old.order not_in_order
+      places : finmap.retain_keys old.handles.heap.places (λ q. not (gone q)) ≡ old.handles.heap.places
+      places = unchanged old.handles.heap.places old.handles.heap.places
+          (λ q t. none (finmap.get old.handles.heap.places q) (is.heap.at_bytes q ∙ ap (λ p. is_some (elim p [ Some o ↦ o.bytes | None ↦ None ])) (no_object q t))) (λ q t. refl)
+
+      order : filter (λ q. not (gone q)) old.handles.heap.order ≡ old.handles.heap.order
+      order = kept_all gone old.handles.heap.order not_in_order
+
+      attributes : finmap.retain_keys new.handles.attributes (λ q. not (gone q)) ≡ old.handles.attributes
+      attributes = unchanged old.handles.attributes new.handles.attributes (λ q t. none (finmap.get old.handles.attributes q) (is.attributed q ∙ ap is_some (no_object q t))) (λ q t. n.attributes q (out q t))
+
+free_objects : (old : LoadingWorld) (slots : List ℕ) → All (IsFreeSlot old.handles) slots → (q : ℕ) → Member q slots → object_at old.handles.heap q ≡ None
+free_objects old slots free q m = (Each-at (IsFreeSlot old.handles) slots (Each-from_All (IsFreeSlot old.handles) slots free) q m).1
+
+pub taken_back_law : TakenBackLaw
+taken_back_law old slots xs is free inside = taken_away old is slots (free_objects old slots free) xs
+    (λ x m. is_member-true x.0 slots (Each-at (λ (x : ℕ × Segment). is_member x.0 slots ≡ true) xs (Each-from_All (λ (x : ℕ × Segment). is_member x.0 slots ≡ true) xs inside) x m))
+    (fold with_segment old xs) (fold_named old xs)
 
 pub undone_law : UndoneLaw
-undone_law old closure choice is chosen_well = ap (with_heap old) (taken_back old.handles.heap is.heap (all_slots choice) free (segments_of (given closure choice)) (chosen 0 closure.found choice.handles choice.slots)
-    (fold with_segment old (segments_of (given closure choice))).handles.heap (fold_named old (segments_of (given closure choice))))
-  where
-    free : (q : ℕ) → Member q (all_slots choice) → object_at old.handles.heap q ≡ None
-    free q m = (Each-at (IsFreeSlot old.handles) (all_slots choice) (Each-from_All (IsFreeSlot old.handles) (all_slots choice) chosen_well.slots.free) q m).1
+undone_law old closure choice is chosen_well = ap (λ (w : LoadingWorld). with_heap old w.handles.heap) (taken_away old is (all_slots choice) (free_objects old (all_slots choice) chosen_well.slots.free) (segments_of (given closure choice))
+    (chosen 0 closure.found choice.handles choice.slots) (fold with_segment old (segments_of (given closure choice))) (fold_named old (segments_of (given closure choice))))

@@ -5,7 +5,7 @@ use Rattle.std.specs.Option.{option_or}
 use Rattle.w16_store.specs.Names.{is_named}
 use Rattle.w16_store.specs.Files.{file_of}
 use Rattle.w16_loading.specs.File.{Format, ModuleFile}
-use Rattle.w16_loading.specs.Modules.{World, handle_named, free_modules}
+use Rattle.w16_loading.specs.Modules.{LoadingWorld, handle_named, free_modules}
 use Rattle.std.specs.Option.{option_map}
 
 -- a new module: the name of its file, and what that says
@@ -19,7 +19,7 @@ pub record Around : Type 0 where
   pub file : List ℕ → Option (List ℕ)
   pub free : ℕ
 
-abbrev pub around : World → Around
+abbrev pub around : LoadingWorld → Around
 around world = record { named = handle_named world.modules; file = file_of world.files; free = free_modules world.modules }
 
 -- what a name means: a module or built-in that is there, or a new module of this load, by its place among them from 0

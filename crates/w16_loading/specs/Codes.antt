@@ -11,7 +11,7 @@ use Rattle.w16_model.specs.Codes.{kind_code, handles_code}
 use Rattle.w16_loading.specs.File.{Far, Segment, Entry, Label, Resource, Tables}
 use Rattle.w16_loading.specs.File.Entry.{InSegment, Constant}
 use Rattle.w16_loading.specs.File.Label.{Number, Text}
-use Rattle.w16_loading.specs.Modules.{Module, Named, Owned, Load, World}
+use Rattle.w16_loading.specs.Modules.{Module, Named, Load, LoadingWorld}
 use Rattle.w16_loading.specs.Modules.Named.{Loaded, BuiltIn}
 
 abbrev pub text_code : Coded (List ℕ)
@@ -85,16 +85,13 @@ named_back (BuiltIn name) = refl
 abbrev pub named_code : Coded Named
 named_code = code_by (Module ⊎ List ℕ) (coded⊎ module_code text_code) of_named to_named named_back
 
-abbrev pub owned_code : Coded Owned
-owned_code = code_by (ℕ × Bool) (coded× coded_ℕ coded_bool) (λ o. (o.size, o.is_code)) (λ p. record { size = p.0; is_code = p.1 }) (λ _. refl)
-
 abbrev pub load_code : Coded Load
 load_code = code_by (ℕ × (ℕ × ℕ)) (coded× coded_ℕ (coded× coded_ℕ coded_ℕ)) (λ l. (l.handle, (l.place, l.loads))) (λ p. record { handle = p.0; place = p.1.0; loads = p.1.1 }) (λ _. refl)
 
 abbrev pub files_code : Coded (List (List ℕ × List ℕ))
 files_code = coded_list (coded× text_code text_code)
 
-abbrev pub world_code : Coded World
-world_code = code_by (Handles × (FinMap nat_cmp Owned × (FinMap nat_cmp Named × (FinMap nat_cmp Load × (List (List ℕ × List ℕ) × ℕ)))))
-    (coded× handles_code (coded× (finmap.code coded_ℕ owned_code) (coded× (finmap.code coded_ℕ named_code) (coded× (finmap.code coded_ℕ load_code) (coded× files_code coded_ℕ)))))
-    (λ w. (w.handles, (w.owned, (w.modules, (w.loads, (w.files, w.failures)))))) (λ p. record { handles = p.0; owned = p.1.0; modules = p.1.1.0; loads = p.1.1.1.0; files = p.1.1.1.1.0; failures = p.1.1.1.1.1 }) (λ _. refl)
+abbrev pub world_code : Coded LoadingWorld
+world_code = code_by (Handles × (FinMap nat_cmp Named × (FinMap nat_cmp Load × (List (List ℕ × List ℕ) × ℕ))))
+    (coded× handles_code (coded× (finmap.code coded_ℕ named_code) (coded× (finmap.code coded_ℕ load_code) (coded× files_code coded_ℕ))))
+    (λ w. (w.handles, (w.modules, (w.loads, (w.files, w.failures))))) (λ p. record { handles = p.0; modules = p.1.0; loads = p.1.1.0; files = p.1.1.1.0; failures = p.1.1.1.1 }) (λ _. refl)

@@ -1,7 +1,8 @@
 -- What a module file says, apart from how it says it: what the formats of files and relocations give to a load.
 use Rattle.std.specs.Prelude.{◌≡◌, ℕ, ◌-◌, ◌<◌, ◌≤◌, Bool, false, ◌==◌, if◌then◌else◌, List, [], length, find, All, MatchResult, Option, None, Result, unwrap_or, option_map, slice_get}
 use Rattle.w16_model.specs.declared.Kind.{Kind}
-use Rattle.w16_model.specs.declared.TheConstants.{GRAIN, LARGEST_SIZE}
+use Rattle.w16_model.specs.declared.TheConstants.{GRAIN}
+use Rattle.w16_loading.specs.declared.TheConstants.{LARGEST_OWNED}
 use Rattle.std.specs.List.{AllZip}
 use Rattle.w16_model.specs.Heap.{IsMultiple}
 use Rattle.w16_model.specs.Calls.{rounded_size}
@@ -95,7 +96,7 @@ Format = List ℕ → Result ModuleFile ℕ
 -- What a load relies on in a file that is accepted: as many of each as there are segments and resources, sizes and images that go together.
 pub record IsSegmentData (segment : Segment) (s : SegmentData) : Type 0 where
   pub some : 0 < segment.size
-  pub small : segment.size ≤ LARGEST_SIZE
+  pub small : segment.size ≤ LARGEST_OWNED
   pub rounded : IsMultiple GRAIN segment.size
   pub image : (values : List Far) → (length (s.image values) ≡ segment.size) × All (λ b. b < 256) (s.image values)
 

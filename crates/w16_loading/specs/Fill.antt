@@ -1,15 +1,11 @@
 -- Bytes for an object that has none: a request for room, as of an allocation with no flags, whose new bytes are given.
-use Rattle.std.specs.Prelude.{◌≡◌, ◌<◌, All, ℕ, ◌⊎◌, Bool, true, false, List, [], ◌∷◌, length, Option, Some, None}
-use Rattle.w16_model.specs.declared.Way.{Way}
+use Rattle.std.specs.Prelude.{◌≡◌, ◌<◌, All, ℕ, Bool, true, false, List, [], ◌∷◌, length, Option, Some, None, MatchOption}
 use Rattle.w16_model.specs.Heap.{Heap, Object, IsMultiple, object_at}
 use Rattle.w16_model.specs.Changes.{with_newest}
 use Rattle.w16_model.specs.Request.{Request, Asked, prefix_of}
+use Rattle.w16_model.specs.Owned.{any_way}
 use Rattle.w16_loading.specs.declared.FetchFault.{FetchFault}
 use Rattle.w16_loading.specs.declared.FetchFault.TheVariants.{NoRoom, Store}
-
--- others may be moved and discarded
-abbrev pub any_way : Way
-any_way = record { compact = true; discard = true; zero = false; may_move = false }
 
 -- what is asked for the object: that it is as before, but has these bytes
 abbrev pub asked_of : Heap → ℕ → Object → List ℕ → Asked
@@ -40,10 +36,30 @@ abbrev pub is_of_read : FetchFault → Bool
 is_of_read NoRoom = false
 is_of_read other = true
 
--- Several, one after another, up to the first that can't be read or has no room.
-abbrev pub FillsAll : (FetchFault → Bool) → Heap → List (ℕ × List ℕ) → Option FetchFault → Heap → Type 0
-FillsAll may_fail old [] fault new = (fault ≡ None) × (new ≡ old)
-FillsAll may_fail old (x ∷ xs) fault new =
-    ((failure : FetchFault) × (may_fail failure ≡ true) × (fault ≡ Some failure) × (new ≡ old))
-    ⊎ ((fault ≡ Some NoRoom) × Fills old x.0 x.1 false new)
-    ⊎ ((next : Heap) × Fills old x.0 x.1 true next × FillsAll may_fail next xs fault new)
+-- how one object gets bytes, or doesn't and why
+abbrev pub Giving : Type 1
+Giving = Heap → ℕ → List ℕ → Option FetchFault → Heap → Type 0
+
+-- It gets them; or there is no room; or they can't be read, for a reason that may be, and nothing changes.
+abbrev pub FillsOne : (FetchFault → Bool) → Giving
+FillsOne may_fail old slot bytes None new = Fills old slot bytes true new
+FillsOne may_fail old slot bytes (Some NoRoom) new = Fills old slot bytes false new
+FillsOne may_fail old slot bytes (Some fault) new = (may_fail fault ≡ true) × (new ≡ old)
+
+-- What a load gives bytes: the place of its module among the new ones, from 0, its slot and its bytes.
+pub record Filling : Type 0 where
+  pub place : ℕ
+  pub slot : ℕ
+  pub bytes : List ℕ
+
+-- why one of them got none, and the place of its module
+pub record Failure : Type 0 where
+  pub place : ℕ
+  pub fault : FetchFault
+
+-- Several, one after another, up to the first that gets none.
+abbrev pub InTurn : Giving → Heap → List Filling → Option Failure → Heap → Type 0
+InTurn gives old [] failure new = (failure ≡ None) × (new ≡ old)
+InTurn gives old (x ∷ xs) failure new =
+    (fault : Option FetchFault) × (next : Heap) × gives old x.slot x.bytes fault next
+    × MatchOption fault (InTurn gives next xs failure new) (λ f. (failure ≡ Some (record { place = x.place; fault = f })) × (new ≡ next))

@@ -1,3 +1,5 @@
+pub mod Resizes
+pub mod Replies
 pub mod File
 pub mod Modules
 pub mod Fill
@@ -8,7 +10,9 @@ pub mod Load
 pub mod Fetch
 pub mod Free
 pub mod Resource
-pub mod Machine
+pub mod Families
+pub mod AnyStore
 pub mod Law
+pub mod Owner
 pub mod Codes
 pub mod Fewest

@@ -1,20 +1,20 @@
 -- Loads: LoadModule and LoadLibrary.
-use Rattle.std.specs.Prelude.{◌≡◌, ℕ, ◌+◌, ◌⊎◌, Bool, not, ◌&&◌, if◌then◌else◌, nat_lt, List, [], Option, Some, None, Result, MatchResult, slice_index_or}
+use Rattle.std.specs.Prelude.{◌≡◌, ℕ, ◌+◌, ◌<◌, ◌⊎◌, Bool, not, ◌&&◌, ◌==◌, if◌then◌else◌, nat_lt, List, [], length, Option, Some, None, Result, MatchResult, slice_index_or}
 use Rattle.std.specs.FinMap as finmap
 use Rattle.w16_model.specs.Heap.{Heap}
 use Rattle.w16_model.specs.Discards.{is_member}
 use Rattle.w16_loading.specs.declared.TheConstants.{MOST_USES}
 use Rattle.w16_loading.specs.declared.FetchFault.{FetchFault}
-use Rattle.w16_loading.specs.declared.FetchFault.TheVariants.{Store}
+use Rattle.w16_loading.specs.declared.FetchFault.TheVariants.{Store, Damaged, NoRoom}
 use Rattle.w16_loading.specs.File.{Format}
-use Rattle.w16_loading.specs.Modules.{World, Module, Named, with_heap}
+use Rattle.w16_loading.specs.Modules.{LoadingWorld, Module, Named, with_heap}
 use Rattle.w16_loading.specs.Modules.Named.{Loaded}
-use Rattle.w16_loading.specs.Fill.{FillsAll, is_of_device}
+use Rattle.w16_loading.specs.Fill.{Giving, Failure, FillsOne, InTurn, is_of_device}
 use Rattle.w16_loading.specs.Release.{heap_without}
 use Rattle.w16_loading.specs.Closure.{Closure, Reading, reading, around, begun, Closes}
 use Rattle.w16_loading.specs.Closure.Referent.{There, New}
 use Rattle.w16_loading.specs.Closure.Reading.{Refused, Meant, Read}
-use Rattle.w16_loading.specs.Naming.{AreSlots, IsChoice, Choice, all_slots, named, fills}
+use Rattle.w16_loading.specs.Naming.{free_slots, segments_in, IsChoice, Choice, all_slots, named, fills}
 
 -- a handle or a number of 32 or below, or that the store's device failed
 pub data Answer : Type 0 where
@@ -22,53 +22,64 @@ pub data Answer : Type 0 where
   StoreFails : Answer
 
 -- an answer in the same world
-abbrev pub Refuses : World → ℕ → Answer → World → Type 0
+abbrev pub Refuses : LoadingWorld → ℕ → Answer → LoadingWorld → Type 0
 Refuses old number answer new = (answer ≡ Says number) × (new ≡ old)
 
 -- A load of a module that is there. An application isn't loaded twice by LoadModule; 65,000 explicit uses are full.
-abbrev pub after_use : World → ℕ → Module → World
+abbrev pub after_use : LoadingWorld → ℕ → Module → LoadingWorld
 after_use world handle m = record world { modules = finmap.insert world.modules handle (Loaded (record m { uses = m.uses + 1 })) }
 
-abbrev pub used_again : Bool → World → ℕ → Option Named → Answer × World
+abbrev pub used_again : Bool → LoadingWorld → ℕ → Option Named → Answer × LoadingWorld
 used_again is_load_module old handle (Some (Loaded m)) =
     if is_load_module && not m.tables.is_library then (Says 16, old)
     else (if nat_lt m.uses MOST_USES then (Says handle, after_use old handle m) else (Says 0, old))
 used_again is_load_module old handle other = (Says handle, old)
 
--- what becomes of a load that has names: answered, or all that it made is gone but the discards that were made for it
-abbrev pub outcome_of : Option FetchFault → ℕ → Answer
-outcome_of None handle = Says handle
-outcome_of (Some Store) handle = StoreFails
-outcome_of (Some other) handle = Says 0
+-- What becomes of a load that has names: answered, or all that it made is gone but the discards that were made for it. A file that reads
+-- otherwise than it did is as one that isn't accepted.
+abbrev pub refusal_of : ℕ → FetchFault → Answer
+refusal_of place Store = StoreFails
+refusal_of place Damaged = Says (if place == 0 then 11 else 20)
+refusal_of place NoRoom = Says 0
 
-abbrev pub undone : World → Choice → Heap → World
+abbrev pub outcome_of : Option Failure → ℕ → Answer
+outcome_of None handle = Says handle
+outcome_of (Some failure) handle = refusal_of failure.place failure.fault
+
+abbrev pub undone : LoadingWorld → Choice → Heap → LoadingWorld
 undone old choice heap = with_heap old (heap_without (λ q. is_member q (all_slots choice)) heap)
 
-abbrev pub left : Option FetchFault → World → World → World
+abbrev pub left : Option Failure → LoadingWorld → LoadingWorld → LoadingWorld
 left None loaded refused = loaded
-left (Some fault) loaded refused = refused
+left (Some failure) loaded refused = refused
 
-pub record Fulfils (old : World) (closure : Closure) (answer : Answer) (new : World) : Type 0 where
+pub record Fulfils (gives : Giving) (old : LoadingWorld) (closure : Closure) (answer : Answer) (new : LoadingWorld) : Type 0 where
   pub choice : Choice
   pub is_choice : IsChoice old closure.found choice
-  pub fault : Option FetchFault
+  pub failure : Option Failure
   pub heap : Heap
-  pub filled : FillsAll is_of_device (named old closure choice).handles.heap (fills old closure choice) fault heap
-  pub answered : answer ≡ outcome_of fault (slice_index_or choice.handles 0 0)
-  pub after : new ≡ left fault (with_heap (named old closure choice) heap) (undone old choice heap)
+  pub filled : InTurn gives (named old closure choice).handles.heap (fills old closure choice) failure heap
+  pub answered : answer ≡ outcome_of failure (slice_index_or choice.handles 0 0)
+  pub after : new ≡ left failure (with_heap (named old closure choice) heap) (undone old choice heap)
 
 -- a load of new modules: 0 where there are too few slots
-abbrev pub LoadsNew : World → Closure → Answer → World → Type 0
-LoadsNew old closure answer new = (((slots : List (List ℕ)) → AreSlots old closure.found slots → ⊥) × Refuses old 0 answer new) ⊎ Fulfils old closure answer new
+abbrev pub LoadsNew : Giving → LoadingWorld → Closure → Answer → LoadingWorld → Type 0
+LoadsNew gives old closure answer new =
+    ((length (free_slots old.handles) < segments_in closure.found) × Refuses old 0 answer new) ⊎ Fulfils gives old closure answer new
 
 -- A load, where the store may fail while files are read.
-abbrev pub LoadsFile : Format → Bool → World → List ℕ → Reading → Answer → World → Type 0
-LoadsFile format is_load_module old file (Refused number) answer new = Refuses old number answer new
-LoadsFile format is_load_module old file (Meant (There handle)) answer new = (answer, new) ≡ used_again is_load_module old handle (finmap.get old.modules handle)
-LoadsFile format is_load_module old file (Meant (New place)) answer new = ⊥
-LoadsFile format is_load_module old file (Read read) answer new =
-    (outcome : Result Closure ℕ) × Closes format (around old) (begun file read) outcome × MatchResult outcome (λ closure. LoadsNew old closure answer new) (λ number. Refuses old number answer new)
+abbrev pub LoadsFile : Giving → Format → Bool → LoadingWorld → List ℕ → Reading → Answer → LoadingWorld → Type 0
+LoadsFile gives format is_load_module old file (Refused number) answer new = Refuses old number answer new
+LoadsFile gives format is_load_module old file (Meant (There handle)) answer new = (answer, new) ≡ used_again is_load_module old handle (finmap.get old.modules handle)
+LoadsFile gives format is_load_module old file (Meant (New place)) answer new = ⊥
+LoadsFile gives format is_load_module old file (Read read) answer new =
+    (outcome : Result Closure ℕ) × Closes format (around old) (begun file read) outcome
+    × MatchResult outcome (λ closure. LoadsNew gives old closure answer new) (λ number. Refuses old number answer new)
 
-abbrev pub Loads : Format → Bool → World → List ℕ → Answer → World → Type 0
-Loads format is_load_module old file answer new =
-    ((answer ≡ StoreFails) × (new ≡ old)) ⊎ LoadsFile format is_load_module old file (reading format (around old) [] file) answer new
+abbrev pub LoadsBy : Giving → Format → Bool → LoadingWorld → List ℕ → Answer → LoadingWorld → Type 0
+LoadsBy gives format is_load_module old file answer new =
+    ((answer ≡ StoreFails) × (new ≡ old)) ⊎ LoadsFile gives format is_load_module old file (reading format (around old) [] file) answer new
+
+-- over files that stay
+abbrev pub Loads : Format → Bool → LoadingWorld → List ℕ → Answer → LoadingWorld → Type 0
+Loads format is_load_module old file answer new = LoadsBy (FillsOne is_of_device) format is_load_module old file answer new

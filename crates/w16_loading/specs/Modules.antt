@@ -6,6 +6,7 @@ use Rattle.std.specs.FinMap.{FinMap}
 use Rattle.w16_model.specs.Discards.{is_member}
 use Rattle.w16_model.specs.Heap.{Heap}
 use Rattle.w16_model.specs.Handles.{Handles, selector_of}
+use Rattle.w16_model.specs.Owned as owned
 use Rattle.w16_loading.specs.declared.TheConstants.{FIRST_MODULE, MOST_MODULES}
 use Rattle.w16_store.specs.Names.{is_named}
 use Rattle.w16_loading.specs.File.{Far, Tables, Entry, Target, entry_at, entry_named}
@@ -30,11 +31,6 @@ pub data Named : Type 0 where
 abbrev pub Modules : Type 0
 Modules = FinMap nat_cmp Named
 
--- an object that a module owns: how many bytes it has whenever it has any, and whether it refuses writes
-pub record Owned : Type 0 where
-  pub size : ℕ
-  pub is_code : Bool
-
 -- a resource that is loaded: whose it is, its place in the table, and how often it was loaded
 pub record Load : Type 0 where
   pub handle : ℕ
@@ -43,20 +39,23 @@ pub record Load : Type 0 where
 
 -- One field for what each layer of the machine keeps: objects by slot, modules by module handle, loads of resources by slot; and the store's
 -- files and its count of failures.
-pub record World : Type 0 where
+pub record LoadingWorld : Type 0 where
   pub handles : Handles
-  pub owned : FinMap nat_cmp Owned
   pub modules : Modules
   pub loads : FinMap nat_cmp Load
   pub files : List (List ℕ × List ℕ)
   pub failures : ℕ
 
+-- a world with other handles
+abbrev pub with_handles : LoadingWorld → Handles → LoadingWorld
+with_handles world handles = record world { handles = handles }
+
 -- the world with another heap
-abbrev pub with_heap : World → Heap → World
+abbrev pub with_heap : LoadingWorld → Heap → LoadingWorld
 with_heap world heap = record world { handles = record world.handles { heap = heap } }
 
-abbrev pub is_owned : World → ℕ → Bool
-is_owned world slot = is_some (finmap.get world.owned slot)
+abbrev pub is_owned : LoadingWorld → ℕ → Bool
+is_owned world slot = owned.is_owned world.handles slot
 
 -- Handles and names.
 
@@ -158,11 +157,11 @@ is_idle modules handle = is_some (module_at modules handle) && (usage modules ha
 -- Bytes.
 
 -- Of which segment an object is, and of which resource: where it comes from. Else it is the script's.
-pub record IsSegmentOf (world : World) (slot handle number : ℕ) (m : Module) : Type 0 where
+pub record IsSegmentOf (world : LoadingWorld) (slot handle number : ℕ) (m : Module) : Type 0 where
   pub loaded : module_at world.modules handle ≡ Some m
   pub has : (0 < number) × (slice_get m.slots (number - 1) ≡ Some slot)
 
-pub record IsResourceOf (world : World) (slot handle place : ℕ) (m : Module) : Type 0 where
+pub record IsResourceOf (world : LoadingWorld) (slot handle place : ℕ) (m : Module) : Type 0 where
   pub loaded : module_at world.modules handle ≡ Some m
   pub loads : ℕ
   pub has : finmap.get world.loads slot ≡ Some (record { handle = handle; place = place; loads = loads })

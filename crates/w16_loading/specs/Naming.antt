@@ -1,12 +1,15 @@
 -- The new modules of a load with the handles and slots that they get, before any has bytes.
-use Rattle.std.specs.Prelude.{◌≡◌, ◌≢◌, ℕ, ◌+◌, ◌==◌, ◌||◌, false, if◌then◌else◌, List, [], ◌∷◌, length, map, filter, fold, flat_map, zip, filter_map, All, AllPairs, Option, Some, None, slice_index_or}
-use Rattle.std.specs.List.{AllZip}
+use Rattle.std.specs.Prelude.{◌≡◌, ◌≢◌, ℕ, ◌+◌, ◌==◌, ◌||◌, false, not, is_some, sum_by, if◌then◌else◌, List, [], ◌∷◌, length, map, filter, fold, flat_map, zip, All, AllPairs, Some, None, slice_index_or}
+use Rattle.std.specs.List.{AllZip, range_with_len}
 use Rattle.std.specs.FinMap as finmap
-use Rattle.w16_model.specs.Heap.{is_fixed}
+use Rattle.w16_model.specs.Heap.{is_fixed, object_at}
 use Rattle.w16_model.specs.Changes.{with_object}
-use Rattle.w16_model.specs.Handles.{IsFreeSlot}
+use Rattle.w16_model.specs.declared.Attributes.{Attributes}
+use Rattle.w16_model.specs.Handles.{Handles, IsFreeSlot}
+use Rattle.w16_model.specs.declared.TheConstants.{FIRST_SLOT}
 use Rattle.w16_loading.specs.File.{Segment, SegmentData, Far, targets_of}
-use Rattle.w16_loading.specs.Modules.{World, Lookup, Module, Modules, IsFreeModule, value_of}
+use Rattle.w16_loading.specs.Fill.{Filling}
+use Rattle.w16_loading.specs.Modules.{LoadingWorld, Lookup, Module, Modules, IsFreeModule, value_of}
 use Rattle.w16_loading.specs.Modules.Named.{Loaded}
 use Rattle.w16_loading.specs.Closure.{Closure, Found, Referent}
 use Rattle.w16_loading.specs.Closure.Referent.{There, New}
@@ -20,13 +23,20 @@ abbrev pub all_slots : Choice → List ℕ
 all_slots choice = flat_map (λ s. s) choice.slots
 
 -- slots that are free and different, one for each segment
-pub record AreSlots (world : World) (found : List Found) (slots : List (List ℕ)) : Type 0 where
+pub record AreSlots (world : LoadingWorld) (found : List Found) (slots : List (List ℕ)) : Type 0 where
   pub many : AllZip (λ (f : Found) (s : List ℕ). length s ≡ length f.read.tables.segments) found slots
   pub free : All (IsFreeSlot world.handles) (flat_map (λ s. s) slots)
   pub apart : AllPairs ◌≢◌ (flat_map (λ s. s) slots)
 
+-- The slots that no object has. There are slots for all segments exactly where these are as many.
+abbrev pub free_slots : Handles → List ℕ
+free_slots handles = filter (λ slot. not (is_some (object_at handles.heap slot))) (range_with_len FIRST_SLOT handles.slots)
+
+abbrev pub segments_in : List Found → ℕ
+segments_in found = sum_by (λ f. length f.read.tables.segments) found
+
 -- and handles
-pub record IsChoice (world : World) (found : List Found) (choice : Choice) : Type 0 where
+pub record IsChoice (world : LoadingWorld) (found : List Found) (choice : Choice) : Type 0 where
   pub many : length choice.handles ≡ length found
   pub free : All (IsFreeModule world.modules) choice.handles
   pub apart : AllPairs ◌≢◌ choice.handles
@@ -73,7 +83,7 @@ with_modules module_of gs modules = fold (λ all g. finmap.insert all g.handle (
 abbrev pub bound_in : Lookup → Module → List SegmentData → Module
 bound_in looked_up m segments = record m { values = map (λ s. map (value_of looked_up m) (targets_of s)) segments }
 
-abbrev pub bound : World → Closure → Choice → Given → Module
+abbrev pub bound : LoadingWorld → Closure → Choice → Given → Module
 bound old closure choice g = bound_in (finmap.get (with_modules (unbound closure choice) (given closure choice) old.modules)) (unbound closure choice g) g.found.read.segments
 
 -- Objects.
@@ -82,27 +92,33 @@ bound old closure choice g = bound_in (finmap.get (with_modules (unbound closure
 abbrev pub segments_of : List Given → List (ℕ × Segment)
 segments_of gs = flat_map (λ g. zip g.slots g.found.read.tables.segments) gs
 
-abbrev pub with_segment : World → ℕ × Segment → World
+-- a module owns it
+abbrev pub attributes_of : Segment → Attributes
+attributes_of s = record { shared = false; owned = Some (record { size = s.size; code = s.is_code }) }
+
+abbrev pub with_segment : LoadingWorld → ℕ × Segment → LoadingWorld
 with_segment world x = record world {
   handles = record world.handles {
     heap = with_object world.handles.heap x.0 (record { kind = x.1.kind; locks = 0; bytes = None });
-    attributes = finmap.insert world.handles.attributes x.0 (record { shared = false });
+    attributes = finmap.insert world.handles.attributes x.0 (attributes_of x.1);
   };
-  owned = finmap.insert world.owned x.0 (record { size = x.1.size; is_code = x.1.is_code });
 }
 
 -- the world in which all have names, and every segment is an object without bytes
-abbrev pub named : World → Closure → Choice → World
+abbrev pub named : LoadingWorld → Closure → Choice → LoadingWorld
 named old closure choice =
     let world = fold with_segment old (segments_of (given closure choice)) in
     record world { modules = with_modules (bound old closure choice) (given closure choice) old.modules }
 
--- What gets bytes at once: the fixed and the preload segments, by module and by number.
-abbrev pub filled_at_once : (ℕ × Segment) × (SegmentData × List Far) → Option (ℕ × List ℕ)
-filled_at_once x = if is_fixed x.0.1.kind || x.0.1.is_preload then Some (x.0.0, x.1.0.image x.1.1) else None
+-- What gets bytes at once: the fixed and the preload segments, by module and by number, each with its slot, its data and its values.
+abbrev pub fills_from : ℕ → List ℕ → List Segment → List SegmentData → List (List Far) → List Filling
+fills_from place (slot ∷ slots) (segment ∷ segments) (s ∷ more) (values ∷ others) =
+    let rest = fills_from place slots segments more others in
+    if is_fixed segment.kind || segment.is_preload then record { place = place; slot = slot; bytes = s.image values } ∷ rest else rest
+fills_from place slots segments more others = []
 
-abbrev pub fills_of : (Given → Module) → Given → List (ℕ × List ℕ)
-fills_of module_of g = filter_map filled_at_once (zip (zip g.slots g.found.read.tables.segments) (zip g.found.read.segments (module_of g).values))
+abbrev pub fills_of : (Given → Module) → Given → List Filling
+fills_of module_of g = fills_from g.place g.slots g.found.read.tables.segments g.found.read.segments (module_of g).values
 
-abbrev pub fills : World → Closure → Choice → List (ℕ × List ℕ)
+abbrev pub fills : LoadingWorld → Closure → Choice → List Filling
 fills old closure choice = flat_map (fills_of (bound old closure choice)) (given closure choice)

@@ -2,7 +2,7 @@
 use Rattle.std.specs.Prelude.{ℕ, not, Bool, filter}
 use Rattle.std.specs.FinMap as finmap
 use Rattle.w16_model.specs.Heap.{Heap}
-use Rattle.w16_loading.specs.Modules.{World}
+use Rattle.w16_loading.specs.Modules.{LoadingWorld}
 
 abbrev pub heap_without : (ℕ → Bool) → Heap → Heap
 heap_without gone heap = record heap {
@@ -11,8 +11,7 @@ heap_without gone heap = record heap {
   order = filter (λ q. not (gone q)) heap.order;
 }
 
-abbrev pub without_objects : (ℕ → Bool) → World → World
+abbrev pub without_objects : (ℕ → Bool) → LoadingWorld → LoadingWorld
 without_objects gone world = record world {
   handles = record world.handles { heap = heap_without gone world.handles.heap; attributes = finmap.retain_keys world.handles.attributes (λ q. not (gone q)) };
-  owned = finmap.retain_keys world.owned (λ q. not (gone q));
 }

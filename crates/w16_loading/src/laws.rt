@@ -1,6 +1,7 @@
 //! The laws of the definitions. Each function does nothing: its contract is the law.
-ghost use Rattle.w16_loading.specs.Fewest.{FetchFewestLaw, LoadFewestLaw};
-ghost use Rattle.w16_loading.specs.Law.{BoundOnceLaw, CallsKeepWorldsLaw, ClosureEndsLaw, CodeLaw, CodeReadsLaw, EarlyRefusalLaw, EmptyLaw, EmptyOfFilesLaw, FetchAgainLaw, FetchFaultsLaw, FetchLaw, FetchRefusedLaw, FillLaw, FillsLaw, KeepsWorldsLaw, OneClosureLaw, OneEndLaw, RefusedLoadLaw, RunsKeepWorldsLaw, UndoneLaw, UsesApartLaw};
+ghost use Rattle.w16_loading.specs.Fewest.{FetchFewestLaw, LoadFewestLaw, RequestsFewestLaw};
+ghost use Rattle.w16_loading.specs.Law.{AnyKeepsWorldsLaw, AnyRefusedLoadLaw, BoundAlikeLaw, BoundOnceLaw, CallsKeepWorldsLaw, ClosureEndsLaw, CodeLaw, CodeReadsLaw, EarlyRefusalLaw, EmptyLaw, EmptyOfFilesLaw, FetchAgainLaw, FetchFaultsLaw, FetchLaw, FetchRefusedLaw, FillLaw, FillsLaw, IsAnyStepLaw, KeepsWorldsLaw, OneClosureLaw, OneEndLaw, OwnersLaw, ReadsNoFilesLaw, RefusedLoadLaw, SlotsLaw, TakenBackLaw, UndoneLaw, UsesApartLaw, ValuesLaw};
+ghost use Rattle.w16_loading.specs.Owner.{OwnerLaw};
 
 /// A fetch takes the bytes of what it discards, and keeps all else of the other objects.
 pub fn fetches_keep_others()
@@ -107,12 +108,62 @@ pub fn steps_keep_worlds()
     ensures { KeepsWorldsLaw }
 {}
 
-/// Whatever a run has done, the machine is in a world, and all in it is of its file: code reads as its file's relocated bytes in every world of a run.
-pub fn runs_keep_worlds()
-    ensures { RunsKeepWorldsLaw }
-{}
-
 /// What a far read of code answers is a part of its file's bytes, relocated, also where it is fetched for the read.
 pub fn reads_of_code_are_its_files()
     ensures { CodeReadsLaw }
+{}
+
+/// Each step keeps what holds of every world over any store, one that lies too.
+pub fn any_steps_keep_worlds()
+    ensures { AnyKeepsWorldsLaw }
+{}
+
+/// A step over files that stay is a step over any store.
+pub fn steps_are_steps_over_any_store()
+    ensures { IsAnyStepLaw }
+{}
+
+/// A step that reads no files is a step over any store, whatever files say.
+pub fn steps_that_read_no_files()
+    ensures { ReadsNoFilesLaw }
+{}
+
+/// A refused load leaves all but its discards as it was, over any store too.
+pub fn refused_loads_leave_discards_over_any_store()
+    ensures { AnyRefusedLoadLaw }
+{}
+
+/// Each request of a step discards as few objects as it can: that of a fetch, and those of a load.
+pub fn requests_of_steps_discard_fewest()
+    ensures { RequestsFewestLaw }
+{}
+
+/// Whatever the store answers, an object that is there keeps its owner or has none any more: none comes to be a module's, or code.
+pub fn objects_keep_their_owners()
+    ensures { OwnersLaw }
+{}
+
+/// Each slot's object is the script's, or of one segment or one resource, and it is told which.
+pub fn owners_are_told()
+    ensures { OwnerLaw }
+{}
+
+/// Objects that were added are taken away again, however many were added, and the world is as it was.
+pub fn objects_are_taken_back()
+    ensures { TakenBackLaw }
+{}
+
+/// There are slots for the segments of a load exactly where as many are free.
+pub fn slots_are_chosen_by_count()
+    ensures { SlotsLaw }
+{}
+
+/// What a relocation record is bound to depends on the slots, tables and imports of modules, and on no values.
+pub fn values_depend_on_no_values()
+    ensures { ValuesLaw }
+{}
+
+/// So a load may bind its modules one after another, whichever have values already.
+pub fn loads_bind_by_names_alone()
+    ensures { BoundAlikeLaw }
 {}

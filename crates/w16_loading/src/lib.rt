@@ -22,3 +22,6 @@ pub const MOST_MODULES: u16 = 200;
 
 /// The most explicit uses of a module, and loads of a resource.
 pub const MOST_USES: u32 = 65_000;
+
+/// The largest segment of a module, and the longest resource that may be loaded.
+pub const LARGEST_OWNED: u32 = 65_536;

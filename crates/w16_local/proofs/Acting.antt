@@ -9,7 +9,8 @@ use Rattle.w16_model.specs.Handles.{Handles}
 use Rattle.w16_model.specs.Heap.{Heap, Object, bytes_at, object_at}
 use Rattle.w16_model.specs.Table.{Table, heap_in}
 use Rattle.w16_global.specs.Lent.{Lends}
-use Rattle.w16_machine.specs.Local.{LocalHeap, LocalWorld, Acts, IsLocalTable}
+use Rattle.w16_machine.specs.World.{World}
+use Rattle.w16_machine.specs.Local.{LocalHeap, Acts, IsLocalTable}
 use Rattle.w16_machine.proofs.LocalFacts.{object_of, put_all}
 use Rattle.w16_local.specs.declared.acts.Act.{Act}
 use Rattle.w16_local.specs.Acts.{Acted, ActedIn, Done, Idle, MayAct, MayActIn, MayActOver}
@@ -50,7 +51,7 @@ pub may_in : {handles : Handles} {tables : FinMap nat_cmp Table} {ds slot : ℕ}
 may_in is act may = record { table = _; bytes = is.bytes; was = is.kept; had = is.had; may = (is.over.inside, may) }
 
 -- and what that leaves: the same world, or one in which the heap acted
-module _ {handles : Handles} {tables : FinMap nat_cmp Table} {ds slot : ℕ} {t : Table} (is : IsIn handles tables ds slot t) {act : Act} {answer : ℕ} {next : Handles} {new : FinMap nat_cmp Table} (a : ActedIn handles tables slot act answer next new) (rest : LocalWorld) where
+module _ {handles : Handles} {tables : FinMap nat_cmp Table} {ds slot : ℕ} {t : Table} (is : IsIn handles tables ds slot t) {act : Act} {answer : ℕ} {next : Handles} {new : FinMap nat_cmp Table} (a : ActedIn handles tables slot act answer next new) (rest : World) where
   same_table : a.before ≡ t
   same_table = let both : ◌≡◌ {A = Option Table} (Some a.before) (Some t) = sym a.was ∙ is.kept in cc
 
@@ -60,10 +61,10 @@ module _ {handles : Handles} {tables : FinMap nat_cmp Table} {ds slot : ℕ} {t 
   acted : Acted act t is.bytes answer a.table a.after
   acted = subst (λ (p : Table × List ℕ). Acted act p.0 p.1 answer a.table a.after) (λ i. (same_table i, same_bytes i)) a.acted
 
-  abbrev old : LocalWorld
+  abbrev old : World
   old = with_parts rest handles tables ds
 
-  abbrev left : LocalWorld
+  abbrev left : World
   left = with_parts rest next new ds
 
   abbrev at : LocalHeap

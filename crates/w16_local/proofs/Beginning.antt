@@ -1,5 +1,5 @@
 -- The beginning of a local heap.
-use Rattle.std.proofs.Common.{◌≡◌, ℕ, zero, suc, Bool, cond, if◌then◌else◌, ◌==◌, ◌&&◌, nat_le, nat_lt, min, MatchOption, OnErr, Result, Ok, Err, List, [], ◌∷◌, ◌++◌, length, get_or, Option, Some, None, IsSome, option_map, is_some, refl, sym, ap, ◌∙◌, subst}
+use Rattle.std.proofs.Common.{◌≡◌, ℕ, zero, suc, Bool, true, false, cond, if◌then◌else◌, ◌==◌, ◌&&◌, nat_le, nat_lt, min, MatchOption, OnErr, Result, Ok, Err, List, [], ◌∷◌, ◌++◌, length, get_or, Option, Some, None, IsSome, option_map, is_some, refl, sym, ap, ◌∙◌, subst}
 use Rattle.std.specs.Cmp.{nat_cmp_total}
 use Rattle.std.specs.FinMap as finmap
 use Rattle.std.specs.Ordering.{nat_cmp}
@@ -7,8 +7,10 @@ use Rattle.std.specs.FinMap.{FinMap, same_map, nat_cmp-IsAntisymmetric}
 use Rattle.w16_model.specs.declared.Span.{Span}
 use Rattle.w16_model.specs.Handles.{Handles, slot_of_selector}
 use Rattle.w16_model.specs.Heap.{bytes_at}
+use Rattle.w16_model.specs.Owned.{is_code}
 use Rattle.w16_model.specs.Table.{Table}
-use Rattle.w16_machine.specs.Local.{Beginning, LocalWorld, Stays, beginning, beginning_in, new_table, range_in, rounded_down, rounded_up, with_table}
+use Rattle.w16_machine.specs.World.{World}
+use Rattle.w16_machine.specs.Local.{Beginning, Stays, beginning, beginning_in, new_table, range_in, rounded_down, rounded_up, with_table}
 use Rattle.w16_machine.specs.LocalCalls.LocalCommand.{LocalInit}
 use Rattle.w16_machine.specs.LocalLaw.{MayBegin}
 use Rattle.w16_machine.proofs.LocalBegins.{begin_law}
@@ -23,11 +25,11 @@ range_told size start end from to up down b is = λ i. cond {A = Option Span} ((
 
 -- Where a heap may begin.
 module _ (h : Handles) (ts : FinMap nat_cmp Table) (ds selector start end : ℕ) (named : ℕ) (is : named ≡ (if selector == 0 then ds else selector)) where
-  abbrev w : LocalWorld
+  abbrev w : World
   w = alone h ts ds
 
   abbrev of_slot : Option ℕ → Option Beginning
-  of_slot s = elim s [ None ↦ None | Some slot ↦ beginning_in w start end slot ]
+  of_slot s = elim s [ None ↦ None | Some slot ↦ cond {A = Option Beginning} (is_code h slot) None (beginning_in w start end slot) ]
 
   at_selector : (s : Option ℕ) → slot_of_selector h named ≡ s → beginning w selector start end ≡ of_slot s
   at_selector s e = ap (λ n. of_slot (slot_of_selector h n)) (sym is) ∙ ap of_slot e
@@ -35,32 +37,40 @@ module _ (h : Handles) (ts : FinMap nat_cmp Table) (ds selector start end : ℕ)
   abbrev begun : ℕ → Option Table → Option (List ℕ) → Option Beginning
   begun slot t p = elim p [ None ↦ None | Some bytes ↦ cond {A = Option Beginning} (is_some t) None (option_map (λ range. record { slot = slot; range = range }) (range_in (length bytes) start end)) ]
 
+  either : (b : Bool) → cond {A = Option Beginning} b None None ≡ None
+  either true = refl
+  either false = refl
+
   -- nowhere where the selector's object has no bytes, or there is none
   pub nowhere : ((slot : ℕ) → slot_of_selector h named ≡ Some slot → bytes_at h.heap slot ≡ None) → beginning w selector start end ≡ None
   nowhere none = turn (slot_of_selector h named) refl
     where
       turn : (s : Option ℕ) → slot_of_selector h named ≡ s → beginning w selector start end ≡ None
       turn None e = at_selector None e
-      turn (Some slot) e = at_selector (Some slot) e ∙ ap (begun slot (finmap.get ts slot)) (none slot e)
+      turn (Some slot) e = at_selector (Some slot) e ∙ ap (λ p. cond {A = Option Beginning} (is_code h slot) None (begun slot (finmap.get ts slot) p)) (none slot e) ∙ either (is_code h slot)
 
   module _ (slot : ℕ) (selected : slot_of_selector h named ≡ Some slot) (size : ℕ) (long : option_map (length {A = ℕ}) (bytes_at h.heap slot) ≡ Some size) where
-    in_slot : (t : Option Table) → finmap.get ts slot ≡ t → beginning w selector start end ≡ cond {A = Option Beginning} (is_some t) None (option_map (λ range. record { slot = slot; range = range }) (range_in size start end))
-    in_slot t e = at_selector (Some slot) selected ∙ ap (λ t. begun slot t (bytes_at h.heap slot)) e ∙ turn (bytes_at h.heap slot) long
-      where
-        turn : (p : Option (List ℕ)) → option_map (length {A = ℕ}) p ≡ Some size → begun slot t p ≡ cond {A = Option Beginning} (is_some t) None (option_map (λ range. record { slot = slot; range = range }) (range_in size start end))
-        turn None e = cc
-        turn (Some bytes) e = let same : length bytes ≡ size = cc in ap (λ n. cond {A = Option Beginning} (is_some t) None (option_map (λ range. record { slot = slot; range = range }) (range_in n start end))) same
+    pub not_in_code : is_code h slot ≡ true → beginning w selector start end ≡ None
+    not_in_code code = at_selector (Some slot) selected ∙ ap (λ b. cond {A = Option Beginning} b None (beginning_in w start end slot)) code
 
-    pub not_twice : (t : Table) → finmap.get ts slot ≡ Some t → beginning w selector start end ≡ None
-    not_twice t e = in_slot (Some t) e
+    module _ (plain : is_code h slot ≡ false) where
+      in_slot : (t : Option Table) → finmap.get ts slot ≡ t → beginning w selector start end ≡ cond {A = Option Beginning} (is_some t) None (option_map (λ range. record { slot = slot; range = range }) (range_in size start end))
+      in_slot t e = at_selector (Some slot) selected ∙ ap (λ b. cond {A = Option Beginning} b None (beginning_in w start end slot)) plain ∙ ap (λ t. begun slot t (bytes_at h.heap slot)) e ∙ turn (bytes_at h.heap slot) long
+        where
+          turn : (p : Option (List ℕ)) → option_map (length {A = ℕ}) p ≡ Some size → begun slot t p ≡ cond {A = Option Beginning} (is_some t) None (option_map (λ range. record { slot = slot; range = range }) (range_in size start end))
+          turn None e = cc
+          turn (Some bytes) e = let same : length bytes ≡ size = cc in ap (λ n. cond {A = Option Beginning} (is_some t) None (option_map (λ range. record { slot = slot; range = range }) (range_in n start end))) same
 
-    pub begins_as : finmap.get ts slot ≡ None → (r : Option Span) → r ≡ range_in size start end → beginning w selector start end ≡ option_map (λ range. record { slot = slot; range = range }) r
-    begins_as e r range = in_slot None e ∙ ap (option_map (λ range. record { slot = slot; range = range })) (sym range)
+      pub not_twice : (t : Table) → finmap.get ts slot ≡ Some t → beginning w selector start end ≡ None
+      not_twice t e = in_slot (Some t) e
+
+      pub begins_as : finmap.get ts slot ≡ None → (r : Option Span) → r ≡ range_in size start end → beginning w selector start end ≡ option_map (λ range. record { slot = slot; range = range }) r
+      begins_as e r range = in_slot None e ∙ ap (option_map (λ range. record { slot = slot; range = range })) (sym range)
 
 -- The call.
 module _ (h : Handles) (ts : FinMap nat_cmp Table) (ds selector start end : ℕ) where
   init_by : (b : Option Beginning) → beginning (alone h ts ds) selector start end ≡ b → (answer : ℕ) (new : FinMap nat_cmp Table)
-      → ((rest : LocalWorld) → MatchOption b (Stays (with_parts rest h ts ds) 0 answer (with_parts rest h new ds)) (λ b. (answer ≡ 1) × (with_parts rest h new ds ≡ with_table (with_parts rest h ts ds) b.slot (new_table b.range))))
+      → ((rest : World) → MatchOption b (Stays (with_parts rest h ts ds) 0 answer (with_parts rest h new ds)) (λ b. (answer ≡ 1) × (with_parts rest h new ds ≡ with_table (with_parts rest h ts ds) b.slot (new_table b.range))))
       → Calls h ts ds (LocalInit selector start end) answer h new
   init_by b e answer new so rest = subst (λ b. MatchOption b (Stays (with_parts rest h ts ds) 0 answer (with_parts rest h new ds)) (λ b. (answer ≡ 1) × (with_parts rest h new ds ≡ with_table (with_parts rest h ts ds) b.slot (new_table b.range)))) (sym e) (so rest)
 

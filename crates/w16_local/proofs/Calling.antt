@@ -20,7 +20,8 @@ use Rattle.w16_model.proofs.Tables.{object_is}
 use Rattle.w16_model.proofs.Prefixes.{none_about}
 use Rattle.w16_model.proofs.Reallocations.{not_asked}
 use Rattle.w16_machine.specs.declared.local.TheConstants.{LMEM_DISCARDABLE, LMEM_MODIFY, LMEM_MOVEABLE}
-use Rattle.w16_machine.specs.Local.{LocalHeap, LocalObject, LocalWorld, Acts, Becomes, IsLowestFree, Stays, chosen, heap_of, name_at, name_of, object_named, rounded_up}
+use Rattle.w16_machine.specs.World.{World}
+use Rattle.w16_machine.specs.Local.{LocalHeap, LocalObject, Acts, Becomes, IsLowestFree, Stays, chosen, heap_of, name_at, name_of, object_named, rounded_up}
 use Rattle.w16_machine.specs.LocalCalls.{AllocatesIn, AllocatesObject, CompactsIn, DiscardsObject, EntersObject, GivesUp, ModifiesObject, ResizesObject, SizesObject, local_kind, local_way, moveable_or_discardable}
 use Rattle.w16_machine.specs.LocalCalls.LocalCommand.{LocalAlloc, LocalCompact, LocalFree, LocalReAlloc}
 use Rattle.w16_machine.proofs.LocalNames.{names_law}
@@ -44,14 +45,14 @@ named_there {handles} {tables} {ds} {name} {slot} {t} {id} n = turn (object_at (
     turn (Some o) e = refl
 
 -- a heap acts so, told in other words
-acts_as : {old new : LocalWorld} {at : LocalHeap} {P : Heap → Type 0} (Q : Heap → Type 0) (a : Acts old at P new) → Q (heap_in a.table a.bytes) → Acts old at Q new
+acts_as : {old new : World} {at : LocalHeap} {P : Heap → Type 0} (Q : Heap → Type 0) (a : Acts old at P new) → Q (heap_in a.table a.bytes) → Acts old at Q new
 acts_as Q a so = record { table = a.table; bytes = a.bytes; is_local = a.is_local; range = a.range; long = a.long; outside = a.outside; are_bytes = a.are_bytes; acted = so; rest = a.rest }
 
 -- bytes are given up
-gives_up : {old new : LocalWorld} {at : LocalHeap} (r : Result Heap Refusal) (taken refused : ℕ) → Acts old at (λ next. r ≡ Ok next) new → GivesUp old at r taken refused taken new
+gives_up : {old new : World} {at : LocalHeap} (r : Result Heap Refusal) (taken refused : ℕ) → Acts old at (λ next. r ≡ Ok next) new → GivesUp old at r taken refused taken new
 gives_up {old} {new} {at} r taken refused a = subst (λ r. GivesUp old at r taken refused taken new) (sym a.acted) (refl, acts_as (λ next. next ≡ heap_in a.table a.bytes) a refl)
 
-gives_none : (old : LocalWorld) (at : LocalHeap) (r : Result Heap Refusal) (taken refused : ℕ) → is_ok r ≡ false → GivesUp old at r taken refused refused old
+gives_none : (old : World) (at : LocalHeap) (r : Result Heap Refusal) (taken refused : ℕ) → is_ok r ≡ false → GivesUp old at r taken refused refused old
 gives_none old at (Ok heap) taken refused e = absurd (false≢true (sym e))
 gives_none old at (Err refusal) taken refused e = (refl, refl)
 
@@ -76,10 +77,10 @@ module _ {handles : Handles} {tables : FinMap nat_cmp Table} {ds name slot : ℕ
     abbrev named_object : LocalObject
     named_object = record { heap = record { slot = slot; table = t; bytes = n.heap.bytes }; id = id }
 
-    abbrev Sizes : LocalWorld → ℕ → LocalWorld → LocalObject → Type 0
+    abbrev Sizes : World → ℕ → World → LocalObject → Type 0
     Sizes old answer new o = MatchBool (size == 0) (DiscardsObject old name flags answer new o) (SizesObject old size flags answer new o)
 
-    abbrev Case : LocalWorld → ℕ → LocalWorld → LocalObject → Type 0
+    abbrev Case : World → ℕ → World → LocalObject → Type 0
     Case old answer new o = MatchBool (has_flag flags LMEM_MODIFY) (ModifiesObject old name flags answer new o) (Sizes old answer new o)
 
     pub modify_calls : has_flag flags LMEM_MODIFY ≡ true → {X : Type 0} (r : Result X Refusal) (new : FinMap nat_cmp Table) → Stepped tables slot (λ a b. after_modify a id (moveable_or_discardable flags) ≡ outcome r b) new → OnErr r (new ≡ tables)
@@ -93,7 +94,7 @@ module _ {handles : Handles} {tables : FinMap nat_cmp Table} {ds name slot : ℕ
         told (Err e) = refl
 
     module _ (f : has_flag flags LMEM_MODIFY ≡ false) (answer : ℕ) (next : Handles) (new : FinMap nat_cmp Table) where
-      not_modified : ((rest : LocalWorld) → Sizes (with_parts rest handles tables ds) answer (with_parts rest next new ds) named_object) → Calls handles tables ds (LocalReAlloc name size flags) answer next new
+      not_modified : ((rest : World) → Sizes (with_parts rest handles tables ds) answer (with_parts rest next new ds) named_object) → Calls handles tables ds (LocalReAlloc name size flags) answer next new
       not_modified so rest = on_named n rest 0 answer (with_parts rest next new ds) (Case (with_parts rest handles tables ds) answer (with_parts rest next new ds))
           (subst (λ b. MatchBool b (ModifiesObject (with_parts rest handles tables ds) name flags answer (with_parts rest next new ds) named_object) (Sizes (with_parts rest handles tables ds) answer (with_parts rest next new ds) named_object)) (sym f) (so rest))
 
@@ -107,12 +108,12 @@ module _ {handles : Handles} {tables : FinMap nat_cmp Table} {ds name slot : ℕ
           ]))
 
       module _ (none : size ≡ 0) where
-        of_none : ((rest : LocalWorld) → DiscardsObject (with_parts rest handles tables ds) name flags answer (with_parts rest next new ds) named_object) → Calls handles tables ds (LocalReAlloc name size flags) answer next new
+        of_none : ((rest : World) → DiscardsObject (with_parts rest handles tables ds) name flags answer (with_parts rest next new ds) named_object) → Calls handles tables ds (LocalReAlloc name size flags) answer next new
         of_none so = not_modified (λ rest.
             subst (λ b. MatchBool b (DiscardsObject (with_parts rest handles tables ds) name flags answer (with_parts rest next new ds) named_object) (SizesObject (with_parts rest handles tables ds) size flags answer (with_parts rest next new ds) named_object))
             (sym (eq-eqb size 0 none)) (so rest))
 
-        asked_to : (b : Bool) → has_flag flags LMEM_MOVEABLE ≡ b → ((rest : LocalWorld) → MatchBool b (GivesUp (with_parts rest handles tables ds) named_object.heap (after_discard before id) name 0 answer (with_parts rest next new ds)) (Stays (with_parts rest handles tables ds) 0 answer (with_parts rest next new ds)))
+        asked_to : (b : Bool) → has_flag flags LMEM_MOVEABLE ≡ b → ((rest : World) → MatchBool b (GivesUp (with_parts rest handles tables ds) named_object.heap (after_discard before id) name 0 answer (with_parts rest next new ds)) (Stays (with_parts rest handles tables ds) 0 answer (with_parts rest next new ds)))
             → Calls handles tables ds (LocalReAlloc name size flags) answer next new
         asked_to b m so = of_none (λ rest. subst (λ b. MatchBool b (GivesUp (with_parts rest handles tables ds) named_object.heap (after_discard before id) name 0 answer (with_parts rest next new ds)) (Stays (with_parts rest handles tables ds) 0 answer (with_parts rest next new ds))) (sym m) (so rest))
 
@@ -162,7 +163,7 @@ module _ {handles : Handles} {tables : FinMap nat_cmp Table} {ds slot : ℕ} {t 
   no_entry q none = none_if (entry_at t q) (object_at heap q) (sym (object_in_table q)) none
 
   module _ (flags size : ℕ) where
-    alloc_in : (answer : ℕ) (next : Handles) (new : FinMap nat_cmp Table) → ((rest : LocalWorld) → AllocatesIn (with_parts rest handles tables ds) flags size answer (with_parts rest next new ds) here) → Calls handles tables ds (LocalAlloc flags size) answer next new
+    alloc_in : (answer : ℕ) (next : Handles) (new : FinMap nat_cmp Table) → ((rest : World) → AllocatesIn (with_parts rest handles tables ds) flags size answer (with_parts rest next new ds) here) → Calls handles tables ds (LocalAlloc flags size) answer next new
     alloc_in answer next new so rest = subst (λ (c : Option LocalHeap). MatchOption c (Stays (with_parts rest handles tables ds) 0 answer (with_parts rest next new ds)) (AllocatesIn (with_parts rest handles tables ds) flags size answer (with_parts rest next new ds))) (sym is.is_chosen) (so rest)
 
     pub alloc_full : IsFull t → Calls handles tables ds (LocalAlloc flags size) 0 handles tables
@@ -231,7 +232,7 @@ module _ {handles : Handles} {tables : FinMap nat_cmp Table} {ds slot : ℕ} {t 
               ∙ ap (λ (p : Option Object). elim p as (λ _. Option ℕ) [ None ↦ None | Some o ↦ name_of (with_object heap id object) id o ]) (inserted_here heap.objects id object id refl)
               ∙ ap (λ b. if b then finmap.get (with_object heap id object).places id else Some (4 * id + 2)) loose
 
-          becomes : (rest : LocalWorld) → Becomes (with_parts rest handles tables ds) here made (with_parts rest handles new ds)
+          becomes : (rest : World) → Becomes (with_parts rest handles tables ds) here made (with_parts rest handles new ds)
           becomes rest = record {
             table = s.after;
             is_local = s.is_local;

@@ -13,7 +13,8 @@ use Rattle.w16_model.specs.OneObject.{after_lock, after_unlock}
 use Rattle.w16_model.specs.Table.{Table, heap_in}
 use Rattle.w16_model.proofs.KeptHeaps.{inserted_here}
 use Rattle.std.proofs.lemmas.Bool.{cases_lt}
-use Rattle.w16_machine.specs.Local.{LocalObject, LocalWorld, IsLocalTable, Becomes, Stays, heap_of, object_named}
+use Rattle.w16_machine.specs.World.{World}
+use Rattle.w16_machine.specs.Local.{LocalObject, IsLocalTable, Becomes, Stays, heap_of, object_named}
 use Rattle.w16_machine.specs.LocalCalls.{Leaves, OnNamed, lock_refused, locks_left, near_pointer}
 use Rattle.w16_machine.specs.LocalCalls.LocalCommand.{LocalLock, LocalUnlock}
 use Rattle.w16_local.specs.Kept.{tables_of, AreListed}
@@ -57,22 +58,22 @@ known_in None P h = absurd h
 known_in (Some t) P h = refl
 
 -- The calls.
-module _ {handles : Handles} {tables : FinMap nat_cmp Table} {ds name slot : ℕ} {t : Table} {id : ℕ} (n : IsNamed handles tables ds name slot t id) (rest : LocalWorld) where
-  abbrev old : LocalWorld
+module _ {handles : Handles} {tables : FinMap nat_cmp Table} {ds name slot : ℕ} {t : Table} {id : ℕ} (n : IsNamed handles tables ds name slot t id) (rest : World) where
+  abbrev old : World
   old = with_parts rest handles tables ds
 
   abbrev object : LocalObject
   object = record { heap = record { slot = slot; table = t; bytes = n.heap.bytes }; id = id }
 
   -- what is so of the object that the name has
-  pub on_named : (otherwise answer : ℕ) (new : LocalWorld) (so : LocalObject → Type 0) → so object → OnNamed old name otherwise answer new so
+  pub on_named : (otherwise answer : ℕ) (new : World) (so : LocalObject → Type 0) → so object → OnNamed old name otherwise answer new so
   on_named otherwise answer new so holds = subst (λ o. MatchOption o (Stays old otherwise answer new) so) (sym (is_named handles tables ds n)) holds
 
   module _ (after : Heap → Result Heap Refusal) {X : Type 0} (r : Result X Refusal) (new : FinMap nat_cmp Table) (s : Stepped tables slot (λ a b. after a ≡ outcome r b) new) (same : OnErr r (new ≡ tables)) where
     was_it : s.before ≡ t
     was_it = let both : ◌≡◌ {A = Option Table} (Some s.before) (Some t) = sym s.was ∙ n.heap.kept in cc
 
-    abbrev next : LocalWorld
+    abbrev next : World
     next = with_parts rest handles new ds
 
     taken_so : after (heap_in t n.heap.bytes) ≡ outcome r (heap_in s.after n.heap.bytes)
@@ -103,7 +104,7 @@ lock_calls {handles} {tables} {ds} {name} {slot} {t} {id} n pointer is r new s s
     (leaves n rest (λ h. after_lock h id) r new s same (λ _. near_pointer (heap_in t n.heap.bytes) id) (lock_refused (near_pointer (heap_in t n.heap.bytes) id)) answer (told ∙ ap (λ p. answer_of r p (lock_refused p)) (sym is)))
 
 -- what a bad name leaves
-pub none_calls : (handles : Handles) (tables : FinMap nat_cmp Table) (ds name otherwise : ℕ) (so : LocalWorld → LocalObject → Type 0) → object_named (alone handles tables ds) name ≡ None → (rest : LocalWorld)
+pub none_calls : (handles : Handles) (tables : FinMap nat_cmp Table) (ds name otherwise : ℕ) (so : World → LocalObject → Type 0) → object_named (alone handles tables ds) name ≡ None → (rest : World)
     → OnNamed (with_parts rest handles tables ds) name otherwise otherwise (with_parts rest handles tables ds) (so (with_parts rest handles tables ds))
 none_calls handles tables ds name otherwise so none rest = subst (λ o. MatchOption o (Stays (with_parts rest handles tables ds) otherwise otherwise (with_parts rest handles tables ds)) (so (with_parts rest handles tables ds))) (sym none) (refl, refl)
 

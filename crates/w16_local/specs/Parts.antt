@@ -1,30 +1,31 @@
 -- A step of the local calls in whatever world has these parts, and what is known of the heap that DS names there.
-use Rattle.std.specs.Prelude.{◌≡◌, ◌<◌, ◌≤◌, ℕ, List, length, All, Some, IsSome}
+use Rattle.std.specs.Prelude.{◌≡◌, ◌<◌, ◌≤◌, ℕ, List, [], length, All, Some, IsSome}
 use Rattle.std.specs.Ordering.{nat_cmp}
 use Rattle.std.specs.FinMap as finmap
 use Rattle.std.specs.FinMap.{FinMap}
 use Rattle.w16_model.specs.Handles.{Handles}
 use Rattle.w16_model.specs.Heap.{bytes_at}
 use Rattle.w16_model.specs.Table.{Table, heap_in}
-use Rattle.w16_machine.specs.World.{with_handles}
-use Rattle.w16_machine.specs.Local.{LocalWorld, IsLocalTable, beginning, chosen, empty_local_world, id_named}
+use Rattle.w16_loading.specs.Modules.{with_handles}
+use Rattle.w16_machine.specs.World.{World, empty_world}
+use Rattle.w16_machine.specs.Local.{IsLocalTable, beginning, chosen, id_named}
 use Rattle.w16_machine.specs.LocalCalls.{LocalCommand, Answers}
 
 -- a world with these handles, tables of local heaps, and DS
-abbrev pub with_parts : LocalWorld → Handles → FinMap nat_cmp Table → ℕ → LocalWorld
-with_parts rest handles tables ds = record rest { world = with_handles rest.world handles; tables = tables; ds = ds }
+abbrev pub with_parts : World → Handles → FinMap nat_cmp Table → ℕ → World
+with_parts rest handles tables ds = record rest { loading = with_handles rest.loading handles; heaps = tables; ds = ds }
 
 -- one of them alone: which heap DS names, and which object has a name there, is the same in each
-abbrev pub alone : Handles → FinMap nat_cmp Table → ℕ → LocalWorld
-alone handles tables ds = with_parts (empty_local_world 0 0) handles tables ds
+abbrev pub alone : Handles → FinMap nat_cmp Table → ℕ → World
+alone handles tables ds = with_parts (empty_world 0 0 [] 0) handles tables ds
 
 -- a call is answered so, and leaves these handles and tables
 abbrev pub Calls : Handles → FinMap nat_cmp Table → ℕ → LocalCommand → ℕ → Handles → FinMap nat_cmp Table → Type 0
-Calls handles tables ds command answer next left = (rest : LocalWorld) → Answers (with_parts rest handles tables ds) command answer (with_parts rest next left ds)
+Calls handles tables ds command answer next left = (rest : World) → Answers (with_parts rest handles tables ds) command answer (with_parts rest next left ds)
 
 -- a local heap may begin there, in whatever world has these parts
 abbrev pub MayBegin : Handles → FinMap nat_cmp Table → ℕ → ℕ → ℕ → ℕ → Type 0
-MayBegin handles tables ds selector start end = (rest : LocalWorld) → IsSome (beginning (with_parts rest handles tables ds) selector start end)
+MayBegin handles tables ds selector start end = (rest : World) → IsSome (beginning (with_parts rest handles tables ds) selector start end)
 
 -- a table in bytes of its segment, as long as they have its range
 pub record IsOver (table : Table) (bytes : List ℕ) : Type 0 where

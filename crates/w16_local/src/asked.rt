@@ -1,6 +1,6 @@
 //! What programs ask of local objects. These calls change nothing.
+ghost use Rattle.w16_machine.specs.World.{World};
 ghost use Rattle.std.specs.Prelude.{◌≡◌};
-ghost use Rattle.w16_machine.specs.Local.{LocalWorld};
 ghost use Rattle.w16_machine.specs.LocalCalls as calls;
 ghost use Rattle.w16_local.specs.Parts.{with_parts};
 
@@ -11,7 +11,7 @@ use w16_global::Global16;
 impl LocalHeaps {
     /// `LocalSize`: the size of an object in bytes; 0 for a bad name, or one without bytes.
     pub fn local_size(&self, global: &Global16, ds: u16, name: u16) -> u16
-        ensures { (rest : LocalWorld) → result ≡ calls.asked_of (with_parts rest global.now.handles self.now ds) name calls.local_size }
+        ensures { (rest : World) → result ≡ calls.asked_of (with_parts rest global.now.handles self.now ds) name calls.local_size }
     {
         let Some(named) = self.named(global, ds, name) else {
             return 0;
@@ -21,7 +21,7 @@ impl LocalHeaps {
 
     /// `LocalFlags`: the lock count, with 0x0f00 for a discardable object and 0x4000 for one without bytes; 0 for a bad name.
     pub fn local_flags(&self, global: &Global16, ds: u16, name: u16) -> u16
-        ensures { (rest : LocalWorld) → result ≡ calls.asked_of (with_parts rest global.now.handles self.now ds) name calls.local_flags }
+        ensures { (rest : World) → result ≡ calls.asked_of (with_parts rest global.now.handles self.now ds) name calls.local_flags }
     {
         let Some(named) = self.named(global, ds, name) else {
             return 0;
@@ -31,7 +31,7 @@ impl LocalHeaps {
 
     /// `LocalHandle`: the name of the object that begins at a near pointer; 0 where none does.
     pub fn local_handle(&self, global: &Global16, ds: u16, pointer: u16) -> u16
-        ensures { (rest : LocalWorld) → result ≡ calls.local_handle (with_parts rest global.now.handles self.now ds) pointer }
+        ensures { (rest : World) → result ≡ calls.local_handle (with_parts rest global.now.handles self.now ds) pointer }
     {
         let Some(chosen) = self.chosen(global, ds) else {
             return 0;

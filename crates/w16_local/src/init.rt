@@ -25,9 +25,9 @@ struct Begun {
 
 impl LocalHeaps {
     /// `LocalInit`: 1, and a heap without objects begins in the object of a selector, or of DS where that is 0; else 0. It lies from `start`,
-    /// rounded up to 4, to `end`, rounded down to 4: 0 where the selector is bad, its object has no bytes or a local heap already, `start`
-    /// is below 4, `end` over the object's size or 65,536, or nothing is between them. An error is that a heap may begin there, and there was
-    /// no memory for it; then nothing has changed.
+    /// rounded up to 4, to `end`, rounded down to 4: 0 where the selector is bad, its object has no bytes, has a local heap already or is code,
+    /// `start` is below 4, `end` over the object's size or 65,536, or nothing is between them. An error is that a heap may begin there, and
+    /// there was no memory for it; then nothing has changed.
     pub fn local_init(
         &mut self,
         global: &Global16,
@@ -62,6 +62,10 @@ impl LocalHeaps {
         let Some(segment) = global.segment(selector_or(ds, selector)) else {
             return None;
         };
+        // Local calls write their heap's range, and code can't be written.
+        if segment.code {
+            return None;
+        }
         if let Some(_heap) = self.kept(segment.slot) {
             return None;
         }

@@ -1,31 +1,38 @@
 -- Each step of a run discards as few as it can.
-use Rattle.std.proofs.Common.{◌≡◌, List, [], ◌∷◌, subst}
-use Rattle.std.specs.List.{AllByRecursion as Each}
-use Rattle.w16_model.proofs.Gaps.{Each-from_All}
+use Rattle.std.proofs.Common.{◌≡◌, subst}
+use Rattle.w16_model.specs.Calls.HandleCommand.{GlobalAlloc, GlobalCompact}
 use Rattle.w16_model.proofs.Fewest.{global_alloc_law, global_compact_law}
 use Rattle.w16_model.proofs.ResizedHandles.{resize_fewest_law}
-use Rattle.w16_machine.specs.World.{World, IsWorld}
-use Rattle.w16_machine.specs.Machine.{Event, Command, Reply, Run, IsCommand, Step}
-use Rattle.w16_machine.specs.Fewest.{IsFewest, AreFewest, FewestLaw}
-use Rattle.w16_machine.proofs.Worlds.{world_law}
+use Rattle.w16_loading.specs.File.{Format}
+use Rattle.w16_loading.specs.Replies.{Reply}
+use Rattle.w16_loading.specs.Replies.Reply.{Word, Dword}
+use Rattle.w16_loading.specs.Resizes.ResizeCommand.{GlobalReAlloc}
+use Rattle.w16_loading.proofs.AnySteps.{requests_fewest_law}
+use Rattle.w16_machine.specs.World.{World}
+use Rattle.w16_machine.specs.Law.{IsWorld}
+use Rattle.w16_machine.specs.Machine.{Event, Command, Step}
+use Rattle.w16_machine.specs.Fewest.{IsFewest}
+use Rattle.w16_machine.proofs.LocalFewest.{local_alloc_law, local_compact_law, local_realloc_law}
+use Rattle.w16_machine.proofs.Stepped.{call_replies, resize_replies}
 
--- the same step, told with its command and its reply
-told : (old : World) (event : Event) {command : Command} {reply : Reply} → event.command ≡ command → event.reply ≡ reply → Step old event.command event.reply event.after → Step old command reply event.after
-told old event {command} c r step = subst (λ (answer : Reply). Step old command answer event.after) r (subst (λ (asked : Command). Step old asked event.reply event.after) c step)
+-- the same step, told with its command, and with its reply
+asked : (honest : Type 0) (format : Format) (old : World) (event : Event) {command : Command} → event.command ≡ command → Step honest format old event.command event.reply event.after → Step honest format old command event.reply event.after
+asked honest format old event c step = subst (λ (asked : Command). Step honest format old asked event.reply event.after) c step
 
-pub step_fewest : (old : World) (event : Event) → IsWorld old → Step old event.command event.reply event.after → IsFewest old event
-step_fewest old event is step = record {
-  alloc = λ flags size handle c r. global_alloc_law old.handles event.after.handles flags size handle is.handles
-      (told old event c r step).0;
-  compact = λ size answer c r. global_compact_law old.handles event.after.handles size answer is.handles
-      (told old event c r step).0;
-  realloc = λ handle size flags answer c r. resize_fewest_law old.handles event.after.handles handle size flags answer is.handles
-      (told old event c r step).0;
+told : (honest : Type 0) (format : Format) (old : World) (event : Event) {command : Command} {reply : Reply} → event.command ≡ command → event.reply ≡ reply → Step honest format old event.command event.reply event.after
+    → Step honest format old command reply event.after
+told honest format old event {command} c r step = subst (λ (answer : Reply). Step honest format old command answer event.after) r (asked honest format old event c step)
+
+pub step_fewest : (honest : Type 0) (format : Format) (old : World) (event : Event) → IsWorld old → Step honest format old event.command event.reply event.after → IsFewest old event
+step_fewest honest format old event is step = record {
+  alloc = λ flags size handle c r. global_alloc_law old.loading.handles event.after.loading.handles flags size handle is.heaps.handles
+      (call_replies honest format old.loading event.after.loading (GlobalAlloc flags size) (Word handle) (told honest format old event c r step).0);
+  realloc = λ handle size flags answer c r. resize_fewest_law old.loading.handles event.after.loading.handles handle size flags answer is.heaps.handles
+      (resize_replies honest format old.loading event.after.loading (GlobalReAlloc handle size flags) (Word answer) (told honest format old event c r step).0);
+  compact = λ size answer c r. global_compact_law old.loading.handles event.after.loading.handles size answer is.heaps.handles
+      (call_replies honest format old.loading event.after.loading (GlobalCompact size) (Dword answer) (told honest format old event c r step).0);
+  local_alloc = λ flags size answer at c r chosen. local_alloc_law old event.after flags size answer at is.heaps (told honest format old event c r step) chosen;
+  local_realloc = λ name size flags answer o c r named unmodified some. local_realloc_law old event.after name size flags answer o is.heaps (told honest format old event c r step) named unmodified some;
+  local_compact = λ size answer at c r chosen. local_compact_law old event.after size answer at is.heaps (told honest format old event c r step) chosen;
+  requests = λ command c. requests_fewest_law old.loading event.after.loading command event.reply is.loading (asked honest format old event c step).0.any;
 }
-
-pub fewest_law : FewestLaw
-fewest_law old new events is known run = each old events is (Each-from_All (λ e. IsCommand e.command) events known) run
-  where
-    each : (now : World) (events : List Event) → IsWorld now → Each (λ e. IsCommand e.command) events → Run now events new → AreFewest now events
-    each now [] is known run = tt
-    each now (event ∷ events) is known run = (step_fewest now event is run.0, each event.after events (world_law now event.after event.command event.reply is known.0 run.0) known.1 run.1)

@@ -9,11 +9,13 @@ use Rattle.w16_model.specs.declared.Entry.{Entry}
 use Rattle.w16_model.specs.declared.Span.{Span}
 use Rattle.w16_model.specs.declared.Block.{Block}
 use Rattle.w16_model.specs.Heap.{Heap, Object, IsMultiple, object_at, is_fixed}
+use Rattle.w16_model.specs.Owned.{is_code}
 use Rattle.w16_model.specs.Handles.{slot_of_selector}
 use Rattle.w16_model.specs.Table.{Table, IsSound, IsCountedBy, entry_at, hold_of_entry, is_listed, by_id, heap_in}
 use Rattle.w16_model.proofs.Gaps.{All-from_Each, AllPairs-from_EachPair}
 use Rattle.w16_machine.specs.declared.local.TheConstants.{LOCAL_GRAIN, LOCAL_ENTRIES}
-use Rattle.w16_machine.specs.Local.{LocalWorld, Beginning, IsLocalTable, IsLocalIn, AreNamed, segment_bytes, is_range, range_in, beginning, beginning_in, new_table, selector_or_ds, rounded_up, rounded_down}
+use Rattle.w16_machine.specs.World.{World}
+use Rattle.w16_machine.specs.Local.{Beginning, IsLocalTable, IsLocalIn, AreNamed, segment_bytes, is_range, range_in, beginning, beginning_in, new_table, selector_or_ds, rounded_up, rounded_down}
 use Rattle.w16_machine.specs.LocalLaw.{MayBegin, BeginLaw, NewHeapLaw}
 
 -- The range.
@@ -74,15 +76,15 @@ told_range size start end range is =
     to = down end range.to is.to.0.0 is.to.0.1 is.to.1 is.to.2
 
 -- The beginning.
-module _ (w : LocalWorld) (selector start end : ℕ) (b : Beginning) where
+module _ (w : World) (selector start end : ℕ) (b : Beginning) where
   -- whether a heap begins with this range in a segment whose table and bytes are these
   abbrev begun : ℕ → Option Table → Option (List ℕ) → Option Beginning
   begun slot t p = elim p [ None ↦ None | Some bytes ↦ cond {A = Option Beginning} (is_some t) None (option_map (λ range. record { slot = slot; range = range }) (range_in (length bytes) start end)) ]
 
-  may : (slot : ℕ) → slot_of_selector w.world.handles (selector_or_ds w selector) ≡ Some slot → (t : Option Table) → finmap.get w.tables slot ≡ t → (p : Option (List ℕ)) → segment_bytes w slot ≡ p → begun slot t p ≡ Some b → MayBegin w selector start end b
-  may slot s t u None q e = cc
-  may slot s (Some t) u (Some bytes) q e = cc
-  may slot s None u (Some bytes) q e = turn (range_in (length bytes) start end) refl e
+  may : (slot : ℕ) → slot_of_selector w.loading.handles (selector_or_ds w selector) ≡ Some slot → is_code w.loading.handles slot ≡ false → (t : Option Table) → finmap.get w.heaps slot ≡ t → (p : Option (List ℕ)) → segment_bytes w slot ≡ p → begun slot t p ≡ Some b → MayBegin w selector start end b
+  may slot s n t u None q e = cc
+  may slot s n (Some t) u (Some bytes) q e = cc
+  may slot s n None u (Some bytes) q e = turn (range_in (length bytes) start end) refl e
     where
       turn : (r : Option Span) → range_in (length bytes) start end ≡ r → option_map (λ (range : Span). let x : Beginning = record { slot = slot; range = range } in x) r ≡ Some b → MayBegin w selector start end b
       turn None f e = cc
@@ -92,6 +94,7 @@ module _ (w : LocalWorld) (selector start end : ℕ) (b : Beginning) where
           let is : IsRangeOf (length bytes) start end range = range_tells (length bytes) start end range f in
           subst (MayBegin w selector start end) same (record {
             selected = s;
+            uncoded = n;
             none = u;
             inside = subst (λ p. IsSomeAnd p (λ bytes. end ≤ length bytes)) (sym q) is.inside;
             low = is.low;
@@ -102,15 +105,20 @@ module _ (w : LocalWorld) (selector start end : ℕ) (b : Beginning) where
           })
 
   begins : beginning w selector start end ≡ Some b → MayBegin w selector start end b
-  begins e = turn (slot_of_selector w.world.handles (selector_or_ds w selector)) refl e
+  begins e = turn (slot_of_selector w.loading.handles (selector_or_ds w selector)) refl e
     where
-      turn : (s : Option ℕ) → slot_of_selector w.world.handles (selector_or_ds w selector) ≡ s → ◌≡◌ {A = Option Beginning} (elim s [ None ↦ None | Some slot ↦ beginning_in w start end slot ]) (Some b) → MayBegin w selector start end b
+      turn : (s : Option ℕ) → slot_of_selector w.loading.handles (selector_or_ds w selector) ≡ s → ◌≡◌ {A = Option Beginning} (elim s [ None ↦ None | Some slot ↦ cond {A = Option Beginning} (is_code w.loading.handles slot) None (beginning_in w start end slot) ]) (Some b) → MayBegin w selector start end b
       turn None s e = cc
-      turn (Some slot) s e = may slot s (finmap.get w.tables slot) refl (segment_bytes w slot) refl e
+      turn (Some slot) s e = by_code (is_code w.loading.handles slot) refl e
+        where
+          by_code : (b1 : Bool) → is_code w.loading.handles slot ≡ b1 → cond {A = Option Beginning} b1 None (beginning_in w start end slot) ≡ Some b → MayBegin w selector start end b
+          by_code true n e = cc
+          by_code false n e = may slot s n (finmap.get w.heaps slot) refl (segment_bytes w slot) refl e
 
   may_begin : MayBegin w selector start end b → beginning w selector start end ≡ Some b
   may_begin is =
-      ap (λ (s : Option ℕ). elim s as (λ _. Option Beginning) [ None ↦ None | Some slot ↦ beginning_in w start end slot ]) is.selected
+      ap (λ (s : Option ℕ). elim s as (λ _. Option Beginning) [ None ↦ None | Some slot ↦ cond {A = Option Beginning} (is_code w.loading.handles slot) None (beginning_in w start end slot) ]) is.selected
+      ∙ ap (λ b1. cond {A = Option Beginning} b1 None (beginning_in w start end b.slot)) is.uncoded
       ∙ ap (λ t. begun b.slot t (segment_bytes w b.slot)) is.none
       ∙ turn (segment_bytes w b.slot) is.inside
     where
@@ -139,7 +147,7 @@ pub new_heap_law : NewHeapLaw
 new_heap_law range bytes = λ i. record (heap_in (new_table range) bytes) { objects = finmap.from_entries (nothing_by_id (λ id e. record { kind = e.kind; locks = e.locks; bytes = None }) LOCAL_ENTRIES 0 i) }
 
 -- it is one, wherever it may begin
-pub new_local : (w : LocalWorld) (selector start end : ℕ) (b : Beginning) → MayBegin w selector start end b → IsSomeAnd (segment_bytes w b.slot) (IsLocalIn (new_table b.range))
+pub new_local : (w : World) (selector start end : ℕ) (b : Beginning) → MayBegin w selector start end b → IsSomeAnd (segment_bytes w b.slot) (IsLocalIn (new_table b.range))
 new_local w selector start end b may = turn (segment_bytes w b.slot) may.inside
   where
     entries_none : (q : ℕ) → entry_at (new_table b.range) q ≡ None

@@ -12,11 +12,12 @@ use Rattle.w16_model.proofs.Parts.{length-put_part, part-put_part}
 use Rattle.w16_model.proofs.Sound.{sound_law}
 use Rattle.w16_model.proofs.Heaps.{get-update_same, get-update_other}
 use Rattle.w16_model.proofs.KeptHeaps.{bytes_in, inserted_here}
-use Rattle.w16_machine.specs.Local.{LocalWorld, LocalHeap, LocalObject, IsLocalWorld, IsLocalIn, Becomes, Acts, segment_bytes, heap_of, local_of, local_in, chosen, object_named, id_named}
+use Rattle.w16_machine.specs.World.{World}
+use Rattle.w16_machine.specs.Local.{LocalHeap, LocalObject, AreLocalHeaps, IsLocalIn, Becomes, Acts, segment_bytes, heap_of, local_of, local_in, chosen, object_named, id_named}
 
 -- A local heap is there: its table, and its segment's bytes, which have its range.
-pub record IsThere (w : LocalWorld) (at : LocalHeap) : Type 0 where
-  pub table : finmap.get w.tables at.slot ≡ Some at.table
+pub record IsThere (w : World) (at : LocalHeap) : Type 0 where
+  pub table : finmap.get w.heaps at.slot ≡ Some at.table
   pub bytes : segment_bytes w at.slot ≡ Some at.bytes
   pub inside : at.table.hi ≤ length at.bytes
 
@@ -25,10 +26,10 @@ abbrev found : ℕ → Option Table → Option (List ℕ) → Option LocalHeap
 found slot t b = elim t [ None ↦ None | Some t ↦ elim b [ None ↦ None | Some bytes ↦ local_of slot t bytes ] ]
 
 -- the one in a slot is there
-pub local_there : (w : LocalWorld) (slot : ℕ) (at : LocalHeap) → local_in w slot ≡ Some at → IsThere w at × (at.slot ≡ slot)
-local_there w slot at e = turn (finmap.get w.tables slot) refl (segment_bytes w slot) refl e
+pub local_there : (w : World) (slot : ℕ) (at : LocalHeap) → local_in w slot ≡ Some at → IsThere w at × (at.slot ≡ slot)
+local_there w slot at e = turn (finmap.get w.heaps slot) refl (segment_bytes w slot) refl e
   where
-    inside : (t : Table) → finmap.get w.tables slot ≡ Some t → (bytes : List ℕ) → segment_bytes w slot ≡ Some bytes → (l : Bool) → nat_le t.hi (length bytes) ≡ l
+    inside : (t : Table) → finmap.get w.heaps slot ≡ Some t → (bytes : List ℕ) → segment_bytes w slot ≡ Some bytes → (l : Bool) → nat_le t.hi (length bytes) ≡ l
         → ◌≡◌ {A = Option LocalHeap} (cond l (Some (record { slot = slot; table = t; bytes = bytes })) None) (Some at) → IsThere w at × (at.slot ≡ slot)
     inside t p bytes q false l e = cc
     inside t p bytes q true l e =
@@ -36,20 +37,20 @@ local_there w slot at e = turn (finmap.get w.tables slot) refl (segment_bytes w 
         let same : mine ≡ at = cc in
         subst (λ (h : LocalHeap). IsThere w h × (h.slot ≡ slot)) same (record { table = p; bytes = q; inside = leb-true t.hi (length bytes) l }, refl)
 
-    turn : (t : Option Table) → finmap.get w.tables slot ≡ t → (b : Option (List ℕ)) → segment_bytes w slot ≡ b → found slot t b ≡ Some at → IsThere w at × (at.slot ≡ slot)
+    turn : (t : Option Table) → finmap.get w.heaps slot ≡ t → (b : Option (List ℕ)) → segment_bytes w slot ≡ b → found slot t b ≡ Some at → IsThere w at × (at.slot ≡ slot)
     turn None p b q e = cc
     turn (Some t) p None q e = cc
     turn (Some t) p (Some bytes) q e = inside t p bytes q (nat_le t.hi (length bytes)) refl e
 
 -- and what is there is the one in its slot
-pub there_local : (w : LocalWorld) (at : LocalHeap) → IsThere w at → local_in w at.slot ≡ Some at
+pub there_local : (w : World) (at : LocalHeap) → IsThere w at → local_in w at.slot ≡ Some at
 there_local w at is =
     ap (λ (t : Option Table). found at.slot t (segment_bytes w at.slot)) is.table ∙ ap (λ (b : Option (List ℕ)). found at.slot (Some at.table) b) is.bytes
     ∙ ap (λ l. cond {A = Option LocalHeap} l (Some at) None) (le-leb at.table.hi (length at.bytes) is.inside)
 
 -- the chosen one is there
-pub chosen_there : (w : LocalWorld) (at : LocalHeap) → chosen w ≡ Some at → IsThere w at
-chosen_there w at e = turn (slot_of_selector w.world.handles w.ds) e
+pub chosen_there : (w : World) (at : LocalHeap) → chosen w ≡ Some at → IsThere w at
+chosen_there w at e = turn (slot_of_selector w.loading.handles w.ds) e
   where
     turn : (s : Option ℕ) → ◌≡◌ {A = Option LocalHeap} (elim s [ None ↦ None | Some slot ↦ local_in w slot ]) (Some at) → IsThere w at
     turn None e = cc
@@ -59,7 +60,7 @@ abbrev with_id : LocalHeap → Option ℕ → Option LocalObject
 with_id at p = option_map (λ id. record { heap = at; id = id }) p
 
 -- a named object is in the chosen heap
-pub named_there : (w : LocalWorld) (name : ℕ) (o : LocalObject) → object_named w name ≡ Some o → (chosen w ≡ Some o.heap) × (id_named (heap_of o.heap) name ≡ Some o.id)
+pub named_there : (w : World) (name : ℕ) (o : LocalObject) → object_named w name ≡ Some o → (chosen w ≡ Some o.heap) × (id_named (heap_of o.heap) name ≡ Some o.id)
 named_there w name o e = turn (chosen w) refl e
   where
     by_id : (at : LocalHeap) → chosen w ≡ Some at → (p : Option ℕ) → id_named (heap_of at) name ≡ p → with_id at p ≡ Some o → (chosen w ≡ Some o.heap) × (id_named (heap_of o.heap) name ≡ Some o.id)
@@ -74,14 +75,14 @@ named_there w name o e = turn (chosen w) refl e
     turn (Some at) c e = by_id at c (id_named (heap_of at) name) refl e
 
 -- A local heap of a world with such heaps.
-module _ (w : LocalWorld) (is : IsLocalWorld w) (at : LocalHeap) (there : IsThere w at) where
+module _ (w : World) (is : AreLocalHeaps w) (at : LocalHeap) (there : IsThere w at) where
   -- its table is one in its segment's bytes
   pub local_here : IsLocalIn at.table at.bytes
-  local_here = subst (λ b. IsSomeAnd b (IsLocalIn at.table)) there.bytes (subst (λ t. IfSome t (λ t. IsSomeAnd (segment_bytes w at.slot) (IsLocalIn t))) there.table (is.locals at.slot))
+  local_here = subst (λ b. IsSomeAnd b (IsLocalIn at.table)) there.bytes (subst (λ t. IfSome t (λ t. IsSomeAnd (segment_bytes w at.slot) (IsLocalIn t))) there.table (is.heaps at.slot))
 
   -- these are bytes
   pub bytes_here : All (λ b. b < 256) at.bytes
-  bytes_here = subst (λ b. IfSome b (All (λ n. n < 256))) there.bytes (is.world.handles.heap.are_bytes at.slot)
+  bytes_here = subst (λ b. IfSome b (All (λ n. n < 256))) there.bytes (is.handles.heap.are_bytes at.slot)
 
   -- and it is a heap
   pub heap_here : IsHeap (heap_of at)
@@ -110,19 +111,19 @@ object_of heap slot bytes e = turn (object_at heap slot) refl e
     turn (Some o) t e = (o, t, e)
 
 -- what a local heap is after it acted
-pub acted_there : (old new : LocalWorld) (at : LocalHeap) (P : Heap → Type 0) → IsThere old at → (a : Acts old at P new) → IsThere new (record { slot = at.slot; table = a.table; bytes = a.bytes })
+pub acted_there : (old new : World) (at : LocalHeap) (P : Heap → Type 0) → IsThere old at → (a : Acts old at P new) → IsThere new (record { slot = at.slot; table = a.table; bytes = a.bytes })
 acted_there old new at P there a =
-    let o : (o : Object) × (object_at old.world.handles.heap at.slot ≡ Some o) × (o.bytes ≡ Some at.bytes) = object_of old.world.handles.heap at.slot at.bytes there.bytes in
+    let o : (o : Object) × (object_at old.loading.handles.heap at.slot ≡ Some o) × (o.bytes ≡ Some at.bytes) = object_of old.loading.handles.heap at.slot at.bytes there.bytes in
     record {
-      table = ap (λ (w : LocalWorld). finmap.get w.tables at.slot) a.rest ∙ inserted_here old.tables at.slot a.table at.slot refl;
-      bytes = ap (λ (w : LocalWorld). segment_bytes w at.slot) a.rest ∙ ap bytes_in (segment_after old.world.handles.heap at.slot o.0 o.1 at.bytes o.2 a.bytes a.long);
+      table = ap (λ (w : World). finmap.get w.heaps at.slot) a.rest ∙ inserted_here old.heaps at.slot a.table at.slot refl;
+      bytes = ap (λ (w : World). segment_bytes w at.slot) a.rest ∙ ap bytes_in (segment_after old.loading.handles.heap at.slot o.0 o.1 at.bytes o.2 a.bytes a.long);
       inside = omega (arith, a.range.1, a.long, there.inside);
     }
 
 -- and after it became another with the same bytes
-pub became_there : (old new : LocalWorld) (at : LocalHeap) (next : Heap) → IsThere old at → (b : Becomes old at next new) → IsThere new (record { slot = at.slot; table = b.table; bytes = at.bytes })
+pub became_there : (old new : World) (at : LocalHeap) (next : Heap) → IsThere old at → (b : Becomes old at next new) → IsThere new (record { slot = at.slot; table = b.table; bytes = at.bytes })
 became_there old new at next there b = record {
-  table = ap (λ (w : LocalWorld). finmap.get w.tables at.slot) b.rest ∙ inserted_here old.tables at.slot b.table at.slot refl;
-  bytes = ap (λ (w : LocalWorld). segment_bytes w at.slot) b.rest ∙ there.bytes;
+  table = ap (λ (w : World). finmap.get w.heaps at.slot) b.rest ∙ inserted_here old.heaps at.slot b.table at.slot refl;
+  bytes = ap (λ (w : World). segment_bytes w at.slot) b.rest ∙ there.bytes;
   inside = omega (arith, b.range.1, there.inside);
 }

@@ -1,5 +1,5 @@
 -- A far access leaves each local heap but for bytes of its objects.
-use Rattle.std.proofs.Common.{◌≡◌, ℕ, ◌+◌, ◌≤◌, ◌<◌, inl, inr, cond, IsSomeAnd, List, length, slice_range, Option, Some, None, option_map, refl, sym, ap, ◌∙◌, subst, arith}
+use Rattle.std.proofs.Common.{◌≡◌, ℕ, Bool, true, false, ◌+◌, ◌≤◌, ◌<◌, inl, inr, cond, IsSomeAnd, List, length, slice_range, Option, Some, None, option_map, refl, sym, ap, ◌∙◌, subst, arith}
 use Rattle.std.specs.Cmp.{nat_cmp_total}
 use Rattle.std.specs.FinMap as finmap
 use Rattle.std.specs.FinMap.{same_map, nat_cmp-IsAntisymmetric}
@@ -7,12 +7,14 @@ use Rattle.std.proofs.lemmas.Bool.{cases_eq, le-leb}
 use Rattle.w16_model.specs.declared.Block.{Block}
 use Rattle.w16_model.specs.declared.Entry.{Entry}
 use Rattle.w16_model.specs.declared.FarFault.{FarFault}
+use Rattle.w16_model.specs.declared.FarFault.TheVariants.{ReadOnly}
+use Rattle.w16_model.specs.Owned.{refuses_write}
 use Rattle.w16_model.specs.Bytes.{part, put_part, repeated}
 use Rattle.w16_model.specs.Gap.{block_end}
 use Rattle.w16_model.specs.Heap.{Object, object_at}
 use Rattle.w16_model.specs.OneObject.{after_touch}
 use Rattle.w16_model.specs.Handles.{Handles, selector_in, offset_in}
-use Rattle.w16_model.specs.Far.{FarCommand, FarAnswer, FarStep, far_fault, far_slot, far_bytes, far_read, far_write, after_write}
+use Rattle.w16_model.specs.Far.{FarCommand, FarAnswer, FarStep, far_fault, far_slot, far_bytes, far_read, data_write, far_write, after_write}
 use Rattle.w16_model.specs.Far.FarCommand.{Read, Write, Fill}
 use Rattle.w16_model.specs.Far.FarAnswer.{Bytes, Done, Fault}
 use Rattle.w16_model.specs.Table.{Table, IsTable, heap_in, object_in, block_with, entry_at}
@@ -23,9 +25,10 @@ use Rattle.w16_model.proofs.KeptHeaps.{bytes_in}
 use Rattle.w16_model.proofs.Laid.{laid_each}
 use Rattle.w16_model.proofs.Parts.{length-put_part}
 use Rattle.w16_model.proofs.Tables.{object_is, member_with, length_range}
-use Rattle.w16_machine.specs.Machine.{far_answer_in}
-use Rattle.w16_machine.specs.Local.{LocalWorld, LocalHeap, IsLocalWorld, IsLocalIn, segment_bytes, heap_of}
-use Rattle.w16_machine.specs.LocalMachine.{beside}
+use Rattle.w16_loading.specs.Replies.{far_answer_in}
+use Rattle.w16_machine.specs.World.{World}
+use Rattle.w16_machine.specs.Local.{LocalHeap, AreLocalHeaps, IsLocalIn, segment_bytes, heap_of}
+use Rattle.w16_machine.specs.Machine.{after_loading}
 use Rattle.w16_machine.specs.LocalLaw.{HasSameObjects, FarLaw, but_bytes}
 use Rattle.w16_machine.specs.LocalStays.{HasSameSizes, size_at}
 use Rattle.w16_machine.proofs.LocalFacts.{IsThere, local_there, local_here}
@@ -40,7 +43,7 @@ module _ (old : Handles) (selector offset : ℕ) where
   abbrev slot : ℕ
   slot = far_slot old selector
 
-  read_same : (n : ℕ) → SameAfter old (far_read old selector offset n)
+  pub read_same : (n : ℕ) → SameAfter old (far_read old selector offset n)
   read_same n = turn (far_fault old selector offset n)
     where
       turn : (f : Option FarFault) → SameAfter old (elim f [ Some fault ↦ (Fault fault, old) | None ↦ (Bytes (part (far_bytes old selector) offset n), record old { heap = after_touch old.heap slot }) ])
@@ -59,13 +62,20 @@ module _ (old : Handles) (selector offset : ℕ) where
     | inr d ↦ ap (λ p. option_map length (bytes_in p)) (get-update_other old.heap.objects slot (λ (o : Object). record o { bytes = option_map (λ bytes. put_part bytes offset slice) o.bytes }) q d)
   ]
 
-  write_same : (slice : List ℕ) → SameAfter old (far_write old selector offset slice)
-  write_same slice = turn (far_fault old selector offset (length slice)) refl
+  data_same : (slice : List ℕ) → SameAfter old (data_write old selector offset slice)
+  data_same slice = turn (far_fault old selector offset (length slice)) refl
     where
       turn : (f : Option FarFault) → far_fault old selector offset (length slice) ≡ f
           → SameAfter old (elim f [ Some fault ↦ (Fault fault, old) | None ↦ (Done, record old { heap = after_touch (after_write old.heap slot offset slice) slot }) ])
       turn (Some fault) e = λ q. refl
       turn None e = written_same slice (reached old selector offset (length slice) e)
+
+  pub write_same : (slice : List ℕ) → SameAfter old (far_write old selector offset slice)
+  write_same slice = turn (refuses_write old selector)
+    where
+      turn : (b : Bool) → SameAfter old (cond {A = FarAnswer × Handles} b (Fault ReadOnly, old) (data_write old selector offset slice))
+      turn true = λ q. refl
+      turn false = data_same slice
 
 far_same : (old new : Handles) (command : FarCommand) (answer : FarAnswer) → FarStep old command answer new → HasSameSizes old new
 far_same old new (Read pointer count) answer step = subst (HasSameSizes old) (sym step.1) (read_same old (selector_in pointer) (offset_in pointer) count)
@@ -107,13 +117,13 @@ far_reply old new command None h = absurd h
 far_reply old new command (Some answer) h = far_same old new command answer h
 
 -- so all are left where each object has as many
-pub tables_stay : (old new : LocalWorld) → IsLocalWorld old → new ≡ beside old new.world → HasSameSizes old.world.handles new.world.handles → new.tables ≡ old.tables
-tables_stay old new is rest sizes = same_map nat_cmp_total nat_cmp-IsAntisymmetric new.tables old.tables (λ slot.
-    ap (λ (w : LocalWorld). finmap.get w.tables slot) rest ∙ left_is new.world.handles.heap old.tables slot
-    ∙ left_same (finmap.get old.tables slot) (segment_bytes old slot) (segment_bytes new slot) (is.locals slot) (sizes slot))
+pub tables_stay : (old new : World) → AreLocalHeaps old → new ≡ after_loading old new.loading → HasSameSizes old.loading.handles new.loading.handles → new.heaps ≡ old.heaps
+tables_stay old new is rest sizes = same_map nat_cmp_total nat_cmp-IsAntisymmetric new.heaps old.heaps (λ slot.
+    ap (λ (w : World). finmap.get w.heaps slot) rest ∙ left_is new.loading.handles.heap old.heaps slot
+    ∙ left_same (finmap.get old.heaps slot) (segment_bytes old slot) (segment_bytes new slot) (is.heaps slot) (sizes slot))
 
 pub local_far_law : FarLaw
-local_far_law old new command reply is known step = (
+local_far_law old new command reply is known step rest = (
   same_tables,
   (λ slot at after e f.
       let was : IsThere old at × (at.slot ≡ slot) = local_there old slot at e in
@@ -123,17 +133,17 @@ local_far_law old new command reply is known step = (
       subst (λ t. HasSameObjects (heap_of at) (heap_in t after.bytes)) (sym t) (same_objects at.table here.0.sound.table at.bytes after.bytes here.1 (long at after was.0 now.0 (now.1 ∙ sym was.1) here.1))),
 )
   where
-    sizes : HasSameSizes old.world.handles new.world.handles
-    sizes = far_reply old.world.handles new.world.handles command (far_answer_in reply) step.0.0
+    sizes : HasSameSizes old.loading.handles new.loading.handles
+    sizes = far_reply old.loading.handles new.loading.handles command (far_answer_in reply) step
 
-    same_tables : new.tables ≡ old.tables
-    same_tables = tables_stay old new is step.1 sizes
+    same_tables : new.heaps ≡ old.heaps
+    same_tables = tables_stay old new is rest sizes
 
     same_table : (at after : LocalHeap) → IsThere old at → IsThere new after → after.slot ≡ at.slot → after.table ≡ at.table
-    same_table at after was now e = let some : ◌≡◌ {A = Option Table} (Some after.table) (Some at.table) = sym now.table ∙ ap (λ m. finmap.get m after.slot) same_tables ∙ ap (finmap.get old.tables) e ∙ was.table in cc
+    same_table at after was now e = let some : ◌≡◌ {A = Option Table} (Some after.table) (Some at.table) = sym now.table ∙ ap (λ m. finmap.get m after.slot) same_tables ∙ ap (finmap.get old.heaps) e ∙ was.table in cc
 
     long : (at after : LocalHeap) → IsThere old at → IsThere new after → after.slot ≡ at.slot → at.table.hi ≤ length at.bytes → at.table.hi ≤ length after.bytes
     long at after was now e le =
-        let some : ◌≡◌ {A = Option ℕ} (Some (length after.bytes)) (Some (length at.bytes)) = sym (ap (option_map length) now.bytes) ∙ sizes after.slot ∙ ap (λ q. size_at old.world.handles q) e ∙ ap (option_map length) was.bytes in
+        let some : ◌≡◌ {A = Option ℕ} (Some (length after.bytes)) (Some (length at.bytes)) = sym (ap (option_map length) now.bytes) ∙ sizes after.slot ∙ ap (λ q. size_at old.loading.handles q) e ∙ ap (option_map length) was.bytes in
         let same : length after.bytes ≡ length at.bytes = cc in
         omega (arith, same, le)

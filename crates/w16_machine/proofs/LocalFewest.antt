@@ -14,7 +14,8 @@ use Rattle.w16_model.proofs.Gaps.{Each-at, Each-from_All}
 use Rattle.w16_model.proofs.Heaps.{IsBlockOf, block_member}
 use Rattle.w16_model.proofs.Reallocations.{fewest_law}
 use Rattle.w16_machine.specs.declared.local.TheConstants.{LMEM_MOVEABLE, LMEM_MODIFY}
-use Rattle.w16_machine.specs.Local.{LocalWorld, LocalHeap, IsLocalWorld, Becomes, Acts, Stays, heap_of, local_in, chosen, name_of, name_at, rounded_up}
+use Rattle.w16_machine.specs.World.{World}
+use Rattle.w16_machine.specs.Local.{LocalHeap, AreLocalHeaps, Becomes, Acts, Stays, heap_of, local_in, chosen, name_of, name_at, rounded_up}
 use Rattle.w16_machine.specs.LocalCalls.{EntersObject, AllocatesObject, ResizesObject, AllocatesIn, CompactsIn, ModifiesObject, DiscardsObject, SizesObject, IsRefusedAlloc, IsEmptyFixed, HasNoEntry, is_absent_asked, local_kind, local_way}
 use Rattle.w16_machine.specs.LocalCalls.LocalCommand.{LocalAlloc, LocalReAlloc}
 use Rattle.w16_machine.specs.LocalFewest.{Left, AllocFewest, ReallocFewest, AllocLaw, ReallocLaw, CompactLaw}
@@ -37,7 +38,7 @@ some_name heap is low id = turn (object_at heap id)
     turn None e = cc
     turn (Some o) e = by_kind (is_fixed o.kind) e
 
-module _ (old : LocalWorld) (is : IsLocalWorld old) (at : LocalHeap) (c : chosen old ≡ Some at) (new : LocalWorld) where
+module _ (old : World) (is : AreLocalHeaps old) (at : LocalHeap) (c : chosen old ≡ Some at) (new : World) where
   there : IsThere old at
   there = chosen_there old at c
 
@@ -49,15 +50,15 @@ module _ (old : LocalWorld) (is : IsLocalWorld old) (at : LocalHeap) (c : chosen
 
   -- and what one leaves that stays
   left_same : (Q : Heap → Type 0) → new ≡ old → Q (heap_of at) → Left new at Q
-  left_same Q same q = subst (λ p. IsSomeAnd p (λ after. Q (heap_of after))) (sym (ap (λ (w : LocalWorld). local_in w at.slot) same ∙ there_local old at there)) q
+  left_same Q same q = subst (λ p. IsSomeAnd p (λ after. Q (heap_of after))) (sym (ap (λ (w : World). local_in w at.slot) same ∙ there_local old at there)) q
 
   -- in a world with local heaps no answered name is 0
-  not_0 : IsLocalWorld new → (P : Heap → Type 0) (id answer : ℕ) → ((heap : Heap) → P heap → name_at heap id ≡ Some answer) → Acts old at P new → answer ≢ 0
+  not_0 : AreLocalHeaps new → (P : Heap → Type 0) (id answer : ℕ) → ((heap : Heap) → P heap → name_at heap id ≡ Some answer) → Acts old at P new → answer ≢ 0
   not_0 now P id answer named a e =
       let mine : LocalHeap = record { slot = at.slot; table = a.table; bytes = a.bytes } in
       some_name (heap_of mine) (heap_here new now mine (acted_there old new at P there a)) a.is_local.low id (named (heap_of mine) a.acted ∙ ap Some e)
 
-  allocs : IsLocalWorld new → (flags size answer : ℕ) → AllocatesIn old flags size answer new at → AllocFewest old at flags size answer new
+  allocs : AreLocalHeaps new → (flags size answer : ℕ) → AllocatesIn old flags size answer new at → AllocFewest old at flags size answer new
   allocs now flags size answer (inl refused) = record { answered = λ some _. absurd (some refused.1.0); refused = λ _. (refused.1.1, reason refused.0) }
     where
       reason : IsRefusedAlloc (heap_of at) flags size → IsEmptyFixed flags size ⊎ HasNoEntry (heap_of at) ⊎ LacksRoom (heap_of at) None (rounded_up size) (local_way flags)
@@ -114,7 +115,7 @@ local_realloc_law old new name size flags answer o is step named unmodified some
     heap : IsHeap (heap_of o.heap)
     heap = heap_here old is o.heap (chosen_there old o.heap c)
 
-    now : IsLocalWorld new
+    now : AreLocalHeaps new
     now = local_world old is (LocalReAlloc name size flags) answer new (outcome old (LocalReAlloc name size flags) answer new step)
 
     refusal : (p : Option Object) → IsSomeAnd p (λ before. ReallocatesFewest (heap_of o.heap) o.id (rounded_up size) before (local_way flags) false (heap_of o.heap))

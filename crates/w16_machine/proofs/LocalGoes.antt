@@ -7,12 +7,13 @@ use Rattle.w16_model.specs.Heap.{bytes_at}
 use Rattle.w16_model.specs.Table.{Table}
 use Rattle.w16_model.proofs.Gaps.{Each-from_All}
 use Rattle.w16_model.proofs.KeptHeaps.{inserted_here, inserted_other}
-use Rattle.w16_machine.specs.Machine.Reply.{Word, Done}
-use Rattle.w16_machine.specs.Local.{LocalWorld, LocalHeap, chosen, new_table}
+use Rattle.w16_loading.specs.Replies.Reply.{Word, Done}
+use Rattle.w16_machine.specs.World.{World}
+use Rattle.w16_machine.specs.Local.{LocalHeap, chosen, new_table}
 use Rattle.w16_machine.specs.LocalCalls.{LocalCommand}
 use Rattle.w16_machine.specs.LocalCalls.LocalCommand.{DS}
-use Rattle.w16_machine.specs.LocalMachine.{Event, Run}
-use Rattle.w16_machine.specs.LocalMachine.Command.{OfMachine, OfLocals}
+use Rattle.w16_machine.specs.Machine.{Event, Step, Run}
+use Rattle.w16_machine.specs.Machine.Command.{OfLoading, OfLocals}
 use Rattle.w16_machine.specs.LocalLaw.{IsBegun, BeginsNone, GoesLaw, NeverBackLaw, GoneLaw}
 use Rattle.w16_machine.proofs.LocalFacts.{chosen_there}
 use Rattle.w16_machine.proofs.LocalOutcomes.{Outcome, outcome}
@@ -33,28 +34,28 @@ inside_left None t h = absurd h
 inside_left (Some bytes) t h = ap (λ l. cond {A = Option Table} l (Some t) None) (le-leb t.hi (length bytes) h)
 
 pub goes_law : GoesLaw
-goes_law old new command reply step slot t = (
-  (λ e. left_inside (finmap.get old.tables slot) (bytes_at new.world.handles.heap slot) t (sym is ∙ e)),
-  (λ h. is ∙ ap (λ p. left_over p (bytes_at new.world.handles.heap slot)) h.0 ∙ inside_left (bytes_at new.world.handles.heap slot) t h.1),
+goes_law format old new command reply step slot t = (
+  (λ e. left_inside (finmap.get old.heaps slot) (bytes_at new.loading.handles.heap slot) t (sym is ∙ e)),
+  (λ h. is ∙ ap (λ p. left_over p (bytes_at new.loading.handles.heap slot)) h.0 ∙ inside_left (bytes_at new.loading.handles.heap slot) t h.1),
 )
   where
-    is : finmap.get new.tables slot ≡ left_over (finmap.get old.tables slot) (bytes_at new.world.handles.heap slot)
-    is = ap (λ (w : LocalWorld). finmap.get w.tables slot) step.1 ∙ left_is new.world.handles.heap old.tables slot
+    is : finmap.get new.heaps slot ≡ left_over (finmap.get old.heaps slot) (bytes_at new.loading.handles.heap slot)
+    is = ap (λ (w : World). finmap.get w.heaps slot) step.1 ∙ left_is new.loading.handles.heap old.heaps slot
 
 -- where there is none there is none afterwards
-module _ (old new : LocalWorld) (slot : ℕ) (none : finmap.get old.tables slot ≡ None) where
+module _ (old new : World) (slot : ℕ) (none : finmap.get old.heaps slot ≡ None) where
   -- a table that is put in the chosen heap's place is put elsewhere
-  put_elsewhere : (at : LocalHeap) → chosen old ≡ Some at → (t : Table) → new.tables ≡ finmap.insert old.tables at.slot t → finmap.get new.tables slot ≡ None
+  put_elsewhere : (at : LocalHeap) → chosen old ≡ Some at → (t : Table) → new.heaps ≡ finmap.insert old.heaps at.slot t → finmap.get new.heaps slot ≡ None
   put_elsewhere at c t put = elim (cases_eq slot at.slot) [
-    | inl e ↦ absurd (never (sym (ap (finmap.get old.tables) e ∙ (chosen_there old at c).table) ∙ none))
-    | inr d ↦ ap (λ m. finmap.get m slot) put ∙ inserted_other old.tables at.slot t slot d ∙ none
+    | inl e ↦ absurd (never (sym (ap (finmap.get old.heaps) e ∙ (chosen_there old at c).table) ∙ none))
+    | inr d ↦ ap (λ m. finmap.get m slot) put ∙ inserted_other old.heaps at.slot t slot d ∙ none
   ]
     where
       never : ◌≡◌ {A = Option Table} (Some at.table) None → ⊥
       never e = cc
 
-  called : (command : LocalCommand) (answer : ℕ) → Outcome old command answer new → (finmap.get new.tables slot ≡ None) ⊎ IsBegun (OfLocals command) (Word answer) new slot
-  called command answer (inl same) = inl (ap (λ (w : LocalWorld). finmap.get w.tables slot) same ∙ none)
+  called : (command : LocalCommand) (answer : ℕ) → Outcome old command answer new → (finmap.get new.heaps slot ≡ None) ⊎ IsBegun (OfLocals command) (Word answer) new slot
+  called command answer (inl same) = inl (ap (λ (w : World). finmap.get w.heaps slot) same ∙ none)
   called command answer (inr (inl init)) = elim (cases_eq slot init.begun.slot) [
     | inl e ↦ inr (record {
       selector = init.selector;
@@ -63,25 +64,25 @@ module _ (old new : LocalWorld) (slot : ℕ) (none : finmap.get old.tables slot 
       asked = ap OfLocals init.asked;
       answered = ap Word init.answered;
       range = init.begun.range;
-      begun = ap (λ (w : LocalWorld). finmap.get w.tables slot) init.rest ∙ inserted_here old.tables init.begun.slot (new_table init.begun.range) slot e;
+      begun = ap (λ (w : World). finmap.get w.heaps slot) init.rest ∙ inserted_here old.heaps init.begun.slot (new_table init.begun.range) slot e;
     })
-    | inr d ↦ inl (ap (λ (w : LocalWorld). finmap.get w.tables slot) init.rest ∙ inserted_other old.tables init.begun.slot (new_table init.begun.range) slot d ∙ none)
+    | inr d ↦ inl (ap (λ (w : World). finmap.get w.heaps slot) init.rest ∙ inserted_other old.heaps init.begun.slot (new_table init.begun.range) slot d ∙ none)
   ]
-  called command answer (inr (inr (at, c, inl (next, stepped, becomes)))) = inl (put_elsewhere at c becomes.table (ap (λ (w : LocalWorld). w.tables) becomes.rest))
-  called command answer (inr (inr (at, c, inr acts))) = inl (put_elsewhere at c acts.table (ap (λ (w : LocalWorld). w.tables) acts.rest))
+  called command answer (inr (inr (at, c, inl (next, stepped, becomes)))) = inl (put_elsewhere at c becomes.table (ap (λ (w : World). w.heaps) becomes.rest))
+  called command answer (inr (inr (at, c, inr acts))) = inl (put_elsewhere at c acts.table (ap (λ (w : World). w.heaps) acts.rest))
 
 pub never_back_law : NeverBackLaw
-never_back_law old new (OfMachine command) reply step slot none = inl (ap (λ (w : LocalWorld). finmap.get w.tables slot) step.1 ∙ left_is new.world.handles.heap old.tables slot ∙ ap (λ p. left_over p (bytes_at new.world.handles.heap slot)) none)
-never_back_law old new (OfLocals (DS selector)) Done step slot none = inl (ap (λ (w : LocalWorld). finmap.get w.tables slot) step ∙ none)
-never_back_law old new (OfLocals command) (Word answer) step slot none = called old new slot none command answer (outcome old command answer new step)
-never_back_law old new (OfLocals command) reply step slot none = absurd step
+never_back_law format old new (OfLoading command) reply step slot none = inl (ap (λ (w : World). finmap.get w.heaps slot) step.1 ∙ left_is new.loading.handles.heap old.heaps slot ∙ ap (λ p. left_over p (bytes_at new.loading.handles.heap slot)) none)
+never_back_law format old new (OfLocals (DS selector)) Done step slot none = inl (ap (λ (w : World). finmap.get w.heaps slot) step ∙ none)
+never_back_law format old new (OfLocals command) (Word answer) step slot none = called old new slot none command answer (outcome old command answer new step)
+never_back_law format old new (OfLocals command) reply step slot none = absurd step
 
 pub gone_law : GoneLaw
-gone_law old new events run none_begins slot none = each old events (Each-from_All BeginsNone events none_begins) run none
+gone_law format old new events run none_begins slot none = each old events (Each-from_All BeginsNone events none_begins) run none
   where
-    each : (now : LocalWorld) (events : List Event) → Each BeginsNone events → Run now events new → finmap.get now.tables slot ≡ None → finmap.get new.tables slot ≡ None
-    each now [] begins run none = ap (λ (w : LocalWorld). finmap.get w.tables slot) run ∙ none
-    each now (event ∷ events) begins run none = elim (never_back_law now event.after event.command event.reply run.0 slot none) [
+    each : (now : World) (events : List Event) → Each BeginsNone events → Run (Step ⊥ format) now events new → finmap.get now.heaps slot ≡ None → finmap.get new.heaps slot ≡ None
+    each now [] begins run none = ap (λ (w : World). finmap.get w.heaps slot) run ∙ none
+    each now (event ∷ events) begins run none = elim (never_back_law format now event.after event.command event.reply run.0 slot none) [
       | inl still ↦ each event.after events begins.1 run.1 still
       | inr begun ↦ absurd (begins.0 begun.selector begun.start begun.end begun.asked begun.answered)
     ]

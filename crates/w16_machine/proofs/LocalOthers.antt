@@ -21,8 +21,9 @@ use Rattle.w16_model.proofs.KeptRest.{rest_law}
 use Rattle.w16_model.proofs.Others.{others_law}
 use Rattle.w16_model.proofs.Outcomes.{address_law}
 use Rattle.w16_model.proofs.Reallocations.{asked, moves_law}
-use Rattle.w16_machine.specs.Machine.Reply.{Word, Done}
-use Rattle.w16_machine.specs.Local.{LocalWorld, LocalHeap, IsLocalWorld, segment_bytes, heap_of, local_in, chosen, name_at, new_table, rounded_up}
+use Rattle.w16_loading.specs.Replies.Reply.{Word, Done}
+use Rattle.w16_machine.specs.World.{World}
+use Rattle.w16_machine.specs.Local.{LocalHeap, AreLocalHeaps, segment_bytes, heap_of, local_in, chosen, name_at, new_table, rounded_up}
 use Rattle.w16_machine.specs.LocalCalls.{LocalCommand, ResizesObject, local_kind, local_way, moveable_or_discardable}
 use Rattle.w16_machine.specs.LocalCalls.LocalCommand.{DS}
 use Rattle.w16_machine.specs.LocalLaw.{IsLocalKept, OthersLaw, named_by}
@@ -163,7 +164,7 @@ module _ (old : Heap) (q : ℕ) (o : Object) (there : object_at old q ≡ Some o
         turn (Some p) h g = room_kept new (Some id) h.count (local_way flags).compact (not_some id other) h.others g.others
 
 -- In a local heap.
-module _ (old : LocalWorld) (is : IsLocalWorld old) (at : LocalHeap) (c : chosen old ≡ Some at) (command : LocalCommand) (answer q : ℕ) (o : Object) (there : object_at (heap_of at) q ≡ Some o) (unnamed : (name : ℕ) → named_by command ≡ Some name → name_at (heap_of at) q ≢ Some name) where
+module _ (old : World) (is : AreLocalHeaps old) (at : LocalHeap) (c : chosen old ≡ Some at) (command : LocalCommand) (answer q : ℕ) (o : Object) (there : object_at (heap_of at) q ≡ Some o) (unnamed : (name : ℕ) → named_by command ≡ Some name → name_at (heap_of at) q ≢ Some name) where
   here : IsThere old at
   here = chosen_there old at c
 
@@ -196,13 +197,13 @@ module _ (old : LocalWorld) (is : IsLocalWorld old) (at : LocalHeap) (c : chosen
   same_kept_local after e = let same : at ≡ after = cc in subst (λ (h : LocalHeap). IsLocalKept (heap_of at) (heap_of h) q o) same (itself_kept (heap_of at) q o there)
 
   -- the heap that was done something in is the chosen one
-  in_place : (new : LocalWorld) (after mine : LocalHeap) → local_in new at.slot ≡ Some after → IsThere new mine → mine.slot ≡ at.slot → IsLocalKept (heap_of at) (heap_of mine) q o → IsLocalKept (heap_of at) (heap_of after) q o
+  in_place : (new : World) (after mine : LocalHeap) → local_in new at.slot ≡ Some after → IsThere new mine → mine.slot ≡ at.slot → IsLocalKept (heap_of at) (heap_of mine) q o → IsLocalKept (heap_of at) (heap_of after) q o
   in_place new after mine e now same kept =
       let both : ◌≡◌ {A = Option LocalHeap} (Some mine) (Some after) = sym (there_local new mine now) ∙ ap (local_in new) same ∙ e in
       let is_after : mine ≡ after = cc in
       subst (λ (h : LocalHeap). IsLocalKept (heap_of at) (heap_of h) q o) is_after kept
 
-  done_kept : (new : LocalWorld) (after : LocalHeap) → local_in new at.slot ≡ Some after → IsDone old command answer new at → IsLocalKept (heap_of at) (heap_of after) q o
+  done_kept : (new : World) (after : LocalHeap) → local_in new at.slot ≡ Some after → IsDone old command answer new at → IsLocalKept (heap_of at) (heap_of after) q o
   done_kept new after e (inl (next, stepped, becomes)) = in_place new after (record { slot = at.slot; table = becomes.table; bytes = at.bytes }) e
       (became_there old new at next here becomes) refl (subst (λ (h : Heap). IsLocalKept (heap_of at) h q o) (sym becomes.same) (stepped_kept next stepped))
   done_kept new after e (inr acts) =
@@ -211,13 +212,13 @@ module _ (old : LocalWorld) (is : IsLocalWorld old) (at : LocalHeap) (c : chosen
   taken : ◌≡◌ {A = Option Table} (Some at.table) None → ⊥
   taken e = cc
 
-  called_kept : (new : LocalWorld) (after : LocalHeap) → local_in new at.slot ≡ Some after → Outcome old command answer new → IsLocalKept (heap_of at) (heap_of after) q o
-  called_kept new after e (inl same) = same_kept_local after (sym (there_local old at here) ∙ ap (λ (w : LocalWorld). local_in w at.slot) (sym same) ∙ e)
+  called_kept : (new : World) (after : LocalHeap) → local_in new at.slot ≡ Some after → Outcome old command answer new → IsLocalKept (heap_of at) (heap_of after) q o
+  called_kept new after e (inl same) = same_kept_local after (sym (there_local old at here) ∙ ap (λ (w : World). local_in w at.slot) (sym same) ∙ e)
   called_kept new after e (inr (inl init)) = elim (cases_eq at.slot init.begun.slot) [
-    | inl f ↦ absurd (taken (sym here.table ∙ ap (finmap.get old.tables) f ∙ ((begin_law old init.selector init.start init.end init.begun).0 init.may).none))
+    | inl f ↦ absurd (taken (sym here.table ∙ ap (finmap.get old.heaps) f ∙ ((begin_law old init.selector init.start init.end init.begun).0 init.may).none))
     | inr d ↦ same_kept_local after (sym (there_local new at (record {
-      table = ap (λ (w : LocalWorld). finmap.get w.tables at.slot) init.rest ∙ inserted_other old.tables init.begun.slot (new_table init.begun.range) at.slot d ∙ here.table;
-      bytes = ap (λ (w : LocalWorld). segment_bytes w at.slot) init.rest ∙ here.bytes;
+      table = ap (λ (w : World). finmap.get w.heaps at.slot) init.rest ∙ inserted_other old.heaps init.begun.slot (new_table init.begun.range) at.slot d ∙ here.table;
+      bytes = ap (λ (w : World). segment_bytes w at.slot) init.rest ∙ here.bytes;
       inside = here.inside;
     })) ∙ e)
   ]
@@ -227,6 +228,6 @@ module _ (old : LocalWorld) (is : IsLocalWorld old) (at : LocalHeap) (c : chosen
       done_kept new after e (subst (IsDone old command answer new) same done)
 
 pub local_others_law : OthersLaw
-local_others_law old new (DS selector) Done at after q o is step c e there unnamed = same_kept_local old is at c (DS selector) 0 q o there unnamed after (sym (there_local old at (chosen_there old at c)) ∙ ap (λ (w : LocalWorld). local_in w at.slot) (sym step) ∙ e)
+local_others_law old new (DS selector) Done at after q o is step c e there unnamed = same_kept_local old is at c (DS selector) 0 q o there unnamed after (sym (there_local old at (chosen_there old at c)) ∙ ap (λ (w : World). local_in w at.slot) (sym step) ∙ e)
 local_others_law old new command (Word answer) at after q o is step c e there unnamed = called_kept old is at c command answer q o there unnamed new after e (outcome old command answer new step)
 local_others_law old new command reply at after q o is step c e there unnamed = absurd step

@@ -7,7 +7,8 @@ use Rattle.w16_model.specs.Table.{heap_in}
 use Rattle.w16_model.specs.OneObject.{Enters, after_lock, after_unlock, after_free, after_discard, after_modify}
 use Rattle.w16_model.specs.Calls.{has_flag}
 use Rattle.w16_machine.specs.declared.local.TheConstants.{LMEM_MOVEABLE, LMEM_MODIFY}
-use Rattle.w16_machine.specs.Local.{LocalWorld, LocalHeap, LocalObject, Beginning, Becomes, Acts, Stays, IsLowestFree, heap_of, chosen, object_named, id_named, beginning, new_table, with_table}
+use Rattle.w16_machine.specs.World.{World}
+use Rattle.w16_machine.specs.Local.{LocalHeap, LocalObject, Beginning, Becomes, Acts, Stays, IsLowestFree, heap_of, chosen, object_named, id_named, beginning, new_table, with_table}
 use Rattle.w16_machine.specs.LocalCalls.{LocalCommand, Answers, Leaves, GivesUp, EntersObject, AllocatesObject, ResizesObject, is_absent_asked, local_kind, AllocatesIn, CompactsIn, LocalInits, OnNamed, ModifiesObject, DiscardsObject, SizesObject, moveable_or_discardable, lock_refused, locks_left, near_pointer}
 use Rattle.w16_machine.specs.LocalCalls.LocalCommand.{LocalInit, LocalAlloc, LocalReAlloc, LocalDiscard, LocalFree, LocalLock, LocalUnlock, LocalSize, LocalFlags, LocalHandle, LocalCompact, DS}
 use Rattle.w16_machine.specs.LocalLaw.{named_by}
@@ -38,7 +39,7 @@ IsRoomed heap command answer next =
     ⊎ ((id : ℕ) × IsNamedIn heap command id × IsGivenUp heap id next)
 
 -- LocalInit began a heap
-pub record IsInit (old : LocalWorld) (command : LocalCommand) (answer : ℕ) (new : LocalWorld) : Type 0 where
+pub record IsInit (old : World) (command : LocalCommand) (answer : ℕ) (new : World) : Type 0 where
   pub selector : ℕ
   pub start : ℕ
   pub end : ℕ
@@ -57,13 +58,13 @@ abbrev pub IsStepped : Heap → LocalCommand → Heap → Type 0
 IsStepped heap command next = ((id : ℕ) × IsNamedIn heap command id × IsAltered heap id next) ⊎ IsEntered heap next
 
 -- what was done in a local heap
-abbrev pub IsDone : LocalWorld → LocalCommand → ℕ → LocalWorld → LocalHeap → Type 0
+abbrev pub IsDone : World → LocalCommand → ℕ → World → LocalHeap → Type 0
 IsDone old command answer new at = ((next : Heap) × IsStepped (heap_of at) command next × Becomes old at next new) ⊎ Acts old at (IsRoomed (heap_of at) command answer) new
 
-abbrev pub Outcome : LocalWorld → LocalCommand → ℕ → LocalWorld → Type 0
+abbrev pub Outcome : World → LocalCommand → ℕ → World → Type 0
 Outcome old command answer new = (new ≡ old) ⊎ IsInit old command answer new ⊎ ((at : LocalHeap) × (chosen old ≡ Some at) × IsDone old command answer new at)
 
-acts_as : (old : LocalWorld) (at : LocalHeap) (P Q : Heap → Type 0) (new : LocalWorld) → ((heap : Heap) → P heap → Q heap) → Acts old at P new → Acts old at Q new
+acts_as : (old : World) (at : LocalHeap) (P Q : Heap → Type 0) (new : World) → ((heap : Heap) → P heap → Q heap) → Acts old at P new → Acts old at Q new
 acts_as old at P Q new f a = record {
   table = a.table;
   bytes = a.bytes;
@@ -76,7 +77,7 @@ acts_as old at P Q new f a = record {
   rest = a.rest;
 }
 
-module _ (old : LocalWorld) (command : LocalCommand) (answer : ℕ) (new : LocalWorld) where
+module _ (old : World) (command : LocalCommand) (answer : ℕ) (new : World) where
   abbrev Out : Type 0
   Out = Outcome old command answer new
 
@@ -156,7 +157,7 @@ module _ (old : LocalWorld) (command : LocalCommand) (answer : ℕ) (new : Local
       modify true l = leaves o c named (after_modify (heap_of o.heap) o.id (moveable_or_discardable flags)) (λ next e. inr (inr (flags, e))) (λ _. name) (λ _. name) l
       modify false s = by_size (size == 0) s
 
-pub outcome : (old : LocalWorld) (command : LocalCommand) (answer : ℕ) (new : LocalWorld) → Answers old command answer new → Outcome old command answer new
+pub outcome : (old : World) (command : LocalCommand) (answer : ℕ) (new : World) → Answers old command answer new → Outcome old command answer new
 outcome old (LocalInit selector start end) answer new step = inits old (LocalInit selector start end) answer new selector start end refl step
 outcome old (LocalAlloc flags size) answer new step = on_chosen old (LocalAlloc flags size) answer new (AllocatesIn old flags size answer new) (allocates old (LocalAlloc flags size) answer new flags size) step
 outcome old (LocalReAlloc name size flags) answer new step =

@@ -8,12 +8,13 @@ use Rattle.w16_model.specs.Calls.{has_flag}
 use Rattle.w16_model.proofs.Prefixes.{none_about}
 use Rattle.w16_model.proofs.Reallocations.{asked}
 use Rattle.w16_machine.specs.declared.local.TheConstants.{LMEM_MOVEABLE}
-use Rattle.w16_machine.specs.Local.{LocalWorld, LocalHeap, Becomes, Acts, IsLowestFree, heap_of, rounded_up}
+use Rattle.w16_machine.specs.World.{World}
+use Rattle.w16_machine.specs.Local.{LocalHeap, Becomes, Acts, IsLowestFree, heap_of, rounded_up}
 use Rattle.w16_machine.specs.LocalCalls.{EntersObject, AllocatesObject, is_absent_asked, local_kind, local_way}
 use Rattle.w16_machine.specs.LocalLaw.{OutcomeLaw}
 
 -- what isn't asked to be without bytes was made with some, for which there was room
-module _ (old new : LocalWorld) (at : LocalHeap) (flags size id answer : ℕ) where
+module _ (old new : World) (at : LocalHeap) (flags size id answer : ℕ) where
   abbrev Made : Bool → Type 0
   Made b = MatchBool b ((next : Heap) × EntersObject (heap_of at) flags id answer next × Becomes old at next new) (Acts old at (AllocatesObject (heap_of at) flags size id answer) new)
 

@@ -1,27 +1,23 @@
--- Each step of each family keeps what holds of every world with local heaps.
-use Rattle.std.proofs.Common.{◌≡◌, ◌≢◌, ℕ, ◌<◌, ◌≤◌, inl, inr, Bool, true, false, cond, nat_le, IfSome, IsSomeAnd, List, [], ◌∷◌, length, All, Option, Some, None, option_map, refl, sym, ap, ◌∙◌, subst, arith, leb-true}
-use Rattle.std.specs.List.{AllByRecursion as Each}
+-- Each step of each family keeps what holds of local heaps.
+use Rattle.std.proofs.Common.{◌≡◌, ◌≢◌, ℕ, ◌<◌, ◌≤◌, inl, inr, Bool, true, false, cond, nat_le, IfSome, IsSomeAnd, List, length, All, Option, Some, None, option_map, refl, sym, ap, ◌∙◌, subst, arith, leb-true}
 use Rattle.std.specs.Ordering.{nat_cmp}
 use Rattle.std.specs.FinMap as finmap
-use Rattle.std.specs.FinMap.{FinMap, get-empty, get-retain_keys, nat_cmp-IsAntisymmetric}
+use Rattle.std.specs.FinMap.{FinMap, get-retain_keys, nat_cmp-IsAntisymmetric}
 use Rattle.std.proofs.lemmas.Bool.{cases_eq}
 use Rattle.w16_model.specs.Heap.{Heap, Object, object_at, bytes_at}
 use Rattle.w16_model.specs.Far.{after_write}
 use Rattle.w16_model.specs.Handles.{AreHandles}
 use Rattle.w16_model.specs.Table.{Table, heap_in}
-use Rattle.w16_model.proofs.Gaps.{Each-from_All}
 use Rattle.w16_model.proofs.KeptHandles.{other_handles, same_updated}
 use Rattle.w16_model.proofs.KeptHeaps.{bytes_in, inserted_here, inserted_other, written_heap}
 use Rattle.w16_model.specs.Bytes.{put_part}
-use Rattle.w16_machine.specs.World.{IsWorld}
-use Rattle.w16_machine.specs.Machine.Reply.{Word, Done}
-use Rattle.w16_machine.specs.Local.{LocalWorld, LocalHeap, IsLocalWorld, IsLocalIn, AreNamed, Becomes, Acts, segment_bytes, heap_of, empty_local_world, has_range, left_in, new_table, with_table, with_local}
-use Rattle.w16_machine.specs.LocalCalls.{LocalCommand}
+use Rattle.w16_machine.specs.World.{World}
+use Rattle.w16_loading.specs.Replies.{Reply}
+use Rattle.w16_loading.specs.Replies.Reply.{Word, Done}
+use Rattle.w16_machine.specs.Local.{LocalHeap, AreLocalHeaps, IsLocalIn, AreNamed, Becomes, Acts, segment_bytes, heap_of, has_range, left_in, new_table, with_table, with_local}
+use Rattle.w16_machine.specs.LocalCalls.{LocalCommand, LocalStep}
 use Rattle.w16_machine.specs.LocalCalls.LocalCommand.{DS}
-use Rattle.w16_machine.specs.LocalMachine.{Event, IsCommand, Run, beside}
-use Rattle.w16_machine.specs.LocalMachine.Command.{OfMachine, OfLocals}
-use Rattle.w16_machine.specs.LocalLaw.{EmptyLaw, WorldLaw, RunLaw}
-use Rattle.w16_machine.proofs.Worlds.{empty_world_law, world_law}
+use Rattle.w16_machine.specs.Machine.{after_loading}
 use Rattle.w16_machine.proofs.LocalFacts.{IsThere, chosen_there, local_here, heap_here, object_of, segment_after, segment_other}
 use Rattle.w16_machine.proofs.LocalBegins.{begin_law, new_local}
 use Rattle.w16_machine.proofs.LocalNamed.{named_in, roomed_named, stepped_named}
@@ -30,12 +26,6 @@ use Rattle.w16_machine.proofs.LocalOutcomes.{Outcome, IsRoomed, outcome}
 -- what is so of each slot
 abbrev pub IsLocalAt : Option Table → Option (List ℕ) → Type 0
 IsLocalAt t b = IfSome t (λ t. IsSomeAnd b (IsLocalIn t))
-
-pub empty_local_law : EmptyLaw
-empty_local_law memory slots few = record {
-  world = empty_world_law memory slots few;
-  locals = λ slot. subst (λ t. IfSome t (λ t. IsSomeAnd (segment_bytes (empty_local_world memory slots) slot) (IsLocalIn t))) (sym (get-empty nat_cmp slot)) tt;
-}
 
 -- Local heaps that go.
 
@@ -56,8 +46,8 @@ left_is heap tables slot =
     turn (Some t) (Some bytes) = refl
 
 -- a step of another family
-pub machine_world : (old new : LocalWorld) → IsLocalWorld old → IsWorld new.world → new ≡ beside old new.world → IsLocalWorld new
-machine_world old new is world rest = subst IsLocalWorld (sym rest) (record { world = world; locals = λ slot. subst (λ t. IsLocalAt t (bytes_at new.world.handles.heap slot)) (sym (left_is new.world.handles.heap old.tables slot)) (turn (finmap.get old.tables slot) (segment_bytes old slot) (bytes_at new.world.handles.heap slot) (is.locals slot)) })
+pub heaps_after : (old new : World) → AreLocalHeaps old → AreHandles new.loading.handles → new ≡ after_loading old new.loading → AreLocalHeaps new
+heaps_after old new is handles rest = subst AreLocalHeaps (sym rest) (record { handles = handles; heaps = λ slot. subst (λ t. IsLocalAt t (bytes_at new.loading.handles.heap slot)) (sym (left_is new.loading.handles.heap old.heaps slot)) (turn (finmap.get old.heaps slot) (segment_bytes old slot) (bytes_at new.loading.handles.heap slot) (is.heaps slot)) })
   where
     inside : (t : Table) (before after : List ℕ) → IsLocalIn t before → (b : Bool) → nat_le t.hi (length after) ≡ b → IsLocalAt (cond b (Some t) None) (Some after)
     inside t before after h true e = let le : t.hi ≤ length after = leb-true t.hi (length after) e in (h.0, le, named_in t h.0.sound.table before after h.1 le h.2)
@@ -70,44 +60,44 @@ machine_world old new is world rest = subst IsLocalWorld (sym rest) (record { wo
     turn (Some t) (Some before) (Some after) h = inside t before after h (nat_le t.hi (length after)) refl
 
 -- A world with another table of a local heap, over the same bytes or others of its segment.
-module _ (old : LocalWorld) (is : IsLocalWorld old) where
+module _ (old : World) (is : AreLocalHeaps old) where
   -- one table is put in
-  locals_put : (new : LocalWorld) (slot : ℕ) (t : Table) → new.tables ≡ finmap.insert old.tables slot t → IsSomeAnd (segment_bytes new slot) (IsLocalIn t) → ((q : ℕ) → q ≢ slot → segment_bytes new q ≡ segment_bytes old q) → (q : ℕ) → IsLocalAt (finmap.get new.tables q) (segment_bytes new q)
+  locals_put : (new : World) (slot : ℕ) (t : Table) → new.heaps ≡ finmap.insert old.heaps slot t → IsSomeAnd (segment_bytes new slot) (IsLocalIn t) → ((q : ℕ) → q ≢ slot → segment_bytes new q ≡ segment_bytes old q) → (q : ℕ) → IsLocalAt (finmap.get new.heaps q) (segment_bytes new q)
   locals_put new slot t put here others q = subst (λ m. IsLocalAt (finmap.get m q) (segment_bytes new q)) (sym put) (elim (cases_eq q slot) [
-    | inl e ↦ subst (λ p. IsLocalAt p (segment_bytes new q)) (sym (inserted_here old.tables slot t q e)) (subst (λ k. IsSomeAnd (segment_bytes new k) (IsLocalIn t)) (sym e) here)
-    | inr d ↦ subst (λ p. IsLocalAt p (segment_bytes new q)) (sym (inserted_other old.tables slot t q d)) (subst (λ b. IsLocalAt (finmap.get old.tables q) b) (sym (others q d)) (is.locals q))
+    | inl e ↦ subst (λ p. IsLocalAt p (segment_bytes new q)) (sym (inserted_here old.heaps slot t q e)) (subst (λ k. IsSomeAnd (segment_bytes new k) (IsLocalIn t)) (sym e) here)
+    | inr d ↦ subst (λ p. IsLocalAt p (segment_bytes new q)) (sym (inserted_other old.heaps slot t q d)) (subst (λ b. IsLocalAt (finmap.get old.heaps q) b) (sym (others q d)) (is.heaps q))
   ])
 
-  tabled_world : (slot : ℕ) (t : Table) → IsSomeAnd (segment_bytes old slot) (IsLocalIn t) → IsLocalWorld (with_table old slot t)
-  tabled_world slot t here = record { world = is.world; locals = locals_put (with_table old slot t) slot t refl here (λ q d. refl) }
+  tabled_world : (slot : ℕ) (t : Table) → IsSomeAnd (segment_bytes old slot) (IsLocalIn t) → AreLocalHeaps (with_table old slot t)
+  tabled_world slot t here = record { handles = is.handles; heaps = locals_put (with_table old slot t) slot t refl here (λ q d. refl) }
 
   module _ (at : LocalHeap) (there : IsThere old at) where
-    becomes_world : (heap : Heap) (new : LocalWorld) → AreNamed heap → Becomes old at heap new → IsLocalWorld new
-    becomes_world heap new named b = subst IsLocalWorld (sym b.rest) (tabled_world at.slot b.table (subst (λ p. IsSomeAnd p (IsLocalIn b.table)) (sym there.bytes)
+    becomes_world : (heap : Heap) (new : World) → AreNamed heap → Becomes old at heap new → AreLocalHeaps new
+    becomes_world heap new named b = subst AreLocalHeaps (sym b.rest) (tabled_world at.slot b.table (subst (λ p. IsSomeAnd p (IsLocalIn b.table)) (sym there.bytes)
         (b.is_local, omega (arith, b.range.1, (local_here old is at there).1), subst AreNamed (sym b.same) named)))
 
     -- the global heap with other bytes in the segment
-    written : (o : Object) → object_at old.world.handles.heap at.slot ≡ Some o → o.bytes ≡ Some at.bytes → (bytes : List ℕ) → length bytes ≡ length at.bytes → All (λ b. b < 256) bytes → AreHandles (record old.world.handles { heap = after_write old.world.handles.heap at.slot 0 bytes })
-    written o has has_bytes bytes long are_bytes = other_handles old.world.handles is.world.handles (after_write old.world.handles.heap at.slot 0 bytes)
-        (written_heap old.world.handles.heap is.world.handles.heap at.slot o has at.bytes has_bytes 0 bytes (omega (arith, long)) are_bytes) refl refl
-        (same_updated old.world.handles.heap.objects at.slot (λ (o : Object). record o { bytes = option_map (λ old. put_part old 0 bytes) o.bytes }))
+    written : (o : Object) → object_at old.loading.handles.heap at.slot ≡ Some o → o.bytes ≡ Some at.bytes → (bytes : List ℕ) → length bytes ≡ length at.bytes → All (λ b. b < 256) bytes → AreHandles (record old.loading.handles { heap = after_write old.loading.handles.heap at.slot 0 bytes })
+    written o has has_bytes bytes long are_bytes = other_handles old.loading.handles is.handles (after_write old.loading.handles.heap at.slot 0 bytes)
+        (written_heap old.loading.handles.heap is.handles.heap at.slot o has at.bytes has_bytes 0 bytes (omega (arith, long)) are_bytes) refl refl
+        (same_updated old.loading.handles.heap.objects at.slot (λ (o : Object). record o { bytes = option_map (λ old. put_part old 0 bytes) o.bytes }))
 
-    acts_world : (P : Heap → Type 0) (new : LocalWorld) → ((heap : Heap) → P heap → AreNamed heap) → Acts old at P new → IsLocalWorld new
+    acts_world : (P : Heap → Type 0) (new : World) → ((heap : Heap) → P heap → AreNamed heap) → Acts old at P new → AreLocalHeaps new
     acts_world P new named a =
-        let o : (o : Object) × (object_at old.world.handles.heap at.slot ≡ Some o) × (o.bytes ≡ Some at.bytes) = object_of old.world.handles.heap at.slot at.bytes there.bytes in
-        subst IsLocalWorld (sym a.rest) (record {
-          world = record { handles = written o.0 o.1 o.2 a.bytes a.long a.are_bytes };
-          locals = locals_put (with_local old at.slot a.table a.bytes) at.slot a.table refl
-              (subst (λ p. IsSomeAnd p (IsLocalIn a.table)) (sym (ap bytes_in (segment_after old.world.handles.heap at.slot o.0 o.1 at.bytes o.2 a.bytes a.long)))
+        let o : (o : Object) × (object_at old.loading.handles.heap at.slot ≡ Some o) × (o.bytes ≡ Some at.bytes) = object_of old.loading.handles.heap at.slot at.bytes there.bytes in
+        subst AreLocalHeaps (sym a.rest) (record {
+          handles = written o.0 o.1 o.2 a.bytes a.long a.are_bytes;
+          heaps = locals_put (with_local old at.slot a.table a.bytes) at.slot a.table refl
+              (subst (λ p. IsSomeAnd p (IsLocalIn a.table)) (sym (ap bytes_in (segment_after old.loading.handles.heap at.slot o.0 o.1 at.bytes o.2 a.bytes a.long)))
               (a.is_local, omega (arith, a.range.1, a.long, (local_here old is at there).1), named (heap_in a.table a.bytes) a.acted))
-              (λ q d. ap bytes_in (segment_other old.world.handles.heap at.slot a.bytes q d));
+              (λ q d. ap bytes_in (segment_other old.loading.handles.heap at.slot a.bytes q d));
         })
 
   -- by what a local call does
-  pub local_world : (command : LocalCommand) (answer : ℕ) (new : LocalWorld) → Outcome old command answer new → IsLocalWorld new
-  local_world command answer new (inl same) = subst IsLocalWorld (sym same) is
+  pub local_world : (command : LocalCommand) (answer : ℕ) (new : World) → Outcome old command answer new → AreLocalHeaps new
+  local_world command answer new (inl same) = subst AreLocalHeaps (sym same) is
   local_world command answer new (inr (inl init)) =
-      subst IsLocalWorld (sym init.rest) (tabled_world init.begun.slot (new_table init.begun.range) (new_local old init.selector init.start init.end init.begun ((begin_law old init.selector init.start init.end init.begun).0 init.may)))
+      subst AreLocalHeaps (sym init.rest) (tabled_world init.begun.slot (new_table init.begun.range) (new_local old init.selector init.start init.end init.begun ((begin_law old init.selector init.start init.end init.begun).0 init.may)))
   local_world command answer new (inr (inr (at, c, inl (next, stepped, becomes)))) =
       let there : IsThere old at = chosen_there old at c in
       becomes_world at there next new (stepped_named (heap_of at) (local_here old is at there).2 command next stepped) becomes
@@ -115,15 +105,7 @@ module _ (old : LocalWorld) (is : IsLocalWorld old) where
       let there : IsThere old at = chosen_there old at c in
       acts_world at there (IsRoomed (heap_of at) command answer) new (λ heap room. roomed_named (heap_of at) (local_here old is at there).2 (heap_here old is at there) command answer heap room) acts
 
-pub local_world_law : WorldLaw
-local_world_law old new (OfMachine command) reply is known step = machine_world old new is (world_law old.world new.world command reply is.world known step.0) step.1
-local_world_law old new (OfLocals (DS selector)) Done is known step = subst IsLocalWorld (sym step) (record { world = is.world; locals = is.locals })
-local_world_law old new (OfLocals command) (Word answer) is known step = local_world old is command answer new (outcome old command answer new step)
-local_world_law old new (OfLocals command) reply is known step = absurd step
-
-pub local_run_law : RunLaw
-local_run_law old new events is known run = each old events is (Each-from_All (λ e. IsCommand e.command) events known) run
-  where
-    each : (now : LocalWorld) (events : List Event) → IsLocalWorld now → Each (λ e. IsCommand e.command) events → Run now events new → IsLocalWorld new
-    each now [] is known run = subst IsLocalWorld (sym run) is
-    each now (event ∷ events) is known run = each event.after events (local_world_law now event.after event.command event.reply is known.0 run.0) known.1 run.1
+pub local_heaps_kept : (old new : World) (command : LocalCommand) (reply : Reply) → AreLocalHeaps old → LocalStep old command reply new → AreLocalHeaps new
+local_heaps_kept old new (DS selector) Done is step = subst AreLocalHeaps (sym step) (record { handles = is.handles; heaps = is.heaps })
+local_heaps_kept old new command (Word answer) is step = local_world old is command answer new (outcome old command answer new step)
+local_heaps_kept old new command reply is step = absurd step

@@ -1,42 +1,121 @@
--- Each step of the machine keeps what holds of every world, as each family's does.
+-- Each step, and so each run, keeps what holds of every world of the machine.
+use Rattle.std.proofs.Common.{◌≡◌, ℕ, inl, inr, ◌⊎◌, Bool, true, false, cond, nat_le, length, IfSome, IsSomeAnd, List, [], ◌∷◌, Option, Some, None, is_some, option_map, unwrap_or, refl, sym, ap, ◌∙◌, subst}
+use Rattle.std.specs.List.{AllByRecursion as Each}
+use Rattle.std.specs.Ordering.{nat_cmp}
+use Rattle.std.specs.FinMap as finmap
+use Rattle.std.specs.FinMap.{get-empty}
+use Rattle.w16_model.specs.declared.Owned.{Owned}
+use Rattle.w16_model.specs.Heap.{Object, bytes_at, object_at}
+use Rattle.w16_model.specs.Owned.{is_code, owned_at}
+use Rattle.w16_model.specs.Table.{Table}
 use Rattle.w16_model.proofs.Empty.{empty_law}
-use Rattle.w16_model.proofs.KeptHandles.{handle_law, far_law}
-use Rattle.w16_model.proofs.ResizedHandles.{resize_law}
-use Rattle.w16_model.specs.declared.TheConstants.{GMEM_MOVEABLE}
-use Rattle.w16_model.specs.Handles.{Handles, AreHandles}
-use Rattle.w16_model.specs.Calls.{Answer}
-use Rattle.w16_machine.specs.Resizes.{ResizeCommand, ResizeStep}
-use Rattle.w16_machine.specs.Resizes.ResizeCommand.{GlobalReAlloc, GlobalDiscard}
-use Rattle.w16_machine.specs.Machine.Command.{OfHandles, OfResizes, OfFar}
-use Rattle.w16_machine.specs.Machine.Reply.{Word, Dword, Bytes, Done, Fault, Walked}
-use Rattle.w16_machine.specs.Law.{EmptyLaw, WorldLaw}
-use Rattle.w16_model.specs.Calls as calls
-use Rattle.w16_model.specs.Far as far
+use Rattle.w16_model.proofs.Gaps.{Each-from_All}
+use Rattle.w16_loading.specs.AnyStore.{AnyStep}
+use Rattle.w16_loading.specs.Families.{LoadingCommand, IsLoadingCommand}
+use Rattle.w16_loading.specs.File.{Format}
+use Rattle.w16_loading.specs.Law.{IsLoadingWorld}
+use Rattle.w16_loading.specs.Replies.{Reply}
+use Rattle.w16_loading.proofs.Begun.{empty_law as empty_loading_law, empty_of_files_law}
+use Rattle.w16_loading.proofs.CodeLaw.{code_law}
+use Rattle.w16_loading.proofs.KeptOwners.{owners_law}
+use Rattle.w16_loading.proofs.WorldLaw.{any_keeps_worlds_law}
+use Rattle.w16_machine.specs.World.{World, empty_world}
+use Rattle.w16_machine.specs.Local.{IsLocalIn, segment_bytes}
+use Rattle.w16_machine.specs.Machine.{Command, IsCommand, Event, Step, Run, after_loading}
+use Rattle.w16_machine.specs.Machine.Command.{OfLoading, OfLocals}
+use Rattle.w16_machine.specs.Fewest.{AreFewest}
+use Rattle.w16_machine.specs.Law.{IsWorld, IsWorldOfFiles, EmptyLaw, WorldLaw, FilesLaw, RunWorldLaw, RunFilesLaw, FewestLaw}
+use Rattle.w16_machine.proofs.Discards.{step_fewest}
+use Rattle.w16_machine.proofs.LocalModules.{local_files_kept, local_world_kept}
+use Rattle.w16_machine.proofs.LocalWorlds.{heaps_after, left_is, left_over}
 
 pub empty_world_law : EmptyLaw
-empty_world_law memory slots few = record { handles = empty_law memory slots few }
+empty_world_law format memory slots files failures few = (
+  record {
+    loading = empty_loading_law memory slots files failures few;
+    heaps = record {
+      handles = empty_law memory slots few;
+      heaps = λ slot. subst (λ t. IfSome t (λ t. IsSomeAnd (segment_bytes w slot) (IsLocalIn t))) (sym (get-empty nat_cmp slot)) tt;
+    };
+    uncoded = λ slot. subst (λ (t : Option Table). IfSome t (λ _. is_code w.loading.handles slot ≡ false)) (sym (get-empty nat_cmp slot)) tt;
+  },
+  empty_of_files_law format memory slots files failures,
+)
+  where
+    w : World
+    w = empty_world memory slots files failures
 
-resized_law : (old new : Handles) (command : ResizeCommand) (answer : Answer) → AreHandles old → ResizeStep old command answer new → AreHandles new
-resized_law old new (GlobalReAlloc handle size flags) (calls.Answer.Word answer) is step = resize_law old new handle size flags answer is step
-resized_law old new (GlobalDiscard handle) (calls.Answer.Word answer) is step = resize_law old new handle 0 GMEM_MOVEABLE answer is step
-resized_law old new command answer is step = absurd step
+-- A step of loading leaves no local heap in code: where one is left there was one, in an object that was none, and no such object becomes code.
+module _ (old new : World) (is : IsWorld old) (command : LoadingCommand) (reply : Reply) (step : AnyStep old.loading command reply new.loading) (rest : new ≡ after_loading old new.loading) where
+  still : (p : Option Owned) (r : Option Owned) → (r ≡ p) ⊎ (r ≡ None) → unwrap_or (option_map (λ (o : Owned). o.code) p) false ≡ false → unwrap_or (option_map (λ (o : Owned). o.code) r) false ≡ false
+  still p r (inl same) e = ap (λ p. unwrap_or (option_map (λ (o : Owned). o.code) p) false) same ∙ e
+  still p r (inr none) e = ap (λ p. unwrap_or (option_map (λ (o : Owned). o.code) p) false) none
+
+  has_object : (p : Option Object) → IsSomeAnd (elim p as (λ _. Option (List ℕ)) [ Some o ↦ o.bytes | None ↦ None ]) (λ _. Unit {0}) → is_some p ≡ true
+  has_object None h = absurd h
+  has_object (Some o) h = refl
+
+  some_bytes : (P : List ℕ → Type 0) (b : Option (List ℕ)) → IsSomeAnd b P → IsSomeAnd b (λ _. Unit {0})
+  some_bytes P None h = absurd h
+  some_bytes P (Some b) h = tt
+
+  uncoded : (slot : ℕ) → IfSome (finmap.get new.heaps slot) (λ _. is_code new.loading.handles slot ≡ false)
+  uncoded slot = subst (λ p. IfSome p (λ _. is_code new.loading.handles slot ≡ false))
+      (sym (ap (λ (w : World). finmap.get w.heaps slot) rest ∙ left_is new.loading.handles.heap old.heaps slot))
+      (turn (finmap.get old.heaps slot) (bytes_at new.loading.handles.heap slot) (is.heaps.heaps slot) (is.uncoded slot))
+    where
+      here : (t : Table) → IsSomeAnd (segment_bytes old slot) (IsLocalIn t) → is_code old.loading.handles slot ≡ false → is_code new.loading.handles slot ≡ false
+      here t h e = still (owned_at old.loading.handles slot) (owned_at new.loading.handles slot)
+          (owners_law old.loading new.loading command reply is.loading step slot (has_object (object_at old.loading.handles.heap slot) (some_bytes (IsLocalIn t) (segment_bytes old slot) h))) e
+
+      left : (t : Table) (b : Bool) → is_code new.loading.handles slot ≡ false → IfSome (cond {A = Option Table} b (Some t) None) (λ _. is_code new.loading.handles slot ≡ false)
+      left t true e = e
+      left t false e = tt
+
+      turn : (t : Option Table) (b : Option (List ℕ)) → IfSome t (λ t. IsSomeAnd (segment_bytes old slot) (IsLocalIn t)) → IfSome t (λ _. is_code old.loading.handles slot ≡ false)
+          → IfSome (left_over t b) (λ _. is_code new.loading.handles slot ≡ false)
+      turn None b h e = tt
+      turn (Some t) None h e = tt
+      turn (Some t) (Some bytes) h e = left t (nat_le t.hi (length bytes)) (here t h e)
+
+  pub loading_world_kept : IsLoadingCommand command → IsWorld new
+  loading_world_kept known =
+      let next : IsLoadingWorld new.loading = any_keeps_worlds_law old.loading new.loading command reply is.loading known step in
+      record { loading = next; heaps = heaps_after old new is.heaps next.handles rest; uncoded = uncoded }
+
+pub world_kept : (honest : Type 0) (format : Format) (old new : World) (command : Command) (reply : Reply) → IsWorld old → IsCommand command → Step honest format old command reply new → IsWorld new
+world_kept honest format old new (OfLoading command) reply is known step = loading_world_kept old new is command reply step.0.any step.1 known
+world_kept honest format old new (OfLocals command) reply is known step = local_world_kept old new command reply is step
 
 pub world_law : WorldLaw
-world_law old new (OfHandles command) (Word n) is known step = record { handles = handle_law old.handles new.handles command (calls.Answer.Word n) is.handles step.0 }
-world_law old new (OfHandles command) (Dword n) is known step = record { handles = handle_law old.handles new.handles command (calls.Answer.Dword n) is.handles step.0 }
-world_law old new (OfHandles command) (Walked n) is known step = record { handles = handle_law old.handles new.handles command (calls.Answer.Walked n) is.handles step.0 }
-world_law old new (OfHandles command) (Bytes bytes) is known step = absurd step.0
-world_law old new (OfHandles command) Done is known step = absurd step.0
-world_law old new (OfHandles command) (Fault fault) is known step = absurd step.0
-world_law old new (OfResizes command) (Word n) is known step = record { handles = resized_law old.handles new.handles command (calls.Answer.Word n) is.handles step.0 }
-world_law old new (OfResizes command) (Dword n) is known step = record { handles = resized_law old.handles new.handles command (calls.Answer.Dword n) is.handles step.0 }
-world_law old new (OfResizes command) (Walked n) is known step = record { handles = resized_law old.handles new.handles command (calls.Answer.Walked n) is.handles step.0 }
-world_law old new (OfResizes command) (Bytes bytes) is known step = absurd step.0
-world_law old new (OfResizes command) Done is known step = absurd step.0
-world_law old new (OfResizes command) (Fault fault) is known step = absurd step.0
-world_law old new (OfFar command) (Bytes bytes) is known step = record { handles = far_law old.handles new.handles command (far.FarAnswer.Bytes bytes) is.handles known step.0 }
-world_law old new (OfFar command) Done is known step = record { handles = far_law old.handles new.handles command far.FarAnswer.Done is.handles known step.0 }
-world_law old new (OfFar command) (Fault fault) is known step = record { handles = far_law old.handles new.handles command (far.FarAnswer.Fault fault) is.handles known step.0 }
-world_law old new (OfFar command) (Word n) is known step = absurd step.0
-world_law old new (OfFar command) (Dword n) is known step = absurd step.0
-world_law old new (OfFar command) (Walked n) is known step = absurd step.0
+world_law format old new command reply is known step = world_kept ⊥ format old new command reply is known step
+
+pub files_law : FilesLaw
+files_law format old new (OfLoading command) reply is_format is known step = (
+  world_kept (Unit {0}) format old new (OfLoading command) reply is.0 known step,
+  code_law format old.loading new.loading command reply is.0.loading is.1 (step.0.exact (λ _. tt)),
+)
+files_law format old new (OfLocals command) reply is_format is known step = (local_world_kept old new command reply is.0 step, local_files_kept old new command reply is.0 step format is.1)
+
+-- Runs.
+
+pub run_world_law : RunWorldLaw
+run_world_law format old new events is known run = each old events (Each-from_All (λ (e : Event). IsCommand e.command) events known) is run
+  where
+    each : (now : World) (events : List Event) → Each (λ (e : Event). IsCommand e.command) events → IsWorld now → Run (Step ⊥ format) now events new → IsWorld new
+    each now [] known is run = subst IsWorld (sym run) is
+    each now (event ∷ events) known is run = each event.after events known.1 (world_law format now event.after event.command event.reply is known.0 run.0) run.1
+
+pub run_files_law : RunFilesLaw
+run_files_law format old new events is_format is known run = each old events (Each-from_All (λ (e : Event). IsCommand e.command) events known) is run
+  where
+    each : (now : World) (events : List Event) → Each (λ (e : Event). IsCommand e.command) events → IsWorldOfFiles format now → Run (Step (Unit {0}) format) now events new → IsWorldOfFiles format new
+    each now [] known is run = subst (IsWorldOfFiles format) (sym run) is
+    each now (event ∷ events) known is run = each event.after events known.1 (files_law format now event.after event.command event.reply is_format is known.0 run.0) run.1
+
+pub fewest_law : FewestLaw
+fewest_law format old new events is known run = each old events (Each-from_All (λ (e : Event). IsCommand e.command) events known) is run
+  where
+    each : (now : World) (events : List Event) → Each (λ (e : Event). IsCommand e.command) events → IsWorld now → Run (Step ⊥ format) now events new → AreFewest now events
+    each now [] known is run = tt
+    each now (event ∷ events) known is run = (step_fewest ⊥ format now event is run.0, each event.after events known.1 (world_law format now event.after event.command event.reply is known.0 run.0) run.1)

@@ -1,25 +1,64 @@
--- What whole runs promise of discards, read at each step.
-use Rattle.std.specs.Prelude.{◌≡◌, ℕ, List, [], ◌∷◌, All}
+-- What whole runs promise of discards, read at each step: a call for room discards as few objects as it can, of the global heap or of a local
+-- one, and is refused for room only where none could be made.
+use Rattle.std.specs.Prelude.{◌≡◌, ℕ, ◌<◌, List, [], ◌∷◌, false, Some}
+use Rattle.w16_model.specs.Calls.{has_flag}
 use Rattle.w16_model.specs.Calls.HandleCommand.{GlobalAlloc, GlobalCompact}
-use Rattle.w16_model.specs.Fewest.{AllocFewest, CompactsFewest}
-use Rattle.w16_model.specs.Resizes.{ReallocFewest}
-use Rattle.w16_machine.specs.World.{World, IsWorld}
-use Rattle.w16_machine.specs.Resizes.ResizeCommand.{GlobalReAlloc}
-use Rattle.w16_machine.specs.Machine.{Event, Run, IsCommand}
-use Rattle.w16_machine.specs.Machine.Command.{OfHandles, OfResizes}
-use Rattle.w16_machine.specs.Machine.Reply.{Word, Dword}
+use Rattle.w16_model.specs.Fewest as global
+use Rattle.w16_model.specs.Fewest.{CompactsFewest}
+use Rattle.w16_model.specs.Resizes as resizes
+use Rattle.w16_loading.specs.Families.{LoadingCommand}
+use Rattle.w16_loading.specs.Families.LoadingCommand.{OfHandles, OfResizes}
+use Rattle.w16_loading.specs.Fewest.{RequestsFewest}
+use Rattle.w16_loading.specs.Replies.Reply.{Word, Dword}
+use Rattle.w16_loading.specs.Resizes.ResizeCommand.{GlobalReAlloc}
+use Rattle.w16_machine.specs.declared.local.TheConstants.{LMEM_MODIFY}
+use Rattle.w16_machine.specs.World.{World}
+use Rattle.w16_machine.specs.Local.{LocalHeap, LocalObject, heap_of, chosen, object_named}
+use Rattle.w16_machine.specs.LocalCalls.LocalCommand.{LocalAlloc, LocalReAlloc, LocalCompact}
+use Rattle.w16_machine.specs.LocalFewest.{Left, AllocFewest, ReallocFewest}
+use Rattle.w16_machine.specs.Machine.{Event}
+use Rattle.w16_machine.specs.Machine.Command.{OfLoading, OfLocals}
 
--- a call for room discards as few objects as it can, and is refused for room only where none could be made
+-- The calls on the global heap.
+abbrev pub GlobalAllocFewest : World → Event → Type 0
+GlobalAllocFewest old event = (flags size handle : ℕ) → event.command ≡ OfLoading (OfHandles (GlobalAlloc flags size)) → event.reply ≡ Word handle
+    → global.AllocFewest old.loading.handles flags size handle event.after.loading.handles
+
+abbrev pub GlobalReAllocFewest : World → Event → Type 0
+GlobalReAllocFewest old event = (handle size flags answer : ℕ) → event.command ≡ OfLoading (OfResizes (GlobalReAlloc handle size flags)) → event.reply ≡ Word answer
+    → resizes.ReallocFewest old.loading.handles handle size flags answer event.after.loading.handles
+
+abbrev pub GlobalCompactFewest : World → Event → Type 0
+GlobalCompactFewest old event = (size answer : ℕ) → event.command ≡ OfLoading (OfHandles (GlobalCompact size)) → event.reply ≡ Dword answer
+    → CompactsFewest old.loading.handles.heap size answer event.after.loading.handles.heap
+
+-- An allocation in the heap that DS names has discarded as few of its objects as it can, or there was no room in it and nothing changed.
+abbrev pub LocalAllocFewest : World → Event → Type 0
+LocalAllocFewest old event = (flags size answer : ℕ) (at : LocalHeap) → event.command ≡ OfLocals (LocalAlloc flags size) → event.reply ≡ Word answer → chosen old ≡ Some at → AllocFewest old at flags size answer event.after
+
+-- So has the reallocation of an object to a size.
+abbrev pub LocalReAllocFewest : World → Event → Type 0
+LocalReAllocFewest old event = (name size flags answer : ℕ) (o : LocalObject) → event.command ≡ OfLocals (LocalReAlloc name size flags) → event.reply ≡ Word answer → object_named old name ≡ Some o
+    → has_flag flags LMEM_MODIFY ≡ false → 0 < size → ReallocFewest old o size flags answer event.after
+
+-- A compaction answers the longest free stretch of any arrangement of what it leaves, and has discarded as few, or all that may be.
+abbrev pub LocalCompactFewest : World → Event → Type 0
+LocalCompactFewest old event = (size answer : ℕ) (at : LocalHeap) → event.command ≡ OfLocals (LocalCompact size) → event.reply ≡ Word answer → chosen old ≡ Some at → Left event.after at (CompactsFewest (heap_of at) size answer)
+
+-- So has each request of a load, and that of a fetch.
+abbrev pub LoadingFewest : World → Event → Type 0
+LoadingFewest old event = (command : LoadingCommand) → event.command ≡ OfLoading command → RequestsFewest old.loading command event.reply event.after.loading
+
 pub record IsFewest (old : World) (event : Event) : Type 0 where
-  pub alloc : (flags size handle : ℕ) → event.command ≡ OfHandles (GlobalAlloc flags size) → event.reply ≡ Word handle → AllocFewest old.handles flags size handle event.after.handles
-  pub compact : (size answer : ℕ) → event.command ≡ OfHandles (GlobalCompact size) → event.reply ≡ Dword answer → CompactsFewest old.handles.heap size answer event.after.handles.heap
-  pub realloc : (handle size flags answer : ℕ) → event.command ≡ OfResizes (GlobalReAlloc handle size flags) → event.reply ≡ Word answer → ReallocFewest old.handles handle size flags answer event.after.handles
+  pub alloc : GlobalAllocFewest old event
+  pub realloc : GlobalReAllocFewest old event
+  pub compact : GlobalCompactFewest old event
+  pub local_alloc : LocalAllocFewest old event
+  pub local_realloc : LocalReAllocFewest old event
+  pub local_compact : LocalCompactFewest old event
+  pub requests : LoadingFewest old event
 
 -- each step is such, from the world before it
 abbrev pub AreFewest : World → List Event → Type 0
 AreFewest old [] = Unit {0}
 AreFewest old (event ∷ events) = IsFewest old event × AreFewest event.after events
-
--- so is each step of every run
-abbrev pub FewestLaw : Type 0
-FewestLaw = (old new : World) (events : List Event) → IsWorld old → All (λ e. IsCommand e.command) events → Run old events new → AreFewest old events

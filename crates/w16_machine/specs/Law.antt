@@ -1,13 +1,45 @@
--- The laws that show the definitions to be the right ones. Each is the contract of a function of the module `laws`.
-use Rattle.std.specs.Prelude.{ℕ, ◌≤◌}
+-- What holds of every world, and the laws of steps and runs of the whole machine. Each law is the contract of a function of the module `laws`.
+use Rattle.std.specs.Prelude.{◌≡◌, ℕ, ◌≤◌, false, List, All, IfSome}
+use Rattle.std.specs.FinMap as finmap
 use Rattle.w16_model.specs.declared.TheConstants.{MOST_SLOTS}
-use Rattle.w16_machine.specs.World.{World, IsWorld, empty_world}
-use Rattle.w16_machine.specs.Machine.{Command, Reply, IsCommand, Step}
+use Rattle.w16_model.specs.Owned.{is_code}
+use Rattle.w16_loading.specs.File.{Format, IsFormat}
+use Rattle.w16_loading.specs.Law.{IsLoadingWorld, IsOfFiles}
+use Rattle.w16_loading.specs.Replies.{Reply}
+use Rattle.w16_machine.specs.World.{World, empty_world}
+use Rattle.w16_machine.specs.Local.{AreLocalHeaps}
+use Rattle.w16_machine.specs.Machine.{Command, IsCommand, Step, Event, Run}
+use Rattle.w16_machine.specs.Fewest.{AreFewest}
 
--- the world in which nothing is allocated is one
+-- What holds of every world, whatever the store is.
+pub record IsWorld (w : World) : Type 0 where
+  pub loading : IsLoadingWorld w.loading
+  pub heaps : AreLocalHeaps w
+  -- no local heap lies in code, or local calls would write it
+  pub uncoded : (slot : ℕ) → IfSome (finmap.get w.heaps slot) (λ _. is_code w.loading.handles slot ≡ false)
+
+-- and where the store is honest: all that is loaded is of its file
+abbrev pub IsWorldOfFiles : Format → World → Type 0
+IsWorldOfFiles format w = IsWorld w × IsOfFiles format w.loading
+
 abbrev pub EmptyLaw : Type 0
-EmptyLaw = (memory slots : ℕ) → slots ≤ MOST_SLOTS → IsWorld (empty_world memory slots)
+EmptyLaw = (format : Format) (memory slots : ℕ) (files : List (List ℕ × List ℕ)) (failures : ℕ) → slots ≤ MOST_SLOTS → IsWorldOfFiles format (empty_world memory slots files failures)
 
--- each step keeps what holds of every world: no two objects share a byte, and the rest
+-- Over a store of which nothing is known each step keeps what holds of every world,
 abbrev pub WorldLaw : Type 0
-WorldLaw = (old new : World) (command : Command) (reply : Reply) → IsWorld old → IsCommand command → Step old command reply new → IsWorld new
+WorldLaw = (format : Format) (old new : World) (command : Command) (reply : Reply) → IsWorld old → IsCommand command → Step ⊥ format old command reply new → IsWorld new
+
+-- and over an honest one code still reads as its file's relocated bytes.
+abbrev pub FilesLaw : Type 0
+FilesLaw = (format : Format) (old new : World) (command : Command) (reply : Reply) → IsFormat format → IsWorldOfFiles format old → IsCommand command → Step (Unit {0}) format old command reply new → IsWorldOfFiles format new
+
+-- So do whole runs.
+abbrev pub RunWorldLaw : Type 0
+RunWorldLaw = (format : Format) (old new : World) (events : List Event) → IsWorld old → All (λ e. IsCommand e.command) events → Run (Step ⊥ format) old events new → IsWorld new
+
+abbrev pub RunFilesLaw : Type 0
+RunFilesLaw = (format : Format) (old new : World) (events : List Event) → IsFormat format → IsWorldOfFiles format old → All (λ e. IsCommand e.command) events → Run (Step (Unit {0}) format) old events new → IsWorldOfFiles format new
+
+-- In every run each call for room discards as few objects as it can.
+abbrev pub FewestLaw : Type 0
+FewestLaw = (format : Format) (old new : World) (events : List Event) → IsWorld old → All (λ e. IsCommand e.command) events → Run (Step ⊥ format) old events new → AreFewest old events

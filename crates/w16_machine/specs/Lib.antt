@@ -1,13 +1,9 @@
 pub mod World
-pub mod Resizes
-pub mod Machine
-pub mod Codes
-pub mod Law
-pub mod Fewest
 pub mod Local
 pub mod LocalCalls
-pub mod LocalMachine
+pub mod Machine
+pub mod Fewest
+pub mod Law
 pub mod LocalLaw
 pub mod LocalFewest
-pub mod LocalRuns
 pub mod LocalStays

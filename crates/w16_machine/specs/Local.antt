@@ -7,25 +7,16 @@ use Rattle.std.specs.FinMap.{FinMap}
 use Rattle.w16_model.specs.declared.Span.{Span}
 use Rattle.w16_model.specs.Heap.{Heap, Object, blocks, object_at, bytes_at, is_fixed}
 use Rattle.w16_model.specs.Far.{after_write}
-use Rattle.w16_model.specs.Handles.{slot_of_selector}
+use Rattle.w16_model.specs.Owned.{is_code}
+use Rattle.w16_model.specs.Handles.{AreHandles, slot_of_selector}
 use Rattle.w16_model.specs.Table.{Table, IsSound, IsSameOutside, heap_in}
 use Rattle.w16_machine.specs.declared.local.TheConstants.{LOCAL_GRAIN, LOCAL_ENTRIES, LAST_LOCAL_END}
-use Rattle.w16_machine.specs.World.{World, IsWorld, with_handles, empty_world}
-
--- A world with local heaps: the world without them, the table of each by its segment's slot, and DS, the selector that names the segment in
--- whose heap the Local calls act.
-pub record LocalWorld : Type 0 where
-  pub world : World
-  pub tables : FinMap nat_cmp Table
-  pub ds : ℕ
-
--- the world in which nothing is allocated has none
-abbrev pub empty_local_world : ℕ → ℕ → LocalWorld
-empty_local_world memory slots = record { world = empty_world memory slots; tables = finmap.empty; ds = 0 }
+use Rattle.w16_loading.specs.Modules.{with_handles}
+use Rattle.w16_machine.specs.World.{World}
 
 -- the bytes of a slot's object, if it has any
-abbrev pub segment_bytes : LocalWorld → ℕ → Option (List ℕ)
-segment_bytes w slot = bytes_at w.world.handles.heap slot
+abbrev pub segment_bytes : World → ℕ → Option (List ℕ)
+segment_bytes w slot = bytes_at w.loading.handles.heap slot
 
 -- what holds of each table
 pub record IsLocalTable (t : Table) : Type 0 where
@@ -51,15 +42,15 @@ abbrev pub local_of : ℕ → Table → List ℕ → Option LocalHeap
 local_of slot t bytes = if nat_le t.hi (length bytes) then Some (record { slot = slot; table = t; bytes = bytes }) else None
 
 -- the local heap in a slot's object, if there is one
-abbrev pub local_in : LocalWorld → ℕ → Option LocalHeap
-local_in w slot = elim (finmap.get w.tables slot) [
+abbrev pub local_in : World → ℕ → Option LocalHeap
+local_in w slot = elim (finmap.get w.heaps slot) [
   | None ↦ None
   | Some t ↦ elim (segment_bytes w slot) [ None ↦ None | Some bytes ↦ local_of slot t bytes ]
 ]
 
 -- the one that DS names; it is looked up at each call
-abbrev pub chosen : LocalWorld → Option LocalHeap
-chosen w = elim (slot_of_selector w.world.handles w.ds) [ None ↦ None | Some slot ↦ local_in w slot ]
+abbrev pub chosen : World → Option LocalHeap
+chosen w = elim (slot_of_selector w.loading.handles w.ds) [ None ↦ None | Some slot ↦ local_in w slot ]
 
 -- Names.
 
@@ -90,7 +81,7 @@ pub record LocalObject : Type 0 where
   pub id : ℕ
 
 -- the one that has a name there
-abbrev pub object_named : LocalWorld → ℕ → Option LocalObject
+abbrev pub object_named : World → ℕ → Option LocalObject
 object_named w name = elim (chosen w) [ None ↦ None | Some at ↦ option_map (λ id. record { heap = at; id = id }) (id_named (heap_of at) name) ]
 
 abbrev pub IsFreeEntry : Heap → ℕ → Type 0
@@ -123,7 +114,7 @@ abbrev pub new_table : Span → Table
 new_table range = record { lo = range.from; hi = range.to; grain = LOCAL_GRAIN; entries = replicate LOCAL_ENTRIES None; blocks = []; order = [] }
 
 -- a selector of 0 is DS
-abbrev pub selector_or_ds : LocalWorld → ℕ → ℕ
+abbrev pub selector_or_ds : World → ℕ → ℕ
 selector_or_ds w selector = if selector == 0 then w.ds else selector
 
 -- A new local heap: its segment's slot, and its range.
@@ -132,34 +123,35 @@ pub record Beginning : Type 0 where
   pub range : Span
 
 -- the one that begins in a segment, if one may: the segment has bytes and no local heap, and the range is sound
-abbrev pub beginning_in : LocalWorld → ℕ → ℕ → ℕ → Option Beginning
+abbrev pub beginning_in : World → ℕ → ℕ → ℕ → Option Beginning
 beginning_in w start end slot = elim (segment_bytes w slot) [
   | None ↦ None
-  | Some bytes ↦ if is_some (finmap.get w.tables slot) then None else option_map (λ range. record { slot = slot; range = range }) (range_in (length bytes) start end)
+  | Some bytes ↦ if is_some (finmap.get w.heaps slot) then None else option_map (λ range. record { slot = slot; range = range }) (range_in (length bytes) start end)
 ]
 
-abbrev pub beginning : LocalWorld → ℕ → ℕ → ℕ → Option Beginning
-beginning w selector start end = elim (slot_of_selector w.world.handles (selector_or_ds w selector)) [ None ↦ None | Some slot ↦ beginning_in w start end slot ]
+-- and none in code
+abbrev pub beginning : World → ℕ → ℕ → ℕ → Option Beginning
+beginning w selector start end = elim (slot_of_selector w.loading.handles (selector_or_ds w selector)) [ None ↦ None | Some slot ↦ if is_code w.loading.handles slot then None else beginning_in w start end slot ]
 
 -- What a local call leaves.
 
 -- the world with another table of a local heap, and no byte changed
-abbrev pub with_table : LocalWorld → ℕ → Table → LocalWorld
-with_table w slot t = record w { tables = finmap.insert w.tables slot t }
+abbrev pub with_table : World → ℕ → Table → World
+with_table w slot t = record w { heaps = finmap.insert w.heaps slot t }
 
 -- and with other bytes, as many, in its segment
-abbrev pub with_local : LocalWorld → ℕ → Table → List ℕ → LocalWorld
+abbrev pub with_local : World → ℕ → Table → List ℕ → World
 with_local w slot t bytes = record w {
-  world = with_handles w.world (record w.world.handles { heap = after_write w.world.handles.heap slot 0 bytes });
-  tables = finmap.insert w.tables slot t;
+  loading = with_handles w.loading (record w.loading.handles { heap = after_write w.loading.handles.heap slot 0 bytes });
+  heaps = finmap.insert w.heaps slot t;
 }
 
 -- the world stays, and this is the answer
-abbrev pub Stays : LocalWorld → ℕ → ℕ → LocalWorld → Type 0
+abbrev pub Stays : World → ℕ → ℕ → World → Type 0
 Stays old value answer new = (answer ≡ value) × (new ≡ old)
 
 -- A local heap becomes this one; nothing else of the world changes, and no byte.
-pub record Becomes (old : LocalWorld) (at : LocalHeap) (heap : Heap) (new : LocalWorld) : Type 0 where
+pub record Becomes (old : World) (at : LocalHeap) (heap : Heap) (new : World) : Type 0 where
   pub table : Table
   pub is_local : IsLocalTable table
   pub range : (table.lo ≡ at.table.lo) × (table.hi ≡ at.table.hi)
@@ -168,7 +160,7 @@ pub record Becomes (old : LocalWorld) (at : LocalHeap) (heap : Heap) (new : Loca
 
 -- A local heap becomes such a one, which may have other bytes. In the segment only bytes of its range change, and nothing else of the world:
 -- no address, no order of use, no other object's bytes, and not the number of bytes moved.
-pub record Acts (old : LocalWorld) (at : LocalHeap) (P : Heap → Type 0) (new : LocalWorld) : Type 0 where
+pub record Acts (old : World) (at : LocalHeap) (P : Heap → Type 0) (new : World) : Type 0 where
   pub table : Table
   pub bytes : List ℕ
   pub is_local : IsLocalTable table
@@ -192,7 +184,7 @@ has_range heap tables slot = elim (finmap.get tables slot) [
 abbrev pub left_in : Heap → FinMap nat_cmp Table → FinMap nat_cmp Table
 left_in heap tables = finmap.retain_keys tables (has_range heap tables)
 
--- What holds of every world with local heaps.
+-- What holds of the local heaps of every world.
 
 -- each fixed object has bytes, so that each object has a name
 abbrev pub AreNamed : Heap → Type 0
@@ -202,6 +194,6 @@ AreNamed heap = (id : ℕ) → IfSome (object_at heap id) (λ o. is_fixed o.kind
 abbrev pub IsLocalIn : Table → List ℕ → Type 0
 IsLocalIn t bytes = IsLocalTable t × (t.hi ≤ length bytes) × AreNamed (heap_in t bytes)
 
-pub record IsLocalWorld (w : LocalWorld) : Type 0 where
-  pub world : IsWorld w.world
-  pub locals : (slot : ℕ) → IfSome (finmap.get w.tables slot) (λ t. IsSomeAnd (segment_bytes w slot) (IsLocalIn t))
+pub record AreLocalHeaps (w : World) : Type 0 where
+  pub handles : AreHandles w.loading.handles
+  pub heaps : (slot : ℕ) → IfSome (finmap.get w.heaps slot) (λ t. IsSomeAnd (segment_bytes w slot) (IsLocalIn t))

@@ -12,9 +12,10 @@ use Rattle.w16_model.specs.Request.{Allocates, Reallocates, MakesRoom, most_room
 use Rattle.w16_model.specs.OneObject.{Enters, after_lock, after_unlock, after_free, after_discard, after_modify}
 use Rattle.w16_model.specs.Calls.{has_flag, locks_at}
 use Rattle.w16_machine.specs.declared.local.TheConstants.{LMEM_MOVEABLE, LMEM_NOCOMPACT, LMEM_NODISCARD, LMEM_ZEROINIT, LMEM_MODIFY, LMEM_DISCARDABLE, LMEM_DISCARDED}
-use Rattle.w16_machine.specs.Machine.{Reply}
-use Rattle.w16_machine.specs.Machine.Reply.{Word, Done}
-use Rattle.w16_machine.specs.Local.{LocalWorld, LocalHeap, LocalObject, Stays, Becomes, Acts, IsFreeEntry, IsLowestFree, heap_of, chosen, object_named, name_at, id_at, rounded_up, beginning, new_table, with_table}
+use Rattle.w16_loading.specs.Replies.{Reply}
+use Rattle.w16_loading.specs.Replies.Reply.{Word, Done}
+use Rattle.w16_machine.specs.World.{World}
+use Rattle.w16_machine.specs.Local.{LocalHeap, LocalObject, Stays, Becomes, Acts, IsFreeEntry, IsLowestFree, heap_of, chosen, object_named, name_at, id_at, rounded_up, beginning, new_table, with_table}
 
 -- a call on local heaps, with its arguments as numbers
 pub data LocalCommand : Type 0 where
@@ -32,8 +33,8 @@ pub data LocalCommand : Type 0 where
   DS : (selector : ℕ) → LocalCommand
 
 -- LocalInit: 1, and a heap without objects begins in the segment; 0 where the selector is bad, its object has no bytes or a local heap
--- already, or the range isn't sound. No object is code yet, so none is refused for that.
-abbrev pub LocalInits : LocalWorld → ℕ → ℕ → ℕ → ℕ → LocalWorld → Type 0
+-- already or is code, or the range isn't sound.
+abbrev pub LocalInits : World → ℕ → ℕ → ℕ → ℕ → World → Type 0
 LocalInits old selector start end answer new = MatchOption (beginning old selector start end)
     (Stays old 0 answer new)
     (λ b. (answer ≡ 1) × (new ≡ with_table old b.slot (new_table b.range)))
@@ -44,7 +45,7 @@ LocalInits old selector start end answer new = MatchOption (beginning old select
 abbrev pub moveable_or_discardable : ℕ → Kind
 moveable_or_discardable flags = if has_flag flags LMEM_DISCARDABLE then Discardable else Moveable
 
--- of a new object only beside LMEM_MOVEABLE
+-- which count for a new object only where LMEM_MOVEABLE is given too
 abbrev pub local_kind : ℕ → Kind
 local_kind flags = if has_flag flags LMEM_MOVEABLE then moveable_or_discardable flags else Fixed
 
@@ -86,45 +87,45 @@ pub record AllocatesObject (heap : Heap) (flags size id answer : ℕ) (next : He
   pub allocated : Allocates heap id (rounded_up size) (local_kind flags) 0 (local_way flags) true next
   pub named : name_at next id ≡ Some answer
 
-abbrev pub MakesObject : LocalWorld → LocalHeap → ℕ → ℕ → ℕ → ℕ → LocalWorld → Type 0
+abbrev pub MakesObject : World → LocalHeap → ℕ → ℕ → ℕ → ℕ → World → Type 0
 MakesObject old at flags size id answer new = MatchBool (is_absent_asked flags size)
     ((next : Heap) × EntersObject (heap_of at) flags id answer next × Becomes old at next new)
     (Acts old at (AllocatesObject (heap_of at) flags size id answer) new)
 
 -- LocalAlloc
-abbrev pub AllocatesIn : LocalWorld → ℕ → ℕ → ℕ → LocalWorld → LocalHeap → Type 0
+abbrev pub AllocatesIn : World → ℕ → ℕ → ℕ → World → LocalHeap → Type 0
 AllocatesIn old flags size answer new at =
     (IsRefusedAlloc (heap_of at) flags size × Stays old 0 answer new)
     ⊎ ((id : ℕ) × IsLowestFree (heap_of at) id × MakesObject old at flags size id answer new)
 
-abbrev pub LocalAllocs : LocalWorld → ℕ → ℕ → ℕ → LocalWorld → Type 0
+abbrev pub LocalAllocs : World → ℕ → ℕ → ℕ → World → Type 0
 LocalAllocs old flags size answer new = MatchOption (chosen old) (Stays old 0 answer new) (AllocatesIn old flags size answer new)
 
 -- LocalCompact: as the heap compacts; for 0 bytes it only answers what could be made free
-abbrev pub CompactsIn : LocalWorld → ℕ → ℕ → LocalWorld → LocalHeap → Type 0
+abbrev pub CompactsIn : World → ℕ → ℕ → World → LocalHeap → Type 0
 CompactsIn old size answer new at = MatchBool (size == 0) (Stays old (most_room (heap_of at)) answer new) (Acts old at (MakesRoom (heap_of at) size answer) new)
 
-abbrev pub LocalCompacts : LocalWorld → ℕ → ℕ → LocalWorld → Type 0
+abbrev pub LocalCompacts : World → ℕ → ℕ → World → Type 0
 LocalCompacts old size answer new = MatchOption (chosen old) (Stays old 0 answer new) (CompactsIn old size answer new)
 
 -- The calls that name an object.
 
 -- what is so of the object that has a name in the chosen heap; where there is none the answer is this, and the world stays
-abbrev pub OnNamed : LocalWorld → ℕ → ℕ → ℕ → LocalWorld → (LocalObject → Type 0) → Type 0
+abbrev pub OnNamed : World → ℕ → ℕ → ℕ → World → (LocalObject → Type 0) → Type 0
 OnNamed old name otherwise answer new so = MatchOption (object_named old name) (Stays old otherwise answer new) so
 
 -- a step that moves no byte and gives none up, with the answer where it is taken, and the answer where it is refused and the world stays
-abbrev pub Leaves : LocalWorld → LocalHeap → Result Heap Refusal → (Heap → ℕ) → (Refusal → ℕ) → ℕ → LocalWorld → Type 0
+abbrev pub Leaves : World → LocalHeap → Result Heap Refusal → (Heap → ℕ) → (Refusal → ℕ) → ℕ → World → Type 0
 Leaves old at (Ok heap) taken refused answer new = (answer ≡ taken heap) × Becomes old at heap new
 Leaves old at (Err refusal) taken refused answer new = Stays old (refused refusal) answer new
 
 -- the same of a step that gives bytes up: what these are then is any
-abbrev pub GivesUp : LocalWorld → LocalHeap → Result Heap Refusal → ℕ → ℕ → ℕ → LocalWorld → Type 0
+abbrev pub GivesUp : World → LocalHeap → Result Heap Refusal → ℕ → ℕ → ℕ → World → Type 0
 GivesUp old at (Ok heap) taken refused answer new = (answer ≡ taken) × Acts old at (λ next. next ≡ heap) new
 GivesUp old at (Err refusal) taken refused answer new = Stays old refused answer new
 
 -- LocalFree: 0, and the object is gone; the argument where the name is bad or the object locked
-abbrev pub LocalFrees : LocalWorld → ℕ → ℕ → LocalWorld → Type 0
+abbrev pub LocalFrees : World → ℕ → ℕ → World → Type 0
 LocalFrees old name answer new = OnNamed old name name answer new (λ o. GivesUp old o.heap (after_free (heap_of o.heap) o.id) 0 name answer new)
 
 -- the near pointer of an object that has bytes
@@ -136,7 +137,7 @@ lock_refused pointer refusals.Fixed = pointer
 lock_refused pointer other = 0
 
 -- LocalLock: the near pointer; a fixed object has one with no lock; 0 for a bad name, an absent object or a full count
-abbrev pub LocalLocks : LocalWorld → ℕ → ℕ → LocalWorld → Type 0
+abbrev pub LocalLocks : World → ℕ → ℕ → World → Type 0
 LocalLocks old name answer new = OnNamed old name 0 answer new (λ o.
     let pointer = near_pointer (heap_of o.heap) o.id in
     Leaves old o.heap (after_lock (heap_of o.heap) o.id) (λ _. pointer) (lock_refused pointer) answer new)
@@ -145,16 +146,16 @@ abbrev pub locks_left : ℕ → Heap → ℕ
 locks_left id heap = if nat_lt 0 (locks_at heap id) then 1 else 0
 
 -- LocalUnlock: 1 where locks are left, else 0; 0 also for a fixed object and for a bad name
-abbrev pub LocalUnlocks : LocalWorld → ℕ → ℕ → LocalWorld → Type 0
+abbrev pub LocalUnlocks : World → ℕ → ℕ → World → Type 0
 LocalUnlocks old name answer new = OnNamed old name 0 answer new (λ o. Leaves old o.heap (after_unlock (heap_of o.heap) o.id) (locks_left o.id) (λ _. 0) answer new)
 
 -- LocalReAlloc with LMEM_MODIFY: the name, and a moveable or discardable object becomes what the flags say; a fixed one stays as it is
-abbrev pub ModifiesObject : LocalWorld → ℕ → ℕ → ℕ → LocalWorld → LocalObject → Type 0
+abbrev pub ModifiesObject : World → ℕ → ℕ → ℕ → World → LocalObject → Type 0
 ModifiesObject old name flags answer new o = Leaves old o.heap (after_modify (heap_of o.heap) o.id (moveable_or_discardable flags)) (λ _. name) (λ _. name) answer new
 
 -- With a size of 0 and LMEM_MOVEABLE: the name, and a discardable object that isn't locked gives up its bytes, if it has any; 0 for any
 -- other object, and without LMEM_MOVEABLE.
-abbrev pub DiscardsObject : LocalWorld → ℕ → ℕ → ℕ → LocalWorld → LocalObject → Type 0
+abbrev pub DiscardsObject : World → ℕ → ℕ → ℕ → World → LocalObject → Type 0
 DiscardsObject old name flags answer new o = MatchBool (has_flag flags LMEM_MOVEABLE)
     (GivesUp old o.heap (after_discard (heap_of o.heap) o.id) name 0 answer new)
     (Stays old 0 answer new)
@@ -164,20 +165,20 @@ pub record ResizesObject (heap : Heap) (id size flags answer : ℕ) (next : Heap
   pub resized : Reallocates heap id (rounded_up size) (local_way flags) true next
   pub named : name_at next id ≡ Some answer
 
-abbrev pub SizesObject : LocalWorld → ℕ → ℕ → ℕ → LocalWorld → LocalObject → Type 0
+abbrev pub SizesObject : World → ℕ → ℕ → ℕ → World → LocalObject → Type 0
 SizesObject old size flags answer new o =
     (Reallocates (heap_of o.heap) o.id (rounded_up size) (local_way flags) false (heap_of o.heap) × Stays old 0 answer new)
     ⊎ Acts old o.heap (ResizesObject (heap_of o.heap) o.id size flags answer) new
 
 -- LocalReAlloc, by the first case that fits: a bad name, LMEM_MODIFY, a size of 0, and any other size
-abbrev pub LocalReallocs : LocalWorld → ℕ → ℕ → ℕ → ℕ → LocalWorld → Type 0
+abbrev pub LocalReallocs : World → ℕ → ℕ → ℕ → ℕ → World → Type 0
 LocalReallocs old name size flags answer new = OnNamed old name 0 answer new (λ o. MatchBool (has_flag flags LMEM_MODIFY)
     (ModifiesObject old name flags answer new o)
     (MatchBool (size == 0) (DiscardsObject old name flags answer new o) (SizesObject old size flags answer new o)))
 
 -- What objects are asked. These change nothing.
 
-abbrev pub asked_of : LocalWorld → ℕ → (LocalObject → ℕ) → ℕ
+abbrev pub asked_of : World → ℕ → (LocalObject → ℕ) → ℕ
 asked_of w name value = unwrap_or (option_map value (object_named w name)) 0
 
 -- LocalSize: the size; 0 for a bad name or an absent object
@@ -197,13 +198,13 @@ abbrev pub name_from : Heap → ℕ → Option ℕ
 name_from heap pointer = elim (id_at heap pointer) [ None ↦ None | Some id ↦ name_at heap id ]
 
 -- LocalHandle: 0 where there is none
-abbrev pub local_handle : LocalWorld → ℕ → ℕ
+abbrev pub local_handle : World → ℕ → ℕ
 local_handle w pointer = elim (chosen w) [ None ↦ 0 | Some at ↦ unwrap_or (name_from (heap_of at) pointer) 0 ]
 
 -- One step: the answer that may be given to a call, and the world that it leaves.
 
 -- a call that answers a word
-abbrev pub Answers : LocalWorld → LocalCommand → ℕ → LocalWorld → Type 0
+abbrev pub Answers : World → LocalCommand → ℕ → World → Type 0
 Answers old (LocalInit selector start end) answer new = LocalInits old selector start end answer new
 Answers old (LocalAlloc flags size) answer new = LocalAllocs old flags size answer new
 Answers old (LocalReAlloc name size flags) answer new = LocalReallocs old name size flags answer new
@@ -218,7 +219,7 @@ Answers old (LocalCompact size) answer new = LocalCompacts old size answer new
 Answers old (DS selector) answer new = ⊥
 
 -- DS names a segment, any word; no heap and no byte changes
-abbrev pub LocalStep : LocalWorld → LocalCommand → Reply → LocalWorld → Type 0
+abbrev pub LocalStep : World → LocalCommand → Reply → World → Type 0
 LocalStep old (DS selector) Done new = new ≡ record old { ds = selector }
 LocalStep old command (Word answer) new = Answers old command answer new
 LocalStep old command reply new = ⊥

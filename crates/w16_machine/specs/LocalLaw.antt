@@ -1,26 +1,27 @@
 -- The laws that show the definitions of local heaps to be the right ones. Each is the contract of a function of the module `local_laws`.
-use Rattle.std.specs.Prelude.{◌≡◌, ◌≢◌, ℕ, ◌+◌, ◌<◌, ◌≤◌, ◌⊎◌, ◌↔◌, true, List, length, All, Option, Some, None, is_some, option_map, IsSomeAnd}
+use Rattle.std.specs.Prelude.{false, ◌≡◌, ◌≢◌, ℕ, ◌+◌, ◌<◌, ◌≤◌, ◌⊎◌, ◌↔◌, true, List, length, All, Option, Some, None, is_some, option_map, IsSomeAnd}
 use Rattle.std.specs.FinMap as finmap
 use Rattle.w16_model.specs.declared.Span.{Span}
 use Rattle.w16_model.specs.declared.Kind.{Kind}
 use Rattle.w16_model.specs.declared.Kind.TheVariants.{Discardable}
-use Rattle.w16_model.specs.declared.TheConstants.{MOST_SLOTS}
 use Rattle.w16_model.specs.Heap.{Heap, Object, IsHeap, IsMultiple, empty_heap, object_at, bytes_at, is_pinned_object}
 use Rattle.w16_model.specs.Law.{StandsStill}
 use Rattle.w16_model.specs.Far.{FarCommand, IsFarCommand}
+use Rattle.w16_model.specs.Owned.{is_code}
 use Rattle.w16_model.specs.Handles.{slot_of_selector}
 use Rattle.w16_model.specs.Table.{Table, IsSameOutside, heap_in}
 use Rattle.w16_machine.specs.declared.local.TheConstants.{LOCAL_GRAIN, LOCAL_ENTRIES, LAST_LOCAL_END, LMEM_MOVEABLE, LMEM_NOCOMPACT, LMEM_NODISCARD, LMEM_ZEROINIT, LMEM_MODIFY, LMEM_DISCARDABLE, LMEM_DISCARDED}
-use Rattle.w16_machine.specs.World.{with_handles}
-use Rattle.w16_machine.specs.Machine as machine
-use Rattle.w16_machine.specs.Machine.{Reply}
-use Rattle.w16_machine.specs.Machine.Reply.{Word}
-use Rattle.w16_machine.specs.Machine.Command.{OfFar}
-use Rattle.w16_machine.specs.Local.{LocalWorld, LocalHeap, Beginning, IsLocalWorld, IsLowestFree, AreNamed, empty_local_world, segment_bytes, heap_of, local_in, chosen, name_at, id_named, id_at, beginning, selector_or_ds, new_table}
+use Rattle.w16_loading.specs.File.{Format}
+use Rattle.w16_loading.specs.Modules.{with_handles}
+use Rattle.w16_loading.specs.Families.{LoadingCommand}
+use Rattle.w16_loading.specs.Replies.{Reply, FarReplies}
+use Rattle.w16_loading.specs.Replies.Reply.{Word}
+use Rattle.w16_machine.specs.World.{World}
+use Rattle.w16_machine.specs.Local.{LocalHeap, Beginning, AreLocalHeaps, IsLowestFree, AreNamed, segment_bytes, heap_of, local_in, chosen, name_at, id_named, id_at, beginning, selector_or_ds, new_table}
 use Rattle.w16_machine.specs.LocalCalls.{LocalCommand, LocalStep, MakesObject, IsRefusedAlloc}
 use Rattle.w16_machine.specs.LocalCalls.LocalCommand.{LocalInit, LocalReAlloc, LocalDiscard, LocalFree, LocalLock, LocalUnlock, LocalSize, LocalFlags}
-use Rattle.w16_machine.specs.LocalMachine.{Command, IsCommand, Step, Event, Run}
-use Rattle.w16_machine.specs.LocalMachine.Command.{OfMachine, OfLocals}
+use Rattle.w16_machine.specs.Machine.{Command, Step, Event, Run, after_loading}
+use Rattle.w16_machine.specs.Machine.Command.{OfLoading, OfLocals}
 
 -- The figures.
 
@@ -55,9 +56,10 @@ NamedLaw = (heap : Heap) (id : ℕ) → IsHeap heap → AreNamed heap → is_som
 
 -- What LocalInit asks, and where the new heap lies: the segment has bytes up to the end and no local heap; the start isn't below 4, the end
 -- not over 65,536; and between them there is a whole grain.
-pub record MayBegin (w : LocalWorld) (selector start end : ℕ) (b : Beginning) : Type 0 where
-  pub selected : slot_of_selector w.world.handles (selector_or_ds w selector) ≡ Some b.slot
-  pub none : finmap.get w.tables b.slot ≡ None
+pub record MayBegin (w : World) (selector start end : ℕ) (b : Beginning) : Type 0 where
+  pub selected : slot_of_selector w.loading.handles (selector_or_ds w selector) ≡ Some b.slot
+  pub uncoded : is_code w.loading.handles b.slot ≡ false
+  pub none : finmap.get w.heaps b.slot ≡ None
   pub inside : IsSomeAnd (segment_bytes w b.slot) (λ bytes. end ≤ length bytes)
   pub low : 4 ≤ start
   pub high : end ≤ 65536
@@ -66,24 +68,11 @@ pub record MayBegin (w : LocalWorld) (selector start end : ℕ) (b : Beginning) 
   pub some : b.range.from < b.range.to
 
 abbrev pub BeginLaw : Type 0
-BeginLaw = (w : LocalWorld) (selector start end : ℕ) (b : Beginning) → (beginning w selector start end ≡ Some b) ↔ MayBegin w selector start end b
+BeginLaw = (w : World) (selector start end : ℕ) (b : Beginning) → (beginning w selector start end ≡ Some b) ↔ MayBegin w selector start end b
 
 -- a new heap has no object
 abbrev pub NewHeapLaw : Type 0
 NewHeapLaw = (range : Span) (bytes : List ℕ) → heap_in (new_table range) bytes ≡ empty_heap range.from range.to LOCAL_GRAIN
-
--- Worlds.
-
-abbrev pub EmptyLaw : Type 0
-EmptyLaw = (memory slots : ℕ) → slots ≤ MOST_SLOTS → IsLocalWorld (empty_local_world memory slots)
-
--- each step of each family keeps what holds of every world with local heaps
-abbrev pub WorldLaw : Type 0
-WorldLaw = (old new : LocalWorld) (command : Command) (reply : Reply) → IsLocalWorld old → IsCommand command → Step old command reply new → IsLocalWorld new
-
--- so does each run
-abbrev pub RunLaw : Type 0
-RunLaw = (old new : LocalWorld) (events : List Event) → IsLocalWorld old → All (λ e. IsCommand e.command) events → Run old events new → IsLocalWorld new
 
 -- What a local call leaves.
 
@@ -95,28 +84,28 @@ pub record IsRewritten (at : LocalHeap) (before after : Object) : Type 0 where
   pub has : IsSomeAnd after.bytes (λ bytes. (length bytes ≡ length at.bytes) × IsSameOutside at.table.lo at.table.hi at.bytes bytes)
 
 -- the slot's object is as it was, but for bytes in the range of the local heap that DS names
-abbrev pub IsObjectKept : LocalWorld → LocalWorld → ℕ → Type 0
+abbrev pub IsObjectKept : World → World → ℕ → Type 0
 IsObjectKept old new slot =
-    (object_at new.world.handles.heap slot ≡ object_at old.world.handles.heap slot)
+    (object_at new.loading.handles.heap slot ≡ object_at old.loading.handles.heap slot)
     ⊎ IsSomeAnd (chosen old) (λ at. (at.slot ≡ slot)
-    × IsSomeAnd (object_at old.world.handles.heap slot) (λ before. IsSomeAnd (object_at new.world.handles.heap slot) (IsRewritten at before)))
+    × IsSomeAnd (object_at old.loading.handles.heap slot) (λ before. IsSomeAnd (object_at new.loading.handles.heap slot) (IsRewritten at before)))
 
 -- so is each local heap but the one that DS names, which keeps its range; where there was none one may have begun
-abbrev pub IsHeapKept : LocalWorld → LocalWorld → ℕ → Type 0
+abbrev pub IsHeapKept : World → World → ℕ → Type 0
 IsHeapKept old new slot =
-    (finmap.get new.tables slot ≡ finmap.get old.tables slot)
-    ⊎ (finmap.get old.tables slot ≡ None)
-    ⊎ IsSomeAnd (chosen old) (λ at. (at.slot ≡ slot) × IsSomeAnd (finmap.get new.tables slot) (λ t. (t.lo ≡ at.table.lo) × (t.hi ≡ at.table.hi)))
+    (finmap.get new.heaps slot ≡ finmap.get old.heaps slot)
+    ⊎ ((finmap.get old.heaps slot ≡ None) × (is_code old.loading.handles slot ≡ false))
+    ⊎ IsSomeAnd (chosen old) (λ at. (at.slot ≡ slot) × IsSomeAnd (finmap.get new.heaps slot) (λ t. (t.lo ≡ at.table.lo) × (t.hi ≡ at.table.hi)))
 
 -- Whatever a local call answers: no address, no order of use and no other part of the handles changes, the number of bytes moved among them.
-pub record KeepsRest (old new : LocalWorld) : Type 0 where
-  pub handles : new.world.handles ≡ record old.world.handles { heap = record old.world.handles.heap { objects = new.world.handles.heap.objects } }
-  pub world : new.world ≡ with_handles old.world new.world.handles
+pub record KeepsRest (old new : World) : Type 0 where
+  pub handles : new.loading.handles ≡ record old.loading.handles { heap = record old.loading.handles.heap { objects = new.loading.handles.heap.objects } }
+  pub loading : new.loading ≡ with_handles old.loading new.loading.handles
   pub objects : (slot : ℕ) → IsObjectKept old new slot
   pub heaps : (slot : ℕ) → IsHeapKept old new slot
 
 abbrev pub FrameLaw : Type 0
-FrameLaw = (old new : LocalWorld) (command : LocalCommand) (reply : Reply) → IsLocalWorld old → LocalStep old command reply new → KeepsRest old new
+FrameLaw = (old new : World) (command : LocalCommand) (reply : Reply) → AreLocalHeaps old → LocalStep old command reply new → KeepsRest old new
 
 -- Inside the local heap.
 
@@ -137,13 +126,13 @@ pub record IsLocalKept (old new : Heap) (q : ℕ) (o : Object) : Type 0 where
   pub place : is_pinned_object o ≡ true → StandsStill old new q
 
 abbrev pub OthersLaw : Type 0
-OthersLaw = (old new : LocalWorld) (command : LocalCommand) (reply : Reply) (at after : LocalHeap) (q : ℕ) (o : Object) → IsLocalWorld old → LocalStep old command reply new
+OthersLaw = (old new : World) (command : LocalCommand) (reply : Reply) (at after : LocalHeap) (q : ℕ) (o : Object) → AreLocalHeaps old → LocalStep old command reply new
     → chosen old ≡ Some at → local_in new at.slot ≡ Some after
     → object_at (heap_of at) q ≡ Some o → ((name : ℕ) → named_by command ≡ Some name → name_at (heap_of at) q ≢ Some name) → IsLocalKept (heap_of at) (heap_of after) q o
 
 -- an allocation isn't both refused and answered
 abbrev pub OutcomeLaw : Type 0
-OutcomeLaw = (old new : LocalWorld) (at : LocalHeap) (flags size id answer : ℕ) → IsHeap (heap_of at) → IsLowestFree (heap_of at) id → MakesObject old at flags size id answer new → IsRefusedAlloc (heap_of at) flags size → ⊥
+OutcomeLaw = (old new : World) (at : LocalHeap) (flags size id answer : ℕ) → IsHeap (heap_of at) → IsLowestFree (heap_of at) id → MakesObject old at flags size id answer new → IsRefusedAlloc (heap_of at) flags size → ⊥
 
 -- Far accesses.
 
@@ -157,34 +146,34 @@ pub record HasSameObjects (old new : Heap) : Type 0 where
   pub objects : (id : ℕ) → option_map but_bytes (object_at new id) ≡ option_map but_bytes (object_at old id)
 
 abbrev pub FarLaw : Type 0
-FarLaw = (old new : LocalWorld) (command : FarCommand) (reply : Reply) → IsLocalWorld old → IsFarCommand command → Step old (OfMachine (OfFar command)) reply new
-    → (new.tables ≡ old.tables) × ((slot : ℕ) (at after : LocalHeap) → local_in old slot ≡ Some at → local_in new slot ≡ Some after → HasSameObjects (heap_of at) (heap_of after))
+FarLaw = (old new : World) (command : FarCommand) (reply : Reply) → AreLocalHeaps old → IsFarCommand command → FarReplies old.loading.handles command reply new.loading.handles → new ≡ after_loading old new.loading
+    → (new.heaps ≡ old.heaps) × ((slot : ℕ) (at after : LocalHeap) → local_in old slot ≡ Some at → local_in new slot ≡ Some after → HasSameObjects (heap_of at) (heap_of after))
 
 -- Heaps that go.
 
 -- a step of the other families leaves a local heap exactly where its segment still has its range
 abbrev pub GoesLaw : Type 0
-GoesLaw = (old new : LocalWorld) (command : machine.Command) (reply : Reply) → Step old (OfMachine command) reply new → (slot : ℕ) (t : Table)
-    → (finmap.get new.tables slot ≡ Some t) ↔ ((finmap.get old.tables slot ≡ Some t) × IsSomeAnd (bytes_at new.world.handles.heap slot) (λ bytes. t.hi ≤ length bytes))
+GoesLaw = (format : Format) (old new : World) (command : LoadingCommand) (reply : Reply) → Step ⊥ format old (OfLoading command) reply new → (slot : ℕ) (t : Table)
+    → (finmap.get new.heaps slot ≡ Some t) ↔ ((finmap.get old.heaps slot ≡ Some t) × IsSomeAnd (bytes_at new.loading.handles.heap slot) (λ bytes. t.hi ≤ length bytes))
 
 -- a heap began: LocalInit answered 1, and it has no object
-pub record IsBegun (command : Command) (reply : Reply) (new : LocalWorld) (slot : ℕ) : Type 0 where
+pub record IsBegun (command : Command) (reply : Reply) (new : World) (slot : ℕ) : Type 0 where
   pub selector : ℕ
   pub start : ℕ
   pub end : ℕ
   pub asked : command ≡ OfLocals (LocalInit selector start end)
   pub answered : reply ≡ Word 1
   pub range : Span
-  pub begun : finmap.get new.tables slot ≡ Some (new_table range)
+  pub begun : finmap.get new.heaps slot ≡ Some (new_table range)
 
 -- where there is no local heap there is none after a step, unless one began
 abbrev pub NeverBackLaw : Type 0
-NeverBackLaw = (old new : LocalWorld) (command : Command) (reply : Reply) → Step old command reply new → (slot : ℕ) → finmap.get old.tables slot ≡ None
-    → (finmap.get new.tables slot ≡ None) ⊎ IsBegun command reply new slot
+NeverBackLaw = (format : Format) (old new : World) (command : Command) (reply : Reply) → Step ⊥ format old command reply new → (slot : ℕ) → finmap.get old.heaps slot ≡ None
+    → (finmap.get new.heaps slot ≡ None) ⊎ IsBegun command reply new slot
 
 -- so a heap that is gone is gone after any run in which no LocalInit is answered 1
 abbrev pub BeginsNone : Event → Type 0
 BeginsNone event = (selector start end : ℕ) → event.command ≡ OfLocals (LocalInit selector start end) → event.reply ≢ Word 1
 
 abbrev pub GoneLaw : Type 0
-GoneLaw = (old new : LocalWorld) (events : List Event) → Run old events new → All BeginsNone events → (slot : ℕ) → finmap.get old.tables slot ≡ None → finmap.get new.tables slot ≡ None
+GoneLaw = (format : Format) (old new : World) (events : List Event) → Run (Step ⊥ format) old events new → All BeginsNone events → (slot : ℕ) → finmap.get old.heaps slot ≡ None → finmap.get new.heaps slot ≡ None

@@ -3,32 +3,46 @@ use Rattle.std.specs.Prelude.{◌≡◌, ℕ, Bool, true, false, length, Option,
 use Rattle.w16_model.specs.Heap.{bytes_at}
 use Rattle.w16_model.specs.Handles.{Handles}
 use Rattle.w16_model.specs.Calls.{HandleCommand}
-use Rattle.w16_model.specs.Calls.HandleCommand.{GlobalAlloc, GlobalFree, GlobalCompact}
+use Rattle.w16_model.specs.CallLaws.{may_change}
+use Rattle.w16_model.specs.Outcomes.Call.{Calls}
+use Rattle.w16_loading.specs.AnyStore.{reads_files}
+use Rattle.w16_loading.specs.File.{Format}
+use Rattle.w16_loading.specs.Families.{LoadingCommand, ModuleCommand, ResourceCommand}
+use Rattle.w16_loading.specs.Families.LoadingCommand.{OfHandles, OfResizes, OfFar, OfModules, OfResources}
+use Rattle.w16_loading.specs.Families.ModuleCommand.{LoadModule, LoadLibrary, FreeLibrary, FreeModule}
+use Rattle.w16_loading.specs.Families.ResourceCommand.{LoadResource, LockResource, FreeResource}
+use Rattle.w16_loading.specs.Modules.{LoadingWorld}
+use Rattle.w16_loading.specs.Replies.{Reply}
 use Rattle.w16_machine.specs.World.{World}
-use Rattle.w16_machine.specs.Machine as machine
-use Rattle.w16_machine.specs.Machine.{Reply}
-use Rattle.w16_machine.specs.Machine.Command.{OfHandles, OfResizes, OfFar}
-use Rattle.w16_machine.specs.Local.{LocalWorld, IsLocalWorld}
-use Rattle.w16_machine.specs.LocalMachine.{Command, Step}
-use Rattle.w16_machine.specs.LocalMachine.Command.{OfMachine, OfLocals}
+use Rattle.w16_machine.specs.Local.{AreLocalHeaps}
+use Rattle.w16_machine.specs.Machine.{Step, StoreStep}
+use Rattle.w16_machine.specs.Machine.Command.{OfLoading}
 
 -- GlobalAlloc and GlobalCompact may discard objects, and GlobalFree takes one away.
 abbrev pub call_may_take : HandleCommand → Bool
-call_may_take (GlobalAlloc flags size) = true
-call_may_take (GlobalFree handle) = true
-call_may_take (GlobalCompact size) = true
-call_may_take command = false
+call_may_take command = may_change (Calls command)
 
--- GlobalReAlloc and GlobalDiscard may discard objects too, and cut one. No other step takes bytes of an object.
-abbrev pub step_may_take : machine.Command → Bool
-step_may_take (OfHandles command) = call_may_take command
-step_may_take (OfResizes command) = true
-step_may_take (OfFar command) = false
+-- Loads, and modules and resources that go, take objects away; loads and fetches may discard them.
+abbrev pub modules_may_take : ModuleCommand → Bool
+modules_may_take (LoadModule file) = true
+modules_may_take (LoadLibrary file) = true
+modules_may_take (FreeLibrary handle) = true
+modules_may_take (FreeModule handle) = true
+modules_may_take other = false
 
--- a local call takes none of its segment's
-abbrev pub may_take_bytes : Command → Bool
-may_take_bytes (OfMachine command) = step_may_take command
-may_take_bytes (OfLocals command) = false
+abbrev pub resources_may_take : ResourceCommand → Bool
+resources_may_take (LoadResource handle place) = true
+resources_may_take (LockResource handle) = true
+resources_may_take (FreeResource handle) = true
+resources_may_take other = false
+
+-- GlobalReAlloc and GlobalDiscard may discard objects too, and cut one. A far access may where it fetches.
+abbrev pub step_may_take : LoadingWorld → LoadingCommand → Bool
+step_may_take old (OfHandles command) = call_may_take command
+step_may_take old (OfResizes command) = true
+step_may_take old (OfFar command) = reads_files old (OfFar command)
+step_may_take old (OfModules command) = modules_may_take command
+step_may_take old (OfResources command) = resources_may_take command
 
 -- how many bytes an object has, if it has any
 abbrev pub size_at : Handles → ℕ → Option ℕ
@@ -40,8 +54,8 @@ HasSameSizes old new = (slot : ℕ) → size_at new slot ≡ size_at old slot
 
 -- The laws. A step of any other command leaves each object as many bytes,
 abbrev pub SizesLaw : Type 0
-SizesLaw = (old new : World) (command : machine.Command) (reply : Reply) → step_may_take command ≡ false → machine.Step old command reply new → HasSameSizes old.handles new.handles
+SizesLaw = (format : Format) (old new : LoadingWorld) (command : LoadingCommand) (reply : Reply) → step_may_take old command ≡ false → StoreStep ⊥ format old command reply new → HasSameSizes old.handles new.handles
 
 -- and so it keeps each local heap.
-abbrev pub TablesLaw : Type 0
-TablesLaw = (old new : LocalWorld) (command : machine.Command) (reply : Reply) → IsLocalWorld old → step_may_take command ≡ false → Step old (OfMachine command) reply new → new.tables ≡ old.tables
+abbrev pub HeapsLaw : Type 0
+HeapsLaw = (format : Format) (old new : World) (command : LoadingCommand) (reply : Reply) → AreLocalHeaps old → step_may_take old.loading command ≡ false → Step ⊥ format old (OfLoading command) reply new → new.heaps ≡ old.heaps

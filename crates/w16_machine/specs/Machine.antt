@@ -1,65 +1,52 @@
--- The machine: its commands in families, its replies, and what each step leaves of the world.
-use Rattle.std.specs.Prelude.{◌≡◌, ℕ, List, [], ◌∷◌, IsSomeAnd, Option, Some, None}
-use Rattle.w16_model.specs.declared.FarFault.{FarFault}
-use Rattle.w16_model.specs.Calls as calls
-use Rattle.w16_model.specs.Calls.{HandleCommand, HandleStep}
-use Rattle.w16_model.specs.Far as far
-use Rattle.w16_model.specs.Far.{FarCommand, FarStep, IsFarCommand}
+-- The machine: its commands, what a step of each leaves of the world, and runs.
+use Rattle.std.specs.Prelude.{◌≡◌, ◌≤◌, true, List, [], ◌∷◌}
 use Rattle.w16_model.specs.Handles.{Handles}
-use Rattle.w16_machine.specs.World.{World, with_handles}
-use Rattle.w16_machine.specs.Resizes.{ResizeCommand, ResizeStep}
+use Rattle.w16_loading.specs.File.{Format}
+use Rattle.w16_loading.specs.Modules.{LoadingWorld}
+use Rattle.w16_loading.specs.Families.{LoadingCommand, IsLoadingCommand, LoadingStep}
+use Rattle.w16_loading.specs.Families.LoadingCommand.{OfHandles, OfResizes, OfFar}
+use Rattle.w16_loading.specs.AnyStore.{AnyStep, reads_files}
+use Rattle.w16_loading.specs.Replies.{Reply, HandleReplies, ResizeReplies, FarReplies}
+use Rattle.w16_machine.specs.World.{World}
+use Rattle.w16_machine.specs.Local.{left_in}
+use Rattle.w16_machine.specs.LocalCalls.{LocalCommand, LocalStep}
 
--- a command of one of the families
+-- a command of loading, which has the calls on handles and the far accesses too, or one on local heaps
 pub data Command : Type 0 where
-  OfHandles : HandleCommand → Command
-  OfResizes : ResizeCommand → Command
-  OfFar : FarCommand → Command
+  OfLoading : LoadingCommand → Command
+  OfLocals : LocalCommand → Command
 
 -- its numbers are in their range, where they have one
 abbrev pub IsCommand : Command → Type 0
-IsCommand (OfHandles command) = Unit {0}
-IsCommand (OfResizes command) = Unit {0}
-IsCommand (OfFar command) = IsFarCommand command
+IsCommand (OfLoading command) = IsLoadingCommand command
+IsCommand (OfLocals command) = Unit {0}
 
--- what is printed of an answer, whichever family gave it
-pub data Reply : Type 0 where
-  Word : (value : ℕ) → Reply
-  Dword : (value : ℕ) → Reply
-  Bytes : (bytes : List ℕ) → Reply
-  Done : Reply
-  Fault : (fault : FarFault) → Reply
-  -- so many objects with bytes and holes, which a walk then tells one by one
-  Walked : (count : ℕ) → Reply
+-- What a command does to handles alone, where it does nothing else: a call on them, or a far access that fetches nothing.
+abbrev pub OnHandles : Handles → LoadingCommand → Reply → Handles → Type 0
+OnHandles old (OfHandles command) reply new = HandleReplies old command reply new
+OnHandles old (OfResizes command) reply new = ResizeReplies old command reply new
+OnHandles old (OfFar command) reply new = FarReplies old command reply new
+OnHandles old command reply new = ⊥
 
--- the answer of a call on handles that a reply prints, if it prints one
-abbrev pub answer_in : Reply → Option calls.Answer
-answer_in (Word n) = Some (calls.Answer.Word n)
-answer_in (Dword n) = Some (calls.Answer.Dword n)
-answer_in (Walked count) = Some (calls.Answer.Walked count)
-answer_in other = None
+-- A step of loading over a store: what it is whatever the store answers; and by the format and the store's files, where no file is read or the
+-- store is honest.
+pub record StoreStep (honest : Type 0) (format : Format) (old : LoadingWorld) (command : LoadingCommand) (reply : Reply) (new : LoadingWorld) : Type 0 where
+  pub any : AnyStep old command reply new
+  pub exact : (reads_files old command ≡ true → honest) → LoadingStep format old command reply new
 
--- and the answer of a far access
-abbrev pub far_answer_in : Reply → Option far.FarAnswer
-far_answer_in (Bytes bytes) = Some (far.FarAnswer.Bytes bytes)
-far_answer_in Done = Some far.FarAnswer.Done
-far_answer_in (Fault fault) = Some (far.FarAnswer.Fault fault)
-far_answer_in other = None
+-- the world that a step of loading leaves: the local heaps stay whose segments still have their ranges
+abbrev pub after_loading : World → LoadingWorld → World
+after_loading old loading = record { loading = loading; heaps = left_in loading.handles.heap old.heaps; ds = old.ds }
 
--- a step of a family, its answer being the one that a reply prints
-abbrev pub HandleReplies : Handles → HandleCommand → Reply → Handles → Type 0
-HandleReplies old command reply new = IsSomeAnd (answer_in reply) (λ answer. HandleStep old command answer new)
+-- One step, over a store that is honest where the premise holds.
+abbrev pub Step : Type 0 → Format → World → Command → Reply → World → Type 0
+Step honest format old (OfLoading command) reply new = StoreStep honest format old.loading command reply new.loading × (new ≡ after_loading old new.loading)
+Step honest format old (OfLocals command) reply new = LocalStep old command reply new
 
-abbrev pub ResizeReplies : Handles → ResizeCommand → Reply → Handles → Type 0
-ResizeReplies old command reply new = IsSomeAnd (answer_in reply) (λ answer. ResizeStep old command answer new)
-
-abbrev pub FarReplies : Handles → FarCommand → Reply → Handles → Type 0
-FarReplies old command reply new = IsSomeAnd (far_answer_in reply) (λ answer. FarStep old command answer new)
-
--- one step: from old, the machine may give this reply to the command and go on to new; a family changes its own part of the world alone
-abbrev pub Step : World → Command → Reply → World → Type 0
-Step old (OfHandles command) reply new = HandleReplies old.handles command reply new.handles × (new ≡ with_handles old new.handles)
-Step old (OfResizes command) reply new = ResizeReplies old.handles command reply new.handles × (new ≡ with_handles old new.handles)
-Step old (OfFar command) reply new = FarReplies old.handles command reply new.handles × (new ≡ with_handles old new.handles)
+-- the same world, which says nothing of the count of failures, but that it isn't lowered
+pub record IsSame (old new : World) : Type 0 where
+  pub counted : old.loading.failures ≤ new.loading.failures
+  pub same : new ≡ record old { loading = record old.loading { failures = new.loading.failures } }
 
 -- Runs.
 
@@ -69,7 +56,11 @@ pub record Event : Type 0 where
   pub reply : Reply
   pub after : World
 
--- the machine may take these steps, one after another, from old to new
-abbrev pub Run : World → List Event → World → Type 0
-Run old [] new = new ≡ old
-Run old (event ∷ events) new = Step old event.command event.reply event.after × Run event.after events new
+-- which steps may be taken
+abbrev pub Steps : Type 1
+Steps = World → Command → Reply → World → Type 0
+
+-- such steps, one after another, from old to new
+abbrev pub Run : Steps → World → List Event → World → Type 0
+Run steps old [] new = new ≡ old
+Run steps old (event ∷ events) new = steps old event.command event.reply event.after × Run steps event.after events new

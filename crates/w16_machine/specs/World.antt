@@ -1,25 +1,26 @@
--- The world that a script sees: what each layer of the machine has. Today that is the handles alone.
+-- The world of the whole machine.
 use Rattle.std.specs.Prelude.{ℕ, List}
+use Rattle.std.specs.Ordering.{nat_cmp}
+use Rattle.std.specs.FinMap as finmap
+use Rattle.std.specs.FinMap.{FinMap}
 use Rattle.w16_model.specs.declared.Item.{Item}
+use Rattle.w16_model.specs.Handles.{handle_of}
+use Rattle.w16_model.specs.Table.{Table}
 use Rattle.w16_model.specs.Walk.{IsWalk}
-use Rattle.w16_model.specs.Handles.{Handles, AreHandles, empty_handles, handle_of}
+use Rattle.w16_loading.specs.Modules.{LoadingWorld}
+use Rattle.w16_loading.specs.Law.{empty_loading_world}
 
+-- What loading has of it (handles, modules, loads of resources, the store's files and its count of failures), each local heap's table by its
+-- segment's slot, and DS, the selector that names the segment in whose heap the Local calls act.
 pub record World : Type 0 where
-  -- the global heap, its handles and selectors
-  pub handles : Handles
+  pub loading : LoadingWorld
+  pub heaps : FinMap nat_cmp Table
+  pub ds : ℕ
 
--- a world with other handles
-abbrev pub with_handles : World → Handles → World
-with_handles world handles = record world { handles = handles }
+-- the world over a memory and a store, with so many slots, in which nothing is allocated and nothing loaded
+abbrev pub empty_world : ℕ → ℕ → List (List ℕ × List ℕ) → ℕ → World
+empty_world memory slots files failures = record { loading = empty_loading_world memory slots files failures; heaps = finmap.empty; ds = 0 }
 
--- the world over a memory, and with so many selectors, in which nothing is allocated
-abbrev pub empty_world : ℕ → ℕ → World
-empty_world memory slots = record { handles = empty_handles memory slots }
-
--- what holds of every world
-pub record IsWorld (world : World) : Type 0 where
-  pub handles : AreHandles world.handles
-
--- the walk of a world names objects by their handles
+-- its walk names objects by their handles
 abbrev pub IsWorldWalk : World → List Item → Type 0
-IsWorldWalk world items = IsWalk handle_of world.handles.heap items
+IsWorldWalk world items = IsWalk handle_of world.loading.handles.heap items

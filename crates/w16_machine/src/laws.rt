@@ -1,16 +1,26 @@
-//! The laws of the definitions. Each function does nothing: its contract is the law.
-ghost use Rattle.w16_machine.specs.Law.{EmptyLaw, WorldLaw};
-ghost use Rattle.w16_machine.specs.Fewest.{FewestLaw};
+//! The laws of steps and runs of the whole machine. Each function does nothing: its contract is the law.
+ghost use Rattle.w16_machine.specs.Law.{EmptyLaw, FewestLaw, FilesLaw, RunFilesLaw, RunWorldLaw, WorldLaw};
 
-/// The world in which nothing is allocated is one, and each step keeps what holds of every world: no two objects share a byte, each stands
-/// in memory, and the rest.
-pub fn steps_keep_worlds()
-    ensures begin { EmptyLaw }
-    ensures step { WorldLaw }
+/// The world in which nothing is allocated and nothing loaded is one, and all in it is of its file.
+pub fn nothing_allocated_is_a_world()
+    ensures { EmptyLaw }
 {}
 
-/// In every run each call for room discards as few objects as it can, whichever way the others slide, and is refused for room only where
-/// no discards would have made it.
+/// Over a store of which nothing is known each step keeps what holds of every world: no two objects share a byte, each stands in memory, each
+/// local heap lies in its segment and in no code, and the rest. Over an honest store code still reads as its file's relocated bytes.
+pub fn steps_keep_worlds()
+    ensures worlds { WorldLaw }
+    ensures files { FilesLaw }
+{}
+
+/// So do whole runs.
+pub fn runs_keep_worlds()
+    ensures worlds { RunWorldLaw }
+    ensures files { RunFilesLaw }
+{}
+
+/// In every run each call for room discards as few objects as it can, of the global heap or of a local one, whichever way the others slide,
+/// and is refused for room only where no discards would have made it.
 pub fn runs_discard_fewest()
     ensures { FewestLaw }
 {}

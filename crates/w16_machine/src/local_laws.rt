@@ -1,8 +1,7 @@
 //! The laws of local heaps. Each function does nothing: its contract is the law.
-ghost use Rattle.w16_machine.specs.LocalLaw.{AreFigures, AreFlags, BeginLaw, EmptyLaw, FarLaw, FrameLaw, GoesLaw, GoneLaw, NamedLaw, NamesLaw, NeverBackLaw, NewHeapLaw, OthersLaw, OutcomeLaw, RunLaw, WorldLaw};
+ghost use Rattle.w16_machine.specs.LocalLaw.{AreFigures, AreFlags, BeginLaw, FarLaw, FrameLaw, GoesLaw, GoneLaw, NamedLaw, NamesLaw, NeverBackLaw, NewHeapLaw, OthersLaw, OutcomeLaw};
 ghost use Rattle.w16_machine.specs.LocalFewest.{AllocLaw, CompactLaw, ReallocLaw};
-ghost use Rattle.w16_machine.specs.LocalRuns.{FewestLaw};
-ghost use Rattle.w16_machine.specs.LocalStays.{SizesLaw, TablesLaw};
+ghost use Rattle.w16_machine.specs.LocalStays.{SizesLaw, HeapsLaw};
 
 /// The figures of local heaps and the flags of the Local calls are these numbers.
 pub fn figures_of_local_heaps()
@@ -20,14 +19,6 @@ pub fn local_names_are_exact()
 pub fn local_heaps_begin_empty()
     ensures begin { BeginLaw }
     ensures empty { NewHeapLaw }
-{}
-
-/// Each step of each family keeps what holds of every world with local heaps: each lies in its segment, and no two of its objects share a
-/// byte. So do whole runs.
-pub fn steps_keep_local_worlds()
-    ensures begin { EmptyLaw }
-    ensures step { WorldLaw }
-    ensures run { RunLaw }
 {}
 
 /// A local call changes bytes in the range of the chosen heap alone, and no address, no order of use and no other heap of the world.
@@ -66,15 +57,9 @@ pub fn local_calls_discard_fewest()
     ensures compact { CompactLaw }
 {}
 
-/// In every run of the machine with local heaps each call for room discards as few objects as it can, of the global heap or of a local one,
-/// and is refused for room only where no discards would have made it.
-pub fn local_runs_discard_fewest()
-    ensures { FewestLaw }
-{}
-
-/// GlobalAlloc, GlobalFree, GlobalReAlloc, GlobalDiscard and GlobalCompact alone may take bytes of an object: a step of any other command
-/// leaves each as many, and each local heap its table.
+/// Calls that ask for room, that free or cut an object, loads, fetches and modules or resources that go alone may take bytes of an object: a
+/// step of any other command leaves each as many, and each local heap.
 pub fn other_steps_keep_local_heaps()
     ensures sizes { SizesLaw }
-    ensures tables { TablesLaw }
+    ensures heaps { HeapsLaw }
 {}

@@ -119,7 +119,7 @@ pub global_compact_law : GlobalCompactLaw
 global_compact_law old new size answer are step = compaction_law old.heap new.heap size answer are.heap step.compacted
 
 -- a handle isn't 0
-some_handle : (kind : Kind) (slot : ℕ) → handle_of kind slot ≡ 0 → ⊥
+pub some_handle : (kind : Kind) (slot : ℕ) → handle_of kind slot ≡ 0 → ⊥
 some_handle Fixed slot e = omega arith
 some_handle Moveable slot e = omega arith
 some_handle Discardable slot e = omega arith

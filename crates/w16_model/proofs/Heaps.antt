@@ -141,7 +141,7 @@ block_of_id places e x h = turn e.1.bytes h
     turn None k = cc
     turn (Some bytes) k = let same : block_from places e.0 e.1 bytes ≡ x = cc in ap (λ (y : Block). y.id) (sym same)
 
-blocks_rise : (places : FinMap nat_cmp ℕ) (es : List (ℕ × Object)) → EachPair (λ d e. d.0 < e.0) es → EachPair (λ x y. x.id < y.id) (filter_map (block_of places) es)
+pub blocks_rise : (places : FinMap nat_cmp ℕ) (es : List (ℕ × Object)) → EachPair (λ d e. d.0 < e.0) es → EachPair (λ x y. x.id < y.id) (filter_map (block_of places) es)
 blocks_rise places [] h = tt
 blocks_rise places (e ∷ es) h =
     let rest : EachPair (λ x y. x.id < y.id) (filter_map (block_of places) es) = blocks_rise places es h.1 in

@@ -22,7 +22,7 @@ use Rattle.w16_model.proofs.Reallocations.{asked, by_case, none_discarded}
 -- The order of use without some.
 
 -- all stay where none goes
-all_stay : (order : List ℕ) → filter (λ q. true) order ≡ order
+pub all_stay : (order : List ℕ) → filter (λ q. true) order ≡ order
 all_stay [] = refl
 all_stay (q ∷ order) = ap (λ (l : List ℕ). q ∷ l) (all_stay order)
 
@@ -40,22 +40,22 @@ module _ (id : ℕ) (ids : List ℕ) where
   one_more q inner rest same true = same
   one_more q inner rest same false = ap (λ (l : List ℕ). cond {A = List ℕ} (not (is_member q ids)) (q ∷ l) l) same
 
-  at_once : (order : List ℕ) → without_all ids (without id order) ≡ without_all (id ∷ ids) order
+  pub at_once : (order : List ℕ) → without_all ids (without id order) ≡ without_all (id ∷ ids) order
   at_once [] = refl
   at_once (q ∷ order) = one_more q (without id order) (without_all (id ∷ ids) order) (at_once order) (q == id)
       ∙ ap (λ b. cond {A = List ℕ} (not (b || is_member q ids)) (q ∷ without_all (id ∷ ids) order) (without_all (id ∷ ids) order)) (turned q id)
 
 -- what discards leave of it
-absents_order : (ids : List ℕ) (heap : Heap) → (fold absent heap ids).order ≡ without_all ids heap.order
+pub absents_order : (ids : List ℕ) (heap : Heap) → (fold absent heap ids).order ≡ without_all ids heap.order
 absents_order [] heap = sym (all_stay heap.order)
 absents_order (id ∷ ids) heap = absents_order ids (absent heap id) ∙ at_once id ids heap.order
 
 -- they leave the rest of the heap
-absents_rest : (ids : List ℕ) (heap : Heap) → ((fold absent heap ids).lo ≡ heap.lo) × ((fold absent heap ids).hi ≡ heap.hi) × ((fold absent heap ids).grain ≡ heap.grain)
+pub absents_rest : (ids : List ℕ) (heap : Heap) → ((fold absent heap ids).lo ≡ heap.lo) × ((fold absent heap ids).hi ≡ heap.hi) × ((fold absent heap ids).grain ≡ heap.grain)
 absents_rest [] heap = (refl, refl, refl)
 absents_rest (id ∷ ids) heap = absents_rest ids (absent heap id)
 
-no_more : (l : List ℕ) → l ++ [] ≡ l
+pub no_more : (l : List ℕ) → l ++ [] ≡ l
 no_more [] = refl
 no_more (q ∷ l) = ap (λ (m : List ℕ). q ∷ m) (no_more l)
 

@@ -61,7 +61,7 @@ module _ (id : ℕ) (order : List ℕ) where
   kept_order false has t = without_out id order t
 
   -- the others stand as before
-  rest_order : (was now has : Bool) → without id (ordered was now has) ≡ without id order
+  pub rest_order : (was now has : Bool) → without id (ordered was now has) ≡ without id order
   rest_order true true has = refl
   rest_order true false has = twice_out id order
   rest_order false true true = filter-append (λ q. not (q == id)) (without id order) (id ∷ []) ∙ (λ i. twice_out id order i ++ cond {A = List ℕ} (not (eq-eqb id id refl i)) (id ∷ []) []) ∙ no_more (without id order)

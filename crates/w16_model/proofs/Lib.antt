@@ -20,6 +20,7 @@ pub mod Ranges
 pub mod Naming
 pub mod KeptHeaps
 pub mod Accesses
+pub mod CallOutcomes
 pub mod KeptHandles
 pub mod Empty
 pub mod Walks
@@ -39,3 +40,7 @@ pub mod Reallocations
 pub mod Absence
 pub mod KeptRest
 pub mod ResizedHandles
+pub mod CallLaws
+pub mod FarLaws
+pub mod CallOrders
+pub mod Bystanders

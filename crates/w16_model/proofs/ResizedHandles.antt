@@ -1,25 +1,35 @@
--- GlobalReAlloc on handles: what it keeps of them, and how few it discards.
-use Rattle.std.proofs.Common.{◌≡◌, ◌≢◌, ℕ, ◌<◌, inl, inr, Bool, true, false, ◌||◌, ◌==◌, nat_lt, MatchBool, MatchOption, IfOk, IfSome, IsSomeAnd, take, Option, Some, None, Result, Ok, Err, is_some, refl, sym, ap, ◌∙◌, subst, arith, ne_eqb, ltb-true}
+-- Each call keeps what holds of handles; GlobalReAlloc leaves the heap where it is NULL, and discards as few as it can.
+use Rattle.std.proofs.Common.{◌≡◌, ◌≢◌, ℕ, ◌<◌, inl, inr, Bool, true, false, ◌||◌, ◌==◌, nat_lt, MatchBool, MatchOption, IfOk, IfSome, IsSomeAnd, take, Option, Some, None, Result, Ok, Err, is_some, option_map, unwrap_or, refl, sym, ap, ◌∙◌, subst, arith, ne_eqb, ltb-true}
 use Rattle.std.proofs.lemmas.Bool.{false≢true, cases_Bool, cases_eq}
 use Rattle.w16_model.specs.declared.Kind.{Kind}
-use Rattle.w16_model.specs.declared.Kind.TheVariants.{Fixed, Moveable, Discardable}
+use Rattle.w16_model.specs.declared.Kind.TheVariants.{Discardable}
 use Rattle.w16_model.specs.declared.Refusal.{Refusal}
 use Rattle.w16_model.specs.declared.Refusal.TheVariants as refusals
-use Rattle.w16_model.specs.declared.TheConstants.{LARGEST_SIZE, GMEM_MOVEABLE, GMEM_MODIFY}
+use Rattle.w16_model.specs.declared.TheConstants.{LARGEST_SIZE, GMEM_MODIFY}
 use Rattle.w16_model.specs.declared.Way.{Way}
 use Rattle.w16_model.specs.Discards.{eligible, is_member}
 use Rattle.w16_model.specs.Heap.{Heap, Object, IsHeap, blocks, object_at, size_of, is_fixed}
-use Rattle.w16_model.specs.Changes.{absent}
-use Rattle.w16_model.specs.Request.{Reallocates, moved_bytes}
+use Rattle.w16_model.specs.Changes.{absent, newest, oldest, with_newest}
+use Rattle.w16_model.specs.Request.{Reallocates, moved_bytes, stays_for}
+use Rattle.w16_model.specs.Law.{HandleLaw}
+use Rattle.w16_model.specs.Outcomes.{Call, Outcome, attributes_asked}
+use Rattle.w16_model.specs.Outcomes.Call.{Calls, ReAllocs}
+use Rattle.w16_model.specs.Outcomes.Outcome.{IsSame, IsUnmoved, IsLocked, IsUnlocked, IsFreed, IsNewest, IsOldest, IsEntered, IsAllocated, IsCompacted, IsModified, IsDiscarded, IsResized}
 use Rattle.w16_model.specs.OneObject.{after_modify, after_discard}
 use Rattle.w16_model.specs.Handles.{Handles, AreHandles, slot_of_handle, handle_of}
-use Rattle.w16_model.specs.Calls.{has_flag, rounded_size}
+use Rattle.w16_model.specs.Calls.{HandleCommand, Answer, GlobalCompacts, has_flag, rounded_size, kind_asked, way_asked}
+use Rattle.w16_model.specs.Calls.Answer.{Word, Dword}
+use Rattle.w16_model.specs.Calls.HandleCommand.{GlobalCompact}
+use Rattle.w16_model.specs.Owned.{is_owned}
 use Rattle.w16_model.specs.Reallocation.{ChangesKind, KeepsRest, LacksPlace, ReallocatesFewest}
-use Rattle.w16_model.specs.Resizes.{way_asked_again, kind_modified, modified, IsNull, Again, AnswersDiscard, Empties, Resizes, GlobalReAllocs, ResizeLaw, NullLaw, ResizeFewestLaw}
+use Rattle.w16_model.specs.Resizes.{way_asked_again, kind_modified, modified, IsNull, Again, Empties, Resizes, ReAllocsOwn, ResizeLaw, NullLaw, ResizeFewestLaw}
+use Rattle.w16_model.proofs.Fewest.{some_handle}
 use Rattle.w16_model.proofs.Naming.{names_law}
-use Rattle.w16_model.proofs.KeptHandles.{moved_handles, other_handles, same_updated}
+use Rattle.w16_model.proofs.KeptHandles.{moved_handles, other_handles, same_updated, with_new_object, with_absent_object, without_object, settled_handles, locked_kept, unlocked_kept, ordered_kept}
+use Rattle.w16_model.proofs.KeptHeaps.{newest_heap, oldest_heap, ordered}
+use Rattle.w16_model.proofs.CallOutcomes.{outcome}
 use Rattle.w16_model.proofs.KindChanges.{kind_law, kind_heap_law, modify_none}
-use Rattle.w16_model.proofs.Absence.{discard_heap_law, discard_absent}
+use Rattle.w16_model.proofs.Absence.{absent_heap, discard_heap_law, discard_absent}
 use Rattle.w16_model.proofs.Reallocations.{heap_law, fewest_law}
 use Rattle.w16_model.proofs.KeptRest.{rest_law}
 
@@ -30,14 +40,8 @@ some_there (Some o) P h = refl
 
 -- The handles that are left.
 module _ (old : Handles) (is : AreHandles old) where
-  null_handles : (answer : ℕ) (new : Handles) → IsNull old answer new → AreHandles new
-  null_handles answer new null = subst AreHandles (sym null.1) (moved_handles old is 0)
-
-  again_handles : (handle : ℕ) (heap : Heap) (answer : ℕ) (new : Handles) → AreHandles (record old { heap = heap }) → Again old handle heap answer new → AreHandles new
-  again_handles handle heap answer new are again = subst AreHandles (sym again.1) (moved_handles (record old { heap = heap }) are (moved_bytes old.heap heap))
-
   -- with another kind
-  kind_handles : (slot : ℕ) (kind : Kind) (o : Object) (new : Heap) → object_at old.heap slot ≡ Some o → IsHeap new → ChangesKind old.heap slot o kind new → AreHandles (record old { heap = new })
+  pub kind_handles : (slot : ℕ) (kind : Kind) (o : Object) (new : Heap) → object_at old.heap slot ≡ Some o → IsHeap new → ChangesKind old.heap slot o kind new → AreHandles (record old { heap = new })
   kind_handles slot kind o new there sound c = other_handles old is new sound c.range.0 c.range.2 (λ q. elim (cases_eq q slot) [
     | inl e ↦ ap is_some (ap (object_at new) e ∙ c.object) ∙ sym (ap is_some (ap (object_at old.heap) e ∙ there))
     | inr d ↦ ap is_some (c.others q d)
@@ -62,6 +66,10 @@ module _ (old : Handles) (is : AreHandles old) where
       turn (Some o) there law = elim (cases_Bool (is_fixed o.kind || is_fixed kind)) [ inl t ↦ refused refusals.Fixed (law.0 t) | inr f ↦ changed o there (law.1 f) ]
 
   -- a discard
+  absent_handles : (slot : ℕ) (o : Object) → object_at old.heap slot ≡ Some o → o.locks ≡ 0 → AreHandles (record old { heap = absent old.heap slot })
+  absent_handles slot o there unlocked = other_handles old is (absent old.heap slot) (absent_heap old.heap is.heap slot o there unlocked) refl refl
+      (λ q. same_updated old.heap.objects slot (λ (o : Object). record o { bytes = None }) q)
+
   pub discarded_handles : (slot : ℕ) (heap : Heap) → after_discard old.heap slot ≡ Ok heap → AreHandles (record old { heap = heap })
   discarded_handles slot heap done =
       let same : heap ≡ absent old.heap slot = discard_absent old.heap heap slot done in
@@ -90,46 +98,32 @@ module _ (old : Handles) (is : AreHandles old) where
           one_slot : (q : ℕ) → ◌≡◌ {A = Option ℕ} (Some slot) (Some q) → q ≡ slot
           one_slot q e = let same : slot ≡ q = cc in sym same
 
-  -- the cases
-  resized_handles : (handle size flags answer : ℕ) (new : Handles) → GlobalReAllocs old handle size flags answer new → AreHandles new
-  resized_handles handle size flags answer new step = turn (slot_of_handle old handle) step
-    where
-      discards : (slot : ℕ) (r : Result Heap Refusal) → after_discard old.heap slot ≡ r → AnswersDiscard old handle answer new r → AreHandles new
-      discards slot (Ok heap) e again = again_handles handle heap answer new (discarded_handles slot heap e) again
-      discards slot (Err refusal) e null = null_handles answer new null
+-- Each call keeps what holds of handles.
+pub kept_by : (old new : Handles) (call : Call) (answer : Answer) → AreHandles old → Outcome old call answer new → AreHandles new
+kept_by old new call answer is (IsSame s e) = subst AreHandles (sym e) is
+kept_by old new call answer is (IsUnmoved s e) = subst AreHandles (sym e) (moved_handles old is 0)
+kept_by old new call answer is (IsLocked l) = subst AreHandles (sym l.rest) (locked_kept old is l.slot _ (l.object, l.named.there, l.has, l.loose, l.some, refl))
+kept_by old new call answer is (IsUnlocked u) = subst AreHandles (sym u.rest) (unlocked_kept old is u.slot _ (inr (u.object, u.named.there, u.loose, refl)))
+kept_by old new call answer is (IsFreed f) = subst AreHandles (sym f.rest) (without_object old is f.slot)
+kept_by old new call answer is (IsNewest n) = subst AreHandles (sym n.rest) (ordered_kept old is (newest n.slot old.heap.order) (newest_heap old.heap is.heap n.slot (ordered old.heap is.heap n.slot n.may)))
+kept_by old new call answer is (IsOldest n) = subst AreHandles (sym n.rest) (ordered_kept old is (oldest n.slot old.heap.order) (oldest_heap old.heap is.heap n.slot (ordered old.heap is.heap n.slot n.may)))
+kept_by old new call answer is (IsEntered e) = subst AreHandles (sym e.rest) (moved_handles _ (with_absent_object old is (attributes_asked e.flags) e.slot (kind_asked e.flags) new.heap e.free e.entered) (moved_bytes old.heap new.heap))
+kept_by old new call answer is (IsAllocated a) = subst AreHandles (sym a.rest)
+    (moved_handles _ (with_new_object old is (attributes_asked a.flags) a.slot a.count a.object (with_newest a.slot a.object) (stays_for a.slot (way_asked a.flags)) new.heap a.free.0 a.settled) (moved_bytes old.heap new.heap))
+kept_by old new call answer is (IsCompacted c) = subst AreHandles (sym c.rest) (moved_handles _ (settled_handles old is c.count new.heap c.settled) (moved_bytes old.heap new.heap))
+kept_by old new call answer is (IsModified m) = subst AreHandles (sym m.rest) (moved_handles _
+    (kind_handles old is m.slot (kind_modified m.flags) m.object new.heap m.named.there (subst (λ (r : Result Heap Refusal). IfOk r IsHeap) m.modified (kind_heap_law old.heap m.slot (kind_modified m.flags) is.heap)) m.changes) (moved_bytes old.heap new.heap))
+kept_by old new call answer is (IsDiscarded d) = subst AreHandles (sym d.rest) (moved_handles _ (absent_handles old is d.slot d.object d.named.there d.unlocked) (moved_bytes old.heap (absent old.heap d.slot)))
+kept_by old new call answer is (IsResized r) = subst AreHandles (sym r.rest) (moved_handles _ (reallocated_handles old is r.slot (rounded_size r.size) (way_asked_again r.flags) new.heap r.resized) (moved_bytes old.heap new.heap))
 
-      empties : (slot : ℕ) (m : Bool) → MatchBool m (AnswersDiscard old handle answer new (after_discard old.heap slot)) (IsNull old answer new) → AreHandles new
-      empties slot true g = discards slot (after_discard old.heap slot) refl g
-      empties slot false g = null_handles answer new g
-
-      answers : (slot : ℕ) (answered : Bool) (heap : Heap) → Reallocates old.heap slot (rounded_size size) (way_asked_again flags) answered heap → MatchBool answered (Again old handle heap answer new) (IsNull old answer new) → AreHandles new
-      answers slot true heap r g = again_handles handle heap answer new (reallocated_handles slot (rounded_size size) (way_asked_again flags) heap r) g
-      answers slot false heap r g = null_handles answer new g
-
-      resizes : (slot : ℕ) (long : Bool) → MatchBool long (IsNull old answer new) ((answered : Bool) × (heap : Heap) × Reallocates old.heap slot (rounded_size size) (way_asked_again flags) answered heap × MatchBool answered (Again old handle heap answer new) (IsNull old answer new)) → AreHandles new
-      resizes slot true g = null_handles answer new g
-      resizes slot false g = answers slot g.0 g.1 g.2 g.3
-
-      sized : (slot : ℕ) (none : Bool) → MatchBool none (Empties old handle slot flags answer new) (Resizes old handle slot flags size answer new) → AreHandles new
-      sized slot true g = empties slot (has_flag flags GMEM_MOVEABLE) g
-      sized slot false g = resizes slot (nat_lt LARGEST_SIZE size) g
-
-      modifies : (slot : ℕ) (m : Bool) → MatchBool m (Again old handle (modified old.heap slot (kind_modified flags)) answer new) (MatchBool (size == 0) (Empties old handle slot flags answer new) (Resizes old handle slot flags size answer new)) → AreHandles new
-      modifies slot true g = again_handles handle (modified old.heap slot (kind_modified flags)) answer new (modified_handles slot (kind_modified flags)) g
-      modifies slot false g = sized slot (size == 0) g
-
-      turn : (p : Option ℕ) → MatchOption p (IsNull old answer new) (λ slot. MatchBool (has_flag flags GMEM_MODIFY) (Again old handle (modified old.heap slot (kind_modified flags)) answer new) (MatchBool (size == 0) (Empties old handle slot flags answer new) (Resizes old handle slot flags size answer new))) → AreHandles new
-      turn None g = null_handles answer new g
-      turn (Some slot) g = modifies slot (has_flag flags GMEM_MODIFY) g
+pub handle_law : HandleLaw
+handle_law old new command answer is step = kept_by old new (Calls command) answer is (outcome old new (Calls command) answer is step)
 
 pub resize_law : ResizeLaw
-resize_law old new handle size flags answer is step = resized_handles old is handle size flags answer new step
+resize_law old new handle size flags answer is step = kept_by old new (ReAllocs handle size flags) (Word answer) is (outcome old new (ReAllocs handle size flags) (Word answer) is step)
 
--- A handle isn't 0.
-some_handle : (kind : Kind) (slot : ℕ) → handle_of kind slot ≡ 0 → ⊥
-some_handle Fixed slot e = omega arith
-some_handle Moveable slot e = omega arith
-some_handle Discardable slot e = omega arith
+pub compacted_handles : (old : Handles) → AreHandles old → (size answer : ℕ) (new : Handles) → GlobalCompacts old size answer new → AreHandles new
+compacted_handles old is size answer new step = handle_law old new (GlobalCompact size) (Dword answer) is step
 
 pub found_some : (old : Handles) (handle slot : ℕ) → slot_of_handle old handle ≡ Some slot → handle ≢ 0
 found_some old handle slot found none = turn (object_at old.heap slot) ((names_law old handle slot).0.0 found)
@@ -143,38 +137,29 @@ null_heap : (old new : Handles) (answer : ℕ) → IsNull old answer new → new
 null_heap old new answer null = ap (λ (h : Handles). h.heap) null.1
 
 pub null_law : NullLaw
-null_law old new handle size flags is step = turn (slot_of_handle old handle) refl step
+null_law old new handle size flags is step = turn (outcome old new (ReAllocs handle size flags) (Word 0) is step)
   where
-    never : (slot : ℕ) → slot_of_handle old handle ≡ Some slot → (heap : Heap) → Again old handle heap 0 new → new.heap ≡ old.heap
-    never slot found heap again = absurd (found_some old handle slot found (sym again.0))
+    other : (command : HandleCommand) → ReAllocs handle size flags ≡ Calls command → ⊥
+    other command e = cc
 
-    discards : (slot : ℕ) → slot_of_handle old handle ≡ Some slot → (r : Result Heap Refusal) → AnswersDiscard old handle 0 new r → new.heap ≡ old.heap
-    discards slot found (Ok heap) g = never slot found heap g
-    discards slot found (Err refusal) g = null_heap old new 0 g
+    -- an answered one gives a handle
+    never : (named slot : ℕ) → slot_of_handle old named ≡ Some slot → ◌≡◌ {A = Answer} (Word 0) (Word named) → new.heap ≡ old.heap
+    never named slot found says = let none : 0 ≡ named = cc in absurd (found_some old named slot found (sym none))
 
-    empties : (slot : ℕ) → slot_of_handle old handle ≡ Some slot → (m : Bool) → MatchBool m (AnswersDiscard old handle 0 new (after_discard old.heap slot)) (IsNull old 0 new) → new.heap ≡ old.heap
-    empties slot found true g = discards slot found (after_discard old.heap slot) g
-    empties slot found false g = null_heap old new 0 g
-
-    answers : (slot : ℕ) → slot_of_handle old handle ≡ Some slot → (answered : Bool) (heap : Heap) → MatchBool answered (Again old handle heap 0 new) (IsNull old 0 new) → new.heap ≡ old.heap
-    answers slot found true heap g = never slot found heap g
-    answers slot found false heap g = null_heap old new 0 g
-
-    resizes : (slot : ℕ) → slot_of_handle old handle ≡ Some slot → (long : Bool) → MatchBool long (IsNull old 0 new) ((answered : Bool) × (heap : Heap) × Reallocates old.heap slot (rounded_size size) (way_asked_again flags) answered heap × MatchBool answered (Again old handle heap 0 new) (IsNull old 0 new)) → new.heap ≡ old.heap
-    resizes slot found true g = null_heap old new 0 g
-    resizes slot found false g = answers slot found g.0 g.1 g.3
-
-    sized : (slot : ℕ) → slot_of_handle old handle ≡ Some slot → (none : Bool) → MatchBool none (Empties old handle slot flags 0 new) (Resizes old handle slot flags size 0 new) → new.heap ≡ old.heap
-    sized slot found true g = empties slot found (has_flag flags GMEM_MOVEABLE) g
-    sized slot found false g = resizes slot found (nat_lt LARGEST_SIZE size) g
-
-    modifies : (slot : ℕ) → slot_of_handle old handle ≡ Some slot → (m : Bool) → MatchBool m (Again old handle (modified old.heap slot (kind_modified flags)) 0 new) (MatchBool (size == 0) (Empties old handle slot flags 0 new) (Resizes old handle slot flags size 0 new)) → new.heap ≡ old.heap
-    modifies slot found true g = never slot found (modified old.heap slot (kind_modified flags)) g
-    modifies slot found false g = sized slot found (size == 0) g
-
-    turn : (p : Option ℕ) → slot_of_handle old handle ≡ p → MatchOption p (IsNull old 0 new) (λ slot. MatchBool (has_flag flags GMEM_MODIFY) (Again old handle (modified old.heap slot (kind_modified flags)) 0 new) (MatchBool (size == 0) (Empties old handle slot flags 0 new) (Resizes old handle slot flags size 0 new))) → new.heap ≡ old.heap
-    turn None found g = null_heap old new 0 g
-    turn (Some slot) found g = modifies slot found (has_flag flags GMEM_MODIFY) g
+    turn : Outcome old (ReAllocs handle size flags) (Word 0) new → new.heap ≡ old.heap
+    turn (IsSame s e) = ap (λ (h : Handles). h.heap) e
+    turn (IsUnmoved s e) = ap (λ (h : Handles). h.heap) e
+    turn (IsModified m) = never m.handle m.slot m.named.found m.answered
+    turn (IsDiscarded d) = never d.handle d.slot d.named.found d.answered
+    turn (IsResized r) = never r.handle r.slot r.named.found r.answered
+    turn (IsLocked l) = absurd (other _ l.asked)
+    turn (IsUnlocked u) = absurd (other _ u.asked)
+    turn (IsFreed f) = absurd (other _ f.asked)
+    turn (IsNewest n) = absurd (other _ n.asked)
+    turn (IsOldest n) = absurd (other _ n.asked)
+    turn (IsEntered e) = absurd (other _ e.asked)
+    turn (IsAllocated a) = absurd (other _ a.asked)
+    turn (IsCompacted c) = absurd (other _ c.asked)
 
 -- Fewest discards.
 module _ (old new : Handles) (is : AreHandles old) (handle size flags answer slot : ℕ) (found : slot_of_handle old handle ≡ Some slot) where
@@ -201,7 +186,8 @@ module _ (old new : Handles) (is : AreHandles old) (handle size flags answer slo
       (fewest_law old.heap heap slot (rounded_size size) (way_asked_again flags) false is.heap r)
 
 pub resize_fewest_law : ResizeFewestLaw
-resize_fewest_law old new handle size flags answer is step slot found same some small = turn (slot_of_handle old handle) found step
+resize_fewest_law old new handle size flags answer is step slot found free same some small = turn (slot_of_handle old handle) found
+    (subst (λ b. MatchBool b (IsNull old answer new) (ReAllocsOwn old handle size flags answer new)) (ap (λ p. unwrap_or (option_map (is_owned old) p) false) found ∙ free) step)
   where
     resizes : (long : Bool) → nat_lt LARGEST_SIZE size ≡ long → MatchBool long (IsNull old answer new) ((answered : Bool) × (heap : Heap) × Reallocates old.heap slot (rounded_size size) (way_asked_again flags) answered heap × MatchBool answered (Again old handle heap answer new) (IsNull old answer new)) → IsSomeAnd (object_at old.heap slot) (Fewest old new is handle size flags answer slot found)
     resizes true long g = let over : LARGEST_SIZE < size = ltb-true LARGEST_SIZE size long in absurd (omega (arith, over, small))

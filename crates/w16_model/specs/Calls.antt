@@ -13,6 +13,7 @@ use Rattle.w16_model.specs.OneObject.{Enters, after_lock, after_unlock, after_fr
 use Rattle.w16_model.specs.declared.Attributes.{Attributes}
 use Rattle.w16_model.specs.declared.Item.{Item}
 use Rattle.w16_model.specs.Walk.{IsWalk}
+use Rattle.w16_model.specs.Owned.{owns}
 use Rattle.w16_model.specs.Handles.{Handles, Gives, IsFreeSlot, slot_of_handle, slot_of_selector, handle_of, selector_of, far_pointer, dword_of}
 
 -- a call that names objects by handles or selectors, with its arguments as numbers
@@ -90,7 +91,7 @@ pub record AnswersAlloc (old : Handles) (flags size handle : ℕ) (new : Handles
       (Allocates old.heap slot (rounded_size size) (kind_asked flags) 0 (way_asked flags) true new.heap)
   pub rest : new ≡ record old {
     heap = new.heap;
-    attributes = finmap.insert old.attributes slot (record { shared = has_flag flags GMEM_DDESHARE });
+    attributes = finmap.insert old.attributes slot (record { shared = has_flag flags GMEM_DDESHARE; owned = None });
     moved = moved_bytes old.heap new.heap;
   }
 
@@ -105,15 +106,19 @@ pub record GlobalCompacts (old : Handles) (size answer : ℕ) (new : Handles) : 
 
 -- The calls that name an object. Each answers and leaves what is written here.
 
--- GlobalFree: 0, and the object is gone; the argument where the handle is bad or the object locked
-abbrev pub global_free : Handles → ℕ → Answer × Handles
-global_free old handle = elim (slot_of_handle old handle) [
+-- GlobalFree of an object that no module owns: 0, and the object is gone; the argument where the handle is bad or the object locked
+abbrev pub free_own : Handles → ℕ → Answer × Handles
+free_own old handle = elim (slot_of_handle old handle) [
   | None ↦ (Word handle, old)
   | Some slot ↦ elim (after_free old.heap slot) [
     | Ok heap ↦ (Word 0, record old { heap = heap; attributes = finmap.remove old.attributes slot })
     | Err _ ↦ (Word handle, old)
   ]
 ]
+
+-- GlobalFree; the argument also where a module owns the object (profile)
+abbrev pub global_free : Handles → ℕ → Answer × Handles
+global_free old handle = if owns old handle then (Word handle, old) else free_own old handle
 
 -- GlobalLock: a far pointer to the object's begin; a fixed object has one with no lock; NULL for a bad handle, an absent object or a full count
 abbrev pub global_lock : Handles → ℕ → Answer × Handles

@@ -1,5 +1,5 @@
 -- By what a proof tells handles apart, so that they can be the value of a model.
-use Rattle.std.specs.Prelude.{◌≡◌, ℕ, zero, suc, List, Option, refl}
+use Rattle.std.specs.Prelude.{◌≡◌, ℕ, zero, suc, Bool, List, Option, refl}
 use Rattle.std.specs.Coded.{Coded, code_by, coded×, coded_ℕ, coded_bool, coded_list, coded_option}
 use Rattle.std.specs.Ordering.{nat_cmp}
 use Rattle.std.specs.FinMap as finmap
@@ -8,6 +8,7 @@ use Rattle.w16_model.specs.declared.Kind.{Kind}
 use Rattle.w16_model.specs.declared.Kind.TheVariants.{Fixed, Moveable, Discardable}
 use Rattle.w16_model.specs.Heap.{Heap, Object}
 use Rattle.w16_model.specs.declared.Attributes.{Attributes}
+use Rattle.w16_model.specs.declared.Owned.{Owned}
 use Rattle.w16_model.specs.Handles.{Handles}
 
 abbrev pub number_of_kind : Kind → ℕ
@@ -36,8 +37,11 @@ heap_code = code_by (ℕ × (ℕ × (ℕ × (FinMap nat_cmp Object × (FinMap na
     (coded× coded_ℕ (coded× coded_ℕ (coded× coded_ℕ (coded× (finmap.code coded_ℕ object_code) (coded× (finmap.code coded_ℕ coded_ℕ) (coded_list coded_ℕ))))))
     (λ h. (h.lo, (h.hi, (h.grain, (h.objects, (h.places, h.order)))))) (λ p. record { lo = p.0; hi = p.1.0; grain = p.1.1.0; objects = p.1.1.1.0; places = p.1.1.1.1.0; order = p.1.1.1.1.1 }) (λ _. refl)
 
+abbrev pub owned_code : Coded Owned
+owned_code = code_by (ℕ × Bool) (coded× coded_ℕ coded_bool) (λ o. (o.size, o.code)) (λ p. record { size = p.0; code = p.1 }) (λ _. refl)
+
 abbrev pub attributes_code : Coded Attributes
-attributes_code = code_by _ coded_bool (λ a. a.shared) (λ b. record { shared = b }) (λ _. refl)
+attributes_code = code_by (Bool × Option Owned) (coded× coded_bool (coded_option owned_code)) (λ a. (a.shared, a.owned)) (λ p. record { shared = p.0; owned = p.1 }) (λ _. refl)
 
 abbrev pub handles_code : Coded Handles
 handles_code = code_by (ℕ × (Heap × (FinMap nat_cmp Attributes × ℕ))) (coded× coded_ℕ (coded× heap_code (coded× (finmap.code coded_ℕ attributes_code) coded_ℕ)))

@@ -1,11 +1,12 @@
 -- Far accesses: bytes at selector:offset.
 use Rattle.std.specs.Prelude.{ℕ, ◌+◌, ◌<◌, if◌then◌else◌, nat_lt, All, List, [], length, unwrap_or, Option, Some, None, option_map}
 use Rattle.w16_model.specs.declared.FarFault.{FarFault}
-use Rattle.w16_model.specs.declared.FarFault.TheVariants.{BadSelector, NotPresent, Limit}
+use Rattle.w16_model.specs.declared.FarFault.TheVariants.{BadSelector, ReadOnly, NotPresent, Limit}
 use Rattle.w16_model.specs.Bytes.{part, put_part, repeated}
 use Rattle.w16_model.specs.Heap.{Heap, bytes_at}
 use Rattle.w16_model.specs.Changes.{update}
 use Rattle.w16_model.specs.OneObject.{after_touch}
+use Rattle.w16_model.specs.Owned.{refuses_write}
 use Rattle.w16_model.specs.Handles.{Handles, Gives, slot_of_selector, selector_in, offset_in}
 
 -- an access to bytes that a far pointer points to
@@ -28,7 +29,7 @@ pub data FarAnswer : Type 0 where
 
 -- An access is to n bytes at selector:offset. An answered one, of no bytes too, makes a discardable object the newest.
 
--- the first fault: a selector of no object, an object without bytes, or bytes past its end; there is no code yet that couldn't be written
+-- the first fault that a read meets: a selector of no object, an object without bytes, or bytes past its end
 abbrev pub far_fault : Handles → ℕ → ℕ → ℕ → Option FarFault
 far_fault handles selector offset n = elim (slot_of_selector handles selector) [
   | None ↦ Some BadSelector
@@ -56,12 +57,16 @@ far_read old selector offset n = elim (far_fault old selector offset n) [
 abbrev pub after_write : Heap → ℕ → ℕ → List ℕ → Heap
 after_write heap slot at slice = record heap { objects = update heap.objects slot (λ o. record o { bytes = option_map (λ bytes. put_part bytes at slice) o.bytes }) }
 
--- Write; Fill is a write of one byte many times
-abbrev pub far_write : Handles → ℕ → ℕ → List ℕ → FarAnswer × Handles
-far_write old selector offset slice = elim (far_fault old selector offset (length slice)) [
+-- Write to an object that may be written; Fill is a write of one byte many times
+abbrev pub data_write : Handles → ℕ → ℕ → List ℕ → FarAnswer × Handles
+data_write old selector offset slice = elim (far_fault old selector offset (length slice)) [
   | Some fault ↦ (Fault fault, old)
   | None ↦ (Done, record old { heap = after_touch (after_write old.heap (far_slot old selector) offset slice) (far_slot old selector) })
 ]
+
+-- Write; code can't be written, with bytes or without
+abbrev pub far_write : Handles → ℕ → ℕ → List ℕ → FarAnswer × Handles
+far_write old selector offset slice = if refuses_write old selector then (Fault ReadOnly, old) else data_write old selector offset slice
 
 -- one step: the answer that an access is given, and the handles that it leaves
 abbrev pub FarStep : Handles → FarCommand → FarAnswer → Handles → Type 0

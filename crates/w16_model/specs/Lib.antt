@@ -7,6 +7,7 @@ pub mod Changes
 pub mod Request
 pub mod OneObject
 pub mod Handles
+pub mod Owned
 pub mod Walk
 pub mod Calls
 pub mod Far
@@ -15,4 +16,6 @@ pub mod Fewest
 pub mod Reallocation
 pub mod Resizes
 pub mod Table
+pub mod Outcomes
+pub mod CallLaws
 pub mod Codes

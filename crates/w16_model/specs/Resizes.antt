@@ -9,6 +9,7 @@ use Rattle.w16_model.specs.Heap.{Heap, object_at, size_of}
 use Rattle.w16_model.specs.Request.{Reallocates, moved_bytes}
 use Rattle.w16_model.specs.OneObject.{after_modify, after_discard}
 use Rattle.w16_model.specs.Handles.{Handles, AreHandles, slot_of_handle}
+use Rattle.w16_model.specs.Owned.{owns, is_owned}
 use Rattle.w16_model.specs.Reallocation.{LacksPlace, ReallocatesFewest}
 use Rattle.w16_model.specs.Calls.{has_flag, rounded_size, way_asked}
 
@@ -49,15 +50,20 @@ Resizes old handle slot flags size answer new = MatchBool (nat_lt LARGEST_SIZE s
     (IsNull old answer new)
     ((answered : Bool) × (heap : Heap) × Reallocates old.heap slot (rounded_size size) (way_asked_again flags) answered heap × MatchBool answered (Again old handle heap answer new) (IsNull old answer new))
 
--- GlobalReAlloc. A bad handle is NULL; with GMEM_MODIFY the size isn't looked at, and the handle is answered, that of a fixed object too.
-abbrev pub GlobalReAllocs : Handles → ℕ → ℕ → ℕ → ℕ → Handles → Type 0
-GlobalReAllocs old handle size flags answer new = MatchOption (slot_of_handle old handle)
+-- GlobalReAlloc of an object that no module owns. A bad handle is NULL; with GMEM_MODIFY the size isn't looked at, and the handle is answered,
+-- that of a fixed object too.
+abbrev pub ReAllocsOwn : Handles → ℕ → ℕ → ℕ → ℕ → Handles → Type 0
+ReAllocsOwn old handle size flags answer new = MatchOption (slot_of_handle old handle)
     (IsNull old answer new)
     (λ slot. MatchBool (has_flag flags GMEM_MODIFY)
     (Again old handle (modified old.heap slot (kind_modified flags)) answer new)
     (MatchBool (size == 0)
     (Empties old handle slot flags answer new)
     (Resizes old handle slot flags size answer new)))
+
+-- GlobalReAlloc; NULL for an object that a module owns (profile)
+abbrev pub GlobalReAllocs : Handles → ℕ → ℕ → ℕ → ℕ → Handles → Type 0
+GlobalReAllocs old handle size flags answer new = MatchBool (owns old handle) (IsNull old answer new) (ReAllocsOwn old handle size flags answer new)
 
 -- GlobalDiscard is a GlobalReAlloc of size 0
 abbrev pub GlobalDiscards : Handles → ℕ → ℕ → Handles → Type 0
@@ -66,7 +72,7 @@ GlobalDiscards old handle answer new = GlobalReAllocs old handle 0 GMEM_MOVEABLE
 -- Fewest discards, where an object's handle and a size are given: an answered one has discarded as few as it can; a refused one has changed
 -- nothing, and the object would get more bytes and lacks a place for them.
 abbrev pub ReallocFewest : Handles → ℕ → ℕ → ℕ → ℕ → Handles → Type 0
-ReallocFewest old handle size flags answer new = (slot : ℕ) → slot_of_handle old handle ≡ Some slot → has_flag flags GMEM_MODIFY ≡ false → 0 < size → size ≤ LARGEST_SIZE
+ReallocFewest old handle size flags answer new = (slot : ℕ) → slot_of_handle old handle ≡ Some slot → is_owned old slot ≡ false → has_flag flags GMEM_MODIFY ≡ false → 0 < size → size ≤ LARGEST_SIZE
     → IsSomeAnd (object_at old.heap slot) (λ o.
     (answer ≢ 0 → ReallocatesFewest old.heap slot (rounded_size size) o (way_asked_again flags) true new.heap)
     × (answer ≡ 0 → (size_of o < rounded_size size) × LacksPlace old.heap slot (rounded_size size) o (way_asked_again flags) × (new.heap ≡ old.heap)))

@@ -2,6 +2,8 @@
 ghost use Rattle.w16_model.specs.Law.{AreFigures, AreFlags, AddressLaw, OutcomeLaw, GapListLaw, RisingLaw, LongestHoleLaw, HoleAfterLaw, PinnedLaw, LargestLaw, RoomLaw, LongerLaw, LeastLaw, MoreDiscardsLaw, DiscardedLaw, OthersLaw, WalkLaw, SoundLaw, RangeLaw, NamesLaw, EmptyLaw, HandleLaw, FarLaw};
 ghost use Rattle.w16_model.specs.Fewest.{AllocationLaw, CompactionLaw, GlobalAllocLaw, GlobalCompactLaw};
 ghost use Rattle.w16_model.specs.Reallocation.{HeapLaw, KindHeapLaw, DiscardHeapLaw, RestLaw, FewestLaw, MovesLaw, OneOutcomeLaw, KindLaw, LeftOutLaw};
+ghost use Rattle.w16_model.specs.CallLaws.{ContentsLaw, SlotsLaw, MovedLaw, BystandersLaw, PinnedStayLaw, StillLaw, UseLaw, NewObjectLaw, UnorderedLaw, OthersOrderLaw, FarEffectLaw, ReadBackLaw};
+ghost use Rattle.w16_model.specs.Outcomes.{CallOutcomesLaw};
 ghost use Rattle.w16_model.specs.Resizes.{ResizeLaw, NullLaw, ResizeFewestLaw};
 
 /// The figures of the profile and the flags of the manual are these numbers. Definitions and code share the constants, so only this law
@@ -167,4 +169,46 @@ pub fn steps_keep_handles()
     ensures begin { EmptyLaw }
     ensures calls { HandleLaw }
     ensures accesses { FarLaw }
+{}
+
+/// Each call on handles has an outcome.
+pub fn calls_have_outcomes()
+    ensures { CallOutcomesLaw }
+{}
+
+/// A call that asks for no room and no other size, and frees nothing, keeps every address, byte and share bit; every call keeps the slots.
+pub fn calls_keep_contents()
+    ensures contents { ContentsLaw }
+    ensures slots { SlotsLaw }
+{}
+
+/// The number of bytes moved is the sum of the sizes of the objects whose address changed, told by each of the three calls that ask for room
+/// or another size, and 0 where they are refused; no other call changes it.
+pub fn moved_bytes_are_counted()
+    ensures { MovedLaw }
+{}
+
+/// An object that a call isn't about stays as it is, or it is discardable and not locked, and loses its bytes alone. A fixed or locked one keeps
+/// its address through every call but its own reallocation with `GMEM_MOVEABLE`, and every other through calls that ask for no room, or with
+/// `GMEM_NOCOMPACT`.
+pub fn calls_keep_bystanders()
+    ensures objects { BystandersLaw }
+    ensures pinned { PinnedStayLaw }
+    ensures still { StillLaw }
+{}
+
+/// In the order of use a lock that is counted, `GlobalLRUNewest` and an allocation make their object the newest, and `GlobalLRUOldest` the
+/// oldest; other calls give no object another place, and each call leaves the objects that it isn't about as they stand.
+pub fn calls_order_one_object()
+    ensures uses { UseLaw }
+    ensures allocated { NewObjectLaw }
+    ensures unordered { UnorderedLaw }
+    ensures others { OthersOrderLaw }
+{}
+
+/// A far access that is answered reads or writes these bytes and no others, leaves every other object, every address and the rest, and is a
+/// use of its object; what was written is read back.
+pub fn accesses_reach_their_bytes()
+    ensures effect { FarEffectLaw }
+    ensures back { ReadBackLaw }
 {}

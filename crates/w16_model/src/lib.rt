@@ -40,11 +40,22 @@ pub struct Entry {
     pub locks: u8,
 }
 
+/// An object that a module owns.
+#[derive(Clone, Copy, Debug, PartialEq, Eq)]
+pub struct Owned {
+    /// How many bytes it has whenever it has any.
+    pub size: u32,
+    /// It is code, which can't be written.
+    pub code: bool,
+}
+
 /// What is known of an object's handle beside the heap's part.
 #[derive(Clone, Copy, Debug, PartialEq, Eq)]
 pub struct Attributes {
     /// Other tasks share the object (`GMEM_DDESHARE`).
     pub shared: bool,
+    /// A module owns the object; else it is the script's.
+    pub owned: Option<Owned>,
 }
 
 /// How a request may make room (the flags of GlobalAlloc and GlobalReAlloc).

@@ -11,9 +11,11 @@ use w16_selectors::{Descriptor, FarFault, SelKind, Selectors};
 /// One call of a table of descriptors, with the answer that is wanted where it has one.
 #[derive(Clone, Copy)]
 enum Call {
-    Take(u16),
+    Take(u16, SelKind),
     Give(u16),
-    Set(u16, Descriptor),
+    /// A slot, a base and a limit.
+    Place(u16, u32, u32),
+    Vacate(u16),
     Len(usize),
     LowestFree(Option<u16>),
     /// The length of a run, and where the lowest that is so long begins.
@@ -65,9 +67,10 @@ impl Bench {
     /// Makes a call; false where it can't be made, or isn't answered as it should be.
     fn call(&mut self, call: Call) -> bool {
         match call {
-            Call::Take(slot) => self.take(slot),
+            Call::Take(slot, kind) => self.take(slot, kind),
             Call::Give(slot) => self.give(slot),
-            Call::Set(slot, descriptor) => self.set(slot, descriptor),
+            Call::Place(slot, base, limit) => self.place(slot, base, limit),
+            Call::Vacate(slot) => self.vacate(slot),
             Call::Len(slots) => self.selectors.len() == slots,
             Call::LowestFree(slot) => self.selectors.lowest_free() == slot,
             Call::FindRun(count, first) => self.selectors.find_run(count) == first,
@@ -78,10 +81,10 @@ impl Bench {
         }
     }
 
-    fn take(&mut self, slot: u16) -> bool {
+    fn take(&mut self, slot: u16, kind: SelKind) -> bool {
         let may = is_free(&self.selectors, slot);
         if may {
-            self.selectors.take(slot);
+            self.selectors.take(slot, kind);
         }
         may
     }
@@ -94,43 +97,36 @@ impl Bench {
         may
     }
 
-    fn set(&mut self, slot: u16, descriptor: Descriptor) -> bool {
-        let may = is_taken(&self.selectors, slot)
-            && descriptor.base <= 4096
-            && descriptor.limit <= 31;
+    fn place(&mut self, slot: u16, base: u32, limit: u32) -> bool {
+        let may = is_taken(&self.selectors, slot) && base <= 4096 && limit <= 31;
         if may {
-            self.selectors.set(slot, descriptor);
+            self.selectors.place(slot, base, limit);
+        }
+        may
+    }
+
+    fn vacate(&mut self, slot: u16) -> bool {
+        let may = is_taken(&self.selectors, slot);
+        if may {
+            self.selectors.vacate(slot);
         }
         may
     }
 }
 
-/// What a slot has once it is taken.
-const UNSET: Descriptor = Descriptor {
+/// What a slot has whose code has no bytes.
+const ABSENT_CODE: Descriptor = Descriptor {
     base: 0,
     limit: 0,
     present: false,
-    kind: SelKind::Data,
+    kind: SelKind::Code,
 };
 
-const DATA: Descriptor = Descriptor {
-    base: 4096,
-    limit: 31,
-    present: true,
-    kind: SelKind::Data,
-};
-
+/// And once it has 32 bytes at 4,096.
 const CODE: Descriptor = Descriptor {
     base: 4096,
     limit: 31,
     present: true,
-    kind: SelKind::Code,
-};
-
-const ABSENT_CODE: Descriptor = Descriptor {
-    base: 4096,
-    limit: 31,
-    present: false,
     kind: SelKind::Code,
 };
 
@@ -140,14 +136,14 @@ static ROWS: &[(&str, &[Call])] = &[
         "the lowest free slot is found",
         &[
             Call::LowestFree(Some(32)),
-            Call::Take(32),
-            Call::Take(34),
+            Call::Take(32, SelKind::Data),
+            Call::Take(34, SelKind::Data),
             Call::LowestFree(Some(33)),
-            Call::Take(33),
+            Call::Take(33, SelKind::Data),
             Call::LowestFree(Some(35)),
-            Call::Take(35),
-            Call::Take(36),
-            Call::Take(37),
+            Call::Take(35, SelKind::Data),
+            Call::Take(36, SelKind::Data),
+            Call::Take(37, SelKind::Data),
             Call::LowestFree(None),
             Call::Give(34),
             Call::Give(36),
@@ -162,7 +158,7 @@ static ROWS: &[(&str, &[Call])] = &[
             Call::FindRun(6, Some(32)),
             Call::FindRun(7, None),
             Call::FindRun(0, Some(32)),
-            Call::Take(34),
+            Call::Take(34, SelKind::Data),
             Call::FindRun(1, Some(32)),
             Call::FindRun(3, Some(35)),
             Call::FindRun(4, None),
@@ -171,13 +167,15 @@ static ROWS: &[(&str, &[Call])] = &[
     (
         "one slot is changed",
         &[
-            Call::Take(34),
-            Call::Find(279, Some(UNSET)),
-            Call::Set(34, CODE),
+            Call::Take(34, SelKind::Code),
+            Call::Find(279, Some(ABSENT_CODE)),
+            Call::Place(34, 4096, 31),
             Call::Find(279, Some(CODE)),
             Call::Find(278, None),
             Call::Find(271, None),
             Call::Find(65535, None),
+            Call::Vacate(34),
+            Call::Find(279, Some(ABSENT_CODE)),
             Call::Give(34),
             Call::Find(279, None),
             Call::FindRun(6, Some(32)),
@@ -186,8 +184,8 @@ static ROWS: &[(&str, &[Call])] = &[
     (
         "an access is resolved",
         &[
-            Call::Take(32),
-            Call::Set(32, DATA),
+            Call::Take(32, SelKind::Data),
+            Call::Place(32, 4096, 31),
             Call::Resolve(263, 0, 32, true, Ok(4096)),
             Call::Resolve(263, 31, 1, false, Ok(4127)),
             Call::Resolve(263, 32, 0, false, Ok(4128)),
@@ -201,13 +199,15 @@ static ROWS: &[(&str, &[Call])] = &[
     (
         "an access is refused by kind and presence",
         &[
-            Call::Take(32),
-            Call::Set(32, CODE),
-            Call::Resolve(263, 4, 2, false, Ok(4100)),
-            Call::Resolve(263, 4, 2, true, Err(FarFault::ReadOnly)),
-            Call::Set(32, ABSENT_CODE),
+            Call::Take(32, SelKind::Code),
             Call::Resolve(263, 40, 2, true, Err(FarFault::ReadOnly)),
             Call::Resolve(263, 40, 2, false, Err(FarFault::NotPresent)),
+            Call::Place(32, 4096, 31),
+            Call::Resolve(263, 4, 2, false, Ok(4100)),
+            Call::Resolve(263, 4, 2, true, Err(FarFault::ReadOnly)),
+            Call::Vacate(32),
+            Call::Resolve(263, 4, 2, true, Err(FarFault::ReadOnly)),
+            Call::Resolve(263, 4, 2, false, Err(FarFault::NotPresent)),
         ],
     ),
 ];

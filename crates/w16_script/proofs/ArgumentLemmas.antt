@@ -1,7 +1,7 @@
 -- Lemmas on the arguments of commands.
 use Rattle.std.proofs.Common.{◌≡◌, ℕ, ◌*◌, ◌≤◌, List, [], ◌∷◌, length, refl, sym, subst, ◌∙◌, arith}
 use Rattle.std.specs.Prelude.{Ok, Option, Some, None, IfNone}
-use Rattle.w16_machine.specs.LocalMachine.{Command}
+use Rattle.w16_machine.specs.Machine.{Command}
 use Rattle.w16_script.specs.declared.name.Name.{Name}
 use Rattle.w16_script.specs.declared.arguments.Parameter.{Parameter}
 use Rattle.w16_script.specs.declared.arguments.Parameter.TheVariants as p

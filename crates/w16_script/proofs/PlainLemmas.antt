@@ -8,7 +8,7 @@ use Rattle.std.proofs.lemmas.Bool.Decides.{nat_tests}
 use Rattle.std.proofs.lemmas.List.Sums.{list_all-from_AllPass}
 use Rattle.hex.specs.Hex.{is_hex_digit}
 use Rattle.hex.proofs.HexLemmas.{decode_of-ok}
-use Rattle.w16_machine.specs.LocalMachine.{Command}
+use Rattle.w16_machine.specs.Machine.{Command}
 use Rattle.w16_script.specs.declared.name.Name.{Name}
 use Rattle.w16_script.specs.declared.name.Name.TheVariants as name
 use Rattle.w16_script.specs.declared.arguments.Parameter.{Parameter}

@@ -9,7 +9,7 @@ use Rattle.w16_script.specs.declared.name.Name.{Name}
 use Rattle.w16_script.specs.declared.name.Name.TheVariants as name
 use Rattle.w16_script.specs.declared.arguments.Parameter.{Parameter}
 use Rattle.w16_script.specs.declared.arguments.Parameter.TheVariants as p
-use Rattle.w16_machine.specs.LocalMachine.{Command}
+use Rattle.w16_machine.specs.Machine.{Command}
 use Rattle.w16_script.specs.Words.{words_of}
 use Rattle.w16_script.specs.Grammar.{Argument, IsArgument, AreArguments, GoesTo, Makes, Spells, Said, Reads, text_of, parameters_of, command_with, is_silent, all_names}
 use Rattle.w16_script.proofs.RegisterLemmas.{clash}

@@ -1,24 +1,24 @@
 -- Lemmas on runs and on what they print.
+use Rattle.w16_machine.specs.World.{World}
 use Rattle.std.proofs.Common.{◌≡◌, ℕ, List, [], ◌∷◌, ◌++◌, Option, refl, sym, ap, ◌∙◌, append-nil, append_assoc, subst}
 use Rattle.std.specs.Io.KnownBytes.{Keeps}
 use Rattle.std.proofs.KnownBytes.{Appends-nil, Appends-trans, Appends-kept}
-use Rattle.w16_machine.specs.Local.{LocalWorld}
-use Rattle.w16_machine.specs.LocalMachine.{Event, Run}
-use Rattle.w16_machine.specs.LocalRuns.{AreFewest}
+use Rattle.w16_machine.specs.Machine.{Event, Steps, Run}
+use Rattle.w16_machine.specs.Fewest.{AreFewest}
 use Rattle.w16_script.specs.Registers.{stored_all}
 use Rattle.w16_script.specs.State.{State}
 use Rattle.w16_script.specs.Grammar.{Said, Reads, target_of}
 use Rattle.w16_script.specs.Output.{Prints, PrintsLine, RunsLines}
 
 -- one run goes on with another
-Run-append : (old mid new : LocalWorld) (events more : List Event) → Run old events mid → Run mid more new → Run old (events ++ more) new
-Run-append old mid new [] more p q = subst (λ (w : LocalWorld). Run w more new) p q
-Run-append old mid new (event ∷ events) more p q = (p.0, Run-append event.after mid new events more p.1 q)
+Run-append : (steps : Steps) (old mid new : World) (events more : List Event) → Run steps old events mid → Run steps mid more new → Run steps old (events ++ more) new
+Run-append steps old mid new [] more p q = subst (λ (w : World). Run steps w more new) p q
+Run-append steps old mid new (event ∷ events) more p q = (p.0, Run-append steps event.after mid new events more p.1 q)
 
 -- in which each call discards as few as it can
-Fewest-append : (old mid new : LocalWorld) (events more : List Event) → Run old events mid → AreFewest old events → AreFewest mid more → AreFewest old (events ++ more)
-Fewest-append old mid new [] more run p q = subst (λ (w : LocalWorld). AreFewest w more) run q
-Fewest-append old mid new (event ∷ events) more run p q = (p.0, Fewest-append event.after mid new events more run.1 p.1 q)
+Fewest-append : (steps : Steps) (old mid new : World) (events more : List Event) → Run steps old events mid → AreFewest old events → AreFewest mid more → AreFewest old (events ++ more)
+Fewest-append steps old mid new [] more run p q = subst (λ (w : World). AreFewest w more) run q
+Fewest-append steps old mid new (event ∷ events) more run p q = (p.0, Fewest-append steps event.after mid new events more run.1 p.1 q)
 
 -- and so does what lines print
 Prints-append : (a b c : List ℕ) (lines others : List (List ℕ)) (events more : List Event) (output rest : List ℕ) → Prints a lines events output b → Prints b others more rest c
@@ -48,20 +48,20 @@ Prints-one registers line said events output new reads prints is =
     (said, events, [], output, [], reads, prints, sym (append-nil events), sym (append-nil output), (refl, refl, is))
 
 -- no line
-pub RunsLines-none : (a : Option (List ℕ)) (v : State) → RunsLines a v [] a v
-RunsLines-none a v = record { events = []; output = []; run = refl; prints = (refl, refl, refl); appends = Appends-nil a; fewest = tt }
+pub RunsLines-none : (steps : Steps) (a : Option (List ℕ)) (v : State) → RunsLines steps a v [] a v
+RunsLines-none steps a v = record { events = []; output = []; run = refl; prints = (refl, refl, refl); appends = Appends-nil a; fewest = tt }
 
 -- lines, and then others
-pub RunsLines-append : (a b c : Option (List ℕ)) (v w x : State) (lines others : List (List ℕ)) → RunsLines a v lines b w → RunsLines b w others c x → RunsLines a v (lines ++ others) c x
-RunsLines-append a b c v w x lines others p q = record {
+pub RunsLines-append : (steps : Steps) (a b c : Option (List ℕ)) (v w x : State) (lines others : List (List ℕ)) → RunsLines steps a v lines b w → RunsLines steps b w others c x → RunsLines steps a v (lines ++ others) c x
+RunsLines-append steps a b c v w x lines others p q = record {
   events = p.events ++ q.events;
   output = p.output ++ q.output;
-  run = Run-append v.world w.world x.world p.events q.events p.run q.run;
+  run = Run-append steps v.world w.world x.world p.events q.events p.run q.run;
   prints = Prints-append v.registers w.registers x.registers lines others p.events q.events p.output q.output p.prints q.prints;
   appends = Appends-trans a b c p.output q.output p.appends q.appends;
-  fewest = Fewest-append v.world w.world x.world p.events q.events p.run p.fewest q.fewest;
+  fewest = Fewest-append steps v.world w.world x.world p.events q.events p.run p.fewest q.fewest;
 }
 
 -- what was written stays
-pub RunsLines-kept : (a b c : Option (List ℕ)) (v w : State) (lines : List (List ℕ)) → RunsLines a v lines b w → Keeps b c → RunsLines a v lines c w
-RunsLines-kept a b c v w lines p q = record { events = p.events; output = p.output; run = p.run; prints = p.prints; appends = Appends-kept a b c p.output p.appends q; fewest = p.fewest }
+pub RunsLines-kept : (steps : Steps) (a b c : Option (List ℕ)) (v w : State) (lines : List (List ℕ)) → RunsLines steps a v lines b w → Keeps b c → RunsLines steps a v lines c w
+RunsLines-kept steps a b c v w lines p q = record { events = p.events; output = p.output; run = p.run; prints = p.prints; appends = Appends-kept a b c p.output p.appends q; fewest = p.fewest }

@@ -1,6 +1,6 @@
 -- Lemmas on commands and their targets.
 use Rattle.std.proofs.Common.{◌≡◌, ℕ, List, ◌∷◌, Option, Some, None, sym, ap, ◌∙◌, false, subst}
-use Rattle.w16_machine.specs.LocalMachine.{Command}
+use Rattle.w16_machine.specs.Machine.{Command}
 use Rattle.w16_script.specs.declared.name.Name.{Name}
 use Rattle.w16_script.specs.Words.{words_of}
 use Rattle.w16_script.specs.Grammar.{GoesTo, Makes, Said, Reads, is_silent, text_of}

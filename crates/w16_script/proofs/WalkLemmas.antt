@@ -41,18 +41,18 @@ module _ (world : World) (items : List Item) (walk : IsWorldWalk world items) (f
   done = flat_map item_text printed.cut.done
 
   -- one item more
-  pub item_printed : (item : Item) (new : Option (List ℕ)) → IsFirstItem handle_of world.handles.heap from (Some item) → Appends holds new (item_text item) → PrintedBelow held new items (item.at + 1)
+  pub item_printed : (item : Item) (new : Option (List ℕ)) → IsFirstItem handle_of world.loading.handles.heap from (Some item) → Appends holds new (item_text item) → PrintedBelow held new items (item.at + 1)
   item_printed item new first appends = record {
-    cut = cut_more handle_of world.handles.heap items walk from printed.cut item first;
+    cut = cut_more handle_of world.loading.handles.heap items walk from printed.cut item first;
     appends = subst (Appends held new)
-        (ap (λ (l : List ℕ). done ++ l) (sym (append-nil (item_text item))) ∙ sym (flat_map-append item_text printed.cut.done (item ∷ [])) ∙ ap (flat_map item_text) (sym (done_more handle_of world.handles.heap items walk from printed.cut item first)))
+        (ap (λ (l : List ℕ). done ++ l) (sym (append-nil (item_text item))) ∙ sym (flat_map-append item_text printed.cut.done (item ∷ [])) ∙ ap (flat_map item_text) (sym (done_more handle_of world.loading.handles.heap items walk from printed.cut item first)))
         (Appends-trans held holds new done (item_text item) printed.appends appends);
   }
 
   -- a front of an item is one of the walk
-  pub item_fails : (item : Item) (new : Option (List ℕ)) → IsFirstItem handle_of world.handles.heap from (Some item) → AppendsFront holds new (item_text item) → AppendsFront held new (walk_text items)
+  pub item_fails : (item : Item) (new : Option (List ℕ)) → IsFirstItem handle_of world.loading.handles.heap from (Some item) → AppendsFront holds new (item_text item) → AppendsFront held new (walk_text items)
   item_fails item new first front =
-      let n : Next handle_of world.handles.heap items walk from printed.cut item = next handle_of world.handles.heap items walk from printed.cut item first in
+      let n : Next handle_of world.loading.handles.heap items walk from printed.cut item = next handle_of world.loading.handles.heap items walk from printed.cut item first in
       let behind : List ℕ = flat_map item_text n.more ++ end_text in
       let parts : flat_map item_text items ≡ done ++ (item_text item ++ flat_map item_text n.more) =
       ap (flat_map item_text) (printed.cut.whole ∙ ap (λ (l : List Item). printed.cut.done ++ l) n.is) ∙ flat_map-append item_text printed.cut.done (item ∷ n.more) in
@@ -61,14 +61,14 @@ module _ (world : World) (items : List Item) (walk : IsWorldWalk world items) (f
       subst (AppendsFront held new) (sym text) (AppendsFront-between held holds new done (item_text item) behind printed.appends front)
 
   -- behind the last item all were printed
-  whole : IsFirstItem handle_of world.handles.heap from None → done ≡ flat_map item_text items
-  whole none = ap (flat_map item_text) (sym (all_done handle_of world.handles.heap items walk from printed.cut none))
+  whole : IsFirstItem handle_of world.loading.handles.heap from None → done ≡ flat_map item_text items
+  whole none = ap (flat_map item_text) (sym (all_done handle_of world.loading.handles.heap items walk from printed.cut none))
 
-  pub walk_printed : (new : Option (List ℕ)) → IsFirstItem handle_of world.handles.heap from None → Appends holds new end_text → Appends held new (walk_text items)
+  pub walk_printed : (new : Option (List ℕ)) → IsFirstItem handle_of world.loading.handles.heap from None → Appends holds new end_text → Appends held new (walk_text items)
   walk_printed new none appends = subst (λ (l : List ℕ). Appends held new (l ++ end_text)) (whole none) (Appends-trans held holds new done end_text printed.appends appends)
 
   -- and a front of the last line is one of the walk
-  pub end_fails : (new : Option (List ℕ)) → IsFirstItem handle_of world.handles.heap from None → AppendsFront holds new end_text → AppendsFront held new (walk_text items)
+  pub end_fails : (new : Option (List ℕ)) → IsFirstItem handle_of world.loading.handles.heap from None → AppendsFront holds new end_text → AppendsFront held new (walk_text items)
   end_fails new none front =
       subst (λ (l : List ℕ). AppendsFront held new (l ++ end_text)) (whole none)
       (subst (λ (l : List ℕ). AppendsFront held new (done ++ l)) (append-nil end_text) (AppendsFront-between held holds new done end_text [] printed.appends front))

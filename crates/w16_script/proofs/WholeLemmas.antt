@@ -1,13 +1,14 @@
 -- Lemmas on whole runs.
+use Rattle.w16_machine.specs.World.{World}
 use Rattle.std.proofs.Common.{◌≡◌, ℕ, ◌+◌, ◌≤◌, ◌<◌, List, [], ◌∷◌, ◌++◌, Option, length, length-append, map, take, refl, sym, ap, ◌∙◌, append-nil, append_assoc, subst, arith, inl, inr, suc, Bool, true}
 use Rattle.std.specs.Prelude.{◌==◌, count_by}
 use Rattle.std.proofs.lemmas.Bool.Decides.{nat_tests}
 use Rattle.std.specs.Io.KnownBytes.{Consumes, IsAtEnd}
 use Rattle.std.proofs.KnownBytes.{Consumes-trans}
-use Rattle.w16_machine.specs.Local.{LocalWorld}
 use Rattle.w16_script.specs.declared.outcome.Ended.{Ended}
 use Rattle.w16_script.specs.declared.outcome.RunFault.{RunFault}
 use Rattle.w16_script.specs.declared.outcome.RunFault.TheVariants.{Read, Write, Memory, TooLong}
+use Rattle.w16_machine.specs.Machine.{Steps}
 use Rattle.w16_script.specs.State.{State, state_with, start}
 use Rattle.w16_script.specs.Output.{RunsLines, has_reply}
 use Rattle.w16_script.specs.Text.{without_cr, last_of}
@@ -40,17 +41,17 @@ length-last_of [] n h k = omega arith
 length-last_of (x ∷ xs) n h k = let small : n < 1000000 = h (omega arith) in omega arith
 
 -- there is none
-pub Finishes-none : (a : Option (List ℕ)) (s : Progress) (v : State) (counts : Ended) → s.line ≡ [] → counts.lines ≡ s.lines → counts.replies ≡ s.replies → Finishes a s v a v counts
-Finishes-none a s v counts empty lines replies = record {
-  runs = subst (λ (l : List ℕ). RunsLines a v (last_of l) a v) (sym empty) (RunsLines-none a v);
+pub Finishes-none : (steps : Steps) (a : Option (List ℕ)) (s : Progress) (v : State) (counts : Ended) → s.line ≡ [] → counts.lines ≡ s.lines → counts.replies ≡ s.replies → Finishes steps a s v a v counts
+Finishes-none steps a s v counts empty lines replies = record {
+  runs = subst (λ (l : List ℕ). RunsLines steps a v (last_of l) a v) (sym empty) (RunsLines-none steps a v);
   lines = omega (arith, lines, ap (λ (l : List ℕ). length (last_of l)) empty);
   replies = omega (arith, replies, ap (λ (l : List ℕ). count_by has_reply (last_of l)) empty);
 }
 
 -- the text was fed, and its end came
-pub Script-from : (a b c : Option (List ℕ)) (t : Progress) (v x : LocalWorld) (w : State) (registers text : List ℕ) (counts : Ended) → Feeds a fresh (start v) text b t w → IsWithinLimits t
-    → Finishes b t w c (state_with x registers) counts → Script a v text c x counts
-Script-from a b c t v x w registers text counts p small q =
+pub Script-from : (steps : Steps) (a b c : Option (List ℕ)) (t : Progress) (v x : World) (w : State) (registers text : List ℕ) (counts : Ended) → Feeds steps a fresh (start v) text b t w → IsWithinLimits t
+    → Finishes steps b t w c (state_with x registers) counts → Script steps a v text c x counts
+Script-from steps a b c t v x w registers text counts p small q =
     let bound = length-last_of t.line t.lines small.last small.lines in
     let joined = length-append (map without_cr p.raw) (last_of t.line) in
     let mapped = length-mapped without_cr p.raw in
@@ -62,7 +63,7 @@ Script-from a b c t v x w registers text counts p small q =
       parts = (raw, (rest, small.short));
       few = omega (arith, bound, joined, mapped, p.lines);
       registers = registers;
-      runs = RunsLines-append a b c (start v) w (state_with x registers) (map without_cr p.raw) (last_of t.line) p.runs q.runs;
+      runs = RunsLines-append steps a b c (start v) w (state_with x registers) (map without_cr p.raw) (last_of t.line) p.runs q.runs;
       lines = omega (arith, q.lines, p.lines, joined, mapped);
       replies = omega (arith, q.replies, p.replies, count-append has_reply (map without_cr p.raw) (last_of t.line));
     }
@@ -70,9 +71,9 @@ Script-from a b c t v x w registers text counts p small q =
 -- Faults.
 
 -- a piece met a fault
-StopsWithin-piece : (a b c : Option (List ℕ)) (t : Progress) (v x : LocalWorld) (w : State) (registers text piece : List ℕ) (fault : RunFault) → Feeds a fresh (start v) text b t w
-    → length piece ≤ 65536 → Stops b t w piece fault c (state_with x registers) → StopsWithin a v (text ++ piece) fault c x
-StopsWithin-piece a b c t v x w registers text piece fault p small q =
+StopsWithin-piece : (steps : Steps) (a b c : Option (List ℕ)) (t : Progress) (v x : World) (w : State) (registers text piece : List ℕ) (fault : RunFault) → Feeds steps a fresh (start v) text b t w
+    → length piece ≤ 65536 → Stops steps b t w piece fault c (state_with x registers) → StopsWithin steps a v (text ++ piece) fault c x
+StopsWithin-piece steps a b c t v x w registers text piece fault p small q =
     let size : length piece ≡ length q.front + length (q.byte ∷ q.more) = ap (length {A = ℕ}) q.whole ∙ length-append q.front (q.byte ∷ q.more) in
     record {
       registers = registers;
@@ -84,40 +85,40 @@ StopsWithin-piece a b c t v x w registers text piece fault p small q =
         between = q.between;
         here = q.here;
         state = q.state;
-        feeds = Feeds-trans a b q.between fresh t q.here (start v) w q.state text q.front p q.feeds;
+        feeds = Feeds-trans steps a b q.between fresh t q.here (start v) w q.state text q.front p q.feeds;
         fits = q.fits;
         stops = q.stops;
       };
       near = omega (arith, size, small);
     }
 
-pub FailsLater-piece : (left a b c : Option (List ℕ)) (t : Progress) (v x : LocalWorld) (w : State) (registers text piece : List ℕ) (fault : RunFault) → Feeds a fresh (start v) text b t w
-    → length piece ≤ 65536 → Stops b t w piece fault c (state_with x registers) → FailsLater left a v (text ++ piece) fault c x
-FailsLater-piece left a b c t v x w registers text piece Read p small q = absurd q.stops.2
-FailsLater-piece left a b c t v x w registers text piece Write p small q = inl (StopsWithin-piece a b c t v x w registers text piece Write p small q)
-FailsLater-piece left a b c t v x w registers text piece Memory p small q = inl (StopsWithin-piece a b c t v x w registers text piece Memory p small q)
-FailsLater-piece left a b c t v x w registers text piece TooLong p small q = StopsWithin-piece a b c t v x w registers text piece TooLong p small q
+pub FailsLater-piece : (steps : Steps) (left a b c : Option (List ℕ)) (t : Progress) (v x : World) (w : State) (registers text piece : List ℕ) (fault : RunFault) → Feeds steps a fresh (start v) text b t w
+    → length piece ≤ 65536 → Stops steps b t w piece fault c (state_with x registers) → FailsLater steps left a v (text ++ piece) fault c x
+FailsLater-piece steps left a b c t v x w registers text piece Read p small q = absurd q.stops.2
+FailsLater-piece steps left a b c t v x w registers text piece Write p small q = inl (StopsWithin-piece steps a b c t v x w registers text piece Write p small q)
+FailsLater-piece steps left a b c t v x w registers text piece Memory p small q = inl (StopsWithin-piece steps a b c t v x w registers text piece Memory p small q)
+FailsLater-piece steps left a b c t v x w registers text piece TooLong p small q = StopsWithin-piece steps a b c t v x w registers text piece TooLong p small q
 
-StopsLast-from : (left a b c : Option (List ℕ)) (t : Progress) (v x : LocalWorld) (w : State) (registers text : List ℕ) (fault : RunFault) → IsAtEnd left → Feeds a fresh (start v) text b t w
-    → IsWithinLimits t → 0 < length t.line → FailsAt b w t.line fault c (state_with x registers) → StopsLast left a v text fault c x
-StopsLast-from left a b c t v x w registers text fault end p small filled q =
+StopsLast-from : (steps : Steps) (left a b c : Option (List ℕ)) (t : Progress) (v x : World) (w : State) (registers text : List ℕ) (fault : RunFault) → IsAtEnd left → Feeds steps a fresh (start v) text b t w
+    → IsWithinLimits t → 0 < length t.line → FailsAt steps b w t.line fault c (state_with x registers) → StopsLast steps left a v text fault c x
+StopsLast-from steps left a b c t v x w registers text fault end p small filled q =
     record { at_end = end; between = b; here = t; state = w; feeds = p; fits = small; filled = filled; registers = registers; fails = q }
 
 -- the last line met a fault
-pub FailsLater-last : (left a b c : Option (List ℕ)) (t : Progress) (v x : LocalWorld) (w : State) (registers text : List ℕ) (fault : RunFault) → IsAtEnd left → Feeds a fresh (start v) text b t w
-    → IsWithinLimits t → 0 < length t.line → FailsAt b w t.line fault c (state_with x registers) → FailsLater left a v text fault c x
-FailsLater-last left a b c t v x w registers text Read end p small filled q = absurd q
-FailsLater-last left a b c t v x w registers text Write end p small filled q = inr (inl (StopsLast-from left a b c t v x w registers text Write end p small filled q))
-FailsLater-last left a b c t v x w registers text Memory end p small filled q = inr (StopsLast-from left a b c t v x w registers text Memory end p small filled q)
-FailsLater-last left a b c t v x w registers text TooLong end p small filled q = absurd q
+pub FailsLater-last : (steps : Steps) (left a b c : Option (List ℕ)) (t : Progress) (v x : World) (w : State) (registers text : List ℕ) (fault : RunFault) → IsAtEnd left → Feeds steps a fresh (start v) text b t w
+    → IsWithinLimits t → 0 < length t.line → FailsAt steps b w t.line fault c (state_with x registers) → FailsLater steps left a v text fault c x
+FailsLater-last steps left a b c t v x w registers text Read end p small filled q = absurd q
+FailsLater-last steps left a b c t v x w registers text Write end p small filled q = inr (inl (StopsLast-from steps left a b c t v x w registers text Write end p small filled q))
+FailsLater-last steps left a b c t v x w registers text Memory end p small filled q = inr (StopsLast-from steps left a b c t v x w registers text Memory end p small filled q)
+FailsLater-last steps left a b c t v x w registers text TooLong end p small filled q = absurd q
 
 -- any fault behind the start is one of the run
-pub Fails-later : (left held : Option (List ℕ)) (old : LocalWorld) (text : List ℕ) (fault : RunFault) (holds : Option (List ℕ)) (new : LocalWorld) → FailsLater left held old text fault holds new
-    → Fails left held old text fault holds new
-Fails-later left held old text Read holds new h = h
-Fails-later left held old text Write holds new h = h
-Fails-later left held old text Memory holds new h = inr h
-Fails-later left held old text TooLong holds new h = h
+pub Fails-later : (steps : Steps) (left held : Option (List ℕ)) (old : World) (text : List ℕ) (fault : RunFault) (holds : Option (List ℕ)) (new : World) → FailsLater steps left held old text fault holds new
+    → Fails steps left held old text fault holds new
+Fails-later steps left held old text Read holds new h = h
+Fails-later steps left held old text Write holds new h = h
+Fails-later steps left held old text Memory holds new h = inr h
+Fails-later steps left held old text TooLong holds new h = h
 
 -- a read of nothing consumed nothing
 pub Consumes-none : (a b c : Option (List ℕ)) (text bytes : List ℕ) (n : ℕ) → n ≡ 0 → Consumes a b text → Consumes b c (take n bytes) → Consumes a c text

@@ -8,11 +8,11 @@ use Rattle.w16_script.specs.declared.arguments.Parameter.{Parameter}
 use Rattle.w16_script.specs.declared.arguments.Parameter.TheVariants as p
 use Rattle.w16_model.specs.Calls as calls
 use Rattle.w16_model.specs.Far as far
-use Rattle.w16_machine.specs.Machine.Command.{OfHandles, OfResizes, OfFar}
-use Rattle.w16_machine.specs.Resizes as resizes
+use Rattle.w16_loading.specs.Families.LoadingCommand.{OfHandles, OfResizes, OfFar}
+use Rattle.w16_loading.specs.Resizes as resizes
 use Rattle.w16_machine.specs.LocalCalls as locals
-use Rattle.w16_machine.specs.LocalMachine.{Command}
-use Rattle.w16_machine.specs.LocalMachine.Command.{OfMachine, OfLocals}
+use Rattle.w16_machine.specs.Machine.{Command}
+use Rattle.w16_machine.specs.Machine.Command.{OfLoading, OfLocals}
 use Rattle.w16_kernel.specs.declared.call.TheConstants.{MOST_READ, MOST_FILLED}
 use Rattle.w16_script.specs.declared.bytes.TheConstants.{MOST_BYTES}
 use Rattle.w16_script.specs.Words.{words_of}
@@ -98,13 +98,13 @@ row {Family} of_family text parameters maker = record { text = text; parameters 
 
 -- the families below local heaps
 abbrev of_handles : calls.HandleCommand → Command
-of_handles command = OfMachine (OfHandles command)
+of_handles command = OfLoading (OfHandles command)
 
 abbrev of_resizes : resizes.ResizeCommand → Command
-of_resizes command = OfMachine (OfResizes command)
+of_resizes command = OfLoading (OfResizes command)
 
 abbrev of_far : far.FarCommand → Command
-of_far command = OfMachine (OfFar command)
+of_far command = OfLoading (OfFar command)
 
 abbrev pub row_of : Name → Row
 row_of name.GlobalAlloc = row of_handles (codes "GlobalAlloc") (p.Word ∷ p.Dword ∷ []) calls.HandleCommand.GlobalAlloc

@@ -2,11 +2,10 @@
 use Rattle.std.specs.Prelude.{◌≡◌, ℕ, Bool, not, List, [], ◌∷◌, ◌++◌, Option}
 use Rattle.std.specs.Io.KnownBytes.{Appends}
 use Rattle.w16_model.specs.declared.Item.{Item}
-use Rattle.w16_machine.specs.World.{IsWorldWalk}
-use Rattle.w16_machine.specs.Machine as machine
-use Rattle.w16_machine.specs.Local.{LocalWorld}
-use Rattle.w16_machine.specs.LocalMachine.{Event, Run}
-use Rattle.w16_machine.specs.LocalRuns.{AreFewest}
+use Rattle.w16_machine.specs.World.{IsWorldWalk, World}
+use Rattle.w16_loading.specs.Replies as replies
+use Rattle.w16_machine.specs.Machine.{Event, Steps, Run}
+use Rattle.w16_machine.specs.Fewest.{AreFewest}
 use Rattle.w16_script.specs.Registers.{stored_all}
 use Rattle.w16_script.specs.State.{State}
 use Rattle.w16_script.specs.Words.{words_of}
@@ -14,8 +13,8 @@ use Rattle.w16_script.specs.Grammar.{Said, Reads, is_silent, target_of}
 use Rattle.w16_script.specs.Printed.{reply_text, walk_text, error_text}
 
 -- what is printed for a reply, in the world that its command left: for `Walked` the walk of that world
-abbrev pub Shows : LocalWorld → machine.Reply → List ℕ → Type 0
-Shows world (machine.Reply.Walked count) output = (items : List Item) × IsWorldWalk world.world items × (output ≡ walk_text items)
+abbrev pub Shows : World → replies.Reply → List ℕ → Type 0
+Shows world (replies.Reply.Walked count) output = (items : List Item) × IsWorldWalk world items × (output ≡ walk_text items)
 Shows world reply output = output ≡ reply_text reply
 
 -- what a line that says this prints, where its command, if it is one, is the only event
@@ -36,10 +35,10 @@ Prints old (line ∷ lines) events output new =
 
 -- Lines were run, from the state old to new, and what they print was written: held and holds are what the
 -- writer had before and has now, where it tells that.
-pub record RunsLines (held : Option (List ℕ)) (old : State) (lines : List (List ℕ)) (holds : Option (List ℕ)) (new : State) : Type 0 where
+pub record RunsLines (steps : Steps) (held : Option (List ℕ)) (old : State) (lines : List (List ℕ)) (holds : Option (List ℕ)) (new : State) : Type 0 where
   pub events : List Event
   pub output : List ℕ
-  pub run : Run old.world events new.world
+  pub run : Run steps old.world events new.world
   pub prints : Prints old.registers lines events output new.registers
   pub appends : Appends held holds output
   pub fewest : AreFewest old.world events

@@ -6,11 +6,13 @@ use Rattle.std.specs.List.{flat_map}
 use Rattle.hex.specs.Hex.{encode_lower}
 use Rattle.w16_model.specs.declared.FarFault.{FarFault}
 use Rattle.w16_model.specs.declared.FarFault.TheVariants.{BadSelector, ReadOnly, NotPresent, Limit}
+use Rattle.w16_loading.specs.declared.FetchFault.{FetchFault}
+use Rattle.w16_loading.specs.declared.FetchFault.TheVariants.{NoRoom, Store, Damaged}
 use Rattle.w16_model.specs.declared.Kind.{Kind}
 use Rattle.w16_model.specs.declared.Kind.TheVariants.{Fixed, Moveable, Discardable}
 use Rattle.w16_model.specs.declared.Item.{Item}
 use Rattle.w16_model.specs.declared.Owner.{Owner}
-use Rattle.w16_machine.specs.Machine as machine
+use Rattle.w16_loading.specs.Replies as replies
 
 -- a fault's name
 abbrev pub fault_text : FarFault → List ℕ
@@ -19,22 +21,29 @@ fault_text ReadOnly = codes "readonly"
 fault_text NotPresent = codes "notpresent"
 fault_text Limit = codes "limit"
 
+-- and that of a fetch
+abbrev pub fetch_text : FetchFault → List ℕ
+fetch_text NoRoom = codes "room"
+fetch_text Store = codes "store"
+fetch_text Damaged = codes "damaged"
+
 -- bytes in hexadecimal, set off by a space where there are any
 abbrev pub digits_behind : List ℕ → List ℕ
 digits_behind [] = []
 digits_behind (byte ∷ bytes) = 32 ∷ encode_lower (byte ∷ bytes)
 
 -- a reply without the end of its line: a word in four digits, a double word in eight; `end` behind the lines of a walk
-abbrev pub body_of : machine.Reply → List ℕ
-body_of (machine.Reply.Word n) = encode_lower (to_be_bytes w16 n)
-body_of (machine.Reply.Dword n) = encode_lower (to_be_bytes w32 n)
-body_of (machine.Reply.Bytes bytes) = codes "bytes" ++ digits_behind bytes
-body_of machine.Reply.Done = codes "ok"
-body_of (machine.Reply.Fault fault) = codes "fault " ++ fault_text fault
-body_of (machine.Reply.Walked count) = codes "end"
+abbrev pub body_of : replies.Reply → List ℕ
+body_of (replies.Reply.Word n) = encode_lower (to_be_bytes w16 n)
+body_of (replies.Reply.Dword n) = encode_lower (to_be_bytes w32 n)
+body_of (replies.Reply.Bytes bytes) = codes "bytes" ++ digits_behind bytes
+body_of replies.Reply.Done = codes "ok"
+body_of (replies.Reply.Fault fault) = codes "fault " ++ fault_text fault
+body_of (replies.Reply.Failed fault) = codes "fault " ++ fetch_text fault
+body_of (replies.Reply.Walked count) = codes "end"
 
 -- what is printed for a reply
-abbrev pub reply_text : machine.Reply → List ℕ
+abbrev pub reply_text : replies.Reply → List ℕ
 reply_text reply = body_of reply ++ 10 ∷ []
 
 -- what is printed for a bad line

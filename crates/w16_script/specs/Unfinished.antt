@@ -1,5 +1,6 @@
 -- The state of the code between two bytes.
-use Rattle.w16_machine.specs.Local.{LocalWorld}
+
+use Rattle.w16_machine.specs.World.{World}
 use Rattle.w16_script.specs.declared.feed.Unfinished.{Unfinished}
 use Rattle.w16_script.specs.Progress.{Progress}
 use Rattle.w16_script.specs.State.{State, state_with}
@@ -8,5 +9,5 @@ abbrev pub progress_of : Unfinished → Progress
 progress_of state = record { line = state.line.items; lines = state.lines; replies = state.replies }
 
 -- with the machine's world
-abbrev pub state_of : Unfinished → LocalWorld → State
+abbrev pub state_of : Unfinished → World → State
 state_of state world = state_with world state.registers

@@ -109,10 +109,10 @@ fn end_line<W: Write, K: Machine>(
 ) -> Result<(), RunFault>
     requires fits { IsWithinLimits (progress_of state.old) }
     requires few { state.old.lines < MOST_LINES }
-    ensures ok { OnOk result (Feeds (W.contents writer.old) (progress_of state.old) (state_of state.old (K.world kernel.old)) (10 ∷ []) (W.contents writer.new) (progress_of state.new) (state_of state.new (K.world kernel.new))) }
+    ensures ok { OnOk result (Feeds K.steps (W.contents writer.old) (progress_of state.old) (state_of state.old (K.world kernel.old)) (10 ∷ []) (W.contents writer.new) (progress_of state.new) (state_of state.new (K.world kernel.new))) }
     ensures within { OnOk result (IsWithinLimits (progress_of state.new)) }
     ensures room { OnOk result (room_of (progress_of state.new) < room_of (progress_of state.old)) }
-    ensures err { IfErr result (λ fault. FailsAt (W.contents writer.old) (state_of state.old (K.world kernel.old)) (strip_last 13 state.old.line.items) fault (W.contents writer.new) (state_of state.new (K.world kernel.new))) }
+    ensures err { IfErr result (λ fault. FailsAt K.steps (W.contents writer.old) (state_of state.old (K.world kernel.old)) (strip_last 13 state.old.line.items) fault (W.contents writer.new) (state_of state.new (K.world kernel.new))) }
 {
     let line = without_cr(state.line.as_slice());
     let replied = run_line(writer, kernel, &mut state.registers, &mut state.rooms, line)?;
@@ -136,10 +136,10 @@ fn run_whole<W: Write, K: Machine>(
     requires nothing { state.old.line.items ≡ [] }
     requires one_line { HasNoLf line.now }
     requires short { length line.now ≤ LONGEST_LINE }
-    ensures ok { OnOk result (Feeds (W.contents writer.old) (progress_of state.old) (state_of state.old (K.world kernel.old)) (ended line.now) (W.contents writer.new) (progress_of state.new) (state_of state.new (K.world kernel.new))) }
+    ensures ok { OnOk result (Feeds K.steps (W.contents writer.old) (progress_of state.old) (state_of state.old (K.world kernel.old)) (ended line.now) (W.contents writer.new) (progress_of state.new) (state_of state.new (K.world kernel.new))) }
     ensures within { OnOk result (IsWithinLimits (progress_of state.new)) }
     ensures room { OnOk result (room_of (progress_of state.new) + length (ended line.now) ≤ room_of (progress_of state.old)) }
-    ensures err { IfErr result (λ fault. FailsAt (W.contents writer.old) (state_of state.old (K.world kernel.old)) (strip_last 13 line.now) fault (W.contents writer.new) (state_of state.new (K.world kernel.new))) }
+    ensures err { IfErr result (λ fault. FailsAt K.steps (W.contents writer.old) (state_of state.old (K.world kernel.old)) (strip_last 13 line.now) fault (W.contents writer.new) (state_of state.new (K.world kernel.new))) }
 {
     let text = without_cr(line);
     let replied = run_line(writer, kernel, &mut state.registers, &mut state.rooms, text)?;
@@ -159,10 +159,10 @@ fn take_line<W: Write, K: Machine>(
 ) -> Result<(), RunFault>
     requires fits { IsWithinLimits (progress_of state.old) }
     requires one_line { HasNoLf line.now }
-    ensures ok { OnOk result (Feeds (W.contents writer.old) (progress_of state.old) (state_of state.old (K.world kernel.old)) (ended line.now) (W.contents writer.new) (progress_of state.new) (state_of state.new (K.world kernel.new))) }
+    ensures ok { OnOk result (Feeds K.steps (W.contents writer.old) (progress_of state.old) (state_of state.old (K.world kernel.old)) (ended line.now) (W.contents writer.new) (progress_of state.new) (state_of state.new (K.world kernel.new))) }
     ensures within { OnOk result (IsWithinLimits (progress_of state.new)) }
     ensures room { OnOk result (room_of (progress_of state.new) + length (ended line.now) ≤ room_of (progress_of state.old)) }
-    ensures err { IfErr result (λ fault. Stops (W.contents writer.old) (progress_of state.old) (state_of state.old (K.world kernel.old)) (ended line.now) fault (W.contents writer.new) (state_of state.new (K.world kernel.new))) }
+    ensures err { IfErr result (λ fault. Stops K.steps (W.contents writer.old) (progress_of state.old) (state_of state.old (K.world kernel.old)) (ended line.now) fault (W.contents writer.new) (state_of state.new (K.world kernel.new))) }
 {
     if state.takes_whole(line) {
         return run_whole(state, writer, kernel, line);
@@ -182,10 +182,10 @@ pub fn feed<W: Write, K: Machine>(
     piece: &[u8],
 ) -> Result<(), RunFault>
     requires { IsWithinLimits (progress_of state.old) }
-    ensures ok { OnOk result (Feeds (W.contents writer.old) (progress_of state.old) (state_of state.old (K.world kernel.old)) piece.now (W.contents writer.new) (progress_of state.new) (state_of state.new (K.world kernel.new))) }
+    ensures ok { OnOk result (Feeds K.steps (W.contents writer.old) (progress_of state.old) (state_of state.old (K.world kernel.old)) piece.now (W.contents writer.new) (progress_of state.new) (state_of state.new (K.world kernel.new))) }
     ensures within { OnOk result (IsWithinLimits (progress_of state.new)) }
     ensures room { OnOk result (room_of (progress_of state.new) + length piece.now ≤ room_of (progress_of state.old)) }
-    ensures err { IfErr result (λ fault. Stops (W.contents writer.old) (progress_of state.old) (state_of state.old (K.world kernel.old)) piece.now fault (W.contents writer.new) (state_of state.new (K.world kernel.new))) }
+    ensures err { IfErr result (λ fault. Stops K.steps (W.contents writer.old) (progress_of state.old) (state_of state.old (K.world kernel.old)) piece.now fault (W.contents writer.new) (state_of state.new (K.world kernel.new))) }
 {
     let mut rest = piece;
     'lines: while let Some((line, behind)) = split_line(rest) {

@@ -1,7 +1,7 @@
 //! Lines of a script.
 ghost use Rattle.std.specs.Prelude.{◌≡◌, ◌≤◌, ◌<◌, ◌∷◌, ℕ, List, length, IfSome, IfNone, Option, Some};
 ghost use Rattle.w16_script.specs.Words.{words_of};
-ghost use Rattle.w16_machine.specs.LocalMachine.{Command};
+ghost use Rattle.w16_machine.specs.Machine.{Command};
 ghost use Rattle.w16_kernel.specs.Runs.{command_of, IsCall};
 ghost use Rattle.w16_script.specs.Grammar.{Reads, GoesTo, Makes, text_of};
 ghost use Rattle.w16_script.specs.Lines.{said_of, IsRunnable};

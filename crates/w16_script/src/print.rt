@@ -3,7 +3,7 @@ ghost use Rattle.std.specs.Prelude.{◌≡◌, ◌+◌, ◌*◌, ◌<◌, ◌≤
 ghost use Rattle.std.specs.Io.KnownBytes.{Appends};
 ghost use Rattle.hex.specs.Hex.{encode_lower};
 ghost use Rattle.arrayvec.specs.ArrayVec.{array_vec_len};
-ghost use Rattle.w16_machine.specs.Machine as machine;
+ghost use Rattle.w16_loading.specs.Replies as replies;
 ghost use Rattle.w16_kernel.specs.Runs.{reply_of};
 ghost use Rattle.w16_script.specs.Written.{AppendsFront};
 ghost use Rattle.w16_script.specs.Printed.{end_text, reply_text, error_text};
@@ -74,7 +74,7 @@ fn last_digits<'a>(bytes: &[u8], room: &'a mut TextRoom) -> &'a [u8]
 fn bytes_line<'a>(bytes: &[u8], room: &'a mut TextRoom) -> &'a [u8]
     requires some { 0 < length bytes.now }
     requires few { length bytes.now ≤ PIECE }
-    ensures { result.now ≡ reply_text (machine.Reply.Bytes bytes.now) }
+    ensures { result.now ≡ reply_text (replies.Reply.Bytes bytes.now) }
 {
     let last = BYTES.len() + 2 * bytes.len();
     room[..BYTES.len()].copy_from_slice(BYTES);
@@ -103,8 +103,8 @@ fn print_digits<W: Write>(
 
 /// Prints bytes that were read.
 fn print_bytes<W: Write>(writer: &mut W, bytes: &[u8], room: &mut TextRoom) -> Result<(), ErrorKind>
-    ensures ok { OnOk result (Appends (W.contents writer.old) (W.contents writer.new) (reply_text (machine.Reply.Bytes bytes.now))) }
-    ensures err { OnErr result (AppendsFront (W.contents writer.old) (W.contents writer.new) (reply_text (machine.Reply.Bytes bytes.now))) }
+    ensures ok { OnOk result (Appends (W.contents writer.old) (W.contents writer.new) (reply_text (replies.Reply.Bytes bytes.now))) }
+    ensures err { OnErr result (AppendsFront (W.contents writer.old) (W.contents writer.new) (reply_text (replies.Reply.Bytes bytes.now))) }
 {
     if bytes.is_empty() {
         return write_whole(writer, b"bytes\n");
@@ -118,7 +118,7 @@ fn print_bytes<W: Write>(writer: &mut W, bytes: &[u8], room: &mut TextRoom) -> R
 
 /// A fault's line.
 fn fault_line(fault: FarFault) -> &'static [u8]
-    ensures { result.now ≡ reply_text (machine.Reply.Fault fault) }
+    ensures { result.now ≡ reply_text (replies.Reply.Fault fault) }
 {
     match fault {
         FarFault::BadSelector => b"fault selector\n",

@@ -58,9 +58,9 @@ pub fn run_line<W: Write, K: Machine>(
     rooms: &mut Rooms,
     line: &[u8],
 ) -> Result<bool, RunFault>
-    ensures ok { OnOk result (RunsLines (W.contents writer.old) (state_with (K.world kernel.old) registers.old) (line.now ∷ []) (W.contents writer.new) (state_with (K.world kernel.new) registers.new)) }
+    ensures ok { OnOk result (RunsLines K.steps (W.contents writer.old) (state_with (K.world kernel.old) registers.old) (line.now ∷ []) (W.contents writer.new) (state_with (K.world kernel.new) registers.new)) }
     ensures replied { IfOk result (λ replied. replied ≡ has_reply line.now) }
-    ensures err { IfErr result (λ fault. FailsAt (W.contents writer.old) (state_with (K.world kernel.old) registers.old) line.now fault (W.contents writer.new) (state_with (K.world kernel.new) registers.new)) }
+    ensures err { IfErr result (λ fault. FailsAt K.steps (W.contents writer.old) (state_with (K.world kernel.old) registers.old) line.now fault (W.contents writer.new) (state_with (K.world kernel.new) registers.new)) }
 {
     match read_line(line, registers, &mut rooms.written) {
         Line::Silent => Ok(false),

@@ -25,9 +25,9 @@ fn finish<W: Write, K: Machine>(
     kernel: &mut K,
 ) -> Result<Ended, RunFault>
     requires { IsWithinLimits (progress_of state.old) }
-    ensures ok { IfOk result (λ counts. Finishes (W.contents writer.old) (progress_of state.old) (state_of state.old (K.world kernel.old)) (W.contents writer.new) (state_of state.new (K.world kernel.new)) counts) }
+    ensures ok { IfOk result (λ counts. Finishes K.steps (W.contents writer.old) (progress_of state.old) (state_of state.old (K.world kernel.old)) (W.contents writer.new) (state_of state.new (K.world kernel.new)) counts) }
     ensures err { IfErr result (λ fault. (0 < length state.old.line.items)
-        × FailsAt (W.contents writer.old) (state_of state.old (K.world kernel.old)) state.old.line.items fault (W.contents writer.new) (state_of state.new (K.world kernel.new))) }
+        × FailsAt K.steps (W.contents writer.old) (state_of state.old (K.world kernel.old)) state.old.line.items fault (W.contents writer.new) (state_of state.new (K.world kernel.new))) }
 {
     let line = state.line.as_slice();
     if line.is_empty() {
@@ -53,9 +53,9 @@ fn run_over<R: Read, W: Write, K: Machine>(
 ) -> Result<Ended, RunFault>
     requires { length buffer.old ≡ PIECE }
     ensures ok { IfOk result (λ counts. (text : List ℕ) × Consumes (R.remaining reader.old) (R.remaining reader.new) text × IsAtEnd (R.remaining reader.new)
-        × Script (W.contents writer.old) (K.world kernel.old) text (W.contents writer.new) (K.world kernel.new) counts) }
+        × Script K.steps (W.contents writer.old) (K.world kernel.old) text (W.contents writer.new) (K.world kernel.new) counts) }
     ensures err { IfErr result (λ fault. (text : List ℕ) × Consumes (R.remaining reader.old) (R.remaining reader.new) text
-        × FailsLater (R.remaining reader.new) (W.contents writer.old) (K.world kernel.old) text fault (W.contents writer.new) (K.world kernel.new)) }
+        × FailsLater K.steps (R.remaining reader.new) (W.contents writer.old) (K.world kernel.old) text fault (W.contents writer.new) (K.world kernel.new)) }
 {
     let mut state = Unfinished::new();
     'pieces: loop {
@@ -87,9 +87,9 @@ pub fn run<R: Read, W: Write, K: Machine>(
     kernel: &mut K,
 ) -> Result<Ended, RunFault>
     ensures ok { IfOk result (λ counts. (text : List ℕ) × Consumes (R.remaining reader.old) (R.remaining reader.new) text × IsAtEnd (R.remaining reader.new)
-        × Script (W.contents writer.old) (K.world kernel.old) text (W.contents writer.new) (K.world kernel.new) counts) }
+        × Script K.steps (W.contents writer.old) (K.world kernel.old) text (W.contents writer.new) (K.world kernel.new) counts) }
     ensures err { IfErr result (λ fault. (text : List ℕ) × Consumes (R.remaining reader.old) (R.remaining reader.new) text
-        × Fails (R.remaining reader.new) (W.contents writer.old) (K.world kernel.old) text fault (W.contents writer.new) (K.world kernel.new)) }
+        × Fails K.steps (R.remaining reader.new) (W.contents writer.old) (K.world kernel.old) text fault (W.contents writer.new) (K.world kernel.new)) }
 {
     let Ok(mut buffer) = vec![in alloc; 0u8; PIECE] else {
         return Err(RunFault::Memory);

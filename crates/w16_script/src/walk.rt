@@ -74,8 +74,8 @@ fn print_item<W: Write>(writer: &mut W, item: &Item) -> Result<(), ErrorKind>
 
 /// Prints the walk of the heap: a line for each item, and `end`. It fails as `print_reply` does, after a front of these lines.
 pub fn print_walk<W: Write, K: Machine>(writer: &mut W, kernel: &K) -> Result<(), ErrorKind>
-    ensures ok { OnOk result ((items : List Item) × IsWorldWalk (K.world kernel.now).world items × Appends (W.contents writer.old) (W.contents writer.new) (walk_text items)) }
-    ensures err { OnErr result ((items : List Item) × IsWorldWalk (K.world kernel.now).world items × AppendsFront (W.contents writer.old) (W.contents writer.new) (walk_text items)) }
+    ensures ok { OnOk result ((items : List Item) × IsWorldWalk (K.world kernel.now) items × Appends (W.contents writer.old) (W.contents writer.new) (walk_text items)) }
+    ensures err { OnErr result ((items : List Item) × IsWorldWalk (K.world kernel.now) items × AppendsFront (W.contents writer.old) (W.contents writer.new) (walk_text items)) }
 {
     let mut from = 0;
     'items: while let Some(item) = kernel.walk_from(from) {

@@ -5,13 +5,18 @@ use Rattle.std.proofs.lemmas.List.{length-set, length-replicate, map-set, get_or
 use Rattle.std.proofs.Math.Seq.{map-set_same}
 use Rattle.w16_model.specs.declared.TheConstants.{FIRST_SLOT, MOST_SLOTS}
 use Rattle.w16_selectors.specs.declared.Descriptor.{Descriptor}
+use Rattle.w16_selectors.specs.declared.SelKind.{SelKind}
 use Rattle.memchr.specs.Find.{IsFirst}
-use Rattle.w16_selectors.specs.Descriptors.{DescriptorTable, descriptor_at, IsUntaken}
+use Rattle.w16_selectors.specs.Descriptors.{DescriptorTable, descriptor_at, unset, IsUntaken}
 use Rattle.w16_selectors.specs.Representation.{IsKept, AreTaken, mark_of}
 
 -- a segment ends where an address of 32 bits can reach
 abbrev pub Reaches : Option Descriptor → Type 0
 Reaches entry = IfSome entry (λ d. d.base + d.limit + 1 < 2 ^ 32)
+
+-- one without bytes does
+pub unset_reaches : (d : Descriptor) (kind : SelKind) → d ≡ unset kind → Reaches (Some d)
+unset_reaches d kind is = subst (λ d. Reaches (Some d)) (sym is) (omega arith)
 
 none_at : (n slot : ℕ) → descriptor_at (replicate n None) slot ≡ None
 none_at n slot = elim (cases_lt slot n) [

@@ -23,9 +23,17 @@ IsUntaken table slot = (FIRST_SLOT ≤ slot) × (slot < length table) × (descri
 abbrev pub IsFreeRun : DescriptorTable → ℕ → ℕ → Type 0
 IsFreeRun table first count = (FIRST_SLOT ≤ first) × ((k : ℕ) → k < count → IsUntaken table (first + k))
 
--- a slot's descriptor before its segment has bytes
-abbrev pub unset : Descriptor
-unset = record { base = 0; limit = 0; present = false; kind = Data }
+-- what the segment of a slot holds; data where the slot isn't taken
+abbrev pub kind_of : Option Descriptor → SelKind
+kind_of None = Data
+kind_of (Some d) = d.kind
+
+abbrev pub kind_at : DescriptorTable → ℕ → SelKind
+kind_at table slot = kind_of (descriptor_at table slot)
+
+-- a slot's descriptor while its segment has no bytes
+abbrev pub unset : SelKind → Descriptor
+unset kind = record { base = 0; limit = 0; present = false; kind = kind }
 
 -- the descriptor that a selector names: that of the slot whose selector it is
 abbrev pub descriptor_of : DescriptorTable → ℕ → Option Descriptor

@@ -2,9 +2,10 @@
 //! objects. No call but the constructor takes memory.
 #![tactic(auto)]
 
-ghost use Rattle.std.specs.Prelude.{◌≡◌, ◌+◌, ◌^◌, ◌<◌, ◌≤◌, ℕ, length, IfOk, OnOk, IfSome, IfNone, IsSome, Some, None, replicate, slice_set};
+ghost use Rattle.std.specs.Prelude.{◌≡◌, ◌+◌, ◌^◌, ◌<◌, ◌≤◌, ℕ, length, IfOk, OnOk, IfSome, IfNone, IsSome, Some, None, true, replicate, slice_set};
 ghost use Rattle.memchr.specs.Find.{IsFirst};
-ghost use Rattle.w16_selectors.specs.Descriptors.{descriptor_at, descriptor_of, IsUntaken, IsFreeRun, unset, place_of};
+ghost use Rattle.w16_selectors.specs.Descriptors.{descriptor_at, descriptor_of, IsUntaken, IsFreeRun, place_of};
+ghost use Rattle.w16_selectors.specs.Descriptors as descriptors;
 
 use memchr::memchr;
 use std::alloc::{AllocError, Global};
@@ -18,14 +19,6 @@ const FREE: u8 = 0;
 
 /// The mark of a slot that is.
 const TAKEN: u8 = 1;
-
-/// A slot's descriptor before its segment has bytes.
-const UNSET: Descriptor = Descriptor {
-    base: 0,
-    limit: 0,
-    present: false,
-    kind: SelKind::Data,
-};
 
 /// What a segment holds. Code can't be written through its selector.
 #[derive(Clone, Copy, Debug, PartialEq, Eq)]
@@ -134,12 +127,12 @@ impl Selectors {
         Some(from + behind)
     }
 
-    /// Takes a free slot. Its segment has no bytes yet: its descriptor isn't present.
-    pub fn take(&mut self, slot: u16)
+    /// Takes a free slot for a segment of a kind. It has no bytes yet: its descriptor isn't present.
+    pub fn take(&mut self, slot: u16, kind: SelKind)
         requires { IsUntaken self.old slot }
-        ensures { self.new ≡ slice_set self.old slot (Some unset) }
+        ensures { self.new ≡ slice_set self.old slot (Some (descriptors.unset kind)) }
     {
-        self.descriptors[slot as usize] = Some(UNSET);
+        self.descriptors[slot as usize] = Some(unset(kind));
         self.marks[slot as usize] = TAKEN;
         if self.free_from == slot as usize {
             self.free_from += 1;
@@ -156,13 +149,39 @@ impl Selectors {
         self.free_from = self.free_from.min(slot as usize);
     }
 
-    /// Gives a taken slot another descriptor. Its segment must end where an address of 32 bits can reach.
-    pub fn set(&mut self, slot: u16, descriptor: Descriptor)
+    /// The segment of a taken slot has bytes from an address `base` on, the last of them at the offset `limit`. It keeps its kind. It must end
+    /// where an address of 32 bits can reach.
+    pub fn place(&mut self, slot: u16, base: u32, limit: u32)
         requires taken { IsSome (descriptor_at self.old slot) }
-        requires inside { descriptor.base + descriptor.limit + 1 < 2 ^ 32 }
-        ensures { self.new ≡ slice_set self.old slot (Some descriptor) }
+        requires inside { base + limit + 1 < 2 ^ 32 }
+        ensures { self.new ≡ slice_set self.old slot (Some (record { base = base; limit = limit; present = true; kind = descriptors.kind_at self.old slot })) }
     {
-        self.descriptors[slot as usize] = Some(descriptor);
+        let kind = self.kind_at(slot);
+        self.descriptors[slot as usize] = Some(Descriptor {
+            base,
+            limit,
+            present: true,
+            kind,
+        });
+    }
+
+    /// The segment of a taken slot has no bytes any more: its descriptor isn't present. It keeps its kind.
+    pub fn vacate(&mut self, slot: u16)
+        requires { IsSome (descriptor_at self.old slot) }
+        ensures { self.new ≡ slice_set self.old slot (Some (descriptors.unset (descriptors.kind_at self.old slot))) }
+    {
+        self.descriptors[slot as usize] = Some(unset(self.kind_at(slot)));
+    }
+
+    /// What the segment of a slot holds; data where the slot isn't taken.
+    fn kind_at(&self, slot: u16) -> SelKind
+        requires { slot < length self.now }
+        ensures { result ≡ descriptors.kind_at self.now slot }
+    {
+        match self.descriptors[slot as usize] {
+            Some(descriptor) => descriptor.kind,
+            None => SelKind::Data,
+        }
     }
 
     /// The descriptor that a selector names, none where its low three bits aren't set or its slot isn't taken.
@@ -205,5 +224,17 @@ impl Selectors {
         ensures { result ≡ length self.now }
     {
         self.descriptors.len()
+    }
+}
+
+/// A slot's descriptor while its segment has no bytes.
+fn unset(kind: SelKind) -> Descriptor
+    ensures { result ≡ descriptors.unset kind }
+{
+    Descriptor {
+        base: 0,
+        limit: 0,
+        present: false,
+        kind,
     }
 }

@@ -1,6 +1,6 @@
 //! Runs of a script on a new machine.
-ghost use Rattle.std.specs.Prelude.{◌≡◌, IfOk, IfErr};
-ghost use Rattle.w16_machine.specs.Local.{empty_local_world};
+ghost use Rattle.std.specs.Prelude.{◌≡◌, [], IfOk, IfErr};
+ghost use Rattle.w16_machine.specs.World.{empty_world};
 ghost use Rattle.w16_kernel.specs.Sizes.{IsMemorySize, IsSelectorCount};
 
 use crate::fault::Fault;
@@ -10,14 +10,17 @@ use std::io::{self, BufWriter, Read, Write};
 use w16_kernel::{Kernel, check_sizes};
 use w16_options::Options;
 use w16_script::run;
+use w16_store::MemStore;
 
-/// The machine that the options ask for, in which nothing is allocated. An error is want of memory.
-fn machine(alloc: Global, options: &Options<'_>) -> Result<Kernel, Fault>
+/// The machine that the options ask for, in which nothing is allocated, over a store without files: no command loads a module yet. An error
+/// is want of memory.
+fn machine(alloc: Global, options: &Options<'_>) -> Result<Kernel<MemStore>, Fault>
     requires { IsMemorySize options.now.memory × IsSelectorCount options.now.selectors }
-    ensures ok { IfOk result (λ kernel. kernel ≡ empty_local_world options.now.memory options.now.selectors) }
+    ensures ok { IfOk result (λ kernel. kernel ≡ empty_world options.now.memory options.now.selectors [] 0) }
     ensures err { IfErr result (λ fault. fault ≡ Fault.Memory) }
 {
-    Kernel::new(alloc, options.memory, options.selectors).map_err(|_| Fault::Memory)
+    let store = MemStore::new(alloc);
+    Kernel::new(alloc, options.memory, options.selectors, store).map_err(|_| Fault::Memory)
 }
 
 /// Runs a script, and flushes what was replied before the run's own fault is told: a failure there is the write fault.
@@ -25,7 +28,7 @@ fn run_flushed(
     alloc: Global,
     reader: &mut impl Read,
     writer: &mut impl Write,
-    kernel: &mut Kernel,
+    kernel: &mut Kernel<MemStore>,
 ) -> Result<(), Fault> {
     let ended = run(alloc, reader, writer, kernel);
     if writer.flush().is_err() {
@@ -38,7 +41,11 @@ fn run_flushed(
 }
 
 /// Runs a script, whose replies go to standard output.
-fn run_printed(rt: &HostRuntime, reader: &mut impl Read, kernel: &mut Kernel) -> Result<(), Fault> {
+fn run_printed(
+    rt: &HostRuntime,
+    reader: &mut impl Read,
+    kernel: &mut Kernel<MemStore>,
+) -> Result<(), Fault> {
     match BufWriter::new(rt.alloc(), io::writer(rt)) {
         Ok(mut writer) => run_flushed(rt.alloc(), reader, &mut writer, kernel),
         Err(_) => Err(Fault::Memory),

@@ -1,10 +1,12 @@
 //! A global heap for tests.
-ghost use Rattle.std.specs.Prelude.{ℕ};
+ghost use Rattle.std.specs.Prelude.{IsTrue, ℕ};
+ghost use Rattle.w16_model.specs.Heap.{IsMultiple};
 
 use std::alloc::{AllocError, Global};
 use std::marker::Model;
 use std::process::Abort;
-use w16_global::{FarFault, Global16};
+use w16_global::{FarFault, Global16, Work};
+use w16_model::{GRAIN, Kind, Owned};
 
 /// One call of a global heap.
 #[derive(Clone, Copy)]
@@ -20,6 +22,13 @@ pub(super) enum Call {
     Compact(u32),
     Newest(u16),
     Oldest(u16),
+    /// An object of a module's, of a kind and so many bytes, code or not.
+    TakeOwned(Kind, u32, bool),
+    Revive(u16),
+    Release(u16),
+    IsCode(u16),
+    /// Sets all bytes of a selector's object to one, as a loader does.
+    Load(u16, u8),
     Size(u16),
     Flags(u16),
     Handle(u16),
@@ -48,6 +57,7 @@ pub(super) enum Answer {
     Same(u32, u32),
     Far(Result<(), FarFault>),
     Is(bool),
+    Done,
     NoItem,
     /// An address and a size.
     Hole(u32, u32),
@@ -105,8 +115,41 @@ impl Bench {
             Call::Compact(n) => Answer::Long(self.heap.global_compact(n)),
             Call::Newest(handle) => Answer::Word(self.heap.global_lru_newest(handle)),
             Call::Oldest(handle) => Answer::Word(self.heap.global_lru_oldest(handle)),
+            _ => self.own(call),
+        }
+    }
+
+    /// A call about an object of a module's.
+    fn own(&mut self, call: Call) -> Answer {
+        match call {
+            Call::TakeOwned(kind, size, code) => self.take_owned(kind, size, code),
+            Call::Revive(handle) => Answer::Is(self.heap.revive(handle)),
+            Call::Release(handle) => {
+                self.heap.release(handle);
+                Answer::Done
+            }
+            Call::Load(selector, byte) => self.load(selector, byte),
             _ => self.reach(call),
         }
+    }
+
+    /// The handle of a new object of a module's, or 0; its size is a multiple of 32 above 0.
+    fn take_owned(&mut self, kind: Kind, size: u32, code: bool) -> Answer {
+        if size == 0 || !is_grained(size) {
+            return Answer::Is(false);
+        }
+        let owned = Owned { size, code };
+        Answer::Word(self.heap.take_owned(kind, owned).unwrap_or(0))
+    }
+
+    /// Whether the selector's object has bytes, which are set.
+    fn load(&mut self, selector: u16, byte: u8) -> Answer {
+        let Some(segment) = self.heap.segment(selector) else {
+            return Answer::Is(false);
+        };
+        self.heap
+            .with_bytes(segment.slot, &Setting { byte }, &mut ());
+        Answer::Done
     }
 
     /// Locks an object so many times.
@@ -157,6 +200,7 @@ impl Bench {
             Call::Limit(selector) => Answer::Long(self.heap.get_selector_limit(selector)),
             Call::Moved => Answer::Count(self.heap.moved()),
             Call::Written => Answer::Count(self.heap.written()),
+            Call::IsCode(handle) => Answer::Is(self.heap.is_code(handle)),
             _ => self.walk(call),
         }
     }
@@ -181,5 +225,32 @@ impl Bench {
             Some(owner) => Answer::Object(item.at, item.size, owner.name, owner.locks),
             None => Answer::Hole(item.at, item.size),
         }
+    }
+}
+
+/// Whether a size is some whole grains.
+fn is_grained(size: u32) -> bool
+    ensures { IsTrue result → IsMultiple GRAIN size }
+{
+    size % GRAIN == 0
+}
+
+/// Sets bytes to one.
+#[derive(Drop)]
+struct Setting {
+    byte: u8,
+}
+
+impl Work for Setting {
+    type State = ();
+
+    type Answer = ();
+
+    ghost may = { λ _ _ _. Unit {0} };
+
+    ghost does = { λ _ _ _ _ _ _. Unit {0} };
+
+    fn work(&self, _state: &mut (), bytes: &mut [u8]) {
+        bytes.fill(self.byte);
     }
 }

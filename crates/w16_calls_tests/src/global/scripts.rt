@@ -4,6 +4,7 @@
 use super::Script;
 use super::bench::{Answer, Call};
 use w16_global::FarFault;
+use w16_model::Kind;
 
 pub(super) static SCRIPTS: &[Script] = &[
     Script {
@@ -325,6 +326,102 @@ pub(super) static SCRIPTS: &[Script] = &[
             (Call::SameWalk(0, 0), Answer::Is(true)),
             (Call::SameWalk(2, 33), Answer::Is(true)),
             (Call::Walk(3), Answer::NoItem),
+        ],
+    },
+    Script {
+        name: "keeps code of a module",
+        memory: 192,
+        lines: &[
+            (Call::Alloc(2, 32), Answer::Word(0x106)),
+            (
+                Call::TakeOwned(Kind::Discardable, 64, true),
+                Answer::Word(0x10E),
+            ),
+            (Call::IsCode(0x10E), Answer::Is(true)),
+            (Call::IsCode(0x106), Answer::Is(false)),
+            (Call::IsCode(0x10F), Answer::Is(false)),
+            (Call::Size(0x10E), Answer::Long(0)),
+            (
+                Call::Write(0x10F, 0, b"NE"),
+                Answer::Far(Err(FarFault::ReadOnly)),
+            ),
+            (
+                Call::Read(0x10F, 0, &[1, 1]),
+                Answer::Far(Err(FarFault::NotPresent)),
+            ),
+            (Call::Revive(0x106), Answer::Is(false)),
+            (Call::Revive(0x10F), Answer::Is(false)),
+            (Call::Revive(0x10E), Answer::Is(true)),
+            (Call::Revive(0x10E), Answer::Is(false)),
+            (Call::Base(0x10F), Answer::Long(32)),
+            (Call::Limit(0x10F), Answer::Long(63)),
+            (Call::Load(0x10F, 7), Answer::Done),
+            (Call::Read(0x10F, 62, &[7, 7]), Answer::Far(Ok(()))),
+            (
+                Call::Write(0x10F, 0, b"NE"),
+                Answer::Far(Err(FarFault::ReadOnly)),
+            ),
+            (
+                Call::Fill(0x10F, 0, 1, 9),
+                Answer::Far(Err(FarFault::ReadOnly)),
+            ),
+            (Call::Free(0x10E), Answer::Word(0x10E)),
+            (Call::ReAlloc(0x10E, 96, 0), Answer::Word(0)),
+            (Call::Discard(0x10E), Answer::Word(0)),
+            // It slides below what is allocated.
+            (Call::Alloc(2, 32), Answer::Word(0x116)),
+            (Call::Free(0x106), Answer::Word(0)),
+            (Call::Alloc(2, 96), Answer::Word(0x106)),
+            (Call::Moved, Answer::Count(96)),
+            (Call::Base(0x10F), Answer::Long(0)),
+            (Call::Limit(0x10F), Answer::Long(63)),
+            (Call::Read(0x10F, 62, &[7, 7]), Answer::Far(Ok(()))),
+            (
+                Call::Write(0x10F, 0, b"NE"),
+                Answer::Far(Err(FarFault::ReadOnly)),
+            ),
+            // It is discarded.
+            (Call::Compact(32), Answer::Long(64)),
+            (Call::Base(0x10F), Answer::Long(0)),
+            (Call::Limit(0x10F), Answer::Long(0)),
+            (Call::IsCode(0x10E), Answer::Is(true)),
+            (
+                Call::Read(0x10F, 0, &[1, 1]),
+                Answer::Far(Err(FarFault::NotPresent)),
+            ),
+            (
+                Call::Write(0x10F, 0, b"NE"),
+                Answer::Far(Err(FarFault::ReadOnly)),
+            ),
+            // Others slide for its revival, which counts as no call's move.
+            (Call::Alloc(2, 32), Answer::Word(0x11E)),
+            (Call::Free(0x106), Answer::Word(0)),
+            (Call::Alloc(2, 64), Answer::Word(0x106)),
+            (Call::Moved, Answer::Count(0)),
+            (Call::Written, Answer::Count(160)),
+            (Call::Revive(0x10E), Answer::Is(true)),
+            (Call::Moved, Answer::Count(0)),
+            (Call::Written, Answer::Count(256)),
+            (Call::Base(0x117), Answer::Long(32)),
+            (Call::Base(0x107), Answer::Long(64)),
+            (Call::Base(0x10F), Answer::Long(128)),
+            // It goes though it is locked, and its slot is free for data.
+            (Call::Lock(0x10E), Answer::Long(0x010F_0000)),
+            (Call::Release(0x10D), Answer::Done),
+            (Call::Size(0x10E), Answer::Long(64)),
+            (Call::Release(0x10E), Answer::Done),
+            (Call::Size(0x10E), Answer::Long(0)),
+            (Call::IsCode(0x10E), Answer::Is(false)),
+            (
+                Call::Read(0x10F, 0, &[1]),
+                Answer::Far(Err(FarFault::BadSelector)),
+            ),
+            (Call::TakeOwned(Kind::Fixed, 32, false), Answer::Word(0x10F)),
+            (Call::IsCode(0x10F), Answer::Is(false)),
+            (Call::Revive(0x10F), Answer::Is(true)),
+            (Call::Base(0x10F), Answer::Long(128)),
+            (Call::Write(0x10F, 0, b"NE"), Answer::Far(Ok(()))),
+            (Call::Read(0x10F, 0, b"NE"), Answer::Far(Ok(()))),
         ],
     },
 ];

@@ -7,6 +7,7 @@ use std::marker::Model;
 use std::process::Abort;
 use w16_kernel::{Call, Kernel, MOST_FILLED, MOST_READ, Reply};
 use w16_model::{FarFault, Item};
+use w16_store::MemStore;
 
 /// What is asked of the machine.
 #[derive(Clone, Copy)]
@@ -41,7 +42,7 @@ pub(super) enum Told {
 /// test carries it further.
 #[derive(Drop)]
 pub(super) struct Bench {
-    kernel: Kernel,
+    kernel: Kernel<MemStore>,
 }
 
 impl Model for Bench {
@@ -53,7 +54,7 @@ impl Model for Bench {
 impl Bench {
     pub fn new(rt: &impl Abort, alloc: Global, memory: u32) -> Result<Bench, AllocError> {
         assert!(rt; memory % 32 == 0);
-        let kernel = Kernel::new(alloc, memory, 16)?;
+        let kernel = Kernel::new(alloc, memory, 16, MemStore::new(alloc))?;
         Ok(Bench { kernel })
     }
 

@@ -11,6 +11,7 @@ use std::io::{BufWriter, ErrorKind};
 use std::marker::Model;
 use w16_kernel::Kernel;
 use w16_script::{Ended, RunFault, run};
+use w16_store::MemStore;
 
 /// A talking host, with how a run over it ends on a machine of 4,096 bytes, and what it notes.
 pub struct Dialogue {
@@ -42,7 +43,7 @@ pub struct Script {
 /// A machine. To a proof it has no value, so no test carries what a run says of it.
 #[derive(Drop)]
 struct Machine {
-    kernel: Kernel,
+    kernel: Kernel<MemStore>,
 }
 
 impl Model for Machine {
@@ -57,7 +58,7 @@ impl Machine {
         if memory % 32 != 0 {
             return None;
         }
-        match Kernel::new(alloc, memory, 16) {
+        match Kernel::new(alloc, memory, 16, MemStore::new(alloc)) {
             Ok(kernel) => Some(Machine { kernel }),
             Err(_) => None,
         }

@@ -1,4 +1,4 @@
-use Rattle.w16_loading.proofs.WorldSteps.{calls_keep_worlds_law}
+use Rattle.w16_loading.proofs.CallsKept.{calls_keep_worlds_law}
 use Rattle.w16_loading.proofs.laws.calls_keep_worlds.Goals as goal
 
 pub returns : goal.returns

@@ -1,4 +1,4 @@
-use Rattle.w16_loading.proofs.Kept.{fills_law}
+use Rattle.w16_loading.proofs.Fillings.{fills_law}
 use Rattle.w16_loading.proofs.laws.loads_discard_alone.Goals as goal
 
 pub returns : goal.returns

@@ -1,4 +1,4 @@
-use Rattle.w16_loading.proofs.Named.{load_fewest_law}
+use Rattle.w16_loading.proofs.Fewest.{load_fewest_law}
 use Rattle.w16_loading.proofs.laws.loads_discard_fewest.Goals as goal
 
 pub returns : goal.returns

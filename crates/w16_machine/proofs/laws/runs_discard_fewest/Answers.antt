@@ -1,4 +1,4 @@
-use Rattle.w16_machine.proofs.Discards.{fewest_law}
+use Rattle.w16_machine.proofs.Worlds.{fewest_law}
 use Rattle.w16_machine.proofs.laws.runs_discard_fewest.Goals as goal
 
 pub returns : goal.returns

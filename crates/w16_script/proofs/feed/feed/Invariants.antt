@@ -8,7 +8,7 @@ use Rattle.w16_script.proofs.feed.feed.Given as goal
 abbrev pub invariant-lines : goal.invariant-lines
 invariant-lines g l = record {
   fed : (done : List ℕ) × (l.piece ≡ done ++ l.rest)
-      × Feeds (g.W.Write.contents l.initial.writer) (progress_of l.initial.state) (state_of l.initial.state (g.K.Machine.world l.initial.kernel)) done (g.W.Write.contents l.writer) (progress_of l.state) (state_of l.state (g.K.Machine.world l.kernel))
+      × Feeds g.K.Machine.steps (g.W.Write.contents l.initial.writer) (progress_of l.initial.state) (state_of l.initial.state (g.K.Machine.world l.initial.kernel)) done (g.W.Write.contents l.writer) (progress_of l.state) (state_of l.state (g.K.Machine.world l.kernel))
       × (room_of (progress_of l.state) + length done ≤ room_of (progress_of l.initial.state));
   fits : IsWithinLimits (progress_of l.state);
 }

@@ -1,6 +1,6 @@
 use Rattle.std.proofs.Common.{[], ◌∷◌, refl, rules}
 use Rattle.std.proofs.KnownBytes.{Appends-nil}
-use Rattle.w16_machine.specs.LocalMachine.{Event}
+use Rattle.w16_machine.specs.Machine.{Event}
 use Rattle.w16_kernel.specs.Runs.{command_of, reply_of}
 use Rattle.w16_script.specs.Grammar.{Said}
 use Rattle.w16_script.specs.Printed.{error_text}

@@ -16,12 +16,12 @@ returns-in_err-feed-clause-err g c =
     rw (p.1, p.2) (
       text ++ take c.in-Ok.count c.read_some.new.buffer,
       Consumes-trans _ _ _ _ _ consumed c.in-Ok.ensures.ok,
-      FailsLater-piece _ _ _ _ _ _ _ _ _ text _ c.in_err-feed.field-0.0 (Feeds-kept _ _ _ _ _ _ _ text feeds c.flush_writer.ensures) (omega (arith, c.pieces.invariant.size, c.read_some.auto.buffer, length-take c.in-Ok.count c.read_some.new.buffer)) c.in_err-feed.ensures.err,
+      FailsLater-piece _ _ _ _ _ _ _ _ _ _ text _ c.in_err-feed.field-0.0 (Feeds-kept _ _ _ _ _ _ _ _ text feeds c.flush_writer.ensures) (omega (arith, c.pieces.invariant.size, c.read_some.auto.buffer, length-take c.in-Ok.count c.read_some.new.buffer)) c.in_err-feed.ensures.err,
     )
 
 pub pieces-init : goal.pieces-init
 pieces-init g c = record {
-  fed = ([], Consumes-nil _, Feeds-held _ fresh (progress_of c.new-state.result) _ _ [] tt c.new-state.ensures.progress (ap (state_with (g.K.Machine.world c.args.kernel.now)) c.new-state.ensures.registers));
+  fed = ([], Consumes-nil _, Feeds-held _ _ fresh (progress_of c.new-state.result) _ _ [] tt c.new-state.ensures.progress (ap (state_with (g.K.Machine.world c.args.kernel.now)) c.new-state.ensures.registers));
   fits = subst IsWithinLimits (sym c.new-state.ensures.progress) fresh-fits;
   size = c.requires;
 }
@@ -33,7 +33,7 @@ pieces-preserved g c =
       fed = (
         text ++ take c.in-Ok.count c.read_some.new.buffer,
         Consumes-trans _ _ _ _ _ consumed c.in-Ok.ensures.ok,
-        Feeds-trans _ _ _ _ _ _ _ _ _ _ _ (Feeds-kept _ _ _ _ _ _ _ text feeds c.flush_writer.ensures) c.in_ok-feed.ensures.ok,
+        Feeds-trans _ _ _ _ _ _ _ _ _ _ _ _ (Feeds-kept _ _ _ _ _ _ _ _ text feeds c.flush_writer.ensures) c.in_ok-feed.ensures.ok,
       );
       fits = c.in_ok-feed.ensures.within;
       size = omega (arith, c.pieces.invariant.size, c.read_some.auto.buffer);
@@ -47,7 +47,7 @@ returns-then-count-eq0-clause-ok g c =
       text,
       Consumes-none _ _ _ _ _ _ c.if-count-eq0.true consumed c.in-Ok.ensures.ok,
       c.in-Ok.ensures.end c.if-count-eq0.true,
-      Script-from _ _ _ _ _ _ _ _ text counts (Feeds-kept _ _ _ _ _ _ _ text feeds c.flush_writer.ensures) c.pieces.invariant.fits finishes,
+      Script-from _ _ _ _ _ _ _ _ _ text counts (Feeds-kept _ _ _ _ _ _ _ _ text feeds c.flush_writer.ensures) c.pieces.invariant.fits finishes,
     ))
     c.finish.ensures.ok
 
@@ -58,7 +58,7 @@ returns-then-count-eq0-clause-err g c =
     (λ fault (filled, fails). (
       text,
       Consumes-none _ _ _ _ _ _ c.if-count-eq0.true consumed c.in-Ok.ensures.ok,
-      FailsLater-last _ _ _ _ _ _ _ _ _ text fault (c.in-Ok.ensures.end c.if-count-eq0.true) (Feeds-kept _ _ _ _ _ _ _ text feeds c.flush_writer.ensures) c.pieces.invariant.fits filled fails,
+      FailsLater-last _ _ _ _ _ _ _ _ _ _ text fault (c.in-Ok.ensures.end c.if-count-eq0.true) (Feeds-kept _ _ _ _ _ _ _ _ text feeds c.flush_writer.ensures) c.pieces.invariant.fits filled fails,
     ))
     c.finish.ensures.err
 

@@ -10,7 +10,7 @@ use Rattle.w16_script.proofs.script.run_over.Given as goal
 abbrev pub invariant-pieces : goal.invariant-pieces
 invariant-pieces g l = record {
   fed : (text : List ℕ) × Consumes (g.R.Read.remaining l.initial.reader) (g.R.Read.remaining l.reader) text
-      × Feeds (g.W.Write.contents l.initial.writer) fresh (start (g.K.Machine.world l.initial.kernel)) text (g.W.Write.contents l.writer) (progress_of l.state) (state_of l.state (g.K.Machine.world l.kernel));
+      × Feeds g.K.Machine.steps (g.W.Write.contents l.initial.writer) fresh (start (g.K.Machine.world l.initial.kernel)) text (g.W.Write.contents l.writer) (progress_of l.state) (state_of l.state (g.K.Machine.world l.kernel));
   fits : IsWithinLimits (progress_of l.state);
   size : length l.buffer ≡ 65536;
 }

@@ -17,8 +17,8 @@ follow-requires-clause-known c =
     known_told c.self.invariant c.realloc.new.self s.cap c.args.slot (handles_shown c.self.view_is) c.requires.object c.args.size c.args.way s.reallocated s.discarded
     c.forget.new.selectors (subst (λ ids. (q : ℕ) → descriptor_at c.forget.new.selectors q ≡ forgotten ids c.self.inside.selectors q) c.discarded.ensures c.forget.ensures.forgotten)
 
-pub set-requires-clause-taken : goal.set-requires-clause-taken
-set-requires-clause-taken c =
+pub place-requires-clause-taken : goal.place-requires-clause-taken
+place-requires-clause-taken c =
     let s = c.in-Some.ensures in
     known_followed c.self.invariant c.realloc.new.self s.cap c.args.slot (handles_shown c.self.view_is) c.requires.object c.args.size c.args.way s.reallocated s.discarded c.in-Some.place.slid.from c.in-Some.place.slid.to
     c.forget.new.selectors c.follow.new.selectors (subst (λ ids. (q : ℕ) → descriptor_at c.forget.new.selectors q ≡ forgotten ids c.self.inside.selectors q) c.discarded.ensures c.forget.ensures.forgotten) c.follow.ensures.followed
@@ -28,8 +28,8 @@ invariant_of-self-2 c =
     let s = c.in-Some.ensures in
     let p = c.in-Some.place in
     reallocated_joined c.self.invariant c.realloc.new.self s.cap c.args.slot (handles_shown c.self.view_is) c.requires.object c.args.size c.args.way s.reallocated s.discarded p.at p.slid.from p.slid.to
-    c.forget.new.selectors c.follow.new.selectors c.set.new.self s.still s.placed (subst (λ ids. (q : ℕ) → descriptor_at c.forget.new.selectors q ≡ forgotten ids c.self.inside.selectors q) c.discarded.ensures c.forget.ensures.forgotten)
-    c.forget.ensures.many c.follow.ensures.followed c.follow.ensures.many c.set.ensures
+    c.forget.new.selectors c.follow.new.selectors c.place.new.self s.still s.placed (subst (λ ids. (q : ℕ) → descriptor_at c.forget.new.selectors q ≡ forgotten ids c.self.inside.selectors q) c.discarded.ensures c.forget.ensures.forgotten)
+    c.forget.ensures.many c.follow.ensures.followed c.follow.ensures.many c.place.ensures
 
-pub set-requires-clause-inside : goal.set-requires-clause-inside
-set-requires-clause-inside c = omega (arith, c.in-Some.ensures.inside)
+pub place-requires-clause-inside : goal.place-requires-clause-inside
+place-requires-clause-inside c = omega (arith, c.in-Some.ensures.inside)

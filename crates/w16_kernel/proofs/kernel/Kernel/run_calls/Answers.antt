@@ -1,29 +1,41 @@
 use Rattle.std.proofs.lemmas.Grind.{common_steps}
-use Rattle.std.proofs.Common.{take, get_or, List, sym, subst, arith}
+use Rattle.std.proofs.Common.{take, get_or, IsSomeAnd, List, sym, subst, arith}
 use Rattle.std.proofs.lemmas.List.{take_more}
-use Rattle.w16_machine.specs.LocalMachine.{Step}
-use Rattle.w16_machine.specs.LocalRuns.{IsFewest}
+use Rattle.std.proofs.lemmas.Option.{slice_get-get_or}
+use Rattle.w16_local.proofs.Beginning.{on_any}
+use Rattle.w16_machine.specs.Fewest.{IsFewest}
 use Rattle.w16_kernel.specs.declared.call.Call.{Call}
 use Rattle.w16_kernel.specs.declared.call.Call.TheVariants.{GlobalAlloc}
-use Rattle.w16_kernel.specs.Runs.{command_of}
-use Rattle.w16_kernel.proofs.Running.{Ran, ran_more}
+use Rattle.w16_kernel.specs.Parts.{KernelStep}
+use Rattle.w16_kernel.specs.Runs.{command_of, TakesMemory}
+use Rattle.w16_kernel.specs.Stops.{StopsEarly}
+use Rattle.w16_kernel.proofs.Running.{Ran, ran_more, ran_stops}
 use Rattle.w16_kernel.proofs.kernel.Kernel.run_calls.Goals as goal
 
 pub loop-call-preserved : goal.loop-call-preserved
-loop-call-preserved c =
+loop-call-preserved g c =
     let i = c.loop-call.call-index in
     let calls = c.args.calls.now in
     let call = get_or calls i (GlobalAlloc 0 0) in
-    let step = subst (λ reply. Step c.loop-call.self (command_of call) reply c.call.new.self) (sym c.of.ensures) c.in_ok-reply.ensures.step in
+    let step = subst (λ reply. KernelStep c.loop-call.self (command_of call) reply c.call.new.self) (sym c.of.ensures) c.in_ok-reply.ensures.step in
     let few = subst (λ reply. IsFewest c.loop-call.self (record { command = command_of call; reply = reply; after = c.call.new.self })) (sym c.of.ensures) c.in_ok-reply.ensures.fewest in
-    let longer = ran_more c.args.self.now (take i calls) c.loop-call.answers.items c.loop-call.self call c.of.result c.call.new.self c.loop-call.invariant.ran step few in
-    record { ran = subst (λ (cs : List Call). Ran c.args.self.now cs c.push_reserved.new.self.items c.call.new.self) (sym (take_more calls i (GlobalAlloc 0 0) (omega arith))) (rw c.push_reserved.ensures.items longer) }
+    let longer = ran_more KernelStep c.args.self.now (take i calls) c.loop-call.answers.items c.loop-call.self call c.of.result c.call.new.self c.loop-call.invariant.ran step few in
+    record { ran = subst (λ (cs : List Call). Ran KernelStep c.args.self.now cs c.push_reserved.new.self.items c.call.new.self) (sym (take_more calls i (GlobalAlloc 0 0) (omega arith))) (rw c.push_reserved.ensures.items longer) }
 
 pub returns-in_err-answers-clause-refused : goal.returns-in_err-answers-clause-refused
-returns-in_err-answers-clause-refused c = grind (arith, common_steps)
+returns-in_err-answers-clause-refused g c = grind (arith, common_steps)
 
 pub push_reserved-requires : goal.push_reserved-requires
-push_reserved-requires c = grind (arith, common_steps)
+push_reserved-requires g c = grind (arith, common_steps)
 
 pub returns-clause-run : goal.returns-clause-run
-returns-clause-run c = grind (arith, common_steps)
+returns-clause-run g c = grind (arith, common_steps)
+
+pub returns-in_err-reply-clause-refused : goal.returns-in_err-reply-clause-refused
+returns-in_err-reply-clause-refused g c =
+    let i = c.loop-call.call-index in
+    let calls = c.args.calls.now in
+    let next = slice_get-get_or calls i (GlobalAlloc 0 0) (omega arith) in
+    let wanted = subst (λ p. IsSomeAnd p (λ (call : Call). TakesMemory c.loop-call.self (command_of call))) (sym next) c.in_err-reply.ensures.wanted in
+    on_any c.from_residual-in_err-reply.result _ (subst (StopsEarly KernelStep c.args.self.now calls) (sym c.in_err-reply.ensures.refused)
+    (ran_stops KernelStep c.args.self.now calls i c.loop-call.answers.items c.loop-call.self c.loop-call.invariant.ran wanted))

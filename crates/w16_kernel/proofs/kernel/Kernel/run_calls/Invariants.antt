@@ -1,7 +1,8 @@
 use Rattle.std.proofs.Common.{take}
+use Rattle.w16_kernel.specs.Parts.{KernelStep}
 use Rattle.w16_kernel.proofs.Running.{Ran}
 use Rattle.w16_kernel.proofs.kernel.Kernel.run_calls.Given as goal
 
 -- the calls so far, and their replies, are a run to the present world
 abbrev pub invariant-loop-call : goal.invariant-loop-call
-invariant-loop-call l = record { ran : Ran l.fn.self (take l.call-index l.calls) l.answers.items l.self }
+invariant-loop-call g l = record { ran : Ran KernelStep l.fn.self (take l.call-index l.calls) l.answers.items l.self }

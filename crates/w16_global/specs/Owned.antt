@@ -1,0 +1,11 @@
+-- Which object of a module's may be revived.
+use Rattle.std.specs.Prelude.{◌≡◌, ℕ, ◌/◌, true, Some, None}
+use Rattle.w16_model.specs.Handles.{Handles, slot_of_handle}
+use Rattle.w16_model.specs.Heap.{bytes_at}
+use Rattle.w16_model.specs.Owned.{is_owned}
+
+-- a handle names an object that a module owns and that has no bytes
+pub record LacksBytes (handles : Handles) (handle : ℕ) : Type 0 where
+  pub named : slot_of_handle handles handle ≡ Some (handle / 8)
+  pub owned : is_owned handles (handle / 8) ≡ true
+  pub without_bytes : bytes_at handles.heap (handle / 8) ≡ None

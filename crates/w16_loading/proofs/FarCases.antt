@@ -1,0 +1,45 @@
+-- A far access, by cases: it is refused, or it touches its object, and a write puts its bytes there first.
+use Rattle.std.proofs.Common.{◌≡◌, ℕ, Bool, true, false, cond, List, length, Option, Some, None, refl}
+use Rattle.w16_model.specs.declared.FarFault.{FarFault}
+use Rattle.w16_model.specs.declared.FarFault.TheVariants as faults
+use Rattle.w16_model.specs.Bytes.{part}
+use Rattle.w16_model.specs.OneObject.{after_touch}
+use Rattle.w16_model.specs.Handles.{Handles}
+use Rattle.w16_model.specs.Owned.{refuses_write}
+use Rattle.w16_model.specs.Far as far_access
+use Rattle.w16_model.specs.Far.{FarAnswer, far_fault, far_slot, far_bytes, after_write}
+use Rattle.w16_loading.specs.Modules.{LoadingWorld, with_heap}
+use Rattle.w16_loading.specs.Fetch.{far_read, far_write}
+
+module _ (P : LoadingWorld → Type 0) (world : LoadingWorld) (good : P world) (selector offset : ℕ) where
+  abbrev slot : ℕ
+  slot = far_slot world.handles selector
+
+  pub read_cases : (n : ℕ) → P (with_heap world (after_touch world.handles.heap (far_slot world.handles selector))) → P (far_read selector offset n world).1
+  read_cases n touched = turn (far_fault world.handles selector offset n)
+    where
+      turn : (p : Option FarFault) → P (record world {
+        handles = (elim p as (λ _. FarAnswer × Handles) [
+          | Some fault ↦ (FarAnswer.Fault fault, world.handles)
+          | None ↦ (FarAnswer.Bytes (part (far_bytes world.handles selector) offset n), record world.handles { heap = after_touch world.handles.heap (far_slot world.handles selector) })
+        ]).1;
+      })
+      turn (Some fault) = good
+      turn None = touched
+
+  pub write_cases : (slice : List ℕ) → (refuses_write world.handles selector ≡ false → far_fault world.handles selector offset (length slice) ≡ None → P (with_heap world (after_touch (after_write world.handles.heap slot offset slice) slot)))
+      → P (far_write selector offset slice world).1
+  write_cases slice written = by_test (refuses_write world.handles selector) refl
+    where
+      turn : refuses_write world.handles selector ≡ false → (p : Option FarFault) → far_fault world.handles selector offset (length slice) ≡ p → P (record world {
+        handles = (elim p as (λ _. FarAnswer × Handles) [
+          | Some fault ↦ (FarAnswer.Fault fault, world.handles)
+          | None ↦ (FarAnswer.Done, record world.handles { heap = after_touch (after_write world.handles.heap (far_slot world.handles selector) offset slice) (far_slot world.handles selector) })
+        ]).1;
+      })
+      turn t (Some fault) e = good
+      turn t None e = written t e
+
+      by_test : (b : Bool) → refuses_write world.handles selector ≡ b → P (record world { handles = (cond {A = FarAnswer × Handles} b (FarAnswer.Fault faults.ReadOnly, world.handles) (far_access.data_write world.handles selector offset slice)).1 })
+      by_test true t = good
+      by_test false t = turn t (far_fault world.handles selector offset (length slice)) refl

@@ -1,0 +1,192 @@
+-- What becomes of a heap while objects get bytes: of one, and of several, one after another.
+use Rattle.std.proofs.Common.{◌≡◌, ◌≢◌, ℕ, inl, inr, ◌⊎◌, Bool, true, false, List, [], ◌∷◌, length, fold, take, Option, Some, None, IsSomeAnd, is_some, refl, sym, ap, ◌∙◌, subst}
+use Rattle.std.specs.List.{AllByRecursion as Each}
+use Rattle.std.proofs.lemmas.Bool.{false≢true, cases_eq}
+use Rattle.w16_model.specs.declared.Kind.TheVariants.{Discardable}
+use Rattle.w16_model.specs.Discards.{eligible}
+use Rattle.w16_model.specs.Heap.{Heap, Object, IsHeap, blocks, object_at}
+use Rattle.w16_model.specs.Changes.{with_newest, with_ordered, absent}
+use Rattle.w16_model.specs.Request.{Request, Asked, Settles, discarded, prefix_of, stays_for}
+use Rattle.w16_model.specs.Law.{KeepsOthers}
+use Rattle.w16_model.specs.CallLaws.{IsKeptOrDiscarded}
+use Rattle.w16_model.specs.Owned.{any_way}
+use Rattle.w16_model.proofs.Gaps.{Member, Each-at}
+use Rattle.w16_model.proofs.KeptHeaps.{inserted_here}
+use Rattle.w16_model.proofs.KeptHandles.{settled}
+use Rattle.w16_model.proofs.Others.{others_law}
+use Rattle.w16_model.proofs.Bystanders.{kept_or_discarded}
+use Rattle.w16_loading.specs.declared.FetchFault.{FetchFault}
+use Rattle.w16_loading.specs.declared.FetchFault.TheVariants as faults
+use Rattle.w16_loading.specs.Fill.{Giving, Fills, FillsOne, Filling, Failure, InTurn, asked_of, is_of_read}
+use Rattle.w16_loading.specs.AnyStore.{GivesAny}
+use Rattle.w16_loading.specs.Law.{FillsLaw}
+
+-- a request that is refused leaves the same heap
+refused : (old : Heap) (h : ℕ) (asked : Asked) (new : Heap) → Request old h asked false new → new ≡ old
+refused old h asked new = turn asked.prefix
+  where
+    turn : (prefix : Option ℕ) → Request old h (record asked { prefix = prefix }) false new → new ≡ old
+    turn None r = r.1
+    turn (Some k) r = absurd (false≢true r.0)
+
+module _ (old : Heap) (slot : ℕ) (bytes : List ℕ) (new : Heap) where
+  -- one object gets its bytes, or nothing changes
+  pub one_outcome : (may_fail : FetchFault → Bool) (fault : Option FetchFault) → FillsOne may_fail old slot bytes fault new → (is_some fault ≡ true → new ≡ old) × ((new ≡ old) ⊎ Fills old slot bytes true new)
+  one_outcome may_fail None f = (λ t. absurd (false≢true t), inr f)
+  one_outcome may_fail (Some faults.NoRoom) f = let e : new ≡ old = refused old slot (asked_of old slot f.before bytes) new f.request in (λ t. e, inl e)
+  one_outcome may_fail (Some faults.Store) f = (λ t. f.1, inl f.1)
+  one_outcome may_fail (Some faults.Damaged) f = (λ t. f.1, inl f.1)
+
+  -- whichever reads may fail, that is as over any store
+  as_any : (may_fail : FetchFault → Bool) (fault : Option FetchFault) → FillsOne may_fail old slot bytes fault new → GivesAny old slot bytes fault new
+  as_any may_fail None f = (bytes, refl, f)
+  as_any may_fail (Some faults.NoRoom) f = (bytes, refl, f)
+  as_any may_fail (Some faults.Store) f = (bytes, refl, (refl, f.1))
+  as_any may_fail (Some faults.Damaged) f = (bytes, refl, (refl, f.1))
+
+  module _ (f : Fills old slot bytes true new) where
+    settled_so : (k : ℕ) × (o : Object) × Settles old (stays_for slot any_way) (with_ordered (discarded old k (Some slot)) slot o (with_newest slot o)) new
+    settled_so = settled old slot any_way (prefix_of old (length bytes) (Some slot) any_way) (λ o. o ≡ record f.before { bytes = Some bytes }) (with_newest slot) new f.request
+
+    -- an object that was filled is as before, with these bytes
+    pub filled_object : object_at new slot ≡ Some (record f.before { bytes = Some bytes })
+    filled_object = turn (prefix_of old (length bytes) (Some slot) any_way) f.request
+      where
+        turn : (p : Option ℕ) → Request old slot (record (asked_of old slot f.before bytes) { prefix = p }) true new → object_at new slot ≡ Some (record f.before { bytes = Some bytes })
+        turn None r = absurd (false≢true (sym r.0))
+        turn (Some k) r = ap (λ (h : Heap). object_at h slot) r.1.2.same ∙ inserted_here (discarded old k (Some slot)).objects slot r.1.0 slot refl ∙ ap Some r.1.1
+
+    pub filled_heap : IsHeap new
+    filled_heap = settled_so.2.sound
+
+    -- and all others are kept or discarded
+    pub filled_others : IsHeap old → (k : ℕ) × KeepsOthers old (Some slot) k new
+    filled_others is = (settled_so.0, (others_law old new is settled_so.0).0 slot any_way settled_so.1 (with_newest slot settled_so.1) settled_so.2)
+
+    pub filled_other : IsHeap old → (q : ℕ) → q ≢ slot → IsKeptOrDiscarded old new q
+    filled_other is q d = kept_or_discarded old new (Some slot) (filled_others is).0 q (filled_others is).1 (λ e. d (same e))
+      where
+        same : Some slot ≡ Some q → q ≡ slot
+        same e = let i : slot ≡ q = cc in sym i
+
+-- What holds of one heap and the next where an object was filled, and of each heap and itself, holds of the first heap and the last.
+module _ (P : Heap → Heap → Type 0) (same : (h : Heap) → P h h) (then : (a b c : Heap) → P a b → P b c → P a c) where
+  pub one_does : (may_fail : FetchFault → Bool) (old : Heap) (slot : ℕ) (bytes : List ℕ) (fault : Option FetchFault) (new : Heap) → IsHeap old → (Fills old slot bytes true new → P old new)
+      → FillsOne may_fail old slot bytes fault new → P old new × IsHeap new
+  one_does may_fail old slot bytes fault new is does f = elim ((one_outcome old slot bytes new may_fail fault f).1) [
+    | inl e ↦ (subst (P old) (sym e) (same old), subst IsHeap (sym e) is)
+    | inr filled ↦ (does filled, filled_heap old slot bytes new filled)
+  ]
+
+  pub all_do : (gives : Giving) (old new : Heap) (xs : List Filling) (failure : Option Failure) → IsHeap old
+      → ((x : Filling) → Member x xs → (a b : Heap) (fault : Option FetchFault) → IsHeap a → gives a x.slot x.bytes fault b → P a b × IsHeap b) → InTurn gives old xs failure new → P old new × IsHeap new
+  all_do gives old new [] failure is does f = (subst (P old) (sym f.1) (same old), subst IsHeap (sym f.1) is)
+  all_do gives old new (x ∷ xs) failure is does (None, next, g, rest) =
+      let first : P old next × IsHeap next = does x (inl refl) old next None is g in
+      let more : P next new × IsHeap new = all_do gives next new xs failure first.1 (λ y m. does y (inr m)) rest in (then old next new first.0 more.0, more.1)
+  all_do gives old new (x ∷ xs) failure is does (Some fault, next, g, rest) =
+      let first : P old next × IsHeap next = does x (inl refl) old next (Some fault) is g in (subst (P old) (sym rest.1) first.0, subst IsHeap (sym rest.1) first.1)
+
+  pub any_do : (old new : Heap) (xs : List Filling) (failure : Option Failure) → IsHeap old
+      → ((x : Filling) → Member x xs → (a b : Heap) (bytes : List ℕ) → IsHeap a → length bytes ≡ length x.bytes → Fills a x.slot bytes true b → P a b) → InTurn GivesAny old xs failure new → P old new × IsHeap new
+  any_do old new xs failure is does f = all_do GivesAny old new xs failure is (λ x m a b fault h g. one_does is_of_read a x.slot g.0 fault b h (λ filled. does x m a b g.0 h g.1 filled) g.2) f
+
+-- One way to give bytes as another.
+pub in_turn_as : (f g : Giving) → ((old : Heap) (slot : ℕ) (bytes : List ℕ) (fault : Option FetchFault) (new : Heap) → IsHeap old → f old slot bytes fault new → g old slot bytes fault new × IsHeap new)
+    → (old new : Heap) (xs : List Filling) (failure : Option Failure) → IsHeap old → InTurn f old xs failure new → InTurn g old xs failure new
+in_turn_as f g turns old new [] failure is h = h
+in_turn_as f g turns old new (x ∷ xs) failure is (None, next, one, rest) =
+    let r : g old x.slot x.bytes None next × IsHeap next = turns old x.slot x.bytes None next is one in (None, next, r.0, in_turn_as f g turns next new xs failure r.1 rest)
+in_turn_as f g turns old new (x ∷ xs) failure is (Some fault, next, one, rest) = (Some fault, next, (turns old x.slot x.bytes (Some fault) next is one).0, rest)
+
+-- the heap that is left
+pub one_heap : (may_fail : FetchFault → Bool) (old : Heap) (slot : ℕ) (bytes : List ℕ) (fault : Option FetchFault) (new : Heap) → IsHeap old → FillsOne may_fail old slot bytes fault new → IsHeap new
+one_heap may_fail old slot bytes fault new is f = (one_does (λ a b. Unit {0}) (λ h. tt) (λ a b c x y. tt) may_fail old slot bytes fault new is (λ filled. tt) f).1
+
+pub to_any : (may_fail : FetchFault → Bool) (old : Heap) (slot : ℕ) (bytes : List ℕ) (fault : Option FetchFault) (new : Heap) → IsHeap old → FillsOne may_fail old slot bytes fault new → GivesAny old slot bytes fault new × IsHeap new
+to_any may_fail old slot bytes fault new is f = (as_any old slot bytes new may_fail fault f, one_heap may_fail old slot bytes fault new is f)
+
+pub all_as_any : (may_fail : FetchFault → Bool) (old new : Heap) (xs : List Filling) (failure : Option Failure) → IsHeap old → InTurn (FillsOne may_fail) old xs failure new → InTurn GivesAny old xs failure new
+all_as_any may_fail = in_turn_as (FillsOne may_fail) GivesAny (to_any may_fail)
+
+-- Objects that get none are kept, or discarded.
+
+abbrev pub IsLost : Heap → ℕ → Object → Type 0
+IsLost new q o = (o.kind ≡ Discardable) × (o.locks ≡ 0) × (is_some o.bytes ≡ true) × (object_at new q ≡ Some (record o { bytes = None }))
+
+pub kept_then : (old next new : Heap) (q : ℕ) → IsKeptOrDiscarded old next q → IsKeptOrDiscarded next new q → IsKeptOrDiscarded old new q
+kept_then old next new q (inl e) (inl f) = inl (f ∙ e)
+kept_then old next new q (inl e) (inr h) = inr (subst (λ p. IsSomeAnd p (IsLost new q)) e h)
+kept_then old next new q (inr h) (inl f) = inr (turn (object_at old q) h)
+  where
+    turn : (p : Option Object) → IsSomeAnd p (IsLost next q) → IsSomeAnd p (IsLost new q)
+    turn None h = h
+    turn (Some o) h = (h.0, h.1, h.2, f ∙ h.3)
+kept_then old next new q (inr h) (inr g) = absurd (turn (object_at old q) h)
+  where
+    turn : (p : Option Object) → IsSomeAnd p (IsLost next q) → ⊥
+    turn None h = h
+    turn (Some o) h = false≢true (subst (λ p. IsSomeAnd p (IsLost new q)) h.3 g).2
+
+pub any_kept : (old new : Heap) (xs : List Filling) (failure : Option Failure) → IsHeap old → InTurn GivesAny old xs failure new → IsHeap new × ((q : ℕ) → Each (λ x. q ≢ x.slot) xs → IsKeptOrDiscarded old new q)
+any_kept old new xs failure is f = (
+  (any_do (λ a b. Unit {0}) (λ h. tt) (λ a b c x y. tt) old new xs failure is (λ x m a b bytes h long g. tt) f).1,
+  λ q out. (any_do (λ a b. IsKeptOrDiscarded a b q) (λ h. inl refl) (λ a b c. kept_then a b c q) old new xs failure is (λ x m a b bytes h long g. filled_other a x.slot bytes b g h q (Each-at (λ (x : Filling). q ≢ x.slot) xs out x m)) f).0,
+)
+
+pub fills_law : FillsLaw
+fills_law may_fail old new xs failure is f = any_kept old new xs failure is (all_as_any may_fail old new xs failure is f)
+
+-- Each object is still there.
+
+pub lost : (old new : Heap) (q : ℕ) → IsKeptOrDiscarded old new q → is_some (object_at new q) ≡ is_some (object_at old q)
+lost old new q (inl e) = ap is_some e
+lost old new q (inr h) = turn (object_at old q) h
+  where
+    turn : (p : Option Object) → IsSomeAnd p (IsLost new q) → is_some (object_at new q) ≡ is_some p
+    turn None h = absurd h
+    turn (Some o) h = ap is_some h.3
+
+abbrev AreThere : Heap → Heap → Type 0
+AreThere old new = (q : ℕ) → is_some (object_at new q) ≡ is_some (object_at old q)
+
+filled_there : (old : Heap) (slot : ℕ) (bytes : List ℕ) (new : Heap) → IsHeap old → Fills old slot bytes true new → AreThere old new
+filled_there old slot bytes new is f q = elim (cases_eq q slot) [
+  | inl e ↦ ap is_some (ap (object_at new) e ∙ filled_object old slot bytes new f) ∙ sym (ap is_some (ap (object_at old) e ∙ f.there))
+  | inr d ↦ lost old new q (filled_other old slot bytes new f is q d)
+]
+
+pub one_there : (may_fail : FetchFault → Bool) (old : Heap) (slot : ℕ) (bytes : List ℕ) (fault : Option FetchFault) (new : Heap) → IsHeap old → FillsOne may_fail old slot bytes fault new → AreThere old new
+one_there may_fail old slot bytes fault new is f = (one_does AreThere (λ h q. refl) (λ a b c x y q. y q ∙ x q) may_fail old slot bytes fault new is (filled_there old slot bytes new is) f).0
+
+pub any_there : (old new : Heap) (xs : List Filling) (failure : Option Failure) → IsHeap old → InTurn GivesAny old xs failure new → AreThere old new
+any_there old new xs failure is f = (any_do AreThere (λ h q. refl) (λ a b c x y q. y q ∙ x q) old new xs failure is (λ x m a b bytes h long g. filled_there a x.slot bytes b h g) f).0
+
+-- The range and the grain stay.
+
+pub record SameRange (old new : Heap) : Type 0 where
+  pub lo : new.lo ≡ old.lo
+  pub hi : new.hi ≡ old.hi
+  pub grain : new.grain ≡ old.grain
+
+pub same_range : (h : Heap) → SameRange h h
+same_range h = record { lo = refl; hi = refl; grain = refl }
+
+pub ranges : (old mid new : Heap) → SameRange old mid → SameRange mid new → SameRange old new
+ranges old mid new a b = record { lo = b.lo ∙ a.lo; hi = b.hi ∙ a.hi; grain = b.grain ∙ a.grain }
+
+absents_range : (ids : List ℕ) (heap : Heap) → SameRange heap (fold absent heap ids)
+absents_range [] heap = same_range heap
+absents_range (id ∷ ids) heap = ranges heap (absent heap id) (fold absent (absent heap id) ids) (record { lo = refl; hi = refl; grain = refl }) (absents_range ids (absent heap id))
+
+filled_range : (old : Heap) (slot : ℕ) (bytes : List ℕ) (new : Heap) → Fills old slot bytes true new → SameRange old new
+filled_range old slot bytes new f =
+    let s : (k : ℕ) × (o : Object) × Settles old (stays_for slot any_way) (with_ordered (discarded old k (Some slot)) slot o (with_newest slot o)) new = settled_so old slot bytes new f in
+    let d : SameRange old (discarded old s.0 (Some slot)) = absents_range (take s.0 (eligible (blocks old) old.order (Some slot))) old in
+    record { lo = ap (λ (h : Heap). h.lo) s.2.same ∙ d.lo; hi = ap (λ (h : Heap). h.hi) s.2.same ∙ d.hi; grain = ap (λ (h : Heap). h.grain) s.2.same ∙ d.grain }
+
+pub one_range : (may_fail : FetchFault → Bool) (old : Heap) (slot : ℕ) (bytes : List ℕ) (fault : Option FetchFault) (new : Heap) → IsHeap old → FillsOne may_fail old slot bytes fault new → SameRange old new
+one_range may_fail old slot bytes fault new is f = (one_does SameRange same_range ranges may_fail old slot bytes fault new is (filled_range old slot bytes new) f).0
+
+pub any_range : (old new : Heap) (xs : List Filling) (failure : Option Failure) → IsHeap old → InTurn GivesAny old xs failure new → SameRange old new
+any_range old new xs failure is f = (any_do SameRange same_range ranges old new xs failure is (λ x m a b bytes h long g. filled_range a x.slot bytes b g) f).0

@@ -1,0 +1,131 @@
+-- An object that is there keeps its owner, or is gone with it, whatever the store answers.
+use Rattle.std.proofs.Common.{◌≡◌, ◌≢◌, ℕ, inl, inr, ◌-◌, ◌==◌, Bool, true, false, cond, not, List, [], ◌∷◌, length, Option, Some, None, is_some, refl, sym, ap, ◌∙◌, subst}
+use Rattle.std.specs.FinMap as finmap
+use Rattle.std.proofs.lemmas.Bool.{false≢true}
+use Rattle.w16_model.specs.declared.FarFault.{FarFault}
+use Rattle.w16_model.specs.declared.FarFault.TheVariants as far
+use Rattle.w16_model.specs.Bytes.{part}
+use Rattle.w16_model.specs.Discards.{is_member}
+use Rattle.w16_model.specs.Far as far_access
+use Rattle.w16_model.specs.Far.{FarAnswer, far_fault}
+use Rattle.w16_model.specs.Handles.{IsFreeSlot, Handles}
+use Rattle.w16_model.specs.Heap.{object_at}
+use Rattle.w16_model.specs.OneObject.{after_touch}
+use Rattle.w16_model.specs.Owned.{owned_in, owned_at, refuses_write}
+use Rattle.w16_model.proofs.Gaps.{Member}
+use Rattle.w16_model.proofs.KeptHeaps.{inserted_other}
+use Rattle.w16_loading.specs.AnyStore.{AnyFetches, AnyLoads, GivesAny}
+use Rattle.w16_loading.specs.Closure.{Closure}
+use Rattle.w16_loading.specs.Fetch.{far_read, far_write}
+use Rattle.w16_loading.specs.File.{Segment}
+use Rattle.w16_loading.specs.Fill.{Failure}
+use Rattle.w16_loading.specs.Free.{Frees, Go, used_less, without_module}
+use Rattle.w16_loading.specs.Law.{IsLoadingWorld, KeepsOwner, OwnersLaw}
+use Rattle.w16_loading.specs.Load.{Answer, Fulfils, left, undone}
+use Rattle.w16_loading.specs.Modules.{LoadingWorld, Module, module_at, with_heap}
+use Rattle.w16_loading.specs.Modules.Named.{Loaded}
+use Rattle.w16_loading.specs.Naming.{given, named, segments_of}
+use Rattle.w16_loading.specs.Release.{without_objects}
+use Rattle.w16_loading.specs.Resource.{attributes_for, locked}
+use Rattle.w16_loading.proofs.Undone.{same_owned}
+use Rattle.w16_loading.proofs.Undone.{chosen}
+use Rattle.w16_loading.proofs.Named.{free_slot}
+use Rattle.w16_loading.proofs.CallsKept.{handles_owners, resizes_owners}
+use Rattle.w16_loading.proofs.OwnedKept as kept
+use Rattle.w16_loading.proofs.Stepping.{Parts, any_loaded, family, nothing_asked}
+use Rattle.w16_loading.proofs.Undone.{retained}
+
+module _ (old : LoadingWorld) (is : IsLoadingWorld old) (q : ℕ) (there : is_some (object_at old.handles.heap q) ≡ true) where
+  abbrev Kept : LoadingWorld → Type 0
+  Kept world = KeepsOwner old.handles world.handles q
+
+  -- a world in which it has the owner that it has in another
+  as_in : (w v : LoadingWorld) → owned_at v.handles q ≡ owned_at w.handles q → Kept w → Kept v
+  as_in w v e (inl same) = inl (e ∙ same)
+  as_in w v e (inr none) = inr (e ∙ none)
+
+  not_free : (slot : ℕ) → IsFreeSlot old.handles slot → q ≢ slot
+  not_free slot free e = false≢true (sym (ap is_some (ap (object_at old.handles.heap) e ∙ free.1)) ∙ there)
+
+  read : (selector offset n : ℕ) (w : LoadingWorld) → Kept w → Kept (far_read selector offset n w).1
+  read selector offset n w = turn (far_fault w.handles selector offset n)
+    where
+      turn : (p : Option FarFault) → Kept w → Kept (record w {
+        handles = (elim p as (λ _. FarAnswer × Handles) [
+          | Some fault ↦ (FarAnswer.Fault fault, w.handles)
+          | None ↦ (FarAnswer.Bytes (part (far_access.far_bytes w.handles selector) offset n), record w.handles { heap = after_touch w.handles.heap (far_access.far_slot w.handles selector) })
+        ]).1;
+      })
+      turn None k = k
+      turn (Some fault) k = k
+
+  written : (selector offset : ℕ) (slice : List ℕ) (w : LoadingWorld) → Unit {0} → Kept w → Kept (far_write selector offset slice w).1
+  written selector offset slice w ours = turn (refuses_write w.handles selector)
+    where
+      plain : (p : Option FarFault) → Kept w → Kept (record w {
+        handles = (elim p as (λ _. FarAnswer × Handles) [
+          | Some fault ↦ (FarAnswer.Fault fault, w.handles)
+          | None ↦ (FarAnswer.Done, record w.handles { heap = after_touch (far_access.after_write w.handles.heap (far_access.far_slot w.handles selector) offset slice) (far_access.far_slot w.handles selector) })
+        ]).1;
+      })
+      plain None k = k
+      plain (Some fault) k = k
+
+      turn : (b : Bool) → Kept w → Kept (record w { handles = (cond {A = FarAnswer × Handles} b (FarAnswer.Fault far.ReadOnly, w.handles) (far_access.data_write w.handles selector offset slice)).1 })
+      turn true k = k
+      turn false k = plain (far_fault w.handles selector offset (length slice)) k
+
+  -- objects that go
+  retains : (gone : ℕ → Bool) (w : LoadingWorld) → Kept w → Kept (without_objects gone w)
+  retains gone w k = turn (gone q) (retained w.handles.attributes gone q) k
+    where
+      turn : (b : Bool) → finmap.get (without_objects gone w).handles.attributes q ≡ cond (not b) (finmap.get w.handles.attributes q) None → Kept w → Kept (without_objects gone w)
+      turn true e k = inr (ap owned_in e)
+      turn false e k = as_in w (without_objects gone w) (ap owned_in e) k
+
+  go : (w : LoadingWorld) (handles : List ℕ) (last : LoadingWorld) → Go w handles last → Kept w → Kept last
+  go w [] last g k = subst Kept (sym g.1) k
+  go w (handle ∷ handles) last g k = go (without_module w handle) handles last g.1 (turn (module_at w.modules handle))
+    where
+      turn : (p : Option Module) → Kept (elim p as (λ _. LoadingWorld) [ None ↦ w | Some m ↦ let rest = without_objects (λ q. is_member q m.slots) w in record rest { modules = finmap.remove rest.modules handle } ])
+      turn None = k
+      turn (Some m) = retains (λ q. is_member q m.slots) w k
+
+  freed : (handle answer : ℕ) (new : LoadingWorld) → Frees old handle answer new → Kept new
+  freed handle answer new f = subst Kept (sym f.after) (retains _ f.left (go (used_less old handle) f.ended.gone f.left f.ended.went (turn (module_at old.modules handle))))
+    where
+      turn : (p : Option Module) → Kept (elim p as (λ _. LoadingWorld) [ None ↦ old | Some m ↦ record old { modules = finmap.insert old.modules handle (Loaded (record m { uses = m.uses - 1 })) } ])
+      turn None = inl refl
+      turn (Some m) = inl refl
+
+  -- objects that come get free slots
+  fulfilled : (closure : Closure) (answer : Answer) (new : LoadingWorld) → Fulfils GivesAny old closure answer new → Kept new
+  fulfilled closure answer new f = subst Kept (sym f.after) (turn f.failure)
+    where
+      apart : (x : ℕ × Segment) → Member x (segments_of (given closure f.choice)) → q ≢ x.0
+      apart x k = not_free x.0 (free_slot old closure f.choice f.is_choice x.0 (chosen 0 closure.found f.choice.handles f.choice.slots x k))
+
+      turn : (failure : Option Failure) → Kept (left failure (with_heap (named old closure f.choice) f.heap) (undone old f.choice f.heap))
+      turn None = inl (same_owned old (segments_of (given closure f.choice)) q apart)
+      turn (Some failure) = inl refl
+
+  parts : Parts AnyFetches AnyLoads (λ slice. Unit {0}) old Kept
+  parts = record {
+    start = inl refl;
+    handles = λ command reply next step. inl (handles_owners old is command reply next step q);
+    resizes = λ command reply next step. inl (resizes_owners old is command reply next step q);
+    reads = read;
+    writes = written;
+    fetched = λ slot fault next f. subst Kept (sym f.rest) (inl refl);
+    built = λ name handle none free. inl refl;
+    loaded = λ b file answer new f. any_loaded (λ answer. Kept) old (λ answer. inl refl) b new file answer (λ handle m here few. inl refl) (λ closure any h. fulfilled closure answer new h) f;
+    freed = freed;
+    counted = λ slot load count here some few. inl refl;
+    made = λ slot handle place r fault next free at none f. subst Kept (sym f.rest) (inl (ap owned_in (inserted_other old.handles.attributes slot (attributes_for r) q (not_free slot free))));
+    locks = λ handle w k. as_in w (locked w handle).1 (kept.locked w.handles handle q) k;
+    last = λ slot load here. retains (λ q. q == slot) old (inl refl);
+  }
+
+pub owners_law : OwnersLaw
+owners_law old new command reply is step slot there =
+    family AnyFetches AnyLoads (λ slice. Unit {0}) old (Kept old is slot there) (parts old is slot there) (record new { failures = old.failures }) reply command (nothing_asked command) step.step

@@ -1,0 +1,71 @@
+-- Calls on handles leave what a module owns: no object comes to be one's, or ceases to.
+use Rattle.std.proofs.Common.{◌≡◌, ℕ, inl, inr, false, Option, Some, None, is_some, option_map, unwrap_or, refl, sym, ap, ◌∙◌}
+use Rattle.std.specs.FinMap as finmap
+use Rattle.std.proofs.lemmas.Bool.{false≢true, cases_eq}
+use Rattle.w16_model.specs.declared.Attributes.{Attributes}
+use Rattle.w16_model.specs.declared.Owned.{Owned}
+use Rattle.w16_model.specs.Heap.{object_at}
+use Rattle.w16_model.specs.Handles.{Handles, AreHandles, slot_of_handle}
+use Rattle.w16_model.specs.Owned.{owned_in, owned_at, is_owned, owns}
+use Rattle.w16_model.specs.Calls.{Answer, global_lock}
+use Rattle.w16_model.specs.Calls.HandleCommand.{GlobalLock}
+use Rattle.w16_model.specs.Outcomes.{Call, Outcome, attributes_asked}
+use Rattle.w16_model.specs.Outcomes.Call.{Calls}
+use Rattle.w16_model.specs.Outcomes.Outcome.{IsSame, IsUnmoved, IsLocked, IsUnlocked, IsFreed, IsNewest, IsOldest, IsEntered, IsAllocated, IsCompacted, IsModified, IsDiscarded, IsResized}
+use Rattle.w16_model.proofs.CallOutcomes.{call_outcome}
+use Rattle.w16_model.specs.CallLaws.{KeepsContents}
+use Rattle.w16_model.proofs.CallLaws.{contents}
+use Rattle.w16_model.proofs.KeptHeaps.{inserted_here, inserted_other, taken_here, taken_other}
+
+-- each slot's object is a module's, or none's, as it was
+abbrev pub SameOwned : Handles → Handles → Type 0
+SameOwned old new = (q : ℕ) → owned_at new q ≡ owned_at old q
+
+none_owned : (p : Option Attributes) → is_some p ≡ false → owned_in p ≡ None
+none_owned None e = refl
+none_owned (Some a) e = absurd (false≢true (sym e))
+
+no_owner : (p : Option Owned) → is_some p ≡ false → p ≡ None
+no_owner None e = refl
+no_owner (Some o) e = absurd (false≢true (sym e))
+
+module _ (old : Handles) (is : AreHandles old) (call : Call) (answer : Answer) (new : Handles) where
+  -- the same attributes
+  same : new.attributes ≡ old.attributes → SameOwned old new
+  same e q = ap (λ a. owned_in (finmap.get a q)) e
+
+  -- a free slot gets an object of no module's
+  given : (slot flags : ℕ) → object_at old.heap slot ≡ None → new.attributes ≡ finmap.insert old.attributes slot (attributes_asked flags) → SameOwned old new
+  given slot flags none e q = ap (λ a. owned_in (finmap.get a q)) e ∙ elim (cases_eq q slot) [
+    | inl e ↦ ap owned_in (inserted_here old.attributes slot (attributes_asked flags) q e) ∙ sym (none_owned (finmap.get old.attributes q) (is.attributed q ∙ ap is_some (ap (object_at old.heap) e ∙ none)))
+    | inr d ↦ ap owned_in (inserted_other old.attributes slot (attributes_asked flags) q d)
+  ]
+
+  -- an object of no module's goes
+  freed : (handle slot : ℕ) → slot_of_handle old handle ≡ Some slot → owns old handle ≡ false → new.attributes ≡ finmap.remove old.attributes slot → SameOwned old new
+  freed handle slot found own e q = ap (λ a. owned_in (finmap.get a q)) e ∙ elim (cases_eq q slot) [
+    | inl e ↦ ap owned_in (taken_here old.attributes slot q e) ∙ sym (no_owner (owned_at old q) (ap (is_owned old) e ∙ sym (ap (λ p. unwrap_or (option_map (is_owned old) p) false) found) ∙ own))
+    | inr d ↦ ap owned_in (taken_other old.attributes slot q d)
+  ]
+
+  pub owned_by : Outcome old call answer new → SameOwned old new
+  owned_by (IsSame s e) = same (ap (λ (h : Handles). h.attributes) e)
+  owned_by (IsUnmoved s e) = same (ap (λ (h : Handles). h.attributes) e)
+  owned_by (IsLocked l) = same (ap (λ (h : Handles). h.attributes) l.rest)
+  owned_by (IsUnlocked u) = same (ap (λ (h : Handles). h.attributes) u.rest)
+  owned_by (IsFreed f) = freed f.handle f.slot f.named.found f.own (ap (λ (h : Handles). h.attributes) f.rest)
+  owned_by (IsNewest n) = same (ap (λ (h : Handles). h.attributes) n.rest)
+  owned_by (IsOldest n) = same (ap (λ (h : Handles). h.attributes) n.rest)
+  owned_by (IsEntered e) = given e.slot e.flags e.free.1 (ap (λ (h : Handles). h.attributes) e.rest)
+  owned_by (IsAllocated a) = given a.slot a.flags a.free.1 (ap (λ (h : Handles). h.attributes) a.rest)
+  owned_by (IsCompacted c) = same (ap (λ (h : Handles). h.attributes) c.rest)
+  owned_by (IsModified m) = same (ap (λ (h : Handles). h.attributes) m.rest)
+  owned_by (IsDiscarded d) = same (ap (λ (h : Handles). h.attributes) d.rest)
+  owned_by (IsResized r) = same (ap (λ (h : Handles). h.attributes) r.rest)
+
+-- a lock keeps them in any handles
+pub locked : (old : Handles) (handle : ℕ) → SameOwned old (global_lock old handle).1
+locked old handle q =
+    let new : Handles = (global_lock old handle).1 in
+    let k : KeepsContents old new = contents old new (Calls (GlobalLock handle)) (global_lock old handle).0 (call_outcome old new (GlobalLock handle) (global_lock old handle).0 (refl, refl)) refl in
+    ap (λ a. owned_in (finmap.get a q)) k.attributes

@@ -1,0 +1,279 @@
+-- What the parts of a step do to a world, the step does: fetches, loads, and changes of what is kept beside them.
+use Rattle.std.proofs.Common.{◌≡◌, ℕ, ◌+◌, ◌-◌, ◌<◌, ◌≤◌, inl, inr, ◌⊎◌, Bool, true, false, cond, ◌&&◌, ◌==◌, not, nat_lt, List, [], ◌∷◌, Option, Some, None, MatchOption, MatchBool, MatchResult, option_map, Result, Ok, Err, IfOk, refl, sym, ap, ◌∙◌, subst, arith, ltb-true}
+use Rattle.std.specs.List.{find}
+use Rattle.std.specs.FinMap as finmap
+use Rattle.w16_model.specs.Heap.{bytes_at}
+use Rattle.w16_model.specs.Handles.{Handles, IsFreeSlot, handle_of, slot_of_handle, selector_in, offset_in}
+use Rattle.w16_model.specs.Bytes.{repeated}
+use Rattle.w16_model.specs.Calls.{HandleCommand, locks_at}
+use Rattle.w16_model.specs.Far.{FarAnswer, FarCommand, far_slot}
+use Rattle.w16_model.proofs.Gaps.{Member}
+use Rattle.w16_loading.specs.declared.TheConstants.{MOST_USES}
+use Rattle.w16_loading.specs.declared.FetchFault.{FetchFault}
+use Rattle.w16_loading.specs.declared.FetchFault.TheVariants as faults
+use Rattle.w16_loading.specs.File.{Format, ModuleFile, Resource}
+use Rattle.w16_loading.specs.Modules.{LoadingWorld, Load, Module, Named, IsFreeModule, handle_named}
+use Rattle.w16_loading.specs.Modules.Named.{Loaded, BuiltIn}
+use Rattle.w16_loading.specs.Fill.{Giving}
+use Rattle.w16_loading.specs.Release.{without_objects}
+use Rattle.w16_loading.specs.Closure.{Closure, Reading, reading, around, begun, after}
+use Rattle.w16_loading.specs.Closure.Reading.{Refused, Meant, Read}
+use Rattle.w16_loading.specs.Closure.Referent.{There, New}
+use Rattle.w16_loading.specs.Load.{Answer, Refuses, LoadsBy, LoadsFile, LoadsNew, Fulfils, used_again, after_use}
+use Rattle.w16_loading.specs.Load.Answer.{Says}
+use Rattle.w16_loading.specs.Replies.{Reply, HandleReplies, ResizeReplies}
+use Rattle.w16_loading.specs.Replies.Reply.{Word, Dword, Failed}
+use Rattle.w16_loading.specs.Resizes.{ResizeCommand}
+use Rattle.w16_loading.specs.Fetch.{Fetching, Accesses, needs_fetch, far_read, far_write, gives}
+use Rattle.w16_loading.specs.Free.{Frees}
+use Rattle.w16_loading.specs.Resource.{LoadsResource, LoadsNewResource, LocksResource, AnswersNone, is_too_long, resource_at, load_of, loaded_again, with_resource, resource_outcome, locked, lock_outcome, slot_of_resource, free_resource}
+use Rattle.w16_loading.specs.Families.{LoadingCommand, ModuleCommand, ResourceCommand, Loading, FamilyStep, ModuleStep, ResourceStep, FarStep, AddsBuiltIn, GivesBuiltIn, built_in}
+use Rattle.w16_loading.specs.AnyStore.{GivesAny, AnyLoads, IsAnyClosure}
+use Rattle.w16_loading.proofs.Importers.{entry_there}
+
+-- what is found among entries is there
+pub found_load : (old : LoadingWorld) (handle place : ℕ) (x : ℕ × Load) → load_of old handle place ≡ Some x → finmap.get old.loads x.0 ≡ Some x.1
+found_load old handle place x e = entry_there old.loads x.0 x.1 (found (λ (y : ℕ × Load). (y.1.handle == handle) && (y.1.place == place)) (finmap.entries old.loads) e)
+  where
+    found : (p : ℕ × Load → Bool) (xs : List (ℕ × Load)) → find p xs ≡ Some x → Member x xs
+    found p [] e = cc
+    found p (y ∷ xs) e = turn (p y) e (λ f. found p xs f)
+      where
+        turn : (b : Bool) → cond b (Some y) (find p xs) ≡ Some x → (find p xs ≡ Some x → Member x xs) → Member x (y ∷ xs)
+        turn true e rest = let same : y ≡ x = cc in inl (sym same)
+        turn false e rest = inr (rest e)
+
+-- the slot of a resource has its load
+pub resource_load : (old : LoadingWorld) (handle : ℕ) (x : ℕ × Load) → slot_of_resource old handle ≡ Some x → finmap.get old.loads x.0 ≡ Some x.1
+resource_load old handle x = turn (slot_of_handle old.handles handle)
+  where
+    by_load : (slot : ℕ) (p : Option Load) → finmap.get old.loads slot ≡ p → ◌≡◌ {A = Option (ℕ × Load)} (option_map (λ load. (slot, load)) p) (Some x) → finmap.get old.loads x.0 ≡ Some x.1
+    by_load slot None e f = cc
+    by_load slot (Some load) e f =
+        let same : ◌≡◌ {A = ℕ × Load} (slot, load) x = cc in
+        ap (finmap.get old.loads) (sym (ap (λ (y : ℕ × Load). y.0) same)) ∙ e ∙ ap (λ (y : ℕ × Load). Some y.1) same
+
+    turn : (p : Option ℕ) → ◌≡◌ {A = Option (ℕ × Load)} (elim p [ None ↦ None | Some slot ↦ option_map (λ load. (slot, load)) (finmap.get old.loads slot) ]) (Some x) → finmap.get old.loads x.0 ≡ Some x.1
+    turn None e = cc
+    turn (Some slot) e = by_load slot (finmap.get old.loads slot) refl e
+
+-- another count of loads, and of uses
+abbrev pub with_count : LoadingWorld → ℕ → Load → ℕ → LoadingWorld
+with_count old slot load count = record old { loads = finmap.insert old.loads slot (record load { loads = count }) }
+
+-- the last load gone, and its object
+abbrev pub without_load : LoadingWorld → ℕ → LoadingWorld
+without_load old slot = record (without_objects (λ q. q == slot) old) { loads = finmap.remove old.loads slot }
+
+abbrev freed_by : LoadingWorld → Option (ℕ × Load) → ℕ × LoadingWorld
+freed_by old p = elim p [
+  | None ↦ (1, old)
+  | Some x ↦ cond {A = ℕ × LoadingWorld} (nat_lt 1 x.1.loads) (0, with_count old x.0 x.1 (x.1.loads - 1)) (cond {A = ℕ × LoadingWorld} (nat_lt 0 (locks_at old.handles.heap x.0)) (1, old) (0, without_load old x.0))
+]
+
+module _ (P : Answer → LoadingWorld → Type 0) (old : LoadingWorld) (good : (answer : Answer) → P answer old) where
+  same_world : (answer : Answer) (new : LoadingWorld) → new ≡ old → P answer new
+  same_world answer new e = subst (P answer) (sym e) (good answer)
+
+  -- a load of a module that is there
+  again : (b : Bool) (handle : ℕ) (p : Option Named) → ((m : Module) → p ≡ Some (Loaded m) → m.uses < MOST_USES → P (Says handle) (after_use old handle m)) → (answer : Answer) (new : LoadingWorld) → (answer, new) ≡ used_again b old handle p → P answer new
+  again b handle p more answer new e = subst (λ (x : Answer × LoadingWorld). P x.0 x.1) (sym e) (by p more)
+    where
+      by : (p : Option Named) → ((m : Module) → p ≡ Some (Loaded m) → m.uses < MOST_USES → P (Says handle) (after_use old handle m)) → P (used_again b old handle p).0 (used_again b old handle p).1
+      by None more = good (Says handle)
+      by (Some (BuiltIn name)) more = good (Says handle)
+      by (Some (Loaded m)) more = turn (b && not m.tables.is_library) (nat_lt m.uses MOST_USES) refl
+        where
+          outcome : Bool → Bool → Answer × LoadingWorld
+          outcome s t = cond {A = Answer × LoadingWorld} s (Says 16, old) (cond t (Says handle, after_use old handle m) (Says 0, old))
+
+          turn : (s t : Bool) → nat_lt m.uses MOST_USES ≡ t → P (outcome s t).0 (outcome s t).1
+          turn true t f = good (Says 16)
+          turn false true f = more m refl (ltb-true m.uses MOST_USES f)
+          turn false false f = good (Says 0)
+
+  -- loads, of files that stay and of any
+  pub loaded : (gives : Giving) (format : Format) (b : Bool) (new : LoadingWorld) (file : List ℕ) (answer : Answer)
+      → ((handle : ℕ) (m : Module) → finmap.get old.modules handle ≡ Some (Loaded m) → m.uses < MOST_USES → P (Says handle) (after_use old handle m))
+      → ((closure : Closure) (read : ModuleFile) (n : ℕ) → reading format (around old) [] file ≡ Read read → after format (around old) n (begun file read) ≡ Ok closure → closure.pending ≡ [] → Fulfils gives old closure answer new → P answer new)
+      → LoadsBy gives format b old file answer new → P answer new
+  loaded gives format b new file answer more fulfil (inl f) = same_world answer new f.1
+  loaded gives format b new file answer more fulfil (inr f) = turn (reading format (around old) [] file) refl f
+    where
+      turn : (r : Reading) → reading format (around old) [] file ≡ r → LoadsFile gives format b old file r answer new → P answer new
+      turn (Refused number) e f = same_world answer new f.1
+      turn (Meant (There handle)) e f = again b handle (finmap.get old.modules handle) (more handle) answer new f
+      turn (Meant (New place)) e f = absurd f
+      turn (Read read) e f = by f.0 f.1.1 f.1.2 f.2
+        where
+          by : (outcome : Result Closure ℕ) → after format (around old) f.1.0 (begun file read) ≡ outcome → IfOk outcome (λ c. c.pending ≡ [])
+              → MatchResult outcome (λ closure. LoadsNew gives old closure answer new) (λ number. Refuses old number answer new) → P answer new
+          by (Ok closure) d done (inl h) = same_world answer new h.1.1
+          by (Ok closure) d done (inr h) = fulfil closure read f.1.0 e d done h
+          by (Err number) d done h = same_world answer new h.1
+
+  pub any_loaded : (b : Bool) (new : LoadingWorld) (file : List ℕ) (answer : Answer)
+      → ((handle : ℕ) (m : Module) → finmap.get old.modules handle ≡ Some (Loaded m) → m.uses < MOST_USES → P (Says handle) (after_use old handle m))
+      → ((closure : Closure) → IsAnyClosure (around old) file closure → Fulfils GivesAny old closure answer new → P answer new)
+      → AnyLoads b old file answer new → P answer new
+  any_loaded b new file answer more fulfil (inl f) = same_world answer new f.1
+  any_loaded b new file answer more fulfil (inr (inl f)) = same_world answer new f.2.1
+  any_loaded b new file answer more fulfil (inr (inr (inl f))) = again b f.0 (Some f.1) (λ m e. more f.0 m (f.2 ∙ e)) answer new f.3
+  any_loaded b new file answer more fulfil (inr (inr (inr (closure, any, inl f)))) = same_world answer new f.1.1
+  any_loaded b new file answer more fulfil (inr (inr (inr (closure, any, inr f)))) = fulfil closure any f
+
+-- What is to hold of the parts of a step from this world: fetches and loads by these definitions, and bytes that are written.
+pub record Parts (fetches : Fetching) (loads : Loading) (Ours : List ℕ → Type 0) (old : LoadingWorld) (P : LoadingWorld → Type 0) : Type 0 where
+  pub start : P old
+  pub handles : (command : HandleCommand) (reply : Reply) (next : Handles) → HandleReplies old.handles command reply next → P (record old { handles = next })
+  pub resizes : (command : ResizeCommand) (reply : Reply) (next : Handles) → ResizeReplies old.handles command reply next → P (record old { handles = next })
+  pub reads : (selector offset n : ℕ) (world : LoadingWorld) → P world → P (far_read selector offset n world).1
+  pub writes : (selector offset : ℕ) (slice : List ℕ) (world : LoadingWorld) → Ours slice → P world → P (far_write selector offset slice world).1
+  pub fetched : (slot : ℕ) (fault : Option FetchFault) (next : LoadingWorld) → fetches old slot fault next → P next
+  pub built : (name : List ℕ) (handle : ℕ) → handle_named old.modules name ≡ None → IsFreeModule old.modules handle → P (record old { modules = finmap.insert old.modules handle (BuiltIn name) })
+  pub loaded : (b : Bool) (file : List ℕ) (answer : Answer) (new : LoadingWorld) → loads b old file answer new → P new
+  pub freed : (handle answer : ℕ) (new : LoadingWorld) → Frees old handle answer new → P new
+  -- a load of a resource more or less, the first, and the last
+  pub counted : (slot : ℕ) (load : Load) (count : ℕ) → finmap.get old.loads slot ≡ Some load → 0 < count → (load.loads ≤ MOST_USES → count ≤ MOST_USES) → P (with_count old slot load count)
+  pub made : (slot handle place : ℕ) (r : Resource) (fault : Option FetchFault) (next : LoadingWorld) → IsFreeSlot old.handles slot → resource_at old handle place ≡ Some r → load_of old handle place ≡ None
+      → fetches (with_resource old slot handle place r) slot fault next → P next
+  pub locks : (handle : ℕ) (world : LoadingWorld) → P world → P (locked world handle).1
+  pub last : (slot : ℕ) (load : Load) → finmap.get old.loads slot ≡ Some load → P (without_load old slot)
+
+-- the bytes that a far access writes
+abbrev pub Writes : (List ℕ → Type 0) → LoadingCommand → Type 0
+Writes Ours (LoadingCommand.OfFar (FarCommand.Write pointer bytes)) = Ours bytes
+Writes Ours (LoadingCommand.OfFar (FarCommand.Fill pointer count byte)) = Ours (repeated count byte)
+Writes Ours other = Unit {0}
+
+pub nothing_asked : (command : LoadingCommand) → Writes (λ slice. Unit {0}) command
+nothing_asked (LoadingCommand.OfFar (FarCommand.Read pointer count)) = tt
+nothing_asked (LoadingCommand.OfFar (FarCommand.Write pointer bytes)) = tt
+nothing_asked (LoadingCommand.OfFar (FarCommand.Fill pointer count byte)) = tt
+nothing_asked (LoadingCommand.OfHandles command) = tt
+nothing_asked (LoadingCommand.OfResizes command) = tt
+nothing_asked (LoadingCommand.OfModules command) = tt
+nothing_asked (LoadingCommand.OfResources command) = tt
+
+module _ (fetches : Fetching) (loads : Loading) (Ours : List ℕ → Type 0) (old : LoadingWorld) (P : LoadingWorld → Type 0) (parts : Parts fetches loads Ours old P) (new : LoadingWorld) (reply : Reply) where
+  as_it_was : new ≡ old → P new
+  as_it_was e = subst P (sym e) parts.start
+
+  -- an access, and the fetch that it may ask for
+  accessed : (access : LoadingWorld → FarAnswer × LoadingWorld) → ((world : LoadingWorld) → P world → P (access world).1) → (selector : ℕ) → Accesses fetches access old selector reply new → P new
+  accessed access keeps selector step = turn (needs_fetch (access old).0 old selector) step
+    where
+      after : (next : LoadingWorld) (fault : Option FetchFault) → P next → MatchOption fault (gives (access next) reply new) (λ f. (reply ≡ Failed f) × (new ≡ next)) → P new
+      after next None good g = subst P (sym g.1) (keeps next good)
+      after next (Some f) good g = subst P (sym g.1) good
+
+      turn : (b : Bool) → MatchBool b
+          ((fault : Option FetchFault) × (next : LoadingWorld) × fetches old (far_slot old.handles selector) fault next × MatchOption fault (gives (access next) reply new) (λ f. (reply ≡ Failed f) × (new ≡ next)))
+          (gives (access old) reply new) → P new
+      turn true h = after h.1 h.0 (parts.fetched (far_slot old.handles selector) h.0 h.1 h.2) h.3
+      turn false g = subst P (sym g.1) (keeps old parts.start)
+
+  far : (command : FarCommand) → Writes Ours (LoadingCommand.OfFar command) → FarStep fetches old command reply new → P new
+  far (FarCommand.Read pointer count) ours step = accessed (far_read (selector_in pointer) (offset_in pointer) count) (parts.reads (selector_in pointer) (offset_in pointer) count) (selector_in pointer) step
+  far (FarCommand.Write pointer bytes) ours step = accessed (far_write (selector_in pointer) (offset_in pointer) bytes) (λ w. parts.writes (selector_in pointer) (offset_in pointer) bytes w ours) (selector_in pointer) step
+  far (FarCommand.Fill pointer count byte) ours step =
+      accessed (far_write (selector_in pointer) (offset_in pointer) (repeated count byte)) (λ w. parts.writes (selector_in pointer) (offset_in pointer) (repeated count byte) w ours) (selector_in pointer) step
+
+  gives_built_in : (name : List ℕ) (answer : ℕ) → GivesBuiltIn old name answer new → P new
+  gives_built_in name answer step = turn (handle_named old.modules name) refl step
+    where
+      turn : (p : Option ℕ) → handle_named old.modules name ≡ p → MatchOption p (AddsBuiltIn old name answer new) (λ handle. (answer ≡ built_in (finmap.get old.modules handle) handle) × (new ≡ old)) → P new
+      turn None e (inl f) = as_it_was f.2
+      turn None e (inr f) = subst P (sym f.1) (parts.built name answer e f.0)
+      turn (Some handle) e f = as_it_was f.1
+
+  modules : (command : ModuleCommand) → ModuleStep loads old command reply new → P new
+  modules (ModuleCommand.Builtin name) f = gives_built_in name f.0 f.2
+  modules (ModuleCommand.LoadModule file) f = parts.loaded true file f.0 new f.2
+  modules (ModuleCommand.LoadLibrary file) f = parts.loaded false file f.0 new f.2
+  modules (ModuleCommand.FreeLibrary handle) f = parts.freed handle f.0 new f.2
+  modules (ModuleCommand.FreeModule handle) f = parts.freed handle f.0 new f.2
+  modules (ModuleCommand.GetModuleHandle name) f = as_it_was f.1
+  modules (ModuleCommand.GetModuleUsage handle) f = as_it_was f.1
+  modules (ModuleCommand.GetProcAddress handle label) f = as_it_was f.1
+
+  outcome_is : (outcome : Reply × LoadingWorld) → ◌≡◌ {A = Reply × LoadingWorld} (reply, new) outcome → P outcome.1 → P new
+  outcome_is outcome e good = subst (λ (p : Reply × LoadingWorld). P p.1) (sym e) good
+
+  resource_loaded : (handle place : ℕ) → LoadsResource fetches old handle place reply new → P new
+  resource_loaded handle place step = by_resource (resource_at old handle place) refl step
+    where
+      more : (r : Resource) (x : ℕ × Load) → finmap.get old.loads x.0 ≡ Some x.1 → (b : Bool) → nat_lt x.1.loads MOST_USES ≡ b
+          → P (cond {A = Reply × LoadingWorld} b (Word (handle_of r.kind x.0), with_count old x.0 x.1 (x.1.loads + 1)) (Word 0, old)).1
+      more r x there true t = let lt : x.1.loads < MOST_USES = ltb-true x.1.loads MOST_USES t in parts.counted x.0 x.1 (x.1.loads + 1) there (omega arith) (λ le. omega (arith, lt))
+      more r x there false t = parts.start
+
+      fresh : (r : Resource) → resource_at old handle place ≡ Some r → load_of old handle place ≡ None → LoadsNewResource fetches old handle place r reply new → P new
+      fresh r at none f = outcome_is (resource_outcome f.fault (handle_of r.kind f.slot) f.next old) f.outcome (turn f.fault (parts.made f.slot handle place r f.fault f.next f.free at none f.fetched))
+        where
+          turn : (fault : Option FetchFault) → P f.next → P (resource_outcome fault (handle_of r.kind f.slot) f.next old).1
+          turn None next = next
+          turn (Some faults.Store) next = parts.start
+          turn (Some faults.NoRoom) next = parts.start
+          turn (Some faults.Damaged) next = parts.start
+
+      by_load : (r : Resource) → resource_at old handle place ≡ Some r → (p : Option (ℕ × Load)) → load_of old handle place ≡ p
+          → MatchOption p ((((slot : ℕ) → IsFreeSlot old.handles slot → ⊥) × AnswersNone old reply new) ⊎ LoadsNewResource fetches old handle place r reply new) (λ x. (reply, new) ≡ loaded_again old r x) → P new
+      by_load r at None e (inl f) = as_it_was f.1.1
+      by_load r at None e (inr f) = fresh r at e f
+      by_load r at (Some x) e f = outcome_is (loaded_again old r x) f (more r x (found_load old handle place x e) (nat_lt x.1.loads MOST_USES) refl)
+
+      by_size : (r : Resource) → resource_at old handle place ≡ Some r → (b : Bool) → MatchBool b (AnswersNone old reply new)
+          (MatchOption (load_of old handle place) ((((slot : ℕ) → IsFreeSlot old.handles slot → ⊥) × AnswersNone old reply new) ⊎ LoadsNewResource fetches old handle place r reply new) (λ x. (reply, new) ≡ loaded_again old r x)) → P new
+      by_size r at true f = as_it_was f.1
+      by_size r at false f = by_load r at (load_of old handle place) refl f
+
+      by_resource : (p : Option Resource) → resource_at old handle place ≡ p → MatchOption p (AnswersNone old reply new) (λ r. MatchBool (is_too_long r) (AnswersNone old reply new)
+          (MatchOption (load_of old handle place) ((((slot : ℕ) → IsFreeSlot old.handles slot → ⊥) × AnswersNone old reply new) ⊎ LoadsNewResource fetches old handle place r reply new) (λ x. (reply, new) ≡ loaded_again old r x))) → P new
+      by_resource None e f = as_it_was f.1
+      by_resource (Some r) e f = by_size r e (is_too_long r) f
+
+  resource_locked : (handle : ℕ) → LocksResource fetches old handle reply new → P new
+  resource_locked handle step = by_slot (slot_of_resource old handle) step
+    where
+      after : (fault : Option FetchFault) (next : LoadingWorld) → P next → P (lock_outcome fault handle next).1
+      after None next h = parts.locks handle next h
+      after (Some faults.NoRoom) next h = h
+      after (Some faults.Store) next h = h
+      after (Some faults.Damaged) next h = h
+
+      by_bytes : (slot : ℕ) (p : Option (List ℕ)) → MatchOption p ((fault : Option FetchFault) × (next : LoadingWorld) × fetches old slot fault next × ((reply, new) ≡ lock_outcome fault handle next)) (λ _. (reply, new) ≡ locked old handle) → P new
+      by_bytes slot None f = outcome_is (lock_outcome f.0 handle f.1) f.3 (after f.0 f.1 (parts.fetched slot f.0 f.1 f.2))
+      by_bytes slot (Some bytes) f = outcome_is (locked old handle) f (parts.locks handle old parts.start)
+
+      by_slot : (p : Option (ℕ × Load)) → MatchOption p ((reply ≡ Dword 0) × (new ≡ old)) (λ x. MatchOption (bytes_at old.handles.heap x.0)
+          ((fault : Option FetchFault) × (next : LoadingWorld) × fetches old x.0 fault next × ((reply, new) ≡ lock_outcome fault handle next)) (λ _. (reply, new) ≡ locked old handle)) → P new
+      by_slot None f = as_it_was f.1
+      by_slot (Some x) f = by_bytes x.0 (bytes_at old.handles.heap x.0) f
+
+  resource_freed : (handle : ℕ) → P (free_resource old handle).1
+  resource_freed handle = turn (slot_of_resource old handle) refl
+    where
+      by_test : (x : ℕ × Load) → finmap.get old.loads x.0 ≡ Some x.1 → (b c : Bool) → nat_lt 1 x.1.loads ≡ b
+          → P (cond {A = ℕ × LoadingWorld} b (0, with_count old x.0 x.1 (x.1.loads - 1)) (cond {A = ℕ × LoadingWorld} c (1, old) (0, without_load old x.0))).1
+      by_test x there true c t = let lt : 1 < x.1.loads = ltb-true 1 x.1.loads t in parts.counted x.0 x.1 (x.1.loads - 1) there (omega (arith, lt)) (λ le. omega (arith, le))
+      by_test x there false true t = parts.start
+      by_test x there false false t = parts.last x.0 x.1 there
+
+      turn : (p : Option (ℕ × Load)) → slot_of_resource old handle ≡ p → P (freed_by old p).1
+      turn None e = parts.start
+      turn (Some x) e = by_test x (resource_load old handle x e) (nat_lt 1 x.1.loads) (nat_lt 0 (locks_at old.handles.heap x.0)) refl
+
+  resources : (command : ResourceCommand) → ResourceStep fetches old command reply new → P new
+  resources (ResourceCommand.FindResource handle name kind) f = as_it_was f.1
+  resources (ResourceCommand.LoadResource handle place) f = resource_loaded handle place f
+  resources (ResourceCommand.LockResource handle) f = resource_locked handle f
+  resources (ResourceCommand.FreeResource handle) f = subst P (sym f.1) (resource_freed handle)
+  resources (ResourceCommand.SizeofResource handle place) f = as_it_was f.1
+
+  pub family : (command : LoadingCommand) → Writes Ours command → FamilyStep fetches loads old command reply new → P new
+  family (LoadingCommand.OfHandles command) ours f = subst P (sym f.2) (parts.handles command reply f.0 f.1)
+  family (LoadingCommand.OfResizes command) ours f = subst P (sym f.2) (parts.resizes command reply f.0 f.1)
+  family (LoadingCommand.OfFar command) ours f = far command ours f
+  family (LoadingCommand.OfModules command) ours f = modules command f
+  family (LoadingCommand.OfResources command) ours f = resources command f

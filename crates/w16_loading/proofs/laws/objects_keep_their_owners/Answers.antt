@@ -1,0 +1,5 @@
+use Rattle.w16_loading.proofs.KeptOwners.{owners_law}
+use Rattle.w16_loading.proofs.laws.objects_keep_their_owners.Goals as goal
+
+pub returns : goal.returns
+returns c = owners_law

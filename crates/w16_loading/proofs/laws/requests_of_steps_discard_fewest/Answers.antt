@@ -1,0 +1,5 @@
+use Rattle.w16_loading.proofs.AnySteps.{requests_fewest_law}
+use Rattle.w16_loading.proofs.laws.requests_of_steps_discard_fewest.Goals as goal
+
+pub returns : goal.returns
+returns c = requests_fewest_law

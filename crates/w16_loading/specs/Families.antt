@@ -1,0 +1,133 @@
+-- The machine with modules, family by family: the calls on handles, far accesses, modules, resources.
+use Rattle.std.specs.Prelude.{◌≡◌, ℕ, ◌≤◌, ◌<◌, ◌⊎◌, Bool, true, false, List, Option, Some, MatchOption, unwrap_or}
+use Rattle.std.specs.FinMap as finmap
+use Rattle.w16_model.specs.Handles.{Handles, selector_in, offset_in, dword_of}
+use Rattle.w16_model.specs.Bytes.{repeated}
+use Rattle.w16_model.specs.Calls.{HandleCommand}
+use Rattle.w16_model.specs.Far.{FarCommand, IsFarCommand}
+use Rattle.w16_model.specs.Far.FarCommand.{Read, Write, Fill}
+use Rattle.w16_loading.specs.Replies as replies
+use Rattle.w16_loading.specs.Replies.{HandleReplies, ResizeReplies}
+use Rattle.w16_loading.specs.Resizes.{ResizeCommand}
+use Rattle.w16_loading.specs.declared.FetchFault.TheVariants as faults
+use Rattle.w16_loading.specs.File.{Format, Far, Label}
+use Rattle.w16_loading.specs.File.Label.{Number, Text}
+use Rattle.w16_loading.specs.Modules.{LoadingWorld, Named, IsFreeModule, handle_named, usage, address_at, address_named}
+use Rattle.w16_loading.specs.Modules.Named.{BuiltIn}
+use Rattle.w16_loading.specs.Load.{Answer, Loads}
+use Rattle.w16_loading.specs.Load.Answer.{Says, StoreFails}
+use Rattle.w16_loading.specs.Replies.{Reply}
+use Rattle.w16_loading.specs.Fetch.{Fetching, Fetches, Accesses, far_read, far_write}
+use Rattle.w16_loading.specs.Replies.Reply.{Failed}
+use Rattle.w16_loading.specs.Free.{Frees}
+use Rattle.w16_loading.specs.Resource.{LoadsResource, LocksResource, find_resource, size_of_resource, free_resource}
+
+pub data ModuleCommand : Type 0 where
+  Builtin : (name : List ℕ) → ModuleCommand
+  LoadModule : (file : List ℕ) → ModuleCommand
+  LoadLibrary : (file : List ℕ) → ModuleCommand
+  FreeLibrary : (handle : ℕ) → ModuleCommand
+  FreeModule : (handle : ℕ) → ModuleCommand
+  GetModuleHandle : (name : List ℕ) → ModuleCommand
+  GetModuleUsage : (handle : ℕ) → ModuleCommand
+  GetProcAddress : (handle : ℕ) (label : Label) → ModuleCommand
+
+pub data ResourceCommand : Type 0 where
+  FindResource : (handle : ℕ) (name kind : Label) → ResourceCommand
+  LoadResource : (handle place : ℕ) → ResourceCommand
+  LockResource : (handle : ℕ) → ResourceCommand
+  FreeResource : (handle : ℕ) → ResourceCommand
+  SizeofResource : (handle place : ℕ) → ResourceCommand
+
+pub data LoadingCommand : Type 0 where
+  OfHandles : HandleCommand → LoadingCommand
+  OfResizes : ResizeCommand → LoadingCommand
+  OfFar : FarCommand → LoadingCommand
+  OfModules : ModuleCommand → LoadingCommand
+  OfResources : ResourceCommand → LoadingCommand
+
+-- its numbers are in their range, where they have one
+abbrev pub IsLoadingCommand : LoadingCommand → Type 0
+IsLoadingCommand (OfHandles command) = Unit {0}
+IsLoadingCommand (OfResizes command) = Unit {0}
+IsLoadingCommand (OfFar command) = IsFarCommand command
+IsLoadingCommand (OfModules command) = Unit {0}
+IsLoadingCommand (OfResources command) = Unit {0}
+
+abbrev pub word : ℕ → Reply
+word n = (replies.Reply.Word n)
+
+abbrev pub dword : ℕ → Reply
+dword n = (replies.Reply.Dword n)
+
+-- a call on handles changes these alone; what a module owns refuses GlobalFree and GlobalReAlloc by the handles' own definitions
+abbrev pub HandleStep : LoadingWorld → HandleCommand → Reply → LoadingWorld → Type 0
+HandleStep old command reply new = (next : Handles) × HandleReplies old.handles command reply next × (new ≡ record old { handles = next })
+
+abbrev pub ResizesStep : LoadingWorld → ResizeCommand → Reply → LoadingWorld → Type 0
+ResizesStep old command reply new = (next : Handles) × ResizeReplies old.handles command reply next × (new ≡ record old { handles = next })
+
+abbrev pub FarStep : Fetching → LoadingWorld → FarCommand → Reply → LoadingWorld → Type 0
+FarStep fetches old (Read pointer count) reply new = Accesses fetches (far_read (selector_in pointer) (offset_in pointer) count) old (selector_in pointer) reply new
+FarStep fetches old (Write pointer bytes) reply new = Accesses fetches (far_write (selector_in pointer) (offset_in pointer) bytes) old (selector_in pointer) reply new
+FarStep fetches old (Fill pointer count byte) reply new = Accesses fetches (far_write (selector_in pointer) (offset_in pointer) (repeated count byte)) old (selector_in pointer) reply new
+
+-- Builtin: the handle of a built-in, the same for the same name; 0 where a loaded module has the name or no handle is free
+abbrev pub AddsBuiltIn : LoadingWorld → List ℕ → ℕ → LoadingWorld → Type 0
+AddsBuiltIn old name answer new =
+    (((handle : ℕ) → IsFreeModule old.modules handle → ⊥) × (answer ≡ 0) × (new ≡ old))
+    ⊎ (IsFreeModule old.modules answer × (new ≡ record old { modules = finmap.insert old.modules answer (BuiltIn name) }))
+
+abbrev pub built_in : Option Named → ℕ → ℕ
+built_in (Some (BuiltIn name)) handle = handle
+built_in other handle = 0
+
+abbrev pub GivesBuiltIn : LoadingWorld → List ℕ → ℕ → LoadingWorld → Type 0
+GivesBuiltIn old name answer new = MatchOption (handle_named old.modules name) (AddsBuiltIn old name answer new) (λ handle. (answer ≡ built_in (finmap.get old.modules handle) handle) × (new ≡ old))
+
+abbrev pub pointer_to : Far → ℕ
+pointer_to far = dword_of far.selector far.offset
+
+-- GetProcAddress
+abbrev pub proc_address : LoadingWorld → ℕ → Label → Far
+proc_address world handle (Number ordinal) = address_at (finmap.get world.modules) handle ordinal
+proc_address world handle (Text name) = address_named (finmap.get world.modules) handle name
+
+abbrev pub reply_of : Answer → Reply
+reply_of (Says n) = word n
+reply_of StoreFails = Failed faults.Store
+
+-- what a load is, over the store that it is made over: whether it is LoadModule's, and the file that is asked for
+abbrev pub Loading : Type 1
+Loading = Bool → LoadingWorld → List ℕ → Answer → LoadingWorld → Type 0
+
+abbrev pub ModuleStep : Loading → LoadingWorld → ModuleCommand → Reply → LoadingWorld → Type 0
+ModuleStep loads old (Builtin name) reply new = (handle : ℕ) × (reply ≡ word handle) × GivesBuiltIn old name handle new
+ModuleStep loads old (LoadModule file) reply new = (answer : Answer) × (reply ≡ reply_of answer) × loads true old file answer new
+ModuleStep loads old (LoadLibrary file) reply new = (answer : Answer) × (reply ≡ reply_of answer) × loads false old file answer new
+ModuleStep loads old (FreeLibrary handle) reply new = (answer : ℕ) × (reply ≡ word answer) × Frees old handle answer new
+ModuleStep loads old (FreeModule handle) reply new = (answer : ℕ) × (reply ≡ word answer) × Frees old handle answer new
+ModuleStep loads old (GetModuleHandle name) reply new = (reply ≡ word (unwrap_or (handle_named old.modules name) 0)) × (new ≡ old)
+ModuleStep loads old (GetModuleUsage handle) reply new = (reply ≡ word (usage old.modules handle)) × (new ≡ old)
+ModuleStep loads old (GetProcAddress handle label) reply new = (reply ≡ dword (pointer_to (proc_address old handle label))) × (new ≡ old)
+
+abbrev pub ResourceStep : Fetching → LoadingWorld → ResourceCommand → Reply → LoadingWorld → Type 0
+ResourceStep fetches old (FindResource handle name kind) reply new = (reply ≡ word (find_resource old handle name kind)) × (new ≡ old)
+ResourceStep fetches old (LoadResource handle place) reply new = LoadsResource fetches old handle place reply new
+ResourceStep fetches old (LockResource handle) reply new = LocksResource fetches old handle reply new
+ResourceStep fetches old (FreeResource handle) reply new = (reply ≡ word (free_resource old handle).0) × (new ≡ (free_resource old handle).1)
+ResourceStep fetches old (SizeofResource handle place) reply new = (reply ≡ dword (size_of_resource old handle place)) × (new ≡ old)
+
+abbrev pub FamilyStep : Fetching → Loading → LoadingWorld → LoadingCommand → Reply → LoadingWorld → Type 0
+FamilyStep fetches loads old (OfHandles command) reply new = HandleStep old command reply new
+FamilyStep fetches loads old (OfResizes command) reply new = ResizesStep old command reply new
+FamilyStep fetches loads old (OfFar command) reply new = FarStep fetches old command reply new
+FamilyStep fetches loads old (OfModules command) reply new = ModuleStep loads old command reply new
+FamilyStep fetches loads old (OfResources command) reply new = ResourceStep fetches old command reply new
+
+-- One step, over files that stay. What a family's definition says is of worlds with one count of failures; the count isn't lowered, and a fault
+-- of the store comes only where it rose.
+pub record LoadingStep (format : Format) (old : LoadingWorld) (command : LoadingCommand) (reply : Reply) (new : LoadingWorld) : Type 0 where
+  pub counted : old.failures ≤ new.failures
+  pub failed : reply ≡ Failed faults.Store → old.failures < new.failures
+  pub step : FamilyStep (Fetches format) (Loads format) old command reply (record new { failures = old.failures })

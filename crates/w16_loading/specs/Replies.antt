@@ -1,0 +1,45 @@
+-- What is printed of an answer, whichever family of commands gave it.
+use Rattle.std.specs.Prelude.{ℕ, List, IsSomeAnd, Option, Some, None}
+use Rattle.w16_model.specs.declared.FarFault.{FarFault}
+use Rattle.w16_model.specs.Calls as calls
+use Rattle.w16_model.specs.Calls.{HandleCommand, HandleStep}
+use Rattle.w16_model.specs.Far as far
+use Rattle.w16_model.specs.Far.{FarCommand, FarStep}
+use Rattle.w16_model.specs.Handles.{Handles}
+use Rattle.w16_loading.specs.declared.FetchFault.{FetchFault}
+use Rattle.w16_loading.specs.Resizes.{ResizeCommand, ResizeStep}
+
+pub data Reply : Type 0 where
+  Word : (value : ℕ) → Reply
+  Dword : (value : ℕ) → Reply
+  Bytes : (bytes : List ℕ) → Reply
+  Done : Reply
+  Fault : (fault : FarFault) → Reply
+  -- a module's object didn't get its bytes
+  Failed : (fault : FetchFault) → Reply
+  -- so many objects with bytes and holes, which a walk then tells one by one
+  Walked : (count : ℕ) → Reply
+
+-- the answer of a call on handles that a reply prints, if it prints one
+abbrev pub answer_in : Reply → Option calls.Answer
+answer_in (Word n) = Some (calls.Answer.Word n)
+answer_in (Dword n) = Some (calls.Answer.Dword n)
+answer_in (Walked count) = Some (calls.Answer.Walked count)
+answer_in other = None
+
+-- and the answer of a far access
+abbrev pub far_answer_in : Reply → Option far.FarAnswer
+far_answer_in (Bytes bytes) = Some (far.FarAnswer.Bytes bytes)
+far_answer_in Done = Some far.FarAnswer.Done
+far_answer_in (Fault fault) = Some (far.FarAnswer.Fault fault)
+far_answer_in other = None
+
+-- a step of a family, its answer being the one that a reply prints
+abbrev pub HandleReplies : Handles → HandleCommand → Reply → Handles → Type 0
+HandleReplies old command reply new = IsSomeAnd (answer_in reply) (λ answer. HandleStep old command answer new)
+
+abbrev pub ResizeReplies : Handles → ResizeCommand → Reply → Handles → Type 0
+ResizeReplies old command reply new = IsSomeAnd (answer_in reply) (λ answer. ResizeStep old command answer new)
+
+abbrev pub FarReplies : Handles → FarCommand → Reply → Handles → Type 0
+FarReplies old command reply new = IsSomeAnd (far_answer_in reply) (λ answer. FarStep old command answer new)

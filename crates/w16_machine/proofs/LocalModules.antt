@@ -1,0 +1,96 @@
+-- A local call leaves modules alone, and the bytes of code.
+use Rattle.std.proofs.Common.{◌≡◌, ℕ, inl, inr, true, false, List, length, Option, Some, None, IfSome, IsSomeAnd, refl, sym, ap, ◌∙◌, subst}
+use Rattle.std.specs.FinMap as finmap
+use Rattle.std.proofs.lemmas.Bool.{false≢true}
+use Rattle.w16_model.specs.declared.Kind.{Kind}
+use Rattle.w16_model.specs.Heap.{Object, object_at}
+use Rattle.w16_model.specs.Handles.{Handles}
+use Rattle.w16_model.specs.Owned.{owned_at, is_code as owned_code}
+use Rattle.w16_model.specs.Table.{Table, IsSameOutside}
+use Rattle.w16_loading.specs.File.{Format}
+use Rattle.w16_loading.specs.Modules.{LoadingWorld, module_at}
+use Rattle.w16_loading.specs.Law.{IsLoadingWorld, IsOfFiles}
+use Rattle.w16_loading.specs.Replies.{Reply}
+use Rattle.w16_loading.proofs.KeptBytes.{KeepsBytes, same_object}
+use Rattle.w16_loading.proofs.KeptCode.{KeepsCode, code_kept, as_it_was, same_source}
+use Rattle.w16_loading.proofs.KeptWorlds.{IsOwned, world_stays}
+use Rattle.w16_machine.specs.World.{World}
+use Rattle.w16_machine.specs.Local.{LocalHeap, AreLocalHeaps, chosen}
+use Rattle.w16_machine.specs.LocalCalls.{LocalCommand, LocalStep}
+use Rattle.w16_machine.specs.LocalLaw.{IsRewritten, IsObjectKept, IsHeapKept, KeepsRest}
+use Rattle.w16_machine.specs.Law.{IsWorld}
+use Rattle.w16_machine.proofs.LocalFacts.{chosen_there}
+use Rattle.w16_machine.proofs.LocalFrame.{frame_law}
+use Rattle.w16_machine.proofs.LocalWorlds.{local_heaps_kept}
+
+-- an object whose bytes are rewritten has its kind and its size
+rewritten_owned : (at : LocalHeap) (p r : Option Object) (kind : Kind) (size : ℕ) → IsSomeAnd p (λ before. IsSomeAnd r (IsRewritten at before))
+    → IsSomeAnd p (λ o. (o.kind ≡ kind) × IfSome o.bytes (λ b. length b ≡ size)) → IsSomeAnd r (λ o. (o.kind ≡ kind) × IfSome o.bytes (λ b. length b ≡ size))
+rewritten_owned at None r kind size h k = absurd h
+rewritten_owned at (Some o) None kind size h k = absurd h
+rewritten_owned at (Some o) (Some after) kind size h k = (h.kind ∙ k.0, sized after.bytes h.has)
+  where
+    long : length at.bytes ≡ size
+    long = subst (λ p. IfSome p (λ b. length b ≡ size)) h.had k.1
+
+    sized : (p : Option (List ℕ)) → IsSomeAnd p (λ bytes. (length bytes ≡ length at.bytes) × IsSameOutside at.table.lo at.table.hi at.bytes bytes) → IfSome p (λ b. length b ≡ size)
+    sized None h = absurd h
+    sized (Some b) h = h.0 ∙ long
+
+kept_owned : (old new : World) (slot : ℕ) (kind : Kind) (size : ℕ) → IsObjectKept old new slot → IsOwned old.loading.handles.heap slot kind size → IsOwned new.loading.handles.heap slot kind size
+kept_owned old new slot kind size (inl same) h = subst (λ p. IsSomeAnd p (λ o. (o.kind ≡ kind) × IfSome o.bytes (λ b. length b ≡ size))) (sym same) h
+kept_owned old new slot kind size (inr c) h = turn (chosen old) c
+  where
+    turn : (p : Option LocalHeap) → IsSomeAnd p (λ at. (at.slot ≡ slot) × IsSomeAnd (object_at old.loading.handles.heap slot) (λ before. IsSomeAnd (object_at new.loading.handles.heap slot) (IsRewritten at before))) → IsOwned new.loading.handles.heap slot kind size
+    turn None c = absurd c
+    turn (Some at) c = rewritten_owned at (object_at old.loading.handles.heap slot) (object_at new.loading.handles.heap slot) kind size c.1 h
+
+module _ (old new : World) (k : KeepsRest old new) (uncoded : (slot : ℕ) → IfSome (finmap.get old.heaps slot) (λ _. owned_code old.loading.handles slot ≡ false)) where
+  -- code isn't rewritten
+  code_stays : (slot : ℕ) → owned_code old.loading.handles slot ≡ true → KeepsBytes old.loading.handles.heap new.loading.handles.heap slot
+  code_stays slot coded = elim (k.objects slot) [ inl same ↦ same_object old.loading.handles.heap new.loading.handles.heap slot same | inr c ↦ absurd (turn (chosen old) refl c) ]
+    where
+      turn : (p : Option LocalHeap) → chosen old ≡ p → IsSomeAnd p (λ at. (at.slot ≡ slot) × IsSomeAnd (object_at old.loading.handles.heap slot) (λ before. IsSomeAnd (object_at new.loading.handles.heap slot) (IsRewritten at before))) → ⊥
+      turn None e c = c
+      turn (Some at) e c =
+          let free : owned_code old.loading.handles at.slot ≡ false = subst (λ p. IfSome p (λ _. owned_code old.loading.handles at.slot ≡ false)) (chosen_there old at e).table (uncoded at.slot) in
+          false≢true (sym free ∙ ap (owned_code old.loading.handles) c.0 ∙ coded)
+
+  keeps_code : (format : Format) → KeepsCode format old.loading new.loading
+  keeps_code format = record {
+    files = ap (λ (w : LoadingWorld). w.files) k.loading;
+    modules = λ handle m e. (m, ap (λ (w : LoadingWorld). module_at w.modules handle) (sym k.loading) ∙ e, same_source m);
+    coded = λ q t. ap (λ (h : Handles). owned_code h q) (sym k.handles) ∙ t;
+    bytes = λ slot handle number m s t. as_it_was format old.loading new.loading.handles.heap slot number m (code_stays slot t);
+  }
+
+module _ (old new : World) (command : LocalCommand) (reply : Reply) (is : IsWorld old) (step : LocalStep old command reply new) where
+  k : KeepsRest old new
+  k = frame_law old new command reply is.heaps step
+
+  heaps : AreLocalHeaps new
+  heaps = local_heaps_kept old new command reply is.heaps step
+
+  all : (X : Type 0) (p : Option Table) → X → IfSome p (λ _. X)
+  all X None x = tt
+  all X (Some t) x = x
+
+  kept : (slot : ℕ) → IsHeapKept old new slot → IfSome (finmap.get new.heaps slot) (λ _. owned_code old.loading.handles slot ≡ false)
+  kept slot (inl same) = subst (λ p. IfSome p (λ _. owned_code old.loading.handles slot ≡ false)) (sym same) (is.uncoded slot)
+  kept slot (inr (inl begun)) = all (owned_code old.loading.handles slot ≡ false) (finmap.get new.heaps slot) begun.1
+  kept slot (inr (inr c)) = all (owned_code old.loading.handles slot ≡ false) (finmap.get new.heaps slot) (turn (chosen old) refl c)
+    where
+      turn : (p : Option LocalHeap) → chosen old ≡ p → IsSomeAnd p (λ at. (at.slot ≡ slot) × IsSomeAnd (finmap.get new.heaps slot) (λ t. (t.lo ≡ at.table.lo) × (t.hi ≡ at.table.hi))) → owned_code old.loading.handles slot ≡ false
+      turn None e c = absurd c
+      turn (Some at) e c = ap (owned_code old.loading.handles) (sym c.0) ∙ subst (λ p. IfSome p (λ _. owned_code old.loading.handles at.slot ≡ false)) (chosen_there old at e).table (is.uncoded at.slot)
+
+  pub local_world_kept : IsWorld new
+  local_world_kept = record {
+    loading = subst IsLoadingWorld (sym k.loading) (world_stays old.loading is.loading new.loading.handles heaps.handles (λ q. ap (λ (h : Handles). owned_at h q) k.handles)
+        (λ slot kind size code h. kept_owned old new slot kind size (k.objects slot) h.object));
+    heaps = heaps;
+    uncoded = λ slot. rw (ap (λ (h : Handles). owned_code h slot) k.handles) (kept slot (k.heaps slot));
+  }
+
+  pub local_files_kept : (format : Format) → IsOfFiles format old.loading → IsOfFiles format new.loading
+  local_files_kept format of = code_kept format old.loading new.loading (keeps_code old new k is.uncoded format) of

@@ -1,0 +1,160 @@
+-- What each call leaves of the objects that it isn't about, and of the order of use, by its outcome.
+use Rattle.std.proofs.Common.{◌≡◌, ◌≢◌, ℕ, ◌+◌, ◌-◌, inl, inr, true, false, not, ◌&&◌, ◌||◌, nat_lt, IfSome, IsSomeAnd, take, Option, Some, None, is_some, refl, sym, ap, ◌∙◌, subst}
+use Rattle.std.specs.FinMap as finmap
+use Rattle.std.proofs.lemmas.Bool.{false≢true, cases_Bool, cases_eq}
+use Rattle.w16_model.specs.declared.Kind.{Kind}
+use Rattle.w16_model.specs.declared.Kind.TheVariants.{Fixed, Moveable, Discardable}
+use Rattle.w16_model.specs.declared.TheConstants.{GMEM_MOVEABLE}
+use Rattle.w16_model.specs.Discards.{eligible, is_member}
+use Rattle.w16_model.specs.Heap.{Heap, Object, blocks, object_at, is_fixed, is_discardable, is_pinned_object}
+use Rattle.w16_model.specs.Changes.{with_newest}
+use Rattle.w16_model.specs.Handles.{Handles, AreHandles, slot_of_handle}
+use Rattle.w16_model.specs.Calls.{Answer, has_flag, rounded_size, kind_asked, way_asked}
+use Rattle.w16_model.specs.Calls.HandleCommand.{GlobalAlloc}
+use Rattle.w16_model.specs.Law.{KeepsOthers, StandsStill}
+use Rattle.w16_model.specs.Reallocation.{KeepsRest}
+use Rattle.w16_model.specs.Resizes.{way_asked_again}
+use Rattle.w16_model.specs.Outcomes.{Call, Outcome}
+use Rattle.w16_model.specs.Outcomes.Call.{Calls}
+use Rattle.w16_model.specs.Outcomes.Outcome.{IsSame, IsUnmoved, IsLocked, IsUnlocked, IsFreed, IsNewest, IsOldest, IsEntered, IsAllocated, IsCompacted, IsModified, IsDiscarded, IsResized}
+use Rattle.w16_model.specs.CallLaws.{handle_in, IsAbout, IsKeptOrDiscarded, BystandersLaw, may_move_own, PinnedStayLaw, may_move_others, StillLaw}
+use Rattle.w16_model.proofs.Heaps.{get-update_other}
+use Rattle.w16_model.proofs.KeptHeaps.{inserted_other, taken_other, bytes_in}
+use Rattle.w16_model.proofs.Others.{others_law}
+use Rattle.w16_model.proofs.Outcomes.{address_law}
+use Rattle.w16_model.proofs.CallOutcomes.{outcome}
+use Rattle.w16_model.proofs.CallLaws.{rest_of, moves_of}
+
+-- what is discarded, and what is kept
+pub kept_or_discarded : (old new : Heap) (h : Option ℕ) (k q : ℕ) → KeepsOthers old h k new → h ≢ Some q → IsKeptOrDiscarded old new q
+kept_or_discarded old new h k q keeps other = elim (cases_Bool (is_member q (take k (eligible (blocks old) old.order h)))) [
+  | inl t ↦ inr (keeps.discarded q t)
+  | inr f ↦ inl (keeps.kept q other (λ t. false≢true (sym f ∙ t)))
+]
+
+-- where addresses stay, each object stands still
+stands : (old new : Heap) (q : ℕ) → finmap.get new.places q ≡ finmap.get old.places q → StandsStill old new q
+stands old new q same = turn (finmap.get old.places q) same
+  where
+    turn : (p : Option ℕ) → finmap.get new.places q ≡ p → IfSome p (λ at. finmap.get new.places q ≡ Some at)
+    turn None e = tt
+    turn (Some at) e = e
+
+no_place : (old new : Heap) (q : ℕ) → finmap.get old.places q ≡ None → StandsStill old new q
+no_place old new q none = subst (λ p. IfSome p (λ at. finmap.get new.places q ≡ Some at)) (sym none) tt
+
+none_of : {A : Type 0} (p : Option A) → is_some p ≡ false → p ≡ None
+none_of None e = refl
+none_of (Some a) e = absurd (false≢true (sym e))
+
+apart : (slot q : ℕ) → q ≢ slot → ◌≡◌ {A = Option ℕ} (Some slot) (Some q) → ⊥
+apart slot q d e = let same : slot ≡ q = cc in d (sym same)
+
+none_apart : (q : ℕ) → ◌≡◌ {A = Option ℕ} None (Some q) → ⊥
+none_apart q e = cc
+
+module _ (old new : Handles) (is : AreHandles old) (call : Call) (answer : Answer) (q : ℕ) where
+  -- a call names its object
+  about : (handle slot : ℕ) → handle_in call ≡ Some handle → slot_of_handle old handle ≡ Some slot → q ≡ slot → IsAbout old call q
+  about handle slot names found e = subst (λ p. IsSomeAnd p (λ h. slot_of_handle old h ≡ Some q)) (sym names) (found ∙ ap Some (sym e))
+
+  -- an object that is there isn't at a free slot
+  not_free : (slot : ℕ) → object_at old.heap slot ≡ None → is_some (object_at old.heap q) ≡ true → q ≢ slot
+  not_free slot free there e = false≢true (sym (ap is_some (ap (object_at old.heap) e ∙ free)) ∙ there)
+
+  abbrev Kept : Type 0
+  Kept = IsKeptOrDiscarded old.heap new.heap q
+
+  pub bystander : Outcome old call answer new → ((flags size : ℕ) → call ≡ Calls (GlobalAlloc flags size) → is_some (object_at old.heap q) ≡ true) → (IsAbout old call q → ⊥) → Kept
+  bystander (IsSame s e) there out = inl (ap (λ (h : Handles). object_at h.heap q) e)
+  bystander (IsUnmoved s e) there out = inl (ap (λ (h : Handles). object_at h.heap q) e)
+  bystander (IsLocked l) there out = inl (ap (λ (h : Handles). object_at h.heap q) l.rest ∙ inserted_other old.heap.objects l.slot (record l.object { locks = l.object.locks + 1 }) q (λ e. out (about l.handle l.slot (ap handle_in l.asked) l.named.found e)))
+  bystander (IsUnlocked u) there out = inl (ap (λ (h : Handles). object_at h.heap q) u.rest ∙ inserted_other old.heap.objects u.slot (record u.object { locks = u.object.locks - 1 }) q (λ e. out (about u.handle u.slot (ap handle_in u.asked) u.named.found e)))
+  bystander (IsFreed f) there out = inl (ap (λ (h : Handles). object_at h.heap q) f.rest ∙ taken_other old.heap.objects f.slot q (λ e. out (about f.handle f.slot (ap handle_in f.asked) f.named.found e)))
+  bystander (IsNewest n) there out = inl (ap (λ (h : Handles). object_at h.heap q) n.rest)
+  bystander (IsOldest n) there out = inl (ap (λ (h : Handles). object_at h.heap q) n.rest)
+  bystander (IsEntered e) there out = inl (ap (λ (h : Heap). object_at h q) e.entered.entered ∙ inserted_other old.heap.objects e.slot (record { kind = kind_asked e.flags; locks = 0; bytes = None }) q (not_free e.slot e.free.1 (there e.flags e.size e.asked)))
+  bystander (IsAllocated a) there out = kept_or_discarded old.heap new.heap (Some a.slot) a.count q ((others_law old.heap new.heap is.heap a.count).0 a.slot (way_asked a.flags) a.object (with_newest a.slot a.object) a.settled) (apart a.slot q (not_free a.slot a.free.1 (there a.flags a.size a.asked)))
+  bystander (IsCompacted c) there out = kept_or_discarded old.heap new.heap None c.count q ((others_law old.heap new.heap is.heap c.count).1 c.settled) (none_apart q)
+  bystander (IsModified m) there out = inl (m.changes.others q (λ e. out (about m.handle m.slot (ap handle_in m.asked) m.named.found e)))
+  bystander (IsDiscarded d) there out = inl (ap (λ (h : Handles). object_at h.heap q) d.rest ∙ get-update_other old.heap.objects d.slot (λ (o : Object). record o { bytes = None }) q (λ e. out (about d.handle d.slot (ap handle_in d.asked) d.named.found e)))
+  bystander (IsResized r) there out = let k : KeepsRest old.heap r.slot (rounded_size r.size) r.object (way_asked_again r.flags) new.heap = rest_of old new is call answer r in
+      kept_or_discarded old.heap new.heap (Some r.slot) k.count q k.others (apart r.slot q (λ e. out (about r.handle r.slot (ap handle_in r.asked) r.named.found e)))
+
+  abbrev Still : Handles → Type 0
+  Still h = StandsStill old.heap h.heap q
+
+  same_place : finmap.get new.heap.places q ≡ finmap.get old.heap.places q → Still new
+  same_place e = stands old.heap new.heap q e
+
+  -- where the object is pinned
+  module _ (pinned : IsSomeAnd (object_at old.heap q) (λ o. is_pinned_object o ≡ true)) where
+    pinned_there : (p : Option Object) → IsSomeAnd p (λ o. is_pinned_object o ≡ true) → is_some p ≡ true
+    pinned_there None h = absurd h
+    pinned_there (Some o) h = refl
+
+    there_pinned : is_some (object_at old.heap q) ≡ true
+    there_pinned = pinned_there (object_at old.heap q) pinned
+
+    pinned_is : (slot : ℕ) (o : Object) → q ≡ slot → object_at old.heap slot ≡ Some o → is_pinned_object o ≡ true
+    pinned_is slot o e there = subst (λ p. IsSomeAnd p (λ o. is_pinned_object o ≡ true)) (ap (object_at old.heap) e ∙ there) pinned
+
+    loose : (o : Object) → o.locks ≡ 0 → is_discardable o.kind ≡ true → is_pinned_object o ≡ true → ⊥
+    loose o unlocked discardable t = false≢true (sym ((λ i. kind_loose o.kind discardable i || nat_lt 0 (unlocked i))) ∙ t)
+      where
+        kind_loose : (kind : Kind) → is_discardable kind ≡ true → is_fixed kind ≡ false
+        kind_loose Fixed t = absurd (false≢true t)
+        kind_loose Moveable t = refl
+        kind_loose Discardable t = refl
+
+    pinned_still : Outcome old call answer new → (may_move_own call ≡ true → IsAbout old call q → ⊥) → Still new
+    pinned_still (IsSame s e) out = same_place (ap (λ (h : Handles). finmap.get h.heap.places q) e)
+    pinned_still (IsUnmoved s e) out = same_place (ap (λ (h : Handles). finmap.get h.heap.places q) e)
+    pinned_still (IsLocked l) out = same_place (ap (λ (h : Handles). finmap.get h.heap.places q) l.rest)
+    pinned_still (IsUnlocked u) out = same_place (ap (λ (h : Handles). finmap.get h.heap.places q) u.rest)
+    pinned_still (IsFreed f) out = same_place (ap (λ (h : Handles). finmap.get h.heap.places q) f.rest ∙ taken_other old.heap.places f.slot q (λ e. out (ap may_move_own f.asked) (about f.handle f.slot (ap handle_in f.asked) f.named.found e)))
+    pinned_still (IsNewest n) out = same_place (ap (λ (h : Handles). finmap.get h.heap.places q) n.rest)
+    pinned_still (IsOldest n) out = same_place (ap (λ (h : Handles). finmap.get h.heap.places q) n.rest)
+    pinned_still (IsEntered e) out = same_place (ap (λ (h : Heap). finmap.get h.places q) e.entered.entered)
+    pinned_still (IsAllocated a) out = ((address_law old.heap new.heap is.heap a.count).0 a.slot (way_asked a.flags) a.object (with_newest a.slot a.object) a.settled).pinned q (apart a.slot q (not_free a.slot a.free.1 there_pinned)) pinned
+    pinned_still (IsCompacted c) out = ((address_law old.heap new.heap is.heap c.count).1 c.settled).pinned q (none_apart q) pinned
+    pinned_still (IsModified m) out = same_place (ap (λ places. finmap.get places q) m.changes.places)
+    pinned_still (IsDiscarded d) out = same_place (ap (λ (h : Handles). finmap.get h.heap.places q) d.rest ∙ taken_other old.heap.places d.slot q (λ e. loose d.object d.unlocked d.discardable (pinned_is d.slot d.object e d.named.there)))
+    pinned_still (IsResized r) out = elim (cases_eq q r.slot) [
+      | inl e ↦ elim (cases_Bool (has_flag r.flags GMEM_MOVEABLE)) [
+        | inl t ↦ absurd (out (ap may_move_own r.asked ∙ (λ i. t i && (not (r.sized.0 i) && not (r.sized.1 i)))) (about r.handle r.slot (ap handle_in r.asked) r.named.found e))
+        | inr f ↦ own e f (finmap.get old.heap.places q) refl
+      ]
+      | inr d ↦ (moves_of old new is call answer r).others.pinned q (apart r.slot q d) pinned
+    ]
+      where
+        own : q ≡ r.slot → has_flag r.flags GMEM_MOVEABLE ≡ false → (p : Option ℕ) → finmap.get old.heap.places q ≡ p → Still new
+        own e f None stood = no_place old.heap new.heap q stood
+        own e f (Some at) stood =
+            let has : is_some r.object.bytes ≡ true = ap (λ p. is_some (bytes_in p)) (sym (ap (object_at old.heap) e ∙ r.named.there)) ∙ sym (is.heap.at_bytes q) ∙ ap is_some stood in
+            (moves_of old new is call answer r).still (inr (λ i. has i && (pinned_is r.slot r.object e r.named.there i && not (f i)))) q
+
+  -- and where nothing may be moved
+  still : Outcome old call answer new → may_move_others call ≡ false → is_some (object_at old.heap q) ≡ true → (IsAbout old call q → ⊥) → Still new
+  still (IsSame s e) m there out = same_place (ap (λ (h : Handles). finmap.get h.heap.places q) e)
+  still (IsUnmoved s e) m there out = same_place (ap (λ (h : Handles). finmap.get h.heap.places q) e)
+  still (IsLocked l) m there out = same_place (ap (λ (h : Handles). finmap.get h.heap.places q) l.rest)
+  still (IsUnlocked u) m there out = same_place (ap (λ (h : Handles). finmap.get h.heap.places q) u.rest)
+  still (IsFreed f) m there out = same_place (ap (λ (h : Handles). finmap.get h.heap.places q) f.rest ∙ taken_other old.heap.places f.slot q (λ e. out (about f.handle f.slot (ap handle_in f.asked) f.named.found e)))
+  still (IsNewest n) m there out = same_place (ap (λ (h : Handles). finmap.get h.heap.places q) n.rest)
+  still (IsOldest n) m there out = same_place (ap (λ (h : Handles). finmap.get h.heap.places q) n.rest)
+  still (IsEntered e) m there out = same_place (ap (λ (h : Heap). finmap.get h.places q) e.entered.entered)
+  still (IsAllocated a) m there out = ((address_law old.heap new.heap is.heap a.count).0 a.slot (way_asked a.flags) a.object (with_newest a.slot a.object) a.settled).unmoved (sym (ap may_move_others a.asked) ∙ m) q (apart a.slot q (not_free a.slot a.free.1 there))
+  still (IsCompacted c) m there out = absurd (false≢true (sym m ∙ ap may_move_others c.asked))
+  still (IsModified c) m there out = same_place (ap (λ places. finmap.get places q) c.changes.places)
+  still (IsDiscarded d) m there out = same_place (ap (λ (h : Handles). finmap.get h.heap.places q) d.rest ∙ taken_other old.heap.places d.slot q (λ e. out (about d.handle d.slot (ap handle_in d.asked) d.named.found e)))
+  still (IsResized r) m there out = (moves_of old new is call answer r).others.unmoved (sym (ap may_move_others r.asked) ∙ m) q (apart r.slot q (λ e. out (about r.handle r.slot (ap handle_in r.asked) r.named.found e)))
+
+pub bystanders_law : BystandersLaw
+bystanders_law old new call answer q is step there out = bystander old new is call answer q (outcome old new call answer is step) (λ flags size e. there) out
+
+pub pinned_law : PinnedStayLaw
+pinned_law old new call answer q is step pinned out = pinned_still old new is call answer q pinned (outcome old new call answer is step) out
+
+pub still_law : StillLaw
+still_law old new call answer q is step m there out = still old new is call answer q (outcome old new call answer is step) m there out

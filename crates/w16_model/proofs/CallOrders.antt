@@ -1,0 +1,265 @@
+-- What each call does to the order of use.
+use Rattle.std.proofs.Common.{◌≡◌, ℕ, ◌+◌, ◌<◌, ◌⊎◌, inl, inr, Bool, true, false, cond, not, ◌&&◌, ◌==◌, MatchBool, IsTrue, IsSomeAnd, List, [], ◌∷◌, ◌++◌, take, filter, Option, Some, None, Result, Ok, Err, is_some, refl, sym, ap, ◌∙◌, subst, arith, eq-eqb, ne_eqb}
+use Rattle.std.proofs.lemmas.Bool.{false≢true, and_parts}
+use Rattle.std.proofs.lemmas.List.Elements.{filter-append}
+use Rattle.w16_model.specs.declared.Kind.{Kind}
+use Rattle.w16_model.specs.declared.Kind.TheVariants.{Fixed, Moveable, Discardable}
+use Rattle.w16_model.specs.declared.Refusal.{Refusal}
+use Rattle.w16_model.specs.declared.Refusal.TheVariants as refusals
+use Rattle.w16_model.specs.Discards.{eligible, is_member}
+use Rattle.w16_model.specs.Heap.{Heap, Object, blocks, object_at, bytes_at, is_fixed, is_discardable, is_in_order}
+use Rattle.w16_model.specs.Changes.{without, newest, oldest, touched, with_ordered, with_newest, removed}
+use Rattle.w16_model.specs.Request.{Settles, Allocates, IsNew, discarded, stays_for, prefix_of}
+use Rattle.w16_model.specs.OneObject.{Enters}
+use Rattle.w16_model.specs.Handles.{Handles, AreHandles, slot_of_handle, selector_of, far_pointer}
+use Rattle.w16_model.specs.Calls.{Answer, rounded_size, kind_asked, way_asked, is_absent_asked}
+use Rattle.w16_model.specs.Calls.Answer.{Word, Dword}
+use Rattle.w16_model.specs.Law.{KeepsOthers}
+use Rattle.w16_model.specs.Reallocation.{KeepsRest, without_all, is_revived}
+use Rattle.w16_model.specs.Resizes.{way_asked_again}
+use Rattle.w16_model.specs.Outcomes.{Call, Outcome, CompactsHeap}
+use Rattle.w16_model.specs.Outcomes.Outcome.{IsSame, IsUnmoved, IsLocked, IsUnlocked, IsFreed, IsNewest, IsOldest, IsEntered, IsAllocated, IsCompacted, IsModified, IsDiscarded, IsResized}
+use Rattle.w16_model.specs.CallLaws.{OnlyLeave, may_order, UnorderedLaw, OthersOrderLaw, NewObjectLaw, handle_in, IsAbout}
+use Rattle.w16_model.proofs.Gaps.{Member}
+use Rattle.w16_model.proofs.Discards.{is_member-true}
+use Rattle.w16_model.proofs.KeptHeaps.{inserted_here, taken_here, bytes_in}
+use Rattle.w16_model.proofs.KeptHandles.{settled}
+use Rattle.w16_model.proofs.KindChanges.{twice_out, rest_order}
+use Rattle.w16_model.proofs.KeptRest.{absents_order, all_stay, at_once, no_more}
+use Rattle.w16_model.proofs.Others.{others_law}
+use Rattle.w16_model.proofs.CallOutcomes.{outcome}
+use Rattle.w16_model.proofs.CallLaws.{rest_of}
+use Rattle.w16_model.specs.CallLaws.{UseLaw, IsNewestOf}
+use Rattle.w16_model.specs.Calls.{global_lock, handle_or_0}
+use Rattle.w16_model.specs.OneObject.{after_lock, refused_order}
+
+-- The order without some.
+
+-- the filters in either order
+filter_swap : (p q : ℕ → Bool) (l : List ℕ) → filter p (filter q l) ≡ filter q (filter p l)
+filter_swap p q [] = refl
+filter_swap p q (x ∷ l) = swap (filter_swap p q l) (p x) (q x) refl refl
+  where
+    keep : (f : ℕ → Bool) (a : Bool) (m : List ℕ) → f x ≡ a → filter f (x ∷ m) ≡ cond {A = List ℕ} a (x ∷ filter f m) (filter f m)
+    keep f a m e = ap (λ b. cond {A = List ℕ} b (x ∷ filter f m) (filter f m)) e
+
+    swap : filter p (filter q l) ≡ filter q (filter p l) → (a b : Bool) → p x ≡ a → q x ≡ b
+        → filter p (cond {A = List ℕ} b (x ∷ filter q l) (filter q l)) ≡ filter q (cond {A = List ℕ} a (x ∷ filter p l) (filter p l))
+    swap rest true true e f = keep p true (filter q l) e ∙ ap (λ (m : List ℕ). x ∷ m) rest ∙ sym (keep q true (filter p l) f)
+    swap rest true false e f = rest ∙ sym (keep q false (filter p l) f)
+    swap rest false true e f = keep p false (filter q l) e ∙ rest
+    swap rest false false e f = rest
+
+-- without an object, the order with it at an end is as it was
+newest_rest : (id : ℕ) (l : List ℕ) → without id (newest id l) ≡ without id l
+newest_rest id l = rest_order id l false true true
+
+touched_rest : (id : ℕ) (l : List ℕ) → without id (touched id l) ≡ without id l
+touched_rest id l = turn (is_member id l)
+  where
+    turn : (b : Bool) → without id (cond {A = List ℕ} b (newest id l) l) ≡ without id l
+    turn true = newest_rest id l
+    turn false = refl
+
+oldest_rest : (id : ℕ) (l : List ℕ) → without id (oldest id l) ≡ without id l
+oldest_rest id l = ap (λ b. cond {A = List ℕ} (not b) (id ∷ without id (without id l)) (without id (without id l))) (eq-eqb id id refl) ∙ twice_out id l
+
+placed_rest : (id : ℕ) (o : Object) (l : List ℕ) → without id (with_newest id o l) ≡ without id l
+placed_rest id o l = turn (is_in_order (Some o))
+  where
+    turn : (b : Bool) → without id (cond {A = List ℕ} b (newest id l) (without id l)) ≡ without id l
+    turn true = newest_rest id l
+    turn false = twice_out id l
+
+tail_rest : (id : ℕ) (b : Bool) (l : List ℕ) → without id (l ++ cond {A = List ℕ} b (id ∷ []) []) ≡ without id l
+tail_rest id true l = filter-append (λ q. not (q == id)) l (id ∷ []) ∙ (λ i. without id l ++ cond {A = List ℕ} (not (eq-eqb id id refl i)) (id ∷ []) []) ∙ no_more (without id l)
+tail_rest id false l = ap (without id) (no_more l)
+
+-- what loses its bytes
+gone_bytes : (old new : Heap) (h : Option ℕ) (k : ℕ) → KeepsOthers old h k new → (q : ℕ) → is_member q (take k (eligible (blocks old) old.order h)) ≡ true → bytes_at new q ≡ None
+gone_bytes old new h k keeps q t = turn (object_at old q) (keeps.discarded q t)
+  where
+    turn : (p : Option Object) → IsSomeAnd p (λ o. (o.kind ≡ Discardable) × (o.locks ≡ 0) × (is_some o.bytes ≡ true) × (object_at new q ≡ Some (record o { bytes = None }))) → bytes_at new q ≡ None
+    turn None h = absurd h
+    turn (Some o) h = ap bytes_in h.3
+
+module _ (old new : Handles) (is : AreHandles old) (call : Call) (answer : Answer) where
+  -- nothing has left
+  stays : (order after : List ℕ) → after ≡ order → OnlyLeave new.heap order after
+  stays order after e = record { gone = []; without_bytes = λ q t. absurd (false≢true t); order_is = e ∙ sym (all_stay order) }
+
+  same : new.heap.order ≡ old.heap.order → OnlyLeave new.heap old.heap.order new.heap.order
+  same e = stays old.heap.order new.heap.order e
+
+  discards : (h : Option ℕ) (k : ℕ) → KeepsOthers old.heap h k new.heap → (order after : List ℕ) → after ≡ without_all (take k (eligible (blocks old.heap) old.heap.order h)) order → OnlyLeave new.heap order after
+  discards h k keeps order after e = record { gone = take k (eligible (blocks old.heap) old.heap.order h); without_bytes = gone_bytes old.heap new.heap h k keeps; order_is = e }
+
+  compacted : CompactsHeap old call answer new → OnlyLeave new.heap old.heap.order new.heap.order
+  compacted c = discards None c.count ((others_law old.heap new.heap is.heap c.count).1 c.settled) old.heap.order new.heap.order
+      (ap (λ (h : Heap). h.order) c.settled.same ∙ absents_order (take c.count (eligible (blocks old.heap) old.heap.order None)) old.heap)
+
+  one_left : (slot : ℕ) → bytes_at new.heap slot ≡ None → new.heap.order ≡ without slot old.heap.order → OnlyLeave new.heap old.heap.order new.heap.order
+  one_left slot none e = record {
+    gone = slot ∷ [];
+    without_bytes = λ q t. turn q (is_member-true q (slot ∷ []) t);
+    order_is = e ∙ sym (all_stay (without slot old.heap.order)) ∙ at_once slot [] old.heap.order;
+  }
+    where
+      turn : (q : ℕ) → Member q (slot ∷ []) → bytes_at new.heap q ≡ None
+      turn q (inl e) = ap (bytes_at new.heap) e ∙ none
+      turn q (inr m) = absurd m
+
+  freed : (slot : ℕ) → new.heap ≡ removed old.heap slot → OnlyLeave new.heap old.heap.order new.heap.order
+  freed slot e = one_left slot (ap (λ (h : Heap). bytes_at h slot) e ∙ ap bytes_in (taken_here old.heap.objects slot slot refl)) (ap (λ (h : Heap). h.order) e)
+
+  unordered : Outcome old call answer new → may_order call ≡ false → OnlyLeave new.heap old.heap.order new.heap.order
+  unordered (IsSame s e) m = same (ap (λ (h : Handles). h.heap.order) e)
+  unordered (IsUnmoved s e) m = same (ap (λ (h : Handles). h.heap.order) e)
+  unordered (IsLocked l) m = absurd (false≢true (sym m ∙ ap may_order l.asked))
+  unordered (IsUnlocked u) m = same (ap (λ (h : Handles). h.heap.order) u.rest)
+  unordered (IsFreed f) m = freed f.slot (ap (λ (h : Handles). h.heap) f.rest)
+  unordered (IsNewest n) m = absurd (false≢true (sym m ∙ ap may_order n.asked))
+  unordered (IsOldest n) m = absurd (false≢true (sym m ∙ ap may_order n.asked))
+  unordered (IsEntered e) m = absurd (false≢true (sym m ∙ ap may_order e.asked))
+  unordered (IsAllocated a) m = absurd (false≢true (sym m ∙ ap may_order a.asked))
+  unordered (IsCompacted c) m = compacted c
+  unordered (IsModified c) m = absurd (false≢true (sym m ∙ ap may_order c.asked))
+  unordered (IsDiscarded d) m = absurd (false≢true (sym m ∙ ap may_order d.asked))
+  unordered (IsResized r) m = absurd (false≢true (sym m ∙ ap may_order r.asked))
+
+  -- a call names its object
+  about : (handle slot : ℕ) → handle_in call ≡ Some handle → slot_of_handle old handle ≡ Some slot → IsAbout old call slot
+  about handle slot names found = subst (λ p. IsSomeAnd p (λ h. slot_of_handle old h ≡ Some slot)) (sym names) found
+
+  abbrev Others : Type 0
+  Others = OnlyLeave new.heap old.heap.order new.heap.order ⊎ ((slot : ℕ) × (IsAbout old call slot ⊎ (object_at old.heap slot ≡ None)) × OnlyLeave new.heap (without slot old.heap.order) (without slot new.heap.order))
+
+  of_named : (handle slot : ℕ) → handle_in call ≡ Some handle → slot_of_handle old handle ≡ Some slot → without slot new.heap.order ≡ without slot old.heap.order → Others
+  of_named handle slot names found e = inr (slot, inl (about handle slot names found), stays (without slot old.heap.order) (without slot new.heap.order) e)
+
+  -- without the object, and without what has left, or the other way round
+  either_way : (slot : ℕ) (ids : List ℕ) → without slot (without_all ids old.heap.order) ≡ without_all ids (without slot old.heap.order)
+  either_way slot ids = filter_swap (λ q. not (q == slot)) (λ q. not (is_member q ids)) old.heap.order
+
+  others : Outcome old call answer new → Others
+  others (IsSame s e) = inl (same (ap (λ (h : Handles). h.heap.order) e))
+  others (IsUnmoved s e) = inl (same (ap (λ (h : Handles). h.heap.order) e))
+  others (IsLocked l) = of_named l.handle l.slot (ap handle_in l.asked) l.named.found (ap (λ (h : Handles). without l.slot h.heap.order) l.rest ∙ touched_rest l.slot old.heap.order)
+  others (IsUnlocked u) = inl (same (ap (λ (h : Handles). h.heap.order) u.rest))
+  others (IsFreed f) = inl (freed f.slot (ap (λ (h : Handles). h.heap) f.rest))
+  others (IsNewest n) = of_named n.handle n.slot (ap handle_in n.asked) n.named.found (ap (λ (h : Handles). without n.slot h.heap.order) n.rest ∙ newest_rest n.slot old.heap.order)
+  others (IsOldest n) = of_named n.handle n.slot (ap handle_in n.asked) n.named.found (ap (λ (h : Handles). without n.slot h.heap.order) n.rest ∙ oldest_rest n.slot old.heap.order)
+  others (IsEntered e) = inl (same (ap (λ (h : Heap). h.order) e.entered.entered))
+  others (IsAllocated a) = inr (
+    a.slot,
+    inr a.free.1,
+    discards (Some a.slot) a.count ((others_law old.heap new.heap is.heap a.count).0 a.slot (way_asked a.flags) a.object (with_newest a.slot a.object) a.settled) (without a.slot old.heap.order) (without a.slot new.heap.order)
+        (ap (λ (h : Heap). without a.slot h.order) a.settled.same ∙ placed_rest a.slot a.object (discarded old.heap a.count (Some a.slot)).order
+        ∙ ap (without a.slot) (absents_order (take a.count (eligible (blocks old.heap) old.heap.order (Some a.slot))) old.heap) ∙ either_way a.slot (take a.count (eligible (blocks old.heap) old.heap.order (Some a.slot)))),
+  )
+  others (IsCompacted c) = inl (compacted c)
+  others (IsModified m) = of_named m.handle m.slot (ap handle_in m.asked) m.named.found m.changes.rest
+  others (IsDiscarded d) = of_named d.handle d.slot (ap handle_in d.asked) d.named.found (ap (λ (h : Handles). without d.slot h.heap.order) d.rest ∙ twice_out d.slot old.heap.order)
+  others (IsResized r) =
+      let k : KeepsRest old.heap r.slot (rounded_size r.size) r.object (way_asked_again r.flags) new.heap = rest_of old new is call answer r in
+      let ids : List ℕ = take k.count (eligible (blocks old.heap) old.heap.order (Some r.slot)) in
+      inr (
+        r.slot,
+        inl (about r.handle r.slot (ap handle_in r.asked) r.named.found),
+        discards (Some r.slot) k.count k.others (without r.slot old.heap.order) (without r.slot new.heap.order)
+            (ap (without r.slot) k.order ∙ tail_rest r.slot (is_revived r.object) (without_all ids old.heap.order) ∙ either_way r.slot ids),
+      )
+
+pub unordered_law : UnorderedLaw
+unordered_law old new call answer is m step = unordered old new is call answer (outcome old new call answer is step) m
+
+pub others_order_law : OthersOrderLaw
+others_order_law old new call answer is step = others old new is call answer (outcome old new call answer is step)
+
+-- A new object.
+pub new_object_law : NewObjectLaw
+new_object_law old new flags size handle is a listed = made (is_absent_asked flags size) a.made
+  where
+    never : (b : Bool) → (b && false) ≡ true → ⊥
+    never true t = false≢true t
+    never false t = false≢true t
+
+    made : (b : Bool) → MatchBool b (Enters old.heap a.slot (kind_asked flags) new.heap) (Allocates old.heap a.slot (rounded_size size) (kind_asked flags) 0 (way_asked flags) true new.heap)
+        → (left : List ℕ) × OnlyLeave new.heap old.heap.order left × IsNewestOf a.slot left new.heap.order
+    made true e = absurd (never (is_discardable (kind_asked flags)) (ap is_in_order (sym (ap (λ (h : Heap). object_at h a.slot) e.entered ∙ inserted_here old.heap.objects a.slot (record { kind = kind_asked flags; locks = 0; bytes = None }) a.slot refl)) ∙ listed))
+    made false m =
+        let s : (k : ℕ) × (o : Object) × Settles old.heap (stays_for a.slot (way_asked flags)) (with_ordered (discarded old.heap k (Some a.slot)) a.slot o (with_newest a.slot o)) new.heap =
+        settled old.heap a.slot (way_asked flags) (prefix_of old.heap (rounded_size size) (Some a.slot) (way_asked flags)) (IsNew (way_asked flags).zero (rounded_size size) (kind_asked flags) 0) (with_newest a.slot) new.heap m.request in
+        let ids : List ℕ = take s.0 (eligible (blocks old.heap) old.heap.order (Some a.slot)) in
+        let here : object_at new.heap a.slot ≡ Some s.1 = ap (λ (h : Heap). object_at h a.slot) s.2.same ∙ inserted_here (discarded old.heap s.0 (Some a.slot)).objects a.slot s.1 a.slot refl in (
+          without_all ids old.heap.order,
+          record { gone = ids; without_bytes = gone_bytes old.heap new.heap (Some a.slot) s.0 ((others_law old.heap new.heap is.heap s.0).0 a.slot (way_asked flags) s.1 (with_newest a.slot s.1) s.2); order_is = refl },
+          ap (λ (h : Heap). h.order) s.2.same ∙ ap (λ b. cond {A = List ℕ} b (newest a.slot (discarded old.heap s.0 (Some a.slot)).order) (without a.slot (discarded old.heap s.0 (Some a.slot)).order)) (sym (ap is_in_order here) ∙ listed)
+              ∙ ap (newest a.slot) (absents_order ids old.heap),
+        )
+
+-- Uses of an object in the order.
+module _ (old new : Handles) (is : AreHandles old) (handle slot : ℕ) (o : Object) (found : slot_of_handle old handle ≡ Some slot) (there : object_at old.heap slot ≡ Some o) (listed : is_in_order (Some o) ≡ true) where
+  parts : IsTrue (is_discardable o.kind) × IsTrue (is_some o.bytes)
+  parts = and_parts (is_discardable o.kind) (is_some o.bytes) listed
+
+  member : is_member slot old.heap.order ≡ true
+  member = is.heap.in_order slot ∙ ap is_in_order there ∙ listed
+
+  kind_loose : (kind : Kind) → is_discardable kind ≡ true → is_fixed kind ≡ false
+  kind_loose Fixed t = absurd (false≢true t)
+  kind_loose Moveable t = refl
+  kind_loose Discardable t = refl
+
+  abbrev locked_heap : Heap
+  locked_heap = with_ordered old.heap slot (record o { locks = o.locks + 1 }) (touched slot)
+
+  locked : o.locks < 255 → after_lock old.heap slot ≡ Ok locked_heap
+  locked few =
+      let done : Result Heap Refusal = Ok locked_heap in
+      ap (λ (p : Option Object). elim p as (λ _. Result Heap Refusal) [
+        | None ↦ Err refusals.Absent
+        | Some o ↦ cond (not (is_some o.bytes)) (Err refusals.Absent) (cond (is_fixed o.kind) (Err refusals.Fixed) (cond (o.locks == 255) (Err refusals.LockFull) (Ok (with_ordered old.heap slot (record o { locks = o.locks + 1 }) (touched slot)))))
+      ]) there
+      ∙ ap (λ b. cond {A = Result Heap Refusal} (not b) (Err refusals.Absent) (cond (is_fixed o.kind) (Err refusals.Fixed) (cond (o.locks == 255) (Err refusals.LockFull) done))) parts.1
+      ∙ ap (λ b. cond {A = Result Heap Refusal} b (Err refusals.Fixed) (cond (o.locks == 255) (Err refusals.LockFull) done)) (kind_loose o.kind parts.0)
+      ∙ ap (λ b. cond {A = Result Heap Refusal} b (Err refusals.LockFull) done) (ne_eqb o.locks 255 (λ e. omega (arith, e, few)))
+
+  abbrev lock_outcome : ℕ → Result Heap Refusal → Answer × Handles
+  lock_outcome slot r = elim r [
+    | Ok heap ↦ (Dword (far_pointer (selector_of slot) 0), record old { heap = heap })
+    | Err refusals.Fixed ↦ (Dword (far_pointer (selector_of slot) 0), old)
+    | Err _ ↦ (Dword 0, old)
+  ]
+
+  use_lock : o.locks < 255 → new ≡ (global_lock old handle).1 → IsNewestOf slot old.heap.order new.heap.order
+  use_lock few e = ap (λ (h : Handles). h.heap.order) e
+      ∙ ap (λ (s : Option ℕ). (elim s as (λ _. Answer × Handles) [ None ↦ (Dword 0, old) | Some slot ↦ lock_outcome slot (after_lock old.heap slot) ]).1.heap.order) found
+      ∙ ap (λ r. (lock_outcome slot r).1.heap.order) (locked few)
+      ∙ ap (λ b. cond {A = List ℕ} b (newest slot old.heap.order) old.heap.order) member
+
+  may : refused_order old.heap slot ≡ None
+  may = ap (λ (p : Option Object). elim p as (λ _. Option Refusal) [
+    | None ↦ Some refusals.Absent
+    | Some o ↦ cond (not (is_some o.bytes)) (Some refusals.Absent) (cond (is_discardable o.kind) None (Some refusals.NotDiscardable))
+  ]) there ∙ ap (λ b. cond {A = Option Refusal} (not b) (Some refusals.Absent) (cond (is_discardable o.kind) None (Some refusals.NotDiscardable))) parts.1
+      ∙ ap (λ b. cond {A = Option Refusal} b None (Some refusals.NotDiscardable)) parts.0
+
+  abbrev order_outcome : Result Heap Refusal → Answer × Handles
+  order_outcome r = elim r [ Ok heap ↦ (Word handle, record old { heap = heap }) | Err _ ↦ (Word 0, old) ]
+
+  use_order : (order : ℕ → List ℕ → List ℕ)
+      → new ≡ (handle_or_0 (λ heap id. elim (refused_order heap id) [ Some refusal ↦ Err refusal | None ↦ Ok (record heap { order = order id heap.order }) ]) old handle).1 → new.heap.order ≡ order slot old.heap.order
+  use_order order e = ap (λ (h : Handles). h.heap.order) e
+      ∙ ap (λ (s : Option ℕ). (elim s as (λ _. Answer × Handles) [
+        | None ↦ (Word 0, old)
+        | Some slot ↦ order_outcome (elim (refused_order old.heap slot) [ Some refusal ↦ Err refusal | None ↦ Ok (record old.heap { order = order slot old.heap.order }) ])
+      ]).1.heap.order) found
+      ∙ ap (λ (f : Option Refusal). (order_outcome (elim f [ Some refusal ↦ Err refusal | None ↦ Ok (record old.heap { order = order slot old.heap.order }) ])).1.heap.order) may
+
+pub use_law : UseLaw
+use_law old new handle slot o answer is found there listed = (
+  (λ few step. use_lock old new is handle slot o found there listed few step.1),
+  (λ step. use_order old new is handle slot o found there listed newest step.1),
+  (λ step. use_order old new is handle slot o found there listed oldest step.1),
+)

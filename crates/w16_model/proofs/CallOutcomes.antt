@@ -1,0 +1,364 @@
+-- Each call on handles has one of the outcomes.
+use Rattle.std.proofs.Common.{◌≡◌, ℕ, ◌+◌, ◌-◌, ◌≤◌, ◌⊎◌, inl, inr, Bool, true, false, cond, not, ◌||◌, ◌==◌, if◌then◌else◌, MatchBool, MatchOption, IsSomeAnd, IfSome, nat_lt, IfOk, List, [], ◌∷◌, filter, sum_by, Option, Some, None, Result, Ok, Err, is_some, unwrap_or, refl, sym, ap, ◌∙◌, subst, arith, eq-eqb, ltb-false}
+use Rattle.std.specs.FinMap as finmap
+use Rattle.std.proofs.lemmas.Bool.{false≢true}
+use Rattle.w16_model.specs.declared.Block.{Block}
+use Rattle.w16_model.specs.declared.Refusal.{Refusal}
+use Rattle.w16_model.specs.declared.Refusal.TheVariants as refusals
+use Rattle.w16_model.specs.declared.TheConstants.{GMEM_MOVEABLE, GMEM_MODIFY, LARGEST_SIZE}
+use Rattle.w16_model.specs.Heap.{Heap, Object, blocks, object_at, is_fixed, is_discardable}
+use Rattle.w16_model.specs.Changes.{with_object, with_ordered, with_newest, newest, oldest, touched, removed}
+use Rattle.w16_model.specs.Request.{IsNew, Request, Allocates, MakesRoom, Reallocates, most_room, compaction_prefix, prefix_of, moved_bytes, is_elsewhere}
+use Rattle.w16_model.specs.OneObject.{Enters, after_lock, after_unlock, after_free, after_modify, after_discard, refused_order}
+use Rattle.w16_model.specs.Handles.{Handles, AreHandles, slot_of_handle, selector_of, far_pointer, handle_of}
+use Rattle.w16_model.specs.Owned.{owns}
+use Rattle.w16_model.specs.Calls.{HandleCommand, Answer, HandleStep, GlobalAllocs, GlobalCompacts, free_own, global_free, global_lock, global_unlock, handle_or_0, locks_at, way_asked, kind_asked, rounded_size, is_absent_asked, has_flag}
+use Rattle.w16_model.specs.Calls.Answer.{Word, Dword, Walked}
+use Rattle.w16_model.specs.Calls.HandleCommand.{GlobalAlloc, GlobalFree, GlobalLock, GlobalUnlock, GlobalSize, GlobalFlags, GlobalHandle, GetSelectorBase, GetSelectorLimit, GlobalCompact, GlobalLRUNewest, GlobalLRUOldest, Moved, Walk}
+use Rattle.w16_model.specs.Reallocation.{ChangesKind}
+use Rattle.w16_model.specs.Resizes.{way_asked_again, kind_modified, modified, IsNull, Again, AnswersDiscard, Empties, Resizes, ReAllocsOwn, GlobalReAllocs}
+use Rattle.w16_model.specs.Outcomes.{Call, IsNamed, Orders, Outcome, CallOutcomesLaw, counts_moved}
+use Rattle.w16_model.specs.Outcomes.Call.{Calls, ReAllocs}
+use Rattle.w16_model.specs.Outcomes.Outcome.{IsSame, IsUnmoved, IsLocked, IsUnlocked, IsFreed, IsNewest, IsOldest, IsEntered, IsAllocated, IsCompacted, IsModified, IsDiscarded, IsResized}
+use Rattle.w16_model.proofs.Gaps.{Member}
+use Rattle.w16_model.proofs.Heaps.{IsBlockOf, member_block}
+use Rattle.w16_model.proofs.Naming.{names_law}
+use Rattle.w16_model.proofs.KindChanges.{kind_law}
+use Rattle.w16_model.proofs.Absence.{answer as discard_answer, discard_is}
+
+-- Nothing is moved where addresses stay.
+filter_none : {X : Type 0} (p : X → Bool) (xs : List X) → ((x : X) → Member x xs → p x ≡ false) → filter p xs ≡ []
+filter_none p [] h = refl
+filter_none {X} p (x ∷ xs) h = ap (λ b. cond {A = List X} b (x ∷ filter p xs) (filter p xs)) (h x (inl refl)) ∙ filter_none p xs (λ y m. h y (inr m))
+
+none_elsewhere : (at : ℕ) (p : Option ℕ) → at ≡ unwrap_or p 0 → is_elsewhere at p ≡ false
+none_elsewhere at None e = refl
+none_elsewhere at (Some now) e = ap not (eq-eqb now at (sym e))
+
+pub none_moved : (heap new : Heap) → new.places ≡ heap.places → moved_bytes heap new ≡ 0
+none_moved heap new same = ap (λ (xs : List Block). sum_by (λ (x : Block). x.size) xs) (filter_none (λ (x : Block). is_elsewhere x.at (finmap.get new.places x.id)) (blocks heap)
+    (λ x m. ap (λ places. is_elsewhere x.at (finmap.get places x.id)) same ∙ none_elsewhere x.at (finmap.get heap.places x.id) (let b : IsBlockOf heap x = member_block heap x m in b.place)))
+
+-- a choice of two results is good where each is that may be chosen
+if_ok : (P : Heap → Type 0) (b : Bool) (r s : Result Heap Refusal) → (b ≡ true → IfOk r P) → (b ≡ false → IfOk s P) → IfOk (cond b r s) P
+if_ok P true r s f g = f refl
+if_ok P false r s f g = g refl
+
+not_false : (b : Bool) → not b ≡ false → b ≡ true
+not_false true e = refl
+not_false false e = absurd (false≢true (sym e))
+
+none_locked : (n : ℕ) → nat_lt 0 n ≡ false → n ≡ 0
+none_locked n f = let le : n ≤ 0 = ltb-false 0 n f in omega arith
+
+-- another fact of each heap that a step may leave
+pub ok_map : (P Q : Heap → Type 0) (r : Result Heap Refusal) → ((heap : Heap) → P heap → Q heap) → IfOk r P → IfOk r Q
+ok_map P Q (Ok heap) f h = f heap h
+ok_map P Q (Err refusal) f h = tt
+
+-- what one lock more is, and one less
+abbrev pub LockOf : Heap → ℕ → Heap → Type 0
+LockOf heap id next =
+    (o : Object) × (object_at heap id ≡ Some o) × (is_some o.bytes ≡ true) × (is_fixed o.kind ≡ false) × ((o.locks == 255) ≡ false)
+    × (next ≡ with_ordered heap id (record o { locks = o.locks + 1 }) (touched id))
+
+abbrev pub UnlockOf : Heap → ℕ → Heap → Type 0
+UnlockOf heap id next = (next ≡ heap) ⊎ ((o : Object) × (object_at heap id ≡ Some o) × (is_fixed o.kind ≡ false) × (next ≡ with_object heap id (record o { locks = o.locks - 1 })))
+
+pub lock_is : (heap : Heap) (id : ℕ) → IfOk (after_lock heap id) (LockOf heap id)
+lock_is heap id = turn (object_at heap id) refl
+  where
+    turn : (p : Option Object) → object_at heap id ≡ p → IfOk (elim p [
+      | None ↦ Err refusals.Absent
+      | Some o ↦ if not (is_some o.bytes) then Err refusals.Absent
+          else (if is_fixed o.kind then Err refusals.Fixed
+          else (if o.locks == 255 then Err refusals.LockFull
+          else Ok (with_ordered heap id (record o { locks = o.locks + 1 }) (touched id))))
+    ]) (LockOf heap id)
+    turn None e = tt
+    turn (Some o) e =
+        let locked : Result Heap Refusal = Ok (with_ordered heap id (record o { locks = o.locks + 1 }) (touched id)) in
+        if_ok (LockOf heap id) (not (is_some o.bytes)) (Err refusals.Absent) (cond (is_fixed o.kind) (Err refusals.Fixed) (cond (o.locks == 255) (Err refusals.LockFull) locked)) (λ _. tt) (λ has.
+        if_ok (LockOf heap id) (is_fixed o.kind) (Err refusals.Fixed) (cond (o.locks == 255) (Err refusals.LockFull) locked) (λ _. tt) (λ loose.
+        if_ok (LockOf heap id) (o.locks == 255) (Err refusals.LockFull) locked (λ _. tt) (λ some. (o, e, not_false (is_some o.bytes) has, loose, some, refl))))
+
+pub unlock_is : (heap : Heap) (id : ℕ) → IfOk (after_unlock heap id) (UnlockOf heap id)
+unlock_is heap id = turn (object_at heap id) refl
+  where
+    turn : (p : Option Object) → object_at heap id ≡ p → IfOk (elim p [ None ↦ Ok heap | Some o ↦ if is_fixed o.kind then Err refusals.Fixed else Ok (with_object heap id (record o { locks = o.locks - 1 })) ]) (UnlockOf heap id)
+    turn None e = inl refl
+    turn (Some o) e = if_ok (UnlockOf heap id) (is_fixed o.kind) (Err refusals.Fixed) (Ok (with_object heap id (record o { locks = o.locks - 1 }))) (λ _. tt) (λ loose. inr (o, e, loose, refl))
+
+module _ (old : Handles) (call : Call) (reply : Answer) (new : Handles) where
+  -- an outcome of what is left
+  abbrev Out : Type 0
+  Out = Outcome old call reply new
+
+  -- a heap that makes one, if it is what is left
+  abbrev Good : Heap → Type 0
+  Good heap = new ≡ record old { heap = heap } → Out
+
+  -- a handle that is found names an object
+  named : (handle slot : ℕ) → slot_of_handle old handle ≡ Some slot → (o : Object) × IsNamed old handle slot o
+  named handle slot found = turn (object_at old.heap slot) refl ((names_law old handle slot).0.0 found)
+    where
+      turn : (p : Option Object) → object_at old.heap slot ≡ p → IsSomeAnd p (λ o. handle ≡ handle_of o.kind slot) → (o : Object) × IsNamed old handle slot o
+      turn None there h = absurd h
+      turn (Some o) there h = (o, record { found = found; there = there })
+
+  -- GlobalFree
+  abbrev free_outcome : ℕ → ℕ → Result Heap Refusal → Answer × Handles
+  free_outcome handle slot r = elim r [ Ok heap ↦ (Word 0, record old { heap = heap; attributes = finmap.remove old.attributes slot }) | Err _ ↦ (Word handle, old) ]
+
+  frees : (handle : ℕ) → call ≡ Calls (GlobalFree handle) → new ≡ (global_free old handle).1 → Out
+  frees handle asked = by_owner (owns old handle) refl
+    where
+      stays : new ≡ old → Out
+      stays e = IsSame (ap counts_moved asked) e
+
+      found : owns old handle ≡ false → (slot : ℕ) (o : Object) → IsNamed old handle slot o → new ≡ (free_outcome handle slot (after_free old.heap slot)).1 → Out
+      found own slot o n = by_object (object_at old.heap slot) refl
+        where
+          by_lock : (p : Object) → p ≡ o → (b : Bool) → nat_lt 0 p.locks ≡ b → new ≡ (free_outcome handle slot (cond {A = Result Heap Refusal} b (Err refusals.Locked) (Ok (removed old.heap slot)))).1 → Out
+          by_lock p q true t e = stays e
+          by_lock p q false t e = IsFreed (record { handle = handle; slot = slot; object = o; asked = asked; named = n; own = own; unlocked = none_locked o.locks (ap (λ (o : Object). nat_lt 0 o.locks) (sym q) ∙ t); rest = e })
+
+          by_object : (p : Option Object) → object_at old.heap slot ≡ p → new ≡ (free_outcome handle slot (elim p [ None ↦ Ok old.heap | Some o ↦ if nat_lt 0 o.locks then Err refusals.Locked else Ok (removed old.heap slot) ])).1 → Out
+          by_object None there e = let both : ◌≡◌ {A = Option Object} None (Some o) = sym there ∙ n.there in cc
+          by_object (Some p) there e = by_lock p (let both : ◌≡◌ {A = Option Object} (Some p) (Some o) = sym there ∙ n.there in cc) (nat_lt 0 p.locks) refl e
+
+      turn : owns old handle ≡ false → (s : Option ℕ) → slot_of_handle old handle ≡ s → new ≡ (elim s as (λ _. Answer × Handles) [ None ↦ (Word handle, old) | Some slot ↦ free_outcome handle slot (after_free old.heap slot) ]).1 → Out
+      turn own None found_none e = stays e
+      turn own (Some slot) is_found e = let n : (o : Object) × IsNamed old handle slot o = named handle slot is_found in found own slot n.0 n.1 e
+
+      by_owner : (b : Bool) → owns old handle ≡ b → new ≡ (cond {A = Answer × Handles} b (Word handle, old) (free_own old handle)).1 → Out
+      by_owner true own e = stays e
+      by_owner false own e = turn own (slot_of_handle old handle) refl e
+
+  -- GlobalLock
+  abbrev lock_outcome : ℕ → Result Heap Refusal → Answer × Handles
+  lock_outcome slot r = elim r [
+    | Ok heap ↦ (Dword (far_pointer (selector_of slot) 0), record old { heap = heap })
+    | Err refusals.Fixed ↦ (Dword (far_pointer (selector_of slot) 0), old)
+    | Err _ ↦ (Dword 0, old)
+  ]
+
+  locks : (handle : ℕ) → call ≡ Calls (GlobalLock handle) → new ≡ (global_lock old handle).1 → Out
+  locks handle asked = turn (slot_of_handle old handle) refl
+    where
+      stays : new ≡ old → Out
+      stays e = IsSame (ap counts_moved asked) e
+
+      lock_ok : (slot : ℕ) (o : Object) → IsNamed old handle slot o → IfOk (after_lock old.heap slot) Good
+      lock_ok slot o n = ok_map (LockOf old.heap slot) Good (after_lock old.heap slot) (λ heap l left. IsLocked (record {
+        handle = handle;
+        slot = slot;
+        object = l.0;
+        asked = asked;
+        named = record { found = n.found; there = l.1 };
+        has = l.2;
+        loose = l.3;
+        some = l.4;
+        rest = left ∙ ap (λ (h : Heap). record old { heap = h }) l.5;
+      })) (lock_is old.heap slot)
+
+      outcome : (slot : ℕ) (r : Result Heap Refusal) → IfOk r Good → new ≡ (lock_outcome slot r).1 → Out
+      outcome slot (Ok heap) h e = h e
+      outcome slot (Err refusals.Fixed) h e = stays e
+      outcome slot (Err _) h e = stays e
+
+      turn : (s : Option ℕ) → slot_of_handle old handle ≡ s → new ≡ (elim s as (λ _. Answer × Handles) [ None ↦ (Dword 0, old) | Some slot ↦ lock_outcome slot (after_lock old.heap slot) ]).1 → Out
+      turn None is_found e = stays e
+      turn (Some slot) is_found e = let n : (o : Object) × IsNamed old handle slot o = named handle slot is_found in outcome slot (after_lock old.heap slot) (lock_ok slot n.0 n.1) e
+
+  -- GlobalUnlock
+  abbrev unlock_outcome : ℕ → Result Heap Refusal → Answer × Handles
+  unlock_outcome slot r = elim r [ Ok heap ↦ (Word (if nat_lt 0 (locks_at heap slot) then 1 else 0), record old { heap = heap }) | Err _ ↦ (Word 0, old) ]
+
+  unlocks : (handle : ℕ) → call ≡ Calls (GlobalUnlock handle) → new ≡ (global_unlock old handle).1 → Out
+  unlocks handle asked = turn (slot_of_handle old handle) refl
+    where
+      stays : new ≡ old → Out
+      stays e = IsSame (ap counts_moved asked) e
+
+      unlock_ok : (slot : ℕ) (o : Object) → IsNamed old handle slot o → IfOk (after_unlock old.heap slot) Good
+      unlock_ok slot o n = ok_map (UnlockOf old.heap slot) Good (after_unlock old.heap slot) (λ heap u left. by_object heap u left) (unlock_is old.heap slot)
+        where
+          by_object : (heap : Heap) → UnlockOf old.heap slot heap → Good heap
+          by_object heap (inl same) left = stays (left ∙ ap (λ (h : Heap). record old { heap = h }) same)
+          by_object heap (inr u) left = IsUnlocked (record {
+            handle = handle;
+            slot = slot;
+            object = u.0;
+            asked = asked;
+            named = record { found = n.found; there = u.1 };
+            loose = u.2;
+            rest = left ∙ ap (λ (h : Heap). record old { heap = h }) u.3;
+          })
+
+      outcome : (slot : ℕ) (r : Result Heap Refusal) → IfOk r Good → new ≡ (unlock_outcome slot r).1 → Out
+      outcome slot (Ok heap) h e = h e
+      outcome slot (Err _) h e = stays e
+
+      turn : (s : Option ℕ) → slot_of_handle old handle ≡ s → new ≡ (elim s as (λ _. Answer × Handles) [ None ↦ (Word 0, old) | Some slot ↦ unlock_outcome slot (after_unlock old.heap slot) ]).1 → Out
+      turn None is_found e = stays e
+      turn (Some slot) is_found e = let n : (o : Object) × IsNamed old handle slot o = named handle slot is_found in outcome slot (after_unlock old.heap slot) (unlock_ok slot n.0 n.1) e
+
+  -- GlobalLRUNewest and GlobalLRUOldest
+  abbrev order_outcome : ℕ → Result Heap Refusal → Answer × Handles
+  order_outcome handle r = elim r [ Ok heap ↦ (Word handle, record old { heap = heap }) | Err _ ↦ (Word 0, old) ]
+
+  orders : (asks : ℕ → HandleCommand) (order : ℕ → List ℕ → List ℕ) → (Orders old call asks order new → Out) → (handle : ℕ) → counts_moved call ≡ false → call ≡ Calls (asks handle)
+      → new ≡ (handle_or_0 (λ heap id. elim (refused_order heap id) [ Some refusal ↦ Err refusal | None ↦ Ok (record heap { order = order id heap.order }) ]) old handle).1 → Out
+  orders asks order is handle still asked = turn (slot_of_handle old handle) refl
+    where
+      outcome : (slot : ℕ) (o : Object) → IsNamed old handle slot o → (f : Option Refusal) → refused_order old.heap slot ≡ f
+          → new ≡ (order_outcome handle (elim f [ Some refusal ↦ Err refusal | None ↦ Ok (record old.heap { order = order slot old.heap.order }) ])).1 → Out
+      outcome slot o n (Some refusal) may e = IsSame still e
+      outcome slot o n None may e = is (record { handle = handle; slot = slot; object = o; asked = asked; named = n; may = may; rest = e })
+
+      turn : (s : Option ℕ) → slot_of_handle old handle ≡ s → new ≡ (elim s as (λ _. Answer × Handles) [
+        | None ↦ (Word 0, old)
+        | Some slot ↦ order_outcome handle (elim (refused_order old.heap slot) [ Some refusal ↦ Err refusal | None ↦ Ok (record old.heap { order = order slot old.heap.order }) ])
+      ]).1 → Out
+      turn None is_found e = IsSame still e
+      turn (Some slot) is_found e = let n : (o : Object) × IsNamed old handle slot o = named handle slot is_found in outcome slot n.0 n.1 (refused_order old.heap slot) refl e
+
+  -- GlobalAlloc
+  allocates : (flags size handle : ℕ) → call ≡ Calls (GlobalAlloc flags size) → reply ≡ Word handle → GlobalAllocs old flags size handle new → Out
+  allocates flags size handle asked says (inl refused) = IsUnmoved (ap counts_moved asked) refused.2
+  allocates flags size handle asked says (inr a) = made (is_absent_asked flags size) a.made
+    where
+      made : (b : Bool) → MatchBool b (Enters old.heap a.slot (kind_asked flags) new.heap) (Allocates old.heap a.slot (rounded_size size) (kind_asked flags) 0 (way_asked flags) true new.heap) → Out
+      made true entered = IsEntered (record { flags = flags; size = size; slot = a.slot; asked = asked; answered = says ∙ ap Word a.named; free = a.free; entered = entered; rest = a.rest })
+      made false allocated = settled (prefix_of old.heap (rounded_size size) (Some a.slot) (way_asked flags)) allocated.request
+        where
+          settled : (p : Option ℕ) → Request old.heap a.slot (record { way = way_asked flags; prefix = p; becomes = IsNew (way_asked flags).zero (rounded_size size) (kind_asked flags) 0; order = with_newest a.slot }) true new.heap → Out
+          settled None r = absurd (false≢true (sym r.0))
+          settled (Some k) r = IsAllocated (record { flags = flags; size = size; slot = a.slot; count = k; object = r.1.0; asked = asked; answered = says ∙ ap Word a.named; free = a.free; is_new = r.1.1; settled = r.1.2; rest = a.rest })
+
+  -- GlobalCompact
+  compacts : (size longest : ℕ) → call ≡ Calls (GlobalCompact size) → reply ≡ Dword longest → GlobalCompacts old size longest new → Out
+  compacts size longest asked says c = turn (size == 0) c.compacted
+    where
+      turn : (b : Bool) → MatchBool b ((longest ≡ most_room old.heap) × (new.heap ≡ old.heap)) (MakesRoom old.heap size longest new.heap) → Out
+      turn true h = IsUnmoved (ap counts_moved asked) (c.rest ∙ (λ i. record old { heap = h.1 i; moved = moved_bytes old.heap (h.1 i) }) ∙ ap (λ n. record old { moved = n }) (none_moved old.heap old.heap refl))
+      turn false h = IsCompacted (record { size = size; count = compaction_prefix old.heap size; longest = longest; asked = asked; answered = says; settled = h.settled; rest = c.rest })
+
+  -- GlobalReAlloc and GlobalDiscard
+  module _ (is : AreHandles old) (handle size flags answer : ℕ) (asked : call ≡ ReAllocs handle size flags) (says : reply ≡ Word answer) where
+    null : IsNull old answer new → Out
+    null g = IsUnmoved (ap counts_moved asked) g.1
+
+    left : (heap : Heap) → Again old handle heap answer new → heap ≡ new.heap
+    left heap g = sym (ap (λ (h : Handles). h.heap) g.1)
+
+    rest : (heap : Heap) → Again old handle heap answer new → new ≡ record old { heap = new.heap; moved = moved_bytes old.heap new.heap }
+    rest heap g = g.1 ∙ ap (λ (h : Heap). record old { heap = h; moved = moved_bytes old.heap h }) (left heap g)
+
+    unmoved : (heap : Heap) → heap ≡ old.heap → Again old handle heap answer new → Out
+    unmoved heap e g = IsUnmoved (ap counts_moved asked) (g.1 ∙ (λ i. record old { heap = e i; moved = moved_bytes old.heap (e i) }) ∙ ap (λ n. record old { moved = n }) (none_moved old.heap old.heap refl))
+
+    -- what a change of kind does to an object
+    abbrev Law : ℕ → Object → Type 0
+    Law slot o =
+        ((is_fixed o.kind || is_fixed (kind_modified flags)) ≡ true → after_modify old.heap slot (kind_modified flags) ≡ Err refusals.Fixed)
+        × ((is_fixed o.kind || is_fixed (kind_modified flags)) ≡ false → (new : Heap) × (after_modify old.heap slot (kind_modified flags) ≡ Ok new) × ChangesKind old.heap slot o (kind_modified flags) new)
+
+    modifies : owns old handle ≡ false → (slot : ℕ) (o : Object) → IsNamed old handle slot o → Again old handle (modified old.heap slot (kind_modified flags)) answer new → Out
+    modifies own slot o n g = turn (is_fixed o.kind || is_fixed (kind_modified flags)) refl (subst (λ p. IfSome p (Law slot)) n.there (kind_law old.heap slot (kind_modified flags) is.heap))
+      where
+        turn : (b : Bool) → (is_fixed o.kind || is_fixed (kind_modified flags)) ≡ b → Law slot o → Out
+        turn true t law = unmoved (modified old.heap slot (kind_modified flags)) (ap (λ (r : Result Heap Refusal). elim r [ Ok new ↦ new | Err _ ↦ old.heap ]) (law.0 t)) g
+        turn false t law =
+            let c : (heap : Heap) × (after_modify old.heap slot (kind_modified flags) ≡ Ok heap) × ChangesKind old.heap slot o (kind_modified flags) heap = law.1 t in
+            let same : c.0 ≡ new.heap = sym (ap (λ (r : Result Heap Refusal). elim r [ Ok new ↦ new | Err _ ↦ old.heap ]) c.1) ∙ left (modified old.heap slot (kind_modified flags)) g in
+            IsModified (record {
+              handle = handle;
+              size = size;
+              flags = flags;
+              slot = slot;
+              object = o;
+              asked = asked;
+              answered = says ∙ ap Word g.0;
+              named = n;
+              own = own;
+              modified = subst (λ (h : Heap). after_modify old.heap slot (kind_modified flags) ≡ Ok h) same c.1;
+              changes = subst (ChangesKind old.heap slot o (kind_modified flags)) same c.2;
+              rest = rest (modified old.heap slot (kind_modified flags)) g;
+            })
+
+    discards : owns old handle ≡ false → (slot : ℕ) (o : Object) → IsNamed old handle slot o → AnswersDiscard old handle answer new (after_discard old.heap slot) → Out
+    discards own slot o n g = turn (nat_lt 0 o.locks) (is_discardable o.kind) refl refl (subst (AnswersDiscard old handle answer new) (discard_is old.heap slot (Some o) n.there) g)
+      where
+        turn : (locked discardable : Bool) → nat_lt 0 o.locks ≡ locked → is_discardable o.kind ≡ discardable → AnswersDiscard old handle answer new (discard_answer old.heap slot locked discardable) → Out
+        turn true discardable t d g = null g
+        turn false true t d g = IsDiscarded (record { handle = handle; size = size; flags = flags; slot = slot; object = o; asked = asked; answered = says ∙ ap Word g.0; named = n; own = own; unlocked = none_locked o.locks t; discardable = d; rest = g.1 })
+        turn false false t d g = null g
+
+    reallocates : GlobalReAllocs old handle size flags answer new → Out
+    reallocates step = by_owner (owns old handle) refl step
+      where
+        empties : owns old handle ≡ false → (slot : ℕ) (o : Object) → IsNamed old handle slot o → (m : Bool) → MatchBool m (AnswersDiscard old handle answer new (after_discard old.heap slot)) (IsNull old answer new) → Out
+        empties own slot o n true g = discards own slot o n g
+        empties own slot o n false g = null g
+
+        answers : (has_flag flags GMEM_MODIFY ≡ false) × ((size == 0) ≡ false) → owns old handle ≡ false → (slot : ℕ) (o : Object) → IsNamed old handle slot o → (answered : Bool) (heap : Heap) → Reallocates old.heap slot (rounded_size size) (way_asked_again flags) answered heap → MatchBool answered (Again old handle heap answer new) (IsNull old answer new) → Out
+        answers a own slot o n true heap r g = IsResized (record {
+          handle = handle;
+          size = size;
+          flags = flags;
+          slot = slot;
+          object = o;
+          asked = asked;
+          answered = says ∙ ap Word g.0;
+          named = n;
+          own = own;
+          sized = a;
+          resized = subst (Reallocates old.heap slot (rounded_size size) (way_asked_again flags) true) (left heap g) r;
+          rest = rest heap g;
+        })
+        answers a own slot o n false heap r g = null g
+
+        resizes : (has_flag flags GMEM_MODIFY ≡ false) × ((size == 0) ≡ false) → owns old handle ≡ false → (slot : ℕ) (o : Object) → IsNamed old handle slot o → (long : Bool) → MatchBool long (IsNull old answer new) ((answered : Bool) × (heap : Heap) × Reallocates old.heap slot (rounded_size size) (way_asked_again flags) answered heap × MatchBool answered (Again old handle heap answer new) (IsNull old answer new)) → Out
+        resizes a own slot o n true g = null g
+        resizes a own slot o n false g = answers a own slot o n g.0 g.1 g.2 g.3
+
+        sized : has_flag flags GMEM_MODIFY ≡ false → owns old handle ≡ false → (slot : ℕ) (o : Object) → IsNamed old handle slot o → (none : Bool) → (size == 0) ≡ none → MatchBool none (Empties old handle slot flags answer new) (Resizes old handle slot flags size answer new) → Out
+        sized m own slot o n true z g = empties own slot o n (has_flag flags GMEM_MOVEABLE) g
+        sized m own slot o n false z g = resizes (m, z) own slot o n (nat_lt LARGEST_SIZE size) g
+
+        by_modify : owns old handle ≡ false → (slot : ℕ) (o : Object) → IsNamed old handle slot o → (m : Bool) → has_flag flags GMEM_MODIFY ≡ m → MatchBool m (Again old handle (modified old.heap slot (kind_modified flags)) answer new) (MatchBool (size == 0) (Empties old handle slot flags answer new) (Resizes old handle slot flags size answer new)) → Out
+        by_modify own slot o n true m g = modifies own slot o n g
+        by_modify own slot o n false m g = sized m own slot o n (size == 0) refl g
+
+        turn : owns old handle ≡ false → (p : Option ℕ) → slot_of_handle old handle ≡ p → MatchOption p (IsNull old answer new) (λ slot. MatchBool (has_flag flags GMEM_MODIFY) (Again old handle (modified old.heap slot (kind_modified flags)) answer new) (MatchBool (size == 0) (Empties old handle slot flags answer new) (Resizes old handle slot flags size answer new))) → Out
+        turn own None is_found g = null g
+        turn own (Some slot) is_found g = let n : (o : Object) × IsNamed old handle slot o = named handle slot is_found in by_modify own slot n.0 n.1 (has_flag flags GMEM_MODIFY) refl g
+
+        by_owner : (b : Bool) → owns old handle ≡ b → MatchBool b (IsNull old answer new) (ReAllocsOwn old handle size flags answer new) → Out
+        by_owner true own g = null g
+        by_owner false own g = turn own (slot_of_handle old handle) refl g
+
+-- Each call has an outcome; one that asks for no other size or kind has one in any handles.
+pub call_outcome : (old new : Handles) (command : HandleCommand) (answer : Answer) → HandleStep old command answer new → Outcome old (Calls command) answer new
+call_outcome old new (GlobalAlloc flags size) (Word handle) step = allocates old (Calls (GlobalAlloc flags size)) (Word handle) new flags size handle refl refl step
+call_outcome old new (GlobalFree handle) answer step = frees old (Calls (GlobalFree handle)) answer new handle refl step.1
+call_outcome old new (GlobalLock handle) answer step = locks old (Calls (GlobalLock handle)) answer new handle refl step.1
+call_outcome old new (GlobalUnlock handle) answer step = unlocks old (Calls (GlobalUnlock handle)) answer new handle refl step.1
+call_outcome old new (GlobalSize handle) answer step = IsSame refl step.1
+call_outcome old new (GlobalFlags handle) answer step = IsSame refl step.1
+call_outcome old new (GlobalHandle selector) answer step = IsSame refl step.1
+call_outcome old new (GetSelectorBase selector) answer step = IsSame refl step.1
+call_outcome old new (GetSelectorLimit selector) answer step = IsSame refl step.1
+call_outcome old new (GlobalCompact size) (Dword longest) step = compacts old (Calls (GlobalCompact size)) (Dword longest) new size longest refl refl step
+call_outcome old new (GlobalLRUNewest handle) answer step = orders old (Calls (GlobalLRUNewest handle)) answer new GlobalLRUNewest newest IsNewest handle refl refl step.1
+call_outcome old new (GlobalLRUOldest handle) answer step = orders old (Calls (GlobalLRUOldest handle)) answer new GlobalLRUOldest oldest IsOldest handle refl refl step.1
+call_outcome old new Moved answer step = IsSame refl step.1
+call_outcome old new Walk (Walked count) step = IsSame refl step.3
+call_outcome old new command answer step = absurd step
+
+pub outcome : CallOutcomesLaw
+outcome old new (Calls command) answer is step = call_outcome old new command answer step
+outcome old new (ReAllocs handle size flags) (Word answer) is step = reallocates old (ReAllocs handle size flags) (Word answer) new is handle size flags answer refl refl step
+outcome old new call answer is step = absurd step

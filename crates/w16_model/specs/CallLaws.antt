@@ -1,0 +1,200 @@
+-- The laws of each step on handles: what it keeps, what it counts, how it orders, what happens to objects that it isn't about. None says what
+-- the definitions of the calls say: each counts, lists and compares once more.
+use Rattle.std.specs.Prelude.{◌==◌, ◌&&◌, ◌≡◌, ◌≢◌, ℕ, ◌+◌, ◌<◌, ◌≤◌, ◌⊎◌, ◌↔◌, Bool, true, false, not, List, [], ◌∷◌, ◌++◌, length, take, drop, sum_by, AllPairs, Option, Some, None, IsSomeAnd, is_some, option_map, unwrap_or}
+use Rattle.std.specs.FinMap as finmap
+use Rattle.w16_model.specs.declared.Kind.TheVariants.{Discardable}
+use Rattle.w16_model.specs.declared.TheConstants.{GMEM_MOVEABLE, GMEM_NOCOMPACT, GMEM_MODIFY}
+use Rattle.w16_model.specs.Bytes.{part, repeated}
+use Rattle.w16_model.specs.Discards.{is_member}
+use Rattle.w16_model.specs.Heap.{Heap, Object, object_at, bytes_at, is_in_order, is_pinned_object}
+use Rattle.w16_model.specs.Changes.{without}
+use Rattle.w16_model.specs.Handles.{Handles, AreHandles, slot_of_handle, slot_of_selector, selector_in, offset_in}
+use Rattle.w16_model.specs.Law.{StandsStill}
+use Rattle.w16_model.specs.Reallocation.{without_all}
+use Rattle.w16_model.specs.Calls.{Answer, HandleStep, AnswersAlloc, has_flag}
+use Rattle.w16_model.specs.Calls.Answer.{Word}
+use Rattle.w16_model.specs.Calls.HandleCommand.{GlobalAlloc, GlobalFree, GlobalLock, GlobalUnlock, GlobalCompact, GlobalLRUNewest, GlobalLRUOldest}
+use Rattle.w16_model.specs.Far.{FarCommand, FarAnswer, FarStep}
+use Rattle.w16_model.specs.Far.FarCommand.{Read, Write, Fill}
+use Rattle.w16_model.specs.Far.FarAnswer.{Bytes, Done, Fault}
+use Rattle.w16_model.specs.Outcomes.{Call, CallStep, counts_moved}
+use Rattle.w16_model.specs.Outcomes.Call.{Calls, ReAllocs}
+
+-- Which object a call is about.
+
+-- the handle that a call names
+abbrev pub handle_in : Call → Option ℕ
+handle_in (Calls (GlobalFree handle)) = Some handle
+handle_in (Calls (GlobalLock handle)) = Some handle
+handle_in (Calls (GlobalUnlock handle)) = Some handle
+handle_in (Calls (GlobalLRUNewest handle)) = Some handle
+handle_in (Calls (GlobalLRUOldest handle)) = Some handle
+handle_in (Calls command) = None
+handle_in (ReAllocs handle size flags) = Some handle
+
+abbrev pub IsAbout : Handles → Call → ℕ → Type 0
+IsAbout old call q = IsSomeAnd (handle_in call) (λ handle. slot_of_handle old handle ≡ Some q)
+
+-- What is kept.
+
+-- whether a call may change an address, a byte or a share bit: one that asks for room or another size, or frees
+abbrev pub may_change : Call → Bool
+may_change (Calls (GlobalAlloc flags size)) = true
+may_change (Calls (GlobalFree handle)) = true
+may_change (Calls (GlobalCompact size)) = true
+may_change (Calls command) = false
+may_change (ReAllocs handle size flags) = true
+
+pub record KeepsContents (old new : Handles) : Type 0 where
+  pub addresses : new.heap.places ≡ old.heap.places
+  pub bytes : (q : ℕ) → bytes_at new.heap q ≡ bytes_at old.heap q
+  -- whether others share an object, and whose it is
+  pub attributes : new.attributes ≡ old.attributes
+
+-- every other call keeps them all
+abbrev pub ContentsLaw : Type 0
+ContentsLaw = (old new : Handles) (call : Call) (answer : Answer) → AreHandles old → may_change call ≡ false → CallStep old call answer new → KeepsContents old new
+
+-- and each call keeps the slots and the memory
+abbrev pub SlotsLaw : Type 0
+SlotsLaw = (old new : Handles) (call : Call) (answer : Answer) → AreHandles old → CallStep old call answer new → (new.slots ≡ old.slots) × (new.heap.lo ≡ old.heap.lo) × (new.heap.hi ≡ old.heap.hi)
+
+-- The bytes moved.
+
+-- an object has bytes before and after, at two addresses
+abbrev pub IsMoved : Heap → Heap → ℕ → Type 0
+IsMoved old new q = (from : ℕ) × (to : ℕ) × (finmap.get old.places q ≡ Some from) × (finmap.get new.places q ≡ Some to) × (from ≢ to)
+
+abbrev pub size_at : Heap → ℕ → ℕ
+size_at heap q = unwrap_or (option_map length (bytes_at heap q)) 0
+
+-- n is the sum of the sizes of all such, each counted once
+pub record IsSumOfMoved (old new : Heap) (n : ℕ) : Type 0 where
+  pub ids : List ℕ
+  pub once : AllPairs (λ a b. a ≡ b → ⊥) ids
+  pub each : (q : ℕ) → (is_member q ids ≡ true) ↔ IsMoved old new q
+  pub sum : n ≡ sum_by (size_at old) ids
+
+-- the three calls that count tell it, and 0 where they are refused; no other call changes it
+pub record CountsMoved (old : Handles) (call : Call) (answer : Answer) (new : Handles) : Type 0 where
+  pub counted : counts_moved call ≡ true → IsSumOfMoved old.heap new.heap new.moved
+  pub refused : counts_moved call ≡ true → answer ≡ Word 0 → new.moved ≡ 0
+  pub other : counts_moved call ≡ false → new.moved ≡ old.moved
+
+abbrev pub MovedLaw : Type 0
+MovedLaw = (old new : Handles) (call : Call) (answer : Answer) → AreHandles old → CallStep old call answer new → CountsMoved old call answer new
+
+-- The order of use.
+
+-- an object is the newest, or the oldest, and the others stand as they did
+abbrev pub IsNewestOf : ℕ → List ℕ → List ℕ → Type 0
+IsNewestOf id old new = new ≡ without id old ++ id ∷ []
+
+abbrev pub IsOldestOf : ℕ → List ℕ → List ℕ → Type 0
+IsOldestOf id old new = new ≡ id ∷ without id old
+
+-- of an object in the order, locked or not: a lock that is counted and GlobalLRUNewest make it the newest, GlobalLRUOldest the oldest
+abbrev pub UseLaw : Type 0
+UseLaw = (old new : Handles) (handle slot : ℕ) (o : Object) (answer : Answer) → AreHandles old → slot_of_handle old handle ≡ Some slot → object_at old.heap slot ≡ Some o → is_in_order (Some o) ≡ true
+    → (o.locks < 255 → HandleStep old (GlobalLock handle) answer new → IsNewestOf slot old.heap.order new.heap.order)
+    × (HandleStep old (GlobalLRUNewest handle) answer new → IsNewestOf slot old.heap.order new.heap.order)
+    × (HandleStep old (GlobalLRUOldest handle) answer new → IsOldestOf slot old.heap.order new.heap.order)
+
+-- what is discarded leaves the order, and nothing else changes in it
+pub record OnlyLeave (new : Heap) (order after : List ℕ) : Type 0 where
+  pub gone : List ℕ
+  pub without_bytes : (q : ℕ) → is_member q gone ≡ true → bytes_at new q ≡ None
+  pub order_is : after ≡ without_all gone order
+
+-- an allocated object is the newest of those that are left, where it is in the order
+abbrev pub NewObjectLaw : Type 0
+NewObjectLaw = (old new : Handles) (flags size handle : ℕ) → AreHandles old → (a : AnswersAlloc old flags size handle new) → is_in_order (object_at new.heap a.slot) ≡ true
+    → (left : List ℕ) × OnlyLeave new.heap old.heap.order left × IsNewestOf a.slot left new.heap.order
+
+-- whether a call may give an object another place
+abbrev pub may_order : Call → Bool
+may_order (Calls (GlobalAlloc flags size)) = true
+may_order (Calls (GlobalLock handle)) = true
+may_order (Calls (GlobalLRUNewest handle)) = true
+may_order (Calls (GlobalLRUOldest handle)) = true
+may_order (Calls command) = false
+may_order (ReAllocs handle size flags) = true
+
+-- every other call only takes out what has no bytes any more
+abbrev pub UnorderedLaw : Type 0
+UnorderedLaw = (old new : Handles) (call : Call) (answer : Answer) → AreHandles old → may_order call ≡ false → CallStep old call answer new → OnlyLeave new.heap old.heap.order new.heap.order
+
+-- and every call leaves those that it isn't about as they stand, an object that comes new apart
+abbrev pub OthersOrderLaw : Type 0
+OthersOrderLaw = (old new : Handles) (call : Call) (answer : Answer) → AreHandles old → CallStep old call answer new
+    → OnlyLeave new.heap old.heap.order new.heap.order ⊎ ((slot : ℕ) × (IsAbout old call slot ⊎ (object_at old.heap slot ≡ None)) × OnlyLeave new.heap (without slot old.heap.order) (without slot new.heap.order))
+
+-- Objects that a call isn't about.
+
+-- an object is as it was; or it was discardable and not locked, and has lost its bytes alone, by a call that asks for room
+abbrev pub IsKeptOrDiscarded : Heap → Heap → ℕ → Type 0
+IsKeptOrDiscarded old new q =
+    (object_at new q ≡ object_at old q)
+    ⊎ IsSomeAnd (object_at old q) (λ o. (o.kind ≡ Discardable) × (o.locks ≡ 0) × (is_some o.bytes ≡ true) × (object_at new q ≡ Some (record o { bytes = None })))
+
+-- each object that a call isn't about is so
+abbrev pub BystandersLaw : Type 0
+BystandersLaw = (old new : Handles) (call : Call) (answer : Answer) (q : ℕ) → AreHandles old → CallStep old call answer new → is_some (object_at old.heap q) ≡ true → (IsAbout old call q → ⊥) → IsKeptOrDiscarded old.heap new.heap q
+
+-- whether a call may move a fixed or locked object, or take it away: its own reallocation with GMEM_MOVEABLE to a size above 0, and GlobalFree
+abbrev pub may_move_own : Call → Bool
+may_move_own (Calls (GlobalFree handle)) = true
+may_move_own (Calls command) = false
+may_move_own (ReAllocs handle size flags) = has_flag flags GMEM_MOVEABLE && (not (has_flag flags GMEM_MODIFY) && not (size == 0))
+
+-- every other call leaves it where it stands
+abbrev pub PinnedStayLaw : Type 0
+PinnedStayLaw = (old new : Handles) (call : Call) (answer : Answer) (q : ℕ) → AreHandles old → CallStep old call answer new → IsSomeAnd (object_at old.heap q) (λ o. is_pinned_object o ≡ true)
+    → (may_move_own call ≡ true → IsAbout old call q → ⊥) → StandsStill old.heap new.heap q
+
+-- whether a call may move objects that it isn't about: one that asks for room, without GMEM_NOCOMPACT
+abbrev pub may_move_others : Call → Bool
+may_move_others (Calls (GlobalAlloc flags size)) = not (has_flag flags GMEM_NOCOMPACT)
+may_move_others (Calls (GlobalCompact size)) = true
+may_move_others (Calls command) = false
+may_move_others (ReAllocs handle size flags) = not (has_flag flags GMEM_NOCOMPACT)
+
+-- every other leaves them where they stand
+abbrev pub StillLaw : Type 0
+StillLaw = (old new : Handles) (call : Call) (answer : Answer) (q : ℕ) → AreHandles old → CallStep old call answer new → may_move_others call ≡ false → is_some (object_at old.heap q) ≡ true → (IsAbout old call q → ⊥) → StandsStill old.heap new.heap q
+
+-- Far accesses.
+
+-- bytes with a slice at a place, and all other bytes as they were
+pub record IsWritten (before : List ℕ) (at : ℕ) (slice after : List ℕ) : Type 0 where
+  pub fits : at + length slice ≤ length before
+  pub long : length after ≡ length before
+  pub below : take at after ≡ take at before
+  pub written : part after at (length slice) ≡ slice
+  pub above : drop (at + length slice) after ≡ drop (at + length slice) before
+
+-- what an access that isn't refused leaves: its object with bytes such as these, every other object, every address, and the rest; its object
+-- is the newest where it is in the order
+pub record Reaches (old : Handles) (selector : ℕ) (becomes : List ℕ → List ℕ → Type 0) (new : Handles) : Type 0 where
+  pub slot : ℕ
+  pub found : slot_of_selector old selector ≡ Some slot
+  pub object : IsSomeAnd (object_at old.heap slot) (λ o. IsSomeAnd o.bytes (λ bytes. (after : List ℕ) × becomes bytes after × (object_at new.heap slot ≡ Some (record o { bytes = Some after }))))
+  pub others : (q : ℕ) → q ≢ slot → object_at new.heap q ≡ object_at old.heap q
+  pub newest : is_in_order (object_at old.heap slot) ≡ true → IsNewestOf slot old.heap.order new.heap.order
+  pub unlisted : is_in_order (object_at old.heap slot) ≡ false → new.heap.order ≡ old.heap.order
+  pub rest : new ≡ record old { heap = record old.heap { objects = new.heap.objects; order = new.heap.order } }
+
+-- a read answers these bytes and changes none; a write puts its bytes there; a fault changes nothing
+abbrev pub FarEffect : Handles → FarCommand → FarAnswer → Handles → Type 0
+FarEffect old command (Fault fault) new = new ≡ old
+FarEffect old (Read pointer count) (Bytes bytes) new = Reaches old (selector_in pointer) (λ before after. (after ≡ before) × (bytes ≡ part before (offset_in pointer) count)) new
+FarEffect old (Write pointer slice) Done new = Reaches old (selector_in pointer) (λ before after. IsWritten before (offset_in pointer) slice after) new
+FarEffect old (Fill pointer count byte) Done new = Reaches old (selector_in pointer) (λ before after. IsWritten before (offset_in pointer) (repeated count byte) after) new
+FarEffect old command answer new = ⊥
+
+abbrev pub FarEffectLaw : Type 0
+FarEffectLaw = (old new : Handles) (command : FarCommand) (answer : FarAnswer) → AreHandles old → FarStep old command answer new → FarEffect old command answer new
+
+-- what was written is read back
+abbrev pub ReadBackLaw : Type 0
+ReadBackLaw = (old mid new : Handles) (pointer : ℕ) (slice : List ℕ) (answer : FarAnswer) → AreHandles old → FarStep old (Write pointer slice) Done mid → FarStep mid (Read pointer (length slice)) answer new → answer ≡ Bytes slice

@@ -1,7 +1,0 @@
-use Rattle.w16_selectors.proofs.Represented.{IsKept-written, AreTaken-written}
-use Rattle.w16_selectors.proofs.Selectors.set.Goals as goal
-
-pub invariant_of-self : goal.invariant_of-self
-invariant_of-self c =
-    let taken = rw (← c.self.view_is) at c.requires.taken in
-    (IsKept-written _ _ _ _ c.self.invariant.0 taken c.requires.inside, AreTaken-written _ _ _ c.args.descriptor c.self.invariant.1 taken)
