@@ -104,7 +104,7 @@ module _ (old : LoadingWorld) (is : IsLoadingWorld old) where
 
   -- by what is printed of them
   module _ (command : HandleCommand) (reply : Reply) (next : Handles) (step : HandleReplies old.handles command reply next) where
-    answered : (answer : Answer) × CallStep old.handles (Calls command) answer next
+    pub answered : (answer : Answer) × CallStep old.handles (Calls command) answer next
     answered = some_of (λ answer. CallStep old.handles (Calls command) answer next) (answer_in reply) step
 
     pub handles_world : IsLoadingWorld (record old { handles = next })

@@ -45,7 +45,7 @@ module _ (old : Heap) (slot : ℕ) (bytes : List ℕ) (new : Heap) where
   as_any may_fail (Some faults.Damaged) f = (bytes, refl, (refl, f.1))
 
   module _ (f : Fills old slot bytes true new) where
-    settled_so : (k : ℕ) × (o : Object) × Settles old (stays_for slot any_way) (with_ordered (discarded old k (Some slot)) slot o (with_newest slot o)) new
+    pub settled_so : (k : ℕ) × (o : Object) × Settles old (stays_for slot any_way) (with_ordered (discarded old k (Some slot)) slot o (with_newest slot o)) new
     settled_so = settled old slot any_way (prefix_of old (length bytes) (Some slot) any_way) (λ o. o ≡ record f.before { bytes = Some bytes }) (with_newest slot) new f.request
 
     -- an object that was filled is as before, with these bytes

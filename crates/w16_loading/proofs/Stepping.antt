@@ -65,7 +65,7 @@ with_count old slot load count = record old { loads = finmap.insert old.loads sl
 abbrev pub without_load : LoadingWorld → ℕ → LoadingWorld
 without_load old slot = record (without_objects (λ q. q == slot) old) { loads = finmap.remove old.loads slot }
 
-abbrev freed_by : LoadingWorld → Option (ℕ × Load) → ℕ × LoadingWorld
+abbrev pub freed_by : LoadingWorld → Option (ℕ × Load) → ℕ × LoadingWorld
 freed_by old p = elim p [
   | None ↦ (1, old)
   | Some x ↦ cond {A = ℕ × LoadingWorld} (nat_lt 1 x.1.loads) (0, with_count old x.0 x.1 (x.1.loads - 1)) (cond {A = ℕ × LoadingWorld} (nat_lt 0 (locks_at old.handles.heap x.0)) (1, old) (0, without_load old x.0))

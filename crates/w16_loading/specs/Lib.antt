@@ -14,5 +14,6 @@ pub mod Families
 pub mod AnyStore
 pub mod Law
 pub mod Owner
+pub mod Bystanders
 pub mod Codes
 pub mod Fewest

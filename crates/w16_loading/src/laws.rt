@@ -1,4 +1,5 @@
 //! The laws of the definitions. Each function does nothing: its contract is the law.
+ghost use Rattle.w16_loading.specs.Bystanders.{StepBystandersLaw, StepPinnedLaw};
 ghost use Rattle.w16_loading.specs.Fewest.{FetchFewestLaw, LoadFewestLaw, RequestsFewestLaw};
 ghost use Rattle.w16_loading.specs.Law.{AnyKeepsWorldsLaw, AnyRefusedLoadLaw, BoundAlikeLaw, BoundOnceLaw, CallsKeepWorldsLaw, ClosureEndsLaw, CodeLaw, CodeReadsLaw, EarlyRefusalLaw, EmptyLaw, EmptyOfFilesLaw, FetchAgainLaw, FetchFaultsLaw, FetchLaw, FetchRefusedLaw, FillLaw, FillsLaw, IsAnyStepLaw, KeepsWorldsLaw, OneClosureLaw, OneEndLaw, OwnersLaw, ReadsNoFilesLaw, RefusedLoadLaw, SlotsLaw, TakenBackLaw, UndoneLaw, UsesApartLaw, ValuesLaw};
 ghost use Rattle.w16_loading.specs.Owner.{OwnerLaw};
@@ -166,4 +167,12 @@ pub fn values_depend_on_no_values()
 /// So a load may bind its modules one after another, whichever have values already.
 pub fn loads_bind_by_names_alone()
     ensures { BoundAlikeLaw }
+{}
+
+/// Whatever the store answers, an object that a step isn't about stays as it is; or it is discardable and not locked, and loses its bytes
+/// alone; or it is gone with its module or resource. A fixed or locked one keeps its address through every step but its own reallocation and
+/// freeing.
+pub fn steps_keep_bystanders()
+    ensures bystanders { StepBystandersLaw }
+    ensures pinned { StepPinnedLaw }
 {}

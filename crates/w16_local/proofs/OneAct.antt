@@ -11,12 +11,13 @@ use Rattle.w16_model.specs.OneObject.{after_discard, after_free}
 use Rattle.w16_model.specs.Reallocation.{KeepsRest}
 use Rattle.w16_model.specs.Arrangement.{IsLongestStretch}
 use Rattle.w16_model.specs.Fewest.{CompactsFewest, IsMostAfter, MakesMost}
-use Rattle.w16_model.specs.Request.{Allocates, Compacts, eligible_count, IsNew, MakesRoom, Reallocates, compaction_prefix, most_room, prefix_of}
+use Rattle.w16_model.specs.Request.{Allocates, Compacts, eligible_count, IsNew, MakesRoom, Reallocates, compaction_prefix, most_room, moved_bytes, prefix_of}
 use Rattle.w16_model.specs.Table.{Table, IsSameOutside, IsSound, block_with, entry_at, heap_in}
 use Rattle.w16_model.proofs.KeptRest.{rest_law}
 use Rattle.w16_model.proofs.Others.{others_law}
 use Rattle.w16_model.proofs.Reallocations.{asked}
 use Rattle.w16_model.proofs.Sound.{sound_heap}
+use Rattle.w16_region.specs.Bytes.{counted}
 use Rattle.w16_compact.specs.Gather.{contents}
 use Rattle.w16_arena.specs.declared.new_place.Placed.{Placed}
 use Rattle.w16_arena.specs.Asked.{IsPlaced}
@@ -74,6 +75,12 @@ on_err (Err x) P e h = h
 pub if_ok : {X E : Type 0} (r : Result X E) (P : X → Type 0) → is_err r ≡ false → IfOk r P → (x : X) × P x
 if_ok (Ok x) P e h = (x, h)
 if_ok (Err x) P e h = absurd (false≢true (sym e))
+
+-- what an answered request writes
+pub writes_ok : {E : Type 0} (r : Result Placed E) (old new : Heap) (id n before after zeros : ℕ) → is_err r ≡ false → IfOk r (λ p. IsPlaced old id n p new) → IfOk r (λ p. after ≡ counted (counted before p.moved) zeros)
+    → after ≡ counted (counted before (moved_bytes old new)) zeros
+writes_ok (Ok p) old new id n before after zeros e placed written = written ∙ ap (λ m. counted (counted before m) zeros) placed.moved
+writes_ok (Err x) old new id n before after zeros e placed written = absurd (false≢true (sym e))
 
 -- a compaction for 0 bytes, or for some
 pub compacted : (n answer : ℕ) (old new : Heap) → Compacts old n answer new → ((n ≡ 0) × (answer ≡ most_room old) × (new ≡ old)) ⊎ ((0 < n) × MakesRoom old n answer new)

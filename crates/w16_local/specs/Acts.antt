@@ -1,5 +1,5 @@
 -- What is done to one local heap over the bytes of its segment.
-use Rattle.std.specs.Prelude.{◌≡◌, ◌≤◌, ◌<◌, ◌⊎◌, ℕ, List, length, All, true, false, Some, Ok, IsOk, IsSome}
+use Rattle.std.specs.Prelude.{◌≡◌, ◌-◌, ◌≤◌, ◌<◌, ◌⊎◌, ℕ, List, length, All, true, false, if◌then◌else◌, Some, Ok, IsOk, IsSome, option_map, unwrap_or}
 use Rattle.std.specs.Ordering.{nat_cmp}
 use Rattle.std.specs.FinMap as finmap
 use Rattle.std.specs.FinMap.{FinMap}
@@ -7,8 +7,9 @@ use Rattle.w16_model.specs.Far.{after_write}
 use Rattle.w16_model.specs.Handles.{Handles}
 use Rattle.w16_model.specs.Heap.{Heap, IsMultiple, bytes_at, object_at}
 use Rattle.w16_model.specs.OneObject.{after_discard, after_free}
-use Rattle.w16_model.specs.Request.{Allocates, MakesRoom, Reallocates, most_room}
+use Rattle.w16_model.specs.Request.{Allocates, MakesRoom, Reallocates, most_room, moved_bytes}
 use Rattle.w16_model.specs.Table.{Table, IsSameOutside, heap_in}
+use Rattle.w16_region.specs.Bytes.{counted}
 use Rattle.w16_arena.specs.State.{IsSameRange}
 use Rattle.w16_machine.specs.declared.local.TheConstants.{LOCAL_GRAIN}
 use Rattle.w16_machine.specs.Local.{IsFreeEntry, IsLocalTable, name_at}
@@ -52,6 +53,15 @@ pub record Acted (act : Act) (table : Table) (bytes : List ℕ) (answer : ℕ) (
   pub range : IsSameRange table left
   pub outside : IsSameOutside table.lo table.hi bytes after
   pub act_is : (Idle act (heap_in table bytes) answer × (left ≡ table) × (after ≡ bytes)) ⊎ Done act (heap_in table bytes) answer (heap_in left after)
+
+-- What an act writes: the bytes of objects that it moves, and the zeros that are asked for; nothing where it is refused, or gives bytes up.
+abbrev pub Writes : Act → Heap → Heap → ℕ → ℕ → Type 0
+Writes (Alloc id size kind way) heap next before after = ((next ≡ heap) × (after ≡ before)) ⊎ (after ≡ counted (counted before (moved_bytes heap next)) (if way.zero then size else 0))
+Writes (Realloc id size way) heap next before after = ((next ≡ heap) × (after ≡ before))
+    ⊎ (after ≡ counted (counted before (moved_bytes heap next)) (if way.zero then size - unwrap_or (option_map length (bytes_at heap id)) 0 else 0))
+Writes (Discard id) heap next before after = after ≡ before
+Writes (Free id) heap next before after = after ≡ before
+Writes (Compact size) heap next before after = after ≡ counted before (moved_bytes heap next)
 
 -- when it may be done in the object of a slot
 pub record MayActIn (handles : Handles) (tables : FinMap nat_cmp Table) (slot : ℕ) (act : Act) : Type 0 where

@@ -1,5 +1,6 @@
 pub mod Acts
 pub mod Codes
+pub mod Fewest
 pub mod Kept
 pub mod Parts
 pub mod Steps

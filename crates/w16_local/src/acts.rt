@@ -1,7 +1,7 @@
 //! What is done to one local heap over the bytes of its segment.
 ghost use Rattle.std.specs.Prelude.{◌≡◌, length};
 ghost use Rattle.w16_model.specs.Table.{heap_in};
-ghost use Rattle.w16_local.specs.Acts.{Acted, MayActOver};
+ghost use Rattle.w16_local.specs.Acts.{Acted, MayActOver, Writes};
 ghost use Rattle.w16_local.specs.declared.acts.Act.TheVariants.{Alloc, Compact, Discard, Free, Realloc};
 
 use crate::heap::LocalHeap;
@@ -10,31 +10,31 @@ use w16_global::Work;
 use w16_model::{Kind, Way};
 use w16_region::{Space, Window, has_bytes};
 
-/// What is done to a heap: each act has its call's answer. Sizes are whole grains, but for a compaction's.
+/// An operation on a heap's bytes, with its answer. Sizes are multiples of 4, but for a compaction's.
 #[derive(Clone, Copy, Debug)]
 pub(crate) enum Act {
-    /// So many bytes for a free entry. It answers the new object's name, or 0.
+    /// Allocates bytes for a free entry. It answers the new object's name, or 0.
     Alloc {
         id: u32,
         size: u32,
         kind: Kind,
         way: Way,
     },
-    /// Another size for an object. It answers its name, or 0.
+    /// Gives an object another size. It answers its name, or 0.
     Realloc {
         id: u32,
         size: u32,
         way: Way,
     },
-    /// An object that may gives up its bytes. It answers 0.
+    /// Discards an object that is discardable and not locked. It answers 0.
     Discard {
         id: u32,
     },
-    /// An object that may goes. It answers 0.
+    /// Frees an object that isn't locked. It answers 0.
     Free {
         id: u32,
     },
-    /// Room is made for some bytes. It answers the length of the longest hole, or for 0 bytes how long one could be.
+    /// Makes room for some bytes. It answers the length of the longest hole, or for 0 bytes how long one could be.
     Compact {
         size: u32,
     },
@@ -62,6 +62,7 @@ impl LocalHeap {
     fn act<S: Space>(&mut self, space: &mut S, act: Act) -> u16
         requires { MayActOver act self.old (S.bytes space.old) }
         ensures acted { Acted act self.old (S.bytes space.old) result self.new (S.bytes space.new) }
+        ensures written { Writes act (heap_in self.old (S.bytes space.old)) (heap_in self.new (S.bytes space.new)) (S.written space.old) (S.written space.new) }
         ensures long { length (S.bytes space.new) ≡ length (S.bytes space.old) }
         ensures loans { S.lenders space.new ≡ S.lenders space.old }
     {
@@ -83,6 +84,7 @@ impl LocalHeap {
     fn alloc<S: Space>(&mut self, space: &mut S, id: u32, size: u32, kind: Kind, way: Way) -> u16
         requires { MayActOver (Alloc id size kind way) self.old (S.bytes space.old) }
         ensures acted { Acted (Alloc id size kind way) self.old (S.bytes space.old) result self.new (S.bytes space.new) }
+        ensures written { Writes (Alloc id size kind way) (heap_in self.old (S.bytes space.old)) (heap_in self.new (S.bytes space.new)) (S.written space.old) (S.written space.new) }
         ensures long { length (S.bytes space.new) ≡ length (S.bytes space.old) }
         ensures loans { S.lenders space.new ≡ S.lenders space.old }
     {
@@ -100,6 +102,7 @@ impl LocalHeap {
     fn realloc<S: Space>(&mut self, space: &mut S, id: u32, size: u32, way: Way) -> u16
         requires { MayActOver (Realloc id size way) self.old (S.bytes space.old) }
         ensures acted { Acted (Realloc id size way) self.old (S.bytes space.old) result self.new (S.bytes space.new) }
+        ensures written { Writes (Realloc id size way) (heap_in self.old (S.bytes space.old)) (heap_in self.new (S.bytes space.new)) (S.written space.old) (S.written space.new) }
         ensures long { length (S.bytes space.new) ≡ length (S.bytes space.old) }
         ensures loans { S.lenders space.new ≡ S.lenders space.old }
     {
@@ -116,6 +119,7 @@ impl LocalHeap {
     fn discard<S: Space>(&mut self, space: &mut S, id: u32) -> u16
         requires { MayActOver (Discard id) self.old (S.bytes space.old) }
         ensures acted { Acted (Discard id) self.old (S.bytes space.old) result self.new (S.bytes space.new) }
+        ensures written { Writes (Discard id) (heap_in self.old (S.bytes space.old)) (heap_in self.new (S.bytes space.new)) (S.written space.old) (S.written space.new) }
         ensures long { length (S.bytes space.new) ≡ length (S.bytes space.old) }
         ensures loans { S.lenders space.new ≡ S.lenders space.old }
     {
@@ -129,6 +133,7 @@ impl LocalHeap {
     fn free<S: Space>(&mut self, space: &mut S, id: u32) -> u16
         requires { MayActOver (Free id) self.old (S.bytes space.old) }
         ensures acted { Acted (Free id) self.old (S.bytes space.old) result self.new (S.bytes space.new) }
+        ensures written { Writes (Free id) (heap_in self.old (S.bytes space.old)) (heap_in self.new (S.bytes space.new)) (S.written space.old) (S.written space.new) }
         ensures long { length (S.bytes space.new) ≡ length (S.bytes space.old) }
         ensures loans { S.lenders space.new ≡ S.lenders space.old }
     {
@@ -145,6 +150,7 @@ impl LocalHeap {
     fn compact<S: Space>(&mut self, space: &mut S, size: u32) -> u16
         requires { MayActOver (Compact size) self.old (S.bytes space.old) }
         ensures acted { Acted (Compact size) self.old (S.bytes space.old) result self.new (S.bytes space.new) }
+        ensures written { Writes (Compact size) (heap_in self.old (S.bytes space.old)) (heap_in self.new (S.bytes space.new)) (S.written space.old) (S.written space.new) }
         ensures long { length (S.bytes space.new) ≡ length (S.bytes space.old) }
         ensures loans { S.lenders space.new ≡ S.lenders space.old }
     {

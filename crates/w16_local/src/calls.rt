@@ -1,6 +1,7 @@
 //! The calls that make local objects, give them another size or kind, discard and free them, and make room.
 ghost use Rattle.std.specs.Prelude.{◌≡◌};
 ghost use Rattle.w16_machine.specs.LocalCalls.LocalCommand.{LocalAlloc, LocalCompact, LocalDiscard, LocalFree, LocalReAlloc};
+ghost use Rattle.w16_local.specs.Fewest.{AllocsFewest, CompactionsFewest, InWorlds, ReallocsFewest};
 ghost use Rattle.w16_local.specs.Parts.{Calls};
 
 use crate::LocalHeaps;
@@ -14,9 +15,11 @@ use w16_machine::local::{LMEM_MODIFY, LMEM_MOVEABLE};
 
 impl LocalHeaps {
     /// `LocalAlloc`: a new object's name, or 0: for a fixed object of size 0, where no entry is free, and where there is no room. The size
-    /// is rounded up to 4 bytes; a moveable object of size 0 has no bytes. Others slide or are discarded for it as in the global heap.
+    /// is rounded up to 4 bytes; a moveable object of size 0 has no bytes. Others slide or are discarded for it as in the global heap, as few as
+    /// make room.
     pub fn local_alloc(&mut self, global: &mut Global16, ds: u16, flags: u16, size: u16) -> u16
-        ensures { Calls global.old.handles self.old ds (LocalAlloc flags size) result global.new.handles self.new }
+        ensures step { Calls global.old.handles self.old ds (LocalAlloc flags size) result global.new.handles self.new }
+        ensures fewest { InWorlds global.old.handles self.old ds global.new.handles self.new (AllocsFewest flags size result) }
     {
         let Some(Chosen { slot, .. }) = self.chosen(global, ds) else {
             return 0;
@@ -51,7 +54,8 @@ impl LocalHeaps {
         size: u16,
         flags: u16,
     ) -> u16
-        ensures { Calls global.old.handles self.old ds (LocalReAlloc name size flags) result global.new.handles self.new }
+        ensures step { Calls global.old.handles self.old ds (LocalReAlloc name size flags) result global.new.handles self.new }
+        ensures fewest { InWorlds global.old.handles self.old ds global.new.handles self.new (ReallocsFewest name size flags result) }
     {
         let Some(Named { slot, heap, id }) = self.named(global, ds, name) else {
             return 0;
@@ -102,7 +106,8 @@ impl LocalHeaps {
     /// `LocalCompact`: room is made for some bytes, as in the global heap. It answers the longest hole that there is then, or for a size of 0
     /// how long one could be, and then nothing changes. 0 where DS names no local heap.
     pub fn local_compact(&mut self, global: &mut Global16, ds: u16, size: u16) -> u16
-        ensures { Calls global.old.handles self.old ds (LocalCompact size) result global.new.handles self.new }
+        ensures step { Calls global.old.handles self.old ds (LocalCompact size) result global.new.handles self.new }
+        ensures fewest { InWorlds global.old.handles self.old ds global.new.handles self.new (CompactionsFewest size result) }
     {
         let Some(Chosen { slot, .. }) = self.chosen(global, ds) else {
             return 0;

@@ -104,7 +104,7 @@ fn selector_or(ds: u16, selector: u16) -> u16
     if selector == 0 { ds } else { selector }
 }
 
-/// Sees to it that a list by slot has a slot. No heap changes.
+/// Grows the list to include a slot. No heap changes.
 fn reach(heaps: &mut Vec<Option<Box<LocalHeap>>>, slot: u16) -> Result<(), AllocError>
     ensures same { (q : ℕ) → slice_index_or heaps.new.items q None ≡ slice_index_or heaps.old.items q None }
     ensures long { OnOk result (slot < length heaps.new.items) }
@@ -115,7 +115,7 @@ fn reach(heaps: &mut Vec<Option<Box<LocalHeap>>>, slot: u16) -> Result<(), Alloc
     Ok(())
 }
 
-/// Sees to it that a slot is listed. Each is listed once.
+/// Adds a slot to the list, unless it is listed.
 fn list_slot(live: &mut Vec<u16>, slot: u16) -> Result<(), AllocError>
     ensures kept { (q : ℕ) → IsListed live.old.items q → IsListed live.new.items q }
     ensures listed { OnOk result (IsListed live.new.items slot) }

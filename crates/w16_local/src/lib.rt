@@ -104,7 +104,7 @@ impl LocalHeaps {
         Some(heap.arena())
     }
 
-    /// The same with what is kept beside it.
+    /// A slot's heap with its tree of free entries.
     pub(crate) fn kept(&self, slot: u16) -> Option<&LocalHeap>
         ensures none { IfNone result (finmap.get self.now slot ≡ None) }
         ensures some { IfSome result (λ h. finmap.get self.now slot ≡ Some h.now) }

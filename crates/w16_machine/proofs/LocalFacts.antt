@@ -22,7 +22,7 @@ pub record IsThere (w : World) (at : LocalHeap) : Type 0 where
   pub inside : at.table.hi ≤ length at.bytes
 
 -- the one of a slot's table and bytes
-abbrev found : ℕ → Option Table → Option (List ℕ) → Option LocalHeap
+abbrev pub found : ℕ → Option Table → Option (List ℕ) → Option LocalHeap
 found slot t b = elim t [ None ↦ None | Some t ↦ elim b [ None ↦ None | Some bytes ↦ local_of slot t bytes ] ]
 
 -- the one in a slot is there

@@ -122,28 +122,23 @@ tables_stay old new is rest sizes = same_map nat_cmp_total nat_cmp-IsAntisymmetr
     ap (λ (w : World). finmap.get w.heaps slot) rest ∙ left_is new.loading.handles.heap old.heaps slot
     ∙ left_same (finmap.get old.heaps slot) (segment_bytes old slot) (segment_bytes new slot) (is.heaps slot) (sizes slot))
 
+-- a local heap that has its table has its objects
+pub same_heaps : (old new : World) → AreLocalHeaps old → (at after : LocalHeap) → IsThere old at → IsThere new after → after.table ≡ at.table → HasSameObjects (heap_of at) (heap_of after)
+same_heaps old new is at after was now t =
+    let here : IsLocalIn at.table at.bytes = local_here old is at was in
+    subst (λ t. HasSameObjects (heap_of at) (heap_in t after.bytes)) (sym t) (same_objects at.table here.0.sound.table at.bytes after.bytes here.1 (subst (λ (t : Table). t.hi ≤ length after.bytes) t now.inside))
+
 pub local_far_law : FarLaw
 local_far_law old new command reply is known step rest = (
   same_tables,
   (λ slot at after e f.
       let was : IsThere old at × (at.slot ≡ slot) = local_there old slot at e in
       let now : IsThere new after × (after.slot ≡ slot) = local_there new slot after f in
-      let t : after.table ≡ at.table = same_table at after was.0 now.0 (now.1 ∙ sym was.1) in
-      let here : IsLocalIn at.table at.bytes = local_here old is at was.0 in
-      subst (λ t. HasSameObjects (heap_of at) (heap_in t after.bytes)) (sym t) (same_objects at.table here.0.sound.table at.bytes after.bytes here.1 (long at after was.0 now.0 (now.1 ∙ sym was.1) here.1))),
+      same_heaps old new is at after was.0 now.0 (same_table at after was.0 now.0 (now.1 ∙ sym was.1))),
 )
   where
-    sizes : HasSameSizes old.loading.handles new.loading.handles
-    sizes = far_reply old.loading.handles new.loading.handles command (far_answer_in reply) step
-
     same_tables : new.heaps ≡ old.heaps
-    same_tables = tables_stay old new is rest sizes
+    same_tables = tables_stay old new is rest (far_reply old.loading.handles new.loading.handles command (far_answer_in reply) step)
 
     same_table : (at after : LocalHeap) → IsThere old at → IsThere new after → after.slot ≡ at.slot → after.table ≡ at.table
     same_table at after was now e = let some : ◌≡◌ {A = Option Table} (Some after.table) (Some at.table) = sym now.table ∙ ap (λ m. finmap.get m after.slot) same_tables ∙ ap (finmap.get old.heaps) e ∙ was.table in cc
-
-    long : (at after : LocalHeap) → IsThere old at → IsThere new after → after.slot ≡ at.slot → at.table.hi ≤ length at.bytes → at.table.hi ≤ length after.bytes
-    long at after was now e le =
-        let some : ◌≡◌ {A = Option ℕ} (Some (length after.bytes)) (Some (length at.bytes)) = sym (ap (option_map length) now.bytes) ∙ sizes after.slot ∙ ap (λ q. size_at old.loading.handles q) e ∙ ap (option_map length) was.bytes in
-        let same : length after.bytes ≡ length at.bytes = cc in
-        omega (arith, same, le)

@@ -208,11 +208,11 @@ module _ (old : Heap) (named : AreNamed old) where
         turn (Some o) h = named_own new id h.count h.others (own (local_way flags).zero o (rounded_up size) (object_at new id) h.object)
 
     pub roomed_named : (command : LocalCommand) (answer : ℕ) (new : Heap) → IsRoomed old command answer new → AreNamed new
-    roomed_named command answer new (inl (flags, size, id, free, made)) = allocated_named id (rounded_up size) (local_kind flags) (local_way flags) new made.allocated
-    roomed_named command answer new (inr (inl (size, made))) = room_named size answer new made
-    roomed_named command answer new (inr (inr (inl (size, flags, id, named_id, resized)))) = resized_named id size flags answer new resized
-    roomed_named command answer new (inr (inr (inr (id, named_id, inl e)))) = subst (λ r. IfOk r AreNamed) e (free_named id)
-    roomed_named command answer new (inr (inr (inr (id, named_id, inr e)))) = subst (λ r. IfOk r AreNamed) e (discard_named id)
+    roomed_named command answer new (inl (asks, inl (flags, size, id, free, made))) = allocated_named id (rounded_up size) (local_kind flags) (local_way flags) new made.allocated
+    roomed_named command answer new (inl (asks, inr (inl (size, made)))) = room_named size answer new made
+    roomed_named command answer new (inl (asks, inr (inr (size, flags, id, named_id, may, resized)))) = resized_named id size flags answer new resized
+    roomed_named command answer new (inr (id, named_id, inl e)) = subst (λ r. IfOk r AreNamed) e.1 (free_named id)
+    roomed_named command answer new (inr (id, named_id, inr e)) = subst (λ r. IfOk r AreNamed) e (discard_named id)
 
   altered_named : (id : ℕ) (new : Heap) → IsAltered old id new → AreNamed new
   altered_named id new (inl e) = subst (λ r. IfOk r AreNamed) e (lock_named id)

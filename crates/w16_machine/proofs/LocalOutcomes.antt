@@ -1,5 +1,6 @@
 -- What a local call does, in four ways: nothing; a heap begins; an object of the chosen heap is changed where it stands; room is made there.
 use Rattle.std.proofs.Common.{◌≡◌, ℕ, ◌⊎◌, inl, inr, Bool, true, false, ◌==◌, MatchBool, MatchOption, Option, Some, None, Result, Ok, Err, refl, sym, subst}
+use Rattle.std.proofs.lemmas.Bool.{false≢true}
 use Rattle.w16_model.specs.declared.Refusal.{Refusal}
 use Rattle.w16_model.specs.Heap.{Heap}
 use Rattle.w16_model.specs.Request.{MakesRoom, most_room}
@@ -11,7 +12,7 @@ use Rattle.w16_machine.specs.World.{World}
 use Rattle.w16_machine.specs.Local.{LocalHeap, LocalObject, Beginning, Becomes, Acts, Stays, IsLowestFree, heap_of, chosen, object_named, id_named, beginning, new_table, with_table}
 use Rattle.w16_machine.specs.LocalCalls.{LocalCommand, Answers, Leaves, GivesUp, EntersObject, AllocatesObject, ResizesObject, is_absent_asked, local_kind, AllocatesIn, CompactsIn, LocalInits, OnNamed, ModifiesObject, DiscardsObject, SizesObject, moveable_or_discardable, lock_refused, locks_left, near_pointer}
 use Rattle.w16_machine.specs.LocalCalls.LocalCommand.{LocalInit, LocalAlloc, LocalReAlloc, LocalDiscard, LocalFree, LocalLock, LocalUnlock, LocalSize, LocalFlags, LocalHandle, LocalCompact, DS}
-use Rattle.w16_machine.specs.LocalLaw.{named_by}
+use Rattle.w16_machine.specs.LocalLaw.{asks_for_room, may_move_named, named_by}
 use Rattle.w16_machine.proofs.LocalFacts.{named_there}
 
 -- an object is changed where it stands
@@ -26,17 +27,20 @@ pub record IsNamedIn (heap : Heap) (command : LocalCommand) (id : ℕ) : Type 0 
   pub asked : named_by command ≡ Some name
   pub has : id_named heap name ≡ Some id
 
--- an object gives its bytes up
-abbrev pub IsGivenUp : Heap → ℕ → Heap → Type 0
-IsGivenUp heap id next = (after_free heap id ≡ Ok next) ⊎ (after_discard heap id ≡ Ok next)
+-- an object gives its bytes up: it is freed, by a call that may do so, or it is discarded
+abbrev pub IsGivenUp : Heap → LocalCommand → ℕ → Heap → Type 0
+IsGivenUp heap command id next = ((may_move_named command ≡ true) × (after_free heap id ≡ Ok next)) ⊎ (after_discard heap id ≡ Ok next)
 
--- room is made: for a new object, for an object's other size, for no object, or by giving bytes up
-abbrev pub IsRoomed : Heap → LocalCommand → ℕ → Heap → Type 0
-IsRoomed heap command answer next =
+-- room is made by a call that asks for it: for a new object, for no object, or for an object's other size
+abbrev pub IsMade : Heap → LocalCommand → ℕ → Heap → Type 0
+IsMade heap command answer next =
     ((flags size id : ℕ) × IsLowestFree heap id × AllocatesObject heap flags size id answer next)
     ⊎ ((size : ℕ) × MakesRoom heap size answer next)
-    ⊎ ((size flags id : ℕ) × IsNamedIn heap command id × ResizesObject heap id size flags answer next)
-    ⊎ ((id : ℕ) × IsNamedIn heap command id × IsGivenUp heap id next)
+    ⊎ ((size flags id : ℕ) × IsNamedIn heap command id × (may_move_named command ≡ true) × ResizesObject heap id size flags answer next)
+
+-- or an object gives its bytes up
+abbrev pub IsRoomed : Heap → LocalCommand → ℕ → Heap → Type 0
+IsRoomed heap command answer next = ((asks_for_room command ≡ true) × IsMade heap command answer next) ⊎ ((id : ℕ) × IsNamedIn heap command id × IsGivenUp heap command id next)
 
 -- LocalInit began a heap
 pub record IsInit (old : World) (command : LocalCommand) (answer : ℕ) (new : World) : Type 0 where
@@ -105,13 +109,13 @@ module _ (old : World) (command : LocalCommand) (answer : ℕ) (new : World) whe
   leaves o c named (Ok next) f taken refused l = inr (inr (o.heap, c, inl (next, inl (o.id, named, f next refl), l.1)))
   leaves o c named (Err refusal) f taken refused l = stayed (refused refusal) l
 
-  gives_up : (o : LocalObject) → chosen old ≡ Some o.heap → IsNamedIn (heap_of o.heap) command o.id → (r : Result Heap Refusal) → ((next : Heap) → r ≡ Ok next → IsGivenUp (heap_of o.heap) o.id next)
+  gives_up : (o : LocalObject) → chosen old ≡ Some o.heap → IsNamedIn (heap_of o.heap) command o.id → (r : Result Heap Refusal) → ((next : Heap) → r ≡ Ok next → IsGivenUp (heap_of o.heap) command o.id next)
       → (taken refused : ℕ) → GivesUp old o.heap r taken refused answer new → Out
   gives_up o c named (Ok heap) f taken refused l = inr (inr (
     o.heap,
     c,
     inr (acts_as old o.heap (λ next. next ≡ heap) (IsRoomed (heap_of o.heap) command answer) new
-        (λ next same. inr (inr (inr (o.id, named, subst (IsGivenUp (heap_of o.heap) o.id) (sym same) (f heap refl))))) l.1),
+        (λ next same. inr (o.id, named, subst (IsGivenUp (heap_of o.heap) command o.id) (sym same) (f heap refl))) l.1),
   ))
   gives_up o c named (Err refusal) f taken refused l = stayed refused l
 
@@ -122,50 +126,50 @@ module _ (old : World) (command : LocalCommand) (answer : ℕ) (new : World) whe
       turn None e s = stayed 0 s
       turn (Some b) e s = inr (inl (record { selector = selector; start = start; end = end; begun = b; asked = asked; may = e; answered = s.0; rest = s.1 }))
 
-  allocates : (flags size : ℕ) (at : LocalHeap) → chosen old ≡ Some at → AllocatesIn old flags size answer new at → Out
-  allocates flags size at c (inl refused) = stayed 0 refused.1
-  allocates flags size at c (inr (id, free, makes)) = turn (is_absent_asked flags size) refl makes
+  allocates : asks_for_room command ≡ true → (flags size : ℕ) (at : LocalHeap) → chosen old ≡ Some at → AllocatesIn old flags size answer new at → Out
+  allocates asks flags size at c (inl refused) = stayed 0 refused.1
+  allocates asks flags size at c (inr (id, free, makes)) = turn (is_absent_asked flags size) refl makes
     where
       turn : (b : Bool) → is_absent_asked flags size ≡ b → MatchBool b ((next : Heap) × EntersObject (heap_of at) flags id answer next × Becomes old at next new) (Acts old at (AllocatesObject (heap_of at) flags size id answer) new) → Out
       turn true t e = inr (inr (at, c, inl (e.0, inr (flags, size, id, t, e.1.entered), e.2)))
-      turn false t a = inr (inr (at, c, inr (acts_as old at (AllocatesObject (heap_of at) flags size id answer) (IsRoomed (heap_of at) command answer) new (λ heap m. inl (flags, size, id, free, m)) a)))
+      turn false t a = inr (inr (at, c, inr (acts_as old at (AllocatesObject (heap_of at) flags size id answer) (IsRoomed (heap_of at) command answer) new (λ heap m. inl (asks, inl (flags, size, id, free, m))) a)))
 
-  compacts : (size : ℕ) (at : LocalHeap) → chosen old ≡ Some at → CompactsIn old size answer new at → Out
-  compacts size at c = turn (size == 0)
+  compacts : asks_for_room command ≡ true → (size : ℕ) (at : LocalHeap) → chosen old ≡ Some at → CompactsIn old size answer new at → Out
+  compacts asks size at c = turn (size == 0)
     where
       turn : (b : Bool) → MatchBool b (Stays old (most_room (heap_of at)) answer new) (Acts old at (MakesRoom (heap_of at) size answer) new) → Out
       turn true s = stayed (most_room (heap_of at)) s
-      turn false a = inr (inr (at, c, inr (acts_as old at (MakesRoom (heap_of at) size answer) (IsRoomed (heap_of at) command answer) new (λ heap m. inr (inl (size, m))) a)))
+      turn false a = inr (inr (at, c, inr (acts_as old at (MakesRoom (heap_of at) size answer) (IsRoomed (heap_of at) command answer) new (λ heap m. inl (asks, inr (inl (size, m)))) a)))
 
-  reallocates : (name size flags : ℕ) (o : LocalObject) → chosen old ≡ Some o.heap → IsNamedIn (heap_of o.heap) command o.id
+  reallocates : (name size flags : ℕ) → ((size == 0) ≡ false → (asks_for_room command ≡ true) × (may_move_named command ≡ true)) → (o : LocalObject) → chosen old ≡ Some o.heap → IsNamedIn (heap_of o.heap) command o.id
       → MatchBool (has_flag flags LMEM_MODIFY) (ModifiesObject old name flags answer new o) (MatchBool (size == 0) (DiscardsObject old name flags answer new o) (SizesObject old size flags answer new o)) → Out
-  reallocates name size flags o c named = modify (has_flag flags LMEM_MODIFY)
+  reallocates name size flags asks o c named = modify (has_flag flags LMEM_MODIFY)
     where
       discards : (b : Bool) → MatchBool b (GivesUp old o.heap (after_discard (heap_of o.heap) o.id) name 0 answer new) (Stays old 0 answer new) → Out
       discards true l = gives_up o c named (after_discard (heap_of o.heap) o.id) (λ next e. inr e) name 0 l
       discards false s = stayed 0 s
 
-      sizes : SizesObject old size flags answer new o → Out
-      sizes (inl refused) = stayed 0 refused.1
-      sizes (inr a) = inr (inr (o.heap, c, inr (acts_as old o.heap (ResizesObject (heap_of o.heap) o.id size flags answer) (IsRoomed (heap_of o.heap) command answer) new (λ heap r. inr (inr (inl (size, flags, o.id, named, r)))) a)))
+      sizes : (size == 0) ≡ false → SizesObject old size flags answer new o → Out
+      sizes some (inl refused) = stayed 0 refused.1
+      sizes some (inr a) = inr (inr (o.heap, c, inr (acts_as old o.heap (ResizesObject (heap_of o.heap) o.id size flags answer) (IsRoomed (heap_of o.heap) command answer) new (λ heap r. inl ((asks some).0, inr (inr (size, flags, o.id, named, (asks some).1, r)))) a)))
 
-      by_size : (b : Bool) → MatchBool b (DiscardsObject old name flags answer new o) (SizesObject old size flags answer new o) → Out
-      by_size true d = discards (has_flag flags LMEM_MOVEABLE) d
-      by_size false s = sizes s
+      by_size : (b : Bool) → (size == 0) ≡ b → MatchBool b (DiscardsObject old name flags answer new o) (SizesObject old size flags answer new o) → Out
+      by_size true e d = discards (has_flag flags LMEM_MOVEABLE) d
+      by_size false e s = sizes e s
 
       modify : (b : Bool) → MatchBool b (ModifiesObject old name flags answer new o) (MatchBool (size == 0) (DiscardsObject old name flags answer new o) (SizesObject old size flags answer new o)) → Out
       modify true l = leaves o c named (after_modify (heap_of o.heap) o.id (moveable_or_discardable flags)) (λ next e. inr (inr (flags, e))) (λ _. name) (λ _. name) l
-      modify false s = by_size (size == 0) s
+      modify false s = by_size (size == 0) refl s
 
 pub outcome : (old : World) (command : LocalCommand) (answer : ℕ) (new : World) → Answers old command answer new → Outcome old command answer new
 outcome old (LocalInit selector start end) answer new step = inits old (LocalInit selector start end) answer new selector start end refl step
-outcome old (LocalAlloc flags size) answer new step = on_chosen old (LocalAlloc flags size) answer new (AllocatesIn old flags size answer new) (allocates old (LocalAlloc flags size) answer new flags size) step
+outcome old (LocalAlloc flags size) answer new step = on_chosen old (LocalAlloc flags size) answer new (AllocatesIn old flags size answer new) (allocates old (LocalAlloc flags size) answer new refl flags size) step
 outcome old (LocalReAlloc name size flags) answer new step =
-    on_named old (LocalReAlloc name size flags) answer new name 0 _ refl (λ o c named s. reallocates old (LocalReAlloc name size flags) answer new name size flags o c named s) step
-outcome old (LocalDiscard name) answer new step = on_named old (LocalDiscard name) answer new name 0 _ refl (λ o c named s. reallocates old (LocalDiscard name) answer new name 0 LMEM_MOVEABLE o c named s) step
+    on_named old (LocalReAlloc name size flags) answer new name 0 _ refl (λ o c named s. reallocates old (LocalReAlloc name size flags) answer new name size flags (λ some. (refl, refl)) o c named s) step
+outcome old (LocalDiscard name) answer new step = on_named old (LocalDiscard name) answer new name 0 _ refl (λ o c named s. reallocates old (LocalDiscard name) answer new name 0 LMEM_MOVEABLE (λ some. absurd (false≢true (sym some))) o c named s) step
 outcome old (LocalFree name) answer new step =
     on_named old (LocalFree name) answer new name name (λ o. GivesUp old o.heap (after_free (heap_of o.heap) o.id) 0 name answer new) refl
-    (λ o c named l. gives_up old (LocalFree name) answer new o c named (after_free (heap_of o.heap) o.id) (λ next e. inl e) 0 name l) step
+    (λ o c named l. gives_up old (LocalFree name) answer new o c named (after_free (heap_of o.heap) o.id) (λ next e. inl (refl, e)) 0 name l) step
 outcome old (LocalLock name) answer new step =
     on_named old (LocalLock name) answer new name 0 (λ o. Leaves old o.heap (after_lock (heap_of o.heap) o.id) (λ _. near_pointer (heap_of o.heap) o.id) (lock_refused (near_pointer (heap_of o.heap) o.id)) answer new) refl
     (λ o c named l. leaves old (LocalLock name) answer new o c named (after_lock (heap_of o.heap) o.id) (λ next e. inl e) (λ _. near_pointer (heap_of o.heap) o.id) (lock_refused (near_pointer (heap_of o.heap) o.id)) l) step
@@ -175,5 +179,5 @@ outcome old (LocalUnlock name) answer new step =
 outcome old (LocalSize name) answer new step = inl step.1
 outcome old (LocalFlags name) answer new step = inl step.1
 outcome old (LocalHandle pointer) answer new step = inl step.1
-outcome old (LocalCompact size) answer new step = on_chosen old (LocalCompact size) answer new (CompactsIn old size answer new) (compacts old (LocalCompact size) answer new size) step
+outcome old (LocalCompact size) answer new step = on_chosen old (LocalCompact size) answer new (CompactsIn old size answer new) (compacts old (LocalCompact size) answer new refl size) step
 outcome old (DS selector) answer new step = absurd step

@@ -7,3 +7,4 @@ pub mod Law
 pub mod LocalLaw
 pub mod LocalFewest
 pub mod LocalStays
+pub mod Bystanders

@@ -158,7 +158,7 @@ pub record Becomes (old : World) (at : LocalHeap) (heap : Heap) (new : World) : 
   pub same : heap_in table at.bytes ≡ heap
   pub rest : new ≡ with_table old at.slot table
 
--- A local heap becomes such a one, which may have other bytes. In the segment only bytes of its range change, and nothing else of the world:
+-- The local heap satisfies P afterwards; its bytes may be others. In the segment only bytes of its range change, and nothing else of the world:
 -- no address, no order of use, no other object's bytes, and not the number of bytes moved.
 pub record Acts (old : World) (at : LocalHeap) (P : Heap → Type 0) (new : World) : Type 0 where
   pub table : Table

@@ -119,7 +119,7 @@ abbrev pub Leaves : World → LocalHeap → Result Heap Refusal → (Heap → �
 Leaves old at (Ok heap) taken refused answer new = (answer ≡ taken heap) × Becomes old at heap new
 Leaves old at (Err refusal) taken refused answer new = Stays old (refused refusal) answer new
 
--- the same of a step that gives bytes up: what these are then is any
+-- the same of a step that gives bytes up; freed bytes are unspecified
 abbrev pub GivesUp : World → LocalHeap → Result Heap Refusal → ℕ → ℕ → ℕ → World → Type 0
 GivesUp old at (Ok heap) taken refused answer new = (answer ≡ taken) × Acts old at (λ next. next ≡ heap) new
 GivesUp old at (Err refusal) taken refused answer new = Stays old refused answer new

@@ -1,5 +1,5 @@
 -- The laws that show the definitions of local heaps to be the right ones. Each is the contract of a function of the module `local_laws`.
-use Rattle.std.specs.Prelude.{false, ◌≡◌, ◌≢◌, ℕ, ◌+◌, ◌<◌, ◌≤◌, ◌⊎◌, ◌↔◌, true, List, length, All, Option, Some, None, is_some, option_map, IsSomeAnd}
+use Rattle.std.specs.Prelude.{Bool, false, ◌≡◌, ◌≢◌, ℕ, ◌+◌, ◌<◌, ◌≤◌, ◌⊎◌, ◌↔◌, true, List, length, All, Option, Some, None, is_some, option_map, IsSomeAnd}
 use Rattle.std.specs.FinMap as finmap
 use Rattle.w16_model.specs.declared.Span.{Span}
 use Rattle.w16_model.specs.declared.Kind.{Kind}
@@ -19,7 +19,7 @@ use Rattle.w16_loading.specs.Replies.Reply.{Word}
 use Rattle.w16_machine.specs.World.{World}
 use Rattle.w16_machine.specs.Local.{LocalHeap, Beginning, AreLocalHeaps, IsLowestFree, AreNamed, segment_bytes, heap_of, local_in, chosen, name_at, id_named, id_at, beginning, selector_or_ds, new_table}
 use Rattle.w16_machine.specs.LocalCalls.{LocalCommand, LocalStep, MakesObject, IsRefusedAlloc}
-use Rattle.w16_machine.specs.LocalCalls.LocalCommand.{LocalInit, LocalReAlloc, LocalDiscard, LocalFree, LocalLock, LocalUnlock, LocalSize, LocalFlags}
+use Rattle.w16_machine.specs.LocalCalls.LocalCommand.{LocalInit, LocalAlloc, LocalCompact, LocalReAlloc, LocalDiscard, LocalFree, LocalLock, LocalUnlock, LocalSize, LocalFlags}
 use Rattle.w16_machine.specs.Machine.{Command, Step, Event, Run, after_loading}
 use Rattle.w16_machine.specs.Machine.Command.{OfLoading, OfLocals}
 
@@ -120,15 +120,39 @@ named_by (LocalSize name) = Some name
 named_by (LocalFlags name) = Some name
 named_by other = None
 
--- an object that a call doesn't name keeps all, or it was discardable and not locked and loses its bytes alone; a fixed or locked one keeps its near pointer
-pub record IsLocalKept (old new : Heap) (q : ℕ) (o : Object) : Type 0 where
+-- the calls that ask for room
+abbrev pub asks_for_room : LocalCommand → Bool
+asks_for_room (LocalAlloc flags size) = true
+asks_for_room (LocalReAlloc name size flags) = true
+asks_for_room (LocalCompact size) = true
+asks_for_room command = false
+
+-- An object that a call doesn't name is as it was, or it was discardable and not locked and has lost its bytes alone; a fixed or locked one keeps
+-- its near pointer. Unless the call asks for room, all keep all.
+pub record IsLocalKept (asks : Bool) (old new : Heap) (q : ℕ) (o : Object) : Type 0 where
   pub object : (object_at new q ≡ Some o) ⊎ ((o.kind ≡ Discardable) × (o.locks ≡ 0) × (object_at new q ≡ Some (record o { bytes = None })))
   pub place : is_pinned_object o ≡ true → StandsStill old new q
+  pub still : asks ≡ false → (object_at new q ≡ Some o) × StandsStill old new q
 
 abbrev pub OthersLaw : Type 0
 OthersLaw = (old new : World) (command : LocalCommand) (reply : Reply) (at after : LocalHeap) (q : ℕ) (o : Object) → AreLocalHeaps old → LocalStep old command reply new
     → chosen old ≡ Some at → local_in new at.slot ≡ Some after
-    → object_at (heap_of at) q ≡ Some o → ((name : ℕ) → named_by command ≡ Some name → name_at (heap_of at) q ≢ Some name) → IsLocalKept (heap_of at) (heap_of after) q o
+    → object_at (heap_of at) q ≡ Some o → ((name : ℕ) → named_by command ≡ Some name → name_at (heap_of at) q ≢ Some name)
+    → IsLocalKept (asks_for_room command) (heap_of at) (heap_of after) q o
+
+-- the calls that may move a fixed or locked object that they name, or free it
+abbrev pub may_move_named : LocalCommand → Bool
+may_move_named (LocalReAlloc name size flags) = true
+may_move_named (LocalFree name) = true
+may_move_named command = false
+
+-- every other call leaves it where it stands
+abbrev pub PinnedLaw : Type 0
+PinnedLaw = (old new : World) (command : LocalCommand) (reply : Reply) (at after : LocalHeap) (q : ℕ) (o : Object) → AreLocalHeaps old → LocalStep old command reply new
+    → chosen old ≡ Some at → local_in new at.slot ≡ Some after
+    → object_at (heap_of at) q ≡ Some o → is_pinned_object o ≡ true
+    → (may_move_named command ≡ true → (name : ℕ) → named_by command ≡ Some name → name_at (heap_of at) q ≢ Some name)
+    → StandsStill (heap_of at) (heap_of after) q
 
 -- an allocation isn't both refused and answered
 abbrev pub OutcomeLaw : Type 0

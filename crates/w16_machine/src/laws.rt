@@ -1,4 +1,5 @@
 //! The laws of steps and runs of the whole machine. Each function does nothing: its contract is the law.
+ghost use Rattle.w16_machine.specs.Bystanders.{RunSparesLaw, StepSparesLaw};
 ghost use Rattle.w16_machine.specs.Law.{EmptyLaw, FewestLaw, FilesLaw, RunFilesLaw, RunWorldLaw, WorldLaw};
 
 /// The world in which nothing is allocated and nothing loaded is one, and all in it is of its file.
@@ -23,4 +24,16 @@ pub fn runs_keep_worlds()
 /// and is refused for room only where no discards would have made it.
 pub fn runs_discard_fewest()
     ensures { FewestLaw }
+{}
+
+/// DS is changed by the command `DS` alone. Each step, whatever it is and whatever the store answers, leaves objects that it isn't about their
+/// bytes, unless they are discardable and not locked; and a fixed or locked object its address, but for its own reallocation and freeing. The
+/// same holds of the objects of each local heap that stays.
+pub fn steps_spare_other_objects()
+    ensures { StepSparesLaw }
+{}
+
+/// So does each step of a run.
+pub fn runs_spare_other_objects()
+    ensures { RunSparesLaw }
 {}

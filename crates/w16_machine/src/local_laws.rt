@@ -1,5 +1,5 @@
 //! The laws of local heaps. Each function does nothing: its contract is the law.
-ghost use Rattle.w16_machine.specs.LocalLaw.{AreFigures, AreFlags, BeginLaw, FarLaw, FrameLaw, GoesLaw, GoneLaw, NamedLaw, NamesLaw, NeverBackLaw, NewHeapLaw, OthersLaw, OutcomeLaw};
+ghost use Rattle.w16_machine.specs.LocalLaw.{AreFigures, AreFlags, BeginLaw, FarLaw, FrameLaw, GoesLaw, GoneLaw, NamedLaw, NamesLaw, NeverBackLaw, NewHeapLaw, OthersLaw, OutcomeLaw, PinnedLaw};
 ghost use Rattle.w16_machine.specs.LocalFewest.{AllocLaw, CompactLaw, ReallocLaw};
 ghost use Rattle.w16_machine.specs.LocalStays.{SizesLaw, HeapsLaw};
 
@@ -33,10 +33,12 @@ pub fn local_heaps_never_come_back()
     ensures gone { GoneLaw }
 {}
 
-/// An object of the chosen heap that a local call doesn't name keeps its kind, its locks and its bytes, or is discarded; a fixed or locked
-/// one keeps its near pointer.
+/// An object of the chosen heap that a local call doesn't name keeps its kind, its locks and its bytes, or it is discardable and not locked, and
+/// the call asks for room and discards it. Only such a call moves others. A fixed or locked object keeps its near pointer through every call
+/// but its own reallocation and freeing.
 pub fn local_calls_keep_other_objects()
-    ensures { OthersLaw }
+    ensures others { OthersLaw }
+    ensures pinned { PinnedLaw }
 {}
 
 /// A local allocation isn't both refused and answered.

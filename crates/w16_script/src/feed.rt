@@ -49,7 +49,7 @@ impl Unfinished {
         }
     }
 
-    /// Takes bytes of one line, which are too long or all taken.
+    /// Appends bytes to the pending line, all of them, or fails with `TooLong`.
     #[tactic(auto, using(crate::proofs::LimitLemmas::overflows))]
     fn hold(&mut self, bytes: &[u8]) -> Result<(), RunFault>
         requires fits { IsWithinLimits (progress_of self.old) }

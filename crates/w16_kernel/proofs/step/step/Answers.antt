@@ -6,10 +6,10 @@ pub returns-in_ok-local_init-in-LocalInit-clause-step : goal.returns-in_ok-local
 returns-in_ok-local_init-in-LocalInit-clause-step c = λ rest. rw c.in-LocalInit.is (c.in_ok-local_init-in-LocalInit.ensures.step rest)
 
 pub returns-in-LocalAlloc-clause-step : goal.returns-in-LocalAlloc-clause-step
-returns-in-LocalAlloc-clause-step c = λ rest. rw c.in-LocalAlloc.is (c.local_alloc.ensures rest)
+returns-in-LocalAlloc-clause-step c = λ rest. rw c.in-LocalAlloc.is (c.local_alloc.ensures.step rest)
 
 pub returns-in-LocalReAlloc-clause-step : goal.returns-in-LocalReAlloc-clause-step
-returns-in-LocalReAlloc-clause-step c = λ rest. rw c.in-LocalReAlloc.is (c.local_realloc.ensures rest)
+returns-in-LocalReAlloc-clause-step c = λ rest. rw c.in-LocalReAlloc.is (c.local_realloc.ensures.step rest)
 
 pub returns-in-LocalDiscard-clause-step : goal.returns-in-LocalDiscard-clause-step
 returns-in-LocalDiscard-clause-step c = λ rest. rw c.in-LocalDiscard.is (c.local_discard.ensures rest)
@@ -33,7 +33,7 @@ pub returns-in-LocalHandle-clause-step : goal.returns-in-LocalHandle-clause-step
 returns-in-LocalHandle-clause-step c = λ rest. rw c.in-LocalHandle.is (c.local_handle.ensures rest, refl)
 
 pub returns-in-LocalCompact-clause-step : goal.returns-in-LocalCompact-clause-step
-returns-in-LocalCompact-clause-step c = λ rest. rw c.in-LocalCompact.is (c.local_compact.ensures rest)
+returns-in-LocalCompact-clause-step c = λ rest. rw c.in-LocalCompact.is (c.local_compact.ensures.step rest)
 
 pub returns-in_err-local_init-in-LocalInit-clause-wanted : goal.returns-in_err-local_init-in-LocalInit-clause-wanted
 returns-in_err-local_init-in-LocalInit-clause-wanted c = on_any c.from_residual.result _ (λ rest. rw c.in-LocalInit.is (c.in_err-local_init-in-LocalInit.ensures.wanted rest))

@@ -11,16 +11,17 @@ use Rattle.w16_local.specs.declared.steps.Step.TheVariants.{Enter}
 use Rattle.w16_local.proofs.Acting.{may_in}
 use Rattle.w16_local.proofs.Calling.{alloc_as, alloc_calls, alloc_empty, alloc_full, alloc_none, enter_calls, no_object, rounded_size}
 use Rattle.w16_local.proofs.Stepping.{holds_in}
+use Rattle.w16_machine.proofs.LocalFewest.{local_alloc_law}
 use Rattle.w16_local.proofs.LocalHeaps.local_alloc.Goals as goal
 
-pub returns-in_default : goal.returns-in_default
-returns-in_default c = alloc_none c.args.global.now.handles c.args.self.now c.args.ds c.args.flags c.args.size c.in_default.ensures.none
+pub returns-in_default-clause-step : goal.returns-in_default-clause-step
+returns-in_default-clause-step c = alloc_none c.args.global.now.handles c.args.self.now c.args.ds c.args.flags c.args.size c.in_default.ensures.none
 
-pub returns-in_default-free_entry : goal.returns-in_default-free_entry
-returns-in_default-free_entry c = let is = c.in-Some.ensures.some in alloc_full is c.args.flags c.args.size (holds_in IsFull is.kept c.in_default-free_entry.ensures.none)
+pub returns-in_default-free_entry-clause-step : goal.returns-in_default-free_entry-clause-step
+returns-in_default-free_entry-clause-step c = let is = c.in-Some.ensures.some in alloc_full is c.args.flags c.args.size (holds_in IsFull is.kept c.in_default-free_entry.ensures.none)
 
-pub returns-then-not-has_flag : goal.returns-then-not-has_flag
-returns-then-not-has_flag c = alloc_empty c.in-Some.ensures.some c.args.flags c.args.size c.if-size-eq0.true (sym c.has_flag.ensures ∙ c.if-not-has_flag.true)
+pub returns-then-not-has_flag-clause-step : goal.returns-then-not-has_flag-clause-step
+returns-then-not-has_flag-clause-step c = alloc_empty c.in-Some.ensures.some c.args.flags c.args.size c.if-size-eq0.true (sym c.has_flag.ensures ∙ c.if-not-has_flag.true)
 
 pub step-requires : goal.step-requires
 step-requires c =
@@ -31,8 +32,8 @@ step-requires c =
 pub overflow_cast-result : goal.overflow_cast-result
 overflow_cast-result c = let is = c.in-Some.ensures.some in let lowest = holds_in (λ (t : Table). IsLowest t c.in-Some-free_entry.id) is.kept c.in-Some-free_entry.ensures.found in let lt = lowest.known in omega (arith, lt)
 
-pub returns-then-size-eq0 : goal.returns-then-size-eq0
-returns-then-size-eq0 c =
+pub returns-then-size-eq0-clause-step : goal.returns-then-size-eq0-clause-step
+returns-then-size-eq0-clause-step c =
     let is = c.in-Some.ensures.some in
     let lowest = holds_in (λ (t : Table). IsLowest t c.in-Some-free_entry.id) is.kept c.in-Some-free_entry.ensures.found in
     enter_calls is c.args.flags c.args.size c.in-Some-free_entry.id lowest c.if-size-eq0.true (sym c.has_flag.ensures ∙ c.if-not-has_flag.false) c.step.result c.step.new.self
@@ -45,8 +46,23 @@ act-requires c =
     may_in is (Alloc c.in-Some-free_entry.id c.rounded_up.result c.local_kind.result c.local_way.result)
     ((lowest.known, no_object is c.in-Some-free_entry.id lowest.free), rounded_size c.args.size c.rounded_up.result c.rounded_up.ensures (let some = c.if-size-eq0.false in omega (arith, some)))
 
-pub returns : goal.returns
-returns c =
+pub returns-clause-step : goal.returns-clause-step
+returns-clause-step c =
     let is = c.in-Some.ensures.some in
     let lowest = holds_in (λ (t : Table). IsLowest t c.in-Some-free_entry.id) is.kept c.in-Some-free_entry.ensures.found in
     alloc_calls is c.args.flags c.args.size c.in-Some-free_entry.id lowest (let some = c.if-size-eq0.false in omega (arith, some)) (alloc_as c.rounded_up.ensures c.local_kind.ensures c.local_way.ensures c.act.ensures)
+
+pub returns-in_default-clause-fewest : goal.returns-in_default-clause-fewest
+returns-in_default-clause-fewest c = λ rest is at chosen. local_alloc_law _ _ c.args.flags c.args.size _ at is (returns-in_default-clause-step c rest) chosen
+
+pub returns-in_default-free_entry-clause-fewest : goal.returns-in_default-free_entry-clause-fewest
+returns-in_default-free_entry-clause-fewest c = λ rest is at chosen. local_alloc_law _ _ c.args.flags c.args.size _ at is (returns-in_default-free_entry-clause-step c rest) chosen
+
+pub returns-then-not-has_flag-clause-fewest : goal.returns-then-not-has_flag-clause-fewest
+returns-then-not-has_flag-clause-fewest c = λ rest is at chosen. local_alloc_law _ _ c.args.flags c.args.size _ at is (returns-then-not-has_flag-clause-step c rest) chosen
+
+pub returns-then-size-eq0-clause-fewest : goal.returns-then-size-eq0-clause-fewest
+returns-then-size-eq0-clause-fewest c = λ rest is at chosen. local_alloc_law _ _ c.args.flags c.args.size _ at is (returns-then-size-eq0-clause-step c rest) chosen
+
+pub returns-clause-fewest : goal.returns-clause-fewest
+returns-clause-fewest c = λ rest is at chosen. local_alloc_law _ _ c.args.flags c.args.size _ at is (returns-clause-step c rest) chosen

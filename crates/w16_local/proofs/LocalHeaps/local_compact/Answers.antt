@@ -1,13 +1,20 @@
 use Rattle.w16_local.specs.declared.acts.Act.TheVariants.{Compact}
 use Rattle.w16_local.proofs.Acting.{may_in}
 use Rattle.w16_local.proofs.Calling.{compact_calls, compact_none}
+use Rattle.w16_machine.proofs.LocalFewest.{local_compact_law}
 use Rattle.w16_local.proofs.LocalHeaps.local_compact.Goals as goal
 
-pub returns-in_default : goal.returns-in_default
-returns-in_default c = compact_none c.args.global.now.handles c.args.self.now c.args.ds c.args.size c.in_default.ensures.none
+pub returns-in_default-clause-step : goal.returns-in_default-clause-step
+returns-in_default-clause-step c = compact_none c.args.global.now.handles c.args.self.now c.args.ds c.args.size c.in_default.ensures.none
 
 pub act-requires : goal.act-requires
 act-requires c = may_in c.in-Some.ensures.some (Compact c.args.size) tt
 
-pub returns : goal.returns
-returns c = compact_calls c.in-Some.ensures.some c.args.size c.act.ensures
+pub returns-clause-step : goal.returns-clause-step
+returns-clause-step c = compact_calls c.in-Some.ensures.some c.args.size c.act.ensures
+
+pub returns-in_default-clause-fewest : goal.returns-in_default-clause-fewest
+returns-in_default-clause-fewest c = λ rest is at chosen. local_compact_law _ _ c.args.size _ at is (returns-in_default-clause-step c rest) chosen
+
+pub returns-clause-fewest : goal.returns-clause-fewest
+returns-clause-fewest c = λ rest is at chosen. local_compact_law _ _ c.args.size _ at is (returns-clause-step c rest) chosen

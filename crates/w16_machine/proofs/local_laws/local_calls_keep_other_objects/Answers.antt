@@ -1,5 +1,8 @@
-use Rattle.w16_machine.proofs.LocalOthers.{local_others_law}
+use Rattle.w16_machine.proofs.LocalOthers.{local_others_law, local_pinned_law}
 use Rattle.w16_machine.proofs.local_laws.local_calls_keep_other_objects.Goals as goal
 
-pub returns : goal.returns
-returns c = local_others_law
+pub returns-clause-others : goal.returns-clause-others
+returns-clause-others c = local_others_law
+
+pub returns-clause-pinned : goal.returns-clause-pinned
+returns-clause-pinned c = local_pinned_law

@@ -1,10 +1,14 @@
-use Rattle.std.proofs.Common.{List, ap, subst, sym, ◌∙◌, ℕ}
+use Rattle.std.proofs.Common.{List, ap, if◌then◌else◌, inl, inr, subst, sym, ◌∙◌, ℕ}
+use Rattle.w16_model.specs.Heap.{Heap}
+use Rattle.w16_model.specs.Request.{moved_bytes}
+use Rattle.w16_model.specs.Table.{Table, heap_in}
+use Rattle.w16_region.specs.Bytes.{counted}
 use Rattle.w16_arena.specs.State.{ArenaState}
 use Rattle.w16_local.specs.Acts.{Acted}
 use Rattle.w16_local.specs.Kept.{IsKept}
 use Rattle.w16_local.specs.declared.acts.Act.TheVariants.{Alloc}
 use Rattle.w16_local.proofs.Entries.{is_local}
-use Rattle.w16_local.proofs.OneAct.{absent, grained, heap_after, known, may_shown, on_err, over_after, alloc_done, alloc_idle, alloc_kept}
+use Rattle.w16_local.proofs.OneAct.{absent, grained, heap_after, known, may_shown, on_err, over_after, alloc_done, alloc_idle, alloc_kept, writes_ok}
 use Rattle.w16_local.proofs.heap.LocalHeap.alloc.Goals as goal
 
 pub alloc-placed-requires : goal.alloc-placed-requires
@@ -45,3 +49,18 @@ invariant_of-self-2 g c =
     subst (λ (free : List ℕ). IsKept c.alloc-placed.new.self.table free) (sym c.set.ensures)
     (alloc_kept c.self.invariant (g.S.Space.bytes c.args.space.now) may.0 c.has_bytes.ensures c.alloc-placed.ensures.rest.range (g.S.Space.bytes c.alloc-placed.new.space) c.alloc-placed.ensures.rest.memory.long
     c.alloc-placed.result (sym c.is_err.ensures.value ∙ c.if-is_err.false) c.args.id c.args.size c.args.kind c.args.way may.1.0.0 c.alloc-placed.ensures.allocated c.alloc-placed.ensures.placed c.has_bytes-2.ensures)
+
+pub returns-then-is_err-clause-written : goal.returns-then-is_err-clause-written
+returns-then-is_err-clause-written g c =
+    let same = on_err c.alloc-placed.result _ (sym c.is_err.ensures.value ∙ c.if-is_err.true) c.alloc-placed.ensures.refused in
+    let bytes : List ℕ = g.S.Space.bytes c.args.space.now in
+    inl (ap (λ (s : ArenaState). heap_in s.table (g.S.Space.bytes c.alloc-placed.new.space)) same.0 ∙ ap (heap_in c.self.inside.arena.table) (ap g.S.Space.bytes same.1) ∙ ap (λ (t : Table). heap_in t bytes) c.self.view_is, ap g.S.Space.written same.1)
+
+pub returns-clause-written : goal.returns-clause-written
+returns-clause-written g c =
+    let bytes : List ℕ = g.S.Space.bytes c.args.space.now in
+    let next : Heap = heap_in c.alloc-placed.new.self.table (g.S.Space.bytes c.alloc-placed.new.space) in
+    let before : ℕ = g.S.Space.written c.args.space.now in
+    let zeros : ℕ = if c.args.way.zero then c.args.size else 0 in
+    inr (writes_ok c.alloc-placed.result (heap_in c.self.inside.arena.table bytes) next c.args.id c.args.size before (g.S.Space.written c.alloc-placed.new.space) zeros (sym c.is_err.ensures.value ∙ c.if-is_err.false) c.alloc-placed.ensures.placed c.alloc-placed.ensures.written
+    ∙ ap (λ (t : Table). counted (counted before (moved_bytes (heap_in t bytes) next)) zeros) c.self.view_is)

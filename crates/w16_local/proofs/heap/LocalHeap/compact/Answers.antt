@@ -1,5 +1,9 @@
-use Rattle.std.proofs.Common.{ap, arith, inl, inr}
+use Rattle.std.proofs.Common.{ap, arith, inl, inr, ◌∙◌}
 use Rattle.std.proofs.lemmas.Bool.{cases_lt}
+use Rattle.w16_model.specs.Heap.{Heap}
+use Rattle.w16_model.specs.Request.{moved_bytes}
+use Rattle.w16_model.specs.Table.{Table, heap_in}
+use Rattle.w16_region.specs.Bytes.{counted}
 use Rattle.w16_local.specs.declared.acts.Act.TheVariants.{Compact}
 use Rattle.w16_local.proofs.OneAct.{compact_acted, compact_bound, compact_kept, may_shown}
 use Rattle.w16_local.proofs.heap.LocalHeap.compact.Goals as goal
@@ -23,3 +27,8 @@ returns-clause-acted g c =
     let may = may_shown c.self.view_is (g.S.Space.bytes c.args.space.now) (Compact c.args.size) c.requires in
     compact_acted c.self.view_is (g.S.Space.bytes c.args.space.now) c.compact.new.self.table (g.S.Space.bytes c.compact.new.space) c.compact.ensures.rest.range c.compact.ensures.rest.memory.outside
     c.self.invariant.is_local.sound may.0 c.args.size c.compact.result.room c.compact.ensures.compacted (λ e. ap g.S.Space.bytes (c.compact.ensures.none e).1)
+
+pub returns-clause-written : goal.returns-clause-written
+returns-clause-written g c =
+    let next : Heap = heap_in c.compact.new.self.table (g.S.Space.bytes c.compact.new.space) in
+    c.compact.ensures.written ∙ ap (counted (g.S.Space.written c.args.space.now)) (c.compact.ensures.slid.moved ∙ ap (λ (t : Table). moved_bytes (heap_in t (g.S.Space.bytes c.args.space.now)) next) c.self.view_is)

@@ -29,3 +29,6 @@ set-requires g c =
     let lt = entry_lt c.self.invariant (g.S.Space.bytes c.args.space.now) may.0 c.args.id may.1.0 in
     let many = c.self.invariant.free_entries.many in
     omega (arith, lt, many)
+
+pub returns-clause-written : goal.returns-clause-written
+returns-clause-written g c = c.free.ensures.bytes.count

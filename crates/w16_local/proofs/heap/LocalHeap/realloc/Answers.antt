@@ -1,10 +1,14 @@
-use Rattle.std.proofs.Common.{List, ap, subst, sym, ◌∙◌, ℕ}
+use Rattle.std.proofs.Common.{List, ap, if◌then◌else◌, inl, inr, length, option_map, subst, sym, unwrap_or, ◌-◌, ◌∙◌, ℕ}
+use Rattle.w16_model.specs.Heap.{Heap, bytes_at}
+use Rattle.w16_model.specs.Request.{moved_bytes}
+use Rattle.w16_model.specs.Table.{Table, heap_in}
+use Rattle.w16_region.specs.Bytes.{counted}
 use Rattle.w16_arena.specs.State.{ArenaState}
 use Rattle.w16_local.specs.Acts.{Acted}
 use Rattle.w16_local.specs.Kept.{IsKept}
 use Rattle.w16_local.specs.declared.acts.Act.TheVariants.{Realloc}
 use Rattle.w16_local.proofs.Entries.{is_local}
-use Rattle.w16_local.proofs.OneAct.{grained, has_entry, heap_after, may_shown, on_err, over_after, realloc_done, realloc_idle, realloc_kept}
+use Rattle.w16_local.proofs.OneAct.{grained, has_entry, heap_after, may_shown, on_err, over_after, realloc_done, realloc_idle, realloc_kept, writes_ok}
 use Rattle.w16_local.proofs.heap.LocalHeap.realloc.Goals as goal
 
 pub realloc-placed-requires : goal.realloc-placed-requires
@@ -44,3 +48,17 @@ invariant_of-self-2 g c =
     let may = may_shown c.self.view_is (g.S.Space.bytes c.args.space.now) (Realloc c.args.id c.args.size c.args.way) c.requires in
     realloc_kept c.self.invariant (g.S.Space.bytes c.args.space.now) may.0 c.has_bytes.ensures c.realloc-placed.ensures.rest.range (g.S.Space.bytes c.realloc-placed.new.space) c.realloc-placed.ensures.rest.memory.long
     c.realloc-placed.result (sym c.is_err.ensures.value ∙ c.if-is_err.false) c.args.id c.args.size c.args.way c.realloc-placed.ensures.reallocated
+
+pub returns-then-is_err-clause-written : goal.returns-then-is_err-clause-written
+returns-then-is_err-clause-written g c =
+    let same = on_err c.realloc-placed.result _ (sym c.is_err.ensures.value ∙ c.if-is_err.true) c.realloc-placed.ensures.refused in
+    let bytes : List ℕ = g.S.Space.bytes c.args.space.now in
+    inl (ap (λ (s : ArenaState). heap_in s.table (g.S.Space.bytes c.realloc-placed.new.space)) same.0 ∙ ap (heap_in c.self.inside.arena.table) (ap g.S.Space.bytes same.1) ∙ ap (λ (t : Table). heap_in t bytes) c.self.view_is, ap g.S.Space.written same.1)
+
+pub returns-clause-written : goal.returns-clause-written
+returns-clause-written g c =
+    let bytes : List ℕ = g.S.Space.bytes c.args.space.now in
+    let next : Heap = heap_in c.realloc-placed.new.self.table (g.S.Space.bytes c.realloc-placed.new.space) in
+    let before : ℕ = g.S.Space.written c.args.space.now in
+    inr (writes_ok c.realloc-placed.result (heap_in c.self.inside.arena.table bytes) next c.args.id c.args.size before (g.S.Space.written c.realloc-placed.new.space) _ (sym c.is_err.ensures.value ∙ c.if-is_err.false) c.realloc-placed.ensures.placed c.realloc-placed.ensures.written
+    ∙ ap (λ (t : Table). counted (counted before (moved_bytes (heap_in t bytes) next)) (if c.args.way.zero then c.args.size - unwrap_or (option_map length (bytes_at (heap_in t bytes) c.args.id)) 0 else 0)) c.self.view_is)

@@ -1,0 +1,126 @@
+-- What each step leaves of objects that it isn't about, and of pinned ones, whatever the store answers.
+use Rattle.std.proofs.Common.{◌≡◌, ℕ, inl, inr, ◌⊎◌, true, false, List, Option, Some, None, MatchOption, IsSomeAnd, is_some, refl, sym, subst}
+use Rattle.std.specs.FinMap as finmap
+use Rattle.w16_model.specs.Calls as calls
+use Rattle.w16_model.specs.CallLaws.{IsAbout}
+use Rattle.w16_model.specs.Handles.{Handles}
+use Rattle.w16_model.specs.Heap.{Object, object_at, is_pinned_object}
+use Rattle.w16_model.specs.Law.{StandsStill}
+use Rattle.w16_model.specs.Outcomes.{Call, CallStep}
+use Rattle.w16_model.specs.Outcomes.Call.{Calls}
+use Rattle.w16_model.proofs.Bystanders as calls_proofs
+use Rattle.w16_loading.specs.AnyStore.{AnyFetches, AnyLoads}
+use Rattle.w16_loading.specs.Bystanders.{IsReleased, IsStepAbout, StepBystandersLaw, StepPinnedLaw, call_of, releases, step_may_move_own}
+use Rattle.w16_loading.specs.Families.{AddsBuiltIn, FamilyStep, GivesBuiltIn, LoadingCommand, ModuleCommand, ModuleStep, ResourceCommand, ResourceStep, built_in}
+use Rattle.w16_loading.specs.Families.LoadingCommand.{OfHandles, OfResizes, OfFar, OfModules, OfResources}
+use Rattle.w16_loading.specs.Families.ModuleCommand.{Builtin, LoadModule, LoadLibrary, FreeLibrary, FreeModule, GetModuleHandle, GetModuleUsage, GetProcAddress}
+use Rattle.w16_loading.specs.Families.ResourceCommand.{FindResource, LoadResource, LockResource, FreeResource, SizeofResource}
+use Rattle.w16_loading.specs.Law.{IsLoadingWorld}
+use Rattle.w16_loading.specs.Modules.{LoadingWorld, handle_named}
+use Rattle.w16_loading.specs.Replies.{Reply, ResizeReplies, answer_in}
+use Rattle.w16_loading.specs.Resizes.{ResizeCommand, ResizeStep}
+use Rattle.w16_loading.specs.Resizes.ResizeCommand.{GlobalReAlloc, GlobalDiscard}
+use Rattle.w16_loading.proofs.CallsKept.{answered}
+use Rattle.w16_loading.proofs.Owners.{some_of}
+use Rattle.w16_loading.proofs.Spared.{HasPinned, IsSpared, same_spared}
+use Rattle.w16_loading.proofs.SparedByFrees.{IsSparedOrTaken, resource_ended, uses_ended}
+use Rattle.w16_loading.proofs.SparedByLoads.{modules_loaded, resource_loaded}
+use Rattle.w16_loading.proofs.SparedByUses.{access_spares, access_stands, lock_spares, lock_stands}
+
+-- a resize is the call that it stands for
+resize_call : (old : Handles) (command : ResizeCommand) (reply : Reply) (next : Handles) → ResizeReplies old command reply next → (answer : calls.Answer) × CallStep old (call_of command) answer next
+resize_call old command reply next step = let s : (answer : calls.Answer) × ResizeStep old command answer next = some_of (λ answer. ResizeStep old command answer next) (answer_in reply) step in by command s.0 s.1
+  where
+    by : (command : ResizeCommand) (answer : calls.Answer) → ResizeStep old command answer next → (answer : calls.Answer) × CallStep old (call_of command) answer next
+    by (GlobalReAlloc handle size flags) (calls.Answer.Word answer) step = (calls.Answer.Word answer, step)
+    by (GlobalDiscard handle) (calls.Answer.Word answer) step = (calls.Answer.Word answer, step)
+    by (GlobalReAlloc handle size flags) (calls.Answer.Dword answer) step = absurd step
+    by (GlobalReAlloc handle size flags) (calls.Answer.Walked answer) step = absurd step
+    by (GlobalDiscard handle) (calls.Answer.Dword answer) step = absurd step
+    by (GlobalDiscard handle) (calls.Answer.Walked answer) step = absurd step
+
+module _ (old : LoadingWorld) (is : IsLoadingWorld old) (q : ℕ) (there : is_some (object_at old.handles.heap q) ≡ true) (new : LoadingWorld) (reply : Reply) where
+  abbrev Spared : LoadingWorld → Type 0
+  Spared world = IsSpared old.handles.heap world.handles.heap q
+
+  -- an object is spared, or gone with its module
+  abbrev SparedOrReleased : LoadingCommand → Type 0
+  SparedOrReleased command = Spared new ⊎ IsReleased command old.handles new.handles q
+
+  same_world : new ≡ old → Spared new
+  same_world e = subst Spared (sym e) (same_spared old.handles.heap q)
+
+  call_spares : (call : Call) (answer : calls.Answer) (next : Handles) → CallStep old.handles call answer next → (IsAbout old.handles call q → ⊥) → IsSpared old.handles.heap next.heap q
+  call_spares call answer next step out = (calls_proofs.bystanders_law old.handles next call answer q is.handles step there out, λ pinned. calls_proofs.pinned_law old.handles next call answer q is.handles step pinned (λ m. out))
+
+  built : (name : List ℕ) (handle : ℕ) → GivesBuiltIn old name handle new → Spared new
+  built name handle step = turn (handle_named old.modules name) step
+    where
+      turn : (p : Option ℕ) → MatchOption p (AddsBuiltIn old name handle new) (λ there. (handle ≡ built_in (finmap.get old.modules there) there) × (new ≡ old)) → Spared new
+      turn None (inl f) = same_world f.2
+      turn None (inr f) = subst Spared (sym f.1) (same_spared old.handles.heap q)
+      turn (Some there) f = same_world f.1
+
+  taken : (command : LoadingCommand) → releases command ≡ true → IsSparedOrTaken old new q → SparedOrReleased command
+  taken command r (inl s) = inl s
+  taken command r (inr g) = inr (r, g.0, g.1)
+
+  modules : (command : ModuleCommand) → ModuleStep AnyLoads old command reply new → SparedOrReleased (OfModules command)
+  modules (Builtin name) f = inl (built name f.0 f.2)
+  modules (LoadModule file) f = inl (modules_loaded old is q there true file f.0 new f.2)
+  modules (LoadLibrary file) f = inl (modules_loaded old is q there false file f.0 new f.2)
+  modules (FreeLibrary handle) f = taken (OfModules (FreeLibrary handle)) refl (uses_ended old is q handle f.0 new f.2)
+  modules (FreeModule handle) f = taken (OfModules (FreeModule handle)) refl (uses_ended old is q handle f.0 new f.2)
+  modules (GetModuleHandle name) f = inl (same_world f.1)
+  modules (GetModuleUsage handle) f = inl (same_world f.1)
+  modules (GetProcAddress handle label) f = inl (same_world f.1)
+
+  resources : (command : ResourceCommand) → ResourceStep AnyFetches old command reply new → (IsStepAbout old.handles (OfResources command) q → ⊥) → SparedOrReleased (OfResources command)
+  resources (FindResource handle name kind) f out = inl (same_world f.1)
+  resources (LoadResource handle place) f out = inl (resource_loaded old is q there new reply handle place f)
+  resources (LockResource handle) f out = inl (lock_spares old is q there new reply handle out f)
+  resources (FreeResource handle) f out = taken (OfResources (FreeResource handle)) refl (subst (λ w. IsSparedOrTaken old w q) (sym f.1) (resource_ended old is q handle))
+  resources (SizeofResource handle place) f out = inl (same_world f.1)
+
+  family_spares : (command : LoadingCommand) → FamilyStep AnyFetches AnyLoads old command reply new → (IsStepAbout old.handles command q → ⊥) → SparedOrReleased command
+  family_spares (OfHandles command) f out = let c : (answer : calls.Answer) × CallStep old.handles (Calls command) answer f.0 = answered old is command reply f.0 f.1 in inl (subst Spared (sym f.2) (call_spares (Calls command) c.0 f.0 c.1 out))
+  family_spares (OfResizes command) f out = let c : (answer : calls.Answer) × CallStep old.handles (call_of command) answer f.0 = resize_call old.handles command reply f.0 f.1 in inl (subst Spared (sym f.2) (call_spares (call_of command) c.0 f.0 c.1 out))
+  family_spares (OfFar command) f out = inl (access_spares old is q there new reply command out f)
+  family_spares (OfModules command) f out = modules command f
+  family_spares (OfResources command) f out = resources command f out
+
+  -- Where the object is pinned, its own accesses, locks and calls leave it in place too, but for its reallocation and freeing.
+  module _ (pinned : HasPinned old.handles.heap q) where
+    abbrev Stands : LoadingWorld → Type 0
+    Stands world = StandsStill old.handles.heap world.handles.heap q
+
+    abbrev StandsOrReleased : LoadingCommand → Type 0
+    StandsOrReleased command = Stands new ⊎ IsReleased command old.handles new.handles q
+
+    spared_stands : (command : LoadingCommand) → SparedOrReleased command → StandsOrReleased command
+    spared_stands command (inl s) = inl (s.1 pinned)
+    spared_stands command (inr r) = inr r
+
+    resource_stands : (command : ResourceCommand) → ResourceStep AnyFetches old command reply new → StandsOrReleased (OfResources command)
+    resource_stands (FindResource handle name kind) f = spared_stands (OfResources (FindResource handle name kind)) (resources (FindResource handle name kind) f (λ about. about))
+    resource_stands (LoadResource handle place) f = spared_stands (OfResources (LoadResource handle place)) (resources (LoadResource handle place) f (λ about. about))
+    resource_stands (LockResource handle) f = inl (lock_stands old is q there new reply pinned handle f)
+    resource_stands (FreeResource handle) f = spared_stands (OfResources (FreeResource handle)) (resources (FreeResource handle) f (λ about. about))
+    resource_stands (SizeofResource handle place) f = spared_stands (OfResources (SizeofResource handle place)) (resources (SizeofResource handle place) f (λ about. about))
+
+    family_stands : (command : LoadingCommand) → FamilyStep AnyFetches AnyLoads old command reply new → (step_may_move_own command ≡ true → IsStepAbout old.handles command q → ⊥) → StandsOrReleased command
+    family_stands (OfHandles command) f out = let c : (answer : calls.Answer) × CallStep old.handles (Calls command) answer f.0 = answered old is command reply f.0 f.1 in inl (subst Stands (sym f.2) (calls_proofs.pinned_law old.handles f.0 (Calls command) c.0 q is.handles c.1 pinned out))
+    family_stands (OfResizes command) f out = let c : (answer : calls.Answer) × CallStep old.handles (call_of command) answer f.0 = resize_call old.handles command reply f.0 f.1 in inl (subst Stands (sym f.2) (calls_proofs.pinned_law old.handles f.0 (call_of command) c.0 q is.handles c.1 pinned out))
+    family_stands (OfFar command) f out = inl (access_stands old is q there new reply pinned command f)
+    family_stands (OfModules command) f out = spared_stands (OfModules command) (modules command f)
+    family_stands (OfResources command) f out = resource_stands command f
+
+pub bystanders_law : StepBystandersLaw
+bystanders_law old new command reply q is step there out = elim (family_spares old is q there (record new { failures = old.failures }) reply command step.step out) [ inl s ↦ inl s.0 | inr r ↦ inr r ]
+
+pub pinned_law : StepPinnedLaw
+pinned_law old new command reply q is step pinned out = family_stands old is q (some (object_at old.handles.heap q) pinned) (record new { failures = old.failures }) reply pinned command step.step out
+  where
+    some : (p : Option Object) → IsSomeAnd p (λ o. is_pinned_object o ≡ true) → is_some p ≡ true
+    some None h = absurd h
+    some (Some o) h = refl

@@ -1,0 +1,114 @@
+-- What is left of an object that a step isn't about: it is kept or discarded, and stands where it stood if it is pinned.
+use Rattle.std.proofs.Common.{◌≡◌, ◌≢◌, ℕ, inl, inr, ◌⊎◌, ◌||◌, Bool, true, false, cond, not, nat_lt, List, Option, Some, None, IfSome, IsSomeAnd, is_some, refl, sym, ap, ◌∙◌, subst}
+use Rattle.std.specs.Ordering.{nat_cmp}
+use Rattle.std.specs.FinMap as finmap
+use Rattle.std.specs.FinMap.{FinMap}
+use Rattle.std.proofs.lemmas.Bool.{false≢true, cases_eq}
+use Rattle.w16_model.specs.Heap.{Heap, Object, IsHeap, object_at, bytes_at, is_fixed, is_pinned_object}
+use Rattle.w16_model.specs.Changes.{with_ordered, with_newest}
+use Rattle.w16_model.specs.Request.{Settles, discarded, stays_for}
+use Rattle.w16_model.specs.CallLaws.{IsKeptOrDiscarded}
+use Rattle.w16_model.specs.Law.{StandsStill}
+use Rattle.w16_model.specs.Owned.{any_way}
+use Rattle.w16_model.proofs.KeptHeaps.{bytes_in}
+use Rattle.w16_model.proofs.Outcomes.{address_law}
+use Rattle.w16_loading.specs.declared.FetchFault.{FetchFault}
+use Rattle.w16_loading.specs.Modules.{LoadingWorld}
+use Rattle.w16_loading.specs.Fill.{Fills, is_of_read}
+use Rattle.w16_loading.specs.AnyStore.{AnyFetches}
+use Rattle.w16_loading.specs.Release.{heap_without}
+use Rattle.w16_loading.proofs.Fillings.{IsLost, kept_then, settled_so, filled_other, one_does}
+use Rattle.w16_loading.proofs.Undone.{retained}
+
+-- a fixed or locked object is there
+abbrev pub HasPinned : Heap → ℕ → Type 0
+HasPinned heap q = IsSomeAnd (object_at heap q) (λ o. is_pinned_object o ≡ true)
+
+abbrev pub IsSpared : Heap → Heap → ℕ → Type 0
+IsSpared old new q = IsKeptOrDiscarded old new q × (HasPinned old q → StandsStill old new q)
+
+-- An object and its address that don't change.
+
+pub stays_put : (old new : Heap) (q : ℕ) → finmap.get new.places q ≡ finmap.get old.places q → StandsStill old new q
+stays_put old new q same = turn (finmap.get old.places q) same
+  where
+    turn : (p : Option ℕ) → finmap.get new.places q ≡ p → IfSome p (λ at. finmap.get new.places q ≡ Some at)
+    turn None e = tt
+    turn (Some at) e = e
+
+pub left_alone : (old new : Heap) (q : ℕ) → object_at new q ≡ object_at old q → finmap.get new.places q ≡ finmap.get old.places q → IsSpared old new q
+left_alone old new q object place = (inl object, λ pinned. stays_put old new q place)
+
+pub same_spared : (heap : Heap) (q : ℕ) → IsSpared heap heap q
+same_spared heap q = left_alone heap heap q refl refl
+
+-- one that isn't among those that go
+pub spared_without : (gone : ℕ → Bool) (heap : Heap) (q : ℕ) → gone q ≡ false → IsSpared heap (heap_without gone heap) q
+spared_without gone heap q t = left_alone heap (heap_without gone heap) q (stays heap.objects) (stays heap.places)
+  where
+    stays : {X : Type 0} (m : FinMap nat_cmp X) → finmap.get (finmap.retain_keys m (λ q. not (gone q))) q ≡ finmap.get m q
+    stays m = retained m gone q ∙ ap (λ b. cond (not b) (finmap.get m q) None) t
+
+-- One after another.
+
+pub stands_then : (old next new : Heap) (q : ℕ) → StandsStill old next q → StandsStill next new q → StandsStill old new q
+stands_then old next new q a b = turn (finmap.get old.places q) a
+  where
+    turn : (p : Option ℕ) → IfSome p (λ at. finmap.get next.places q ≡ Some at) → IfSome p (λ at. finmap.get new.places q ≡ Some at)
+    turn None h = tt
+    turn (Some at) h = subst (λ p. IfSome p (λ at. finmap.get new.places q ≡ Some at)) h b
+
+-- what is discarded wasn't pinned
+still_pinned : (old next : Heap) (q : ℕ) → IsKeptOrDiscarded old next q → HasPinned old q → HasPinned next q
+still_pinned old next q (inl e) pinned = subst (λ p. IsSomeAnd p (λ o. is_pinned_object o ≡ true)) (sym e) pinned
+still_pinned old next q (inr h) pinned = absurd (turn (object_at old q) h pinned)
+  where
+    turn : (p : Option Object) → IsSomeAnd p (IsLost next q) → IsSomeAnd p (λ o. is_pinned_object o ≡ true) → ⊥
+    turn None h k = h
+    turn (Some o) h k = false≢true (sym (λ i. is_fixed (h.0 i) || nat_lt 0 (h.1 i)) ∙ k)
+
+pub spared_then : (old next new : Heap) (q : ℕ) → IsSpared old next q → IsSpared next new q → IsSpared old new q
+spared_then old next new q a b = (kept_then old next new q a.0 b.0, λ pinned. stands_then old next new q (a.1 pinned) (b.1 (still_pinned old next q a.0 pinned)))
+
+-- Another object gets bytes.
+
+pub filled_spared : (old : Heap) (slot : ℕ) (bytes : List ℕ) (new : Heap) → IsHeap old → Fills old slot bytes true new → (q : ℕ) → q ≢ slot → IsSpared old new q
+filled_spared old slot bytes new is f q d = (
+  filled_other old slot bytes new f is q d,
+  λ pinned. ((address_law old new is settled.0).0 slot any_way settled.1 (with_newest slot settled.1) settled.2).pinned q apart pinned,
+)
+  where
+    settled : (k : ℕ) × (o : Object) × Settles old (stays_for slot any_way) (with_ordered (discarded old k (Some slot)) slot o (with_newest slot o)) new
+    settled = settled_so old slot bytes new f
+
+    apart : Some slot ≢ Some q
+    apart e = let same : slot ≡ q = cc in d (sym same)
+
+-- what has no bytes stands nowhere
+nowhere_still : (old new : Heap) (q : ℕ) → IsHeap old → bytes_at old q ≡ None → StandsStill old new q
+nowhere_still old new q is none = turn (finmap.get old.places q) refl
+  where
+    turn : (p : Option ℕ) → finmap.get old.places q ≡ p → IfSome p (λ at. finmap.get new.places q ≡ Some at)
+    turn None e = tt
+    turn (Some at) e = absurd (false≢true (sym (is.at_bytes q ∙ ap is_some none) ∙ ap is_some e))
+
+module _ (old : LoadingWorld) (is : IsHeap old.handles.heap) (slot : ℕ) (fault : Option FetchFault) (next : LoadingWorld) (fetched : AnyFetches old slot fault next) (q : ℕ) where
+  abbrev heap_before : Heap
+  heap_before = old.handles.heap
+
+  abbrev heap_after : Heap
+  heap_after = next.handles.heap
+
+  pub fetch_spares : q ≢ slot → IsSpared heap_before heap_after q
+  fetch_spares d = (one_does (λ a b. IsSpared a b q) (λ h. same_spared h q) (λ a b c. spared_then a b c q) is_of_read heap_before slot fetched.bytes fault heap_after is (λ g. filled_spared heap_before slot fetched.bytes heap_after is g q d) fetched.filled).0
+
+  -- what is fetched had no place, so nothing that is pinned moves
+  pub fetch_stands : HasPinned heap_before q → StandsStill heap_before heap_after q
+  fetch_stands pinned = by_slot (cases_eq q slot)
+    where
+      itself : q ≡ slot → Fills heap_before slot fetched.bytes true heap_after → StandsStill heap_before heap_after q
+      itself e g = nowhere_still heap_before heap_after q is (ap bytes_in (ap (object_at heap_before) e ∙ g.there) ∙ g.absent)
+
+      by_slot : (q ≡ slot) ⊎ (q ≢ slot) → StandsStill heap_before heap_after q
+      by_slot (inl e) = (one_does (λ a b. StandsStill a b q) (λ h. stays_put h h q refl) (λ a b c. stands_then a b c q) is_of_read heap_before slot fetched.bytes fault heap_after is (itself e) fetched.filled).0
+      by_slot (inr d) = (fetch_spares d).1 pinned

@@ -1,0 +1,130 @@
+-- Loads of modules and of resources spare every object that was there.
+use Rattle.std.proofs.Common.{◌≡◌, ◌≢◌, ℕ, inl, inr, ◌⊎◌, Bool, true, false, cond, nat_lt, ◌+◌, MatchBool, MatchOption, fold, List, Option, Some, None, is_some, refl, sym, ap, ◌∙◌, subst}
+use Rattle.std.specs.FinMap as finmap
+use Rattle.std.proofs.lemmas.Bool.{false≢true, cases_Bool}
+use Rattle.w16_model.specs.Discards.{is_member}
+use Rattle.w16_model.specs.Heap.{Heap, object_at}
+use Rattle.w16_model.specs.Handles.{IsFreeSlot, AreHandles, handle_of}
+use Rattle.w16_model.proofs.Gaps.{Member}
+use Rattle.w16_model.proofs.Discards.{is_member-true}
+use Rattle.w16_model.proofs.KeptHeaps.{inserted_other}
+use Rattle.w16_model.proofs.KeptHandles.{with_absent_object}
+use Rattle.w16_loading.specs.declared.FetchFault.{FetchFault}
+use Rattle.w16_loading.specs.declared.FetchFault.TheVariants as faults
+use Rattle.w16_loading.specs.File.{Resource}
+use Rattle.w16_loading.specs.Modules.{LoadingWorld, Load, with_heap}
+use Rattle.w16_loading.specs.Fill.{Failure, InTurn}
+use Rattle.w16_loading.specs.Release.{heap_without}
+use Rattle.w16_loading.specs.Closure.{Closure}
+use Rattle.w16_loading.specs.Naming.{Choice, IsChoice, all_slots, bound, fills, given, named, segments_of, with_segment}
+use Rattle.w16_loading.specs.Load.{Answer, Fulfils, left, undone}
+use Rattle.w16_loading.specs.AnyStore.{AnyFetches, AnyLoads, GivesAny}
+use Rattle.w16_loading.specs.Law.{IsLoadingWorld}
+use Rattle.w16_loading.specs.Replies.{Reply}
+use Rattle.w16_loading.specs.Replies.Reply.{Word}
+use Rattle.w16_loading.specs.declared.TheConstants.{MOST_USES}
+use Rattle.w16_loading.specs.Resource.{LoadsResource, LoadsNewResource, AnswersNone, attributes_for, is_too_long, load_of, loaded_again, resource_at, resource_outcome, with_resource}
+use Rattle.w16_loading.proofs.Fillings.{any_do}
+use Rattle.w16_loading.proofs.Given.{filled_chosen}
+use Rattle.w16_loading.proofs.Named.{free_slot, named_handles}
+use Rattle.w16_loading.proofs.Spared.{IsSpared, left_alone, same_spared, spared_then, spared_without, filled_spared, fetch_spares}
+use Rattle.w16_loading.proofs.Stepping.{any_loaded}
+use Rattle.w16_loading.proofs.Undone.{IsNamed, chosen, fold_named}
+
+module _ (old : LoadingWorld) (is : IsLoadingWorld old) (q : ℕ) (there : is_some (object_at old.handles.heap q) ≡ true) where
+  abbrev Spared : LoadingWorld → Type 0
+  Spared world = IsSpared old.handles.heap world.handles.heap q
+
+  not_free : (slot : ℕ) → IsFreeSlot old.handles slot → q ≢ slot
+  not_free slot free e = false≢true (sym (ap is_some (ap (object_at old.handles.heap) e ∙ free.1)) ∙ there)
+
+  -- Modules.
+
+  module _ (closure : Closure) (choice : Choice) (good : IsChoice old closure.found choice) (failure : Option Failure) (heap : Heap)
+      (filled : InTurn GivesAny (named old closure choice).handles.heap (fills old closure choice) failure heap) where
+    abbrev begun : Heap
+    begun = (named old closure choice).handles.heap
+
+    not_chosen : (slot : ℕ) → Member slot (all_slots choice) → q ≢ slot
+    not_chosen slot m = not_free slot (free_slot old closure choice good slot m)
+
+    named_is : IsNamed old (fold with_segment old (segments_of (given closure choice))) (segments_of (given closure choice))
+    named_is = fold_named old (segments_of (given closure choice))
+
+    named_spared : IsSpared old.handles.heap begun q
+    named_spared = left_alone old.handles.heap begun q (named_is.others q (λ x m. not_chosen x.0 (chosen 0 closure.found choice.handles choice.slots x m))) (ap (λ (w : LoadingWorld). finmap.get w.handles.heap.places q) named_is.rest)
+
+    all_filled : IsSpared begun heap q
+    all_filled = (any_do (λ a b. IsSpared a b q) (λ h. same_spared h q) (λ a b c. spared_then a b c q) begun heap (fills old closure choice) failure (named_handles old closure choice is.handles good).heap
+        (λ x m a b bytes h long g. filled_spared a x.slot bytes b h g q (not_chosen x.slot (filled_chosen (bound old closure choice) closure.found choice.handles choice.slots x m))) filled).0
+
+    load_spared : IsSpared old.handles.heap heap q
+    load_spared = spared_then old.handles.heap begun heap q named_spared all_filled
+
+    undone_spared : IsSpared old.handles.heap (heap_without (λ q. is_member q (all_slots choice)) heap) q
+    undone_spared = spared_then old.handles.heap heap (heap_without (λ q. is_member q (all_slots choice)) heap) q load_spared (spared_without (λ q. is_member q (all_slots choice)) heap q stays)
+      where
+        stays : is_member q (all_slots choice) ≡ false
+        stays = elim (cases_Bool (is_member q (all_slots choice))) [ inl t ↦ absurd (not_chosen q (is_member-true q (all_slots choice) t) refl) | inr t ↦ t ]
+
+  fulfilled : (closure : Closure) (answer : Answer) (new : LoadingWorld) → Fulfils GivesAny old closure answer new → Spared new
+  fulfilled closure answer new f = subst Spared (sym f.after) (turn f.failure f.filled)
+    where
+      turn : (failure : Option Failure) → InTurn GivesAny (named old closure f.choice).handles.heap (fills old closure f.choice) failure f.heap → Spared (left failure (with_heap (named old closure f.choice) f.heap) (undone old f.choice f.heap))
+      turn None filled = load_spared closure f.choice f.is_choice None f.heap filled
+      turn (Some failure) filled = undone_spared closure f.choice f.is_choice (Some failure) f.heap filled
+
+  pub modules_loaded : (b : Bool) (file : List ℕ) (answer : Answer) (new : LoadingWorld) → AnyLoads b old file answer new → Spared new
+  modules_loaded b file answer new f = any_loaded (λ answer. Spared) old (λ answer. same_spared old.handles.heap q) b new file answer (λ handle m here few. same_spared old.handles.heap q) (λ closure any h. fulfilled closure answer new h) f
+
+  -- Resources.
+
+  module _ (new : LoadingWorld) (reply : Reply) (handle place : ℕ) where
+    same_world : new ≡ old → Spared new
+    same_world e = subst Spared (sym e) (same_spared old.handles.heap q)
+
+    outcome_is : (outcome : Reply × LoadingWorld) → ◌≡◌ {A = Reply × LoadingWorld} (reply, new) outcome → Spared outcome.1 → Spared new
+    outcome_is outcome e good = subst (λ (p : Reply × LoadingWorld). Spared p.1) (sym e) good
+
+    fresh : (r : Resource) → LoadsNewResource AnyFetches old handle place r reply new → Spared new
+    fresh r f = outcome_is (resource_outcome f.fault (handle_of r.kind f.slot) f.next old) f.outcome (turn f.fault)
+      where
+        are : AreHandles (with_resource old f.slot handle place r).handles
+        are = with_absent_object old.handles is.handles (attributes_for r) f.slot r.kind (with_resource old f.slot handle place r).handles.heap f.free (record { unused = f.free.1; entered = refl })
+
+        next_spared : Spared f.next
+        next_spared = spared_then old.handles.heap (with_resource old f.slot handle place r).handles.heap f.next.handles.heap q
+            (left_alone old.handles.heap (with_resource old f.slot handle place r).handles.heap q (inserted_other old.handles.heap.objects f.slot (record { kind = r.kind; locks = 0; bytes = None }) q (not_free f.slot f.free)) refl)
+            (fetch_spares (with_resource old f.slot handle place r) are.heap f.slot f.fault f.next f.fetched q (not_free f.slot f.free))
+
+        turn : (fault : Option FetchFault) → Spared (resource_outcome fault (handle_of r.kind f.slot) f.next old).1
+        turn None = next_spared
+        turn (Some faults.Store) = same_spared old.handles.heap q
+        turn (Some faults.NoRoom) = same_spared old.handles.heap q
+        turn (Some faults.Damaged) = same_spared old.handles.heap q
+
+    again : (r : Resource) (x : ℕ × Load) → Spared (loaded_again old r x).1
+    again r x = turn (nat_lt x.1.loads MOST_USES)
+      where
+        turn : (b : Bool) → Spared (cond {A = Reply × LoadingWorld} b (Word (handle_of r.kind x.0), record old { loads = finmap.insert old.loads x.0 (record x.1 { loads = x.1.loads + 1 }) }) (Word 0, old)).1
+        turn true = same_spared old.handles.heap q
+        turn false = same_spared old.handles.heap q
+
+    abbrev IsFresh : Resource → Type 0
+    IsFresh r = (((slot : ℕ) → IsFreeSlot old.handles slot → ⊥) × AnswersNone old reply new) ⊎ LoadsNewResource AnyFetches old handle place r reply new
+
+    pub resource_loaded : LoadsResource AnyFetches old handle place reply new → Spared new
+    resource_loaded step = by_resource (resource_at old handle place) step
+      where
+        by_load : (r : Resource) (p : Option (ℕ × Load)) → MatchOption p (IsFresh r) (λ x. (reply, new) ≡ loaded_again old r x) → Spared new
+        by_load r None (inl f) = same_world f.1.1
+        by_load r None (inr f) = fresh r f
+        by_load r (Some x) f = outcome_is (loaded_again old r x) f (again r x)
+
+        by_size : (r : Resource) (b : Bool) → MatchBool b (AnswersNone old reply new) (MatchOption (load_of old handle place) (IsFresh r) (λ x. (reply, new) ≡ loaded_again old r x)) → Spared new
+        by_size r true f = same_world f.1
+        by_size r false f = by_load r (load_of old handle place) f
+
+        by_resource : (p : Option Resource) → MatchOption p (AnswersNone old reply new) (λ r. MatchBool (is_too_long r) (AnswersNone old reply new) (MatchOption (load_of old handle place) (IsFresh r) (λ x. (reply, new) ≡ loaded_again old r x))) → Spared new
+        by_resource None f = same_world f.1
+        by_resource (Some r) f = by_size r (is_too_long r) f

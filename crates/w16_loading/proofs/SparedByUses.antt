@@ -1,0 +1,185 @@
+-- Far accesses and locks of resources spare every object that isn't theirs, and leave theirs where it stands.
+use Rattle.std.proofs.Common.{◌≡◌, ◌≢◌, ℕ, ◌≤◌, ◌/◌, ◌==◌, ◌&&◌, Bool, true, false, cond, MatchBool, MatchOption, IfSome, List, Option, Some, None, is_some, option_map, unwrap_or, refl, sym, ap, ◌∙◌, subst, arith}
+use Rattle.std.specs.FinMap as finmap
+use Rattle.std.proofs.lemmas.Bool.{false≢true}
+use Rattle.w16_model.specs.declared.TheConstants.{FIRST_SLOT}
+use Rattle.w16_model.specs.Bytes.{put_part, repeated}
+use Rattle.w16_model.specs.CallLaws.{KeepsContents}
+use Rattle.w16_model.specs.Calls.{global_lock}
+use Rattle.w16_model.specs.Calls.HandleCommand.{GlobalLock}
+use Rattle.w16_model.specs.Far.{FarAnswer, FarCommand, after_write, far_slot}
+use Rattle.w16_model.specs.Far.FarCommand.{Read, Write, Fill}
+use Rattle.w16_model.specs.Handles.{Handles, AreHandles, IsSlot, handle_of, offset_in, selector_in, selector_of, slot_of_handle, slot_of_selector}
+use Rattle.w16_model.specs.Heap.{Object, bytes_at, object_at}
+use Rattle.w16_model.specs.Law.{StandsStill}
+use Rattle.w16_model.specs.OneObject.{after_touch}
+use Rattle.w16_model.specs.Outcomes.Call.{Calls}
+use Rattle.w16_model.proofs.Bystanders.{bystander}
+use Rattle.w16_model.proofs.CallLaws.{contents}
+use Rattle.w16_model.proofs.CallOutcomes.{call_outcome}
+use Rattle.w16_model.proofs.Heaps.{get-update_other}
+use Rattle.w16_loading.specs.declared.FetchFault.{FetchFault}
+use Rattle.w16_loading.specs.declared.FetchFault.TheVariants as faults
+use Rattle.w16_loading.specs.AnyStore.{AnyFetches}
+use Rattle.w16_loading.specs.Bystanders.{pointer_in}
+use Rattle.w16_loading.specs.Families.{FarStep}
+use Rattle.w16_loading.specs.Fetch.{Accesses, far_read, far_write, gives, needs_fetch}
+use Rattle.w16_loading.specs.Fill.{is_of_read}
+use Rattle.w16_loading.specs.Law.{IsLoadingWorld}
+use Rattle.w16_loading.specs.Modules.{LoadingWorld, Load}
+use Rattle.w16_loading.specs.Replies.{Reply}
+use Rattle.w16_loading.specs.Replies.Reply.{Dword, Failed}
+use Rattle.w16_loading.specs.Resource.{LocksResource, lock_outcome, locked, slot_of_resource}
+use Rattle.w16_loading.proofs.FarCases.{read_cases, write_cases}
+use Rattle.w16_loading.proofs.FetchWorlds.{fetched_world}
+use Rattle.w16_loading.proofs.Fillings.{lost, one_there}
+use Rattle.w16_loading.proofs.Spared.{HasPinned, IsSpared, fetch_spares, fetch_stands, left_alone, same_spared, spared_then, stands_then, stays_put}
+
+-- What holds of a world before an access or a lock, and of each that a fetch leaves, and so of what the access or the lock leaves.
+module _ (P Q : LoadingWorld → Type 0) (old new : LoadingWorld) (reply : Reply) (start : P old) where
+  accessed : (access : LoadingWorld → FarAnswer × LoadingWorld) (selector : ℕ) → ((fault : Option FetchFault) (next : LoadingWorld) → AnyFetches old (far_slot old.handles selector) fault next → P next)
+      → ((world : LoadingWorld) → P world → Q world × Q (access world).1) → Accesses AnyFetches access old selector reply new → Q new
+  accessed access selector fetched does step = turn (needs_fetch (access old).0 old selector) step
+    where
+      after : (next : LoadingWorld) (fault : Option FetchFault) → P next → MatchOption fault (gives (access next) reply new) (λ f. (reply ≡ Failed f) × (new ≡ next)) → Q new
+      after next None good g = subst Q (sym g.1) (does next good).1
+      after next (Some f) good g = subst Q (sym g.1) (does next good).0
+
+      turn : (b : Bool) → MatchBool b
+          ((fault : Option FetchFault) × (next : LoadingWorld) × AnyFetches old (far_slot old.handles selector) fault next × MatchOption fault (gives (access next) reply new) (λ f. (reply ≡ Failed f) × (new ≡ next)))
+          (gives (access old) reply new) → Q new
+      turn true h = after h.1 h.0 (fetched h.0 h.1 h.2) h.3
+      turn false g = subst Q (sym g.1) (does old start).1
+
+  access_does : (command : FarCommand) → ((fault : Option FetchFault) (next : LoadingWorld) → AnyFetches old (far_slot old.handles (selector_in (pointer_in command))) fault next → P next)
+      → ((world : LoadingWorld) → P world → Q world) → ((offset n : ℕ) (world : LoadingWorld) → P world → Q (far_read (selector_in (pointer_in command)) offset n world).1)
+      → ((offset : ℕ) (slice : List ℕ) (world : LoadingWorld) → P world → Q (far_write (selector_in (pointer_in command)) offset slice world).1) → FarStep AnyFetches old command reply new → Q new
+  access_does (Read pointer count) fetched same read written step = accessed (far_read (selector_in pointer) (offset_in pointer) count) (selector_in pointer) fetched (λ w p. (same w p, read (offset_in pointer) count w p)) step
+  access_does (Write pointer bytes) fetched same read written step = accessed (far_write (selector_in pointer) (offset_in pointer) bytes) (selector_in pointer) fetched (λ w p. (same w p, written (offset_in pointer) bytes w p)) step
+  access_does (Fill pointer count byte) fetched same read written step =
+      accessed (far_write (selector_in pointer) (offset_in pointer) (repeated count byte)) (selector_in pointer) fetched (λ w p. (same w p, written (offset_in pointer) (repeated count byte) w p)) step
+
+  lock_does : (handle : ℕ) → ((x : ℕ × Load) (fault : Option FetchFault) (next : LoadingWorld) → slot_of_resource old handle ≡ Some x → AnyFetches old x.0 fault next → P next)
+      → ((world : LoadingWorld) → P world → Q world × Q (locked world handle).1) → LocksResource AnyFetches old handle reply new → Q new
+  lock_does handle fetched does step = by_slot (slot_of_resource old handle) refl step
+    where
+      outcome_is : (outcome : Reply × LoadingWorld) → ◌≡◌ {A = Reply × LoadingWorld} (reply, new) outcome → Q outcome.1 → Q new
+      outcome_is outcome e good = subst (λ (p : Reply × LoadingWorld). Q p.1) (sym e) good
+
+      after : (fault : Option FetchFault) (next : LoadingWorld) → P next → Q (lock_outcome fault handle next).1
+      after None next h = (does next h).1
+      after (Some faults.NoRoom) next h = (does next h).0
+      after (Some faults.Store) next h = (does next h).0
+      after (Some faults.Damaged) next h = (does next h).0
+
+      by_bytes : (x : ℕ × Load) → slot_of_resource old handle ≡ Some x → (p : Option (List ℕ))
+          → MatchOption p ((fault : Option FetchFault) × (next : LoadingWorld) × AnyFetches old x.0 fault next × ((reply, new) ≡ lock_outcome fault handle next)) (λ _. (reply, new) ≡ locked old handle) → Q new
+      by_bytes x e None f = outcome_is (lock_outcome f.0 handle f.1) f.3 (after f.0 f.1 (fetched x f.0 f.1 e f.2))
+      by_bytes x e (Some bytes) f = outcome_is (locked old handle) f (does old start).1
+
+      by_slot : (p : Option (ℕ × Load)) → slot_of_resource old handle ≡ p → MatchOption p ((reply ≡ Dword 0) × (new ≡ old)) (λ x. MatchOption (bytes_at old.handles.heap x.0)
+          ((fault : Option FetchFault) × (next : LoadingWorld) × AnyFetches old x.0 fault next × ((reply, new) ≡ lock_outcome fault handle next)) (λ _. (reply, new) ≡ locked old handle)) → Q new
+      by_slot None e f = subst Q (sym f.1) (does old start).0
+      by_slot (Some x) e f = by_bytes x e (bytes_at old.handles.heap x.0) f
+
+-- The slot that a handle names is a part of it.
+slot_in : (handles : Handles) (handle slot : ℕ) → slot_of_handle handles handle ≡ Some slot → slot ≡ handle / 8
+slot_in handles handle slot = turn (object_at handles.heap (handle / 8))
+  where
+    by_test : (b : Bool) → cond {A = Option ℕ} b (Some (handle / 8)) None ≡ Some slot → slot ≡ handle / 8
+    by_test true e = let same : handle / 8 ≡ slot = cc in sym same
+    by_test false e = cc
+
+    turn : (p : Option Object) → ◌≡◌ {A = Option ℕ} (elim p [ Some o ↦ cond (handle == handle_of o.kind (handle / 8)) (Some (handle / 8)) None | None ↦ None ]) (Some slot) → slot ≡ handle / 8
+    turn None e = cc
+    turn (Some o) e = by_test (handle == handle_of o.kind (handle / 8)) e
+
+named_slot : (old : LoadingWorld) (handle : ℕ) (x : ℕ × Load) → slot_of_resource old handle ≡ Some x → slot_of_handle old.handles handle ≡ Some x.0
+named_slot old handle x = turn (slot_of_handle old.handles handle)
+  where
+    by_load : (slot : ℕ) (p : Option Load) → ◌≡◌ {A = Option (ℕ × Load)} (option_map (λ load. (slot, load)) p) (Some x) → Some slot ≡ Some x.0
+    by_load slot None f = cc
+    by_load slot (Some load) f = let same : ◌≡◌ {A = ℕ × Load} (slot, load) x = cc in ap (λ (y : ℕ × Load). Some y.0) same
+
+    turn : (p : Option ℕ) → ◌≡◌ {A = Option (ℕ × Load)} (elim p [ None ↦ None | Some slot ↦ option_map (λ load. (slot, load)) (finmap.get old.loads slot) ]) (Some x) → p ≡ Some x.0
+    turn None e = cc
+    turn (Some slot) e = by_load slot (finmap.get old.loads slot) e
+
+-- a lock of a handle moves nothing
+lock_contents : (old : Handles) (handle : ℕ) → KeepsContents old (global_lock old handle).1
+lock_contents old handle = contents old (global_lock old handle).1 (Calls (GlobalLock handle)) (global_lock old handle).0 (call_outcome old (global_lock old handle).1 (GlobalLock handle) (global_lock old handle).0 (refl, refl)) refl
+
+module _ (old : LoadingWorld) (is : IsLoadingWorld old) (q : ℕ) (there : is_some (object_at old.handles.heap q) ≡ true) (new : LoadingWorld) (reply : Reply) where
+  abbrev Spared : LoadingWorld → Type 0
+  Spared world = IsSpared old.handles.heap world.handles.heap q
+
+  abbrev Stands : LoadingWorld → Type 0
+  Stands world = StandsStill old.handles.heap world.handles.heap q
+
+  stands_first : Stands old
+  stands_first = stays_put old.handles.heap old.handles.heap q refl
+
+  -- Far accesses.
+
+  -- a selector of no object reaches the slot 0, which no object has
+  not_reached : (selector : ℕ) → slot_of_selector old.handles selector ≢ Some q → q ≢ far_slot old.handles selector
+  not_reached selector out = turn (slot_of_selector old.handles selector) out
+    where
+      slotted : (p : Option Object) → is_some p ≡ true → IfSome p (λ _. IsSlot old.handles q) → IsSlot old.handles q
+      slotted None t h = absurd (false≢true t)
+      slotted (Some o) t h = h
+
+      turn : (p : Option ℕ) → p ≢ Some q → q ≢ unwrap_or p 0
+      turn None out e = let low : FIRST_SLOT ≤ q = (slotted (object_at old.handles.heap q) there (is.handles.slotted q)).0 in omega (arith, low, e)
+      turn (Some slot) out e = out (ap Some (sym e))
+
+  -- a fetch leaves each selector's slot
+  same_slot : (slot selector : ℕ) (fault : Option FetchFault) (next : LoadingWorld) → AnyFetches old slot fault next → far_slot next.handles selector ≡ far_slot old.handles selector
+  same_slot slot selector fault next f = ap (λ b. unwrap_or (cond {A = Option ℕ} (b && (selector == selector_of (selector / 8))) (Some (selector / 8)) None) 0)
+      (one_there is_of_read old.handles.heap slot f.bytes fault next.handles.heap is.handles.heap f.filled (selector / 8))
+
+  pub access_spares : (command : FarCommand) → slot_of_selector old.handles (selector_in (pointer_in command)) ≢ Some q → FarStep AnyFetches old command reply new → Spared new
+  access_spares command out step = access_does (λ w. Spared w × (q ≢ far_slot w.handles selector)) Spared old new reply (same_spared old.handles.heap q, other) command
+      (λ fault next f. (fetch_spares old is.handles.heap (far_slot old.handles selector) fault next f q other, λ e. other (e ∙ same_slot (far_slot old.handles selector) selector fault next f)))
+      (λ w p. p.0) (λ offset n w p. read_cases Spared w p.0 selector offset n p.0)
+      (λ offset slice w p. write_cases Spared w p.0 selector offset slice (λ t e. spared_then old.handles.heap w.handles.heap (after_touch (after_write w.handles.heap (far_slot w.handles selector) offset slice) (far_slot w.handles selector)) q p.0
+      (left_alone w.handles.heap (after_touch (after_write w.handles.heap (far_slot w.handles selector) offset slice) (far_slot w.handles selector)) q
+      (get-update_other w.handles.heap.objects (far_slot w.handles selector) (λ (o : Object). record o { bytes = option_map (λ bytes. put_part bytes offset slice) o.bytes }) q p.1) refl))) step
+    where
+      selector : ℕ
+      selector = selector_in (pointer_in command)
+
+      other : q ≢ far_slot old.handles (selector_in (pointer_in command))
+      other = not_reached (selector_in (pointer_in command)) out
+
+  pub access_stands : HasPinned old.handles.heap q → (command : FarCommand) → FarStep AnyFetches old command reply new → Stands new
+  access_stands pinned command step = access_does Stands Stands old new reply stands_first command
+      (λ fault next f. fetch_stands old is.handles.heap (far_slot old.handles (selector_in (pointer_in command))) fault next f q pinned)
+      (λ w p. p) (λ offset n w p. read_cases Stands w p (selector_in (pointer_in command)) offset n p)
+      (λ offset slice w p. write_cases Stands w p (selector_in (pointer_in command)) offset slice (λ t e. p)) step
+
+  -- Locks of resources.
+
+  lock_stands_of : (world : LoadingWorld) (handle : ℕ) → StandsStill world.handles.heap (locked world handle).1.handles.heap q
+  lock_stands_of world handle = stays_put world.handles.heap (locked world handle).1.handles.heap q (ap (λ places. finmap.get places q) (lock_contents world.handles handle).addresses)
+
+  lock_spares_of : (world : LoadingWorld) (handle : ℕ) → AreHandles world.handles → slot_of_handle world.handles handle ≢ Some q → is_some (object_at world.handles.heap q) ≡ true → IsSpared world.handles.heap (locked world handle).1.handles.heap q
+  lock_spares_of world handle are out some = (
+    bystander world.handles (global_lock world.handles handle).1 are (Calls (GlobalLock handle)) (global_lock world.handles handle).0 q
+        (call_outcome world.handles (global_lock world.handles handle).1 (GlobalLock handle) (global_lock world.handles handle).0 (refl, refl)) (λ flags size e. some) out,
+    λ pinned. lock_stands_of world handle,
+  )
+
+  pub lock_spares : (handle : ℕ) → slot_of_handle old.handles handle ≢ Some q → LocksResource AnyFetches old handle reply new → Spared new
+  lock_spares handle out step = lock_does (λ w. Spared w × AreHandles w.handles × (slot_of_handle w.handles handle ≢ Some q)) Spared old new reply (same_spared old.handles.heap q, is.handles, out) handle
+      (λ x fault next at f. (
+        fetch_spares old is.handles.heap x.0 fault next f q (λ e. out (named_slot old handle x at ∙ ap Some (sym e))),
+        (fetched_world old is x.0 fault next f).handles,
+        λ e. out (named_slot old handle x at ∙ ap Some (slot_in old.handles handle x.0 (named_slot old handle x at) ∙ sym (slot_in next.handles handle q e))),
+      ))
+      (λ w p. (p.0, spared_then old.handles.heap w.handles.heap (locked w handle).1.handles.heap q p.0 (lock_spares_of w handle p.1 p.2 (lost old.handles.heap w.handles.heap q p.0.0 ∙ there)))) step
+
+  pub lock_stands : HasPinned old.handles.heap q → (handle : ℕ) → LocksResource AnyFetches old handle reply new → Stands new
+  lock_stands pinned handle step = lock_does Stands Stands old new reply stands_first handle
+      (λ x fault next at f. fetch_stands old is.handles.heap x.0 fault next f q pinned)
+      (λ w p. (p, stands_then old.handles.heap w.handles.heap (locked w handle).1.handles.heap q p (lock_stands_of w handle))) step

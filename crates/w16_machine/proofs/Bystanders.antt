@@ -1,0 +1,148 @@
+-- What each step spares, and so each step of a run.
+use Rattle.std.proofs.Common.{◌≡◌, ◌≢◌, ℕ, ◌⊎◌, inl, inr, true, List, [], ◌∷◌, Option, Some, None, IsSomeAnd, option_map, refl, sym, ap, ◌∙◌, subst}
+use Rattle.std.specs.List.{AllByRecursion as Each}
+use Rattle.std.specs.FinMap as finmap
+use Rattle.std.proofs.lemmas.Bool.{cases_Bool, cases_eq}
+use Rattle.w16_model.specs.Heap.{Object, object_at, is_pinned_object}
+use Rattle.w16_model.specs.Law.{StandsStill}
+use Rattle.w16_model.specs.Table.{Table}
+use Rattle.w16_model.proofs.Gaps.{Each-from_All}
+use Rattle.w16_model.proofs.KeptHeaps.{bytes_in}
+use Rattle.w16_loading.specs.Families.{LoadingCommand}
+use Rattle.w16_loading.specs.File.{Format}
+use Rattle.w16_loading.specs.Replies.{Reply}
+use Rattle.w16_loading.specs.Replies.Reply.{Word, Done}
+use Rattle.w16_loading.proofs.Bystanders.{bystanders_law, pinned_law}
+use Rattle.w16_machine.specs.World.{World}
+use Rattle.w16_machine.specs.Law.{IsWorld}
+use Rattle.w16_machine.specs.Local.{LocalHeap, heap_of, local_in, chosen, segment_bytes}
+use Rattle.w16_machine.specs.LocalCalls.{LocalCommand, LocalStep}
+use Rattle.w16_machine.specs.LocalCalls.LocalCommand.{DS}
+use Rattle.w16_machine.specs.LocalLaw.{HasSameObjects, IsHeapKept, IsLocalKept, IsObjectKept, IsRewritten, KeepsRest, asks_for_room, but_bytes, may_move_named}
+use Rattle.w16_machine.specs.Machine.{IsCommand, Event, Step, Run}
+use Rattle.w16_machine.specs.Machine.Command.{OfLoading, OfLocals}
+use Rattle.w16_machine.specs.Bystanders.{IsLocalAbout, IsLocalSpared, AllSpare, StepSparesLaw, RunSparesLaw}
+use Rattle.w16_machine.proofs.LocalFacts.{IsThere, chosen_there, local_there, there_local, found}
+use Rattle.w16_machine.proofs.LocalFar.{same_heaps}
+use Rattle.w16_machine.proofs.LocalFrame.{frame_law}
+use Rattle.w16_machine.proofs.LocalGoes.{goes_law}
+use Rattle.w16_machine.proofs.LocalOthers.{local_others_law, local_pinned_law, stands_same}
+use Rattle.w16_machine.proofs.LocalOutcomes.{Outcome, outcome}
+use Rattle.w16_machine.proofs.Worlds.{world_law}
+
+-- DS.
+outcome_ds : (old new : World) (command : LocalCommand) (answer : ℕ) → Outcome old command answer new → new.ds ≡ old.ds
+outcome_ds old new command answer (inl same) = ap (λ (w : World). w.ds) same
+outcome_ds old new command answer (inr (inl init)) = ap (λ (w : World). w.ds) init.rest
+outcome_ds old new command answer (inr (inr (at, c, inl (next, stepped, becomes)))) = ap (λ (w : World). w.ds) becomes.rest
+outcome_ds old new command answer (inr (inr (at, c, inr acts))) = ap (λ (w : World). w.ds) acts.rest
+
+local_ds : (old new : World) (command : LocalCommand) (reply : Reply) → LocalStep old command reply new → ((selector : ℕ) → OfLocals command ≡ OfLocals (DS selector) → ⊥) → new.ds ≡ old.ds
+local_ds old new (DS selector) Done step other = absurd (other selector refl)
+local_ds old new command (Word answer) step other = outcome_ds old new command answer (outcome old command answer new step)
+local_ds old new command reply step other = absurd step
+
+-- A step of loading leaves each local heap that stays its table.
+module _ (format : Format) (old new : World) (command : LoadingCommand) (reply : Reply) (is : IsWorld old) (step : Step ⊥ format old (OfLoading command) reply new) (slot : ℕ) (at after : LocalHeap) (e : local_in old slot ≡ Some at) (f : local_in new slot ≡ Some after) where
+  same_table : after.table ≡ at.table
+  same_table =
+      let was : IsThere old at × (at.slot ≡ slot) = local_there old slot at e in
+      let now : IsThere new after × (after.slot ≡ slot) = local_there new slot after f in
+      let both : ◌≡◌ {A = Option Table} (Some after.table) (Some at.table) = sym ((goes_law format old new command reply step after.slot after.table).0 now.0.table).0 ∙ ap (finmap.get old.heaps) (now.1 ∙ sym was.1) ∙ was.0.table in
+      cc
+
+  stays_same : HasSameObjects (heap_of at) (heap_of after)
+  stays_same = same_heaps old new is.heaps at after (local_there old slot at e).0 (local_there new slot after f).0 same_table
+
+-- A local call, and a local heap that stays.
+module _ (old new : World) (command : LocalCommand) (reply : Reply) (is : IsWorld old) (step : LocalStep old command reply new) (slot : ℕ) (at after : LocalHeap) (e : local_in old slot ≡ Some at) (f : local_in new slot ≡ Some after) where
+  frame : KeepsRest old new
+  frame = frame_law old new command reply is.heaps step
+
+  -- it is the chosen one, or another's segment has it
+  abbrev IsOther : Type 0
+  IsOther = (c : LocalHeap) → chosen old ≡ Some c → c.slot ≢ slot
+
+  chosen_or_other : (chosen old ≡ Some at) ⊎ IsOther
+  chosen_or_other = turn (chosen old) refl
+    where
+      turn : (p : Option LocalHeap) → chosen old ≡ p → (chosen old ≡ Some at) ⊎ IsOther
+      turn None d = inr (λ c g. let never : ◌≡◌ {A = Option LocalHeap} None (Some c) = sym d ∙ g in cc)
+      turn (Some c) d = elim (cases_eq c.slot slot) [
+        | inl s ↦ inl (d ∙ sym (there_local old c (chosen_there old c d)) ∙ ap (local_in old) s ∙ e)
+        | inr s ↦ inr (λ b g. let both : ◌≡◌ {A = Option LocalHeap} (Some c) (Some b) = sym d ∙ g in let same : c ≡ b = cc in subst (λ (h : LocalHeap). h.slot ≢ slot) same s)
+      ]
+
+  -- what only the chosen one may be
+  not_chosen : IsOther → (P : LocalHeap → Type 0) → IsSomeAnd (chosen old) (λ c. (c.slot ≡ slot) × P c) → ⊥
+  not_chosen other P = turn (chosen old) refl
+    where
+      turn : (p : Option LocalHeap) → chosen old ≡ p → IsSomeAnd p (λ c. (c.slot ≡ slot) × P c) → ⊥
+      turn None d h = absurd h
+      turn (Some c) d h = other c d h.0
+
+  -- another is as it was
+  other_same : IsOther → after ≡ at
+  other_same other =
+      let both : ◌≡◌ {A = Option LocalHeap} (Some after) (Some at) = sym f ∙ ap (λ t. found slot t (segment_bytes new slot)) (tables (frame.heaps slot)) ∙ ap (found slot (finmap.get old.heaps slot)) (bytes (frame.objects slot)) ∙ e in
+      cc
+    where
+      was : IsThere old at × (at.slot ≡ slot)
+      was = local_there old slot at e
+
+      tables : IsHeapKept old new slot → finmap.get new.heaps slot ≡ finmap.get old.heaps slot
+      tables (inl same) = same
+      tables (inr (inl none)) = let never : ◌≡◌ {A = Option Table} (Some at.table) None = sym was.0.table ∙ ap (finmap.get old.heaps) was.1 ∙ none.0 in cc
+      tables (inr (inr h)) = absurd (not_chosen other (λ c. IsSomeAnd (finmap.get new.heaps slot) (λ (t : Table). (t.lo ≡ c.table.lo) × (t.hi ≡ c.table.hi))) h)
+
+      bytes : IsObjectKept old new slot → segment_bytes new slot ≡ segment_bytes old slot
+      bytes (inl same) = ap bytes_in same
+      bytes (inr h) = absurd (not_chosen other (λ c. IsSomeAnd (object_at old.loading.handles.heap slot) (λ before. IsSomeAnd (object_at new.loading.handles.heap slot) (IsRewritten c before))) h)
+
+  chosen_after : local_in new at.slot ≡ Some after
+  chosen_after = ap (local_in new) (local_there old slot at e).1 ∙ f
+
+  module _ (q : ℕ) (o : Object) (there : object_at (heap_of at) q ≡ Some o) where
+    local_spared : (IsLocalAbout old (OfLocals command) at q → ⊥) → IsLocalSpared old (OfLocals command) at after q o
+    local_spared other = elim chosen_or_other [
+      | inl c ↦ by_room c (local_others_law old new command reply at after q o is.heaps step c chosen_after there (λ name asked named. other (c, name, asked, named)))
+      | inr d ↦ inl (ap (λ (h : LocalHeap). option_map but_bytes (object_at (heap_of h) q)) (other_same d) ∙ ap (option_map but_bytes) there)
+    ]
+      where
+        by_room : chosen old ≡ Some at → IsLocalKept (asks_for_room command) (heap_of at) (heap_of after) q o → IsLocalSpared old (OfLocals command) at after q o
+        by_room c kept = elim (cases_Bool (asks_for_room command)) [
+          | inl asks ↦ elim kept.object [
+            | inl same ↦ inl (ap (option_map but_bytes) same)
+            | inr gone ↦ inr (c, asks, gone.0, gone.1, gone.2)
+          ]
+          | inr asks ↦ inl (ap (option_map but_bytes) (kept.still asks).0)
+        ]
+
+    local_stands : is_pinned_object o ≡ true → (may_move_named command ≡ true → IsLocalAbout old (OfLocals command) at q → ⊥) → StandsStill (heap_of at) (heap_of after) q
+    local_stands pinned unmoved = elim chosen_or_other [
+      | inl c ↦ local_pinned_law old new command reply at after q o is.heaps step c chosen_after there pinned (λ may name asked named. unmoved may (c, name, asked, named))
+      | inr d ↦ stands_same (heap_of at) (heap_of after) q (ap (λ (h : LocalHeap). finmap.get (heap_of h).places q) (other_same d))
+    ]
+
+pub step_spares_law : StepSparesLaw
+step_spares_law format old new (OfLoading command) reply is step = record {
+  ds = λ other. ap (λ (w : World). w.ds) step.1;
+  objects = λ q there other. bystanders_law old.loading new.loading command reply q is.loading step.0.any there other;
+  pinned = λ q pinned unmoved. pinned_law old.loading new.loading command reply q is.loading step.0.any pinned unmoved;
+  local_objects = λ slot at after q o e f there other. inl ((stays_same format old new command reply is step slot at after e f).objects q ∙ ap (option_map but_bytes) there);
+  local_pinned = λ slot at after q o e f there pinned unmoved. stands_same (heap_of at) (heap_of after) q (ap (λ h. finmap.get h.places q) (stays_same format old new command reply is step slot at after e f).rest);
+}
+step_spares_law format old new (OfLocals command) reply is step = record {
+  ds = λ other. local_ds old new command reply step other;
+  objects = λ q there other. (frame_law old new command reply is.heaps step).objects q;
+  pinned = λ q pinned unmoved. inl (stands_same old.loading.handles.heap new.loading.handles.heap q (ap (λ h. finmap.get h.heap.places q) (frame_law old new command reply is.heaps step).handles));
+  local_objects = λ slot at after q o e f there other. local_spared old new command reply is step slot at after e f q o there other;
+  local_pinned = λ slot at after q o e f there pinned unmoved. local_stands old new command reply is step slot at after e f q o there pinned unmoved;
+}
+
+pub run_spares_law : RunSparesLaw
+run_spares_law format old new events is known run = each old events (Each-from_All (λ (e : Event). IsCommand e.command) events known) is run
+  where
+    each : (now : World) (events : List Event) → Each (λ (e : Event). IsCommand e.command) events → IsWorld now → Run (Step ⊥ format) now events new → AllSpare now events
+    each now [] known is run = tt
+    each now (event ∷ events) known is run = (step_spares_law format now event.after event.command event.reply is run.0, each event.after events known.1 (world_law format now event.after event.command event.reply is known.0 run.0) run.1)

@@ -1,0 +1,89 @@
+-- What steps, and so runs, leave of objects that they aren't about, and of DS.
+use Rattle.std.specs.Prelude.{◌≡◌, ℕ, ◌⊎◌, Bool, true, false, is_some, List, [], ◌∷◌, All, Some, None, option_map, IsSomeAnd}
+use Rattle.w16_model.specs.declared.Kind.TheVariants.{Discardable}
+use Rattle.w16_model.specs.CallLaws.{IsKeptOrDiscarded}
+use Rattle.w16_model.specs.Heap.{Object, object_at, is_pinned_object}
+use Rattle.w16_model.specs.Law.{StandsStill}
+use Rattle.w16_loading.specs.Bystanders.{IsStepAbout, IsReleased, step_may_move_own}
+use Rattle.w16_loading.specs.File.{Format}
+use Rattle.w16_loading.specs.Replies.{Reply}
+use Rattle.w16_machine.specs.World.{World}
+use Rattle.w16_machine.specs.Law.{IsWorld}
+use Rattle.w16_machine.specs.Local.{LocalHeap, heap_of, local_in, chosen, name_at}
+use Rattle.w16_machine.specs.LocalCalls.LocalCommand.{DS}
+use Rattle.w16_machine.specs.LocalLaw.{IsObjectKept, asks_for_room, but_bytes, may_move_named, named_by}
+use Rattle.w16_machine.specs.Machine.{Command, IsCommand, Event, Step, Run}
+use Rattle.w16_machine.specs.Machine.Command.{OfLoading, OfLocals}
+
+-- Objects of the global heap.
+
+-- a step is about the one whose handle or selector it names; a local call names none
+abbrev pub IsCommandAbout : World → Command → ℕ → Type 0
+IsCommandAbout old (OfLoading command) q = IsStepAbout old.loading.handles command q
+IsCommandAbout old (OfLocals command) q = ⊥
+
+-- it is gone with its module or resource
+abbrev pub IsGone : World → Command → World → ℕ → Type 0
+IsGone old (OfLoading command) new q = IsReleased command old.loading.handles new.loading.handles q
+IsGone old (OfLocals command) new q = ⊥
+
+-- It is as it was; or it was discardable and not locked, and has lost its bytes alone; or it is gone with its module or resource. A local call
+-- takes no bytes, and changes those of one local heap.
+abbrev pub IsSpared : World → Command → World → ℕ → Type 0
+IsSpared old (OfLoading command) new q = IsKeptOrDiscarded old.loading.handles.heap new.loading.handles.heap q ⊎ IsGone old (OfLoading command) new q
+IsSpared old (OfLocals command) new q = IsObjectKept old new q
+
+-- whether a step may move a fixed or locked object that it is about, or free it
+abbrev pub command_may_move_own : Command → Bool
+command_may_move_own (OfLoading command) = step_may_move_own command
+command_may_move_own (OfLocals command) = false
+
+-- Objects of local heaps.
+
+-- a local call is about the one that it names in the chosen heap
+abbrev pub IsLocalAbout : World → Command → LocalHeap → ℕ → Type 0
+IsLocalAbout old (OfLoading command) at q = ⊥
+IsLocalAbout old (OfLocals command) at q = (chosen old ≡ Some at) × (name : ℕ) × (named_by command ≡ Some name) × (name_at (heap_of at) q ≡ Some name)
+
+-- whether it asks for room in the chosen heap
+abbrev pub asks_in_heap : Command → Bool
+asks_in_heap (OfLoading command) = false
+asks_in_heap (OfLocals command) = asks_for_room command
+
+-- it has its kind, its locks and as many bytes; or it was discardable and not locked, and has lost its bytes to a call for room in its heap
+abbrev pub IsLocalSpared : World → Command → LocalHeap → LocalHeap → ℕ → Object → Type 0
+IsLocalSpared old command at after q o =
+    (option_map but_bytes (object_at (heap_of after) q) ≡ Some (but_bytes o))
+    ⊎ ((chosen old ≡ Some at) × (asks_in_heap command ≡ true) × (o.kind ≡ Discardable) × (o.locks ≡ 0) × (object_at (heap_of after) q ≡ Some (record o { bytes = None })))
+
+-- whether a step may move a fixed or locked local object that it is about, or free it
+abbrev pub local_may_move_own : Command → Bool
+local_may_move_own (OfLoading command) = false
+local_may_move_own (OfLocals command) = may_move_named command
+
+-- What a step spares. A local heap that goes with its segment is not among these: that has laws of its own.
+pub record Spares (old : World) (command : Command) (new : World) : Type 0 where
+  -- DS is changed by the command DS alone
+  pub ds : ((selector : ℕ) → command ≡ OfLocals (DS selector) → ⊥) → new.ds ≡ old.ds
+  -- only a discardable object that isn't locked loses its bytes to a step that isn't about it
+  pub objects : (q : ℕ) → is_some (object_at old.loading.handles.heap q) ≡ true → (IsCommandAbout old command q → ⊥) → IsSpared old command new q
+  -- a fixed or locked one keeps its address but for its own reallocation and freeing
+  pub pinned : (q : ℕ) → IsSomeAnd (object_at old.loading.handles.heap q) (λ o. is_pinned_object o ≡ true) → (command_may_move_own command ≡ true → IsCommandAbout old command q → ⊥)
+      → StandsStill old.loading.handles.heap new.loading.handles.heap q ⊎ IsGone old command new q
+  -- the same of each object of a local heap that stays, by its near pointer
+  pub local_objects : (slot : ℕ) (at after : LocalHeap) (q : ℕ) (o : Object) → local_in old slot ≡ Some at → local_in new slot ≡ Some after → object_at (heap_of at) q ≡ Some o
+      → (IsLocalAbout old command at q → ⊥) → IsLocalSpared old command at after q o
+  pub local_pinned : (slot : ℕ) (at after : LocalHeap) (q : ℕ) (o : Object) → local_in old slot ≡ Some at → local_in new slot ≡ Some after → object_at (heap_of at) q ≡ Some o
+      → is_pinned_object o ≡ true → (local_may_move_own command ≡ true → IsLocalAbout old command at q → ⊥) → StandsStill (heap_of at) (heap_of after) q
+
+-- The laws. Each step spares these, whatever the store answers,
+abbrev pub StepSparesLaw : Type 0
+StepSparesLaw = (format : Format) (old new : World) (command : Command) (reply : Reply) → IsWorld old → Step ⊥ format old command reply new → Spares old command new
+
+-- and so does each step of a run.
+abbrev pub AllSpare : World → List Event → Type 0
+AllSpare old [] = Unit {0}
+AllSpare old (event ∷ events) = Spares old event.command event.after × AllSpare event.after events
+
+abbrev pub RunSparesLaw : Type 0
+RunSparesLaw = (format : Format) (old new : World) (events : List Event) → IsWorld old → All (λ e. IsCommand e.command) events → Run (Step ⊥ format) old events new → AllSpare old events
