@@ -311,6 +311,34 @@ pub(super) static SCRIPTS: &[Script] = &[
         ],
     },
     Script {
+        name: "counts what a growth to another place writes",
+        memory: 128,
+        lines: &[
+            (Call::Alloc(0x42, 32), Answer::Word(0x106)),
+            (Call::Alloc(0x42, 32), Answer::Word(0x10E)),
+            (Call::Lock(0x106), Answer::Long(0x0107_0000)),
+            (Call::Write(0x107, 0, &[0x5A]), Answer::Far(Ok(()))),
+            (Call::ReAlloc(0x106, 64, 0), Answer::Word(0)),
+            (Call::Written, Answer::Count(65)),
+            (Call::ReAlloc(0x106, 64, 2), Answer::Word(0x106)),
+            (Call::Moved, Answer::Count(32)),
+            (Call::Written, Answer::Count(97)),
+        ],
+    },
+    Script {
+        name: "counts what a growth among others writes",
+        memory: 128,
+        lines: &[
+            (Call::Alloc(2, 32), Answer::Word(0x106)),
+            (Call::Alloc(2, 32), Answer::Word(0x10E)),
+            (Call::Alloc(2, 32), Answer::Word(0x116)),
+            (Call::Free(0x106), Answer::Word(0)),
+            (Call::ReAlloc(0x10E, 96, 0), Answer::Word(0x10E)),
+            (Call::Moved, Answer::Count(64)),
+            (Call::Written, Answer::Count(64)),
+        ],
+    },
+    Script {
         name: "walks by address",
         memory: 128,
         lines: &[
