@@ -8,12 +8,12 @@ use Rattle.w16_model.specs.declared.Kind.{Kind}
 use Rattle.w16_model.specs.declared.Kind.TheVariants.{Discardable}
 use Rattle.w16_model.specs.declared.Span.{Span}
 use Rattle.w16_model.specs.Law.{KeepsOthers}
-use Rattle.w16_model.specs.declared.Way.{Way}
+use Rattle.w16_model.specs.declared.RoomOptions.{RoomOptions}
 use Rattle.w16_model.specs.Gap.{room, longest_hole, is_pinned}
 use Rattle.w16_model.specs.Discards.{eligible, blocks_without, room_for, needed, snapshot}
 use Rattle.w16_model.specs.Heap.{Heap, Object, IsHeap, IsMultiple, blocks, object_at, bytes_at}
 use Rattle.w16_model.specs.Changes.{absent, with_newest, with_ordered}
-use Rattle.w16_model.specs.Request.{moved_bytes, Allocates, Compacts, MakesRoom, IsNew, Settles, prefix_of, stays_for, discarded, compaction_prefix, eligible_count, most_room, snapshot_of}
+use Rattle.w16_model.specs.Request.{moved_bytes, Allocates, Compacts, MakesRoom, IsNew, Settles, discards_needed, stays_for, discarded, compaction_prefix, eligible_count, most_room, snapshot_of}
 use Rattle.w16_model.specs.Table.{Table, IsSound, block_with, heap_in}
 use Rattle.w16_model.proofs.Gaps.{Each-from}
 use Rattle.w16_model.proofs.Tables.{place_is, table_longest}
@@ -141,49 +141,49 @@ module _ (old : ArenaState) (sound : IsSound old.table) (memory : List ℕ) (ins
   needed_same : (n : ℕ) (about : Option ℕ) → needed (snapshot t.lo t.hi t.blocks t.order) n about ≡ needed (snapshot t.lo t.hi (blocks h) t.order) n about
   needed_same n about = needed_by_members t.lo t.hi t.blocks (blocks h) (listed_permutation parts) t.order n about
 
-  module _ (id n : ℕ) (kind : Kind) (way : Way) (none : block_with t.blocks id ≡ None) (some : 0 < n) (rounded : IsMultiple t.grain n) where
+  module _ (id n : ℕ) (kind : Kind) (options : RoomOptions) (none : block_with t.blocks id ≡ None) (some : 0 < n) (rounded : IsMultiple t.grain n) where
     without_bytes : bytes_at h id ≡ None
     without_bytes = bytes_here parts id ∙ ap (option_map (λ (x : Block). slice_range memory x.at (x.at + x.size))) none
 
     -- With as much room as that nothing is discarded.
-    prefix_0 : n ≤ most_in t way.compact → prefix_of h n (Some id) way ≡ Some 0
-    prefix_0 enough = elim (cases_Bool way.compact) [
-      | inl on ↦ prefix_now t.lo t.hi (blocks h) t.order n (Some id) way on (let e = room_about t sound memory inside id none in let k : n ≤ room t.lo t.hi t.blocks = subst (λ b. n ≤ (if b then room t.lo t.hi t.blocks else longest_hole t.lo t.hi t.blocks)) on enough in omega arith)
-      | inr off ↦ prefix_hole t.lo t.hi (blocks h) t.order n (Some id) way off (let e = longest in let k : n ≤ longest_hole t.lo t.hi t.blocks = subst (λ b. n ≤ (if b then room t.lo t.hi t.blocks else longest_hole t.lo t.hi t.blocks)) off enough in omega arith)
+    prefix_0 : n ≤ most_in t options.compact → discards_needed h n (Some id) options ≡ Some 0
+    prefix_0 enough = elim (cases_Bool options.compact) [
+      | inl on ↦ prefix_now t.lo t.hi (blocks h) t.order n (Some id) options on (let e = room_about t sound memory inside id none in let k : n ≤ room t.lo t.hi t.blocks = subst (λ b. n ≤ (if b then room t.lo t.hi t.blocks else longest_hole t.lo t.hi t.blocks)) on enough in omega arith)
+      | inr off ↦ prefix_hole t.lo t.hi (blocks h) t.order n (Some id) options off (let e = longest in let k : n ≤ longest_hole t.lo t.hi t.blocks = subst (λ b. n ≤ (if b then room t.lo t.hi t.blocks else longest_hole t.lo t.hi t.blocks)) off enough in omega arith)
     ]
 
-    pub allocates_now : {p : Placed} {new : Heap} → n ≤ most_in t way.compact → Stands h id n (IsNew way.zero n kind 0) (with_newest id) way p new → Allocates h id n kind 0 way true new
-    allocates_now {p} {new} enough s = allocates_after h id n kind way 0 some rounded without_bytes (prefix_0 enough) s.object s.such new s.settled
+    pub allocates_now : {p : Placed} {new : Heap} → n ≤ most_in t options.compact → Stands h id n (IsNew options.zero n kind 0) (with_newest id) options p new → Allocates h id n kind 0 options true new
+    allocates_now {p} {new} enough s = allocates_after h id n kind options 0 some rounded without_bytes (prefix_0 enough) s.object s.such new s.settled
 
-    pub discards_none : n ≤ most_in t way.compact → {ids : List ℕ} → ids ≡ [] → HasDiscarded h id n way ids
+    pub discards_none : n ≤ most_in t options.compact → {ids : List ℕ} → ids ≡ [] → HasDiscarded h id n options ids
     discards_none enough e = record { prefix = 0; needed = prefix_0 enough; listed = e }
 
     -- Refused.
-    refused_by : prefix_of h n (Some id) way ≡ None → Allocates h id n kind 0 way false h
+    refused_by : discards_needed h n (Some id) options ≡ None → Allocates h id n kind 0 options false h
     refused_by e = record {
       some = some;
       rounded = rounded;
       without_bytes = without_bytes;
-      request = subst (λ p. MatchOption p ((false ≡ false) × (h ≡ h)) (λ k. (false ≡ true) × ((o : Object) × IsNew way.zero n kind 0 o × Settles h (stays_for id way) (with_ordered (discarded h k (Some id)) id o (with_newest id o)) h))) (sym e) (refl, refl);
+      request = subst (λ p. MatchOption p ((false ≡ false) × (h ≡ h)) (λ k. (false ≡ true) × ((o : Object) × IsNew options.zero n kind 0 o × Settles h (stays_for id options) (with_ordered (discarded h k (Some id)) id o (with_newest id o)) h))) (sym e) (refl, refl);
     }
 
-    pub refused_kept : most_in t way.compact < n → (way.compact && way.discard) ≡ false → Allocates h id n kind 0 way false h
-    refused_kept short kept = refused_by (elim (cases_Bool way.compact) [
-      | inl on ↦ prefix_kept t.lo t.hi (blocks h) t.order n (Some id) way on (subst (λ b. (b && way.discard) ≡ false) on kept)
+    pub refused_kept : most_in t options.compact < n → (options.compact && options.discard) ≡ false → Allocates h id n kind 0 options false h
+    refused_kept short kept = refused_by (elim (cases_Bool options.compact) [
+      | inl on ↦ prefix_kept t.lo t.hi (blocks h) t.order n (Some id) options on (subst (λ b. (b && options.discard) ≡ false) on kept)
           (let e = room_about t sound memory inside id none in let k : room t.lo t.hi t.blocks < n = subst (λ b. (if b then room t.lo t.hi t.blocks else longest_hole t.lo t.hi t.blocks) < n) on short in omega arith)
-      | inr off ↦ prefix_no_hole t.lo t.hi (blocks h) t.order n (Some id) way off
+      | inr off ↦ prefix_no_hole t.lo t.hi (blocks h) t.order n (Some id) options off
           (let e = longest in let k : longest_hole t.lo t.hi t.blocks < n = subst (λ b. (if b then room t.lo t.hi t.blocks else longest_hole t.lo t.hi t.blocks) < n) off short in omega arith)
     ])
 
     -- As many were sought as make room.
-    module _ (may : (way.compact && way.discard) ≡ true) {found : Option ℕ} (found_is : found ≡ needed (snapshot t.lo t.hi t.blocks t.order) n (Some id)) where
-      compact : way.compact ≡ true
-      compact = (and_parts way.compact way.discard may).0
+    module _ (may : (options.compact && options.discard) ≡ true) {found : Option ℕ} (found_is : found ≡ needed (snapshot t.lo t.hi t.blocks t.order) n (Some id)) where
+      compact : options.compact ≡ true
+      compact = (and_parts options.compact options.discard may).0
 
-      prefix_is : prefix_of h n (Some id) way ≡ found
-      prefix_is = prefix_needed t.lo t.hi (blocks h) t.order n (Some id) way compact (and_parts way.compact way.discard may).1 ∙ sym (needed_same n (Some id)) ∙ sym found_is
+      prefix_is : discards_needed h n (Some id) options ≡ found
+      prefix_is = prefix_needed t.lo t.hi (blocks h) t.order n (Some id) options compact (and_parts options.compact options.discard may).1 ∙ sym (needed_same n (Some id)) ∙ sym found_is
 
-      pub refused_needed : found ≡ None → Allocates h id n kind 0 way false h
+      pub refused_needed : found ≡ None → Allocates h id n kind 0 options false h
       refused_needed e = refused_by (prefix_is ∙ e)
 
       -- The first k were discarded.
@@ -204,7 +204,7 @@ module _ (old : ArenaState) (sound : IsSound old.table) (memory : List ℕ) (ins
                 cc
 
         -- so there is as much room as that
-        pub room_then : n ≤ most_in mid.table way.compact
+        pub room_then : n ≤ most_in mid.table options.compact
         room_then =
             let is = discards.heaps memory inside in
             let now : room_for (snapshot mid.table.lo mid.table.hi (blocks (heap_in mid.table memory)) mid.table.order) 0 (Some id) ≡ room mid.table.lo mid.table.hi mid.table.blocks = room_about mid.table discards.range.sound memory mid_inside id absent_then in
@@ -213,21 +213,21 @@ module _ (old : ArenaState) (sound : IsSound old.table) (memory : List ℕ) (ins
             let enough : n ≤ room_for (snapshot t.lo t.hi (blocks h) t.order) k (Some id) = needed_enough t.lo t.hi (blocks h) t.order n (Some id) k (sym (needed_same n (Some id)) ∙ sym found_is ∙ some_is) in
             subst (λ b. n ≤ (if b then room mid.table.lo mid.table.hi mid.table.blocks else longest_hole mid.table.lo mid.table.hi mid.table.blocks)) (sym compact) (omega (arith, now, later, enough))
 
-        pub discards_then : {ids : List ℕ} → ids ≡ mid.discarded → HasDiscarded h id n way ids
+        pub discards_then : {ids : List ℕ} → ids ≡ mid.discarded → HasDiscarded h id n options ids
         discards_then e = record { prefix = k; needed = prefix_is ∙ some_is; listed = e ∙ discards.listed ∙ ap (take k) (eligible_same (Some id)) }
 
-        module _ {p : Placed} {new : Heap} (s : Stands (heap_in mid.table memory) id n (IsNew way.zero n kind 0) (with_newest id) way p new) where
-          stands : Stands (discarded h k (Some id)) id n (IsNew way.zero n kind 0) (with_newest id) way p new
-          stands = subst (λ g. Stands g id n (IsNew way.zero n kind 0) (with_newest id) way p new) (discards.heaps memory inside) s
+        module _ {p : Placed} {new : Heap} (s : Stands (heap_in mid.table memory) id n (IsNew options.zero n kind 0) (with_newest id) options p new) where
+          stands : Stands (discarded h k (Some id)) id n (IsNew options.zero n kind 0) (with_newest id) options p new
+          stands = subst (λ g. Stands g id n (IsNew options.zero n kind 0) (with_newest id) options p new) (discards.heaps memory inside) s
 
-          pub allocates_then : Allocates h id n kind 0 way true new
-          allocates_then = allocates_after h id n kind way k some rounded without_bytes (prefix_is ∙ some_is) stands.object stands.such new stands.settled
+          pub allocates_then : Allocates h id n kind 0 options true new
+          allocates_then = allocates_after h id n kind options k some rounded without_bytes (prefix_is ∙ some_is) stands.object stands.such new stands.settled
 
           module _ (bytes : All (λ b. b < 256) memory) where
             moved_then : p.moved ≡ moved_bytes h new
             moved_then =
-                let keeps : KeepsOthers h (Some id) k new = (others_law h new (sound_heap t sound memory inside bytes) k).0 id way stands.object (with_newest id stands.object)
-                (settles_after h id n way k (prefix_is ∙ some_is) (with_ordered (discarded h k (Some id)) id stands.object (with_newest id stands.object)) new stands.settled) in
+                let keeps : KeepsOthers h (Some id) k new = (others_law h new (sound_heap t sound memory inside bytes) k).0 id options stands.object (with_newest id stands.object)
+                (settles_after h id n options k (prefix_is ∙ some_is) (with_ordered (discarded h k (Some id)) id stands.object (with_newest id stands.object)) new stands.settled) in
                 stands.placed.moved ∙ sym (moved_after h k (Some id) new (λ q m. gone h new stands.settled.sound q (keeps.discarded q m)))
 
             pub placed_then : IsPlaced h id n p new

@@ -14,13 +14,13 @@ use Rattle.w16_blocks.specs.Layout.{Layout, IsOrdered, IsApart, FitsFor, all_but
 use Rattle.w16_compact.specs.Gather.{contents}
 use Rattle.w16_lru.specs.Uses.{Uses}
 use Rattle.w16_arena.specs.State.{table_of}
-use Rattle.w16_arena.specs.Representation.{IsKept}
+use Rattle.w16_arena.specs.Representation.{ArenaInvariant}
 use Rattle.w16_arena.proofs.Cleared.{Makes}
 use Rattle.w16_arena.proofs.Longer as longer
 use Rattle.w16_arena.proofs.InPlace.{others_with}
 use Rattle.w16_arena.proofs.Sized as sized
 
-module _ {entries : List (Option Entry)} {layout : Layout} {uses : Uses} {gap_rooms : ℕ} {room : ℕ} (kept : IsKept entries layout uses gap_rooms room)
+module _ {entries : List (Option Entry)} {layout : Layout} {uses : Uses} {gap_rooms : ℕ} {room : ℕ} (kept : ArenaInvariant entries layout uses gap_rooms room)
     (b : Block) (known : block_with layout.blocks b.id ≡ Some b) (n : ℕ) (fits : FitsFor layout (record b { size = n })) (more : b.size < n) {new : Layout} (value : new ≡ record layout { blocks = replaced (record b { size = n }) layout.blocks }) (laid : IsOrdered new)
     (memory mid after : List ℕ) (inside : layout.hi ≤ length memory) (mid_long : length mid ≡ length memory) (small : All (λ b. b < 256) mid)
     (others : contents mid (all_but b.id layout.blocks) ≡ contents memory (all_but b.id layout.blocks)) (own : (m : ℕ) → m ≤ b.size → m ≤ n → part mid b.at m ≡ part memory b.at m)

@@ -8,7 +8,7 @@ use Rattle.w16_model.proofs.Gaps.{All-from_Each, AllPairs-from_EachPair}
 use Rattle.w16_blocks.specs.Layout.{Layout}
 use Rattle.w16_lru.specs.Uses.{Uses}
 use Rattle.w16_arena.specs.State.{empty_table}
-use Rattle.w16_arena.specs.Representation.{IsKept}
+use Rattle.w16_arena.specs.Representation.{ArenaInvariant}
 use Rattle.w16_arena.proofs.Lookups.{IsArranged, IsOrder, sound_of}
 
 abbrev none : Option Entry
@@ -40,7 +40,7 @@ module _ (cap lo hi grain : ℕ) (bounds : lo ≤ hi) (grained : IsMultiple grai
   pub sound : IsSound (empty_table cap lo hi grain)
   sound = sound_of (replicate cap none) (fresh cap lo hi grain) [] arranged (λ q x e. cc) listed (each (IsCountedBy None))
 
-  pub fresh_kept : (gap_rooms : ℕ) → gap_rooms ≡ cap → (room : ℕ) → cap ≤ room → IsKept (replicate cap none) (fresh cap lo hi grain) (no_uses cap) gap_rooms room
+  pub fresh_kept : (gap_rooms : ℕ) → gap_rooms ≡ cap → (room : ℕ) → cap ≤ room → ArenaInvariant (replicate cap none) (fresh cap lo hi grain) (no_uses cap) gap_rooms room
   fresh_kept gap_rooms told room enough =
       let many : length (replicate cap none) ≡ cap = length-replicate cap none in
       record { sound = sound; ids = sym many; ordered = sym many; told = told ∙ sym many; enough = omega arith }

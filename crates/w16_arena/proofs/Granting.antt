@@ -4,7 +4,7 @@ use Rattle.std.proofs.lemmas.List.{length-set}
 use Rattle.w16_model.specs.declared.Entry.{Entry}
 use Rattle.w16_model.specs.declared.Hold.{Hold}
 use Rattle.w16_model.specs.declared.Kind.{Kind}
-use Rattle.w16_model.specs.declared.Way.{Way}
+use Rattle.w16_model.specs.declared.RoomOptions.{RoomOptions}
 use Rattle.w16_model.specs.Heap.{IsMultiple, is_discardable}
 use Rattle.w16_model.specs.Changes.{newest, with_newest}
 use Rattle.w16_model.specs.Request.{IsNew}
@@ -18,7 +18,7 @@ use Rattle.w16_arena.specs.Asked.{Stands}
 use Rattle.std.specs.Borrow.{GName}
 use Rattle.w16_compact.specs.Rest.{IsSameRest}
 use Rattle.w16_arena.specs.State.{ArenaState, KeepsRest, table_of, heap_of}
-use Rattle.w16_arena.specs.Representation.{IsKept}
+use Rattle.w16_arena.specs.Representation.{ArenaInvariant}
 use Rattle.w16_arena.specs.NewPlace.{AreMoved, AreFreeBytes}
 use Rattle.w16_arena.proofs.Parts.{AreParts}
 use Rattle.w16_arena.proofs.Steps.{state_of, beside, kept_with}
@@ -30,10 +30,10 @@ use Rattle.w16_arena.proofs.Allocated.{AreLocks}
 use Rattle.w16_arena.proofs.Standing as standing
 use Rattle.w16_compact.proofs.Rests.{rest_more}
 
-module _ {entries : List (Option Entry)} {layout : Layout} {uses : Uses} {gap_rooms : ℕ} {room : ℕ} (kept : IsKept entries layout uses gap_rooms room)
+module _ {entries : List (Option Entry)} {layout : Layout} {uses : Uses} {gap_rooms : ℕ} {room : ℕ} (kept : ArenaInvariant entries layout uses gap_rooms room)
     {discarded : List ℕ} {old : ArenaState} (shown : state_of entries layout uses.ids discarded ≡ old)
     (memory : List ℕ) (bytes : All (λ b. b < 256) memory) (inside : old.table.hi ≤ length memory)
-    (id n : ℕ) (kind : Kind) (way : Way) (below : id < length old.table.entries) (none : block_with old.table.blocks id ≡ None) (some : 0 < n) (rounded : IsMultiple old.table.grain n)
+    (id n : ℕ) (kind : Kind) (options : RoomOptions) (below : id < length old.table.entries) (none : block_with old.table.blocks id ≡ None) (some : 0 < n) (rounded : IsMultiple old.table.grain n)
     {mid : Layout} {mid_memory : List ℕ} (p : Placed) (moved : AreMoved p.slid.from p.slid.to layout memory mid mid_memory) (place : AreFreeBytes mid n p.at) where
   parts : AreParts entries layout uses.ids memory
   parts = beside kept memory (known kept shown (λ t. t.hi ≤ length memory) inside)
@@ -55,16 +55,16 @@ module _ {entries : List (Option Entry)} {layout : Layout} {uses : Uses} {gap_ro
 
   module _ {hold : Hold} (hold_is : hold ≡ hold_of_entry entry) where
     pub may_insert : Fits mid (record { id = id; at = p.at; size = n; hold = hold })
-    may_insert = standing.may_insert parts id n entry locks way lt absent some grains p moved place hold_is
+    may_insert = standing.may_insert parts id n entry locks options lt absent some grains p moved place hold_is
 
     module _ {new : Layout} (value : new ≡ record mid { blocks = placed (record { id = id; at = p.at; size = n; hold = hold }) mid.blocks }) (ordered : IsOrdered new)
-        {after : List ℕ} (filled : after ≡ (if way.zero then put_part mid_memory p.at (repeated n 0) else mid_memory))
+        {after : List ℕ} (filled : after ≡ (if options.zero then put_part mid_memory p.at (repeated n 0) else mid_memory))
         {uses' : Uses} (uses_is : uses' ≡ record uses { ids = if is_discardable kind then newest id uses.ids else uses.ids }) where
       in_memory : p.at + n ≤ length mid_memory
-      in_memory = standing.in_memory parts id n entry locks way lt absent some grains p moved place
+      in_memory = standing.in_memory parts id n entry locks options lt absent some grains p moved place
 
       made : Makes p.at n mid_memory after
-      made = makes p.at n mid_memory after in_memory (moved.bytes bytes) way.zero filled
+      made = makes p.at n mid_memory after in_memory (moved.bytes bytes) options.zero filled
 
       ids_are : uses'.ids ≡ (if is_discardable kind then newest id uses.ids else uses.ids)
       ids_are = ap (λ (u : Uses). u.ids) uses_is
@@ -73,7 +73,7 @@ module _ {entries : List (Option Entry)} {layout : Layout} {uses : Uses} {gap_ro
       reorders = subst (ReordersOne id (is_discardable kind && true) uses.ids) (sym ids_are) (joins parts id kind absent)
 
       parts_after : AreParts (set entries id (Some entry)) new uses'.ids after
-      parts_after = standing.parts_after parts id n entry locks way lt absent some grains p moved place hold_is value ordered made reorders
+      parts_after = standing.parts_after parts id n entry locks options lt absent some grains p moved place hold_is value ordered made reorders
 
       same : (new.lo ≡ layout.lo) × (new.hi ≡ layout.hi) × (new.grain ≡ layout.grain) × (new.cap ≡ layout.cap)
       same = (
@@ -83,14 +83,14 @@ module _ {entries : List (Option Entry)} {layout : Layout} {uses : Uses} {gap_ro
         ap (λ (l : Layout). l.cap) value ∙ ap (λ (l : Layout). l.cap) moved.same,
       )
 
-      pub kept_placed : IsKept (set entries id (Some entry)) new uses' gap_rooms room
+      pub kept_placed : ArenaInvariant (set entries id (Some entry)) new uses' gap_rooms room
       kept_placed = kept_with kept (set entries id (Some entry)) new uses' parts_after.sound (length-set entries id (Some entry)) same.3 (ap (λ (u : Uses). u.cap) uses_is)
 
-      pub stands_placed : (way.compact ≡ false → mid ≡ layout) → p.moved ≡ moved_between layout.blocks mid.blocks
-          → Stands (heap_in old.table memory) id n (IsNew way.zero n kind 0) (with_newest id) way p (heap_of (set entries id (Some entry)) new uses'.ids after)
-      stands_placed still counted = told kept shown (λ t. Stands (heap_in t memory) id n (IsNew way.zero n kind 0) (with_newest id) way p (heap_of (set entries id (Some entry)) new uses'.ids after))
-          (standing.stands parts id n entry locks way lt absent some grains p moved place hold_is value ordered made reorders (λ off. ap (λ (l : Layout). l.blocks) (still off))
-          (record { same_kind = refl; same_locks = refl; new_bytes = fresh p.at n mid_memory after in_memory (moved.bytes bytes) way.zero filled })
+      pub stands_placed : (options.compact ≡ false → mid ≡ layout) → p.moved ≡ moved_between layout.blocks mid.blocks
+          → Stands (heap_in old.table memory) id n (IsNew options.zero n kind 0) (with_newest id) options p (heap_of (set entries id (Some entry)) new uses'.ids after)
+      stands_placed still counted = told kept shown (λ t. Stands (heap_in t memory) id n (IsNew options.zero n kind 0) (with_newest id) options p (heap_of (set entries id (Some entry)) new uses'.ids after))
+          (standing.stands parts id n entry locks options lt absent some grains p moved place hold_is value ordered made reorders (λ off. ap (λ (l : Layout). l.blocks) (still off))
+          (record { same_kind = refl; same_locks = refl; new_bytes = fresh p.at n mid_memory after in_memory (moved.bytes bytes) options.zero filled })
           (joined parts id kind absent 0 (slice_range after p.at (p.at + n)) ∙ sym ids_are) counted)
 
       pub rest_placed : {X : Type 0} {bytes : X → List ℕ} {lenders : X → List GName} {x y z : X}

@@ -3,13 +3,13 @@ use Rattle.std.proofs.Common.{◌≡◌, ℕ, ◌<◌, ◌≤◌, inl, inr, Bool
 use Rattle.std.proofs.lemmas.Bool.{false≢true, and_parts, cases_Bool}
 use Rattle.std.proofs.lemmas.List.{length-replicate}
 use Rattle.w16_model.specs.declared.Block.{Block}
-use Rattle.w16_model.specs.declared.Way.{Way}
+use Rattle.w16_model.specs.declared.RoomOptions.{RoomOptions}
 use Rattle.w16_model.specs.Law.{KeepsOthers}
 use Rattle.w16_model.specs.Gap.{holds_still, room, longest_hole}
 use Rattle.w16_model.specs.Discards.{eligible, growth_for, fits_in_place, needed, none_discarded_if, room_for, snapshot, is_pinned_id, is_about}
 use Rattle.w16_model.specs.Heap.{Heap, Object, IsMultiple, blocks, object_at}
 use Rattle.w16_model.specs.Changes.{absent, with_ordered}
-use Rattle.w16_model.specs.Request.{IsGrown, Reallocates, Settles, StaysOrMovesToHole, stays_for, discarded, moved_bytes, prefix_of, snapshot_of}
+use Rattle.w16_model.specs.Request.{IsGrown, Reallocates, Settles, StaysOrMovesToHole, stays_for, discarded, moved_bytes, discards_needed, snapshot_of}
 use Rattle.w16_model.specs.Table.{Table, IsSound, block_with, heap_in}
 use Rattle.w16_model.proofs.Gaps.{Member, EachPair-from_AllPairs, member_filter}
 use Rattle.w16_model.proofs.Heaps.{IsBlockOf, get-update_other}
@@ -49,7 +49,7 @@ room_left t sound memory inside id =
     sym (room_by_members t.lo t.hi t.blocks (blocks (heap_in t memory)) (listed_permutation parts) t.order 0 (Some id))
 
 module _ (old : ArenaState) (sound : IsSound old.table) (memory : List ℕ) (inside : old.table.hi ≤ length memory) (b : Block) (known : block_with old.table.blocks b.id ≡ Some b)
-    (n : ℕ) (more : b.size < n) (rounded : IsMultiple old.table.grain n) (way : Way) (free : (holds_still b.hold && not way.may_move) ≡ false) where
+    (n : ℕ) (more : b.size < n) (rounded : IsMultiple old.table.grain n) (options : RoomOptions) (free : (holds_still b.hold && not options.may_move) ≡ false) where
   abbrev t : Table
   t = old.table
 
@@ -63,7 +63,7 @@ module _ (old : ArenaState) (sound : IsSound old.table) (memory : List ℕ) (ins
   some = omega arith
 
   abbrev by_way : Bool → Option ℕ
-  by_way compact = cond {A = Option ℕ} compact (prefix_of h n (Some b.id) way) (none_discarded_if (fits_in_place (snapshot_of h) n b.id || nat_le n (longest_hole h.lo h.hi (blocks h))))
+  by_way compact = cond {A = Option ℕ} compact (discards_needed h n (Some b.id) options) (none_discarded_if (fits_in_place (snapshot_of h) n b.id || nat_le n (longest_hole h.lo h.hi (blocks h))))
 
   abbrev may_by : Bool → Bool
   may_by compact = may_grow_in t b.id n compact
@@ -72,55 +72,55 @@ module _ (old : ArenaState) (sound : IsSound old.table) (memory : List ℕ) (ins
   still_same : (fits_in_place (snapshot_of h) n b.id || nat_le n (longest_hole h.lo h.hi (blocks h))) ≡ may_by false
   still_same = λ i. (sized.fits_in_heap t sound memory inside b known n ∙ sym (sized.fits_by_blocks t sound memory inside b known [] n)) i || nat_le n (table_longest t sound.table memory inside i)
 
-  growth_now : may_grow_in t b.id n way.compact ≡ true → growth_for (snapshot_of h) n b.id way ≡ Some 0
-  growth_now may = elim (cases_Bool way.compact) [
-    | inl on ↦ ap by_way on ∙ prefix_now t.lo t.hi (blocks h) t.order n (Some b.id) way on (let e = room_left t sound memory inside b.id in let le = leb-true n (room t.lo t.hi (all_but b.id t.blocks)) (sym (ap may_by on) ∙ may) in omega (arith, e, le))
+  growth_now : may_grow_in t b.id n options.compact ≡ true → growth_for (snapshot_of h) n b.id options ≡ Some 0
+  growth_now may = elim (cases_Bool options.compact) [
+    | inl on ↦ ap by_way on ∙ prefix_now t.lo t.hi (blocks h) t.order n (Some b.id) options on (let e = room_left t sound memory inside b.id in let le = leb-true n (room t.lo t.hi (all_but b.id t.blocks)) (sym (ap may_by on) ∙ may) in omega (arith, e, le))
     | inr off ↦ ap by_way off ∙ ap none_discarded_if (still_same ∙ sym (ap may_by off) ∙ may)
   ]
 
-  growth_none : may_grow_in t b.id n way.compact ≡ false → (way.compact && way.discard) ≡ false → growth_for (snapshot_of h) n b.id way ≡ None
-  growth_none short keeps = elim (cases_Bool way.compact) [
-    | inl on ↦ ap by_way on ∙ prefix_kept t.lo t.hi (blocks h) t.order n (Some b.id) way on (subst (λ v. (v && way.discard) ≡ false) on keeps)
+  growth_none : may_grow_in t b.id n options.compact ≡ false → (options.compact && options.discard) ≡ false → growth_for (snapshot_of h) n b.id options ≡ None
+  growth_none short keeps = elim (cases_Bool options.compact) [
+    | inl on ↦ ap by_way on ∙ prefix_kept t.lo t.hi (blocks h) t.order n (Some b.id) options on (subst (λ v. (v && options.discard) ≡ false) on keeps)
         (let e = room_left t sound memory inside b.id in let lt = leb-false n (room t.lo t.hi (all_but b.id t.blocks)) (sym (ap may_by on) ∙ short) in omega (arith, e, lt))
     | inr off ↦ ap by_way off ∙ ap none_discarded_if (still_same ∙ sym (ap may_by off) ∙ short)
   ]
 
   abbrev Answers : Bool → Heap → Option ℕ → Type 0
   Answers answered new prefix = MatchOption prefix ((answered ≡ false) × (new ≡ h))
-      (λ k. (answered ≡ true) × ((o : Object) × IsGrown way.zero n object o × Settles h (stays_for b.id way) (with_ordered (discarded h k (Some b.id)) b.id o (λ order. order)) new))
+      (λ k. (answered ≡ true) × ((o : Object) × IsGrown options.zero n object o × Settles h (stays_for b.id options) (with_ordered (discarded h k (Some b.id)) b.id o (λ order. order)) new))
 
-  refused_by : growth_for (snapshot_of h) n b.id way ≡ None → Reallocates h b.id n way false h
-  refused_by none = sized.asks t sound memory inside b known n some rounded way more free false h (subst (Answers false h) (sym none) (refl, refl)) (λ off said. absurd (false≢true said))
+  refused_by : growth_for (snapshot_of h) n b.id options ≡ None → Reallocates h b.id n options false h
+  refused_by none = sized.asks t sound memory inside b known n some rounded options more free false h (subst (Answers false h) (sym none) (refl, refl)) (λ off said. absurd (false≢true said))
 
   -- Without a discard.
-  pub refused_now : may_grow_in t b.id n way.compact ≡ false → (way.compact && way.discard) ≡ false → Reallocates h b.id n way false h
+  pub refused_now : may_grow_in t b.id n options.compact ≡ false → (options.compact && options.discard) ≡ false → Reallocates h b.id n options false h
   refused_now short keeps = refused_by (growth_none short keeps)
 
-  pub grows_now : may_grow_in t b.id n way.compact ≡ true → {p : Placed} {new : Heap} → IsSomeAnd (object_at h b.id) (λ o. Stands h b.id n (IsGrown way.zero n o) (λ _ order. order) way p new)
-      → (way.compact ≡ false → StaysOrMovesToHole h b.id n new) → {discarded : List ℕ} → discarded ≡ [] → IsResized h b.id n way p discarded new
+  pub grows_now : may_grow_in t b.id n options.compact ≡ true → {p : Placed} {new : Heap} → IsSomeAnd (object_at h b.id) (λ o. Stands h b.id n (IsGrown options.zero n o) (λ _ order. order) options p new)
+      → (options.compact ≡ false → StaysOrMovesToHole h b.id n new) → {discarded : List ℕ} → discarded ≡ [] → IsResized h b.id n options p discarded new
   grows_now may {p} {new} stood hole none =
-      let s : Stands h b.id n (IsGrown way.zero n object) (λ _ order. order) way p new = subst (λ q. IsSomeAnd q (λ o. Stands h b.id n (IsGrown way.zero n o) (λ _ order. order) way p new)) (sized.object_is t sound memory inside b known) stood in
+      let s : Stands h b.id n (IsGrown options.zero n object) (λ _ order. order) options p new = subst (λ q. IsSomeAnd q (λ o. Stands h b.id n (IsGrown options.zero n o) (λ _ order. order) options p new)) (sized.object_is t sound memory inside b known) stood in
       record {
-        reallocated = sized.asks t sound memory inside b known n some rounded way more free true new (subst (Answers true new) (sym (growth_now may)) (refl, (s.object, s.such, s.settled))) (λ off _. hole off);
+        reallocated = sized.asks t sound memory inside b known n some rounded options more free true new (subst (Answers true new) (sym (growth_now may)) (refl, (s.object, s.such, s.settled))) (λ off _. hole off);
         placed = s.placed;
-        listed = record { prefix = 0; needed = sized.ask_prefix t sound memory inside b known n some rounded way more free 0 (growth_now may); listed = none };
+        listed = record { prefix = 0; needed = sized.ask_prefix t sound memory inside b known n some rounded options more free 0 (growth_now may); listed = none };
       }
 
   -- As many were sought as make room.
-  module _ (may : (way.compact && way.discard) ≡ true) {found : Option ℕ} (found_is : found ≡ needed (snapshot t.lo t.hi t.blocks t.order) n (Some b.id)) where
-    on : way.compact ≡ true
-    on = (and_parts way.compact way.discard may).0
+  module _ (may : (options.compact && options.discard) ≡ true) {found : Option ℕ} (found_is : found ≡ needed (snapshot t.lo t.hi t.blocks t.order) n (Some b.id)) where
+    on : options.compact ≡ true
+    on = (and_parts options.compact options.discard may).0
 
     needed_same : needed (snapshot t.lo t.hi t.blocks t.order) n (Some b.id) ≡ needed (snapshot t.lo t.hi (blocks h) t.order) n (Some b.id)
     needed_same = needed_by_members t.lo t.hi t.blocks (blocks h) (listed_permutation (sized.parts t sound memory inside b known)) t.order n (Some b.id)
 
-    prefix_is : prefix_of h n (Some b.id) way ≡ found
-    prefix_is = prefix_needed t.lo t.hi (blocks h) t.order n (Some b.id) way on (and_parts way.compact way.discard may).1 ∙ sym needed_same ∙ sym found_is
+    prefix_is : discards_needed h n (Some b.id) options ≡ found
+    prefix_is = prefix_needed t.lo t.hi (blocks h) t.order n (Some b.id) options on (and_parts options.compact options.discard may).1 ∙ sym needed_same ∙ sym found_is
 
-    growth_is : growth_for (snapshot_of h) n b.id way ≡ found
+    growth_is : growth_for (snapshot_of h) n b.id options ≡ found
     growth_is = ap by_way on ∙ prefix_is
 
-    pub refused_then : found ≡ None → Reallocates h b.id n way false h
+    pub refused_then : found ≡ None → Reallocates h b.id n options false h
     refused_then none = refused_by (growth_is ∙ none)
 
     -- The first k were discarded.
@@ -144,7 +144,7 @@ module _ (old : ArenaState) (sound : IsSound old.table) (memory : List ℕ) (ins
           with_member mid.table.blocks b (EachPair-from_AllPairs (λ x y. x.id ≡ y.id → ⊥) mid.table.blocks discards.range.sound.table.ids) (block_table mid.table discards.range.sound.table memory mid_inside b left)
 
       -- so there is as much room as that
-      pub room_then : may_grow_in mid.table b.id n way.compact ≡ true
+      pub room_then : may_grow_in mid.table b.id n options.compact ≡ true
       room_then =
           let is = discards.heaps memory inside in
           let now = room_left mid.table discards.range.sound memory mid_inside b.id in
@@ -153,22 +153,22 @@ module _ (old : ArenaState) (sound : IsSound old.table) (memory : List ℕ) (ins
           let enough : n ≤ room_for (snapshot t.lo t.hi (blocks h) t.order) k (Some b.id) = needed_enough t.lo t.hi (blocks h) t.order n (Some b.id) k (sym needed_same ∙ sym found_is ∙ some_is) in
           ap (may_grow_in mid.table b.id n) on ∙ le-leb n (room mid.table.lo mid.table.hi (all_but b.id mid.table.blocks)) (omega (arith, now, later, enough))
 
-      module _ (p : Placed) (new : Heap) (stood : IsSomeAnd (object_at (heap_in mid.table memory) b.id) (λ o. Stands (heap_in mid.table memory) b.id n (IsGrown way.zero n o) (λ _ order. order) way p new)) (bytes : All (λ b. b < 256) memory) where
-        s : Stands (discarded h k (Some b.id)) b.id n (IsGrown way.zero n object) (λ _ order. order) way p new
-        s = subst (λ q. IsSomeAnd q (λ o. Stands (discarded h k (Some b.id)) b.id n (IsGrown way.zero n o) (λ _ order. order) way p new)) (absents_at ids h b.id stays_out ∙ sized.object_is t sound memory inside b known)
-            (subst (λ g. IsSomeAnd (object_at g b.id) (λ o. Stands g b.id n (IsGrown way.zero n o) (λ _ order. order) way p new)) (discards.heaps memory inside) stood)
+      module _ (p : Placed) (new : Heap) (stood : IsSomeAnd (object_at (heap_in mid.table memory) b.id) (λ o. Stands (heap_in mid.table memory) b.id n (IsGrown options.zero n o) (λ _ order. order) options p new)) (bytes : All (λ b. b < 256) memory) where
+        s : Stands (discarded h k (Some b.id)) b.id n (IsGrown options.zero n object) (λ _ order. order) options p new
+        s = subst (λ q. IsSomeAnd q (λ o. Stands (discarded h k (Some b.id)) b.id n (IsGrown options.zero n o) (λ _ order. order) options p new)) (absents_at ids h b.id stays_out ∙ sized.object_is t sound memory inside b known)
+            (subst (λ g. IsSomeAnd (object_at g b.id) (λ o. Stands g b.id n (IsGrown options.zero n o) (λ _ order. order) options p new)) (discards.heaps memory inside) stood)
 
-        settled : Settles h (stays_for b.id way) (with_ordered (discarded h k (Some b.id)) b.id s.object (λ order. order)) new
-        settled = settles_after h b.id n way k (prefix_is ∙ some_is) (with_ordered (discarded h k (Some b.id)) b.id s.object (λ order. order)) new s.settled
+        settled : Settles h (stays_for b.id options) (with_ordered (discarded h k (Some b.id)) b.id s.object (λ order. order)) new
+        settled = settles_after h b.id n options k (prefix_is ∙ some_is) (with_ordered (discarded h k (Some b.id)) b.id s.object (λ order. order)) new s.settled
 
         moved_then : p.moved ≡ moved_bytes h new
         moved_then =
-            let keeps : KeepsOthers h (Some b.id) k new = (others_law h new (sound_heap t sound memory inside bytes) k).0 b.id way s.object (λ order. order) settled in
+            let keeps : KeepsOthers h (Some b.id) k new = (others_law h new (sound_heap t sound memory inside bytes) k).0 b.id options s.object (λ order. order) settled in
             s.placed.moved ∙ sym (moved_after h k (Some b.id) new (λ q m. gone h new s.settled.sound q (keeps.discarded q m)))
 
-        pub grows_then : {listed : List ℕ} → listed ≡ mid.discarded → IsResized h b.id n way p listed new
+        pub grows_then : {listed : List ℕ} → listed ≡ mid.discarded → IsResized h b.id n options p listed new
         grows_then e = record {
-          reallocated = sized.asks t sound memory inside b known n some rounded way more free true new (subst (Answers true new) (sym (growth_is ∙ some_is)) (refl, (s.object, s.such, settled))) (λ off _. absurd (false≢true (sym off ∙ on)));
+          reallocated = sized.asks t sound memory inside b known n some rounded options more free true new (subst (Answers true new) (sym (growth_is ∙ some_is)) (refl, (s.object, s.such, settled))) (λ off _. absurd (false≢true (sym off ∙ on)));
           placed = record {
             place = s.placed.place;
             inside = let hi = ap (λ (g : Heap). g.hi) (discards.heaps memory inside) in let range = discards.range.hi in let end = s.placed.inside in omega (arith, hi, range, end);
@@ -178,7 +178,7 @@ module _ (old : ArenaState) (sound : IsSound old.table) (memory : List ℕ) (ins
           };
           listed = record {
             prefix = k;
-            needed = sized.ask_prefix t sound memory inside b known n some rounded way more free k (growth_is ∙ some_is);
+            needed = sized.ask_prefix t sound memory inside b known n some rounded options more free k (growth_is ∙ some_is);
             listed = e ∙ discards.listed ∙ ap (take k) (eligible_by_members t.blocks (blocks h) (listed_permutation (sized.parts t sound memory inside b known)) t.order (Some b.id));
           };
         }

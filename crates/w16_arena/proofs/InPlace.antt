@@ -8,7 +8,7 @@ use Rattle.std.proofs.lemmas.List.{take-take}
 use Rattle.std.specs.Borrow.{GName}
 use Rattle.w16_model.specs.declared.Block.{Block}
 use Rattle.w16_model.specs.declared.Entry.{Entry}
-use Rattle.w16_model.specs.declared.Way.{Way}
+use Rattle.w16_model.specs.declared.RoomOptions.{RoomOptions}
 use Rattle.w16_model.specs.Bytes.{part}
 use Rattle.w16_model.specs.Gap.{block_end, hole_after, holds_still}
 use Rattle.w16_model.specs.Heap.{Heap, Object, IsMultiple}
@@ -23,7 +23,7 @@ use Rattle.w16_lru.specs.Uses.{Uses}
 use Rattle.w16_arena.specs.declared.new_place.Placed.{Placed}
 use Rattle.w16_arena.specs.Asked.{IsResized, IsPlaced}
 use Rattle.w16_arena.specs.State.{KeepsRest, table_of, heap_of}
-use Rattle.w16_arena.specs.Representation.{IsKept}
+use Rattle.w16_arena.specs.Representation.{ArenaInvariant}
 use Rattle.w16_arena.proofs.Parts.{AreParts}
 use Rattle.w16_arena.proofs.With.{with-without}
 use Rattle.w16_arena.proofs.Keeping.{bytes_with}
@@ -33,7 +33,7 @@ use Rattle.w16_arena.proofs.Answering.{still_same}
 use Rattle.w16_arena.proofs.Resized.{resized_parts, resized_heap}
 use Rattle.w16_arena.proofs.Sized as sized
 
-module _ {entries : List (Option Entry)} {layout : Layout} {uses : Uses} {gap_rooms : ℕ} {room : ℕ} (kept : IsKept entries layout uses gap_rooms room)
+module _ {entries : List (Option Entry)} {layout : Layout} {uses : Uses} {gap_rooms : ℕ} {room : ℕ} (kept : ArenaInvariant entries layout uses gap_rooms room)
     (b : Block) (known : block_with layout.blocks b.id ≡ Some b) (n : ℕ) {new : Layout} (value : new ≡ record layout { blocks = replaced (record b { size = n }) layout.blocks }) (laid : IsOrdered new) where
   abbrev t : Table
   t = table_of entries layout uses.ids
@@ -48,7 +48,7 @@ module _ {entries : List (Option Entry)} {layout : Layout} {uses : Uses} {gap_ro
   sound_resized = let e = sized.entry_known t kept.sound (replicate layout.hi 0) some_high b known in
       resized_parts (some_parts kept) b known e.0 e.1 e.2 n value laid (replicate layout.hi 0) refl (λ q d. refl)
 
-  pub kept_resized : IsKept entries new uses gap_rooms room
+  pub kept_resized : ArenaInvariant entries new uses gap_rooms room
   kept_resized = kept_with kept entries new uses sound_resized.sound refl same.3 refl
 
   pub rest_resized : {X : Type 0} {bytes : X → List ℕ} {lenders : X → List GName} {x y : X} → IsSameRest bytes lenders layout.lo layout.hi x y → KeepsRest bytes lenders t x (table_of entries new uses.ids) y
@@ -85,23 +85,23 @@ module _ {entries : List (Option Entry)} {layout : Layout} {uses : Uses} {gap_ro
         few = let range = sized.range_is t kept.sound memory inside b known in omega arith;
       }
 
-      module _ (some : 0 < n) (rounded : IsMultiple layout.grain n) (way : Way) (p : Placed) (at : p.at ≡ b.at) (moved : p.moved ≡ 0) (end : b.at + n ≤ layout.hi) where
-        pub is_cut : n ≤ b.size → part after b.at n ≡ part memory b.at n → {discarded : List ℕ} → discarded ≡ [] → IsResized h b.id n way p discarded after_heap
+      module _ (some : 0 < n) (rounded : IsMultiple layout.grain n) (options : RoomOptions) (p : Placed) (at : p.at ≡ b.at) (moved : p.moved ≡ 0) (end : b.at + n ≤ layout.hi) where
+        pub is_cut : n ≤ b.size → part after b.at n ≡ part memory b.at n → {discarded : List ℕ} → discarded ≡ [] → IsResized h b.id n options p discarded after_heap
         is_cut less own none = record {
-          reallocated = sized.cuts t kept.sound memory inside b known n some rounded way less after_heap (heap_is
+          reallocated = sized.cuts t kept.sound memory inside b known n some rounded options less after_heap (heap_is
               ∙ ap (λ bs. with_object h b.id (record object { bytes = Some bs })) (range_part after b.at n ∙ own ∙ sym (take-take n b.size (drop b.at memory) less) ∙ ap (take n) (sym (range_part memory b.at b.size))));
           placed = placed p at moved end;
-          listed = record { prefix = 0; needed = sized.cut_prefix t kept.sound memory inside b known n some rounded way less; listed = none };
+          listed = record { prefix = 0; needed = sized.cut_prefix t kept.sound memory inside b known n some rounded options less; listed = none };
         }
 
-        pub is_extended : (more : b.size < n) → (holds_still b.hold && not way.may_move) ≡ true → n ≤ b.size + hole_after layout.hi layout.blocks (block_end b)
-            → IsGrown way.zero n object (record object { bytes = Some (slice_range after b.at (b.at + n)) }) → {discarded : List ℕ} → discarded ≡ [] → IsResized h b.id n way p discarded after_heap
+        pub is_extended : (more : b.size < n) → (holds_still b.hold && not options.may_move) ≡ true → n ≤ b.size + hole_after layout.hi layout.blocks (block_end b)
+            → IsGrown options.zero n object (record object { bytes = Some (slice_range after b.at (b.at + n)) }) → {discarded : List ℕ} → discarded ≡ [] → IsResized h b.id n options p discarded after_heap
         is_extended more keeps fits grown none = record {
-          reallocated = sized.extends t kept.sound memory inside b known n some rounded way more keeps
+          reallocated = sized.extends t kept.sound memory inside b known n some rounded options more keeps
               (sized.fits_in_heap t kept.sound memory inside b known n ∙ le-leb n (b.size + hole_after layout.hi layout.blocks (block_end b)) fits)
               after_heap (record object { bytes = Some (slice_range after b.at (b.at + n)) }, grown, heap_is);
           placed = placed p at moved end;
-          listed = record { prefix = 0; needed = sized.extend_prefix t kept.sound memory inside b known n some rounded way more keeps; listed = none };
+          listed = record { prefix = 0; needed = sized.extend_prefix t kept.sound memory inside b known n some rounded options more keeps; listed = none };
         }
 
   -- The others have their bytes where each block but this has its own,
@@ -112,10 +112,10 @@ module _ {entries : List (Option Entry)} {layout : Layout} {uses : Uses} {gap_ro
       subst (λ (p : Option Block). option_map (λ (x : Block). slice_range after x.at (x.at + x.size)) p ≡ option_map (λ (x : Block). slice_range memory x.at (x.at + x.size)) p) other (bytes_with memory after (all_but b.id layout.blocks) is q)
 
 -- It isn't extended, where the hole behind it is too short.
-pub not_extended : {entries : List (Option Entry)} {layout : Layout} {uses : Uses} {gap_rooms : ℕ} {room : ℕ} (kept : IsKept entries layout uses gap_rooms room)
-    (b : Block) (known : block_with layout.blocks b.id ≡ Some b) (n : ℕ) (memory : List ℕ) (inside : layout.hi ≤ length memory) → IsMultiple layout.grain n → (way : Way) → b.size < n → (holds_still b.hold && not way.may_move) ≡ true
-    → b.size + hole_after layout.hi layout.blocks (block_end b) < n → Reallocates (heap_of entries layout uses.ids memory) b.id n way false (heap_of entries layout uses.ids memory)
-not_extended {entries} {layout} {uses} kept b known n memory inside rounded way more keeps short =
+pub not_extended : {entries : List (Option Entry)} {layout : Layout} {uses : Uses} {gap_rooms : ℕ} {room : ℕ} (kept : ArenaInvariant entries layout uses gap_rooms room)
+    (b : Block) (known : block_with layout.blocks b.id ≡ Some b) (n : ℕ) (memory : List ℕ) (inside : layout.hi ≤ length memory) → IsMultiple layout.grain n → (options : RoomOptions) → b.size < n → (holds_still b.hold && not options.may_move) ≡ true
+    → b.size + hole_after layout.hi layout.blocks (block_end b) < n → Reallocates (heap_of entries layout uses.ids memory) b.id n options false (heap_of entries layout uses.ids memory)
+not_extended {entries} {layout} {uses} kept b known n memory inside rounded options more keeps short =
     let t : Table = table_of entries layout uses.ids in
-    sized.doesnt_extend t kept.sound memory inside b known n (omega arith) rounded way more keeps
+    sized.doesnt_extend t kept.sound memory inside b known n (omega arith) rounded options more keeps
     (sized.fits_in_heap t kept.sound memory inside b known n ∙ lt-leb n (b.size + hole_after layout.hi layout.blocks (block_end b)) short)

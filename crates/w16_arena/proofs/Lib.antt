@@ -44,7 +44,7 @@ pub mod Kept
 pub mod Fitting
 pub mod InPlace
 pub mod Extending
-pub mod Loosened
+pub mod Replaced
 pub mod Regrown
 pub mod Growing
 pub mod Written

@@ -15,7 +15,7 @@ use Rattle.w16_blocks.specs.Layout.{Layout}
 use Rattle.w16_lru.specs.Uses.{Uses}
 use Rattle.w16_lru.specs.declared.End.TheVariants.{Newest}
 use Rattle.w16_arena.specs.State.{ArenaState, Steps, table_of, heap_of, relisted}
-use Rattle.w16_arena.specs.Representation.{IsKept}
+use Rattle.w16_arena.specs.Representation.{ArenaInvariant}
 use Rattle.w16_arena.proofs.Parts.{AreParts}
 use Rattle.w16_arena.proofs.Lookups.{in_list, holds_at, object_here, sound_arranged}
 use Rattle.w16_arena.proofs.Changed.{GoTogether, ChangesOne, ReordersOne}
@@ -24,7 +24,7 @@ use Rattle.w16_arena.proofs.Reordered.{same_reorders, end_reorders, without_reor
 use Rattle.w16_arena.proofs.Singles.{put_parts, put_heap}
 use Rattle.w16_arena.proofs.Steps.{state_of, beside, some_parts, kept_with, steps_to}
 
-module _ {entries : List (Option Entry)} {layout : Layout} {uses : Uses} {gap_rooms : ℕ} {room : ℕ} (kept : IsKept entries layout uses gap_rooms room)
+module _ {entries : List (Option Entry)} {layout : Layout} {uses : Uses} {gap_rooms : ℕ} {room : ℕ} (kept : ArenaInvariant entries layout uses gap_rooms room)
     (id : ℕ) (d : Entry) (there : get_or entries id None ≡ Some d) (kind : Kind) (loose : (is_fixed d.kind || is_fixed kind) ≡ false) where
   abbrev entry : Entry
   entry = record d { kind = kind }
@@ -87,7 +87,7 @@ module _ {entries : List (Option Entry)} {layout : Layout} {uses : Uses} {gap_ro
       has_same None = refl
       has_same (Some x) = refl
 
-  pub kept_modified : {after : Uses} → after ≡ record uses { ids = order } → IsKept (set entries id (Some entry)) layout after gap_rooms room
+  pub kept_modified : {after : Uses} → after ≡ record uses { ids = order } → ArenaInvariant (set entries id (Some entry)) layout after gap_rooms room
   kept_modified {after} after_is = kept_with kept (set entries id (Some entry)) layout after (subst (λ (u : Uses). IsSound (table_of (set entries id (Some entry)) layout u.ids)) (sym after_is) sound_modified)
       (length-set entries id (Some entry)) refl (ap (λ (u : Uses). u.cap) after_is)
 

@@ -17,12 +17,13 @@ use Rattle.w16_blocks.proofs.Remove.{IsLaid-from, all_but_same, all_but_other, a
 use Rattle.w16_compact.specs.declared.gaps.Gap.{Gap}
 use Rattle.w16_compact.specs.Gap.{without, HasRoom}
 use Rattle.w16_compact.specs.Gather.{contents, gathered, moved_between, packed, FitsGap, MayGather}
-use Rattle.w16_compact.specs.Open.{raised_in, opened, end_in, spare_in}
+use Rattle.w16_compact.specs.Open.{with_loose, raised_in, opened, end_in, spare_in}
 use Rattle.w16_compact.proofs.Bounded.{clear_pinned}
 use Rattle.w16_compact.proofs.Cleared.{inside_is}
 use Rattle.w16_compact.proofs.Gathering.{cut_high}
 use Rattle.w16_compact.proofs.LeftOut.{may_with}
 use Rattle.w16_compact.proofs.Loose.{loose_one, loose_here}
+use Rattle.w16_compact.proofs.Loosened.{held, clear_held, contents_held, moved_from, moved_to, ordered_held, others_held, own_held}
 use Rattle.w16_compact.proofs.Opened.{loose_most, may_low, may_high}
 use Rattle.w16_compact.proofs.Raising.{by_reach, loose_skip, loose_split}
 use Rattle.w16_arena.specs.declared.new_place.Placed.{Placed}
@@ -89,12 +90,12 @@ loose_but cap a e x (b ∷ bs) named known loose le lt = elim (eqb_tells b.id x.
 module _ {l : Layout} (ordered : IsOrdered l) (x : Block) (known : block_with l.blocks x.id ≡ Some x) (loose : x.hold ≡ Loose) {n : ℕ} (more : x.size < n) (rounded : IsMultiple l.grain n) {gap : Gap} (has : HasRoom (without (Some x.id) l) n gap)
     (own : (gap.low ≤ x.at) × (x.at < gap.high)) {high : ℕ} (below : high ≤ gap.high) (last : (m : ℕ) → IsMultiple l.grain m → m ≤ gap.high → m ≤ high) where
   may_all : MayGather l gap.low gap.high
-  may_all = may_with l ordered x.id x known loose n gap has
+  may_all = may_with l ordered x.id x known n gap has loose
 
   within : (b : Block) → IsGrained l.grain b → block_end b ≤ gap.high → block_end b ≤ high
   within b grained le = last (block_end b) (sum_grains l.grain b.at b.size grained.0 grained.1) le
 
-  pub may_open : MayGather l gap.low high
+  may_open : MayGather l gap.low high
   may_open = record {
     inside = (may_all.inside.0, last gap.low has.grained may_all.inside.1, let top = may_all.inside.2 in omega arith);
     loose = Each-both (IsGrained l.grain) (FitsGap gap.low gap.high) (FitsGap gap.low high)
@@ -104,7 +105,7 @@ module _ {l : Layout} (ordered : IsOrdered l) (x : Block) (known : block_with l.
         ]) l.blocks ordered.grained may_all.loose;
   }
 
-  pub own_within : (gap.low ≤ x.at) × (block_end x ≤ high)
+  own_within : (gap.low ≤ x.at) × (block_end x ≤ high)
   own_within =
       let lies = own_lies ordered x known in let some = lies.1 in
       (own.0, within x (own_grained ordered x known) (inside_is gap.low gap.high x some own.0 own.1 (each_with (FitsGap gap.low gap.high) x.id x l.blocks known may_all.loose)).0)
@@ -168,7 +169,7 @@ module _ {l : Layout} (ordered : IsOrdered l) (x : Block) (known : block_with l.
     }
 
     -- the object's block is where it may grow
-    pub own_way : block_with new.blocks x.id ≡ Some there → IsClear is_any l.lo l.hi new.blocks (end_in l.blocks gap.low x) (end_in l.blocks gap.low x + spare_in l.blocks gap.low high)
+    own_way : block_with new.blocks x.id ≡ Some there → IsClear is_any l.lo l.hi new.blocks (end_in l.blocks gap.low x) (end_in l.blocks gap.low x + spare_in l.blocks gap.low high)
         → (p : Placed) → p.at ≡ there.at → p.slid ≡ record { from = gap.low; to = high } → p.moved ≡ moved_between l.blocks new.blocks → HasWay n x l memory p new after
     own_way place clear p at range count =
         let ids = slides_ids gap.low high memory after in
@@ -194,3 +195,52 @@ module _ {l : Layout} (ordered : IsOrdered l) (x : Block) (known : block_with l.
             let sum = loose_but l.cap gap.low high x l.blocks ordered.named known loose own_within.0 (let to = own_within.1 in let some = (own_lies ordered x known).1 in omega arith) in
             let less = loose_split (all_but x.id l.blocks) gap.low high gap.high (last gap.low has.grained may_all.inside.1) below in
             omega (arith, room, most, more_than, sum, less)
+
+-- A block that stands in its gap, whatever its hold is: it is opened as if it were loose.
+module _ {l : Layout} (ordered : IsOrdered l) (x : Block) (known : block_with l.blocks x.id ≡ Some x) {n : ℕ} (more : x.size < n) (rounded : IsMultiple l.grain n) {gap : Gap} (has : HasRoom (without (Some x.id) l) n gap) (own : (gap.low ≤ x.at) × (x.at < gap.high)) {high : ℕ}
+    (below : high ≤ gap.high) (last : (m : ℕ) → IsMultiple l.grain m → m ≤ gap.high → m ≤ high) where
+  abbrev old : Layout
+  old = with_loose x.id l
+
+  abbrev loose_one_of : Block
+  loose_one_of = record x { hold = Loose }
+
+  known_loose : block_with old.blocks x.id ≡ Some loose_one_of
+  known_loose = own_held x.id Loose l.blocks x known
+
+  old_ordered : IsOrdered old
+  old_ordered = ordered_held x.id Loose l ordered
+
+  others_same : (m : Layout) → but_for x.id (with_loose x.id m) ≡ but_for x.id m
+  others_same m = ap (λ bs. let k : Layout = record m { blocks = bs } in k) (others_held x.id Loose m.blocks)
+
+  has_loose : HasRoom (without (Some x.id) old) n gap
+  has_loose = subst (λ k. HasRoom k n gap) (sym (others_same l)) has
+
+  pub may_open_held : MayGather old gap.low high
+  may_open_held = may_open old_ordered loose_one_of known_loose refl more rounded has_loose own below last
+
+  pub own_within_held : (gap.low ≤ x.at) × (block_end x ≤ high)
+  own_within_held = own_within old_ordered loose_one_of known_loose refl more rounded has_loose own below last
+
+  module _ {new : Layout} (value : with_loose x.id new ≡ record old { blocks = opened gap.low (block_end x) high old.blocks }) (laid : IsOrdered new) {memory after : List ℕ} (bytes : contents after new.blocks ≡ contents memory l.blocks) (long : length after ≡ length memory)
+      (small : All (λ b. b < 256) after) where
+    pub own_way_held : block_with new.blocks x.id ≡ Some (record x { at = gap.low + loose_bytes old.blocks gap.low x.at }) → IsClear is_any l.lo l.hi new.blocks (end_in old.blocks gap.low x) (end_in old.blocks gap.low x + spare_in old.blocks gap.low high)
+        → (p : Placed) → p.at ≡ gap.low + loose_bytes old.blocks gap.low x.at → p.slid ≡ record { from = gap.low; to = high } → p.moved ≡ moved_between l.blocks new.blocks → HasWay n x l memory p new after
+    own_way_held place clear p at range count = record {
+      block = place ∙ ap (λ (a : ℕ). let r : Block = record x { at = a } in Some r) (sym at);
+      bytes = way.bytes;
+      slid = subst (λ (k : Layout). AreMoved p.slid.from p.slid.to k memory (but_for x.id new) after) (others_same l) (subst (λ (k : Layout). AreMoved p.slid.from p.slid.to (but_for x.id old) memory k after) (others_same new) way.slid);
+      laid = laid;
+      free = subst (λ (k : Layout). AreFreeBytes k n p.at) (others_same new) way.free;
+      moved = way.moved ∙ (λ i. moved_between (others_held x.id Loose l.blocks i) (others_held x.id Loose new.blocks i) + cond (p.at == x.at) 0 x.size);
+    }
+      where
+        f : Block → Block
+        f = held x.id Loose
+
+        way : HasWay n loose_one_of old memory p (with_loose x.id new) after
+        way = own_way old_ordered loose_one_of known_loose refl more rounded has_loose own below last value (ordered_held x.id Loose new laid)
+            (contents_held x.id Loose after new.blocks ∙ bytes ∙ sym (contents_held x.id Loose memory l.blocks)) long small
+            (own_held x.id Loose new.blocks _ place) (clear_held x.id Loose l.lo l.hi _ _ new.blocks clear) p at range
+            (count ∙ sym (moved_from f (λ b. (refl, refl)) l.blocks (map f new.blocks) ∙ moved_to f (λ b. refl) l.blocks new.blocks))

@@ -1,19 +1,18 @@
 -- A gap that is gathered for a block that stands elsewhere.
 use Rattle.std.proofs.Common.{◌≡◌, ℕ, ◌+◌, ◌<◌, ◌≤◌, ◌==◌, ◌⊎◌, inl, inr, IsTrue, List, [], ◌∷◌, length, All, Option, Some, None, refl, sym, ap, ◌∙◌, subst, arith, eq-eqb}
-use Rattle.std.proofs.lemmas.Bool.{cond-true, false≢true}
+use Rattle.std.proofs.lemmas.Bool.{cond-true}
 use Rattle.std.proofs.lemmas.Bool.Decides.{eqb_tells}
 use Rattle.w16_model.specs.declared.Block.{Block}
-use Rattle.w16_model.specs.declared.Hold.TheVariants.{Loose}
 use Rattle.w16_model.specs.Bytes.{part}
-use Rattle.w16_model.specs.Gap.{block_end, holds_still, is_any, is_pinned, loose_bytes, IsClear, Misses}
+use Rattle.w16_model.specs.Gap.{block_end, is_any, is_pinned, loose_bytes, IsClear, Misses}
 use Rattle.w16_model.specs.Table.{block_with}
 use Rattle.w16_model.proofs.Gaps.{Each-from_All, All-from_Each}
 use Rattle.w16_blocks.specs.Layout.{Layout, AreNamed, IsOrdered, all_but}
-use Rattle.w16_blocks.proofs.Remove.{all_but_same, all_but_other, all_but_absent, rest_differs, with_same, with_other, each_with, All-all_but, All-back}
+use Rattle.w16_blocks.proofs.Remove.{all_but_same, all_but_other, all_but_absent, rest_differs, with_same, with_other, All-all_but, All-back}
 use Rattle.w16_compact.specs.declared.gaps.Gap.{Gap}
 use Rattle.w16_compact.specs.Gap.{without, HasRoom}
-use Rattle.w16_compact.specs.Gather.{contents, gathered, moved_between, FitsGap, MayGather}
-use Rattle.w16_compact.proofs.LeftOut.{may_with}
+use Rattle.w16_compact.specs.Gather.{contents, gathered, moved_between}
+use Rattle.w16_compact.proofs.LeftOut.{lies_outside, may_beside}
 use Rattle.w16_compact.proofs.Loose.{loose_one}
 use Rattle.w16_compact.proofs.Raising.{loose_skip}
 use Rattle.w16_arena.specs.NewPlace.{Slides, AreMoved, AreFreeBytes}
@@ -36,23 +35,11 @@ loose_outside cap a e x (b ∷ bs) named known out = elim (eqb_tells b.id x.id) 
       omega (arith, rest, left, one, two)
 ]
 
-module _ {l : Layout} (ordered : IsOrdered l) (x : Block) (known : block_with l.blocks x.id ≡ Some x) (loose : x.hold ≡ Loose) {n : ℕ} {gap : Gap} (has : HasRoom (without (Some x.id) l) n gap) (other : (x.at < gap.low) ⊎ (gap.high ≤ x.at)) where
-  may_all : MayGather l gap.low gap.high
-  may_all = may_with l ordered x.id x known loose n gap has
-
+module _ {l : Layout} (ordered : IsOrdered l) (x : Block) (known : block_with l.blocks x.id ≡ Some x) {n : ℕ} {gap : Gap} (has : HasRoom (without (Some x.id) l) n gap) (other : (x.at < gap.low) ⊎ (gap.high ≤ x.at)) where
   outside : (block_end x ≤ gap.low) ⊎ (gap.high ≤ x.at)
-  outside = elim (each_with (FitsGap gap.low gap.high) x.id x l.blocks known may_all.loose) [
-    | inl front ↦ inl front
-    | inr e ↦ elim e [
-      | inl behind ↦ inr behind
-      | inr inside ↦ elim other [
-        | inl lower ↦ absurd (let from = inside.0 in omega arith)
-        | inr above ↦ inr above
-      ]
-    ]
-  ]
+  outside = lies_outside l ordered x.id x known n gap has other
 
-  -- a loose block is in no pinned one's way
+  -- a pinned block outside the gap has no byte there
   abbrev Missed : ℕ → ℕ → Block → Type 0
   Missed a e y = IsTrue (is_pinned y) → Misses y.at y.size a e
 
@@ -64,7 +51,7 @@ module _ {l : Layout} (ordered : IsOrdered l) (x : Block) (known : block_with l.
       clear = record {
         above = has.gap.clear.above;
         below = has.gap.clear.below;
-        misses = All-from_Each _ l.blocks (All-back l.cap (Missed gap.low gap.high) x.id x l.blocks ordered.named known (λ t. absurd (false≢true (sym (ap holds_still loose) ∙ t))) (Each-from_All _ (all_but x.id l.blocks) has.gap.clear.misses));
+        misses = All-from_Each _ l.blocks (All-back l.cap (Missed gap.low gap.high) x.id x l.blocks ordered.named known (λ t. elim outside [ inl front ↦ inl front | inr behind ↦ inr behind ]) (Each-from_All _ (all_but x.id l.blocks) has.gap.clear.misses));
       };
       maximal = λ a e low high wider. has.gap.maximal a e low high (record {
         above = wider.above;
@@ -75,7 +62,7 @@ module _ {l : Layout} (ordered : IsOrdered l) (x : Block) (known : block_with l.
     loose = has.loose ∙ sym (loose_outside l.cap gap.low gap.high x l.blocks ordered.named known other);
     room = has.room;
     grained = has.grained;
-    may = may_all;
+    may = may_beside l ordered x.id x known n gap has other;
   }
 
   -- once it is gathered

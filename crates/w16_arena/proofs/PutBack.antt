@@ -6,7 +6,7 @@ use Rattle.std.specs.FinMap as finmap
 use Rattle.std.specs.FinMap.{FinMap, same_map, nat_cmp-IsAntisymmetric}
 use Rattle.std.proofs.lemmas.Bool.{cases_eq, false≢true, and_parts}
 use Rattle.w16_model.specs.declared.Block.{Block}
-use Rattle.w16_model.specs.declared.Way.{Way}
+use Rattle.w16_model.specs.declared.RoomOptions.{RoomOptions}
 use Rattle.w16_model.specs.Heap.{Heap, Object, blocks}
 use Rattle.w16_model.specs.Changes.{removed}
 use Rattle.w16_model.specs.Request.{stays_for, moved_bytes}
@@ -36,9 +36,9 @@ module _ (heap : Heap) (id : ℕ) where
     hold = b.hold;
   }
 
-  pub put_back : {n : ℕ} {becomes : Object → Type 0} {way : Way} {p : Placed} {new : Heap} → Stands (removed heap id) id n becomes (λ _ _. heap.order) way p new
-      → (moved : ℕ) → moved ≡ moved_bytes heap new → heap.lo + moved ≤ heap.hi → Stands heap id n becomes (λ _ order. order) way (record p { moved = moved }) new
-  put_back {n} {becomes} {way} {p} {new} s moved counted few = record {
+  pub put_back : {n : ℕ} {becomes : Object → Type 0} {options : RoomOptions} {p : Placed} {new : Heap} → Stands (removed heap id) id n becomes (λ _ _. heap.order) options p new
+      → (moved : ℕ) → moved ≡ moved_bytes heap new → heap.lo + moved ≤ heap.hi → Stands heap id n becomes (λ _ order. order) options (record p { moved = moved }) new
+  put_back {n} {becomes} {options} {p} {new} s moved counted few = record {
     object = s.object;
     such = s.such;
     settled = record {
@@ -58,7 +58,7 @@ module _ (heap : Heap) (id : ℕ) where
   }
     where
       Stays : Block → Type 0
-      Stays x = IsTrue (stays_for id way x) → finmap.get new.places x.id ≡ Some x.at
+      Stays x = IsTrue (stays_for id options x) → finmap.get new.places x.id ≡ Some x.at
 
       other : (q : ℕ) → q ≡ id → IsTrue (not (q == id)) → ⊥
       other q e t = false≢true (sym (ap not (eq-eqb q id e)) ∙ t)

@@ -4,7 +4,7 @@ use Rattle.std.proofs.Common.{◌≡◌, ℕ, ◌+◌, ◌-◌, ◌≤◌, Bool,
 use Rattle.w16_region.specs.Bytes.{counted}
 use Rattle.w16_model.specs.declared.Block.{Block}
 use Rattle.w16_model.specs.declared.Entry.{Entry}
-use Rattle.w16_model.specs.declared.Way.{Way}
+use Rattle.w16_model.specs.declared.RoomOptions.{RoomOptions}
 use Rattle.w16_model.specs.Gap.{holds_still}
 use Rattle.w16_model.specs.Heap.{Heap, Object, bytes_at, is_fixed, object_at}
 use Rattle.w16_model.specs.Request.{Allocates, Reallocates, ReallocatesObject}
@@ -34,17 +34,17 @@ module _ (t : Table) (sound : IsSound t) (memory : List ℕ) (inside : t.hi ≤ 
       let counted : IsCountedBy (block_with t.blocks id) e = subst (λ p. IfSome p (IsCountedBy (block_with t.blocks id))) there (sound.counted id) in
       counted.2 none
 
-  pub revived : (n : ℕ) (way : Way) (answered : Bool) (new : Heap) → Allocates h id n e.kind 0 way answered new → Reallocates h id n way answered new
-  revived n way answered new a = record {
+  pub revived : (n : ℕ) (options : RoomOptions) (answered : Bool) (new : Heap) → Allocates h id n e.kind 0 options answered new → Reallocates h id n options answered new
+  revived n options answered new a = record {
     some = a.some;
     rounded = a.rounded;
-    object = subst (λ p. IsSomeAnd p (λ o. ReallocatesObject h id o n way answered new)) (sym absent_is) (subst (λ k. Allocates h id n e.kind k way answered new) (sym unlocked) a);
+    object = subst (λ p. IsSomeAnd p (λ o. ReallocatesObject h id o n options answered new)) (sym absent_is) (subst (λ k. Allocates h id n e.kind k options answered new) (sym unlocked) a);
   }
 
-  pub revived_discards : (n : ℕ) (way : Way) (ids : List ℕ) → HasDiscarded h id n way ids → HasDiscardedFor h id n way ids
-  revived_discards n way ids d = record {
+  pub revived_discards : (n : ℕ) (options : RoomOptions) (ids : List ℕ) → HasDiscarded h id n options ids → HasDiscardedFor h id n options ids
+  revived_discards n options ids d = record {
     prefix = d.prefix;
-    needed = subst (λ p. IsSomeAnd p (λ o. reallocation_prefix h id o n way ≡ Some d.prefix)) (sym absent_is) d.needed;
+    needed = subst (λ p. IsSomeAnd p (λ o. reallocation_prefix h id o n options ≡ Some d.prefix)) (sym absent_is) d.needed;
     listed = d.listed;
   }
 
@@ -52,17 +52,17 @@ module _ (t : Table) (sound : IsSound t) (memory : List ℕ) (inside : t.hi ≤ 
   no_size = ap (λ (p : Option Object). unwrap_or (option_map (length {A = ℕ}) (elim p as (λ _. Option (List ℕ)) [ Some o ↦ o.bytes | None ↦ None ])) 0) absent_is
 
 -- answered, or refused
-pub by_result : (h new : Heap) (id n : ℕ) (way : Way) (ids : List ℕ) (A : Type 0) (r : Result Placed NoRoom) → IfOk r (λ p. IsResized h id n way p ids new) → OnErr r A → (A → Reallocates h id n way false new) → Reallocates h id n way (is_ok r) new
-by_result h new id n way ids A (Ok p) ok err f = ok.reallocated
-by_result h new id n way ids A (Err e) ok err f = f err
+pub by_result : (h new : Heap) (id n : ℕ) (options : RoomOptions) (ids : List ℕ) (A : Type 0) (r : Result Placed NoRoom) → IfOk r (λ p. IsResized h id n options p ids new) → OnErr r A → (A → Reallocates h id n options false new) → Reallocates h id n options (is_ok r) new
+by_result h new id n options ids A (Ok p) ok err f = ok.reallocated
+by_result h new id n options ids A (Err e) ok err f = f err
 
-pub placed_of : (h new : Heap) (id n : ℕ) (way : Way) (ids : List ℕ) (r : Result Placed NoRoom) → IfOk r (λ p. IsResized h id n way p ids new) → IfOk r (λ p. IsPlaced h id n p new)
-placed_of h new id n way ids (Ok p) ok = ok.placed
-placed_of h new id n way ids (Err e) ok = tt
+pub placed_of : (h new : Heap) (id n : ℕ) (options : RoomOptions) (ids : List ℕ) (r : Result Placed NoRoom) → IfOk r (λ p. IsResized h id n options p ids new) → IfOk r (λ p. IsPlaced h id n p new)
+placed_of h new id n options ids (Ok p) ok = ok.placed
+placed_of h new id n options ids (Err e) ok = tt
 
-pub listed_of : (h new : Heap) (id n : ℕ) (way : Way) (ids : List ℕ) (r : Result Placed NoRoom) → IfOk r (λ p. IsResized h id n way p ids new) → IfOk r (λ _. HasDiscardedFor h id n way ids)
-listed_of h new id n way ids (Ok p) ok = ok.listed
-listed_of h new id n way ids (Err e) ok = tt
+pub listed_of : (h new : Heap) (id n : ℕ) (options : RoomOptions) (ids : List ℕ) (r : Result Placed NoRoom) → IfOk r (λ p. IsResized h id n options p ids new) → IfOk r (λ _. HasDiscardedFor h id n options ids)
+listed_of h new id n options ids (Ok p) ok = ok.listed
+listed_of h new id n options ids (Err e) ok = tt
 
 -- what is written where nothing was moved
 pub still_written : (r : Result Placed NoRoom) (before after k : ℕ) → IfOk r (λ p. p.moved ≡ 0) → IfOk r (λ _. after ≡ counted before k) → IfOk r (λ p. after ≡ counted (counted before p.moved) k)
@@ -77,21 +77,21 @@ pub cut_written : (zero : Bool) (before after moved n s : ℕ) → moved ≡ 0 �
 cut_written true before after moved n s none is le = omega arith
 cut_written false before after moved n s none is le = omega arith
 
-pub revived_listed : (t : Table) (sound : IsSound t) (memory : List ℕ) (inside : t.hi ≤ length memory) (id : ℕ) (e : Entry) (there : entry_at t id ≡ Some e) (none : block_with t.blocks id ≡ None) (n : ℕ) (way : Way) (ids : List ℕ) (r : Result Placed NoRoom)
-    → IfOk r (λ _. HasDiscarded (heap_in t memory) id n way ids) → IfOk r (λ _. HasDiscardedFor (heap_in t memory) id n way ids)
-revived_listed t sound memory inside id e there none n way ids (Ok p) d = revived_discards t sound memory inside id e there none n way ids d
-revived_listed t sound memory inside id e there none n way ids (Err x) d = tt
+pub revived_listed : (t : Table) (sound : IsSound t) (memory : List ℕ) (inside : t.hi ≤ length memory) (id : ℕ) (e : Entry) (there : entry_at t id ≡ Some e) (none : block_with t.blocks id ≡ None) (n : ℕ) (options : RoomOptions) (ids : List ℕ) (r : Result Placed NoRoom)
+    → IfOk r (λ _. HasDiscarded (heap_in t memory) id n options ids) → IfOk r (λ _. HasDiscardedFor (heap_in t memory) id n options ids)
+revived_listed t sound memory inside id e there none n options ids (Ok p) d = revived_discards t sound memory inside id e there none n options ids d
+revived_listed t sound memory inside id e there none n options ids (Err x) d = tt
 
 -- a block that was found is its id's
 pub found_known : (t : Table) (id : ℕ) (b : Block) → Some b ≡ block_with t.blocks id → (b.id ≡ id) × (block_with t.blocks b.id ≡ Some b)
 found_known t id b is = let same = (member_with t.blocks id b (sym is)).1 in (same, ap (block_with t.blocks) same ∙ sym is)
 
 -- whether it may not move is told by its entry
-pub held_by : (t : Table) → IsSound t → (id : ℕ) (e : Entry) → Some e ≡ entry_at t id → (b : Block) → Some b ≡ block_with t.blocks id → (way : Way) (v : Bool) → v ≡ ((is_fixed e.kind || nat_lt 0 e.locks) && not way.may_move) → (holds_still b.hold && not way.may_move) ≡ v
-held_by t sound id e there b is way v told =
+pub held_by : (t : Table) → IsSound t → (id : ℕ) (e : Entry) → Some e ≡ entry_at t id → (b : Block) → Some b ≡ block_with t.blocks id → (options : RoomOptions) (v : Bool) → v ≡ ((is_fixed e.kind || nat_lt 0 e.locks) && not options.may_move) → (holds_still b.hold && not options.may_move) ≡ v
+held_by t sound id e there b is options v told =
     let layout : Layout = record { cap = length t.entries; lo = t.lo; hi = t.hi; grain = t.grain; blocks = t.blocks } in
     let hold : b.hold ≡ hold_of_entry e = subst (λ p. IsSomeAnd p (λ e. b.hold ≡ hold_of_entry e)) (sym there) (holds_at t.entries layout t.order sound id b (sym is)) in
-    ap (λ p. p && not way.may_move) (ap holds_still hold ∙ still_hold (is_fixed e.kind || nat_lt 0 e.locks)) ∙ sym told
+    ap (λ p. p && not options.may_move) (ap holds_still hold ∙ still_hold (is_fixed e.kind || nat_lt 0 e.locks)) ∙ sym told
 
 -- what is written for one that has no bytes
 pub revived_written : (r : Result Placed NoRoom) (before after : ℕ) (zero : Bool) (n s : ℕ) → s ≡ 0 → IfOk r (λ p. after ≡ counted (counted before p.moved) (if zero then n else 0)) → IfOk r (λ p. after ≡ counted (counted before p.moved) (if zero then n - s else 0))

@@ -4,7 +4,7 @@ use Rattle.std.specs.FinMap as finmap
 use Rattle.std.proofs.lemmas.List.{length-set, set-set, set-get_or}
 use Rattle.w16_model.specs.declared.Block.{Block}
 use Rattle.w16_model.specs.declared.Entry.{Entry}
-use Rattle.w16_model.specs.declared.Way.{Way}
+use Rattle.w16_model.specs.declared.RoomOptions.{RoomOptions}
 use Rattle.w16_model.specs.Bytes.{part, put_part, repeated}
 use Rattle.w16_model.specs.Gap.{IsClear, Misses, is_any}
 use Rattle.w16_model.specs.Heap.{Heap, Object, IsMultiple, blocks, is_discardable}
@@ -23,7 +23,7 @@ use Rattle.std.specs.Borrow.{GName}
 use Rattle.w16_arena.specs.declared.new_place.Placed.{Placed}
 use Rattle.w16_arena.specs.Asked.{Stands}
 use Rattle.w16_arena.specs.State.{KeepsRest, table_of, heap_of}
-use Rattle.w16_arena.specs.Representation.{IsKept}
+use Rattle.w16_arena.specs.Representation.{ArenaInvariant}
 use Rattle.w16_arena.specs.Growth.{but_for}
 use Rattle.w16_arena.specs.NewPlace.{AreMoved, AreFreeBytes}
 use Rattle.w16_arena.proofs.Parts.{AreParts}
@@ -42,8 +42,8 @@ use Rattle.w16_arena.proofs.Allocated.{AreLocks}
 use Rattle.w16_arena.proofs.Standing as standing
 use Rattle.w16_arena.proofs.PutBack.{put_back}
 
-module _ {entries : List (Option Entry)} {layout : Layout} {uses : Uses} {gap_rooms : ℕ} {room : ℕ} (kept : IsKept entries layout uses gap_rooms room)
-    (b : Block) (known : block_with layout.blocks b.id ≡ Some b) (ordered : IsOrdered layout) (memory : List ℕ) (inside : layout.hi ≤ length memory) (n : ℕ) (more : b.size < n) (rounded : IsMultiple layout.grain n) (way : Way) where
+module _ {entries : List (Option Entry)} {layout : Layout} {uses : Uses} {gap_rooms : ℕ} {room : ℕ} (kept : ArenaInvariant entries layout uses gap_rooms room)
+    (b : Block) (known : block_with layout.blocks b.id ≡ Some b) (ordered : IsOrdered layout) (memory : List ℕ) (inside : layout.hi ≤ length memory) (n : ℕ) (more : b.size < n) (rounded : IsMultiple layout.grain n) (options : RoomOptions) where
   abbrev t : Table
   t = table_of entries layout uses.ids
 
@@ -103,17 +103,17 @@ module _ {entries : List (Option Entry)} {layout : Layout} {uses : Uses} {gap_ro
   -- With its bytes, its own and new ones.
   module _ (p : Placed) {new : Layout} {mid : List ℕ} (value : new ≡ record (but_for b.id new) { blocks = placed (record b { at = p.at; size = n }) (all_but b.id new.blocks) }) (laid : IsOrdered new)
       (moved : AreMoved p.slid.from p.slid.to (but_for b.id layout) memory (but_for b.id new) mid) (place : AreFreeBytes (but_for b.id new) n p.at) (came : part mid p.at b.size ≡ part memory b.at b.size) (small : All (λ b. b < 256) memory)
-      {after : List ℕ} (filled : after ≡ (if way.zero then put_part mid (p.at + b.size) (repeated (n - b.size) 0) else mid)) where
+      {after : List ℕ} (filled : after ≡ (if options.zero then put_part mid (p.at + b.size) (repeated (n - b.size) 0) else mid)) where
     pub in_mid : p.at + n ≤ length mid
-    in_mid = standing.in_memory left b.id n entry locks way lt_left absent some rounded p moved place
+    in_mid = standing.in_memory left b.id n entry locks options lt_left absent some rounded p moved place
 
     made : Makes p.at n mid after
-    made = longer.made p.at b.size n mid after more in_mid (moved.bytes small) way.zero filled
+    made = longer.made p.at b.size n mid after more in_mid (moved.bytes small) options.zero filled
 
     parts_after : AreParts entries new uses.ids after
-    parts_after = subst (λ es. AreParts es new uses.ids after) entries_again (standing.parts_after left b.id n entry locks way lt_left absent some rounded p moved place entry_is.2 value laid made reorders)
+    parts_after = subst (λ es. AreParts es new uses.ids after) entries_again (standing.parts_after left b.id n entry locks options lt_left absent some rounded p moved place entry_is.2 value laid made reorders)
 
-    pub kept_grown : IsKept entries new uses gap_rooms room
+    pub kept_grown : ArenaInvariant entries new uses gap_rooms room
     kept_grown = kept_with kept entries new uses parts_after.sound refl (ap (λ (l : Layout). l.cap) moved.same) refl
 
     pub rest_grown : {X : Type 0} {bytes : X → List ℕ} {lenders : X → List GName} {x y z : X}
@@ -134,11 +134,11 @@ module _ {entries : List (Option Entry)} {layout : Layout} {uses : Uses} {gap_ro
     abbrev less : Placed
     less = record p { moved = moved_between (all_but b.id layout.blocks) (all_but b.id new.blocks) }
 
-    module _ (still : way.compact ≡ false → all_but b.id new.blocks ≡ all_but b.id layout.blocks) where
-      stands_left : Stands (heap_of (set entries b.id None) (but_for b.id layout) (without b.id uses.ids) memory) b.id n (IsGrown way.zero n object) (λ _ _. uses.ids) way less grown
-      stands_left = subst (λ es. Stands (heap_of (set entries b.id None) (but_for b.id layout) (without b.id uses.ids) memory) b.id n (IsGrown way.zero n object) (λ _ _. uses.ids) way less (heap_of es new uses.ids after)) entries_again
-          (standing.stands left b.id n entry locks way lt_left absent some rounded less moved place entry_is.2 value laid made reorders still {becomes = IsGrown way.zero n object} {order_with = λ _ _. uses.ids}
-          (longer.is_grown p.at b.size n mid after more in_mid (moved.bytes small) way.zero filled (slice_range memory b.at (b.at + b.size)) (sized.own_size t kept.sound memory inside b known) (came ∙ sym (range_part memory b.at b.size)) entry.kind entry.locks)
+    module _ (still : options.compact ≡ false → all_but b.id new.blocks ≡ all_but b.id layout.blocks) where
+      stands_left : Stands (heap_of (set entries b.id None) (but_for b.id layout) (without b.id uses.ids) memory) b.id n (IsGrown options.zero n object) (λ _ _. uses.ids) options less grown
+      stands_left = subst (λ es. Stands (heap_of (set entries b.id None) (but_for b.id layout) (without b.id uses.ids) memory) b.id n (IsGrown options.zero n object) (λ _ _. uses.ids) options less (heap_of es new uses.ids after)) entries_again
+          (standing.stands left b.id n entry locks options lt_left absent some rounded less moved place entry_is.2 value laid made reorders still {becomes = IsGrown options.zero n object} {order_with = λ _ _. uses.ids}
+          (longer.is_grown p.at b.size n mid after more in_mid (moved.bytes small) options.zero filled (slice_range memory b.at (b.at + b.size)) (sized.own_size t kept.sound memory inside b known) (came ∙ sym (range_part memory b.at b.size)) entry.kind entry.locks)
           refl refl)
 
       abbrev Elsewhere : Block → Bool
@@ -160,10 +160,10 @@ module _ {entries : List (Option Entry)} {layout : Layout} {uses : Uses} {gap_ro
           turn true = refl
           turn false = refl
 
-      pub stands_grown : p.moved ≡ moved_between (all_but b.id layout.blocks) (all_but b.id new.blocks) + (if p.at == b.at then 0 else b.size) → Stands h b.id n (IsGrown way.zero n object) (λ _ order. order) way p grown
+      pub stands_grown : p.moved ≡ moved_between (all_but b.id layout.blocks) (all_but b.id new.blocks) + (if p.at == b.at then 0 else b.size) → Stands h b.id n (IsGrown options.zero n object) (λ _ order. order) options p grown
       stands_grown counted =
           let all = counted ∙ sym all_moved in
-          put_back h b.id (subst (λ g. Stands g b.id n (IsGrown way.zero n object) (λ _ _. uses.ids) way less grown) (removed_heap parts b.id lt arranged) stands_left)
+          put_back h b.id (subst (λ g. Stands g b.id n (IsGrown options.zero n object) (λ _ _. uses.ids) options less grown) (removed_heap parts b.id lt arranged) stands_left)
           p.moved all (omega (arith, all, moved_few t kept.sound memory inside grown))
 
       pub hole_grown : (p.at ≡ b.at) ⊎ IsClear is_any layout.lo layout.hi layout.blocks p.at (p.at + n) → StaysOrMovesToHole h b.id n grown

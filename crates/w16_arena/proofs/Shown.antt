@@ -23,7 +23,7 @@ use Rattle.w16_model.proofs.Gaps.{Each-at}
 use Rattle.w16_model.proofs.Tables.{member_with}
 use Rattle.w16_lru.specs.Uses.{Uses}
 use Rattle.w16_arena.specs.State.{ArenaState, Steps, table_of, heap_of, holes_in, after_end}
-use Rattle.w16_arena.specs.Representation.{IsKept}
+use Rattle.w16_arena.specs.Representation.{ArenaInvariant}
 use Rattle.w16_arena.proofs.Lookups.{in_list, no_block, past_end}
 use Rattle.w16_lru.specs.declared.End.{End}
 use Rattle.w16_lru.specs.declared.End.TheVariants.{Newest}
@@ -45,7 +45,7 @@ same_members id order uses there r q = elim (cases_eq q id) [
   | inr d ↦ r.there q (λ e. d (sym e))
 ]
 
-module _ {entries : List (Option Entry)} {layout : Layout} {uses : Uses} {gap_rooms : ℕ} {room : ℕ} (kept : IsKept entries layout uses gap_rooms room)
+module _ {entries : List (Option Entry)} {layout : Layout} {uses : Uses} {gap_rooms : ℕ} {room : ℕ} (kept : ArenaInvariant entries layout uses gap_rooms room)
     {discarded : List ℕ} {old : ArenaState} (shown : state_of entries layout uses.ids discarded ≡ old) where
   -- what the value has, the table has
   pub known : (P : Table → Type 0) → P old.table → P (table_of entries layout uses.ids)
@@ -84,7 +84,7 @@ module _ {entries : List (Option Entry)} {layout : Layout} {uses : Uses} {gap_ro
     none : get_or entries id None ≡ None
     none = known (λ t. entry_at t id ≡ None) free
 
-    pub kept_entered : IsKept (set entries id (Some entered)) layout uses gap_rooms room
+    pub kept_entered : ArenaInvariant (set entries id (Some entered)) layout uses gap_rooms room
     kept_entered = kept_with kept (set entries id (Some entered)) layout uses (sound_entered kept id kind lt none) (length-set entries id (Some entered)) refl refl
 
     pub steps_entered : Steps old (state_of (set entries id (Some entered)) layout uses.ids discarded) (λ a b. Enters a id kind b)
@@ -98,7 +98,7 @@ module _ {entries : List (Option Entry)} {layout : Layout} {uses : Uses} {gap_ro
     ids_after : without id uses.ids ≡ after.ids
     ids_after = sym (ap (λ (u : Uses). u.ids) order)
 
-    pub kept_without : IsKept (set entries id None) new after gap_rooms room
+    pub kept_without : ArenaInvariant (set entries id None) new after gap_rooms room
     kept_without = kept_with kept (set entries id None) new after (subst (λ ids. IsSound (table_of (set entries id None) new ids)) ids_after (sound_without kept id lt new value ordered)) (length-set entries id None) same_range.3 (ap (λ (u : Uses). u.cap) order)
 
     pub steps_without : Steps old (state_of (set entries id None) new after.ids discarded) (λ a b. b ≡ removed a id)
@@ -107,7 +107,7 @@ module _ {entries : List (Option Entry)} {layout : Layout} {uses : Uses} {gap_ro
 
     -- It gives up its bytes alone.
     module _ (e : Entry) (there : get_or entries id None ≡ Some e) (unlocked : e.locks ≡ 0) where
-      pub kept_given : IsKept entries new after gap_rooms room
+      pub kept_given : ArenaInvariant entries new after gap_rooms room
       kept_given = kept_with kept entries new after (subst (λ ids. IsSound (table_of entries new ids)) ids_after (sound_given kept id e there unlocked new value ordered)) refl same_range.3 (ap (λ (u : Uses). u.cap) order)
 
       pub steps_given : Steps old (state_of entries new after.ids discarded) (λ a b. b ≡ absent a id)
@@ -130,7 +130,7 @@ module _ {entries : List (Option Entry)} {layout : Layout} {uses : Uses} {gap_ro
         let r : ReordersOne id true uses.ids (at_end end id uses.ids) = end_reorders end id uses.ids kept.sound.no_repeats in
         subst (λ ids. IsSound (table_of entries layout ids)) (sym ids_are) (reordered_sound entries layout uses.ids (at_end end id uses.ids) kept.sound (same_members id uses.ids (at_end end id uses.ids) there r) r.once)
 
-    pub kept_ended : IsKept entries layout after gap_rooms room
+    pub kept_ended : ArenaInvariant entries layout after gap_rooms room
     kept_ended = kept_with kept entries layout after sound_ended refl refl (ap (λ (u : Uses). u.cap) after_is)
 
     -- a step that says so
@@ -159,7 +159,7 @@ module _ {entries : List (Option Entry)} {layout : Layout} {uses : Uses} {gap_ro
     counted_here : IsCountedBy (block_with layout.blocks id) entry
     counted_here = known (λ t. IsCountedBy (block_with t.blocks id) entry) counted
 
-    pub kept_set : IsKept (set entries id (Some entry)) new uses gap_rooms room
+    pub kept_set : ArenaInvariant (set entries id (Some entry)) new uses gap_rooms room
     kept_set = let r = range_set kept id entry asked_here counted_here hold hold_is new none some ordered in
         kept_with kept (set entries id (Some entry)) new uses (sound_set kept id entry asked_here counted_here hold hold_is new none some ordered) (length-set entries id (Some entry)) r.3 refl
 
@@ -169,7 +169,7 @@ module _ {entries : List (Option Entry)} {layout : Layout} {uses : Uses} {gap_ro
         (sound_set kept id entry asked_here counted_here hold hold_is new none some ordered) r.0 r.1 r.2 (length-set entries id (Some entry)) (heap_set kept id entry asked_here counted_here hold hold_is new none some ordered)
 
 -- past the ids no block is
-pub block_past : {entries : List (Option Entry)} {layout : Layout} {uses : Uses} {gap_rooms : ℕ} {room : ℕ} → IsKept entries layout uses gap_rooms room → (id : ℕ) → length entries ≤ id → block_with layout.blocks id ≡ None
+pub block_past : {entries : List (Option Entry)} {layout : Layout} {uses : Uses} {gap_rooms : ℕ} {room : ℕ} → ArenaInvariant entries layout uses gap_rooms room → (id : ℕ) → length entries ≤ id → block_with layout.blocks id ≡ None
 block_past {entries} {layout} {uses} kept id le = no_block (beside kept (replicate layout.hi 0) (let e = length-replicate {A = ℕ} layout.hi 0 in omega arith)) id (past_end entries id le)
 
 -- a block that is held otherwise leaves the holes

@@ -8,7 +8,7 @@ use Rattle.w16_model.specs.declared.Block.{Block}
 use Rattle.w16_model.specs.declared.Entry.{Entry}
 use Rattle.w16_model.specs.declared.Hold.{Hold}
 use Rattle.w16_model.specs.declared.Hold.TheVariants.{Pinned, Loose}
-use Rattle.w16_model.specs.declared.Way.{Way}
+use Rattle.w16_model.specs.declared.RoomOptions.{RoomOptions}
 use Rattle.w16_model.specs.Gap.{holds_still, block_end, first_from, hole_after, is_any}
 use Rattle.w16_model.specs.Discards.{fits_in_place, growth_for, snapshot}
 use Rattle.w16_model.specs.Heap.{Heap, Object, IsMultiple, blocks, object_at, bytes_at, is_pinned_object}
@@ -122,27 +122,27 @@ module _ (t : Table) (sound : IsSound t) (memory : List ℕ) (inside : t.hi ≤ 
   pub fits_in_heap : (n : ℕ) → fits_in_place (snapshot_of h) n b.id ≡ nat_le n (b.size + hole_after t.hi t.blocks (block_end b))
   fits_in_heap n = ap (fits_with (blocks h) n) known_in_heap ∙ ap (λ k. nat_le n (b.size + k)) (hole_same (block_end b))
 
-  module _ (n : ℕ) (some : 0 < n) (rounded : IsMultiple t.grain n) (way : Way) where
+  module _ (n : ℕ) (some : 0 < n) (rounded : IsMultiple t.grain n) (options : RoomOptions) where
     abbrev held : Bool
-    held = is_pinned_object object && not way.may_move
+    held = is_pinned_object object && not options.may_move
 
-    held_is : (v : Bool) → (holds_still b.hold && not way.may_move) ≡ v → held ≡ v
-    held_is v is = ap (λ p. p && not way.may_move) pinned_is ∙ is
+    held_is : (v : Bool) → (holds_still b.hold && not options.may_move) ≡ v → held ≡ v
+    held_is v is = ap (λ p. p && not options.may_move) pinned_is ∙ is
 
     -- It is as long, or longer.
     module _ (less : n ≤ b.size) where
       short : nat_le n (length own) ≡ true
       short = le-leb n (length own) (omega (arith, own_size))
 
-      pub cuts : (new : Heap) → new ≡ with_object h b.id (record object { bytes = Some (take n own) }) → Reallocates h b.id n way true new
+      pub cuts : (new : Heap) → new ≡ with_object h b.id (record object { bytes = Some (take n own) }) → Reallocates h b.id n options true new
       cuts new is = record {
         some = some;
         rounded = rounded;
-        object = of_object (λ o. ReallocatesObject h b.id o n way true new) (subst (λ v. MatchBool v ((true ≡ true) × (new ≡ with_object h b.id (record object { bytes = Some (take n own) }))) (Grows h b.id object n way true new)) (sym short) (refl, is));
+        object = of_object (λ o. ReallocatesObject h b.id o n options true new) (subst (λ v. MatchBool v ((true ≡ true) × (new ≡ with_object h b.id (record object { bytes = Some (take n own) }))) (Grows h b.id object n options true new)) (sym short) (refl, is));
       }
 
-      pub cut_prefix : IsSomeAnd (object_at h b.id) (λ o. reallocation_prefix h b.id o n way ≡ Some 0)
-      cut_prefix = of_object (λ o. reallocation_prefix h b.id o n way ≡ Some 0) (ap (λ v. cond {A = Option ℕ} v (Some 0) (cond held (Some 0) (growth_for (snapshot_of h) n b.id way))) short)
+      pub cut_prefix : IsSomeAnd (object_at h b.id) (λ o. reallocation_prefix h b.id o n options ≡ Some 0)
+      cut_prefix = of_object (λ o. reallocation_prefix h b.id o n options ≡ Some 0) (ap (λ v. cond {A = Option ℕ} v (Some 0) (cond held (Some 0) (growth_for (snapshot_of h) n b.id options))) short)
 
     -- It is shorter.
     module _ (more : b.size < n) where
@@ -150,37 +150,37 @@ module _ (t : Table) (sound : IsSound t) (memory : List ℕ) (inside : t.hi ≤ 
       long = lt-leb n (length own) (omega (arith, own_size))
 
       abbrev Extends : Bool → Heap → Bool → Type 0
-      Extends answered new fits = MatchBool fits ((answered ≡ true) × ((grown : Object) × IsGrown way.zero n object grown × (new ≡ with_object h b.id grown))) ((answered ≡ false) × (new ≡ h))
+      Extends answered new fits = MatchBool fits ((answered ≡ true) × ((grown : Object) × IsGrown options.zero n object grown × (new ≡ with_object h b.id grown))) ((answered ≡ false) × (new ≡ h))
 
       abbrev Asks : Bool → Heap → Type 0
-      Asks answered new = Request h b.id (record { way = way; prefix = growth_for (snapshot_of h) n b.id way; becomes = IsGrown way.zero n object; order = λ _ order. order }) answered new × (way.compact ≡ false → answered ≡ true → StaysOrMovesToHole h b.id n new)
+      Asks answered new = Request h b.id (record { options = options; prefix = growth_for (snapshot_of h) n b.id options; becomes = IsGrown options.zero n object; order = λ _ order. order }) answered new × (options.compact ≡ false → answered ≡ true → StaysOrMovesToHole h b.id n new)
 
-      grows : (answered : Bool) (new : Heap) (v : Bool) → held ≡ v → MatchBool v (Extends answered new (fits_in_place (snapshot_of h) n b.id)) (Asks answered new) → Reallocates h b.id n way answered new
+      grows : (answered : Bool) (new : Heap) (v : Bool) → held ≡ v → MatchBool v (Extends answered new (fits_in_place (snapshot_of h) n b.id)) (Asks answered new) → Reallocates h b.id n options answered new
       grows answered new v is step = record {
         some = some;
         rounded = rounded;
-        object = of_object (λ o. ReallocatesObject h b.id o n way answered new) (subst (λ w. MatchBool w ((answered ≡ true) × (new ≡ with_object h b.id (record object { bytes = Some (take n own) }))) (Grows h b.id object n way answered new)) (sym long)
+        object = of_object (λ o. ReallocatesObject h b.id o n options answered new) (subst (λ w. MatchBool w ((answered ≡ true) × (new ≡ with_object h b.id (record object { bytes = Some (take n own) }))) (Grows h b.id object n options answered new)) (sym long)
             (subst (λ w. MatchBool w (Extends answered new (fits_in_place (snapshot_of h) n b.id)) (Asks answered new)) (sym is) step));
       }
 
       -- It may not move.
-      module _ (keeps : (holds_still b.hold && not way.may_move) ≡ true) where
-        pub extends : fits_in_place (snapshot_of h) n b.id ≡ true → (new : Heap) → (grown : Object) × IsGrown way.zero n object grown × (new ≡ with_object h b.id grown) → Reallocates h b.id n way true new
+      module _ (keeps : (holds_still b.hold && not options.may_move) ≡ true) where
+        pub extends : fits_in_place (snapshot_of h) n b.id ≡ true → (new : Heap) → (grown : Object) × IsGrown options.zero n object grown × (new ≡ with_object h b.id grown) → Reallocates h b.id n options true new
         extends fits new grown = grows true new true (held_is true keeps) (subst (Extends true new) (sym fits) (refl, grown))
 
-        pub doesnt_extend : fits_in_place (snapshot_of h) n b.id ≡ false → Reallocates h b.id n way false h
+        pub doesnt_extend : fits_in_place (snapshot_of h) n b.id ≡ false → Reallocates h b.id n options false h
         doesnt_extend fits = grows false h true (held_is true keeps) (subst (Extends false h) (sym fits) (refl, refl))
 
-        pub extend_prefix : IsSomeAnd (object_at h b.id) (λ o. reallocation_prefix h b.id o n way ≡ Some 0)
-        extend_prefix = of_object (λ o. reallocation_prefix h b.id o n way ≡ Some 0)
-            (ap (λ v. cond {A = Option ℕ} v (Some 0) (cond held (Some 0) (growth_for (snapshot_of h) n b.id way))) long ∙ ap (λ v. cond {A = Option ℕ} v (Some 0) (growth_for (snapshot_of h) n b.id way)) (held_is true keeps))
+        pub extend_prefix : IsSomeAnd (object_at h b.id) (λ o. reallocation_prefix h b.id o n options ≡ Some 0)
+        extend_prefix = of_object (λ o. reallocation_prefix h b.id o n options ≡ Some 0)
+            (ap (λ v. cond {A = Option ℕ} v (Some 0) (cond held (Some 0) (growth_for (snapshot_of h) n b.id options))) long ∙ ap (λ v. cond {A = Option ℕ} v (Some 0) (growth_for (snapshot_of h) n b.id options)) (held_is true keeps))
 
       -- It may move.
-      module _ (free : (holds_still b.hold && not way.may_move) ≡ false) where
-        pub asks : (answered : Bool) (new : Heap) → Request h b.id (record { way = way; prefix = growth_for (snapshot_of h) n b.id way; becomes = IsGrown way.zero n object; order = λ _ order. order }) answered new
-            → (way.compact ≡ false → answered ≡ true → StaysOrMovesToHole h b.id n new) → Reallocates h b.id n way answered new
+      module _ (free : (holds_still b.hold && not options.may_move) ≡ false) where
+        pub asks : (answered : Bool) (new : Heap) → Request h b.id (record { options = options; prefix = growth_for (snapshot_of h) n b.id options; becomes = IsGrown options.zero n object; order = λ _ order. order }) answered new
+            → (options.compact ≡ false → answered ≡ true → StaysOrMovesToHole h b.id n new) → Reallocates h b.id n options answered new
         asks answered new request hole = grows answered new false (held_is false free) (request, hole)
 
-        pub ask_prefix : (k : ℕ) → growth_for (snapshot_of h) n b.id way ≡ Some k → IsSomeAnd (object_at h b.id) (λ o. reallocation_prefix h b.id o n way ≡ Some k)
-        ask_prefix k is = of_object (λ o. reallocation_prefix h b.id o n way ≡ Some k)
-            (ap (λ v. cond {A = Option ℕ} v (Some 0) (cond held (Some 0) (growth_for (snapshot_of h) n b.id way))) long ∙ ap (λ v. cond {A = Option ℕ} v (Some 0) (growth_for (snapshot_of h) n b.id way)) (held_is false free) ∙ is)
+        pub ask_prefix : (k : ℕ) → growth_for (snapshot_of h) n b.id options ≡ Some k → IsSomeAnd (object_at h b.id) (λ o. reallocation_prefix h b.id o n options ≡ Some k)
+        ask_prefix k is = of_object (λ o. reallocation_prefix h b.id o n options ≡ Some k)
+            (ap (λ v. cond {A = Option ℕ} v (Some 0) (cond held (Some 0) (growth_for (snapshot_of h) n b.id options))) long ∙ ap (λ v. cond {A = Option ℕ} v (Some 0) (growth_for (snapshot_of h) n b.id options)) (held_is false free) ∙ is)

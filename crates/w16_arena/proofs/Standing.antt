@@ -7,7 +7,7 @@ use Rattle.std.proofs.lemmas.Bool.{false≢true, cases_Bool, and_parts}
 use Rattle.w16_model.specs.declared.Block.{Block}
 use Rattle.w16_model.specs.declared.Entry.{Entry}
 use Rattle.w16_model.specs.declared.Hold.{Hold}
-use Rattle.w16_model.specs.declared.Way.{Way}
+use Rattle.w16_model.specs.declared.RoomOptions.{RoomOptions}
 use Rattle.w16_model.specs.Gap.{is_pinned}
 use Rattle.w16_model.specs.Heap.{Heap, Object, IsMultiple, blocks, is_discardable}
 use Rattle.w16_model.specs.Request.{stays_for}
@@ -30,7 +30,7 @@ use Rattle.w16_arena.proofs.Moved.{moved_is, moved_few}
 use Rattle.w16_arena.proofs.Cleared.{Makes}
 
 module _ {entries : List (Option Entry)} {layout : Layout} {order memory : List ℕ} (parts : AreParts entries layout order memory)
-    (id n : ℕ) (entry : Entry) (locks : AreLocks entry) (way : Way) (lt : id < length entries) (absent : block_with layout.blocks id ≡ None) (some : 0 < n) (rounded : IsMultiple layout.grain n) where
+    (id n : ℕ) (entry : Entry) (locks : AreLocks entry) (options : RoomOptions) (lt : id < length entries) (absent : block_with layout.blocks id ≡ None) (some : 0 < n) (rounded : IsMultiple layout.grain n) where
   abbrev before : Heap
   before = heap_of entries layout order memory
 
@@ -93,15 +93,15 @@ module _ {entries : List (Option Entry)} {layout : Layout} {order memory : List 
             same_map nat_cmp_total nat_cmp-IsAntisymmetric granted.objects (finmap.insert (heap_of entries mid order mid_memory).objects id o) (objects mid_parts id n entry locks lt mid_absent some mid_rounded p.at place reorders ordered_new after made)
             ∙ ap (λ os. finmap.insert os id o) mid_same
 
-        module _ (still : way.compact ≡ false → mid.blocks ≡ layout.blocks) where
-          place_same : way.compact ≡ false → (q : ℕ) → finmap.get (heap_of entries mid order mid_memory).places q ≡ finmap.get before.places q
+        module _ (still : options.compact ≡ false → mid.blocks ≡ layout.blocks) where
+          place_same : options.compact ≡ false → (q : ℕ) → finmap.get (heap_of entries mid order mid_memory).places q ≡ finmap.get before.places q
           place_same off q = place_here mid_parts q ∙ ap (λ (bs : List Block). option_map (λ (x : Block). x.at) (block_with bs q)) (still off) ∙ sym (place_here parts q)
 
-          stays : (x : Block) → Member x layout.blocks → IsTrue (stays_for id way x) → finmap.get granted.places x.id ≡ Some x.at
+          stays : (x : Block) → Member x layout.blocks → IsTrue (stays_for id options x) → finmap.get granted.places x.id ≡ Some x.at
           stays x m t =
               let here = listed_with parts x m in
-              place_mid x.id (other x m) ∙ elim (cases_Bool way.compact) [
-                | inl on ↦ slid_pinned parts moved x.id x here (first (is_pinned x) (ap (λ v. is_pinned x || not v) (sym on) ∙ (and_parts (not (x.id == id)) (is_pinned x || not way.compact) t).1))
+              place_mid x.id (other x m) ∙ elim (cases_Bool options.compact) [
+                | inl on ↦ slid_pinned parts moved x.id x here (first (is_pinned x) (ap (λ v. is_pinned x || not v) (sym on) ∙ (and_parts (not (x.id == id)) (is_pinned x || not options.compact) t).1))
                 | inr off ↦ place_same off x.id ∙ place_here parts x.id ∙ ap (option_map (λ (y : Block). y.at)) here
               ]
             where
@@ -111,7 +111,7 @@ module _ {entries : List (Option Entry)} {layout : Layout} {order memory : List 
 
           -- The object is such as is asked, and the order of use is what is asked with it.
           module _ {becomes : Object → Type 0} {order_with : Object → List ℕ → List ℕ} (such : becomes o) (listed : order_with o order ≡ uses) (counted : p.moved ≡ moved_between layout.blocks mid.blocks) where
-            stands_granted : Stands before id n becomes order_with way p granted
+            stands_granted : Stands before id n becomes order_with options p granted
             stands_granted = record {
               object = o;
               such = such;
@@ -120,8 +120,8 @@ module _ {entries : List (Option Entry)} {layout : Layout} {order memory : List 
                     let lo = ap (λ (l : Layout). l.lo) moved.same in let hi = ap (λ (l : Layout). l.hi) moved.same in let grain = ap (λ (l : Layout). l.grain) moved.same in
                     λ i. record { lo = lo i; hi = hi i; grain = grain i; objects = objects_same i; places = granted.places; order = sym listed i };
                 sound = is_heap granted_parts made.bytes;
-                kept = All-from_Each (λ x. IsTrue (stays_for id way x) → finmap.get granted.places x.id ≡ Some x.at) (blocks before)
-                    (Each-from (λ x. IsTrue (stays_for id way x) → finmap.get granted.places x.id ≡ Some x.at) (blocks before) (λ x m. stays x (is_listed parts x m)));
+                kept = All-from_Each (λ x. IsTrue (stays_for id options x) → finmap.get granted.places x.id ≡ Some x.at) (blocks before)
+                    (Each-from (λ x. IsTrue (stays_for id options x) → finmap.get granted.places x.id ≡ Some x.at) (blocks before) (λ x m. stays x (is_listed parts x m)));
               };
               placed = record {
                 place = place_new mid_parts id n entry locks lt mid_absent some mid_rounded p.at place reorders ordered_new after made;
@@ -132,5 +132,5 @@ module _ {entries : List (Option Entry)} {layout : Layout} {order memory : List 
               };
             }
 
-            pub stands : Stands before id n becomes order_with way p (heap_of (set entries id (Some entry)) new uses after)
-            stands = subst (λ l. Stands before id n becomes order_with way p (heap_of (set entries id (Some entry)) l uses after)) (sym new_is) stands_granted
+            pub stands : Stands before id n becomes order_with options p (heap_of (set entries id (Some entry)) new uses after)
+            stands = subst (λ l. Stands before id n becomes order_with options p (heap_of (set entries id (Some entry)) l uses after)) (sym new_is) stands_granted

@@ -20,7 +20,7 @@ use Rattle.w16_blocks.specs.Layout.{Layout, IsOrdered, replaced}
 use Rattle.w16_model.proofs.Tables.{member_with}
 use Rattle.w16_lru.specs.Uses.{Uses}
 use Rattle.w16_arena.specs.State.{ArenaState, Steps, table_of, heap_of}
-use Rattle.w16_arena.specs.Representation.{IsKept}
+use Rattle.w16_arena.specs.Representation.{ArenaInvariant}
 use Rattle.w16_arena.proofs.Parts.{AreParts}
 use Rattle.w16_arena.proofs.With.{with-replaced, with-without}
 use Rattle.w16_arena.proofs.Lookups.{IsArranged, ordered_arranged, sound_arranged, object_here, place_here, no_block, in_list, same_heap}
@@ -50,14 +50,14 @@ reordered_sound entries layout order uses sound same once = record {
   counted = sound.counted;
 }
 
-module _ {entries : List (Option Entry)} {layout : Layout} {uses : Uses} {gap_rooms : ℕ} {room : ℕ} (kept : IsKept entries layout uses gap_rooms room) where
+module _ {entries : List (Option Entry)} {layout : Layout} {uses : Uses} {gap_rooms : ℕ} {room : ℕ} (kept : ArenaInvariant entries layout uses gap_rooms room) where
   -- beside any memory that has the range
   pub beside : (memory : List ℕ) → layout.hi ≤ length memory → AreParts entries layout uses.ids memory
   beside memory high = record { sound = kept.sound; ids = kept.ids; high = high }
 
   -- with other entries, blocks and uses, for as many ids
   pub kept_with : (entries' : List (Option Entry)) (layout' : Layout) (uses' : Uses) → IsSound (table_of entries' layout' uses'.ids) → length entries' ≡ length entries → layout'.cap ≡ layout.cap → uses'.cap ≡ uses.cap
-      → IsKept entries' layout' uses' gap_rooms room
+      → ArenaInvariant entries' layout' uses' gap_rooms room
   kept_with entries' layout' uses' sound many cap ucap = record {
     sound = sound;
     ids = cap ∙ kept.ids ∙ sym many;
@@ -67,7 +67,7 @@ module _ {entries : List (Option Entry)} {layout : Layout} {uses : Uses} {gap_ro
   }
 
   -- with another table of as many ids
-  pub kept_beside : {other : ℕ} → other ≡ gap_rooms → IsKept entries layout uses other room
+  pub kept_beside : {other : ℕ} → other ≡ gap_rooms → ArenaInvariant entries layout uses other room
   kept_beside same = record { sound = kept.sound; ids = kept.ids; ordered = kept.ordered; told = same ∙ kept.told; enough = kept.enough }
 
   module _ {discarded : List ℕ} {old : ArenaState} (shown : state_of entries layout uses.ids discarded ≡ old) where

@@ -19,7 +19,7 @@ use Rattle.w16_arena.specs.declared.without_discard.Compacted.{Compacted}
 use Rattle.std.specs.Borrow.{GName}
 use Rattle.w16_compact.specs.Rest.{IsSameRest}
 use Rattle.w16_arena.specs.State.{ArenaState, KeepsRest, table_of, heap_of}
-use Rattle.w16_arena.specs.Representation.{IsKept}
+use Rattle.w16_arena.specs.Representation.{ArenaInvariant}
 use Rattle.w16_arena.specs.NewPlace.{AreMoved}
 use Rattle.w16_arena.proofs.Parts.{AreParts}
 use Rattle.w16_arena.proofs.Lookups.{is_heap}
@@ -29,7 +29,7 @@ use Rattle.w16_arena.proofs.Moved.{moved_is, moved_few}
 use Rattle.w16_arena.proofs.Steps.{state_of, beside, kept_with}
 use Rattle.w16_arena.proofs.Shown.{known, told}
 
-module _ {entries : List (Option Entry)} {layout : Layout} {uses : Uses} {gap_rooms : ℕ} {room : ℕ} (kept : IsKept entries layout uses gap_rooms room)
+module _ {entries : List (Option Entry)} {layout : Layout} {uses : Uses} {gap_rooms : ℕ} {room : ℕ} (kept : ArenaInvariant entries layout uses gap_rooms room)
     {discarded : List ℕ} {old : ArenaState} (shown : state_of entries layout uses.ids discarded ≡ old)
     (memory : List ℕ) (bytes : All (λ b. b < 256) memory) (inside : old.table.hi ≤ length memory)
     (slid : Span) {new : Layout} {after : List ℕ} (moved : AreMoved slid.from slid.to layout memory new after) where
@@ -42,7 +42,7 @@ module _ {entries : List (Option Entry)} {layout : Layout} {uses : Uses} {gap_ro
   abbrev before : Heap
   before = heap_of entries layout uses.ids memory
 
-  pub kept_slid : IsKept entries new uses gap_rooms room
+  pub kept_slid : ArenaInvariant entries new uses gap_rooms room
   kept_slid = kept_with kept entries new uses parts_new.sound refl (ap (λ (l : Layout). l.cap) moved.same) refl
 
   pub rest_slid : {X : Type 0} {bytes : X → List ℕ} {lenders : X → List GName} {x y : X} → IsSameRest bytes lenders layout.lo layout.hi x y → KeepsRest bytes lenders old.table x (table_of entries new uses.ids) y

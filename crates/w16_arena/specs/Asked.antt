@@ -2,12 +2,12 @@
 use Rattle.std.specs.Prelude.{◌≡◌, ◌≢◌, ℕ, ◌+◌, ◌<◌, ◌≤◌, ◌⊎◌, ◌&&◌, Bool, not, true, nat_le, if◌then◌else◌, List, length, take, Option, None, Some, IfSome, IsSomeAnd}
 use Rattle.std.specs.FinMap as finmap
 use Rattle.w16_model.specs.declared.Span.{Span}
-use Rattle.w16_model.specs.declared.Way.{Way}
+use Rattle.w16_model.specs.declared.RoomOptions.{RoomOptions}
 use Rattle.w16_model.specs.Gap.{is_pinned, longest_hole}
 use Rattle.w16_model.specs.Discards.{eligible, growth_for}
 use Rattle.w16_model.specs.Heap.{Heap, Object, blocks, object_at, is_pinned_object}
 use Rattle.w16_model.specs.Changes.{with_ordered}
-use Rattle.w16_model.specs.Request.{Reallocates, Settles, stays_for, moved_bytes, prefix_of, snapshot_of, discarded}
+use Rattle.w16_model.specs.Request.{Reallocates, Settles, stays_for, moved_bytes, discards_needed, snapshot_of, discarded}
 use Rattle.w16_model.specs.Table.{Table, heap_in}
 use Rattle.w16_arena.specs.Growth.{may_grow}
 use Rattle.w16_arena.specs.declared.new_place.Placed.{Placed}
@@ -19,9 +19,9 @@ abbrev pub first_eligible : Heap → ℕ → Option ℕ → List ℕ
 first_eligible heap k h = take k (eligible (blocks heap) heap.order h)
 
 -- what an answered allocation discarded: as many of the eligible as are needed
-pub record HasDiscarded (old : Heap) (id n : ℕ) (way : Way) (discarded : List ℕ) : Type 0 where
+pub record HasDiscarded (old : Heap) (id n : ℕ) (options : RoomOptions) (discarded : List ℕ) : Type 0 where
   pub prefix : ℕ
-  pub needed : prefix_of old n (Some id) way ≡ Some prefix
+  pub needed : discards_needed old n (Some id) options ≡ Some prefix
   pub listed : discarded ≡ first_eligible old prefix (Some id)
 
 -- whether an object may have n bytes without a discard: where others may slide, there is room once it is left out; else it fits where it stands, or in a hole
@@ -29,16 +29,16 @@ abbrev pub may_grow_in : Table → ℕ → ℕ → Bool → Bool
 may_grow_in t id n compact = may_grow (record { cap = length t.entries; lo = t.lo; hi = t.hi; grain = t.grain; blocks = t.blocks }) id n compact
 
 -- the number of discards by which an object's reallocation to n bytes is answered, if it is
-abbrev pub reallocation_prefix : Heap → ℕ → Object → ℕ → Way → Option ℕ
-reallocation_prefix old id o n way = elim o.bytes as (λ _. Option ℕ) [
-  | None ↦ prefix_of old n (Some id) way
-  | Some bytes ↦ if nat_le n (length bytes) then Some 0 else (if is_pinned_object o && not way.may_move then Some 0 else growth_for (snapshot_of old) n id way)
+abbrev pub reallocation_prefix : Heap → ℕ → Object → ℕ → RoomOptions → Option ℕ
+reallocation_prefix old id o n options = elim o.bytes as (λ _. Option ℕ) [
+  | None ↦ discards_needed old n (Some id) options
+  | Some bytes ↦ if nat_le n (length bytes) then Some 0 else (if is_pinned_object o && not options.may_move then Some 0 else growth_for (snapshot_of old) n id options)
 ]
 
 -- what an answered reallocation discarded: as many of the eligible as it needs
-pub record HasDiscardedFor (old : Heap) (id n : ℕ) (way : Way) (discarded : List ℕ) : Type 0 where
+pub record HasDiscardedFor (old : Heap) (id n : ℕ) (options : RoomOptions) (discarded : List ℕ) : Type 0 where
   pub prefix : ℕ
-  pub needed : IsSomeAnd (object_at old id) (λ o. reallocation_prefix old id o n way ≡ Some prefix)
+  pub needed : IsSomeAnd (object_at old id) (λ o. reallocation_prefix old id o n options ≡ Some prefix)
   pub listed : discarded ≡ first_eligible old prefix (Some id)
 
 -- an object that stands outside a range stands where it stood
@@ -54,10 +54,10 @@ pub record IsPlaced (old : Heap) (id n : ℕ) (p : Placed) (new : Heap) : Type 0
   pub few : old.lo + p.moved ≤ old.hi
 
 -- an answered reallocation, with what it tells
-pub record IsResized (old : Heap) (id n : ℕ) (way : Way) (p : Placed) (discarded : List ℕ) (new : Heap) : Type 0 where
-  pub reallocated : Reallocates old id n way true new
+pub record IsResized (old : Heap) (id n : ℕ) (options : RoomOptions) (p : Placed) (discarded : List ℕ) (new : Heap) : Type 0 where
+  pub reallocated : Reallocates old id n options true new
   pub placed : IsPlaced old id n p new
-  pub listed : HasDiscardedFor old id n way discarded
+  pub listed : HasDiscardedFor old id n options discarded
 
 -- what a compaction answers beside the room: objects have slid in a range alone; and so many bytes were moved, no more than the heap has
 pub record IsSlid (old : Heap) (c : Compacted) (new : Heap) : Type 0 where
@@ -66,10 +66,10 @@ pub record IsSlid (old : Heap) (c : Compacted) (new : Heap) : Type 0 where
   pub few : old.lo + c.moved ≤ old.hi
 
 -- n bytes for an id, where nothing has to be discarded: it becomes an object such as is asked, and the order of use is what is asked with it
-pub record Stands (old : Heap) (id n : ℕ) (becomes : Object → Type 0) (order : Object → List ℕ → List ℕ) (way : Way) (p : Placed) (new : Heap) : Type 0 where
+pub record Stands (old : Heap) (id n : ℕ) (becomes : Object → Type 0) (order : Object → List ℕ → List ℕ) (options : RoomOptions) (p : Placed) (new : Heap) : Type 0 where
   pub object : Object
   pub such : becomes object
-  pub settled : Settles old (stays_for id way) (with_ordered old id object (order object)) new
+  pub settled : Settles old (stays_for id options) (with_ordered old id object (order object)) new
   pub placed : IsPlaced old id n p new
 
 -- others have slid, so that a hole is as long as it can be without a discard

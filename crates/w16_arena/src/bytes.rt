@@ -33,7 +33,7 @@ impl<H: HoleList> Arena<H> {
         space.view_mut(block.at, block.size)
     }
 
-    /// Does nothing: what holds of every arena.
+    /// Tells the prover what holds of every arena. It does nothing else.
     pub(crate) fn is_sound(&self)
         ensures { IsSound self.now.table }
     {

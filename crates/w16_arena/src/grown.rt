@@ -18,7 +18,7 @@ use w16_blocks::{Block, Blocks, Hold};
 use w16_holes::Holes;
 use w16_region::Space;
 
-/// Gives a block more bytes where it may have them, as if it were loose. It keeps its hold and its bytes. Nothing is changed where there is
+/// Gives a block more bytes where it may have them, whatever its hold is. It keeps its hold and its bytes. Nothing is changed where there is
 /// no place.
 pub(crate) fn grow_block<S: Space, H: Holes<S>>(
     blocks: &mut Blocks<H>,
@@ -48,52 +48,12 @@ pub(crate) fn grow_block<S: Space, H: Holes<S>>(
     ensures written { IfSome result (λ p. S.written space.new ≡ counted (S.written space.old) p.moved) }
     ensures refused { IfNone result ((may_grow blocks.old block.id size compact ≡ false) × (blocks.new ≡ blocks.old) × (space.new ≡ space.old)) }
 {
-    let placed = make_way_for(blocks, space, block, size, compact)?;
+    let placed = make_way(blocks, space, block, size, compact)?;
     let there = Block {
         at: placed.at,
         ..block
     };
     blocks.bounds();
     resize(blocks, space, there, size);
-    Some(placed)
-}
-
-/// Brings a block, pinned or not, to where it may have more bytes. It keeps its hold and its size.
-fn make_way_for<S: Space, H: Holes<S>>(
-    blocks: &mut Blocks<H>,
-    space: &mut S,
-    block: Block,
-    size: u32,
-    compact: bool,
-) -> Option<Placed>
-    requires id { block.id < blocks.old.cap }
-    requires known { block_with blocks.old.blocks block.id ≡ Some block }
-    requires more { block.size < size }
-    requires rounded { IsMultiple blocks.old.grain size }
-    requires kept { H.are_in (holes_of blocks.old) (S.bytes space.old) }
-    requires inside { blocks.old.hi ≤ length (S.bytes space.old) }
-    ensures ordered { IsOrdered blocks.old }
-    ensures found { IfSome result (λ p. block_with blocks.new.blocks block.id ≡ Some (record block { at = p.at })) }
-    ensures laid { IfSome result (λ _. IsOrdered blocks.new) }
-    ensures slid { IfSome result (λ p. AreMoved p.slid.from p.slid.to (but_for block.id blocks.old) (S.bytes space.old) (but_for block.id blocks.new) (S.bytes space.new)) }
-    ensures free { IfSome result (λ p. AreFreeBytes (but_for block.id blocks.new) size p.at) }
-    ensures object { IfSome result (λ p. part (S.bytes space.new) p.at block.size ≡ part (S.bytes space.old) block.at block.size) }
-    ensures moved { IfSome result (λ p. p.moved ≡ moved_between (all_but block.id blocks.old.blocks) (all_but block.id blocks.new.blocks) + (if p.at == block.at then 0 else block.size)) }
-    ensures enough { IfSome result (λ _. may_grow blocks.old block.id size compact ≡ true) }
-    ensures still { compact ≡ false → IfSome result (λ p. (all_but block.id blocks.new.blocks ≡ all_but block.id blocks.old.blocks)
-        × ((p.at ≡ block.at) ⊎ IsClear is_any blocks.old.lo blocks.old.hi blocks.old.blocks p.at (p.at + size))) }
-    ensures rest { IfSome result (λ _. IsSameRest S.bytes S.lenders blocks.old.lo blocks.old.hi space.old space.new) }
-    ensures kept { H.are_in (holes_of blocks.new) (S.bytes space.new) }
-    ensures written { IfSome result (λ p. S.written space.new ≡ counted (S.written space.old) p.moved) }
-    ensures refused { IfNone result ((may_grow blocks.old block.id size compact ≡ false) × (blocks.new ≡ blocks.old) × (space.new ≡ space.old)) }
-{
-    blocks.bounds();
-    blocks.cap();
-    blocks.set_hold(block.id, Hold::Loose);
-    let Some(placed) = make_way(blocks, space, block.id, size, compact) else {
-        blocks.set_hold(block.id, block.hold);
-        return None;
-    };
-    blocks.set_hold(block.id, block.hold);
     Some(placed)
 }

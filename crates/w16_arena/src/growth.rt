@@ -18,48 +18,12 @@ use crate::new_place::{NOTHING, Placed};
 use w16_blocks::{Block, Blocks, Span};
 use w16_compact::{Gap, gap_for, gather, open};
 use w16_holes::{HoleList, Holes};
-use w16_region::{Space, has_bytes};
+use w16_region::{Space, reveal_bytes};
 
-/// Brings an object's block to where it may have `size` bytes, more than it has: where it stands, if the hole behind it is long enough; in the
-/// lowest hole of that size; or, where blocks may slide, in the lowest gap with room for it when it is left out, which is opened behind it where
-/// it stands in it. The block keeps its size. Nothing is changed where there is no place.
+/// Brings a block, whatever its hold is, to where it may have `size` bytes, more than it has: where it stands, if the hole behind it is long
+/// enough; in the lowest hole of that size; or, where blocks may slide, in the lowest gap with room for it when it is left out, which is opened
+/// behind it where it stands in it. The block keeps its hold and its size. Nothing is changed where there is no place.
 pub(crate) fn make_way<S: Space, H: Holes<S>>(
-    blocks: &mut Blocks<H>,
-    space: &mut S,
-    id: u32,
-    size: u32,
-    compact: bool,
-) -> Option<Placed>
-    requires id { id < blocks.old.cap }
-    requires known { IsSome (block_with blocks.old.blocks id) }
-    requires loose { IfSome (block_with blocks.old.blocks id) (λ b. (b.hold ≡ Loose) × (b.size < size)) }
-    requires rounded { IsMultiple blocks.old.grain size }
-    requires kept { H.are_in (holes_of blocks.old) (S.bytes space.old) }
-    requires inside { blocks.old.hi ≤ length (S.bytes space.old) }
-    ensures ordered { IsOrdered blocks.old }
-    ensures object { IfSome result (λ p. ForSome (block_with blocks.old.blocks id) (λ b. (block_with blocks.new.blocks id ≡ Some (record b { at = p.at }))
-        × (part (S.bytes space.new) p.at b.size ≡ part (S.bytes space.old) b.at b.size))) }
-    ensures slid { IfSome result (λ p. AreMoved p.slid.from p.slid.to (but_for id blocks.old) (S.bytes space.old) (but_for id blocks.new) (S.bytes space.new)) }
-    ensures laid { IfSome result (λ p. IsOrdered blocks.new) }
-    ensures free { IfSome result (λ p. AreFreeBytes (but_for id blocks.new) size p.at) }
-    ensures moved { IfSome result (λ p. ForSome (block_with blocks.old.blocks id) (λ b.
-        p.moved ≡ moved_between (all_but id blocks.old.blocks) (all_but id blocks.new.blocks) + (if p.at == b.at then 0 else b.size))) }
-    ensures enough { IfSome result (λ _. IsTrue (may_grow blocks.old id size compact)) }
-    ensures still { compact ≡ false → IfSome result (λ p. (all_but id blocks.new.blocks ≡ all_but id blocks.old.blocks)
-        × ForSome (block_with blocks.old.blocks id) (λ b. (p.at ≡ b.at) ⊎ IsClear is_any blocks.old.lo blocks.old.hi blocks.old.blocks p.at (p.at + size))) }
-    ensures rest { IsSameRest S.bytes S.lenders blocks.old.lo blocks.old.hi space.old space.new }
-    ensures kept { H.are_in (holes_of blocks.new) (S.bytes space.new) }
-    ensures written { IfSome result (λ p. S.written space.new ≡ counted (S.written space.old) p.moved) }
-    ensures refused { IfNone result ((may_grow blocks.old id size compact ≡ false) × (blocks.new ≡ blocks.old) × (space.new ≡ space.old)) }
-{
-    let Some(block) = blocks.find(id) else {
-        unreachable!();
-    };
-    find_way(blocks, space, block, size, compact)
-}
-
-/// The same of a block.
-fn find_way<S: Space, H: Holes<S>>(
     blocks: &mut Blocks<H>,
     space: &mut S,
     block: Block,
@@ -67,11 +31,11 @@ fn find_way<S: Space, H: Holes<S>>(
     compact: bool,
 ) -> Option<Placed>
     requires known { block_with blocks.old.blocks block.id ≡ Some block }
-    requires loose { block.hold ≡ Loose }
     requires more { block.size < size }
     requires rounded { IsMultiple blocks.old.grain size }
     requires kept { H.are_in (holes_of blocks.old) (S.bytes space.old) }
     requires inside { blocks.old.hi ≤ length (S.bytes space.old) }
+    ensures ordered { IsOrdered blocks.old }
     ensures way { IfSome result (λ p. HasWay size block blocks.old (S.bytes space.old) p blocks.new (S.bytes space.new)) }
     ensures enough { IfSome result (λ _. IsTrue (may_grow blocks.old block.id size compact)) }
     ensures still { compact ≡ false → IfSome result (λ p. (all_but block.id blocks.new.blocks ≡ all_but block.id blocks.old.blocks)
@@ -137,7 +101,6 @@ fn slide_for<S: Space, H: Holes<S>>(
     size: u32,
 ) -> Option<Placed>
     requires known { block_with blocks.old.blocks block.id ≡ Some block }
-    requires loose { block.hold ≡ Loose }
     requires more { block.size < size }
     requires rounded { IsMultiple blocks.old.grain size }
     requires kept { H.are_in (holes_of blocks.old) (S.bytes space.old) }
@@ -167,7 +130,6 @@ fn open_own<S: Space, H: Holes<S>>(
     gap: Gap,
 ) -> Placed
     requires known { block_with blocks.old.blocks block.id ≡ Some block }
-    requires loose { block.hold ≡ Loose }
     requires more { block.size < size }
     requires rounded { IsMultiple blocks.old.grain size }
     requires gap { HasRoom (without (Some block.id) blocks.old) size gap }
@@ -181,7 +143,7 @@ fn open_own<S: Space, H: Holes<S>>(
 {
     let high = whole_grains(blocks, block, gap.high);
     let moved = open(blocks, space, gap.low, high, block.id);
-    has_bytes(space);
+    reveal_bytes(space);
     let Some(opened) = blocks.find(block.id) else {
         unreachable!();
     };
@@ -216,7 +178,6 @@ fn move_to_gap<S: Space, H: Holes<S>>(
     gap: Gap,
 ) -> Placed
     requires known { block_with blocks.old.blocks block.id ≡ Some block }
-    requires loose { block.hold ≡ Loose }
     requires more { block.size < size }
     requires gap { HasRoom (without (Some block.id) blocks.old) size gap }
     requires other { (block.at < gap.low) ⊎ (gap.high ≤ block.at) }
@@ -229,7 +190,7 @@ fn move_to_gap<S: Space, H: Holes<S>>(
 {
     let _ = blocks.bounds();
     let gathered = gather(blocks, space, gap.low, gap.high);
-    has_bytes(space);
+    reveal_bytes(space);
     let at = gap.low + gap.loose;
     let own = shift_to(blocks, space, block, at);
     Placed {
@@ -266,6 +227,6 @@ fn shift_to<S: Space, H: Holes<S>>(
     let _ = blocks.bounds();
     let moved = if to == block.at { 0 } else { block.size };
     blocks.shift(space, block.id, to);
-    has_bytes(space);
+    reveal_bytes(space);
     moved
 }

@@ -1,7 +1,7 @@
 //! An object gets another size where it stands.
 ghost use Rattle.std.specs.Prelude.{◌≡◌, ◌+◌, ◌-◌, ◌<◌, ◌≤◌, ◌&&◌, ◌||◌, ℕ, true, false, not, nat_lt, All, IfOk, OnErr, Some, length, if◌then◌else◌};
 ghost use Rattle.w16_model.specs.Bytes.{part};
-ghost use Rattle.w16_model.specs.declared.Way.{Way};
+ghost use Rattle.w16_model.specs.declared.RoomOptions.{RoomOptions};
 ghost use Rattle.w16_model.specs.Heap.{IsMultiple, is_fixed};
 ghost use Rattle.w16_model.specs.Request.{Reallocates};
 ghost use Rattle.w16_model.specs.Table.{block_with, heap_in, hold_of_entry};
@@ -16,8 +16,8 @@ use crate::new_place::{NOTHING, Placed, clear_if};
 use crate::requests::NoRoom;
 use w16_blocks::{Block, Blocks};
 use w16_holes::{HoleList, Holes};
-use w16_model::Way;
-use w16_region::{Space, has_bytes};
+use w16_model::RoomOptions;
+use w16_region::{Space, reveal_bytes};
 
 impl<H: HoleList> Arena<H> {
     /// An object keeps its first bytes and gives up the others, where it stands.
@@ -30,14 +30,14 @@ impl<H: HoleList> Arena<H> {
         requires rounded { IsMultiple self.old.table.grain size }
         requires kept { H.are_in (holes_in self.old.table) (S.bytes space.old) }
         requires inside { self.old.table.hi ≤ length (S.bytes space.old) }
-        ensures resized { (way : Way) → IsResized (heap_in self.old.table (S.bytes space.old)) block.id size way result self.new.discarded
+        ensures resized { (options : RoomOptions) → IsResized (heap_in self.old.table (S.bytes space.old)) block.id size options result self.new.discarded
             (heap_in self.new.table (S.bytes space.new)) }
         ensures moved { result.moved ≡ 0 }
         ensures rest { KeepsRest S.bytes S.lenders self.old.table space.old self.new.table space.new }
         ensures kept { H.are_in (holes_in self.new.table) (S.bytes space.new) }
         ensures written { S.written space.new ≡ S.written space.old }
     {
-        has_bytes(space);
+        reveal_bytes(space);
         self.blocks.bounds();
         resize(&mut self.blocks, space, block, size);
         self.forget_discards();
@@ -54,32 +54,37 @@ impl<H: HoleList> Arena<H> {
         space: &mut S,
         block: Block,
         size: u32,
-        way: Way,
+        options: RoomOptions,
     ) -> Result<Placed, NoRoom>
     where
         H: Holes<S>,
         requires known { block_with self.old.table.blocks block.id ≡ Some block }
-        requires held { (holds_still block.hold && not way.may_move) ≡ true }
+        requires held { (holds_still block.hold && not options.may_move) ≡ true }
         requires more { block.size < size }
         requires rounded { IsMultiple self.old.table.grain size }
         requires kept { H.are_in (holes_in self.old.table) (S.bytes space.old) }
         requires inside { self.old.table.hi ≤ length (S.bytes space.old) }
-        ensures resized { IfOk result (λ p. IsResized (heap_in self.old.table (S.bytes space.old)) block.id size way p self.new.discarded
+        ensures resized { IfOk result (λ p. IsResized (heap_in self.old.table (S.bytes space.old)) block.id size options p self.new.discarded
             (heap_in self.new.table (S.bytes space.new))) }
         ensures moved { IfOk result (λ p. p.moved ≡ 0) }
-        ensures refused { OnErr result (Reallocates (heap_in self.old.table (S.bytes space.old)) block.id size way false (heap_in self.old.table (S.bytes space.old))
+        ensures refused { OnErr result (Reallocates (heap_in self.old.table (S.bytes space.old)) block.id size options false (heap_in self.old.table (S.bytes space.old))
             × (self.new ≡ self.old) × (space.new ≡ space.old)) }
         ensures rest { KeepsRest S.bytes S.lenders self.old.table space.old self.new.table space.new }
         ensures kept { H.are_in (holes_in self.new.table) (S.bytes space.new) }
-        ensures written { IfOk result (λ _. S.written space.new ≡ counted (S.written space.old) (if way.zero then size - block.size else 0)) }
+        ensures written { IfOk result (λ _. S.written space.new ≡ counted (S.written space.old) (if options.zero then size - block.size else 0)) }
     {
-        has_bytes(space);
+        reveal_bytes(space);
         self.blocks.bounds();
         if block.size + self.blocks.free_after(space, block.id) < size {
             return Err(NoRoom);
         }
         resize(&mut self.blocks, space, block, size);
-        clear_if(way.zero, space, block.at + block.size, size - block.size);
+        clear_if(
+            options.zero,
+            space,
+            block.at + block.size,
+            size - block.size,
+        );
         self.forget_discards();
         Ok(Placed {
             at: block.at,
@@ -110,5 +115,5 @@ pub(crate) fn resize<S: Space, H: Holes<S>>(
 {
     blocks.bounds();
     blocks.resize(space, block.id, size);
-    has_bytes(space);
+    reveal_bytes(space);
 }

@@ -53,13 +53,13 @@ pub struct Arena<H: HoleList> {
 impl<H: HoleList> Model for Arena<H> {
     ghost use Rattle.std.specs.Prelude.{vec_capacity};
     ghost use Rattle.w16_arena.specs.State.{ArenaState, table_of};
-    ghost use Rattle.w16_arena.specs.Representation.{IsKept};
+    ghost use Rattle.w16_arena.specs.Representation.{ArenaInvariant};
 
     ghost Value = { ArenaState };
 
     ghost view = { λ s. record { table = table_of s.entries.items s.blocks s.order.ids; discarded = s.discarded.items } };
 
-    ghost invariant = { λ s. IsKept s.entries.items s.blocks s.order s.gap_rooms (vec_capacity s.discarded) };
+    ghost invariant = { λ s. ArenaInvariant s.entries.items s.blocks s.order s.gap_rooms (vec_capacity s.discarded) };
 }
 
 impl<H: HoleList> Arena<H> {

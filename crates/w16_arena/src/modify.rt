@@ -5,7 +5,6 @@ ghost use Rattle.w16_model.specs.OneObject.{after_modify};
 ghost use Rattle.w16_arena.specs.State.{Steps, holes_in, relisted};
 
 use crate::Arena;
-use crate::objects::{is_discardable, is_fixed};
 use w16_holes::HoleList;
 use w16_lru::Order;
 use w16_model::{Entry, Kind, Refusal};
@@ -25,11 +24,11 @@ impl<H: HoleList> Arena<H> {
         if is_either_fixed(entry.kind, kind) {
             return Err(Refusal::Fixed);
         }
-        let was = is_discardable(entry.kind);
-        let is = is_discardable(kind);
-        let has_bytes = self.block(id).is_some();
+        let was = entry.kind.is_discardable();
+        let is = kind.is_discardable();
+        let reveal_bytes = self.block(id).is_some();
         self.entries[id as usize] = Some(Entry { kind, ..entry });
-        relist(&mut self.order, id, was, is, has_bytes);
+        relist(&mut self.order, id, was, is, reveal_bytes);
         Ok(())
     }
 }
@@ -38,18 +37,18 @@ impl<H: HoleList> Arena<H> {
 fn is_either_fixed(before: Kind, after: Kind) -> bool
     ensures { result ≡ (is_fixed before || is_fixed after) }
 {
-    is_fixed(before) || is_fixed(after)
+    before.is_fixed() || after.is_fixed()
 }
 
 /// The order of use once an id was, or wasn't, and is, or isn't, discardable.
-fn relist(order: &mut Order, id: u32, was: bool, is: bool, has_bytes: bool)
+fn relist(order: &mut Order, id: u32, was: bool, is: bool, reveal_bytes: bool)
     requires { id < order.old.cap }
-    ensures { order.new ≡ record order.old { ids = relisted was is has_bytes id order.old.ids } }
+    ensures { order.new ≡ record order.old { ids = relisted was is reveal_bytes id order.old.ids } }
 {
     if was && is {
         return;
     }
-    if is && has_bytes {
+    if is && reveal_bytes {
         order.newest(id);
     } else {
         order.remove(id);

@@ -12,7 +12,7 @@ ghost use Rattle.w16_arena.specs.NewPlace.{AreMoved, AreFreeBytes, IsLowestGathe
 use w16_blocks::{Block, Blocks, Span};
 use w16_compact::{gap_for, gather};
 use w16_holes::Holes;
-use w16_region::{Space, has_bytes};
+use w16_region::{Space, reveal_bytes};
 
 /// Where new bytes stand, the range whose blocks slid for them, and how many bytes were moved.
 #[derive(Clone, Copy, Debug, PartialEq, Eq)]
@@ -83,7 +83,7 @@ fn gather_for<S: Space, H: Holes<S>>(
 {
     let gap = gap_for(blocks, space, None, size)?;
     let moved = gather(blocks, space, gap.low, gap.high);
-    has_bytes(space);
+    reveal_bytes(space);
     Some(Placed {
         at: gap.low + gap.loose,
         slid: Span {
@@ -106,7 +106,7 @@ pub(crate) fn insert<S: Space, H: Holes<S>>(blocks: &mut Blocks<H>, space: &mut 
 {
     blocks.bounds();
     blocks.insert(space, block);
-    has_bytes(space);
+    reveal_bytes(space);
 }
 
 /// Sets `size` bytes from an address on to zeros, where that is asked for.

@@ -1,6 +1,6 @@
 //! What becomes of single objects. None of these calls asks for room.
-ghost use Rattle.std.specs.Prelude.{◌≡◌, ◌<◌, ◌≤◌, Ok, Err, Some, None, length, IfErr, IfSome, IfNone, IsSomeAnd, IsTrue, true, OnOk};
-ghost use Rattle.w16_model.specs.Heap.{is_discardable, is_fixed, object_at};
+ghost use Rattle.std.specs.Prelude.{◌≡◌, ◌<◌, ◌≤◌, Ok, Err, Some, None, length, IfErr, IfSome, IfNone, IsSomeAnd, IsTrue, true, OnOk, OnErr};
+ghost use Rattle.w16_model.specs.Heap.{object_at};
 ghost use Rattle.w16_model.specs.OneObject.{Enters, after_free, after_release, after_lock, after_unlock, after_discard, after_touch, after_newest, after_oldest, refused_order};
 ghost use Rattle.w16_model.specs.Table.{block_with, entry_at, hold_of_entry, IsCountedBy};
 ghost use Rattle.w16_model.specs.Changes as changes;
@@ -51,6 +51,7 @@ impl<H: HoleList> Arena<H> {
         requires inside { self.old.table.hi ≤ length (S.bytes space.old) }
         ensures ok { OnOk result (Steps self.old self.new (λ old new. after_free old id ≡ Ok new)) }
         ensures err { IfErr result (λ r. (self.new ≡ self.old) × Steps self.old self.new (λ old new. after_free old id ≡ Err r)) }
+        ensures refused { OnErr result (space.new ≡ space.old) }
         ensures bytes { KeepsBytes S.bytes S.lenders S.written self.new.table.lo self.new.table.hi self.new.table.blocks space.old space.new }
         ensures kept { H.are_in (holes_in self.new.table) (S.bytes space.new) }
     {
@@ -77,7 +78,7 @@ impl<H: HoleList> Arena<H> {
         let Some(entry) = self.entry(id) else {
             return Err(Refusal::Absent);
         };
-        if is_fixed(entry.kind) {
+        if entry.kind.is_fixed() {
             return Err(Refusal::Fixed); // it never moves, so it counts no locks
         }
         if entry.locks == 255 {
@@ -97,7 +98,7 @@ impl<H: HoleList> Arena<H> {
         let Some(entry) = self.entry(id) else {
             return Ok(());
         };
-        if is_fixed(entry.kind) {
+        if entry.kind.is_fixed() {
             return Err(Refusal::Fixed);
         }
         self.set_locks(id, entry.kind, entry.locks.saturating_sub(1));
@@ -113,6 +114,7 @@ impl<H: HoleList> Arena<H> {
         requires inside { self.old.table.hi ≤ length (S.bytes space.old) }
         ensures ok { OnOk result (Steps self.old self.new (λ old new. after_discard old id ≡ Ok new)) }
         ensures err { IfErr result (λ r. (self.new ≡ self.old) × Steps self.old self.new (λ old new. after_discard old id ≡ Err r)) }
+        ensures refused { OnErr result (space.new ≡ space.old) }
         ensures bytes { KeepsBytes S.bytes S.lenders S.written self.new.table.lo self.new.table.hi self.new.table.blocks space.old space.new }
         ensures kept { H.are_in (holes_in self.new.table) (S.bytes space.new) }
     {
@@ -122,7 +124,7 @@ impl<H: HoleList> Arena<H> {
         if entry.locks > 0 {
             return Err(Refusal::Locked); // someone reads its bytes
         }
-        if !is_discardable(entry.kind) {
+        if !entry.kind.is_discardable() {
             return Err(Refusal::NotDiscardable); // no one could make its bytes again
         }
         self.give_up(space, id);
@@ -147,7 +149,7 @@ impl<H: HoleList> Arena<H> {
         let Some(entry) = self.entry(id) else {
             return false;
         };
-        is_discardable(entry.kind) && self.block(id).is_some()
+        entry.kind.is_discardable() && self.block(id).is_some()
     }
 
     /// A discardable object with bytes becomes the newest, locked or not. It tells why another doesn't: `Absent` or `NotDiscardable`.
@@ -222,7 +224,7 @@ impl<H: HoleList> Arena<H> {
         let Some(entry) = self.entry(id) else {
             return Err(Refusal::Absent);
         };
-        if is_discardable(entry.kind) {
+        if entry.kind.is_discardable() {
             Ok(())
         } else {
             Err(Refusal::NotDiscardable)
@@ -262,23 +264,9 @@ fn set_hold<H: HoleList>(blocks: &mut Blocks<H>, id: u32, hold: Hold)
 pub(crate) fn hold(entry: Entry) -> Hold
     ensures { result ≡ hold_of_entry entry }
 {
-    if is_fixed(entry.kind) || entry.locks > 0 {
+    if entry.kind.is_fixed() || entry.locks > 0 {
         Hold::Pinned
     } else {
         Hold::Loose
     }
-}
-
-/// Whether an object of this kind keeps its address.
-pub(crate) fn is_fixed(kind: Kind) -> bool
-    ensures { result ≡ is_fixed kind }
-{
-    kind == Kind::Fixed
-}
-
-/// Whether an object of this kind may lose its bytes.
-pub(crate) fn is_discardable(kind: Kind) -> bool
-    ensures { result ≡ is_discardable kind }
-{
-    kind == Kind::Discardable
 }

@@ -14,8 +14,8 @@ use crate::new_place::{NOTHING, Placed};
 use crate::without_discard::Compacted;
 use w16_compact::least_prefix;
 use w16_holes::{HoleList, Holes};
-use w16_model::{Kind, Way};
-use w16_region::{Space, has_bytes};
+use w16_model::{Kind, RoomOptions};
+use w16_region::{Space, reveal_bytes};
 
 /// Why a request is refused: no number of discards that it may make leaves room. Nothing has changed then.
 #[derive(Clone, Copy, Debug, PartialEq, Eq)]
@@ -23,15 +23,15 @@ pub struct NoRoom;
 
 impl<H: HoleList> Arena<H> {
     /// So many bytes, a multiple of the grain, for an id that has none: a new object, or an absent one again. They stand in the lowest hole
-    /// that is long enough, or else, where the way lets others slide, behind the blocks of the lowest gap with room; where there is none and
-    /// the way lets others be discarded, as few of the least recently used as are needed. A discardable object becomes the newest.
+    /// that is long enough, or else, where the options let others slide, behind the blocks of the lowest gap with room; where there is none and
+    /// the options let others be discarded, as few of the least recently used as are needed. A discardable object becomes the newest.
     pub fn alloc<S: Space>(
         &mut self,
         space: &mut S,
         id: u32,
         size: u32,
         kind: Kind,
-        way: Way,
+        options: RoomOptions,
     ) -> Result<Placed, NoRoom>
     where
         H: Holes<S>,
@@ -41,28 +41,28 @@ impl<H: HoleList> Arena<H> {
         requires rounded { IsMultiple self.old.table.grain size }
         requires kept { H.are_in (holes_in self.old.table) (S.bytes space.old) }
         requires inside { self.old.table.hi ≤ length (S.bytes space.old) }
-        ensures allocated { Allocates (heap_in self.old.table (S.bytes space.old)) id size kind 0 way (is_ok result)
+        ensures allocated { Allocates (heap_in self.old.table (S.bytes space.old)) id size kind 0 options (is_ok result)
             (heap_in self.new.table (S.bytes space.new)) }
-        ensures fewest { AllocatesFewest (heap_in self.old.table (S.bytes space.old)) id size way (is_ok result)
+        ensures fewest { AllocatesFewest (heap_in self.old.table (S.bytes space.old)) id size options (is_ok result)
             (heap_in self.new.table (S.bytes space.new)) }
         ensures placed { IfOk result (λ p. IsPlaced (heap_in self.old.table (S.bytes space.old)) id size p
             (heap_in self.new.table (S.bytes space.new))) }
-        ensures discarded { IfOk result (λ _. HasDiscarded (heap_in self.old.table (S.bytes space.old)) id size way self.new.discarded) }
+        ensures discarded { IfOk result (λ _. HasDiscarded (heap_in self.old.table (S.bytes space.old)) id size options self.new.discarded) }
         ensures refused { OnErr result ((self.new ≡ self.old) × (space.new ≡ space.old)) }
         ensures rest { KeepsRest S.bytes S.lenders self.old.table space.old self.new.table space.new }
         ensures kept { H.are_in (holes_in self.new.table) (S.bytes space.new) }
         ensures written { IfOk result (λ p. S.written space.new
-            ≡ counted (counted (S.written space.old) p.moved) (if way.zero then size else 0)) }
+            ≡ counted (counted (S.written space.old) p.moved) (if options.zero then size else 0)) }
     {
-        has_bytes(space);
-        if let Some(placed) = self.place(space, id, size, kind, way) {
+        reveal_bytes(space);
+        if let Some(placed) = self.place(space, id, size, kind, options) {
             self.forget_discards();
             return Ok(placed);
         }
-        if !may_discard(way) {
+        if !may_discard(options) {
             return Err(NoRoom);
         }
-        self.place_discarding(space, id, size, kind, way)
+        self.place_discarding(space, id, size, kind, options)
     }
 
     /// The same, where there is no room without a discard and others may be discarded.
@@ -72,7 +72,7 @@ impl<H: HoleList> Arena<H> {
         id: u32,
         size: u32,
         kind: Kind,
-        way: Way,
+        options: RoomOptions,
     ) -> Result<Placed, NoRoom>
     where
         H: Holes<S>,
@@ -82,24 +82,24 @@ impl<H: HoleList> Arena<H> {
         requires rounded { IsMultiple self.old.table.grain size }
         requires kept { H.are_in (holes_in self.old.table) (S.bytes space.old) }
         requires inside { self.old.table.hi ≤ length (S.bytes space.old) }
-        requires may { (way.compact && way.discard) ≡ true }
-        ensures allocated { Allocates (heap_in self.old.table (S.bytes space.old)) id size kind 0 way (is_ok result)
+        requires may { (options.compact && options.discard) ≡ true }
+        ensures allocated { Allocates (heap_in self.old.table (S.bytes space.old)) id size kind 0 options (is_ok result)
             (heap_in self.new.table (S.bytes space.new)) }
         ensures placed { IfOk result (λ p. IsPlaced (heap_in self.old.table (S.bytes space.old)) id size p
             (heap_in self.new.table (S.bytes space.new))) }
-        ensures discarded { IfOk result (λ _. HasDiscarded (heap_in self.old.table (S.bytes space.old)) id size way self.new.discarded) }
+        ensures discarded { IfOk result (λ _. HasDiscarded (heap_in self.old.table (S.bytes space.old)) id size options self.new.discarded) }
         ensures refused { OnErr result ((self.new ≡ self.old) × (space.new ≡ space.old)) }
         ensures rest { KeepsRest S.bytes S.lenders self.old.table space.old self.new.table space.new }
         ensures kept { H.are_in (holes_in self.new.table) (S.bytes space.new) }
         ensures written { IfOk result (λ p. S.written space.new
-            ≡ counted (counted (S.written space.old) p.moved) (if way.zero then size else 0)) }
+            ≡ counted (counted (S.written space.old) p.moved) (if options.zero then size else 0)) }
     {
-        has_bytes(space);
+        reveal_bytes(space);
         let Some(k) = self.least_discards(space, Some(id), size) else {
             return Err(NoRoom);
         };
         self.discard_first(space, k, Some(id));
-        let Some(placed) = self.place(space, id, size, kind, way) else {
+        let Some(placed) = self.place(space, id, size, kind, options) else {
             unreachable!();
         };
         Ok(placed)
@@ -125,7 +125,7 @@ impl<H: HoleList> Arena<H> {
         ensures written { S.written space.new ≡ counted (S.written space.old) result.moved }
     {
         self.is_sound();
-        has_bytes(space);
+        reveal_bytes(space);
         if n > 0 {
             return self.slide_discarding(space, n);
         }
@@ -154,7 +154,7 @@ impl<H: HoleList> Arena<H> {
         ensures kept { H.are_in (holes_in self.new.table) (S.bytes space.new) }
         ensures written { S.written space.new ≡ counted (S.written space.old) result.moved }
     {
-        has_bytes(space);
+        reveal_bytes(space);
         let k = self.least_discards(space, None, n);
         self.discard_first(space, k.unwrap_or(self.order_len()), None);
         self.slide_together(space)
@@ -194,8 +194,8 @@ impl<H: HoleList> Arena<H> {
 }
 
 /// Whether a request may discard others.
-pub(crate) fn may_discard(way: Way) -> bool
-    ensures { result ≡ (way.compact && way.discard) }
+pub(crate) fn may_discard(options: RoomOptions) -> bool
+    ensures { result ≡ (options.compact && options.discard) }
 {
-    way.compact && way.discard
+    options.compact && options.discard
 }

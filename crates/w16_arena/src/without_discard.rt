@@ -13,13 +13,13 @@ ghost use Rattle.w16_arena.specs.Asked.{SlidesTogether, Stands};
 
 use crate::Arena;
 use crate::new_place::{NOTHING, Placed, clear_if, insert, make_room};
-use crate::objects::{hold, is_discardable};
+use crate::objects::hold;
 use w16_blocks::{Block, Blocks};
 use w16_compact::{GapRooms, room_after};
 use w16_holes::{HoleList, Holes};
 use w16_lru::Order;
-use w16_model::{Entry, Kind, Span, Way};
-use w16_region::{Space, has_bytes};
+use w16_model::{Entry, Kind, RoomOptions, Span};
+use w16_region::{Space, reveal_bytes};
 
 /// What a compaction answers: the length of the longest hole, the range whose blocks slid, and how many bytes were moved.
 #[derive(Clone, Copy, Debug, PartialEq, Eq)]
@@ -38,7 +38,7 @@ impl<H: HoleList> Arena<H> {
         id: u32,
         size: u32,
         kind: Kind,
-        way: Way,
+        options: RoomOptions,
     ) -> Option<Placed>
     where
         H: Holes<S>,
@@ -48,19 +48,19 @@ impl<H: HoleList> Arena<H> {
         requires rounded { IsMultiple self.old.table.grain size }
         requires kept { H.are_in (holes_in self.old.table) (S.bytes space.old) }
         requires inside { self.old.table.hi ≤ length (S.bytes space.old) }
-        ensures stands { IfSome result (λ p. Stands (heap_in self.old.table (S.bytes space.old)) id size (IsNew way.zero size kind 0) (changes.with_newest id) way p
+        ensures stands { IfSome result (λ p. Stands (heap_in self.old.table (S.bytes space.old)) id size (IsNew options.zero size kind 0) (changes.with_newest id) options p
             (heap_in self.new.table (S.bytes space.new))) }
-        ensures enough { IfSome result (λ _. size ≤ most_in self.old.table way.compact) }
-        ensures refused { IfNone result ((most_in self.old.table way.compact < size) × (self.new ≡ self.old) × (space.new ≡ space.old)) }
+        ensures enough { IfSome result (λ _. size ≤ most_in self.old.table options.compact) }
+        ensures refused { IfNone result ((most_in self.old.table options.compact < size) × (self.new ≡ self.old) × (space.new ≡ space.old)) }
         ensures discarded { self.new.discarded ≡ self.old.discarded }
         ensures rest { KeepsRest S.bytes S.lenders self.old.table space.old self.new.table space.new }
         ensures kept { H.are_in (holes_in self.new.table) (S.bytes space.new) }
         ensures written { IfSome result (λ p. S.written space.new
-            ≡ counted (counted (S.written space.old) p.moved) (if way.zero then size else 0)) }
+            ≡ counted (counted (S.written space.old) p.moved) (if options.zero then size else 0)) }
         ensures sound { IsSound self.old.table }
     {
-        has_bytes(space);
-        let placed = make_room(&mut self.blocks, space, size, way.compact)?;
+        reveal_bytes(space);
+        let placed = make_room(&mut self.blocks, space, size, options.compact)?;
         let entry = Entry { kind, locks: 0 };
         let block = Block {
             id,
@@ -69,7 +69,7 @@ impl<H: HoleList> Arena<H> {
             hold: hold(entry),
         };
         insert(&mut self.blocks, space, block);
-        clear_if(way.zero, space, placed.at, size);
+        clear_if(options.zero, space, placed.at, size);
         self.entries[id as usize] = Some(entry);
         list_new(&mut self.order, id, kind);
         Some(placed)
@@ -89,7 +89,7 @@ impl<H: HoleList> Arena<H> {
         ensures kept { H.are_in (holes_in self.new.table) (S.bytes space.new) }
         ensures written { S.written space.new ≡ counted (S.written space.old) result.moved }
     {
-        has_bytes(space);
+        reveal_bytes(space);
         let room = room_now(&self.blocks, space, &self.order, &mut self.gap_rooms);
         if room == 0 {
             return Compacted {
@@ -150,7 +150,7 @@ fn list_new(order: &mut Order, id: u32, kind: Kind)
     requires { id < order.old.cap }
     ensures { order.new ≡ record order.old { ids = if is_discardable kind then changes.newest id order.old.ids else order.old.ids } }
 {
-    if is_discardable(kind) {
+    if kind.is_discardable() {
         order.newest(id);
     }
 }

@@ -10,7 +10,7 @@ use Rattle.w16_model.specs.Table.{block_with}
 use Rattle.w16_holes.specs.Holes.{Range, IsFree, IsUsed, IsPart, taken, joined}
 use Rattle.w16_blocks.specs.Layout.{Layout, Fits, FitsFor, placed, all_but, replaced}
 use Rattle.w16_blocks.proofs.Cells.{with_cell}
-use Rattle.w16_blocks.specs.Kept.{no_block, slot_of, blocks_in, layout_in, pins_of, pins_in, AreTables, IsKept}
+use Rattle.w16_blocks.specs.Kept.{no_block, slot_of, blocks_in, layout_in, pins_of, pins_in, AreTables, BlocksInvariant}
 use Rattle.w16_blocks.proofs.Place.{sum-placed}
 use Rattle.w16_blocks.proofs.Remove.{with_id, sum-all_but}
 use Rattle.w16_blocks.proofs.Ordered.{IsOrdered-placed, IsOrdered-all_but, sum_fits, pins_small, pins_fit}
@@ -21,7 +21,7 @@ abbrev size_of : Block → ℕ
 size_of b = b.size
 
 -- Blocks that table and cells tell are told as a layout `l`, which is what callers speak of.
-module _ {cap lo hi g : ℕ} {slots : List Block} {cells : List ℕ} {free pinned : ℕ} {range : Range} {kept : List Span} (k : IsKept cap lo hi g slots cells free pinned range kept) (long : cap ≡ length slots)
+module _ {cap lo hi g : ℕ} {slots : List Block} {cells : List ℕ} {free pinned : ℕ} {range : Range} {kept : List Span} (k : BlocksInvariant cap lo hi g slots cells free pinned range kept) (long : cap ≡ length slots)
     {l : Layout} (is : layout_in cap lo hi g slots cells ≡ l) where
   abbrev now : Layout
   now = layout_in cap lo hi g slots cells
@@ -57,8 +57,8 @@ module _ {cap lo hi g : ℕ} {slots : List Block} {cells : List ℕ} {free pinne
       pub layout_added : layout_in cap lo hi g (set slots b.id b) (set cells u n) ≡ record l { blocks = placed b l.blocks }
       layout_added = with_blocks (placed b) blocks_added
 
-      pub IsKept-add : {p : ℕ} {range' : Range} {kept' : List Span} → p ≡ pins_in b → range' ≡ range → kept' ≡ taken b.at (b.at + b.size) kept → IsKept cap lo hi g (set slots b.id b) (set cells u n) (free - b.size) (pinned + p) range' kept'
-      IsKept-add pins same takes = record {
+      pub BlocksInvariant-add : {p : ℕ} {range' : Range} {kept' : List Span} → p ≡ pins_in b → range' ≡ range → kept' ≡ taken b.at (b.at + b.size) kept → BlocksInvariant cap lo hi g (set slots b.id b) (set cells u n) (free - b.size) (pinned + p) range' kept'
+      BlocksInvariant-add pins same takes = record {
         tables = subst (λ (m : ℕ). AreTables cap lo hi g (set slots b.id b) (set cells u m)) (sym told) (AreTables-add k.tables long u fits_now at);
         counted =
             let sum = ap (sum_by size_of) blocks_added ∙ sum-placed size_of b now.blocks in
@@ -118,8 +118,8 @@ module _ {cap lo hi g : ℕ} {slots : List Block} {cells : List ℕ} {free pinne
       pub layout_dropped : layout_in cap lo hi g (set slots id no_block) (set cells u 0) ≡ record l { blocks = all_but id l.blocks }
       layout_dropped = with_blocks (all_but id) blocks_dropped
 
-      pub IsKept-drop : {p : ℕ} {range' : Range} {kept' : List Span} → p ≡ pins_in x → range' ≡ range → kept' ≡ joined x.at (x.at + x.size) kept → IsKept cap lo hi g (set slots id no_block) (set cells u 0) (free + x.size) (pinned - p) range' kept'
-      IsKept-drop pins same joins = record {
+      pub BlocksInvariant-drop : {p : ℕ} {range' : Range} {kept' : List Span} → p ≡ pins_in x → range' ≡ range → kept' ≡ joined x.at (x.at + x.size) kept → BlocksInvariant cap lo hi g (set slots id no_block) (set cells u 0) (free + x.size) (pinned - p) range' kept'
+      BlocksInvariant-drop pins same joins = record {
         tables = AreTables-drop k.tables long u cell_is;
         counted = let sum = ap (sum_by size_of) blocks_dropped in let split = sum_split in let counted = k.counted in omega arith;
         pins = let sum = ap (sum_by pins_in) blocks_dropped in let split = pins_split in let counted = k.pins in omega arith;
@@ -136,9 +136,9 @@ module _ {cap lo hi g : ℕ} {slots : List Block} {cells : List ℕ} {free pinne
       pub blocks_moved : blocks_in (set slots b.id b) (set (set cells u 0) v (suc b.id)) ≡ replaced b now.blocks
       blocks_moved = blocks_in-move k.tables long u v tells fits_for at
 
-      pub IsKept-move : {free' pinned' : ℕ} {range' : Range} {kept' : List Span} → free' + b.size ≡ free + x.size → pinned' + pins_in x ≡ pinned + pins_in b → range' ≡ range → kept' ≡ holes lo hi (replaced b now.blocks)
-          → IsKept cap lo hi g (set slots b.id b) (set (set cells u 0) v (suc b.id)) free' pinned' range' kept'
-      IsKept-move counts pins same leaves = record {
+      pub BlocksInvariant-move : {free' pinned' : ℕ} {range' : Range} {kept' : List Span} → free' + b.size ≡ free + x.size → pinned' + pins_in x ≡ pinned + pins_in b → range' ≡ range → kept' ≡ holes lo hi (replaced b now.blocks)
+          → BlocksInvariant cap lo hi g (set slots b.id b) (set (set cells u 0) v (suc b.id)) free' pinned' range' kept'
+      BlocksInvariant-move counts pins same leaves = record {
         tables = AreTables-move k.tables long u v tells fits_for at;
         counted =
             let sum = ap (sum_by size_of) blocks_moved ∙ sum-placed size_of b (all_but b.id now.blocks) in
@@ -164,10 +164,10 @@ module _ {cap lo hi g : ℕ} {slots : List Block} {cells : List ℕ} {free pinne
       pub layout_in_place : layout_in cap lo hi g (set slots b.id b) cells ≡ record l { blocks = replaced b l.blocks }
       layout_in_place = with_blocks (replaced b) blocks_in_place
 
-      pub IsKept-place : {free' pinned' : ℕ} {range' : Range} {kept' : List Span} → free' + b.size ≡ free + x.size → pinned' + pins_in x ≡ pinned + pins_in b → range' ≡ range
-          → kept' ≡ holes lo hi (replaced b now.blocks) → IsKept cap lo hi g (set slots b.id b) cells free' pinned' range' kept'
-      IsKept-place {free'} {pinned'} {range'} {kept'} counts pins same leaves =
-          subst (λ (cs : List ℕ). IsKept cap lo hi g (set slots b.id b) cs free' pinned' range' kept') (same_cells cells cell.0 b.id cell.1) (IsKept-move cell.0 cell.0 cell.1 at_cell counts pins same leaves)
+      pub BlocksInvariant-place : {free' pinned' : ℕ} {range' : Range} {kept' : List Span} → free' + b.size ≡ free + x.size → pinned' + pins_in x ≡ pinned + pins_in b → range' ≡ range
+          → kept' ≡ holes lo hi (replaced b now.blocks) → BlocksInvariant cap lo hi g (set slots b.id b) cells free' pinned' range' kept'
+      BlocksInvariant-place {free'} {pinned'} {range'} {kept'} counts pins same leaves =
+          subst (λ (cs : List ℕ). BlocksInvariant cap lo hi g (set slots b.id b) cs free' pinned' range' kept') (same_cells cells cell.0 b.id cell.1) (BlocksInvariant-move cell.0 cell.0 cell.1 at_cell counts pins same leaves)
 
   -- an id's block with another hold
   module _ (id : ℕ) {x : Block} (lt : id < l.cap) (known_l : block_with l.blocks id ≡ Some x) (hold : Hold) where
@@ -186,9 +186,9 @@ module _ {cap lo hi g : ℕ} {slots : List Block} {cells : List ℕ} {free pinne
     pub layout_held : layout_in cap lo hi g (set slots id held) cells ≡ record l { blocks = replaced held l.blocks }
     layout_held = ap (λ (i : ℕ). layout_in cap lo hi g (set slots i held) cells) (sym own_id) ∙ layout_in_place held known_own fits_held refl
 
-    pub IsKept-held : {pinned' : ℕ} → pinned' + pins_in x ≡ pinned + pins_of hold → IsKept cap lo hi g (set slots id held) cells free pinned' range kept
-    IsKept-held {pinned'} pins = subst (λ (i : ℕ). IsKept cap lo hi g (set slots i held) cells free pinned' range kept) own_id
-        (IsKept-place held known_own fits_held refl refl pins refl (k.between ∙ holes_same now held x (known_now _ known_own) (fits_for held known_own fits_held) k.tables.ordered k.tables.ids refl refl))
+    pub BlocksInvariant-held : {pinned' : ℕ} → pinned' + pins_in x ≡ pinned + pins_of hold → BlocksInvariant cap lo hi g (set slots id held) cells free pinned' range kept
+    BlocksInvariant-held {pinned'} pins = subst (λ (i : ℕ). BlocksInvariant cap lo hi g (set slots i held) cells free pinned' range kept) own_id
+        (BlocksInvariant-place held known_own fits_held refl refl pins refl (k.between ∙ holes_same now held x (known_now _ known_own) (fits_for held known_own fits_held) k.tables.ordered k.tables.ids refl refl))
 
   -- an id's block with another size
   module _ (x : Block) {size : ℕ} (known_l : block_with l.blocks x.id ≡ Some x) (fits_l : FitsFor l (record x { size = size })) where
@@ -216,8 +216,8 @@ module _ {cap lo hi g : ℕ} {slots : List Block} {cells : List ℕ} {free pinne
           let sum = sum-placed size_of sized (all_but x.id now.blocks) in
           let split = sum_split _ known_l in let counted = k.counted in omega arith
 
-      pub IsKept-more : {range' : Range} {kept' : List Span} → range' ≡ range → kept' ≡ taken (x.at + x.size) (x.at + x.size + (size - x.size)) kept → IsKept cap lo hi g (set slots x.id sized) cells (free - (size - x.size)) pinned range' kept'
-      IsKept-more same takes = IsKept-place sized known_l fits_l refl (let less = counts_more in omega arith) refl same
+      pub BlocksInvariant-more : {range' : Range} {kept' : List Span} → range' ≡ range → kept' ≡ taken (x.at + x.size) (x.at + x.size + (size - x.size)) kept → BlocksInvariant cap lo hi g (set slots x.id sized) cells (free - (size - x.size)) pinned range' kept'
+      BlocksInvariant-more same takes = BlocksInvariant-place sized known_l fits_l refl (let less = counts_more in omega arith) refl same
           (takes ∙ ap (taken (x.at + x.size) (x.at + x.size + (size - x.size))) k.between ∙ holes_more now x size (known_now _ known_l) fits_sized k.tables.ordered k.tables.ids more)
 
     -- a smaller one
@@ -228,6 +228,6 @@ module _ {cap lo hi g : ℕ} {slots : List Block} {cells : List ℕ} {free pinne
       pub used_put : IsUsed (x.at + size) (x.at + size + (x.size - size)) kept
       used_put = subst (IsUsed (x.at + size) (x.at + size + (x.size - size))) (sym k.between) (used_less now x size (known_now _ known_l) fits_sized k.tables.ordered k.tables.ids less)
 
-      pub IsKept-less : {range' : Range} {kept' : List Span} → range' ≡ range → kept' ≡ joined (x.at + size) (x.at + size + (x.size - size)) kept → IsKept cap lo hi g (set slots x.id sized) cells (free + (x.size - size)) pinned range' kept'
-      IsKept-less same joins = IsKept-place sized known_l fits_l refl (omega arith) refl same
+      pub BlocksInvariant-less : {range' : Range} {kept' : List Span} → range' ≡ range → kept' ≡ joined (x.at + size) (x.at + size + (x.size - size)) kept → BlocksInvariant cap lo hi g (set slots x.id sized) cells (free + (x.size - size)) pinned range' kept'
+      BlocksInvariant-less same joins = BlocksInvariant-place sized known_l fits_l refl (omega arith) refl same
           (joins ∙ ap (joined (x.at + size) (x.at + size + (x.size - size))) k.between ∙ holes_less now x size (known_now _ known_l) fits_sized k.tables.ordered k.tables.ids less)

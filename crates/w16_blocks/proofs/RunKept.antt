@@ -6,7 +6,7 @@ use Rattle.w16_model.specs.Bytes.{part, put_part}
 use Rattle.w16_model.specs.Gap.{IsLaid, holes}
 use Rattle.w16_holes.specs.Holes.{Range, IsFree, IsUsed, IsPart, AreSameIn, AreSameOutside, taken, joined}
 use Rattle.w16_blocks.specs.Layout.{Layout, holes_of}
-use Rattle.w16_blocks.specs.Kept.{blocks_in, layout_in, pins_in, AreTables, IsKept}
+use Rattle.w16_blocks.specs.Kept.{blocks_in, layout_in, pins_in, AreTables, BlocksInvariant}
 use Rattle.w16_blocks.specs.Runs.{IsRun, slid_with}
 use Rattle.w16_blocks.specs.Stay.{AreSameBut}
 use Rattle.w16_blocks.proofs.Slid.{free_stays, come_along, others_stay}
@@ -14,7 +14,7 @@ use Rattle.w16_blocks.proofs.RunHoles as run_holes
 use Rattle.w16_blocks.proofs.RunHoles.{IsWay, sum-slid}
 
 -- Tables that tell a layout `l`, and a run of it that slides to a place.
-module _ {cap lo hi g : ℕ} {slots : List Block} {cells : List ℕ} {free pinned : ℕ} {range : Range} {kept : List Span} (k : IsKept cap lo hi g slots cells free pinned range kept)
+module _ {cap lo hi g : ℕ} {slots : List Block} {cells : List ℕ} {free pinned : ℕ} {range : Range} {kept : List Span} (k : BlocksInvariant cap lo hi g slots cells free pinned range kept)
     {l : Layout} (is_l : layout_in cap lo hi g slots cells ≡ l) {run : Span} (is_run : IsRun l run) (some : run.from < run.to) {to a c apart : ℕ} (way_l : IsWay l run to a c apart) where
   abbrev now : Layout
   now = layout_in cap lo hi g slots cells
@@ -62,8 +62,8 @@ module _ {cap lo hi g : ℕ} {slots : List Block} {cells : List ℕ} {free pinne
       leaves = joins ∙ ap (joined c (c + apart)) takes_between
           ∙ run_holes.holes_run now k.tables.ordered run is some to a c apart way (subst (λ (bs : List Block). IsLaid lo hi bs) blocks tables.ordered.laid)
 
-      pub IsKept-run : IsKept cap lo hi g slots' cells' free pinned range' kept'
-      IsKept-run = record {
+      pub BlocksInvariant-run : BlocksInvariant cap lo hi g slots' cells' free pinned range' kept'
+      BlocksInvariant-run = record {
         tables = tables;
         counted = let sum = ap (sum_by (λ (b : Block). b.size)) blocks ∙ sum-slid (λ (b : Block). b.size) (λ b at. refl) run to now.blocks in let counted = k.counted in omega arith;
         pins = k.pins ∙ sym (ap (sum_by pins_in) blocks ∙ sum-slid pins_in (λ b at. refl) run to now.blocks);

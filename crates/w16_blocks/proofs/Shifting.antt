@@ -7,15 +7,15 @@ use Rattle.w16_model.specs.Table.{block_with}
 use Rattle.w16_model.specs.Bytes.{part, put_part}
 use Rattle.w16_holes.specs.Holes.{Range, IsFree, IsUsed, IsPart, AreSameIn, AreSameOutside, taken, joined}
 use Rattle.w16_blocks.specs.Layout.{Layout, FitsFor, replaced, holes_of}
-use Rattle.w16_blocks.specs.Kept.{blocks_in, layout_in, IsKept}
+use Rattle.w16_blocks.specs.Kept.{blocks_in, layout_in, BlocksInvariant}
 use Rattle.w16_blocks.specs.Stay.{AreSameBut, IsBeyond}
 use Rattle.w16_blocks.proofs.Step.{grained_known}
-use Rattle.w16_blocks.proofs.Keeping.{known_now, lies_in, used_kept, cell_is, fits_for, with_blocks, blocks_moved, IsKept-move}
+use Rattle.w16_blocks.proofs.Keeping.{known_now, lies_in, used_kept, cell_is, fits_for, with_blocks, blocks_moved, BlocksInvariant-move}
 use Rattle.w16_blocks.proofs.Slid.{free_stays, come_along, others_stay}
 use Rattle.w16_blocks.proofs.Shift as shift
 use Rattle.w16_blocks.proofs.Shift.{beyond_grained}
 
-module _ {cap lo hi g : ℕ} {slots : List Block} {cells : List ℕ} {free pinned : ℕ} {range : Range} {kept : List Span} (k : IsKept cap lo hi g slots cells free pinned range kept) (long : cap ≡ length slots)
+module _ {cap lo hi g : ℕ} {slots : List Block} {cells : List ℕ} {free pinned : ℕ} {range : Range} {kept : List Span} (k : BlocksInvariant cap lo hi g slots cells free pinned range kept) (long : cap ≡ length slots)
     {l : Layout} (is : layout_in cap lo hi g slots cells ≡ l) (x : Block) {to : ℕ} (known_l : block_with l.blocks x.id ≡ Some x) (fits_l : FitsFor l (record x { at = to }))
     {n o : Span} (is_new : IsBeyond x.at to x.size n) (is_left : IsBeyond to x.at x.size o) where
   abbrev now : Layout
@@ -75,9 +75,9 @@ module _ {cap lo hi g : ℕ} {slots : List Block} {cells : List ℕ} {free pinne
         pub layout_shifted : layout_in cap lo hi g (set slots x.id (record x { at = to })) (set (set cells u 0) v m) ≡ record l { blocks = replaced (record x { at = to }) l.blocks }
         layout_shifted = with_blocks k long is (replaced (record x { at = to })) blocks_shifted
 
-        pub IsKept-shift : IsKept cap lo hi g (set slots x.id (record x { at = to })) (set (set cells u 0) v m) free pinned range' kept'
-        IsKept-shift = subst (λ (i : ℕ). IsKept cap lo hi g (set slots x.id (record x { at = to })) (set (set cells u 0) v i) free pinned range' kept') (sym told)
-            (IsKept-move k long is (record x { at = to }) known_l fits_l u v (cell_is k long is x.id known_l u from_at) to_at refl refl (same_then ∙ same) leaves)
+        pub BlocksInvariant-shift : BlocksInvariant cap lo hi g (set slots x.id (record x { at = to })) (set (set cells u 0) v m) free pinned range' kept'
+        BlocksInvariant-shift = subst (λ (i : ℕ). BlocksInvariant cap lo hi g (set slots x.id (record x { at = to })) (set (set cells u 0) v i) free pinned range' kept') (sym told)
+            (BlocksInvariant-move k long is (record x { at = to }) known_l fits_l u v (cell_is k long is x.id known_l u from_at) to_at refl refl (same_then ∙ same) leaves)
 
       -- the bytes
       module _ {first second third last : List ℕ} (inside : l.hi ≤ length first) (take_same : AreSameOutside kept first second) (slid : third ≡ put_part second to (part second x.at x.size)) (put_same : AreSameOutside kept' third last) where

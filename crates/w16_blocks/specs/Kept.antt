@@ -59,7 +59,7 @@ abbrev pub pins_in : Block → ℕ
 pins_in b = pins_of b.hold
 
 -- the bytes that no block has are counted, and so are the blocks that keep their address, and the holes are those between the blocks
-pub record IsKept (cap lo hi grain : ℕ) (slots : List Block) (cells : List ℕ) (free pinned : ℕ) (range : Range) (kept : List Span) : Type 0 where
+pub record BlocksInvariant (cap lo hi grain : ℕ) (slots : List Block) (cells : List ℕ) (free pinned : ℕ) (range : Range) (kept : List Span) : Type 0 where
   pub tables : AreTables cap lo hi grain slots cells
   pub counted : free + (lo + sum_by (λ b. b.size) (blocks_in slots cells)) ≡ hi
   pub pins : pinned ≡ sum_by pins_in (blocks_in slots cells)

@@ -50,14 +50,14 @@ pub struct Blocks<H: HoleList> {
 
 impl<H: HoleList> Model for Blocks<H> {
     ghost use Rattle.w16_blocks.specs.Layout.{Layout};
-    ghost use Rattle.w16_blocks.specs.Kept.{layout_in, IsKept};
+    ghost use Rattle.w16_blocks.specs.Kept.{layout_in, BlocksInvariant};
     ghost use Rattle.std.specs.Prelude.{vec_len};
 
     ghost Value = { Layout };
 
     ghost view = { λ s. layout_in (vec_len s.slots) s.lo s.hi s.grain s.slots.items s.begins.items };
 
-    ghost invariant = { λ s. IsKept (vec_len s.slots) s.lo s.hi s.grain s.slots.items s.begins.items s.free s.pinned (H.range s.holes) (H.holes s.holes) };
+    ghost invariant = { λ s. BlocksInvariant (vec_len s.slots) s.lo s.hi s.grain s.slots.items s.begins.items s.free s.pinned (H.range s.holes) (H.holes s.holes) };
 }
 
 /// How many blocks keep their address, of one with this hold.
@@ -186,7 +186,7 @@ impl<H: HoleList> Blocks<H> {
         self.pinned += pins_of(block.hold);
     }
 
-    /// Takes an id's block away, whose bytes join the holes. Bytes outside the holes that are then stay.
+    /// Removes an id's block; its bytes become free. Bytes outside the holes that there are afterwards stay.
     pub fn remove<S: Space>(&mut self, space: &mut S, id: u32)
     where
         H: Holes<S>,

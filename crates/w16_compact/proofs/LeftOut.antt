@@ -1,5 +1,5 @@
 -- A layout with an object's block left out, and a gap of what is left.
-use Rattle.std.proofs.Common.{◌≡◌, ℕ, ◌+◌, ◌<◌, ◌≤◌, inl, inr, max, min, true, false, IsTrue, List, [], ◌∷◌, length, Option, Some, None, refl, sym, ap, ◌∙◌, arith}
+use Rattle.std.proofs.Common.{◌≡◌, ℕ, ◌+◌, ◌<◌, ◌≤◌, ◌⊎◌, inl, inr, max, min, true, false, IsTrue, List, [], ◌∷◌, length, Option, Some, None, refl, sym, ap, ◌∙◌, arith}
 use Rattle.std.proofs.lemmas.Bool.{cases_lt, false≢true}
 use Rattle.std.proofs.lemmas.Bool.Decides.{eqb_tells}
 use Rattle.w16_model.specs.declared.Block.{Block}
@@ -55,41 +55,63 @@ absent_left id (x ∷ xs) none = elim (eqb_tells x.id id) [
   | inr other ↦ all_but_other id x xs other.0 ∙ ap (λ (ys : List Block). x ∷ ys) (absent_left id xs (sym (with_other id x xs other.0) ∙ none))
 ]
 
--- A gap of what is left, and the loose block that is left out: it doesn't reach over an end of the gap, so the gap may be gathered with it.
-pub may_with : (l : Layout) → IsOrdered l → (id : ℕ) (x : Block) → block_with l.blocks id ≡ Some x → x.hold ≡ Loose → (n : ℕ) (g : Gap) → HasRoom (without (Some id) l) n g → MayGather l g.low g.high
-may_with l ordered id x known loose n g has = record {
-  inside = has.may.inside;
-  loose = All-back l.cap (FitsGap g.low g.high) id x l.blocks ordered.named known fits has.may.loose;
-}
-  where
-    lies : (l.lo ≤ x.at) × (0 < x.size) × (block_end x ≤ l.hi)
-    lies = each_with (λ y. (l.lo ≤ y.at) × (0 < y.size) × (block_end y ≤ l.hi)) id x l.blocks known (laid_each l.lo l.hi l.blocks ordered.laid)
+-- A gap of what is left, and the block that is left out.
+module _ (l : Layout) (ordered : IsOrdered l) (id : ℕ) (x : Block) (known : block_with l.blocks id ≡ Some x) (n : ℕ) (g : Gap) (has : HasRoom (without (Some id) l) n g) where
+  lies : (l.lo ≤ x.at) × (0 < x.size) × (block_end x ≤ l.hi)
+  lies = each_with (λ y. (l.lo ≤ y.at) × (0 < y.size) × (block_end y ≤ l.hi)) id x l.blocks known (laid_each l.lo l.hi l.blocks ordered.laid)
 
-    -- an interval without a pinned byte, and one more that meets it, are one
-    joined : (at size low high p n : ℕ) → 0 < n → at < high → low < at + size → Misses p n low high → Misses at size p (p + n) → Misses p n (min at low) (max (at + size) high)
-    joined at size low high p n some one two f k = grind arith
+  -- an interval without a pinned byte, and one more that meets it, are one
+  joined : (at size low high p n : ℕ) → 0 < n → at < high → low < at + size → Misses p n low high → Misses at size p (p + n) → Misses p n (min at low) (max (at + size) high)
+  joined at size low high p n some one two f k = grind arith
 
-    wider : x.at < g.high → g.low < block_end x → IsClear is_pinned l.lo l.hi (all_but id l.blocks) (min x.at g.low) (max (block_end x) g.high)
-    wider one two =
-        let a = has.gap.clear.above in let b = has.gap.clear.below in let from = lies.0 in let to = lies.2 in record {
-          above = omega arith;
-          below = omega arith;
-          misses = All-from_Each _ (all_but id l.blocks)
-              (Each-both (λ y. (0 < y.size) × IsApart x y) (λ y. IsTrue (is_pinned y) → Misses y.at y.size g.low g.high) (λ y. IsTrue (is_pinned y) → Misses y.at y.size (min x.at g.low) (max (block_end x) g.high))
-              (λ y k f t. joined x.at x.size g.low g.high y.at y.size k.0 one two (f t) k.1) (all_but id l.blocks)
-              (Each-both (λ y. (l.lo ≤ y.at) × (0 < y.size) × (block_end y ≤ l.hi)) (IsApart x) (λ y. (0 < y.size) × IsApart x y) (λ y in_it k. (in_it.1, k)) (all_but id l.blocks)
-              (All-all_but (λ y. (l.lo ≤ y.at) × (0 < y.size) × (block_end y ≤ l.hi)) id l.blocks (laid_each l.lo l.hi l.blocks ordered.laid)) (others_apart l.lo l.hi l.cap id x l.blocks ordered.laid ordered.named known))
-              (Each-from_All _ (all_but id l.blocks) has.gap.clear.misses));
-        }
+  wider : x.at < g.high → g.low < block_end x → IsClear is_pinned l.lo l.hi (all_but id l.blocks) (min x.at g.low) (max (block_end x) g.high)
+  wider one two =
+      let a = has.gap.clear.above in let b = has.gap.clear.below in let from = lies.0 in let to = lies.2 in record {
+        above = omega arith;
+        below = omega arith;
+        misses = All-from_Each _ (all_but id l.blocks)
+            (Each-both (λ y. (0 < y.size) × IsApart x y) (λ y. IsTrue (is_pinned y) → Misses y.at y.size g.low g.high) (λ y. IsTrue (is_pinned y) → Misses y.at y.size (min x.at g.low) (max (block_end x) g.high))
+            (λ y k f t. joined x.at x.size g.low g.high y.at y.size k.0 one two (f t) k.1) (all_but id l.blocks)
+            (Each-both (λ y. (l.lo ≤ y.at) × (0 < y.size) × (block_end y ≤ l.hi)) (IsApart x) (λ y. (0 < y.size) × IsApart x y) (λ y in_it k. (in_it.1, k)) (all_but id l.blocks)
+            (All-all_but (λ y. (l.lo ≤ y.at) × (0 < y.size) × (block_end y ≤ l.hi)) id l.blocks (laid_each l.lo l.hi l.blocks ordered.laid)) (others_apart l.lo l.hi l.cap id x l.blocks ordered.laid ordered.named known))
+            (Each-from_All _ (all_but id l.blocks) has.gap.clear.misses));
+      }
 
-    fits : FitsGap g.low g.high x
-    fits = elim (cases_lt x.at g.high) [
-      | inr above ↦ inr (inl above)
-      | inl one ↦ elim (cases_lt g.low (block_end x)) [
-        | inr below ↦ inl below
-        | inl two ↦
-            let same = has.gap.maximal (min x.at g.low) (max (block_end x) g.high) (omega arith) (omega arith) (wider one two) in
-            let low = same.0 in let high = same.1 in
-            inr (inr (omega arith, omega arith, loose))
-      ]
+  -- it doesn't reach over an end of the gap
+  lies_apart : (block_end x ≤ g.low) ⊎ ((g.high ≤ x.at) ⊎ ((g.low ≤ x.at) × (block_end x ≤ g.high)))
+  lies_apart = elim (cases_lt x.at g.high) [
+    | inr above ↦ inr (inl above)
+    | inl one ↦ elim (cases_lt g.low (block_end x)) [
+      | inr below ↦ inl below
+      | inl two ↦
+          let same = has.gap.maximal (min x.at g.low) (max (block_end x) g.high) (omega arith) (omega arith) (wider one two) in
+          let low = same.0 in let high = same.1 in
+          inr (inr (omega arith, omega arith))
     ]
+  ]
+
+  fitting : FitsGap g.low g.high x → MayGather l g.low g.high
+  fitting fits = record {
+    inside = has.may.inside;
+    loose = All-back l.cap (FitsGap g.low g.high) id x l.blocks ordered.named known fits has.may.loose;
+  }
+
+  -- so the gap may be gathered with it where it is loose
+  pub may_with : x.hold ≡ Loose → MayGather l g.low g.high
+  may_with loose = fitting (elim lies_apart [
+    | inl below ↦ inl below
+    | inr e ↦ elim e [ inl above ↦ inr (inl above) | inr inside ↦ inr (inr (inside.0, inside.1, loose)) ]
+  ])
+
+  -- or where it begins outside
+  pub lies_outside : (x.at < g.low) ⊎ (g.high ≤ x.at) → (block_end x ≤ g.low) ⊎ (g.high ≤ x.at)
+  lies_outside other = elim lies_apart [
+    | inl below ↦ inl below
+    | inr e ↦ elim e [
+      | inl above ↦ inr above
+      | inr inside ↦ elim other [ inl lower ↦ absurd (let from = inside.0 in omega arith) | inr above ↦ inr above ]
+    ]
+  ]
+
+  pub may_beside : (x.at < g.low) ⊎ (g.high ≤ x.at) → MayGather l g.low g.high
+  may_beside other = fitting (elim (lies_outside other) [ inl below ↦ inl below | inr above ↦ inr (inl above) ])

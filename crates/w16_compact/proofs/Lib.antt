@@ -13,6 +13,7 @@ pub mod LeftOut
 pub mod Cleared
 pub mod Raising
 pub mod Opened
+pub mod Loosened
 pub mod PinnedIds
 pub mod Searched
 pub mod Told

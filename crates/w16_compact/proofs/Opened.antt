@@ -1,5 +1,5 @@
 -- What opening a gap leaves: the same blocks, one hole, and it directly behind the block.
-use Rattle.std.proofs.Common.{ℕ, ◌≡◌, ◌+◌, ◌-◌, ◌<◌, ◌≤◌, ◌⊎◌, max, min, IsTrue, Bool, true, false, ◌&&◌, nat_le, nat_lt, cond, eqb, List, [], ◌∷◌, map, Some, is_some, sum_by, arith, refl, sym, ap, ◌∙◌, subst, inl, inr}
+use Rattle.std.proofs.Common.{ℕ, ◌≡◌, ◌+◌, ◌-◌, ◌<◌, ◌≤◌, ◌⊎◌, max, min, IsTrue, Bool, true, false, ◌&&◌, nat_le, nat_lt, cond, eqb, List, [], ◌∷◌, map, Option, Some, IfSome, is_some, sum_by, arith, refl, sym, ap, ◌∙◌, subst, inl, inr}
 use Rattle.std.proofs.lemmas.Bool.{lt-ltb, le-ltb, cases_lt, eq-eqb, cond-true, false≢true}
 use Rattle.std.proofs.lemmas.Bool.Decides.{eqb_tells}
 use Rattle.std.proofs.lemmas.List.Sums.{sum_by-cons}
@@ -13,7 +13,7 @@ use Rattle.w16_model.proofs.Laid.{laid_each}
 use Rattle.w16_blocks.specs.Layout.{Layout, IsOrdered}
 use Rattle.w16_blocks.specs.Runs.{IsCut}
 use Rattle.w16_blocks.proofs.Lifting.{around}
-use Rattle.w16_blocks.proofs.Remove.{with_same, with_other, each_with}
+use Rattle.w16_blocks.proofs.Remove.{with_id, with_same, with_other, each_with}
 use Rattle.w16_blocks.proofs.RunHoles.{All-mapped, All-unmapped}
 use Rattle.w16_blocks.proofs.Step.{lies}
 use Rattle.w16_compact.specs.Gather.{gathered, packed, moved_between, FitsGap, MayGather, AreSlid}
@@ -22,6 +22,17 @@ use Rattle.w16_compact.proofs.Cleared.{Past, inside_is, tiled, clear_from, misse
 use Rattle.w16_compact.proofs.Gathering.{moved_same, cut_high}
 use Rattle.w16_compact.proofs.Loose.{loose_one, loose_none, loose_here}
 use Rattle.w16_compact.proofs.Raising.{loose_split, loose_skip, loose_only, raised_below, raised_inside, by_reach, raised_id}
+
+-- the block that is asked for, by its own id
+pub known_by : (l : Layout) (id : ℕ) (x : Block) → block_with l.blocks id ≡ Some x → block_with l.blocks x.id ≡ Some x
+known_by l id x e = ap (block_with l.blocks) (with_id id x l.blocks e) ∙ e
+
+-- what holds of a block if there is one holds of the one there is, and back
+pub of_known : (P : Block → Type 0) (o : Option Block) (x : Block) → o ≡ Some x → IfSome o P → P x
+of_known P o x e is = subst (λ (q : Option Block). IfSome q P) e is
+
+pub if_known : (P : Block → Type 0) (o : Option Block) (x : Block) → o ≡ Some x → P x → IfSome o P
+if_known P o x e is = subst (λ (q : Option Block). IfSome q P) (sym e) is
 
 -- slid twice
 pub slid_more : (zs bs cs : List Block) → AreSlid zs bs → AreSlid bs cs → AreSlid zs cs

@@ -1,7 +1,9 @@
 -- Blocks slid to the high end of an interval, and a gap that is opened behind one of its blocks.
-use Rattle.std.specs.Prelude.{ℕ, ◌+◌, ◌-◌, if◌then◌else◌, List, map}
+use Rattle.std.specs.Prelude.{ℕ, ◌+◌, ◌-◌, if◌then◌else◌, List, map, Some}
 use Rattle.w16_model.specs.declared.Block.{Block}
 use Rattle.w16_model.specs.Gap.{begins_in, loose_bytes}
+use Rattle.w16_model.specs.Reallocation.{loosened}
+use Rattle.w16_blocks.specs.Layout.{Layout}
 use Rattle.w16_compact.specs.Gather.{gathered}
 
 -- a block, where what begins in [low, high) slides up to `high`: from there on just the loose blocks from it on have room
@@ -23,3 +25,7 @@ end_in bs low b = low + loose_bytes bs low b.at + b.size
 -- what an interval has beside its loose blocks
 abbrev pub spare_in : List Block → ℕ → ℕ → ℕ
 spare_in bs low high = high - low - loose_bytes bs low high
+
+-- a layout in which an id's block counts as loose
+abbrev pub with_loose : ℕ → Layout → Layout
+with_loose id l = record l { blocks = loosened (Some id) l.blocks }

@@ -9,7 +9,7 @@ ghost use Rattle.w16_blocks.specs.Layout.{IsOrdered, holes_of};
 ghost use Rattle.w16_compact.specs.Told.{AreTold};
 
 use crate::reach::{Reached, is_about, is_pinned};
-use crate::slide::are_ordered;
+use crate::slide::reveal_order;
 use std::alloc::{AllocError, Global};
 use std::marker::Model;
 use w16_blocks::Blocks;
@@ -105,7 +105,7 @@ fn fill_whole<H: HoleList>(
     ensures value { result ≡ room blocks.now.lo blocks.now.hi (blocks_without blocks.now.blocks [] h) }
     ensures told { AreTold blocks.now (blocks_without blocks.now.blocks [] h) gap_of.new rooms.new }
 {
-    are_ordered(blocks);
+    reveal_order(blocks);
     let gap = blocks.cap();
     let room = blocks.free() + own_size(blocks, h);
     gap_of.fill(gap);
@@ -117,7 +117,7 @@ fn fill_whole<H: HoleList>(
 fn own_size<H: HoleList>(blocks: &Blocks<H>, h: Option<u32>) -> u32
     ensures { result + sum_by (λ b. b.size) (blocks_without blocks.now.blocks [] h) ≡ sum_by (λ b. b.size) blocks.now.blocks }
 {
-    are_ordered(blocks);
+    reveal_order(blocks);
     let Some(id) = h else {
         return 0;
     };

@@ -9,21 +9,81 @@ ghost use Rattle.w16_blocks.specs.Layout.{IsOrdered, holes_of};
 ghost use Rattle.w16_blocks.specs.Below.{IsLastBelow};
 ghost use Rattle.w16_blocks.specs.Runs.{IsRun, IsBare, slid_with};
 ghost use Rattle.w16_compact.specs.Gather.{contents, moved_between, MayGather, AreSlid};
-ghost use Rattle.w16_compact.specs.Open.{raised, opened, end_in, spare_in};
+ghost use Rattle.w16_compact.specs.Open.{with_loose, raised, opened, end_in, spare_in};
 ghost use Rattle.w16_compact.specs.Rest.{IsSameRest};
 
-use crate::slide::{are_ordered, gather};
-use w16_blocks::{Block, Blocks, Span};
+use crate::slide::{gather, reveal_order};
+use w16_blocks::{Block, Blocks, Hold, Span};
 use w16_holes::{HoleList, Holes};
 use w16_region::Space;
 
-/// Opens the gap from `low` to `high`, two addresses, behind an id's block, which stands in it and is loose there: the loose blocks up to
-/// and with it slide down to `low`, and those above it slide up to `high`, both in their order (profile). So one hole is left in a gap,
-/// directly behind the block, as long as the gap less its loose blocks; none where they fill it.
+/// Opens the gap from `low` to `high`, two addresses, behind an id's block, which stands in it and counts as loose there, whatever its hold
+/// is: the loose blocks up to and with it slide down to `low`, and those above it slide up to `high`, both in their order (profile). So one
+/// hole is left in a gap, directly behind the block, as long as the gap less its loose blocks; none where they fill it. The block keeps its
+/// hold.
 ///
 /// Answers how many bytes were moved: the sizes of the blocks whose address changed, together. As
 /// many bytes were written, so a block that stays isn't written, and none is written twice.
 pub fn open<S: Space, H: Holes<S>>(
+    blocks: &mut Blocks<H>,
+    space: &mut S,
+    low: u32,
+    high: u32,
+    id: u32,
+) -> u64
+    requires id { id < blocks.old.cap }
+    requires known { IsSome (block_with blocks.old.blocks id) }
+    requires within { IfSome (block_with blocks.old.blocks id) (λ b. (low ≤ b.at) × (block_end b ≤ high)) }
+    requires gap { MayGather (with_loose id blocks.old) low high }
+    requires grained { IsMultiple blocks.old.grain low × IsMultiple blocks.old.grain high }
+    requires kept { H.are_in (holes_of blocks.old) (S.bytes space.old) }
+    requires inside { blocks.old.hi ≤ length (S.bytes space.old) }
+    ensures blocks { IfSome (block_with blocks.old.blocks id) (λ b.
+        let old = with_loose id blocks.old in
+        with_loose id blocks.new ≡ record old { blocks = opened low (block_end b) high old.blocks }) }
+    ensures ordered { IsOrdered blocks.new }
+    ensures kept { H.are_in (holes_of blocks.new) (S.bytes space.new) }
+    ensures slid { AreSlid (with_loose id blocks.old).blocks (with_loose id blocks.new).blocks }
+    ensures contents { contents (S.bytes space.new) blocks.new.blocks
+        ≡ contents (S.bytes space.old) blocks.old.blocks }
+    ensures place { IfSome (block_with blocks.old.blocks id) (λ b. block_with blocks.new.blocks id
+        ≡ Some (record b { at = low + loose_bytes (with_loose id blocks.old).blocks low b.at })) }
+    ensures clear { IfSome (block_with blocks.old.blocks id) (λ b.
+        let old = (with_loose id blocks.old).blocks in
+        let free = end_in old low b in
+        IsClear is_any blocks.old.lo blocks.old.hi blocks.new.blocks free (free + spare_in old low high)) }
+    ensures hole { IfSome (block_with blocks.old.blocks id) (λ b.
+        let old = (with_loose id blocks.old).blocks in
+        let free = end_in old low b in
+        IsGap blocks.old.lo blocks.old.hi old low high
+        → 0 < spare_in old low high
+        → IsHole blocks.old.lo blocks.old.hi blocks.new.blocks free (free + spare_in old low high)) }
+    ensures alone { IfSome (block_with blocks.old.blocks id) (λ b.
+        let old = (with_loose id blocks.old).blocks in
+        let free = end_in old low b in
+        IsGap blocks.old.lo blocks.old.hi old low high
+        → (p q : ℕ) → IsHole blocks.old.lo blocks.old.hi blocks.new.blocks p q
+        → (q ≤ low) ⊎ ((high ≤ p) ⊎ ((p ≡ free) × (q ≡ free + spare_in old low high)))) }
+    ensures full { let old = (with_loose id blocks.old).blocks in
+        IsGap blocks.old.lo blocks.old.hi old low high
+        → spare_in old low high ≡ 0
+        → (p q : ℕ) → IsHole blocks.old.lo blocks.old.hi blocks.new.blocks p q
+        → (q ≤ low) ⊎ (high ≤ p) }
+    ensures moved { result ≡ moved_between blocks.old.blocks blocks.new.blocks }
+    ensures written { S.written space.new ≡ counted (S.written space.old) result }
+    ensures rest { IsSameRest S.bytes S.lenders blocks.old.lo blocks.old.hi space.old space.new }
+{
+    let Some(block) = blocks.find(id) else {
+        unreachable!();
+    };
+    blocks.set_hold(id, Hold::Loose);
+    let moved = open_loose(blocks, space, low, high, id);
+    blocks.set_hold(id, block.hold);
+    moved
+}
+
+/// Opens a gap behind a block that is loose, as [`open`] does.
+fn open_loose<S: Space, H: Holes<S>>(
     blocks: &mut Blocks<H>,
     space: &mut S,
     low: u32,
@@ -94,7 +154,7 @@ fn raise<S: Space, H: Holes<S>>(blocks: &mut Blocks<H>, space: &mut S, low: u32,
     ensures written { S.written space.new ≡ counted (S.written space.old) result }
     ensures rest { IsSameRest S.bytes S.lenders blocks.old.lo blocks.old.hi space.old space.new }
 {
-    are_ordered(blocks);
+    reveal_order(blocks);
     let mut from = high;
     let mut to = high;
     let mut moved = 0;

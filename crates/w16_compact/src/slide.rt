@@ -52,7 +52,7 @@ pub fn gather<S: Space, H: Holes<S>>(
     ensures written { S.written space.new ≡ counted (S.written space.old) result }
     ensures rest { IsSameRest S.bytes S.lenders blocks.old.lo blocks.old.hi space.old space.new }
 {
-    are_ordered(blocks);
+    reveal_order(blocks);
     let mut to = packed_to(blocks, space, low, high);
     let mut moved = 0;
     // What is free lies directly behind the settled ones, so the next is found in one step. Those that stand directly behind it slide as far,
@@ -82,8 +82,8 @@ fn packed_to<S: Space, H: Holes<S>>(blocks: &Blocks<H>, space: &S, low: u32, hig
     }
 }
 
-/// Does nothing: what holds of all blocks.
-pub(crate) fn are_ordered<H: HoleList>(blocks: &Blocks<H>)
+/// Tells the prover that the blocks are ordered, as they always are. It does nothing else.
+pub(crate) fn reveal_order<H: HoleList>(blocks: &Blocks<H>)
     ensures { IsOrdered blocks.now }
 {
     let _ = blocks.bounds();

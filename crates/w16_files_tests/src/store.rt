@@ -7,6 +7,7 @@ use cases::{FILES, Kind, NEW_FOLDER, Step, cases};
 use odd_names::OddNames;
 use one_file::OneFile;
 use std::alloc::{AllocError, Global};
+use std::os::fd::IntoRawFd;
 use std::rt::Files;
 use std::test::Fail;
 use std::{fs, io};
@@ -24,12 +25,21 @@ fn read<S: Store>(store: &mut S, name: &str, at: u64, count: usize) -> Result<u6
     Ok(value)
 }
 
+/// Puts a FIFO under a name: by a link to the reading end of a pipe, whose writing end is closed.
+fn make_fifo(rt: &HostRuntime, path: &str) -> io::Result<()> {
+    let (reader, _) = io::pipe(rt)?;
+    let end = reader.into_raw_fd();
+    let to = format!(in rt.alloc(); "/proc/self/fd/{end}")?;
+    rt.symlink(to.as_str(), path)
+}
+
 /// Changes files, where a step does.
 fn change(rt: &HostRuntime, step: Step) -> io::Result<()> {
     match step {
         Step::Write(path, text) => fs::write(rt, path, text),
         Step::Remove(path) => fs::remove_file(rt, path),
         Step::MakeFolder(path) => fs::create_dir_all(rt, path),
+        Step::Fifo(path) => make_fifo(rt, path),
         Step::Link(to, path) => rt.symlink(to, path),
         _ => Ok(()),
     }

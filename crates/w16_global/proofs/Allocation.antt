@@ -3,15 +3,15 @@ use Rattle.std.proofs.Common.{◌≡◌, ℕ, inr, true, ◌==◌, ◌&&◌, Mat
 use Rattle.std.specs.FinMap as finmap
 use Rattle.w16_model.specs.declared.Attributes.{Attributes}
 use Rattle.w16_model.specs.declared.Kind.{Kind}
-use Rattle.w16_model.specs.declared.Way.{Way}
+use Rattle.w16_model.specs.declared.RoomOptions.{RoomOptions}
 use Rattle.w16_model.specs.declared.TheConstants.{LARGEST_SIZE, GMEM_MOVEABLE, GMEM_ZEROINIT, GMEM_DDESHARE}
 use Rattle.std.proofs.lemmas.Bool.{false≢true, cases_lt}
 use Rattle.w16_model.specs.Heap.{Heap, Object, IsHeap}
 use Rattle.w16_model.specs.Changes.{with_ordered, with_newest}
-use Rattle.w16_model.specs.Request.{Allocates, IsNew, Settles, discarded, stays_for, prefix_of, moved_bytes}
+use Rattle.w16_model.specs.Request.{Allocates, IsNew, Settles, discarded, stays_for, discards_needed, moved_bytes}
 use Rattle.w16_model.specs.OneObject.{Enters}
 use Rattle.w16_model.specs.Handles.{Handles, IsFreeSlot, handle_of}
-use Rattle.w16_model.specs.Calls.{GlobalAllocs, has_flag, kind_asked, way_asked, rounded_size}
+use Rattle.w16_model.specs.Calls.{GlobalAllocs, has_flag, kind_asked, alloc_options, rounded_size}
 use Rattle.w16_selectors.specs.Descriptors as selectors
 use Rattle.w16_selectors.specs.Descriptors.{IsUntaken}
 use Rattle.w16_global.specs.Parts.{Holding}
@@ -41,7 +41,7 @@ module _ (w : Handles) (flags slot size : ℕ) (new : Handles) (free : IsFreeSlo
     slot = slot;
     free = free;
     named = refl;
-    made = subst (λ b. MatchBool ((0 == 0) && b) (Enters w.heap slot (kind_asked flags) new.heap) (Allocates w.heap slot (rounded_size 0) (kind_asked flags) 0 (way_asked flags) true new.heap)) (sym moveable) enters;
+    made = subst (λ b. MatchBool ((0 == 0) && b) (Enters w.heap slot (kind_asked flags) new.heap) (Allocates w.heap slot (rounded_size 0) (kind_asked flags) 0 (alloc_options flags) true new.heap)) (sym moveable) enters;
     rest = rest ∙ (λ i. record w {
       heap = new.heap;
       attributes = finmap.insert w.attributes slot (record { shared = has_flag flags GMEM_DDESHARE; owned = None });
@@ -50,7 +50,7 @@ module _ (w : Handles) (flags slot size : ℕ) (new : Handles) (free : IsFreeSlo
   }))
 
   -- an object with bytes
-  pub answers_bytes : 0 < size → size ≤ LARGEST_SIZE → Allocates w.heap slot (rounded_size size) (kind_asked flags) 0 (way_asked flags) true new.heap
+  pub answers_bytes : 0 < size → size ≤ LARGEST_SIZE → Allocates w.heap slot (rounded_size size) (kind_asked flags) 0 (alloc_options flags) true new.heap
       → new ≡ record w { heap = new.heap; attributes = finmap.insert w.attributes slot (record { shared = has_flag flags GMEM_DDESHARE; owned = None }); moved = moved_bytes w.heap new.heap }
       → GlobalAllocs w flags size (handle_of (kind_asked flags) slot) new
   answers_bytes some small allocated rest = inr (record {
@@ -58,19 +58,19 @@ module _ (w : Handles) (flags slot size : ℕ) (new : Handles) (free : IsFreeSlo
     slot = slot;
     free = free;
     named = refl;
-    made = subst (λ b. MatchBool (b && has_flag flags GMEM_MOVEABLE) (Enters w.heap slot (kind_asked flags) new.heap) (Allocates w.heap slot (rounded_size size) (kind_asked flags) 0 (way_asked flags) true new.heap))
+    made = subst (λ b. MatchBool (b && has_flag flags GMEM_MOVEABLE) (Enters w.heap slot (kind_asked flags) new.heap) (Allocates w.heap slot (rounded_size size) (kind_asked flags) 0 (alloc_options flags) true new.heap))
         (sym (ne_eqb size 0 (λ e. absurd (omega arith)))) allocated;
     rest = rest;
   })
 
   -- no room
-  pub refuses_bytes : IsHeap w.heap → 0 < size → Allocates w.heap slot (rounded_size size) (kind_asked flags) 0 (way_asked flags) false new.heap → new ≡ record w { heap = new.heap; moved = 0 } → GlobalAllocs w flags size 0 new
+  pub refuses_bytes : IsHeap w.heap → 0 < size → Allocates w.heap slot (rounded_size size) (kind_asked flags) 0 (alloc_options flags) false new.heap → new ≡ record w { heap = new.heap; moved = 0 } → GlobalAllocs w flags size 0 new
   refuses_bytes is some allocated rest =
-      let (none, same) = no_prefix (prefix_of w.heap (rounded_size size) (Some slot) (way_asked flags)) allocated.request in
-      inl (inr (inr (inr (some, sym (none_about w.heap is slot free.1 (rounded_size size) (way_asked flags)) ∙ none))), refl, rest ∙ (λ i. record w { heap = same i; moved = 0 }))
+      let (none, same) = no_prefix (discards_needed w.heap (rounded_size size) (Some slot) (alloc_options flags)) allocated.request in
+      inl (inr (inr (inr (some, sym (none_about w.heap is slot free.1 (rounded_size size) (alloc_options flags)) ∙ none))), refl, rest ∙ (λ i. record w { heap = same i; moved = 0 }))
     where
       no_prefix : (p : Option ℕ)
-          → MatchOption p ((false ≡ false) × (new.heap ≡ w.heap)) (λ k. (false ≡ true) × ((o : Object) × IsNew (has_flag flags GMEM_ZEROINIT) (rounded_size size) (kind_asked flags) 0 o × Settles w.heap (stays_for slot (way_asked flags)) (with_ordered (discarded w.heap k (Some slot)) slot o (with_newest slot o)) new.heap))
+          → MatchOption p ((false ≡ false) × (new.heap ≡ w.heap)) (λ k. (false ≡ true) × ((o : Object) × IsNew (has_flag flags GMEM_ZEROINIT) (rounded_size size) (kind_asked flags) 0 o × Settles w.heap (stays_for slot (alloc_options flags)) (with_ordered (discarded w.heap k (Some slot)) slot o (with_newest slot o)) new.heap))
           → (p ≡ None) × (new.heap ≡ w.heap)
       no_prefix None h = (refl, h.1)
       no_prefix (Some k) h = absurd (false≢true h.0)
@@ -78,8 +78,8 @@ module _ (w : Handles) (flags slot size : ℕ) (new : Handles) (free : IsFreeSlo
 -- The same of what the code has computed.
 
 -- an allocation of these numbers
-abbrev AllocatesBy : Handles → ℕ → Heap → ℕ → Kind → Way → Bool → Type 0
-AllocatesBy w slot heap n kind way answered = Allocates w.heap slot n kind 0 way answered heap
+abbrev AllocatesBy : Handles → ℕ → Heap → ℕ → Kind → RoomOptions → Bool → Type 0
+AllocatesBy w slot heap n kind options answered = Allocates w.heap slot n kind 0 options answered heap
 
 module _ (w : Handles) (flags slot size : ℕ) (new : Handles) (free : IsFreeSlot w slot) (kind : Kind) (kind_is : kind ≡ kind_asked flags) (a : Attributes) (a_is : a ≡ record { shared = has_flag flags GMEM_DDESHARE; owned = None })
     (handle : ℕ) (handle_is : handle ≡ handle_of kind slot) where
@@ -90,11 +90,11 @@ module _ (w : Handles) (flags slot size : ℕ) (new : Handles) (free : IsFreeSlo
   absent_known none moveable enters rest = named (handle_of (kind_asked flags) slot) refl
       (answers_absent w flags slot size new free none moveable (subst (λ k. Enters w.heap slot k new.heap) kind_is enters) (rest ∙ (λ i. record w { heap = new.heap; attributes = finmap.insert w.attributes slot (a_is i); moved = 0 })))
 
-  module _ (n : ℕ) (n_is : n ≡ rounded_size size) (way : Way) (way_is : way ≡ way_asked flags) (some : size ≡ 0 → ⊥) where
-    asked : (answered : Bool) → AllocatesBy w slot new.heap n kind way answered → Allocates w.heap slot (rounded_size size) (kind_asked flags) 0 (way_asked flags) answered new.heap
+  module _ (n : ℕ) (n_is : n ≡ rounded_size size) (options : RoomOptions) (way_is : options ≡ alloc_options flags) (some : size ≡ 0 → ⊥) where
+    asked : (answered : Bool) → AllocatesBy w slot new.heap n kind options answered → Allocates w.heap slot (rounded_size size) (kind_asked flags) 0 (alloc_options flags) answered new.heap
     asked answered h =
-        subst (λ k. AllocatesBy w slot new.heap k (kind_asked flags) (way_asked flags) answered) n_is
-        (subst (λ k. AllocatesBy w slot new.heap n k (way_asked flags) answered) kind_is
+        subst (λ k. AllocatesBy w slot new.heap k (kind_asked flags) (alloc_options flags) answered) n_is
+        (subst (λ k. AllocatesBy w slot new.heap n k (alloc_options flags) answered) kind_is
         (subst (λ v. AllocatesBy w slot new.heap n kind v answered) way_is h))
 
     filled : (m : ℕ) → (m ≡ 0 → ⊥) → 0 < m
@@ -103,12 +103,12 @@ module _ (w : Handles) (flags slot size : ℕ) (new : Handles) (free : IsFreeSlo
       | inr none ↦ absurd (h (omega (arith, none)))
     ]
 
-    pub bytes_known : size ≤ LARGEST_SIZE → AllocatesBy w slot new.heap n kind way true → new ≡ record w { heap = new.heap; attributes = finmap.insert w.attributes slot a; moved = moved_bytes w.heap new.heap }
+    pub bytes_known : size ≤ LARGEST_SIZE → AllocatesBy w slot new.heap n kind options true → new ≡ record w { heap = new.heap; attributes = finmap.insert w.attributes slot a; moved = moved_bytes w.heap new.heap }
         → GlobalAllocs w flags size handle new
     bytes_known small allocated rest = named (handle_of (kind_asked flags) slot) refl
         (answers_bytes w flags slot size new free (filled size some) small (asked true allocated) (rest ∙ (λ i. record w { heap = new.heap; attributes = finmap.insert w.attributes slot (a_is i); moved = moved_bytes w.heap new.heap })))
 
-    pub refusal_known : IsHeap w.heap → AllocatesBy w slot new.heap n kind way false → new ≡ record w { heap = new.heap; moved = 0 } → GlobalAllocs w flags size 0 new
+    pub refusal_known : IsHeap w.heap → AllocatesBy w slot new.heap n kind options false → new ≡ record w { heap = new.heap; moved = 0 } → GlobalAllocs w flags size 0 new
     refusal_known is allocated rest = refuses_bytes w flags slot size new free is (filled size some) (asked false allocated) rest
 
 -- And from the handles v, which is w with nothing moved last.
@@ -121,13 +121,13 @@ module _ (w v : Handles) (v_is : v ≡ record w { moved = 0 }) (flags slot size 
   absent_answered none moveable enters rest = absent_known w flags slot size new free_in kind kind_is a a_is handle handle_is none moveable (subst (λ (x : Handles). Enters x.heap slot kind new.heap) v_is enters)
       (rest ∙ ap (λ (x : Handles). record x { heap = new.heap; attributes = finmap.insert x.attributes slot a }) v_is)
 
-  module _ (n : ℕ) (n_is : n ≡ rounded_size size) (way : Way) (way_is : way ≡ way_asked flags) (some : size ≡ 0 → ⊥) where
-    pub bytes_answered : size ≤ LARGEST_SIZE → AllocatesBy v slot new.heap n kind way true
+  module _ (n : ℕ) (n_is : n ≡ rounded_size size) (options : RoomOptions) (way_is : options ≡ alloc_options flags) (some : size ≡ 0 → ⊥) where
+    pub bytes_answered : size ≤ LARGEST_SIZE → AllocatesBy v slot new.heap n kind options true
         → new ≡ record v { heap = new.heap; attributes = finmap.insert v.attributes slot a; moved = moved_bytes v.heap new.heap } → GlobalAllocs w flags size handle new
-    bytes_answered small allocated rest = bytes_known w flags slot size new free_in kind kind_is a a_is handle handle_is n n_is way way_is some small
-        (subst (λ (x : Handles). AllocatesBy x slot new.heap n kind way true) v_is allocated)
+    bytes_answered small allocated rest = bytes_known w flags slot size new free_in kind kind_is a a_is handle handle_is n n_is options way_is some small
+        (subst (λ (x : Handles). AllocatesBy x slot new.heap n kind options true) v_is allocated)
         (rest ∙ ap (λ (x : Handles). record x { heap = new.heap; attributes = finmap.insert x.attributes slot a; moved = moved_bytes x.heap new.heap }) v_is)
 
-    pub bytes_refused : IsHeap v.heap → AllocatesBy v slot new.heap n kind way false → new ≡ record v { heap = new.heap } → GlobalAllocs w flags size 0 new
-    bytes_refused is allocated rest = refusal_known w flags slot size new free_in kind kind_is a a_is handle handle_is n n_is way way_is some
-        (subst (λ (x : Handles). IsHeap x.heap) v_is is) (subst (λ (x : Handles). AllocatesBy x slot new.heap n kind way false) v_is allocated) (rest ∙ ap (λ (x : Handles). record x { heap = new.heap }) v_is)
+    pub bytes_refused : IsHeap v.heap → AllocatesBy v slot new.heap n kind options false → new ≡ record v { heap = new.heap } → GlobalAllocs w flags size 0 new
+    bytes_refused is allocated rest = refusal_known w flags slot size new free_in kind kind_is a a_is handle handle_is n n_is options way_is some
+        (subst (λ (x : Handles). IsHeap x.heap) v_is is) (subst (λ (x : Handles). AllocatesBy x slot new.heap n kind options false) v_is allocated) (rest ∙ ap (λ (x : Handles). record x { heap = new.heap }) v_is)

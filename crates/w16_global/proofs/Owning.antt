@@ -5,7 +5,7 @@ use Rattle.w16_model.specs.declared.Owned.{Owned}
 use Rattle.w16_model.specs.declared.TheConstants.{GRAIN}
 use Rattle.w16_model.specs.Handles.{Handles}
 use Rattle.w16_model.specs.Heap.{Heap, IsMultiple}
-use Rattle.w16_model.specs.Owned.{any_way, owned_at, owned_in}
+use Rattle.w16_model.specs.Owned.{revival_options, owned_at, owned_in}
 use Rattle.w16_model.specs.Request.{Reallocates, moved_bytes}
 use Rattle.w16_model.proofs.Growth.{one_outcome_law}
 use Rattle.w16_region.specs.Bytes.{counted}
@@ -26,10 +26,10 @@ pub none_written : (count : ℕ) (heap : Heap) → count ≡ counted count (move
 none_written count heap = sym (counted_none count) ∙ ap (counted count) (sym (unmoved heap heap (λ _. heap.places)))
 
 -- what is written where an object gets bytes, and others are moved for it
-pub revived_written : (old new : Global) (slot n : ℕ) (answered : Bool) → Reallocates old.handles.heap slot n any_way answered new.handles.heap
+pub revived_written : (old new : Global) (slot n : ℕ) (answered : Bool) → Reallocates old.handles.heap slot n revival_options answered new.handles.heap
     → new.handles.moved ≡ (if answered then moved_bytes old.handles.heap new.handles.heap else old.handles.moved)
     → new.written ≡ (if answered then counted (counted old.written new.handles.moved) 0 else old.written) → new.written ≡ counted old.written (moved_bytes old.handles.heap new.handles.heap)
 revived_written old new slot n true done moved written = written ∙ counted_none (counted old.written new.handles.moved) ∙ ap (counted old.written) moved
 revived_written old new slot n false refused moved written =
-    let same : new.handles.heap ≡ old.handles.heap = (one_outcome_law old.handles.heap new.handles.heap slot n any_way refused).0 in
+    let same : new.handles.heap ≡ old.handles.heap = (one_outcome_law old.handles.heap new.handles.heap slot n revival_options refused).0 in
     written ∙ none_written old.written old.handles.heap ∙ ap (λ (h : Heap). counted old.written (moved_bytes old.handles.heap h)) (sym same)

@@ -4,12 +4,12 @@ use Rattle.std.specs.FinMap as finmap
 use Rattle.std.proofs.lemmas.Bool.{false≢true, cases_eq, le-leb, lt-leb}
 use Rattle.std.proofs.lemmas.List.{get_or-set_same, get_or-set_other, length-set}
 use Rattle.w16_model.specs.declared.Attributes.{Attributes}
-use Rattle.w16_model.specs.declared.Way.{Way}
+use Rattle.w16_model.specs.declared.RoomOptions.{RoomOptions}
 use Rattle.w16_model.specs.declared.TheConstants.{FIRST_SLOT}
 use Rattle.w16_model.specs.Discards.{growth_for}
 use Rattle.w16_model.specs.Heap.{Heap, Object, IsHeap, object_at, bytes_at, is_pinned_object}
 use Rattle.w16_model.specs.Changes.{with_newest, with_ordered}
-use Rattle.w16_model.specs.Request.{Asked, IsNew, IsGrown, Reallocates, Settles, discarded, moved_bytes, prefix_of, snapshot_of, stays_for}
+use Rattle.w16_model.specs.Request.{Asked, IsNew, IsGrown, Reallocates, Settles, discarded, moved_bytes, discards_needed, snapshot_of, stays_for}
 use Rattle.w16_model.specs.Law.{KeepsOthers}
 use Rattle.w16_model.specs.Handles.{Handles, AreHandles}
 use Rattle.w16_model.specs.Reallocation.{AreResized, IsResized, KeepsRest}
@@ -30,28 +30,28 @@ use Rattle.w16_global.proofs.Forgotten.{each_discarded, still_taken, was_there}
 use Rattle.w16_global.proofs.Sliding.{StandStill, each_known, says_all}
 
 -- What an answered reallocation leaves of the others, where so many were to be discarded.
-module _ (old : Heap) (is : IsHeap old) (id n : ℕ) (way : Way) (new : Heap) where
+module _ (old : Heap) (is : IsHeap old) (id n : ℕ) (options : RoomOptions) (new : Heap) where
   -- the number, by whether the object may not move, by whether its bytes are enough, and by these
   abbrev by_hold : Bool → Option ℕ
-  by_hold held = cond {A = Option ℕ} held (Some 0) (growth_for (snapshot_of old) n id way)
+  by_hold held = cond {A = Option ℕ} held (Some 0) (growth_for (snapshot_of old) n id options)
 
   abbrev by_size : Object → Bool → Option ℕ
-  by_size o enough = cond {A = Option ℕ} enough (Some 0) (by_hold (is_pinned_object o && not way.may_move))
+  by_size o enough = cond {A = Option ℕ} enough (Some 0) (by_hold (is_pinned_object o && not options.may_move))
 
   abbrev by_bytes : Object → Option (List ℕ) → Option ℕ
-  by_bytes o b = elim b [ None ↦ prefix_of old n (Some id) way | Some bytes ↦ by_size o (nat_le n (length bytes)) ]
+  by_bytes o b = elim b [ None ↦ discards_needed old n (Some id) options | Some bytes ↦ by_size o (nat_le n (length bytes)) ]
 
   abbrev Keeps : Object → Type 0
-  Keeps o = (k : ℕ) → reallocation_prefix old id o n way ≡ Some k → KeepsOthers old (Some id) k new
+  Keeps o = (k : ℕ) → reallocation_prefix old id o n options ≡ Some k → KeepsOthers old (Some id) k new
 
   only : (a b : ℕ) → ◌≡◌ {A = Option ℕ} (Some a) (Some b) → KeepsOthers old (Some id) a new → KeepsOthers old (Some id) b new
   only a b e keeps = let same : a ≡ b = cc in subst (λ k. KeepsOthers old (Some id) k new) same keeps
 
-  by_each : (o : Object) → IsCase old id n o way true new → Keeps o
+  by_each : (o : Object) → IsCase old id n o options true new → Keeps o
   by_each o (inl revives) k e =
-      let what : Asked = record { way = way; prefix = prefix_of old n (Some id) way; becomes = IsNew way.zero n o.kind o.locks; order = with_newest id } in
-      let r : (k : ℕ) × (what.prefix ≡ Some k) × ((p : Object) × what.becomes p × Settles old (stays_for id what.way) (with_ordered (discarded old k (Some id)) id p (what.order p)) new) = asked old id what new revives.allocated.request in
-      only r.0 k (sym r.1 ∙ sym (ap (by_bytes o) revives.none) ∙ e) ((others_law old new is r.0).0 id way r.2.0 (with_newest id r.2.0) r.2.2)
+      let what : Asked = record { options = options; prefix = discards_needed old n (Some id) options; becomes = IsNew options.zero n o.kind o.locks; order = with_newest id } in
+      let r : (k : ℕ) × (what.prefix ≡ Some k) × ((p : Object) × what.becomes p × Settles old (stays_for id what.options) (with_ordered (discarded old k (Some id)) id p (what.order p)) new) = asked old id what new revives.allocated.request in
+      only r.0 k (sym r.1 ∙ sym (ap (by_bytes o) revives.none) ∙ e) ((others_law old new is r.0).0 id options r.2.0 (with_newest id r.2.0) r.2.2)
   by_each o (inr (inl cuts)) k e =
       only 0 k (sym (ap (by_size o) (le-leb n (length cuts.bytes) cuts.short)) ∙ sym (ap (by_bytes o) cuts.has) ∙ e)
       (subst (KeepsOthers old (Some id) 0) (sym cuts.left) (none_discarded old id (record o { bytes = Some (take n cuts.bytes) })))
@@ -61,38 +61,38 @@ module _ (old : Heap) (is : IsHeap old) (id n : ℕ) (way : Way) (new : Heap) wh
     | inr short ↦ absurd (false≢true (sym short.1))
   ]
   by_each o (inr (inr (inr asks))) k e =
-      let what : Asked = record { way = way; prefix = growth_for (snapshot_of old) n id way; becomes = IsGrown way.zero n o; order = λ _ order. order } in
-      let r : (k : ℕ) × (what.prefix ≡ Some k) × ((p : Object) × what.becomes p × Settles old (stays_for id what.way) (with_ordered (discarded old k (Some id)) id p (what.order p)) new) = asked old id what new asks.request in
+      let what : Asked = record { options = options; prefix = growth_for (snapshot_of old) n id options; becomes = IsGrown options.zero n o; order = λ _ order. order } in
+      let r : (k : ℕ) × (what.prefix ≡ Some k) × ((p : Object) × what.becomes p × Settles old (stays_for id what.options) (with_ordered (discarded old k (Some id)) id p (what.order p)) new) = asked old id what new asks.request in
       only r.0 k (sym r.1 ∙ sym (ap by_hold asks.held) ∙ sym (ap (by_size o) (lt-leb n (length asks.bytes) asks.long)) ∙ sym (ap (by_bytes o) asks.has) ∙ e)
-      ((others_law old new is r.0).0 id way r.2.0 (λ order. order) r.2.2)
+      ((others_law old new is r.0).0 id options r.2.0 (λ order. order) r.2.2)
 
-  kept_by : Reallocates old id n way true new → (k : ℕ) → IsSomeAnd (object_at old id) (λ o. reallocation_prefix old id o n way ≡ Some k) → KeepsOthers old (Some id) k new
-  kept_by r k needed = turn (object_at old id) (by_case old new id n way true Keeps (λ o there c. by_each o c) r) needed
+  kept_by : Reallocates old id n options true new → (k : ℕ) → IsSomeAnd (object_at old id) (λ o. reallocation_prefix old id o n options ≡ Some k) → KeepsOthers old (Some id) k new
+  kept_by r k needed = turn (object_at old id) (by_case old new id n options true Keeps (λ o there c. by_each o c) r) needed
     where
-      turn : (p : Option Object) → IsSomeAnd p Keeps → IsSomeAnd p (λ o. reallocation_prefix old id o n way ≡ Some k) → KeepsOthers old (Some id) k new
+      turn : (p : Option Object) → IsSomeAnd p Keeps → IsSomeAnd p (λ o. reallocation_prefix old id o n options ≡ Some k) → KeepsOthers old (Some id) k new
       turn None f g = absurd f
       turn (Some o) f g = f k g
 
   -- it has the bytes that were asked for
-  sized_by : Reallocates old id n way true new → IsSomeAnd (bytes_at new id) (λ bytes. length bytes ≡ n)
-  sized_by r = from (object_at old id) (rest_law old new id n way is r)
+  sized_by : Reallocates old id n options true new → IsSomeAnd (bytes_at new id) (λ bytes. length bytes ≡ n)
+  sized_by r = from (object_at old id) (rest_law old new id n options is r)
     where
       long : (zero : Bool) (before : List ℕ) (b : Option (List ℕ)) → IsSomeAnd b (AreResized zero n before) → IsSomeAnd b (λ bytes. length bytes ≡ n)
       long zero before None f = absurd f
       long zero before (Some bytes) f = f.long
 
-      resized : (o : Object) (p : Option Object) → IsSomeAnd p (IsResized way.zero n o) → IsSomeAnd (elim p as (λ _. Option (List ℕ)) [ Some o ↦ o.bytes | None ↦ None ]) (λ bytes. length bytes ≡ n)
+      resized : (o : Object) (p : Option Object) → IsSomeAnd p (IsResized options.zero n o) → IsSomeAnd (elim p as (λ _. Option (List ℕ)) [ Some o ↦ o.bytes | None ↦ None ]) (λ bytes. length bytes ≡ n)
       resized o None f = absurd f
-      resized o (Some p) f = long way.zero (unwrap_or o.bytes []) p.bytes f.bytes
+      resized o (Some p) f = long options.zero (unwrap_or o.bytes []) p.bytes f.bytes
 
-      from : (p : Option Object) → IsSomeAnd p (λ o. KeepsRest old id n o way new) → IsSomeAnd (bytes_at new id) (λ bytes. length bytes ≡ n)
+      from : (p : Option Object) → IsSomeAnd p (λ o. KeepsRest old id n o options new) → IsSomeAnd (bytes_at new id) (λ bytes. length bytes ≡ n)
       from None f = absurd f
       from (Some o) f = resized o (object_at new id) f.object
 
 -- An object that is there got another size.
 module _ {h : Holding} {xs : List (Option Attributes)} {t : selectors.DescriptorTable} (are : AreJoined h xs t) (new : Holding) (cap : new.cap ≡ h.cap) (slot : ℕ)
-    {m : ℕ} {w : Handles} (shown : handles_of h xs m ≡ w) (known : is_some (object_at w.heap slot) ≡ true) (n : ℕ) (way : Way)
-    (reallocated : Reallocates h.heap slot n way true new.heap) (has : HasDiscardedFor h.heap slot n way new.discarded) where
+    {m : ℕ} {w : Handles} (shown : handles_of h xs m ≡ w) (known : is_some (object_at w.heap slot) ≡ true) (n : ℕ) (options : RoomOptions)
+    (reallocated : Reallocates h.heap slot n options true new.heap) (has : HasDiscardedFor h.heap slot n options new.discarded) where
   there : is_some (object_at h.heap slot) ≡ true
   there = subst (λ (v : Handles). is_some (object_at v.heap slot) ≡ true) (sym shown) known
 
@@ -100,13 +100,13 @@ module _ {h : Holding} {xs : List (Option Attributes)} {t : selectors.Descriptor
   in_table = subst (λ n. slot < n) (sym are.selectors_many) (slot_there h xs t are slot there).1
 
   sound : IsHeap new.heap
-  sound = heap_law h.heap new.heap slot n way true are.handles.heap reallocated
+  sound = heap_law h.heap new.heap slot n options true are.handles.heap reallocated
 
   keeps : KeepsOthers h.heap (Some slot) has.prefix new.heap
-  keeps = kept_by h.heap are.handles.heap slot n way new.heap reallocated has.prefix has.needed
+  keeps = kept_by h.heap are.handles.heap slot n options new.heap reallocated has.prefix has.needed
 
   sized : IsSomeAnd (bytes_at new.heap slot) (λ bytes. length bytes ≡ n)
-  sized = sized_by h.heap are.handles.heap slot n way new.heap reallocated
+  sized = sized_by h.heap are.handles.heap slot n options new.heap reallocated
 
   -- those that were discarded had a selector
   pub discarded_known : All (λ id. is_some (descriptor_at t id) ≡ true) new.discarded
@@ -152,7 +152,7 @@ module _ {h : Holding} {xs : List (Option Attributes)} {t : selectors.Descriptor
       let kind_is : kind_at second slot ≡ kind_in xs slot =
       ap kind_of (follows slot) ∙ followed_kind new.heap from to told slot made ∙ ap kind_of (forgot slot) ∙ forgotten_kind new.discarded t slot ∙ kinds_are h xs t are slot in
       record {
-        handles = subst AreHandles (λ i. record { slots = sym cap i - FIRST_SLOT; heap = new.heap; attributes = attributes_in xs; moved = 0 }) (reallocated_handles (handles_of h xs 0) are.handles slot n way new.heap reallocated);
+        handles = subst AreHandles (λ i. record { slots = sym cap i - FIRST_SLOT; heap = new.heap; attributes = attributes_in xs; moved = 0 }) (reallocated_handles (handles_of h xs 0) are.handles slot n options new.heap reallocated);
         described = λ q. ap (λ (l : selectors.DescriptorTable). get_or l q None) is ∙ elim (cases_eq q slot) as (λ _. get_or (set second slot (Some d)) q None ≡ described new.heap (kind_in xs q) q) [
           | inl e ↦ ap (λ k. get_or (set second slot (Some d)) k None) e ∙ get_or-set_same second slot (Some d) None (subst (λ k. slot < k) (sym many) in_table)
               ∙ sym (ap (λ k. described new.heap (kind_in xs k) k) e ∙ ap (λ k. described new.heap k slot) (sym kind_is) ∙ made_here (kind_at second slot) new.heap slot n at (bytes_at new.heap slot) refl sized placed)

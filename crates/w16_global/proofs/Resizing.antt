@@ -3,7 +3,7 @@ use Rattle.std.proofs.Common.{◌≡◌, ℕ, ◌-◌, ◌≤◌, if◌then◌el
 use Rattle.std.proofs.lemmas.Bool.{cases_eq, le-ltb}
 use Rattle.w16_model.specs.declared.Kind.{Kind}
 use Rattle.w16_model.specs.declared.Kind.TheVariants as kinds
-use Rattle.w16_model.specs.declared.Way.{Way}
+use Rattle.w16_model.specs.declared.RoomOptions.{RoomOptions}
 use Rattle.w16_model.specs.declared.Refusal.{Refusal}
 use Rattle.w16_model.specs.declared.Refusal.TheVariants as refusals
 use Rattle.w16_model.specs.declared.TheConstants.{LARGEST_SIZE, GMEM_MOVEABLE, GMEM_MODIFY, GMEM_ZEROINIT}
@@ -14,7 +14,7 @@ use Rattle.w16_model.specs.OneObject.{after_discard}
 use Rattle.w16_model.specs.Handles.{Handles, handle_of, slot_of_handle}
 use Rattle.w16_model.specs.Calls.{global_size, has_flag, rounded_size}
 use Rattle.w16_model.specs.Owned.{owns, is_owned}
-use Rattle.w16_model.specs.Resizes.{way_asked_again, kind_modified, modified, IsNull, Again, AnswersDiscard, Empties, Resizes, ReAllocsOwn, GlobalReAllocs, GlobalDiscards}
+use Rattle.w16_model.specs.Resizes.{realloc_options, kind_modified, modified, IsNull, AnswersHandle, AnswersDiscard, Empties, Resizes, ReAllocsOwn, GlobalReAllocs, GlobalDiscards}
 use Rattle.w16_model.proofs.Absence.{discard_absent}
 use Rattle.w16_model.proofs.Growth.{one_outcome_law}
 use Rattle.w16_model.proofs.KeptHeaps.{taken_here, taken_other}
@@ -82,9 +82,9 @@ module _ (w v : Handles) (v_is : v ≡ record w { moved = 0 }) (handle size flag
   answers_owned own rest = subst (λ b. MatchBool b (IsNull w 0 new) (ReAllocsOwn w handle size flags 0 new)) (sym (owns_is ∙ own)) (refl, rest ∙ v_is)
 
   -- how many zeros are behind the bytes of an object that was lengthened
-  pub zeros_known : has_flag flags GMEM_MODIFY ≡ false → (n : ℕ) → n ≡ rounded_size size → (way : Way) → way ≡ way_asked_again flags
-      → (if way.zero then n - unwrap_or (option_map (length {A = ℕ}) (bytes_at v.heap slot)) 0 else 0) ≡ zeroed_behind w handle size flags handle
-  zeros_known kept n n_is way way_is =
+  pub zeros_known : has_flag flags GMEM_MODIFY ≡ false → (n : ℕ) → n ≡ rounded_size size → (options : RoomOptions) → options ≡ realloc_options flags
+      → (if options.zero then n - unwrap_or (option_map (length {A = ℕ}) (bytes_at v.heap slot)) 0 else 0) ≡ zeroed_behind w handle size flags handle
+  zeros_known kept n n_is options way_is =
       let more : ℕ = if has_flag flags GMEM_ZEROINIT then rounded_size size - global_size w handle else 0 in
       (λ i. if (way_is i).zero then n_is i - unwrap_or (option_map (length {A = ℕ}) (bytes_at (v_is i).heap slot)) 0 else 0)
       ∙ sym (ap (λ b. if b || has_flag flags GMEM_MODIFY then 0 else more) (not_null w handle slot found_in) ∙ ap (λ b. if b then 0 else more) kept
@@ -96,11 +96,11 @@ module _ (w v : Handles) (v_is : v ≡ record w { moved = 0 }) (handle size flag
     by_size answer none = MatchBool none (Empties w handle slot flags answer new) (Resizes w handle slot flags size answer new)
 
     abbrev by_modify : ℕ → Bool → Type 0
-    by_modify answer m = MatchBool m (Again w handle (modified w.heap slot (kind_modified flags)) answer new) (by_size answer (size == 0))
+    by_modify answer m = MatchBool m (AnswersHandle w handle (modified w.heap slot (kind_modified flags)) answer new) (by_size answer (size == 0))
 
     answers : (answer : ℕ) (m : Bool) → has_flag flags GMEM_MODIFY ≡ m → by_modify answer m → GlobalReAllocs w handle size flags answer new
     answers answer m e h = subst (λ b. MatchBool b (IsNull w answer new) (ReAllocsOwn w handle size flags answer new)) (sym (owns_is ∙ free)) (subst (λ p. MatchOption p (IsNull w answer new) (λ slot. MatchBool (has_flag flags GMEM_MODIFY)
-        (Again w handle (modified w.heap slot (kind_modified flags)) answer new)
+        (AnswersHandle w handle (modified w.heap slot (kind_modified flags)) answer new)
         (MatchBool (size == 0) (Empties w handle slot flags answer new) (Resizes w handle slot flags size answer new))))
         (sym found_in) (subst (by_modify answer) (sym e) h))
 
@@ -109,27 +109,27 @@ module _ (w v : Handles) (v_is : v ≡ record w { moved = 0 }) (handle size flag
     answers_modified kind kind_is modify rest = answers handle true modify
         (refl, rest ∙ (λ i. record (v_is i) { heap = modified (v_is i).heap slot (kind_is i) }) ∙ (λ i. record w { heap = modified w.heap slot (kind_modified flags); moved = sym (modified_unmoved w.heap slot (kind_modified flags)) i }))
 
-    module _ (kept : has_flag flags GMEM_MODIFY ≡ false) (some : size ≡ 0 → ⊥) (small : size ≤ LARGEST_SIZE) (n : ℕ) (n_is : n ≡ rounded_size size) (way : Way) (way_is : way ≡ way_asked_again flags) where
-      sized : (answer : ℕ) (answered : Bool) → Reallocates w.heap slot (rounded_size size) (way_asked_again flags) answered new.heap → MatchBool answered (Again w handle new.heap answer new) (IsNull w answer new)
+    module _ (kept : has_flag flags GMEM_MODIFY ≡ false) (some : size ≡ 0 → ⊥) (small : size ≤ LARGEST_SIZE) (n : ℕ) (n_is : n ≡ rounded_size size) (options : RoomOptions) (way_is : options ≡ realloc_options flags) where
+      sized : (answer : ℕ) (answered : Bool) → Reallocates w.heap slot (rounded_size size) (realloc_options flags) answered new.heap → MatchBool answered (AnswersHandle w handle new.heap answer new) (IsNull w answer new)
           → GlobalReAllocs w handle size flags answer new
       sized answer answered r h = answers answer false kept (subst (by_size answer) (sym (ne_eqb size 0 some)) (subst (λ long. MatchBool long (IsNull w answer new)
-          ((answered : Bool) × (heap : Heap) × Reallocates w.heap slot (rounded_size size) (way_asked_again flags) answered heap × MatchBool answered (Again w handle heap answer new) (IsNull w answer new)))
+          ((answered : Bool) × (heap : Heap) × Reallocates w.heap slot (rounded_size size) (realloc_options flags) answered heap × MatchBool answered (AnswersHandle w handle heap answer new) (IsNull w answer new)))
           (sym (le-ltb LARGEST_SIZE size small)) (answered, new.heap, r, h)))
 
-      asked : (answered : Bool) → Reallocates v.heap slot n way answered new.heap → Reallocates w.heap slot (rounded_size size) (way_asked_again flags) answered new.heap
+      asked : (answered : Bool) → Reallocates v.heap slot n options answered new.heap → Reallocates w.heap slot (rounded_size size) (realloc_options flags) answered new.heap
       asked answered h =
           subst (λ x. Reallocates w.heap slot (rounded_size size) x answered new.heap) way_is
-          (subst (λ k. Reallocates w.heap slot k way answered new.heap) n_is
-          (subst (λ (x : Handles). Reallocates x.heap slot n way answered new.heap) v_is h))
+          (subst (λ k. Reallocates w.heap slot k options answered new.heap) n_is
+          (subst (λ (x : Handles). Reallocates x.heap slot n options answered new.heap) v_is h))
 
       -- another size
-      pub answers_bytes : Reallocates v.heap slot n way true new.heap → new ≡ record v { heap = new.heap; moved = moved_bytes v.heap new.heap } → GlobalReAllocs w handle size flags handle new
+      pub answers_bytes : Reallocates v.heap slot n options true new.heap → new ≡ record v { heap = new.heap; moved = moved_bytes v.heap new.heap } → GlobalReAllocs w handle size flags handle new
       answers_bytes h rest = sized handle true (asked true h) (refl, rest ∙ ap (λ (x : Handles). record x { heap = new.heap; moved = moved_bytes x.heap new.heap }) v_is)
 
       -- and none, where there is no room
-      pub answers_no_room : Reallocates v.heap slot n way false new.heap → new ≡ record v { heap = new.heap } → GlobalReAllocs w handle size flags 0 new
+      pub answers_no_room : Reallocates v.heap slot n options false new.heap → new ≡ record v { heap = new.heap } → GlobalReAllocs w handle size flags 0 new
       answers_no_room h rest =
-          let same : new.heap ≡ w.heap = (one_outcome_law w.heap new.heap slot (rounded_size size) (way_asked_again flags) (asked false h)).0 in
+          let same : new.heap ≡ w.heap = (one_outcome_law w.heap new.heap slot (rounded_size size) (realloc_options flags) (asked false h)).0 in
           sized 0 false (asked false h) (refl, rest ∙ ap (λ (x : Handles). record x { heap = new.heap }) v_is ∙ (λ i. record w { heap = same i; moved = 0 }))
 
 -- GlobalDiscard moves nothing,

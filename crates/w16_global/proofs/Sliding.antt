@@ -5,11 +5,11 @@ use Rattle.std.proofs.lemmas.Bool.{false≢true, cases_eq, cases_Bool}
 use Rattle.std.proofs.lemmas.List.{get_or-set_same, get_or-set_other, length-set}
 use Rattle.w16_model.specs.declared.Attributes.{Attributes}
 use Rattle.w16_model.specs.declared.Kind.{Kind}
-use Rattle.w16_model.specs.declared.Way.{Way}
+use Rattle.w16_model.specs.declared.RoomOptions.{RoomOptions}
 use Rattle.w16_model.specs.declared.TheConstants.{FIRST_SLOT}
 use Rattle.w16_model.specs.Heap.{Heap, Object, IsHeap, blocks, object_at, bytes_at}
 use Rattle.w16_model.specs.Changes.{with_newest, with_ordered}
-use Rattle.w16_model.specs.Request.{Allocates, AreNew, Compacts, IsNew, MakesRoom, Request, Settles, compaction_prefix, discarded, most_room, prefix_of, stays_for, moved_bytes}
+use Rattle.w16_model.specs.Request.{Allocates, AreNew, Compacts, IsNew, MakesRoom, Request, Settles, compaction_prefix, discarded, most_room, discards_needed, stays_for, moved_bytes}
 use Rattle.w16_model.specs.declared.Kind.TheVariants.{Discardable}
 use Rattle.w16_model.specs.Discards.{eligible, is_member}
 use Rattle.w16_model.specs.Law.{KeepsOthers}
@@ -102,10 +102,10 @@ pub each_known : {h : Holding} {xs : List (Option Attributes)} {t : selectors.De
 each_known {h} {xs} {t} are slot there = ap is_some (are.described slot) ∙ described_some h.heap (kind_in xs slot) slot ∙ there
 
 -- what an answered request was
-granted : (old : Heap) (h : ℕ) (way : Way) (prefix : Option ℕ) (becomes : Object → Type 0) (order : Object → List ℕ → List ℕ) (new : Heap) → Request old h (record { way = way; prefix = prefix; becomes = becomes; order = order }) true new
-    → (k : ℕ) × (prefix ≡ Some k) × (o : Object) × becomes o × Settles old (stays_for h way) (with_ordered (discarded old k (Some h)) h o (order o)) new
-granted old h way None becomes order new r = absurd (false≢true (sym r.0))
-granted old h way (Some k) becomes order new r = (k, refl, r.1.0, r.1.1, r.1.2)
+granted : (old : Heap) (h : ℕ) (options : RoomOptions) (prefix : Option ℕ) (becomes : Object → Type 0) (order : Object → List ℕ → List ℕ) (new : Heap) → Request old h (record { options = options; prefix = prefix; becomes = becomes; order = order }) true new
+    → (k : ℕ) × (prefix ≡ Some k) × (o : Object) × becomes o × Settles old (stays_for h options) (with_ordered (discarded old k (Some h)) h o (order o)) new
+granted old h options None becomes order new r = absurd (false≢true (sym r.0))
+granted old h options (Some k) becomes order new r = (k, refl, r.1.0, r.1.1, r.1.2)
 
 -- An object with bytes in a free slot, for which others may have been discarded or have slid.
 module _ {h : Holding} {xs : List (Option Attributes)} {t : selectors.DescriptorTable} (are : AreJoined h xs t) (new : Holding) (cap : new.cap ≡ h.cap) (slot : ℕ) (a : Attributes)
@@ -119,12 +119,12 @@ module _ {h : Holding} {xs : List (Option Attributes)} {t : selectors.Descriptor
   in_table : slot < length t
   in_table = subst (λ n. slot < n) (sym are.selectors_many) (let some = are.some in let below = free.0.1 in omega arith)
 
-  module _ (n : ℕ) (kind : Kind) (way : Way) (allocated : Allocates h.heap slot n kind 0 way true new.heap) (has : HasDiscarded h.heap slot n way new.discarded) where
-    s : (k : ℕ) × (prefix_of h.heap n (Some slot) way ≡ Some k) × (o : Object) × IsNew way.zero n kind 0 o × Settles h.heap (stays_for slot way) (with_ordered (discarded h.heap k (Some slot)) slot o (with_newest slot o)) new.heap
-    s = granted h.heap slot way (prefix_of h.heap n (Some slot) way) (IsNew way.zero n kind 0) (with_newest slot) new.heap allocated.request
+  module _ (n : ℕ) (kind : Kind) (options : RoomOptions) (allocated : Allocates h.heap slot n kind 0 options true new.heap) (has : HasDiscarded h.heap slot n options new.discarded) where
+    s : (k : ℕ) × (discards_needed h.heap n (Some slot) options ≡ Some k) × (o : Object) × IsNew options.zero n kind 0 o × Settles h.heap (stays_for slot options) (with_ordered (discarded h.heap k (Some slot)) slot o (with_newest slot o)) new.heap
+    s = granted h.heap slot options (discards_needed h.heap n (Some slot) options) (IsNew options.zero n kind 0) (with_newest slot) new.heap allocated.request
 
     keeps : KeepsOthers h.heap (Some slot) s.0 new.heap
-    keeps = (others_law h.heap new.heap are.handles.heap s.0).0 slot way s.2 (with_newest slot s.2) s.4
+    keeps = (others_law h.heap new.heap are.handles.heap s.0).0 slot options s.2 (with_newest slot s.2) s.4
 
     ids_are : new.discarded ≡ take s.0 (eligible (blocks h.heap) h.heap.order (Some slot))
     ids_are = let same : ◌≡◌ {A = Option ℕ} (Some has.prefix) (Some s.0) = sym has.needed ∙ s.1 in has.listed ∙ ap (λ k. take k (eligible (blocks h.heap) h.heap.order (Some slot))) (let e : has.prefix ≡ s.0 = cc in e)
@@ -139,7 +139,7 @@ module _ {h : Holding} {xs : List (Option Attributes)} {t : selectors.Descriptor
     sized = subst (λ (p : Option Object). IsSomeAnd (elim p as (λ _. Option (List ℕ)) [ Some o ↦ o.bytes | None ↦ None ]) (λ bytes. length bytes ≡ n))
         (sym (ap (λ (g : Heap). object_at g slot) s.4.same ∙ inserted_here (discarded h.heap s.0 (Some slot)).objects slot s.2 slot refl)) (long s.2.bytes s.3.new_bytes)
       where
-        long : (b : Option (List ℕ)) → IsSomeAnd b (AreNew way.zero n) → IsSomeAnd b (λ bytes. length bytes ≡ n)
+        long : (b : Option (List ℕ)) → IsSomeAnd b (AreNew options.zero n) → IsSomeAnd b (λ bytes. length bytes ≡ n)
         long None f = absurd f
         long (Some b) f = f.0
 
@@ -159,7 +159,7 @@ module _ {h : Holding} {xs : List (Option Attributes)} {t : selectors.Descriptor
         let kind_is : kind_at second slot ≡ kind_for (Some a) = ap kind_of (follows slot) ∙ followed_kind new.heap from to first slot made ∙ own ∙ holds_is in
         record {
           handles = subst AreHandles (λ i. record { slots = sym cap i - FIRST_SLOT; heap = new.heap; attributes = sym (attributes_set xs slot a within) i; moved = 0 })
-              (with_new_object (handles_of h xs 0) are.handles a slot s.0 s.2 (with_newest slot s.2) (stays_for slot way) new.heap free.0 s.4);
+              (with_new_object (handles_of h xs 0) are.handles a slot s.0 s.2 (with_newest slot s.2) (stays_for slot options) new.heap free.0 s.4);
           described = λ q. elim (cases_eq q slot) [
             | inl e ↦ ap (λ (l : selectors.DescriptorTable). get_or l q None) taken ∙ ap (λ k. get_or (set second slot (Some d)) k None) e
                 ∙ get_or-set_same second slot (Some d) None (subst (λ k. slot < k) (sym many) in_table)

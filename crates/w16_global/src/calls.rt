@@ -17,12 +17,13 @@ use w16_model::names::{dword_of, handle_of, selector_of, slot_of};
 use w16_model::{
     Attributes, Entry, GMEM_DDESHARE, GMEM_DISCARDABLE, GMEM_DISCARDED, GMEM_MOVEABLE,
     GMEM_NOCOMPACT, GMEM_NODISCARD, GMEM_ZEROINIT, GRAIN, Item, Kind, LARGEST_SIZE, Owned, Owner,
-    Refusal, Way,
+    Refusal, RoomOptions, bit_if, has_flag,
 };
 
 impl Global16 {
-    /// The slot of the object whose handle this is: a call takes the exact handle.
-    pub(crate) fn slot_of_handle(&self, handle: u16) -> Option<u16>
+    /// The slot of the object whose handle this is, exactly: a fixed object's handle is its selector, any other's the number below it
+    /// (GlobalAlloc). None where no object has the handle.
+    pub fn slot_of_handle(&self, handle: u16) -> Option<u16>
         ensures { result ≡ handles.slot_of_handle self.now.handles handle }
     {
         let slot = slot_of(handle);
@@ -98,7 +99,7 @@ impl Global16 {
         ensures written { self.new.written ≡ counted (counted self.old.written self.new.handles.moved) (zeroed flags size result) }
         ensures fewest { AllocFewest self.old.handles flags size result self.new.handles }
     {
-        self.are_handles();
+        self.reveal_handles();
         self.new_object(flags, size)
     }
 
@@ -123,7 +124,7 @@ impl Global16 {
             self.enter(slot, kind, attributes);
             return handle_of(kind, slot);
         }
-        if self.allocate(slot, rounded(size), kind, way_asked(flags), attributes) {
+        if self.allocate(slot, rounded(size), kind, alloc_options(flags), attributes) {
             handle_of(kind, slot)
         } else {
             0
@@ -184,7 +185,7 @@ impl Global16 {
         ensures written { self.new.written ≡ counted self.old.written self.new.handles.moved }
         ensures fewest { CompactsFewest self.old.handles.heap size result self.new.handles.heap }
     {
-        self.are_handles();
+        self.reveal_handles();
         self.compact(size)
     }
 
@@ -231,8 +232,8 @@ impl Global16 {
         self.walk_from(from)
     }
 
-    /// Does nothing: what always holds of the handles, and so that they have a walk.
-    pub fn are_handles(&self)
+    /// Tells the prover what always holds of the handles, so also that they have a walk. It does nothing else.
+    pub fn reveal_handles(&self)
         ensures { AreHandles self.now.handles }
     {
         let _ = &self.objects;
@@ -337,13 +338,6 @@ impl Global16 {
     }
 }
 
-/// Whether a flag is given.
-pub(crate) fn has_flag(flags: u16, flag: u16) -> bool
-    ensures { result ≡ calls.has_flag flags flag }
-{
-    flags & flag != 0
-}
-
 /// The kind of object that flags ask for. Only a moveable one can be discardable.
 fn kind_asked(flags: u16) -> Kind
     ensures { result ≡ calls.kind_asked flags }
@@ -358,10 +352,10 @@ fn kind_asked(flags: u16) -> Kind
 }
 
 /// How flags let room be made.
-pub(crate) fn way_asked(flags: u16) -> Way
-    ensures { result ≡ calls.way_asked flags }
+pub(crate) fn alloc_options(flags: u16) -> RoomOptions
+    ensures { result ≡ calls.alloc_options flags }
 {
-    Way {
+    RoomOptions {
         compact: !has_flag(flags, GMEM_NOCOMPACT),
         discard: !has_flag(flags, GMEM_NODISCARD),
         zero: has_flag(flags, GMEM_ZEROINIT),
@@ -387,18 +381,11 @@ pub(crate) fn rounded(size: u32) -> u32
     size.div_ceil(GRAIN) * GRAIN
 }
 
-/// A bit, where it is set.
-fn bit_if(set: bool, bit: u16) -> u16
-    ensures { result ≡ if set then bit else 0 }
-{
-    if set { bit } else { 0 }
-}
-
 /// What `GlobalFlags` says of an object.
 fn flags_of(entry: Entry, shared: bool, absent: bool) -> u16
     ensures { result ≡ entry.locks + (if is_discardable entry.kind then GMEM_DISCARDABLE else 0) + (if shared then GMEM_DDESHARE else 0) + (if absent then GMEM_DISCARDED else 0) }
 {
-    let discardable = bit_if(entry.kind == Kind::Discardable, GMEM_DISCARDABLE);
+    let discardable = bit_if(entry.kind.is_discardable(), GMEM_DISCARDABLE);
     entry.locks as u16
         + discardable
         + bit_if(shared, GMEM_DDESHARE)

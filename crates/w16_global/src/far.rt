@@ -75,7 +75,7 @@ impl Global16 {
     }
 }
 
-/// So many as a double word, or the largest, which is more bytes than any object has.
+/// `n` as a `u32`, saturating: the largest `u32` is more bytes than any object has.
 fn count_of(n: usize) -> u32
     ensures { result ≡ min n 4294967295 }
 {

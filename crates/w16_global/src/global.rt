@@ -16,7 +16,7 @@ use crate::follow::{follow, forget};
 use crate::objects::Objects;
 use std::alloc::{AllocError, Global};
 use std::marker::Model;
-use w16_model::{Attributes, FIRST_SLOT, GRAIN, Kind, MOST_SLOTS, Refusal, Way};
+use w16_model::{Attributes, FIRST_SLOT, GRAIN, Kind, MOST_SLOTS, Refusal, RoomOptions};
 use w16_selectors::{SelKind, Selectors};
 
 /// The global heap: objects that are named by handles, and whose bytes are reached through selectors. Its value is `Global`: the handles, and
@@ -77,29 +77,29 @@ impl Global16 {
         self.selectors.take(slot, kind_for(attributes));
     }
 
-    /// A new object in a free slot, of so many bytes, a multiple of the grain, if there is room for it as the way has it. The selectors of
+    /// A new object in a free slot, of so many bytes, a multiple of the grain, if there is room for it as the options have it. The selectors of
     /// objects that were discarded for it, or have slid, follow.
     pub(crate) fn allocate(
         &mut self,
         slot: u16,
         size: u32,
         kind: Kind,
-        way: Way,
+        options: RoomOptions,
         attributes: Attributes,
     ) -> bool
         requires free { IsFreeSlot self.old.handles slot }
         requires some { 0 < size }
         requires rounded { IsMultiple GRAIN size }
         requires sized { joined.HasSize (Some attributes) }
-        ensures allocated { Allocates self.old.handles.heap slot size kind 0 way result self.new.handles.heap }
+        ensures allocated { Allocates self.old.handles.heap slot size kind 0 options result self.new.handles.heap }
         ensures rest { self.new.handles ≡ record self.old.handles {
           heap = self.new.handles.heap;
           attributes = if result then finmap.insert self.old.handles.attributes slot attributes else self.old.handles.attributes;
           moved = if result then moved_bytes self.old.handles.heap self.new.handles.heap else self.old.handles.moved;
         } }
-        ensures written { self.new.written ≡ (if result then counted (counted self.old.written self.new.handles.moved) (if way.zero then size else 0) else self.old.written) }
+        ensures written { self.new.written ≡ (if result then counted (counted self.old.written self.new.handles.moved) (if options.zero then size else 0) else self.old.written) }
     {
-        let Some(placed) = self.objects.alloc(slot as u32, size, kind, way) else {
+        let Some(placed) = self.objects.alloc(slot as u32, size, kind, options) else {
             return false;
         };
         self.moved = placed.moved as u32;
@@ -111,21 +111,21 @@ impl Global16 {
         true
     }
 
-    /// So many bytes, above 0 and a multiple of the grain, for an object that is there, if there is room for them as the way has it. Its
+    /// So many bytes, above 0 and a multiple of the grain, for an object that is there, if there is room for them as the options have it. Its
     /// selector follows, and so do those of objects that were discarded for it, or have slid.
-    pub(crate) fn reallocate(&mut self, slot: u16, size: u32, way: Way) -> bool
+    pub(crate) fn reallocate(&mut self, slot: u16, size: u32, options: RoomOptions) -> bool
         requires object { IsSome (object_at self.old.handles.heap slot) }
         requires some { 0 < size }
         requires rounded { IsMultiple GRAIN size }
-        ensures reallocated { Reallocates self.old.handles.heap slot size way result self.new.handles.heap }
+        ensures reallocated { Reallocates self.old.handles.heap slot size options result self.new.handles.heap }
         ensures rest { self.new.handles ≡ record self.old.handles {
           heap = self.new.handles.heap;
           moved = if result then moved_bytes self.old.handles.heap self.new.handles.heap else self.old.handles.moved;
         } }
         ensures written { self.new.written ≡ (if result then counted (counted self.old.written self.new.handles.moved)
-            (if way.zero then size - unwrap_or (option_map length (bytes_at self.old.handles.heap slot)) 0 else 0) else self.old.written) }
+            (if options.zero then size - unwrap_or (option_map length (bytes_at self.old.handles.heap slot)) 0 else 0) else self.old.written) }
     {
-        let Some(place) = self.objects.realloc(slot as u32, size, way) else {
+        let Some(place) = self.objects.realloc(slot as u32, size, options) else {
             return false;
         };
         self.moved = place.moved as u32;

@@ -8,6 +8,7 @@ ghost use Rattle.w16_region.specs.Bytes.{counted};
 ghost use Rattle.w16_global.specs.Lent.{Lends};
 
 use crate::global::Global16;
+use w16_region::{Space, Window};
 
 /// Something that is done to an object's bytes, and to a state beside them. A loan out of a value that has an invariant can't be followed past
 /// the call that lends it; so a caller hands its work in.
@@ -20,15 +21,28 @@ pub trait Work {
     /// When it may be done: the work, the state and the bytes.
     ghost may: { Self → Self.State → List ℕ → Type 0 };
 
-    /// What it does: the work, the state and the bytes before it, its answer, and the state and the bytes after it.
-    ghost does: { Self → Self.State → List ℕ → Self.Answer → Self.State → List ℕ → Type 0 };
+    /// What it does: the work, the state and the bytes before it, its answer, and the state and the bytes after it; and how many bytes counted
+    /// as written before it, and after it. So what it writes is told also where it puts the old bytes back.
+    ghost does: { Self → Self.State → List ℕ → Self.Answer → Self.State → List ℕ → ℕ → ℕ → Type 0 };
 
-    /// Does it. There are as many bytes after it as before it.
-    fn work(&self, state: &mut Self::State, bytes: &mut [u8]) -> Self::Answer
-        requires small { length bytes.old < 2 ^ 32 }
-        requires may { may self.now state.old bytes.old }
-        ensures long { length bytes.new ≡ length bytes.old }
-        ensures done { does self.now state.old bytes.old result state.new bytes.new };
+    /// Does it over a space of these bytes. There are as many after it as before it.
+    fn work<S: Space>(&self, state: &mut Self::State, space: &mut S) -> Self::Answer
+        requires small { length (S.bytes space.old) < 2 ^ 32 }
+        requires may { may self.now state.old (S.bytes space.old) }
+        ensures long { length (S.bytes space.new) ≡ length (S.bytes space.old) }
+        ensures loans { S.lenders space.new ≡ S.lenders space.old }
+        ensures done { does self.now state.old (S.bytes space.old) result state.new (S.bytes space.new) (S.written space.old) (S.written space.new) };
+}
+
+/// Does a work over a slice, which is lent to it as a window whose count begins at 0.
+pub(crate) fn work_over<W: Work>(work: &W, state: &mut W::State, bytes: &mut [u8]) -> W::Answer
+    requires small { length bytes.old < 2 ^ 32 }
+    requires may { W.may work.now state.old bytes.old }
+    ensures long { length bytes.new ≡ length bytes.old }
+    ensures done { (count : ℕ) × W.does work.now state.old bytes.old result state.new bytes.new 0 count }
+{
+    let mut window = Window::new(bytes);
+    work.work(state, &mut window)
 }
 
 /// An object with bytes: its slot, how many they are, and whether it is code.
@@ -56,7 +70,7 @@ impl Global16 {
     /// All bytes that are lent count as written.
     pub fn with_bytes<W: Work>(&mut self, slot: u16, work: &W, state: &mut W::State) -> W::Answer
         requires { IsSomeAnd (bytes_at self.old.handles.heap slot) (λ bytes. W.may work.now state.old bytes) }
-        ensures { (lent : Lends self.old.handles.heap slot (λ bytes after. W.does work.now state.old bytes result state.new after))
+        ensures { (lent : Lends self.old.handles.heap slot (λ bytes after. (count : ℕ) × W.does work.now state.old bytes result state.new after 0 count))
             × (self.new ≡ record self.old {
               handles = record self.old.handles { heap = after_write self.old.handles.heap slot 0 lent.after };
               written = counted self.old.written (length lent.bytes);

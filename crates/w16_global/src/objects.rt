@@ -14,13 +14,13 @@ ghost use Rattle.w16_arena.specs.Asked.{HasDiscarded, HasDiscardedFor, IsStill, 
 ghost use Rattle.w16_global.specs.Lent.{Lends};
 ghost use Rattle.w16_global.specs.Parts.{HasPart};
 
-use crate::lend::Work;
+use crate::lend::{Work, work_over};
 use std::alloc::{AllocError, Global};
 use std::marker::Model;
 use w16_arena::{Arena, Compacted, Placed};
 use w16_holes::ThreadedHoles;
-use w16_model::{Block, Entry, GRAIN, Item, Kind, Refusal, Way};
-use w16_region::{Region, Space, has_bytes};
+use w16_model::{Block, Entry, GRAIN, Item, Kind, Refusal, RoomOptions};
+use w16_region::{Region, Space, reveal_bytes};
 
 /// The objects of the global heap: where they are, and their bytes. Its holes are kept in the free bytes.
 #[derive(Drop)]
@@ -51,7 +51,7 @@ impl Objects {
         let mut memory = Region::new(alloc, size)?;
         let holes = ThreadedHoles::new(alloc, &mut memory, 0, size, GRAIN)?;
         let arena = Arena::new(alloc, cap, holes, 0, size, GRAIN)?;
-        has_bytes(&memory);
+        reveal_bytes(&memory);
         Ok(Objects { arena, memory })
     }
 
@@ -91,50 +91,53 @@ impl Objects {
         self.arena.walk_from(&self.memory, from)
     }
 
-    /// A new object of so many bytes, a multiple of the grain, if there is room for it as the way has it.
-    pub fn alloc(&mut self, id: u32, size: u32, kind: Kind, way: Way) -> Option<Placed>
+    /// A new object of so many bytes, a multiple of the grain, if there is room for it as the options have it.
+    pub fn alloc(&mut self, id: u32, size: u32, kind: Kind, options: RoomOptions) -> Option<Placed>
         requires id { id < self.old.cap }
         requires free { object_at self.old.heap id ≡ None }
         requires some { 0 < size }
         requires rounded { IsMultiple GRAIN size }
-        ensures allocated { Allocates self.old.heap id size kind 0 way (is_some result) self.new.heap }
+        ensures allocated { Allocates self.old.heap id size kind 0 options (is_some result) self.new.heap }
         ensures placed { IfSome result (λ p. finmap.get self.new.heap.places id ≡ Some p.at) }
         ensures inside { IfSome result (λ p. p.at + size < 2 ^ 32) }
-        ensures discarded { IfSome result (λ _. HasDiscarded self.old.heap id size way self.new.discarded) }
+        ensures discarded { IfSome result (λ _. HasDiscarded self.old.heap id size options self.new.discarded) }
         ensures still { IfSome result (λ p. (q : ℕ) → q ≢ id → IsStill p.slid self.old.heap self.new.heap q) }
         ensures moved { IfSome result (λ p. p.moved ≡ moved_bytes self.old.heap self.new.heap) }
         ensures few { IfSome result (λ p. p.moved < 2 ^ 32) }
-        ensures written { IfSome result (λ p. self.new.written ≡ counted (counted self.old.written p.moved) (if way.zero then size else 0)) }
+        ensures written { IfSome result (λ p. self.new.written ≡ counted (counted self.old.written p.moved) (if options.zero then size else 0)) }
         ensures cap { self.new.cap ≡ self.old.cap }
         ensures refused { IfNone result (self.new ≡ self.old) }
     {
         let placed = self
             .arena
-            .alloc(&mut self.memory, id, size, kind, way)
+            .alloc(&mut self.memory, id, size, kind, options)
             .ok()?;
-        has_bytes(&self.memory);
+        reveal_bytes(&self.memory);
         Some(placed)
     }
 
-    /// So many bytes for an object that is there, above 0 and a multiple of the grain, if there is room for them as the way has it.
-    pub fn realloc(&mut self, id: u32, size: u32, way: Way) -> Option<Placed>
+    /// So many bytes for an object that is there, above 0 and a multiple of the grain, if there is room for them as the options have it.
+    pub fn realloc(&mut self, id: u32, size: u32, options: RoomOptions) -> Option<Placed>
         requires object { IsSome (object_at self.old.heap id) }
         requires some { 0 < size }
         requires rounded { IsMultiple GRAIN size }
-        ensures reallocated { Reallocates self.old.heap id size way (is_some result) self.new.heap }
+        ensures reallocated { Reallocates self.old.heap id size options (is_some result) self.new.heap }
         ensures placed { IfSome result (λ p. finmap.get self.new.heap.places id ≡ Some p.at) }
         ensures inside { IfSome result (λ p. p.at + size < 2 ^ 32) }
-        ensures discarded { IfSome result (λ _. HasDiscardedFor self.old.heap id size way self.new.discarded) }
+        ensures discarded { IfSome result (λ _. HasDiscardedFor self.old.heap id size options self.new.discarded) }
         ensures still { IfSome result (λ p. (q : ℕ) → q ≢ id → IsStill p.slid self.old.heap self.new.heap q) }
         ensures moved { IfSome result (λ p. p.moved ≡ moved_bytes self.old.heap self.new.heap) }
         ensures few { IfSome result (λ p. p.moved < 2 ^ 32) }
         ensures written { IfSome result (λ p. self.new.written ≡ counted (counted self.old.written p.moved)
-            (if way.zero then size - unwrap_or (option_map length (bytes_at self.old.heap id)) 0 else 0)) }
+            (if options.zero then size - unwrap_or (option_map length (bytes_at self.old.heap id)) 0 else 0)) }
         ensures cap { self.new.cap ≡ self.old.cap }
         ensures refused { IfNone result (self.new ≡ self.old) }
     {
-        let place = self.arena.realloc(&mut self.memory, id, size, way).ok()?;
-        has_bytes(&self.memory);
+        let place = self
+            .arena
+            .realloc(&mut self.memory, id, size, options)
+            .ok()?;
+        reveal_bytes(&self.memory);
         Some(place)
     }
 
@@ -158,7 +161,7 @@ impl Objects {
         ensures cap { self.new.cap ≡ self.old.cap }
     {
         let compacted = self.arena.compact(&mut self.memory, n);
-        has_bytes(&self.memory);
+        reveal_bytes(&self.memory);
         compacted
     }
 
@@ -176,7 +179,7 @@ impl Objects {
         ensures { self.new ≡ record self.old { heap = removed self.old.heap id } }
     {
         self.arena.release(&mut self.memory, id);
-        has_bytes(&self.memory);
+        reveal_bytes(&self.memory);
     }
 
     /// A discardable object that isn't locked gives up its bytes, if it has any.
@@ -187,7 +190,7 @@ impl Objects {
         ensures written { self.new.written ≡ self.old.written }
     {
         let discarded = self.arena.discard(&mut self.memory, id);
-        has_bytes(&self.memory);
+        reveal_bytes(&self.memory);
         discarded
     }
 
@@ -285,14 +288,14 @@ impl Objects {
     /// Does a work on an object's bytes.
     pub fn with_bytes<W: Work>(&mut self, id: u32, work: &W, state: &mut W::State) -> W::Answer
         requires { IsSomeAnd (bytes_at self.old.heap id) (λ bytes. W.may work.now state.old bytes) }
-        ensures { (lent : Lends self.old.heap id (λ bytes after. W.does work.now state.old bytes result state.new after))
+        ensures { (lent : Lends self.old.heap id (λ bytes after. (count : ℕ) × W.does work.now state.old bytes result state.new after 0 count))
             × (self.new ≡ record self.old { heap = after_write self.old.heap id 0 lent.after; written = counted self.old.written (length lent.bytes) }) }
     {
         let Some(block) = self.arena.block(id) else {
             unreachable!();
         };
-        let answer = work.work(state, self.memory.view_mut(block.at, block.size));
-        has_bytes(&self.memory);
+        let answer = work_over(work, state, self.memory.view_mut(block.at, block.size));
+        reveal_bytes(&self.memory);
         answer
     }
 

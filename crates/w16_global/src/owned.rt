@@ -11,10 +11,10 @@ ghost use Rattle.w16_global.specs.Owned.{LacksBytes};
 
 use crate::global::Global16;
 use w16_model::names::handle_of;
-use w16_model::{Attributes, GRAIN, Kind, Owned, Way};
+use w16_model::{Attributes, GRAIN, Kind, Owned, RoomOptions};
 
 /// Others may slide and be discarded, as for an allocation with no flags.
-const ANY_WAY: Way = Way {
+const REVIVAL_OPTIONS: RoomOptions = RoomOptions {
     compact: true,
     discard: true,
     zero: false,
@@ -61,7 +61,7 @@ impl Global16 {
             return false;
         }
         let moved = self.moved;
-        let revived = self.reallocate(slot, owned.size, ANY_WAY);
+        let revived = self.reallocate(slot, owned.size, REVIVAL_OPTIONS);
         self.moved = moved;
         revived
     }

@@ -5,9 +5,11 @@ ghost use Rattle.w16_model.specs.Resizes as resizes;
 ghost use Rattle.w16_region.specs.Bytes.{counted};
 ghost use Rattle.w16_global.specs.Joined.{zeroed_behind};
 
-use crate::calls::{has_flag, rounded, way_asked};
+use crate::calls::{alloc_options, rounded};
 use crate::global::Global16;
-use w16_model::{GMEM_DISCARDABLE, GMEM_MODIFY, GMEM_MOVEABLE, Kind, LARGEST_SIZE, Way};
+use w16_model::{
+    GMEM_DISCARDABLE, GMEM_MODIFY, GMEM_MOVEABLE, Kind, LARGEST_SIZE, RoomOptions, has_flag,
+};
 
 impl Global16 {
     /// `GlobalReAlloc`: the handle, or 0 where it is bad, a module owns the object, or the request is refused, and then nothing has changed.
@@ -23,11 +25,11 @@ impl Global16 {
         ensures written { self.new.written ≡ counted (counted self.old.written self.new.handles.moved) (zeroed_behind self.old.handles handle size flags result) }
         ensures fewest { resizes.ReallocFewest self.old.handles handle size flags result self.new.handles }
     {
-        self.are_handles();
+        self.reveal_handles();
         self.change_object(handle, size, flags)
     }
 
-    /// The same: another size or kind for an object, and its handle.
+    /// Does what `global_realloc` says. Its contract leaves out that it discards as few objects as it can.
     fn change_object(&mut self, handle: u16, size: u32, flags: u16) -> u16
         ensures step { resizes.GlobalReAllocs self.old.handles handle size flags result self.new.handles }
         ensures written { self.new.written ≡ counted (counted self.old.written self.new.handles.moved) (zeroed_behind self.old.handles handle size flags result) }
@@ -44,12 +46,12 @@ impl Global16 {
             return handle;
         }
         if size == 0 {
-            return self.empty(slot, handle, flags);
+            return self.realloc_to_zero(slot, handle, flags);
         }
         if size > LARGEST_SIZE {
             return 0;
         }
-        if self.reallocate(slot, rounded(size), way_asked_again(flags)) {
+        if self.reallocate(slot, rounded(size), realloc_options(flags)) {
             handle
         } else {
             0
@@ -57,7 +59,7 @@ impl Global16 {
     }
 
     /// The same for a size of 0: the handle of an object that was discarded, or 0. Nothing is moved.
-    fn empty(&mut self, slot: u16, handle: u16, flags: u16) -> u16
+    fn realloc_to_zero(&mut self, slot: u16, handle: u16, flags: u16) -> u16
         requires object { IsSome (object_at self.old.handles.heap slot) }
         requires unmoved { self.old.handles.moved ≡ 0 }
         ensures step { resizes.Empties self.old.handles handle slot flags result self.new.handles }
@@ -84,12 +86,12 @@ impl Global16 {
 }
 
 /// How flags of a reallocation let room be made: with `GMEM_MOVEABLE` the object itself may be moved, fixed or locked.
-fn way_asked_again(flags: u16) -> Way
-    ensures { result ≡ resizes.way_asked_again flags }
+fn realloc_options(flags: u16) -> RoomOptions
+    ensures { result ≡ resizes.realloc_options flags }
 {
-    Way {
+    RoomOptions {
         may_move: has_flag(flags, GMEM_MOVEABLE),
-        ..way_asked(flags)
+        ..alloc_options(flags)
     }
 }
 

@@ -117,10 +117,10 @@ mod discards;
 mod growth;
 mod scripts;
 
-use w16_model::Way;
+use w16_model::RoomOptions;
 
 /// A request that moves no other object.
-const AS_IT_STANDS: Way = Way {
+const AS_IT_STANDS: RoomOptions = RoomOptions {
     compact: false,
     discard: false,
     zero: false,
@@ -128,14 +128,14 @@ const AS_IT_STANDS: Way = Way {
 };
 
 /// A request that discards no other object.
-const SLIDING: Way = Way {
+const SLIDING: RoomOptions = RoomOptions {
     compact: true,
     discard: false,
     zero: false,
     may_move: false,
 };
 
-const DISCARDING: Way = Way {
+const DISCARDING: RoomOptions = RoomOptions {
     compact: true,
     discard: true,
     zero: false,

@@ -38,30 +38,30 @@ mod growth;
 mod holes;
 mod placed;
 
-use w16_model::Way;
+use w16_model::RoomOptions;
 
-const ANY_WAY: Way = Way {
+const REVIVAL_OPTIONS: RoomOptions = RoomOptions {
     compact: true,
     discard: true,
     zero: false,
     may_move: false,
 };
 
-const MAY_MOVE: Way = Way {
+const MAY_MOVE: RoomOptions = RoomOptions {
     compact: true,
     discard: true,
     zero: false,
     may_move: true,
 };
 
-const NO_DISCARD: Way = Way {
+const NO_DISCARD: RoomOptions = RoomOptions {
     compact: true,
     discard: false,
     zero: false,
     may_move: false,
 };
 
-const NO_COMPACT: Way = Way {
+const NO_COMPACT: RoomOptions = RoomOptions {
     compact: false,
     discard: true,
     zero: false,

@@ -32,11 +32,11 @@ use Rattle.w16_machine.proofs.Worlds.{world_kept}
 use Rattle.w16_local.specs.Parts.{with_parts}
 use Rattle.w16_kernel.specs.declared.call.Reply.{Reply}
 use Rattle.w16_kernel.specs.Runs.{reply_of}
-use Rattle.w16_kernel.specs.Parts.{KernelStep, Unswept, may_take_bytes, swept, world_of}
+use Rattle.w16_kernel.specs.Parts.{KernelStep, Unswept, may_take_bytes, surviving_heaps, world_of}
 
 -- the world that the sweep leaves
-abbrev pub with_swept : World → Command → World
-with_swept w command = record w { heaps = swept (may_take_bytes command) w.loading.handles.heap w.heaps }
+abbrev pub with_surviving : World → Command → World
+with_surviving w command = record w { heaps = surviving_heaps (may_take_bytes command) w.loading.handles.heap w.heaps }
 
 -- a format that accepts no file: what doesn't depend on the format is told by it
 pub no_format : Format
@@ -81,25 +81,25 @@ module _ (handles : Handles) (heaps : FinMap nat_cmp Table) (ds : ℕ) (files : 
 
     -- heaps go behind a step that may take bytes, and behind any other none has to
     ended : (format : Format) (command : LoadingCommand) (reply : printed.Reply) → OnHandles handles command reply next → left ≡ heaps → LoadingStep format old.loading command reply mid.loading → AnyStep old.loading command reply mid.loading
-        → swept (may_take_bytes (OfLoading command)) next.heap left ≡ left_in next.heap heaps
+        → surviving_heaps (may_take_bytes (OfLoading command)) next.heap left ≡ left_in next.heap heaps
     ended format command reply s same step any = turn command (λ none. heaps_law format old (after_loading old mid.loading) command reply is.heaps none (record { any = any; exact = λ _. step }, refl)) s
       where
         left_is : left_in next.heap left ≡ left_in next.heap heaps
         left_is = ap (left_in next.heap) same
 
-        by_calls : (b : Bool) → (b ≡ false → left_in next.heap heaps ≡ heaps) → swept b next.heap left ≡ left_in next.heap heaps
+        by_calls : (b : Bool) → (b ≡ false → left_in next.heap heaps ≡ heaps) → surviving_heaps b next.heap left ≡ left_in next.heap heaps
         by_calls true stay = left_is
         by_calls false stay = same ∙ sym (stay refl)
 
         turn : (command : LoadingCommand) → (step_may_take old.loading command ≡ false → left_in next.heap heaps ≡ heaps) → OnHandles handles command reply next
-            → swept (may_take_bytes (OfLoading command)) next.heap left ≡ left_in next.heap heaps
+            → surviving_heaps (may_take_bytes (OfLoading command)) next.heap left ≡ left_in next.heap heaps
         turn (OfHandles command) stay s = by_calls (call_may_take command) stay
         turn (OfResizes command) stay s = left_is
         turn (OfFar command) stay s = same ∙ sym (stay (nothing_met command))
         turn (OfModules command) stay s = absurd s
         turn (OfResources command) stay s = absurd s
 
-    swept_step : (command : Command) (reply : printed.Reply) → Unswept old command reply mid → KernelStep old command reply (with_swept mid command)
+    swept_step : (command : Command) (reply : printed.Reply) → Unswept old command reply mid → KernelStep old command reply (with_surviving mid command)
     swept_step (OfLocals command) reply step format = step
     swept_step (OfLoading command) reply step format =
         let made : LoadingStep format old.loading command reply mid.loading = handles_step format old.loading next command reply (nothing_read command reply next step.0) step.0 in
@@ -108,11 +108,11 @@ module _ (handles : Handles) (heaps : FinMap nat_cmp Table) (ds : ℕ) (files : 
 
     -- What the kernel tells of a reply: the step, that it discards as few as it can, and that it leaves a world.
     module _ (command : Command) (reply : Reply) (step : (rest : World) → Unswept (with_parts rest handles heaps ds) command (reply_of reply) (with_parts rest next left chosen)) where
-      pub told_step : KernelStep old command (reply_of reply) (with_swept mid command)
+      pub told_step : KernelStep old command (reply_of reply) (with_surviving mid command)
       told_step = swept_step command (reply_of reply) (step old)
 
-      pub told_fewest : IsFewest old (record { command = command; reply = reply_of reply; after = with_swept mid command })
-      told_fewest = step_fewest (Unit {0}) no_format old (record { command = command; reply = reply_of reply; after = with_swept mid command }) is (told_step no_format)
+      pub told_fewest : IsFewest old (record { command = command; reply = reply_of reply; after = with_surviving mid command })
+      told_fewest = step_fewest (Unit {0}) no_format old (record { command = command; reply = reply_of reply; after = with_surviving mid command }) is (told_step no_format)
 
-      pub told_world : IsCommand command → IsWorld (with_swept mid command)
-      told_world known = world_kept (Unit {0}) no_format old (with_swept mid command) command (reply_of reply) is known (told_step no_format)
+      pub told_world : IsCommand command → IsWorld (with_surviving mid command)
+      told_world known = world_kept (Unit {0}) no_format old (with_surviving mid command) command (reply_of reply) is known (told_step no_format)

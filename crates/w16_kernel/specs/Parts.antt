@@ -42,8 +42,8 @@ may_take_bytes (OfLoading (OfResources command)) = resources_may_take command
 may_take_bytes (OfLocals command) = false
 
 -- the local heaps that are left where bytes may have been taken
-abbrev pub swept : Bool → Heap → FinMap nat_cmp Table → FinMap nat_cmp Table
-swept may_take heap tables = if may_take then left_in heap tables else tables
+abbrev pub surviving_heaps : Bool → Heap → FinMap nat_cmp Table → FinMap nat_cmp Table
+surviving_heaps may_take heap tables = if may_take then left_in heap tables else tables
 
 -- One step of the machine, with no premise on the store: where no module is loaded, no file is read, and so it is one whatever the format of
 -- module files is.

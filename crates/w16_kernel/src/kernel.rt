@@ -79,7 +79,7 @@ impl<S: Store + Drop> Kernel<S> {
     {
         let reply = step(&mut self.global, &mut self.locals, &mut self.ds, call, room)?;
         sweep(&mut self.locals, &self.global, call);
-        self.global.are_handles();
+        self.global.reveal_handles();
         Ok(reply)
     }
 
@@ -88,7 +88,7 @@ impl<S: Store + Drop> Kernel<S> {
     pub fn walk_at(&self, i: usize) -> Option<Item>
         ensures { (items : List Item) × IsWorldWalk self.now items × (result ≡ slice_get items i) }
     {
-        self.global.are_handles();
+        self.global.reveal_handles();
         self.global.walk(i)
     }
 
@@ -101,7 +101,7 @@ impl<S: Store + Drop> Kernel<S> {
         // All parts together are the walk of the world.
         ensures whole { (items : List Item) × IsWorldWalk self.now items }
     {
-        self.global.are_handles();
+        self.global.reveal_handles();
         self.global.walk_from(from)
     }
 

@@ -9,7 +9,7 @@ ghost use Rattle.w16_machine.specs.World.{World};
 ghost use Rattle.w16_machine.specs.Machine.{IsCommand};
 ghost use Rattle.w16_local.specs.Parts.{with_parts};
 ghost use Rattle.w16_kernel.specs.Runs.{command_of, reply_of, IsCall, IsReply, TakesMemory};
-ghost use Rattle.w16_kernel.specs.Parts.{Unswept, may_take_bytes, swept};
+ghost use Rattle.w16_kernel.specs.Parts.{Unswept, may_take_bytes, surviving_heaps};
 
 use crate::call::{Call, MOST_READ, Reply};
 use std::alloc::AllocError;
@@ -54,13 +54,13 @@ fn fill(global: &mut Global16, pointer: u32, count: u32, byte: u8) -> Reply<'sta
 fn part_count(global: &Global16) -> u32
     ensures { (items : List Item) × IsWalk handle_of global.now.handles.heap items × (result ≡ length items) }
 {
-    global.are_handles();
+    global.reveal_handles();
     global.walk_len()
 }
 
 /// Takes away the local heaps whose segments a call may have taken bytes of.
 pub fn sweep(locals: &mut LocalHeaps, global: &Global16, call: &Call<'_>)
-    ensures { locals.new ≡ swept (may_take_bytes (command_of call.now)) global.now.handles.heap locals.old }
+    ensures { locals.new ≡ surviving_heaps (may_take_bytes (command_of call.now)) global.now.handles.heap locals.old }
 {
     if call.may_take_bytes() {
         locals.sweep(global);

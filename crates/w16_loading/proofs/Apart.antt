@@ -6,7 +6,7 @@ use Rattle.w16_model.proofs.KeptHeaps.{inserted_here, inserted_other}
 use Rattle.w16_loading.specs.File.{Resource, numbered}
 use Rattle.w16_loading.specs.Modules.{LoadingWorld, Load, Module, Named, module_at, module_in, imports, importers}
 use Rattle.w16_loading.specs.Modules.Named.{Loaded}
-use Rattle.w16_loading.specs.Free.{Go, used_less, is_left_over, swept}
+use Rattle.w16_loading.specs.Free.{Go, used_less, is_left_over, without_orphans}
 use Rattle.w16_loading.specs.Law.{IsLoadingWorld, IsLoad, UsesApartLaw}
 use Rattle.w16_loading.proofs.Given.{loaded_is}
 use Rattle.w16_loading.proofs.Absences.{all_retained, none_gone, put_same}
@@ -77,8 +77,8 @@ module _ (old : LoadingWorld) (is : IsLoadingWorld old) (handle : ℕ) (m : Modu
       turn None h = refl
       turn (Some load) h = ap not (there_still load.handle (has_module load.place _ (module_at old.modules load.handle) h.resource))
 
-  same_swept : swept less ≡ less
-  same_swept = (λ i. record (none_gone (is_left_over less) less none_over i) { loads = finmap.retain_keys less.loads (λ q. not (is_left_over less q)) })
+  same_without : without_orphans less ≡ less
+  same_without = (λ i. record (none_gone (is_left_over less) less none_over i) { loads = finmap.retain_keys less.loads (λ q. not (is_left_over less q)) })
       ∙ (λ i. record less { loads = all_retained less.loads (is_left_over less) none_over i })
 
   unused_same : m.uses ≡ 0 → less ≡ old
@@ -90,8 +90,8 @@ module _ (old : LoadingWorld) (is : IsLoadingWorld old) (handle : ℕ) (m : Modu
 pub uses_apart_law : UsesApartLaw
 uses_apart_law old new handle answer m is at imported f = record {
   answered = f.ended.answered ∙ ap (λ b. cond b 1 0) (ap (λ (w : LoadingWorld). finmap.contains_key w.modules handle) left ∙ ap is_some (inserted_here old.modules handle (Loaded (record m { uses = m.uses - 1 })) handle refl));
-  less = f.after ∙ ap swept left ∙ same_swept old is handle m loaded ∙ sym (is_less old is handle m loaded);
-  unused = λ e. f.after ∙ ap swept left ∙ same_swept old is handle m loaded ∙ unused_same old is handle m loaded e;
+  less = f.after ∙ ap without_orphans left ∙ same_without old is handle m loaded ∙ sym (is_less old is handle m loaded);
+  unused = λ e. f.after ∙ ap without_orphans left ∙ same_without old is handle m loaded ∙ unused_same old is handle m loaded e;
 }
   where
     loaded : finmap.get old.modules handle ≡ Some (Loaded m)

@@ -21,7 +21,7 @@ use Rattle.w16_loading.specs.Modules.{LoadingWorld, Load, Module, Modules, modul
 use Rattle.w16_loading.specs.Modules.Named.{Loaded, BuiltIn}
 use Rattle.w16_loading.specs.Release.{without_objects}
 use Rattle.w16_loading.specs.Fetch.{Fetches, is_code, far_read, far_write}
-use Rattle.w16_loading.specs.Free.{Go, Frees, used_less, without_module, swept, is_left_over}
+use Rattle.w16_loading.specs.Free.{Go, Frees, used_less, without_module, without_orphans, is_left_over}
 use Rattle.w16_model.specs.declared.Attributes.{Attributes}
 use Rattle.w16_model.specs.Owned.{owned_in, refuses_write}
 use Rattle.w16_loading.proofs.OwnedKept.{locked as owned_locked}
@@ -167,7 +167,7 @@ module _ (format : Format) where
   pub by_free : (old new : LoadingWorld) (handle answer : ℕ) → Frees old handle answer new → Good old → Good new
   by_free old new handle answer f good =
       let left : LoadingWorld = without_objects (is_left_over f.left) f.left in
-      subst Good (sym f.after) (code_kept format left (swept f.left) (loads_kept left (swept f.left).loads)
+      subst Good (sym f.after) (code_kept format left (without_orphans f.left) (loads_kept left (without_orphans f.left).loads)
       (code_kept format f.left left (released_code (is_left_over f.left) f.left) (all_go (used_less old handle) f.ended.gone f.left f.ended.went (less_used old handle good))))
 
   -- Built-ins.

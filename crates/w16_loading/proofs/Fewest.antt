@@ -3,9 +3,9 @@ use Rattle.std.proofs.Common.{◌≡◌, ℕ, Bool, true, false, List, length, O
 use Rattle.std.proofs.lemmas.Bool.{false≢true}
 use Rattle.w16_model.specs.Heap.{Heap, Object, IsHeap}
 use Rattle.w16_model.specs.Changes.{with_newest}
-use Rattle.w16_model.specs.Request.{Request, IsNew, Allocates, prefix_of}
+use Rattle.w16_model.specs.Request.{Request, IsNew, Allocates, discards_needed}
 use Rattle.w16_model.specs.Fewest.{AllocatesFewest}
-use Rattle.w16_model.specs.Owned.{any_way}
+use Rattle.w16_model.specs.Owned.{revival_options}
 use Rattle.w16_model.proofs.Fewest.{allocation_law}
 use Rattle.w16_loading.specs.declared.FetchFault.{FetchFault}
 use Rattle.w16_loading.specs.declared.FetchFault.TheVariants.{NoRoom, Store, Damaged}
@@ -16,24 +16,24 @@ use Rattle.w16_loading.proofs.Fillings.{in_turn_as, one_heap}
 use Rattle.w16_loading.proofs.Named.{named_handles}
 
 -- what is filled is allocated
-pub fill_allocates : (old : Heap) (slot : ℕ) (bytes : List ℕ) (answered : Bool) (new : Heap) → (f : Fills old slot bytes answered new) → Allocates old slot (length bytes) f.before.kind f.before.locks any_way answered new
+pub fill_allocates : (old : Heap) (slot : ℕ) (bytes : List ℕ) (answered : Bool) (new : Heap) → (f : Fills old slot bytes answered new) → Allocates old slot (length bytes) f.before.kind f.before.locks revival_options answered new
 fill_allocates old slot bytes answered new f = record {
   some = f.some;
   rounded = f.rounded;
   without_bytes = ap (λ (p : Option Object). elim p [ Some o ↦ o.bytes | None ↦ None ]) f.there ∙ f.absent;
-  request = turn (prefix_of old (length bytes) (Some slot) any_way) f.request;
+  request = turn (discards_needed old (length bytes) (Some slot) revival_options) f.request;
 }
   where
     is_new : (o : Object) → o ≡ record f.before { bytes = Some bytes } → IsNew false (length bytes) f.before.kind f.before.locks o
     is_new o e = subst (IsNew false (length bytes) f.before.kind f.before.locks) (sym e) (record { same_kind = refl; same_locks = refl; new_bytes = (refl, f.are_bytes, λ z. absurd (false≢true z)) })
 
     turn : (p : Option ℕ) → Request old slot (record (asked_of old slot f.before bytes) { prefix = p }) answered new
-        → Request old slot (record { way = any_way; prefix = p; becomes = IsNew any_way.zero (length bytes) f.before.kind f.before.locks; order = with_newest slot }) answered new
+        → Request old slot (record { options = revival_options; prefix = p; becomes = IsNew revival_options.zero (length bytes) f.before.kind f.before.locks; order = with_newest slot }) answered new
     turn None r = r
     turn (Some k) r = (r.0, (r.1.0, is_new r.1.0 r.1.1, r.1.2))
 
-fill_fewest : (old : Heap) (slot : ℕ) (bytes : List ℕ) (answered : Bool) (new : Heap) → IsHeap old → Fills old slot bytes answered new → AllocatesFewest old slot (length bytes) any_way answered new
-fill_fewest old slot bytes answered new is f = allocation_law old new slot (length bytes) f.before.kind f.before.locks any_way answered is (fill_allocates old slot bytes answered new f)
+fill_fewest : (old : Heap) (slot : ℕ) (bytes : List ℕ) (answered : Bool) (new : Heap) → IsHeap old → Fills old slot bytes answered new → AllocatesFewest old slot (length bytes) revival_options answered new
+fill_fewest old slot bytes answered new is f = allocation_law old new slot (length bytes) f.before.kind f.before.locks revival_options answered is (fill_allocates old slot bytes answered new f)
 
 pub one_fewest : (may_fail : FetchFault → Bool) (old : Heap) (slot : ℕ) (bytes : List ℕ) (fault : Option FetchFault) (new : Heap) → IsHeap old → FillsOne may_fail old slot bytes fault new → GivesFewest old slot bytes fault new
 one_fewest may_fail old slot bytes None new is f = fill_fewest old slot bytes true new is f

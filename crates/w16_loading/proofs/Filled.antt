@@ -8,10 +8,10 @@ use Rattle.std.proofs.lemmas.Bool.{false≢true, cases_eq}
 use Rattle.std.proofs.lemmas.List.{append-nil, drop_all}
 use Rattle.w16_model.specs.Heap.{Heap, Object}
 use Rattle.w16_model.specs.Changes.{update, with_newest, with_ordered}
-use Rattle.w16_model.specs.Request.{Request, IsNew, AreNew, Settles, discarded, stays_for, prefix_of}
+use Rattle.w16_model.specs.Request.{Request, IsNew, AreNew, Settles, discarded, stays_for, discards_needed}
 use Rattle.w16_model.specs.Bytes.{put_part}
 use Rattle.w16_model.specs.Far.{after_write}
-use Rattle.w16_model.specs.Owned.{any_way}
+use Rattle.w16_model.specs.Owned.{revival_options}
 use Rattle.w16_model.proofs.KeptHeaps.{inserted_here, inserted_other, written_heap}
 use Rattle.w16_loading.specs.Fill.{Fills}
 use Rattle.w16_loading.specs.Law.{FillLaw}
@@ -40,7 +40,7 @@ module _ (old : Heap) (slot : ℕ) (o : Object) (bytes : List ℕ) (ours : All (
   put k x = with_ordered (discarded old k (Some slot)) slot x (with_newest slot x)
 
   abbrev Good : ℕ → Object → Heap → Type 0
-  Good k x new = Settles old (stays_for slot any_way) (put k x) new
+  Good k x new = Settles old (stays_for slot revival_options) (put k x) new
 
   -- what is written into the heap in which the object has other bytes
   abbrev standing : ℕ → List ℕ → FinMap nat_cmp ℕ → Heap
@@ -73,9 +73,9 @@ module _ (old : Heap) (slot : ℕ) (o : Object) (bytes : List ℕ) (ours : All (
       subst (λ (h : Heap). Good k (with_bytes bytes) (after_write h slot 0 bytes)) (sym t.same) (written k b.0 next.places b.1 (subst (Good k (with_bytes b.0)) t.same t))
 
   abbrev Gives : Option ℕ → Bool → Heap → Type 0
-  Gives p answered new = Request old slot (record { way = any_way; prefix = p; becomes = λ x. x ≡ with_bytes bytes; order = with_newest slot }) answered new
+  Gives p answered new = Request old slot (record { options = revival_options; prefix = p; becomes = λ x. x ≡ with_bytes bytes; order = with_newest slot }) answered new
 
-  request : (next : Heap) (p : Option ℕ) (answered : Bool) → Request old slot (record { way = any_way; prefix = p; becomes = IsNew false (length bytes) o.kind o.locks; order = with_newest slot }) answered next
+  request : (next : Heap) (p : Option ℕ) (answered : Bool) → Request old slot (record { options = revival_options; prefix = p; becomes = IsNew false (length bytes) o.kind o.locks; order = with_newest slot }) answered next
       → Gives p answered (elim answered [ true ↦ after_write next slot 0 bytes | false ↦ next ])
   request next None true r = absurd (false≢true (sym r.0))
   request next None false r = r
@@ -85,7 +85,7 @@ module _ (old : Heap) (slot : ℕ) (o : Object) (bytes : List ℕ) (ours : All (
 pub fill_law : FillLaw
 fill_law old next slot o bytes answered there absent ours a = turn answered a.request
   where
-    turn : (t : Bool) → Request old slot (record { way = any_way; prefix = prefix_of old (length bytes) (Some slot) any_way; becomes = IsNew false (length bytes) o.kind o.locks; order = with_newest slot }) t next
+    turn : (t : Bool) → Request old slot (record { options = revival_options; prefix = discards_needed old (length bytes) (Some slot) revival_options; becomes = IsNew false (length bytes) o.kind o.locks; order = with_newest slot }) t next
         → Fills old slot bytes t (cond t (after_write next slot 0 bytes) next)
-    turn true r = record { before = o; there = there; absent = absent; some = a.some; rounded = a.rounded; are_bytes = ours; request = request old slot o bytes ours next (prefix_of old (length bytes) (Some slot) any_way) true r }
-    turn false r = record { before = o; there = there; absent = absent; some = a.some; rounded = a.rounded; are_bytes = ours; request = request old slot o bytes ours next (prefix_of old (length bytes) (Some slot) any_way) false r }
+    turn true r = record { before = o; there = there; absent = absent; some = a.some; rounded = a.rounded; are_bytes = ours; request = request old slot o bytes ours next (discards_needed old (length bytes) (Some slot) revival_options) true r }
+    turn false r = record { before = o; there = there; absent = absent; some = a.some; rounded = a.rounded; are_bytes = ours; request = request old slot o bytes ours next (discards_needed old (length bytes) (Some slot) revival_options) false r }

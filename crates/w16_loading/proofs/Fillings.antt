@@ -6,10 +6,10 @@ use Rattle.w16_model.specs.declared.Kind.TheVariants.{Discardable}
 use Rattle.w16_model.specs.Discards.{eligible}
 use Rattle.w16_model.specs.Heap.{Heap, Object, IsHeap, blocks, object_at}
 use Rattle.w16_model.specs.Changes.{with_newest, with_ordered, absent}
-use Rattle.w16_model.specs.Request.{Request, Asked, Settles, discarded, prefix_of, stays_for}
+use Rattle.w16_model.specs.Request.{Request, Asked, Settles, discarded, discards_needed, stays_for}
 use Rattle.w16_model.specs.Law.{KeepsOthers}
 use Rattle.w16_model.specs.CallLaws.{IsKeptOrDiscarded}
-use Rattle.w16_model.specs.Owned.{any_way}
+use Rattle.w16_model.specs.Owned.{revival_options}
 use Rattle.w16_model.proofs.Gaps.{Member, Each-at}
 use Rattle.w16_model.proofs.KeptHeaps.{inserted_here}
 use Rattle.w16_model.proofs.KeptHandles.{settled}
@@ -45,12 +45,12 @@ module _ (old : Heap) (slot : ℕ) (bytes : List ℕ) (new : Heap) where
   as_any may_fail (Some faults.Damaged) f = (bytes, refl, (refl, f.1))
 
   module _ (f : Fills old slot bytes true new) where
-    pub settled_so : (k : ℕ) × (o : Object) × Settles old (stays_for slot any_way) (with_ordered (discarded old k (Some slot)) slot o (with_newest slot o)) new
-    settled_so = settled old slot any_way (prefix_of old (length bytes) (Some slot) any_way) (λ o. o ≡ record f.before { bytes = Some bytes }) (with_newest slot) new f.request
+    pub settled_so : (k : ℕ) × (o : Object) × Settles old (stays_for slot revival_options) (with_ordered (discarded old k (Some slot)) slot o (with_newest slot o)) new
+    settled_so = settled old slot revival_options (discards_needed old (length bytes) (Some slot) revival_options) (λ o. o ≡ record f.before { bytes = Some bytes }) (with_newest slot) new f.request
 
     -- an object that was filled is as before, with these bytes
     pub filled_object : object_at new slot ≡ Some (record f.before { bytes = Some bytes })
-    filled_object = turn (prefix_of old (length bytes) (Some slot) any_way) f.request
+    filled_object = turn (discards_needed old (length bytes) (Some slot) revival_options) f.request
       where
         turn : (p : Option ℕ) → Request old slot (record (asked_of old slot f.before bytes) { prefix = p }) true new → object_at new slot ≡ Some (record f.before { bytes = Some bytes })
         turn None r = absurd (false≢true (sym r.0))
@@ -61,7 +61,7 @@ module _ (old : Heap) (slot : ℕ) (bytes : List ℕ) (new : Heap) where
 
     -- and all others are kept or discarded
     pub filled_others : IsHeap old → (k : ℕ) × KeepsOthers old (Some slot) k new
-    filled_others is = (settled_so.0, (others_law old new is settled_so.0).0 slot any_way settled_so.1 (with_newest slot settled_so.1) settled_so.2)
+    filled_others is = (settled_so.0, (others_law old new is settled_so.0).0 slot revival_options settled_so.1 (with_newest slot settled_so.1) settled_so.2)
 
     pub filled_other : IsHeap old → (q : ℕ) → q ≢ slot → IsKeptOrDiscarded old new q
     filled_other is q d = kept_or_discarded old new (Some slot) (filled_others is).0 q (filled_others is).1 (λ e. d (same e))
@@ -181,7 +181,7 @@ absents_range (id ∷ ids) heap = ranges heap (absent heap id) (fold absent (abs
 
 filled_range : (old : Heap) (slot : ℕ) (bytes : List ℕ) (new : Heap) → Fills old slot bytes true new → SameRange old new
 filled_range old slot bytes new f =
-    let s : (k : ℕ) × (o : Object) × Settles old (stays_for slot any_way) (with_ordered (discarded old k (Some slot)) slot o (with_newest slot o)) new = settled_so old slot bytes new f in
+    let s : (k : ℕ) × (o : Object) × Settles old (stays_for slot revival_options) (with_ordered (discarded old k (Some slot)) slot o (with_newest slot o)) new = settled_so old slot bytes new f in
     let d : SameRange old (discarded old s.0 (Some slot)) = absents_range (take s.0 (eligible (blocks old) old.order (Some slot))) old in
     record { lo = ap (λ (h : Heap). h.lo) s.2.same ∙ d.lo; hi = ap (λ (h : Heap). h.hi) s.2.same ∙ d.hi; grain = ap (λ (h : Heap). h.grain) s.2.same ∙ d.grain }
 

@@ -16,7 +16,7 @@ use Rattle.w16_store.specs.Names.{is_named}
 use Rattle.w16_loading.specs.declared.TheConstants.{MOST_USES}
 use Rattle.w16_loading.specs.Modules.{LoadingWorld, Load, Module, Modules, Named, IsSegmentOf, IsResourceOf, name_of, module_at, module_in, importers, usage, usage_with, is_idle}
 use Rattle.w16_loading.specs.Modules.Named.{Loaded}
-use Rattle.w16_loading.specs.Free.{Go, Frees, used_less, without_module, is_left_over, swept}
+use Rattle.w16_loading.specs.Free.{Go, Frees, used_less, without_module, is_left_over, without_orphans}
 use Rattle.w16_loading.specs.Law.{IsLoadingWorld, IsObjectOf}
 use Rattle.w16_loading.proofs.Given.{loaded_is}
 use Rattle.w16_loading.proofs.Bound.{world_used_less}
@@ -240,8 +240,8 @@ module _ (old : LoadingWorld) (is : IsLoadingWorld old) (end : LoadingWorld) (l 
       one : (n : Module) → Some n ≡ Some before → n ≡ before
       one n e = cc
 
-  pub swept_world : IsLoadingWorld (swept end)
-  swept_world = follows old (swept end) is (record {
+  pub orphans_world : IsLoadingWorld (without_orphans end)
+  orphans_world = follows old (without_orphans end) is (record {
     handles = released_handles end.handles l.handles over;
     numbers = λ a. numbers a (finmap.get end.modules a) refl;
     names = λ a b x y e f t.
@@ -265,4 +265,4 @@ module _ (old : LoadingWorld) (is : IsLoadingWorld old) (end : LoadingWorld) (l 
   })
 
 pub free_world : (old new : LoadingWorld) → IsLoadingWorld old → (handle answer : ℕ) → Frees old handle answer new → IsLoadingWorld new
-free_world old new is handle answer f = subst IsLoadingWorld (sym f.after) (swept_world old is f.left (all_left old is (used_less old handle) f.left f.ended.gone (used_one_less old is handle) f.ended.went) (none_left (used_less old handle) f.left f.ended.gone f.ended.went))
+free_world old new is handle answer f = subst IsLoadingWorld (sym f.after) (orphans_world old is f.left (all_left old is (used_less old handle) f.left f.ended.gone (used_one_less old is handle) f.ended.went) (none_left (used_less old handle) f.left f.ended.gone f.ended.went))

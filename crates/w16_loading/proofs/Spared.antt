@@ -9,7 +9,7 @@ use Rattle.w16_model.specs.Changes.{with_ordered, with_newest}
 use Rattle.w16_model.specs.Request.{Settles, discarded, stays_for}
 use Rattle.w16_model.specs.CallLaws.{IsKeptOrDiscarded}
 use Rattle.w16_model.specs.Law.{StandsStill}
-use Rattle.w16_model.specs.Owned.{any_way}
+use Rattle.w16_model.specs.Owned.{revival_options}
 use Rattle.w16_model.proofs.KeptHeaps.{bytes_in}
 use Rattle.w16_model.proofs.Outcomes.{address_law}
 use Rattle.w16_loading.specs.declared.FetchFault.{FetchFault}
@@ -75,10 +75,10 @@ spared_then old next new q a b = (kept_then old next new q a.0 b.0, λ pinned. s
 pub filled_spared : (old : Heap) (slot : ℕ) (bytes : List ℕ) (new : Heap) → IsHeap old → Fills old slot bytes true new → (q : ℕ) → q ≢ slot → IsSpared old new q
 filled_spared old slot bytes new is f q d = (
   filled_other old slot bytes new f is q d,
-  λ pinned. ((address_law old new is settled.0).0 slot any_way settled.1 (with_newest slot settled.1) settled.2).pinned q apart pinned,
+  λ pinned. ((address_law old new is settled.0).0 slot revival_options settled.1 (with_newest slot settled.1) settled.2).pinned q apart pinned,
 )
   where
-    settled : (k : ℕ) × (o : Object) × Settles old (stays_for slot any_way) (with_ordered (discarded old k (Some slot)) slot o (with_newest slot o)) new
+    settled : (k : ℕ) × (o : Object) × Settles old (stays_for slot revival_options) (with_ordered (discarded old k (Some slot)) slot o (with_newest slot o)) new
     settled = settled_so old slot bytes new f
 
     apart : Some slot ≢ Some q

@@ -1,7 +1,7 @@
 -- What the requests of a step promise of discards, one by one.
 use Rattle.std.specs.Prelude.{◌≡◌, ℕ, true, false, List, length, Option, Some, None}
 use Rattle.w16_model.specs.Heap.{Heap}
-use Rattle.w16_model.specs.Owned.{any_way}
+use Rattle.w16_model.specs.Owned.{revival_options}
 use Rattle.w16_model.specs.Fewest.{AllocatesFewest}
 use Rattle.w16_loading.specs.declared.FetchFault.{FetchFault}
 use Rattle.w16_loading.specs.declared.FetchFault.TheVariants.{NoRoom}
@@ -19,8 +19,8 @@ use Rattle.w16_loading.specs.Law.{IsLoadingWorld}
 -- The request for an object's bytes discards as few as it can. Refused, there is no room whatever is discarded, and it has discarded nothing; so
 -- has one whose bytes couldn't be read.
 abbrev pub GivesFewest : Giving
-GivesFewest old slot bytes None new = AllocatesFewest old slot (length bytes) any_way true new
-GivesFewest old slot bytes (Some NoRoom) new = AllocatesFewest old slot (length bytes) any_way false new
+GivesFewest old slot bytes None new = AllocatesFewest old slot (length bytes) revival_options true new
+GivesFewest old slot bytes (Some NoRoom) new = AllocatesFewest old slot (length bytes) revival_options false new
 GivesFewest old slot bytes (Some fault) new = new ≡ old
 
 -- so do several, each from the heap that the one before it left

@@ -2,16 +2,16 @@
 use Rattle.std.specs.Prelude.{◌≡◌, ◌<◌, All, ℕ, Bool, true, false, List, [], ◌∷◌, length, Option, Some, None, MatchOption}
 use Rattle.w16_model.specs.Heap.{Heap, Object, IsMultiple, object_at}
 use Rattle.w16_model.specs.Changes.{with_newest}
-use Rattle.w16_model.specs.Request.{Request, Asked, prefix_of}
-use Rattle.w16_model.specs.Owned.{any_way}
+use Rattle.w16_model.specs.Request.{Request, Asked, discards_needed}
+use Rattle.w16_model.specs.Owned.{revival_options}
 use Rattle.w16_loading.specs.declared.FetchFault.{FetchFault}
 use Rattle.w16_loading.specs.declared.FetchFault.TheVariants.{NoRoom, Store}
 
 -- what is asked for the object: that it is as before, but has these bytes
 abbrev pub asked_of : Heap → ℕ → Object → List ℕ → Asked
 asked_of old slot before bytes = record {
-  way = any_way;
-  prefix = prefix_of old (length bytes) (Some slot) any_way;
+  options = revival_options;
+  prefix = discards_needed old (length bytes) (Some slot) revival_options;
   becomes = λ o. o ≡ record before { bytes = Some bytes };
   order = with_newest slot;
 }

@@ -36,11 +36,11 @@ pub record EndsUse (old : LoadingWorld) (handle answer : ℕ) (left : LoadingWor
 abbrev pub is_left_over : LoadingWorld → ℕ → Bool
 is_left_over world slot = elim (finmap.get world.loads slot) [ None ↦ false | Some load ↦ not (is_some (module_at world.modules load.handle)) ]
 
-abbrev pub swept : LoadingWorld → LoadingWorld
-swept world = let left = without_objects (is_left_over world) world in record left { loads = finmap.retain_keys left.loads (λ q. not (is_left_over world q)) }
+abbrev pub without_orphans : LoadingWorld → LoadingWorld
+without_orphans world = let left = without_objects (is_left_over world) world in record left { loads = finmap.retain_keys left.loads (λ q. not (is_left_over world q)) }
 
 -- both in one step
 pub record Frees (old : LoadingWorld) (handle answer : ℕ) (new : LoadingWorld) : Type 0 where
   pub left : LoadingWorld
   pub ended : EndsUse old handle answer left
-  pub after : new ≡ swept left
+  pub after : new ≡ without_orphans left

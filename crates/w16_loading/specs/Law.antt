@@ -6,7 +6,7 @@ use Rattle.w16_model.specs.Bytes.{part}
 use Rattle.w16_model.specs.Far.FarCommand.{Read}
 use Rattle.w16_loading.specs.Replies.Reply.{Bytes}
 use Rattle.w16_model.specs.Handles.{Handles, AreHandles, empty_handles, slot_of_selector, selector_in, offset_in, IsFreeSlot}
-use Rattle.w16_model.specs.Owned.{owned_at, any_way}
+use Rattle.w16_model.specs.Owned.{owned_at, revival_options}
 use Rattle.w16_model.specs.Heap.{Heap, Object, IsHeap, object_at, bytes_at}
 use Rattle.w16_model.specs.declared.TheConstants.{MOST_SLOTS}
 use Rattle.w16_model.specs.CallLaws.{IsKeptOrDiscarded}
@@ -225,7 +225,7 @@ UndoneLaw = (old : LoadingWorld) (closure : Closure) (choice : Choice) → AreHa
 -- an allocation for an object without bytes, and then a write of all of them, is a request that gives it these
 abbrev pub FillLaw : Type 0
 FillLaw = (old next : Heap) (slot : ℕ) (o : Object) (bytes : List ℕ) (answered : Bool) → object_at old slot ≡ Some o → o.bytes ≡ None → All (λ b. b < 256) bytes
-    → Allocates old slot (length bytes) o.kind o.locks any_way answered next → Fills old slot bytes answered (if answered then after_write next slot 0 bytes else next)
+    → Allocates old slot (length bytes) o.kind o.locks revival_options answered next → Fills old slot bytes answered (if answered then after_write next slot 0 bytes else next)
 
 -- What code of a module had as bytes, it has again once it is fetched, whatever was moved, discarded or loaded between, while its module and
 -- the files stay.

@@ -12,8 +12,8 @@ use Rattle.w16_global.specs.Lent.{Lends}
 use Rattle.w16_machine.specs.World.{World}
 use Rattle.w16_machine.specs.Local.{LocalHeap, Acts, IsLocalTable}
 use Rattle.w16_machine.proofs.LocalFacts.{object_of, put_all}
-use Rattle.w16_local.specs.declared.acts.Act.{Act}
-use Rattle.w16_local.specs.Acts.{Acted, ActedIn, Done, Idle, MayAct, MayActIn, MayActOver}
+use Rattle.w16_local.specs.declared.acts.ByteOp.{ByteOp}
+use Rattle.w16_local.specs.Acts.{Acted, ActedIn, Done, Idle, MayAct, MayActIn, MayActOver, Writes}
 use Rattle.w16_local.specs.Parts.{IsIn, with_parts}
 use Rattle.w16_local.proofs.Locals.{insert_nothing}
 
@@ -34,24 +34,24 @@ same_write heap slot bytes had = λ i. record heap { objects = objects i }
     objects = ap (λ p. elim p as (λ _. FinMap nat_cmp Object) [ Some o ↦ finmap.insert heap.objects slot (over o) | None ↦ heap.objects ]) o.1 ∙ ap (finmap.insert heap.objects slot) same ∙ insert_nothing heap.objects slot o.0 o.1
 
 -- what may be done to the bytes of a slot's object
-pub may_lent : {handles : Handles} {tables : FinMap nat_cmp Table} {slot : ℕ} {act : Act} (may : MayActIn handles tables slot act) (t : Table) → finmap.get tables slot ≡ Some t → IsSomeAnd (bytes_at handles.heap slot) (λ bytes. MayActOver act t bytes)
+pub may_lent : {handles : Handles} {tables : FinMap nat_cmp Table} {slot : ℕ} {act : ByteOp} (may : MayActIn handles tables slot act) (t : Table) → finmap.get tables slot ≡ Some t → IsSomeAnd (bytes_at handles.heap slot) (λ bytes. MayActOver act t bytes)
 may_lent {handles} {tables} {slot} {act} may t is =
     let both : ◌≡◌ {A = Option Table} (Some may.table) (Some t) = sym may.was ∙ is in
     let same : may.table ≡ t = cc in
     subst (λ (b : Option (List ℕ)). IsSomeAnd b (λ bytes. MayActOver act t bytes)) (sym may.had) (subst (λ (t : Table). MayActOver act t may.bytes) same may.may)
 
 -- and what was done there
-pub acted_in : {handles : Handles} {tables : FinMap nat_cmp Table} {slot : ℕ} {act : Act} {answer : ℕ} (t s : Table) → finmap.get tables slot ≡ Some t → IsLocalTable s
-    → (lent : Lends handles.heap slot (λ bytes after. Acted act t bytes answer s after)) (next : Handles) → next ≡ record handles { heap = after_write handles.heap slot 0 lent.after }
+pub acted_in : {handles : Handles} {tables : FinMap nat_cmp Table} {slot : ℕ} {act : ByteOp} {answer : ℕ} (t s : Table) → finmap.get tables slot ≡ Some t → IsLocalTable s
+    → (lent : Lends handles.heap slot (λ bytes after. (count : ℕ) × (Acted act t bytes answer s after × Writes act (heap_in t bytes) (heap_in s after) 0 count))) (next : Handles) → next ≡ record handles { heap = after_write handles.heap slot 0 lent.after }
     → (new : FinMap nat_cmp Table) → new ≡ finmap.insert tables slot s → ActedIn handles tables slot act answer next new
-acted_in t s was is_local lent next next_is new new_is = record { before = t; bytes = lent.bytes; was = was; had = lent.had; table = s; after = lent.after; is_local = is_local; long = lent.long; are_bytes = lent.are_bytes; acted = lent.does; rest = (new_is, next_is) }
+acted_in t s was is_local lent next next_is new new_is = record { before = t; bytes = lent.bytes; was = was; had = lent.had; table = s; after = lent.after; is_local = is_local; long = lent.long; are_bytes = lent.are_bytes; acted = lent.does.1.0; count = lent.does.0; writes = lent.does.1.1; rest = (new_is, next_is) }
 
 -- what may be done in the heap that DS names
-pub may_in : {handles : Handles} {tables : FinMap nat_cmp Table} {ds slot : ℕ} {t : Table} (is : IsIn handles tables ds slot t) (act : Act) → MayAct act (heap_in t is.bytes) → MayActIn handles tables slot act
+pub may_in : {handles : Handles} {tables : FinMap nat_cmp Table} {ds slot : ℕ} {t : Table} (is : IsIn handles tables ds slot t) (act : ByteOp) → MayAct act (heap_in t is.bytes) → MayActIn handles tables slot act
 may_in is act may = record { table = _; bytes = is.bytes; was = is.kept; had = is.had; may = (is.over.inside, may) }
 
 -- and what that leaves: the same world, or one in which the heap acted
-module _ {handles : Handles} {tables : FinMap nat_cmp Table} {ds slot : ℕ} {t : Table} (is : IsIn handles tables ds slot t) {act : Act} {answer : ℕ} {next : Handles} {new : FinMap nat_cmp Table} (a : ActedIn handles tables slot act answer next new) (rest : World) where
+module _ {handles : Handles} {tables : FinMap nat_cmp Table} {ds slot : ℕ} {t : Table} (is : IsIn handles tables ds slot t) {act : ByteOp} {answer : ℕ} {next : Handles} {new : FinMap nat_cmp Table} (a : ActedIn handles tables slot act answer next new) (rest : World) where
   same_table : a.before ≡ t
   same_table = let both : ◌≡◌ {A = Option Table} (Some a.before) (Some t) = sym a.was ∙ is.kept in cc
 

@@ -7,13 +7,13 @@ use Rattle.std.proofs.lemmas.Bool.{cases_lt, false≢true}
 use Rattle.w16_model.specs.declared.Kind.{Kind}
 use Rattle.w16_model.specs.declared.Kind.TheVariants.{Discardable, Fixed, Moveable}
 use Rattle.w16_model.specs.declared.Refusal.{Refusal}
-use Rattle.w16_model.specs.declared.Way.{Way}
+use Rattle.w16_model.specs.declared.RoomOptions.{RoomOptions}
 use Rattle.w16_model.specs.Calls.{has_flag}
 use Rattle.w16_model.specs.Changes.{with_newest, with_object}
 use Rattle.w16_model.specs.Handles.{Handles}
 use Rattle.w16_model.specs.Heap.{Heap, Object, is_fixed, object_at}
 use Rattle.w16_model.specs.OneObject.{after_discard, after_free, after_modify}
-use Rattle.w16_model.specs.Request.{Allocates, IsNew, MakesRoom, most_room, prefix_of}
+use Rattle.w16_model.specs.Request.{Allocates, IsNew, MakesRoom, most_room, discards_needed}
 use Rattle.w16_model.specs.Table.{Table, entry_at, heap_in, object_in}
 use Rattle.w16_model.proofs.KeptHeaps.{inserted_here}
 use Rattle.w16_model.proofs.Tables.{object_is}
@@ -21,12 +21,12 @@ use Rattle.w16_model.proofs.Prefixes.{none_about}
 use Rattle.w16_model.proofs.Reallocations.{not_asked}
 use Rattle.w16_machine.specs.declared.local.TheConstants.{LMEM_DISCARDABLE, LMEM_MODIFY, LMEM_MOVEABLE}
 use Rattle.w16_machine.specs.World.{World}
-use Rattle.w16_machine.specs.Local.{LocalHeap, LocalObject, Acts, Becomes, IsLowestFree, Stays, chosen, heap_of, name_at, name_of, object_named, rounded_up}
-use Rattle.w16_machine.specs.LocalCalls.{AllocatesIn, AllocatesObject, CompactsIn, DiscardsObject, EntersObject, GivesUp, ModifiesObject, ResizesObject, SizesObject, local_kind, local_way, moveable_or_discardable}
+use Rattle.w16_machine.specs.Local.{LocalHeap, LocalObject, Acts, Becomes, IsLowestFree, Stays, current_heap, heap_of, name_at, name_of, object_named, rounded_up}
+use Rattle.w16_machine.specs.LocalCalls.{AllocatesIn, AllocatesObject, CompactsIn, DiscardsObject, EntersObject, GivesUp, ModifiesObject, ResizesObject, SizesObject, local_kind, local_options, moveable_or_discardable}
 use Rattle.w16_machine.specs.LocalCalls.LocalCommand.{LocalAlloc, LocalCompact, LocalFree, LocalReAlloc}
 use Rattle.w16_machine.proofs.LocalNames.{names_law}
-use Rattle.w16_local.specs.declared.acts.Act.{Act}
-use Rattle.w16_local.specs.declared.acts.Act.TheVariants.{Alloc, Compact, Discard, Free, Realloc}
+use Rattle.w16_local.specs.declared.acts.ByteOp.{ByteOp}
+use Rattle.w16_local.specs.declared.acts.ByteOp.TheVariants.{Alloc, Compact, Discard, Free, Realloc}
 use Rattle.w16_local.specs.Acts.{ActedIn, IsSize}
 use Rattle.w16_local.specs.Kept.{IsFull, IsLowest}
 use Rattle.w16_local.specs.Parts.{Calls, IsIn, IsNamed, alone, with_parts}
@@ -98,7 +98,7 @@ module _ {handles : Handles} {tables : FinMap nat_cmp Table} {ds name slot : ℕ
       not_modified so rest = on_named n rest 0 answer (with_parts rest next new ds) (Case (with_parts rest handles tables ds) answer (with_parts rest next new ds))
           (subst (λ b. MatchBool b (ModifiesObject (with_parts rest handles tables ds) name flags answer (with_parts rest next new ds) named_object) (Sizes (with_parts rest handles tables ds) answer (with_parts rest next new ds) named_object)) (sym f) (so rest))
 
-      pub resize_calls : 0 < size → ActedIn handles tables slot (Realloc id (rounded_up size) (local_way flags)) answer next new → Calls handles tables ds (LocalReAlloc name size flags) answer next new
+      pub resize_calls : 0 < size → ActedIn handles tables slot (Realloc id (rounded_up size) (local_options flags)) answer next new → Calls handles tables ds (LocalReAlloc name size flags) answer next new
       resize_calls some a = not_modified (λ rest.
           subst (λ b. MatchBool b (DiscardsObject (with_parts rest handles tables ds) name flags answer (with_parts rest next new ds) named_object) (SizesObject (with_parts rest handles tables ds) size flags answer (with_parts rest next new ds) named_object))
           (sym (ne_eqb size 0 (λ e. absurd (omega (arith, e, some)))))
@@ -131,11 +131,11 @@ module _ {handles : Handles} {tables : FinMap nat_cmp Table} {ds name slot : ℕ
       discard_unasked m = asked_to f 0 handles tables none false m (λ rest. (refl, refl))
 
 -- an act with these numbers
-pub alloc_as : {handles next : Handles} {tables new : FinMap nat_cmp Table} {slot answer id : ℕ} {n m : ℕ} {kind other : Kind} {way way' : Way} → n ≡ m → kind ≡ other → way ≡ way' → ActedIn handles tables slot (Alloc id n kind way) answer next new → ActedIn handles tables slot (Alloc id m other way') answer next new
-alloc_as {handles} {next} {tables} {new} {slot} {answer} {id} e f g a = subst (λ (act : Act). ActedIn handles tables slot act answer next new) (λ i. Alloc id (e i) (f i) (g i)) a
+pub alloc_as : {handles next : Handles} {tables new : FinMap nat_cmp Table} {slot answer id : ℕ} {n m : ℕ} {kind other : Kind} {options way' : RoomOptions} → n ≡ m → kind ≡ other → options ≡ way' → ActedIn handles tables slot (Alloc id n kind options) answer next new → ActedIn handles tables slot (Alloc id m other way') answer next new
+alloc_as {handles} {next} {tables} {new} {slot} {answer} {id} e f g a = subst (λ (act : ByteOp). ActedIn handles tables slot act answer next new) (λ i. Alloc id (e i) (f i) (g i)) a
 
-pub realloc_as : {handles next : Handles} {tables new : FinMap nat_cmp Table} {slot answer id : ℕ} {n m : ℕ} {way way' : Way} → n ≡ m → way ≡ way' → ActedIn handles tables slot (Realloc id n way) answer next new → ActedIn handles tables slot (Realloc id m way') answer next new
-realloc_as {handles} {next} {tables} {new} {slot} {answer} {id} e g a = subst (λ (act : Act). ActedIn handles tables slot act answer next new) (λ i. Realloc id (e i) (g i)) a
+pub realloc_as : {handles next : Handles} {tables new : FinMap nat_cmp Table} {slot answer id : ℕ} {n m : ℕ} {options way' : RoomOptions} → n ≡ m → options ≡ way' → ActedIn handles tables slot (Realloc id n options) answer next new → ActedIn handles tables slot (Realloc id m way') answer next new
+realloc_as {handles} {next} {tables} {new} {slot} {answer} {id} e g a = subst (λ (act : ByteOp). ActedIn handles tables slot act answer next new) (λ i. Realloc id (e i) (g i)) a
 
 -- a size in whole grains may be asked for
 pub rounded_size : (size n : ℕ) → n ≡ rounded_up size → 0 < size → IsSize n
@@ -164,7 +164,7 @@ module _ {handles : Handles} {tables : FinMap nat_cmp Table} {ds slot : ℕ} {t 
 
   module _ (flags size : ℕ) where
     alloc_in : (answer : ℕ) (next : Handles) (new : FinMap nat_cmp Table) → ((rest : World) → AllocatesIn (with_parts rest handles tables ds) flags size answer (with_parts rest next new ds) here) → Calls handles tables ds (LocalAlloc flags size) answer next new
-    alloc_in answer next new so rest = subst (λ (c : Option LocalHeap). MatchOption c (Stays (with_parts rest handles tables ds) 0 answer (with_parts rest next new ds)) (AllocatesIn (with_parts rest handles tables ds) flags size answer (with_parts rest next new ds))) (sym is.is_chosen) (so rest)
+    alloc_in answer next new so rest = subst (λ (c : Option LocalHeap). MatchOption c (Stays (with_parts rest handles tables ds) 0 answer (with_parts rest next new ds)) (AllocatesIn (with_parts rest handles tables ds) flags size answer (with_parts rest next new ds))) (sym is.is_current) (so rest)
 
     pub alloc_full : IsFull t → Calls handles tables ds (LocalAlloc flags size) 0 handles tables
     alloc_full full = alloc_in 0 handles tables (λ rest. inl (inr (inl (λ q free. full q free.0 (no_entry q free.1))), (refl, refl)))
@@ -182,7 +182,7 @@ module _ {handles : Handles} {tables : FinMap nat_cmp Table} {ds slot : ℕ} {t 
         ];
       }
 
-      pub alloc_calls : 0 < size → {answer : ℕ} {next : Handles} {new : FinMap nat_cmp Table} → ActedIn handles tables slot (Alloc id (rounded_up size) (local_kind flags) (local_way flags)) answer next new → Calls handles tables ds (LocalAlloc flags size) answer next new
+      pub alloc_calls : 0 < size → {answer : ℕ} {next : Handles} {new : FinMap nat_cmp Table} → ActedIn handles tables slot (Alloc id (rounded_up size) (local_kind flags) (local_options flags)) answer next new → Calls handles tables ds (LocalAlloc flags size) answer next new
       alloc_calls some {answer} {next} {new} a = alloc_in answer next new (λ rest. elim (acting.outcome is a rest) [
         | inl same ↦ inl (inr (inr (some, room same.0.0)), (same.0.1, same.1))
         | inr acts ↦ inr (
@@ -194,9 +194,9 @@ module _ {handles : Handles} {tables : FinMap nat_cmp Table} {ds slot : ℕ} {t 
         )
       ])
         where
-          room : Allocates heap id (rounded_up size) (local_kind flags) 0 (local_way flags) false heap → prefix_of heap (rounded_up size) None (local_way flags) ≡ None
-          room a = sym (none_about heap (heap_is is.over) id (no_object id lowest.free) (rounded_up size) (local_way flags))
-              ∙ (not_asked heap id (record { way = local_way flags; prefix = prefix_of heap (rounded_up size) (Some id) (local_way flags); becomes = IsNew (local_way flags).zero (rounded_up size) (local_kind flags) 0; order = with_newest id }) heap a.request).0
+          room : Allocates heap id (rounded_up size) (local_kind flags) 0 (local_options flags) false heap → discards_needed heap (rounded_up size) None (local_options flags) ≡ None
+          room a = sym (none_about heap (heap_is is.over) id (no_object id lowest.free) (rounded_up size) (local_options flags))
+              ∙ (not_asked heap id (record { options = local_options flags; prefix = discards_needed heap (rounded_up size) (Some id) (local_options flags); becomes = IsNew (local_options flags).zero (rounded_up size) (local_kind flags) 0; order = with_newest id }) heap a.request).0
 
       -- without bytes
       module _ (none : size ≡ 0) (m : has_flag flags LMEM_MOVEABLE ≡ true) where
@@ -251,7 +251,7 @@ module _ {handles : Handles} {tables : FinMap nat_cmp Table} {ds slot : ℕ} {t 
           ))
 
 -- where DS names no heap
-pub alloc_none : (handles : Handles) (tables : FinMap nat_cmp Table) (ds flags size : ℕ) → chosen (alone handles tables ds) ≡ None → Calls handles tables ds (LocalAlloc flags size) 0 handles tables
+pub alloc_none : (handles : Handles) (tables : FinMap nat_cmp Table) (ds flags size : ℕ) → current_heap (alone handles tables ds) ≡ None → Calls handles tables ds (LocalAlloc flags size) 0 handles tables
 alloc_none handles tables ds flags size none rest = subst (λ (c : Option LocalHeap). MatchOption c (Stays (with_parts rest handles tables ds) 0 0 (with_parts rest handles tables ds)) (AllocatesIn (with_parts rest handles tables ds) flags size 0 (with_parts rest handles tables ds))) (sym none) (refl, refl)
 
 -- what a bad name leaves
@@ -265,7 +265,7 @@ realloc_none handles tables ds name size flags = none_calls handles tables ds na
 pub compact_calls : {handles : Handles} {tables : FinMap nat_cmp Table} {ds slot : ℕ} {t : Table} (is : IsIn handles tables ds slot t) (size : ℕ) {answer : ℕ} {next : Handles} {new : FinMap nat_cmp Table} → ActedIn handles tables slot (Compact size) answer next new
     → Calls handles tables ds (LocalCompact size) answer next new
 compact_calls {handles} {tables} {ds} {slot} {t} is size {answer} {next} {new} a rest =
-    subst (λ (c : Option LocalHeap). MatchOption c (Stays (with_parts rest handles tables ds) 0 answer (with_parts rest next new ds)) (CompactsIn (with_parts rest handles tables ds) size answer (with_parts rest next new ds))) (sym is.is_chosen)
+    subst (λ (c : Option LocalHeap). MatchOption c (Stays (with_parts rest handles tables ds) 0 answer (with_parts rest next new ds)) (CompactsIn (with_parts rest handles tables ds) size answer (with_parts rest next new ds))) (sym is.is_current)
     (elim (acting.outcome is a rest) [
       | inl same ↦ subst (λ b. MatchBool b (Stays (with_parts rest handles tables ds) (most_room (heap_in t is.bytes)) answer (with_parts rest next new ds)) (Acts (with_parts rest handles tables ds) (record { slot = slot; table = t; bytes = is.bytes }) (MakesRoom (heap_in t is.bytes) size answer) (with_parts rest next new ds)))
           (sym (eq-eqb size 0 same.0.0)) (same.0.1, same.1)
@@ -273,5 +273,5 @@ compact_calls {handles} {tables} {ds} {slot} {t} is size {answer} {next} {new} a
           (sym (ne_eqb size 0 (λ e. absurd (let some = acts.acted.0 in omega (arith, e, some))))) (acts_as (MakesRoom (heap_in t is.bytes) size answer) acts acts.acted.1)
     ])
 
-pub compact_none : (handles : Handles) (tables : FinMap nat_cmp Table) (ds size : ℕ) → chosen (alone handles tables ds) ≡ None → Calls handles tables ds (LocalCompact size) 0 handles tables
+pub compact_none : (handles : Handles) (tables : FinMap nat_cmp Table) (ds size : ℕ) → current_heap (alone handles tables ds) ≡ None → Calls handles tables ds (LocalCompact size) 0 handles tables
 compact_none handles tables ds size none rest = subst (λ (c : Option LocalHeap). MatchOption c (Stays (with_parts rest handles tables ds) 0 0 (with_parts rest handles tables ds)) (CompactsIn (with_parts rest handles tables ds) size 0 (with_parts rest handles tables ds))) (sym none) (refl, refl)

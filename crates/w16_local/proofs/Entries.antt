@@ -18,7 +18,7 @@ use Rattle.w16_model.proofs.KeptHeaps.{inserted_here, inserted_other, taken_here
 use Rattle.w16_model.proofs.Tables.{object_is}
 use Rattle.w16_arena.specs.State.{IsSameRange}
 use Rattle.w16_machine.specs.Local.{IsLocalTable}
-use Rattle.w16_local.specs.Kept.{IsKept}
+use Rattle.w16_local.specs.Kept.{LocalHeapInvariant}
 
 -- Objects.
 
@@ -145,7 +145,7 @@ mapped f (Some x) = refl
 abbrev pub bit : Bool → ℕ
 bit used = if used then 0 else 1
 
-module _ {t s : Table} {free : List ℕ} (kept : IsKept t free) (range : IsSameRange t s) where
+module _ {t s : Table} {free : List ℕ} (kept : LocalHeapInvariant t free) (range : IsSameRange t s) where
   pub is_local : IsLocalTable s
   is_local = record {
     sound = range.sound;
@@ -162,10 +162,10 @@ module _ {t s : Table} {free : List ℕ} (kept : IsKept t free) (range : IsSameR
     after_is : (q : ℕ) → is_some (object_at (heap_in s after) q) ≡ is_some (entry_at s q)
     after_is q = ap is_some (object_is s range.sound.table after (let hi = range.hi in omega (arith, inside, long, hi)) q) ∙ mapped (object_in s.blocks after q) (entry_at s q)
 
-    pub same_free : HasSame (heap_in t memory) (heap_in s after) → IsKept s free
+    pub same_free : HasSame (heap_in t memory) (heap_in s after) → LocalHeapInvariant s free
     same_free same = record { is_local = is_local; free_entries = record { many = kept.free_entries.many; says = λ q lt. kept.free_entries.says q lt ∙ ap bit (sym (before_is q) ∙ sym (same q) ∙ after_is q) } }
 
-    pub set_free : (id : ℕ) (used : Bool) → id < 1024 → is_some (object_at (heap_in s after) id) ≡ used → HasOthers id (heap_in t memory) (heap_in s after) → IsKept s (set free id (bit used))
+    pub set_free : (id : ℕ) (used : Bool) → id < 1024 → is_some (object_at (heap_in s after) id) ≡ used → HasOthers id (heap_in t memory) (heap_in s after) → LocalHeapInvariant s (set free id (bit used))
     set_free id used lt here others = record {
       is_local = is_local;
       free_entries = record {

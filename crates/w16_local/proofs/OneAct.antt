@@ -4,14 +4,14 @@ use Rattle.std.specs.FinMap as finmap
 use Rattle.std.proofs.lemmas.Bool.{cases_eq, cases_lt, false≢true}
 use Rattle.w16_model.specs.declared.Block.{Block}
 use Rattle.w16_model.specs.declared.Kind.{Kind}
-use Rattle.w16_model.specs.declared.Way.{Way}
+use Rattle.w16_model.specs.declared.RoomOptions.{RoomOptions}
 use Rattle.w16_model.specs.Changes.{removed, with_newest}
 use Rattle.w16_model.specs.Heap.{Heap, Object, IsHeap, IsMultiple, object_at, is_fixed}
 use Rattle.w16_model.specs.OneObject.{after_discard, after_free}
 use Rattle.w16_model.specs.Reallocation.{KeepsRest}
 use Rattle.w16_model.specs.Arrangement.{IsLongestStretch}
 use Rattle.w16_model.specs.Fewest.{CompactsFewest, IsMostAfter, MakesMost}
-use Rattle.w16_model.specs.Request.{Allocates, Compacts, eligible_count, IsNew, MakesRoom, Reallocates, compaction_prefix, most_room, moved_bytes, prefix_of}
+use Rattle.w16_model.specs.Request.{Allocates, Compacts, eligible_count, IsNew, MakesRoom, Reallocates, compaction_prefix, most_room, moved_bytes, discards_needed}
 use Rattle.w16_model.specs.Table.{Table, IsSameOutside, IsSound, block_with, entry_at, heap_in}
 use Rattle.w16_model.proofs.KeptRest.{rest_law}
 use Rattle.w16_model.proofs.Others.{others_law}
@@ -26,10 +26,10 @@ use Rattle.w16_arena.proofs.Keeping.{heap_kept}
 use Rattle.w16_arena.proofs.Lookups.{entry_is, no_block, no_entry}
 use Rattle.w16_arena.proofs.Parts.{AreParts}
 use Rattle.w16_machine.specs.Local.{name_at, name_of}
-use Rattle.w16_local.specs.declared.acts.Act.{Act}
-use Rattle.w16_local.specs.declared.acts.Act.TheVariants.{Alloc, Compact, Discard, Free, Realloc}
+use Rattle.w16_local.specs.declared.acts.ByteOp.{ByteOp}
+use Rattle.w16_local.specs.declared.acts.ByteOp.TheVariants.{Alloc, Compact, Discard, Free, Realloc}
 use Rattle.w16_local.specs.Acts.{Acted, Done, Idle, MayActOver}
-use Rattle.w16_local.specs.Kept.{IsKept}
+use Rattle.w16_local.specs.Kept.{LocalHeapInvariant}
 use Rattle.w16_local.specs.Parts.{IsOver}
 use Rattle.w16_local.proofs.Alike.{same_table}
 use Rattle.w16_local.proofs.Entries.{HasOthers, HasSame, discarded, free_gone, is_local, kept_others, mapped, removed_here, removed_others, same_free, set_free}
@@ -101,7 +101,7 @@ compact_bound old new n answer = turn (n == 0)
     turn false c some = longest_bound old.lo old.hi _ answer c.most some
 
 -- The heap before.
-module _ {t : Table} {free : List ℕ} (kept : IsKept t free) (bytes : List ℕ) (inside : t.hi ≤ length bytes) where
+module _ {t : Table} {free : List ℕ} (kept : LocalHeapInvariant t free) (bytes : List ℕ) (inside : t.hi ≤ length bytes) where
   parts : AreParts t.entries (record { cap = length t.entries; lo = t.lo; hi = t.hi; grain = t.grain; blocks = t.blocks }) t.order bytes
   parts = record { sound = kept.is_local.sound; ids = refl; high = inside }
 
@@ -131,13 +131,13 @@ module _ {t : Table} {free : List ℕ} (kept : IsKept t free) (bytes : List ℕ)
 
   -- What giving bytes up leaves of the free entries.
   module _ {s : Table} (range : IsSameRange t s) where
-    pub discard_kept : (id : ℕ) → after_discard (heap_in t bytes) id ≡ Ok (heap_in s bytes) → IsKept s free
+    pub discard_kept : (id : ℕ) → after_discard (heap_in t bytes) id ≡ Ok (heap_in s bytes) → LocalHeapInvariant s free
     discard_kept id e = same_free kept range bytes bytes inside refl (discarded (heap_in t bytes) (heap_in s bytes) id e)
 
-    pub free_kept : (id : ℕ) → IsSome (object_at (heap_in t bytes) id) → after_free (heap_in t bytes) id ≡ Ok (heap_in s bytes) → IsKept s (set free id 1)
+    pub free_kept : (id : ℕ) → IsSome (object_at (heap_in t bytes) id) → after_free (heap_in t bytes) id ≡ Ok (heap_in s bytes) → LocalHeapInvariant s (set free id 1)
     free_kept id some e = turn (object_at (heap_in t bytes) id) refl some
       where
-        turn : (p : Option Object) → object_at (heap_in t bytes) id ≡ p → IsSome p → IsKept s (set free id 1)
+        turn : (p : Option Object) → object_at (heap_in t bytes) id ≡ p → IsSome p → LocalHeapInvariant s (set free id 1)
         turn None there h = absurd (false≢true h)
         turn (Some o) there h =
             let gone : removed (heap_in t bytes) id ≡ heap_in s bytes = free_gone (heap_in t bytes) id o there (heap_in s bytes) e in
@@ -156,15 +156,15 @@ module _ {t : Table} {free : List ℕ} (kept : IsKept t free) (bytes : List ℕ)
       other : {x y : ℕ} → ◌≡◌ {A = Option ℕ} (Some x) (Some y) → y ≡ x
       other e = cc
 
-      allocated_others : (id n : ℕ) (kind : Kind) (way : Way) → Allocates (heap_in t bytes) id n kind 0 way true (heap_in s after) → HasOthers id (heap_in t bytes) (heap_in s after)
-      allocated_others id n kind way a q d =
-          let r = asked (heap_in t bytes) id (record { way = way; prefix = prefix_of (heap_in t bytes) n (Some id) way; becomes = IsNew way.zero n kind 0; order = with_newest id }) (heap_in s after) a.request in
-          kept_others (heap_in t bytes) (heap_in s after) (Some id) r.0 ((others_law (heap_in t bytes) (heap_in s after) heap_is r.0).0 id way r.2.0 (with_newest id r.2.0) r.2.2) q (λ e. d (other e))
+      allocated_others : (id n : ℕ) (kind : Kind) (options : RoomOptions) → Allocates (heap_in t bytes) id n kind 0 options true (heap_in s after) → HasOthers id (heap_in t bytes) (heap_in s after)
+      allocated_others id n kind options a q d =
+          let r = asked (heap_in t bytes) id (record { options = options; prefix = discards_needed (heap_in t bytes) n (Some id) options; becomes = IsNew options.zero n kind 0; order = with_newest id }) (heap_in s after) a.request in
+          kept_others (heap_in t bytes) (heap_in s after) (Some id) r.0 ((others_law (heap_in t bytes) (heap_in s after) heap_is r.0).0 id options r.2.0 (with_newest id r.2.0) r.2.2) q (λ e. d (other e))
 
-      reallocated_same : (id n : ℕ) (way : Way) → Reallocates (heap_in t bytes) id n way true (heap_in s after) → HasSame (heap_in t bytes) (heap_in s after)
-      reallocated_same id n way a = turn (object_at (heap_in t bytes) id) refl (rest_law (heap_in t bytes) (heap_in s after) id n way heap_is a)
+      reallocated_same : (id n : ℕ) (options : RoomOptions) → Reallocates (heap_in t bytes) id n options true (heap_in s after) → HasSame (heap_in t bytes) (heap_in s after)
+      reallocated_same id n options a = turn (object_at (heap_in t bytes) id) refl (rest_law (heap_in t bytes) (heap_in s after) id n options heap_is a)
         where
-          turn : (p : Option Object) → object_at (heap_in t bytes) id ≡ p → IsSomeAnd p (λ o. KeepsRest (heap_in t bytes) id n o way (heap_in s after)) → HasSame (heap_in t bytes) (heap_in s after)
+          turn : (p : Option Object) → object_at (heap_in t bytes) id ≡ p → IsSomeAnd p (λ o. KeepsRest (heap_in t bytes) id n o options (heap_in s after)) → HasSame (heap_in t bytes) (heap_in s after)
           turn None there h = absurd h
           turn (Some o) there h = λ q. elim (cases_eq q id) [
             | inl e ↦ ap (λ k. is_some (object_at (heap_in s after) k)) e ∙ some_at _ (object_at (heap_in s after) id) h.object ∙ sym (ap (λ k. is_some (object_at (heap_in t bytes) k)) e ∙ ap is_some there)
@@ -185,17 +185,17 @@ module _ {t : Table} {free : List ℕ} (kept : IsKept t free) (bytes : List ℕ)
       heap_after are = sound_heap s range.sound after inside_after are
 
       -- What each act leaves of the free entries.
-      pub alloc_kept : {E : Type 0} (r : Result Placed E) → is_err r ≡ false → (id n : ℕ) (kind : Kind) (way : Way) → id < 1024 → Allocates (heap_in t bytes) id n kind 0 way (is_ok r) (heap_in s after)
-          → IfOk r (λ p. IsPlaced (heap_in t bytes) id n p (heap_in s after)) → All (λ b. b < 256) after → IsKept s (set free id 0)
-      alloc_kept r is id n kind way lt a placed are =
+      pub alloc_kept : {E : Type 0} (r : Result Placed E) → is_err r ≡ false → (id n : ℕ) (kind : Kind) (options : RoomOptions) → id < 1024 → Allocates (heap_in t bytes) id n kind 0 options (is_ok r) (heap_in s after)
+          → IfOk r (λ p. IsPlaced (heap_in t bytes) id n p (heap_in s after)) → All (λ b. b < 256) after → LocalHeapInvariant s (set free id 0)
+      alloc_kept r is id n kind options lt a placed are =
           let p = if_ok r (λ p. IsPlaced (heap_in t bytes) id n p (heap_in s after)) is placed in
           set_free kept range bytes after inside long id true lt (there_placed (heap_in s after) (heap_after are) id p.0.at p.1.place)
-          (allocated_others id n kind way (subst (λ b. Allocates (heap_in t bytes) id n kind 0 way b (heap_in s after)) (answered r is) a))
+          (allocated_others id n kind options (subst (λ b. Allocates (heap_in t bytes) id n kind 0 options b (heap_in s after)) (answered r is) a))
 
-      pub realloc_kept : {X E : Type 0} (r : Result X E) → is_err r ≡ false → (id n : ℕ) (way : Way) → Reallocates (heap_in t bytes) id n way (is_ok r) (heap_in s after) → IsKept s free
-      realloc_kept r is id n way a = same_free kept range bytes after inside long (reallocated_same id n way (subst (λ b. Reallocates (heap_in t bytes) id n way b (heap_in s after)) (answered r is) a))
+      pub realloc_kept : {X E : Type 0} (r : Result X E) → is_err r ≡ false → (id n : ℕ) (options : RoomOptions) → Reallocates (heap_in t bytes) id n options (is_ok r) (heap_in s after) → LocalHeapInvariant s free
+      realloc_kept r is id n options a = same_free kept range bytes after inside long (reallocated_same id n options (subst (λ b. Reallocates (heap_in t bytes) id n options b (heap_in s after)) (answered r is) a))
 
-      pub compact_kept : (n answer : ℕ) → Compacts (heap_in t bytes) n answer (heap_in s after) → IsKept s free
+      pub compact_kept : (n answer : ℕ) → Compacts (heap_in t bytes) n answer (heap_in s after) → LocalHeapInvariant s free
       compact_kept n answer c = same_free kept range bytes after inside long (elim (compacted n answer (heap_in t bytes) (heap_in s after) c) [
         | inl idle ↦ (λ q. ap (λ (h : Heap). is_some (object_at h q)) idle.2)
         | inr roomed ↦ compacted_same n answer roomed.1
@@ -203,14 +203,14 @@ module _ {t : Table} {free : List ℕ} (kept : IsKept t free) (bytes : List ℕ)
 
 -- What an act leaves, in words of the heap's value.
 module _ {t v : Table} (shown : t ≡ v) (bytes : List ℕ) where
-  pub may_shown : (act : Act) → MayActOver act v bytes → MayActOver act t bytes
+  pub may_shown : (act : ByteOp) → MayActOver act v bytes → MayActOver act t bytes
   may_shown act may = subst (λ (t : Table). MayActOver act t bytes) (sym shown) may
 
   module _ (s : Table) (after : List ℕ) (range : IsSameRange t s) (outside : IsSameOutside t.lo t.hi bytes after) where
-    acted : (act : Act) (answer : ℕ) → Done act (heap_in t bytes) answer (heap_in s after) → Acted act v bytes answer s after
+    acted : (act : ByteOp) (answer : ℕ) → Done act (heap_in t bytes) answer (heap_in s after) → Acted act v bytes answer s after
     acted act answer done = subst (λ (t : Table). Acted act t bytes answer s after) shown (record { range = range; outside = outside; act_is = inr done })
 
-    idle : (act : Act) (answer : ℕ) → Idle act (heap_in t bytes) answer → s ≡ t → after ≡ bytes → Acted act v bytes answer s after
+    idle : (act : ByteOp) (answer : ℕ) → Idle act (heap_in t bytes) answer → s ≡ t → after ≡ bytes → Acted act v bytes answer s after
     idle act answer is same still = subst (λ (t : Table). Acted act t bytes answer s after) shown (record { range = range; outside = outside; act_is = inl (is, same, still) })
 
     -- Requests that are refused.
@@ -218,22 +218,22 @@ module _ {t v : Table} (shown : t ≡ v) (bytes : List ℕ) where
       again : heap_in s after ≡ heap_in t bytes
       again i = heap_in (same i) (still i)
 
-      pub alloc_idle : (id n : ℕ) (kind : Kind) (way : Way) → Allocates (heap_in t bytes) id n kind 0 way (is_ok r) (heap_in s after) → Acted (Alloc id n kind way) v bytes 0 s after
-      alloc_idle id n kind way a = idle (Alloc id n kind way) 0 (subst (Allocates (heap_in t bytes) id n kind 0 way false) again (subst (λ b. Allocates (heap_in t bytes) id n kind 0 way b (heap_in s after)) (refused r is) a), refl) same still
+      pub alloc_idle : (id n : ℕ) (kind : Kind) (options : RoomOptions) → Allocates (heap_in t bytes) id n kind 0 options (is_ok r) (heap_in s after) → Acted (Alloc id n kind options) v bytes 0 s after
+      alloc_idle id n kind options a = idle (Alloc id n kind options) 0 (subst (Allocates (heap_in t bytes) id n kind 0 options false) again (subst (λ b. Allocates (heap_in t bytes) id n kind 0 options b (heap_in s after)) (refused r is) a), refl) same still
 
-      pub realloc_idle : (id n : ℕ) (way : Way) → Reallocates (heap_in t bytes) id n way (is_ok r) (heap_in s after) → Acted (Realloc id n way) v bytes 0 s after
-      realloc_idle id n way a = idle (Realloc id n way) 0 (subst (Reallocates (heap_in t bytes) id n way false) again (subst (λ b. Reallocates (heap_in t bytes) id n way b (heap_in s after)) (refused r is) a), refl) same still
+      pub realloc_idle : (id n : ℕ) (options : RoomOptions) → Reallocates (heap_in t bytes) id n options (is_ok r) (heap_in s after) → Acted (Realloc id n options) v bytes 0 s after
+      realloc_idle id n options a = idle (Realloc id n options) 0 (subst (Reallocates (heap_in t bytes) id n options false) again (subst (λ b. Reallocates (heap_in t bytes) id n options b (heap_in s after)) (refused r is) a), refl) same still
 
     -- Requests that are answered: the object has the name that is looked up, for it stands somewhere.
     module _ {E : Type 0} (r : Result Placed E) (is : is_err r ≡ false) (heap : IsHeap (heap_in s after)) (id n : ℕ) (placed : IfOk r (λ p. IsPlaced (heap_in t bytes) id n p (heap_in s after))) (name : Option ℕ) (named : name_at (heap_in s after) id ≡ name) where
       its_name : name_at (heap_in s after) id ≡ Some (unwrap_or name 0)
       its_name = let p = if_ok r (λ p. IsPlaced (heap_in t bytes) id n p (heap_in s after)) is placed in named_placed (heap_in s after) heap id p.0.at p.1.place name named
 
-      pub alloc_done : (kind : Kind) (way : Way) → Allocates (heap_in t bytes) id n kind 0 way (is_ok r) (heap_in s after) → Acted (Alloc id n kind way) v bytes (unwrap_or name 0) s after
-      alloc_done kind way a = acted (Alloc id n kind way) (unwrap_or name 0) (subst (λ b. Allocates (heap_in t bytes) id n kind 0 way b (heap_in s after)) (answered r is) a, its_name)
+      pub alloc_done : (kind : Kind) (options : RoomOptions) → Allocates (heap_in t bytes) id n kind 0 options (is_ok r) (heap_in s after) → Acted (Alloc id n kind options) v bytes (unwrap_or name 0) s after
+      alloc_done kind options a = acted (Alloc id n kind options) (unwrap_or name 0) (subst (λ b. Allocates (heap_in t bytes) id n kind 0 options b (heap_in s after)) (answered r is) a, its_name)
 
-      pub realloc_done : (way : Way) → Reallocates (heap_in t bytes) id n way (is_ok r) (heap_in s after) → Acted (Realloc id n way) v bytes (unwrap_or name 0) s after
-      realloc_done way a = acted (Realloc id n way) (unwrap_or name 0) (subst (λ b. Reallocates (heap_in t bytes) id n way b (heap_in s after)) (answered r is) a, its_name)
+      pub realloc_done : (options : RoomOptions) → Reallocates (heap_in t bytes) id n options (is_ok r) (heap_in s after) → Acted (Realloc id n options) v bytes (unwrap_or name 0) s after
+      realloc_done options a = acted (Realloc id n options) (unwrap_or name 0) (subst (λ b. Reallocates (heap_in t bytes) id n options b (heap_in s after)) (answered r is) a, its_name)
 
     -- A compaction; for 0 bytes the table is the same, as the heap is.
     pub compact_acted : IsSound t → t.hi ≤ length bytes → (n answer : ℕ) → Compacts (heap_in t bytes) n answer (heap_in s after) → (n ≡ 0 → after ≡ bytes) → Acted (Compact n) v bytes answer s after

@@ -16,12 +16,12 @@ use Rattle.w16_model.specs.Table.{Table, entry_at, heap_in}
 use Rattle.w16_arena.specs.State.{ArenaState, Steps, empty_table}
 use Rattle.w16_arena.proofs.Fresh.{sound, no_entry}
 use Rattle.w16_machine.specs.declared.local.TheConstants.{LOCAL_ENTRIES}
-use Rattle.w16_local.specs.Kept.{IsFull, IsKept, IsLowest}
+use Rattle.w16_local.specs.Kept.{IsFull, LocalHeapInvariant, IsLowest}
 use Rattle.w16_local.specs.Steps.{Turns, outcome}
 use Rattle.w16_local.proofs.Entries.{HasSame, any_inside, any_memory, bit, put_here, put_others, same_free, set_free}
 
 -- A new heap.
-pub kept_new : (range : Span) → 4 ≤ range.from → range.from < range.to → range.to ≤ 65536 → IsMultiple 4 range.from → (free : List ℕ) → length free ≡ 1024 → ((q : ℕ) → q < 1024 → get_or free q 0 ≡ 1) → IsKept (empty_table LOCAL_ENTRIES range.from range.to 4) free
+pub kept_new : (range : Span) → 4 ≤ range.from → range.from < range.to → range.to ≤ 65536 → IsMultiple 4 range.from → (free : List ℕ) → length free ≡ 1024 → ((q : ℕ) → q < 1024 → get_or free q 0 ≡ 1) → LocalHeapInvariant (empty_table LOCAL_ENTRIES range.from range.to 4) free
 kept_new range low some high grained free many ones = record {
   is_local = record { sound = sound LOCAL_ENTRIES range.from range.to 4 (omega arith) grained; grain = refl; entries = length-replicate {A = Option Entry} LOCAL_ENTRIES None; low = low; high = high };
   free_entries = record { many = many; says = λ q lt. ones q lt ∙ sym (ap (λ (e : Option Entry). bit (is_some e)) (no_entry LOCAL_ENTRIES q)) };
@@ -44,7 +44,7 @@ some_of : (p : Option Entry) → is_some p ≡ true → p ≡ None → ⊥
 some_of None e n = false≢true e
 some_of (Some x) e n = cc
 
-module _ {t : Table} {free : List ℕ} (kept : IsKept t free) where
+module _ {t : Table} {free : List ℕ} (kept : LocalHeapInvariant t free) where
   many : length free ≡ 1024
   many = kept.free_entries.many
 
@@ -88,16 +88,16 @@ module _ (a : ArenaState) {t : Table} (shown : a.table ≡ t) (b : ArenaState) w
   still P (Ok done) err = tt
   still P (Err e) err = ap (λ (s : ArenaState). s.table) err.0 ∙ shown
 
-module _ (a : ArenaState) {free : List ℕ} (kept : IsKept a.table free) (b : ArenaState) where
+module _ (a : ArenaState) {free : List ℕ} (kept : LocalHeapInvariant a.table free) (b : ArenaState) where
   -- no object comes or goes
   pub kept_turned : {X : Type 0} (after : Heap → Result Heap Refusal) → ((old new : Heap) → after old ≡ Ok new → HasSame old new)
-      → (r : Result X Refusal) → OnOk r (Steps a b (λ x y. after x ≡ Ok y)) → (P : Refusal → Type 0) → IfErr r (λ e. (b ≡ a) × P e) → IsKept b.table free
+      → (r : Result X Refusal) → OnOk r (Steps a b (λ x y. after x ≡ Ok y)) → (P : Refusal → Type 0) → IfErr r (λ e. (b ≡ a) × P e) → LocalHeapInvariant b.table free
   kept_turned after same (Ok done) ok P err =
       same_free kept ok.range (any_memory a.table) (any_memory a.table) (any_inside a.table) refl (same (heap_in a.table (any_memory a.table)) (heap_in b.table (any_memory a.table)) (ok.heaps (any_memory a.table) (any_inside a.table)))
-  kept_turned after same (Err e) ok P err = subst (λ (s : ArenaState). IsKept s.table free) (sym err.0) kept
+  kept_turned after same (Err e) ok P err = subst (λ (s : ArenaState). LocalHeapInvariant s.table free) (sym err.0) kept
 
   -- one comes
-  pub kept_entered : (id : ℕ) (kind : Kind) → id < 1024 → Steps a b (λ x y. Enters x id kind y) → IsKept b.table (set free id 0)
+  pub kept_entered : (id : ℕ) (kind : Kind) → id < 1024 → Steps a b (λ x y. Enters x id kind y) → LocalHeapInvariant b.table (set free id 0)
   kept_entered id kind lt steps =
       let memory : List ℕ = any_memory a.table in
       let entered = steps.heaps memory (any_inside a.table) in

@@ -8,7 +8,7 @@ use Rattle.w16_model.specs.Handles.{Handles}
 use Rattle.w16_model.specs.Table.{Table}
 use Rattle.w16_machine.specs.declared.local.TheConstants.{LMEM_MODIFY}
 use Rattle.w16_machine.specs.World.{World}
-use Rattle.w16_machine.specs.Local.{LocalHeap, LocalObject, AreLocalHeaps, chosen, heap_of, object_named}
+use Rattle.w16_machine.specs.Local.{LocalHeap, LocalObject, AreLocalHeaps, current_heap, heap_of, object_named}
 use Rattle.w16_machine.specs.LocalFewest.{AllocFewest, Left, ReallocFewest}
 use Rattle.w16_local.specs.Parts.{with_parts}
 
@@ -18,7 +18,7 @@ InWorlds handles tables ds next left so = (rest : World) → AreLocalHeaps (with
 
 -- LocalAlloc discards as few as it can, and is refused for room only where no discards would have made it;
 abbrev pub AllocsFewest : ℕ → ℕ → ℕ → World → World → Type 0
-AllocsFewest flags size answer old new = (at : LocalHeap) → chosen old ≡ Some at → AllocFewest old at flags size answer new
+AllocsFewest flags size answer old new = (at : LocalHeap) → current_heap old ≡ Some at → AllocFewest old at flags size answer new
 
 -- so does LocalReAlloc to a size above 0;
 abbrev pub ReallocsFewest : ℕ → ℕ → ℕ → ℕ → World → World → Type 0
@@ -26,4 +26,4 @@ ReallocsFewest name size flags answer old new = (o : LocalObject) → object_nam
 
 -- and LocalCompact, which answers the longest free stretch of any arrangement of what it leaves.
 abbrev pub CompactionsFewest : ℕ → ℕ → World → World → Type 0
-CompactionsFewest size answer old new = (at : LocalHeap) → chosen old ≡ Some at → Left new at (CompactsFewest (heap_of at) size answer)
+CompactionsFewest size answer old new = (at : LocalHeap) → current_heap old ≡ Some at → Left new at (CompactsFewest (heap_of at) size answer)

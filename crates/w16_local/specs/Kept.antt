@@ -13,7 +13,7 @@ pub record AreFree (table : Table) (free : List ℕ) : Type 0 where
   pub says : (q : ℕ) → q < LOCAL_ENTRIES → slice_index_or free q 0 ≡ (if is_some (entry_at table q) then 0 else 1)
 
 -- what holds of one heap: its table is a local heap's, and beside it is kept which entries are free
-pub record IsKept (table : Table) (free : List ℕ) : Type 0 where
+pub record LocalHeapInvariant (table : Table) (free : List ℕ) : Type 0 where
   pub is_local : IsLocalTable table
   pub free_entries : AreFree table free
 

@@ -8,7 +8,7 @@ use Rattle.w16_model.specs.Heap.{bytes_at}
 use Rattle.w16_model.specs.Table.{Table, heap_in}
 use Rattle.w16_loading.specs.Modules.{with_handles}
 use Rattle.w16_machine.specs.World.{World, empty_world}
-use Rattle.w16_machine.specs.Local.{IsLocalTable, beginning, chosen, id_named}
+use Rattle.w16_machine.specs.Local.{IsLocalTable, beginning, current_heap, id_named}
 use Rattle.w16_machine.specs.LocalCalls.{LocalCommand, Answers}
 
 -- a world with these handles, tables of local heaps, and DS
@@ -36,7 +36,7 @@ pub record IsOver (table : Table) (bytes : List ℕ) : Type 0 where
 -- DS names the heap of a slot, of which this is the table
 pub record IsIn (handles : Handles) (tables : FinMap nat_cmp Table) (ds slot : ℕ) (table : Table) : Type 0 where
   pub bytes : List ℕ
-  pub is_chosen : chosen (alone handles tables ds) ≡ Some (record { slot = slot; table = table; bytes = bytes })
+  pub is_current : current_heap (alone handles tables ds) ≡ Some (record { slot = slot; table = table; bytes = bytes })
   pub kept : finmap.get tables slot ≡ Some table
   pub had : bytes_at handles.heap slot ≡ Some bytes
   pub over : IsOver table bytes

@@ -11,18 +11,18 @@ use Rattle.w16_model.specs.Table.{Table, entry_at, heap_in}
 use Rattle.w16_arena.specs.State.{IsSameRange}
 use Rattle.w16_machine.specs.declared.local.TheConstants.{LOCAL_ENTRIES}
 use Rattle.w16_machine.specs.Local.{IsLocalTable}
-use Rattle.w16_local.specs.declared.steps.Step.{Step}
-use Rattle.w16_local.specs.declared.steps.Step.TheVariants.{Enter, Lock, Modify, Unlock}
+use Rattle.w16_local.specs.declared.steps.TableOp.{TableOp}
+use Rattle.w16_local.specs.declared.steps.TableOp.TheVariants.{Enter, Lock, Modify, Unlock}
 
 -- when a step may be taken: a new object needs an entry that is free
-abbrev pub MayStep : Step → ℕ → Table → Type 0
+abbrev pub MayStep : TableOp → ℕ → Table → Type 0
 MayStep (Enter kind) id table = (id < LOCAL_ENTRIES) × (entry_at table id ≡ None)
 MayStep Lock id table = Unit {0}
 MayStep Unlock id table = Unit {0}
 MayStep (Modify kind) id table = Unit {0}
 
 -- what a step on an object leaves, or why it is refused
-abbrev pub after_step : Step → Heap → ℕ → Result Heap Refusal
+abbrev pub after_step : TableOp → Heap → ℕ → Result Heap Refusal
 after_step (Enter kind) heap id = Ok (with_object heap id (record { kind = kind; locks = 0; bytes = None }))
 after_step Lock heap id = after_lock heap id
 after_step Unlock heap id = after_unlock heap id

@@ -1,11 +1,11 @@
 //! What is done to the heap in a slot's object, over that object's bytes.
 ghost use Rattle.std.specs.Prelude.{◌≡◌, IfSome, IfNone, IsSome, IsSomeAnd};
 ghost use Rattle.std.specs.FinMap as finmap;
-ghost use Rattle.w16_local.specs.Acts.{ActedIn, MayActIn};
+ghost use Rattle.w16_local.specs.Acts.{ActedIn, IsLent, MayActIn};
 ghost use Rattle.w16_local.specs.Kept.{IsFull, IsLowest};
 
 use crate::LocalHeaps;
-use crate::acts::Act;
+use crate::acts::ByteOp;
 use w16_global::Global16;
 
 impl LocalHeaps {
@@ -15,22 +15,23 @@ impl LocalHeaps {
         ensures found { IfSome result (λ id. IsSomeAnd (finmap.get self.now slot) (λ t. IsLowest t id)) }
         ensures none { IfNone result (IsSomeAnd (finmap.get self.now slot) IsFull) }
     {
-        let Some(heap) = self.kept(slot) else {
+        let Some(heap) = self.local_heap(slot) else {
             unreachable!();
         };
         heap.lowest_free()
     }
 
     /// Does an act on a slot's heap. Only a pointer to the heap is moved for it.
-    pub(crate) fn act(&mut self, global: &mut Global16, slot: u16, act: Act) -> u16
+    pub(crate) fn act(&mut self, global: &mut Global16, slot: u16, act: ByteOp) -> u16
         requires { MayActIn global.old.handles self.old slot act }
-        ensures { ActedIn global.old.handles self.old slot act result global.new.handles self.new }
+        ensures acted { ActedIn global.old.handles self.old slot act result global.new.handles self.new }
+        ensures lent { IsLent global.old slot global.new }
     {
         let Some(mut heap) = self.heaps[slot as usize].take() else {
             unreachable!();
         };
         let answer = global.with_bytes(slot, &act, heap.as_mut());
-        heap.is_local();
+        heap.reveal_local();
         self.heaps[slot as usize] = Some(heap);
         answer
     }

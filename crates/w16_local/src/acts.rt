@@ -2,29 +2,29 @@
 ghost use Rattle.std.specs.Prelude.{◌≡◌, length};
 ghost use Rattle.w16_model.specs.Table.{heap_in};
 ghost use Rattle.w16_local.specs.Acts.{Acted, MayActOver, Writes};
-ghost use Rattle.w16_local.specs.declared.acts.Act.TheVariants.{Alloc, Compact, Discard, Free, Realloc};
+ghost use Rattle.w16_local.specs.declared.acts.ByteOp.TheVariants.{Alloc, Compact, Discard, Free, Realloc};
 
 use crate::heap::LocalHeap;
 use crate::look::name_at;
 use w16_global::Work;
-use w16_model::{Kind, Way};
-use w16_region::{Space, Window, has_bytes};
+use w16_model::{Kind, RoomOptions};
+use w16_region::{Space, reveal_bytes};
 
 /// An operation on a heap's bytes, with its answer. Sizes are multiples of 4, but for a compaction's.
 #[derive(Clone, Copy, Debug)]
-pub(crate) enum Act {
+pub(crate) enum ByteOp {
     /// Allocates bytes for a free entry. It answers the new object's name, or 0.
     Alloc {
         id: u32,
         size: u32,
         kind: Kind,
-        way: Way,
+        options: RoomOptions,
     },
     /// Gives an object another size. It answers its name, or 0.
     Realloc {
         id: u32,
         size: u32,
-        way: Way,
+        options: RoomOptions,
     },
     /// Discards an object that is discardable and not locked. It answers 0.
     Discard {
@@ -40,26 +40,26 @@ pub(crate) enum Act {
     },
 }
 
-impl Work for Act {
+impl Work for ByteOp {
     type State = LocalHeap;
 
     type Answer = u16;
 
-    ghost use Rattle.w16_local.specs.Acts.{Acted, MayActOver};
+    ghost use Rattle.w16_model.specs.Table.{heap_in};
+    ghost use Rattle.w16_local.specs.Acts.{Acted, MayActOver, Writes};
 
     ghost may = { λ act table bytes. MayActOver act table bytes };
 
-    ghost does = { λ act table bytes answer left after. Acted act table bytes answer left after };
+    ghost does = { λ act table bytes answer left after count written. Acted act table bytes answer left after × Writes act (heap_in table bytes) (heap_in left after) count written };
 
-    fn work(&self, heap: &mut LocalHeap, bytes: &mut [u8]) -> u16 {
-        let mut window = Window::new(bytes);
-        heap.act(&mut window, *self)
+    fn work<S: Space>(&self, heap: &mut LocalHeap, space: &mut S) -> u16 {
+        heap.act(space, *self)
     }
 }
 
 impl LocalHeap {
     /// Does an act.
-    fn act<S: Space>(&mut self, space: &mut S, act: Act) -> u16
+    fn act<S: Space>(&mut self, space: &mut S, act: ByteOp) -> u16
         requires { MayActOver act self.old (S.bytes space.old) }
         ensures acted { Acted act self.old (S.bytes space.old) result self.new (S.bytes space.new) }
         ensures written { Writes act (heap_in self.old (S.bytes space.old)) (heap_in self.new (S.bytes space.new)) (S.written space.old) (S.written space.new) }
@@ -67,51 +67,58 @@ impl LocalHeap {
         ensures loans { S.lenders space.new ≡ S.lenders space.old }
     {
         match act {
-            Act::Alloc {
+            ByteOp::Alloc {
                 id,
                 size,
                 kind,
-                way,
-            } => self.alloc(space, id, size, kind, way),
-            Act::Realloc { id, size, way } => self.realloc(space, id, size, way),
-            Act::Discard { id } => self.discard(space, id),
-            Act::Free { id } => self.free(space, id),
-            Act::Compact { size } => self.compact(space, size),
+                options,
+            } => self.alloc(space, id, size, kind, options),
+            ByteOp::Realloc { id, size, options } => self.realloc(space, id, size, options),
+            ByteOp::Discard { id } => self.discard(space, id),
+            ByteOp::Free { id } => self.free(space, id),
+            ByteOp::Compact { size } => self.compact(space, size),
         }
     }
 
     /// So many bytes for a free entry.
-    fn alloc<S: Space>(&mut self, space: &mut S, id: u32, size: u32, kind: Kind, way: Way) -> u16
-        requires { MayActOver (Alloc id size kind way) self.old (S.bytes space.old) }
-        ensures acted { Acted (Alloc id size kind way) self.old (S.bytes space.old) result self.new (S.bytes space.new) }
-        ensures written { Writes (Alloc id size kind way) (heap_in self.old (S.bytes space.old)) (heap_in self.new (S.bytes space.new)) (S.written space.old) (S.written space.new) }
+    fn alloc<S: Space>(
+        &mut self,
+        space: &mut S,
+        id: u32,
+        size: u32,
+        kind: Kind,
+        options: RoomOptions,
+    ) -> u16
+        requires { MayActOver (Alloc id size kind options) self.old (S.bytes space.old) }
+        ensures acted { Acted (Alloc id size kind options) self.old (S.bytes space.old) result self.new (S.bytes space.new) }
+        ensures written { Writes (Alloc id size kind options) (heap_in self.old (S.bytes space.old)) (heap_in self.new (S.bytes space.new)) (S.written space.old) (S.written space.new) }
         ensures long { length (S.bytes space.new) ≡ length (S.bytes space.old) }
         ensures loans { S.lenders space.new ≡ S.lenders space.old }
     {
-        has_bytes(space);
-        let placed = self.arena.alloc(space, id, size, kind, way);
+        reveal_bytes(space);
+        let placed = self.arena.alloc(space, id, size, kind, options);
         if placed.is_err() {
             return 0;
         }
-        has_bytes(space);
+        reveal_bytes(space);
         self.free.set(id as usize, 0);
         name_at(&self.arena, id).unwrap_or(0)
     }
 
     /// Another size for an object.
-    fn realloc<S: Space>(&mut self, space: &mut S, id: u32, size: u32, way: Way) -> u16
-        requires { MayActOver (Realloc id size way) self.old (S.bytes space.old) }
-        ensures acted { Acted (Realloc id size way) self.old (S.bytes space.old) result self.new (S.bytes space.new) }
-        ensures written { Writes (Realloc id size way) (heap_in self.old (S.bytes space.old)) (heap_in self.new (S.bytes space.new)) (S.written space.old) (S.written space.new) }
+    fn realloc<S: Space>(&mut self, space: &mut S, id: u32, size: u32, options: RoomOptions) -> u16
+        requires { MayActOver (Realloc id size options) self.old (S.bytes space.old) }
+        ensures acted { Acted (Realloc id size options) self.old (S.bytes space.old) result self.new (S.bytes space.new) }
+        ensures written { Writes (Realloc id size options) (heap_in self.old (S.bytes space.old)) (heap_in self.new (S.bytes space.new)) (S.written space.old) (S.written space.new) }
         ensures long { length (S.bytes space.new) ≡ length (S.bytes space.old) }
         ensures loans { S.lenders space.new ≡ S.lenders space.old }
     {
-        has_bytes(space);
-        let placed = self.arena.realloc(space, id, size, way);
+        reveal_bytes(space);
+        let placed = self.arena.realloc(space, id, size, options);
         if placed.is_err() {
             return 0;
         }
-        has_bytes(space);
+        reveal_bytes(space);
         name_at(&self.arena, id).unwrap_or(0)
     }
 
@@ -154,7 +161,7 @@ impl LocalHeap {
         ensures long { length (S.bytes space.new) ≡ length (S.bytes space.old) }
         ensures loans { S.lenders space.new ≡ S.lenders space.old }
     {
-        has_bytes(space);
+        reveal_bytes(space);
         self.arena.compact(space, size).room as u16
     }
 }

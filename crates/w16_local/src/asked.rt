@@ -33,9 +33,9 @@ impl LocalHeaps {
     pub fn local_handle(&self, global: &Global16, ds: u16, pointer: u16) -> u16
         ensures { (rest : World) → result ≡ calls.local_handle (with_parts rest global.now.handles self.now ds) pointer }
     {
-        let Some(chosen) = self.chosen(global, ds) else {
+        let Some(current) = self.current_heap(global, ds) else {
             return 0;
         };
-        handle_at(chosen.heap, pointer)
+        handle_at(current.heap, pointer)
     }
 }

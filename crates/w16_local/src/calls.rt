@@ -1,17 +1,19 @@
 //! The calls that make local objects, give them another size or kind, discard and free them, and make room.
 ghost use Rattle.std.specs.Prelude.{◌≡◌};
 ghost use Rattle.w16_machine.specs.LocalCalls.LocalCommand.{LocalAlloc, LocalCompact, LocalDiscard, LocalFree, LocalReAlloc};
+ghost use Rattle.w16_local.specs.Acts.{IsLentOnce};
 ghost use Rattle.w16_local.specs.Fewest.{AllocsFewest, CompactionsFewest, InWorlds, ReallocsFewest};
 ghost use Rattle.w16_local.specs.Parts.{Calls};
 
 use crate::LocalHeaps;
-use crate::acts::Act;
-use crate::chosen::{Chosen, Named};
-use crate::flags::{has_flag, local_kind, local_way, moveable_or_discardable, rounded_up};
+use crate::acts::ByteOp;
+use crate::current::{CurrentHeap, Named};
+use crate::flags::{local_kind, local_options, moveable_or_discardable, rounded_up};
 use crate::look::{may_discard, may_free};
-use crate::steps::Step;
+use crate::steps::TableOp;
 use w16_global::Global16;
 use w16_machine::local::{LMEM_MODIFY, LMEM_MOVEABLE};
+use w16_model::has_flag;
 
 impl LocalHeaps {
     /// `LocalAlloc`: a new object's name, or 0: for a fixed object of size 0, where no entry is free, and where there is no room. The size
@@ -20,8 +22,9 @@ impl LocalHeaps {
     pub fn local_alloc(&mut self, global: &mut Global16, ds: u16, flags: u16, size: u16) -> u16
         ensures step { Calls global.old.handles self.old ds (LocalAlloc flags size) result global.new.handles self.new }
         ensures fewest { InWorlds global.old.handles self.old ds global.new.handles self.new (AllocsFewest flags size result) }
+        ensures written { IsLentOnce global.old global.new }
     {
-        let Some(Chosen { slot, .. }) = self.chosen(global, ds) else {
+        let Some(CurrentHeap { slot, .. }) = self.current_heap(global, ds) else {
             return 0;
         };
         let Some(id) = self.free_entry(slot) else {
@@ -31,14 +34,14 @@ impl LocalHeaps {
             if !has_flag(flags, LMEM_MOVEABLE) {
                 return 0;
             }
-            let _ = self.step(slot, id, Step::Enter(moveable_or_discardable(flags)));
+            let _ = self.step(slot, id, TableOp::Enter(moveable_or_discardable(flags)));
             return (4 * id + 2) as u16;
         }
-        let act = Act::Alloc {
+        let act = ByteOp::Alloc {
             id,
             size: rounded_up(size),
             kind: local_kind(flags),
-            way: local_way(flags),
+            options: local_options(flags),
         };
         self.act(global, slot, act)
     }
@@ -56,19 +59,20 @@ impl LocalHeaps {
     ) -> u16
         ensures step { Calls global.old.handles self.old ds (LocalReAlloc name size flags) result global.new.handles self.new }
         ensures fewest { InWorlds global.old.handles self.old ds global.new.handles self.new (ReallocsFewest name size flags result) }
+        ensures written { IsLentOnce global.old global.new }
     {
         let Some(Named { slot, heap, id }) = self.named(global, ds, name) else {
             return 0;
         };
         if has_flag(flags, LMEM_MODIFY) {
-            let _ = self.step(slot, id, Step::Modify(moveable_or_discardable(flags)));
+            let _ = self.step(slot, id, TableOp::Modify(moveable_or_discardable(flags)));
             return name;
         }
         if size > 0 {
-            let act = Act::Realloc {
+            let act = ByteOp::Realloc {
                 id,
                 size: rounded_up(size),
-                way: local_way(flags),
+                options: local_options(flags),
             };
             return self.act(global, slot, act);
         }
@@ -78,20 +82,22 @@ impl LocalHeaps {
         if !may_discard(heap, id) {
             return 0;
         }
-        self.act(global, slot, Act::Discard { id });
+        self.act(global, slot, ByteOp::Discard { id });
         name
     }
 
     /// `LocalDiscard`: a discardable object that isn't locked gives up its bytes, if it has any. It answers the name, or 0.
     pub fn local_discard(&mut self, global: &mut Global16, ds: u16, name: u16) -> u16
-        ensures { Calls global.old.handles self.old ds (LocalDiscard name) result global.new.handles self.new }
+        ensures step { Calls global.old.handles self.old ds (LocalDiscard name) result global.new.handles self.new }
+        ensures written { IsLentOnce global.old global.new }
     {
         self.local_realloc(global, ds, name, 0, LMEM_MOVEABLE)
     }
 
     /// `LocalFree`: 0, and the object is gone; or the name, where it is bad or the object locked.
     pub fn local_free(&mut self, global: &mut Global16, ds: u16, name: u16) -> u16
-        ensures { Calls global.old.handles self.old ds (LocalFree name) result global.new.handles self.new }
+        ensures step { Calls global.old.handles self.old ds (LocalFree name) result global.new.handles self.new }
+        ensures written { IsLentOnce global.old global.new }
     {
         let Some(Named { slot, heap, id }) = self.named(global, ds, name) else {
             return name;
@@ -99,7 +105,7 @@ impl LocalHeaps {
         if !may_free(heap, id) {
             return name;
         }
-        self.act(global, slot, Act::Free { id });
+        self.act(global, slot, ByteOp::Free { id });
         0
     }
 
@@ -108,10 +114,11 @@ impl LocalHeaps {
     pub fn local_compact(&mut self, global: &mut Global16, ds: u16, size: u16) -> u16
         ensures step { Calls global.old.handles self.old ds (LocalCompact size) result global.new.handles self.new }
         ensures fewest { InWorlds global.old.handles self.old ds global.new.handles self.new (CompactionsFewest size result) }
+        ensures written { IsLentOnce global.old global.new }
     {
-        let Some(Chosen { slot, .. }) = self.chosen(global, ds) else {
+        let Some(CurrentHeap { slot, .. }) = self.current_heap(global, ds) else {
             return 0;
         };
-        self.act(global, slot, Act::Compact { size: size as u32 })
+        self.act(global, slot, ByteOp::Compact { size: size as u32 })
     }
 }

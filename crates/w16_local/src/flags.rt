@@ -7,14 +7,7 @@ ghost use Rattle.w16_machine.specs.LocalCalls as calls;
 use w16_machine::local::{
     LMEM_DISCARDABLE, LMEM_MOVEABLE, LMEM_NOCOMPACT, LMEM_NODISCARD, LMEM_ZEROINIT, LOCAL_GRAIN,
 };
-use w16_model::{Kind, Way};
-
-/// Whether flags have one, or any of several.
-pub(crate) fn has_flag(flags: u16, flag: u16) -> bool
-    ensures { result ≡ model.has_flag flags flag }
-{
-    flags & flag != 0
-}
+use w16_model::{Kind, RoomOptions, has_flag};
 
 /// The kind that flags ask for where an object isn't fixed.
 pub(crate) fn moveable_or_discardable(flags: u16) -> Kind
@@ -39,10 +32,10 @@ pub(crate) fn local_kind(flags: u16) -> Kind
 }
 
 /// How flags let room be made.
-pub(crate) fn local_way(flags: u16) -> Way
-    ensures { result ≡ calls.local_way flags }
+pub(crate) fn local_options(flags: u16) -> RoomOptions
+    ensures { result ≡ calls.local_options flags }
 {
-    Way {
+    RoomOptions {
         compact: !has_flag(flags, LMEM_NOCOMPACT),
         discard: !has_flag(flags, LMEM_NODISCARD),
         zero: has_flag(flags, LMEM_ZEROINIT),

@@ -8,7 +8,7 @@ ghost use Rattle.w16_machine.specs.Local.{IsLocalTable, new_table};
 ghost use Rattle.w16_local.specs.Kept.{IsFull, IsLowest};
 ghost use Rattle.w16_local.specs.Steps.{MayStep, Turns, after_step, outcome};
 
-use crate::steps::Step;
+use crate::steps::TableOp;
 use std::alloc::{AllocError, Global};
 use std::marker::Model;
 use w16_arena::Arena;
@@ -28,7 +28,7 @@ pub(crate) struct LocalHeap {
 impl Model for LocalHeap {
     ghost use Rattle.w16_model.specs.Table.{Table};
     ghost use Rattle.w16_local.specs.Codes.{table_code};
-    ghost use Rattle.w16_local.specs.Kept.{IsKept};
+    ghost use Rattle.w16_local.specs.Kept.{LocalHeapInvariant};
 
     ghost Value = { Table };
 
@@ -36,7 +36,7 @@ impl Model for LocalHeap {
 
     ghost view = { λ s. s.arena.table };
 
-    ghost invariant = { λ s. IsKept s.arena.table s.free };
+    ghost invariant = { λ s. LocalHeapInvariant s.arena.table s.free };
 }
 
 impl LocalHeap {
@@ -68,8 +68,8 @@ impl LocalHeap {
         &self.arena
     }
 
-    /// Says that it is a local heap, as each is. It has no effect.
-    pub fn is_local(&self)
+    /// Tells the prover that this is a local heap's table, as it always is. It does nothing else.
+    pub fn reveal_local(&self)
         ensures { IsLocalTable self.now }
     {
         let _arena = &self.arena;
@@ -85,19 +85,19 @@ impl LocalHeap {
     }
 
     /// A step of an object.
-    pub fn step(&mut self, id: u32, step: Step) -> Result<(), Refusal>
+    pub fn step(&mut self, id: u32, step: TableOp) -> Result<(), Refusal>
         requires { MayStep step id self.old }
         ensures turns { Turns self.old self.new (λ old new. after_step step old id ≡ outcome result new) }
         ensures refused { OnErr result (self.new ≡ self.old) }
     {
         match step {
-            Step::Enter(kind) => {
+            TableOp::Enter(kind) => {
                 self.enter(id, kind);
                 Ok(())
             }
-            Step::Lock => self.lock(id),
-            Step::Unlock => self.unlock(id),
-            Step::Modify(kind) => self.modify(id, kind),
+            TableOp::Lock => self.lock(id),
+            TableOp::Unlock => self.unlock(id),
+            TableOp::Modify(kind) => self.modify(id, kind),
         }
     }
 

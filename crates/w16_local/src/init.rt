@@ -66,7 +66,7 @@ impl LocalHeaps {
         if segment.code {
             return None;
         }
-        if let Some(_heap) = self.kept(segment.slot) {
+        if let Some(_heap) = self.local_heap(segment.slot) {
             return None;
         }
         let Some(range) = range_in(segment.size, start, end) else {

@@ -3,8 +3,9 @@
 //! A heap's bytes are its segment's, so a call that needs them takes the global heap beside this value.
 #![tactic(auto)]
 
-ghost use Rattle.std.specs.Prelude.{◌≡◌, ◌≤◌, ◌/◌, option_map, None, Some, IfOk, IfSome, IfNone};
+ghost use Rattle.std.specs.Prelude.{◌≡◌, ◌≤◌, option_map, None, Some, IfOk, IfSome, IfNone, MatchOption};
 ghost use Rattle.std.specs.FinMap as finmap;
+ghost use Rattle.w16_model.specs.Handles.{slot_of_handle};
 ghost use Rattle.w16_model.specs.Table.{Table};
 ghost use Rattle.w16_machine.specs.Local.{IsLocalTable};
 
@@ -12,7 +13,7 @@ mod act;
 mod acts;
 mod asked;
 mod calls;
-mod chosen;
+mod current;
 mod flags;
 mod heap;
 mod init;
@@ -24,8 +25,8 @@ use crate::heap::LocalHeap;
 use std::alloc::{AllocError, Global};
 use std::marker::Model;
 use w16_arena::Arena;
+use w16_global::Global16;
 use w16_holes::SideHoles;
-use w16_model::names::slot_of;
 use w16_model::{FIRST_SLOT, MOST_SLOTS};
 
 /// The local heaps in the objects of a global heap. Its value is their tables, by slot.
@@ -69,18 +70,23 @@ impl LocalHeaps {
         Ok(LocalHeaps { heaps, live, alloc })
     }
 
-    /// Takes the heap in a handle's object away, if it has one. No byte changes.
-    pub fn drop_heap(&mut self, handle: u16)
-        ensures { self.new ≡ finmap.remove self.old (handle / 8) }
+    /// Takes the heap in the object away whose handle this is, exactly, if there is one. No byte changes. Where the object is freed, no
+    /// handle is its own any more: `sweep` takes such a heap away.
+    pub fn drop_heap(&mut self, global: &Global16, handle: u16)
+        ensures { MatchOption (slot_of_handle global.now.handles handle) (self.new ≡ self.old) (λ slot. self.new ≡ finmap.remove self.old slot) }
     {
-        self.drop_slot(slot_of(handle));
+        if let Some(slot) = global.slot_of_handle(handle) {
+            self.drop_slot(slot);
+        }
     }
 
-    /// Where the heap in a handle's object ends, if it has one.
-    pub fn heap_end(&self, handle: u16) -> Option<u32>
-        ensures { result ≡ option_map (λ (t : Table). t.hi) (finmap.get self.now (handle / 8)) }
+    /// The offset behind the last byte of the heap in the object whose handle this is, exactly: at most 65,536. None where no object has the
+    /// handle, or the object has no heap.
+    pub fn heap_end(&self, global: &Global16, handle: u16) -> Option<u32>
+        ensures { MatchOption (slot_of_handle global.now.handles handle) (result ≡ None) (λ slot. result ≡ option_map (λ (t : Table). t.hi) (finmap.get self.now slot)) }
     {
-        let heap = self.heap_of(slot_of(handle))?;
+        let slot = global.slot_of_handle(handle)?;
+        let heap = self.heap_of(slot)?;
         Some(heap.bounds().to)
     }
 
@@ -99,13 +105,13 @@ impl LocalHeaps {
         ensures none { IfNone result (finmap.get self.now slot ≡ None) }
         ensures some { IfSome result (λ h. (finmap.get self.now slot ≡ Some h.now.table) × IsLocalTable h.now.table) }
     {
-        let heap = self.kept(slot)?;
-        heap.is_local();
+        let heap = self.local_heap(slot)?;
+        heap.reveal_local();
         Some(heap.arena())
     }
 
     /// A slot's heap with its tree of free entries.
-    pub(crate) fn kept(&self, slot: u16) -> Option<&LocalHeap>
+    pub(crate) fn local_heap(&self, slot: u16) -> Option<&LocalHeap>
         ensures none { IfNone result (finmap.get self.now slot ≡ None) }
         ensures some { IfSome result (λ h. finmap.get self.now slot ≡ Some h.now) }
     {

@@ -1,7 +1,7 @@
 //! Objects of one local heap, by name and by near pointer.
 ghost use Rattle.std.specs.Prelude.{◌≡◌, if◌then◌else◌, ℕ, List, Some, is_ok, is_some, not, length, option_map, unwrap_or};
 ghost use Rattle.w16_model.specs.Calls.{locks_at};
-ghost use Rattle.w16_model.specs.Heap.{bytes_at, object_at, is_fixed, is_discardable};
+ghost use Rattle.w16_model.specs.Heap.{bytes_at, object_at};
 ghost use Rattle.w16_model.specs.OneObject.{after_discard, after_free};
 ghost use Rattle.w16_model.specs.Table.{block_with, heap_in};
 ghost use Rattle.w16_machine.specs.Local as local;
@@ -12,7 +12,7 @@ ghost use Rattle.w16_local.specs.Parts.{IsOver};
 use w16_arena::Arena;
 use w16_holes::SideHoles;
 use w16_machine::local::{LMEM_DISCARDABLE, LMEM_DISCARDED};
-use w16_model::Kind;
+use w16_model::bit_if;
 use w16_region::Window;
 
 /// The object that begins at a near pointer, if one does.
@@ -32,7 +32,7 @@ pub(crate) fn name_at(heap: &Arena<SideHoles>, id: u32) -> Option<u16>
     ensures { (bytes : List ℕ) → IsOver heap.now.table bytes → local.name_at (heap_in heap.now.table bytes) id ≡ result }
 {
     let entry = heap.entry(id)?;
-    if is_fixed(entry.kind) {
+    if entry.kind.is_fixed() {
         let block = heap.block(id)?;
         Some(block.at as u16)
     } else {
@@ -90,7 +90,7 @@ pub(crate) fn flags_of(heap: &Arena<SideHoles>, id: u32) -> u16
     let Some(entry) = heap.entry(id) else {
         return 0;
     };
-    let discardable = bit_if(is_discardable(entry.kind), LMEM_DISCARDABLE);
+    let discardable = bit_if(entry.kind.is_discardable(), LMEM_DISCARDABLE);
     let absent = bit_if(is_absent(heap, id), LMEM_DISCARDED);
     entry.locks as u16 + discardable + absent
 }
@@ -136,7 +136,7 @@ pub(crate) fn may_discard(heap: &Arena<SideHoles>, id: u32) -> bool
     if entry.locks > 0 {
         return false;
     }
-    is_discardable(entry.kind)
+    entry.kind.is_discardable()
 }
 
 /// Whether an id has no bytes.
@@ -144,25 +144,4 @@ fn is_absent(heap: &Arena<SideHoles>, id: u32) -> bool
     ensures { result ≡ not (is_some (block_with heap.now.table.blocks id)) }
 {
     heap.block(id).is_none()
-}
-
-/// Whether an object of this kind keeps its near pointer.
-fn is_fixed(kind: Kind) -> bool
-    ensures { result ≡ is_fixed kind }
-{
-    kind == Kind::Fixed
-}
-
-/// Whether an object of this kind may lose its bytes.
-fn is_discardable(kind: Kind) -> bool
-    ensures { result ≡ is_discardable kind }
-{
-    kind == Kind::Discardable
-}
-
-/// A bit, where it is set.
-fn bit_if(set: bool, bit: u16) -> u16
-    ensures { result ≡ if set then bit else 0 }
-{
-    if set { bit } else { 0 }
 }

@@ -7,14 +7,14 @@ ghost use Rattle.w16_local.specs.Parts.{Calls};
 ghost use Rattle.w16_local.specs.Steps.{MayStep, Stepped, after_step, outcome, answer_of};
 
 use crate::LocalHeaps;
-use crate::chosen::Named;
+use crate::current::Named;
 use crate::look::{locks_of, place_of};
 use w16_global::Global16;
 use w16_model::{Kind, Refusal};
 
 /// What is done to one object.
 #[derive(Clone, Copy, Debug)]
-pub(crate) enum Step {
+pub(crate) enum TableOp {
     /// A new object without bytes.
     Enter(Kind),
     Lock,
@@ -32,7 +32,7 @@ impl LocalHeaps {
             return 0;
         };
         let pointer = place_of(heap, id);
-        let done = self.step(slot, id, Step::Lock);
+        let done = self.step(slot, id, TableOp::Lock);
         lock_answer(done, pointer)
     }
 
@@ -44,12 +44,12 @@ impl LocalHeaps {
             return 0;
         };
         let locks = locks_of(heap, id);
-        let done = self.step(slot, id, Step::Unlock);
+        let done = self.step(slot, id, TableOp::Unlock);
         unlock_answer(done, locks)
     }
 
     /// A step of an object in a slot's heap, which changes the heap's table alone.
-    pub(crate) fn step(&mut self, slot: u16, id: u32, step: Step) -> Result<(), Refusal>
+    pub(crate) fn step(&mut self, slot: u16, id: u32, step: TableOp) -> Result<(), Refusal>
         requires { IsSomeAnd (finmap.get self.old slot) (MayStep step id) }
         ensures stepped { Stepped self.old slot (λ old new. after_step step old id ≡ outcome result new) self.new }
         ensures refused { OnErr result (self.new ≡ self.old) }
@@ -58,7 +58,7 @@ impl LocalHeaps {
             unreachable!();
         };
         let done = heap.step(id, step);
-        heap.is_local();
+        heap.reveal_local();
         self.heaps[slot as usize] = Some(heap);
         done
     }

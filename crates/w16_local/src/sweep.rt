@@ -86,7 +86,7 @@ fn has_range(heaps: &[Option<Box<LocalHeap>>], slot: u16, global: &Global16) -> 
 fn size_in(global: &Global16, slot: u16) -> Option<u32>
     ensures { result ≡ option_map length (bytes_at global.now.handles.heap slot) }
 {
-    global.are_handles();
+    global.reveal_handles();
     if slot as u32 >= FIRST_SLOT + MOST_SLOTS {
         return None;
     }

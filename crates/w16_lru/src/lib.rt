@@ -28,9 +28,9 @@ pub enum End {
 /// between the newest and the oldest.
 #[derive(Drop)]
 pub struct Order {
-    /// What comes behind each. An id that is no member comes behind itself.
+    /// The successor of each. An id that is no member is linked to itself.
     after: Vec<u32>,
-    /// What comes before each: where one table leads, the other leads back.
+    /// The predecessor of each: where one table leads, the other leads back.
     before: Vec<u32>,
     /// The ids are below it.
     cap: u32,

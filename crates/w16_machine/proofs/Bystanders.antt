@@ -15,14 +15,14 @@ use Rattle.w16_loading.specs.Replies.Reply.{Word, Done}
 use Rattle.w16_loading.proofs.Bystanders.{bystanders_law, pinned_law}
 use Rattle.w16_machine.specs.World.{World}
 use Rattle.w16_machine.specs.Law.{IsWorld}
-use Rattle.w16_machine.specs.Local.{LocalHeap, heap_of, local_in, chosen, segment_bytes}
+use Rattle.w16_machine.specs.Local.{LocalHeap, heap_of, local_in, current_heap, segment_bytes}
 use Rattle.w16_machine.specs.LocalCalls.{LocalCommand, LocalStep}
 use Rattle.w16_machine.specs.LocalCalls.LocalCommand.{DS}
 use Rattle.w16_machine.specs.LocalLaw.{HasSameObjects, IsHeapKept, IsLocalKept, IsObjectKept, IsRewritten, KeepsRest, asks_for_room, but_bytes, may_move_named}
 use Rattle.w16_machine.specs.Machine.{IsCommand, Event, Step, Run}
 use Rattle.w16_machine.specs.Machine.Command.{OfLoading, OfLocals}
 use Rattle.w16_machine.specs.Bystanders.{IsLocalAbout, IsLocalSpared, AllSpare, StepSparesLaw, RunSparesLaw}
-use Rattle.w16_machine.proofs.LocalFacts.{IsThere, chosen_there, local_there, there_local, found}
+use Rattle.w16_machine.proofs.LocalFacts.{IsThere, current_there, local_there, there_local, found}
 use Rattle.w16_machine.proofs.LocalFar.{same_heaps}
 use Rattle.w16_machine.proofs.LocalFrame.{frame_law}
 use Rattle.w16_machine.proofs.LocalGoes.{goes_law}
@@ -59,25 +59,25 @@ module _ (old new : World) (command : LocalCommand) (reply : Reply) (is : IsWorl
   frame : KeepsRest old new
   frame = frame_law old new command reply is.heaps step
 
-  -- it is the chosen one, or another's segment has it
+  -- it is the current heap, or another's segment has it
   abbrev IsOther : Type 0
-  IsOther = (c : LocalHeap) → chosen old ≡ Some c → c.slot ≢ slot
+  IsOther = (c : LocalHeap) → current_heap old ≡ Some c → c.slot ≢ slot
 
-  chosen_or_other : (chosen old ≡ Some at) ⊎ IsOther
-  chosen_or_other = turn (chosen old) refl
+  current_or_other : (current_heap old ≡ Some at) ⊎ IsOther
+  current_or_other = turn (current_heap old) refl
     where
-      turn : (p : Option LocalHeap) → chosen old ≡ p → (chosen old ≡ Some at) ⊎ IsOther
+      turn : (p : Option LocalHeap) → current_heap old ≡ p → (current_heap old ≡ Some at) ⊎ IsOther
       turn None d = inr (λ c g. let never : ◌≡◌ {A = Option LocalHeap} None (Some c) = sym d ∙ g in cc)
       turn (Some c) d = elim (cases_eq c.slot slot) [
-        | inl s ↦ inl (d ∙ sym (there_local old c (chosen_there old c d)) ∙ ap (local_in old) s ∙ e)
+        | inl s ↦ inl (d ∙ sym (there_local old c (current_there old c d)) ∙ ap (local_in old) s ∙ e)
         | inr s ↦ inr (λ b g. let both : ◌≡◌ {A = Option LocalHeap} (Some c) (Some b) = sym d ∙ g in let same : c ≡ b = cc in subst (λ (h : LocalHeap). h.slot ≢ slot) same s)
       ]
 
-  -- what only the chosen one may be
-  not_chosen : IsOther → (P : LocalHeap → Type 0) → IsSomeAnd (chosen old) (λ c. (c.slot ≡ slot) × P c) → ⊥
-  not_chosen other P = turn (chosen old) refl
+  -- what only the current heap may be
+  not_current : IsOther → (P : LocalHeap → Type 0) → IsSomeAnd (current_heap old) (λ c. (c.slot ≡ slot) × P c) → ⊥
+  not_current other P = turn (current_heap old) refl
     where
-      turn : (p : Option LocalHeap) → chosen old ≡ p → IsSomeAnd p (λ c. (c.slot ≡ slot) × P c) → ⊥
+      turn : (p : Option LocalHeap) → current_heap old ≡ p → IsSomeAnd p (λ c. (c.slot ≡ slot) × P c) → ⊥
       turn None d h = absurd h
       turn (Some c) d h = other c d h.0
 
@@ -93,23 +93,23 @@ module _ (old new : World) (command : LocalCommand) (reply : Reply) (is : IsWorl
       tables : IsHeapKept old new slot → finmap.get new.heaps slot ≡ finmap.get old.heaps slot
       tables (inl same) = same
       tables (inr (inl none)) = let never : ◌≡◌ {A = Option Table} (Some at.table) None = sym was.0.table ∙ ap (finmap.get old.heaps) was.1 ∙ none.0 in cc
-      tables (inr (inr h)) = absurd (not_chosen other (λ c. IsSomeAnd (finmap.get new.heaps slot) (λ (t : Table). (t.lo ≡ c.table.lo) × (t.hi ≡ c.table.hi))) h)
+      tables (inr (inr h)) = absurd (not_current other (λ c. IsSomeAnd (finmap.get new.heaps slot) (λ (t : Table). (t.lo ≡ c.table.lo) × (t.hi ≡ c.table.hi))) h)
 
       bytes : IsObjectKept old new slot → segment_bytes new slot ≡ segment_bytes old slot
       bytes (inl same) = ap bytes_in same
-      bytes (inr h) = absurd (not_chosen other (λ c. IsSomeAnd (object_at old.loading.handles.heap slot) (λ before. IsSomeAnd (object_at new.loading.handles.heap slot) (IsRewritten c before))) h)
+      bytes (inr h) = absurd (not_current other (λ c. IsSomeAnd (object_at old.loading.handles.heap slot) (λ before. IsSomeAnd (object_at new.loading.handles.heap slot) (IsRewritten c before))) h)
 
   chosen_after : local_in new at.slot ≡ Some after
   chosen_after = ap (local_in new) (local_there old slot at e).1 ∙ f
 
   module _ (q : ℕ) (o : Object) (there : object_at (heap_of at) q ≡ Some o) where
     local_spared : (IsLocalAbout old (OfLocals command) at q → ⊥) → IsLocalSpared old (OfLocals command) at after q o
-    local_spared other = elim chosen_or_other [
-      | inl c ↦ by_room c (local_others_law old new command reply at after q o is.heaps step c chosen_after there (λ name asked named. other (c, name, asked, named)))
+    local_spared other = elim current_or_other [
+      | inl c ↦ by_room c (local_others_law old new command reply at after q o is.heaps step c chosen_after there (λ name asked named. other (c, (name, asked, named))))
       | inr d ↦ inl (ap (λ (h : LocalHeap). option_map but_bytes (object_at (heap_of h) q)) (other_same d) ∙ ap (option_map but_bytes) there)
     ]
       where
-        by_room : chosen old ≡ Some at → IsLocalKept (asks_for_room command) (heap_of at) (heap_of after) q o → IsLocalSpared old (OfLocals command) at after q o
+        by_room : current_heap old ≡ Some at → IsLocalKept (asks_for_room command) (heap_of at) (heap_of after) q o → IsLocalSpared old (OfLocals command) at after q o
         by_room c kept = elim (cases_Bool (asks_for_room command)) [
           | inl asks ↦ elim kept.object [
             | inl same ↦ inl (ap (option_map but_bytes) same)
@@ -119,8 +119,8 @@ module _ (old new : World) (command : LocalCommand) (reply : Reply) (is : IsWorl
         ]
 
     local_stands : is_pinned_object o ≡ true → (may_move_named command ≡ true → IsLocalAbout old (OfLocals command) at q → ⊥) → StandsStill (heap_of at) (heap_of after) q
-    local_stands pinned unmoved = elim chosen_or_other [
-      | inl c ↦ local_pinned_law old new command reply at after q o is.heaps step c chosen_after there pinned (λ may name asked named. unmoved may (c, name, asked, named))
+    local_stands pinned unmoved = elim current_or_other [
+      | inl c ↦ local_pinned_law old new command reply at after q o is.heaps step c chosen_after there pinned (λ may name asked named. unmoved may (c, (name, asked, named)))
       | inr d ↦ stands_same (heap_of at) (heap_of after) q (ap (λ (h : LocalHeap). finmap.get (heap_of h).places q) (other_same d))
     ]
 

@@ -31,8 +31,8 @@ step_fewest honest format old event is step = record {
       (resize_replies honest format old.loading event.after.loading (GlobalReAlloc handle size flags) (Word answer) (told honest format old event c r step).0);
   compact = λ size answer c r. global_compact_law old.loading.handles event.after.loading.handles size answer is.heaps.handles
       (call_replies honest format old.loading event.after.loading (GlobalCompact size) (Dword answer) (told honest format old event c r step).0);
-  local_alloc = λ flags size answer at c r chosen. local_alloc_law old event.after flags size answer at is.heaps (told honest format old event c r step) chosen;
+  local_alloc = λ flags size answer at c r current. local_alloc_law old event.after flags size answer at is.heaps (told honest format old event c r step) current;
   local_realloc = λ name size flags answer o c r named unmodified some. local_realloc_law old event.after name size flags answer o is.heaps (told honest format old event c r step) named unmodified some;
-  local_compact = λ size answer at c r chosen. local_compact_law old event.after size answer at is.heaps (told honest format old event c r step) chosen;
+  local_compact = λ size answer at c r current. local_compact_law old event.after size answer at is.heaps (told honest format old event c r step) current;
   requests = λ command c. requests_fewest_law old.loading event.after.loading command event.reply is.loading (asked honest format old event c step).0.any;
 }

@@ -11,7 +11,7 @@ use Rattle.w16_model.specs.Discards.{Snapshot, snapshot, needed, fits_in_place, 
 use Rattle.w16_model.specs.Gap.{room}
 use Rattle.w16_model.specs.Heap.{Heap, Object}
 use Rattle.w16_machine.specs.Local.{range_in, rounded_up, name_of}
-use Rattle.w16_machine.specs.LocalCalls.{local_kind, local_way, local_flags_of, lock_refused, is_absent_asked, moveable_or_discardable}
+use Rattle.w16_machine.specs.LocalCalls.{local_kind, local_options, local_flags_of, lock_refused, is_absent_asked, moveable_or_discardable}
 
 -- Where a heap may begin in a segment of 64 bytes.
 
@@ -79,7 +79,7 @@ kinds = (refl, refl, refl, refl)
 modified : (moveable_or_discardable 256 ≡ Discardable) × (moveable_or_discardable 2 ≡ Moveable)
 modified = (refl, refl)
 
-ways : (local_way 66 ≡ record { compact = true; discard = true; zero = true; may_move = true }) × (local_way 48 ≡ record { compact = false; discard = false; zero = false; may_move = false })
+ways : (local_options 66 ≡ record { compact = true; discard = true; zero = true; may_move = true }) × (local_options 48 ≡ record { compact = false; discard = false; zero = false; may_move = false })
 ways = (refl, refl)
 
 flags : (local_flags_of (record { kind = Discardable; locks = 3; bytes = Some (7 ∷ []) }) ≡ 3843) × (local_flags_of (record { kind = Discardable; locks = 0; bytes = None }) ≡ 20224) × (local_flags_of (object_of Fixed) ≡ 0)
@@ -111,7 +111,7 @@ abbrev full : Snapshot
 full = snapshot 4 64 (block 0 4 12 Pinned ∷ block 1 16 8 Loose ∷ block 2 24 40 Loose ∷ []) (1 ∷ [])
 
 -- 4 bytes more cost the discard, and without one there is no room
-one_discard : (needed full 4 None ≡ Some 1) × (prefix_for full 4 None (local_way 34) ≡ None) × (prefix_for full 4 None (local_way 18) ≡ None)
+one_discard : (needed full 4 None ≡ Some 1) × (prefix_for full 4 None (local_options 34) ≡ None) × (prefix_for full 4 None (local_options 18) ≡ None)
 one_discard = (refl, refl, refl)
 
 -- what no discard makes free is refused
@@ -123,5 +123,5 @@ too_much = refl
 abbrev after : Snapshot
 after = snapshot 4 64 (block 0 4 12 Pinned ∷ block 3 16 4 Loose ∷ block 2 24 40 Loose ∷ []) []
 
-no_growth : (fits_in_place after 16 0 ≡ false) × (growth_for after 16 0 (local_way 2) ≡ Some 0) × (growth_for after 20 0 (local_way 2) ≡ None)
+no_growth : (fits_in_place after 16 0 ≡ false) × (growth_for after 16 0 (local_options 2) ≡ Some 0) × (growth_for after 20 0 (local_options 2) ≡ None)
 no_growth = (refl, refl, refl)

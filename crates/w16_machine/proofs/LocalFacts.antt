@@ -13,7 +13,7 @@ use Rattle.w16_model.proofs.Sound.{sound_law}
 use Rattle.w16_model.proofs.Heaps.{get-update_same, get-update_other}
 use Rattle.w16_model.proofs.KeptHeaps.{bytes_in, inserted_here}
 use Rattle.w16_machine.specs.World.{World}
-use Rattle.w16_machine.specs.Local.{LocalHeap, LocalObject, AreLocalHeaps, IsLocalIn, Becomes, Acts, segment_bytes, heap_of, local_of, local_in, chosen, object_named, id_named}
+use Rattle.w16_machine.specs.Local.{LocalHeap, LocalObject, AreLocalHeaps, IsLocalIn, Becomes, Acts, segment_bytes, heap_of, local_of, local_in, current_heap, object_named, id_named}
 
 -- A local heap is there: its table, and its segment's bytes, which have its range.
 pub record IsThere (w : World) (at : LocalHeap) : Type 0 where
@@ -48,9 +48,9 @@ there_local w at is =
     ap (λ (t : Option Table). found at.slot t (segment_bytes w at.slot)) is.table ∙ ap (λ (b : Option (List ℕ)). found at.slot (Some at.table) b) is.bytes
     ∙ ap (λ l. cond {A = Option LocalHeap} l (Some at) None) (le-leb at.table.hi (length at.bytes) is.inside)
 
--- the chosen one is there
-pub chosen_there : (w : World) (at : LocalHeap) → chosen w ≡ Some at → IsThere w at
-chosen_there w at e = turn (slot_of_selector w.loading.handles w.ds) e
+-- the current heap is there
+pub current_there : (w : World) (at : LocalHeap) → current_heap w ≡ Some at → IsThere w at
+current_there w at e = turn (slot_of_selector w.loading.handles w.ds) e
   where
     turn : (s : Option ℕ) → ◌≡◌ {A = Option LocalHeap} (elim s [ None ↦ None | Some slot ↦ local_in w slot ]) (Some at) → IsThere w at
     turn None e = cc
@@ -59,18 +59,18 @@ chosen_there w at e = turn (slot_of_selector w.loading.handles w.ds) e
 abbrev with_id : LocalHeap → Option ℕ → Option LocalObject
 with_id at p = option_map (λ id. record { heap = at; id = id }) p
 
--- a named object is in the chosen heap
-pub named_there : (w : World) (name : ℕ) (o : LocalObject) → object_named w name ≡ Some o → (chosen w ≡ Some o.heap) × (id_named (heap_of o.heap) name ≡ Some o.id)
-named_there w name o e = turn (chosen w) refl e
+-- a named object is in the current heap
+pub named_there : (w : World) (name : ℕ) (o : LocalObject) → object_named w name ≡ Some o → (current_heap w ≡ Some o.heap) × (id_named (heap_of o.heap) name ≡ Some o.id)
+named_there w name o e = turn (current_heap w) refl e
   where
-    by_id : (at : LocalHeap) → chosen w ≡ Some at → (p : Option ℕ) → id_named (heap_of at) name ≡ p → with_id at p ≡ Some o → (chosen w ≡ Some o.heap) × (id_named (heap_of o.heap) name ≡ Some o.id)
+    by_id : (at : LocalHeap) → current_heap w ≡ Some at → (p : Option ℕ) → id_named (heap_of at) name ≡ p → with_id at p ≡ Some o → (current_heap w ≡ Some o.heap) × (id_named (heap_of o.heap) name ≡ Some o.id)
     by_id at c None p e = cc
     by_id at c (Some id) p e =
         let mine : LocalObject = record { heap = at; id = id } in
         let same : mine ≡ o = cc in
-        subst (λ (o : LocalObject). (chosen w ≡ Some o.heap) × (id_named (heap_of o.heap) name ≡ Some o.id)) same (c, p)
+        subst (λ (o : LocalObject). (current_heap w ≡ Some o.heap) × (id_named (heap_of o.heap) name ≡ Some o.id)) same (c, p)
 
-    turn : (c : Option LocalHeap) → chosen w ≡ c → ◌≡◌ {A = Option LocalObject} (elim c [ None ↦ None | Some at ↦ with_id at (id_named (heap_of at) name) ]) (Some o) → (chosen w ≡ Some o.heap) × (id_named (heap_of o.heap) name ≡ Some o.id)
+    turn : (c : Option LocalHeap) → current_heap w ≡ c → ◌≡◌ {A = Option LocalObject} (elim c [ None ↦ None | Some at ↦ with_id at (id_named (heap_of at) name) ]) (Some o) → (current_heap w ≡ Some o.heap) × (id_named (heap_of o.heap) name ≡ Some o.id)
     turn None c e = cc
     turn (Some at) c e = by_id at c (id_named (heap_of at) name) refl e
 

@@ -15,11 +15,11 @@ use Rattle.w16_model.proofs.Heaps.{IsBlockOf, block_member}
 use Rattle.w16_model.proofs.Reallocations.{fewest_law}
 use Rattle.w16_machine.specs.declared.local.TheConstants.{LMEM_MOVEABLE, LMEM_MODIFY}
 use Rattle.w16_machine.specs.World.{World}
-use Rattle.w16_machine.specs.Local.{LocalHeap, AreLocalHeaps, Becomes, Acts, Stays, heap_of, local_in, chosen, name_of, name_at, rounded_up}
-use Rattle.w16_machine.specs.LocalCalls.{EntersObject, AllocatesObject, ResizesObject, AllocatesIn, CompactsIn, ModifiesObject, DiscardsObject, SizesObject, IsRefusedAlloc, IsEmptyFixed, HasNoEntry, is_absent_asked, local_kind, local_way}
+use Rattle.w16_machine.specs.Local.{LocalHeap, AreLocalHeaps, Becomes, Acts, Stays, heap_of, local_in, current_heap, name_of, name_at, rounded_up}
+use Rattle.w16_machine.specs.LocalCalls.{EntersObject, AllocatesObject, ResizesObject, AllocatesIn, CompactsIn, ModifiesObject, DiscardsObject, SizesObject, IsRefusedAlloc, IsEmptyFixed, HasNoEntry, is_absent_asked, local_kind, local_options}
 use Rattle.w16_machine.specs.LocalCalls.LocalCommand.{LocalAlloc, LocalReAlloc}
 use Rattle.w16_machine.specs.LocalFewest.{Left, AllocFewest, ReallocFewest, AllocLaw, ReallocLaw, CompactLaw}
-use Rattle.w16_machine.proofs.LocalFacts.{IsThere, chosen_there, named_there, there_local, heap_here, acted_there, became_there}
+use Rattle.w16_machine.proofs.LocalFacts.{IsThere, current_there, named_there, there_local, heap_here, acted_there, became_there}
 use Rattle.w16_machine.proofs.LocalNames.{block_placed}
 use Rattle.w16_machine.proofs.LocalOutcomes.{outcome}
 use Rattle.w16_machine.proofs.LocalWorlds.{local_world}
@@ -38,9 +38,9 @@ some_name heap is low id = turn (object_at heap id)
     turn None e = cc
     turn (Some o) e = by_kind (is_fixed o.kind) e
 
-module _ (old : World) (is : AreLocalHeaps old) (at : LocalHeap) (c : chosen old ≡ Some at) (new : World) where
+module _ (old : World) (is : AreLocalHeaps old) (at : LocalHeap) (c : current_heap old ≡ Some at) (new : World) where
   there : IsThere old at
-  there = chosen_there old at c
+  there = current_there old at c
 
   -- what a step that acted leaves
   left : (P Q : Heap → Type 0) → ((heap : Heap) → P heap → Q heap) → Acts old at P new → Left new at Q
@@ -61,10 +61,10 @@ module _ (old : World) (is : AreLocalHeaps old) (at : LocalHeap) (c : chosen old
   allocs : AreLocalHeaps new → (flags size answer : ℕ) → AllocatesIn old flags size answer new at → AllocFewest old at flags size answer new
   allocs now flags size answer (inl refused) = record { answered = λ some _. absurd (some refused.1.0); refused = λ _. (refused.1.1, reason refused.0) }
     where
-      reason : IsRefusedAlloc (heap_of at) flags size → IsEmptyFixed flags size ⊎ HasNoEntry (heap_of at) ⊎ LacksRoom (heap_of at) None (rounded_up size) (local_way flags)
+      reason : IsRefusedAlloc (heap_of at) flags size → IsEmptyFixed flags size ⊎ HasNoEntry (heap_of at) ⊎ LacksRoom (heap_of at) None (rounded_up size) (local_options flags)
       reason (inl fixed) = inl fixed
       reason (inr (inl full)) = inr (inl full)
-      reason (inr (inr room)) = inr (inr (lacking (heap_of at) (heap_here old is at there) (rounded_up size) None (local_way flags) (local_way flags).compact (local_way flags).discard refl refl room.1))
+      reason (inr (inr room)) = inr (inr (lacking (heap_of at) (heap_here old is at there) (rounded_up size) None (local_options flags) (local_options flags).compact (local_options flags).discard refl refl room.1))
   allocs now flags size answer (inr (id, free, makes)) = turn (is_absent_asked flags size) refl makes
     where
       with_bytes : 0 < size → is_absent_asked flags size ≡ false
@@ -82,8 +82,8 @@ module _ (old : World) (is : AreLocalHeaps old) (at : LocalHeap) (c : chosen old
       turn false t acts = record {
         answered = λ _ some. (
           id,
-          left (AllocatesObject (heap_of at) flags size id answer) (λ next. (name_at next id ≡ Some answer) × AllocatesFewest (heap_of at) id (rounded_up size) (local_way flags) true next)
-              (λ next m. (m.named, allocation_law (heap_of at) next id (rounded_up size) (local_kind flags) 0 (local_way flags) true (heap_here old is at there) m.allocated)) acts,
+          left (AllocatesObject (heap_of at) flags size id answer) (λ next. (name_at next id ≡ Some answer) × AllocatesFewest (heap_of at) id (rounded_up size) (local_options flags) true next)
+              (λ next m. (m.named, allocation_law (heap_of at) next id (rounded_up size) (local_kind flags) 0 (local_options flags) true (heap_here old is at there) m.allocated)) acts,
         );
         refused = λ none. absurd (not_0 now (AllocatesObject (heap_of at) flags size id answer) id answer (λ next m. m.named) acts none);
       }
@@ -109,29 +109,29 @@ pub local_realloc_law : ReallocLaw
 local_realloc_law old new name size flags answer o is step named unmodified some =
     turn (has_flag flags LMEM_MODIFY) unmodified (size == 0) (ne_eqb size 0 (λ e. absurd (omega (arith, e, some)))) (subst (λ p. MatchOption p (Stays old 0 answer new) (λ o. MatchBool (has_flag flags LMEM_MODIFY) (ModifiesObject old name flags answer new o) (MatchBool (size == 0) (DiscardsObject old name flags answer new o) (SizesObject old size flags answer new o)))) named step)
   where
-    c : chosen old ≡ Some o.heap
+    c : current_heap old ≡ Some o.heap
     c = (named_there old name o named).0
 
     heap : IsHeap (heap_of o.heap)
-    heap = heap_here old is o.heap (chosen_there old o.heap c)
+    heap = heap_here old is o.heap (current_there old o.heap c)
 
     now : AreLocalHeaps new
     now = local_world old is (LocalReAlloc name size flags) answer new (outcome old (LocalReAlloc name size flags) answer new step)
 
-    refusal : (p : Option Object) → IsSomeAnd p (λ before. ReallocatesFewest (heap_of o.heap) o.id (rounded_up size) before (local_way flags) false (heap_of o.heap))
-        → IsSomeAnd p (λ before. (size_of before < rounded_up size) × LacksPlace (heap_of o.heap) o.id (rounded_up size) before (local_way flags))
+    refusal : (p : Option Object) → IsSomeAnd p (λ before. ReallocatesFewest (heap_of o.heap) o.id (rounded_up size) before (local_options flags) false (heap_of o.heap))
+        → IsSomeAnd p (λ before. (size_of before < rounded_up size) × LacksPlace (heap_of o.heap) o.id (rounded_up size) before (local_options flags))
     refusal None h = absurd h
-    refusal (Some before) h = let r : (size_of before < rounded_up size) × LacksPlace (heap_of o.heap) o.id (rounded_up size) before (local_way flags) × (heap_of o.heap ≡ heap_of o.heap) = h.refused refl in (r.0, r.1)
+    refusal (Some before) h = let r : (size_of before < rounded_up size) × LacksPlace (heap_of o.heap) o.id (rounded_up size) before (local_options flags) × (heap_of o.heap ≡ heap_of o.heap) = h.refused refl in (r.0, r.1)
 
     sizes : SizesObject old size flags answer new o → ReallocFewest old o size flags answer new
     sizes (inl refused) = record {
       answered = λ some. absurd (some refused.1.0);
-      refused = λ _. (refused.1.1, refusal (object_at (heap_of o.heap) o.id) (fewest_law (heap_of o.heap) (heap_of o.heap) o.id (rounded_up size) (local_way flags) false heap refused.0));
+      refused = λ _. (refused.1.1, refusal (object_at (heap_of o.heap) o.id) (fewest_law (heap_of o.heap) (heap_of o.heap) o.id (rounded_up size) (local_options flags) false heap refused.0));
     }
     sizes (inr acts) = record {
       answered = λ _. left old is o.heap c new (ResizesObject (heap_of o.heap) o.id size flags answer)
-          (λ next. (name_at next o.id ≡ Some answer) × IsSomeAnd (object_at (heap_of o.heap) o.id) (λ before. ReallocatesFewest (heap_of o.heap) o.id (rounded_up size) before (local_way flags) true next))
-          (λ next r. (r.named, fewest_law (heap_of o.heap) next o.id (rounded_up size) (local_way flags) true heap r.resized)) acts;
+          (λ next. (name_at next o.id ≡ Some answer) × IsSomeAnd (object_at (heap_of o.heap) o.id) (λ before. ReallocatesFewest (heap_of o.heap) o.id (rounded_up size) before (local_options flags) true next))
+          (λ next r. (r.named, fewest_law (heap_of o.heap) next o.id (rounded_up size) (local_options flags) true heap r.resized)) acts;
       refused = λ none. absurd (not_0 old is o.heap c new now (ResizesObject (heap_of o.heap) o.id size flags answer) o.id answer (λ next r. r.named) acts none);
     }
 

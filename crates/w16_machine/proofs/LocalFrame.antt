@@ -7,12 +7,12 @@ use Rattle.w16_model.specs.Table.{Table}
 use Rattle.w16_model.proofs.KeptHeaps.{inserted_here, inserted_other}
 use Rattle.w16_loading.specs.Replies.Reply.{Word, Done}
 use Rattle.w16_machine.specs.World.{World}
-use Rattle.w16_machine.specs.Local.{LocalHeap, Acts, heap_of, chosen, new_table, with_local}
+use Rattle.w16_machine.specs.Local.{LocalHeap, Acts, heap_of, current_heap, new_table, with_local}
 use Rattle.w16_machine.specs.LocalCalls.{LocalCommand}
 use Rattle.w16_machine.specs.LocalCalls.LocalCommand.{DS}
 use Rattle.w16_model.specs.Owned.{is_code}
 use Rattle.w16_machine.specs.LocalLaw.{MayBegin, IsRewritten, IsObjectKept, IsHeapKept, KeepsRest, FrameLaw}
-use Rattle.w16_machine.proofs.LocalFacts.{IsThere, chosen_there, object_of, segment_after, segment_other}
+use Rattle.w16_machine.proofs.LocalFacts.{IsThere, current_there, object_of, segment_after, segment_other}
 use Rattle.w16_machine.proofs.LocalBegins.{begin_law}
 use Rattle.w16_machine.proofs.LocalOutcomes.{Outcome, IsRoomed, outcome}
 
@@ -31,11 +31,11 @@ same_objects old new same heaps = record {
     handles_back : old.loading.handles ≡ new.loading.handles
     handles_back = ap (λ w. w.handles) (sym same)
 
-module _ (old : World) (at : LocalHeap) (c : chosen old ≡ Some at) where
+module _ (old : World) (at : LocalHeap) (c : current_heap old ≡ Some at) where
   there : IsThere old at
-  there = chosen_there old at c
+  there = current_there old at c
 
-  -- the chosen heap keeps its range
+  -- the current heap keeps its range
   table_put : (new : World) (t : Table) → new.heaps ≡ finmap.insert old.heaps at.slot t → (t.lo ≡ at.table.lo) × (t.hi ≡ at.table.hi) → (slot : ℕ) → IsHeapKept old new slot
   table_put new t put range slot = elim (cases_eq slot at.slot) [
     | inl e ↦ inr (inr (subst (λ p. IsSomeAnd p (λ h. (h.slot ≡ slot) × IsSomeAnd (finmap.get new.heaps slot) (λ t. (t.lo ≡ h.table.lo) × (t.hi ≡ h.table.hi)))) (sym c)

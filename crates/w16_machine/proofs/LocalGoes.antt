@@ -9,13 +9,13 @@ use Rattle.w16_model.proofs.Gaps.{Each-from_All}
 use Rattle.w16_model.proofs.KeptHeaps.{inserted_here, inserted_other}
 use Rattle.w16_loading.specs.Replies.Reply.{Word, Done}
 use Rattle.w16_machine.specs.World.{World}
-use Rattle.w16_machine.specs.Local.{LocalHeap, chosen, new_table}
+use Rattle.w16_machine.specs.Local.{LocalHeap, current_heap, new_table}
 use Rattle.w16_machine.specs.LocalCalls.{LocalCommand}
 use Rattle.w16_machine.specs.LocalCalls.LocalCommand.{DS}
 use Rattle.w16_machine.specs.Machine.{Event, Step, Run}
 use Rattle.w16_machine.specs.Machine.Command.{OfLoading, OfLocals}
 use Rattle.w16_machine.specs.LocalLaw.{IsBegun, BeginsNone, GoesLaw, NeverBackLaw, GoneLaw}
-use Rattle.w16_machine.proofs.LocalFacts.{chosen_there}
+use Rattle.w16_machine.proofs.LocalFacts.{current_there}
 use Rattle.w16_machine.proofs.LocalOutcomes.{Outcome, outcome}
 use Rattle.w16_machine.proofs.LocalWorlds.{left_over, left_is}
 
@@ -44,10 +44,10 @@ goes_law format old new command reply step slot t = (
 
 -- where there is none there is none afterwards
 module _ (old new : World) (slot : ℕ) (none : finmap.get old.heaps slot ≡ None) where
-  -- a table that is put in the chosen heap's place is put elsewhere
-  put_elsewhere : (at : LocalHeap) → chosen old ≡ Some at → (t : Table) → new.heaps ≡ finmap.insert old.heaps at.slot t → finmap.get new.heaps slot ≡ None
+  -- a table that is put in the current heap's place is put elsewhere
+  put_elsewhere : (at : LocalHeap) → current_heap old ≡ Some at → (t : Table) → new.heaps ≡ finmap.insert old.heaps at.slot t → finmap.get new.heaps slot ≡ None
   put_elsewhere at c t put = elim (cases_eq slot at.slot) [
-    | inl e ↦ absurd (never (sym (ap (finmap.get old.heaps) e ∙ (chosen_there old at c).table) ∙ none))
+    | inl e ↦ absurd (never (sym (ap (finmap.get old.heaps) e ∙ (current_there old at c).table) ∙ none))
     | inr d ↦ ap (λ m. finmap.get m slot) put ∙ inserted_other old.heaps at.slot t slot d ∙ none
   ]
     where

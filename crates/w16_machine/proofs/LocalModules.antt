@@ -15,11 +15,11 @@ use Rattle.w16_loading.proofs.KeptBytes.{KeepsBytes, same_object}
 use Rattle.w16_loading.proofs.KeptCode.{KeepsCode, code_kept, as_it_was, same_source}
 use Rattle.w16_loading.proofs.KeptWorlds.{IsOwned, world_stays}
 use Rattle.w16_machine.specs.World.{World}
-use Rattle.w16_machine.specs.Local.{LocalHeap, AreLocalHeaps, chosen}
+use Rattle.w16_machine.specs.Local.{LocalHeap, AreLocalHeaps, current_heap}
 use Rattle.w16_machine.specs.LocalCalls.{LocalCommand, LocalStep}
 use Rattle.w16_machine.specs.LocalLaw.{IsRewritten, IsObjectKept, IsHeapKept, KeepsRest}
 use Rattle.w16_machine.specs.Law.{IsWorld}
-use Rattle.w16_machine.proofs.LocalFacts.{chosen_there}
+use Rattle.w16_machine.proofs.LocalFacts.{current_there}
 use Rattle.w16_machine.proofs.LocalFrame.{frame_law}
 use Rattle.w16_machine.proofs.LocalWorlds.{local_heaps_kept}
 
@@ -39,7 +39,7 @@ rewritten_owned at (Some o) (Some after) kind size h k = (h.kind ∙ k.0, sized 
 
 kept_owned : (old new : World) (slot : ℕ) (kind : Kind) (size : ℕ) → IsObjectKept old new slot → IsOwned old.loading.handles.heap slot kind size → IsOwned new.loading.handles.heap slot kind size
 kept_owned old new slot kind size (inl same) h = subst (λ p. IsSomeAnd p (λ o. (o.kind ≡ kind) × IfSome o.bytes (λ b. length b ≡ size))) (sym same) h
-kept_owned old new slot kind size (inr c) h = turn (chosen old) c
+kept_owned old new slot kind size (inr c) h = turn (current_heap old) c
   where
     turn : (p : Option LocalHeap) → IsSomeAnd p (λ at. (at.slot ≡ slot) × IsSomeAnd (object_at old.loading.handles.heap slot) (λ before. IsSomeAnd (object_at new.loading.handles.heap slot) (IsRewritten at before))) → IsOwned new.loading.handles.heap slot kind size
     turn None c = absurd c
@@ -48,12 +48,12 @@ kept_owned old new slot kind size (inr c) h = turn (chosen old) c
 module _ (old new : World) (k : KeepsRest old new) (uncoded : (slot : ℕ) → IfSome (finmap.get old.heaps slot) (λ _. owned_code old.loading.handles slot ≡ false)) where
   -- code isn't rewritten
   code_stays : (slot : ℕ) → owned_code old.loading.handles slot ≡ true → KeepsBytes old.loading.handles.heap new.loading.handles.heap slot
-  code_stays slot coded = elim (k.objects slot) [ inl same ↦ same_object old.loading.handles.heap new.loading.handles.heap slot same | inr c ↦ absurd (turn (chosen old) refl c) ]
+  code_stays slot coded = elim (k.objects slot) [ inl same ↦ same_object old.loading.handles.heap new.loading.handles.heap slot same | inr c ↦ absurd (turn (current_heap old) refl c) ]
     where
-      turn : (p : Option LocalHeap) → chosen old ≡ p → IsSomeAnd p (λ at. (at.slot ≡ slot) × IsSomeAnd (object_at old.loading.handles.heap slot) (λ before. IsSomeAnd (object_at new.loading.handles.heap slot) (IsRewritten at before))) → ⊥
+      turn : (p : Option LocalHeap) → current_heap old ≡ p → IsSomeAnd p (λ at. (at.slot ≡ slot) × IsSomeAnd (object_at old.loading.handles.heap slot) (λ before. IsSomeAnd (object_at new.loading.handles.heap slot) (IsRewritten at before))) → ⊥
       turn None e c = c
       turn (Some at) e c =
-          let free : owned_code old.loading.handles at.slot ≡ false = subst (λ p. IfSome p (λ _. owned_code old.loading.handles at.slot ≡ false)) (chosen_there old at e).table (uncoded at.slot) in
+          let free : owned_code old.loading.handles at.slot ≡ false = subst (λ p. IfSome p (λ _. owned_code old.loading.handles at.slot ≡ false)) (current_there old at e).table (uncoded at.slot) in
           false≢true (sym free ∙ ap (owned_code old.loading.handles) c.0 ∙ coded)
 
   keeps_code : (format : Format) → KeepsCode format old.loading new.loading
@@ -78,11 +78,11 @@ module _ (old new : World) (command : LocalCommand) (reply : Reply) (is : IsWorl
   kept : (slot : ℕ) → IsHeapKept old new slot → IfSome (finmap.get new.heaps slot) (λ _. owned_code old.loading.handles slot ≡ false)
   kept slot (inl same) = subst (λ p. IfSome p (λ _. owned_code old.loading.handles slot ≡ false)) (sym same) (is.uncoded slot)
   kept slot (inr (inl begun)) = all (owned_code old.loading.handles slot ≡ false) (finmap.get new.heaps slot) begun.1
-  kept slot (inr (inr c)) = all (owned_code old.loading.handles slot ≡ false) (finmap.get new.heaps slot) (turn (chosen old) refl c)
+  kept slot (inr (inr c)) = all (owned_code old.loading.handles slot ≡ false) (finmap.get new.heaps slot) (turn (current_heap old) refl c)
     where
-      turn : (p : Option LocalHeap) → chosen old ≡ p → IsSomeAnd p (λ at. (at.slot ≡ slot) × IsSomeAnd (finmap.get new.heaps slot) (λ t. (t.lo ≡ at.table.lo) × (t.hi ≡ at.table.hi))) → owned_code old.loading.handles slot ≡ false
+      turn : (p : Option LocalHeap) → current_heap old ≡ p → IsSomeAnd p (λ at. (at.slot ≡ slot) × IsSomeAnd (finmap.get new.heaps slot) (λ t. (t.lo ≡ at.table.lo) × (t.hi ≡ at.table.hi))) → owned_code old.loading.handles slot ≡ false
       turn None e c = absurd c
-      turn (Some at) e c = ap (owned_code old.loading.handles) (sym c.0) ∙ subst (λ p. IfSome p (λ _. owned_code old.loading.handles at.slot ≡ false)) (chosen_there old at e).table (is.uncoded at.slot)
+      turn (Some at) e c = ap (owned_code old.loading.handles) (sym c.0) ∙ subst (λ p. IfSome p (λ _. owned_code old.loading.handles at.slot ≡ false)) (current_there old at e).table (is.uncoded at.slot)
 
   pub local_world_kept : IsWorld new
   local_world_kept = record {

@@ -8,12 +8,12 @@ use Rattle.w16_model.specs.declared.Kind.{Kind}
 use Rattle.w16_model.specs.declared.Kind.TheVariants.{Fixed, Moveable, Discardable}
 use Rattle.w16_model.specs.declared.Refusal.{Refusal}
 use Rattle.w16_model.specs.declared.Refusal.TheVariants as refusals
-use Rattle.w16_model.specs.declared.Way.{Way}
+use Rattle.w16_model.specs.declared.RoomOptions.{RoomOptions}
 use Rattle.w16_model.specs.Discards.{eligible, is_member}
 use Rattle.w16_model.specs.Heap.{Heap, Object, IsHeap, blocks, object_at, is_fixed, is_discardable}
 use Rattle.w16_model.specs.Changes.{with_object, with_ordered, with_newest, removed, absent, touched}
 use Rattle.w16_model.specs.OneObject.{after_lock, after_unlock, after_free, after_discard, after_modify}
-use Rattle.w16_model.specs.Request.{Allocates, MakesRoom, AreNew, IsNew, Settles, Asked, compaction_prefix, discarded, prefix_of, stays_for}
+use Rattle.w16_model.specs.Request.{Allocates, MakesRoom, AreNew, IsNew, Settles, Asked, compaction_prefix, discarded, discards_needed, stays_for}
 use Rattle.w16_model.specs.Law.{KeepsOthers}
 use Rattle.w16_model.specs.Reallocation.{KeepsRest, IsResized, AreResized}
 use Rattle.w16_model.specs.Table.{Table, IsTable, heap_in, object_in, block_with, entry_at}
@@ -27,7 +27,7 @@ use Rattle.w16_model.specs.Calls.{has_flag}
 use Rattle.w16_machine.specs.declared.local.TheConstants.{LMEM_MOVEABLE, LMEM_DISCARDABLE}
 use Rattle.w16_machine.specs.Local.{AreNamed, rounded_up}
 use Rattle.w16_machine.proofs.LocalOutcomes.{IsAltered, IsRoomed, IsStepped}
-use Rattle.w16_machine.specs.LocalCalls.{LocalCommand, ResizesObject, is_absent_asked, local_kind, local_way, moveable_or_discardable}
+use Rattle.w16_machine.specs.LocalCalls.{LocalCommand, ResizesObject, is_absent_asked, local_kind, local_options, moveable_or_discardable}
 
 -- a fixed object has bytes
 abbrev pub HasName : Object → Type 0
@@ -50,7 +50,7 @@ named_in t is memory after whole same named id =
 loose_named : (o : Object) → is_fixed o.kind ≡ false → HasName o
 loose_named o loose f = absurd (false≢true (sym loose ∙ f))
 
-not_fixed : (flags : ℕ) → is_fixed (moveable_or_discardable flags) ≡ false
+pub not_fixed : (flags : ℕ) → is_fixed (moveable_or_discardable flags) ≡ false
 not_fixed flags = turn (has_flag flags LMEM_DISCARDABLE)
   where
     turn : (b : Bool) → is_fixed (cond b Discardable Moveable) ≡ false
@@ -181,19 +181,19 @@ module _ (old : Heap) (named : AreNamed old) where
         none : ◌≡◌ {A = Option ℕ} None (Some q) → ⊥
         none e = cc
 
-    allocated_named : (id n : ℕ) (kind : Kind) (way : Way) (new : Heap) → Allocates old id n kind 0 way true new → AreNamed new
-    allocated_named id n kind way new a =
-        let what : Asked = record { way = way; prefix = prefix_of old n (Some id) way; becomes = IsNew way.zero n kind 0; order = with_newest id } in
-        let r : (k : ℕ) × (what.prefix ≡ Some k) × ((p : Object) × what.becomes p × Settles old (stays_for id what.way) (with_ordered (discarded old k (Some id)) id p (what.order p)) new) = asked old id what new a.request in
-        named_own new id r.0 ((others_law old new is r.0).0 id way r.2.0 (with_newest id r.2.0) r.2.2)
+    allocated_named : (id n : ℕ) (kind : Kind) (options : RoomOptions) (new : Heap) → Allocates old id n kind 0 options true new → AreNamed new
+    allocated_named id n kind options new a =
+        let what : Asked = record { options = options; prefix = discards_needed old n (Some id) options; becomes = IsNew options.zero n kind 0; order = with_newest id } in
+        let r : (k : ℕ) × (what.prefix ≡ Some k) × ((p : Object) × what.becomes p × Settles old (stays_for id what.options) (with_ordered (discarded old k (Some id)) id p (what.order p)) new) = asked old id what new a.request in
+        named_own new id r.0 ((others_law old new is r.0).0 id options r.2.0 (with_newest id r.2.0) r.2.2)
         (subst (λ p. IfSome p HasName) (sym (ap (λ (h : Heap). object_at h id) r.2.2.same ∙ inserted_here (discarded old r.0 (Some id)).objects id r.2.0 id refl)) (λ f. some_bytes r.2.0.bytes r.2.1.new_bytes))
       where
-        some_bytes : (b : Option (List ℕ)) → IsSomeAnd b (AreNew way.zero n) → is_some b ≡ true
+        some_bytes : (b : Option (List ℕ)) → IsSomeAnd b (AreNew options.zero n) → is_some b ≡ true
         some_bytes None h = absurd h
         some_bytes (Some b) h = refl
 
     resized_named : (id size flags answer : ℕ) (new : Heap) → ResizesObject old id size flags answer new → AreNamed new
-    resized_named id size flags answer new r = turn (object_at old id) (rest_law old new id (rounded_up size) (local_way flags) is r.resized)
+    resized_named id size flags answer new r = turn (object_at old id) (rest_law old new id (rounded_up size) (local_options flags) is r.resized)
       where
         own : (zero : Bool) (o : Object) (n : ℕ) (p : Option Object) → IsSomeAnd p (IsResized zero n o) → IfSome p HasName
         own zero o n None h = tt
@@ -203,12 +203,12 @@ module _ (old : Heap) (named : AreNamed old) where
             some_bytes None h = absurd h
             some_bytes (Some b) h = refl
 
-        turn : (p : Option Object) → IsSomeAnd p (λ o. KeepsRest old id (rounded_up size) o (local_way flags) new) → AreNamed new
+        turn : (p : Option Object) → IsSomeAnd p (λ o. KeepsRest old id (rounded_up size) o (local_options flags) new) → AreNamed new
         turn None h = absurd h
-        turn (Some o) h = named_own new id h.count h.others (own (local_way flags).zero o (rounded_up size) (object_at new id) h.object)
+        turn (Some o) h = named_own new id h.count h.others (own (local_options flags).zero o (rounded_up size) (object_at new id) h.object)
 
     pub roomed_named : (command : LocalCommand) (answer : ℕ) (new : Heap) → IsRoomed old command answer new → AreNamed new
-    roomed_named command answer new (inl (asks, inl (flags, size, id, free, made))) = allocated_named id (rounded_up size) (local_kind flags) (local_way flags) new made.allocated
+    roomed_named command answer new (inl (asks, inl (flags, size, id, free, made))) = allocated_named id (rounded_up size) (local_kind flags) (local_options flags) new made.allocated
     roomed_named command answer new (inl (asks, inr (inl (size, made)))) = room_named size answer new made
     roomed_named command answer new (inl (asks, inr (inr (size, flags, id, named_id, may, resized)))) = resized_named id size flags answer new resized
     roomed_named command answer new (inr (id, named_id, inl e)) = subst (λ r. IfOk r AreNamed) e.1 (free_named id)

@@ -6,27 +6,29 @@ use Rattle.w16_model.specs.declared.Kind.{Kind}
 use Rattle.w16_model.specs.declared.Kind.TheVariants.{Fixed, Moveable, Discardable}
 use Rattle.w16_model.specs.declared.Refusal.{Refusal}
 use Rattle.w16_model.specs.declared.Refusal.TheVariants as refusals
-use Rattle.w16_model.specs.declared.Way.{Way}
+use Rattle.w16_model.specs.declared.RoomOptions.{RoomOptions}
 use Rattle.w16_model.specs.Discards.{eligible, is_member}
 use Rattle.w16_model.specs.Heap.{Heap, Object, IsHeap, blocks, object_at, is_fixed, is_discardable, is_pinned_object}
-use Rattle.w16_model.specs.Changes.{with_object, with_ordered, with_newest, removed, absent, touched}
+use Rattle.w16_model.specs.Changes.{with_object, with_ordered, with_newest, removed, absent, touched, without}
 use Rattle.w16_model.specs.OneObject.{after_lock, after_unlock, after_free, after_discard, after_modify}
-use Rattle.w16_model.specs.Request.{Allocates, MakesRoom, IsNew, Settles, Asked, compaction_prefix, discarded, prefix_of, stays_for}
+use Rattle.w16_model.specs.Request.{Allocates, MakesRoom, IsNew, Settles, Asked, compaction_prefix, discarded, discards_needed, stays_for}
 use Rattle.w16_model.specs.Law.{KeepsOthers, KeepsAddresses, StandsStill}
 use Rattle.w16_model.specs.Reallocation.{KeepsRest, MovesLittle}
 use Rattle.w16_model.proofs.Heaps.{get-update_other}
 use Rattle.w16_model.proofs.KeptHeaps.{inserted_other, taken_other}
+use Rattle.w16_model.proofs.CallOrders.{touched_rest}
+use Rattle.w16_model.proofs.KindChanges.{rest_order}
 use Rattle.w16_model.proofs.KeptRest.{rest_law}
 use Rattle.w16_model.proofs.Others.{others_law}
 use Rattle.w16_model.proofs.Outcomes.{address_law}
 use Rattle.w16_model.proofs.Reallocations.{asked as request_of, moves_law}
 use Rattle.w16_machine.specs.World.{World}
-use Rattle.w16_machine.specs.Local.{LocalHeap, AreLocalHeaps, heap_of, chosen, name_at, rounded_up}
-use Rattle.w16_machine.specs.LocalCalls.{LocalCommand, ResizesObject, local_kind, local_way, moveable_or_discardable}
+use Rattle.w16_machine.specs.Local.{LocalHeap, AreLocalHeaps, heap_of, current_heap, name_at, rounded_up}
+use Rattle.w16_machine.specs.LocalCalls.{LocalCommand, ResizesObject, local_kind, local_options, moveable_or_discardable}
 use Rattle.w16_machine.specs.LocalLaw.{IsLocalKept, OthersLaw, PinnedLaw, asks_for_room, may_move_named, named_by}
-use Rattle.w16_machine.proofs.LocalFacts.{chosen_there, local_here, heap_here}
+use Rattle.w16_machine.proofs.LocalFacts.{current_there, local_here, heap_here}
 use Rattle.w16_machine.proofs.LocalNames.{names_law}
-use Rattle.w16_machine.proofs.LocalChosen.{chosen_becomes}
+use Rattle.w16_machine.proofs.LocalCurrent.{current_becomes}
 use Rattle.w16_machine.proofs.LocalOutcomes.{IsAltered, IsGivenUp, IsMade, IsNamedIn, IsRoomed, IsStepped}
 
 pub stands_same : (old new : Heap) (q : ℕ) → finmap.get new.places q ≡ finmap.get old.places q → StandsStill old new q
@@ -37,7 +39,7 @@ stands_same old new q e = turn (finmap.get old.places q) e
     turn (Some at) e = e
 
 -- An object is changed where it stands.
-module _ (old : Heap) (id : ℕ) (P : Heap → Type 0) (itself : P old) (put : (new : Heap) (p : Object) → new.objects ≡ finmap.insert old.objects id p → new.places ≡ old.places → P new) where
+module _ (old : Heap) (id : ℕ) (P : Heap → Type 0) (itself : P old) (put : (new : Heap) (p : Object) → new.objects ≡ finmap.insert old.objects id p → new.places ≡ old.places → without id new.order ≡ without id old.order → P new) where
   if_ok : (b : Bool) (r s : Result Heap Refusal) → IfOk r P → IfOk s P → IfOk (cond b r s) P
   if_ok true r s f g = f
   if_ok false r s f g = g
@@ -54,14 +56,14 @@ module _ (old : Heap) (id : ℕ) (P : Heap → Type 0) (itself : P old) (put : (
           let locked : Heap = with_ordered old id (record o { locks = o.locks + 1 }) (touched id) in
           if_ok (not (is_some o.bytes)) (Err refusals.Absent) (cond (is_fixed o.kind) (Err refusals.Fixed) (cond (o.locks == 255) (Err refusals.LockFull) (Ok locked))) tt
           (if_ok (is_fixed o.kind) (Err refusals.Fixed) (cond (o.locks == 255) (Err refusals.LockFull) (Ok locked)) tt
-          (if_ok (o.locks == 255) (Err refusals.LockFull) (Ok locked) tt (put locked (record o { locks = o.locks + 1 }) refl refl)))
+          (if_ok (o.locks == 255) (Err refusals.LockFull) (Ok locked) tt (put locked (record o { locks = o.locks + 1 }) refl refl (touched_rest id old.order))))
 
   unlock_is : IfOk (after_unlock old id) P
   unlock_is = turn (object_at old id)
     where
       turn : (p : Option Object) → IfOk (elim p as (λ _. Result Heap Refusal) [ None ↦ Ok old | Some o ↦ cond (is_fixed o.kind) (Err refusals.Fixed) (Ok (with_object old id (record o { locks = o.locks - 1 }))) ]) P
       turn None = itself
-      turn (Some o) = let less : Heap = with_object old id (record o { locks = o.locks - 1 }) in if_ok (is_fixed o.kind) (Err refusals.Fixed) (Ok less) tt (put less (record o { locks = o.locks - 1 }) refl refl)
+      turn (Some o) = let less : Heap = with_object old id (record o { locks = o.locks - 1 }) in if_ok (is_fixed o.kind) (Err refusals.Fixed) (Ok less) tt (put less (record o { locks = o.locks - 1 }) refl refl refl)
 
   modify_is : (kind : Kind) → IfOk (after_modify old id kind) P
   modify_is kind = turn (object_at old id)
@@ -74,7 +76,7 @@ module _ (old : Heap) (id : ℕ) (P : Heap → Type 0) (itself : P old) (put : (
       turn None = tt
       turn (Some o) =
           let changed : Heap = with_ordered old id (record o { kind = kind }) (λ order. cond (is_discardable o.kind && is_discardable kind) order (with_newest id (record o { kind = kind }) order)) in
-          if_ok (is_fixed o.kind || is_fixed kind) (Err refusals.Fixed) (Ok changed) tt (put changed (record o { kind = kind }) refl refl)
+          if_ok (is_fixed o.kind || is_fixed kind) (Err refusals.Fixed) (Ok changed) tt (put changed (record o { kind = kind }) refl refl (rest_order id old.order (is_discardable o.kind) (is_discardable kind) (is_some o.bytes)))
 
   pub altered_is : (new : Heap) → IsAltered old id new → P new
   altered_is new (inl e) = subst (λ r. IfOk r P) e lock_is
@@ -150,31 +152,31 @@ module _ (asks : Bool) (old : Heap) (q : ℕ) (o : Object) (there : object_at ol
     none_some : ◌≡◌ {A = Option ℕ} None (Some q) → ⊥
     none_some e = cc
 
-    allocated_kept : (id n : ℕ) (kind : Kind) (way : Way) (new : Heap) → q ≢ id → Allocates old id n kind 0 way true new → Kept new
-    allocated_kept id n kind way new other a =
-        let what : Asked = record { way = way; prefix = prefix_of old n (Some id) way; becomes = IsNew way.zero n kind 0; order = with_newest id } in
-        let r : (k : ℕ) × (what.prefix ≡ Some k) × ((p : Object) × what.becomes p × Settles old (stays_for id what.way) (with_ordered (discarded old k (Some id)) id p (what.order p)) new) = request_of old id what new a.request in
-        room_kept asked new (Some id) r.0 way.compact (not_some id other) ((others_law old new is r.0).0 id way r.2.0 (with_newest id r.2.0) r.2.2) ((address_law old new is r.0).0 id way r.2.0 (with_newest id r.2.0) r.2.2)
+    allocated_kept : (id n : ℕ) (kind : Kind) (options : RoomOptions) (new : Heap) → q ≢ id → Allocates old id n kind 0 options true new → Kept new
+    allocated_kept id n kind options new other a =
+        let what : Asked = record { options = options; prefix = discards_needed old n (Some id) options; becomes = IsNew options.zero n kind 0; order = with_newest id } in
+        let r : (k : ℕ) × (what.prefix ≡ Some k) × ((p : Object) × what.becomes p × Settles old (stays_for id what.options) (with_ordered (discarded old k (Some id)) id p (what.order p)) new) = request_of old id what new a.request in
+        room_kept asked new (Some id) r.0 options.compact (not_some id other) ((others_law old new is r.0).0 id options r.2.0 (with_newest id r.2.0) r.2.2) ((address_law old new is r.0).0 id options r.2.0 (with_newest id r.2.0) r.2.2)
 
     compacted_kept : (size answer : ℕ) (new : Heap) → MakesRoom old size answer new → Kept new
     compacted_kept size answer new m =
         room_kept asked new None (compaction_prefix old size) true none_some ((others_law old new is (compaction_prefix old size)).1 m.settled) ((address_law old new is (compaction_prefix old size)).1 m.settled)
 
     resized_kept : (id size flags answer : ℕ) (new : Heap) → q ≢ id → ResizesObject old id size flags answer new → Kept new
-    resized_kept id size flags answer new other r = turn (object_at old id) (rest_law old new id (rounded_up size) (local_way flags) is r.resized) (moves_law old new id (rounded_up size) (local_way flags) is r.resized)
+    resized_kept id size flags answer new other r = turn (object_at old id) (rest_law old new id (rounded_up size) (local_options flags) is r.resized) (moves_law old new id (rounded_up size) (local_options flags) is r.resized)
       where
-        turn : (p : Option Object) → IsSomeAnd p (λ o. KeepsRest old id (rounded_up size) o (local_way flags) new) → IsSomeAnd p (λ o. MovesLittle old id (rounded_up size) o (local_way flags) new) → Kept new
+        turn : (p : Option Object) → IsSomeAnd p (λ o. KeepsRest old id (rounded_up size) o (local_options flags) new) → IsSomeAnd p (λ o. MovesLittle old id (rounded_up size) o (local_options flags) new) → Kept new
         turn None h g = absurd h
-        turn (Some p) h g = room_kept asked new (Some id) h.count (local_way flags).compact (not_some id other) h.others g.others
+        turn (Some p) h g = room_kept asked new (Some id) h.count (local_options flags).compact (not_some id other) h.others g.others
 
 -- In a local heap.
-module _ (old : World) (is : AreLocalHeaps old) (at : LocalHeap) (c : chosen old ≡ Some at) (command : LocalCommand) (q : ℕ) (o : Object) (there : object_at (heap_of at) q ≡ Some o) where
+module _ (old : World) (is : AreLocalHeaps old) (at : LocalHeap) (c : current_heap old ≡ Some at) (command : LocalCommand) (q : ℕ) (o : Object) (there : object_at (heap_of at) q ≡ Some o) where
   heap : IsHeap (heap_of at)
-  heap = heap_here old is at (chosen_there old at c)
+  heap = heap_here old is at (current_there old at c)
 
   -- the object that is named is another
   other : ((name : ℕ) → named_by command ≡ Some name → name_at (heap_of at) q ≢ Some name) → (id : ℕ) → IsNamedIn (heap_of at) command id → q ≢ id
-  other unnamed id named e = unnamed named.name named.asked (ap (name_at (heap_of at)) e ∙ (names_law (heap_of at) named.name id heap (local_here old is at (chosen_there old at c)).0.grain).0.0 named.has)
+  other unnamed id named e = unnamed named.name named.asked (ap (name_at (heap_of at)) e ∙ (names_law (heap_of at) named.name id heap (local_here old is at (current_there old at c)).0.grain).0.0 named.has)
 
   -- a free entry is another's
   in_use : (id : ℕ) → object_at (heap_of at) id ≡ None → q ≢ id
@@ -189,12 +191,12 @@ module _ (old : World) (is : AreLocalHeaps old) (at : LocalHeap) (c : chosen old
   -- another object's part of a call
   pub stepped_kept : ((id : ℕ) → IsNamedIn (heap_of at) command id → q ≢ id) → (next : Heap) → IsStepped (heap_of at) command next → Spared next
   stepped_kept others next (inl (id, named, altered)) =
-      altered_is (heap_of at) id Spared (itself_kept (asks_for_room command) (heap_of at) q o there) (put_kept (asks_for_room command) (heap_of at) q o there id (others id named)) next altered
+      altered_is (heap_of at) id Spared (itself_kept (asks_for_room command) (heap_of at) q o there) (λ new p put places order. put_kept (asks_for_room command) (heap_of at) q o there id (others id named) new p put places) next altered
   stepped_kept others next (inr (flags, size, id, t, enters)) =
       put_kept (asks_for_room command) (heap_of at) q o there id (in_use id enters.unused) next (record { kind = local_kind flags; locks = 0; bytes = None }) (ap (λ (h : Heap). h.objects) enters.entered) (ap (λ (h : Heap). h.places) enters.entered)
 
   pub made_kept : ((id : ℕ) → IsNamedIn (heap_of at) command id → may_move_named command ≡ true → q ≢ id) → (answer : ℕ) (next : Heap) → asks_for_room command ≡ true → IsMade (heap_of at) command answer next → Spared next
-  made_kept others answer next asks (inl (flags, size, id, free, made)) = allocated_kept (asks_for_room command) (heap_of at) q o there heap asks id (rounded_up size) (local_kind flags) (local_way flags) next (in_use id free.free.1) made.allocated
+  made_kept others answer next asks (inl (flags, size, id, free, made)) = allocated_kept (asks_for_room command) (heap_of at) q o there heap asks id (rounded_up size) (local_kind flags) (local_options flags) next (in_use id free.free.1) made.allocated
   made_kept others answer next asks (inr (inl (size, made))) = compacted_kept (asks_for_room command) (heap_of at) q o there heap asks size answer next made
   made_kept others answer next asks (inr (inr (size, flags, id, named, may, resized))) = resized_kept (asks_for_room command) (heap_of at) q o there heap asks id size flags answer next (others id named may) resized
 
@@ -203,7 +205,7 @@ module _ (old : World) (is : AreLocalHeaps old) (at : LocalHeap) (c : chosen old
 
 pub local_others_law : OthersLaw
 local_others_law old new command reply at after q o is step c e there unnamed =
-    chosen_becomes old at c command reply new (λ next. IsLocalKept (asks_for_room command) (heap_of at) next q o) (itself_kept (asks_for_room command) (heap_of at) q o there) (stepped_kept old is at c command q o there others) roomed after e step
+    current_becomes old at c command reply new (λ next. IsLocalKept (asks_for_room command) (heap_of at) next q o) (itself_kept (asks_for_room command) (heap_of at) q o there) (stepped_kept old is at c command q o there others) roomed after e step
   where
     others : (id : ℕ) → IsNamedIn (heap_of at) command id → q ≢ id
     others = other old is at c command q o there unnamed
@@ -232,7 +234,7 @@ discard_loose heap id o next there e = turn (nat_lt 0 o.locks) o.kind (sym (ap o
 
 pub local_pinned_law : PinnedLaw
 local_pinned_law old new command reply at after q o is step c e there pinned unmoved =
-    chosen_becomes old at c command reply new Stands (stands_same (heap_of at) (heap_of at) q refl) stepped roomed after e step
+    current_becomes old at c command reply new Stands (stands_same (heap_of at) (heap_of at) q refl) stepped roomed after e step
   where
     Stands : Heap → Type 0
     Stands next = StandsStill (heap_of at) next q
@@ -242,7 +244,7 @@ local_pinned_law old new command reply at after q o is step c e there pinned unm
 
     stepped : (next : Heap) → IsStepped (heap_of at) command next → Stands next
     stepped next (inl (id, named, altered)) =
-        altered_is (heap_of at) id Stands (stands_same (heap_of at) (heap_of at) q refl) (λ new p put places. stands_same (heap_of at) new q (ap (λ m. finmap.get m q) places)) next altered
+        altered_is (heap_of at) id Stands (stands_same (heap_of at) (heap_of at) q refl) (λ new p put places order. stands_same (heap_of at) new q (ap (λ m. finmap.get m q) places)) next altered
     stepped next (inr (flags, size, id, t, enters)) = stands_same (heap_of at) next q (ap (λ (h : Heap). finmap.get h.places q) enters.entered)
 
     others : (id : ℕ) → IsNamedIn (heap_of at) command id → may_move_named command ≡ true → q ≢ id

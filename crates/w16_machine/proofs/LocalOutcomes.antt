@@ -1,5 +1,5 @@
--- What a local call does, in four ways: nothing; a heap begins; an object of the chosen heap is changed where it stands; room is made there.
-use Rattle.std.proofs.Common.{◌≡◌, ℕ, ◌⊎◌, inl, inr, Bool, true, false, ◌==◌, MatchBool, MatchOption, Option, Some, None, Result, Ok, Err, refl, sym, subst}
+-- What a local call does, in four ways: nothing; a heap begins; an object of the current heap is changed where it stands; room is made there.
+use Rattle.std.proofs.Common.{◌≡◌, ℕ, ◌⊎◌, inl, inr, Bool, true, false, ◌==◌, ◌||◌, not, MatchBool, MatchOption, Option, Some, None, Result, Ok, Err, refl, sym, ap, ◌∙◌, subst}
 use Rattle.std.proofs.lemmas.Bool.{false≢true}
 use Rattle.w16_model.specs.declared.Refusal.{Refusal}
 use Rattle.w16_model.specs.Heap.{Heap}
@@ -9,7 +9,7 @@ use Rattle.w16_model.specs.OneObject.{Enters, after_lock, after_unlock, after_fr
 use Rattle.w16_model.specs.Calls.{has_flag}
 use Rattle.w16_machine.specs.declared.local.TheConstants.{LMEM_MOVEABLE, LMEM_MODIFY}
 use Rattle.w16_machine.specs.World.{World}
-use Rattle.w16_machine.specs.Local.{LocalHeap, LocalObject, Beginning, Becomes, Acts, Stays, IsLowestFree, heap_of, chosen, object_named, id_named, beginning, new_table, with_table}
+use Rattle.w16_machine.specs.Local.{LocalHeap, LocalObject, Beginning, Becomes, Acts, Stays, IsLowestFree, heap_of, current_heap, object_named, id_named, beginning, new_table, with_table}
 use Rattle.w16_machine.specs.LocalCalls.{LocalCommand, Answers, Leaves, GivesUp, EntersObject, AllocatesObject, ResizesObject, is_absent_asked, local_kind, AllocatesIn, CompactsIn, LocalInits, OnNamed, ModifiesObject, DiscardsObject, SizesObject, moveable_or_discardable, lock_refused, locks_left, near_pointer}
 use Rattle.w16_machine.specs.LocalCalls.LocalCommand.{LocalInit, LocalAlloc, LocalReAlloc, LocalDiscard, LocalFree, LocalLock, LocalUnlock, LocalSize, LocalFlags, LocalHandle, LocalCompact, DS}
 use Rattle.w16_machine.specs.LocalLaw.{asks_for_room, may_move_named, named_by}
@@ -66,7 +66,7 @@ abbrev pub IsDone : World → LocalCommand → ℕ → World → LocalHeap → T
 IsDone old command answer new at = ((next : Heap) × IsStepped (heap_of at) command next × Becomes old at next new) ⊎ Acts old at (IsRoomed (heap_of at) command answer) new
 
 abbrev pub Outcome : World → LocalCommand → ℕ → World → Type 0
-Outcome old command answer new = (new ≡ old) ⊎ IsInit old command answer new ⊎ ((at : LocalHeap) × (chosen old ≡ Some at) × IsDone old command answer new at)
+Outcome old command answer new = (new ≡ old) ⊎ IsInit old command answer new ⊎ ((at : LocalHeap) × (current_heap old ≡ Some at) × IsDone old command answer new at)
 
 acts_as : (old : World) (at : LocalHeap) (P Q : Heap → Type 0) (new : World) → ((heap : Heap) → P heap → Q heap) → Acts old at P new → Acts old at Q new
 acts_as old at P Q new f a = record {
@@ -88,28 +88,28 @@ module _ (old : World) (command : LocalCommand) (answer : ℕ) (new : World) whe
   stayed : (value : ℕ) → Stays old value answer new → Out
   stayed value s = inl s.1
 
-  on_chosen : (so : LocalHeap → Type 0) → ((at : LocalHeap) → chosen old ≡ Some at → so at → Out) → MatchOption (chosen old) (Stays old 0 answer new) so → Out
-  on_chosen so f = turn (chosen old) refl
+  on_chosen : (so : LocalHeap → Type 0) → ((at : LocalHeap) → current_heap old ≡ Some at → so at → Out) → MatchOption (current_heap old) (Stays old 0 answer new) so → Out
+  on_chosen so f = turn (current_heap old) refl
     where
-      turn : (p : Option LocalHeap) → chosen old ≡ p → MatchOption p (Stays old 0 answer new) so → Out
+      turn : (p : Option LocalHeap) → current_heap old ≡ p → MatchOption p (Stays old 0 answer new) so → Out
       turn None e s = stayed 0 s
       turn (Some at) e s = f at e s
 
-  on_named : (name otherwise : ℕ) (so : LocalObject → Type 0) → named_by command ≡ Some name → ((o : LocalObject) → chosen old ≡ Some o.heap → IsNamedIn (heap_of o.heap) command o.id → so o → Out) → OnNamed old name otherwise answer new so → Out
+  on_named : (name otherwise : ℕ) (so : LocalObject → Type 0) → named_by command ≡ Some name → ((o : LocalObject) → current_heap old ≡ Some o.heap → IsNamedIn (heap_of o.heap) command o.id → so o → Out) → OnNamed old name otherwise answer new so → Out
   on_named name otherwise so asked f = turn (object_named old name) refl
     where
       turn : (p : Option LocalObject) → object_named old name ≡ p → MatchOption p (Stays old otherwise answer new) so → Out
       turn None e s = stayed otherwise s
       turn (Some o) e s =
-          let t : (chosen old ≡ Some o.heap) × (id_named (heap_of o.heap) name ≡ Some o.id) = named_there old name o e in
+          let t : (current_heap old ≡ Some o.heap) × (id_named (heap_of o.heap) name ≡ Some o.id) = named_there old name o e in
           f o t.0 (record { name = name; asked = asked; has = t.1 }) s
 
-  leaves : (o : LocalObject) → chosen old ≡ Some o.heap → IsNamedIn (heap_of o.heap) command o.id → (r : Result Heap Refusal) → ((next : Heap) → r ≡ Ok next → IsAltered (heap_of o.heap) o.id next)
+  leaves : (o : LocalObject) → current_heap old ≡ Some o.heap → IsNamedIn (heap_of o.heap) command o.id → (r : Result Heap Refusal) → ((next : Heap) → r ≡ Ok next → IsAltered (heap_of o.heap) o.id next)
       → (taken : Heap → ℕ) (refused : Refusal → ℕ) → Leaves old o.heap r taken refused answer new → Out
   leaves o c named (Ok next) f taken refused l = inr (inr (o.heap, c, inl (next, inl (o.id, named, f next refl), l.1)))
   leaves o c named (Err refusal) f taken refused l = stayed (refused refusal) l
 
-  gives_up : (o : LocalObject) → chosen old ≡ Some o.heap → IsNamedIn (heap_of o.heap) command o.id → (r : Result Heap Refusal) → ((next : Heap) → r ≡ Ok next → IsGivenUp (heap_of o.heap) command o.id next)
+  gives_up : (o : LocalObject) → current_heap old ≡ Some o.heap → IsNamedIn (heap_of o.heap) command o.id → (r : Result Heap Refusal) → ((next : Heap) → r ≡ Ok next → IsGivenUp (heap_of o.heap) command o.id next)
       → (taken refused : ℕ) → GivesUp old o.heap r taken refused answer new → Out
   gives_up o c named (Ok heap) f taken refused l = inr (inr (
     o.heap,
@@ -126,47 +126,47 @@ module _ (old : World) (command : LocalCommand) (answer : ℕ) (new : World) whe
       turn None e s = stayed 0 s
       turn (Some b) e s = inr (inl (record { selector = selector; start = start; end = end; begun = b; asked = asked; may = e; answered = s.0; rest = s.1 }))
 
-  allocates : asks_for_room command ≡ true → (flags size : ℕ) (at : LocalHeap) → chosen old ≡ Some at → AllocatesIn old flags size answer new at → Out
-  allocates asks flags size at c (inl refused) = stayed 0 refused.1
-  allocates asks flags size at c (inr (id, free, makes)) = turn (is_absent_asked flags size) refl makes
+  allocates : (flags size : ℕ) → (is_absent_asked flags size ≡ false → asks_for_room command ≡ true) → (at : LocalHeap) → current_heap old ≡ Some at → AllocatesIn old flags size answer new at → Out
+  allocates flags size asks at c (inl refused) = stayed 0 refused.1
+  allocates flags size asks at c (inr (id, free, makes)) = turn (is_absent_asked flags size) refl makes
     where
       turn : (b : Bool) → is_absent_asked flags size ≡ b → MatchBool b ((next : Heap) × EntersObject (heap_of at) flags id answer next × Becomes old at next new) (Acts old at (AllocatesObject (heap_of at) flags size id answer) new) → Out
       turn true t e = inr (inr (at, c, inl (e.0, inr (flags, size, id, t, e.1.entered), e.2)))
-      turn false t a = inr (inr (at, c, inr (acts_as old at (AllocatesObject (heap_of at) flags size id answer) (IsRoomed (heap_of at) command answer) new (λ heap m. inl (asks, inl (flags, size, id, free, m))) a)))
+      turn false t a = inr (inr (at, c, inr (acts_as old at (AllocatesObject (heap_of at) flags size id answer) (IsRoomed (heap_of at) command answer) new (λ heap m. inl (asks t, inl (flags, size, id, free, m))) a)))
 
-  compacts : asks_for_room command ≡ true → (size : ℕ) (at : LocalHeap) → chosen old ≡ Some at → CompactsIn old size answer new at → Out
-  compacts asks size at c = turn (size == 0)
+  compacts : (size : ℕ) → ((size == 0) ≡ false → asks_for_room command ≡ true) → (at : LocalHeap) → current_heap old ≡ Some at → CompactsIn old size answer new at → Out
+  compacts size asks at c = turn (size == 0) refl
     where
-      turn : (b : Bool) → MatchBool b (Stays old (most_room (heap_of at)) answer new) (Acts old at (MakesRoom (heap_of at) size answer) new) → Out
-      turn true s = stayed (most_room (heap_of at)) s
-      turn false a = inr (inr (at, c, inr (acts_as old at (MakesRoom (heap_of at) size answer) (IsRoomed (heap_of at) command answer) new (λ heap m. inl (asks, inr (inl (size, m)))) a)))
+      turn : (b : Bool) → (size == 0) ≡ b → MatchBool b (Stays old (most_room (heap_of at)) answer new) (Acts old at (MakesRoom (heap_of at) size answer) new) → Out
+      turn true t s = stayed (most_room (heap_of at)) s
+      turn false t a = inr (inr (at, c, inr (acts_as old at (MakesRoom (heap_of at) size answer) (IsRoomed (heap_of at) command answer) new (λ heap m. inl (asks t, inr (inl (size, m)))) a)))
 
-  reallocates : (name size flags : ℕ) → ((size == 0) ≡ false → (asks_for_room command ≡ true) × (may_move_named command ≡ true)) → (o : LocalObject) → chosen old ≡ Some o.heap → IsNamedIn (heap_of o.heap) command o.id
+  reallocates : (name size flags : ℕ) → (has_flag flags LMEM_MODIFY ≡ false → (size == 0) ≡ false → (asks_for_room command ≡ true) × (may_move_named command ≡ true)) → (o : LocalObject) → current_heap old ≡ Some o.heap → IsNamedIn (heap_of o.heap) command o.id
       → MatchBool (has_flag flags LMEM_MODIFY) (ModifiesObject old name flags answer new o) (MatchBool (size == 0) (DiscardsObject old name flags answer new o) (SizesObject old size flags answer new o)) → Out
-  reallocates name size flags asks o c named = modify (has_flag flags LMEM_MODIFY)
+  reallocates name size flags asks o c named = modify (has_flag flags LMEM_MODIFY) refl
     where
       discards : (b : Bool) → MatchBool b (GivesUp old o.heap (after_discard (heap_of o.heap) o.id) name 0 answer new) (Stays old 0 answer new) → Out
       discards true l = gives_up o c named (after_discard (heap_of o.heap) o.id) (λ next e. inr e) name 0 l
       discards false s = stayed 0 s
 
-      sizes : (size == 0) ≡ false → SizesObject old size flags answer new o → Out
-      sizes some (inl refused) = stayed 0 refused.1
-      sizes some (inr a) = inr (inr (o.heap, c, inr (acts_as old o.heap (ResizesObject (heap_of o.heap) o.id size flags answer) (IsRoomed (heap_of o.heap) command answer) new (λ heap r. inl ((asks some).0, inr (inr (size, flags, o.id, named, (asks some).1, r)))) a)))
+      sizes : (asks_for_room command ≡ true) × (may_move_named command ≡ true) → SizesObject old size flags answer new o → Out
+      sizes may (inl refused) = stayed 0 refused.1
+      sizes may (inr a) = inr (inr (o.heap, c, inr (acts_as old o.heap (ResizesObject (heap_of o.heap) o.id size flags answer) (IsRoomed (heap_of o.heap) command answer) new (λ heap r. inl (may.0, inr (inr (size, flags, o.id, named, may.1, r)))) a)))
 
-      by_size : (b : Bool) → (size == 0) ≡ b → MatchBool b (DiscardsObject old name flags answer new o) (SizesObject old size flags answer new o) → Out
-      by_size true e d = discards (has_flag flags LMEM_MOVEABLE) d
-      by_size false e s = sizes e s
+      by_size : has_flag flags LMEM_MODIFY ≡ false → (b : Bool) → (size == 0) ≡ b → MatchBool b (DiscardsObject old name flags answer new o) (SizesObject old size flags answer new o) → Out
+      by_size keeps true e d = discards (has_flag flags LMEM_MOVEABLE) d
+      by_size keeps false e s = sizes (asks keeps e) s
 
-      modify : (b : Bool) → MatchBool b (ModifiesObject old name flags answer new o) (MatchBool (size == 0) (DiscardsObject old name flags answer new o) (SizesObject old size flags answer new o)) → Out
-      modify true l = leaves o c named (after_modify (heap_of o.heap) o.id (moveable_or_discardable flags)) (λ next e. inr (inr (flags, e))) (λ _. name) (λ _. name) l
-      modify false s = by_size (size == 0) refl s
+      modify : (b : Bool) → has_flag flags LMEM_MODIFY ≡ b → MatchBool b (ModifiesObject old name flags answer new o) (MatchBool (size == 0) (DiscardsObject old name flags answer new o) (SizesObject old size flags answer new o)) → Out
+      modify true e l = leaves o c named (after_modify (heap_of o.heap) o.id (moveable_or_discardable flags)) (λ next e. inr (inr (flags, e))) (λ _. name) (λ _. name) l
+      modify false e s = by_size e (size == 0) refl s
 
 pub outcome : (old : World) (command : LocalCommand) (answer : ℕ) (new : World) → Answers old command answer new → Outcome old command answer new
 outcome old (LocalInit selector start end) answer new step = inits old (LocalInit selector start end) answer new selector start end refl step
-outcome old (LocalAlloc flags size) answer new step = on_chosen old (LocalAlloc flags size) answer new (AllocatesIn old flags size answer new) (allocates old (LocalAlloc flags size) answer new refl flags size) step
+outcome old (LocalAlloc flags size) answer new step = on_chosen old (LocalAlloc flags size) answer new (AllocatesIn old flags size answer new) (allocates old (LocalAlloc flags size) answer new flags size (λ some. ap not some)) step
 outcome old (LocalReAlloc name size flags) answer new step =
-    on_named old (LocalReAlloc name size flags) answer new name 0 _ refl (λ o c named s. reallocates old (LocalReAlloc name size flags) answer new name size flags (λ some. (refl, refl)) o c named s) step
-outcome old (LocalDiscard name) answer new step = on_named old (LocalDiscard name) answer new name 0 _ refl (λ o c named s. reallocates old (LocalDiscard name) answer new name 0 LMEM_MOVEABLE (λ some. absurd (false≢true (sym some))) o c named s) step
+    on_named old (LocalReAlloc name size flags) answer new name 0 _ refl (λ o c named s. reallocates old (LocalReAlloc name size flags) answer new name size flags (λ keeps some. let asks : asks_for_room (LocalReAlloc name size flags) ≡ true = ap not (ap (λ b. b || (size == 0)) keeps ∙ some) in (asks, asks)) o c named s) step
+outcome old (LocalDiscard name) answer new step = on_named old (LocalDiscard name) answer new name 0 _ refl (λ o c named s. reallocates old (LocalDiscard name) answer new name 0 LMEM_MOVEABLE (λ keeps some. absurd (false≢true (sym some))) o c named s) step
 outcome old (LocalFree name) answer new step =
     on_named old (LocalFree name) answer new name name (λ o. GivesUp old o.heap (after_free (heap_of o.heap) o.id) 0 name answer new) refl
     (λ o c named l. gives_up old (LocalFree name) answer new o c named (after_free (heap_of o.heap) o.id) (λ next e. inl (refl, e)) 0 name l) step
@@ -179,5 +179,5 @@ outcome old (LocalUnlock name) answer new step =
 outcome old (LocalSize name) answer new step = inl step.1
 outcome old (LocalFlags name) answer new step = inl step.1
 outcome old (LocalHandle pointer) answer new step = inl step.1
-outcome old (LocalCompact size) answer new step = on_chosen old (LocalCompact size) answer new (CompactsIn old size answer new) (compacts old (LocalCompact size) answer new refl size) step
+outcome old (LocalCompact size) answer new step = on_chosen old (LocalCompact size) answer new (CompactsIn old size answer new) (compacts old (LocalCompact size) answer new size (λ some. ap not some)) step
 outcome old (DS selector) answer new step = absurd step

@@ -3,14 +3,14 @@ use Rattle.std.proofs.Common.{◌≡◌, ℕ, ◌<◌, inl, inr, Bool, true, fal
 use Rattle.std.proofs.lemmas.Bool.{false≢true}
 use Rattle.w16_model.specs.Heap.{Heap, IsHeap}
 use Rattle.w16_model.specs.Changes.{with_newest}
-use Rattle.w16_model.specs.Request.{IsNew, prefix_of}
+use Rattle.w16_model.specs.Request.{IsNew, discards_needed}
 use Rattle.w16_model.specs.Calls.{has_flag}
 use Rattle.w16_model.proofs.Prefixes.{none_about}
 use Rattle.w16_model.proofs.Reallocations.{asked}
 use Rattle.w16_machine.specs.declared.local.TheConstants.{LMEM_MOVEABLE}
 use Rattle.w16_machine.specs.World.{World}
 use Rattle.w16_machine.specs.Local.{LocalHeap, Becomes, Acts, IsLowestFree, heap_of, rounded_up}
-use Rattle.w16_machine.specs.LocalCalls.{EntersObject, AllocatesObject, is_absent_asked, local_kind, local_way}
+use Rattle.w16_machine.specs.LocalCalls.{EntersObject, AllocatesObject, is_absent_asked, local_kind, local_options}
 use Rattle.w16_machine.specs.LocalLaw.{OutcomeLaw}
 
 -- what isn't asked to be without bytes was made with some, for which there was room
@@ -22,9 +22,9 @@ module _ (old new : World) (at : LocalHeap) (flags size id answer : ℕ) where
   with_bytes true e m = absurd (false≢true (sym e))
   with_bytes false e m = m
 
-  roomed : IsHeap (heap_of at) → IsLowestFree (heap_of at) id → Acts old at (AllocatesObject (heap_of at) flags size id answer) new → prefix_of (heap_of at) (rounded_up size) None (local_way flags) ≡ None → ⊥
-  roomed is free a none = none_some (sym none ∙ sym (none_about (heap_of at) is id free.free.1 (rounded_up size) (local_way flags))
-      ∙ (asked (heap_of at) id (record { way = local_way flags; prefix = prefix_of (heap_of at) (rounded_up size) (Some id) (local_way flags); becomes = IsNew (local_way flags).zero (rounded_up size) (local_kind flags) 0; order = with_newest id }) _ a.acted.allocated.request).1)
+  roomed : IsHeap (heap_of at) → IsLowestFree (heap_of at) id → Acts old at (AllocatesObject (heap_of at) flags size id answer) new → discards_needed (heap_of at) (rounded_up size) None (local_options flags) ≡ None → ⊥
+  roomed is free a none = none_some (sym none ∙ sym (none_about (heap_of at) is id free.free.1 (rounded_up size) (local_options flags))
+      ∙ (asked (heap_of at) id (record { options = local_options flags; prefix = discards_needed (heap_of at) (rounded_up size) (Some id) (local_options flags); becomes = IsNew (local_options flags).zero (rounded_up size) (local_kind flags) 0; order = with_newest id }) _ a.acted.allocated.request).1)
     where
       none_some : {k : ℕ} → ◌≡◌ {A = Option ℕ} None (Some k) → ⊥
       none_some e = cc

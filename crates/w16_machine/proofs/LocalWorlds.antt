@@ -18,7 +18,7 @@ use Rattle.w16_machine.specs.Local.{LocalHeap, AreLocalHeaps, IsLocalIn, AreName
 use Rattle.w16_machine.specs.LocalCalls.{LocalCommand, LocalStep}
 use Rattle.w16_machine.specs.LocalCalls.LocalCommand.{DS}
 use Rattle.w16_machine.specs.Machine.{after_loading}
-use Rattle.w16_machine.proofs.LocalFacts.{IsThere, chosen_there, local_here, heap_here, object_of, segment_after, segment_other}
+use Rattle.w16_machine.proofs.LocalFacts.{IsThere, current_there, local_here, heap_here, object_of, segment_after, segment_other}
 use Rattle.w16_machine.proofs.LocalBegins.{begin_law, new_local}
 use Rattle.w16_machine.proofs.LocalNamed.{named_in, roomed_named, stepped_named}
 use Rattle.w16_machine.proofs.LocalOutcomes.{Outcome, IsRoomed, outcome}
@@ -99,10 +99,10 @@ module _ (old : World) (is : AreLocalHeaps old) where
   local_world command answer new (inr (inl init)) =
       subst AreLocalHeaps (sym init.rest) (tabled_world init.begun.slot (new_table init.begun.range) (new_local old init.selector init.start init.end init.begun ((begin_law old init.selector init.start init.end init.begun).0 init.may)))
   local_world command answer new (inr (inr (at, c, inl (next, stepped, becomes)))) =
-      let there : IsThere old at = chosen_there old at c in
+      let there : IsThere old at = current_there old at c in
       becomes_world at there next new (stepped_named (heap_of at) (local_here old is at there).2 command next stepped) becomes
   local_world command answer new (inr (inr (at, c, inr acts))) =
-      let there : IsThere old at = chosen_there old at c in
+      let there : IsThere old at = current_there old at c in
       acts_world at there (IsRoomed (heap_of at) command answer) new (λ heap room. roomed_named (heap_of at) (local_here old is at there).2 (heap_here old is at there) command answer heap room) acts
 
 pub local_heaps_kept : (old new : World) (command : LocalCommand) (reply : Reply) → AreLocalHeaps old → LocalStep old command reply new → AreLocalHeaps new

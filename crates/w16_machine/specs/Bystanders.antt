@@ -9,9 +9,9 @@ use Rattle.w16_loading.specs.File.{Format}
 use Rattle.w16_loading.specs.Replies.{Reply}
 use Rattle.w16_machine.specs.World.{World}
 use Rattle.w16_machine.specs.Law.{IsWorld}
-use Rattle.w16_machine.specs.Local.{LocalHeap, heap_of, local_in, chosen, name_at}
+use Rattle.w16_machine.specs.Local.{LocalHeap, heap_of, local_in, current_heap}
 use Rattle.w16_machine.specs.LocalCalls.LocalCommand.{DS}
-use Rattle.w16_machine.specs.LocalLaw.{IsObjectKept, asks_for_room, but_bytes, may_move_named, named_by}
+use Rattle.w16_machine.specs.LocalLaw.{IsNamedBy, IsObjectKept, asks_for_room, but_bytes, may_move_named}
 use Rattle.w16_machine.specs.Machine.{Command, IsCommand, Event, Step, Run}
 use Rattle.w16_machine.specs.Machine.Command.{OfLoading, OfLocals}
 
@@ -40,12 +40,12 @@ command_may_move_own (OfLocals command) = false
 
 -- Objects of local heaps.
 
--- a local call is about the one that it names in the chosen heap
+-- a local call is about the one that it names in the current heap
 abbrev pub IsLocalAbout : World → Command → LocalHeap → ℕ → Type 0
 IsLocalAbout old (OfLoading command) at q = ⊥
-IsLocalAbout old (OfLocals command) at q = (chosen old ≡ Some at) × (name : ℕ) × (named_by command ≡ Some name) × (name_at (heap_of at) q ≡ Some name)
+IsLocalAbout old (OfLocals command) at q = (current_heap old ≡ Some at) × IsNamedBy command (heap_of at) q
 
--- whether it asks for room in the chosen heap
+-- whether it asks for room in the current heap
 abbrev pub asks_in_heap : Command → Bool
 asks_in_heap (OfLoading command) = false
 asks_in_heap (OfLocals command) = asks_for_room command
@@ -54,7 +54,7 @@ asks_in_heap (OfLocals command) = asks_for_room command
 abbrev pub IsLocalSpared : World → Command → LocalHeap → LocalHeap → ℕ → Object → Type 0
 IsLocalSpared old command at after q o =
     (option_map but_bytes (object_at (heap_of after) q) ≡ Some (but_bytes o))
-    ⊎ ((chosen old ≡ Some at) × (asks_in_heap command ≡ true) × (o.kind ≡ Discardable) × (o.locks ≡ 0) × (object_at (heap_of after) q ≡ Some (record o { bytes = None })))
+    ⊎ ((current_heap old ≡ Some at) × (asks_in_heap command ≡ true) × (o.kind ≡ Discardable) × (o.locks ≡ 0) × (object_at (heap_of after) q ≡ Some (record o { bytes = None })))
 
 -- whether a step may move a fixed or locked local object that it is about, or free it
 abbrev pub local_may_move_own : Command → Bool

@@ -13,7 +13,7 @@ use Rattle.w16_loading.specs.Replies.Reply.{Word, Dword}
 use Rattle.w16_loading.specs.Resizes.ResizeCommand.{GlobalReAlloc}
 use Rattle.w16_machine.specs.declared.local.TheConstants.{LMEM_MODIFY}
 use Rattle.w16_machine.specs.World.{World}
-use Rattle.w16_machine.specs.Local.{LocalHeap, LocalObject, heap_of, chosen, object_named}
+use Rattle.w16_machine.specs.Local.{LocalHeap, LocalObject, heap_of, current_heap, object_named}
 use Rattle.w16_machine.specs.LocalCalls.LocalCommand.{LocalAlloc, LocalReAlloc, LocalCompact}
 use Rattle.w16_machine.specs.LocalFewest.{Left, AllocFewest, ReallocFewest}
 use Rattle.w16_machine.specs.Machine.{Event}
@@ -34,7 +34,7 @@ GlobalCompactFewest old event = (size answer : ℕ) → event.command ≡ OfLoad
 
 -- An allocation in the heap that DS names has discarded as few of its objects as it can, or there was no room in it and nothing changed.
 abbrev pub LocalAllocFewest : World → Event → Type 0
-LocalAllocFewest old event = (flags size answer : ℕ) (at : LocalHeap) → event.command ≡ OfLocals (LocalAlloc flags size) → event.reply ≡ Word answer → chosen old ≡ Some at → AllocFewest old at flags size answer event.after
+LocalAllocFewest old event = (flags size answer : ℕ) (at : LocalHeap) → event.command ≡ OfLocals (LocalAlloc flags size) → event.reply ≡ Word answer → current_heap old ≡ Some at → AllocFewest old at flags size answer event.after
 
 -- So has the reallocation of an object to a size.
 abbrev pub LocalReAllocFewest : World → Event → Type 0
@@ -43,7 +43,7 @@ LocalReAllocFewest old event = (name size flags answer : ℕ) (o : LocalObject) 
 
 -- A compaction answers the longest free stretch of any arrangement of what it leaves, and has discarded as few, or all that may be.
 abbrev pub LocalCompactFewest : World → Event → Type 0
-LocalCompactFewest old event = (size answer : ℕ) (at : LocalHeap) → event.command ≡ OfLocals (LocalCompact size) → event.reply ≡ Word answer → chosen old ≡ Some at → Left event.after at (CompactsFewest (heap_of at) size answer)
+LocalCompactFewest old event = (size answer : ℕ) (at : LocalHeap) → event.command ≡ OfLocals (LocalCompact size) → event.reply ≡ Word answer → current_heap old ≡ Some at → Left event.after at (CompactsFewest (heap_of at) size answer)
 
 -- So has each request of a load, and that of a fetch.
 abbrev pub LoadingFewest : World → Event → Type 0

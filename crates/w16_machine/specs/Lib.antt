@@ -6,5 +6,6 @@ pub mod Fewest
 pub mod Law
 pub mod LocalLaw
 pub mod LocalFewest
+pub mod LocalEffects
 pub mod LocalStays
 pub mod Bystanders

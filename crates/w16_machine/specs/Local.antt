@@ -49,8 +49,8 @@ local_in w slot = elim (finmap.get w.heaps slot) [
 ]
 
 -- the one that DS names; it is looked up at each call
-abbrev pub chosen : World → Option LocalHeap
-chosen w = elim (slot_of_selector w.loading.handles w.ds) [ None ↦ None | Some slot ↦ local_in w slot ]
+abbrev pub current_heap : World → Option LocalHeap
+current_heap w = elim (slot_of_selector w.loading.handles w.ds) [ None ↦ None | Some slot ↦ local_in w slot ]
 
 -- Names.
 
@@ -82,7 +82,7 @@ pub record LocalObject : Type 0 where
 
 -- the one that has a name there
 abbrev pub object_named : World → ℕ → Option LocalObject
-object_named w name = elim (chosen w) [ None ↦ None | Some at ↦ option_map (λ id. record { heap = at; id = id }) (id_named (heap_of at) name) ]
+object_named w name = elim (current_heap w) [ None ↦ None | Some at ↦ option_map (λ id. record { heap = at; id = id }) (id_named (heap_of at) name) ]
 
 abbrev pub IsFreeEntry : Heap → ℕ → Type 0
 IsFreeEntry heap id = (id < LOCAL_ENTRIES) × (object_at heap id ≡ None)

@@ -6,16 +6,16 @@ use Rattle.w16_model.specs.declared.Kind.{Kind}
 use Rattle.w16_model.specs.declared.Kind.TheVariants.{Fixed, Moveable, Discardable}
 use Rattle.w16_model.specs.declared.Refusal.{Refusal}
 use Rattle.w16_model.specs.declared.Refusal.TheVariants as refusals
-use Rattle.w16_model.specs.declared.Way.{Way}
+use Rattle.w16_model.specs.declared.RoomOptions.{RoomOptions}
 use Rattle.w16_model.specs.Heap.{Heap, Object, object_at, bytes_at, is_discardable}
-use Rattle.w16_model.specs.Request.{Allocates, Reallocates, MakesRoom, most_room, prefix_of}
+use Rattle.w16_model.specs.Request.{Allocates, Reallocates, MakesRoom, most_room, discards_needed}
 use Rattle.w16_model.specs.OneObject.{Enters, after_lock, after_unlock, after_free, after_discard, after_modify}
 use Rattle.w16_model.specs.Calls.{has_flag, locks_at}
 use Rattle.w16_machine.specs.declared.local.TheConstants.{LMEM_MOVEABLE, LMEM_NOCOMPACT, LMEM_NODISCARD, LMEM_ZEROINIT, LMEM_MODIFY, LMEM_DISCARDABLE, LMEM_DISCARDED}
 use Rattle.w16_loading.specs.Replies.{Reply}
 use Rattle.w16_loading.specs.Replies.Reply.{Word, Done}
 use Rattle.w16_machine.specs.World.{World}
-use Rattle.w16_machine.specs.Local.{LocalHeap, LocalObject, Stays, Becomes, Acts, IsFreeEntry, IsLowestFree, heap_of, chosen, object_named, name_at, id_at, rounded_up, beginning, new_table, with_table}
+use Rattle.w16_machine.specs.Local.{LocalHeap, LocalObject, Stays, Becomes, Acts, IsFreeEntry, IsLowestFree, heap_of, current_heap, object_named, name_at, id_at, rounded_up, beginning, new_table, with_table}
 
 -- a call on local heaps, with its arguments as numbers
 pub data LocalCommand : Type 0 where
@@ -50,8 +50,8 @@ abbrev pub local_kind : ℕ → Kind
 local_kind flags = if has_flag flags LMEM_MOVEABLE then moveable_or_discardable flags else Fixed
 
 -- others may be moved without LMEM_NOCOMPACT, and discarded too without LMEM_NODISCARD
-abbrev pub local_way : ℕ → Way
-local_way flags = record {
+abbrev pub local_options : ℕ → RoomOptions
+local_options flags = record {
   compact = not (has_flag flags LMEM_NOCOMPACT);
   discard = not (has_flag flags LMEM_NODISCARD);
   zero = has_flag flags LMEM_ZEROINIT;
@@ -68,7 +68,7 @@ HasNoEntry heap = (id : ℕ) → IsFreeEntry heap id → ⊥
 
 -- and where there is no room in the heap; there is no other limit on a size.
 abbrev pub HasNoRoom : Heap → ℕ → ℕ → Type 0
-HasNoRoom heap flags size = (0 < size) × (prefix_of heap (rounded_up size) None (local_way flags) ≡ None)
+HasNoRoom heap flags size = (0 < size) × (discards_needed heap (rounded_up size) None (local_options flags) ≡ None)
 
 abbrev pub IsRefusedAlloc : Heap → ℕ → ℕ → Type 0
 IsRefusedAlloc heap flags size = IsEmptyFixed flags size ⊎ HasNoEntry heap ⊎ HasNoRoom heap flags size
@@ -84,7 +84,7 @@ pub record EntersObject (heap : Heap) (flags id answer : ℕ) (next : Heap) : Ty
 
 -- or with bytes, as the heap allocates them, and its name is the answer
 pub record AllocatesObject (heap : Heap) (flags size id answer : ℕ) (next : Heap) : Type 0 where
-  pub allocated : Allocates heap id (rounded_up size) (local_kind flags) 0 (local_way flags) true next
+  pub allocated : Allocates heap id (rounded_up size) (local_kind flags) 0 (local_options flags) true next
   pub named : name_at next id ≡ Some answer
 
 abbrev pub MakesObject : World → LocalHeap → ℕ → ℕ → ℕ → ℕ → World → Type 0
@@ -99,18 +99,18 @@ AllocatesIn old flags size answer new at =
     ⊎ ((id : ℕ) × IsLowestFree (heap_of at) id × MakesObject old at flags size id answer new)
 
 abbrev pub LocalAllocs : World → ℕ → ℕ → ℕ → World → Type 0
-LocalAllocs old flags size answer new = MatchOption (chosen old) (Stays old 0 answer new) (AllocatesIn old flags size answer new)
+LocalAllocs old flags size answer new = MatchOption (current_heap old) (Stays old 0 answer new) (AllocatesIn old flags size answer new)
 
 -- LocalCompact: as the heap compacts; for 0 bytes it only answers what could be made free
 abbrev pub CompactsIn : World → ℕ → ℕ → World → LocalHeap → Type 0
 CompactsIn old size answer new at = MatchBool (size == 0) (Stays old (most_room (heap_of at)) answer new) (Acts old at (MakesRoom (heap_of at) size answer) new)
 
 abbrev pub LocalCompacts : World → ℕ → ℕ → World → Type 0
-LocalCompacts old size answer new = MatchOption (chosen old) (Stays old 0 answer new) (CompactsIn old size answer new)
+LocalCompacts old size answer new = MatchOption (current_heap old) (Stays old 0 answer new) (CompactsIn old size answer new)
 
 -- The calls that name an object.
 
--- what is so of the object that has a name in the chosen heap; where there is none the answer is this, and the world stays
+-- what is so of the object that has a name in the current heap; where there is none the answer is this, and the world stays
 abbrev pub OnNamed : World → ℕ → ℕ → ℕ → World → (LocalObject → Type 0) → Type 0
 OnNamed old name otherwise answer new so = MatchOption (object_named old name) (Stays old otherwise answer new) so
 
@@ -162,12 +162,12 @@ DiscardsObject old name flags answer new o = MatchBool (has_flag flags LMEM_MOVE
 
 -- with another size: the object's name, which a fixed object that is moved has anew, once the heap has reallocated it; 0 where it can't
 pub record ResizesObject (heap : Heap) (id size flags answer : ℕ) (next : Heap) : Type 0 where
-  pub resized : Reallocates heap id (rounded_up size) (local_way flags) true next
+  pub resized : Reallocates heap id (rounded_up size) (local_options flags) true next
   pub named : name_at next id ≡ Some answer
 
 abbrev pub SizesObject : World → ℕ → ℕ → ℕ → World → LocalObject → Type 0
 SizesObject old size flags answer new o =
-    (Reallocates (heap_of o.heap) o.id (rounded_up size) (local_way flags) false (heap_of o.heap) × Stays old 0 answer new)
+    (Reallocates (heap_of o.heap) o.id (rounded_up size) (local_options flags) false (heap_of o.heap) × Stays old 0 answer new)
     ⊎ Acts old o.heap (ResizesObject (heap_of o.heap) o.id size flags answer) new
 
 -- LocalReAlloc, by the first case that fits: a bad name, LMEM_MODIFY, a size of 0, and any other size
@@ -199,7 +199,7 @@ name_from heap pointer = elim (id_at heap pointer) [ None ↦ None | Some id ↦
 
 -- LocalHandle: 0 where there is none
 abbrev pub local_handle : World → ℕ → ℕ
-local_handle w pointer = elim (chosen w) [ None ↦ 0 | Some at ↦ unwrap_or (name_from (heap_of at) pointer) 0 ]
+local_handle w pointer = elim (current_heap w) [ None ↦ 0 | Some at ↦ unwrap_or (name_from (heap_of at) pointer) 0 ]
 
 -- One step: the answer that may be given to a call, and the world that it leaves.
 

@@ -1,11 +1,13 @@
 -- The laws that show the definitions of local heaps to be the right ones. Each is the contract of a function of the module `local_laws`.
-use Rattle.std.specs.Prelude.{Bool, false, ◌≡◌, ◌≢◌, ℕ, ◌+◌, ◌<◌, ◌≤◌, ◌⊎◌, ◌↔◌, true, List, length, All, Option, Some, None, is_some, option_map, IsSomeAnd}
+use Rattle.std.specs.Prelude.{Bool, false, ◌≡◌, ◌≢◌, ℕ, ◌+◌, ◌<◌, ◌≤◌, ◌⊎◌, ◌↔◌, ◌==◌, ◌||◌, not, true, List, length, All, Option, Some, None, is_some, option_map, IsSomeAnd}
 use Rattle.std.specs.FinMap as finmap
 use Rattle.w16_model.specs.declared.Span.{Span}
 use Rattle.w16_model.specs.declared.Kind.{Kind}
 use Rattle.w16_model.specs.declared.Kind.TheVariants.{Discardable}
 use Rattle.w16_model.specs.Heap.{Heap, Object, IsHeap, IsMultiple, empty_heap, object_at, bytes_at, is_pinned_object}
 use Rattle.w16_model.specs.Law.{StandsStill}
+use Rattle.w16_model.specs.Calls.{has_flag}
+use Rattle.w16_model.specs.CallLaws.{OthersStand}
 use Rattle.w16_model.specs.Far.{FarCommand, IsFarCommand}
 use Rattle.w16_model.specs.Owned.{is_code}
 use Rattle.w16_model.specs.Handles.{slot_of_selector}
@@ -17,9 +19,9 @@ use Rattle.w16_loading.specs.Families.{LoadingCommand}
 use Rattle.w16_loading.specs.Replies.{Reply, FarReplies}
 use Rattle.w16_loading.specs.Replies.Reply.{Word}
 use Rattle.w16_machine.specs.World.{World}
-use Rattle.w16_machine.specs.Local.{LocalHeap, Beginning, AreLocalHeaps, IsLowestFree, AreNamed, segment_bytes, heap_of, local_in, chosen, name_at, id_named, id_at, beginning, selector_or_ds, new_table}
-use Rattle.w16_machine.specs.LocalCalls.{LocalCommand, LocalStep, MakesObject, IsRefusedAlloc}
-use Rattle.w16_machine.specs.LocalCalls.LocalCommand.{LocalInit, LocalAlloc, LocalCompact, LocalReAlloc, LocalDiscard, LocalFree, LocalLock, LocalUnlock, LocalSize, LocalFlags}
+use Rattle.w16_machine.specs.Local.{LocalHeap, Beginning, AreLocalHeaps, IsLowestFree, AreNamed, segment_bytes, heap_of, local_in, current_heap, name_at, id_named, id_at, beginning, selector_or_ds, new_table}
+use Rattle.w16_machine.specs.LocalCalls.{LocalCommand, LocalStep, MakesObject, IsRefusedAlloc, is_absent_asked}
+use Rattle.w16_machine.specs.LocalCalls.LocalCommand.{LocalInit, LocalAlloc, LocalCompact, LocalReAlloc, LocalDiscard, LocalFree, LocalLock, LocalUnlock, LocalSize, LocalFlags, LocalHandle}
 use Rattle.w16_machine.specs.Machine.{Command, Step, Event, Run, after_loading}
 use Rattle.w16_machine.specs.Machine.Command.{OfLoading, OfLocals}
 
@@ -87,7 +89,7 @@ pub record IsRewritten (at : LocalHeap) (before after : Object) : Type 0 where
 abbrev pub IsObjectKept : World → World → ℕ → Type 0
 IsObjectKept old new slot =
     (object_at new.loading.handles.heap slot ≡ object_at old.loading.handles.heap slot)
-    ⊎ IsSomeAnd (chosen old) (λ at. (at.slot ≡ slot)
+    ⊎ IsSomeAnd (current_heap old) (λ at. (at.slot ≡ slot)
     × IsSomeAnd (object_at old.loading.handles.heap slot) (λ before. IsSomeAnd (object_at new.loading.handles.heap slot) (IsRewritten at before)))
 
 -- so is each local heap but the one that DS names, which keeps its range; where there was none one may have begun
@@ -95,7 +97,7 @@ abbrev pub IsHeapKept : World → World → ℕ → Type 0
 IsHeapKept old new slot =
     (finmap.get new.heaps slot ≡ finmap.get old.heaps slot)
     ⊎ ((finmap.get old.heaps slot ≡ None) × (is_code old.loading.handles slot ≡ false))
-    ⊎ IsSomeAnd (chosen old) (λ at. (at.slot ≡ slot) × IsSomeAnd (finmap.get new.heaps slot) (λ t. (t.lo ≡ at.table.lo) × (t.hi ≡ at.table.hi)))
+    ⊎ IsSomeAnd (current_heap old) (λ at. (at.slot ≡ slot) × IsSomeAnd (finmap.get new.heaps slot) (λ t. (t.lo ≡ at.table.lo) × (t.hi ≡ at.table.hi)))
 
 -- Whatever a local call answers: no address, no order of use and no other part of the handles changes, the number of bytes moved among them.
 pub record KeepsRest (old new : World) : Type 0 where
@@ -106,6 +108,18 @@ pub record KeepsRest (old new : World) : Type 0 where
 
 abbrev pub FrameLaw : Type 0
 FrameLaw = (old new : World) (command : LocalCommand) (reply : Reply) → AreLocalHeaps old → LocalStep old command reply new → KeepsRest old new
+
+-- the calls that only tell; LocalCompact only tells where it is asked for 0 bytes
+abbrev pub only_tells : LocalCommand → Bool
+only_tells (LocalSize name) = true
+only_tells (LocalFlags name) = true
+only_tells (LocalHandle pointer) = true
+only_tells (LocalCompact size) = size == 0
+only_tells command = false
+
+-- these change nothing
+abbrev pub QueriesLaw : Type 0
+QueriesLaw = (old new : World) (command : LocalCommand) (reply : Reply) → only_tells command ≡ true → LocalStep old command reply new → new ≡ old
 
 -- Inside the local heap.
 
@@ -120,11 +134,11 @@ named_by (LocalSize name) = Some name
 named_by (LocalFlags name) = Some name
 named_by other = None
 
--- the calls that ask for room
+-- the calls that ask for room: an allocation of bytes, a reallocation to a size other than 0, and a compaction for more than 0 bytes
 abbrev pub asks_for_room : LocalCommand → Bool
-asks_for_room (LocalAlloc flags size) = true
-asks_for_room (LocalReAlloc name size flags) = true
-asks_for_room (LocalCompact size) = true
+asks_for_room (LocalAlloc flags size) = not (is_absent_asked flags size)
+asks_for_room (LocalReAlloc name size flags) = not (has_flag flags LMEM_MODIFY || size == 0)
+asks_for_room (LocalCompact size) = not (size == 0)
 asks_for_room command = false
 
 -- An object that a call doesn't name is as it was, or it was discardable and not locked and has lost its bytes alone; a fixed or locked one keeps
@@ -136,23 +150,38 @@ pub record IsLocalKept (asks : Bool) (old new : Heap) (q : ℕ) (o : Object) : T
 
 abbrev pub OthersLaw : Type 0
 OthersLaw = (old new : World) (command : LocalCommand) (reply : Reply) (at after : LocalHeap) (q : ℕ) (o : Object) → AreLocalHeaps old → LocalStep old command reply new
-    → chosen old ≡ Some at → local_in new at.slot ≡ Some after
+    → current_heap old ≡ Some at → local_in new at.slot ≡ Some after
     → object_at (heap_of at) q ≡ Some o → ((name : ℕ) → named_by command ≡ Some name → name_at (heap_of at) q ≢ Some name)
     → IsLocalKept (asks_for_room command) (heap_of at) (heap_of after) q o
 
 -- the calls that may move a fixed or locked object that they name, or free it
 abbrev pub may_move_named : LocalCommand → Bool
-may_move_named (LocalReAlloc name size flags) = true
+may_move_named (LocalReAlloc name size flags) = asks_for_room (LocalReAlloc name size flags)
 may_move_named (LocalFree name) = true
 may_move_named command = false
 
 -- every other call leaves it where it stands
 abbrev pub PinnedLaw : Type 0
 PinnedLaw = (old new : World) (command : LocalCommand) (reply : Reply) (at after : LocalHeap) (q : ℕ) (o : Object) → AreLocalHeaps old → LocalStep old command reply new
-    → chosen old ≡ Some at → local_in new at.slot ≡ Some after
+    → current_heap old ≡ Some at → local_in new at.slot ≡ Some after
     → object_at (heap_of at) q ≡ Some o → is_pinned_object o ≡ true
     → (may_move_named command ≡ true → (name : ℕ) → named_by command ≡ Some name → name_at (heap_of at) q ≢ Some name)
     → StandsStill (heap_of at) (heap_of after) q
+
+-- A call that asks for no room moves no object, named or not: what has a near pointer afterwards had the same before.
+abbrev pub PlacesLaw : Type 0
+PlacesLaw = (old new : World) (command : LocalCommand) (reply : Reply) (at after : LocalHeap) (q pointer : ℕ) → LocalStep old command reply new
+    → current_heap old ≡ Some at → local_in new at.slot ≡ Some after → asks_for_room command ≡ false
+    → finmap.get (heap_of after).places q ≡ Some pointer → finmap.get (heap_of at).places q ≡ Some pointer
+
+-- the object that a call names in the current heap
+abbrev pub IsNamedBy : LocalCommand → Heap → ℕ → Type 0
+IsNamedBy command heap q = (name : ℕ) × (named_by command ≡ Some name) × (name_at heap q ≡ Some name)
+
+-- In the heap's order of use all others that stay stand as they did.
+abbrev pub OrderLaw : Type 0
+OrderLaw = (old new : World) (command : LocalCommand) (reply : Reply) (at after : LocalHeap) → AreLocalHeaps old → LocalStep old command reply new
+    → current_heap old ≡ Some at → local_in new at.slot ≡ Some after → OthersStand (IsNamedBy command (heap_of at)) (heap_of at) (heap_of after)
 
 -- an allocation isn't both refused and answered
 abbrev pub OutcomeLaw : Type 0

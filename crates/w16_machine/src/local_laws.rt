@@ -1,6 +1,7 @@
 //! The laws of local heaps. Each function does nothing: its contract is the law.
-ghost use Rattle.w16_machine.specs.LocalLaw.{AreFigures, AreFlags, BeginLaw, FarLaw, FrameLaw, GoesLaw, GoneLaw, NamedLaw, NamesLaw, NeverBackLaw, NewHeapLaw, OthersLaw, OutcomeLaw, PinnedLaw};
+ghost use Rattle.w16_machine.specs.LocalLaw.{AreFigures, AreFlags, BeginLaw, FarLaw, FrameLaw, GoesLaw, GoneLaw, NamedLaw, NamesLaw, NeverBackLaw, NewHeapLaw, OrderLaw, OthersLaw, OutcomeLaw, PinnedLaw, PlacesLaw, QueriesLaw};
 ghost use Rattle.w16_machine.specs.LocalFewest.{AllocLaw, CompactLaw, ReallocLaw};
+ghost use Rattle.w16_machine.specs.LocalEffects.{DiscardLaw, FreeLaw, LockLaw, ModifyLaw, RefusedLaw, UnlockLaw};
 ghost use Rattle.w16_machine.specs.LocalStays.{SizesLaw, HeapsLaw};
 
 /// The figures of local heaps and the flags of the Local calls are these numbers.
@@ -21,9 +22,14 @@ pub fn local_heaps_begin_empty()
     ensures empty { NewHeapLaw }
 {}
 
-/// A local call changes bytes in the range of the chosen heap alone, and no address, no order of use and no other heap of the world.
+/// A local call changes bytes in the range of the current heap alone, and no address, no order of use and no other heap of the world.
 pub fn local_calls_keep_the_rest()
     ensures { FrameLaw }
+{}
+
+/// LocalSize, LocalFlags, LocalHandle, and LocalCompact for 0 bytes, only tell: they change nothing.
+pub fn local_queries_change_nothing()
+    ensures { QueriesLaw }
 {}
 
 /// A local heap goes exactly where its segment loses its range, and only LocalInit brings one, which has no object.
@@ -33,12 +39,31 @@ pub fn local_heaps_never_come_back()
     ensures gone { GoneLaw }
 {}
 
-/// An object of the chosen heap that a local call doesn't name keeps its kind, its locks and its bytes, or it is discardable and not locked, and
-/// the call asks for room and discards it. Only such a call moves others. A fixed or locked object keeps its near pointer through every call
-/// but its own reallocation and freeing.
+/// An object of the current heap that a local call doesn't name keeps its kind, its locks and its bytes, or it is discardable and not locked, and
+/// the call asks for room and discards it. Only such a call moves objects, the named one included. A fixed or locked object keeps its near
+/// pointer through every call but its own freeing and reallocation to a size other than 0. In the heap's order of use all but the object that the
+/// call names stand as they did.
 pub fn local_calls_keep_other_objects()
     ensures others { OthersLaw }
+    ensures places { PlacesLaw }
     ensures pinned { PinnedLaw }
+    ensures order { OrderLaw }
+{}
+
+/// A local lock, unlock, free, change of kind or discard that nothing refuses does to the object that it names what it is for. The laws above
+/// say what stays, and would hold of calls that do nothing.
+pub fn local_calls_do_what_they_are_for()
+    ensures locks { LockLaw }
+    ensures unlocks { UnlockLaw }
+    ensures frees { FreeLaw }
+    ensures kinds { ModifyLaw }
+    ensures discards { DiscardLaw }
+{}
+
+/// A local call that is refused of the object that it names changes nothing: a lock of one that is absent, fixed or has 255 locks, an unlock or
+/// a change of kind of a fixed one, the freeing of a locked one, and a discard of one that is locked or not discardable.
+pub fn refused_local_calls_change_nothing()
+    ensures { RefusedLaw }
 {}
 
 /// A local allocation isn't both refused and answered.

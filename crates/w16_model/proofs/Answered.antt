@@ -5,12 +5,12 @@ use Rattle.std.proofs.lemmas.Bool.{false≢true, cases_Bool, and_parts, or_cases
 use Rattle.std.proofs.lemmas.List.Sorted.{sum_by-IsPermutation}
 use Rattle.w16_model.specs.declared.Block.{Block}
 use Rattle.w16_model.specs.declared.Kind.{Kind}
-use Rattle.w16_model.specs.declared.Way.{Way}
+use Rattle.w16_model.specs.declared.RoomOptions.{RoomOptions}
 use Rattle.w16_model.specs.Gap.{is_pinned, longest_hole}
 use Rattle.w16_model.specs.Heap.{Heap, Object, IsMultiple, blocks, bytes_at}
 use Rattle.w16_model.specs.Discards.{eligible, none_discarded_if, is_member, is_about, is_pinned_id}
 use Rattle.w16_model.specs.Changes.{absent, without, with_ordered, with_newest}
-use Rattle.w16_model.specs.Request.{discarded, prefix_of, stays_for, Settles, Request, IsNew, Allocates, is_elsewhere, moved_bytes}
+use Rattle.w16_model.specs.Request.{discarded, discards_needed, stays_for, Settles, Request, IsNew, Allocates, is_elsewhere, moved_bytes}
 use Rattle.w16_model.proofs.Gaps.{Member, EachPair, Each-at, Each-from, Each-from_All, All-from_Each, EachPair-from_AllPairs, member_filter, filter_member, pairs_filter}
 use Rattle.w16_model.proofs.Members.{permutation_from}
 use Rattle.w16_model.proofs.Heaps.{block_member, member_block, blocks_differ, block_of_absent, absent_of_block}
@@ -149,41 +149,41 @@ module _ (old : Heap) (k : ℕ) (h : Option ℕ) where
       sym (sum_by-IsPermutation (λ (x : Block). x.size) (filter moves (blocks old)) (filter moves (blocks left)) same)
 
 -- A request for room for an object.
-module _ (old : Heap) (id n : ℕ) (way : Way) (k : ℕ) (answered : prefix_of old n (Some id) way ≡ Some k) where
+module _ (old : Heap) (id n : ℕ) (options : RoomOptions) (k : ℕ) (answered : discards_needed old n (Some id) options ≡ Some k) where
   -- nothing is discarded where nothing may move
-  none_still : way.compact ≡ false → k ≡ 0
-  none_still still = turn (nat_le n (longest_hole old.lo old.hi (blocks old))) (sym (without_compact old.lo old.hi (blocks old) old.order n (Some id) way still) ∙ answered)
+  none_still : options.compact ≡ false → k ≡ 0
+  none_still still = turn (nat_le n (longest_hole old.lo old.hi (blocks old))) (sym (without_compact old.lo old.hi (blocks old) old.order n (Some id) options still) ∙ answered)
     where
       turn : (b : Bool) → none_discarded_if b ≡ Some k → k ≡ 0
       turn true e = cc
       turn false e = cc
 
   -- what stays is pinned where others may slide
-  stays_pinned : way.compact ≡ true → (x : Block) → stays_for id way x ≡ true → is_pinned x ≡ true
-  stays_pinned moves x t = elim (or_cases (is_pinned x) (not way.compact) (and_parts (not (x.id == id)) (is_pinned x || not way.compact) t).1) [
+  stays_pinned : options.compact ≡ true → (x : Block) → stays_for id options x ≡ true → is_pinned x ≡ true
+  stays_pinned moves x t = elim (or_cases (is_pinned x) (not options.compact) (and_parts (not (x.id == id)) (is_pinned x || not options.compact) t).1) [
     | inl h ↦ h
-    | inr h ↦ absurd (false≢true (sym (not-true way.compact h) ∙ moves))
+    | inr h ↦ absurd (false≢true (sym (not-true options.compact h) ∙ moves))
   ]
 
   -- a heap that keeps the addresses of those that stay after the discards keeps them from before
-  pub settles_after : (heap new : Heap) → Settles (discarded old k (Some id)) (stays_for id way) heap new → Settles old (stays_for id way) heap new
-  settles_after heap new s = elim (cases_Bool way.compact) [
+  pub settles_after : (heap new : Heap) → Settles (discarded old k (Some id)) (stays_for id options) heap new → Settles old (stays_for id options) heap new
+  settles_after heap new s = elim (cases_Bool options.compact) [
     | inl moves ↦ record {
       same = s.same;
       sound = s.sound;
-      kept = kept_staying old k (Some id) (λ x. finmap.get new.places x.id ≡ Some x.at) (stays_for id way) (stays_pinned moves) s.kept;
+      kept = kept_staying old k (Some id) (λ x. finmap.get new.places x.id ≡ Some x.at) (stays_for id options) (stays_pinned moves) s.kept;
     }
-    | inr still ↦ subst (λ j. Settles (discarded old j (Some id)) (stays_for id way) heap new) (none_still still) s
+    | inr still ↦ subst (λ j. Settles (discarded old j (Some id)) (stays_for id options) heap new) (none_still still) s
   ]
 
 -- an allocation after the discards is one of the heap before them
-pub allocates_after : (old : Heap) → (id n : ℕ) (kind : Kind) (way : Way) (k : ℕ) → 0 < n → IsMultiple old.grain n → bytes_at old id ≡ None → prefix_of old n (Some id) way ≡ Some k
-    → (o : Object) → IsNew way.zero n kind 0 o → (new : Heap)
-    → Settles (discarded old k (Some id)) (stays_for id way) (with_ordered (discarded old k (Some id)) id o (with_newest id o)) new → Allocates old id n kind 0 way true new
-allocates_after old id n kind way k some rounded none answered o is_new new s = record {
+pub allocates_after : (old : Heap) → (id n : ℕ) (kind : Kind) (options : RoomOptions) (k : ℕ) → 0 < n → IsMultiple old.grain n → bytes_at old id ≡ None → discards_needed old n (Some id) options ≡ Some k
+    → (o : Object) → IsNew options.zero n kind 0 o → (new : Heap)
+    → Settles (discarded old k (Some id)) (stays_for id options) (with_ordered (discarded old k (Some id)) id o (with_newest id o)) new → Allocates old id n kind 0 options true new
+allocates_after old id n kind options k some rounded none answered o is_new new s = record {
   some = some;
   rounded = rounded;
   without_bytes = none;
-  request = subst (λ p. Request old id (record { way = way; prefix = p; becomes = IsNew way.zero n kind 0; order = with_newest id }) true new) (sym answered)
-      (refl, (o, is_new, settles_after old id n way k answered (with_ordered (discarded old k (Some id)) id o (with_newest id o)) new s));
+  request = subst (λ p. Request old id (record { options = options; prefix = p; becomes = IsNew options.zero n kind 0; order = with_newest id }) true new) (sym answered)
+      (refl, (o, is_new, settles_after old id n options k answered (with_ordered (discarded old k (Some id)) id o (with_newest id o)) new s));
 }

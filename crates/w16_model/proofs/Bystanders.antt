@@ -9,11 +9,11 @@ use Rattle.w16_model.specs.Discards.{eligible, is_member}
 use Rattle.w16_model.specs.Heap.{Heap, Object, blocks, object_at, is_fixed, is_discardable, is_pinned_object}
 use Rattle.w16_model.specs.Changes.{with_newest}
 use Rattle.w16_model.specs.Handles.{Handles, AreHandles, slot_of_handle}
-use Rattle.w16_model.specs.Calls.{Answer, has_flag, rounded_size, kind_asked, way_asked}
+use Rattle.w16_model.specs.Calls.{Answer, has_flag, rounded_size, kind_asked, alloc_options}
 use Rattle.w16_model.specs.Calls.HandleCommand.{GlobalAlloc}
 use Rattle.w16_model.specs.Law.{KeepsOthers, StandsStill}
 use Rattle.w16_model.specs.Reallocation.{KeepsRest}
-use Rattle.w16_model.specs.Resizes.{way_asked_again}
+use Rattle.w16_model.specs.Resizes.{realloc_options}
 use Rattle.w16_model.specs.Outcomes.{Call, Outcome}
 use Rattle.w16_model.specs.Outcomes.Call.{Calls}
 use Rattle.w16_model.specs.Outcomes.Outcome.{IsSame, IsUnmoved, IsLocked, IsUnlocked, IsFreed, IsNewest, IsOldest, IsEntered, IsAllocated, IsCompacted, IsModified, IsDiscarded, IsResized}
@@ -74,11 +74,11 @@ module _ (old new : Handles) (is : AreHandles old) (call : Call) (answer : Answe
   bystander (IsNewest n) there out = inl (ap (λ (h : Handles). object_at h.heap q) n.rest)
   bystander (IsOldest n) there out = inl (ap (λ (h : Handles). object_at h.heap q) n.rest)
   bystander (IsEntered e) there out = inl (ap (λ (h : Heap). object_at h q) e.entered.entered ∙ inserted_other old.heap.objects e.slot (record { kind = kind_asked e.flags; locks = 0; bytes = None }) q (not_free e.slot e.free.1 (there e.flags e.size e.asked)))
-  bystander (IsAllocated a) there out = kept_or_discarded old.heap new.heap (Some a.slot) a.count q ((others_law old.heap new.heap is.heap a.count).0 a.slot (way_asked a.flags) a.object (with_newest a.slot a.object) a.settled) (apart a.slot q (not_free a.slot a.free.1 (there a.flags a.size a.asked)))
+  bystander (IsAllocated a) there out = kept_or_discarded old.heap new.heap (Some a.slot) a.count q ((others_law old.heap new.heap is.heap a.count).0 a.slot (alloc_options a.flags) a.object (with_newest a.slot a.object) a.settled) (apart a.slot q (not_free a.slot a.free.1 (there a.flags a.size a.asked)))
   bystander (IsCompacted c) there out = kept_or_discarded old.heap new.heap None c.count q ((others_law old.heap new.heap is.heap c.count).1 c.settled) (none_apart q)
   bystander (IsModified m) there out = inl (m.changes.others q (λ e. out (about m.handle m.slot (ap handle_in m.asked) m.named.found e)))
   bystander (IsDiscarded d) there out = inl (ap (λ (h : Handles). object_at h.heap q) d.rest ∙ get-update_other old.heap.objects d.slot (λ (o : Object). record o { bytes = None }) q (λ e. out (about d.handle d.slot (ap handle_in d.asked) d.named.found e)))
-  bystander (IsResized r) there out = let k : KeepsRest old.heap r.slot (rounded_size r.size) r.object (way_asked_again r.flags) new.heap = rest_of old new is call answer r in
+  bystander (IsResized r) there out = let k : KeepsRest old.heap r.slot (rounded_size r.size) r.object (realloc_options r.flags) new.heap = rest_of old new is call answer r in
       kept_or_discarded old.heap new.heap (Some r.slot) k.count q k.others (apart r.slot q (λ e. out (about r.handle r.slot (ap handle_in r.asked) r.named.found e)))
 
   abbrev Still : Handles → Type 0
@@ -116,7 +116,7 @@ module _ (old new : Handles) (is : AreHandles old) (call : Call) (answer : Answe
     pinned_still (IsNewest n) out = same_place (ap (λ (h : Handles). finmap.get h.heap.places q) n.rest)
     pinned_still (IsOldest n) out = same_place (ap (λ (h : Handles). finmap.get h.heap.places q) n.rest)
     pinned_still (IsEntered e) out = same_place (ap (λ (h : Heap). finmap.get h.places q) e.entered.entered)
-    pinned_still (IsAllocated a) out = ((address_law old.heap new.heap is.heap a.count).0 a.slot (way_asked a.flags) a.object (with_newest a.slot a.object) a.settled).pinned q (apart a.slot q (not_free a.slot a.free.1 there_pinned)) pinned
+    pinned_still (IsAllocated a) out = ((address_law old.heap new.heap is.heap a.count).0 a.slot (alloc_options a.flags) a.object (with_newest a.slot a.object) a.settled).pinned q (apart a.slot q (not_free a.slot a.free.1 there_pinned)) pinned
     pinned_still (IsCompacted c) out = ((address_law old.heap new.heap is.heap c.count).1 c.settled).pinned q (none_apart q) pinned
     pinned_still (IsModified m) out = same_place (ap (λ places. finmap.get places q) m.changes.places)
     pinned_still (IsDiscarded d) out = same_place (ap (λ (h : Handles). finmap.get h.heap.places q) d.rest ∙ taken_other old.heap.places d.slot q (λ e. loose d.object d.unlocked d.discardable (pinned_is d.slot d.object e d.named.there)))
@@ -144,7 +144,7 @@ module _ (old new : Handles) (is : AreHandles old) (call : Call) (answer : Answe
   still (IsNewest n) m there out = same_place (ap (λ (h : Handles). finmap.get h.heap.places q) n.rest)
   still (IsOldest n) m there out = same_place (ap (λ (h : Handles). finmap.get h.heap.places q) n.rest)
   still (IsEntered e) m there out = same_place (ap (λ (h : Heap). finmap.get h.places q) e.entered.entered)
-  still (IsAllocated a) m there out = ((address_law old.heap new.heap is.heap a.count).0 a.slot (way_asked a.flags) a.object (with_newest a.slot a.object) a.settled).unmoved (sym (ap may_move_others a.asked) ∙ m) q (apart a.slot q (not_free a.slot a.free.1 there))
+  still (IsAllocated a) m there out = ((address_law old.heap new.heap is.heap a.count).0 a.slot (alloc_options a.flags) a.object (with_newest a.slot a.object) a.settled).unmoved (sym (ap may_move_others a.asked) ∙ m) q (apart a.slot q (not_free a.slot a.free.1 there))
   still (IsCompacted c) m there out = absurd (false≢true (sym m ∙ ap may_move_others c.asked))
   still (IsModified c) m there out = same_place (ap (λ places. finmap.get places q) c.changes.places)
   still (IsDiscarded d) m there out = same_place (ap (λ (h : Handles). finmap.get h.heap.places q) d.rest ∙ taken_other old.heap.places d.slot q (λ e. out (about d.handle d.slot (ap handle_in d.asked) d.named.found e)))

@@ -15,7 +15,7 @@ use Rattle.w16_model.specs.Handles.{Handles, AreHandles, slot_of_handle, handle_
 use Rattle.w16_model.specs.Calls.{Answer, rounded_size, kind_asked}
 use Rattle.w16_model.specs.Calls.Answer.{Word, Dword}
 use Rattle.w16_model.specs.Reallocation.{KeepsRest, MovesLittle}
-use Rattle.w16_model.specs.Resizes.{way_asked_again}
+use Rattle.w16_model.specs.Resizes.{realloc_options}
 use Rattle.w16_model.specs.Outcomes.{Call, Outcome, Resized, counts_moved}
 use Rattle.w16_model.specs.Outcomes.Outcome.{IsSame, IsUnmoved, IsLocked, IsUnlocked, IsFreed, IsNewest, IsOldest, IsEntered, IsAllocated, IsCompacted, IsModified, IsDiscarded, IsResized}
 use Rattle.w16_model.specs.CallLaws.{KeepsContents, may_change, ContentsLaw, SlotsLaw, IsMoved, size_at, IsSumOfMoved, MovedLaw}
@@ -56,11 +56,11 @@ module _ (old new : Handles) (call : Call) (answer : Answer) where
 
 -- What an answered reallocation leaves, and what it moves.
 module _ (old new : Handles) (is : AreHandles old) (call : Call) (answer : Answer) where
-  pub rest_of : (r : Resized old call answer new) → KeepsRest old.heap r.slot (rounded_size r.size) r.object (way_asked_again r.flags) new.heap
-  rest_of r = subst (λ p. IsSomeAnd p (λ o. KeepsRest old.heap r.slot (rounded_size r.size) o (way_asked_again r.flags) new.heap)) r.named.there (rest_law old.heap new.heap r.slot (rounded_size r.size) (way_asked_again r.flags) is.heap r.resized)
+  pub rest_of : (r : Resized old call answer new) → KeepsRest old.heap r.slot (rounded_size r.size) r.object (realloc_options r.flags) new.heap
+  rest_of r = subst (λ p. IsSomeAnd p (λ o. KeepsRest old.heap r.slot (rounded_size r.size) o (realloc_options r.flags) new.heap)) r.named.there (rest_law old.heap new.heap r.slot (rounded_size r.size) (realloc_options r.flags) is.heap r.resized)
 
-  pub moves_of : (r : Resized old call answer new) → MovesLittle old.heap r.slot (rounded_size r.size) r.object (way_asked_again r.flags) new.heap
-  moves_of r = subst (λ p. IsSomeAnd p (λ o. MovesLittle old.heap r.slot (rounded_size r.size) o (way_asked_again r.flags) new.heap)) r.named.there (moves_law old.heap new.heap r.slot (rounded_size r.size) (way_asked_again r.flags) is.heap r.resized)
+  pub moves_of : (r : Resized old call answer new) → MovesLittle old.heap r.slot (rounded_size r.size) r.object (realloc_options r.flags) new.heap
+  moves_of r = subst (λ p. IsSomeAnd p (λ o. MovesLittle old.heap r.slot (rounded_size r.size) o (realloc_options r.flags) new.heap)) r.named.there (moves_law old.heap new.heap r.slot (rounded_size r.size) (realloc_options r.flags) is.heap r.resized)
 
   abbrev Kept : Handles → Type 0
   Kept h = (h.slots ≡ old.slots) × (h.heap.lo ≡ old.heap.lo) × (h.heap.hi ≡ old.heap.hi)

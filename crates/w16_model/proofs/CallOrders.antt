@@ -1,25 +1,27 @@
 -- What each call does to the order of use.
-use Rattle.std.proofs.Common.{◌≡◌, ℕ, ◌+◌, ◌<◌, ◌⊎◌, inl, inr, Bool, true, false, cond, not, ◌&&◌, ◌==◌, MatchBool, IsTrue, IsSomeAnd, List, [], ◌∷◌, ◌++◌, take, filter, Option, Some, None, Result, Ok, Err, is_some, refl, sym, ap, ◌∙◌, subst, arith, eq-eqb, ne_eqb}
+use Rattle.std.proofs.Common.{◌≡◌, ℕ, ◌+◌, ◌<◌, inl, inr, Bool, true, false, cond, not, ◌&&◌, ◌==◌, MatchBool, IsTrue, IsSomeAnd, List, [], ◌∷◌, ◌++◌, take, filter, Option, Some, None, Result, Ok, Err, is_some, refl, sym, ap, ◌∙◌, subst, arith, eq-eqb, ne_eqb}
 use Rattle.std.proofs.lemmas.Bool.{false≢true, and_parts}
 use Rattle.std.proofs.lemmas.List.Elements.{filter-append}
 use Rattle.w16_model.specs.declared.Kind.{Kind}
 use Rattle.w16_model.specs.declared.Kind.TheVariants.{Fixed, Moveable, Discardable}
 use Rattle.w16_model.specs.declared.Refusal.{Refusal}
 use Rattle.w16_model.specs.declared.Refusal.TheVariants as refusals
+use Rattle.w16_model.specs.declared.RoomOptions.{RoomOptions}
 use Rattle.w16_model.specs.Discards.{eligible, is_member}
-use Rattle.w16_model.specs.Heap.{Heap, Object, blocks, object_at, bytes_at, is_fixed, is_discardable, is_in_order}
+use Rattle.w16_model.specs.Gap.{is_pinned}
+use Rattle.w16_model.specs.Heap.{Heap, Object, IsHeap, blocks, object_at, bytes_at, is_fixed, is_discardable, is_in_order}
 use Rattle.w16_model.specs.Changes.{without, newest, oldest, touched, with_ordered, with_newest, removed}
-use Rattle.w16_model.specs.Request.{Settles, Allocates, IsNew, discarded, stays_for, prefix_of}
+use Rattle.w16_model.specs.Request.{Settles, Allocates, IsNew, discarded, stays_for, discards_needed}
 use Rattle.w16_model.specs.OneObject.{Enters}
 use Rattle.w16_model.specs.Handles.{Handles, AreHandles, slot_of_handle, selector_of, far_pointer}
-use Rattle.w16_model.specs.Calls.{Answer, rounded_size, kind_asked, way_asked, is_absent_asked}
+use Rattle.w16_model.specs.Calls.{Answer, rounded_size, kind_asked, alloc_options, is_absent_asked}
 use Rattle.w16_model.specs.Calls.Answer.{Word, Dword}
 use Rattle.w16_model.specs.Law.{KeepsOthers}
 use Rattle.w16_model.specs.Reallocation.{KeepsRest, without_all, is_revived}
-use Rattle.w16_model.specs.Resizes.{way_asked_again}
-use Rattle.w16_model.specs.Outcomes.{Call, Outcome, CompactsHeap}
+use Rattle.w16_model.specs.Resizes.{realloc_options}
+use Rattle.w16_model.specs.Outcomes.{Call, Outcome}
 use Rattle.w16_model.specs.Outcomes.Outcome.{IsSame, IsUnmoved, IsLocked, IsUnlocked, IsFreed, IsNewest, IsOldest, IsEntered, IsAllocated, IsCompacted, IsModified, IsDiscarded, IsResized}
-use Rattle.w16_model.specs.CallLaws.{OnlyLeave, may_order, UnorderedLaw, OthersOrderLaw, NewObjectLaw, handle_in, IsAbout}
+use Rattle.w16_model.specs.CallLaws.{OnlyLeave, OthersStand, may_order, UnorderedLaw, OthersOrderLaw, NewObjectLaw, handle_in, IsAbout}
 use Rattle.w16_model.proofs.Gaps.{Member}
 use Rattle.w16_model.proofs.Discards.{is_member-true}
 use Rattle.w16_model.proofs.KeptHeaps.{inserted_here, taken_here, bytes_in}
@@ -54,7 +56,7 @@ filter_swap p q (x ∷ l) = swap (filter_swap p q l) (p x) (q x) refl refl
 newest_rest : (id : ℕ) (l : List ℕ) → without id (newest id l) ≡ without id l
 newest_rest id l = rest_order id l false true true
 
-touched_rest : (id : ℕ) (l : List ℕ) → without id (touched id l) ≡ without id l
+pub touched_rest : (id : ℕ) (l : List ℕ) → without id (touched id l) ≡ without id l
 touched_rest id l = turn (is_member id l)
   where
     turn : (b : Bool) → without id (cond {A = List ℕ} b (newest id l) l) ≡ without id l
@@ -83,46 +85,61 @@ gone_bytes old new h k keeps q t = turn (object_at old q) (keeps.discarded q t)
     turn None h = absurd h
     turn (Some o) h = ap bytes_in h.3
 
-module _ (old new : Handles) (is : AreHandles old) (call : Call) (answer : Answer) where
+-- What a step of a heap leaves of it.
+module _ (old new : Heap) where
   -- nothing has left
-  stays : (order after : List ℕ) → after ≡ order → OnlyLeave new.heap order after
+  pub stays : (order after : List ℕ) → after ≡ order → OnlyLeave new order after
   stays order after e = record { gone = []; without_bytes = λ q t. absurd (false≢true t); order_is = e ∙ sym (all_stay order) }
 
-  same : new.heap.order ≡ old.heap.order → OnlyLeave new.heap old.heap.order new.heap.order
-  same e = stays old.heap.order new.heap.order e
+  pub same : new.order ≡ old.order → OnlyLeave new old.order new.order
+  same e = stays old.order new.order e
 
-  discards : (h : Option ℕ) (k : ℕ) → KeepsOthers old.heap h k new.heap → (order after : List ℕ) → after ≡ without_all (take k (eligible (blocks old.heap) old.heap.order h)) order → OnlyLeave new.heap order after
-  discards h k keeps order after e = record { gone = take k (eligible (blocks old.heap) old.heap.order h); without_bytes = gone_bytes old.heap new.heap h k keeps; order_is = e }
+  discards : (h : Option ℕ) (k : ℕ) → KeepsOthers old h k new → (order after : List ℕ) → after ≡ without_all (take k (eligible (blocks old) old.order h)) order → OnlyLeave new order after
+  discards h k keeps order after e = record { gone = take k (eligible (blocks old) old.order h); without_bytes = gone_bytes old new h k keeps; order_is = e }
 
-  compacted : CompactsHeap old call answer new → OnlyLeave new.heap old.heap.order new.heap.order
-  compacted c = discards None c.count ((others_law old.heap new.heap is.heap c.count).1 c.settled) old.heap.order new.heap.order
-      (ap (λ (h : Heap). h.order) c.settled.same ∙ absents_order (take c.count (eligible (blocks old.heap) old.heap.order None)) old.heap)
-
-  one_left : (slot : ℕ) → bytes_at new.heap slot ≡ None → new.heap.order ≡ without slot old.heap.order → OnlyLeave new.heap old.heap.order new.heap.order
-  one_left slot none e = record {
-    gone = slot ∷ [];
-    without_bytes = λ q t. turn q (is_member-true q (slot ∷ []) t);
-    order_is = e ∙ sym (all_stay (without slot old.heap.order)) ∙ at_once slot [] old.heap.order;
+  one_left : (id : ℕ) → bytes_at new id ≡ None → new.order ≡ without id old.order → OnlyLeave new old.order new.order
+  one_left id none e = record {
+    gone = id ∷ [];
+    without_bytes = λ q t. turn q (is_member-true q (id ∷ []) t);
+    order_is = e ∙ sym (all_stay (without id old.order)) ∙ at_once id [] old.order;
   }
     where
-      turn : (q : ℕ) → Member q (slot ∷ []) → bytes_at new.heap q ≡ None
-      turn q (inl e) = ap (bytes_at new.heap) e ∙ none
+      turn : (q : ℕ) → Member q (id ∷ []) → bytes_at new q ≡ None
+      turn q (inl e) = ap (bytes_at new) e ∙ none
       turn q (inr m) = absurd m
 
-  freed : (slot : ℕ) → new.heap ≡ removed old.heap slot → OnlyLeave new.heap old.heap.order new.heap.order
-  freed slot e = one_left slot (ap (λ (h : Heap). bytes_at h slot) e ∙ ap bytes_in (taken_here old.heap.objects slot slot refl)) (ap (λ (h : Heap). h.order) e)
+  pub freed : (id : ℕ) → new ≡ removed old id → OnlyLeave new old.order new.order
+  freed id e = one_left id (ap (λ (h : Heap). bytes_at h id) e ∙ ap bytes_in (taken_here old.objects id id refl)) (ap (λ (h : Heap). h.order) e)
 
+  pub compacted : IsHeap old → (k : ℕ) → Settles old is_pinned (discarded old k None) new → OnlyLeave new old.order new.order
+  compacted is k s = discards None k ((others_law old new is k).1 s) old.order new.order (ap (λ (h : Heap). h.order) s.same ∙ absents_order (take k (eligible (blocks old) old.order None)) old)
+
+  -- without an object, and without what has left, or the other way round
+  either_way : (id : ℕ) (ids : List ℕ) → without id (without_all ids old.order) ≡ without_all ids (without id old.order)
+  either_way id ids = filter_swap (λ q. not (q == id)) (λ q. not (is_member q ids)) old.order
+
+  pub allocated : IsHeap old → (id k : ℕ) (options : RoomOptions) (o : Object) → Settles old (stays_for id options) (with_ordered (discarded old k (Some id)) id o (with_newest id o)) new → OnlyLeave new (without id old.order) (without id new.order)
+  allocated is id k options o s = discards (Some id) k ((others_law old new is k).0 id options o (with_newest id o) s) (without id old.order) (without id new.order)
+      (ap (λ (h : Heap). without id h.order) s.same ∙ placed_rest id o (discarded old k (Some id)).order
+      ∙ ap (without id) (absents_order (take k (eligible (blocks old) old.order (Some id))) old) ∙ either_way id (take k (eligible (blocks old) old.order (Some id))))
+
+  pub resized : (id n : ℕ) (o : Object) (options : RoomOptions) → KeepsRest old id n o options new → OnlyLeave new (without id old.order) (without id new.order)
+  resized id n o options k =
+      let ids : List ℕ = take k.count (eligible (blocks old) old.order (Some id)) in
+      discards (Some id) k.count k.others (without id old.order) (without id new.order) (ap (without id) k.order ∙ tail_rest id (is_revived o) (without_all ids old.order) ∙ either_way id ids)
+
+module _ (old new : Handles) (is : AreHandles old) (call : Call) (answer : Answer) where
   unordered : Outcome old call answer new → may_order call ≡ false → OnlyLeave new.heap old.heap.order new.heap.order
-  unordered (IsSame s e) m = same (ap (λ (h : Handles). h.heap.order) e)
-  unordered (IsUnmoved s e) m = same (ap (λ (h : Handles). h.heap.order) e)
+  unordered (IsSame s e) m = same old.heap new.heap (ap (λ (h : Handles). h.heap.order) e)
+  unordered (IsUnmoved s e) m = same old.heap new.heap (ap (λ (h : Handles). h.heap.order) e)
   unordered (IsLocked l) m = absurd (false≢true (sym m ∙ ap may_order l.asked))
-  unordered (IsUnlocked u) m = same (ap (λ (h : Handles). h.heap.order) u.rest)
-  unordered (IsFreed f) m = freed f.slot (ap (λ (h : Handles). h.heap) f.rest)
+  unordered (IsUnlocked u) m = same old.heap new.heap (ap (λ (h : Handles). h.heap.order) u.rest)
+  unordered (IsFreed f) m = freed old.heap new.heap f.slot (ap (λ (h : Handles). h.heap) f.rest)
   unordered (IsNewest n) m = absurd (false≢true (sym m ∙ ap may_order n.asked))
   unordered (IsOldest n) m = absurd (false≢true (sym m ∙ ap may_order n.asked))
   unordered (IsEntered e) m = absurd (false≢true (sym m ∙ ap may_order e.asked))
   unordered (IsAllocated a) m = absurd (false≢true (sym m ∙ ap may_order a.asked))
-  unordered (IsCompacted c) m = compacted c
+  unordered (IsCompacted c) m = compacted old.heap new.heap is.heap c.count c.settled
   unordered (IsModified c) m = absurd (false≢true (sym m ∙ ap may_order c.asked))
   unordered (IsDiscarded d) m = absurd (false≢true (sym m ∙ ap may_order d.asked))
   unordered (IsResized r) m = absurd (false≢true (sym m ∙ ap may_order r.asked))
@@ -132,43 +149,25 @@ module _ (old new : Handles) (is : AreHandles old) (call : Call) (answer : Answe
   about handle slot names found = subst (λ p. IsSomeAnd p (λ h. slot_of_handle old h ≡ Some slot)) (sym names) found
 
   abbrev Others : Type 0
-  Others = OnlyLeave new.heap old.heap.order new.heap.order ⊎ ((slot : ℕ) × (IsAbout old call slot ⊎ (object_at old.heap slot ≡ None)) × OnlyLeave new.heap (without slot old.heap.order) (without slot new.heap.order))
+  Others = OthersStand (IsAbout old call) old.heap new.heap
 
   of_named : (handle slot : ℕ) → handle_in call ≡ Some handle → slot_of_handle old handle ≡ Some slot → without slot new.heap.order ≡ without slot old.heap.order → Others
-  of_named handle slot names found e = inr (slot, inl (about handle slot names found), stays (without slot old.heap.order) (without slot new.heap.order) e)
-
-  -- without the object, and without what has left, or the other way round
-  either_way : (slot : ℕ) (ids : List ℕ) → without slot (without_all ids old.heap.order) ≡ without_all ids (without slot old.heap.order)
-  either_way slot ids = filter_swap (λ q. not (q == slot)) (λ q. not (is_member q ids)) old.heap.order
+  of_named handle slot names found e = inr (slot, inl (about handle slot names found), stays old.heap new.heap (without slot old.heap.order) (without slot new.heap.order) e)
 
   others : Outcome old call answer new → Others
-  others (IsSame s e) = inl (same (ap (λ (h : Handles). h.heap.order) e))
-  others (IsUnmoved s e) = inl (same (ap (λ (h : Handles). h.heap.order) e))
+  others (IsSame s e) = inl (same old.heap new.heap (ap (λ (h : Handles). h.heap.order) e))
+  others (IsUnmoved s e) = inl (same old.heap new.heap (ap (λ (h : Handles). h.heap.order) e))
   others (IsLocked l) = of_named l.handle l.slot (ap handle_in l.asked) l.named.found (ap (λ (h : Handles). without l.slot h.heap.order) l.rest ∙ touched_rest l.slot old.heap.order)
-  others (IsUnlocked u) = inl (same (ap (λ (h : Handles). h.heap.order) u.rest))
-  others (IsFreed f) = inl (freed f.slot (ap (λ (h : Handles). h.heap) f.rest))
+  others (IsUnlocked u) = inl (same old.heap new.heap (ap (λ (h : Handles). h.heap.order) u.rest))
+  others (IsFreed f) = inl (freed old.heap new.heap f.slot (ap (λ (h : Handles). h.heap) f.rest))
   others (IsNewest n) = of_named n.handle n.slot (ap handle_in n.asked) n.named.found (ap (λ (h : Handles). without n.slot h.heap.order) n.rest ∙ newest_rest n.slot old.heap.order)
   others (IsOldest n) = of_named n.handle n.slot (ap handle_in n.asked) n.named.found (ap (λ (h : Handles). without n.slot h.heap.order) n.rest ∙ oldest_rest n.slot old.heap.order)
-  others (IsEntered e) = inl (same (ap (λ (h : Heap). h.order) e.entered.entered))
-  others (IsAllocated a) = inr (
-    a.slot,
-    inr a.free.1,
-    discards (Some a.slot) a.count ((others_law old.heap new.heap is.heap a.count).0 a.slot (way_asked a.flags) a.object (with_newest a.slot a.object) a.settled) (without a.slot old.heap.order) (without a.slot new.heap.order)
-        (ap (λ (h : Heap). without a.slot h.order) a.settled.same ∙ placed_rest a.slot a.object (discarded old.heap a.count (Some a.slot)).order
-        ∙ ap (without a.slot) (absents_order (take a.count (eligible (blocks old.heap) old.heap.order (Some a.slot))) old.heap) ∙ either_way a.slot (take a.count (eligible (blocks old.heap) old.heap.order (Some a.slot)))),
-  )
-  others (IsCompacted c) = inl (compacted c)
+  others (IsEntered e) = inl (same old.heap new.heap (ap (λ (h : Heap). h.order) e.entered.entered))
+  others (IsAllocated a) = inr (a.slot, inr a.free.1, allocated old.heap new.heap is.heap a.slot a.count (alloc_options a.flags) a.object a.settled)
+  others (IsCompacted c) = inl (compacted old.heap new.heap is.heap c.count c.settled)
   others (IsModified m) = of_named m.handle m.slot (ap handle_in m.asked) m.named.found m.changes.rest
   others (IsDiscarded d) = of_named d.handle d.slot (ap handle_in d.asked) d.named.found (ap (λ (h : Handles). without d.slot h.heap.order) d.rest ∙ twice_out d.slot old.heap.order)
-  others (IsResized r) =
-      let k : KeepsRest old.heap r.slot (rounded_size r.size) r.object (way_asked_again r.flags) new.heap = rest_of old new is call answer r in
-      let ids : List ℕ = take k.count (eligible (blocks old.heap) old.heap.order (Some r.slot)) in
-      inr (
-        r.slot,
-        inl (about r.handle r.slot (ap handle_in r.asked) r.named.found),
-        discards (Some r.slot) k.count k.others (without r.slot old.heap.order) (without r.slot new.heap.order)
-            (ap (without r.slot) k.order ∙ tail_rest r.slot (is_revived r.object) (without_all ids old.heap.order) ∙ either_way r.slot ids),
-      )
+  others (IsResized r) = inr (r.slot, inl (about r.handle r.slot (ap handle_in r.asked) r.named.found), resized old.heap new.heap r.slot (rounded_size r.size) r.object (realloc_options r.flags) (rest_of old new is call answer r))
 
 pub unordered_law : UnorderedLaw
 unordered_law old new call answer is m step = unordered old new is call answer (outcome old new call answer is step) m
@@ -184,16 +183,16 @@ new_object_law old new flags size handle is a listed = made (is_absent_asked fla
     never true t = false≢true t
     never false t = false≢true t
 
-    made : (b : Bool) → MatchBool b (Enters old.heap a.slot (kind_asked flags) new.heap) (Allocates old.heap a.slot (rounded_size size) (kind_asked flags) 0 (way_asked flags) true new.heap)
+    made : (b : Bool) → MatchBool b (Enters old.heap a.slot (kind_asked flags) new.heap) (Allocates old.heap a.slot (rounded_size size) (kind_asked flags) 0 (alloc_options flags) true new.heap)
         → (left : List ℕ) × OnlyLeave new.heap old.heap.order left × IsNewestOf a.slot left new.heap.order
     made true e = absurd (never (is_discardable (kind_asked flags)) (ap is_in_order (sym (ap (λ (h : Heap). object_at h a.slot) e.entered ∙ inserted_here old.heap.objects a.slot (record { kind = kind_asked flags; locks = 0; bytes = None }) a.slot refl)) ∙ listed))
     made false m =
-        let s : (k : ℕ) × (o : Object) × Settles old.heap (stays_for a.slot (way_asked flags)) (with_ordered (discarded old.heap k (Some a.slot)) a.slot o (with_newest a.slot o)) new.heap =
-        settled old.heap a.slot (way_asked flags) (prefix_of old.heap (rounded_size size) (Some a.slot) (way_asked flags)) (IsNew (way_asked flags).zero (rounded_size size) (kind_asked flags) 0) (with_newest a.slot) new.heap m.request in
+        let s : (k : ℕ) × (o : Object) × Settles old.heap (stays_for a.slot (alloc_options flags)) (with_ordered (discarded old.heap k (Some a.slot)) a.slot o (with_newest a.slot o)) new.heap =
+        settled old.heap a.slot (alloc_options flags) (discards_needed old.heap (rounded_size size) (Some a.slot) (alloc_options flags)) (IsNew (alloc_options flags).zero (rounded_size size) (kind_asked flags) 0) (with_newest a.slot) new.heap m.request in
         let ids : List ℕ = take s.0 (eligible (blocks old.heap) old.heap.order (Some a.slot)) in
         let here : object_at new.heap a.slot ≡ Some s.1 = ap (λ (h : Heap). object_at h a.slot) s.2.same ∙ inserted_here (discarded old.heap s.0 (Some a.slot)).objects a.slot s.1 a.slot refl in (
           without_all ids old.heap.order,
-          record { gone = ids; without_bytes = gone_bytes old.heap new.heap (Some a.slot) s.0 ((others_law old.heap new.heap is.heap s.0).0 a.slot (way_asked flags) s.1 (with_newest a.slot s.1) s.2); order_is = refl },
+          record { gone = ids; without_bytes = gone_bytes old.heap new.heap (Some a.slot) s.0 ((others_law old.heap new.heap is.heap s.0).0 a.slot (alloc_options flags) s.1 (with_newest a.slot s.1) s.2); order_is = refl },
           ap (λ (h : Heap). h.order) s.2.same ∙ ap (λ b. cond {A = List ℕ} b (newest a.slot (discarded old.heap s.0 (Some a.slot)).order) (without a.slot (discarded old.heap s.0 (Some a.slot)).order)) (sym (ap is_in_order here) ∙ listed)
               ∙ ap (newest a.slot) (absents_order ids old.heap),
         )

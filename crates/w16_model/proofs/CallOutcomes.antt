@@ -8,15 +8,15 @@ use Rattle.w16_model.specs.declared.Refusal.TheVariants as refusals
 use Rattle.w16_model.specs.declared.TheConstants.{GMEM_MOVEABLE, GMEM_MODIFY, LARGEST_SIZE}
 use Rattle.w16_model.specs.Heap.{Heap, Object, blocks, object_at, is_fixed, is_discardable}
 use Rattle.w16_model.specs.Changes.{with_object, with_ordered, with_newest, newest, oldest, touched, removed}
-use Rattle.w16_model.specs.Request.{IsNew, Request, Allocates, MakesRoom, Reallocates, most_room, compaction_prefix, prefix_of, moved_bytes, is_elsewhere}
+use Rattle.w16_model.specs.Request.{IsNew, Request, Allocates, MakesRoom, Reallocates, most_room, compaction_prefix, discards_needed, moved_bytes, is_elsewhere}
 use Rattle.w16_model.specs.OneObject.{Enters, after_lock, after_unlock, after_free, after_modify, after_discard, refused_order}
 use Rattle.w16_model.specs.Handles.{Handles, AreHandles, slot_of_handle, selector_of, far_pointer, handle_of}
 use Rattle.w16_model.specs.Owned.{owns}
-use Rattle.w16_model.specs.Calls.{HandleCommand, Answer, HandleStep, GlobalAllocs, GlobalCompacts, free_own, global_free, global_lock, global_unlock, handle_or_0, locks_at, way_asked, kind_asked, rounded_size, is_absent_asked, has_flag}
+use Rattle.w16_model.specs.Calls.{HandleCommand, Answer, HandleStep, GlobalAllocs, GlobalCompacts, free_own, global_free, global_lock, global_unlock, handle_or_0, locks_at, alloc_options, kind_asked, rounded_size, is_absent_asked, has_flag}
 use Rattle.w16_model.specs.Calls.Answer.{Word, Dword, Walked}
 use Rattle.w16_model.specs.Calls.HandleCommand.{GlobalAlloc, GlobalFree, GlobalLock, GlobalUnlock, GlobalSize, GlobalFlags, GlobalHandle, GetSelectorBase, GetSelectorLimit, GlobalCompact, GlobalLRUNewest, GlobalLRUOldest, Moved, Walk}
 use Rattle.w16_model.specs.Reallocation.{ChangesKind}
-use Rattle.w16_model.specs.Resizes.{way_asked_again, kind_modified, modified, IsNull, Again, AnswersDiscard, Empties, Resizes, ReAllocsOwn, GlobalReAllocs}
+use Rattle.w16_model.specs.Resizes.{realloc_options, kind_modified, modified, IsNull, AnswersHandle, AnswersDiscard, Empties, Resizes, ReAllocsOwn, GlobalReAllocs}
 use Rattle.w16_model.specs.Outcomes.{Call, IsNamed, Orders, Outcome, CallOutcomesLaw, counts_moved}
 use Rattle.w16_model.specs.Outcomes.Call.{Calls, ReAllocs}
 use Rattle.w16_model.specs.Outcomes.Outcome.{IsSame, IsUnmoved, IsLocked, IsUnlocked, IsFreed, IsNewest, IsOldest, IsEntered, IsAllocated, IsCompacted, IsModified, IsDiscarded, IsResized}
@@ -229,11 +229,11 @@ module _ (old : Handles) (call : Call) (reply : Answer) (new : Handles) where
   allocates flags size handle asked says (inl refused) = IsUnmoved (ap counts_moved asked) refused.2
   allocates flags size handle asked says (inr a) = made (is_absent_asked flags size) a.made
     where
-      made : (b : Bool) → MatchBool b (Enters old.heap a.slot (kind_asked flags) new.heap) (Allocates old.heap a.slot (rounded_size size) (kind_asked flags) 0 (way_asked flags) true new.heap) → Out
+      made : (b : Bool) → MatchBool b (Enters old.heap a.slot (kind_asked flags) new.heap) (Allocates old.heap a.slot (rounded_size size) (kind_asked flags) 0 (alloc_options flags) true new.heap) → Out
       made true entered = IsEntered (record { flags = flags; size = size; slot = a.slot; asked = asked; answered = says ∙ ap Word a.named; free = a.free; entered = entered; rest = a.rest })
-      made false allocated = settled (prefix_of old.heap (rounded_size size) (Some a.slot) (way_asked flags)) allocated.request
+      made false allocated = settled (discards_needed old.heap (rounded_size size) (Some a.slot) (alloc_options flags)) allocated.request
         where
-          settled : (p : Option ℕ) → Request old.heap a.slot (record { way = way_asked flags; prefix = p; becomes = IsNew (way_asked flags).zero (rounded_size size) (kind_asked flags) 0; order = with_newest a.slot }) true new.heap → Out
+          settled : (p : Option ℕ) → Request old.heap a.slot (record { options = alloc_options flags; prefix = p; becomes = IsNew (alloc_options flags).zero (rounded_size size) (kind_asked flags) 0; order = with_newest a.slot }) true new.heap → Out
           settled None r = absurd (false≢true (sym r.0))
           settled (Some k) r = IsAllocated (record { flags = flags; size = size; slot = a.slot; count = k; object = r.1.0; asked = asked; answered = says ∙ ap Word a.named; free = a.free; is_new = r.1.1; settled = r.1.2; rest = a.rest })
 
@@ -250,13 +250,13 @@ module _ (old : Handles) (call : Call) (reply : Answer) (new : Handles) where
     null : IsNull old answer new → Out
     null g = IsUnmoved (ap counts_moved asked) g.1
 
-    left : (heap : Heap) → Again old handle heap answer new → heap ≡ new.heap
+    left : (heap : Heap) → AnswersHandle old handle heap answer new → heap ≡ new.heap
     left heap g = sym (ap (λ (h : Handles). h.heap) g.1)
 
-    rest : (heap : Heap) → Again old handle heap answer new → new ≡ record old { heap = new.heap; moved = moved_bytes old.heap new.heap }
+    rest : (heap : Heap) → AnswersHandle old handle heap answer new → new ≡ record old { heap = new.heap; moved = moved_bytes old.heap new.heap }
     rest heap g = g.1 ∙ ap (λ (h : Heap). record old { heap = h; moved = moved_bytes old.heap h }) (left heap g)
 
-    unmoved : (heap : Heap) → heap ≡ old.heap → Again old handle heap answer new → Out
+    unmoved : (heap : Heap) → heap ≡ old.heap → AnswersHandle old handle heap answer new → Out
     unmoved heap e g = IsUnmoved (ap counts_moved asked) (g.1 ∙ (λ i. record old { heap = e i; moved = moved_bytes old.heap (e i) }) ∙ ap (λ n. record old { moved = n }) (none_moved old.heap old.heap refl))
 
     -- what a change of kind does to an object
@@ -265,7 +265,7 @@ module _ (old : Handles) (call : Call) (reply : Answer) (new : Handles) where
         ((is_fixed o.kind || is_fixed (kind_modified flags)) ≡ true → after_modify old.heap slot (kind_modified flags) ≡ Err refusals.Fixed)
         × ((is_fixed o.kind || is_fixed (kind_modified flags)) ≡ false → (new : Heap) × (after_modify old.heap slot (kind_modified flags) ≡ Ok new) × ChangesKind old.heap slot o (kind_modified flags) new)
 
-    modifies : owns old handle ≡ false → (slot : ℕ) (o : Object) → IsNamed old handle slot o → Again old handle (modified old.heap slot (kind_modified flags)) answer new → Out
+    modifies : owns old handle ≡ false → (slot : ℕ) (o : Object) → IsNamed old handle slot o → AnswersHandle old handle (modified old.heap slot (kind_modified flags)) answer new → Out
     modifies own slot o n g = turn (is_fixed o.kind || is_fixed (kind_modified flags)) refl (subst (λ p. IfSome p (Law slot)) n.there (kind_law old.heap slot (kind_modified flags) is.heap))
       where
         turn : (b : Bool) → (is_fixed o.kind || is_fixed (kind_modified flags)) ≡ b → Law slot o → Out
@@ -303,7 +303,7 @@ module _ (old : Handles) (call : Call) (reply : Answer) (new : Handles) where
         empties own slot o n true g = discards own slot o n g
         empties own slot o n false g = null g
 
-        answers : (has_flag flags GMEM_MODIFY ≡ false) × ((size == 0) ≡ false) → owns old handle ≡ false → (slot : ℕ) (o : Object) → IsNamed old handle slot o → (answered : Bool) (heap : Heap) → Reallocates old.heap slot (rounded_size size) (way_asked_again flags) answered heap → MatchBool answered (Again old handle heap answer new) (IsNull old answer new) → Out
+        answers : (has_flag flags GMEM_MODIFY ≡ false) × ((size == 0) ≡ false) → owns old handle ≡ false → (slot : ℕ) (o : Object) → IsNamed old handle slot o → (answered : Bool) (heap : Heap) → Reallocates old.heap slot (rounded_size size) (realloc_options flags) answered heap → MatchBool answered (AnswersHandle old handle heap answer new) (IsNull old answer new) → Out
         answers a own slot o n true heap r g = IsResized (record {
           handle = handle;
           size = size;
@@ -315,12 +315,12 @@ module _ (old : Handles) (call : Call) (reply : Answer) (new : Handles) where
           named = n;
           own = own;
           sized = a;
-          resized = subst (Reallocates old.heap slot (rounded_size size) (way_asked_again flags) true) (left heap g) r;
+          resized = subst (Reallocates old.heap slot (rounded_size size) (realloc_options flags) true) (left heap g) r;
           rest = rest heap g;
         })
         answers a own slot o n false heap r g = null g
 
-        resizes : (has_flag flags GMEM_MODIFY ≡ false) × ((size == 0) ≡ false) → owns old handle ≡ false → (slot : ℕ) (o : Object) → IsNamed old handle slot o → (long : Bool) → MatchBool long (IsNull old answer new) ((answered : Bool) × (heap : Heap) × Reallocates old.heap slot (rounded_size size) (way_asked_again flags) answered heap × MatchBool answered (Again old handle heap answer new) (IsNull old answer new)) → Out
+        resizes : (has_flag flags GMEM_MODIFY ≡ false) × ((size == 0) ≡ false) → owns old handle ≡ false → (slot : ℕ) (o : Object) → IsNamed old handle slot o → (long : Bool) → MatchBool long (IsNull old answer new) ((answered : Bool) × (heap : Heap) × Reallocates old.heap slot (rounded_size size) (realloc_options flags) answered heap × MatchBool answered (AnswersHandle old handle heap answer new) (IsNull old answer new)) → Out
         resizes a own slot o n true g = null g
         resizes a own slot o n false g = answers a own slot o n g.0 g.1 g.2 g.3
 
@@ -328,11 +328,11 @@ module _ (old : Handles) (call : Call) (reply : Answer) (new : Handles) where
         sized m own slot o n true z g = empties own slot o n (has_flag flags GMEM_MOVEABLE) g
         sized m own slot o n false z g = resizes (m, z) own slot o n (nat_lt LARGEST_SIZE size) g
 
-        by_modify : owns old handle ≡ false → (slot : ℕ) (o : Object) → IsNamed old handle slot o → (m : Bool) → has_flag flags GMEM_MODIFY ≡ m → MatchBool m (Again old handle (modified old.heap slot (kind_modified flags)) answer new) (MatchBool (size == 0) (Empties old handle slot flags answer new) (Resizes old handle slot flags size answer new)) → Out
+        by_modify : owns old handle ≡ false → (slot : ℕ) (o : Object) → IsNamed old handle slot o → (m : Bool) → has_flag flags GMEM_MODIFY ≡ m → MatchBool m (AnswersHandle old handle (modified old.heap slot (kind_modified flags)) answer new) (MatchBool (size == 0) (Empties old handle slot flags answer new) (Resizes old handle slot flags size answer new)) → Out
         by_modify own slot o n true m g = modifies own slot o n g
         by_modify own slot o n false m g = sized m own slot o n (size == 0) refl g
 
-        turn : owns old handle ≡ false → (p : Option ℕ) → slot_of_handle old handle ≡ p → MatchOption p (IsNull old answer new) (λ slot. MatchBool (has_flag flags GMEM_MODIFY) (Again old handle (modified old.heap slot (kind_modified flags)) answer new) (MatchBool (size == 0) (Empties old handle slot flags answer new) (Resizes old handle slot flags size answer new))) → Out
+        turn : owns old handle ≡ false → (p : Option ℕ) → slot_of_handle old handle ≡ p → MatchOption p (IsNull old answer new) (λ slot. MatchBool (has_flag flags GMEM_MODIFY) (AnswersHandle old handle (modified old.heap slot (kind_modified flags)) answer new) (MatchBool (size == 0) (Empties old handle slot flags answer new) (Resizes old handle slot flags size answer new))) → Out
         turn own None is_found g = null g
         turn own (Some slot) is_found g = let n : (o : Object) × IsNamed old handle slot o = named handle slot is_found in by_modify own slot n.0 n.1 (has_flag flags GMEM_MODIFY) refl g
 

@@ -4,16 +4,16 @@ use Rattle.std.proofs.lemmas.Bool.{false≢true}
 use Rattle.w16_model.specs.declared.Block.{Block}
 use Rattle.w16_model.specs.declared.Kind.{Kind}
 use Rattle.w16_model.specs.declared.Kind.TheVariants.{Fixed, Moveable, Discardable}
-use Rattle.w16_model.specs.declared.Way.{Way}
+use Rattle.w16_model.specs.declared.RoomOptions.{RoomOptions}
 use Rattle.w16_model.specs.Gap.{longest_hole}
 use Rattle.w16_model.specs.Arrangement.{IsLongestStretch}
 use Rattle.w16_model.specs.Discards.{eligible, blocks_without, is_member, is_about, needed, room_for, none_discarded_if}
 use Rattle.w16_model.specs.Heap.{Heap, IsHeap, blocks}
 use Rattle.w16_model.specs.Changes.{with_newest}
-use Rattle.w16_model.specs.Request.{Request, IsNew, Allocates, MakesRoom, compaction_prefix, eligible_count, most_room, prefix_of, snapshot_of}
+use Rattle.w16_model.specs.Request.{Request, IsNew, Allocates, MakesRoom, compaction_prefix, eligible_count, most_room, discards_needed, snapshot_of}
 use Rattle.w16_model.specs.Handles.{Handles, handle_of}
 use Rattle.w16_model.specs.OneObject.{Enters}
-use Rattle.w16_model.specs.Calls.{IsRefusedAlloc, IsEmptyFixed, IsTooLong, HasNoSlot, kind_asked, way_asked, rounded_size, is_absent_asked, has_flag}
+use Rattle.w16_model.specs.Calls.{IsRefusedAlloc, IsEmptyFixed, IsTooLong, HasNoSlot, kind_asked, alloc_options, rounded_size, is_absent_asked, has_flag}
 use Rattle.w16_model.specs.declared.TheConstants.{GMEM_MOVEABLE}
 use Rattle.w16_model.specs.Law.{KeepsOthers}
 use Rattle.w16_model.specs.Fewest.{HasNoStretch, LacksRoom, AllocatesFewest, IsMostAfter, MakesMost, AllocationLaw, CompactionLaw, GlobalAllocLaw, GlobalCompactLaw}
@@ -42,18 +42,18 @@ module _ (old : Heap) (is : IsHeap old) (n : ℕ) (h : Option ℕ) where
   none_if false k e = cc
 
   -- where there is none, there is no room
-  pub lacking : (way : Way) (compact discard : Bool) → way.compact ≡ compact → way.discard ≡ discard → number compact discard ≡ None → LacksRoom old h n way
-  lacking way false discard c d none = record {
+  pub lacking : (options : RoomOptions) (compact discard : Bool) → options.compact ≡ compact → options.discard ≡ discard → number compact discard ≡ None → LacksRoom old h n options
+  lacking options false discard c d none = record {
     hole = λ _ a b hole. let fit = (hole_is_longest old.lo old.hi (blocks old) is.placed).none_longer a b hole in let few = too_long longest none in omega arith;
     slides = λ t. absurd (false≢true (sym c ∙ t));
     discards = λ t. absurd (false≢true (sym c ∙ t));
   }
-  lacking way true false c d none = record {
+  lacking options true false c d none = record {
     hole = λ f. absurd (false≢true (sym f ∙ c));
     slides = λ _. no_stretch old.lo old.hi (blocks old) old.order n h is.placed 0 (too_long (room_for (snapshot_of old) 0 h) none);
     discards = λ _ t. absurd (false≢true (sym d ∙ t));
   }
-  lacking way true true c d none = record {
+  lacking options true true c d none = record {
     hole = λ f. absurd (false≢true (sym f ∙ c));
     slides = λ _. (discards_are_least old.lo old.hi (blocks old) old.order is.placed n h).none 0 none;
     discards = λ _ _ j. (discards_are_least old.lo old.hi (blocks old) old.order is.placed n h).none j none;
@@ -73,20 +73,20 @@ module _ (old : Heap) (is : IsHeap old) (n : ℕ) (h : Option ℕ) where
   none_goes true true k some (inr f) = absurd (false≢true (sym f))
 
 pub allocation_law : AllocationLaw
-allocation_law old new id n kind locks way answered is step = turn (prefix_of old n (Some id) way) refl step.request
+allocation_law old new id n kind locks options answered is step = turn (discards_needed old n (Some id) options) refl step.request
   where
-    turn : (p : Option ℕ) → prefix_of old n (Some id) way ≡ p → Request old id (record { way = way; prefix = p; becomes = IsNew way.zero n kind locks; order = with_newest id }) answered new
-        → AllocatesFewest old id n way answered new
+    turn : (p : Option ℕ) → discards_needed old n (Some id) options ≡ p → Request old id (record { options = options; prefix = p; becomes = IsNew options.zero n kind locks; order = with_newest id }) answered new
+        → AllocatesFewest old id n options answered new
     turn None e request = record {
       fewest = λ t. absurd (false≢true (sym request.0 ∙ t));
       without = λ t _. absurd (false≢true (sym request.0 ∙ t));
-      refused = λ _. (lacking old is n (Some id) way way.compact way.discard refl refl e, request.1);
+      refused = λ _. (lacking old is n (Some id) options options.compact options.discard refl refl e, request.1);
     }
     turn (Some k) e request =
-        let others : KeepsOthers old (Some id) k new = (others_law old new is k).0 id way request.1.0 (with_newest id request.1.0) request.1.2 in
+        let others : KeepsOthers old (Some id) k new = (others_law old new is k).0 id options request.1.0 (with_newest id request.1.0) request.1.2 in
         record {
-          fewest = λ _. record { count = k; others = others; fewer = fewer_lack old is n (Some id) way.compact way.discard k e };
-          without = λ _ may. subst (λ (j : ℕ). KeepsOthers old (Some id) j new) (none_goes old is n (Some id) way.compact way.discard k e may) others;
+          fewest = λ _. record { count = k; others = others; fewer = fewer_lack old is n (Some id) options.compact options.discard k e };
+          without = λ _ may. subst (λ (j : ℕ). KeepsOthers old (Some id) j new) (none_goes old is n (Some id) options.compact options.discard k e may) others;
           refused = λ f. absurd (false≢true (sym f ∙ request.0));
         }
 
@@ -130,11 +130,11 @@ global_alloc_law old new flags size handle are (inl refused) = record {
   refused = λ _. (ap (λ (g : Handles). g.heap) refused.2, reason refused.0);
 }
   where
-    reason : IsRefusedAlloc old flags size → IsEmptyFixed flags size ⊎ IsTooLong size ⊎ HasNoSlot old ⊎ LacksRoom old.heap None (rounded_size size) (way_asked flags)
+    reason : IsRefusedAlloc old flags size → IsEmptyFixed flags size ⊎ IsTooLong size ⊎ HasNoSlot old ⊎ LacksRoom old.heap None (rounded_size size) (alloc_options flags)
     reason (inl fixed) = inl fixed
     reason (inr (inl long)) = inr (inl long)
     reason (inr (inr (inl full))) = inr (inr (inl full))
-    reason (inr (inr (inr room))) = inr (inr (inr (lacking old.heap are.heap (rounded_size size) None (way_asked flags) (way_asked flags).compact (way_asked flags).discard refl refl room.1)))
+    reason (inr (inr (inr room))) = inr (inr (inr (lacking old.heap are.heap (rounded_size size) None (alloc_options flags) (alloc_options flags).compact (alloc_options flags).discard refl refl room.1)))
 global_alloc_law old new flags size handle are (inr answers) = record {
   answered = λ _ some. (answers.slot, answers.named, made (is_absent_asked flags size) (with_bytes some) answers.made);
   refused = λ none. absurd (some_handle (kind_asked flags) answers.slot (sym answers.named ∙ none));
@@ -143,7 +143,7 @@ global_alloc_law old new flags size handle are (inr answers) = record {
     with_bytes : 0 < size → is_absent_asked flags size ≡ false
     with_bytes some = ap (λ b. b && has_flag flags GMEM_MOVEABLE) (ne_eqb size 0 (λ e. absurd (omega (arith, e, some))))
 
-    made : (b : Bool) → b ≡ false → MatchBool b (Enters old.heap answers.slot (kind_asked flags) new.heap) (Allocates old.heap answers.slot (rounded_size size) (kind_asked flags) 0 (way_asked flags) true new.heap)
-        → AllocatesFewest old.heap answers.slot (rounded_size size) (way_asked flags) true new.heap
+    made : (b : Bool) → b ≡ false → MatchBool b (Enters old.heap answers.slot (kind_asked flags) new.heap) (Allocates old.heap answers.slot (rounded_size size) (kind_asked flags) 0 (alloc_options flags) true new.heap)
+        → AllocatesFewest old.heap answers.slot (rounded_size size) (alloc_options flags) true new.heap
     made true e m = absurd (false≢true (sym e))
-    made false e m = allocation_law old.heap new.heap answers.slot (rounded_size size) (kind_asked flags) 0 (way_asked flags) true are.heap m
+    made false e m = allocation_law old.heap new.heap answers.slot (rounded_size size) (kind_asked flags) 0 (alloc_options flags) true are.heap m

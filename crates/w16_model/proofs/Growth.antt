@@ -4,12 +4,12 @@ use Rattle.std.specs.List.{AllByRecursion as Each}
 use Rattle.std.specs.FinMap as finmap
 use Rattle.std.proofs.lemmas.Bool.{false≢true, cases_eq}
 use Rattle.w16_model.specs.declared.Block.{Block}
-use Rattle.w16_model.specs.declared.Way.{Way}
+use Rattle.w16_model.specs.declared.RoomOptions.{RoomOptions}
 use Rattle.w16_model.specs.Gap.{Misses, is_any, block_end, first_from, hole_after, IsClear}
 use Rattle.w16_model.specs.Discards.{fits_in_place, growth_for}
 use Rattle.w16_model.specs.Heap.{Heap, Object, IsHeap, blocks, object_at, size_of, is_pinned_object}
 use Rattle.w16_model.specs.Changes.{with_object, with_newest}
-use Rattle.w16_model.specs.Request.{Asked, Request, Allocates, IsNew, IsGrown, prefix_of, StaysOrMovesToHole, Reallocates, ReallocatesObject, Grows, snapshot_of}
+use Rattle.w16_model.specs.Request.{Asked, Request, Allocates, IsNew, IsGrown, discards_needed, StaysOrMovesToHole, Reallocates, ReallocatesObject, Grows, snapshot_of}
 use Rattle.w16_model.specs.Reallocation.{IsFreeBehind, OneOutcomeLaw}
 use Rattle.w16_model.proofs.Gaps.{Member, Each-at, Each-from, Each-from_All, All-from_Each, first_from-below, first_from-greatest}
 use Rattle.w16_model.proofs.Heaps.{block_member, member_block}
@@ -124,9 +124,9 @@ module _ (old : Heap) (is : IsHeap old) (id : ℕ) (o : Object) (there : object_
 -- The cases of a reallocation of an object.
 
 -- it had no bytes
-pub record Revives (old : Heap) (id n : ℕ) (o : Object) (way : Way) (answered : Bool) (new : Heap) : Type 0 where
+pub record Revives (old : Heap) (id n : ℕ) (o : Object) (options : RoomOptions) (answered : Bool) (new : Heap) : Type 0 where
   pub none : o.bytes ≡ None
-  pub allocated : Allocates old id n o.kind o.locks way answered new
+  pub allocated : Allocates old id n o.kind o.locks options answered new
 
 -- it is cut
 pub record Cuts (old : Heap) (id n : ℕ) (o : Object) (answered : Bool) (new : Heap) : Type 0 where
@@ -137,46 +137,46 @@ pub record Cuts (old : Heap) (id n : ℕ) (o : Object) (answered : Bool) (new : 
   pub left : new ≡ with_object old id (record o { bytes = Some (take n bytes) })
 
 -- it grows where it stands, or not
-pub record Extends (old : Heap) (id n : ℕ) (o : Object) (way : Way) (answered : Bool) (new : Heap) : Type 0 where
+pub record Extends (old : Heap) (id n : ℕ) (o : Object) (options : RoomOptions) (answered : Bool) (new : Heap) : Type 0 where
   pub bytes : List ℕ
   pub has : o.bytes ≡ Some bytes
   pub long : length bytes < n
-  pub held : (is_pinned_object o && not way.may_move) ≡ true
-  pub outcome : ((fits_in_place (snapshot_of old) n id ≡ true) × (answered ≡ true) × ((grown : Object) × IsGrown way.zero n o grown × (new ≡ with_object old id grown)))
+  pub held : (is_pinned_object o && not options.may_move) ≡ true
+  pub outcome : ((fits_in_place (snapshot_of old) n id ≡ true) × (answered ≡ true) × ((grown : Object) × IsGrown options.zero n o grown × (new ≡ with_object old id grown)))
       ⊎ ((fits_in_place (snapshot_of old) n id ≡ false) × (answered ≡ false) × (new ≡ old))
 
 -- it grows by a request
-pub record Asks (old : Heap) (id n : ℕ) (o : Object) (way : Way) (answered : Bool) (new : Heap) : Type 0 where
+pub record Asks (old : Heap) (id n : ℕ) (o : Object) (options : RoomOptions) (answered : Bool) (new : Heap) : Type 0 where
   pub bytes : List ℕ
   pub has : o.bytes ≡ Some bytes
   pub long : length bytes < n
-  pub held : (is_pinned_object o && not way.may_move) ≡ false
-  pub request : Request old id (record { way = way; prefix = growth_for (snapshot_of old) n id way; becomes = IsGrown way.zero n o; order = λ _ order. order }) answered new
-  pub stays : way.compact ≡ false → answered ≡ true → StaysOrMovesToHole old id n new
+  pub held : (is_pinned_object o && not options.may_move) ≡ false
+  pub request : Request old id (record { options = options; prefix = growth_for (snapshot_of old) n id options; becomes = IsGrown options.zero n o; order = λ _ order. order }) answered new
+  pub stays : options.compact ≡ false → answered ≡ true → StaysOrMovesToHole old id n new
 
 -- one of these
-abbrev pub IsCase : Heap → ℕ → ℕ → Object → Way → Bool → Heap → Type 0
-IsCase old id n o way answered new = Revives old id n o way answered new ⊎ (Cuts old id n o answered new ⊎ (Extends old id n o way answered new ⊎ Asks old id n o way answered new))
+abbrev pub IsCase : Heap → ℕ → ℕ → Object → RoomOptions → Bool → Heap → Type 0
+IsCase old id n o options answered new = Revives old id n o options answered new ⊎ (Cuts old id n o answered new ⊎ (Extends old id n o options answered new ⊎ Asks old id n o options answered new))
 
-pub case_of : (old : Heap) (id n : ℕ) (o : Object) (way : Way) (answered : Bool) (new : Heap) → ReallocatesObject old id o n way answered new → IsCase old id n o way answered new
-case_of old id n o way answered new step = turn o.bytes refl step
+pub case_of : (old : Heap) (id n : ℕ) (o : Object) (options : RoomOptions) (answered : Bool) (new : Heap) → ReallocatesObject old id o n options answered new → IsCase old id n o options answered new
+case_of old id n o options answered new step = turn o.bytes refl step
   where
-    grows : (bytes : List ℕ) → o.bytes ≡ Some bytes → length bytes < n → (held : Bool) → (is_pinned_object o && not way.may_move) ≡ held → (fits : Bool) → fits_in_place (snapshot_of old) n id ≡ fits
+    grows : (bytes : List ℕ) → o.bytes ≡ Some bytes → length bytes < n → (held : Bool) → (is_pinned_object o && not options.may_move) ≡ held → (fits : Bool) → fits_in_place (snapshot_of old) n id ≡ fits
         → MatchBool held
-        (MatchBool fits ((answered ≡ true) × ((grown : Object) × IsGrown way.zero n o grown × (new ≡ with_object old id grown))) ((answered ≡ false) × (new ≡ old)))
-        (Request old id (record { way = way; prefix = growth_for (snapshot_of old) n id way; becomes = IsGrown way.zero n o; order = λ _ order. order }) answered new × (way.compact ≡ false → answered ≡ true → StaysOrMovesToHole old id n new))
-        → IsCase old id n o way answered new
+        (MatchBool fits ((answered ≡ true) × ((grown : Object) × IsGrown options.zero n o grown × (new ≡ with_object old id grown))) ((answered ≡ false) × (new ≡ old)))
+        (Request old id (record { options = options; prefix = growth_for (snapshot_of old) n id options; becomes = IsGrown options.zero n o; order = λ _ order. order }) answered new × (options.compact ≡ false → answered ≡ true → StaysOrMovesToHole old id n new))
+        → IsCase old id n o options answered new
     grows bytes has long true t true f g = inr (inr (inl (record { bytes = bytes; has = has; long = long; held = t; outcome = inl (f, g.0, g.1) })))
     grows bytes has long true t false f g = inr (inr (inl (record { bytes = bytes; has = has; long = long; held = t; outcome = inr (f, g.0, g.1) })))
     grows bytes has long false t fits f g = inr (inr (inr (record { bytes = bytes; has = has; long = long; held = t; request = g.0; stays = g.1 })))
 
     sized : (bytes : List ℕ) → o.bytes ≡ Some bytes → (b : Bool) → nat_le n (length bytes) ≡ b
-        → MatchBool b ((answered ≡ true) × (new ≡ with_object old id (record o { bytes = Some (take n bytes) }))) (Grows old id o n way answered new) → IsCase old id n o way answered new
+        → MatchBool b ((answered ≡ true) × (new ≡ with_object old id (record o { bytes = Some (take n bytes) }))) (Grows old id o n options answered new) → IsCase old id n o options answered new
     sized bytes has true t g = inr (inl (record { bytes = bytes; has = has; short = leb-true n (length bytes) t; yes = g.0; left = g.1 }))
-    sized bytes has false t g = grows bytes has (leb-false n (length bytes) t) (is_pinned_object o && not way.may_move) refl (fits_in_place (snapshot_of old) n id) refl g
+    sized bytes has false t g = grows bytes has (leb-false n (length bytes) t) (is_pinned_object o && not options.may_move) refl (fits_in_place (snapshot_of old) n id) refl g
 
-    turn : (b : Option (List ℕ)) → o.bytes ≡ b → MatchOption b (Allocates old id n o.kind o.locks way answered new)
-        (λ bytes. MatchBool (nat_le n (length bytes)) ((answered ≡ true) × (new ≡ with_object old id (record o { bytes = Some (take n bytes) }))) (Grows old id o n way answered new)) → IsCase old id n o way answered new
+    turn : (b : Option (List ℕ)) → o.bytes ≡ b → MatchOption b (Allocates old id n o.kind o.locks options answered new)
+        (λ bytes. MatchBool (nat_le n (length bytes)) ((answered ≡ true) × (new ≡ with_object old id (record o { bytes = Some (take n bytes) }))) (Grows old id o n options answered new)) → IsCase old id n o options answered new
     turn None has g = inl (record { none = has; allocated = g })
     turn (Some bytes) has g = sized bytes has (nat_le n (length bytes)) refl g
 
@@ -192,49 +192,49 @@ one_request old id asked None new r = (r.1, λ other g. false≢true (sym g.0))
 one_request old id asked (Some k) new r = absurd (false≢true r.0)
 
 -- and so of each object
-module _ (old : Heap) (id n : ℕ) (o : Object) (way : Way) where
+module _ (old : Heap) (id n : ℕ) (o : Object) (options : RoomOptions) where
   abbrev growth : Asked
-  growth = record { way = way; prefix = growth_for (snapshot_of old) n id way; becomes = IsGrown way.zero n o; order = λ _ order. order }
+  growth = record { options = options; prefix = growth_for (snapshot_of old) n id options; becomes = IsGrown options.zero n o; order = λ _ order. order }
 
   abbrev revival : Asked
-  revival = record { way = way; prefix = prefix_of old n (Some id) way; becomes = IsNew way.zero n o.kind o.locks; order = with_newest id }
+  revival = record { options = options; prefix = discards_needed old n (Some id) options; becomes = IsNew options.zero n o.kind o.locks; order = with_newest id }
 
   abbrev Grown : Bool → Heap → Bool → Bool → Type 0
   Grown answered left held fits = MatchBool held
-      (MatchBool fits ((answered ≡ true) × ((grown : Object) × IsGrown way.zero n o grown × (left ≡ with_object old id grown))) ((answered ≡ false) × (left ≡ old)))
-      (Request old id growth answered left × (way.compact ≡ false → answered ≡ true → StaysOrMovesToHole old id n left))
+      (MatchBool fits ((answered ≡ true) × ((grown : Object) × IsGrown options.zero n o grown × (left ≡ with_object old id grown))) ((answered ≡ false) × (left ≡ old)))
+      (Request old id growth answered left × (options.compact ≡ false → answered ≡ true → StaysOrMovesToHole old id n left))
 
   abbrev Sized : Bool → Heap → List ℕ → Bool → Type 0
-  Sized answered left bytes b = MatchBool b ((answered ≡ true) × (left ≡ with_object old id (record o { bytes = Some (take n bytes) }))) (Grown answered left (is_pinned_object o && not way.may_move) (fits_in_place (snapshot_of old) n id))
+  Sized answered left bytes b = MatchBool b ((answered ≡ true) × (left ≡ with_object old id (record o { bytes = Some (take n bytes) }))) (Grown answered left (is_pinned_object o && not options.may_move) (fits_in_place (snapshot_of old) n id))
 
   abbrev Whole : Bool → Heap → Option (List ℕ) → Type 0
-  Whole answered left b = MatchOption b (Allocates old id n o.kind o.locks way answered left) (λ bytes. Sized answered left bytes (nat_le n (length bytes)))
+  Whole answered left b = MatchOption b (Allocates old id n o.kind o.locks options answered left) (λ bytes. Sized answered left bytes (nat_le n (length bytes)))
 
   grown_once : (new : Heap) (held fits : Bool) → Grown false new held fits → (new ≡ old) × ((other : Heap) → Grown true other held fits → ⊥)
   grown_once new true true g = absurd (false≢true g.0)
   grown_once new true false g = (g.1, λ other h. false≢true (sym h.0))
   grown_once new false fits g =
-      let one : (new ≡ old) × ((other : Heap) → Request old id growth true other → ⊥) = one_request old id growth (growth_for (snapshot_of old) n id way) new g.0 in
+      let one : (new ≡ old) × ((other : Heap) → Request old id growth true other → ⊥) = one_request old id growth (growth_for (snapshot_of old) n id options) new g.0 in
       (one.0, λ other h. one.1 other h.0)
 
   sized_once : (new : Heap) (bytes : List ℕ) (b : Bool) → Sized false new bytes b → (new ≡ old) × ((other : Heap) → Sized true other bytes b → ⊥)
   sized_once new bytes true g = absurd (false≢true g.0)
-  sized_once new bytes false g = grown_once new (is_pinned_object o && not way.may_move) (fits_in_place (snapshot_of old) n id) g
+  sized_once new bytes false g = grown_once new (is_pinned_object o && not options.may_move) (fits_in_place (snapshot_of old) n id) g
 
   whole_once : (new : Heap) (b : Option (List ℕ)) → Whole false new b → (new ≡ old) × ((other : Heap) → Whole true other b → ⊥)
   whole_once new None g =
-      let one : (new ≡ old) × ((other : Heap) → Request old id revival true other → ⊥) = one_request old id revival (prefix_of old n (Some id) way) new g.request in
+      let one : (new ≡ old) × ((other : Heap) → Request old id revival true other → ⊥) = one_request old id revival (discards_needed old n (Some id) options) new g.request in
       (one.0, λ other h. one.1 other h.request)
   whole_once new (Some bytes) g = sized_once new bytes (nat_le n (length bytes)) g
 
-  one_outcome : (new : Heap) → ReallocatesObject old id o n way false new → (new ≡ old) × ((other : Heap) → ReallocatesObject old id o n way true other → ⊥)
+  one_outcome : (new : Heap) → ReallocatesObject old id o n options false new → (new ≡ old) × ((other : Heap) → ReallocatesObject old id o n options true other → ⊥)
   one_outcome new step = whole_once new o.bytes step
 
 pub one_outcome_law : OneOutcomeLaw
-one_outcome_law old new id n way step = turn (object_at old id) refl step.object
+one_outcome_law old new id n options step = turn (object_at old id) refl step.object
   where
-    turn : (p : Option Object) → object_at old id ≡ p → IsSomeAnd p (λ o. ReallocatesObject old id o n way false new) → (new ≡ old) × ((other : Heap) → Reallocates old id n way true other → ⊥)
+    turn : (p : Option Object) → object_at old id ≡ p → IsSomeAnd p (λ o. ReallocatesObject old id o n options false new) → (new ≡ old) × ((other : Heap) → Reallocates old id n options true other → ⊥)
     turn None there r = absurd r
     turn (Some o) there r =
-        let one : (new ≡ old) × ((other : Heap) → ReallocatesObject old id o n way true other → ⊥) = one_outcome old id n o way new r in
-        (one.0, λ other h. one.1 other (subst (λ p. IsSomeAnd p (λ o. ReallocatesObject old id o n way true other)) there h.object))
+        let one : (new ≡ old) × ((other : Heap) → ReallocatesObject old id o n options true other → ⊥) = one_outcome old id n o options new r in
+        (one.0, λ other h. one.1 other (subst (λ p. IsSomeAnd p (λ o. ReallocatesObject old id o n options true other)) there h.object))

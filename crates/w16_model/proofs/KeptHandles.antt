@@ -5,7 +5,7 @@ use Rattle.std.specs.FinMap as finmap
 use Rattle.std.specs.FinMap.{FinMap}
 use Rattle.std.proofs.lemmas.Bool.{false≢true, cases_eq}
 use Rattle.w16_model.specs.declared.Block.{Block}
-use Rattle.w16_model.specs.declared.Way.{Way}
+use Rattle.w16_model.specs.declared.RoomOptions.{RoomOptions}
 use Rattle.w16_model.specs.declared.FarFault.{FarFault}
 use Rattle.w16_model.specs.Gap.{is_pinned}
 use Rattle.w16_model.specs.Discards.{eligible}
@@ -71,10 +71,10 @@ if_there (Some o) None P e h = absurd (false≢true (sym e))
 if_there (Some o) (Some r) P e h = h
 
 -- what an answered request has settled
-pub settled : (old : Heap) (h : ℕ) (way : Way) (prefix : Option ℕ) (becomes : Object → Type 0) (order : Object → List ℕ → List ℕ) (new : Heap) → Request old h (record { way = way; prefix = prefix; becomes = becomes; order = order }) true new
-    → (k : ℕ) × (o : Object) × Settles old (stays_for h way) (with_ordered (discarded old k (Some h)) h o (order o)) new
-settled old h way None becomes order new r = absurd (false≢true (sym r.0))
-settled old h way (Some k) becomes order new r = (k, r.1.0, r.1.2)
+pub settled : (old : Heap) (h : ℕ) (options : RoomOptions) (prefix : Option ℕ) (becomes : Object → Type 0) (order : Object → List ℕ → List ℕ) (new : Heap) → Request old h (record { options = options; prefix = prefix; becomes = becomes; order = order }) true new
+    → (k : ℕ) × (o : Object) × Settles old (stays_for h options) (with_ordered (discarded old k (Some h)) h o (order o)) new
+settled old h options None becomes order new r = absurd (false≢true (sym r.0))
+settled old h options (Some k) becomes order new r = (k, r.1.0, r.1.2)
 
 -- what an access leaves are handles
 abbrev LeavesFar : FarAnswer × Handles → Type 0

@@ -3,12 +3,12 @@ use Rattle.std.proofs.Common.{◌≡◌, ℕ, ◌-◌, ◌<◌, ◌≤◌, inl, 
 use Rattle.std.proofs.lemmas.Bool.{false≢true, cases_eq}
 use Rattle.std.proofs.lemmas.List.{length-append, length-take-le, take_all, take_at, drop_at}
 use Rattle.std.proofs.Math.ListN.{drop_of_length-le}
-use Rattle.w16_model.specs.declared.Way.{Way}
+use Rattle.w16_model.specs.declared.RoomOptions.{RoomOptions}
 use Rattle.w16_model.specs.Bytes.{repeated}
 use Rattle.w16_model.specs.Discards.{eligible, is_member, growth_for}
 use Rattle.w16_model.specs.Heap.{Heap, Object, IsHeap, blocks, object_at, size_of, is_in_order, is_discardable}
 use Rattle.w16_model.specs.Changes.{absent, without, with_object, with_ordered, with_newest}
-use Rattle.w16_model.specs.Request.{Asked, AreNew, IsNew, IsGrown, Settles, discarded, stays_for, prefix_of, snapshot_of}
+use Rattle.w16_model.specs.Request.{Asked, AreNew, IsNew, IsGrown, Settles, discarded, stays_for, discards_needed, snapshot_of}
 use Rattle.w16_model.specs.Law.{KeepsOthers}
 use Rattle.w16_model.specs.Reallocation.{AreResized, IsResized, without_all, is_revived, KeepsRest, RestLaw}
 use Rattle.w16_model.proofs.Gaps.{Member, member_filter}
@@ -86,7 +86,7 @@ new_bytes zero n bytes new = record { long = new.0; same = sym (take_all n [] (o
     less_none n = omega arith
 
 -- The rest, where it is answered.
-module _ (old : Heap) (is : IsHeap old) (id n : ℕ) (o : Object) (there : object_at old id ≡ Some o) (way : Way) (new : Heap) where
+module _ (old : Heap) (is : IsHeap old) (id n : ℕ) (o : Object) (there : object_at old id ≡ Some o) (options : RoomOptions) (new : Heap) where
   -- what comes at the end of the order
   abbrev tail : List ℕ
   tail = cond {A = List ℕ} (is_revived o) (id ∷ []) []
@@ -99,32 +99,32 @@ module _ (old : Heap) (is : IsHeap old) (id n : ℕ) (o : Object) (there : objec
   no_tail bytes has = ap (λ b. cond {A = List ℕ} (not (is_some b) && is_discardable o.kind) (id ∷ []) []) has
 
   -- by a request
-  from_request : (k : ℕ) (p : Object) (order : List ℕ → List ℕ) → Settles old (stays_for id way) (with_ordered (discarded old k (Some id)) id p order) new → IsResized way.zero n o p
-      → order (without_all (gone k) old.order) ≡ without_all (gone k) old.order ++ tail → KeepsRest old id n o way new
+  from_request : (k : ℕ) (p : Object) (order : List ℕ → List ℕ) → Settles old (stays_for id options) (with_ordered (discarded old k (Some id)) id p order) new → IsResized options.zero n o p
+      → order (without_all (gone k) old.order) ≡ without_all (gone k) old.order ++ tail → KeepsRest old id n o options new
   from_request k p order settles resized ordered = record {
     low = ap (λ (h : Heap). h.lo) settles.same ∙ (absents_rest (gone k) old).0;
     high = ap (λ (h : Heap). h.hi) settles.same ∙ (absents_rest (gone k) old).1;
     grain = ap (λ (h : Heap). h.grain) settles.same ∙ (absents_rest (gone k) old).2;
-    object = subst (λ r. IsSomeAnd r (IsResized way.zero n o)) (sym (ap (λ (h : Heap). object_at h id) settles.same ∙ inserted_here (discarded old k (Some id)).objects id p id refl)) resized;
+    object = subst (λ r. IsSomeAnd r (IsResized options.zero n o)) (sym (ap (λ (h : Heap). object_at h id) settles.same ∙ inserted_here (discarded old k (Some id)).objects id p id refl)) resized;
     count = k;
-    others = (others_law old new is k).0 id way p order settles;
+    others = (others_law old new is k).0 id options p order settles;
     order = ap (λ (h : Heap). h.order) settles.same ∙ ap order (absents_order (gone k) old) ∙ ordered;
   }
 
   -- in place
-  from_object : (p : Object) → new ≡ with_object old id p → IsResized way.zero n o p → tail ≡ [] → KeepsRest old id n o way new
+  from_object : (p : Object) → new ≡ with_object old id p → IsResized options.zero n o p → tail ≡ [] → KeepsRest old id n o options new
   from_object p left resized none = record {
     low = ap (λ (h : Heap). h.lo) left;
     high = ap (λ (h : Heap). h.hi) left;
     grain = ap (λ (h : Heap). h.grain) left;
-    object = subst (λ r. IsSomeAnd r (IsResized way.zero n o)) (sym (ap (λ (h : Heap). object_at h id) left ∙ inserted_here old.objects id p id refl)) resized;
+    object = subst (λ r. IsSomeAnd r (IsResized options.zero n o)) (sym (ap (λ (h : Heap). object_at h id) left ∙ inserted_here old.objects id p id refl)) resized;
     count = 0;
     others = subst (KeepsOthers old (Some id) 0) (sym left) (none_discarded old id p);
     order = ap (λ (h : Heap). h.order) left ∙ sym (all_stay old.order) ∙ sym (no_more (filter (λ q. true) old.order)) ∙ ap (λ l. filter (λ q. true) old.order ++ l) (sym none);
   }
 
   -- a grown object
-  grown_is : (bytes : List ℕ) → o.bytes ≡ Some bytes → length bytes < n → (p : Object) → IsGrown way.zero n o p → IsResized way.zero n o p
+  grown_is : (bytes : List ℕ) → o.bytes ≡ Some bytes → length bytes < n → (p : Object) → IsGrown options.zero n o p → IsResized options.zero n o p
   grown_is bytes has long p g =
       let more : List ℕ = g.grown.0 in
       let size : size_of o ≡ length bytes = ap (λ b. unwrap_or (option_map length b) 0) has in
@@ -132,20 +132,20 @@ module _ (old : Heap) (is : IsHeap old) (id n : ℕ) (o : Object) (there : objec
       record {
         kind = g.same_kind;
         locks = g.same_locks;
-        bytes = subst (λ r. IsSomeAnd r (AreResized way.zero n (unwrap_or o.bytes []))) (sym now)
-            (subst (λ r. AreResized way.zero n (unwrap_or r []) (bytes ++ more)) (sym has) (grown_bytes way.zero n bytes more long (subst (λ m. AreNew way.zero (n - m) more) size g.grown.1)));
+        bytes = subst (λ r. IsSomeAnd r (AreResized options.zero n (unwrap_or o.bytes []))) (sym now)
+            (subst (λ r. AreResized options.zero n (unwrap_or r []) (bytes ++ more)) (sym has) (grown_bytes options.zero n bytes more long (subst (λ m. AreNew options.zero (n - m) more) size g.grown.1)));
       }
 
   -- a revived one
-  revived_is : o.bytes ≡ None → (p : Object) → IsNew way.zero n o.kind o.locks p → IsResized way.zero n o p
+  revived_is : o.bytes ≡ None → (p : Object) → IsNew options.zero n o.kind o.locks p → IsResized options.zero n o p
   revived_is none p made = record { kind = made.same_kind; locks = made.same_locks; bytes = turn p.bytes made.new_bytes }
     where
-      turn : (b : Option (List ℕ)) → IsSomeAnd b (AreNew way.zero n) → IsSomeAnd b (AreResized way.zero n (unwrap_or o.bytes []))
+      turn : (b : Option (List ℕ)) → IsSomeAnd b (AreNew options.zero n) → IsSomeAnd b (AreResized options.zero n (unwrap_or o.bytes []))
       turn None h = h
-      turn (Some bytes) h = subst (λ r. AreResized way.zero n (unwrap_or r []) bytes) (sym none) (new_bytes way.zero n bytes h)
+      turn (Some bytes) h = subst (λ r. AreResized options.zero n (unwrap_or r []) bytes) (sym none) (new_bytes options.zero n bytes h)
 
   -- it is the newest if it is discardable
-  revived_order : o.bytes ≡ None → (k : ℕ) (p : Object) → IsNew way.zero n o.kind o.locks p → with_newest id p (without_all (gone k) old.order) ≡ without_all (gone k) old.order ++ tail
+  revived_order : o.bytes ≡ None → (k : ℕ) (p : Object) → IsNew options.zero n o.kind o.locks p → with_newest id p (without_all (gone k) old.order) ≡ without_all (gone k) old.order ++ tail
   revived_order none k p made =
       let left : List ℕ = without_all (gone k) old.order in
       let out : without id left ≡ left = without_none id left (λ m. not_there (member_filter (λ q. not (is_member q (gone k))) old.order id m).0) in
@@ -159,7 +159,7 @@ module _ (old : Heap) (is : IsHeap old) (id n : ℕ) (o : Object) (there : objec
           never true = refl
           never false = refl
 
-      with_bytes : (b : Option (List ℕ)) → IsSomeAnd b (AreNew way.zero n) → is_some b ≡ true
+      with_bytes : (b : Option (List ℕ)) → IsSomeAnd b (AreNew options.zero n) → is_some b ≡ true
       with_bytes None h = absurd h
       with_bytes (Some bytes) h = refl
 
@@ -174,24 +174,24 @@ module _ (old : Heap) (is : IsHeap old) (id n : ℕ) (o : Object) (there : objec
       either true l = refl
       either false l = sym (no_more l)
 
-  keeps_rest : IsCase old id n o way true new → KeepsRest old id n o way new
+  keeps_rest : IsCase old id n o options true new → KeepsRest old id n o options new
   keeps_rest (inl revives) =
-      let what : Asked = record { way = way; prefix = prefix_of old n (Some id) way; becomes = IsNew way.zero n o.kind o.locks; order = with_newest id } in
-      let r : (k : ℕ) × (what.prefix ≡ Some k) × ((p : Object) × what.becomes p × Settles old (stays_for id what.way) (with_ordered (discarded old k (Some id)) id p (what.order p)) new) = asked old id what new revives.allocated.request in
+      let what : Asked = record { options = options; prefix = discards_needed old n (Some id) options; becomes = IsNew options.zero n o.kind o.locks; order = with_newest id } in
+      let r : (k : ℕ) × (what.prefix ≡ Some k) × ((p : Object) × what.becomes p × Settles old (stays_for id what.options) (with_ordered (discarded old k (Some id)) id p (what.order p)) new) = asked old id what new revives.allocated.request in
       from_request r.0 r.2.0 (with_newest id r.2.0) r.2.2 (revived_is revives.none r.2.0 r.2.1) (revived_order revives.none r.0 r.2.0 r.2.1)
   keeps_rest (inr (inl cuts)) =
       from_object (record o { bytes = Some (take n cuts.bytes) }) cuts.left
-      (record { kind = refl; locks = refl; bytes = subst (λ r. AreResized way.zero n (unwrap_or r []) (take n cuts.bytes)) (sym cuts.has) (cut_bytes way.zero n cuts.bytes cuts.short) })
+      (record { kind = refl; locks = refl; bytes = subst (λ r. AreResized options.zero n (unwrap_or r []) (take n cuts.bytes)) (sym cuts.has) (cut_bytes options.zero n cuts.bytes cuts.short) })
       (no_tail cuts.bytes cuts.has)
   keeps_rest (inr (inr (inl extends))) = elim extends.outcome [
     | inl fits ↦ from_object fits.2.0 fits.2.2 (grown_is extends.bytes extends.has extends.long fits.2.0 fits.2.1) (no_tail extends.bytes extends.has)
     | inr short ↦ absurd (false≢true (sym short.1))
   ]
   keeps_rest (inr (inr (inr asks))) =
-      let what : Asked = record { way = way; prefix = growth_for (snapshot_of old) n id way; becomes = IsGrown way.zero n o; order = λ _ order. order } in
-      let r : (k : ℕ) × (what.prefix ≡ Some k) × ((p : Object) × what.becomes p × Settles old (stays_for id what.way) (with_ordered (discarded old k (Some id)) id p (what.order p)) new) = asked old id what new asks.request in
+      let what : Asked = record { options = options; prefix = growth_for (snapshot_of old) n id options; becomes = IsGrown options.zero n o; order = λ _ order. order } in
+      let r : (k : ℕ) × (what.prefix ≡ Some k) × ((p : Object) × what.becomes p × Settles old (stays_for id what.options) (with_ordered (discarded old k (Some id)) id p (what.order p)) new) = asked old id what new asks.request in
       from_request r.0 r.2.0 (λ order. order) r.2.2 (grown_is asks.bytes asks.has asks.long r.2.0 r.2.1)
       (sym (no_more (without_all (gone r.0) old.order)) ∙ ap (λ l. without_all (gone r.0) old.order ++ l) (sym (no_tail asks.bytes asks.has)))
 
 pub rest_law : RestLaw
-rest_law old new id n way is step = by_case old new id n way true (λ o. KeepsRest old id n o way new) (λ o there c. keeps_rest old is id n o there way new c) step
+rest_law old new id n options is step = by_case old new id n options true (λ o. KeepsRest old id n o options new) (λ o there c. keeps_rest old is id n o there options new c) step

@@ -6,7 +6,7 @@ use Rattle.w16_model.specs.declared.Hold.TheVariants.{Loose}
 use Rattle.w16_model.specs.Gap.{is_pinned, is_loose, begins_in, Misses, IsClear, IsGap}
 use Rattle.w16_model.specs.Arrangement.{IsArrangement, IsFreeStretch, IsLongestStretch}
 use Rattle.w16_model.specs.Discards.{eligible, is_member, is_about, blocks_without, room_for, snapshot}
-use Rattle.w16_model.specs.Reallocation.{loosened, is_counted, IsArrangementWithout, IsFreeWithout, IsLongestWithout, LeftOutLaw}
+use Rattle.w16_model.specs.Reallocation.{counted_loose, loosened, is_counted, IsArrangementWithout, IsFreeWithout, IsLongestWithout, LeftOutLaw}
 use Rattle.w16_model.proofs.Gaps.{Member, EachPair, Each-at, Each-from, Each-from_All, All-from_Each, Each-of_map, EachPair-from_AllPairs, AllPairs-from_EachPair, EachPair-filter, EachPair-map, member_filter, filter_member}
 use Rattle.w16_model.proofs.Starts.{member_map}
 use Rattle.w16_model.proofs.Discards.{is_member-true, eligible_loose, from_take}
@@ -34,33 +34,28 @@ module _ (lo hi : ℕ) (xs : List Block) (ids : List ℕ) (h : Option ℕ) (loos
   out : (x : Block) → IsTrue (stays x) → (is_member x.id ids ≡ false) × (is_about h x.id ≡ false)
   out x t = or_parts (is_member x.id ids) (is_about h x.id) (not-true (is_member x.id ids || is_about h x.id) t)
 
-  loosen : Block → Block
-  loosen x = cond {A = Block} (is_about h x.id) (record x { hold = Loose }) x
-
   -- An interval is clear of pinned blocks in the one list where it is in the other.
   clear_left : (a b : ℕ) → IsClear is_pinned lo hi (loosened h xs) a b → IsClear is_pinned lo hi left a b
-  unfolding loosen
   clear_left a b c = record {
     above = c.above;
     below = c.below;
     misses = All-from_Each _ left (Each-from (λ x. IsTrue (is_pinned x) → Misses x.at x.size a b) left (λ x m.
         let kept : Member x xs × IsTrue (stays x) = member_filter stays xs x m in
-        let same : loosen x ≡ x = ap (λ v. cond {A = Block} v (record x { hold = Loose }) x) (out x kept.1).1 in
+        let same : counted_loose h x ≡ x = ap (λ v. let y : Block = record x { hold = cond v Loose x.hold } in y) (out x kept.1).1 in
         subst (λ (y : Block). IsTrue (is_pinned y) → Misses y.at y.size a b) same
-        (Each-at (λ y. IsTrue (is_pinned y) → Misses y.at y.size a b) (loosened h xs) (Each-from_All _ (loosened h xs) c.misses) (loosen x) (member_map loosen xs x kept.0))));
+        (Each-at (λ y. IsTrue (is_pinned y) → Misses y.at y.size a b) (loosened h xs) (Each-from_All _ (loosened h xs) c.misses) (counted_loose h x) (member_map (counted_loose h) xs x kept.0))));
   }
 
   left_clear : (a b : ℕ) → IsClear is_pinned lo hi left a b → IsClear is_pinned lo hi (loosened h xs) a b
-  unfolding loosen
   left_clear a b c = record {
     above = c.above;
     below = c.below;
-    misses = All-from_Each _ (loosened h xs) (Each-of_map (λ y. IsTrue (is_pinned y) → Misses y.at y.size a b) loosen xs
-        (Each-from (λ x. IsTrue (is_pinned (loosen x)) → Misses (loosen x).at (loosen x).size a b) xs (λ x m. turn x m (is_about h x.id) refl)));
+    misses = All-from_Each _ (loosened h xs) (Each-of_map (λ y. IsTrue (is_pinned y) → Misses y.at y.size a b) (counted_loose h) xs
+        (Each-from (λ x. IsTrue (is_pinned (counted_loose h x)) → Misses x.at x.size a b) xs (λ x m. turn x m (is_about h x.id) refl)));
   }
     where
       turn : (x : Block) → Member x xs → (v : Bool) → is_about h x.id ≡ v
-          → IsTrue (is_pinned (cond {A = Block} v (record x { hold = Loose }) x)) → Misses (cond {A = Block} v (record x { hold = Loose }) x).at (cond {A = Block} v (record x { hold = Loose }) x).size a b
+          → IsTrue (is_pinned (record x { hold = cond v Loose x.hold })) → Misses x.at x.size a b
       turn x m true e t = absurd (false≢true t)
       turn x m false e t = Each-at (λ y. IsTrue (is_pinned y) → Misses y.at y.size a b) left (Each-from_All _ left c.misses) x
           (filter_member stays xs x m (not_from_false (is_member x.id ids || is_about h x.id) (or_from (is_member x.id ids) (is_about h x.id) (elim (cases_Bool (is_member x.id ids)) [

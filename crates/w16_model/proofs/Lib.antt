@@ -44,3 +44,4 @@ pub mod CallLaws
 pub mod FarLaws
 pub mod CallOrders
 pub mod Bystanders
+pub mod Effects

@@ -107,7 +107,7 @@ module _ (old : Heap) (is : IsHeap old) (k : ℕ) (h : Option ℕ) where
 
 pub others_law : OthersLaw
 others_law old new is k = (
-  (λ h way o order step. keeps old is k (Some h) new (λ q other.
+  (λ h options o order step. keeps old is k (Some h) new (λ q other.
       ap (λ (heap : Heap). object_at heap q) step.same
       ∙ get-insert nat_cmp_total (discarded old k (Some h)).objects h o q ∙ ap (λ b. cond b (Some o) (object_at (discarded old k (Some h)) q)) (untied q h (λ e. other (ap Some (sym e)))))),
   (λ step. keeps old is k None new (λ q other. ap (λ (heap : Heap). object_at heap q) step.same)),

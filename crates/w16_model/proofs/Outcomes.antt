@@ -3,16 +3,16 @@ use Rattle.std.proofs.Common.{◌≡◌, ◌≢◌, ℕ, ◌<◌, inl, inr, Bool
 use Rattle.std.specs.FinMap as finmap
 use Rattle.std.proofs.lemmas.Bool.{false≢true}
 use Rattle.w16_model.specs.declared.Block.{Block}
-use Rattle.w16_model.specs.declared.Way.{Way}
+use Rattle.w16_model.specs.declared.RoomOptions.{RoomOptions}
 use Rattle.w16_model.specs.declared.Hold.TheVariants.{Pinned, Loose}
 use Rattle.w16_model.specs.declared.TheConstants.{GMEM_MOVEABLE}
 use Rattle.w16_model.specs.Gap.{is_pinned, holds_still}
 use Rattle.w16_model.specs.Heap.{Heap, Object, IsHeap, blocks, object_at, hold_of_object, is_pinned_object}
 use Rattle.w16_model.specs.Changes.{with_newest}
-use Rattle.w16_model.specs.Request.{Settles, stays_for, Allocates, IsNew, Request, prefix_of}
+use Rattle.w16_model.specs.Request.{Settles, stays_for, Allocates, IsNew, Request, discards_needed}
 use Rattle.w16_model.specs.OneObject.{Enters}
 use Rattle.w16_model.specs.Handles.{Handles, AreHandles}
-use Rattle.w16_model.specs.Calls.{has_flag, way_asked, kind_asked, rounded_size}
+use Rattle.w16_model.specs.Calls.{has_flag, alloc_options, kind_asked, rounded_size}
 use Rattle.w16_model.specs.Law.{AddressLaw, StandsStill, OutcomeLaw}
 use Rattle.w16_model.proofs.Gaps.{Each-at, Each-from_All}
 use Rattle.w16_model.proofs.Heaps.{IsBlockOf, block_member}
@@ -48,8 +48,8 @@ pinned_block x None pinned held = absurd pinned
 pinned_block x (Some o) pinned held = ap holds_still (held ∙ ap (λ b. cond b Pinned Loose) pinned)
 
 -- what stays for h, if it isn't h's own block
-pub stays_other : (h : ℕ) (way : Way) (x : Block) → x.id ≢ h → (is_pinned x || not way.compact) ≡ true → stays_for h way x ≡ true
-stays_other h way x other t = ap (λ b. not b && (is_pinned x || not way.compact)) (ne_eqb x.id h other) ∙ t
+pub stays_other : (h : ℕ) (options : RoomOptions) (x : Block) → x.id ≢ h → (is_pinned x || not options.compact) ≡ true → stays_for h options x ≡ true
+stays_other h options x other t = ap (λ b. not b && (is_pinned x || not options.compact)) (ne_eqb x.id h other) ∙ t
 
 or_left : (a b : Bool) → a ≡ true → (a || b) ≡ true
 or_left true b t = refl
@@ -62,10 +62,10 @@ or_right false false t = refl
 
 pub address_law : AddressLaw
 address_law old new is k = (
-  (λ h way o order step. record {
-    pinned = λ q other pinned. still old is (stays_for h way) _ new step q
-        (λ x e held. stays_other h way x (λ same. other (ap Some (sym same ∙ e))) (or_left (is_pinned x) (not way.compact) (pinned_block x (object_at old q) pinned held)));
-    unmoved = λ none q other. still old is (stays_for h way) _ new step q (λ x e held. stays_other h way x (λ same. other (ap Some (sym same ∙ e))) (or_right (is_pinned x) way.compact none));
+  (λ h options o order step. record {
+    pinned = λ q other pinned. still old is (stays_for h options) _ new step q
+        (λ x e held. stays_other h options x (λ same. other (ap Some (sym same ∙ e))) (or_left (is_pinned x) (not options.compact) (pinned_block x (object_at old q) pinned held)));
+    unmoved = λ none q other. still old is (stays_for h options) _ new step q (λ x e held. stays_other h options x (λ same. other (ap Some (sym same ∙ e))) (or_right (is_pinned x) options.compact none));
   }),
   (λ step. record {
     pinned = λ q other pinned. still old is is_pinned _ new step q (λ x e held. pinned_block x (object_at old q) pinned held);
@@ -75,18 +75,18 @@ address_law old new is k = (
 
 -- what an answered allocation has made
 abbrev Made : Handles → ℕ → ℕ → ℕ → Heap → Bool → Type 0
-Made old flags size slot new absent = MatchBool absent (Enters old.heap slot (kind_asked flags) new) (Allocates old.heap slot (rounded_size size) (kind_asked flags) 0 (way_asked flags) true new)
+Made old flags size slot new absent = MatchBool absent (Enters old.heap slot (kind_asked flags) new) (Allocates old.heap slot (rounded_size size) (kind_asked flags) 0 (alloc_options flags) true new)
 
 -- An allocation that was answered is none of those that are refused.
 module _ (old : Handles) (is : AreHandles old) (flags size : ℕ) where
   -- it had a prefix
-  has_prefix : (slot : ℕ) (way : Way) (p : Option ℕ) (becomes : Object → Type 0) (order : Object → List ℕ → List ℕ) (new : Heap) → Request old.heap slot (record { way = way; prefix = p; becomes = becomes; order = order }) true new → p ≡ None → ⊥
-  has_prefix slot way None becomes order new r none = false≢true (sym r.0)
-  has_prefix slot way (Some k) becomes order new r none = cc
+  has_prefix : (slot : ℕ) (options : RoomOptions) (p : Option ℕ) (becomes : Object → Type 0) (order : Object → List ℕ → List ℕ) (new : Heap) → Request old.heap slot (record { options = options; prefix = p; becomes = becomes; order = order }) true new → p ≡ None → ⊥
+  has_prefix slot options None becomes order new r none = false≢true (sym r.0)
+  has_prefix slot options (Some k) becomes order new r none = cc
 
-  not_refused : (slot : ℕ) (new : Heap) → object_at old.heap slot ≡ None → Allocates old.heap slot (rounded_size size) (kind_asked flags) 0 (way_asked flags) true new → prefix_of old.heap (rounded_size size) None (way_asked flags) ≡ None → ⊥
-  not_refused slot new unused allocated none = has_prefix slot (way_asked flags) (prefix_of old.heap (rounded_size size) (Some slot) (way_asked flags)) (IsNew (way_asked flags).zero (rounded_size size) (kind_asked flags) 0) (with_newest slot) new allocated.request
-      (none_about old.heap is.heap slot unused (rounded_size size) (way_asked flags) ∙ none)
+  not_refused : (slot : ℕ) (new : Heap) → object_at old.heap slot ≡ None → Allocates old.heap slot (rounded_size size) (kind_asked flags) 0 (alloc_options flags) true new → discards_needed old.heap (rounded_size size) None (alloc_options flags) ≡ None → ⊥
+  not_refused slot new unused allocated none = has_prefix slot (alloc_options flags) (discards_needed old.heap (rounded_size size) (Some slot) (alloc_options flags)) (IsNew (alloc_options flags).zero (rounded_size size) (kind_asked flags) 0) (with_newest slot) new allocated.request
+      (none_about old.heap is.heap slot unused (rounded_size size) (alloc_options flags) ∙ none)
 
   -- a fixed object of no bytes isn't allocated
   nothing_rounded : size ≡ 0 → rounded_size size ≡ 0
@@ -115,7 +115,7 @@ outcome_law old new flags size handle is answers refused = elim refused [
         turn true e m = false≢true (sym (and_false (size == 0)) ∙ sym e)
         turn false e m = omega (arith, m.some, nothing_rounded old is flags size h.0)
 
-    made_room : (0 < size) × (prefix_of old.heap (rounded_size size) None (way_asked flags) ≡ None) → ⊥
+    made_room : (0 < size) × (discards_needed old.heap (rounded_size size) None (alloc_options flags) ≡ None) → ⊥
     made_room h = turn ((size == 0) && has_flag flags GMEM_MOVEABLE) (ap (λ b. b && has_flag flags GMEM_MOVEABLE) (ne_eqb size 0 (λ e. absurd (omega (arith, e, h.0))))) answers.made
       where
         turn : (b : Bool) → b ≡ false → Made old flags size answers.slot new.heap b → ⊥

@@ -4,11 +4,11 @@ use Rattle.std.proofs.Common.{◌≡◌, ◌≢◌, ℕ, zero, suc, ◌+◌, ◌
 use Rattle.std.proofs.lemmas.Bool.{false≢true, le-leb, lt-leb}
 use Rattle.std.proofs.lemmas.List.Sorted.{list_any-IsPermutation, IsPermutation-refl, IsPermutation-cons, IsPermutation-swap, IsPermutation-trans, IsPermutation-keeps}
 use Rattle.w16_model.specs.declared.Block.{Block}
-use Rattle.w16_model.specs.declared.Way.{Way}
+use Rattle.w16_model.specs.declared.RoomOptions.{RoomOptions}
 use Rattle.w16_model.specs.Gap.{is_pinned, room, longest_hole}
 use Rattle.w16_model.specs.Heap.{Heap, IsHeap, Object, blocks, object_at, is_in_order}
 use Rattle.w16_model.specs.Discards.{eligible, blocks_without, room_for, needed, prefix_for, none_discarded_if, is_member, is_about, is_pinned_id, snapshot}
-use Rattle.w16_model.specs.Request.{prefix_of, snapshot_of}
+use Rattle.w16_model.specs.Request.{discards_needed, snapshot_of}
 use Rattle.w16_model.proofs.Gaps.{Member}
 use Rattle.w16_model.proofs.Heaps.{IsBlockOf, member_block}
 use Rattle.w16_model.proofs.Discards.{true-is_member}
@@ -123,39 +123,39 @@ module _ (lo hi : ℕ) (xs : List Block) (order : List ℕ) (n : ℕ) (h : Optio
       ap (λ m. find serves (range_with_len 0 m)) (add-one (length (eligible xs order h)))
       ∙ ap (λ b. cond b (Some 0) (find serves (range_with_len (0 + 1) (length (eligible xs order h))))) (le-leb n (room_for (snapshot lo hi xs order) 0 h) fits)
 
-  -- The number of discards of a request, by the way it asks.
-  module _ (way : Way) where
+  -- The number of discards of a request, by its options.
+  module _ (options : RoomOptions) where
     -- where nothing may move
-    pub without_compact : way.compact ≡ false → prefix_for (snapshot lo hi xs order) n h way ≡ none_discarded_if (nat_le n (longest_hole lo hi xs))
-    without_compact still = ap (λ b. cond (not b) (none_discarded_if (nat_le n (longest_hole lo hi xs))) (cond (not way.discard) (none_discarded_if (nat_le n (room_for (snapshot lo hi xs order) 0 h))) (needed (snapshot lo hi xs order) n h))) still
+    pub without_compact : options.compact ≡ false → prefix_for (snapshot lo hi xs order) n h options ≡ none_discarded_if (nat_le n (longest_hole lo hi xs))
+    without_compact still = ap (λ b. cond (not b) (none_discarded_if (nat_le n (longest_hole lo hi xs))) (cond (not options.discard) (none_discarded_if (nat_le n (room_for (snapshot lo hi xs order) 0 h))) (needed (snapshot lo hi xs order) n h))) still
 
     -- where others may slide
-    with_compact : way.compact ≡ true → prefix_for (snapshot lo hi xs order) n h way ≡ cond (not way.discard) (none_discarded_if (nat_le n (room_for (snapshot lo hi xs order) 0 h))) (needed (snapshot lo hi xs order) n h)
-    with_compact moves = ap (λ b. cond (not b) (none_discarded_if (nat_le n (longest_hole lo hi xs))) (cond (not way.discard) (none_discarded_if (nat_le n (room_for (snapshot lo hi xs order) 0 h))) (needed (snapshot lo hi xs order) n h))) moves
+    with_compact : options.compact ≡ true → prefix_for (snapshot lo hi xs order) n h options ≡ cond (not options.discard) (none_discarded_if (nat_le n (room_for (snapshot lo hi xs order) 0 h))) (needed (snapshot lo hi xs order) n h)
+    with_compact moves = ap (λ b. cond (not b) (none_discarded_if (nat_le n (longest_hole lo hi xs))) (cond (not options.discard) (none_discarded_if (nat_le n (room_for (snapshot lo hi xs order) 0 h))) (needed (snapshot lo hi xs order) n h))) moves
 
     -- where nothing may move or be discarded, and a hole is long enough
-    pub prefix_hole : way.compact ≡ false → n ≤ longest_hole lo hi xs → prefix_for (snapshot lo hi xs order) n h way ≡ Some 0
+    pub prefix_hole : options.compact ≡ false → n ≤ longest_hole lo hi xs → prefix_for (snapshot lo hi xs order) n h options ≡ Some 0
     prefix_hole still fits = without_compact still ∙ ap none_discarded_if (le-leb n (longest_hole lo hi xs) fits)
 
     -- where nothing may move or be discarded, and no hole is
-    pub prefix_no_hole : way.compact ≡ false → longest_hole lo hi xs < n → prefix_for (snapshot lo hi xs order) n h way ≡ None
+    pub prefix_no_hole : options.compact ≡ false → longest_hole lo hi xs < n → prefix_for (snapshot lo hi xs order) n h options ≡ None
     prefix_no_hole still short = without_compact still ∙ ap none_discarded_if (lt-leb n (longest_hole lo hi xs) short)
 
     -- where others may slide, and there is room now
-    pub prefix_now : way.compact ≡ true → n ≤ room_for (snapshot lo hi xs order) 0 h → prefix_for (snapshot lo hi xs order) n h way ≡ Some 0
-    prefix_now moves fits = with_compact moves ∙ turn way.discard
+    pub prefix_now : options.compact ≡ true → n ≤ room_for (snapshot lo hi xs order) 0 h → prefix_for (snapshot lo hi xs order) n h options ≡ Some 0
+    prefix_now moves fits = with_compact moves ∙ turn options.discard
       where
         turn : (b : Bool) → cond (not b) (none_discarded_if (nat_le n (room_for (snapshot lo hi xs order) 0 h))) (needed (snapshot lo hi xs order) n h) ≡ Some 0
         turn true = needed_now fits
         turn false = ap none_discarded_if (le-leb n (room_for (snapshot lo hi xs order) 0 h) fits)
 
     -- where others may slide but none may be discarded, and there is no room
-    pub prefix_kept : way.compact ≡ true → way.discard ≡ false → room_for (snapshot lo hi xs order) 0 h < n → prefix_for (snapshot lo hi xs order) n h way ≡ None
+    pub prefix_kept : options.compact ≡ true → options.discard ≡ false → room_for (snapshot lo hi xs order) 0 h < n → prefix_for (snapshot lo hi xs order) n h options ≡ None
     prefix_kept moves keeps short =
         with_compact moves ∙ ap (λ b. cond (not b) (none_discarded_if (nat_le n (room_for (snapshot lo hi xs order) 0 h))) (needed (snapshot lo hi xs order) n h)) keeps ∙ ap none_discarded_if (lt-leb n (room_for (snapshot lo hi xs order) 0 h) short)
 
     -- where others may slide and be discarded
-    pub prefix_needed : way.compact ≡ true → way.discard ≡ true → prefix_for (snapshot lo hi xs order) n h way ≡ needed (snapshot lo hi xs order) n h
+    pub prefix_needed : options.compact ≡ true → options.discard ≡ true → prefix_for (snapshot lo hi xs order) n h options ≡ needed (snapshot lo hi xs order) n h
     prefix_needed moves discards = with_compact moves ∙ ap (λ b. cond (not b) (none_discarded_if (nat_le n (room_for (snapshot lo hi xs order) 0 h))) (needed (snapshot lo hi xs order) n h)) discards
 
 -- A request about an object that isn't there needs what one about none needs.
@@ -188,7 +188,7 @@ module _ (old : Heap) (is : IsHeap old) (id : ℕ) (unused : object_at old id �
   needed_about n = needed_same old.lo old.hi (blocks old) (blocks old) old.order old.order n (Some id) None (ap (length {A = ℕ}) eligible_about) room_about
 
   -- so the answers are the same
-  pub none_about : (n : ℕ) (way : Way) → prefix_of old n (Some id) way ≡ prefix_of old n None way
-  none_about n way = λ i.
-      cond (not way.compact) (none_discarded_if (nat_le n (longest_hole old.lo old.hi (blocks old))))
-      (cond (not way.discard) (none_discarded_if (nat_le n (room_about 0 i))) (needed_about n i))
+  pub none_about : (n : ℕ) (options : RoomOptions) → discards_needed old n (Some id) options ≡ discards_needed old n None options
+  none_about n options = λ i.
+      cond (not options.compact) (none_discarded_if (nat_le n (longest_hole old.lo old.hi (blocks old))))
+      (cond (not options.discard) (none_discarded_if (nat_le n (room_about 0 i))) (needed_about n i))

@@ -7,12 +7,12 @@ use Rattle.std.proofs.lemmas.Bool.{false≢true}
 use Rattle.std.proofs.lemmas.List.{length-append, length-take-le}
 use Rattle.std.proofs.lemmas.List.Elements.{All-take, All-append}
 use Rattle.w16_model.specs.declared.Block.{Block}
-use Rattle.w16_model.specs.declared.Way.{Way}
+use Rattle.w16_model.specs.declared.RoomOptions.{RoomOptions}
 use Rattle.w16_model.specs.Gap.{Misses, is_any, is_pinned, block_end, longest_hole, IsClear}
 use Rattle.w16_model.specs.Discards.{fits_in_place, growth_for, none_discarded_if}
 use Rattle.w16_model.specs.Heap.{Heap, Object, IsHeap, IsCounted, IsMultiple, blocks, object_at, size_of, is_fixed, is_pinned_object}
 use Rattle.w16_model.specs.Changes.{with_object, with_ordered, with_newest}
-use Rattle.w16_model.specs.Request.{Asked, Request, AreNew, IsNew, IsGrown, Settles, Reallocates, ReallocatesObject, discarded, stays_for, prefix_of, snapshot_of}
+use Rattle.w16_model.specs.Request.{Asked, Request, AreNew, IsNew, IsGrown, Settles, Reallocates, ReallocatesObject, discarded, stays_for, discards_needed, snapshot_of}
 use Rattle.w16_model.specs.Law.{KeepsOthers, StandsStill}
 use Rattle.w16_model.specs.Fewest.{AllocatesFewest, LacksRoom, HasNoStretch}
 use Rattle.w16_model.specs.Reallocation.{IsFreeBehind, is_held, ReallocatesFewest, MovesLittle, HeapLaw, FewestLaw, MovesLaw}
@@ -27,11 +27,11 @@ use Rattle.w16_model.proofs.Growth.{Revives, Asks, IsCase, case_of, stands, size
 
 -- an answered request has discarded so many, and what it made stands
 pub asked : (old : Heap) (h : ℕ) (what : Asked) (new : Heap) → Request old h what true new
-    → (k : ℕ) × (what.prefix ≡ Some k) × ((o : Object) × what.becomes o × Settles old (stays_for h what.way) (with_ordered (discarded old k (Some h)) h o (what.order o)) new)
+    → (k : ℕ) × (what.prefix ≡ Some k) × ((o : Object) × what.becomes o × Settles old (stays_for h what.options) (with_ordered (discarded old k (Some h)) h o (what.order o)) new)
 asked old h what new r = turn what.prefix refl r
   where
-    turn : (p : Option ℕ) → what.prefix ≡ p → MatchOption p ((true ≡ false) × (new ≡ old)) (λ k. (true ≡ true) × ((o : Object) × what.becomes o × Settles old (stays_for h what.way) (with_ordered (discarded old k (Some h)) h o (what.order o)) new))
-        → (k : ℕ) × (what.prefix ≡ Some k) × ((o : Object) × what.becomes o × Settles old (stays_for h what.way) (with_ordered (discarded old k (Some h)) h o (what.order o)) new)
+    turn : (p : Option ℕ) → what.prefix ≡ p → MatchOption p ((true ≡ false) × (new ≡ old)) (λ k. (true ≡ true) × ((o : Object) × what.becomes o × Settles old (stays_for h what.options) (with_ordered (discarded old k (Some h)) h o (what.order o)) new))
+        → (k : ℕ) × (what.prefix ≡ Some k) × ((o : Object) × what.becomes o × Settles old (stays_for h what.options) (with_ordered (discarded old k (Some h)) h o (what.order o)) new)
     turn None e g = absurd (false≢true (sym g.0))
     turn (Some k) e g = (k, e, g.1)
 
@@ -39,7 +39,7 @@ asked old h what new r = turn what.prefix refl r
 pub not_asked : (old : Heap) (h : ℕ) (what : Asked) (new : Heap) → Request old h what false new → (what.prefix ≡ None) × (new ≡ old)
 not_asked old h what new r = turn what.prefix refl r
   where
-    turn : (p : Option ℕ) → what.prefix ≡ p → MatchOption p ((false ≡ false) × (new ≡ old)) (λ k. (false ≡ true) × ((o : Object) × what.becomes o × Settles old (stays_for h what.way) (with_ordered (discarded old k (Some h)) h o (what.order o)) new)) → (what.prefix ≡ None) × (new ≡ old)
+    turn : (p : Option ℕ) → what.prefix ≡ p → MatchOption p ((false ≡ false) × (new ≡ old)) (λ k. (false ≡ true) × ((o : Object) × what.becomes o × Settles old (stays_for h what.options) (with_ordered (discarded old k (Some h)) h o (what.order o)) new)) → (what.prefix ≡ None) × (new ≡ old)
     turn None e g = (e, g.1)
     turn (Some k) e g = absurd (false≢true g.0)
 
@@ -49,7 +49,7 @@ settled_heap old is h true new what r = (asked old h what new r).2.2.sound
 settled_heap old is h false new what r = subst IsHeap (sym (not_asked old h what new r).1) is
 
 -- The heap that is left.
-module _ (old : Heap) (is : IsHeap old) (id n : ℕ) (some : 0 < n) (rounded : IsMultiple old.grain n) (o : Object) (there : object_at old id ≡ Some o) (way : Way) where
+module _ (old : Heap) (is : IsHeap old) (id n : ℕ) (some : 0 < n) (rounded : IsMultiple old.grain n) (o : Object) (there : object_at old id ≡ Some o) (options : RoomOptions) where
   counted : IsCounted o
   counted = subst (λ p. IfSome p IsCounted) there (is.counted id)
 
@@ -101,15 +101,15 @@ module _ (old : Heap) (is : IsHeap old) (id n : ℕ) (some : 0 < n) (rounded : I
       beside y size at long n f g s = grind arith
 
   -- each case leaves a heap
-  case_heap : (answered : Bool) (new : Heap) → IsCase old id n o way answered new → IsHeap new
-  case_heap answered new (inl revives) = settled_heap old is id answered new (record { way = way; prefix = prefix_of old n (Some id) way; becomes = IsNew way.zero n o.kind o.locks; order = with_newest id }) revives.allocated.request
+  case_heap : (answered : Bool) (new : Heap) → IsCase old id n o options answered new → IsHeap new
+  case_heap answered new (inl revives) = settled_heap old is id answered new (record { options = options; prefix = discards_needed old n (Some id) options; becomes = IsNew options.zero n o.kind o.locks; order = with_newest id }) revives.allocated.request
   case_heap answered new (inr (inl cuts)) =
       let all : All (λ b. b < 256) (take n cuts.bytes) = All-take (λ b. b < 256) n cuts.bytes (subst AreBytes cuts.has are_bytes) in
       subst IsHeap (sym cuts.left) (sized_heap cuts.bytes (take n cuts.bytes) cuts.has (record o { bytes = Some (take n cuts.bytes) }) refl refl refl all
       (subst (λ m. MayLie old id (unwrap_or (finmap.get old.places id) 0) m) (sym (length-take-le n cuts.bytes cuts.short)) (fewer_lie cuts.bytes cuts.has cuts.short)))
   case_heap answered new (inr (inr (inl extends))) = elim extends.outcome [
     | inl fits ↦
-        let g : IsGrown way.zero n o fits.2.0 = fits.2.1 in
+        let g : IsGrown options.zero n o fits.2.0 = fits.2.1 in
         let bytes : List ℕ = extends.bytes ++ g.grown.0 in
         let has_new : fits.2.0.bytes ≡ Some bytes = g.grown.2 ∙ ap (option_map (λ bytes. bytes ++ g.grown.0)) extends.has in
         let long : length bytes ≡ n = length-append extends.bytes g.grown.0 ∙ omega (arith, g.grown.1.0, size_is old is id o there extends.bytes extends.has, extends.long) in
@@ -118,22 +118,22 @@ module _ (old : Heap) (is : IsHeap old) (id n : ℕ) (some : 0 < n) (rounded : I
         (subst (λ m. MayLie old id (unwrap_or (finmap.get old.places id) 0) m) (sym long) (more_lie extends.bytes extends.has extends.long fits.0)))
     | inr short ↦ subst IsHeap (sym short.2) is
   ]
-  case_heap answered new (inr (inr (inr asks))) = settled_heap old is id answered new (record { way = way; prefix = growth_for (snapshot_of old) n id way; becomes = IsGrown way.zero n o; order = λ _ order. order }) asks.request
+  case_heap answered new (inr (inr (inr asks))) = settled_heap old is id answered new (record { options = options; prefix = growth_for (snapshot_of old) n id options; becomes = IsGrown options.zero n o; order = λ _ order. order }) asks.request
 
 -- a law by its cases, at the object that is there
-pub by_case : (old new : Heap) (id n : ℕ) (way : Way) (answered : Bool) (P : Object → Type 0) → ((o : Object) → object_at old id ≡ Some o → IsCase old id n o way answered new → P o) → Reallocates old id n way answered new → IsSomeAnd (object_at old id) P
-by_case old new id n way answered P f step = turn (object_at old id) refl step.object
+pub by_case : (old new : Heap) (id n : ℕ) (options : RoomOptions) (answered : Bool) (P : Object → Type 0) → ((o : Object) → object_at old id ≡ Some o → IsCase old id n o options answered new → P o) → Reallocates old id n options answered new → IsSomeAnd (object_at old id) P
+by_case old new id n options answered P f step = turn (object_at old id) refl step.object
   where
-    turn : (p : Option Object) → object_at old id ≡ p → IsSomeAnd p (λ o. ReallocatesObject old id o n way answered new) → IsSomeAnd p P
+    turn : (p : Option Object) → object_at old id ≡ p → IsSomeAnd p (λ o. ReallocatesObject old id o n options answered new) → IsSomeAnd p P
     turn None there r = absurd r
-    turn (Some o) there r = f o there (case_of old id n o way answered new r)
+    turn (Some o) there r = f o there (case_of old id n o options answered new r)
 
 some_anyway : (p : Option Object) (P : Type 0) → IsSomeAnd p (λ _. P) → P
 some_anyway None P h = absurd h
 some_anyway (Some o) P h = h
 
 pub heap_law : HeapLaw
-heap_law old new id n way answered is step = some_anyway (object_at old id) (IsHeap new) (by_case old new id n way answered (λ _. IsHeap new) (λ o there c. case_heap old is id n step.some step.rounded o there way answered new c) step)
+heap_law old new id n options answered is step = some_anyway (object_at old id) (IsHeap new) (by_case old new id n options answered (λ _. IsHeap new) (λ o there c. case_heap old is id n step.some step.rounded o there options answered new c) step)
 
 -- What stands still.
 
@@ -145,9 +145,9 @@ all_still old new same q = turn (finmap.get old.places q) refl
     turn None e = tt
     turn (Some at) e = ap (λ (m : FinMap nat_cmp ℕ). finmap.get m q) same ∙ e
 
-module _ (old : Heap) (is : IsHeap old) (id n : ℕ) (o : Object) (there : object_at old id ≡ Some o) (way : Way) (new : Heap) where
+module _ (old : Heap) (is : IsHeap old) (id n : ℕ) (o : Object) (there : object_at old id ≡ Some o) (options : RoomOptions) (new : Heap) where
   -- with all addresses kept little is moved
-  nothing_moved : (bytes : List ℕ) → o.bytes ≡ Some bytes → new.places ≡ old.places → MovesLittle old id n o way new
+  nothing_moved : (bytes : List ℕ) → o.bytes ≡ Some bytes → new.places ≡ old.places → MovesLittle old id n o options new
   nothing_moved bytes has same = record {
     others = record { pinned = λ q _ _. all_still old new same q; unmoved = λ _ q _. all_still old new same q };
     still = λ _ q. all_still old new same q;
@@ -161,7 +161,7 @@ module _ (old : Heap) (is : IsHeap old) (id n : ℕ) (o : Object) (there : objec
       at_place (Some a) (Some at) e f = inl (sym e)
 
   -- an object that had no bytes stands where all was free, if nothing else moves
-  in_hole : (p : Object) → IsNew way.zero n o.kind o.locks p → o.bytes ≡ None → way.compact ≡ false → Settles old (stays_for id way) (with_ordered (discarded old 0 (Some id)) id p (with_newest id p)) new
+  in_hole : (p : Object) → IsNew options.zero n o.kind o.locks p → o.bytes ≡ None → options.compact ≡ false → Settles old (stays_for id options) (with_ordered (discarded old 0 (Some id)) id p (with_newest id p)) new
       → IsSomeAnd (finmap.get new.places id) (λ at. (finmap.get old.places id ≡ Some at) ⊎ IsClear is_any old.lo old.hi (blocks old) at (at + n))
   in_hole p made none still settles = turn p.bytes refl made.new_bytes
     where
@@ -176,7 +176,7 @@ module _ (old : Heap) (is : IsHeap old) (id n : ℕ) (o : Object) (there : objec
 
       block_now : (x : Block) → IsBlockOf old x → IsBlockOf new x
       block_now x b =
-          let kept : finmap.get new.places x.id ≡ Some x.at = Each-at (λ y. IsTrue (stays_for id way y) → finmap.get new.places y.id ≡ Some y.at) (blocks old) (Each-from_All _ (blocks old) settles.kept) x (block_member old x b) (stays_other id way x (other x b) (or_right (is_pinned x) way.compact still)) in
+          let kept : finmap.get new.places x.id ≡ Some x.at = Each-at (λ y. IsTrue (stays_for id options y) → finmap.get new.places y.id ≡ Some y.at) (blocks old) (Each-from_All _ (blocks old) settles.kept) x (block_member old x b) (stays_other id options x (other x b) (or_right (is_pinned x) options.compact still)) in
           record {
             object = b.object;
             bytes = b.bytes;
@@ -190,7 +190,7 @@ module _ (old : Heap) (is : IsHeap old) (id n : ℕ) (o : Object) (there : objec
       apart_from : (at n long y size : ℕ) → long ≡ n → Misses at long y (y + size) → Misses y size at (at + n)
       apart_from at n long y size e f = grind arith
 
-      turn : (b : Option (List ℕ)) → p.bytes ≡ b → IsSomeAnd b (AreNew way.zero n) → IsSomeAnd (finmap.get new.places id) (λ at. (finmap.get old.places id ≡ Some at) ⊎ IsClear is_any old.lo old.hi (blocks old) at (at + n))
+      turn : (b : Option (List ℕ)) → p.bytes ≡ b → IsSomeAnd b (AreNew options.zero n) → IsSomeAnd (finmap.get new.places id) (λ at. (finmap.get old.places id ≡ Some at) ⊎ IsClear is_any old.lo old.hi (blocks old) at (at + n))
       turn None has news = absurd news
       turn (Some bytes) has news =
           let at : ℕ = unwrap_or (finmap.get new.places id) 0 in
@@ -206,39 +206,39 @@ module _ (old : Heap) (is : IsHeap old) (id n : ℕ) (o : Object) (there : objec
           } in
           subst (λ (r : Option ℕ). IsSomeAnd r (λ at. (finmap.get old.places id ≡ Some at) ⊎ IsClear is_any old.lo old.hi (blocks old) at (at + n))) (sym (stands new settles.sound id p there_now bytes has)) (inr clear)
 
-  moves_little : IsCase old id n o way true new → MovesLittle old id n o way new
+  moves_little : IsCase old id n o options true new → MovesLittle old id n o options new
   moves_little (inl revives) =
-      let what : Asked = record { way = way; prefix = prefix_of old n (Some id) way; becomes = IsNew way.zero n o.kind o.locks; order = with_newest id } in
-      let r : (k : ℕ) × (what.prefix ≡ Some k) × ((p : Object) × what.becomes p × Settles old (stays_for id what.way) (with_ordered (discarded old k (Some id)) id p (what.order p)) new) = asked old id what new revives.allocated.request in
+      let what : Asked = record { options = options; prefix = discards_needed old n (Some id) options; becomes = IsNew options.zero n o.kind o.locks; order = with_newest id } in
+      let r : (k : ℕ) × (what.prefix ≡ Some k) × ((p : Object) × what.becomes p × Settles old (stays_for id what.options) (with_ordered (discarded old k (Some id)) id p (what.order p)) new) = asked old id what new revives.allocated.request in
       record {
-        others = (address_law old new is r.0).0 id way r.2.0 (with_newest id r.2.0) r.2.2;
+        others = (address_law old new is r.0).0 id options r.2.0 (with_newest id r.2.0) r.2.2;
         still = λ why. absurd (not_still revives why);
-        hole = λ none. in_hole r.2.0 r.2.1 revives.none none (subst (λ (k : ℕ). Settles old (stays_for id way) (with_ordered (discarded old k (Some id)) id r.2.0 (with_newest id r.2.0)) new) (none_goes old is n (Some id) way.compact way.discard r.0 r.1 (inl none)) r.2.2);
+        hole = λ none. in_hole r.2.0 r.2.1 revives.none none (subst (λ (k : ℕ). Settles old (stays_for id options) (with_ordered (discarded old k (Some id)) id r.2.0 (with_newest id r.2.0)) new) (none_goes old is n (Some id) options.compact options.discard r.0 r.1 (inl none)) r.2.2);
       }
     where
-      not_still : Revives old id n o way true new → (n ≤ size_of o) ⊎ (is_held o way ≡ true) → ⊥
+      not_still : Revives old id n o options true new → (n ≤ size_of o) ⊎ (is_held o options ≡ true) → ⊥
       not_still revives (inl le) = let size : size_of o ≡ 0 = ap (λ b. unwrap_or (option_map length b) 0) revives.none in omega (arith, size, le, revives.allocated.some)
-      not_still revives (inr t) = false≢true (sym (ap (λ b. is_some b && (is_pinned_object o && not way.may_move)) revives.none) ∙ t)
+      not_still revives (inr t) = false≢true (sym (ap (λ b. is_some b && (is_pinned_object o && not options.may_move)) revives.none) ∙ t)
   moves_little (inr (inl cuts)) = nothing_moved cuts.bytes cuts.has (ap (λ (h : Heap). h.places) cuts.left)
   moves_little (inr (inr (inl extends))) = elim extends.outcome [
     | inl fits ↦ nothing_moved extends.bytes extends.has (ap (λ (h : Heap). h.places) fits.2.2)
     | inr short ↦ absurd (false≢true (sym short.1))
   ]
   moves_little (inr (inr (inr asks))) =
-      let what : Asked = record { way = way; prefix = growth_for (snapshot_of old) n id way; becomes = IsGrown way.zero n o; order = λ _ order. order } in
-      let r : (k : ℕ) × (what.prefix ≡ Some k) × ((p : Object) × what.becomes p × Settles old (stays_for id what.way) (with_ordered (discarded old k (Some id)) id p (what.order p)) new) = asked old id what new asks.request in
+      let what : Asked = record { options = options; prefix = growth_for (snapshot_of old) n id options; becomes = IsGrown options.zero n o; order = λ _ order. order } in
+      let r : (k : ℕ) × (what.prefix ≡ Some k) × ((p : Object) × what.becomes p × Settles old (stays_for id what.options) (with_ordered (discarded old k (Some id)) id p (what.order p)) new) = asked old id what new asks.request in
       record {
-        others = (address_law old new is r.0).0 id way r.2.0 (λ order. order) r.2.2;
+        others = (address_law old new is r.0).0 id options r.2.0 (λ order. order) r.2.2;
         still = λ why. absurd (not_still asks why);
         hole = λ none. asks.stays none refl;
       }
     where
-      not_still : Asks old id n o way true new → (n ≤ size_of o) ⊎ (is_held o way ≡ true) → ⊥
+      not_still : Asks old id n o options true new → (n ≤ size_of o) ⊎ (is_held o options ≡ true) → ⊥
       not_still asks (inl le) = omega (arith, le, asks.long, size_is old is id o there asks.bytes asks.has)
-      not_still asks (inr t) = false≢true (sym asks.held ∙ sym (ap (λ b. is_some b && (is_pinned_object o && not way.may_move)) asks.has) ∙ t)
+      not_still asks (inr t) = false≢true (sym asks.held ∙ sym (ap (λ b. is_some b && (is_pinned_object o && not options.may_move)) asks.has) ∙ t)
 
 pub moves_law : MovesLaw
-moves_law old new id n way is step = by_case old new id n way true (λ o. MovesLittle old id n o way new) (λ o there c. moves_little old is id n o there way new c) step
+moves_law old new id n options is step = by_case old new id n options true (λ o. MovesLittle old id n o options new) (λ o there c. moves_little old is id n o there options new c) step
 
 -- Fewest discards.
 
@@ -249,9 +249,9 @@ none_discarded old id p = record {
   discarded = λ q t. absurd (false≢true t);
 }
 
-module _ (old : Heap) (is : IsHeap old) (id n : ℕ) (o : Object) (there : object_at old id ≡ Some o) (way : Way) (answered : Bool) (new : Heap) where
+module _ (old : Heap) (is : IsHeap old) (id n : ℕ) (o : Object) (there : object_at old id ≡ Some o) (options : RoomOptions) (answered : Bool) (new : Heap) where
   -- answered without a discard
-  keeps_all : answered ≡ true → KeepsOthers old (Some id) 0 new → ReallocatesFewest old id n o way answered new
+  keeps_all : answered ≡ true → KeepsOthers old (Some id) 0 new → ReallocatesFewest old id n o options answered new
   keeps_all said others = record {
     fewest = λ _. record { count = 0; others = others; fewer = λ j less. absurd (omega (arith, less)) };
     without = λ _ _. others;
@@ -259,8 +259,8 @@ module _ (old : Heap) (is : IsHeap old) (id n : ℕ) (o : Object) (there : objec
   }
 
   -- what the object has room for, with nothing moved
-  held_is : (bytes : List ℕ) → o.bytes ≡ Some bytes → is_held o way ≡ (is_pinned_object o && not way.may_move)
-  held_is bytes has = ap (λ b. is_some b && (is_pinned_object o && not way.may_move)) has
+  held_is : (bytes : List ℕ) → o.bytes ≡ Some bytes → is_held o options ≡ (is_pinned_object o && not options.may_move)
+  held_is bytes has = ap (λ b. is_some b && (is_pinned_object o && not options.may_move)) has
 
   -- neither fits nor has a hole: no number
   neither : (fits hole : Bool) → none_discarded_if (fits || hole) ≡ None → (fits ≡ false) × (none_discarded_if hole ≡ None)
@@ -273,29 +273,29 @@ module _ (old : Heap) (is : IsHeap old) (id n : ℕ) (o : Object) (there : objec
 
   -- the number for a growth, by whether others may slide
   abbrev by_way : Bool → Option ℕ
-  by_way compact = cond {A = Option ℕ} compact (prefix_of old n (Some id) way) (none_discarded_if (fits_in_place (snapshot_of old) n id || nat_le n (longest_hole old.lo old.hi (blocks old))))
+  by_way compact = cond {A = Option ℕ} compact (discards_needed old n (Some id) options) (none_discarded_if (fits_in_place (snapshot_of old) n id || nat_le n (longest_hole old.lo old.hi (blocks old))))
 
   -- no fewer serve
-  fewer : (compact : Bool) → way.compact ≡ compact → (k : ℕ) → by_way compact ≡ Some k → (j : ℕ) → j < k → HasNoStretch old j (Some id) n
-  fewer true c k e j less = fewer_lack old is n (Some id) way.compact way.discard k e j less
+  fewer : (compact : Bool) → options.compact ≡ compact → (k : ℕ) → by_way compact ≡ Some k → (j : ℕ) → j < k → HasNoStretch old j (Some id) n
+  fewer true c k e j less = fewer_lack old is n (Some id) options.compact options.discard k e j less
   fewer false c k e j less = let none : k ≡ 0 = zero_if (fits_in_place (snapshot_of old) n id || nat_le n (longest_hole old.lo old.hi (blocks old))) k e in absurd (omega (arith, none, less))
 
   -- none where none may be
-  none_may : (compact : Bool) → way.compact ≡ compact → (k : ℕ) → by_way compact ≡ Some k → (way.compact ≡ false) ⊎ (way.discard ≡ false) → k ≡ 0
-  none_may true c k e may = none_goes old is n (Some id) way.compact way.discard k e may
+  none_may : (compact : Bool) → options.compact ≡ compact → (k : ℕ) → by_way compact ≡ Some k → (options.compact ≡ false) ⊎ (options.discard ≡ false) → k ≡ 0
+  none_may true c k e may = none_goes old is n (Some id) options.compact options.discard k e may
   none_may false c k e may = zero_if (fits_in_place (snapshot_of old) n id || nat_le n (longest_hole old.lo old.hi (blocks old))) k e
 
   -- without a number there is no room, and with nothing moved none behind the object
-  no_place : (bytes : List ℕ) → o.bytes ≡ Some bytes → length bytes < n → (compact : Bool) → way.compact ≡ compact → by_way compact ≡ None → LacksRoom old (Some id) n way × (way.compact ≡ false → IsFreeBehind old id o n → ⊥)
-  no_place bytes has long true c e = (lacking old is n (Some id) way way.compact way.discard refl refl e, λ f. absurd (false≢true (sym f ∙ c)))
+  no_place : (bytes : List ℕ) → o.bytes ≡ Some bytes → length bytes < n → (compact : Bool) → options.compact ≡ compact → by_way compact ≡ None → LacksRoom old (Some id) n options × (options.compact ≡ false → IsFreeBehind old id o n → ⊥)
+  no_place bytes has long true c e = (lacking old is n (Some id) options options.compact options.discard refl refl e, λ f. absurd (false≢true (sym f ∙ c)))
   no_place bytes has long false c e =
       let none : (fits_in_place (snapshot_of old) n id ≡ false) × (none_discarded_if (nat_le n (longest_hole old.lo old.hi (blocks old))) ≡ None) = neither (fits_in_place (snapshot_of old) n id) (nat_le n (longest_hole old.lo old.hi (blocks old))) e in
-      (lacking old is n (Some id) way false way.discard c refl none.1, λ _ free. false≢true (sym none.0 ∙ free_fits old is id o there bytes has n long free))
+      (lacking old is n (Some id) options false options.discard c refl none.1, λ _ free. false≢true (sym none.0 ∙ free_fits old is id o there bytes has n long free))
 
   -- a revival
-  revived : Revives old id n o way answered new → ReallocatesFewest old id n o way answered new
+  revived : Revives old id n o options answered new → ReallocatesFewest old id n o options answered new
   revived revives =
-      let a : AllocatesFewest old id n way answered new = allocation_law old new id n o.kind o.locks way answered is revives.allocated in
+      let a : AllocatesFewest old id n options answered new = allocation_law old new id n o.kind o.locks options answered is revives.allocated in
       record {
         fewest = a.fewest;
         without = λ said why. a.without said (may why);
@@ -305,10 +305,10 @@ module _ (old : Heap) (is : IsHeap old) (id n : ℕ) (o : Object) (there : objec
       size : size_of o ≡ 0
       size = ap (λ b. unwrap_or (option_map length b) 0) revives.none
 
-      not_held : is_held o way ≡ false
-      not_held = ap (λ b. is_some b && (is_pinned_object o && not way.may_move)) revives.none
+      not_held : is_held o options ≡ false
+      not_held = ap (λ b. is_some b && (is_pinned_object o && not options.may_move)) revives.none
 
-      may : (way.compact ≡ false) ⊎ (way.discard ≡ false) ⊎ (n ≤ size_of o) ⊎ (is_held o way ≡ true) → (way.compact ≡ false) ⊎ (way.discard ≡ false)
+      may : (options.compact ≡ false) ⊎ (options.discard ≡ false) ⊎ (n ≤ size_of o) ⊎ (is_held o options ≡ true) → (options.compact ≡ false) ⊎ (options.discard ≡ false)
       may (inl c) = inl c
       may (inr (inl d)) = inr d
       may (inr (inr (inl le))) = absurd (omega (arith, le, size, revives.allocated.some))
@@ -323,33 +323,33 @@ module _ (old : Heap) (is : IsHeap old) (id n : ℕ) (o : Object) (there : objec
           turn (Some at) e f = false≢true (sym e)
 
   -- a growth by a request
-  asked_fewest : (b : Bool) → answered ≡ b → Asks old id n o way b new → ReallocatesFewest old id n o way b new
+  asked_fewest : (b : Bool) → answered ≡ b → Asks old id n o options b new → ReallocatesFewest old id n o options b new
   asked_fewest true said asks =
-      let what : Asked = record { way = way; prefix = growth_for (snapshot_of old) n id way; becomes = IsGrown way.zero n o; order = λ _ order. order } in
-      let r : (k : ℕ) × (what.prefix ≡ Some k) × ((p : Object) × what.becomes p × Settles old (stays_for id what.way) (with_ordered (discarded old k (Some id)) id p (what.order p)) new) = asked old id what new asks.request in
-      let others : KeepsOthers old (Some id) r.0 new = (others_law old new is r.0).0 id way r.2.0 (λ order. order) r.2.2 in
+      let what : Asked = record { options = options; prefix = growth_for (snapshot_of old) n id options; becomes = IsGrown options.zero n o; order = λ _ order. order } in
+      let r : (k : ℕ) × (what.prefix ≡ Some k) × ((p : Object) × what.becomes p × Settles old (stays_for id what.options) (with_ordered (discarded old k (Some id)) id p (what.order p)) new) = asked old id what new asks.request in
+      let others : KeepsOthers old (Some id) r.0 new = (others_law old new is r.0).0 id options r.2.0 (λ order. order) r.2.2 in
       record {
-        fewest = λ _. record { count = r.0; others = others; fewer = fewer way.compact refl r.0 r.1 };
-        without = λ _ why. subst (λ k. KeepsOthers old (Some id) k new) (none_may way.compact refl r.0 r.1 (may asks why)) others;
+        fewest = λ _. record { count = r.0; others = others; fewer = fewer options.compact refl r.0 r.1 };
+        without = λ _ why. subst (λ k. KeepsOthers old (Some id) k new) (none_may options.compact refl r.0 r.1 (may asks why)) others;
         refused = λ unsaid. absurd (false≢true (sym unsaid));
       }
     where
-      may : Asks old id n o way true new → (way.compact ≡ false) ⊎ (way.discard ≡ false) ⊎ (n ≤ size_of o) ⊎ (is_held o way ≡ true) → (way.compact ≡ false) ⊎ (way.discard ≡ false)
+      may : Asks old id n o options true new → (options.compact ≡ false) ⊎ (options.discard ≡ false) ⊎ (n ≤ size_of o) ⊎ (is_held o options ≡ true) → (options.compact ≡ false) ⊎ (options.discard ≡ false)
       may asks (inl c) = inl c
       may asks (inr (inl d)) = inr d
       may asks (inr (inr (inl le))) = absurd (omega (arith, le, asks.long, size_is old is id o there asks.bytes asks.has))
       may asks (inr (inr (inr t))) = absurd (false≢true (sym asks.held ∙ sym (held_is asks.bytes asks.has) ∙ t))
   asked_fewest false unsaid asks =
-      let what : Asked = record { way = way; prefix = growth_for (snapshot_of old) n id way; becomes = IsGrown way.zero n o; order = λ _ order. order } in
+      let what : Asked = record { options = options; prefix = growth_for (snapshot_of old) n id options; becomes = IsGrown options.zero n o; order = λ _ order. order } in
       let r : (what.prefix ≡ None) × (new ≡ old) = not_asked old id what new asks.request in
-      let lacks : LacksRoom old (Some id) n way × (way.compact ≡ false → IsFreeBehind old id o n → ⊥) = no_place asks.bytes asks.has asks.long way.compact refl r.0 in
+      let lacks : LacksRoom old (Some id) n options × (options.compact ≡ false → IsFreeBehind old id o n → ⊥) = no_place asks.bytes asks.has asks.long options.compact refl r.0 in
       record {
         fewest = λ said. absurd (false≢true said);
         without = λ said _. absurd (false≢true said);
         refused = λ _. (omega (arith, asks.long, size_is old is id o there asks.bytes asks.has), inr (held_is asks.bytes asks.has ∙ asks.held, lacks.0, lacks.1), r.1);
       }
 
-  reallocates_fewest : IsCase old id n o way answered new → ReallocatesFewest old id n o way answered new
+  reallocates_fewest : IsCase old id n o options answered new → ReallocatesFewest old id n o options answered new
   reallocates_fewest (inl revives) = revived revives
   reallocates_fewest (inr (inl cuts)) = keeps_all cuts.yes (subst (KeepsOthers old (Some id) 0) (sym cuts.left) (none_discarded old id (record o { bytes = Some (take n cuts.bytes) })))
   reallocates_fewest (inr (inr (inl extends))) = elim extends.outcome [
@@ -366,8 +366,8 @@ module _ (old : Heap) (is : IsHeap old) (id n : ℕ) (o : Object) (there : objec
   ]
   reallocates_fewest (inr (inr (inr asks))) = of_answer answered refl asks
     where
-      of_answer : (b : Bool) → answered ≡ b → Asks old id n o way answered new → ReallocatesFewest old id n o way answered new
-      of_answer b e asks = subst (λ a. ReallocatesFewest old id n o way a new) (sym e) (asked_fewest b e (subst (λ a. Asks old id n o way a new) e asks))
+      of_answer : (b : Bool) → answered ≡ b → Asks old id n o options answered new → ReallocatesFewest old id n o options answered new
+      of_answer b e asks = subst (λ a. ReallocatesFewest old id n o options a new) (sym e) (asked_fewest b e (subst (λ a. Asks old id n o options a new) e asks))
 
 pub fewest_law : FewestLaw
-fewest_law old new id n way answered is step = by_case old new id n way answered (λ o. ReallocatesFewest old id n o way answered new) (λ o there c. reallocates_fewest old is id n o there way answered new c) step
+fewest_law old new id n options answered is step = by_case old new id n options answered (λ o. ReallocatesFewest old id n o options answered new) (λ o there c. reallocates_fewest old is id n o there options answered new c) step

@@ -6,7 +6,7 @@ use Rattle.w16_model.specs.declared.Kind.TheVariants.{Discardable}
 use Rattle.w16_model.specs.declared.Refusal.{Refusal}
 use Rattle.w16_model.specs.declared.Refusal.TheVariants as refusals
 use Rattle.w16_model.specs.declared.TheConstants.{LARGEST_SIZE, GMEM_MODIFY}
-use Rattle.w16_model.specs.declared.Way.{Way}
+use Rattle.w16_model.specs.declared.RoomOptions.{RoomOptions}
 use Rattle.w16_model.specs.Discards.{eligible, is_member}
 use Rattle.w16_model.specs.Heap.{Heap, Object, IsHeap, blocks, object_at, size_of, is_fixed}
 use Rattle.w16_model.specs.Changes.{absent, newest, oldest, with_newest}
@@ -17,12 +17,12 @@ use Rattle.w16_model.specs.Outcomes.Call.{Calls, ReAllocs}
 use Rattle.w16_model.specs.Outcomes.Outcome.{IsSame, IsUnmoved, IsLocked, IsUnlocked, IsFreed, IsNewest, IsOldest, IsEntered, IsAllocated, IsCompacted, IsModified, IsDiscarded, IsResized}
 use Rattle.w16_model.specs.OneObject.{after_modify, after_discard}
 use Rattle.w16_model.specs.Handles.{Handles, AreHandles, slot_of_handle, handle_of}
-use Rattle.w16_model.specs.Calls.{HandleCommand, Answer, GlobalCompacts, has_flag, rounded_size, kind_asked, way_asked}
+use Rattle.w16_model.specs.Calls.{HandleCommand, Answer, GlobalCompacts, has_flag, rounded_size, kind_asked, alloc_options}
 use Rattle.w16_model.specs.Calls.Answer.{Word, Dword}
 use Rattle.w16_model.specs.Calls.HandleCommand.{GlobalCompact}
 use Rattle.w16_model.specs.Owned.{is_owned}
 use Rattle.w16_model.specs.Reallocation.{ChangesKind, KeepsRest, LacksPlace, ReallocatesFewest}
-use Rattle.w16_model.specs.Resizes.{way_asked_again, kind_modified, modified, IsNull, Again, Empties, Resizes, ReAllocsOwn, ResizeLaw, NullLaw, ResizeFewestLaw}
+use Rattle.w16_model.specs.Resizes.{realloc_options, kind_modified, modified, IsNull, AnswersHandle, Empties, Resizes, ReAllocsOwn, ResizeLaw, NullLaw, ResizeFewestLaw}
 use Rattle.w16_model.proofs.Fewest.{some_handle}
 use Rattle.w16_model.proofs.Naming.{names_law}
 use Rattle.w16_model.proofs.KeptHandles.{moved_handles, other_handles, same_updated, with_new_object, with_absent_object, without_object, settled_handles, locked_kept, unlocked_kept, ordered_kept}
@@ -78,16 +78,16 @@ module _ (old : Handles) (is : AreHandles old) where
       (λ q. ap (λ (h : Heap). is_some (object_at h q)) same ∙ same_updated old.heap.objects slot (λ (o : Object). record o { bytes = None }) q)
 
   -- an answered reallocation
-  pub reallocated_handles : (slot n : ℕ) (way : Way) (heap : Heap) → Reallocates old.heap slot n way true heap → AreHandles (record old { heap = heap })
-  reallocated_handles slot n way heap r = turn (object_at old.heap slot) refl (rest_law old.heap heap slot n way is.heap r)
+  pub reallocated_handles : (slot n : ℕ) (options : RoomOptions) (heap : Heap) → Reallocates old.heap slot n options true heap → AreHandles (record old { heap = heap })
+  reallocated_handles slot n options heap r = turn (object_at old.heap slot) refl (rest_law old.heap heap slot n options is.heap r)
     where
       gone : (p r : Option Object) → IsSomeAnd p (λ o. (o.kind ≡ Discardable) × (o.locks ≡ 0) × (is_some o.bytes ≡ true) × (r ≡ Some (record o { bytes = None }))) → is_some r ≡ is_some p
       gone None r h = absurd h
       gone (Some o) r h = ap is_some h.3
 
-      turn : (p : Option Object) → object_at old.heap slot ≡ p → IsSomeAnd p (λ o. KeepsRest old.heap slot n o way heap) → AreHandles (record old { heap = heap })
+      turn : (p : Option Object) → object_at old.heap slot ≡ p → IsSomeAnd p (λ o. KeepsRest old.heap slot n o options heap) → AreHandles (record old { heap = heap })
       turn None there k = absurd k
-      turn (Some o) there k = other_handles old is heap (heap_law old.heap heap slot n way true is.heap r) k.low k.grain (λ q. elim (cases_eq q slot) [
+      turn (Some o) there k = other_handles old is heap (heap_law old.heap heap slot n options true is.heap r) k.low k.grain (λ q. elim (cases_eq q slot) [
         | inl e ↦ ap (λ i. is_some (object_at heap i)) e ∙ some_there (object_at heap slot) _ k.object ∙ sym (ap is_some (ap (object_at old.heap) e ∙ there))
         | inr d ↦ elim (cases_Bool (is_member q (take k.count (eligible (blocks old.heap) old.heap.order (Some slot))))) [
           | inl t ↦ gone (object_at old.heap q) (object_at heap q) (k.others.discarded q t)
@@ -109,12 +109,12 @@ kept_by old new call answer is (IsNewest n) = subst AreHandles (sym n.rest) (ord
 kept_by old new call answer is (IsOldest n) = subst AreHandles (sym n.rest) (ordered_kept old is (oldest n.slot old.heap.order) (oldest_heap old.heap is.heap n.slot (ordered old.heap is.heap n.slot n.may)))
 kept_by old new call answer is (IsEntered e) = subst AreHandles (sym e.rest) (moved_handles _ (with_absent_object old is (attributes_asked e.flags) e.slot (kind_asked e.flags) new.heap e.free e.entered) (moved_bytes old.heap new.heap))
 kept_by old new call answer is (IsAllocated a) = subst AreHandles (sym a.rest)
-    (moved_handles _ (with_new_object old is (attributes_asked a.flags) a.slot a.count a.object (with_newest a.slot a.object) (stays_for a.slot (way_asked a.flags)) new.heap a.free.0 a.settled) (moved_bytes old.heap new.heap))
+    (moved_handles _ (with_new_object old is (attributes_asked a.flags) a.slot a.count a.object (with_newest a.slot a.object) (stays_for a.slot (alloc_options a.flags)) new.heap a.free.0 a.settled) (moved_bytes old.heap new.heap))
 kept_by old new call answer is (IsCompacted c) = subst AreHandles (sym c.rest) (moved_handles _ (settled_handles old is c.count new.heap c.settled) (moved_bytes old.heap new.heap))
 kept_by old new call answer is (IsModified m) = subst AreHandles (sym m.rest) (moved_handles _
     (kind_handles old is m.slot (kind_modified m.flags) m.object new.heap m.named.there (subst (λ (r : Result Heap Refusal). IfOk r IsHeap) m.modified (kind_heap_law old.heap m.slot (kind_modified m.flags) is.heap)) m.changes) (moved_bytes old.heap new.heap))
 kept_by old new call answer is (IsDiscarded d) = subst AreHandles (sym d.rest) (moved_handles _ (absent_handles old is d.slot d.object d.named.there d.unlocked) (moved_bytes old.heap (absent old.heap d.slot)))
-kept_by old new call answer is (IsResized r) = subst AreHandles (sym r.rest) (moved_handles _ (reallocated_handles old is r.slot (rounded_size r.size) (way_asked_again r.flags) new.heap r.resized) (moved_bytes old.heap new.heap))
+kept_by old new call answer is (IsResized r) = subst AreHandles (sym r.rest) (moved_handles _ (reallocated_handles old is r.slot (rounded_size r.size) (realloc_options r.flags) new.heap r.resized) (moved_bytes old.heap new.heap))
 
 pub handle_law : HandleLaw
 handle_law old new command answer is step = kept_by old new (Calls command) answer is (outcome old new (Calls command) answer is step)
@@ -164,32 +164,32 @@ null_law old new handle size flags is step = turn (outcome old new (ReAllocs han
 -- Fewest discards.
 module _ (old new : Handles) (is : AreHandles old) (handle size flags answer slot : ℕ) (found : slot_of_handle old handle ≡ Some slot) where
   abbrev Fewest : Object → Type 0
-  Fewest o = (answer ≢ 0 → ReallocatesFewest old.heap slot (rounded_size size) o (way_asked_again flags) true new.heap)
-      × (answer ≡ 0 → (size_of o < rounded_size size) × LacksPlace old.heap slot (rounded_size size) o (way_asked_again flags) × (new.heap ≡ old.heap))
+  Fewest o = (answer ≢ 0 → ReallocatesFewest old.heap slot (rounded_size size) o (realloc_options flags) true new.heap)
+      × (answer ≡ 0 → (size_of o < rounded_size size) × LacksPlace old.heap slot (rounded_size size) o (realloc_options flags) × (new.heap ≡ old.heap))
 
   some_of : (p : Option Object) (P Q : Object → Type 0) → ((o : Object) → P o → Q o) → IsSomeAnd p P → IsSomeAnd p Q
   some_of None P Q f h = h
   some_of (Some o) P Q f h = f o h
 
-  answered_fewest : (answered : Bool) (heap : Heap) → Reallocates old.heap slot (rounded_size size) (way_asked_again flags) answered heap → MatchBool answered (Again old handle heap answer new) (IsNull old answer new) → IsSomeAnd (object_at old.heap slot) Fewest
-  answered_fewest true heap r again = some_of (object_at old.heap slot) (λ o. ReallocatesFewest old.heap slot (rounded_size size) o (way_asked_again flags) true heap) Fewest
+  answered_fewest : (answered : Bool) (heap : Heap) → Reallocates old.heap slot (rounded_size size) (realloc_options flags) answered heap → MatchBool answered (AnswersHandle old handle heap answer new) (IsNull old answer new) → IsSomeAnd (object_at old.heap slot) Fewest
+  answered_fewest true heap r again = some_of (object_at old.heap slot) (λ o. ReallocatesFewest old.heap slot (rounded_size size) o (realloc_options flags) true heap) Fewest
       (λ o f. (
-        (λ _. subst (ReallocatesFewest old.heap slot (rounded_size size) o (way_asked_again flags) true) (sym (ap (λ (h : Handles). h.heap) again.1)) f),
+        (λ _. subst (ReallocatesFewest old.heap slot (rounded_size size) o (realloc_options flags) true) (sym (ap (λ (h : Handles). h.heap) again.1)) f),
         (λ none. absurd (found_some old handle slot found (sym again.0 ∙ none))),
       ))
-      (fewest_law old.heap heap slot (rounded_size size) (way_asked_again flags) true is.heap r)
-  answered_fewest false heap r null = some_of (object_at old.heap slot) (λ o. ReallocatesFewest old.heap slot (rounded_size size) o (way_asked_again flags) false heap) Fewest
+      (fewest_law old.heap heap slot (rounded_size size) (realloc_options flags) true is.heap r)
+  answered_fewest false heap r null = some_of (object_at old.heap slot) (λ o. ReallocatesFewest old.heap slot (rounded_size size) o (realloc_options flags) false heap) Fewest
       (λ o f. (
         (λ some. absurd (some null.0)),
         (λ _. ((f.refused refl).0, (f.refused refl).1, null_heap old new answer null)),
       ))
-      (fewest_law old.heap heap slot (rounded_size size) (way_asked_again flags) false is.heap r)
+      (fewest_law old.heap heap slot (rounded_size size) (realloc_options flags) false is.heap r)
 
 pub resize_fewest_law : ResizeFewestLaw
 resize_fewest_law old new handle size flags answer is step slot found free same some small = turn (slot_of_handle old handle) found
     (subst (λ b. MatchBool b (IsNull old answer new) (ReAllocsOwn old handle size flags answer new)) (ap (λ p. unwrap_or (option_map (is_owned old) p) false) found ∙ free) step)
   where
-    resizes : (long : Bool) → nat_lt LARGEST_SIZE size ≡ long → MatchBool long (IsNull old answer new) ((answered : Bool) × (heap : Heap) × Reallocates old.heap slot (rounded_size size) (way_asked_again flags) answered heap × MatchBool answered (Again old handle heap answer new) (IsNull old answer new)) → IsSomeAnd (object_at old.heap slot) (Fewest old new is handle size flags answer slot found)
+    resizes : (long : Bool) → nat_lt LARGEST_SIZE size ≡ long → MatchBool long (IsNull old answer new) ((answered : Bool) × (heap : Heap) × Reallocates old.heap slot (rounded_size size) (realloc_options flags) answered heap × MatchBool answered (AnswersHandle old handle heap answer new) (IsNull old answer new)) → IsSomeAnd (object_at old.heap slot) (Fewest old new is handle size flags answer slot found)
     resizes true long g = let over : LARGEST_SIZE < size = ltb-true LARGEST_SIZE size long in absurd (omega (arith, over, small))
     resizes false long g = answered_fewest old new is handle size flags answer slot found g.0 g.1 g.2 g.3
 
@@ -197,9 +197,9 @@ resize_fewest_law old new handle size flags answer is step slot found free same 
     sized true none g = absurd (false≢true (sym (ne_eqb size 0 (λ e. absurd (omega (arith, e, some)))) ∙ none))
     sized false none g = resizes (nat_lt LARGEST_SIZE size) refl g
 
-    modifies : (m : Bool) → has_flag flags GMEM_MODIFY ≡ m → MatchBool m (Again old handle (modified old.heap slot (kind_modified flags)) answer new) (MatchBool (size == 0) (Empties old handle slot flags answer new) (Resizes old handle slot flags size answer new)) → IsSomeAnd (object_at old.heap slot) (Fewest old new is handle size flags answer slot found)
+    modifies : (m : Bool) → has_flag flags GMEM_MODIFY ≡ m → MatchBool m (AnswersHandle old handle (modified old.heap slot (kind_modified flags)) answer new) (MatchBool (size == 0) (Empties old handle slot flags answer new) (Resizes old handle slot flags size answer new)) → IsSomeAnd (object_at old.heap slot) (Fewest old new is handle size flags answer slot found)
     modifies true m g = absurd (false≢true (sym same ∙ m))
     modifies false m g = sized (size == 0) refl g
 
-    turn : (p : Option ℕ) → p ≡ Some slot → MatchOption p (IsNull old answer new) (λ slot. MatchBool (has_flag flags GMEM_MODIFY) (Again old handle (modified old.heap slot (kind_modified flags)) answer new) (MatchBool (size == 0) (Empties old handle slot flags answer new) (Resizes old handle slot flags size answer new))) → IsSomeAnd (object_at old.heap slot) (Fewest old new is handle size flags answer slot found)
-    turn p e g = modifies (has_flag flags GMEM_MODIFY) refl (subst (λ (p : Option ℕ). MatchOption p (IsNull old answer new) (λ slot. MatchBool (has_flag flags GMEM_MODIFY) (Again old handle (modified old.heap slot (kind_modified flags)) answer new) (MatchBool (size == 0) (Empties old handle slot flags answer new) (Resizes old handle slot flags size answer new)))) e g)
+    turn : (p : Option ℕ) → p ≡ Some slot → MatchOption p (IsNull old answer new) (λ slot. MatchBool (has_flag flags GMEM_MODIFY) (AnswersHandle old handle (modified old.heap slot (kind_modified flags)) answer new) (MatchBool (size == 0) (Empties old handle slot flags answer new) (Resizes old handle slot flags size answer new))) → IsSomeAnd (object_at old.heap slot) (Fewest old new is handle size flags answer slot found)
+    turn p e g = modifies (has_flag flags GMEM_MODIFY) refl (subst (λ (p : Option ℕ). MatchOption p (IsNull old answer new) (λ slot. MatchBool (has_flag flags GMEM_MODIFY) (AnswersHandle old handle (modified old.heap slot (kind_modified flags)) answer new) (MatchBool (size == 0) (Empties old handle slot flags answer new) (Resizes old handle slot flags size answer new)))) e g)

@@ -124,10 +124,13 @@ may_order (ReAllocs handle size flags) = true
 abbrev pub UnorderedLaw : Type 0
 UnorderedLaw = (old new : Handles) (call : Call) (answer : Answer) → AreHandles old → may_order call ≡ false → CallStep old call answer new → OnlyLeave new.heap old.heap.order new.heap.order
 
--- and every call leaves those that it isn't about as they stand, an object that comes new apart
+-- All that stay stand as they did, but for an object that the step is about, or one that comes new.
+abbrev pub OthersStand : (ℕ → Type 0) → Heap → Heap → Type 0
+OthersStand is_about old new = OnlyLeave new old.order new.order ⊎ ((id : ℕ) × (is_about id ⊎ (object_at old id ≡ None)) × OnlyLeave new (without id old.order) (without id new.order))
+
+-- and every call leaves those that it isn't about so
 abbrev pub OthersOrderLaw : Type 0
-OthersOrderLaw = (old new : Handles) (call : Call) (answer : Answer) → AreHandles old → CallStep old call answer new
-    → OnlyLeave new.heap old.heap.order new.heap.order ⊎ ((slot : ℕ) × (IsAbout old call slot ⊎ (object_at old.heap slot ≡ None)) × OnlyLeave new.heap (without slot old.heap.order) (without slot new.heap.order))
+OthersOrderLaw = (old new : Handles) (call : Call) (answer : Answer) → AreHandles old → CallStep old call answer new → OthersStand (IsAbout old call) old.heap new.heap
 
 -- Objects that a call isn't about.
 

@@ -3,12 +3,12 @@ use Rattle.std.specs.Prelude.{◌≡◌, ℕ, ◌+◌, ◌-◌, ◌*◌, ◌/◌
 use Rattle.std.specs.FinMap as finmap
 use Rattle.w16_model.specs.declared.Kind.{Kind}
 use Rattle.w16_model.specs.declared.Kind.TheVariants.{Fixed, Moveable, Discardable}
-use Rattle.w16_model.specs.declared.Way.{Way}
+use Rattle.w16_model.specs.declared.RoomOptions.{RoomOptions}
 use Rattle.w16_model.specs.declared.Refusal.{Refusal}
 use Rattle.w16_model.specs.declared.Refusal.TheVariants as refusals
 use Rattle.w16_model.specs.declared.TheConstants.{GRAIN, LARGEST_SIZE, GMEM_MOVEABLE, GMEM_NOCOMPACT, GMEM_NODISCARD, GMEM_ZEROINIT, GMEM_DISCARDABLE, GMEM_DDESHARE, GMEM_DISCARDED}
 use Rattle.w16_model.specs.Heap.{Heap, Object, object_at, bytes_at, is_discardable}
-use Rattle.w16_model.specs.Request.{Allocates, Compacts, prefix_of, moved_bytes}
+use Rattle.w16_model.specs.Request.{Allocates, Compacts, discards_needed, moved_bytes}
 use Rattle.w16_model.specs.OneObject.{Enters, after_lock, after_unlock, after_free, after_newest, after_oldest}
 use Rattle.w16_model.specs.declared.Attributes.{Attributes}
 use Rattle.w16_model.specs.declared.Item.{Item}
@@ -54,8 +54,8 @@ abbrev pub kind_asked : ℕ → Kind
 kind_asked flags = if has_flag flags GMEM_MOVEABLE then (if has_flag flags GMEM_DISCARDABLE then Discardable else Moveable) else Fixed
 
 -- others may be moved without GMEM_NOCOMPACT, and discarded too without GMEM_NODISCARD
-abbrev pub way_asked : ℕ → Way
-way_asked flags = record { compact = not (has_flag flags GMEM_NOCOMPACT); discard = not (has_flag flags GMEM_NODISCARD); zero = has_flag flags GMEM_ZEROINIT; may_move = false }
+abbrev pub alloc_options : ℕ → RoomOptions
+alloc_options flags = record { compact = not (has_flag flags GMEM_NOCOMPACT); discard = not (has_flag flags GMEM_NODISCARD); zero = has_flag flags GMEM_ZEROINIT; may_move = false }
 
 -- whether an object is asked for that has no bytes yet
 abbrev pub is_absent_asked : ℕ → ℕ → Bool
@@ -75,7 +75,7 @@ HasNoSlot old = (slot : ℕ) → IsFreeSlot old slot → ⊥
 
 -- and where there is no room: no hole that is long enough, or no gap that could hold it, as the flags have it.
 abbrev pub HasNoRoom : Handles → ℕ → ℕ → Type 0
-HasNoRoom old flags size = (0 < size) × (prefix_of old.heap (rounded_size size) None (way_asked flags) ≡ None)
+HasNoRoom old flags size = (0 < size) × (discards_needed old.heap (rounded_size size) None (alloc_options flags) ≡ None)
 
 abbrev pub IsRefusedAlloc : Handles → ℕ → ℕ → Type 0
 IsRefusedAlloc old flags size = IsEmptyFixed flags size ⊎ IsTooLong size ⊎ HasNoSlot old ⊎ HasNoRoom old flags size
@@ -88,7 +88,7 @@ pub record AnswersAlloc (old : Handles) (flags size handle : ℕ) (new : Handles
   pub named : handle ≡ handle_of (kind_asked flags) slot
   pub made : MatchBool (is_absent_asked flags size)
       (Enters old.heap slot (kind_asked flags) new.heap)
-      (Allocates old.heap slot (rounded_size size) (kind_asked flags) 0 (way_asked flags) true new.heap)
+      (Allocates old.heap slot (rounded_size size) (kind_asked flags) 0 (alloc_options flags) true new.heap)
   pub rest : new ≡ record old {
     heap = new.heap;
     attributes = finmap.insert old.attributes slot (record { shared = has_flag flags GMEM_DDESHARE; owned = None });

@@ -2,7 +2,7 @@
 use Rattle.std.specs.Prelude.{ℕ, ◌+◌, Bool, true, false, not, ◌&&◌, ◌||◌, ◌==◌, if◌then◌else◌, nat_le, List, length, take, filter, find, Option, Some, None}
 use Rattle.std.specs.List.{list_any, range_with_len}
 use Rattle.w16_model.specs.declared.Block.{Block}
-use Rattle.w16_model.specs.declared.Way.{Way}
+use Rattle.w16_model.specs.declared.RoomOptions.{RoomOptions}
 use Rattle.w16_model.specs.Gap.{is_pinned, room, longest_hole, hole_after, block_end}
 
 abbrev pub is_member : ℕ → List ℕ → Bool
@@ -49,10 +49,10 @@ none_discarded_if false = None
 
 -- The number of discards by which a request of n bytes is answered, if it is. GMEM_NOCOMPACT: nothing moves or is discarded, a hole has
 -- to be there; it decides over GMEM_NODISCARD, under which others may slide but none is discarded.
-abbrev pub prefix_for : Snapshot → ℕ → Option ℕ → Way → Option ℕ
-prefix_for s n h way =
-    if not way.compact then none_discarded_if (nat_le n (longest_hole s.lo s.hi s.blocks))
-    else (if not way.discard then none_discarded_if (nat_le n (room_for s 0 h)) else needed s n h)
+abbrev pub prefix_for : Snapshot → ℕ → Option ℕ → RoomOptions → Option ℕ
+prefix_for s n h options =
+    if not options.compact then none_discarded_if (nat_le n (longest_hole s.lo s.hi s.blocks))
+    else (if not options.discard then none_discarded_if (nat_le n (room_for s 0 h)) else needed s n h)
 
 -- Growth of an object h that has bytes, to n.
 
@@ -65,7 +65,7 @@ fits_in_place s n h = elim (find (λ x. x.id == h) s.blocks) [
 
 -- The number of discards by which it grows, if it may move and does: h is loose for this, and not counted. With GMEM_NOCOMPACT it fits where
 -- it stands, or in a hole of the new size.
-abbrev pub growth_for : Snapshot → ℕ → ℕ → Way → Option ℕ
-growth_for s n h way =
-    if way.compact then prefix_for s n (Some h) way
+abbrev pub growth_for : Snapshot → ℕ → ℕ → RoomOptions → Option ℕ
+growth_for s n h options =
+    if options.compact then prefix_for s n (Some h) options
     else none_discarded_if (fits_in_place s n h || nat_le n (longest_hole s.lo s.hi s.blocks))

@@ -1,14 +1,14 @@
 -- Fewest discards, which no allocator promises: what it means is told by arrangements alone, every way in which the loose blocks may slide.
 use Rattle.std.specs.Prelude.{◌≡◌, ◌≢◌, ℕ, ◌-◌, ◌<◌, ◌⊎◌, Bool, true, false, ◌==◌, MatchBool, take, Option, Some, None}
 use Rattle.w16_model.specs.declared.Kind.{Kind}
-use Rattle.w16_model.specs.declared.Way.{Way}
+use Rattle.w16_model.specs.declared.RoomOptions.{RoomOptions}
 use Rattle.w16_model.specs.Gap.{IsHole}
 use Rattle.w16_model.specs.Arrangement.{IsLongestStretch}
 use Rattle.w16_model.specs.Discards.{eligible, blocks_without}
 use Rattle.w16_model.specs.Heap.{Heap, IsHeap, blocks}
 use Rattle.w16_model.specs.Request.{Allocates, Compacts, eligible_count}
 use Rattle.w16_model.specs.Handles.{Handles, AreHandles, handle_of}
-use Rattle.w16_model.specs.Calls.{GlobalAllocs, GlobalCompacts, IsEmptyFixed, IsTooLong, HasNoSlot, kind_asked, way_asked, rounded_size}
+use Rattle.w16_model.specs.Calls.{GlobalAllocs, GlobalCompacts, IsEmptyFixed, IsTooLong, HasNoSlot, kind_asked, alloc_options, rounded_size}
 use Rattle.w16_model.specs.Law.{NoStretch, KeepsOthers}
 
 -- whichever way the others slide once the first j that may be are discarded, no n bytes in a row are free; h isn't counted
@@ -23,16 +23,16 @@ pub record DiscardsFewest (old : Heap) (h : Option ℕ) (n : ℕ) (new : Heap) :
 
 -- Why there is no room for n bytes. With GMEM_NOCOMPACT no hole is as long; else no way to slide the others makes so many free, and without
 -- GMEM_NODISCARD none does whatever is discarded.
-pub record LacksRoom (heap : Heap) (h : Option ℕ) (n : ℕ) (way : Way) : Type 0 where
-  pub hole : way.compact ≡ false → (a b : ℕ) → IsHole heap.lo heap.hi (blocks heap) a b → b - a < n
-  pub slides : way.compact ≡ true → HasNoStretch heap 0 h n
-  pub discards : way.compact ≡ true → way.discard ≡ true → (j : ℕ) → HasNoStretch heap j h n
+pub record LacksRoom (heap : Heap) (h : Option ℕ) (n : ℕ) (options : RoomOptions) : Type 0 where
+  pub hole : options.compact ≡ false → (a b : ℕ) → IsHole heap.lo heap.hi (blocks heap) a b → b - a < n
+  pub slides : options.compact ≡ true → HasNoStretch heap 0 h n
+  pub discards : options.compact ≡ true → options.discard ≡ true → (j : ℕ) → HasNoStretch heap j h n
 
 -- An allocation discards as few as it can, and none where it may not; it is refused only where there is no room, and then it discards none.
-pub record AllocatesFewest (old : Heap) (id n : ℕ) (way : Way) (answered : Bool) (new : Heap) : Type 0 where
+pub record AllocatesFewest (old : Heap) (id n : ℕ) (options : RoomOptions) (answered : Bool) (new : Heap) : Type 0 where
   pub fewest : answered ≡ true → DiscardsFewest old (Some id) n new
-  pub without : answered ≡ true → (way.compact ≡ false) ⊎ (way.discard ≡ false) → KeepsOthers old (Some id) 0 new
-  pub refused : answered ≡ false → LacksRoom old (Some id) n way × (new ≡ old)
+  pub without : answered ≡ true → (options.compact ≡ false) ⊎ (options.discard ≡ false) → KeepsOthers old (Some id) 0 new
+  pub refused : answered ≡ false → LacksRoom old (Some id) n options × (new ≡ old)
 
 -- the length of the longest free stretch of any arrangement of what is left once the first k that may be are discarded
 abbrev pub IsMostAfter : Heap → ℕ → ℕ → Type 0
@@ -51,13 +51,13 @@ CompactsFewest old n answer new = MatchBool (n == 0) (IsMostAfter old (eligible_
 -- GlobalAlloc: where it answers a handle, that of an object with bytes, it has discarded as few as it can; where it answers 0 it has
 -- discarded none, and there was no room, unless it was refused for something else.
 pub record AllocFewest (old : Handles) (flags size handle : ℕ) (new : Handles) : Type 0 where
-  pub answered : handle ≢ 0 → 0 < size → (slot : ℕ) × (handle ≡ handle_of (kind_asked flags) slot) × AllocatesFewest old.heap slot (rounded_size size) (way_asked flags) true new.heap
-  pub refused : handle ≡ 0 → (new.heap ≡ old.heap) × (IsEmptyFixed flags size ⊎ IsTooLong size ⊎ HasNoSlot old ⊎ LacksRoom old.heap None (rounded_size size) (way_asked flags))
+  pub answered : handle ≢ 0 → 0 < size → (slot : ℕ) × (handle ≡ handle_of (kind_asked flags) slot) × AllocatesFewest old.heap slot (rounded_size size) (alloc_options flags) true new.heap
+  pub refused : handle ≡ 0 → (new.heap ≡ old.heap) × (IsEmptyFixed flags size ⊎ IsTooLong size ⊎ HasNoSlot old ⊎ LacksRoom old.heap None (rounded_size size) (alloc_options flags))
 
 -- The laws.
 
 abbrev pub AllocationLaw : Type 0
-AllocationLaw = (old new : Heap) (id n : ℕ) (kind : Kind) (locks : ℕ) (way : Way) (answered : Bool) → IsHeap old → Allocates old id n kind locks way answered new → AllocatesFewest old id n way answered new
+AllocationLaw = (old new : Heap) (id n : ℕ) (kind : Kind) (locks : ℕ) (options : RoomOptions) (answered : Bool) → IsHeap old → Allocates old id n kind locks options answered new → AllocatesFewest old id n options answered new
 
 abbrev pub CompactionLaw : Type 0
 CompactionLaw = (old new : Heap) (n answer : ℕ) → IsHeap old → Compacts old n answer new → CompactsFewest old n answer new

@@ -4,7 +4,7 @@ use Rattle.w16_model.specs.declared.Block.{Block}
 use Rattle.w16_model.specs.declared.Span.{Span}
 use Rattle.w16_model.specs.declared.Kind.{Kind}
 use Rattle.w16_model.specs.declared.Item.{Item}
-use Rattle.w16_model.specs.declared.Way.{Way}
+use Rattle.w16_model.specs.declared.RoomOptions.{RoomOptions}
 use Rattle.w16_model.specs.declared.Hold.TheVariants.{Pinned}
 use Rattle.w16_model.specs.declared.Kind.TheVariants.{Discardable}
 use Rattle.w16_model.specs.declared.TheConstants.{FIRST_SLOT, MOST_SLOTS, GRAIN, LARGEST_SIZE, GMEM_MOVEABLE, GMEM_NOCOMPACT, GMEM_NODISCARD, GMEM_ZEROINIT, GMEM_MODIFY, GMEM_DISCARDABLE, GMEM_DDESHARE, GMEM_DISCARDED}
@@ -131,7 +131,7 @@ pub record KeepsOthers (old : Heap) (h : Option ℕ) (k : ℕ) (new : Heap) : Ty
 -- a request about h, and a compaction, leave every other object so
 abbrev pub OthersLaw : Type 0
 OthersLaw = (old new : Heap) → IsHeap old → (k : ℕ)
-    → ((h : ℕ) (way : Way) (o : Object) (order : List ℕ → List ℕ) → Settles old (stays_for h way) (with_ordered (discarded old k (Some h)) h o order) new → KeepsOthers old (Some h) k new)
+    → ((h : ℕ) (options : RoomOptions) (o : Object) (order : List ℕ → List ℕ) → Settles old (stays_for h options) (with_ordered (discarded old k (Some h)) h o order) new → KeepsOthers old (Some h) k new)
     × (Settles old is_pinned (discarded old k None) new → KeepsOthers old None k new)
 
 -- an object that stands at an address still stands there
@@ -146,7 +146,7 @@ pub record KeepsAddresses (old : Heap) (h : Option ℕ) (may_move : Bool) (new :
 -- a request about h, and a compaction, leave every other address so
 abbrev pub AddressLaw : Type 0
 AddressLaw = (old new : Heap) → IsHeap old → (k : ℕ)
-    → ((h : ℕ) (way : Way) (o : Object) (order : List ℕ → List ℕ) → Settles old (stays_for h way) (with_ordered (discarded old k (Some h)) h o order) new → KeepsAddresses old (Some h) way.compact new)
+    → ((h : ℕ) (options : RoomOptions) (o : Object) (order : List ℕ → List ℕ) → Settles old (stays_for h options) (with_ordered (discarded old k (Some h)) h o order) new → KeepsAddresses old (Some h) options.compact new)
     × (Settles old is_pinned (discarded old k None) new → KeepsAddresses old None true new)
 
 -- an allocation isn't both refused and answered

@@ -12,10 +12,10 @@ use Rattle.w16_model.specs.OneObject.{Enters, refused_order, after_modify}
 use Rattle.w16_model.specs.Handles.{Handles, AreHandles, IsFreeSlot, slot_of_handle, handle_of}
 use Rattle.w16_model.specs.Owned.{owns, without_slot}
 use Rattle.w16_model.specs.Reallocation.{ChangesKind}
-use Rattle.w16_model.specs.Calls.{HandleCommand, Answer, HandleStep, has_flag, kind_asked, way_asked, rounded_size}
+use Rattle.w16_model.specs.Calls.{HandleCommand, Answer, HandleStep, has_flag, kind_asked, alloc_options, rounded_size}
 use Rattle.w16_model.specs.Calls.Answer.{Word, Dword}
 use Rattle.w16_model.specs.Calls.HandleCommand.{GlobalAlloc, GlobalFree, GlobalLock, GlobalUnlock, GlobalCompact, GlobalLRUNewest, GlobalLRUOldest}
-use Rattle.w16_model.specs.Resizes.{GlobalReAllocs, way_asked_again, kind_modified}
+use Rattle.w16_model.specs.Resizes.{GlobalReAllocs, realloc_options, kind_modified}
 
 -- A call on handles: GlobalReAlloc, of which GlobalDiscard is a case, or any other.
 pub data Call : Type 0 where
@@ -100,8 +100,8 @@ pub record AllocatesSlot (old : Handles) (call : Call) (answer : Answer) (new : 
   pub asked : call ≡ Calls (GlobalAlloc flags size)
   pub answered : answer ≡ Word (handle_of (kind_asked flags) slot)
   pub free : IsFreeSlot old slot
-  pub is_new : IsNew (way_asked flags).zero (rounded_size size) (kind_asked flags) 0 object
-  pub settled : Settles old.heap (stays_for slot (way_asked flags)) (with_ordered (discarded old.heap count (Some slot)) slot object (with_newest slot object)) new.heap
+  pub is_new : IsNew (alloc_options flags).zero (rounded_size size) (kind_asked flags) 0 object
+  pub settled : Settles old.heap (stays_for slot (alloc_options flags)) (with_ordered (discarded old.heap count (Some slot)) slot object (with_newest slot object)) new.heap
   pub rest : new ≡ record old { heap = new.heap; attributes = finmap.insert old.attributes slot (attributes_asked flags); moved = moved_bytes old.heap new.heap }
 
 -- GlobalCompact discards the first so many that may be discarded, and moves others.
@@ -156,7 +156,7 @@ pub record Resized (old : Handles) (call : Call) (answer : Answer) (new : Handle
   pub named : IsNamed old handle slot object
   pub own : owns old handle ≡ false
   pub sized : (has_flag flags GMEM_MODIFY ≡ false) × ((size == 0) ≡ false)
-  pub resized : Reallocates old.heap slot (rounded_size size) (way_asked_again flags) true new.heap
+  pub resized : Reallocates old.heap slot (rounded_size size) (realloc_options flags) true new.heap
   pub rest : new ≡ record old { heap = new.heap; moved = moved_bytes old.heap new.heap }
 
 -- whether a call counts the bytes that it moved

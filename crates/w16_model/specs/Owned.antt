@@ -4,7 +4,7 @@ use Rattle.std.specs.FinMap as finmap
 use Rattle.w16_model.specs.declared.Attributes.{Attributes}
 use Rattle.w16_model.specs.declared.Kind.{Kind}
 use Rattle.w16_model.specs.declared.Owned.{Owned}
-use Rattle.w16_model.specs.declared.Way.{Way}
+use Rattle.w16_model.specs.declared.RoomOptions.{RoomOptions}
 use Rattle.w16_model.specs.Changes.{removed}
 use Rattle.w16_model.specs.Heap.{object_at}
 use Rattle.w16_model.specs.Request.{Allocates}
@@ -42,13 +42,13 @@ pub record TakesOwned (old : Handles) (kind : Kind) (owned : Owned) (handle : �
   pub rest : new ≡ record old { heap = new.heap; attributes = finmap.insert old.attributes slot (record { shared = false; owned = Some owned }) }
 
 -- how room is made for it: others may be moved and discarded
-abbrev pub any_way : Way
-any_way = record { compact = true; discard = true; zero = false; may_move = false }
+abbrev pub revival_options : RoomOptions
+revival_options = record { compact = true; discard = true; zero = false; may_move = false }
 
 -- An owned object without bytes gets as many as its owner's file says, of any values, by a request for room as of an allocation with no flags;
 -- or there is no room for them, and nothing changes. The number of bytes moved stays.
 pub record Revives (old : Handles) (slot : ℕ) (answered : Bool) (new : Handles) : Type 0 where
-  pub owned : IsSomeAnd (owned_at old slot) (λ owned. IsSomeAnd (object_at old.heap slot) (λ o. Allocates old.heap slot owned.size o.kind o.locks any_way answered new.heap))
+  pub owned : IsSomeAnd (owned_at old slot) (λ owned. IsSomeAnd (object_at old.heap slot) (λ o. Allocates old.heap slot owned.size o.kind o.locks revival_options answered new.heap))
   pub rest : new ≡ record old { heap = new.heap }
 
 -- the handles without an object, locked or not

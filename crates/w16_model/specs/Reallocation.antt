@@ -6,7 +6,7 @@ use Rattle.w16_model.specs.declared.Block.{Block}
 use Rattle.w16_model.specs.declared.Hold.TheVariants.{Loose}
 use Rattle.w16_model.specs.declared.Kind.{Kind}
 use Rattle.w16_model.specs.declared.Refusal.TheVariants as refusals
-use Rattle.w16_model.specs.declared.Way.{Way}
+use Rattle.w16_model.specs.declared.RoomOptions.{RoomOptions}
 use Rattle.w16_model.specs.Gap.{is_pinned, is_loose, is_any, begins_in, Misses, ArePlaced, IsClear, IsGap}
 use Rattle.w16_model.specs.Discards.{eligible, is_member, is_about, room_for, snapshot}
 use Rattle.w16_model.specs.Bytes.{repeated}
@@ -41,11 +41,11 @@ is_revived o = not (is_some o.bytes) && is_discardable o.kind
 
 -- What an answered reallocation leaves. The first so many that may be are discarded; all others are as they were, also in the order of use,
 -- in which an object that had no bytes is the newest, and one that had some keeps its place.
-pub record KeepsRest (old : Heap) (id n : ℕ) (o : Object) (way : Way) (new : Heap) : Type 0 where
+pub record KeepsRest (old : Heap) (id n : ℕ) (o : Object) (options : RoomOptions) (new : Heap) : Type 0 where
   pub low : new.lo ≡ old.lo
   pub high : new.hi ≡ old.hi
   pub grain : new.grain ≡ old.grain
-  pub object : IsSomeAnd (object_at new id) (IsResized way.zero n o)
+  pub object : IsSomeAnd (object_at new id) (IsResized options.zero n o)
   pub count : ℕ
   pub others : KeepsOthers old (Some id) count new
   pub order : new.order ≡ without_all (take count (eligible (blocks old) old.order (Some id))) old.order ++ (if is_revived o then id ∷ [] else [])
@@ -57,31 +57,31 @@ abbrev pub IsFreeBehind : Heap → ℕ → Object → ℕ → Type 0
 IsFreeBehind heap id o n = IsSomeAnd (finmap.get heap.places id) (λ at. IsClear is_any heap.lo heap.hi (blocks heap) (at + size_of o) (at + n))
 
 -- whether an object may not be moved for its own growth: it is fixed or locked, and that isn't allowed (no GMEM_MOVEABLE)
-abbrev pub is_held : Object → Way → Bool
-is_held o way = is_some o.bytes && (is_pinned_object o && not way.may_move)
+abbrev pub is_held : Object → RoomOptions → Bool
+is_held o options = is_some o.bytes && (is_pinned_object o && not options.may_move)
 
 -- Why an object doesn't get n bytes: one that may not move hasn't the free bytes behind it; any other has no room, and with GMEM_NOCOMPACT
 -- hasn't these bytes either.
-abbrev pub LacksPlace : Heap → ℕ → ℕ → Object → Way → Type 0
-LacksPlace old id n o way =
-    ((is_held o way ≡ true) × (IsFreeBehind old id o n → ⊥))
-    ⊎ ((is_held o way ≡ false) × LacksRoom old (Some id) n way × (way.compact ≡ false → IsFreeBehind old id o n → ⊥))
+abbrev pub LacksPlace : Heap → ℕ → ℕ → Object → RoomOptions → Type 0
+LacksPlace old id n o options =
+    ((is_held o options ≡ true) × (IsFreeBehind old id o n → ⊥))
+    ⊎ ((is_held o options ≡ false) × LacksRoom old (Some id) n options × (options.compact ≡ false → IsFreeBehind old id o n → ⊥))
 
 -- A reallocation discards as few as it can, and none where it may not or needn't. It is refused only where the object would have to have
 -- more bytes, and has no place for them; then nothing is changed.
-pub record ReallocatesFewest (old : Heap) (id n : ℕ) (o : Object) (way : Way) (answered : Bool) (new : Heap) : Type 0 where
+pub record ReallocatesFewest (old : Heap) (id n : ℕ) (o : Object) (options : RoomOptions) (answered : Bool) (new : Heap) : Type 0 where
   pub fewest : answered ≡ true → DiscardsFewest old (Some id) n new
-  pub without : answered ≡ true → (way.compact ≡ false) ⊎ (way.discard ≡ false) ⊎ (n ≤ size_of o) ⊎ (is_held o way ≡ true) → KeepsOthers old (Some id) 0 new
-  pub refused : answered ≡ false → (size_of o < n) × LacksPlace old id n o way × (new ≡ old)
+  pub without : answered ≡ true → (options.compact ≡ false) ⊎ (options.discard ≡ false) ⊎ (n ≤ size_of o) ⊎ (is_held o options ≡ true) → KeepsOthers old (Some id) 0 new
+  pub refused : answered ≡ false → (size_of o < n) × LacksPlace old id n o options × (new ≡ old)
 
 -- Addresses.
 
 -- What an answered reallocation moves. A cut, and the growth of an object that may not move, leave every address; else the fixed and the
 -- locked keep theirs, and with GMEM_NOCOMPACT all others do, and the object stands where it stood or where the heap had as much free.
-pub record MovesLittle (old : Heap) (id n : ℕ) (o : Object) (way : Way) (new : Heap) : Type 0 where
-  pub others : KeepsAddresses old (Some id) way.compact new
-  pub still : (n ≤ size_of o) ⊎ (is_held o way ≡ true) → (q : ℕ) → StandsStill old new q
-  pub hole : way.compact ≡ false → IsSomeAnd (finmap.get new.places id) (λ at. (finmap.get old.places id ≡ Some at) ⊎ IsClear is_any old.lo old.hi (blocks old) at (at + n))
+pub record MovesLittle (old : Heap) (id n : ℕ) (o : Object) (options : RoomOptions) (new : Heap) : Type 0 where
+  pub others : KeepsAddresses old (Some id) options.compact new
+  pub still : (n ≤ size_of o) ⊎ (is_held o options ≡ true) → (q : ℕ) → StandsStill old new q
+  pub hole : options.compact ≡ false → IsSomeAnd (finmap.get new.places id) (λ at. (finmap.get old.places id ≡ Some at) ⊎ IsClear is_any old.lo old.hi (blocks old) at (at + n))
 
 -- Change of kind.
 
@@ -98,9 +98,13 @@ pub record ChangesKind (old : Heap) (id : ℕ) (o : Object) (kind : Kind) (new :
 
 -- Room with an object left out.
 
+-- a block, which counts as loose where it is the object's
+abbrev pub counted_loose : Option ℕ → Block → Block
+counted_loose h x = record x { hold = if is_about h x.id then Loose else x.hold }
+
 -- the blocks with that of the object counted as loose
 abbrev pub loosened : Option ℕ → List Block → List Block
-loosened h xs = map (λ (x : Block). if is_about h x.id then record x { hold = Loose } else x) xs
+loosened h xs = map (counted_loose h) xs
 
 -- whether a block is counted: it is loose, none of these, and not the object's
 abbrev pub is_counted : List ℕ → Option ℕ → Block → Bool
@@ -126,7 +130,7 @@ pub record IsLongestWithout (lo hi : ℕ) (xs : List Block) (ids : List ℕ) (h 
 
 -- a reallocation, a change of kind and a discard leave a heap
 abbrev pub HeapLaw : Type 0
-HeapLaw = (old new : Heap) (id n : ℕ) (way : Way) (answered : Bool) → IsHeap old → Reallocates old id n way answered new → IsHeap new
+HeapLaw = (old new : Heap) (id n : ℕ) (options : RoomOptions) (answered : Bool) → IsHeap old → Reallocates old id n options answered new → IsHeap new
 
 abbrev pub KindHeapLaw : Type 0
 KindHeapLaw = (old : Heap) (id : ℕ) (kind : Kind) → IsHeap old → IfOk (after_modify old id kind) IsHeap
@@ -136,19 +140,19 @@ DiscardHeapLaw = (old : Heap) (id : ℕ) → IsHeap old → IfOk (after_discard 
 
 -- an answered one keeps the rest
 abbrev pub RestLaw : Type 0
-RestLaw = (old new : Heap) (id n : ℕ) (way : Way) → IsHeap old → Reallocates old id n way true new → IsSomeAnd (object_at old id) (λ o. KeepsRest old id n o way new)
+RestLaw = (old new : Heap) (id n : ℕ) (options : RoomOptions) → IsHeap old → Reallocates old id n options true new → IsSomeAnd (object_at old id) (λ o. KeepsRest old id n o options new)
 
 -- discards are fewest
 abbrev pub FewestLaw : Type 0
-FewestLaw = (old new : Heap) (id n : ℕ) (way : Way) (answered : Bool) → IsHeap old → Reallocates old id n way answered new → IsSomeAnd (object_at old id) (λ o. ReallocatesFewest old id n o way answered new)
+FewestLaw = (old new : Heap) (id n : ℕ) (options : RoomOptions) (answered : Bool) → IsHeap old → Reallocates old id n options answered new → IsSomeAnd (object_at old id) (λ o. ReallocatesFewest old id n o options answered new)
 
 -- little is moved
 abbrev pub MovesLaw : Type 0
-MovesLaw = (old new : Heap) (id n : ℕ) (way : Way) → IsHeap old → Reallocates old id n way true new → IsSomeAnd (object_at old id) (λ o. MovesLittle old id n o way new)
+MovesLaw = (old new : Heap) (id n : ℕ) (options : RoomOptions) → IsHeap old → Reallocates old id n options true new → IsSomeAnd (object_at old id) (λ o. MovesLittle old id n o options new)
 
 -- one that is answered somehow is never refused, and a refused one changes nothing
 abbrev pub OneOutcomeLaw : Type 0
-OneOutcomeLaw = (old new : Heap) (id n : ℕ) (way : Way) → Reallocates old id n way false new → (new ≡ old) × ((other : Heap) → Reallocates old id n way true other → ⊥)
+OneOutcomeLaw = (old new : Heap) (id n : ℕ) (options : RoomOptions) → Reallocates old id n options false new → (new ≡ old) × ((other : Heap) → Reallocates old id n options true other → ⊥)
 
 -- a change of kind is refused for a fixed object, and for the kind Fixed; else it changes the kind and the order alone
 abbrev pub KindLaw : Type 0

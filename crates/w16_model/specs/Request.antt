@@ -3,7 +3,7 @@ use Rattle.std.specs.Prelude.{◌≡◌, ℕ, ◌+◌, ◌-◌, ◌<◌, ◌⊎�
 use Rattle.std.specs.FinMap as finmap
 use Rattle.w16_model.specs.declared.Block.{Block}
 use Rattle.w16_model.specs.declared.Kind.{Kind}
-use Rattle.w16_model.specs.declared.Way.{Way}
+use Rattle.w16_model.specs.declared.RoomOptions.{RoomOptions}
 use Rattle.w16_model.specs.Gap.{is_pinned, is_any, longest_hole, IsClear}
 use Rattle.w16_model.specs.Discards.{Snapshot, snapshot, eligible, room_for, needed, prefix_for, fits_in_place, growth_for}
 use Rattle.w16_model.specs.Bytes.{repeated}
@@ -14,8 +14,8 @@ abbrev pub snapshot_of : Heap → Snapshot
 snapshot_of heap = snapshot heap.lo heap.hi (blocks heap) heap.order
 
 -- the number of discards by which a request of n bytes about h is answered, if it is
-abbrev pub prefix_of : Heap → ℕ → Option ℕ → Way → Option ℕ
-prefix_of heap n h way = prefix_for (snapshot_of heap) n h way
+abbrev pub discards_needed : Heap → ℕ → Option ℕ → RoomOptions → Option ℕ
+discards_needed heap n h options = prefix_for (snapshot_of heap) n h options
 
 -- the first k that a request about h may discard, discarded
 abbrev pub discarded : Heap → ℕ → Option ℕ → Heap
@@ -32,12 +32,12 @@ pub record Settles (old : Heap) (stays : Block → Bool) (heap new : Heap) : Typ
   pub kept : All (λ x. IsTrue (stays x) → finmap.get new.places x.id ≡ Some x.at) (blocks old)
 
 -- which blocks keep their address while room is made for h: the pinned ones, and with GMEM_NOCOMPACT all
-abbrev pub stays_for : ℕ → Way → Block → Bool
-stays_for h way x = not (x.id == h) && (is_pinned x || not way.compact)
+abbrev pub stays_for : ℕ → RoomOptions → Block → Bool
+stays_for h options x = not (x.id == h) && (is_pinned x || not options.compact)
 
 -- What is asked for an object: how room may be made, by how many discards if at all, what the object becomes, and the order of use with it.
 pub record Asked : Type 1 where
-  pub way : Way
+  pub options : RoomOptions
   pub prefix : Option ℕ
   pub becomes : Object → Type 0
   pub order : Object → List ℕ → List ℕ
@@ -48,7 +48,7 @@ abbrev pub Request : Heap → ℕ → Asked → Bool → Heap → Type 0
 Request old h asked answered new =
     MatchOption asked.prefix
     ((answered ≡ false) × (new ≡ old))
-    (λ k. (answered ≡ true) × ((o : Object) × asked.becomes o × Settles old (stays_for h asked.way) (with_ordered (discarded old k (Some h)) h o (asked.order o)) new))
+    (λ k. (answered ≡ true) × ((o : Object) × asked.becomes o × Settles old (stays_for h asked.options) (with_ordered (discarded old k (Some h)) h o (asked.order o)) new))
 
 -- Allocation and revival.
 
@@ -60,11 +60,11 @@ pub record IsNew (zero : Bool) (n : ℕ) (kind : Kind) (locks : ℕ) (o : Object
 
 -- An id without bytes gets n, a whole number of grains above 0: a new object, or an absent one again. A discardable one becomes the newest
 -- (GlobalAlloc; GlobalReAlloc of a discarded object).
-pub record Allocates (old : Heap) (id n : ℕ) (kind : Kind) (locks : ℕ) (way : Way) (answered : Bool) (new : Heap) : Type 0 where
+pub record Allocates (old : Heap) (id n : ℕ) (kind : Kind) (locks : ℕ) (options : RoomOptions) (answered : Bool) (new : Heap) : Type 0 where
   pub some : 0 < n
   pub rounded : IsMultiple old.grain n
   pub without_bytes : bytes_at old id ≡ None
-  pub request : Request old id (record { way = way; prefix = prefix_of old n (Some id) way; becomes = IsNew way.zero n kind locks; order = with_newest id }) answered new
+  pub request : Request old id (record { options = options; prefix = discards_needed old n (Some id) options; becomes = IsNew options.zero n kind locks; order = with_newest id }) answered new
 
 -- Reallocation (GlobalReAlloc), where it asks for a size above 0.
 
@@ -80,29 +80,29 @@ StaysOrMovesToHole old id n new = IsSomeAnd (finmap.get new.places id) (λ at. (
 
 -- An object that is shorter than n grows. A pinned one that may not move (no GMEM_MOVEABLE) keeps its address and needs the hole directly
 -- after it; every other grows by a request for room, and keeps its place in the order.
-abbrev pub Grows : Heap → ℕ → Object → ℕ → Way → Bool → Heap → Type 0
-Grows old id o n way answered new =
-    MatchBool (is_pinned_object o && not way.may_move)
+abbrev pub Grows : Heap → ℕ → Object → ℕ → RoomOptions → Bool → Heap → Type 0
+Grows old id o n options answered new =
+    MatchBool (is_pinned_object o && not options.may_move)
     (MatchBool (fits_in_place (snapshot_of old) n id)
-    ((answered ≡ true) × ((grown : Object) × IsGrown way.zero n o grown × (new ≡ with_object old id grown)))
+    ((answered ≡ true) × ((grown : Object) × IsGrown options.zero n o grown × (new ≡ with_object old id grown)))
     ((answered ≡ false) × (new ≡ old)))
-    (Request old id (record { way = way; prefix = growth_for (snapshot_of old) n id way; becomes = IsGrown way.zero n o; order = λ _ order. order }) answered new
-    × (way.compact ≡ false → answered ≡ true → StaysOrMovesToHole old id n new))
+    (Request old id (record { options = options; prefix = growth_for (snapshot_of old) n id options; becomes = IsGrown options.zero n o; order = λ _ order. order }) answered new
+    × (options.compact ≡ false → answered ≡ true → StaysOrMovesToHole old id n new))
 
 -- The object o of an id to n bytes: an absent one is revived; one that is as long or longer is cut, at its address; another grows.
-abbrev pub ReallocatesObject : Heap → ℕ → Object → ℕ → Way → Bool → Heap → Type 0
-ReallocatesObject old id o n way answered new =
+abbrev pub ReallocatesObject : Heap → ℕ → Object → ℕ → RoomOptions → Bool → Heap → Type 0
+ReallocatesObject old id o n options answered new =
     MatchOption o.bytes
-    (Allocates old id n o.kind o.locks way answered new)
+    (Allocates old id n o.kind o.locks options answered new)
     (λ bytes. MatchBool (nat_le n (length bytes))
     ((answered ≡ true) × (new ≡ with_object old id (record o { bytes = Some (take n bytes) })))
-    (Grows old id o n way answered new))
+    (Grows old id o n options answered new))
 
 -- the same of an id whose object is there, to a whole number of grains above 0
-pub record Reallocates (old : Heap) (id n : ℕ) (way : Way) (answered : Bool) (new : Heap) : Type 0 where
+pub record Reallocates (old : Heap) (id n : ℕ) (options : RoomOptions) (answered : Bool) (new : Heap) : Type 0 where
   pub some : 0 < n
   pub rounded : IsMultiple old.grain n
-  pub object : IsSomeAnd (object_at old id) (λ o. ReallocatesObject old id o n way answered new)
+  pub object : IsSomeAnd (object_at old id) (λ o. ReallocatesObject old id o n options answered new)
 
 -- Compaction (GlobalCompact).
 

@@ -3,7 +3,7 @@ use Rattle.std.specs.Prelude.{◌≡◌, ◌≢◌, ℕ, ◌<◌, ◌≤◌, Boo
 use Rattle.w16_model.specs.declared.Kind.{Kind}
 use Rattle.w16_model.specs.declared.Kind.TheVariants.{Moveable, Discardable}
 use Rattle.w16_model.specs.declared.Refusal.{Refusal}
-use Rattle.w16_model.specs.declared.Way.{Way}
+use Rattle.w16_model.specs.declared.RoomOptions.{RoomOptions}
 use Rattle.w16_model.specs.declared.TheConstants.{LARGEST_SIZE, GMEM_MOVEABLE, GMEM_MODIFY, GMEM_DISCARDABLE}
 use Rattle.w16_model.specs.Heap.{Heap, object_at, size_of}
 use Rattle.w16_model.specs.Request.{Reallocates, moved_bytes}
@@ -11,11 +11,11 @@ use Rattle.w16_model.specs.OneObject.{after_modify, after_discard}
 use Rattle.w16_model.specs.Handles.{Handles, AreHandles, slot_of_handle}
 use Rattle.w16_model.specs.Owned.{owns, is_owned}
 use Rattle.w16_model.specs.Reallocation.{LacksPlace, ReallocatesFewest}
-use Rattle.w16_model.specs.Calls.{has_flag, rounded_size, way_asked}
+use Rattle.w16_model.specs.Calls.{has_flag, rounded_size, alloc_options}
 
 -- as an allocation's flags; with GMEM_MOVEABLE the object itself may be moved too, fixed or locked
-abbrev pub way_asked_again : ℕ → Way
-way_asked_again flags = record (way_asked flags) { may_move = has_flag flags GMEM_MOVEABLE }
+abbrev pub realloc_options : ℕ → RoomOptions
+realloc_options flags = record (alloc_options flags) { may_move = has_flag flags GMEM_MOVEABLE }
 
 -- the kind that GMEM_MODIFY asks for: GMEM_MOVEABLE isn't looked at
 abbrev pub kind_modified : ℕ → Kind
@@ -30,12 +30,12 @@ abbrev pub IsNull : Handles → ℕ → Handles → Type 0
 IsNull old answer new = (answer ≡ 0) × (new ≡ record old { moved = 0 })
 
 -- the handle again, over this heap
-abbrev pub Again : Handles → ℕ → Heap → ℕ → Handles → Type 0
-Again old handle heap answer new = (answer ≡ handle) × (new ≡ record old { heap = heap; moved = moved_bytes old.heap heap })
+abbrev pub AnswersHandle : Handles → ℕ → Heap → ℕ → Handles → Type 0
+AnswersHandle old handle heap answer new = (answer ≡ handle) × (new ≡ record old { heap = heap; moved = moved_bytes old.heap heap })
 
 -- what is answered to a discard: the handle again, or NULL where it is refused
 abbrev pub AnswersDiscard : Handles → ℕ → ℕ → Handles → Result Heap Refusal → Type 0
-AnswersDiscard old handle answer new (Ok heap) = Again old handle heap answer new
+AnswersDiscard old handle answer new (Ok heap) = AnswersHandle old handle heap answer new
 AnswersDiscard old handle answer new (Err refusal) = IsNull old answer new
 
 -- a size of 0: with GMEM_MOVEABLE an object that is discardable and not locked is discarded, also if it is so already (GlobalDiscard)
@@ -48,7 +48,7 @@ Empties old handle slot flags answer new = MatchBool (has_flag flags GMEM_MOVEAB
 abbrev pub Resizes : Handles → ℕ → ℕ → ℕ → ℕ → ℕ → Handles → Type 0
 Resizes old handle slot flags size answer new = MatchBool (nat_lt LARGEST_SIZE size)
     (IsNull old answer new)
-    ((answered : Bool) × (heap : Heap) × Reallocates old.heap slot (rounded_size size) (way_asked_again flags) answered heap × MatchBool answered (Again old handle heap answer new) (IsNull old answer new))
+    ((answered : Bool) × (heap : Heap) × Reallocates old.heap slot (rounded_size size) (realloc_options flags) answered heap × MatchBool answered (AnswersHandle old handle heap answer new) (IsNull old answer new))
 
 -- GlobalReAlloc of an object that no module owns. A bad handle is NULL; with GMEM_MODIFY the size isn't looked at, and the handle is answered,
 -- that of a fixed object too.
@@ -56,7 +56,7 @@ abbrev pub ReAllocsOwn : Handles → ℕ → ℕ → ℕ → ℕ → Handles →
 ReAllocsOwn old handle size flags answer new = MatchOption (slot_of_handle old handle)
     (IsNull old answer new)
     (λ slot. MatchBool (has_flag flags GMEM_MODIFY)
-    (Again old handle (modified old.heap slot (kind_modified flags)) answer new)
+    (AnswersHandle old handle (modified old.heap slot (kind_modified flags)) answer new)
     (MatchBool (size == 0)
     (Empties old handle slot flags answer new)
     (Resizes old handle slot flags size answer new)))
@@ -74,8 +74,8 @@ GlobalDiscards old handle answer new = GlobalReAllocs old handle 0 GMEM_MOVEABLE
 abbrev pub ReallocFewest : Handles → ℕ → ℕ → ℕ → ℕ → Handles → Type 0
 ReallocFewest old handle size flags answer new = (slot : ℕ) → slot_of_handle old handle ≡ Some slot → is_owned old slot ≡ false → has_flag flags GMEM_MODIFY ≡ false → 0 < size → size ≤ LARGEST_SIZE
     → IsSomeAnd (object_at old.heap slot) (λ o.
-    (answer ≢ 0 → ReallocatesFewest old.heap slot (rounded_size size) o (way_asked_again flags) true new.heap)
-    × (answer ≡ 0 → (size_of o < rounded_size size) × LacksPlace old.heap slot (rounded_size size) o (way_asked_again flags) × (new.heap ≡ old.heap)))
+    (answer ≢ 0 → ReallocatesFewest old.heap slot (rounded_size size) o (realloc_options flags) true new.heap)
+    × (answer ≡ 0 → (size_of o < rounded_size size) × LacksPlace old.heap slot (rounded_size size) o (realloc_options flags) × (new.heap ≡ old.heap)))
 
 -- The laws.
 

@@ -3,6 +3,7 @@ ghost use Rattle.w16_model.specs.Law.{AreFigures, AreFlags, AddressLaw, OutcomeL
 ghost use Rattle.w16_model.specs.Fewest.{AllocationLaw, CompactionLaw, GlobalAllocLaw, GlobalCompactLaw};
 ghost use Rattle.w16_model.specs.Reallocation.{HeapLaw, KindHeapLaw, DiscardHeapLaw, RestLaw, FewestLaw, MovesLaw, OneOutcomeLaw, KindLaw, LeftOutLaw};
 ghost use Rattle.w16_model.specs.CallLaws.{ContentsLaw, SlotsLaw, MovedLaw, BystandersLaw, PinnedStayLaw, StillLaw, UseLaw, NewObjectLaw, UnorderedLaw, OthersOrderLaw, FarEffectLaw, ReadBackLaw};
+ghost use Rattle.w16_model.specs.Effects.{LockLaw, UnlockLaw, FreeLaw, ModifyLaw, DiscardLaw, AnsweredLaw};
 ghost use Rattle.w16_model.specs.Outcomes.{CallOutcomesLaw};
 ghost use Rattle.w16_model.specs.Resizes.{ResizeLaw, NullLaw, ResizeFewestLaw};
 
@@ -211,4 +212,15 @@ pub fn calls_order_one_object()
 pub fn accesses_reach_their_bytes()
     ensures effect { FarEffectLaw }
     ensures back { ReadBackLaw }
+{}
+
+/// A call that nothing refuses does what it is for, and a far access to bytes that are there is answered. The laws above say what stays, and
+/// would hold of calls that do nothing.
+pub fn calls_do_what_they_are_for()
+    ensures locks { LockLaw }
+    ensures unlocks { UnlockLaw }
+    ensures frees { FreeLaw }
+    ensures kinds { ModifyLaw }
+    ensures discards { DiscardLaw }
+    ensures accesses { AnsweredLaw }
 {}

@@ -60,7 +60,7 @@ pub struct Attributes {
 
 /// How a request may make room (the flags of GlobalAlloc and GlobalReAlloc).
 #[derive(Clone, Copy, Debug, PartialEq, Eq)]
-pub struct Way {
+pub struct RoomOptions {
     /// Others may be moved or discarded (no `GMEM_NOCOMPACT`).
     pub compact: bool,
     /// Others may be discarded (no `GMEM_NODISCARD`).
@@ -152,8 +152,11 @@ pub const GMEM_DDESHARE: u16 = 0x2000;
 /// `GlobalFlags`: the object has no bytes.
 pub const GMEM_DISCARDED: u16 = 0x4000;
 
+mod flags;
+mod kinds;
 pub mod laws;
 pub mod names;
 mod plain;
 
+pub use flags::{bit_if, has_flag};
 pub use plain::Snapshot;

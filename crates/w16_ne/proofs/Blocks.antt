@@ -6,7 +6,7 @@ use Rattle.w16_ne.specs.declared.fault.NeFault.{NeFault}
 use Rattle.w16_ne.specs.declared.fault.NeFault.TheVariants as faults
 use Rattle.w16_ne.specs.declared.resource_blocks.Block.{Block}
 use Rattle.w16_ne.specs.Reading.{Reading, reaches, length_at, word_of}
-use Rattle.w16_ne.specs.Resources.{block_at, blocks_from}
+use Rattle.w16_ne.specs.Resources.{block_at, blocks_from, blocks_at}
 use Rattle.w16_ne.proofs.Each.{with_front, regroup}
 use Rattle.w16_ne.proofs.Until.{reads_ok, goes_past}
 
@@ -33,6 +33,20 @@ is_done file front count i at total lt h so_far =
     let k : count - i ≡ suc (count - (i + 1)) = omega arith in
     let one : with_front front (blocks_from file (count - i) at) ≡ Ok front = rw (k, h) (ap (λ ys. Ok ys) (append-nil front)) in
     sym so_far ∙ one
+
+pub err_now : (file : Option (List ℕ)) (count i at : ℕ) (e : NeFault) → i < count → block_at file at ≡ Err e → blocks_from file (count - i) at ≡ Err e
+err_now file count i at e lt h = let k : count - i ≡ suc (count - (i + 1)) = omega arith in rw (k, h) refl
+
+pub err_later : (file : Option (List ℕ)) (count i at : ℕ) (b : Block) (e : NeFault) → i < count → block_at file at ≡ Ok (Some b)
+    → blocks_from file (count - (i + 1)) (end_of b) ≡ Err e → blocks_from file (count - i) at ≡ Err e
+err_later file count i at b e lt h later = let k : count - i ≡ suc (count - (i + 1)) = omega arith in rw (k, h, later) refl
+
+pub err_over : (file : Option (List ℕ)) (count i at : ℕ) → count ≤ i → blocks_from file (count - i) at ≡ Err faults.Truncated
+err_over file count i at le = let k : count - i ≡ 0 = omega arith in rw k refl
+
+pub blocks_are : (file : Option (List ℕ)) (len at : ℕ) → length_at file ≡ Ok len → blocks_at file at ≡ blocks_from file len at
+unfolding blocks_at
+blocks_are file len at h = rw h refl
 
 pub past_the_end : (file : Option (List ℕ)) (len at : ℕ) → length_at file ≡ Ok len → len ≤ at → block_at file at ≡ Err faults.Truncated
 unfolding block_at

@@ -5,9 +5,12 @@ pub mod Bounds
 pub mod Bundles
 pub mod Listed
 pub mod Blocks
-pub mod Distinct
 pub mod Places
-pub mod Lookups
+pub mod Pieces
+pub mod Filled
+pub mod Tables
+pub mod Texts
+pub mod Ordered
 pub mod NamesFormat
 pub mod SegmentsFormat
 pub mod EntriesFormat

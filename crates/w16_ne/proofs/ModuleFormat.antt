@@ -137,7 +137,7 @@ module _ (file : List ℕ) (t : Tables) where
         nonresident_part = nonresidents.0;
         nonresident_are = nonresidents.1;
         resources = resources_are file header.0 ne.0 resources.0 resources.1.0;
-        named = record { some = residents.1; name = refl; description = refl; names = refl };
+        named = record { some = residents.1; name = refl; description = refl; names = refl; many = refl };
       })
 
   module_read : IsModule file t → tables_at (Some file) ≡ Ok t
@@ -152,7 +152,7 @@ module _ (file : List ℕ) (t : Tables) where
       let entries = entries_read file t.header t.place t.entries is.entries_part is.entries in
       let nonresident = nonresident_read file t.header is.nonresident is.nonresident_part is.nonresident_are in
       let resources = resources_read file t.header t.place t.resources is.resources in
-      rw (ne, header, fields, segments, resident, references, entries, nonresident, resources, ← is.named.name, ← is.named.description, ← is.named.names) refl
+      rw (ne, header, fields, segments, resident, references, entries, nonresident, resources, ← is.named.name, ← is.named.description, ← is.named.names, ← is.named.many) refl
 
 pub module_format : ModuleFormatLaw
 module_format file t = (module_is file t, module_read file t)

@@ -6,7 +6,7 @@ use Rattle.w16_ne.specs.declared.resource_blocks.Block.{Block}
 use Rattle.w16_ne.specs.Reading.{Reading, ◌>>=◌, bytes_or, reaches, word_of, each}
 use Rattle.w16_ne.specs.Header.{resource_table, resident_names}
 use Rattle.w16_ne.specs.References.{text_at}
-use Rattle.w16_ne.specs.Resources.{Label, Number, Text, Entry, Typed, block_at, blocks_from, blocks_at, label_at, resource_at, resources_of, typed_at, all_typed, is_placed, are_placed, are_all_placed, resource_count, typed_in, resources_at}
+use Rattle.w16_ne.specs.Resources.{Label, Number, Text, Entry, Typed, block_at, blocks_from, blocks_at, label_at, resource_at, resources_of, typed_at, all_typed, is_placed, are_placed, are_all_placed, resource_count, filled, typed_in, resources_at}
 use Rattle.w16_ne.specs.ResourcesFormat.{IsLabel, IsResource, AreResources, IsBlock, AreBlocks, IsResourceTable, HasResources}
 use Rattle.w16_ne.proofs.Until.{reads_ok, goes_past}
 use Rattle.w16_ne.proofs.NamesFormat.{cut_word, ends_here, goes_on_past}
@@ -276,27 +276,30 @@ module _ (file : List ℕ) (at : ℕ) (types : List Typed) where
       let fits = passed (ltb 15 shift) faults.BadTable _ types blocks.1.1 in
       let typed = bind_ok (all_typed (Some file) at shift blocks.0) _ types fits.1 in
       let few = passed (ltb 65535 (resource_count typed.0)) faults.Unsupported _ types typed.1.1 in
-      let placed = bind_ok (are_all_placed (Some file) (2 ^ shift) typed.0) (λ _. Ok typed.0) types few.1 in
-      let same : typed.0 ≡ types = cc (placed.1.1) in
+      let placed = bind_ok (are_all_placed (Some file) (2 ^ shift) typed.0) (λ _. Ok (filled typed.0)) types few.1 in
+      let same : filled typed.0 ≡ types = cc (placed.1.1) in
       let all = blocks_are file at shift (length file) (at + 2) blocks.0 typed.0 blocks.1.0 typed.1.0 placed.1.0 in
       let said = word_here file at in
-      subst (λ ts. IsResourceTable file at ts) same (record {
+      record {
         shift = rw (← said) (grind (arith, nat_tests, fits.0));
+        blocks = typed.0;
         are = subst (λ s. AreBlocks file at s (at + 2) typed.0) said all;
         few = grind (arith, nat_tests, few.0);
-      })
+        filled = sym same;
+      }
 
   table_read : IsResourceTable file at types → read_table ≡ Ok types
   unfolding blocks_at typed_in
   table_read is =
       let shift = word_of file at in
-      let inside = few_blocks file at shift types (at + 2) is.are in
+      let all = is.blocks in
+      let inside = few_blocks file at shift all (at + 2) is.are in
       let first : ltb (length file) (at + 2) ≡ false = grind (arith, nat_tests) in
-      let blocks = blocks_read file at shift types (length file) (at + 2) (omega arith) is.are in
-      let typed = types_read file at shift types (at + 2) is.are in
+      let blocks = blocks_read file at shift all (length file) (at + 2) (omega arith) is.are in
+      let typed = types_read file at shift all (at + 2) is.are in
       let fits : ltb 15 shift ≡ false = grind (arith, nat_tests, is.shift) in
-      let few : ltb 65535 (resource_count types) ≡ false = grind (arith, nat_tests, is.few) in
-      rw (first, word_here file at, blocks, fits, typed.0, few, typed.1) refl
+      let few : ltb 65535 (resource_count all) ≡ false = grind (arith, nat_tests, is.few) in
+      rw (first, word_here file at, blocks, fits, typed.0, few, typed.1, ← is.filled) refl
 
 module _ (file header : List ℕ) (ne : ℕ) (types : List Typed) where
   are_cases : (b : Bool) → eqb (resource_table header) (resident_names header) ≡ b → cond b (Ok []) (read_table file (ne + resource_table header) types) ≡ Ok types → HasResources file ne header types

@@ -1,14 +1,15 @@
 -- Reading names until there is none, as a loop does.
-use Rattle.std.proofs.Common.{◌≡◌, ℕ, suc, ◌-◌, ◌+◌, ◌≤◌, ◌<◌, List, Option, Some, None, [], ◌∷◌, ◌++◌, Result, Ok, Err, refl, sym, ap, ◌∙◌, arith}
+use Rattle.std.proofs.Common.{◌≡◌, ℕ, zero, suc, ◌-◌, ◌+◌, ◌≤◌, ◌<◌, List, Option, Some, None, [], ◌∷◌, ◌++◌, Result, Ok, Err, refl, sym, ap, ◌∙◌, arith}
 use Rattle.std.proofs.lemmas.List.{append-nil, length-take}
 use Rattle.w16_store.specs.declared.store.StoreFault.TheVariants as stores
 use Rattle.w16_ne.specs.declared.fault.NeFault.{NeFault}
 use Rattle.w16_ne.specs.declared.fault.NeFault.TheVariants as faults
-use Rattle.w16_ne.specs.Reading.{Reading, ◌>>=◌, Refuses, Refused, length_at, word_of}
-use Rattle.w16_ne.specs.Names.{Entry, size, name_at, names_from}
+use Rattle.w16_ne.specs.declared.name_piece.Found.{Found}
+use Rattle.w16_ne.specs.Reading.{Reading, ◌>>=◌, Gives, Refuses, Refused, length_at, word_of}
+use Rattle.w16_ne.specs.Names.{Entry, found_in, size, name_at, names_at, names_from}
 use Rattle.w16_ne.proofs.Each.{with_front, regroup}
 use Rattle.std.proofs.lemmas.Bool.Decides.{nat_tests}
-use Rattle.std.proofs.Common.{ltb, eqb, Bool, true, false, cond, length, take, drop, get_or}
+use Rattle.std.proofs.Common.{ltb, eqb, Bool, true, false, cond, length, length-drop, take, drop, get_or}
 
 -- what failed is told further: a fault of the file as it was, one of the store over a longer time
 pub fails_on : {A B : Type 0} (file : Option (List ℕ)) (old before after : ℕ) (e : NeFault) (read : Result A NeFault) (total : Result B NeFault) → old ≤ before → Refuses file before after e read → (read ≡ Err e → total ≡ Err e) → Refuses file old after e total
@@ -22,6 +23,10 @@ fails_on file old before after (faults.Target t) read total le h on = on h
 fails_on file old before after faults.Unsupported read total le h on = on h
 fails_on file old before after faults.Truncated read total le h on = on h
 fails_on file old before after faults.BadTable read total le h on = on h
+
+pub gives_on : {X Y : Type 0} (view : X → Y) (file : Option (List ℕ)) (old before after : ℕ) (r : Result X NeFault) (read total : Reading Y) → old ≤ before → read ≡ total → Gives view file before after r read → Gives view file old after r total
+gives_on view file old before after (Ok x) read total le same h = sym same ∙ h
+gives_on view file old before after (Err e) read total le same h = fails_on file old before after e read total le h (λ q. sym same ∙ q)
 
 -- the same of a function over bytes that were read
 pub told_on : {A B : Type 0} (e : NeFault) (read : Reading A) (total : Reading B) → Refused e read → (read ≡ Err e → total ≡ Err e) → Refused e total
@@ -62,6 +67,18 @@ is_over file front count i at total le so_far =
     let one : with_front front (names_from file (count - i) at) ≡ Err faults.Truncated = rw k refl in
     sym so_far ∙ one
 
+-- a fault ends the reading, now or later
+
+pub err_now : (file : Option (List ℕ)) (count i at : ℕ) (e : NeFault) → i < count → name_at file at ≡ Err e → names_from file (count - i) at ≡ Err e
+err_now file count i at e lt h = let k : count - i ≡ suc (count - (i + 1)) = omega arith in rw (k, h) refl
+
+pub err_later : (file : Option (List ℕ)) (count i at : ℕ) (x : Entry) (e : NeFault) → i < count → name_at file at ≡ Ok (Some x)
+    → names_from file (count - (i + 1)) (at + size x) ≡ Err e → names_from file (count - i) at ≡ Err e
+err_later file count i at x e lt h later = let k : count - i ≡ suc (count - (i + 1)) = omega arith in rw (k, h, later) refl
+
+pub err_over : (file : Option (List ℕ)) (count i at : ℕ) → count ≤ i → names_from file (count - i) at ≡ Err faults.Truncated
+err_over file count i at le = let k : count - i ≡ 0 = omega arith in rw k refl
+
 -- no entry is at or behind the end, and one that is there ends before it
 pub past_the_end : (file : Option (List ℕ)) (len at : ℕ) → length_at file ≡ Ok len → len ≤ at → name_at file at ≡ Err faults.Truncated
 unfolding name_at
@@ -70,6 +87,17 @@ past_the_end (Some file) len at h le =
     let e : length file ≡ len = cc in
     let short : ltb (length file) (at + 1) ≡ true = grind (arith, nat_tests) in
     rw short refl
+
+pub none_behind : (file : Option (List ℕ)) (len at : ℕ) → length_at file ≡ Ok len → len ≤ at → names_from file len at ≡ Err faults.Truncated
+none_behind file zero at h le = refl
+none_behind file (suc n) at h le = rw (past_the_end file (suc n) at h le) refl
+
+pub names_are : (file : Option (List ℕ)) (len at : ℕ) → length_at file ≡ Ok len → names_at file at ≡ names_from file len at
+unfolding names_at
+names_are file len at h = rw h refl
+
+pub found_long : (bytes : List ℕ) (f : Found) → f.start + f.len ≤ length bytes → size (found_in bytes f) ≡ f.len + 3
+found_long bytes f le = omega (arith, le, length-take f.len (drop f.start bytes), length-drop f.start bytes)
 
 pub reads_ok : {A B : Type 0} (b : Bool) (fault : NeFault) (x : A) (f : A → Reading B) (y : B) → (cond b (Err fault) (Ok x) >>= f) ≡ Ok y → (b ≡ false) × (f x ≡ Ok y)
 reads_ok true fault x f y h = cc

@@ -1,12 +1,12 @@
 -- What the definitions of the format come to.
-use Rattle.std.specs.Prelude.{◌≡◌, ◌↔◌, ◌⊎◌, ℕ, ◌+◌, ◌++◌, List, Option, Some, Ok, Err}
+use Rattle.std.specs.Prelude.{◌≡◌, ◌↔◌, ◌⊎◌, ℕ, ◌+◌, ◌++◌, List, map, Option, Some, Ok, Err}
 use Rattle.w16_ne.specs.declared.entry_table.Entry as entries
 use Rattle.w16_ne.specs.declared.fault.NeFault.{NeFault}
 use Rattle.w16_ne.specs.declared.fault.NeFault.TheVariants as faults
 use Rattle.w16_ne.specs.declared.segment_table.Segment.{Segment}
 use Rattle.w16_ne.specs.Header.{segment_table, segment_count, shift_of}
 use Rattle.w16_ne.specs.Segments.{segments_at}
-use Rattle.w16_ne.specs.Names.{Entry, distinct, ordinal_in, ordinal_of, names_at}
+use Rattle.w16_ne.specs.Names.{Entry, upper, ordinal_in, names_at}
 use Rattle.w16_ne.specs.Modules.{Tables, tables_at}
 use Rattle.w16_ne.specs.Entries.{entries_in}
 use Rattle.w16_ne.specs.NamesFormat.{AreNames}
@@ -14,9 +14,9 @@ use Rattle.w16_ne.specs.SegmentsFormat.{IsSegmentTable}
 use Rattle.w16_ne.specs.EntriesFormat.{IsEntryTable}
 use Rattle.w16_ne.specs.ModuleFormat.{IsModule}
 
--- a name that is found among the distinct ones has the ordinal that the tables give it: the first equal name's
+-- a name that is found among upper-cased ones has the ordinal that the tables give it: the first equal name's
 abbrev pub NamesLaw : Type 0
-NamesLaw = (names : List Entry) (name : List ℕ) → ordinal_of (distinct names) name ≡ ordinal_in names name
+NamesLaw = (names : List Entry) (name : List ℕ) → ordinal_in (map upper names) name ≡ ordinal_in names name
 
 -- a table of names is read exactly where its bytes are names and a 0
 abbrev pub NamesFormatLaw : Type 0

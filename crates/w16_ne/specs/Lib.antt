@@ -2,6 +2,7 @@ pub mod Reading
 pub mod Header
 pub mod Segments
 pub mod Names
+pub mod Listing
 pub mod References
 pub mod Entries
 pub mod Resources

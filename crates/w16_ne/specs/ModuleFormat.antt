@@ -1,8 +1,8 @@
 -- A module's file as a whole, in which nothing is read: where each table lies that the module has.
-use Rattle.std.specs.Prelude.{◌≡◌, ◌<◌, ◌≤◌, ℕ, ◌+◌, ◌++◌, List, drop, length, take}
+use Rattle.std.specs.Prelude.{◌≡◌, ◌<◌, ◌≤◌, ℕ, ◌+◌, ◌++◌, List, drop, length, map, take}
 use Rattle.w16_ne.specs.Header.{shift_of, entry_table, entry_length, segment_count, segment_table, resident_names, reference_count, reference_table, imported_names, nonresident_length, nonresident_names}
-use Rattle.w16_ne.specs.Names.{Entry, distinct}
-use Rattle.w16_ne.specs.Modules.{Tables, first_text}
+use Rattle.w16_ne.specs.Names.{Entry, upper, first_text}
+use Rattle.w16_ne.specs.Modules.{Tables}
 use Rattle.w16_ne.specs.HeaderFormat.{IsOldHeader, IsHeader, IsAccepted}
 use Rattle.w16_ne.specs.NamesFormat.{AreNames, AreListed}
 use Rattle.w16_ne.specs.SegmentsFormat.{IsSegmentTable}
@@ -18,12 +18,13 @@ abbrev pub IsPart : List ℕ → ℕ → ℕ → Type 0
 IsPart file at len = 0 < len → at + len ≤ length file
 
 -- The first resident name is the module's, and there is one; the first nonresident name is its description. The others are names of entries,
--- of which the first of equal ones counts.
+-- resident ones first.
 pub record AreNamed (t : Tables) (resident nonresident : List Entry) : Type 0 where
   pub some : 0 < length resident
   pub name : t.name ≡ first_text resident
   pub description : t.description ≡ first_text nonresident
-  pub names : t.names ≡ distinct (drop 1 resident ++ drop 1 nonresident)
+  pub names : t.names ≡ map upper (drop 1 resident ++ drop 1 nonresident)
+  pub many : t.resident ≡ length (drop 1 resident)
 
 -- These are the tables of the file: it has such headers, and each table lies where the header says.
 pub record IsModule (file : List ℕ) (t : Tables) : Type 0 where

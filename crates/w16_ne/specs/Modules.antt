@@ -1,5 +1,5 @@
 -- A module file as a whole: its tables, or its first fault.
-use Rattle.std.specs.Prelude.{ℕ, zero, suc, ◌+◌, ◌++◌, List, [], ◌∷◌, drop, Option, None, Ok, map, slice_get, slice_index_or}
+use Rattle.std.specs.Prelude.{ℕ, zero, suc, ◌+◌, ◌++◌, List, drop, length, Option, None, Ok, map, slice_get, slice_index_or}
 use Rattle.std.specs.List.{flat_map}
 use Rattle.w16_ne.specs.declared.entry_table.Entry.{Entry}
 use Rattle.w16_ne.specs.declared.segment_table.Segment.{Segment}
@@ -7,7 +7,7 @@ use Rattle.w16_ne.specs.Reading.{Reading, ◌>>=◌}
 use Rattle.w16_ne.specs.Header.{place_at, header_at, fields_of, imported_names}
 use Rattle.w16_ne.specs.Segments.{segments_at}
 use Rattle.w16_ne.specs.Names as names
-use Rattle.w16_ne.specs.Names.{distinct, resident_at, nonresident_at}
+use Rattle.w16_ne.specs.Names.{upper, first_text, resident_at, nonresident_at}
 use Rattle.w16_ne.specs.References.{references_at}
 use Rattle.w16_ne.specs.Entries.{table_at}
 use Rattle.w16_ne.specs.Resources as resources
@@ -20,18 +20,14 @@ pub record Tables : Type 0 where
   pub header : List ℕ
   pub name : List ℕ
   pub description : List ℕ
-  -- the names of entries, upper-cased, with their ordinals
+  -- the names of entries, upper-cased, with their ordinals, and how many of them are resident: those that stand first
   pub names : List names.Entry
+  pub resident : ℕ
   pub segments : List Segment
   pub references : List (List ℕ)
   -- the first has ordinal 1
   pub entries : List (Option Entry)
   pub resources : List Typed
-
--- the text of a table's first name; empty where it has none
-abbrev pub first_text : List names.Entry → List ℕ
-first_text [] = []
-first_text (e ∷ es) = e.0
 
 -- The first resident name is the module's, and the first nonresident one its description. The others are names of entries, resident ones first.
 abbrev pub tables_of : ℕ → List ℕ → List Segment → List names.Entry → List (List ℕ) → List (Option Entry) → List names.Entry → List Typed → Tables
@@ -40,7 +36,8 @@ tables_of place header segments resident references entries nonresident resource
   header = header;
   name = first_text resident;
   description = first_text nonresident;
-  names = distinct (drop 1 resident ++ drop 1 nonresident);
+  names = map upper (drop 1 resident ++ drop 1 nonresident);
+  resident = length (drop 1 resident);
   segments = segments;
   references = references;
   entries = entries;

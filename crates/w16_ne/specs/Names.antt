@@ -1,20 +1,23 @@
 -- Tables of names: an entry is a length byte, the text and an ordinal word; a length of 0 ends the table (volume 4).
-use Rattle.std.specs.Prelude.{ℕ, zero, suc, ◌+◌, List, [], ◌∷◌, length, take, drop, map, Option, Some, None, Ok, Err, ◌==◌, nat_lt, nat_le, ◌||◌, if◌then◌else◌, slice_index, option_map, unwrap_or, Vec, ◌++◌, fold}
+use Rattle.std.specs.Prelude.{◌≡◌, ℕ, zero, suc, ◌+◌, ◌<◌, List, [], ◌∷◌, length, take, drop, Option, Some, None, Ok, Err, ◌==◌, nat_lt, nat_le, nat_eq, ◌||◌, Bool, true, All, if◌then◌else◌, slice_index, slice_index_or, option_map, unwrap_or}
 use Rattle.std.specs.List.{find, list_any}
-use Rattle.std.specs.Map.{lookup}
-use Rattle.std.specs.Str.{bytes_eq, str_to_ascii_uppercase}
+use Rattle.std.specs.List.Sorted.{IsSortedBy}
+use Rattle.std.specs.Ordering.{nat_cmp, is_lt, ordering_then}
+use Rattle.std.specs.Cmp.Lexicographic.{slice_cmp}
+use Rattle.std.specs.declared.cmp.Ordering.{Ordering}
+use Rattle.std.specs.Str.{str_to_ascii_uppercase}
 use Rattle.w16_store.specs.Names.{is_named}
-use Rattle.w16_ne.specs.declared.fault.NeFault.TheVariants.{Truncated, BadTable}
-use Rattle.w16_ne.specs.declared.name.Name.{Name}
+use Rattle.w16_store.specs.declared.store.StoreFault.TheVariants.{Missing}
+use Rattle.w16_ne.specs.declared.name_piece.TheConstants.{PIECE}
+use Rattle.w16_ne.specs.declared.fault.NeFault.TheVariants.{Truncated, BadTable, Store}
+use Rattle.w16_ne.specs.declared.name_piece.Found.{Found}
+use Rattle.w16_ne.specs.declared.names.Place.{Place}
 use Rattle.w16_ne.specs.Reading.{Reading, ◌>>=◌, bytes_or, length_at, word_of}
 use Rattle.w16_ne.specs.Header.{resident_names, nonresident_names, nonresident_length}
 
 -- a text and its ordinal
 abbrev pub Entry : Type 0
 Entry = List ℕ × ℕ
-
-abbrev pub entry : Name → Entry
-entry n = (n.text.items, n.ordinal)
 
 -- how many bytes it takes
 abbrev pub size : Entry → ℕ
@@ -36,6 +39,15 @@ names_from file zero at = Err Truncated
 names_from file (suc n) at = do
   found ← name_at file at
   elim found [ None ↦ Ok [] | Some e ↦ names_from file n (at + size e) >>= λ others. Ok (e ∷ others) ]
+
+-- a piece of the file: its bytes from an offset on, up to its end or to 1,024 of them
+abbrev pub piece_at : Option (List ℕ) → ℕ → Reading (List ℕ)
+piece_at None at = Err (Store Missing)
+piece_at (Some file) at = Ok (take PIECE (drop at file))
+
+-- the entry that was found in such bytes
+abbrev pub found_in : List ℕ → Found → Entry
+found_in bytes f = (take f.len (drop f.start bytes), f.ordinal)
 
 unfoldable pub names_at : Option (List ℕ) → ℕ → Reading (List Entry)
 names_at file at = do
@@ -74,19 +86,35 @@ nonresident_at file header = if nonresident_length header == 0 then Ok [] else d
 abbrev pub ordinal_in : List Entry → List ℕ → ℕ
 ordinal_in names name = unwrap_or (option_map (λ e. e.1) (find (λ e. is_named e.0 name) names)) 0
 
--- The names that can be found, upper-cased, in the order of the tables: each that is equal to none before it.
-abbrev pub with_name : List Entry → Entry → List Entry
-with_name names e =
-    let upper = str_to_ascii_uppercase e.0 in
-    if list_any (λ n. bytes_eq upper n.0) names then names else names ++ (upper, e.1) ∷ []
+-- a name as a module keeps it, upper-cased
+abbrev pub upper : Entry → Entry
+upper e = (str_to_ascii_uppercase e.0, e.1)
 
-abbrev pub distinct : List Entry → List Entry
-distinct names = fold with_name [] names
+abbrev pub IsUpper : Entry → Type 0
+IsUpper e = str_to_ascii_uppercase e.0 ≡ e.0
 
--- the ordinal of a name among such
-abbrev pub ordinal_of : List Entry → List ℕ → ℕ
-ordinal_of names name = unwrap_or (lookup (bytes_eq (str_to_ascii_uppercase name)) names) 0
+-- the text of a table's first name; empty where it has none
+abbrev pub first_text : List Entry → List ℕ
+first_text [] = []
+first_text (e ∷ es) = e.0
 
--- such names as a map has them
-abbrev pub listed : {Z : Type 0} → List (Vec ℕ Z × ℕ) → List Entry
-listed entries = map (λ e. (e.0.items, e.1)) entries
+-- the name at a place among texts
+abbrev pub at_place : List ℕ → Place → Entry
+at_place texts p = (take p.len (drop p.start texts), p.ordinal)
+
+-- the text of a name by its number; none where there are fewer
+abbrev pub text_of : List Entry → ℕ → List ℕ
+text_of names i = (slice_index_or names i ([], 0)).0
+
+-- Names are ordered by their texts, and those of equal texts as they stand.
+abbrev pub compared : List Entry → ℕ → ℕ → Ordering
+compared names i j = ordering_then (slice_cmp nat_cmp (text_of names i) (text_of names j)) (nat_cmp i j)
+
+abbrev pub comes_before : List Entry → ℕ → ℕ → Bool
+comes_before names i j = is_lt (compared names i j)
+
+-- the numbers of all names, in this order
+pub record IsOrder (names : List Entry) (order : List ℕ) : Type 0 where
+  pub inside : All (λ i. i < length names) order
+  pub whole : (i : ℕ) → i < length names → list_any (nat_eq i) order ≡ true
+  pub ascending : IsSortedBy (comes_before names) order

@@ -36,6 +36,17 @@ abbrev pub Gives : {X Y : Type 0} → (X → Y) → Option (List ℕ) → ℕ �
 Gives view file before after (Ok x) read = read ≡ Ok (view x)
 Gives view file before after (Err e) read = Refuses file before after e read
 
+-- A fault that says nothing of the file: there was no memory, or the device failed.
+abbrev pub IsFailure : ℕ → ℕ → NeFault → Type 0
+IsFailure before after faults.OutOfMemory = Unit {0}
+IsFailure before after (faults.Store stores.Device) = before < after
+IsFailure before after other = ⊥
+
+-- the same, where what a function answered and what is read are related
+abbrev pub GivesSuch : {X Y : Type 0} → (X → Y → Type 0) → Option (List ℕ) → ℕ → ℕ → Result X NeFault → Reading Y → Type 0
+GivesSuch {X} {Y} IsSuch file before after (Ok x) read = (y : Y) × (read ≡ Ok y) × IsSuch x y
+GivesSuch IsSuch file before after (Err e) read = Refuses file before after e read
+
 -- the same of a function over bytes that were read: it may want memory
 abbrev pub Refused : {Y : Type 0} → NeFault → Reading Y → Type 0
 Refused faults.OutOfMemory read = Unit {0}
@@ -45,6 +56,10 @@ Refused e read = read ≡ Err e
 abbrev pub Tells : {X Y : Type 0} → (X → Y) → Result X NeFault → Reading Y → Type 0
 Tells view (Ok x) read = read ≡ Ok (view x)
 Tells view (Err e) read = Refused e read
+
+abbrev pub TellsSuch : {X Y : Type 0} → (X → Y → Type 0) → Result X NeFault → Reading Y → Type 0
+TellsSuch {X} {Y} IsSuch (Ok x) read = (y : Y) × (read ≡ Ok y) × IsSuch x y
+TellsSuch IsSuch (Err e) read = Refused e read
 
 -- n bytes at an offset, or this fault where the file ends before
 abbrev pub bytes_or : NeFault → Option (List ℕ) → ℕ → ℕ → Reading (List ℕ)

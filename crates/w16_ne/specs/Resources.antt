@@ -2,7 +2,7 @@
 -- offset, length, flags, id and two reserved words; a type of 0 ends it (volume 4).
 use Rattle.std.specs.Prelude.{ℕ, zero, suc, ◌+◌, ◌-◌, ◌*◌, ◌^◌, List, [], ◌∷◌, map, length, Option, Some, None, Ok, Err, ◌==◌, nat_lt, if◌then◌else◌}
 use Rattle.w16_ne.specs.declared.fault.NeFault.TheVariants.{Truncated, BadTable, Unsupported}
-use Rattle.std.specs.List.{sum_by}
+use Rattle.std.specs.List.{sum_by, filter}
 use Rattle.w16_ne.specs.declared.resource_entries.Resource.{Resource}
 use Rattle.w16_ne.specs.declared.resource_entries.ResourceName.{ResourceName}
 use Rattle.w16_ne.specs.declared.resource_entries.ResourceType.{ResourceType}
@@ -103,15 +103,19 @@ are_all_placed file unit (t ∷ ts) = are_placed file unit t.1 >>= λ _. are_all
 abbrev pub resource_count : List Typed → ℕ
 resource_count types = sum_by (λ t. length t.1) types
 
+-- Blocks without resources say nothing.
+abbrev pub filled : List Typed → List Typed
+filled types = filter (λ t. nat_lt 0 (length t.1)) types
+
 -- The faults come kind by kind, over the whole table: what is missing of it, its shift, its texts, the number of resources, their bytes.
 unfoldable pub typed_in : Option (List ℕ) → ℕ → ℕ → List Block → Reading (List Typed)
 typed_in file table shift blocks = if nat_lt 15 shift then Err BadTable else do
   types ← all_typed file table shift blocks
   if nat_lt 65535 (resource_count types) then Err Unsupported else do
     _ ← are_all_placed file (2 ^ shift) types
-    Ok types
+    Ok (filled types)
 
--- the resources by type; there is no table where its offset is that of the resident names
+-- the types that have resources, with these; there is no table where its offset is that of the resident names
 unfoldable pub resources_at : Option (List ℕ) → ℕ → List ℕ → Reading (List Typed)
 resources_at file ne header = if resource_table header == resident_names header then Ok [] else do
   shift ← bytes_or Truncated file (ne + resource_table header) 2

@@ -2,7 +2,7 @@
 use Rattle.std.specs.Prelude.{◌≡◌, ◌≢◌, ◌<◌, ◌≤◌, ℕ, ◌+◌, ◌*◌, ◌^◌, ◌⊎◌, List, [], ◌∷◌, length}
 use Rattle.w16_ne.specs.Reading.{word_of}
 use Rattle.w16_ne.specs.Header.{resource_table, resident_names}
-use Rattle.w16_ne.specs.Resources.{Label, Number, Text, Entry, Typed, resource_count}
+use Rattle.w16_ne.specs.Resources.{Label, Number, Text, Entry, Typed, resource_count, filled}
 use Rattle.w16_ne.specs.ReferencesFormat.{IsText}
 
 -- what a type word or an id word says: with bit 15 a number, and without it the offset of a text from the table's start
@@ -38,11 +38,14 @@ abbrev pub AreBlocks : List ℕ → ℕ → ℕ → ℕ → List Typed → Type 
 AreBlocks file table shift at [] = (at + 2 ≤ length file) × (word_of file at ≡ 0)
 AreBlocks file table shift at (t ∷ ts) = IsBlock file table shift at t × AreBlocks file table shift (at + 8 + 12 * length t.1) ts
 
--- a table at an offset: the shift of its units, and blocks; there are few enough resources for a word
+-- A table at an offset: the shift of its units, and blocks, of which those without resources say nothing. There are few enough resources for a
+-- word.
 pub record IsResourceTable (file : List ℕ) (at : ℕ) (types : List Typed) : Type 0 where
   pub shift : word_of file at ≤ 15
-  pub are : AreBlocks file at (word_of file at) (at + 2) types
-  pub few : resource_count types ≤ 65535
+  pub blocks : List Typed
+  pub are : AreBlocks file at (word_of file at) (at + 2) blocks
+  pub few : resource_count blocks ≤ 65535
+  pub filled : types ≡ filled blocks
 
 -- a module has no table where its offset is that of the resident names
 abbrev pub HasResources : List ℕ → ℕ → List ℕ → List Typed → Type 0

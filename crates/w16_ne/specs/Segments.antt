@@ -1,7 +1,8 @@
 -- The segment table: for each segment a sector, the length in the file, flags, and the minimum allocation (volume 4).
-use Rattle.std.specs.Prelude.{ℕ, ◌+◌, ◌*◌, ◌/◌, ◌^◌, max, List, [], Option, Ok, Err, ◌==◌, not, if◌then◌else◌, bit_and}
+use Rattle.std.specs.Prelude.{◌≡◌, ◌≤◌, ℕ, ◌%◌, ◌+◌, ◌*◌, ◌/◌, ◌^◌, max, List, [], Option, Ok, Err, ◌==◌, not, if◌then◌else◌, bit_and}
 use Rattle.w16_ne.specs.declared.fault.NeFault.TheVariants.{Unsupported, Truncated}
 use Rattle.w16_ne.specs.declared.segment_table.Segment.{Segment}
+use Rattle.w16_ne.specs.declared.segment_table.TheConstants.{LARGEST_SEGMENT, SEGMENT_UNIT}
 use Rattle.w16_ne.specs.Reading.{Reading, ◌>>=◌, bytes_or, reaches, word_of, each}
 use Rattle.w16_ne.specs.Header.{shift_of, segment_count, segment_table}
 
@@ -12,6 +13,13 @@ or_64k n = if n == 0 then 65536 else n
 -- the next multiple of 32
 abbrev pub rounded : ℕ → ℕ
 rounded n = (n + 31) / 32 * 32
+
+-- A segment has at most 65,536 bytes of data. Its object's size is a multiple of 32, from 32 to 65,536 (profile).
+pub record IsSized (s : Segment) : Type 0 where
+  pub short : s.len ≤ LARGEST_SEGMENT
+  pub some : SEGMENT_UNIT ≤ s.size
+  pub small : s.size ≤ LARGEST_SEGMENT
+  pub whole : s.size % SEGMENT_UNIT ≡ 0
 
 -- how many relocation records stand directly after the data, behind their count: none without flag 0100
 unfoldable pub records_at : Option (List ℕ) → ℕ → ℕ → Reading ℕ

@@ -1,12 +1,14 @@
 //! A module as its file has it.
 ghost use Rattle.std.specs.Prelude.{◌≡◌, ◌<◌, ◌≤◌, ◌-◌, ◌^◌, Some, length, slice_get, option_map};
+ghost use Rattle.std.specs.Str.{str_to_ascii_uppercase};
 ghost use Rattle.w16_ne.specs.Header.{is_library};
-ghost use Rattle.w16_ne.specs.Names.{ordinal_of};
+ghost use Rattle.w16_ne.specs.Names.{ordinal_in};
+ghost use Rattle.w16_ne.specs.Segments.{IsSized};
 ghost use Rattle.w16_ne.specs.Resources.{label_of, entry_of, resource_count};
 ghost use Rattle.w16_ne.specs.Modules.{imported_place, entry_at, resource_at};
 
 use crate::entry_table::Entry;
-use crate::ordinals::{Ordinals, ordinal_of};
+use crate::names::Names;
 use crate::reading::word;
 use crate::resource_entries::{Resource, ResourceName, ResourceType};
 use crate::resource_places::{count, resource_of};
@@ -20,7 +22,11 @@ pub struct Module {
     pub(crate) header: [u8; 64],
     pub(crate) name: Vec<u8>,
     pub(crate) description: Vec<u8>,
-    pub(crate) ordinals: Ordinals,
+    pub(crate) names: Names,
+    /// How many of the names are resident.
+    pub(crate) resident: u32,
+    /// The numbers of the names, ascending by their texts.
+    pub(crate) order: Vec<u32>,
     pub(crate) segments: Vec<Segment>,
     pub(crate) references: Vec<Vec<u8>>,
     pub(crate) entries: Vec<Option<Entry>>,
@@ -29,7 +35,8 @@ pub struct Module {
 
 impl Model for Module {
     ghost use Rattle.std.specs.Prelude.{◌≡◌, ◌≤◌, length, map, All};
-    ghost use Rattle.w16_ne.specs.Names.{listed};
+    ghost use Rattle.w16_ne.specs.Names.{IsOrder};
+    ghost use Rattle.w16_ne.specs.Segments.{IsSized};
     ghost use Rattle.w16_ne.specs.Resources.{typed_of, resource_count};
     ghost use Rattle.w16_ne.specs.Modules.{Tables};
 
@@ -40,19 +47,27 @@ impl Model for Module {
       header = s.header;
       name = s.name.items;
       description = s.description.items;
-      names = listed s.ordinals.entries;
+      names = s.names;
+      resident = s.resident;
       segments = s.segments.items;
       references = map (λ t. t.items) s.references.items;
       entries = s.entries.items;
       resources = map typed_of s.types.items;
     } };
 
-    ghost invariant = { λ s. (length s.header ≡ 64) × All (λ e. length e.0 ≤ 255) (listed s.ordinals.entries)
-        × All (λ t. t.len ≤ 65536) s.segments.items
+    ghost invariant = { λ s. (length s.header ≡ 64) × IsOrder s.names s.order.items
+        × (length s.segments.items ≤ 253) × All IsSized s.segments.items
         × (resource_count (map typed_of s.types.items) ≤ 65535) };
 }
 
 impl Module {
+    /// The offset of the header in the file.
+    pub fn place(&self) -> u32
+        ensures { result ≡ self.now.place }
+    {
+        self.place
+    }
+
     /// The 64 bytes of the header.
     pub fn header(&self) -> &[u8; 64]
         ensures { result.now ≡ self.now.header }
@@ -83,7 +98,8 @@ impl Module {
 
     /// How many segments there are, at most 253.
     pub fn segment_count(&self) -> usize
-        ensures { result ≡ length self.now.segments }
+        ensures count { result ≡ length self.now.segments }
+        ensures few { result ≤ 253 }
     {
         self.segments.len()
     }
@@ -93,7 +109,7 @@ impl Module {
         requires first { 0 < number }
         requires last { number ≤ length self.now.segments }
         ensures found { slice_get self.now.segments (number - 1) ≡ Some result }
-        ensures short { result.len ≤ 65536 }
+        ensures sized { IsSized result }
     {
         self.segments[number - 1]
     }
@@ -117,9 +133,32 @@ impl Module {
 
     /// The ordinal of a name, 0 where it has none. Case doesn't count, and of equal names the first does.
     pub fn ordinal_of(&self, name: &[u8]) -> u16
-        ensures { result ≡ ordinal_of self.now.names name.now }
+        ensures { result ≡ ordinal_in self.now.names name.now }
     {
-        ordinal_of(&self.ordinals, name)
+        self.names.ordinal_of(self.order.as_slice(), name)
+    }
+
+    /// How many names of entries there are.
+    pub fn name_count(&self) -> usize
+        ensures { result ≡ length self.now.names }
+    {
+        self.names.len()
+    }
+
+    /// How many of them are resident: those that come first.
+    pub fn resident_count(&self) -> usize
+        ensures { result ≡ self.now.resident }
+    {
+        self.resident as usize
+    }
+
+    /// A name of an entry by its number from 0, in the order of the tables: its text, upper-cased, and its ordinal.
+    pub fn entry_name(&self, i: usize) -> (&[u8], u16)
+        requires { i < length self.now.names }
+        ensures found { slice_get self.now.names i ≡ Some (result.0.now, result.1) }
+        ensures upper { str_to_ascii_uppercase result.0.now ≡ result.0.now }
+    {
+        self.names.name(i)
     }
 
     /// Where the imported names begin in the file. A reference, and a relocation record that imports by name, has an offset from there.

@@ -1,103 +1,168 @@
-//! Tables of names.
-ghost use Rattle.std.specs.Prelude.{◌≡◌, ℕ, ◌<◌, ◌≤◌, ◌+◌, ◌-◌, ◌^◌, length, take, map, option_map, Ok};
+//! The resident names.
+ghost use Rattle.std.specs.Prelude.{◌≡◌, ℕ, ◌<◌, ◌≤◌, ◌+◌, ◌^◌, List, length, option_map, Ok, [], IfOk, IfSome, IfErr, OnOk};
 ghost use Rattle.w16_store.specs.Files.{file_of};
-ghost use Rattle.w16_ne.specs.Reading.{Gives, length_at, word_of};
-ghost use Rattle.w16_ne.specs.Names.{entry, name_at, names_from, names_at, resident_at};
+ghost use Rattle.w16_ne.specs.Reading.{Gives, GivesSuch, Refuses, length_at};
+ghost use Rattle.w16_ne.specs.Listing.{IsListing};
+ghost use Rattle.w16_ne.specs.Names.{Entry, found_in, name_at, names_from, names_at, piece_at, resident_at};
 
 use crate::fault::NeFault;
-use crate::name::Name;
-use crate::reading::{file_len, read_or, table, word};
+use crate::listing::Listing;
+use crate::name_piece::{Found, Piece, found_at};
+use crate::names::Names;
+use crate::reading::{file_len, part, word};
 use std::alloc::Global;
 use w16_store::Store;
 
-/// The entry whose text and ordinal these bytes are.
-fn name_in(mut text: Vec<u8>) -> Name
-    requires some { 2 < length text.items }
-    requires few { length text.items ≤ 257 }
-    ensures { entry result ≡ (take (length text.items - 2) text.items, word_of text.items (length text.items - 2)) }
-{
-    let len = text.len() - 2;
-    let ordinal = word(text.as_slice(), len);
-    text.truncate(len);
-    Name { text, ordinal }
-}
-
-/// The entry at an offset, or none where the table ends.
-#[tactic(auto, unfolding(crate::specs::Names::name_at))]
+/// The entry at an offset of a file of so many bytes, or none where the table ends. Where it may go past the piece, another is read.
 fn name_of<S: Store>(
-    alloc: Global,
-    store: &mut S,
-    name: &[u8],
-    at: u64,
-) -> Result<Option<Name>, NeFault>
-    requires { at + 1 < 2 ^ 64 }
-    ensures files { S.files store.new ≡ S.files store.old }
-    ensures failures { S.failures store.old ≤ S.failures store.new }
-    ensures exact { S.is_honest → Gives (option_map entry) (file_of (S.files store.old) name.now)
-        (S.failures store.old) (S.failures store.new) result (name_at (file_of (S.files store.old) name.now) at) }
-{
-    let mut len = [0u8; 1];
-    read_or(store, name, at, &mut len, NeFault::Truncated)?;
-    let len = usize::from(len[0]);
-    if len == 0 {
-        return Ok(None);
-    }
-    let text = table(alloc, store, name, at + 1, len + 2, NeFault::Truncated)?;
-    Ok(Some(name_in(text)))
-}
-
-/// The entries from an offset on, in a file of so many bytes.
-fn names_before<S: Store>(
     alloc: Global,
     store: &mut S,
     name: &[u8],
     len: u64,
     at: u64,
-) -> Result<Vec<Name>, NeFault>
+    piece: &mut Piece,
+) -> Result<Option<Found>, NeFault>
+    requires { at < len }
+    ensures files { S.files store.new ≡ S.files store.old }
+    ensures failures { S.failures store.old ≤ S.failures store.new }
+    ensures exact { S.is_honest → length_at (file_of (S.files store.old) name.now) ≡ Ok len
+        → piece_at (file_of (S.files store.old) name.now) piece.old.at ≡ Ok piece.old.bytes.items →
+        Gives (option_map (found_in piece.new.bytes.items)) (file_of (S.files store.old) name.now)
+        (S.failures store.old) (S.failures store.new) result (name_at (file_of (S.files store.old) name.now) at) }
+    ensures kept { S.is_honest → length_at (file_of (S.files store.old) name.now) ≡ Ok len
+        → piece_at (file_of (S.files store.old) name.now) piece.old.at ≡ Ok piece.old.bytes.items →
+        OnOk result (piece_at (file_of (S.files store.old) name.now) piece.new.at ≡ Ok piece.new.bytes.items) }
+    ensures inside { IfOk result (λ found. IfSome found (λ f. f.start + f.len ≤ length piece.new.bytes.items)) }
+{
+    piece.cover(alloc, store, name, len, at)?;
+    found_at(piece.bytes.as_slice(), (at - piece.at) as usize)
+}
+
+/// How many names a table has, and how many bytes their texts have.
+#[derive(Clone, Copy)]
+struct Extent {
+    names: usize,
+    texts: usize,
+}
+
+/// How many names stand from an offset on, in a file of so many bytes.
+fn extent_of<S: Store>(
+    alloc: Global,
+    store: &mut S,
+    name: &[u8],
+    len: u64,
+    at: u64,
+) -> Result<Extent, NeFault>
+    requires { at < len }
     ensures files { S.files store.new ≡ S.files store.old }
     ensures failures { S.failures store.old ≤ S.failures store.new }
     ensures exact { S.is_honest → length_at (file_of (S.files store.old) name.now) ≡ Ok len →
-        Gives (λ v. map entry v.items) (file_of (S.files store.old) name.now)
-        (S.failures store.old) (S.failures store.new) result (names_from (file_of (S.files store.old) name.now) len at) }
+        IfErr result (λ e. Refuses (file_of (S.files store.old) name.now)
+        (S.failures store.old) (S.failures store.new) e (names_from (file_of (S.files store.old) name.now) len at)) }
 {
-    let mut names = Vec::new(alloc);
+    let mut piece = Piece::read(alloc, store, name, len, at)?;
+    let mut names = 0usize;
+    let mut texts = 0usize;
     let mut place = at;
     for _ in 0..len {
         if place >= len {
             return Err(NeFault::Truncated);
         }
-        match name_of(alloc, store, name, place)? {
-            None => return Ok(names),
+        match name_of(alloc, store, name, len, place, &mut piece)? {
+            None => return Ok(Extent { names, texts }),
             Some(found) => {
                 // No entry that is there ends past the largest offset.
-                place = place.saturating_add(found.text.len() as u64 + 3);
-                names.push(found)?;
+                place = place.saturating_add(u64::from(found.len) + 3);
+                names = names.saturating_add(1);
+                texts = texts.saturating_add(usize::from(found.len));
             }
         }
     }
     Err(NeFault::Truncated)
 }
 
+/// Adds the names from an offset on, in a file of so many bytes.
+fn add_names<S: Store>(
+    alloc: Global,
+    store: &mut S,
+    name: &[u8],
+    len: u64,
+    at: u64,
+    listing: &mut Listing,
+) -> Result<(), NeFault>
+    requires { at < len }
+    ensures files { S.files store.new ≡ S.files store.old }
+    ensures failures { S.failures store.old ≤ S.failures store.new }
+    ensures exact { (before : List Entry) → S.is_honest → length_at (file_of (S.files store.old) name.now) ≡ Ok len → IsListing before [] listing.old →
+        GivesSuch (λ _ listed. IsListing before listed listing.new) (file_of (S.files store.old) name.now)
+        (S.failures store.old) (S.failures store.new) result (names_from (file_of (S.files store.old) name.now) len at) }
+{
+    let mut piece = Piece::read(alloc, store, name, len, at)?;
+    let mut place = at;
+    for _ in 0..len {
+        if place >= len {
+            return Err(NeFault::Truncated);
+        }
+        match name_of(alloc, store, name, len, place, &mut piece)? {
+            None => return Ok(()),
+            Some(found) => {
+                // No entry that is there ends past the largest offset.
+                place = place.saturating_add(u64::from(found.len) + 3);
+                let text = part(piece.bytes.as_slice(), found.start, usize::from(found.len));
+                listing.add(text, found.ordinal)?;
+            }
+        }
+    }
+    Err(NeFault::Truncated)
+}
+
+/// The names from an offset on, and room for those of so many more bytes. They are gone over twice: room for all of them is taken once their number
+/// is known.
+#[tactic(auto, unfolding(crate::specs::Names::names_at))]
+fn listing_at<S: Store>(
+    alloc: Global,
+    store: &mut S,
+    name: &[u8],
+    at: u64,
+    others: usize,
+) -> Result<Listing, NeFault>
+    ensures files { S.files store.new ≡ S.files store.old }
+    ensures failures { S.failures store.old ≤ S.failures store.new }
+    ensures exact { S.is_honest → GivesSuch (λ l listed. IsListing [] listed l) (file_of (S.files store.old) name.now)
+        (S.failures store.old) (S.failures store.new) result (names_at (file_of (S.files store.old) name.now) at) }
+{
+    let len = file_len(store, name)?;
+    if at >= len {
+        return Err(NeFault::Truncated);
+    }
+    let extent = extent_of(alloc, store, name, len, at)?;
+    let count = extent.names.saturating_add(others / 4);
+    let names = Names::with_room(alloc, count, extent.texts.saturating_add(others))?;
+    let mut listing = Listing::new(alloc, names);
+    add_names(alloc, store, name, len, at, &mut listing)?;
+    Ok(listing)
+}
+
 /// The resident names, of which there is at least one.
-#[tactic(auto, unfolding(crate::specs::Names::names_at, crate::specs::Names::resident_at))]
+#[tactic(auto, unfolding(crate::specs::Names::resident_at))]
 pub fn resident<S: Store>(
     alloc: Global,
     store: &mut S,
     name: &[u8],
     ne: u32,
     header: &[u8],
-) -> Result<Vec<Name>, NeFault>
+) -> Result<Listing, NeFault>
     requires { length header.now ≡ 64 }
     ensures files { S.files store.new ≡ S.files store.old }
     ensures failures { S.failures store.old ≤ S.failures store.new }
-    ensures exact { S.is_honest → Gives (λ v. map entry v.items) (file_of (S.files store.old) name.now)
+    ensures exact { S.is_honest → GivesSuch (λ l listed. IsListing [] listed l) (file_of (S.files store.old) name.now)
         (S.failures store.old) (S.failures store.new) result (resident_at (file_of (S.files store.old) name.now) ne header.now) }
 {
-    let len = file_len(store, name)?;
     let at = u64::from(ne) + u64::from(word(header, 0x26));
-    let names = names_before(alloc, store, name, len, at)?;
-    if names.is_empty() {
+    let others = usize::from(word(header, 0x20));
+    let listing = listing_at(alloc, store, name, at, others)?;
+    if listing.is_empty() {
         return Err(NeFault::BadTable);
     }
-    Ok(names)
+    Ok(listing)
 }

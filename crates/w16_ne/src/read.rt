@@ -1,77 +1,23 @@
 //! The tables of a module, read from its file.
-ghost use Rattle.std.specs.Prelude.{◌≡◌, ◌≤◌, ◌++◌, drop, length, map, All, IfOk};
+ghost use Rattle.std.specs.Prelude.{◌≡◌, ◌≤◌, length};
 ghost use Rattle.w16_store.specs.Files.{file_of};
 ghost use Rattle.w16_ne.specs.Reading.{Gives};
-ghost use Rattle.w16_ne.specs.Names.{entry, distinct, listed};
 ghost use Rattle.w16_ne.specs.Header.{segment_count, shift_of};
-ghost use Rattle.w16_ne.specs.Modules.{first_text, tables_behind, tables_at};
+ghost use Rattle.w16_ne.specs.Modules.{tables_behind, tables_at};
 
 use crate::entry_table::entries;
 use crate::fault::NeFault;
 use crate::head::{header, place, test_fields};
+use crate::listing::Listing;
 use crate::module_file::Module;
-use crate::name::Name;
 use crate::name_table::resident;
-use crate::nonresident::nonresident_names;
-use crate::ordinals::{Ordinals, ordinals};
+use crate::names::order_of;
+use crate::nonresident::add_nonresident;
 use crate::reference_table::references;
 use crate::resource_table::resources;
 use crate::segment_table::segments;
-use std::alloc::{AllocError, Global};
+use std::alloc::Global;
 use w16_store::Store;
-
-/// Takes the first name out of a table: its text, which is empty where there is none.
-fn take_first(alloc: Global, names: &mut Vec<Name>) -> Vec<u8>
-    ensures text { result.items ≡ first_text (map entry names.old.items) }
-    ensures others { map entry names.new.items ≡ drop 1 (map entry names.old.items) }
-{
-    if names.is_empty() {
-        return Vec::new(alloc);
-    }
-    names.remove(0).text
-}
-
-/// The names of entries with their ordinals, resident ones first.
-fn all_ordinals(
-    alloc: Global,
-    mut resident: Vec<Name>,
-    mut nonresident: Vec<Name>,
-) -> Result<Ordinals, AllocError>
-    ensures names { IfOk result (λ o. listed o.entries ≡ distinct (map entry resident.items ++ map entry nonresident.items)) }
-    ensures short { IfOk result (λ o. All (λ e. length e.0 ≤ 255) (listed o.entries)) }
-{
-    resident.append(&mut nonresident)?;
-    ordinals(alloc, resident.as_slice())
-}
-
-/// The names of a module.
-#[derive(Drop)]
-struct ModuleNames {
-    name: Vec<u8>,
-    description: Vec<u8>,
-    ordinals: Ordinals,
-}
-
-/// The names that two tables of names have.
-fn names(
-    alloc: Global,
-    mut resident: Vec<Name>,
-    mut nonresident: Vec<Name>,
-) -> Result<ModuleNames, AllocError>
-    ensures name { IfOk result (λ n. n.name.items ≡ first_text (map entry resident.items)) }
-    ensures description { IfOk result (λ n. n.description.items ≡ first_text (map entry nonresident.items)) }
-    ensures ordinals { IfOk result (λ n. listed n.ordinals.entries ≡ distinct (drop 1 (map entry resident.items) ++ drop 1 (map entry nonresident.items))) }
-    ensures short { IfOk result (λ n. All (λ e. length e.0 ≤ 255) (listed n.ordinals.entries)) }
-{
-    let name = take_first(alloc, &mut resident);
-    let description = take_first(alloc, &mut nonresident);
-    let ordinals = all_ordinals(alloc, resident, nonresident)?;
-    Ok(ModuleNames {
-        name,
-        description,
-        ordinals,
-    })
-}
 
 /// The tables behind a header.
 #[tactic(auto, unfolding(crate::specs::Modules::tables_behind))]
@@ -91,18 +37,26 @@ fn tables<S: Store>(
         (S.failures store.old) (S.failures store.new) result (tables_behind (file_of (S.files store.old) name.now) ne header) }
 {
     let segments = segments(alloc, store, name, ne, &header)?;
-    let resident = resident(alloc, store, name, ne, &header)?;
+    let Listing {
+        first: module_name,
+        names,
+        ..
+    } = resident(alloc, store, name, ne, &header)?;
     let references = references(alloc, store, name, ne, &header)?;
     let entries = entries(alloc, store, name, ne, &header)?;
-    let nonresident = nonresident_names(alloc, store, name, &header)?;
+    let resident = names.len() as u32;
+    let mut listing = Listing::new(alloc, names);
+    add_nonresident(alloc, store, name, &header, &mut listing)?;
     let types = resources(alloc, store, name, ne, &header)?;
-    let names = names(alloc, resident, nonresident)?;
+    let order = order_of(alloc, &listing.names)?;
     Ok(Module {
         place: ne,
         header,
-        name: names.name,
-        description: names.description,
-        ordinals: names.ordinals,
+        name: module_name,
+        description: listing.first,
+        names: listing.names,
+        resident,
+        order,
         segments,
         references,
         entries,

@@ -1,5 +1,5 @@
 //! Parts of a file, read through a store.
-ghost use Rattle.std.specs.Prelude.{◌≡◌, ℕ, ◌<◌, ◌≤◌, ◌+◌, ◌==◌, ◌||◌, false, length, nat_le, slice_index, IfOk};
+ghost use Rattle.std.specs.Prelude.{◌≡◌, ℕ, ◌<◌, ◌≤◌, ◌+◌, ◌==◌, ◌||◌, false, length, take, drop, nat_le, slice_index, IfOk};
 ghost use Rattle.w16_ne.specs.declared.fault.NeFault.TheVariants.{Truncated};
 ghost use Rattle.w16_store.specs.Files.{file_of};
 ghost use Rattle.w16_ne.specs.Reading.{Gives, IsOfFile, bytes_or, length_at, reaches, word_of, dword_of};
@@ -82,6 +82,15 @@ pub fn is_end(table: &[u8], at: usize) -> bool
     ensures more { result ≡ false → at < length table.now }
 {
     at >= table.len() || table[at] == 0
+}
+
+/// So many bytes at an index.
+pub fn part(bytes: &[u8], start: usize, len: usize) -> &[u8]
+    requires { start + len ≤ length bytes.now }
+    ensures value { result.now ≡ take len (drop start bytes.now) }
+    ensures len { length result.now ≡ len }
+{
+    &bytes[start..start + len]
 }
 
 /// A word at an index.

@@ -1,7 +1,7 @@
 //! The blocks of the resource table.
-ghost use Rattle.std.specs.Prelude.{◌≡◌, ℕ, ◌<◌, ◌≤◌, ◌+◌, ◌*◌, ◌^◌, Ok, Some, None, All, IfOk, IfSome, length, nat_le, if◌then◌else◌};
+ghost use Rattle.std.specs.Prelude.{◌≡◌, ℕ, ◌<◌, ◌≤◌, ◌+◌, ◌*◌, ◌^◌, Ok, Some, None, All, IfOk, IfErr, IfSome, length, nat_le, if◌then◌else◌};
 ghost use Rattle.w16_store.specs.Files.{file_of};
-ghost use Rattle.w16_ne.specs.Reading.{Gives, length_at, word_of};
+ghost use Rattle.w16_ne.specs.Reading.{Gives, Refuses, length_at, word_of};
 ghost use Rattle.w16_ne.specs.Resources.{block_at, blocks_from, blocks_at};
 
 use crate::fault::NeFault;
@@ -65,13 +65,40 @@ fn block_of<S: Store>(
     }
 }
 
-/// The blocks from an offset on, in a file of so many bytes.
+/// How many blocks stand from an offset on, in a file of so many bytes.
+fn count_of<S: Store>(store: &mut S, name: &[u8], len: u64, at: u64) -> Result<usize, NeFault>
+    ensures files { S.files store.new ≡ S.files store.old }
+    ensures failures { S.failures store.old ≤ S.failures store.new }
+    ensures exact { S.is_honest → length_at (file_of (S.files store.old) name.now) ≡ Ok len →
+        IfErr result (λ e. Refuses (file_of (S.files store.old) name.now)
+        (S.failures store.old) (S.failures store.new) e (blocks_from (file_of (S.files store.old) name.now) len at)) }
+{
+    let mut count = 0usize;
+    let mut place = at;
+    for _ in 0..len {
+        if place >= len {
+            return Err(NeFault::Truncated);
+        }
+        match block_of(store, name, len, place)? {
+            None => return Ok(count),
+            Some(found) => {
+                // No block that is there ends past the largest offset.
+                place = found.at.saturating_add(12 * u64::from(found.count));
+                count = count.saturating_add(1);
+            }
+        }
+    }
+    Err(NeFault::Truncated)
+}
+
+/// The blocks from an offset on, in a file of so many bytes, with room for so many.
 fn blocks_before<S: Store>(
     alloc: Global,
     store: &mut S,
     name: &[u8],
     len: u64,
     at: u64,
+    count: usize,
 ) -> Result<Vec<Block>, NeFault>
     ensures files { S.files store.new ≡ S.files store.old }
     ensures failures { S.failures store.old ≤ S.failures store.new }
@@ -80,7 +107,7 @@ fn blocks_before<S: Store>(
         Gives (λ v. v.items) (file_of (S.files store.old) name.now)
         (S.failures store.old) (S.failures store.new) result (blocks_from (file_of (S.files store.old) name.now) len at) }
 {
-    let mut blocks = Vec::new(alloc);
+    let mut blocks = Vec::with_capacity(alloc, count)?;
     let mut place = at;
     for _ in 0..len {
         if place >= len {
@@ -98,7 +125,8 @@ fn blocks_before<S: Store>(
     Err(NeFault::Truncated)
 }
 
-/// The blocks of the table that begins at an offset, behind its shift word.
+/// The blocks of the table that begins at an offset, behind its shift word. They are gone over twice: room for all of them is taken once their
+/// number is known.
 #[tactic(auto, unfolding(crate::specs::Resources::blocks_at))]
 pub fn blocks<S: Store>(
     alloc: Global,
@@ -113,5 +141,6 @@ pub fn blocks<S: Store>(
         (S.failures store.old) (S.failures store.new) result (blocks_at (file_of (S.files store.old) name.now) at) }
 {
     let len = file_len(store, name)?;
-    blocks_before(alloc, store, name, len, at)
+    let count = count_of(store, name, len, at)?;
+    blocks_before(alloc, store, name, len, at, count)
 }

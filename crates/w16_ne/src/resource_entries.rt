@@ -1,8 +1,8 @@
 //! Resources.
-ghost use Rattle.std.specs.Prelude.{◌≡◌, ℕ, ◌<◌, ◌≤◌, ◌+◌, ◌*◌, ◌^◌, All, map};
+ghost use Rattle.std.specs.Prelude.{◌≡◌, ℕ, ◌<◌, ◌≤◌, ◌+◌, ◌*◌, ◌^◌, ◌++◌, ◌∷◌, [], All, OnOk, map};
 ghost use Rattle.w16_store.specs.Files.{file_of};
-ghost use Rattle.w16_ne.specs.Reading.{Gives};
-ghost use Rattle.w16_ne.specs.Resources.{label_of, label_at, entry_of, resource_at, resources_of, typed_of, typed_at, all_typed};
+ghost use Rattle.w16_ne.specs.Reading.{Gives, GivesSuch};
+ghost use Rattle.w16_ne.specs.Resources.{label_of, label_at, entry_of, resource_at, resources_of, typed_of, typed_at, all_typed, filled};
 
 use crate::fault::NeFault;
 use crate::flags::ResourceFlags;
@@ -10,7 +10,7 @@ use crate::reading::{read_or, word};
 use crate::reference_table::text;
 use crate::resource_blocks::Block;
 use crate::segment_table::unit;
-use std::alloc::Global;
+use std::alloc::{AllocError, Global};
 use w16_store::Store;
 
 /// A type or an id of resources.
@@ -146,7 +146,17 @@ fn typed<S: Store>(
     Ok(ResourceType { kind, resources })
 }
 
-/// The types of all blocks with their resources, in the table's order.
+/// Adds a type to others, where it has resources.
+fn keep(types: &mut Vec<ResourceType>, found: ResourceType) -> Result<(), AllocError>
+    ensures { OnOk result (map typed_of types.new.items ≡ map typed_of types.old.items ++ filled (typed_of found ∷ [])) }
+{
+    if !found.resources.is_empty() {
+        types.push(found)?;
+    }
+    Ok(())
+}
+
+/// The types of all blocks that have resources, with these, in the table's order.
 pub fn all_types<S: Store>(
     alloc: Global,
     store: &mut S,
@@ -160,13 +170,13 @@ pub fn all_types<S: Store>(
     requires ends { All (λ b. b.at + 12 * b.count < 2 ^ 64) blocks.now }
     ensures files { S.files store.new ≡ S.files store.old }
     ensures failures { S.failures store.old ≤ S.failures store.new }
-    ensures exact { S.is_honest → Gives (λ v. map typed_of v.items) (file_of (S.files store.old) name.now)
+    ensures exact { S.is_honest → GivesSuch (λ v types. map typed_of v.items ≡ filled types) (file_of (S.files store.old) name.now)
         (S.failures store.old) (S.failures store.new) result (all_typed (file_of (S.files store.old) name.now) table shift blocks.now) }
 {
     let mut types = Vec::new(alloc);
     for block in blocks {
         let found = typed(alloc, store, name, table, shift, *block)?;
-        types.push(found)?;
+        keep(&mut types, found)?;
     }
     Ok(types)
 }

@@ -33,7 +33,7 @@ fn test_place<S: Store>(
     reaches(store, name, end.saturating_sub(u64::from(unit)) + 1)
 }
 
-/// The same of some resources, in their order.
+/// Checks the places of some resources, in their order.
 fn test_places<S: Store>(
     store: &mut S,
     name: &[u8],

@@ -1,9 +1,9 @@
 //! The segment table.
-ghost use Rattle.std.specs.Prelude.{◌≡◌, ℕ, ◌<◌, ◌≤◌, ◌+◌, ◌*◌, ◌^◌, length, max, All, IfOk};
+ghost use Rattle.std.specs.Prelude.{◌≡◌, ℕ, ◌%◌, ◌<◌, ◌≤◌, ◌+◌, ◌*◌, ◌^◌, length, max, All, IfOk, vec_len};
 ghost use Rattle.w16_store.specs.Files.{file_of};
 ghost use Rattle.w16_ne.specs.Reading.{Gives};
 ghost use Rattle.w16_ne.specs.Header.{shift_of, segment_count};
-ghost use Rattle.w16_ne.specs.Segments.{or_64k, rounded, records_at, data_at, segment_at, entries_at, segments_at};
+ghost use Rattle.w16_ne.specs.Segments.{IsSized, or_64k, rounded, records_at, data_at, segment_at, entries_at, segments_at};
 
 use crate::fault::NeFault;
 use crate::flags::SegmentFlags;
@@ -11,6 +11,12 @@ use crate::head::shift;
 use crate::reading::{reaches, read_or, table, word};
 use std::alloc::Global;
 use w16_store::Store;
+
+/// The most bytes of a segment's object.
+pub const LARGEST_SEGMENT: u32 = 65_536;
+
+/// The bytes that the size of a segment's object is a multiple of.
+pub const SEGMENT_UNIT: u32 = 32;
 
 /// A segment of a module.
 #[derive(Clone, Copy, Debug, PartialEq, Eq)]
@@ -27,7 +33,9 @@ pub struct Segment {
 }
 
 fn full_if_zero(n: u16) -> u32
-    ensures { result ≡ or_64k n }
+    ensures value { result ≡ or_64k n }
+    ensures some { 0 < result }
+    ensures small { result ≤ LARGEST_SEGMENT }
 {
     match n {
         0 => 65536,
@@ -37,11 +45,15 @@ fn full_if_zero(n: u16) -> u32
 
 /// The bytes of an object for so many bytes of data, and at least so many.
 fn size_of(len: u32, least: u32) -> u32
-    requires len { len ≤ 65536 }
-    requires least { least ≤ 65536 }
-    ensures { result ≡ rounded (max len least) }
+    requires len { len ≤ LARGEST_SEGMENT }
+    requires some { 0 < least }
+    requires least { least ≤ LARGEST_SEGMENT }
+    ensures value { result ≡ rounded (max len least) }
+    ensures some { SEGMENT_UNIT ≤ result }
+    ensures small { result ≤ LARGEST_SEGMENT }
+    ensures whole { result % SEGMENT_UNIT ≡ 0 }
 {
-    (len.max(least) + 31) / 32 * 32
+    (len.max(least) + 31) / SEGMENT_UNIT * SEGMENT_UNIT
 }
 
 /// The bytes of a unit.
@@ -81,13 +93,14 @@ fn data<S: Store>(
     least: u32,
 ) -> Result<Segment, NeFault>
     requires len { 0 < len }
-    requires small { len ≤ 65536 }
-    requires least { least ≤ 65536 }
+    requires small { len ≤ LARGEST_SEGMENT }
+    requires some { 0 < least }
+    requires least { least ≤ LARGEST_SEGMENT }
     ensures files { S.files store.new ≡ S.files store.old }
     ensures failures { S.failures store.old ≤ S.failures store.new }
     ensures exact { S.is_honest → Gives (λ s. s) (file_of (S.files store.old) name.now)
         (S.failures store.old) (S.failures store.new) result (data_at (file_of (S.files store.old) name.now) place len flags least) }
-    ensures short { IfOk result (λ s. s.len ≤ 65536) }
+    ensures sized { IfOk result IsSized }
 {
     let end = u64::from(place) + u64::from(len);
     reaches(store, name, end)?;
@@ -115,7 +128,7 @@ fn entry<S: Store>(
     ensures failures { S.failures store.old ≤ S.failures store.new }
     ensures exact { S.is_honest → Gives (λ s. s) (file_of (S.files store.old) name.now)
         (S.failures store.old) (S.failures store.new) result (segment_at (file_of (S.files store.old) name.now) shift table.now at) }
-    ensures short { IfOk result (λ s. s.len ≤ 65536) }
+    ensures sized { IfOk result IsSized }
 {
     let sector = word(table, at);
     let len = full_if_zero(word(table, at + 2));
@@ -158,7 +171,8 @@ fn entries<S: Store>(
     ensures failures { S.failures store.old ≤ S.failures store.new }
     ensures exact { S.is_honest → Gives (λ v. v.items) (file_of (S.files store.old) name.now)
         (S.failures store.old) (S.failures store.new) result (entries_at (file_of (S.files store.old) name.now) shift table.now count) }
-    ensures short { IfOk result (λ v. All (λ s. s.len ≤ 65536) v.items) }
+    ensures count { IfOk result (λ v. vec_len v ≡ count) }
+    ensures sized { IfOk result (λ v. All IsSized v.items) }
 {
     let mut segments = Vec::new(alloc);
     for i in 0..count {
@@ -184,7 +198,8 @@ pub fn segments<S: Store>(
     ensures failures { S.failures store.old ≤ S.failures store.new }
     ensures exact { S.is_honest → Gives (λ v. v.items) (file_of (S.files store.old) name.now)
         (S.failures store.old) (S.failures store.new) result (segments_at (file_of (S.files store.old) name.now) ne header.now) }
-    ensures short { IfOk result (λ v. All (λ s. s.len ≤ 65536) v.items) }
+    ensures few { IfOk result (λ v. vec_len v ≤ 253) }
+    ensures sized { IfOk result (λ v. All IsSized v.items) }
 {
     let count = word(header, 0x1c);
     if count == 0 {

@@ -10,7 +10,7 @@
 
 pub use framed::Framed;
 pub use region::Region;
-pub use space::{Space, has_bytes};
+pub use space::{Space, reveal_bytes};
 pub use storage::Storage;
 pub use window::Window;
 

@@ -96,8 +96,8 @@ pub trait Space {
     ghost after_lenders: { (s : Self) (at size : ℕ) (new : List ℕ) → lenders (after_part s at size new) ≡ lenders s };
 }
 
-/// Says that a space has bytes alone, as all have. It has no effect.
-pub fn has_bytes<S: Space>(space: &S)
+/// Tells the prover that a space holds nothing but bytes, as every space does. It does nothing else.
+pub fn reveal_bytes<S: Space>(space: &S)
     ensures { All (λ b. b < 256) (S.bytes space.now) }
 {
     are_bytes(space.view(0, space.len()));

@@ -10,3 +10,4 @@ pub mod FileLemmas
 pub mod SoundLemmas
 pub mod FaultLemmas
 pub mod OneImage
+pub mod NamingLemmas

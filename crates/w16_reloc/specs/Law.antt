@@ -1,5 +1,5 @@
 -- What the definitions of relocation come to.
-use Rattle.std.specs.Prelude.{◌≡◌, ℕ, List, [], length, Ok, Err}
+use Rattle.std.specs.Prelude.{◌≡◌, ℕ, ◌<◌, ◌≤◌, List, [], length, Ok, Err, All}
 use Rattle.w16_reloc.specs.declared.fault.RelocFault.{RelocFault}
 use Rattle.w16_reloc.specs.declared.record.Record.{Record}
 use Rattle.w16_reloc.specs.declared.value.Far.{Far}
@@ -8,6 +8,7 @@ use Rattle.w16_reloc.specs.Sound.{IsSound, IsSoundSegment}
 use Rattle.w16_reloc.specs.Faults.{IsFirstFault}
 use Rattle.w16_reloc.specs.Check.{check_from}
 use Rattle.w16_reloc.specs.Images.{byte, patches, image_at, IsImage}
+use Rattle.w16_reloc.specs.Naming.{naming, image_of}
 use Rattle.w16_reloc.specs.Apply.{over_each}
 
 -- A check that passes has found a sound segment, and passes every sound one.
@@ -30,3 +31,25 @@ WrittenLaw = (file : List ℕ) (records : List Record) (values : List Far) (name
 abbrev pub FetchedLaw : Type 0
 FetchedLaw = (file : List ℕ) (records : List Record) (values : List Far) (named others : List (List ℕ)) (first second : List ℕ) → IsSound file records named → IsSound file records others
     → IsImage file records values named first → IsImage file records values others second → length first ≡ length second → first ≡ second
+
+-- A sound segment names what the function says, and nothing else.
+abbrev pub NamingLaw : Type 0
+NamingLaw = (file : List ℕ) (records : List Record) (named : List (List ℕ)) → IsSound file records named → named ≡ naming file records
+
+-- Bytes that are its image are those of the function.
+abbrev pub ImageLaw : Type 0
+ImageLaw = (file : List ℕ) (records : List Record) (values : List Far) (named : List (List ℕ)) (bytes : List ℕ) → IsSound file records named → IsImage file records values named bytes
+    → bytes ≡ image_of file records values (length bytes)
+
+-- And those of the function are its image, where the data have room.
+abbrev pub ImageOfLaw : Type 0
+ImageOfLaw = (file : List ℕ) (records : List Record) (values : List Far) (named : List (List ℕ)) (size : ℕ) → length records ≡ length values → IsSound file records named → length file ≤ size
+    → IsImage file records values named (image_of file records values size)
+
+-- a value of words
+abbrev pub IsFar : Far → Type 0
+IsFar far = (far.selector < 65536) × (far.offset < 65536)
+
+-- An image of bytes and words has bytes.
+abbrev pub ImageBytesLaw : Type 0
+ImageBytesLaw = (file : List ℕ) (records : List Record) (values : List Far) (size : ℕ) → All (λ b. b < 256) file → All IsFar values → All (λ b. b < 256) (image_of file records values size)

@@ -4,6 +4,7 @@ pub mod Sound
 pub mod Faults
 pub mod Check
 pub mod Images
+pub mod Naming
 pub mod Apply
 pub mod Segments
 pub mod Law

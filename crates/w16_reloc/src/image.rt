@@ -1,8 +1,9 @@
 //! Values written over the sites of records, in place.
-ghost use Rattle.std.specs.Prelude.{◌≡◌, ℕ, ◌<◌, ◌≤◌, ◌+◌, length, List};
+ghost use Rattle.std.specs.Prelude.{◌≡◌, ℕ, ◌<◌, ◌≤◌, ◌+◌, length, List, All};
 ghost use Rattle.w16_reloc.specs.Sites.{Site};
 ghost use Rattle.w16_reloc.specs.Sound.{IsSound, chain_width, value_width};
 ghost use Rattle.w16_reloc.specs.Images.{byte, IsImage, value_of};
+ghost use Rattle.w16_reloc.specs.Law.{IsFar};
 ghost use Rattle.w16_reloc.specs.Apply.{IsReady, IsWritten, IsWalked};
 ghost use Rattle.w16_reloc.specs.declared.record.Record.{Record};
 ghost use Rattle.w16_reloc.specs.declared.record.Record.TheVariants.{Added};
@@ -10,7 +11,7 @@ ghost use Rattle.w16_reloc.specs.declared.record.Record.TheVariants.{Added};
 use crate::chain::{END, word};
 use crate::record::{Fixup, Part, Record};
 use crate::sites::{chain_width, value_width};
-use crate::value::{Far, moved, write};
+use crate::value::{Far, is_of_words, moved, write};
 
 /// Writes a value over each site of a chain. A link is read before it is overwritten.
 fn write_chain(bytes: &mut [u8], head: u16, part: Part, far: Far)
@@ -58,10 +59,14 @@ fn write_record(bytes: &mut [u8], relocation: &Record, far: Far)
 /// target for each. Where the records are not sound in those data, the bytes are any afterwards.
 pub fn apply(bytes: &mut [u8], records: &[Record], targets: &[Far])
     requires { length records.now ≡ length targets.now }
-    ensures { (file : List ℕ) (named : List (List ℕ)) → IsSound file records.now named → length file ≤ length bytes.old
+    ensures image { (file : List ℕ) (named : List (List ℕ)) → IsSound file records.now named → length file ≤ length bytes.old
         → ((o : ℕ) → byte bytes.old o ≡ byte file o) → IsImage file records.now targets.now named bytes.new }
+    ensures length { length bytes.new ≡ length bytes.old }
+    ensures words { All IsFar targets.now }
 {
     for i in 0..records.len() {
-        write_record(bytes, &records[i], targets[i]);
+        let far = targets[i];
+        is_of_words(far);
+        write_record(bytes, &records[i], far);
     }
 }

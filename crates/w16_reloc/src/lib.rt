@@ -17,5 +17,5 @@ mod value;
 pub use fault::RelocFault;
 pub use image::apply;
 pub use record::{Fixup, Part, Record, Target};
-pub use scratch::{Scratch, check};
+pub use scratch::{Scratch, check, read_part};
 pub use value::Far;

@@ -21,6 +21,19 @@ pub fn read<S: Store>(store: &mut S, name: &[u8], at: u64, buf: &mut [u8]) -> Re
     }
 }
 
+/// The file's length.
+pub fn len_of<S: Store>(store: &mut S, name: &[u8]) -> Result<u64, RelocFault>
+    ensures files { S.files store.new ≡ S.files store.old }
+    ensures failures { S.failures store.old ≤ S.failures store.new }
+    ensures exact { (file : List ℕ) → S.is_honest → file_of (S.files store.old) name.now ≡ Some file
+        → Answers (λ n. n) (S.failures store.old) (S.failures store.new) result (Ok (length file)) }
+{
+    match store.len_of(name) {
+        Ok(len) => Ok(len),
+        Err(refused) => Err(RelocFault::Store(refused)),
+    }
+}
+
 /// The byte at an offset, or none where the file ends before.
 fn byte_at<S: Store>(store: &mut S, name: &[u8], at: u64) -> Result<Option<u8>, RelocFault>
     ensures files { S.files store.new ≡ S.files store.old }

@@ -1,5 +1,5 @@
 //! Room for one segment, and the check of a segment in it.
-ghost use Rattle.std.specs.Prelude.{◌≡◌, ℕ, ◌<◌, ◌≤◌, ◌-◌, length, List, [], Some, Ok, slice_get, vec_len, vec_capacity, IfOk};
+ghost use Rattle.std.specs.Prelude.{◌≡◌, ℕ, ◌<◌, ◌≤◌, ◌-◌, length, List, take, drop, [], Some, Ok, slice_get, vec_len, vec_capacity, IfOk, OnOk};
 ghost use Rattle.w16_store.specs.Files.{file_of};
 ghost use Rattle.w16_ne.specs.declared.segment_table.Segment.{Segment};
 ghost use Rattle.w16_ne.specs.Modules.{tables_at};
@@ -7,9 +7,10 @@ ghost use Rattle.w16_reloc.specs.Check.{AreMarks};
 ghost use Rattle.w16_reloc.specs.Segments.{Answers, checked};
 
 use crate::fault::RelocFault;
+use crate::reading::len_of;
 use crate::record::Record;
 use crate::records::{Offered, check_records};
-use crate::segment::read_segment;
+use crate::segment::{read_bytes, read_segment};
 use std::alloc::{AllocError, Global};
 use std::marker::Model;
 use w16_ne::{Module, Segment};
@@ -97,6 +98,7 @@ pub fn check<S: Store>(
     requires last { segment ≤ length module_file.now.segments }
     ensures files { S.files store.new ≡ S.files store.old }
     ensures failures { S.failures store.old ≤ S.failures store.new }
+    ensures len { (s : Segment) → slice_get module_file.now.segments (segment - 1) ≡ Some s → OnOk result (length scratch.new.bytes ≡ s.len) }
     ensures exact { (file : List ℕ) (s : Segment) → S.is_honest → file_of (S.files store.old) name.now ≡ Some file → tables_at (Some file) ≡ Ok module_file.now
         → slice_get module_file.now.segments (segment - 1) ≡ Some s
         → Answers (λ _. scratch.new) (S.failures store.old) (S.failures store.new) result (checked file module_file.now s) }
@@ -120,4 +122,28 @@ pub fn check<S: Store>(
         scratch.marks.as_mut_slice(),
         &mut scratch.records,
     )
+}
+
+/// Reads a part of a file, as the bytes of a resource: so many from an offset on, or those up to the file's end where it comes first. The scratch
+/// has them then, and no records.
+///
+/// `Store` where the store answered a fault. After it the scratch holds anything.
+pub fn read_part<S: Store>(
+    store: &mut S,
+    name: &[u8],
+    at: u64,
+    len: usize,
+    scratch: &mut Scratch,
+) -> Result<(), RelocFault>
+    requires { len ≤ 65536 }
+    ensures files { S.files store.new ≡ S.files store.old }
+    ensures failures { S.failures store.old ≤ S.failures store.new }
+    ensures len { OnOk result (length scratch.new.bytes ≤ len) }
+    ensures exact { (file : List ℕ) → S.is_honest → file_of (S.files store.old) name.now ≡ Some file
+        → Answers (λ _. scratch.new) (S.failures store.old) (S.failures store.new) result (Ok (record { bytes = take len (drop at file); records = [] })) }
+{
+    scratch.records.clear();
+    let file_len = len_of(store, name)?;
+    let count = file_len.saturating_sub(at).min(len as u64) as usize;
+    read_bytes(store, name, at, count, &mut scratch.bytes)
 }

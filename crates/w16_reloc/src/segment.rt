@@ -22,7 +22,7 @@ fn set_len(room: &mut Vec<u8>, len: usize)
 }
 
 /// Reads so many bytes of the file, within the vector's room.
-fn read_part<S: Store>(
+pub fn read_bytes<S: Store>(
     store: &mut S,
     name: &[u8],
     at: u64,
@@ -64,7 +64,7 @@ fn read_table<S: Store>(
         → OnOk result (table.new.items ≡ take (8 * count) (drop (end + 2) file)) }
 {
     let count = count_at(store, name, flags, end)?;
-    read_part(store, name, end + 2, 8 * count as usize, table)?;
+    read_bytes(store, name, end + 2, 8 * count as usize, table)?;
     Ok(count)
 }
 
@@ -90,7 +90,7 @@ pub fn read_segment<S: Store>(
         → OnOk result ((bytes.new.items ≡ data_of file segment.now) × (table.new.items ≡ records_of file segment.now)) }
 {
     let end = segment.place as u64 + segment.len as u64;
-    read_part(
+    read_bytes(
         store,
         name,
         segment.place as u64,

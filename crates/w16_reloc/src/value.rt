@@ -3,6 +3,7 @@ ghost use Rattle.std.specs.Prelude.{◌≡◌, ℕ, ◌+◌, ◌<◌, ◌≤◌,
 ghost use Rattle.w16_reloc.specs.Sound.{value_width};
 ghost use Rattle.w16_reloc.specs.Images.{byte, word_bytes, value_of, found_at, moved};
 ghost use Rattle.w16_reloc.specs.Apply.{over};
+ghost use Rattle.w16_reloc.specs.Law.{IsFar};
 
 use crate::chain::word;
 use crate::record::Part;
@@ -63,3 +64,8 @@ pub fn moved(bytes: &[u8], at: usize, part: Part, far: Far) -> Far
         offset: far.offset.wrapping_add(found(bytes, at, part)),
     }
 }
+
+/// Says that a value is one of words. It has no effect.
+pub fn is_of_words(far: Far)
+    ensures { IsFar far }
+{}

@@ -8,7 +8,7 @@ use Rattle.w16_selectors.specs.declared.Descriptor.{Descriptor}
 use Rattle.w16_selectors.specs.declared.SelKind.{SelKind}
 use Rattle.memchr.specs.Find.{IsFirst}
 use Rattle.w16_selectors.specs.Descriptors.{DescriptorTable, descriptor_at, unset, IsUntaken}
-use Rattle.w16_selectors.specs.Representation.{IsKept, AreTaken, mark_of}
+use Rattle.w16_selectors.specs.Representation.{SelectorsInvariant, AreTaken, mark_of}
 
 -- a segment ends where an address of 32 bits can reach
 abbrev pub Reaches : Option Descriptor → Type 0
@@ -29,8 +29,8 @@ marks_none zero = refl
 marks_none (suc n) = ap (λ (ms : List ℕ). 0 ∷ ms) (marks_none n)
 
 -- where no slot is taken
-pub IsKept-replicate : (n : ℕ) → FIRST_SLOT ≤ n → n ≤ FIRST_SLOT + MOST_SLOTS → IsKept (replicate n None) (replicate n 0)
-IsKept-replicate n some few = record {
+pub SelectorsInvariant-replicate : (n : ℕ) → FIRST_SLOT ≤ n → n ≤ FIRST_SLOT + MOST_SLOTS → SelectorsInvariant (replicate n None) (replicate n 0)
+SelectorsInvariant-replicate n some few = record {
   marked = marks_none n;
   some = rw (length-replicate {A = Option Descriptor} n None) some;
   few = rw (length-replicate {A = Option Descriptor} n None) few;
@@ -52,9 +52,9 @@ at_set table slot k entry = elim (cases_eq k slot) [
 ]
 
 -- a slot below the first stays free
-pub IsKept-set : (table : DescriptorTable) (marks : List ℕ) (slot : ℕ) (entry : Option Descriptor)
-    → IsKept table marks → (slot < FIRST_SLOT → entry ≡ None) → Reaches entry → IsKept (set table slot entry) (set marks slot (mark_of entry))
-IsKept-set table marks slot entry kept low reaches = record {
+pub SelectorsInvariant-set : (table : DescriptorTable) (marks : List ℕ) (slot : ℕ) (entry : Option Descriptor)
+    → SelectorsInvariant table marks → (slot < FIRST_SLOT → entry ≡ None) → Reaches entry → SelectorsInvariant (set table slot entry) (set marks slot (mark_of entry))
+SelectorsInvariant-set table marks slot entry kept low reaches = record {
   marked = ap (λ (ms : List ℕ). set ms slot (mark_of entry)) kept.marked ∙ sym (map-set mark_of table slot entry);
   some = rw (length-set table slot entry) kept.some;
   few = rw (length-set table slot entry) kept.few;
@@ -69,7 +69,7 @@ IsKept-set table marks slot entry kept low reaches = record {
 }
 
 -- a taken slot isn't below the first
-pub taken_above : (table : DescriptorTable) (marks : List ℕ) (slot : ℕ) → IsKept table marks → IsSome (descriptor_at table slot) → FIRST_SLOT ≤ slot
+pub taken_above : (table : DescriptorTable) (marks : List ℕ) (slot : ℕ) → SelectorsInvariant table marks → IsSome (descriptor_at table slot) → FIRST_SLOT ≤ slot
 taken_above table marks slot kept taken = elim (cases_lt slot FIRST_SLOT) [
   | inl lt ↦ absurd (false≢true (ap is_some (sym (kept.unused slot lt)) ∙ taken))
   | inr le ↦ le
@@ -80,11 +80,11 @@ mark_of_taken None taken = absurd (false≢true taken)
 mark_of_taken (Some d) taken = refl
 
 -- the mark of a taken slot stays as it is
-pub IsKept-written : (table : DescriptorTable) (marks : List ℕ) (slot : ℕ) (d : Descriptor)
-    → IsKept table marks → IsSome (descriptor_at table slot) → Reaches (Some d) → IsKept (set table slot (Some d)) marks
-IsKept-written table marks slot d kept taken reaches =
+pub SelectorsInvariant-written : (table : DescriptorTable) (marks : List ℕ) (slot : ℕ) (d : Descriptor)
+    → SelectorsInvariant table marks → IsSome (descriptor_at table slot) → Reaches (Some d) → SelectorsInvariant (set table slot (Some d)) marks
+SelectorsInvariant-written table marks slot d kept taken reaches =
     let above = taken_above table marks slot kept taken in
-    let all = IsKept-set table marks slot (Some d) kept (λ lt. absurd (omega arith)) reaches in record {
+    let all = SelectorsInvariant-set table marks slot (Some d) kept (λ lt. absurd (omega arith)) reaches in record {
       marked = kept.marked ∙ sym (map-set_same mark_of table slot (Some d) None (sym (mark_of_taken (descriptor_at table slot) taken)));
       some = all.some;
       few = all.few;

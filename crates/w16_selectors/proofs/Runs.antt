@@ -7,10 +7,10 @@ use Rattle.memchr.specs.Find.{IsFirst, IsFirstByte, Nowhere, Passes, is_byte}
 use Rattle.w16_model.specs.declared.TheConstants.{FIRST_SLOT}
 use Rattle.w16_selectors.specs.declared.Descriptor.{Descriptor}
 use Rattle.w16_selectors.specs.Descriptors.{DescriptorTable, descriptor_at, IsUntaken, IsFreeRun}
-use Rattle.w16_selectors.specs.Representation.{IsKept, mark_of}
+use Rattle.w16_selectors.specs.Representation.{SelectorsInvariant, mark_of}
 use Rattle.w16_selectors.proofs.Represented.{mark_of_taken}
 
-mark_at : (table : DescriptorTable) (marks : List ℕ) (slot : ℕ) → IsKept table marks → get_or marks slot 0 ≡ mark_of (descriptor_at table slot)
+mark_at : (table : DescriptorTable) (marks : List ℕ) (slot : ℕ) → SelectorsInvariant table marks → get_or marks slot 0 ≡ mark_of (descriptor_at table slot)
 mark_at table marks slot kept = rw kept.marked (get_or-map mark_of table slot None)
 
 free_mark : (entry : Option Descriptor) → mark_of entry ≡ 0 → entry ≡ None
@@ -37,7 +37,7 @@ module _ (P Q : ℕ → Type 0) (from to n : ℕ) (long : from + n ≡ to) (ther
 
 -- the first slot whose descriptor's mark is b, by a search of a part of the marks
 first_marked : (table : DescriptorTable) (marks : List ℕ) (from to n b : ℕ) (Q : ℕ → Type 0)
-    → IsKept table marks → from + n ≡ to → to ≤ length table
+    → SelectorsInvariant table marks → from + n ≡ to → to ≤ length table
     → ((slot : ℕ) → from ≤ slot → slot < to → mark_of (descriptor_at table slot) ≡ b → Q slot)
     → ((slot : ℕ) → Q slot → mark_of (descriptor_at table slot) ≡ b)
     → (r : Option ℕ) → IsFirstByte (is_byte b) (take n (drop from marks)) r → IsFirst Q from to (option_map (λ k. from + k) r)
@@ -53,7 +53,7 @@ first_marked table marks from to n b Q kept long inside there back r h =
     read k lt = get_or-take n (drop from marks) k 0 lt ∙ get_or-drop from marks k 0 ∙ mark_at table marks (from + k) kept
 
 pub first_free : (table : DescriptorTable) (marks : List ℕ) (from : ℕ)
-    → IsKept table marks → FIRST_SLOT ≤ from → from ≤ length table
+    → SelectorsInvariant table marks → FIRST_SLOT ≤ from → from ≤ length table
     → (r : Option ℕ) → IsFirstByte (is_byte 0) (take (length marks - from) (drop from marks)) r → IsFirst (IsUntaken table) from (length table) (option_map (λ k. from + k) r)
 first_free table marks from kept above inside r h =
     let same : length marks ≡ length table = ap length kept.marked ∙ length-map table mark_of in
@@ -62,7 +62,7 @@ first_free table marks from kept above inside r h =
     (λ slot free. ap mark_of free.2) r h
 
 pub first_taken : (table : DescriptorTable) (marks : List ℕ) (from to : ℕ)
-    → IsKept table marks → from ≤ to → to ≤ length table
+    → SelectorsInvariant table marks → from ≤ to → to ≤ length table
     → (r : Option ℕ) → IsFirstByte (is_byte 1) (take (to - from) (drop from marks)) r → IsFirst (λ slot. IsSome (descriptor_at table slot)) from to (option_map (λ k. from + k) r)
 first_taken table marks from to kept order inside r h =
     first_marked table marks from to (to - from) 1 (λ slot. IsSome (descriptor_at table slot)) kept (omega arith) inside

@@ -9,7 +9,7 @@ abbrev pub mark_of : Option Descriptor → ℕ
 mark_of None = 0
 mark_of (Some d) = 1
 
-pub record IsKept (table : DescriptorTable) (marks : List ℕ) : Type 0 where
+pub record SelectorsInvariant (table : DescriptorTable) (marks : List ℕ) : Type 0 where
   pub marked : marks ≡ map mark_of table
   pub some : FIRST_SLOT ≤ length table
   pub few : length table ≤ FIRST_SLOT + MOST_SLOTS

@@ -48,13 +48,13 @@ pub struct Selectors {
 
 impl Model for Selectors {
     ghost use Rattle.w16_selectors.specs.Descriptors.{DescriptorTable};
-    ghost use Rattle.w16_selectors.specs.Representation.{IsKept, AreTaken};
+    ghost use Rattle.w16_selectors.specs.Representation.{SelectorsInvariant, AreTaken};
 
     ghost Value = { DescriptorTable };
 
     ghost view = { λ s. s.descriptors.items };
 
-    ghost invariant = { λ s. IsKept s.descriptors.items s.marks.items × AreTaken s.descriptors.items s.free_from };
+    ghost invariant = { λ s. SelectorsInvariant s.descriptors.items s.marks.items × AreTaken s.descriptors.items s.free_from };
 }
 
 impl Selectors {

@@ -1,5 +1,5 @@
 -- Files that are found by name.
-use Rattle.std.proofs.Common.{◌≡◌, ℕ, zero, suc, ◌+◌, ◌<◌, ◌≤◌, Bool, true, false, cond, List, [], ◌∷◌, ◌++◌, Option, Some, None, Ok, Err, length, get_or, position, refl, sym, ◌∙◌, arith, ltb}
+use Rattle.std.proofs.Common.{◌≡◌, ℕ, zero, suc, ◌+◌, ◌<◌, ◌≤◌, Bool, true, false, cond, List, [], ◌∷◌, ◌++◌, Option, Some, None, Ok, Err, length, get_or, position, refl, sym, ◌∙◌, subst, arith, ltb}
 use Rattle.std.specs.Prelude.{option_map}
 use Rattle.std.specs.List.{find, position_or_len, cons_option}
 use Rattle.std.proofs.Math.ListN.{set}
@@ -7,7 +7,7 @@ use Rattle.std.proofs.lemmas.Bool.Decides.{nat_tests}
 use Rattle.std.proofs.lemmas.List.Sums.{fails_before_first}
 use Rattle.w16_store.specs.declared.memory.File.{File}
 use Rattle.w16_store.specs.Names.{is_named}
-use Rattle.w16_store.specs.Files.{file_of, bytes_of, length_of, AreWith}
+use Rattle.w16_store.specs.Files.{file_of, bytes_of, length_of, AreWith, HasBytes}
 use Rattle.w16_store.specs.declared.store.StoreFault.TheVariants.{Short}
 use Rattle.w16_store.specs.Memory.{files_in}
 use Rattle.w16_store.specs.Folder.{content_of, listed, IsHonestRead}
@@ -128,3 +128,7 @@ short_from_read names held name n before after len at old new is read lt =
     let less : length read.0 < at + length old = omega (arith, read.2) in
     let short : ltb (length read.0) (at + length old) ≡ true = grind (arith, nat_tests) in
     rw (found_in_folder names held name n read.0 (sym is) read.1, short) refl
+
+pub bytes_of_listed : (names : List (List ℕ)) (held : List (List ℕ × List ℕ)) (name n bytes : List ℕ) → IsListedAs names name n → content_of held n ≡ Some bytes → HasBytes (content_of held n) → HasBytes (file_of (listed names held) name)
+bytes_of_listed names held name n bytes is content all =
+    subst HasBytes (sym (found_in_folder names held name n bytes (sym is) content)) (subst HasBytes content all)

@@ -1,5 +1,5 @@
 -- Files by name, and what an honest store answers about them.
-use Rattle.std.specs.Prelude.{◌≡◌, ℕ, ◌+◌, ◌<◌, List, length, take, drop, nat_lt, if◌then◌else◌, Option, Some, None, Result, Ok, Err, option_map}
+use Rattle.std.specs.Prelude.{◌≡◌, ℕ, ◌+◌, ◌<◌, List, length, take, drop, nat_lt, if◌then◌else◌, Option, Some, None, IfSome, All, Result, Ok, Err, option_map}
 use Rattle.std.specs.List.{find}
 use Rattle.w16_store.specs.declared.store.StoreFault.{StoreFault}
 use Rattle.w16_store.specs.declared.store.StoreFault.TheVariants.{Missing, Short, Device}
@@ -31,3 +31,7 @@ IsHonestAnswer view before after (Err fault) said = IsHonestFault before after f
 -- the new files are the old ones, but that the file of this name has these bytes
 abbrev pub AreWith : List ℕ → List ℕ → List (List ℕ × List ℕ) → List (List ℕ × List ℕ) → Type 0
 AreWith name bytes old new = (n : List ℕ) → file_of new n ≡ (if is_named name n then Some bytes else file_of old n)
+
+-- a file, if there is one, has bytes
+abbrev pub HasBytes : Option (List ℕ) → Type 0
+HasBytes file = IfSome file (λ bytes. All (λ b. b < 256) bytes)

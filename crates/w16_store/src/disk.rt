@@ -2,6 +2,7 @@
 ghost use Rattle.std.specs.Prelude.{◌≡◌, ℕ, ◌≤◌, List, length, map, IfOk, IfErr};
 ghost use Rattle.std.specs.List.Sorted.{IsPermutation};
 ghost use Rattle.std.specs.String.{string_bytes};
+ghost use Rattle.w16_store.specs.Files.{HasBytes};
 ghost use Rattle.w16_store.specs.Folder.{content_of, IsHonestRead};
 
 use crate::folder::DirFault;
@@ -39,5 +40,6 @@ pub trait Disk {
         ensures files { files self.new ≡ files self.old }
         ensures failures { failures self.old ≤ failures self.new }
         ensures honest { is_honest → IsHonestRead (failures self.old) (failures self.new) result
-            (content_of (files self.old) name.now) at buf.old buf.new };
+            (content_of (files self.old) name.now) at buf.old buf.new }
+        ensures bytes { is_honest → IfOk result (λ _. HasBytes (content_of (files self.old) name.now)) };
 }

@@ -5,7 +5,7 @@ ghost use Rattle.w16_store.specs.Files.{file_of, bytes_of, length_of, IsHonestAn
 ghost use Rattle.w16_store.specs.Memory.{files_in};
 
 use crate::name::is_named;
-use crate::part::copy_part;
+use crate::part::{are_bytes, copy_part};
 use crate::store::{Store, StoreFault};
 use std::alloc::{AllocError, Global};
 use std::marker::Model;
@@ -89,8 +89,8 @@ impl Store for MemStore {
     }
 
     fn len_of(&mut self, name: &[u8]) -> Result<u64, StoreFault> {
-        bytes_of(self.files.as_slice(), name)
-            .map(|bytes| bytes.len() as u64)
-            .ok_or(StoreFault::Missing)
+        let bytes = bytes_of(self.files.as_slice(), name).ok_or(StoreFault::Missing)?;
+        are_bytes(bytes);
+        Ok(bytes.len() as u64)
     }
 }

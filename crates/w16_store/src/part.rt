@@ -1,5 +1,5 @@
 //! Parts of files.
-ghost use Rattle.std.specs.Prelude.{◌≡◌, ℕ, ◌+◌, ◌≤◌, ◌<◌, MatchBool, Some, length};
+ghost use Rattle.std.specs.Prelude.{◌≡◌, ℕ, ◌+◌, ◌≤◌, ◌<◌, MatchBool, Some, length, All};
 ghost use Rattle.w16_store.specs.Files.{bytes_of, IsHonestAnswer};
 
 use crate::store::StoreFault;
@@ -22,3 +22,8 @@ pub fn copy_part(bytes: &[u8], at: u64, buf: &mut [u8]) -> Result<(), StoreFault
     buf.copy_from_slice(&bytes[from..from + buf.len()]);
     Ok(())
 }
+
+/// Says that each item of a slice of bytes is one. It has no effect.
+pub fn are_bytes(bytes: &[u8])
+    ensures { All (λ b. b < 256) bytes.now }
+{}

@@ -1,6 +1,6 @@
 //! What a store is.
-ghost use Rattle.std.specs.Prelude.{◌≡◌, ℕ, ◌≤◌, List, length};
-ghost use Rattle.w16_store.specs.Files.{file_of, bytes_of, length_of, IsHonestAnswer};
+ghost use Rattle.std.specs.Prelude.{◌≡◌, ℕ, ◌≤◌, List, length, IfOk};
+ghost use Rattle.w16_store.specs.Files.{file_of, bytes_of, length_of, IsHonestAnswer, HasBytes};
 
 use thiserror::Error;
 
@@ -41,5 +41,6 @@ pub trait Store {
         ensures files { files self.new ≡ files self.old }
         ensures failures { failures self.old ≤ failures self.new }
         ensures honest { is_honest → IsHonestAnswer (λ n. n) (failures self.old) (failures self.new) result
-            (length_of (file_of (files self.old) name.now)) };
+            (length_of (file_of (files self.old) name.now)) }
+        ensures bytes { is_honest → IfOk result (λ _. HasBytes (file_of (files self.old) name.now)) };
 }

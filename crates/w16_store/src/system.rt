@@ -1,5 +1,6 @@
 //! A folder of the system.
-ghost use Rattle.std.specs.Prelude.{◌≡◌, ◌↔◌, ℕ, [], IfOk, IsOkUnless};
+ghost use Rattle.std.specs.Prelude.{◌≡◌, ◌↔◌, ℕ, [], IfOk, OnOk, OnErr, IsOkUnless};
+ghost use Rattle.std.specs.Fs.{IsFile, file_type, metadata_len};
 ghost use Rattle.std.specs.IoError.{error_kind};
 ghost use Rattle.std.specs.String.{string_bytes};
 ghost use Rattle.w16_store.specs.declared.folder.DirFault.TheVariants.{Memory};
@@ -8,12 +9,12 @@ use crate::disk::{Disk, DiskFailure};
 use crate::folder::DirFault;
 use crate::part::has_part;
 use std::alloc::Global;
-use std::fs::{DirEntry, OpenFile};
+use std::fs::{DirEntry, Metadata, OpenFile};
 use std::io::{Error, ErrorKind, Read, Seek, SeekFrom};
 use std::rt::Files;
 use std::{fs, io};
 
-/// A folder of the system, by its path. A file is opened at each read.
+/// A folder of the system, by its path. A file is opened at each read, once it was seen that it is a regular one, so that no read waits.
 #[derive(Drop)]
 pub struct SystemDisk<R: Files + Drop> {
     runtime: R,
@@ -37,8 +38,10 @@ impl<R: Files + AllocGlobal + Clone + Drop> SystemDisk<R> {
 }
 
 impl<R: Files + Drop> SystemDisk<R> {
+    /// Opens a file for reading. What it is is looked at before, since to open a FIFO waits for one that writes to it.
     fn open(&self, name: &str) -> io::Result<R::File> {
         let path = format!(in self.alloc; "{}/{name}", self.folder)?;
+        regular_len(&fs::metadata(&self.runtime, path.as_str())?)?;
         fs::open(&self.runtime, path.as_str())
     }
 
@@ -78,17 +81,26 @@ impl<R: Files + Drop> SystemDisk<R> {
     }
 }
 
+/// The length of a regular file, by what the system says of it. An error is that it is a folder, a device, a FIFO or the like.
+fn regular_len(metadata: &Metadata) -> io::Result<u64>
+    ensures ok { OnOk result (IsFile (file_type metadata.now)) }
+    ensures len { IfOk result (λ len. len ≡ metadata_len metadata.now) }
+    ensures err { OnErr result (IsFile (file_type metadata.now) → ⊥) }
+{
+    if metadata.is_file() {
+        Ok(metadata.len())
+    } else {
+        Err(Error::from(ErrorKind::InvalidInput))
+    }
+}
+
 /// The length of a regular file. Fills the buffer from an offset on, where the file has bytes for all of it.
 fn read_regular<F: OpenFile + Read + Seek>(
     file: &mut F,
     at: u64,
     buf: &mut [u8],
 ) -> io::Result<u64> {
-    let metadata = file.metadata()?;
-    if !metadata.is_file() {
-        return Err(Error::from(ErrorKind::InvalidInput));
-    }
-    let len = metadata.len();
+    let len = regular_len(&file.metadata()?)?;
     if has_part(len, at, buf.len()) {
         file.seek(SeekFrom::Start(at))?;
         file.read_exact(buf)?;

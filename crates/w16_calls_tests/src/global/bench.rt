@@ -7,6 +7,7 @@ use std::marker::Model;
 use std::process::Abort;
 use w16_global::{FarFault, Global16, Work};
 use w16_model::{GRAIN, Kind, Owned};
+use w16_region::Space;
 
 /// One call of a global heap.
 #[derive(Clone, Copy)]
@@ -248,9 +249,10 @@ impl Work for Setting {
 
     ghost may = { λ _ _ _. Unit {0} };
 
-    ghost does = { λ _ _ _ _ _ _. Unit {0} };
+    ghost does = { λ _ _ _ _ _ _ _ _. Unit {0} };
 
-    fn work(&self, _state: &mut (), bytes: &mut [u8]) {
-        bytes.fill(self.byte);
+    fn work<S: Space>(&self, _state: &mut (), space: &mut S) {
+        let size = space.len();
+        space.fill(0, size, self.byte);
     }
 }

@@ -163,7 +163,7 @@ impl Bench {
             Call::Unlock(name) => self.local.local_unlock(global, self.ds, name),
             Call::Compact(size) => self.local.local_compact(global, self.ds, size),
             Call::Drop(handle) => {
-                self.local.drop_heap(handle);
+                self.local.drop_heap(global, handle);
                 0
             }
             _ => self.tells(call),
@@ -176,7 +176,8 @@ impl Bench {
             Call::Size(name) => self.local.local_size(&self.global, self.ds, name),
             Call::Flags(name) => self.local.local_flags(&self.global, self.ds, name),
             Call::Handle(pointer) => self.local.local_handle(&self.global, self.ds, pointer),
-            Call::End(handle) => (self.local.heap_end(handle).unwrap_or(0) % 65_536) as u16,
+            Call::End(handle) => (self.local.heap_end(&self.global, handle).unwrap_or(0)
+                % 65_536) as u16,
             _ => 0,
         }
     }

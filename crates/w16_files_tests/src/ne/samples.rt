@@ -14,8 +14,10 @@ struct Sample {
     entry_count: usize,
     /// Ordinals, with where they lead.
     entries: &'static [(u16, Option<Entry>)],
-    /// Names, with their ordinals.
+    /// Names that are looked up, with their ordinals.
     ordinals: &'static [(&'static [u8], u16)],
+    /// The names of entries in the tables' order, with their ordinals. All are resident.
+    names: &'static [(&'static [u8], u16)],
     references: &'static [&'static [u8]],
     imported_names: u64,
     resources: &'static [Numbered],
@@ -69,7 +71,8 @@ static LIBRARY: Sample = Sample {
         ),
         (3, None),
     ],
-    ordinals: &[(b"GETA", 1), (b"getB", 2), (b"TLIB", 0)],
+    ordinals: &[(b"GETA", 1), (b"getB", 2), (b"TLIB", 0), (b"GET", 0)],
+    names: &[(b"GETA", 1), (b"GETB", 2)],
     references: &[],
     imported_names: 0xa6,
     resources: &[],
@@ -89,6 +92,7 @@ static APPLICATION: Sample = Sample {
     entry_count: 0,
     entries: &[],
     ordinals: &[],
+    names: &[],
     references: &[b"TLIB"],
     imported_names: 0x92,
     resources: &[],
@@ -102,6 +106,7 @@ static RESOURCES: Sample = Sample {
     entry_count: 0,
     entries: &[],
     ordinals: &[],
+    names: &[],
     references: &[],
     imported_names: 0xa0,
     resources: &[Numbered {
@@ -182,6 +187,15 @@ fn has_ordinals(module: &Module, wanted: &[(&[u8], u16)]) -> bool {
     true
 }
 
+fn has_names(module: &Module, wanted: &[(&[u8], u16)]) -> bool {
+    for i in 0..module.name_count() {
+        if wanted.get(i).copied() != Some(module.entry_name(i)) {
+            return false;
+        }
+    }
+    module.name_count() == wanted.len() && module.resident_count() == wanted.len()
+}
+
 fn has_description(module: &Module, wanted: Option<&[u8]>) -> bool {
     match wanted {
         Some(text) => module.description() == text,
@@ -191,7 +205,8 @@ fn has_description(module: &Module, wanted: Option<&[u8]>) -> bool {
 
 /// Whether a module's name and numbers are as wanted.
 fn has_header(module: &Module, wanted: &Sample) -> bool {
-    module.header().starts_with(b"NE")
+    module.place() == 0x40
+        && module.header().starts_with(b"NE")
         && module.name() == wanted.name
         && module.library() == wanted.library
         && module.entry_count() == wanted.entry_count
@@ -206,6 +221,7 @@ fn is_as_wanted(module: &Module, wanted: &Sample) -> bool {
         && has_resources(module, wanted.resources)
         && has_entries(module, wanted.entries)
         && has_ordinals(module, wanted.ordinals)
+        && has_names(module, wanted.names)
 }
 
 /// Whether a file is read, and is as wanted.

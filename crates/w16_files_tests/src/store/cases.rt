@@ -1,4 +1,5 @@
 //! Stores, and what each answers.
+use super::odd_names::UNOPENED;
 use w16_store::{DirFault, StoreFault};
 
 /// A question to a store with its answer, or a change of the folder that it may be of.
@@ -12,6 +13,8 @@ pub enum Step {
     Write(&'static str, &'static str),
     Remove(&'static str),
     MakeFolder(&'static str),
+    /// A FIFO.
+    Fifo(&'static str),
     /// A link to the first, by the name of the second.
     Link(&'static str, &'static str),
     /// There is no store, for this reason: the one step where it stands.
@@ -162,6 +165,41 @@ static CASES: &[Case] = &[
             Step::Len(b"HELLO.TXT", Err(StoreFault::Device)),
             Step::Write("store_files/NEW.TXT", "new"),
             Step::Len(b"NEW.TXT", Err(StoreFault::Missing)),
+        ]),
+    },
+    // The last step finds the file that is gone where anything else was opened.
+    Case {
+        name: "what became a FIFO or a folder is not opened",
+        store: Kind::OddNames,
+        before: &[Step::Write(UNOPENED, "")],
+        steps: Some(&[
+            Step::Read("HELLO.TXT", 0, 1, Ok(0x68)),
+            Step::Remove("store_files/HELLO.TXT"),
+            Step::Fifo("store_files/HELLO.TXT"),
+            Step::Read("HELLO.TXT", 0, 1, Err(StoreFault::Device)),
+            Step::Len(b"HELLO.TXT", Err(StoreFault::Device)),
+            Step::Remove("store_files/HELLO.TXT"),
+            Step::MakeFolder("store_files/HELLO.TXT"),
+            Step::Read("HELLO.TXT", 0, 1, Err(StoreFault::Device)),
+            Step::Remove(UNOPENED),
+        ]),
+    },
+    Case {
+        name: "a name that became a FIFO or a link in a circle is no file",
+        store: Kind::Folder("store_files"),
+        before: &[],
+        steps: Some(&[
+            Step::Read("HELLO.TXT", 0, 1, Ok(0x68)),
+            Step::Remove("store_files/HELLO.TXT"),
+            Step::Fifo("store_files/HELLO.TXT"),
+            Step::Read("HELLO.TXT", 0, 1, Err(StoreFault::Device)),
+            Step::Len(b"HELLO.TXT", Err(StoreFault::Device)),
+            Step::Remove("store_files/HELLO.TXT"),
+            Step::Link("HELLO.TXT", "store_files/HELLO.TXT"),
+            Step::Read("HELLO.TXT", 0, 1, Err(StoreFault::Device)),
+            Step::Remove("store_files/HELLO.TXT"),
+            Step::Write("store_files/HELLO.TXT", "hello"),
+            Step::Read("HELLO.TXT", 0, 1, Ok(0x68)),
         ]),
     },
     Case {

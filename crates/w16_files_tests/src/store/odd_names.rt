@@ -1,9 +1,12 @@
-//! A system with a name that is no UTF-8.
+//! A system with a name that is no UTF-8, which tells whether anything was opened that is no regular file.
 use std::alloc::{AllocError, Allocator, Global};
 use std::fs::{Metadata, OpenOptions};
 use std::io;
 use std::io::Cursor;
 use std::rt::Files;
+
+/// A file that is gone once anything was opened that is no regular file. To open a FIFO would wait in its place.
+pub(super) const UNOPENED: &str = "store_files/UNOPENED";
 
 /// A system whose folders list a name that is no UTF-8 before a good one.
 #[derive(Drop)]
@@ -29,6 +32,9 @@ impl Files for OddNames {
     type Dir = Cursor<Vec<u8>>;
 
     fn open_file(&self, how: &OpenOptions, path: &str) -> io::Result<Self::File> {
+        if !self.0.metadata(path)?.is_file() {
+            self.0.remove_file(UNOPENED)?;
+        }
         self.0.open_file(how, path)
     }
 

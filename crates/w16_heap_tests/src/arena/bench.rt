@@ -7,7 +7,7 @@ use std::marker::Model;
 use std::process::Abort;
 use w16_arena::{Arena, Compacted, NoRoom, Placed};
 use w16_holes::SideHoles;
-use w16_model::{Block, Entry, Item, Kind, Refusal, Snapshot, Way};
+use w16_model::{Block, Entry, Item, Kind, Refusal, RoomOptions, Snapshot};
 use w16_region::{Region, Space};
 
 /// How many ids there are.
@@ -17,8 +17,8 @@ const IDS: u32 = 6;
 #[derive(Clone, Copy)]
 pub(super) enum Step {
     Enter(u32, Kind),
-    Alloc(u32, u32, Kind, Way),
-    Realloc(u32, u32, Way),
+    Alloc(u32, u32, Kind, RoomOptions),
+    Realloc(u32, u32, RoomOptions),
     Lock(u32),
     Unlock(u32),
     /// 255 locks of one object.
@@ -165,8 +165,8 @@ impl Bench {
     pub fn act(&mut self, rt: &impl Abort, step: Step) -> Answer {
         match step {
             Step::Enter(id, kind) => self.enter(rt, id, kind),
-            Step::Alloc(id, size, kind, way) => self.alloc(rt, id, size, kind, way),
-            Step::Realloc(id, size, way) => self.realloc(rt, id, size, way),
+            Step::Alloc(id, size, kind, options) => self.alloc(rt, id, size, kind, options),
+            Step::Realloc(id, size, options) => self.realloc(rt, id, size, options),
             Step::Locks(id) => self.repeat(Step::Lock(id)),
             Step::Unlocks(id) => self.repeat(Step::Unlock(id)),
             Step::Fill(at, n, byte) => self.fill(rt, at, n, byte),
@@ -240,18 +240,25 @@ impl Bench {
         Answer::Done
     }
 
-    fn alloc(&mut self, rt: &impl Abort, id: u32, size: u32, kind: Kind, way: Way) -> Answer {
+    fn alloc(
+        &mut self,
+        rt: &impl Abort,
+        id: u32,
+        size: u32,
+        kind: Kind,
+        options: RoomOptions,
+    ) -> Answer {
         let grain = self.arena.grain();
         assert!(rt; id < self.arena.cap() && self.arena.block(id).is_none());
         assert!(rt; is_size(grain, size) && self.arena.bounds().to <= self.region.len());
-        placed(self.arena.alloc(&mut self.region, id, size, kind, way))
+        placed(self.arena.alloc(&mut self.region, id, size, kind, options))
     }
 
-    fn realloc(&mut self, rt: &impl Abort, id: u32, size: u32, way: Way) -> Answer {
+    fn realloc(&mut self, rt: &impl Abort, id: u32, size: u32, options: RoomOptions) -> Answer {
         let grain = self.arena.grain();
         assert!(rt; self.arena.entry(id).is_some() && is_size(grain, size));
         assert!(rt; self.arena.bounds().to <= self.region.len());
-        placed(self.arena.realloc(&mut self.region, id, size, way))
+        placed(self.arena.realloc(&mut self.region, id, size, options))
     }
 
     fn fill(&mut self, rt: &impl Abort, at: u32, n: u32, byte: u8) -> Answer {

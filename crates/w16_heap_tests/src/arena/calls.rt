@@ -4,13 +4,13 @@ use super::bench::{Answer, Step};
 use super::scripts::Script;
 use super::{AS_IT_STANDS, DISCARDING, SLIDING};
 use w16_arena::{Compacted, Placed};
-use w16_model::{Block, Entry, Hold, Item, Kind, Owner, Refusal, Span, Way};
+use w16_model::{Block, Entry, Hold, Item, Kind, Owner, Refusal, RoomOptions, Span};
 
 /// Nothing was slid.
 const NOTHING: Span = Span { from: 0, to: 0 };
 
 /// A request for zeros.
-const ZEROS: Way = Way {
+const ZEROS: RoomOptions = RoomOptions {
     zero: true,
     ..DISCARDING
 };

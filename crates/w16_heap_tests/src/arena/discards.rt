@@ -5,12 +5,12 @@ use super::{AS_IT_STANDS, DISCARDING, SLIDING};
 use std::alloc::{AllocError, Global};
 use std::process::Abort;
 use std::test::Fail;
-use w16_model::{Block, Hold, Kind, Snapshot, Way};
+use w16_model::{Block, Hold, Kind, RoomOptions, Snapshot};
 
 /// An id, the bytes that are asked for it, and how many discards that makes, if it is answered.
 type Asked = (u32, u32, Option<usize>);
 
-/// A heap, and requests there in a way that lets them discard.
+/// A heap, and requests there whose options let them discard.
 struct Case {
     name: &'static str,
     heap: Heap,
@@ -134,11 +134,11 @@ fn plain_count(
     rt: &impl Abort,
     alloc: Global,
     heap: Snapshot,
-    asked: (u32, u32, Way),
+    asked: (u32, u32, RoomOptions),
 ) -> Result<Option<usize>, AllocError> {
-    let (id, size, way) = asked;
+    let (id, size, options) = asked;
     assert!(rt; heap.is_placed());
-    heap.prefix(alloc, size, Some(id), way)
+    heap.prefix(alloc, size, Some(id), options)
 }
 
 /// Whether a request in a heap that stands so discards the first of these, as many as the plain program says, or else is refused.
@@ -167,30 +167,30 @@ fn is_answered_in(
     Ok(is_answered(rt, &mut bench, heap.left, step, told))
 }
 
-/// Makes a request in a heap. It discards as many as the plain program says, the least recently used first; in a way that lets it discard,
+/// Makes a request in a heap. It discards as many as the plain program says, the least recently used first; with options that let it discard,
 /// that is the number that was worked out.
 fn asks(
     rt: &impl Abort,
     alloc: Global,
     heap: &Heap,
     asked: &Asked,
-    way: Way,
+    options: RoomOptions,
 ) -> Result<bool, AllocError> {
     let (id, size, wanted) = *asked;
-    let count = plain_count(rt, alloc, heap.left, (id, size, way))?;
-    if way.discard && count != wanted {
+    let count = plain_count(rt, alloc, heap.left, (id, size, options))?;
+    if options.discard && count != wanted {
         return Ok(false);
     }
     let ids = heap.left.eligible(alloc, Some(id))?;
-    let step = Step::Alloc(id, size, Kind::Discardable, way);
+    let step = Step::Alloc(id, size, Kind::Discardable, options);
     is_answered_in(rt, alloc, heap, step, (&ids, count))
 }
 
-/// Makes each request of a case in each way.
+/// Makes each request of a case with all options.
 fn asks_all(rt: &impl Abort, alloc: Global, case: &Case) -> Result<bool, AllocError> {
     for asked in case.asked {
-        for way in [AS_IT_STANDS, SLIDING, DISCARDING] {
-            if !asks(rt, alloc, &case.heap, asked, way)? {
+        for options in [AS_IT_STANDS, SLIDING, DISCARDING] {
+            if !asks(rt, alloc, &case.heap, asked, options)? {
                 return Ok(false);
             }
         }

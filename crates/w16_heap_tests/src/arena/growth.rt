@@ -6,7 +6,7 @@ use std::alloc::{AllocError, Global};
 use std::process::Abort;
 use std::test::Fail;
 use w16_arena::Placed;
-use w16_model::{Block, Hold, Kind, Snapshot, Span, Way};
+use w16_model::{Block, Hold, Kind, RoomOptions, Snapshot, Span};
 
 /// The growth of the object 0 of a heap.
 struct Growth {
@@ -16,13 +16,13 @@ struct Growth {
     block: Block,
     /// The bytes that it is to have.
     size: u32,
-    way: Way,
+    options: RoomOptions,
     /// How many discards it makes, if it is answered, where it stands, what was moved, and the range of others that slid.
     answer: Option<(usize, u32, u64, Span)>,
 }
 
 /// The object itself may move, also where it is fixed or locked.
-const MOVING: Way = Way {
+const MOVING: RoomOptions = RoomOptions {
     may_move: true,
     ..SLIDING
 };
@@ -55,7 +55,7 @@ static GROWTHS: &[Growth] = &[
         ),
         block: loose!(0, 0, 32),
         size: 64,
-        way: SLIDING,
+        options: SLIDING,
         answer: Some((0, 0, 0, NONE)),
     },
     Growth {
@@ -67,7 +67,7 @@ static GROWTHS: &[Growth] = &[
         ),
         block: pinned!(0, 0, 32),
         size: 256,
-        way: DISCARDING,
+        options: DISCARDING,
         answer: Some((0, 0, 0, NONE)),
     },
     Growth {
@@ -75,7 +75,7 @@ static GROWTHS: &[Growth] = &[
         heap: heap!(LOCKED, &[pinned!(0, 0, 32), loose!(1, 32, 32)], &[]),
         block: pinned!(0, 0, 32),
         size: 64,
-        way: DISCARDING,
+        options: DISCARDING,
         answer: None,
     },
     Growth {
@@ -83,7 +83,7 @@ static GROWTHS: &[Growth] = &[
         heap: heap!(LOCKED, &[pinned!(0, 0, 32), loose!(1, 32, 32)], &[]),
         block: pinned!(0, 0, 32),
         size: 64,
-        way: MOVING,
+        options: MOVING,
         answer: Some((0, 64, 32, NONE)),
     },
     Growth {
@@ -101,7 +101,7 @@ static GROWTHS: &[Growth] = &[
         ),
         block: loose!(0, 0, 32),
         size: 64,
-        way: AS_IT_STANDS,
+        options: AS_IT_STANDS,
         answer: Some((0, 64, 32, NONE)),
     },
     Growth {
@@ -117,7 +117,7 @@ static GROWTHS: &[Growth] = &[
         ),
         block: loose!(0, 0, 64),
         size: 128,
-        way: AS_IT_STANDS,
+        options: AS_IT_STANDS,
         answer: None,
     },
     Growth {
@@ -133,7 +133,7 @@ static GROWTHS: &[Growth] = &[
         ),
         block: loose!(0, 0, 64),
         size: 128,
-        way: SLIDING,
+        options: SLIDING,
         answer: Some((0, 0, 96, ALL)),
     },
     Growth {
@@ -151,7 +151,7 @@ static GROWTHS: &[Growth] = &[
         ),
         block: loose!(0, 96, 96),
         size: 128,
-        way: SLIDING,
+        options: SLIDING,
         answer: Some((0, 64, 160, ALL)),
     },
     Growth {
@@ -177,7 +177,7 @@ static GROWTHS: &[Growth] = &[
         ),
         block: loose!(0, 0, 32),
         size: 64,
-        way: SLIDING,
+        options: SLIDING,
         answer: Some((0, 192, 160, Span { from: 64, to: 256 })),
     },
     Growth {
@@ -189,7 +189,7 @@ static GROWTHS: &[Growth] = &[
         ),
         block: loose!(0, 0, 64),
         size: 128,
-        way: DISCARDING,
+        options: DISCARDING,
         answer: Some((1, 0, 0, NONE)),
     },
     Growth {
@@ -201,7 +201,7 @@ static GROWTHS: &[Growth] = &[
         ),
         block: loose!(0, 0, 64),
         size: 128,
-        way: SLIDING,
+        options: SLIDING,
         answer: None,
     },
     Growth {
@@ -213,7 +213,7 @@ static GROWTHS: &[Growth] = &[
         ),
         block: loose!(0, 0, 64),
         size: 288,
-        way: DISCARDING,
+        options: DISCARDING,
         answer: None,
     },
     Growth {
@@ -228,7 +228,7 @@ static GROWTHS: &[Growth] = &[
         ),
         block: loose!(0, 0, 128),
         size: 160,
-        way: SLIDING,
+        options: SLIDING,
         answer: None,
     },
 ];
@@ -246,8 +246,8 @@ fn plain_count(
 ) -> Result<Option<usize>, AllocError> {
     let heap = growth.heap.left;
     assert!(rt; heap.is_placed());
-    if growth.block.hold == Hold::Loose || growth.way.may_move {
-        return heap.growth(alloc, growth.size, 0, growth.way);
+    if growth.block.hold == Hold::Loose || growth.options.may_move {
+        return heap.growth(alloc, growth.size, 0, growth.options);
     }
     Ok(heap.fits_in_place(growth.size, 0).then_some(0))
 }
@@ -269,7 +269,7 @@ fn grows_in(rt: &impl Abort, bench: &mut Bench, growth: &Growth, ids: &[u32]) ->
     let stands = bench.stands(growth.heap.left) && block == Answer::Block(Some(growth.block));
     bench.act(rt, Step::FillObject(0, 7));
     stands
-        && bench.act(rt, Step::Realloc(0, growth.size, growth.way)) == answer
+        && bench.act(rt, Step::Realloc(0, growth.size, growth.options)) == answer
         && bench.has_discarded_first(ids, count.unwrap_or(0))
         && bench.act(rt, Step::IsFilled(at, growth.block.size, 7)) == Answer::Is(true)
 }

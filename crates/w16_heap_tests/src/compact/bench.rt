@@ -1,10 +1,13 @@
 //! Blocks and their memory, for tests.
-ghost use Rattle.std.specs.Prelude.{◌≡◌, ◌≢◌, ◌<◌, ◌≤◌, length, IsTrue, IsSome, IfOk, IfSome, ℕ};
+ghost use Rattle.std.specs.Prelude.{◌≡◌, ◌≢◌, ◌<◌, ◌≤◌, length, IsTrue, IsSome, IfOk, IfSome, Some, ℕ};
+ghost use Rattle.std.specs.List.{AllByRecursion};
 ghost use Rattle.w16_model.specs.Gap.{block_end};
 ghost use Rattle.w16_model.specs.Heap.{IsMultiple};
+ghost use Rattle.w16_model.specs.Reallocation.{counted_loose, loosened};
 ghost use Rattle.w16_model.specs.Table.{block_with};
 ghost use Rattle.w16_blocks.specs.Layout.{Fits, IsApart};
 ghost use Rattle.w16_compact.specs.Gather.{FitsGap, MayGather};
+ghost use Rattle.w16_compact.specs.Open.{with_loose};
 
 use std::alloc::{AllocError, Global};
 use std::marker::Model;
@@ -121,6 +124,66 @@ fn may_gather(blocks: &Blocks<SideHoles>, list: &[Block], gap: Span) -> bool
         && gap.from <= gap.to
         && gap.to <= bounds.to
         && list.iter().all(|block| fits_gap(block, gap))
+}
+
+/// Whether a gap may be opened behind an id's block, which counts as loose.
+fn may_open<S: Space>(
+    alloc: Global,
+    blocks: &Blocks<SideHoles>,
+    space: &S,
+    gap: Span,
+    id: u32,
+) -> Result<bool, AllocError>
+    ensures gap { IfOk result (λ may. IsTrue may → MayGather (with_loose id blocks.now) gap.from gap.to) }
+    ensures grained { IfOk result (λ may. IsTrue may → IsMultiple blocks.now.grain gap.from × IsMultiple blocks.now.grain gap.to) }
+    ensures inside { IfOk result (λ may. IsTrue may → blocks.now.hi ≤ length (S.bytes space.now)) }
+{
+    let list = listed(alloc, blocks, space)?;
+    Ok(
+        are_grained(blocks, gap)
+            && blocks.bounds().to <= space.len()
+            && may_gather_loosened(blocks, &list, gap, id),
+    )
+}
+
+/// Whether blocks may be gathered in a gap where an id's counts as loose.
+fn may_gather_loosened(blocks: &Blocks<SideHoles>, list: &[Block], gap: Span, id: u32) -> bool
+    requires { list.now ≡ blocks.now.blocks }
+    ensures { IsTrue result → MayGather (with_loose id blocks.now) gap.from gap.to }
+{
+    let bounds = blocks.bounds();
+    bounds.from <= gap.from
+        && gap.from <= gap.to
+        && gap.to <= bounds.to
+        && fit_loosened(list, gap, id)
+}
+
+/// Whether each block lies outside a gap, or inside and may slide, where an id's counts as loose.
+fn fit_loosened(list: &[Block], gap: Span, id: u32) -> bool
+    ensures { IsTrue result → AllByRecursion (FitsGap gap.from gap.to) (loosened (Some id) list.now) }
+{
+    all_fit(list, gap, id)
+}
+
+/// The same, by each block.
+fn all_fit(list: &[Block], gap: Span, id: u32) -> bool
+    ensures { IsTrue result → AllByRecursion (λ b. FitsGap gap.from gap.to (counted_loose (Some id) b)) list.now }
+{
+    list.iter().all(|block| fits_loosened(block, gap, id))
+}
+
+/// The same of a block, which counts as loose where it is an id's.
+fn fits_loosened(block: &Block, gap: Span, id: u32) -> bool
+    ensures { IsTrue result → FitsGap gap.from gap.to (counted_loose (Some id) block.now) }
+{
+    if block.id == id {
+        let loose = Block {
+            hold: Hold::Loose,
+            ..*block
+        };
+        return fits_gap(&loose, gap);
+    }
+    fits_gap(block, gap)
 }
 
 /// Whether a block lies outside a gap, or inside and may slide.
@@ -354,11 +417,13 @@ impl<S: Space> Bench<S> {
         gap: Span,
         id: Option<u32>,
     ) -> Result<u64, AllocError> {
-        let may = may_slide(alloc, &self.blocks, &self.space, gap)?;
-        assert!(rt; may);
         let Some(id) = id else {
+            let may = may_slide(alloc, &self.blocks, &self.space, gap)?;
+            assert!(rt; may);
             return Ok(gather(&mut self.blocks, &mut self.space, gap.from, gap.to));
         };
+        let may = may_open(alloc, &self.blocks, &self.space, gap, id)?;
+        assert!(rt; may);
         assert!(rt; stands_in(&self.blocks, id, gap));
         Ok(open(&mut self.blocks, &mut self.space, gap.from, gap.to, id))
     }

@@ -348,6 +348,19 @@ static TOLD: &[Case] = &[
         holes: &[span!(32, 192)],
     },
     Case {
+        name: "a pinned block counts as loose, and is pinned where it is then",
+        heap: heap!(
+            0,
+            256,
+            &[loose!(0, 32, 32), pinned!(1, 96, 64), loose!(2, 160, 32)]
+        ),
+        rooms: &[],
+        slide: Slide::Open(span!(0, 256), 1),
+        moved: 128,
+        left: &[loose!(0, 0, 32), pinned!(1, 32, 64), loose!(2, 224, 32)],
+        holes: &[span!(96, 224)],
+    },
+    Case {
         name: "nothing above",
         heap: heap!(0, 256, &[loose!(0, 64, 32), loose!(7, 160, 64)]),
         rooms: &[],

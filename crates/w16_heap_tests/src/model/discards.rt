@@ -21,12 +21,12 @@ fn has_rooms(alloc: Global, case: &Case) -> Result<bool, AllocError> {
 /// Whether a request needs as many discards as are wanted, and is answered by as many.
 fn is_answered(alloc: Global, case: &Case) -> Result<bool, AllocError> {
     let heap = case.heap;
-    let (size, about, way) = case.asked;
+    let (size, about, options) = case.asked;
     if !heap.is_placed() {
         return Ok(false);
     }
     let needed = heap.needed(alloc, size, about)?;
-    let prefix = heap.prefix(alloc, size, about, way)?;
+    let prefix = heap.prefix(alloc, size, about, options)?;
     Ok(needed == case.needed && prefix == case.prefix)
 }
 

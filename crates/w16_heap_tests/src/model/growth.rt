@@ -1,14 +1,14 @@
 //! Objects that grow.
-use super::{ANY_WAY, MAY_MOVE, NO_COMPACT, NO_DISCARD};
+use super::{MAY_MOVE, NO_COMPACT, NO_DISCARD, REVIVAL_OPTIONS};
 use std::alloc::{AllocError, Global};
 use std::test::Fail;
-use w16_model::{Block, Hold, Snapshot, Way};
+use w16_model::{Block, Hold, RoomOptions, Snapshot};
 
 /// An object that grows: the heap, the bytes that it is to have, and its id, each with what may be done.
 struct Growth {
     name: &'static str,
     heap: Snapshot<'static>,
-    asked: (u32, u32, Way),
+    asked: (u32, u32, RoomOptions),
     /// Whether the hole directly after it is long enough.
     fits: bool,
     /// The number of discards by which it grows, or none where it doesn't.
@@ -48,7 +48,7 @@ static GROWTHS: &[Growth] = &[
             blocks: &[loose!(32, 32, 32), pinned!(33, 96, 32)],
             order: &[],
         },
-        asked: (96, 32, ANY_WAY),
+        asked: (96, 32, REVIVAL_OPTIONS),
         fits: false,
         count: Some(0),
     },
@@ -72,7 +72,7 @@ static GROWTHS: &[Growth] = &[
             blocks: &[loose!(32, 0, 32), loose!(33, 32, 32), loose!(34, 64, 32)],
             order: &[33, 34],
         },
-        asked: (64, 32, ANY_WAY),
+        asked: (64, 32, REVIVAL_OPTIONS),
         fits: false,
         count: Some(1),
     },
@@ -96,7 +96,7 @@ static GROWTHS: &[Growth] = &[
             blocks: &[loose!(32, 0, 32), loose!(33, 32, 32)],
             order: &[32],
         },
-        asked: (64, 32, ANY_WAY),
+        asked: (64, 32, REVIVAL_OPTIONS),
         fits: false,
         count: None,
     },
@@ -117,11 +117,11 @@ static GROWTHS: &[Growth] = &[
 /// Whether an object grows in place, and by as many discards, as is wanted.
 fn grows(alloc: Global, growth: &Growth) -> Result<bool, AllocError> {
     let heap = growth.heap;
-    let (size, id, way) = growth.asked;
+    let (size, id, options) = growth.asked;
     if !heap.is_placed() {
         return Ok(false);
     }
-    let count = heap.growth(alloc, size, id, way)?;
+    let count = heap.growth(alloc, size, id, options)?;
     Ok(heap.fits_in_place(size, id) == growth.fits && count == growth.count)
 }
 

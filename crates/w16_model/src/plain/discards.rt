@@ -5,7 +5,7 @@ ghost use Rattle.w16_model.specs.Discards as defined;
 ghost use Rattle.w16_model.specs.Discards.{snapshot};
 
 use super::{Snapshot, is_pinned};
-use crate::{Block, Way};
+use crate::{Block, RoomOptions};
 use std::alloc::{AllocError, Global};
 
 impl<'a> Snapshot<'a> {
@@ -76,18 +76,18 @@ impl<'a> Snapshot<'a> {
         alloc: Global,
         size: u32,
         about: Option<u32>,
-        way: Way,
+        options: RoomOptions,
     ) -> Result<Option<usize>, AllocError>
         requires { ArePlaced self.now.lo self.now.hi self.now.blocks.now }
         ensures { IfOk result
             (λ count. count
             ≡ defined.prefix_for (snapshot self.now.lo self.now.hi self.now.blocks.now self.now.order.now)
-            size about way) }
+            size about options) }
     {
-        if !way.compact {
+        if !options.compact {
             return Ok((size <= self.longest_hole()).then_some(0));
         }
-        if !way.discard {
+        if !options.discard {
             return Ok((size <= self.room_for(alloc, 0, about)?).then_some(0));
         }
         self.needed(alloc, size, about)
@@ -118,16 +118,16 @@ impl<'a> Snapshot<'a> {
         alloc: Global,
         size: u32,
         id: u32,
-        way: Way,
+        options: RoomOptions,
     ) -> Result<Option<usize>, AllocError>
         requires { ArePlaced self.now.lo self.now.hi self.now.blocks.now }
         ensures { IfOk result
             (λ count. count
             ≡ defined.growth_for (snapshot self.now.lo self.now.hi self.now.blocks.now self.now.order.now)
-            size id way) }
+            size id options) }
     {
-        if way.compact {
-            return self.prefix(alloc, size, Some(id), way);
+        if options.compact {
+            return self.prefix(alloc, size, Some(id), options);
         }
         let fits = self.fits_in_place(size, id) || size <= self.longest_hole();
         Ok(fits.then_some(0))

@@ -32,11 +32,11 @@ returns-clause-rest g c =
 
 pub returns-clause-fewest : goal.returns-clause-fewest
 returns-clause-fewest g c =
-    compaction_law _ _ _ _ (sound_heap c.args.self.now.table c.is_sound.ensures (g.S.Space.bytes c.args.space.now) c.requires.inside c.has_bytes.ensures) (returns-clause-compacted g c)
+    compaction_law _ _ _ _ (sound_heap c.args.self.now.table c.is_sound.ensures (g.S.Space.bytes c.args.space.now) c.requires.inside c.reveal_bytes.ensures) (returns-clause-compacted g c)
 
 pub returns-then-n-gt0-clause-fewest : goal.returns-then-n-gt0-clause-fewest
 returns-then-n-gt0-clause-fewest g c =
-    compaction_law _ _ _ _ (sound_heap c.args.self.now.table c.is_sound.ensures (g.S.Space.bytes c.args.space.now) c.requires.inside c.has_bytes.ensures) c.slide_discarding.ensures.compacted
+    compaction_law _ _ _ _ (sound_heap c.args.self.now.table c.is_sound.ensures (g.S.Space.bytes c.args.space.now) c.requires.inside c.reveal_bytes.ensures) c.slide_discarding.ensures.compacted
 
 pub returns-clause-none : goal.returns-clause-none
 returns-clause-none g c = λ _. (ap (λ (s : ArenaState). s.discarded) c.forget_discards.ensures, refl)

@@ -20,16 +20,16 @@ pub invariant_of-self : goal.invariant_of-self
 invariant_of-self g c = kept_resized c.self.invariant c.args.block (known_in c.self.invariant c.self.view_is (λ t. block_with t.blocks c.args.block.id ≡ Some c.args.block) c.requires.known) c.args.size c.resize.ensures.value c.resize.ensures.ordered
 
 pub returns-clause-resized : goal.returns-clause-resized
-returns-clause-resized g c = λ way.
+returns-clause-resized g c = λ options.
     let m = g.S.Space.bytes c.args.space.now in
     let p : Placed = record { at = c.args.block.at; slid = record { from = 0; to = 0 }; moved = 0 } in
     let b = c.args.block in let n = c.args.size in
     let known = known_in c.self.invariant c.self.view_is (λ t. block_with t.blocks b.id ≡ Some b) c.requires.known in
     let fits = fits_less _ b known c.bounds.ensures.ordered n c.requires.some c.requires.less (known_in c.self.invariant c.self.view_is (λ t. IsMultiple t.grain n) c.requires.rounded) in
-    rw c.forget_discards.ensures (told c.self.invariant c.self.view_is (λ t. IsResized (heap_in t m) b.id n way p [] (heap_of c.self.inside.entries.items c.resize.new.blocks c.self.inside.order.ids (g.S.Space.bytes c.resize.new.space)))
+    rw c.forget_discards.ensures (told c.self.invariant c.self.view_is (λ t. IsResized (heap_in t m) b.id n options p [] (heap_of c.self.inside.entries.items c.resize.new.blocks c.self.inside.order.ids (g.S.Space.bytes c.resize.new.space)))
     (is_cut c.self.invariant b known n c.resize.ensures.value c.resize.ensures.ordered m (known_in c.self.invariant c.self.view_is (λ t. t.hi ≤ length m) c.requires.inside)
     (g.S.Space.bytes c.resize.new.space) c.resize.ensures.bytes.rest.long (others_with c.self.invariant b known n c.resize.ensures.value c.resize.ensures.ordered m (g.S.Space.bytes c.resize.new.space) c.resize.ensures.bytes.contents)
-    c.requires.some (known_in c.self.invariant c.self.view_is (λ t. IsMultiple t.grain n) c.requires.rounded) way p refl refl fits.inside.2 c.requires.less (c.resize.ensures.own n c.requires.less (omega arith)) refl))
+    c.requires.some (known_in c.self.invariant c.self.view_is (λ t. IsMultiple t.grain n) c.requires.rounded) options p refl refl fits.inside.2 c.requires.less (c.resize.ensures.own n c.requires.less (omega arith)) refl))
 
 pub returns-clause-rest : goal.returns-clause-rest
 returns-clause-rest g c =

@@ -38,8 +38,8 @@ returns-then-block-free_after-clause-refused g c =
     let known : block_with l.blocks b.id ≡ Some b = known_in c.self.invariant c.self.view_is (λ t. block_with t.blocks b.id ≡ Some b) c.requires.known in
     let free : c.free_after.result ≡ hole_after l.hi l.blocks (block_end b) = subst (λ p. IfSome p (λ (b : Block). c.free_after.result ≡ hole_after l.hi l.blocks (block_end b))) known c.free_after.ensures.value in
     let short = c.if-block-free_after.true in (
-      told c.self.invariant c.self.view_is (λ t. Reallocates (heap_in t m) b.id n c.args.way false (heap_in t m))
-          (not_extended c.self.invariant b known n m (known_in c.self.invariant c.self.view_is (λ t. t.hi ≤ length m) c.requires.inside) (known_in c.self.invariant c.self.view_is (λ t. IsMultiple t.grain n) c.requires.rounded) c.args.way c.requires.more c.requires.held (omega arith)),
+      told c.self.invariant c.self.view_is (λ t. Reallocates (heap_in t m) b.id n c.args.options false (heap_in t m))
+          (not_extended c.self.invariant b known n m (known_in c.self.invariant c.self.view_is (λ t. t.hi ≤ length m) c.requires.inside) (known_in c.self.invariant c.self.view_is (λ t. IsMultiple t.grain n) c.requires.rounded) c.args.options c.requires.more c.requires.held (omega arith)),
       refl,
       refl,
     )
@@ -88,11 +88,11 @@ returns-clause-resized g c =
     let fits = fits_more l b known c.bounds.ensures.ordered c.args.size c.requires.more (omega arith) (known_in c.self.invariant c.self.view_is (λ t. IsMultiple t.grain c.args.size) c.requires.rounded) in
     let inside = known_in c.self.invariant c.self.view_is (λ t. t.hi ≤ length m) c.requires.inside in
     let kept = c.resize.ensures in let more = c.requires.more in
-    let long = long_after c.self.invariant b known n fits more kept.value kept.ordered m mid after inside kept.bytes.rest.long kept.small kept.bytes.contents kept.own c.args.way.zero c.clear_if.ensures.bytes in
-    let others = others_after c.self.invariant b known n fits more kept.value kept.ordered m mid after inside kept.bytes.rest.long kept.small kept.bytes.contents kept.own c.args.way.zero c.clear_if.ensures.bytes in
-    let grown = grown_after c.self.invariant b known n fits more kept.value kept.ordered m mid after inside kept.bytes.rest.long kept.small kept.bytes.contents kept.own c.args.way.zero c.clear_if.ensures.bytes in
-    rw c.forget_discards.ensures (told c.self.invariant c.self.view_is (λ t. IsResized (heap_in t m) b.id n c.args.way p [] (heap_of c.self.inside.entries.items c.resize.new.blocks c.self.inside.order.ids after))
-    (is_extended c.self.invariant b known n kept.value kept.ordered m inside after long others (omega arith) (known_in c.self.invariant c.self.view_is (λ t. IsMultiple t.grain n) c.requires.rounded) c.args.way p refl refl fits.inside.2
+    let long = long_after c.self.invariant b known n fits more kept.value kept.ordered m mid after inside kept.bytes.rest.long kept.small kept.bytes.contents kept.own c.args.options.zero c.clear_if.ensures.bytes in
+    let others = others_after c.self.invariant b known n fits more kept.value kept.ordered m mid after inside kept.bytes.rest.long kept.small kept.bytes.contents kept.own c.args.options.zero c.clear_if.ensures.bytes in
+    let grown = grown_after c.self.invariant b known n fits more kept.value kept.ordered m mid after inside kept.bytes.rest.long kept.small kept.bytes.contents kept.own c.args.options.zero c.clear_if.ensures.bytes in
+    rw c.forget_discards.ensures (told c.self.invariant c.self.view_is (λ t. IsResized (heap_in t m) b.id n c.args.options p [] (heap_of c.self.inside.entries.items c.resize.new.blocks c.self.inside.order.ids after))
+    (is_extended c.self.invariant b known n kept.value kept.ordered m inside after long others (omega arith) (known_in c.self.invariant c.self.view_is (λ t. IsMultiple t.grain n) c.requires.rounded) c.args.options p refl refl fits.inside.2
     more c.requires.held (omega arith) grown refl))
 
 pub returns-clause-rest : goal.returns-clause-rest
@@ -114,5 +114,5 @@ returns-clause-kept g c =
 
 pub returns-clause-written : goal.returns-clause-written
 returns-clause-written g c =
-    c.clear_if.ensures.written ∙ counted_if c.args.way.zero (g.S.Space.written c.resize.new.space) (c.args.size - c.args.block.size)
-    ∙ ap (λ (w : ℕ). counted w (if c.args.way.zero then c.args.size - c.args.block.size else 0)) c.resize.ensures.bytes.count
+    c.clear_if.ensures.written ∙ counted_if c.args.options.zero (g.S.Space.written c.resize.new.space) (c.args.size - c.args.block.size)
+    ∙ ap (λ (w : ℕ). counted w (if c.args.options.zero then c.args.size - c.args.block.size else 0)) c.resize.ensures.bytes.count

@@ -27,7 +27,7 @@ invariant_of-self-2 g c =
     let known = known_in c.self.invariant c.self.view_is (λ t. block_with t.blocks b.id ≡ Some b) c.requires.known in
     let inside = known_in c.self.invariant c.self.view_is (λ t. t.hi ≤ length m) c.requires.inside in
     let rounded = known_in c.self.invariant c.self.view_is (λ t. IsMultiple t.grain n) c.requires.rounded in
-    kept_grown c.self.invariant b known c.bounds.ensures.ordered m inside n c.requires.more rounded c.args.way p e.value e.laid e.slid e.free e.object c.has_bytes.ensures c.clear_if.ensures.bytes
+    kept_grown c.self.invariant b known c.bounds.ensures.ordered m inside n c.requires.more rounded c.args.options p e.value e.laid e.slid e.free e.object c.reveal_bytes.ensures c.clear_if.ensures.bytes
 
 pub returns-clause-stands : goal.returns-clause-stands
 returns-clause-stands g c =
@@ -36,10 +36,10 @@ returns-clause-stands g c =
     let known = known_in c.self.invariant c.self.view_is (λ t. block_with t.blocks b.id ≡ Some b) c.requires.known in
     let inside = known_in c.self.invariant c.self.view_is (λ t. t.hi ≤ length m) c.requires.inside in
     let rounded = known_in c.self.invariant c.self.view_is (λ t. IsMultiple t.grain n) c.requires.rounded in
-    told c.self.invariant c.self.view_is (λ t. IsSomeAnd (object_at (heap_in t m) b.id) (λ o. Stands (heap_in t m) b.id n (IsGrown c.args.way.zero n o) (λ _ order. order) c.args.way p (heap_of c.self.inside.entries.items c.grow_block.new.blocks c.self.inside.order.ids (g.S.Space.bytes c.clear_if.new.space))))
+    told c.self.invariant c.self.view_is (λ t. IsSomeAnd (object_at (heap_in t m) b.id) (λ o. Stands (heap_in t m) b.id n (IsGrown c.args.options.zero n o) (λ _ order. order) c.args.options p (heap_of c.self.inside.entries.items c.grow_block.new.blocks c.self.inside.order.ids (g.S.Space.bytes c.clear_if.new.space))))
     (of_object (table_of c.self.inside.entries.items c.self.inside.blocks c.self.inside.order.ids) c.self.invariant.sound m inside b known
-    (λ o. Stands (heap_of c.self.inside.entries.items c.self.inside.blocks c.self.inside.order.ids m) b.id n (IsGrown c.args.way.zero n o) (λ _ order. order) c.args.way p (heap_of c.self.inside.entries.items c.grow_block.new.blocks c.self.inside.order.ids (g.S.Space.bytes c.clear_if.new.space)))
-    (stands_grown c.self.invariant b known c.bounds.ensures.ordered m inside n c.requires.more rounded c.args.way p e.value e.laid e.slid e.free e.object c.has_bytes.ensures c.clear_if.ensures.bytes (λ off. (e.still off).0) e.moved))
+    (λ o. Stands (heap_of c.self.inside.entries.items c.self.inside.blocks c.self.inside.order.ids m) b.id n (IsGrown c.args.options.zero n o) (λ _ order. order) c.args.options p (heap_of c.self.inside.entries.items c.grow_block.new.blocks c.self.inside.order.ids (g.S.Space.bytes c.clear_if.new.space)))
+    (stands_grown c.self.invariant b known c.bounds.ensures.ordered m inside n c.requires.more rounded c.args.options p e.value e.laid e.slid e.free e.object c.reveal_bytes.ensures c.clear_if.ensures.bytes (λ off. (e.still off).0) e.moved))
 
 pub returns-clause-hole : goal.returns-clause-hole
 returns-clause-hole g c =
@@ -49,7 +49,7 @@ returns-clause-hole g c =
     let inside = known_in c.self.invariant c.self.view_is (λ t. t.hi ≤ length m) c.requires.inside in
     let rounded = known_in c.self.invariant c.self.view_is (λ t. IsMultiple t.grain n) c.requires.rounded in
     λ off. told c.self.invariant c.self.view_is (λ t. StaysOrMovesToHole (heap_in t m) b.id n (heap_of c.self.inside.entries.items c.grow_block.new.blocks c.self.inside.order.ids (g.S.Space.bytes c.clear_if.new.space)))
-    (hole_grown c.self.invariant b known c.bounds.ensures.ordered m inside n c.requires.more rounded c.args.way p e.value e.laid e.slid e.free e.object c.has_bytes.ensures c.clear_if.ensures.bytes (λ off. (e.still off).0) (e.still off).1)
+    (hole_grown c.self.invariant b known c.bounds.ensures.ordered m inside n c.requires.more rounded c.args.options p e.value e.laid e.slid e.free e.object c.reveal_bytes.ensures c.clear_if.ensures.bytes (λ off. (e.still off).0) (e.still off).1)
 
 pub returns-clause-rest : goal.returns-clause-rest
 returns-clause-rest g c =
@@ -58,7 +58,7 @@ returns-clause-rest g c =
     let known = known_in c.self.invariant c.self.view_is (λ t. block_with t.blocks b.id ≡ Some b) c.requires.known in
     let inside = known_in c.self.invariant c.self.view_is (λ t. t.hi ≤ length m) c.requires.inside in
     let rounded = known_in c.self.invariant c.self.view_is (λ t. IsMultiple t.grain n) c.requires.rounded in
-    told c.self.invariant c.self.view_is (λ t. KeepsRest g.S.Space.bytes g.S.Space.lenders t c.args.space.now (table_of c.self.inside.entries.items c.grow_block.new.blocks c.self.inside.order.ids) c.clear_if.new.space) (rest_grown c.self.invariant b known c.bounds.ensures.ordered m inside n c.requires.more rounded c.args.way p e.value e.laid e.slid e.free e.object c.has_bytes.ensures c.clear_if.ensures.bytes e.rest c.clear_if.ensures.rest)
+    told c.self.invariant c.self.view_is (λ t. KeepsRest g.S.Space.bytes g.S.Space.lenders t c.args.space.now (table_of c.self.inside.entries.items c.grow_block.new.blocks c.self.inside.order.ids) c.clear_if.new.space) (rest_grown c.self.invariant b known c.bounds.ensures.ordered m inside n c.requires.more rounded c.args.options p e.value e.laid e.slid e.free e.object c.reveal_bytes.ensures c.clear_if.ensures.bytes e.rest c.clear_if.ensures.rest)
 
 pub returns-clause-kept : goal.returns-clause-kept
 returns-clause-kept g c =
@@ -69,8 +69,8 @@ returns-clause-kept g c =
 
 pub returns-clause-written : goal.returns-clause-written
 returns-clause-written g c =
-    c.clear_if.ensures.written ∙ counted_if c.args.way.zero (g.S.Space.written c.grow_block.new.space) (c.args.size - c.args.block.size)
-    ∙ ap (λ (w : ℕ). counted w (if c.args.way.zero then c.args.size - c.args.block.size else 0)) c.in_ok-placed.ensures.written
+    c.clear_if.ensures.written ∙ counted_if c.args.options.zero (g.S.Space.written c.grow_block.new.space) (c.args.size - c.args.block.size)
+    ∙ ap (λ (w : ℕ). counted w (if c.args.options.zero then c.args.size - c.args.block.size else 0)) c.in_ok-placed.ensures.written
 
 pub returns-clause-discarded : goal.returns-clause-discarded
 returns-clause-discarded g c = ap (λ (s : ArenaState). s.discarded) c.self.view_is
@@ -79,7 +79,7 @@ pub returns-clause-sound : goal.returns-clause-sound
 returns-clause-sound g c = told c.self.invariant c.self.view_is (λ t. IsSound t) c.self.invariant.sound
 
 pub returns-clause-enough : goal.returns-clause-enough
-returns-clause-enough g c = told c.self.invariant c.self.view_is (λ t. may_grow_in t c.args.block.id c.args.size c.args.way.compact ≡ true) c.in_ok-placed.ensures.enough
+returns-clause-enough g c = told c.self.invariant c.self.view_is (λ t. may_grow_in t c.args.block.id c.args.size c.args.options.compact ≡ true) c.in_ok-placed.ensures.enough
 
 pub invariant_of-self : goal.invariant_of-self
 invariant_of-self g c = rw c.in_err-placed.ensures.refused.1 c.self.invariant

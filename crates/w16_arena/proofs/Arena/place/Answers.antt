@@ -13,19 +13,19 @@ use Rattle.w16_arena.proofs.Arena.place.Goals as goal
 
 pub insert-requires-clause-fits : goal.insert-requires-clause-fits
 insert-requires-clause-fits g c =
-    may_insert c.self.invariant c.self.view_is (g.S.Space.bytes c.args.space.now) c.has_bytes.ensures c.requires.inside c.args.id c.args.size c.args.kind c.args.way c.requires.id c.requires.absent c.requires.some c.requires.rounded
+    may_insert c.self.invariant c.self.view_is (g.S.Space.bytes c.args.space.now) c.reveal_bytes.ensures c.requires.inside c.args.id c.args.size c.args.kind c.args.options c.requires.id c.requires.absent c.requires.some c.requires.rounded
     c.in_ok-placed.placed c.in_ok-placed.ensures.slid c.in_ok-placed.ensures.free c.hold.ensures
 
 pub invariant_of-self-2 : goal.invariant_of-self-2
 invariant_of-self-2 g c =
     let moved = moved_kept c.in_ok-placed.placed.slid.from c.in_ok-placed.placed.slid.to _ _ _ _ _ c.in_ok-placed.ensures.slid c.insert.ensures.bytes.contents c.insert.ensures.bytes.rest.long c.insert.ensures.small in
-    kept_placed c.self.invariant c.self.view_is (g.S.Space.bytes c.args.space.now) c.has_bytes.ensures c.requires.inside c.args.id c.args.size c.args.kind c.args.way c.requires.id c.requires.absent c.requires.some c.requires.rounded
+    kept_placed c.self.invariant c.self.view_is (g.S.Space.bytes c.args.space.now) c.reveal_bytes.ensures c.requires.inside c.args.id c.args.size c.args.kind c.args.options c.requires.id c.requires.absent c.requires.some c.requires.rounded
     c.in_ok-placed.placed moved c.in_ok-placed.ensures.free c.hold.ensures c.insert.ensures.value c.insert.ensures.ordered c.clear_if.ensures.bytes c.list_new.ensures
 
 pub returns-clause-stands : goal.returns-clause-stands
 returns-clause-stands g c =
     let moved = moved_kept c.in_ok-placed.placed.slid.from c.in_ok-placed.placed.slid.to _ _ _ _ _ c.in_ok-placed.ensures.slid c.insert.ensures.bytes.contents c.insert.ensures.bytes.rest.long c.insert.ensures.small in
-    stands_placed c.self.invariant c.self.view_is (g.S.Space.bytes c.args.space.now) c.has_bytes.ensures c.requires.inside c.args.id c.args.size c.args.kind c.args.way c.requires.id c.requires.absent c.requires.some c.requires.rounded
+    stands_placed c.self.invariant c.self.view_is (g.S.Space.bytes c.args.space.now) c.reveal_bytes.ensures c.requires.inside c.args.id c.args.size c.args.kind c.args.options c.requires.id c.requires.absent c.requires.some c.requires.rounded
     c.in_ok-placed.placed moved c.in_ok-placed.ensures.free c.hold.ensures c.insert.ensures.value c.insert.ensures.ordered c.clear_if.ensures.bytes c.list_new.ensures
     (λ off. (c.in_ok-placed.ensures.still off).0) c.in_ok-placed.ensures.moved
 
@@ -34,7 +34,7 @@ returns-clause-rest g c =
     let slid = c.in_ok-placed.ensures.slid in
     let lo = ap (λ (l : Layout). l.lo) slid.same in let hi = ap (λ (l : Layout). l.hi) slid.same in
     let moved = moved_kept c.in_ok-placed.placed.slid.from c.in_ok-placed.placed.slid.to _ _ _ _ _ slid c.insert.ensures.bytes.contents c.insert.ensures.bytes.rest.long c.insert.ensures.small in
-    rest_placed c.self.invariant c.self.view_is (g.S.Space.bytes c.args.space.now) c.has_bytes.ensures c.requires.inside c.args.id c.args.size c.args.kind c.args.way c.requires.id c.requires.absent c.requires.some c.requires.rounded
+    rest_placed c.self.invariant c.self.view_is (g.S.Space.bytes c.args.space.now) c.reveal_bytes.ensures c.requires.inside c.args.id c.args.size c.args.kind c.args.options c.requires.id c.requires.absent c.requires.some c.requires.rounded
     c.in_ok-placed.placed moved c.in_ok-placed.ensures.free c.hold.ensures c.insert.ensures.value c.insert.ensures.ordered c.clear_if.ensures.bytes c.list_new.ensures
     (rest_more c.in_ok-placed.ensures.rest c.insert.ensures.bytes.rest (omega arith) (omega arith)) c.clear_if.ensures.rest
 
@@ -46,8 +46,8 @@ returns-clause-kept g c =
 
 pub returns-clause-written : goal.returns-clause-written
 returns-clause-written g c =
-    c.clear_if.ensures.written ∙ counted_if c.args.way.zero (g.S.Space.written c.insert.new.space) c.args.size
-    ∙ ap (λ (w : ℕ). counted w (if c.args.way.zero then c.args.size else 0)) (c.insert.ensures.bytes.count ∙ c.in_ok-placed.ensures.written)
+    c.clear_if.ensures.written ∙ counted_if c.args.options.zero (g.S.Space.written c.insert.new.space) c.args.size
+    ∙ ap (λ (w : ℕ). counted w (if c.args.options.zero then c.args.size else 0)) (c.insert.ensures.bytes.count ∙ c.in_ok-placed.ensures.written)
 
 pub returns-clause-discarded : goal.returns-clause-discarded
 returns-clause-discarded g c = ap (λ (s : ArenaState). s.discarded) c.self.view_is
@@ -64,4 +64,4 @@ returns-in_err-placed-clause-rest g c = let r = c.in_err-placed.ensures.refused 
     (rw (r.1, r.2) (record { range = record { lo = refl; hi = refl; grain = refl; ids = refl; sound = c.self.invariant.sound }; memory = rest_same c.self.inside.blocks.lo c.self.inside.blocks.hi c.args.space.now }))
 
 pub returns-clause-enough : goal.returns-clause-enough
-returns-clause-enough g c = told c.self.invariant c.self.view_is (λ t. c.args.size ≤ most_in t c.args.way.compact) c.in_ok-placed.ensures.enough
+returns-clause-enough g c = told c.self.invariant c.self.view_is (λ t. c.args.size ≤ most_in t c.args.options.compact) c.in_ok-placed.ensures.enough

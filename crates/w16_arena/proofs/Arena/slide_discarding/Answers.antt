@@ -20,7 +20,7 @@ returns g c =
     let slides = subst (λ h. SlidesTogether h c.slide_together.result new) (heap_kept m (g.S.Space.bytes c.discard_first.new.space) mid.table bytes.contents) p.slides in
     record {
       compacted = compacts_then c.args.self.now found.sound m c.requires.inside c.args.n c.requires.some c.least_discards-k.result found.value c.order_len.result few mid discards p.room slides;
-      slid = slid_then c.args.self.now found.sound m c.requires.inside c.args.n c.requires.some c.least_discards-k.result found.value c.order_len.result few mid discards p.room slides c.has_bytes.ensures;
+      slid = slid_then c.args.self.now found.sound m c.requires.inside c.args.n c.requires.some c.least_discards-k.result found.value c.order_len.result few mid discards p.room slides c.reveal_bytes.ensures;
       discarded = listed_then c.args.self.now found.sound m c.requires.inside c.args.n c.requires.some c.least_discards-k.result found.value c.order_len.result few mid discards p.discarded;
       rest = rest_after discards.range bytes.rest p.rest;
       kept = p.kept;

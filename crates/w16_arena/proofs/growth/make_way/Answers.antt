@@ -1,31 +1,71 @@
-use Rattle.std.proofs.Common.{◌≡◌, false, IsTrue, IfSome, IfNone, sym, subst}
-use Rattle.w16_arena.specs.Growth.{may_grow}
-use Rattle.w16_arena.proofs.Ways.{same_id, known_own, way_object, way_slid, way_free, way_moved, way_still}
+use Rattle.w16_arena.proofs.Written.{counted_none}
+use Rattle.w16_compact.proofs.Rests.{rest_same}
+use Rattle.std.proofs.lemmas.Bool.{false≢true}
+use Rattle.std.proofs.Common.{◌≡◌, ◌+◌, inr, IfSome, refl, sym, ◌∙◌, subst, arith, inl}
+use Rattle.w16_model.specs.declared.Block.{Block}
+use Rattle.w16_model.specs.Gap.{block_end, hole_after, is_any, IsClear}
+use Rattle.w16_arena.proofs.ButFor.{free_but, own_below}
+use Rattle.w16_arena.proofs.Rooms.{hole_free}
+use Rattle.w16_arena.proofs.Ways.{way_here, enough_here, enough_hole, none_still, slid_enough, clear_bytes}
 use Rattle.w16_arena.proofs.growth.make_way.Goals as goal
 
-pub find_way-requires-clause-known : goal.find_way-requires-clause-known
-find_way-requires-clause-known g c = known_own c.args.blocks.now c.args.id c.in-Some.block (sym c.in-Some.ensures.value)
+pub free_after-requires-clause-id : goal.free_after-requires-clause-id
+free_after-requires-clause-id g c = own_below c.bounds.ensures.ordered c.args.block c.requires.known
 
-pub returns-clause-object : goal.returns-clause-object
-returns-clause-object g c = way_object c.args.blocks.now c.args.id c.in-Some.block (sym c.in-Some.ensures.value) c.args.size _ _ _ c.find_way.result c.find_way.ensures.way
+-- where it stands
+pub returns-then-size-block-clause-way : goal.returns-then-size-block-clause-way
+returns-then-size-block-clause-way g c =
+    let l = c.args.blocks.now in
+    let behind = subst (λ o. IfSome o (λ (b : Block). c.free_after.result ≡ hole_after l.hi l.blocks (block_end b))) c.requires.known c.free_after.ensures.value in
+    way_here c.bounds.ensures.ordered c.args.block c.requires.known c.args.size c.requires.more c.free_after.result behind c.if-size-block.true (g.S.Space.bytes c.args.space.now)
 
-pub returns-clause-slid : goal.returns-clause-slid
-returns-clause-slid g c = way_slid c.args.blocks.now c.args.id c.in-Some.block (sym c.in-Some.ensures.value) c.args.size _ _ _ c.find_way.result c.find_way.ensures.way
+pub returns-then-size-block-clause-enough : goal.returns-then-size-block-clause-enough
+returns-then-size-block-clause-enough g c =
+    let l = c.args.blocks.now in
+    let behind = subst (λ o. IfSome o (λ (b : Block). c.free_after.result ≡ hole_after l.hi l.blocks (block_end b))) c.requires.known c.free_after.ensures.value in
+    enough_here c.bounds.ensures.ordered c.args.block c.requires.known c.args.size c.requires.more c.free_after.result behind c.if-size-block.true c.args.compact
 
-pub returns-clause-free : goal.returns-clause-free
-returns-clause-free g c = way_free c.args.blocks.now c.args.id c.in-Some.block (sym c.in-Some.ensures.value) c.args.size _ _ _ c.find_way.result c.find_way.ensures.way
+-- in a hole
+pub move_to_hole-requires-clause-free : goal.move_to_hole-requires-clause-free
+move_to_hole-requires-clause-free g c = hole_free c.bounds.ensures.ordered c.args.size c.in-Some.at (sym c.in-Some.is ∙ c.hole_for.ensures.value)
 
-pub returns-clause-moved : goal.returns-clause-moved
-returns-clause-moved g c = way_moved c.args.blocks.now c.args.id c.in-Some.block (sym c.in-Some.ensures.value) c.args.size _ _ _ c.find_way.result c.find_way.ensures.way
+pub returns-in-Some-clause-enough : goal.returns-in-Some-clause-enough
+returns-in-Some-clause-enough g c =
+    let found = sym c.in-Some.is ∙ c.hole_for.ensures.value in
+    enough_hole c.bounds.ensures.ordered c.args.block c.requires.known c.args.size c.in-Some.at found
+    (free_but c.args.block.id c.args.size c.in-Some.at (hole_free c.bounds.ensures.ordered c.args.size c.in-Some.at found)) c.args.compact
 
-pub returns-clause-enough : goal.returns-clause-enough
-returns-clause-enough g c =
-    subst (λ q. IfSome c.find_way.result (λ _. IsTrue (may_grow c.args.blocks.now q c.args.size c.args.compact))) (same_id c.args.blocks.now c.args.id c.in-Some.block (sym c.in-Some.ensures.value)) c.find_way.ensures.enough
+pub returns-in-Some-clause-still : goal.returns-in-Some-clause-still
+returns-in-Some-clause-still g c = λ off.
+    let l = c.args.blocks.now in
+    let clear = clear_bytes c.args.size c.in-Some.at (hole_free c.bounds.ensures.ordered c.args.size c.in-Some.at (sym c.in-Some.is ∙ c.hole_for.ensures.value)) in
+    (c.move_to_hole.ensures.still, inr (subst (λ a. IsClear is_any l.lo l.hi l.blocks a (a + c.args.size)) (sym c.move_to_hole.ensures.at) clear))
 
-pub returns-clause-still : goal.returns-clause-still
-returns-clause-still g c = way_still c.args.blocks.now c.args.id c.in-Some.block (sym c.in-Some.ensures.value) c.find_way.new.blocks c.args.size c.args.compact c.find_way.result c.find_way.ensures.still
+-- in a gap
+pub returns-then-compact-clause-enough : goal.returns-then-compact-clause-enough
+returns-then-compact-clause-enough g c = slid_enough c.bounds.ensures.ordered c.args.block c.requires.known c.args.size _ _ _ c.slide_for.result c.slide_for.ensures.way c.args.compact c.if-compact.true
 
-pub returns-clause-refused : goal.returns-clause-refused
-returns-clause-refused g c =
-    subst (λ q. IfNone c.find_way.result ((may_grow c.args.blocks.now q c.args.size c.args.compact ≡ false) × (c.find_way.new.blocks ≡ c.args.blocks.now) × (c.find_way.new.space ≡ c.args.space.now)))
-    (same_id c.args.blocks.now c.args.id c.in-Some.block (sym c.in-Some.ensures.value)) c.find_way.ensures.refused
+-- nowhere
+pub returns-else-compact-clause-refused : goal.returns-else-compact-clause-refused
+returns-else-compact-clause-refused g c =
+    let l = c.args.blocks.now in let more = c.requires.more in
+    let behind = subst (λ o. IfSome o (λ (b : Block). c.free_after.result ≡ hole_after l.hi l.blocks (block_end b))) c.requires.known c.free_after.ensures.value in (
+      none_still c.bounds.ensures.ordered c.args.block c.requires.known c.args.size (omega arith) c.free_after.result behind c.if-size-block.false (sym c.in_default.is ∙ c.hole_for.ensures.value) c.args.compact c.if-compact.false,
+      refl,
+      refl,
+    )
+
+pub returns-then-size-block-clause-still : goal.returns-then-size-block-clause-still
+returns-then-size-block-clause-still g c = λ off. (refl, inl refl)
+
+pub returns-then-size-block-clause-rest : goal.returns-then-size-block-clause-rest
+returns-then-size-block-clause-rest g c = rest_same c.args.blocks.now.lo c.args.blocks.now.hi c.args.space.now
+
+pub returns-then-size-block-clause-written : goal.returns-then-size-block-clause-written
+returns-then-size-block-clause-written g c = sym (counted_none (g.S.Space.written c.args.space.now))
+
+pub returns-then-compact-clause-still : goal.returns-then-compact-clause-still
+returns-then-compact-clause-still g c = λ off. absurd (false≢true (sym off ∙ c.if-compact.true))
+
+pub returns-else-compact-clause-rest : goal.returns-else-compact-clause-rest
+returns-else-compact-clause-rest g c = rest_same c.args.blocks.now.lo c.args.blocks.now.hi c.args.space.now

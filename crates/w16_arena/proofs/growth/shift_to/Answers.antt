@@ -6,7 +6,7 @@ use Rattle.w16_arena.proofs.Shifted.{contents_kept, outside_kept}
 use Rattle.w16_arena.proofs.growth.shift_to.Given as Given
 use Rattle.w16_arena.proofs.growth.shift_to.Goals as goal
 
-module _ (g : Given.Over) (c : goal.After-has_bytes g) where
+module _ (g : Given.Over) (c : goal.After-reveal_bytes g) where
   value : c.shift.new.self ≡ record c.args.blocks.now { blocks = replaced (record c.args.block { at = c.args.to }) c.args.blocks.now.blocks }
   value = subst (λ o. IfSome o (λ (b : Block). c.shift.new.self ≡ record c.args.blocks.now { blocks = replaced (record b { at = c.args.to }) c.args.blocks.now.blocks })) c.requires.known c.shift.ensures.value
 

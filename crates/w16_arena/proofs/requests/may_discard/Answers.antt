@@ -1,8 +1,8 @@
 use Rattle.std.proofs.Common.{rules}
 use Rattle.w16_arena.proofs.requests.may_discard.Goals as goal
 
-pub returns-then-way : goal.returns-then-way
-returns-then-way c = search rules
+pub returns-then-options : goal.returns-then-options
+returns-then-options c = search rules
 
-pub returns-else-way : goal.returns-else-way
-returns-else-way c = search rules
+pub returns-else-options : goal.returns-else-options
+returns-else-options c = search rules

@@ -1,6 +1,6 @@
 use Rattle.std.proofs.Common.{List, subst}
 use Rattle.w16_model.specs.declared.Span.{Span}
-use Rattle.w16_blocks.proofs.Keeping.{part_taken, free_taken, counts_more, layout_sized, IsKept-more}
+use Rattle.w16_blocks.proofs.Keeping.{part_taken, free_taken, counts_more, layout_sized, BlocksInvariant-more}
 use Rattle.w16_blocks.proofs.Blocks.grow.Goals as goal
 
 pub take-requires-clause-part : goal.take-requires-clause-part
@@ -14,7 +14,7 @@ overflow_sub-self g c = counts_more c.self.invariant c.self.inside.slots.ok.0 c.
 
 pub invariant_of-self : goal.invariant_of-self
 invariant_of-self g c =
-    IsKept-more c.self.invariant c.self.inside.slots.ok.0 c.self.view_is c.args.block c.requires.known c.requires.fits c.requires.more c.take.ensures.range c.take.ensures.holes
+    BlocksInvariant-more c.self.invariant c.self.inside.slots.ok.0 c.self.view_is c.args.block c.requires.known c.requires.fits c.requires.more c.take.ensures.range c.take.ensures.holes
 
 pub returns-clause-value : goal.returns-clause-value
 returns-clause-value g c = layout_sized c.self.invariant c.self.inside.slots.ok.0 c.self.view_is c.args.block c.requires.known c.requires.fits

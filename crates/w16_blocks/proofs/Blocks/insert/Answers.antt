@@ -1,7 +1,7 @@
 use Rattle.std.proofs.lemmas.Grind.{common_steps}
 use Rattle.std.proofs.Common.{List, add-one, arith, subst}
 use Rattle.w16_model.specs.declared.Span.{Span}
-use Rattle.w16_blocks.proofs.Keeping.{free_for, size_below, pins_room, layout_added, IsKept-add}
+use Rattle.w16_blocks.proofs.Keeping.{free_for, size_below, pins_room, layout_added, BlocksInvariant-add}
 use Rattle.w16_blocks.proofs.Blocks.insert.Goals as goal
 
 pub take-requires-clause-free : goal.take-requires-clause-free
@@ -16,7 +16,7 @@ overflow_add-self g c =
 
 pub invariant_of-self : goal.invariant_of-self
 invariant_of-self g c =
-    IsKept-add c.self.invariant c.self.inside.slots.ok.0 c.self.view_is c.requires.fits c.unit_of-unit.result c.unit_of-unit.ensures (add-one c.args.block.id) c.pins_of.ensures c.take.ensures.range c.take.ensures.holes
+    BlocksInvariant-add c.self.invariant c.self.inside.slots.ok.0 c.self.view_is c.requires.fits c.unit_of-unit.result c.unit_of-unit.ensures (add-one c.args.block.id) c.pins_of.ensures c.take.ensures.range c.take.ensures.holes
 
 pub returns-clause-value : goal.returns-clause-value
 returns-clause-value g c = layout_added c.self.invariant c.self.inside.slots.ok.0 c.self.view_is c.requires.fits c.unit_of-unit.result c.unit_of-unit.ensures (add-one c.args.block.id)

@@ -6,7 +6,7 @@ use Rattle.w16_holes.specs.Holes.{Range}
 use Rattle.w16_blocks.specs.Layout.{Layout, holes_of}
 use Rattle.w16_blocks.specs.Stay.{AreSameBut}
 use Rattle.w16_blocks.proofs.Keeping.{lies_in, place_grained, unit_inside}
-use Rattle.w16_blocks.proofs.Shifting.{part_entered, free_entered, source_in, part_left, used_left, same_free, layout_shifted, IsKept-shift, come_too, others_same}
+use Rattle.w16_blocks.proofs.Shifting.{part_entered, free_entered, source_in, part_left, used_left, same_free, layout_shifted, BlocksInvariant-shift, come_too, others_same}
 use Rattle.w16_blocks.proofs.Blocks.relocate.Goals as goal
 
 pub returns-clause-written : goal.returns-clause-written
@@ -60,7 +60,7 @@ index_mut-requires g c = let lt = unit_inside c.self.invariant c.self.inside.slo
 
 pub invariant_of-self : goal.invariant_of-self
 invariant_of-self g c =
-    IsKept-shift c.self.invariant c.self.inside.slots.ok.0 c.self.view_is c.args.block c.requires.known c.requires.fits c.beyond-entered.ensures c.beyond-left.ensures
+    BlocksInvariant-shift c.self.invariant c.self.inside.slots.ok.0 c.self.view_is c.args.block c.requires.known c.requires.fits c.beyond-entered.ensures c.beyond-left.ensures
     c.take.ensures.range c.take.ensures.holes c.put.ensures.range c.put.ensures.holes c.unit_of-from_unit.result c.unit_of-to_unit.result c.unit_of-from_unit.ensures c.unit_of-to_unit.ensures (add-one c.args.block.id)
 
 pub returns-clause-value : goal.returns-clause-value

@@ -2,7 +2,7 @@ use Rattle.std.proofs.Common.{List, ap, arith, subst}
 use Rattle.w16_model.specs.declared.Span.{Span}
 use Rattle.w16_holes.specs.Holes.{AreSameOutside}
 use Rattle.w16_blocks.specs.Layout.{Layout}
-use Rattle.w16_blocks.proofs.Keeping.{lies_in, place_grained, part_kept, used_kept, with_size, pins_below, unit_inside, layout_dropped, IsKept-drop}
+use Rattle.w16_blocks.proofs.Keeping.{lies_in, place_grained, part_kept, used_kept, with_size, pins_below, unit_inside, layout_dropped, BlocksInvariant-drop}
 use Rattle.w16_blocks.proofs.Blocks.remove.Goals as goal
 
 pub unit_of-unit-requires-clause-from : goal.unit_of-unit-requires-clause-from
@@ -36,7 +36,7 @@ overflow_sub-self g c =
     let le = pins_below c.self.invariant c.self.inside.slots.ok.0 c.self.view_is c.args.id c.block_of-block.ensures.known in let one = c.pins_of.ensures in omega arith
 
 pub invariant_of-self : goal.invariant_of-self
-invariant_of-self g c = IsKept-drop c.self.invariant c.self.inside.slots.ok.0 c.self.view_is c.args.id c.block_of-block.ensures.known c.unit_of-unit.result c.unit_of-unit.ensures c.pins_of.ensures c.put.ensures.range c.put.ensures.holes
+invariant_of-self g c = BlocksInvariant-drop c.self.invariant c.self.inside.slots.ok.0 c.self.view_is c.args.id c.block_of-block.ensures.known c.unit_of-unit.result c.unit_of-unit.ensures c.pins_of.ensures c.put.ensures.range c.put.ensures.holes
 
 pub returns-clause-value : goal.returns-clause-value
 returns-clause-value g c = layout_dropped c.self.invariant c.self.inside.slots.ok.0 c.self.view_is c.args.id c.block_of-block.ensures.known c.unit_of-unit.result c.unit_of-unit.ensures

@@ -2,7 +2,7 @@ use Rattle.std.proofs.Common.{◌≡◌, IfSome, Option, set, arith, sym, subst}
 use Rattle.w16_model.specs.declared.Block.{Block}
 use Rattle.w16_blocks.specs.Layout.{replaced}
 use Rattle.w16_blocks.specs.Kept.{layout_in}
-use Rattle.w16_blocks.proofs.Keeping.{pins_below, pins_other, layout_held, IsKept-held}
+use Rattle.w16_blocks.proofs.Keeping.{pins_below, pins_other, layout_held, BlocksInvariant-held}
 use Rattle.w16_blocks.proofs.Blocks.set_hold.Goals as goal
 
 pub overflow_sub-self : goal.overflow_sub-self
@@ -15,7 +15,7 @@ overflow_add-self g c =
     let old = c.pins_of.ensures in let new = c.pins_of-2.ensures in record { fits = omega arith }
 
 pub invariant_of-self : goal.invariant_of-self
-invariant_of-self g c = IsKept-held c.self.invariant c.self.inside.slots.ok.0 c.self.view_is c.args.id c.requires.id c.block_of-block.ensures.known c.args.hold
+invariant_of-self g c = BlocksInvariant-held c.self.invariant c.self.inside.slots.ok.0 c.self.view_is c.args.id c.requires.id c.block_of-block.ensures.known c.args.hold
     (let le = pins_below c.self.invariant c.self.inside.slots.ok.0 c.self.view_is c.args.id c.block_of-block.ensures.known in let old = c.pins_of.ensures in let new = c.pins_of-2.ensures in omega arith)
 
 pub returns-clause-value : goal.returns-clause-value

@@ -2,7 +2,7 @@ use Rattle.std.proofs.Common.{List, ap, arith, subst}
 use Rattle.w16_model.specs.declared.Span.{Span}
 use Rattle.w16_holes.specs.Holes.{AreSameOutside}
 use Rattle.w16_blocks.specs.Layout.{Layout}
-use Rattle.w16_blocks.proofs.Keeping.{lies_in, part_put, used_put, with_size, layout_sized, IsKept-less}
+use Rattle.w16_blocks.proofs.Keeping.{lies_in, part_put, used_put, with_size, layout_sized, BlocksInvariant-less}
 use Rattle.w16_blocks.proofs.Blocks.shrink.Goals as goal
 
 pub put-requires-clause-part : goal.put-requires-clause-part
@@ -24,7 +24,7 @@ overflow_add-self g c =
 
 pub invariant_of-self : goal.invariant_of-self
 invariant_of-self g c =
-    IsKept-less c.self.invariant c.self.inside.slots.ok.0 c.self.view_is c.args.block c.requires.known c.requires.fits c.requires.less c.put.ensures.range c.put.ensures.holes
+    BlocksInvariant-less c.self.invariant c.self.inside.slots.ok.0 c.self.view_is c.args.block c.requires.known c.requires.fits c.requires.less c.put.ensures.range c.put.ensures.holes
 
 pub returns-clause-value : goal.returns-clause-value
 returns-clause-value g c = layout_sized c.self.invariant c.self.inside.slots.ok.0 c.self.view_is c.args.block c.requires.known c.requires.fits

@@ -6,11 +6,11 @@ use Rattle.w16_model.specs.declared.Block.{Block}
 use Rattle.w16_model.specs.declared.Span.{Span}
 use Rattle.w16_holes.specs.Holes.{Range}
 use Rattle.w16_blocks.specs.Layout.{Layout, holes_of}
-use Rattle.w16_blocks.specs.Kept.{blocks_in, AreTables, IsKept, layout_in}
+use Rattle.w16_blocks.specs.Kept.{blocks_in, AreTables, BlocksInvariant, layout_in}
 use Rattle.w16_blocks.specs.Runs.{slid_with}
 use Rattle.w16_blocks.specs.Stay.{AreSameBut}
 use Rattle.w16_blocks.proofs.RunHoles.{way_down}
-use Rattle.w16_blocks.proofs.RunKept.{part_entered, free_entered, part_left, used_left, same_free, IsKept-run, come_too, others_same}
+use Rattle.w16_blocks.proofs.RunKept.{part_entered, free_entered, part_left, used_left, same_free, BlocksInvariant-run, come_too, others_same}
 use Rattle.w16_blocks.proofs.Blocks.slide_run.Given as Given
 use Rattle.w16_blocks.proofs.Blocks.slide_run.Goals as goal
 
@@ -62,14 +62,14 @@ module _ (g : Given.Over) (c : goal.After-put g) where
       c.retag_run.ensures.blocks ∙ ap (λ (ss : List Block). map (slid_with c.args.run c.args.to) (blocks_in ss c.deref_mut-2.result.now)) c.deref_mut.ensures.value
       ∙ ap (λ (cs : List ℕ). map (slid_with c.args.run c.args.to) (blocks_in c.self.inside.slots.items cs)) c.deref_mut-2.ensures.value
 
-  kept : IsKept c.self.inside.slots.len c.self.inside.lo c.self.inside.hi c.self.inside.grain c.retag_run.new.slots c.retag_run.new.begins c.self.inside.free c.self.inside.pinned (g.H.HoleList.range c.put.new.self) (g.H.HoleList.holes c.put.new.self)
-  kept = IsKept-run c.self.invariant c.self.view_is c.requires.run c.requires.some (way_down c.args.self.now c.args.run c.requires.run c.requires.some c.args.to c.min-apart.result c.requires.down.1 c.requires.down.0 c.requires.bare c.requires.grained c.min-apart.ensures) c.take.ensures.range c.take.ensures.holes c.put.ensures.range c.put.ensures.holes tables blocks
+  kept : BlocksInvariant c.self.inside.slots.len c.self.inside.lo c.self.inside.hi c.self.inside.grain c.retag_run.new.slots c.retag_run.new.begins c.self.inside.free c.self.inside.pinned (g.H.HoleList.range c.put.new.self) (g.H.HoleList.holes c.put.new.self)
+  kept = BlocksInvariant-run c.self.invariant c.self.view_is c.requires.run c.requires.some (way_down c.args.self.now c.args.run c.requires.run c.requires.some c.args.to c.min-apart.result c.requires.down.1 c.requires.down.0 c.requires.bare c.requires.grained c.min-apart.ensures) c.take.ensures.range c.take.ensures.holes c.put.ensures.range c.put.ensures.holes tables blocks
 
 pub invariant_of-self : goal.invariant_of-self
 invariant_of-self g c =
-    subst (λ (ss : List Block). IsKept c.self.inside.slots.len c.self.inside.lo c.self.inside.hi c.self.inside.grain ss (with_items c.self.inside.begins c.retag_run.new.begins).items c.self.inside.free c.self.inside.pinned (g.H.HoleList.range c.put.new.self) (g.H.HoleList.holes c.put.new.self))
+    subst (λ (ss : List Block). BlocksInvariant c.self.inside.slots.len c.self.inside.lo c.self.inside.hi c.self.inside.grain ss (with_items c.self.inside.begins c.retag_run.new.begins).items c.self.inside.free c.self.inside.pinned (g.H.HoleList.range c.put.new.self) (g.H.HoleList.holes c.put.new.self))
     (sym (slots_after g c))
-    (subst (λ (cs : List ℕ). IsKept c.self.inside.slots.len c.self.inside.lo c.self.inside.hi c.self.inside.grain c.retag_run.new.slots cs c.self.inside.free c.self.inside.pinned (g.H.HoleList.range c.put.new.self) (g.H.HoleList.holes c.put.new.self))
+    (subst (λ (cs : List ℕ). BlocksInvariant c.self.inside.slots.len c.self.inside.lo c.self.inside.hi c.self.inside.grain c.retag_run.new.slots cs c.self.inside.free c.self.inside.pinned (g.H.HoleList.range c.put.new.self) (g.H.HoleList.holes c.put.new.self))
     (sym (begins_after g c)) (kept g c))
 
 pub returns-clause-kept : goal.returns-clause-kept

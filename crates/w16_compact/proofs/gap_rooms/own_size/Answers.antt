@@ -13,14 +13,14 @@ returns-in_default g c = subst (IsLeft c.args.blocks.now.blocks 0) (sym c.in_def
 pub returns-then-cap-id : goal.returns-then-cap-id
 returns-then-cap-id g c =
     let l = c.args.blocks.now in let cap = c.cap.ensures in let le = c.if-cap-id.true in
-    subst (IsLeft l.blocks 0) (sym c.in-Some.is) (left_other l.cap c.in-Some.id l.blocks c.are_ordered.ensures.named (omega arith))
+    subst (IsLeft l.blocks 0) (sym c.in-Some.is) (left_other l.cap c.in-Some.id l.blocks c.reveal_order.ensures.named (omega arith))
 
 pub returns-in-Some-find : goal.returns-in-Some-find
 returns-in-Some-find g c =
     let l = c.args.blocks.now in
-    subst (IsLeft l.blocks c.in-Some-find.block.size) (sym c.in-Some.is) (left_known l.cap c.in-Some.id l.blocks c.are_ordered.ensures.named (Some c.in-Some-find.block) c.in-Some-find.ensures.value)
+    subst (IsLeft l.blocks c.in-Some-find.block.size) (sym c.in-Some.is) (left_known l.cap c.in-Some.id l.blocks c.reveal_order.ensures.named (Some c.in-Some-find.block) c.in-Some-find.ensures.value)
 
 pub returns-in-None : goal.returns-in-None
 returns-in-None g c =
     let l = c.args.blocks.now in
-    subst (IsLeft l.blocks 0) (sym c.in-Some.is) (left_known l.cap c.in-Some.id l.blocks c.are_ordered.ensures.named None c.in-None.ensures.value)
+    subst (IsLeft l.blocks 0) (sym c.in-Some.is) (left_known l.cap c.in-Some.id l.blocks c.reveal_order.ensures.named None c.in-None.ensures.value)

@@ -1,122 +1,206 @@
-use Rattle.std.proofs.Common.{ℕ, ◌≡◌, ◌+◌, ◌<◌, ◌≤◌, ◌⊎◌, ◌∙◌, Option, Some, IfSome, arith, inl, inr, sym, ap, subst}
+use Rattle.std.proofs.Common.{ℕ, ◌≡◌, ◌+◌, ◌<◌, ◌≤◌, ◌⊎◌, ◌∙◌, List, Option, Some, IfSome, IsSome, refl, sym, ap, subst}
 use Rattle.w16_model.specs.declared.Block.{Block}
-use Rattle.w16_model.specs.Gap.{IsClear, IsGap, IsHole, IsLaid, is_any, block_end, loose_bytes}
+use Rattle.w16_model.specs.declared.Hold.TheVariants.{Loose}
+use Rattle.w16_model.specs.Gap.{IsClear, IsGap, IsHole, is_any, block_end, loose_bytes}
 use Rattle.w16_model.specs.Table.{block_with}
-use Rattle.w16_blocks.specs.Layout.{Layout}
-use Rattle.w16_blocks.proofs.Ordered.{sum_fits}
-use Rattle.w16_blocks.proofs.Remove.{with_id}
-use Rattle.w16_compact.specs.Gather.{gathered, moved_between, AreSlid}
-use Rattle.w16_compact.specs.Open.{raised, opened, end_in, spare_in}
-use Rattle.w16_compact.proofs.Opened.{may_low, may_high, slid_more, moved_most, moved_opened, with_opened, clear_opened, hole_opened, alone_opened}
+use Rattle.w16_blocks.specs.Layout.{Layout, IsOrdered, holes_of, replaced}
+use Rattle.w16_compact.specs.Gather.{contents, moved_between, AreSlid, MayGather}
+use Rattle.w16_compact.specs.Open.{with_loose, opened, end_in, spare_in}
+use Rattle.w16_compact.proofs.Opened.{of_known, if_known}
+use Rattle.w16_compact.proofs.Loosened.{held, with_hold, clear_held, contents_held, hole_held, hole_unheld, holes_held, loosened_back, moved_from, moved_to, own_held, set_held}
 use Rattle.w16_compact.proofs.opening.open.Given as Given
 use Rattle.w16_compact.proofs.opening.open.Goals as goal
 
--- the block that is asked for, by its own id
-known_by : (l : Layout) (id : ℕ) (x : Block) → block_with l.blocks id ≡ Some x → block_with l.blocks x.id ≡ Some x
-known_by l id x e = ap (block_with l.blocks) (with_id id x l.blocks e) ∙ e
+-- A layout, one in which an id's block is loose, that one once its gap is opened, and that again with the block's own hold.
+module _ (l : Layout) (is : IsOrdered l) (id : ℕ) (x : Block) (known : block_with l.blocks id ≡ Some x) where
+  abbrev loose : Layout
+  loose = with_loose id l
 
--- what holds of a block if there is one holds of the one there is, and back
-of_known : (P : Block → Type 0) (o : Option Block) (x : Block) → o ≡ Some x → IfSome o P → P x
-of_known P o x e is = subst (λ (q : Option Block). IfSome q P) e is
+  abbrev own : Block
+  own = record x { hold = Loose }
 
-if_known : (P : Block → Type 0) (o : Option Block) (x : Block) → o ≡ Some x → P x → IfSome o P
-if_known P o x e is = subst (λ (q : Option Block). IfSome q P) (sym e) is
+  own_known : block_with loose.blocks id ≡ Some own
+  own_known = own_held id Loose l.blocks x known
 
-within : (l : Layout) (id low high : ℕ) (x : Block) → block_with l.blocks id ≡ Some x → IfSome (block_with l.blocks id) (λ b. (low ≤ b.at) × (block_end b ≤ high)) → (low ≤ x.at) × (block_end x ≤ high)
-within l id low high x e is = of_known (λ b. (low ≤ b.at) × (block_end b ≤ high)) (block_with l.blocks id) x e is
+  module _ (begun : Layout) (set : IfSome (block_with l.blocks id) (λ b. begun ≡ record l { blocks = replaced (record b { hold = Loose }) l.blocks })) where
+    begun_is : begun ≡ loose
+    begun_is = set_held l is id x Loose known set
 
-pub gather-down-requires-clause-gap : goal.gather-down-requires-clause-gap
-gather-down-requires-clause-gap g c =
-    let l = c.args.blocks.now in let x = c.in-Some.block in let e = c.in-Some.ensures.value in let at = within l c.args.id c.args.low c.args.high x (sym e) c.requires.within in
-    may_low l c.in-Some.ensures.ordered c.args.low c.args.high c.requires.gap x (known_by l c.args.id x (sym e)) at.0 at.1
+    begun_known : block_with begun.blocks id ≡ Some own
+    begun_known = ap (λ (k : Layout). block_with k.blocks id) begun_is ∙ own_known
 
-pub raise-requires-clause-gap : goal.raise-requires-clause-gap
-raise-requires-clause-gap g c =
-    let l = c.args.blocks.now in let x = c.in-Some.block in let e = c.in-Some.ensures.value in let at = within l c.args.id c.args.low c.args.high x (sym e) c.requires.within in
-    may_high l c.in-Some.ensures.ordered c.args.low c.args.high c.requires.gap x (known_by l c.args.id x (sym e)) at.0 at.1 c.gather-down.new.blocks c.gather-down.ensures.blocks
+    -- what holds of it and the block there holds of the layout in which it is loose
+    from_begun : (P : Layout → Block → Type 0) → IfSome (block_with begun.blocks id) (P begun) → P loose own
+    from_begun P holds = subst (λ k. P k own) begun_is (of_known (P begun) (block_with begun.blocks id) own begun_known holds)
 
-pub overflow_add-result : goal.overflow_add-result
-overflow_add-result g c =
-    let l = c.args.blocks.now in let m = c.gather-down.new.blocks in
-    let one = moved_most l.blocks m.blocks in let two = moved_most m.blocks c.raise.new.blocks.blocks in
-    let down = c.gather-down.ensures.moved in let up = c.raise.ensures.moved in
-    let all = sum_fits l.lo l.hi l.blocks c.find.ensures.ordered.laid in let all' = sum_fits m.lo m.hi m.blocks c.gather-down.ensures.ordered.laid in
-    let small = c.find.ensures.ordered.small in let small' = c.gather-down.ensures.ordered.small in
-    record { fits = omega (arith, one, two, down, up, all, all', small, small') }
+    begun_holes : holes_of l ≡ holes_of begun
+    begun_holes = sym (ap holes_of begun_is ∙ holes_held id Loose l)
 
-pub returns-clause-slid : goal.returns-clause-slid
-returns-clause-slid g c = slid_more c.args.blocks.now.blocks c.gather-down.new.blocks.blocks c.raise.new.blocks.blocks c.gather-down.ensures.slid c.raise.ensures.slid
+    begun_contents : (bytes : List ℕ) → contents bytes begun.blocks ≡ contents bytes l.blocks
+    begun_contents bytes = ap (λ (n : Layout). contents bytes n.blocks) begun_is ∙ contents_held id Loose bytes l.blocks
 
-module _ (g : Given.Over) (c : goal.After-raise g) where
+    module _ (low high : ℕ) (mid : Layout) (laid : IsOrdered mid) (value : IfSome (block_with begun.blocks id) (λ b. mid ≡ record begun { blocks = opened low (block_end b) high begun.blocks }))
+        (place : IfSome (block_with begun.blocks id) (λ b. block_with mid.blocks id ≡ Some (record b { at = low + loose_bytes begun.blocks low b.at }))) where
+      mid_is : mid ≡ record loose { blocks = opened low (block_end x) high loose.blocks }
+      mid_is = of_known (λ b. mid ≡ record begun { blocks = opened low (block_end b) high begun.blocks }) (block_with begun.blocks id) own begun_known value
+          ∙ ap (λ (k : Layout). let r : Layout = record k { blocks = opened low (block_end x) high k.blocks } in r) begun_is
+
+      abbrev there : Block
+      there = record own { at = low + loose_bytes loose.blocks low x.at }
+
+      mid_known : block_with mid.blocks id ≡ Some there
+      mid_known = of_known (λ b. block_with mid.blocks id ≡ Some (record b { at = low + loose_bytes begun.blocks low b.at })) (block_with begun.blocks id) own begun_known place
+          ∙ ap (λ (k : Layout). let r : Block = record own { at = low + loose_bytes k.blocks low x.at } in Some r) begun_is
+
+      module _ (new : Layout) (reset : IfSome (block_with mid.blocks id) (λ b. new ≡ record mid { blocks = replaced (record b { hold = x.hold }) mid.blocks })) where
+        new_is : new ≡ with_hold id x.hold mid
+        new_is = set_held mid laid id there x.hold mid_known reset
+
+        new_loose : with_loose id new ≡ mid
+        new_loose = ap (with_loose id) new_is ∙ loosened_back mid laid id there x.hold mid_known refl
+
+        new_holes : holes_of mid ≡ holes_of new
+        new_holes = sym (ap holes_of new_is ∙ holes_held id x.hold mid)
+
+        new_known : block_with new.blocks id ≡ Some (record x { at = low + loose_bytes loose.blocks low x.at })
+        new_known = ap (λ (k : Layout). block_with k.blocks id) new_is ∙ own_held id x.hold mid.blocks there mid_known
+
+        new_clear : (lo hi a b : ℕ) → IsClear is_any lo hi mid.blocks a b → IsClear is_any lo hi new.blocks a b
+        new_clear lo hi a b k = subst (λ (n : Layout). IsClear is_any lo hi n.blocks a b) (sym new_is) (clear_held id x.hold lo hi a b mid.blocks k)
+
+        new_hole : (lo hi a b : ℕ) → IsHole lo hi mid.blocks a b → IsHole lo hi new.blocks a b
+        new_hole lo hi a b k = subst (λ (n : Layout). IsHole lo hi n.blocks a b) (sym new_is) (hole_held id x.hold lo hi a b mid.blocks k)
+
+        mid_hole : (lo hi a b : ℕ) → IsHole lo hi new.blocks a b → IsHole lo hi mid.blocks a b
+        mid_hole lo hi a b k = hole_unheld id x.hold lo hi a b mid.blocks (subst (λ (n : Layout). IsHole lo hi n.blocks a b) new_is k)
+
+        new_contents : (bytes : List ℕ) → contents bytes new.blocks ≡ contents bytes mid.blocks
+        new_contents bytes = ap (λ (n : Layout). contents bytes n.blocks) new_is ∙ contents_held id x.hold bytes mid.blocks
+
+        new_moved : moved_between begun.blocks mid.blocks ≡ moved_between l.blocks new.blocks
+        new_moved = ap (λ (n : Layout). moved_between n.blocks mid.blocks) begun_is ∙ moved_from (held id Loose) (λ b. (refl, refl)) l.blocks mid.blocks
+            ∙ sym (ap (λ (n : Layout). moved_between l.blocks n.blocks) new_is ∙ moved_to (held id x.hold) (λ b. refl) l.blocks mid.blocks)
+
+pub open_loose-moved-requires-clause-known : goal.open_loose-moved-requires-clause-known
+open_loose-moved-requires-clause-known g c = subst (λ (o : Option Block). IsSome o) (sym (begun_known c.args.blocks.now c.find.ensures.ordered c.args.id c.in-Some.block (sym c.in-Some.ensures.value) _ c.set_hold.ensures.value)) refl
+
+pub open_loose-moved-requires-clause-within : goal.open_loose-moved-requires-clause-within
+open_loose-moved-requires-clause-within g c =
+    let known = sym c.in-Some.ensures.value in
+    if_known (λ b. (c.args.low ≤ b.at) × (block_end b ≤ c.args.high)) _ (record c.in-Some.block { hold = Loose }) (begun_known c.args.blocks.now c.find.ensures.ordered c.args.id c.in-Some.block known _ c.set_hold.ensures.value)
+    (of_known (λ b. (c.args.low ≤ b.at) × (block_end b ≤ c.args.high)) _ c.in-Some.block known c.requires.within)
+
+pub open_loose-moved-requires-clause-gap : goal.open_loose-moved-requires-clause-gap
+open_loose-moved-requires-clause-gap g c =
+    subst (λ k. MayGather k c.args.low c.args.high) (sym (begun_is c.args.blocks.now c.find.ensures.ordered c.args.id c.in-Some.block (sym c.in-Some.ensures.value) _ c.set_hold.ensures.value)) c.requires.gap
+
+pub open_loose-moved-requires-clause-kept : goal.open_loose-moved-requires-clause-kept
+open_loose-moved-requires-clause-kept g c =
+    subst (λ hs. g.H.Holes.are_in hs (g.S.Space.bytes c.args.space.now)) (begun_holes c.args.blocks.now c.find.ensures.ordered c.args.id c.in-Some.block (sym c.in-Some.ensures.value) _ c.set_hold.ensures.value) c.requires.kept
+
+pub set_hold-requires-2-clause-known : goal.set_hold-requires-2-clause-known
+set_hold-requires-2-clause-known g c =
+    let e = c.open_loose-moved.ensures in
+    subst (λ (o : Option Block). IsSome o) (sym (mid_known c.args.blocks.now c.find.ensures.ordered c.args.id c.in-Some.block (sym c.in-Some.ensures.value) _ c.set_hold.ensures.value c.args.low c.args.high _ e.ordered e.blocks e.place)) refl
+
+pub set_hold-requires-2-clause-id : goal.set_hold-requires-2-clause-id
+set_hold-requires-2-clause-id g c =
+    let e = c.open_loose-moved.ensures in
+    subst (λ n. c.args.id < n) (sym (ap (λ (k : Layout). k.cap) (mid_is c.args.blocks.now c.find.ensures.ordered c.args.id c.in-Some.block (sym c.in-Some.ensures.value) _ c.set_hold.ensures.value c.args.low c.args.high _ e.ordered e.blocks e.place))) c.requires.id
+
+-- What is left.
+module _ (g : Given.Over) (c : goal.After-set_hold-2 g) where
   abbrev l : Layout
   l = c.args.blocks.now
 
-  abbrev x : Block
-  x = c.in-Some.block
+  abbrev block : Block
+  block = c.in-Some.block
 
-  at : (c.args.low ≤ x.at) × (block_end x ≤ c.args.high)
-  at = within l c.args.id c.args.low c.args.high x (sym c.in-Some.ensures.value) c.requires.within
+  abbrev old : Layout
+  old = with_loose c.args.id l
 
-  known : block_with l.blocks x.id ≡ Some x
-  known = known_by l c.args.id x (sym c.in-Some.ensures.value)
+  abbrev new : Layout
+  new = c.set_hold-2.new.self
 
-  mid : c.gather-down.new.blocks.blocks ≡ gathered c.args.low (block_end x) l.blocks
-  mid = ap (λ (m : Layout). m.blocks) c.gather-down.ensures.blocks
+  abbrev mid : Layout
+  mid = c.open_loose-moved.new.blocks
 
-  list : c.raise.new.blocks.blocks ≡ opened c.args.low (block_end x) c.args.high l.blocks
-  list = ap (λ (m : Layout). m.blocks) c.raise.ensures.blocks ∙ ap (raised (block_end x) c.args.high) mid
+  known : block_with l.blocks c.args.id ≡ Some block
+  known = sym c.in-Some.ensures.value
 
-  slid : AreSlid l.blocks (opened c.args.low (block_end x) c.args.high l.blocks)
-  slid = subst (AreSlid l.blocks) list (slid_more l.blocks c.gather-down.new.blocks.blocks c.raise.new.blocks.blocks c.gather-down.ensures.slid c.raise.ensures.slid)
+  mid_old : mid ≡ record old { blocks = opened c.args.low (block_end block) c.args.high old.blocks }
+  mid_old = let e = c.open_loose-moved.ensures in mid_is l c.find.ensures.ordered c.args.id block known _ c.set_hold.ensures.value c.args.low c.args.high _ e.ordered e.blocks e.place
 
-  laid_mid : IsLaid l.lo l.hi (gathered c.args.low (block_end x) l.blocks)
-  laid_mid = subst (λ (m : Layout). IsLaid m.lo m.hi m.blocks) c.gather-down.ensures.blocks c.gather-down.ensures.ordered.laid
+  new_mid : with_loose c.args.id new ≡ mid
+  new_mid = let e = c.open_loose-moved.ensures in new_loose l c.find.ensures.ordered c.args.id block known _ c.set_hold.ensures.value c.args.low c.args.high _ e.ordered e.blocks e.place _ c.set_hold-2.ensures.value
 
-  alone : IsGap l.lo l.hi l.blocks c.args.low c.args.high → (p q : ℕ) → IsHole l.lo l.hi c.raise.new.blocks.blocks p q
-      → (q ≤ c.args.low) ⊎ ((c.args.high ≤ p) ⊎ ((p ≡ end_in l.blocks c.args.low x) × (q ≡ end_in l.blocks c.args.low x + spare_in l.blocks c.args.low c.args.high)))
-  alone gap p q hole = alone_opened l c.find.ensures.ordered c.args.low c.args.high c.requires.gap x known at.0 at.1 gap slid laid_mid p q (subst (λ bs. IsHole l.lo l.hi bs p q) list hole)
+  to_new : (lo hi a b : ℕ) → (IsClear is_any lo hi mid.blocks a b → IsClear is_any lo hi new.blocks a b) × (IsHole lo hi mid.blocks a b → IsHole lo hi new.blocks a b) × (IsHole lo hi new.blocks a b → IsHole lo hi mid.blocks a b)
+  to_new lo hi a b =
+      let e = c.open_loose-moved.ensures in (
+        new_clear l c.find.ensures.ordered c.args.id block known _ c.set_hold.ensures.value c.args.low c.args.high _ e.ordered e.blocks e.place _ c.set_hold-2.ensures.value lo hi a b,
+        new_hole l c.find.ensures.ordered c.args.id block known _ c.set_hold.ensures.value c.args.low c.args.high _ e.ordered e.blocks e.place _ c.set_hold-2.ensures.value lo hi a b,
+        mid_hole l c.find.ensures.ordered c.args.id block known _ c.set_hold.ensures.value c.args.low c.args.high _ e.ordered e.blocks e.place _ c.set_hold-2.ensures.value lo hi a b,
+      )
+
+  of_begun : (P : Layout → Block → Type 0) → IfSome (block_with c.set_hold.new.self.blocks c.args.id) (P c.set_hold.new.self) → P old (record block { hold = Loose })
+  of_begun P holds = from_begun l c.find.ensures.ordered c.args.id block known _ c.set_hold.ensures.value P holds
+
+  begun_old : c.set_hold.new.self ≡ old
+  begun_old = begun_is l c.find.ensures.ordered c.args.id block known _ c.set_hold.ensures.value
+
+pub returns-clause-kept : goal.returns-clause-kept
+returns-clause-kept g c =
+    let e = c.open_loose-moved.ensures in
+    subst (λ hs. g.H.Holes.are_in hs (g.S.Space.bytes c.open_loose-moved.new.space))
+    (new_holes c.args.blocks.now c.find.ensures.ordered c.args.id c.in-Some.block (sym c.in-Some.ensures.value) _ c.set_hold.ensures.value c.args.low c.args.high _ e.ordered e.blocks e.place _ c.set_hold-2.ensures.value) e.kept
 
 pub returns-clause-place : goal.returns-clause-place
 returns-clause-place g c =
-    if_known (λ b. block_with c.raise.new.blocks.blocks c.args.id ≡ Some (record b { at = c.args.low + loose_bytes c.args.blocks.now.blocks c.args.low b.at })) _ c.in-Some.block (sym c.in-Some.ensures.value)
-    (ap (block_with c.raise.new.blocks.blocks) (sym (with_id c.args.id c.in-Some.block c.args.blocks.now.blocks (sym c.in-Some.ensures.value))) ∙ ap (λ bs. block_with bs c.in-Some.block.id) (list g c)
-    ∙ with_opened c.args.blocks.now c.find.ensures.ordered c.args.low c.args.high c.requires.gap c.in-Some.block (known g c) (at g c).0 (at g c).1)
+    let e = c.open_loose-moved.ensures in let known = sym c.in-Some.ensures.value in
+    if_known (λ b. block_with c.set_hold-2.new.self.blocks c.args.id ≡ Some (record b { at = c.args.low + loose_bytes (with_loose c.args.id c.args.blocks.now).blocks c.args.low b.at })) _ c.in-Some.block known
+    (new_known c.args.blocks.now c.find.ensures.ordered c.args.id c.in-Some.block known _ c.set_hold.ensures.value c.args.low c.args.high _ e.ordered e.blocks e.place _ c.set_hold-2.ensures.value)
+
+pub returns-clause-blocks : goal.returns-clause-blocks
+returns-clause-blocks g c =
+    if_known (λ b. with_loose c.args.id (new g c) ≡ record (old g c) { blocks = opened c.args.low (block_end b) c.args.high (old g c).blocks }) _ (block g c) (known g c) (new_mid g c ∙ mid_old g c)
+
+pub returns-clause-slid : goal.returns-clause-slid
+returns-clause-slid g c = subst (λ (k : Layout). AreSlid (old g c).blocks k.blocks) (sym (new_mid g c)) (subst (λ (k : Layout). AreSlid k.blocks (mid g c).blocks) (begun_old g c) c.open_loose-moved.ensures.slid)
+
+pub returns-clause-contents : goal.returns-clause-contents
+returns-clause-contents g c =
+    let e = c.open_loose-moved.ensures in
+    new_contents c.args.blocks.now c.find.ensures.ordered c.args.id (block g c) (known g c) _ c.set_hold.ensures.value c.args.low c.args.high _ e.ordered e.blocks e.place _ c.set_hold-2.ensures.value _
+    ∙ e.contents ∙ begun_contents c.args.blocks.now c.find.ensures.ordered c.args.id (block g c) (known g c) _ c.set_hold.ensures.value _
 
 pub returns-clause-clear : goal.returns-clause-clear
 returns-clause-clear g c =
-    let l = c.args.blocks.now in
-    if_known (λ b. IsClear is_any l.lo l.hi c.raise.new.blocks.blocks (end_in l.blocks c.args.low b) (end_in l.blocks c.args.low b + spare_in l.blocks c.args.low c.args.high)) _ c.in-Some.block (sym c.in-Some.ensures.value)
-    (subst (λ bs. IsClear is_any l.lo l.hi bs (end_in l.blocks c.args.low c.in-Some.block) (end_in l.blocks c.args.low c.in-Some.block + spare_in l.blocks c.args.low c.args.high)) (sym (list g c))
-    (clear_opened c.args.blocks.now c.find.ensures.ordered c.args.low c.args.high c.requires.gap c.in-Some.block (known g c) (at g c).0 (at g c).1))
+    let l = c.args.blocks.now in let bs = (old g c).blocks in
+    if_known (λ b. IsClear is_any l.lo l.hi (new g c).blocks (end_in bs c.args.low b) (end_in bs c.args.low b + spare_in bs c.args.low c.args.high)) _ (block g c) (known g c)
+    ((to_new g c l.lo l.hi _ _).0 (of_begun g c (λ k b. IsClear is_any k.lo k.hi (mid g c).blocks (end_in k.blocks c.args.low b) (end_in k.blocks c.args.low b + spare_in k.blocks c.args.low c.args.high)) c.open_loose-moved.ensures.clear))
 
 pub returns-clause-hole : goal.returns-clause-hole
 returns-clause-hole g c =
-    let l = c.args.blocks.now in
-    if_known (λ b. IsGap l.lo l.hi l.blocks c.args.low c.args.high → 0 < spare_in l.blocks c.args.low c.args.high → IsHole l.lo l.hi c.raise.new.blocks.blocks (end_in l.blocks c.args.low b) (end_in l.blocks c.args.low b + spare_in l.blocks c.args.low c.args.high)) _
-    c.in-Some.block (sym c.in-Some.ensures.value)
-    (λ gap some. subst (λ bs. IsHole l.lo l.hi bs (end_in l.blocks c.args.low c.in-Some.block) (end_in l.blocks c.args.low c.in-Some.block + spare_in l.blocks c.args.low c.args.high)) (sym (list g c))
-    (hole_opened c.args.blocks.now c.find.ensures.ordered c.args.low c.args.high c.requires.gap c.in-Some.block (known g c) (at g c).0 (at g c).1 gap (slid g c) (laid_mid g c) (omega arith)))
+    let l = c.args.blocks.now in let bs = (old g c).blocks in
+    if_known (λ b. IsGap l.lo l.hi bs c.args.low c.args.high → 0 < spare_in bs c.args.low c.args.high → IsHole l.lo l.hi (new g c).blocks (end_in bs c.args.low b) (end_in bs c.args.low b + spare_in bs c.args.low c.args.high)) _ (block g c) (known g c)
+    (λ gap some. (to_new g c l.lo l.hi _ _).1
+    (of_begun g c (λ k b. IsGap k.lo k.hi k.blocks c.args.low c.args.high → 0 < spare_in k.blocks c.args.low c.args.high → IsHole k.lo k.hi (mid g c).blocks (end_in k.blocks c.args.low b) (end_in k.blocks c.args.low b + spare_in k.blocks c.args.low c.args.high))
+    c.open_loose-moved.ensures.hole gap some))
 
 pub returns-clause-alone : goal.returns-clause-alone
 returns-clause-alone g c =
-    let l = c.args.blocks.now in
-    if_known (λ b. IsGap l.lo l.hi l.blocks c.args.low c.args.high → (p q : ℕ) → IsHole l.lo l.hi c.raise.new.blocks.blocks p q
-    → (q ≤ c.args.low) ⊎ ((c.args.high ≤ p) ⊎ ((p ≡ end_in l.blocks c.args.low b) × (q ≡ end_in l.blocks c.args.low b + spare_in l.blocks c.args.low c.args.high)))) _
-    c.in-Some.block (sym c.in-Some.ensures.value) (alone g c)
+    let l = c.args.blocks.now in let bs = (old g c).blocks in
+    if_known (λ b. IsGap l.lo l.hi bs c.args.low c.args.high → (p q : ℕ) → IsHole l.lo l.hi (new g c).blocks p q → (q ≤ c.args.low) ⊎ ((c.args.high ≤ p) ⊎ ((p ≡ end_in bs c.args.low b) × (q ≡ end_in bs c.args.low b + spare_in bs c.args.low c.args.high)))) _ (block g c) (known g c)
+    (λ gap p q hole. of_begun g c
+    (λ k b. IsGap k.lo k.hi k.blocks c.args.low c.args.high → (p q : ℕ) → IsHole k.lo k.hi (mid g c).blocks p q → (q ≤ c.args.low) ⊎ ((c.args.high ≤ p) ⊎ ((p ≡ end_in k.blocks c.args.low b) × (q ≡ end_in k.blocks c.args.low b + spare_in k.blocks c.args.low c.args.high))))
+    c.open_loose-moved.ensures.alone gap p q ((to_new g c l.lo l.hi p q).2 hole))
 
 pub returns-clause-full : goal.returns-clause-full
 returns-clause-full g c = λ gap filled p q hole.
-    let some = hole.some in
-    elim (alone g c gap p q hole) [
-      | inl k ↦ inl k
-      | inr e ↦ elim e [ inl k ↦ inr k | inr k ↦ let one = k.0 in let two = k.1 in absurd (omega arith) ]
-    ]
+    subst (λ (k : Layout). IsGap k.lo k.hi k.blocks c.args.low c.args.high → spare_in k.blocks c.args.low c.args.high ≡ 0 → (p q : ℕ) → IsHole k.lo k.hi (mid g c).blocks p q → (q ≤ c.args.low) ⊎ (c.args.high ≤ p)) (begun_old g c)
+    c.open_loose-moved.ensures.full gap filled p q ((to_new g c c.args.blocks.now.lo c.args.blocks.now.hi p q).2 hole)
 
 pub returns-clause-moved : goal.returns-clause-moved
 returns-clause-moved g c =
-    let l = c.args.blocks.now in
-    let down = c.gather-down.ensures.moved in let up = c.raise.ensures.moved in
-    let both = moved_opened c.args.blocks.now c.find.ensures.ordered c.args.low c.args.high c.requires.gap c.in-Some.block (known g c) (at g c).0 (at g c).1 in
-    let first = ap (moved_between l.blocks) (mid g c) in let second : moved_between c.gather-down.new.blocks.blocks c.raise.new.blocks.blocks ≡ moved_between (gathered c.args.low (block_end c.in-Some.block) l.blocks) (opened c.args.low (block_end c.in-Some.block) c.args.high l.blocks) = λ i. moved_between (mid g c i) (list g c i) in
-    let all = ap (moved_between l.blocks) (list g c) in
-    omega (arith, down, up, both, first, second, all)
+    let e = c.open_loose-moved.ensures in
+    e.moved ∙ new_moved c.args.blocks.now c.find.ensures.ordered c.args.id (block g c) (known g c) _ c.set_hold.ensures.value c.args.low c.args.high _ e.ordered e.blocks e.place _ c.set_hold-2.ensures.value

@@ -23,7 +23,7 @@ loop-block-init g c =
     let l = c.args.blocks.now in let gap = c.requires.gap in let order = gap.inside.1 in
     record {
       bounds = (refl, refl, refl, refl);
-      ordered = c.are_ordered.ensures;
+      ordered = c.reveal_order.ensures;
       list = sym (raised_none l.blocks c.args.high l.blocks);
       low = order;
       high = omega arith;
@@ -82,7 +82,7 @@ overflow_sub-to g c =
 pub overflow_sub-to-in-Some : goal.overflow_sub-to-in-Some
 overflow_sub-to-in-Some g c =
     let l = c.args.blocks.now in let inv = c.loop-block.invariant in let is = c.in-Some.ensures.value in
-    (room_then l.blocks l.lo l.hi c.args.low c.args.high c.loop-block.from c.loop-block.to c.are_ordered.ensures.laid c.requires.gap.loose inv.high inv.place inv.room inv.cut c.loop-block.blocks inv.ordered inv.list
+    (room_then l.blocks l.lo l.hi c.args.low c.args.high c.loop-block.from c.loop-block.to c.reveal_order.ensures.laid c.requires.gap.loose inv.high inv.place inv.room inv.cut c.loop-block.blocks inv.ordered inv.list
     c.in-Some.block is.0.known is.0.below is.0.last (record { from = c.run_begin.result; to = block_end c.in-Some.block }) c.run_begin.ensures.run (run_some c.loop-block.blocks c.in-Some.block inv.ordered is.0.known c.args.low c.run_begin.result is.1 c.run_begin.ensures.run c.run_begin.ensures.first) c.run_begin.ensures.low refl).0
 
 pub lift-requires-clause-some : goal.lift-requires-clause-some
@@ -93,7 +93,7 @@ lift-requires-clause-some g c =
 pub lift-requires-clause-bare : goal.lift-requires-clause-bare
 lift-requires-clause-bare g c =
     let l = c.args.blocks.now in let inv = c.loop-block.invariant in let is = c.in-Some.ensures.value in
-    bare_then l.blocks l.lo l.hi c.args.low c.args.high c.loop-block.from c.loop-block.to c.are_ordered.ensures.laid c.requires.gap.loose inv.high inv.place inv.room inv.cut c.loop-block.blocks inv.ordered inv.list
+    bare_then l.blocks l.lo l.hi c.args.low c.args.high c.loop-block.from c.loop-block.to c.reveal_order.ensures.laid c.requires.gap.loose inv.high inv.place inv.room inv.cut c.loop-block.blocks inv.ordered inv.list
     c.in-Some.block is.0.known is.0.below is.0.last (record { from = c.run_begin.result; to = block_end c.in-Some.block }) c.run_begin.ensures.run (run_some c.loop-block.blocks c.in-Some.block inv.ordered is.0.known c.args.low c.run_begin.result is.1 c.run_begin.ensures.run c.run_begin.ensures.first) c.run_begin.ensures.low refl
 
 pub lift-requires-clause-grained : goal.lift-requires-clause-grained
@@ -106,7 +106,7 @@ lift-requires-clause-grained g c =
 pub lift-requires-clause-up : goal.lift-requires-clause-up
 lift-requires-clause-up g c =
     let l = c.args.blocks.now in let inv = c.loop-block.invariant in let is = c.in-Some.ensures.value in
-    let room = room_then l.blocks l.lo l.hi c.args.low c.args.high c.loop-block.from c.loop-block.to c.are_ordered.ensures.laid c.requires.gap.loose inv.high inv.place inv.room inv.cut c.loop-block.blocks inv.ordered inv.list
+    let room = room_then l.blocks l.lo l.hi c.args.low c.args.high c.loop-block.from c.loop-block.to c.reveal_order.ensures.laid c.requires.gap.loose inv.high inv.place inv.room inv.cut c.loop-block.blocks inv.ordered inv.list
     c.in-Some.block is.0.known is.0.below is.0.last (record { from = c.run_begin.result; to = block_end c.in-Some.block }) c.run_begin.ensures.run (run_some c.loop-block.blocks c.in-Some.block inv.ordered is.0.known c.args.low c.run_begin.result is.1 c.run_begin.ensures.run c.run_begin.ensures.first) c.run_begin.ensures.low refl in
     let top = c.requires.gap.inside.2 in let hi = inv.bounds.2 in let end = room.2 in let high = room.3 in (room.1, omega arith)
 
@@ -114,7 +114,7 @@ pub loop-block-smaller : goal.loop-block-smaller
 loop-block-smaller g c =
     let l = c.args.blocks.now in let inv = c.loop-block.invariant in let is = c.in-Some.ensures.value in
     let some = run_some c.loop-block.blocks c.in-Some.block inv.ordered is.0.known c.args.low c.run_begin.result is.1 c.run_begin.ensures.run c.run_begin.ensures.first in
-    let end = end_below l.blocks l.lo l.hi c.args.low c.args.high c.loop-block.from c.loop-block.to c.are_ordered.ensures.laid c.requires.gap.loose inv.high inv.place inv.room inv.cut c.loop-block.blocks inv.ordered inv.list
+    let end = end_below l.blocks l.lo l.hi c.args.low c.args.high c.loop-block.from c.loop-block.to c.reveal_order.ensures.laid c.requires.gap.loose inv.high inv.place inv.room inv.cut c.loop-block.blocks inv.ordered inv.list
     c.in-Some.block is.0.known is.0.below is.0.last (record { from = c.run_begin.result; to = block_end c.in-Some.block }) c.run_begin.ensures.run (run_some c.loop-block.blocks c.in-Some.block inv.ordered is.0.known c.args.low c.run_begin.result is.1 c.run_begin.ensures.run c.run_begin.ensures.first) c.run_begin.ensures.low refl in omega arith
 
 pub loop-block-preserved : goal.loop-block-preserved
@@ -122,12 +122,12 @@ loop-block-preserved g c =
     let l = c.args.blocks.now in let inv = c.loop-block.invariant in let is = c.in-Some.ensures.value in
     let run = c.run_begin.ensures.run in
     let new = c.lift.ensures.blocks in
-    let list = ap (λ (m : Layout). m.blocks) new ∙ list_then l.blocks l.lo l.hi c.args.low c.args.high c.loop-block.from c.loop-block.to c.are_ordered.ensures.laid c.requires.gap.loose inv.high inv.place inv.room inv.cut c.loop-block.blocks inv.ordered inv.list
+    let list = ap (λ (m : Layout). m.blocks) new ∙ list_then l.blocks l.lo l.hi c.args.low c.args.high c.loop-block.from c.loop-block.to c.reveal_order.ensures.laid c.requires.gap.loose inv.high inv.place inv.room inv.cut c.loop-block.blocks inv.ordered inv.list
     c.in-Some.block is.0.known is.0.below is.0.last (record { from = c.run_begin.result; to = block_end c.in-Some.block }) c.run_begin.ensures.run (run_some c.loop-block.blocks c.in-Some.block inv.ordered is.0.known c.args.low c.run_begin.result is.1 c.run_begin.ensures.run c.run_begin.ensures.first) c.run_begin.ensures.low refl in
-    let room = room_then l.blocks l.lo l.hi c.args.low c.args.high c.loop-block.from c.loop-block.to c.are_ordered.ensures.laid c.requires.gap.loose inv.high inv.place inv.room inv.cut c.loop-block.blocks inv.ordered inv.list
+    let room = room_then l.blocks l.lo l.hi c.args.low c.args.high c.loop-block.from c.loop-block.to c.reveal_order.ensures.laid c.requires.gap.loose inv.high inv.place inv.room inv.cut c.loop-block.blocks inv.ordered inv.list
     c.in-Some.block is.0.known is.0.below is.0.last (record { from = c.run_begin.result; to = block_end c.in-Some.block }) c.run_begin.ensures.run (run_some c.loop-block.blocks c.in-Some.block inv.ordered is.0.known c.args.low c.run_begin.result is.1 c.run_begin.ensures.run c.run_begin.ensures.first) c.run_begin.ensures.low refl in
     let r = c.from-moved.ensures ∙ c.lift.ensures.moved in
-    let step = moved_then l.blocks l.lo l.hi c.args.low c.args.high c.loop-block.from c.loop-block.to c.are_ordered.ensures.laid c.requires.gap.loose inv.high inv.place inv.room inv.cut c.loop-block.blocks inv.ordered inv.list
+    let step = moved_then l.blocks l.lo l.hi c.args.low c.args.high c.loop-block.from c.loop-block.to c.reveal_order.ensures.laid c.requires.gap.loose inv.high inv.place inv.room inv.cut c.loop-block.blocks inv.ordered inv.list
     c.in-Some.block is.0.known is.0.below is.0.last (record { from = c.run_begin.result; to = block_end c.in-Some.block }) c.run_begin.ensures.run (run_some c.loop-block.blocks c.in-Some.block inv.ordered is.0.known c.args.low c.run_begin.result is.1 c.run_begin.ensures.run c.run_begin.ensures.first) c.run_begin.ensures.low refl c.from-moved.result r in
     let few = at_most c.from-moved.result c.run_begin.result (c.loop-block.to - (block_end c.in-Some.block - c.run_begin.result)) (block_end c.in-Some.block - c.run_begin.result) r in
     let grain = inv.bounds.3 in let size = room.0 in
@@ -136,11 +136,11 @@ loop-block-preserved g c =
       ordered = c.lift.ensures.ordered;
       list = list;
       low = c.run_begin.ensures.low;
-      high = let end = end_below l.blocks l.lo l.hi c.args.low c.args.high c.loop-block.from c.loop-block.to c.are_ordered.ensures.laid c.requires.gap.loose inv.high inv.place inv.room inv.cut c.loop-block.blocks inv.ordered inv.list
+      high = let end = end_below l.blocks l.lo l.hi c.args.low c.args.high c.loop-block.from c.loop-block.to c.reveal_order.ensures.laid c.requires.gap.loose inv.high inv.place inv.room inv.cut c.loop-block.blocks inv.ordered inv.list
           c.in-Some.block is.0.known is.0.below is.0.last (record { from = c.run_begin.result; to = block_end c.in-Some.block }) c.run_begin.ensures.run (run_some c.loop-block.blocks c.in-Some.block inv.ordered is.0.known c.args.low c.run_begin.result is.1 c.run_begin.ensures.run c.run_begin.ensures.first) c.run_begin.ensures.low refl in let two = inv.high in let order = run.inside.1 in omega arith;
-      cut = cut_then l.blocks l.lo l.hi c.args.low c.args.high c.loop-block.from c.loop-block.to c.are_ordered.ensures.laid c.requires.gap.loose inv.high inv.place inv.room inv.cut c.loop-block.blocks inv.ordered inv.list
+      cut = cut_then l.blocks l.lo l.hi c.args.low c.args.high c.loop-block.from c.loop-block.to c.reveal_order.ensures.laid c.requires.gap.loose inv.high inv.place inv.room inv.cut c.loop-block.blocks inv.ordered inv.list
           c.in-Some.block is.0.known is.0.below is.0.last (record { from = c.run_begin.result; to = block_end c.in-Some.block }) c.run_begin.ensures.run (run_some c.loop-block.blocks c.in-Some.block inv.ordered is.0.known c.args.low c.run_begin.result is.1 c.run_begin.ensures.run c.run_begin.ensures.first) c.run_begin.ensures.low refl;
-      place = place_then l.blocks l.lo l.hi c.args.low c.args.high c.loop-block.from c.loop-block.to c.are_ordered.ensures.laid c.requires.gap.loose inv.high inv.place inv.room inv.cut c.loop-block.blocks inv.ordered inv.list
+      place = place_then l.blocks l.lo l.hi c.args.low c.args.high c.loop-block.from c.loop-block.to c.reveal_order.ensures.laid c.requires.gap.loose inv.high inv.place inv.room inv.cut c.loop-block.blocks inv.ordered inv.list
           c.in-Some.block is.0.known is.0.below is.0.last (record { from = c.run_begin.result; to = block_end c.in-Some.block }) c.run_begin.ensures.run (run_some c.loop-block.blocks c.in-Some.block inv.ordered is.0.known c.args.low c.run_begin.result is.1 c.run_begin.ensures.run c.run_begin.ensures.first) c.run_begin.ensures.low refl;
       room = room.1;
       grained = multiple_less l.grain c.loop-block.to (block_end c.in-Some.block - c.run_begin.result) inv.grained
@@ -167,4 +167,4 @@ returns-clause-blocks g c =
 pub returns-clause-slid : goal.returns-clause-slid
 returns-clause-slid g c =
     let l = c.args.blocks.now in
-    subst (AreSlid l.blocks) (sym (list g c)) (slid_raised l.blocks c.args.low c.args.high l.lo l.hi l.blocks c.are_ordered.ensures.laid c.requires.gap.loose)
+    subst (AreSlid l.blocks) (sym (list g c)) (slid_raised l.blocks c.args.low c.args.high l.lo l.hi l.blocks c.reveal_order.ensures.laid c.requires.gap.loose)

@@ -15,7 +15,7 @@ loop-block-init g c =
     let l = c.args.blocks.now in let gap = c.requires.gap in
     record {
       bounds = (refl, refl, refl, refl);
-      ordered = c.are_ordered.ensures;
+      ordered = c.reveal_order.ensures;
       list = refl;
       settled = c.packed_to-to.ensures.run;
       high = c.packed_to-to.ensures.high;
@@ -115,22 +115,22 @@ returns-clause-blocks g c =
 pub returns-clause-slid : goal.returns-clause-slid
 returns-clause-slid g c =
     let l = c.args.blocks.now in
-    subst (AreSlid l.blocks) (sym (list g c)) (slid_gathered c.args.low c.args.high l.lo l.hi l.blocks c.are_ordered.ensures.laid c.requires.gap.loose)
+    subst (AreSlid l.blocks) (sym (list g c)) (slid_gathered c.args.low c.args.high l.lo l.hi l.blocks c.reveal_order.ensures.laid c.requires.gap.loose)
 
 pub returns-clause-clear : goal.returns-clause-clear
 returns-clause-clear g c =
     let l = c.args.blocks.now in
-    subst (λ bs. IsClear is_any l.lo l.hi bs (c.args.low + loose_bytes l.blocks c.args.low c.args.high) c.args.high) (sym (list g c)) (clear_gathered l c.args.low c.args.high c.are_ordered.ensures.laid c.requires.gap)
+    subst (λ bs. IsClear is_any l.lo l.hi bs (c.args.low + loose_bytes l.blocks c.args.low c.args.high) c.args.high) (sym (list g c)) (clear_gathered l c.args.low c.args.high c.reveal_order.ensures.laid c.requires.gap)
 
 pub returns-clause-hole : goal.returns-clause-hole
 returns-clause-hole g c = λ gap some.
     let l = c.args.blocks.now in
-    subst (λ bs. IsHole l.lo l.hi bs (c.args.low + loose_bytes l.blocks c.args.low c.args.high) c.args.high) (sym (list g c)) (hole_gathered l c.args.low c.args.high c.are_ordered.ensures.laid c.requires.gap gap some)
+    subst (λ bs. IsHole l.lo l.hi bs (c.args.low + loose_bytes l.blocks c.args.low c.args.high) c.args.high) (sym (list g c)) (hole_gathered l c.args.low c.args.high c.reveal_order.ensures.laid c.requires.gap gap some)
 
 pub returns-clause-alone : goal.returns-clause-alone
 returns-clause-alone g c = λ gap a b hole.
     let l = c.args.blocks.now in
-    alone_gathered l c.args.low c.args.high c.are_ordered.ensures.laid c.requires.gap gap a b (subst (λ bs. IsHole l.lo l.hi bs a b) (list g c) hole)
+    alone_gathered l c.args.low c.args.high c.reveal_order.ensures.laid c.requires.gap gap a b (subst (λ bs. IsHole l.lo l.hi bs a b) (list g c) hole)
 
 pub returns-clause-full : goal.returns-clause-full
 returns-clause-full g c = λ gap filled a b hole.

@@ -12,10 +12,10 @@ pub returns-in-LocalReAlloc-clause-step : goal.returns-in-LocalReAlloc-clause-st
 returns-in-LocalReAlloc-clause-step c = λ rest. rw c.in-LocalReAlloc.is (c.local_realloc.ensures.step rest)
 
 pub returns-in-LocalDiscard-clause-step : goal.returns-in-LocalDiscard-clause-step
-returns-in-LocalDiscard-clause-step c = λ rest. rw c.in-LocalDiscard.is (c.local_discard.ensures rest)
+returns-in-LocalDiscard-clause-step c = λ rest. rw c.in-LocalDiscard.is (c.local_discard.ensures.step rest)
 
 pub returns-in-LocalFree-clause-step : goal.returns-in-LocalFree-clause-step
-returns-in-LocalFree-clause-step c = λ rest. rw c.in-LocalFree.is (c.local_free.ensures rest)
+returns-in-LocalFree-clause-step c = λ rest. rw c.in-LocalFree.is (c.local_free.ensures.step rest)
 
 pub returns-in-LocalLock-clause-step : goal.returns-in-LocalLock-clause-step
 returns-in-LocalLock-clause-step c = λ rest. rw c.in-LocalLock.is (c.local_lock.ensures rest)

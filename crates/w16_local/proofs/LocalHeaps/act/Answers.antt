@@ -1,4 +1,5 @@
-use Rattle.std.proofs.Common.{sym, subst, ◌∙◌, ap, is_some, arith, Some}
+use Rattle.std.proofs.Common.{◌≡◌, ℕ, List, length, IsSomeAnd, sym, subst, ◌∙◌, ap, is_some, arith, Some}
+use Rattle.w16_region.specs.Bytes.{counted}
 use Rattle.w16_global.specs.Joined.{Global}
 use Rattle.w16_machine.specs.Local.{IsLocalTable}
 use Rattle.w16_local.proofs.Acting.{acted_in, may_lent}
@@ -23,9 +24,14 @@ with_bytes-answer-requires c =
 pub invariant_of-self : goal.invariant_of-self
 invariant_of-self c = listed_stepped _ c.self.inside.heaps.items c.self.view_is c.args.slot (ap is_some c.requires.was) _ c.in-Some.heap (sym (c.take.ensures.value ∙ c.index_mut.ensures.value) ∙ c.in-Some.is) _ c.take.new.self c.self.inside.live.items c.self.invariant
 
-pub returns : goal.returns
-returns c =
+pub returns-clause-acted : goal.returns-clause-acted
+returns-clause-acted c =
     let shown = here _ c.self.inside.heaps.items c.self.view_is c.args.slot (ap is_some c.requires.was) _ c.in-Some.heap (sym (c.take.ensures.value ∙ c.index_mut.ensures.value) ∙ c.in-Some.is) in
-    acted_in c.as_mut.result.now c.with_bytes-answer.new.state (shown ∙ ap Some (sym c.as_mut.ensures.value)) (subst IsLocalTable c.deref.ensures c.is_local.ensures)
+    acted_in c.as_mut.result.now c.with_bytes-answer.new.state (shown ∙ ap Some (sym c.as_mut.ensures.value)) (subst IsLocalTable c.deref.ensures c.reveal_local.ensures)
     c.with_bytes-answer.ensures.0 c.with_bytes-answer.new.self.handles (ap (λ (g : Global). g.handles) c.with_bytes-answer.ensures.1) _
     (tables_stepped _ c.self.inside.heaps.items c.self.view_is c.args.slot (ap is_some c.requires.was) _ c.in-Some.heap (sym (c.take.ensures.value ∙ c.index_mut.ensures.value) ∙ c.in-Some.is) _ c.take.new.self)
+
+pub returns-clause-lent : goal.returns-clause-lent
+returns-clause-lent c =
+    let lent = c.with_bytes-answer.ensures.0 in
+    subst (λ b. IsSomeAnd b (λ (bytes : List ℕ). c.with_bytes-answer.new.self.written ≡ counted c.args.global.now.written (length bytes))) (sym lent.had) (ap (λ (g : Global). g.written) c.with_bytes-answer.ensures.1)

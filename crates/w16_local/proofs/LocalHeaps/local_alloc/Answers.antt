@@ -6,8 +6,8 @@ use Rattle.w16_model.specs.Heap.{Heap}
 use Rattle.w16_model.specs.Table.{Table}
 use Rattle.w16_local.specs.Kept.{IsFull, IsLowest}
 use Rattle.w16_local.specs.Steps.{MayStep, Stepped, outcome}
-use Rattle.w16_local.specs.declared.acts.Act.TheVariants.{Alloc}
-use Rattle.w16_local.specs.declared.steps.Step.TheVariants.{Enter}
+use Rattle.w16_local.specs.declared.acts.ByteOp.TheVariants.{Alloc}
+use Rattle.w16_local.specs.declared.steps.TableOp.TheVariants.{Enter}
 use Rattle.w16_local.proofs.Acting.{may_in}
 use Rattle.w16_local.proofs.Calling.{alloc_as, alloc_calls, alloc_empty, alloc_full, alloc_none, enter_calls, no_object, rounded_size}
 use Rattle.w16_local.proofs.Stepping.{holds_in}
@@ -43,26 +43,26 @@ pub act-requires : goal.act-requires
 act-requires c =
     let is = c.in-Some.ensures.some in
     let lowest = holds_in (λ (t : Table). IsLowest t c.in-Some-free_entry.id) is.kept c.in-Some-free_entry.ensures.found in
-    may_in is (Alloc c.in-Some-free_entry.id c.rounded_up.result c.local_kind.result c.local_way.result)
+    may_in is (Alloc c.in-Some-free_entry.id c.rounded_up.result c.local_kind.result c.local_options.result)
     ((lowest.known, no_object is c.in-Some-free_entry.id lowest.free), rounded_size c.args.size c.rounded_up.result c.rounded_up.ensures (let some = c.if-size-eq0.false in omega (arith, some)))
 
 pub returns-clause-step : goal.returns-clause-step
 returns-clause-step c =
     let is = c.in-Some.ensures.some in
     let lowest = holds_in (λ (t : Table). IsLowest t c.in-Some-free_entry.id) is.kept c.in-Some-free_entry.ensures.found in
-    alloc_calls is c.args.flags c.args.size c.in-Some-free_entry.id lowest (let some = c.if-size-eq0.false in omega (arith, some)) (alloc_as c.rounded_up.ensures c.local_kind.ensures c.local_way.ensures c.act.ensures)
+    alloc_calls is c.args.flags c.args.size c.in-Some-free_entry.id lowest (let some = c.if-size-eq0.false in omega (arith, some)) (alloc_as c.rounded_up.ensures c.local_kind.ensures c.local_options.ensures c.act.ensures.acted)
 
 pub returns-in_default-clause-fewest : goal.returns-in_default-clause-fewest
-returns-in_default-clause-fewest c = λ rest is at chosen. local_alloc_law _ _ c.args.flags c.args.size _ at is (returns-in_default-clause-step c rest) chosen
+returns-in_default-clause-fewest c = λ rest is at current. local_alloc_law _ _ c.args.flags c.args.size _ at is (returns-in_default-clause-step c rest) current
 
 pub returns-in_default-free_entry-clause-fewest : goal.returns-in_default-free_entry-clause-fewest
-returns-in_default-free_entry-clause-fewest c = λ rest is at chosen. local_alloc_law _ _ c.args.flags c.args.size _ at is (returns-in_default-free_entry-clause-step c rest) chosen
+returns-in_default-free_entry-clause-fewest c = λ rest is at current. local_alloc_law _ _ c.args.flags c.args.size _ at is (returns-in_default-free_entry-clause-step c rest) current
 
 pub returns-then-not-has_flag-clause-fewest : goal.returns-then-not-has_flag-clause-fewest
-returns-then-not-has_flag-clause-fewest c = λ rest is at chosen. local_alloc_law _ _ c.args.flags c.args.size _ at is (returns-then-not-has_flag-clause-step c rest) chosen
+returns-then-not-has_flag-clause-fewest c = λ rest is at current. local_alloc_law _ _ c.args.flags c.args.size _ at is (returns-then-not-has_flag-clause-step c rest) current
 
 pub returns-then-size-eq0-clause-fewest : goal.returns-then-size-eq0-clause-fewest
-returns-then-size-eq0-clause-fewest c = λ rest is at chosen. local_alloc_law _ _ c.args.flags c.args.size _ at is (returns-then-size-eq0-clause-step c rest) chosen
+returns-then-size-eq0-clause-fewest c = λ rest is at current. local_alloc_law _ _ c.args.flags c.args.size _ at is (returns-then-size-eq0-clause-step c rest) current
 
 pub returns-clause-fewest : goal.returns-clause-fewest
-returns-clause-fewest c = λ rest is at chosen. local_alloc_law _ _ c.args.flags c.args.size _ at is (returns-clause-step c rest) chosen
+returns-clause-fewest c = λ rest is at current. local_alloc_law _ _ c.args.flags c.args.size _ at is (returns-clause-step c rest) current

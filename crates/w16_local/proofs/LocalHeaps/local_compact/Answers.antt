@@ -1,4 +1,4 @@
-use Rattle.w16_local.specs.declared.acts.Act.TheVariants.{Compact}
+use Rattle.w16_local.specs.declared.acts.ByteOp.TheVariants.{Compact}
 use Rattle.w16_local.proofs.Acting.{may_in}
 use Rattle.w16_local.proofs.Calling.{compact_calls, compact_none}
 use Rattle.w16_machine.proofs.LocalFewest.{local_compact_law}
@@ -11,10 +11,10 @@ pub act-requires : goal.act-requires
 act-requires c = may_in c.in-Some.ensures.some (Compact c.args.size) tt
 
 pub returns-clause-step : goal.returns-clause-step
-returns-clause-step c = compact_calls c.in-Some.ensures.some c.args.size c.act.ensures
+returns-clause-step c = compact_calls c.in-Some.ensures.some c.args.size c.act.ensures.acted
 
 pub returns-in_default-clause-fewest : goal.returns-in_default-clause-fewest
-returns-in_default-clause-fewest c = λ rest is at chosen. local_compact_law _ _ c.args.size _ at is (returns-in_default-clause-step c rest) chosen
+returns-in_default-clause-fewest c = λ rest is at current. local_compact_law _ _ c.args.size _ at is (returns-in_default-clause-step c rest) current
 
 pub returns-clause-fewest : goal.returns-clause-fewest
-returns-clause-fewest c = λ rest is at chosen. local_compact_law _ _ c.args.size _ at is (returns-clause-step c rest) chosen
+returns-clause-fewest c = λ rest is at current. local_compact_law _ _ c.args.size _ at is (returns-clause-step c rest) current

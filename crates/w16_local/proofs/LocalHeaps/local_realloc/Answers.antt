@@ -3,8 +3,8 @@ use Rattle.w16_model.specs.declared.Kind.{Kind}
 use Rattle.w16_model.specs.OneObject.{after_modify}
 use Rattle.w16_model.specs.Table.{Table}
 use Rattle.w16_local.specs.Steps.{MayStep, Stepped, outcome}
-use Rattle.w16_local.specs.declared.acts.Act.TheVariants.{Discard, Realloc}
-use Rattle.w16_local.specs.declared.steps.Step.TheVariants.{Modify}
+use Rattle.w16_local.specs.declared.acts.ByteOp.TheVariants.{Discard, Realloc}
+use Rattle.w16_local.specs.declared.steps.TableOp.TheVariants.{Modify}
 use Rattle.w16_local.proofs.Acting.{may_in}
 use Rattle.w16_local.proofs.Calling.{discard_calls, discard_refused, discard_unasked, modify_calls, named_there, realloc_as, realloc_none, resize_calls, rounded_size}
 use Rattle.w16_machine.proofs.LocalFewest.{local_realloc_law}
@@ -22,10 +22,10 @@ returns-then-has_flag-clause-step c =
     (subst (λ (k : Kind). Stepped c.args.self.now c.in-Some.field-0.slot (λ a b. after_modify a c.in-Some.field-0.id k ≡ outcome c.step.result b) c.step.new.self) c.moveable_or_discardable.ensures c.step.ensures.stepped) c.step.ensures.refused
 
 pub act-requires : goal.act-requires
-act-requires c = let n = c.in-Some.ensures.some in may_in n.heap (Realloc c.in-Some.field-0.id c.rounded_up.result c.local_way.result) (named_there n, rounded_size c.args.size c.rounded_up.result c.rounded_up.ensures c.if-size-gt0.true)
+act-requires c = let n = c.in-Some.ensures.some in may_in n.heap (Realloc c.in-Some.field-0.id c.rounded_up.result c.local_options.result) (named_there n, rounded_size c.args.size c.rounded_up.result c.rounded_up.ensures c.if-size-gt0.true)
 
 pub returns-then-size-gt0-clause-step : goal.returns-then-size-gt0-clause-step
-returns-then-size-gt0-clause-step c = resize_calls c.in-Some.ensures.some c.args.size c.args.flags (sym c.has_flag.ensures ∙ c.if-has_flag.false) c.act.result c.act.new.global.handles c.act.new.self c.if-size-gt0.true (realloc_as c.rounded_up.ensures c.local_way.ensures c.act.ensures)
+returns-then-size-gt0-clause-step c = resize_calls c.in-Some.ensures.some c.args.size c.args.flags (sym c.has_flag.ensures ∙ c.if-has_flag.false) c.act.result c.act.new.global.handles c.act.new.self c.if-size-gt0.true (realloc_as c.rounded_up.ensures c.local_options.ensures c.act.ensures.acted)
 
 pub returns-then-not-has_flag-clause-step : goal.returns-then-not-has_flag-clause-step
 returns-then-not-has_flag-clause-step c = discard_unasked c.in-Some.ensures.some c.args.size c.args.flags (sym c.has_flag.ensures ∙ c.if-has_flag.false) (let none = c.if-size-gt0.false in omega (arith, none)) (sym c.has_flag-2.ensures ∙ c.if-not-has_flag.true)
@@ -39,7 +39,7 @@ pub act-requires-2 : goal.act-requires-2
 act-requires-2 c = let n = c.in-Some.ensures.some in may_in n.heap (Discard c.in-Some.field-0.id) (c.may_discard.ensures n.heap.bytes n.heap.over ∙ c.if-not-may_discard.false)
 
 pub returns-clause-step : goal.returns-clause-step
-returns-clause-step c = discard_calls c.in-Some.ensures.some c.args.size c.args.flags (sym c.has_flag.ensures ∙ c.if-has_flag.false) (let none = c.if-size-gt0.false in omega (arith, none)) (sym c.has_flag-2.ensures ∙ c.if-not-has_flag.false) c.act-2.ensures
+returns-clause-step c = discard_calls c.in-Some.ensures.some c.args.size c.args.flags (sym c.has_flag.ensures ∙ c.if-has_flag.false) (let none = c.if-size-gt0.false in omega (arith, none)) (sym c.has_flag-2.ensures ∙ c.if-not-has_flag.false) c.act-2.ensures.acted
 
 pub returns-in_default-clause-fewest : goal.returns-in_default-clause-fewest
 returns-in_default-clause-fewest c = λ rest is o named unmodified some. local_realloc_law _ _ c.args.name c.args.size c.args.flags _ o is (returns-in_default-clause-step c rest) named unmodified some

@@ -31,7 +31,7 @@ pub returns-clause-stepped : goal.returns-clause-stepped
 returns-clause-stepped c =
     let known = known_in (finmap.get c.args.self.now c.args.slot) (MayStep c.args.step c.args.id) c.requires in
     stepped _ c.self.inside.heaps.items c.self.view_is c.args.slot known _ c.in-Some.heap (sym (c.take.ensures.value ∙ c.index_mut.ensures.value) ∙ c.in-Some.is) _ c.take.new.self
-    (subst IsLocalTable c.deref.ensures c.is_local.ensures)
+    (subst IsLocalTable c.deref.ensures c.reveal_local.ensures)
     (subst (λ (t : Table). Turns t c.step-done.new.self (λ old new. after_step c.args.step old c.args.id ≡ outcome c.step-done.result new)) c.deref_mut.ensures.value c.step-done.ensures.turns)
 
 pub returns-clause-refused : goal.returns-clause-refused

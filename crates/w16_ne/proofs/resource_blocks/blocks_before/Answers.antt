@@ -11,7 +11,7 @@ use Rattle.w16_ne.proofs.resource_blocks.blocks_before.Goals as goal
 pub returns-in_err-block_of-clause-exact : goal.returns-in_err-block_of-clause-exact
 returns-in_err-block_of-clause-exact g c = λ honest known.
     let file = file_of (g.S.Store.files c.args.store.now) c.args.name.now in
-    let p = err_from_is_err_and c.from_residual.result c.from_residual.ensures.1 in
+    let p = err_from_is_err_and c.from_residual-in_err-block_of.result c.from_residual-in_err-block_of.ensures.1 in
     let said = rw c.loop.invariant.0 at c.in_err-block_of.ensures.exact honest known in
     rw (p.1, p.2) (fails_on file _ _ _ c.in_err-block_of.field-0.0 (block_at file c.loop.place) (blocks_from file c.args.len c.args.at) c.loop.invariant.1 said
     (λ e. stops file c.loop.blocks.items c.args.len c.loop.counter c.loop.place _ _ c.loop-test.true e (c.loop.invariant.3 honest known)))

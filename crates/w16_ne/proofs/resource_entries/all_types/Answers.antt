@@ -1,13 +1,15 @@
-use Rattle.std.proofs.Common.{◌≡◌, ℕ, suc, ◌+◌, ◌<◌, ◌≤◌, ◌∙◌, List, Option, [], ◌∷◌, ◌++◌, Ok, Err, length, drop, get_or, map, refl, sym, ap, add-one, arith, rules}
+use Rattle.std.proofs.Common.{◌≡◌, ℕ, suc, ◌+◌, ◌<◌, ◌≤◌, ◌∙◌, List, Option, [], ◌∷◌, ◌++◌, Ok, Err, length, drop, get_or, refl, sym, ap, add-one, arith}
 use Rattle.std.proofs.Math.Seq.{drop-cons}
 use Rattle.std.proofs.Math.ListN.{drop_of_length-le}
 use Rattle.std.proofs.lemmas.Result.{err_from_is_err_and}
-use Rattle.std.proofs.lemmas.List.{append-nil, map_push}
+use Rattle.std.proofs.lemmas.List.{append-nil}
+use Rattle.std.specs.Prelude.{nat_lt}
+use Rattle.std.proofs.lemmas.List.Elements.{filter-append}
 use Rattle.w16_store.specs.Files.{file_of}
 use Rattle.w16_ne.specs.declared.fault.NeFault.{NeFault}
 use Rattle.w16_ne.specs.declared.resource_blocks.Block.{Block}
 use Rattle.w16_ne.specs.Reading.{Reading}
-use Rattle.w16_ne.specs.Resources.{Typed, typed_of, typed_at, all_typed}
+use Rattle.w16_ne.specs.Resources.{Typed, typed_of, typed_at, all_typed, filled}
 use Rattle.w16_ne.proofs.Each.{with_front, regroup}
 use Rattle.w16_ne.proofs.Until.{fails_on}
 use Rattle.w16_ne.proofs.resource_entries.all_types.Goals as goal
@@ -34,8 +36,9 @@ returns-in_err-found-clause-exact g c = λ honest.
     let file = file_of (g.S.Store.files c.args.store.now) c.args.name.now in
     let p = err_from_is_err_and c.from_residual.result c.from_residual.ensures.1 in
     let said = rw c.loop-block.invariant.0 at c.in_err-found.ensures.exact honest in
+    let l = c.loop-block.invariant.2 honest in
     rw (p.1, p.2) (fails_on file _ _ _ c.in_err-found.field-0.0 _ (all_typed file c.args.table c.args.shift c.args.blocks.now) c.loop-block.invariant.1 said
-    (λ e. stops file c.args.table c.args.shift c.args.blocks.now c.loop-block.block-index (map typed_of c.loop-block.types.items) _ _ _ c.loop-block-test.true e (c.loop-block.invariant.2 honest)))
+    (λ e. stops file c.args.table c.args.shift c.args.blocks.now c.loop-block.block-index l.0 _ _ _ c.loop-block-test.true e l.2))
 
 pub loop-block-preserved : goal.loop-block-preserved
 loop-block-preserved g c = (
@@ -44,13 +47,15 @@ loop-block-preserved g c = (
   λ honest.
       let file = file_of (g.S.Store.files c.args.store.now) c.args.name.now in
       let said = rw c.loop-block.invariant.0 at c.in_ok-found.ensures.exact honest in
-      let pushed : map typed_of c.push.new.self.items ≡ map typed_of c.loop-block.types.items ++ typed_of c.in_ok-found.found ∷ [] = rw c.in_ok-push.ensures.items (map_push typed_of c.loop-block.types.items c.in_ok-found.found) in
-      rw pushed (goes_on file c.args.table c.args.shift c.args.blocks.now c.loop-block.block-index (map typed_of c.loop-block.types.items) _ _ (typed_of c.in_ok-found.found) c.loop-block-test.true said (c.loop-block.invariant.2 honest)),
+      let l = c.loop-block.invariant.2 honest in
+      let x = typed_of c.in_ok-found.found in (
+        l.0 ++ x ∷ [],
+        c.in_ok-keep.ensures ∙ ap (λ ts. ts ++ filled (x ∷ [])) l.1 ∙ sym (filter-append (λ (t : Typed). nat_lt 0 (length t.1)) l.0 (x ∷ [])),
+        goes_on file c.args.table c.args.shift c.args.blocks.now c.loop-block.block-index l.0 _ _ x c.loop-block-test.true said l.2,
+      ),
 )
-
-pub returns-in_err-push-clause-exact : goal.returns-in_err-push-clause-exact
-returns-in_err-push-clause-exact g c = search rules
 
 pub returns-clause-exact : goal.returns-clause-exact
 returns-clause-exact g c = λ honest.
-    is_done (file_of (g.S.Store.files c.args.store.now) c.args.name.now) c.args.table c.args.shift c.args.blocks.now c.loop-block.block-index (map typed_of c.loop-block.types.items) _ c.loop-block-test.false (c.loop-block.invariant.2 honest)
+    let l = c.loop-block.invariant.2 honest in
+    (l.0, is_done (file_of (g.S.Store.files c.args.store.now) c.args.name.now) c.args.table c.args.shift c.args.blocks.now c.loop-block.block-index l.0 _ c.loop-block-test.false l.2, l.1)

@@ -1,10 +1,10 @@
-use Rattle.std.proofs.Common.{ℕ, ◌≤◌, ◌*◌, ◌∙◌, Result, arith, rules}
+use Rattle.std.proofs.Common.{ℕ, ◌*◌, ◌∙◌, Result, arith, rules}
 use Rattle.std.proofs.lemmas.Result.{err_from_is_err_and}
 use Rattle.std.proofs.lemmas.List.Elements.{All-push}
 use Rattle.w16_store.specs.Files.{file_of}
 use Rattle.w16_ne.specs.declared.fault.NeFault.{NeFault}
 use Rattle.w16_ne.specs.declared.segment_table.Segment.{Segment}
-use Rattle.w16_ne.specs.Segments.{segment_at, entries_at}
+use Rattle.w16_ne.specs.Segments.{IsSized, segment_at, entries_at}
 use Rattle.w16_ne.proofs.Each.{goes_on, stops}
 use Rattle.w16_ne.proofs.Until.{fails_on}
 use Rattle.w16_ne.proofs.segment_table.entries.Goals as goal
@@ -25,7 +25,8 @@ loop-i-preserved g c =
       λ honest.
           let said = rw (c.from.ensures, c.loop-i.invariant.0) at c.in_ok-segment.ensures.exact honest in
           rw c.in_ok-push.ensures.items (goes_on entry c.loop-i.segments.items c.args.count c.loop-i.i c.in_ok-segment.segment (entries_at (file_of (g.S.Store.files c.args.store.now) c.args.name.now) c.args.shift c.args.table.now c.args.count) c.loop-i-test.true said (c.loop-i.invariant.2 honest)),
-      rw c.in_ok-push.ensures.items (All-push (λ (s : Segment). s.len ≤ 65536) c.loop-i.segments.items c.in_ok-segment.segment c.loop-i.invariant.3 c.in_ok-segment.ensures.short),
+      rw c.in_ok-push.ensures.items (All-push IsSized c.loop-i.segments.items c.in_ok-segment.segment c.loop-i.invariant.3 c.in_ok-segment.ensures.sized),
+      omega (arith, c.loop-i.invariant.4, c.in_ok-push.ensures.len),
     )
 
 pub returns-in_err-push-clause-exact : goal.returns-in_err-push-clause-exact

@@ -1,9 +1,9 @@
-use Rattle.std.proofs.Common.{◌≡◌, ◌≤◌, ◌-◌, ◌*◌, ℕ, Result, All}
+use Rattle.std.proofs.Common.{◌≡◌, ◌≤◌, ◌-◌, ◌*◌, ℕ, Result, All, vec_len}
 use Rattle.w16_store.specs.Files.{file_of}
 use Rattle.w16_ne.specs.declared.fault.NeFault.{NeFault}
 use Rattle.w16_ne.specs.declared.segment_table.Segment.{Segment}
 use Rattle.w16_ne.specs.Reading.{each}
-use Rattle.w16_ne.specs.Segments.{segment_at, entries_at}
+use Rattle.w16_ne.specs.Segments.{IsSized, segment_at, entries_at}
 use Rattle.w16_ne.proofs.Each.{with_front}
 use Rattle.w16_ne.proofs.segment_table.entries.Given as goal
 
@@ -12,4 +12,4 @@ invariant-loop-i g l =
     let entry : ℕ → Result Segment NeFault = λ i. segment_at (file_of (g.S.Store.files l.fn.store) l.name) l.shift l.table (8 * i) in
     (g.S.Store.files l.store ≡ g.S.Store.files l.fn.store) × (g.S.Store.failures l.fn.store ≤ g.S.Store.failures l.store)
     × (g.S.Store.is_honest → with_front l.segments.items (each entry (l.count - l.i) l.i) ≡ entries_at (file_of (g.S.Store.files l.fn.store) l.name) l.shift l.table l.count)
-    × All (λ s. s.len ≤ 65536) l.segments.items
+    × All IsSized l.segments.items × (vec_len l.segments ≡ l.i)

@@ -23,5 +23,5 @@ returns-clause-exact g c = λ file s honest has tables found.
     let many = ok_same _ _ (c.in_ok-count.ensures.exact file honest has lies) in
     let held = c.in_ok-count.ensures.held file honest has lies in
     let said = c.check_records.ensures.exact file honest (rw c.in_ok-count.ensures.files has) (rw c.as_mut_slice.ensures.value c.clear_marks.ensures.clear) in
-    let offered = rw (c.imported_names.ensures.place, c.segment_count.ensures, c.reference_count.ensures, c.as_slice.ensures.value, c.as_slice-2.ensures.value) at said in
+    let offered = rw (c.imported_names.ensures.place, c.segment_count.ensures.count, c.reference_count.ensures, c.as_slice.ensures.value, c.as_slice-2.ensures.value) at said in
     rw (← same) (checked_told file c.args.module_file.now c.segment-found.result c.check_records.result _ _ _ _ _ _ _ (omega (arith, c.in_ok-count.ensures.failures)) held.0 held.1 (sym many) offered)

@@ -5,14 +5,14 @@ use Rattle.w16_reloc.proofs.Refusals.{fails_on}
 use Rattle.w16_reloc.proofs.FileLemmas.{table_inside}
 use Rattle.w16_reloc.proofs.segment.read_table.Goals as goal
 
-pub returns-in_err-read_part-clause-exact : goal.returns-in_err-read_part-clause-exact
-returns-in_err-read_part-clause-exact g c = λ file count honest has counted.
-    let p = err_from_is_err_and c.from_residual-in_err-read_part.result c.from_residual-in_err-read_part.ensures.1 in
+pub returns-in_err-read_bytes-clause-exact : goal.returns-in_err-read_bytes-clause-exact
+returns-in_err-read_bytes-clause-exact g c = λ file count honest has counted.
+    let p = err_from_is_err_and c.from_residual-in_err-read_bytes.result c.from_residual-in_err-read_bytes.ensures.1 in
     let read = c.in_ok-count.ensures.exact file count honest has counted in
     let same : count ≡ c.in_ok-count.count = cc (read) in
     let inside : 0 < 8 * c.in_ok-count.count → c.args.end + 2 + 8 * c.in_ok-count.count ≤ length file = λ some. table_inside file c.args.flags c.args.end c.in_ok-count.count (rw (← same) counted) (omega (arith, some)) in
-    let said = c.in_err-read_part.ensures.exact file honest (rw c.in_ok-count.ensures.files has) inside in
-    rw (p.1, p.2) (fails_on _ _ _ c.in_err-read_part.field-0.0 _ (Ok count) c.in_ok-count.ensures.failures said (λ e. cc (e)))
+    let said = c.in_err-read_bytes.ensures.exact file honest (rw c.in_ok-count.ensures.files has) inside in
+    rw (p.1, p.2) (fails_on _ _ _ c.in_err-read_bytes.field-0.0 _ (Ok count) c.in_ok-count.ensures.failures said (λ e. cc (e)))
 
 held_of : (x y : List ℕ) → ◌≡◌ {A = Result (List ℕ) RelocFault} (Ok x) (Ok y) → x ≡ y
 held_of x y h = cc
@@ -22,5 +22,5 @@ returns-clause-records g c = λ file count honest has counted.
     let read = c.in_ok-count.ensures.exact file count honest has counted in
     let same : count ≡ c.in_ok-count.count = cc (read) in
     let inside : 0 < 8 * c.in_ok-count.count → c.args.end + 2 + 8 * c.in_ok-count.count ≤ length file = λ some. table_inside file c.args.flags c.args.end c.in_ok-count.count (rw (← same) counted) (omega (arith, some)) in
-    let said = c.in_ok-read_part.ensures.exact file honest (rw c.in_ok-count.ensures.files has) inside in
+    let said = c.in_ok-read_bytes.ensures.exact file honest (rw c.in_ok-count.ensures.files has) inside in
     rw same (sym (held_of _ _ said))

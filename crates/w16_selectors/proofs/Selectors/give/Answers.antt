@@ -1,6 +1,6 @@
 use Rattle.std.proofs.Common.{◌≤◌, None, refl, arith}
 use Rattle.w16_model.specs.declared.TheConstants.{FIRST_SLOT}
-use Rattle.w16_selectors.proofs.Represented.{IsKept-set, AreTaken-give, taken_above}
+use Rattle.w16_selectors.proofs.Represented.{SelectorsInvariant-set, AreTaken-give, taken_above}
 use Rattle.w16_selectors.proofs.Selectors.give.Goals as goal
 
 pub invariant_of-self : goal.invariant_of-self
@@ -9,6 +9,6 @@ invariant_of-self c =
     let first : FIRST_SLOT ≤ c.args.slot = taken_above s.descriptors.items s.marks.items c.args.slot c.self.invariant.0 (rw (← c.self.view_is) at c.requires) in
     let above = c.self.invariant.1.above in
     let least = c.min-self-inside.ensures in (
-      IsKept-set s.descriptors.items s.marks.items c.args.slot None c.self.invariant.0 (λ lt. refl) tt,
+      SelectorsInvariant-set s.descriptors.items s.marks.items c.args.slot None c.self.invariant.0 (λ lt. refl) tt,
       AreTaken-give s.descriptors.items s.free_from c.args.slot c.min-self-inside.result c.self.invariant.1 first (omega (arith, least)) (omega (arith, least)) (omega (arith, least, above, first)),
     )

@@ -1,12 +1,12 @@
 use Rattle.std.proofs.Common.{Some, arith}
-use Rattle.w16_selectors.proofs.Represented.{unset_reaches, IsKept-set, AreTaken-set, AreTaken-next}
+use Rattle.w16_selectors.proofs.Represented.{unset_reaches, SelectorsInvariant-set, AreTaken-set, AreTaken-next}
 use Rattle.w16_selectors.proofs.Selectors.take.Goals as goal
 
 pub invariant_of-self : goal.invariant_of-self
 invariant_of-self c =
     let above = c.requires.0 in
     let below = rw (← c.self.view_is) at c.requires.1 in (
-      IsKept-set c.self.inside.descriptors.items c.self.inside.marks.items c.args.slot (Some c.unset.result) c.self.invariant.0 (λ lt. absurd (omega arith)) (unset_reaches c.unset.result c.args.kind c.unset.ensures),
+      SelectorsInvariant-set c.self.inside.descriptors.items c.self.inside.marks.items c.args.slot (Some c.unset.result) c.self.invariant.0 (λ lt. absurd (omega arith)) (unset_reaches c.unset.result c.args.kind c.unset.ensures),
       AreTaken-next c.self.inside.descriptors.items c.self.inside.free_from c.args.slot c.unset.result c.self.invariant.1 below c.if-self-slot.true,
     )
 
@@ -14,6 +14,6 @@ pub invariant_of-self-else-self-slot : goal.invariant_of-self-else-self-slot
 invariant_of-self-else-self-slot c =
     let above = c.requires.0 in
     let below = rw (← c.self.view_is) at c.requires.1 in (
-      IsKept-set c.self.inside.descriptors.items c.self.inside.marks.items c.args.slot (Some c.unset.result) c.self.invariant.0 (λ lt. absurd (omega arith)) (unset_reaches c.unset.result c.args.kind c.unset.ensures),
+      SelectorsInvariant-set c.self.inside.descriptors.items c.self.inside.marks.items c.args.slot (Some c.unset.result) c.self.invariant.0 (λ lt. absurd (omega arith)) (unset_reaches c.unset.result c.args.kind c.unset.ensures),
       AreTaken-set c.self.inside.descriptors.items c.self.inside.free_from c.args.slot c.unset.result c.self.invariant.1 below,
     )

@@ -1,12 +1,12 @@
 use Rattle.std.proofs.Common.{rules}
-use Rattle.w16_selectors.proofs.Represented.{unset_reaches, IsKept-written, AreTaken-written}
+use Rattle.w16_selectors.proofs.Represented.{unset_reaches, SelectorsInvariant-written, AreTaken-written}
 use Rattle.w16_selectors.proofs.Selectors.vacate.Goals as goal
 
 pub invariant_of-self : goal.invariant_of-self
 invariant_of-self c =
     let taken = rw (← c.self.view_is) at c.requires in
     let unset = c.unset.result in
-    (IsKept-written _ _ _ unset c.self.invariant.0 taken (unset_reaches unset _ c.unset.ensures), AreTaken-written _ _ _ unset c.self.invariant.1 taken)
+    (SelectorsInvariant-written _ _ _ unset c.self.invariant.0 taken (unset_reaches unset _ c.unset.ensures), AreTaken-written _ _ _ unset c.self.invariant.1 taken)
 
 pub returns : goal.returns
 returns c = search rules

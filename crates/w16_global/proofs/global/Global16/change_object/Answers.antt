@@ -15,13 +15,13 @@ pub returns-then-reallocate-clause-step : goal.returns-then-reallocate-clause-st
 returns-then-reallocate-clause-step c =
     let s = c.if-reallocate.ensures in
     answers_bytes c.args.self.now.handles (handles_of c.self.inside.objects c.self.inside.attributes.items 0) (ap (λ (x : Handles). record x { moved = 0 }) (handles_shown c.self.view_is)) c.args.handle c.args.size c.args.flags c.in-Some.slot
-    (sym c.in-Some.ensures) c.reallocate.new.self.handles (sym c.if-is_owned.ensures) (sym c.if-has_flag.ensures) c.if-size-eq0.false (omega (arith, c.if-size-gt-LARGEST_SIZE.false)) c.rounded.result c.rounded.ensures c.way_asked_again.result c.way_asked_again.ensures s.reallocated s.rest
+    (sym c.in-Some.ensures) c.reallocate.new.self.handles (sym c.if-is_owned.ensures) (sym c.if-has_flag.ensures) c.if-size-eq0.false (omega (arith, c.if-size-gt-LARGEST_SIZE.false)) c.rounded.result c.rounded.ensures c.realloc_options.result c.realloc_options.ensures s.reallocated s.rest
 
 pub returns-else-reallocate-clause-step : goal.returns-else-reallocate-clause-step
 returns-else-reallocate-clause-step c =
     let s = c.if-reallocate.ensures in
     answers_no_room c.args.self.now.handles (handles_of c.self.inside.objects c.self.inside.attributes.items 0) (ap (λ (x : Handles). record x { moved = 0 }) (handles_shown c.self.view_is)) c.args.handle c.args.size c.args.flags c.in-Some.slot
-    (sym c.in-Some.ensures) c.reallocate.new.self.handles (sym c.if-is_owned.ensures) (sym c.if-has_flag.ensures) c.if-size-eq0.false (omega (arith, c.if-size-gt-LARGEST_SIZE.false)) c.rounded.result c.rounded.ensures c.way_asked_again.result c.way_asked_again.ensures s.reallocated s.rest
+    (sym c.in-Some.ensures) c.reallocate.new.self.handles (sym c.if-is_owned.ensures) (sym c.if-has_flag.ensures) c.if-size-eq0.false (omega (arith, c.if-size-gt-LARGEST_SIZE.false)) c.rounded.result c.rounded.ensures c.realloc_options.result c.realloc_options.ensures s.reallocated s.rest
 
 pub returns-then-is_owned-clause-step : goal.returns-then-is_owned-clause-step
 returns-then-is_owned-clause-step c =
@@ -31,5 +31,5 @@ returns-then-is_owned-clause-step c =
 pub returns-then-reallocate-clause-written : goal.returns-then-reallocate-clause-written
 returns-then-reallocate-clause-written c =
     let zeros = zeros_known c.args.self.now.handles (handles_of c.self.inside.objects c.self.inside.attributes.items 0) (ap (λ (x : Handles). record x { moved = 0 }) (handles_shown c.self.view_is)) c.args.handle c.args.size c.args.flags c.in-Some.slot
-    (sym c.in-Some.ensures) c.reallocate.new.self.handles (sym c.if-has_flag.ensures) c.rounded.result c.rounded.ensures c.way_asked_again.result c.way_asked_again.ensures in
+    (sym c.in-Some.ensures) c.reallocate.new.self.handles (sym c.if-has_flag.ensures) c.rounded.result c.rounded.ensures c.realloc_options.result c.realloc_options.ensures in
     c.if-reallocate.ensures.written ∙ (λ i. counted (counted (ap (λ (g : Global). g.written) c.self.view_is i) c.reallocate.new.self.handles.moved) (zeros i))

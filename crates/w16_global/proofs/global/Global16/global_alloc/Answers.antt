@@ -3,7 +3,7 @@ use Rattle.w16_model.proofs.Fewest.{global_alloc_law}
 use Rattle.w16_global.proofs.global.Global16.global_alloc.Goals as goal
 
 pub returns-clause-fewest : goal.returns-clause-fewest
-returns-clause-fewest c = global_alloc_law _ _ _ _ _ c.are_handles.ensures c.new_object.ensures.step
+returns-clause-fewest c = global_alloc_law _ _ _ _ _ c.reveal_handles.ensures c.new_object.ensures.step
 
 pub returns-clause-step : goal.returns-clause-step
 returns-clause-step c = search rules

@@ -16,7 +16,7 @@ returns-then-allocate-clause-step c =
     let s = c.if-allocate.ensures in
     bytes_answered c.args.self.now.handles c.free_slot.new.self.handles (handles_shown c.free_slot.ensures.same ∙ ap (λ (x : Handles). record x { moved = 0 }) (handles_shown c.self.view_is)) c.args.flags c.in-Some.slot c.args.size c.allocate.new.self.handles
     (subst (λ x. IsFreeSlot x c.in-Some.slot) (sym (handles_shown c.free_slot.ensures.same)) c.in-Some.ensures.found) c.kind_asked-kind.result c.kind_asked-kind.ensures c.attributes_asked-attributes.result c.attributes_asked-attributes.ensures c.handle_of-then-allocate.result c.handle_of-then-allocate.ensures
-    c.rounded.result c.rounded.ensures c.way_asked.result c.way_asked.ensures c.if-size-eq0.false
+    c.rounded.result c.rounded.ensures c.alloc_options.result c.alloc_options.ensures c.if-size-eq0.false
     (omega (arith, c.if-size-gt-LARGEST_SIZE.false)) s.allocated s.rest
 
 pub returns-else-allocate-clause-step : goal.returns-else-allocate-clause-step
@@ -24,7 +24,7 @@ returns-else-allocate-clause-step c =
     let s = c.if-allocate.ensures in
     bytes_refused c.args.self.now.handles c.free_slot.new.self.handles (handles_shown c.free_slot.ensures.same ∙ ap (λ (x : Handles). record x { moved = 0 }) (handles_shown c.self.view_is)) c.args.flags c.in-Some.slot c.args.size c.allocate.new.self.handles
     (subst (λ x. IsFreeSlot x c.in-Some.slot) (sym (handles_shown c.free_slot.ensures.same)) c.in-Some.ensures.found) c.kind_asked-kind.result c.kind_asked-kind.ensures c.attributes_asked-attributes.result c.attributes_asked-attributes.ensures _ refl
-    c.rounded.result c.rounded.ensures c.way_asked.result c.way_asked.ensures c.if-size-eq0.false
+    c.rounded.result c.rounded.ensures c.alloc_options.result c.alloc_options.ensures c.if-size-eq0.false
     (subst (λ (x : Handles). IsHeap x.heap) (sym (handles_shown c.free_slot.ensures.same)) c.self.invariant.handles.heap) s.allocated s.rest
 
 pub returns-then-not-has_flag-clause-step : goal.returns-then-not-has_flag-clause-step

@@ -4,7 +4,7 @@ use Rattle.w16_model.specs.Heap.{Heap}
 use Rattle.w16_model.specs.Request.{moved_bytes}
 use Rattle.w16_model.specs.Table.{Table, heap_in}
 use Rattle.w16_region.specs.Bytes.{counted}
-use Rattle.w16_local.specs.declared.acts.Act.TheVariants.{Compact}
+use Rattle.w16_local.specs.declared.acts.ByteOp.TheVariants.{Compact}
 use Rattle.w16_local.proofs.OneAct.{compact_acted, compact_bound, compact_kept, may_shown}
 use Rattle.w16_local.proofs.heap.LocalHeap.compact.Goals as goal
 
@@ -20,7 +20,7 @@ overflow_cast-result g c = elim (cases_lt 0 c.compact.result.room) [
 pub invariant_of-self : goal.invariant_of-self
 invariant_of-self g c =
     let may = may_shown c.self.view_is (g.S.Space.bytes c.args.space.now) (Compact c.args.size) c.requires in
-    compact_kept c.self.invariant (g.S.Space.bytes c.args.space.now) may.0 c.has_bytes.ensures c.compact.ensures.rest.range (g.S.Space.bytes c.compact.new.space) c.compact.ensures.rest.memory.long c.args.size c.compact.result.room c.compact.ensures.compacted
+    compact_kept c.self.invariant (g.S.Space.bytes c.args.space.now) may.0 c.reveal_bytes.ensures c.compact.ensures.rest.range (g.S.Space.bytes c.compact.new.space) c.compact.ensures.rest.memory.long c.args.size c.compact.result.room c.compact.ensures.compacted
 
 pub returns-clause-acted : goal.returns-clause-acted
 returns-clause-acted g c =

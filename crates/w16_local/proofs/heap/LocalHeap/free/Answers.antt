@@ -1,7 +1,7 @@
 use Rattle.std.proofs.Common.{List, ap, arith, is_ok, subst, sym, ◌∙◌, ℕ}
 use Rattle.std.proofs.lemmas.Bool.{false≢true}
-use Rattle.w16_local.specs.Kept.{IsKept}
-use Rattle.w16_local.specs.declared.acts.Act.TheVariants.{Free}
+use Rattle.w16_local.specs.Kept.{LocalHeapInvariant}
+use Rattle.w16_local.specs.declared.acts.ByteOp.TheVariants.{Free}
 use Rattle.w16_local.proofs.OneAct.{entry_lt, free_done, free_kept, may_shown}
 use Rattle.w16_local.proofs.heap.LocalHeap.free.Goals as goal
 
@@ -16,7 +16,7 @@ unreachable-requires g c =
 pub invariant_of-self : goal.invariant_of-self
 invariant_of-self g c =
     let may = may_shown c.self.view_is (g.S.Space.bytes c.args.space.now) (Free c.args.id) c.requires in
-    subst (λ (free : List ℕ). IsKept c.free.new.self.table free) (sym c.set.ensures) (free_kept c.self.invariant (g.S.Space.bytes c.args.space.now) may.0 c.in-Ok.ensures.ok.range c.args.id may.1.0 (c.in-Ok.ensures.ok.heaps (g.S.Space.bytes c.args.space.now) may.0))
+    subst (λ (free : List ℕ). LocalHeapInvariant c.free.new.self.table free) (sym c.set.ensures) (free_kept c.self.invariant (g.S.Space.bytes c.args.space.now) may.0 c.in-Ok.ensures.ok.range c.args.id may.1.0 (c.in-Ok.ensures.ok.heaps (g.S.Space.bytes c.args.space.now) may.0))
 
 pub returns-clause-acted : goal.returns-clause-acted
 returns-clause-acted g c =

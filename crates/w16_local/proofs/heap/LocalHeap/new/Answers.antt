@@ -1,12 +1,12 @@
 use Rattle.std.proofs.Common.{ap, subst, sym}
 use Rattle.w16_arena.specs.State.{ArenaState}
-use Rattle.w16_local.specs.Kept.{IsKept}
+use Rattle.w16_local.specs.Kept.{LocalHeapInvariant}
 use Rattle.w16_local.proofs.OneHeap.{kept_new}
 use Rattle.w16_local.proofs.heap.LocalHeap.new.Goals as goal
 
 pub invariant_of-result : goal.invariant_of-result
 invariant_of-result c =
-    subst (λ (s : ArenaState). IsKept s.table c.in_ok-free.free) (sym c.in_ok-arena.ensures)
+    subst (λ (s : ArenaState). LocalHeapInvariant s.table c.in_ok-free.free) (sym c.in_ok-arena.ensures)
     (kept_new c.args.range c.requires.low c.requires.some c.requires.high c.requires.grained c.in_ok-free.free c.in_ok-free.ensures.0 c.in_ok-free.ensures.1)
 
 pub returns : goal.returns

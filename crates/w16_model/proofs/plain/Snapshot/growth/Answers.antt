@@ -4,5 +4,5 @@ use Rattle.w16_model.proofs.plain.Snapshot.growth.Goals as goal
 pub returns : goal.returns
 returns c = search rules
 
-pub returns-then-way : goal.returns-then-way
-returns-then-way c = search rules
+pub returns-then-options : goal.returns-then-options
+returns-then-options c = search rules

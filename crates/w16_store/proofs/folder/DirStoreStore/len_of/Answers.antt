@@ -2,7 +2,7 @@ use Rattle.std.proofs.Common.{◌≡◌, map, refl, rules, Some, None}
 use Rattle.std.specs.List.{find}
 use Rattle.std.specs.String.{string_bytes}
 use Rattle.w16_store.specs.Names.{is_named}
-use Rattle.w16_store.proofs.Finding.{length_from_read, not_in_folder}
+use Rattle.w16_store.proofs.Finding.{length_from_read, not_in_folder, bytes_of_listed}
 use Rattle.w16_store.proofs.folder.DirStoreStore.len_of.Goals as goal
 
 pub returns-in-None-clause-honest : goal.returns-in-None-clause-honest
@@ -22,3 +22,11 @@ returns-in-Ok-clause-honest g c = λ honest.
 
 pub returns-in-Err-clause-honest : goal.returns-in-Err-clause-honest
 returns-in-Err-clause-honest g c = search rules
+
+pub returns-in-Ok-clause-bytes : goal.returns-in-Ok-clause-bytes
+returns-in-Ok-clause-bytes g c = λ honest.
+    let names = map string_bytes c.args.self.now.names.items in
+    let name = c.args.name.now in
+    let is : Some c.in-Some.listed.now ≡ find (λ m. is_named m name) names = search rules in
+    let read = c.in-Ok.ensures.honest honest in
+    bytes_of_listed names (g.D.Disk.files c.args.self.now.disk) name c.in-Some.listed.now read.0 is read.1 (c.in-Ok.ensures.bytes honest)

@@ -1,0 +1,111 @@
+use Rattle.std.proofs.Common.{ℕ, ◌≡◌, ◌+◌, ◌<◌, ◌≤◌, ◌⊎◌, ◌∙◌, Some, IfSome, arith, inl, inr, sym, ap, subst}
+use Rattle.w16_model.specs.declared.Block.{Block}
+use Rattle.w16_model.specs.Gap.{IsClear, IsGap, IsHole, IsLaid, is_any, block_end, loose_bytes}
+use Rattle.w16_model.specs.Table.{block_with}
+use Rattle.w16_blocks.specs.Layout.{Layout}
+use Rattle.w16_blocks.proofs.Ordered.{sum_fits}
+use Rattle.w16_blocks.proofs.Remove.{with_id}
+use Rattle.w16_compact.specs.Gather.{gathered, moved_between, AreSlid}
+use Rattle.w16_compact.specs.Open.{raised, opened, end_in, spare_in}
+use Rattle.w16_compact.proofs.Opened.{may_low, may_high, slid_more, moved_most, moved_opened, with_opened, clear_opened, hole_opened, alone_opened, known_by, of_known, if_known}
+use Rattle.w16_compact.proofs.opening.open_loose.Given as Given
+use Rattle.w16_compact.proofs.opening.open_loose.Goals as goal
+
+within : (l : Layout) (id low high : ℕ) (x : Block) → block_with l.blocks id ≡ Some x → IfSome (block_with l.blocks id) (λ b. (low ≤ b.at) × (block_end b ≤ high)) → (low ≤ x.at) × (block_end x ≤ high)
+within l id low high x e is = of_known (λ b. (low ≤ b.at) × (block_end b ≤ high)) (block_with l.blocks id) x e is
+
+pub gather-down-requires-clause-gap : goal.gather-down-requires-clause-gap
+gather-down-requires-clause-gap g c =
+    let l = c.args.blocks.now in let x = c.in-Some.block in let e = c.in-Some.ensures.value in let at = within l c.args.id c.args.low c.args.high x (sym e) c.requires.within in
+    may_low l c.in-Some.ensures.ordered c.args.low c.args.high c.requires.gap x (known_by l c.args.id x (sym e)) at.0 at.1
+
+pub raise-requires-clause-gap : goal.raise-requires-clause-gap
+raise-requires-clause-gap g c =
+    let l = c.args.blocks.now in let x = c.in-Some.block in let e = c.in-Some.ensures.value in let at = within l c.args.id c.args.low c.args.high x (sym e) c.requires.within in
+    may_high l c.in-Some.ensures.ordered c.args.low c.args.high c.requires.gap x (known_by l c.args.id x (sym e)) at.0 at.1 c.gather-down.new.blocks c.gather-down.ensures.blocks
+
+pub overflow_add-result : goal.overflow_add-result
+overflow_add-result g c =
+    let l = c.args.blocks.now in let m = c.gather-down.new.blocks in
+    let one = moved_most l.blocks m.blocks in let two = moved_most m.blocks c.raise.new.blocks.blocks in
+    let down = c.gather-down.ensures.moved in let up = c.raise.ensures.moved in
+    let all = sum_fits l.lo l.hi l.blocks c.find.ensures.ordered.laid in let all' = sum_fits m.lo m.hi m.blocks c.gather-down.ensures.ordered.laid in
+    let small = c.find.ensures.ordered.small in let small' = c.gather-down.ensures.ordered.small in
+    record { fits = omega (arith, one, two, down, up, all, all', small, small') }
+
+pub returns-clause-slid : goal.returns-clause-slid
+returns-clause-slid g c = slid_more c.args.blocks.now.blocks c.gather-down.new.blocks.blocks c.raise.new.blocks.blocks c.gather-down.ensures.slid c.raise.ensures.slid
+
+module _ (g : Given.Over) (c : goal.After-raise g) where
+  abbrev l : Layout
+  l = c.args.blocks.now
+
+  abbrev x : Block
+  x = c.in-Some.block
+
+  at : (c.args.low ≤ x.at) × (block_end x ≤ c.args.high)
+  at = within l c.args.id c.args.low c.args.high x (sym c.in-Some.ensures.value) c.requires.within
+
+  known : block_with l.blocks x.id ≡ Some x
+  known = known_by l c.args.id x (sym c.in-Some.ensures.value)
+
+  mid : c.gather-down.new.blocks.blocks ≡ gathered c.args.low (block_end x) l.blocks
+  mid = ap (λ (m : Layout). m.blocks) c.gather-down.ensures.blocks
+
+  list : c.raise.new.blocks.blocks ≡ opened c.args.low (block_end x) c.args.high l.blocks
+  list = ap (λ (m : Layout). m.blocks) c.raise.ensures.blocks ∙ ap (raised (block_end x) c.args.high) mid
+
+  slid : AreSlid l.blocks (opened c.args.low (block_end x) c.args.high l.blocks)
+  slid = subst (AreSlid l.blocks) list (slid_more l.blocks c.gather-down.new.blocks.blocks c.raise.new.blocks.blocks c.gather-down.ensures.slid c.raise.ensures.slid)
+
+  laid_mid : IsLaid l.lo l.hi (gathered c.args.low (block_end x) l.blocks)
+  laid_mid = subst (λ (m : Layout). IsLaid m.lo m.hi m.blocks) c.gather-down.ensures.blocks c.gather-down.ensures.ordered.laid
+
+  alone : IsGap l.lo l.hi l.blocks c.args.low c.args.high → (p q : ℕ) → IsHole l.lo l.hi c.raise.new.blocks.blocks p q
+      → (q ≤ c.args.low) ⊎ ((c.args.high ≤ p) ⊎ ((p ≡ end_in l.blocks c.args.low x) × (q ≡ end_in l.blocks c.args.low x + spare_in l.blocks c.args.low c.args.high)))
+  alone gap p q hole = alone_opened l c.find.ensures.ordered c.args.low c.args.high c.requires.gap x known at.0 at.1 gap slid laid_mid p q (subst (λ bs. IsHole l.lo l.hi bs p q) list hole)
+
+pub returns-clause-place : goal.returns-clause-place
+returns-clause-place g c =
+    if_known (λ b. block_with c.raise.new.blocks.blocks c.args.id ≡ Some (record b { at = c.args.low + loose_bytes c.args.blocks.now.blocks c.args.low b.at })) _ c.in-Some.block (sym c.in-Some.ensures.value)
+    (ap (block_with c.raise.new.blocks.blocks) (sym (with_id c.args.id c.in-Some.block c.args.blocks.now.blocks (sym c.in-Some.ensures.value))) ∙ ap (λ bs. block_with bs c.in-Some.block.id) (list g c)
+    ∙ with_opened c.args.blocks.now c.find.ensures.ordered c.args.low c.args.high c.requires.gap c.in-Some.block (known g c) (at g c).0 (at g c).1)
+
+pub returns-clause-clear : goal.returns-clause-clear
+returns-clause-clear g c =
+    let l = c.args.blocks.now in
+    if_known (λ b. IsClear is_any l.lo l.hi c.raise.new.blocks.blocks (end_in l.blocks c.args.low b) (end_in l.blocks c.args.low b + spare_in l.blocks c.args.low c.args.high)) _ c.in-Some.block (sym c.in-Some.ensures.value)
+    (subst (λ bs. IsClear is_any l.lo l.hi bs (end_in l.blocks c.args.low c.in-Some.block) (end_in l.blocks c.args.low c.in-Some.block + spare_in l.blocks c.args.low c.args.high)) (sym (list g c))
+    (clear_opened c.args.blocks.now c.find.ensures.ordered c.args.low c.args.high c.requires.gap c.in-Some.block (known g c) (at g c).0 (at g c).1))
+
+pub returns-clause-hole : goal.returns-clause-hole
+returns-clause-hole g c =
+    let l = c.args.blocks.now in
+    if_known (λ b. IsGap l.lo l.hi l.blocks c.args.low c.args.high → 0 < spare_in l.blocks c.args.low c.args.high → IsHole l.lo l.hi c.raise.new.blocks.blocks (end_in l.blocks c.args.low b) (end_in l.blocks c.args.low b + spare_in l.blocks c.args.low c.args.high)) _
+    c.in-Some.block (sym c.in-Some.ensures.value)
+    (λ gap some. subst (λ bs. IsHole l.lo l.hi bs (end_in l.blocks c.args.low c.in-Some.block) (end_in l.blocks c.args.low c.in-Some.block + spare_in l.blocks c.args.low c.args.high)) (sym (list g c))
+    (hole_opened c.args.blocks.now c.find.ensures.ordered c.args.low c.args.high c.requires.gap c.in-Some.block (known g c) (at g c).0 (at g c).1 gap (slid g c) (laid_mid g c) (omega arith)))
+
+pub returns-clause-alone : goal.returns-clause-alone
+returns-clause-alone g c =
+    let l = c.args.blocks.now in
+    if_known (λ b. IsGap l.lo l.hi l.blocks c.args.low c.args.high → (p q : ℕ) → IsHole l.lo l.hi c.raise.new.blocks.blocks p q
+    → (q ≤ c.args.low) ⊎ ((c.args.high ≤ p) ⊎ ((p ≡ end_in l.blocks c.args.low b) × (q ≡ end_in l.blocks c.args.low b + spare_in l.blocks c.args.low c.args.high)))) _
+    c.in-Some.block (sym c.in-Some.ensures.value) (alone g c)
+
+pub returns-clause-full : goal.returns-clause-full
+returns-clause-full g c = λ gap filled p q hole.
+    let some = hole.some in
+    elim (alone g c gap p q hole) [
+      | inl k ↦ inl k
+      | inr e ↦ elim e [ inl k ↦ inr k | inr k ↦ let one = k.0 in let two = k.1 in absurd (omega arith) ]
+    ]
+
+pub returns-clause-moved : goal.returns-clause-moved
+returns-clause-moved g c =
+    let l = c.args.blocks.now in
+    let down = c.gather-down.ensures.moved in let up = c.raise.ensures.moved in
+    let both = moved_opened c.args.blocks.now c.find.ensures.ordered c.args.low c.args.high c.requires.gap c.in-Some.block (known g c) (at g c).0 (at g c).1 in
+    let first = ap (moved_between l.blocks) (mid g c) in let second : moved_between c.gather-down.new.blocks.blocks c.raise.new.blocks.blocks ≡ moved_between (gathered c.args.low (block_end c.in-Some.block) l.blocks) (opened c.args.low (block_end c.in-Some.block) c.args.high l.blocks) = λ i. moved_between (mid g c i) (list g c i) in
+    let all = ap (moved_between l.blocks) (list g c) in
+    omega (arith, down, up, both, first, second, all)

@@ -1,0 +1,83 @@
+-- What loads and fetches get of an NE file.
+use Rattle.std.proofs.Common.{◌≡◌, ℕ, zero, suc, ◌-◌, Bool, true, false, cond, List, [], ◌∷◌, length, map, Some, Result, Ok, Err, refl, sym, ◌∙◌, ap, subst, arith}
+use Rattle.std.specs.Prelude.{All, Option, None, option_map, slice_get, slice_index_or, is_ok, is_some, nat_eq, ◌&&◌}
+use Rattle.std.specs.List.{list_all}
+use Rattle.std.proofs.lemmas.Option.{slice_get-map}
+use Rattle.w16_ne.specs.declared.segment_table.Segment.{Segment}
+use Rattle.w16_ne.specs.Resources.{Label, Entry}
+use Rattle.w16_ne.specs.Modules.{Tables, listed_resources, resource_at}
+use Rattle.w16_reloc.specs.declared.fault.RelocFault.{RelocFault}
+use Rattle.w16_reloc.specs.declared.value.Far as words
+use Rattle.w16_reloc.specs.Segments.{Held, checked}
+use Rattle.w16_reloc.specs.Images.{IsImage}
+use Rattle.w16_reloc.specs.Naming.{naming}
+use Rattle.w16_reloc.specs.Law.{IsFar}
+use Rattle.w16_loading.specs.File.{ModuleFile, SegmentData, numbered}
+use Rattle.w16_loading.specs.Modules.{LoadingWorld, Module}
+use Rattle.w16_loading.specs.Closure.{are_sound}
+use Rattle.w16_loading.specs.Fetch.{read_of, segment_bytes, resource_bytes}
+use Rattle.w16_format.specs.Data.{targets_in, data_in, contents_in, far_in, far_of}
+use Rattle.w16_format.specs.Ne.{module_file, ne_format}
+use Rattle.w16_format.specs.Law.{IsFileOf}
+use Rattle.w16_format.proofs.Files.{accepted}
+use Rattle.w16_format.proofs.Relocated.{is_relocated, words_same}
+
+-- Soundness.
+
+told : (file : List ℕ) (t : Tables) (r : Result Held RelocFault) → is_some (targets_in file t r) ≡ is_ok r
+told file t (Ok held) = refl
+told file t (Err e) = refl
+
+all_told : (file : List ℕ) (t : Tables) (ss : List Segment) → list_all (λ (d : SegmentData). is_some d.targets) (map (data_in file t) ss) ≡ list_all (λ s. is_ok (checked file t s)) ss
+all_told file t [] = refl
+all_told file t (s ∷ ss) =
+    ap (λ b. b && list_all (λ (d : SegmentData). is_some d.targets) (map (data_in file t) ss)) (told file t (checked file t s)) ∙ ap (λ b. is_ok (checked file t s) && b) (all_told file t ss)
+
+pub sound_law : (file : List ℕ) (t : Tables) → are_sound (module_file file t) ≡ list_all (λ s. is_ok (checked file t s)) t.segments
+sound_law file t = all_told file t t.segments
+
+-- Places.
+
+numbered_by : {X Y : Type 0} (b : Bool) (f : X → Y) (xs : List X) (k : ℕ) (x : X) → cond b None (slice_get xs k) ≡ Some x → cond b None (slice_get (map f xs) k) ≡ Some (f x)
+numbered_by true f xs k x h = cc
+numbered_by false f xs k x h = slice_get-map f xs k ∙ ap (option_map f) h
+
+numbered_map : {X Y : Type 0} (f : X → Y) (xs : List X) (number : ℕ) (x : X) → numbered xs number ≡ Some x → numbered (map f xs) number ≡ Some (f x)
+numbered_map f xs number x h = numbered_by (nat_eq number 0) f xs (number - 1) x h
+
+read_is : (world : LoadingWorld) (m : Module) (file : List ℕ) (t : Tables) → IsFileOf world m file t → read_of ne_format world m ≡ Some (module_file file t)
+read_is world m file t is =
+    ap (λ (p : Option (List ℕ)). elim p as (λ _. Option ModuleFile) [ None ↦ None | Some bytes ↦ elim (ne_format bytes) as (λ _. Option ModuleFile) [ Ok read ↦ Some read | Err _ ↦ None ] ]) is.stored
+    ∙ ap (λ (r : Result ModuleFile ℕ). elim r as (λ _. Option ModuleFile) [ Ok read ↦ Some read | Err _ ↦ None ]) (accepted file t is.bytes is.tables)
+
+-- Segments.
+
+pub segment_given : (world : LoadingWorld) (m : Module) (file : List ℕ) (t : Tables) (number : ℕ) (s : Segment) (held : Held) (values : List words.Far) (bytes : List ℕ) → IsFileOf world m file t
+    → numbered t.segments number ≡ Some s → checked file t s ≡ Ok held → All IsFar values → slice_index_or m.values (number - 1) [] ≡ map far_of values
+    → IsImage held.bytes held.records values (naming held.bytes held.records) bytes → length bytes ≡ s.size → segment_bytes ne_format world m number ≡ Some bytes
+segment_given world m file t number s held values bytes is place passed far bound image long =
+    let read = read_is world m file t is in
+    let there : numbered (map (data_in file t) t.segments) number ≡ Some (data_in file t s) = numbered_map (data_in file t) t.segments number s place in
+    let relocated = is_relocated file t s held passed in
+    let same : map far_in (map far_of values) ≡ values = words_same values far in
+    let given : (data_in file t s).image (map far_of values) ≡ bytes =
+    relocated.image (map far_of values) bytes (subst (λ vs. IsImage held.bytes held.records vs (naming held.bytes held.records) bytes) (sym same) image) long in
+    ap (λ (p : Option ModuleFile). elim p as (λ _. Option (List ℕ)) [ None ↦ None | Some r ↦ option_map (λ (d : SegmentData). d.image (slice_index_or m.values (number - 1) [])) (numbered r.segments number) ]) read
+    ∙ ap (option_map (λ (d : SegmentData). d.image (slice_index_or m.values (number - 1) []))) there
+    ∙ ap (λ vs. Some ((data_in file t s).image vs)) bound
+    ∙ ap (λ x. Some x) given
+
+-- Resources.
+
+resource_place : (types : List (Label × List Entry)) (place : ℕ) (r : Label × Entry) → resource_at types place ≡ Some r → numbered (listed_resources types) place ≡ Some r
+resource_place types zero r h = cc
+resource_place types (suc i) r h =
+    let some : nat_eq (suc i) 0 ≡ false = grind arith in
+    let e : suc i - 1 ≡ i = omega arith in
+    ap (λ b. cond b None (slice_get (listed_resources types) (suc i - 1))) some ∙ ap (λ k. slice_get (listed_resources types) k) e ∙ h
+
+pub resource_given : (world : LoadingWorld) (m : Module) (file : List ℕ) (t : Tables) (place : ℕ) (r : Label × Entry) → IsFileOf world m file t
+    → resource_at t.resources place ≡ Some r → resource_bytes ne_format world m place ≡ Some (contents_in file r)
+resource_given world m file t place r is there =
+    ap (λ (p : Option ModuleFile). elim p as (λ _. Option (List ℕ)) [ None ↦ None | Some read ↦ numbered read.contents place ]) (read_is world m file t is)
+    ∙ numbered_map (contents_in file) (listed_resources t.resources) place r (resource_place t.resources place r there)

@@ -1,0 +1,77 @@
+-- NE files are a format.
+use Rattle.std.proofs.Common.{◌≡◌, ℕ, ◌+◌, ◌<◌, ◌≤◌, Bool, true, false, cond, List, [], ◌∷◌, length, map, take, drop, Some, Result, Ok, Err, refl, ◌∙◌, ap, arith, get_or}
+use Rattle.std.specs.Prelude.{None, All, MatchResult, nat_eq, slice_get}
+use Rattle.std.specs.List.{AllZip}
+use Rattle.std.proofs.lemmas.List.Elements.{All-map, All-take, All-drop}
+use Rattle.w16_model.specs.Calls.{rounded_size}
+use Rattle.w16_ne.specs.declared.fault.NeFault.{NeFault}
+use Rattle.w16_store.specs.declared.store.StoreFault.TheVariants.{Missing}
+use Rattle.w16_ne.specs.declared.fault.NeFault.TheVariants.{Target, Store}
+use Rattle.w16_ne.specs.Header.{place_at}
+use Rattle.w16_ne.specs.declared.segment_table.Segment.{Segment}
+use Rattle.w16_reloc.specs.Segments.{data_of}
+use Rattle.w16_ne.specs.Header.{shift_of, segment_table}
+use Rattle.w16_ne.specs.Resources as ne_resources
+use Rattle.w16_ne.specs.Modules.{Tables, tables_at, listed_resources}
+use Rattle.w16_ne.specs.ModuleFormat.{IsModule}
+use Rattle.w16_ne.proofs.ModuleFormat.{module_format}
+use Rattle.w16_loading.specs.File.{IsFormat, IsModuleFile, Resource}
+use Rattle.w16_format.specs.Tables.{resource_in}
+use Rattle.w16_format.specs.Data.{contents_in}
+use Rattle.w16_format.specs.Ne.{module_file, number_of, read_as, plain_format, ne_format, low_bytes}
+use Rattle.w16_format.proofs.Bytes.{AreBytes, padded_length, padded_bytes, low_bytes_are, low_bytes_same}
+use Rattle.w16_format.proofs.Segments.{segments_fit, room}
+
+-- Resources.
+
+contents_fit : (file : List ℕ) (rs : List (ne_resources.Label × ne_resources.Entry))
+    → AllZip (λ (r : Resource) (bytes : List ℕ). length bytes ≡ rounded_size r.length_in) (map resource_in rs) (map (contents_in file) rs)
+contents_fit file [] = tt
+contents_fit file (r ∷ rs) = (padded_length (take r.1.len (drop r.1.place file)) (rounded_size r.1.len), contents_fit file rs)
+
+contents_bytes : (file : List ℕ) (r : ne_resources.Label × ne_resources.Entry) → AreBytes file → AreBytes (contents_in file r)
+contents_bytes file r all =
+    padded_bytes (take r.1.len (drop r.1.place file)) (rounded_size r.1.len) (All-take (λ b. b < 256) r.1.len (drop r.1.place file) (All-drop (λ b. b < 256) r.1.place file all))
+
+-- Files.
+
+is_module_file : (file : List ℕ) (t : Tables) → AreBytes file → IsModule file t → IsModuleFile (module_file file t)
+is_module_file file t all is = record {
+  segments = segments_fit file t (shift_of t.header) (t.place + segment_table t.header) t.segments all is.segments.are;
+  contents = contents_fit file (listed_resources t.resources);
+  bytes = All-map AreBytes (contents_in file) (listed_resources t.resources) (λ k d lt. contents_bytes file (get_or (listed_resources t.resources) k d) all);
+}
+
+numbers_by : (a b : Bool) → (11 ≤ cond a 12 (cond b 13 14)) × (cond a 12 (cond b 13 14) ≤ 14)
+numbers_by true b = (omega arith, omega arith)
+numbers_by false true = (omega arith, omega arith)
+numbers_by false false = (omega arith, omega arith)
+
+numbers : (e : NeFault) → (11 ≤ number_of e) × (number_of e ≤ 14)
+numbers (Target system) = numbers_by (nat_eq system 1) (nat_eq system 3)
+numbers other = (omega arith, omega arith)
+
+read_fits : (file : List ℕ) (r : Result Tables NeFault) → AreBytes file → tables_at (Some file) ≡ r → MatchResult (read_as file r) IsModuleFile (λ answer. (11 ≤ answer) × (answer ≤ 14))
+read_fits file (Ok t) all e = is_module_file file t all ((module_format file t).0 e)
+read_fits file (Err e) all same = numbers e
+
+pub is_format : IsFormat ne_format
+is_format file = read_fits (low_bytes file) (tables_at (Some (low_bytes file))) (low_bytes_are file) refl
+
+pub plain : (file : List ℕ) → All (λ b. b < 256) file → ne_format file ≡ plain_format file
+plain file all = ap plain_format (low_bytes_same file all)
+
+pub has_room : (file : List ℕ) (t : Tables) (k : ℕ) (s : Segment) → tables_at (Some file) ≡ Ok t → slice_get t.segments k ≡ Some s → length (data_of file s) ≤ s.size
+has_room file t k s h found =
+    let is = (module_format file t).0 h in
+    room file (shift_of t.header) (t.place + segment_table t.header) t.segments k s is.segments.are found
+
+pub accepted : (file : List ℕ) (t : Tables) → All (λ b. b < 256) file → tables_at (Some file) ≡ Ok t → ne_format file ≡ Ok (module_file file t)
+accepted file t all h = plain file all ∙ ap (read_as file) h
+
+pub refused : (file : List ℕ) (e : NeFault) → All (λ b. b < 256) file → tables_at (Some file) ≡ Err e → ne_format file ≡ Err (number_of e)
+refused file e all h = plain file all ∙ ap (read_as file) h
+
+pub missing : tables_at None ≡ Err (Store Missing)
+unfolding tables_at place_at
+missing = refl

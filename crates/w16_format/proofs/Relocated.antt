@@ -1,0 +1,58 @@
+-- What a check and a relocation give is what the format says.
+use Rattle.std.proofs.Common.{◌≡◌, ℕ, ◌<◌, ◌%◌, List, [], ◌∷◌, length, map, Result, Ok, Err, refl, sym, ◌∙◌, ap, subst, arith}
+use Rattle.std.specs.Prelude.{All}
+use Rattle.std.proofs.lemmas.List.Elements.{All-head, All-tail}
+use Rattle.w16_ne.specs.declared.segment_table.Segment.{Segment}
+use Rattle.w16_ne.specs.Modules.{Tables}
+use Rattle.w16_reloc.specs.declared.fault.RelocFault.{RelocFault}
+use Rattle.w16_reloc.specs.declared.record.Record.{Record}
+use Rattle.w16_reloc.specs.declared.value.Far as words
+use Rattle.w16_reloc.specs.Segments.{Held, checked, data_of, records_of, offer_of}
+use Rattle.w16_reloc.specs.Check.{◌>>=◌, check_from}
+use Rattle.w16_reloc.specs.Sound.{IsSound}
+use Rattle.w16_reloc.specs.Images.{IsImage}
+use Rattle.w16_reloc.specs.Naming.{naming, image_of}
+use Rattle.w16_reloc.specs.Law.{IsFar}
+use Rattle.w16_reloc.proofs.SoundLemmas.{passed_is_sound}
+use Rattle.w16_reloc.proofs.NamingLemmas.{naming_is, image_is_of}
+use Rattle.w16_format.specs.Data.{targets_in, records_in, far_in, far_of}
+use Rattle.w16_format.specs.Law.{IsRelocated}
+
+-- a check that passes holds the segment's data, and the records that passed
+held_by : (file : List ℕ) (s : Segment) (r : Result (List Record) RelocFault) (held : Held) → (r >>= λ records. Ok (record { bytes = data_of file s; records = records })) ≡ Ok held
+    → (held.bytes ≡ data_of file s) × (r ≡ Ok held.records)
+held_by file s (Ok records) held h = let same : ◌≡◌ {A = Held} (record { bytes = data_of file s; records = records }) held = cc in (ap (λ (x : Held). x.bytes) (sym same), ap (λ (x : Held). Ok x.records) same)
+held_by file s (Err e) held h = cc
+
+held_is : (file : List ℕ) (t : Tables) (s : Segment) (held : Held) → checked file t s ≡ Ok held
+    → (held.bytes ≡ data_of file s) × (check_from (offer_of file t) (data_of file s) (records_of file s) s.records 0 [] ≡ Ok held.records)
+unfolding checked
+held_is file t s held h = held_by file s (check_from (offer_of file t) (data_of file s) (records_of file s) s.records 0 []) held h
+
+pub is_relocated : (file : List ℕ) (t : Tables) (s : Segment) (held : Held) → checked file t s ≡ Ok held → IsRelocated file t s held
+is_relocated file t s held h =
+    let p = held_is file t s held h in
+    let passed = passed_is_sound (offer_of file t) (data_of file s) (records_of file s) s.records held.records p.1 in
+    let names = naming_is (data_of file s) held.records passed.sound.0 passed.sound.1 in
+    let sound : IsSound (data_of file s) held.records (naming (data_of file s) held.records) = subst (λ named. IsSound (data_of file s) held.records named) names passed.sound.1 in record {
+      same = p.0;
+      sound = subst (λ bytes. IsSound bytes held.records (naming bytes held.records)) (sym p.0) sound;
+      targets = ap (targets_in file t) h;
+      image = λ values bytes is long.
+          let image : IsImage (data_of file s) held.records (map far_in values) (naming (data_of file s) held.records) bytes =
+          subst (λ xs. IsImage xs held.records (map far_in values) (naming xs held.records) bytes) p.0 is in
+          let given : bytes ≡ image_of (data_of file s) held.records (map far_in values) (length bytes) =
+          image_is_of (data_of file s) held.records (map far_in values) (naming (data_of file s) held.records) bytes sound image in
+          ap (λ r. image_of (data_of file s) (records_in r) (map far_in values) s.size) h
+          ∙ ap (λ n. image_of (data_of file s) held.records (map far_in values) n) (sym long) ∙ sym given;
+    }
+
+word_same : (n : ℕ) → n < 65536 → n % 65536 ≡ n
+word_same n lt = omega arith
+
+far_same : (far : words.Far) → IsFar far → far_in (far_of far) ≡ far
+far_same far is = let a = word_same far.selector is.0 in let b = word_same far.offset is.1 in λ i. record { selector = a i; offset = b i }
+
+pub words_same : (values : List words.Far) → All IsFar values → map far_in (map far_of values) ≡ values
+words_same [] all = refl
+words_same (v ∷ vs) all = ap (λ x. x ∷ map far_in (map far_of vs)) (far_same v (All-head IsFar v vs all)) ∙ ap (λ xs. v ∷ xs) (words_same vs (All-tail IsFar v vs all))

@@ -1,0 +1,12 @@
+use Rattle.w16_format.proofs.Relocated.{is_relocated, words_same}
+use Rattle.w16_format.proofs.Files.{has_room}
+use Rattle.w16_format.proofs.laws.segments_are_relocated.Goals as goal
+
+pub returns-clause-segments : goal.returns-clause-segments
+returns-clause-segments c = is_relocated
+
+pub returns-clause-words : goal.returns-clause-words
+returns-clause-words c = words_same
+
+pub returns-clause-room : goal.returns-clause-room
+returns-clause-room c = has_room

@@ -1,0 +1,5 @@
+pub mod Tables
+pub mod Data
+pub mod Ne
+pub mod Law
+pub mod Samples

@@ -1,0 +1,35 @@
+-- NE files as a format.
+use Rattle.std.specs.Prelude.{ℕ, ◌%◌, List, map, ◌==◌, if◌then◌else◌, Some, Result, Ok, Err}
+use Rattle.w16_ne.specs.declared.fault.NeFault.{NeFault}
+use Rattle.w16_ne.specs.declared.fault.NeFault.TheVariants.{Target}
+use Rattle.w16_ne.specs.Modules.{Tables, tables_at, listed_resources}
+use Rattle.w16_loading.specs.File.{Format, ModuleFile}
+use Rattle.w16_format.specs.Tables.{tables_in}
+use Rattle.w16_format.specs.Data.{data_in, contents_in}
+
+abbrev pub module_file : List ℕ → Tables → ModuleFile
+module_file file t = record {
+  tables = tables_in t;
+  segments = map (data_in file t) t.segments;
+  contents = map (contents_in file) (listed_resources t.resources);
+}
+
+-- the number that a load answers for a fault (profile)
+abbrev pub number_of : NeFault → ℕ
+number_of (Target system) = if system == 1 then 12 else (if system == 3 then 13 else 14)
+number_of other = 11
+
+-- of bytes
+abbrev pub read_as : List ℕ → Result Tables NeFault → Result ModuleFile ℕ
+read_as file (Ok t) = Ok (module_file file t)
+read_as file (Err e) = Err (number_of e)
+
+abbrev pub plain_format : Format
+plain_format file = read_as file (tables_at (Some file))
+
+-- A file has bytes; of any other number the low byte counts.
+abbrev pub low_bytes : List ℕ → List ℕ
+low_bytes file = map (λ b. b % 256) file
+
+abbrev pub ne_format : Format
+ne_format file = plain_format (low_bytes file)

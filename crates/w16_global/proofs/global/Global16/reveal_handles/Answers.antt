@@ -1,0 +1,9 @@
+use Rattle.std.proofs.Common.{subst}
+use Rattle.w16_model.specs.Handles.{AreHandles}
+use Rattle.w16_model.proofs.KeptHandles.{moved_handles}
+use Rattle.w16_global.specs.Joined.{handles_of}
+use Rattle.w16_global.proofs.Joined.{handles_shown}
+use Rattle.w16_global.proofs.global.Global16.reveal_handles.Goals as goal
+
+pub returns : goal.returns
+returns c = subst AreHandles (handles_shown c.self.view_is) (moved_handles (handles_of c.self.inside.objects c.self.inside.attributes.items 0) c.self.invariant.handles c.self.inside.moved)

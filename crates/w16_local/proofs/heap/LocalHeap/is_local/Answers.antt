@@ -1,6 +1,0 @@
-use Rattle.std.proofs.Common.{subst}
-use Rattle.w16_machine.specs.Local.{IsLocalTable}
-use Rattle.w16_local.proofs.heap.LocalHeap.is_local.Goals as goal
-
-pub returns : goal.returns
-returns c = subst IsLocalTable c.self.view_is c.self.invariant.is_local

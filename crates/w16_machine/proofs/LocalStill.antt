@@ -1,0 +1,88 @@
+-- What local calls leave still.
+use Rattle.std.proofs.Common.{◌≡◌, ℕ, inl, inr, Bool, true, false, cond, nat_lt, ◌==◌, MatchBool, MatchOption, IfOk, Option, Some, None, Result, Ok, Err, refl, sym, ap, ◌∙◌, subst}
+use Rattle.std.specs.FinMap as finmap
+use Rattle.std.proofs.lemmas.Bool.{false≢true, cases_eq}
+use Rattle.w16_model.specs.declared.Refusal.{Refusal}
+use Rattle.w16_model.specs.declared.Refusal.TheVariants as refusals
+use Rattle.w16_model.specs.Heap.{Heap, Object, object_at}
+use Rattle.w16_model.specs.Changes.{removed}
+use Rattle.w16_model.specs.OneObject.{after_free}
+use Rattle.w16_model.specs.Request.{MakesRoom, most_room}
+use Rattle.w16_model.proofs.Absence.{discard_absent}
+use Rattle.w16_model.proofs.KeptHeaps.{taken_here, taken_other}
+use Rattle.w16_loading.specs.Replies.Reply.{Word, Done}
+use Rattle.w16_machine.specs.World.{World}
+use Rattle.w16_machine.specs.Local.{LocalHeap, Acts, Stays, heap_of, current_heap}
+use Rattle.w16_machine.specs.LocalCalls.{LocalCommand, Answers, CompactsIn}
+use Rattle.w16_machine.specs.LocalCalls.LocalCommand.{LocalSize, LocalFlags, LocalHandle, LocalCompact, DS}
+use Rattle.w16_machine.specs.LocalLaw.{PlacesLaw, QueriesLaw, asks_for_room, only_tells}
+use Rattle.w16_machine.proofs.LocalCurrent.{current_becomes}
+use Rattle.w16_machine.proofs.LocalOthers.{altered_is}
+use Rattle.w16_machine.proofs.LocalOutcomes.{IsRoomed, IsStepped}
+
+-- Calls that only tell.
+
+told : (old new : World) (command : LocalCommand) (answer : ℕ) → only_tells command ≡ true → Answers old command answer new → new ≡ old
+told old new (LocalSize name) answer tells step = step.1
+told old new (LocalFlags name) answer tells step = step.1
+told old new (LocalHandle pointer) answer tells step = step.1
+told old new (LocalCompact size) answer tells step = in_heap (current_heap old) step
+  where
+    for_none : (at : LocalHeap) (b : Bool) → b ≡ true → MatchBool b (Stays old (most_room (heap_of at)) answer new) (Acts old at (MakesRoom (heap_of at) size answer) new) → new ≡ old
+    for_none at true e s = s.1
+    for_none at false e s = absurd (false≢true e)
+
+    in_heap : (p : Option LocalHeap) → MatchOption p (Stays old 0 answer new) (CompactsIn old size answer new) → new ≡ old
+    in_heap None s = s.1
+    in_heap (Some at) s = for_none at (size == 0) tells s
+told old new other answer tells step = absurd (false≢true tells)
+
+pub queries_law : QueriesLaw
+queries_law old new (DS selector) Done tells step = absurd (false≢true tells)
+queries_law old new command (Word answer) tells step = told old new command answer tells step
+queries_law old new command reply tells step = absurd step
+
+-- Calls that ask for no room.
+
+module _ (heap : Heap) (q pointer : ℕ) where
+  abbrev Stood : Heap → Type 0
+  Stood next = finmap.get next.places q ≡ Some pointer → finmap.get heap.places q ≡ Some pointer
+
+  same_places : (next : Heap) → next.places ≡ heap.places → Stood next
+  same_places next e at = ap (λ m. finmap.get m q) (sym e) ∙ at
+
+  -- one place fewer
+  fewer_places : (next : Heap) (id : ℕ) → next.places ≡ finmap.remove heap.places id → Stood next
+  fewer_places next id e at = elim (cases_eq q id) [
+    | inl f ↦ absurd (never (sym (taken_here heap.places id q f) ∙ ap (λ m. finmap.get m q) (sym e) ∙ at))
+    | inr d ↦ sym (taken_other heap.places id q d) ∙ ap (λ m. finmap.get m q) (sym e) ∙ at
+  ]
+    where
+      never : ◌≡◌ {A = Option ℕ} None (Some pointer) → ⊥
+      never f = cc
+
+  freed : (id : ℕ) → IfOk (after_free heap id) Stood
+  freed id = turn (object_at heap id)
+    where
+      unless : (b : Bool) → IfOk (cond b (Err refusals.Locked) (Ok (removed heap id))) Stood
+      unless true = tt
+      unless false = fewer_places (removed heap id) id refl
+
+      turn : (p : Option Object) → IfOk (elim p as (λ _. Result Heap Refusal) [ None ↦ Ok heap | Some o ↦ cond (nat_lt 0 o.locks) (Err refusals.Locked) (Ok (removed heap id)) ]) Stood
+      turn None = same_places heap refl
+      turn (Some o) = unless (nat_lt 0 o.locks)
+
+  module _ (command : LocalCommand) (none : asks_for_room command ≡ false) where
+    stepped : (next : Heap) → IsStepped heap command next → Stood next
+    stepped next (inl (id, named, altered)) = altered_is heap id Stood (same_places heap refl) (λ new p put places order. same_places new places) next altered
+    stepped next (inr (flags, size, id, t, enters)) = same_places next (ap (λ (h : Heap). h.places) enters.entered)
+
+    roomed : (answer : ℕ) (next : Heap) → IsRoomed heap command answer next → Stood next
+    roomed answer next (inl (asks, made)) = absurd (false≢true (sym none ∙ asks))
+    roomed answer next (inr (id, named, inl up)) = subst (λ r. IfOk r Stood) up.1 (freed id)
+    roomed answer next (inr (id, named, inr done)) = fewer_places next id (ap (λ (h : Heap). h.places) (discard_absent heap next id done))
+
+pub places_law : PlacesLaw
+places_law old new command reply at after q pointer step c e none =
+    let heap : Heap = heap_of at in
+    current_becomes old at c command reply new (Stood heap q pointer) (same_places heap q pointer heap refl) (stepped heap q pointer command none) (roomed heap q pointer command none) after e step

@@ -1,0 +1,176 @@
+-- What calls do, and when accesses are answered.
+use Rattle.std.proofs.Common.{◌≡◌, ℕ, ◌+◌, ◌-◌, ◌<◌, ◌≤◌, ◌==◌, ◌||◌, Bool, true, false, cond, not, nat_lt, MatchBool, MatchOption, IfSome, List, length, Option, Some, None, Result, Ok, Err, option_map, unwrap_or, is_some, refl, sym, ap, ◌∙◌, subst, arith, ne_eqb, ltb-true}
+use Rattle.std.specs.FinMap as finmap
+use Rattle.w16_model.specs.declared.Refusal.{Refusal}
+use Rattle.w16_model.specs.declared.Refusal.TheVariants as refusals
+use Rattle.w16_model.specs.declared.FarFault.{FarFault}
+use Rattle.w16_model.specs.declared.FarFault.TheVariants.{BadSelector, ReadOnly, NotPresent, Limit}
+use Rattle.w16_model.specs.declared.Kind.{Kind}
+use Rattle.w16_model.specs.declared.Kind.TheVariants.{Moveable, Discardable}
+use Rattle.w16_model.specs.declared.TheConstants.{GMEM_MODIFY, GMEM_DISCARDABLE}
+use Rattle.w16_model.specs.Heap.{Heap, Object, object_at, bytes_at, is_fixed, is_discardable}
+use Rattle.w16_model.specs.Bytes.{part, repeated}
+use Rattle.w16_model.specs.Changes.{with_object, with_ordered, touched, removed, absent}
+use Rattle.w16_model.specs.OneObject.{after_lock, after_unlock, after_free, after_discard, after_modify, after_touch}
+use Rattle.w16_model.specs.Handles.{Handles, slot_of_selector, selector_of, selector_in, offset_in, far_pointer}
+use Rattle.w16_model.specs.Owned.{owns, refuses_write}
+use Rattle.w16_model.specs.Calls.{Answer, global_lock, global_unlock, global_free, free_own, locks_at, has_flag}
+use Rattle.w16_model.specs.Calls.Answer.{Word, Dword}
+use Rattle.w16_model.specs.Resizes.{IsNull, AnswersHandle, AnswersDiscard, Empties, Resizes, ReAllocsOwn, GlobalReAllocs, modified, kind_modified}
+use Rattle.w16_model.specs.Outcomes.{IsNamed}
+use Rattle.w16_model.specs.Reallocation.{ChangesKind}
+use Rattle.w16_model.specs.Far.{FarAnswer, far_fault, far_slot, far_bytes, far_read, data_write, far_write, after_write}
+use Rattle.w16_model.specs.Far.FarCommand.{Read, Write, Fill}
+use Rattle.w16_model.specs.Far.FarAnswer.{Bytes, Done, Fault}
+use Rattle.w16_model.specs.Effects.{LockLaw, UnlockLaw, FreeLaw, ModifyLaw, DiscardLaw, AnsweredLaw}
+use Rattle.w16_model.proofs.Heaps.{get-update_same}
+use Rattle.w16_model.proofs.KeptHeaps.{inserted_here, taken_here}
+use Rattle.w16_model.proofs.KindChanges.{kind_law}
+use Rattle.w16_model.proofs.Absence.{answer as discard_answer, discard_is}
+use Rattle.w16_model.proofs.Parts.{length-repeated}
+
+module _ (old : Handles) (handle slot : ℕ) (o : Object) (n : IsNamed old handle slot o) where
+  -- GlobalLock
+  abbrev lock_of : Option Object → Result Heap Refusal
+  lock_of p = elim p as (λ _. Result Heap Refusal) [
+    | None ↦ Err refusals.Absent
+    | Some o ↦ cond (not (is_some o.bytes)) (Err refusals.Absent) (cond (is_fixed o.kind) (Err refusals.Fixed) (cond (o.locks == 255) (Err refusals.LockFull) (Ok (with_ordered old.heap slot (record o { locks = o.locks + 1 }) (touched slot)))))
+  ]
+
+  abbrev locked_heap : Heap
+  locked_heap = with_ordered old.heap slot (record o { locks = o.locks + 1 }) (touched slot)
+
+  abbrev lock_outcome : ℕ → Result Heap Refusal → Answer × Handles
+  lock_outcome slot r = elim r [
+    | Ok heap ↦ (Dword (far_pointer (selector_of slot) 0), record old { heap = heap })
+    | Err refusals.Fixed ↦ (Dword (far_pointer (selector_of slot) 0), old)
+    | Err _ ↦ (Dword 0, old)
+  ]
+
+  locked : is_some o.bytes ≡ true → is_fixed o.kind ≡ false → o.locks < 255 → global_lock old handle ≡ (Dword (far_pointer (selector_of slot) 0), record old { heap = locked_heap })
+  locked has loose few =
+      let done : Result Heap Refusal = Ok locked_heap in
+      ap (λ (s : Option ℕ). elim s as (λ _. Answer × Handles) [ None ↦ (Dword 0, old) | Some slot ↦ lock_outcome slot (after_lock old.heap slot) ]) n.found
+      ∙ ap (lock_outcome slot) (ap lock_of n.there
+      ∙ ap (λ b. cond {A = Result Heap Refusal} (not b) (Err refusals.Absent) (cond (is_fixed o.kind) (Err refusals.Fixed) (cond (o.locks == 255) (Err refusals.LockFull) done))) has
+      ∙ ap (λ b. cond {A = Result Heap Refusal} b (Err refusals.Fixed) (cond (o.locks == 255) (Err refusals.LockFull) done)) loose
+      ∙ ap (λ b. cond {A = Result Heap Refusal} b (Err refusals.LockFull) done) (ne_eqb o.locks 255 (λ e. omega (arith, e, few))))
+
+  -- GlobalUnlock
+  abbrev less : Object
+  less = record o { locks = o.locks - 1 }
+
+  abbrev unlock_outcome : ℕ → Result Heap Refusal → Answer × Handles
+  unlock_outcome slot r = elim r [ Ok heap ↦ (Word (cond (nat_lt 0 (locks_at heap slot)) 1 0), record old { heap = heap }) | Err _ ↦ (Word 0, old) ]
+
+  unlocked : is_fixed o.kind ≡ false → global_unlock old handle ≡ (Word (cond (nat_lt 0 (o.locks - 1)) 1 0), record old { heap = with_object old.heap slot less })
+  unlocked loose =
+      ap (λ (s : Option ℕ). elim s as (λ _. Answer × Handles) [ None ↦ (Word 0, old) | Some slot ↦ unlock_outcome slot (after_unlock old.heap slot) ]) n.found
+      ∙ ap (λ (p : Option Object). unlock_outcome slot (elim p as (λ _. Result Heap Refusal) [ None ↦ Ok old.heap | Some o ↦ cond (is_fixed o.kind) (Err refusals.Fixed) (Ok (with_object old.heap slot (record o { locks = o.locks - 1 }))) ])) n.there
+      ∙ ap (λ b. unlock_outcome slot (cond {A = Result Heap Refusal} b (Err refusals.Fixed) (Ok (with_object old.heap slot less)))) loose
+      ∙ ap (λ (p : Option Object). (Word (cond (nat_lt 0 (unwrap_or (option_map (λ (o : Object). o.locks) p) 0)) 1 0), record old { heap = with_object old.heap slot less })) (inserted_here old.heap.objects slot less slot refl)
+
+  -- GlobalFree
+  abbrev free_outcome : ℕ → Result Heap Refusal → Answer × Handles
+  free_outcome slot r = elim r [ Ok heap ↦ (Word 0, record old { heap = heap; attributes = finmap.remove old.attributes slot }) | Err _ ↦ (Word handle, old) ]
+
+  freed : owns old handle ≡ false → o.locks ≡ 0 → global_free old handle ≡ (Word 0, record old { heap = removed old.heap slot; attributes = finmap.remove old.attributes slot })
+  freed own free =
+      ap (λ b. cond {A = Answer × Handles} b (Word handle, old) (free_own old handle)) own
+      ∙ ap (λ (s : Option ℕ). elim s as (λ _. Answer × Handles) [ None ↦ (Word handle, old) | Some slot ↦ free_outcome slot (after_free old.heap slot) ]) n.found
+      ∙ ap (λ (p : Option Object). free_outcome slot (elim p as (λ _. Result Heap Refusal) [ None ↦ Ok old.heap | Some o ↦ cond (nat_lt 0 o.locks) (Err refusals.Locked) (Ok (removed old.heap slot)) ])) n.there
+      ∙ ap (λ k. free_outcome slot (cond {A = Result Heap Refusal} (nat_lt 0 k) (Err refusals.Locked) (Ok (removed old.heap slot)))) free
+
+  -- GlobalReAlloc
+  module _ (new : Handles) (size flags answer : ℕ) (own : owns old handle ≡ false) (step : GlobalReAllocs old handle size flags answer new) where
+    reallocs : MatchBool (has_flag flags GMEM_MODIFY) (AnswersHandle old handle (modified old.heap slot (kind_modified flags)) answer new) (MatchBool (size == 0) (Empties old handle slot flags answer new) (Resizes old handle slot flags size answer new))
+    reallocs = subst (λ (s : Option ℕ). MatchOption s (IsNull old answer new) (λ slot. MatchBool (has_flag flags GMEM_MODIFY)
+        (AnswersHandle old handle (modified old.heap slot (kind_modified flags)) answer new) (MatchBool (size == 0) (Empties old handle slot flags answer new) (Resizes old handle slot flags size answer new)))) n.found
+        (subst (λ b. MatchBool b (IsNull old answer new) (ReAllocsOwn old handle size flags answer new)) own step)
+
+pub lock_law : LockLaw
+lock_law old new handle slot o answer n has loose few step =
+    let e : global_lock old handle ≡ (Dword (far_pointer (selector_of slot) 0), record old { heap = locked_heap old handle slot o n }) = locked old handle slot o n has loose few in (
+      ap (λ (h : Handles). object_at h.heap slot) (step.1 ∙ ap (λ (p : Answer × Handles). p.1) e) ∙ inserted_here old.heap.objects slot (record o { locks = o.locks + 1 }) slot refl,
+      step.0 ∙ ap (λ (p : Answer × Handles). p.0) e,
+    )
+
+pub unlock_law : UnlockLaw
+unlock_law old new handle slot o answer n loose step =
+    let e : global_unlock old handle ≡ (Word (cond (nat_lt 0 (o.locks - 1)) 1 0), record old { heap = with_object old.heap slot (record o { locks = o.locks - 1 }) }) = unlocked old handle slot o n loose in (
+      ap (λ (h : Handles). object_at h.heap slot) (step.1 ∙ ap (λ (p : Answer × Handles). p.1) e) ∙ inserted_here old.heap.objects slot (record o { locks = o.locks - 1 }) slot refl,
+      step.0 ∙ ap (λ (p : Answer × Handles). p.0) e,
+    )
+
+pub free_law : FreeLaw
+free_law old new handle slot o answer n own free step =
+    let e : global_free old handle ≡ (Word 0, record old { heap = removed old.heap slot; attributes = finmap.remove old.attributes slot }) = freed old handle slot o n own free in (
+      ap (λ (h : Handles). object_at h.heap slot) (step.1 ∙ ap (λ (p : Answer × Handles). p.1) e) ∙ taken_here old.heap.objects slot slot refl,
+      step.0 ∙ ap (λ (p : Answer × Handles). p.0) e,
+    )
+
+pub modify_law : ModifyLaw
+modify_law old new handle slot size flags o answer is n own modify loose step =
+    let again : AnswersHandle old handle (modified old.heap slot (kind_modified flags)) answer new = subst (λ b. MatchBool b (AnswersHandle old handle (modified old.heap slot (kind_modified flags)) answer new) (MatchBool (size == 0) (Empties old handle slot flags answer new) (Resizes old handle slot flags size answer new))) modify
+    (reallocs old handle slot o n new size flags answer own step) in
+    let law : ((is_fixed o.kind || is_fixed (kind_modified flags)) ≡ true → after_modify old.heap slot (kind_modified flags) ≡ Err refusals.Fixed)
+    × ((is_fixed o.kind || is_fixed (kind_modified flags)) ≡ false → (heap : Heap) × (after_modify old.heap slot (kind_modified flags) ≡ Ok heap) × ChangesKind old.heap slot o (kind_modified flags) heap) =
+    subst (λ p. IfSome p (λ o. ((is_fixed o.kind || is_fixed (kind_modified flags)) ≡ true → after_modify old.heap slot (kind_modified flags) ≡ Err refusals.Fixed)
+    × ((is_fixed o.kind || is_fixed (kind_modified flags)) ≡ false → (heap : Heap) × (after_modify old.heap slot (kind_modified flags) ≡ Ok heap) × ChangesKind old.heap slot o (kind_modified flags) heap))) n.there (kind_law old.heap slot (kind_modified flags) is.heap) in
+    let c : (heap : Heap) × (after_modify old.heap slot (kind_modified flags) ≡ Ok heap) × ChangesKind old.heap slot o (kind_modified flags) heap = law.1 (ap (λ b. b || is_fixed (kind_modified flags)) loose ∙ never_fixed flags) in (
+      ap (λ (h : Handles). object_at h.heap slot) again.1 ∙ ap (λ (r : Result Heap Refusal). object_at (elim r as (λ _. Heap) [ Ok new ↦ new | Err _ ↦ old.heap ]) slot) c.1 ∙ c.2.object,
+      again.0,
+    )
+  where
+    by_flag : (b : Bool) → is_fixed (cond {A = Kind} b Discardable Moveable) ≡ false
+    by_flag true = refl
+    by_flag false = refl
+
+    never_fixed : (flags : ℕ) → is_fixed (kind_modified flags) ≡ false
+    never_fixed flags = by_flag (has_flag flags GMEM_DISCARDABLE)
+
+pub discard_law : DiscardLaw
+discard_law old new handle slot flags o answer n own keeps moveable may free step =
+    let empties : Empties old handle slot flags answer new = subst (λ b. MatchBool b (AnswersHandle old handle (modified old.heap slot (kind_modified flags)) answer new) (Empties old handle slot flags answer new)) keeps
+    (reallocs old handle slot o n new 0 flags answer own step) in
+    let asked : AnswersDiscard old handle answer new (after_discard old.heap slot) = subst (λ b. MatchBool b (AnswersDiscard old handle answer new (after_discard old.heap slot)) (IsNull old answer new)) moveable empties in
+    let done : after_discard old.heap slot ≡ Ok (absent old.heap slot) = discard_is old.heap slot (Some o) n.there ∙ ap (λ k. discard_answer old.heap slot (nat_lt 0 k) (is_discardable o.kind)) free ∙ ap (discard_answer old.heap slot false) may in
+    let again : AnswersHandle old handle (absent old.heap slot) answer new = subst (AnswersDiscard old handle answer new) done asked in (
+      ap (λ (h : Handles). object_at h.heap slot) again.1 ∙ get-update_same old.heap.objects slot (λ (o : Object). record o { bytes = None }) ∙ ap (option_map (λ (o : Object). let p : Object = record o { bytes = None } in p)) n.there,
+      again.0,
+    )
+
+-- Far accesses.
+module _ (old : Handles) (selector offset n slot : ℕ) (bytes : List ℕ) (found : slot_of_selector old selector ≡ Some slot) (has : bytes_at old.heap slot ≡ Some bytes) (fits : offset + n ≤ length bytes) where
+  no_fault : far_fault old selector offset n ≡ None
+  no_fault = ap (λ (s : Option ℕ). elim s as (λ _. Option FarFault) [
+    | None ↦ Some BadSelector
+    | Some slot ↦ elim (bytes_at old.heap slot) [ None ↦ Some NotPresent | Some bytes ↦ cond (nat_lt (length bytes) (offset + n)) (Some Limit) None ]
+  ]) found
+      ∙ ap (λ (b : Option (List ℕ)). elim b as (λ _. Option FarFault) [ None ↦ Some NotPresent | Some bytes ↦ cond (nat_lt (length bytes) (offset + n)) (Some Limit) None ]) has
+      ∙ ap (λ b. cond {A = Option FarFault} b (Some Limit) None) (short (nat_lt (length bytes) (offset + n)) refl)
+    where
+      short : (b : Bool) → nat_lt (length bytes) (offset + n) ≡ b → nat_lt (length bytes) (offset + n) ≡ false
+      short false t = t
+      short true t = absurd (omega (arith, fits, ltb-true (length bytes) (offset + n) t))
+
+  read_answered : (far_read old selector offset n).0 ≡ Bytes (part (far_bytes old selector) offset n)
+  read_answered = ap (λ (f : Option FarFault). (elim f as (λ _. FarAnswer × Handles) [
+    | Some fault ↦ (Fault fault, old)
+    | None ↦ (Bytes (part (far_bytes old selector) offset n), record old { heap = after_touch old.heap (far_slot old selector) })
+  ]).0) no_fault
+
+  write_answered : (slice : List ℕ) → length slice ≡ n → refuses_write old selector ≡ false → (far_write old selector offset slice).0 ≡ Done
+  write_answered slice long may = ap (λ b. (cond {A = FarAnswer × Handles} b (Fault ReadOnly, old) (data_write old selector offset slice)).0) may
+      ∙ ap (λ (f : Option FarFault). (elim f as (λ _. FarAnswer × Handles) [
+        | Some fault ↦ (Fault fault, old)
+        | None ↦ (Done, record old { heap = after_touch (after_write old.heap (far_slot old selector) offset slice) (far_slot old selector) })
+      ]).0) (ap (far_fault old selector offset) long ∙ no_fault)
+
+pub answered_law : AnsweredLaw
+answered_law old new (Read pointer count) answer slot bytes found has fits may step fault e =
+    let both : ◌≡◌ {A = FarAnswer} (Fault fault) (Bytes (part (far_bytes old (selector_in pointer)) (offset_in pointer) count)) = sym e ∙ step.0 ∙ read_answered old (selector_in pointer) (offset_in pointer) count slot bytes found has fits in cc
+answered_law old new (Write pointer slice) answer slot bytes found has fits may step fault e =
+    let both : ◌≡◌ {A = FarAnswer} (Fault fault) Done = sym e ∙ step.0 ∙ write_answered old (selector_in pointer) (offset_in pointer) (length slice) slot bytes found has fits slice refl (may refl) in cc
+answered_law old new (Fill pointer count byte) answer slot bytes found has fits may step fault e =
+    let both : ◌≡◌ {A = FarAnswer} (Fault fault) Done = sym e ∙ step.0 ∙ write_answered old (selector_in pointer) (offset_in pointer) count slot bytes found has fits (repeated count byte) (length-repeated count byte) (may refl) in cc

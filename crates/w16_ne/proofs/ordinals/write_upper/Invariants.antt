@@ -1,6 +1,0 @@
-use Rattle.std.proofs.Common.{◌≡◌, take}
-use Rattle.std.specs.Str.{str_to_ascii_uppercase}
-use Rattle.w16_ne.proofs.ordinals.write_upper.Given as goal
-
-abbrev pub invariant-loop-i : goal.invariant-loop-i
-invariant-loop-i l = take l.i l.room ≡ str_to_ascii_uppercase (take l.i l.text)
