@@ -1,0 +1,227 @@
+-- A step's reply has the kind that its command's has.
+use Rattle.std.proofs.Common.{◌≡◌, ℕ, ◌+◌, Bool, true, false, MatchBool, MatchOption, cond, nat_lt, if◌then◌else◌, List, [], length, Option, Some, None, unwrap_or, Result, Ok, Err, refl, sym, subst, ltb-false}
+use Rattle.std.specs.FinMap as finmap
+use Rattle.w16_model.specs.declared.Refusal.{Refusal}
+use Rattle.w16_model.specs.declared.Refusal.TheVariants as refusals
+use Rattle.w16_model.specs.declared.FarFault.{FarFault}
+use Rattle.w16_model.specs.declared.FarFault.TheVariants.{BadSelector, ReadOnly, NotPresent, Limit}
+use Rattle.w16_model.specs.Bytes.{part, repeated}
+use Rattle.w16_model.specs.Heap.{Heap, bytes_at}
+use Rattle.w16_model.specs.OneObject.{after_free, after_lock, after_unlock, after_newest, after_oldest, after_touch}
+use Rattle.w16_model.specs.Handles.{Handles, slot_of_handle, slot_of_selector, selector_of, selector_in, offset_in, far_pointer}
+use Rattle.w16_model.specs.Owned.{owns, refuses_write}
+use Rattle.w16_model.proofs.Parts.{length-part}
+use Rattle.w16_model.specs.Calls.{HandleCommand, Answer, HandleStep, free_own, global_free, global_lock, global_unlock, handle_or_0, locks_at}
+use Rattle.w16_model.specs.Calls as calls
+use Rattle.w16_model.specs.Calls.HandleCommand.{GlobalAlloc, GlobalFree, GlobalLock, GlobalUnlock, GlobalSize, GlobalFlags, GlobalHandle, GetSelectorBase, GetSelectorLimit, GlobalCompact, GlobalLRUNewest, GlobalLRUOldest, Moved, Walk}
+use Rattle.w16_model.specs.Far as far
+use Rattle.w16_model.specs.Far.{FarAnswer, FarCommand, far_fault, far_slot, after_write}
+use Rattle.w16_model.specs.Far.FarCommand.{Read, Write, Fill}
+use Rattle.w16_loading.specs.declared.FetchFault.{FetchFault}
+use Rattle.w16_loading.specs.AnyStore.{AnyFetches}
+use Rattle.w16_loading.specs.Fetch.{Fetching, Accesses, gives, needs_fetch, reply_of_far}
+use Rattle.w16_loading.specs.Modules.{LoadingWorld}
+use Rattle.w16_loading.specs.File.{Format}
+use Rattle.w16_loading.specs.Families.LoadingCommand.{OfHandles, OfResizes, OfFar}
+use Rattle.w16_loading.specs.Resizes.{ResizeCommand, ResizeStep}
+use Rattle.w16_loading.specs.Resizes.ResizeCommand.{GlobalReAlloc, GlobalDiscard}
+use Rattle.w16_loading.specs.Replies.{Reply, HandleReplies, ResizeReplies}
+use Rattle.w16_loading.specs.Replies.Reply.{Word, Dword, Done, Failed, Walked}
+use Rattle.w16_machine.specs.LocalCalls.{LocalCommand, LocalStep}
+use Rattle.w16_machine.specs.LocalCalls.LocalCommand.{DS}
+use Rattle.w16_machine.specs.World.{World}
+use Rattle.w16_machine.specs.Machine.{Command}
+use Rattle.w16_machine.specs.Machine.Command.{OfLoading, OfLocals}
+use Rattle.w16_kernel.specs.Parts.{KernelStep}
+use Rattle.w16_c.specs.Kinds.{AnswersWord, AnswersDword, IsWrite, IsWord, IsDword, IsDoneOrFault, IsBytes}
+
+-- any format will do, since no file is read
+no_format : Format
+no_format file = Err 11
+
+abbrev WordAnswer : Answer → Type 0
+WordAnswer (calls.Answer.Word n) = Unit {0}
+WordAnswer answer = ⊥
+
+abbrev DwordAnswer : Answer → Type 0
+DwordAnswer (calls.Answer.Dword n) = Unit {0}
+DwordAnswer answer = ⊥
+
+-- what is answered to a call that names an object, and by what becomes of it
+by_name : (P : Answer → Type 0) (w : Handles) (bad refused : Answer) (done : ℕ → Heap → Answer × Handles) (step : ℕ → Result Heap Refusal) → P bad → P refused
+    → ((slot : ℕ) (heap : Heap) → P (done slot heap).0) → (named : Option ℕ)
+    → P (elim named as (λ _. Answer × Handles) [ None ↦ (bad, w) | Some slot ↦ elim (step slot) as (λ _. Answer × Handles) [ Ok heap ↦ done slot heap | Err _ ↦ (refused, w) ] ]).0
+by_name P w bad refused done step b r d None = b
+by_name P w bad refused done step b r d (Some slot) = turn (step slot)
+  where
+    turn : (s : Result Heap Refusal) → P (elim s as (λ _. Answer × Handles) [ Ok heap ↦ done slot heap | Err _ ↦ (refused, w) ]).0
+    turn (Ok heap) = d slot heap
+    turn (Err e) = r
+
+if_both : (P : Answer → Type 0) (b : Bool) (x y : Answer × Handles) → P x.0 → P y.0 → P (cond b x y).0
+if_both P true x y h k = h
+if_both P false x y h k = k
+
+free_word : (old : Handles) (handle : ℕ) → WordAnswer (global_free old handle).0
+free_word old handle = if_both WordAnswer (owns old handle) (calls.Answer.Word handle, old) (free_own old handle) tt
+    (by_name WordAnswer old (calls.Answer.Word handle) (calls.Answer.Word handle) (λ slot heap. (calls.Answer.Word 0, record old { heap = heap; attributes = finmap.remove old.attributes slot })) (after_free old.heap) tt tt (λ _ _. tt) (slot_of_handle old handle))
+
+unlock_word : (old : Handles) (handle : ℕ) → WordAnswer (global_unlock old handle).0
+unlock_word old handle =
+    by_name WordAnswer old (calls.Answer.Word 0) (calls.Answer.Word 0) (λ slot heap. (calls.Answer.Word (if nat_lt 0 (locks_at heap slot) then 1 else 0), record old { heap = heap })) (after_unlock old.heap) tt tt (λ _ _. tt) (slot_of_handle old handle)
+
+order_word : (after : Heap → ℕ → Result Heap Refusal) (old : Handles) (handle : ℕ) → WordAnswer (handle_or_0 after old handle).0
+order_word after old handle = by_name WordAnswer old (calls.Answer.Word 0) (calls.Answer.Word 0) (λ slot heap. (calls.Answer.Word handle, record old { heap = heap })) (after old.heap) tt tt (λ _ _. tt) (slot_of_handle old handle)
+
+lock_dword : (old : Handles) (handle : ℕ) → DwordAnswer (global_lock old handle).0
+lock_dword old handle = turn (slot_of_handle old handle)
+  where
+    inner : (slot : ℕ) (s : Result Heap Refusal) → DwordAnswer (elim s as (λ _. Answer × Handles) [
+      | Ok heap ↦ (calls.Answer.Dword (far_pointer (selector_of slot) 0), record old { heap = heap })
+      | Err refusals.Fixed ↦ (calls.Answer.Dword (far_pointer (selector_of slot) 0), old)
+      | Err _ ↦ (calls.Answer.Dword 0, old)
+    ]).0
+    inner slot (Ok heap) = tt
+    inner slot (Err refusals.Fixed) = tt
+    inner slot (Err refusals.Absent) = tt
+    inner slot (Err refusals.LockFull) = tt
+    inner slot (Err refusals.Locked) = tt
+    inner slot (Err refusals.NotDiscardable) = tt
+
+    turn : (p : Option ℕ) → DwordAnswer (elim p as (λ _. Answer × Handles) [
+      | None ↦ (calls.Answer.Dword 0, old)
+      | Some slot ↦ elim (after_lock old.heap slot) as (λ _. Answer × Handles) [
+        | Ok heap ↦ (calls.Answer.Dword (far_pointer (selector_of slot) 0), record old { heap = heap })
+        | Err refusals.Fixed ↦ (calls.Answer.Dword (far_pointer (selector_of slot) 0), old)
+        | Err _ ↦ (calls.Answer.Dword 0, old)
+      ]
+    ]).0
+    turn None = tt
+    turn (Some slot) = inner slot (after_lock old.heap slot)
+
+handle_word : (old : Handles) (command : HandleCommand) (answer : Answer) (new : Handles) → AnswersWord (OfLoading (OfHandles command)) → HandleStep old command answer new → WordAnswer answer
+handle_word old (GlobalAlloc flags size) (calls.Answer.Word n) new k h = tt
+handle_word old (GlobalAlloc flags size) answer new k h = absurd h
+handle_word old (GlobalFree handle) answer new k h = subst WordAnswer (sym h.0) (free_word old handle)
+handle_word old (GlobalUnlock handle) answer new k h = subst WordAnswer (sym h.0) (unlock_word old handle)
+handle_word old (GlobalFlags handle) answer new k h = subst WordAnswer (sym h.0) tt
+handle_word old (GlobalLRUNewest handle) answer new k h = subst WordAnswer (sym h.0) (order_word after_newest old handle)
+handle_word old (GlobalLRUOldest handle) answer new k h = subst WordAnswer (sym h.0) (order_word after_oldest old handle)
+handle_word old command answer new k h = absurd k
+
+handle_dword : (old : Handles) (command : HandleCommand) (answer : Answer) (new : Handles) → AnswersDword (OfLoading (OfHandles command)) → HandleStep old command answer new → DwordAnswer answer
+handle_dword old (GlobalLock handle) answer new k h = subst DwordAnswer (sym h.0) (lock_dword old handle)
+handle_dword old (GlobalSize handle) answer new k h = subst DwordAnswer (sym h.0) tt
+handle_dword old (GlobalHandle selector) answer new k h = subst DwordAnswer (sym h.0) tt
+handle_dword old (GetSelectorBase selector) answer new k h = subst DwordAnswer (sym h.0) tt
+handle_dword old (GetSelectorLimit selector) answer new k h = subst DwordAnswer (sym h.0) tt
+handle_dword old (GlobalCompact size) (calls.Answer.Dword n) new k h = tt
+handle_dword old (GlobalCompact size) answer new k h = absurd h
+handle_dword old Moved answer new k h = subst DwordAnswer (sym h.0) tt
+handle_dword old command answer new k h = absurd k
+
+handles_word : (old : Handles) (command : HandleCommand) (reply : Reply) (new : Handles) → AnswersWord (OfLoading (OfHandles command)) → HandleReplies old command reply new → IsWord reply
+handles_word old command (Word n) new k h = tt
+handles_word old command (Dword n) new k h = handle_word old command (calls.Answer.Dword n) new k h
+handles_word old command (Walked n) new k h = handle_word old command (calls.Answer.Walked n) new k h
+handles_word old command reply new k h = absurd h
+
+handles_dword : (old : Handles) (command : HandleCommand) (reply : Reply) (new : Handles) → AnswersDword (OfLoading (OfHandles command)) → HandleReplies old command reply new → IsDword reply
+handles_dword old command (Word n) new k h = handle_dword old command (calls.Answer.Word n) new k h
+handles_dword old command (Dword n) new k h = tt
+handles_dword old command (Walked n) new k h = handle_dword old command (calls.Answer.Walked n) new k h
+handles_dword old command reply new k h = absurd h
+
+resize_word : (old : Handles) (command : ResizeCommand) (answer : Answer) (new : Handles) → ResizeStep old command answer new → WordAnswer answer
+resize_word old (GlobalReAlloc handle size flags) (calls.Answer.Word n) new h = tt
+resize_word old (GlobalDiscard handle) (calls.Answer.Word n) new h = tt
+resize_word old command answer new h = absurd h
+
+resizes_word : (old : Handles) (command : ResizeCommand) (reply : Reply) (new : Handles) → ResizeReplies old command reply new → IsWord reply
+resizes_word old command (Word n) new h = tt
+resizes_word old command (Dword n) new h = resize_word old command (calls.Answer.Dword n) new h
+resizes_word old command (Walked n) new h = resize_word old command (calls.Answer.Walked n) new h
+resizes_word old command reply new h = absurd h
+
+local_word : (old new : World) (command : LocalCommand) (reply : Reply) → AnswersWord (OfLocals command) → LocalStep old command reply new → IsWord reply
+local_word old new (DS selector) Done k h = absurd k
+local_word old new command (Word n) k h = tt
+local_word old new command reply k h = absurd h
+
+pub word_reply : (old : World) (command : Command) (reply : Reply) (new : World) → AnswersWord command → KernelStep old command reply new → IsWord reply
+word_reply old (OfLoading (OfHandles command)) reply new k step = let h = (step no_format).0.any.step in handles_word old.loading.handles command reply h.0 k h.1
+word_reply old (OfLoading (OfResizes command)) reply new k step = let h = (step no_format).0.any.step in resizes_word old.loading.handles command reply h.0 h.1
+word_reply old (OfLocals command) reply new k step = local_word old new command reply k (step no_format)
+word_reply old command reply new k step = absurd k
+
+pub dword_reply : (old : World) (command : Command) (reply : Reply) (new : World) → AnswersDword command → KernelStep old command reply new → IsDword reply
+dword_reply old (OfLoading (OfHandles command)) reply new k step = let h = (step no_format).0.any.step in handles_dword old.loading.handles command reply h.0 k h.1
+dword_reply old command reply new k step = absurd k
+
+-- Far accesses.
+
+either : (b : Bool) (A B P : Type 0) → (A → P) → (B → P) → MatchBool b A B → P
+either true A B P f g h = f h
+either false A B P f g h = g h
+
+-- what is true of each answer of an access, and of each fault of a fetch, is true of what is replied
+accessed : (P : Reply → Type 0) (fetches : Fetching) (access : LoadingWorld → FarAnswer × LoadingWorld) (old : LoadingWorld) (selector : ℕ) (reply : Reply) (new : LoadingWorld)
+    → ((w : LoadingWorld) → P (reply_of_far (access w).0)) → ((f : FetchFault) → P (Failed f)) → Accesses fetches access old selector reply new → P reply
+accessed P fetches access old selector reply new each fails =
+    either (needs_fetch (access old).0 old selector) _ _ (P reply) (λ h. fetched h.0 h.1 h.3) (λ h. subst P (sym h.0) (each old))
+  where
+    fetched : (fault : Option FetchFault) (next : LoadingWorld) → MatchOption fault (gives (access next) reply new) (λ f. (reply ≡ Failed f) × (new ≡ next)) → P reply
+    fetched None next h = subst P (sym h.0) (each next)
+    fetched (Some f) next h = subst P (sym h.0) (fails f)
+
+-- a write is done, or has a fault
+write_done : (old : Handles) (selector offset : ℕ) (slice : List ℕ) → IsDoneOrFault (reply_of_far (far.far_write old selector offset slice).0)
+write_done old selector offset slice = turn (refuses_write old selector) (far_fault old selector offset (length slice))
+  where
+    turn : (b : Bool) (p : Option FarFault) → IsDoneOrFault (reply_of_far (cond b (FarAnswer.Fault ReadOnly, old) (elim p as (λ _. FarAnswer × Handles) [
+      | Some fault ↦ (FarAnswer.Fault fault, old)
+      | None ↦ (FarAnswer.Done, record old { heap = after_touch (after_write old.heap (far_slot old selector) offset slice) (far_slot old selector) })
+    ])).0)
+    turn true p = tt
+    turn false None = tt
+    turn false (Some fault) = tt
+
+-- a read has as many bytes as it asks for, or a fault
+abbrev ReadsAs : Handles → ℕ → ℕ → Option FarFault → List ℕ → ℕ → Type 0
+ReadsAs old offset n fault bytes slot = IsBytes n (reply_of_far (elim fault as (λ _. FarAnswer × Handles) [
+  | Some fault ↦ (FarAnswer.Fault fault, old)
+  | None ↦ (FarAnswer.Bytes (part bytes offset n), record old { heap = after_touch old.heap slot })
+]).0)
+
+read_bytes : (old : Handles) (selector offset n : ℕ) → IsBytes n (reply_of_far (far.far_read old selector offset n).0)
+read_bytes old selector offset n = turn (slot_of_selector old selector)
+  where
+    by_end : (slot : ℕ) (bytes : List ℕ) (b : Bool) → nat_lt (length bytes) (offset + n) ≡ b → ReadsAs old offset n (cond b (Some Limit) None) bytes slot
+    by_end slot bytes true e = tt
+    by_end slot bytes false e = length-part bytes offset n (ltb-false (length bytes) (offset + n) e)
+
+    by_bytes : (slot : ℕ) (b : Option (List ℕ)) → ReadsAs old offset n (elim b as (λ _. Option FarFault) [ None ↦ Some NotPresent | Some bytes ↦ if nat_lt (length bytes) (offset + n) then Some Limit else None ]) (unwrap_or b []) slot
+    by_bytes slot None = tt
+    by_bytes slot (Some bytes) = by_end slot bytes (nat_lt (length bytes) (offset + n)) refl
+
+    turn : (s : Option ℕ) → ReadsAs old offset n (elim s as (λ _. Option FarFault) [
+      | None ↦ Some BadSelector
+      | Some slot ↦ elim (bytes_at old.heap slot) as (λ _. Option FarFault) [ None ↦ Some NotPresent | Some bytes ↦ if nat_lt (length bytes) (offset + n) then Some Limit else None ]
+    ]) (unwrap_or (bytes_at old.heap (unwrap_or s 0)) []) (unwrap_or s 0)
+    turn None = tt
+    turn (Some slot) = by_bytes slot (bytes_at old.heap slot)
+
+local_done : (old new : World) (command : LocalCommand) (reply : Reply) → IsWrite (OfLocals command) → LocalStep old command reply new → IsDoneOrFault reply
+local_done old new (DS selector) Done k h = tt
+local_done old new (DS selector) (Word n) k h = absurd h
+local_done old new (DS selector) reply k h = absurd h
+local_done old new command reply k h = absurd k
+
+pub write_reply : (old : World) (command : Command) (reply : Reply) (new : World) → IsWrite command → KernelStep old command reply new → IsDoneOrFault reply
+write_reply old (OfLoading (OfFar (Write pointer bytes))) reply new k step = accessed IsDoneOrFault AnyFetches _ old.loading _ reply _ (λ w. write_done w.handles (selector_in pointer) (offset_in pointer) bytes) (λ f. tt) (step no_format).0.any.step
+write_reply old (OfLoading (OfFar (Fill pointer count byte))) reply new k step = accessed IsDoneOrFault AnyFetches _ old.loading _ reply _ (λ w. write_done w.handles (selector_in pointer) (offset_in pointer) (repeated count byte)) (λ f. tt) (step no_format).0.any.step
+write_reply old (OfLocals command) reply new k step = local_done old new command reply k (step no_format)
+write_reply old command reply new k step = absurd k
+
+pub read_reply : (old : World) (pointer count : ℕ) (reply : Reply) (new : World) → KernelStep old (OfLoading (OfFar (Read pointer count))) reply new → IsBytes count reply
+read_reply old pointer count reply new step = accessed (IsBytes count) AnyFetches _ old.loading _ reply _ (λ w. read_bytes w.handles (selector_in pointer) (offset_in pointer) count) (λ f. tt) (step no_format).0.any.step

@@ -1,0 +1,5 @@
+use Rattle.w16_c.proofs.ReplyKinds.{read_reply}
+use Rattle.w16_c.proofs.far.w16_read.Goals as goal
+
+pub copied-requires : goal.copied-requires
+copied-requires c = read_reply _ _ _ _ _ c.in-Ok.ensures.made.step

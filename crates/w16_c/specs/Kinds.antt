@@ -1,0 +1,64 @@
+-- Which commands are answered by a word, and which by a double word.
+use Rattle.std.specs.Prelude.{◌≡◌, ℕ, length}
+use Rattle.w16_model.specs.Calls.HandleCommand.{GlobalAlloc, GlobalFree, GlobalLock, GlobalUnlock, GlobalSize, GlobalFlags, GlobalHandle, GetSelectorBase, GetSelectorLimit, GlobalCompact, GlobalLRUNewest, GlobalLRUOldest, Moved}
+use Rattle.w16_model.specs.Far.FarCommand.{Write, Fill}
+use Rattle.w16_loading.specs.Families.LoadingCommand.{OfHandles, OfResizes, OfFar}
+use Rattle.w16_loading.specs.Replies.{Reply}
+use Rattle.w16_loading.specs.Replies.Reply.{Word, Dword, Bytes, Done, Fault, Failed}
+use Rattle.w16_machine.specs.LocalCalls.LocalCommand.{DS}
+use Rattle.w16_machine.specs.Machine.{Command}
+use Rattle.w16_machine.specs.Machine.Command.{OfLoading, OfLocals}
+
+-- by a word: a handle, a name, an offset, flags, or a count of locks
+abbrev pub AnswersWord : Command → Type 0
+AnswersWord (OfLoading (OfHandles (GlobalAlloc flags size))) = Unit {0}
+AnswersWord (OfLoading (OfHandles (GlobalFree handle))) = Unit {0}
+AnswersWord (OfLoading (OfHandles (GlobalUnlock handle))) = Unit {0}
+AnswersWord (OfLoading (OfHandles (GlobalFlags handle))) = Unit {0}
+AnswersWord (OfLoading (OfHandles (GlobalLRUNewest handle))) = Unit {0}
+AnswersWord (OfLoading (OfHandles (GlobalLRUOldest handle))) = Unit {0}
+AnswersWord (OfLoading (OfResizes command)) = Unit {0}
+AnswersWord (OfLocals (DS selector)) = ⊥
+AnswersWord (OfLocals command) = Unit {0}
+AnswersWord command = ⊥
+
+-- by a double word: a far pointer, a size, an address, or a selector and a handle
+abbrev pub AnswersDword : Command → Type 0
+AnswersDword (OfLoading (OfHandles (GlobalLock handle))) = Unit {0}
+AnswersDword (OfLoading (OfHandles (GlobalSize handle))) = Unit {0}
+AnswersDword (OfLoading (OfHandles (GlobalHandle selector))) = Unit {0}
+AnswersDword (OfLoading (OfHandles (GetSelectorBase selector))) = Unit {0}
+AnswersDword (OfLoading (OfHandles (GetSelectorLimit selector))) = Unit {0}
+AnswersDword (OfLoading (OfHandles (GlobalCompact size))) = Unit {0}
+AnswersDword (OfLoading (OfHandles Moved)) = Unit {0}
+AnswersDword command = ⊥
+
+-- the replies
+abbrev pub IsWord : Reply → Type 0
+IsWord (Word n) = Unit {0}
+IsWord reply = ⊥
+
+abbrev pub IsDword : Reply → Type 0
+IsDword (Dword n) = Unit {0}
+IsDword reply = ⊥
+
+-- so many bytes, or why there are none
+abbrev pub IsBytes : ℕ → Reply → Type 0
+IsBytes count (Bytes bytes) = length bytes ≡ count
+IsBytes count (Fault f) = Unit {0}
+IsBytes count (Failed f) = Unit {0}
+IsBytes count reply = ⊥
+
+-- no more than that it is done, or why it isn't
+abbrev pub IsDoneOrFault : Reply → Type 0
+IsDoneOrFault Done = Unit {0}
+IsDoneOrFault (Fault f) = Unit {0}
+IsDoneOrFault (Failed f) = Unit {0}
+IsDoneOrFault reply = ⊥
+
+-- and those that are done without an answer, unless they meet a fault
+abbrev pub IsWrite : Command → Type 0
+IsWrite (OfLoading (OfFar (Write pointer bytes))) = Unit {0}
+IsWrite (OfLoading (OfFar (Fill pointer count byte))) = Unit {0}
+IsWrite (OfLocals (DS selector)) = Unit {0}
+IsWrite command = ⊥

@@ -1,0 +1,5 @@
+-- What the contracts cite.
+pub mod Ownership
+pub mod Makes
+pub mod Kinds
+pub mod Walks

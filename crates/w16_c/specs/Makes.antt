@@ -1,0 +1,83 @@
+-- What a call on a holder leaves, and the status that it answers.
+use Rattle.std.specs.Prelude.{◌≡◌, ℕ, ◌⊎◌, true, false, List}
+use Rattle.w16_model.specs.declared.FarFault.{FarFault}
+use Rattle.w16_model.specs.declared.FarFault.TheVariants as fault
+use Rattle.w16_loading.specs.Replies.{Reply}
+use Rattle.w16_loading.specs.Replies.Reply.{Word, Dword, Bytes, Done, Fault}
+use Rattle.w16_machine.specs.Machine.{Command}
+use Rattle.w16_machine.specs.Fewest.{IsFewest}
+use Rattle.w16_kernel.specs.Parts.{KernelStep}
+use Rattle.w16_kernel.specs.Runs.{TakesMemory}
+use Rattle.w16_c.specs.declared.held.Held.{Held}
+use Rattle.w16_c.specs.declared.asked.Refusal.{Refusal}
+use Rattle.w16_c.specs.declared.asked.Refusal.TheVariants.{NoMachine, NoMemory}
+use Rattle.w16_c.specs.declared.status.TheConstants.{DONE, NO_MACHINE, NO_MEMORY, BAD_SIZE, FAULT_SELECTOR, FAULT_READ_ONLY, FAULT_NOT_PRESENT, FAULT_LIMIT}
+
+-- The command is a step of the machine that is held, and discards as few objects as it can.
+pub record Makes (old : Held) (command : Command) (reply : Reply) (new : Held) : Type 0 where
+  pub was : old.is_held ≡ true
+  pub is : new.is_held ≡ true
+  pub step : KernelStep old.world command reply new.world
+  pub fewest : IsFewest old.world (record { command = command; reply = reply; after = new.world })
+
+-- There was no machine, and there is none.
+abbrev pub IsEmpty : Held → Held → Type 0
+IsEmpty old new = (old.is_held ≡ false) × (new.is_held ≡ false)
+
+-- The host had no memory for what the command takes, and the machine that is held stays as it was.
+pub record LacksMemory (old : Held) (command : Command) (new : Held) : Type 0 where
+  pub was : old.is_held ≡ true
+  pub is : new.is_held ≡ true
+  pub wanted : TakesMemory old.world command
+  pub same : new.world ≡ old.world
+
+-- A call that isn't made, and why.
+abbrev pub Refuses : Held → Command → Refusal → Held → Type 0
+Refuses old command NoMachine new = IsEmpty old new
+Refuses old command NoMemory new = LacksMemory old command new
+
+-- A call, its status, and the reply that it has where it is done. A machine that is held makes the step, but for want of memory.
+abbrev pub Calls : Held → Command → ℕ → Reply → Held → Type 0
+Calls old command status reply new =
+    ((status ≡ DONE) × Makes old command reply new)
+    ⊎ ((status ≡ NO_MACHINE) × IsEmpty old new)
+    ⊎ ((status ≡ NO_MEMORY) × LacksMemory old command new)
+
+-- what was lent for the answer stays as it was where the call isn't done
+abbrev pub Stays : ℕ → {A : Type 0} → A → A → Type 0
+Stays status before after = (status ≡ DONE) ⊎ (after ≡ before)
+
+-- a call that answers a word, and what stood before in the answer's place
+abbrev pub WordCalls : Held → Command → ℕ → ℕ → ℕ → Held → Type 0
+WordCalls old command status before answer new = Calls old command status (Word answer) new × Stays status before answer
+
+-- and one that answers a double word
+abbrev pub DwordCalls : Held → Command → ℕ → ℕ → ℕ → Held → Type 0
+DwordCalls old command status before answer new = Calls old command status (Dword answer) new × Stays status before answer
+
+-- the status of a far access's fault
+abbrev pub fault_status : FarFault → ℕ
+fault_status fault.BadSelector = FAULT_SELECTOR
+fault_status fault.ReadOnly = FAULT_READ_ONLY
+fault_status fault.NotPresent = FAULT_NOT_PRESENT
+fault_status fault.Limit = FAULT_LIMIT
+
+-- a far access: a call that may be answered by a fault
+abbrev pub FarCalls : Held → Command → ℕ → Reply → Held → Type 0
+FarCalls old command status reply new = Calls old command status reply new ⊎ ((f : FarFault) × (status ≡ fault_status f) × Makes old command (Fault f) new)
+
+-- the status of a reply that has no more to tell
+abbrev pub IsStatus : ℕ → Reply → Type 0
+IsStatus status Done = status ≡ DONE
+IsStatus status (Fault f) = status ≡ fault_status f
+IsStatus status reply = ⊥
+
+-- and of one that has bytes, which are copied
+abbrev pub IsRead : ℕ → Reply → List ℕ → List ℕ → Type 0
+IsRead status (Bytes bytes) before after = (status ≡ DONE) × (after ≡ bytes)
+IsRead status (Fault f) before after = (status ≡ fault_status f) × (after ≡ before)
+IsRead status reply before after = ⊥
+
+-- more bytes than a call may ask for: nothing changes
+abbrev pub AsksTooMuch : Held → ℕ → Held → Type 0
+AsksTooMuch old status new = (status ≡ BAD_SIZE) × (new ≡ old)

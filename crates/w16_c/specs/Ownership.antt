@@ -1,0 +1,27 @@
+-- What a held machine owns: what a box of it owns, where there is one.
+use base.Fml.{Fml}
+use base.Stored.{Coded}
+use denote.RattleType.{RattleType}
+use denote.RawPtr.{Ptr}
+use Rattle.std.specs.Box.Ownership.{box_owns}
+use Rattle.std.specs.Global.{Global}
+use Rattle.std.specs.Prelude.{Bool}
+use Rattle.std.specs.Vec.Ownership.{owns_if}
+use Rattle.std_heap.specs.contracts.GlobalAllocator.TheImpl.{ghosts}
+use Rattle.w16_store.specs.contracts.memory.MemStore as store
+use Rattle.w16_store.specs.contracts.memory.MemStoreStore.TheImpl as stores
+use Rattle.w16_kernel.specs.contracts.kernel.Kernel as kernel
+
+-- the allocator, of which there is one
+abbrev pub here : Global
+here = record { memory = record { seal = tt } }
+
+-- a machine over a store of files in memory
+abbrev pub machine_row : RattleType
+machine_row = kernel.the_row store.the_row stores.ghosts
+
+abbrev pub held_owns : Bool → Ptr → machine_row.Denot → Fml
+held_owns held at world = owns_if held (box_owns (ghosts.dealloc_token here) machine_row at world)
+
+abbrev pub machine_coded : Coded machine_row.Denot
+machine_coded = machine_row.coded

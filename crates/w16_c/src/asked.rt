@@ -1,0 +1,121 @@
+//! One call on a holder, and its answer by the kind of its reply.
+ghost use Rattle.std.specs.Prelude.{◌≡◌, IfOk, IfErr};
+ghost use Rattle.w16_loading.specs.Replies as replies;
+ghost use Rattle.w16_kernel.specs.Runs.{command_of, reply_of, IsCall};
+ghost use Rattle.w16_c.specs.Makes.{Makes, Refuses, WordCalls, DwordCalls, FarCalls, IsStatus};
+ghost use Rattle.w16_c.specs.Kinds.{AnswersWord, AnswersDword, IsWrite, IsWord, IsDword, IsDoneOrFault};
+
+use crate::held::Held;
+use crate::life::{put_back, taken};
+use crate::status::{DONE, NO_MACHINE, NO_MEMORY, status_of};
+use std::alloc::Global;
+use w16_kernel::{Call, MOST_READ, Reply};
+
+/// Why no call was made.
+#[derive(Clone, Copy)]
+pub enum Refusal {
+    /// The holder has no machine.
+    NoMachine,
+    /// The host has no memory for a local heap.
+    NoMemory,
+}
+
+/// One step of the machine that is held. Bytes that are read are put into the room.
+pub fn asked<'r>(
+    alloc: Global,
+    held: &mut Held,
+    call: &Call<'_>,
+    room: &'r mut [u8; MOST_READ],
+) -> Result<Reply<'r>, Refusal>
+    requires { IsCall call.now }
+    ensures made { IfOk result (λ reply. Makes held.old (command_of call.now) (reply_of reply) held.new) }
+    ensures refused { IfErr result (λ refusal. Refuses held.old (command_of call.now) refusal held.new) }
+{
+    let Some(mut kernel) = taken(held, alloc) else {
+        return Err(Refusal::NoMachine);
+    };
+    let reply = kernel.call(call, room);
+    put_back(held, alloc, kernel);
+    reply.map_err(|_| Refusal::NoMemory)
+}
+
+/// The word of a reply that has one.
+fn word_in(reply: Reply<'_>) -> u16
+    requires { IsWord (reply_of reply) }
+    ensures { reply_of reply.entry ≡ replies.Reply.Word result }
+{
+    match reply {
+        Reply::Word(word) => word,
+        _ => 0,
+    }
+}
+
+/// The double word of a reply that has one.
+fn dword_in(reply: Reply<'_>) -> u32
+    requires { IsDword (reply_of reply) }
+    ensures { reply_of reply.entry ≡ replies.Reply.Dword result }
+{
+    match reply {
+        Reply::Dword(dword) => dword,
+        _ => 0,
+    }
+}
+
+/// A call that answers a word.
+pub fn word(alloc: Global, held: &mut Held, call: &Call<'_>, answer: &mut u16) -> u8
+    requires call { IsCall call.now }
+    requires kind { AnswersWord (command_of call.now) }
+    ensures { WordCalls held.old (command_of call.now) result answer.old answer.new held.new }
+{
+    let mut room = [0; MOST_READ];
+    match asked(alloc, held, call, &mut room) {
+        Ok(reply) => {
+            *answer = word_in(reply);
+            DONE
+        }
+        Err(Refusal::NoMachine) => NO_MACHINE,
+        Err(Refusal::NoMemory) => NO_MEMORY,
+    }
+}
+
+/// A call that answers a double word.
+pub fn dword(alloc: Global, held: &mut Held, call: &Call<'_>, answer: &mut u32) -> u8
+    requires call { IsCall call.now }
+    requires kind { AnswersDword (command_of call.now) }
+    ensures { DwordCalls held.old (command_of call.now) result answer.old answer.new held.new }
+{
+    let mut room = [0; MOST_READ];
+    match asked(alloc, held, call, &mut room) {
+        Ok(reply) => {
+            *answer = dword_in(reply);
+            DONE
+        }
+        Err(Refusal::NoMachine) => NO_MACHINE,
+        Err(Refusal::NoMemory) => NO_MEMORY,
+    }
+}
+
+/// The status of a reply that says that something is done, or has a fault.
+fn written(reply: Reply<'_>) -> u8
+    requires { IsDoneOrFault (reply_of reply) }
+    ensures { IsStatus result (reply_of reply.entry) }
+{
+    match reply {
+        Reply::Fault(fault) => status_of(fault),
+        _ => DONE,
+    }
+}
+
+/// A call that is done, or answers a fault.
+pub fn done(alloc: Global, held: &mut Held, call: &Call<'_>) -> u8
+    requires call { IsCall call.now }
+    requires kind { IsWrite (command_of call.now) }
+    ensures { FarCalls held.old (command_of call.now) result replies.Reply.Done held.new }
+{
+    let mut room = [0; MOST_READ];
+    match asked(alloc, held, call, &mut room) {
+        Ok(reply) => written(reply),
+        Err(Refusal::NoMachine) => NO_MACHINE,
+        Err(Refusal::NoMemory) => NO_MEMORY,
+    }
+}

@@ -1,0 +1,35 @@
+//! The machine for C: a holder that C keeps, and a function for each call on what it holds.
+#![tactic(auto)]
+
+mod asked;
+mod far;
+mod global;
+mod held;
+mod life;
+mod local;
+mod part;
+mod parts;
+mod status;
+
+pub use far::{w16_fill, w16_read, w16_write};
+pub use global::{
+    w16_get_selector_base, w16_get_selector_limit, w16_global_alloc, w16_global_compact,
+    w16_global_discard, w16_global_flags, w16_global_free, w16_global_handle, w16_global_lock,
+    w16_global_lru_newest, w16_global_lru_oldest, w16_global_realloc, w16_global_size,
+    w16_global_unlock, w16_moved,
+};
+pub use held::Held;
+pub use life::{w16_free, w16_new};
+pub use local::{
+    w16_ds, w16_local_alloc, w16_local_compact, w16_local_discard, w16_local_flags, w16_local_free,
+    w16_local_handle, w16_local_init, w16_local_lock, w16_local_realloc, w16_local_size,
+    w16_local_unlock,
+};
+pub use part::{Part, w16_walk_from};
+pub use status::{
+    BAD_SIZE, DONE, END, FAULT_LIMIT, FAULT_NOT_PRESENT, FAULT_READ_ONLY, FAULT_SELECTOR,
+    NO_MACHINE, NO_MEMORY,
+};
+
+#[cfg(test)]
+mod tests;

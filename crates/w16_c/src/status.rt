@@ -1,0 +1,44 @@
+//! What a call answers.
+ghost use Rattle.std.specs.Prelude.{◌≡◌};
+ghost use Rattle.w16_c.specs.Makes.{fault_status};
+
+use w16_model::FarFault;
+
+/// The call was made.
+pub const DONE: u8 = 0;
+
+/// The holder has no machine, and nothing changed.
+pub const NO_MACHINE: u8 = 1;
+
+/// The host has no memory, and nothing changed.
+pub const NO_MEMORY: u8 = 2;
+
+/// What was asked for can't be: a machine of these sizes, or so many bytes. Nothing changed.
+pub const BAD_SIZE: u8 = 3;
+
+/// No object has the far pointer's selector.
+pub const FAULT_SELECTOR: u8 = 4;
+
+/// The object's bytes are code, which can't be written.
+pub const FAULT_READ_ONLY: u8 = 5;
+
+/// The object has no bytes.
+pub const FAULT_NOT_PRESENT: u8 = 6;
+
+/// The access goes past the object's end.
+pub const FAULT_LIMIT: u8 = 7;
+
+/// No part of the heap begins at the address or above it.
+pub const END: u8 = 8;
+
+/// A fault of a far access, as a status.
+pub fn status_of(fault: FarFault) -> u8
+    ensures { result ≡ fault_status fault }
+{
+    match fault {
+        FarFault::BadSelector => FAULT_SELECTOR,
+        FarFault::ReadOnly => FAULT_READ_ONLY,
+        FarFault::NotPresent => FAULT_NOT_PRESENT,
+        FarFault::Limit => FAULT_LIMIT,
+    }
+}

@@ -1,0 +1,142 @@
+/* w16.h: the memory of Windows 3.1, as a machine that a program holds.
+ *
+ * A machine is held by a struct w16 that is the caller's. It begins as W16_NONE, gets a machine by w16_new, and gives it back by w16_free. Nothing
+ * is global, so a program may have many.
+ *
+ * Every function but w16_free answers a status. What a call answers beside it goes out through the last pointer, where the status is W16_DONE; else
+ * what that pointer points to stays as it was. Each call is the command of the same name of a script (README.md), which says in full what it does.
+ *
+ * What the caller has to keep:
+ * - A struct w16 is changed by these functions alone, and is not copied: a copy would be freed twice.
+ * - One call at a time for each machine.
+ * - Each pointer is valid, and so is each buffer for so many bytes as are given with it; none overlaps another one or the struct w16.
+ * - The program has rattle_alloc, rattle_realloc and rattle_dealloc, by which the library takes memory of it (examples/c/heap.c has them over malloc).
+ *   It does so in w16_new and w16_local_init alone.
+ */
+#ifndef W16_H
+#define W16_H
+
+#include <stdbool.h>
+#include <stddef.h>
+#include <stdint.h>
+
+#ifdef __cplusplus
+extern "C" {
+#endif
+
+/* A machine, or none. */
+typedef struct w16 {
+    void *at;
+    bool held;
+} w16;
+
+#define W16_NONE { NULL, false }
+
+/* Statuses. */
+enum {
+    W16_DONE = 0,              /* the call was made */
+    W16_NO_MACHINE = 1,        /* the struct holds no machine: nothing was done */
+    W16_NO_MEMORY = 2,         /* the program has no memory for it: nothing was done */
+    W16_BAD_SIZE = 3,          /* a machine of these sizes, or so many bytes, can't be: nothing was done */
+    W16_FAULT_SELECTOR = 4,    /* no object has the far pointer's selector */
+    W16_FAULT_READ_ONLY = 5,   /* the object's bytes are code, which can't be written */
+    W16_FAULT_NOT_PRESENT = 6, /* the object has no bytes */
+    W16_FAULT_LIMIT = 7,       /* the access goes past the object's end */
+    W16_END = 8                /* no part of the heap begins at the address or above it */
+};
+
+/* A new machine of so many bytes of memory, a multiple of 32 from 32 to 16,777,216, and so many selectors, from 1 to 8,160. It replaces one that is
+ * held, which is freed. W16_BAD_SIZE, W16_NO_MEMORY: the struct stays as it was. */
+uint8_t w16_new(w16 *machine, uint32_t memory, uint32_t selectors);
+
+/* Frees the machine, if one is held: freeing twice does no harm. */
+void w16_free(w16 *machine);
+
+/* The global heap. Every handle that is answered is 0 where the call is refused. */
+
+/* A new object of at most 65,536 bytes. */
+uint8_t w16_global_alloc(w16 *machine, uint16_t flags, uint32_t size, uint16_t *handle);
+/* Frees an object: 0, or the handle where it is bad or the object locked. */
+uint8_t w16_global_free(w16 *machine, uint16_t handle, uint16_t *left);
+/* One lock more: a far pointer to the first byte, the selector in its high word; or 0. */
+uint8_t w16_global_lock(w16 *machine, uint16_t handle, uint32_t *pointer);
+/* One lock less: 1 where locks are left, else 0. */
+uint8_t w16_global_unlock(w16 *machine, uint16_t handle, uint16_t *left);
+/* Discards and moves objects until a hole is as long as it can be: the longest hole's bytes. A size of 0 only asks what that could be. */
+uint8_t w16_global_compact(w16 *machine, uint32_t size, uint32_t *longest);
+/* Another size in bytes; with 0x0080 in the flags another kind. */
+uint8_t w16_global_realloc(w16 *machine, uint16_t handle, uint32_t size, uint16_t flags, uint16_t *same);
+/* Takes the bytes of a discardable object that isn't locked. */
+uint8_t w16_global_discard(w16 *machine, uint16_t handle, uint16_t *same);
+/* A discardable object with bytes becomes the last to be discarded, or the first. */
+uint8_t w16_global_lru_newest(w16 *machine, uint16_t handle, uint16_t *same);
+uint8_t w16_global_lru_oldest(w16 *machine, uint16_t handle, uint16_t *same);
+/* The size in bytes, or 0. */
+uint8_t w16_global_size(w16 *machine, uint16_t handle, uint32_t *size);
+/* Flags, and the lock count in the low byte; or 0. */
+uint8_t w16_global_flags(w16 *machine, uint16_t handle, uint16_t *flags);
+/* The selector in the high word and its object's handle in the low one, or 0. */
+uint8_t w16_global_handle(w16 *machine, uint16_t selector, uint32_t *both);
+
+/* Selectors and far memory. A fault leaves all as it was. */
+
+/* The address of the selector's object in the machine's memory, or 0. */
+uint8_t w16_get_selector_base(w16 *machine, uint16_t selector, uint32_t *base);
+/* The offset of its last byte, or 0. */
+uint8_t w16_get_selector_limit(w16 *machine, uint16_t selector, uint32_t *limit);
+/* So many bytes from a far pointer on; W16_BAD_SIZE for more than 1,024. */
+uint8_t w16_read(w16 *machine, uint32_t pointer, uint8_t *into, size_t count);
+/* So many bytes to a far pointer. */
+uint8_t w16_write(w16 *machine, uint32_t pointer, const uint8_t *bytes, size_t count);
+/* So many times the same byte to a far pointer; W16_BAD_SIZE for more than 65,536. */
+uint8_t w16_fill(w16 *machine, uint32_t pointer, uint32_t count, uint8_t byte);
+
+/* The heap as it stands. */
+
+/* A part of it: an object's bytes, or a hole. */
+typedef struct w16_part {
+    uint32_t at;     /* its address */
+    uint32_t size;   /* its bytes */
+    uint16_t handle; /* 0 for a hole */
+    uint8_t kind;    /* 0 for a hole, 1 fixed, 2 moveable, 3 discardable */
+    uint8_t locks;   /* the lock count */
+} w16_part;
+
+/* The first part that begins at an address or above it; W16_END behind the last. A whole walk goes from 0 to each part's end:
+ *     for (at = 0; w16_walk_from(&machine, at, &part) == W16_DONE; at = part.at + part.size) */
+uint8_t w16_walk_from(w16 *machine, uint32_t from, w16_part *part);
+/* How many bytes the last w16_global_alloc, _realloc, _discard or _compact moved. Where it isn't 0, selectors have other bases. */
+uint8_t w16_moved(w16 *machine, uint32_t *bytes);
+
+/* Local heaps, in the segment that w16_ds names. Every name that is answered is 0 where the call is refused. */
+
+/* Begins a heap from start up to end in the selector's object, or in that of w16_ds where the selector is 0: 1, or 0. W16_NO_MEMORY: nothing began. */
+uint8_t w16_local_init(w16 *machine, uint16_t selector, uint16_t start, uint32_t end, uint16_t *begun);
+/* From now on the calls below act in the heap in this selector's object, which is looked up at each call. */
+uint8_t w16_ds(w16 *machine, uint16_t selector);
+/* A new object: a fixed one's near pointer, or another one's number. */
+uint8_t w16_local_alloc(w16 *machine, uint16_t flags, uint16_t size, uint16_t *name);
+/* Another size or kind: the name, which a fixed object that was moved has anew. */
+uint8_t w16_local_realloc(w16 *machine, uint16_t name, uint16_t size, uint16_t flags, uint16_t *now);
+/* Takes the bytes of a discardable object that isn't locked. */
+uint8_t w16_local_discard(w16 *machine, uint16_t name, uint16_t *same);
+/* Frees an object: 0, or the name where it is bad or the object locked. */
+uint8_t w16_local_free(w16 *machine, uint16_t name, uint16_t *left);
+/* One lock more: the near pointer, which is an offset in the segment; or 0. */
+uint8_t w16_local_lock(w16 *machine, uint16_t name, uint16_t *pointer);
+/* One lock less: 1 where locks are left, else 0. */
+uint8_t w16_local_unlock(w16 *machine, uint16_t name, uint16_t *left);
+/* The size in bytes, or 0. */
+uint8_t w16_local_size(w16 *machine, uint16_t name, uint16_t *size);
+/* Flags, and the lock count in the low byte; or 0. */
+uint8_t w16_local_flags(w16 *machine, uint16_t name, uint16_t *flags);
+/* The name of the object that begins at a near pointer. */
+uint8_t w16_local_handle(w16 *machine, uint16_t pointer, uint16_t *name);
+/* As w16_global_compact, inside the heap. */
+uint8_t w16_local_compact(w16 *machine, uint16_t size, uint16_t *longest);
+
+#ifdef __cplusplus
+}
+#endif
+
+#endif
