@@ -34,7 +34,11 @@ impl<H: HoleList> Arena<H> {
 }
 
 /// The oldest that a request about `h` may discard: not locked, and not `h` itself.
-fn first_eligible<H: HoleList>(blocks: &Blocks<H>, order: &Order, h: Option<u32>) -> Option<u32>
+fn first_eligible<H: HoleList>(
+    blocks: &Blocks<H>,
+    order: &Order<H::Alloc>,
+    h: Option<u32>,
+) -> Option<u32>
     requires { order.now.cap ≤ blocks.now.cap }
     ensures { MatchOption result
         (eligible blocks.now.blocks order.now.ids h ≡ [])

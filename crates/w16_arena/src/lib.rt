@@ -26,7 +26,7 @@ mod without_discard;
 
 pub use new_place::Placed;
 pub use requests::NoRoom;
-use std::alloc::{AllocError, Global};
+use std::alloc::{AllocError, Allocator};
 use std::marker::Model;
 use w16_blocks::Blocks;
 use w16_compact::GapRooms;
@@ -40,14 +40,14 @@ pub use without_discard::Compacted;
 #[derive(Drop)]
 pub struct Arena<H: HoleList> {
     /// By id.
-    pub(crate) entries: Vec<Option<Entry>>,
+    pub(crate) entries: Vec<Option<Entry>, H::Alloc>,
     pub(crate) blocks: Blocks<H>,
     /// The discardable objects with bytes.
-    pub(crate) order: Order,
+    pub(crate) order: Order<H::Alloc>,
     /// For the search of those to discard.
-    pub(crate) gap_rooms: GapRooms,
+    pub(crate) gap_rooms: GapRooms<H::Alloc>,
     /// What the last request discarded.
-    pub(crate) discarded: Vec<u32>,
+    pub(crate) discarded: Vec<u32, H::Alloc>,
 }
 
 impl<H: HoleList> Model for Arena<H> {
@@ -66,7 +66,7 @@ impl<H: HoleList> Arena<H> {
     /// No object yet, of ids below `cap`, between `lo` and `hi`, at multiples of the grain. `holes` have all of that as one hole. An error
     /// is that there was no memory.
     pub fn new(
-        alloc: Global,
+        alloc: H::Alloc,
         cap: u32,
         holes: H,
         lo: u32,
@@ -165,7 +165,7 @@ impl<H: HoleList> Arena<H> {
 }
 
 /// The entries of so many ids, where no object is yet.
-fn no_entries(alloc: Global, cap: u32) -> Result<Vec<Option<Entry>>, AllocError>
+fn no_entries<A: Allocator>(alloc: A, cap: u32) -> Result<Vec<Option<Entry>, A>, AllocError>
     ensures { IfOk result (λ entries. entries.items ≡ replicate cap None) }
 {
     vec![in alloc; None; cap as usize]

@@ -5,6 +5,7 @@ ghost use Rattle.w16_model.specs.OneObject.{after_modify};
 ghost use Rattle.w16_arena.specs.State.{Steps, holes_in, relisted};
 
 use crate::Arena;
+use std::alloc::Allocator;
 use w16_holes::HoleList;
 use w16_lru::Order;
 use w16_model::{Entry, Kind, Refusal};
@@ -26,9 +27,9 @@ impl<H: HoleList> Arena<H> {
         }
         let was = entry.kind.is_discardable();
         let is = kind.is_discardable();
-        let reveal_bytes = self.block(id).is_some();
+        let has_bytes = self.block(id).is_some();
         self.entries[id as usize] = Some(Entry { kind, ..entry });
-        relist(&mut self.order, id, was, is, reveal_bytes);
+        relist(&mut self.order, id, was, is, has_bytes);
         Ok(())
     }
 }
@@ -41,14 +42,14 @@ fn is_either_fixed(before: Kind, after: Kind) -> bool
 }
 
 /// The order of use once an id was, or wasn't, and is, or isn't, discardable.
-fn relist(order: &mut Order, id: u32, was: bool, is: bool, reveal_bytes: bool)
+fn relist<A: Allocator>(order: &mut Order<A>, id: u32, was: bool, is: bool, has_bytes: bool)
     requires { id < order.old.cap }
-    ensures { order.new ≡ record order.old { ids = relisted was is reveal_bytes id order.old.ids } }
+    ensures { order.new ≡ record order.old { ids = relisted was is has_bytes id order.old.ids } }
 {
     if was && is {
         return;
     }
-    if is && reveal_bytes {
+    if is && has_bytes {
         order.newest(id);
     } else {
         order.remove(id);

@@ -14,6 +14,7 @@ ghost use Rattle.w16_arena.specs.Asked.{SlidesTogether, Stands};
 use crate::Arena;
 use crate::new_place::{NOTHING, Placed, clear_if, insert, make_room};
 use crate::objects::hold;
+use std::alloc::Allocator;
 use w16_blocks::{Block, Blocks};
 use w16_compact::{GapRooms, room_after};
 use w16_holes::{HoleList, Holes};
@@ -132,8 +133,8 @@ impl<H: HoleList> Arena<H> {
 fn room_now<S: Space, H: Holes<S>>(
     blocks: &Blocks<H>,
     space: &S,
-    order: &Order,
-    gap_rooms: &mut GapRooms,
+    order: &Order<H::Alloc>,
+    gap_rooms: &mut GapRooms<H::Alloc>,
 ) -> u32
     requires kept { H.are_in (holes_of blocks.now) (S.bytes space.now) }
     requires ids { order.now.cap ≤ blocks.now.cap }
@@ -146,7 +147,7 @@ fn room_now<S: Space, H: Holes<S>>(
 }
 
 /// A new discardable object with bytes is the newest in the order of use; another isn't in it.
-fn list_new(order: &mut Order, id: u32, kind: Kind)
+fn list_new<A: Allocator>(order: &mut Order<A>, id: u32, kind: Kind)
     requires { id < order.old.cap }
     ensures { order.new ≡ record order.old { ids = if is_discardable kind then changes.newest id order.old.ids else order.old.ids } }
 {

@@ -17,7 +17,7 @@ mod runs;
 
 pub use by_address::ByAddress;
 pub use parts::Part;
-use std::alloc::{AllocError, Global};
+use std::alloc::AllocError;
 use std::marker::Model;
 use w16_holes::{HoleList, Holes, units_in, units_over};
 pub use w16_model::{Block, Hold, Span};
@@ -35,9 +35,9 @@ const NO_BLOCK: Block = Block {
 #[derive(Drop)]
 pub struct Blocks<H: HoleList> {
     /// By id, the block of no bytes where an id has none.
-    slots: Vec<Block>,
+    slots: Vec<Block, H::Alloc>,
     /// By unit of grain from `lo` on: one more than the id of the block that begins there, or 0.
-    begins: Vec<u32>,
+    begins: Vec<u32, H::Alloc>,
     /// The bytes that no block has.
     free: u32,
     /// How many blocks are pinned.
@@ -114,7 +114,7 @@ impl<H: HoleList> Blocks<H> {
     /// No blocks yet, between `lo` and `hi`, with ids below `cap`, at multiples of the grain, over holes of which all that is one. All the
     /// memory that the blocks ever have is taken here; fails where there is not enough.
     pub fn with_room(
-        alloc: Global,
+        alloc: H::Alloc,
         cap: u32,
         holes: H,
         lo: u32,

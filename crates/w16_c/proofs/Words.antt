@@ -17,7 +17,7 @@ use Rattle.std_heap.specs.contracts.Global as Heap
 use Rattle.std_heap.specs.contracts.GlobalAllocator.TheImpl.{ghosts, dict}
 use Rattle.std_heap.proofs.Global.TheLaws as heap
 use Rattle.w16_kernel.proofs.kernel.Kernel.TheLaws as lots
-use Rattle.w16_c.specs.Ownership.{machine_row, held_owns}
+use Rattle.w16_c.specs.Ownership.{clones, machine_row, held_owns}
 use Rattle.w16_store.specs.contracts.memory.MemStore as store
 use Rattle.w16_store.proofs.memory.MemStore.TheLaws as store_laws
 use Rattle.w16_store.specs.contracts.memory.MemStoreStore.TheImpl as stores
@@ -47,7 +47,7 @@ module _ {M : Type 1} {𝓤 : Ura M} {𝓛 : Logic 𝓤} {K : Type 0} {Γ : List
 
 -- the box at this machine, under the allocator `Global`
 abbrev pub E : Bx
-E = record { row = machine_row; laws = lots.the_row_laws store.the_row stores.ghosts store_laws.the_row_laws; al = record { row = Heap.the_row; laws = heap.the_row_laws; g = ghosts; d = dict; drops = impl [] tnil dnil } }
+E = record { row = machine_row; laws = lots.the_row_laws store.the_row Heap.the_row stores.ghosts ghosts clones store_laws.the_row_laws heap.the_row_laws; al = record { row = Heap.the_row; laws = heap.the_row_laws; g = ghosts; d = dict; drops = impl [] tnil dnil } }
 
 abbrev pub FromParts : Slot 0
 FromParts = plain (λ _. Parts.the_row machine_row Heap.the_row ghosts)

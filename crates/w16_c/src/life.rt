@@ -46,6 +46,7 @@ fn made(alloc: Global, memory: u32, selectors: u32) -> Result<Box<Kernel<MemStor
 pub extern "C" fn w16_new(alloc: Global, held: &mut Held, memory: u32, selectors: u32) -> u8
     ensures done { result ≡ DONE → (held.new.is_held ≡ true) × (held.new.world ≡ empty_world memory selectors [] 0) }
     ensures size { result ≡ BAD_SIZE → IsMemorySize memory × IsSelectorCount selectors → ⊥ }
+    ensures fits { (result ≡ BAD_SIZE) ⊎ (IsMemorySize memory × IsSelectorCount selectors) }
     ensures refused { (result ≡ DONE) ⊎ (held.new ≡ held.old) }
     ensures one { (result ≡ DONE) ⊎ (result ≡ BAD_SIZE) ⊎ (result ≡ NO_MEMORY) }
 {

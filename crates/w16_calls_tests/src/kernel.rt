@@ -1,6 +1,7 @@
 //! The machine's calls, as tables of calls with the answers that were worked out by hand.
 
 mod bench;
+mod refusals;
 mod scripts;
 
 use bench::{Bench, Step, Told};
@@ -23,7 +24,7 @@ fn first_wrong(
     alloc: Global,
     script: &Script,
 ) -> Result<Option<usize>, AllocError> {
-    let mut bench = Bench::new(rt, alloc, script.memory)?;
+    let mut bench = Bench::new(rt, alloc, alloc, script.memory)?;
     Ok(bench.first_wrong(script.lines))
 }
 

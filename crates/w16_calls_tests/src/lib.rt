@@ -12,6 +12,8 @@ mod local;
 #[cfg(test)]
 mod options;
 #[cfg(test)]
+mod refusals;
+#[cfg(test)]
 mod rows;
 #[cfg(test)]
 mod script;

@@ -5,6 +5,7 @@ ghost use Rattle.std.specs.Prelude.{All};
 ghost use Rattle.w16_kernel.specs.Runs.{IsCall};
 
 mod hosts;
+mod refusals;
 mod table;
 
 use arrayvec::ArrayVec;

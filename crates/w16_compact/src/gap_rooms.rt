@@ -10,7 +10,7 @@ ghost use Rattle.w16_compact.specs.Told.{AreTold};
 
 use crate::reach::{Reached, is_about, is_pinned};
 use crate::slide::reveal_order;
-use std::alloc::{AllocError, Global};
+use std::alloc::{AllocError, Allocator, Global};
 use std::marker::Model;
 use w16_blocks::Blocks;
 use w16_holes::{HoleList, Holes};
@@ -18,15 +18,15 @@ use w16_region::Space;
 
 /// Memory for the search of those to discard, for the ids below a number. Whatever it holds, each search fills it anew.
 #[derive(Drop)]
-pub struct GapRooms {
+pub struct GapRooms<A: Allocator = Global> {
     /// By id, in which gap its loose block lies. A gap has the id of the pinned block before it as its number, and the lowest one the
     /// number of ids.
-    pub(crate) gap_of: Vec<u32>,
+    pub(crate) gap_of: Vec<u32, A>,
     /// By a gap's number, its room.
-    pub(crate) rooms: Vec<u32>,
+    pub(crate) rooms: Vec<u32, A>,
 }
 
-impl Model for GapRooms {
+impl<A: Allocator> Model for GapRooms<A> {
     ghost use Rattle.std.specs.Prelude.{◌≡◌, ◌+◌, ℕ, vec_len};
 
     ghost Value = { ℕ };
@@ -36,9 +36,11 @@ impl Model for GapRooms {
     ghost invariant = { λ t. vec_len t.rooms ≡ vec_len t.gap_of + 1 };
 }
 
-impl GapRooms {
+impl<A: Allocator> GapRooms<A> {
     /// Takes all memory of a table for the ids below `cap`. An error is that there was none.
-    pub fn with_room(alloc: Global, cap: u32) -> Result<GapRooms, AllocError>
+    pub fn with_room(alloc: A, cap: u32) -> Result<GapRooms<A>, AllocError>
+    where
+        A: Copy,
         ensures { IfOk result (λ made. made ≡ cap) }
     {
         let gap_of = vec![in alloc; 0; cap as usize]?;

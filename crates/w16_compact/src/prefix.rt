@@ -18,8 +18,8 @@ use w16_region::Space;
 pub fn least_prefix<S: Space, H: Holes<S>>(
     blocks: &Blocks<H>,
     space: &S,
-    order: &Order,
-    table: &mut GapRooms,
+    order: &Order<H::Alloc>,
+    table: &mut GapRooms<H::Alloc>,
     h: Option<u32>,
     n: u32,
 ) -> Option<usize>
@@ -53,8 +53,8 @@ pub fn least_prefix<S: Space, H: Holes<S>>(
 pub fn room_after<S: Space, H: Holes<S>>(
     blocks: &Blocks<H>,
     space: &S,
-    order: &Order,
-    table: &mut GapRooms,
+    order: &Order<H::Alloc>,
+    table: &mut GapRooms<H::Alloc>,
     h: Option<u32>,
     k: usize,
 ) -> u32
@@ -92,7 +92,7 @@ struct Found {
 fn search<S: Space, H: Holes<S>>(
     blocks: &Blocks<H>,
     space: &S,
-    order: &Order,
+    order: &Order<H::Alloc>,
     gap_of: &mut [u32],
     rooms: &mut [u32],
     h: Option<u32>,

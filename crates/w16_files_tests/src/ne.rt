@@ -3,13 +3,14 @@ use std::alloc::{AllocError, Global};
 use w16_ne::{Module, NeFault, read_module};
 use w16_store::MemStore;
 
-mod answers;
+pub mod answers;
 mod mutants;
 mod samples;
+mod shared_texts;
 mod vectors;
 
 /// What is read of a file with these bytes.
-fn read(alloc: Global, bytes: &[u8]) -> Result<Module, NeFault> {
+pub fn read(alloc: Global, bytes: &[u8]) -> Result<Module, NeFault> {
     let mut store = MemStore::new(alloc);
     store.add(b"FILE", bytes)?;
     read_module(alloc, &mut store, b"file")

@@ -1,5 +1,5 @@
 -- A far access by descriptors is one by objects.
-use Rattle.std.proofs.Common.{◌≡◌, ℕ, ◌+◌, ◌-◌, ◌*◌, ◌/◌, ◌<◌, ◌≤◌, ◌⊎◌, ◌==◌, inl, inr, Bool, true, false, if◌then◌else◌, not, ◌&&◌, nat_lt, List, length, get_or, Option, Some, None, Result, Ok, Err, option_map, is_some, unwrap_or, refl, sym, ap, ◌∙◌, subst, arith, min, IfErr, OnOk, IfSome, ltb-false, ltb-true}
+use Rattle.std.proofs.Common.{◌≡◌, ℕ, ◌+◌, ◌-◌, ◌*◌, ◌/◌, ◌<◌, ◌≤◌, ◌⊎◌, ◌==◌, inl, inr, Bool, true, false, if◌then◌else◌, not, ◌&&◌, nat_lt, List, length, get_or, Option, Some, None, Result, Ok, Err, option_map, is_some, unwrap_or, refl, sym, ap, ◌∙◌, subst, arith, min, IfErr, IsErrAnd, OnOk, IfSome, ltb-false, ltb-true}
 use Rattle.std.specs.FinMap as finmap
 use Rattle.std.proofs.lemmas.Bool.{false≢true}
 use Rattle.w16_model.specs.declared.Attributes.{Attributes}
@@ -25,6 +25,11 @@ use Rattle.w16_global.specs.Access.{access_fault}
 use Rattle.w16_global.specs.Parts.{Holding}
 use Rattle.w16_global.specs.Joined.{handles_of, descriptor_for, kind_in, AreJoined}
 use Rattle.w16_global.proofs.Joined.{attributes_at}
+
+-- what holds of a fault holds of the one that is handed on
+pub handed_on : {T E : Type 0} (P : E → Type 0) (r : Result T E) (e : E) → IsErrAnd r (λ f. f ≡ e) → P e → IfErr r P
+handed_on P (Ok x) e h p = tt
+handed_on P (Err f) e h p = subst P (sym h) p
 
 -- Where an object with bytes stands.
 pub record Stands (heap : Heap) (place : ℕ) (bytes : List ℕ) : Type 0 where

@@ -13,6 +13,7 @@ ghost use Rattle.w16_region.specs.Bytes.{counted};
 ghost use Rattle.w16_global.specs.Joined.{zeroed};
 
 use crate::global::Global16;
+use std::alloc::Allocator;
 use w16_model::names::{dword_of, handle_of, selector_of, slot_of};
 use w16_model::{
     Attributes, Entry, GMEM_DDESHARE, GMEM_DISCARDABLE, GMEM_DISCARDED, GMEM_MOVEABLE,
@@ -20,7 +21,7 @@ use w16_model::{
     Refusal, RoomOptions, bit_if, has_flag,
 };
 
-impl Global16 {
+impl<A: Allocator + Copy> Global16<A> {
     /// The slot of the object whose handle this is, exactly: a fixed object's handle is its selector, any other's the number below it
     /// (GlobalAlloc). None where no object has the handle.
     pub fn slot_of_handle(&self, handle: u16) -> Option<u16>

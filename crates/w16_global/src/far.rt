@@ -8,10 +8,11 @@ ghost use Rattle.w16_region.specs.Bytes.{counted};
 ghost use Rattle.w16_global.specs.Access.{access_fault};
 
 use crate::global::Global16;
+use std::alloc::Allocator;
 use w16_model::FarFault;
 use w16_model::names::slot_of;
 
-impl Global16 {
+impl<A: Allocator + Copy> Global16<A> {
     /// The slot of the object that an access to `n` bytes reaches, or its first fault.
     fn reach(&self, selector: u16, offset: u16, n: usize, write: bool) -> Result<u16, FarFault>
         ensures ok { IfOk result (λ slot. (slot ≡ far_slot self.now.handles selector) × (access_fault self.now.handles write selector offset n ≡ None)) }

@@ -6,11 +6,12 @@ ghost use Rattle.w16_selectors.specs.Descriptors.{descriptor_at};
 ghost use Rattle.w16_global.specs.Joined.{followed, forgotten};
 
 use crate::objects::Objects;
+use std::alloc::Allocator;
 use w16_model::{Block, Span};
 use w16_selectors::Selectors;
 
 /// The lowest block from an address on that begins below another.
-fn next_within(objects: &Objects, from: u32, to: u32) -> Option<Block>
+fn next_within<A: Allocator + Copy>(objects: &Objects<A>, from: u32, to: u32) -> Option<Block>
     ensures inside { IfSome result (λ b. (from ≤ b.at) × (b.at < to)) }
     ensures there { IfSome result (λ b. (finmap.get objects.now.heap.places b.id ≡ Some b.at) × (option_map length (bytes_at objects.now.heap b.id) ≡ Some b.size)) }
     ensures real { IfSome result (λ b. (0 < b.size) × (b.at + b.size < 2 ^ 32)) }
@@ -25,7 +26,7 @@ fn next_within(objects: &Objects, from: u32, to: u32) -> Option<Block>
 }
 
 /// Says of the selectors of objects that lost their bytes that these aren't present.
-pub(crate) fn forget(selectors: &mut Selectors, discarded: &[u32])
+pub(crate) fn forget<A: Allocator>(selectors: &mut Selectors<A>, discarded: &[u32])
     requires known { All (λ id. is_some (descriptor_at selectors.old id) ≡ true) discarded.now }
     requires few { length selectors.old ≤ 8192 }
     ensures forgotten { (slot : ℕ) → descriptor_at selectors.new slot ≡ forgotten discarded.now selectors.old slot }
@@ -37,7 +38,11 @@ pub(crate) fn forget(selectors: &mut Selectors, discarded: &[u32])
 }
 
 /// Gives the selector of each object that begins in a range of memory the object's address.
-pub(crate) fn follow(objects: &Objects, selectors: &mut Selectors, slid: Span)
+pub(crate) fn follow<A: Allocator + Copy>(
+    objects: &Objects<A>,
+    selectors: &mut Selectors<A>,
+    slid: Span,
+)
     requires known { (slot : ℕ) → is_some (object_at objects.now.heap slot) ≡ true → is_some (descriptor_at selectors.old slot) ≡ true }
     requires few { length selectors.old ≤ 8192 }
     ensures followed { (slot : ℕ) → descriptor_at selectors.new slot ≡ followed objects.now.heap slid.from slid.to selectors.old slot }

@@ -14,7 +14,7 @@ ghost use Rattle.w16_global.specs.Joined as joined;
 
 use crate::follow::{follow, forget};
 use crate::objects::Objects;
-use std::alloc::{AllocError, Global};
+use std::alloc::{AllocError, Allocator, Global};
 use std::marker::Model;
 use w16_model::{Attributes, FIRST_SLOT, GRAIN, Kind, MOST_SLOTS, Refusal, RoomOptions};
 use w16_selectors::{SelKind, Selectors};
@@ -22,16 +22,16 @@ use w16_selectors::{SelKind, Selectors};
 /// The global heap: objects that are named by handles, and whose bytes are reached through selectors. Its value is `Global`: the handles, and
 /// how many bytes of the memory were written so far.
 #[derive(Drop)]
-pub struct Global16 {
-    pub(crate) objects: Objects,
+pub struct Global16<A: Allocator + Copy = Global> {
+    pub(crate) objects: Objects<A>,
     /// By slot.
-    pub(crate) attributes: Vec<Option<Attributes>>,
-    pub(crate) selectors: Selectors,
+    pub(crate) attributes: Vec<Option<Attributes>, A>,
+    pub(crate) selectors: Selectors<A>,
     /// The bytes that the last allocation or compaction moved.
     pub(crate) moved: u32,
 }
 
-impl Model for Global16 {
+impl<A: Allocator + Copy> Model for Global16<A> {
     ghost use Rattle.w16_global.specs.Joined.{Global, global_code, handles_of, AreJoined};
 
     ghost Value = { Global };
@@ -43,10 +43,10 @@ impl Model for Global16 {
     ghost invariant = { λ g. AreJoined g.objects g.attributes.items g.selectors };
 }
 
-impl Global16 {
+impl<A: Allocator + Copy> Global16<A> {
     /// A heap over `memory` bytes, a multiple of 32, with so many selectors, at most 8,160, in which nothing is allocated. It takes all its
     /// memory here; an error is that there was none.
-    pub fn new(alloc: Global, memory: u32, slots: u32) -> Result<Global16, AllocError>
+    pub fn new(alloc: A, memory: u32, slots: u32) -> Result<Global16<A>, AllocError>
         requires grained { memory % GRAIN ≡ 0 }
         requires few { slots ≤ MOST_SLOTS }
         ensures { IfOk result (λ made. made ≡ record { handles = empty_handles memory slots; written = 0 }) }

@@ -8,25 +8,25 @@ ghost use Rattle.w16_region.specs.Bytes.{counted};
 ghost use Rattle.w16_global.specs.Lent.{Lends};
 
 use crate::global::Global16;
+use std::alloc::Allocator;
 use w16_region::{Space, Window};
 
 /// Something that is done to an object's bytes, and to a state beside them. A loan out of a value that has an invariant can't be followed past
 /// the call that lends it; so a caller hands its work in.
-pub trait Work {
-    /// What changes beside the bytes.
-    type State;
-
+///
+/// `State` is what changes beside the bytes.
+pub trait Work<State> {
     type Answer;
 
     /// When it may be done: the work, the state and the bytes.
-    ghost may: { Self → Self.State → List ℕ → Type 0 };
+    ghost may: { Self → State → List ℕ → Type 0 };
 
     /// What it does: the work, the state and the bytes before it, its answer, and the state and the bytes after it; and how many bytes counted
     /// as written before it, and after it. So what it writes is told also where it puts the old bytes back.
-    ghost does: { Self → Self.State → List ℕ → Self.Answer → Self.State → List ℕ → ℕ → ℕ → Type 0 };
+    ghost does: { Self → State → List ℕ → Self.Answer → State → List ℕ → ℕ → ℕ → Type 0 };
 
     /// Does it over a space of these bytes. There are as many after it as before it.
-    fn work<S: Space>(&self, state: &mut Self::State, space: &mut S) -> Self::Answer
+    fn work<S: Space>(&self, state: &mut State, space: &mut S) -> Self::Answer
         requires small { length (S.bytes space.old) < 2 ^ 32 }
         requires may { may self.now state.old (S.bytes space.old) }
         ensures long { length (S.bytes space.new) ≡ length (S.bytes space.old) }
@@ -35,7 +35,7 @@ pub trait Work {
 }
 
 /// Does a work over a slice, which is lent to it as a window whose count begins at 0.
-pub(crate) fn work_over<W: Work>(work: &W, state: &mut W::State, bytes: &mut [u8]) -> W::Answer
+pub(crate) fn work_over<T, W: Work<T>>(work: &W, state: &mut T, bytes: &mut [u8]) -> W::Answer
     requires small { length bytes.old < 2 ^ 32 }
     requires may { W.may work.now state.old bytes.old }
     ensures long { length bytes.new ≡ length bytes.old }
@@ -53,7 +53,7 @@ pub struct Segment {
     pub code: bool,
 }
 
-impl Global16 {
+impl<A: Allocator + Copy> Global16<A> {
     /// The object that a selector names, if it has bytes.
     pub fn segment(&self, selector: u16) -> Option<Segment>
         ensures found { IfSome result (λ s. (handles.slot_of_selector self.now.handles selector ≡ Some s.slot) × (option_map length (bytes_at self.now.handles.heap s.slot) ≡ Some s.size)) }
@@ -68,7 +68,7 @@ impl Global16 {
 
     /// Does a work on the bytes of a slot's object. Nothing else of the handles changes: no address, no order of use, no count of bytes moved.
     /// All bytes that are lent count as written.
-    pub fn with_bytes<W: Work>(&mut self, slot: u16, work: &W, state: &mut W::State) -> W::Answer
+    pub fn with_bytes<T, W: Work<T>>(&mut self, slot: u16, work: &W, state: &mut T) -> W::Answer
         requires { IsSomeAnd (bytes_at self.old.handles.heap slot) (λ bytes. W.may work.now state.old bytes) }
         ensures { (lent : Lends self.old.handles.heap slot (λ bytes after. (count : ℕ) × W.does work.now state.old bytes result state.new after 0 count))
             × (self.new ≡ record self.old {

@@ -15,7 +15,7 @@ ghost use Rattle.w16_global.specs.Lent.{Lends};
 ghost use Rattle.w16_global.specs.Parts.{HasPart};
 
 use crate::lend::{Work, work_over};
-use std::alloc::{AllocError, Global};
+use std::alloc::{AllocError, Allocator};
 use std::marker::Model;
 use w16_arena::{Arena, Compacted, Placed};
 use w16_holes::ThreadedHoles;
@@ -24,12 +24,12 @@ use w16_region::{Region, Space, reveal_bytes};
 
 /// The objects of the global heap: where they are, and their bytes. Its holes are kept in the free bytes.
 #[derive(Drop)]
-pub(crate) struct Objects {
-    arena: Arena<ThreadedHoles>,
-    memory: Region,
+pub(crate) struct Objects<A: Allocator + Copy> {
+    arena: Arena<ThreadedHoles<A>>,
+    memory: Region<A>,
 }
 
-impl Model for Objects {
+impl<A: Allocator + Copy> Model for Objects<A> {
     ghost use Rattle.w16_global.specs.Parts.{Holding, holding_code, holding_of, AreParts};
 
     ghost Value = { Holding };
@@ -41,9 +41,9 @@ impl Model for Objects {
     ghost invariant = { λ s. AreParts s.arena s.memory.bytes.items };
 }
 
-impl Objects {
+impl<A: Allocator + Copy> Objects<A> {
     /// No object yet, ids below `cap`, and so many bytes of memory, a multiple of the grain.
-    pub fn new(alloc: Global, cap: u32, size: u32) -> Result<Objects, AllocError>
+    pub fn new(alloc: A, cap: u32, size: u32) -> Result<Objects<A>, AllocError>
         requires few { cap ≤ 8192 }
         requires grained { size % GRAIN ≡ 0 }
         ensures { IfOk result (λ made. made ≡ record { cap = cap; heap = empty_heap 0 size GRAIN; discarded = []; written = 0 }) }
@@ -286,7 +286,7 @@ impl Objects {
     }
 
     /// Does a work on an object's bytes.
-    pub fn with_bytes<W: Work>(&mut self, id: u32, work: &W, state: &mut W::State) -> W::Answer
+    pub fn with_bytes<T, W: Work<T>>(&mut self, id: u32, work: &W, state: &mut T) -> W::Answer
         requires { IsSomeAnd (bytes_at self.old.heap id) (λ bytes. W.may work.now state.old bytes) }
         ensures { (lent : Lends self.old.heap id (λ bytes after. (count : ℕ) × W.does work.now state.old bytes result state.new after 0 count))
             × (self.new ≡ record self.old { heap = after_write self.old.heap id 0 lent.after; written = counted self.old.written (length lent.bytes) }) }

@@ -10,6 +10,7 @@ ghost use Rattle.w16_region.specs.Bytes.{counted};
 ghost use Rattle.w16_global.specs.Owned.{LacksBytes};
 
 use crate::global::Global16;
+use std::alloc::Allocator;
 use w16_model::names::handle_of;
 use w16_model::{Attributes, GRAIN, Kind, Owned, RoomOptions};
 
@@ -21,7 +22,7 @@ const REVIVAL_OPTIONS: RoomOptions = RoomOptions {
     may_move: false,
 };
 
-impl Global16 {
+impl<A: Allocator + Copy> Global16<A> {
     /// A new object in the lowest free slot, owned by a module: its handle, none where no slot is free. It has no bytes until it is revived,
     /// and then `owned.size` of them, above 0 and a multiple of 32.
     pub fn take_owned(&mut self, kind: Kind, owned: Owned) -> Option<u16>

@@ -7,11 +7,12 @@ ghost use Rattle.w16_global.specs.Joined.{zeroed_behind};
 
 use crate::calls::{alloc_options, rounded};
 use crate::global::Global16;
+use std::alloc::Allocator;
 use w16_model::{
     GMEM_DISCARDABLE, GMEM_MODIFY, GMEM_MOVEABLE, Kind, LARGEST_SIZE, RoomOptions, has_flag,
 };
 
-impl Global16 {
+impl<A: Allocator + Copy> Global16<A> {
     /// `GlobalReAlloc`: the handle, or 0 where it is bad, a module owns the object, or the request is refused, and then nothing has changed.
     ///
     /// With `GMEM_MODIFY` the size isn't looked at: an object that isn't fixed becomes discardable with `GMEM_DISCARDABLE`, else moveable. A

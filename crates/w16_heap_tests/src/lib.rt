@@ -9,3 +9,5 @@ mod blocks;
 mod compact;
 #[cfg(test)]
 mod model;
+#[cfg(test)]
+mod refusals;

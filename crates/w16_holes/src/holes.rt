@@ -3,10 +3,14 @@ ghost use Rattle.std.specs.Prelude.{◌≡◌, ◌+◌, ◌≤◌, List, ℕ, le
 ghost use Rattle.w16_model.specs.declared.Span.{Span};
 ghost use Rattle.w16_holes.specs.Holes.{Range, AreHoles, IsFree, IsUsed, IsPlace, IsPart, lowest, length_at, length_to, longest, taken, joined, AreSameIn, AreSameOutside};
 
+use std::alloc::Allocator;
 use w16_region::Space;
 
 /// What is known of holes apart from any space: their range, and the list of them by address.
 pub trait HoleList {
+    /// Where memory comes from that is kept beside them.
+    type Alloc: Allocator + Copy;
+
     /// The bounds of the range, and its grain.
     ghost range: { Self → Range };
 

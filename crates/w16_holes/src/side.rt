@@ -6,7 +6,7 @@ ghost use Rattle.w16_holes.specs.Cells.{IsApart, IsInside, IsBeginOf};
 ghost use Rattle.w16_tree.specs.Last.{last_below};
 
 use crate::{HoleList, Holes, units_in};
-use std::alloc::{AllocError, Global};
+use std::alloc::{AllocError, Allocator, Global};
 use std::marker::Model;
 use w16_region::Space;
 use w16_tree::Maxima;
@@ -39,7 +39,7 @@ pub(crate) struct Below {
 }
 
 /// The unit where the last hole begins that begins in a unit or below it, by the one below it.
-fn last_to(lengths: &Maxima, unit: usize, below: Option<usize>) -> Option<usize>
+fn last_to<A: Allocator>(lengths: &Maxima<A>, unit: usize, below: Option<usize>) -> Option<usize>
     requires inside { unit < length lengths.now }
     requires below { below ≡ last_below lengths.now unit }
     ensures { result ≡ last_below lengths.now (unit + 1) }
@@ -52,7 +52,12 @@ fn last_to(lengths: &Maxima, unit: usize, below: Option<usize>) -> Option<usize>
 }
 
 /// The unit where the hole begins that ends where a unit begins, or that unit where none does, by the last one that begins below it.
-fn begin_of(lengths: &Maxima, grain: u32, unit: usize, below: Option<usize>) -> usize
+fn begin_of<A: Allocator>(
+    lengths: &Maxima<A>,
+    grain: u32,
+    unit: usize,
+    below: Option<usize>,
+) -> usize
     requires some { 0 < grain }
     requires small { grain * unit < 2 ^ 32 }
     requires inside { unit ≤ length lengths.now }
@@ -71,14 +76,14 @@ fn begin_of(lengths: &Maxima, grain: u32, unit: usize, below: Option<usize>) -> 
 /// Holes beside the memory, of which no byte is read or written: the length of each hole lies in a
 /// tree of maxima, at the unit of grain where the hole begins.
 #[derive(Drop)]
-pub struct SideHoles {
-    lengths: Maxima,
+pub struct SideHoles<A: Allocator = Global> {
+    lengths: Maxima<A>,
     lo: u32,
     hi: u32,
     grain: u32,
 }
 
-impl Model for SideHoles {
+impl<A: Allocator> Model for SideHoles<A> {
     ghost use Rattle.w16_holes.specs.Holes.{Free};
     ghost use Rattle.w16_holes.specs.Cells.{spans, AreCells};
 
@@ -89,10 +94,10 @@ impl Model for SideHoles {
     ghost invariant = { λ s. AreCells (record { lo = s.lo; hi = s.hi; grain = s.grain }) s.lengths };
 }
 
-impl SideHoles {
+impl<A: Allocator> SideHoles<A> {
     /// The range [lo, hi), all free, at multiples of the grain. All the memory that it ever has is
     /// taken here; fails where there is not enough.
-    pub fn new(alloc: Global, lo: u32, hi: u32, grain: u32) -> Result<SideHoles, AllocError>
+    pub fn new(alloc: A, lo: u32, hi: u32, grain: u32) -> Result<SideHoles<A>, AllocError>
         requires bounds { lo ≤ hi }
         requires some { 0 < grain }
         requires grained { IsMultiple grain lo }
@@ -179,13 +184,15 @@ impl SideHoles {
     }
 }
 
-impl HoleList for SideHoles {
+impl<A: Allocator + Copy> HoleList for SideHoles<A> {
+    type Alloc = A;
+
     ghost range = { λ h. h.range };
 
     ghost holes = { λ h. h.holes };
 }
 
-impl<S: Space> Holes<S> for SideHoles {
+impl<S: Space, A: Allocator + Copy> Holes<S> for SideHoles<A> {
     ghost are_in = { λ hs bytes. Unit {0} };
 
     ghost stay = { λ hs old new kept same. tt };

@@ -6,7 +6,7 @@ ghost use Rattle.w16_holes.specs.Holes.{AreHoles, IsFree, IsPart, IsPlace, last_
 ghost use Rattle.w16_holes.specs.Thread.{AreThreaded, first_of, next_above, put_words, put_hole, put_link, threaded_stay};
 
 use crate::{HoleList, Holes, SideHoles};
-use std::alloc::{AllocError, Global};
+use std::alloc::{AllocError, Allocator, Global};
 use std::marker::Model;
 use w16_region::Region;
 
@@ -14,7 +14,7 @@ use w16_region::Region;
 const NO_HOLE: u32 = 0xffff_ffff;
 
 /// Writes a hole's two words: its size, and where the next one begins.
-fn set_words(space: &mut Region, at: u32, size: u32, next: u32)
+fn set_words<A: Allocator>(space: &mut Region<A>, at: u32, size: u32, next: u32)
     requires { at + 8 ≤ length space.old.bytes.items }
     ensures bytes { space.new.bytes.items ≡ put_words space.old.bytes.items at size next }
     ensures length { length space.new.bytes.items ≡ length space.old.bytes.items }
@@ -26,7 +26,7 @@ fn set_words(space: &mut Region, at: u32, size: u32, next: u32)
 
 /// Makes what lies between two places a hole before the hole `next`, if anything lies there, and
 /// tells which hole is the first from there on.
-fn set_hole(space: &mut Region, from: u32, to: u32, next: u32) -> u32
+fn set_hole<A: Allocator>(space: &mut Region<A>, from: u32, to: u32, next: u32) -> u32
     requires { from < to → from + 8 ≤ length space.old.bytes.items }
     ensures bytes { space.new.bytes.items ≡ put_hole space.old.bytes.items from to next }
     ensures first { result ≡ first_of next (add_span from to []) }
@@ -41,7 +41,7 @@ fn set_hole(space: &mut Region, from: u32, to: u32, next: u32) -> u32
 }
 
 /// Links a hole, if there is one, to another.
-fn link(space: &mut Region, hole: Option<u32>, next: u32)
+fn link<A: Allocator>(space: &mut Region<A>, hole: Option<u32>, next: u32)
     requires { IfSome hole (λ at. at + 8 ≤ length space.old.bytes.items) }
     ensures bytes { space.new.bytes.items ≡ put_link space.old.bytes.items hole next }
     ensures length { length space.new.bytes.items ≡ length space.old.bytes.items }
@@ -54,7 +54,12 @@ fn link(space: &mut Region, hole: Option<u32>, next: u32)
 
 /// Where the first hole begins that begins above a place, `NO_HOLE` where none does, by the last
 /// one that begins below it.
-fn next_above(side: &SideHoles, space: &Region, place: u32, below: Option<u32>) -> u32
+fn next_above<A: Allocator + Copy>(
+    side: &SideHoles<A>,
+    space: &Region<A>,
+    place: u32,
+    below: Option<u32>,
+) -> u32
     requires place { IsPlace side.now.range place }
     requires below { below ≡ last_before place side.now.holes }
     requires ordered { AreHoles side.now.range.lo side.now.range.hi side.now.holes }
@@ -71,7 +76,13 @@ fn next_above(side: &SideHoles, space: &Region, place: u32, below: Option<u32>) 
 }
 
 /// Where the hole begins that has a part, by the last one that begins below it.
-fn hole_of(side: &SideHoles, space: &Region, place: u32, n: u32, below: Option<u32>) -> Option<u32>
+fn hole_of<A: Allocator + Copy>(
+    side: &SideHoles<A>,
+    space: &Region<A>,
+    place: u32,
+    n: u32,
+    below: Option<u32>,
+) -> Option<u32>
     requires part { IsPart side.now.range place n }
     requires free { IsFree place (place + n) side.now.holes }
     requires below { below ≡ last_before place side.now.holes }
@@ -91,11 +102,11 @@ fn hole_of(side: &SideHoles, space: &Region, place: u32, n: u32, below: Option<u
 /// The thread is what is promised. Beside it lengths are kept as [`SideHoles`] keeps them, so that
 /// a hole, and the one below it, are found without a walk.
 #[derive(Drop)]
-pub struct ThreadedHoles {
-    side: SideHoles,
+pub struct ThreadedHoles<A: Allocator = Global> {
+    side: SideHoles<A>,
 }
 
-impl Model for ThreadedHoles {
+impl<A: Allocator> Model for ThreadedHoles<A> {
     ghost use Rattle.w16_holes.specs.Holes.{Free};
     ghost use Rattle.w16_holes.specs.Thread.{HasRoom};
 
@@ -106,18 +117,18 @@ impl Model for ThreadedHoles {
     ghost invariant = { λ s. HasRoom s.side.range };
 }
 
-impl ThreadedHoles {
+impl<A: Allocator> ThreadedHoles<A> {
     /// The range [lo, hi) of a memory, all free, at multiples of the grain, which is a multiple of
     /// 8: so each hole has room for its two words. Only they are written. What stands beside the
     /// memory is taken here, all that it ever has; fails where there is not enough, and then
     /// nothing is written.
     pub fn new(
-        alloc: Global,
-        space: &mut Region,
+        alloc: A,
+        space: &mut Region<A>,
         lo: u32,
         hi: u32,
         grain: u32,
-    ) -> Result<ThreadedHoles, AllocError>
+    ) -> Result<ThreadedHoles<A>, AllocError>
         requires bounds { lo ≤ hi }
         requires inside { hi ≤ length space.old.bytes.items }
         requires some { 0 < grain }
@@ -137,34 +148,36 @@ impl ThreadedHoles {
     }
 }
 
-impl HoleList for ThreadedHoles {
+impl<A: Allocator + Copy> HoleList for ThreadedHoles<A> {
+    type Alloc = A;
+
     ghost range = { λ h. h.range };
 
     ghost holes = { λ h. h.holes };
 }
 
-impl Holes<Region> for ThreadedHoles {
+impl<A: Allocator + Copy> Holes<Region<A>> for ThreadedHoles<A> {
     ghost are_in = { λ hs bytes. AreThreaded hs bytes };
 
     ghost stay = { λ hs old new kept same. threaded_stay hs old new kept same };
 
-    fn lowest(&self, space: &Region, n: u32) -> Option<u32> {
+    fn lowest(&self, space: &Region<A>, n: u32) -> Option<u32> {
         self.side.lowest(space, n)
     }
 
-    fn at(&self, space: &Region, place: u32) -> u32 {
+    fn at(&self, space: &Region<A>, place: u32) -> u32 {
         self.side.at(space, place)
     }
 
-    fn ending_at(&self, space: &Region, place: u32) -> u32 {
+    fn ending_at(&self, space: &Region<A>, place: u32) -> u32 {
         self.side.ending_at(space, place)
     }
 
-    fn longest(&self, space: &Region) -> u32 {
+    fn longest(&self, space: &Region<A>) -> u32 {
         self.side.longest(space)
     }
 
-    fn take(&mut self, space: &mut Region, place: u32, n: u32) {
+    fn take(&mut self, space: &mut Region<A>, place: u32, n: u32) {
         let below = self.side.below(place);
         if let Some(begin) = hole_of(&self.side, space, place, n, below.begin) {
             let end = begin + space.word_at(begin);
@@ -177,7 +190,7 @@ impl Holes<Region> for ThreadedHoles {
         }
     }
 
-    fn put(&mut self, space: &mut Region, place: u32, n: u32) {
+    fn put(&mut self, space: &mut Region<A>, place: u32, n: u32) {
         let below = self.side.below(place);
         let next = next_above(&self.side, space, place + n, below.begin);
         let end = place + n + self.side.at(space, place + n);

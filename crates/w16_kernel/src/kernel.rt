@@ -11,7 +11,7 @@ ghost use Rattle.w16_kernel.specs.Stops.{StopsEarly};
 
 use crate::call::{Answer, Call, MOST_READ, Reply};
 use crate::step::{step, sweep};
-use std::alloc::{AllocError, Global};
+use std::alloc::{AllocError, Allocator, Global};
 use std::marker::Model;
 use w16_global::Global16;
 use w16_local::LocalHeaps;
@@ -20,15 +20,15 @@ use w16_store::Store;
 
 /// The machine over a store of module files. Its value is the world that a script sees. No call loads a module yet, so none reads the store.
 #[derive(Drop)]
-pub struct Kernel<S: Store + Drop> {
-    alloc: Global,
-    global: Global16,
-    locals: LocalHeaps,
+pub struct Kernel<S: Store + Drop, A: Allocator + Copy = Global> {
+    alloc: A,
+    global: Global16<A>,
+    locals: LocalHeaps<A>,
     ds: u16,
     store: S,
 }
 
-impl<S: Store + Drop> Model for Kernel<S> {
+impl<S: Store + Drop, A: Allocator + Copy> Model for Kernel<S, A> {
     ghost use Rattle.w16_machine.specs.World.{World};
     ghost use Rattle.w16_machine.specs.Law.{IsWorld};
     ghost use Rattle.w16_kernel.specs.Codes.{world_code};
@@ -43,10 +43,10 @@ impl<S: Store + Drop> Model for Kernel<S> {
     ghost invariant = { λ k. IsWorld (world_of k.global.handles k.locals k.ds (S.files k.store) (S.failures k.store)) };
 }
 
-impl<S: Store + Drop> Kernel<S> {
+impl<S: Store + Drop, A: Allocator + Copy> Kernel<S, A> {
     /// A machine over a store, and over `memory` bytes, a multiple of 32, with so many selectors, at most 8,160, in which nothing is allocated.
     /// It takes its memory here, but for that of local heaps; an error is that there was none, and then the store is dropped.
-    pub fn new(alloc: Global, memory: u32, slots: u32, store: S) -> Result<Kernel<S>, AllocError>
+    pub fn new(alloc: A, memory: u32, slots: u32, store: S) -> Result<Kernel<S, A>, AllocError>
         requires grained { memory % GRAIN ≡ 0 }
         requires few { slots ≤ MOST_SLOTS }
         ensures { IfOk result (λ kernel. kernel ≡ empty_world memory slots (S.files store) (S.failures store)) }
@@ -107,7 +107,7 @@ impl<S: Store + Drop> Kernel<S> {
 
     /// Calls one after another, and their answers: a run of the machine, in which each call for room discards as few objects as it can.
     /// An error is that there was no memory, for the answers or for a `LocalInit`: the calls before it were done, and no other.
-    pub fn run_calls(&mut self, calls: &[Call<'_>]) -> Result<Vec<Answer>, AllocError>
+    pub fn run_calls(&mut self, calls: &[Call<'_>]) -> Result<Vec<Answer, A>, AllocError>
         requires { All IsCall calls.now }
         ensures run { IfOk result (λ answers. (events : List Event) × Run KernelStep self.old events self.new × (map (λ e. e.command) events ≡ map command_of calls.now)
             × (map (λ e. e.reply) events ≡ map answer_of answers.items)

@@ -11,7 +11,7 @@ ghost use Rattle.w16_kernel.specs.Runs.{command_of, reply_of, IsCall, IsReply, T
 
 use crate::call::{Call, MOST_READ, Reply};
 use crate::kernel::Kernel;
-use std::alloc::AllocError;
+use std::alloc::{AllocError, Allocator};
 use w16_model::Item;
 use w16_store::Store;
 
@@ -46,7 +46,7 @@ pub trait Machine {
         ensures whole { (items : List Item) × IsWorldWalk (world self.now) items };
 }
 
-impl<S: Store + Drop> Machine for Kernel<S> {
+impl<S: Store + Drop, A: Allocator + Copy> Machine for Kernel<S, A> {
     ghost world = { λ kernel. kernel };
 
     ghost steps = { KernelStep };

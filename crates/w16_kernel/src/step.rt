@@ -12,14 +12,18 @@ ghost use Rattle.w16_kernel.specs.Runs.{command_of, reply_of, IsCall, IsReply, T
 ghost use Rattle.w16_kernel.specs.Parts.{Unswept, may_take_bytes, surviving_heaps};
 
 use crate::call::{Call, MOST_READ, Reply};
-use std::alloc::AllocError;
+use std::alloc::{AllocError, Allocator};
 use w16_global::Global16;
 use w16_local::LocalHeaps;
 use w16_model::Item;
 use w16_model::names::{offset_in, selector_in};
 
 /// The reply to a far read of as many bytes as the room has, into which they are copied.
-fn read<'r>(global: &mut Global16, pointer: u32, room: &'r mut [u8]) -> Reply<'r>
+fn read<'r, A: Allocator + Copy>(
+    global: &mut Global16<A>,
+    pointer: u32,
+    room: &'r mut [u8],
+) -> Reply<'r>
     ensures gives { FarReplies global.old.handles (far.FarCommand.Read pointer (length room.old)) (reply_of result) global.new.handles }
     ensures short { length room.old ≤ MOST_READ → IsReply result }
 {
@@ -30,7 +34,11 @@ fn read<'r>(global: &mut Global16, pointer: u32, room: &'r mut [u8]) -> Reply<'r
 }
 
 /// The reply to a far write.
-fn write(global: &mut Global16, pointer: u32, bytes: &[u8]) -> Reply<'static>
+fn write<A: Allocator + Copy>(
+    global: &mut Global16<A>,
+    pointer: u32,
+    bytes: &[u8],
+) -> Reply<'static>
     ensures bytes { All (λ b. b < 256) bytes.now }
     ensures gives { FarReplies global.old.handles (far.FarCommand.Write pointer bytes.now) (reply_of result) global.new.handles }
 {
@@ -41,7 +49,12 @@ fn write(global: &mut Global16, pointer: u32, bytes: &[u8]) -> Reply<'static>
 }
 
 /// The reply to a far write of one byte many times.
-fn fill(global: &mut Global16, pointer: u32, count: u32, byte: u8) -> Reply<'static>
+fn fill<A: Allocator + Copy>(
+    global: &mut Global16<A>,
+    pointer: u32,
+    count: u32,
+    byte: u8,
+) -> Reply<'static>
     ensures { FarReplies global.old.handles (far.FarCommand.Fill pointer count byte) (reply_of result) global.new.handles }
 {
     match global.far_fill(selector_in(pointer), offset_in(pointer), count, byte) {
@@ -51,7 +64,7 @@ fn fill(global: &mut Global16, pointer: u32, count: u32, byte: u8) -> Reply<'sta
 }
 
 /// How many parts the heap's walk has.
-fn part_count(global: &Global16) -> u32
+fn part_count<A: Allocator + Copy>(global: &Global16<A>) -> u32
     ensures { (items : List Item) × IsWalk handle_of global.now.handles.heap items × (result ≡ length items) }
 {
     global.reveal_handles();
@@ -59,7 +72,7 @@ fn part_count(global: &Global16) -> u32
 }
 
 /// Takes away the local heaps whose segments a call may have taken bytes of.
-pub fn sweep(locals: &mut LocalHeaps, global: &Global16, call: &Call<'_>)
+pub fn sweep<A: Allocator + Copy>(locals: &mut LocalHeaps<A>, global: &Global16<A>, call: &Call<'_>)
     ensures { locals.new ≡ surviving_heaps (may_take_bytes (command_of call.now)) global.now.handles.heap locals.old }
 {
     if call.may_take_bytes() {
@@ -69,9 +82,9 @@ pub fn sweep(locals: &mut LocalHeaps, global: &Global16, call: &Call<'_>)
 
 /// One step, in whatever world has these parts: it changes them alone. Local heaps are swept behind it. Bytes that are read are put into
 /// the room. An error is that there was no memory for a new local heap, and nothing was done.
-pub fn step<'r>(
-    global: &mut Global16,
-    locals: &mut LocalHeaps,
+pub fn step<'r, A: Allocator + Copy>(
+    global: &mut Global16<A>,
+    locals: &mut LocalHeaps<A>,
     ds: &mut u16,
     call: &Call<'_>,
     room: &'r mut [u8; MOST_READ],

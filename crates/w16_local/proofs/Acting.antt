@@ -8,12 +8,14 @@ use Rattle.w16_model.specs.Far.{after_write}
 use Rattle.w16_model.specs.Handles.{Handles}
 use Rattle.w16_model.specs.Heap.{Heap, Object, bytes_at, object_at}
 use Rattle.w16_model.specs.Table.{Table, heap_in}
+use Rattle.w16_region.specs.Bytes.{counted}
+use Rattle.w16_global.specs.Joined.{Global}
 use Rattle.w16_global.specs.Lent.{Lends}
 use Rattle.w16_machine.specs.World.{World}
 use Rattle.w16_machine.specs.Local.{LocalHeap, Acts, IsLocalTable}
 use Rattle.w16_machine.proofs.LocalFacts.{object_of, put_all}
 use Rattle.w16_local.specs.declared.acts.ByteOp.{ByteOp}
-use Rattle.w16_local.specs.Acts.{Acted, ActedIn, Done, Idle, MayAct, MayActIn, MayActOver, Writes}
+use Rattle.w16_local.specs.Acts.{Acted, ActedIn, Done, Idle, IsLent, IsLentOnce, MayAct, MayActIn, MayActOver, Writes}
 use Rattle.w16_local.specs.Parts.{IsIn, with_parts}
 use Rattle.w16_local.proofs.Locals.{insert_nothing}
 
@@ -49,6 +51,11 @@ acted_in t s was is_local lent next next_is new new_is = record { before = t; by
 -- what may be done in the heap that DS names
 pub may_in : {handles : Handles} {tables : FinMap nat_cmp Table} {ds slot : ℕ} {t : Table} (is : IsIn handles tables ds slot t) (act : ByteOp) → MayAct act (heap_in t is.bytes) → MayActIn handles tables slot act
 may_in is act may = record { table = _; bytes = is.bytes; was = is.kept; had = is.had; may = (is.over.inside, may) }
+
+-- and the bytes that were lent for it are those of that heap
+pub lent_in : {old : Global} {tables : FinMap nat_cmp Table} {ds slot : ℕ} {t : Table} (is : IsIn old.handles tables ds slot t) (new : Global) → IsLent old slot new → IsLentOnce old tables ds new
+lent_in {old} {tables} {ds} is new lent = inr (subst (λ (m : Option LocalHeap). IsSomeAnd m (λ at. new.written ≡ counted old.written (length at.bytes))) (sym is.is_current)
+    (subst (λ (m : Option (List ℕ)). IsSomeAnd m (λ bytes. new.written ≡ counted old.written (length bytes))) is.had lent))
 
 -- and what that leaves: the same world, or one in which the heap acted
 module _ {handles : Handles} {tables : FinMap nat_cmp Table} {ds slot : ℕ} {t : Table} (is : IsIn handles tables ds slot t) {act : ByteOp} {answer : ℕ} {next : Handles} {new : FinMap nat_cmp Table} (a : ActedIn handles tables slot act answer next new) (rest : World) where

@@ -13,9 +13,10 @@ use Rattle.w16_region.specs.Bytes.{counted}
 use Rattle.w16_arena.specs.State.{IsSameRange}
 use Rattle.w16_global.specs.Joined.{Global}
 use Rattle.w16_machine.specs.declared.local.TheConstants.{LOCAL_GRAIN}
-use Rattle.w16_machine.specs.Local.{IsFreeEntry, IsLocalTable, name_at}
+use Rattle.w16_machine.specs.Local.{IsFreeEntry, IsLocalTable, current_heap, name_at}
 use Rattle.w16_local.specs.declared.acts.ByteOp.{ByteOp}
 use Rattle.w16_local.specs.declared.acts.ByteOp.TheVariants.{Alloc, Compact, Discard, Free, Realloc}
+use Rattle.w16_local.specs.Parts.{alone}
 
 -- a size that may be asked for
 abbrev pub IsSize : ℕ → Type 0
@@ -92,6 +93,6 @@ pub record ActedIn (handles : Handles) (tables : FinMap nat_cmp Table) (slot : �
 abbrev pub IsLent : Global → ℕ → Global → Type 0
 IsLent old slot new = IsSomeAnd (bytes_at old.handles.heap slot) (λ bytes. new.written ≡ counted old.written (length bytes))
 
--- What a local call writes of the global heap: nothing, and it is as it was; or a slot's bytes were lent once.
-abbrev pub IsLentOnce : Global → Global → Type 0
-IsLentOnce old new = (new ≡ old) ⊎ ((slot : ℕ) × IsLent old slot new)
+-- What a local call writes of the global heap: nothing, and it is as it was; or the bytes of the heap that DS names were lent once.
+abbrev pub IsLentOnce : Global → FinMap nat_cmp Table → ℕ → Global → Type 0
+IsLentOnce old tables ds new = (new ≡ old) ⊎ IsSomeAnd (current_heap (alone old.handles tables ds)) (λ at. new.written ≡ counted old.written (length at.bytes))

@@ -6,9 +6,10 @@ ghost use Rattle.w16_local.specs.Kept.{IsFull, IsLowest};
 
 use crate::LocalHeaps;
 use crate::acts::ByteOp;
+use std::alloc::Allocator;
 use w16_global::Global16;
 
-impl LocalHeaps {
+impl<A: Allocator + Copy> LocalHeaps<A> {
     /// The lowest free entry of a slot's heap.
     pub(crate) fn free_entry(&self, slot: u16) -> Option<u32>
         requires { IsSome (finmap.get self.now slot) }
@@ -22,7 +23,7 @@ impl LocalHeaps {
     }
 
     /// Does an act on a slot's heap. Only a pointer to the heap is moved for it.
-    pub(crate) fn act(&mut self, global: &mut Global16, slot: u16, act: ByteOp) -> u16
+    pub(crate) fn act(&mut self, global: &mut Global16<A>, slot: u16, act: ByteOp) -> u16
         requires { MayActIn global.old.handles self.old slot act }
         ensures acted { ActedIn global.old.handles self.old slot act result global.new.handles self.new }
         ensures lent { IsLent global.old slot global.new }

@@ -6,6 +6,7 @@ ghost use Rattle.w16_local.specs.declared.acts.ByteOp.TheVariants.{Alloc, Compac
 
 use crate::heap::LocalHeap;
 use crate::look::name_at;
+use std::alloc::Allocator;
 use w16_global::Work;
 use w16_model::{Kind, RoomOptions};
 use w16_region::{Space, reveal_bytes};
@@ -40,9 +41,7 @@ pub(crate) enum ByteOp {
     },
 }
 
-impl Work for ByteOp {
-    type State = LocalHeap;
-
+impl<A: Allocator + Copy> Work<LocalHeap<A>> for ByteOp {
     type Answer = u16;
 
     ghost use Rattle.w16_model.specs.Table.{heap_in};
@@ -52,12 +51,12 @@ impl Work for ByteOp {
 
     ghost does = { λ act table bytes answer left after count written. Acted act table bytes answer left after × Writes act (heap_in table bytes) (heap_in left after) count written };
 
-    fn work<S: Space>(&self, heap: &mut LocalHeap, space: &mut S) -> u16 {
+    fn work<S: Space>(&self, heap: &mut LocalHeap<A>, space: &mut S) -> u16 {
         heap.act(space, *self)
     }
 }
 
-impl LocalHeap {
+impl<A: Allocator + Copy> LocalHeap<A> {
     /// Does an act.
     fn act<S: Space>(&mut self, space: &mut S, act: ByteOp) -> u16
         requires { MayActOver act self.old (S.bytes space.old) }

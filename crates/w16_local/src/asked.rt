@@ -6,11 +6,12 @@ ghost use Rattle.w16_local.specs.Parts.{with_parts};
 
 use crate::LocalHeaps;
 use crate::look::{flags_of, handle_at, size_of};
+use std::alloc::Allocator;
 use w16_global::Global16;
 
-impl LocalHeaps {
+impl<A: Allocator + Copy> LocalHeaps<A> {
     /// `LocalSize`: the size of an object in bytes; 0 for a bad name, or one without bytes.
-    pub fn local_size(&self, global: &Global16, ds: u16, name: u16) -> u16
+    pub fn local_size(&self, global: &Global16<A>, ds: u16, name: u16) -> u16
         ensures { (rest : World) → result ≡ calls.asked_of (with_parts rest global.now.handles self.now ds) name calls.local_size }
     {
         let Some(named) = self.named(global, ds, name) else {
@@ -20,7 +21,7 @@ impl LocalHeaps {
     }
 
     /// `LocalFlags`: the lock count, with 0x0f00 for a discardable object and 0x4000 for one without bytes; 0 for a bad name.
-    pub fn local_flags(&self, global: &Global16, ds: u16, name: u16) -> u16
+    pub fn local_flags(&self, global: &Global16<A>, ds: u16, name: u16) -> u16
         ensures { (rest : World) → result ≡ calls.asked_of (with_parts rest global.now.handles self.now ds) name calls.local_flags }
     {
         let Some(named) = self.named(global, ds, name) else {
@@ -30,7 +31,7 @@ impl LocalHeaps {
     }
 
     /// `LocalHandle`: the name of the object that begins at a near pointer; 0 where none does.
-    pub fn local_handle(&self, global: &Global16, ds: u16, pointer: u16) -> u16
+    pub fn local_handle(&self, global: &Global16<A>, ds: u16, pointer: u16) -> u16
         ensures { (rest : World) → result ≡ calls.local_handle (with_parts rest global.now.handles self.now ds) pointer }
     {
         let Some(current) = self.current_heap(global, ds) else {

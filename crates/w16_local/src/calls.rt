@@ -11,18 +11,19 @@ use crate::current::{CurrentHeap, Named};
 use crate::flags::{local_kind, local_options, moveable_or_discardable, rounded_up};
 use crate::look::{may_discard, may_free};
 use crate::steps::TableOp;
+use std::alloc::Allocator;
 use w16_global::Global16;
 use w16_machine::local::{LMEM_MODIFY, LMEM_MOVEABLE};
 use w16_model::has_flag;
 
-impl LocalHeaps {
+impl<A: Allocator + Copy> LocalHeaps<A> {
     /// `LocalAlloc`: a new object's name, or 0: for a fixed object of size 0, where no entry is free, and where there is no room. The size
     /// is rounded up to 4 bytes; a moveable object of size 0 has no bytes. Others slide or are discarded for it as in the global heap, as few as
     /// make room.
-    pub fn local_alloc(&mut self, global: &mut Global16, ds: u16, flags: u16, size: u16) -> u16
+    pub fn local_alloc(&mut self, global: &mut Global16<A>, ds: u16, flags: u16, size: u16) -> u16
         ensures step { Calls global.old.handles self.old ds (LocalAlloc flags size) result global.new.handles self.new }
         ensures fewest { InWorlds global.old.handles self.old ds global.new.handles self.new (AllocsFewest flags size result) }
-        ensures written { IsLentOnce global.old global.new }
+        ensures written { IsLentOnce global.old self.old ds global.new }
     {
         let Some(CurrentHeap { slot, .. }) = self.current_heap(global, ds) else {
             return 0;
@@ -51,7 +52,7 @@ impl LocalHeaps {
     /// the flags say, whatever the size. A size of 0 with `LMEM_MOVEABLE` discards the object.
     pub fn local_realloc(
         &mut self,
-        global: &mut Global16,
+        global: &mut Global16<A>,
         ds: u16,
         name: u16,
         size: u16,
@@ -59,7 +60,7 @@ impl LocalHeaps {
     ) -> u16
         ensures step { Calls global.old.handles self.old ds (LocalReAlloc name size flags) result global.new.handles self.new }
         ensures fewest { InWorlds global.old.handles self.old ds global.new.handles self.new (ReallocsFewest name size flags result) }
-        ensures written { IsLentOnce global.old global.new }
+        ensures written { IsLentOnce global.old self.old ds global.new }
     {
         let Some(Named { slot, heap, id }) = self.named(global, ds, name) else {
             return 0;
@@ -87,17 +88,17 @@ impl LocalHeaps {
     }
 
     /// `LocalDiscard`: a discardable object that isn't locked gives up its bytes, if it has any. It answers the name, or 0.
-    pub fn local_discard(&mut self, global: &mut Global16, ds: u16, name: u16) -> u16
+    pub fn local_discard(&mut self, global: &mut Global16<A>, ds: u16, name: u16) -> u16
         ensures step { Calls global.old.handles self.old ds (LocalDiscard name) result global.new.handles self.new }
-        ensures written { IsLentOnce global.old global.new }
+        ensures written { IsLentOnce global.old self.old ds global.new }
     {
         self.local_realloc(global, ds, name, 0, LMEM_MOVEABLE)
     }
 
     /// `LocalFree`: 0, and the object is gone; or the name, where it is bad or the object locked.
-    pub fn local_free(&mut self, global: &mut Global16, ds: u16, name: u16) -> u16
+    pub fn local_free(&mut self, global: &mut Global16<A>, ds: u16, name: u16) -> u16
         ensures step { Calls global.old.handles self.old ds (LocalFree name) result global.new.handles self.new }
-        ensures written { IsLentOnce global.old global.new }
+        ensures written { IsLentOnce global.old self.old ds global.new }
     {
         let Some(Named { slot, heap, id }) = self.named(global, ds, name) else {
             return name;
@@ -111,10 +112,10 @@ impl LocalHeaps {
 
     /// `LocalCompact`: room is made for some bytes, as in the global heap. It answers the longest hole that there is then, or for a size of 0
     /// how long one could be, and then nothing changes. 0 where DS names no local heap.
-    pub fn local_compact(&mut self, global: &mut Global16, ds: u16, size: u16) -> u16
+    pub fn local_compact(&mut self, global: &mut Global16<A>, ds: u16, size: u16) -> u16
         ensures step { Calls global.old.handles self.old ds (LocalCompact size) result global.new.handles self.new }
         ensures fewest { InWorlds global.old.handles self.old ds global.new.handles self.new (CompactionsFewest size result) }
-        ensures written { IsLentOnce global.old global.new }
+        ensures written { IsLentOnce global.old self.old ds global.new }
     {
         let Some(CurrentHeap { slot, .. }) = self.current_heap(global, ds) else {
             return 0;

@@ -5,28 +5,33 @@ ghost use Rattle.w16_local.specs.Parts.{IsIn, IsNamed, alone};
 
 use crate::LocalHeaps;
 use crate::look::id_named;
+use std::alloc::Allocator;
 use w16_arena::Arena;
 use w16_global::Global16;
 use w16_holes::SideHoles;
 
 /// A local heap, and its segment's slot.
 #[derive(Drop)]
-pub(crate) struct CurrentHeap<'a> {
+pub(crate) struct CurrentHeap<'a, A: Allocator + Copy> {
     pub slot: u16,
-    pub heap: &'a Arena<SideHoles>,
+    pub heap: &'a Arena<SideHoles<A>>,
 }
 
 /// An object in a local heap.
 #[derive(Drop)]
-pub(crate) struct Named<'a> {
+pub(crate) struct Named<'a, A: Allocator + Copy> {
     pub slot: u16,
-    pub heap: &'a Arena<SideHoles>,
+    pub heap: &'a Arena<SideHoles<A>>,
     pub id: u32,
 }
 
-impl LocalHeaps {
+impl<A: Allocator + Copy> LocalHeaps<A> {
     /// The heap that DS names. One whose segment is shorter than its end counts as none.
-    pub(crate) fn current_heap<'a>(&'a self, global: &Global16, ds: u16) -> Option<CurrentHeap<'a>>
+    pub(crate) fn current_heap<'a>(
+        &'a self,
+        global: &Global16<A>,
+        ds: u16,
+    ) -> Option<CurrentHeap<'a, A>>
         ensures none { IfNone result (local.current_heap (alone global.now.handles self.now ds) ≡ None) }
         ensures some { IfSome result (λ c. IsIn global.now.handles self.now ds c.slot c.heap.now.table) }
     {
@@ -44,7 +49,12 @@ impl LocalHeaps {
     }
 
     /// The object that has a name in that heap.
-    pub(crate) fn named<'a>(&'a self, global: &Global16, ds: u16, name: u16) -> Option<Named<'a>>
+    pub(crate) fn named<'a>(
+        &'a self,
+        global: &Global16<A>,
+        ds: u16,
+        name: u16,
+    ) -> Option<Named<'a, A>>
         ensures none { IfNone result (local.object_named (alone global.now.handles self.now ds) name ≡ None) }
         ensures some { IfSome result (λ n. IsNamed global.now.handles self.now ds name n.slot n.heap.now.table n.id) }
     {

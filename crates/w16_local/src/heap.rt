@@ -9,7 +9,7 @@ ghost use Rattle.w16_local.specs.Kept.{IsFull, IsLowest};
 ghost use Rattle.w16_local.specs.Steps.{MayStep, Turns, after_step, outcome};
 
 use crate::steps::TableOp;
-use std::alloc::{AllocError, Global};
+use std::alloc::{AllocError, Allocator};
 use std::marker::Model;
 use w16_arena::Arena;
 use w16_holes::SideHoles;
@@ -19,13 +19,13 @@ use w16_tree::Maxima;
 
 /// A local heap. Its value is its table.
 #[derive(Drop)]
-pub(crate) struct LocalHeap {
-    pub(crate) arena: Arena<SideHoles>,
+pub(crate) struct LocalHeap<A: Allocator + Copy> {
+    pub(crate) arena: Arena<SideHoles<A>>,
     /// For each entry 1 where it is free, else 0: so the lowest is found in as many steps as their number has binary digits.
-    pub(crate) free: Maxima,
+    pub(crate) free: Maxima<A>,
 }
 
-impl Model for LocalHeap {
+impl<A: Allocator + Copy> Model for LocalHeap<A> {
     ghost use Rattle.w16_model.specs.Table.{Table};
     ghost use Rattle.w16_local.specs.Codes.{table_code};
     ghost use Rattle.w16_local.specs.Kept.{LocalHeapInvariant};
@@ -39,9 +39,9 @@ impl Model for LocalHeap {
     ghost invariant = { λ s. LocalHeapInvariant s.arena.table s.free };
 }
 
-impl LocalHeap {
+impl<A: Allocator + Copy> LocalHeap<A> {
     /// No object yet, over a range of at least a grain. An error is that there was no memory.
-    pub fn new(alloc: Global, range: Span) -> Result<LocalHeap, AllocError>
+    pub fn new(alloc: A, range: Span) -> Result<LocalHeap<A>, AllocError>
         requires low { 4 ≤ range.from }
         requires some { range.from < range.to }
         requires high { range.to ≤ 65536 }
@@ -62,7 +62,7 @@ impl LocalHeap {
     }
 
     /// Its objects, without which of its entries are free.
-    pub fn arena(&self) -> &Arena<SideHoles>
+    pub fn arena(&self) -> &Arena<SideHoles<A>>
         ensures { result.now.table ≡ self.now }
     {
         &self.arena
@@ -137,7 +137,7 @@ impl LocalHeap {
 }
 
 /// That all entries are free.
-fn all_free(alloc: Global) -> Result<Maxima, AllocError>
+fn all_free<A: Allocator>(alloc: A) -> Result<Maxima<A>, AllocError>
     ensures { IfOk result (λ free. (length free ≡ LOCAL_ENTRIES) × ((q : ℕ) → q < LOCAL_ENTRIES → slice_index_or free q 0 ≡ 1)) }
 {
     let mut free = Maxima::zeros(alloc, LOCAL_ENTRIES as usize)?;

@@ -8,10 +8,10 @@ ghost use Rattle.w16_machine.specs.LocalCalls.LocalCommand.{LocalInit};
 ghost use Rattle.w16_local.specs.Kept.{IsListed};
 ghost use Rattle.w16_local.specs.Parts.{Calls, MayBegin, alone};
 
-use crate::LocalHeaps;
 use crate::flags::rounded_up;
 use crate::heap::LocalHeap;
-use std::alloc::AllocError;
+use crate::{HeldHeap, LocalHeaps};
+use std::alloc::{AllocError, Allocator};
 use w16_global::Global16;
 use w16_machine::local::{LAST_LOCAL_END, LOCAL_GRAIN};
 use w16_model::Span;
@@ -23,14 +23,14 @@ struct Begun {
     range: Span,
 }
 
-impl LocalHeaps {
+impl<A: Allocator + Copy> LocalHeaps<A> {
     /// `LocalInit`: 1, and a heap without objects begins in the object of a selector, or of DS where that is 0; else 0. It lies from `start`,
     /// rounded up to 4, to `end`, rounded down to 4: 0 where the selector is bad, its object has no bytes, has a local heap already or is code,
     /// `start` is below 4, `end` over the object's size or 65,536, or nothing is between them. An error is that a heap may begin there, and
     /// there was no memory for it; then nothing has changed.
     pub fn local_init(
         &mut self,
-        global: &Global16,
+        global: &Global16<A>,
         ds: u16,
         selector: u16,
         start: u16,
@@ -50,7 +50,7 @@ impl LocalHeaps {
     /// Where a heap may begin, if one may.
     fn beginning(
         &self,
-        global: &Global16,
+        global: &Global16<A>,
         ds: u16,
         selector: u16,
         start: u16,
@@ -105,7 +105,7 @@ fn selector_or(ds: u16, selector: u16) -> u16
 }
 
 /// Grows the list to include a slot. No heap changes.
-fn reach(heaps: &mut Vec<Option<Box<LocalHeap>>>, slot: u16) -> Result<(), AllocError>
+fn reach<A: Allocator + Copy>(heaps: &mut Vec<HeldHeap<A>, A>, slot: u16) -> Result<(), AllocError>
     ensures same { (q : ℕ) → slice_index_or heaps.new.items q None ≡ slice_index_or heaps.old.items q None }
     ensures long { OnOk result (slot < length heaps.new.items) }
 {
@@ -116,7 +116,7 @@ fn reach(heaps: &mut Vec<Option<Box<LocalHeap>>>, slot: u16) -> Result<(), Alloc
 }
 
 /// Adds a slot to the list, unless it is listed.
-fn list_slot(live: &mut Vec<u16>, slot: u16) -> Result<(), AllocError>
+fn list_slot<A: Allocator>(live: &mut Vec<u16, A>, slot: u16) -> Result<(), AllocError>
     ensures kept { (q : ℕ) → IsListed live.old.items q → IsListed live.new.items q }
     ensures listed { OnOk result (IsListed live.new.items slot) }
 {

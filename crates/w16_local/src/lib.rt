@@ -22,25 +22,28 @@ mod steps;
 mod sweep;
 
 use crate::heap::LocalHeap;
-use std::alloc::{AllocError, Global};
+use std::alloc::{AllocError, Allocator, Global};
 use std::marker::Model;
 use w16_arena::Arena;
 use w16_global::Global16;
 use w16_holes::SideHoles;
 use w16_model::{FIRST_SLOT, MOST_SLOTS};
 
+/// A slot's heap, if it has one.
+pub(crate) type HeldHeap<A> = Option<Box<LocalHeap<A>, A>>;
+
 /// The local heaps in the objects of a global heap. Its value is their tables, by slot.
 #[derive(Drop)]
-pub struct LocalHeaps {
+pub struct LocalHeaps<A: Allocator + Copy = Global> {
     /// By slot.
-    heaps: Vec<Option<Box<LocalHeap>>>,
+    heaps: Vec<HeldHeap<A>, A>,
     /// The slots that have a heap, each once, and those that had one until `drop_heap` since the last sweep.
-    live: Vec<u16>,
+    live: Vec<u16, A>,
     /// For new heaps.
-    alloc: Global,
+    alloc: A,
 }
 
-impl Model for LocalHeaps {
+impl<A: Allocator + Copy> Model for LocalHeaps<A> {
     ghost use Rattle.std.specs.Ordering.{nat_cmp};
     ghost use Rattle.std.specs.FinMap.{FinMap};
     ghost use Rattle.w16_model.specs.Table.{Table};
@@ -56,9 +59,9 @@ impl Model for LocalHeaps {
     ghost invariant = { λ s. AreListed s.heaps.items s.live.items };
 }
 
-impl LocalHeaps {
+impl<A: Allocator + Copy> LocalHeaps<A> {
     /// No heap yet, for so many slots, at most 8,160. An error is that there was no memory.
-    pub fn new(alloc: Global, slots: u32) -> Result<LocalHeaps, AllocError>
+    pub fn new(alloc: A, slots: u32) -> Result<LocalHeaps<A>, AllocError>
         requires { slots ≤ MOST_SLOTS }
         ensures { IfOk result (λ made. made ≡ finmap.empty) }
     {
@@ -72,7 +75,7 @@ impl LocalHeaps {
 
     /// Takes the heap in the object away whose handle this is, exactly, if there is one. No byte changes. Where the object is freed, no
     /// handle is its own any more: `sweep` takes such a heap away.
-    pub fn drop_heap(&mut self, global: &Global16, handle: u16)
+    pub fn drop_heap(&mut self, global: &Global16<A>, handle: u16)
         ensures { MatchOption (slot_of_handle global.now.handles handle) (self.new ≡ self.old) (λ slot. self.new ≡ finmap.remove self.old slot) }
     {
         if let Some(slot) = global.slot_of_handle(handle) {
@@ -82,7 +85,7 @@ impl LocalHeaps {
 
     /// The offset behind the last byte of the heap in the object whose handle this is, exactly: at most 65,536. None where no object has the
     /// handle, or the object has no heap.
-    pub fn heap_end(&self, global: &Global16, handle: u16) -> Option<u32>
+    pub fn heap_end(&self, global: &Global16<A>, handle: u16) -> Option<u32>
         ensures { MatchOption (slot_of_handle global.now.handles handle) (result ≡ None) (λ slot. result ≡ option_map (λ (t : Table). t.hi) (finmap.get self.now slot)) }
     {
         let slot = global.slot_of_handle(handle)?;
@@ -101,7 +104,7 @@ impl LocalHeaps {
     }
 
     /// A slot's heap, if it has one.
-    pub(crate) fn heap_of(&self, slot: u16) -> Option<&Arena<SideHoles>>
+    pub(crate) fn heap_of(&self, slot: u16) -> Option<&Arena<SideHoles<A>>>
         ensures none { IfNone result (finmap.get self.now slot ≡ None) }
         ensures some { IfSome result (λ h. (finmap.get self.now slot ≡ Some h.now.table) × IsLocalTable h.now.table) }
     {
@@ -111,7 +114,7 @@ impl LocalHeaps {
     }
 
     /// A slot's heap with its tree of free entries.
-    pub(crate) fn local_heap(&self, slot: u16) -> Option<&LocalHeap>
+    pub(crate) fn local_heap(&self, slot: u16) -> Option<&LocalHeap<A>>
         ensures none { IfNone result (finmap.get self.now slot ≡ None) }
         ensures some { IfSome result (λ h. finmap.get self.now slot ≡ Some h.now) }
     {

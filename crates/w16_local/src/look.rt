@@ -9,6 +9,7 @@ ghost use Rattle.w16_machine.specs.Local.{IsLocalTable};
 ghost use Rattle.w16_machine.specs.LocalCalls as calls;
 ghost use Rattle.w16_local.specs.Parts.{IsOver};
 
+use std::alloc::Allocator;
 use w16_arena::Arena;
 use w16_holes::SideHoles;
 use w16_machine::local::{LMEM_DISCARDABLE, LMEM_DISCARDED};
@@ -16,7 +17,7 @@ use w16_model::bit_if;
 use w16_region::Window;
 
 /// The object that begins at a near pointer, if one does.
-pub(crate) fn id_at(heap: &Arena<SideHoles>, pointer: u16) -> Option<u32>
+pub(crate) fn id_at<A: Allocator + Copy>(heap: &Arena<SideHoles<A>>, pointer: u16) -> Option<u32>
     ensures { (bytes : List ℕ) → IsOver heap.now.table bytes → local.id_at (heap_in heap.now.table bytes) pointer ≡ result }
 {
     let at = pointer as u32;
@@ -27,7 +28,7 @@ pub(crate) fn id_at(heap: &Arena<SideHoles>, pointer: u16) -> Option<u32>
 }
 
 /// What an object is called: a fixed one by its near pointer, any other by its entry.
-pub(crate) fn name_at(heap: &Arena<SideHoles>, id: u32) -> Option<u16>
+pub(crate) fn name_at<A: Allocator + Copy>(heap: &Arena<SideHoles<A>>, id: u32) -> Option<u16>
     requires { IsLocalTable heap.now.table }
     ensures { (bytes : List ℕ) → IsOver heap.now.table bytes → local.name_at (heap_in heap.now.table bytes) id ≡ result }
 {
@@ -41,7 +42,7 @@ pub(crate) fn name_at(heap: &Arena<SideHoles>, id: u32) -> Option<u16>
 }
 
 /// Where the object that has a name may be, if there is one.
-fn candidate(heap: &Arena<SideHoles>, name: u16) -> Option<u32>
+fn candidate<A: Allocator + Copy>(heap: &Arena<SideHoles<A>>, name: u16) -> Option<u32>
     ensures { (bytes : List ℕ) → IsOver heap.now.table bytes → (id : ℕ) → local.name_at (heap_in heap.now.table bytes) id ≡ Some name → result ≡ Some id }
 {
     if name % 4 == 2 {
@@ -52,7 +53,7 @@ fn candidate(heap: &Arena<SideHoles>, name: u16) -> Option<u32>
 }
 
 /// The object that has a name, if there is one.
-pub(crate) fn id_named(heap: &Arena<SideHoles>, name: u16) -> Option<u32>
+pub(crate) fn id_named<A: Allocator + Copy>(heap: &Arena<SideHoles<A>>, name: u16) -> Option<u32>
     requires { IsLocalTable heap.now.table }
     ensures { (bytes : List ℕ) → IsOver heap.now.table bytes → local.id_named (heap_in heap.now.table bytes) name ≡ result }
 {
@@ -62,7 +63,7 @@ pub(crate) fn id_named(heap: &Arena<SideHoles>, name: u16) -> Option<u32>
 }
 
 /// The name of the object that begins at a near pointer, or 0.
-pub(crate) fn handle_at(heap: &Arena<SideHoles>, pointer: u16) -> u16
+pub(crate) fn handle_at<A: Allocator + Copy>(heap: &Arena<SideHoles<A>>, pointer: u16) -> u16
     requires { IsLocalTable heap.now.table }
     ensures { (bytes : List ℕ) → IsOver heap.now.table bytes → unwrap_or (calls.name_from (heap_in heap.now.table bytes) pointer) 0 ≡ result }
 {
@@ -73,7 +74,7 @@ pub(crate) fn handle_at(heap: &Arena<SideHoles>, pointer: u16) -> u16
 }
 
 /// An object's size in bytes, 0 for one without any.
-pub(crate) fn size_of(heap: &Arena<SideHoles>, id: u32) -> u16
+pub(crate) fn size_of<A: Allocator + Copy>(heap: &Arena<SideHoles<A>>, id: u32) -> u16
     requires { IsLocalTable heap.now.table }
     ensures { (bytes : List ℕ) → IsOver heap.now.table bytes → unwrap_or (option_map length (bytes_at (heap_in heap.now.table bytes) id)) 0 ≡ result }
 {
@@ -84,7 +85,7 @@ pub(crate) fn size_of(heap: &Arena<SideHoles>, id: u32) -> u16
 }
 
 /// An object's lock count, and bits that say whether it is discardable, and absent; 0 where there is none.
-pub(crate) fn flags_of(heap: &Arena<SideHoles>, id: u32) -> u16
+pub(crate) fn flags_of<A: Allocator + Copy>(heap: &Arena<SideHoles<A>>, id: u32) -> u16
     ensures { (bytes : List ℕ) → IsOver heap.now.table bytes → unwrap_or (option_map calls.local_flags_of (object_at (heap_in heap.now.table bytes) id)) 0 ≡ result }
 {
     let Some(entry) = heap.entry(id) else {
@@ -96,7 +97,7 @@ pub(crate) fn flags_of(heap: &Arena<SideHoles>, id: u32) -> u16
 }
 
 /// An object's near pointer, 0 for one without bytes.
-pub(crate) fn place_of(heap: &Arena<SideHoles>, id: u32) -> u16
+pub(crate) fn place_of<A: Allocator + Copy>(heap: &Arena<SideHoles<A>>, id: u32) -> u16
     requires { IsLocalTable heap.now.table }
     ensures { (bytes : List ℕ) → IsOver heap.now.table bytes → calls.near_pointer (heap_in heap.now.table bytes) id ≡ result }
 {
@@ -107,7 +108,7 @@ pub(crate) fn place_of(heap: &Arena<SideHoles>, id: u32) -> u16
 }
 
 /// An object's lock count, 0 where there is none.
-pub(crate) fn locks_of(heap: &Arena<SideHoles>, id: u32) -> u8
+pub(crate) fn locks_of<A: Allocator + Copy>(heap: &Arena<SideHoles<A>>, id: u32) -> u8
     ensures { (bytes : List ℕ) → IsOver heap.now.table bytes → locks_at (heap_in heap.now.table bytes) id ≡ result }
 {
     let Some(entry) = heap.entry(id) else {
@@ -117,7 +118,7 @@ pub(crate) fn locks_of(heap: &Arena<SideHoles>, id: u32) -> u8
 }
 
 /// Whether an object may be freed: one that isn't locked.
-pub(crate) fn may_free(heap: &Arena<SideHoles>, id: u32) -> bool
+pub(crate) fn may_free<A: Allocator + Copy>(heap: &Arena<SideHoles<A>>, id: u32) -> bool
     ensures { (bytes : List ℕ) → IsOver heap.now.table bytes → is_ok (after_free (heap_in heap.now.table bytes) id) ≡ result }
 {
     let Some(entry) = heap.entry(id) else {
@@ -127,7 +128,7 @@ pub(crate) fn may_free(heap: &Arena<SideHoles>, id: u32) -> bool
 }
 
 /// Whether an object may be discarded: a discardable one that isn't locked.
-pub(crate) fn may_discard(heap: &Arena<SideHoles>, id: u32) -> bool
+pub(crate) fn may_discard<A: Allocator + Copy>(heap: &Arena<SideHoles<A>>, id: u32) -> bool
     ensures { (bytes : List ℕ) → IsOver heap.now.table bytes → is_ok (after_discard (heap_in heap.now.table bytes) id) ≡ result }
 {
     let Some(entry) = heap.entry(id) else {
@@ -140,7 +141,7 @@ pub(crate) fn may_discard(heap: &Arena<SideHoles>, id: u32) -> bool
 }
 
 /// Whether an id has no bytes.
-fn is_absent(heap: &Arena<SideHoles>, id: u32) -> bool
+fn is_absent<A: Allocator + Copy>(heap: &Arena<SideHoles<A>>, id: u32) -> bool
     ensures { result ≡ not (is_some (block_with heap.now.table.blocks id)) }
 {
     heap.block(id).is_none()

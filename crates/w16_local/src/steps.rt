@@ -9,6 +9,7 @@ ghost use Rattle.w16_local.specs.Steps.{MayStep, Stepped, after_step, outcome, a
 use crate::LocalHeaps;
 use crate::current::Named;
 use crate::look::{locks_of, place_of};
+use std::alloc::Allocator;
 use w16_global::Global16;
 use w16_model::{Kind, Refusal};
 
@@ -22,10 +23,10 @@ pub(crate) enum TableOp {
     Modify(Kind),
 }
 
-impl LocalHeaps {
+impl<A: Allocator + Copy> LocalHeaps<A> {
     /// `LocalLock`: one lock more, and the near pointer; a fixed object has that with none. 0 for a bad name, an object without bytes, or
     /// a count of 255.
-    pub fn local_lock(&mut self, global: &Global16, ds: u16, name: u16) -> u16
+    pub fn local_lock(&mut self, global: &Global16<A>, ds: u16, name: u16) -> u16
         ensures { Calls global.now.handles self.old ds (LocalLock name) result global.now.handles self.new }
     {
         let Some(Named { slot, heap, id }) = self.named(global, ds, name) else {
@@ -37,7 +38,7 @@ impl LocalHeaps {
     }
 
     /// `LocalUnlock`: one lock less; 1 where locks are left, else 0, also for a fixed object and for a bad name.
-    pub fn local_unlock(&mut self, global: &Global16, ds: u16, name: u16) -> u16
+    pub fn local_unlock(&mut self, global: &Global16<A>, ds: u16, name: u16) -> u16
         ensures { Calls global.now.handles self.old ds (LocalUnlock name) result global.now.handles self.new }
     {
         let Some(Named { slot, heap, id }) = self.named(global, ds, name) else {

@@ -8,16 +8,16 @@ ghost use Rattle.w16_machine.specs.Local as local;
 ghost use Rattle.w16_local.specs.Kept.{AreListed, tables_of};
 ghost use Rattle.w16_local.specs.Swept.{AreSwept};
 
-use crate::LocalHeaps;
-use crate::heap::LocalHeap;
+use crate::{HeldHeap, LocalHeaps};
+use std::alloc::Allocator;
 use w16_global::Global16;
 use w16_model::names::selector_of;
 use w16_model::{FIRST_SLOT, MOST_SLOTS};
 
-impl LocalHeaps {
+impl<A: Allocator + Copy> LocalHeaps<A> {
     /// Takes away each heap whose object is freed, has no bytes, or was cut below the heap's end, by a look at each slot that has a heap. For
     /// after a call on the global heap. It takes no memory.
-    pub fn sweep(&mut self, global: &Global16)
+    pub fn sweep(&mut self, global: &Global16<A>)
         ensures { self.new ≡ local.left_in global.now.handles.heap self.old }
     {
         sweep_listed(&mut self.heaps, &mut self.live, global);
@@ -25,7 +25,11 @@ impl LocalHeaps {
 }
 
 /// The same of the heaps of the slots that are listed; those that have none any more are struck off the list.
-fn sweep_listed(heaps: &mut Vec<Option<Box<LocalHeap>>>, live: &mut Vec<u16>, global: &Global16)
+fn sweep_listed<A: Allocator + Copy>(
+    heaps: &mut Vec<HeldHeap<A>, A>,
+    live: &mut Vec<u16, A>,
+    global: &Global16<A>,
+)
     requires { AreListed heaps.old.items live.old.items }
     ensures tables { tables_of heaps.new.items (λ h. h.value) ≡ local.left_in global.now.handles.heap (tables_of heaps.old.items (λ h. h.value)) }
     ensures listed { AreListed heaps.new.items live.new.items }
@@ -38,11 +42,11 @@ fn sweep_listed(heaps: &mut Vec<Option<Box<LocalHeap>>>, live: &mut Vec<u16>, gl
 }
 
 /// Looks at the heap of the slot at a place of the list, where those of the places behind have been looked at.
-fn look_at(
-    heaps: &mut Vec<Option<Box<LocalHeap>>>,
-    live: &mut Vec<u16>,
+fn look_at<A: Allocator + Copy>(
+    heaps: &mut Vec<HeldHeap<A>, A>,
+    live: &mut Vec<u16, A>,
     i: usize,
-    global: &Global16,
+    global: &Global16<A>,
 )
     requires { i < length live.old.items }
     ensures { (old : FinMap nat_cmp Table) → AreSwept global.now.handles.heap (λ h. h.value) old (i + 1) heaps.old.items live.old.items
@@ -57,7 +61,7 @@ fn look_at(
 }
 
 /// Takes a slot's heap out of the list, if it has one.
-fn take_away(heaps: &mut Vec<Option<Box<LocalHeap>>>, slot: u16)
+fn take_away<A: Allocator + Copy>(heaps: &mut Vec<HeldHeap<A>, A>, slot: u16)
     ensures taken { slice_index_or heaps.new.items slot None ≡ None }
     ensures rest { (q : ℕ) → q ≢ slot → slice_index_or heaps.new.items q None ≡ slice_index_or heaps.old.items q None }
 {
@@ -67,7 +71,7 @@ fn take_away(heaps: &mut Vec<Option<Box<LocalHeap>>>, slot: u16)
 }
 
 /// Whether a slot has a heap, and its object still has the heap's range.
-fn has_range(heaps: &[Option<Box<LocalHeap>>], slot: u16, global: &Global16) -> bool
+fn has_range<A: Allocator + Copy>(heaps: &[HeldHeap<A>], slot: u16, global: &Global16<A>) -> bool
     ensures { result ≡ local.has_range global.now.handles.heap (tables_of heaps.now (λ h. h.value)) slot }
 {
     if slot as usize >= heaps.len() {
@@ -83,7 +87,7 @@ fn has_range(heaps: &[Option<Box<LocalHeap>>], slot: u16, global: &Global16) -> 
 }
 
 /// How many bytes a slot's object has, if it has any.
-fn size_in(global: &Global16, slot: u16) -> Option<u32>
+fn size_in<A: Allocator + Copy>(global: &Global16<A>, slot: u16) -> Option<u32>
     ensures { result ≡ option_map length (bytes_at global.now.handles.heap slot) }
 {
     global.reveal_handles();

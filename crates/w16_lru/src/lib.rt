@@ -12,7 +12,7 @@ ghost use Rattle.w16_lru.specs.Uses.{AreUses, at_end};
 mod oldest_first;
 
 pub use oldest_first::OldestFirst;
-use std::alloc::{AllocError, Global};
+use std::alloc::{AllocError, Allocator, Global};
 use std::marker::Model;
 
 /// The ends of an order.
@@ -27,18 +27,18 @@ pub enum End {
 /// They are linked in a ring by two tables, with a place for each id and one for `cap`, which stands
 /// between the newest and the oldest.
 #[derive(Drop)]
-pub struct Order {
+pub struct Order<A: Allocator = Global> {
     /// The successor of each. An id that is no member is linked to itself.
-    after: Vec<u32>,
+    after: Vec<u32, A>,
     /// The predecessor of each: where one table leads, the other leads back.
-    before: Vec<u32>,
+    before: Vec<u32, A>,
     /// The ids are below it.
     cap: u32,
     /// How many ids are members.
     members: usize,
 }
 
-impl Model for Order {
+impl<A: Allocator> Model for Order<A> {
     ghost use Rattle.w16_lru.specs.Uses.{Uses};
     ghost use Rattle.w16_lru.specs.Representation.{IsRing, ids_of, uses_of};
 
@@ -49,9 +49,11 @@ impl Model for Order {
     ghost invariant = { λ s. IsRing s.cap s.after.items s.before.items (ids_of s.cap s.after.items s.members) };
 }
 
-impl Order {
+impl<A: Allocator> Order<A> {
     /// No member yet, of ids below `cap`. An error is that there was no memory.
-    pub fn with_room(alloc: Global, cap: u32) -> Result<Order, AllocError>
+    pub fn with_room(alloc: A, cap: u32) -> Result<Order<A>, AllocError>
+    where
+        A: Copy,
         ensures { IfOk result (λ made. made ≡ record { cap = cap; ids = [] }) }
     {
         let after = each_alone(alloc, cap)?;
@@ -116,7 +118,7 @@ impl Order {
     }
 
     /// The members, the oldest first, each found from the one before.
-    pub fn oldest_first(&self) -> OldestFirst<'_>
+    pub fn oldest_first(&self) -> OldestFirst<'_, A>
         ensures order { result.order.now ≡ self.now }
         ensures left { result.left ≡ length self.now.ids }
         ensures uses { AreUses self.now }
@@ -177,7 +179,7 @@ impl Order {
 }
 
 /// A table of the numbers up to `cap`, each linked to itself.
-fn each_alone(alloc: Global, cap: u32) -> Result<Vec<u32>, AllocError>
+fn each_alone<A: Allocator>(alloc: A, cap: u32) -> Result<Vec<u32, A>, AllocError>
     ensures { IfOk result (λ links. links.items ≡ range_with_len 0 (cap + 1)) }
 {
     let mut links = Vec::with_capacity(alloc, cap as usize + 1)?;

@@ -3,18 +3,19 @@ ghost use Rattle.std.specs.Prelude.{◌≡◌, ◌-◌, ◌≤◌, length, drop,
 ghost use Rattle.std.specs.Iterator.{YieldsFirst, item_count};
 
 use crate::Order;
+use std::alloc::{Allocator, Global};
 
 /// The members of an order from one on, the oldest first.
 #[derive(Drop)]
-pub struct OldestFirst<'a> {
-    pub(crate) order: &'a Order,
+pub struct OldestFirst<'a, A: Allocator = Global> {
+    pub(crate) order: &'a Order<A>,
     /// The one that comes next, if one does.
     pub(crate) next: Option<u32>,
     /// How many come, with that one.
     pub(crate) left: usize,
 }
 
-impl<'a> Iterator for OldestFirst<'a> {
+impl<'a, A: Allocator> Iterator for OldestFirst<'a, A> {
     type Item = u32;
 
     ghost can_next = { λ s. let ids = s.order.now.ids in (s.left ≤ length ids) × (s.next ≡ slice_get ids (length ids - s.left)) };

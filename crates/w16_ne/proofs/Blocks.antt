@@ -1,11 +1,11 @@
 -- Reading blocks of resources until there is none, as a loop does.
-use Rattle.std.proofs.Common.{◌≡◌, ℕ, suc, ◌-◌, ◌+◌, ◌*◌, ◌≤◌, ◌<◌, true, false, ltb, eqb, List, Option, Some, None, [], ◌∷◌, ◌++◌, length, take, drop, Ok, Err, refl, sym, ap, ◌∙◌, arith}
+use Rattle.std.proofs.Common.{◌≡◌, ℕ, zero, suc, ◌-◌, ◌+◌, ◌*◌, ◌≤◌, ◌<◌, true, ltb, eqb, List, Option, Some, None, [], ◌∷◌, ◌++◌, length, take, drop, Ok, Err, refl, sym, ap, ◌∙◌, arith}
 use Rattle.std.proofs.lemmas.Bool.Decides.{nat_tests}
 use Rattle.std.proofs.lemmas.List.{append-nil}
 use Rattle.w16_ne.specs.declared.fault.NeFault.{NeFault}
 use Rattle.w16_ne.specs.declared.fault.NeFault.TheVariants as faults
 use Rattle.w16_ne.specs.declared.resource_blocks.Block.{Block}
-use Rattle.w16_ne.specs.Reading.{Reading, reaches, length_at, word_of}
+use Rattle.w16_ne.specs.Reading.{Reading, length_at, word_of}
 use Rattle.w16_ne.specs.Resources.{block_at, blocks_from, blocks_at}
 use Rattle.w16_ne.proofs.Each.{with_front, regroup}
 use Rattle.w16_ne.proofs.Until.{reads_ok, goes_past}
@@ -56,19 +56,9 @@ past_the_end (Some file) len at h le =
     let short : ltb (length file) (at + 2) ≡ true = grind (arith, nat_tests) in
     rw short refl
 
-pub reaches_all : (file : Option (List ℕ)) (len end : ℕ) → length_at file ≡ Ok len → end ≤ len → reaches file end ≡ Ok tt
-reaches_all None len end h le = cc
-reaches_all (Some file) len end h le =
-    let e : length file ≡ len = cc in
-    let inside : ltb (length file) end ≡ false = grind (arith, nat_tests) in
-    rw inside refl
-
-pub reaches_less : (file : Option (List ℕ)) (len end : ℕ) → length_at file ≡ Ok len → len < end → reaches file end ≡ Err faults.Truncated
-reaches_less None len end h lt = cc
-reaches_less (Some file) len end h lt =
-    let e : length file ≡ len = cc in
-    let past : ltb (length file) end ≡ true = grind (arith, nat_tests) in
-    rw past refl
+pub none_behind : (file : Option (List ℕ)) (len at : ℕ) → length_at file ≡ Ok len → len ≤ at → blocks_from file len at ≡ Err faults.Truncated
+none_behind file zero at h le = refl
+none_behind file (suc n) at h le = rw (past_the_end file (suc n) at h le) refl
 
 -- a block that is there ends before the file does
 pub block_ends : (file : Option (List ℕ)) (len at : ℕ) (b : Block) → length_at file ≡ Ok len → block_at file at ≡ Ok (Some b) → end_of b ≤ len

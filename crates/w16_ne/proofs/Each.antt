@@ -8,6 +8,10 @@ use Rattle.w16_ne.specs.Reading.{Reading, ◌>>=◌, each}
 abbrev pub with_front : {T : Type 0} → List T → Reading (List T) → Reading (List T)
 with_front front read = read >>= λ x. Ok (front ++ x)
 
+pub front_none : {T : Type 0} (read : Reading (List T)) → with_front [] read ≡ read
+front_none (Ok xs) = refl
+front_none (Err e) = refl
+
 pub regroup : {T : Type 0} (front : List T) (x : T) (read : Reading (List T)) → with_front front (read >>= λ xs. Ok (x ∷ xs)) ≡ with_front (front ++ x ∷ []) read
 regroup front x (Ok xs) = ap (λ ys. Ok ys) (simp append_assoc)
 regroup front x (Err e) = refl

@@ -1,9 +1,8 @@
 -- Blocks without resources add nothing.
-use Rattle.std.proofs.Common.{◌≡◌, ℕ, ◌+◌, Bool, true, false, cond, List, [], ◌∷◌, length, Option, Ok, Err, refl, sym, ap, ◌∙◌, arith, zero-add}
+use Rattle.std.proofs.Common.{◌≡◌, ℕ, ◌+◌, true, List, [], ◌∷◌, length, Option, refl, sym, ap, ◌∙◌, arith, zero-add}
 use Rattle.std.specs.Prelude.{nat_lt}
 use Rattle.std.proofs.lemmas.Bool.Decides.{nat_tests}
 use Rattle.std.proofs.lemmas.List.Sums.{sum_by-cons}
-use Rattle.w16_ne.specs.declared.fault.NeFault.{NeFault}
 use Rattle.w16_ne.specs.Reading.{Reading, ◌>>=◌}
 use Rattle.w16_ne.specs.Resources.{Label, Entry, Typed, filled, resource_count, are_placed, are_all_placed}
 
@@ -26,7 +25,3 @@ pub placed_filled : (file : Option (List ℕ)) (unit : ℕ) (ts : List Typed) �
 placed_filled file unit [] = refl
 placed_filled file unit ((k, []) ∷ ts) = ap (are_all_placed file unit) (left_out k ts) ∙ placed_filled file unit ts
 placed_filled file unit ((k, r ∷ rs) ∷ ts) = ap (are_all_placed file unit) (stays k r rs ts) ∙ ap (λ (rest : Reading (Unit {0})). are_placed file unit (r ∷ rs) >>= λ _. rest) (placed_filled file unit ts)
-
-pub unit_ok : (b : Bool) (fault : NeFault) (u v : ℕ) → ◌≡◌ {A = Reading ℕ} (Ok u) (cond b (Err fault) (Ok v)) → (b ≡ false) × (u ≡ v)
-unit_ok true fault u v h = cc
-unit_ok false fault u v h = (refl, (cc))

@@ -7,6 +7,7 @@ pub mod Listed
 pub mod Blocks
 pub mod Places
 pub mod Pieces
+pub mod Windows
 pub mod Filled
 pub mod Tables
 pub mod Texts

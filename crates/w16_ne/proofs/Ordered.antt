@@ -251,7 +251,3 @@ find_longer (e ∷ es) name long short = longer_by (is_named e.0 name) e name _ 
 
 pub none_longer : (names : List Entry) (name : List ℕ) → 255 < length name → AllByRecursion (λ (e : Entry). length e.0 ≤ 255) names → ordinal_in names name ≡ 0
 none_longer names name long all = ap (λ (o : Option Entry). unwrap_or (option_map (λ (e : Entry). e.1) o) 0) (find_longer names name long all)
-
-pub none_of_none : (names : List Entry) (name : List ℕ) → length names ≡ 0 → ordinal_in names name ≡ 0
-none_of_none [] name h = refl
-none_of_none (e ∷ es) name h = absurd (omega (arith, h))

@@ -1,4 +1,4 @@
--- A piece of a file has the same entries.
+-- A piece of a file has the same bytes and entries.
 use Rattle.std.proofs.Common.{◌≡◌, ℕ, ◌+◌, ◌-◌, ◌<◌, ◌≤◌, min, Bool, true, false, cond, ltb, eqb, List, length, take, drop, length-drop, Option, Some, None, Result, Ok, Err, refl, sym, ap, subst, ◌∙◌, arith}
 use Rattle.std.specs.Prelude.{slice_index}
 use Rattle.std.proofs.lemmas.Bool.Decides.{nat_tests}
@@ -6,7 +6,7 @@ use Rattle.std.proofs.lemmas.List.{length-take, take-take, take_min, drop-take, 
 use Rattle.w16_store.specs.declared.store.StoreFault.TheVariants as stores
 use Rattle.w16_ne.specs.declared.fault.NeFault.{NeFault}
 use Rattle.w16_ne.specs.declared.fault.NeFault.TheVariants as faults
-use Rattle.w16_ne.specs.Reading.{Reading, ◌>>=◌, Gives, Refuses, Tells, Refused, IsFailure, bytes_or, length_at, word_of}
+use Rattle.w16_ne.specs.Reading.{Reading, ◌>>=◌, Gives, Refuses, Tells, Refused, IsFailure, bytes_or, front_at, length_at, word_of}
 use Rattle.w16_ne.specs.Names.{name_at, piece_at}
 use Rattle.w16_ne.proofs.NamesFormat.{byte_here}
 
@@ -59,45 +59,45 @@ only_failure file before after faults.BadTable x some h = cc
 
 -- Pieces.
 
-abbrev piece : List ℕ → ℕ → List ℕ
-piece file pat = take 1024 (drop pat file)
+abbrev front : ℕ → List ℕ → ℕ → List ℕ
+front most file at = take most (drop at file)
 
-pub piece_is : (file : Option (List ℕ)) (len at count : ℕ) → length_at file ≡ Ok len → at < len → count ≡ min (len - at) 1024 → bytes_or faults.Truncated file at count ≡ piece_at file at
-piece_is None len at count h lt e = cc
-piece_is (Some file) len at count h lt e =
+pub front_is : (most : ℕ) (file : Option (List ℕ)) (len at count : ℕ) → length_at file ≡ Ok len → at < len → count ≡ min (len - at) most → bytes_or faults.Truncated file at count ≡ front_at most file at
+front_is most None len at count h lt e = cc
+front_is most (Some file) len at count h lt e =
     let whole : length file ≡ len = cc in
     let less : count ≤ len - at = grind arith in
     let inside : ltb (length file) (at + count) ≡ false = grind (arith, nat_tests) in
     let long : length (drop at file) ≡ len - at = length-drop at file ∙ ap (λ n. n - at) whole in
-    let count_is : count ≡ min 1024 (length (drop at file)) = grind arith in
-    rw (inside, count_is) (ap (λ xs. Ok xs) (take_min 1024 (drop at file)))
+    let count_is : count ≡ min most (length (drop at file)) = grind arith in
+    rw (inside, count_is) (ap (λ xs. Ok xs) (take_min most (drop at file)))
 
-pub not_read : (file : Option (List ℕ)) (len at count before after : ℕ) (e : NeFault) → length_at file ≡ Ok len → at < len → count ≡ min (len - at) 1024
+pub not_read : (most : ℕ) (file : Option (List ℕ)) (len at count before after : ℕ) (e : NeFault) → length_at file ≡ Ok len → at < len → count ≡ min (len - at) most
     → Refuses file before after e (bytes_or faults.Truncated file at count) → IsFailure before after e
-not_read None len at count before after e h lt is refused = cc
-not_read (Some file) len at count before after e h lt is refused =
-    only_failure (Some file) before after e (piece file at) tt (subst (Refuses (Some file) before after e) (piece_is (Some file) len at count h lt is) refused)
+not_read most None len at count before after e h lt is refused = cc
+not_read most (Some file) len at count before after e h lt is refused =
+    only_failure (Some file) before after e (front most file at) tt (subst (Refuses (Some file) before after e) (front_is most (Some file) len at count h lt is) refused)
 
-module _ (file : List ℕ) (pat : ℕ) where
-  cut_same : (i n : ℕ) → i + n ≤ 1024 → take n (drop i (piece file pat)) ≡ take n (drop (pat + i) file)
+module _ (most : ℕ) (file : List ℕ) (pat : ℕ) where
+  pub cut_same : (i n : ℕ) → i + n ≤ most → take n (drop i (front most file pat)) ≡ take n (drop (pat + i) file)
   cut_same i n le =
-      let m = 1024 - i in
-      let whole : 1024 ≡ i + m = omega arith in
-      let one : drop i (piece file pat) ≡ take m (drop i (drop pat file)) = ap (λ k. drop i (take k (drop pat file))) whole ∙ drop-take i m (drop pat file) in
+      let m = most - i in
+      let whole : most ≡ i + m = omega arith in
+      let one : drop i (front most file pat) ≡ take m (drop i (drop pat file)) = ap (λ k. drop i (take k (drop pat file))) whole ∙ drop-take i m (drop pat file) in
       ap (λ xs. take n xs) one ∙ take-take n m (drop i (drop pat file)) (omega arith) ∙ ap (λ xs. take n xs) (drop-drop i pat file)
 
-  short_same : (i n : ℕ) → 0 < n → i + n ≤ 1024 → ltb (length (piece file pat)) (i + n) ≡ ltb (length file) (pat + i + n)
+  short_same : (i n : ℕ) → 0 < i + n → i + n ≤ most → ltb (length (front most file pat)) (i + n) ≡ ltb (length file) (pat + i + n)
   short_same i n some le =
-      let long = length-take 1024 (drop pat file) in
+      let long = length-take most (drop pat file) in
       let rest = length-drop pat file in
       grind (arith, nat_tests, long, rest)
 
-  bytes_same : (short : NeFault) (i n : ℕ) → 0 < n → i + n ≤ 1024 → bytes_or short (Some (piece file pat)) i n ≡ bytes_or short (Some file) (pat + i) n
+  pub bytes_same : (short : NeFault) (i n : ℕ) → 0 < i + n → i + n ≤ most → bytes_or short (Some (front most file pat)) i n ≡ bytes_or short (Some file) (pat + i) n
   bytes_same short i n some le = rw (short_same i n some le, cut_same i n le) refl
 
 -- An entry that lies in the piece, however long it is, is the file's.
 
-bind_same : {A B : Type 0} (r : Reading A) (f g : A → Reading B) → ((x : A) → r ≡ Ok x → f x ≡ g x) → (r >>= f) ≡ (r >>= g)
+pub bind_same : {A B : Type 0} (r : Reading A) (f g : A → Reading B) → ((x : A) → r ≡ Ok x → f x ≡ g x) → (r >>= f) ≡ (r >>= g)
 bind_same (Ok x) f g h = h x refl
 bind_same (Err e) f g h = refl
 
@@ -108,10 +108,10 @@ cut_is : (b : Bool) (x y : List ℕ) → ◌≡◌ {A = Reading (List ℕ)} (con
 cut_is true x y h = cc
 cut_is false x y h = cc
 
-pub name_same : (file : List ℕ) (pat i at : ℕ) → pat + i ≡ at → i + 258 ≤ 1024 → slice_index (piece file pat) i < 256 → name_at (Some (piece file pat)) i ≡ name_at (Some file) at
+pub name_same : (file : List ℕ) (pat i at : ℕ) → pat + i ≡ at → i + 258 ≤ 1024 → slice_index (front 1024 file pat) i < 256 → name_at (Some (front 1024 file pat)) i ≡ name_at (Some file) at
 unfolding name_at
 name_same file pat i at place le small =
-    let p = piece file pat in
+    let p = front 1024 file pat in
     let next : pat + (i + 1) ≡ at + 1 = omega (arith, place) in
     bind_same (bytes_or faults.Truncated (Some p) i 1) _
     (λ len. cond (eqb (slice_index len 0) 0) (Ok None) (bytes_or faults.Truncated (Some file) (at + 1) (slice_index len 0 + 2) >>= λ rest. Ok (Some (take (slice_index len 0) rest, word_of rest (slice_index len 0)))))
@@ -119,13 +119,20 @@ name_same file pat i at place le small =
     (let cut : take 1 (drop i p) ≡ len = cut_is (ltb (length p) (i + 1)) (take 1 (drop i p)) len is in
     let count : slice_index len 0 ≡ slice_index p i = sym (ap (λ xs. slice_index xs 0) cut) ∙ byte_here p i in
     let same : bytes_or faults.Truncated (Some p) (i + 1) (slice_index len 0 + 2) ≡ bytes_or faults.Truncated (Some file) (at + 1) (slice_index len 0 + 2) =
-    bytes_same file pat faults.Truncated (i + 1) (slice_index len 0 + 2) (omega arith) (omega (arith, count, small, le)) ∙ ap (λ a. bytes_or faults.Truncated (Some file) a (slice_index len 0 + 2)) next in
+    bytes_same 1024 file pat faults.Truncated (i + 1) (slice_index len 0 + 2) (omega arith) (omega (arith, count, small, le)) ∙ ap (λ a. bytes_or faults.Truncated (Some file) a (slice_index len 0 + 2)) next in
     cond_same (eqb (slice_index len 0) 0) (Ok None) _ _ (ap (λ (r : Reading (List ℕ)). r >>= λ rest. Ok (Some (take (slice_index len 0) rest, word_of rest (slice_index len 0)))) same)))
     ∙ ap (λ (r : Reading (List ℕ)). r >>= λ len. cond (eqb (slice_index len 0) 0) (Ok None) (bytes_or faults.Truncated (Some file) (at + 1) (slice_index len 0 + 2) >>= λ rest. Ok (Some (take (slice_index len 0) rest, word_of rest (slice_index len 0)))))
-    (bytes_same file pat faults.Truncated i 1 (omega arith) (omega (arith, le)) ∙ ap (λ a. bytes_or faults.Truncated (Some file) a 1) place)
+    (bytes_same 1024 file pat faults.Truncated i 1 (omega arith) (omega (arith, le)) ∙ ap (λ a. bytes_or faults.Truncated (Some file) a 1) place)
 
 pub name_in_piece : (file : Option (List ℕ)) (bytes : List ℕ) (pat i at : ℕ) → piece_at file pat ≡ Ok bytes → pat + i ≡ at → i + 258 ≤ 1024 → slice_index bytes i < 256 → name_at (Some bytes) i ≡ name_at file at
 name_in_piece None bytes pat i at is place le small = cc
 name_in_piece (Some file) bytes pat i at is place le small =
-    let same : piece file pat ≡ bytes = cc in
+    let same : front 1024 file pat ≡ bytes = cc in
     ap (λ (b : List ℕ). name_at (Some b) i) (sym same) ∙ name_same file pat i at place le (subst (λ b. slice_index b i < 256) (sym same) small)
+
+pub bytes_in_piece : (file : Option (List ℕ)) (bytes : List ℕ) (pat i at n : ℕ) → piece_at file pat ≡ Ok bytes → pat + i ≡ at → 0 < i + n → i + n ≤ 1024
+    → bytes_or faults.Truncated (Some bytes) i n ≡ bytes_or faults.Truncated file at n
+bytes_in_piece None bytes pat i at n is place some le = cc
+bytes_in_piece (Some file) bytes pat i at n is place some le =
+    let same : front 1024 file pat ≡ bytes = cc in
+    ap (λ (b : List ℕ). bytes_or faults.Truncated (Some b) i n) (sym same) ∙ bytes_same 1024 file pat faults.Truncated i n some le ∙ ap (λ a. bytes_or faults.Truncated (Some file) a n) place

@@ -4,8 +4,10 @@ pub mod Segments
 pub mod Names
 pub mod Listing
 pub mod References
+pub mod Texts
 pub mod Entries
 pub mod Resources
+pub mod Rows
 pub mod Modules
 pub mod HeaderFormat
 pub mod NamesFormat

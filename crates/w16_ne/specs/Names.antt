@@ -7,12 +7,12 @@ use Rattle.std.specs.Cmp.Lexicographic.{slice_cmp}
 use Rattle.std.specs.declared.cmp.Ordering.{Ordering}
 use Rattle.std.specs.Str.{str_to_ascii_uppercase}
 use Rattle.w16_store.specs.Names.{is_named}
-use Rattle.w16_store.specs.declared.store.StoreFault.TheVariants.{Missing}
 use Rattle.w16_ne.specs.declared.name_piece.TheConstants.{PIECE}
-use Rattle.w16_ne.specs.declared.fault.NeFault.TheVariants.{Truncated, BadTable, Store}
+use Rattle.w16_ne.specs.declared.fault.NeFault.TheVariants.{Truncated, BadTable}
 use Rattle.w16_ne.specs.declared.name_piece.Found.{Found}
+use Rattle.w16_ne.specs.declared.name_piece.Piece.{Piece}
 use Rattle.w16_ne.specs.declared.names.Place.{Place}
-use Rattle.w16_ne.specs.Reading.{Reading, ◌>>=◌, bytes_or, length_at, word_of}
+use Rattle.w16_ne.specs.Reading.{Reading, ◌>>=◌, bytes_or, front_at, length_at, word_of}
 use Rattle.w16_ne.specs.Header.{resident_names, nonresident_names, nonresident_length}
 
 -- a text and its ordinal
@@ -42,8 +42,11 @@ names_from file (suc n) at = do
 
 -- a piece of the file: its bytes from an offset on, up to its end or to 1,024 of them
 abbrev pub piece_at : Option (List ℕ) → ℕ → Reading (List ℕ)
-piece_at None at = Err (Store Missing)
-piece_at (Some file) at = Ok (take PIECE (drop at file))
+piece_at file at = front_at PIECE file at
+
+-- a piece of a file of so many bytes
+abbrev pub IsPiece : Option (List ℕ) → ℕ → Piece → Type 0
+IsPiece file len p = (length_at file ≡ Ok len) × (piece_at file p.at ≡ Ok p.bytes.items)
 
 -- the entry that was found in such bytes
 abbrev pub found_in : List ℕ → Found → Entry

@@ -66,6 +66,11 @@ abbrev pub bytes_or : NeFault → Option (List ℕ) → ℕ → ℕ → Reading 
 bytes_or short None at n = Err (faults.Store stores.Missing)
 bytes_or short (Some file) at n = if nat_lt (length file) (at + n) then Err short else Ok (take n (drop at file))
 
+-- its bytes from an offset on, up to its end or to so many of them
+abbrev pub front_at : ℕ → Option (List ℕ) → ℕ → Reading (List ℕ)
+front_at most None at = Err (faults.Store stores.Missing)
+front_at most (Some file) at = Ok (take most (drop at file))
+
 -- the file's length; its bytes up to an end are there
 abbrev pub length_at : Option (List ℕ) → Reading ℕ
 length_at None = Err (faults.Store stores.Missing)

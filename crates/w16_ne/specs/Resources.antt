@@ -1,12 +1,11 @@
 -- The resource table: a shift word; blocks of a type, each a type word, a count word and a reserved double word, then 12 bytes for each resource:
 -- offset, length, flags, id and two reserved words; a type of 0 ends it (volume 4).
-use Rattle.std.specs.Prelude.{ℕ, zero, suc, ◌+◌, ◌-◌, ◌*◌, ◌^◌, List, [], ◌∷◌, map, length, Option, Some, None, Ok, Err, ◌==◌, nat_lt, if◌then◌else◌}
+use Rattle.std.specs.Prelude.{ℕ, zero, suc, ◌+◌, ◌-◌, ◌*◌, ◌^◌, List, [], ◌∷◌, length, Option, Some, None, Ok, Err, ◌==◌, nat_lt, if◌then◌else◌}
 use Rattle.w16_ne.specs.declared.fault.NeFault.TheVariants.{Truncated, BadTable, Unsupported}
 use Rattle.std.specs.List.{sum_by, filter}
-use Rattle.w16_ne.specs.declared.resource_entries.Resource.{Resource}
-use Rattle.w16_ne.specs.declared.resource_entries.ResourceName.{ResourceName}
-use Rattle.w16_ne.specs.declared.resource_entries.ResourceType.{ResourceType}
-use Rattle.w16_ne.specs.declared.resource_entries.ResourceName.TheVariants as names
+use Rattle.w16_ne.specs.declared.resource_places.Resource.{Resource}
+use Rattle.w16_ne.specs.declared.resource_places.ResourceName.{ResourceName}
+use Rattle.w16_ne.specs.declared.resource_places.ResourceName.TheVariants as names
 use Rattle.w16_ne.specs.declared.resource_blocks.Block.{Block}
 use Rattle.w16_ne.specs.Reading.{Reading, ◌>>=◌, bytes_or, length_at, reaches, word_of, each}
 use Rattle.w16_ne.specs.References.{text_at}
@@ -19,7 +18,7 @@ pub data Label : Type 0 where
 
 abbrev pub label_of : ResourceName → Label
 label_of (names.Number value) = Number value
-label_of (names.Text text) = Text text.items
+label_of (names.Text text) = Text text.now
 
 -- a resource: its id, the offset and the length of its bytes, and its flags
 pub record Entry : Type 0 where
@@ -70,9 +69,6 @@ resources_of file table shift block = each (λ i. resource_at file table shift (
 -- A block's type with its resources. The type's text has to be there even where it has none.
 abbrev pub Typed : Type 0
 Typed = Label × List Entry
-
-abbrev pub typed_of : ResourceType → Typed
-typed_of t = (label_of t.kind, map entry_of t.resources.items)
 
 unfoldable pub typed_at : Option (List ℕ) → ℕ → ℕ → Block → Reading Typed
 typed_at file table shift block = do

@@ -10,8 +10,8 @@ ghost use Rattle.w16_ne.specs.Modules.{imported_place, entry_at, resource_at};
 use crate::entry_table::Entry;
 use crate::names::Names;
 use crate::reading::word;
-use crate::resource_entries::{Resource, ResourceName, ResourceType};
-use crate::resource_places::{count, resource_of};
+use crate::reference_table::ReferenceTable;
+use crate::resource_places::{Resource, ResourceName, ResourceTable};
 use crate::segment_table::Segment;
 use std::marker::Model;
 
@@ -28,16 +28,15 @@ pub struct Module {
     /// The numbers of the names, ascending by their texts.
     pub(crate) order: Vec<u32>,
     pub(crate) segments: Vec<Segment>,
-    pub(crate) references: Vec<Vec<u8>>,
+    pub(crate) references: ReferenceTable,
     pub(crate) entries: Vec<Option<Entry>>,
-    pub(crate) types: Vec<ResourceType>,
+    pub(crate) resources: ResourceTable,
 }
 
 impl Model for Module {
-    ghost use Rattle.std.specs.Prelude.{◌≡◌, ◌≤◌, length, map, All};
+    ghost use Rattle.std.specs.Prelude.{◌≡◌, ◌≤◌, length, All};
     ghost use Rattle.w16_ne.specs.Names.{IsOrder};
     ghost use Rattle.w16_ne.specs.Segments.{IsSized};
-    ghost use Rattle.w16_ne.specs.Resources.{typed_of, resource_count};
     ghost use Rattle.w16_ne.specs.Modules.{Tables};
 
     ghost Value = { Tables };
@@ -50,14 +49,13 @@ impl Model for Module {
       names = s.names;
       resident = s.resident;
       segments = s.segments.items;
-      references = map (λ t. t.items) s.references.items;
+      references = s.references;
       entries = s.entries.items;
-      resources = map typed_of s.types.items;
+      resources = s.resources;
     } };
 
     ghost invariant = { λ s. (length s.header ≡ 64) × IsOrder s.names s.order.items
-        × (length s.segments.items ≤ 253) × All IsSized s.segments.items
-        × (resource_count (map typed_of s.types.items) ≤ 65535) };
+        × (length s.segments.items ≤ 253) × All IsSized s.segments.items };
 }
 
 impl Module {
@@ -182,20 +180,20 @@ impl Module {
         requires last { number ≤ length self.now.references }
         ensures { slice_get self.now.references (number - 1) ≡ Some result.now }
     {
-        self.references[number - 1].as_slice()
+        self.references.name(number - 1)
     }
 
     /// A resource by its place in the table, from 1, with its type; none where there are fewer.
-    pub fn resource(&self, place: usize) -> Option<(&ResourceName, &Resource)>
-        ensures { option_map (λ found. (label_of found.0.now, entry_of found.1.now)) result ≡ resource_at self.now.resources place }
+    pub fn resource(&self, place: usize) -> Option<(ResourceName<'_>, Resource<'_>)>
+        ensures { option_map (λ found. (label_of found.0, entry_of found.1)) result ≡ resource_at self.now.resources place }
     {
-        resource_of(self.types.as_slice(), place)
+        self.resources.resource(place)
     }
 
     /// How many resources there are, at most 65,535.
     pub fn resource_count(&self) -> usize
         ensures { result ≡ resource_count self.now.resources }
     {
-        count(self.types.as_slice())
+        self.resources.len()
     }
 }

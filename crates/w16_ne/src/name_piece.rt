@@ -1,8 +1,9 @@
-//! Entries of a table of names, found in pieces of the file.
+//! Pieces of a file, and entries of a table of names that are found in them.
 ghost use Rattle.std.specs.Prelude.{◌≡◌, ℕ, ◌<◌, ◌≤◌, ◌+◌, ◌-◌, length, option_map, slice_index, true, Ok, IfOk, IfSome, OnOk, MatchResult};
 ghost use Rattle.w16_store.specs.Files.{file_of};
-ghost use Rattle.w16_ne.specs.Reading.{Tells, IsFailure, length_at};
-ghost use Rattle.w16_ne.specs.Names.{name_at, piece_at, found_in};
+ghost use Rattle.w16_ne.specs.declared.fault.NeFault.TheVariants.{Truncated};
+ghost use Rattle.w16_ne.specs.Reading.{Gives, Tells, IsFailure, bytes_or, length_at};
+ghost use Rattle.w16_ne.specs.Names.{name_at, piece_at, found_in, IsPiece};
 
 use crate::fault::NeFault;
 use crate::reading::{table, word};
@@ -83,6 +84,42 @@ impl Piece {
         *self = Piece::read(alloc, store, name, len, at)?;
         Ok(())
     }
+
+    /// Fills the buffer, which is no longer than an entry of names, with the bytes at an offset of the file.
+    pub fn fill<S: Store>(
+        &mut self,
+        alloc: Global,
+        store: &mut S,
+        name: &[u8],
+        len: u64,
+        at: u64,
+        buf: &mut [u8],
+    ) -> Result<(), NeFault>
+        requires place { at < len }
+        requires some { 0 < length buf.old }
+        requires short { length buf.old ≤ LONGEST }
+        ensures files { S.files store.new ≡ S.files store.old }
+        ensures failures { S.failures store.old ≤ S.failures store.new }
+        ensures exact { S.is_honest → IsPiece (file_of (S.files store.old) name.now) len self.old
+            → Gives (λ _. buf.new) (file_of (S.files store.old) name.now)
+            (S.failures store.old) (S.failures store.new) result (bytes_or Truncated (file_of (S.files store.old) name.now) at (length buf.old)) }
+        ensures kept { S.is_honest → IsPiece (file_of (S.files store.old) name.now) len self.old
+            → OnOk result (IsPiece (file_of (S.files store.old) name.now) len self.new) }
+    {
+        self.cover(alloc, store, name, len, at)?;
+        copy(self.bytes.as_slice(), (at - self.at) as usize, buf)
+    }
+}
+
+/// Fills the buffer with the bytes at an index.
+fn copy(bytes: &[u8], from: usize, buf: &mut [u8]) -> Result<(), NeFault>
+    ensures { Tells (λ _. buf.new) result (bytes_or Truncated (Some bytes.now) from (length buf.old)) }
+{
+    if from > bytes.len() || bytes.len() - from < buf.len() {
+        return Err(NeFault::Truncated);
+    }
+    buf.copy_from_slice(&bytes[from..from + buf.len()]);
+    Ok(())
 }
 
 /// The entry at an index of a piece, or none where the table ends.

@@ -1,5 +1,5 @@
 //! Names of entries with their ordinals, and how one is found.
-ghost use Rattle.std.specs.Prelude.{◌≡◌, ℕ, ◌<◌, ◌≤◌, ◌++◌, [], ◌∷◌, length, option_map, unwrap_or, slice_get, slice_index_or, Some, IfOk, IfErr, OnOk};
+ghost use Rattle.std.specs.Prelude.{◌≡◌, ℕ, ◌<◌, ◌≤◌, ◌++◌, [], ◌∷◌, length, All, option_map, unwrap_or, slice_get, slice_index_or, Some, IfOk, IfErr, OnOk};
 ghost use Rattle.std.specs.List.{find};
 ghost use Rattle.std.specs.Ordering.{nat_cmp, is_lt};
 ghost use Rattle.std.specs.Cmp.Lexicographic.{slice_cmp};
@@ -118,9 +118,7 @@ impl Names {
         requires { IsOrder self.now order.now }
         ensures { result ≡ ordinal_in self.now name.now }
     {
-        if self.places.is_empty() {
-            return 0;
-        }
+        self.reveal_names();
         if name.len() > 255 {
             return 0;
         }
@@ -128,6 +126,14 @@ impl Names {
         let key = &mut room[..name.len()];
         write_upper(name, key);
         ordinal_of_text(self, order, &*key)
+    }
+
+    /// Tells the prover what holds of all names: each is short, and upper-cased.
+    fn reveal_names(&self)
+        ensures short { All (λ e. length e.0 ≤ 255) self.now }
+        ensures upper { All IsUpper self.now }
+    {
+        let _ = &self.places;
     }
 
     /// How two names are ordered: by their texts, and those of equal texts as they stand.

@@ -47,7 +47,7 @@ fn tables<S: Store>(
     let resident = names.len() as u32;
     let mut listing = Listing::new(alloc, names);
     add_nonresident(alloc, store, name, &header, &mut listing)?;
-    let types = resources(alloc, store, name, ne, &header)?;
+    let resources = resources(alloc, store, name, ne, &header)?;
     let order = order_of(alloc, &listing.names)?;
     Ok(Module {
         place: ne,
@@ -60,7 +60,7 @@ fn tables<S: Store>(
         segments,
         references,
         entries,
-        types,
+        resources,
     })
 }
 

@@ -1,67 +1,88 @@
 //! Module references.
-ghost use Rattle.std.specs.Prelude.{◌≡◌, ℕ, ◌<◌, ◌≤◌, ◌+◌, ◌*◌, ◌^◌, ◌==◌, length, map};
+ghost use Rattle.std.specs.Prelude.{◌≡◌, ℕ, ◌<◌, ◌≤◌, ◌+◌, ◌*◌, ◌==◌, [], List, Option, All, IfOk, Ok, Some, length, map, slice_get};
 ghost use Rattle.std.specs.List.{list_any};
 ghost use Rattle.w16_store.specs.Files.{file_of};
-ghost use Rattle.w16_ne.specs.Reading.{Gives, IsOfFile};
-ghost use Rattle.w16_ne.specs.References.{text_at, texts_at, references_at};
+ghost use Rattle.w16_ne.specs.Reading.{Gives, Tells};
+ghost use Rattle.w16_ne.specs.References.{texts_at, references_at};
+ghost use Rattle.w16_ne.specs.Texts.{HasText, text_in, texts_behind};
 
 use crate::fault::NeFault;
-use crate::reading::{read_or, table, word};
+use crate::reading::{table, word};
+use crate::text_window::{test_text, text_in, texts_behind};
 use std::alloc::Global;
+use std::marker::Model;
 use w16_store::Store;
 
-/// A length byte and so many bytes of text, or the fault `short` where the file ends before.
-#[tactic(auto, unfolding(crate::specs::References::text_at))]
-pub fn text<S: Store>(
-    alloc: Global,
-    store: &mut S,
-    name: &[u8],
-    at: u64,
-    short: NeFault,
-) -> Result<Vec<u8>, NeFault>
-    requires place { at < 2 ^ 63 }
-    requires short { IsOfFile short }
-    ensures files { S.files store.new ≡ S.files store.old }
-    ensures failures { S.failures store.old ≤ S.failures store.new }
-    ensures exact { S.is_honest → Gives (λ v. v.items) (file_of (S.files store.old) name.now)
-        (S.failures store.old) (S.failures store.new) result (text_at short (file_of (S.files store.old) name.now) at) }
-{
-    let mut len = [0u8; 1];
-    read_or(store, name, at, &mut len, short)?;
-    table(alloc, store, name, at + 1, usize::from(len[0]), short)
+/// The names of the modules that are referred to, in the table's order. References may share texts, so each is kept as an offset.
+#[derive(Drop)]
+pub struct ReferenceTable {
+    /// The bytes of the file from the imported names on, as far as an offset leads.
+    texts: Vec<u8>,
+    offsets: Vec<u16>,
 }
 
-/// So many texts, by the words of a table.
-#[tactic(auto, unfolding(crate::specs::References::texts_at))]
-fn texts<S: Store>(
-    alloc: Global,
-    store: &mut S,
-    name: &[u8],
-    names: u64,
-    table: &[u8],
-    count: u16,
-) -> Result<Vec<Vec<u8>>, NeFault>
-    requires names { names < 2 ^ 62 }
-    requires inside { 2 * count ≤ length table.now }
-    ensures files { S.files store.new ≡ S.files store.old }
-    ensures failures { S.failures store.old ≤ S.failures store.new }
-    ensures exact { S.is_honest → Gives (λ v. map (λ t. t.items) v.items) (file_of (S.files store.old) name.now)
-        (S.failures store.old) (S.failures store.new) result (texts_at (file_of (S.files store.old) name.now) names table.now count) }
-{
-    let mut texts = Vec::new(alloc);
-    for i in 0..count {
-        let at = names + u64::from(word(table, 2 * usize::from(i)));
-        let text = text(alloc, store, name, at, NeFault::Truncated)?;
-        texts.push(text)?;
+impl Model for ReferenceTable {
+    ghost use Rattle.std.specs.Prelude.{ℕ, List, All, map};
+    ghost use Rattle.w16_ne.specs.Texts.{HasText, text_in};
+
+    ghost Value = { List (List ℕ) };
+
+    ghost view = { λ s. map (text_in s.texts.items) s.offsets.items };
+
+    ghost invariant = { λ s. All (HasText s.texts.items) s.offsets.items };
+}
+
+impl ReferenceTable {
+    /// No references.
+    fn none(alloc: Global) -> ReferenceTable
+        ensures { result ≡ [] }
+    {
+        ReferenceTable {
+            texts: Vec::new(alloc),
+            offsets: Vec::new(alloc),
+        }
     }
-    Ok(texts)
+
+    /// How many there are.
+    pub fn len(&self) -> usize
+        ensures { result ≡ length self.now }
+    {
+        self.offsets.len()
+    }
+
+    /// The name of a number, from 0.
+    pub fn name(&self, i: usize) -> &[u8]
+        requires { i < length self.now }
+        ensures { slice_get self.now i ≡ Some result.now }
+    {
+        text_in(self.texts.as_slice(), self.offsets[i])
+    }
 }
 
-fn has_empty(texts: &[Vec<u8>]) -> bool
-    ensures { result ≡ list_any (λ text. length text == 0) (map (λ t. t.items) texts.now) }
+/// So many offsets, the words of a table, each of a text that is there whole.
+#[tactic(auto, unfolding(crate::specs::References::texts_at))]
+fn offsets_of(alloc: Global, texts: &[u8], table: &[u8], count: u16) -> Result<Vec<u16>, NeFault>
+    requires { 2 * count ≤ length table.now }
+    ensures exact { (file : Option (List ℕ)) (names : ℕ) → texts_behind file names ≡ Ok texts.now
+        → Tells (λ v. map (text_in texts.now) v.items) result (texts_at file names table.now count) }
+    ensures inside { IfOk result (λ v. All (HasText texts.now) v.items) }
 {
-    for text in texts {
-        if text.is_empty() {
+    let mut offsets = Vec::with_capacity(alloc, usize::from(count))?;
+    for i in 0..count {
+        let offset = word(table, 2 * usize::from(i));
+        test_text(texts, offset, NeFault::Truncated)?;
+        offsets.push(offset)?;
+    }
+    Ok(offsets)
+}
+
+/// Whether one of the texts that words lead to is empty.
+fn has_empty(texts: &[u8], offsets: &[u16]) -> bool
+    requires { All (HasText texts.now) offsets.now }
+    ensures { result ≡ list_any (λ text. length text == 0) (map (text_in texts.now) offsets.now) }
+{
+    for offset in offsets {
+        if text_in(texts, *offset).is_empty() {
             return true;
         }
     }
@@ -76,30 +97,25 @@ pub fn references<S: Store>(
     name: &[u8],
     ne: u32,
     header: &[u8],
-) -> Result<Vec<Vec<u8>>, NeFault>
+) -> Result<ReferenceTable, NeFault>
     requires { length header.now ≡ 64 }
     ensures files { S.files store.new ≡ S.files store.old }
     ensures failures { S.failures store.old ≤ S.failures store.new }
-    ensures exact { S.is_honest → Gives (λ v. map (λ t. t.items) v.items) (file_of (S.files store.old) name.now)
+    ensures exact { S.is_honest → Gives (λ names. names) (file_of (S.files store.old) name.now)
         (S.failures store.old) (S.failures store.new) result (references_at (file_of (S.files store.old) name.now) ne header.now) }
 {
     let count = word(header, 0x1e);
     if count == 0 {
-        return Ok(Vec::new(alloc));
+        return Ok(ReferenceTable::none(alloc));
     }
     let at = u64::from(ne) + u64::from(word(header, 0x28));
-    let words = table(
-        alloc,
-        store,
-        name,
-        at,
-        2 * usize::from(count),
-        NeFault::Truncated,
-    )?;
+    let len = 2 * usize::from(count);
+    let words = table(alloc, store, name, at, len, NeFault::Truncated)?;
     let names = u64::from(ne) + u64::from(word(header, 0x2a));
-    let texts = texts(alloc, store, name, names, words.as_slice(), count)?;
-    if has_empty(texts.as_slice()) {
+    let texts = texts_behind(alloc, store, name, names)?;
+    let offsets = offsets_of(alloc, texts.as_slice(), words.as_slice(), count)?;
+    if has_empty(texts.as_slice(), offsets.as_slice()) {
         return Err(NeFault::BadTable);
     }
-    Ok(texts)
+    Ok(ReferenceTable { texts, offsets })
 }

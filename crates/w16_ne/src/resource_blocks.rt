@@ -1,11 +1,13 @@
 //! The blocks of the resource table.
-ghost use Rattle.std.specs.Prelude.{◌≡◌, ℕ, ◌<◌, ◌≤◌, ◌+◌, ◌*◌, ◌^◌, Ok, Some, None, All, IfOk, IfErr, IfSome, length, nat_le, if◌then◌else◌};
+ghost use Rattle.std.specs.Prelude.{◌≡◌, ℕ, ◌<◌, ◌≤◌, ◌+◌, ◌*◌, Ok, Some, None, All, IfOk, IfErr, IfSome, OnOk, length, nat_le, if◌then◌else◌};
 ghost use Rattle.w16_store.specs.Files.{file_of};
 ghost use Rattle.w16_ne.specs.Reading.{Gives, Refuses, length_at, word_of};
+ghost use Rattle.w16_ne.specs.Names.{IsPiece};
 ghost use Rattle.w16_ne.specs.Resources.{block_at, blocks_from, blocks_at};
 
 use crate::fault::NeFault;
-use crate::reading::{file_len, read_or, word};
+use crate::name_piece::Piece;
+use crate::reading::word;
 use std::alloc::Global;
 use w16_store::Store;
 
@@ -38,27 +40,32 @@ fn inside(head: &[u8], at: u64, len: u64) -> Option<Block>
     })
 }
 
-/// The block at an offset, or none where the table ends, in a file of so many bytes.
+/// The block at an offset, or none where the table ends, in a file of so many bytes. Where its head may go past the piece, another is read.
 #[tactic(auto, unfolding(crate::specs::Resources::block_at))]
 fn block_of<S: Store>(
+    alloc: Global,
     store: &mut S,
     name: &[u8],
     len: u64,
     at: u64,
+    piece: &mut Piece,
 ) -> Result<Option<Block>, NeFault>
+    requires { at < len }
     ensures files { S.files store.new ≡ S.files store.old }
     ensures failures { S.failures store.old ≤ S.failures store.new }
     ensures ends { IfOk result (λ found. IfSome found (λ b. b.at + 12 * b.count ≤ len)) }
-    ensures exact { S.is_honest → length_at (file_of (S.files store.old) name.now) ≡ Ok len → Gives (λ b. b) (file_of (S.files store.old) name.now)
+    ensures exact { S.is_honest → IsPiece (file_of (S.files store.old) name.now) len piece.old → Gives (λ b. b) (file_of (S.files store.old) name.now)
         (S.failures store.old) (S.failures store.new) result (block_at (file_of (S.files store.old) name.now) at) }
+    ensures kept { S.is_honest → IsPiece (file_of (S.files store.old) name.now) len piece.old
+        → OnOk result (IsPiece (file_of (S.files store.old) name.now) len piece.new) }
 {
     let mut kind = [0u8; 2];
-    read_or(store, name, at, &mut kind, NeFault::Truncated)?;
+    piece.fill(alloc, store, name, len, at, &mut kind)?;
     if word(&kind, 0) == 0 {
         return Ok(None);
     }
     let mut head = [0u8; 8];
-    read_or(store, name, at, &mut head, NeFault::Truncated)?;
+    piece.fill(alloc, store, name, len, at, &mut head)?;
     match inside(&head, at, len) {
         Some(block) => Ok(Some(block)),
         None => Err(NeFault::Truncated),
@@ -66,20 +73,28 @@ fn block_of<S: Store>(
 }
 
 /// How many blocks stand from an offset on, in a file of so many bytes.
-fn count_of<S: Store>(store: &mut S, name: &[u8], len: u64, at: u64) -> Result<usize, NeFault>
+fn count_of<S: Store>(
+    alloc: Global,
+    store: &mut S,
+    name: &[u8],
+    len: u64,
+    at: u64,
+) -> Result<usize, NeFault>
+    requires { at < len }
     ensures files { S.files store.new ≡ S.files store.old }
     ensures failures { S.failures store.old ≤ S.failures store.new }
     ensures exact { S.is_honest → length_at (file_of (S.files store.old) name.now) ≡ Ok len →
         IfErr result (λ e. Refuses (file_of (S.files store.old) name.now)
         (S.failures store.old) (S.failures store.new) e (blocks_from (file_of (S.files store.old) name.now) len at)) }
 {
+    let mut piece = Piece::read(alloc, store, name, len, at)?;
     let mut count = 0usize;
     let mut place = at;
     for _ in 0..len {
         if place >= len {
             return Err(NeFault::Truncated);
         }
-        match block_of(store, name, len, place)? {
+        match block_of(alloc, store, name, len, place, &mut piece)? {
             None => return Ok(count),
             Some(found) => {
                 // No block that is there ends past the largest offset.
@@ -100,6 +115,7 @@ fn blocks_before<S: Store>(
     at: u64,
     count: usize,
 ) -> Result<Vec<Block>, NeFault>
+    requires { at < len }
     ensures files { S.files store.new ≡ S.files store.old }
     ensures failures { S.failures store.old ≤ S.failures store.new }
     ensures ends { IfOk result (λ v. All (λ b. b.at + 12 * b.count ≤ len) v.items) }
@@ -107,13 +123,14 @@ fn blocks_before<S: Store>(
         Gives (λ v. v.items) (file_of (S.files store.old) name.now)
         (S.failures store.old) (S.failures store.new) result (blocks_from (file_of (S.files store.old) name.now) len at) }
 {
+    let mut piece = Piece::read(alloc, store, name, len, at)?;
     let mut blocks = Vec::with_capacity(alloc, count)?;
     let mut place = at;
     for _ in 0..len {
         if place >= len {
             return Err(NeFault::Truncated);
         }
-        match block_of(store, name, len, place)? {
+        match block_of(alloc, store, name, len, place, &mut piece)? {
             None => return Ok(blocks),
             Some(found) => {
                 // No block that is there ends past the largest offset.
@@ -125,22 +142,26 @@ fn blocks_before<S: Store>(
     Err(NeFault::Truncated)
 }
 
-/// The blocks of the table that begins at an offset, behind its shift word. They are gone over twice: room for all of them is taken once their
-/// number is known.
+/// The blocks of the table that begins at an offset, behind its shift word, in a file of so many bytes. They are gone over twice: room for all of
+/// them is taken once their number is known.
 #[tactic(auto, unfolding(crate::specs::Resources::blocks_at))]
 pub fn blocks<S: Store>(
     alloc: Global,
     store: &mut S,
     name: &[u8],
+    len: u64,
     at: u64,
 ) -> Result<Vec<Block>, NeFault>
     ensures files { S.files store.new ≡ S.files store.old }
     ensures failures { S.failures store.old ≤ S.failures store.new }
-    ensures ends { IfOk result (λ v. All (λ b. b.at + 12 * b.count < 2 ^ 64) v.items) }
-    ensures exact { S.is_honest → Gives (λ v. v.items) (file_of (S.files store.old) name.now)
+    ensures place { IfOk result (λ _. at < len) }
+    ensures ends { IfOk result (λ v. All (λ b. b.at + 12 * b.count ≤ len) v.items) }
+    ensures exact { S.is_honest → length_at (file_of (S.files store.old) name.now) ≡ Ok len → Gives (λ v. v.items) (file_of (S.files store.old) name.now)
         (S.failures store.old) (S.failures store.new) result (blocks_at (file_of (S.files store.old) name.now) at) }
 {
-    let len = file_len(store, name)?;
-    let count = count_of(store, name, len, at)?;
+    if at >= len {
+        return Err(NeFault::Truncated);
+    }
+    let count = count_of(alloc, store, name, len, at)?;
     blocks_before(alloc, store, name, len, at, count)
 }

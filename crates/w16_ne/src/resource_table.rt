@@ -1,109 +1,85 @@
 //! The resource table as a whole.
-ghost use Rattle.std.specs.Prelude.{◌≡◌, ℕ, ◌<◌, ◌≤◌, ◌+◌, ◌*◌, ◌^◌, All, Ok, Err, length, map, nat_lt, if◌then◌else◌, IfOk};
-ghost use Rattle.w16_ne.specs.declared.fault.NeFault.TheVariants.{BadTable};
+ghost use Rattle.std.specs.Prelude.{◌≡◌, ℕ, ◌<◌, ◌≤◌, ◌+◌, ◌*◌, ◌^◌, List, Option, All, Ok, length, map, nat_lt};
 ghost use Rattle.w16_store.specs.Files.{file_of};
-ghost use Rattle.w16_ne.specs.Reading.{Gives};
-ghost use Rattle.w16_ne.specs.Resources.{resource_count, entry_of, typed_of, is_placed, are_placed, are_all_placed, typed_in, resources_at};
+ghost use Rattle.w16_ne.specs.Reading.{Gives, Tells, length_at};
+ghost use Rattle.w16_ne.specs.Resources.{is_placed, are_placed, typed_in, resources_at};
+ghost use Rattle.w16_ne.specs.Rows.{entry_in};
 
 use crate::fault::NeFault;
-use crate::reading::{reaches, read_or, word};
+use crate::reading::{file_len, read_or, word};
 use crate::resource_blocks::{Block, blocks};
-use crate::resource_entries::{Resource, ResourceType, all_types};
-use crate::resource_places::are_too_many;
+use crate::resource_places::ResourceTable;
+use crate::resource_rows::{Row, all_rows};
 use crate::segment_table::unit;
+use crate::text_window::texts_behind;
 use std::alloc::Global;
 use w16_store::Store;
 
-/// Tests that a resource's bytes don't end past the file's end by a unit or more.
-fn test_place<S: Store>(
-    store: &mut S,
-    name: &[u8],
-    unit: u32,
-    resource: &Resource,
-) -> Result<(), NeFault>
-    ensures files { S.files store.new ≡ S.files store.old }
-    ensures failures { S.failures store.old ≤ S.failures store.new }
-    ensures exact { S.is_honest → Gives (λ _. tt) (file_of (S.files store.old) name.now)
-        (S.failures store.old) (S.failures store.new) result (is_placed (file_of (S.files store.old) name.now) unit (entry_of resource.now)) }
+/// Tests that a row's bytes don't end past the end of a file of so many bytes by a unit or more.
+fn test_place(len: u64, shift: u16, row: Row) -> Result<(), NeFault>
+    requires { shift ≤ 15 }
+    ensures { (file : Option (List ℕ)) (texts : List ℕ) → length_at file ≡ Ok len
+        → Tells (λ _. tt) result (is_placed file (2 ^ shift) (entry_in texts shift row)) }
 {
-    if resource.len == 0 {
+    let unit = unit(shift);
+    let size = u32::from(row.len) * unit;
+    if size == 0 {
         return Ok(());
     }
-    let end = u64::from(resource.place) + u64::from(resource.len);
-    reaches(store, name, end.saturating_sub(u64::from(unit)) + 1)
-}
-
-/// Checks the places of some resources, in their order.
-fn test_places<S: Store>(
-    store: &mut S,
-    name: &[u8],
-    unit: u32,
-    resources: &[Resource],
-) -> Result<(), NeFault>
-    ensures files { S.files store.new ≡ S.files store.old }
-    ensures failures { S.failures store.old ≤ S.failures store.new }
-    ensures exact { S.is_honest → Gives (λ _. tt) (file_of (S.files store.old) name.now)
-        (S.failures store.old) (S.failures store.new) result (are_placed (file_of (S.files store.old) name.now) unit (map entry_of resources.now)) }
-{
-    for resource in resources {
-        test_place(store, name, unit, resource)?;
+    let end = u64::from(u32::from(row.place) * unit) + u64::from(size);
+    if end.saturating_sub(u64::from(unit)) + 1 > len {
+        return Err(NeFault::Truncated);
     }
     Ok(())
 }
 
-/// The same of the resources of all types.
-fn test_all_places<S: Store>(
-    store: &mut S,
-    name: &[u8],
-    unit: u32,
-    types: &[ResourceType],
-) -> Result<(), NeFault>
-    ensures files { S.files store.new ≡ S.files store.old }
-    ensures failures { S.failures store.old ≤ S.failures store.new }
-    ensures exact { S.is_honest → Gives (λ _. tt) (file_of (S.files store.old) name.now)
-        (S.failures store.old) (S.failures store.new) result (are_all_placed (file_of (S.files store.old) name.now) unit (map typed_of types.now)) }
+/// The same of rows, in their order.
+fn test_places(len: u64, shift: u16, rows: &[Row]) -> Result<(), NeFault>
+    requires { shift ≤ 15 }
+    ensures { (file : Option (List ℕ)) (texts : List ℕ) → length_at file ≡ Ok len
+        → Tells (λ _. tt) result (are_placed file (2 ^ shift) (map (entry_in texts shift) rows.now)) }
 {
-    for typed in types {
-        test_places(store, name, unit, typed.resources.as_slice())?;
+    for row in rows {
+        test_place(len, shift, *row)?;
     }
     Ok(())
 }
 
-/// The bytes of a unit, where the shift isn't over 15.
-fn unit_of(shift: u16) -> Result<u32, NeFault>
-    ensures { result ≡ (if nat_lt 15 shift then Err BadTable else Ok (2 ^ shift)) }
+/// Whether there are over 65,535 resources.
+fn are_too_many(rows: &[Row]) -> bool
+    ensures { result ≡ nat_lt 65535 (length rows.now) }
 {
-    if shift > 15 {
-        return Err(NeFault::BadTable);
-    }
-    Ok(unit(shift))
+    rows.len() > 65535
 }
 
-/// The resources of a table's blocks, each block's under its type.
+/// The resources of a table's blocks, each block's under its type, in a file of so many bytes.
 #[tactic(auto, unfolding(crate::specs::Resources::typed_in))]
 fn typed_in<S: Store>(
     alloc: Global,
     store: &mut S,
     name: &[u8],
+    len: u64,
     table: u64,
     shift: u16,
     blocks: &[Block],
-) -> Result<Vec<ResourceType>, NeFault>
-    requires table { table < 2 ^ 62 }
-    requires ends { All (λ b. b.at + 12 * b.count < 2 ^ 64) blocks.now }
+) -> Result<ResourceTable, NeFault>
+    requires place { table < len }
+    requires ends { All (λ b. b.at + 12 * b.count ≤ len) blocks.now }
     ensures files { S.files store.new ≡ S.files store.old }
     ensures failures { S.failures store.old ≤ S.failures store.new }
-    ensures exact { S.is_honest → Gives (λ v. map typed_of v.items) (file_of (S.files store.old) name.now)
+    ensures exact { S.is_honest → length_at (file_of (S.files store.old) name.now) ≡ Ok len → Gives (λ types. types) (file_of (S.files store.old) name.now)
         (S.failures store.old) (S.failures store.new) result (typed_in (file_of (S.files store.old) name.now) table shift blocks.now) }
-    ensures few { IfOk result (λ v. resource_count (map typed_of v.items) ≤ 65535) }
 {
-    let unit = unit_of(shift)?;
-    let types = all_types(alloc, store, name, table, shift, blocks)?;
-    if are_too_many(types.as_slice()) {
+    if shift > 15 {
+        return Err(NeFault::BadTable);
+    }
+    let texts = texts_behind(alloc, store, name, table)?;
+    let rows = all_rows(alloc, store, name, len, texts.as_slice(), blocks, table)?;
+    if are_too_many(rows.rows.as_slice()) {
         return Err(NeFault::Unsupported);
     }
-    test_all_places(store, name, unit, types.as_slice())?;
-    Ok(types)
+    test_places(len, shift, rows.rows.as_slice())?;
+    Ok(ResourceTable { texts, shift, rows })
 }
 
 /// The resources by type, in the table's order. There may be no table.
@@ -114,20 +90,28 @@ pub fn resources<S: Store>(
     name: &[u8],
     ne: u32,
     header: &[u8],
-) -> Result<Vec<ResourceType>, NeFault>
+) -> Result<ResourceTable, NeFault>
     requires { length header.now ≡ 64 }
     ensures files { S.files store.new ≡ S.files store.old }
     ensures failures { S.failures store.old ≤ S.failures store.new }
-    ensures exact { S.is_honest → Gives (λ v. map typed_of v.items) (file_of (S.files store.old) name.now)
+    ensures exact { S.is_honest → Gives (λ types. types) (file_of (S.files store.old) name.now)
         (S.failures store.old) (S.failures store.new) result (resources_at (file_of (S.files store.old) name.now) ne header.now) }
-    ensures few { IfOk result (λ v. resource_count (map typed_of v.items) ≤ 65535) }
 {
     if word(header, 0x24) == word(header, 0x26) {
-        return Ok(Vec::new(alloc));
+        return Ok(ResourceTable::none(alloc));
     }
     let at = u64::from(ne) + u64::from(word(header, 0x24));
     let mut shift = [0u8; 2];
     read_or(store, name, at, &mut shift, NeFault::Truncated)?;
-    let blocks = blocks(alloc, store, name, at + 2)?;
-    typed_in(alloc, store, name, at, word(&shift, 0), blocks.as_slice())
+    let len = file_len(store, name)?;
+    let blocks = blocks(alloc, store, name, len, at + 2)?;
+    typed_in(
+        alloc,
+        store,
+        name,
+        len,
+        at,
+        word(&shift, 0),
+        blocks.as_slice(),
+    )
 }

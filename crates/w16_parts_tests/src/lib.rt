@@ -6,6 +6,8 @@ mod holes;
 #[cfg(test)]
 mod lru;
 #[cfg(test)]
+mod refusals;
+#[cfg(test)]
 mod region;
 #[cfg(test)]
 mod selectors;

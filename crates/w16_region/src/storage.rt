@@ -8,6 +8,8 @@ ghost use Rattle.w16_region.specs.Bytes.{fitted-put_part, with_items-put_part};
 ghost use Rattle.w16_region.specs.Bytes.{length-fitted, length-with_items};
 ghost use Rattle.w16_region.specs.Lending.{LendsFrom, LendsWhole};
 
+use std::alloc::Allocator;
+
 /// Bytes of which parts can be lent and slid, with no count of what was written. Places and sizes
 /// are in bytes, and each range lies inside by condition.
 pub trait Storage {
@@ -78,7 +80,7 @@ trait Whole {
         ensures value { result.now ≡ content self.old };
 }
 
-impl Storage for Vec<u8> {
+impl<A: Allocator> Storage for Vec<u8, A> {
     ghost content = { λ v. v.items };
 
     ghost lenders = { λ v. [] };
@@ -115,7 +117,7 @@ impl Storage for Vec<u8> {
     }
 }
 
-impl Whole for Vec<u8> {
+impl<A: Allocator> Whole for Vec<u8, A> {
     ghost content = { λ v. v.items };
 
     ghost after_whole = { λ v new. with_items v new };

@@ -11,7 +11,7 @@ ghost use Rattle.w16_reloc.specs.declared.record.Record.TheVariants.{Added};
 use crate::chain::{END, word};
 use crate::record::{Fixup, Part, Record};
 use crate::sites::{chain_width, value_width};
-use crate::value::{Far, is_of_words, moved, write};
+use crate::value::{Far, moved, reveal_words, write};
 
 /// Writes a value over each site of a chain. A link is read before it is overwritten.
 fn write_chain(bytes: &mut [u8], head: u16, part: Part, far: Far)
@@ -66,7 +66,7 @@ pub fn apply(bytes: &mut [u8], records: &[Record], targets: &[Far])
 {
     for i in 0..records.len() {
         let far = targets[i];
-        is_of_words(far);
+        reveal_words(far);
         write_record(bytes, &records[i], far);
     }
 }

@@ -65,7 +65,7 @@ pub fn moved(bytes: &[u8], at: usize, part: Part, far: Far) -> Far
     }
 }
 
-/// Says that a value is one of words. It has no effect.
-pub fn is_of_words(far: Far)
+/// Tells the prover that a far pointer is two words. It does nothing else.
+pub fn reveal_words(far: Far)
     ensures { IsFar far }
 {}

@@ -117,18 +117,18 @@ Stops-overflow steps a s v w bytes more fault one_line same is over =
       stops = (over.over, same, Keeps-refl a);
     })
 
--- the LF stands behind the last line that may be
-pub Stops-full : (steps : Steps) (a : Option (List ℕ)) (s t : Progress) (v w : State) (line : List ℕ) → HasNoLf line → t ≡ with_bytes s line → w ≡ v → IsWithinLimits t → t.lines ≡ 1000000
-    → Stops steps a s v (ended line) TooLong a w
-Stops-full steps a s t v w line one_line is same fits full = record {
-  front = line;
-  byte = 10;
-  more = [];
+-- or any byte stands behind the last line that may end
+pub Stops-full : (steps : Steps) (a : Option (List ℕ)) (s : Progress) (v w : State) (bytes : List ℕ) → 0 < length bytes → w ≡ v → IsWithinLimits s → s.lines ≡ 1000000 → Stops steps a s v bytes TooLong a w
+Stops-full steps a s v w [] some same fits full = absurd (omega arith)
+Stops-full steps a s v w (byte ∷ more) some same fits full = record {
+  front = [];
+  byte = byte;
+  more = more;
   whole = refl;
   between = a;
-  here = t;
+  here = s;
   state = v;
-  feeds = Feeds-held steps a s t v v line one_line is refl;
+  feeds = Feeds-held steps a s s v v [] tt (ap (λ (l : List ℕ). record { line = l; lines = s.lines; replies = s.replies }) (sym (append-nil s.line))) refl;
   fits = fits;
   stops = (inl full, same, Keeps-refl a);
 }

@@ -1,5 +1,5 @@
 //! Bytes of a script, in pieces.
-ghost use Rattle.std.specs.Prelude.{◌≡◌, ◌+◌, ◌<◌, ◌≤◌, [], ◌∷◌, ◌++◌, length, IsTrue, OnOk, OnErr, IfOk, IfErr, IfSome, IfNone, if◌then◌else◌};
+ghost use Rattle.std.specs.Prelude.{◌≡◌, ◌≢◌, ◌+◌, ◌<◌, ◌≤◌, [], ◌∷◌, ◌++◌, length, IsTrue, IsFalse, OnOk, OnErr, IfOk, IfErr, IfSome, IfNone, if◌then◌else◌};
 ghost use Rattle.std.specs.Io.BufRead.{strip_last};
 ghost use Rattle.w16_script.specs.Text.{ended, HasNoLf};
 ghost use Rattle.w16_script.specs.Progress.{with_bytes, IsWithinLimits, Overflows, room_of};
@@ -62,20 +62,38 @@ impl Unfinished {
         if bytes.is_empty() {
             return Ok(());
         }
-        if self.lines == MOST_LINES {
-            return Err(RunFault::TooLong);
-        }
-        if self.line.try_extend_from_slice(bytes).is_err() {
+        if self.is_full() || self.line.try_extend_from_slice(bytes).is_err() {
             return Err(RunFault::TooLong);
         }
         Ok(())
     }
 
-    /// Whether a line may be run where it stands: none is unfinished, and it passes no limit.
-    fn takes_whole(&self, line: &[u8]) -> bool
-        ensures { IsTrue result → (self.now.line.items ≡ []) × (self.now.lines < MOST_LINES) × (length line.now ≤ LONGEST_LINE) }
+    /// Whether no line may end any more.
+    fn is_full(&self) -> bool
+        ensures full { IsTrue result → self.now.lines ≡ MOST_LINES }
+        ensures more { IsFalse result → self.now.lines ≢ MOST_LINES }
     {
-        self.line.is_empty() && self.lines < MOST_LINES && line.len() <= LONGEST_LINE
+        self.lines == MOST_LINES
+    }
+
+    /// Whether a line may be run where it stands: none is unfinished, and it isn't too long.
+    fn takes_whole(&self, line: &[u8]) -> bool
+        ensures { IsTrue result → (self.now.line.items ≡ []) × (length line.now ≤ LONGEST_LINE) }
+    {
+        self.line.is_empty() && line.len() <= LONGEST_LINE
+    }
+
+    /// Counts a line that ended, and its reply, if it had one.
+    fn count_line(&mut self, replied: bool)
+        requires fits { IsWithinLimits (progress_of self.old) }
+        requires few { self.old.lines < MOST_LINES }
+        ensures progress { progress_of self.new ≡ record { line = (progress_of self.old).line; lines = self.old.lines + 1; replies = self.old.replies + (if replied then 1 else 0) } }
+        ensures registers { self.new.registers ≡ self.old.registers }
+    {
+        self.lines += 1;
+        if replied {
+            self.replies += 1;
+        }
     }
 }
 
@@ -117,10 +135,7 @@ fn end_line<W: Write, K: Machine>(
     let line = without_cr(state.line.as_slice());
     let replied = run_line(writer, kernel, &mut state.registers, &mut state.rooms, line)?;
     state.line.clear();
-    state.lines += 1;
-    if replied {
-        state.replies += 1;
-    }
+    state.count_line(replied);
     Ok(())
 }
 
@@ -143,10 +158,7 @@ fn run_whole<W: Write, K: Machine>(
 {
     let text = without_cr(line);
     let replied = run_line(writer, kernel, &mut state.registers, &mut state.rooms, text)?;
-    state.lines += 1;
-    if replied {
-        state.replies += 1;
-    }
+    state.count_line(replied);
     Ok(())
 }
 
@@ -164,13 +176,13 @@ fn take_line<W: Write, K: Machine>(
     ensures room { OnOk result (room_of (progress_of state.new) + length (ended line.now) ≤ room_of (progress_of state.old)) }
     ensures err { IfErr result (λ fault. Stops K.steps (W.contents writer.old) (progress_of state.old) (state_of state.old (K.world kernel.old)) (ended line.now) fault (W.contents writer.new) (state_of state.new (K.world kernel.new))) }
 {
+    if state.is_full() {
+        return Err(RunFault::TooLong);
+    }
     if state.takes_whole(line) {
         return run_whole(state, writer, kernel, line);
     }
     state.hold(line)?;
-    if state.lines == MOST_LINES {
-        return Err(RunFault::TooLong);
-    }
     end_line(state, writer, kernel)
 }
 

@@ -8,7 +8,7 @@ ghost use Rattle.w16_selectors.specs.Descriptors.{descriptor_at, descriptor_of, 
 ghost use Rattle.w16_selectors.specs.Descriptors as descriptors;
 
 use memchr::memchr;
-use std::alloc::{AllocError, Global};
+use std::alloc::{AllocError, Allocator, Global};
 use std::marker::Model;
 pub use w16_model::FarFault;
 use w16_model::names::{selector_of, slot_of};
@@ -39,14 +39,14 @@ pub struct Descriptor {
 
 /// Descriptors by slot. Its value is the list of them, none where a slot isn't taken; slots below 32 never are.
 #[derive(Drop)]
-pub struct Selectors {
-    descriptors: Vec<Option<Descriptor>>,
-    marks: Vec<u8>,
+pub struct Selectors<A: Allocator = Global> {
+    descriptors: Vec<Option<Descriptor>, A>,
+    marks: Vec<u8, A>,
     /// Every slot below it, from the first on, is taken: where a look for a free one begins.
     free_from: usize,
 }
 
-impl Model for Selectors {
+impl<A: Allocator> Model for Selectors<A> {
     ghost use Rattle.w16_selectors.specs.Descriptors.{DescriptorTable};
     ghost use Rattle.w16_selectors.specs.Representation.{SelectorsInvariant, AreTaken};
 
@@ -57,9 +57,11 @@ impl Model for Selectors {
     ghost invariant = { λ s. SelectorsInvariant s.descriptors.items s.marks.items × AreTaken s.descriptors.items s.free_from };
 }
 
-impl Selectors {
+impl<A: Allocator> Selectors<A> {
     /// So many slots from slot 32 on, at most 8,160, none of them taken. An error is that memory ran out.
-    pub fn with_room(alloc: Global, slots: u32) -> Result<Selectors, AllocError>
+    pub fn with_room(alloc: A, slots: u32) -> Result<Selectors<A>, AllocError>
+    where
+        A: Copy,
         requires { slots ≤ MOST_SLOTS }
         ensures { IfOk result (λ made. made ≡ replicate (FIRST_SLOT + slots) None) }
     {

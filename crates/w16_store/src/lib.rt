@@ -15,5 +15,6 @@ pub use folder::{DirFault, DirStore};
 pub use fuse::FuseStore;
 pub use memory::MemStore;
 pub use name::is_named;
+pub use part::reveal_bytes;
 pub use store::{Store, StoreFault};
 pub use system::SystemDisk;

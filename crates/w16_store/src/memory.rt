@@ -5,7 +5,7 @@ ghost use Rattle.w16_store.specs.Files.{file_of, bytes_of, length_of, IsHonestAn
 ghost use Rattle.w16_store.specs.Memory.{files_in};
 
 use crate::name::is_named;
-use crate::part::{are_bytes, copy_part};
+use crate::part::{copy_part, reveal_bytes};
 use crate::store::{Store, StoreFault};
 use std::alloc::{AllocError, Global};
 use std::marker::Model;
@@ -90,7 +90,7 @@ impl Store for MemStore {
 
     fn len_of(&mut self, name: &[u8]) -> Result<u64, StoreFault> {
         let bytes = bytes_of(self.files.as_slice(), name).ok_or(StoreFault::Missing)?;
-        are_bytes(bytes);
+        reveal_bytes(bytes);
         Ok(bytes.len() as u64)
     }
 }

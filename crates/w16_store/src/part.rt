@@ -23,7 +23,7 @@ pub fn copy_part(bytes: &[u8], at: u64, buf: &mut [u8]) -> Result<(), StoreFault
     Ok(())
 }
 
-/// Says that each item of a slice of bytes is one. It has no effect.
-pub fn are_bytes(bytes: &[u8])
+/// Tells the prover that each item of a slice of bytes is one. It does nothing else.
+pub fn reveal_bytes(bytes: &[u8])
     ensures { All (λ b. b < 256) bytes.now }
 {}

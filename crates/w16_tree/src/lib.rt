@@ -15,19 +15,19 @@ ghost use Rattle.std.specs.List.{position, fold};
 mod paths;
 
 use paths::{carry_up, first_leaf, last_leaf_before};
-use std::alloc::{AllocError, Global};
+use std::alloc::{AllocError, Allocator, Global};
 use std::marker::Model;
 
 /// A list of numbers that knows its maximum. A contract sees the list alone.
 #[derive(Drop)]
-pub struct Maxima {
-    nodes: Vec<u32>,
+pub struct Maxima<A: Allocator = Global> {
+    nodes: Vec<u32, A>,
     leaves: usize,
     height: usize,
     len: usize,
 }
 
-impl Model for Maxima {
+impl<A: Allocator> Model for Maxima<A> {
     ghost use Rattle.std.specs.Prelude.{◌≤◌, ◌^◌, List, ℕ, take, drop};
     ghost use Rattle.w16_tree.specs.Tree.{IsTree};
 
@@ -38,12 +38,12 @@ impl Model for Maxima {
     ghost invariant = { λ s. (s.leaves ≤ 2 ^ 34) × IsTree s.height s.len s.leaves s.nodes.items };
 }
 
-impl Maxima {
+impl<A: Allocator> Maxima<A> {
     ghost use Rattle.w16_tree.specs.Last.{last_below};
 
     /// `len` zeros. All the memory that the list ever has is taken here; fails where there is not
     /// enough.
-    pub fn zeros(alloc: Global, len: usize) -> Result<Maxima, AllocError>
+    pub fn zeros(alloc: A, len: usize) -> Result<Maxima<A>, AllocError>
         requires { len < 2 ^ 33 }
         ensures { IfOk result (λ made. made ≡ replicate len 0) }
     {

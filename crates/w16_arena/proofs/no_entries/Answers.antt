@@ -3,4 +3,4 @@ use Rattle.std.proofs.lemmas.Result.{IfOk-weaker}
 use Rattle.w16_arena.proofs.no_entries.Goals as goal
 
 pub returns : goal.returns
-returns c = IfOk-weaker c.vec.result _ _ (λ entries items. items (λ y h. search rules)) c.vec.ensures.items_if_clones_equal
+returns g c = IfOk-weaker c.vec.result _ _ (λ entries items. items (λ y h. search rules)) c.vec.ensures.items_if_clones_equal

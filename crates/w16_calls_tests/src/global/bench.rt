@@ -242,9 +242,7 @@ struct Setting {
     byte: u8,
 }
 
-impl Work for Setting {
-    type State = ();
-
+impl Work<()> for Setting {
     type Answer = ();
 
     ghost may = { λ _ _ _. Unit {0} };

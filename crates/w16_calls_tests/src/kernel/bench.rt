@@ -2,7 +2,7 @@
 ghost use Rattle.std.specs.Prelude.{ℕ, IsTrue};
 ghost use Rattle.w16_kernel.specs.Runs.{IsCall};
 
-use std::alloc::{AllocError, Global};
+use std::alloc::{AllocError, Allocator, Global};
 use std::marker::Model;
 use std::process::Abort;
 use w16_kernel::{Call, Kernel, MOST_FILLED, MOST_READ, Reply};
@@ -32,6 +32,8 @@ pub(super) enum Told {
     Fault(FarFault),
     Walk(u32),
     Item(Option<Item>),
+    /// There was no memory for it.
+    NoMemory,
     /// Any other answer, or none.
     Other,
 }
@@ -41,21 +43,36 @@ pub(super) enum Told {
 /// To a proof it has no value, and its methods have no clauses: what the machine promises of a call is used where the method makes it, and no
 /// test carries it further.
 #[derive(Drop)]
-pub(super) struct Bench {
-    kernel: Kernel<MemStore>,
+pub(super) struct Bench<A: Allocator + Copy = Global> {
+    kernel: Kernel<MemStore, A>,
 }
 
-impl Model for Bench {
+impl<A: Allocator + Copy> Model for Bench<A> {
     ghost Value = { ℕ };
 
     ghost view = { λ _. 0 };
 }
 
-impl Bench {
-    pub fn new(rt: &impl Abort, alloc: Global, memory: u32) -> Result<Bench, AllocError> {
+impl<A: Allocator + Copy> Bench<A> {
+    /// A machine of so many bytes, with its memory from one allocator, and its files' from another.
+    pub fn new(
+        rt: &impl Abort,
+        alloc: A,
+        files: Global,
+        memory: u32,
+    ) -> Result<Bench<A>, AllocError> {
         assert!(rt; memory % 32 == 0);
-        let kernel = Kernel::new(alloc, memory, 16, MemStore::new(alloc))?;
+        let kernel = Kernel::new(alloc, memory, 16, MemStore::new(files))?;
         Ok(Bench { kernel })
+    }
+
+    /// The first parts of the heap, at most eight.
+    pub fn seen(&self) -> [Option<Item>; 8] {
+        let mut seen = [None; 8];
+        for i in 0..8 {
+            seen[i] = self.kernel.walk_at(i);
+        }
+        seen
     }
 
     /// The number of the first step that is answered otherwise.
@@ -69,7 +86,7 @@ impl Bench {
     }
 
     /// Asks the machine.
-    fn act(&mut self, step: Step) -> Told {
+    pub fn act(&mut self, step: Step) -> Told {
         match step {
             Step::Call(call) => self.tell(&call),
             Step::Times(times, call) => self.tell_all(times, &call),
@@ -85,7 +102,7 @@ impl Bench {
         }
         match self.kernel.call(call, &mut [0; MOST_READ]) {
             Ok(reply) => as_told(&reply),
-            Err(_) => Told::Other,
+            Err(AllocError) => Told::NoMemory,
         }
     }
 

@@ -39,7 +39,7 @@ impl Sum {
             ResourceName::Number(number) => self.add_all(&[0, u64::from(*number)]),
             ResourceName::Text(text) => {
                 self.add(1);
-                self.add_text(text.as_slice());
+                self.add_text(text);
             }
         }
     }
@@ -99,7 +99,7 @@ impl Sum {
     fn add_resources(&mut self, module: &Module) {
         for i in 0..module.resource_count() {
             if let Some((kind, resource)) = module.resource(i + 1) {
-                self.add_resource(kind, resource);
+                self.add_resource(&kind, &resource);
             }
         }
     }

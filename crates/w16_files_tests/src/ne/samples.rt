@@ -147,7 +147,7 @@ fn has_resource(module: &Module, place: usize, wanted: &Numbered) -> bool {
     let Some((kind, resource)) = module.resource(place) else {
         return false;
     };
-    is_number(kind, wanted.kind)
+    is_number(&kind, wanted.kind)
         && is_number(&resource.id, wanted.id)
         && resource.place == wanted.place
         && resource.len == wanted.len

@@ -1,8 +1,8 @@
 use Rattle.std.proofs.Common.{rules}
 use Rattle.w16_arena.proofs.modify.relist.Goals as goal
 
-pub returns-then-reveal_bytes : goal.returns-then-reveal_bytes
-returns-then-reveal_bytes c = search rules
+pub returns-then-has_bytes : goal.returns-then-has_bytes
+returns-then-has_bytes g c = search rules
 
 pub returns-else-is-2 : goal.returns-else-is-2
-returns-else-is-2 c = search rules
+returns-else-is-2 g c = search rules

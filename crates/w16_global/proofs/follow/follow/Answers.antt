@@ -6,10 +6,10 @@ use Rattle.w16_global.proofs.Following.{further, taken, in_table}
 use Rattle.w16_global.proofs.follow.follow.Goals as goal
 
 pub place-requires-clause-inside : goal.place-requires-clause-inside
-place-requires-clause-inside c = let real = c.in-Some.ensures.real in omega (arith, real.0, real.1)
+place-requires-clause-inside g c = let real = c.in-Some.ensures.real in omega (arith, real.0, real.1)
 
 pub objects-preserved : goal.objects-preserved
-objects-preserved c =
+objects-preserved g c =
     let now = c.objects.invariant in
     let inside = c.in-Some.ensures.inside in
     let real = c.in-Some.ensures.real in

@@ -5,7 +5,7 @@ use Rattle.w16_global.proofs.follow.follow.Given as goal
 
 -- the selectors of all objects below have followed
 abbrev pub invariant-objects : goal.invariant-objects
-invariant-objects l = record {
+invariant-objects g l = record {
   above : l.slid.from ≤ l.from;
   ends : (l.from ≡ l.slid.from) ⊎ (l.from ≤ l.slid.to);
   so_far : (slot : ℕ) → descriptor_at l.selectors slot ≡ followed l.objects.heap l.slid.from l.from l.initial.selectors slot;
@@ -13,4 +13,4 @@ invariant-objects l = record {
 }
 
 abbrev pub decreases-objects : goal.decreases-objects
-decreases-objects l = l.slid.to - l.from
+decreases-objects g l = l.slid.to - l.from

@@ -6,7 +6,7 @@ use Rattle.w16_global.proofs.Forgotten.{forgets_next}
 use Rattle.w16_global.proofs.follow.forget.Goals as goal
 
 pub loop-id-preserved : goal.loop-id-preserved
-loop-id-preserved c =
+loop-id-preserved g c =
     let now = c.loop-id.invariant in record {
       so_far = λ slot. ap (λ (t : selectors.DescriptorTable). descriptor_at t slot) c.vacate.ensures
           ∙ forgets_next c.args.discarded.now c.loop-id.id-index c.args.selectors.now c.loop-id.selectors c.loop-id-test.true c.requires.known now.so_far slot;

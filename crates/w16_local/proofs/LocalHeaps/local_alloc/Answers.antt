@@ -8,61 +8,64 @@ use Rattle.w16_local.specs.Kept.{IsFull, IsLowest}
 use Rattle.w16_local.specs.Steps.{MayStep, Stepped, outcome}
 use Rattle.w16_local.specs.declared.acts.ByteOp.TheVariants.{Alloc}
 use Rattle.w16_local.specs.declared.steps.TableOp.TheVariants.{Enter}
-use Rattle.w16_local.proofs.Acting.{may_in}
+use Rattle.w16_local.proofs.Acting.{lent_in, may_in}
 use Rattle.w16_local.proofs.Calling.{alloc_as, alloc_calls, alloc_empty, alloc_full, alloc_none, enter_calls, no_object, rounded_size}
 use Rattle.w16_local.proofs.Stepping.{holds_in}
 use Rattle.w16_machine.proofs.LocalFewest.{local_alloc_law}
 use Rattle.w16_local.proofs.LocalHeaps.local_alloc.Goals as goal
 
 pub returns-in_default-clause-step : goal.returns-in_default-clause-step
-returns-in_default-clause-step c = alloc_none c.args.global.now.handles c.args.self.now c.args.ds c.args.flags c.args.size c.in_default.ensures.none
+returns-in_default-clause-step g c = alloc_none c.args.global.now.handles c.args.self.now c.args.ds c.args.flags c.args.size c.in_default.ensures.none
 
 pub returns-in_default-free_entry-clause-step : goal.returns-in_default-free_entry-clause-step
-returns-in_default-free_entry-clause-step c = let is = c.in-Some.ensures.some in alloc_full is c.args.flags c.args.size (holds_in IsFull is.kept c.in_default-free_entry.ensures.none)
+returns-in_default-free_entry-clause-step g c = let is = c.in-Some.ensures.some in alloc_full is c.args.flags c.args.size (holds_in IsFull is.kept c.in_default-free_entry.ensures.none)
 
 pub returns-then-not-has_flag-clause-step : goal.returns-then-not-has_flag-clause-step
-returns-then-not-has_flag-clause-step c = alloc_empty c.in-Some.ensures.some c.args.flags c.args.size c.if-size-eq0.true (sym c.has_flag.ensures ∙ c.if-not-has_flag.true)
+returns-then-not-has_flag-clause-step g c = alloc_empty c.in-Some.ensures.some c.args.flags c.args.size c.if-size-eq0.true (sym c.has_flag.ensures ∙ c.if-not-has_flag.true)
 
 pub step-requires : goal.step-requires
-step-requires c =
+step-requires g c =
     let is = c.in-Some.ensures.some in
     let lowest = holds_in (λ (t : Table). IsLowest t c.in-Some-free_entry.id) is.kept c.in-Some-free_entry.ensures.found in
     subst (λ (m : Option Table). IsSomeAnd m (MayStep (Enter c.moveable_or_discardable.result) c.in-Some-free_entry.id)) (sym is.kept) (lowest.known, lowest.free)
 
 pub overflow_cast-result : goal.overflow_cast-result
-overflow_cast-result c = let is = c.in-Some.ensures.some in let lowest = holds_in (λ (t : Table). IsLowest t c.in-Some-free_entry.id) is.kept c.in-Some-free_entry.ensures.found in let lt = lowest.known in omega (arith, lt)
+overflow_cast-result g c = let is = c.in-Some.ensures.some in let lowest = holds_in (λ (t : Table). IsLowest t c.in-Some-free_entry.id) is.kept c.in-Some-free_entry.ensures.found in let lt = lowest.known in omega (arith, lt)
 
 pub returns-then-size-eq0-clause-step : goal.returns-then-size-eq0-clause-step
-returns-then-size-eq0-clause-step c =
+returns-then-size-eq0-clause-step g c =
     let is = c.in-Some.ensures.some in
     let lowest = holds_in (λ (t : Table). IsLowest t c.in-Some-free_entry.id) is.kept c.in-Some-free_entry.ensures.found in
     enter_calls is c.args.flags c.args.size c.in-Some-free_entry.id lowest c.if-size-eq0.true (sym c.has_flag.ensures ∙ c.if-not-has_flag.false) c.step.result c.step.new.self
     (subst (λ (k : Kind). Stepped c.args.self.now c.in-Some.field-0.slot (λ a b. ◌≡◌ {A = Result Heap Refusal} (Ok (with_object a c.in-Some-free_entry.id (record { kind = k; locks = 0; bytes = None }))) (outcome c.step.result b)) c.step.new.self) c.moveable_or_discardable.ensures c.step.ensures.stepped)
 
 pub act-requires : goal.act-requires
-act-requires c =
+act-requires g c =
     let is = c.in-Some.ensures.some in
     let lowest = holds_in (λ (t : Table). IsLowest t c.in-Some-free_entry.id) is.kept c.in-Some-free_entry.ensures.found in
     may_in is (Alloc c.in-Some-free_entry.id c.rounded_up.result c.local_kind.result c.local_options.result)
     ((lowest.known, no_object is c.in-Some-free_entry.id lowest.free), rounded_size c.args.size c.rounded_up.result c.rounded_up.ensures (let some = c.if-size-eq0.false in omega (arith, some)))
 
 pub returns-clause-step : goal.returns-clause-step
-returns-clause-step c =
+returns-clause-step g c =
     let is = c.in-Some.ensures.some in
     let lowest = holds_in (λ (t : Table). IsLowest t c.in-Some-free_entry.id) is.kept c.in-Some-free_entry.ensures.found in
     alloc_calls is c.args.flags c.args.size c.in-Some-free_entry.id lowest (let some = c.if-size-eq0.false in omega (arith, some)) (alloc_as c.rounded_up.ensures c.local_kind.ensures c.local_options.ensures c.act.ensures.acted)
 
 pub returns-in_default-clause-fewest : goal.returns-in_default-clause-fewest
-returns-in_default-clause-fewest c = λ rest is at current. local_alloc_law _ _ c.args.flags c.args.size _ at is (returns-in_default-clause-step c rest) current
+returns-in_default-clause-fewest g c = λ rest is at current. local_alloc_law _ _ c.args.flags c.args.size _ at is (returns-in_default-clause-step g c rest) current
 
 pub returns-in_default-free_entry-clause-fewest : goal.returns-in_default-free_entry-clause-fewest
-returns-in_default-free_entry-clause-fewest c = λ rest is at current. local_alloc_law _ _ c.args.flags c.args.size _ at is (returns-in_default-free_entry-clause-step c rest) current
+returns-in_default-free_entry-clause-fewest g c = λ rest is at current. local_alloc_law _ _ c.args.flags c.args.size _ at is (returns-in_default-free_entry-clause-step g c rest) current
 
 pub returns-then-not-has_flag-clause-fewest : goal.returns-then-not-has_flag-clause-fewest
-returns-then-not-has_flag-clause-fewest c = λ rest is at current. local_alloc_law _ _ c.args.flags c.args.size _ at is (returns-then-not-has_flag-clause-step c rest) current
+returns-then-not-has_flag-clause-fewest g c = λ rest is at current. local_alloc_law _ _ c.args.flags c.args.size _ at is (returns-then-not-has_flag-clause-step g c rest) current
 
 pub returns-then-size-eq0-clause-fewest : goal.returns-then-size-eq0-clause-fewest
-returns-then-size-eq0-clause-fewest c = λ rest is at current. local_alloc_law _ _ c.args.flags c.args.size _ at is (returns-then-size-eq0-clause-step c rest) current
+returns-then-size-eq0-clause-fewest g c = λ rest is at current. local_alloc_law _ _ c.args.flags c.args.size _ at is (returns-then-size-eq0-clause-step g c rest) current
 
 pub returns-clause-fewest : goal.returns-clause-fewest
-returns-clause-fewest c = λ rest is at current. local_alloc_law _ _ c.args.flags c.args.size _ at is (returns-clause-step c rest) current
+returns-clause-fewest g c = λ rest is at current. local_alloc_law _ _ c.args.flags c.args.size _ at is (returns-clause-step g c rest) current
+
+pub returns-clause-written : goal.returns-clause-written
+returns-clause-written g c = lent_in c.in-Some.ensures.some c.act.new.global c.act.ensures.lent

@@ -1,20 +1,23 @@
 use Rattle.w16_local.specs.declared.acts.ByteOp.TheVariants.{Compact}
-use Rattle.w16_local.proofs.Acting.{may_in}
+use Rattle.w16_local.proofs.Acting.{lent_in, may_in}
 use Rattle.w16_local.proofs.Calling.{compact_calls, compact_none}
 use Rattle.w16_machine.proofs.LocalFewest.{local_compact_law}
 use Rattle.w16_local.proofs.LocalHeaps.local_compact.Goals as goal
 
 pub returns-in_default-clause-step : goal.returns-in_default-clause-step
-returns-in_default-clause-step c = compact_none c.args.global.now.handles c.args.self.now c.args.ds c.args.size c.in_default.ensures.none
+returns-in_default-clause-step g c = compact_none c.args.global.now.handles c.args.self.now c.args.ds c.args.size c.in_default.ensures.none
 
 pub act-requires : goal.act-requires
-act-requires c = may_in c.in-Some.ensures.some (Compact c.args.size) tt
+act-requires g c = may_in c.in-Some.ensures.some (Compact c.args.size) tt
 
 pub returns-clause-step : goal.returns-clause-step
-returns-clause-step c = compact_calls c.in-Some.ensures.some c.args.size c.act.ensures.acted
+returns-clause-step g c = compact_calls c.in-Some.ensures.some c.args.size c.act.ensures.acted
 
 pub returns-in_default-clause-fewest : goal.returns-in_default-clause-fewest
-returns-in_default-clause-fewest c = λ rest is at current. local_compact_law _ _ c.args.size _ at is (returns-in_default-clause-step c rest) current
+returns-in_default-clause-fewest g c = λ rest is at current. local_compact_law _ _ c.args.size _ at is (returns-in_default-clause-step g c rest) current
 
 pub returns-clause-fewest : goal.returns-clause-fewest
-returns-clause-fewest c = λ rest is at current. local_compact_law _ _ c.args.size _ at is (returns-clause-step c rest) current
+returns-clause-fewest g c = λ rest is at current. local_compact_law _ _ c.args.size _ at is (returns-clause-step g c rest) current
+
+pub returns-clause-written : goal.returns-clause-written
+returns-clause-written g c = lent_in c.in-Some.ensures.some c.act.new.global c.act.ensures.lent

@@ -1,17 +1,20 @@
 use Rattle.std.proofs.Common.{◌∙◌}
 use Rattle.w16_local.specs.declared.acts.ByteOp.TheVariants.{Free}
-use Rattle.w16_local.proofs.Acting.{may_in}
+use Rattle.w16_local.proofs.Acting.{lent_in, may_in}
 use Rattle.w16_local.proofs.Calling.{free_calls, free_none, free_refused, named_there}
 use Rattle.w16_local.proofs.LocalHeaps.local_free.Goals as goal
 
 pub returns-in_default-clause-step : goal.returns-in_default-clause-step
-returns-in_default-clause-step c = free_none c.args.global.now.handles c.args.self.now c.args.ds c.args.name c.in_default.ensures.none
+returns-in_default-clause-step g c = free_none c.args.global.now.handles c.args.self.now c.args.ds c.args.name c.in_default.ensures.none
 
 pub returns-then-not-may_free-clause-step : goal.returns-then-not-may_free-clause-step
-returns-then-not-may_free-clause-step c = let n = c.in-Some.ensures.some in free_refused n (c.may_free.ensures n.heap.bytes n.heap.over ∙ c.if-not-may_free.true)
+returns-then-not-may_free-clause-step g c = let n = c.in-Some.ensures.some in free_refused n (c.may_free.ensures n.heap.bytes n.heap.over ∙ c.if-not-may_free.true)
 
 pub act-requires : goal.act-requires
-act-requires c = let n = c.in-Some.ensures.some in may_in n.heap (Free c.in-Some.field-0.id) (named_there n, c.may_free.ensures n.heap.bytes n.heap.over ∙ c.if-not-may_free.false)
+act-requires g c = let n = c.in-Some.ensures.some in may_in n.heap (Free c.in-Some.field-0.id) (named_there n, c.may_free.ensures n.heap.bytes n.heap.over ∙ c.if-not-may_free.false)
 
 pub returns-clause-step : goal.returns-clause-step
-returns-clause-step c = let n = c.in-Some.ensures.some in free_calls n c.act.ensures.acted
+returns-clause-step g c = let n = c.in-Some.ensures.some in free_calls n c.act.ensures.acted
+
+pub returns-clause-written : goal.returns-clause-written
+returns-clause-written g c = let n = c.in-Some.ensures.some in lent_in n.heap c.act.new.global c.act.ensures.lent

@@ -3,8 +3,8 @@ use Rattle.w16_local.proofs.init.reach.Given as goal
 
 -- no heap has changed
 abbrev pub invariant-more : goal.invariant-more
-invariant-more l = (q : ℕ) → get_or l.heaps.items q None ≡ get_or l.fn.heaps.items q None
+invariant-more g l = (q : ℕ) → get_or l.heaps.items q None ≡ get_or l.fn.heaps.items q None
 
 -- how many slots are still wanted
 abbrev pub decreases-more : goal.decreases-more
-decreases-more l = l.slot + 1 - length l.heaps.items
+decreases-more g l = l.slot + 1 - length l.heaps.items

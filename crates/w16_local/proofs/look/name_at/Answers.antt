@@ -4,26 +4,26 @@ use Rattle.w16_local.proofs.Looks.{block_small, name_none, name_fixed, name_loos
 use Rattle.w16_local.proofs.look.name_at.Goals as goal
 
 pub returns-in_err-entry : goal.returns-in_err-entry
-returns-in_err-entry c bytes over = name_none over c.args.id (sym c.in_err-entry.ensures.value) ∙ sym c.from_residual.ensures
+returns-in_err-entry g c bytes over = name_none over c.args.id (sym c.in_err-entry.ensures.value) ∙ sym c.from_residual.ensures
 
 pub returns-in_err-block : goal.returns-in_err-block
-returns-in_err-block c bytes over =
+returns-in_err-block g c bytes over =
     name_fixed over c.args.id c.in_ok-entry.entry (sym c.in_ok-entry.ensures.value) (sym c.is_fixed.ensures ∙ c.if-is_fixed.true) None (sym c.in_err-block.ensures.value) ∙ sym c.from_residual-in_err-block.ensures
 
 pub overflow_cast-result : goal.overflow_cast-result
-overflow_cast-result c = let small = (block_small c.args.heap.now.table c.requires c.args.id c.in_ok-block.block (sym c.in_ok-block.ensures.value)).0 in omega (arith, small)
+overflow_cast-result g c = let small = (block_small c.args.heap.now.table c.requires c.args.id c.in_ok-block.block (sym c.in_ok-block.ensures.value)).0 in omega (arith, small)
 
 pub returns-in_ok-block : goal.returns-in_ok-block
-returns-in_ok-block c bytes over = name_fixed over c.args.id c.in_ok-entry.entry (sym c.in_ok-entry.ensures.value) (sym c.is_fixed.ensures ∙ c.if-is_fixed.true) (Some c.in_ok-block.block) (sym c.in_ok-block.ensures.value)
+returns-in_ok-block g c bytes over = name_fixed over c.args.id c.in_ok-entry.entry (sym c.in_ok-entry.ensures.value) (sym c.is_fixed.ensures ∙ c.if-is_fixed.true) (Some c.in_ok-block.block) (sym c.in_ok-block.ensures.value)
 
 pub returns-else-is_fixed : goal.returns-else-is_fixed
-returns-else-is_fixed c bytes over = name_loose over c.args.id c.in_ok-entry.entry (sym c.in_ok-entry.ensures.value) (sym c.is_fixed.ensures ∙ c.if-is_fixed.false)
+returns-else-is_fixed g c bytes over = name_loose over c.args.id c.in_ok-entry.entry (sym c.in_ok-entry.ensures.value) (sym c.is_fixed.ensures ∙ c.if-is_fixed.false)
 
 pub overflow_mul-result : goal.overflow_mul-result
-overflow_mul-result c = grind (arith, common_steps)
+overflow_mul-result g c = grind (arith, common_steps)
 
 pub overflow_add-result : goal.overflow_add-result
-overflow_add-result c = grind (arith, common_steps)
+overflow_add-result g c = grind (arith, common_steps)
 
 pub overflow_cast-result-else-is_fixed : goal.overflow_cast-result-else-is_fixed
-overflow_cast-result-else-is_fixed c = grind (arith, common_steps)
+overflow_cast-result-else-is_fixed g c = grind (arith, common_steps)

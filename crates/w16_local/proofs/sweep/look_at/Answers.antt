@@ -4,13 +4,13 @@ use Rattle.w16_local.proofs.Sweeping.{looked, swept_gone, swept_kept}
 use Rattle.w16_local.proofs.sweep.look_at.Goals as goal
 
 pub returns-then-has_range : goal.returns-then-has_range
-returns-then-has_range c old is =
+returns-then-has_range g c old is =
     let at = c.index-slot.ensures ∙ get_or_default_zero c.args.live.now.items c.args.i c.index-slot.result.now c.requires in
     swept_kept c.args.global.now.handles.heap _ old c.args.i c.args.heaps.now.items c.args.live.now.items is
     (looked c.args.global.now.handles.heap _ c.args.heaps.now.items c.deref.result.now c.deref.ensures.value c.args.live.now.items c.args.i c.index-slot.result.now at c.has_range.result true c.has_range.ensures c.if-has_range.true)
 
 pub returns : goal.returns
-returns c old is =
+returns g c old is =
     let at = c.index-slot.ensures ∙ get_or_default_zero c.args.live.now.items c.args.i c.index-slot.result.now c.requires in
     let many = c.args.live.now.ok.0 in
     let left = c.swap_remove.new.self.ok.0 in

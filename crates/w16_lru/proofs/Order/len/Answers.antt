@@ -3,6 +3,6 @@ use Rattle.w16_lru.proofs.Outcomes.{count}
 use Rattle.w16_lru.proofs.Order.len.Goals as goal
 
 pub returns : goal.returns
-returns c =
+returns g c =
     let s = c.self.inside in
     sym (count s.cap s.members s.after.items s.before.items c.args.self.now c.self.invariant c.self.view_is)

@@ -4,7 +4,7 @@ use Rattle.w16_lru.proofs.Order.next.Goals as goal
 use Rattle.w16_lru.proofs.Order.next.Goals.{then-next-self-via-then-next-self, then-next-self-via-else-next-self+then-next-id}
 
 pub returns-then-next-self-clause-behind : goal.returns-then-next-self-clause-behind
-returns-then-next-self-clause-behind c = λ i at.
+returns-then-next-self-clause-behind g c = λ i at.
     let s = c.self.inside in
     next_none s.cap s.members s.after.items s.before.items c.args.self.now c.self.invariant c.self.view_is
     c.args.id c.index-next.result.now i (omega arith) c.index-next.ensures
@@ -15,7 +15,7 @@ returns-then-next-self-clause-behind c = λ i at.
     at
 
 pub returns-clause-behind : goal.returns-clause-behind
-returns-clause-behind c = λ i at.
+returns-clause-behind g c = λ i at.
     let s = c.self.inside in
     next_some s.cap s.members s.after.items s.before.items c.args.self.now c.self.invariant c.self.view_is
     c.args.id c.index-next.result.now i (omega arith) c.index-next.ensures c.if-next-self.false at

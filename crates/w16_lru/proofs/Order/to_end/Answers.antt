@@ -7,16 +7,17 @@ use Rattle.w16_model.specs.Discards.{is_member}
 use Rattle.w16_lru.specs.Uses.{Uses}
 use Rattle.w16_lru.proofs.Members.{taken_out}
 use Rattle.w16_lru.proofs.Outcomes.{IsFront, fits, joined_kept, joined_value, put_back, exchanged_after, exchanged_before}
+use Rattle.w16_lru.proofs.Order.to_end.Given as given
 use Rattle.w16_lru.proofs.Order.to_end.Goals as goal
 use Rattle.w16_lru.proofs.Order.to_end.Goals.{in-Oldest, in-Newest}
 
 pub overflow_add-self : goal.overflow_add-self
-overflow_add-self c =
+overflow_add-self g c =
     let s = c.self.inside in
     let le = fits s.cap s.members s.after.items s.before.items c.remove.new.self c.self.invariant c.self.view_is in
     record { fits = omega arith }
 
-module _ (c : goal.After-self-3-1) where
+module _ (g : given.Over) (c : goal.After-self-3-1 g) where
   none : is_member c.args.id c.remove.new.self.ids ≡ false
   none = ap (λ (u : Uses). is_member c.args.id u.ids) c.remove.ensures.value ∙ taken_out c.args.id c.args.self.now.ids
 
@@ -40,22 +41,22 @@ module _ (c : goal.After-self-3-1) where
       c.match-end.front c.args.id c.deref_mut.ensures.value c.deref_mut-2.ensures.value c.exchange.ensures.before
 
 pub invariant_of-self : goal.invariant_of-self
-invariant_of-self c =
+invariant_of-self g c =
     let s = c.self.inside in
     joined_kept s.cap s.members s.after.items s.before.items c.remove.new.self c.self.invariant c.self.view_is
-    c.args.id c.match-end.front (small c)
-    (with_items s.after c.exchange.new.after).items (with_items s.before c.exchange.new.before).items (after_is c) (before_is c) (none c) c.args.end (is_front c)
+    c.args.id c.match-end.front (small g c)
+    (with_items s.after c.exchange.new.after).items (with_items s.before c.exchange.new.before).items (after_is g c) (before_is g c) (none g c) c.args.end (is_front g c)
 
 pub returns-clause-value : goal.returns-clause-value
-returns-clause-value c =
+returns-clause-value g c =
     let s = c.self.inside in
     joined_value s.cap s.members s.after.items s.before.items c.remove.new.self c.self.invariant c.self.view_is
-    c.args.id c.match-end.front (small c)
-    (with_items s.after c.exchange.new.after).items (with_items s.before c.exchange.new.before).items (after_is c) (before_is c) (none c) c.args.end (is_front c)
+    c.args.id c.match-end.front (small g c)
+    (with_items s.after c.exchange.new.after).items (with_items s.before c.exchange.new.before).items (after_is g c) (before_is g c) (none g c) c.args.end (is_front g c)
     ∙ put_back c.args.self.now c.remove.new.self c.args.id c.args.end c.remove.ensures.value
 
 pub returns-clause-uses : goal.returns-clause-uses
-returns-clause-uses c = (invariant_of-self c).uses
+returns-clause-uses g c = (invariant_of-self g c).uses
 
 pub exchange-requires-clause-behind_front : goal.exchange-requires-clause-behind_front
-exchange-requires-clause-behind_front c = grind (arith, common_steps)
+exchange-requires-clause-behind_front g c = grind (arith, common_steps)

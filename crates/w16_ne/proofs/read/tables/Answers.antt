@@ -20,7 +20,7 @@ returns-clause-exact g c = λ honest.
     let entries = exact_entries honest in
     let exact_nonresident = rw s4 at c.in_ok-add_nonresident.ensures.exact in
     let nonresident = exact_nonresident _ honest c.new-listing.ensures in
-    let exact_types = rw s5 at c.in_ok-types.ensures.exact in
-    let types = exact_types honest in
-    rw (segments, resident.1, references, entries, nonresident.1, types) (ap (λ (t : Tables). Ok t)
+    let exact_resources = rw s5 at c.in_ok-resources.ensures.exact in
+    let resources = exact_resources honest in
+    rw (segments, resident.1, references, entries, nonresident.1, resources) (ap (λ (t : Tables). Ok t)
     (same_tables _ resident.0 nonresident.0 _ resident.2.first nonresident.2.first resident.2.names nonresident.2.names c.len-resident.ensures.len))

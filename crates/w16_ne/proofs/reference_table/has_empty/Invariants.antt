@@ -1,6 +1,7 @@
 use Rattle.std.proofs.Common.{◌≡◌, ◌==◌, length, map, drop}
 use Rattle.std.specs.List.{list_any}
+use Rattle.w16_ne.specs.Texts.{text_in}
 use Rattle.w16_ne.proofs.reference_table.has_empty.Given as goal
 
-abbrev pub invariant-loop-text : goal.invariant-loop-text
-invariant-loop-text l = list_any (λ text. length text == 0) (map (λ t. t.items) (drop l.text-index l.texts)) ≡ list_any (λ text. length text == 0) (map (λ t. t.items) l.texts)
+abbrev pub invariant-loop-offset : goal.invariant-loop-offset
+invariant-loop-offset l = list_any (λ text. length text == 0) (map (text_in l.texts) (drop l.offset-index l.offsets)) ≡ list_any (λ text. length text == 0) (map (text_in l.texts) l.offsets)

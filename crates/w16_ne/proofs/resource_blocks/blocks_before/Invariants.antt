@@ -1,6 +1,7 @@
 use Rattle.std.proofs.Common.{◌≡◌, ◌≤◌, ◌-◌, ◌+◌, ◌*◌, Ok, All}
 use Rattle.w16_store.specs.Files.{file_of}
 use Rattle.w16_ne.specs.Reading.{length_at}
+use Rattle.w16_ne.specs.Names.{IsPiece}
 use Rattle.w16_ne.specs.Resources.{blocks_from}
 use Rattle.w16_ne.proofs.Each.{with_front}
 use Rattle.w16_ne.proofs.resource_blocks.blocks_before.Given as goal
@@ -10,4 +11,5 @@ invariant-loop g l =
     let file = file_of (g.S.Store.files l.fn.store) l.name in
     (g.S.Store.files l.store ≡ g.S.Store.files l.fn.store) × (g.S.Store.failures l.fn.store ≤ g.S.Store.failures l.store)
     × (All (λ b. b.at + 12 * b.count ≤ l.len) l.blocks.items)
+    × (g.S.Store.is_honest → length_at file ≡ Ok l.len → IsPiece file l.len l.piece)
     × (g.S.Store.is_honest → length_at file ≡ Ok l.len → with_front (l.blocks.items) (blocks_from file (l.len - l.counter) l.place) ≡ blocks_from file l.len l.at)

@@ -2,6 +2,7 @@ use Rattle.std.proofs.Common.{◌≡◌, ◌≤◌, ◌-◌, Ok, Err}
 use Rattle.w16_store.specs.Files.{file_of}
 use Rattle.w16_ne.specs.declared.fault.NeFault.{NeFault}
 use Rattle.w16_ne.specs.Reading.{length_at}
+use Rattle.w16_ne.specs.Names.{IsPiece}
 use Rattle.w16_ne.specs.Resources.{blocks_from}
 use Rattle.w16_ne.proofs.resource_blocks.count_of.Given as goal
 
@@ -9,4 +10,5 @@ abbrev pub invariant-loop : goal.invariant-loop
 invariant-loop g l =
     let file = file_of (g.S.Store.files l.fn.store) l.name in
     (g.S.Store.files l.store ≡ g.S.Store.files l.fn.store) × (g.S.Store.failures l.fn.store ≤ g.S.Store.failures l.store)
+    × (g.S.Store.is_honest → length_at file ≡ Ok l.len → IsPiece file l.len l.piece)
     × (g.S.Store.is_honest → length_at file ≡ Ok l.len → (e : NeFault) → blocks_from file (l.len - l.counter) l.place ≡ Err e → blocks_from file l.len l.at ≡ Err e)

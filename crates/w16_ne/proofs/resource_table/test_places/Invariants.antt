@@ -1,10 +1,9 @@
-use Rattle.std.proofs.Common.{◌≡◌, ◌≤◌, map, drop}
-use Rattle.w16_store.specs.Files.{file_of}
-use Rattle.w16_ne.specs.Resources.{entry_of, are_placed}
+use Rattle.std.proofs.Common.{◌≡◌, ◌^◌, ℕ, List, Option, Ok, map, drop}
+use Rattle.w16_ne.specs.Reading.{length_at}
+use Rattle.w16_ne.specs.Resources.{are_placed}
+use Rattle.w16_ne.specs.Rows.{entry_in}
 use Rattle.w16_ne.proofs.resource_table.test_places.Given as goal
 
-abbrev pub invariant-loop-resource : goal.invariant-loop-resource
-invariant-loop-resource g l =
-    let file = file_of (g.S.Store.files l.fn.store) l.name in
-    (g.S.Store.files l.store ≡ g.S.Store.files l.fn.store) × (g.S.Store.failures l.fn.store ≤ g.S.Store.failures l.store)
-    × (g.S.Store.is_honest → are_placed file l.unit (map entry_of (drop l.resource-index l.resources)) ≡ are_placed file l.unit (map entry_of l.resources))
+abbrev pub invariant-loop-row : goal.invariant-loop-row
+invariant-loop-row l = (file : Option (List ℕ)) (texts : List ℕ) → length_at file ≡ Ok l.len
+    → are_placed file (2 ^ l.shift) (map (entry_in texts l.shift) (drop l.row-index l.rows)) ≡ are_placed file (2 ^ l.shift) (map (entry_in texts l.shift) l.rows)

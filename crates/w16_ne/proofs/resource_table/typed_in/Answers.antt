@@ -1,62 +1,76 @@
-use Rattle.std.proofs.Common.{◌≡◌, ◌∙◌, ◌^◌, map, true, false, ap, sym, refl, Ok, rules}
+use Rattle.std.proofs.Common.{◌≡◌, ◌∙◌, ◌^◌, length, map, true, false, ap, sym, refl, Ok, arith}
 use Rattle.std.specs.Prelude.{nat_lt}
+use Rattle.std.proofs.lemmas.Bool.Decides.{nat_tests}
 use Rattle.std.proofs.lemmas.Result.{err_from_is_err_and}
 use Rattle.w16_store.specs.Files.{file_of}
-use Rattle.w16_ne.specs.declared.fault.NeFault.TheVariants.{BadTable}
-use Rattle.w16_ne.specs.Resources.{typed_of, typed_in, resource_count, are_all_placed}
-use Rattle.w16_ne.proofs.Filled.{count_filled, placed_filled, unit_ok}
-use Rattle.w16_ne.proofs.Until.{fails_on}
+use Rattle.w16_ne.specs.Texts.{texts_behind}
+use Rattle.w16_ne.specs.Resources.{typed_in, resource_count, are_placed, are_all_placed}
+use Rattle.w16_ne.specs.Rows.{entry_in, grouped, total}
+use Rattle.w16_ne.proofs.Filled.{count_filled, placed_filled}
+use Rattle.w16_ne.proofs.Places.{count_grouped, placed_grouped}
+use Rattle.w16_ne.proofs.Pieces.{refused_is}
+use Rattle.w16_ne.proofs.Until.{told_on}
 use Rattle.w16_ne.proofs.resource_table.typed_in.Goals as goal
-
-pub returns-in_err-unit-clause-exact : goal.returns-in_err-unit-clause-exact
-unfolding typed_in
-returns-in_err-unit-clause-exact g c = search rules
-
-pub returns-in_err-types-clause-exact : goal.returns-in_err-types-clause-exact
-unfolding typed_in
-returns-in_err-types-clause-exact g c = search rules
 
 pub returns-then-are_too_many-clause-exact : goal.returns-then-are_too_many-clause-exact
 unfolding typed_in
-returns-then-are_too_many-clause-exact g c = λ honest.
+returns-then-are_too_many-clause-exact g c = λ honest known.
     let file = file_of (g.S.Store.files c.args.store.now) c.args.name.now in
-    let unit = unit_ok (nat_lt 15 c.args.shift) BadTable c.in_ok-unit.unit (2 ^ c.args.shift) c.in_ok-unit.ensures in
-    let l = c.in_ok-types.ensures.exact honest in
-    let counted : nat_lt 65535 (resource_count (map typed_of c.as_slice.result.now)) ≡ nat_lt 65535 (resource_count l.0) =
-    ap (λ xs. nat_lt 65535 (resource_count (map typed_of xs))) c.as_slice.ensures.value ∙ ap (λ ts. nat_lt 65535 (resource_count ts)) l.2 ∙ ap (λ n. nat_lt 65535 n) (count_filled l.0) in
-    let many : nat_lt 65535 (resource_count l.0) ≡ true = sym counted ∙ sym c.are_too_many.ensures ∙ c.if-are_too_many.true in
-    rw (unit.0, l.1, many) refl
+    let shift = c.args.shift in
+    let t = c.as_slice.result.now in
+    let groups = c.in_ok-rows.rows.groups.items in
+    let rows = c.in_ok-rows.rows.rows.items in
+    let fits : nat_lt 15 shift ≡ false = grind (arith, nat_tests, c.if-shift-gt15.false) in
+    let there : texts_behind file c.args.table ≡ Ok t = c.in_ok-texts.ensures.exact honest ∙ ap (λ xs. Ok xs) (sym c.as_slice.ensures.value) in
+    let exact = rw c.in_ok-texts.ensures.files at c.in_ok-rows.ensures.exact in
+    let l = exact c.args.table shift honest known there in
+    let counted : total groups ≡ length rows = c.in_ok-rows.ensures.whole.counted in
+    let count : resource_count l.0 ≡ length rows = sym (count_filled l.0) ∙ ap resource_count (sym l.2) ∙ count_grouped t shift groups rows counted in
+    let same : nat_lt 65535 (length c.as_slice-2.result.now) ≡ nat_lt 65535 (resource_count l.0) = ap (λ rs. nat_lt 65535 (length rs)) c.as_slice-2.ensures.value ∙ ap (λ n. nat_lt 65535 n) (sym count) in
+    let many : nat_lt 65535 (resource_count l.0) ≡ true = sym same ∙ sym c.are_too_many.ensures ∙ c.if-are_too_many.true in
+    rw (fits, l.1, many) refl
 
-pub returns-in_err-test_all_places-clause-exact : goal.returns-in_err-test_all_places-clause-exact
+pub returns-in_err-test_places-clause-exact : goal.returns-in_err-test_places-clause-exact
 unfolding typed_in
-returns-in_err-test_all_places-clause-exact g c = λ honest.
+returns-in_err-test_places-clause-exact g c = λ honest known.
     let file = file_of (g.S.Store.files c.args.store.now) c.args.name.now in
-    let unit = unit_ok (nat_lt 15 c.args.shift) BadTable c.in_ok-unit.unit (2 ^ c.args.shift) c.in_ok-unit.ensures in
-    let l = c.in_ok-types.ensures.exact honest in
-    let counted : nat_lt 65535 (resource_count (map typed_of c.as_slice.result.now)) ≡ nat_lt 65535 (resource_count l.0) =
-    ap (λ xs. nat_lt 65535 (resource_count (map typed_of xs))) c.as_slice.ensures.value ∙ ap (λ ts. nat_lt 65535 (resource_count ts)) l.2 ∙ ap (λ n. nat_lt 65535 n) (count_filled l.0) in
-    let few : nat_lt 65535 (resource_count l.0) ≡ false = sym counted ∙ sym c.are_too_many.ensures ∙ c.if-are_too_many.false in
-    let same : are_all_placed file c.in_ok-unit.unit (map typed_of c.as_slice-2.result.now) ≡ are_all_placed file (2 ^ c.args.shift) l.0 =
-    ap (λ xs. are_all_placed file c.in_ok-unit.unit (map typed_of xs)) c.as_slice-2.ensures.value ∙ ap (λ ts. are_all_placed file c.in_ok-unit.unit ts) l.2
-    ∙ placed_filled file c.in_ok-unit.unit l.0 ∙ ap (λ u. are_all_placed file u l.0) unit.1 in
-    let p = err_from_is_err_and c.from_residual-in_err-test_all_places.result c.from_residual-in_err-test_all_places.ensures.1 in
-    let exact = rw c.in_ok-types.ensures.files at c.in_err-test_all_places.ensures.exact in
-    let refused = rw same at exact honest in
-    rw (p.1, p.2) (fails_on file _ _ _ c.in_err-test_all_places.field-0.0 (are_all_placed file (2 ^ c.args.shift) l.0) _ c.in_ok-types.ensures.failures refused
-    (λ e. rw (unit.0, l.1, few, e) refl))
+    let shift = c.args.shift in
+    let t = c.as_slice.result.now in
+    let groups = c.in_ok-rows.rows.groups.items in
+    let rows = c.in_ok-rows.rows.rows.items in
+    let fits : nat_lt 15 shift ≡ false = grind (arith, nat_tests, c.if-shift-gt15.false) in
+    let there : texts_behind file c.args.table ≡ Ok t = c.in_ok-texts.ensures.exact honest ∙ ap (λ xs. Ok xs) (sym c.as_slice.ensures.value) in
+    let exact = rw c.in_ok-texts.ensures.files at c.in_ok-rows.ensures.exact in
+    let l = exact c.args.table shift honest known there in
+    let counted : total groups ≡ length rows = c.in_ok-rows.ensures.whole.counted in
+    let count : resource_count l.0 ≡ length rows = sym (count_filled l.0) ∙ ap resource_count (sym l.2) ∙ count_grouped t shift groups rows counted in
+    let same : nat_lt 65535 (length c.as_slice-2.result.now) ≡ nat_lt 65535 (resource_count l.0) = ap (λ rs. nat_lt 65535 (length rs)) c.as_slice-2.ensures.value ∙ ap (λ n. nat_lt 65535 n) (sym count) in
+    let few : nat_lt 65535 (resource_count l.0) ≡ false = sym same ∙ sym c.are_too_many.ensures ∙ c.if-are_too_many.false in
+    let placed : are_all_placed file (2 ^ shift) l.0 ≡ are_placed file (2 ^ shift) (map (entry_in t shift) c.as_slice-3.result.now) =
+    sym (placed_filled file (2 ^ shift) l.0) ∙ ap (are_all_placed file (2 ^ shift)) (sym l.2) ∙ placed_grouped t shift file (2 ^ shift) groups rows counted
+    ∙ ap (λ rs. are_placed file (2 ^ shift) (map (entry_in t shift) rs)) (sym c.as_slice-3.ensures.value) in
+    let p = err_from_is_err_and c.from_residual-in_err-test_places.result c.from_residual-in_err-test_places.ensures.1 in
+    let whole = typed_in file c.args.table shift c.args.blocks.now in
+    rw (p.1, p.2) (refused_is file _ _ c.in_err-test_places.field-0.0 whole (told_on c.in_err-test_places.field-0.0 (are_placed file (2 ^ shift) (map (entry_in t shift) c.as_slice-3.result.now)) whole (c.in_err-test_places.ensures file t known)
+    (λ e. rw (fits, l.1, few, placed ∙ e) refl)))
 
 pub returns-clause-exact : goal.returns-clause-exact
 unfolding typed_in
-returns-clause-exact g c = λ honest.
+returns-clause-exact g c = λ honest known.
     let file = file_of (g.S.Store.files c.args.store.now) c.args.name.now in
-    let unit = unit_ok (nat_lt 15 c.args.shift) BadTable c.in_ok-unit.unit (2 ^ c.args.shift) c.in_ok-unit.ensures in
-    let l = c.in_ok-types.ensures.exact honest in
-    let counted : nat_lt 65535 (resource_count (map typed_of c.as_slice.result.now)) ≡ nat_lt 65535 (resource_count l.0) =
-    ap (λ xs. nat_lt 65535 (resource_count (map typed_of xs))) c.as_slice.ensures.value ∙ ap (λ ts. nat_lt 65535 (resource_count ts)) l.2 ∙ ap (λ n. nat_lt 65535 n) (count_filled l.0) in
-    let few : nat_lt 65535 (resource_count l.0) ≡ false = sym counted ∙ sym c.are_too_many.ensures ∙ c.if-are_too_many.false in
-    let same : are_all_placed file c.in_ok-unit.unit (map typed_of c.as_slice-2.result.now) ≡ are_all_placed file (2 ^ c.args.shift) l.0 =
-    ap (λ xs. are_all_placed file c.in_ok-unit.unit (map typed_of xs)) c.as_slice-2.ensures.value ∙ ap (λ ts. are_all_placed file c.in_ok-unit.unit ts) l.2
-    ∙ placed_filled file c.in_ok-unit.unit l.0 ∙ ap (λ u. are_all_placed file u l.0) unit.1 in
-    let exact = rw c.in_ok-types.ensures.files at c.in_ok-test_all_places.ensures.exact in
-    let placed = sym same ∙ exact honest in
-    rw (unit.0, l.1, few, placed) (ap (λ ts. Ok ts) (sym l.2))
+    let shift = c.args.shift in
+    let t = c.as_slice.result.now in
+    let groups = c.in_ok-rows.rows.groups.items in
+    let rows = c.in_ok-rows.rows.rows.items in
+    let fits : nat_lt 15 shift ≡ false = grind (arith, nat_tests, c.if-shift-gt15.false) in
+    let there : texts_behind file c.args.table ≡ Ok t = c.in_ok-texts.ensures.exact honest ∙ ap (λ xs. Ok xs) (sym c.as_slice.ensures.value) in
+    let exact = rw c.in_ok-texts.ensures.files at c.in_ok-rows.ensures.exact in
+    let l = exact c.args.table shift honest known there in
+    let counted : total groups ≡ length rows = c.in_ok-rows.ensures.whole.counted in
+    let count : resource_count l.0 ≡ length rows = sym (count_filled l.0) ∙ ap resource_count (sym l.2) ∙ count_grouped t shift groups rows counted in
+    let same : nat_lt 65535 (length c.as_slice-2.result.now) ≡ nat_lt 65535 (resource_count l.0) = ap (λ rs. nat_lt 65535 (length rs)) c.as_slice-2.ensures.value ∙ ap (λ n. nat_lt 65535 n) (sym count) in
+    let few : nat_lt 65535 (resource_count l.0) ≡ false = sym same ∙ sym c.are_too_many.ensures ∙ c.if-are_too_many.false in
+    let placed : are_all_placed file (2 ^ shift) l.0 ≡ are_placed file (2 ^ shift) (map (entry_in t shift) c.as_slice-3.result.now) =
+    sym (placed_filled file (2 ^ shift) l.0) ∙ ap (are_all_placed file (2 ^ shift)) (sym l.2) ∙ placed_grouped t shift file (2 ^ shift) groups rows counted
+    ∙ ap (λ rs. are_placed file (2 ^ shift) (map (entry_in t shift) rs)) (sym c.as_slice-3.ensures.value) in
+    rw (fits, l.1, few, placed ∙ c.in_ok-test_places.ensures file t known) (ap (λ ts. Ok ts) (sym l.2 ∙ ap (λ xs. grouped xs shift groups rows) c.as_slice.ensures.value))

@@ -14,7 +14,7 @@ loop-i-preserved c = (
   λ file total begun.
       open_next file total c.args.records.now c.args.targets.now c.loop-i.i _ _ c.loop-i.bytes c.write_record.new.bytes c.loop-i-test.true c.requires (c.loop-i.invariant.1 file total begun) c.write_record.auto.bytes
       (c.write_record.ensures file),
-  All-more IsFar c.args.targets.now c.loop-i.i _ (omega (arith, c.requires, c.loop-i-test.true)) c.loop-i.invariant.2 c.is_of_words.ensures,
+  All-more IsFar c.args.targets.now c.loop-i.i _ (omega (arith, c.requires, c.loop-i-test.true)) c.loop-i.invariant.2 c.reveal_words.ensures,
 )
 
 pub returns-clause-image : goal.returns-clause-image

@@ -4,7 +4,7 @@ use Rattle.w16_selectors.proofs.Runs.{GoesOn, no_run, none_left, goes_on}
 use Rattle.w16_selectors.proofs.Selectors.find_run.Goals as goal
 
 pub loop-first-preserved : goal.loop-first-preserved
-loop-first-preserved c =
+loop-first-preserved g c =
     let taken = c.in-Some.ensures.0 in
     let slots = rw c.self.view_is at c.self.inside.descriptors.ok.0 in
     let all : c.len-slots.result ≡ length c.args.self.now = c.len-slots.ensures ∙ slots in
@@ -18,10 +18,10 @@ loop-first-preserved c =
     }
 
 pub returns-clause-none : goal.returns-clause-none
-returns-clause-none c =
+returns-clause-none g c =
     let slots = rw c.self.view_is at c.self.inside.descriptors.ok.0 in
     let all : c.len-slots.result ≡ length c.args.self.now = c.len-slots.ensures ∙ slots in
     none_left c.args.self.now c.loop-first.first c.args.count c.loop-first.invariant.lowest (let few = c.loop-first-test.false in omega arith)
 
 pub loop-first-init : goal.loop-first-init
-loop-first-init c = search rules
+loop-first-init g c = search rules

@@ -5,11 +5,11 @@ use Rattle.w16_selectors.proofs.Selectors.find_run.Given as goal
 
 -- no run begins below here
 abbrev pub invariant-loop-first : goal.invariant-loop-first
-invariant-loop-first l = record {
+invariant-loop-first g l = record {
   above : FIRST_SLOT ≤ l.first;
   inside : l.first ≤ length l.self;
   lowest : (lower : ℕ) → lower < l.first → IsFreeRun l.self lower l.count → ⊥;
 }
 
 abbrev pub decreases-loop-first : goal.decreases-loop-first
-decreases-loop-first l = length l.self - l.first
+decreases-loop-first g l = length l.self - l.first

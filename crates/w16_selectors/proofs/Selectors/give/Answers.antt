@@ -4,7 +4,7 @@ use Rattle.w16_selectors.proofs.Represented.{SelectorsInvariant-set, AreTaken-gi
 use Rattle.w16_selectors.proofs.Selectors.give.Goals as goal
 
 pub invariant_of-self : goal.invariant_of-self
-invariant_of-self c =
+invariant_of-self g c =
     let s = c.self.inside in
     let first : FIRST_SLOT ≤ c.args.slot = taken_above s.descriptors.items s.marks.items c.args.slot c.self.invariant.0 (rw (← c.self.view_is) at c.requires) in
     let above = c.self.invariant.1.above in

@@ -2,19 +2,19 @@ use Rattle.std.proofs.Common.{rules}
 use Rattle.w16_selectors.proofs.Selectors.resolve.Goals as goal
 
 pub overflow_add-result : goal.overflow_add-result
-overflow_add-result c = search rules
+overflow_add-result g c = search rules
 
 pub returns-clause-value : goal.returns-clause-value
-returns-clause-value c = search rules
+returns-clause-value g c = search rules
 
 pub returns-clause-inside : goal.returns-clause-inside
-returns-clause-inside c = search rules
+returns-clause-inside g c = search rules
 
 pub returns-in_default-clause-value : goal.returns-in_default-clause-value
-returns-in_default-clause-value c = search rules
+returns-in_default-clause-value g c = search rules
 
 pub returns-then-offset-n-clause-value : goal.returns-then-offset-n-clause-value
-returns-then-offset-n-clause-value c = search rules
+returns-then-offset-n-clause-value g c = search rules
 
 pub returns-then-not-descriptor-clause-value : goal.returns-then-not-descriptor-clause-value
-returns-then-not-descriptor-clause-value c = search rules
+returns-then-not-descriptor-clause-value g c = search rules

@@ -3,7 +3,7 @@ use Rattle.w16_selectors.proofs.Represented.{unset_reaches, SelectorsInvariant-s
 use Rattle.w16_selectors.proofs.Selectors.take.Goals as goal
 
 pub invariant_of-self : goal.invariant_of-self
-invariant_of-self c =
+invariant_of-self g c =
     let above = c.requires.0 in
     let below = rw (← c.self.view_is) at c.requires.1 in (
       SelectorsInvariant-set c.self.inside.descriptors.items c.self.inside.marks.items c.args.slot (Some c.unset.result) c.self.invariant.0 (λ lt. absurd (omega arith)) (unset_reaches c.unset.result c.args.kind c.unset.ensures),
@@ -11,7 +11,7 @@ invariant_of-self c =
     )
 
 pub invariant_of-self-else-self-slot : goal.invariant_of-self-else-self-slot
-invariant_of-self-else-self-slot c =
+invariant_of-self-else-self-slot g c =
     let above = c.requires.0 in
     let below = rw (← c.self.view_is) at c.requires.1 in (
       SelectorsInvariant-set c.self.inside.descriptors.items c.self.inside.marks.items c.args.slot (Some c.unset.result) c.self.invariant.0 (λ lt. absurd (omega arith)) (unset_reaches c.unset.result c.args.kind c.unset.ensures),

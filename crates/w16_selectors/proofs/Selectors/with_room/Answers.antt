@@ -4,7 +4,7 @@ use Rattle.w16_selectors.proofs.Represented.{SelectorsInvariant-replicate, AreTa
 use Rattle.w16_selectors.proofs.Selectors.with_room.Goals as goal
 
 pub invariant_of-result : goal.invariant_of-result
-invariant_of-result c =
+invariant_of-result g c =
     let few = c.requires in
     let descriptors : c.in_ok-descriptors.descriptors.items ≡ replicate (FIRST_SLOT + c.args.slots) None = search rules in
     let marks = c.in_ok-marks.ensures.items_if_clones_equal (λ y e. e) in

@@ -3,4 +3,4 @@ use Rattle.std.proofs.Common.{arith}
 use Rattle.w16_tree.proofs.Maxima.len.Goals as goal
 
 pub returns : goal.returns
-returns c = grind (arith, common_steps)
+returns g c = grind (arith, common_steps)

@@ -8,18 +8,18 @@ use Rattle.w16_global.proofs.Joined.{handles_shown}
 use Rattle.w16_global.proofs.global.Global16.far_fill.Goals as goal
 
 pub fill-requires : goal.fill-requires
-fill-requires c = has_part c.self.invariant (handles_shown c.self.view_is) true c.args.selector c.args.offset c.args.n c.in_ok-slot.slot c.in_ok-slot.ensures.ok.0 c.in_ok-slot.ensures.ok.1
+fill-requires g c = has_part c.self.invariant (handles_shown c.self.view_is) true c.args.selector c.args.offset c.args.n c.in_ok-slot.slot c.in_ok-slot.ensures.ok.0 c.in_ok-slot.ensures.ok.1
 
 pub invariant_of-self : goal.invariant_of-self
-invariant_of-self c =
+invariant_of-self g c =
     let ok = c.in_ok-slot.ensures.ok in
     written_joined c.self.invariant (handles_shown c.self.view_is) true c.args.selector c.args.offset c.args.n c.in_ok-slot.slot ok.0 ok.1 (repeated c.args.n c.args.byte) (length-repeated c.args.n c.args.byte) c.fill.new.self c.fill.ensures
     (All-repeated c.args.n c.args.byte c.ranges.byte.fits)
 
 pub returns-clause-ok : goal.returns-clause-ok
-returns-clause-ok c =
+returns-clause-ok g c =
     let ok = c.in_ok-slot.ensures.ok in
     fill_known c.self.invariant (handles_shown c.self.view_is) true c.args.selector c.args.offset c.args.n c.in_ok-slot.slot ok.0 ok.1 c.args.byte c.fill.new.self c.fill.ensures refl c.touch.new.self.handles (handles_shown c.touch.ensures)
 
 pub returns-in_err-slot-clause-err : goal.returns-in_err-slot-clause-err
-returns-in_err-slot-clause-err c = grind (arith, common_steps, lengths)
+returns-in_err-slot-clause-err g c = grind (arith, common_steps, lengths)

@@ -3,7 +3,7 @@ use Rattle.w16_global.proofs.Joined.{handles_shown}
 use Rattle.w16_global.proofs.global.Global16.free_slot.Goals as goal
 
 pub returns-clause-found : goal.returns-clause-found
-returns-clause-found c = found_free c.self.invariant (handles_shown c.self.view_is) c.lowest_free.result c.lowest_free.ensures.found
+returns-clause-found g c = found_free c.self.invariant (handles_shown c.self.view_is) c.lowest_free.result c.lowest_free.ensures.found
 
 pub returns-clause-none : goal.returns-clause-none
-returns-clause-none c = none_free c.self.invariant (handles_shown c.self.view_is) c.lowest_free.result c.lowest_free.ensures.none
+returns-clause-none g c = none_free c.self.invariant (handles_shown c.self.view_is) c.lowest_free.result c.lowest_free.ensures.none

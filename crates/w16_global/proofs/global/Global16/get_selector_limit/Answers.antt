@@ -2,4 +2,4 @@ use Rattle.std.proofs.Common.{rules}
 use Rattle.w16_global.proofs.global.Global16.get_selector_limit.Goals as goal
 
 pub returns : goal.returns
-returns c = search rules
+returns g c = search rules

@@ -3,7 +3,7 @@ use Rattle.w16_model.proofs.Fewest.{global_compact_law}
 use Rattle.w16_global.proofs.global.Global16.global_compact.Goals as goal
 
 pub returns-clause-fewest : goal.returns-clause-fewest
-returns-clause-fewest c = global_compact_law _ _ _ _ c.reveal_handles.ensures c.compact.ensures.step
+returns-clause-fewest g c = global_compact_law _ _ _ _ c.reveal_handles.ensures c.compact.ensures.step
 
 pub returns-clause-step : goal.returns-clause-step
-returns-clause-step c = search rules
+returns-clause-step g c = search rules

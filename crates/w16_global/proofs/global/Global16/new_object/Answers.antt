@@ -6,13 +6,13 @@ use Rattle.w16_global.proofs.Joined.{handles_shown}
 use Rattle.w16_global.proofs.global.Global16.new_object.Goals as goal
 
 pub returns-then-size-eq0-clause-step : goal.returns-then-size-eq0-clause-step
-returns-then-size-eq0-clause-step c =
+returns-then-size-eq0-clause-step g c =
     absent_answered c.args.self.now.handles c.free_slot.new.self.handles (handles_shown c.free_slot.ensures.same ∙ ap (λ (x : Handles). record x { moved = 0 }) (handles_shown c.self.view_is)) c.args.flags c.in-Some.slot c.args.size c.enter.new.self.handles
     (subst (λ x. IsFreeSlot x c.in-Some.slot) (sym (handles_shown c.free_slot.ensures.same)) c.in-Some.ensures.found) c.kind_asked-kind.result c.kind_asked-kind.ensures c.attributes_asked-attributes.result c.attributes_asked-attributes.ensures c.handle_of.result c.handle_of.ensures c.if-size-eq0.true
     (sym c.if-not-has_flag.ensures) c.enter.ensures.entered c.enter.ensures.rest
 
 pub returns-then-allocate-clause-step : goal.returns-then-allocate-clause-step
-returns-then-allocate-clause-step c =
+returns-then-allocate-clause-step g c =
     let s = c.if-allocate.ensures in
     bytes_answered c.args.self.now.handles c.free_slot.new.self.handles (handles_shown c.free_slot.ensures.same ∙ ap (λ (x : Handles). record x { moved = 0 }) (handles_shown c.self.view_is)) c.args.flags c.in-Some.slot c.args.size c.allocate.new.self.handles
     (subst (λ x. IsFreeSlot x c.in-Some.slot) (sym (handles_shown c.free_slot.ensures.same)) c.in-Some.ensures.found) c.kind_asked-kind.result c.kind_asked-kind.ensures c.attributes_asked-attributes.result c.attributes_asked-attributes.ensures c.handle_of-then-allocate.result c.handle_of-then-allocate.ensures
@@ -20,7 +20,7 @@ returns-then-allocate-clause-step c =
     (omega (arith, c.if-size-gt-LARGEST_SIZE.false)) s.allocated s.rest
 
 pub returns-else-allocate-clause-step : goal.returns-else-allocate-clause-step
-returns-else-allocate-clause-step c =
+returns-else-allocate-clause-step g c =
     let s = c.if-allocate.ensures in
     bytes_refused c.args.self.now.handles c.free_slot.new.self.handles (handles_shown c.free_slot.ensures.same ∙ ap (λ (x : Handles). record x { moved = 0 }) (handles_shown c.self.view_is)) c.args.flags c.in-Some.slot c.args.size c.allocate.new.self.handles
     (subst (λ x. IsFreeSlot x c.in-Some.slot) (sym (handles_shown c.free_slot.ensures.same)) c.in-Some.ensures.found) c.kind_asked-kind.result c.kind_asked-kind.ensures c.attributes_asked-attributes.result c.attributes_asked-attributes.ensures _ refl
@@ -28,4 +28,4 @@ returns-else-allocate-clause-step c =
     (subst (λ (x : Handles). IsHeap x.heap) (sym (handles_shown c.free_slot.ensures.same)) c.self.invariant.handles.heap) s.allocated s.rest
 
 pub returns-then-not-has_flag-clause-step : goal.returns-then-not-has_flag-clause-step
-returns-then-not-has_flag-clause-step c = search rules
+returns-then-not-has_flag-clause-step g c = search rules

@@ -4,17 +4,17 @@ use Rattle.w16_model.proofs.Cuts.{told_none, told_more, told_at, told_past}
 use Rattle.w16_global.proofs.global.Global16.walk.Goals as goal
 
 pub loop-init : goal.loop-init
-loop-init c = told_none handle_of c.args.self.now.handles.heap
+loop-init g c = told_none handle_of c.args.self.now.handles.heap
 
 pub loop-preserved : goal.loop-preserved
-loop-preserved c = told_more handle_of c.args.self.now.handles.heap c.loop.counter c.loop.from c.loop.invariant c.in_ok-item.item c.in_ok-item.ensures.found
+loop-preserved g c = told_more handle_of c.args.self.now.handles.heap c.loop.counter c.loop.from c.loop.invariant c.in_ok-item.item c.in_ok-item.ensures.found
 
 pub returns-in_err-item : goal.returns-in_err-item
-returns-in_err-item c = λ items walk. c.from_residual.ensures
+returns-in_err-item g c = λ items walk. c.from_residual.ensures
     ∙ told_past handle_of c.args.self.now.handles.heap c.loop.counter c.loop.from c.loop.invariant c.in_err-item.ensures.found c.args.i (let lt = c.loop-test.true in omega arith) items walk
 
 pub returns : goal.returns
-returns c = λ items walk.
+returns g c = λ items walk.
     let all : c.loop.counter ≡ c.args.i = omega arith in
     told_at handle_of c.args.self.now.handles.heap c.loop.counter c.loop.from c.loop.invariant c.walk_from-2.result c.walk_from-2.ensures.found items walk
     ∙ ap (λ k. slice_get items k) all

@@ -4,13 +4,13 @@ use Rattle.w16_model.proofs.Cuts.{told_none, told_more, told_all}
 use Rattle.w16_global.proofs.global.Global16.walk_len.Goals as goal
 
 pub loop-item-init : goal.loop-item-init
-loop-item-init c = record { told = told_none handle_of c.args.self.now.handles.heap; few = omega arith }
+loop-item-init g c = record { told = told_none handle_of c.args.self.now.handles.heap; few = omega arith }
 
 pub loop-item-preserved : goal.loop-item-preserved
-loop-item-preserved c =
+loop-item-preserved g c =
     let few = c.loop-item.invariant.few in
     let low = c.in-Some.ensures.found.1 in
     record { told = told_more handle_of c.args.self.now.handles.heap c.loop-item.count c.loop-item.from c.loop-item.invariant.told c.in-Some.item c.in-Some.ensures.found; few = omega arith }
 
 pub returns : goal.returns
-returns c = told_all handle_of c.args.self.now.handles.heap c.loop-item.count c.loop-item.from c.loop-item.invariant.told c.in_default.ensures.found
+returns g c = told_all handle_of c.args.self.now.handles.heap c.loop-item.count c.loop-item.from c.loop-item.invariant.told c.in_default.ensures.found

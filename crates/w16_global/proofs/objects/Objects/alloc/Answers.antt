@@ -3,24 +3,24 @@ use Rattle.w16_global.proofs.Parts.{no_block_known}
 use Rattle.w16_global.proofs.objects.Objects.alloc.Goals as goal
 
 pub alloc-requires-clause-absent : goal.alloc-requires-clause-absent
-alloc-requires-clause-absent c = no_block_known c.self.invariant c.self.view_is c.args.id c.requires.free
+alloc-requires-clause-absent g c = no_block_known c.self.invariant c.self.view_is c.args.id c.requires.free
 
 pub returns-clause-inside : goal.returns-clause-inside
-returns-clause-inside c =
+returns-clause-inside g c =
     let inside : c.in_ok-placed.placed.at + c.args.size ≤ c.self.inside.arena.table.hi = search rules in
     let high = c.self.invariant.high in
     let small = c.self.inside.memory.small in
     omega arith
 
 pub returns-clause-few : goal.returns-clause-few
-returns-clause-few c =
+returns-clause-few g c =
     let few : c.self.inside.arena.table.lo + c.in_ok-placed.placed.moved ≤ c.self.inside.arena.table.hi = search rules in
     let high = c.self.invariant.high in
     let small = c.self.inside.memory.small in
     omega arith
 
 pub returns-clause-moved : goal.returns-clause-moved
-returns-clause-moved c = search rules
+returns-clause-moved g c = search rules
 
 pub returns-clause-written : goal.returns-clause-written
-returns-clause-written c = search rules
+returns-clause-written g c = search rules

@@ -7,19 +7,19 @@ use Rattle.w16_global.proofs.Fresh.{fresh_parts, fresh_holding}
 use Rattle.w16_global.proofs.objects.Objects.new.Goals as goal
 
 pub new-requires-2-clause-high : goal.new-requires-2-clause-high
-new-requires-2-clause-high c = let whole = c.requires.grained in (c.args.size / 32, omega arith)
+new-requires-2-clause-high g c = let whole = c.requires.grained in (c.args.size / 32, omega arith)
 
 pub new-requires-2-clause-wide : goal.new-requires-2-clause-wide
-new-requires-2-clause-wide c = (4, refl)
+new-requires-2-clause-wide g c = (4, refl)
 
 pub invariant_of-result : goal.invariant_of-result
-invariant_of-result c =
+invariant_of-result g c =
     subst (λ (s : ArenaState). AreParts s c.new-2.new.space.bytes.items) (sym c.in_ok-arena.ensures)
     (fresh_parts c.args.cap c.args.size c.requires.few c.new-2.new.space.bytes.items (c.in_ok-holes.ensures.length ∙ c.in_ok-memory.ensures.length) c.reveal_bytes.ensures
     (subst (λ (f : Free). AreThreaded f.holes c.new-2.new.space.bytes.items) c.in_ok-holes.ensures.value c.in_ok-holes.ensures.kept))
 
 pub returns : goal.returns
-returns c =
+returns g c =
     (λ i. holding_of (c.in_ok-arena.ensures i) c.new-2.new.space.bytes.items ((c.in_ok-holes.ensures.written ∙ c.in_ok-memory.ensures.written) i))
     ∙ fresh_holding c.args.cap c.args.size c.requires.few c.new-2.new.space.bytes.items (c.in_ok-holes.ensures.length ∙ c.in_ok-memory.ensures.length) c.reveal_bytes.ensures
     (subst (λ (f : Free). AreThreaded f.holes c.new-2.new.space.bytes.items) c.in_ok-holes.ensures.value c.in_ok-holes.ensures.kept)

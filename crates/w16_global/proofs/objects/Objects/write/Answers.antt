@@ -12,35 +12,35 @@ items_put : {Z : Type 0} (v : Vec ℕ Z) (at : ℕ) (left new : List ℕ) → le
 items_put v at left new same le = ap (λ ys. (with_items v (put_part v.items at ys)).items) same ∙ with_items-put_part v at new le
 
 pub unreachable-requires : goal.unreachable-requires
-unreachable-requires c = no_part c.self.invariant c.args.id c.self.view_is (sym c.block.ensures.value ∙ c.in_default.is) c.args.at (length c.args.new.now) c.requires
+unreachable-requires g c = no_part c.self.invariant c.args.id c.self.view_is (sym c.block.ensures.value ∙ c.in_default.is) c.args.at (length c.args.new.now) c.requires
 
 pub overflow_add-block : goal.overflow_add-block
-overflow_add-block c =
+overflow_add-block g c =
     let room = in_memory c.self.invariant c.args.id c.self.view_is (sym c.block.ensures.value ∙ c.in-Some.is) c.args.at (length c.args.new.now) c.requires in
     omega (arith, room, c.self.inside.memory.small)
 
 pub overflow_cast-new : goal.overflow_cast-new
-overflow_cast-new c =
+overflow_cast-new g c =
     let room = in_memory c.self.invariant c.args.id c.self.view_is (sym c.block.ensures.value ∙ c.in-Some.is) c.args.at (length c.args.new.now) c.requires in
     omega (arith, room, c.self.inside.memory.small)
 
 pub view_mut-part-requires : goal.view_mut-part-requires
-view_mut-part-requires c = in_memory c.self.invariant c.args.id c.self.view_is (sym c.block.ensures.value ∙ c.in-Some.is) c.args.at (length c.args.new.now) c.requires
+view_mut-part-requires g c = in_memory c.self.invariant c.args.id c.self.view_is (sym c.block.ensures.value ∙ c.in-Some.is) c.args.at (length c.args.new.now) c.requires
 
 pub copy_from_slice-requires : goal.copy_from_slice-requires
-copy_from_slice-requires c =
+copy_from_slice-requires g c =
     let room = in_memory c.self.invariant c.args.id c.self.view_is (sym c.block.ensures.value ∙ c.in-Some.is) c.args.at (length c.args.new.now) c.requires in
     ap length c.view_mut-part.ensures.value ∙ simp (length-take, length-drop) (omega (arith, room))
 
 pub invariant_of-self : goal.invariant_of-self
-invariant_of-self c =
+invariant_of-self g c =
     let s = c.self.inside in
     let room = in_memory c.self.invariant c.args.id c.self.view_is (sym c.block.ensures.value ∙ c.in-Some.is) c.args.at (length c.args.new.now) c.requires in
     subst (AreParts s.arena) (sym (items_put s.memory.bytes (c.in-Some.block.at + c.args.at) c.copy_from_slice.new.self c.args.new.now c.copy_from_slice.ensures.after room))
     (parts_filled c.self.invariant c.args.id c.self.view_is (sym c.block.ensures.value ∙ c.in-Some.is) c.args.at c.args.new.now c.requires (All-bytes c.args.new.now c.type_inv.new))
 
 pub returns : goal.returns
-returns c =
+returns g c =
     let s = c.self.inside in
     let room = in_memory c.self.invariant c.args.id c.self.view_is (sym c.block.ensures.value ∙ c.in-Some.is) c.args.at (length c.args.new.now) c.requires in
     ap (λ items. holding_of s.arena items (counted s.memory.written (length c.args.new.now))) (items_put s.memory.bytes (c.in-Some.block.at + c.args.at) c.copy_from_slice.new.self c.args.new.now c.copy_from_slice.ensures.after room)

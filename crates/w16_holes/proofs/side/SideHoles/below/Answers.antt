@@ -5,17 +5,17 @@ use Rattle.w16_holes.proofs.Steps.{AreHoles-cells}
 use Rattle.w16_holes.specs.declared.side.SideHoles.TheInside.{Inside}
 use Rattle.w16_holes.proofs.side.SideHoles.below.Goals as goal
 
-abbrev range : Inside → Range
+abbrev range : {Z : Type 0} → Inside Z → Range
 range s = record { lo = s.lo; hi = s.hi; grain = s.grain }
 
 pub bytes_before-requires-clause-small : goal.bytes_before-requires-clause-small
-bytes_before-requires-clause-small c =
+bytes_before-requires-clause-small g c =
     let s = c.self.inside in
     let le = last_lower s.grain s.lengths c.unit_of-unit.result c.in-Some.begin c.in-Some.ensures in
     let is = c.unit_of-unit.ensures in omega arith
 
 pub overflow_add-result : goal.overflow_add-result
-overflow_add-result c =
+overflow_add-result g c =
     let s = c.self.inside in
     let le = last_lower s.grain s.lengths c.unit_of-unit.result c.in-Some.begin c.in-Some.ensures in
     let is = c.unit_of-unit.ensures in
@@ -24,7 +24,7 @@ overflow_add-result c =
     record { fits = omega arith }
 
 pub returns-in_default-clause-value : goal.returns-in_default-clause-value
-returns-in_default-clause-value c =
+returns-in_default-clause-value g c =
     let s = c.self.inside in
     let is = c.unit_of-unit.ensures in
     let from = c.requires.from in
@@ -32,7 +32,7 @@ returns-in_default-clause-value c =
     rw (← c.self.view_is) (last_is s.grain s.lo c.unit_of-unit.result c.args.place s.lengths None c.self.invariant.some (omega arith) c.in_default.ensures)
 
 pub returns-in_default-clause-unit : goal.returns-in_default-clause-unit
-returns-in_default-clause-unit c =
+returns-in_default-clause-unit g c =
     let s = c.self.inside in
     let is = c.unit_of-unit.ensures in
     let from = c.requires.from in
@@ -40,10 +40,10 @@ returns-in_default-clause-unit c =
     rw (← c.self.view_is) (last_is s.grain s.lo c.unit_of-unit.result c.args.place s.lengths None c.self.invariant.some (omega arith) c.in_default.ensures)
 
 pub returns-in_default-clause-ordered : goal.returns-in_default-clause-ordered
-returns-in_default-clause-ordered c = subst (λ (f : Free). AreHoles f.range.lo f.range.hi f.holes) c.self.view_is (AreHoles-cells (range c.self.inside) c.self.inside.lengths c.self.invariant)
+returns-in_default-clause-ordered g c = subst (λ (f : Free). AreHoles f.range.lo f.range.hi f.holes) c.self.view_is (AreHoles-cells (range c.self.inside) c.self.inside.lengths c.self.invariant)
 
 pub returns-clause-value : goal.returns-clause-value
-returns-clause-value c =
+returns-clause-value g c =
     let s = c.self.inside in
     let is = c.unit_of-unit.ensures in
     let from = c.requires.from in
@@ -51,7 +51,7 @@ returns-clause-value c =
     rw (← c.self.view_is) (ap (λ (n : ℕ). Some (s.lo + n)) c.bytes_before.ensures ∙ last_is s.grain s.lo c.unit_of-unit.result c.args.place s.lengths (Some c.in-Some.begin) c.self.invariant.some (omega arith) c.in-Some.ensures)
 
 pub returns-clause-unit : goal.returns-clause-unit
-returns-clause-unit c =
+returns-clause-unit g c =
     let s = c.self.inside in
     let is = c.unit_of-unit.ensures in
     let from = c.requires.from in
@@ -59,4 +59,4 @@ returns-clause-unit c =
     rw (← c.self.view_is) (last_is s.grain s.lo c.unit_of-unit.result c.args.place s.lengths (Some c.in-Some.begin) c.self.invariant.some (omega arith) c.in-Some.ensures)
 
 pub returns-clause-ordered : goal.returns-clause-ordered
-returns-clause-ordered c = subst (λ (f : Free). AreHoles f.range.lo f.range.hi f.holes) c.self.view_is (AreHoles-cells (range c.self.inside) c.self.inside.lengths c.self.invariant)
+returns-clause-ordered g c = subst (λ (f : Free). AreHoles f.range.lo f.range.hi f.holes) c.self.view_is (AreHoles-cells (range c.self.inside) c.self.inside.lengths c.self.invariant)

@@ -6,17 +6,17 @@ use Rattle.w16_holes.proofs.Told.{IsInside-wide}
 use Rattle.w16_holes.proofs.side.SideHoles.length_below.Goals as goal
 
 pub begin_of-begin-requires-clause-fits : goal.begin_of-begin-requires-clause-fits
-begin_of-begin-requires-clause-fits c = let small = c.self.invariant.small in IsInside-wide c.self.inside.grain (c.self.inside.hi - c.self.inside.lo) 4294967295 c.self.inside.lengths (omega arith) c.self.invariant.inside
+begin_of-begin-requires-clause-fits g c = let small = c.self.invariant.small in IsInside-wide c.self.inside.grain (c.self.inside.hi - c.self.inside.lo) 4294967295 c.self.inside.lengths (omega arith) c.self.invariant.inside
 
 pub begin_of-begin-requires-clause-below : goal.begin_of-begin-requires-clause-below
-begin_of-begin-requires-clause-below c =
+begin_of-begin-requires-clause-below g c =
     let s = c.self.inside in
     let low = ap (λ (f : Free). f.range.lo) c.self.view_is in let from = c.requires.place.from in let is = c.unit_of-unit.ensures in
     last_cell s.grain s.lo c.unit_of-unit.result c.args.place s.lengths c.args.below c.self.invariant.some (omega arith)
     (subst (λ (f : Free). option_map (λ (k : ℕ). f.range.lo + f.range.grain * k) c.args.below ≡ last_before c.args.place f.holes) (sym c.self.view_is) c.requires.below)
 
 pub returns : goal.returns
-returns c =
+returns g c =
     let s = c.self.inside in
     let low = ap (λ (f : Free). f.range.lo) c.self.view_is in let from = c.requires.place.from in
     let is : c.args.place - s.lo - c.bytes_before.result ≡ s.grain * c.unit_of-unit.result - s.grain * c.begin_of-begin.result = omega arith in

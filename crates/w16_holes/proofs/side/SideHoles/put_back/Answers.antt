@@ -12,33 +12,33 @@ use Rattle.w16_holes.proofs.Steps.{two_sets, sets_apart, is_put, AreCells-put}
 use Rattle.w16_holes.specs.declared.side.SideHoles.TheInside.{Inside}
 use Rattle.w16_holes.proofs.side.SideHoles.put_back.Goals as goal
 
-abbrev range : Inside → Range
+abbrev range : {Z : Type 0} → Inside Z → Range
 range s = record { lo = s.lo; hi = s.hi; grain = s.grain }
 
 pub unit_of-next-requires-clause-grained : goal.unit_of-next-requires-clause-grained
-unit_of-next-requires-clause-grained c =
+unit_of-next-requires-clause-grained g c =
     let grain = ap (λ (f : Free). f.range.grain) c.self.view_is in
     subst (λ (m : ℕ). IsMultiple m (c.args.place + c.args.n)) (sym grain) (multiple_sum c.args.self.now.range.grain c.args.place c.args.n c.requires.part.grained c.requires.part.rounded)
 
 pub begin_of-begin-requires-clause-below : goal.begin_of-begin-requires-clause-below
-begin_of-begin-requires-clause-below c =
+begin_of-begin-requires-clause-below g c =
     let s = c.self.inside in
     let low = ap (λ (f : Free). f.range.lo) c.self.view_is in let from = c.requires.part.from in let is = c.unit_of-unit.ensures in
     last_cell s.grain s.lo c.unit_of-unit.result c.args.place s.lengths c.args.below c.self.invariant.some (omega arith)
     (subst (λ (f : Free). option_map (λ (k : ℕ). f.range.lo + f.range.grain * k) c.args.below ≡ last_before c.args.place f.holes) (sym c.self.view_is) c.requires.below)
 
 pub set-requires : goal.set-requires
-set-requires c =
+set-requires g c =
     let t = is_put (range c.self.inside) c.self.inside.lengths c.args.self.now c.self.view_is c.self.invariant c.args.place c.args.n c.unit_of-unit.result c.unit_of-next.result c.requires.part c.unit_of-unit.ensures c.unit_of-next.ensures c.begin_of-begin.result c.begin_of-begin.ensures c.requires.used in
     put_lt t
 
 pub set-requires-2 : goal.set-requires-2
-set-requires-2 c =
+set-requires-2 g c =
     let t = is_put (range c.self.inside) c.self.inside.lengths c.args.self.now c.self.view_is c.self.invariant c.args.place c.args.n c.unit_of-unit.result c.unit_of-next.result c.requires.part c.unit_of-unit.ensures c.unit_of-next.ensures c.begin_of-begin.result c.begin_of-begin.ensures c.requires.used in
     let lt = put_next t in let e = ap length c.set.ensures in omega (arith, length-set {A = ℕ})
 
 pub invariant_of-self : goal.invariant_of-self
-invariant_of-self c =
+invariant_of-self g c =
     let s = c.self.inside in let k = c.begin_of-begin.result in let p = c.unit_of-unit.result in let q = c.unit_of-next.result in
     let t = is_put (range c.self.inside) c.self.inside.lengths c.args.self.now c.self.view_is c.self.invariant c.args.place c.args.n c.unit_of-unit.result c.unit_of-next.result c.requires.part c.unit_of-unit.ensures c.unit_of-next.ensures c.begin_of-begin.result c.begin_of-begin.ensures c.requires.used in
     let less = put_before t in
@@ -47,7 +47,7 @@ invariant_of-self c =
     subst (AreCells (range s)) (sym cells) (AreCells-put (range s) s.lengths c.args.place (c.args.place + c.args.n) p q c.self.invariant k t)
 
 pub returns-clause-holes : goal.returns-clause-holes
-returns-clause-holes c =
+returns-clause-holes g c =
     let s = c.self.inside in let k = c.begin_of-begin.result in let p = c.unit_of-unit.result in let q = c.unit_of-next.result in
     let t = is_put (range c.self.inside) c.self.inside.lengths c.args.self.now c.self.view_is c.self.invariant c.args.place c.args.n c.unit_of-unit.result c.unit_of-next.result c.requires.part c.unit_of-unit.ensures c.unit_of-next.ensures c.begin_of-begin.result c.begin_of-begin.ensures c.requires.used in
     let less = put_before t in
@@ -56,10 +56,10 @@ returns-clause-holes c =
     rw (← c.self.view_is) (ap (spans s.grain s.lo) cells ∙ put_spans t)
 
 pub begin_of-begin-requires-clause-inside : goal.begin_of-begin-requires-clause-inside
-begin_of-begin-requires-clause-inside c = grind (arith, common_steps)
+begin_of-begin-requires-clause-inside g c = grind (arith, common_steps)
 
 pub get-requires : goal.get-requires
-get-requires c = grind (arith, common_steps)
+get-requires g c = grind (arith, common_steps)
 
 pub overflow_add-end-2 : goal.overflow_add-end-2
-overflow_add-end-2 c = grind (arith, common_steps)
+overflow_add-end-2 g c = grind (arith, common_steps)

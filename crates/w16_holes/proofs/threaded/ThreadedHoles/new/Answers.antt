@@ -6,24 +6,24 @@ use Rattle.w16_holes.proofs.Links.{multiple_of_8, hole_kept, one_threaded}
 use Rattle.w16_holes.proofs.threaded.ThreadedHoles.new.Goals as goal
 
 pub set_hole-requires : goal.set_hole-requires
-set_hole-requires c = λ lt.
+set_hole-requires g c = λ lt.
     let low = multiple_of_8 c.args.grain c.args.lo c.requires.wide c.requires.low in
     let high = multiple_of_8 c.args.grain c.args.hi c.requires.wide c.requires.high in
     let fits = room c.args.lo c.args.hi low high lt in
     let inside = c.requires.inside in omega arith
 
 pub invariant_of-result : goal.invariant_of-result
-invariant_of-result c = subst (λ (f : Free). HasRoom f.range) (sym c.in_ok-side.ensures) (record { wide = c.requires.wide; small = c.ranges.hi.fits })
+invariant_of-result g c = subst (λ (f : Free). HasRoom f.range) (sym c.in_ok-side.ensures) (record { wide = c.requires.wide; small = c.ranges.hi.fits })
 
 pub returns-clause-kept : goal.returns-clause-kept
-returns-clause-kept c =
+returns-clause-kept g c =
     let low = multiple_of_8 c.args.grain c.args.lo c.requires.wide c.requires.low in
     let high = multiple_of_8 c.args.grain c.args.hi c.requires.wide c.requires.high in
     subst (λ (f : Free). AreThreaded f.holes c.set_hole.new.space.bytes.items) (sym c.in_ok-side.ensures)
     (subst (λ (l : List ℕ). AreThreaded (add_span c.args.lo c.args.hi []) l) (sym c.set_hole.ensures.bytes) (one_threaded c.args.lo c.args.hi c.args.space.now.bytes.items low high c.requires.inside c.ranges.hi.fits))
 
 pub returns-clause-bytes : goal.returns-clause-bytes
-returns-clause-bytes c =
+returns-clause-bytes g c =
     let low = multiple_of_8 c.args.grain c.args.lo c.requires.wide c.requires.low in
     let high = multiple_of_8 c.args.grain c.args.hi c.requires.wide c.requires.high in
     let kept = hole_kept c.args.lo c.args.hi no_hole c.args.space.now.bytes.items low high c.requires.inside in

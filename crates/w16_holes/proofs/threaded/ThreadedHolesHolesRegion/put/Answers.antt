@@ -7,13 +7,13 @@ use Rattle.w16_holes.proofs.Links.{place_behind, put_less, put_top, put_fits, pu
 use Rattle.w16_holes.proofs.threaded.ThreadedHolesHolesRegion.put.Goals as goal
 
 pub next_above-next-requires-clause-place : goal.next_above-next-requires-clause-place
-next_above-next-requires-clause-place c =
+next_above-next-requires-clause-place g c =
     let f = c.self.inside.side in
     let part : IsPart f.range c.args.place c.args.n = subst (λ (g : Free). IsPart g.range c.args.place c.args.n) (sym c.self.view_is) c.requires.part in
     place_behind f.range c.args.place c.args.n part
 
 pub next_above-next-requires-clause-below : goal.next_above-next-requires-clause-below
-next_above-next-requires-clause-below c =
+next_above-next-requires-clause-below g c =
     let f = c.self.inside.side in
     let part : IsPart f.range c.args.place c.args.n = subst (λ (g : Free). IsPart g.range c.args.place c.args.n) (sym c.self.view_is) c.requires.part in
     let used : IsUsed c.args.place (c.args.place + c.args.n) f.holes = subst (λ (g : Free). IsUsed c.args.place (c.args.place + c.args.n) g.holes) (sym c.self.view_is) c.requires.used in
@@ -21,13 +21,13 @@ next_above-next-requires-clause-below c =
     c.below-below.ensures.value ∙ sym (last_used c.args.place (c.args.place + c.args.n) f.range.lo f.range.hi f.holes (omega arith) c.below-below.ensures.ordered used)
 
 pub at-requires-clause-place : goal.at-requires-clause-place
-at-requires-clause-place c =
+at-requires-clause-place g c =
     let f = c.self.inside.side in
     let part : IsPart f.range c.args.place c.args.n = subst (λ (g : Free). IsPart g.range c.args.place c.args.n) (sym c.self.view_is) c.requires.part in
     place_behind f.range c.args.place c.args.n part
 
 pub overflow_add-end-2 : goal.overflow_add-end-2
-overflow_add-end-2 c =
+overflow_add-end-2 g c =
     let f = c.self.inside.side in
     let part : IsPart f.range c.args.place c.args.n = subst (λ (g : Free). IsPart g.range c.args.place c.args.n) (sym c.self.view_is) c.requires.part in
     let thread : AreThreaded f.holes c.args.space.now.bytes.items = subst (λ (g : Free). AreThreaded g.holes c.args.space.now.bytes.items) (sym c.self.view_is) c.requires.kept in
@@ -38,7 +38,7 @@ overflow_add-end-2 c =
     record { fits = omega arith }
 
 pub overflow_sub-from : goal.overflow_sub-from
-overflow_sub-from c =
+overflow_sub-from g c =
     let f = c.self.inside.side in
     let part : IsPart f.range c.args.place c.args.n = subst (λ (g : Free). IsPart g.range c.args.place c.args.n) (sym c.self.view_is) c.requires.part in
     let thread : AreThreaded f.holes c.args.space.now.bytes.items = subst (λ (g : Free). AreThreaded g.holes c.args.space.now.bytes.items) (sym c.self.view_is) c.requires.kept in
@@ -47,7 +47,7 @@ overflow_sub-from c =
     let is = c.length_below.ensures in omega arith
 
 pub link-requires : goal.link-requires
-link-requires c =
+link-requires g c =
     let f = c.self.inside.side in
     let part : IsPart f.range c.args.place c.args.n = subst (λ (g : Free). IsPart g.range c.args.place c.args.n) (sym c.self.view_is) c.requires.part in
     let thread : AreThreaded f.holes c.args.space.now.bytes.items = subst (λ (g : Free). AreThreaded g.holes c.args.space.now.bytes.items) (sym c.self.view_is) c.requires.kept in
@@ -56,7 +56,7 @@ link-requires c =
     (put_room f.range f.holes c.args.space.now.bytes.items c.args.place c.args.n c.self.invariant part c.below-below.ensures.ordered thread used c.requires.inside)
 
 pub set_words-requires : goal.set_words-requires
-set_words-requires c =
+set_words-requires g c =
     let f = c.self.inside.side in
     let part : IsPart f.range c.args.place c.args.n = subst (λ (g : Free). IsPart g.range c.args.place c.args.n) (sym c.self.view_is) c.requires.part in
     let thread : AreThreaded f.holes c.args.space.now.bytes.items = subst (λ (g : Free). AreThreaded g.holes c.args.space.now.bytes.items) (sym c.self.view_is) c.requires.kept in
@@ -66,7 +66,7 @@ set_words-requires c =
     let long = c.link.ensures.length in omega arith
 
 pub returns-clause-kept : goal.returns-clause-kept
-returns-clause-kept c =
+returns-clause-kept g c =
     let f = c.self.inside.side in
     let part : IsPart f.range c.args.place c.args.n = subst (λ (g : Free). IsPart g.range c.args.place c.args.n) (sym c.self.view_is) c.requires.part in
     let thread : AreThreaded f.holes c.args.space.now.bytes.items = subst (λ (g : Free). AreThreaded g.holes c.args.space.now.bytes.items) (sym c.self.view_is) c.requires.kept in
@@ -75,7 +75,7 @@ returns-clause-kept c =
     subst (λ (hs : List Span). AreThreaded hs c.set_words.new.space.bytes.items) (sym c.put_back.ensures.holes) written.0
 
 pub returns-clause-bytes : goal.returns-clause-bytes
-returns-clause-bytes c =
+returns-clause-bytes g c =
     let f = c.self.inside.side in
     let part : IsPart f.range c.args.place c.args.n = subst (λ (g : Free). IsPart g.range c.args.place c.args.n) (sym c.self.view_is) c.requires.part in
     let thread : AreThreaded f.holes c.args.space.now.bytes.items = subst (λ (g : Free). AreThreaded g.holes c.args.space.now.bytes.items) (sym c.self.view_is) c.requires.kept in

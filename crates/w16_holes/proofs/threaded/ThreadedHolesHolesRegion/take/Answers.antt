@@ -6,7 +6,7 @@ use Rattle.w16_holes.proofs.Links.{take_there, take_from, take_fits, take_top, t
 use Rattle.w16_holes.proofs.threaded.ThreadedHolesHolesRegion.take.Goals as goal
 
 pub word_at-requires : goal.word_at-requires
-word_at-requires c =
+word_at-requires g c =
     let f = c.self.inside.side in
     let part : IsPart f.range c.args.place c.args.n = subst (λ (g : Free). IsPart g.range c.args.place c.args.n) (sym c.self.view_is) c.requires.part in
     let thread : AreThreaded f.holes c.args.space.now.bytes.items = subst (λ (g : Free). AreThreaded g.holes c.args.space.now.bytes.items) (sym c.self.view_is) c.requires.kept in
@@ -14,7 +14,7 @@ word_at-requires c =
     let fits = take_fits f.range f.holes c.args.space.now.bytes.items c.args.place c.args.n c.self.invariant part c.below-below.ensures.ordered thread free c.in-Some.begin c.in-Some.ensures in omega arith
 
 pub overflow_add-end : goal.overflow_add-end
-overflow_add-end c =
+overflow_add-end g c =
     let f = c.self.inside.side in
     let part : IsPart f.range c.args.place c.args.n = subst (λ (g : Free). IsPart g.range c.args.place c.args.n) (sym c.self.view_is) c.requires.part in
     let thread : AreThreaded f.holes c.args.space.now.bytes.items = subst (λ (g : Free). AreThreaded g.holes c.args.space.now.bytes.items) (sym c.self.view_is) c.requires.kept in
@@ -25,7 +25,7 @@ overflow_add-end c =
     record { fits = omega arith }
 
 pub overflow_add-begin : goal.overflow_add-begin
-overflow_add-begin c =
+overflow_add-begin g c =
     let f = c.self.inside.side in
     let part : IsPart f.range c.args.place c.args.n = subst (λ (g : Free). IsPart g.range c.args.place c.args.n) (sym c.self.view_is) c.requires.part in
     let thread : AreThreaded f.holes c.args.space.now.bytes.items = subst (λ (g : Free). AreThreaded g.holes c.args.space.now.bytes.items) (sym c.self.view_is) c.requires.kept in
@@ -35,7 +35,7 @@ overflow_add-begin c =
     record { fits = omega arith }
 
 pub word_at-next-requires : goal.word_at-next-requires
-word_at-next-requires c =
+word_at-next-requires g c =
     let f = c.self.inside.side in
     let part : IsPart f.range c.args.place c.args.n = subst (λ (g : Free). IsPart g.range c.args.place c.args.n) (sym c.self.view_is) c.requires.part in
     let thread : AreThreaded f.holes c.args.space.now.bytes.items = subst (λ (g : Free). AreThreaded g.holes c.args.space.now.bytes.items) (sym c.self.view_is) c.requires.kept in
@@ -43,7 +43,7 @@ word_at-next-requires c =
     let fits = take_fits f.range f.holes c.args.space.now.bytes.items c.args.place c.args.n c.self.invariant part c.below-below.ensures.ordered thread free c.in-Some.begin c.in-Some.ensures in omega arith
 
 pub set_hole-behind-requires : goal.set_hole-behind-requires
-set_hole-behind-requires c =
+set_hole-behind-requires g c =
     let f = c.self.inside.side in
     let part : IsPart f.range c.args.place c.args.n = subst (λ (g : Free). IsPart g.range c.args.place c.args.n) (sym c.self.view_is) c.requires.part in
     let thread : AreThreaded f.holes c.args.space.now.bytes.items = subst (λ (g : Free). AreThreaded g.holes c.args.space.now.bytes.items) (sym c.self.view_is) c.requires.kept in
@@ -51,7 +51,7 @@ set_hole-behind-requires c =
     let is = c.word_at.ensures in λ lt. take_room f.range f.holes c.args.space.now.bytes.items c.args.place c.args.n c.self.invariant part c.below-below.ensures.ordered thread free c.in-Some.begin c.in-Some.ensures (omega arith)
 
 pub link-requires : goal.link-requires
-link-requires c =
+link-requires g c =
     let f = c.self.inside.side in
     let part : IsPart f.range c.args.place c.args.n = subst (λ (g : Free). IsPart g.range c.args.place c.args.n) (sym c.self.view_is) c.requires.part in
     let thread : AreThreaded f.holes c.args.space.now.bytes.items = subst (λ (g : Free). AreThreaded g.holes c.args.space.now.bytes.items) (sym c.self.view_is) c.requires.kept in
@@ -60,7 +60,7 @@ link-requires c =
     (subst (λ (m : ℕ). IfSome (last_before c.args.place f.holes) (λ (x : ℕ). x + 8 ≤ m)) (sym c.set_hole-behind.ensures.length) (take_link f.range f.holes c.args.space.now.bytes.items c.args.place c.args.n c.self.invariant part c.below-below.ensures.ordered thread free c.in-Some.begin c.in-Some.ensures))
 
 pub overflow_sub-place : goal.overflow_sub-place
-overflow_sub-place c =
+overflow_sub-place g c =
     let f = c.self.inside.side in
     let part : IsPart f.range c.args.place c.args.n = subst (λ (g : Free). IsPart g.range c.args.place c.args.n) (sym c.self.view_is) c.requires.part in
     let thread : AreThreaded f.holes c.args.space.now.bytes.items = subst (λ (g : Free). AreThreaded g.holes c.args.space.now.bytes.items) (sym c.self.view_is) c.requires.kept in
@@ -68,7 +68,7 @@ overflow_sub-place c =
     take_from f.range f.holes c.args.space.now.bytes.items c.args.place c.args.n c.self.invariant part c.below-below.ensures.ordered thread free c.in-Some.begin c.in-Some.ensures
 
 pub set_word-requires : goal.set_word-requires
-set_word-requires c =
+set_word-requires g c =
     let f = c.self.inside.side in
     let part : IsPart f.range c.args.place c.args.n = subst (λ (g : Free). IsPart g.range c.args.place c.args.n) (sym c.self.view_is) c.requires.part in
     let thread : AreThreaded f.holes c.args.space.now.bytes.items = subst (λ (g : Free). AreThreaded g.holes c.args.space.now.bytes.items) (sym c.self.view_is) c.requires.kept in
@@ -78,7 +78,7 @@ set_word-requires c =
     let longer = c.set_hole-behind.ensures.length in omega arith
 
 pub returns-in-Some-clause-kept : goal.returns-in-Some-clause-kept
-returns-in-Some-clause-kept c =
+returns-in-Some-clause-kept g c =
     let f = c.self.inside.side in
     let part : IsPart f.range c.args.place c.args.n = subst (λ (g : Free). IsPart g.range c.args.place c.args.n) (sym c.self.view_is) c.requires.part in
     let thread : AreThreaded f.holes c.args.space.now.bytes.items = subst (λ (g : Free). AreThreaded g.holes c.args.space.now.bytes.items) (sym c.self.view_is) c.requires.kept in
@@ -87,7 +87,7 @@ returns-in-Some-clause-kept c =
     subst (λ (hs : List Span). AreThreaded hs c.set_word.new.self.bytes.items) (sym c.take_out.ensures.holes) written.0
 
 pub returns-in-Some-clause-bytes : goal.returns-in-Some-clause-bytes
-returns-in-Some-clause-bytes c =
+returns-in-Some-clause-bytes g c =
     let f = c.self.inside.side in
     let part : IsPart f.range c.args.place c.args.n = subst (λ (g : Free). IsPart g.range c.args.place c.args.n) (sym c.self.view_is) c.requires.part in
     let thread : AreThreaded f.holes c.args.space.now.bytes.items = subst (λ (g : Free). AreThreaded g.holes c.args.space.now.bytes.items) (sym c.self.view_is) c.requires.kept in
@@ -96,7 +96,7 @@ returns-in-Some-clause-bytes c =
     subst (λ (g : Free). AreSameOutside g.holes c.args.space.now.bytes.items c.set_word.new.self.bytes.items) c.self.view_is written.1
 
 pub returns-in_default-clause-holes : goal.returns-in_default-clause-holes
-returns-in_default-clause-holes c =
+returns-in_default-clause-holes g c =
     let f = c.self.inside.side in
     let part : IsPart f.range c.args.place c.args.n = subst (λ (g : Free). IsPart g.range c.args.place c.args.n) (sym c.self.view_is) c.requires.part in
     let thread : AreThreaded f.holes c.args.space.now.bytes.items = subst (λ (g : Free). AreThreaded g.holes c.args.space.now.bytes.items) (sym c.self.view_is) c.requires.kept in

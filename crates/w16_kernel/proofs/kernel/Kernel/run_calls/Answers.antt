@@ -20,13 +20,14 @@ loop-call-preserved g c =
     let step = subst (λ reply. KernelStep c.loop-call.self (command_of call) reply c.call.new.self) (sym c.of.ensures) c.in_ok-reply.ensures.step in
     let few = subst (λ reply. IsFewest c.loop-call.self (record { command = command_of call; reply = reply; after = c.call.new.self })) (sym c.of.ensures) c.in_ok-reply.ensures.fewest in
     let longer = ran_more KernelStep c.args.self.now (take i calls) c.loop-call.answers.items c.loop-call.self call c.of.result c.call.new.self c.loop-call.invariant.ran step few in
-    record { ran = subst (λ (cs : List Call). Ran KernelStep c.args.self.now cs c.push_reserved.new.self.items c.call.new.self) (sym (take_more calls i (GlobalAlloc 0 0) (omega arith))) (rw c.push_reserved.ensures.items longer) }
+    let longest = c.push_reserved.ensures.capacity in let one = c.push_reserved.ensures.len in let count = c.loop-call.invariant.count in let room = c.loop-call.invariant.room in
+    record { count = omega arith; room = omega arith; ran = subst (λ (cs : List Call). Ran KernelStep c.args.self.now cs c.push_reserved.new.self.items c.call.new.self) (sym (take_more calls i (GlobalAlloc 0 0) (omega arith))) (rw c.push_reserved.ensures.items longer) }
 
 pub returns-in_err-answers-clause-refused : goal.returns-in_err-answers-clause-refused
 returns-in_err-answers-clause-refused g c = grind (arith, common_steps)
 
 pub push_reserved-requires : goal.push_reserved-requires
-push_reserved-requires g c = grind (arith, common_steps)
+push_reserved-requires g c = let more = c.loop-call-test.true in let count = c.loop-call.invariant.count in let room = c.loop-call.invariant.room in omega arith
 
 pub returns-clause-run : goal.returns-clause-run
 returns-clause-run g c = grind (arith, common_steps)

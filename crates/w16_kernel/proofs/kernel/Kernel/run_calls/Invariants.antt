@@ -1,8 +1,12 @@
-use Rattle.std.proofs.Common.{take}
+use Rattle.std.proofs.Common.{◌≡◌, ◌≤◌, take, length, vec_len, vec_capacity}
 use Rattle.w16_kernel.specs.Parts.{KernelStep}
 use Rattle.w16_kernel.proofs.Running.{Ran}
 use Rattle.w16_kernel.proofs.kernel.Kernel.run_calls.Given as goal
 
--- the calls so far, and their replies, are a run to the present world
+-- the calls so far, and their replies, are a run to the present world; there is an answer for each, and room for all
 abbrev pub invariant-loop-call : goal.invariant-loop-call
-invariant-loop-call g l = record { ran : Ran KernelStep l.fn.self (take l.call-index l.calls) l.answers.items l.self }
+invariant-loop-call g l = record {
+  ran : Ran KernelStep l.fn.self (take l.call-index l.calls) l.answers.items l.self;
+  count : vec_len l.answers ≡ l.call-index;
+  room : length l.calls ≤ vec_capacity l.answers;
+}

@@ -3,4 +3,4 @@ use Rattle.w16_machine.specs.Local.{IsLocalTable}
 use Rattle.w16_local.proofs.heap.LocalHeap.reveal_local.Goals as goal
 
 pub returns : goal.returns
-returns c = subst IsLocalTable c.self.view_is c.self.invariant.is_local
+returns g c = subst IsLocalTable c.self.view_is c.self.invariant.is_local

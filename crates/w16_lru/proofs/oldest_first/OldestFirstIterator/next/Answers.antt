@@ -4,10 +4,10 @@ use Rattle.w16_lru.proofs.Walks.{steps, some_left, next_place}
 use Rattle.w16_lru.proofs.oldest_first.OldestFirstIterator.next.Goals as goal
 
 pub returns-clause-steps : goal.returns-clause-steps
-returns-clause-steps c = steps c.args.self.now.order.now.ids c.args.self.now.left c.in_ok-id.id c.requires.0 (sym c.in_ok-id.was ∙ c.requires.1)
+returns-clause-steps g c = steps c.args.self.now.order.now.ids c.args.self.now.left c.in_ok-id.id c.requires.0 (sym c.in_ok-id.was ∙ c.requires.1)
 
 pub returns-clause-goes : goal.returns-clause-goes
-returns-clause-goes c =
+returns-clause-goes g c =
     let ids = c.args.self.now.order.now.ids in let left = c.args.self.now.left in
     let at = sym c.in_ok-id.was ∙ c.requires.1 in
     let some = some_left ids left c.in_ok-id.id c.requires.0 at in let le = c.requires.0 in

@@ -4,4 +4,4 @@ use Rattle.w16_region.proofs.region.Region.word_at.Goals as goal
 
 pub returns : goal.returns
 unfolding word_in
-returns c = search rules
+returns g c = search rules

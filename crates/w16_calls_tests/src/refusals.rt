@@ -1,0 +1,50 @@
+//! Want of memory: each growth of each constructor is refused in turn.
+
+use std::alloc::{AllocError, Global};
+use std::test::Fail;
+use w16_fuse::{Fuse, growths};
+use w16_global::Global16;
+use w16_kernel::Kernel;
+use w16_local::LocalHeaps;
+use w16_store::MemStore;
+
+/// What is made, with 16 selectors.
+#[derive(Clone, Copy, Debug)]
+enum Machine {
+    GlobalHeap,
+    LocalHeaps,
+    Kernel,
+}
+
+/// Each, and how many growths it takes: a global heap its attributes, two of selectors, its memory, one of holes and eight of an arena;
+/// local heaps two lists; a kernel both.
+static MACHINES: &[(Machine, u64)] = &[
+    (Machine::GlobalHeap, 13),
+    (Machine::LocalHeaps, 2),
+    (Machine::Kernel, 15),
+];
+
+/// Makes a kernel, and it goes.
+fn make_kernel(fuse: &Fuse<Global>, alloc: Global) -> Result<(), AllocError> {
+    let _kernel = Kernel::new(fuse, 4096, 16, MemStore::new(alloc))?;
+    Ok(())
+}
+
+/// Whether it is made. It goes at once.
+fn is_made(fuse: &Fuse<Global>, alloc: Global, machine: Machine) -> bool {
+    match machine {
+        Machine::GlobalHeap => Global16::new(fuse, 4096, 16).is_ok(),
+        Machine::LocalHeaps => LocalHeaps::new(fuse, 16).is_ok(),
+        Machine::Kernel => make_kernel(fuse, alloc).is_ok(),
+    }
+}
+
+#[test]
+fn constructors_fail_where_a_growth_is_refused(rt: HostRuntime) -> Result<(), Fail> {
+    let fuse = Fuse::new(rt.alloc());
+    for (machine, wanted) in MACHINES {
+        let taken = growths(&fuse, |fuse| is_made(fuse, rt.alloc(), *machine));
+        assert!(rt; taken == Some(*wanted), "{machine:?} takes {taken:?}");
+    }
+    Ok(())
+}

@@ -1,0 +1,166 @@
+-- The finite map of a table by handle.
+use Rattle.std.proofs.Common.{◌≡◌, ℕ, zero, suc, ◌+◌, ◌-◌, ◌<◌, ◌≤◌, inl, inr, List, [], ◌∷◌, length, get_or, set, take, drop, replicate, Bool, cond, Option, Some, None, option_map, is_some, refl, sym, ap, ◌∙◌, arith}
+use Rattle.std.specs.Prelude.{◌⊎◌, OnSome, IfNone, count_by, is_none}
+use Rattle.std.specs.Ordering.{nat_cmp}
+use Rattle.std.specs.Cmp.{nat_cmp_total, nat_cmp_is}
+use Rattle.std.specs.declared.cmp.Ordering.TheVariants.{Less}
+use Rattle.std.specs.FinMap as finmap
+use Rattle.std.specs.FinMap.{entries-insert, len-empty, len-entries, same_map, nat_cmp-IsAntisymmetric}
+use Rattle.std.specs.FinMap.Entries.{put, by_order}
+use Rattle.std.proofs.lemmas.Bool.{cases_eq}
+use Rattle.std.proofs.lemmas.List.{get_or_past, get_or-set_same, get_or-set_other, get_or-replicate, set-get_or, length-set, length-replicate, length-drop}
+use Rattle.std.proofs.Math.Seq.{take-length}
+use Rattle.std.proofs.lemmas.List.Sums.{sum_by-cons}
+use Rattle.w16_model.specs.Table.{by_id}
+use Rattle.w16_model.proofs.Tables.{get-by_id}
+use Rattle.w16_model.proofs.KeptHeaps.{inserted_here, inserted_other, taken_here, taken_other}
+use Rattle.w16_loading.specs.declared.TheConstants.{FIRST_MODULE, MOST_MODULES}
+use Rattle.w16_loading.specs.Modules.{Module, Named, free_modules, module_in}
+use Rattle.w16_loader.specs.declared.entry.Entry.{Entry}
+use Rattle.w16_loader.specs.Entries.{named_of}
+use Rattle.w16_loader.specs.Registry.{listed, registered, IsTable}
+
+-- nothing is before the first
+no_entries : {X : Type 0} (es : List X) → length es ≡ 0 → es ≡ []
+no_entries [] e = refl
+no_entries (x ∷ xs) e = absurd (omega arith)
+
+-- a count goes by its first
+count_first : {X : Type 0} (p : X → Bool) (x : X) (xs : List X) → count_by p (x ∷ xs) ≡ cond (p x) 1 0 + count_by p xs
+count_first p x xs = sum_by-cons (λ y. cond (p y) 1 0) x xs
+
+-- a list from a place on
+pub rest_behind : {X : Type 0} (k : ℕ) (xs : List X) → take (length xs - k) (drop k xs) ≡ drop k xs
+rest_behind k xs = ap (λ n. take n (drop k xs)) (sym (length-drop k xs)) ∙ take-length (drop k xs)
+
+some_is_not_none : {X : Type 0} (x : X) → Some x ≡ None → ⊥
+some_is_not_none x e = cc
+
+module _ {A : Type 0} where
+  -- what a handle names
+  pub named_at : (es : List (Option (Entry A))) (handle : ℕ) → finmap.get (registered es) handle ≡ option_map named_of (get_or es handle None)
+  named_at es handle = get-by_id (λ _ e. named_of e) es handle
+
+  pub named_set : (es : List (Option (Entry A))) (handle : ℕ) (e : Entry A) → handle < length es → registered (set es handle (Some e)) ≡ finmap.insert (registered es) handle (named_of e)
+  named_set es handle e lt = same_map nat_cmp_total nat_cmp-IsAntisymmetric (registered (set es handle (Some e))) (finmap.insert (registered es) handle (named_of e)) (λ q. elim (cases_eq q handle) [
+    | inl i ↦ named_at (set es handle (Some e)) q ∙ ap (λ k. option_map named_of (get_or (set es handle (Some e)) k None)) i ∙ ap (option_map named_of) (get_or-set_same es handle (Some e) None lt) ∙ sym (inserted_here (registered es) handle (named_of e) q i)
+    | inr d ↦ named_at (set es handle (Some e)) q ∙ ap (option_map named_of) (get_or-set_other es handle q (Some e) None d) ∙ sym (named_at es q) ∙ sym (inserted_other (registered es) handle (named_of e) q d)
+  ])
+
+  pub named_unset : (es : List (Option (Entry A))) (handle : ℕ) → handle < length es → registered (set es handle None) ≡ finmap.remove (registered es) handle
+  named_unset es handle lt = same_map nat_cmp_total nat_cmp-IsAntisymmetric (registered (set es handle None)) (finmap.remove (registered es) handle) (λ q. elim (cases_eq q handle) [
+    | inl i ↦ named_at (set es handle None) q ∙ ap (λ k. option_map named_of (get_or (set es handle None) k None)) i ∙ ap (option_map named_of) (get_or-set_same es handle None None lt) ∙ sym (taken_here (registered es) handle q i)
+    | inr d ↦ named_at (set es handle None) q ∙ ap (option_map named_of) (get_or-set_other es handle q None None d) ∙ sym (named_at es q) ∙ sym (taken_other (registered es) handle q d)
+  ])
+
+  -- The entries of the map are those of the table, in its order.
+  before_all : (id j : ℕ) (x : Named) (es : List (Option (Entry A))) → id < j → put nat_cmp id x (by_id (λ _ e. named_of e) j es) ≡ (id, x) ∷ by_id (λ _ e. named_of e) j es
+  before_all id j x [] lt = refl
+  before_all id j x (None ∷ es) lt = before_all id (j + 1) x es (omega arith)
+  before_all id j x (Some e ∷ es) lt =
+      let rest = by_id (λ _ e. named_of e) (j + 1) es in
+      ap (λ o. by_order o ((id, x) ∷ (j, named_of e) ∷ rest) ((j, x) ∷ rest) ((j, named_of e) ∷ put nat_cmp id x rest)) (sym (nat_cmp_is id j Less lt))
+
+  entries_from : (id : ℕ) (es : List (Option (Entry A))) → finmap.entries (finmap.from_entries {R = nat_cmp} (by_id (λ _ e. named_of e) id es)) ≡ by_id (λ _ e. named_of e) id es
+  entries_from id [] = no_entries (finmap.entries finmap.empty) (sym (len-entries finmap.empty) ∙ len-empty nat_cmp Named)
+  entries_from id (None ∷ es) = entries_from (id + 1) es
+  entries_from id (Some e ∷ es) = entries-insert nat_cmp_total (finmap.from_entries (by_id (λ _ e. named_of e) (id + 1) es)) id (named_of e)
+      ∙ ap (put nat_cmp id (named_of e)) (entries_from (id + 1) es) ∙ before_all id (id + 1) (named_of e) es (omega arith)
+
+  pub entries_are : (es : List (Option (Entry A))) → finmap.entries (registered es) ≡ listed es
+  entries_are es = entries_from 0 es
+
+  -- How many there are, and how many handles are free.
+  many_from : (id : ℕ) (es : List (Option (Entry A))) → length (by_id (λ _ e. named_of e) id es) ≡ count_by is_some es
+  many_from id [] = refl
+  many_from id (None ∷ es) = many_from (id + 1) es
+  many_from id (Some e ∷ es) = ap suc (many_from (id + 1) es) ∙ omega arith ∙ sym (count_first is_some (Some e) es)
+
+  or_none : (x : Option (Entry A)) (some none : ℕ) → cond (is_some x) 1 0 + some + (cond (is_none x) 1 0 + none) ≡ suc (some + none)
+  or_none None some none = omega arith
+  or_none (Some e) some none = omega arith
+
+  all : (es : List (Option (Entry A))) → count_by is_some es + count_by is_none es ≡ length es
+  all [] = refl
+  all (x ∷ es) =
+      let both = or_none x (count_by is_some es) (count_by is_none es) in
+      let rest = all es in
+      omega (arith, count_first is_some x es, count_first is_none x es, both, rest)
+
+  free_behind : (k : ℕ) (es : List (Option (Entry A))) → k ≤ length es → ((q : ℕ) → q < k → get_or es q None ≡ None) → count_by is_some es + count_by is_none (drop k es) ≡ length es - k
+  free_behind zero es le none = all es ∙ omega arith
+  free_behind (suc k) [] le none = absurd (omega arith)
+  free_behind (suc k) (None ∷ es) le none =
+      let rest : count_by is_some es + count_by is_none (drop k es) ≡ length es - k = free_behind k es (omega arith) (λ q lt. none (suc q) (omega arith)) in
+      let first : count_by is_some (None ∷ es) ≡ 0 + count_by is_some es = count_first is_some None es in
+      omega arith
+  free_behind (suc k) (Some e ∷ es) le none = absurd (some_is_not_none e (none 0 (omega arith)))
+
+  pub free_are : (es : List (Option (Entry A))) → IsTable es → count_by is_none (drop FIRST_MODULE es) ≡ free_modules (registered es)
+  free_are es is =
+      let many = len-entries (registered es) ∙ ap length (entries_are es) ∙ many_from 0 es in
+      let free = free_behind FIRST_MODULE es (omega (arith, is.many)) is.none_below in
+      omega (arith, many, free, is.many)
+
+  -- A new table.
+  none_listed : (id : ℕ) (es : List (Option (Entry A))) (n : ℕ) → es ≡ replicate n None → by_id (λ _ e. named_of e) id es ≡ []
+  none_listed id [] n e = refl
+  none_listed id (None ∷ es) zero e = cc
+  none_listed id (None ∷ es) (suc n) e = let rest : es ≡ replicate n None = cc in none_listed (id + 1) es n rest
+  none_listed id (Some x ∷ es) zero e = cc
+  none_listed id (Some x ∷ es) (suc n) e = cc
+
+  pub none_registered : (es : List (Option (Entry A))) (n : ℕ) → es ≡ replicate n None → registered es ≡ finmap.empty
+  none_registered es n e = ap finmap.from_entries (none_listed 0 es n e)
+
+  -- A table in which a module is taken out of its place.
+  either : {M : Type 0} (result : Option M) (old new : Option (Entry A)) → OnSome result (new ≡ None) → IfNone result (new ≡ old) → (new ≡ None) ⊎ (new ≡ old)
+  either (Some m) old new gone none = inl gone
+  either None old new gone none = inr none
+
+  one_table : (es : List (Option (Entry A))) (place : ℕ) (old new : Option (Entry A)) → old ≡ get_or es place None → IsTable es → (new ≡ None) ⊎ (new ≡ old) → place < length es → IsTable (set es place new)
+  one_table es place old new was is cases lt = record {
+    many = length-set es place new ∙ is.many;
+    none_below = λ q below. elim (cases_eq q place) [
+      | inl e ↦ ap (λ k. get_or (set es place new) k None) e ∙ get_or-set_same es place new None lt ∙ elim cases [
+        | inl none ↦ none
+        | inr same ↦ same ∙ was ∙ ap (λ k. get_or es k None) (sym e) ∙ is.none_below q below
+      ]
+      | inr d ↦ get_or-set_other es place q new None d ∙ is.none_below q below
+    ];
+  }
+
+  -- only a handle from the first to the last names a module
+  pub named_inside : {M : Type 0} (es : List (Option (Entry A))) (handle : ℕ) (result : Option M) (value : M → Module) → IsTable es
+      → option_map value result ≡ module_in (option_map named_of (get_or es handle None)) → OnSome result ((FIRST_MODULE ≤ handle) × (handle < FIRST_MODULE + MOST_MODULES))
+  named_inside es handle None value is found = tt
+  named_inside es handle (Some m) value is found =
+      let none : get_or es handle None ≡ None → ⊥ = λ e. some_is_not_none (value m) (found ∙ ap (λ o. module_in (option_map named_of o)) e) in
+      let first : handle < FIRST_MODULE → ⊥ = λ lt. none (is.none_below handle lt) in
+      let last : length es ≤ handle → ⊥ = λ le. none (get_or_past es handle None le) in
+      (omega arith, omega (arith, is.many))
+
+  module _ {M : Type 0} (es : List (Option (Entry A))) (place : ℕ) (lt : place < length es) (old : Option (Entry A)) (was : old ≡ get_or es place None) where
+    module _ (result : Option M) (new : Option (Entry A)) (gone : OnSome result (new ≡ None)) (none : IfNone result (new ≡ old)) where
+      pub taken_table : IsTable es → IsTable (set es place new)
+      taken_table is = one_table es place old new was is (either result old new gone none) lt
+
+      pub taken_gone : OnSome result (registered (set es place new) ≡ finmap.remove (registered es) place)
+      taken_gone = from result gone
+        where
+          from : (result : Option M) → OnSome result (new ≡ None) → OnSome result (registered (set es place new) ≡ finmap.remove (registered es) place)
+          from None gone = tt
+          from (Some m) gone = ap (λ x. registered (set es place x)) gone ∙ named_unset es place lt
+
+      pub taken_none : IfNone result (registered (set es place new) ≡ registered es)
+      taken_none = from result none
+        where
+          from : (result : Option M) → IfNone result (new ≡ old) → IfNone result (registered (set es place new) ≡ registered es)
+          from None none = ap (λ x. registered (set es place x)) (none ∙ was) ∙ ap registered (set-get_or es place None)
+          from (Some m) none = tt
+
+  pub new_table : (es : List (Option (Entry A))) → es ≡ replicate (FIRST_MODULE + MOST_MODULES) None → IsTable es
+  new_table es e = record {
+    many = ap length e ∙ length-replicate {A = Option (Entry A)} (FIRST_MODULE + MOST_MODULES) None;
+    none_below = λ q lt. ap (λ xs. get_or xs q None) e ∙ get_or-replicate {A = Option (Entry A)} (FIRST_MODULE + MOST_MODULES) q None None (omega arith);
+  }

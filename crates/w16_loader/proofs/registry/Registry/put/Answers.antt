@@ -1,0 +1,14 @@
+-- The table's entry is the map's.
+use Rattle.std.proofs.Common.{◌<◌, Some, length, set, ap, ◌∙◌, arith}
+use Rattle.std.specs.FinMap as finmap
+use Rattle.w16_loader.specs.Entries.{named_of}
+use Rattle.w16_loader.specs.Registry.{registered}
+use Rattle.w16_loader.proofs.Registered.{named_set}
+use Rattle.w16_loader.proofs.registry.Registry.put.Goals as goal
+
+pub returns : goal.returns
+returns g c =
+    let inside : c.args.handle < length c.self.inside.entries.items = omega arith in
+    ap (λ place. registered (set c.self.inside.entries.items place (Some c.args.entry))) c.from.ensures
+    ∙ named_set c.self.inside.entries.items c.args.handle c.args.entry inside
+    ∙ ap (λ modules. finmap.insert modules c.args.handle (named_of c.args.entry)) c.self.view_is

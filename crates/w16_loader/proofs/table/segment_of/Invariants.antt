@@ -1,0 +1,9 @@
+-- The owner among the places that are left is the owner among all.
+use Rattle.std.proofs.Common.{◌≡◌}
+use Rattle.w16_loading.specs.Owner.{segment_among}
+use Rattle.w16_loader.specs.Registry.{listed}
+use Rattle.w16_loader.proofs.Listed.{listed_from}
+use Rattle.w16_loader.proofs.table.segment_of.Given as goal
+
+abbrev pub invariant-loop-handle : goal.invariant-loop-handle
+invariant-loop-handle g l = segment_among (listed_from l.handle l.entries) l.slot ≡ segment_among (listed l.entries) l.slot

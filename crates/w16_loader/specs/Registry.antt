@@ -1,0 +1,42 @@
+-- Modules in a table by handle.
+use Rattle.std.specs.Prelude.{◌≡◌, ℕ, ◌+◌, ◌<◌, List, length, Option, None, Some, slice_index_or, find, option_map}
+use Rattle.std.specs.FinMap as finmap
+use Rattle.w16_model.specs.Table.{by_id}
+use Rattle.w16_store.specs.Names.{is_named}
+use Rattle.w16_loading.specs.declared.TheConstants.{FIRST_MODULE, MOST_MODULES}
+use Rattle.w16_loading.specs.Modules.{LoadingWorld, Modules, Named, IsFreeModule, name_of}
+use Rattle.w16_loading.specs.Owner.{Owner}
+use Rattle.w16_loading.specs.Owner.Owner.{Script, OfSegment}
+use Rattle.w16_loader.specs.declared.entry.Entry.{Entry}
+use Rattle.w16_loader.specs.declared.table.SegmentOf.{SegmentOf}
+use Rattle.w16_loader.specs.Entries.{named_of}
+
+module _ {A : Type 0} where
+  -- what the table names, by handle
+  abbrev pub listed : List (Option (Entry A)) → List (ℕ × Named)
+  listed entries = by_id (λ _ e. named_of e) 0 entries
+
+  abbrev pub registered : List (Option (Entry A)) → Modules
+  registered entries = finmap.from_entries (listed entries)
+
+  -- a place for each number up to the last handle, of which none is taken below the first
+  pub record IsTable (entries : List (Option (Entry A))) : Type 0 where
+    pub many : length entries ≡ FIRST_MODULE + MOST_MODULES
+    pub none_below : (handle : ℕ) → handle < FIRST_MODULE → slice_index_or entries handle None ≡ None
+
+-- a world that has these modules, whatever else
+abbrev pub in_world : LoadingWorld → Modules → LoadingWorld
+in_world rest modules = record rest { modules = modules }
+
+-- no handle below it is free
+abbrev pub IsLowest : Modules → ℕ → Type 0
+IsLowest modules handle = (lower : ℕ) → lower < handle → IsFreeModule modules lower → ⊥
+
+-- the first of a name
+abbrev pub first_named : List (ℕ × Named) → List ℕ → Option ℕ
+first_named entries name = option_map (λ e. e.0) (find (λ e. is_named (name_of e.1) name) entries)
+
+-- a segment of a module, or the script
+abbrev pub owner_in : Option SegmentOf → Owner
+owner_in None = Script
+owner_in (Some s) = OfSegment s.handle s.number

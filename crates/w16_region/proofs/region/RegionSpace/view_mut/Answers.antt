@@ -1,0 +1,16 @@
+use Rattle.std.proofs.Common.{rules, ◌≡◌, ◌<◌, ◌^◌, ℕ, List, length, refl}
+use Rattle.std.specs.Prelude.{Vec}
+use Rattle.std.specs.Vec.{with_items}
+use Rattle.w16_model.specs.Bytes.{put_part}
+use Rattle.w16_region.specs.Bytes.{counted}
+use Rattle.w16_region.specs.declared.region.Region.{Region}
+use Rattle.w16_region.proofs.Frames.{same_made}
+use Rattle.w16_region.proofs.region.RegionSpace.view_mut.Goals as goal
+
+-- src/region.rt
+pub returns : goal.returns
+returns g c =
+    let e : c.saturating_add-self.result ≡ counted c.args.self.now.written c.args.size = search rules in
+    let left : List ℕ → Vec ℕ g.row.A.Denot = λ w. with_items c.args.self.now.bytes (put_part c.args.self.now.bytes.items c.args.at w) in
+    let make : (w : List ℕ) → ℕ → length (left w).items < 2 ^ 32 → Region g.row.A.Denot = λ w k s. record { bytes = left w; written = k; small = s } in
+    ((refl, λ w. same_made (make w) _ _ _ _ e), record { value = c.lend_part.ensures.value; writes_back = tt })
