@@ -1,5 +1,9 @@
 //! The registry of modules: calls one after another, as many modules as there may be, and memory that runs out.
 mod bench;
+mod closures;
+mod ending;
+mod fetches;
+mod files;
 mod table;
 
 use bench::{Bench, Call};

@@ -17,7 +17,7 @@ pub fn read(alloc: Global, bytes: &[u8]) -> Result<Module, NeFault> {
 }
 
 /// These bytes, one of them changed.
-fn changed(alloc: Global, bytes: &[u8], at: usize, byte: u8) -> Result<Vec<u8>, AllocError> {
+pub fn changed(alloc: Global, bytes: &[u8], at: usize, byte: u8) -> Result<Vec<u8>, AllocError> {
     let mut changed = Vec::from_slice(alloc, bytes)?;
     if let Some(place) = changed.get_mut(at) {
         *place = byte;

@@ -4,6 +4,7 @@ use Rattle.std.specs.List.{range_with_len}
 use Rattle.w16_model.specs.Calls.{rounded_size}
 use Rattle.w16_ne.specs.declared.segment_table.Segment.{Segment}
 use Rattle.w16_ne.specs.Resources as ne_resources
+use Rattle.w16_ne.specs.Texts.{text_in}
 use Rattle.w16_ne.specs.Modules.{Tables, imported_place}
 use Rattle.w16_reloc.specs.declared.fault.RelocFault.{RelocFault}
 use Rattle.w16_reloc.specs.declared.record.Target as pointing
@@ -15,10 +16,6 @@ use Rattle.w16_reloc.specs.Segments.{Held, checked, data_of}
 use Rattle.w16_reloc.specs.Naming.{image_of}
 use Rattle.w16_loading.specs.File.{Far, Target, SegmentData}
 use Rattle.w16_loading.specs.File as loading
-
--- a length byte and so many bytes of text
-abbrev pub text_in : List ℕ → ℕ → List ℕ
-text_in file at = take (slice_index file at) (drop (at + 1) file)
 
 abbrev pub target_in : List ℕ → Tables → pointing.Target → Target
 target_in file tables (points.Internal segment offset) = loading.Target.Internal segment offset

@@ -1,3 +1,12 @@
+pub mod Fetches
+pub mod Giving
 pub mod Listed
 pub mod Registered
 pub mod Uses
+pub mod Files
+pub mod Readings
+pub mod Idleness
+pub mod Endings
+pub mod Pending
+pub mod Steps
+pub mod Followings

@@ -58,7 +58,7 @@ impl<A: Allocator> Loaded<A> {
     /// and the values of its relocation records, and for each reference the handle of the module that it means.
     pub fn new(
         file: Vec<u8, A>,
-        module: Module,
+        module_file: Module,
         uses: u32,
         slots: Vec<u16, A>,
         values: Vec<Vec<Far, A>, A>,
@@ -68,7 +68,7 @@ impl<A: Allocator> Loaded<A> {
         requires slots { All (λ q. q < 8192) slots.items }
         ensures { result ≡ record {
           file = file.items;
-          tables = tables_in «module»;
+          tables = tables_in module_file;
           uses = uses;
           slots = slots.items;
           values = map (λ v. map far_of v.items) values.items;
@@ -77,7 +77,7 @@ impl<A: Allocator> Loaded<A> {
     {
         Loaded {
             file,
-            module,
+            module: module_file,
             uses,
             slots,
             values,

@@ -1,5 +1,5 @@
 //! Which module handle names what.
-ghost use Rattle.std.specs.Prelude.{◌≡◌, ℕ, ◌+◌, ◌<◌, ◌≤◌, if◌then◌else◌, option_map, IfOk, OnOk, OnErr, OnSome, IfSome, IfNone, None, false};
+ghost use Rattle.std.specs.Prelude.{◌≡◌, ℕ, ◌+◌, ◌<◌, ◌≤◌, if◌then◌else◌, option_map, IfOk, OnOk, OnErr, OnSome, IfSome, IfNone, None, true, false};
 ghost use Rattle.std.specs.FinMap as finmap;
 ghost use Rattle.w16_loading.specs.Modules as loading;
 ghost use Rattle.w16_loading.specs.Modules.{LoadingWorld, IsFreeModule, free_modules, handle_named, module_at};
@@ -14,8 +14,8 @@ ghost use Rattle.w16_loader.specs.Entries.{named_of};
 ghost use Rattle.w16_loader.specs.Registry.{in_world, owner_in, IsLowest};
 
 use crate::entry::{Entry, Loaded, NOWHERE};
-use crate::table;
 use crate::table::SegmentOf;
+use crate::{idle, table};
 use std::alloc::{AllocError, Allocator, Global};
 use std::marker::Model;
 use w16_loading::{FIRST_MODULE, MOST_MODULES};
@@ -119,6 +119,17 @@ impl<A: Allocator> Registry<A> {
             None => 0,
             Some(entry) => (entry.uses() as usize + self.importers(handle)) as u16,
         }
+    }
+
+    /// A module that nobody uses: it has no explicit use, and no other imports it. None where each is used. It goes over the imports of all
+    /// modules once.
+    pub fn first_idle(&self) -> Option<u16>
+        ensures found { IfSome result (λ handle. loading.is_idle self.now handle ≡ true) }
+        ensures none { IfNone result ((handle : ℕ) → loading.is_idle self.now handle ≡ false) }
+    {
+        let mut marks = [false; PLACES];
+        idle::mark_imports(self.entries.as_slice(), &mut marks);
+        idle::first_unused(self.entries.as_slice(), &marks)
     }
 
     /// `GetProcAddress` by ordinal: nowhere of a bad handle, and where there is no entry; a built-in's ordinals lead to its handle.

@@ -1,0 +1,29 @@
+-- Each module leads on, and behind the last place none is left.
+use Rattle.std.proofs.Common.{◌+◌, ◌≤◌, ◌∙◌, arith}
+use Rattle.w16_loading.specs.declared.TheConstants.{MOST_MODULES}
+use Rattle.w16_loading.specs.Modules.{free_modules}
+use Rattle.w16_format.specs.Ne.{ne_format}
+use Rattle.w16_loader.specs.Closing.{around_in}
+use Rattle.w16_loader.specs.Following.{reached}
+use Rattle.w16_loader.proofs.Followings.{all_done, leads_through, refused_through, few_free}
+use Rattle.w16_loader.proofs.closure.Closure.follow_all.Goals as goal
+
+pub returns-in-Err-clause-err : goal.returns-in-Err-clause-err
+returns-in-Err-clause-err g c = λ honest.
+    refused_through ne_format c.args.registry.now (g.S.Store.files c.args.store.now) (g.S.Store.files c.loop-place.store) c.loop-place.invariant.files (reached (g.S.Store.files c.args.store.now) 0 0 c.args.self.now)
+    (λ fs. reached fs c.loop-place.place 0 c.loop-place.self) (c.loop-place.invariant.leads honest) _ _ _ c.loop-place.invariant.failures c.in-Err.fault (c.in-Err.ensures.err honest)
+
+pub loop-place-preserved : goal.loop-place-preserved
+loop-place-preserved g c = record {
+  files = c.in-Ok.ensures.files ∙ c.loop-place.invariant.files;
+  failures = omega (arith, c.in-Ok.ensures.failures, c.loop-place.invariant.failures);
+  leads = λ honest. leads_through ne_format c.args.registry.now (g.S.Store.files c.args.store.now) (g.S.Store.files c.loop-place.store) c.loop-place.invariant.files (reached (g.S.Store.files c.args.store.now) 0 0 c.args.self.now)
+      (λ fs. reached fs c.loop-place.place 0 c.loop-place.self) (λ fs. reached fs (c.loop-place.place + 1) 0 c.follow_module.new.self) (c.loop-place.invariant.leads honest) (c.in-Ok.ensures.ok honest);
+}
+
+pub returns-clause-ok : goal.returns-clause-ok
+returns-clause-ok g c = λ honest.
+    let most : MOST_MODULES ≤ c.loop-place.place = omega (arith, c.from-place-end.ensures, c.loop-place-test.false) in
+    let free : free_modules c.args.registry.now ≤ MOST_MODULES = few_free c.args.registry.now in
+    all_done (g.S.Store.files c.args.store.now) ne_format (around_in c.args.registry.now (g.S.Store.files c.args.store.now)) c.loop-place.place c.args.self.now c.loop-place.self
+    (omega (arith, most, free)) (omega (arith, most, c.requires)) (c.loop-place.invariant.leads honest)

@@ -1,0 +1,27 @@
+-- A reference that is followed is the next of those that are left.
+use Rattle.std.proofs.Common.{ap, ◌∙◌}
+use Rattle.w16_format.specs.Ne.{ne_format}
+use Rattle.w16_loader.specs.Closing.{around_in}
+use Rattle.w16_loader.specs.Following.{left_from, references_at}
+use Rattle.std.specs.Prelude.{map}
+use Rattle.w16_loader.specs.Closing.{found_in}
+use Rattle.w16_loader.proofs.Followings.{indexed, same_after, follows, refused}
+use Rattle.w16_loader.proofs.closure.Closure.follow_reference.Goals as goal
+
+pub returns-in-Err-clause-err : goal.returns-in-Err-clause-err
+returns-in-Err-clause-err g c = λ honest.
+    let at = indexed c.args.self.now.found.items c.args.place c.args.number c.index.result.now c.requires.first c.requires.last c.index.ensures in
+    refused (g.S.Store.files c.args.store.now) c.args.place ne_format (around_in c.args.registry.now (g.S.Store.files c.args.store.now)) c.args.self.now c.index.result.now at.0 c.args.number c.requires.first at.1
+    c.reference-name.result.now c.reference-name.ensures _ _ c.in-Err.fault (c.in-Err.ensures.err honest)
+
+pub returns-in-Ok-bind-clause-same : goal.returns-in-Ok-bind-clause-same
+returns-in-Ok-bind-clause-same g c =
+    let at = indexed c.args.self.now.found.items c.args.place c.args.number c.index.result.now c.requires.first c.requires.last c.index.ensures in
+    ap (λ found. references_at found c.args.place) c.in-Ok-bind.ensures.found ∙ same_after c.args.self.now.found.items c.args.place c.index.result.now c.in-Ok.followed at.0
+
+pub returns-in-Ok-bind-clause-ok : goal.returns-in-Ok-bind-clause-ok
+returns-in-Ok-bind-clause-ok g c = λ honest.
+    let at = indexed c.args.self.now.found.items c.args.place c.args.number c.index.result.now c.requires.first c.requires.last c.index.ensures in
+    follows (g.S.Store.files c.args.store.now) c.args.place ne_format (around_in c.args.registry.now (g.S.Store.files c.args.store.now)) c.args.self.now c.index.result.now at.0 c.args.number c.requires.first at.1
+    c.reference-name.result.now c.reference-name.ensures c.bind.new.self c.in-Ok.followed c.in-Ok-bind.ensures.found c.in-Ok-bind.ensures.bound
+    (c.in-Ok.ensures.ok honest (left_from c.args.place c.args.number (map (found_in (g.S.Store.files c.args.store.now)) c.args.self.now.found.items)) c.args.place)

@@ -1,0 +1,18 @@
+-- What is reached of the module asked for alone is how its closure begins.
+use Rattle.std.proofs.Common.{Ok, Err, subst}
+use Rattle.w16_loading.specs.Closure.{Closes}
+use Rattle.w16_format.specs.Ne.{ne_format}
+use Rattle.w16_loader.specs.Closing.{around_in, IsFault}
+use Rattle.w16_loader.specs.Following.{closed_in}
+use Rattle.w16_loader.proofs.Followings.{begins}
+use Rattle.w16_loader.proofs.closure.close.Goals as goal
+
+pub returns-in-Err-clause-err : goal.returns-in-Err-clause-err
+returns-in-Err-clause-err g c = λ honest.
+    subst (λ closure. IsFault (λ number. Closes ne_format (around_in c.args.registry.now (g.S.Store.files c.args.store.now)) closure (Err number)) (g.S.Store.failures c.args.store.now) (g.S.Store.failures c.follow_all.new.store) c.in-Err.fault)
+    (begins (g.S.Store.files c.args.store.now) c.in-Ok.closure c.args.first c.in-Ok.ensures.found c.in-Ok.ensures.bound) (c.in-Err.ensures.err honest)
+
+pub returns-in-Ok-follow_all-clause-ok : goal.returns-in-Ok-follow_all-clause-ok
+returns-in-Ok-follow_all-clause-ok g c = λ honest.
+    subst (λ closure. Closes ne_format (around_in c.args.registry.now (g.S.Store.files c.args.store.now)) closure (Ok (closed_in (g.S.Store.files c.args.store.now) c.follow_all.new.self)))
+    (begins (g.S.Store.files c.args.store.now) c.in-Ok.closure c.args.first c.in-Ok.ensures.found c.in-Ok.ensures.bound) (c.in-Ok-follow_all.ensures.ok honest)

@@ -1,0 +1,13 @@
+-- A use ends, what nobody uses goes, and the handle is looked up.
+use Rattle.w16_loading.specs.Modules.{with_handles}
+use Rattle.w16_loader.specs.Entries.{named_of}
+use Rattle.w16_loader.specs.Registry.{in_world}
+use Rattle.w16_loader.proofs.Endings.{ends, still_names}
+use Rattle.w16_loader.proofs.ending.free.Goals as goal
+
+pub returns-clause-ends : goal.returns-clause-ends
+returns-clause-ends g c = λ rest.
+    ends (in_world (with_handles rest c.args.global.now.handles) c.args.registry.now) (in_world (with_handles rest c.args.global.now.handles) c.end_use.new.self)
+    (in_world (with_handles rest c.release_idle.new.global.handles) c.release_idle.new.registry) c.args.handle c.from.result
+    (c.end_use.ensures (with_handles rest c.args.global.now.handles)) (c.release_idle.ensures.go rest)
+    (still_names c.get.result (λ e. named_of e.now) c.release_idle.new.registry c.args.handle c.is_some.result c.from.result c.get.ensures c.is_some.ensures c.from.ensures)

@@ -1,0 +1,16 @@
+-- The segments that are left are sound where all are.
+use Rattle.std.proofs.Common.{◌≡◌, ℕ, ◌≤◌, List, Some, Ok, drop}
+use Rattle.std.specs.Prelude.{is_ok}
+use Rattle.std.specs.List.{list_all}
+use Rattle.w16_store.specs.Files.{file_of}
+use Rattle.w16_ne.specs.Modules.{tables_at}
+use Rattle.w16_reloc.specs.Segments.{checked}
+use Rattle.w16_loader.proofs.found.check_segments.Given as goal
+
+abbrev pub invariant-loop-place : goal.invariant-loop-place
+invariant-loop-place g l = record {
+  files : g.S.Store.files l.store ≡ g.S.Store.files l.fn.store;
+  failures : g.S.Store.failures l.fn.store ≤ g.S.Store.failures l.store;
+  sound : (bytes : List ℕ) → g.S.Store.is_honest → file_of (g.S.Store.files l.fn.store) l.name ≡ Some bytes → tables_at (Some bytes) ≡ Ok l.module_file
+      → list_all (λ s. is_ok (checked bytes l.module_file s)) (drop l.place l.module_file.segments) ≡ list_all (λ s. is_ok (checked bytes l.module_file s)) l.module_file.segments;
+}

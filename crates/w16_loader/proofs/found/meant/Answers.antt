@@ -1,0 +1,13 @@
+-- A name that nothing there has is looked for among the new modules.
+use Rattle.std.proofs.Common.{◌≡◌, Some, None, option_map, ap, ◌∙◌, rules}
+use Rattle.w16_loader.specs.Closing.{referent_of}
+use Rattle.w16_loader.proofs.Files.{means_new}
+use Rattle.w16_loader.proofs.found.meant.Goals as goal
+
+pub returns-in_err-place-in-None : goal.returns-in_err-place-in-None
+returns-in_err-place-in-None g c = λ files.
+    let none : c.from_residual.result ≡ None = search rules in
+    ap (option_map referent_of) none ∙ means_new c.args.registry.now files c.args.found.now c.args.name.now None c.in-None.ensures c.in_err-place-in-None.ensures
+
+pub returns-in_ok-place-in-None : goal.returns-in_ok-place-in-None
+returns-in_ok-place-in-None g c = λ files. means_new c.args.registry.now files c.args.found.now c.args.name.now (Some c.in_ok-place-in-None.place) c.in-None.ensures c.in_ok-place-in-None.ensures

@@ -1,0 +1,13 @@
+-- A module whose name nothing has is new where its relocations are sound and a handle is left.
+use Rattle.w16_loader.proofs.Readings.{reads_new, reads_full}
+use Rattle.w16_loader.proofs.found.settle.Goals as goal
+
+pub returns-in-Ok-clause-read : goal.returns-in-Ok-clause-read
+returns-in-Ok-clause-read g c = λ honest is.
+    reads_new c.args.registry.now (g.S.Store.files c.args.store.now) c.args.found.now c.args.name.now c.args.read is c.name.result.now c.name.ensures
+    (c.in-None.ensures (g.S.Store.files c.args.store.now)) (λ bytes there tables. c.in-Ok.ensures.sound bytes honest there tables) c.free_count.result c.free_count.ensures c.if-found-free_count.true
+
+pub returns-in-Ok-2-clause-err : goal.returns-in-Ok-2-clause-err
+returns-in-Ok-2-clause-err g c = λ honest is.
+    reads_full c.args.registry.now (g.S.Store.files c.args.store.now) c.args.found.now c.args.name.now c.args.read is c.name.result.now c.name.ensures
+    (c.in-None.ensures (g.S.Store.files c.args.store.now)) (λ bytes there tables. c.in-Ok.ensures.sound bytes honest there tables) c.free_count.result c.free_count.ensures c.if-found-free_count.false

@@ -1,0 +1,10 @@
+-- What is marked, or is among the imports that are left, is all that was marked or is imported.
+use Rattle.std.proofs.Common.{◌≡◌, ℕ, ◌<◌, ◌||◌, ◌&&◌, ◌==◌, not, false, length, drop}
+use Rattle.std.specs.Prelude.{slice_index_or}
+use Rattle.w16_model.specs.Discards.{is_member}
+use Rattle.w16_loader.proofs.idle.mark.Given as goal
+
+abbrev pub invariant-loop-import : goal.invariant-loop-import
+invariant-loop-import l = (handle : ℕ) → handle < length l.initial.marks
+    → (slice_index_or l.marks handle false || (not (l.importer == handle) && is_member handle (drop l.import-index l.imports)))
+    ≡ (slice_index_or l.initial.marks handle false || (not (l.importer == handle) && is_member handle l.imports))

@@ -1,0 +1,82 @@
+-- What a load has found, as the code keeps it, and what it makes of a name and of a file.
+use Rattle.std.specs.Prelude.{◌≡◌, ◌<◌, ℕ, List, [], map, false, Option, Some, None, IsSomeAnd, unwrap_or, Result, Ok, Err}
+use Rattle.w16_store.specs.declared.store.StoreFault.TheVariants as stores
+use Rattle.w16_store.specs.Files.{file_of}
+use Rattle.w16_ne.specs.declared.fault.NeFault.{NeFault}
+use Rattle.w16_ne.specs.declared.fault.NeFault.TheVariants as faults
+use Rattle.w16_ne.specs.Modules as ne
+use Rattle.w16_ne.specs.Modules.{tables_at}
+use Rattle.w16_reloc.specs.declared.fault.RelocFault.{RelocFault}
+use Rattle.w16_reloc.specs.declared.fault.RelocFault.TheVariants as relocs
+use Rattle.w16_loading.specs.File.{ModuleFile}
+use Rattle.w16_loading.specs.Modules.{Modules, handle_named, free_modules}
+use Rattle.w16_loading.specs.Closure as closing
+use Rattle.w16_loading.specs.Closure.{Around, are_sound}
+use Rattle.w16_loading.specs.Closure.Referent.{There, New}
+use Rattle.w16_loading.specs.Closure.Reading.{Meant, Read}
+use Rattle.w16_format.specs.Ne.{ne_format, module_file, number_of}
+use Rattle.w16_loader.specs.declared.found.Found.{Found}
+use Rattle.w16_loader.specs.declared.found.Referent.{Referent}
+use Rattle.w16_loader.specs.declared.found.Referent.TheVariants as refers
+use Rattle.w16_loader.specs.declared.found.Reading.{Reading}
+use Rattle.w16_loader.specs.declared.found.Reading.TheVariants as makes
+use Rattle.w16_loader.specs.declared.found.FileFault.{FileFault}
+use Rattle.w16_loader.specs.declared.found.FileFault.TheVariants.{Refused, Device, OutOfMemory}
+
+abbrev pub Files : Type 0
+Files = List (List ℕ × List ℕ)
+
+-- what a load asks of these modules, and of a store with these files
+abbrev pub around_in : Modules → Files → Around
+around_in modules files = record { named = handle_named modules; file = file_of files; free = free_modules modules }
+
+abbrev pub referent_of : Referent → closing.Referent
+referent_of (refers.There handle) = There handle
+referent_of (refers.New place) = New place
+
+-- what the file of a name says, by the tables that were read of it
+abbrev pub read_in : Files → List ℕ → ne.Tables → ModuleFile
+read_in files name tables = module_file (unwrap_or (file_of files name) []) tables
+
+module _ {A : Type 0} where
+  abbrev pub found_in : Files → Found A → closing.Found
+  found_in files f = record { file = f.file.items; read = read_in files f.file.items f.module }
+
+-- What a file says, or the number that refuses it; 2 where there is no such file.
+abbrev pub said : Option (List ℕ) → Result ModuleFile ℕ
+said None = Err 2
+said (Some bytes) = ne_format bytes
+
+-- the tables are those of a file that is there and is accepted
+abbrev pub IsRead : Option (List ℕ) → ne.Tables → Type 0
+IsRead file tables = IsSomeAnd file (λ bytes. (tables_at (Some bytes) ≡ Ok tables) × (ne_format bytes ≡ Ok (module_file bytes tables)))
+
+-- Why there is none: this number refuses it; the device failed, and then its count of failures rose; there was no memory, which says nothing.
+abbrev pub IsFault : (ℕ → Type 0) → ℕ → ℕ → FileFault → Type 0
+IsFault IsRefused before after (Refused number) = IsRefused number
+IsFault IsRefused before after Device = before < after
+IsFault IsRefused before after OutOfMemory = Unit {0}
+
+-- what a fault of a file, and of its relocations, is to a load
+abbrev pub fault_of : NeFault → FileFault
+fault_of faults.OutOfMemory = OutOfMemory
+fault_of (faults.Store stores.Device) = Device
+fault_of (faults.Store stores.Missing) = Refused 2
+fault_of e = Refused (number_of e)
+
+abbrev pub fault_of_check : RelocFault → FileFault
+fault_of_check (relocs.Store stores.Device) = Device
+fault_of_check e = Refused 11
+
+-- a module whose relocations aren't sound is refused with 11
+abbrev pub IsUnsound : List ℕ → ne.Tables → ℕ → Type 0
+IsUnsound bytes tables number = (number ≡ 11) × (are_sound (module_file bytes tables) ≡ false)
+
+module _ {A : Type 0} where
+  -- what a load of these modules, which has found others, makes of the file of a name
+  abbrev pub reading_in : Modules → Files → List (Found A) → List ℕ → closing.Reading
+  reading_in modules files found name = closing.reading ne_format (around_in modules files) (map (found_in files) found) name
+
+abbrev pub reading_of : Files → List ℕ → Reading → closing.Reading
+reading_of files name (makes.Meant referent) = Meant (referent_of referent)
+reading_of files name (makes.Read tables) = Read (read_in files name tables)

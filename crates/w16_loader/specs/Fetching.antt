@@ -1,0 +1,64 @@
+-- How a segment's object gets its bytes from the file of its module.
+use Rattle.std.specs.Prelude.{◌≡◌, ℕ, ◌-◌, ◌≤◌, true, List, [], length, map, All, IsSomeAnd, Option, Some, None, Result, Ok, Err, slice_index_or}
+use Rattle.w16_model.specs.Handles.{Handles}
+use Rattle.w16_model.specs.Owned.{owned_at}
+use Rattle.w16_store.specs.declared.store.StoreFault.TheVariants as stores
+use Rattle.w16_ne.specs.Modules.{Tables}
+use Rattle.w16_reloc.specs.declared.fault.RelocFault.{RelocFault}
+use Rattle.w16_reloc.specs.declared.fault.RelocFault.TheVariants as relocs
+use Rattle.w16_reloc.specs.declared.record.Record.{Record}
+use Rattle.w16_reloc.specs.declared.value.Far as words
+use Rattle.w16_reloc.specs.Images.{IsImage}
+use Rattle.w16_reloc.specs.Law.{IsFar}
+use Rattle.w16_reloc.specs.Sound.{IsSound}
+use Rattle.w16_loading.specs.declared.FetchFault.{FetchFault}
+use Rattle.w16_loading.specs.declared.FetchFault.TheVariants.{Store, Damaged}
+use Rattle.w16_loading.specs.Fill.{Fills}
+use Rattle.w16_loading.specs.Law.{IsLoadingWorld, IsOfFiles}
+use Rattle.w16_loading.specs.Modules.{LoadingWorld, Module, IsSegmentOf}
+use Rattle.w16_format.specs.Data.{far_of}
+use Rattle.w16_format.specs.Law.{IsFileOf}
+use Rattle.w16_format.specs.Ne.{ne_format}
+
+-- why a fetch fails whose segment isn't relocated: the store's device failed, or the file isn't what it was
+abbrev pub fault_of : RelocFault → FetchFault
+fault_of (relocs.Store stores.Device) = Store
+fault_of other = Damaged
+
+-- what a fetch answers, as loading has it
+abbrev pub fault_in : {A : Type 0} → Result A FetchFault → Option FetchFault
+fault_in (Ok done) = None
+fault_in (Err fault) = Some fault
+
+-- The image of a segment, where its records are sound in its data, and these have room. Its values are words.
+pub record IsWritten (source : List ℕ) (records : List Record) (values : List words.Far) (bytes : List ℕ) : Type 0 where
+  pub image : (named : List (List ℕ)) → IsSound source records named → length source ≤ length bytes → IsImage source records values named bytes
+  pub words : All IsFar values
+
+-- An object that a module owns, and that has no bytes, gets such bytes, as many as its owner says.
+pub record GivesBytes (old : Handles) (slot : ℕ) (IsBytes : List ℕ → Type 0) (new : Handles) : Type 0 where
+  pub bytes : List ℕ
+  pub sized : IsSomeAnd (owned_at old slot) (λ owned. length bytes ≡ owned.size)
+  pub are : IsBytes bytes
+  pub filled : Fills old.heap slot bytes true new.heap
+  pub rest : new ≡ record old { heap = new.heap }
+
+-- The segment of a number of a module is read from the file of this name, under the values that were bound at load.
+pub record IsSourceOf (m : Module) (number : ℕ) (file : List ℕ) (values : List words.Far) : Type 0 where
+  pub named : m.file ≡ file
+  pub bound : slice_index_or m.values (number - 1) [] ≡ map far_of values
+
+-- In a world where all is of its file, a slot's object is that segment of a module, whose file still says the tables that it said at load.
+pub record IsFetchable (world : LoadingWorld) (slot number : ℕ) (name : List ℕ) (t : Tables) (values : List words.Far) : Type 0 where
+  pub sound : IsLoadingWorld world
+  pub of_files : IsOfFiles ne_format world
+  pub handle : ℕ
+  pub m : Module
+  pub segment : IsSegmentOf world slot handle number m
+  pub source : IsSourceOf m number name values
+  pub file : List ℕ
+  pub stored : IsFileOf world m file t
+
+-- a world that has these handles, these files and this count of failures, whatever else
+abbrev pub in_parts : LoadingWorld → Handles → List (List ℕ × List ℕ) → ℕ → LoadingWorld
+in_parts rest handles files failures = record rest { handles = handles; files = files; failures = failures }

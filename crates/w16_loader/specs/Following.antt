@@ -1,0 +1,88 @@
+-- How a load follows the references of the modules that it finds, as the code keeps it.
+use Rattle.std.specs.Prelude.{◌≡◌, ◌≤◌, ◌==◌, if◌then◌else◌, ℕ, suc, List, [], ◌∷◌, ◌++◌, map, drop, length, slice_get, None, Some, Result}
+use Rattle.w16_loading.specs.File.{Format}
+use Rattle.w16_loading.specs.Closure as closing
+use Rattle.w16_loading.specs.Closure.{Around, Closes, with_bound, with_found}
+use Rattle.w16_loading.specs.Closure.Referent.{New}
+use Rattle.w16_loading.specs.Closure.Reading.{Meant, Read}
+use Rattle.w16_loader.specs.declared.found.Found.{Found}
+use Rattle.w16_loader.specs.declared.found.FileFault.{FileFault}
+use Rattle.w16_loader.specs.declared.found.FileFault.TheVariants.{Refused, Device, OutOfMemory}
+use Rattle.w16_loader.specs.declared.found.Referent as kept
+use Rattle.w16_loader.specs.declared.found.Referent.TheVariants as refers
+use Rattle.w16_loader.specs.declared.closure.Bound.{Bound}
+use Rattle.w16_loader.specs.declared.closure.Closure.{Closure}
+use Rattle.w16_loader.specs.declared.closure.Followed.{Followed}
+use Rattle.w16_loader.specs.declared.closure.Followed.TheVariants as leads
+use Rattle.w16_loader.specs.Closing.{Files, referent_of, found_in, read_in}
+
+-- a file that a reference leads to and that is refused gives 20, want of a handle 0
+abbrev pub number_of_reference : ℕ → ℕ
+number_of_reference answer = if answer == 0 then 0 else 20
+
+abbrev pub fault_of_reference : FileFault → FileFault
+fault_of_reference (Refused answer) = Refused (number_of_reference answer)
+fault_of_reference Device = Device
+fault_of_reference OutOfMemory = OutOfMemory
+
+-- the number that a refused file gives
+abbrev pub IsRefusedReference : closing.Reading → ℕ → Type 0
+IsRefusedReference reading number = (answer : ℕ) × (reading ≡ closing.Reading.Refused answer) × (number ≡ number_of_reference answer)
+
+-- the references of a module, each with the module's place
+abbrev pub references_of : ℕ → closing.Found → List (ℕ × List ℕ)
+references_of place f = map (λ name. (place, name)) f.read.tables.references
+
+-- the references of modules, of which the first is at this place
+abbrev pub references_from : ℕ → List closing.Found → List (ℕ × List ℕ)
+references_from place [] = []
+references_from place (f ∷ fs) = references_of place f ++ references_from (suc place) fs
+
+-- the references of the modules from a place on, but for so many that come first
+abbrev pub left_from : ℕ → ℕ → List closing.Found → List (ℕ × List ℕ)
+left_from place done found = drop done (references_from place (drop place found))
+
+abbrev pub bound_in : Bound → ℕ × closing.Referent
+bound_in b = (b.place, referent_of b.referent)
+
+module _ {A : Type 0} where
+  -- what the code has found and bound, with these references pending
+  abbrev pub pending_in : Files → List (ℕ × List ℕ) → Closure A → closing.Closure
+  pending_in files pending c = record { found = map (found_in files) c.found.items; pending = pending; bound = map bound_in c.bound.items }
+
+  -- with none pending
+  abbrev pub closed_in : Files → Closure A → closing.Closure
+  closed_in files c = pending_in files [] c
+
+  -- where the references of the modules before a place are followed, and so many of the module at that place
+  abbrev pub reached : Files → ℕ → ℕ → Closure A → closing.Closure
+  reached files place done c = pending_in files (left_from place done (map (found_in files) c.found.items)) c
+
+  -- what a reference of the module at a place leaves, by what it leads to
+  abbrev pub with_followed : Files → closing.Closure → ℕ → Followed A → closing.Closure
+  with_followed files closure place (leads.Meant referent) = with_bound closure place (referent_of referent)
+  with_followed files closure place (leads.New f) = with_bound (with_found closure f.file.items (read_in files f.file.items f.module)) place (New (length closure.found))
+
+  -- the references of the module at a place; none where there is none
+  abbrev pub references_at : List (Found A) → ℕ → List (List ℕ)
+  references_at found place = elim (slice_get found place) [ None ↦ [] | Some f ↦ f.module.references ]
+
+  -- what was made of the file that a reference is looked for in
+  abbrev pub IsReadOf : Files → List ℕ → closing.Reading → Followed A → Type 0
+  IsReadOf files file reading (leads.Meant referent) = reading ≡ Meant (referent_of referent)
+  IsReadOf files file reading (leads.New f) = (reading ≡ Read (read_in files f.file.items f.module)) × (f.file.items ≡ file)
+
+  -- the modules after it, and what it means after so many modules
+  abbrev pub found_after : List (Found A) → Followed A → List (Found A)
+  found_after found (leads.Meant referent) = found
+  found_after found (leads.New f) = found ++ f ∷ []
+
+  abbrev pub referent_after : ℕ → Followed A → kept.Referent
+  referent_after many (leads.Meant referent) = referent
+  referent_after many (leads.New f) = refers.New many
+
+-- One closure comes of another while a load follows references: what it closes to, the other does. No more modules are found than handles are free,
+-- or than there were.
+pub record Leads (format : Format) (a : Around) (before after : closing.Closure) : Type 0 where
+  pub closes : (outcome : Result closing.Closure ℕ) → Closes format a after outcome → Closes format a before outcome
+  pub few : (most : ℕ) → a.free ≤ most → length before.found ≤ most → length after.found ≤ most

@@ -1,0 +1,270 @@
+//! Which modules a load finds: the module asked for, and breadth first those that it and the others refer to.
+ghost use Rattle.std.specs.Prelude.{◌≡◌, ◌≤◌, ◌+◌, ◌<◌, ◌-◌, ◌++◌, ◌∷◌, [], ℕ, List, length, Ok, Err, IfOk, IfErr, OnOk};
+ghost use Rattle.w16_loading.specs.Closure as closing;
+ghost use Rattle.w16_loading.specs.Closure.{Closes, begun, dll};
+ghost use Rattle.w16_format.specs.Ne.{ne_format};
+ghost use Rattle.w16_loader.specs.Closing.{around_in, reading_in, read_in, IsFault};
+ghost use Rattle.w16_loader.specs.Following.{Leads, IsReadOf, IsRefusedReference, pending_in, closed_in, reached, with_followed, references_at, found_after, referent_after};
+ghost use Rattle.w16_loader.specs.Following as following;
+
+use crate::found::{FileFault, Found, Reading, Referent, examine_file, meant};
+use crate::registry::Registry;
+use std::alloc::{AllocError, Allocator, Global};
+use w16_loading::MOST_MODULES;
+use w16_reloc::Scratch;
+use w16_store::Store;
+
+/// The number of a load that is refused for a file that a reference leads to.
+const BAD_REFERENCE: u16 = 20;
+
+/// A reference of a new module.
+#[derive(Clone, Copy, Debug, PartialEq, Eq)]
+pub struct Bound {
+    /// The place of the module that has it.
+    pub place: usize,
+    /// What it means.
+    pub referent: Referent,
+}
+
+/// The new modules of a load, in the order in which they were found, and what the references that were followed mean, in the order in which they
+/// were.
+///
+/// Which references are still to be followed isn't kept: the references of the modules come in the order of the modules, so the place of a module
+/// and a number among its references tell it.
+#[derive(Drop)]
+pub struct Closure<A: Allocator = Global> {
+    pub found: Vec<Found<A>, A>,
+    pub bound: Vec<Bound, A>,
+}
+
+/// What a reference leads to.
+#[derive(Drop)]
+pub enum Followed<A: Allocator = Global> {
+    /// A module that is there or was found already, or a built-in.
+    Meant(Referent),
+    /// A new module.
+    New(Found<A>),
+}
+
+/// The number of a load, by that of a file that a reference leads to: 20, but 0 where no handle is left.
+fn number_of_reference(answer: u16) -> u16
+    ensures { result ≡ following.number_of_reference answer }
+{
+    if answer == 0 { 0 } else { BAD_REFERENCE }
+}
+
+/// What a fault of a file that a reference leads to is to a load.
+fn fault_of_reference(fault: FileFault) -> FileFault
+    ensures { result ≡ following.fault_of_reference fault }
+{
+    match fault {
+        FileFault::Refused(answer) => FileFault::Refused(number_of_reference(answer)),
+        FileFault::Device => FileFault::Device,
+        FileFault::OutOfMemory => FileFault::OutOfMemory,
+    }
+}
+
+/// The file that a reference is looked for in: its name with `.DLL` behind it.
+fn file_of_reference<A: Allocator + Clone>(alloc: &A, name: &[u8]) -> Result<Vec<u8, A>, AllocError>
+    ensures { IfOk result (λ file. file.items ≡ dll name.now) }
+{
+    let mut file = Vec::from_slice(alloc.clone()?, name)?;
+    file.extend_from_slice(b".DLL")?;
+    Ok(file)
+}
+
+/// What a reference leads to whose name nothing has, by the file that it is looked for in.
+fn follow_file<S: Store, A: Allocator>(
+    alloc: Global,
+    registry: &Registry<A>,
+    store: &mut S,
+    found: &[Found<A>],
+    scratch: &mut Scratch,
+    file: Vec<u8, A>,
+) -> Result<Followed<A>, FileFault>
+    ensures files { S.files store.new ≡ S.files store.old }
+    ensures failures { S.failures store.old ≤ S.failures store.new }
+    ensures ok { S.is_honest → IfOk result (IsReadOf (S.files store.old) file.items (reading_in registry.now (S.files store.old) found.now file.items)) }
+    ensures err { S.is_honest → IfErr result (IsFault (IsRefusedReference (reading_in registry.now (S.files store.old) found.now file.items))
+        (S.failures store.old) (S.failures store.new)) }
+{
+    match examine_file(alloc, registry, store, found, scratch, file.as_slice()) {
+        Err(fault) => Err(fault_of_reference(fault)),
+        Ok(Reading::Meant(referent)) => Ok(Followed::Meant(referent)),
+        Ok(Reading::Read(module)) => Ok(Followed::New(Found { file, module })),
+    }
+}
+
+impl<A: Allocator + Clone> Closure<A> {
+    /// The module asked for alone.
+    fn begin(first: Found<A>) -> Result<Closure<A>, AllocError>
+        ensures found { IfOk result (λ made. made.found.items ≡ first ∷ []) }
+        ensures bound { IfOk result (λ made. made.bound.items ≡ []) }
+    {
+        let alloc = first.file.allocator().clone()?;
+        let bound = Vec::new(first.file.allocator().clone()?);
+        let mut found = Vec::new(alloc);
+        found.push(first)?;
+        Ok(Closure { found, bound })
+    }
+
+    /// What a reference of one of its modules leads to, by its name, in any case of letters: a module or built-in that is there, or a new module
+    /// that it has; else what its file says, that of the name with `.DLL` behind it.
+    ///
+    /// A file that is refused gives 20; where no handle is left, 0.
+    pub fn follow<S: Store>(
+        &self,
+        alloc: Global,
+        registry: &Registry<A>,
+        store: &mut S,
+        scratch: &mut Scratch,
+        name: &[u8],
+    ) -> Result<Followed<A>, FileFault>
+        ensures files { S.files store.new ≡ S.files store.old }
+        ensures failures { S.failures store.old ≤ S.failures store.new }
+        ensures ok { S.is_honest → IfOk result (λ made. (pending : List (ℕ × List ℕ)) (place : ℕ) → closing.followed ne_format (around_in registry.now (S.files store.old)) (pending_in (S.files store.old) pending self.now) place name.now
+            ≡ Ok (with_followed (S.files store.old) (pending_in (S.files store.old) pending self.now) place made)) }
+        ensures err { S.is_honest → IfErr result (IsFault (λ number. (pending : List (ℕ × List ℕ)) (place : ℕ) → closing.followed ne_format (around_in registry.now (S.files store.old)) (pending_in (S.files store.old) pending self.now) place name.now
+            ≡ Err number) (S.failures store.old) (S.failures store.new)) }
+    {
+        let found = self.found.as_slice();
+        if let Some(referent) = meant(registry, found, name) {
+            return Ok(Followed::Meant(referent));
+        }
+        match file_of_reference(self.found.allocator(), name) {
+            Ok(file) => follow_file(alloc, registry, store, found, scratch, file),
+            Err(_) => Err(FileFault::OutOfMemory),
+        }
+    }
+
+    /// A reference of the module at a place leads there.
+    fn bind(&mut self, place: usize, followed: Followed<A>) -> Result<(), AllocError>
+        ensures found { OnOk result (self.new.found.items ≡ found_after self.old.found.items followed) }
+        ensures bound { OnOk result (self.new.bound.items ≡ self.old.bound.items ++ record { place = place; referent = referent_after (length self.old.found.items) followed } ∷ []) }
+    {
+        let referent = match followed {
+            Followed::Meant(referent) => referent,
+            Followed::New(new) => {
+                let many = self.found.len();
+                self.found.push(new)?;
+                Referent::New(many)
+            }
+        };
+        self.bound.push(Bound { place, referent })?;
+        Ok(())
+    }
+
+    /// Follows a reference of the module at a place, by its number from 1, where all before it are followed.
+    fn follow_reference<S: Store>(
+        &mut self,
+        alloc: Global,
+        registry: &Registry<A>,
+        store: &mut S,
+        scratch: &mut Scratch,
+        place: usize,
+        number: usize,
+    ) -> Result<(), FileFault>
+        requires first { 0 < number }
+        requires last { number ≤ length (references_at self.old.found.items place) }
+        ensures files { S.files store.new ≡ S.files store.old }
+        ensures failures { S.failures store.old ≤ S.failures store.new }
+        ensures same { OnOk result (references_at self.new.found.items place ≡ references_at self.old.found.items place) }
+        ensures ok { S.is_honest → OnOk result (Leads ne_format (around_in registry.now (S.files store.old)) (reached (S.files store.old) place (number - 1) self.old) (reached (S.files store.old) place number self.new)) }
+        ensures err { S.is_honest → IfErr result (IsFault (λ answer. Closes ne_format (around_in registry.now (S.files store.old)) (reached (S.files store.old) place (number - 1) self.old) (Err answer))
+            (S.failures store.old) (S.failures store.new)) }
+    {
+        let name = self.found[place].module.reference(number);
+        match self.follow(alloc, registry, store, scratch, name) {
+            Err(fault) => Err(fault),
+            Ok(followed) => match self.bind(place, followed) {
+                Ok(()) => Ok(()),
+                Err(_) => Err(FileFault::OutOfMemory),
+            },
+        }
+    }
+
+    /// How many references the module at a place has; 0 where there is none.
+    fn reference_count(&self, place: usize) -> usize
+        ensures { result ≡ length (references_at self.now.found.items place) }
+    {
+        match self.found.get(place) {
+            None => 0,
+            Some(found) => found.module.reference_count(),
+        }
+    }
+
+    /// Follows the references of the module at a place, if there is one, where those of the modules before it are followed.
+    fn follow_module<S: Store>(
+        &mut self,
+        alloc: Global,
+        registry: &Registry<A>,
+        store: &mut S,
+        scratch: &mut Scratch,
+        place: usize,
+    ) -> Result<(), FileFault>
+        ensures files { S.files store.new ≡ S.files store.old }
+        ensures failures { S.failures store.old ≤ S.failures store.new }
+        ensures ok { S.is_honest → OnOk result (Leads ne_format (around_in registry.now (S.files store.old)) (reached (S.files store.old) place 0 self.old) (reached (S.files store.old) (place + 1) 0 self.new)) }
+        ensures err { S.is_honest → IfErr result (IsFault (λ number. Closes ne_format (around_in registry.now (S.files store.old)) (reached (S.files store.old) place 0 self.old) (Err number))
+            (S.failures store.old) (S.failures store.new)) }
+    {
+        let count = self.reference_count(place);
+        for done in 0..count {
+            match self.follow_reference(alloc, registry, store, scratch, place, done + 1) {
+                Err(fault) => return Err(fault),
+                Ok(()) => {}
+            }
+        }
+        Ok(())
+    }
+
+    /// Follows the references of all modules, also of those that it finds, where those of none are followed.
+    fn follow_all<S: Store>(
+        &mut self,
+        alloc: Global,
+        registry: &Registry<A>,
+        store: &mut S,
+        scratch: &mut Scratch,
+    ) -> Result<(), FileFault>
+        requires { length self.old.found.items ≤ MOST_MODULES }
+        ensures files { S.files store.new ≡ S.files store.old }
+        ensures failures { S.failures store.old ≤ S.failures store.new }
+        ensures ok { S.is_honest → OnOk result (Closes ne_format (around_in registry.now (S.files store.old)) (reached (S.files store.old) 0 0 self.old) (Ok (closed_in (S.files store.old) self.new))) }
+        ensures err { S.is_honest → IfErr result (IsFault (λ number. Closes ne_format (around_in registry.now (S.files store.old)) (reached (S.files store.old) 0 0 self.old) (Err number))
+            (S.failures store.old) (S.failures store.new)) }
+    {
+        for place in 0..usize::from(MOST_MODULES) {
+            match self.follow_module(alloc, registry, store, scratch, place) {
+                Err(fault) => return Err(fault),
+                Ok(()) => {}
+            }
+        }
+        Ok(())
+    }
+}
+
+/// Finds all modules of a load, of which the module asked for was read, and follows the references of each, breadth first. It takes memory alone:
+/// neither handles nor anything of the machine.
+///
+/// A number refuses the load: 20 where a file that a reference leads to is refused, 0 where no handle is left for a module.
+pub fn close<S: Store, A: Allocator + Clone>(
+    alloc: Global,
+    registry: &Registry<A>,
+    store: &mut S,
+    scratch: &mut Scratch,
+    first: Found<A>,
+) -> Result<Closure<A>, FileFault>
+    ensures files { S.files store.new ≡ S.files store.old }
+    ensures failures { S.failures store.old ≤ S.failures store.new }
+    ensures ok { S.is_honest → IfOk result (λ made. Closes ne_format (around_in registry.now (S.files store.old)) (begun first.file.items (read_in (S.files store.old) first.file.items first.module)) (Ok (closed_in (S.files store.old) made))) }
+    ensures err { S.is_honest → IfErr result (IsFault (λ number. Closes ne_format (around_in registry.now (S.files store.old)) (begun first.file.items (read_in (S.files store.old) first.file.items first.module)) (Err number))
+        (S.failures store.old) (S.failures store.new)) }
+{
+    let Ok(mut closure) = Closure::begin(first) else {
+        return Err(FileFault::OutOfMemory);
+    };
+    match closure.follow_all(alloc, registry, store, scratch) {
+        Err(fault) => Err(fault),
+        Ok(()) => Ok(closure),
+    }
+}

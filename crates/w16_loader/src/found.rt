@@ -1,0 +1,203 @@
+//! New modules of a load, and what it makes of a name and of a file.
+ghost use Rattle.std.specs.Prelude.{◌≡◌, ◌≤◌, List, ℕ, Some, Ok, true, map, option_map, position, IfOk, IfErr, OnOk};
+ghost use Rattle.w16_store.specs.Names as names;
+ghost use Rattle.w16_store.specs.Files.{file_of};
+ghost use Rattle.w16_ne.specs.Modules.{tables_at};
+ghost use Rattle.w16_loading.specs.Closure as closing;
+ghost use Rattle.w16_loading.specs.Closure.{are_sound};
+ghost use Rattle.w16_loading.specs.Closure.Reading.{Refused};
+ghost use Rattle.w16_format.specs.Ne as ne;
+ghost use Rattle.w16_loader.specs.Closing as loads;
+ghost use Rattle.w16_loader.specs.Closing.{Files, around_in, referent_of, found_in, reading_in, reading_of, said, IsRead, IsFault, IsUnsound};
+
+use crate::registry::Registry;
+use std::alloc::{Allocator, Global};
+use w16_ne::{Module, NeFault, read_module};
+use w16_reloc::{RelocFault, Scratch, check};
+use w16_store::{Store, StoreFault, is_named};
+
+/// The number of a load whose file isn't there.
+const NO_FILE: u16 = 2;
+
+/// The number of a load whose file isn't accepted, where no other number says why.
+const BAD_FILE: u16 = 11;
+
+/// The number of a load for which no handle is left.
+const NO_HANDLE: u16 = 0;
+
+/// A new module of a load: the name of its file, and what that says.
+#[derive(Drop)]
+pub struct Found<A: Allocator = Global> {
+    pub file: Vec<u8, A>,
+    pub module: Module,
+}
+
+/// What a name means to a load.
+#[derive(Clone, Copy, Debug, PartialEq, Eq)]
+pub enum Referent {
+    /// A module or built-in that is there, by its handle.
+    There(u16),
+    /// A new module of this load, by its place among them from 0.
+    New(usize),
+}
+
+/// Why a load makes no module of a file.
+#[derive(Clone, Copy, Debug, PartialEq, Eq)]
+pub enum FileFault {
+    /// The load is refused, with this number.
+    Refused(u16),
+    /// The store's device failed.
+    Device,
+    /// There was no memory.
+    OutOfMemory,
+}
+
+/// The first new module of a name.
+fn place_named<A: Allocator>(found: &[Found<A>], name: &[u8]) -> Option<usize>
+    ensures { result ≡ position (λ f. names.is_named f.module.name name.now) found.now }
+{
+    found
+        .iter()
+        .position(|found| is_named(found.module.name(), name))
+}
+
+/// What a name means to a load, in any case of letters: a module or built-in that is there, else a new module; none where neither has it.
+pub fn meant<A: Allocator>(
+    registry: &Registry<A>,
+    found: &[Found<A>],
+    name: &[u8],
+) -> Option<Referent>
+    ensures { (files : Files) → option_map referent_of result ≡ closing.meant (around_in registry.now files) (map (found_in files) found.now) name.now }
+{
+    match registry.handle_of(name) {
+        Some(handle) => Some(Referent::There(handle)),
+        None => {
+            let place = place_named(found, name)?;
+            Some(Referent::New(place))
+        }
+    }
+}
+
+/// What a fault of a file is to a load: 12, 13 or 14 where it is for another target system, 2 where there is no file, else 11.
+fn fault_of(fault: NeFault) -> FileFault
+    ensures { result ≡ loads.fault_of fault }
+{
+    match fault {
+        NeFault::OutOfMemory => FileFault::OutOfMemory,
+        NeFault::Store(StoreFault::Device) => FileFault::Device,
+        NeFault::Store(StoreFault::Missing) => FileFault::Refused(NO_FILE),
+        NeFault::Target(1) => FileFault::Refused(12),
+        NeFault::Target(3) => FileFault::Refused(13),
+        NeFault::Target(_) => FileFault::Refused(14),
+        _ => FileFault::Refused(BAD_FILE),
+    }
+}
+
+/// What a fault of a segment's relocations is to a load.
+fn fault_of_check(fault: RelocFault) -> FileFault
+    ensures { result ≡ loads.fault_of_check fault }
+{
+    match fault {
+        RelocFault::Store(StoreFault::Device) => FileFault::Device,
+        _ => FileFault::Refused(BAD_FILE),
+    }
+}
+
+/// What the file of a name says, or why a load makes no module of it.
+pub fn read_file<S: Store>(alloc: Global, store: &mut S, name: &[u8]) -> Result<Module, FileFault>
+    ensures files { S.files store.new ≡ S.files store.old }
+    ensures failures { S.failures store.old ≤ S.failures store.new }
+    ensures read { S.is_honest → IfOk result (IsRead (file_of (S.files store.old) name.now)) }
+    ensures err { S.is_honest → IfErr result (IsFault (λ number. said (file_of (S.files store.old) name.now) ≡ Err number) (S.failures store.old) (S.failures store.new)) }
+{
+    match store.len_of(name) {
+        Err(fault) => Err(fault_of(NeFault::Store(fault))),
+        Ok(_) => match read_module(alloc, store, name) {
+            Err(fault) => Err(fault_of(fault)),
+            Ok(module) => Ok(module),
+        },
+    }
+}
+
+/// Whether the relocations of all segments of a module are sound, in the file from which it was read; where they aren't, 11 refuses it.
+pub fn check_segments<S: Store>(
+    store: &mut S,
+    name: &[u8],
+    module_file: &Module,
+    scratch: &mut Scratch,
+) -> Result<(), FileFault>
+    ensures files { S.files store.new ≡ S.files store.old }
+    ensures failures { S.failures store.old ≤ S.failures store.new }
+    ensures sound { (bytes : List ℕ) → S.is_honest → file_of (S.files store.old) name.now ≡ Some bytes → tables_at (Some bytes) ≡ Ok module_file.now
+        → OnOk result (are_sound (ne.module_file bytes module_file.now) ≡ true) }
+    ensures err { (bytes : List ℕ) → S.is_honest → file_of (S.files store.old) name.now ≡ Some bytes → tables_at (Some bytes) ≡ Ok module_file.now
+        → IfErr result (IsFault (IsUnsound bytes module_file.now) (S.failures store.old) (S.failures store.new)) }
+{
+    for place in 0..module_file.segment_count() {
+        match check(store, name, module_file, place + 1, scratch) {
+            Err(fault) => return Err(fault_of_check(fault)),
+            Ok(()) => {}
+        }
+    }
+    Ok(())
+}
+
+/// What a load makes of a file that it doesn't refuse.
+#[derive(Drop)]
+pub enum Reading {
+    /// The module of its name is there already.
+    Meant(Referent),
+    /// It is a new module.
+    Read(Module),
+}
+
+/// What a load that has found some modules makes of a module that was read of a file.
+fn settle<S: Store, A: Allocator>(
+    registry: &Registry<A>,
+    store: &mut S,
+    found: &[Found<A>],
+    scratch: &mut Scratch,
+    name: &[u8],
+    read: Module,
+) -> Result<Reading, FileFault>
+    ensures files { S.files store.new ≡ S.files store.old }
+    ensures failures { S.failures store.old ≤ S.failures store.new }
+    ensures read { S.is_honest → IsRead (file_of (S.files store.old) name.now) read
+        → IfOk result (λ made. reading_in registry.now (S.files store.old) found.now name.now ≡ reading_of (S.files store.old) name.now made) }
+    ensures err { S.is_honest → IsRead (file_of (S.files store.old) name.now) read
+        → IfErr result (IsFault (λ number. reading_in registry.now (S.files store.old) found.now name.now ≡ Refused number) (S.failures store.old) (S.failures store.new)) }
+{
+    match meant(registry, found, read.name()) {
+        Some(referent) => Ok(Reading::Meant(referent)),
+        None => match check_segments(store, name, &read, scratch) {
+            Err(fault) => Err(fault),
+            Ok(()) if found.len() < registry.free_count() => Ok(Reading::Read(read)),
+            Ok(()) => Err(FileFault::Refused(NO_HANDLE)),
+        },
+    }
+}
+
+/// What a load that has found some modules makes of a file: the module of its name is there already, or it is a new one, whose relocations are
+/// sound and for which a handle is left; or a number refuses it.
+///
+/// That is 2 where there is no such file; 12, 13 or 14 where it is for another target system than Windows; 11 where it isn't accepted otherwise, or
+/// its relocations aren't sound; 0 where no handle is left.
+pub fn examine_file<S: Store, A: Allocator>(
+    alloc: Global,
+    registry: &Registry<A>,
+    store: &mut S,
+    found: &[Found<A>],
+    scratch: &mut Scratch,
+    name: &[u8],
+) -> Result<Reading, FileFault>
+    ensures files { S.files store.new ≡ S.files store.old }
+    ensures failures { S.failures store.old ≤ S.failures store.new }
+    ensures read { S.is_honest → IfOk result (λ made. reading_in registry.now (S.files store.old) found.now name.now ≡ reading_of (S.files store.old) name.now made) }
+    ensures err { S.is_honest
+        → IfErr result (IsFault (λ number. reading_in registry.now (S.files store.old) found.now name.now ≡ Refused number) (S.failures store.old) (S.failures store.new)) }
+{
+    match read_file(alloc, store, name) {
+        Err(fault) => Err(fault),
+        Ok(read) => settle(registry, store, found, scratch, name, read),
+    }
+}

@@ -1,0 +1,148 @@
+//! Fetches of segments: an object that has no bytes gets those of its module's file again.
+ghost use Rattle.std.specs.Prelude.{◌≡◌, ◌≤◌, ◌<◌, ◌-◌, ◌/◌, ℕ, List, length, IsTrue, IsFalse, IfErr, OnOk, OnErr, MatchResult, Some, Ok, true, false, slice_get};
+ghost use Rattle.w16_model.specs.Owned.{Revives};
+ghost use Rattle.w16_store.specs.Files.{file_of};
+ghost use Rattle.w16_ne.specs.declared.segment_table.Segment.{Segment};
+ghost use Rattle.w16_ne.specs.Modules.{tables_at};
+ghost use Rattle.w16_reloc.specs.Segments.{Held, checked};
+ghost use Rattle.w16_global.specs.Owned.{LacksBytes};
+ghost use Rattle.w16_loading.specs.declared.FetchFault.TheVariants.{Store as store_fails};
+ghost use Rattle.w16_loading.specs.AnyStore.{AnyFetches};
+ghost use Rattle.w16_loading.specs.Fetch.{FetchesCounted};
+ghost use Rattle.w16_loading.specs.Fill.{is_of_read};
+ghost use Rattle.w16_loading.specs.Modules.{LoadingWorld};
+ghost use Rattle.w16_format.specs.Ne.{ne_format};
+ghost use Rattle.w16_format.specs.Tables.{tables_in};
+ghost use Rattle.w16_loader.specs.Fetching.{fault_of, fault_in, in_parts, IsWritten, IsSourceOf, IsFetchable, GivesBytes};
+
+use crate::entry::Loaded;
+use crate::segment_work::SegmentWork;
+use std::alloc::Allocator;
+use w16_global::Global16;
+use w16_loading::FetchFault;
+use w16_ne::Module;
+use w16_reloc::{Far, RelocFault, Scratch, check};
+use w16_store::{Store, StoreFault};
+
+/// Where a segment's bytes come from.
+#[derive(Clone, Copy)]
+pub struct SegmentSource<'a> {
+    /// The name of its module's file.
+    pub file: &'a [u8],
+    /// What that file said when the module was loaded.
+    pub module: &'a Module,
+    /// The segment's number, from 1.
+    pub number: usize,
+    /// The values of its relocation records, which were bound at load.
+    pub values: &'a [Far],
+}
+
+/// Why a fetch fails whose segment isn't relocated.
+fn fault_of(fault: RelocFault) -> FetchFault
+    ensures { result ≡ fault_of fault }
+{
+    match fault {
+        RelocFault::Store(StoreFault::Device) => FetchFault::Store,
+        _ => FetchFault::Damaged,
+    }
+}
+
+/// Reads a segment into the scratch and checks it. `Store` where the device failed; `Damaged` where the file reads otherwise than it did.
+fn read<S: Store>(
+    source: &SegmentSource<'_>,
+    store: &mut S,
+    scratch: &mut Scratch,
+) -> Result<(), FetchFault>
+    requires first { 0 < source.now.number }
+    requires last { source.now.number ≤ length source.now.module.now.segments }
+    ensures files { S.files store.new ≡ S.files store.old }
+    ensures failures { S.failures store.old ≤ S.failures store.new }
+    ensures many { OnOk result (length scratch.new.records ≡ length source.now.values.now) }
+    ensures faults { IfErr result (λ fault. is_of_read fault ≡ true) }
+    ensures exact { (file : List ℕ) (s : Segment) (held : Held) → S.is_honest → file_of (S.files store.old) source.now.file.now ≡ Some file
+        → tables_at (Some file) ≡ Ok source.now.module.now → slice_get source.now.module.now.segments (source.now.number - 1) ≡ Some s
+        → checked file source.now.module.now s ≡ Ok held → length held.records ≡ length source.now.values.now
+        → MatchResult result (λ _. scratch.new ≡ held) (λ fault. (fault ≡ store_fails) × (S.failures store.old < S.failures store.new)) }
+{
+    if let Err(fault) = check(store, source.file, source.module, source.number, scratch) {
+        return Err(fault_of(fault));
+    }
+    if scratch.records().len() != source.values.len() {
+        return Err(FetchFault::Damaged);
+    }
+    Ok(())
+}
+
+/// Gives an object that a module owns, and that has no bytes, those that a work writes. False, and nothing has changed, where there is no room, and
+/// where the handle names no such object.
+fn give<A: Allocator + Copy>(global: &mut Global16<A>, handle: u16, work: &SegmentWork<'_>) -> bool
+    requires { length work.now.records.now ≡ length work.now.values.now }
+    ensures given { IsTrue result
+        → GivesBytes global.old.handles (handle / 8) (IsWritten work.now.data.now work.now.records.now work.now.values.now) global.new.handles }
+    ensures named { IsTrue result → LacksBytes global.old.handles handle }
+    ensures refused { IsFalse result → global.new ≡ global.old }
+    ensures lacks { IsFalse result → LacksBytes global.old.handles handle → Revives global.old.handles (handle / 8) false global.old.handles }
+{
+    if !global.revive(handle) {
+        return false;
+    }
+    global.with_bytes(handle / 8, work, &mut ());
+    true
+}
+
+/// Gives the object of a segment, which has no bytes, those of its file again: its data, zeros behind them, and the values that were bound at
+/// load over the sites of its relocation records. The file is read and checked before room is asked for.
+///
+/// Others slide and are discarded for it, as few as can be, as for an allocation with no flags; a discardable object becomes the newest in the
+/// order of use. `Store` where the store's device failed; `Damaged` where the file reads otherwise than it did at load; `NoRoom` where no gap
+/// could hold it, and where the handle names no object that a module owns and that has no bytes. After each of these the heap is as it was. The
+/// scratch holds anything afterwards.
+pub fn fetch<S: Store, A: Allocator + Copy>(
+    source: &SegmentSource<'_>,
+    global: &mut Global16<A>,
+    store: &mut S,
+    scratch: &mut Scratch,
+    handle: u16,
+) -> Result<(), FetchFault>
+    requires first { 0 < source.now.number }
+    requires last { source.now.number ≤ length source.now.module.now.segments }
+    ensures files { S.files store.new ≡ S.files store.old }
+    ensures failures { S.failures store.old ≤ S.failures store.new }
+    ensures refused { OnErr result (global.new ≡ global.old) }
+    ensures named { OnOk result (LacksBytes global.old.handles handle) }
+    ensures any { (rest : LoadingWorld) → LacksBytes global.old.handles handle → AnyFetches (in_parts rest global.old.handles rest.files rest.failures) (handle / 8) (fault_in result)
+        (in_parts rest global.new.handles rest.files rest.failures) }
+    ensures fetched { (rest : LoadingWorld) → S.is_honest → LacksBytes global.old.handles handle
+        → IsFetchable (in_parts rest global.old.handles (S.files store.old) (S.failures store.old)) (handle / 8)
+        source.now.number source.now.file.now source.now.module.now source.now.values.now
+        → FetchesCounted ne_format (in_parts rest global.old.handles (S.files store.old) (S.failures store.old)) (handle / 8) (fault_in result)
+        (in_parts rest global.new.handles (S.files store.new) (S.failures store.new)) }
+{
+    read(source, store, scratch)?;
+    let work = SegmentWork {
+        data: scratch.bytes(),
+        records: scratch.records(),
+        values: source.values,
+    };
+    if give(global, handle, &work) {
+        Ok(())
+    } else {
+        Err(FetchFault::NoRoom)
+    }
+}
+
+impl<A: Allocator> Loaded<A> {
+    /// Where the bytes of a segment come from, by its number from 1.
+    pub fn source(&self, number: usize) -> SegmentSource<'_>
+        ensures source { IsSourceOf self.now number result.file.now result.values.now }
+        ensures tables { tables_in result.module.now ≡ self.now.tables }
+        ensures number { result.number ≡ number }
+    {
+        SegmentSource {
+            file: self.file(),
+            module: self.module(),
+            number,
+            values: self.values(number),
+        }
+    }
+}
