@@ -1,11 +1,12 @@
 -- Bytes and words of a file.
-use Rattle.std.proofs.Common.{◌≡◌, ℕ, zero, suc, ◌+◌, ◌<◌, ◌%◌, List, [], ◌∷◌, length, refl, sym, ◌∙◌, ap, subst, arith, get_or}
-use Rattle.std.specs.Prelude.{All}
-use Rattle.std.proofs.lemmas.List.Elements.{All-head, All-tail, All-map}
+use Rattle.std.proofs.Common.{◌≡◌, ℕ, zero, suc, ◌+◌, ◌<◌, true, List, [], ◌∷◌, length, refl, sym, subst, arith, get_or}
+use Rattle.std.specs.Prelude.{All, nat_lt}
+use Rattle.std.proofs.lemmas.Bool.{and_parts, and_from, ltb-true, lt-ltb}
+use Rattle.std.proofs.lemmas.List.Elements.{All-nil, All-cons, All-head, All-tail}
 use Rattle.std.proofs.lemmas.List.FromFn.{get_or-map-range_with_len, length-map-range_with_len}
 use Rattle.w16_ne.specs.Reading.{word_of}
 use Rattle.w16_format.specs.Data.{padded}
-use Rattle.w16_format.specs.Ne.{low_bytes}
+use Rattle.w16_format.specs.Ne.{has_bytes}
 
 abbrev pub AreBytes : List ℕ → Type 0
 AreBytes bytes = All (λ b. b < 256) bytes
@@ -27,16 +28,11 @@ padded_bytes bytes size all k d lt =
     let same : get_or (padded bytes size) k d ≡ get_or bytes k 0 = get_or-map-range_with_len (λ o. get_or bytes o 0) 0 size k k d (omega (arith, long, lt)) (omega arith) in
     subst (λ n. n < 256) (sym same) (at_any bytes all k)
 
-low : (n : ℕ) → n % 256 < 256
-low n = omega arith
+-- what passes the test for bytes has bytes
+pub passed_bytes : (file : List ℕ) → has_bytes file ≡ true → AreBytes file
+passed_bytes [] e = All-nil (λ x. x < 256)
+passed_bytes (b ∷ bs) e = let parts = and_parts (nat_lt b 256) (has_bytes bs) e in All-cons (λ x. x < 256) b bs (ltb-true b 256 parts.0) (passed_bytes bs parts.1)
 
-low_same : (n : ℕ) → n < 256 → n % 256 ≡ n
-low_same n lt = omega arith
-
-pub low_bytes_are : (file : List ℕ) → AreBytes (low_bytes file)
-low_bytes_are file = All-map (λ b. b < 256) (λ b. b % 256) file (λ k d lt. low (get_or file k d))
-
-pub low_bytes_same : (file : List ℕ) → AreBytes file → low_bytes file ≡ file
-low_bytes_same [] all = refl
-low_bytes_same (b ∷ bs) all =
-    ap (λ x. x ∷ low_bytes bs) (low_same b (All-head (λ x. x < 256) b bs all)) ∙ ap (λ xs. b ∷ xs) (low_bytes_same bs (All-tail (λ x. x < 256) b bs all))
+pub bytes_pass : (file : List ℕ) → AreBytes file → has_bytes file ≡ true
+bytes_pass [] all = refl
+bytes_pass (b ∷ bs) all = and_from (nat_lt b 256) (has_bytes bs) (lt-ltb b 256 (All-head (λ x. x < 256) b bs all)) (bytes_pass bs (All-tail (λ x. x < 256) b bs all))

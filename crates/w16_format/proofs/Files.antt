@@ -1,6 +1,6 @@
 -- NE files are a format.
-use Rattle.std.proofs.Common.{◌≡◌, ℕ, ◌+◌, ◌<◌, ◌≤◌, Bool, true, false, cond, List, [], ◌∷◌, length, map, take, drop, Some, Result, Ok, Err, refl, ◌∙◌, ap, arith, get_or}
-use Rattle.std.specs.Prelude.{None, All, MatchResult, nat_eq, slice_get}
+use Rattle.std.proofs.Common.{◌≡◌, ℕ, ◌+◌, ◌<◌, ◌≤◌, Bool, true, false, cond, List, [], ◌∷◌, length, map, take, drop, Some, Result, Ok, Err, refl, sym, ◌∙◌, ap, arith, get_or}
+use Rattle.std.specs.Prelude.{Option, None, IsSomeAnd, All, MatchResult, nat_eq, slice_get}
 use Rattle.std.specs.List.{AllZip}
 use Rattle.std.proofs.lemmas.List.Elements.{All-map, All-take, All-drop}
 use Rattle.w16_model.specs.Calls.{rounded_size}
@@ -15,11 +15,17 @@ use Rattle.w16_ne.specs.Resources as ne_resources
 use Rattle.w16_ne.specs.Modules.{Tables, tables_at, listed_resources}
 use Rattle.w16_ne.specs.ModuleFormat.{IsModule}
 use Rattle.w16_ne.proofs.ModuleFormat.{module_format}
-use Rattle.w16_loading.specs.File.{IsFormat, IsModuleFile, Resource}
-use Rattle.w16_format.specs.Tables.{resource_in}
+use Rattle.w16_store.specs.Files.{file_of}
+use Rattle.w16_loading.specs.File as loading
+use Rattle.w16_loading.specs.File.{IsFormat, IsModuleFile, ModuleFile, Resource}
+use Rattle.w16_loading.specs.Law.{IsItsFiles, IsOfFiles}
+use Rattle.w16_loading.specs.Modules.{LoadingWorld, Module, module_at}
+use Rattle.w16_format.specs.Layout.{layout_code}
+use Rattle.w16_format.specs.Law.{IsFileOf}
+use Rattle.w16_format.specs.Tables.{resource_in, tables_in}
 use Rattle.w16_format.specs.Data.{contents_in}
-use Rattle.w16_format.specs.Ne.{module_file, number_of, read_as, plain_format, ne_format, low_bytes}
-use Rattle.w16_format.proofs.Bytes.{AreBytes, padded_length, padded_bytes, low_bytes_are, low_bytes_same}
+use Rattle.w16_format.specs.Ne.{module_file, number_of, read_as, plain_format, ne_format, has_bytes}
+use Rattle.w16_format.proofs.Bytes.{AreBytes, padded_length, padded_bytes, passed_bytes, bytes_pass}
 use Rattle.w16_format.proofs.Segments.{segments_fit, room}
 
 -- Resources.
@@ -56,10 +62,54 @@ read_fits file (Ok t) all e = is_module_file file t all ((module_format file t).
 read_fits file (Err e) all same = numbers e
 
 pub is_format : IsFormat ne_format
-is_format file = read_fits (low_bytes file) (tables_at (Some (low_bytes file))) (low_bytes_are file) refl
+is_format file = turn (has_bytes file) refl
+  where
+    turn : (b : Bool) → has_bytes file ≡ b → MatchResult (cond b (plain_format file) (Err 11)) IsModuleFile (λ answer. (11 ≤ answer) × (answer ≤ 14))
+    turn true e = read_fits file (tables_at (Some file)) (passed_bytes file e) refl
+    turn false e = (omega arith, omega arith)
 
 pub plain : (file : List ℕ) → All (λ b. b < 256) file → ne_format file ≡ plain_format file
-plain file all = ap plain_format (low_bytes_same file all)
+plain file all = ap (λ b. cond b (plain_format file) (Err 11)) (bytes_pass file all)
+
+ok_same : {x y : ModuleFile} → ◌≡◌ {A = Result ModuleFile ℕ} (Ok x) (Ok y) → x ≡ y
+ok_same h = cc
+
+not_ok : {e : ℕ} {y : ModuleFile} → ◌≡◌ {A = Result ModuleFile ℕ} (Err e) (Ok y) → ⊥
+not_ok h = cc
+
+pub tables_apart : (t u : Tables) → tables_in t ≡ tables_in u → t ≡ u
+tables_apart t u same = layout_code.inj t u (ap (λ (l : loading.Tables). l.layout) same)
+
+-- what is accepted is a file of bytes, whose tables were read
+pub read_back : (file : List ℕ) (read : ModuleFile) → ne_format file ≡ Ok read → All (λ b. b < 256) file × ((t : Tables) × (tables_at (Some file) ≡ Ok t) × (read ≡ module_file file t))
+read_back file read e = turn (has_bytes file) refl (tables_at (Some file)) refl e
+  where
+    turn : (b : Bool) → has_bytes file ≡ b → (r : Result Tables NeFault) → tables_at (Some file) ≡ r → cond b (read_as file r) (Err 11) ≡ Ok read
+        → All (λ b. b < 256) file × ((t : Tables) × (tables_at (Some file) ≡ Ok t) × (read ≡ module_file file t))
+    turn true pass (Ok t) f g = (passed_bytes file pass, (t, f, sym (ok_same g)))
+    turn true pass (Err fault) f g = absurd (not_ok g)
+    turn false pass r f g = absurd (not_ok g)
+
+-- A module's file as its world has it: what it was loaded with, its file still says.
+pub stored_law : (world : LoadingWorld) (handle : ℕ) (m : Module) (t : Tables) → IsOfFiles ne_format world → module_at world.modules handle ≡ Some m → m.tables ≡ tables_in t
+    → (file : List ℕ) × IsFileOf world m file t
+stored_law world handle m t of_files there same = turn (file_of world.files m.file) refl (of_files.modules handle m there)
+  where
+    said : Option (List ℕ) → Option ModuleFile
+    said None = None
+    said (Some file) = elim (ne_format file) [ Ok read ↦ Some read | Err _ ↦ None ]
+
+    by : (file : List ℕ) → file_of world.files m.file ≡ Some file → (r : Result ModuleFile ℕ) → ne_format file ≡ r
+        → IsSomeAnd (elim r as (λ _. Option ModuleFile) [ Ok read ↦ Some read | Err _ ↦ None ]) (IsItsFiles m) → (file : List ℕ) × IsFileOf world m file t
+    by file stored (Err _) e its = absurd its
+    by file stored (Ok read) e its =
+        let back = read_back file read e in
+        let tables : tables_in back.1.0 ≡ tables_in t = ap (λ (r : ModuleFile). r.tables) (sym back.1.2) ∙ its.tables ∙ same in
+        (file, record { stored = stored; bytes = back.0; tables = back.1.1 ∙ ap Ok (tables_apart back.1.0 t tables) })
+
+    turn : (p : Option (List ℕ)) → file_of world.files m.file ≡ p → IsSomeAnd (said p) (IsItsFiles m) → (file : List ℕ) × IsFileOf world m file t
+    turn None e its = absurd its
+    turn (Some file) e its = by file e (ne_format file) refl its
 
 pub has_room : (file : List ℕ) (t : Tables) (k : ℕ) (s : Segment) → tables_at (Some file) ≡ Ok t → slice_get t.segments k ≡ Some s → length (data_of file s) ≤ s.size
 has_room file t k s h found =

@@ -17,7 +17,8 @@ use Rattle.w16_reloc.specs.Law.{IsFar}
 use Rattle.w16_reloc.specs.declared.value.Far as words
 use Rattle.w16_loading.specs.File.{IsFormat, Far, numbered}
 use Rattle.w16_loading.specs.File as loading
-use Rattle.w16_loading.specs.Modules.{LoadingWorld, Module}
+use Rattle.w16_loading.specs.Law.{IsOfFiles}
+use Rattle.w16_loading.specs.Modules.{LoadingWorld, Module, module_at}
 use Rattle.w16_loading.specs.Closure.{are_sound}
 use Rattle.w16_loading.specs.Fetch.{segment_bytes, resource_bytes}
 use Rattle.w16_format.specs.Tables.{segment_in, entry_in, resource_in, tables_in}
@@ -94,3 +95,12 @@ NameLaw = (t : Tables) (name : List ℕ) → loading.entry_named (tables_in t) n
 abbrev pub PlaceLaw : Type 0
 PlaceLaw = (t : Tables) (number : ℕ) → (numbered (tables_in t).segments number ≡ option_map segment_in (numbered t.segments number))
     × (numbered (tables_in t).resources number ≡ option_map resource_in (resource_at t.resources number))
+
+-- The tables of a load tell the file's own, and where it keeps each part.
+abbrev pub ApartLaw : Type 0
+ApartLaw = (t u : Tables) → tables_in t ≡ tables_in u → t ≡ u
+
+-- So where all is of its files, a module that was loaded with some tables has a file of bytes that still says these.
+abbrev pub StoredLaw : Type 0
+StoredLaw = (world : LoadingWorld) (handle : ℕ) (m : Module) (t : Tables) → IsOfFiles ne_format world → module_at world.modules handle ≡ Some m → m.tables ≡ tables_in t
+    → (file : List ℕ) × IsFileOf world m file t

@@ -1,5 +1,6 @@
 -- NE files as a format.
-use Rattle.std.specs.Prelude.{ℕ, ◌%◌, List, map, ◌==◌, if◌then◌else◌, Some, Result, Ok, Err}
+use Rattle.std.specs.Prelude.{ℕ, Bool, nat_lt, List, map, ◌==◌, if◌then◌else◌, Some, Result, Ok, Err}
+use Rattle.std.specs.List.{list_all}
 use Rattle.w16_ne.specs.declared.fault.NeFault.{NeFault}
 use Rattle.w16_ne.specs.declared.fault.NeFault.TheVariants.{Target}
 use Rattle.w16_ne.specs.Modules.{Tables, tables_at, listed_resources}
@@ -27,9 +28,9 @@ read_as file (Err e) = Err (number_of e)
 abbrev pub plain_format : Format
 plain_format file = read_as file (tables_at (Some file))
 
--- A file has bytes; of any other number the low byte counts.
-abbrev pub low_bytes : List ℕ → List ℕ
-low_bytes file = map (λ b. b % 256) file
+-- A file has bytes: what has other numbers isn't accepted.
+abbrev pub has_bytes : List ℕ → Bool
+has_bytes file = list_all (λ b. nat_lt b 256) file
 
 abbrev pub ne_format : Format
-ne_format file = plain_format (low_bytes file)
+ne_format file = if has_bytes file then plain_format file else Err 11

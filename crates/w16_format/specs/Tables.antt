@@ -9,6 +9,7 @@ use Rattle.w16_ne.specs.Resources as ne_resources
 use Rattle.w16_ne.specs.Header.{is_library}
 use Rattle.w16_ne.specs.Modules as ne
 use Rattle.w16_ne.specs.Modules.{listed_resources}
+use Rattle.w16_format.specs.Layout.{layout_of}
 use Rattle.w16_loading.specs.File.{Segment, Entry, Label, Resource, Tables}
 use Rattle.w16_loading.specs.File.Entry.{InSegment, Constant}
 use Rattle.w16_loading.specs.File.Label.{Number, Text}
@@ -47,4 +48,5 @@ tables_in t = record {
   entries = map (option_map entry_in) t.entries;
   names = t.names;
   resources = map resource_in (listed_resources t.resources);
+  layout = layout_of t;
 }

@@ -1,5 +1,5 @@
 //! The laws of the format. Each function does nothing: its contract is the law.
-ghost use Rattle.w16_format.specs.Law.{AcceptedLaw, EntryLaw, FormatLaw, MissingLaw, NameLaw, PlaceLaw, PlainLaw, RefusedLaw, ResourceBytesLaw, RoomLaw, SegmentBytesLaw, SegmentLaw, SoundLaw, WordsLaw};
+ghost use Rattle.w16_format.specs.Law.{AcceptedLaw, ApartLaw, EntryLaw, FormatLaw, MissingLaw, NameLaw, PlaceLaw, PlainLaw, RefusedLaw, ResourceBytesLaw, RoomLaw, SegmentBytesLaw, SegmentLaw, SoundLaw, StoredLaw, WordsLaw};
 ghost use Rattle.w16_format.specs.Samples.{SamplesLaw};
 
 /// NE files are a format as loading asks it: sizes and images go together, and refusals are numbers of files.
@@ -39,4 +39,10 @@ pub fn tables_answer_by_number_and_name()
 /// Three files say what was worked out by hand.
 pub fn samples_are_read_and_relocated()
     ensures { SamplesLaw }
+{}
+
+/// A module of a world that is of its files has a file that still says what the module was loaded with.
+pub fn modules_keep_what_their_files_say()
+    ensures apart { ApartLaw }
+    ensures stored { StoredLaw }
 {}

@@ -36,7 +36,7 @@ prefix_map p f (x ∷ xs) = ap (λ n. cond (p (f x)) (1 + n) 0) (prefix_map p f 
 position_by : ℕ → ℕ → Option ℕ
 position_by at n = cond (nat_lt at n) (Some at) None
 
-position_map : {X Y : Type 0} (p : Y → Bool) (f : X → Y) (xs : List X) → position p (map f xs) ≡ position (λ x. p (f x)) xs
+pub position_map : {X Y : Type 0} (p : Y → Bool) (f : X → Y) (xs : List X) → position p (map f xs) ≡ position (λ x. p (f x)) xs
 unfolding position_by
 position_map p f xs = ap (λ at. position_by at (length (map f xs))) (prefix_map (λ y. not (p y)) f xs) ∙ ap (position_by (position_or_len (λ x. p (f x)) xs)) (length-map xs f)
 

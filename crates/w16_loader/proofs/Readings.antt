@@ -22,7 +22,7 @@ module _ (format : Format) (a : Around) (found : List closing.Found) (name : Lis
   is_full full = rw (there, accepted, none, sound, full, closing.reading) refl
 
   -- it is new
-  is_new : nat_lt (length found) a.free ≡ true → closing.reading format a found name ≡ Read read
+  pub is_new : nat_lt (length found) a.free ≡ true → closing.reading format a found name ≡ Read read
   is_new left = rw (there, accepted, none, sound, left, closing.reading) refl
 
 read_bytes : (file : Option (List ℕ)) (t : ne.Tables) → IsRead file t → (bytes : List ℕ) × (file ≡ Some bytes) × (tables_at (Some bytes) ≡ Ok t) × (ne_format bytes ≡ Ok (module_file bytes t))

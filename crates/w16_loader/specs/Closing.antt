@@ -1,5 +1,6 @@
 -- What a load has found, as the code keeps it, and what it makes of a name and of a file.
-use Rattle.std.specs.Prelude.{◌≡◌, ◌<◌, ℕ, List, [], map, false, Option, Some, None, IsSomeAnd, unwrap_or, Result, Ok, Err}
+use Rattle.std.specs.Prelude.{◌≡◌, ◌<◌, ℕ, List, [], length, map, false, Option, Some, None, IsSomeAnd, unwrap_or, Result, Ok, Err}
+use Rattle.std.specs.FinMap as finmap
 use Rattle.w16_store.specs.declared.store.StoreFault.TheVariants as stores
 use Rattle.w16_store.specs.Files.{file_of}
 use Rattle.w16_ne.specs.declared.fault.NeFault.{NeFault}
@@ -9,7 +10,8 @@ use Rattle.w16_ne.specs.Modules.{tables_at}
 use Rattle.w16_reloc.specs.declared.fault.RelocFault.{RelocFault}
 use Rattle.w16_reloc.specs.declared.fault.RelocFault.TheVariants as relocs
 use Rattle.w16_loading.specs.File.{ModuleFile}
-use Rattle.w16_loading.specs.Modules.{Modules, handle_named, free_modules}
+use Rattle.w16_loading.specs.declared.TheConstants.{FIRST_MODULE}
+use Rattle.w16_loading.specs.Modules.{Modules, Named, handle_named, free_modules}
 use Rattle.w16_loading.specs.Closure as closing
 use Rattle.w16_loading.specs.Closure.{Around, are_sound}
 use Rattle.w16_loading.specs.Closure.Referent.{There, New}
@@ -76,6 +78,27 @@ module _ {A : Type 0} where
   -- what a load of these modules, which has found others, makes of the file of a name
   abbrev pub reading_in : Modules → Files → List (Found A) → List ℕ → closing.Reading
   reading_in modules files found name = closing.reading ne_format (around_in modules files) (map (found_in files) found) name
+
+  -- what a name means to a load of these modules that has found others
+  abbrev pub meant_in : Modules → List (Found A) → List ℕ → Option closing.Referent
+  meant_in modules found name = closing.meant (around_in modules []) (map (found_in []) found) name
+
+  -- Whatever a file says, a load makes of it what some name means, or a new module, whose name means nothing and for which a handle is left.
+  abbrev pub IsNewOrMeant : Modules → List (Found A) → Reading → Type 0
+  IsNewOrMeant modules found (makes.Meant referent) = (name : List ℕ) × (meant_in modules found name ≡ Some (referent_of referent))
+  IsNewOrMeant modules found (makes.Read tables) = (meant_in modules found tables.name ≡ None) × (length found < free_modules modules)
+
+  -- a handle that a name means is one of these modules, and a place one of those found
+  abbrev pub IsThere : Modules → List (Found A) → Reading → Type 0
+  IsThere modules found (makes.Meant (refers.There handle)) = (n : Named) × (finmap.get modules handle ≡ Some n)
+  IsThere modules found (makes.Meant (refers.New place)) = place < length found
+  IsThere modules found (makes.Read tables) = Unit {0}
+
+-- a number that refuses a load is none of a handle
+abbrev pub IsSmall : FileFault → Type 0
+IsSmall (Refused number) = number < FIRST_MODULE
+IsSmall Device = Unit {0}
+IsSmall OutOfMemory = Unit {0}
 
 abbrev pub reading_of : Files → List ℕ → Reading → closing.Reading
 reading_of files name (makes.Meant referent) = Meant (referent_of referent)

@@ -1,24 +1,26 @@
 -- How a segment's object gets its bytes from the file of its module.
-use Rattle.std.specs.Prelude.{◌≡◌, ℕ, ◌-◌, ◌≤◌, true, List, [], length, map, All, IsSomeAnd, Option, Some, None, Result, Ok, Err, slice_index_or}
+use Rattle.std.specs.Prelude.{◌≡◌, ℕ, ◌-◌, ◌<◌, ◌≤◌, true, List, [], length, map, All, IsSomeAnd, Option, Some, None, Result, Ok, Err, slice_get, slice_index_or}
 use Rattle.w16_model.specs.Handles.{Handles}
 use Rattle.w16_model.specs.Owned.{owned_at}
 use Rattle.w16_store.specs.declared.store.StoreFault.TheVariants as stores
-use Rattle.w16_ne.specs.Modules.{Tables}
+use Rattle.w16_ne.specs.declared.segment_table.Segment.{Segment}
+use Rattle.w16_ne.specs.Modules.{Tables, tables_at}
 use Rattle.w16_reloc.specs.declared.fault.RelocFault.{RelocFault}
 use Rattle.w16_reloc.specs.declared.fault.RelocFault.TheVariants as relocs
 use Rattle.w16_reloc.specs.declared.record.Record.{Record}
 use Rattle.w16_reloc.specs.declared.value.Far as words
 use Rattle.w16_reloc.specs.Images.{IsImage}
 use Rattle.w16_reloc.specs.Law.{IsFar}
+use Rattle.w16_reloc.specs.Segments.{Held, checked}
 use Rattle.w16_reloc.specs.Sound.{IsSound}
 use Rattle.w16_loading.specs.declared.FetchFault.{FetchFault}
 use Rattle.w16_loading.specs.declared.FetchFault.TheVariants.{Store, Damaged}
 use Rattle.w16_loading.specs.Fill.{Fills}
 use Rattle.w16_loading.specs.Law.{IsLoadingWorld, IsOfFiles}
 use Rattle.w16_loading.specs.Modules.{LoadingWorld, Module, IsSegmentOf}
-use Rattle.w16_format.specs.Data.{far_of}
-use Rattle.w16_format.specs.Law.{IsFileOf}
+use Rattle.w16_format.specs.Data.{data_in, far_of}
 use Rattle.w16_format.specs.Ne.{ne_format}
+use Rattle.w16_format.specs.Tables.{tables_in}
 
 -- why a fetch fails whose segment isn't relocated: the store's device failed, or the file isn't what it was
 abbrev pub fault_of : RelocFault → FetchFault
@@ -48,7 +50,7 @@ pub record IsSourceOf (m : Module) (number : ℕ) (file : List ℕ) (values : Li
   pub named : m.file ≡ file
   pub bound : slice_index_or m.values (number - 1) [] ≡ map far_of values
 
--- In a world where all is of its file, a slot's object is that segment of a module, whose file still says the tables that it said at load.
+-- In a world where all is of its file, a slot's object is that segment of a module that was loaded with these tables.
 pub record IsFetchable (world : LoadingWorld) (slot number : ℕ) (name : List ℕ) (t : Tables) (values : List words.Far) : Type 0 where
   pub sound : IsLoadingWorld world
   pub of_files : IsOfFiles ne_format world
@@ -56,8 +58,21 @@ pub record IsFetchable (world : LoadingWorld) (slot number : ℕ) (name : List �
   pub m : Module
   pub segment : IsSegmentOf world slot handle number m
   pub source : IsSourceOf m number name values
-  pub file : List ℕ
-  pub stored : IsFileOf world m file t
+  pub tables : m.tables ≡ tables_in t
+
+-- A file of bytes says the tables of a module, and a segment of it has records that are sound in its data, one for each value.
+pub record IsSoundIn (file : List ℕ) (t : Tables) (number : ℕ) (values : List words.Far) : Type 0 where
+  pub are_bytes : All (λ b. b < 256) file
+  pub tables : tables_at (Some file) ≡ Ok t
+  pub segment : Segment
+  pub there : slice_get t.segments (number - 1) ≡ Some segment
+  pub held : Held
+  pub passed : checked file t segment ≡ Ok held
+  pub many : length held.records ≡ length values
+
+-- what the object of a segment is given under these values
+abbrev pub image_in : List ℕ → Tables → Segment → List words.Far → List ℕ
+image_in file t s values = (data_in file t s).image (map far_of values)
 
 -- a world that has these handles, these files and this count of failures, whatever else
 abbrev pub in_parts : LoadingWorld → Handles → List (List ℕ × List ℕ) → ℕ → LoadingWorld

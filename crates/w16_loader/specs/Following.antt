@@ -1,8 +1,9 @@
 -- How a load follows the references of the modules that it finds, as the code keeps it.
-use Rattle.std.specs.Prelude.{◌≡◌, ◌≤◌, ◌==◌, if◌then◌else◌, ℕ, suc, List, [], ◌∷◌, ◌++◌, map, drop, length, slice_get, None, Some, Result}
+use Rattle.std.specs.Prelude.{◌≡◌, ◌⊎◌, ◌≤◌, ◌<◌, ◌==◌, if◌then◌else◌, ℕ, suc, List, [], ◌∷◌, ◌++◌, map, drop, length, slice_get, None, Some, Result}
 use Rattle.w16_loading.specs.File.{Format}
+use Rattle.w16_loading.specs.Modules.{Modules, free_modules}
 use Rattle.w16_loading.specs.Closure as closing
-use Rattle.w16_loading.specs.Closure.{Around, Closes, with_bound, with_found}
+use Rattle.w16_loading.specs.Closure.{Around, Closes, dll, with_bound, with_found}
 use Rattle.w16_loading.specs.Closure.Referent.{New}
 use Rattle.w16_loading.specs.Closure.Reading.{Meant, Read}
 use Rattle.w16_loader.specs.declared.found.Found.{Found}
@@ -14,7 +15,7 @@ use Rattle.w16_loader.specs.declared.closure.Bound.{Bound}
 use Rattle.w16_loader.specs.declared.closure.Closure.{Closure}
 use Rattle.w16_loader.specs.declared.closure.Followed.{Followed}
 use Rattle.w16_loader.specs.declared.closure.Followed.TheVariants as leads
-use Rattle.w16_loader.specs.Closing.{Files, referent_of, found_in, read_in}
+use Rattle.w16_loader.specs.Closing.{Files, referent_of, found_in, read_in, meant_in}
 
 -- a file that a reference leads to and that is refused gives 20, want of a handle 0
 abbrev pub number_of_reference : ℕ → ℕ
@@ -71,6 +72,26 @@ module _ {A : Type 0} where
   abbrev pub IsReadOf : Files → List ℕ → closing.Reading → Followed A → Type 0
   IsReadOf files file reading (leads.Meant referent) = reading ≡ Meant (referent_of referent)
   IsReadOf files file reading (leads.New f) = (reading ≡ Read (read_in files f.file.items f.module)) × (f.file.items ≡ file)
+
+  -- Where a reference leads by its name alone; and by a file, whatever that says: to what some name means, or to a new module of that file, whose name
+  -- means nothing and for which a handle is left.
+  abbrev pub LeadsByName : Modules → List (Found A) → List ℕ → Followed A → Type 0
+  LeadsByName modules found name (leads.Meant referent) = meant_in modules found name ≡ Some (referent_of referent)
+  LeadsByName modules found name (leads.New f) = ⊥
+
+  abbrev pub LeadsByFile : Modules → List (Found A) → List ℕ → Followed A → Type 0
+  LeadsByFile modules found file (leads.Meant referent) = (name : List ℕ) × (meant_in modules found name ≡ Some (referent_of referent))
+  LeadsByFile modules found file (leads.New f) = (f.file.items ≡ file) × (meant_in modules found f.module.name ≡ None) × (length found < free_modules modules)
+
+  -- a name that means nothing is looked for in its file
+  abbrev pub LeadsSomewhere : Modules → List (Found A) → List ℕ → Followed A → Type 0
+  LeadsSomewhere modules found name followed = LeadsByName modules found name followed ⊎ ((meant_in modules found name ≡ None) × LeadsByFile modules found (dll name) followed)
+
+  -- Modules are found behind those that were there, and no more than handles are free, or than there were.
+  pub record FindsFew (modules : Modules) (before after : List (Found A)) : Type 0 where
+    pub since : List (Found A)
+    pub kept : after ≡ before ++ since
+    pub few : (most : ℕ) → free_modules modules ≤ most → length before ≤ most → length after ≤ most
 
   -- the modules after it, and what it means after so many modules
   abbrev pub found_after : List (Found A) → Followed A → List (Found A)

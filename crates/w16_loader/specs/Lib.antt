@@ -3,4 +3,9 @@ pub mod Registry
 pub mod Closing
 pub mod Idle
 pub mod Following
+pub mod AnyClosing
 pub mod Fetching
+pub mod Binding
+pub mod Filling
+pub mod Naming
+pub mod Loading

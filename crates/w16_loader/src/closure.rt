@@ -1,11 +1,13 @@
 //! Which modules a load finds: the module asked for, and breadth first those that it and the others refer to.
-ghost use Rattle.std.specs.Prelude.{◌≡◌, ◌≤◌, ◌+◌, ◌<◌, ◌-◌, ◌++◌, ◌∷◌, [], ℕ, List, length, Ok, Err, IfOk, IfErr, OnOk};
+ghost use Rattle.std.specs.Prelude.{◌≡◌, ◌≤◌, ◌+◌, ◌<◌, ◌-◌, ◌++◌, ◌∷◌, [], ℕ, List, length, Ok, Err, IfOk, IfErr, OnOk, None};
 ghost use Rattle.w16_loading.specs.Closure as closing;
 ghost use Rattle.w16_loading.specs.Closure.{Closes, begun, dll};
+ghost use Rattle.w16_loading.specs.Modules.{free_modules, handle_named};
 ghost use Rattle.w16_format.specs.Ne.{ne_format};
-ghost use Rattle.w16_loader.specs.Closing.{around_in, reading_in, read_in, IsFault};
-ghost use Rattle.w16_loader.specs.Following.{Leads, IsReadOf, IsRefusedReference, pending_in, closed_in, reached, with_followed, references_at, found_after, referent_after};
+ghost use Rattle.w16_loader.specs.Closing.{around_in, reading_in, read_in, IsFault, IsSmall};
+ghost use Rattle.w16_loader.specs.Following.{Leads, IsReadOf, IsRefusedReference, pending_in, closed_in, reached, with_followed, LeadsByFile, LeadsSomewhere, FindsFew, references_at, found_after, referent_after};
 ghost use Rattle.w16_loader.specs.Following as following;
+ghost use Rattle.w16_loader.specs.AnyClosing.{LeadsAny, IsSomeClosure, reached_of, closed_of};
 
 use crate::found::{FileFault, Found, Reading, Referent, examine_file, meant};
 use crate::registry::Registry;
@@ -84,6 +86,8 @@ fn follow_file<S: Store, A: Allocator>(
 ) -> Result<Followed<A>, FileFault>
     ensures files { S.files store.new ≡ S.files store.old }
     ensures failures { S.failures store.old ≤ S.failures store.new }
+    ensures any { IfOk result (LeadsByFile registry.now found.now file.items) }
+    ensures small { IfErr result IsSmall }
     ensures ok { S.is_honest → IfOk result (IsReadOf (S.files store.old) file.items (reading_in registry.now (S.files store.old) found.now file.items)) }
     ensures err { S.is_honest → IfErr result (IsFault (IsRefusedReference (reading_in registry.now (S.files store.old) found.now file.items))
         (S.failures store.old) (S.failures store.new)) }
@@ -122,6 +126,8 @@ impl<A: Allocator + Clone> Closure<A> {
     ) -> Result<Followed<A>, FileFault>
         ensures files { S.files store.new ≡ S.files store.old }
         ensures failures { S.failures store.old ≤ S.failures store.new }
+        ensures any { IfOk result (LeadsSomewhere registry.now self.now.found.items name.now) }
+        ensures small { IfErr result IsSmall }
         ensures ok { S.is_honest → IfOk result (λ made. (pending : List (ℕ × List ℕ)) (place : ℕ) → closing.followed ne_format (around_in registry.now (S.files store.old)) (pending_in (S.files store.old) pending self.now) place name.now
             ≡ Ok (with_followed (S.files store.old) (pending_in (S.files store.old) pending self.now) place made)) }
         ensures err { S.is_honest → IfErr result (IsFault (λ number. (pending : List (ℕ × List ℕ)) (place : ℕ) → closing.followed ne_format (around_in registry.now (S.files store.old)) (pending_in (S.files store.old) pending self.now) place name.now
@@ -169,6 +175,9 @@ impl<A: Allocator + Clone> Closure<A> {
         ensures files { S.files store.new ≡ S.files store.old }
         ensures failures { S.failures store.old ≤ S.failures store.new }
         ensures same { OnOk result (references_at self.new.found.items place ≡ references_at self.old.found.items place) }
+        ensures few { OnOk result (FindsFew registry.now self.old.found.items self.new.found.items) }
+        ensures any { OnOk result (LeadsAny registry.now self.new.found.items (reached_of place (number - 1) self.old) (reached_of place number self.new)) }
+        ensures small { IfErr result IsSmall }
         ensures ok { S.is_honest → OnOk result (Leads ne_format (around_in registry.now (S.files store.old)) (reached (S.files store.old) place (number - 1) self.old) (reached (S.files store.old) place number self.new)) }
         ensures err { S.is_honest → IfErr result (IsFault (λ answer. Closes ne_format (around_in registry.now (S.files store.old)) (reached (S.files store.old) place (number - 1) self.old) (Err answer))
             (S.failures store.old) (S.failures store.new)) }
@@ -204,6 +213,9 @@ impl<A: Allocator + Clone> Closure<A> {
     ) -> Result<(), FileFault>
         ensures files { S.files store.new ≡ S.files store.old }
         ensures failures { S.failures store.old ≤ S.failures store.new }
+        ensures few { OnOk result (FindsFew registry.now self.old.found.items self.new.found.items) }
+        ensures any { OnOk result (LeadsAny registry.now self.new.found.items (reached_of place 0 self.old) (reached_of (place + 1) 0 self.new)) }
+        ensures small { IfErr result IsSmall }
         ensures ok { S.is_honest → OnOk result (Leads ne_format (around_in registry.now (S.files store.old)) (reached (S.files store.old) place 0 self.old) (reached (S.files store.old) (place + 1) 0 self.new)) }
         ensures err { S.is_honest → IfErr result (IsFault (λ number. Closes ne_format (around_in registry.now (S.files store.old)) (reached (S.files store.old) place 0 self.old) (Err number))
             (S.failures store.old) (S.failures store.new)) }
@@ -229,6 +241,9 @@ impl<A: Allocator + Clone> Closure<A> {
         requires { length self.old.found.items ≤ MOST_MODULES }
         ensures files { S.files store.new ≡ S.files store.old }
         ensures failures { S.failures store.old ≤ S.failures store.new }
+        ensures few { OnOk result (FindsFew registry.now self.old.found.items self.new.found.items) }
+        ensures any { OnOk result (LeadsAny registry.now self.new.found.items (reached_of 0 0 self.old) (closed_of self.new)) }
+        ensures small { IfErr result IsSmall }
         ensures ok { S.is_honest → OnOk result (Closes ne_format (around_in registry.now (S.files store.old)) (reached (S.files store.old) 0 0 self.old) (Ok (closed_in (S.files store.old) self.new))) }
         ensures err { S.is_honest → IfErr result (IsFault (λ number. Closes ne_format (around_in registry.now (S.files store.old)) (reached (S.files store.old) 0 0 self.old) (Err number))
             (S.failures store.old) (S.failures store.new)) }
@@ -247,6 +262,9 @@ impl<A: Allocator + Clone> Closure<A> {
 /// neither handles nor anything of the machine.
 ///
 /// A number refuses the load: 20 where a file that a reference leads to is refused, 0 where no handle is left for a module.
+///
+/// Where nothing has the name of the module asked for, and a handle is left for it, the modules are those of some closure, whatever the store answers:
+/// no two of them have one name.
 pub fn close<S: Store, A: Allocator + Clone>(
     alloc: Global,
     registry: &Registry<A>,
@@ -256,6 +274,10 @@ pub fn close<S: Store, A: Allocator + Clone>(
 ) -> Result<Closure<A>, FileFault>
     ensures files { S.files store.new ≡ S.files store.old }
     ensures failures { S.failures store.old ≤ S.failures store.new }
+    ensures some { IfOk result (λ made. 0 < length made.found.items) }
+    ensures few { 0 < free_modules registry.now → IfOk result (λ made. length made.found.items ≤ free_modules registry.now) }
+    ensures any { handle_named registry.now first.module.name ≡ None → 0 < free_modules registry.now → IfOk result (IsSomeClosure registry.now first.file.items) }
+    ensures small { IfErr result IsSmall }
     ensures ok { S.is_honest → IfOk result (λ made. Closes ne_format (around_in registry.now (S.files store.old)) (begun first.file.items (read_in (S.files store.old) first.file.items first.module)) (Ok (closed_in (S.files store.old) made))) }
     ensures err { S.is_honest → IfErr result (IsFault (λ number. Closes ne_format (around_in registry.now (S.files store.old)) (begun first.file.items (read_in (S.files store.old) first.file.items first.module)) (Err number))
         (S.failures store.old) (S.failures store.new)) }

@@ -1,5 +1,5 @@
 //! Uses that end: what nobody uses goes, with its objects.
-ghost use Rattle.std.specs.Prelude.{◌≡◌, ◌<◌, ℕ, List, All, IfSome};
+ghost use Rattle.std.specs.Prelude.{◌≡◌, ◌<◌, ℕ, List, fold, All, IfSome};
 ghost use Rattle.std.specs.FinMap as finmap;
 ghost use Rattle.w16_model.specs.Discards.{is_member};
 ghost use Rattle.w16_model.specs.Owned.{without_slot};
@@ -54,6 +54,20 @@ fn release_module<A: Allocator + Copy>(
 {
     if let Some(loaded) = registry.remove(handle) {
         release_slots(global, loaded.slots());
+    }
+}
+
+/// The modules of these handles go, with the objects of all their segments, locked or not, used or not. A handle that names none changes nothing.
+pub(crate) fn release_modules<A: Allocator + Copy>(
+    registry: &mut Registry<A>,
+    global: &mut Global16<A>,
+    handles: &[u16],
+)
+    ensures gone { (rest : LoadingWorld) → in_world (with_handles rest global.new.handles) registry.new ≡ fold without_module (in_world (with_handles rest global.old.handles) registry.old) handles.now }
+    ensures written { global.new.written ≡ global.old.written }
+{
+    for handle in handles {
+        release_module(registry, global, *handle);
     }
 }
 

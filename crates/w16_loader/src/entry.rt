@@ -166,6 +166,24 @@ impl<A: Allocator> Loaded<A> {
         let ordinal = self.module.ordinal_of(name);
         address_of(self.slots.as_slice(), self.module.entry(ordinal))
     }
+
+    /// An address in one of its segments, by the segment's number from 1.
+    pub fn address_in_segment(&self, number: u8, offset: u16) -> Far
+        ensures { far_of result ≡ loading.in_segment self.now.slots number offset }
+    {
+        let entry = w16_ne::Entry::InSegment {
+            segment: number,
+            offset,
+        };
+        address_of(self.slots.as_slice(), Some(entry))
+    }
+
+    /// It gets these values of its relocation records, for each segment those of its records, whatever it had.
+    pub fn bind(&mut self, values: Vec<Vec<Far, A>, A>)
+        ensures { self.new ≡ record self.old { values = map (λ v. map far_of v.items) values.items } }
+    {
+        self.values = values;
+    }
 }
 
 /// Where what has no address leads.

@@ -8,7 +8,7 @@ ghost use Rattle.w16_loading.specs.Closure.{are_sound};
 ghost use Rattle.w16_loading.specs.Closure.Reading.{Refused};
 ghost use Rattle.w16_format.specs.Ne as ne;
 ghost use Rattle.w16_loader.specs.Closing as loads;
-ghost use Rattle.w16_loader.specs.Closing.{Files, around_in, referent_of, found_in, reading_in, reading_of, said, IsRead, IsFault, IsUnsound};
+ghost use Rattle.w16_loader.specs.Closing.{Files, around_in, referent_of, found_in, reading_in, reading_of, said, IsRead, IsFault, IsSmall, IsUnsound, IsNewOrMeant, IsThere};
 
 use crate::registry::Registry;
 use std::alloc::{Allocator, Global};
@@ -107,6 +107,7 @@ fn fault_of_check(fault: RelocFault) -> FileFault
 pub fn read_file<S: Store>(alloc: Global, store: &mut S, name: &[u8]) -> Result<Module, FileFault>
     ensures files { S.files store.new ≡ S.files store.old }
     ensures failures { S.failures store.old ≤ S.failures store.new }
+    ensures small { IfErr result IsSmall }
     ensures read { S.is_honest → IfOk result (IsRead (file_of (S.files store.old) name.now)) }
     ensures err { S.is_honest → IfErr result (IsFault (λ number. said (file_of (S.files store.old) name.now) ≡ Err number) (S.failures store.old) (S.failures store.new)) }
 {
@@ -128,6 +129,7 @@ pub fn check_segments<S: Store>(
 ) -> Result<(), FileFault>
     ensures files { S.files store.new ≡ S.files store.old }
     ensures failures { S.failures store.old ≤ S.failures store.new }
+    ensures small { IfErr result IsSmall }
     ensures sound { (bytes : List ℕ) → S.is_honest → file_of (S.files store.old) name.now ≡ Some bytes → tables_at (Some bytes) ≡ Ok module_file.now
         → OnOk result (are_sound (ne.module_file bytes module_file.now) ≡ true) }
     ensures err { (bytes : List ℕ) → S.is_honest → file_of (S.files store.old) name.now ≡ Some bytes → tables_at (Some bytes) ≡ Ok module_file.now
@@ -162,6 +164,8 @@ fn settle<S: Store, A: Allocator>(
 ) -> Result<Reading, FileFault>
     ensures files { S.files store.new ≡ S.files store.old }
     ensures failures { S.failures store.old ≤ S.failures store.new }
+    ensures new { IfOk result (IsNewOrMeant registry.now found.now) }
+    ensures small { IfErr result IsSmall }
     ensures read { S.is_honest → IsRead (file_of (S.files store.old) name.now) read
         → IfOk result (λ made. reading_in registry.now (S.files store.old) found.now name.now ≡ reading_of (S.files store.old) name.now made) }
     ensures err { S.is_honest → IsRead (file_of (S.files store.old) name.now) read
@@ -182,6 +186,8 @@ fn settle<S: Store, A: Allocator>(
 ///
 /// That is 2 where there is no such file; 12, 13 or 14 where it is for another target system than Windows; 11 where it isn't accepted otherwise, or
 /// its relocations aren't sound; 0 where no handle is left.
+///
+/// Whatever the store answers, a new module has a name that nothing has, and what is there already has a handle, or a place among the modules found.
 pub fn examine_file<S: Store, A: Allocator>(
     alloc: Global,
     registry: &Registry<A>,
@@ -192,6 +198,9 @@ pub fn examine_file<S: Store, A: Allocator>(
 ) -> Result<Reading, FileFault>
     ensures files { S.files store.new ≡ S.files store.old }
     ensures failures { S.failures store.old ≤ S.failures store.new }
+    ensures new { IfOk result (IsNewOrMeant registry.now found.now) }
+    ensures there { IfOk result (IsThere registry.now found.now) }
+    ensures small { IfErr result IsSmall }
     ensures read { S.is_honest → IfOk result (λ made. reading_in registry.now (S.files store.old) found.now name.now ≡ reading_of (S.files store.old) name.now made) }
     ensures err { S.is_honest
         → IfErr result (IsFault (λ number. reading_in registry.now (S.files store.old) found.now name.now ≡ Refused number) (S.failures store.old) (S.failures store.new)) }

@@ -1,23 +1,32 @@
-//! Loading of module files. Its first parts stand: which module handle names what, uses that end, what a load makes of a name and of a file, which
-//! modules it finds, and fetches of segments.
+//! Loading of module files: which module handle names what, loads, uses that end, and fetches of segments.
 #![tactic(auto)]
 
+mod binding;
 mod closure;
 mod ending;
 mod entry;
+mod fault;
+mod filling;
 mod found;
 mod idle;
+mod loading;
+mod naming;
 mod registry;
+mod segment;
 mod segment_fetch;
 mod segment_work;
 mod table;
 
+pub use binding::BindFault;
 pub use closure::{Bound, Closure, Followed, close};
 pub use ending::free;
 pub use entry::{Entry, Loaded, NOWHERE};
+pub use fault::Failure;
 pub use found::{
     FileFault, Found, Reading, Referent, check_segments, examine_file, meant, read_file,
 };
+pub use loading::{LoadAnswer, load};
+pub use naming::NameFault;
 pub use registry::Registry;
 pub use segment_fetch::{SegmentSource, fetch};
 pub use table::SegmentOf;

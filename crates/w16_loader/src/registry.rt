@@ -1,5 +1,5 @@
 //! Which module handle names what.
-ghost use Rattle.std.specs.Prelude.{◌≡◌, ℕ, ◌+◌, ◌<◌, ◌≤◌, if◌then◌else◌, option_map, IfOk, OnOk, OnErr, OnSome, IfSome, IfNone, None, true, false};
+ghost use Rattle.std.specs.Prelude.{◌≡◌, ℕ, ◌+◌, ◌<◌, ◌≤◌, if◌then◌else◌, map, option_map, IfOk, OnOk, OnErr, OnSome, IfSome, IfNone, None, true, false, length, take};
 ghost use Rattle.std.specs.FinMap as finmap;
 ghost use Rattle.w16_loading.specs.Modules as loading;
 ghost use Rattle.w16_loading.specs.Modules.{LoadingWorld, IsFreeModule, free_modules, handle_named, module_at};
@@ -11,7 +11,9 @@ ghost use Rattle.w16_loading.specs.Load.Answer.{Says};
 ghost use Rattle.w16_loading.specs.Owner.{segment_among};
 ghost use Rattle.w16_format.specs.Data.{far_of};
 ghost use Rattle.w16_loader.specs.Entries.{named_of};
+ghost use Rattle.w16_loader.specs.Naming.{free_handles};
 ghost use Rattle.w16_loader.specs.Registry.{in_world, owner_in, IsLowest};
+ghost use Rattle.w16_loader.specs.Binding.{with_values};
 
 use crate::entry::{Entry, Loaded, NOWHERE};
 use crate::table::SegmentOf;
@@ -212,6 +214,21 @@ impl<A: Allocator> Registry<A> {
         }
     }
 
+    /// Gives a module the values of its relocation records, for each segment those of its records; a handle that names none changes nothing.
+    pub fn bind(&mut self, handle: u16, values: Vec<Vec<Far, A>, A>)
+        ensures { self.new ≡ with_values self.old handle (map (λ v. map far_of v.items) values.items) }
+    {
+        if let Some(mut loaded) = self.remove(handle) {
+            loaded.bind(values);
+            self.put(handle, Entry::Loaded(loaded));
+        }
+    }
+
+    /// What its memory is taken from.
+    pub(crate) fn allocator(&self) -> &A {
+        self.entries.allocator()
+    }
+
     /// The handle if it is a built-in's, else 0.
     fn built_in(&self, handle: u16) -> u16
         ensures { result ≡ built_in (finmap.get self.now handle) handle }
@@ -221,9 +238,31 @@ impl<A: Allocator> Registry<A> {
             _ => 0,
         }
     }
+
+    /// The lowest free handles, so many, the lowest first; all of them where there are fewer. An error is that memory ran out.
+    pub fn free_handles(&self, alloc: A, count: usize) -> Result<Vec<u16, A>, AllocError>
+        ensures lowest { IfOk result (λ made. made.items ≡ take count (free_handles self.now)) }
+        ensures many { IfOk result (λ made. count ≤ free_modules self.now → length made.items ≡ count) }
+    {
+        let mut handles = Vec::with_capacity(alloc, count.min(self.entries.len()))?;
+        for handle in FIRST_MODULE..FIRST_MODULE + MOST_MODULES {
+            if handles.len() < count && self.get(handle).is_none() {
+                handles.push(handle)?;
+            }
+        }
+        Ok(handles)
+    }
 }
 
 impl<A: Allocator + Clone> Registry<A> {
+    /// A copy of a name, in memory of the allocator from which the registry has its own. An error is that memory ran out.
+    pub(crate) fn copy_of(&self, name: &[u8]) -> Result<Vec<u8, A>, AllocError>
+        ensures { IfOk result (λ copy. copy.items ≡ name.now) }
+    {
+        let alloc = self.entries.allocator().clone()?;
+        Vec::from_slice(alloc, name)
+    }
+
     /// `Builtin`: the handle of the built-in of a name, the same for the same name in any case of letters; a new one has the lowest free handle.
     /// 0 where a loaded module has the name, or where no handle is free. An error is that memory ran out, and changes nothing.
     pub fn builtin(&mut self, name: &[u8]) -> Result<u16, AllocError>
@@ -237,8 +276,7 @@ impl<A: Allocator + Clone> Registry<A> {
         let Some(handle) = self.free_from(FIRST_MODULE) else {
             return Ok(0);
         };
-        let alloc = self.entries.allocator().clone()?;
-        let name = Vec::from_slice(alloc, name)?;
+        let name = self.copy_of(name)?;
         self.put(handle, Entry::BuiltIn(name));
         Ok(handle)
     }

@@ -1,6 +1,6 @@
 //! Fetches of segments: an object that has no bytes gets those of its module's file again.
-ghost use Rattle.std.specs.Prelude.{◌≡◌, ◌≤◌, ◌<◌, ◌-◌, ◌/◌, ℕ, List, length, IsTrue, IsFalse, IfErr, OnOk, OnErr, MatchResult, Some, Ok, true, false, slice_get};
-ghost use Rattle.w16_model.specs.Owned.{Revives};
+ghost use Rattle.std.specs.Prelude.{◌≡◌, ◌≤◌, ◌<◌, ◌-◌, ◌/◌, ℕ, List, length, IsTrue, IsFalse, IfErr, OnOk, OnErr, IsSomeAnd, MatchResult, Some, Ok, Err, true, false, slice_get};
+ghost use Rattle.w16_model.specs.Owned.{Revives, owned_at};
 ghost use Rattle.w16_store.specs.Files.{file_of};
 ghost use Rattle.w16_ne.specs.declared.segment_table.Segment.{Segment};
 ghost use Rattle.w16_ne.specs.Modules.{tables_at};
@@ -9,11 +9,11 @@ ghost use Rattle.w16_global.specs.Owned.{LacksBytes};
 ghost use Rattle.w16_loading.specs.declared.FetchFault.TheVariants.{Store as store_fails};
 ghost use Rattle.w16_loading.specs.AnyStore.{AnyFetches};
 ghost use Rattle.w16_loading.specs.Fetch.{FetchesCounted};
-ghost use Rattle.w16_loading.specs.Fill.{is_of_read};
+ghost use Rattle.w16_loading.specs.Fill.{FillsOne, is_of_device, is_of_read};
 ghost use Rattle.w16_loading.specs.Modules.{LoadingWorld};
 ghost use Rattle.w16_format.specs.Ne.{ne_format};
 ghost use Rattle.w16_format.specs.Tables.{tables_in};
-ghost use Rattle.w16_loader.specs.Fetching.{fault_of, fault_in, in_parts, IsWritten, IsSourceOf, IsFetchable, GivesBytes};
+ghost use Rattle.w16_loader.specs.Fetching.{fault_of, fault_in, in_parts, IsWritten, IsSourceOf, IsFetchable, IsSoundIn, GivesBytes, image_in};
 
 use crate::entry::Loaded;
 use crate::segment_work::SegmentWork;
@@ -112,6 +112,13 @@ pub fn fetch<S: Store, A: Allocator + Copy>(
     ensures named { OnOk result (LacksBytes global.old.handles handle) }
     ensures any { (rest : LoadingWorld) → LacksBytes global.old.handles handle → AnyFetches (in_parts rest global.old.handles rest.files rest.failures) (handle / 8) (fault_in result)
         (in_parts rest global.new.handles rest.files rest.failures) }
+    ensures rest { global.new.handles ≡ record global.old.handles { heap = global.new.handles.heap } }
+    ensures filled { (file : List ℕ) → S.is_honest → file_of (S.files store.old) source.now.file.now ≡ Some file
+        → (sound : IsSoundIn file source.now.module.now source.now.number source.now.values.now) → LacksBytes global.old.handles handle
+        → IsSomeAnd (owned_at global.old.handles (handle / 8)) (λ owned. owned.size ≡ sound.segment.size)
+        → FillsOne is_of_device global.old.handles.heap (handle / 8) (image_in file source.now.module.now sound.segment source.now.values.now) (fault_in result) global.new.handles.heap }
+    ensures failed { (file : List ℕ) → S.is_honest → file_of (S.files store.old) source.now.file.now ≡ Some file
+        → IsSoundIn file source.now.module.now source.now.number source.now.values.now → result ≡ Err store_fails → S.failures store.old < S.failures store.new }
     ensures fetched { (rest : LoadingWorld) → S.is_honest → LacksBytes global.old.handles handle
         → IsFetchable (in_parts rest global.old.handles (S.files store.old) (S.failures store.old)) (handle / 8)
         source.now.number source.now.file.now source.now.module.now source.now.values.now

@@ -1,4 +1,5 @@
 -- Closures of small files, worked out.
+use base.Stored.Gv.{gnil}
 use Rattle.std.proofs.Common.{◌≡◌, ℕ, zero, suc, Bool, true, false, List, [], ◌∷◌, codes, Some, None, Result, Ok, Err, if◌then◌else◌, slice_index, replicate, ◌==◌, refl}
 use Rattle.w16_loading.specs.File.{Format, ModuleFile}
 use Rattle.w16_store.specs.Names.{is_named}
@@ -15,7 +16,7 @@ use Rattle.w16_loading.specs.Closure.Reading.{Refused, Meant}
 
 -- a file without segments
 abbrev plain : List ℕ → Bool → List (List ℕ) → ModuleFile
-plain name library references = record { tables = record { name = name; is_library = library; segments = []; references = references; entries = []; names = []; resources = [] }; segments = []; contents = [] }
+plain name library references = record { tables = record { name = name; is_library = library; segments = []; references = references; entries = []; names = []; resources = []; layout = gnil }; segments = []; contents = [] }
 
 -- A imports B and C; B imports A; the file of C has the module X, which imports b and D; there is no D
 abbrev by_number : ℕ → Result ModuleFile ℕ
@@ -128,7 +129,7 @@ refused_by_format n = refl
 -- 11, where a segment's relocations aren't sound, also with no free handle
 abbrev unsound : ModuleFile
 unsound = record {
-  tables = record { name = codes "U"; is_library = true; segments = record { kind = Moveable; is_code = false; is_preload = false; size = 32 } ∷ []; references = []; entries = []; names = []; resources = [] };
+  tables = record { name = codes "U"; is_library = true; segments = record { kind = Moveable; is_code = false; is_preload = false; size = 32 } ∷ []; references = []; entries = []; names = []; resources = []; layout = gnil };
   segments = record { targets = None; image = λ values. replicate 32 0 } ∷ [];
   contents = [];
 }

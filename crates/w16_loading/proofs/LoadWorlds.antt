@@ -45,7 +45,7 @@ all_owned old new xs is f q kind size long = (any_do (λ a b. IsOwned a q kind s
 -- Names.
 
 -- each segment is an object of its own, without bytes, and a module's
-named_new : (w : LoadingWorld) (xs : List (ℕ × Segment)) → AreApart xs → (x : ℕ × Segment) → Member x xs → (object_at (fold with_segment w xs).handles.heap x.0 ≡ Some (record { kind = x.1.kind; locks = 0; bytes = None }))
+pub named_new : (w : LoadingWorld) (xs : List (ℕ × Segment)) → AreApart xs → (x : ℕ × Segment) → Member x xs → (object_at (fold with_segment w xs).handles.heap x.0 ≡ Some (record { kind = x.1.kind; locks = 0; bytes = None }))
     × (owned_at (fold with_segment w xs).handles x.0 ≡ Some (record { size = x.1.size; code = x.1.is_code }))
 named_new w [] apart x m = absurd m
 named_new w (y ∷ xs) apart x (inl e) = (

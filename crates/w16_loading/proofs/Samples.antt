@@ -1,5 +1,6 @@
 -- The sample modules: TLIB, a library of two segments of code, and TAPP, an application that imports three entries of it, of which one doesn't
 -- exist. Their bindings are worked out.
+use base.Stored.Gv.{gnil}
 use Rattle.std.proofs.Common.{◌≡◌, ℕ, ◌+◌, ◌/◌, ◌%◌, ◌==◌, Bool, true, false, if◌then◌else◌, List, [], ◌∷◌, ◌++◌, replicate, codes, slice_index_or, Some, None, Ok, refl}
 use Rattle.w16_model.specs.declared.Kind.TheVariants.{Discardable}
 use Rattle.w16_store.specs.Names.{is_named}
@@ -37,6 +38,7 @@ library name = record {
     entries = Some (InSegment 1 0) ∷ Some (InSegment 2 4) ∷ [];
     names = (codes "GETA", 1) ∷ (codes "GETB", 2) ∷ [];
     resources = [];
+    layout = gnil;
   };
   segments =
       record {
@@ -51,7 +53,7 @@ library name = record {
 -- TAPP: entry 1, the entry GETB, and entry 9 of TLIB
 abbrev application : ModuleFile
 application = record {
-  tables = record { name = codes "TAPP"; is_library = false; segments = code true ∷ []; references = codes "TLIB" ∷ []; entries = []; names = []; resources = [] };
+  tables = record { name = codes "TAPP"; is_library = false; segments = code true ∷ []; references = codes "TLIB" ∷ []; entries = []; names = []; resources = []; layout = gnil };
   segments =
       record {
         targets = Some (Import 1 1 ∷ ImportName 1 (codes "GETB") ∷ Import 1 9 ∷ []);

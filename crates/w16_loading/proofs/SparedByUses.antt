@@ -21,7 +21,7 @@ use Rattle.w16_model.proofs.Heaps.{get-update_other}
 use Rattle.w16_loading.specs.declared.FetchFault.{FetchFault}
 use Rattle.w16_loading.specs.declared.FetchFault.TheVariants as faults
 use Rattle.w16_loading.specs.AnyStore.{AnyFetches}
-use Rattle.w16_loading.specs.Bystanders.{pointer_in}
+use Rattle.w16_model.specs.Effects.{pointer_in}
 use Rattle.w16_loading.specs.Families.{FarStep}
 use Rattle.w16_loading.specs.Fetch.{Accesses, far_read, far_write, gives, needs_fetch}
 use Rattle.w16_loading.specs.Fill.{is_of_read}

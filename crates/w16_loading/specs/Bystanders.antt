@@ -2,8 +2,7 @@
 use Rattle.std.specs.Prelude.{◌≡◌, ℕ, ◌⊎◌, Bool, true, false, is_some, IsSomeAnd, None, Some}
 use Rattle.w16_model.specs.declared.TheConstants.{GMEM_MOVEABLE}
 use Rattle.w16_model.specs.CallLaws.{IsAbout, IsKeptOrDiscarded, may_move_own}
-use Rattle.w16_model.specs.Far.{FarCommand}
-use Rattle.w16_model.specs.Far.FarCommand.{Read, Write, Fill}
+use Rattle.w16_model.specs.Effects.{pointer_in}
 use Rattle.w16_model.specs.Handles.{Handles, selector_in, slot_of_handle, slot_of_selector}
 use Rattle.w16_model.specs.Heap.{object_at, is_pinned_object}
 use Rattle.w16_model.specs.Law.{StandsStill}
@@ -25,11 +24,6 @@ use Rattle.w16_loading.specs.Resizes.ResizeCommand.{GlobalReAlloc, GlobalDiscard
 abbrev pub call_of : ResizeCommand → Call
 call_of (GlobalReAlloc handle size flags) = ReAllocs handle size flags
 call_of (GlobalDiscard handle) = ReAllocs handle 0 GMEM_MOVEABLE
-
-abbrev pub pointer_in : FarCommand → ℕ
-pointer_in (Read pointer count) = pointer
-pointer_in (Write pointer bytes) = pointer
-pointer_in (Fill pointer count byte) = pointer
 
 -- A step is about the object whose handle or selector it names.
 abbrev pub IsStepAbout : Handles → LoadingCommand → ℕ → Type 0

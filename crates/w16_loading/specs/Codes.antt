@@ -1,6 +1,7 @@
 -- By what a proof tells worlds with modules apart, so that a world can be the value of a model.
 use Rattle.std.specs.Prelude.{◌≡◌, ℕ, ◌⊎◌, Bool, List, Option, refl}
 use mathlib.Core.Logic.{inl, inr}
+use base.Stored.{Gv}
 use Rattle.std.specs.Coded.{Coded, code_by, coded×, coded⊎, coded_ℕ, coded_bool, coded_list, coded_option}
 use Rattle.std.specs.Ordering.{nat_cmp}
 use Rattle.std.specs.FinMap as finmap
@@ -58,11 +59,15 @@ abbrev pub resource_code : Coded Resource
 resource_code = code_by (Label × (Label × (ℕ × Kind))) (coded× label_code (coded× label_code (coded× coded_ℕ kind_code)))
     (λ r. (r.kind_of, (r.label, (r.length_in, r.kind)))) (λ p. record { kind_of = p.0; label = p.1.0; length_in = p.1.1.0; kind = p.1.1.1 }) (λ _. refl)
 
+-- a layout is told apart as it is
+abbrev pub layout_code : Coded Gv
+layout_code = record { code = λ layout. layout; inj = λ _ _ same. same }
+
 abbrev pub tables_code : Coded Tables
-tables_code = code_by (List ℕ × (Bool × (List Segment × (List (List ℕ) × (List (Option Entry) × (List (List ℕ × ℕ) × List Resource))))))
-    (coded× text_code (coded× coded_bool (coded× (coded_list segment_code) (coded× (coded_list text_code) (coded× (coded_list (coded_option entry_code)) (coded× (coded_list (coded× text_code coded_ℕ)) (coded_list resource_code)))))))
-    (λ t. (t.name, (t.is_library, (t.segments, (t.references, (t.entries, (t.names, t.resources)))))))
-    (λ p. record { name = p.0; is_library = p.1.0; segments = p.1.1.0; references = p.1.1.1.0; entries = p.1.1.1.1.0; names = p.1.1.1.1.1.0; resources = p.1.1.1.1.1.1 }) (λ _. refl)
+tables_code = code_by (List ℕ × (Bool × (List Segment × (List (List ℕ) × (List (Option Entry) × (List (List ℕ × ℕ) × (List Resource × Gv)))))))
+    (coded× text_code (coded× coded_bool (coded× (coded_list segment_code) (coded× (coded_list text_code) (coded× (coded_list (coded_option entry_code)) (coded× (coded_list (coded× text_code coded_ℕ)) (coded× (coded_list resource_code) layout_code)))))))
+    (λ t. (t.name, (t.is_library, (t.segments, (t.references, (t.entries, (t.names, (t.resources, t.layout))))))))
+    (λ p. record { name = p.0; is_library = p.1.0; segments = p.1.1.0; references = p.1.1.1.0; entries = p.1.1.1.1.0; names = p.1.1.1.1.1.0; resources = p.1.1.1.1.1.1.0; layout = p.1.1.1.1.1.1.1 }) (λ _. refl)
 
 abbrev pub module_code : Coded Module
 module_code = code_by (List ℕ × (Tables × (ℕ × (List ℕ × (List (List Far) × List ℕ)))))

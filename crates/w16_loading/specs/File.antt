@@ -6,6 +6,7 @@ use Rattle.w16_loading.specs.declared.TheConstants.{LARGEST_OWNED}
 use Rattle.std.specs.List.{AllZip}
 use Rattle.w16_model.specs.Heap.{IsMultiple}
 use Rattle.w16_model.specs.Calls.{rounded_size}
+use base.Stored.{Gv}
 use Rattle.w16_store.specs.Names.{is_named}
 
 -- a selector and an offset
@@ -39,6 +40,8 @@ pub record Resource : Type 0 where
   pub length_in : ℕ
   pub kind : Kind
 
+-- The tables of a file. What its format says beside them, such as where the file keeps each part, is one value, a tree of numbers: a module that is
+-- loaded is asked for its parts by it, so a file that is read again has to say the same.
 pub record Tables : Type 0 where
   pub name : List ℕ
   pub is_library : Bool
@@ -47,6 +50,7 @@ pub record Tables : Type 0 where
   pub entries : List (Option Entry)
   pub names : List (List ℕ × ℕ)
   pub resources : List Resource
+  pub layout : Gv
 
 abbrev pub numbered : {X : Type 0} → List X → ℕ → Option X
 numbered xs number = if number == 0 then None else slice_get xs (number - 1)

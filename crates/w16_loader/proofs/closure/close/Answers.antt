@@ -5,6 +5,7 @@ use Rattle.w16_format.specs.Ne.{ne_format}
 use Rattle.w16_loader.specs.Closing.{around_in, IsFault}
 use Rattle.w16_loader.specs.Following.{closed_in}
 use Rattle.w16_loader.proofs.Followings.{begins}
+use Rattle.w16_loader.proofs.AnyFollowings.{closes_any}
 use Rattle.w16_loader.proofs.closure.close.Goals as goal
 
 pub returns-in-Err-clause-err : goal.returns-in-Err-clause-err
@@ -16,3 +17,8 @@ pub returns-in-Ok-follow_all-clause-ok : goal.returns-in-Ok-follow_all-clause-ok
 returns-in-Ok-follow_all-clause-ok g c = λ honest.
     subst (λ closure. Closes ne_format (around_in c.args.registry.now (g.S.Store.files c.args.store.now)) closure (Ok (closed_in (g.S.Store.files c.args.store.now) c.follow_all.new.self)))
     (begins (g.S.Store.files c.args.store.now) c.in-Ok.closure c.args.first c.in-Ok.ensures.found c.in-Ok.ensures.bound) (c.in-Ok-follow_all.ensures.ok honest)
+
+pub returns-in-Ok-follow_all-clause-any : goal.returns-in-Ok-follow_all-clause-any
+returns-in-Ok-follow_all-clause-any g c = λ unnamed left.
+    closes_any c.args.registry.now c.in-Ok.closure c.follow_all.new.self c.args.first c.in-Ok.ensures.found c.in-Ok.ensures.bound c.in-Ok-follow_all.ensures.few.since c.in-Ok-follow_all.ensures.few.kept unnamed left
+    c.in-Ok-follow_all.ensures.any

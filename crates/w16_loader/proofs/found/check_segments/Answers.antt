@@ -1,5 +1,5 @@
 -- A segment whose check passes leaves the others to decide; one whose check doesn't, decides.
-use Rattle.std.proofs.Common.{◌≡◌, ◌+◌, ◌-◌, ◌<◌, ◌≤◌, length, Some, ap, ◌∙◌, arith}
+use Rattle.std.proofs.Common.{◌≡◌, ◌+◌, ◌-◌, ◌<◌, ◌≤◌, length, Some, refl, ap, ◌∙◌, arith}
 use Rattle.std.specs.Prelude.{slice_get}
 use Rattle.w16_loader.proofs.Files.{there, all_sound, sound_next, is_unsound}
 use Rattle.w16_loader.proofs.found.check_segments.Goals as goal
@@ -31,3 +31,6 @@ pub returns-clause-sound : goal.returns-clause-sound
 returns-clause-sound g c = λ bytes honest has tables.
     let past : length c.args.module_file.now.segments ≤ c.loop-place.place = omega (arith, c.segment_count-place-end.ensures.count) in
     all_sound bytes c.args.module_file.now c.loop-place.place past (c.loop-place.invariant.sound bytes honest has tables)
+
+pub loop-place-init : goal.loop-place-init
+loop-place-init g c = record { files = refl; failures = omega arith; sound = λ bytes honest has tables. refl }

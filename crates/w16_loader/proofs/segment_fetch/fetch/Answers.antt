@@ -1,14 +1,14 @@
 -- The segment is read, and then its object given its bytes.
-use Rattle.std.proofs.Common.{◌≡◌, ◌/◌, List, ℕ, Some, None, ap, ◌∙◌, sym, subst, refl, rules}
+use Rattle.std.proofs.Common.{◌/◌, Some, Result, Ok, Err, ap, ◌∙◌, sym, subst, refl, rules}
 use Rattle.std.proofs.lemmas.Result.{err_from_is_err_and}
+use Rattle.w16_model.specs.Handles.{Handles}
 use Rattle.w16_global.specs.Joined.{Global}
 use Rattle.w16_loading.specs.AnyStore.{AnyFetches}
-use Rattle.w16_loading.specs.Fetch.{FetchesCounted}
+use Rattle.w16_loading.specs.Fill.{FillsOne, is_of_device}
+use Rattle.w16_loading.specs.declared.FetchFault.{FetchFault}
 use Rattle.w16_loading.specs.declared.FetchFault.TheVariants.{NoRoom}
-use Rattle.w16_store.specs.Files.{file_of}
-use Rattle.w16_format.specs.Ne.{ne_format}
-use Rattle.w16_loader.specs.Fetching.{in_parts}
-use Rattle.w16_loader.proofs.Fetches.{unread_any, refused_any, found, passed, device_failed, no_room, has_bytes}
+use Rattle.w16_loader.specs.Fetching.{in_parts, image_in}
+use Rattle.w16_loader.proofs.Fetches.{unread_any, refused_any, device_failed, no_room, has_bytes, fetched}
 use Rattle.w16_loader.proofs.segment_fetch.fetch.Goals as goal
 
 pub returns-in_err-read-clause-any : goal.returns-in_err-read-clause-any
@@ -24,38 +24,70 @@ returns-else-give-clause-any g c = λ rest lacks.
     subst (λ (x : Global). AnyFetches old (c.args.handle / 8) (Some NoRoom) (in_parts rest x.handles rest.files rest.failures)) (sym same)
     (refused_any old (c.args.handle / 8) lacks.owned lacks.without_bytes refused)
 
+pub returns-in_err-read-clause-rest : goal.returns-in_err-read-clause-rest
+returns-in_err-read-clause-rest g c = refl
+
+pub returns-then-give-clause-rest : goal.returns-then-give-clause-rest
+returns-then-give-clause-rest g c = (c.if-give.ensures.given refl).rest
+
+pub returns-else-give-clause-rest : goal.returns-else-give-clause-rest
+returns-else-give-clause-rest g c =
+    let same = c.if-give.ensures.refused refl in
+    ap (λ (x : Global). x.handles) same ∙ ap (λ (h : Handles). record c.args.global.now.handles { heap = h.heap }) (sym (ap (λ (x : Global). x.handles) same))
+
+-- Over a file that says what it said at load.
+
+pub returns-in_err-read-clause-filled : goal.returns-in_err-read-clause-filled
+returns-in_err-read-clause-filled g c = λ file honest has sound lacks sized.
+    let p = err_from_is_err_and c.from_residual.result c.from_residual.ensures.1 in
+    let said = c.in_err-read.ensures.exact file sound.segment sound.held honest has sound.tables sound.there sound.passed sound.many in
+    rw (p.1, p.2) (device_failed file c.args.source.now.module.now c.args.source.now.number c.args.source.now.values.now sound c.args.global.now.handles (c.args.handle / 8) sized c.in_err-read.field-0.0 said.0)
+
+pub returns-then-give-clause-filled : goal.returns-then-give-clause-filled
+returns-then-give-clause-filled g c = λ file honest has sound lacks sized.
+    let read = c.in_ok-read.ensures.exact file sound.segment sound.held honest has sound.tables sound.there sound.passed sound.many in
+    has_bytes file c.args.source.now.module.now c.args.source.now.number c.args.source.now.values.now sound c.args.global.now.handles (c.args.handle / 8) sized
+    c.give.new.global.handles c.bytes.result.now c.records.result.now (c.bytes.ensures ∙ (λ i. (read i).bytes)) (c.records.ensures ∙ (λ i. (read i).records)) (c.if-give.ensures.given refl)
+
+pub returns-else-give-clause-filled : goal.returns-else-give-clause-filled
+returns-else-give-clause-filled g c = λ file honest has sound lacks sized.
+    let same = c.if-give.ensures.refused refl in
+    subst (λ (x : Global). FillsOne is_of_device c.args.global.now.handles.heap (c.args.handle / 8) (image_in file c.args.source.now.module.now sound.segment c.args.source.now.values.now) (Some NoRoom) x.handles.heap) (sym same)
+    (no_room file c.args.source.now.module.now c.args.source.now.number c.args.source.now.values.now sound c.args.global.now.handles (c.args.handle / 8) sized lacks.without_bytes (c.if-give.ensures.lacks refl lacks))
+
+pub returns-in_err-read-clause-failed : goal.returns-in_err-read-clause-failed
+returns-in_err-read-clause-failed g c = λ file honest has sound e. (c.in_err-read.ensures.exact file sound.segment sound.held honest has sound.tables sound.there sound.passed sound.many).1
+
+pub returns-then-give-clause-failed : goal.returns-then-give-clause-failed
+returns-then-give-clause-failed g c = λ file honest has sound e. cc
+
+pub returns-else-give-clause-failed : goal.returns-else-give-clause-failed
+returns-else-give-clause-failed g c = λ file honest has sound e. cc
+
+-- In a world of its files.
+
 pub returns-in_err-read-clause-fetched : goal.returns-in_err-read-clause-fetched
 returns-in_err-read-clause-fetched g c = λ rest honest lacks is.
-    let p = err_from_is_err_and c.from_residual.result c.from_residual.ensures.1 in
-    let old = in_parts rest c.args.global.now.handles (g.S.Store.files c.args.store.now) (g.S.Store.failures c.args.store.now) in
-    let s = found old (c.args.handle / 8) c.args.source.now.number c.args.source.now.file.now c.args.source.now.module.now c.args.source.now.values.now is c.requires.last in
-    let held = passed old (c.args.handle / 8) c.args.source.now.number c.args.source.now.file.now c.args.source.now.module.now c.args.source.now.values.now is c.requires.last in
-    let has : file_of (g.S.Store.files c.args.store.now) c.args.source.now.file.now ≡ Some is.file = ap (file_of (g.S.Store.files c.args.store.now)) (sym is.source.named) ∙ is.stored.stored in
-    let said = c.in_err-read.ensures.exact is.file s.0 held.0 honest has is.stored.tables s.1 held.1 held.2 in
-    rw (p.1, p.2) (subst (λ (files : List (List ℕ × List ℕ)). FetchesCounted ne_format old (c.args.handle / 8) (Some c.in_err-read.field-0.0) (in_parts rest c.args.global.now.handles files (g.S.Store.failures c.read.new.store))) (sym c.read.ensures.files)
-    (device_failed old (c.args.handle / 8) c.args.source.now.number c.args.source.now.file.now c.args.source.now.module.now c.args.source.now.values.now is c.requires.last (g.S.Store.failures c.read.new.store) c.read.ensures.failures
-    c.in_err-read.field-0.0 said.0 said.1))
+    fetched (in_parts rest c.args.global.now.handles (g.S.Store.files c.args.store.now) (g.S.Store.failures c.args.store.now)) (c.args.handle / 8)
+    c.args.source.now.number c.args.source.now.file.now c.args.source.now.module.now c.args.source.now.values.now is c.requires.last
+    c.from_residual.result (g.S.Store.files c.read.new.store) c.read.ensures.files (g.S.Store.failures c.read.new.store) c.read.ensures.failures c.args.global.now.handles
+    (λ file has sound sized. returns-in_err-read-clause-filled g c file honest has sound lacks sized) (λ file has sound. returns-in_err-read-clause-failed g c file honest has sound) (returns-in_err-read-clause-rest g c)
 
 pub returns-then-give-clause-fetched : goal.returns-then-give-clause-fetched
 returns-then-give-clause-fetched g c = λ rest honest lacks is.
-    let old = in_parts rest c.args.global.now.handles (g.S.Store.files c.args.store.now) (g.S.Store.failures c.args.store.now) in
-    let s = found old (c.args.handle / 8) c.args.source.now.number c.args.source.now.file.now c.args.source.now.module.now c.args.source.now.values.now is c.requires.last in
-    let held = passed old (c.args.handle / 8) c.args.source.now.number c.args.source.now.file.now c.args.source.now.module.now c.args.source.now.values.now is c.requires.last in
-    let has : file_of (g.S.Store.files c.args.store.now) c.args.source.now.file.now ≡ Some is.file = ap (file_of (g.S.Store.files c.args.store.now)) (sym is.source.named) ∙ is.stored.stored in
-    let read : c.read.new.scratch ≡ held.0 = c.in_ok-read.ensures.exact is.file s.0 held.0 honest has is.stored.tables s.1 held.1 held.2 in
-    subst (λ (files : List (List ℕ × List ℕ)). FetchesCounted ne_format old (c.args.handle / 8) None (in_parts rest c.give.new.global.handles files (g.S.Store.failures c.read.new.store))) (sym c.read.ensures.files)
-    (has_bytes old (c.args.handle / 8) c.args.source.now.number c.args.source.now.file.now c.args.source.now.module.now c.args.source.now.values.now is c.requires.last (g.S.Store.failures c.read.new.store) c.read.ensures.failures
-    c.give.new.global.handles c.bytes.result.now c.records.result.now (c.bytes.ensures ∙ (λ i. (read i).bytes)) (c.records.ensures ∙ (λ i. (read i).records)) (c.if-give.ensures.given refl))
+    let result : Result (Unit {0}) FetchFault = Ok tt in
+    fetched (in_parts rest c.args.global.now.handles (g.S.Store.files c.args.store.now) (g.S.Store.failures c.args.store.now)) (c.args.handle / 8)
+    c.args.source.now.number c.args.source.now.file.now c.args.source.now.module.now c.args.source.now.values.now is c.requires.last
+    result (g.S.Store.files c.read.new.store) c.read.ensures.files (g.S.Store.failures c.read.new.store) c.read.ensures.failures c.give.new.global.handles
+    (λ file has sound sized. returns-then-give-clause-filled g c file honest has sound lacks sized) (λ file has sound. returns-then-give-clause-failed g c file honest has sound) (returns-then-give-clause-rest g c)
 
 pub returns-else-give-clause-fetched : goal.returns-else-give-clause-fetched
 returns-else-give-clause-fetched g c = λ rest honest lacks is.
-    let same = c.if-give.ensures.refused refl in
-    let refused = c.if-give.ensures.lacks refl lacks in
-    let old = in_parts rest c.args.global.now.handles (g.S.Store.files c.args.store.now) (g.S.Store.failures c.args.store.now) in
-    subst (λ (x : Global). FetchesCounted ne_format old (c.args.handle / 8) (Some NoRoom) (in_parts rest x.handles (g.S.Store.files c.read.new.store) (g.S.Store.failures c.read.new.store))) (sym same)
-    (subst (λ (files : List (List ℕ × List ℕ)). FetchesCounted ne_format old (c.args.handle / 8) (Some NoRoom) (in_parts rest c.args.global.now.handles files (g.S.Store.failures c.read.new.store))) (sym c.read.ensures.files)
-    (no_room old (c.args.handle / 8) c.args.source.now.number c.args.source.now.file.now c.args.source.now.module.now c.args.source.now.values.now is c.requires.last (g.S.Store.failures c.read.new.store) c.read.ensures.failures
-    lacks.without_bytes refused))
+    let result : Result (Unit {0}) FetchFault = Err NoRoom in
+    fetched (in_parts rest c.args.global.now.handles (g.S.Store.files c.args.store.now) (g.S.Store.failures c.args.store.now)) (c.args.handle / 8)
+    c.args.source.now.number c.args.source.now.file.now c.args.source.now.module.now c.args.source.now.values.now is c.requires.last
+    result (g.S.Store.files c.read.new.store) c.read.ensures.files (g.S.Store.failures c.read.new.store) c.read.ensures.failures c.give.new.global.handles
+    (λ file has sound sized. returns-else-give-clause-filled g c file honest has sound lacks sized) (λ file has sound. returns-else-give-clause-failed g c file honest has sound) (returns-else-give-clause-rest g c)
 
 pub returns-in_err-read-clause-refused : goal.returns-in_err-read-clause-refused
 returns-in_err-read-clause-refused g c = search rules

@@ -2,12 +2,15 @@
 use Rattle.std.proofs.Common.{◌≡◌, ◌≤◌}
 use Rattle.w16_format.specs.Ne.{ne_format}
 use Rattle.w16_loader.specs.Closing.{around_in}
-use Rattle.w16_loader.specs.Following.{Leads, reached}
+use Rattle.w16_loader.specs.Following.{FindsFew, Leads, reached}
+use Rattle.w16_loader.specs.AnyClosing.{LeadsAny, reached_of}
 use Rattle.w16_loader.proofs.closure.Closure.follow_all.Given as goal
 
 abbrev pub invariant-loop-place : goal.invariant-loop-place
 invariant-loop-place g l = record {
   files : g.S.Store.files l.store ≡ g.S.Store.files l.fn.store;
   failures : g.S.Store.failures l.fn.store ≤ g.S.Store.failures l.store;
+  few : FindsFew l.registry l.fn.self.found.items l.self.found.items;
+  any : LeadsAny l.registry l.self.found.items (reached_of 0 0 l.fn.self) (reached_of l.place 0 l.self);
   leads : g.S.Store.is_honest → Leads ne_format (around_in l.registry (g.S.Store.files l.fn.store)) (reached (g.S.Store.files l.fn.store) 0 0 l.fn.self) (reached (g.S.Store.files l.fn.store) l.place 0 l.self);
 }

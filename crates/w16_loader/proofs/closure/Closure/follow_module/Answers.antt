@@ -1,9 +1,13 @@
 -- Each reference leads on, and the last to the next module.
-use Rattle.std.proofs.Common.{◌≡◌, ◌+◌, ◌-◌, ◌∙◌, ap, sym, length, subst, arith}
+use Rattle.std.proofs.Common.{◌≡◌, ◌+◌, ◌-◌, ◌∙◌, refl, ap, sym, length, subst, arith}
 use Rattle.w16_format.specs.Ne.{ne_format}
 use Rattle.w16_loader.specs.Closing.{around_in}
 use Rattle.w16_loader.specs.Following.{Leads, reached}
+use Rattle.w16_loader.proofs.Steps.{leads_nowhere}
 use Rattle.w16_loader.proofs.Followings.{module_done, leads_through, refused_through}
+use Rattle.w16_loader.specs.AnyClosing.{LeadsAny, reached_of}
+use Rattle.w16_loader.proofs.AnyFollowings.{any_through, any_module, any_nowhere}
+use Rattle.w16_loader.proofs.Few.{few_through, few_same}
 use Rattle.w16_loader.proofs.closure.Closure.follow_module.Goals as goal
 
 pub returns-in-Err-clause-err : goal.returns-in-Err-clause-err
@@ -19,6 +23,12 @@ loop-done-preserved g c = record {
   files = c.in-Ok.ensures.files ∙ c.loop-done.invariant.files;
   failures = omega (arith, c.in-Ok.ensures.failures, c.loop-done.invariant.failures);
   same = c.in-Ok.ensures.same ∙ c.loop-done.invariant.same;
+  few = few_through c.args.registry.now c.args.self.now.found.items c.loop-done.self.found.items c.follow_reference.new.self.found.items c.loop-done.invariant.few c.in-Ok.ensures.few;
+  any =
+      let back : c.loop-done.done + 1 - 1 ≡ c.loop-done.done = omega arith in
+      any_through c.args.registry.now c.loop-done.self.found.items c.follow_reference.new.self.found.items c.in-Ok.ensures.few.since (reached_of c.args.place 0 c.args.self.now) (reached_of c.args.place c.loop-done.done c.loop-done.self)
+      (reached_of c.args.place (c.loop-done.done + 1) c.follow_reference.new.self) c.in-Ok.ensures.few.kept c.loop-done.invariant.any
+      (subst (λ n. LeadsAny c.args.registry.now c.follow_reference.new.self.found.items (reached_of c.args.place n c.loop-done.self) (reached_of c.args.place (c.loop-done.done + 1) c.follow_reference.new.self)) back c.in-Ok.ensures.any);
   leads = λ honest.
       let back : c.loop-done.done + 1 - 1 ≡ c.loop-done.done = omega arith in
       leads_through ne_format c.args.registry.now (g.S.Store.files c.args.store.now) (g.S.Store.files c.loop-done.store) c.loop-done.invariant.files (reached (g.S.Store.files c.args.store.now) c.args.place 0 c.args.self.now)
@@ -32,3 +42,21 @@ returns-clause-ok g c = λ honest.
     let end : c.loop-done.done ≡ c.reference_count-count.result = omega arith in
     module_done (g.S.Store.files c.args.store.now) c.args.place ne_format (around_in c.args.registry.now (g.S.Store.files c.args.store.now)) c.loop-done.done (reached (g.S.Store.files c.args.store.now) c.args.place 0 c.args.self.now) c.loop-done.self
     (end ∙ c.reference_count-count.ensures ∙ ap length (sym c.loop-done.invariant.same)) (c.loop-done.invariant.leads honest)
+
+pub returns-clause-any : goal.returns-clause-any
+returns-clause-any g c =
+    let end : c.loop-done.done ≡ c.reference_count-count.result = omega arith in
+    any_module c.args.registry.now c.args.place c.loop-done.done (reached_of c.args.place 0 c.args.self.now) c.loop-done.self (end ∙ c.reference_count-count.ensures ∙ ap length (sym c.loop-done.invariant.same)) c.loop-done.invariant.any
+
+pub returns-clause-few : goal.returns-clause-few
+returns-clause-few g c = c.loop-done.invariant.few
+
+pub loop-done-init : goal.loop-done-init
+loop-done-init g c = record {
+  files = refl;
+  failures = omega arith;
+  same = refl;
+  few = few_same c.args.registry.now c.args.self.now.found.items;
+  any = any_nowhere c.args.registry.now c.args.self.now.found.items (reached_of c.args.place 0 c.args.self.now);
+  leads = λ honest. leads_nowhere ne_format (around_in c.args.registry.now (g.S.Store.files c.args.store.now)) (reached (g.S.Store.files c.args.store.now) c.args.place 0 c.args.self.now);
+}

@@ -6,6 +6,8 @@ use Rattle.w16_loader.specs.Following.{left_from, references_at}
 use Rattle.std.specs.Prelude.{map}
 use Rattle.w16_loader.specs.Closing.{found_in}
 use Rattle.w16_loader.proofs.Followings.{indexed, same_after, follows, refused}
+use Rattle.w16_loader.proofs.AnyFollowings.{follows_any}
+use Rattle.w16_loader.proofs.Few.{few_after}
 use Rattle.w16_loader.proofs.closure.Closure.follow_reference.Goals as goal
 
 pub returns-in-Err-clause-err : goal.returns-in-Err-clause-err
@@ -25,3 +27,12 @@ returns-in-Ok-bind-clause-ok g c = λ honest.
     follows (g.S.Store.files c.args.store.now) c.args.place ne_format (around_in c.args.registry.now (g.S.Store.files c.args.store.now)) c.args.self.now c.index.result.now at.0 c.args.number c.requires.first at.1
     c.reference-name.result.now c.reference-name.ensures c.bind.new.self c.in-Ok.followed c.in-Ok-bind.ensures.found c.in-Ok-bind.ensures.bound
     (c.in-Ok.ensures.ok honest (left_from c.args.place c.args.number (map (found_in (g.S.Store.files c.args.store.now)) c.args.self.now.found.items)) c.args.place)
+
+pub returns-in-Ok-bind-clause-few : goal.returns-in-Ok-bind-clause-few
+returns-in-Ok-bind-clause-few g c = few_after c.args.registry.now c.args.self.now.found.items c.reference-name.result.now c.in-Ok.followed c.in-Ok.ensures.any c.bind.new.self.found.items c.in-Ok-bind.ensures.found
+
+pub returns-in-Ok-bind-clause-any : goal.returns-in-Ok-bind-clause-any
+returns-in-Ok-bind-clause-any g c =
+    let at = indexed c.args.self.now.found.items c.args.place c.args.number c.index.result.now c.requires.first c.requires.last c.index.ensures in
+    follows_any c.args.registry.now c.args.place c.args.self.now c.bind.new.self c.index.result.now at.0 c.args.number c.requires.first at.1 c.reference-name.result.now c.reference-name.ensures c.in-Ok.followed c.in-Ok.ensures.any
+    c.in-Ok-bind.ensures.found c.in-Ok-bind.ensures.bound

@@ -1,0 +1,25 @@
+-- The format in which some file says whatever a load may have read.
+use Rattle.std.proofs.Common.{◌≡◌, ℕ, zero, suc, ◌<◌, ◌≤◌, List, [], ◌∷◌, All, Option, Some, None, MatchResult, refl, subst, arith}
+use Rattle.std.specs.Prelude.{slice_get}
+use Rattle.std.proofs.lemmas.List.Elements.{All-head, All-tail, All-nil}
+use Rattle.w16_loading.specs.File.{IsFormat, IsModuleFile}
+use Rattle.w16_loading.specs.Closure as closing
+use Rattle.w16_loader.specs.AnyClosing.{IsGood, AreGood, said_by, any_format}
+
+pub good_at : (all : List closing.Found) → AreGood all → (place : ℕ) (f : closing.Found) → slice_get all place ≡ Some f → IsGood f
+good_at [] good place f e = cc
+good_at (x ∷ xs) good zero f e = let same : x ≡ f = cc in subst IsGood same (All-head IsGood x xs good)
+good_at (x ∷ xs) good (suc place) f e = good_at xs (All-tail IsGood x xs good) place f e
+
+pub is_format : (all : List closing.Found) → AreGood all → IsFormat (any_format all)
+is_format all good [] = (omega arith, omega arith)
+is_format all good (zero ∷ name) = record { segments = tt; contents = tt; bytes = All-nil (All (λ b. b < 256)) }
+is_format all good (suc place ∷ rest) = said (slice_get all place) refl
+  where
+    said : (p : Option closing.Found) → slice_get all place ≡ p → MatchResult (said_by p) IsModuleFile (λ answer. (11 ≤ answer) × (answer ≤ 14))
+    said None e = (omega arith, omega arith)
+    said (Some f) e = (good_at all good place f e).0
+
+-- files that all say the same
+abbrev pub files_of : List ℕ → List ℕ → Option (List ℕ)
+files_of bytes name = Some bytes

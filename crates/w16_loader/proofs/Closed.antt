@@ -1,0 +1,319 @@
+-- The new modules of a load, bound and filled, are what loading says of its closure.
+use Rattle.std.proofs.Common.{◌≡◌, ◌≢◌, ℕ, ◌+◌, ◌<◌, ◌≤◌, inl, inr, ◌⊎◌, true, false, List, [], ◌∷◌, ◌++◌, length, map, fold, zip, flat_map, All, AllPairs, slice_index_or, option_map, unwrap_or, Option, Some, None, IfOk, OnErr, IfSome, IsSomeAnd, Result, Ok, Err, MatchResult, refl, sym, ap, ◌∙◌, subst, arith}
+use Rattle.std.specs.List.{AllByRecursion as Each, AllZip}
+use Rattle.std.specs.FinMap as finmap
+use Rattle.std.proofs.lemmas.List.{length-map}
+use Rattle.std.proofs.lemmas.List.Elements.{All-from_recursion}
+use Rattle.w16_store.specs.Files.{file_of}
+use Rattle.w16_model.specs.Discards.{is_member}
+use Rattle.w16_model.specs.Handles.{AreHandles}
+use Rattle.w16_model.proofs.Discards.{is_member-true, true-is_member}
+use Rattle.std.proofs.lemmas.Bool.{cases_Bool, false≢true}
+use Rattle.w16_model.specs.Heap.{Heap, Object, object_at}
+use Rattle.w16_model.specs.declared.Owned.{Owned}
+use Rattle.w16_model.specs.Owned.{owned_at}
+use Rattle.w16_model.proofs.Gaps.{Member, EachPair, Each-at, Each-from_All, EachPair-from_AllPairs}
+use Rattle.w16_loading.specs.File.{Far, ModuleFile, IsModuleFile, Segment, SegmentData, targets_of}
+use Rattle.w16_loading.specs.Fill as loading
+use Rattle.w16_loading.specs.Fill.{FillsOne, InTurn, is_of_device}
+use Rattle.w16_loading.specs.Closure.{Closure, Found, are_sound}
+use Rattle.w16_loading.specs.Modules.{LoadingWorld, Lookup, Module, Modules, Named, module_in, module_at, value_of, with_heap}
+use Rattle.w16_loading.specs.Modules.Named.{Loaded, BuiltIn}
+use Rattle.w16_loading.specs.Free.{without_module}
+use Rattle.w16_loading.specs.Naming.{Choice, Given, given, given_from, with_modules, with_segment, segments_of, unbound, bound, named, fills}
+use Rattle.w16_loading.specs.declared.FetchFault.{FetchFault}
+use Rattle.w16_loading.specs.declared.FetchFault.TheVariants as fetches
+use Rattle.w16_loading.specs.Load.{Answer, Fulfils, outcome_of, refusal_of, undone, left}
+use Rattle.w16_loading.specs.Load.Answer.{Says, StoreFails}
+use Rattle.w16_loading.specs.Law.{IsItsFiles, without_values}
+use Rattle.w16_loading.proofs.Absences.{same_values}
+use Rattle.w16_loading.proofs.Undone.{undone_law}
+use Rattle.w16_loading.proofs.CodeLoads.{sound_values}
+use Rattle.w16_loading.proofs.LoadWorlds.{named_new}
+use Rattle.w16_loading.proofs.Named.{given_slots_apart}
+use Rattle.w16_loading.proofs.Given.{given_found, given_handle, given_long, given_segment, put_all, put_here}
+use Rattle.w16_format.specs.Ne.{ne_format}
+use Rattle.w16_format.proofs.Files.{is_format}
+use Rattle.w16_loader.specs.declared.binding.BindFault.{BindFault}
+use Rattle.w16_loader.specs.declared.binding.BindFault.TheVariants as binds
+use Rattle.w16_loader.specs.Binding.{AreSaid, IsBindFailure, IsSaid, all_bound}
+use Rattle.w16_loader.specs.declared.closure.Closure as kept
+use Rattle.w16_loader.specs.Closing.{Files, found_in, said}
+use Rattle.w16_loader.specs.Following.{closed_in}
+use Rattle.w16_loader.specs.Filling.{AreItsFiles, AreReadAs, AreUnfilled, IsReadAs, IsUnfilled, fills_with, slots_at}
+use Rattle.w16_loader.specs.Loading.{IsOfFile, LoadsClosed, answer_in, failed_by, of_fault}
+use Rattle.w16_loader.specs.Naming.{IsUnbound}
+use Rattle.w16_loader.proofs.Undoing.{undone_by_release}
+use Rattle.w16_loader.proofs.Fulfilled.{all_bound_are, fills_are, last, targets_in}
+
+-- Lists that go with the modules of a load.
+
+long_as : {A B : Type 0} (P : A → B → Type 0) (xs : List A) (ys : List B) → AllZip P xs ys → length ys ≡ length xs
+long_as P [] [] h = refl
+long_as P [] (y ∷ ys) h = absurd h
+long_as P (x ∷ xs) [] h = absurd h
+long_as P (x ∷ xs) (y ∷ ys) h = let rest = long_as P xs ys h.1 in omega arith
+
+zipped : (P : ℕ → ModuleFile → Type 0) (place : ℕ) (fs : List Found) (hs : List ℕ) (ss : List (List ℕ)) → length hs ≡ length fs → length ss ≡ length fs
+    → ((g : Given) → Member g (given_from place fs hs ss) → P g.handle g.found.read) → AllZip P hs (map (λ (f : Found). f.read) fs)
+zipped P place [] [] ss many long all = tt
+zipped P place [] (h ∷ hs) ss many long all = absurd (omega arith)
+zipped P place (f ∷ fs) [] ss many long all = absurd (omega arith)
+zipped P place (f ∷ fs) (h ∷ hs) [] many long all = absurd (omega arith)
+zipped P place (f ∷ fs) (h ∷ hs) (s ∷ ss) many long all =
+    (all (record { place = place; found = f; handle = h; slots = s }) (inl refl), zipped P (place + 1) fs hs ss (omega arith) (omega arith) (λ g m. all g (inr m)))
+
+each_handle : (P : ℕ → Type 0) (place : ℕ) (fs : List Found) (hs : List ℕ) (ss : List (List ℕ)) → length hs ≡ length fs → length ss ≡ length fs
+    → ((g : Given) → Member g (given_from place fs hs ss) → P g.handle) → Each P hs
+each_handle P place fs [] ss many long all = tt
+each_handle P place [] (h ∷ hs) ss many long all = absurd (omega arith)
+each_handle P place (f ∷ fs) (h ∷ hs) [] many long all = absurd (omega arith)
+each_handle P place (f ∷ fs) (h ∷ hs) (s ∷ ss) many long all =
+    (all (record { place = place; found = f; handle = h; slots = s }) (inl refl), each_handle P (place + 1) fs hs ss (omega arith) (omega arith) (λ g m. all g (inr m)))
+
+slots_are : (module_of : Given → Module) → ((g : Given) → (module_of g).slots ≡ g.slots) → (modules : Modules) (place : ℕ) (fs : List Found) (hs : List ℕ) (ss : List (List ℕ)) → length hs ≡ length fs → length ss ≡ length fs
+    → ((g : Given) → Member g (given_from place fs hs ss) → module_at modules g.handle ≡ Some (module_of g)) → flat_map (slots_at modules) hs ≡ flat_map (λ s. s) ss
+slots_are module_of slots modules place [] [] [] many long there = refl
+slots_are module_of slots modules place [] [] (s ∷ ss) many long there = absurd (omega arith)
+slots_are module_of slots modules place [] (h ∷ hs) ss many long there = absurd (omega arith)
+slots_are module_of slots modules place (f ∷ fs) [] ss many long there = absurd (omega arith)
+slots_are module_of slots modules place (f ∷ fs) (h ∷ hs) [] many long there = absurd (omega arith)
+slots_are module_of slots modules place (f ∷ fs) (h ∷ hs) (s ∷ ss) many long there =
+    let g : Given = record { place = place; found = f; handle = h; slots = s } in
+    ap (λ (p : Option Module). unwrap_or (option_map (λ (m : Module). m.slots) p) [] ++ flat_map (slots_at modules) hs) (there g (inl refl))
+    ∙ ap (λ xs. xs ++ flat_map (slots_at modules) hs) (slots g)
+    ∙ ap (λ xs. s ++ xs) (slots_are module_of slots modules (place + 1) fs hs ss (omega arith) (omega arith) (λ x m. there x (inr m)))
+
+zip_all : (P : ℕ → Segment → Type 0) (slots : List ℕ) (segments : List Segment) → length slots ≡ length segments → ((x : ℕ × Segment) → Member x (zip slots segments) → P x.0 x.1) → AllZip P slots segments
+zip_all P [] [] same all = tt
+zip_all P [] (g ∷ gs) same all = absurd (omega arith)
+zip_all P (q ∷ qs) [] same all = absurd (omega arith)
+zip_all P (q ∷ qs) (g ∷ gs) same all = (all (q, g) (inl refl), zip_all P qs gs (omega arith) (λ x m. all x (inr m)))
+
+read_targets : (look : Lookup) (first : Given → Module) (fs : List Found) → map (λ (read : ModuleFile). map targets_of read.segments) (map (λ (f : Found). f.read) fs) ≡ targets_in look first fs
+read_targets look first [] = refl
+read_targets look first (f ∷ fs) = ap (λ ts. map targets_of f.read.segments ∷ ts) (read_targets look first fs)
+
+stored_in : (files : Files) (f : Found) (p : Option (List ℕ)) → file_of files f.file ≡ p → said p ≡ Ok f.read → (file : List ℕ) × (file_of files f.file ≡ Some file) × (ne_format file ≡ Ok f.read)
+stored_in files f None e h = absurd (not_ok h)
+  where
+    not_ok : ◌≡◌ {A = Result ModuleFile ℕ} (Err 2) (Ok f.read) → ⊥
+    not_ok h = cc
+stored_in files f (Some bytes) e h = (bytes, e, h)
+
+-- What a load answers that fails.
+
+pub counted_failure : (before after : ℕ) (fault : BindFault) → IsBindFailure before after fault → IfOk (failed_by fault) (λ answer. answer_in answer ≡ StoreFails → before < after)
+counted_failure before after (binds.Failed f) h = λ e. h.1
+counted_failure before after binds.OutOfMemory h = tt
+
+pub refusal_is : (place : ℕ) (fault : FetchFault) → answer_in (of_fault place fault) ≡ refusal_of place fault
+refusal_is place fetches.Store = refl
+refusal_is place fetches.NoRoom = refl
+refusal_is place fetches.Damaged = refl
+
+pub store_alone : (place : ℕ) (fault : FetchFault) (P : Type 0) → (fault ≡ fetches.Store → P) → answer_in (of_fault place fault) ≡ StoreFails → P
+store_alone place fetches.Store P h e = h refl
+store_alone place fetches.NoRoom P h e = cc
+store_alone place fetches.Damaged P h e = cc
+
+pub err_by : (fault : BindFault) (P : Type 0) → (fault ≡ binds.OutOfMemory → P) → OnErr (failed_by fault) P
+err_by (binds.Failed f) P h = tt
+err_by binds.OutOfMemory P h = h refl
+
+pub first_of : (xs : List ℕ) (a : ℕ) → 0 < length xs → a ≡ slice_index_or xs 0 a → slice_index_or xs 0 0 ≡ a
+first_of [] a some e = absurd (omega (arith, some))
+first_of (x ∷ xs) a some e = sym e
+
+-- there is a handle for the module asked for
+pub some_handles : {A : Type 0} (made : kept.Closure A) (old mid : LoadingWorld) (numbers : List ℕ) → IsUnbound old (closed_in [] made) numbers mid → 0 < length made.found.items → 0 < length numbers
+some_handles made old mid numbers u some = omega (arith, u.is_choice.many, length-map made.found.items (found_in []), ap length u.handles, some)
+
+module _ (old : LoadingWorld) (meant : Closure) (handles : List ℕ) (mid : LoadingWorld) (u : IsUnbound old meant handles mid) where
+  abbrev choice : Choice
+  choice = u.choice
+
+  abbrev fs : List Found
+  fs = meant.found
+
+  abbrev gs : List Given
+  gs = given meant choice
+
+  abbrev reads : List ModuleFile
+  reads = map (λ (f : Found). f.read) fs
+
+  abbrev first : Given → Module
+  first = unbound meant choice
+
+  -- the modules that have names
+  abbrev begun : Modules
+  begun = with_modules first gs old.modules
+
+  abbrev look : Lookup
+  look = finmap.get begun
+
+  mid_modules : mid.modules ≡ begun
+  mid_modules = ap (λ (w : LoadingWorld). w.modules) u.after
+
+  apart : EachPair (λ a b. a ≢ b) choice.handles
+  apart = EachPair-from_AllPairs (λ (a b : ℕ). a ≢ b) choice.handles u.is_choice.apart
+
+  many : length choice.handles ≡ length fs
+  many = u.is_choice.many
+
+  long : length choice.slots ≡ length fs
+  long = long_as (λ (f : Found) (s : List ℕ). length s ≡ length f.read.tables.segments) fs choice.slots u.is_choice.slots.many
+
+  here : (module_of : Given → Module) (g : Given) → Member g gs → module_at (with_modules module_of gs old.modules) g.handle ≡ Some (module_of g)
+  here module_of g m = ap module_in (put_here module_of 0 fs choice.handles choice.slots old.modules apart g m)
+
+  -- Modules of which some are bound, with what they have.
+
+  abbrev values_in : Option Module → List (List Far)
+  values_in None = []
+  values_in (Some m) = m.values
+
+  abbrev part : Modules → Given → Module
+  part modules g = record (first g) { values = values_in (module_at modules g.handle) }
+
+  has_given : (q : ℕ) → Member q choice.handles → (g : Given) × Member g gs × (g.handle ≡ q)
+  has_given q m = Each-at (λ h. (g : Given) × Member g gs × (g.handle ≡ h)) choice.handles
+      (each_handle (λ h. (g : Given) × Member g gs × (g.handle ≡ h)) 0 fs choice.handles choice.slots many long (λ g n. (g, n, refl))) q m
+
+  its_values : (p : Option Named) (m : Module) → m.values ≡ [] → without_values p ≡ Some (Loaded m) → p ≡ Some (Loaded (record m { values = values_in (module_in p) }))
+  its_values None m none e = cc
+  its_values (Some (BuiltIn name)) m none e = cc
+  its_values (Some (Loaded n)) m none e = let same : record n { values = [] } ≡ m = cc in λ i. Some (Loaded (record (same i) { values = n.values }))
+
+  module _ (modules : Modules) (alike : (handle : ℕ) → without_values (finmap.get modules handle) ≡ without_values (finmap.get mid.modules handle))
+      (same : (handle : ℕ) → is_member handle handles ≡ false → finmap.get modules handle ≡ finmap.get mid.modules handle) where
+    at_new : (g : Given) → Member g gs → finmap.get modules g.handle ≡ Some (Loaded (part modules g))
+    at_new g m = its_values (finmap.get modules g.handle) (first g) refl
+        (alike g.handle ∙ ap (λ ms. without_values (finmap.get ms g.handle)) mid_modules ∙ ap without_values (put_here first 0 fs choice.handles choice.slots old.modules apart g m))
+
+    by_handle_or : (q : ℕ) → (is_member q choice.handles ≡ true) ⊎ (is_member q choice.handles ≡ false) → finmap.get modules q ≡ finmap.get (with_modules (part modules) gs old.modules) q
+    by_handle_or q (inl t) =
+        let r = has_given q (is_member-true q choice.handles t) in
+        subst (λ k. finmap.get modules k ≡ finmap.get (with_modules (part modules) gs old.modules) k) r.2
+        (at_new r.0 r.1 ∙ sym (put_here (part modules) 0 fs choice.handles choice.slots old.modules apart r.0 r.1))
+    by_handle_or q (inr f) =
+        let out : (g : Given) → Member g gs → q ≢ g.handle = λ g m e. false≢true (sym f ∙ true-is_member q choice.handles (subst (λ k. Member k choice.handles) (sym e) (given_handle 0 fs choice.handles choice.slots g m))) in
+        same q (ap (λ hs. is_member q hs) (sym u.handles) ∙ f) ∙ ap (λ ms. finmap.get ms q) mid_modules ∙ put_all first gs old.modules q out ∙ sym (put_all (part modules) gs old.modules q out)
+
+    partly : modules ≡ with_modules (part modules) gs old.modules
+    partly = same_values modules (with_modules (part modules) gs old.modules) (λ q. by_handle_or q (cases_Bool (is_member q choice.handles)))
+
+    -- once they are released it is the world that was before
+    pub taken_back : AreHandles old.handles → fold without_module (record mid { modules = modules }) handles ≡ old
+    taken_back is =
+        (λ i. fold without_module (record (u.after i) { modules = partly i }) (sym u.handles i))
+        ∙ undone_by_release old meant choice (part modules) (named old meant choice).handles.heap is u.is_choice (λ g. refl)
+        ∙ undone_law old meant choice is u.is_choice
+
+    -- a load of which a module isn't bound
+    pub unbound_load : AreHandles old.handles → (before after : ℕ) (fault : BindFault) → IsBindFailure before after fault
+        → IfOk (failed_by fault) (λ answer. LoadsClosed old meant (answer_in answer) (fold without_module (record mid { modules = modules }) handles))
+    unbound_load is before after (binds.Failed f) h =
+        subst (λ k. LoadsClosed old meant (answer_in (of_fault f.place k)) (fold without_module (record mid { modules = modules }) handles)) (sym h.0) (inl (refl, taken_back is))
+    unbound_load is before after binds.OutOfMemory h = tt
+
+  -- Over files of which each new module is.
+  module _ (files : Files) (of_files : All (IsOfFile files) meant.found) where
+    of_file : (g : Given) → Member g gs → IsOfFile files g.found
+    of_file g m = Each-at (IsOfFile files) fs (Each-from_All (IsOfFile files) fs of_files) g.found (given_found 0 fs choice.handles choice.slots g m)
+
+    is_said : (g : Given) → Member g gs → IsSaid files (first g) g.found.read
+    is_said g m = let at = stored_in files g.found (file_of files g.found.file) refl (of_file g m).0 in record { file = at.0; stored = at.1; accepted = at.2; tables = refl; sound = (of_file g m).1 }
+
+    pub are_said : AreSaid files mid.modules handles reads
+    are_said = subst (λ hs. AreSaid files mid.modules hs reads) u.handles (zipped (λ h read. IsSomeAnd (module_at mid.modules h) (λ m. IsSaid files m read)) 0 fs choice.handles choice.slots many long
+        (λ g m. subst (λ p. IsSomeAnd p (λ x. IsSaid files x g.found.read)) (sym (ap (λ ms. module_at ms g.handle) mid_modules ∙ here first g m)) (is_said g m)))
+
+    -- and once they are bound
+    module _ (modules : Modules) (b : modules ≡ all_bound (finmap.get mid.modules) mid.modules handles (map (λ (read : ModuleFile). map targets_of read.segments) reads)) where
+      abbrev done : Given → Module
+      done = bound old meant choice
+
+      pub bound_is : modules ≡ (named old meant choice).modules
+      bound_is =
+          b ∙ (λ i. all_bound (finmap.get (mid_modules i)) (mid_modules i) (sym u.handles i) (read_targets look first fs i))
+          ∙ all_bound_are look first 0 fs choice.handles choice.slots old.modules apart many long
+
+      there : (g : Given) → Member g gs → module_at modules g.handle ≡ Some (done g)
+      there g m = ap (λ ms. module_at ms g.handle) bound_is ∙ here done g m
+
+      is_file : (g : Given) → Member g gs → IsModuleFile g.found.read
+      is_file g m = let is = is_said g m in subst (λ r. MatchResult r IsModuleFile (λ answer. (11 ≤ answer) × (answer ≤ 14))) is.accepted (is_format is.file)
+
+      values_long : (g : Given) → Member g gs → length (done g).values ≡ length (done g).tables.segments
+      values_long g m = length-map g.found.read.segments (λ s. map (value_of look (first g)) (targets_of s)) ∙ long_as _ g.found.read.tables.segments g.found.read.segments (is_file g m).segments
+
+      by_handle : (P : Module → ModuleFile → Type 0) → ((g : Given) → Member g gs → P (done g) g.found.read) → AllZip (λ h read. IsSomeAnd (module_at modules h) (λ m. P m read)) handles reads
+      by_handle P all = subst (λ hs. AllZip (λ h read. IsSomeAnd (module_at modules h) (λ m. P m read)) hs reads) u.handles (zipped (λ h read. IsSomeAnd (module_at modules h) (λ m. P m read)) 0 fs choice.handles choice.slots many long
+          (λ g m. subst (λ p. IsSomeAnd p (λ x. P x g.found.read)) (sym (there g m)) (all g m)))
+
+      pub still_said : AreSaid files modules handles reads
+      still_said = by_handle (IsSaid files) (λ g m. let is = is_said g m in record { file = is.file; stored = is.stored; accepted = is.accepted; tables = is.tables; sound = is.sound })
+
+      pub are_read : AreReadAs modules handles reads
+      are_read = by_handle IsReadAs (λ g m. record { tables = refl; is_file = is_file g m; slots = given_long 0 fs choice.handles choice.slots u.is_choice.slots.many g m; values = values_long g m })
+
+      pub are_its_files : AreItsFiles modules handles reads
+      are_its_files = by_handle IsItsFiles (λ g m. record { tables = refl; values = sound_values (value_of look (first g)) g.found.read.segments (of_file g m).1 })
+
+      unfilled : (x : ℕ × Segment) → Member x (segments_of gs) → IsUnfilled mid.handles x.0 x.1
+      unfilled x m = subst (λ (w : LoadingWorld). IsUnfilled w.handles x.0 x.1) (sym u.after) (
+          let new = named_new old (segments_of gs) (given_slots_apart 0 fs choice.handles choice.slots (EachPair-from_AllPairs (λ (a b : ℕ). a ≢ b) (flat_map (λ s. s) choice.slots) u.is_choice.slots.apart)) x m in
+          record {
+            object = subst (λ p. IsSomeAnd p (λ (o : Object). (o.kind ≡ x.1.kind) × (o.bytes ≡ None))) (sym new.0) (refl, refl);
+            owned = subst (λ p. IsSomeAnd p (λ (w : Owned). w.size ≡ x.1.size)) (sym new.1) refl;
+          })
+
+      objects : (g : Given) → Member g gs → AllZip (IsUnfilled mid.handles) (done g).slots (done g).tables.segments
+      objects g m = zip_all (IsUnfilled mid.handles) g.slots g.found.read.tables.segments (given_long 0 fs choice.handles choice.slots u.is_choice.slots.many g m) (λ x n. unfilled x (given_segment gs g x m n))
+
+      pub are_unfilled : AreUnfilled modules mid.handles handles
+      are_unfilled = subst (AreUnfilled modules mid.handles) u.handles (record {
+        objects = All-from_recursion (λ h. IfSome (module_at modules h) (λ x. AllZip (IsUnfilled mid.handles) x.slots x.tables.segments)) choice.handles
+            (each_handle (λ h. IfSome (module_at modules h) (λ x. AllZip (IsUnfilled mid.handles) x.slots x.tables.segments)) 0 fs choice.handles choice.slots many long
+            (λ g m. subst (λ p. IfSome p (λ x. AllZip (IsUnfilled mid.handles) x.slots x.tables.segments)) (sym (there g m)) (objects g m)));
+        apart = subst (AllPairs (λ a b. a ≢ b)) (sym (slots_are done (λ g. refl) modules 0 fs choice.handles choice.slots many long there)) u.is_choice.slots.apart;
+      })
+
+      fills_same : fills_with modules 0 handles reads ≡ fills old meant choice
+      fills_same = ap (λ hs. fills_with modules 0 hs reads) (sym u.handles) ∙ fills_are done (λ g. refl) (λ g. refl) modules 0 fs choice.handles choice.slots there many long
+
+      -- and what is left once these are released
+      pub released : AreHandles old.handles → (heap : Heap) → fold without_module (record mid { modules = modules; handles = record mid.handles { heap = heap } }) handles ≡ undone old choice heap
+      released is heap =
+          (λ i. fold without_module (record (u.after i) { modules = bound_is i; handles = record (u.after i).handles { heap = heap } }) (sym u.handles i))
+          ∙ undone_by_release old meant choice done heap is u.is_choice (λ g. refl)
+
+      pub loaded_is : (heap : Heap) → record mid { modules = modules; handles = record mid.handles { heap = heap } } ≡ with_heap (named old meant choice) heap
+      loaded_is heap = λ i. record (u.after i) { modules = bound_is i; handles = record (u.after i).handles { heap = heap } }
+
+      -- a load that has come so far fulfils the closure
+      pub fulfils : (failure : Option loading.Failure) (heap : Heap) → InTurn (FillsOne is_of_device) mid.handles.heap (fills_with modules 0 handles reads) failure heap
+          → (answer : Answer) (new : LoadingWorld) → answer ≡ outcome_of failure (slice_index_or handles 0 0) → new ≡ left failure (with_heap (named old meant choice) heap) (undone old choice heap)
+          → Fulfils (FillsOne is_of_device) old meant answer new
+      fulfils failure heap filled answer new answered after = record {
+        choice = choice;
+        is_choice = u.is_choice;
+        failure = failure;
+        heap = heap;
+        filled = subst (λ xs. InTurn (FillsOne is_of_device) (named old meant choice).handles.heap xs failure heap) fills_same
+            (subst (λ (w : LoadingWorld). InTurn (FillsOne is_of_device) w.handles.heap (fills_with modules 0 handles reads) failure heap) u.after filled);
+        answered = answered ∙ ap (λ hs. outcome_of failure (slice_index_or hs 0 0)) (sym u.handles);
+        after = after;
+      }
+
+      -- a load of which an object got no bytes
+      pub unfilled_load : AreHandles old.handles → (place : ℕ) (fault : FetchFault) (heap : Heap)
+          → InTurn (FillsOne is_of_device) mid.handles.heap (fills_with modules 0 handles reads) (Some (record { place = place; fault = fault })) heap
+          → LoadsClosed old meant (answer_in (of_fault place fault)) (fold without_module (record mid { modules = modules; handles = record mid.handles { heap = heap } }) handles)
+      unfilled_load is place fault heap filled = inr (inr (fulfils (Some (record { place = place; fault = fault })) heap filled (answer_in (of_fault place fault))
+          (fold without_module (record mid { modules = modules; handles = record mid.handles { heap = heap } }) handles) (refusal_is place fault) (released is heap)))
+
+      pub filled_load : (heap : Heap) → InTurn (FillsOne is_of_device) mid.handles.heap (fills_with modules 0 handles reads) None heap
+          → Fulfils (FillsOne is_of_device) old meant (Says (slice_index_or handles 0 0)) (record mid { modules = modules; handles = record mid.handles { heap = heap } })
+      filled_load heap filled = fulfils None heap filled (Says (slice_index_or handles 0 0)) (record mid { modules = modules; handles = record mid.handles { heap = heap } }) refl (loaded_is heap)

@@ -1,0 +1,38 @@
+-- A load finds modules behind those that it had, and no more than handles are free.
+use Rattle.std.proofs.Common.{◌≡◌, ℕ, ◌<◌, ◌+◌, inl, inr, List, [], ◌∷◌, ◌++◌, length, sym, ap, ◌∙◌, subst, arith}
+use Rattle.std.proofs.lemmas.List.{length-append, append-nil, append_assoc}
+use Rattle.w16_loading.specs.Modules.{Modules, free_modules}
+use Rattle.w16_loading.specs.Closure.{dll}
+use Rattle.w16_loader.specs.declared.found.Found.{Found}
+use Rattle.w16_loader.specs.declared.closure.Followed.{Followed}
+use Rattle.w16_loader.specs.declared.closure.Followed.TheVariants as leads
+use Rattle.w16_loader.specs.Following.{FindsFew, LeadsByName, LeadsByFile, LeadsSomewhere, found_after}
+
+module _ {A : Type 0} (modules : Modules) where
+  pub few_same : (found : List (Found A)) → FindsFew modules found found
+  few_same found = record { since = []; kept = sym (append-nil found); few = λ most free le. le }
+
+  pub few_through : (a b c : List (Found A)) → FindsFew modules a b → FindsFew modules b c → FindsFew modules a c
+  few_through a b c f g = record {
+    since = f.since ++ g.since;
+    kept = g.kept ∙ ap (λ xs. xs ++ g.since) f.kept ∙ append_assoc a f.since g.since;
+    few = λ most free le. g.few most free (f.few most free le);
+  }
+
+  one_more : (found : List (Found A)) (f : Found A) → length found < free_modules modules → FindsFew modules found (found ++ f ∷ [])
+  one_more found f lt = record {
+    since = f ∷ [];
+    kept = λ i. found ++ f ∷ [];
+    few = λ most free le. (let more : length (found ++ f ∷ []) ≡ length found + 1 = length-append found (f ∷ []) in omega (arith, more, lt, free));
+  }
+
+  by_name : (found : List (Found A)) (name : List ℕ) (f : Followed A) → LeadsByName modules found name f → FindsFew modules found (found_after found f)
+  by_name found name (leads.Meant referent) h = few_same found
+  by_name found name (leads.New f) h = absurd h
+
+  by_file : (found : List (Found A)) (file : List ℕ) (f : Followed A) → LeadsByFile modules found file f → FindsFew modules found (found_after found f)
+  by_file found file (leads.Meant referent) h = few_same found
+  by_file found file (leads.New f) h = one_more found f h.2
+
+  pub few_after : (found : List (Found A)) (name : List ℕ) (f : Followed A) → LeadsSomewhere modules found name f → (new : List (Found A)) → new ≡ found_after found f → FindsFew modules found new
+  few_after found name f h new same = subst (FindsFew modules found) (sym same) (elim h [ inl k ↦ by_name found name f k | inr k ↦ by_file found (dll name) f k.1 ])

@@ -1,0 +1,129 @@
+-- The lowest free handles.
+use Rattle.std.proofs.Common.{◌≡◌, ◌≢◌, ℕ, zero, suc, ◌+◌, ◌-◌, ◌<◌, ◌≤◌, Bool, true, false, not, is_some, cond, IsTrue, List, [], ◌∷◌, ◌++◌, length, get_or, take, drop, filter, Option, Some, None, All, AllPairs, refl, sym, ap, ◌∙◌, subst, arith, add-one, drop-cons}
+use Rattle.std.specs.Prelude.{option_map, is_none, count_by}
+use Rattle.std.specs.List.{AllByRecursion as Each, range_with_len}
+use Rattle.std.specs.FinMap as finmap
+use Rattle.std.proofs.lemmas.Bool.{false≢true}
+use Rattle.std.proofs.lemmas.List.{append-nil, append_assoc, take-append-le, take_all, drop_all, length-take-le}
+use Rattle.std.proofs.lemmas.List.Sums.{sum_by-cons}
+use Rattle.w16_model.proofs.Gaps.{Member, EachPair, Each-from, Each-from_All, All-from_Each, EachPair-from_AllPairs, AllPairs-from_EachPair, pairs_filter, member_filter}
+use Rattle.w16_loading.specs.declared.TheConstants.{FIRST_MODULE, MOST_MODULES}
+use Rattle.w16_loading.specs.Modules.{Modules, Named, IsFreeModule, free_modules}
+use Rattle.w16_loader.specs.declared.entry.Entry.{Entry}
+use Rattle.w16_loader.specs.Entries.{named_of}
+use Rattle.w16_loader.specs.Naming.{free_handles}
+use Rattle.w16_loader.specs.Registry.{registered, IsTable}
+use Rattle.w16_loader.proofs.Registered.{named_at, free_are}
+use Rattle.w16_loader.proofs.Takings.{in_range}
+
+abbrev pub is_free : Modules → ℕ → Bool
+is_free modules h = is_none (finmap.get modules h)
+
+-- The free handles from one on.
+abbrev pub free_from : Modules → ℕ → List ℕ
+free_from modules h = filter (is_free modules) (range_with_len h (FIRST_MODULE + MOST_MODULES - h))
+
+pub first_from : (modules : Modules) (h : ℕ) → h < FIRST_MODULE + MOST_MODULES → free_from modules h ≡ cond {A = List ℕ} (is_free modules h) (h ∷ free_from modules (h + 1)) (free_from modules (h + 1))
+first_from modules h lt = let one : FIRST_MODULE + MOST_MODULES - h ≡ suc (FIRST_MODULE + MOST_MODULES - (h + 1)) = omega (arith, lt) in ap (λ n. filter (is_free modules) (range_with_len h n)) one
+
+pub handle_more : (modules : Modules) (count h : ℕ) (made : List ℕ) → h < FIRST_MODULE + MOST_MODULES → is_free modules h ≡ true → take count ((made ++ h ∷ []) ++ free_from modules (h + 1)) ≡ take count (made ++ free_from modules h)
+handle_more modules count h made lt free =
+    ap (take count) (append_assoc made (h ∷ []) (free_from modules (h + 1)))
+    ∙ ap (λ (r : List ℕ). take count (made ++ r)) (sym (first_from modules h lt ∙ ap (λ b. cond {A = List ℕ} b (h ∷ free_from modules (h + 1)) (free_from modules (h + 1))) free))
+
+pub handle_taken : (modules : Modules) (count h : ℕ) (made : List ℕ) → h < FIRST_MODULE + MOST_MODULES → is_free modules h ≡ false → take count (made ++ free_from modules (h + 1)) ≡ take count (made ++ free_from modules h)
+handle_taken modules count h made lt free =
+    ap (λ (r : List ℕ). take count (made ++ r)) (sym (first_from modules h lt ∙ ap (λ b. cond {A = List ℕ} b (h ∷ free_from modules (h + 1)) (free_from modules (h + 1))) free))
+
+pub enough : (count : ℕ) (made xs ys : List ℕ) → count ≤ length made → take count (made ++ xs) ≡ take count (made ++ ys)
+enough count made xs ys le = take-append-le count made xs le ∙ sym (take-append-le count made ys le)
+
+pub all_through : (modules : Modules) (count h : ℕ) (made : List ℕ) → FIRST_MODULE + MOST_MODULES ≤ h → length made ≤ count → take count (made ++ free_from modules h) ≡ made
+all_through modules count h made le few =
+    let none : FIRST_MODULE + MOST_MODULES - h ≡ 0 = omega (arith, le) in
+    ap (λ n. take count (made ++ filter (is_free modules) (range_with_len h n))) none ∙ ap (take count) (append-nil made) ∙ take_all count made few
+
+-- They are free, and they differ.
+
+none_is : {X : Type 0} (p : Option X) → IsTrue (is_none p) → p ≡ None
+none_is None t = refl
+none_is (Some x) t = absurd (false≢true t)
+
+handles_free : (modules : Modules) → Each (IsFreeModule modules) (free_handles modules)
+handles_free modules = Each-from (IsFreeModule modules) (free_handles modules) (λ h m.
+    let r : Member h (range_with_len FIRST_MODULE MOST_MODULES) × IsTrue (is_free modules h) = member_filter (is_free modules) (range_with_len FIRST_MODULE MOST_MODULES) h m in
+    let inside : (FIRST_MODULE ≤ h) × (h < FIRST_MODULE + MOST_MODULES) = in_range MOST_MODULES FIRST_MODULE h r.0 in
+    (inside.0, inside.1, none_is (finmap.get modules h) r.1))
+
+range_apart : (n a : ℕ) → EachPair (λ a b. a ≢ b) (range_with_len a n)
+range_apart zero a = tt
+range_apart (suc n) a = (Each-from (λ b. a ≢ b) (range_with_len (a + 1) n) (λ q m e. let r : (a + 1 ≤ q) × (q < a + 1 + n) = in_range n (a + 1) q m in let le : a + 1 ≤ q = r.0 in absurd (omega (arith, le, e))), range_apart n (a + 1))
+
+handles_apart : (modules : Modules) → EachPair (λ a b. a ≢ b) (free_handles modules)
+handles_apart modules = pairs_filter (λ a b. a ≢ b) (is_free modules) (range_with_len FIRST_MODULE MOST_MODULES) (range_apart MOST_MODULES FIRST_MODULE)
+
+each_of_first : {X : Type 0} (P : X → Type 0) (k : ℕ) (xs : List X) → Each P xs → Each P (take k xs)
+each_of_first P zero xs h = tt
+each_of_first P (suc k) [] h = tt
+each_of_first P (suc k) (x ∷ xs) h = (h.0, each_of_first P k xs h.1)
+
+pairs_of_first : {X : Type 0} (R : X → X → Type 0) (k : ℕ) (xs : List X) → EachPair R xs → EachPair R (take k xs)
+pairs_of_first R zero xs h = tt
+pairs_of_first R (suc k) [] h = tt
+pairs_of_first R (suc k) (x ∷ xs) h = (each_of_first (R x) k xs h.0, pairs_of_first R k xs h.1)
+
+pub lowest_free : (modules : Modules) (count : ℕ) (hs : List ℕ) → hs ≡ take count (free_handles modules) → All (IsFreeModule modules) hs
+lowest_free modules count hs e = subst (All (IsFreeModule modules)) (sym e) (All-from_Each (IsFreeModule modules) (take count (free_handles modules)) (each_of_first (IsFreeModule modules) count (free_handles modules) (handles_free modules)))
+
+pub lowest_apart : (modules : Modules) (count : ℕ) (hs : List ℕ) → hs ≡ take count (free_handles modules) → AllPairs ◌≢◌ hs
+lowest_apart modules count hs e = subst (AllPairs ◌≢◌) (sym e) (AllPairs-from_EachPair (λ a b. a ≢ b) (take count (free_handles modules)) (pairs_of_first (λ a b. a ≢ b) count (free_handles modules) (handles_apart modules)))
+
+-- the first of those that are free are such too
+pub all_of_first : {X : Type 0} (P : X → Type 0) (k : ℕ) (xs : List X) → All P xs → All P (take k xs)
+all_of_first P k xs h = All-from_Each P (take k xs) (each_of_first P k xs (Each-from_All P xs h))
+
+pub apart_of_first : (k : ℕ) (xs : List ℕ) → AllPairs ◌≢◌ xs → AllPairs ◌≢◌ (take k xs)
+apart_of_first k xs h = AllPairs-from_EachPair (λ a b. a ≢ b) (take k xs) (pairs_of_first (λ a b. a ≢ b) k xs (EachPair-from_AllPairs (λ a b. a ≢ b) xs h))
+
+-- How many there are, in a table.
+
+counted : (b : Bool) (x : ℕ) (xs : List ℕ) (n : ℕ) → length xs ≡ n → length (cond {A = List ℕ} b (x ∷ xs) xs) ≡ cond b 1 0 + n
+counted true x xs n e = omega (arith, e)
+counted false x xs n e = omega (arith, e)
+
+module _ {A : Type 0} where
+  is_none_of : (modules : Modules) (es : List (Option (Entry A))) (h : ℕ) → finmap.get modules h ≡ option_map named_of (get_or es h None) → is_free modules h ≡ is_none (get_or es h None)
+  is_none_of modules es h e = ap is_none e ∙ by_case (get_or es h None)
+    where
+      by_case : (p : Option (Entry A)) → is_none (option_map named_of p) ≡ is_none p
+      by_case None = refl
+      by_case (Some x) = refl
+
+  count_from : (es : List (Option (Entry A))) (n a : ℕ) → length es ≡ a + n → length (filter (is_free (registered es)) (range_with_len a n)) ≡ count_by is_none (drop a es)
+  count_from es zero a long = ap (count_by is_none) (sym (drop_all a es (omega (arith, long))))
+  count_from es (suc n) a long =
+      let lt : a < length es = omega (arith, long) in
+      ap (λ b. length (cond {A = List ℕ} b (a ∷ filter (is_free (registered es)) (range_with_len (a + 1) n)) (filter (is_free (registered es)) (range_with_len (a + 1) n)))) (is_none_of (registered es) es a (named_at es a))
+      ∙ counted (is_none (get_or es a None)) a (filter (is_free (registered es)) (range_with_len (a + 1) n)) (count_by is_none (drop (a + 1) es)) (count_from es n (a + 1) (omega (arith, long)))
+      ∙ sym (sum_by-cons (λ y. cond (is_none y) 1 0) (get_or es a None) (drop (a + 1) es))
+      ∙ ap (count_by is_none) (ap (λ k. get_or es a None ∷ drop k es) (add-one a) ∙ sym (drop-cons es a None lt))
+
+  pub all_free : (es : List (Option (Entry A))) → IsTable es → length (free_handles (registered es)) ≡ free_modules (registered es)
+  all_free es is = count_from es MOST_MODULES FIRST_MODULE is.many ∙ free_are es is
+
+  pub as_many : (modules : Modules) (es : List (Option (Entry A))) (count : ℕ) (hs : List ℕ) → registered es ≡ modules → IsTable es → hs ≡ take count (free_handles modules) → count ≤ free_modules modules → length hs ≡ count
+  as_many modules es count hs view is = subst (λ (m : Modules). hs ≡ take count (free_handles m) → count ≤ free_modules m → length hs ≡ count) view (λ e le.
+      let all : length (free_handles (registered es)) ≡ free_modules (registered es) = all_free es is in
+      ap length e ∙ length-take-le count (free_handles (registered es)) (omega (arith, all, le)))
+
+-- what a look at a handle tells
+pub tested : {X : Type 0} (found : Option X) (f : X → Named) (p : Option Named) (r b : Bool) → option_map f found ≡ p → is_some found ≡ not r → r ≡ b → is_none p ≡ b
+tested {X} found f p r b same is answered = ap is_none (sym same) ∙ by_case found ∙ ap not is ∙ twice r ∙ answered
+  where
+    by_case : (o : Option X) → is_none (option_map f o) ≡ not (is_some o)
+    by_case None = refl
+    by_case (Some x) = refl
+
+    twice : (b : Bool) → not (not b) ≡ b
+    twice true = refl
+    twice false = refl

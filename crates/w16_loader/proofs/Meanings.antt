@@ -1,0 +1,75 @@
+-- What a name means is there.
+use Rattle.std.proofs.Common.{◌≡◌, ℕ, ◌<◌, inl, inr, Bool, true, false, cond, nat_lt, List, [], ◌∷◌, length, map, Option, Some, None, option_map, Result, Ok, Err, IfOk, refl, sym, ap, ◌∙◌, arith, ltb-true}
+use Rattle.std.specs.Prelude.{position}
+use Rattle.std.specs.List.{find, position_or_len}
+use Rattle.std.specs.Option.{option_or}
+use Rattle.std.specs.FinMap as finmap
+use Rattle.std.proofs.lemmas.List.{length-map}
+use Rattle.w16_model.proofs.Gaps.{Member}
+use Rattle.w16_store.specs.Names.{is_named}
+use Rattle.w16_loading.proofs.Importers.{entry_there}
+use Rattle.w16_loading.specs.Modules.{Modules, Named, name_of, handle_named}
+use Rattle.w16_loading.specs.Closure as closing
+use Rattle.w16_loading.specs.Closure.Referent.{There, New}
+use Rattle.w16_loader.specs.declared.found.Found.{Found}
+use Rattle.w16_loader.specs.declared.found.Referent.TheVariants as refers
+use Rattle.w16_loader.specs.declared.found.FileFault.{FileFault}
+use Rattle.w16_loader.specs.declared.found.Reading.{Reading}
+use Rattle.w16_loader.specs.declared.found.Reading.TheVariants as makes
+use Rattle.w16_loader.specs.Closing.{found_in, meant_in, IsNewOrMeant, IsThere}
+
+there_named : (modules : Modules) (name : List ℕ) (handle : ℕ) → handle_named modules name ≡ Some handle → (n : Named) × (finmap.get modules handle ≡ Some n)
+there_named modules name handle e = found (find (λ (x : ℕ × Named). is_named (name_of x.1) name) (finmap.entries modules)) refl e
+  where
+    member : (p : ℕ × Named → Bool) (xs : List (ℕ × Named)) (x : ℕ × Named) → find p xs ≡ Some x → Member x xs
+    member p [] x e = cc
+    member p (y ∷ xs) x e = turn (p y) e (λ f. member p xs x f)
+      where
+        turn : (b : Bool) → cond b (Some y) (find p xs) ≡ Some x → (find p xs ≡ Some x → Member x xs) → Member x (y ∷ xs)
+        turn true e rest = let same : y ≡ x = cc in inl (sym same)
+        turn false e rest = inr (rest e)
+
+    found : (p : Option (ℕ × Named)) → find (λ (x : ℕ × Named). is_named (name_of x.1) name) (finmap.entries modules) ≡ p → option_map (λ (x : ℕ × Named). x.0) p ≡ Some handle → (n : Named) × (finmap.get modules handle ≡ Some n)
+    found None f e = cc
+    found (Some x) f e = let same : x.0 ≡ handle = cc in (x.1, ap (finmap.get modules) (sym same) ∙ entry_there modules x.0 x.1 (member (λ (x : ℕ × Named). is_named (name_of x.1) name) (finmap.entries modules) x f))
+
+position_within : {X : Type 0} (p : X → Bool) (xs : List X) (place : ℕ) → position p xs ≡ Some place → place < length xs
+position_within p xs place e = turn (nat_lt (position_or_len p xs) (length xs)) refl e
+  where
+    turn : (b : Bool) → nat_lt (position_or_len p xs) (length xs) ≡ b → cond b (Some (position_or_len p xs)) None ≡ Some place → place < length xs
+    turn true t e = let same : position_or_len p xs ≡ place = cc in let lt : position_or_len p xs < length xs = ltb-true (position_or_len p xs) (length xs) t in omega (arith, same, lt)
+    turn false t e = cc
+
+module _ {A : Type 0} (modules : Modules) (found : List (Found A)) where
+  abbrev place_of : List ℕ → Option ℕ
+  place_of name = position (λ (f : closing.Found). is_named f.read.tables.name name) (map (found_in []) found)
+
+  handle_there : (name : List ℕ) (handle : ℕ) (p r : Option ℕ) → handle_named modules name ≡ p → option_or (option_map There p) (option_map New r) ≡ Some (There handle) → (n : Named) × (finmap.get modules handle ≡ Some n)
+  handle_there name handle (Some h) r at e = let same : h ≡ handle = cc in there_named modules name handle (at ∙ ap Some same)
+  handle_there name handle None (Some q) at e = cc
+  handle_there name handle None None at e = cc
+
+  place_there : (name : List ℕ) (place : ℕ) (p r : Option ℕ) → place_of name ≡ r → option_or (option_map There p) (option_map New r) ≡ Some (New place) → place < length found
+  place_there name place (Some h) r at e = cc
+  place_there name place None (Some q) at e =
+      let same : q ≡ place = cc in
+      let lt : q < length (map (found_in []) found) = position_within (λ (f : closing.Found). is_named f.read.tables.name name) (map (found_in []) found) q at in
+      omega (arith, lt, same, length-map found (found_in []))
+  place_there name place None None at e = cc
+
+  is_there : (r : Reading) → IsNewOrMeant modules found r → IsThere modules found r
+  is_there (makes.Meant (refers.There handle)) h = handle_there h.0 handle (handle_named modules h.0) (place_of h.0) refl h.1
+  is_there (makes.Meant (refers.New place)) h = place_there h.0 place (handle_named modules h.0) (place_of h.0) refl h.1
+  is_there (makes.Read tables) h = tt
+
+  pub all_there : (r : Result Reading FileFault) → IfOk r (IsNewOrMeant modules found) → IfOk r (IsThere modules found)
+  all_there (Ok made) h = is_there made h
+  all_there (Err fault) h = tt
+
+  -- what means nothing is no name of a module that is there
+  pub unnamed : (name : List ℕ) → meant_in modules found name ≡ None → handle_named modules name ≡ None
+  unnamed name e = turn (handle_named modules name) (place_of name) e
+    where
+      turn : (p r : Option ℕ) → option_or (option_map There p) (option_map New r) ≡ None → p ≡ None
+      turn None r e = refl
+      turn (Some handle) r e = cc

@@ -1,0 +1,154 @@
+-- Segments that get objects in free slots, one after another.
+use Rattle.std.proofs.Common.{◌≡◌, ◌≢◌, ℕ, zero, suc, ◌+◌, ◌<◌, ◌≤◌, inl, inr, ◌⊎◌, Bool, true, false, cond, not, IsTrue, List, [], ◌∷◌, ◌++◌, length, map, fold, filter, zip, slice_get, Option, Some, None, is_some, refl, sym, ap, ◌∙◌, subst, arith}
+use Rattle.std.specs.List.{AllByRecursion as Each, range_with_len}
+use Rattle.std.proofs.lemmas.Bool.{false≢true, cases_eq}
+use Rattle.w16_model.specs.declared.TheConstants.{FIRST_SLOT}
+use Rattle.w16_model.specs.Calls.{HasNoSlot}
+use Rattle.w16_model.specs.Discards.{is_member}
+use Rattle.w16_model.specs.Heap.{Object, object_at}
+use Rattle.w16_model.specs.Handles.{Handles, AreHandles, IsFreeSlot}
+use Rattle.w16_model.proofs.Gaps.{Member, EachPair, Each-map, Each-from, All-from_Each, member_filter}
+use Rattle.w16_model.proofs.Discards.{true-is_member}
+use Rattle.w16_model.proofs.KeptHeaps.{inserted_here, inserted_other}
+use Rattle.w16_model.proofs.Prefixes.{filter_same}
+use Rattle.w16_loading.specs.File.{Segment}
+use Rattle.w16_loading.specs.Modules.{LoadingWorld, Modules}
+use Rattle.w16_loading.specs.Naming.{free_slots, with_segment}
+use Rattle.w16_loading.specs.Release.{without_objects}
+use Rattle.w16_loading.proofs.Undone.{zipped, taken_back_law}
+use Rattle.w16_loader.specs.Naming.{Takes}
+
+-- What all of them leave, and some behind others.
+
+pub takes_fold : (xs : List (ℕ × Segment)) (old new : LoadingWorld) → Takes old xs new → new ≡ fold with_segment old xs
+takes_fold [] old new t = t
+takes_fold (x ∷ xs) old new t = takes_fold xs (with_segment old x) new t.1
+
+pub takes_then : (xs ys : List (ℕ × Segment)) (a b c : LoadingWorld) → Takes a xs b → Takes b ys c → Takes a (xs ++ ys) c
+takes_then [] ys a b c t u = subst (λ (w : LoadingWorld). Takes w ys c) t u
+takes_then (x ∷ xs) ys a b c t u = (t.0, takes_then xs ys (with_segment a x) b c t.1 u)
+
+-- modules don't count
+pub takes_beside : (modules : Modules) (xs : List (ℕ × Segment)) (a b : LoadingWorld) → Takes a xs b → Takes (record a { modules = modules }) xs (record b { modules = modules })
+takes_beside modules [] a b t = ap (λ (w : LoadingWorld). record w { modules = modules }) t
+takes_beside modules (x ∷ xs) a b t = (t.0, takes_beside modules xs (with_segment a x) b t.1)
+
+-- The slots were free, and they differ.
+
+none_some : {X : Type 0} (x : X) → ◌≡◌ {A = Option X} None (Some x) → ⊥
+none_some x e = cc
+
+free_before : (a : LoadingWorld) (x : ℕ × Segment) (q : ℕ) → IsFreeSlot (with_segment a x).handles q → IsFreeSlot a.handles q × (x.0 ≢ q)
+free_before a x q f = turn (cases_eq q x.0)
+  where
+    put : Object
+    put = record { kind = x.1.kind; locks = 0; bytes = None }
+
+    turn : (q ≡ x.0) ⊎ (q ≢ x.0) → IsFreeSlot a.handles q × (x.0 ≢ q)
+    turn (inl e) = absurd (none_some put (sym f.1 ∙ inserted_here a.handles.heap.objects x.0 put q e))
+    turn (inr d) = ((f.0, sym (inserted_other a.handles.heap.objects x.0 put q d) ∙ f.1), λ e. d (sym e))
+
+pub slots_free : (xs : List (ℕ × Segment)) (a b : LoadingWorld) → Takes a xs b → Each (λ x. IsFreeSlot a.handles x.0) xs
+slots_free [] a b t = tt
+slots_free (x ∷ xs) a b t =
+    (t.0, Each-map (λ (y : ℕ × Segment). IsFreeSlot (with_segment a x).handles y.0) (λ (y : ℕ × Segment). IsFreeSlot a.handles y.0) (λ y f. (free_before a x y.0 f).0) xs (slots_free xs (with_segment a x) b t.1))
+
+pub slots_apart : (xs : List (ℕ × Segment)) (a b : LoadingWorld) → Takes a xs b → EachPair (λ x y. x.0 ≢ y.0) xs
+slots_apart [] a b t = tt
+slots_apart (x ∷ xs) a b t =
+    (Each-map (λ (y : ℕ × Segment). IsFreeSlot (with_segment a x).handles y.0) (λ (y : ℕ × Segment). x.0 ≢ y.0) (λ y f. (free_before a x y.0 f).1) xs (slots_free xs (with_segment a x) b t.1), slots_apart xs (with_segment a x) b t.1)
+
+-- Each leaves one free slot fewer.
+
+pub in_range : (n a q : ℕ) → Member q (range_with_len a n) → (a ≤ q) × (q < a + n)
+in_range zero a q m = absurd m
+in_range (suc n) a q (inl e) = (omega (arith, e), omega (arith, e))
+in_range (suc n) a q (inr m) = let r : (a + 1 ≤ q) × (q < a + 1 + n) = in_range n (a + 1) q m in let le : a + 1 ≤ q = r.0 in let lt : q < a + 1 + n = r.1 in (omega (arith, le), omega (arith, lt))
+
+first_counts : (b : Bool) (x : ℕ) (some fewer : List ℕ) → length some ≡ length fewer + 1 → length (cond {A = List ℕ} b (x ∷ some) some) ≡ length (cond {A = List ℕ} b (x ∷ fewer) fewer) + 1
+first_counts true x some fewer e = omega (arith, e)
+first_counts false x some fewer e = e
+
+module _ (p less : ℕ → Bool) (q : ℕ) (has : p q ≡ true) (lacks : less q ≡ false) (others : (k : ℕ) → k ≢ q → less k ≡ p k) where
+  one_fewer : (n a : ℕ) → a ≤ q → q < a + n → length (filter p (range_with_len a n)) ≡ length (filter less (range_with_len a n)) + 1
+  one_fewer zero a le lt = absurd (omega (arith, le, lt))
+  one_fewer (suc n) a le lt = turn (cases_eq a q) (λ before. one_fewer n (a + 1) before (omega (arith, lt)))
+    where
+      rest : List ℕ
+      rest = range_with_len (a + 1) n
+
+      turn : (a ≡ q) ⊎ (a ≢ q) → (a + 1 ≤ q → length (filter p rest) ≡ length (filter less rest) + 1) → length (cond {A = List ℕ} (p a) (a ∷ filter p rest) (filter p rest)) ≡ length (cond {A = List ℕ} (less a) (a ∷ filter less rest) (filter less rest)) + 1
+      turn (inl e) again =
+          let same : length (filter p rest) ≡ length (filter less rest) = ap length (filter_same p less rest (λ k m. let r : (a + 1 ≤ k) × (k < a + 1 + n) = in_range n (a + 1) k m in let above : a + 1 ≤ k = r.0 in sym (others k (λ f. absurd (omega (arith, above, e, f)))))) in
+          ap (λ b. length (cond {A = List ℕ} b (a ∷ filter p rest) (filter p rest))) (ap p e ∙ has)
+          ∙ (let more : suc (length (filter p rest)) ≡ length (filter less rest) + 1 = omega (arith, same) in more)
+          ∙ ap (λ b. length (cond {A = List ℕ} b (a ∷ filter less rest) (filter less rest)) + 1) (sym (ap less e ∙ lacks))
+      turn (inr d) again =
+          let before : a + 1 ≤ q = let f : a ≡ q → ⊥ = d in omega (arith, le, f) in
+          first_counts (p a) a (filter p rest) (filter less rest) (again before)
+          ∙ ap (λ b. length (cond {A = List ℕ} b (a ∷ filter less rest) (filter less rest)) + 1) (sym (others a d))
+
+abbrev is_free : LoadingWorld → ℕ → Bool
+is_free world slot = not (is_some (object_at world.handles.heap slot))
+
+one_taken : (a : LoadingWorld) (x : ℕ × Segment) → IsFreeSlot a.handles x.0 → length (free_slots a.handles) ≡ length (free_slots (with_segment a x).handles) + 1
+one_taken a x f = one_fewer (is_free a) (is_free (with_segment a x)) x.0 (ap (λ p. not (is_some p)) f.1)
+    (ap (λ p. not (is_some p)) (inserted_here a.handles.heap.objects x.0 put x.0 refl))
+    (λ k d. ap (λ p. not (is_some p)) (inserted_other a.handles.heap.objects x.0 put k d))
+    a.handles.slots FIRST_SLOT f.0.0 f.0.1
+  where
+    put : Object
+    put = record { kind = x.1.kind; locks = 0; bytes = None }
+
+pub fewer_slots : (xs : List (ℕ × Segment)) (a b : LoadingWorld) → Takes a xs b → length (free_slots a.handles) ≡ length (free_slots b.handles) + length xs
+fewer_slots [] a b t = ap (λ (w : LoadingWorld). length (free_slots w.handles)) (sym t) ∙ omega arith
+fewer_slots (x ∷ xs) a b t =
+    let one : length (free_slots a.handles) ≡ length (free_slots (with_segment a x).handles) + 1 = one_taken a x t.0 in
+    let rest : length (free_slots (with_segment a x).handles) ≡ length (free_slots b.handles) + length xs = fewer_slots xs (with_segment a x) b t.1 in
+    omega (arith, one, rest)
+
+none_in : (xs : List ℕ) → ((q : ℕ) → Member q xs → ⊥) → length xs ≡ 0
+none_in [] out = refl
+none_in (x ∷ xs) out = absurd (out x (inl refl))
+
+pub no_free_slots : (h : Handles) → HasNoSlot h → length (free_slots h) ≡ 0
+no_free_slots h none = none_in (free_slots h) (λ q m.
+    let r : Member q (range_with_len FIRST_SLOT h.slots) × IsTrue (not (is_some (object_at h.heap q))) = member_filter (λ slot. not (is_some (object_at h.heap slot))) (range_with_len FIRST_SLOT h.slots) q m in
+    none q (in_range h.slots FIRST_SLOT q r.0, absent (object_at h.heap q) r.1))
+  where
+    absent : (p : Option Object) → IsTrue (not (is_some p)) → p ≡ None
+    absent None t = refl
+    absent (Some o) t = absurd (false≢true t)
+
+-- Slots of one module.
+
+pub firsts : {A B : Type 0} (ss : List A) (gs : List B) → length ss ≤ length gs → map (λ (x : A × B). x.0) (zip ss gs) ≡ ss
+firsts [] gs le = refl
+firsts (s ∷ ss) [] le = absurd (omega (arith, le))
+firsts {A} (s ∷ ss) (g ∷ gs) le = ap (λ (r : List A). s ∷ r) (firsts ss gs (omega (arith, le)))
+
+pub each_first : {A B : Type 0} (P : A → Type 0) (xs : List (A × B)) → Each (λ x. P x.0) xs → Each P (map (λ (x : A × B). x.0) xs)
+each_first P [] h = tt
+each_first P (x ∷ xs) h = (h.0, each_first P xs h.1)
+
+pub zip_long : {A B : Type 0} (ss : List A) (gs : List B) → length ss ≤ length gs → length (zip ss gs) ≡ length ss
+zip_long [] gs le = refl
+zip_long (s ∷ ss) [] le = absurd (omega (arith, le))
+zip_long (s ∷ ss) (g ∷ gs) le = ap suc (zip_long ss gs (omega (arith, le)))
+
+zip_more : {A B : Type 0} (ss : List A) (gs : List B) (s : A) (g : B) → slice_get gs (length ss) ≡ Some g → zip (ss ++ s ∷ []) gs ≡ zip ss gs ++ (s, g) ∷ []
+zip_more [] [] s g e = cc
+zip_more [] (h ∷ gs) s g e = let f : h ≡ g = cc in (λ i. (s, f i) ∷ [])
+zip_more (t ∷ ss) [] s g e = cc
+zip_more {A} {B} (t ∷ ss) (h ∷ gs) s g e = ap (λ (r : List (A × B)). (t, h) ∷ r) (zip_more ss gs s g e)
+
+pub takes_more : (ss : List ℕ) (gs : List Segment) (s : ℕ) (g : Segment) (a b c : LoadingWorld) → slice_get gs (length ss) ≡ Some g → Takes a (zip ss gs) b → IsFreeSlot b.handles s → c ≡ with_segment b (s, g) → Takes a (zip (ss ++ s ∷ []) gs) c
+takes_more ss gs s g a b c e t free put = subst (λ (xs : List (ℕ × Segment)). Takes a xs c) (sym (zip_more ss gs s g e)) (takes_then (zip ss gs) ((s, g) ∷ []) a b c t (free, put))
+
+-- they go again, and nothing is left
+pub takes_back : (ss : List ℕ) (gs : List Segment) (a b : LoadingWorld) → AreHandles a.handles → length ss ≤ length gs → Takes a (zip ss gs) b → without_objects (λ q. is_member q ss) b ≡ a
+takes_back ss gs a b is le t =
+    ap (without_objects (λ q. is_member q ss)) (takes_fold (zip ss gs) a b t)
+    ∙ taken_back_law a ss (zip ss gs) is
+    (All-from_Each (IsFreeSlot a.handles) ss (subst (Each (IsFreeSlot a.handles)) (firsts ss gs le) (each_first (IsFreeSlot a.handles) (zip ss gs) (slots_free (zip ss gs) a b t))))
+    (All-from_Each (λ (x : ℕ × Segment). is_member x.0 ss ≡ true) (zip ss gs) (Each-from (λ (x : ℕ × Segment). is_member x.0 ss ≡ true) (zip ss gs) (λ x m. true-is_member x.0 ss (zipped ss gs x m))))

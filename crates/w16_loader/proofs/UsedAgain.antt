@@ -1,0 +1,22 @@
+-- One more load of what is there already.
+use Rattle.std.proofs.Common.{◌≡◌, ℕ, Bool, true, false, cond, Option, Some, None, refl, ap}
+use Rattle.std.specs.Prelude.{nat_lt}
+use Rattle.w16_loading.specs.declared.TheConstants.{MOST_USES}
+use Rattle.w16_loading.specs.Modules.{LoadingWorld, Module, Named, module_in}
+use Rattle.w16_loading.specs.Modules.Named.{Loaded, BuiltIn}
+use Rattle.w16_loading.specs.Load.{Answer, after_use, used_again}
+use Rattle.w16_loading.specs.Load.Answer.{Says}
+use Rattle.w16_loader.specs.Loading.{is_application}
+
+module _ (old : LoadingWorld) (handle : ℕ) where
+  -- an application isn't loaded twice by LoadModule
+  pub twice : (p : Option Named) → is_application (module_in p) ≡ true → used_again true old handle p ≡ (Says 16, old)
+  twice None e = cc
+  twice (Some (Loaded m)) e = ap (λ b. cond {A = Answer × LoadingWorld} b (Says 16, old) (cond (nat_lt m.uses MOST_USES) (Says handle, after_use old handle m) (Says 0, old))) e
+  twice (Some (BuiltIn name)) e = cc
+
+  -- all else is as by LoadLibrary
+  pub once : (p : Option Named) → is_application (module_in p) ≡ false → used_again true old handle p ≡ used_again false old handle p
+  once None e = refl
+  once (Some (Loaded m)) e = ap (λ b. cond {A = Answer × LoadingWorld} b (Says 16, old) (cond (nat_lt m.uses MOST_USES) (Says handle, after_use old handle m) (Says 0, old))) e
+  once (Some (BuiltIn name)) e = refl

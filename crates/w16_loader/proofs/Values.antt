@@ -1,0 +1,226 @@
+-- The values of relocation records, and what a file says of them.
+use Rattle.std.proofs.Common.{◌≡◌, ℕ, zero, suc, ◌+◌, ◌-◌, ◌<◌, ◌≤◌, Bool, true, false, ◌&&◌, List, [], ◌∷◌, ◌++◌, length, take, drop, get_or, map, Option, Some, None, option_map, slice_get, slice_index, Result, Ok, Err, refl, sym, ap, ◌∙◌, subst, arith, add-one}
+use Rattle.std.specs.Prelude.{All, MatchResult, is_ok, nat_lt, unwrap_or}
+use Rattle.std.specs.List.{list_all}
+use Rattle.std.proofs.lemmas.Bool.{and_parts, ltb-true}
+use Rattle.std.proofs.lemmas.List.{length-map, length-take, length-drop, map_push, map_more}
+use Rattle.std.proofs.lemmas.List.Elements.{All-nil, All-cons}
+use Rattle.w16_store.specs.declared.store.StoreFault.TheVariants as stores
+use Rattle.w16_store.specs.Files.{file_of}
+use Rattle.w16_ne.specs.declared.fault.NeFault.{NeFault}
+use Rattle.w16_ne.specs.declared.fault.NeFault.TheVariants as ne_faults
+use Rattle.w16_ne.specs.declared.segment_table.Segment.{Segment}
+use Rattle.w16_ne.specs.Reading.{Refuses}
+use Rattle.w16_ne.specs.References.{text_at}
+use Rattle.w16_ne.specs.Texts.{text_in}
+use Rattle.w16_ne.specs.Modules.{Tables, tables_at, imported_place}
+use Rattle.w16_ne.proofs.ReferencesFormat.{text_read}
+use Rattle.w16_reloc.specs.declared.fault.RelocFault.{RelocFault}
+use Rattle.w16_reloc.specs.declared.fault.RelocFault.TheVariants as relocs
+use Rattle.w16_reloc.specs.declared.record.Record.{Record}
+use Rattle.w16_reloc.specs.declared.value.Far as words
+use Rattle.w16_reloc.specs.Check.{◌>>=◌, check_from}
+use Rattle.w16_reloc.specs.Records.{Offer, is_named}
+use Rattle.w16_reloc.specs.Segments.{Held, checked, data_of, records_of, offer_of, has_text_at}
+use Rattle.w16_reloc.specs.Segments as segments
+use Rattle.w16_reloc.specs.Sound.{AreRecords}
+use Rattle.w16_reloc.proofs.SoundLemmas.{passed_is_sound}
+use Rattle.w16_loading.specs.Closure.{are_sound}
+use Rattle.w16_loading.specs.File as loading
+use Rattle.w16_loading.specs.File.{Far, ModuleFile, SegmentData, Target, targets_of}
+use Rattle.w16_loading.specs.Modules.{Lookup, Module, value_of}
+use Rattle.w16_format.specs.Data.{data_in, target_of, targets_in, far_of}
+use Rattle.w16_format.specs.Ne.{module_file}
+use Rattle.w16_format.specs.Tables.{segment_in, tables_in}
+use Rattle.w16_format.proofs.Fetched.{sound_law}
+use Rattle.w16_format.proofs.Files.{read_back, tables_apart}
+use Rattle.w16_loader.proofs.Files.{there}
+use Rattle.w16_loader.specs.declared.fault.ValueFault.{ValueFault}
+use Rattle.w16_loader.specs.declared.fault.ValueFault.TheVariants.{Device, Damaged, OutOfMemory}
+use Rattle.w16_loader.specs.Closing.{Files}
+use Rattle.w16_loader.specs.Binding.{AreValuesOf, IsFailure, IsSaid, IsStoredAs, fault_of_check, fault_of_name, values_for}
+
+-- Faults.
+
+-- a failure in a call is one since any time before it
+pub failure_since : (start before after : ℕ) (fault : ValueFault) → start ≤ before → IsFailure before after fault → IsFailure start after fault
+failure_since start before after Device le more = omega arith
+failure_since start before after Damaged le h = h
+failure_since start before after OutOfMemory le h = tt
+
+pub answer_since : {X : Type 0} (IsRight : X → Type 0) (start before after : ℕ) (r : Result X ValueFault) → start ≤ before → MatchResult r IsRight (IsFailure before after) → MatchResult r IsRight (IsFailure start after)
+answer_since IsRight start before after (Ok x) le h = h
+answer_since IsRight start before after (Err e) le h = failure_since start before after e le h
+
+-- a name that is there isn't refused but by the device, or for want of memory
+pub name_failed : (file : List ℕ) (before after : ℕ) (text : List ℕ) (e : NeFault) → Refuses (Some file) before after e (Ok text) → IsFailure before after (fault_of_name e)
+name_failed file before after text ne_faults.OutOfMemory h = tt
+name_failed file before after text (ne_faults.Store stores.Device) h = h
+name_failed file before after text (ne_faults.Store stores.Missing) h = cc
+name_failed file before after text (ne_faults.Store stores.Short) h = absurd h
+name_failed file before after text ne_faults.NotMz h = cc
+name_failed file before after text ne_faults.NotNe h = cc
+name_failed file before after text (ne_faults.Target system) h = cc
+name_failed file before after text ne_faults.Unsupported h = cc
+name_failed file before after text ne_faults.Truncated h = cc
+name_failed file before after text ne_faults.BadTable h = cc
+
+-- neither is a segment that passes its check
+pub check_failed : (before after : ℕ) (held : Held) (e : RelocFault) → segments.Refuses before after e (Ok held) → IsFailure before after (fault_of_check e)
+check_failed before after held relocs.BadRecord h = cc
+check_failed before after held relocs.SiteOutside h = cc
+check_failed before after held relocs.Overlap h = cc
+check_failed before after held (relocs.Store stores.Device) h = h
+check_failed before after held (relocs.Store stores.Missing) h = absurd h
+check_failed before after held (relocs.Store stores.Short) h = absurd h
+
+-- Names.
+
+pub text_there : (file : List ℕ) (at : ℕ) → has_text_at file at ≡ true → text_at ne_faults.Truncated (Some file) at ≡ Ok (text_in file at)
+text_there file at has =
+    let parts = and_parts (nat_lt at (length file)) (nat_lt (at + slice_index file at) (length file)) has in
+    let inside : at + slice_index file at < length file = ltb-true _ _ parts.1 in
+    let long : length (text_in file at) ≡ slice_index file at =
+    grind (arith, length-take (slice_index file at) (drop (at + 1) file), length-drop (at + 1) file, inside) in
+    text_read ne_faults.Truncated file at (text_in file at) (record {
+      inside = omega (arith, long, inside);
+      len = sym long;
+      bytes = ap (λ n. take n (drop (at + 1) file)) long;
+    })
+
+same_text : (x y : List ℕ) → ◌≡◌ {A = Result (List ℕ) NeFault} (Ok x) (Ok y) → x ≡ y
+same_text x y h = cc
+
+-- The file of a module by its name, and with the tables that the module keeps.
+module _ (files : Files) (m : Module) (file : List ℕ) (t : Tables) (is : IsStoredAs files m file t) (name : List ℕ) (named : name ≡ m.file) (u : Tables) (kept : tables_in u ≡ m.tables) where
+  pub stored_there : file_of files name ≡ Some file
+  stored_there = ap (file_of files) named ∙ is.stored
+
+  same_tables : u ≡ t
+  same_tables = tables_apart u t (kept ∙ sym is.tables)
+
+  module _ (offset : ℕ) (has : has_text_at file (imported_place t + offset) ≡ true) where
+    name_at : text_at ne_faults.Truncated (Some file) (imported_place u + offset) ≡ Ok (text_in file (imported_place t + offset))
+    name_at = ap (λ (x : Tables). text_at ne_faults.Truncated (Some file) (imported_place x + offset)) same_tables ∙ text_there file (imported_place t + offset) has
+
+    pub name_read : (text : List ℕ) → text_at ne_faults.Truncated (file_of files name) (imported_place u + offset) ≡ Ok text → text ≡ text_in file (imported_place t + offset)
+    name_read text h = same_text text (text_in file (imported_place t + offset)) (sym h ∙ ap (λ p. text_at ne_faults.Truncated p (imported_place u + offset)) stored_there ∙ name_at)
+
+    pub name_refused : (before after : ℕ) (e : NeFault) → Refuses (file_of files name) before after e (text_at ne_faults.Truncated (file_of files name) (imported_place u + offset)) → IsFailure before after (fault_of_name e)
+    name_refused before after e h = name_failed file before after (text_in file (imported_place t + offset)) e
+        (subst (λ r. Refuses (Some file) before after e r) name_at (subst (λ p. Refuses p before after e (text_at ne_faults.Truncated p (imported_place u + offset))) stored_there h))
+
+-- the names of all records of a segment that passes its check are there
+held_by : (file : List ℕ) (s : Segment) (r : Result (List Record) RelocFault) (held : Held) → (r >>= λ records. Ok (record { bytes = data_of file s; records = records })) ≡ Ok held → r ≡ Ok held.records
+held_by file s (Ok records) held h = let same : ◌≡◌ {A = Held} (record { bytes = data_of file s; records = records }) held = cc in ap (λ (x : Held). Ok x.records) same
+held_by file s (Err e) held h = cc
+
+all_formed : (offer : Offer) (raw : List ℕ) (i : ℕ) (records : List Record) → AreRecords offer raw i records → All (λ r. is_named offer r ≡ true) records
+all_formed offer raw i [] are = All-nil (λ r. is_named offer r ≡ true)
+all_formed offer raw i (r ∷ records) are = All-cons (λ r. is_named offer r ≡ true) r records are.0.1 (all_formed offer raw (i + 1) records are.1)
+
+pub all_named : (file : List ℕ) (t : Tables) (s : Segment) (held : Held) → checked file t s ≡ Ok held → All (λ r. is_named (offer_of file t) r ≡ true) held.records
+unfolding checked
+all_named file t s held h =
+    let records = held_by file s (check_from (offer_of file t) (data_of file s) (records_of file s) s.records 0 []) held h in
+    all_formed (offer_of file t) (records_of file s) 0 held.records (passed_is_sound (offer_of file t) (data_of file s) (records_of file s) s.records held.records records).formed
+
+-- Values, one more.
+
+module _ (named : Lookup) (m : Module) where
+  pub value_more : (targets : List Target) (target : Target) (fars : List words.Far) (far : words.Far) → far_of far ≡ value_of named m target → AreValuesOf named m targets fars
+      → AreValuesOf named m (targets ++ target ∷ []) (fars ++ far ∷ [])
+  value_more targets target fars far one are =
+      map_push far_of fars far ∙ (λ i. are i ++ one i ∷ []) ∙ sym (map_push (value_of named m) targets target)
+
+  -- of the first records those of one more
+  pub record_more : (file : List ℕ) (t : Tables) (records : List Record) (place : ℕ) (r d : Record) (fars : List words.Far) (far : words.Far) → place < length records → r ≡ get_or records place d
+      → far_of far ≡ value_of named m (target_of file t r) → AreValuesOf named m (map (target_of file t) (take place records)) fars
+      → AreValuesOf named m (map (target_of file t) (take (place + 1) records)) (fars ++ far ∷ [])
+  record_more file t records place r d fars far lt at one are =
+      value_more (map (target_of file t) (take place records)) (target_of file t r) fars far one are
+      ∙ ap (map (value_of named m)) ((λ i. map (target_of file t) (take place records) ++ target_of file t (at i) ∷ []) ∙ sym (map_more (target_of file t) records place d lt))
+
+  module _ {V : Type 0} (view : V → List Far) where
+    pub segment_more : (targets : List (List Target)) (ts : List Target) (vs : List V) (v : V) → view v ≡ map (value_of named m) ts → map view vs ≡ values_for named m targets
+        → map view (vs ++ v ∷ []) ≡ values_for named m (targets ++ ts ∷ [])
+    segment_more targets ts vs v one are =
+        map_push view vs v ∙ (λ i. are i ++ one i ∷ []) ∙ sym (map_push (λ ts. map (value_of named m) ts) targets ts)
+
+-- a front of one more
+front_by : {X Y : Type 0} (f : X → Y) (x : X) (xs : List X) (place : ℕ) → slice_get xs place ≡ Some x → take (suc place) (map f xs) ≡ take place (map f xs) ++ f x ∷ []
+front_by f x [] place at = cc
+front_by f x (y ∷ ys) zero at = let same : y ≡ x = cc in ap (λ z. f z ∷ []) same
+front_by f x (y ∷ ys) (suc place) at = ap (λ zs. f y ∷ zs) (front_by f x ys place at)
+
+pub front_more : {X Y : Type 0} (f : X → Y) (xs : List X) (place : ℕ) (x : X) → slice_get xs place ≡ Some x → take (place + 1) (map f xs) ≡ take place (map f xs) ++ f x ∷ []
+front_more f xs place x at = ap (λ n. take n (map f xs)) (add-one place) ∙ front_by f x xs place at
+
+-- Files.
+
+one_of_all : {X : Type 0} (p : X → Bool) (xs : List X) (k : ℕ) (x : X) → list_all p xs ≡ true → slice_get xs k ≡ Some x → p x ≡ true
+one_of_all p [] k x all at = cc
+one_of_all p (y ∷ ys) zero x all at = let same : y ≡ x = cc in ap p (sym same) ∙ (and_parts (p y) (list_all p ys) all).0
+one_of_all p (y ∷ ys) (suc k) x all at = one_of_all p ys k x (and_parts (p y) (list_all p ys) all).1 at
+
+ok_is : (r : Result Held RelocFault) → is_ok r ≡ true → (held : Held) × (r ≡ Ok held)
+ok_is (Ok held) e = (held, refl)
+ok_is (Err fault) e = cc
+
+mapped : {X Y : Type 0} (f : X → Y) (xs : List X) (k : ℕ) (y : Y) → slice_get (map f xs) k ≡ Some y → (x : X) × (slice_get xs k ≡ Some x) × (y ≡ f x)
+mapped f [] k y at = cc
+mapped f (x ∷ xs) zero y at = (x, refl, (cc))
+mapped f (x ∷ xs) (suc k) y at = mapped f xs k y at
+
+-- What the file of a module says that has these tables.
+module _ (files : Files) (m : Module) (read : ModuleFile) (is : IsSaid files m read) (t : Tables) (same : tables_in t ≡ m.tables) where
+  abbrev back : (u : Tables) × (tables_at (Some is.file) ≡ Ok u) × (read ≡ module_file is.file u)
+  back = (read_back is.file read is.accepted).1
+
+  one : back.0 ≡ t
+  one = tables_apart back.0 t (ap (λ (r : ModuleFile). r.tables) (sym back.2) ∙ is.tables ∙ sym same)
+
+  pub stored_as : IsStoredAs files m is.file t
+  stored_as = record { stored = is.stored; read = back.1 ∙ ap Ok one; tables = same }
+
+  read_is : read ≡ module_file is.file t
+  read_is = back.2 ∙ ap (module_file is.file) one
+
+  many : length read.segments ≡ length t.segments
+  many = ap (λ (r : ModuleFile). length r.segments) read_is ∙ length-map t.segments (data_in is.file t)
+
+  all_pass : list_all (λ s. is_ok (checked is.file t s)) t.segments ≡ true
+  all_pass = sym (sound_law is.file t) ∙ ap are_sound (sym read_is) ∙ is.sound
+
+  module _ (k : ℕ) (d : SegmentData) (at : slice_get read.segments k ≡ Some d) where
+    pub found : (s : Segment) × (slice_get t.segments k ≡ Some s) × (d ≡ data_in is.file t s)
+    found = mapped (data_in is.file t) t.segments k d (ap (λ (r : ModuleFile). slice_get r.segments k) (sym read_is) ∙ at)
+
+    passed : (held : Held) × (checked is.file t found.0 ≡ Ok held)
+    passed = ok_is (checked is.file t found.0) (one_of_all (λ s. is_ok (checked is.file t s)) t.segments k found.0 all_pass found.1)
+
+    pub targets_are : (held : Held) → checked is.file t found.0 ≡ Ok held → targets_of d ≡ map (target_of is.file t) held.records
+    targets_are held e = ap targets_of found.2 ∙ ap (λ r. unwrap_or (targets_in is.file t r) []) e
+
+    pub segment_refused : (before after : ℕ) (e : RelocFault) → segments.Refuses before after e (checked is.file t found.0) → IsFailure before after (fault_of_check e)
+    segment_refused before after e h = check_failed before after passed.0 e (subst (λ r. segments.Refuses before after e r) passed.1 h)
+
+-- as many segments as the module has
+many_said : (files : Files) (m : Module) (read : ModuleFile) → IsSaid files m read → length read.segments ≡ length m.tables.segments
+many_said files m read is =
+    let back = (read_back is.file read is.accepted).1 in
+    let tables : read.tables ≡ tables_in back.0 = ap (λ (r : ModuleFile). r.tables) back.2 in
+    ap (λ (r : ModuleFile). length r.segments) back.2 ∙ length-map back.0.segments (data_in is.file back.0)
+    ∙ sym (length-map back.0.segments segment_in) ∙ ap (λ (u : loading.Tables). length u.segments) (sym tables ∙ is.tables)
+
+-- and as the tables that it keeps
+pub count_said : (files : Files) (m : Module) (read : ModuleFile) → IsSaid files m read → (t : Tables) → tables_in t ≡ m.tables → (count : ℕ) → count ≡ length t.segments → count ≡ length read.segments
+count_said files m read is t kept count counted =
+    counted ∙ sym (length-map t.segments segment_in) ∙ ap (λ (u : loading.Tables). length u.segments) kept ∙ sym (many_said files m read is)
+
+-- what is at a place has the number after it
+pub numbered_there : {X : Type 0} (xs : List X) (place : ℕ) → place < length xs → (x : X) × (slice_get xs place ≡ Some x) × (slice_get xs (place + 1 - 1) ≡ Some x)
+numbered_there xs place lt =
+    let x = there xs place lt in
+    let same : place + 1 - 1 ≡ place = omega arith in
+    (x.0, x.1, ap (slice_get xs) same ∙ x.1)

@@ -1,0 +1,73 @@
+-- One module more is bound.
+use Rattle.std.proofs.Common.{◌<◌, ◌≤◌, [], drop, get_or, length, map, sym, ap, ◌∙◌, subst, arith, IsSomeAnd}
+use Rattle.std.specs.FinMap as finmap
+use Rattle.std.proofs.lemmas.List.{drop_more, drop_all}
+use Rattle.w16_loading.specs.File.{targets_of}
+use Rattle.w16_loading.specs.Law.{without_values}
+use Rattle.w16_loading.specs.Modules.{Modules, module_at}
+use Rattle.w16_loader.specs.Binding.{AreTargets, IsSaid, all_bound}
+use Rattle.w16_loader.proofs.Values.{failure_since}
+use Rattle.w16_loader.proofs.Bindings.{any_next, bound_next, none_left, others_next, read_here, said_here, still_alike, targets_in_all}
+use Rattle.w16_loader.proofs.binding.bind_modules.Goals as goal
+
+pub loop-place-preserved : goal.loop-place-preserved
+loop-place-preserved g c =
+    let old = c.args.registry.now in
+    let now = c.loop-place.registry in
+    let next = c.bind_module.new.registry in
+    let handles = c.args.handles.now in
+    let place = c.loop-place.place in
+    let handle = get_or handles place 0 in
+    let files = g.S.Store.files c.args.store.now in
+    let before = c.loop-place.invariant in
+    let lt : place < length handles = omega arith in
+    let here = drop_more handles place 0 lt in
+    let ts = c.in-Ok.ensures.any in
+    record {
+      files = c.in-Ok.ensures.files ∙ before.files;
+      failures = omega (arith, c.in-Ok.ensures.failures, before.failures);
+      values = still_alike old now next handles place handle here before.values ts.0 ts.2;
+      others = λ q none. others_next old now next handles place handle here before.values ts.0 ts.2 q none (before.others q none);
+      any = any_next old now next handles place handle here before.values ts.0 ts.1 ts.2 before.any;
+      bound = λ reads honest said.
+          let read = read_here old now next handles place handle here before.values files reads said lt in
+          let is = said_here old now next handles place handle here before.values files reads said lt in
+          let still = subst (λ fs. IsSomeAnd (module_at now handle) (λ m. IsSaid fs m read)) (sym before.files) is in
+          bound_next old now next handles place handle here before.values files reads said lt (all_bound (finmap.get old) old handles (targets_in_all reads)) (c.in-Ok.ensures.exact read honest still) (before.bound reads honest said);
+    }
+
+pub returns-in-Err-clause-values : goal.returns-in-Err-clause-values
+returns-in-Err-clause-values g c = λ q. ap (λ (modules : Modules). without_values (finmap.get modules q)) c.in-Err.ensures.err ∙ c.loop-place.invariant.values q
+
+pub returns-in-Err-clause-others : goal.returns-in-Err-clause-others
+returns-in-Err-clause-others g c = λ q none. ap (λ (modules : Modules). finmap.get modules q) c.in-Err.ensures.err ∙ c.loop-place.invariant.others q none
+
+pub returns-in-Err-clause-faults : goal.returns-in-Err-clause-faults
+returns-in-Err-clause-faults g c = λ reads honest said.
+    let old = c.args.registry.now in
+    let now = c.loop-place.registry in
+    let handles = c.args.handles.now in
+    let place = c.loop-place.place in
+    let handle = get_or handles place 0 in
+    let files = g.S.Store.files c.args.store.now in
+    let before = c.loop-place.invariant in
+    let lt : place < length handles = omega arith in
+    let here = drop_more handles place 0 lt in
+    let read = read_here old now now handles place handle here before.values files reads said lt in
+    let is = said_here old now now handles place handle here before.values files reads said lt in
+    let still = subst (λ fs. IsSomeAnd (module_at now handle) (λ m. IsSaid fs m read)) (sym before.files) is in
+    c.fault_at.ensures.failure _ _ (failure_since _ _ _ c.in-Err.fault before.failures (c.in-Err.ensures.exact read honest still))
+
+pub returns-clause-any : goal.returns-clause-any
+returns-clause-any g c =
+    let old = c.args.registry.now in
+    let past : length c.args.handles.now ≤ c.loop-place.place = omega arith in
+    let none = drop_all c.loop-place.place c.args.handles.now past in
+    let all = c.loop-place.invariant.any [] (subst (λ hs. AreTargets old hs []) (sym none) tt) in
+    (all.0, all.1, sym (all.2 ∙ none_left (finmap.get old) c.loop-place.registry (drop c.loop-place.place c.args.handles.now) [] none))
+
+pub returns-clause-bound : goal.returns-clause-bound
+returns-clause-bound g c = λ reads honest said.
+    let past : length c.args.handles.now ≤ c.loop-place.place = omega arith in
+    sym (none_left (finmap.get c.args.registry.now) c.loop-place.registry (drop c.loop-place.place c.args.handles.now) (targets_in_all (drop c.loop-place.place reads)) (drop_all c.loop-place.place c.args.handles.now past))
+    ∙ c.loop-place.invariant.bound reads honest said

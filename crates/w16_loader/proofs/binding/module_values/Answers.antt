@@ -1,0 +1,50 @@
+-- One segment more has its values.
+use Rattle.std.proofs.Common.{◌+◌, ◌++◌, ◌∷◌, [], ◌≤◌, length, map, take, sym, ap, ◌∙◌, subst, arith}
+use Rattle.std.specs.FinMap as finmap
+use Rattle.std.proofs.lemmas.List.{length-map, length_push, take_all}
+use Rattle.w16_loading.specs.File.{targets_of}
+use Rattle.w16_format.specs.Data.{far_of}
+use Rattle.w16_loader.specs.Binding.{IsSaid, values_for}
+use Rattle.w16_loader.proofs.Values.{count_said, failure_since, front_more, numbered_there, segment_more}
+use Rattle.w16_loader.proofs.binding.module_values.Goals as goal
+
+pub loop-place-preserved : goal.loop-place-preserved
+loop-place-preserved g c =
+    let named = finmap.get c.args.registry.now in
+    let m = c.args.loaded.now in
+    let place = c.loop-place.place in
+    let before = c.loop-place.invariant in
+    let one = c.in-Ok-segment_values.ensures.any in
+    let segment = c.in-Ok-segment_values.segment in
+    record {
+      files = c.in-Ok-segment_values.ensures.files ∙ before.files;
+      failures = omega (arith, c.in-Ok-segment_values.ensures.failures, before.failures);
+      many = c.push_reserved.ensures.len ∙ ap (λ n. n + 1) before.many;
+      room = c.push_reserved.ensures.capacity ∙ before.room;
+      any = (
+        before.any.0 ++ one.0 ∷ [],
+        length_push before.any.0 one.0 ∙ ap (λ n. n + 1) before.any.1,
+        ap (map (λ v. map far_of v.items)) c.push_reserved.ensures.items ∙ segment_more named m (λ v. map far_of v.items) before.any.0 one.0 c.loop-place.values.items segment one.1 before.any.2,
+      );
+      exact = λ read honest is.
+          let still = subst (λ files. IsSaid files m read) (sym before.files) is in
+          let many = count_said (g.S.Store.files c.args.store.now) m read is c.module.result.now c.module.ensures c.segment_count-count.result c.segment_count-count.ensures.count in
+          let s = numbered_there read.segments place (omega (arith, many, c.loop-place-test.true)) in
+          ap (map (λ v. map far_of v.items)) c.push_reserved.ensures.items
+          ∙ segment_more named m (λ v. map far_of v.items) (take place (map targets_of read.segments)) (targets_of s.0) c.loop-place.values.items segment
+          (c.in-Ok-segment_values.ensures.exact read s.0 honest still s.2) (before.exact read honest is)
+          ∙ ap (values_for named m) (sym (front_more targets_of read.segments place s.0 s.1));
+    }
+
+pub returns-in-Err-clause-exact : goal.returns-in-Err-clause-exact
+returns-in-Err-clause-exact g c = λ read honest is.
+    let still = subst (λ files. IsSaid files c.args.loaded.now read) (sym c.loop-place.invariant.files) is in
+    let many = count_said (g.S.Store.files c.args.store.now) c.args.loaded.now read is c.module.result.now c.module.ensures c.segment_count-count.result c.segment_count-count.ensures.count in
+    let s = numbered_there read.segments c.loop-place.place (omega (arith, many, c.loop-place-test.true)) in
+    failure_since _ _ _ c.in-Err.fault c.loop-place.invariant.failures (c.in-Err.ensures.exact read s.0 honest still s.2)
+
+pub returns-clause-exact : goal.returns-clause-exact
+returns-clause-exact g c = λ read honest is.
+    let many = count_said (g.S.Store.files c.args.store.now) c.args.loaded.now read is c.module.result.now c.module.ensures c.segment_count-count.result c.segment_count-count.ensures.count in
+    let past : length (map targets_of read.segments) ≤ c.loop-place.place = omega (arith, many, length-map read.segments targets_of, c.loop-place-test.false) in
+    c.loop-place.invariant.exact read honest is ∙ ap (values_for (finmap.get c.args.registry.now) c.args.loaded.now) (take_all c.loop-place.place (map targets_of read.segments) past)

@@ -1,0 +1,73 @@
+-- The object of a fixed or of a preload segment is fetched; any other is left.
+use Rattle.std.proofs.Common.{◌≤◌, true, false, length, sym, subst, arith}
+use Rattle.w16_loading.specs.AnyStore.{GivesAny}
+use Rattle.w16_loading.specs.Fill.{FillsOne, is_of_device}
+use Rattle.w16_loader.specs.Fetching.{IsSoundIn}
+use Rattle.w16_loader.proofs.Unfilled.{keeps, gives_any, unfilled, filled, part_long, many_segments, is_filled_by, is_named, no_slot, other_slot, sound, stored, gives_image}
+use Rattle.w16_loader.proofs.filling.fill_segment.Goals as goal
+
+pub segment-segment-requires-clause-last : goal.segment-segment-requires-clause-last
+segment-segment-requires-clause-last g c = omega (arith, c.requires.last, many_segments c.source-source.result.module.now c.args.loaded.now c.source-source.ensures.tables)
+
+pub fetch-requires-clause-last : goal.fetch-requires-clause-last
+fetch-requires-clause-last g c = omega (arith, c.requires.last, c.source-source.ensures.number, many_segments c.source-source.result.module.now c.args.loaded.now c.source-source.ensures.tables)
+
+-- It is neither.
+
+pub returns-then-not-is_filled-clause-any : goal.returns-then-not-is_filled-clause-any
+returns-then-not-is_filled-clause-any g c = λ read place part is_read is.
+    unfilled c.args.loaded.now read c.args.number part place GivesAny c.args.global.now.handles.heap
+    (is_filled_by c.args.loaded.now read c.args.number part c.source-source.result.module.now c.segment-segment.result c.source-source.ensures.tables c.segment-segment.ensures.found c.is_filled.result false c.is_filled.ensures c.if-not-is_filled.true)
+
+pub returns-then-not-is_filled-clause-filled : goal.returns-then-not-is_filled-clause-filled
+returns-then-not-is_filled-clause-filled g c = λ read place part honest said its is.
+    unfilled c.args.loaded.now read c.args.number part place (FillsOne is_of_device) c.args.global.now.handles.heap
+    (is_filled_by c.args.loaded.now read c.args.number part c.source-source.result.module.now c.segment-segment.result c.source-source.ensures.tables c.segment-segment.ensures.found c.is_filled.result false c.is_filled.ensures c.if-not-is_filled.true)
+
+pub returns-then-not-is_filled-clause-failed : goal.returns-then-not-is_filled-clause-failed
+returns-then-not-is_filled-clause-failed g c = λ read honest said its e. cc
+
+-- There is no slot.
+
+pub returns-in-None-clause-any : goal.returns-in-None-clause-any
+returns-in-None-clause-any g c = λ read place part is_read is. absurd (no_slot c.args.loaded.now read c.args.number part c.slots.result.now c.slots.ensures.slots c.in-None.ensures.slot)
+
+pub returns-in-None-clause-filled : goal.returns-in-None-clause-filled
+returns-in-None-clause-filled g c = λ read place part honest said its is. absurd (no_slot c.args.loaded.now read c.args.number part c.slots.result.now c.slots.ensures.slots c.in-None.ensures.slot)
+
+pub returns-in-None-clause-failed : goal.returns-in-None-clause-failed
+returns-in-None-clause-failed g c = λ read honest said its e. cc
+
+-- It is fetched.
+
+pub returns-in-Some-clause-kept : goal.returns-in-Some-clause-kept
+returns-in-Some-clause-kept g c = λ slot s out is.
+    keeps c.args.global.now c.fetch.new.global c.handle_of-handle.result c.fetch.result c.fetch.ensures.rest c.fetch.ensures.any c.reveal_handles.ensures.heap c.fetch.ensures.refused c.fetch.ensures.named slot s
+    (other_slot c.args.loaded.now c.args.number c.slots.result.now c.slots.ensures.slots c.in-Some.slot c.in-Some.ensures.slot c.segment_kind.result c.handle_of-handle.result c.handle_of-handle.ensures slot out) is
+
+pub returns-in-Some-clause-any : goal.returns-in-Some-clause-any
+returns-in-Some-clause-any g c = λ read place part is_read is.
+    filled c.args.loaded.now read c.args.number part place GivesAny c.args.global.now.handles.heap c.fetch.new.global.handles.heap c.fetch.result
+    (is_filled_by c.args.loaded.now read c.args.number part c.source-source.result.module.now c.segment-segment.result c.source-source.ensures.tables c.segment-segment.ensures.found c.is_filled.result true c.is_filled.ensures c.if-not-is_filled.false)
+    (gives_any c.args.global.now c.fetch.new.global c.handle_of-handle.result c.fetch.result c.fetch.ensures.rest c.fetch.ensures.any part.slot (part.its_data.image part.its_values) part.segment
+    (is_named c.args.loaded.now read c.args.number part c.source-source.result.module.now c.segment-segment.result c.source-source.ensures.tables c.segment-segment.ensures.found c.slots.result.now c.slots.ensures.slots c.in-Some.slot c.in-Some.ensures.slot
+    c.segment_kind.result c.segment_kind.ensures c.handle_of-handle.result c.handle_of-handle.ensures)
+    is (part_long c.args.loaded.now read c.args.number part is_read))
+
+pub returns-in-Some-clause-filled : goal.returns-in-Some-clause-filled
+returns-in-Some-clause-filled g c = λ read place part honest said its is.
+    let last : c.args.number ≤ length c.source-source.result.module.now.segments = omega (arith, c.requires.last, many_segments c.source-source.result.module.now c.args.loaded.now c.source-source.ensures.tables) in
+    filled c.args.loaded.now read c.args.number part place (FillsOne is_of_device) c.args.global.now.handles.heap c.fetch.new.global.handles.heap c.fetch.result
+    (is_filled_by c.args.loaded.now read c.args.number part c.source-source.result.module.now c.segment-segment.result c.source-source.ensures.tables c.segment-segment.ensures.found c.is_filled.result true c.is_filled.ensures c.if-not-is_filled.false)
+    (gives_image (g.S.Store.files c.args.store.now) c.args.loaded.now read said its c.source-source.result.module.now c.source-source.ensures.tables c.args.number c.requires.first last c.source-source.result.file.now c.source-source.result.values.now c.source-source.ensures.source
+    part c.args.global.now.handles c.fetch.new.global.handles.heap c.handle_of-handle.result c.fetch.result
+    (is_named c.args.loaded.now read c.args.number part c.source-source.result.module.now c.segment-segment.result c.source-source.ensures.tables c.segment-segment.ensures.found c.slots.result.now c.slots.ensures.slots c.in-Some.slot c.in-Some.ensures.slot
+    c.segment_kind.result c.segment_kind.ensures c.handle_of-handle.result c.handle_of-handle.ensures)
+    is c.source-source.result.number c.source-source.ensures.number (λ file has in_file lacks sized. c.fetch.ensures.filled file honest has in_file lacks sized))
+
+pub returns-in-Some-clause-failed : goal.returns-in-Some-clause-failed
+returns-in-Some-clause-failed g c = λ read honest said its e.
+    let last : c.args.number ≤ length c.source-source.result.module.now.segments = omega (arith, c.requires.last, many_segments c.source-source.result.module.now c.args.loaded.now c.source-source.ensures.tables) in
+    let is = sound (g.S.Store.files c.args.store.now) c.args.loaded.now read said its c.source-source.result.module.now c.source-source.ensures.tables c.args.number c.requires.first last c.source-source.result.file.now c.source-source.result.values.now c.source-source.ensures.source in
+    let has = stored (g.S.Store.files c.args.store.now) c.args.loaded.now read said its c.source-source.result.module.now c.source-source.ensures.tables c.args.number c.requires.first last c.source-source.result.file.now c.source-source.result.values.now c.source-source.ensures.source in
+    c.fetch.ensures.failed said.file honest has (subst (λ n. IsSoundIn said.file c.source-source.result.module.now n c.source-source.result.values.now) (sym c.source-source.ensures.number) is) e

@@ -1,0 +1,22 @@
+-- The objects of the segments so far got what they get, and those of the others have no bytes still.
+use Rattle.std.proofs.Common.{◌≡◌, ◌≢◌, ℕ, ◌<◌, ◌≤◌, Some, slice_get}
+use Rattle.w16_loading.specs.AnyStore.{GivesAny}
+use Rattle.w16_loading.specs.File.{ModuleFile, Segment}
+use Rattle.w16_loading.specs.Fill.{FillsOne, is_of_device}
+use Rattle.w16_loading.specs.Law.{IsItsFiles}
+use Rattle.w16_loader.specs.Binding.{IsSaid}
+use Rattle.w16_loader.specs.Filling.{HasUnfilled, IsReadAs, IsUnfilled, fills_in}
+use Rattle.w16_loader.proofs.Fillings.{Goes, fills_behind}
+use Rattle.w16_loader.proofs.filling.fill_segments.Given as goal
+
+abbrev pub invariant-loop-done : goal.invariant-loop-done
+invariant-loop-done g l = record {
+  files : g.S.Store.files l.store ≡ g.S.Store.files l.fn.store;
+  failures : g.S.Store.failures l.fn.store ≤ g.S.Store.failures l.store;
+  rest : l.global.handles ≡ record l.initial.global.handles { heap = l.global.handles.heap };
+  kept : (slot : ℕ) (s : Segment) → ((i : ℕ) → i < l.done → slice_get l.loaded.slots i ≢ Some slot) → IsUnfilled l.initial.global.handles slot s → IsUnfilled l.global.handles slot s;
+  any : (read : ModuleFile) (place : ℕ) → IsReadAs l.loaded read → HasUnfilled l.initial.global.handles l.loaded
+      → Goes GivesAny l.initial.global.handles.heap (fills_in place l.loaded read) l.global.handles.heap (fills_behind place l.loaded read l.done);
+  filled : (read : ModuleFile) (place : ℕ) → g.S.Store.is_honest → IsSaid (g.S.Store.files l.fn.store) l.loaded read → IsReadAs l.loaded read → IsItsFiles l.loaded read → HasUnfilled l.initial.global.handles l.loaded
+      → Goes (FillsOne is_of_device) l.initial.global.handles.heap (fills_in place l.loaded read) l.global.handles.heap (fills_behind place l.loaded read l.done);
+}

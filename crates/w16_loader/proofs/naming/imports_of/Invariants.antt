@@ -1,0 +1,12 @@
+-- Each module has the imports that its references so far mean.
+use Rattle.std.proofs.Common.{◌≡◌, ℕ, ◌<◌, [], map, take, length}
+use Rattle.std.specs.Prelude.{slice_index_or}
+use Rattle.w16_loader.specs.Following.{bound_in}
+use Rattle.w16_loader.specs.Naming.{imports_among}
+use Rattle.w16_loader.proofs.naming.imports_of.Given as goal
+
+abbrev pub invariant-loop-reference : goal.invariant-loop-reference
+invariant-loop-reference g l = record {
+  many : length l.made.items ≡ length l.handles;
+  imports : (place : ℕ) → place < length l.handles → slice_index_or (map (λ v. v.items) l.made.items) place [] ≡ imports_among l.handles (map bound_in (take l.reference-index l.bound)) place;
+}

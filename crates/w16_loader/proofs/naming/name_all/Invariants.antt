@@ -1,0 +1,19 @@
+-- The modules so far have names, and the imports of the others are still in the vector.
+use Rattle.std.proofs.Common.{◌≡◌, ℕ, ◌≤◌, List, [], map, take, length}
+use Rattle.std.specs.Prelude.{slice_index_or}
+use Rattle.std.specs.List.{AllZip}
+use Rattle.w16_loading.specs.Closure as closing
+use Rattle.w16_loading.specs.Modules.{LoadingWorld, with_handles}
+use Rattle.w16_loader.specs.AnyClosing.{IsFoundOf}
+use Rattle.w16_loader.specs.Naming.{GetNames, unbound_by}
+use Rattle.w16_loader.specs.Registry.{in_world}
+use Rattle.w16_loader.proofs.naming.name_all.Given as goal
+
+abbrev pub invariant-loop-place : goal.invariant-loop-place
+invariant-loop-place g l = record {
+  named : (rest : LoadingWorld) (meant : List closing.Found) → AllZip IsFoundOf l.fn.found.items meant → GetNames (in_world (with_handles rest l.fn.global.handles) l.fn.registry)
+      (unbound_by (λ place. slice_index_or (map (λ v. v.items) l.fn.imports.items) place [])) (take (length l.yielded) meant) (take (length l.yielded) l.handles) (in_world (with_handles rest l.global.handles) l.registry);
+  imports : (place : ℕ) → length l.yielded ≤ place → slice_index_or (map (λ v. v.items) l.imports.items) place [] ≡ slice_index_or (map (λ v. v.items) l.fn.imports.items) place [];
+  many : length l.imports.items ≡ length l.fn.imports.items;
+  written : l.global.written ≡ l.fn.global.written;
+}

@@ -1,0 +1,13 @@
+-- The segments so far have objects.
+use Rattle.std.proofs.Common.{◌≡◌, ◌<◌, All, map, zip, take}
+use Rattle.w16_format.specs.Tables.{segment_in}
+use Rattle.w16_loading.specs.Modules.{LoadingWorld, with_handles}
+use Rattle.w16_loader.specs.Naming.{Takes}
+use Rattle.w16_loader.proofs.naming.put_slots.Given as goal
+
+abbrev pub invariant-loop-i : goal.invariant-loop-i
+invariant-loop-i g l = record {
+  taken : (rest : LoadingWorld) → Takes (with_handles rest l.fn.global.handles) (zip (take l.i l.slots) (map segment_in l.module_file.segments)) (with_handles rest l.global.handles);
+  few : All (λ q. q < 8192) (take l.i l.slots);
+  written : l.global.written ≡ l.fn.global.written;
+}

@@ -1,0 +1,109 @@
+-- How the modules of a load get the values of their relocation records, and what their files say.
+use Rattle.std.specs.Prelude.{◌≡◌, ℕ, ◌<◌, true, List, [], ◌∷◌, length, map, Option, Some, None, IfSome, IsSomeAnd, Ok}
+use Rattle.std.specs.List.{AllZip}
+use Rattle.std.specs.FinMap as finmap
+use Rattle.w16_store.specs.declared.store.StoreFault.TheVariants as stores
+use Rattle.w16_store.specs.Files.{file_of}
+use Rattle.w16_ne.specs.declared.fault.NeFault.{NeFault}
+use Rattle.w16_ne.specs.declared.fault.NeFault.TheVariants as ne_faults
+use Rattle.w16_ne.specs.Modules as ne
+use Rattle.w16_ne.specs.Modules.{tables_at}
+use Rattle.w16_reloc.specs.declared.fault.RelocFault.{RelocFault}
+use Rattle.w16_reloc.specs.declared.fault.RelocFault.TheVariants as relocs
+use Rattle.w16_reloc.specs.declared.value.Far as words
+use Rattle.w16_loading.specs.declared.FetchFault.TheVariants.{Store}
+use Rattle.w16_loading.specs.Closure.{are_sound}
+use Rattle.w16_loading.specs.File.{Far, ModuleFile, Target}
+use Rattle.w16_loading.specs.Fill.{is_of_read}
+use Rattle.w16_loading.specs.Modules.{Lookup, Module, Modules, module_at, value_of}
+use Rattle.w16_loading.specs.Modules.Named.{Loaded}
+use Rattle.w16_format.specs.Data.{far_of}
+use Rattle.w16_format.specs.Ne.{ne_format}
+use Rattle.w16_format.specs.Tables.{tables_in}
+use Rattle.w16_loader.specs.Closing.{Files}
+use Rattle.w16_loader.specs.declared.fault.ValueFault.{ValueFault}
+use Rattle.w16_loader.specs.declared.fault.ValueFault.TheVariants.{Device, Damaged, OutOfMemory}
+use Rattle.w16_loader.specs.declared.binding.BindFault.{BindFault}
+use Rattle.w16_loader.specs.declared.binding.BindFault.TheVariants as binds
+
+-- Values.
+
+-- the values of a module's segments for these targets, by what handles name
+abbrev pub values_for : Lookup → Module → List (List Target) → List (List Far)
+values_for named m targets = map (λ ts. map (value_of named m) ts) targets
+
+module _ (named : Lookup) (m : Module) where
+  -- a far pointer is the value of some target, and several are the values of these
+  abbrev pub IsValue : words.Far → Type 0
+  IsValue far = (target : Target) × (far_of far ≡ value_of named m target)
+
+  abbrev pub AreValuesOf : List Target → List words.Far → Type 0
+  AreValuesOf targets fars = map far_of fars ≡ map (value_of named m) targets
+
+-- Modules.
+
+-- the module of a handle with these values; a handle that names none changes nothing
+abbrev pub with_values : Modules → ℕ → List (List Far) → Modules
+with_values modules handle values = elim (module_at modules handle) [ None ↦ modules | Some m ↦ finmap.insert modules handle (Loaded (record m { values = values })) ]
+
+-- one module bound
+abbrev pub bound_as : Lookup → Modules → ℕ → List (List Target) → Modules
+bound_as named modules handle targets = elim (module_at modules handle) [ None ↦ modules | Some m ↦ finmap.insert modules handle (Loaded (record m { values = values_for named m targets })) ]
+
+-- several, one after another
+abbrev pub all_bound : Lookup → Modules → List ℕ → List (List (List Target)) → Modules
+all_bound named modules (h ∷ hs) (ts ∷ more) = all_bound named (bound_as named modules h ts) hs more
+all_bound named modules hs more = modules
+
+-- as many lists of targets as the module of a handle has segments, and so for each handle
+abbrev pub IsForEach : Modules → ℕ → List (List Target) → Type 0
+IsForEach modules handle targets = IfSome (module_at modules handle) (λ m. length targets ≡ length m.tables.segments)
+
+abbrev pub AreTargets : Modules → List ℕ → List (List (List Target)) → Type 0
+AreTargets modules handles targets = AllZip (IsForEach modules) handles targets
+
+-- Files.
+
+-- the module's file is there, with the tables that the module was loaded with
+pub record IsStoredAs (files : Files) (m : Module) (file : List ℕ) (t : ne.Tables) : Type 0 where
+  pub stored : file_of files m.file ≡ Some file
+  pub read : tables_at (Some file) ≡ Ok t
+  pub tables : tables_in t ≡ m.tables
+
+-- What a module's file says: it is there, is accepted with the tables that the module was loaded with, and its relocations are sound.
+pub record IsSaid (files : Files) (m : Module) (read : ModuleFile) : Type 0 where
+  pub file : List ℕ
+  pub stored : file_of files m.file ≡ Some file
+  pub accepted : ne_format file ≡ Ok read
+  pub tables : read.tables ≡ m.tables
+  pub sound : are_sound read ≡ true
+
+abbrev pub AreSaid : Files → Modules → List ℕ → List ModuleFile → Type 0
+AreSaid files modules handles reads = AllZip (λ handle read. IsSomeAnd (module_at modules handle) (λ m. IsSaid files m read)) handles reads
+
+-- Faults.
+
+-- why records have no values, by a fault of their segment's check, and of the read of a name
+abbrev pub fault_of_check : RelocFault → ValueFault
+fault_of_check (relocs.Store stores.Device) = Device
+fault_of_check other = Damaged
+
+abbrev pub fault_of_name : NeFault → ValueFault
+fault_of_name ne_faults.OutOfMemory = OutOfMemory
+fault_of_name (ne_faults.Store stores.Device) = Device
+fault_of_name other = Damaged
+
+-- Over files that still say what they said, the device failed, and then its count of failures rose; or there was no memory, which says nothing.
+abbrev pub IsFailure : ℕ → ℕ → ValueFault → Type 0
+IsFailure before after Device = before < after
+IsFailure before after Damaged = ⊥
+IsFailure before after OutOfMemory = Unit {0}
+
+abbrev pub IsBindFailure : ℕ → ℕ → BindFault → Type 0
+IsBindFailure before after (binds.Failed f) = (f.fault ≡ Store) × (before < after)
+IsBindFailure before after binds.OutOfMemory = Unit {0}
+
+-- over any store, one of so many modules can't be read
+abbrev pub IsUnread : ℕ → BindFault → Type 0
+IsUnread many (binds.Failed f) = (is_of_read f.fault ≡ true) × (f.place < many)
+IsUnread many binds.OutOfMemory = Unit {0}

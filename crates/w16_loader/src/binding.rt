@@ -1,0 +1,292 @@
+//! Binding: all relocation records of the new modules of a load get their values, once.
+ghost use Rattle.std.specs.Prelude.{◌≡◌, ◌<◌, ◌≤◌, ◌+◌, ◌-◌, ℕ, List, [], map, length, true, false, Some, Ok, All, IfOk, IfErr, IsSomeAnd, OnOk, OnErr, MatchResult, slice_get, vec_capacity};
+ghost use Rattle.std.specs.FinMap as finmap;
+ghost use Rattle.w16_model.specs.Discards.{is_member};
+ghost use Rattle.w16_ne.specs.Modules.{Tables, imported_place};
+ghost use Rattle.w16_ne.specs.Texts.{text_in};
+ghost use Rattle.w16_reloc.specs.Records.{has_text, is_named, text_of};
+ghost use Rattle.w16_reloc.specs.Segments.{has_text_at, offer_of};
+ghost use Rattle.w16_loading.specs.File as loading;
+ghost use Rattle.w16_loading.specs.File.{ModuleFile, SegmentData, targets_of};
+ghost use Rattle.w16_loading.specs.File.Target.{ImportName};
+ghost use Rattle.w16_loading.specs.Law.{without_values};
+ghost use Rattle.w16_loading.specs.Modules.{imported, module_at, value_of};
+ghost use Rattle.w16_format.specs.Data.{far_of, target_in, target_of};
+ghost use Rattle.w16_loader.specs.Binding as binding;
+ghost use Rattle.w16_loader.specs.Binding.{IsValue, AreValuesOf, IsForEach, AreTargets, IsStoredAs, IsSaid, AreSaid, IsFailure, IsBindFailure, IsUnread, values_for, bound_as, all_bound};
+
+use crate::entry::{Loaded, NOWHERE};
+use crate::fault::{Failure, ValueFault};
+use crate::registry::Registry;
+use std::alloc::{AllocError, Allocator};
+use w16_loading::FetchFault;
+use w16_ne::{NeFault, imported_name};
+use w16_reloc::{Far, Record, RelocFault, Scratch, Target, check};
+use w16_store::{Store, StoreFault};
+
+/// The most bytes that an imported name has.
+const MOST_NAME: usize = 255;
+
+/// Why the modules of a load aren't bound.
+#[derive(Clone, Copy, Debug, PartialEq, Eq)]
+pub enum BindFault {
+    /// The records of a module can't be read: the device failed, or the file reads otherwise than it did.
+    Failed(Failure),
+    /// There was no memory.
+    OutOfMemory,
+}
+
+/// Why records have no values whose segment doesn't pass its check.
+fn fault_of_check(fault: RelocFault) -> ValueFault
+    ensures { result ≡ binding.fault_of_check fault }
+{
+    match fault {
+        RelocFault::Store(StoreFault::Device) => ValueFault::Device,
+        _ => ValueFault::Damaged,
+    }
+}
+
+/// Why a record has no value whose name can't be read.
+fn fault_of_name(fault: NeFault) -> ValueFault
+    ensures { result ≡ binding.fault_of_name fault }
+{
+    match fault {
+        NeFault::OutOfMemory => ValueFault::OutOfMemory,
+        NeFault::Store(StoreFault::Device) => ValueFault::Device,
+        _ => ValueFault::Damaged,
+    }
+}
+
+/// Why the modules of a load aren't bound, by why the one at a place has no values.
+fn fault_at(place: usize, fault: ValueFault) -> BindFault
+    ensures failure { (before : ℕ) (after : ℕ) → IsFailure before after fault → IsBindFailure before after result }
+    ensures unread { (many : ℕ) → place < many → IsUnread many result }
+{
+    match fault {
+        ValueFault::OutOfMemory => BindFault::OutOfMemory,
+        ValueFault::Device => BindFault::Failed(Failure {
+            place,
+            fault: FetchFault::Store,
+        }),
+        ValueFault::Damaged => BindFault::Failed(Failure {
+            place,
+            fault: FetchFault::Damaged,
+        }),
+    }
+}
+
+/// Room for so many values, and none yet.
+fn room_for<T, A: Allocator + Clone>(alloc: &A, len: usize) -> Result<Vec<T, A>, AllocError>
+    ensures items { IfOk result (λ made. made.items ≡ []) }
+    ensures capacity { IfOk result (λ made. vec_capacity made ≡ len) }
+{
+    Vec::with_capacity(alloc.clone()?, len)
+}
+
+/// The handle that a reference of a module means, by its number from 1; 0 where there are fewer.
+fn imported<A: Allocator>(loaded: &Loaded<A>, reference: u16) -> u16
+    ensures { result ≡ imported loaded.now reference }
+{
+    let place = usize::from(reference).saturating_sub(1);
+    loaded.imports().get(place).copied().unwrap_or(0)
+}
+
+/// The address of an entry of an imported module or built-in, by its name, which is read from the importing module's file.
+fn address_named<S: Store, A: Allocator>(
+    registry: &Registry<A>,
+    store: &mut S,
+    loaded: &Loaded<A>,
+    reference: u16,
+    name: u16,
+) -> Result<Far, ValueFault>
+    ensures files { S.files store.new ≡ S.files store.old }
+    ensures failures { S.failures store.old ≤ S.failures store.new }
+    ensures any { IfOk result (IsValue (finmap.get registry.now) loaded.now) }
+    ensures exact { (file : List ℕ) (t : Tables) → S.is_honest → IsStoredAs (S.files store.old) loaded.now file t → has_text_at file (imported_place t + name) ≡ true
+        → MatchResult result (λ far. far_of far ≡ value_of (finmap.get registry.now) loaded.now (ImportName reference (text_in file (imported_place t + name)))) (IsFailure (S.failures store.old) (S.failures store.new)) }
+{
+    let mut text = [0u8; MOST_NAME];
+    match imported_name(store, loaded.file(), loaded.module(), name, &mut text) {
+        Err(fault) => Err(fault_of_name(fault)),
+        Ok(len) => Ok(registry.proc_address_by_name(imported(loaded, reference), &text[..len])),
+    }
+}
+
+/// The value of a target of a module: by its own slots and entries, or by what the handles that it imports name.
+fn target_value<S: Store, A: Allocator>(
+    registry: &Registry<A>,
+    store: &mut S,
+    loaded: &Loaded<A>,
+    target: Target,
+) -> Result<Far, ValueFault>
+    ensures files { S.files store.new ≡ S.files store.old }
+    ensures failures { S.failures store.old ≤ S.failures store.new }
+    ensures any { IfOk result (IsValue (finmap.get registry.now) loaded.now) }
+    ensures exact { (file : List ℕ) (t : Tables) → S.is_honest → IsStoredAs (S.files store.old) loaded.now file t → has_text (offer_of file t) (text_of target) ≡ true
+        → MatchResult result (λ far. far_of far ≡ value_of (finmap.get registry.now) loaded.now (target_in file t target)) (IsFailure (S.failures store.old) (S.failures store.new)) }
+{
+    match target {
+        Target::Internal { segment, offset } => Ok(loaded.address_in_segment(segment, offset)),
+        Target::Entry { ordinal } => Ok(loaded.address_by_ordinal(ordinal)),
+        Target::ByOrdinal { reference, ordinal } => {
+            let handle = imported(loaded, reference);
+            Ok(registry.proc_address_by_ordinal(handle, ordinal))
+        }
+        Target::ByName { reference, name } => {
+            address_named(registry, store, loaded, reference, name)
+        }
+    }
+}
+
+/// The value of a relocation record of a module; nowhere for a fixup of the system's.
+fn record_value<S: Store, A: Allocator>(
+    registry: &Registry<A>,
+    store: &mut S,
+    loaded: &Loaded<A>,
+    relocation: Record,
+) -> Result<Far, ValueFault>
+    ensures files { S.files store.new ≡ S.files store.old }
+    ensures failures { S.failures store.old ≤ S.failures store.new }
+    ensures any { IfOk result (IsValue (finmap.get registry.now) loaded.now) }
+    ensures exact { (file : List ℕ) (t : Tables) → S.is_honest → IsStoredAs (S.files store.old) loaded.now file t → is_named (offer_of file t) relocation ≡ true
+        → MatchResult result (λ far. far_of far ≡ value_of (finmap.get registry.now) loaded.now (target_of file t relocation)) (IsFailure (S.failures store.old) (S.failures store.new)) }
+{
+    match relocation {
+        Record::Stored(fixup) | Record::Added(fixup) => {
+            target_value(registry, store, loaded, fixup.target)
+        }
+        Record::System => Ok(NOWHERE),
+    }
+}
+
+/// A value for each of some relocation records of a module.
+fn record_values<S: Store, A: Allocator + Clone>(
+    registry: &Registry<A>,
+    store: &mut S,
+    loaded: &Loaded<A>,
+    records: &[Record],
+) -> Result<Vec<Far, A>, ValueFault>
+    ensures files { S.files store.new ≡ S.files store.old }
+    ensures failures { S.failures store.old ≤ S.failures store.new }
+    ensures any { IfOk result (λ values. (targets : List loading.Target) × AreValuesOf (finmap.get registry.now) loaded.now targets values.items) }
+    ensures exact { (file : List ℕ) (t : Tables) → S.is_honest → IsStoredAs (S.files store.old) loaded.now file t → All (λ r. is_named (offer_of file t) r ≡ true) records.now
+        → MatchResult result (λ values. AreValuesOf (finmap.get registry.now) loaded.now (map (target_of file t) records.now) values.items) (IsFailure (S.failures store.old) (S.failures store.new)) }
+{
+    let Ok(mut values) = room_for(registry.allocator(), records.len()) else {
+        return Err(ValueFault::OutOfMemory);
+    };
+    for relocation in records {
+        match record_value(registry, store, loaded, *relocation) {
+            Err(fault) => return Err(fault),
+            Ok(value) => values.push_reserved(value),
+        }
+    }
+    Ok(values)
+}
+
+/// The values of the relocation records of a module's segment, by its number from 1. The segment is read and checked.
+fn segment_values<S: Store, A: Allocator + Clone>(
+    registry: &Registry<A>,
+    store: &mut S,
+    scratch: &mut Scratch,
+    loaded: &Loaded<A>,
+    number: usize,
+) -> Result<Vec<Far, A>, ValueFault>
+    requires first { 0 < number }
+    requires last { number ≤ length loaded.now.tables.segments }
+    ensures files { S.files store.new ≡ S.files store.old }
+    ensures failures { S.failures store.old ≤ S.failures store.new }
+    ensures any { IfOk result (λ values. (targets : List loading.Target) × AreValuesOf (finmap.get registry.now) loaded.now targets values.items) }
+    ensures exact { (read : ModuleFile) (s : SegmentData) → S.is_honest → IsSaid (S.files store.old) loaded.now read → slice_get read.segments (number - 1) ≡ Some s
+        → MatchResult result (λ values. AreValuesOf (finmap.get registry.now) loaded.now (targets_of s) values.items) (IsFailure (S.failures store.old) (S.failures store.new)) }
+{
+    match check(store, loaded.file(), loaded.module(), number, scratch) {
+        Err(fault) => Err(fault_of_check(fault)),
+        Ok(()) => record_values(registry, store, loaded, scratch.records()),
+    }
+}
+
+/// The values of all relocation records of a module, segment by segment.
+fn module_values<S: Store, A: Allocator + Clone>(
+    registry: &Registry<A>,
+    store: &mut S,
+    scratch: &mut Scratch,
+    loaded: &Loaded<A>,
+) -> Result<Vec<Vec<Far, A>, A>, ValueFault>
+    ensures files { S.files store.new ≡ S.files store.old }
+    ensures failures { S.failures store.old ≤ S.failures store.new }
+    ensures any { IfOk result (λ values. (targets : List (List loading.Target)) × (length targets ≡ length loaded.now.tables.segments)
+        × (map (λ v. map far_of v.items) values.items ≡ values_for (finmap.get registry.now) loaded.now targets)) }
+    ensures exact { (read : ModuleFile) → S.is_honest → IsSaid (S.files store.old) loaded.now read
+        → MatchResult result (λ values. map (λ v. map far_of v.items) values.items ≡ values_for (finmap.get registry.now) loaded.now (map targets_of read.segments)) (IsFailure (S.failures store.old) (S.failures store.new)) }
+{
+    let count = loaded.module().segment_count();
+    let Ok(mut values) = room_for(registry.allocator(), count) else {
+        return Err(ValueFault::OutOfMemory);
+    };
+    for place in 0..count {
+        match segment_values(registry, store, scratch, loaded, place + 1) {
+            Err(fault) => return Err(fault),
+            Ok(segment) => values.push_reserved(segment),
+        }
+    }
+    Ok(values)
+}
+
+/// Gives the module of a handle the values of its relocation records. A handle that names none changes nothing, and neither does a fault.
+fn bind_module<S: Store, A: Allocator + Clone>(
+    registry: &mut Registry<A>,
+    store: &mut S,
+    scratch: &mut Scratch,
+    handle: u16,
+) -> Result<(), ValueFault>
+    ensures files { S.files store.new ≡ S.files store.old }
+    ensures failures { S.failures store.old ≤ S.failures store.new }
+    ensures any { OnOk result ((targets : List (List loading.Target)) × IsForEach registry.old handle targets × (registry.new ≡ bound_as (finmap.get registry.old) registry.old handle targets)) }
+    ensures exact { (read : ModuleFile) → S.is_honest → IsSomeAnd (module_at registry.old handle) (λ m. IsSaid (S.files store.old) m read)
+        → MatchResult result (λ _. registry.new ≡ bound_as (finmap.get registry.old) registry.old handle (map targets_of read.segments)) (IsFailure (S.failures store.old) (S.failures store.new)) }
+    ensures err { OnErr result (registry.new ≡ registry.old) }
+{
+    let Some(loaded) = registry.module(handle) else {
+        return Ok(());
+    };
+    match module_values(registry, store, scratch, loaded) {
+        Err(fault) => Err(fault),
+        Ok(values) => {
+            registry.bind(handle, values);
+            Ok(())
+        }
+    }
+}
+
+/// Gives the modules of these handles, the new ones of a load, the values of their relocation records: one after another, by what handles name.
+/// Which of them have values already makes no difference. A handle that names no module is passed over.
+///
+/// `Failed` where a module's file can't be read: with `Store` where the device failed, and `Damaged` where the file reads otherwise than it did at
+/// load. After a fault some of them may have values, and nothing else has changed.
+pub(crate) fn bind_modules<S: Store, A: Allocator + Clone>(
+    registry: &mut Registry<A>,
+    store: &mut S,
+    scratch: &mut Scratch,
+    handles: &[u16],
+) -> Result<(), BindFault>
+    ensures files { S.files store.new ≡ S.files store.old }
+    ensures failures { S.failures store.old ≤ S.failures store.new }
+    ensures values { (handle : ℕ) → without_values (finmap.get registry.new handle) ≡ without_values (finmap.get registry.old handle) }
+    ensures others { (handle : ℕ) → is_member handle handles.now ≡ false → finmap.get registry.new handle ≡ finmap.get registry.old handle }
+    ensures any { OnOk result ((targets : List (List (List loading.Target))) × AreTargets registry.old handles.now targets
+        × (registry.new ≡ all_bound (finmap.get registry.old) registry.old handles.now targets)) }
+    ensures bound { (reads : List ModuleFile) → S.is_honest → AreSaid (S.files store.old) registry.old handles.now reads
+        → OnOk result (registry.new ≡ all_bound (finmap.get registry.old) registry.old handles.now (map (λ read. map targets_of read.segments) reads)) }
+    ensures faults { (reads : List ModuleFile) → S.is_honest → AreSaid (S.files store.old) registry.old handles.now reads
+        → IfErr result (IsBindFailure (S.failures store.old) (S.failures store.new)) }
+    ensures read { IfErr result (IsUnread (length handles.now)) }
+{
+    for (place, handle) in handles.iter().enumerate() {
+        match bind_module(registry, store, scratch, *handle) {
+            Err(fault) => return Err(fault_at(place, fault)),
+            Ok(()) => {}
+        }
+    }
+    Ok(())
+}

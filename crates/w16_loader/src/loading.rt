@@ -1,0 +1,257 @@
+//! Loads of modules: `LoadModule` and `LoadLibrary`.
+ghost use Rattle.std.specs.Prelude.{◌≡◌, ◌≤◌, ◌<◌, ℕ, Bool, false, List, [], length, fold, All, IfOk, IfErr, OnErr};
+ghost use Rattle.std.specs.FinMap as finmap;
+ghost use Rattle.w16_model.specs.Handles.{AreHandles};
+ghost use Rattle.w16_loading.specs.Closure as closing;
+ghost use Rattle.w16_loading.specs.Free.{without_module};
+ghost use Rattle.w16_loading.specs.Closure.Reading.{Read};
+ghost use Rattle.w16_loading.specs.Load as loading;
+ghost use Rattle.w16_loading.specs.Load.Answer.{Says, StoreFails};
+ghost use Rattle.w16_loading.specs.Modules.{LoadingWorld, free_modules, module_at, with_handles};
+ghost use Rattle.w16_format.specs.Ne.{ne_format};
+ghost use Rattle.w16_loader.specs.Closing.{around_in, read_in};
+ghost use Rattle.w16_loader.specs.Naming.{IsClosureOf, IsUnbound};
+ghost use Rattle.w16_loader.specs.declared.binding.BindFault.TheVariants.{OutOfMemory};
+ghost use Rattle.w16_loader.specs.Registry.{in_world};
+ghost use Rattle.w16_loader.specs.Loading.{LoadsCounted, LoadsClosed, IsOfFile, IsGiven, answer_in, is_application, in_store, refused_by, of_fault, failed_by};
+
+use crate::binding::{BindFault, bind_modules};
+use crate::closure::{Closure, close};
+use crate::ending::release_modules;
+use crate::fault::Failure;
+use crate::filling::fill_modules;
+use crate::found::{FileFault, Found, Reading, Referent, examine_file};
+use crate::naming::{NameFault, name_modules};
+use crate::registry::Registry;
+use std::alloc::{AllocError, Allocator, Global};
+use w16_global::Global16;
+use w16_loading::FetchFault;
+use w16_ne::Module;
+use w16_reloc::Scratch;
+use w16_store::Store;
+
+/// The number of a load for which there is no handle, no slot or no room, and of one that would be the 65,001st use.
+const NO_ROOM: u16 = 0;
+
+/// The number of a load whose own file reads otherwise than it did.
+const BAD_FILE: u16 = 11;
+
+/// The number of an application that `LoadModule` would load twice.
+const LOADED_TWICE: u16 = 16;
+
+/// The number of a load where the file of a module that it refers to reads otherwise than it did.
+const BAD_REFERENCE: u16 = 20;
+
+/// What a load answers.
+#[derive(Clone, Copy, Debug, PartialEq, Eq)]
+pub enum LoadAnswer {
+    /// The handle of the module asked for; or a number of 32 or below, which refuses the load.
+    Says(u16),
+    /// The store's device failed, and nothing is loaded.
+    StoreFails,
+}
+
+/// What a load answers where no module is made of its file, or of one that a reference leads to; an error is that there was no memory.
+fn refuse(fault: FileFault) -> Result<LoadAnswer, AllocError>
+    ensures { result ≡ refused_by fault }
+{
+    match fault {
+        FileFault::Refused(number) => Ok(LoadAnswer::Says(number)),
+        FileFault::Device => Ok(LoadAnswer::StoreFails),
+        FileFault::OutOfMemory => Err(AllocError),
+    }
+}
+
+/// What a load answers where a module isn't bound, or an object of it got no bytes; an error is that there was no memory.
+fn fail(fault: BindFault) -> Result<LoadAnswer, AllocError>
+    ensures { result ≡ failed_by fault }
+{
+    match fault {
+        BindFault::OutOfMemory => Err(AllocError),
+        BindFault::Failed(failure) => Ok(answer_of(failure)),
+    }
+}
+
+/// What a load answers where an object of a module got no bytes: a file that reads otherwise than it did is as one that isn't accepted.
+fn answer_of(failure: Failure) -> LoadAnswer
+    ensures { result ≡ of_fault failure.place failure.fault }
+{
+    match failure.fault {
+        FetchFault::Store => LoadAnswer::StoreFails,
+        FetchFault::NoRoom => LoadAnswer::Says(NO_ROOM),
+        FetchFault::Damaged if failure.place == 0 => LoadAnswer::Says(BAD_FILE),
+        FetchFault::Damaged => LoadAnswer::Says(BAD_REFERENCE),
+    }
+}
+
+/// Whether a handle names an application: false for a library, for a built-in, and for a bad handle.
+fn is_application<A: Allocator>(registry: &Registry<A>, handle: u16) -> bool
+    ensures { result ≡ is_application (module_at registry.now handle) }
+{
+    match registry.module(handle) {
+        None => false,
+        Some(loaded) => !loaded.module().library(),
+    }
+}
+
+/// Counts one explicit use more of what a handle names, if it has fewer than 65,000: the handle, or 0.
+fn count_use<A: Allocator>(registry: &mut Registry<A>, handle: u16) -> u16
+    ensures { (rest : LoadingWorld) → loading.used_again false (in_world rest registry.old) handle (finmap.get registry.old handle) ≡ (Says result, in_world rest registry.new) }
+{
+    if registry.use_again(handle) {
+        handle
+    } else {
+        NO_ROOM
+    }
+}
+
+/// Loads a module that is there, or a built-in, once more: its handle, and one explicit use more of a module. 16, and nothing changes, where
+/// `LoadModule` asks for an application; 0, and nothing changes, where the module has 65,000 explicit uses.
+fn load_again<A: Allocator>(registry: &mut Registry<A>, handle: u16, is_load_module: bool) -> u16
+    ensures { (rest : LoadingWorld) → loading.used_again is_load_module (in_world rest registry.old) handle (finmap.get registry.old handle) ≡ (Says result, in_world rest registry.new) }
+{
+    if !is_load_module {
+        return count_use(registry, handle);
+    }
+    if is_application(registry, handle) {
+        return LOADED_TWICE;
+    }
+    count_use(registry, handle)
+}
+
+/// Gives the new modules of a load, which have names, the values of their relocation records, and then its fixed and preload segments their bytes.
+fn give<S: Store, A: Allocator + Copy>(
+    registry: &mut Registry<A>,
+    global: &mut Global16<A>,
+    store: &mut S,
+    scratch: &mut Scratch,
+    handles: &[u16],
+) -> Result<(), BindFault>
+    ensures files { S.files store.new ≡ S.files store.old }
+    ensures failures { S.failures store.old ≤ S.failures store.new }
+    ensures given { (rest : LoadingWorld) (old : LoadingWorld) (meant : closing.Closure) → S.is_honest → AreHandles old.handles → All (IsOfFile (S.files store.old)) meant.found
+        → IsUnbound old meant handles.now (in_world (with_handles rest global.old.handles) registry.old)
+        → IsGiven old meant handles.now result (in_world (with_handles rest global.new.handles) registry.new) }
+    ensures failed { (old : LoadingWorld) (meant : closing.Closure) (rest : LoadingWorld) → S.is_honest → All (IsOfFile (S.files store.old)) meant.found
+        → IsUnbound old meant handles.now (in_world (with_handles rest global.old.handles) registry.old)
+        → IfErr result (λ fault. IfOk (failed_by fault) (λ answer. answer_in answer ≡ StoreFails → S.failures store.old < S.failures store.new)) }
+    ensures undone { (rest : LoadingWorld) (old : LoadingWorld) (meant : closing.Closure) → AreHandles old.handles
+        → IsUnbound old meant handles.now (in_world (with_handles rest global.old.handles) registry.old)
+        → IfErr result (λ fault. fault ≡ OutOfMemory → fold without_module (in_world (with_handles rest global.new.handles) registry.new) handles.now ≡ old) }
+    ensures written { IfErr result (λ fault. fault ≡ OutOfMemory → global.new.written ≡ global.old.written) }
+{
+    match bind_modules(registry, store, scratch, handles) {
+        Err(fault) => Err(fault),
+        Ok(()) => match fill_modules(registry, global, store, scratch, handles) {
+            Ok(()) => Ok(()),
+            Err(failure) => Err(BindFault::Failed(failure)),
+        },
+    }
+}
+
+/// Loads the new modules of a closure: each gets a handle, its segments get objects, its records their values, and its fixed and preload segments
+/// their bytes. Where one of these fails, all that was made is taken back, but the discards that were made for it.
+fn load_closure<S: Store, A: Allocator + Copy>(
+    registry: &mut Registry<A>,
+    global: &mut Global16<A>,
+    store: &mut S,
+    scratch: &mut Scratch,
+    closure: Closure<A>,
+) -> Result<LoadAnswer, AllocError>
+    requires some { 0 < length closure.found.items }
+    requires few { length closure.found.items ≤ free_modules registry.old }
+    ensures files { S.files store.new ≡ S.files store.old }
+    ensures failures { S.failures store.old ≤ S.failures store.new }
+    ensures loads { (rest : LoadingWorld) (meant : closing.Closure) → S.is_honest → IsClosureOf closure meant → All (IsOfFile (S.files store.old)) meant.found
+        → IfOk result (λ answer. LoadsClosed (in_world (with_handles rest global.old.handles) registry.old) meant (answer_in answer) (in_world (with_handles rest global.new.handles) registry.new)) }
+    ensures failed { (meant : closing.Closure) → S.is_honest → IsClosureOf closure meant → All (IsOfFile (S.files store.old)) meant.found
+        → IfOk result (λ answer. answer_in answer ≡ StoreFails → S.failures store.old < S.failures store.new) }
+    ensures err { OnErr result ((registry.new ≡ registry.old) × (global.new ≡ global.old)) }
+{
+    global.reveal_handles();
+    let handles = match name_modules(registry, global, closure) {
+        Ok(handles) => handles,
+        Err(NameFault::NoSlot) => return Ok(LoadAnswer::Says(NO_ROOM)),
+        Err(NameFault::OutOfMemory) => return Err(AllocError),
+    };
+    match give(registry, global, store, scratch, handles.as_slice()) {
+        Ok(()) => Ok(LoadAnswer::Says(handles[0])),
+        Err(fault) => {
+            release_modules(registry, global, handles.as_slice());
+            fail(fault)
+        }
+    }
+}
+
+/// Loads a module that was read of its file and isn't there, with all new modules that it and these refer to.
+fn load_new<S: Store, A: Allocator + Copy>(
+    alloc: Global,
+    registry: &mut Registry<A>,
+    global: &mut Global16<A>,
+    store: &mut S,
+    scratch: &mut Scratch,
+    file: &[u8],
+    read: Module,
+) -> Result<LoadAnswer, AllocError>
+    requires { 0 < free_modules registry.old }
+    ensures files { S.files store.new ≡ S.files store.old }
+    ensures failures { S.failures store.old ≤ S.failures store.new }
+    ensures loads { (rest : LoadingWorld) (before : ℕ) → before ≤ S.failures store.old → S.is_honest → closing.reading ne_format (around_in registry.old (S.files store.old)) [] file.now ≡ Read (read_in (S.files store.old) file.now read)
+        → IfOk result (λ answer. (is_load_module : Bool) → LoadsCounted ne_format is_load_module (in_store rest registry.old global.old.handles (S.files store.old) before) file.now (answer_in answer)
+        (in_store rest registry.new global.new.handles (S.files store.new) (S.failures store.new))) }
+    ensures err { OnErr result ((registry.new ≡ registry.old) × (global.new ≡ global.old)) }
+{
+    let name = registry.copy_of(file)?;
+    match close(
+        alloc,
+        registry,
+        store,
+        scratch,
+        Found {
+            file: name,
+            module: read,
+        },
+    ) {
+        Err(fault) => refuse(fault),
+        Ok(closure) => load_closure(registry, global, store, scratch, closure),
+    }
+}
+
+/// `LoadModule` and `LoadLibrary`: loads a module by the name of its file, with all modules that it refers to, and those these refer to; or counts
+/// one explicit use more where its module is there. The handle; or a number that refuses it, after which nothing is loaded:
+///
+/// 2 where there is no such file; 12, 13 or 14 where it is for another target system than Windows; 11 where it isn't accepted otherwise, or its
+/// relocations aren't sound; 16 where `LoadModule` asks for an application that is there; 20 where a file that a reference leads to is refused for
+/// one of these; 0 where there is no handle, no slot or no room, or where a module has 65,000 explicit uses. `StoreFails` where the store's device
+/// failed. An error is that memory ran out.
+///
+/// New modules get the lowest free handles in the order in which references lead to them, breadth first, and each segment gets an object; their
+/// relocation records are bound once, before any room is asked for. Then the fixed and the preload segments get their bytes, one after another, each
+/// by a request of its own: others slide and are discarded for it, as few as can be. A load that is refused takes back all that it made, but the
+/// discards.
+pub fn load<S: Store, A: Allocator + Copy>(
+    alloc: Global,
+    registry: &mut Registry<A>,
+    global: &mut Global16<A>,
+    store: &mut S,
+    scratch: &mut Scratch,
+    file: &[u8],
+    is_load_module: bool,
+) -> Result<LoadAnswer, AllocError>
+    ensures files { S.files store.new ≡ S.files store.old }
+    ensures failures { S.failures store.old ≤ S.failures store.new }
+    ensures loads { (rest : LoadingWorld) → S.is_honest → IfOk result (λ answer. LoadsCounted ne_format is_load_module (in_store rest registry.old global.old.handles (S.files store.old) (S.failures store.old)) file.now (answer_in answer)
+        (in_store rest registry.new global.new.handles (S.files store.new) (S.failures store.new))) }
+    ensures err { OnErr result ((registry.new ≡ registry.old) × (global.new ≡ global.old)) }
+{
+    let found = Vec::new(alloc);
+    match examine_file(alloc, registry, store, found.as_slice(), scratch, file) {
+        Err(fault) => refuse(fault),
+        Ok(Reading::Meant(Referent::There(handle))) => {
+            Ok(LoadAnswer::Says(load_again(registry, handle, is_load_module)))
+        }
+        // No module was found yet, so no name means one.
+        Ok(Reading::Meant(Referent::New(_))) => refuse(FileFault::Refused(BAD_FILE)),
+        Ok(Reading::Read(read)) => load_new(alloc, registry, global, store, scratch, file, read),
+    }
+}
