@@ -1,23 +1,8 @@
 -- The heap after an object was put at a free place, under an id that has no block.
 use Rattle.std.specs.List.{AllByRecursion as Each}
-use Rattle.std.proofs.Common.{◌≡◌, ◌≢◌, ℕ, ◌+◌, ◌<◌, ◌≤◌, inl, inr, IsTrue, cond, List, length, set, slice_range, Option, Some, None, option_map, refl, sym, ap, ◌∙◌, arith}
-use Rattle.std.specs.Ordering.{nat_cmp, eq_by_cmp}
-use Rattle.std.specs.Cmp.{nat_cmp_total}
+use Rattle.w16_arena.proofs.Common.{◌≡◌, ◌≢◌, ℕ, ◌+◌, ◌<◌, ◌≤◌, inl, inr, IsTrue, cond, List, length, set, slice_range, Option, Some, None, option_map, refl, sym, ap, ◌∙◌, arith, nat_cmp, eq_by_cmp, nat_cmp_total, get-insert, cases_eq, Block, Entry, Misses, Heap, Object, IsMultiple, object_at, is_fixed, block_with, hold_of_entry, is_listed, Each-from, Each-at, Each-map, EachPair-from_AllPairs, tied_itself, untied, member_with, with_member, Layout, IsOrdered, Fits, IsApart, placed, heap_of, AreFreeBytes}
 use Rattle.std.specs.FinMap as finmap
-use Rattle.std.specs.FinMap.{get-insert}
-use Rattle.std.proofs.lemmas.Bool.{cases_eq}
-use Rattle.w16_model.specs.declared.Block.{Block}
-use Rattle.w16_model.specs.declared.Entry.{Entry}
-use Rattle.w16_model.specs.Gap.{Misses}
-use Rattle.w16_model.specs.Heap.{Heap, Object, IsMultiple, object_at, is_fixed}
-use Rattle.w16_model.specs.Table.{block_with, hold_of_entry, is_listed}
-use Rattle.w16_model.proofs.Gaps.{Each-from, Each-at, Each-map, EachPair-from_AllPairs}
-use Rattle.w16_model.proofs.Heaps.{tied_itself, untied}
-use Rattle.w16_model.proofs.Tables.{member_with, with_member}
-use Rattle.w16_blocks.specs.Layout.{Layout, IsOrdered, Fits, IsApart, placed}
 use Rattle.w16_arena.proofs.Parts.{AreParts}
-use Rattle.w16_arena.specs.State.{heap_of}
-use Rattle.w16_arena.specs.NewPlace.{AreFreeBytes}
 use Rattle.w16_arena.proofs.With.{with-placed}
 use Rattle.w16_arena.proofs.Lookups.{ordered_arranged}
 use Rattle.w16_arena.proofs.Changed.{GoTogether, ChangesOne, ReordersOne, changed_parts, object_at_id, object_at_other, place_at_id, place_at_other}

@@ -1,43 +1,12 @@
 -- A request, by what was found and made for it.
 use Rattle.std.specs.List.{AllByRecursion as Each}
-use Rattle.std.proofs.Common.{◌≡◌, ◌≢◌, ℕ, ◌+◌, ◌<◌, ◌≤◌, ◌⊎◌, inl, inr, true, false, ◌&&◌, if◌then◌else◌, IfSome, IsSomeAnd, MatchBool, MatchOption, All, List, [], ◌∷◌, length, take, fold, slice_range, Option, Some, None, option_map, is_some, unwrap_or, refl, sym, ap, ◌∙◌, subst, arith, ne_eqb, eq-eqb, take_all}
+use Rattle.w16_arena.proofs.Common.{◌≡◌, ◌≢◌, ℕ, ◌+◌, ◌<◌, ◌≤◌, ◌⊎◌, inl, inr, true, false, ◌&&◌, if◌then◌else◌, IfSome, IsSomeAnd, MatchBool, MatchOption, All, List, [], ◌∷◌, length, take, fold, slice_range, Option, Some, None, option_map, is_some, unwrap_or, refl, sym, ap, ◌∙◌, subst, arith, ne_eqb, eq-eqb, take_all, false≢true, and_parts, cases_eq, cases_Bool, Block, Kind, Discardable, Span, KeepsOthers, RoomOptions, room, longest_hole, is_pinned, eligible, blocks_without, room_for, needed, snapshot, Heap, Object, IsHeap, IsMultiple, blocks, object_at, bytes_at, absent, with_newest, with_ordered, moved_bytes, Allocates, Compacts, MakesRoom, IsNew, Settles, discards_needed, stays_for, discarded, compaction_prefix, eligible_count, most_room, snapshot_of, Table, IsSound, block_with, heap_in, Each-from, place_is, table_longest, sound_heap, taken_here, taken_other, room-discarded, others_law, prefix_hole, prefix_no_hole, prefix_now, prefix_kept, prefix_needed, needed_by_members, needed_enough, eligible_by_members, room_by_members, allocates_after, settles_after, settles_before, moved_after, discarded_all, Layout, Stands, SlidesTogether, HasDiscarded, IsStill, IsPlaced, IsSlid, Discards, first_eligible, Placed, Compacted, GName, IsSameRest, rest_more, ArenaState, IsSameRange, KeepsRest, most_in, room_whole}
 use Rattle.std.specs.FinMap as finmap
-use Rattle.std.proofs.lemmas.Bool.{false≢true, and_parts, cases_eq, cases_Bool}
-use Rattle.w16_model.specs.declared.Block.{Block}
-use Rattle.w16_model.specs.declared.Kind.{Kind}
-use Rattle.w16_model.specs.declared.Kind.TheVariants.{Discardable}
-use Rattle.w16_model.specs.declared.Span.{Span}
-use Rattle.w16_model.specs.Law.{KeepsOthers}
-use Rattle.w16_model.specs.declared.RoomOptions.{RoomOptions}
-use Rattle.w16_model.specs.Gap.{room, longest_hole, is_pinned}
-use Rattle.w16_model.specs.Discards.{eligible, blocks_without, room_for, needed, snapshot}
-use Rattle.w16_model.specs.Heap.{Heap, Object, IsHeap, IsMultiple, blocks, object_at, bytes_at}
-use Rattle.w16_model.specs.Changes.{absent, with_newest, with_ordered}
-use Rattle.w16_model.specs.Request.{moved_bytes, Allocates, Compacts, MakesRoom, IsNew, Settles, discards_needed, stays_for, discarded, compaction_prefix, eligible_count, most_room, snapshot_of}
-use Rattle.w16_model.specs.Table.{Table, IsSound, block_with, heap_in}
-use Rattle.w16_model.proofs.Gaps.{Each-from}
-use Rattle.w16_model.proofs.Tables.{place_is, table_longest}
-use Rattle.w16_model.proofs.Sound.{sound_heap}
-use Rattle.w16_model.proofs.KeptHeaps.{taken_here, taken_other}
-use Rattle.w16_model.proofs.Discards.{room-discarded}
-use Rattle.w16_model.proofs.Others.{others_law}
-use Rattle.w16_model.proofs.Prefixes.{prefix_hole, prefix_no_hole, prefix_now, prefix_kept, prefix_needed, needed_by_members, needed_enough, eligible_by_members, room_by_members}
-use Rattle.w16_model.proofs.Answered.{allocates_after, settles_after, settles_before, moved_after, discarded_all}
-use Rattle.w16_blocks.specs.Layout.{Layout}
-use Rattle.w16_arena.specs.Asked.{Stands, SlidesTogether, HasDiscarded, IsStill, IsPlaced, IsSlid, Discards, first_eligible}
-use Rattle.w16_arena.specs.declared.new_place.Placed.{Placed}
-use Rattle.w16_arena.specs.declared.without_discard.Compacted.{Compacted}
-use Rattle.std.specs.Borrow.{GName}
-use Rattle.w16_compact.specs.Rest.{IsSameRest}
-use Rattle.w16_compact.proofs.Rests.{rest_more}
-use Rattle.w16_arena.specs.State.{ArenaState, IsSameRange, KeepsRest}
-use Rattle.w16_arena.specs.NewPlace.{most_in}
 use Rattle.w16_arena.proofs.Parts.{AreParts}
 use Rattle.w16_arena.proofs.Lookups.{bytes_here}
 use Rattle.w16_arena.proofs.Listed.{is_listed, listed_permutation, listed_room, listed_with}
 use Rattle.w16_arena.proofs.Moved.{moved_few}
 use Rattle.w16_arena.proofs.Oldest.{eligible_few}
-use Rattle.w16_compact.proofs.OnePass.{room_whole}
 
 -- where a discarded heap has a place, the heap before has it
 places_before : (ids : List ℕ) (heap : Heap) (q : ℕ) (at : ℕ) → finmap.get (fold absent heap ids).places q ≡ Some at → finmap.get heap.places q ≡ Some at

@@ -1,18 +1,5 @@
 -- Blocks that slid are an arrangement, so no free range among them is longer than the room.
-use Rattle.std.proofs.Common.{◌≡◌, ℕ, ◌+◌, ◌-◌, ◌<◌, ◌≤◌, inl, inr, Bool, true, false, not, ◌&&◌, nat_le, nat_lt, IsTrue, List, option_map, unwrap_or, refl, sym, ap, ◌∙◌, subst, arith, leb-true, ltb-true}
-use Rattle.std.proofs.lemmas.Bool.{false≢true, and_parts, cases_lt}
-use Rattle.w16_model.specs.declared.Block.{Block}
-use Rattle.w16_model.specs.Arrangement.{IsArrangement}
-use Rattle.w16_model.specs.Gap.{Misses, block_end, is_pinned, is_loose, is_any, begins_in, ArePlaced, IsClear, IsGap, room, longest_hole, first_from}
-use Rattle.w16_model.specs.Table.{block_with}
-use Rattle.w16_model.proofs.Gaps.{Each-from, Each-at, All-from_Each, AllPairs-from_EachPair, EachPair-member, Member, last_to}
-use Rattle.w16_model.proofs.Laid.{laid_placed}
-use Rattle.w16_model.proofs.Longest.{none_longer}
-use Rattle.w16_model.proofs.Maximal.{missed, clear_from, gap_around, gap_same}
-use Rattle.w16_model.proofs.Starts.{inside, sized, two, hole_is_longest}
-use Rattle.w16_model.proofs.Tables.{with_member}
-use Rattle.w16_blocks.specs.Layout.{Layout, IsOrdered}
-use Rattle.w16_arena.specs.NewPlace.{Slides, AreMoved, AreFreeBytes}
+use Rattle.w16_arena.proofs.Common.{◌≡◌, ℕ, ◌+◌, ◌-◌, ◌<◌, ◌≤◌, inl, inr, Bool, true, false, not, ◌&&◌, nat_le, nat_lt, IsTrue, List, option_map, unwrap_or, refl, sym, ap, ◌∙◌, subst, arith, leb-true, ltb-true, false≢true, and_parts, cases_lt, Block, IsArrangement, Misses, block_end, is_pinned, is_loose, is_any, begins_in, ArePlaced, IsClear, IsGap, room, longest_hole, first_from, block_with, Each-from, Each-at, All-from_Each, AllPairs-from_EachPair, EachPair-member, Member, last_to, laid_placed, none_longer, missed, clear_from, gap_around, gap_same, inside, sized, two, hole_is_longest, with_member, Layout, IsOrdered, Slides, AreMoved, AreFreeBytes}
 use Rattle.w16_arena.proofs.Lookups.{named_pairs}
 use Rattle.w16_arena.proofs.Pairs.{two_member, two_same}
 use Rattle.w16_arena.proofs.Slid.{pinned_stands}

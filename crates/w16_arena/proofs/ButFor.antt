@@ -1,20 +1,6 @@
 -- Blocks but for an object's, and bytes that are free for it.
-use Rattle.std.proofs.Common.{◌≡◌, ℕ, ◌+◌, ◌-◌, ◌<◌, ◌≤◌, ◌==◌, ◌⊎◌, inl, inr, true, false, cond, eqb, IsTrue, List, [], ◌∷◌, Option, Some, refl, sym, ap, ◌∙◌, subst, arith, eq-eqb}
+use Rattle.w16_arena.proofs.Common.{◌≡◌, ℕ, ◌+◌, ◌-◌, ◌<◌, ◌≤◌, ◌==◌, ◌⊎◌, inl, inr, true, false, cond, eqb, IsTrue, List, [], ◌∷◌, Option, Some, refl, sym, ap, ◌∙◌, subst, arith, eq-eqb, eqb_tells, Block, block_end, first_from, hole_after, is_any, is_pinned, IsClear, Misses, block_with, Each-map, Each-both, Each-from_All, All-from_Each, first_from-below, laid_each, Layout, AreNamed, FitsFor, IsApart, IsGrained, IsOrdered, all_but, around, all_but_same, all_but_other, all_but_absent, with_same, with_other, rest_differs, each_with, others_apart, others_differ, All-all_but, moved_between, ordered_without, ids_below, EachTwo, Slides, AreMoved, AreFreeBytes, but_for}
 use Rattle.std.proofs.lemmas.Bool.{ne_eqb}
-use Rattle.std.proofs.lemmas.Bool.Decides.{eqb_tells}
-use Rattle.w16_model.specs.declared.Block.{Block}
-use Rattle.w16_model.specs.Gap.{block_end, first_from, hole_after, is_any, is_pinned, IsClear, Misses}
-use Rattle.w16_model.specs.Table.{block_with}
-use Rattle.w16_model.proofs.Gaps.{Each-map, Each-both, Each-from_All, All-from_Each, first_from-below}
-use Rattle.w16_model.proofs.Laid.{laid_each}
-use Rattle.w16_blocks.specs.Layout.{Layout, AreNamed, FitsFor, IsApart, IsGrained, IsOrdered, all_but}
-use Rattle.w16_blocks.proofs.Lifting.{around}
-use Rattle.w16_blocks.proofs.Remove.{all_but_same, all_but_other, all_but_absent, with_same, with_other, rest_differs, each_with, others_apart, others_differ, All-all_but}
-use Rattle.w16_compact.specs.Gather.{moved_between}
-use Rattle.w16_compact.proofs.LeftOut.{ordered_without}
-use Rattle.w16_compact.proofs.Skips.{ids_below}
-use Rattle.w16_arena.specs.NewPlace.{EachTwo, Slides, AreMoved, AreFreeBytes}
-use Rattle.w16_arena.specs.Growth.{but_for}
 use Rattle.w16_arena.proofs.Pairs.{BothOrNone, with_two}
 
 -- Two lists of the same blocks.

@@ -1,17 +1,8 @@
 -- The parts and their heap where one id's entry and block have changed.
-use Rattle.std.proofs.Common.{◌≡◌, ◌≢◌, ℕ, ◌+◌, ◌<◌, ◌==◌, Bool, true, false, cond, IfSome, IsSomeAnd, List, length, get_or, set, slice_range, AllPairs, Option, Some, None, option_map, refl, sym, ap, ◌∙◌, subst, arith, inl, inr}
+use Rattle.w16_arena.proofs.Common.{◌≡◌, ◌≢◌, ℕ, ◌+◌, ◌<◌, ◌==◌, Bool, true, false, cond, IfSome, IsSomeAnd, List, length, get_or, set, slice_range, AllPairs, Option, Some, None, option_map, refl, sym, ap, ◌∙◌, subst, arith, inl, inr, eqb_tells, get_or-set_same, get_or-set_other, length-set, Block, Entry, Object, object_at, IsCountedBy, block_with, hold_of_entry, is_listed, is_member, Layout, heap_of}
 use Rattle.std.specs.FinMap as finmap
-use Rattle.std.proofs.lemmas.Bool.Decides.{eqb_tells}
 use Rattle.std.proofs.lemmas.Bool.{ne_eqb, eq-eqb}
-use Rattle.std.proofs.lemmas.List.{get_or-set_same, get_or-set_other, length-set}
-use Rattle.w16_model.specs.declared.Block.{Block}
-use Rattle.w16_model.specs.declared.Entry.{Entry}
-use Rattle.w16_model.specs.Heap.{Object, object_at}
-use Rattle.w16_model.specs.Table.{IsCountedBy, block_with, hold_of_entry, is_listed}
-use Rattle.w16_model.specs.Discards.{is_member}
-use Rattle.w16_blocks.specs.Layout.{Layout}
 use Rattle.w16_arena.proofs.Parts.{AreParts}
-use Rattle.w16_arena.specs.State.{heap_of}
 use Rattle.w16_arena.proofs.Lookups.{IsArranged, IsOrder, object_here, place_here, sound_of, holds_at}
 
 -- what is in a list once a place was set

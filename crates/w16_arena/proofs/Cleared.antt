@@ -1,12 +1,5 @@
 -- A memory in which a range was given to an object, or the end of a range to one that grew.
-use Rattle.std.proofs.Common.{◌≡◌, ℕ, ◌+◌, ◌-◌, ◌<◌, ◌≤◌, ◌⊎◌, inl, inr, Bool, true, false, if◌then◌else◌, List, length, drop, slice_range, All, refl, sym, ap, ◌∙◌, subst, arith}
-use Rattle.std.proofs.lemmas.Bool.{false≢true}
-use Rattle.std.proofs.lemmas.List.Elements.{All-take, All-drop}
-use Rattle.w16_model.specs.Gap.{Misses}
-use Rattle.w16_model.specs.Request.{AreNew}
-use Rattle.w16_model.proofs.Tables.{length_range}
-use Rattle.w16_model.specs.Bytes.{put_part, repeated}
-use Rattle.w16_model.proofs.Parts.{length-put_part, length-repeated, range-put_part, range_apart, All-put_part, All-repeated}
+use Rattle.w16_arena.proofs.Common.{◌≡◌, ℕ, ◌+◌, ◌-◌, ◌<◌, ◌≤◌, ◌⊎◌, inl, inr, Bool, true, false, if◌then◌else◌, List, length, drop, slice_range, All, refl, sym, ap, ◌∙◌, subst, arith, false≢true, All-take, All-drop, Misses, AreNew, length_range, put_part, repeated, length-put_part, length-repeated, range-put_part, range_apart, All-put_part, All-repeated}
 
 -- it is as long as before, and the same but for the range
 pub record Makes (at n : ℕ) (memory after : List ℕ) : Type 0 where

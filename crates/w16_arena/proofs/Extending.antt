@@ -1,20 +1,5 @@
 -- An object that got more bytes where it stands: its own and new ones, and the others' as they were.
-use Rattle.std.proofs.Common.{◌≡◌, ◌≢◌, ℕ, ◌+◌, ◌-◌, ◌<◌, ◌≤◌, inl, inr, Bool, not, ◌==◌, if◌then◌else◌, All, List, length, slice_range, Option, Some, None, option_map, refl, sym, ap, ◌∙◌, arith, ne_eqb}
-use Rattle.w16_model.specs.declared.Block.{Block}
-use Rattle.w16_model.specs.declared.Entry.{Entry}
-use Rattle.w16_model.specs.Bytes.{part, put_part, repeated}
-use Rattle.w16_model.specs.Gap.{Misses}
-use Rattle.w16_model.specs.Heap.{Object}
-use Rattle.w16_model.specs.Request.{IsGrown}
-use Rattle.w16_model.specs.Table.{block_with}
-use Rattle.w16_model.proofs.Gaps.{Each-at, filter_member}
-use Rattle.w16_model.proofs.Parts.{range_part}
-use Rattle.w16_model.proofs.Tables.{member_with}
-use Rattle.w16_blocks.specs.Layout.{Layout, IsOrdered, IsApart, FitsFor, all_but, replaced}
-use Rattle.w16_compact.specs.Gather.{contents}
-use Rattle.w16_lru.specs.Uses.{Uses}
-use Rattle.w16_arena.specs.State.{table_of}
-use Rattle.w16_arena.specs.Representation.{ArenaInvariant}
+use Rattle.w16_arena.proofs.Common.{◌≡◌, ◌≢◌, ℕ, ◌+◌, ◌-◌, ◌<◌, ◌≤◌, inl, inr, Bool, not, ◌==◌, if◌then◌else◌, All, List, length, slice_range, Option, Some, None, option_map, refl, sym, ap, ◌∙◌, arith, ne_eqb, Block, Entry, part, put_part, repeated, Misses, Object, IsGrown, block_with, Each-at, filter_member, range_part, member_with, Layout, IsOrdered, IsApart, FitsFor, all_but, replaced, contents, Uses, table_of, ArenaInvariant}
 use Rattle.w16_arena.proofs.Cleared.{Makes}
 use Rattle.w16_arena.proofs.Longer as longer
 use Rattle.w16_arena.proofs.InPlace.{others_with}

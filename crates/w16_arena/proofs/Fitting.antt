@@ -1,17 +1,6 @@
 -- A block with another size fits where it stands: with less, and with more where the hole behind it is long enough.
-use Rattle.std.proofs.Common.{◌≡◌, ℕ, ◌+◌, ◌<◌, ◌≤◌, IsTrue, Some, refl, arith, inl, inr}
+use Rattle.w16_arena.proofs.Common.{◌≡◌, ℕ, ◌+◌, ◌<◌, ◌≤◌, IsTrue, Some, refl, arith, inl, inr, Block, Misses, block_end, first_from, hole_after, is_any, IsMultiple, block_with, Each-map, Each-both, first_from-below, Layout, IsOrdered, IsApart, FitsFor, all_but, All-all_but, each_with, others_differ, named_each, fits_itself, but_for, AreFreeBytes}
 use Rattle.std.specs.List.{AllByRecursion as Each}
-use Rattle.w16_model.specs.declared.Block.{Block}
-use Rattle.w16_model.specs.Gap.{Misses, block_end, first_from, hole_after, is_any}
-use Rattle.w16_model.specs.Heap.{IsMultiple}
-use Rattle.w16_model.specs.Table.{block_with}
-use Rattle.w16_model.proofs.Gaps.{Each-map, Each-both, first_from-below}
-use Rattle.w16_blocks.specs.Layout.{Layout, IsOrdered, IsApart, FitsFor, all_but}
-use Rattle.w16_blocks.proofs.Remove.{All-all_but, each_with, others_differ}
-use Rattle.w16_blocks.proofs.Sliding.{named_each}
-use Rattle.w16_blocks.proofs.Step.{fits_itself}
-use Rattle.w16_arena.specs.Growth.{but_for}
-use Rattle.w16_arena.specs.NewPlace.{AreFreeBytes}
 
 module _ (l : Layout) (b : Block) (known : block_with l.blocks b.id ≡ Some b) (ordered : IsOrdered l) where
   -- a block's id is one

@@ -1,14 +1,5 @@
 -- An arena before anything is allocated.
-use Rattle.std.proofs.Common.{◌≡◌, ℕ, zero, suc, ◌≤◌, IfSome, [], length, get_or, replicate, Option, None, refl, sym, ap, ◌∙◌, subst, arith}
-use Rattle.std.proofs.lemmas.List.{length-replicate}
-use Rattle.w16_model.specs.declared.Entry.{Entry}
-use Rattle.w16_model.specs.Heap.{IsMultiple}
-use Rattle.w16_model.specs.Table.{IsCountedBy, IsSound, is_listed}
-use Rattle.w16_model.proofs.Gaps.{All-from_Each, AllPairs-from_EachPair}
-use Rattle.w16_blocks.specs.Layout.{Layout}
-use Rattle.w16_lru.specs.Uses.{Uses}
-use Rattle.w16_arena.specs.State.{empty_table}
-use Rattle.w16_arena.specs.Representation.{ArenaInvariant}
+use Rattle.w16_arena.proofs.Common.{◌≡◌, ℕ, zero, suc, ◌≤◌, IfSome, [], length, get_or, replicate, Option, None, refl, sym, ap, ◌∙◌, subst, arith, length-replicate, Entry, IsMultiple, IsCountedBy, IsSound, is_listed, All-from_Each, AllPairs-from_EachPair, Layout, Uses, empty_table, ArenaInvariant}
 use Rattle.w16_arena.proofs.Lookups.{IsArranged, IsOrder, sound_of}
 
 abbrev none : Option Entry

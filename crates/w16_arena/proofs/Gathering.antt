@@ -1,16 +1,6 @@
 -- A gap that was gathered: the blocks that slid, and the place that they leave.
 use Rattle.std.specs.List.{AllByRecursion as Each}
-use Rattle.std.proofs.Common.{◌≡◌, ℕ, ◌+◌, ◌<◌, inl, inr, Bool, true, false, cond, ◌&&◌, IsTrue, List, [], ◌∷◌, length, All, refl, sym, ap, ◌∙◌, subst, arith}
-use Rattle.w16_model.specs.declared.Block.{Block}
-use Rattle.w16_model.specs.Gap.{is_any, is_loose, begins_in, loose_bytes, IsClear, Misses}
-use Rattle.w16_model.specs.Heap.{IsMultiple}
-use Rattle.w16_model.proofs.Gaps.{Each-from_All, Each-map}
-use Rattle.w16_blocks.specs.Layout.{Layout, IsOrdered, IsGrained}
-use Rattle.w16_compact.specs.declared.gaps.Gap.{Gap}
-use Rattle.w16_compact.specs.Gap.{HasRoom}
-use Rattle.w16_compact.specs.Gather.{contents, gathered}
-use Rattle.w16_compact.proofs.Loose.{loose_one}
-use Rattle.w16_arena.specs.NewPlace.{EachTwo, AreMoved, AreFreeBytes}
+use Rattle.w16_arena.proofs.Common.{◌≡◌, ℕ, ◌+◌, ◌<◌, inl, inr, Bool, true, false, cond, ◌&&◌, IsTrue, List, [], ◌∷◌, length, All, refl, sym, ap, ◌∙◌, subst, arith, Block, is_any, is_loose, begins_in, loose_bytes, IsClear, Misses, IsMultiple, Each-from_All, Each-map, Layout, IsOrdered, IsGrained, Gap, HasRoom, contents, gathered, loose_one, EachTwo, AreMoved, AreFreeBytes}
 use Rattle.w16_arena.proofs.Pairs.{Stands, two_gathered, two_slides}
 
 -- at multiples of the grain

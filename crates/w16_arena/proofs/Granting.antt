@@ -1,25 +1,5 @@
 -- What the call for a place leaves kept and answers.
-use Rattle.std.proofs.Common.{◌≡◌, ℕ, ◌+◌, ◌<◌, ◌≤◌, true, false, ◌&&◌, if◌then◌else◌, All, List, length, set, slice_range, Option, Some, None, refl, ap, ◌∙◌, subst, sym, arith}
-use Rattle.std.proofs.lemmas.List.{length-set}
-use Rattle.w16_model.specs.declared.Entry.{Entry}
-use Rattle.w16_model.specs.declared.Hold.{Hold}
-use Rattle.w16_model.specs.declared.Kind.{Kind}
-use Rattle.w16_model.specs.declared.RoomOptions.{RoomOptions}
-use Rattle.w16_model.specs.Heap.{IsMultiple, is_discardable}
-use Rattle.w16_model.specs.Changes.{newest, with_newest}
-use Rattle.w16_model.specs.Request.{IsNew}
-use Rattle.w16_model.specs.Table.{block_with, hold_of_entry, heap_in}
-use Rattle.w16_model.specs.Bytes.{put_part, repeated}
-use Rattle.w16_blocks.specs.Layout.{Layout, IsOrdered, Fits, placed}
-use Rattle.w16_compact.specs.Gather.{moved_between}
-use Rattle.w16_lru.specs.Uses.{Uses}
-use Rattle.w16_arena.specs.declared.new_place.Placed.{Placed}
-use Rattle.w16_arena.specs.Asked.{Stands}
-use Rattle.std.specs.Borrow.{GName}
-use Rattle.w16_compact.specs.Rest.{IsSameRest}
-use Rattle.w16_arena.specs.State.{ArenaState, KeepsRest, table_of, heap_of}
-use Rattle.w16_arena.specs.Representation.{ArenaInvariant}
-use Rattle.w16_arena.specs.NewPlace.{AreMoved, AreFreeBytes}
+use Rattle.w16_arena.proofs.Common.{◌≡◌, ℕ, ◌+◌, ◌<◌, ◌≤◌, true, false, ◌&&◌, if◌then◌else◌, All, List, length, set, slice_range, Option, Some, None, refl, ap, ◌∙◌, subst, sym, arith, length-set, Entry, Hold, Kind, RoomOptions, IsMultiple, is_discardable, newest, with_newest, IsNew, block_with, hold_of_entry, heap_in, put_part, repeated, Layout, IsOrdered, Fits, placed, moved_between, Uses, Placed, Stands, GName, IsSameRest, ArenaState, KeepsRest, table_of, heap_of, ArenaInvariant, AreMoved, AreFreeBytes, rest_more}
 use Rattle.w16_arena.proofs.Parts.{AreParts}
 use Rattle.w16_arena.proofs.Steps.{state_of, beside, kept_with}
 use Rattle.w16_arena.proofs.Shown.{known, told}
@@ -28,7 +8,6 @@ use Rattle.w16_arena.proofs.Cleared.{Makes, makes, fresh}
 use Rattle.w16_arena.proofs.Joining.{joins, joined}
 use Rattle.w16_arena.proofs.Allocated.{AreLocks}
 use Rattle.w16_arena.proofs.Standing as standing
-use Rattle.w16_compact.proofs.Rests.{rest_more}
 
 module _ {entries : List (Option Entry)} {layout : Layout} {uses : Uses} {gap_rooms : ℕ} {room : ℕ} (kept : ArenaInvariant entries layout uses gap_rooms room)
     {discarded : List ℕ} {old : ArenaState} (shown : state_of entries layout uses.ids discarded ≡ old)

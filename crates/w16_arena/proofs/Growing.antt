@@ -1,28 +1,5 @@
 -- A growth, by what was found and made for it.
-use Rattle.std.proofs.Common.{◌≡◌, ℕ, ◌<◌, ◌≤◌, inl, inr, Bool, true, false, not, ◌&&◌, ◌||◌, ◌==◌, cond, nat_le, IsSomeAnd, MatchOption, All, List, [], ◌∷◌, length, replicate, take, fold, Option, Some, None, refl, sym, ap, ◌∙◌, subst, arith, eq-eqb, leb-true, leb-false, le-leb}
-use Rattle.std.proofs.lemmas.Bool.{false≢true, and_parts, cases_Bool}
-use Rattle.std.proofs.lemmas.List.{length-replicate}
-use Rattle.w16_model.specs.declared.Block.{Block}
-use Rattle.w16_model.specs.declared.RoomOptions.{RoomOptions}
-use Rattle.w16_model.specs.Law.{KeepsOthers}
-use Rattle.w16_model.specs.Gap.{holds_still, room, longest_hole}
-use Rattle.w16_model.specs.Discards.{eligible, growth_for, fits_in_place, needed, none_discarded_if, room_for, snapshot, is_pinned_id, is_about}
-use Rattle.w16_model.specs.Heap.{Heap, Object, IsMultiple, blocks, object_at}
-use Rattle.w16_model.specs.Changes.{absent, with_ordered}
-use Rattle.w16_model.specs.Request.{IsGrown, Reallocates, Settles, StaysOrMovesToHole, stays_for, discarded, moved_bytes, discards_needed, snapshot_of}
-use Rattle.w16_model.specs.Table.{Table, IsSound, block_with, heap_in}
-use Rattle.w16_model.proofs.Gaps.{Member, EachPair-from_AllPairs, member_filter}
-use Rattle.w16_model.proofs.Heaps.{IsBlockOf, get-update_other}
-use Rattle.w16_model.proofs.Tables.{member_with, with_member, table_block, block_table, table_longest}
-use Rattle.w16_model.proofs.Sound.{sound_heap}
-use Rattle.w16_model.proofs.Others.{others_law}
-use Rattle.w16_model.proofs.Discards.{from_take, absents_of_block, room-discarded}
-use Rattle.w16_model.proofs.Prefixes.{prefix_now, prefix_kept, prefix_needed, needed_by_members, needed_enough, eligible_by_members, room_by_members}
-use Rattle.w16_model.proofs.Answered.{settles_after, moved_after}
-use Rattle.w16_blocks.specs.Layout.{all_but}
-use Rattle.w16_arena.specs.Asked.{Stands, IsResized, Discards, may_grow_in}
-use Rattle.w16_arena.specs.declared.new_place.Placed.{Placed}
-use Rattle.w16_arena.specs.State.{ArenaState}
+use Rattle.w16_arena.proofs.Common.{◌≡◌, ℕ, ◌<◌, ◌≤◌, inl, inr, Bool, true, false, not, ◌&&◌, ◌||◌, ◌==◌, cond, nat_le, IsSomeAnd, MatchOption, All, List, [], ◌∷◌, length, replicate, take, fold, Option, Some, None, refl, sym, ap, ◌∙◌, subst, arith, eq-eqb, leb-true, leb-false, le-leb, false≢true, and_parts, cases_Bool, length-replicate, Block, RoomOptions, KeepsOthers, holds_still, room, longest_hole, eligible, growth_for, fits_in_place, needed, none_discarded_if, room_for, snapshot, is_pinned_id, is_about, Heap, Object, IsMultiple, blocks, object_at, absent, with_ordered, IsGrown, Reallocates, Settles, StaysOrMovesToHole, stays_for, discarded, moved_bytes, discards_needed, snapshot_of, Table, IsSound, block_with, heap_in, Member, EachPair-from_AllPairs, member_filter, IsBlockOf, get-update_other, member_with, with_member, table_block, block_table, table_longest, sound_heap, others_law, from_take, absents_of_block, room-discarded, prefix_now, prefix_kept, prefix_needed, needed_by_members, needed_enough, eligible_by_members, room_by_members, settles_after, moved_after, all_but, Stands, IsResized, Discards, may_grow_in, Placed, ArenaState}
 use Rattle.w16_arena.proofs.Parts.{AreParts}
 use Rattle.w16_arena.proofs.Lookups.{in_list}
 use Rattle.w16_arena.proofs.Listed.{listed_permutation}

@@ -1,15 +1,6 @@
 -- What the search for a hole tells of the table's heap.
-use Rattle.std.specs.List.{AllByRecursion as Each, find}
-use Rattle.std.proofs.Common.{◌≡◌, ℕ, ◌+◌, ◌-◌, ◌*◌, ◌<◌, ◌≤◌, inl, inr, Bool, true, false, cond, nat_le, nat_lt, IsTrue, List, [], ◌∷◌, map, filter, get_or, length, Option, Some, None, option_map, refl, sym, ap, subst, arith, leb-true, leb-false}
-use Rattle.std.specs.List.{Contains}
-use Rattle.std.proofs.Common.{zero, suc}
-use Rattle.std.proofs.lemmas.Bool.{cases_lt}
-use Rattle.w16_model.specs.declared.Block.{Block}
-use Rattle.w16_model.specs.declared.Span.{Span}
-use Rattle.w16_model.specs.Gap.{block_end, first_from, is_any, starts, holes, longest_hole, Misses, ArePlaced, IsHole}
-use Rattle.w16_model.specs.Heap.{IsMultiple}
-use Rattle.w16_model.proofs.Gaps.{Member, Each-at, Each-from, Each-from_All, Each-map, Each-of_map, member_filter}
-use Rattle.w16_model.proofs.Starts.{spans_are, hole_is_longest}
+use Rattle.w16_arena.proofs.Common.{find, ◌≡◌, ℕ, ◌+◌, ◌-◌, ◌*◌, ◌<◌, ◌≤◌, inl, inr, Bool, true, false, cond, nat_le, nat_lt, IsTrue, List, [], ◌∷◌, map, filter, get_or, length, Option, Some, None, option_map, refl, sym, ap, subst, arith, leb-true, leb-false, Contains, zero, suc, cases_lt, Block, Span, block_end, first_from, is_any, starts, holes, longest_hole, Misses, ArePlaced, IsHole, IsMultiple, Member, Each-at, Each-from, Each-from_All, Each-map, Each-of_map, member_filter, spans_are, hole_is_longest}
+use Rattle.std.specs.List.{AllByRecursion as Each}
 
 -- what passes, where it is found; and where nothing is, none passes
 found_member : (p : Span → Bool) (ss : List Span) (s : Span) → find p ss ≡ Some s → Member s ss × IsTrue (p s)

@@ -1,29 +1,6 @@
 -- An object that got another size where it stands: what its call leaves kept and answers.
-use Rattle.std.proofs.Common.{◌≡◌, ◌≢◌, ℕ, ◌+◌, ◌<◌, ◌≤◌, ◌⊎◌, true, false, not, ◌&&◌, cond, IfSome, List, [], length, take, drop, replicate, slice_range, Option, Some, None, option_map, refl, sym, ap, ◌∙◌, subst, arith, le-leb, ne_eqb}
+use Rattle.w16_arena.proofs.Common.{◌≡◌, ◌≢◌, ℕ, ◌+◌, ◌<◌, ◌≤◌, ◌⊎◌, true, false, not, ◌&&◌, cond, IfSome, List, [], length, take, drop, replicate, slice_range, Option, Some, None, option_map, refl, sym, ap, ◌∙◌, subst, arith, le-leb, ne_eqb, lt-leb, FinMap, nat_cmp, take-take, GName, Block, Entry, RoomOptions, part, block_end, hole_after, holds_still, Heap, Object, IsMultiple, with_object, IsGrown, Reallocates, Table, block_with, heap_in, range_part, Layout, IsOrdered, all_but, replaced, contents, IsSameRest, Uses, Placed, IsResized, IsPlaced, KeepsRest, table_of, heap_of, ArenaInvariant}
 use Rattle.std.specs.FinMap as finmap
-use Rattle.std.proofs.lemmas.Bool.{lt-leb}
-use Rattle.std.specs.FinMap.{FinMap}
-use Rattle.std.specs.Ordering.{nat_cmp}
-use Rattle.std.proofs.lemmas.List.{take-take}
-use Rattle.std.specs.Borrow.{GName}
-use Rattle.w16_model.specs.declared.Block.{Block}
-use Rattle.w16_model.specs.declared.Entry.{Entry}
-use Rattle.w16_model.specs.declared.RoomOptions.{RoomOptions}
-use Rattle.w16_model.specs.Bytes.{part}
-use Rattle.w16_model.specs.Gap.{block_end, hole_after, holds_still}
-use Rattle.w16_model.specs.Heap.{Heap, Object, IsMultiple}
-use Rattle.w16_model.specs.Changes.{with_object}
-use Rattle.w16_model.specs.Request.{IsGrown, Reallocates}
-use Rattle.w16_model.specs.Table.{Table, block_with, heap_in}
-use Rattle.w16_model.proofs.Parts.{range_part}
-use Rattle.w16_blocks.specs.Layout.{Layout, IsOrdered, all_but, replaced}
-use Rattle.w16_compact.specs.Gather.{contents}
-use Rattle.w16_compact.specs.Rest.{IsSameRest}
-use Rattle.w16_lru.specs.Uses.{Uses}
-use Rattle.w16_arena.specs.declared.new_place.Placed.{Placed}
-use Rattle.w16_arena.specs.Asked.{IsResized, IsPlaced}
-use Rattle.w16_arena.specs.State.{KeepsRest, table_of, heap_of}
-use Rattle.w16_arena.specs.Representation.{ArenaInvariant}
 use Rattle.w16_arena.proofs.Parts.{AreParts}
 use Rattle.w16_arena.proofs.With.{with-without}
 use Rattle.w16_arena.proofs.Keeping.{bytes_with}

@@ -1,13 +1,5 @@
 -- A new object joins the order of use: a discardable one is the newest, and another isn't in it.
-use Rattle.std.proofs.Common.{◌≡◌, ℕ, Bool, true, false, ◌&&◌, if◌then◌else◌, List, get_or, Option, Some, None, refl, ap, ◌∙◌}
-use Rattle.w16_model.specs.declared.Entry.{Entry}
-use Rattle.w16_model.specs.declared.Kind.{Kind}
-use Rattle.w16_model.specs.Heap.{is_discardable}
-use Rattle.w16_model.specs.Discards.{is_member}
-use Rattle.w16_model.specs.Changes.{newest, without, with_newest}
-use Rattle.w16_model.specs.Table.{block_with, is_listed}
-use Rattle.w16_blocks.specs.Layout.{Layout}
-use Rattle.w16_lru.specs.declared.End.TheVariants.{Newest}
+use Rattle.w16_arena.proofs.Common.{◌≡◌, ℕ, Bool, true, false, ◌&&◌, if◌then◌else◌, List, get_or, Option, Some, None, refl, ap, ◌∙◌, Entry, Kind, is_discardable, is_member, newest, without, with_newest, block_with, is_listed, Layout, Newest}
 use Rattle.w16_arena.proofs.Parts.{AreParts}
 use Rattle.w16_arena.proofs.Changed.{ReordersOne}
 use Rattle.w16_arena.proofs.Reordered.{end_reorders, same_reorders, without_none}

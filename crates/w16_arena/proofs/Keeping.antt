@@ -1,23 +1,6 @@
 -- What keeps each block's bytes keeps a table's heap: where only bytes of holes change, and after one step more.
-use Rattle.std.proofs.Common.{ℕ, ◌≡◌, ◌+◌, ◌<◌, List, [], ◌∷◌, length, slice_range, Some, option_map, refl, sym, ap, ◌∙◌, subst, arith, inl, inr, All}
-use Rattle.std.proofs.lemmas.Bool.Decides.{eqb_tells}
-use Rattle.std.specs.Borrow.{GName}
+use Rattle.w16_arena.proofs.Common.{ℕ, ◌≡◌, ◌+◌, ◌<◌, List, [], ◌∷◌, length, slice_range, Some, option_map, refl, sym, ap, ◌∙◌, subst, arith, inl, inr, All, eqb_tells, GName, AllByRecursion, Block, Span, part, IsLaid, block_end, holes, Table, IsSameOutside, block_with, by_id, heap_in, range_part, part_below, part_above, IsFree, IsUsed, AreSameIn, AreSameOutside, Layout, IsOrdered, all_but, placed, holes_of, used_each, outside_holes, All-first, contents, rest_more, rest_same, KeepsBytes, EachTwo, Slides, AreMoved}
 use Rattle.std.specs.FinMap as finmap
-use Rattle.std.specs.List.{AllByRecursion}
-use Rattle.w16_model.specs.declared.Block.{Block}
-use Rattle.w16_model.specs.declared.Span.{Span}
-use Rattle.w16_model.specs.Bytes.{part}
-use Rattle.w16_model.specs.Gap.{IsLaid, block_end, holes}
-use Rattle.w16_model.specs.Table.{Table, IsSameOutside, block_with, by_id, heap_in}
-use Rattle.w16_model.proofs.Parts.{range_part, part_below, part_above}
-use Rattle.w16_holes.specs.Holes.{IsFree, IsUsed, AreSameIn, AreSameOutside}
-use Rattle.w16_blocks.specs.Layout.{Layout, IsOrdered, all_but, placed, holes_of}
-use Rattle.w16_blocks.proofs.Outside.{used_each, outside_holes}
-use Rattle.w16_blocks.proofs.Step.{All-first}
-use Rattle.w16_compact.specs.Gather.{contents}
-use Rattle.w16_compact.proofs.Rests.{rest_more, rest_same}
-use Rattle.w16_arena.specs.State.{KeepsBytes}
-use Rattle.w16_arena.specs.NewPlace.{EachTwo, Slides, AreMoved}
 
 module _ (m n : List ℕ) where
   contents_first : (b : Block) (bs : List Block) → contents n (b ∷ bs) ≡ contents m (b ∷ bs) → (part n b.at b.size ≡ part m b.at b.size) × (contents n bs ≡ contents m bs)

@@ -1,21 +1,5 @@
 -- What a block's new size leaves of the bytes: those of the others, its own as far as it has them before and after, and all outside the bounds.
-use Rattle.std.proofs.Common.{ℕ, ◌≡◌, ◌+◌, ◌≤◌, List, [], ◌∷◌, Some, refl, subst, sym, arith, inl, inr}
-use Rattle.std.specs.Borrow.{GName}
-use Rattle.std.specs.List.{AllByRecursion}
-use Rattle.w16_model.specs.declared.Block.{Block}
-use Rattle.w16_model.specs.declared.Span.{Span}
-use Rattle.w16_model.specs.Bytes.{part}
-use Rattle.w16_model.specs.Gap.{block_end}
-use Rattle.w16_model.specs.Table.{block_with}
-use Rattle.w16_holes.specs.Holes.{IsUsed}
-use Rattle.w16_blocks.specs.Layout.{Layout, IsOrdered, all_but, placed, replaced, holes_of}
-use Rattle.w16_blocks.specs.Stay.{AreSameOutsideBoth}
-use Rattle.w16_blocks.proofs.Outside.{used_each, outside_but}
-use Rattle.w16_blocks.proofs.Remove.{All-all_but, each_with}
-use Rattle.w16_blocks.proofs.Free.{laid_le}
-use Rattle.w16_blocks.proofs.Step.{All-first}
-use Rattle.w16_compact.specs.Gather.{contents}
-use Rattle.w16_arena.specs.State.{KeepsBytes}
+use Rattle.w16_arena.proofs.Common.{ℕ, ◌≡◌, ◌+◌, ◌≤◌, List, [], ◌∷◌, Some, refl, subst, sym, arith, inl, inr, GName, AllByRecursion, Block, Span, part, block_end, block_with, IsUsed, Layout, IsOrdered, all_but, placed, replaced, holes_of, AreSameOutsideBoth, used_each, outside_but, All-all_but, each_with, laid_le, All-first, contents, KeepsBytes}
 
 -- a shorter place is used too
 used_less : (a b c : ℕ) (hs : List Span) → b ≤ c → IsUsed a c hs → IsUsed a b hs

@@ -1,17 +1,6 @@
 -- The blocks of the parts' heap are those that are listed, in another order.
-use Rattle.std.proofs.Common.{◌≡◌, ◌≢◌, ℕ, ◌≤◌, List, length, Option, Some, ap, IsPermutation}
-use Rattle.w16_model.specs.declared.Block.{Block}
-use Rattle.w16_model.specs.declared.Entry.{Entry}
-use Rattle.w16_model.specs.Gap.{room}
-use Rattle.w16_model.specs.Heap.{blocks}
-use Rattle.w16_model.specs.Table.{block_with}
-use Rattle.w16_model.proofs.Gaps.{EachPair, Member, EachPair-map, EachPair-from_AllPairs}
-use Rattle.w16_model.proofs.Heaps.{member_block, blocks_permutation}
-use Rattle.w16_model.proofs.Members.{room-permutation}
-use Rattle.w16_model.proofs.Tables.{table_block, block_table, with_member}
-use Rattle.w16_blocks.specs.Layout.{Layout}
+use Rattle.w16_arena.proofs.Common.{◌≡◌, ◌≢◌, ℕ, ◌≤◌, List, length, Option, Some, ap, IsPermutation, Block, Entry, room, blocks, block_with, EachPair, Member, EachPair-map, EachPair-from_AllPairs, member_block, blocks_permutation, room-permutation, table_block, block_table, with_member, Layout, table_of, heap_of}
 use Rattle.w16_arena.proofs.Parts.{AreParts}
-use Rattle.w16_arena.specs.State.{table_of, heap_of}
 
 module _ {entries : List (Option Entry)} {layout : Layout} {order memory : List ℕ} (parts : AreParts entries layout order memory) where
   pub whole : layout.hi ≤ length memory

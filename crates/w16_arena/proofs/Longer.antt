@@ -1,11 +1,5 @@
 -- The bytes of an object that got longer: those that it had came along, and those behind them are new.
-use Rattle.std.proofs.Common.{◌≡◌, ℕ, ◌+◌, ◌-◌, ◌<◌, ◌≤◌, inl, inr, Bool, if◌then◌else◌, List, ◌++◌, length, take, drop, slice_range, All, Some, refl, sym, ap, ◌∙◌, subst, arith}
-use Rattle.std.proofs.lemmas.List.{take-take, take-append-drop, drop-take, drop-drop}
-use Rattle.w16_model.specs.declared.Kind.{Kind}
-use Rattle.w16_model.specs.Bytes.{part, put_part, repeated}
-use Rattle.w16_model.specs.Gap.{Misses}
-use Rattle.w16_model.specs.Request.{AreNew, IsGrown}
-use Rattle.w16_model.proofs.Parts.{range_part}
+use Rattle.w16_arena.proofs.Common.{◌≡◌, ℕ, ◌+◌, ◌-◌, ◌<◌, ◌≤◌, inl, inr, Bool, if◌then◌else◌, List, ◌++◌, length, take, drop, slice_range, All, Some, refl, sym, ap, ◌∙◌, subst, arith, take-take, take-append-drop, drop-take, drop-drop, Kind, part, put_part, repeated, Misses, AreNew, IsGrown, range_part}
 use Rattle.w16_arena.proofs.Cleared.{Makes, makes, fresh}
 
 -- a part by two

@@ -1,22 +1,7 @@
 -- What the heap of the parts has at an id, and when it is another heap.
-use Rattle.std.proofs.Common.{◌≡◌, ◌≢◌, ℕ, zero, suc, ◌+◌, ◌<◌, ◌≤◌, IfSome, IsSomeAnd, List, [], ◌∷◌, length, get_or, slice_range, All, AllPairs, Option, Some, None, option_map, refl, sym, ap, ◌∙◌, subst, arith}
-use Rattle.std.specs.Cmp.{nat_cmp_total}
+use Rattle.w16_arena.proofs.Common.{◌≡◌, ◌≢◌, ℕ, zero, suc, ◌+◌, ◌<◌, ◌≤◌, IfSome, IsSomeAnd, List, [], ◌∷◌, length, get_or, slice_range, All, AllPairs, Option, Some, None, option_map, refl, sym, ap, ◌∙◌, subst, arith, nat_cmp_total, same_map, nat_cmp-IsAntisymmetric, AllByRecursion, Block, Entry, Heap, Object, IsHeap, object_at, bytes_at, IsMultiple, IsCountedBy, IsSound, block_with, object_in, hold_of_entry, is_listed, is_member, EachPair, Each-from, Each-at, Each-from_All, All-from_Each, AllPairs-from_EachPair, EachPair-from_AllPairs, object_is, place_is, with_member, member_with, length_range, sound_heap, laid_each, block_end, IsLaid, Layout, IsOrdered, AreNamed, table_of, heap_of, entry_of}
 use Rattle.std.specs.FinMap as finmap
-use Rattle.std.specs.FinMap.{same_map, nat_cmp-IsAntisymmetric}
-use Rattle.std.specs.List.{AllByRecursion}
-use Rattle.w16_model.specs.declared.Block.{Block}
-use Rattle.w16_model.specs.declared.Entry.{Entry}
-use Rattle.w16_model.specs.Heap.{Heap, Object, IsHeap, object_at, bytes_at, IsMultiple}
-use Rattle.w16_model.specs.Table.{IsCountedBy, IsSound, block_with, object_in, hold_of_entry, is_listed}
-use Rattle.w16_model.specs.Discards.{is_member}
-use Rattle.w16_model.proofs.Gaps.{EachPair, Each-from, Each-at, Each-from_All, All-from_Each, AllPairs-from_EachPair, EachPair-from_AllPairs}
-use Rattle.w16_model.proofs.Tables.{object_is, place_is, with_member, member_with, length_range}
-use Rattle.w16_model.proofs.Sound.{sound_heap}
-use Rattle.w16_model.proofs.Laid.{laid_each}
-use Rattle.w16_model.specs.Gap.{block_end, IsLaid}
-use Rattle.w16_blocks.specs.Layout.{Layout, IsOrdered, AreNamed}
 use Rattle.w16_arena.proofs.Parts.{AreParts}
-use Rattle.w16_arena.specs.State.{table_of, heap_of, entry_of}
 
 -- a place with an entry is in the list
 pub in_list : (entries : List (Option Entry)) (id : ℕ) (e : Entry) → get_or entries id None ≡ Some e → id < length entries

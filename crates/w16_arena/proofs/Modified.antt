@@ -1,21 +1,5 @@
 -- An object's kind is changed: its entry and its place in the order of use, and nothing else.
-use Rattle.std.proofs.Common.{◌≡◌, ℕ, ◌+◌, ◌<◌, ◌≤◌, ◌&&◌, ◌||◌, Bool, true, false, IfSome, IsSomeAnd, List, length, get_or, set, slice_range, Option, Some, None, Ok, option_map, is_some, refl, sym, ap, ◌∙◌, subst, inl, inr}
-use Rattle.std.proofs.lemmas.Bool.{false≢true, or_parts}
-use Rattle.std.proofs.lemmas.Bool.Decides.{eqb_tells}
-use Rattle.std.proofs.lemmas.List.{length-set}
-use Rattle.w16_model.specs.declared.Block.{Block}
-use Rattle.w16_model.specs.declared.Entry.{Entry}
-use Rattle.w16_model.specs.declared.Kind.{Kind}
-use Rattle.w16_model.specs.Discards.{is_member}
-use Rattle.w16_model.specs.Heap.{Heap, is_fixed, is_discardable}
-use Rattle.w16_model.specs.Changes.{with_ordered}
-use Rattle.w16_model.specs.OneObject.{after_modify}
-use Rattle.w16_model.specs.Table.{IsSound, IsCountedBy, block_with, hold_of_entry, object_in, is_listed}
-use Rattle.w16_blocks.specs.Layout.{Layout}
-use Rattle.w16_lru.specs.Uses.{Uses}
-use Rattle.w16_lru.specs.declared.End.TheVariants.{Newest}
-use Rattle.w16_arena.specs.State.{ArenaState, Steps, table_of, heap_of, relisted}
-use Rattle.w16_arena.specs.Representation.{ArenaInvariant}
+use Rattle.w16_arena.proofs.Common.{◌≡◌, ℕ, ◌+◌, ◌<◌, ◌≤◌, ◌&&◌, ◌||◌, Bool, true, false, IfSome, IsSomeAnd, List, length, get_or, set, slice_range, Option, Some, None, Ok, option_map, is_some, refl, sym, ap, ◌∙◌, subst, inl, inr, false≢true, or_parts, eqb_tells, length-set, Block, Entry, Kind, is_member, Heap, is_fixed, is_discardable, with_ordered, after_modify, IsSound, IsCountedBy, block_with, hold_of_entry, object_in, is_listed, Layout, Uses, Newest, ArenaState, Steps, table_of, heap_of, relisted, ArenaInvariant}
 use Rattle.w16_arena.proofs.Parts.{AreParts}
 use Rattle.w16_arena.proofs.Lookups.{in_list, holds_at, object_here, sound_arranged}
 use Rattle.w16_arena.proofs.Changed.{GoTogether, ChangesOne, ReordersOne}

@@ -1,24 +1,7 @@
 -- The bytes that were moved, by the blocks and by the heap.
-use Rattle.std.proofs.Common.{◌≡◌, ℕ, ◌+◌, ◌≤◌, true, false, length, ◌==◌, inl, inr, Bool, cond, List, [], ◌∷◌, filter, sum_by, Option, Some, option_map, refl, sym, ap, ◌∙◌, arith, eq-eqb, ne_eqb}
-use Rattle.std.proofs.Common.{IsPermutation}
-use Rattle.std.proofs.lemmas.Bool.Decides.{eqb_tells}
-use Rattle.std.proofs.lemmas.List.Sorted.{sum_by-IsPermutation}
-use Rattle.std.proofs.lemmas.List.Sums.{sum_by-cons}
+use Rattle.w16_arena.proofs.Common.{◌≡◌, ℕ, ◌+◌, ◌≤◌, true, false, length, ◌==◌, inl, inr, Bool, cond, List, [], ◌∷◌, filter, sum_by, Option, Some, option_map, refl, sym, ap, ◌∙◌, arith, eq-eqb, ne_eqb, IsPermutation, eqb_tells, sum_by-IsPermutation, sum_by-cons, Block, Entry, Heap, blocks, is_elsewhere, moved_bytes, IsLaid, block_end, Table, IsSound, block_with, heap_in, Member, sum_filter, with_member, Layout, moved_between, heap_of, EachTwo, Slides, AreMoved}
 use Rattle.std.specs.FinMap as finmap
-use Rattle.w16_model.specs.declared.Block.{Block}
-use Rattle.w16_model.specs.declared.Entry.{Entry}
-use Rattle.w16_model.specs.Heap.{Heap, blocks}
-use Rattle.w16_model.specs.Request.{is_elsewhere, moved_bytes}
-use Rattle.w16_model.specs.Gap.{IsLaid, block_end}
-use Rattle.w16_model.specs.Table.{Table, IsSound, block_with, heap_in}
-use Rattle.w16_model.proofs.Gaps.{Member}
-use Rattle.w16_model.proofs.Longest.{sum_filter}
-use Rattle.w16_model.proofs.Tables.{with_member}
-use Rattle.w16_blocks.specs.Layout.{Layout}
-use Rattle.w16_compact.specs.Gather.{moved_between}
 use Rattle.w16_arena.proofs.Parts.{AreParts}
-use Rattle.w16_arena.specs.State.{heap_of}
-use Rattle.w16_arena.specs.NewPlace.{EachTwo, Slides, AreMoved}
 use Rattle.w16_arena.proofs.Lookups.{named_pairs, place_here}
 use Rattle.w16_arena.proofs.Listed.{listed_permutation}
 

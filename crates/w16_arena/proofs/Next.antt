@@ -1,14 +1,6 @@
 -- The lowest block at or above an address.
 use Rattle.std.specs.List.{AllByRecursion as Each}
-use Rattle.std.proofs.Common.{◌≡◌, ℕ, ◌<◌, ◌≤◌, ◌⊎◌, inl, inr, IfSome, IfNone, List, [], ◌∷◌, MatchOption, Option, Some, None, slice_get, refl, sym, subst, arith}
-use Rattle.std.proofs.lemmas.Bool.{cases_lt, lt-ltb, le-ltb}
-use Rattle.w16_model.specs.declared.Block.{Block}
-use Rattle.w16_model.specs.Gap.{IsLaid, block_end}
-use Rattle.w16_model.specs.Table.{Table, IsSound, block_with}
-use Rattle.w16_model.proofs.Gaps.{Member, Each-at, Each-map, EachPair-from_AllPairs}
-use Rattle.w16_model.proofs.Tables.{with_member, member_with}
-use Rattle.w16_blocks.specs.Layout.{rank}
-use Rattle.w16_model.proofs.Laid.{laid_each}
+use Rattle.w16_arena.proofs.Common.{◌≡◌, ℕ, ◌<◌, ◌≤◌, ◌⊎◌, inl, inr, IfSome, IfNone, List, [], ◌∷◌, MatchOption, Option, Some, None, slice_get, refl, sym, subst, arith, cases_lt, lt-ltb, le-ltb, Block, IsLaid, block_end, Table, IsSound, block_with, Member, Each-at, Each-map, EachPair-from_AllPairs, with_member, member_with, rank, laid_each}
 
 -- what the block of a rank is to an address
 abbrev pub IsNext : ℕ → List Block → Option Block → Type 0

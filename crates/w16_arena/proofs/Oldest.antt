@@ -1,29 +1,5 @@
 -- The oldest that a request may discard, and the discards one by one.
-use Rattle.std.proofs.Common.{◌≡◌, ℕ, zero, suc, ◌+◌, ◌-◌, ◌<◌, ◌≤◌, inl, inr, Bool, true, false, cond, not, ◌&&◌, ◌||◌, nat_lt, IsSomeAnd, subst, List, [], ◌∷◌, ◌++◌, append_assoc, length, replicate, take, drop, Option, Some, None, refl, sym, ap, ◌∙◌, arith, slice_get, eqb}
-use Rattle.std.specs.List.{list_any}
-use Rattle.std.proofs.lemmas.Bool.{false≢true, cases_Bool, ltb-false, or_cases, eqb-true}
-use Rattle.std.proofs.lemmas.Bool.Decides.{Decides-eqb}
-use Rattle.std.proofs.lemmas.List.{length-append, length-take, length-replicate, append-nil}
-use Rattle.std.proofs.lemmas.Map.Made.{IsDistinct-from_AllPairs}
-use Rattle.std.proofs.lemmas.Map.Steps.{length-le_from_distinct_below}
-use Rattle.w16_model.specs.declared.Block.{Block}
-use Rattle.w16_model.specs.declared.Entry.{Entry}
-use Rattle.w16_model.specs.Changes.{absent}
-use Rattle.w16_model.specs.Heap.{Heap, blocks, is_fixed, is_discardable}
-use Rattle.w16_model.specs.Gap.{holds_still}
-use Rattle.w16_model.specs.declared.Hold.TheVariants.{Pinned, Loose}
-use Rattle.w16_model.proofs.Tables.{member_with}
-use Rattle.std.proofs.lemmas.List.Filters.{length-filter_both}
-use Rattle.w16_model.specs.Discards.{eligible, is_member, is_about, is_pinned_id}
-use Rattle.w16_model.specs.Request.{discarded}
-use Rattle.w16_model.specs.Table.{Table, IsSound, hold_of_entry, block_with, entry_at, heap_in, is_listed}
-use Rattle.w16_model.proofs.Answered.{eligible_rest, discarded_next, discarded_none}
-use Rattle.w16_model.proofs.Discards.{true-is_member, eligible_loose}
-use Rattle.w16_model.proofs.Gaps.{Member, member_filter}
-use Rattle.w16_model.proofs.Prefixes.{eligible_by_members}
-use Rattle.w16_blocks.specs.Layout.{Layout}
-use Rattle.w16_arena.specs.State.{ArenaState, Steps, IsSameRange}
-use Rattle.w16_arena.specs.Asked.{Discards}
+use Rattle.w16_arena.proofs.Common.{◌≡◌, ℕ, zero, suc, ◌+◌, ◌-◌, ◌<◌, ◌≤◌, inl, inr, Bool, true, false, cond, not, ◌&&◌, ◌||◌, nat_lt, IsSomeAnd, subst, List, [], ◌∷◌, ◌++◌, append_assoc, length, replicate, take, drop, Option, Some, None, refl, sym, ap, ◌∙◌, arith, slice_get, eqb, list_any, false≢true, cases_Bool, ltb-false, or_cases, eqb-true, Decides-eqb, length-append, length-take, length-replicate, append-nil, IsDistinct-from_AllPairs, length-le_from_distinct_below, Block, Entry, absent, Heap, blocks, is_fixed, is_discardable, holds_still, Pinned, Loose, member_with, length-filter_both, eligible, is_member, is_about, is_pinned_id, discarded, Table, IsSound, hold_of_entry, block_with, entry_at, heap_in, is_listed, eligible_rest, discarded_next, discarded_none, true-is_member, eligible_loose, Member, member_filter, eligible_by_members, Layout, ArenaState, Steps, IsSameRange, Discards}
 use Rattle.w16_arena.proofs.Listed.{listed_permutation}
 use Rattle.w16_arena.proofs.Lookups.{in_list, holds_at}
 use Rattle.w16_arena.proofs.Parts.{AreParts}

@@ -1,34 +1,7 @@
 -- A gap that was opened behind a block: the blocks that slid, and the bytes that are free for it.
 use Rattle.std.specs.List.{AllByRecursion as Each}
-use Rattle.std.proofs.Common.{◌≡◌, ℕ, ◌+◌, ◌<◌, ◌≤◌, ◌==◌, ◌⊎◌, inl, inr, cond, List, [], ◌∷◌, map, length, All, Some, refl, sym, ap, ◌∙◌, subst, arith}
-use Rattle.std.proofs.lemmas.Bool.{cases_lt, lt-ltb, le-ltb}
-use Rattle.std.proofs.lemmas.Bool.Decides.{eqb_tells}
-use Rattle.w16_model.specs.declared.Block.{Block}
-use Rattle.w16_model.specs.declared.Hold.TheVariants.{Loose}
-use Rattle.w16_model.specs.declared.Span.{Span}
-use Rattle.w16_model.specs.Bytes.{part}
-use Rattle.w16_model.specs.Gap.{block_end, is_any, loose_bytes, IsClear, IsLaid}
-use Rattle.w16_model.specs.Heap.{IsMultiple}
-use Rattle.w16_model.specs.Table.{block_with}
-use Rattle.w16_model.proofs.Gaps.{Each-both}
-use Rattle.w16_blocks.specs.Layout.{Layout, AreNamed, IsGrained, IsOrdered, all_but}
-use Rattle.w16_blocks.specs.Runs.{IsCut}
-use Rattle.w16_blocks.proofs.Remove.{IsLaid-from, all_but_same, all_but_other, all_but_absent, rest_differs, with_same, with_other, each_with, All-all_but}
-use Rattle.w16_compact.specs.declared.gaps.Gap.{Gap}
-use Rattle.w16_compact.specs.Gap.{without, HasRoom}
-use Rattle.w16_compact.specs.Gather.{contents, gathered, moved_between, packed, FitsGap, MayGather}
-use Rattle.w16_compact.specs.Open.{with_loose, raised_in, opened, end_in, spare_in}
-use Rattle.w16_compact.proofs.Bounded.{clear_pinned}
-use Rattle.w16_compact.proofs.Cleared.{inside_is}
-use Rattle.w16_compact.proofs.Gathering.{cut_high}
-use Rattle.w16_compact.proofs.LeftOut.{may_with}
-use Rattle.w16_compact.proofs.Loose.{loose_one, loose_here}
-use Rattle.w16_compact.proofs.Loosened.{held, clear_held, contents_held, moved_from, moved_to, ordered_held, others_held, own_held}
-use Rattle.w16_compact.proofs.Opened.{loose_most, may_low, may_high}
-use Rattle.w16_compact.proofs.Raising.{by_reach, loose_skip, loose_split}
-use Rattle.w16_arena.specs.declared.new_place.Placed.{Placed}
-use Rattle.w16_arena.specs.NewPlace.{EachTwo, Slides, AreMoved, AreFreeBytes}
-use Rattle.w16_arena.specs.Growth.{but_for, HasWay}
+use Rattle.w16_arena.proofs.Common.{◌≡◌, ℕ, ◌+◌, ◌<◌, ◌≤◌, ◌==◌, ◌⊎◌, inl, inr, cond, List, [], ◌∷◌, map, length, All, Some, refl, sym, ap, ◌∙◌, subst, arith, cases_lt, lt-ltb, le-ltb, eqb_tells, Block, Loose, Span, part, block_end, is_any, loose_bytes, IsClear, IsLaid, IsMultiple, block_with, Each-both, Layout, AreNamed, IsGrained, IsOrdered, all_but, IsCut, IsLaid-from, all_but_same, all_but_other, all_but_absent, rest_differs, with_same, with_other, each_with, All-all_but, Gap, HasRoom, contents, gathered, moved_between, packed, FitsGap, MayGather, with_loose, raised_in, opened, end_in, spare_in, clear_pinned, inside_is, cut_high, may_with, loose_one, loose_here, held, clear_held, contents_held, moved_from, moved_to, ordered_held, others_held, own_held, loose_most, may_low, may_high, by_reach, loose_skip, loose_split, Placed, EachTwo, Slides, AreMoved, AreFreeBytes, but_for, HasWay}
+use Rattle.w16_compact.specs.Gap.{without}
 use Rattle.w16_arena.proofs.ButFor.{two_own, moved_both, slides_ids, moved_but_for, own_lies, own_grained, behind_free}
 use Rattle.w16_arena.proofs.Gathering.{sum_grains, loose_grains}
 use Rattle.w16_arena.proofs.Pairs.{Stands, two_gathered, two_slides, two_then}

@@ -1,21 +1,6 @@
 -- A gap that is gathered for a block that stands elsewhere.
-use Rattle.std.proofs.Common.{◌≡◌, ℕ, ◌+◌, ◌<◌, ◌≤◌, ◌==◌, ◌⊎◌, inl, inr, IsTrue, List, [], ◌∷◌, length, All, Option, Some, None, refl, sym, ap, ◌∙◌, subst, arith, eq-eqb}
-use Rattle.std.proofs.lemmas.Bool.{cond-true}
-use Rattle.std.proofs.lemmas.Bool.Decides.{eqb_tells}
-use Rattle.w16_model.specs.declared.Block.{Block}
-use Rattle.w16_model.specs.Bytes.{part}
-use Rattle.w16_model.specs.Gap.{block_end, is_any, is_pinned, loose_bytes, IsClear, Misses}
-use Rattle.w16_model.specs.Table.{block_with}
-use Rattle.w16_model.proofs.Gaps.{Each-from_All, All-from_Each}
-use Rattle.w16_blocks.specs.Layout.{Layout, AreNamed, IsOrdered, all_but}
-use Rattle.w16_blocks.proofs.Remove.{all_but_same, all_but_other, all_but_absent, rest_differs, with_same, with_other, All-all_but, All-back}
-use Rattle.w16_compact.specs.declared.gaps.Gap.{Gap}
-use Rattle.w16_compact.specs.Gap.{without, HasRoom}
-use Rattle.w16_compact.specs.Gather.{contents, gathered, moved_between}
-use Rattle.w16_compact.proofs.LeftOut.{lies_outside, may_beside}
-use Rattle.w16_compact.proofs.Loose.{loose_one}
-use Rattle.w16_compact.proofs.Raising.{loose_skip}
-use Rattle.w16_arena.specs.NewPlace.{Slides, AreMoved, AreFreeBytes}
+use Rattle.w16_arena.proofs.Common.{◌≡◌, ℕ, ◌+◌, ◌<◌, ◌≤◌, ◌==◌, ◌⊎◌, inl, inr, IsTrue, List, [], ◌∷◌, length, All, Option, Some, None, refl, sym, ap, ◌∙◌, subst, arith, eq-eqb, cond-true, eqb_tells, Block, part, block_end, is_any, is_pinned, loose_bytes, IsClear, Misses, block_with, Each-from_All, All-from_Each, Layout, AreNamed, IsOrdered, all_but, all_but_same, all_but_other, all_but_absent, rest_differs, with_same, with_other, All-all_but, All-back, Gap, HasRoom, contents, gathered, moved_between, lies_outside, may_beside, loose_one, loose_skip, Slides, AreMoved, AreFreeBytes}
+use Rattle.w16_compact.specs.Gap.{without}
 use Rattle.w16_arena.proofs.ButFor.{moved_both, slides_ids, own_lies}
 use Rattle.w16_arena.proofs.Gathering.{gathered_moved, gathered_free}
 use Rattle.w16_arena.proofs.Pairs.{BothOrNone, with_two}

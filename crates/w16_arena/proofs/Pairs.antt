@@ -1,17 +1,6 @@
 -- Two lists of blocks, block by block.
 use Rattle.std.specs.List.{AllByRecursion as Each}
-use Rattle.std.proofs.Common.{◌≡◌, ℕ, ◌+◌, ◌≤◌, ◌⊎◌, inl, inr, true, false, eqb, List, [], ◌∷◌, Option, Some, None, refl, sym, ap, ◌∙◌, subst, arith}
-use Rattle.std.proofs.lemmas.Bool.{cases_lt, lt-ltb, le-ltb}
-use Rattle.std.proofs.lemmas.Bool.Decides.{eqb_tells}
-use Rattle.w16_model.specs.Bytes.{part}
-use Rattle.w16_model.specs.declared.Block.{Block}
-use Rattle.w16_model.specs.declared.Hold.TheVariants.{Loose}
-use Rattle.w16_model.specs.Gap.{block_end, IsLaid}
-use Rattle.w16_model.specs.Table.{block_with}
-use Rattle.w16_model.proofs.Gaps.{Member}
-use Rattle.w16_compact.specs.Gather.{contents, gathered, packed, FitsGap}
-use Rattle.w16_compact.proofs.Cleared.{inside_is}
-use Rattle.w16_arena.specs.NewPlace.{EachTwo, Slides}
+use Rattle.w16_arena.proofs.Common.{◌≡◌, ℕ, ◌+◌, ◌≤◌, ◌⊎◌, inl, inr, true, false, eqb, List, [], ◌∷◌, Option, Some, None, refl, sym, ap, ◌∙◌, subst, arith, cases_lt, lt-ltb, le-ltb, eqb_tells, part, Block, Loose, block_end, IsLaid, block_with, Member, contents, gathered, packed, FitsGap, inside_is, EachTwo, Slides}
 
 pub two_same : (R : Block → Block → Type 0) → ((b : Block) → R b b) → (bs : List Block) → EachTwo R bs bs
 two_same R f [] = tt

@@ -1,9 +1,5 @@
 -- The table of an arena beside a memory that has its range.
-use Rattle.std.proofs.Common.{◌≡◌, ◌≤◌, ℕ, List, length, Option}
-use Rattle.w16_model.specs.declared.Entry.{Entry}
-use Rattle.w16_model.specs.Table.{IsSound}
-use Rattle.w16_blocks.specs.Layout.{Layout}
-use Rattle.w16_arena.specs.State.{table_of}
+use Rattle.w16_arena.proofs.Common.{◌≡◌, ◌≤◌, ℕ, List, length, Option, Entry, IsSound, Layout, table_of}
 
 -- what holds of entries, blocks and an order of use; an entry without a block is an absent object's
 pub record AreParts (entries : List (Option Entry)) (layout : Layout) (order memory : List ℕ) : Type 0 where

@@ -1,20 +1,6 @@
 -- An object that got bytes while it was left out of the heap: of the whole heap the same holds.
-use Rattle.std.proofs.Common.{◌≡◌, ◌≢◌, ℕ, ◌+◌, ◌<◌, ◌≤◌, ◌⊎◌, not, ◌==◌, IsTrue, IfSome, Option, Some, None, unwrap_or, sym, ap, ◌∙◌, eq-eqb, inl, inr}
-use Rattle.std.specs.Ordering.{nat_cmp}
-use Rattle.std.specs.Cmp.{nat_cmp_total}
+use Rattle.w16_arena.proofs.Common.{◌≡◌, ◌≢◌, ℕ, ◌+◌, ◌<◌, ◌≤◌, ◌⊎◌, not, ◌==◌, IsTrue, IfSome, Option, Some, None, unwrap_or, sym, ap, ◌∙◌, eq-eqb, inl, inr, nat_cmp, nat_cmp_total, FinMap, same_map, nat_cmp-IsAntisymmetric, cases_eq, false≢true, and_parts, Block, RoomOptions, Heap, Object, blocks, removed, stays_for, moved_bytes, Each-at, Each-from, Each-from_All, All-from_Each, IsBlockOf, block_member, member_block, inserted_here, inserted_other, taken_other, Stands, Placed}
 use Rattle.std.specs.FinMap as finmap
-use Rattle.std.specs.FinMap.{FinMap, same_map, nat_cmp-IsAntisymmetric}
-use Rattle.std.proofs.lemmas.Bool.{cases_eq, false≢true, and_parts}
-use Rattle.w16_model.specs.declared.Block.{Block}
-use Rattle.w16_model.specs.declared.RoomOptions.{RoomOptions}
-use Rattle.w16_model.specs.Heap.{Heap, Object, blocks}
-use Rattle.w16_model.specs.Changes.{removed}
-use Rattle.w16_model.specs.Request.{stays_for, moved_bytes}
-use Rattle.w16_model.proofs.Gaps.{Each-at, Each-from, Each-from_All, All-from_Each}
-use Rattle.w16_model.proofs.Heaps.{IsBlockOf, block_member, member_block}
-use Rattle.w16_model.proofs.KeptHeaps.{inserted_here, inserted_other, taken_other}
-use Rattle.w16_arena.specs.Asked.{Stands}
-use Rattle.w16_arena.specs.declared.new_place.Placed.{Placed}
 
 -- what is put where something was taken away is as if nothing had been
 put_where_taken : {X : Type 0} (m : FinMap nat_cmp X) (id : ℕ) (x : X) → finmap.insert (finmap.remove m id) id x ≡ finmap.insert m id x

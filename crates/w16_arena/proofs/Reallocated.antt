@@ -1,21 +1,8 @@
 use Rattle.w16_arena.proofs.Written.{counted_none}
 -- A reallocation by its cases: an object without bytes, and one with a block.
-use Rattle.std.proofs.Common.{◌≡◌, ℕ, ◌+◌, ◌-◌, ◌≤◌, Bool, true, false, not, ◌&&◌, ◌||◌, nat_lt, if◌then◌else◌, is_ok, IfSome, IsSomeAnd, IfOk, OnErr, List, length, slice_range, Option, Some, None, Result, Ok, Err, option_map, unwrap_or, sym, ap, ◌∙◌, subst, arith}
-use Rattle.w16_region.specs.Bytes.{counted}
-use Rattle.w16_model.specs.declared.Block.{Block}
-use Rattle.w16_model.specs.declared.Entry.{Entry}
-use Rattle.w16_model.specs.declared.RoomOptions.{RoomOptions}
-use Rattle.w16_model.specs.Gap.{holds_still}
-use Rattle.w16_model.specs.Heap.{Heap, Object, bytes_at, is_fixed, object_at}
-use Rattle.w16_model.specs.Request.{Allocates, Reallocates, ReallocatesObject}
-use Rattle.w16_model.specs.Table.{Table, IsSound, IsCountedBy, block_with, entry_at, heap_in, hold_of_entry, object_in}
-use Rattle.w16_model.proofs.Tables.{object_is, member_with}
-use Rattle.w16_blocks.specs.Layout.{Layout}
+use Rattle.w16_arena.proofs.Common.{◌≡◌, ℕ, ◌+◌, ◌-◌, ◌≤◌, Bool, true, false, not, ◌&&◌, ◌||◌, nat_lt, if◌then◌else◌, is_ok, IfSome, IsSomeAnd, IfOk, OnErr, List, length, slice_range, Option, Some, None, Result, Ok, Err, option_map, unwrap_or, sym, ap, ◌∙◌, subst, arith, counted, Block, Entry, RoomOptions, holds_still, Heap, Object, bytes_at, is_fixed, object_at, Allocates, Reallocates, ReallocatesObject, Table, IsSound, IsCountedBy, block_with, entry_at, heap_in, hold_of_entry, object_in, object_is, member_with, Layout, HasDiscarded, HasDiscardedFor, IsPlaced, IsResized, reallocation_prefix, Placed, NoRoom}
 use Rattle.w16_arena.proofs.Lookups.{holds_at}
 use Rattle.w16_arena.proofs.Sized.{still_hold}
-use Rattle.w16_arena.specs.Asked.{HasDiscarded, HasDiscardedFor, IsPlaced, IsResized, reallocation_prefix}
-use Rattle.w16_arena.specs.declared.new_place.Placed.{Placed}
-use Rattle.w16_arena.specs.declared.requests.NoRoom.{NoRoom}
 
 -- An object without bytes has no locks, so it gets bytes as a new one does.
 module _ (t : Table) (sound : IsSound t) (memory : List ℕ) (inside : t.hi ≤ length memory) (id : ℕ) (e : Entry) (there : entry_at t id ≡ Some e) (none : block_with t.blocks id ≡ None) where

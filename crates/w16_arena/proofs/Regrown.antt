@@ -1,31 +1,6 @@
 -- An object that got more bytes, where it stood or elsewhere: what its call leaves kept and answers. It is looked at as if it had been absent.
-use Rattle.std.proofs.Common.{◌≡◌, ℕ, ◌+◌, ◌-◌, ◌<◌, ◌≤◌, ◌⊎◌, inl, inr, Bool, true, false, not, ◌&&◌, ◌==◌, cond, if◌then◌else◌, IsTrue, IfSome, IsSomeAnd, All, List, length, get_or, set, slice_range, Option, Some, None, refl, sym, ap, ◌∙◌, subst, arith, eq-eqb}
+use Rattle.w16_arena.proofs.Common.{◌≡◌, ℕ, ◌+◌, ◌-◌, ◌<◌, ◌≤◌, ◌⊎◌, inl, inr, Bool, true, false, not, ◌&&◌, ◌==◌, cond, if◌then◌else◌, IsTrue, IfSome, IsSomeAnd, All, List, length, get_or, set, slice_range, Option, Some, None, refl, sym, ap, ◌∙◌, subst, arith, eq-eqb, length-set, set-set, set-get_or, Block, Entry, RoomOptions, part, put_part, repeated, IsClear, Misses, is_any, Heap, Object, IsMultiple, blocks, is_discardable, without, IsGrown, StaysOrMovesToHole, is_elsewhere, moved_bytes, Table, IsCountedBy, block_with, heap_in, hold_of_entry, is_listed, Each-at, Each-from, Each-from_All, All-from_Each, EachPair-from_AllPairs, AllPairs-from_EachPair, pairs_filter, range_part, Layout, IsOrdered, all_but, placed, IsLaid-all_but, All-all_but, sum-all_but, moved_between, IsSameRest, rest_more, Uses, GName, Placed, Stands, KeepsRest, table_of, heap_of, ArenaInvariant, but_for, AreMoved, AreFreeBytes}
 use Rattle.std.specs.FinMap as finmap
-use Rattle.std.proofs.lemmas.List.{length-set, set-set, set-get_or}
-use Rattle.w16_model.specs.declared.Block.{Block}
-use Rattle.w16_model.specs.declared.Entry.{Entry}
-use Rattle.w16_model.specs.declared.RoomOptions.{RoomOptions}
-use Rattle.w16_model.specs.Bytes.{part, put_part, repeated}
-use Rattle.w16_model.specs.Gap.{IsClear, Misses, is_any}
-use Rattle.w16_model.specs.Heap.{Heap, Object, IsMultiple, blocks, is_discardable}
-use Rattle.w16_model.specs.Changes.{without}
-use Rattle.w16_model.specs.Request.{IsGrown, StaysOrMovesToHole, is_elsewhere, moved_bytes}
-use Rattle.w16_model.specs.Table.{Table, IsCountedBy, block_with, heap_in, hold_of_entry, is_listed}
-use Rattle.w16_model.proofs.Gaps.{Each-at, Each-from, Each-from_All, All-from_Each, EachPair-from_AllPairs, AllPairs-from_EachPair, pairs_filter}
-use Rattle.w16_model.proofs.Parts.{range_part}
-use Rattle.w16_blocks.specs.Layout.{Layout, IsOrdered, all_but, placed}
-use Rattle.w16_blocks.proofs.Remove.{IsLaid-all_but, All-all_but, sum-all_but}
-use Rattle.w16_compact.specs.Gather.{moved_between}
-use Rattle.w16_compact.specs.Rest.{IsSameRest}
-use Rattle.w16_compact.proofs.Rests.{rest_more}
-use Rattle.w16_lru.specs.Uses.{Uses}
-use Rattle.std.specs.Borrow.{GName}
-use Rattle.w16_arena.specs.declared.new_place.Placed.{Placed}
-use Rattle.w16_arena.specs.Asked.{Stands}
-use Rattle.w16_arena.specs.State.{KeepsRest, table_of, heap_of}
-use Rattle.w16_arena.specs.Representation.{ArenaInvariant}
-use Rattle.w16_arena.specs.Growth.{but_for}
-use Rattle.w16_arena.specs.NewPlace.{AreMoved, AreFreeBytes}
 use Rattle.w16_arena.proofs.Parts.{AreParts}
 use Rattle.w16_arena.proofs.With.{with-without}
 use Rattle.w16_arena.proofs.Lookups.{IsArranged, in_list}

@@ -1,13 +1,5 @@
 -- The order of use with one id taken out, or put at an end.
-use Rattle.std.proofs.Common.{◌≡◌, ◌≢◌, ℕ, Bool, true, false, not, ◌&&◌, ◌||◌, ◌==◌, List, [], ◌∷◌, AllPairs, refl, sym, ap, ◌∙◌, eq-eqb, ne_eqb}
-use Rattle.std.proofs.lemmas.Bool.{false≢true, not-true, or_parts}
-use Rattle.w16_model.specs.Discards.{is_member}
-use Rattle.w16_model.specs.Changes.{without, oldest}
-use Rattle.w16_lru.specs.declared.End.{End}
-use Rattle.w16_lru.specs.declared.End.TheVariants.{Oldest, Newest}
-use Rattle.w16_lru.specs.Uses.{at_end}
-use Rattle.w16_model.proofs.Gaps.{Each-from, EachPair-from_AllPairs, AllPairs-from_EachPair, member_filter, pairs_filter}
-use Rattle.w16_model.proofs.Orders.{member_without, member_newest, newest_differ}
+use Rattle.w16_arena.proofs.Common.{◌≡◌, ◌≢◌, ℕ, Bool, true, false, not, ◌&&◌, ◌||◌, ◌==◌, List, [], ◌∷◌, AllPairs, refl, sym, ap, ◌∙◌, eq-eqb, ne_eqb, false≢true, not-true, or_parts, is_member, without, oldest, End, Oldest, Newest, at_end, Each-from, EachPair-from_AllPairs, AllPairs-from_EachPair, member_filter, pairs_filter, member_without, member_newest, newest_differ}
 use Rattle.w16_arena.proofs.Changed.{ReordersOne}
 
 and_true : (b : Bool) → (b && not false) ≡ b

@@ -1,11 +1,5 @@
 -- Blocks with a block in place of the one of its id: the others are the same.
-use Rattle.std.proofs.Common.{◌≡◌, List, [], ◌∷◌, sym, ap, ◌∙◌, inl, inr, refl, eq-eqb}
-use Rattle.std.proofs.lemmas.Bool.{cases_lt, lt-ltb, le-ltb}
-use Rattle.std.proofs.lemmas.Bool.Decides.{eqb_tells}
-use Rattle.w16_model.specs.declared.Block.{Block}
-use Rattle.w16_blocks.specs.Layout.{Layout, all_but, placed, replaced}
-use Rattle.w16_blocks.proofs.Remove.{all_but_same, all_but_absent, others_differ}
-use Rattle.w16_arena.specs.Growth.{but_for}
+use Rattle.w16_arena.proofs.Common.{◌≡◌, List, [], ◌∷◌, sym, ap, ◌∙◌, inl, inr, refl, eq-eqb, cases_lt, lt-ltb, le-ltb, eqb_tells, Block, Layout, all_but, placed, replaced, all_but_same, all_but_absent, others_differ, but_for}
 
 -- a block that is added is left out again
 all_but_placed : (x : Block) (cs : List Block) → all_but x.id (placed x cs) ≡ all_but x.id cs

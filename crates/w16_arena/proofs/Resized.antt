@@ -1,20 +1,7 @@
 -- The heap after an object got another size where it stands.
-use Rattle.std.proofs.Common.{◌≡◌, ◌≢◌, ℕ, ◌+◌, ◌<◌, true, ◌&&◌, cond, IfSome, List, length, get_or, set, slice_range, Option, Some, None, option_map, refl, sym, ap, ◌∙◌, subst, inl, inr}
-use Rattle.std.specs.Ordering.{nat_cmp, eq_by_cmp}
-use Rattle.std.specs.Cmp.{nat_cmp_total}
+use Rattle.w16_arena.proofs.Common.{◌≡◌, ◌≢◌, ℕ, ◌+◌, ◌<◌, true, ◌&&◌, cond, IfSome, List, length, get_or, set, slice_range, Option, Some, None, option_map, refl, sym, ap, ◌∙◌, subst, inl, inr, nat_cmp, eq_by_cmp, nat_cmp_total, get-insert, cases_eq, set-get_or, Block, Entry, Heap, Object, object_at, is_discardable, with_object, IsCountedBy, block_with, hold_of_entry, is_listed, tied_itself, untied, Layout, IsOrdered, replaced, heap_of}
 use Rattle.std.specs.FinMap as finmap
-use Rattle.std.specs.FinMap.{get-insert}
-use Rattle.std.proofs.lemmas.Bool.{cases_eq}
-use Rattle.std.proofs.lemmas.List.{set-get_or}
-use Rattle.w16_model.specs.declared.Block.{Block}
-use Rattle.w16_model.specs.declared.Entry.{Entry}
-use Rattle.w16_model.specs.Heap.{Heap, Object, object_at, is_discardable}
-use Rattle.w16_model.specs.Changes.{with_object}
-use Rattle.w16_model.specs.Table.{IsCountedBy, block_with, hold_of_entry, is_listed}
-use Rattle.w16_model.proofs.Heaps.{tied_itself, untied}
-use Rattle.w16_blocks.specs.Layout.{Layout, IsOrdered, replaced}
 use Rattle.w16_arena.proofs.Parts.{AreParts}
-use Rattle.w16_arena.specs.State.{heap_of}
 use Rattle.w16_arena.proofs.With.{with-replaced}
 use Rattle.w16_arena.proofs.Reordered.{same_reorders}
 use Rattle.w16_arena.proofs.Lookups.{in_list, ordered_arranged, place_here, same_heap}

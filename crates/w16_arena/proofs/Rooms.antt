@@ -1,15 +1,5 @@
 -- A place that was found or made, and how much there can be.
-use Rattle.std.specs.List.{find}
-use Rattle.std.proofs.Common.{◌≡◌, ℕ, ◌-◌, ◌<◌, ◌≤◌, Bool, true, false, nat_le, IfSome, List, [], Option, Some, None, option_map, sym, subst, arith}
-use Rattle.w16_model.specs.declared.Block.{Block}
-use Rattle.w16_compact.specs.Gather.{moved_between}
-use Rattle.w16_compact.proofs.Gathering.{moved_same}
-use Rattle.w16_model.specs.declared.Span.{Span}
-use Rattle.w16_model.specs.Gap.{ArePlaced, holes, room, longest_hole}
-use Rattle.w16_model.proofs.Laid.{laid_placed}
-use Rattle.w16_blocks.specs.Layout.{Layout, IsOrdered}
-use Rattle.w16_arena.specs.declared.new_place.Placed.{Placed}
-use Rattle.w16_arena.specs.NewPlace.{AreMoved, AreFreeBytes, most_for}
+use Rattle.w16_arena.proofs.Common.{find, ◌≡◌, ℕ, ◌-◌, ◌<◌, ◌≤◌, Bool, true, false, nat_le, IfSome, List, [], Option, Some, None, option_map, sym, subst, arith, Block, moved_between, moved_same, Span, ArePlaced, holes, room, longest_hole, laid_placed, Layout, IsOrdered, Placed, AreMoved, AreFreeBytes, most_for}
 use Rattle.w16_arena.proofs.Arranged.{same_moved, longest_in_room, free_fits, free_in_hole}
 use Rattle.w16_arena.proofs.Holes.{hole_found, hole_none}
 

@@ -1,24 +1,6 @@
 -- A block that was shifted: the others, and its place.
 use Rattle.std.specs.List.{AllByRecursion as Each}
-use Rattle.std.proofs.Common.{◌≡◌, ℕ, ◌+◌, ◌<◌, ◌≤◌, ◌==◌, ◌⊎◌, inl, inr, cond, List, [], ◌∷◌, length, All, refl, sym, ap, ◌∙◌, subst, eq-eqb}
-use Rattle.std.proofs.lemmas.Bool.{cases_lt, cond-true}
-use Rattle.std.proofs.lemmas.Bool.Decides.{eqb_tells}
-use Rattle.w16_model.specs.declared.Block.{Block}
-use Rattle.w16_model.specs.declared.Span.{Span}
-use Rattle.w16_model.specs.Bytes.{part}
-use Rattle.w16_model.specs.Gap.{block_end, IsLaid}
-use Rattle.w16_model.specs.Table.{IsSameOutside, block_with}
-use Rattle.w16_model.proofs.Gaps.{Each-both}
-use Rattle.w16_holes.specs.Holes.{IsUsed}
-use Rattle.w16_blocks.specs.Layout.{Layout, FitsFor, IsApart, IsOrdered, all_but, holes_of, placed, replaced}
-use Rattle.w16_blocks.specs.Stay.{AreSameBut}
-use Rattle.w16_blocks.proofs.Outside.{outside_but, used_each}
-use Rattle.w16_blocks.proofs.Place.{placed_after, placed_before}
-use Rattle.w16_blocks.proofs.Remove.{all_but_same, all_but_other, all_but_absent, others_differ, All-all_but}
-use Rattle.w16_compact.specs.Gather.{contents, moved_between}
-use Rattle.w16_arena.specs.declared.new_place.Placed.{Placed}
-use Rattle.w16_arena.specs.NewPlace.{AreMoved, AreFreeBytes}
-use Rattle.w16_arena.specs.Growth.{but_for, HasWay}
+use Rattle.w16_arena.proofs.Common.{◌≡◌, ℕ, ◌+◌, ◌<◌, ◌≤◌, ◌==◌, ◌⊎◌, inl, inr, cond, List, [], ◌∷◌, length, All, refl, sym, ap, ◌∙◌, subst, eq-eqb, cases_lt, cond-true, eqb_tells, Block, Span, part, block_end, IsLaid, IsSameOutside, block_with, Each-both, IsUsed, Layout, FitsFor, IsApart, IsOrdered, all_but, holes_of, placed, replaced, AreSameBut, outside_but, used_each, placed_after, placed_before, all_but_same, all_but_other, all_but_absent, others_differ, All-all_but, contents, moved_between, Placed, AreMoved, AreFreeBytes, but_for, HasWay}
 use Rattle.w16_arena.proofs.Keeping.{moved_kept}
 use Rattle.w16_arena.proofs.With.{with-replaced}
 

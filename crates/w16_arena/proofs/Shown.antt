@@ -1,33 +1,7 @@
 -- The single steps of an arena, by its value.
-use Rattle.std.proofs.Common.{◌≡◌, ℕ, ◌<◌, ◌≤◌, true, false, IfSome, IfNone, IsSomeAnd, List, length, replicate, get_or, set, Option, Some, None, Ok, is_some, refl, sym, ap, ◌∙◌, subst, arith, inl, inr}
-use Rattle.std.proofs.lemmas.Bool.{cases_eq, false≢true}
-use Rattle.std.proofs.lemmas.List.{length-set, length-replicate}
-use Rattle.w16_model.specs.declared.Entry.{Entry}
-use Rattle.w16_model.specs.declared.Hold.{Hold}
-use Rattle.w16_model.specs.declared.Kind.{Kind}
-use Rattle.w16_model.specs.Discards.{is_member}
-use Rattle.w16_model.specs.Heap.{Heap, object_at}
-use Rattle.w16_model.specs.Changes.{removed, absent, with_object, newest, without}
-use Rattle.w16_model.specs.OneObject.{Enters, after_touch, refused_order}
-use Rattle.w16_model.specs.Table.{Table, IsSound, IsCountedBy, block_with, entry_at, hold_of_entry, heap_in}
+use Rattle.w16_arena.proofs.Common.{◌≡◌, ℕ, ◌<◌, ◌≤◌, true, false, IfSome, IfNone, IsSomeAnd, List, length, replicate, get_or, set, Option, Some, None, Ok, is_some, refl, sym, ap, ◌∙◌, subst, arith, inl, inr, cases_eq, false≢true, length-set, length-replicate, Entry, Hold, Kind, is_member, Heap, object_at, removed, absent, with_object, newest, without, Enters, after_touch, refused_order, Table, IsSound, IsCountedBy, block_with, entry_at, hold_of_entry, heap_in, Layout, IsOrdered, all_but, holes_of, placed, replaced, Lacks, AreHoles-holes, free_lacks, lacks_free, All-placed, All-all_but, All-back, All-first, same_holes, Block, IsLaid, holes, Each-at, member_with, Uses, ArenaState, Steps, table_of, heap_of, holes_in, after_end, ArenaInvariant, End, Newest, at_end}
 use Rattle.w16_blocks.specs.Layout as layouts
-use Rattle.w16_blocks.specs.Layout.{Layout, IsOrdered, all_but, holes_of, placed, replaced}
-use Rattle.w16_blocks.proofs.Free.{Lacks, AreHoles-holes, free_lacks, lacks_free}
-use Rattle.w16_blocks.proofs.Place.{All-placed}
-use Rattle.w16_blocks.proofs.Remove.{All-all_but, All-back}
-use Rattle.w16_blocks.proofs.Step.{All-first}
-use Rattle.w16_holes.proofs.Sets.{same_holes}
-use Rattle.w16_model.specs.declared.Block.{Block}
-use Rattle.w16_model.specs.Gap.{IsLaid, holes}
-use Rattle.w16_model.proofs.Gaps.{Each-at}
-use Rattle.w16_model.proofs.Tables.{member_with}
-use Rattle.w16_lru.specs.Uses.{Uses}
-use Rattle.w16_arena.specs.State.{ArenaState, Steps, table_of, heap_of, holes_in, after_end}
-use Rattle.w16_arena.specs.Representation.{ArenaInvariant}
 use Rattle.w16_arena.proofs.Lookups.{in_list, no_block, past_end}
-use Rattle.w16_lru.specs.declared.End.{End}
-use Rattle.w16_lru.specs.declared.End.TheVariants.{Newest}
-use Rattle.w16_lru.specs.Uses.{at_end}
 use Rattle.w16_arena.proofs.Reordered.{end_reorders}
 use Rattle.w16_arena.proofs.Told.{end_ok}
 use Rattle.w16_arena.proofs.Changed.{ReordersOne}

@@ -1,20 +1,8 @@
 -- The heaps after one id's object is taken away, or put there.
-use Rattle.std.proofs.Common.{◌≡◌, ℕ, ◌+◌, ◌<◌, false, cond, List, length, set, slice_range, Option, Some, None, option_map, refl, sym, ap, ◌∙◌, inl, inr}
-use Rattle.std.specs.Ordering.{nat_cmp, eq_by_cmp}
-use Rattle.std.specs.Cmp.{nat_cmp_total}
+use Rattle.w16_arena.proofs.Common.{◌≡◌, ℕ, ◌+◌, ◌<◌, false, cond, List, length, set, slice_range, Option, Some, None, option_map, refl, sym, ap, ◌∙◌, inl, inr, nat_cmp, eq_by_cmp, nat_cmp_total, get-insert, get-remove, cases_eq, Block, Entry, Heap, Object, object_at, removed, with_object, block_with, is_listed, tied_itself, untied, Layout, all_but, heap_of}
 use Rattle.std.specs.FinMap as finmap
-use Rattle.std.specs.FinMap.{get-insert, get-remove}
-use Rattle.std.proofs.lemmas.Bool.{cases_eq}
-use Rattle.w16_model.specs.declared.Block.{Block}
-use Rattle.w16_model.specs.declared.Entry.{Entry}
-use Rattle.w16_model.specs.Heap.{Heap, Object, object_at}
-use Rattle.w16_model.specs.Changes.{removed, with_object}
 use Rattle.w16_model.specs.Changes as changes
-use Rattle.w16_model.specs.Table.{block_with, is_listed}
-use Rattle.w16_model.proofs.Heaps.{tied_itself, untied}
-use Rattle.w16_blocks.specs.Layout.{Layout, all_but}
 use Rattle.w16_arena.proofs.Parts.{AreParts}
-use Rattle.w16_arena.specs.State.{heap_of}
 use Rattle.w16_arena.proofs.With.{with-without}
 use Rattle.w16_arena.proofs.Reordered.{without_reorders}
 use Rattle.w16_arena.proofs.Lookups.{IsArranged, place_here, same_heap}

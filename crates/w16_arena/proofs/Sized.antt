@@ -1,26 +1,7 @@
 -- The object of a block, and its reallocation by what was found and made for it.
-use Rattle.std.proofs.Common.{◌≡◌, ℕ, ◌+◌, ◌<◌, ◌≤◌, Bool, true, false, not, ◌&&◌, nat_le, cond, MatchBool, IsSomeAnd, IsTrue, List, [], ◌∷◌, length, take, get_or, slice_range, Option, Some, None, option_map, unwrap_or, refl, sym, ap, ◌∙◌, subst, arith, le-leb, inl, inr}
+use Rattle.w16_arena.proofs.Common.{◌≡◌, ℕ, ◌+◌, ◌<◌, ◌≤◌, Bool, true, false, not, ◌&&◌, nat_le, cond, MatchBool, IsSomeAnd, IsTrue, List, [], ◌∷◌, length, take, get_or, slice_range, Option, Some, None, option_map, unwrap_or, refl, sym, ap, ◌∙◌, subst, arith, le-leb, inl, inr, lt-leb, eqb_tells, Block, Entry, Hold, Pinned, Loose, RoomOptions, holds_still, block_end, first_from, hole_after, is_any, fits_in_place, growth_for, snapshot, Heap, Object, IsMultiple, blocks, object_at, bytes_at, is_pinned_object, with_object, Request, IsGrown, Grows, Reallocates, ReallocatesObject, StaysOrMovesToHole, snapshot_of, Table, IsSound, block_with, heap_in, hold_of_entry, object_in, Member, Each-at, Each-from, first_from-below, first_from-greatest, block_member, length_range, member_with, table_block, Layout, laid_le, reallocation_prefix}
 use Rattle.std.specs.FinMap as finmap
 use Rattle.std.specs.List.{AllByRecursion as Each}
-use Rattle.std.proofs.lemmas.Bool.{lt-leb}
-use Rattle.std.proofs.lemmas.Bool.Decides.{eqb_tells}
-use Rattle.w16_model.specs.declared.Block.{Block}
-use Rattle.w16_model.specs.declared.Entry.{Entry}
-use Rattle.w16_model.specs.declared.Hold.{Hold}
-use Rattle.w16_model.specs.declared.Hold.TheVariants.{Pinned, Loose}
-use Rattle.w16_model.specs.declared.RoomOptions.{RoomOptions}
-use Rattle.w16_model.specs.Gap.{holds_still, block_end, first_from, hole_after, is_any}
-use Rattle.w16_model.specs.Discards.{fits_in_place, growth_for, snapshot}
-use Rattle.w16_model.specs.Heap.{Heap, Object, IsMultiple, blocks, object_at, bytes_at, is_pinned_object}
-use Rattle.w16_model.specs.Changes.{with_object}
-use Rattle.w16_model.specs.Request.{Request, IsGrown, Grows, Reallocates, ReallocatesObject, StaysOrMovesToHole, snapshot_of}
-use Rattle.w16_model.specs.Table.{Table, IsSound, block_with, heap_in, hold_of_entry, object_in}
-use Rattle.w16_model.proofs.Gaps.{Member, Each-at, Each-from, first_from-below, first_from-greatest}
-use Rattle.w16_model.proofs.Heaps.{block_member}
-use Rattle.w16_model.proofs.Tables.{length_range, member_with, table_block}
-use Rattle.w16_blocks.specs.Layout.{Layout}
-use Rattle.w16_blocks.proofs.Free.{laid_le}
-use Rattle.w16_arena.specs.Asked.{reallocation_prefix}
 use Rattle.w16_arena.proofs.Parts.{AreParts}
 use Rattle.w16_arena.proofs.Listed.{is_listed, listed_with}
 use Rattle.w16_arena.proofs.Lookups.{holds_at, object_here, bytes_here, place_here, ends_in_memory}

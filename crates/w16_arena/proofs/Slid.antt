@@ -1,20 +1,7 @@
 -- The heap of parts whose blocks slid: the same objects at other addresses.
-use Rattle.std.proofs.Common.{◌≡◌, ℕ, ◌+◌, ◌<◌, ◌≤◌, ◌⊎◌, inl, inr, ◌&&◌, IsTrue, IfSome, IsSomeAnd, is_some, List, get_or, slice_range, Option, Some, None, option_map, refl, sym, ap, ◌∙◌, subst, arith}
+use Rattle.w16_arena.proofs.Common.{◌≡◌, ℕ, ◌+◌, ◌<◌, ◌≤◌, ◌⊎◌, inl, inr, ◌&&◌, IsTrue, IfSome, IsSomeAnd, is_some, List, get_or, slice_range, Option, Some, None, option_map, refl, sym, ap, ◌∙◌, subst, arith, false≢true, range_part, Block, Entry, block_end, is_pinned, holds_still, Object, object_at, is_discardable, IsCountedBy, block_with, hold_of_entry, is_listed, Each-at, laid_each, member_with, Layout, heap_of, Slides, AreMoved}
 use Rattle.std.specs.FinMap as finmap
-use Rattle.std.proofs.lemmas.Bool.{false≢true}
-use Rattle.w16_model.proofs.Parts.{range_part}
-use Rattle.w16_model.specs.declared.Block.{Block}
-use Rattle.w16_model.specs.declared.Entry.{Entry}
-use Rattle.w16_model.specs.Gap.{block_end, is_pinned, holds_still}
-use Rattle.w16_model.specs.Heap.{Object, object_at, is_discardable}
-use Rattle.w16_model.specs.Table.{IsCountedBy, block_with, hold_of_entry, is_listed}
-use Rattle.w16_model.proofs.Gaps.{Each-at}
-use Rattle.w16_model.proofs.Laid.{laid_each}
-use Rattle.w16_model.proofs.Tables.{member_with}
-use Rattle.w16_blocks.specs.Layout.{Layout}
 use Rattle.w16_arena.proofs.Parts.{AreParts}
-use Rattle.w16_arena.specs.State.{heap_of}
-use Rattle.w16_arena.specs.NewPlace.{Slides, AreMoved}
 use Rattle.w16_arena.proofs.Pairs.{BothOrNone, with_two}
 use Rattle.w16_arena.proofs.Lookups.{IsOrder, ordered_arranged, sound_of, holds_at, object_here, place_here}
 

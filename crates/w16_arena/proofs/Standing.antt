@@ -1,24 +1,6 @@
 -- An object at a place that was found or made: what its call asks, and the heap after it. Its id has no block before.
-use Rattle.std.proofs.Common.{◌≡◌, ◌≢◌, ℕ, ◌+◌, ◌<◌, ◌≤◌, ◌⊎◌, inl, inr, Bool, true, false, not, ◌&&◌, ◌||◌, ◌==◌, IsTrue, IfSome, List, length, set, slice_range, Option, Some, None, option_map, refl, sym, ap, ◌∙◌, subst, arith}
-use Rattle.std.specs.Cmp.{nat_cmp_total}
+use Rattle.w16_arena.proofs.Common.{◌≡◌, ◌≢◌, ℕ, ◌+◌, ◌<◌, ◌≤◌, ◌⊎◌, inl, inr, Bool, true, false, not, ◌&&◌, ◌||◌, ◌==◌, IsTrue, IfSome, List, length, set, slice_range, Option, Some, None, option_map, refl, sym, ap, ◌∙◌, subst, arith, nat_cmp_total, same_map, nat_cmp-IsAntisymmetric, false≢true, cases_Bool, and_parts, Block, Entry, Hold, RoomOptions, is_pinned, Heap, Object, IsMultiple, blocks, is_discardable, stays_for, block_with, hold_of_entry, Member, Each-from, Each-at, All-from_Each, Layout, IsOrdered, Fits, placed, moved_between, Placed, Stands, table_of, heap_of, Slides, AreMoved, AreFreeBytes}
 use Rattle.std.specs.FinMap as finmap
-use Rattle.std.specs.FinMap.{same_map, nat_cmp-IsAntisymmetric}
-use Rattle.std.proofs.lemmas.Bool.{false≢true, cases_Bool, and_parts}
-use Rattle.w16_model.specs.declared.Block.{Block}
-use Rattle.w16_model.specs.declared.Entry.{Entry}
-use Rattle.w16_model.specs.declared.Hold.{Hold}
-use Rattle.w16_model.specs.declared.RoomOptions.{RoomOptions}
-use Rattle.w16_model.specs.Gap.{is_pinned}
-use Rattle.w16_model.specs.Heap.{Heap, Object, IsMultiple, blocks, is_discardable}
-use Rattle.w16_model.specs.Request.{stays_for}
-use Rattle.w16_model.specs.Table.{block_with, hold_of_entry}
-use Rattle.w16_model.proofs.Gaps.{Member, Each-from, Each-at, All-from_Each}
-use Rattle.w16_blocks.specs.Layout.{Layout, IsOrdered, Fits, placed}
-use Rattle.w16_compact.specs.Gather.{moved_between}
-use Rattle.w16_arena.specs.declared.new_place.Placed.{Placed}
-use Rattle.w16_arena.specs.Asked.{Stands}
-use Rattle.w16_arena.specs.State.{table_of, heap_of}
-use Rattle.w16_arena.specs.NewPlace.{Slides, AreMoved, AreFreeBytes}
 use Rattle.w16_arena.proofs.Parts.{AreParts}
 use Rattle.w16_arena.proofs.Lookups.{is_heap, place_here}
 use Rattle.w16_arena.proofs.Listed.{listed_with, is_listed}

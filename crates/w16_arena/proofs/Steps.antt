@@ -1,26 +1,7 @@
 -- The steps that ask for no room: what each leaves kept, and the heap after it, in every memory.
-use Rattle.std.proofs.Common.{◌≡◌, ℕ, zero, suc, ◌+◌, ◌<◌, ◌≤◌, ◌==◌, Bool, true, false, cond, ◌&&◌, IfSome, IfNone, IsSomeAnd, AllPairs, replicate, List, [], ◌∷◌, length, get_or, set, slice_range, Option, Some, None, option_map, is_some, refl, sym, ap, ◌∙◌, subst, inl, inr, arith}
+use Rattle.w16_arena.proofs.Common.{◌≡◌, ℕ, zero, suc, ◌+◌, ◌<◌, ◌≤◌, ◌==◌, Bool, true, false, cond, ◌&&◌, IfSome, IfNone, IsSomeAnd, AllPairs, replicate, List, [], ◌∷◌, length, get_or, set, slice_range, Option, Some, None, option_map, is_some, refl, sym, ap, ◌∙◌, subst, inl, inr, arith, cases_eq, eqb_tells, length-replicate, Block, Entry, Hold, Kind, is_member, Heap, Object, object_at, is_discardable, removed, absent, with_object, touched, newest, without, Enters, IsSound, IsCountedBy, block_with, hold_of_entry, object_in, is_listed, get-update_same, get-update_other, taken_here, taken_other, Layout, IsOrdered, replaced, member_with, Uses, ArenaState, Steps, table_of, heap_of, ArenaInvariant}
 use Rattle.std.specs.FinMap as finmap
-use Rattle.std.proofs.lemmas.Bool.{cases_eq}
-use Rattle.std.proofs.lemmas.Bool.Decides.{eqb_tells}
-use Rattle.std.proofs.lemmas.List.{length-replicate}
-use Rattle.w16_model.specs.declared.Block.{Block}
-use Rattle.w16_model.specs.declared.Entry.{Entry}
-use Rattle.w16_model.specs.declared.Hold.{Hold}
-use Rattle.w16_model.specs.declared.Kind.{Kind}
-use Rattle.w16_model.specs.Discards.{is_member}
-use Rattle.w16_model.specs.Heap.{Heap, Object, object_at, is_discardable}
-use Rattle.w16_model.specs.Changes.{removed, absent, with_object, touched, newest, without}
-use Rattle.w16_model.specs.OneObject.{Enters}
-use Rattle.w16_model.specs.Table.{IsSound, IsCountedBy, block_with, hold_of_entry, object_in, is_listed}
-use Rattle.w16_model.proofs.Heaps.{get-update_same, get-update_other}
-use Rattle.w16_model.proofs.KeptHeaps.{taken_here, taken_other}
 use Rattle.w16_blocks.specs.Layout as layouts
-use Rattle.w16_blocks.specs.Layout.{Layout, IsOrdered, replaced}
-use Rattle.w16_model.proofs.Tables.{member_with}
-use Rattle.w16_lru.specs.Uses.{Uses}
-use Rattle.w16_arena.specs.State.{ArenaState, Steps, table_of, heap_of}
-use Rattle.w16_arena.specs.Representation.{ArenaInvariant}
 use Rattle.w16_arena.proofs.Parts.{AreParts}
 use Rattle.w16_arena.proofs.With.{with-replaced, with-without}
 use Rattle.w16_arena.proofs.Lookups.{IsArranged, ordered_arranged, sound_arranged, object_here, place_here, no_block, in_list, same_heap}

@@ -1,26 +1,6 @@
 -- Blocks that have slid together, and nothing else: what is kept, and the heap after it.
-use Rattle.std.proofs.Common.{arith, ◌≡◌, ℕ, ◌<◌, ◌≤◌, IsTrue, All, List, length, Option, Some, refl, sym, ap, ◌∙◌, subst}
-use Rattle.std.specs.Cmp.{nat_cmp_total}
+use Rattle.w16_arena.proofs.Common.{arith, ◌≡◌, ℕ, ◌<◌, ◌≤◌, IsTrue, All, List, length, Option, Some, refl, sym, ap, ◌∙◌, subst, nat_cmp_total, same_map, nat_cmp-IsAntisymmetric, Entry, Span, is_pinned, longest_hole, Heap, blocks, Settles, heap_in, Each-from, All-from_Each, table_longest, Layout, moved_between, Uses, SlidesTogether, IsStill, Compacted, GName, IsSameRest, ArenaState, KeepsRest, table_of, heap_of, ArenaInvariant, AreMoved}
 use Rattle.std.specs.FinMap as finmap
-use Rattle.std.specs.FinMap.{same_map, nat_cmp-IsAntisymmetric}
-use Rattle.w16_model.specs.declared.Entry.{Entry}
-use Rattle.w16_model.specs.declared.Span.{Span}
-use Rattle.w16_model.specs.Gap.{is_pinned, longest_hole}
-use Rattle.w16_model.specs.Heap.{Heap, blocks}
-use Rattle.w16_model.specs.Request.{Settles}
-use Rattle.w16_model.specs.Table.{heap_in}
-use Rattle.w16_model.proofs.Gaps.{Each-from, All-from_Each}
-use Rattle.w16_model.proofs.Tables.{table_longest}
-use Rattle.w16_blocks.specs.Layout.{Layout}
-use Rattle.w16_compact.specs.Gather.{moved_between}
-use Rattle.w16_lru.specs.Uses.{Uses}
-use Rattle.w16_arena.specs.Asked.{SlidesTogether, IsStill}
-use Rattle.w16_arena.specs.declared.without_discard.Compacted.{Compacted}
-use Rattle.std.specs.Borrow.{GName}
-use Rattle.w16_compact.specs.Rest.{IsSameRest}
-use Rattle.w16_arena.specs.State.{ArenaState, KeepsRest, table_of, heap_of}
-use Rattle.w16_arena.specs.Representation.{ArenaInvariant}
-use Rattle.w16_arena.specs.NewPlace.{AreMoved}
 use Rattle.w16_arena.proofs.Parts.{AreParts}
 use Rattle.w16_arena.proofs.Lookups.{is_heap}
 use Rattle.w16_arena.proofs.Listed.{whole, listed_with, is_listed}

@@ -1,14 +1,6 @@
 -- What the single steps of a heap say, by what it has at an id.
-use Rattle.std.proofs.Common.{◌≡◌, ℕ, ◌+◌, ◌-◌, ◌==◌, ◌||◌, true, false, nat_lt, is_some, Some, None, Ok, Err, refl}
-use Rattle.w16_model.specs.declared.Kind.{Kind}
+use Rattle.w16_arena.proofs.Common.{◌≡◌, ℕ, ◌+◌, ◌-◌, ◌==◌, ◌||◌, true, false, nat_lt, is_some, Some, None, Ok, Err, refl, Kind, Heap, Object, object_at, is_fixed, is_discardable, absent, removed, touched, with_object, with_ordered, after_lock, after_unlock, after_free, after_discard, after_modify, refused_order, after_newest, after_oldest, End, Oldest, Newest, at_end, after_end, relisted}
 use Rattle.w16_model.specs.declared.Refusal.TheVariants as refusals
-use Rattle.w16_model.specs.Heap.{Heap, Object, object_at, is_fixed, is_discardable}
-use Rattle.w16_model.specs.Changes.{absent, removed, touched, with_object, with_ordered}
-use Rattle.w16_model.specs.OneObject.{after_lock, after_unlock, after_free, after_discard, after_modify, refused_order, after_newest, after_oldest}
-use Rattle.w16_lru.specs.declared.End.{End}
-use Rattle.w16_lru.specs.declared.End.TheVariants.{Oldest, Newest}
-use Rattle.w16_lru.specs.Uses.{at_end}
-use Rattle.w16_arena.specs.State.{after_end, relisted}
 
 module _ (heap : Heap) (id : ℕ) where
   module _ (none : object_at heap id ≡ None) where

@@ -1,12 +1,7 @@
 -- Where each object stands as it stood, or nowhere, nothing was moved.
-use Rattle.std.proofs.Common.{◌≡◌, ℕ, ◌⊎◌, inl, inr, Bool, false, cond, not, List, [], ◌∷◌, filter, sum_by, Option, Some, None, unwrap_or, refl, ap, ◌∙◌, eq-eqb}
-use Rattle.std.specs.Ordering.{nat_cmp}
+use Rattle.w16_arena.proofs.Common.{◌≡◌, ℕ, ◌⊎◌, inl, inr, Bool, false, cond, not, List, [], ◌∷◌, filter, sum_by, Option, Some, None, unwrap_or, refl, ap, ◌∙◌, eq-eqb, nat_cmp, FinMap, filter_map, Block, Heap, Object, blocks, block_of, is_elsewhere, moved_bytes}
 use Rattle.std.specs.FinMap as finmap
-use Rattle.std.specs.FinMap.{FinMap}
-use Rattle.std.specs.List.{AllByRecursion as Each, filter_map}
-use Rattle.w16_model.specs.declared.Block.{Block}
-use Rattle.w16_model.specs.Heap.{Heap, Object, blocks, block_of}
-use Rattle.w16_model.specs.Request.{is_elsewhere, moved_bytes}
+use Rattle.std.specs.List.{AllByRecursion as Each}
 
 -- an address that is looked up is the one that was
 here : (p : Option ℕ) → is_elsewhere (unwrap_or p 0) p ≡ false

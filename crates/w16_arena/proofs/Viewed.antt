@@ -1,12 +1,5 @@
 -- The bytes that an object has in a memory.
-use Rattle.std.proofs.Common.{◌≡◌, ℕ, ◌+◌, ◌≤◌, List, length, slice_range, refl, Some, None, option_map, ap, ◌∙◌}
-use Rattle.w16_model.specs.declared.Block.{Block}
-use Rattle.w16_model.specs.Heap.{bytes_at}
-use Rattle.w16_model.specs.Table.{Table, IsSound, block_with, heap_in}
-use Rattle.w16_blocks.specs.Layout.{Layout}
-use Rattle.w16_model.proofs.Tables.{member_with}
-use Rattle.w16_model.specs.Bytes.{part}
-use Rattle.w16_model.proofs.Parts.{range_part}
+use Rattle.w16_arena.proofs.Common.{◌≡◌, ℕ, ◌+◌, ◌≤◌, List, length, slice_range, refl, Some, None, option_map, ap, ◌∙◌, Block, bytes_at, Table, IsSound, block_with, heap_in, Layout, member_with, part, range_part}
 use Rattle.w16_arena.proofs.Parts.{AreParts}
 use Rattle.w16_arena.proofs.Lookups.{bytes_here, ends_in_memory}
 

@@ -1,20 +1,6 @@
 -- The first part of a heap at or above an address.
 use Rattle.std.specs.List.{AllByRecursion as Each}
-use Rattle.std.proofs.Common.{◌≡◌, ℕ, zero, suc, ◌+◌, ◌-◌, ◌<◌, ◌≤◌, ◌⊎◌, inl, inr, All, IsTrue, IfSome, IsSomeAnd, List, [], ◌∷◌, length, slice_range, MatchOption, Option, Some, None, option_map, slice_get, refl, sym, ap, ◌∙◌, subst, arith}
-use Rattle.std.proofs.lemmas.Bool.{cases_lt}
-use Rattle.w16_model.specs.declared.Block.{Block}
-use Rattle.w16_model.specs.declared.Entry.{Entry}
-use Rattle.w16_model.specs.declared.Item.{Item}
-use Rattle.w16_model.specs.declared.Owner.{Owner}
-use Rattle.w16_model.specs.Gap.{IsLaid, IsHole, IsClear, Misses, block_end, is_any}
-use Rattle.w16_model.specs.Heap.{Object, blocks}
-use Rattle.w16_model.specs.Table.{Table, IsSound, block_with, entry_at, heap_in, object_in, hold_of_entry}
-use Rattle.w16_model.specs.Walk.{IsItem, IsFirstItem, by_its_id}
-use Rattle.w16_model.proofs.Gaps.{Member, Each-at, Each-from, Each-from_All, All-from_Each}
-use Rattle.w16_model.proofs.Laid.{laid_each}
-use Rattle.w16_model.proofs.Tables.{table_block, member_with, length_range}
-use Rattle.w16_model.proofs.Heaps.{block_member}
-use Rattle.w16_blocks.specs.Layout.{Layout, rank}
+use Rattle.w16_arena.proofs.Common.{◌≡◌, ℕ, zero, suc, ◌+◌, ◌-◌, ◌<◌, ◌≤◌, ◌⊎◌, inl, inr, All, IsTrue, IfSome, IsSomeAnd, List, [], ◌∷◌, length, slice_range, MatchOption, Option, Some, None, option_map, slice_get, refl, sym, ap, ◌∙◌, subst, arith, cases_lt, Block, Entry, Item, Owner, IsLaid, IsHole, IsClear, Misses, block_end, is_any, Object, blocks, Table, IsSound, block_with, entry_at, heap_in, object_in, hold_of_entry, IsItem, IsFirstItem, by_its_id, Member, Each-at, Each-from, Each-from_All, All-from_Each, laid_each, table_block, member_with, length_range, block_member, Layout, rank}
 use Rattle.w16_arena.proofs.Next.{IsNext, next_is}
 use Rattle.w16_arena.proofs.Listed.{is_listed, listed_with}
 use Rattle.w16_arena.proofs.Lookups.{object_here, place_here, ends_in_memory, holds_at}

@@ -1,21 +1,5 @@
 -- When there is a place where an object may grow, and what the place tells.
-use Rattle.std.proofs.Common.{◌≡◌, ℕ, ◌+◌, ◌-◌, ◌<◌, ◌≤◌, ◌==◌, ◌⊎◌, Bool, true, false, cond, nat_le, IsTrue, IfSome, List, [], Option, Some, None, refl, sym, ap, ◌∙◌, subst, arith, le-leb, eq-eqb}
-use Rattle.std.specs.Option.{ForSome}
-use Rattle.std.proofs.lemmas.Bool.{cond-true, false≢true, lt-leb, or_from, or_left, or_right}
-use Rattle.w16_model.specs.declared.Block.{Block}
-use Rattle.w16_model.specs.Bytes.{part}
-use Rattle.w16_model.specs.Discards.{fits_in_place, snapshot}
-use Rattle.w16_model.specs.Gap.{block_end, hole_after, is_any, longest_hole, room, IsClear, Misses}
-use Rattle.w16_model.specs.Table.{block_with}
-use Rattle.w16_model.proofs.Gaps.{All-from_Each, Each-map}
-use Rattle.w16_blocks.specs.Layout.{Layout, IsOrdered, all_but}
-use Rattle.w16_blocks.proofs.Remove.{with_id}
-use Rattle.w16_compact.specs.Gather.{moved_between}
-use Rattle.w16_compact.proofs.Gathering.{moved_same}
-use Rattle.w16_compact.proofs.LeftOut.{ordered_without}
-use Rattle.w16_arena.specs.declared.new_place.Placed.{Placed}
-use Rattle.w16_arena.specs.NewPlace.{AreMoved, AreFreeBytes}
-use Rattle.w16_arena.specs.Growth.{but_for, may_grow, HasWay}
+use Rattle.w16_arena.proofs.Common.{◌≡◌, ℕ, ◌+◌, ◌-◌, ◌<◌, ◌≤◌, ◌==◌, ◌⊎◌, Bool, true, false, cond, nat_le, IsTrue, IfSome, List, [], Option, Some, None, refl, sym, ap, ◌∙◌, subst, arith, le-leb, eq-eqb, ForSome, cond-true, false≢true, lt-leb, or_from, or_left, or_right, Block, part, fits_in_place, snapshot, block_end, hole_after, is_any, longest_hole, room, IsClear, Misses, block_with, All-from_Each, Each-map, Layout, IsOrdered, all_but, with_id, moved_between, moved_same, ordered_without, Placed, AreMoved, AreFreeBytes, but_for, may_grow, HasWay}
 use Rattle.w16_arena.proofs.Arranged.{free_fits, same_moved}
 use Rattle.w16_arena.proofs.ButFor.{behind_free, hole_clear}
 use Rattle.w16_arena.proofs.Rooms.{first_hole, hole_enough, hole_missing}

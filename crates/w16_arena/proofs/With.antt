@@ -1,11 +1,6 @@
 -- An id's block, in a list that was changed.
-use Rattle.std.proofs.Common.{◌≡◌, ◌≢◌, ℕ, ◌==◌, List, [], ◌∷◌, cond, Option, Some, None, refl, ap, ◌∙◌, inl, inr}
-use Rattle.std.specs.List.{AllByRecursion}
-use Rattle.std.proofs.lemmas.Bool.{ne_eqb, cases_lt, lt-ltb, le-ltb}
-use Rattle.std.proofs.lemmas.Bool.Decides.{eqb_tells}
-use Rattle.w16_model.specs.declared.Block.{Block}
-use Rattle.w16_model.specs.Table.{block_with}
-use Rattle.w16_blocks.specs.Layout.{placed, all_but, replaced}
+use Rattle.w16_arena.proofs.Common.{◌≡◌, ◌≢◌, ℕ, ◌==◌, List, [], ◌∷◌, cond, Option, Some, None, refl, ap, ◌∙◌, inl, inr, AllByRecursion, cases_lt, lt-ltb, le-ltb, eqb_tells, Block, block_with, placed, all_but, replaced}
+use Rattle.std.proofs.lemmas.Bool.{ne_eqb}
 
 pub with-without : (id : ℕ) (bs : List Block) (q : ℕ) → block_with (all_but id bs) q ≡ cond (id == q) None (block_with bs q)
 with-without id [] q = elim (eqb_tells id q) [ inl same ↦ rw same.0 refl | inr other ↦ rw other.0 refl ]

@@ -1,6 +1,5 @@
 -- The count of bytes written, over two steps.
-use Rattle.std.proofs.Common.{◌≡◌, ℕ, ◌+◌, Bool, true, false, refl, sym, if◌then◌else◌, arith}
-use Rattle.w16_region.specs.Bytes.{counted}
+use Rattle.w16_arena.proofs.Common.{◌≡◌, ℕ, ◌+◌, Bool, true, false, refl, sym, if◌then◌else◌, arith, counted}
 
 -- no byte more is counted
 pub counted_none : (w : ℕ) → counted w 0 ≡ w

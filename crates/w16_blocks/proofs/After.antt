@@ -1,13 +1,5 @@
 -- The hole that begins where a block ends.
-use Rattle.std.proofs.Common.{ℕ, suc, ◌≡◌, ◌≢◌, ◌-◌, ◌<◌, ◌≤◌, List, [], ◌∷◌, Some, is_some, arith, refl, sym, ap, ◌∙◌, inl, inr, eq-eqb}
-use Rattle.std.proofs.lemmas.Bool.{cases_lt, lt-ltb, le-ltb, ne_eqb, false≢true}
-use Rattle.std.proofs.lemmas.Bool.Decides.{eqb_tells}
-use Rattle.w16_model.specs.declared.Block.{Block}
-use Rattle.w16_model.specs.declared.Span.{Span}
-use Rattle.w16_model.specs.Gap.{IsLaid, block_end, holes, hole_after}
-use Rattle.w16_model.specs.Table.{block_with}
-use Rattle.w16_model.proofs.Laid.{holes-cons, laid_each, first_hole_end, first_behind}
-use Rattle.w16_holes.specs.Holes.{AreHoles, add_span, length_at}
+use Rattle.w16_blocks.proofs.Common.{ℕ, suc, ◌≡◌, ◌≢◌, ◌-◌, ◌<◌, ◌≤◌, List, [], ◌∷◌, Some, is_some, arith, refl, sym, ap, ◌∙◌, inl, inr, eq-eqb, cases_lt, lt-ltb, le-ltb, ne_eqb, false≢true, eqb_tells, Block, Span, IsLaid, block_end, holes, hole_after, block_with, holes-cons, laid_each, first_hole_end, first_behind, AreHoles, add_span, length_at}
 use Rattle.w16_blocks.proofs.Remove.{with_same, with_other, each_with}
 use Rattle.w16_blocks.proofs.Free.{AreHoles-holes}
 

@@ -1,16 +1,7 @@
 -- The list of blocks that a table and its cells tell.
-use Rattle.std.proofs.Common.{ℕ, zero, suc, ◌≡◌, ◌≢◌, ◌+◌, ◌*◌, ◌<◌, ◌≤◌, List, [], ◌∷◌, length, set, Some, None, is_some, eq-eqb, arith, refl, sym, ap, ◌∙◌, subst, inl, inr}
-use Rattle.std.specs.Prelude.{slice_index}
-use Rattle.std.proofs.lemmas.Bool.Decides.{eqb_tells}
-use Rattle.std.proofs.lemmas.List.{get_or-set_other}
-use Rattle.std.specs.List.{AllByRecursion}
-use Rattle.w16_model.specs.declared.Block.{Block}
-use Rattle.w16_model.specs.Table.{block_with}
-use Rattle.w16_blocks.specs.Layout.{placed, all_but}
-use Rattle.w16_blocks.specs.Kept.{no_block, slot_of, blocks_in, AreBegun}
+use Rattle.w16_blocks.proofs.Common.{ℕ, zero, suc, ◌≡◌, ◌≢◌, ◌+◌, ◌*◌, ◌<◌, ◌≤◌, List, [], ◌∷◌, length, set, Some, None, is_some, eq-eqb, arith, refl, sym, ap, ◌∙◌, subst, inl, inr, slice_index, eqb_tells, get_or-set_other, AllByRecursion, Block, block_with, placed, all_but, no_block, slot_of, blocks_in, AreBegun, ne_eqb, false≢true}
 use Rattle.w16_blocks.proofs.Place.{placed_first, placed_after}
 use Rattle.w16_blocks.proofs.Remove.{all_but_same, all_but_other, all_but_absent, with_same, with_other, with_none}
-use Rattle.std.proofs.lemmas.Bool.{ne_eqb, false≢true}
 
 -- what holds of the block of each cell holds of each block, and back
 pub All-told : (P : Block → Type 0) (slots : List Block) (cells : List ℕ) → ((k id : ℕ) → slice_index cells k ≡ suc id → P (slot_of slots id)) → AllByRecursion P (blocks_in slots cells)

@@ -1,14 +1,5 @@
 -- The last block below a place, by the cells of the units below it.
-use Rattle.std.proofs.Common.{ℕ, suc, ◌≡◌, ◌-◌, ◌<◌, ◌≤◌, ◌⊎◌, List, arith, ap, ◌∙◌, inl, inr}
-use Rattle.std.specs.Prelude.{slice_index}
-use Rattle.std.specs.Int.{div_ceil}
-use Rattle.std.specs.List.{AllByRecursion}
-use Rattle.std.proofs.lemmas.Bool.{cases_lt}
-use Rattle.w16_model.specs.declared.Block.{Block}
-use Rattle.w16_model.specs.Table.{block_with}
-use Rattle.w16_holes.proofs.Units.{up}
-use Rattle.w16_blocks.specs.Below.{IsLastBelow}
-use Rattle.w16_blocks.specs.Kept.{slot_of, blocks_in, AreTables}
+use Rattle.w16_blocks.proofs.Common.{ℕ, suc, ◌≡◌, ◌-◌, ◌<◌, ◌≤◌, ◌⊎◌, List, arith, ap, ◌∙◌, inl, inr, slice_index, div_ceil, AllByRecursion, cases_lt, Block, block_with, up, IsLastBelow, slot_of, blocks_in, AreTables}
 use Rattle.w16_blocks.proofs.Cells.{All-told, told_with}
 use Rattle.w16_blocks.proofs.Next.{units_below, units_above}
 

@@ -1,15 +1,5 @@
 -- Which bytes are free between laid blocks: those that none has. They tell the list of holes.
-use Rattle.std.proofs.Common.{ℕ, suc, ◌≡◌, ◌<◌, ◌≤◌, ◌⊎◌, max, List, [], ◌∷◌, arith, sym, subst, inl, inr}
-use Rattle.std.proofs.lemmas.Bool.{cases_lt, lt-ltb, le-ltb}
-use Rattle.std.specs.List.{AllByRecursion}
-use Rattle.w16_model.specs.declared.Block.{Block}
-use Rattle.w16_model.specs.declared.Span.{Span}
-use Rattle.w16_model.specs.Gap.{IsLaid, block_end, holes}
-use Rattle.w16_model.proofs.Gaps.{Each-map}
-use Rattle.w16_model.proofs.Laid.{holes-cons, laid_each}
-use Rattle.w16_holes.specs.Holes.{AreHoles, IsFree, IsUsed}
-use Rattle.w16_holes.specs.Law.{IsIn}
-use Rattle.w16_holes.proofs.Sets.{low, same_holes}
+use Rattle.w16_blocks.proofs.Common.{ℕ, suc, ◌≡◌, ◌<◌, ◌≤◌, ◌⊎◌, max, List, [], ◌∷◌, arith, sym, subst, inl, inr, cases_lt, lt-ltb, le-ltb, AllByRecursion, Block, Span, IsLaid, block_end, holes, Each-map, holes-cons, laid_each, AreHoles, IsFree, IsUsed, IsIn, low, same_holes}
 
 -- a byte that a block does not have
 abbrev pub Lacks : ℕ → Block → Type 0

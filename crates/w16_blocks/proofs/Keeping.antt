@@ -1,16 +1,6 @@
 -- What is kept where a block is added, taken away or changed.
-use Rattle.std.proofs.Common.{ℕ, suc, ◌≡◌, ◌+◌, ◌-◌, ◌*◌, ◌^◌, ◌<◌, ◌≤◌, List, length, set, Some, sum_by, arith, refl, sym, ap, ◌∙◌, subst}
-use Rattle.std.specs.Prelude.{slice_index}
-use Rattle.w16_model.specs.declared.Block.{Block}
-use Rattle.w16_model.specs.declared.Hold.{Hold}
-use Rattle.w16_model.specs.declared.Span.{Span}
-use Rattle.w16_model.specs.Gap.{block_end, holes}
-use Rattle.w16_model.specs.Heap.{IsMultiple}
-use Rattle.w16_model.specs.Table.{block_with}
-use Rattle.w16_holes.specs.Holes.{Range, IsFree, IsUsed, IsPart, taken, joined}
-use Rattle.w16_blocks.specs.Layout.{Layout, Fits, FitsFor, placed, all_but, replaced}
+use Rattle.w16_blocks.proofs.Common.{ℕ, suc, ◌≡◌, ◌+◌, ◌-◌, ◌*◌, ◌^◌, ◌<◌, ◌≤◌, List, length, set, Some, sum_by, arith, refl, sym, ap, ◌∙◌, subst, slice_index, Block, Hold, Span, block_end, holes, IsMultiple, block_with, Range, IsFree, IsUsed, IsPart, taken, joined, Layout, Fits, FitsFor, placed, all_but, replaced, no_block, slot_of, blocks_in, layout_in, pins_of, pins_in, AreTables, BlocksInvariant}
 use Rattle.w16_blocks.proofs.Cells.{with_cell}
-use Rattle.w16_blocks.specs.Kept.{no_block, slot_of, blocks_in, layout_in, pins_of, pins_in, AreTables, BlocksInvariant}
 use Rattle.w16_blocks.proofs.Place.{sum-placed}
 use Rattle.w16_blocks.proofs.Remove.{with_id, sum-all_but}
 use Rattle.w16_blocks.proofs.Ordered.{IsOrdered-placed, IsOrdered-all_but, sum_fits, pins_small, pins_fit}

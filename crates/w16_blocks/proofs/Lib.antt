@@ -1,3 +1,4 @@
+pub mod Common
 pub mod Place
 pub mod Remove
 pub mod Cells

@@ -1,17 +1,5 @@
 -- A block that moves up, over no other.
-use Rattle.std.proofs.Common.{ℕ, ◌≡◌, ◌+◌, ◌-◌, ◌<◌, ◌≤◌, ◌⊎◌, List, [], ◌∷◌, map, Some, is_some, arith, refl, sym, ap, ◌∙◌, inl, inr}
-use Rattle.std.proofs.lemmas.Bool.{false≢true}
-use Rattle.std.proofs.lemmas.Bool.Decides.{eqb_tells}
-use Rattle.std.specs.List.{AllByRecursion}
-use Rattle.w16_model.specs.declared.Block.{Block}
-use Rattle.w16_model.specs.declared.Span.{Span}
-use Rattle.w16_model.specs.Gap.{IsLaid, block_end}
-use Rattle.w16_model.specs.Heap.{IsMultiple}
-use Rattle.w16_model.specs.Table.{block_with}
-use Rattle.w16_model.proofs.Gaps.{Each-map, Each-both}
-use Rattle.w16_model.proofs.Laid.{laid_each}
-use Rattle.w16_blocks.specs.Layout.{Layout, IsApart, IsOrdered, FitsFor, AreNamed, placed, all_but, replaced}
-use Rattle.w16_blocks.specs.Runs.{slid_with}
+use Rattle.w16_blocks.proofs.Common.{ℕ, ◌≡◌, ◌+◌, ◌-◌, ◌<◌, ◌≤◌, ◌⊎◌, List, [], ◌∷◌, map, Some, is_some, arith, refl, sym, ap, ◌∙◌, inl, inr, false≢true, eqb_tells, AllByRecursion, Block, Span, IsLaid, block_end, IsMultiple, block_with, Each-map, Each-both, laid_each, Layout, IsApart, IsOrdered, FitsFor, AreNamed, placed, all_but, replaced, slid_with}
 use Rattle.w16_blocks.proofs.Place.{placed_first, placed_after}
 use Rattle.w16_blocks.proofs.Remove.{all_but_same, all_but_other, all_but_absent, rest_differs, with_same, with_other, All-all_but, All-back, each_with, others_apart, others_differ}
 use Rattle.w16_blocks.proofs.Step.{lies, grained_known}

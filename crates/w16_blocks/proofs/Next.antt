@@ -1,19 +1,5 @@
 -- The first block from a place on, by the cells from a unit on.
-use Rattle.std.proofs.Common.{ℕ, zero, suc, ◌≡◌, ◌+◌, ◌-◌, ◌*◌, ◌/◌, ◌<◌, ◌≤◌, ◌⊎◌, max, List, [], ◌∷◌, length, drop, Some, None, arith, refl, ap, ◌∙◌, inl, inr}
-use Rattle.std.specs.Prelude.{slice_index, slice_get}
-use Rattle.std.proofs.lemmas.Bool.{cases_lt, lt-ltb, le-ltb}
-use Rattle.std.proofs.lemmas.Bool.Decides.{eqb_tells}
-use Rattle.std.specs.List.{AllByRecursion}
-use Rattle.w16_model.specs.declared.Block.{Block}
-use Rattle.w16_model.specs.declared.Span.{Span}
-use Rattle.w16_model.specs.Gap.{holes}
-use Rattle.w16_holes.specs.Holes.{IsPlace, length_at}
-use Rattle.w16_holes.specs.Law.{IsIn}
-use Rattle.std.specs.Int.{div_ceil}
-use Rattle.std.proofs.lemmas.Grind.{div_ceil_times}
-use Rattle.w16_holes.proofs.Units.{up, above, multiple_sum}
-use Rattle.w16_blocks.specs.Layout.{rank}
-use Rattle.w16_blocks.specs.Kept.{slot_of, blocks_in, AreBegun, AreTables}
+use Rattle.w16_blocks.proofs.Common.{ℕ, zero, suc, ◌≡◌, ◌+◌, ◌-◌, ◌*◌, ◌/◌, ◌<◌, ◌≤◌, ◌⊎◌, max, List, [], ◌∷◌, length, drop, Some, None, arith, refl, ap, ◌∙◌, inl, inr, slice_index, slice_get, cases_lt, lt-ltb, le-ltb, eqb_tells, AllByRecursion, Block, Span, holes, IsPlace, length_at, IsIn, div_ceil, div_ceil_times, up, above, multiple_sum, rank, slot_of, blocks_in, AreBegun, AreTables}
 use Rattle.w16_blocks.proofs.Cells.{All-told, each_told, begun_rest}
 use Rattle.w16_blocks.proofs.Free.{Lacks, laid_le, free_lacks}
 

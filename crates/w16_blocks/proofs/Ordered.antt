@@ -1,16 +1,6 @@
 -- A layout stays ordered where a block is added or taken away.
-use Rattle.std.proofs.Common.{ℕ, ◌≡◌, ◌≢◌, ◌+◌, ◌<◌, ◌≤◌, ◌^◌, Bool, List, [], ◌∷◌, length, map, eqb, true, false, ◌||◌, nat_lt, sum_by, refl, arith, sym, ap, ◌∙◌, inl, inr, lt-ltb}
-use Rattle.std.proofs.lemmas.Bool.{ne_eqb, eqb-true, or_cases, false≢true}
-use Rattle.std.proofs.lemmas.List.{length-map}
-use Rattle.std.proofs.lemmas.List.Sums.{sum_by-cons}
-use Rattle.std.proofs.lemmas.Map.Steps.{length-le_from_distinct_below}
-use Rattle.std.specs.List.{AllByRecursion, list_any, IsDistinct}
-use Rattle.w16_model.specs.declared.Block.{Block}
-use Rattle.w16_model.specs.declared.Hold.{Hold}
-use Rattle.w16_model.specs.declared.Hold.TheVariants.{Pinned, Loose}
-use Rattle.w16_model.specs.Gap.{IsLaid, block_end, is_pinned, holds_still}
-use Rattle.w16_blocks.specs.Layout.{Layout, AreNamed, IsGrained, IsOrdered, Fits, placed, all_but}
-use Rattle.w16_blocks.specs.Kept.{pins_of, pins_in}
+use Rattle.w16_blocks.proofs.Common.{ℕ, ◌≡◌, ◌≢◌, ◌+◌, ◌<◌, ◌≤◌, ◌^◌, Bool, List, [], ◌∷◌, length, map, eqb, true, false, ◌||◌, nat_lt, sum_by, refl, arith, sym, ap, ◌∙◌, inl, inr, ne_eqb, eqb-true, or_cases, false≢true, length-map, sum_by-cons, length-le_from_distinct_below, AllByRecursion, list_any, IsDistinct, Block, Hold, Pinned, Loose, IsLaid, block_end, is_pinned, holds_still, Layout, AreNamed, IsGrained, IsOrdered, Fits, placed, all_but, pins_of, pins_in}
+use Rattle.std.proofs.Common.{lt-ltb}
 use Rattle.w16_blocks.proofs.Place.{All-placed, IsLaid-placed, AreNamed-placed}
 use Rattle.w16_blocks.proofs.Remove.{All-all_but, IsLaid-all_but, AreNamed-all_but}
 

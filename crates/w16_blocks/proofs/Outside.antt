@@ -1,15 +1,5 @@
 -- What a step on blocks leaves of the bytes, where it keeps those that no hole has: each block's, and all outside the bounds.
-use Rattle.std.proofs.Common.{ℕ, ◌≡◌, ◌+◌, ◌-◌, ◌<◌, ◌≤◌, List, [], ◌∷◌, length, drop, arith, sym, ◌∙◌, inl, inr}
-use Rattle.std.proofs.lemmas.List.{length-drop, take_all}
-use Rattle.std.specs.List.{AllByRecursion}
-use Rattle.w16_model.specs.declared.Block.{Block}
-use Rattle.w16_model.specs.declared.Span.{Span}
-use Rattle.w16_model.specs.Bytes.{part}
-use Rattle.w16_model.specs.Gap.{IsLaid, block_end, holes}
-use Rattle.w16_model.specs.Table.{IsSameOutside}
-use Rattle.w16_model.proofs.Laid.{laid_each}
-use Rattle.w16_holes.specs.Holes.{AreHoles, IsUsed, AreSameOutside}
-use Rattle.w16_blocks.specs.Stay.{AreSameBut}
+use Rattle.w16_blocks.proofs.Common.{ℕ, ◌≡◌, ◌+◌, ◌-◌, ◌<◌, ◌≤◌, List, [], ◌∷◌, length, drop, arith, sym, ◌∙◌, inl, inr, length-drop, take_all, AllByRecursion, Block, Span, part, IsLaid, block_end, holes, IsSameOutside, laid_each, AreHoles, IsUsed, AreSameOutside, AreSameBut}
 use Rattle.w16_blocks.proofs.Free.{Lacks, AreHoles-holes, free_lacks, used_of}
 
 -- each block's bytes are used

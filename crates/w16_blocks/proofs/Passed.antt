@@ -1,24 +1,5 @@
 -- The first part at or above a place, by the units in which none begins.
-use Rattle.std.proofs.Common.{ℕ, ◌≡◌, ◌+◌, ◌-◌, ◌*◌, ◌/◌, ◌<◌, ◌≤◌, ◌⊎◌, IsTrue, List, [], ◌∷◌, length, drop, suc, arith, refl, sym, ap, ◌∙◌, subst, inl, inr}
-use Rattle.std.specs.Prelude.{slice_index, slice_get}
-use Rattle.std.proofs.lemmas.Bool.{cases_lt, lt-ltb, le-ltb}
-use Rattle.std.proofs.lemmas.Bool.Decides.{eqb_tells}
-use Rattle.std.specs.List.{AllByRecursion}
-use Rattle.std.specs.Int.{div_ceil}
-use Rattle.w16_model.specs.declared.Block.{Block}
-use Rattle.w16_model.specs.declared.Span.{Span}
-use Rattle.w16_model.specs.Gap.{IsLaid, IsHole, Misses, block_end, holes, is_any}
-use Rattle.w16_model.specs.Heap.{IsMultiple}
-use Rattle.w16_model.specs.Law.{AreAllOf}
-use Rattle.w16_model.proofs.Gaps.{Member, Each-at, Each-from_All, All-from_Each}
-use Rattle.w16_model.proofs.Laid.{holes-cons, laid_placed}
-use Rattle.w16_model.proofs.Starts.{gap_list_law}
-use Rattle.w16_model.proofs.Walks.{member_contained}
-use Rattle.w16_holes.specs.Holes.{AreHoles, length_at}
-use Rattle.w16_holes.proofs.Units.{up, multiple_sum, whole_units}
-use Rattle.w16_blocks.specs.Layout.{IsGrained, rank}
-use Rattle.w16_blocks.specs.Kept.{slot_of, blocks_in, layout_in, AreTables}
-use Rattle.w16_blocks.specs.Parts.{IsFirstHole, IsFirstBlock, IsBehindAll}
+use Rattle.w16_blocks.proofs.Common.{ℕ, ◌≡◌, ◌+◌, ◌-◌, ◌*◌, ◌/◌, ◌<◌, ◌≤◌, ◌⊎◌, IsTrue, List, [], ◌∷◌, length, drop, suc, arith, refl, sym, ap, ◌∙◌, subst, inl, inr, slice_index, slice_get, cases_lt, lt-ltb, le-ltb, eqb_tells, AllByRecursion, div_ceil, Block, Span, IsLaid, IsHole, Misses, block_end, holes, is_any, IsMultiple, AreAllOf, Member, Each-at, Each-from_All, All-from_Each, holes-cons, laid_placed, gap_list_law, member_contained, AreHoles, length_at, up, multiple_sum, whole_units, IsGrained, rank, slot_of, blocks_in, layout_in, AreTables, IsFirstHole, IsFirstBlock, IsBehindAll}
 use Rattle.w16_blocks.proofs.Cells.{All-told, each_told}
 use Rattle.w16_blocks.proofs.Free.{AreHoles-holes}
 use Rattle.w16_blocks.proofs.Next.{first_by_unit, pass, first_here, none_past, units_below, units_above}

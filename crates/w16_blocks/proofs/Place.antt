@@ -1,11 +1,5 @@
 -- What a block added to a list keeps of it.
-use Rattle.std.proofs.Common.{ℕ, ◌≡◌, ◌≢◌, ◌+◌, ◌<◌, ◌≤◌, List, [], ◌∷◌, sum_by, arith, refl, sym, ap, ◌∙◌, inl, inr}
-use Rattle.std.proofs.lemmas.Bool.{lt-ltb, le-ltb, cases_lt}
-use Rattle.std.proofs.lemmas.List.Sums.{sum_by-cons}
-use Rattle.std.specs.List.{AllByRecursion}
-use Rattle.w16_model.specs.declared.Block.{Block}
-use Rattle.w16_model.specs.Gap.{IsLaid, block_end}
-use Rattle.w16_blocks.specs.Layout.{IsApart, placed, AreNamed}
+use Rattle.w16_blocks.proofs.Common.{ℕ, ◌≡◌, ◌≢◌, ◌+◌, ◌<◌, ◌≤◌, List, [], ◌∷◌, sum_by, arith, refl, sym, ap, ◌∙◌, inl, inr, lt-ltb, le-ltb, cases_lt, sum_by-cons, AllByRecursion, Block, IsLaid, block_end, IsApart, placed, AreNamed}
 
 pub placed_after : (b c : Block) (cs : List Block) → c.at < b.at → placed b (c ∷ cs) ≡ c ∷ placed b cs
 placed_after b c cs lt = rw (lt-ltb c.at b.at lt) refl

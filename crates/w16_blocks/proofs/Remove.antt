@@ -1,15 +1,5 @@
 -- What taking a block away keeps of a list.
-use Rattle.std.proofs.Common.{ℕ, ◌≡◌, ◌≢◌, ◌+◌, ◌<◌, ◌≤◌, ◌==◌, true, false, List, [], ◌∷◌, Some, None, is_some, sum_by, arith, refl, sym, subst, ap, ◌∙◌, inl, inr}
-use Rattle.std.proofs.lemmas.Bool.Decides.{eqb_tells}
-use Rattle.std.proofs.lemmas.Bool.{ne_eqb, false≢true}
-use Rattle.std.proofs.lemmas.List.Sums.{sum_by-cons}
-use Rattle.std.specs.List.{AllByRecursion}
-use Rattle.w16_model.specs.declared.Block.{Block}
-use Rattle.w16_model.specs.Gap.{IsLaid, block_end}
-use Rattle.w16_model.specs.Table.{block_with}
-use Rattle.w16_model.proofs.Gaps.{Each-map}
-use Rattle.w16_model.proofs.Laid.{laid_each}
-use Rattle.w16_blocks.specs.Layout.{IsApart, placed, all_but, replaced, AreNamed}
+use Rattle.w16_blocks.proofs.Common.{ℕ, ◌≡◌, ◌≢◌, ◌+◌, ◌<◌, ◌≤◌, ◌==◌, true, false, List, [], ◌∷◌, Some, None, is_some, sum_by, arith, refl, sym, subst, ap, ◌∙◌, inl, inr, eqb_tells, ne_eqb, false≢true, sum_by-cons, AllByRecursion, Block, IsLaid, block_end, block_with, Each-map, laid_each, IsApart, placed, all_but, replaced, AreNamed}
 use Rattle.w16_blocks.proofs.Place.{placed_first, placed_after}
 
 pub all_but_same : (id : ℕ) (c : Block) (cs : List Block) → (c.id == id) ≡ true → all_but id (c ∷ cs) ≡ all_but id cs

@@ -1,19 +1,6 @@
 -- Blocks of a run that slide up one after another, from the last: what a step needs, and what it leaves.
-use Rattle.std.proofs.Common.{ℕ, ◌≡◌, ◌≢◌, ◌+◌, ◌-◌, ◌<◌, ◌≤◌, ◌^◌, ◌⊎◌, List, [], ◌∷◌, map, Some, eqb, arith, refl, sym, ap, ◌∙◌, subst, inl, inr}
-use Rattle.std.proofs.lemmas.Bool.{cases_lt, eq-eqb}
-use Rattle.std.proofs.lemmas.Bool.Decides.{eqb_tells}
-use Rattle.std.specs.List.{AllByRecursion}
-use Rattle.w16_model.specs.declared.Block.{Block}
-use Rattle.w16_model.specs.declared.Span.{Span}
-use Rattle.w16_model.specs.Gap.{IsLaid, block_end}
-use Rattle.w16_model.specs.Heap.{IsMultiple}
-use Rattle.w16_model.specs.Table.{block_with}
-use Rattle.w16_model.proofs.Gaps.{Each-map, Each-both}
-use Rattle.w16_model.proofs.Laid.{laid_each}
-use Rattle.w16_holes.proofs.Units.{multiple_sum}
-use Rattle.w16_blocks.specs.Below.{IsLastBelow}
-use Rattle.w16_blocks.specs.Layout.{Layout, IsOrdered, FitsFor, replaced}
-use Rattle.w16_blocks.specs.Runs.{IsCut, IsRun, IsBare, slid_with}
+use Rattle.w16_blocks.proofs.Common.{ℕ, ◌≡◌, ◌≢◌, ◌+◌, ◌-◌, ◌<◌, ◌≤◌, ◌^◌, ◌⊎◌, List, [], ◌∷◌, map, Some, eqb, arith, refl, sym, ap, ◌∙◌, subst, inl, inr, cases_lt, eqb_tells, AllByRecursion, Block, Span, IsLaid, block_end, IsMultiple, block_with, Each-map, Each-both, laid_each, multiple_sum, IsLastBelow, Layout, IsOrdered, FitsFor, replaced, IsCut, IsRun, IsBare, slid_with}
+use Rattle.std.proofs.lemmas.Bool.{eq-eqb}
 use Rattle.w16_blocks.proofs.Free.{Lacks, lacks_free}
 use Rattle.w16_blocks.proofs.Lifting.{IsPassed, replaced-lifted, fits_lifted, around}
 use Rattle.w16_blocks.proofs.Remove.{with_same, with_other, each_with}

@@ -1,19 +1,5 @@
 -- The holes where a run of blocks slides down: what its new place has beyond the old one is taken, and what the old one has beyond the new is put.
-use Rattle.std.proofs.Common.{ℕ, ◌≡◌, ◌+◌, ◌-◌, ◌<◌, ◌≤◌, ◌⊎◌, min, List, [], ◌∷◌, map, sum_by, arith, refl, sym, ap, ◌∙◌, subst, inl, inr}
-use Rattle.std.proofs.lemmas.Bool.{cases_lt}
-use Rattle.std.proofs.lemmas.List.Sums.{sum_by-cons}
-use Rattle.std.specs.List.{AllByRecursion}
-use Rattle.w16_model.specs.declared.Block.{Block}
-use Rattle.w16_model.specs.declared.Span.{Span}
-use Rattle.w16_model.specs.Gap.{IsLaid, block_end, holes}
-use Rattle.w16_model.specs.Heap.{IsMultiple}
-use Rattle.w16_model.proofs.Gaps.{Each-map, Each-both}
-use Rattle.w16_holes.proofs.Units.{multiple_sum}
-use Rattle.w16_holes.specs.Holes.{AreHoles, IsFree, IsUsed, IsPart, taken, joined}
-use Rattle.w16_holes.specs.Law.{IsIn}
-use Rattle.w16_holes.proofs.Sets.{AreHoles-taken, taken_in, in_taken, AreHoles-joined, joined_in, in_joined}
-use Rattle.w16_blocks.specs.Layout.{Layout, IsOrdered, range_of, holes_of}
-use Rattle.w16_blocks.specs.Runs.{IsCut, IsRun, IsBare, slid_with}
+use Rattle.w16_blocks.proofs.Common.{ℕ, ◌≡◌, ◌+◌, ◌-◌, ◌<◌, ◌≤◌, ◌⊎◌, min, List, [], ◌∷◌, map, sum_by, arith, refl, sym, ap, ◌∙◌, subst, inl, inr, cases_lt, sum_by-cons, AllByRecursion, Block, Span, IsLaid, block_end, holes, IsMultiple, Each-map, Each-both, multiple_sum, AreHoles, IsFree, IsUsed, IsPart, taken, joined, IsIn, AreHoles-taken, taken_in, in_taken, AreHoles-joined, joined_in, in_joined, Layout, IsOrdered, range_of, holes_of, IsCut, IsRun, IsBare, slid_with}
 use Rattle.w16_blocks.proofs.Free.{Lacks, AreHoles-holes, free_lacks, lacks_free, are_between, used_of, free_of}
 use Rattle.w16_blocks.proofs.Step.{multiple_less}
 use Rattle.w16_blocks.proofs.Sliding.{slid_below, slid_above, slid_inside}

@@ -1,14 +1,5 @@
 -- What is kept where a run of blocks slides.
-use Rattle.std.proofs.Common.{ℕ, ◌≡◌, ◌+◌, ◌-◌, ◌<◌, ◌≤◌, List, length, map, sum_by, arith, refl, sym, ap, ◌∙◌, subst}
-use Rattle.w16_model.specs.declared.Block.{Block}
-use Rattle.w16_model.specs.declared.Span.{Span}
-use Rattle.w16_model.specs.Bytes.{part, put_part}
-use Rattle.w16_model.specs.Gap.{IsLaid, holes}
-use Rattle.w16_holes.specs.Holes.{Range, IsFree, IsUsed, IsPart, AreSameIn, AreSameOutside, taken, joined}
-use Rattle.w16_blocks.specs.Layout.{Layout, holes_of}
-use Rattle.w16_blocks.specs.Kept.{blocks_in, layout_in, pins_in, AreTables, BlocksInvariant}
-use Rattle.w16_blocks.specs.Runs.{IsRun, slid_with}
-use Rattle.w16_blocks.specs.Stay.{AreSameBut}
+use Rattle.w16_blocks.proofs.Common.{ℕ, ◌≡◌, ◌+◌, ◌-◌, ◌<◌, ◌≤◌, List, length, map, sum_by, arith, refl, sym, ap, ◌∙◌, subst, Block, Span, part, put_part, IsLaid, holes, Range, IsFree, IsUsed, IsPart, AreSameIn, AreSameOutside, taken, joined, Layout, holes_of, blocks_in, layout_in, pins_in, AreTables, BlocksInvariant, IsRun, slid_with, AreSameBut}
 use Rattle.w16_blocks.proofs.Slid.{free_stays, come_along, others_stay}
 use Rattle.w16_blocks.proofs.RunHoles as run_holes
 use Rattle.w16_blocks.proofs.RunHoles.{IsWay, sum-slid}

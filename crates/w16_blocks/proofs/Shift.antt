@@ -1,18 +1,5 @@
 -- A block that moves: the part of its new place that it does not have is taken, and the part of its old one that it leaves is put.
-use Rattle.std.proofs.Common.{ℕ, ◌≡◌, ◌<◌, ◌≤◌, ◌+◌, ◌-◌, ◌^◌, ◌⊎◌, List, Some, arith, sym, subst, inl, inr}
-use Rattle.std.proofs.lemmas.Bool.{cases_lt}
-use Rattle.w16_model.specs.declared.Block.{Block}
-use Rattle.w16_model.specs.declared.Span.{Span}
-use Rattle.w16_model.specs.Gap.{block_end, holes}
-use Rattle.w16_model.specs.Heap.{IsMultiple}
-use Rattle.w16_model.specs.Table.{block_with}
-use Rattle.w16_model.proofs.Gaps.{Each-map}
-use Rattle.w16_holes.specs.Holes.{AreHoles, IsFree, IsUsed, IsPart, taken, joined}
-use Rattle.w16_holes.specs.Law.{IsIn}
-use Rattle.w16_holes.proofs.Units.{multiple_sum}
-use Rattle.w16_holes.proofs.Sets.{AreHoles-taken, taken_in, in_taken, AreHoles-joined, joined_in, in_joined}
-use Rattle.w16_blocks.specs.Layout.{Layout, IsApart, IsOrdered, FitsFor, all_but, replaced, range_of, holes_of}
-use Rattle.w16_blocks.specs.Stay.{IsBeyond}
+use Rattle.w16_blocks.proofs.Common.{ℕ, ◌≡◌, ◌<◌, ◌≤◌, ◌+◌, ◌-◌, ◌^◌, ◌⊎◌, List, Some, arith, sym, subst, inl, inr, cases_lt, Block, Span, block_end, holes, IsMultiple, block_with, Each-map, AreHoles, IsFree, IsUsed, IsPart, taken, joined, IsIn, multiple_sum, AreHoles-taken, taken_in, in_taken, AreHoles-joined, joined_in, in_joined, Layout, IsApart, IsOrdered, FitsFor, all_but, replaced, range_of, holes_of, IsBeyond}
 use Rattle.w16_blocks.proofs.Remove.{All-back}
 use Rattle.w16_blocks.proofs.Free.{Lacks, AreHoles-holes, lacks_free, used_of, free_of}
 use Rattle.w16_blocks.proofs.Step.{multiple_less, lies, lacks_known, holes_moved}

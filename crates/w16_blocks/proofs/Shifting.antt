@@ -1,14 +1,5 @@
 -- What is kept where a block moves.
-use Rattle.std.proofs.Common.{ℕ, suc, ◌≡◌, ◌+◌, ◌-◌, ◌*◌, ◌≤◌, List, length, set, Some, arith, refl, sym, ap, ◌∙◌, subst}
-use Rattle.w16_model.specs.declared.Block.{Block}
-use Rattle.w16_model.specs.declared.Span.{Span}
-use Rattle.w16_model.specs.Gap.{holes}
-use Rattle.w16_model.specs.Table.{block_with}
-use Rattle.w16_model.specs.Bytes.{part, put_part}
-use Rattle.w16_holes.specs.Holes.{Range, IsFree, IsUsed, IsPart, AreSameIn, AreSameOutside, taken, joined}
-use Rattle.w16_blocks.specs.Layout.{Layout, FitsFor, replaced, holes_of}
-use Rattle.w16_blocks.specs.Kept.{blocks_in, layout_in, BlocksInvariant}
-use Rattle.w16_blocks.specs.Stay.{AreSameBut, IsBeyond}
+use Rattle.w16_blocks.proofs.Common.{ℕ, suc, ◌≡◌, ◌+◌, ◌-◌, ◌*◌, ◌≤◌, List, length, set, Some, arith, refl, sym, ap, ◌∙◌, subst, Block, Span, holes, block_with, part, put_part, Range, IsFree, IsUsed, IsPart, AreSameIn, AreSameOutside, taken, joined, Layout, FitsFor, replaced, holes_of, blocks_in, layout_in, BlocksInvariant, AreSameBut, IsBeyond}
 use Rattle.w16_blocks.proofs.Step.{grained_known}
 use Rattle.w16_blocks.proofs.Keeping.{known_now, lies_in, used_kept, cell_is, fits_for, with_blocks, blocks_moved, BlocksInvariant-move}
 use Rattle.w16_blocks.proofs.Slid.{free_stays, come_along, others_stay}

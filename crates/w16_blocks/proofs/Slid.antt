@@ -1,11 +1,5 @@
 -- The bytes of a block that moves come along, and others stay.
-use Rattle.std.proofs.Common.{ℕ, ◌≡◌, ◌≤◌, ◌+◌, ◌⊎◌, List, length, arith, sym, ap, ◌∙◌, subst, inl, inr}
-use Rattle.w16_model.specs.declared.Span.{Span}
-use Rattle.w16_model.specs.Bytes.{part, put_part}
-use Rattle.w16_model.proofs.Parts.{length-part, length-put_part, part-put_part, take-put_part, drop-put_part, part_below, part_above}
-use Rattle.w16_holes.specs.Holes.{IsUsed, AreSameIn, AreSameOutside}
-use Rattle.w16_holes.proofs.Write.{AreSameIn-put_part}
-use Rattle.w16_blocks.specs.Stay.{AreSameBut}
+use Rattle.w16_blocks.proofs.Common.{ℕ, ◌≡◌, ◌≤◌, ◌+◌, ◌⊎◌, List, length, arith, sym, ap, ◌∙◌, subst, inl, inr, Span, part, put_part, length-part, length-put_part, part-put_part, take-put_part, drop-put_part, part_below, part_above, IsUsed, AreSameIn, AreSameOutside, AreSameIn-put_part, AreSameBut}
 
 -- bytes that slide
 module _ (at to size : ℕ) (second third : List ℕ) (slid : third ≡ put_part second to (part second at size)) (source : at + size ≤ length second) (target : to + size ≤ length second) where

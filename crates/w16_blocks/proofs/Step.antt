@@ -1,20 +1,5 @@
 -- What adding a block and taking one away make of the holes.
-use Rattle.std.proofs.Common.{ℕ, ◌≡◌, ◌<◌, ◌≤◌, ◌+◌, ◌-◌, ◌*◌, ◌^◌, ◌⊎◌, List, [], ◌∷◌, Some, arith, sym, ap, ◌∙◌, subst, inl, inr}
-use Rattle.std.proofs.lemmas.Bool.{cases_lt}
-use Rattle.std.specs.List.{AllByRecursion}
-use Rattle.w16_model.specs.declared.Block.{Block}
-use Rattle.w16_model.specs.declared.Hold.{Hold}
-use Rattle.w16_model.specs.declared.Span.{Span}
-use Rattle.w16_model.specs.Gap.{block_end, holes}
-use Rattle.w16_model.specs.Heap.{IsMultiple}
-use Rattle.w16_model.specs.Table.{block_with}
-use Rattle.w16_model.proofs.Gaps.{Each-map}
-use Rattle.w16_model.proofs.Laid.{laid_each}
-use Rattle.w16_holes.specs.Holes.{AreHoles, IsFree, IsUsed, IsPart, taken, joined}
-use Rattle.w16_holes.specs.Law.{IsIn}
-use Rattle.w16_holes.proofs.Units.{up, multiple_sum}
-use Rattle.w16_holes.proofs.Sets.{same_holes, AreHoles-taken, taken_in, in_taken, AreHoles-joined, joined_in, in_joined}
-use Rattle.w16_blocks.specs.Layout.{Layout, IsApart, IsGrained, IsOrdered, Fits, FitsFor, placed, all_but, replaced, range_of, holes_of}
+use Rattle.w16_blocks.proofs.Common.{ℕ, ◌≡◌, ◌<◌, ◌≤◌, ◌+◌, ◌-◌, ◌*◌, ◌^◌, ◌⊎◌, List, [], ◌∷◌, Some, arith, sym, ap, ◌∙◌, subst, inl, inr, cases_lt, AllByRecursion, Block, Hold, Span, block_end, holes, IsMultiple, block_with, Each-map, laid_each, AreHoles, IsFree, IsUsed, IsPart, taken, joined, IsIn, up, multiple_sum, same_holes, AreHoles-taken, taken_in, in_taken, AreHoles-joined, joined_in, in_joined, Layout, IsApart, IsGrained, IsOrdered, Fits, FitsFor, placed, all_but, replaced, range_of, holes_of}
 use Rattle.w16_blocks.proofs.Place.{placed_after, placed_before, All-placed, IsLaid-placed}
 use Rattle.w16_blocks.proofs.Remove.{All-all_but, All-back, IsLaid-all_but, each_with, others_apart, others_differ}
 use Rattle.w16_blocks.proofs.Ordered.{IsOrdered-all_but}

@@ -1,14 +1,5 @@
 -- Table and cells where a block is added or taken away.
-use Rattle.std.proofs.Common.{ℕ, zero, suc, ◌≡◌, ◌≢◌, ◌+◌, ◌-◌, ◌*◌, ◌^◌, ◌<◌, ◌≤◌, ◌⊎◌, List, [], ◌∷◌, length, get_or, set, replicate, Some, None, IsSome, is_some, arith, refl, sym, ap, ◌∙◌, subst, inl, inr}
-use Rattle.std.specs.Prelude.{slice_index}
-use Rattle.std.proofs.lemmas.Bool.{cases_lt, false≢true}
-use Rattle.std.proofs.lemmas.List.{get_or-set_same, get_or-set_other, length-set, set-set, set-get_or, get_or_past, get_or_read}
-use Rattle.w16_model.specs.declared.Block.{Block}
-use Rattle.w16_model.specs.Heap.{IsMultiple}
-use Rattle.w16_model.specs.Table.{block_with}
-use Rattle.w16_holes.proofs.Units.{above, below}
-use Rattle.w16_blocks.specs.Layout.{IsApart, IsOrdered, Fits, FitsFor, placed, all_but, replaced}
-use Rattle.w16_blocks.specs.Kept.{no_block, slot_of, blocks_in, layout_in, Begins, AreBegun, AreTables}
+use Rattle.w16_blocks.proofs.Common.{ℕ, zero, suc, ◌≡◌, ◌≢◌, ◌+◌, ◌-◌, ◌*◌, ◌^◌, ◌<◌, ◌≤◌, ◌⊎◌, List, [], ◌∷◌, length, get_or, set, replicate, Some, None, IsSome, is_some, arith, refl, sym, ap, ◌∙◌, subst, inl, inr, slice_index, cases_lt, false≢true, get_or-set_same, get_or-set_other, length-set, set-set, set-get_or, get_or_past, get_or_read, Block, IsMultiple, block_with, above, below, IsApart, IsOrdered, Fits, FitsFor, placed, all_but, replaced, no_block, slot_of, blocks_in, layout_in, Begins, AreBegun, AreTables}
 use Rattle.w16_blocks.proofs.Cells.{each_told, blocks_in-set, blocks_in-begin, blocks_in-clear, told_with, told_none, with_cell}
 use Rattle.w16_blocks.proofs.Ordered.{IsOrdered-placed, IsOrdered-all_but}
 

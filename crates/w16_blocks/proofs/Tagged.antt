@@ -1,12 +1,5 @@
 -- The block that begins at a place, by the place's cell.
-use Rattle.std.proofs.Common.{ℕ, zero, suc, ◌≡◌, ◌≢◌, ◌+◌, ◌-◌, ◌*◌, ◌<◌, ◌≤◌, List, [], ◌∷◌, length, get_or, Some, arith, refl, sym, ap, ◌∙◌, subst}
-use Rattle.std.specs.Prelude.{slice_index}
-use Rattle.std.specs.List.{AllByRecursion}
-use Rattle.w16_model.specs.declared.Block.{Block}
-use Rattle.w16_model.specs.Table.{block_with}
-use Rattle.w16_holes.proofs.Units.{below}
-use Rattle.w16_blocks.specs.Layout.{Layout}
-use Rattle.w16_blocks.specs.Kept.{no_block, slot_of, blocks_in, layout_in, AreTables}
+use Rattle.w16_blocks.proofs.Common.{ℕ, zero, suc, ◌≡◌, ◌≢◌, ◌+◌, ◌-◌, ◌*◌, ◌<◌, ◌≤◌, List, [], ◌∷◌, length, get_or, Some, arith, refl, sym, ap, ◌∙◌, subst, slice_index, AllByRecursion, Block, block_with, below, Layout, no_block, slot_of, blocks_in, layout_in, AreTables}
 use Rattle.w16_blocks.proofs.Cells.{All-told, told_with}
 use Rattle.w16_blocks.proofs.Tables.{same_unit}
 

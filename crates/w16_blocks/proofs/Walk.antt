@@ -1,13 +1,5 @@
 -- The blocks from an address on, one after another.
-use Rattle.std.proofs.Common.{ℕ, zero, suc, ◌≡◌, ◌<◌, ◌≤◌, List, [], ◌∷◌, drop, Some, None, is_some, arith, refl, sym, ap, ◌∙◌, subst, inl, inr}
-use Rattle.std.specs.Prelude.{slice_get}
-use Rattle.std.proofs.lemmas.Bool.{cases_lt, false≢true}
-use Rattle.std.specs.List.{AllByRecursion}
-use Rattle.w16_model.specs.declared.Block.{Block}
-use Rattle.w16_model.specs.Gap.{IsLaid, block_end}
-use Rattle.w16_model.proofs.Gaps.{Each-map}
-use Rattle.w16_model.proofs.Laid.{laid_each}
-use Rattle.w16_blocks.specs.Layout.{Layout, IsOrdered, rank, from_address}
+use Rattle.w16_blocks.proofs.Common.{ℕ, zero, suc, ◌≡◌, ◌<◌, ◌≤◌, List, [], ◌∷◌, drop, Some, None, is_some, arith, refl, sym, ap, ◌∙◌, subst, inl, inr, slice_get, cases_lt, false≢true, AllByRecursion, Block, IsLaid, block_end, Each-map, laid_each, Layout, IsOrdered, rank, from_address}
 use Rattle.w16_blocks.proofs.Next.{rank_none, rank_more, rank_same}
 
 pub none_left : (bs : List Block) (k : ℕ) → None ≡ slice_get bs k → drop k bs ≡ []

@@ -1,39 +1,9 @@
 -- A step's reply has the kind that its command's has.
-use Rattle.std.proofs.Common.{◌≡◌, ℕ, ◌+◌, Bool, true, false, MatchBool, MatchOption, cond, nat_lt, if◌then◌else◌, List, [], length, Option, Some, None, unwrap_or, Result, Ok, Err, refl, sym, subst, ltb-false}
+use Rattle.w16_c.proofs.Common.{◌≡◌, ℕ, ◌+◌, Bool, true, false, MatchBool, MatchOption, cond, nat_lt, if◌then◌else◌, List, [], length, Option, Some, None, unwrap_or, Result, Ok, Err, refl, sym, subst, ltb-false, Refusal, FarFault, BadSelector, ReadOnly, NotPresent, Limit, part, repeated, Heap, bytes_at, after_free, after_lock, after_unlock, after_newest, after_oldest, after_touch, Handles, slot_of_handle, slot_of_selector, selector_of, selector_in, offset_in, far_pointer, owns, refuses_write, length-part, HandleCommand, Answer, HandleStep, free_own, global_free, global_lock, global_unlock, handle_or_0, locks_at, GlobalAlloc, GlobalFree, GlobalLock, GlobalUnlock, GlobalSize, GlobalFlags, GlobalHandle, GetSelectorBase, GetSelectorLimit, GlobalCompact, GlobalLRUNewest, GlobalLRUOldest, Moved, Walk, FarAnswer, FarCommand, far_fault, far_slot, after_write, Read, Write, Fill, FetchFault, AnyFetches, Fetching, Accesses, gives, needs_fetch, reply_of_far, LoadingWorld, Format, OfHandles, OfResizes, OfFar, ResizeCommand, ResizeStep, GlobalReAlloc, GlobalDiscard, Reply, HandleReplies, ResizeReplies, Word, Dword, Done, Failed, Walked, LocalCommand, LocalStep, DS, World, Command, OfLoading, OfLocals, KernelStep, AnswersWord, AnswersDword, IsWrite, IsWord, IsDword, IsDoneOrFault, IsBytes}
 use Rattle.std.specs.FinMap as finmap
-use Rattle.w16_model.specs.declared.Refusal.{Refusal}
 use Rattle.w16_model.specs.declared.Refusal.TheVariants as refusals
-use Rattle.w16_model.specs.declared.FarFault.{FarFault}
-use Rattle.w16_model.specs.declared.FarFault.TheVariants.{BadSelector, ReadOnly, NotPresent, Limit}
-use Rattle.w16_model.specs.Bytes.{part, repeated}
-use Rattle.w16_model.specs.Heap.{Heap, bytes_at}
-use Rattle.w16_model.specs.OneObject.{after_free, after_lock, after_unlock, after_newest, after_oldest, after_touch}
-use Rattle.w16_model.specs.Handles.{Handles, slot_of_handle, slot_of_selector, selector_of, selector_in, offset_in, far_pointer}
-use Rattle.w16_model.specs.Owned.{owns, refuses_write}
-use Rattle.w16_model.proofs.Parts.{length-part}
-use Rattle.w16_model.specs.Calls.{HandleCommand, Answer, HandleStep, free_own, global_free, global_lock, global_unlock, handle_or_0, locks_at}
 use Rattle.w16_model.specs.Calls as calls
-use Rattle.w16_model.specs.Calls.HandleCommand.{GlobalAlloc, GlobalFree, GlobalLock, GlobalUnlock, GlobalSize, GlobalFlags, GlobalHandle, GetSelectorBase, GetSelectorLimit, GlobalCompact, GlobalLRUNewest, GlobalLRUOldest, Moved, Walk}
 use Rattle.w16_model.specs.Far as far
-use Rattle.w16_model.specs.Far.{FarAnswer, FarCommand, far_fault, far_slot, after_write}
-use Rattle.w16_model.specs.Far.FarCommand.{Read, Write, Fill}
-use Rattle.w16_loading.specs.declared.FetchFault.{FetchFault}
-use Rattle.w16_loading.specs.AnyStore.{AnyFetches}
-use Rattle.w16_loading.specs.Fetch.{Fetching, Accesses, gives, needs_fetch, reply_of_far}
-use Rattle.w16_loading.specs.Modules.{LoadingWorld}
-use Rattle.w16_loading.specs.File.{Format}
-use Rattle.w16_loading.specs.Families.LoadingCommand.{OfHandles, OfResizes, OfFar}
-use Rattle.w16_loading.specs.Resizes.{ResizeCommand, ResizeStep}
-use Rattle.w16_loading.specs.Resizes.ResizeCommand.{GlobalReAlloc, GlobalDiscard}
-use Rattle.w16_loading.specs.Replies.{Reply, HandleReplies, ResizeReplies}
-use Rattle.w16_loading.specs.Replies.Reply.{Word, Dword, Done, Failed, Walked}
-use Rattle.w16_machine.specs.LocalCalls.{LocalCommand, LocalStep}
-use Rattle.w16_machine.specs.LocalCalls.LocalCommand.{DS}
-use Rattle.w16_machine.specs.World.{World}
-use Rattle.w16_machine.specs.Machine.{Command}
-use Rattle.w16_machine.specs.Machine.Command.{OfLoading, OfLocals}
-use Rattle.w16_kernel.specs.Parts.{KernelStep}
-use Rattle.w16_c.specs.Kinds.{AnswersWord, AnswersDword, IsWrite, IsWord, IsDword, IsDoneOrFault, IsBytes}
 
 -- any format will do, since no file is read
 no_format : Format

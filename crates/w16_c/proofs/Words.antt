@@ -1,5 +1,5 @@
 -- A held machine by value: its word, and what it owns beside it.
-use Rattle.std.proofs.Common.{◌≡◌, List, [], ◌∷◌, ◌++◌, refl, subst, lit<, Bool}
+use Rattle.w16_c.proofs.Common.{◌≡◌, List, [], ◌∷◌, ◌++◌, refl, subst, lit<, Bool, Bx, clones, machine_row, held_owns}
 use seplogic.Ra.Ura.{Ura}
 use mir.Val.{Val, vbool, vstruct, vcons, vnil, of_list, has_ty, WT}
 use types.Logic.{Logic}
@@ -12,12 +12,10 @@ use denote.Struct.Owning.{shape}
 use denote.Struct.Struct.{within}
 use lib.Dec.{T}
 use mir.Syntax.{impl, tcons, tnil, dnil, ty_ptr, ty_bool, ty_struct}
-use Rattle.std_alloc.proofs.BoxSteps.Form.{Bx}
 use Rattle.std_heap.specs.contracts.Global as Heap
 use Rattle.std_heap.specs.contracts.GlobalAllocator.TheImpl.{ghosts, dict}
 use Rattle.std_heap.proofs.Global.TheLaws as heap
 use Rattle.w16_kernel.proofs.kernel.Kernel.TheLaws as lots
-use Rattle.w16_c.specs.Ownership.{clones, machine_row, held_owns}
 use Rattle.w16_store.specs.contracts.memory.MemStore as store
 use Rattle.w16_store.proofs.memory.MemStore.TheLaws as store_laws
 use Rattle.w16_store.specs.contracts.memory.MemStoreStore.TheImpl as stores

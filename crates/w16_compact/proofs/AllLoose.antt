@@ -1,21 +1,6 @@
 -- Blocks of which none is pinned: all is one gap.
-use Rattle.std.specs.List.{AllByRecursion as Each, list_any}
-use Rattle.std.specs.Prelude.{slice_index}
-use Rattle.std.proofs.Common.{◌≡◌, ◌≢◌, ℕ, ◌+◌, ◌-◌, ◌<◌, ◌≤◌, ◌||◌, max, Bool, true, false, Option, Some, None, List, [], ◌∷◌, drop, length, replicate, set, sum_by, refl, sym, ap, ◌∙◌, subst, arith}
-use Rattle.std.proofs.lemmas.Bool.{false≢true, cond-false}
-use Rattle.std.proofs.lemmas.List.{get_or-replicate, get_or-set_same}
-use Rattle.std.proofs.lemmas.List.Sums.{sum_by-cons}
-use Rattle.w16_model.specs.declared.Block.{Block}
-use Rattle.w16_model.specs.Gap.{room, is_pinned}
-use Rattle.w16_model.specs.Table.{block_with}
-use Rattle.w16_model.specs.Discards.{blocks_without}
-use Rattle.w16_model.proofs.Gaps.{Each-map, Each-filter}
-use Rattle.w16_blocks.specs.Layout.{Layout, IsOrdered, AreNamed, all_but}
-use Rattle.w16_blocks.proofs.Ordered.{sum_fits}
-use Rattle.w16_blocks.proofs.Remove.{all_but_absent, sum-all_but}
-use Rattle.w16_compact.specs.declared.reach.Reached.{Reached}
-use Rattle.w16_compact.specs.Gap.{others}
-use Rattle.w16_compact.specs.Told.{Tells}
+use Rattle.w16_compact.proofs.Common.{list_any, slice_index, ◌≡◌, ◌≢◌, ℕ, ◌+◌, ◌-◌, ◌<◌, ◌≤◌, ◌||◌, max, Bool, true, false, Option, Some, None, List, [], ◌∷◌, drop, length, replicate, set, sum_by, refl, sym, ap, ◌∙◌, subst, arith, false≢true, cond-false, get_or-replicate, get_or-set_same, sum_by-cons, Block, room, is_pinned, block_with, blocks_without, Each-map, Each-filter, Layout, IsOrdered, AreNamed, all_but, sum_fits, all_but_absent, sum-all_but, Reached, others, Tells}
+use Rattle.std.specs.List.{AllByRecursion as Each}
 use Rattle.w16_compact.proofs.OnePass.{scan, scan-room, none_out_all}
 use Rattle.w16_compact.proofs.PinnedIds.{none_with}
 use Rattle.w16_compact.proofs.Skips.{rest_is, laid_filter, ids_below}

@@ -1,12 +1,5 @@
 -- An interval without a pinned byte is a gap where it can't be made longer.
-use Rattle.std.proofs.Common.{◌≡◌, ℕ, ◌<◌, ◌≤◌, ◌⊎◌, inl, inr, Bool, IsTrue, List, sym, ap, ◌∙◌, arith}
-use Rattle.std.proofs.lemmas.Bool.{false≢true}
-use Rattle.w16_model.specs.declared.Block.{Block}
-use Rattle.w16_model.specs.Gap.{IsLaid, IsClear, IsGapOf, Misses, is_pinned, holds_still, block_end}
-use Rattle.w16_model.proofs.Gaps.{Member, Each-at, Each-map, All-from_Each, Each-from_All}
-use Rattle.w16_model.proofs.Laid.{laid_each}
-use Rattle.w16_blocks.specs.Layout.{Layout}
-use Rattle.w16_compact.specs.Gather.{MayGather}
+use Rattle.w16_compact.proofs.Common.{◌≡◌, ℕ, ◌<◌, ◌≤◌, ◌⊎◌, inl, inr, Bool, IsTrue, List, sym, ap, ◌∙◌, arith, false≢true, Block, IsLaid, IsClear, IsGapOf, Misses, is_pinned, holds_still, block_end, Member, Each-at, Each-map, All-from_Each, Each-from_All, laid_each, Layout, MayGather}
 
 -- where such an interval can't begin lower, and where it can't end higher
 abbrev pub IsFloor : (Block → Type 0) → ℕ → List Block → ℕ → Type 0

@@ -1,9 +1,5 @@
 -- A walk over the blocks by address: how it begins.
-use Rattle.std.proofs.Common.{ℕ, ◌≡◌, List, [], ◌∷◌, drop, refl, sym, ap, ◌∙◌, subst, arith}
-use Rattle.std.proofs.lemmas.Bool.{le-ltb}
-use Rattle.w16_model.specs.declared.Block.{Block}
-use Rattle.w16_model.specs.declared.Span.{Span}
-use Rattle.w16_blocks.specs.Layout.{Layout, rank, from_address, holes_of}
+use Rattle.w16_compact.proofs.Common.{ℕ, ◌≡◌, List, [], ◌∷◌, drop, refl, sym, ap, ◌∙◌, subst, arith, le-ltb, Block, Span, Layout, rank, from_address, holes_of}
 
 rank_lowest : (bs : List Block) → rank 0 bs ≡ 0
 rank_lowest [] = refl

@@ -1,13 +1,5 @@
 -- What a gather leaves: the same blocks, and one hole.
-use Rattle.std.proofs.Common.{◌≡◌, ℕ, ◌+◌, ◌<◌, ◌≤◌, ◌⊎◌, inl, inr, IsTrue, List, [], ◌∷◌, refl, sym, ap, ◌∙◌, subst, arith, min, max}
-use Rattle.std.specs.List.{AllByRecursion}
-use Rattle.std.proofs.lemmas.Bool.{lt-ltb, le-ltb, cases_lt, false≢true}
-use Rattle.w16_model.specs.declared.Block.{Block}
-use Rattle.w16_model.specs.declared.Hold.TheVariants.{Loose}
-use Rattle.w16_model.specs.Gap.{IsLaid, IsGap, IsHole, is_pinned, holds_still, loose_bytes, block_end, is_any, Misses, IsClear}
-use Rattle.w16_blocks.specs.Layout.{Layout}
-use Rattle.w16_compact.specs.Gather.{gathered, packed, FitsGap, MayGather, AreSlid}
-use Rattle.w16_model.proofs.Gaps.{Each-map, All-from_Each, Each-from_All}
+use Rattle.w16_compact.proofs.Common.{◌≡◌, ℕ, ◌+◌, ◌<◌, ◌≤◌, ◌⊎◌, inl, inr, IsTrue, List, [], ◌∷◌, refl, sym, ap, ◌∙◌, subst, arith, min, max, AllByRecursion, lt-ltb, le-ltb, cases_lt, false≢true, Block, Loose, IsLaid, IsGap, IsHole, is_pinned, holds_still, loose_bytes, block_end, is_any, Misses, IsClear, Layout, gathered, packed, FitsGap, MayGather, AreSlid, Each-map, All-from_Each, Each-from_All}
 use Rattle.w16_compact.proofs.Loose.{loose_none, loose_here, loose_one}
 use Rattle.w16_compact.proofs.Walked.{laid_from}
 

@@ -1,15 +1,6 @@
 -- A table is filled by one pass.
 use Rattle.std.specs.List.{AllByRecursion as Each}
-use Rattle.std.specs.Prelude.{slice_index}
-use Rattle.std.proofs.Common.{◌≡◌, ◌≢◌, ℕ, ◌+◌, ◌-◌, ◌<◌, ◌≤◌, Bool, true, false, cond, filter, List, [], ◌∷◌, length, set, refl, sym, ◌∙◌, subst, arith}
-use Rattle.std.proofs.lemmas.Bool.{false≢true, cond-true, cond-false}
-use Rattle.std.proofs.lemmas.List.{get_or-set_same, get_or-set_other}
-use Rattle.w16_model.specs.declared.Block.{Block}
-use Rattle.w16_model.specs.Gap.{is_pinned, block_end}
-use Rattle.w16_model.proofs.Gaps.{Each-map, Each-filter}
-use Rattle.w16_blocks.specs.Layout.{AreNamed}
-use Rattle.w16_compact.specs.declared.reach.Reached.{Reached}
-use Rattle.w16_compact.specs.Told.{Tells}
+use Rattle.w16_compact.proofs.Common.{slice_index, ◌≡◌, ◌≢◌, ℕ, ◌+◌, ◌-◌, ◌<◌, ◌≤◌, Bool, true, false, cond, filter, List, [], ◌∷◌, length, set, refl, sym, ◌∙◌, subst, arith, false≢true, cond-true, cond-false, get_or-set_same, get_or-set_other, Block, is_pinned, block_end, Each-map, Each-filter, AreNamed, Reached, Tells}
 use Rattle.w16_compact.proofs.Skips.{passed, ids_below}
 
 pub named_filter : (p : Block → Bool) (cap : ℕ) (xs : List Block) → AreNamed cap xs → AreNamed cap (filter p xs)

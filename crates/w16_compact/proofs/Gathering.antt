@@ -1,23 +1,8 @@
 -- A gather from its start, by a run, to its end.
-use Rattle.std.proofs.Common.{ℕ, ◌≡◌, ◌≢◌, ◌+◌, ◌-◌, ◌<◌, ◌≤◌, ◌⊎◌, max, List, [], ◌∷◌, map, cond, eqb, Some, is_some, arith, refl, sym, ◌∙◌, subst, ap, inl, inr, slice_get, IfSome}
-use Rattle.std.proofs.lemmas.Bool.{lt-ltb, le-ltb, cases_lt, eq-eqb, ne_eqb, cond-true, cond-false, false≢true}
-use Rattle.std.proofs.lemmas.Bool.Decides.{eqb_tells}
-use Rattle.std.specs.List.{AllByRecursion}
-use Rattle.w16_model.specs.declared.Block.{Block}
-use Rattle.w16_model.specs.declared.Span.{Span}
-use Rattle.w16_model.specs.Gap.{IsLaid, block_end}
-use Rattle.w16_model.specs.Heap.{IsMultiple}
-use Rattle.w16_model.proofs.Gaps.{Each-map, Each-both}
-use Rattle.w16_holes.proofs.Units.{multiple_sum}
-use Rattle.w16_blocks.specs.Layout.{Layout, IsGrained, IsOrdered, rank}
-use Rattle.w16_blocks.specs.Runs.{IsCut, IsRun, IsBare, EndsAt, slid_with}
-use Rattle.w16_blocks.proofs.Free.{Lacks, later, free_lacks, lacks_free}
-use Rattle.w16_blocks.proofs.Step.{multiple_less}
-use Rattle.w16_blocks.proofs.Sliding.{slid_below, slid_above, slid_inside, map-same}
-use Rattle.w16_blocks.proofs.RunHoles.{Lies, lies_of, All-mapped, All-unmapped}
+use Rattle.w16_compact.proofs.Common.{ℕ, ◌≡◌, ◌≢◌, ◌+◌, ◌-◌, ◌<◌, ◌≤◌, ◌⊎◌, max, List, [], ◌∷◌, map, cond, eqb, Some, is_some, arith, refl, sym, ◌∙◌, subst, ap, inl, inr, slice_get, IfSome, lt-ltb, le-ltb, cases_lt, eq-eqb, cond-true, cond-false, false≢true, eqb_tells, AllByRecursion, Block, Span, IsLaid, block_end, IsMultiple, Each-map, Each-both, multiple_sum, Layout, IsGrained, IsOrdered, rank, IsCut, IsRun, IsBare, EndsAt, slid_with, Lacks, later, free_lacks, lacks_free, multiple_less, slid_below, slid_above, slid_inside, map-same, Lies, lies_of, All-mapped, All-unmapped, gathered, packed, moved_between, FitsGap, MayGather}
+use Rattle.std.proofs.lemmas.Bool.{ne_eqb}
 use Rattle.w16_compact.proofs.Settled.{same_layout}
 use Rattle.w16_compact.proofs.Order.{each_got, apart_got, all_from}
-use Rattle.w16_compact.specs.Gather.{gathered, packed, moved_between, FitsGap, MayGather}
 
 pub moved_same : (bs : List Block) → moved_between bs bs ≡ 0
 moved_same [] = refl

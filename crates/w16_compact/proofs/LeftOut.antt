@@ -1,19 +1,5 @@
 -- A layout with an object's block left out, and a gap of what is left.
-use Rattle.std.proofs.Common.{◌≡◌, ℕ, ◌+◌, ◌<◌, ◌≤◌, ◌⊎◌, inl, inr, max, min, true, false, IsTrue, List, [], ◌∷◌, length, Option, Some, None, refl, sym, ap, ◌∙◌, arith}
-use Rattle.std.proofs.lemmas.Bool.{cases_lt, false≢true}
-use Rattle.std.proofs.lemmas.Bool.Decides.{eqb_tells}
-use Rattle.w16_model.specs.declared.Block.{Block}
-use Rattle.w16_model.specs.declared.Hold.TheVariants.{Loose}
-use Rattle.w16_model.specs.Discards.{is_about}
-use Rattle.w16_model.specs.Gap.{IsClear, Misses, is_pinned, block_end}
-use Rattle.w16_model.specs.Table.{block_with}
-use Rattle.w16_model.proofs.Gaps.{Each-both, Each-from_All, All-from_Each}
-use Rattle.w16_model.proofs.Laid.{laid_each}
-use Rattle.w16_blocks.specs.Layout.{Layout, IsOrdered, IsGrained, IsApart, all_but}
-use Rattle.w16_blocks.proofs.Remove.{all_but_same, all_but_other, with_same, with_other, each_with, others_apart, IsLaid-all_but, AreNamed-all_but, All-back, All-all_but}
-use Rattle.w16_compact.specs.Gap.{others, without, HasRoom}
-use Rattle.w16_compact.specs.Gather.{FitsGap, MayGather}
-use Rattle.w16_compact.specs.declared.gaps.Gap.{Gap}
+use Rattle.w16_compact.proofs.Common.{◌≡◌, ℕ, ◌+◌, ◌<◌, ◌≤◌, ◌⊎◌, inl, inr, max, min, true, false, IsTrue, List, [], ◌∷◌, length, Option, Some, None, refl, sym, ap, ◌∙◌, arith, cases_lt, false≢true, eqb_tells, Block, Loose, is_about, IsClear, Misses, is_pinned, block_end, block_with, Each-both, Each-from_All, All-from_Each, laid_each, Layout, IsOrdered, IsGrained, IsApart, all_but, all_but_same, all_but_other, with_same, with_other, each_with, others_apart, IsLaid-all_but, AreNamed-all_but, All-back, All-all_but, others, without, HasRoom, FitsGap, MayGather, Gap}
 
 few_left : (id : ℕ) (xs : List Block) → length (all_but id xs) ≤ length xs
 few_left id [] = omega arith

@@ -1,3 +1,4 @@
+pub mod Common
 pub mod Rests
 pub mod OnePass
 pub mod Order

@@ -1,11 +1,6 @@
 -- The bytes of the loose blocks of an interval.
-use Rattle.std.proofs.Common.{◌≡◌, ℕ, ◌+◌, ◌<◌, ◌≤◌, ◌⊎◌, inl, inr, true, false, cond, not, ◌&&◌, nat_le, nat_lt, List, [], ◌∷◌, ◌++◌, refl, sym, ap, arith, le-leb, lt-ltb, zero-add}
-use Rattle.std.specs.List.{AllByRecursion}
-use Rattle.std.proofs.lemmas.Bool.{cond-true, cond-false, and_from, and_left, and_right, le-ltb, lt-leb}
-use Rattle.w16_model.specs.declared.Block.{Block}
-use Rattle.w16_model.specs.declared.Hold.TheVariants.{Loose}
-use Rattle.w16_model.specs.Gap.{is_loose, holds_still, begins_in, loose_bytes}
-use Rattle.w16_model.proofs.Longest.{sum_filter}
+use Rattle.w16_compact.proofs.Common.{◌≡◌, ℕ, ◌+◌, ◌<◌, ◌≤◌, ◌⊎◌, inl, inr, true, false, cond, not, ◌&&◌, nat_le, nat_lt, List, [], ◌∷◌, ◌++◌, refl, sym, ap, arith, le-leb, zero-add, AllByRecursion, cond-true, cond-false, and_from, and_left, and_right, le-ltb, lt-leb, Block, Loose, is_loose, holds_still, begins_in, loose_bytes, sum_filter}
+use Rattle.std.proofs.Common.{lt-ltb}
 
 pub loose_one : (x : Block) (xs : List Block) (a b : ℕ) → loose_bytes (x ∷ xs) a b ≡ cond (is_loose x && begins_in a b x) x.size 0 + loose_bytes xs a b
 loose_one x xs a b = sum_filter (λ y. is_loose y && begins_in a b y) x xs

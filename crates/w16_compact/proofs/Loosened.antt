@@ -1,20 +1,6 @@
 -- Blocks in which an id's has another hold: nothing else of them differs.
-use Rattle.std.proofs.Common.{◌≡◌, ℕ, ◌+◌, ◌<◌, ◌^◌, cond, true, false, inl, inr, IsTrue, List, [], ◌∷◌, ◌==◌, map, nat_lt, filter, Option, Some, IfSome, refl, sym, ap, ◌∙◌, subst}
+use Rattle.w16_compact.proofs.Common.{◌≡◌, ℕ, ◌+◌, ◌<◌, ◌^◌, cond, true, false, inl, inr, IsTrue, List, [], ◌∷◌, ◌==◌, map, nat_lt, filter, Option, Some, IfSome, refl, sym, ap, ◌∙◌, subst, eqb_tells, length-map, Block, Hold, Loose, Span, part, IsClear, IsHole, IsLaid, Misses, block_end, first_from, is_any, block_with, Each-from_All, All-from_Each, Layout, AreNamed, IsGrained, IsOrdered, all_but, holes_of, placed, replaced, all_but_same, all_but_other, with_id, with_same, with_other, replaced-itself, contents, moved_between, with_loose}
 use Rattle.std.specs.List.{AllByRecursion as Each}
-use Rattle.std.proofs.lemmas.Bool.Decides.{eqb_tells}
-use Rattle.std.proofs.lemmas.List.{length-map}
-use Rattle.w16_model.specs.declared.Block.{Block}
-use Rattle.w16_model.specs.declared.Hold.{Hold}
-use Rattle.w16_model.specs.declared.Hold.TheVariants.{Loose}
-use Rattle.w16_model.specs.declared.Span.{Span}
-use Rattle.w16_model.specs.Bytes.{part}
-use Rattle.w16_model.specs.Gap.{IsClear, IsHole, IsLaid, Misses, block_end, first_from, is_any}
-use Rattle.w16_model.specs.Table.{block_with}
-use Rattle.w16_model.proofs.Gaps.{Each-from_All, All-from_Each}
-use Rattle.w16_blocks.specs.Layout.{Layout, AreNamed, IsGrained, IsOrdered, all_but, holes_of, placed, replaced}
-use Rattle.w16_blocks.proofs.Remove.{all_but_same, all_but_other, with_id, with_same, with_other, replaced-itself}
-use Rattle.w16_compact.specs.Gather.{contents, moved_between}
-use Rattle.w16_compact.specs.Open.{with_loose}
 use Rattle.w16_compact.proofs.Opened.{of_known}
 
 -- a block, with this hold where it is an id's

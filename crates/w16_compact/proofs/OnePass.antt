@@ -1,16 +1,7 @@
 -- Room by one pass over the blocks by address.
-use Rattle.std.proofs.Common.{◌≡◌, ℕ, ◌+◌, ◌-◌, ◌<◌, ◌≤◌, max, min, Bool, true, false, cond, not, ◌&&◌, nat_le, nat_lt, IsTrue, List, [], ◌∷◌, map, filter, sum_by, refl, ap, ◌∙◌, arith, None, zero-add, le-leb, lt-ltb}
-use Rattle.std.proofs.lemmas.Bool.{and_left, lt-leb, le-ltb, and_right, cond-true, cond-false, and_from}
-use Rattle.std.specs.Ordering.{ord_max, nat_cmp}
-use Rattle.std.proofs.lemmas.Bool.Decides.{nat_tests}
-use Rattle.std.proofs.lemmas.List.Sums.{sum_by-cons}
-use Rattle.w16_model.specs.declared.Block.{Block}
+use Rattle.w16_compact.proofs.Common.{◌≡◌, ℕ, ◌+◌, ◌-◌, ◌<◌, ◌≤◌, max, min, Bool, true, false, cond, not, ◌&&◌, nat_le, nat_lt, IsTrue, List, [], ◌∷◌, map, filter, sum_by, refl, ap, ◌∙◌, arith, None, zero-add, le-leb, and_left, lt-leb, le-ltb, and_right, cond-true, cond-false, and_from, ord_max, nat_cmp, nat_tests, sum_by-cons, Block, Each-map, Each-of_map, Each-filter, sum_filter, blocks_without, room_for, snapshot, is_pinned, is_loose, block_end, begins_in, first_from, loose_bytes, largest, room_from, room, IsLaid, sum_fits}
+use Rattle.std.proofs.Common.{lt-ltb}
 use Rattle.std.specs.List.{AllByRecursion as Each}
-use Rattle.w16_model.proofs.Gaps.{Each-map, Each-of_map, Each-filter}
-use Rattle.w16_model.proofs.Longest.{sum_filter}
-use Rattle.w16_model.specs.Discards.{blocks_without, room_for, snapshot}
-use Rattle.w16_model.specs.Gap.{is_pinned, is_loose, block_end, begins_in, first_from, loose_bytes, largest, room_from, room, IsLaid}
-use Rattle.w16_blocks.proofs.Ordered.{sum_fits}
 
 -- the best gap so far, where the present gap begins, and the loose bytes in it
 abbrev pub scan : ℕ → ℕ → ℕ → ℕ → List Block → ℕ

@@ -1,23 +1,5 @@
 -- What opening a gap leaves: the same blocks, one hole, and it directly behind the block.
-use Rattle.std.proofs.Common.{ℕ, ◌≡◌, ◌+◌, ◌-◌, ◌<◌, ◌≤◌, ◌⊎◌, max, min, IsTrue, Bool, true, false, ◌&&◌, nat_le, nat_lt, cond, eqb, List, [], ◌∷◌, map, Option, Some, IfSome, is_some, sum_by, arith, refl, sym, ap, ◌∙◌, subst, inl, inr}
-use Rattle.std.proofs.lemmas.Bool.{lt-ltb, le-ltb, cases_lt, eq-eqb, cond-true, false≢true}
-use Rattle.std.proofs.lemmas.Bool.Decides.{eqb_tells}
-use Rattle.std.proofs.lemmas.List.Sums.{sum_by-cons}
-use Rattle.std.specs.List.{AllByRecursion}
-use Rattle.w16_model.specs.declared.Block.{Block}
-use Rattle.w16_model.specs.declared.Hold.TheVariants.{Loose}
-use Rattle.w16_model.specs.Gap.{IsLaid, IsGap, IsHole, IsClear, Misses, is_any, is_loose, is_pinned, block_end, loose_bytes}
-use Rattle.w16_model.specs.Table.{block_with}
-use Rattle.w16_model.proofs.Gaps.{Each-map, Each-both, All-from_Each}
-use Rattle.w16_model.proofs.Laid.{laid_each}
-use Rattle.w16_blocks.specs.Layout.{Layout, IsOrdered}
-use Rattle.w16_blocks.specs.Runs.{IsCut}
-use Rattle.w16_blocks.proofs.Lifting.{around}
-use Rattle.w16_blocks.proofs.Remove.{with_id, with_same, with_other, each_with}
-use Rattle.w16_blocks.proofs.RunHoles.{All-mapped, All-unmapped}
-use Rattle.w16_blocks.proofs.Step.{lies}
-use Rattle.w16_compact.specs.Gather.{gathered, packed, moved_between, FitsGap, MayGather, AreSlid}
-use Rattle.w16_compact.specs.Open.{raised_in, opened, end_in, spare_in}
+use Rattle.w16_compact.proofs.Common.{ℕ, ◌≡◌, ◌+◌, ◌-◌, ◌<◌, ◌≤◌, ◌⊎◌, max, min, IsTrue, Bool, true, false, ◌&&◌, nat_le, nat_lt, cond, eqb, List, [], ◌∷◌, map, Option, Some, IfSome, is_some, sum_by, arith, refl, sym, ap, ◌∙◌, subst, inl, inr, lt-ltb, le-ltb, cases_lt, eq-eqb, cond-true, false≢true, eqb_tells, sum_by-cons, AllByRecursion, Block, Loose, IsLaid, IsGap, IsHole, IsClear, Misses, is_any, is_loose, is_pinned, block_end, loose_bytes, block_with, Each-map, Each-both, All-from_Each, laid_each, Layout, IsOrdered, IsCut, around, with_id, with_same, with_other, each_with, All-mapped, All-unmapped, lies, gathered, packed, moved_between, FitsGap, MayGather, AreSlid, raised_in, opened, end_in, spare_in}
 use Rattle.w16_compact.proofs.Cleared.{Past, inside_is, tiled, clear_from, missed, one_hole, no_other}
 use Rattle.w16_compact.proofs.Gathering.{moved_same, cut_high}
 use Rattle.w16_compact.proofs.Loose.{loose_one, loose_none, loose_here}

@@ -1,9 +1,5 @@
 -- The i-th block among the others.
-use Rattle.std.proofs.Common.{ℕ, zero, suc, ◌≡◌, ◌<◌, ◌≤◌, List, [], ◌∷◌, drop, Some, is_some, arith, subst, ap, slice_get}
-use Rattle.std.proofs.lemmas.Bool.{false≢true}
-use Rattle.std.specs.List.{AllByRecursion}
-use Rattle.w16_model.specs.declared.Block.{Block}
-use Rattle.w16_model.specs.Gap.{IsLaid, block_end}
+use Rattle.w16_compact.proofs.Common.{ℕ, zero, suc, ◌≡◌, ◌<◌, ◌≤◌, List, [], ◌∷◌, drop, Some, is_some, arith, subst, ap, slice_get, false≢true, AllByRecursion, Block, IsLaid, block_end}
 
 -- two blocks that are read alike
 pub same_some : (b c : Block) → Some c ≡ Some b → c ≡ b

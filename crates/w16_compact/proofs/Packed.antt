@@ -1,19 +1,5 @@
 -- From an address of a gap up to the lowest hole the blocks stand packed.
-use Rattle.std.proofs.Common.{ℕ, suc, zero, ◌≡◌, ◌-◌, ◌≤◌, ◌⊎◌, List, [], ◌∷◌, Some, is_some, refl, arith, sym, ap, subst, inl, inr, le-leb}
-use Rattle.std.proofs.lemmas.Bool.{cases_lt, false≢true}
-use Rattle.std.specs.List.{AllByRecursion}
-use Rattle.w16_model.specs.declared.Block.{Block}
-use Rattle.w16_model.specs.declared.Span.{Span}
-use Rattle.w16_model.specs.Gap.{block_end}
-use Rattle.w16_model.specs.Heap.{IsMultiple}
-use Rattle.w16_model.proofs.Gaps.{Each-map}
-use Rattle.w16_holes.specs.Holes.{AreHoles, lowest}
-use Rattle.w16_holes.specs.Law.{IsIn}
-use Rattle.w16_holes.proofs.Units.{multiple_sum}
-use Rattle.w16_blocks.specs.Layout.{Layout, IsGrained, IsOrdered, holes_of}
-use Rattle.w16_blocks.specs.Runs.{IsRun}
-use Rattle.w16_blocks.proofs.Free.{Lacks, AreHoles-holes, free_lacks, lacks_free}
-use Rattle.w16_compact.specs.Gather.{MayGather}
+use Rattle.w16_compact.proofs.Common.{ℕ, suc, zero, ◌≡◌, ◌-◌, ◌≤◌, ◌⊎◌, List, [], ◌∷◌, Some, is_some, refl, arith, sym, ap, subst, inl, inr, le-leb, cases_lt, false≢true, AllByRecursion, Block, Span, block_end, IsMultiple, Each-map, AreHoles, lowest, IsIn, multiple_sum, Layout, IsGrained, IsOrdered, holes_of, IsRun, Lacks, AreHoles-holes, free_lacks, lacks_free, MayGather}
 use Rattle.w16_compact.proofs.Gathering.{cut_low}
 
 in_above : (p lo hi : ℕ) (hs : List Span) → AreHoles lo hi hs → IsIn p hs → lo ≤ p

@@ -1,12 +1,5 @@
 -- Whether an id's block is pinned, by one look-up.
-use Rattle.std.proofs.Common.{◌≡◌, ◌≢◌, ℕ, Bool, true, false, ◌||◌, inl, inr, List, [], ◌∷◌, None, Some, refl, ap, ◌∙◌, subst, ne_eqb}
-use Rattle.std.specs.List.{AllByRecursion}
-use Rattle.std.proofs.lemmas.Bool.Decides.{eqb_tells}
-use Rattle.w16_model.specs.declared.Block.{Block}
-use Rattle.w16_model.specs.Gap.{is_pinned}
-use Rattle.w16_model.specs.Discards.{is_pinned_id}
-use Rattle.w16_model.specs.Table.{block_with}
-use Rattle.w16_blocks.specs.Layout.{AreNamed}
+use Rattle.w16_compact.proofs.Common.{◌≡◌, ◌≢◌, ℕ, Bool, true, false, ◌||◌, inl, inr, List, [], ◌∷◌, None, Some, refl, ap, ◌∙◌, subst, ne_eqb, AllByRecursion, eqb_tells, Block, is_pinned, is_pinned_id, block_with, AreNamed}
 
 -- an id that has no block
 pub none_with : (id : ℕ) (xs : List Block) → block_with xs id ≡ None → AllByRecursion (λ y. y.id ≢ id) xs

@@ -1,25 +1,6 @@
 -- A raise from its start, by a block, to its end.
-use Rattle.std.proofs.Common.{ℕ, ◌≡◌, ◌≢◌, ◌+◌, ◌-◌, ◌<◌, ◌≤◌, ◌⊎◌, Bool, true, false, IsTrue, ◌&&◌, cond, eqb, nat_le, nat_lt, max, min, List, [], ◌∷◌, map, Some, is_some, arith, refl, sym, ap, ◌∙◌, subst, inl, inr}
-use Rattle.std.proofs.lemmas.Bool.{lt-ltb, le-ltb, lt-leb, le-leb, cases_lt, eq-eqb, cond-true, cond-false, ne_eqb, false≢true}
-use Rattle.std.proofs.lemmas.Bool.Decides.{eqb_tells}
-use Rattle.std.specs.List.{AllByRecursion}
-use Rattle.w16_model.specs.declared.Block.{Block}
-use Rattle.w16_model.specs.declared.Span.{Span}
-use Rattle.w16_model.specs.declared.Hold.TheVariants.{Loose}
-use Rattle.w16_model.specs.Gap.{IsLaid, block_end, is_loose, is_pinned, holds_still, loose_bytes}
-use Rattle.w16_model.specs.Table.{block_with}
-use Rattle.w16_model.proofs.Gaps.{Each-map, Each-both}
-use Rattle.w16_model.proofs.Laid.{laid_each}
-use Rattle.w16_blocks.specs.Layout.{Layout, IsOrdered}
-use Rattle.w16_blocks.specs.Runs.{IsCut, IsRun, IsBare, slid_with}
-use Rattle.w16_blocks.proofs.Free.{Lacks, later, lacks_free}
-use Rattle.w16_blocks.proofs.Lifting.{around}
-use Rattle.w16_blocks.proofs.Rising.{with_back}
-use Rattle.w16_blocks.proofs.Remove.{with_same, with_other, each_with}
-use Rattle.w16_blocks.proofs.RunHoles.{All-mapped, All-unmapped}
-use Rattle.w16_blocks.proofs.Sliding.{slid_below, slid_above, slid_inside, moved_to}
-use Rattle.w16_compact.specs.Gather.{moved_between, FitsGap, AreSlid}
-use Rattle.w16_compact.specs.Open.{raised_in, raised}
+use Rattle.w16_compact.proofs.Common.{ℕ, ◌≡◌, ◌≢◌, ◌+◌, ◌-◌, ◌<◌, ◌≤◌, ◌⊎◌, Bool, true, false, IsTrue, ◌&&◌, cond, eqb, nat_le, nat_lt, max, min, List, [], ◌∷◌, map, Some, is_some, arith, refl, sym, ap, ◌∙◌, subst, inl, inr, lt-ltb, le-ltb, lt-leb, cases_lt, eq-eqb, cond-true, cond-false, false≢true, eqb_tells, AllByRecursion, Block, Span, Loose, IsLaid, block_end, is_loose, is_pinned, holds_still, loose_bytes, block_with, Each-map, Each-both, laid_each, Layout, IsOrdered, IsCut, IsRun, IsBare, slid_with, Lacks, later, lacks_free, around, with_back, with_same, with_other, each_with, All-mapped, All-unmapped, slid_below, slid_above, slid_inside, moved_to, moved_between, FitsGap, AreSlid, raised_in, raised}
+use Rattle.std.proofs.lemmas.Bool.{le-leb, ne_eqb}
 use Rattle.w16_compact.proofs.Cleared.{inside_is}
 use Rattle.w16_compact.proofs.Gathering.{moved_same}
 use Rattle.w16_compact.proofs.Loose.{loose_one, loose_none, loose_here}

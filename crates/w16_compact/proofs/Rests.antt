@@ -1,9 +1,5 @@
 -- What a step over part of a memory leaves as it was: one step after another, and a part that was put.
-use Rattle.std.proofs.Common.{refl, ℕ, ◌≡◌, ◌+◌, ◌≤◌, List, length, take, drop, arith, ◌∙◌, ap}
-use Rattle.std.specs.Borrow.{GName}
-use Rattle.w16_model.specs.Bytes.{put_part}
-use Rattle.w16_model.proofs.Parts.{length-put_part, take-put_part, drop-put_part, take_lower, drop_higher}
-use Rattle.w16_compact.specs.Rest.{IsSameRest}
+use Rattle.w16_compact.proofs.Common.{refl, ℕ, ◌≡◌, ◌+◌, ◌≤◌, List, length, take, drop, arith, ◌∙◌, ap, GName, put_part, length-put_part, take-put_part, drop-put_part, take_lower, drop_higher, IsSameRest}
 
 module _ {X : Type 0} {bytes : X → List ℕ} {lenders : X → List GName} where
   pub rest_more : {low high a b : ℕ} {x y z : X} → IsSameRest bytes lenders low high x y → IsSameRest bytes lenders a b y z → low ≤ a → b ≤ high → IsSameRest bytes lenders low high x z

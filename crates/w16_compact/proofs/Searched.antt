@@ -1,16 +1,6 @@
 -- What may be discarded, along the order of use, and how many of these are needed.
-use Rattle.std.proofs.Common.{◌≡◌, ℕ, ◌+◌, ◌<◌, ◌≤◌, inl, inr, Bool, true, false, not, ◌&&◌, nat_le, List, [], ◌∷◌, zero, suc, length, drop, Option, Some, None, refl, sym, ap, ◌∙◌, subst, arith, le-leb, length-drop}
-use Rattle.std.specs.List.{slice_get, find, range_with_len}
-use Rattle.std.proofs.lemmas.Bool.{cases_lt, cond-true, cond-false, lt-leb}
-use Rattle.std.proofs.lemmas.List.Elements.{All-get_or}
-use Rattle.std.proofs.lemmas.List.Sums.{length-filter, count_by-le-length}
-use Rattle.std.proofs.lemmas.Option.{slice_get_within, get_or_from_slice_get}
-use Rattle.w16_model.specs.declared.Block.{Block}
-use Rattle.w16_model.specs.Gap.{room}
-use Rattle.w16_model.specs.Discards.{is_about, is_pinned_id, eligible, blocks_without, room_for, needed, snapshot}
-use Rattle.w16_model.proofs.Discards.{more_discards_law}
-use Rattle.w16_model.proofs.Least.{take_past}
-use Rattle.w16_lru.specs.Uses.{Uses, AreUses}
+use Rattle.w16_compact.proofs.Common.{◌≡◌, ℕ, ◌+◌, ◌<◌, ◌≤◌, inl, inr, Bool, true, false, not, ◌&&◌, nat_le, List, [], ◌∷◌, zero, suc, length, drop, Option, Some, None, refl, sym, ap, ◌∙◌, subst, arith, le-leb, length-drop, find, range_with_len, cases_lt, cond-true, cond-false, lt-leb, All-get_or, length-filter, count_by-le-length, slice_get_within, get_or_from_slice_get, Block, room, is_about, is_pinned_id, eligible, blocks_without, room_for, needed, snapshot, more_discards_law, take_past, Uses, AreUses}
+use Rattle.std.specs.List.{slice_get}
 
 -- each member of an order is an id
 pub below_cap : (most : ℕ) (uses : Uses) (i id : ℕ) (later : List ℕ) → AreUses uses → uses.cap ≤ most → drop i uses.ids ≡ id ∷ later → id < most

@@ -1,20 +1,5 @@
 -- A run that has slid: what each block's bytes are, and what stays.
-use Rattle.std.proofs.Common.{ℕ, ◌≡◌, ◌+◌, ◌-◌, ◌<◌, ◌≤◌, ◌⊎◌, List, [], ◌∷◌, map, take, drop, arith, refl, sym, ap, ◌∙◌, subst, inl, inr}
-use Rattle.std.specs.List.{AllByRecursion}
-use Rattle.std.proofs.lemmas.Bool.{cases_lt}
-use Rattle.std.proofs.lemmas.List.{drop-take, take-take, drop-drop}
-use Rattle.w16_model.specs.Bytes.{part}
-use Rattle.w16_model.specs.declared.Block.{Block}
-use Rattle.w16_model.specs.declared.Span.{Span}
-use Rattle.w16_model.specs.Gap.{block_end}
-use Rattle.w16_model.proofs.Gaps.{Each-both}
-use Rattle.w16_holes.specs.Holes.{IsUsed}
-use Rattle.w16_blocks.specs.Layout.{Layout}
-use Rattle.w16_blocks.specs.Runs.{IsBare, slid_with}
-use Rattle.w16_blocks.specs.Stay.{AreSameBut}
-use Rattle.w16_blocks.proofs.Sliding.{slid_below, slid_above, slid_inside}
-use Rattle.w16_blocks.proofs.RunHoles.{Lies}
-use Rattle.w16_compact.specs.Gather.{contents}
+use Rattle.w16_compact.proofs.Common.{ℕ, ◌≡◌, ◌+◌, ◌-◌, ◌<◌, ◌≤◌, ◌⊎◌, List, [], ◌∷◌, map, take, drop, arith, refl, sym, ap, ◌∙◌, subst, inl, inr, AllByRecursion, cases_lt, drop-take, take-take, drop-drop, part, Block, Span, block_end, Each-both, IsUsed, Layout, IsBare, slid_with, AreSameBut, slid_below, slid_above, slid_inside, Lies, contents}
 
 -- a part of a part
 part_of_part : (bytes : List ℕ) (at n k m : ℕ) → k + m ≤ n → part (part bytes at n) k m ≡ part bytes (at + k) m

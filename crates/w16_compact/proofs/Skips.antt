@@ -1,13 +1,5 @@
 -- One pass over the counted blocks.
-use Rattle.std.proofs.Common.{◌≡◌, ℕ, ◌+◌, ◌-◌, ◌^◌, ◌<◌, ◌≤◌, zero, suc, max, Bool, true, false, cond, filter, List, [], ◌∷◌, drop, sym, ap, ◌∙◌, subst, arith, add-one}
-use Rattle.std.specs.List.{AllByRecursion}
-use Rattle.std.proofs.lemmas.Bool.{cond-true, cond-false}
-use Rattle.w16_model.specs.declared.Block.{Block}
-use Rattle.w16_model.specs.Gap.{IsLaid, room, is_pinned, block_end}
-use Rattle.w16_blocks.specs.Layout.{AreNamed}
-use Rattle.w16_blocks.proofs.Remove.{IsLaid-from}
-use Rattle.w16_blocks.proofs.Free.{laid_le}
-use Rattle.w16_compact.specs.declared.reach.Reached.{Reached}
+use Rattle.w16_compact.proofs.Common.{◌≡◌, ℕ, ◌+◌, ◌-◌, ◌^◌, ◌<◌, ◌≤◌, zero, suc, max, Bool, true, false, cond, filter, List, [], ◌∷◌, drop, sym, ap, ◌∙◌, subst, arith, add-one, AllByRecursion, cond-true, cond-false, Block, IsLaid, room, is_pinned, block_end, AreNamed, IsLaid-from, laid_le, Reached}
 use Rattle.w16_compact.proofs.OnePass.{scan, scan-room}
 
 -- the pass with one more block

@@ -1,16 +1,7 @@
 -- What a table tells of gaps, where the bytes of one loose block more count as free.
 use Rattle.std.specs.List.{AllByRecursion as Each}
-use Rattle.std.specs.Prelude.{slice_index}
-use Rattle.std.proofs.Common.{◌≡◌, ◌≢◌, ℕ, ◌+◌, ◌-◌, ◌<◌, ◌≤◌, max, inl, inr, true, false, cond, List, [], ◌∷◌, length, set, refl, sym, ap, ◌∙◌, subst, arith, eq-eqb, ne_eqb}
-use Rattle.std.proofs.lemmas.Bool.{cases_Bool, cond-false}
-use Rattle.std.proofs.lemmas.List.{get_or-set_same, get_or-set_other}
-use Rattle.w16_model.specs.declared.Block.{Block}
-use Rattle.w16_model.specs.Gap.{IsLaid, is_pinned, block_end}
-use Rattle.w16_model.proofs.Gaps.{Member, Each-at, Each-map}
-use Rattle.w16_blocks.specs.Layout.{AreNamed, all_but}
-use Rattle.w16_blocks.proofs.Free.{laid_le}
-use Rattle.w16_blocks.proofs.Remove.{all_but_same, all_but_other, all_but_absent}
-use Rattle.w16_compact.specs.Told.{Tells}
+use Rattle.w16_compact.proofs.Common.{slice_index, ◌≡◌, ◌≢◌, ℕ, ◌+◌, ◌-◌, ◌<◌, ◌≤◌, max, inl, inr, true, false, cond, List, [], ◌∷◌, length, set, refl, sym, ap, ◌∙◌, subst, arith, ne_eqb, cases_Bool, cond-false, get_or-set_same, get_or-set_other, Block, IsLaid, is_pinned, block_end, Member, Each-at, Each-map, AreNamed, all_but, laid_le, all_but_same, all_but_other, all_but_absent, Tells}
+use Rattle.std.proofs.Common.{eq-eqb}
 use Rattle.w16_compact.proofs.OnePass.{scan}
 
 -- the best gap so far is one of those that the rest is compared with

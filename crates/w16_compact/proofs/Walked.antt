@@ -1,22 +1,5 @@
 -- A walk to the lowest gap with room.
-use Rattle.std.proofs.Common.{◌≡◌, ℕ, ◌+◌, ◌<◌, ◌≤◌, ◌^◌, ◌⊎◌, inl, inr, true, false, IsTrue, List, [], ◌∷◌, ◌++◌, take, drop, add-one, zero, suc, refl, sym, ap, ◌∙◌, subst, arith}
-use Rattle.std.proofs.lemmas.List.{take-append-drop}
-use Rattle.std.specs.List.{AllByRecursion}
-use Rattle.std.proofs.lemmas.Bool.{cases_Bool, cases_lt, cond-true, cond-false}
-use Rattle.w16_model.specs.declared.Block.{Block}
-use Rattle.w16_model.specs.declared.Hold.{Hold}
-use Rattle.w16_model.specs.declared.Hold.TheVariants.{Pinned, Loose}
-use Rattle.w16_model.specs.Gap.{IsLaid, IsGap, Misses, room, is_pinned, holds_still, loose_bytes, block_end}
-use Rattle.w16_model.specs.Heap.{IsMultiple}
-use Rattle.w16_model.proofs.Gaps.{Member, Each-at, Each-from, Each-map, Each-from_All}
-use Rattle.w16_model.proofs.Laid.{laid_placed}
-use Rattle.w16_model.proofs.Longest.{each_gap, some_gap}
-use Rattle.w16_blocks.specs.Layout.{Layout, IsOrdered, IsGrained}
-use Rattle.w16_blocks.proofs.Free.{laid_le}
-use Rattle.w16_compact.specs.Gather.{MayGather}
-use Rattle.w16_compact.specs.declared.gaps.Gap.{Gap}
-use Rattle.w16_compact.specs.declared.reach.Reached.{Reached}
-use Rattle.w16_compact.specs.Gap.{HasRoom, IsLowest}
+use Rattle.w16_compact.proofs.Common.{◌≡◌, ℕ, ◌+◌, ◌<◌, ◌≤◌, ◌^◌, ◌⊎◌, inl, inr, true, false, IsTrue, List, [], ◌∷◌, ◌++◌, take, drop, add-one, zero, suc, refl, sym, ap, ◌∙◌, subst, arith, take-append-drop, AllByRecursion, cases_Bool, cases_lt, cond-true, cond-false, Block, Hold, Pinned, Loose, IsLaid, IsGap, Misses, room, is_pinned, holds_still, loose_bytes, block_end, IsMultiple, Member, Each-at, Each-from, Each-map, Each-from_All, laid_placed, each_gap, some_gap, Layout, IsOrdered, IsGrained, laid_le, MayGather, Gap, Reached, HasRoom, IsLowest}
 use Rattle.w16_compact.proofs.Loose.{loose_append, loose_none, loose_here}
 use Rattle.w16_compact.proofs.Bounded.{IsFloor, IsCeiling, between, clear_pinned}
 use Rattle.w16_compact.proofs.Skips.{passed, rest_is, each_here}

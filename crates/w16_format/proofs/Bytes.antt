@@ -1,12 +1,5 @@
 -- Bytes and words of a file.
-use Rattle.std.proofs.Common.{◌≡◌, ℕ, zero, suc, ◌+◌, ◌<◌, true, List, [], ◌∷◌, length, refl, sym, subst, arith, get_or}
-use Rattle.std.specs.Prelude.{All, nat_lt}
-use Rattle.std.proofs.lemmas.Bool.{and_parts, and_from, ltb-true, lt-ltb}
-use Rattle.std.proofs.lemmas.List.Elements.{All-nil, All-cons, All-head, All-tail}
-use Rattle.std.proofs.lemmas.List.FromFn.{get_or-map-range_with_len, length-map-range_with_len}
-use Rattle.w16_ne.specs.Reading.{word_of}
-use Rattle.w16_format.specs.Data.{padded}
-use Rattle.w16_format.specs.Ne.{has_bytes}
+use Rattle.w16_format.proofs.Common.{◌≡◌, ℕ, zero, suc, ◌+◌, ◌<◌, true, List, [], ◌∷◌, length, refl, sym, subst, arith, get_or, All, nat_lt, and_parts, and_from, ltb-true, lt-ltb, All-nil, All-cons, All-head, All-tail, get_or-map-range_with_len, length-map-range_with_len, word_of, padded, has_bytes}
 
 abbrev pub AreBytes : List ℕ → Type 0
 AreBytes bytes = All (λ b. b < 256) bytes

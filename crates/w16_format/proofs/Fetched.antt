@@ -1,24 +1,6 @@
 -- What loads and fetches get of an NE file.
-use Rattle.std.proofs.Common.{◌≡◌, ℕ, zero, suc, ◌-◌, Bool, true, false, cond, List, [], ◌∷◌, length, map, Some, Result, Ok, Err, refl, sym, ◌∙◌, ap, subst, arith}
-use Rattle.std.specs.Prelude.{All, Option, None, option_map, slice_get, slice_index_or, is_ok, is_some, nat_eq, ◌&&◌}
-use Rattle.std.specs.List.{list_all}
-use Rattle.std.proofs.lemmas.Option.{slice_get-map}
-use Rattle.w16_ne.specs.declared.segment_table.Segment.{Segment}
-use Rattle.w16_ne.specs.Resources.{Label, Entry}
-use Rattle.w16_ne.specs.Modules.{Tables, listed_resources, resource_at}
-use Rattle.w16_reloc.specs.declared.fault.RelocFault.{RelocFault}
+use Rattle.w16_format.proofs.Common.{◌≡◌, ℕ, zero, suc, ◌-◌, Bool, true, false, cond, List, [], ◌∷◌, length, map, Some, Result, Ok, Err, refl, sym, ◌∙◌, ap, subst, arith, All, Option, None, option_map, slice_get, slice_index_or, is_ok, is_some, nat_eq, ◌&&◌, list_all, slice_get-map, Segment, Label, Entry, Tables, listed_resources, resource_at, RelocFault, Held, checked, IsImage, naming, IsFar, ModuleFile, SegmentData, numbered, LoadingWorld, Module, are_sound, read_of, segment_bytes, resource_bytes, targets_in, data_in, contents_in, far_in, far_of, module_file, ne_format, IsFileOf}
 use Rattle.w16_reloc.specs.declared.value.Far as words
-use Rattle.w16_reloc.specs.Segments.{Held, checked}
-use Rattle.w16_reloc.specs.Images.{IsImage}
-use Rattle.w16_reloc.specs.Naming.{naming}
-use Rattle.w16_reloc.specs.Law.{IsFar}
-use Rattle.w16_loading.specs.File.{ModuleFile, SegmentData, numbered}
-use Rattle.w16_loading.specs.Modules.{LoadingWorld, Module}
-use Rattle.w16_loading.specs.Closure.{are_sound}
-use Rattle.w16_loading.specs.Fetch.{read_of, segment_bytes, resource_bytes}
-use Rattle.w16_format.specs.Data.{targets_in, data_in, contents_in, far_in, far_of}
-use Rattle.w16_format.specs.Ne.{module_file, ne_format}
-use Rattle.w16_format.specs.Law.{IsFileOf}
 use Rattle.w16_format.proofs.Files.{accepted}
 use Rattle.w16_format.proofs.Relocated.{is_relocated, words_same}
 

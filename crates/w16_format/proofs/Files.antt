@@ -1,30 +1,7 @@
 -- NE files are a format.
-use Rattle.std.proofs.Common.{◌≡◌, ℕ, ◌+◌, ◌<◌, ◌≤◌, Bool, true, false, cond, List, [], ◌∷◌, length, map, take, drop, Some, Result, Ok, Err, refl, sym, ◌∙◌, ap, arith, get_or}
-use Rattle.std.specs.Prelude.{Option, None, IsSomeAnd, All, MatchResult, nat_eq, slice_get}
-use Rattle.std.specs.List.{AllZip}
-use Rattle.std.proofs.lemmas.List.Elements.{All-map, All-take, All-drop}
-use Rattle.w16_model.specs.Calls.{rounded_size}
-use Rattle.w16_ne.specs.declared.fault.NeFault.{NeFault}
-use Rattle.w16_store.specs.declared.store.StoreFault.TheVariants.{Missing}
-use Rattle.w16_ne.specs.declared.fault.NeFault.TheVariants.{Target, Store}
-use Rattle.w16_ne.specs.Header.{place_at}
-use Rattle.w16_ne.specs.declared.segment_table.Segment.{Segment}
-use Rattle.w16_reloc.specs.Segments.{data_of}
-use Rattle.w16_ne.specs.Header.{shift_of, segment_table}
+use Rattle.w16_format.proofs.Common.{◌≡◌, ℕ, ◌+◌, ◌<◌, ◌≤◌, Bool, true, false, cond, List, [], ◌∷◌, length, map, take, drop, Some, Result, Ok, Err, refl, sym, ◌∙◌, ap, arith, get_or, Option, None, IsSomeAnd, All, MatchResult, nat_eq, slice_get, AllZip, All-map, All-take, All-drop, rounded_size, NeFault, Missing, Target, Store, place_at, Segment, data_of, shift_of, segment_table, Tables, tables_at, listed_resources, IsModule, module_format, file_of, IsFormat, IsModuleFile, ModuleFile, Resource, IsItsFiles, IsOfFiles, LoadingWorld, Module, module_at, layout_code, IsFileOf, resource_in, tables_in, contents_in, module_file, number_of, read_as, plain_format, ne_format, has_bytes}
 use Rattle.w16_ne.specs.Resources as ne_resources
-use Rattle.w16_ne.specs.Modules.{Tables, tables_at, listed_resources}
-use Rattle.w16_ne.specs.ModuleFormat.{IsModule}
-use Rattle.w16_ne.proofs.ModuleFormat.{module_format}
-use Rattle.w16_store.specs.Files.{file_of}
 use Rattle.w16_loading.specs.File as loading
-use Rattle.w16_loading.specs.File.{IsFormat, IsModuleFile, ModuleFile, Resource}
-use Rattle.w16_loading.specs.Law.{IsItsFiles, IsOfFiles}
-use Rattle.w16_loading.specs.Modules.{LoadingWorld, Module, module_at}
-use Rattle.w16_format.specs.Layout.{layout_code}
-use Rattle.w16_format.specs.Law.{IsFileOf}
-use Rattle.w16_format.specs.Tables.{resource_in, tables_in}
-use Rattle.w16_format.specs.Data.{contents_in}
-use Rattle.w16_format.specs.Ne.{module_file, number_of, read_as, plain_format, ne_format, has_bytes}
 use Rattle.w16_format.proofs.Bytes.{AreBytes, padded_length, padded_bytes, passed_bytes, bytes_pass}
 use Rattle.w16_format.proofs.Segments.{segments_fit, room}
 

@@ -1,15 +1,9 @@
 -- Look-ups by number and by name.
-use Rattle.std.proofs.Common.{◌≡◌, ℕ, zero, suc, ◌-◌, false, cond, List, [], ◌∷◌, map, Some, refl, sym, ◌∙◌, ap, arith}
-use Rattle.std.specs.Prelude.{Option, None, option_map, unwrap_or, slice_get, slice_index_or, find, nat_eq}
-use Rattle.std.proofs.lemmas.Option.{slice_get-map}
-use Rattle.w16_store.specs.Names.{is_named}
+use Rattle.w16_format.proofs.Common.{◌≡◌, ℕ, zero, suc, ◌-◌, false, cond, List, [], ◌∷◌, map, Some, refl, sym, ◌∙◌, ap, arith, Option, None, option_map, unwrap_or, slice_get, slice_index_or, find, nat_eq, slice_get-map, is_named, ordinal_in, Tables, entry_at, resource_at, listed_resources, numbered, segment_in, entry_in, resource_in, tables_in}
 use Rattle.w16_ne.specs.declared.entry_table.Entry as ne_entry
-use Rattle.w16_ne.specs.Names.{Entry, ordinal_in}
+use Rattle.w16_ne.specs.Names.{Entry}
 use Rattle.w16_ne.specs.Resources as ne_resources
-use Rattle.w16_ne.specs.Modules.{Tables, entry_at, resource_at, listed_resources}
 use Rattle.w16_loading.specs.File as loading
-use Rattle.w16_loading.specs.File.{numbered}
-use Rattle.w16_format.specs.Tables.{segment_in, entry_in, resource_in, tables_in}
 
 -- Numbers.
 

@@ -1,22 +1,6 @@
 -- What a check and a relocation give is what the format says.
-use Rattle.std.proofs.Common.{◌≡◌, ℕ, ◌<◌, ◌%◌, List, [], ◌∷◌, length, map, Result, Ok, Err, refl, sym, ◌∙◌, ap, subst, arith}
-use Rattle.std.specs.Prelude.{All}
-use Rattle.std.proofs.lemmas.List.Elements.{All-head, All-tail}
-use Rattle.w16_ne.specs.declared.segment_table.Segment.{Segment}
-use Rattle.w16_ne.specs.Modules.{Tables}
-use Rattle.w16_reloc.specs.declared.fault.RelocFault.{RelocFault}
-use Rattle.w16_reloc.specs.declared.record.Record.{Record}
+use Rattle.w16_format.proofs.Common.{◌≡◌, ℕ, ◌<◌, ◌%◌, List, [], ◌∷◌, length, map, Result, Ok, Err, refl, sym, ◌∙◌, ap, subst, arith, All, All-head, All-tail, Segment, Tables, RelocFault, Record, Held, checked, data_of, records_of, offer_of, ◌>>=◌, check_from, IsSound, IsImage, naming, image_of, IsFar, passed_is_sound, naming_is, image_is_of, targets_in, records_in, far_in, far_of, IsRelocated}
 use Rattle.w16_reloc.specs.declared.value.Far as words
-use Rattle.w16_reloc.specs.Segments.{Held, checked, data_of, records_of, offer_of}
-use Rattle.w16_reloc.specs.Check.{◌>>=◌, check_from}
-use Rattle.w16_reloc.specs.Sound.{IsSound}
-use Rattle.w16_reloc.specs.Images.{IsImage}
-use Rattle.w16_reloc.specs.Naming.{naming, image_of}
-use Rattle.w16_reloc.specs.Law.{IsFar}
-use Rattle.w16_reloc.proofs.SoundLemmas.{passed_is_sound}
-use Rattle.w16_reloc.proofs.NamingLemmas.{naming_is, image_is_of}
-use Rattle.w16_format.specs.Data.{targets_in, records_in, far_in, far_of}
-use Rattle.w16_format.specs.Law.{IsRelocated}
 
 -- a check that passes holds the segment's data, and the records that passed
 held_by : (file : List ℕ) (s : Segment) (r : Result (List Record) RelocFault) (held : Held) → (r >>= λ records. Ok (record { bytes = data_of file s; records = records })) ≡ Ok held

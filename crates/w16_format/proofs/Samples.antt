@@ -1,17 +1,6 @@
 -- The samples are as they were worked out.
-use Rattle.std.proofs.Common.{refl}
-use Rattle.w16_ne.specs.Modules.{tables_at, tables_behind}
-use Rattle.w16_ne.specs.Header.{place_at, header_at, fields_of}
-use Rattle.w16_ne.specs.Segments.{segments_at, entries_at, segment_at, data_at, records_at}
-use Rattle.w16_ne.specs.Names.{resident_at, names_at, name_at, nonresident_at, table_names}
-use Rattle.w16_ne.specs.References.{references_at, texts_at, text_at}
-use Rattle.w16_ne.specs.Entries.{table_at, entries_in, bundle_in}
-use Rattle.w16_ne.specs.Resources.{resources_at, blocks_at, block_at, typed_in, typed_at, resources_of, resource_at, label_at}
-use Rattle.w16_reloc.specs.Segments.{checked}
-use Rattle.w16_reloc.specs.Check.{check_from, sites_at, chain_at, site_at}
-use Rattle.w16_reloc.specs.Records.{record_at, target_at}
-use Rattle.w16_model.specs.Bytes.{repeated}
-use Rattle.w16_format.specs.Samples.{tlib, tapp, tres, IsLibrary, IsProgram, HasResource, SamplesLaw}
+use Rattle.w16_format.proofs.Common.{refl, tables_at, tables_behind, place_at, header_at, fields_of, segments_at, entries_at, segment_at, data_at, records_at, resident_at, names_at, name_at, nonresident_at, table_names, references_at, texts_at, text_at, table_at, entries_in, bundle_in, resources_at, blocks_at, block_at, typed_in, typed_at, resources_of, label_at, checked, check_from, sites_at, chain_at, site_at, record_at, target_at, repeated, tlib, tapp, tres, IsLibrary, IsProgram, HasResource, SamplesLaw}
+use Rattle.w16_ne.specs.Resources.{resource_at}
 
 library : IsLibrary
 unfolding repeated tlib tapp tres tables_at tables_behind place_at header_at fields_of segments_at entries_at segment_at data_at records_at resident_at names_at name_at nonresident_at table_names references_at texts_at text_at table_at entries_in bundle_in resources_at blocks_at block_at typed_in typed_at resources_of resource_at label_at checked check_from sites_at chain_at site_at record_at target_at

@@ -1,26 +1,5 @@
 -- Segments of an NE file have sizes and images that go together.
-use Rattle.std.proofs.Common.{◌≡◌, ℕ, zero, suc, ◌+◌, ◌/◌, ◌<◌, ◌≤◌, ◌%◌, max, Bool, true, false, cond, List, [], ◌∷◌, length, map, drop, refl, sym, ◌∙◌, subst, arith, inl, inr}
-use Rattle.std.specs.Prelude.{All, nat_eq, slice_get, Some, min}
-use Rattle.std.specs.List.{AllZip}
-use Rattle.std.proofs.lemmas.List.Elements.{All-map, All-take, All-drop}
-use Rattle.std.proofs.lemmas.List.{length-take}
-use Rattle.std.proofs.lemmas.List.FromFn.{length-map-range_with_len}
-use Rattle.w16_model.specs.declared.TheConstants.{GRAIN}
-use Rattle.w16_loading.specs.declared.TheConstants.{LARGEST_OWNED}
-use Rattle.w16_model.specs.Heap.{IsMultiple}
-use Rattle.w16_ne.specs.declared.segment_table.Segment.{Segment}
-use Rattle.w16_ne.specs.Reading.{word_of}
-use Rattle.w16_ne.specs.Segments.{or_64k, rounded}
-use Rattle.w16_ne.specs.SegmentsFormat.{IsData, IsSegment, AreSegments}
-use Rattle.w16_ne.specs.Modules.{Tables}
-use Rattle.w16_reloc.specs.Segments.{checked, data_of}
-use Rattle.w16_reloc.specs.Images.{byte, patches, image_at}
-use Rattle.w16_reloc.specs.Naming.{naming}
-use Rattle.w16_reloc.specs.Law.{IsFar}
-use Rattle.w16_reloc.proofs.NamingLemmas.{image_bytes}
-use Rattle.w16_loading.specs.File.{Far, IsSegmentData}
-use Rattle.w16_format.specs.Tables.{segment_in}
-use Rattle.w16_format.specs.Data.{far_in, records_in, data_in}
+use Rattle.w16_format.proofs.Common.{◌≡◌, ℕ, zero, suc, ◌+◌, ◌/◌, ◌<◌, ◌≤◌, ◌%◌, max, Bool, true, false, cond, List, [], ◌∷◌, length, map, drop, refl, sym, ◌∙◌, subst, arith, inl, inr, All, nat_eq, slice_get, Some, min, AllZip, All-map, All-take, All-drop, length-take, length-map-range_with_len, GRAIN, LARGEST_OWNED, IsMultiple, Segment, word_of, or_64k, rounded, IsData, IsSegment, AreSegments, Tables, checked, data_of, byte, patches, image_at, naming, IsFar, image_bytes, Far, IsSegmentData, segment_in, far_in, records_in, data_in}
 use Rattle.w16_format.proofs.Bytes.{AreBytes, word_small}
 
 -- Sizes.

@@ -1,21 +1,7 @@
 -- Far reads and writes of bytes that are there.
-use Rattle.std.proofs.Common.{◌≡◌, ℕ, ◌+◌, ◌<◌, ◌≤◌, IsSomeAnd, List, [], length, All, Bool, true, false, Option, None, option_map, unwrap_or, refl, sym, ap, ◌∙◌, subst, arith, length-take, length-drop, ◌&&◌}
-use Rattle.w16_model.specs.Bytes.{part, put_part, repeated}
-use Rattle.w16_model.proofs.Parts.{length-repeated}
-use Rattle.w16_model.specs.declared.Attributes.{Attributes}
-use Rattle.w16_model.specs.Heap.{Heap, Object, object_at, bytes_at}
-use Rattle.w16_model.specs.OneObject.{after_touch}
-use Rattle.w16_model.specs.Handles.{Handles, AreHandles, Gives}
-use Rattle.w16_model.specs.Far.{far_fault, far_slot, far_bytes, far_read, data_write, far_write, after_write}
-use Rattle.w16_model.specs.Owned.{refuses_write}
+use Rattle.w16_global.proofs.Common.{◌≡◌, ℕ, ◌+◌, ◌<◌, ◌≤◌, IsSomeAnd, List, [], length, All, Bool, true, false, Option, None, option_map, unwrap_or, refl, sym, ap, ◌∙◌, subst, arith, length-take, length-drop, ◌&&◌, part, put_part, repeated, length-repeated, Attributes, Heap, Object, object_at, bytes_at, after_touch, Handles, AreHandles, Gives, far_fault, far_slot, far_bytes, far_read, data_write, far_write, after_write, refuses_write, written_heap, Reached, reached, other_handles, same_updated, access_fault, Holding, HasPart, handles_of, AreJoined}
 use Rattle.w16_model.specs.Far as access
-use Rattle.w16_model.proofs.KeptHeaps.{written_heap}
-use Rattle.w16_model.proofs.Accesses.{Reached, reached}
-use Rattle.w16_model.proofs.KeptHandles.{other_handles, same_updated}
 use Rattle.w16_selectors.specs.Descriptors as selectors
-use Rattle.w16_global.specs.Access.{access_fault}
-use Rattle.w16_global.specs.Parts.{Holding, HasPart}
-use Rattle.w16_global.specs.Joined.{handles_of, AreJoined}
 use Rattle.w16_global.proofs.Joined.{joined_same}
 use Rattle.w16_global.proofs.Described.{write_same}
 use Rattle.w16_global.proofs.Reach.{no_fault}

@@ -1,24 +1,8 @@
 -- What an allocation answers.
-use Rattle.std.proofs.Common.{◌≡◌, ℕ, inr, true, ◌==◌, ◌&&◌, MatchBool, MatchOption, inl, ne_eqb, IfSome, IfNone, List, Option, Some, None, refl, sym, subst, arith, ◌<◌, ◌≤◌, ◌∙◌, Bool, false, ap}
+use Rattle.w16_global.proofs.Common.{◌≡◌, ℕ, inr, true, ◌==◌, ◌&&◌, MatchBool, MatchOption, inl, ne_eqb, IfSome, IfNone, List, Option, Some, None, refl, sym, subst, arith, ◌<◌, ◌≤◌, ◌∙◌, Bool, false, ap, Attributes, Kind, RoomOptions, LARGEST_SIZE, GMEM_MOVEABLE, GMEM_ZEROINIT, GMEM_DDESHARE, false≢true, cases_lt, Heap, Object, IsHeap, with_ordered, with_newest, Allocates, IsNew, Settles, discarded, stays_for, discards_needed, moved_bytes, Enters, Handles, IsFreeSlot, handle_of, GlobalAllocs, has_flag, kind_asked, alloc_options, rounded_size, IsUntaken, Holding, handles_of, AreJoined, unmoved, none_about}
 use Rattle.std.specs.FinMap as finmap
-use Rattle.w16_model.specs.declared.Attributes.{Attributes}
-use Rattle.w16_model.specs.declared.Kind.{Kind}
-use Rattle.w16_model.specs.declared.RoomOptions.{RoomOptions}
-use Rattle.w16_model.specs.declared.TheConstants.{LARGEST_SIZE, GMEM_MOVEABLE, GMEM_ZEROINIT, GMEM_DDESHARE}
-use Rattle.std.proofs.lemmas.Bool.{false≢true, cases_lt}
-use Rattle.w16_model.specs.Heap.{Heap, Object, IsHeap}
-use Rattle.w16_model.specs.Changes.{with_ordered, with_newest}
-use Rattle.w16_model.specs.Request.{Allocates, IsNew, Settles, discarded, stays_for, discards_needed, moved_bytes}
-use Rattle.w16_model.specs.OneObject.{Enters}
-use Rattle.w16_model.specs.Handles.{Handles, IsFreeSlot, handle_of}
-use Rattle.w16_model.specs.Calls.{GlobalAllocs, has_flag, kind_asked, alloc_options, rounded_size}
 use Rattle.w16_selectors.specs.Descriptors as selectors
-use Rattle.w16_selectors.specs.Descriptors.{IsUntaken}
-use Rattle.w16_global.specs.Parts.{Holding}
-use Rattle.w16_global.specs.Joined.{handles_of, AreJoined}
 use Rattle.w16_global.proofs.Joined.{free_slot, free_selector}
-use Rattle.w16_arena.proofs.Unmoved.{unmoved}
-use Rattle.w16_model.proofs.Prefixes.{none_about}
 
 module _ {h : Holding} {xs : List (Option Attributes)} {t : selectors.DescriptorTable} {m : ℕ} {w : Handles} (are : AreJoined h xs t) (shown : handles_of h xs m ≡ w) where
   -- a free slot of the selectors is one of the handles

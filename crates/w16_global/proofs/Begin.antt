@@ -1,18 +1,7 @@
 -- Nothing is allocated at the start.
-use Rattle.std.proofs.Common.{◌≡◌, ℕ, zero, suc, ◌+◌, ◌-◌, ◌≤◌, List, [], get_or, replicate, Option, None, option_map, refl, sym, ap, ◌∙◌, subst, arith}
-use Rattle.std.specs.Cmp.{nat_cmp_total}
-use Rattle.std.specs.Ordering.{nat_cmp}
+use Rattle.w16_global.proofs.Common.{◌≡◌, ℕ, zero, suc, ◌+◌, ◌-◌, ◌≤◌, List, [], get_or, replicate, Option, None, option_map, refl, sym, ap, ◌∙◌, subst, arith, nat_cmp_total, nat_cmp, same_map, nat_cmp-IsAntisymmetric, get-empty, length-replicate, Attributes, FIRST_SLOT, MOST_SLOTS, GRAIN, empty_heap, AreHandles, empty_handles, empty_law, Holding, attributes_in, handles_of, descriptor_for, kind_in, HasSize, AreJoined}
 use Rattle.std.specs.FinMap as finmap
-use Rattle.std.specs.FinMap.{same_map, nat_cmp-IsAntisymmetric, get-empty}
-use Rattle.std.proofs.lemmas.List.{length-replicate}
-use Rattle.w16_model.specs.declared.Attributes.{Attributes}
-use Rattle.w16_model.specs.declared.TheConstants.{FIRST_SLOT, MOST_SLOTS, GRAIN}
-use Rattle.w16_model.specs.Heap.{empty_heap}
-use Rattle.w16_model.specs.Handles.{AreHandles, empty_handles}
-use Rattle.w16_model.proofs.Empty.{empty_law}
 use Rattle.w16_selectors.specs.Descriptors as selectors
-use Rattle.w16_global.specs.Parts.{Holding}
-use Rattle.w16_global.specs.Joined.{attributes_in, handles_of, descriptor_for, kind_in, HasSize, AreJoined}
 use Rattle.w16_global.proofs.Joined.{attributes_at}
 
 -- a list of nothing has nothing at each place

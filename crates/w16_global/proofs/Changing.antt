@@ -1,32 +1,8 @@
 -- What is joined, once an object has another kind, or has given up its bytes.
-use Rattle.std.proofs.Common.{◌≡◌, ◌≢◌, ℕ, ◌-◌, ◌<◌, ◌≤◌, ◌||◌, inl, inr, true, false, IfSome, OnOk, IfErr, List, length, get_or, set, Option, Some, None, Result, Ok, Err, option_map, is_some, unwrap_or, refl, sym, ap, ◌∙◌, subst}
-use Rattle.std.specs.Ordering.{nat_cmp}
+use Rattle.w16_global.proofs.Common.{◌≡◌, ◌≢◌, ℕ, ◌-◌, ◌<◌, ◌≤◌, ◌||◌, inl, inr, true, false, IfSome, OnOk, IfErr, List, length, get_or, set, Option, Some, None, Result, Ok, Err, option_map, is_some, unwrap_or, refl, sym, ap, ◌∙◌, subst, nat_cmp, FinMap, false≢true, cases_eq, cases_Bool, get_or-set_same, get_or-set_other, length-set, Attributes, Kind, Refusal, FIRST_SLOT, Heap, Object, object_at, is_fixed, absent, after_modify, after_discard, Handles, AreHandles, ChangesKind, modified, discard_absent, get-update_same, get-update_other, taken_other, kind_law, modify_none, modified_handles, discarded_handles, descriptor_at, kind_at, unset, Descriptor, SelKind, Holding, attributes_in, handles_of, descriptor_for, described, kind_in, AreJoined}
 use Rattle.std.specs.FinMap as finmap
-use Rattle.std.specs.FinMap.{FinMap}
-use Rattle.std.proofs.lemmas.Bool.{false≢true, cases_eq, cases_Bool}
-use Rattle.std.proofs.lemmas.List.{get_or-set_same, get_or-set_other, length-set}
-use Rattle.w16_model.specs.declared.Attributes.{Attributes}
-use Rattle.w16_model.specs.declared.Kind.{Kind}
-use Rattle.w16_model.specs.declared.Refusal.{Refusal}
 use Rattle.w16_model.specs.declared.Refusal.TheVariants as refusals
-use Rattle.w16_model.specs.declared.TheConstants.{FIRST_SLOT}
-use Rattle.w16_model.specs.Heap.{Heap, Object, object_at, is_fixed}
-use Rattle.w16_model.specs.Changes.{absent}
-use Rattle.w16_model.specs.OneObject.{after_modify, after_discard}
-use Rattle.w16_model.specs.Handles.{Handles, AreHandles}
-use Rattle.w16_model.specs.Reallocation.{ChangesKind}
-use Rattle.w16_model.specs.Resizes.{modified}
-use Rattle.w16_model.proofs.Absence.{discard_absent}
-use Rattle.w16_model.proofs.Heaps.{get-update_same, get-update_other}
-use Rattle.w16_model.proofs.KeptHeaps.{taken_other}
-use Rattle.w16_model.proofs.KindChanges.{kind_law, modify_none}
-use Rattle.w16_model.proofs.ResizedHandles.{modified_handles, discarded_handles}
 use Rattle.w16_selectors.specs.Descriptors as selectors
-use Rattle.w16_selectors.specs.Descriptors.{descriptor_at, kind_at, unset}
-use Rattle.w16_selectors.specs.declared.Descriptor.{Descriptor}
-use Rattle.w16_selectors.specs.declared.SelKind.{SelKind}
-use Rattle.w16_global.specs.Parts.{Holding}
-use Rattle.w16_global.specs.Joined.{attributes_in, handles_of, descriptor_for, described, kind_in, AreJoined}
 use Rattle.w16_global.proofs.Joined.{joined_same, slot_there, kinds_are}
 use Rattle.w16_global.proofs.Described.{same_described}
 

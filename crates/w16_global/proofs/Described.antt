@@ -1,22 +1,7 @@
 -- What each step of the heap leaves of what selectors say.
-use Rattle.std.proofs.Common.{◌≡◌, ◌≢◌, ℕ, ◌+◌, ◌-◌, ◌≤◌, ◌==◌, inl, inr, Bool, true, false, IsSomeAnd, if◌then◌else◌, not, List, length, Option, Some, None, Result, Ok, Err, option_map, is_some, unwrap_or, refl, sym, ap, ◌∙◌, subst}
+use Rattle.w16_global.proofs.Common.{◌≡◌, ◌≢◌, ℕ, ◌+◌, ◌-◌, ◌≤◌, ◌==◌, inl, inr, Bool, true, false, IsSomeAnd, if◌then◌else◌, not, List, length, Option, Some, None, Result, Ok, Err, option_map, is_some, unwrap_or, refl, sym, ap, ◌∙◌, subst, cases_eq, Kind, Refusal, Heap, Object, object_at, bytes_at, is_fixed, with_object, with_ordered, removed, touched, after_lock, after_unlock, put_part, after_write, length-put_part, inserted_here, inserted_other, taken_here, taken_other, get-update_same, get-update_other, unset, Descriptor, SelKind, descriptor_for, described}
 use Rattle.std.specs.FinMap as finmap
-use Rattle.std.proofs.lemmas.Bool.{cases_eq}
-use Rattle.w16_model.specs.declared.Kind.{Kind}
-use Rattle.w16_model.specs.declared.Refusal.{Refusal}
 use Rattle.w16_model.specs.declared.Refusal.TheVariants as refusals
-use Rattle.w16_model.specs.Heap.{Heap, Object, object_at, bytes_at, is_fixed}
-use Rattle.w16_model.specs.Changes.{with_object, with_ordered, removed, touched}
-use Rattle.w16_model.specs.OneObject.{after_lock, after_unlock}
-use Rattle.w16_model.specs.Bytes.{put_part}
-use Rattle.w16_model.specs.Far.{after_write}
-use Rattle.w16_model.proofs.Parts.{length-put_part}
-use Rattle.w16_model.proofs.KeptHeaps.{inserted_here, inserted_other, taken_here, taken_other}
-use Rattle.w16_model.proofs.Heaps.{get-update_same, get-update_other}
-use Rattle.w16_selectors.specs.Descriptors.{unset}
-use Rattle.w16_selectors.specs.declared.Descriptor.{Descriptor}
-use Rattle.w16_selectors.specs.declared.SelKind.{SelKind}
-use Rattle.w16_global.specs.Joined.{descriptor_for, described}
 
 module _ (holds : SelKind) (heap : Heap) (slot : ℕ) where
   -- an object in place of one with as many bytes leaves what selectors say

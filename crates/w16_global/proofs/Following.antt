@@ -1,19 +1,7 @@
 -- Selectors that follow their objects, one object further.
-use Rattle.std.proofs.Common.{◌≡◌, ◌≢◌, ℕ, ◌+◌, ◌-◌, ◌<◌, ◌≤◌, ◌⊎◌, inl, inr, Bool, true, false, ◌&&◌, nat_le, nat_lt, if◌then◌else◌, IfSome, List, [], ◌∷◌, zero, suc, length, set, Option, Some, None, option_map, is_some, unwrap_or, refl, sym, ap, ◌∙◌, subst, arith}
+use Rattle.w16_global.proofs.Common.{◌≡◌, ◌≢◌, ℕ, ◌+◌, ◌-◌, ◌<◌, ◌≤◌, ◌⊎◌, inl, inr, Bool, true, false, ◌&&◌, nat_le, nat_lt, if◌then◌else◌, IfSome, List, [], ◌∷◌, zero, suc, length, set, Option, Some, None, option_map, is_some, unwrap_or, refl, sym, ap, ◌∙◌, subst, arith, false≢true, cases_eq, cases_lt, nat_tests, get_or-set_same, get_or-set_other, Block, Misses, block_end, Heap, Object, IsHeap, object_at, bytes_at, hold_of_object, IsBlockOf, two_placed, descriptor_at, kind_at, kind_of, Descriptor, SelKind, described, followed}
 use Rattle.std.specs.FinMap as finmap
-use Rattle.std.proofs.lemmas.Bool.{false≢true, cases_eq, cases_lt}
-use Rattle.std.proofs.lemmas.Bool.Decides.{nat_tests}
-use Rattle.std.proofs.lemmas.List.{get_or-set_same, get_or-set_other}
-use Rattle.w16_model.specs.declared.Block.{Block}
-use Rattle.w16_model.specs.Gap.{Misses, block_end}
-use Rattle.w16_model.specs.Heap.{Heap, Object, IsHeap, object_at, bytes_at, hold_of_object}
-use Rattle.w16_model.proofs.Heaps.{IsBlockOf}
-use Rattle.w16_model.proofs.Places.{two_placed}
 use Rattle.w16_selectors.specs.Descriptors as selectors
-use Rattle.w16_selectors.specs.Descriptors.{descriptor_at, kind_at, kind_of}
-use Rattle.w16_selectors.specs.declared.Descriptor.{Descriptor}
-use Rattle.w16_selectors.specs.declared.SelKind.{SelKind}
-use Rattle.w16_global.specs.Joined.{described, followed}
 use Rattle.w16_global.proofs.Described.{made_here}
 use Rattle.w16_global.proofs.Joined.{followed_kind}
 use Rattle.w16_global.proofs.Reach.{stands}

@@ -1,21 +1,7 @@
 -- Selectors of objects that lost their bytes, and what is said of each slot then.
-use Rattle.std.proofs.Common.{◌≡◌, ◌≢◌, ℕ, ◌+◌, ◌<◌, ◌||◌, ◌&&◌, ◌==◌, nat_le, nat_lt, inl, inr, Bool, true, false, if◌then◌else◌, IsSomeAnd, All, List, [], ◌∷◌, ◌++◌, length, get_or, set, take, Option, Some, None, option_map, is_some, refl, sym, ap, ◌∙◌, eq-eqb, ne_eqb}
+use Rattle.w16_global.proofs.Common.{◌≡◌, ◌≢◌, ℕ, ◌+◌, ◌<◌, ◌||◌, ◌&&◌, ◌==◌, nat_le, nat_lt, inl, inr, Bool, true, false, if◌then◌else◌, IsSomeAnd, All, List, [], ◌∷◌, ◌++◌, length, get_or, set, take, Option, Some, None, option_map, is_some, refl, sym, ap, ◌∙◌, eq-eqb, ne_eqb, false≢true, cases_eq, cases_Bool, get_or-set_same, get_or-set_other, take_more, All-get_or, list_any-append, Discardable, is_member, eligible, Heap, Object, IsHeap, object_at, blocks, KeepsOthers, Each-from, All-from_Each, true-is_member, descriptor_at, kind_at, kind_of, unset, Descriptor, SelKind, descriptor_for, described, followed, forgotten}
 use Rattle.std.specs.FinMap as finmap
-use Rattle.std.proofs.lemmas.Bool.{false≢true, cases_eq, cases_Bool}
-use Rattle.std.proofs.lemmas.List.{get_or-set_same, get_or-set_other, take_more}
-use Rattle.std.proofs.lemmas.List.Elements.{All-get_or}
-use Rattle.std.proofs.lemmas.List.Folds.{list_any-append}
-use Rattle.w16_model.specs.declared.Kind.TheVariants.{Discardable}
-use Rattle.w16_model.specs.Discards.{is_member, eligible}
-use Rattle.w16_model.specs.Heap.{Heap, Object, IsHeap, object_at, blocks}
-use Rattle.w16_model.specs.Law.{KeepsOthers}
-use Rattle.w16_model.proofs.Gaps.{Each-from, All-from_Each}
-use Rattle.w16_model.proofs.Discards.{true-is_member}
 use Rattle.w16_selectors.specs.Descriptors as selectors
-use Rattle.w16_selectors.specs.Descriptors.{descriptor_at, kind_at, kind_of, unset}
-use Rattle.w16_selectors.specs.declared.Descriptor.{Descriptor}
-use Rattle.w16_selectors.specs.declared.SelKind.{SelKind}
-use Rattle.w16_global.specs.Joined.{descriptor_for, described, followed, forgotten}
 use Rattle.w16_global.proofs.Following.{in_table}
 use Rattle.w16_global.proofs.Joined.{forgotten_kind}
 

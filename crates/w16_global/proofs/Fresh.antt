@@ -1,18 +1,5 @@
 -- The objects before anything is allocated.
-use Rattle.std.proofs.Common.{◌≡◌, ℕ, ◌<◌, ◌≤◌, All, List, [], length, Option, None, option_map, refl, sym, ap, ◌∙◌, arith}
-use Rattle.std.specs.Ordering.{nat_cmp}
-use Rattle.std.specs.FinMap.{get-empty}
-use Rattle.std.proofs.lemmas.List.{length-replicate}
-use Rattle.w16_model.specs.declared.Entry.{Entry}
-use Rattle.w16_model.specs.declared.TheConstants.{GRAIN}
-use Rattle.w16_model.specs.Heap.{empty_heap}
-use Rattle.w16_model.specs.Table.{object_in, heap_in}
-use Rattle.w16_holes.specs.Holes.{add_span}
-use Rattle.w16_holes.specs.Thread.{AreThreaded}
-use Rattle.w16_arena.specs.State.{ArenaState, empty_table}
-use Rattle.w16_arena.proofs.Lookups.{same_heap, object_here, place_here}
-use Rattle.w16_arena.proofs.Fresh.{sound, no_entry}
-use Rattle.w16_global.specs.Parts.{AreParts, holding_of}
+use Rattle.w16_global.proofs.Common.{◌≡◌, ℕ, ◌<◌, ◌≤◌, All, List, [], length, Option, None, option_map, refl, sym, ap, ◌∙◌, arith, nat_cmp, get-empty, length-replicate, Entry, GRAIN, empty_heap, object_in, heap_in, add_span, AreThreaded, ArenaState, empty_table, same_heap, object_here, place_here, sound, no_entry, AreParts, holding_of}
 use Rattle.w16_global.proofs.Written.{beside}
 
 -- all of a memory is a hole

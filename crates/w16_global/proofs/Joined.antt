@@ -1,23 +1,7 @@
 -- The objects, their attributes and their selectors, where one slot or none has changed.
-use Rattle.std.proofs.Common.{◌≡◌, ◌≢◌, ℕ, ◌-◌, ◌<◌, ◌≤◌, inl, inr, Bool, true, false, ◌&&◌, nat_le, nat_lt, if◌then◌else◌, IfSome, List, length, get_or, set, Option, Some, None, option_map, unwrap_or, is_some, refl, sym, ap, ◌∙◌, subst, arith}
-use Rattle.std.specs.Cmp.{nat_cmp_total}
+use Rattle.w16_global.proofs.Common.{◌≡◌, ◌≢◌, ℕ, ◌-◌, ◌<◌, ◌≤◌, inl, inr, Bool, true, false, ◌&&◌, nat_le, nat_lt, if◌then◌else◌, IfSome, List, length, get_or, set, Option, Some, None, option_map, unwrap_or, is_some, refl, sym, ap, ◌∙◌, subst, arith, nat_cmp_total, same_map, nat_cmp-IsAntisymmetric, false≢true, cases_eq, get_or-set_same, get_or-set_other, length-set, Attributes, FIRST_SLOT, is_member, Heap, Object, object_at, AreHandles, IsSlot, IsFreeSlot, get-by_id, inserted_here, inserted_other, taken_here, taken_other, descriptor_at, kind_of, kind_at, unset, IsUntaken, Descriptor, SelKind, Holding, Global, attributes_in, handles_of, descriptor_for, described, followed, forgotten, kind_for, kind_in, HasSize, AreJoined}
 use Rattle.std.specs.FinMap as finmap
-use Rattle.std.specs.FinMap.{same_map, nat_cmp-IsAntisymmetric}
-use Rattle.std.proofs.lemmas.Bool.{false≢true, cases_eq}
-use Rattle.std.proofs.lemmas.List.{get_or-set_same, get_or-set_other, length-set}
-use Rattle.w16_model.specs.declared.Attributes.{Attributes}
-use Rattle.w16_model.specs.declared.TheConstants.{FIRST_SLOT}
-use Rattle.w16_model.specs.Discards.{is_member}
-use Rattle.w16_model.specs.Heap.{Heap, Object, object_at}
-use Rattle.w16_model.specs.Handles.{AreHandles, IsSlot, IsFreeSlot}
-use Rattle.w16_model.proofs.Tables.{get-by_id}
-use Rattle.w16_model.proofs.KeptHeaps.{inserted_here, inserted_other, taken_here, taken_other}
 use Rattle.w16_selectors.specs.Descriptors as selectors
-use Rattle.w16_selectors.specs.Descriptors.{descriptor_at, kind_of, kind_at, unset, IsUntaken}
-use Rattle.w16_selectors.specs.declared.Descriptor.{Descriptor}
-use Rattle.w16_selectors.specs.declared.SelKind.{SelKind}
-use Rattle.w16_global.specs.Parts.{Holding}
-use Rattle.w16_global.specs.Joined.{Global, attributes_in, handles_of, descriptor_for, described, followed, forgotten, kind_for, kind_in, HasSize, AreJoined}
 
 -- Attributes by slot.
 

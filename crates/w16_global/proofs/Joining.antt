@@ -1,26 +1,8 @@
 -- What the steps that calls are made of leave joined, and what they say of the handles.
-use Rattle.std.proofs.Common.{◌≡◌, ℕ, ◌-◌, ◌<◌, ◌≤◌, if◌then◌else◌, nat_lt, true, IfOk, OnOk, IfErr, List, length, get_or, set, Option, Some, None, Result, Ok, Err, is_some, option_map, unwrap_or, refl, sym, ap, ◌∙◌, subst, arith}
+use Rattle.w16_global.proofs.Common.{◌≡◌, ℕ, ◌-◌, ◌<◌, ◌≤◌, if◌then◌else◌, nat_lt, true, IfOk, OnOk, IfErr, List, length, get_or, set, Option, Some, None, Result, Ok, Err, is_some, option_map, unwrap_or, refl, sym, ap, ◌∙◌, subst, arith, false≢true, lt-ltb, le-ltb, get_or-set_same, get_or-set_other, length-set, Attributes, Kind, Refusal, FIRST_SLOT, locks_at, without_slot, Heap, Object, IsHeap, object_at, with_object, removed, touched, newest, oldest, Enters, after_lock, after_unlock, after_free, after_touch, after_newest, after_oldest, refused_order, Handles, AreHandles, IsFreeSlot, touched_heap, newest_heap, oldest_heap, ordered, other_handles, lock_ok, unlock_ok, without_object, with_absent_object, Kept, descriptor_at, unset, SelKind, Holding, attributes_in, handles_of, described, kind_for, HasSize, AreJoined}
 use Rattle.std.specs.FinMap as finmap
-use Rattle.std.proofs.lemmas.Bool.{false≢true, lt-ltb, le-ltb}
-use Rattle.std.proofs.lemmas.List.{get_or-set_same, get_or-set_other, length-set}
-use Rattle.w16_model.specs.declared.Attributes.{Attributes}
-use Rattle.w16_model.specs.declared.Kind.{Kind}
-use Rattle.w16_model.specs.declared.Refusal.{Refusal}
-use Rattle.w16_model.specs.declared.TheConstants.{FIRST_SLOT}
 use Rattle.w16_model.specs.declared.Refusal.TheVariants as refusals
-use Rattle.w16_model.specs.Calls.{locks_at}
-use Rattle.w16_model.specs.Owned.{without_slot}
-use Rattle.w16_model.specs.Heap.{Heap, Object, IsHeap, object_at}
-use Rattle.w16_model.specs.Changes.{with_object, removed, touched, newest, oldest}
-use Rattle.w16_model.specs.OneObject.{Enters, after_lock, after_unlock, after_free, after_touch, after_newest, after_oldest, refused_order}
-use Rattle.w16_model.specs.Handles.{Handles, AreHandles, IsFreeSlot}
-use Rattle.w16_model.proofs.KeptHeaps.{touched_heap, newest_heap, oldest_heap, ordered}
-use Rattle.w16_model.proofs.KeptHandles.{other_handles, lock_ok, unlock_ok, without_object, with_absent_object, Kept}
 use Rattle.w16_selectors.specs.Descriptors as selectors
-use Rattle.w16_selectors.specs.Descriptors.{descriptor_at, unset}
-use Rattle.w16_selectors.specs.declared.SelKind.{SelKind}
-use Rattle.w16_global.specs.Parts.{Holding}
-use Rattle.w16_global.specs.Joined.{attributes_in, handles_of, described, kind_for, HasSize, AreJoined}
 use Rattle.w16_global.proofs.Joined.{attributes_at, attributes_set, attributes_unset, joined_same, joined_set, slot_there}
 use Rattle.w16_global.proofs.Described.{lock_same, unlock_same, removed_here, removed_other, entered_here, entered_other}
 

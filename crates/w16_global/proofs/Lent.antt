@@ -1,25 +1,6 @@
 -- An object's bytes, lent to a work.
-use Rattle.std.proofs.Common.{◌≡◌, ℕ, ◌+◌, ◌-◌, ◌<◌, ◌≤◌, IsSomeAnd, List, ◌++◌, length, take, drop, All, Option, Some, None, option_map, refl, sym, ap, ◌∙◌, subst, arith, length-drop, slice_range, Vec}
-use Rattle.std.specs.Vec.{with_items}
-use Rattle.std.proofs.lemmas.List.{length-take-le, take_at}
-use Rattle.std.proofs.lemmas.List.Elements.{All-take, All-drop}
-use Rattle.std.proofs.Math.Seq.{drop-append-add}
-use Rattle.w16_model.specs.Bytes.{part, put_part}
-use Rattle.w16_model.specs.declared.Attributes.{Attributes}
-use Rattle.w16_model.specs.declared.Block.{Block}
-use Rattle.w16_model.specs.Far.{after_write}
-use Rattle.w16_model.specs.Handles.{AreHandles}
-use Rattle.w16_model.specs.Heap.{Heap, Object, object_at, bytes_at}
-use Rattle.w16_model.specs.Table.{block_with}
-use Rattle.w16_model.proofs.KeptHandles.{other_handles, same_updated}
-use Rattle.w16_model.proofs.KeptHeaps.{written_heap}
-use Rattle.w16_region.specs.Bytes.{counted, with_items-put_part}
+use Rattle.w16_global.proofs.Common.{◌≡◌, ℕ, ◌+◌, ◌-◌, ◌<◌, ◌≤◌, IsSomeAnd, List, ◌++◌, length, take, drop, All, Option, Some, None, option_map, refl, sym, ap, ◌∙◌, subst, arith, length-drop, slice_range, Vec, with_items, length-take-le, take_at, All-take, All-drop, drop-append-add, part, put_part, Attributes, Block, after_write, AreHandles, Heap, Object, object_at, bytes_at, block_with, other_handles, same_updated, written_heap, counted, with_items-put_part, bytes_here, ends_in_memory, ArenaState, Global, handles_of, AreJoined, Lends, AreParts, HasPart, Holding, holding_of}
 use Rattle.w16_selectors.specs.Descriptors as selectors
-use Rattle.w16_arena.proofs.Lookups.{bytes_here, ends_in_memory}
-use Rattle.w16_arena.specs.State.{ArenaState}
-use Rattle.w16_global.specs.Joined.{Global, handles_of, AreJoined}
-use Rattle.w16_global.specs.Lent.{Lends}
-use Rattle.w16_global.specs.Parts.{AreParts, HasPart, Holding, holding_of}
 use Rattle.w16_global.proofs.Described.{write_same}
 use Rattle.w16_global.proofs.Joined.{joined_same}
 use Rattle.w16_global.proofs.Written.{beside, holding_written, parts_filled}

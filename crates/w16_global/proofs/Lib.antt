@@ -1,3 +1,4 @@
+pub mod Common
 pub mod Written
 pub mod Parts
 pub mod Joined

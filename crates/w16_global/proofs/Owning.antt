@@ -1,18 +1,6 @@
 -- Objects that modules own: their sizes, and what their revivals write.
-use Rattle.std.proofs.Common.{◌≡◌, ℕ, ◌<◌, Bool, true, false, if◌then◌else◌, IfSome, List, Option, Some, sym, ap, ◌∙◌, subst}
-use Rattle.w16_model.specs.declared.Attributes.{Attributes}
-use Rattle.w16_model.specs.declared.Owned.{Owned}
-use Rattle.w16_model.specs.declared.TheConstants.{GRAIN}
-use Rattle.w16_model.specs.Handles.{Handles}
-use Rattle.w16_model.specs.Heap.{Heap, IsMultiple}
-use Rattle.w16_model.specs.Owned.{revival_options, owned_at, owned_in}
-use Rattle.w16_model.specs.Request.{Reallocates, moved_bytes}
-use Rattle.w16_model.proofs.Growth.{one_outcome_law}
-use Rattle.w16_region.specs.Bytes.{counted}
-use Rattle.w16_arena.proofs.Unmoved.{unmoved}
+use Rattle.w16_global.proofs.Common.{◌≡◌, ℕ, ◌<◌, Bool, true, false, if◌then◌else◌, IfSome, List, Option, Some, sym, ap, ◌∙◌, subst, Attributes, Owned, GRAIN, Handles, Heap, IsMultiple, revival_options, owned_at, owned_in, Reallocates, moved_bytes, one_outcome_law, counted, unmoved, Global, handles_of, AreJoined, Holding}
 use Rattle.w16_selectors.specs.Descriptors as selectors
-use Rattle.w16_global.specs.Joined.{Global, handles_of, AreJoined}
-use Rattle.w16_global.specs.Parts.{Holding}
 use Rattle.w16_global.proofs.Joining.{attributes_shown}
 use Rattle.w16_global.proofs.Resizing.{counted_none}
 

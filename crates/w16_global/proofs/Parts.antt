@@ -1,19 +1,7 @@
 -- The objects' arena and memory, and the heap that they stand for.
-use Rattle.std.proofs.Common.{◌≡◌, ℕ, ◌+◌, ◌^◌, ◌<◌, ◌≤◌, ◌⊎◌, IfSome, IfNone, List, length, Option, Some, None, Result, Ok, Err, OnOk, IfErr, option_map, refl, sym, ap, ◌∙◌, subst, arith, is_some, true}
+use Rattle.w16_global.proofs.Common.{◌≡◌, ℕ, ◌+◌, ◌^◌, ◌<◌, ◌≤◌, ◌⊎◌, IfSome, IfNone, List, length, Option, Some, None, Result, Ok, Err, OnOk, IfErr, option_map, refl, sym, ap, ◌∙◌, subst, arith, is_some, true, Block, Kind, GRAIN, Heap, Object, IsHeap, object_at, bytes_at, block_with, entry_at, heap_in, Refusal, Enters, after_release, contents, with_object, removed, ArenaState, Steps, entry_of, heap_kept, is_heap, entry_is, size_here, place_here, ends_in_memory, no_block, AreParts, Holding, holding_of}
 use Rattle.std.specs.FinMap as finmap
-use Rattle.w16_model.specs.declared.Block.{Block}
-use Rattle.w16_model.specs.declared.Kind.{Kind}
-use Rattle.w16_model.specs.declared.TheConstants.{GRAIN}
-use Rattle.w16_model.specs.Heap.{Heap, Object, IsHeap, object_at, bytes_at}
-use Rattle.w16_model.specs.Table.{block_with, entry_at, heap_in}
-use Rattle.w16_model.specs.declared.Refusal.{Refusal}
-use Rattle.w16_model.specs.OneObject.{Enters, after_release}
-use Rattle.w16_compact.specs.Gather.{contents}
-use Rattle.w16_model.specs.Changes.{with_object, removed}
-use Rattle.w16_arena.specs.State.{ArenaState, Steps, entry_of}
-use Rattle.w16_arena.proofs.Keeping.{heap_kept}
-use Rattle.w16_arena.proofs.Lookups.{is_heap, entry_is, size_here, place_here, ends_in_memory, no_entry, no_block}
-use Rattle.w16_global.specs.Parts.{AreParts, Holding, holding_of}
+use Rattle.w16_arena.proofs.Lookups.{no_entry}
 use Rattle.w16_global.proofs.Written.{beside}
 
 module _ {s : ArenaState} {memory : List ℕ} (parts : AreParts s memory) where

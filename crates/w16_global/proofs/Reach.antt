@@ -1,29 +1,8 @@
 -- A far access by descriptors is one by objects.
-use Rattle.std.proofs.Common.{◌≡◌, ℕ, ◌+◌, ◌-◌, ◌*◌, ◌/◌, ◌<◌, ◌≤◌, ◌⊎◌, ◌==◌, inl, inr, Bool, true, false, if◌then◌else◌, not, ◌&&◌, nat_lt, List, length, get_or, Option, Some, None, Result, Ok, Err, option_map, is_some, unwrap_or, refl, sym, ap, ◌∙◌, subst, arith, min, IfErr, IsErrAnd, OnOk, IfSome, ltb-false, ltb-true}
+use Rattle.w16_global.proofs.Common.{◌≡◌, ℕ, ◌+◌, ◌-◌, ◌*◌, ◌/◌, ◌<◌, ◌≤◌, ◌⊎◌, ◌==◌, inl, inr, Bool, true, false, if◌then◌else◌, not, ◌&&◌, nat_lt, List, length, get_or, Option, Some, None, Result, Ok, Err, option_map, is_some, unwrap_or, refl, sym, ap, ◌∙◌, subst, arith, min, IfErr, IsErrAnd, OnOk, IfSome, ltb-false, ltb-true, false≢true, Attributes, Block, FarFault, BadSelector, ReadOnly, NotPresent, Limit, block_end, Heap, Object, IsHeap, IsMultiple, blocks, object_at, bytes_at, hold_of_object, Handles, slot_of_selector, selector_of, far_fault, far_slot, Owned, owned_in, refuses_write, Each-at, Each-from_All, IsBlockOf, block_member, Reached, reached, slot_of_access, descriptor_at, descriptor_of, place_of, unset, is_code, Descriptor, SelKind, Data, Code, access_fault, Holding, handles_of, descriptor_for, kind_in, AreJoined}
 use Rattle.std.specs.FinMap as finmap
-use Rattle.std.proofs.lemmas.Bool.{false≢true}
-use Rattle.w16_model.specs.declared.Attributes.{Attributes}
-use Rattle.w16_model.specs.declared.Block.{Block}
-use Rattle.w16_model.specs.declared.FarFault.{FarFault}
-use Rattle.w16_model.specs.declared.FarFault.TheVariants.{BadSelector, ReadOnly, NotPresent, Limit}
-use Rattle.w16_model.specs.Gap.{block_end}
-use Rattle.w16_model.specs.Heap.{Heap, Object, IsHeap, IsMultiple, blocks, object_at, bytes_at, hold_of_object}
-use Rattle.w16_model.specs.Handles.{Handles, slot_of_selector, selector_of}
-use Rattle.w16_model.specs.Far.{far_fault, far_slot}
-use Rattle.w16_model.specs.declared.Owned.{Owned}
-use Rattle.w16_model.specs.Owned.{owned_in, refuses_write}
 use Rattle.w16_model.specs.Owned.{is_code as handles_is_code}
-use Rattle.w16_model.proofs.Gaps.{Each-at, Each-from_All}
-use Rattle.w16_model.proofs.Heaps.{IsBlockOf, block_member}
-use Rattle.w16_model.proofs.Accesses.{Reached, reached, slot_of_access}
 use Rattle.w16_selectors.specs.Descriptors as selectors
-use Rattle.w16_selectors.specs.Descriptors.{descriptor_at, descriptor_of, place_of, unset, is_code}
-use Rattle.w16_selectors.specs.declared.Descriptor.{Descriptor}
-use Rattle.w16_selectors.specs.declared.SelKind.{SelKind}
-use Rattle.w16_selectors.specs.declared.SelKind.TheVariants.{Data, Code}
-use Rattle.w16_global.specs.Access.{access_fault}
-use Rattle.w16_global.specs.Parts.{Holding}
-use Rattle.w16_global.specs.Joined.{handles_of, descriptor_for, kind_in, AreJoined}
 use Rattle.w16_global.proofs.Joined.{attributes_at}
 
 -- what holds of a fault holds of the one that is handed on

@@ -1,29 +1,7 @@
 -- What is joined, where an object got another size, for which others may have been discarded or have slid.
-use Rattle.std.proofs.Common.{◌≡◌, ◌≢◌, ℕ, ◌-◌, ◌<◌, ◌≤◌, inl, inr, Bool, true, false, cond, not, ◌&&◌, nat_le, nat_lt, if◌then◌else◌, IsSomeAnd, All, List, [], take, length, get_or, set, Option, Some, None, is_some, unwrap_or, refl, sym, ap, ◌∙◌, subst}
+use Rattle.w16_global.proofs.Common.{◌≡◌, ◌≢◌, ℕ, ◌-◌, ◌<◌, ◌≤◌, inl, inr, Bool, true, false, cond, not, ◌&&◌, nat_le, nat_lt, if◌then◌else◌, IsSomeAnd, All, List, [], take, length, get_or, set, Option, Some, None, is_some, unwrap_or, refl, sym, ap, ◌∙◌, subst, false≢true, cases_eq, le-leb, lt-leb, get_or-set_same, get_or-set_other, length-set, Attributes, RoomOptions, FIRST_SLOT, growth_for, Heap, Object, IsHeap, object_at, bytes_at, is_pinned_object, with_newest, with_ordered, Asked, IsNew, IsGrown, Reallocates, Settles, discarded, moved_bytes, discards_needed, snapshot_of, stays_for, KeepsOthers, Handles, AreHandles, AreResized, IsResized, KeepsRest, IsCase, others_law, asked, by_case, none_discarded, heap_law, rest_law, reallocated_handles, HasDiscardedFor, reallocation_prefix, descriptor_at, kind_at, kind_of, Descriptor, Holding, attributes_in, handles_of, described, followed, forgotten, kind_in, AreJoined}
 use Rattle.std.specs.FinMap as finmap
-use Rattle.std.proofs.lemmas.Bool.{false≢true, cases_eq, le-leb, lt-leb}
-use Rattle.std.proofs.lemmas.List.{get_or-set_same, get_or-set_other, length-set}
-use Rattle.w16_model.specs.declared.Attributes.{Attributes}
-use Rattle.w16_model.specs.declared.RoomOptions.{RoomOptions}
-use Rattle.w16_model.specs.declared.TheConstants.{FIRST_SLOT}
-use Rattle.w16_model.specs.Discards.{growth_for}
-use Rattle.w16_model.specs.Heap.{Heap, Object, IsHeap, object_at, bytes_at, is_pinned_object}
-use Rattle.w16_model.specs.Changes.{with_newest, with_ordered}
-use Rattle.w16_model.specs.Request.{Asked, IsNew, IsGrown, Reallocates, Settles, discarded, moved_bytes, discards_needed, snapshot_of, stays_for}
-use Rattle.w16_model.specs.Law.{KeepsOthers}
-use Rattle.w16_model.specs.Handles.{Handles, AreHandles}
-use Rattle.w16_model.specs.Reallocation.{AreResized, IsResized, KeepsRest}
-use Rattle.w16_model.proofs.Growth.{IsCase}
-use Rattle.w16_model.proofs.Others.{others_law}
-use Rattle.w16_model.proofs.Reallocations.{asked, by_case, none_discarded, heap_law}
-use Rattle.w16_model.proofs.KeptRest.{rest_law}
-use Rattle.w16_model.proofs.ResizedHandles.{reallocated_handles}
-use Rattle.w16_arena.specs.Asked.{HasDiscardedFor, reallocation_prefix}
 use Rattle.w16_selectors.specs.Descriptors as selectors
-use Rattle.w16_selectors.specs.Descriptors.{descriptor_at, kind_at, kind_of}
-use Rattle.w16_selectors.specs.declared.Descriptor.{Descriptor}
-use Rattle.w16_global.specs.Parts.{Holding}
-use Rattle.w16_global.specs.Joined.{attributes_in, handles_of, described, followed, forgotten, kind_in, AreJoined}
 use Rattle.w16_global.proofs.Joined.{described_some, followed_kind, forgotten_kind, kinds_are, slot_there}
 use Rattle.w16_global.proofs.Described.{made_here}
 use Rattle.w16_global.proofs.Forgotten.{each_discarded, still_taken, was_there}

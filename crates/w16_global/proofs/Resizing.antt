@@ -1,26 +1,7 @@
 -- What GlobalReAlloc and GlobalDiscard answer.
-use Rattle.std.proofs.Common.{◌≡◌, ℕ, ◌-◌, ◌≤◌, if◌then◌else◌, length, ◌||◌, ◌==◌, ◌&&◌, inl, inr, Bool, true, false, cond, MatchBool, MatchOption, List, Option, Some, None, Result, Ok, Err, option_map, unwrap_or, refl, sym, ap, ◌∙◌, subst, arith, ne_eqb}
-use Rattle.std.proofs.lemmas.Bool.{cases_eq, le-ltb}
-use Rattle.w16_model.specs.declared.Kind.{Kind}
+use Rattle.w16_global.proofs.Common.{◌≡◌, ℕ, ◌-◌, ◌≤◌, if◌then◌else◌, length, ◌||◌, ◌==◌, ◌&&◌, inl, inr, Bool, true, false, cond, MatchBool, MatchOption, List, Option, Some, None, Result, Ok, Err, option_map, unwrap_or, refl, sym, ap, ◌∙◌, subst, arith, ne_eqb, cases_eq, le-ltb, Kind, RoomOptions, Refusal, LARGEST_SIZE, GMEM_MOVEABLE, GMEM_MODIFY, GMEM_ZEROINIT, Heap, Object, object_at, bytes_at, is_fixed, is_discardable, absent, with_ordered, with_newest, Reallocates, moved_bytes, after_discard, Handles, handle_of, slot_of_handle, global_size, has_flag, rounded_size, owns, is_owned, realloc_options, kind_modified, modified, IsNull, AnswersHandle, AnswersDiscard, Empties, Resizes, ReAllocsOwn, GlobalReAllocs, GlobalDiscards, discard_absent, one_outcome_law, taken_here, taken_other, counted, none_moved, unmoved, zeroed_behind}
 use Rattle.w16_model.specs.declared.Kind.TheVariants as kinds
-use Rattle.w16_model.specs.declared.RoomOptions.{RoomOptions}
-use Rattle.w16_model.specs.declared.Refusal.{Refusal}
 use Rattle.w16_model.specs.declared.Refusal.TheVariants as refusals
-use Rattle.w16_model.specs.declared.TheConstants.{LARGEST_SIZE, GMEM_MOVEABLE, GMEM_MODIFY, GMEM_ZEROINIT}
-use Rattle.w16_model.specs.Heap.{Heap, Object, object_at, bytes_at, is_fixed, is_discardable}
-use Rattle.w16_model.specs.Changes.{absent, with_ordered, with_newest}
-use Rattle.w16_model.specs.Request.{Reallocates, moved_bytes}
-use Rattle.w16_model.specs.OneObject.{after_discard}
-use Rattle.w16_model.specs.Handles.{Handles, handle_of, slot_of_handle}
-use Rattle.w16_model.specs.Calls.{global_size, has_flag, rounded_size}
-use Rattle.w16_model.specs.Owned.{owns, is_owned}
-use Rattle.w16_model.specs.Resizes.{realloc_options, kind_modified, modified, IsNull, AnswersHandle, AnswersDiscard, Empties, Resizes, ReAllocsOwn, GlobalReAllocs, GlobalDiscards}
-use Rattle.w16_model.proofs.Absence.{discard_absent}
-use Rattle.w16_model.proofs.Growth.{one_outcome_law}
-use Rattle.w16_model.proofs.KeptHeaps.{taken_here, taken_other}
-use Rattle.w16_region.specs.Bytes.{counted}
-use Rattle.w16_arena.proofs.Unmoved.{none_moved, unmoved}
-use Rattle.w16_global.specs.Joined.{zeroed_behind}
 
 -- What is moved.
 

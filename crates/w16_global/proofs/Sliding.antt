@@ -1,31 +1,7 @@
 -- What is joined, where objects have slid and their selectors followed.
-use Rattle.std.proofs.Common.{◌≡◌, ◌≢◌, ℕ, ◌-◌, ◌<◌, ◌≤◌, ◌⊎◌, inl, inr, Bool, true, false, ◌&&◌, nat_le, nat_lt, if◌then◌else◌, IfSome, IsSomeAnd, MatchBool, All, List, [], take, length, get_or, set, Option, Some, None, option_map, is_some, refl, sym, ap, ◌∙◌, subst, arith, leb-false, ltb-false, eq-eqb, ne_eqb}
+use Rattle.w16_global.proofs.Common.{◌≡◌, ◌≢◌, ℕ, ◌-◌, ◌<◌, ◌≤◌, ◌⊎◌, inl, inr, Bool, true, false, ◌&&◌, nat_le, nat_lt, if◌then◌else◌, IfSome, IsSomeAnd, MatchBool, All, List, [], take, length, get_or, set, Option, Some, None, option_map, is_some, refl, sym, ap, ◌∙◌, subst, arith, leb-false, ltb-false, eq-eqb, ne_eqb, false≢true, cases_eq, cases_Bool, get_or-set_same, get_or-set_other, length-set, Attributes, Kind, RoomOptions, FIRST_SLOT, Heap, Object, IsHeap, blocks, object_at, bytes_at, with_newest, with_ordered, Allocates, AreNew, Compacts, IsNew, MakesRoom, Request, Settles, compaction_prefix, discarded, most_room, discards_needed, stays_for, moved_bytes, Discardable, eligible, is_member, KeepsOthers, inserted_here, others_law, HasDiscarded, first_eligible, Handles, AreHandles, IsFreeSlot, with_new_object, moved_handles, compacted_handles, descriptor_at, kind_at, kind_of, unset, Descriptor, SelKind, Holding, attributes_in, handles_of, descriptor_for, described, followed, forgotten, kind_for, kind_in, HasSize, AreJoined, GlobalCompacts}
 use Rattle.std.specs.FinMap as finmap
-use Rattle.std.proofs.lemmas.Bool.{false≢true, cases_eq, cases_Bool}
-use Rattle.std.proofs.lemmas.List.{get_or-set_same, get_or-set_other, length-set}
-use Rattle.w16_model.specs.declared.Attributes.{Attributes}
-use Rattle.w16_model.specs.declared.Kind.{Kind}
-use Rattle.w16_model.specs.declared.RoomOptions.{RoomOptions}
-use Rattle.w16_model.specs.declared.TheConstants.{FIRST_SLOT}
-use Rattle.w16_model.specs.Heap.{Heap, Object, IsHeap, blocks, object_at, bytes_at}
-use Rattle.w16_model.specs.Changes.{with_newest, with_ordered}
-use Rattle.w16_model.specs.Request.{Allocates, AreNew, Compacts, IsNew, MakesRoom, Request, Settles, compaction_prefix, discarded, most_room, discards_needed, stays_for, moved_bytes}
-use Rattle.w16_model.specs.declared.Kind.TheVariants.{Discardable}
-use Rattle.w16_model.specs.Discards.{eligible, is_member}
-use Rattle.w16_model.specs.Law.{KeepsOthers}
-use Rattle.w16_model.proofs.KeptHeaps.{inserted_here}
-use Rattle.w16_model.proofs.Others.{others_law}
-use Rattle.w16_arena.specs.Asked.{HasDiscarded, first_eligible}
-use Rattle.w16_model.specs.Handles.{Handles, AreHandles, IsFreeSlot}
-use Rattle.w16_model.proofs.KeptHandles.{with_new_object, moved_handles}
-use Rattle.w16_model.proofs.ResizedHandles.{compacted_handles}
 use Rattle.w16_selectors.specs.Descriptors as selectors
-use Rattle.w16_selectors.specs.Descriptors.{descriptor_at, kind_at, kind_of, unset}
-use Rattle.w16_selectors.specs.declared.Descriptor.{Descriptor}
-use Rattle.w16_selectors.specs.declared.SelKind.{SelKind}
-use Rattle.w16_global.specs.Parts.{Holding}
-use Rattle.w16_global.specs.Joined.{attributes_in, handles_of, descriptor_for, described, followed, forgotten, kind_for, kind_in, HasSize, AreJoined}
-use Rattle.w16_model.specs.Calls.{GlobalCompacts}
 use Rattle.w16_global.proofs.Joined.{attributes_set, described_some, followed_kind, kinds_are, sized_set}
 use Rattle.w16_global.proofs.Described.{made_here, same_described}
 use Rattle.w16_global.proofs.Forgotten.{gone_says, each_discarded, still_taken, was_there}

@@ -1,10 +1,5 @@
 -- A walk that names objects by their handles, from one that names them by their slots.
-use Rattle.std.proofs.Common.{◌≡◌, ℕ, ◌<◌, ◌≤◌, ◌⊎◌, inl, inr, Option, Some, None, option_map, refl, sym, ap, ◌∙◌, subst}
-use Rattle.w16_model.specs.declared.Item.{Item}
-use Rattle.w16_model.specs.declared.Owner.{Owner}
-use Rattle.w16_model.specs.Heap.{Heap}
-use Rattle.w16_model.specs.Handles.{handle_of}
-use Rattle.w16_model.specs.Walk.{IsItem, IsFirstItem, by_its_id}
+use Rattle.w16_global.proofs.Common.{◌≡◌, ℕ, ◌<◌, ◌≤◌, ◌⊎◌, inl, inr, Option, Some, None, option_map, refl, sym, ap, ◌∙◌, subst, Item, Owner, Heap, handle_of, IsItem, IsFirstItem, by_its_id}
 
 -- the item with its owner's handle in place of its id
 abbrev pub renamed : Item → Item

@@ -1,31 +1,6 @@
 -- The bytes at an address in an object, and the heap after some of them are replaced.
-use Rattle.std.proofs.Common.{◌≡◌, ◌≢◌, ℕ, ◌+◌, ◌-◌, ◌<◌, ◌≤◌, inl, inr, IsSomeAnd, List, [], ◌∷◌, ◌++◌, length, get_or, slice_range, take, drop, All, Option, Some, None, option_map, unwrap_or, refl, sym, ap, ◌∙◌, subst, arith, length-drop}
-use Rattle.std.proofs.lemmas.Bool.{cases_eq}
-use Rattle.std.proofs.lemmas.List.{drop-take, take-take, drop-drop, drop-append-le, length-take-le}
-use Rattle.std.proofs.Math.Seq.{take-append-add}
-use Rattle.w16_model.specs.declared.Block.{Block}
-use Rattle.w16_model.specs.declared.Entry.{Entry}
-use Rattle.w16_model.specs.Heap.{Heap, Object, object_at, bytes_at}
-use Rattle.w16_model.specs.Far.{after_write}
-use Rattle.w16_model.specs.Table.{Table, block_with, object_in, heap_in}
-use Rattle.w16_model.proofs.Gaps.{Member, Each-at}
-use Rattle.w16_model.proofs.Heaps.{get-update_same, get-update_other}
-use Rattle.w16_model.proofs.Laid.{laid_placed}
-use Rattle.w16_model.proofs.Starts.{two}
-use Rattle.w16_model.proofs.Tables.{member_with, length_range}
-use Rattle.w16_model.specs.declared.Span.{Span}
-use Rattle.w16_model.specs.Bytes.{part, put_part}
-use Rattle.w16_model.specs.Gap.{block_end}
-use Rattle.w16_model.proofs.Parts.{length-put_part, range_apart, All-put_part}
-use Rattle.w16_holes.specs.Holes.{IsUsed}
-use Rattle.w16_holes.specs.Thread.{threaded_stay}
-use Rattle.w16_holes.proofs.Write.{AreSameIn-put_part}
-use Rattle.w16_blocks.specs.Layout.{Layout}
-use Rattle.w16_blocks.proofs.Outside.{used_each}
-use Rattle.w16_arena.specs.State.{ArenaState, holes_in}
+use Rattle.w16_global.proofs.Common.{◌≡◌, ◌≢◌, ℕ, ◌+◌, ◌-◌, ◌<◌, ◌≤◌, inl, inr, IsSomeAnd, List, [], ◌∷◌, ◌++◌, length, get_or, slice_range, take, drop, All, Option, Some, None, option_map, unwrap_or, refl, sym, ap, ◌∙◌, subst, arith, length-drop, cases_eq, drop-take, take-take, drop-drop, drop-append-le, length-take-le, take-append-add, Block, Entry, Heap, Object, object_at, bytes_at, after_write, Table, block_with, object_in, heap_in, Member, Each-at, get-update_same, get-update_other, laid_placed, two, member_with, length_range, Span, part, put_part, block_end, length-put_part, range_apart, All-put_part, IsUsed, threaded_stay, AreSameIn-put_part, Layout, used_each, ArenaState, holes_in, AreParts, Holding, HasPart, holding_of, object_here, bytes_here, ends_in_memory, same_heap}
 use Rattle.w16_arena.proofs.Parts as arena
-use Rattle.w16_global.specs.Parts.{AreParts, Holding, HasPart, holding_of}
-use Rattle.w16_arena.proofs.Lookups.{object_here, bytes_here, ends_in_memory, same_heap}
 
 -- a part of a range is one of the whole list
 slice_of_range : (m : List ℕ) (p s at n : ℕ) → at + n ≤ s → part (slice_range m p (p + s)) at n ≡ take n (drop (p + at) m)

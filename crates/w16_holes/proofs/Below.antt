@@ -1,9 +1,5 @@
 -- The last hole that begins below a place.
-use Rattle.std.proofs.Common.{ℕ, suc, ◌≡◌, ◌<◌, ◌≤◌, ◌-◌, inl, inr, List, [], ◌∷◌, Option, Some, unwrap_or, arith, refl, sym, ap, ◌∙◌}
-use Rattle.std.proofs.lemmas.Bool.{cases_lt, lt-ltb, le-ltb}
-use Rattle.std.proofs.lemmas.Bool.Decides.{eqb_tells}
-use Rattle.w16_model.specs.declared.Span.{Span}
-use Rattle.w16_holes.specs.Holes.{AreHoles, IsFree, IsUsed, last_before, length_at}
+use Rattle.w16_holes.proofs.Common.{ℕ, suc, ◌≡◌, ◌<◌, ◌≤◌, ◌-◌, inl, inr, List, [], ◌∷◌, Option, Some, unwrap_or, arith, refl, sym, ap, ◌∙◌, cases_lt, lt-ltb, le-ltb, eqb_tells, Span, AreHoles, IsFree, IsUsed, last_before, length_at}
 use Rattle.w16_holes.proofs.Thread.{last_cons, last_first}
 use Rattle.w16_holes.proofs.Cuts.{last_none, at_none}
 

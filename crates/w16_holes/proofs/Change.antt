@@ -1,11 +1,5 @@
 -- A part of a hole taken, and a span put, by cells.
-use Rattle.std.proofs.Common.{ℕ, zero, suc, ◌≡◌, ◌<◌, ◌≤◌, ◌+◌, ◌*◌, ◌-◌, max, min, List, [], ◌∷◌, length, set, arith, refl, sym, ap, ◌∙◌, subst, inl, inr}
-use Rattle.std.specs.Prelude.{slice_index}
-use Rattle.std.proofs.lemmas.Bool.{cases_lt, lt-ltb, le-ltb}
-use Rattle.std.proofs.lemmas.List.{get_or-set_same, get_or-set_other}
-use Rattle.w16_model.specs.declared.Span.{Span}
-use Rattle.w16_holes.specs.Holes.{add_span, taken, joined}
-use Rattle.w16_holes.specs.Cells.{spans, IsApart, IsInside}
+use Rattle.w16_holes.proofs.Common.{ℕ, zero, suc, ◌≡◌, ◌<◌, ◌≤◌, ◌+◌, ◌*◌, ◌-◌, max, min, List, [], ◌∷◌, length, set, arith, refl, sym, ap, ◌∙◌, subst, inl, inr, slice_index, cases_lt, lt-ltb, le-ltb, get_or-set_same, get_or-set_other, Span, add_span, taken, joined, spans, IsApart, IsInside}
 use Rattle.w16_holes.proofs.Units.{up}
 
 add_some : (a b : ℕ) (ss : List Span) → a < b → add_span a b ss ≡ record { from = a; to = b } ∷ ss

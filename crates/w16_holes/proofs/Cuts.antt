@@ -1,10 +1,5 @@
 -- Holes cut where a part is taken or put: the holes below, those that change, and the holes above.
-use Rattle.std.proofs.Common.{ℕ, suc, ◌≡◌, ◌<◌, ◌≤◌, ◌-◌, ◌⊎◌, inl, inr, min, max, List, [], ◌∷◌, ◌++◌, Option, Some, None, unwrap_or, arith, refl, ap, ◌∙◌, eq-eqb, false, ◌==◌}
-use Rattle.std.proofs.lemmas.Bool.{cases_lt, lt-ltb, le-ltb}
-use Rattle.std.proofs.lemmas.Bool.Decides.{eqb_tells}
-use Rattle.w16_model.specs.declared.Span.{Span}
-use Rattle.w16_holes.specs.Holes.{AreHoles, IsFree, IsUsed, taken, joined, add_span, last_before, length_at, length_to}
-use Rattle.w16_holes.specs.Thread.{no_hole, first_of, next_above}
+use Rattle.w16_holes.proofs.Common.{ℕ, suc, ◌≡◌, ◌<◌, ◌≤◌, ◌-◌, ◌⊎◌, inl, inr, min, max, List, [], ◌∷◌, ◌++◌, Option, Some, None, unwrap_or, arith, refl, ap, ◌∙◌, eq-eqb, false, ◌==◌, cases_lt, lt-ltb, le-ltb, eqb_tells, Span, AreHoles, IsFree, IsUsed, taken, joined, add_span, last_before, length_at, length_to, no_hole, first_of, next_above}
 use Rattle.w16_holes.proofs.Thread.{last_cons, last_first}
 
 -- none begins below a place before all

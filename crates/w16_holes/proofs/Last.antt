@@ -1,11 +1,5 @@
 -- The last hole that begins below a place, by cells.
-use Rattle.std.proofs.Common.{ℕ, zero, suc, ◌≡◌, ◌<◌, ◌≤◌, ◌+◌, ◌*◌, List, [], ◌∷◌, Option, Some, None, option_map, arith, refl, sym, ap, ◌∙◌, subst, inl, inr}
-use Rattle.std.specs.Prelude.{slice_index}
-use Rattle.std.proofs.lemmas.Bool.{cases_lt, lt-ltb, le-ltb}
-use Rattle.std.proofs.lemmas.Option.{none-some, same_Some}
-use Rattle.w16_tree.specs.Last.{last_below}
-use Rattle.w16_holes.specs.Holes.{last_before}
-use Rattle.w16_holes.specs.Cells.{spans}
+use Rattle.w16_holes.proofs.Common.{ℕ, zero, suc, ◌≡◌, ◌<◌, ◌≤◌, ◌+◌, ◌*◌, List, [], ◌∷◌, Option, Some, None, option_map, arith, refl, sym, ap, ◌∙◌, subst, inl, inr, slice_index, cases_lt, lt-ltb, le-ltb, none-some, same_Some, last_below, last_before, spans}
 use Rattle.w16_holes.proofs.Units.{up, above, at_most}
 use Rattle.w16_holes.proofs.Told.{IsLastOf, last_told}
 

@@ -1,3 +1,4 @@
+pub mod Common
 pub mod Units
 pub mod Below
 pub mod Change

@@ -1,13 +1,5 @@
 -- What is looked up in the cells is told by the list of holes.
-use Rattle.std.proofs.Common.{ℕ, zero, suc, ◌≡◌, ◌≢◌, ◌<◌, ◌≤◌, ◌+◌, ◌*◌, ◌-◌, max, List, [], ◌∷◌, map, nat_le, option_map, Some, arith, refl, sym, ap, ◌∙◌, inl, inr, le-leb, eq-eqb}
-use Rattle.std.specs.Prelude.{slice_index}
-use Rattle.std.specs.List.{fold, position, position_from}
-use Rattle.std.proofs.lemmas.Bool.{cases_lt, lt-ltb, le-ltb, lt-leb, leb-true}
-use Rattle.std.proofs.lemmas.Bool.Decides.{eqb_tells}
-use Rattle.std.proofs.lemmas.List.Quantifiers.{position-Some}
-use Rattle.std.proofs.lemmas.Iterator.Adapters.{position_from-zero}
-use Rattle.w16_holes.specs.Holes.{AreHoles, length_at, length_to, lowest, longest, size_of}
-use Rattle.w16_holes.specs.Cells.{spans, IsApart, IsInside, IsBeginOf}
+use Rattle.w16_holes.proofs.Common.{ℕ, zero, suc, ◌≡◌, ◌≢◌, ◌<◌, ◌≤◌, ◌+◌, ◌*◌, ◌-◌, max, List, [], ◌∷◌, map, nat_le, option_map, Some, arith, refl, sym, ap, ◌∙◌, inl, inr, le-leb, eq-eqb, slice_index, fold, position, position_from, cases_lt, lt-ltb, le-ltb, lt-leb, leb-true, eqb_tells, position-Some, position_from-zero, AreHoles, length_at, length_to, lowest, longest, size_of, spans, IsApart, IsInside, IsBeginOf}
 use Rattle.w16_holes.proofs.Units.{up}
 use Rattle.w16_holes.proofs.Change.{IsApart-tail}
 

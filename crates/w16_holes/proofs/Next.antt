@@ -1,12 +1,5 @@
 -- The first hole behind a place, by the links of a thread.
-use Rattle.std.proofs.Common.{ℕ, suc, ◌≡◌, ◌<◌, ◌≤◌, ◌+◌, ◌⊎◌, inl, inr, List, [], ◌∷◌, length, Option, Some, None, unwrap_or, arith, refl, sym, ap, ◌∙◌, ◌-◌, le-leb}
-use Rattle.std.proofs.lemmas.Bool.{cases_lt, lt-ltb, le-ltb}
-use Rattle.std.proofs.lemmas.Bool.Decides.{eqb_tells}
-use Rattle.std.proofs.lemmas.Option.{none-some, same_Some}
-use Rattle.w16_model.specs.declared.Span.{Span}
-use Rattle.w16_region.specs.Bytes.{word_in}
-use Rattle.w16_holes.specs.Holes.{AreHoles, last_before, length_at, lowest}
-use Rattle.w16_holes.specs.Thread.{AreThreaded, no_hole, first_of, next_above, room}
+use Rattle.w16_holes.proofs.Common.{ℕ, suc, ◌≡◌, ◌<◌, ◌≤◌, ◌+◌, ◌⊎◌, inl, inr, List, [], ◌∷◌, length, Option, Some, None, unwrap_or, arith, refl, sym, ap, ◌∙◌, ◌-◌, le-leb, cases_lt, lt-ltb, le-ltb, eqb_tells, none-some, same_Some, Span, word_in, AreHoles, last_before, length_at, lowest, AreThreaded, no_hole, first_of, next_above, room}
 use Rattle.w16_holes.proofs.Thread.{last_cons, last_first}
 use Rattle.w16_holes.proofs.Cuts.{last_none, next_first, at_none}
 

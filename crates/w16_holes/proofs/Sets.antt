@@ -1,9 +1,5 @@
 -- Holes as the set of their bytes: what is taken and joined is told by it, and it tells the list.
-use Rattle.std.proofs.Common.{ℕ, suc, ◌≡◌, ◌<◌, ◌≤◌, ◌⊎◌, max, min, List, [], ◌∷◌, arith, refl, sym, ap, ◌∙◌, subst, inl, inr}
-use Rattle.std.proofs.lemmas.Bool.{cases_lt, lt-ltb, le-ltb}
-use Rattle.w16_model.specs.declared.Span.{Span}
-use Rattle.w16_holes.specs.Holes.{AreHoles, IsFree, IsUsed, add_span, taken, joined}
-use Rattle.w16_holes.specs.Law.{IsIn, BytesLaw, TakenLaw, JoinedLaw}
+use Rattle.w16_holes.proofs.Common.{ℕ, suc, ◌≡◌, ◌<◌, ◌≤◌, ◌⊎◌, max, min, List, [], ◌∷◌, arith, refl, sym, ap, ◌∙◌, subst, inl, inr, cases_lt, lt-ltb, le-ltb, Span, AreHoles, IsFree, IsUsed, add_span, taken, joined, IsIn, BytesLaw, TakenLaw, JoinedLaw}
 
 pub AreHoles-low : (x y hi : ℕ) (hs : List Span) → y ≤ x → AreHoles x hi hs → AreHoles y hi hs
 AreHoles-low x y hi [] le are = tt

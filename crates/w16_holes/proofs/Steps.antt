@@ -1,10 +1,5 @@
 -- The cells of a range after a part was taken or put.
-use Rattle.std.proofs.Common.{ℕ, zero, suc, [], ◌∷◌, refl, ◌≡◌, ◌<◌, ◌+◌, ◌*◌, ◌-◌, List, set, Some, arith, sym, ap, ◌∙◌, subst}
-use Rattle.std.specs.Prelude.{slice_index}
-use Rattle.std.proofs.lemmas.List.{length-set}
-use Rattle.w16_tree.specs.Last.{last_below}
-use Rattle.w16_holes.specs.Holes.{Range, Free, AreHoles, IsPart, IsFree, IsUsed}
-use Rattle.w16_holes.specs.Cells.{spans, AreCells, IsApart, IsInside, IsBeginOf}
+use Rattle.w16_holes.proofs.Common.{ℕ, zero, suc, [], ◌∷◌, refl, ◌≡◌, ◌<◌, ◌+◌, ◌*◌, ◌-◌, List, set, Some, arith, sym, ap, ◌∙◌, subst, slice_index, length-set, last_below, Range, Free, AreHoles, IsPart, IsFree, IsUsed, spans, AreCells, IsApart, IsInside, IsBeginOf}
 use Rattle.w16_holes.proofs.Told.{IsTake, IsPut, take_apart, take_kept, put_apart, put_kept}
 use Rattle.w16_holes.proofs.Look.{are_holes}
 

@@ -1,13 +1,5 @@
 -- A thread through bytes: what a word written elsewhere leaves of it, threads cut and appended, and the last hole linked anew.
-use Rattle.std.proofs.Common.{ℕ, suc, ◌≡◌, ◌<◌, ◌≤◌, ◌+◌, ◌^◌, ◌⊎◌, inl, inr, List, [], ◌∷◌, ◌++◌, length, Option, Some, None, unwrap_or, IfSome, arith, refl, sym, ap, ◌∙◌, subst}
-use Rattle.std.proofs.lemmas.Bool.{lt-ltb}
-use Rattle.w16_model.specs.declared.Span.{Span}
-use Rattle.w16_model.specs.Table.{IsSameOutside}
-use Rattle.w16_model.proofs.Parts.{take_lower, drop_higher, part_below, part_above}
-use Rattle.w16_region.specs.Bytes.{word_in, put_word}
-use Rattle.w16_region.proofs.Words.{length-put_word, word_in-put_word, word_in-same, IsSameOutside-put_word}
-use Rattle.w16_holes.specs.Holes.{AreHoles, IsFree, AreSameOutside, last_before}
-use Rattle.w16_holes.specs.Thread.{HasWords, IsThread, first_of, put_words, put_link, room}
+use Rattle.w16_holes.proofs.Common.{ℕ, suc, ◌≡◌, ◌<◌, ◌≤◌, ◌+◌, ◌^◌, ◌⊎◌, inl, inr, List, [], ◌∷◌, ◌++◌, length, Option, Some, None, unwrap_or, IfSome, arith, refl, sym, ap, ◌∙◌, subst, lt-ltb, Span, IsSameOutside, take_lower, drop_higher, part_below, part_above, word_in, put_word, length-put_word, word_in-put_word, word_in-same, IsSameOutside-put_word, AreHoles, IsFree, AreSameOutside, last_before, HasWords, IsThread, first_of, put_words, put_link, room}
 use Rattle.w16_holes.proofs.Write.{apart}
 
 -- bytes that stay outside [x, y)

@@ -1,12 +1,5 @@
 -- What the list of holes tells of the cells.
-use Rattle.std.proofs.Common.{ℕ, zero, suc, ◌≡◌, ◌<◌, ◌≤◌, ◌+◌, ◌*◌, ◌-◌, ◌^◌, ◌⊎◌, List, [], ◌∷◌, length, set, replicate, Option, Some, None, arith, refl, sym, ap, ◌∙◌, subst, inl, inr}
-use Rattle.std.specs.Prelude.{slice_index}
-use Rattle.std.proofs.lemmas.Bool.{cases_lt, lt-ltb, le-ltb}
-use Rattle.std.proofs.lemmas.List.{get_or-set_same, get_or-set_other, length-set, length-replicate, set-get_or}
-use Rattle.w16_model.specs.Heap.{IsMultiple}
-use Rattle.w16_tree.specs.Last.{last_below}
-use Rattle.w16_holes.specs.Holes.{Range, add_span, taken, joined, IsFree, IsUsed}
-use Rattle.w16_holes.specs.Cells.{spans, IsApart, IsInside, AreCells, IsBeginOf}
+use Rattle.w16_holes.proofs.Common.{ℕ, zero, suc, ◌≡◌, ◌<◌, ◌≤◌, ◌+◌, ◌*◌, ◌-◌, ◌^◌, ◌⊎◌, List, [], ◌∷◌, length, set, replicate, Option, Some, None, arith, refl, sym, ap, ◌∙◌, subst, inl, inr, slice_index, cases_lt, lt-ltb, le-ltb, get_or-set_same, get_or-set_other, length-set, length-replicate, set-get_or, IsMultiple, last_below, Range, add_span, taken, joined, IsFree, IsUsed, spans, IsApart, IsInside, AreCells, IsBeginOf}
 use Rattle.w16_holes.proofs.Units.{up, above, below, at_most}
 use Rattle.w16_holes.proofs.Change.{IsApart-set, IsInside-set, taken_end, taken_inside, joined_is}
 

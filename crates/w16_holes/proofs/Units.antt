@@ -1,8 +1,5 @@
 -- Numbers of units, and what they are in bytes.
-use Rattle.std.proofs.Common.{ℕ, suc, ◌≡◌, ◌<◌, ◌≤◌, ◌+◌, ◌*◌, ◌-◌, ◌/◌, arith, ap, inl, inr}
-use Rattle.std.proofs.Math.Nat.{mul-le-mul_left}
-use Rattle.std.proofs.lemmas.Bool.{cases_lt}
-use Rattle.w16_model.specs.Heap.{IsMultiple}
+use Rattle.w16_holes.proofs.Common.{ℕ, suc, ◌≡◌, ◌<◌, ◌≤◌, ◌+◌, ◌*◌, ◌-◌, ◌/◌, arith, ap, inl, inr, mul-le-mul_left, cases_lt, IsMultiple}
 
 pub up : (g a b : ℕ) → a ≤ b → g * a ≤ g * b
 up g a b le = mul-le-mul_left g le

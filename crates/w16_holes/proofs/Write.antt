@@ -1,10 +1,5 @@
 -- What is written where there is no hole leaves the bytes in the holes.
-use Rattle.std.proofs.Common.{ℕ, ◌≤◌, ◌+◌, ◌⊎◌, List, [], ◌∷◌, length, arith, inl, inr}
-use Rattle.w16_model.specs.declared.Span.{Span}
-use Rattle.w16_model.specs.Bytes.{put_part}
-use Rattle.w16_model.proofs.Parts.{length-put_part}
-use Rattle.w16_model.proofs.Parts.{take-put_part, drop-put_part, part_below, part_above}
-use Rattle.w16_holes.specs.Holes.{IsFree, IsUsed, AreSameIn}
+use Rattle.w16_holes.proofs.Common.{ℕ, ◌≤◌, ◌+◌, ◌⊎◌, List, [], ◌∷◌, length, arith, inl, inr, Span, put_part, length-put_part, take-put_part, drop-put_part, part_below, part_above, IsFree, IsUsed, AreSameIn}
 
 -- a free part and a used one share no byte
 pub apart : (a b x y : ℕ) (hs : List Span) → IsFree a b hs → IsUsed x y hs → (b ≤ x) ⊎ (y ≤ a)

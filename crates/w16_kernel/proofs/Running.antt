@@ -1,15 +1,5 @@
 -- Runs, one step longer.
-use Rattle.w16_machine.specs.World.{World}
-use Rattle.std.proofs.Common.{◌≡◌, ℕ, inl, inr, List, [], ◌∷◌, ◌++◌, map, take, IsSomeAnd, refl, sym, ap, ◌∙◌, subst}
-use Rattle.std.specs.List.{slice_get}
-use Rattle.std.proofs.lemmas.List.{map_push}
-use Rattle.w16_loading.specs.Replies.{Reply}
-use Rattle.w16_machine.specs.Machine.{Command, Event, Steps, Run}
-use Rattle.w16_machine.specs.Fewest.{IsFewest, AreFewest}
-use Rattle.w16_kernel.specs.declared.call.Call.{Call}
-use Rattle.w16_kernel.specs.declared.call.Answer.{Answer}
-use Rattle.w16_kernel.specs.Runs.{command_of, answer_of, TakesMemory}
-use Rattle.w16_kernel.specs.Stops.{StopsEarly}
+use Rattle.w16_kernel.proofs.Common.{World, ◌≡◌, ℕ, inl, inr, List, [], ◌∷◌, ◌++◌, map, take, IsSomeAnd, refl, sym, ap, ◌∙◌, subst, slice_get, map_push, Reply, Command, Event, Steps, Run, IsFewest, AreFewest, Call, Answer, command_of, answer_of, TakesMemory, StopsEarly}
 
 -- a run, and a step after it
 pub run_more : (steps : Steps) (old : World) (events : List Event) (now : World) (command : Command) (reply : Reply) (new : World) → Run steps old events now → steps now command reply new

@@ -1,38 +1,8 @@
 -- A step over the kernel's parts, and the sweep behind it, are one step of the machine.
-use Rattle.std.proofs.Common.{◌≡◌, ℕ, ◌⊎◌, inl, inr, Bool, true, false, ◌&&◌, List, Option, Some, None, Err, IfSome, is_some, refl, sym, ap, ◌∙◌}
-use Rattle.std.specs.Ordering.{nat_cmp}
+use Rattle.w16_kernel.proofs.Common.{◌≡◌, ℕ, ◌⊎◌, inl, inr, Bool, true, false, ◌&&◌, List, Option, Some, None, Err, IfSome, is_some, refl, sym, ap, ◌∙◌, nat_cmp, FinMap, get-empty, Owned, repeated, FarCommand, far_slot, Read, Write, Fill, Handles, selector_in, offset_in, owned_at, Table, AnyStep, far_reads_file, reads_files, LoadingCommand, LoadingStep, OfHandles, OfResizes, OfFar, OfModules, OfResources, far_read, far_write, is_not_present, Format, Module, Named, IsSegmentOf, IsResourceOf, is_owned, module_in, reads_no_files_law, World, left_in, call_may_take, step_may_take, IsWorld, Command, IsCommand, OnHandles, after_loading, OfLoading, OfLocals, IsFewest, step_fewest, heaps_law, handles_step, world_kept, with_parts, reply_of, KernelStep, Unswept, may_take_bytes, surviving_heaps, world_of}
 use Rattle.std.specs.FinMap as finmap
-use Rattle.std.specs.FinMap.{FinMap, get-empty}
-use Rattle.w16_model.specs.declared.Owned.{Owned}
-use Rattle.w16_model.specs.Bytes.{repeated}
-use Rattle.w16_model.specs.Far.{FarCommand, far_slot}
-use Rattle.w16_model.specs.Far.FarCommand.{Read, Write, Fill}
-use Rattle.w16_model.specs.Handles.{Handles, selector_in, offset_in}
-use Rattle.w16_model.specs.Owned.{owned_at}
-use Rattle.w16_model.specs.Table.{Table}
-use Rattle.w16_loading.specs.AnyStore.{AnyStep, far_reads_file, reads_files}
-use Rattle.w16_loading.specs.Families.{LoadingCommand, LoadingStep}
-use Rattle.w16_loading.specs.Families.LoadingCommand.{OfHandles, OfResizes, OfFar, OfModules, OfResources}
-use Rattle.w16_loading.specs.Fetch.{far_read, far_write, is_not_present}
-use Rattle.w16_loading.specs.File.{Format}
-use Rattle.w16_loading.specs.Modules.{Module, Named, IsSegmentOf, IsResourceOf, is_owned, module_in}
 use Rattle.w16_loading.specs.Replies as printed
-use Rattle.w16_loading.proofs.AnySteps.{reads_no_files_law}
-use Rattle.w16_machine.specs.World.{World}
-use Rattle.w16_machine.specs.Local.{left_in}
-use Rattle.w16_machine.specs.LocalStays.{call_may_take, step_may_take}
-use Rattle.w16_machine.specs.Law.{IsWorld}
-use Rattle.w16_machine.specs.Machine.{Command, IsCommand, OnHandles, after_loading}
-use Rattle.w16_machine.specs.Machine.Command.{OfLoading, OfLocals}
-use Rattle.w16_machine.specs.Fewest.{IsFewest}
-use Rattle.w16_machine.proofs.Discards.{step_fewest}
-use Rattle.w16_machine.proofs.LocalStays.{heaps_law}
-use Rattle.w16_machine.proofs.Stepped.{handles_step}
-use Rattle.w16_machine.proofs.Worlds.{world_kept}
-use Rattle.w16_local.specs.Parts.{with_parts}
 use Rattle.w16_kernel.specs.declared.call.Reply.{Reply}
-use Rattle.w16_kernel.specs.Runs.{reply_of}
-use Rattle.w16_kernel.specs.Parts.{KernelStep, Unswept, may_take_bytes, surviving_heaps, world_of}
 
 -- the world that the sweep leaves
 abbrev pub with_surviving : World → Command → World

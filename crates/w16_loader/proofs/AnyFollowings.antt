@@ -1,27 +1,8 @@
 -- Over any store the code follows references as some files have them.
-use Rattle.std.proofs.Common.{◌≡◌, ℕ, zero, suc, ◌+◌, ◌-◌, ◌<◌, ◌≤◌, inl, inr, Bool, true, false, nat_lt, List, [], ◌∷◌, ◌++◌, length, map, take, Option, Some, None, option_map, Ok, refl, sym, ap, ◌∙◌, subst, arith, add-one, ltb-true, ltb-false}
-use Rattle.std.specs.Prelude.{slice_get, position}
-use Rattle.std.specs.List.{AllZip}
-use Rattle.std.specs.Option.{option_or}
-use Rattle.std.proofs.lemmas.Bool.{lt-ltb}
-use Rattle.std.proofs.lemmas.List.{length-append, length-take-le, map-append, take_all}
-use Rattle.w16_store.specs.Names.{is_named}
-use Rattle.w16_loading.specs.File.{Format, ModuleFile, Tables}
-use Rattle.w16_loading.specs.Modules.{Modules, handle_named, free_modules}
+use Rattle.w16_loader.proofs.Common.{◌≡◌, ℕ, zero, suc, ◌+◌, ◌-◌, ◌<◌, ◌≤◌, inl, inr, Bool, true, false, nat_lt, List, [], ◌∷◌, ◌++◌, length, map, take, Option, Some, None, option_map, Ok, refl, sym, ap, ◌∙◌, subst, arith, add-one, ltb-true, ltb-false, slice_get, position, AllZip, option_or, lt-ltb, length-append, length-take-le, map-append, take_all, is_named, Format, ModuleFile, Tables, Modules, handle_named, free_modules, Around, dll, There, New, Meant, Read, AnyCloses, with_files, Found, Referent, Bound, Followed, Files, around_in, found_in, meant_in, referent_of, references_of, left_from, bound_in, LeadsSomewhere, references_at, found_after, referent_after, AreGood, said_by, any_format, ClosesAny, IsFoundOf, Begins, reached_of, closed_of, LeadsAny, IsSomeClosure}
 use Rattle.w16_loading.specs.Closure as closing
-use Rattle.w16_loading.specs.Closure.{Around, dll}
-use Rattle.w16_loading.specs.Closure.Referent.{There, New}
-use Rattle.w16_loading.specs.Closure.Reading.{Meant, Read}
-use Rattle.w16_loading.specs.AnyStore.{AnyCloses, with_files}
-use Rattle.w16_loader.specs.declared.found.Found.{Found}
-use Rattle.w16_loader.specs.declared.found.Referent.{Referent}
-use Rattle.w16_loader.specs.declared.closure.Bound.{Bound}
 use Rattle.w16_loader.specs.declared.closure.Closure.{Closure}
-use Rattle.w16_loader.specs.declared.closure.Followed.{Followed}
 use Rattle.w16_loader.specs.declared.closure.Followed.TheVariants as leads
-use Rattle.w16_loader.specs.Closing.{Files, around_in, found_in, meant_in, referent_of}
-use Rattle.w16_loader.specs.Following.{references_of, left_from, bound_in, LeadsSomewhere, references_at, found_after, referent_after}
-use Rattle.w16_loader.specs.AnyClosing.{AreGood, said_by, any_format, ClosesAny, IsFoundOf, Begins, reached_of, closed_of, LeadsAny, IsSomeClosure}
 use Rattle.w16_loader.proofs.Files.{position_map, there}
 use Rattle.w16_loader.proofs.Readings.{is_new}
 use Rattle.w16_loader.proofs.Pending.{next_left, last_left, more_left, none_left, first_left}

@@ -1,10 +1,6 @@
 -- The format in which some file says whatever a load may have read.
-use Rattle.std.proofs.Common.{◌≡◌, ℕ, zero, suc, ◌<◌, ◌≤◌, List, [], ◌∷◌, All, Option, Some, None, MatchResult, refl, subst, arith}
-use Rattle.std.specs.Prelude.{slice_get}
-use Rattle.std.proofs.lemmas.List.Elements.{All-head, All-tail, All-nil}
-use Rattle.w16_loading.specs.File.{IsFormat, IsModuleFile}
+use Rattle.w16_loader.proofs.Common.{◌≡◌, ℕ, zero, suc, ◌<◌, ◌≤◌, List, [], ◌∷◌, All, Option, Some, None, MatchResult, refl, subst, arith, slice_get, All-head, All-tail, All-nil, IsFormat, IsModuleFile, IsGood, AreGood, said_by, any_format}
 use Rattle.w16_loading.specs.Closure as closing
-use Rattle.w16_loader.specs.AnyClosing.{IsGood, AreGood, said_by, any_format}
 
 pub good_at : (all : List closing.Found) → AreGood all → (place : ℕ) (f : closing.Found) → slice_get all place ≡ Some f → IsGood f
 good_at [] good place f e = cc

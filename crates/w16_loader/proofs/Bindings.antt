@@ -1,22 +1,6 @@
 -- Modules that get values, one after another.
-use Rattle.std.proofs.Common.{◌≡◌, ◌≢◌, ℕ, zero, suc, ◌+◌, ◌<◌, ◌≤◌, inl, inr, Bool, true, false, ◌||◌, List, [], ◌∷◌, length, map, drop, Option, Some, None, IsSomeAnd, refl, sym, ap, ◌∙◌, subst, arith, add-one, eq-eqb}
-use Rattle.std.specs.Prelude.{◌==◌, IfSome}
-use Rattle.std.specs.List.{AllZip}
-use Rattle.std.specs.Ordering.{nat_cmp}
-use Rattle.std.specs.Cmp.{nat_cmp_total}
+use Rattle.w16_loader.proofs.Common.{◌≡◌, ◌≢◌, ℕ, zero, suc, ◌+◌, ◌<◌, ◌≤◌, inl, inr, Bool, true, false, ◌||◌, List, [], ◌∷◌, length, map, drop, Option, Some, None, IsSomeAnd, refl, sym, ap, ◌∙◌, subst, arith, add-one, eq-eqb, ◌==◌, IfSome, AllZip, nat_cmp, nat_cmp_total, FinMap, same_map, nat_cmp-IsAntisymmetric, cases_eq, false≢true, is_member, inserted_here, inserted_other, taken_other, Far, ModuleFile, Target, targets_of, without_values, Lookup, Module, Modules, Named, module_at, module_in, value_of, Loaded, BuiltIn, loaded_is, values_law, Files, AreSaid, AreTargets, IsForEach, IsSaid, all_bound, bound_as, values_for, with_values}
 use Rattle.std.specs.FinMap as finmap
-use Rattle.std.specs.FinMap.{FinMap, same_map, nat_cmp-IsAntisymmetric}
-use Rattle.std.proofs.lemmas.Bool.{cases_eq, false≢true}
-use Rattle.w16_model.specs.Discards.{is_member}
-use Rattle.w16_model.proofs.KeptHeaps.{inserted_here, inserted_other, taken_other}
-use Rattle.w16_loading.specs.File.{Far, ModuleFile, Target, targets_of}
-use Rattle.w16_loading.specs.Law.{without_values}
-use Rattle.w16_loading.specs.Modules.{Lookup, Module, Modules, Named, module_at, module_in, value_of}
-use Rattle.w16_loading.specs.Modules.Named.{Loaded, BuiltIn}
-use Rattle.w16_loading.proofs.Given.{loaded_is}
-use Rattle.w16_loading.proofs.Values.{values_law}
-use Rattle.w16_loader.specs.Closing.{Files}
-use Rattle.w16_loader.specs.Binding.{AreSaid, AreTargets, IsForEach, IsSaid, all_bound, bound_as, values_for, with_values}
 
 -- look-ups that differ in values alone
 abbrev pub AreAlike : Lookup → Lookup → Type 0

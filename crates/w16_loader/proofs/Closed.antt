@@ -1,48 +1,12 @@
 -- The new modules of a load, bound and filled, are what loading says of its closure.
-use Rattle.std.proofs.Common.{◌≡◌, ◌≢◌, ℕ, ◌+◌, ◌<◌, ◌≤◌, inl, inr, ◌⊎◌, true, false, List, [], ◌∷◌, ◌++◌, length, map, fold, zip, flat_map, All, AllPairs, slice_index_or, option_map, unwrap_or, Option, Some, None, IfOk, OnErr, IfSome, IsSomeAnd, Result, Ok, Err, MatchResult, refl, sym, ap, ◌∙◌, subst, arith}
-use Rattle.std.specs.List.{AllByRecursion as Each, AllZip}
+use Rattle.w16_loader.proofs.Common.{◌≡◌, ◌≢◌, ℕ, ◌+◌, ◌<◌, ◌≤◌, inl, inr, ◌⊎◌, true, false, List, [], ◌∷◌, ◌++◌, length, map, fold, zip, flat_map, All, AllPairs, slice_index_or, option_map, unwrap_or, Option, Some, None, IfOk, OnErr, IfSome, IsSomeAnd, Result, Ok, Err, MatchResult, refl, sym, ap, ◌∙◌, subst, arith, AllZip, length-map, All-from_recursion, file_of, is_member, AreHandles, is_member-true, true-is_member, cases_Bool, false≢true, Heap, Object, object_at, Owned, owned_at, Member, EachPair, Each-at, Each-from_All, EachPair-from_AllPairs, Far, ModuleFile, IsModuleFile, Segment, SegmentData, targets_of, FillsOne, InTurn, is_of_device, Closure, are_sound, LoadingWorld, Lookup, Module, Modules, Named, module_in, module_at, value_of, with_heap, Loaded, BuiltIn, without_module, Choice, Given, given, given_from, with_modules, with_segment, segments_of, unbound, bound, named, fills, FetchFault, Answer, Fulfils, outcome_of, refusal_of, undone, left, Says, StoreFails, IsItsFiles, without_values, same_values, undone_law, sound_values, named_new, given_slots_apart, given_found, given_handle, given_long, given_segment, put_all, put_here, ne_format, is_format, BindFault, AreSaid, IsBindFailure, IsSaid, all_bound, Files, found_in, said, closed_in, AreItsFiles, AreReadAs, AreUnfilled, IsReadAs, IsUnfilled, fills_with, slots_at, IsOfFile, LoadsClosed, answer_in, failed_by, of_fault, IsUnbound}
+use Rattle.std.specs.List.{AllByRecursion as Each}
 use Rattle.std.specs.FinMap as finmap
-use Rattle.std.proofs.lemmas.List.{length-map}
-use Rattle.std.proofs.lemmas.List.Elements.{All-from_recursion}
-use Rattle.w16_store.specs.Files.{file_of}
-use Rattle.w16_model.specs.Discards.{is_member}
-use Rattle.w16_model.specs.Handles.{AreHandles}
-use Rattle.w16_model.proofs.Discards.{is_member-true, true-is_member}
-use Rattle.std.proofs.lemmas.Bool.{cases_Bool, false≢true}
-use Rattle.w16_model.specs.Heap.{Heap, Object, object_at}
-use Rattle.w16_model.specs.declared.Owned.{Owned}
-use Rattle.w16_model.specs.Owned.{owned_at}
-use Rattle.w16_model.proofs.Gaps.{Member, EachPair, Each-at, Each-from_All, EachPair-from_AllPairs}
-use Rattle.w16_loading.specs.File.{Far, ModuleFile, IsModuleFile, Segment, SegmentData, targets_of}
 use Rattle.w16_loading.specs.Fill as loading
-use Rattle.w16_loading.specs.Fill.{FillsOne, InTurn, is_of_device}
-use Rattle.w16_loading.specs.Closure.{Closure, Found, are_sound}
-use Rattle.w16_loading.specs.Modules.{LoadingWorld, Lookup, Module, Modules, Named, module_in, module_at, value_of, with_heap}
-use Rattle.w16_loading.specs.Modules.Named.{Loaded, BuiltIn}
-use Rattle.w16_loading.specs.Free.{without_module}
-use Rattle.w16_loading.specs.Naming.{Choice, Given, given, given_from, with_modules, with_segment, segments_of, unbound, bound, named, fills}
-use Rattle.w16_loading.specs.declared.FetchFault.{FetchFault}
+use Rattle.w16_loading.specs.Closure.{Found}
 use Rattle.w16_loading.specs.declared.FetchFault.TheVariants as fetches
-use Rattle.w16_loading.specs.Load.{Answer, Fulfils, outcome_of, refusal_of, undone, left}
-use Rattle.w16_loading.specs.Load.Answer.{Says, StoreFails}
-use Rattle.w16_loading.specs.Law.{IsItsFiles, without_values}
-use Rattle.w16_loading.proofs.Absences.{same_values}
-use Rattle.w16_loading.proofs.Undone.{undone_law}
-use Rattle.w16_loading.proofs.CodeLoads.{sound_values}
-use Rattle.w16_loading.proofs.LoadWorlds.{named_new}
-use Rattle.w16_loading.proofs.Named.{given_slots_apart}
-use Rattle.w16_loading.proofs.Given.{given_found, given_handle, given_long, given_segment, put_all, put_here}
-use Rattle.w16_format.specs.Ne.{ne_format}
-use Rattle.w16_format.proofs.Files.{is_format}
-use Rattle.w16_loader.specs.declared.binding.BindFault.{BindFault}
 use Rattle.w16_loader.specs.declared.binding.BindFault.TheVariants as binds
-use Rattle.w16_loader.specs.Binding.{AreSaid, IsBindFailure, IsSaid, all_bound}
 use Rattle.w16_loader.specs.declared.closure.Closure as kept
-use Rattle.w16_loader.specs.Closing.{Files, found_in, said}
-use Rattle.w16_loader.specs.Following.{closed_in}
-use Rattle.w16_loader.specs.Filling.{AreItsFiles, AreReadAs, AreUnfilled, IsReadAs, IsUnfilled, fills_with, slots_at}
-use Rattle.w16_loader.specs.Loading.{IsOfFile, LoadsClosed, answer_in, failed_by, of_fault}
-use Rattle.w16_loader.specs.Naming.{IsUnbound}
 use Rattle.w16_loader.proofs.Undoing.{undone_by_release}
 use Rattle.w16_loader.proofs.Fulfilled.{all_bound_are, fills_are, last, targets_in}
 

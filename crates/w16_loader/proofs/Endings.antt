@@ -1,30 +1,6 @@
 -- Modules go with the objects of their segments.
-use Rattle.std.proofs.Common.{◌≡◌, ℕ, suc, ◌+◌, ◌*◌, ◌-◌, ◌/◌, ◌<◌, inl, inr, Bool, true, false, cond, not, ◌||◌, ◌==◌, if◌then◌else◌, List, [], ◌∷◌, length, get_or, drop, Option, Some, None, IfSome, option_map, unwrap_or, is_some, refl, sym, ap, ◌∙◌, subst, add-one, arith, eq-eqb, ne_eqb}
-use Rattle.std.specs.Ordering.{nat_cmp}
-use Rattle.std.specs.Cmp.{nat_cmp_total}
+use Rattle.w16_loader.proofs.Common.{◌≡◌, ℕ, suc, ◌+◌, ◌*◌, ◌-◌, ◌/◌, ◌<◌, inl, inr, Bool, true, false, cond, not, ◌||◌, ◌==◌, if◌then◌else◌, List, [], ◌∷◌, length, get_or, drop, Option, Some, None, IfSome, option_map, unwrap_or, is_some, refl, sym, ap, ◌∙◌, subst, add-one, arith, eq-eqb, ne_eqb, nat_cmp, nat_cmp_total, from_bool, FinMap, len-entries, len-remove, drop-cons, false≢true, cases_eq, Kind, Fixed, Moveable, Discardable, is_member, Object, object_at, is_in_order, Handles, AreHandles, handle_of, slot_of_handle, without_slot, Member, taken_here, taken_other, at_once, without_out, LoadingWorld, Module, Modules, Named, is_idle, module_at, module_in, with_handles, without_objects, EndsUse, Go, used_less, without_module, same_values, none_gone, world_without, there_entry, retained, in_world}
 use Rattle.std.specs.FinMap as finmap
-use Rattle.std.specs.Int.{from_bool}
-use Rattle.std.specs.FinMap.{FinMap, len-entries, len-remove}
-use Rattle.std.proofs.Math.Seq.{drop-cons}
-use Rattle.std.proofs.lemmas.Bool.{false≢true, cases_eq}
-use Rattle.w16_model.specs.declared.Kind.{Kind}
-use Rattle.w16_model.specs.declared.Kind.TheVariants.{Fixed, Moveable, Discardable}
-use Rattle.w16_model.specs.Discards.{is_member}
-use Rattle.w16_model.specs.Heap.{Object, object_at, is_in_order}
-use Rattle.w16_model.specs.Handles.{Handles, AreHandles, handle_of, slot_of_handle}
-use Rattle.w16_model.specs.Owned.{without_slot}
-use Rattle.w16_model.proofs.Gaps.{Member}
-use Rattle.w16_model.proofs.KeptHeaps.{taken_here, taken_other}
-use Rattle.w16_model.proofs.KeptRest.{at_once}
-use Rattle.w16_model.proofs.KindChanges.{without_out}
-use Rattle.w16_loading.specs.Modules.{LoadingWorld, Module, Modules, Named, is_idle, module_at, module_in, with_handles}
-use Rattle.w16_loading.specs.Release.{without_objects}
-use Rattle.w16_loading.specs.Free.{EndsUse, Go, used_less, without_module}
-use Rattle.w16_loading.proofs.Absences.{same_values, none_gone}
-use Rattle.w16_loading.proofs.Bound.{world_without}
-use Rattle.w16_loading.proofs.Importers.{there_entry}
-use Rattle.w16_loading.proofs.Undone.{retained}
-use Rattle.w16_loader.specs.Registry.{in_world}
 
 -- A slot whose object goes, by either of its handles.
 

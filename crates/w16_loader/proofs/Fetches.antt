@@ -1,42 +1,9 @@
 -- What a fetch of a segment comes to: over any store, over a file that says what it said at load, and in a world of its files.
-use Rattle.std.proofs.Common.{◌≡◌, ℕ, ◌-◌, ◌<◌, ◌≤◌, inl, inr, true, false, cond, List, [], length, map, All, Option, Some, None, IsSomeAnd, MatchOption, MatchResult, is_some, option_map, slice_get, slice_index_or, Result, Ok, Err, refl, sym, ap, ◌∙◌, subst, arith, ne_eqb, lit<}
-use Rattle.std.proofs.lemmas.Bool.{false≢true}
-use Rattle.std.proofs.lemmas.List.{length-map}
-use Rattle.std.proofs.lemmas.Option.{slice_get-map, slice_get_cases, get_or_from_slice_get}
-use Rattle.std.proofs.lemmas.Slice.Zip.{AllZip-left}
-use Rattle.w16_model.specs.Bytes.{repeated}
-use Rattle.w16_model.specs.declared.Owned.{Owned}
-use Rattle.w16_model.specs.Handles.{Handles}
-use Rattle.w16_model.specs.Heap.{bytes_at}
-use Rattle.w16_model.specs.Owned.{Revives, owned_at, is_owned}
-use Rattle.w16_model.proofs.Parts.{length-repeated, All-repeated}
+use Rattle.w16_loader.proofs.Common.{◌≡◌, ℕ, ◌-◌, ◌<◌, ◌≤◌, inl, inr, true, false, cond, List, [], length, map, All, Option, Some, None, IsSomeAnd, MatchOption, MatchResult, is_some, option_map, slice_get, slice_index_or, Result, Ok, Err, refl, sym, ap, ◌∙◌, subst, arith, ne_eqb, lit<, false≢true, length-map, slice_get-map, slice_get_cases, get_or_from_slice_get, AllZip-left, repeated, Owned, Handles, bytes_at, Revives, owned_at, is_owned, length-repeated, All-repeated, tables_at, RelocFault, Record, Held, checked, data_of, IsImage, naming, FetchFault, Store, Damaged, NoRoom, AnyFetches, IsOwnedSize, FetchesCounted, read_of, segment_bytes, Far, ModuleFile, SegmentData, IsModuleFile, IsSegmentData, numbered, Fills, FillsOne, is_of_device, is_of_read, IsItsFiles, IsObjectOf, LoadingWorld, Module, of_segment, data_in, target_of, targets_in, far_of, IsFileOf, IsRelocated, ne_format, module_file, segment_in, accepted, has_room, is_format, stored_law, is_relocated, words_same, file_of, Files, GivesBytes, IsFetchable, IsSoundIn, IsWritten, fault_in, image_in}
 use Rattle.w16_ne.specs.declared.segment_table.Segment.{Segment}
-use Rattle.w16_ne.specs.Modules.{Tables, tables_at}
-use Rattle.w16_reloc.specs.declared.fault.RelocFault.{RelocFault}
-use Rattle.w16_reloc.specs.declared.record.Record.{Record}
+use Rattle.w16_ne.specs.Modules.{Tables}
 use Rattle.w16_reloc.specs.declared.value.Far as words
-use Rattle.w16_reloc.specs.Segments.{Held, checked, data_of}
-use Rattle.w16_reloc.specs.Images.{IsImage}
-use Rattle.w16_reloc.specs.Naming.{naming}
-use Rattle.w16_loading.specs.declared.FetchFault.{FetchFault}
-use Rattle.w16_loading.specs.declared.FetchFault.TheVariants.{Store, Damaged, NoRoom}
-use Rattle.w16_loading.specs.AnyStore.{AnyFetches, IsOwnedSize}
-use Rattle.w16_loading.specs.Fetch.{FetchesCounted, read_of, segment_bytes}
 use Rattle.w16_loading.specs.File as loading
-use Rattle.w16_loading.specs.File.{Far, ModuleFile, SegmentData, IsModuleFile, IsSegmentData, numbered}
-use Rattle.w16_loading.specs.Fill.{Fills, FillsOne, is_of_device, is_of_read}
-use Rattle.w16_loading.specs.Law.{IsItsFiles, IsObjectOf}
-use Rattle.w16_loading.specs.Modules.{LoadingWorld, Module}
-use Rattle.w16_loading.proofs.Owners.{of_segment}
-use Rattle.w16_format.specs.Data.{data_in, target_of, targets_in, far_of}
-use Rattle.w16_format.specs.Law.{IsFileOf, IsRelocated}
-use Rattle.w16_format.specs.Ne.{ne_format, module_file}
-use Rattle.w16_format.specs.Tables.{segment_in}
-use Rattle.w16_format.proofs.Files.{accepted, has_room, is_format, stored_law}
-use Rattle.w16_format.proofs.Relocated.{is_relocated, words_same}
-use Rattle.w16_store.specs.Files.{file_of}
-use Rattle.w16_loader.specs.Closing.{Files}
-use Rattle.w16_loader.specs.Fetching.{GivesBytes, IsFetchable, IsSoundIn, IsWritten, fault_in, image_in}
 use Rattle.w16_loader.proofs.Giving.{none_filled}
 
 -- Over any store.

@@ -1,12 +1,6 @@
 -- A load finds modules behind those that it had, and no more than handles are free.
-use Rattle.std.proofs.Common.{◌≡◌, ℕ, ◌<◌, ◌+◌, inl, inr, List, [], ◌∷◌, ◌++◌, length, sym, ap, ◌∙◌, subst, arith}
-use Rattle.std.proofs.lemmas.List.{length-append, append-nil, append_assoc}
-use Rattle.w16_loading.specs.Modules.{Modules, free_modules}
-use Rattle.w16_loading.specs.Closure.{dll}
-use Rattle.w16_loader.specs.declared.found.Found.{Found}
-use Rattle.w16_loader.specs.declared.closure.Followed.{Followed}
+use Rattle.w16_loader.proofs.Common.{◌≡◌, ℕ, ◌<◌, ◌+◌, inl, inr, List, [], ◌∷◌, ◌++◌, length, sym, ap, ◌∙◌, subst, arith, length-append, append-nil, append_assoc, Modules, free_modules, dll, Found, Followed, FindsFew, LeadsByName, LeadsByFile, LeadsSomewhere, found_after}
 use Rattle.w16_loader.specs.declared.closure.Followed.TheVariants as leads
-use Rattle.w16_loader.specs.Following.{FindsFew, LeadsByName, LeadsByFile, LeadsSomewhere, found_after}
 
 module _ {A : Type 0} (modules : Modules) where
   pub few_same : (found : List (Found A)) → FindsFew modules found found

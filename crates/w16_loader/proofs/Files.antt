@@ -1,31 +1,12 @@
 -- What a load makes of names and of files.
-use Rattle.std.proofs.Common.{◌≡◌, ℕ, zero, suc, ◌+◌, ◌<◌, ◌≤◌, Bool, true, not, cond, ◌&&◌, List, [], ◌∷◌, length, map, drop, Option, Some, None, option_map, Result, Ok, Err, refl, sym, ap, ◌∙◌, arith, add-one}
-use Rattle.std.specs.Prelude.{nat_lt, position, is_ok, slice_get}
-use Rattle.std.specs.List.{prefix_len, position_or_len, list_all}
-use Rattle.std.specs.Option.{option_or}
-use Rattle.std.proofs.lemmas.List.{length-map, drop_all}
-use Rattle.w16_store.specs.declared.store.StoreFault.{StoreFault}
+use Rattle.w16_loader.proofs.Common.{◌≡◌, ℕ, zero, suc, ◌+◌, ◌<◌, ◌≤◌, Bool, true, not, cond, ◌&&◌, List, [], ◌∷◌, length, map, drop, Option, Some, None, option_map, Result, Ok, Err, refl, sym, ap, ◌∙◌, arith, add-one, nat_lt, position, is_ok, slice_get, prefix_len, position_or_len, list_all, option_or, length-map, drop_all, StoreFault, is_named, HasBytes, IsHonestFault, length_of, NeFault, tables_at, Modules, handle_named, There, New, are_sound, RelocFault, Held, Refuses, checked, module_file, accepted, refused, sound_law, Found, Files, around_in, found_in, said, fault_of, fault_of_check, IsRead, IsFault, IsUnsound}
 use Rattle.w16_store.specs.declared.store.StoreFault.TheVariants as stores
-use Rattle.w16_store.specs.Names.{is_named}
-use Rattle.w16_store.specs.Files.{HasBytes, IsHonestFault, length_of}
-use Rattle.w16_ne.specs.declared.fault.NeFault.{NeFault}
 use Rattle.w16_ne.specs.declared.fault.NeFault.TheVariants as faults
 use Rattle.w16_ne.specs.Reading as ne_reading
 use Rattle.w16_ne.specs.declared.segment_table.Segment.{Segment}
 use Rattle.w16_ne.specs.Modules as ne
-use Rattle.w16_ne.specs.Modules.{tables_at}
-use Rattle.w16_loading.specs.Modules.{Modules, handle_named}
 use Rattle.w16_loading.specs.Closure as closing
-use Rattle.w16_loading.specs.Closure.Referent.{There, New}
-use Rattle.w16_loading.specs.Closure.{are_sound}
-use Rattle.w16_reloc.specs.declared.fault.RelocFault.{RelocFault}
 use Rattle.w16_reloc.specs.declared.fault.RelocFault.TheVariants as relocs
-use Rattle.w16_reloc.specs.Segments.{Held, Refuses, checked}
-use Rattle.w16_format.specs.Ne.{module_file}
-use Rattle.w16_format.proofs.Files.{accepted, refused}
-use Rattle.w16_format.proofs.Fetched.{sound_law}
-use Rattle.w16_loader.specs.declared.found.Found.{Found}
-use Rattle.w16_loader.specs.Closing.{Files, around_in, found_in, said, fault_of, fault_of_check, IsRead, IsFault, IsUnsound}
 
 -- Names.
 

@@ -1,23 +1,8 @@
 -- What gets bytes in turn: of one segment and then of the others, and of one module and then of the others.
-use Rattle.std.proofs.Common.{◌≡◌, ◌≢◌, ℕ, zero, suc, ◌+◌, ◌<◌, ◌≤◌, Bool, true, false, cond, ◌||◌, List, [], ◌∷◌, ◌++◌, length, drop, flat_map, All, Option, Some, None, IfSome, IsSomeAnd, MatchOption, get_or, option_map, unwrap_or, slice_get, Result, Ok, Err, inl, inr, refl, sym, ap, ◌∙◌, subst, arith, add-one}
-use Rattle.std.specs.List.{AllZip, AllByRecursion as Each}
-use Rattle.std.proofs.lemmas.List.{drop_all}
-use Rattle.std.proofs.lemmas.Slice.Zip.{AllZip-left}
-use Rattle.w16_model.specs.Handles.{Handles}
-use Rattle.w16_model.specs.Heap.{Heap, is_fixed}
-use Rattle.w16_model.proofs.Gaps.{Member, EachPair, Each-at, Each-from, Each-from_All, All-from_Each, EachPair-from_AllPairs, AllPairs-from_EachPair}
-use Rattle.w16_loading.specs.declared.FetchFault.{FetchFault}
-use Rattle.w16_loading.specs.File.{ModuleFile, Segment, Tables}
-use Rattle.w16_loading.specs.Fill.{Failure, Filling, Giving, InTurn}
-use Rattle.w16_loading.specs.Modules.{Module, Modules, module_at}
-use Rattle.w16_loading.specs.Naming.{fills_from}
-use Rattle.w16_loading.proofs.Given.{first_apart, one_place, place_member}
-use Rattle.w16_loading.proofs.Named.{apart_after}
-use Rattle.w16_loading.proofs.Undone.{in_first, in_second}
+use Rattle.w16_loader.proofs.Common.{◌≡◌, ◌≢◌, ℕ, zero, suc, ◌+◌, ◌<◌, ◌≤◌, Bool, true, false, cond, ◌||◌, List, [], ◌∷◌, ◌++◌, length, drop, flat_map, All, Option, Some, None, IfSome, IsSomeAnd, MatchOption, get_or, option_map, unwrap_or, slice_get, Result, Ok, Err, inl, inr, refl, sym, ap, ◌∙◌, subst, arith, add-one, AllZip, drop_all, AllZip-left, Handles, Heap, is_fixed, Member, EachPair, Each-at, Each-from, Each-from_All, All-from_Each, EachPair-from_AllPairs, AllPairs-from_EachPair, FetchFault, ModuleFile, Segment, Tables, Failure, Filling, Giving, InTurn, Module, Modules, module_at, fills_from, first_apart, one_place, place_member, apart_after, in_first, in_second, fault_in, Part, AreUnfilled, HasUnfilled, IsReadAs, IsUnfilled, failure_at, fills_in, fills_of_part, fills_with, slots_at}
+use Rattle.std.specs.List.{AllByRecursion as Each}
 use Rattle.w16_loader.proofs.Files.{there}
 use Rattle.w16_loader.proofs.Giving.{some_at}
-use Rattle.w16_loader.specs.Fetching.{fault_in}
-use Rattle.w16_loader.specs.Filling.{Part, AreUnfilled, HasUnfilled, IsReadAs, IsUnfilled, failure_at, fills_in, fills_of_part, fills_with, slots_at}
 
 -- Turns.
 

@@ -1,24 +1,10 @@
 -- What the code has reached, reference by reference.
-use Rattle.std.proofs.Common.{◌≡◌, ℕ, zero, suc, ◌+◌, ◌-◌, ◌<◌, ◌≤◌, Bool, true, false, nat_lt, List, [], ◌∷◌, ◌++◌, length, map, Some, None, option_map, Ok, Err, refl, sym, ap, ◌∙◌, subst, arith, add-one, ltb-true, ltb-false}
-use Rattle.std.specs.Prelude.{slice_get, slice_index_or}
-use Rattle.std.proofs.lemmas.List.{length-map, map-append}
-use Rattle.std.proofs.lemmas.Option.{slice_get-map}
-use Rattle.w16_loading.specs.File.{Format}
+use Rattle.w16_loader.proofs.Common.{◌≡◌, ℕ, zero, suc, ◌+◌, ◌-◌, ◌<◌, ◌≤◌, Bool, true, false, nat_lt, List, [], ◌∷◌, ◌++◌, length, map, Some, None, option_map, Ok, Err, refl, sym, ap, ◌∙◌, subst, arith, add-one, ltb-true, ltb-false, slice_get, slice_index_or, length-map, map-append, slice_get-map, Format, Around, Closes, New, Found, Bound, Followed, FileFault, MOST_MODULES, Modules, free_modules, Files, around_in, found_in, read_in, IsFault, Leads, references_of, left_from, bound_in, pending_in, closed_in, reached, with_followed, references_at, found_after, referent_after}
 use Rattle.w16_loading.specs.Closure as closing
-use Rattle.w16_loading.specs.Closure.{Around, Closes}
-use Rattle.w16_loading.specs.Closure.Referent.{New}
-use Rattle.w16_loader.specs.declared.found.Found.{Found}
-use Rattle.w16_loader.specs.declared.closure.Bound.{Bound}
 use Rattle.w16_loader.specs.declared.closure.Closure.{Closure}
-use Rattle.w16_loader.specs.declared.closure.Followed.{Followed}
 use Rattle.w16_loader.specs.declared.closure.Followed.TheVariants as leads
-use Rattle.w16_loader.specs.declared.found.FileFault.{FileFault}
 use Rattle.w16_loader.specs.declared.found.FileFault.TheVariants as faults
 use Rattle.std.specs.FinMap as finmap
-use Rattle.w16_loading.specs.declared.TheConstants.{MOST_MODULES}
-use Rattle.w16_loading.specs.Modules.{Modules, free_modules}
-use Rattle.w16_loader.specs.Closing.{Files, around_in, found_in, read_in, IsFault}
-use Rattle.w16_loader.specs.Following.{Leads, references_of, left_from, bound_in, pending_in, closed_in, reached, with_followed, references_at, found_after, referent_after}
 use Rattle.w16_loader.proofs.Pending.{next_left, last_left, more_left, none_left, first_left}
 use Rattle.w16_loader.proofs.Files.{there}
 use Rattle.w16_loader.proofs.Steps.{leads_on, leads_both, refuses, closed}

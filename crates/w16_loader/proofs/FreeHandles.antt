@@ -1,18 +1,8 @@
 -- The lowest free handles.
-use Rattle.std.proofs.Common.{◌≡◌, ◌≢◌, ℕ, zero, suc, ◌+◌, ◌-◌, ◌<◌, ◌≤◌, Bool, true, false, not, is_some, cond, IsTrue, List, [], ◌∷◌, ◌++◌, length, get_or, take, drop, filter, Option, Some, None, All, AllPairs, refl, sym, ap, ◌∙◌, subst, arith, add-one, drop-cons}
-use Rattle.std.specs.Prelude.{option_map, is_none, count_by}
-use Rattle.std.specs.List.{AllByRecursion as Each, range_with_len}
+use Rattle.w16_loader.proofs.Common.{◌≡◌, ◌≢◌, ℕ, zero, suc, ◌+◌, ◌-◌, ◌<◌, ◌≤◌, Bool, true, false, not, is_some, cond, IsTrue, List, [], ◌∷◌, ◌++◌, length, get_or, take, drop, filter, Option, Some, None, All, AllPairs, refl, sym, ap, ◌∙◌, subst, arith, add-one, option_map, is_none, count_by, range_with_len, false≢true, append-nil, append_assoc, take-append-le, take_all, drop_all, length-take-le, sum_by-cons, Member, EachPair, Each-from, Each-from_All, All-from_Each, EachPair-from_AllPairs, AllPairs-from_EachPair, pairs_filter, member_filter, FIRST_MODULE, MOST_MODULES, Modules, Named, IsFreeModule, free_modules, Entry, named_of, free_handles, registered, IsTable}
+use Rattle.std.proofs.Common.{drop-cons}
+use Rattle.std.specs.List.{AllByRecursion as Each}
 use Rattle.std.specs.FinMap as finmap
-use Rattle.std.proofs.lemmas.Bool.{false≢true}
-use Rattle.std.proofs.lemmas.List.{append-nil, append_assoc, take-append-le, take_all, drop_all, length-take-le}
-use Rattle.std.proofs.lemmas.List.Sums.{sum_by-cons}
-use Rattle.w16_model.proofs.Gaps.{Member, EachPair, Each-from, Each-from_All, All-from_Each, EachPair-from_AllPairs, AllPairs-from_EachPair, pairs_filter, member_filter}
-use Rattle.w16_loading.specs.declared.TheConstants.{FIRST_MODULE, MOST_MODULES}
-use Rattle.w16_loading.specs.Modules.{Modules, Named, IsFreeModule, free_modules}
-use Rattle.w16_loader.specs.declared.entry.Entry.{Entry}
-use Rattle.w16_loader.specs.Entries.{named_of}
-use Rattle.w16_loader.specs.Naming.{free_handles}
-use Rattle.w16_loader.specs.Registry.{registered, IsTable}
 use Rattle.w16_loader.proofs.Registered.{named_at, free_are}
 use Rattle.w16_loader.proofs.Takings.{in_range}
 

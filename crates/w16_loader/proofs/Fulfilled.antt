@@ -1,20 +1,9 @@
 -- Modules bound and filled one after another are those that loading binds and fills at once.
-use Rattle.std.proofs.Common.{◌≡◌, ◌≢◌, ℕ, suc, ◌+◌, inl, inr, List, [], ◌∷◌, ◌++◌, length, map, Option, Some, None, IsSomeAnd, refl, sym, ap, ◌∙◌, arith}
+use Rattle.w16_loader.proofs.Common.{◌≡◌, ◌≢◌, ℕ, suc, ◌+◌, inl, inr, List, [], ◌∷◌, ◌++◌, length, map, Option, Some, None, IsSomeAnd, refl, sym, ap, ◌∙◌, arith, cases_eq, Member, EachPair, Each-at, inserted_here, inserted_other, Far, SegmentData, Target, targets_of, Filling, Lookup, Module, Modules, Named, module_in, module_at, value_of, Loaded, Given, given_from, with_modules, fills_from, fills_of, same_values, given_handle, put_all, values_for, bound_as, all_bound, fills_with}
 use Rattle.std.specs.List.{AllByRecursion as Each, flat_map}
 use Rattle.std.specs.FinMap as finmap
-use Rattle.std.proofs.lemmas.Bool.{cases_eq}
-use Rattle.w16_model.proofs.Gaps.{Member, EachPair, Each-at}
-use Rattle.w16_model.proofs.KeptHeaps.{inserted_here, inserted_other}
-use Rattle.w16_loading.specs.File.{Far, SegmentData, Target, targets_of}
-use Rattle.w16_loading.specs.Fill.{Filling}
 use Rattle.w16_loading.specs.Closure.{Found}
-use Rattle.w16_loading.specs.Modules.{Lookup, Module, Modules, Named, module_in, module_at, value_of}
-use Rattle.w16_loading.specs.Modules.Named.{Loaded}
-use Rattle.w16_loading.specs.Naming.{Given, given_from, with_modules, bound_in, fills_from, fills_of}
-use Rattle.w16_loading.proofs.Absences.{same_values}
-use Rattle.w16_loading.proofs.Given.{given_handle, put_all}
-use Rattle.w16_loader.specs.Binding.{values_for, bound_as, all_bound}
-use Rattle.w16_loader.specs.Filling.{fills_with}
+use Rattle.w16_loading.specs.Naming.{bound_in}
 
 -- Modules under other handles than one that is put.
 

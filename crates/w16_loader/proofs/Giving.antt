@@ -1,19 +1,5 @@
 -- An object that was revived and then written has what was written; one that couldn't be revived has no room for any bytes.
-use Rattle.std.proofs.Common.{◌≡◌, ℕ, ◌<◌, true, false, IsSomeAnd, List, length, All, Option, Some, None, refl, sym, ap, ◌∙◌, subst}
-use Rattle.std.proofs.lemmas.Bool.{false≢true}
-use Rattle.w16_model.specs.declared.Kind.{Kind}
-use Rattle.w16_model.specs.declared.Owned.{Owned}
-use Rattle.w16_model.specs.Changes.{with_newest}
-use Rattle.w16_model.specs.Far.{after_write}
-use Rattle.w16_model.specs.Handles.{Handles}
-use Rattle.w16_model.specs.Heap.{Heap, Object, object_at, bytes_at}
-use Rattle.w16_model.specs.Owned.{Revives, owned_at, revival_options}
-use Rattle.w16_model.specs.Request.{Allocates, Request, IsNew, AreNew, discarded, discards_needed}
-use Rattle.w16_model.proofs.KeptHeaps.{inserted_here}
-use Rattle.w16_global.specs.Lent.{Lends}
-use Rattle.w16_loading.specs.Fill.{Fills}
-use Rattle.w16_loading.proofs.Filled.{fill_law}
-use Rattle.w16_loader.specs.Fetching.{GivesBytes}
+use Rattle.w16_loader.proofs.Common.{◌≡◌, ℕ, ◌<◌, true, false, IsSomeAnd, List, length, All, Option, Some, None, refl, sym, ap, ◌∙◌, subst, false≢true, Kind, Owned, with_newest, after_write, Handles, Heap, Object, object_at, bytes_at, Revives, owned_at, revival_options, Allocates, Request, IsNew, AreNew, discarded, discards_needed, inserted_here, Lends, Fills, fill_law, GivesBytes}
 
 pub some_at : {A : Type 0} (P : A → Type 0) (p : Option A) → IsSomeAnd p P → (a : A) × (p ≡ Some a) × P a
 some_at P None h = absurd h

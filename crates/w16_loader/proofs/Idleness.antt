@@ -1,22 +1,6 @@
 -- Which module nobody uses, by what its table marks.
-use Rattle.std.proofs.Common.{◌≡◌, ℕ, suc, ◌+◌, ◌<◌, ◌≤◌, inl, inr, Bool, true, false, cond, not, ◌&&◌, ◌||◌, ◌==◌, nat_lt, List, [], ◌∷◌, length, get_or, drop, replicate, Option, Some, None, option_map, is_some, refl, sym, ap, ◌∙◌, subst, add-one, zero-add, arith}
-use Rattle.std.specs.Prelude.{IfSome, IfNone, count_by, find}
-use Rattle.std.specs.List.{list_any}
+use Rattle.w16_loader.proofs.Common.{◌≡◌, ℕ, suc, ◌+◌, ◌<◌, ◌≤◌, inl, inr, Bool, true, false, cond, not, ◌&&◌, ◌||◌, ◌==◌, nat_lt, List, [], ◌∷◌, length, get_or, drop, replicate, Option, Some, None, option_map, is_some, refl, sym, ap, ◌∙◌, subst, add-one, zero-add, arith, IfSome, IfNone, count_by, find, list_any, or_assoc, drop-cons, lt-ltb, get_or_past, get_or-replicate, sum_by-cons, by_id, Member, Named, imports, importers_among, is_idle, module_in, usage_with, Loaded, BuiltIn, entry_there, there_entry, Entry, named_of, listed, registered, imports_in, is_unused, is_imported, first_unused}
 use Rattle.std.specs.FinMap as finmap
-use Rattle.std.proofs.Math.Bool.{or_assoc}
-use Rattle.std.proofs.Math.Seq.{drop-cons}
-use Rattle.std.proofs.lemmas.Bool.{lt-ltb}
-use Rattle.std.proofs.lemmas.List.{get_or_past, get_or-replicate}
-use Rattle.std.proofs.lemmas.List.Sums.{sum_by-cons}
-use Rattle.w16_model.specs.Table.{by_id}
-use Rattle.w16_model.proofs.Gaps.{Member}
-use Rattle.w16_loading.specs.Modules.{Named, imports, importers_among, is_idle, module_in, usage_with}
-use Rattle.w16_loading.specs.Modules.Named.{Loaded, BuiltIn}
-use Rattle.w16_loading.proofs.Importers.{entry_there, there_entry}
-use Rattle.w16_loader.specs.declared.entry.Entry.{Entry}
-use Rattle.w16_loader.specs.Entries.{named_of}
-use Rattle.w16_loader.specs.Registry.{listed, registered}
-use Rattle.w16_loader.specs.Idle.{imports_in, is_unused, is_imported, first_unused}
 use Rattle.w16_loader.proofs.Listed.{listed_from}
 use Rattle.w16_loader.proofs.Registered.{named_at, entries_are}
 

@@ -1,14 +1,6 @@
 -- What the references of new modules mean, by module.
-use Rattle.std.proofs.Common.{◌≡◌, ◌≢◌, ℕ, ◌+◌, ◌<◌, ◌==◌, inl, inr, ◌⊎◌, cond, List, [], ◌∷◌, ◌++◌, length, get_or, set, map, filter, take, sym, ap, ◌∙◌, subst, eq-eqb, ne_eqb, arith}
-use Rattle.std.proofs.lemmas.Bool.{cases_eq, cases_lt}
-use Rattle.std.proofs.lemmas.List.{append-nil, map-append, take_more, get_or-map, get_or_past, get_or-set_same, get_or-set_other, length-set, length-map}
-use Rattle.std.proofs.lemmas.List.Elements.{filter-append}
+use Rattle.w16_loader.proofs.Common.{◌≡◌, ◌≢◌, ℕ, ◌+◌, ◌<◌, ◌==◌, inl, inr, ◌⊎◌, cond, List, [], ◌∷◌, ◌++◌, length, get_or, set, map, filter, take, sym, ap, ◌∙◌, subst, eq-eqb, ne_eqb, arith, cases_eq, cases_lt, append-nil, map-append, take_more, get_or-map, get_or_past, get_or-set_same, get_or-set_other, length-set, length-map, filter-append, handle_meant, Bound, referent_of, bound_in, imports_among}
 use Rattle.w16_loading.specs.Closure.{Referent}
-use Rattle.w16_loading.specs.Naming.{handle_meant}
-use Rattle.w16_loader.specs.declared.closure.Bound.{Bound}
-use Rattle.w16_loader.specs.Closing.{referent_of}
-use Rattle.w16_loader.specs.Following.{bound_in}
-use Rattle.w16_loader.specs.Naming.{imports_among}
 
 module _ (hs : List ℕ) (p : ℕ) where
   abbrev among : List (ℕ × Referent) → List ℕ

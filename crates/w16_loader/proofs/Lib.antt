@@ -1,3 +1,4 @@
+pub mod Common
 pub mod Fetches
 pub mod Giving
 pub mod Listed

@@ -1,9 +1,5 @@
 -- A table from a place on.
-use Rattle.std.proofs.Common.{ℕ, List, drop, Option}
-use Rattle.w16_model.specs.Table.{by_id}
-use Rattle.w16_loading.specs.Modules.{Named}
-use Rattle.w16_loader.specs.declared.entry.Entry.{Entry}
-use Rattle.w16_loader.specs.Entries.{named_of}
+use Rattle.w16_loader.proofs.Common.{ℕ, List, drop, Option, by_id, Named, Entry, named_of}
 
 module _ {A : Type 0} where
   abbrev pub listed_from : ℕ → List (Option (Entry A)) → List (ℕ × Named)

@@ -1,35 +1,12 @@
 -- What a load comes to, by what its file says and by what its closure is.
-use Rattle.std.proofs.Common.{◌≡◌, ℕ, ◌<◌, ◌≤◌, inl, inr, Bool, true, List, [], ◌∷◌, length, map, All, Option, Some, None, IfOk, Result, Ok, Err, MatchResult, option_map, ◌⊎◌, refl, sym, ap, ◌∙◌, subst, arith}
-use Rattle.std.specs.List.{AllByRecursion as Each, AllZip}
+use Rattle.w16_loader.proofs.Common.{◌≡◌, ℕ, ◌<◌, ◌≤◌, inl, inr, Bool, true, List, [], ◌∷◌, length, map, All, Option, Some, None, IfOk, Result, Ok, Err, MatchResult, option_map, ◌⊎◌, refl, sym, ap, ◌∙◌, subst, arith, AllZip, option_or, AllocError, All-from_recursion, file_of, Handles, Format, ModuleFile, FillsOne, is_of_device, LoadingWorld, Modules, handle_named, Closes, begun, around, are_sound, There, New, Refused, Meant, Read, Answer, Loads, LoadsBy, LoadsFile, LoadsNew, used_again, Says, StoreFails, read_by, read_cases, ne_format, Found, FileFault, LoadAnswer, Files, IsFault, around_in, found_in, reading_in, said, closed_in, IsFoundOf, IsClosureOf, LoadsCounted, LoadsClosed, IsOfFile, answer_in, in_store, refused_by}
+use Rattle.std.specs.List.{AllByRecursion as Each}
 use Rattle.std.specs.FinMap as finmap
-use Rattle.std.specs.Option.{option_or}
-use Rattle.std.specs.declared.alloc.AllocError.{AllocError}
-use Rattle.std.proofs.lemmas.List.Elements.{All-from_recursion}
-use Rattle.w16_store.specs.Files.{file_of}
-use Rattle.w16_model.specs.Handles.{Handles}
 use Rattle.w16_ne.specs.Modules as ne
-use Rattle.w16_loading.specs.File.{Format, ModuleFile}
-use Rattle.w16_loading.specs.Fill.{FillsOne, is_of_device}
-use Rattle.w16_loading.specs.Modules.{LoadingWorld, Modules, handle_named}
 use Rattle.w16_loading.specs.Closure as closing
-use Rattle.w16_loading.specs.Closure.{Closes, begun, around, are_sound}
-use Rattle.w16_loading.specs.Closure.Referent.{There, New}
-use Rattle.w16_loading.specs.Closure.Reading.{Refused, Meant, Read}
-use Rattle.w16_loading.specs.Load.{Answer, Loads, LoadsBy, LoadsFile, LoadsNew, used_again}
-use Rattle.w16_loading.specs.Load.Answer.{Says, StoreFails}
-use Rattle.w16_loading.proofs.Readings.{read_by, read_cases}
 use Rattle.w16_loading.proofs.CodeLoads as CodeLoads
-use Rattle.w16_format.specs.Ne.{ne_format}
-use Rattle.w16_loader.specs.declared.found.Found.{Found}
-use Rattle.w16_loader.specs.declared.found.FileFault.{FileFault}
 use Rattle.w16_loader.specs.declared.found.FileFault.TheVariants as faults
 use Rattle.w16_loader.specs.declared.closure.Closure.{Closure}
-use Rattle.w16_loader.specs.declared.loading.LoadAnswer.{LoadAnswer}
-use Rattle.w16_loader.specs.Closing.{Files, IsFault, around_in, found_in, reading_in, said}
-use Rattle.w16_loader.specs.Following.{closed_in}
-use Rattle.w16_loader.specs.AnyClosing.{IsFoundOf}
-use Rattle.w16_loader.specs.Naming.{IsClosureOf}
-use Rattle.w16_loader.specs.Loading.{LoadsCounted, LoadsClosed, IsOfFile, answer_in, in_store, refused_by}
 
 -- A load by what its file says.
 module _ (rest : LoadingWorld) (modules : Modules) (handles : Handles) (files : Files) (before : ℕ) (file : List ℕ) where

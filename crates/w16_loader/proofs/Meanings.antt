@@ -1,22 +1,10 @@
 -- What a name means is there.
-use Rattle.std.proofs.Common.{◌≡◌, ℕ, ◌<◌, inl, inr, Bool, true, false, cond, nat_lt, List, [], ◌∷◌, length, map, Option, Some, None, option_map, Result, Ok, Err, IfOk, refl, sym, ap, ◌∙◌, arith, ltb-true}
-use Rattle.std.specs.Prelude.{position}
-use Rattle.std.specs.List.{find, position_or_len}
-use Rattle.std.specs.Option.{option_or}
+use Rattle.w16_loader.proofs.Common.{◌≡◌, ℕ, ◌<◌, inl, inr, Bool, true, false, cond, nat_lt, List, [], ◌∷◌, length, map, Option, Some, None, option_map, Result, Ok, Err, IfOk, refl, sym, ap, ◌∙◌, arith, ltb-true, position, position_or_len, option_or, length-map, Member, is_named, entry_there, Modules, Named, name_of, handle_named, There, New, Found, FileFault, Reading, found_in, meant_in, IsNewOrMeant, IsThere}
+use Rattle.std.specs.List.{find}
 use Rattle.std.specs.FinMap as finmap
-use Rattle.std.proofs.lemmas.List.{length-map}
-use Rattle.w16_model.proofs.Gaps.{Member}
-use Rattle.w16_store.specs.Names.{is_named}
-use Rattle.w16_loading.proofs.Importers.{entry_there}
-use Rattle.w16_loading.specs.Modules.{Modules, Named, name_of, handle_named}
 use Rattle.w16_loading.specs.Closure as closing
-use Rattle.w16_loading.specs.Closure.Referent.{There, New}
-use Rattle.w16_loader.specs.declared.found.Found.{Found}
 use Rattle.w16_loader.specs.declared.found.Referent.TheVariants as refers
-use Rattle.w16_loader.specs.declared.found.FileFault.{FileFault}
-use Rattle.w16_loader.specs.declared.found.Reading.{Reading}
 use Rattle.w16_loader.specs.declared.found.Reading.TheVariants as makes
-use Rattle.w16_loader.specs.Closing.{found_in, meant_in, IsNewOrMeant, IsThere}
 
 there_named : (modules : Modules) (name : List ℕ) (handle : ℕ) → handle_named modules name ≡ Some handle → (n : Named) × (finmap.get modules handle ≡ Some n)
 there_named modules name handle e = found (find (λ (x : ℕ × Named). is_named (name_of x.1) name) (finmap.entries modules)) refl e

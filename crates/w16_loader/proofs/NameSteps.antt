@@ -1,35 +1,8 @@
 -- Steps of naming as the code takes them.
-use Rattle.std.proofs.Common.{◌≡◌, ◌≢◌, ℕ, zero, suc, inl, inr, ◌+◌, ◌<◌, ◌≤◌, ◌==◌, if◌then◌else◌, List, [], ◌∷◌, ◌++◌, length, get_or, set, map, fold, zip, take, slice_get, Some, None, false, ◌/◌, All, AllPairs, refl, sym, ap, ◌∙◌, subst, add-one, arith}
-use Rattle.std.specs.List.{AllZip, AllByRecursion as Each, enumerate_from}
+use Rattle.w16_loader.proofs.Common.{◌≡◌, ◌≢◌, ℕ, zero, suc, inl, inr, ◌+◌, ◌<◌, ◌≤◌, ◌==◌, if◌then◌else◌, List, [], ◌∷◌, ◌++◌, length, get_or, set, map, fold, zip, take, slice_get, Some, None, false, ◌/◌, All, AllPairs, refl, sym, ap, ◌∙◌, subst, add-one, arith, AllZip, enumerate_from, length-take-le, length-map, take_all, take_more_set, length-enumerate_from, get_or-enumerate_from, slice_get-get_or, Kind, Fixed, Moveable, Discardable, Owned, HasNoSlot, with_object, TakesOwned, is_member, Handles, AreHandles, IsFreeSlot, handle_of, Member, EachPair, Each-at, Each-from_All, All-from_Each, EachPair-from_AllPairs, Global, Segment, Tables, LoadingWorld, Module, Modules, IsFreeModule, with_handles, Loaded, free_slots, segments_in, with_segment, Given, given_from, without_objects, without_module, empty_loading_world, given_handle, put_all, segment_in, tables_in, Found, found_in, in_world, IsFoundOf, Takes, GetsName, GetNames, unbound_by}
+use Rattle.std.specs.List.{AllByRecursion as Each}
 use Rattle.std.specs.FinMap as finmap
-use Rattle.std.proofs.lemmas.List.{length-take-le, length-map, take_all, take_more_set}
-use Rattle.std.proofs.lemmas.List.FromFn.{length-enumerate_from, get_or-enumerate_from}
-use Rattle.std.proofs.lemmas.Option.{slice_get-get_or}
-use Rattle.w16_model.specs.declared.Kind.{Kind}
-use Rattle.w16_model.specs.declared.Kind.TheVariants.{Fixed, Moveable, Discardable}
-use Rattle.w16_model.specs.declared.Owned.{Owned}
-use Rattle.w16_model.specs.Calls.{HasNoSlot}
-use Rattle.w16_model.specs.Changes.{with_object}
-use Rattle.w16_model.specs.Owned.{TakesOwned}
-use Rattle.w16_model.specs.Discards.{is_member}
-use Rattle.w16_model.specs.Handles.{Handles, AreHandles, IsFreeSlot, handle_of}
-use Rattle.w16_model.proofs.Gaps.{Member, EachPair, Each-at, Each-from_All, All-from_Each, EachPair-from_AllPairs}
-use Rattle.w16_global.specs.Joined.{Global}
-use Rattle.w16_loading.specs.File.{Segment, Tables}
-use Rattle.w16_loading.specs.Modules.{LoadingWorld, Module, Modules, IsFreeModule, with_handles}
-use Rattle.w16_loading.specs.Modules.Named.{Loaded}
 use Rattle.w16_loading.specs.Closure as closing
-use Rattle.w16_loading.specs.Naming.{free_slots, segments_in, with_segment, Given, given_from}
-use Rattle.w16_loading.specs.Release.{without_objects}
-use Rattle.w16_loading.specs.Free.{without_module}
-use Rattle.w16_loading.specs.Law.{empty_loading_world}
-use Rattle.w16_loading.proofs.Given.{given_handle, put_all}
-use Rattle.w16_format.specs.Tables.{segment_in, tables_in}
-use Rattle.w16_loader.specs.declared.found.Found.{Found}
-use Rattle.w16_loader.specs.Closing.{found_in}
-use Rattle.w16_loader.specs.Registry.{in_world}
-use Rattle.w16_loader.specs.AnyClosing.{IsFoundOf}
-use Rattle.w16_loader.specs.Naming.{Takes, GetsName, GetNames, unbound_by}
 use Rattle.w16_loader.proofs.Takings.{takes_more, takes_back, fewer_slots, no_free_slots, zip_long}
 use Rattle.w16_loader.proofs.Namings.{one_more, names_back, slots_left, segments_before}
 use Rattle.w16_loader.proofs.FreeHandles.{all_of_first, apart_of_first}

@@ -1,20 +1,9 @@
 -- New modules that get names, one after another.
-use Rattle.std.proofs.Common.{◌≡◌, ◌≢◌, ℕ, zero, suc, ◌+◌, ◌<◌, ◌≤◌, inl, inr, List, [], ◌∷◌, ◌++◌, length, map, fold, flat_map, zip, take, slice_get, Some, All, AllPairs, refl, sym, ap, ◌∙◌, subst, arith, length-append}
+use Rattle.w16_loader.proofs.Common.{◌≡◌, ◌≢◌, ℕ, zero, suc, ◌+◌, ◌<◌, ◌≤◌, inl, inr, List, [], ◌∷◌, ◌++◌, length, map, fold, flat_map, zip, take, slice_get, Some, All, AllPairs, refl, sym, ap, ◌∙◌, subst, arith, append-nil, append_assoc, map-append, sum_by-cons, AreHandles, IsFreeSlot, Member, EachPair, All-from_Each, AllPairs-from_EachPair, Segment, LoadingWorld, Module, Modules, IsFreeModule, Loaded, Closure, AreSlots, Choice, IsChoice, Given, given_from, segments_in, segments_of, unbound, with_modules, with_segment, free_slots, without_module, given_index, undone_law, Takes, GetsName, GetNames, IsUnbound, imports_among, unbound_by}
+use Rattle.std.proofs.Common.{length-append}
 use Rattle.std.specs.List.{AllByRecursion as Each}
 use Rattle.std.specs.FinMap as finmap
-use Rattle.std.proofs.lemmas.List.{append-nil, append_assoc, map-append}
-use Rattle.std.proofs.lemmas.List.Sums.{sum_by-cons}
-use Rattle.w16_model.specs.Handles.{AreHandles, IsFreeSlot}
-use Rattle.w16_model.proofs.Gaps.{Member, EachPair, All-from_Each, AllPairs-from_EachPair}
-use Rattle.w16_loading.specs.File.{Segment}
-use Rattle.w16_loading.specs.Modules.{LoadingWorld, Module, Modules, IsFreeModule}
-use Rattle.w16_loading.specs.Modules.Named.{Loaded}
-use Rattle.w16_loading.specs.Closure.{Closure, Found}
-use Rattle.w16_loading.specs.Naming.{AreSlots, Choice, IsChoice, Given, given_from, segments_in, segments_of, unbound, with_modules, with_segment, free_slots}
-use Rattle.w16_loading.specs.Free.{without_module}
-use Rattle.w16_loading.proofs.Given.{given_index}
-use Rattle.w16_loading.proofs.Undone.{undone_law}
-use Rattle.w16_loader.specs.Naming.{Takes, GetsName, GetNames, IsUnbound, imports_among, unbound_by}
+use Rattle.w16_loading.specs.Closure.{Found}
 use Rattle.w16_loader.proofs.Takings.{takes_fold, takes_then, takes_beside, slots_free, slots_apart, fewer_slots, firsts, each_first, zip_long}
 use Rattle.w16_loader.proofs.Undoing.{AreMany, undone_by_release}
 

@@ -1,10 +1,6 @@
 -- References that are left to a load.
-use Rattle.std.proofs.Common.{◌≡◌, ℕ, zero, suc, ◌+◌, ◌<◌, ◌≤◌, List, [], ◌∷◌, ◌++◌, length, drop, Some, option_map, sym, ap, ◌∙◌, arith}
-use Rattle.std.specs.Prelude.{slice_get}
-use Rattle.std.proofs.lemmas.List.{append_assoc, append-nil, length-append, length-drop, length-map, drop-append-le, drop_all}
-use Rattle.std.proofs.lemmas.Option.{slice_get-map, slice_get_within}
+use Rattle.w16_loader.proofs.Common.{◌≡◌, ℕ, zero, suc, ◌+◌, ◌<◌, ◌≤◌, List, [], ◌∷◌, ◌++◌, length, drop, Some, option_map, sym, ap, ◌∙◌, arith, slice_get, append_assoc, append-nil, length-append, length-drop, length-map, drop-append-le, drop_all, slice_get-map, slice_get_within, references_of, references_from, left_from}
 use Rattle.w16_loading.specs.Closure.{Found}
-use Rattle.w16_loader.specs.Following.{references_of, references_from, left_from}
 
 -- the first that is left, and the others
 one_left : {X : Type 0} (xs : List X) (i : ℕ) (x : X) → slice_get xs i ≡ Some x → drop i xs ≡ x ∷ drop (suc i) xs

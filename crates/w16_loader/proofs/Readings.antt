@@ -1,19 +1,7 @@
 -- What a load makes of a file, case by case.
-use Rattle.std.proofs.Common.{◌≡◌, ℕ, ◌<◌, ◌≤◌, true, false, List, [], length, map, Option, Some, None, Ok, refl, sym, ap, ◌∙◌, arith}
-use Rattle.std.specs.Prelude.{nat_lt, unwrap_or}
-use Rattle.w16_store.specs.Files.{file_of}
+use Rattle.w16_loader.proofs.Common.{◌≡◌, ℕ, ◌<◌, ◌≤◌, true, false, List, [], length, map, Option, Some, None, Ok, refl, sym, ap, ◌∙◌, arith, nat_lt, unwrap_or, file_of, Format, ModuleFile, Around, are_sound, Refused, Read, ne_format, module_file, Modules, free_modules, tables_at, lt-ltb, le-ltb, length-map, Found, Files, around_in, found_in, reading_in, read_in, IsRead}
 use Rattle.w16_ne.specs.Modules as ne
-use Rattle.w16_loading.specs.File.{Format, ModuleFile}
 use Rattle.w16_loading.specs.Closure as closing
-use Rattle.w16_loading.specs.Closure.{Around, are_sound}
-use Rattle.w16_loading.specs.Closure.Reading.{Refused, Read}
-use Rattle.w16_format.specs.Ne.{ne_format, module_file}
-use Rattle.w16_loading.specs.Modules.{Modules, free_modules}
-use Rattle.w16_ne.specs.Modules.{tables_at}
-use Rattle.std.proofs.lemmas.Bool.{lt-ltb, le-ltb}
-use Rattle.std.proofs.lemmas.List.{length-map}
-use Rattle.w16_loader.specs.declared.found.Found.{Found}
-use Rattle.w16_loader.specs.Closing.{Files, around_in, found_in, reading_in, read_in, IsRead}
 
 module _ (format : Format) (a : Around) (found : List closing.Found) (name : List ℕ) (bytes : List ℕ) (read : ModuleFile) (there : a.file name ≡ Some bytes) (accepted : format bytes ≡ Ok read)
     (none : closing.meant a found read.tables.name ≡ None) (sound : are_sound read ≡ true) where

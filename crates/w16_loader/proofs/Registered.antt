@@ -1,24 +1,6 @@
 -- The finite map of a table by handle.
-use Rattle.std.proofs.Common.{◌≡◌, ℕ, zero, suc, ◌+◌, ◌-◌, ◌<◌, ◌≤◌, inl, inr, List, [], ◌∷◌, length, get_or, set, take, drop, replicate, Bool, cond, Option, Some, None, option_map, is_some, refl, sym, ap, ◌∙◌, arith}
-use Rattle.std.specs.Prelude.{◌⊎◌, OnSome, IfNone, count_by, is_none}
-use Rattle.std.specs.Ordering.{nat_cmp}
-use Rattle.std.specs.Cmp.{nat_cmp_total, nat_cmp_is}
-use Rattle.std.specs.declared.cmp.Ordering.TheVariants.{Less}
+use Rattle.w16_loader.proofs.Common.{◌≡◌, ℕ, zero, suc, ◌+◌, ◌-◌, ◌<◌, ◌≤◌, inl, inr, List, [], ◌∷◌, length, get_or, set, take, drop, replicate, Bool, cond, Option, Some, None, option_map, is_some, refl, sym, ap, ◌∙◌, arith, ◌⊎◌, OnSome, IfNone, count_by, is_none, nat_cmp, nat_cmp_total, nat_cmp_is, Less, entries-insert, len-empty, len-entries, same_map, nat_cmp-IsAntisymmetric, put, by_order, cases_eq, get_or_past, get_or-set_same, get_or-set_other, get_or-replicate, set-get_or, length-set, length-replicate, length-drop, take-length, sum_by-cons, by_id, get-by_id, inserted_here, inserted_other, taken_here, taken_other, FIRST_MODULE, MOST_MODULES, Module, Named, free_modules, module_in, Entry, named_of, listed, registered, IsTable}
 use Rattle.std.specs.FinMap as finmap
-use Rattle.std.specs.FinMap.{entries-insert, len-empty, len-entries, same_map, nat_cmp-IsAntisymmetric}
-use Rattle.std.specs.FinMap.Entries.{put, by_order}
-use Rattle.std.proofs.lemmas.Bool.{cases_eq}
-use Rattle.std.proofs.lemmas.List.{get_or_past, get_or-set_same, get_or-set_other, get_or-replicate, set-get_or, length-set, length-replicate, length-drop}
-use Rattle.std.proofs.Math.Seq.{take-length}
-use Rattle.std.proofs.lemmas.List.Sums.{sum_by-cons}
-use Rattle.w16_model.specs.Table.{by_id}
-use Rattle.w16_model.proofs.Tables.{get-by_id}
-use Rattle.w16_model.proofs.KeptHeaps.{inserted_here, inserted_other, taken_here, taken_other}
-use Rattle.w16_loading.specs.declared.TheConstants.{FIRST_MODULE, MOST_MODULES}
-use Rattle.w16_loading.specs.Modules.{Module, Named, free_modules, module_in}
-use Rattle.w16_loader.specs.declared.entry.Entry.{Entry}
-use Rattle.w16_loader.specs.Entries.{named_of}
-use Rattle.w16_loader.specs.Registry.{listed, registered, IsTable}
 
 -- nothing is before the first
 no_entries : {X : Type 0} (es : List X) → length es ≡ 0 → es ≡ []

@@ -1,22 +1,8 @@
 -- Module files as a load over any store may take them: they have the tables that it read, and the targets that it saw.
-use Rattle.std.proofs.Common.{◌≡◌, ℕ, ◌+◌, ◌*◌, ◌/◌, ◌%◌, ◌<◌, ◌≤◌, true, List, [], ◌∷◌, length, map, replicate, All, Some, refl, ap, arith}
-use Rattle.std.specs.List.{AllByRecursion as Each, AllZip, list_all}
-use Rattle.std.specs.Prelude.{is_some}
-use Rattle.std.proofs.lemmas.List.{length-replicate}
-use Rattle.std.proofs.lemmas.List.Elements.{All-cons, All-nil, All-map, All-replicate}
-use Rattle.w16_model.specs.declared.TheConstants.{GRAIN}
-use Rattle.w16_model.specs.Heap.{IsMultiple}
-use Rattle.w16_model.specs.Calls.{rounded_size}
+use Rattle.w16_loader.proofs.Common.{◌≡◌, ℕ, ◌+◌, ◌*◌, ◌/◌, ◌%◌, ◌<◌, ◌≤◌, true, List, [], ◌∷◌, length, map, replicate, All, Some, refl, ap, arith, AllZip, list_all, is_some, length-replicate, All-cons, All-nil, All-map, All-replicate, GRAIN, IsMultiple, rounded_size, LARGEST_SEGMENT, SEGMENT_UNIT, IsSized, LARGEST_OWNED, Segment, SegmentData, Tables, Target, Resource, ModuleFile, IsSegmentData, IsModuleFile, targets_of, are_sound, segment_in, tables_in, Found, IsGood, AreGood, IsFoundOf}
+use Rattle.std.specs.List.{AllByRecursion as Each}
 use Rattle.w16_ne.specs.declared.segment_table.Segment as ne_segment
-use Rattle.w16_ne.specs.declared.segment_table.TheConstants.{LARGEST_SEGMENT, SEGMENT_UNIT}
-use Rattle.w16_ne.specs.Segments.{IsSized}
-use Rattle.w16_loading.specs.declared.TheConstants.{LARGEST_OWNED}
-use Rattle.w16_loading.specs.File.{Segment, SegmentData, Tables, Target, Resource, ModuleFile, IsSegmentData, IsModuleFile, targets_of}
 use Rattle.w16_loading.specs.Closure as closing
-use Rattle.w16_loading.specs.Closure.{are_sound}
-use Rattle.w16_format.specs.Tables.{segment_in, tables_in}
-use Rattle.w16_loader.specs.declared.found.Found.{Found}
-use Rattle.w16_loader.specs.AnyClosing.{IsGood, AreGood, IsFoundOf}
 
 -- what segments hold with these targets, and bytes of 0
 abbrev pub data_with : List Segment → List (List Target) → List SegmentData

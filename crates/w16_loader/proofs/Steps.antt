@@ -1,10 +1,5 @@
 -- What a load has still to follow, step by step.
-use Rattle.std.proofs.Common.{◌≡◌, ℕ, suc, ◌<◌, ◌≤◌, List, [], ◌∷◌, length, Ok, Err, IfOk, refl, ap, ◌∙◌, subst, arith}
-use Rattle.std.proofs.lemmas.List.{length-append}
-use Rattle.w16_loading.specs.File.{Format}
-use Rattle.w16_loading.specs.Closure.{Around, Closure, Closes, followed, dll}
-use Rattle.w16_loading.proofs.Readings.{follow_cases, from_next, from_list}
-use Rattle.w16_loader.specs.Following.{Leads}
+use Rattle.w16_loader.proofs.Common.{◌≡◌, ℕ, suc, ◌<◌, ◌≤◌, List, [], ◌∷◌, length, Ok, Err, IfOk, refl, ap, ◌∙◌, subst, arith, length-append, Format, Around, Closure, Closes, followed, dll, follow_cases, from_next, from_list, Leads}
 
 module _ (format : Format) (a : Around) where
   -- as many modules as there were, or as handles are free

@@ -1,22 +1,6 @@
 -- Segments that get objects in free slots, one after another.
-use Rattle.std.proofs.Common.{◌≡◌, ◌≢◌, ℕ, zero, suc, ◌+◌, ◌<◌, ◌≤◌, inl, inr, ◌⊎◌, Bool, true, false, cond, not, IsTrue, List, [], ◌∷◌, ◌++◌, length, map, fold, filter, zip, slice_get, Option, Some, None, is_some, refl, sym, ap, ◌∙◌, subst, arith}
-use Rattle.std.specs.List.{AllByRecursion as Each, range_with_len}
-use Rattle.std.proofs.lemmas.Bool.{false≢true, cases_eq}
-use Rattle.w16_model.specs.declared.TheConstants.{FIRST_SLOT}
-use Rattle.w16_model.specs.Calls.{HasNoSlot}
-use Rattle.w16_model.specs.Discards.{is_member}
-use Rattle.w16_model.specs.Heap.{Object, object_at}
-use Rattle.w16_model.specs.Handles.{Handles, AreHandles, IsFreeSlot}
-use Rattle.w16_model.proofs.Gaps.{Member, EachPair, Each-map, Each-from, All-from_Each, member_filter}
-use Rattle.w16_model.proofs.Discards.{true-is_member}
-use Rattle.w16_model.proofs.KeptHeaps.{inserted_here, inserted_other}
-use Rattle.w16_model.proofs.Prefixes.{filter_same}
-use Rattle.w16_loading.specs.File.{Segment}
-use Rattle.w16_loading.specs.Modules.{LoadingWorld, Modules}
-use Rattle.w16_loading.specs.Naming.{free_slots, with_segment}
-use Rattle.w16_loading.specs.Release.{without_objects}
-use Rattle.w16_loading.proofs.Undone.{zipped, taken_back_law}
-use Rattle.w16_loader.specs.Naming.{Takes}
+use Rattle.w16_loader.proofs.Common.{◌≡◌, ◌≢◌, ℕ, zero, suc, ◌+◌, ◌<◌, ◌≤◌, inl, inr, ◌⊎◌, Bool, true, false, cond, not, IsTrue, List, [], ◌∷◌, ◌++◌, length, map, fold, filter, zip, slice_get, Option, Some, None, is_some, refl, sym, ap, ◌∙◌, subst, arith, range_with_len, false≢true, cases_eq, FIRST_SLOT, HasNoSlot, is_member, Object, object_at, Handles, AreHandles, IsFreeSlot, Member, EachPair, Each-map, Each-from, All-from_Each, member_filter, true-is_member, inserted_here, inserted_other, filter_same, Segment, LoadingWorld, Modules, free_slots, with_segment, without_objects, zipped, taken_back_law, Takes}
+use Rattle.std.specs.List.{AllByRecursion as Each}
 
 -- What all of them leave, and some behind others.
 

@@ -1,28 +1,8 @@
 -- New modules that are released leave what was there before them.
-use Rattle.std.proofs.Common.{◌≡◌, ◌≢◌, ℕ, ◌+◌, ◌<◌, inl, inr, Bool, true, false, cond, not, ◌||◌, ◌==◌, List, [], ◌∷◌, ◌++◌, length, get_or, drop, map, fold, filter, flat_map, Option, Some, None, refl, sym, ap, ◌∙◌, subst, add-one, arith}
-use Rattle.std.specs.List.{AllZip, AllByRecursion as Each}
-use Rattle.std.specs.Ordering.{nat_cmp}
+use Rattle.w16_loader.proofs.Common.{◌≡◌, ◌≢◌, ℕ, ◌+◌, ◌<◌, inl, inr, Bool, true, false, cond, not, ◌||◌, ◌==◌, List, [], ◌∷◌, ◌++◌, length, get_or, drop, map, fold, filter, flat_map, Option, Some, None, refl, sym, ap, ◌∙◌, subst, add-one, arith, AllZip, nat_cmp, FinMap, drop-cons, false≢true, cases_Bool, cases_eq, is_member, Heap, object_at, AreHandles, IsFreeSlot, Member, EachPair, Each-at, Each-from, Each-from_All, EachPair-from_AllPairs, is_member-true, true-is_member, taken_here, taken_other, LoadingWorld, Module, Modules, IsFreeModule, with_heap, Loaded, Closure, Choice, IsChoice, Given, given, given_from, all_slots, segments_of, with_segment, with_modules, heap_without, without_objects, without_module, undone, same_values, none_gone, gone_with, went, given_handle, put_here, put_all, chosen, fold_named, retained, taken_away}
+use Rattle.std.specs.List.{AllByRecursion as Each}
 use Rattle.std.specs.FinMap as finmap
-use Rattle.std.specs.FinMap.{FinMap}
-use Rattle.std.proofs.Math.Seq.{drop-cons}
-use Rattle.std.proofs.lemmas.Bool.{false≢true, cases_Bool, cases_eq}
-use Rattle.w16_model.specs.Discards.{is_member}
-use Rattle.w16_model.specs.Heap.{Heap, object_at}
-use Rattle.w16_model.specs.Handles.{AreHandles, IsFreeSlot}
-use Rattle.w16_model.proofs.Gaps.{Member, EachPair, Each-at, Each-from, Each-from_All, EachPair-from_AllPairs}
-use Rattle.w16_model.proofs.Discards.{is_member-true, true-is_member}
-use Rattle.w16_model.proofs.KeptHeaps.{taken_here, taken_other}
-use Rattle.w16_loading.specs.Modules.{LoadingWorld, Module, Modules, IsFreeModule, with_heap}
-use Rattle.w16_loading.specs.Modules.Named.{Loaded}
-use Rattle.w16_loading.specs.Closure.{Closure, Found}
-use Rattle.w16_loading.specs.Naming.{Choice, IsChoice, Given, given, given_from, all_slots, segments_of, with_segment, with_modules}
-use Rattle.w16_loading.specs.Release.{heap_without, without_objects}
-use Rattle.w16_loading.specs.Free.{without_module}
-use Rattle.w16_loading.specs.Load.{undone}
-use Rattle.w16_loading.proofs.Absences.{same_values, none_gone}
-use Rattle.w16_loading.proofs.Cascade.{gone_with, went}
-use Rattle.w16_loading.proofs.Given.{given_handle, put_here, put_all}
-use Rattle.w16_loading.proofs.Undone.{chosen, fold_named, retained, taken_away}
+use Rattle.w16_loading.specs.Closure.{Found}
 
 -- What goes in two steps goes in one.
 

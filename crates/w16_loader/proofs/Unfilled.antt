@@ -1,40 +1,10 @@
 -- Objects of segments that have no bytes yet, and one of them that a load gives its bytes.
-use Rattle.std.proofs.Common.{◌≡◌, ◌≢◌, ℕ, ◌-◌, ◌/◌, ◌<◌, ◌≤◌, Bool, true, false, cond, ◌||◌, ◌==◌, List, [], ◌∷◌, length, map, All, Option, Some, None, IsSomeAnd, option_map, is_some, slice_get, Result, Ok, Err, inl, inr, refl, sym, ap, ◌∙◌, subst, arith, eq-eqb}
-use Rattle.std.specs.Prelude.{OnOk, OnErr}
+use Rattle.w16_loader.proofs.Common.{◌≡◌, ◌≢◌, ℕ, ◌-◌, ◌/◌, ◌<◌, ◌≤◌, Bool, true, false, cond, ◌||◌, ◌==◌, List, [], ◌∷◌, length, map, All, Option, Some, None, IsSomeAnd, option_map, is_some, slice_get, Result, Ok, Err, inl, inr, refl, sym, ap, ◌∙◌, subst, arith, eq-eqb, OnOk, OnErr, false≢true, length-map, slice_get-map, get_or_from_slice_get, Kind, Fixed, Moveable, Discardable, Owned, IsKeptOrDiscarded, Handles, handle_of, Heap, Object, IsHeap, bytes_at, is_fixed, object_at, owned_at, Global, LacksBytes, tables_at, file_of, FetchFault, AnyFetches, GivesAny, Far, ModuleFile, Segment, SegmentData, IsSegmentData, Filling, FillsOne, Giving, InTurn, is_of_device, is_of_read, IsItsFiles, LoadingWorld, Module, filled_other, data_in, far_of, module_file, segment_in, tables_in, read_back, tables_apart, IsSaid, Files, IsSoundIn, IsSourceOf, fault_in, image_in, in_parts, Part, IsReadAs, IsUnfilled, failure_at, fills_of_part}
 use Rattle.std.specs.FinMap as finmap
-use Rattle.std.proofs.lemmas.Bool.{false≢true}
-use Rattle.std.proofs.lemmas.List.{length-map}
-use Rattle.std.proofs.lemmas.Option.{slice_get-map, get_or_from_slice_get}
-use Rattle.w16_model.specs.declared.Kind.{Kind}
-use Rattle.w16_model.specs.declared.Kind.TheVariants.{Fixed, Moveable, Discardable}
-use Rattle.w16_model.specs.declared.Owned.{Owned}
-use Rattle.w16_model.specs.CallLaws.{IsKeptOrDiscarded}
-use Rattle.w16_model.specs.Handles.{Handles, handle_of}
-use Rattle.w16_model.specs.Heap.{Heap, Object, IsHeap, bytes_at, is_fixed, object_at}
-use Rattle.w16_model.specs.Owned.{owned_at}
-use Rattle.w16_global.specs.Joined.{Global}
-use Rattle.w16_global.specs.Owned.{LacksBytes}
 use Rattle.w16_ne.specs.declared.segment_table.Segment as ne
-use Rattle.w16_ne.specs.Modules.{tables_at}
 use Rattle.w16_ne.specs.Modules as ne_modules
 use Rattle.w16_reloc.specs.declared.value.Far as words
-use Rattle.w16_store.specs.Files.{file_of}
-use Rattle.w16_loading.specs.declared.FetchFault.{FetchFault}
-use Rattle.w16_loading.specs.AnyStore.{AnyFetches, GivesAny}
-use Rattle.w16_loading.specs.File.{Far, ModuleFile, Segment, SegmentData, IsSegmentData}
 use Rattle.w16_loading.specs.File as loading
-use Rattle.w16_loading.specs.Fill.{Filling, FillsOne, Giving, InTurn, is_of_device, is_of_read}
-use Rattle.w16_loading.specs.Law.{IsItsFiles}
-use Rattle.w16_loading.specs.Modules.{LoadingWorld, Module}
-use Rattle.w16_loading.proofs.Fillings.{filled_other}
-use Rattle.w16_format.specs.Data.{data_in, far_of}
-use Rattle.w16_format.specs.Ne.{module_file}
-use Rattle.w16_format.specs.Tables.{segment_in, tables_in}
-use Rattle.w16_format.proofs.Files.{read_back, tables_apart}
-use Rattle.w16_loader.specs.Binding.{IsSaid}
-use Rattle.w16_loader.specs.Closing.{Files}
-use Rattle.w16_loader.specs.Fetching.{IsSoundIn, IsSourceOf, fault_in, image_in, in_parts}
-use Rattle.w16_loader.specs.Filling.{Part, IsReadAs, IsUnfilled, failure_at, fills_of_part}
 use Rattle.w16_loader.proofs.Fetches.{data_there, sound_in}
 use Rattle.w16_loader.proofs.Fillings.{one_turn, zipped_at}
 use Rattle.w16_loader.proofs.Giving.{some_at}

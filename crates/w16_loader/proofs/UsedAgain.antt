@@ -1,12 +1,5 @@
 -- One more load of what is there already.
-use Rattle.std.proofs.Common.{◌≡◌, ℕ, Bool, true, false, cond, Option, Some, None, refl, ap}
-use Rattle.std.specs.Prelude.{nat_lt}
-use Rattle.w16_loading.specs.declared.TheConstants.{MOST_USES}
-use Rattle.w16_loading.specs.Modules.{LoadingWorld, Module, Named, module_in}
-use Rattle.w16_loading.specs.Modules.Named.{Loaded, BuiltIn}
-use Rattle.w16_loading.specs.Load.{Answer, after_use, used_again}
-use Rattle.w16_loading.specs.Load.Answer.{Says}
-use Rattle.w16_loader.specs.Loading.{is_application}
+use Rattle.w16_loader.proofs.Common.{◌≡◌, ℕ, Bool, true, false, cond, Option, Some, None, refl, ap, nat_lt, MOST_USES, LoadingWorld, Module, Named, module_in, Loaded, BuiltIn, Answer, after_use, used_again, Says, is_application}
 
 module _ (old : LoadingWorld) (handle : ℕ) where
   -- an application isn't loaded twice by LoadModule

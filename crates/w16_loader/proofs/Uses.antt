@@ -1,19 +1,6 @@
 -- A module in another number of uses.
-use Rattle.std.proofs.Common.{◌≡◌, ℕ, ◌+◌, ◌-◌, inl, inr, Bool, true, false, cond, if◌then◌else◌, nat_lt, Option, Some, None, refl, sym, ap, ◌∙◌}
-use Rattle.std.specs.Prelude.{IsTrue, IsFalse}
-use Rattle.std.specs.Ordering.{nat_cmp}
-use Rattle.std.specs.Cmp.{nat_cmp_total}
+use Rattle.w16_loader.proofs.Common.{◌≡◌, ℕ, ◌+◌, ◌-◌, inl, inr, Bool, true, false, cond, if◌then◌else◌, nat_lt, Option, Some, None, refl, sym, ap, ◌∙◌, IsTrue, IsFalse, nat_cmp, nat_cmp_total, FinMap, same_map, nat_cmp-IsAntisymmetric, cases_eq, inserted_here, inserted_other, taken_other, MOST_USES, LoadingWorld, Module, Modules, Named, module_in, module_at, Loaded, BuiltIn, used_again, after_use, Says, used_less, in_world}
 use Rattle.std.specs.FinMap as finmap
-use Rattle.std.specs.FinMap.{FinMap, same_map, nat_cmp-IsAntisymmetric}
-use Rattle.std.proofs.lemmas.Bool.{cases_eq}
-use Rattle.w16_model.proofs.KeptHeaps.{inserted_here, inserted_other, taken_other}
-use Rattle.w16_loading.specs.declared.TheConstants.{MOST_USES}
-use Rattle.w16_loading.specs.Modules.{LoadingWorld, Module, Modules, Named, module_in, module_at}
-use Rattle.w16_loading.specs.Modules.Named.{Loaded, BuiltIn}
-use Rattle.w16_loading.specs.Load.{used_again, after_use}
-use Rattle.w16_loading.specs.Load.Answer.{Says}
-use Rattle.w16_loading.specs.Free.{used_less}
-use Rattle.w16_loader.specs.Registry.{in_world}
 
 -- what is put where something was taken away is as if nothing had been
 put_where_taken : {X : Type 0} (m : FinMap nat_cmp X) (id : ℕ) (x : X) → finmap.insert (finmap.remove m id) id x ≡ finmap.insert m id x

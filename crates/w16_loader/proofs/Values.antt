@@ -1,44 +1,19 @@
 -- The values of relocation records, and what a file says of them.
-use Rattle.std.proofs.Common.{◌≡◌, ℕ, zero, suc, ◌+◌, ◌-◌, ◌<◌, ◌≤◌, Bool, true, false, ◌&&◌, List, [], ◌∷◌, ◌++◌, length, take, drop, get_or, map, Option, Some, None, option_map, slice_get, slice_index, Result, Ok, Err, refl, sym, ap, ◌∙◌, subst, arith, add-one}
-use Rattle.std.specs.Prelude.{All, MatchResult, is_ok, nat_lt, unwrap_or}
-use Rattle.std.specs.List.{list_all}
-use Rattle.std.proofs.lemmas.Bool.{and_parts, ltb-true}
-use Rattle.std.proofs.lemmas.List.{length-map, length-take, length-drop, map_push, map_more}
-use Rattle.std.proofs.lemmas.List.Elements.{All-nil, All-cons}
+use Rattle.w16_loader.proofs.Common.{◌≡◌, ℕ, zero, suc, ◌+◌, ◌-◌, ◌<◌, ◌≤◌, Bool, true, false, ◌&&◌, List, [], ◌∷◌, ◌++◌, length, take, drop, get_or, map, Option, Some, None, option_map, slice_get, slice_index, Result, Ok, Err, refl, sym, ap, ◌∙◌, subst, arith, add-one, All, MatchResult, is_ok, nat_lt, unwrap_or, list_all, and_parts, length-map, length-take, length-drop, map_push, map_more, All-nil, All-cons, file_of, NeFault, text_at, text_in, tables_at, imported_place, text_read, RelocFault, Record, ◌>>=◌, check_from, Offer, Held, checked, data_of, records_of, offer_of, has_text_at, AreRecords, passed_is_sound, are_sound, Far, ModuleFile, SegmentData, Target, targets_of, Lookup, Module, value_of, data_in, target_of, targets_in, far_of, module_file, segment_in, tables_in, sound_law, read_back, tables_apart, ValueFault, Device, OutOfMemory, Files, AreValuesOf, IsFailure, IsSaid, IsStoredAs, fault_of_name, values_for}
+use Rattle.std.proofs.lemmas.Bool.{ltb-true}
 use Rattle.w16_store.specs.declared.store.StoreFault.TheVariants as stores
-use Rattle.w16_store.specs.Files.{file_of}
-use Rattle.w16_ne.specs.declared.fault.NeFault.{NeFault}
 use Rattle.w16_ne.specs.declared.fault.NeFault.TheVariants as ne_faults
 use Rattle.w16_ne.specs.declared.segment_table.Segment.{Segment}
 use Rattle.w16_ne.specs.Reading.{Refuses}
-use Rattle.w16_ne.specs.References.{text_at}
-use Rattle.w16_ne.specs.Texts.{text_in}
-use Rattle.w16_ne.specs.Modules.{Tables, tables_at, imported_place}
-use Rattle.w16_ne.proofs.ReferencesFormat.{text_read}
-use Rattle.w16_reloc.specs.declared.fault.RelocFault.{RelocFault}
+use Rattle.w16_ne.specs.Modules.{Tables}
 use Rattle.w16_reloc.specs.declared.fault.RelocFault.TheVariants as relocs
-use Rattle.w16_reloc.specs.declared.record.Record.{Record}
 use Rattle.w16_reloc.specs.declared.value.Far as words
-use Rattle.w16_reloc.specs.Check.{◌>>=◌, check_from}
-use Rattle.w16_reloc.specs.Records.{Offer, is_named}
-use Rattle.w16_reloc.specs.Segments.{Held, checked, data_of, records_of, offer_of, has_text_at}
+use Rattle.w16_reloc.specs.Records.{is_named}
 use Rattle.w16_reloc.specs.Segments as segments
-use Rattle.w16_reloc.specs.Sound.{AreRecords}
-use Rattle.w16_reloc.proofs.SoundLemmas.{passed_is_sound}
-use Rattle.w16_loading.specs.Closure.{are_sound}
 use Rattle.w16_loading.specs.File as loading
-use Rattle.w16_loading.specs.File.{Far, ModuleFile, SegmentData, Target, targets_of}
-use Rattle.w16_loading.specs.Modules.{Lookup, Module, value_of}
-use Rattle.w16_format.specs.Data.{data_in, target_of, targets_in, far_of}
-use Rattle.w16_format.specs.Ne.{module_file}
-use Rattle.w16_format.specs.Tables.{segment_in, tables_in}
-use Rattle.w16_format.proofs.Fetched.{sound_law}
-use Rattle.w16_format.proofs.Files.{read_back, tables_apart}
 use Rattle.w16_loader.proofs.Files.{there}
-use Rattle.w16_loader.specs.declared.fault.ValueFault.{ValueFault}
-use Rattle.w16_loader.specs.declared.fault.ValueFault.TheVariants.{Device, Damaged, OutOfMemory}
-use Rattle.w16_loader.specs.Closing.{Files}
-use Rattle.w16_loader.specs.Binding.{AreValuesOf, IsFailure, IsSaid, IsStoredAs, fault_of_check, fault_of_name, values_for}
+use Rattle.w16_loader.specs.declared.fault.ValueFault.TheVariants.{Damaged}
+use Rattle.w16_loader.specs.Binding.{fault_of_check}
 
 -- Faults.
 

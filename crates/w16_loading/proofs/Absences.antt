@@ -1,13 +1,6 @@
 -- Maps and worlds without what goes.
-use Rattle.std.proofs.Common.{◌≡◌, ℕ, inl, inr, Bool, true, false, cond, not, Option, Some, None, refl, sym, ap, ◌∙◌}
-use Rattle.std.specs.Cmp.{nat_cmp_total}
-use Rattle.std.specs.Ordering.{nat_cmp}
+use Rattle.w16_loading.proofs.Common.{◌≡◌, ℕ, inl, inr, Bool, true, false, cond, not, Option, Some, None, refl, sym, ap, ◌∙◌, nat_cmp_total, nat_cmp, FinMap, same_map, nat_cmp-IsAntisymmetric, cases_eq, inserted_here, inserted_other, taken_here, taken_other, LoadingWorld, without_objects}
 use Rattle.std.specs.FinMap as finmap
-use Rattle.std.specs.FinMap.{FinMap, same_map, nat_cmp-IsAntisymmetric}
-use Rattle.std.proofs.lemmas.Bool.{cases_eq}
-use Rattle.w16_model.proofs.KeptHeaps.{inserted_here, inserted_other, taken_here, taken_other}
-use Rattle.w16_loading.specs.Modules.{LoadingWorld}
-use Rattle.w16_loading.specs.Release.{without_objects}
 use Rattle.w16_loading.proofs.Undone.{retained, kept_all}
 
 -- two maps with the same values are one

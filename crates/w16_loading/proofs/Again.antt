@@ -1,14 +1,6 @@
 -- Code that is fetched has the bytes that it had.
-use Rattle.std.proofs.Common.{◌≡◌, ◌⊎◌, ℕ, inl, inr, List, Option, Some, IfSome, refl, sym, ap, ◌∙◌, subst}
-use Rattle.std.proofs.lemmas.Bool.{false≢true}
-use Rattle.w16_model.proofs.KeptHeaps.{bytes_in}
-use Rattle.w16_loading.specs.declared.FetchFault.{FetchFault}
+use Rattle.w16_loading.proofs.Common.{◌≡◌, ◌⊎◌, ℕ, inl, inr, List, Option, Some, IfSome, refl, sym, ap, ◌∙◌, subst, false≢true, bytes_in, FetchFault, Format, LoadingWorld, Module, Modules, IsSegmentOf, module_at, FillsOne, is_of_device, IsImage, segment_bytes, IsLoadingWorld, FetchAgainLaw, FetchFaultsLaw}
 use Rattle.w16_loading.specs.declared.FetchFault.TheVariants as faults
-use Rattle.w16_loading.specs.File.{Format}
-use Rattle.w16_loading.specs.Modules.{LoadingWorld, Module, Modules, IsSegmentOf, module_at}
-use Rattle.w16_loading.specs.Fill.{FillsOne, is_of_device}
-use Rattle.w16_loading.specs.Fetch.{IsImage, segment_bytes}
-use Rattle.w16_loading.specs.Law.{IsLoadingWorld, FetchAgainLaw, FetchFaultsLaw}
 use Rattle.w16_loading.proofs.Fillings.{filled_object}
 
 -- two modules of one handle are one

@@ -1,35 +1,6 @@
 -- Steps over files that stay are steps over any store, and their requests discard as few as they can.
-use Rattle.std.proofs.Common.{◌≡◌, ℕ, ◌<◌, ◌≤◌, inl, inr, ◌⊎◌, Bool, true, false, cond, not, List, [], ◌∷◌, Option, Some, None, MatchOption, MatchBool, MatchResult, is_some, option_map, unwrap_or, Result, Ok, Err, IfOk, refl, sym, ap, ◌∙◌, subst, arith}
-use Rattle.std.specs.List.{find}
-use Rattle.std.specs.Option.{option_or}
+use Rattle.w16_loading.proofs.Common.{◌≡◌, ℕ, ◌<◌, ◌≤◌, inl, inr, ◌⊎◌, Bool, true, false, cond, not, List, [], ◌∷◌, Option, Some, None, MatchOption, MatchBool, MatchResult, is_some, option_map, unwrap_or, Result, Ok, Err, IfOk, refl, sym, ap, ◌∙◌, subst, arith, find, option_or, false≢true, Heap, IsHeap, bytes_at, IsFreeSlot, selector_in, offset_in, repeated, FarAnswer, FarCommand, far_slot, Member, is_named, FIRST_MODULE, FetchFault, Format, IsFormat, IsModuleFile, ModuleFile, Resource, LoadingWorld, Load, Module, Named, name_of, module_at, handle_named, with_heap, Reply, Dword, Failed, FillsOne, Failure, is_of_device, is_of_read, Closure, Reading, Referent, reading, around, after, begun, Refused, Meant, Read, There, New, given, segments_of, named, Answer, Loads, LoadsFile, LoadsNew, Fulfils, Refuses, used_again, undone, left, Go, used_less, without_module, Fetching, Fetches, Accesses, needs_fetch, far_read, far_write, gives, LoadsResource, LoadsNewResource, LocksResource, AnswersNone, is_too_long, resource_at, load_of, loaded_again, with_resource, locked, lock_outcome, slot_of_resource, LoadingCommand, ModuleCommand, ResourceCommand, Loading, FamilyStep, FarStep, LoadingStep, OfHandles, OfResizes, OfFar, OfModules, OfResources, AnyFetches, AnyLoads, AnyLoadsBy, GivesAny, far_reads_file, lock_reads_file, reads_files, FetchesFewest, GivesAnyFewest, RequestsFewestLaw, IsLoadingWorld, IsAnyStepLaw, ReadsNoFilesLaw}
 use Rattle.std.specs.FinMap as finmap
-use Rattle.std.proofs.lemmas.Bool.{false≢true}
-use Rattle.w16_model.specs.Heap.{Heap, IsHeap, bytes_at}
-use Rattle.w16_model.specs.Handles.{IsFreeSlot, selector_in, offset_in}
-use Rattle.w16_model.specs.Bytes.{repeated}
-use Rattle.w16_model.specs.Far.{FarAnswer, FarCommand, far_slot}
-use Rattle.w16_model.proofs.Gaps.{Member}
-use Rattle.w16_store.specs.Names.{is_named}
-use Rattle.w16_loading.specs.declared.TheConstants.{FIRST_MODULE}
-use Rattle.w16_loading.specs.declared.FetchFault.{FetchFault}
-use Rattle.w16_loading.specs.File.{Format, IsFormat, IsModuleFile, ModuleFile, Resource}
-use Rattle.w16_loading.specs.Modules.{LoadingWorld, Load, Module, Named, name_of, module_at, handle_named, with_heap}
-use Rattle.w16_loading.specs.Replies.{Reply}
-use Rattle.w16_loading.specs.Replies.Reply.{Dword, Failed}
-use Rattle.w16_loading.specs.Fill.{FillsOne, Failure, is_of_device, is_of_read}
-use Rattle.w16_loading.specs.Closure.{Closure, Reading, Referent, reading, around, after, begun}
-use Rattle.w16_loading.specs.Closure.Reading.{Refused, Meant, Read}
-use Rattle.w16_loading.specs.Closure.Referent.{There, New}
-use Rattle.w16_loading.specs.Naming.{given, segments_of, named}
-use Rattle.w16_loading.specs.Load.{Answer, Loads, LoadsFile, LoadsNew, Fulfils, Refuses, used_again, undone, left}
-use Rattle.w16_loading.specs.Free.{Go, used_less, without_module}
-use Rattle.w16_loading.specs.Fetch.{Fetching, Fetches, Accesses, needs_fetch, far_read, far_write, gives}
-use Rattle.w16_loading.specs.Resource.{LoadsResource, LoadsNewResource, LocksResource, AnswersNone, is_too_long, resource_at, load_of, loaded_again, with_resource, locked, lock_outcome, slot_of_resource}
-use Rattle.w16_loading.specs.Families.{LoadingCommand, ModuleCommand, ResourceCommand, Loading, FamilyStep, FarStep, LoadingStep}
-use Rattle.w16_loading.specs.Families.LoadingCommand.{OfHandles, OfResizes, OfFar, OfModules, OfResources}
-use Rattle.w16_loading.specs.AnyStore.{AnyFetches, AnyLoads, AnyLoadsBy, GivesAny, far_reads_file, lock_reads_file, reads_files}
-use Rattle.w16_loading.specs.Fewest.{FetchesFewest, GivesAnyFewest, RequestsFewestLaw}
-use Rattle.w16_loading.specs.Law.{IsLoadingWorld, IsAnyStepLaw, ReadsNoFilesLaw}
 use Rattle.w16_loading.proofs.Importers.{entry_there}
 use Rattle.w16_loading.proofs.Bound.{world_used_less, world_without}
 use Rattle.w16_loading.proofs.Fillings.{one_heap}

@@ -1,13 +1,6 @@
 -- A module that others import stays, whoever takes its explicit uses away.
-use Rattle.std.proofs.Common.{◌≡◌, ℕ, ◌-◌, ◌<◌, inl, inr, true, false, cond, not, List, [], ◌∷◌, Option, Some, None, IfSome, IsSomeAnd, is_some, refl, sym, ap, ◌∙◌, subst, arith}
+use Rattle.w16_loading.proofs.Common.{◌≡◌, ℕ, ◌-◌, ◌<◌, inl, inr, true, false, cond, not, List, [], ◌∷◌, Option, Some, None, IfSome, IsSomeAnd, is_some, refl, sym, ap, ◌∙◌, subst, arith, cases_eq, inserted_here, inserted_other, Resource, numbered, LoadingWorld, Load, Module, Named, module_at, module_in, imports, importers, Loaded, Go, used_less, is_left_over, without_orphans, IsLoadingWorld, IsLoad, UsesApartLaw}
 use Rattle.std.specs.FinMap as finmap
-use Rattle.std.proofs.lemmas.Bool.{cases_eq}
-use Rattle.w16_model.proofs.KeptHeaps.{inserted_here, inserted_other}
-use Rattle.w16_loading.specs.File.{Resource, numbered}
-use Rattle.w16_loading.specs.Modules.{LoadingWorld, Load, Module, Named, module_at, module_in, imports, importers}
-use Rattle.w16_loading.specs.Modules.Named.{Loaded}
-use Rattle.w16_loading.specs.Free.{Go, used_less, is_left_over, without_orphans}
-use Rattle.w16_loading.specs.Law.{IsLoadingWorld, IsLoad, UsesApartLaw}
 use Rattle.w16_loading.proofs.Given.{loaded_is}
 use Rattle.w16_loading.proofs.Absences.{all_retained, none_gone, put_same}
 use Rattle.w16_loading.proofs.Importers.{HasImporter, Idle, importer_of, idle_parts, none_idle}

@@ -1,12 +1,7 @@
 -- The world in which nothing is loaded.
-use Rattle.std.proofs.Common.{◌≡◌, ℕ, Option, Some, None, IfSome, sym, ap, ◌∙◌}
-use Rattle.std.specs.Ordering.{nat_cmp}
+use Rattle.w16_loading.proofs.Common.{◌≡◌, ℕ, Option, Some, None, IfSome, sym, ap, ◌∙◌, nat_cmp, get-empty, owned_in, Module, Named, module_in, EmptyLaw, EmptyOfFilesLaw}
 use Rattle.std.specs.FinMap as finmap
-use Rattle.std.specs.FinMap.{get-empty}
 use Rattle.w16_model.proofs.Empty as handles
-use Rattle.w16_model.specs.Owned.{owned_in}
-use Rattle.w16_loading.specs.Modules.{Module, Named, module_in}
-use Rattle.w16_loading.specs.Law.{EmptyLaw, EmptyOfFilesLaw}
 
 -- nothing is under any key
 none : {X : Type 0} (q : ℕ) → finmap.get (finmap.empty {X = X} {R = nat_cmp}) q ≡ None

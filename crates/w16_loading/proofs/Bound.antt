@@ -1,20 +1,6 @@
 -- What was bound at load stays until the module goes.
-use Rattle.std.proofs.Common.{◌≡◌, ◌≢◌, ℕ, ◌+◌, ◌-◌, inl, inr, ◌⊎◌, List, [], ◌∷◌, Option, Some, None, refl, sym, ap, ◌∙◌, subst}
+use Rattle.w16_loading.proofs.Common.{◌≡◌, ◌≢◌, ℕ, ◌+◌, ◌-◌, inl, inr, ◌⊎◌, List, [], ◌∷◌, Option, Some, None, refl, sym, ap, ◌∙◌, subst, cases_eq, is_member, Member, Each-at, Each-from_All, inserted_here, inserted_other, taken_here, taken_other, LoadingWorld, Module, Modules, Named, IsFreeModule, module_at, module_in, with_heap, Loaded, BuiltIn, Giving, FillsOne, Failure, is_of_device, Closure, Found, Given, given_from, with_modules, bound, named, Answer, Loads, Fulfils, undone, left, Fetches, without_objects, Go, Frees, used_less, without_module, BoundOnceLaw}
 use Rattle.std.specs.FinMap as finmap
-use Rattle.std.proofs.lemmas.Bool.{cases_eq}
-use Rattle.w16_model.specs.Discards.{is_member}
-use Rattle.w16_model.proofs.Gaps.{Member, Each-at, Each-from_All}
-use Rattle.w16_model.proofs.KeptHeaps.{inserted_here, inserted_other, taken_here, taken_other}
-use Rattle.w16_loading.specs.Modules.{LoadingWorld, Module, Modules, Named, IsFreeModule, module_at, module_in, with_heap}
-use Rattle.w16_loading.specs.Modules.Named.{Loaded, BuiltIn}
-use Rattle.w16_loading.specs.Fill.{Giving, FillsOne, Failure, is_of_device}
-use Rattle.w16_loading.specs.Closure.{Closure, Found}
-use Rattle.w16_loading.specs.Naming.{Given, given_from, with_modules, bound, named}
-use Rattle.w16_loading.specs.Load.{Answer, Loads, Fulfils, undone, left}
-use Rattle.w16_loading.specs.Fetch.{Fetches}
-use Rattle.w16_loading.specs.Release.{without_objects}
-use Rattle.w16_loading.specs.Free.{Go, Frees, used_less, without_module}
-use Rattle.w16_loading.specs.Law.{BoundOnceLaw}
 use Rattle.w16_loading.proofs.Given.{given_handle, put_all}
 use Rattle.w16_loading.proofs.Stepping.{Parts, nothing_asked, family, loaded}
 

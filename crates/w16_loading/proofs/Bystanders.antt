@@ -1,25 +1,8 @@
 -- What each step leaves of objects that it isn't about, and of pinned ones, whatever the store answers.
-use Rattle.std.proofs.Common.{◌≡◌, ℕ, inl, inr, ◌⊎◌, true, false, List, Option, Some, None, MatchOption, IsSomeAnd, is_some, refl, sym, subst}
+use Rattle.w16_loading.proofs.Common.{◌≡◌, ℕ, inl, inr, ◌⊎◌, true, false, List, Option, Some, None, MatchOption, IsSomeAnd, is_some, refl, sym, subst, IsAbout, Handles, Object, object_at, is_pinned_object, StandsStill, Call, CallStep, Calls, AnyFetches, AnyLoads, IsReleased, IsStepAbout, StepBystandersLaw, StepPinnedLaw, call_of, releases, step_may_move_own, AddsBuiltIn, FamilyStep, GivesBuiltIn, LoadingCommand, ModuleCommand, ModuleStep, ResourceCommand, ResourceStep, built_in, OfHandles, OfResizes, OfFar, OfModules, OfResources, Builtin, LoadModule, LoadLibrary, FreeLibrary, FreeModule, GetModuleHandle, GetModuleUsage, GetProcAddress, FindResource, LoadResource, LockResource, FreeResource, SizeofResource, IsLoadingWorld, LoadingWorld, handle_named, Reply, ResizeReplies, answer_in, ResizeCommand, ResizeStep, GlobalReAlloc, GlobalDiscard}
 use Rattle.std.specs.FinMap as finmap
 use Rattle.w16_model.specs.Calls as calls
-use Rattle.w16_model.specs.CallLaws.{IsAbout}
-use Rattle.w16_model.specs.Handles.{Handles}
-use Rattle.w16_model.specs.Heap.{Object, object_at, is_pinned_object}
-use Rattle.w16_model.specs.Law.{StandsStill}
-use Rattle.w16_model.specs.Outcomes.{Call, CallStep}
-use Rattle.w16_model.specs.Outcomes.Call.{Calls}
 use Rattle.w16_model.proofs.Bystanders as calls_proofs
-use Rattle.w16_loading.specs.AnyStore.{AnyFetches, AnyLoads}
-use Rattle.w16_loading.specs.Bystanders.{IsReleased, IsStepAbout, StepBystandersLaw, StepPinnedLaw, call_of, releases, step_may_move_own}
-use Rattle.w16_loading.specs.Families.{AddsBuiltIn, FamilyStep, GivesBuiltIn, LoadingCommand, ModuleCommand, ModuleStep, ResourceCommand, ResourceStep, built_in}
-use Rattle.w16_loading.specs.Families.LoadingCommand.{OfHandles, OfResizes, OfFar, OfModules, OfResources}
-use Rattle.w16_loading.specs.Families.ModuleCommand.{Builtin, LoadModule, LoadLibrary, FreeLibrary, FreeModule, GetModuleHandle, GetModuleUsage, GetProcAddress}
-use Rattle.w16_loading.specs.Families.ResourceCommand.{FindResource, LoadResource, LockResource, FreeResource, SizeofResource}
-use Rattle.w16_loading.specs.Law.{IsLoadingWorld}
-use Rattle.w16_loading.specs.Modules.{LoadingWorld, handle_named}
-use Rattle.w16_loading.specs.Replies.{Reply, ResizeReplies, answer_in}
-use Rattle.w16_loading.specs.Resizes.{ResizeCommand, ResizeStep}
-use Rattle.w16_loading.specs.Resizes.ResizeCommand.{GlobalReAlloc, GlobalDiscard}
 use Rattle.w16_loading.proofs.CallsKept.{answered}
 use Rattle.w16_loading.proofs.Owners.{some_of}
 use Rattle.w16_loading.proofs.Spared.{HasPinned, IsSpared, same_spared}

@@ -1,30 +1,9 @@
 -- What calls on handles, resizes among them, leave of what modules own: each object, and code with its bytes or none. So they keep what holds of
 -- every world, and code as its files say it.
-use Rattle.std.proofs.Common.{◌≡◌, ◌≢◌, ℕ, ◌+◌, ◌-◌, true, false, Option, Some, None, IsSomeAnd, is_some, option_map, unwrap_or, refl, sym, ap, ◌∙◌, subst}
+use Rattle.w16_loading.proofs.Common.{◌≡◌, ◌≢◌, ℕ, ◌+◌, ◌-◌, true, false, Option, Some, None, IsSomeAnd, is_some, option_map, unwrap_or, refl, sym, ap, ◌∙◌, subst, false≢true, Attributes, Owned, GMEM_MOVEABLE, object_at, Handles, AreHandles, slot_of_handle, owned_in, owned_at, is_owned, owns, HandleCommand, Walked, Call, CallStep, Outcome, Calls, ReAllocs, IsSame, IsUnmoved, IsLocked, IsUnlocked, IsFreed, IsNewest, IsOldest, IsEntered, IsAllocated, IsCompacted, IsModified, IsDiscarded, IsResized, handle_in, IsAbout, taken_other, handle_law, resize_law, outcome, bystander, Format, LoadingWorld, Reply, HandleReplies, ResizeReplies, answer_in, ResizeCommand, ResizeStep, GlobalReAlloc, GlobalDiscard, IsLoadingWorld, CallsKeepWorldsLaw}
 use Rattle.std.specs.FinMap as finmap
-use Rattle.std.proofs.lemmas.Bool.{false≢true}
-use Rattle.w16_model.specs.declared.Attributes.{Attributes}
-use Rattle.w16_model.specs.declared.Owned.{Owned}
-use Rattle.w16_model.specs.declared.TheConstants.{GMEM_MOVEABLE}
-use Rattle.w16_model.specs.Heap.{object_at}
-use Rattle.w16_model.specs.Handles.{Handles, AreHandles, slot_of_handle}
-use Rattle.w16_model.specs.Owned.{owned_in, owned_at, is_owned, owns}
-use Rattle.w16_model.specs.Calls.{HandleCommand, Answer}
-use Rattle.w16_model.specs.Calls.Answer.{Word, Dword, Walked}
-use Rattle.w16_model.specs.Outcomes.{Call, CallStep, Outcome}
-use Rattle.w16_model.specs.Outcomes.Call.{Calls, ReAllocs}
-use Rattle.w16_model.specs.Outcomes.Outcome.{IsSame, IsUnmoved, IsLocked, IsUnlocked, IsFreed, IsNewest, IsOldest, IsEntered, IsAllocated, IsCompacted, IsModified, IsDiscarded, IsResized}
-use Rattle.w16_model.specs.CallLaws.{handle_in, IsAbout}
-use Rattle.w16_model.proofs.KeptHeaps.{taken_other}
-use Rattle.w16_model.proofs.ResizedHandles.{handle_law, resize_law}
-use Rattle.w16_model.proofs.CallOutcomes.{outcome}
-use Rattle.w16_model.proofs.Bystanders.{bystander}
-use Rattle.w16_loading.specs.File.{Format}
-use Rattle.w16_loading.specs.Modules.{LoadingWorld}
-use Rattle.w16_loading.specs.Replies.{Reply, HandleReplies, ResizeReplies, answer_in}
-use Rattle.w16_loading.specs.Resizes.{ResizeCommand, ResizeStep}
-use Rattle.w16_loading.specs.Resizes.ResizeCommand.{GlobalReAlloc, GlobalDiscard}
-use Rattle.w16_loading.specs.Law.{IsLoadingWorld, CallsKeepWorldsLaw}
+use Rattle.w16_model.specs.Calls.{Answer}
+use Rattle.w16_model.specs.Calls.Answer.{Word, Dword}
 use Rattle.w16_loading.proofs.OwnedKept.{SameOwned, owned_by}
 use Rattle.w16_loading.proofs.KeptCode.{KeepsCode, same_source, as_it_was}
 use Rattle.w16_loading.proofs.KeptWorlds.{IsLeft, same_left, put_left, kept_left, left_owned, left_bytes, world_stays}

@@ -1,15 +1,6 @@
 -- The order in which unused modules go doesn't matter: what is idle stays so until it goes, and two go in either order.
-use Rattle.std.proofs.Common.{◌≡◌, ◌≢◌, ℕ, inl, inr, ◌⊎◌, Bool, true, not, List, [], ◌∷◌, Option, Some, None, sym, ap, ◌∙◌, subst}
+use Rattle.w16_loading.proofs.Common.{◌≡◌, ◌≢◌, ℕ, inl, inr, ◌⊎◌, Bool, true, not, List, [], ◌∷◌, Option, Some, None, sym, ap, ◌∙◌, subst, false≢true, cases_eq, is_member, taken_here, taken_other, filter_swapped, LoadingWorld, Module, Named, module_in, is_idle, Loaded, without_objects, Go, without_module, OneEndLaw}
 use Rattle.std.specs.FinMap as finmap
-use Rattle.std.proofs.lemmas.Bool.{false≢true, cases_eq}
-use Rattle.w16_model.specs.Discards.{is_member}
-use Rattle.w16_model.proofs.KeptHeaps.{taken_here, taken_other}
-use Rattle.w16_model.proofs.Prefixes.{filter_swapped}
-use Rattle.w16_loading.specs.Modules.{LoadingWorld, Module, Named, module_in, is_idle}
-use Rattle.w16_loading.specs.Modules.Named.{Loaded}
-use Rattle.w16_loading.specs.Release.{without_objects}
-use Rattle.w16_loading.specs.Free.{Go, without_module}
-use Rattle.w16_loading.specs.Law.{OneEndLaw}
 use Rattle.w16_loading.proofs.Absences.{retained_swapped, removed_swapped}
 use Rattle.w16_loading.proofs.Importers.{HasImporter, Idle, idle_parts, is_then_idle}
 use Rattle.w16_loading.proofs.Bound.{world_without}

@@ -1,9 +1,6 @@
 -- A closure has one outcome.
-use Rattle.std.proofs.Common.{◌≡◌, ℕ, zero, suc, List, [], ◌∷◌, Result, Ok, Err, IfOk, refl, sym, ap, ◌∙◌, subst}
-use Rattle.w16_loading.specs.File.{Format}
-use Rattle.w16_loading.specs.Closure.{Around, Closure, followed, after}
+use Rattle.w16_loading.proofs.Common.{◌≡◌, ℕ, zero, suc, List, [], ◌∷◌, Result, Ok, Err, IfOk, refl, sym, ap, ◌∙◌, subst, Format, Around, Closure, followed, after, OneClosureLaw}
 use Rattle.w16_loading.proofs.Readings.{from_next, from_list}
-use Rattle.w16_loading.specs.Law.{OneClosureLaw}
 
 abbrev IsDone : Result Closure ℕ → Type 0
 IsDone outcome = IfOk outcome (λ c. c.pending ≡ [])

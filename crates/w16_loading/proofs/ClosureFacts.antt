@@ -1,14 +1,6 @@
 -- What a closure has found: modules of names that nothing had, each but the first asked for by another.
-use Rattle.std.proofs.Common.{◌≡◌, ◌≢◌, ℕ, zero, suc, ◌+◌, ◌<◌, ◌≤◌, inl, inr, Bool, true, false, nat_lt, List, [], ◌∷◌, ◌++◌, length, map, position, Option, Some, None, IfSome, Result, Ok, Err, IfOk, option_map, refl, sym, ap, ◌∙◌, subst, arith, ltb-true, ltb-false, length-append}
+use Rattle.w16_loading.proofs.Common.{◌≡◌, ◌≢◌, ℕ, zero, suc, ◌+◌, ◌<◌, ◌≤◌, inl, inr, Bool, true, false, nat_lt, List, [], ◌∷◌, ◌++◌, length, map, position, Option, Some, None, IfSome, Result, Ok, Err, IfOk, option_map, refl, sym, ap, ◌∙◌, subst, arith, ltb-true, ltb-false, length-append, option_or, Member, EachPair, is_named, Format, IsFormat, IsModuleFile, ModuleFile, Around, Closure, Found, Referent, reading, meant, followed, after, begun, dll, with_bound, with_found, Read, There, New, AnyCloses, IsAnyClosure, with_files}
 use Rattle.std.specs.List.{AllByRecursion as Each}
-use Rattle.std.specs.Option.{option_or}
-use Rattle.w16_model.proofs.Gaps.{Member, EachPair}
-use Rattle.w16_store.specs.Names.{is_named}
-use Rattle.w16_loading.specs.File.{Format, IsFormat, IsModuleFile, ModuleFile}
-use Rattle.w16_loading.specs.Closure.{Around, Closure, Found, Referent, reading, meant, followed, after, begun, dll, with_bound, with_found}
-use Rattle.w16_loading.specs.Closure.Reading.{Read}
-use Rattle.w16_loading.specs.Closure.Referent.{There, New}
-use Rattle.w16_loading.specs.AnyStore.{AnyCloses, IsAnyClosure, with_files}
 use Rattle.w16_loading.proofs.Undone.{in_first, in_second, parted}
 use Rattle.w16_loading.proofs.Given.{no_place}
 use Rattle.w16_loading.proofs.Readings.{read_by, IsRead, reading_is, follow_cases, from_next, from_list}

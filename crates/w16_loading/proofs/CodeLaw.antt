@@ -1,13 +1,5 @@
 -- The code that a script reads is always its file's, relocated: after each step of each family.
-use Rattle.std.proofs.Common.{ℕ, ◌+◌, Option, Some, None, sym, subst}
-use Rattle.w16_loading.specs.File.{Format}
-use Rattle.w16_loading.specs.Modules.{LoadingWorld, with_heap}
-use Rattle.w16_loading.specs.Fill.{FillsOne, Failure, InTurn, is_of_device}
-use Rattle.w16_loading.specs.Closure.{Closure, around}
-use Rattle.w16_loading.specs.Naming.{named, fills}
-use Rattle.w16_loading.specs.Load.{Answer, Loads, Fulfils, after_use, undone, left}
-use Rattle.w16_loading.specs.Fetch.{Fetches}
-use Rattle.w16_loading.specs.Law.{IsLoadingWorld, IsOfFiles, CodeLaw}
+use Rattle.w16_loading.proofs.Common.{ℕ, ◌+◌, Option, Some, None, sym, subst, Format, LoadingWorld, with_heap, FillsOne, Failure, InTurn, is_of_device, Closure, around, named, fills, Answer, Loads, Fulfils, after_use, undone, left, Fetches, IsLoadingWorld, IsOfFiles, CodeLaw}
 use Rattle.w16_loading.proofs.Fillings.{all_as_any}
 use Rattle.w16_loading.proofs.Named.{named_handles}
 use Rattle.w16_loading.proofs.RefusedLoad.{undone_discards}

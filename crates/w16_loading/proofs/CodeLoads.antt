@@ -1,20 +1,6 @@
 -- A load gives code the bytes that its files say, and leaves all other code as it was.
-use Rattle.std.proofs.Common.{◌≡◌, ◌≢◌, ℕ, ◌-◌, ◌<◌, inl, inr, ◌⊎◌, true, false, cond, ◌&&◌, List, [], ◌∷◌, ◌++◌, length, fold, map, slice_get, slice_index_or, Option, Some, None, IfSome, IsSomeAnd, is_some, option_map, unwrap_or, Ok, MatchResult, refl, sym, ap, ◌∙◌, subst, arith, ne_eqb}
-use Rattle.std.specs.List.{AllByRecursion as Each, AllZip, list_all}
-use Rattle.std.proofs.lemmas.Bool.{false≢true, cases_eq}
-use Rattle.std.proofs.lemmas.List.{length-map}
-use Rattle.w16_model.specs.Heap.{Heap, bytes_at}
-use Rattle.w16_model.proofs.Gaps.{Member, EachPair, Each-at, EachPair-from_AllPairs}
-use Rattle.w16_model.proofs.KeptHeaps.{inserted_here, inserted_other, bytes_in}
-use Rattle.w16_loading.specs.File.{Format, ModuleFile, Segment, SegmentData, Far, Target, targets_of, numbered}
-use Rattle.w16_model.specs.declared.Owned.{Owned}
-use Rattle.w16_loading.specs.Modules.{LoadingWorld, Module, IsSegmentOf, module_at, with_heap}
-use Rattle.w16_loading.specs.Fill.{FillsOne, Filling, InTurn, is_of_device}
-use Rattle.w16_loading.specs.Closure.{Around, Closure, Found, reading, are_sound, followed, after, begun, dll, around}
-use Rattle.w16_loading.specs.Closure.Reading.{Read}
-use Rattle.w16_loading.specs.Naming.{Choice, IsChoice, Given, all_slots, given, segments_of, with_segment, bound, named, fills}
-use Rattle.w16_loading.specs.Fetch.{read_of, segment_bytes, is_code}
-use Rattle.w16_loading.specs.Law.{IsLoadingWorld, CodeIsItsFiles, IsItsFiles, ModulesAreItsFiles, IsOfFiles}
+use Rattle.w16_loading.proofs.Common.{◌≡◌, ◌≢◌, ℕ, ◌-◌, ◌<◌, inl, inr, ◌⊎◌, true, false, cond, ◌&&◌, List, [], ◌∷◌, ◌++◌, length, fold, map, slice_get, slice_index_or, Option, Some, None, IfSome, IsSomeAnd, is_some, option_map, unwrap_or, Ok, MatchResult, refl, sym, ap, ◌∙◌, subst, arith, ne_eqb, AllZip, list_all, false≢true, cases_eq, length-map, Heap, bytes_at, Member, EachPair, Each-at, EachPair-from_AllPairs, inserted_here, inserted_other, bytes_in, Format, ModuleFile, Segment, SegmentData, Far, Target, targets_of, numbered, Owned, LoadingWorld, Module, IsSegmentOf, module_at, with_heap, FillsOne, Filling, InTurn, is_of_device, Around, Closure, Found, reading, are_sound, followed, after, begun, dll, around, Read, Choice, IsChoice, Given, all_slots, given, segments_of, with_segment, bound, named, fills, read_of, segment_bytes, is_code, IsLoadingWorld, CodeIsItsFiles, IsItsFiles, ModulesAreItsFiles, IsOfFiles}
+use Rattle.std.specs.List.{AllByRecursion as Each}
 use Rattle.w16_loading.proofs.Undone.{chosen, fold_named, same_owned}
 use Rattle.w16_loading.proofs.Named.{named_handles, free_slot}
 use Rattle.w16_loading.proofs.Given.{place_member, one_place, index_place, given_found, given_slot, given_slots_differ, one_given, new_or_old, IsFilledBy, filled_by, filled_chosen}

@@ -1,20 +1,7 @@
 -- What a script reads of code is its file's, relocated.
-use Rattle.std.proofs.Common.{◌≡◌, ℕ, ◌+◌, ◌/◌, Bool, true, false, ◌&&◌, ◌==◌, if◌then◌else◌, List, [], Option, Some, None, IfSome, IsSomeAnd, MatchOption, MatchBool, is_some, unwrap_or, refl, sym, ap, ◌∙◌, subst}
-use Rattle.w16_model.specs.declared.FarFault.{FarFault}
-use Rattle.w16_model.specs.Bytes.{part}
-use Rattle.w16_model.specs.Heap.{object_at, bytes_at}
-use Rattle.w16_model.specs.OneObject.{after_touch}
-use Rattle.w16_model.specs.Handles.{Handles, slot_of_selector, selector_of, selector_in, offset_in}
-use Rattle.w16_model.specs.Far.{FarAnswer, far_fault, far_slot, far_bytes}
-use Rattle.w16_model.proofs.Accesses.{Reached, reached}
+use Rattle.w16_loading.proofs.Common.{◌≡◌, ℕ, ◌+◌, ◌/◌, Bool, true, false, ◌&&◌, ◌==◌, if◌then◌else◌, List, [], Option, Some, None, IfSome, IsSomeAnd, MatchOption, MatchBool, is_some, unwrap_or, refl, sym, ap, ◌∙◌, subst, FarFault, part, object_at, bytes_at, after_touch, Handles, slot_of_selector, selector_of, selector_in, offset_in, FarAnswer, far_fault, far_slot, far_bytes, Reached, reached, FetchFault, Format, LoadingWorld, Module, IsSegmentOf, module_at, is_of_device, Fetches, segment_bytes, is_code, far_read, gives, is_not_present, reply_of_far, Failed, CodeIsItsFiles, IsOfFiles, CodeReadsLaw}
 use Rattle.w16_loading.specs.Replies as replies
-use Rattle.w16_loading.specs.declared.FetchFault.{FetchFault}
-use Rattle.w16_loading.specs.File.{Format}
-use Rattle.w16_loading.specs.Modules.{LoadingWorld, Module, IsSegmentOf, module_at, is_owned}
-use Rattle.w16_loading.specs.Fill.{is_of_device}
-use Rattle.w16_loading.specs.Fetch.{Fetches, segment_bytes, is_code, far_read, gives, is_not_present, reply_of_far}
-use Rattle.w16_loading.specs.Replies.Reply.{Failed}
-use Rattle.w16_loading.specs.Law.{CodeIsItsFiles, IsOfFiles, CodeReadsLaw}
+use Rattle.w16_loading.specs.Modules.{is_owned}
 use Rattle.w16_loading.proofs.KeptCode.{code_kept, fetched_code, image_of}
 use Rattle.w16_loading.proofs.CodeSteps.{world_fetches}
 use Rattle.w16_loading.proofs.Fillings.{one_there}

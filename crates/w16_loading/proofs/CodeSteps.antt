@@ -1,32 +1,7 @@
 -- The steps of the families, but for loads, keep code as its files say it.
-use Rattle.std.proofs.Common.{◌≡◌, ◌≢◌, ℕ, ◌+◌, ◌-◌, inl, inr, ◌⊎◌, Bool, true, false, cond, not, ◌==◌, nat_lt, List, [], ◌∷◌, length, Option, Some, None, option_map, option_map, unwrap_or, refl, sym, ap, ◌∙◌, subst}
-use Rattle.std.specs.Ordering.{nat_cmp}
+use Rattle.w16_loading.proofs.Common.{◌≡◌, ◌≢◌, ℕ, ◌+◌, ◌-◌, inl, inr, ◌⊎◌, Bool, true, false, cond, not, ◌==◌, nat_lt, List, [], ◌∷◌, length, Option, Some, None, option_map, unwrap_or, refl, sym, ap, ◌∙◌, subst, nat_cmp, false≢true, cases_Bool, cases_eq, FarFault, BadSelector, NotPresent, Limit, put_part, is_member, Heap, object_at, bytes_at, after_touch, slot_of_selector, IsFreeSlot, global_lock, far_fault, far_slot, after_write, get-update_other, inserted_here, inserted_other, taken_here, taken_other, bytes_in, entered_heap, FetchFault, Format, Resource, Owned, LoadingWorld, Load, Module, Modules, module_at, module_in, with_heap, Loaded, BuiltIn, without_objects, Fetches, is_code, far_read, far_write, Go, Frees, used_less, without_module, without_orphans, is_left_over, Attributes, owned_in, refuses_write, attributes_for, with_resource, locked, IsLoadingWorld, IsOfFiles}
 use Rattle.std.specs.FinMap as finmap
-use Rattle.std.proofs.lemmas.Bool.{false≢true, cases_Bool, cases_eq}
-use Rattle.w16_model.specs.declared.FarFault.{FarFault}
-use Rattle.w16_model.specs.declared.FarFault.TheVariants.{BadSelector, NotPresent, Limit}
-use Rattle.w16_model.specs.Bytes.{put_part}
-use Rattle.w16_model.specs.Discards.{is_member}
-use Rattle.w16_model.specs.Heap.{Heap, object_at, bytes_at}
-use Rattle.w16_model.specs.OneObject.{after_touch}
-use Rattle.w16_model.specs.Handles.{slot_of_selector, IsFreeSlot}
-use Rattle.w16_model.specs.Calls.{global_lock}
-use Rattle.w16_model.specs.Far.{far_fault, far_slot, after_write}
-use Rattle.w16_model.proofs.Heaps.{get-update_other}
-use Rattle.w16_model.proofs.KeptHeaps.{inserted_here, inserted_other, taken_here, taken_other, bytes_in, entered_heap}
-use Rattle.w16_loading.specs.declared.FetchFault.{FetchFault}
-use Rattle.w16_loading.specs.File.{Format, Resource}
-use Rattle.w16_model.specs.declared.Owned.{Owned}
-use Rattle.w16_loading.specs.Modules.{LoadingWorld, Load, Module, Modules, module_at, module_in, with_heap}
-use Rattle.w16_loading.specs.Modules.Named.{Loaded, BuiltIn}
-use Rattle.w16_loading.specs.Release.{without_objects}
-use Rattle.w16_loading.specs.Fetch.{Fetches, is_code, far_read, far_write}
-use Rattle.w16_loading.specs.Free.{Go, Frees, used_less, without_module, without_orphans, is_left_over}
-use Rattle.w16_model.specs.declared.Attributes.{Attributes}
-use Rattle.w16_model.specs.Owned.{owned_in, refuses_write}
 use Rattle.w16_loading.proofs.OwnedKept.{locked as owned_locked}
-use Rattle.w16_loading.specs.Resource.{attributes_for, with_resource, locked}
-use Rattle.w16_loading.specs.Law.{IsLoadingWorld, IsOfFiles}
 use Rattle.w16_loading.proofs.Undone.{retained}
 use Rattle.w16_loading.proofs.Again.{segment_image}
 use Rattle.w16_loading.proofs.Given.{loaded_is}

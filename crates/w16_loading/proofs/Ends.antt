@@ -1,10 +1,7 @@
 -- A closure ends: each new module takes one of the free handles, and each reference is followed once.
-use Rattle.std.proofs.Common.{◌≡◌, ℕ, zero, suc, ◌+◌, ◌<◌, ◌≤◌, inl, inr, ◌⊎◌, List, [], ◌∷◌, length, Result, Ok, Err, IfOk, refl, sym, ap, subst, arith, length-append}
-use Rattle.w16_loading.specs.File.{Format}
-use Rattle.w16_loading.specs.Closure.{Around, Closure, followed, Closes}
+use Rattle.w16_loading.proofs.Common.{◌≡◌, ℕ, zero, suc, ◌+◌, ◌<◌, ◌≤◌, inl, inr, ◌⊎◌, List, [], ◌∷◌, length, Result, Ok, Err, IfOk, refl, sym, ap, subst, arith, length-append, Format, Around, Closure, followed, Closes, ClosureEndsLaw}
 use Rattle.w16_loading.proofs.Readings as loads
 use Rattle.w16_loading.proofs.Readings.{follow_cases}
-use Rattle.w16_loading.specs.Law.{ClosureEndsLaw}
 
 module _ (format : Format) (around : Around) where
   -- a reference that is followed finds no module, or takes a handle

@@ -1,18 +1,6 @@
 -- Closures of small files, worked out.
 use base.Stored.Gv.{gnil}
-use Rattle.std.proofs.Common.{◌≡◌, ℕ, zero, suc, Bool, true, false, List, [], ◌∷◌, codes, Some, None, Result, Ok, Err, if◌then◌else◌, slice_index, replicate, ◌==◌, refl}
-use Rattle.w16_loading.specs.File.{Format, ModuleFile}
-use Rattle.w16_store.specs.Names.{is_named}
-use Rattle.w16_store.specs.Files.{file_of}
-use Rattle.w16_model.specs.declared.Kind.TheVariants.{Moveable}
-use Rattle.w16_loading.specs.Modules.{LoadingWorld, Module, usage_with, importers_among}
-use Rattle.w16_loading.specs.Modules.Named.{Loaded, BuiltIn}
-use Rattle.w16_loading.specs.Naming.{Choice, Given, unbound}
-use Rattle.w16_loading.specs.Load.{used_again, after_use}
-use Rattle.w16_loading.specs.Load.Answer.{Says}
-use Rattle.w16_loading.specs.Closure.{Found, Around, Closure, reading, begun, after}
-use Rattle.w16_loading.specs.Closure.Referent.{There, New}
-use Rattle.w16_loading.specs.Closure.Reading.{Refused, Meant}
+use Rattle.w16_loading.proofs.Common.{◌≡◌, ℕ, zero, suc, Bool, true, false, List, [], ◌∷◌, codes, Some, None, Result, Ok, Err, if◌then◌else◌, slice_index, replicate, ◌==◌, refl, Format, ModuleFile, is_named, file_of, Moveable, LoadingWorld, Module, usage_with, importers_among, Loaded, BuiltIn, Choice, Given, unbound, used_again, after_use, Says, Found, Around, Closure, reading, begun, after, There, New, Refused, Meant}
 
 -- a file without segments
 abbrev plain : List ℕ → Bool → List (List ℕ) → ModuleFile

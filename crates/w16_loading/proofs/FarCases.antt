@@ -1,15 +1,7 @@
 -- A far access, by cases: it is refused, or it touches its object, and a write puts its bytes there first.
-use Rattle.std.proofs.Common.{◌≡◌, ℕ, Bool, true, false, cond, List, length, Option, Some, None, refl}
-use Rattle.w16_model.specs.declared.FarFault.{FarFault}
+use Rattle.w16_loading.proofs.Common.{◌≡◌, ℕ, Bool, true, false, cond, List, length, Option, Some, None, refl, FarFault, part, after_touch, Handles, refuses_write, FarAnswer, far_fault, far_slot, far_bytes, after_write, LoadingWorld, with_heap, far_read, far_write}
 use Rattle.w16_model.specs.declared.FarFault.TheVariants as faults
-use Rattle.w16_model.specs.Bytes.{part}
-use Rattle.w16_model.specs.OneObject.{after_touch}
-use Rattle.w16_model.specs.Handles.{Handles}
-use Rattle.w16_model.specs.Owned.{refuses_write}
 use Rattle.w16_model.specs.Far as far_access
-use Rattle.w16_model.specs.Far.{FarAnswer, far_fault, far_slot, far_bytes, after_write}
-use Rattle.w16_loading.specs.Modules.{LoadingWorld, with_heap}
-use Rattle.w16_loading.specs.Fetch.{far_read, far_write}
 
 module _ (P : LoadingWorld → Type 0) (world : LoadingWorld) (good : P world) (selector offset : ℕ) where
   abbrev slot : ℕ

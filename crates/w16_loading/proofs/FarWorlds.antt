@@ -1,20 +1,6 @@
 -- Far accesses keep what holds of every world.
-use Rattle.std.proofs.Common.{◌≡◌, ◌≢◌, ℕ, ◌+◌, ◌<◌, ◌≤◌, inl, inr, ◌⊎◌, List, length, All, Option, Some, None, IfSome, IsSomeAnd, option_map, refl, sym, ◌∙◌, subst}
-use Rattle.std.proofs.lemmas.Bool.{cases_eq}
-use Rattle.w16_model.specs.declared.Kind.{Kind}
-use Rattle.w16_model.specs.Bytes.{put_part}
-use Rattle.w16_model.specs.Heap.{Object, object_at}
-use Rattle.w16_model.specs.OneObject.{after_touch}
-use Rattle.w16_model.specs.Handles.{Handles}
-use Rattle.w16_model.specs.Far.{far_fault, far_slot, after_write}
-use Rattle.w16_model.proofs.Parts.{length-put_part}
-use Rattle.w16_model.proofs.Accesses.{Reached, reached}
-use Rattle.w16_model.proofs.Heaps.{get-update_same, get-update_other}
-use Rattle.w16_model.proofs.KeptHandles.{read_handles, write_handles}
-use Rattle.w16_loading.specs.Modules.{LoadingWorld}
-use Rattle.w16_loading.specs.Fetch.{far_read, far_write}
+use Rattle.w16_loading.proofs.Common.{◌≡◌, ◌≢◌, ℕ, ◌+◌, ◌<◌, ◌≤◌, inl, inr, ◌⊎◌, List, length, All, Option, Some, None, IfSome, IsSomeAnd, option_map, refl, sym, ◌∙◌, subst, cases_eq, Kind, put_part, Object, object_at, after_touch, Handles, far_fault, far_slot, after_write, length-put_part, Reached, reached, get-update_same, get-update_other, read_handles, write_handles, LoadingWorld, far_read, far_write, IsLoadingWorld}
 use Rattle.w16_loading.proofs.OwnedKept.{SameOwned}
-use Rattle.w16_loading.specs.Law.{IsLoadingWorld}
 use Rattle.w16_loading.proofs.FarCases.{read_cases, write_cases}
 use Rattle.w16_loading.proofs.KeptWorlds.{IsOwned, world_stays}
 

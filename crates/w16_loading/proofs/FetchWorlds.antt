@@ -1,22 +1,6 @@
 -- A fetch keeps what holds of every world, whatever the store answers: what it gives has the size that the world has of it.
-use Rattle.std.proofs.Common.{◌≡◌, ◌≢◌, ℕ, ◌-◌, ◌<◌, ◌≤◌, ◌==◌, inl, inr, ◌⊎◌, Bool, true, false, cond, List, [], length, Option, Some, None, IfSome, IsSomeAnd, MatchOption, MatchResult, is_some, option_map, slice_get, slice_index_or, Result, Ok, Err, refl, sym, ap, ◌∙◌, subst, arith, ne_eqb}
-use Rattle.std.proofs.lemmas.Bool.{cases_eq}
-use Rattle.std.proofs.lemmas.Slice.Zip.{AllZip-left}
-use Rattle.w16_model.specs.declared.Kind.{Kind}
-use Rattle.w16_model.specs.declared.Owned.{Owned}
-use Rattle.w16_model.specs.Heap.{Heap, Object, IsHeap, object_at}
-use Rattle.w16_model.specs.Calls.{rounded_size}
-use Rattle.w16_model.specs.Owned.{owned_at}
-use Rattle.w16_model.proofs.KeptHandles.{other_handles}
-use Rattle.w16_store.specs.Files.{file_of}
-use Rattle.w16_loading.specs.declared.FetchFault.{FetchFault}
+use Rattle.w16_loading.proofs.Common.{◌≡◌, ◌≢◌, ℕ, ◌-◌, ◌<◌, ◌≤◌, ◌==◌, inl, inr, ◌⊎◌, Bool, true, false, cond, List, [], length, Option, Some, None, IfSome, IsSomeAnd, MatchOption, MatchResult, is_some, option_map, slice_get, slice_index_or, Result, Ok, Err, refl, sym, ap, ◌∙◌, subst, arith, ne_eqb, cases_eq, AllZip-left, Kind, Owned, Heap, Object, IsHeap, object_at, rounded_size, owned_at, other_handles, file_of, FetchFault, Format, IsFormat, IsModuleFile, IsSegmentData, ModuleFile, Tables, Segment, SegmentData, Resource, Far, numbered, LoadingWorld, Module, IsSegmentOf, IsResourceOf, Fills, FillsOne, is_of_device, is_of_read, Fetches, IsImage, read_of, segment_bytes, resource_bytes, AnyFetches, IsOwnedSize, IsLoadingWorld, IsObjectOf, IsItsFiles, ModulesAreItsFiles}
 use Rattle.w16_loading.specs.declared.FetchFault.TheVariants as faults
-use Rattle.w16_loading.specs.File.{Format, IsFormat, IsModuleFile, IsSegmentData, ModuleFile, Tables, Segment, SegmentData, Resource, Far, numbered}
-use Rattle.w16_loading.specs.Modules.{LoadingWorld, Module, IsSegmentOf, IsResourceOf}
-use Rattle.w16_loading.specs.Fill.{Fills, FillsOne, is_of_device, is_of_read}
-use Rattle.w16_loading.specs.Fetch.{Fetches, IsImage, read_of, segment_bytes, resource_bytes}
-use Rattle.w16_loading.specs.AnyStore.{AnyFetches, IsOwnedSize}
-use Rattle.w16_loading.specs.Law.{IsLoadingWorld, IsObjectOf, IsItsFiles, ModulesAreItsFiles}
 use Rattle.w16_loading.proofs.Fillings.{SameRange, one_does, one_there, one_range, one_heap, filled_object, filled_other}
 use Rattle.w16_loading.proofs.Readings.{read_by}
 use Rattle.w16_loading.proofs.KeptWorlds.{IsOwned, kept_left, left_owned, world_stays}

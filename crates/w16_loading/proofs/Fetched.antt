@@ -1,11 +1,5 @@
 -- Fetches: what they keep.
-use Rattle.std.proofs.Common.{◌≡◌, ℕ, inl, inr, Some, refl, sym, ap, ◌∙◌, subst}
-use Rattle.std.proofs.lemmas.Bool.{false≢true}
-use Rattle.w16_model.specs.Heap.{Heap}
-use Rattle.w16_model.specs.Law.{KeepsOthers}
-use Rattle.w16_loading.specs.Modules.{with_heap}
-use Rattle.w16_loading.specs.Fill.{is_of_device}
-use Rattle.w16_loading.specs.Law.{FetchLaw, FetchRefusedLaw}
+use Rattle.w16_loading.proofs.Common.{◌≡◌, ℕ, inl, inr, Some, refl, sym, ap, ◌∙◌, subst, false≢true, Heap, KeepsOthers, with_heap, is_of_device, FetchLaw, FetchRefusedLaw}
 use Rattle.w16_loading.proofs.Fillings.{one_outcome, filled_others}
 
 -- the same heap keeps all objects

@@ -1,17 +1,5 @@
 -- The requests of loads and fetches discard as few as they can, since each is an allocation whose new bytes are given.
-use Rattle.std.proofs.Common.{◌≡◌, ℕ, Bool, true, false, List, length, Option, Some, None, refl, sym, ap, ◌∙◌, subst}
-use Rattle.std.proofs.lemmas.Bool.{false≢true}
-use Rattle.w16_model.specs.Heap.{Heap, Object, IsHeap}
-use Rattle.w16_model.specs.Changes.{with_newest}
-use Rattle.w16_model.specs.Request.{Request, IsNew, Allocates, discards_needed}
-use Rattle.w16_model.specs.Fewest.{AllocatesFewest}
-use Rattle.w16_model.specs.Owned.{revival_options}
-use Rattle.w16_model.proofs.Fewest.{allocation_law}
-use Rattle.w16_loading.specs.declared.FetchFault.{FetchFault}
-use Rattle.w16_loading.specs.declared.FetchFault.TheVariants.{NoRoom, Store, Damaged}
-use Rattle.w16_loading.specs.Fill.{Fills, FillsOne, asked_of, is_of_device}
-use Rattle.w16_loading.specs.Naming.{named, fills}
-use Rattle.w16_loading.specs.Fewest.{GivesFewest, FetchFewestLaw, LoadFewestLaw}
+use Rattle.w16_loading.proofs.Common.{◌≡◌, ℕ, Bool, true, false, List, length, Option, Some, None, refl, sym, ap, ◌∙◌, subst, false≢true, Heap, Object, IsHeap, with_newest, Request, IsNew, Allocates, discards_needed, AllocatesFewest, revival_options, allocation_law, FetchFault, NoRoom, Store, Damaged, Fills, FillsOne, asked_of, is_of_device, named, fills, GivesFewest, FetchFewestLaw, LoadFewestLaw}
 use Rattle.w16_loading.proofs.Fillings.{in_turn_as, one_heap}
 use Rattle.w16_loading.proofs.Named.{named_handles}
 

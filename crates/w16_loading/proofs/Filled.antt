@@ -1,20 +1,6 @@
 -- An allocation, and a write of all its bytes.
-use Rattle.std.proofs.Common.{◌≡◌, ℕ, inl, inr, Bool, true, false, cond, ◌<◌, IsSomeAnd, List, ◌++◌, length, All, Option, Some, None, option_map, refl, sym, ap, ◌∙◌, subst, arith}
-use Rattle.std.specs.Cmp.{nat_cmp_total}
-use Rattle.std.specs.Ordering.{nat_cmp}
+use Rattle.w16_loading.proofs.Common.{◌≡◌, ℕ, inl, inr, Bool, true, false, cond, ◌<◌, IsSomeAnd, List, ◌++◌, length, All, Option, Some, None, option_map, refl, sym, ap, ◌∙◌, subst, arith, nat_cmp_total, nat_cmp, FinMap, same_map, nat_cmp-IsAntisymmetric, false≢true, cases_eq, append-nil, drop_all, Heap, Object, update, with_newest, with_ordered, Request, IsNew, AreNew, Settles, discarded, stays_for, discards_needed, put_part, after_write, revival_options, inserted_here, inserted_other, written_heap, Fills, FillLaw}
 use Rattle.std.specs.FinMap as finmap
-use Rattle.std.specs.FinMap.{FinMap, same_map, nat_cmp-IsAntisymmetric}
-use Rattle.std.proofs.lemmas.Bool.{false≢true, cases_eq}
-use Rattle.std.proofs.lemmas.List.{append-nil, drop_all}
-use Rattle.w16_model.specs.Heap.{Heap, Object}
-use Rattle.w16_model.specs.Changes.{update, with_newest, with_ordered}
-use Rattle.w16_model.specs.Request.{Request, IsNew, AreNew, Settles, discarded, stays_for, discards_needed}
-use Rattle.w16_model.specs.Bytes.{put_part}
-use Rattle.w16_model.specs.Far.{after_write}
-use Rattle.w16_model.specs.Owned.{revival_options}
-use Rattle.w16_model.proofs.KeptHeaps.{inserted_here, inserted_other, written_heap}
-use Rattle.w16_loading.specs.Fill.{Fills}
-use Rattle.w16_loading.specs.Law.{FillLaw}
 
 -- the last object put under an id counts
 put_twice : (m : FinMap nat_cmp Object) (id : ℕ) (a b : Object) → finmap.insert (finmap.insert m id a) id b ≡ finmap.insert m id b

@@ -1,25 +1,7 @@
 -- What becomes of a heap while objects get bytes: of one, and of several, one after another.
-use Rattle.std.proofs.Common.{◌≡◌, ◌≢◌, ℕ, inl, inr, ◌⊎◌, Bool, true, false, List, [], ◌∷◌, length, fold, take, Option, Some, None, IsSomeAnd, is_some, refl, sym, ap, ◌∙◌, subst}
+use Rattle.w16_loading.proofs.Common.{◌≡◌, ◌≢◌, ℕ, inl, inr, ◌⊎◌, Bool, true, false, List, [], ◌∷◌, length, fold, take, Option, Some, None, IsSomeAnd, is_some, refl, sym, ap, ◌∙◌, subst, false≢true, cases_eq, Discardable, eligible, Heap, Object, IsHeap, blocks, object_at, with_newest, with_ordered, absent, Request, Asked, Settles, discarded, discards_needed, stays_for, KeepsOthers, IsKeptOrDiscarded, revival_options, Member, Each-at, inserted_here, settled, others_law, kept_or_discarded, FetchFault, Giving, Fills, FillsOne, Filling, Failure, InTurn, asked_of, is_of_read, GivesAny, FillsLaw}
 use Rattle.std.specs.List.{AllByRecursion as Each}
-use Rattle.std.proofs.lemmas.Bool.{false≢true, cases_eq}
-use Rattle.w16_model.specs.declared.Kind.TheVariants.{Discardable}
-use Rattle.w16_model.specs.Discards.{eligible}
-use Rattle.w16_model.specs.Heap.{Heap, Object, IsHeap, blocks, object_at}
-use Rattle.w16_model.specs.Changes.{with_newest, with_ordered, absent}
-use Rattle.w16_model.specs.Request.{Request, Asked, Settles, discarded, discards_needed, stays_for}
-use Rattle.w16_model.specs.Law.{KeepsOthers}
-use Rattle.w16_model.specs.CallLaws.{IsKeptOrDiscarded}
-use Rattle.w16_model.specs.Owned.{revival_options}
-use Rattle.w16_model.proofs.Gaps.{Member, Each-at}
-use Rattle.w16_model.proofs.KeptHeaps.{inserted_here}
-use Rattle.w16_model.proofs.KeptHandles.{settled}
-use Rattle.w16_model.proofs.Others.{others_law}
-use Rattle.w16_model.proofs.Bystanders.{kept_or_discarded}
-use Rattle.w16_loading.specs.declared.FetchFault.{FetchFault}
 use Rattle.w16_loading.specs.declared.FetchFault.TheVariants as faults
-use Rattle.w16_loading.specs.Fill.{Giving, Fills, FillsOne, Filling, Failure, InTurn, asked_of, is_of_read}
-use Rattle.w16_loading.specs.AnyStore.{GivesAny}
-use Rattle.w16_loading.specs.Law.{FillsLaw}
 
 -- a request that is refused leaves the same heap
 refused : (old : Heap) (h : ℕ) (asked : Asked) (new : Heap) → Request old h asked false new → new ≡ old

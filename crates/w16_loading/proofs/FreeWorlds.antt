@@ -1,23 +1,6 @@
 -- Uses that end keep what holds of every world.
-use Rattle.std.proofs.Common.{◌≡◌, ◌≢◌, ℕ, zero, suc, ◌+◌, ◌-◌, ◌<◌, ◌≤◌, inl, inr, ◌⊎◌, Bool, true, false, not, List, [], ◌∷◌, Option, Some, None, IfSome, is_some, slice_get, refl, sym, ap, ◌∙◌, subst, arith}
-use Rattle.std.specs.Ordering.{nat_cmp}
+use Rattle.w16_loading.proofs.Common.{◌≡◌, ◌≢◌, ℕ, zero, suc, ◌+◌, ◌-◌, ◌<◌, ◌≤◌, inl, inr, ◌⊎◌, Bool, true, false, not, List, [], ◌∷◌, Option, Some, None, IfSome, is_some, slice_get, refl, sym, ap, ◌∙◌, subst, arith, nat_cmp, FinMap, false≢true, cases_Bool, cases_eq, Kind, Owned, is_member, AreHandles, owned_at, Member, is_member-true, true-is_member, inserted_here, inserted_other, taken_here, taken_other, is_named, MOST_USES, LoadingWorld, Load, Module, Modules, Named, IsSegmentOf, IsResourceOf, name_of, module_at, module_in, importers, usage, usage_with, is_idle, Loaded, Go, Frees, used_less, without_module, is_left_over, without_orphans, IsLoadingWorld, IsObjectOf}
 use Rattle.std.specs.FinMap as finmap
-use Rattle.std.specs.FinMap.{FinMap}
-use Rattle.std.proofs.lemmas.Bool.{false≢true, cases_Bool, cases_eq}
-use Rattle.w16_model.specs.declared.Kind.{Kind}
-use Rattle.w16_model.specs.declared.Owned.{Owned}
-use Rattle.w16_model.specs.Discards.{is_member}
-use Rattle.w16_model.specs.Handles.{AreHandles}
-use Rattle.w16_model.specs.Owned.{owned_at}
-use Rattle.w16_model.proofs.Gaps.{Member}
-use Rattle.w16_model.proofs.Discards.{is_member-true, true-is_member}
-use Rattle.w16_model.proofs.KeptHeaps.{inserted_here, inserted_other, taken_here, taken_other}
-use Rattle.w16_store.specs.Names.{is_named}
-use Rattle.w16_loading.specs.declared.TheConstants.{MOST_USES}
-use Rattle.w16_loading.specs.Modules.{LoadingWorld, Load, Module, Modules, Named, IsSegmentOf, IsResourceOf, name_of, module_at, module_in, importers, usage, usage_with, is_idle}
-use Rattle.w16_loading.specs.Modules.Named.{Loaded}
-use Rattle.w16_loading.specs.Free.{Go, Frees, used_less, without_module, is_left_over, without_orphans}
-use Rattle.w16_loading.specs.Law.{IsLoadingWorld, IsObjectOf}
 use Rattle.w16_loading.proofs.Given.{loaded_is}
 use Rattle.w16_loading.proofs.Bound.{world_used_less}
 use Rattle.w16_loading.proofs.Importers.{Idle, idle_parts, is_then_idle, of_importer}

@@ -1,19 +1,7 @@
 -- Lists of modules with the handles and slots that a load gives them, and what of them gets bytes.
-use Rattle.std.proofs.Common.{◌≡◌, ◌≢◌, ℕ, zero, suc, ◌+◌, ◌<◌, ◌≤◌, inl, inr, ◌⊎◌, Bool, true, false, cond, not, nat_lt, ◌||◌, List, [], ◌∷◌, ◌++◌, length, flat_map, zip, position, slice_get, slice_index_or, Option, Some, None, option_map, refl, sym, ap, ◌∙◌, subst, arith, ltb-false}
-use Rattle.std.specs.List.{position_or_len, AllZip, AllByRecursion as Each}
+use Rattle.w16_loading.proofs.Common.{◌≡◌, ◌≢◌, ℕ, zero, suc, ◌+◌, ◌<◌, ◌≤◌, inl, inr, ◌⊎◌, Bool, true, false, cond, not, nat_lt, ◌||◌, List, [], ◌∷◌, ◌++◌, length, flat_map, zip, position, slice_get, slice_index_or, Option, Some, None, option_map, refl, sym, ap, ◌∙◌, subst, arith, ltb-false, position_or_len, AllZip, false≢true, cases_eq, is_fixed, Member, EachPair, Each-at, inserted_here, inserted_other, is_named, is_named-Decides, Segment, SegmentData, Far, Module, Modules, Named, module_at, module_in, Loaded, BuiltIn, Filling, Found, Given, given_from, segments_of, with_modules, fills_from, fills_of}
+use Rattle.std.specs.List.{AllByRecursion as Each}
 use Rattle.std.specs.FinMap as finmap
-use Rattle.std.proofs.lemmas.Bool.{false≢true, cases_eq}
-use Rattle.w16_model.specs.Heap.{is_fixed}
-use Rattle.w16_model.proofs.Gaps.{Member, EachPair, Each-at}
-use Rattle.w16_model.proofs.KeptHeaps.{inserted_here, inserted_other}
-use Rattle.w16_store.specs.Names.{is_named}
-use Rattle.w16_store.proofs.Naming.{is_named-Decides}
-use Rattle.w16_loading.specs.File.{Segment, SegmentData, Far}
-use Rattle.w16_loading.specs.Modules.{Module, Modules, Named, module_at, module_in}
-use Rattle.w16_loading.specs.Modules.Named.{Loaded, BuiltIn}
-use Rattle.w16_loading.specs.Fill.{Filling}
-use Rattle.w16_loading.specs.Closure.{Found}
-use Rattle.w16_loading.specs.Naming.{Given, given_from, segments_of, with_modules, fills_from, fills_of}
 use Rattle.w16_loading.proofs.Undone.{in_first, in_second, parted}
 use Rattle.w16_loading.proofs.Named.{apart_after}
 

@@ -1,15 +1,6 @@
 -- Who imports a module: whether it is idle says whether any entry does.
-use Rattle.std.proofs.Common.{◌≡◌, ◌≢◌, ℕ, zero, suc, ◌+◌, ◌<◌, inl, Bool, true, not, ◌&&◌, ◌==◌, List, [], ◌∷◌, length, filter, count_by, IsTrue, Option, Some, None, is_some, IfSome, refl, sym, ap, ◌∙◌, subst, arith, eqb-true, eq-eqb, ne_eqb}
-use Rattle.std.specs.Ordering.{nat_cmp}
+use Rattle.w16_loading.proofs.Common.{◌≡◌, ◌≢◌, ℕ, zero, suc, ◌+◌, ◌<◌, inl, Bool, true, not, ◌&&◌, ◌==◌, List, [], ◌∷◌, length, filter, count_by, IsTrue, Option, Some, None, is_some, IfSome, refl, sym, ap, ◌∙◌, subst, arith, eqb-true, eq-eqb, ne_eqb, nat_cmp, FinMap, entries_sorted, get-entries, false≢true, and_parts, not-true, length-filter, Member, member_filter, filter_member, found_member, member_found, keys_rise, LoadingWorld, Module, Modules, Named, module_at, module_in, imports, importers, usage, usage_with, is_idle, Loaded, BuiltIn, IsLoadingWorld, IsModule}
 use Rattle.std.specs.FinMap as finmap
-use Rattle.std.specs.FinMap.{FinMap, entries_sorted, get-entries}
-use Rattle.std.proofs.lemmas.Bool.{false≢true, and_parts, not-true}
-use Rattle.std.proofs.lemmas.List.Sums.{length-filter}
-use Rattle.w16_model.proofs.Gaps.{Member, member_filter, filter_member}
-use Rattle.w16_model.proofs.Heaps.{found_member, member_found, keys_rise}
-use Rattle.w16_loading.specs.Modules.{LoadingWorld, Module, Modules, Named, module_at, module_in, imports, importers, usage, usage_with, is_idle}
-use Rattle.w16_loading.specs.Modules.Named.{Loaded, BuiltIn}
-use Rattle.w16_loading.specs.Law.{IsLoadingWorld, IsModule}
 
 -- an entry is one of a map's just where the map has it
 pub entry_there : {X : Type 0} (m : FinMap nat_cmp X) (q : ℕ) (v : X) → Member (q, v) (finmap.entries m) → finmap.get m q ≡ Some v

@@ -1,15 +1,5 @@
 -- Bytes that are kept: an object has those that it had, or none.
-use Rattle.std.proofs.Common.{◌≡◌, ℕ, inl, inr, true, List, Option, Some, None, IfSome, IsSomeAnd, is_some, refl, sym, ap}
-use Rattle.w16_model.specs.declared.Kind.TheVariants.{Discardable}
-use Rattle.w16_model.specs.Heap.{Heap, Object, object_at, bytes_at}
-use Rattle.w16_model.specs.Handles.{Handles}
-use Rattle.w16_model.specs.Calls.{global_lock}
-use Rattle.w16_model.specs.Calls.HandleCommand.{GlobalLock}
-use Rattle.w16_model.specs.Outcomes.Call.{Calls}
-use Rattle.w16_model.specs.CallLaws.{KeepsContents, IsKeptOrDiscarded}
-use Rattle.w16_model.proofs.KeptHeaps.{bytes_in}
-use Rattle.w16_model.proofs.CallOutcomes.{call_outcome}
-use Rattle.w16_model.proofs.CallLaws.{contents}
+use Rattle.w16_loading.proofs.Common.{◌≡◌, ℕ, inl, inr, true, List, Option, Some, None, IfSome, IsSomeAnd, is_some, refl, sym, ap, Discardable, Heap, Object, object_at, bytes_at, Handles, global_lock, GlobalLock, Calls, KeepsContents, IsKeptOrDiscarded, bytes_in, call_outcome, contents}
 
 abbrev pub KeepsBytes : Heap → Heap → ℕ → Type 0
 KeepsBytes old new q = IfSome (bytes_at new q) (λ b. bytes_at old q ≡ Some b)

@@ -1,17 +1,5 @@
 -- What keeps code as its files say it.
-use Rattle.std.proofs.Common.{◌≡◌, ℕ, ◌-◌, inl, inr, ◌⊎◌, Bool, true, List, [], length, Option, Some, None, IfSome, IsSomeAnd, option_map, slice_get, slice_index_or, Ok, Err, refl, sym, ap, ◌∙◌, subst}
-use Rattle.std.specs.List.{AllZip}
-use Rattle.std.proofs.lemmas.Bool.{cases_eq}
-use Rattle.w16_model.specs.Heap.{Heap, IsHeap, bytes_at}
-use Rattle.w16_model.proofs.Gaps.{Member}
-use Rattle.w16_model.proofs.KeptHeaps.{bytes_in}
-use Rattle.w16_store.specs.Files.{file_of}
-use Rattle.w16_loading.specs.declared.FetchFault.{FetchFault}
-use Rattle.w16_loading.specs.File.{Format, ModuleFile, SegmentData, Far, numbered}
-use Rattle.w16_loading.specs.Modules.{LoadingWorld, Module, IsSegmentOf, module_at}
-use Rattle.w16_loading.specs.Fill.{Fills, FillsOne, Filling, Failure, InTurn, is_of_device}
-use Rattle.w16_loading.specs.Fetch.{Fetches, IsImage, read_of, segment_bytes, is_code}
-use Rattle.w16_loading.specs.Law.{CodeIsItsFiles, IsItsFiles, ModulesAreItsFiles, IsOfFiles}
+use Rattle.w16_loading.proofs.Common.{◌≡◌, ℕ, ◌-◌, inl, inr, ◌⊎◌, Bool, true, List, [], length, Option, Some, None, IfSome, IsSomeAnd, option_map, slice_get, slice_index_or, Ok, Err, refl, sym, ap, ◌∙◌, subst, AllZip, cases_eq, Heap, IsHeap, bytes_at, Member, bytes_in, file_of, FetchFault, Format, ModuleFile, SegmentData, Far, numbered, LoadingWorld, Module, IsSegmentOf, module_at, Fills, FillsOne, Filling, Failure, InTurn, is_of_device, Fetches, IsImage, read_of, segment_bytes, is_code, CodeIsItsFiles, IsItsFiles, ModulesAreItsFiles, IsOfFiles}
 use Rattle.w16_loading.proofs.Fillings.{filled_object, filled_other, one_does, all_do}
 use Rattle.w16_loading.proofs.KeptBytes.{KeepsBytes, kept_bytes}
 

@@ -1,32 +1,8 @@
 -- An object that is there keeps its owner, or is gone with it, whatever the store answers.
-use Rattle.std.proofs.Common.{◌≡◌, ◌≢◌, ℕ, inl, inr, ◌-◌, ◌==◌, Bool, true, false, cond, not, List, [], ◌∷◌, length, Option, Some, None, is_some, refl, sym, ap, ◌∙◌, subst}
+use Rattle.w16_loading.proofs.Common.{◌≡◌, ◌≢◌, ℕ, inl, inr, ◌-◌, ◌==◌, Bool, true, false, cond, not, List, [], ◌∷◌, length, Option, Some, None, is_some, refl, sym, ap, ◌∙◌, subst, false≢true, FarFault, part, is_member, FarAnswer, far_fault, IsFreeSlot, Handles, object_at, after_touch, owned_in, owned_at, refuses_write, Member, inserted_other, AnyFetches, AnyLoads, GivesAny, Closure, far_read, far_write, Segment, Failure, Frees, Go, used_less, without_module, IsLoadingWorld, KeepsOwner, OwnersLaw, Answer, Fulfils, left, undone, LoadingWorld, Module, module_at, with_heap, Loaded, given, named, segments_of, without_objects, attributes_for, locked}
 use Rattle.std.specs.FinMap as finmap
-use Rattle.std.proofs.lemmas.Bool.{false≢true}
-use Rattle.w16_model.specs.declared.FarFault.{FarFault}
 use Rattle.w16_model.specs.declared.FarFault.TheVariants as far
-use Rattle.w16_model.specs.Bytes.{part}
-use Rattle.w16_model.specs.Discards.{is_member}
 use Rattle.w16_model.specs.Far as far_access
-use Rattle.w16_model.specs.Far.{FarAnswer, far_fault}
-use Rattle.w16_model.specs.Handles.{IsFreeSlot, Handles}
-use Rattle.w16_model.specs.Heap.{object_at}
-use Rattle.w16_model.specs.OneObject.{after_touch}
-use Rattle.w16_model.specs.Owned.{owned_in, owned_at, refuses_write}
-use Rattle.w16_model.proofs.Gaps.{Member}
-use Rattle.w16_model.proofs.KeptHeaps.{inserted_other}
-use Rattle.w16_loading.specs.AnyStore.{AnyFetches, AnyLoads, GivesAny}
-use Rattle.w16_loading.specs.Closure.{Closure}
-use Rattle.w16_loading.specs.Fetch.{far_read, far_write}
-use Rattle.w16_loading.specs.File.{Segment}
-use Rattle.w16_loading.specs.Fill.{Failure}
-use Rattle.w16_loading.specs.Free.{Frees, Go, used_less, without_module}
-use Rattle.w16_loading.specs.Law.{IsLoadingWorld, KeepsOwner, OwnersLaw}
-use Rattle.w16_loading.specs.Load.{Answer, Fulfils, left, undone}
-use Rattle.w16_loading.specs.Modules.{LoadingWorld, Module, module_at, with_heap}
-use Rattle.w16_loading.specs.Modules.Named.{Loaded}
-use Rattle.w16_loading.specs.Naming.{given, named, segments_of}
-use Rattle.w16_loading.specs.Release.{without_objects}
-use Rattle.w16_loading.specs.Resource.{attributes_for, locked}
 use Rattle.w16_loading.proofs.Undone.{same_owned}
 use Rattle.w16_loading.proofs.Undone.{chosen}
 use Rattle.w16_loading.proofs.Named.{free_slot}

@@ -1,14 +1,5 @@
 -- A world stays one where its objects keep their kinds, and their sizes or no bytes at all.
-use Rattle.std.proofs.Common.{◌≡◌, ℕ, inl, inr, Bool, true, List, length, Option, Some, None, IfSome, IsSomeAnd, is_some, refl, sym, ap, ◌∙◌, subst}
-use Rattle.std.proofs.lemmas.Bool.{false≢true, cases_eq}
-use Rattle.w16_model.specs.declared.Kind.{Kind}
-use Rattle.w16_model.specs.Heap.{Heap, Object, object_at}
-use Rattle.w16_model.specs.Changes.{with_object}
-use Rattle.w16_model.specs.Handles.{Handles, AreHandles}
-use Rattle.w16_model.specs.CallLaws.{IsKeptOrDiscarded}
-use Rattle.w16_model.proofs.KeptHeaps.{inserted_here, inserted_other, bytes_in}
-use Rattle.w16_loading.specs.Modules.{LoadingWorld}
-use Rattle.w16_loading.specs.Law.{IsLoadingWorld, IsObjectOf}
+use Rattle.w16_loading.proofs.Common.{◌≡◌, ℕ, inl, inr, Bool, true, List, length, Option, Some, None, IfSome, IsSomeAnd, is_some, refl, sym, ap, ◌∙◌, subst, false≢true, cases_eq, Kind, Heap, Object, object_at, with_object, Handles, AreHandles, IsKeptOrDiscarded, inserted_here, inserted_other, bytes_in, LoadingWorld, IsLoadingWorld, IsObjectOf}
 use Rattle.w16_loading.proofs.Fillings.{IsLost}
 use Rattle.w16_loading.proofs.KeptBytes.{KeepsBytes}
 use Rattle.w16_loading.proofs.OwnedKept.{SameOwned}

@@ -1,29 +1,6 @@
 -- A load that has come to its end keeps what holds of every world.
-use Rattle.std.proofs.Common.{◌≡◌, ◌≢◌, ℕ, zero, suc, ◌+◌, ◌-◌, ◌<◌, ◌≤◌, ◌==◌, inl, inr, ◌⊎◌, Bool, true, false, cond, List, [], ◌∷◌, length, fold, filter, map, zip, slice_get, slice_index_or, Option, Some, None, IfSome, IsSomeAnd, MatchOption, is_some, refl, sym, ap, ◌∙◌, subst, arith, eq-eqb}
-use Rattle.std.specs.List.{AllZip}
-use Rattle.std.specs.Ordering.{nat_cmp}
+use Rattle.w16_loading.proofs.Common.{◌≡◌, ◌≢◌, ℕ, zero, suc, ◌+◌, ◌-◌, ◌<◌, ◌≤◌, ◌==◌, inl, inr, ◌⊎◌, Bool, true, false, cond, List, [], ◌∷◌, length, fold, filter, map, zip, slice_get, slice_index_or, Option, Some, None, IfSome, IsSomeAnd, MatchOption, is_some, refl, sym, ap, ◌∙◌, subst, arith, eq-eqb, AllZip, nat_cmp, false≢true, cases_eq, AllZip-left, Kind, Heap, Object, IsHeap, object_at, AreHandles, owned_in, owned_at, Member, EachPair, Each-at, Each-from_All, EachPair-from_AllPairs, filter_member, true-is_member, inserted_here, other_handles, is_named, MOST_USES, IsModuleFile, IsSegmentData, Segment, LoadingWorld, Load, Module, Named, IsFreeModule, IsSegmentOf, name_of, module_at, module_in, importers, usage, usage_with, with_heap, Loaded, Filling, InTurn, Closure, Referent, around, New, attributes_of, Choice, IsChoice, Given, all_slots, given, segments_of, with_segment, bound, imports_at, handle_meant, named, fills, GivesAny, IsLoadingWorld, IsModule, IsObjectOf}
 use Rattle.std.specs.FinMap as finmap
-use Rattle.std.proofs.lemmas.Bool.{false≢true, cases_eq}
-use Rattle.std.proofs.lemmas.Slice.Zip.{AllZip-left}
-use Rattle.w16_model.specs.declared.Kind.{Kind}
-use Rattle.w16_model.specs.Heap.{Heap, Object, IsHeap, object_at}
-use Rattle.w16_model.specs.Handles.{AreHandles}
-use Rattle.w16_model.specs.Owned.{owned_in, owned_at}
-use Rattle.w16_model.proofs.Gaps.{Member, EachPair, Each-at, Each-from_All, EachPair-from_AllPairs, filter_member}
-use Rattle.w16_model.proofs.Discards.{true-is_member}
-use Rattle.w16_model.proofs.KeptHeaps.{inserted_here}
-use Rattle.w16_model.proofs.KeptHandles.{other_handles}
-use Rattle.w16_store.specs.Names.{is_named}
-use Rattle.w16_loading.specs.declared.TheConstants.{MOST_USES}
-use Rattle.w16_loading.specs.File.{IsModuleFile, IsSegmentData, Segment}
-use Rattle.w16_loading.specs.Modules.{LoadingWorld, Load, Module, Named, IsFreeModule, IsSegmentOf, name_of, module_at, module_in, importers, usage, usage_with, with_heap}
-use Rattle.w16_loading.specs.Modules.Named.{Loaded}
-use Rattle.w16_loading.specs.Fill.{Filling, InTurn}
-use Rattle.w16_loading.specs.Closure.{Closure, Referent, around}
-use Rattle.w16_loading.specs.Closure.Referent.{New}
-use Rattle.w16_loading.specs.Naming.{attributes_of, Choice, IsChoice, Given, all_slots, given, segments_of, with_segment, bound, imports_at, handle_meant, named, fills}
-use Rattle.w16_loading.specs.AnyStore.{GivesAny}
-use Rattle.w16_loading.specs.Law.{IsLoadingWorld, IsModule, IsObjectOf}
 use Rattle.w16_loading.proofs.Undone.{chosen, fold_named, same_owned}
 use Rattle.w16_loading.proofs.Fillings.{SameRange, any_do, any_kept, any_there, any_range}
 use Rattle.w16_loading.proofs.Named.{AreApart, given_slots_apart, named_handles, free_slot}

@@ -1,18 +1,8 @@
 -- A world stays one where its modules keep their slots and tables, names stay different, and each module stays in use.
-use Rattle.std.proofs.Common.{◌≡◌, ◌≢◌, ℕ, zero, suc, ◌+◌, ◌<◌, ◌≤◌, inl, inr, ◌⊎◌, Bool, true, false, cond, List, [], ◌∷◌, Option, Some, None, IfSome, option_map, refl, sym, ap, ◌∙◌, subst, arith}
-use Rattle.std.specs.List.{find}
+use Rattle.w16_loading.proofs.Common.{◌≡◌, ◌≢◌, ℕ, zero, suc, ◌+◌, ◌<◌, ◌≤◌, inl, inr, ◌⊎◌, Bool, true, false, cond, List, [], ◌∷◌, Option, Some, None, IfSome, option_map, refl, sym, ap, ◌∙◌, subst, arith, find, false≢true, cases_eq, Member, inserted_here, inserted_other, is_named, MOST_USES, LoadingWorld, Module, Modules, Named, IsFreeModule, name_of, handle_named, module_at, module_in, imports, importers, usage, usage_with, Loaded, BuiltIn, after_use, IsLoadingWorld, IsModule}
 use Rattle.std.specs.FinMap as finmap
-use Rattle.std.proofs.lemmas.Bool.{false≢true, cases_eq}
-use Rattle.w16_model.proofs.Gaps.{Member}
-use Rattle.w16_model.proofs.KeptHeaps.{inserted_here, inserted_other}
-use Rattle.w16_store.specs.Names.{is_named}
 use Rattle.w16_loading.proofs.Given.{named_back}
 use Rattle.w16_loading.proofs.Worlds.{SameModule, IsNumber, AreNamesApart, is_load, owner_stays, follows}
-use Rattle.w16_loading.specs.declared.TheConstants.{MOST_USES}
-use Rattle.w16_loading.specs.Modules.{LoadingWorld, Module, Modules, Named, IsFreeModule, name_of, handle_named, module_at, module_in, imports, importers, usage, usage_with}
-use Rattle.w16_loading.specs.Modules.Named.{Loaded, BuiltIn}
-use Rattle.w16_loading.specs.Load.{after_use}
-use Rattle.w16_loading.specs.Law.{IsLoadingWorld, IsModule}
 use Rattle.w16_loading.proofs.Given.{loaded_is}
 use Rattle.w16_loading.proofs.Importers.{HasImporter, importer_of, of_importer, there_entry}
 

@@ -1,14 +1,6 @@
 -- The world in which a load's modules have names: its handles are such, since slots were free and are different.
-use Rattle.std.proofs.Common.{◌≢◌, ℕ, ◌+◌, inl, inr, List, [], ◌∷◌, ◌++◌, fold, flat_map, zip, None, refl, sym, ◌∙◌}
+use Rattle.w16_loading.proofs.Common.{◌≢◌, ℕ, ◌+◌, inl, inr, List, [], ◌∷◌, ◌++◌, fold, flat_map, zip, None, refl, sym, ◌∙◌, AreHandles, IsFreeSlot, Member, EachPair, Each-at, Each-from, Each-from_All, EachPair-from_AllPairs, inserted_other, with_absent_object, Segment, LoadingWorld, Closure, Found, attributes_of, Choice, IsChoice, all_slots, given, given_from, segments_of, with_segment, named}
 use Rattle.std.specs.List.{AllByRecursion as Each}
-use Rattle.w16_model.specs.Handles.{AreHandles, IsFreeSlot}
-use Rattle.w16_model.proofs.Gaps.{Member, EachPair, Each-at, Each-from, Each-from_All, EachPair-from_AllPairs}
-use Rattle.w16_model.proofs.KeptHeaps.{inserted_other}
-use Rattle.w16_model.proofs.KeptHandles.{with_absent_object}
-use Rattle.w16_loading.specs.File.{Segment}
-use Rattle.w16_loading.specs.Modules.{LoadingWorld}
-use Rattle.w16_loading.specs.Closure.{Closure, Found}
-use Rattle.w16_loading.specs.Naming.{attributes_of, Choice, IsChoice, all_slots, given, given_from, segments_of, with_segment, named}
 use Rattle.w16_loading.proofs.Undone.{zipped, in_first, in_second, parted, chosen}
 
 -- no two segments have one slot

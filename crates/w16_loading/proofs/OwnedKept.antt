@@ -1,21 +1,7 @@
 -- Calls on handles leave what a module owns: no object comes to be one's, or ceases to.
-use Rattle.std.proofs.Common.{◌≡◌, ℕ, inl, inr, false, Option, Some, None, is_some, option_map, unwrap_or, refl, sym, ap, ◌∙◌}
+use Rattle.w16_loading.proofs.Common.{◌≡◌, ℕ, inl, inr, false, Option, Some, None, is_some, option_map, unwrap_or, refl, sym, ap, ◌∙◌, false≢true, cases_eq, Attributes, Owned, object_at, Handles, AreHandles, slot_of_handle, owned_in, owned_at, is_owned, owns, global_lock, GlobalLock, Call, Outcome, attributes_asked, Calls, IsSame, IsUnmoved, IsLocked, IsUnlocked, IsFreed, IsNewest, IsOldest, IsEntered, IsAllocated, IsCompacted, IsModified, IsDiscarded, IsResized, call_outcome, KeepsContents, contents, inserted_here, inserted_other, taken_here, taken_other}
 use Rattle.std.specs.FinMap as finmap
-use Rattle.std.proofs.lemmas.Bool.{false≢true, cases_eq}
-use Rattle.w16_model.specs.declared.Attributes.{Attributes}
-use Rattle.w16_model.specs.declared.Owned.{Owned}
-use Rattle.w16_model.specs.Heap.{object_at}
-use Rattle.w16_model.specs.Handles.{Handles, AreHandles, slot_of_handle}
-use Rattle.w16_model.specs.Owned.{owned_in, owned_at, is_owned, owns}
-use Rattle.w16_model.specs.Calls.{Answer, global_lock}
-use Rattle.w16_model.specs.Calls.HandleCommand.{GlobalLock}
-use Rattle.w16_model.specs.Outcomes.{Call, Outcome, attributes_asked}
-use Rattle.w16_model.specs.Outcomes.Call.{Calls}
-use Rattle.w16_model.specs.Outcomes.Outcome.{IsSame, IsUnmoved, IsLocked, IsUnlocked, IsFreed, IsNewest, IsOldest, IsEntered, IsAllocated, IsCompacted, IsModified, IsDiscarded, IsResized}
-use Rattle.w16_model.proofs.CallOutcomes.{call_outcome}
-use Rattle.w16_model.specs.CallLaws.{KeepsContents}
-use Rattle.w16_model.proofs.CallLaws.{contents}
-use Rattle.w16_model.proofs.KeptHeaps.{inserted_here, inserted_other, taken_here, taken_other}
+use Rattle.w16_model.specs.Calls.{Answer}
 
 -- each slot's object is a module's, or none's, as it was
 abbrev pub SameOwned : Handles → Handles → Type 0

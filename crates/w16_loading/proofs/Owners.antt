@@ -1,22 +1,6 @@
 -- What each segment and each resource has: an object, whose owner it is.
-use Rattle.std.proofs.Common.{◌≡◌, ℕ, ◌+◌, ◌-◌, ◌<◌, ◌==◌, inl, inr, ◌⊎◌, Bool, true, false, List, [], ◌∷◌, length, Option, Some, None, IfSome, IsSomeAnd, MatchOption, is_some, option_map, position, slice_get, get_or, refl, sym, ap, ◌∙◌, subst, arith, eqb-true, eq-eqb}
-use Rattle.std.proofs.lemmas.Option.{slice_get-get_or}
-use Rattle.std.proofs.lemmas.List.Quantifiers.{position-Some}
+use Rattle.w16_loading.proofs.Common.{◌≡◌, ℕ, ◌+◌, ◌-◌, ◌<◌, ◌==◌, inl, inr, ◌⊎◌, Bool, true, false, List, [], ◌∷◌, length, Option, Some, None, IfSome, IsSomeAnd, MatchOption, is_some, option_map, position, slice_get, get_or, refl, sym, ap, ◌∙◌, subst, arith, eqb-true, eq-eqb, slice_get-get_or, position-Some, false≢true, AllZip-left, Kind, Owned, Object, object_at, rounded_size, owned_at, Member, Segment, Resource, numbered, LoadingWorld, Load, Module, Named, IsSegmentOf, IsResourceOf, module_at, module_in, Loaded, BuiltIn, IsLoadingWorld, IsModule, IsObjectOf, IsLoad, Owner, OwnerLaw, IsOwnerOf, owner_of, number_in, segment_among, Script, OfSegment, OfResource}
 use Rattle.std.specs.FinMap as finmap
-use Rattle.std.proofs.lemmas.Bool.{false≢true}
-use Rattle.std.proofs.lemmas.Slice.Zip.{AllZip-left}
-use Rattle.w16_model.specs.declared.Kind.{Kind}
-use Rattle.w16_model.specs.declared.Owned.{Owned}
-use Rattle.w16_model.specs.Heap.{Object, object_at}
-use Rattle.w16_model.specs.Calls.{rounded_size}
-use Rattle.w16_model.specs.Owned.{owned_at}
-use Rattle.w16_model.proofs.Gaps.{Member}
-use Rattle.w16_loading.specs.File.{Segment, Resource, numbered}
-use Rattle.w16_loading.specs.Modules.{LoadingWorld, Load, Module, Named, IsSegmentOf, IsResourceOf, module_at, module_in}
-use Rattle.w16_loading.specs.Modules.Named.{Loaded, BuiltIn}
-use Rattle.w16_loading.specs.Law.{IsLoadingWorld, IsModule, IsObjectOf, IsLoad}
-use Rattle.w16_loading.specs.Owner.{Owner, OwnerLaw, IsOwnerOf, owner_of, number_in, segment_among}
-use Rattle.w16_loading.specs.Owner.Owner.{Script, OfSegment, OfResource}
 use Rattle.w16_loading.proofs.Given.{loaded_is}
 use Rattle.w16_loading.proofs.Importers.{entry_there, there_entry}
 use Rattle.w16_loading.proofs.Given.{place_member, no_place}

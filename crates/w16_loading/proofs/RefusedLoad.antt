@@ -1,26 +1,8 @@
 -- A refused load leaves all but its discards as it was.
-use Rattle.std.proofs.Common.{◌≡◌, ◌≢◌, ℕ, ◌+◌, ◌<◌, ◌≤◌, inl, inr, ◌⊎◌, Bool, true, false, List, [], ◌∷◌, fold, flat_map, slice_index_or, All, Option, Some, None, IfSome, IsSomeAnd, refl, sym, ap, ◌∙◌, subst, arith}
+use Rattle.w16_loading.proofs.Common.{◌≡◌, ◌≢◌, ℕ, ◌+◌, ◌<◌, ◌≤◌, inl, inr, ◌⊎◌, Bool, true, false, List, [], ◌∷◌, fold, flat_map, slice_index_or, All, Option, Some, None, IfSome, IsSomeAnd, refl, sym, ap, ◌∙◌, subst, arith, false≢true, cases_Bool, is_member, Heap, Object, IsHeap, object_at, IsKeptOrDiscarded, Member, Each-from, Each-from_All, is_member-true, true-is_member, FIRST_MODULE, MOST_MODULES, MOST_USES, FetchFault, LoadingWorld, Module, Named, IsFreeModule, with_heap, Loaded, Giving, FillsOne, Filling, Failure, InTurn, is_of_device, heap_without, Closure, Found, Choice, IsChoice, all_slots, given, given_from, segments_of, with_segment, with_modules, bound, named, fills_of, fills, Answer, Fulfils, after_use, undone, left, outcome_of, refusal_of, Says, GivesAny, IsLoadingWorld, OnlyDiscards, IsRefusal, RefusedLoadLaw, AnyRefusedLoadLaw, EarlyRefusalLaw}
 use Rattle.std.specs.List.{AllByRecursion as Each}
 use Rattle.std.specs.FinMap as finmap
-use Rattle.std.proofs.lemmas.Bool.{false≢true, cases_Bool}
-use Rattle.w16_model.specs.Discards.{is_member}
-use Rattle.w16_model.specs.Heap.{Heap, Object, IsHeap, object_at}
-use Rattle.w16_model.specs.CallLaws.{IsKeptOrDiscarded}
-use Rattle.w16_model.proofs.Gaps.{Member, Each-from, Each-from_All}
-use Rattle.w16_model.proofs.Discards.{is_member-true, true-is_member}
-use Rattle.w16_loading.specs.declared.TheConstants.{FIRST_MODULE, MOST_MODULES, MOST_USES}
-use Rattle.w16_loading.specs.declared.FetchFault.{FetchFault}
 use Rattle.w16_loading.specs.declared.FetchFault.TheVariants as faults
-use Rattle.w16_loading.specs.Modules.{LoadingWorld, Module, Named, IsFreeModule, with_heap}
-use Rattle.w16_loading.specs.Modules.Named.{Loaded}
-use Rattle.w16_loading.specs.Fill.{Giving, FillsOne, Filling, Failure, InTurn, is_of_device}
-use Rattle.w16_loading.specs.Release.{heap_without}
-use Rattle.w16_loading.specs.Closure.{Closure, Found}
-use Rattle.w16_loading.specs.Naming.{Choice, IsChoice, all_slots, given, given_from, segments_of, with_segment, with_modules, bound, named, fills_of, fills}
-use Rattle.w16_loading.specs.Load.{Answer, Fulfils, after_use, undone, left, outcome_of, refusal_of}
-use Rattle.w16_loading.specs.Load.Answer.{Says}
-use Rattle.w16_loading.specs.AnyStore.{GivesAny}
-use Rattle.w16_loading.specs.Law.{IsLoadingWorld, OnlyDiscards, IsRefusal, RefusedLoadLaw, AnyRefusedLoadLaw, EarlyRefusalLaw}
 use Rattle.w16_loading.proofs.Undone.{chosen, IsNamed, fold_named}
 use Rattle.w16_loading.proofs.Fillings.{IsLost, SameRange, ranges, any_range, any_kept, in_turn_as, to_any}
 use Rattle.w16_loading.proofs.Named.{named_handles, free_slot}

@@ -1,16 +1,6 @@
 -- A heap from which some objects go is one.
-use Rattle.std.proofs.Common.{◌≡◌, ℕ, inl, inr, Bool, true, false, cond, not, IfSome, filter, Option, Some, None, is_some, unwrap_or, refl, sym, ap, ◌∙◌, subst}
-use Rattle.std.specs.Ordering.{nat_cmp}
+use Rattle.w16_loading.proofs.Common.{◌≡◌, ℕ, inl, inr, Bool, true, false, cond, not, IfSome, filter, Option, Some, None, is_some, unwrap_or, refl, sym, ap, ◌∙◌, subst, nat_cmp, false≢true, cases_Bool, Block, is_member, Heap, Object, IsHeap, IsCounted, object_at, is_in_order, member_filter, filter_member, EachPair-from_AllPairs, AllPairs-from_EachPair, pairs_filter, is_member-true, true-is_member, IsBlockOf, Stands, same_placed, same_grained, bytes_in, AreBytes, heap_without}
 use Rattle.std.specs.FinMap as finmap
-use Rattle.std.proofs.lemmas.Bool.{false≢true, cases_Bool}
-use Rattle.w16_model.specs.declared.Block.{Block}
-use Rattle.w16_model.specs.Discards.{is_member}
-use Rattle.w16_model.specs.Heap.{Heap, Object, IsHeap, IsCounted, object_at, is_in_order}
-use Rattle.w16_model.proofs.Gaps.{member_filter, filter_member, EachPair-from_AllPairs, AllPairs-from_EachPair, pairs_filter}
-use Rattle.w16_model.proofs.Discards.{is_member-true, true-is_member}
-use Rattle.w16_model.proofs.Heaps.{IsBlockOf}
-use Rattle.w16_model.proofs.KeptHeaps.{Stands, same_placed, same_grained, bytes_in, AreBytes}
-use Rattle.w16_loading.specs.Release.{heap_without}
 use Rattle.w16_loading.proofs.Undone.{retained}
 
 module _ (old : Heap) (is : IsHeap old) (gone : ℕ → Bool) where

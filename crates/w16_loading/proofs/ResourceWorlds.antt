@@ -1,27 +1,8 @@
 -- The calls on resources keep what holds of every world.
-use Rattle.std.proofs.Common.{◌≡◌, ◌≢◌, ℕ, ◌+◌, ◌-◌, ◌<◌, ◌≤◌, inl, inr, ◌⊎◌, Bool, true, false, ◌&&◌, ◌==◌, length, Option, Some, None, IfSome, IsSomeAnd, is_some, slice_get, refl, sym, ap, ◌∙◌, subst, arith, eq-eqb, ne_eqb}
-use Rattle.std.specs.Ordering.{nat_cmp}
+use Rattle.w16_loading.proofs.Common.{◌≡◌, ◌≢◌, ℕ, ◌+◌, ◌-◌, ◌<◌, ◌≤◌, inl, inr, ◌⊎◌, Bool, true, false, ◌&&◌, ◌==◌, length, Option, Some, None, IfSome, IsSomeAnd, is_some, slice_get, refl, sym, ap, ◌∙◌, subst, arith, eq-eqb, ne_eqb, nat_cmp, FinMap, false≢true, cases_eq, Kind, Object, object_at, IsFreeSlot, HandleCommand, rounded_size, global_lock, Member, inserted_here, inserted_other, taken_here, taken_other, with_absent_object, MOST_USES, Resource, numbered, Attributes, Owned, owned_in, owned_at, LoadingWorld, Load, Module, IsResourceOf, module_at, attributes_for, resource_at, load_of, with_resource, locked, IsLoadingWorld, IsObjectOf, IsLoad, Calls}
 use Rattle.std.specs.FinMap as finmap
-use Rattle.std.specs.FinMap.{FinMap}
-use Rattle.std.proofs.lemmas.Bool.{false≢true, cases_eq}
-use Rattle.w16_model.specs.declared.Kind.{Kind}
-use Rattle.w16_model.specs.Heap.{Object, object_at}
-use Rattle.w16_model.specs.Handles.{IsFreeSlot}
-use Rattle.w16_model.specs.Calls.{HandleCommand, rounded_size, global_lock}
-use Rattle.w16_model.proofs.Gaps.{Member}
-use Rattle.w16_model.proofs.KeptHeaps.{inserted_here, inserted_other, taken_here, taken_other}
-use Rattle.w16_model.proofs.KeptHandles.{with_absent_object}
-use Rattle.w16_loading.specs.declared.TheConstants.{MOST_USES}
-use Rattle.w16_loading.specs.File.{Resource, numbered}
-use Rattle.w16_model.specs.declared.Attributes.{Attributes}
-use Rattle.w16_model.specs.declared.Owned.{Owned}
-use Rattle.w16_model.specs.Owned.{owned_in, owned_at}
-use Rattle.w16_loading.specs.Modules.{LoadingWorld, Load, Module, IsResourceOf, module_at}
-use Rattle.w16_loading.specs.Resource.{attributes_for, resource_at, load_of, with_resource, locked}
-use Rattle.w16_loading.specs.Law.{IsLoadingWorld, IsObjectOf, IsLoad}
 use Rattle.w16_loading.proofs.Importers.{there_entry}
 use Rattle.w16_loading.proofs.Given.{member_place}
-use Rattle.w16_model.specs.Outcomes.Call.{Calls}
 use Rattle.w16_loading.proofs.CallsKept.{call_world}
 use Rattle.w16_loading.proofs.ModuleWorlds.{find_none}
 use Rattle.w16_loading.proofs.Stepping.{with_count}

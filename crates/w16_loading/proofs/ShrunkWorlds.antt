@@ -1,16 +1,6 @@
 -- A world without some objects: what stays of it.
-use Rattle.std.proofs.Common.{◌≡◌, ℕ, inl, inr, Bool, true, false, cond, not, length, None, IfSome, IsSomeAnd, is_some, sym, ap, ◌∙◌, subst}
-use Rattle.std.specs.Ordering.{nat_cmp}
+use Rattle.w16_loading.proofs.Common.{◌≡◌, ℕ, inl, inr, Bool, true, false, cond, not, length, None, IfSome, IsSomeAnd, is_some, sym, ap, ◌∙◌, subst, nat_cmp, FinMap, false≢true, cases_Bool, Kind, Object, Handles, AreHandles, IsSlot, owned_in, owned_at, LoadingWorld, Load, Modules, heap_without, without_objects, IsObjectOf}
 use Rattle.std.specs.FinMap as finmap
-use Rattle.std.specs.FinMap.{FinMap}
-use Rattle.std.proofs.lemmas.Bool.{false≢true, cases_Bool}
-use Rattle.w16_model.specs.declared.Kind.{Kind}
-use Rattle.w16_model.specs.Heap.{Object}
-use Rattle.w16_model.specs.Handles.{Handles, AreHandles, IsSlot}
-use Rattle.w16_model.specs.Owned.{owned_in, owned_at}
-use Rattle.w16_loading.specs.Modules.{LoadingWorld, Load, Modules}
-use Rattle.w16_loading.specs.Release.{heap_without, without_objects}
-use Rattle.w16_loading.specs.Law.{IsObjectOf}
 use Rattle.w16_loading.proofs.Undone.{retained}
 use Rattle.w16_loading.proofs.Released.{released_heap}
 

@@ -1,16 +1,6 @@
 -- Slots for the segments of a load are there exactly where as many are free.
-use Rattle.std.proofs.Common.{◌≡◌, ◌≢◌, ℕ, zero, suc, ◌+◌, ◌-◌, ◌<◌, ◌≤◌, inl, inr, Bool, not, IsTrue, List, [], ◌∷◌, ◌++◌, length, take, drop, flat_map, Option, Some, None, is_some, refl, sym, ap, ◌∙◌, subst, arith, length-append}
-use Rattle.std.specs.List.{AllZip, AllByRecursion as Each, range_with_len}
-use Rattle.std.proofs.lemmas.Bool.{false≢true, cases_eq}
-use Rattle.std.proofs.lemmas.List.{take-append-drop, append_assoc, length-take-le, length-drop}
-use Rattle.std.proofs.lemmas.List.Sums.{sum_by-cons}
-use Rattle.w16_model.specs.declared.TheConstants.{FIRST_SLOT}
-use Rattle.w16_model.specs.Heap.{Object, object_at}
-use Rattle.w16_model.specs.Handles.{Handles, IsFreeSlot}
-use Rattle.w16_model.proofs.Gaps.{Member, EachPair, Each-at, Each-from, Each-from_All, All-from_Each, EachPair-from_AllPairs, AllPairs-from_EachPair, pairs_filter, member_filter, filter_member}
-use Rattle.w16_loading.specs.Closure.{Found}
-use Rattle.w16_loading.specs.Naming.{AreSlots, free_slots, segments_in}
-use Rattle.w16_loading.specs.Law.{SlotsLaw}
+use Rattle.w16_loading.proofs.Common.{◌≡◌, ◌≢◌, ℕ, zero, suc, ◌+◌, ◌-◌, ◌<◌, ◌≤◌, inl, inr, Bool, not, IsTrue, List, [], ◌∷◌, ◌++◌, length, take, drop, flat_map, Option, Some, None, is_some, refl, sym, ap, ◌∙◌, subst, arith, length-append, AllZip, range_with_len, false≢true, cases_eq, take-append-drop, append_assoc, length-take-le, length-drop, sum_by-cons, FIRST_SLOT, Object, object_at, Handles, IsFreeSlot, Member, EachPair, Each-at, Each-from, Each-from_All, All-from_Each, EachPair-from_AllPairs, AllPairs-from_EachPair, pairs_filter, member_filter, filter_member, Found, AreSlots, free_slots, segments_in, SlotsLaw}
+use Rattle.std.specs.List.{AllByRecursion as Each}
 use Rattle.w16_loading.proofs.Given.{first_apart}
 
 -- Numbers of which no two are equal, all of them in a list, are no more than that has.

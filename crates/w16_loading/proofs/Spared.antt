@@ -1,22 +1,6 @@
 -- What is left of an object that a step isn't about: it is kept or discarded, and stands where it stood if it is pinned.
-use Rattle.std.proofs.Common.{◌≡◌, ◌≢◌, ℕ, inl, inr, ◌⊎◌, ◌||◌, Bool, true, false, cond, not, nat_lt, List, Option, Some, None, IfSome, IsSomeAnd, is_some, refl, sym, ap, ◌∙◌, subst}
-use Rattle.std.specs.Ordering.{nat_cmp}
+use Rattle.w16_loading.proofs.Common.{◌≡◌, ◌≢◌, ℕ, inl, inr, ◌⊎◌, ◌||◌, Bool, true, false, cond, not, nat_lt, List, Option, Some, None, IfSome, IsSomeAnd, is_some, refl, sym, ap, ◌∙◌, subst, nat_cmp, FinMap, false≢true, cases_eq, Heap, Object, IsHeap, object_at, bytes_at, is_fixed, is_pinned_object, with_ordered, with_newest, Settles, discarded, stays_for, IsKeptOrDiscarded, StandsStill, revival_options, bytes_in, address_law, FetchFault, LoadingWorld, Fills, is_of_read, AnyFetches, heap_without}
 use Rattle.std.specs.FinMap as finmap
-use Rattle.std.specs.FinMap.{FinMap}
-use Rattle.std.proofs.lemmas.Bool.{false≢true, cases_eq}
-use Rattle.w16_model.specs.Heap.{Heap, Object, IsHeap, object_at, bytes_at, is_fixed, is_pinned_object}
-use Rattle.w16_model.specs.Changes.{with_ordered, with_newest}
-use Rattle.w16_model.specs.Request.{Settles, discarded, stays_for}
-use Rattle.w16_model.specs.CallLaws.{IsKeptOrDiscarded}
-use Rattle.w16_model.specs.Law.{StandsStill}
-use Rattle.w16_model.specs.Owned.{revival_options}
-use Rattle.w16_model.proofs.KeptHeaps.{bytes_in}
-use Rattle.w16_model.proofs.Outcomes.{address_law}
-use Rattle.w16_loading.specs.declared.FetchFault.{FetchFault}
-use Rattle.w16_loading.specs.Modules.{LoadingWorld}
-use Rattle.w16_loading.specs.Fill.{Fills, is_of_read}
-use Rattle.w16_loading.specs.AnyStore.{AnyFetches}
-use Rattle.w16_loading.specs.Release.{heap_without}
 use Rattle.w16_loading.proofs.Fillings.{IsLost, kept_then, settled_so, filled_other, one_does}
 use Rattle.w16_loading.proofs.Undone.{retained}
 

@@ -1,20 +1,6 @@
 -- Modules and resources that go take the objects that they own with them, and spare every other.
-use Rattle.std.proofs.Common.{◌≡◌, ℕ, ◌+◌, ◌-◌, inl, inr, ◌⊎◌, ◌==◌, Bool, true, false, cond, not, nat_lt, List, [], ◌∷◌, Option, Some, None, is_some, slice_get, refl, sym, ap, ◌∙◌, subst, arith, eqb-true}
+use Rattle.w16_loading.proofs.Common.{◌≡◌, ℕ, ◌+◌, ◌-◌, inl, inr, ◌⊎◌, ◌==◌, Bool, true, false, cond, not, nat_lt, List, [], ◌∷◌, Option, Some, None, is_some, slice_get, refl, sym, ap, ◌∙◌, subst, arith, eqb-true, false≢true, cases_Bool, cases_eq, locks_at, rounded_size, is_member, object_at, is_owned, is_member-true, inserted_here, inserted_other, taken_here, taken_other, Resource, Segment, LoadingWorld, Load, Module, IsResourceOf, module_at, module_in, Loaded, Frees, Go, is_left_over, used_less, without_module, IsLoadingWorld, IsObjectOf, heap_without, without_objects, free_resource, slot_of_resource}
 use Rattle.std.specs.FinMap as finmap
-use Rattle.std.proofs.lemmas.Bool.{false≢true, cases_Bool, cases_eq}
-use Rattle.w16_model.specs.Calls.{locks_at, rounded_size}
-use Rattle.w16_model.specs.Discards.{is_member}
-use Rattle.w16_model.specs.Heap.{object_at}
-use Rattle.w16_model.specs.Owned.{is_owned}
-use Rattle.w16_model.proofs.Discards.{is_member-true}
-use Rattle.w16_model.proofs.KeptHeaps.{inserted_here, inserted_other, taken_here, taken_other}
-use Rattle.w16_loading.specs.File.{Resource, Segment}
-use Rattle.w16_loading.specs.Modules.{LoadingWorld, Load, Module, IsResourceOf, module_at, module_in}
-use Rattle.w16_loading.specs.Modules.Named.{Loaded}
-use Rattle.w16_loading.specs.Free.{Frees, Go, is_left_over, used_less, without_module}
-use Rattle.w16_loading.specs.Law.{IsLoadingWorld, IsObjectOf}
-use Rattle.w16_loading.specs.Release.{heap_without, without_objects}
-use Rattle.w16_loading.specs.Resource.{free_resource, slot_of_resource}
 use Rattle.w16_loading.proofs.Bound.{world_used_less, world_without}
 use Rattle.w16_loading.proofs.Given.{member_place}
 use Rattle.w16_loading.proofs.Owners.{loaded_of, resource_owned, segment_owned}

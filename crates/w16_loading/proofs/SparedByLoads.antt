@@ -1,29 +1,7 @@
 -- Loads of modules and of resources spare every object that was there.
-use Rattle.std.proofs.Common.{◌≡◌, ◌≢◌, ℕ, inl, inr, ◌⊎◌, Bool, true, false, cond, nat_lt, ◌+◌, MatchBool, MatchOption, fold, List, Option, Some, None, is_some, refl, sym, ap, ◌∙◌, subst}
+use Rattle.w16_loading.proofs.Common.{◌≡◌, ◌≢◌, ℕ, inl, inr, ◌⊎◌, Bool, true, false, cond, nat_lt, ◌+◌, MatchBool, MatchOption, fold, List, Option, Some, None, is_some, refl, sym, ap, ◌∙◌, subst, false≢true, cases_Bool, is_member, Heap, object_at, IsFreeSlot, AreHandles, handle_of, Member, is_member-true, inserted_other, with_absent_object, FetchFault, Resource, LoadingWorld, Load, with_heap, Failure, InTurn, heap_without, Closure, Choice, IsChoice, all_slots, bound, fills, given, named, segments_of, with_segment, Answer, Fulfils, left, undone, AnyFetches, AnyLoads, GivesAny, IsLoadingWorld, Reply, Word, MOST_USES, LoadsResource, LoadsNewResource, AnswersNone, attributes_for, is_too_long, load_of, loaded_again, resource_at, resource_outcome, with_resource}
 use Rattle.std.specs.FinMap as finmap
-use Rattle.std.proofs.lemmas.Bool.{false≢true, cases_Bool}
-use Rattle.w16_model.specs.Discards.{is_member}
-use Rattle.w16_model.specs.Heap.{Heap, object_at}
-use Rattle.w16_model.specs.Handles.{IsFreeSlot, AreHandles, handle_of}
-use Rattle.w16_model.proofs.Gaps.{Member}
-use Rattle.w16_model.proofs.Discards.{is_member-true}
-use Rattle.w16_model.proofs.KeptHeaps.{inserted_other}
-use Rattle.w16_model.proofs.KeptHandles.{with_absent_object}
-use Rattle.w16_loading.specs.declared.FetchFault.{FetchFault}
 use Rattle.w16_loading.specs.declared.FetchFault.TheVariants as faults
-use Rattle.w16_loading.specs.File.{Resource}
-use Rattle.w16_loading.specs.Modules.{LoadingWorld, Load, with_heap}
-use Rattle.w16_loading.specs.Fill.{Failure, InTurn}
-use Rattle.w16_loading.specs.Release.{heap_without}
-use Rattle.w16_loading.specs.Closure.{Closure}
-use Rattle.w16_loading.specs.Naming.{Choice, IsChoice, all_slots, bound, fills, given, named, segments_of, with_segment}
-use Rattle.w16_loading.specs.Load.{Answer, Fulfils, left, undone}
-use Rattle.w16_loading.specs.AnyStore.{AnyFetches, AnyLoads, GivesAny}
-use Rattle.w16_loading.specs.Law.{IsLoadingWorld}
-use Rattle.w16_loading.specs.Replies.{Reply}
-use Rattle.w16_loading.specs.Replies.Reply.{Word}
-use Rattle.w16_loading.specs.declared.TheConstants.{MOST_USES}
-use Rattle.w16_loading.specs.Resource.{LoadsResource, LoadsNewResource, AnswersNone, attributes_for, is_too_long, load_of, loaded_again, resource_at, resource_outcome, with_resource}
 use Rattle.w16_loading.proofs.Fillings.{any_do}
 use Rattle.w16_loading.proofs.Given.{filled_chosen}
 use Rattle.w16_loading.proofs.Named.{free_slot, named_handles}

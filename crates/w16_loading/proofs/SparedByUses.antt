@@ -1,35 +1,8 @@
 -- Far accesses and locks of resources spare every object that isn't theirs, and leave theirs where it stands.
-use Rattle.std.proofs.Common.{◌≡◌, ◌≢◌, ℕ, ◌≤◌, ◌/◌, ◌==◌, ◌&&◌, Bool, true, false, cond, MatchBool, MatchOption, IfSome, List, Option, Some, None, is_some, option_map, unwrap_or, refl, sym, ap, ◌∙◌, subst, arith}
+use Rattle.w16_loading.proofs.Common.{◌≡◌, ◌≢◌, ℕ, ◌≤◌, ◌/◌, ◌==◌, ◌&&◌, Bool, true, false, cond, MatchBool, MatchOption, IfSome, List, Option, Some, None, is_some, option_map, unwrap_or, refl, sym, ap, ◌∙◌, subst, arith, false≢true, FIRST_SLOT, put_part, repeated, KeepsContents, global_lock, GlobalLock, FarAnswer, FarCommand, after_write, far_slot, Write, Fill, Handles, AreHandles, IsSlot, handle_of, offset_in, selector_in, selector_of, slot_of_handle, slot_of_selector, Object, bytes_at, object_at, StandsStill, after_touch, Calls, bystander, contents, call_outcome, get-update_other, FetchFault, AnyFetches, pointer_in, FarStep, Accesses, far_read, far_write, gives, needs_fetch, is_of_read, IsLoadingWorld, LoadingWorld, Load, Reply, Dword, Failed, LocksResource, lock_outcome, locked, slot_of_resource}
 use Rattle.std.specs.FinMap as finmap
-use Rattle.std.proofs.lemmas.Bool.{false≢true}
-use Rattle.w16_model.specs.declared.TheConstants.{FIRST_SLOT}
-use Rattle.w16_model.specs.Bytes.{put_part, repeated}
-use Rattle.w16_model.specs.CallLaws.{KeepsContents}
-use Rattle.w16_model.specs.Calls.{global_lock}
-use Rattle.w16_model.specs.Calls.HandleCommand.{GlobalLock}
-use Rattle.w16_model.specs.Far.{FarAnswer, FarCommand, after_write, far_slot}
-use Rattle.w16_model.specs.Far.FarCommand.{Read, Write, Fill}
-use Rattle.w16_model.specs.Handles.{Handles, AreHandles, IsSlot, handle_of, offset_in, selector_in, selector_of, slot_of_handle, slot_of_selector}
-use Rattle.w16_model.specs.Heap.{Object, bytes_at, object_at}
-use Rattle.w16_model.specs.Law.{StandsStill}
-use Rattle.w16_model.specs.OneObject.{after_touch}
-use Rattle.w16_model.specs.Outcomes.Call.{Calls}
-use Rattle.w16_model.proofs.Bystanders.{bystander}
-use Rattle.w16_model.proofs.CallLaws.{contents}
-use Rattle.w16_model.proofs.CallOutcomes.{call_outcome}
-use Rattle.w16_model.proofs.Heaps.{get-update_other}
-use Rattle.w16_loading.specs.declared.FetchFault.{FetchFault}
+use Rattle.w16_model.specs.Far.FarCommand.{Read}
 use Rattle.w16_loading.specs.declared.FetchFault.TheVariants as faults
-use Rattle.w16_loading.specs.AnyStore.{AnyFetches}
-use Rattle.w16_model.specs.Effects.{pointer_in}
-use Rattle.w16_loading.specs.Families.{FarStep}
-use Rattle.w16_loading.specs.Fetch.{Accesses, far_read, far_write, gives, needs_fetch}
-use Rattle.w16_loading.specs.Fill.{is_of_read}
-use Rattle.w16_loading.specs.Law.{IsLoadingWorld}
-use Rattle.w16_loading.specs.Modules.{LoadingWorld, Load}
-use Rattle.w16_loading.specs.Replies.{Reply}
-use Rattle.w16_loading.specs.Replies.Reply.{Dword, Failed}
-use Rattle.w16_loading.specs.Resource.{LocksResource, lock_outcome, locked, slot_of_resource}
 use Rattle.w16_loading.proofs.FarCases.{read_cases, write_cases}
 use Rattle.w16_loading.proofs.FetchWorlds.{fetched_world}
 use Rattle.w16_loading.proofs.Fillings.{lost, one_there}

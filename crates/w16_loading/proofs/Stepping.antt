@@ -1,34 +1,7 @@
 -- What the parts of a step do to a world, the step does: fetches, loads, and changes of what is kept beside them.
-use Rattle.std.proofs.Common.{◌≡◌, ℕ, ◌+◌, ◌-◌, ◌<◌, ◌≤◌, inl, inr, ◌⊎◌, Bool, true, false, cond, ◌&&◌, ◌==◌, not, nat_lt, List, [], ◌∷◌, Option, Some, None, MatchOption, MatchBool, MatchResult, option_map, Result, Ok, Err, IfOk, refl, sym, ap, ◌∙◌, subst, arith, ltb-true}
-use Rattle.std.specs.List.{find}
+use Rattle.w16_loading.proofs.Common.{◌≡◌, ℕ, ◌+◌, ◌-◌, ◌<◌, ◌≤◌, inl, inr, ◌⊎◌, Bool, true, false, cond, ◌&&◌, ◌==◌, not, nat_lt, List, [], ◌∷◌, Option, Some, None, MatchOption, MatchBool, MatchResult, option_map, Result, Ok, Err, IfOk, refl, sym, ap, ◌∙◌, subst, arith, ltb-true, find, bytes_at, Handles, IsFreeSlot, handle_of, slot_of_handle, selector_in, offset_in, repeated, HandleCommand, locks_at, FarAnswer, FarCommand, far_slot, Member, MOST_USES, FetchFault, Format, ModuleFile, Resource, LoadingWorld, Load, Module, Named, IsFreeModule, handle_named, Loaded, BuiltIn, Giving, without_objects, Closure, Reading, reading, around, begun, after, Refused, Meant, Read, There, New, Answer, Refuses, LoadsBy, LoadsFile, LoadsNew, Fulfils, used_again, after_use, Says, Reply, HandleReplies, ResizeReplies, Word, Dword, Failed, ResizeCommand, Fetching, Accesses, needs_fetch, far_read, far_write, gives, Frees, LoadsResource, LoadsNewResource, LocksResource, AnswersNone, is_too_long, resource_at, load_of, loaded_again, with_resource, resource_outcome, locked, lock_outcome, slot_of_resource, free_resource, LoadingCommand, ModuleCommand, ResourceCommand, Loading, FamilyStep, ModuleStep, ResourceStep, FarStep, AddsBuiltIn, GivesBuiltIn, built_in, GivesAny, AnyLoads, IsAnyClosure}
 use Rattle.std.specs.FinMap as finmap
-use Rattle.w16_model.specs.Heap.{bytes_at}
-use Rattle.w16_model.specs.Handles.{Handles, IsFreeSlot, handle_of, slot_of_handle, selector_in, offset_in}
-use Rattle.w16_model.specs.Bytes.{repeated}
-use Rattle.w16_model.specs.Calls.{HandleCommand, locks_at}
-use Rattle.w16_model.specs.Far.{FarAnswer, FarCommand, far_slot}
-use Rattle.w16_model.proofs.Gaps.{Member}
-use Rattle.w16_loading.specs.declared.TheConstants.{MOST_USES}
-use Rattle.w16_loading.specs.declared.FetchFault.{FetchFault}
 use Rattle.w16_loading.specs.declared.FetchFault.TheVariants as faults
-use Rattle.w16_loading.specs.File.{Format, ModuleFile, Resource}
-use Rattle.w16_loading.specs.Modules.{LoadingWorld, Load, Module, Named, IsFreeModule, handle_named}
-use Rattle.w16_loading.specs.Modules.Named.{Loaded, BuiltIn}
-use Rattle.w16_loading.specs.Fill.{Giving}
-use Rattle.w16_loading.specs.Release.{without_objects}
-use Rattle.w16_loading.specs.Closure.{Closure, Reading, reading, around, begun, after}
-use Rattle.w16_loading.specs.Closure.Reading.{Refused, Meant, Read}
-use Rattle.w16_loading.specs.Closure.Referent.{There, New}
-use Rattle.w16_loading.specs.Load.{Answer, Refuses, LoadsBy, LoadsFile, LoadsNew, Fulfils, used_again, after_use}
-use Rattle.w16_loading.specs.Load.Answer.{Says}
-use Rattle.w16_loading.specs.Replies.{Reply, HandleReplies, ResizeReplies}
-use Rattle.w16_loading.specs.Replies.Reply.{Word, Dword, Failed}
-use Rattle.w16_loading.specs.Resizes.{ResizeCommand}
-use Rattle.w16_loading.specs.Fetch.{Fetching, Accesses, needs_fetch, far_read, far_write, gives}
-use Rattle.w16_loading.specs.Free.{Frees}
-use Rattle.w16_loading.specs.Resource.{LoadsResource, LoadsNewResource, LocksResource, AnswersNone, is_too_long, resource_at, load_of, loaded_again, with_resource, resource_outcome, locked, lock_outcome, slot_of_resource, free_resource}
-use Rattle.w16_loading.specs.Families.{LoadingCommand, ModuleCommand, ResourceCommand, Loading, FamilyStep, ModuleStep, ResourceStep, FarStep, AddsBuiltIn, GivesBuiltIn, built_in}
-use Rattle.w16_loading.specs.AnyStore.{GivesAny, AnyLoads, IsAnyClosure}
 use Rattle.w16_loading.proofs.Importers.{entry_there}
 
 -- what is found among entries is there

@@ -1,23 +1,6 @@
 -- Names that are taken back leave the same world.
-use Rattle.std.proofs.Common.{◌≡◌, ◌≢◌, ℕ, ◌+◌, inl, inr, ◌⊎◌, Bool, true, false, cond, not, List, [], ◌∷◌, ◌++◌, fold, filter, flat_map, zip, Option, Some, None, All, is_some, refl, sym, ap, ◌∙◌, subst}
-use Rattle.std.specs.Cmp.{nat_cmp_total}
-use Rattle.std.specs.Ordering.{nat_cmp}
+use Rattle.w16_loading.proofs.Common.{◌≡◌, ◌≢◌, ℕ, ◌+◌, inl, inr, ◌⊎◌, Bool, true, false, cond, not, List, [], ◌∷◌, ◌++◌, fold, filter, flat_map, zip, Option, Some, None, All, is_some, refl, sym, ap, ◌∙◌, subst, nat_cmp_total, nat_cmp, FinMap, same_map, nat_cmp-IsAntisymmetric, get-retain_keys, false≢true, cases_Bool, is_member, object_at, is_in_order, AreHandles, IsFreeSlot, owned_in, owned_at, Member, Each-from_All, Each-at, is_member-true, true-is_member, inserted_other, Segment, LoadingWorld, with_heap, Found, given, given_from, all_slots, segments_of, with_segment, attributes_of, without_objects, TakenBackLaw, UndoneLaw}
 use Rattle.std.specs.FinMap as finmap
-use Rattle.std.specs.FinMap.{FinMap, same_map, nat_cmp-IsAntisymmetric, get-retain_keys}
-use Rattle.std.proofs.lemmas.Bool.{false≢true, cases_Bool}
-use Rattle.w16_model.specs.Discards.{is_member}
-use Rattle.w16_model.specs.Heap.{object_at, is_in_order}
-use Rattle.w16_model.specs.Handles.{AreHandles, IsFreeSlot}
-use Rattle.w16_model.specs.Owned.{owned_in, owned_at}
-use Rattle.w16_model.proofs.Gaps.{Member, Each-from_All, Each-at}
-use Rattle.w16_model.proofs.Discards.{is_member-true, true-is_member}
-use Rattle.w16_model.proofs.KeptHeaps.{inserted_other}
-use Rattle.w16_loading.specs.File.{Segment}
-use Rattle.w16_loading.specs.Modules.{LoadingWorld, with_heap}
-use Rattle.w16_loading.specs.Closure.{Found}
-use Rattle.w16_loading.specs.Naming.{given, given_from, all_slots, segments_of, with_segment, attributes_of}
-use Rattle.w16_loading.specs.Release.{without_objects}
-use Rattle.w16_loading.specs.Law.{TakenBackLaw, UndoneLaw}
 
 -- Slots of segments are slots that were chosen.
 

@@ -1,13 +1,6 @@
 -- What a record is bound to depends on no values.
-use Rattle.std.proofs.Common.{◌≡◌, ℕ, inl, inr, List, [], ◌∷◌, Option, Some, None, refl, sym, ap, ◌∙◌}
+use Rattle.w16_loading.proofs.Common.{◌≡◌, ℕ, inl, inr, List, [], ◌∷◌, Option, Some, None, refl, sym, ap, ◌∙◌, cases_eq, inserted_here, inserted_other, Internal, InternalEntry, Import, ImportName, System, Module, Modules, Named, address_by_ordinal, address_by_name, imported, Loaded, BuiltIn, Given, given, with_modules, unbound, bound, ValuesLaw, BoundAlikeLaw, without_values}
 use Rattle.std.specs.FinMap as finmap
-use Rattle.std.proofs.lemmas.Bool.{cases_eq}
-use Rattle.w16_model.proofs.KeptHeaps.{inserted_here, inserted_other}
-use Rattle.w16_loading.specs.File.Target.{Internal, InternalEntry, Import, ImportName, System}
-use Rattle.w16_loading.specs.Modules.{Module, Modules, Named, address_by_ordinal, address_by_name, imported}
-use Rattle.w16_loading.specs.Modules.Named.{Loaded, BuiltIn}
-use Rattle.w16_loading.specs.Naming.{Given, given, with_modules, unbound, bound}
-use Rattle.w16_loading.specs.Law.{ValuesLaw, BoundAlikeLaw, without_values}
 
 by_ordinal : (handle ordinal : ℕ) (p : Option Named) → address_by_ordinal handle p ordinal ≡ address_by_ordinal handle (without_values p) ordinal
 by_ordinal handle ordinal None = refl

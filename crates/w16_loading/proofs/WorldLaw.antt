@@ -1,17 +1,5 @@
 -- Each step of each family keeps what holds of every world, whatever the store answers.
-use Rattle.std.proofs.Common.{◌<◌, All, Option, Some, None, refl, sym, ap, subst}
-use Rattle.w16_model.specs.Heap.{Heap}
-use Rattle.w16_model.specs.Far.{FarCommand}
-use Rattle.w16_model.proofs.KeptHandles.{other_handles}
-use Rattle.w16_model.proofs.Parts.{All-repeated}
-use Rattle.w16_loading.specs.Modules.{LoadingWorld, with_heap}
-use Rattle.w16_loading.specs.Fill.{Failure, InTurn}
-use Rattle.w16_loading.specs.Closure.{Closure, around}
-use Rattle.w16_loading.specs.Naming.{named, fills}
-use Rattle.w16_loading.specs.Load.{Answer, Fulfils, undone, left}
-use Rattle.w16_loading.specs.AnyStore.{GivesAny, AnyFetches, AnyLoads}
-use Rattle.w16_loading.specs.Families.{LoadingCommand, IsLoadingCommand}
-use Rattle.w16_loading.specs.Law.{IsLoadingWorld, OnlyDiscards, AnyKeepsWorldsLaw, KeepsWorldsLaw}
+use Rattle.w16_loading.proofs.Common.{◌<◌, All, Option, Some, None, refl, sym, ap, subst, Heap, FarCommand, other_handles, All-repeated, LoadingWorld, with_heap, Failure, InTurn, Closure, around, named, fills, Answer, Fulfils, undone, left, GivesAny, AnyFetches, AnyLoads, LoadingCommand, IsLoadingCommand, IsLoadingWorld, OnlyDiscards, AnyKeepsWorldsLaw, KeepsWorldsLaw}
 use Rattle.w16_loading.proofs.Fillings.{lost}
 use Rattle.w16_loading.proofs.RefusedLoad.{undone_discards}
 use Rattle.w16_loading.proofs.KeptWorlds.{kept_left, left_owned, world_stays, recounted}

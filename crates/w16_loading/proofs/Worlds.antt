@@ -1,20 +1,6 @@
 -- A world follows another where its modules and loads of resources are of those that were there, and their objects with them.
-use Rattle.std.proofs.Common.{◌≡◌, ℕ, ◌+◌, ◌-◌, ◌<◌, ◌≤◌, inl, inr, ◌⊎◌, Bool, true, false, List, [], ◌∷◌, Option, Some, None, IfSome, IsSomeAnd, is_some, slice_get, refl, sym, ap, ◌∙◌, subst}
-use Rattle.std.specs.List.{AllZip}
+use Rattle.w16_loading.proofs.Common.{◌≡◌, ℕ, ◌+◌, ◌-◌, ◌<◌, ◌≤◌, inl, inr, ◌⊎◌, Bool, true, false, List, [], ◌∷◌, Option, Some, None, IfSome, IsSomeAnd, is_some, slice_get, refl, sym, ap, ◌∙◌, subst, AllZip, false≢true, Kind, Owned, object_at, AreHandles, rounded_size, owned_at, Member, is_named, FIRST_MODULE, MOST_MODULES, MOST_USES, Tables, Segment, Resource, numbered, LoadingWorld, Load, Module, Modules, Named, IsSegmentOf, IsResourceOf, name_of, module_at, usage, IsLoadingWorld, IsModule, IsObjectOf, IsLoad}
 use Rattle.std.specs.FinMap as finmap
-use Rattle.std.proofs.lemmas.Bool.{false≢true}
-use Rattle.w16_model.specs.declared.Kind.{Kind}
-use Rattle.w16_model.specs.declared.Owned.{Owned}
-use Rattle.w16_model.specs.Heap.{object_at}
-use Rattle.w16_model.specs.Handles.{AreHandles}
-use Rattle.w16_model.specs.Calls.{rounded_size}
-use Rattle.w16_model.specs.Owned.{owned_at}
-use Rattle.w16_model.proofs.Gaps.{Member}
-use Rattle.w16_store.specs.Names.{is_named}
-use Rattle.w16_loading.specs.declared.TheConstants.{FIRST_MODULE, MOST_MODULES, MOST_USES}
-use Rattle.w16_loading.specs.File.{Tables, Segment, Resource, numbered}
-use Rattle.w16_loading.specs.Modules.{LoadingWorld, Load, Module, Modules, Named, IsSegmentOf, IsResourceOf, name_of, module_at, usage}
-use Rattle.w16_loading.specs.Law.{IsLoadingWorld, IsModule, IsObjectOf, IsLoad}
 use Rattle.w16_loading.proofs.Owners.{loaded_of, of_resource, segment_object, resource_object}
 use Rattle.w16_loading.proofs.Given.{place_member}
 

@@ -1,22 +1,6 @@
 -- An act in the object of a slot, as a call's step.
-use Rattle.std.proofs.Common.{◌≡◌, ℕ, ◌⊎◌, inl, inr, IsSomeAnd, List, length, Option, Some, None, option_map, refl, sym, ap, ◌∙◌, subst}
+use Rattle.w16_local.proofs.Common.{◌≡◌, ℕ, ◌⊎◌, inl, inr, IsSomeAnd, List, length, Option, Some, None, option_map, refl, sym, ap, ◌∙◌, subst, nat_cmp, FinMap, put_part, after_write, Handles, Heap, Object, bytes_at, object_at, Table, heap_in, counted, Global, Lends, World, LocalHeap, Acts, IsLocalTable, object_of, put_all, ByteOp, Acted, ActedIn, Done, Idle, IsLent, IsLentOnce, MayAct, MayActIn, MayActOver, Writes, IsIn, with_parts}
 use Rattle.std.specs.FinMap as finmap
-use Rattle.std.specs.Ordering.{nat_cmp}
-use Rattle.std.specs.FinMap.{FinMap}
-use Rattle.w16_model.specs.Bytes.{put_part}
-use Rattle.w16_model.specs.Far.{after_write}
-use Rattle.w16_model.specs.Handles.{Handles}
-use Rattle.w16_model.specs.Heap.{Heap, Object, bytes_at, object_at}
-use Rattle.w16_model.specs.Table.{Table, heap_in}
-use Rattle.w16_region.specs.Bytes.{counted}
-use Rattle.w16_global.specs.Joined.{Global}
-use Rattle.w16_global.specs.Lent.{Lends}
-use Rattle.w16_machine.specs.World.{World}
-use Rattle.w16_machine.specs.Local.{LocalHeap, Acts, IsLocalTable}
-use Rattle.w16_machine.proofs.LocalFacts.{object_of, put_all}
-use Rattle.w16_local.specs.declared.acts.ByteOp.{ByteOp}
-use Rattle.w16_local.specs.Acts.{Acted, ActedIn, Done, Idle, IsLent, IsLentOnce, MayAct, MayActIn, MayActOver, Writes}
-use Rattle.w16_local.specs.Parts.{IsIn, with_parts}
 use Rattle.w16_local.proofs.Locals.{insert_nothing}
 
 -- bytes that are written over themselves

@@ -1,17 +1,5 @@
 -- A heap has one table: two sound ones over one range that stand for the same heap are the same.
-use Rattle.std.proofs.Common.{◌≡◌, ℕ, ◌<◌, ◌≤◌, inl, inr, List, [], ◌∷◌, length, get_or, None, option_map, refl, sym, ap, ◌∙◌, subst, arith}
-use Rattle.std.proofs.lemmas.List.{same_lists}
-use Rattle.w16_model.specs.declared.Block.{Block}
-use Rattle.w16_model.specs.Gap.{block_end, IsLaid}
-use Rattle.w16_model.specs.Heap.{Heap, object_at}
-use Rattle.w16_model.specs.Table.{Table, IsSound, heap_in}
-use Rattle.w16_model.proofs.Gaps.{Each-at, Member}
-use Rattle.w16_model.proofs.Heaps.{IsBlockOf}
-use Rattle.w16_model.proofs.Laid.{laid_each}
-use Rattle.w16_model.proofs.Tables.{block_table, table_block}
-use Rattle.w16_arena.specs.State.{IsSameRange, entry_of}
-use Rattle.w16_arena.proofs.Lookups.{entry_is}
-use Rattle.w16_arena.proofs.Parts.{AreParts}
+use Rattle.w16_local.proofs.Common.{◌≡◌, ℕ, ◌<◌, ◌≤◌, inl, inr, List, [], ◌∷◌, length, get_or, None, option_map, refl, sym, ap, ◌∙◌, subst, arith, same_lists, Block, block_end, IsLaid, Heap, object_at, Table, IsSound, heap_in, Each-at, Member, IsBlockOf, laid_each, block_table, table_block, IsSameRange, entry_of, entry_is, AreParts}
 use Rattle.w16_local.proofs.Locals.{default_any}
 
 -- a laid list begins at its low end or above, and each other block behind its first one

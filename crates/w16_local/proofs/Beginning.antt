@@ -1,21 +1,7 @@
 -- The beginning of a local heap.
-use Rattle.std.proofs.Common.{◌≡◌, ℕ, zero, suc, Bool, true, false, cond, if◌then◌else◌, ◌==◌, ◌&&◌, nat_le, nat_lt, min, MatchOption, OnErr, Result, Ok, Err, List, [], ◌∷◌, ◌++◌, length, get_or, Option, Some, None, IsSome, option_map, is_some, refl, sym, ap, ◌∙◌, subst}
-use Rattle.std.specs.Cmp.{nat_cmp_total}
+use Rattle.w16_local.proofs.Common.{◌≡◌, ℕ, zero, suc, Bool, true, false, cond, if◌then◌else◌, ◌==◌, ◌&&◌, nat_le, nat_lt, min, MatchOption, OnErr, Result, Ok, Err, List, [], ◌∷◌, ◌++◌, length, get_or, Option, Some, None, IsSome, option_map, is_some, refl, sym, ap, ◌∙◌, subst, nat_cmp_total, nat_cmp, FinMap, same_map, nat_cmp-IsAntisymmetric, Span, Handles, slot_of_selector, bytes_at, is_code, Table, World, Beginning, Stays, beginning, beginning_in, new_table, range_in, rounded_down, rounded_up, with_table, LocalInit, MayBegin, begin_law, AreListed, tables_of, Calls, alone, with_parts}
 use Rattle.std.specs.FinMap as finmap
-use Rattle.std.specs.Ordering.{nat_cmp}
-use Rattle.std.specs.FinMap.{FinMap, same_map, nat_cmp-IsAntisymmetric}
-use Rattle.w16_model.specs.declared.Span.{Span}
-use Rattle.w16_model.specs.Handles.{Handles, slot_of_selector}
-use Rattle.w16_model.specs.Heap.{bytes_at}
-use Rattle.w16_model.specs.Owned.{is_code}
-use Rattle.w16_model.specs.Table.{Table}
-use Rattle.w16_machine.specs.World.{World}
-use Rattle.w16_machine.specs.Local.{Beginning, Stays, beginning, beginning_in, new_table, range_in, rounded_down, rounded_up, with_table}
-use Rattle.w16_machine.specs.LocalCalls.LocalCommand.{LocalInit}
-use Rattle.w16_machine.specs.LocalLaw.{MayBegin}
-use Rattle.w16_machine.proofs.LocalBegins.{begin_law}
-use Rattle.w16_local.specs.Kept.{AreListed, tables_of}
-use Rattle.w16_local.specs.Parts.{Calls, MayBegin as MayBeginIn, alone, with_parts}
+use Rattle.w16_local.specs.Parts.{MayBegin as MayBeginIn}
 use Rattle.w16_local.proofs.Locals.{tables_at}
 
 -- The range, as its test has it.

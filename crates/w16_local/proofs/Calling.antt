@@ -1,36 +1,6 @@
 -- The calls that act in a local heap.
-use Rattle.std.proofs.Common.{◌≡◌, ℕ, ◌+◌, ◌*◌, ◌/◌, ◌<◌, ◌≤◌, ◌==◌, ◌&&◌, inl, inr, Bool, true, false, MatchBool, MatchOption, OnErr, IsSome, if◌then◌else◌, length, Option, Some, None, Result, Ok, Err, is_ok, is_some, refl, sym, ap, ◌∙◌, subst, arith, eq-eqb, ne_eqb}
+use Rattle.w16_local.proofs.Common.{◌≡◌, ℕ, ◌+◌, ◌*◌, ◌/◌, ◌<◌, ◌≤◌, ◌==◌, ◌&&◌, inl, inr, Bool, true, false, MatchBool, MatchOption, OnErr, IsSome, if◌then◌else◌, length, Option, Some, None, Result, Ok, Err, is_ok, is_some, refl, sym, ap, ◌∙◌, subst, arith, eq-eqb, ne_eqb, nat_cmp, FinMap, cases_lt, false≢true, Kind, Discardable, Fixed, Moveable, Refusal, RoomOptions, has_flag, with_newest, with_object, Handles, Heap, Object, is_fixed, object_at, after_discard, after_free, after_modify, Allocates, IsNew, MakesRoom, most_room, discards_needed, Table, entry_at, heap_in, object_in, inserted_here, object_is, none_about, not_asked, LMEM_DISCARDABLE, LMEM_MODIFY, LMEM_MOVEABLE, World, LocalHeap, LocalObject, Acts, Becomes, IsLowestFree, Stays, current_heap, heap_of, name_at, name_of, object_named, rounded_up, AllocatesIn, AllocatesObject, CompactsIn, DiscardsObject, EntersObject, GivesUp, ModifiesObject, ResizesObject, SizesObject, local_kind, local_options, moveable_or_discardable, LocalAlloc, LocalCompact, LocalFree, LocalReAlloc, names_law, ByteOp, Alloc, Compact, Discard, Free, Realloc, ActedIn, IsSize, IsFull, IsLowest, Calls, IsIn, IsNamed, alone, with_parts, Stepped, answer_of, outcome}
 use Rattle.std.specs.FinMap as finmap
-use Rattle.std.specs.Ordering.{nat_cmp}
-use Rattle.std.specs.FinMap.{FinMap}
-use Rattle.std.proofs.lemmas.Bool.{cases_lt, false≢true}
-use Rattle.w16_model.specs.declared.Kind.{Kind}
-use Rattle.w16_model.specs.declared.Kind.TheVariants.{Discardable, Fixed, Moveable}
-use Rattle.w16_model.specs.declared.Refusal.{Refusal}
-use Rattle.w16_model.specs.declared.RoomOptions.{RoomOptions}
-use Rattle.w16_model.specs.Calls.{has_flag}
-use Rattle.w16_model.specs.Changes.{with_newest, with_object}
-use Rattle.w16_model.specs.Handles.{Handles}
-use Rattle.w16_model.specs.Heap.{Heap, Object, is_fixed, object_at}
-use Rattle.w16_model.specs.OneObject.{after_discard, after_free, after_modify}
-use Rattle.w16_model.specs.Request.{Allocates, IsNew, MakesRoom, most_room, discards_needed}
-use Rattle.w16_model.specs.Table.{Table, entry_at, heap_in, object_in}
-use Rattle.w16_model.proofs.KeptHeaps.{inserted_here}
-use Rattle.w16_model.proofs.Tables.{object_is}
-use Rattle.w16_model.proofs.Prefixes.{none_about}
-use Rattle.w16_model.proofs.Reallocations.{not_asked}
-use Rattle.w16_machine.specs.declared.local.TheConstants.{LMEM_DISCARDABLE, LMEM_MODIFY, LMEM_MOVEABLE}
-use Rattle.w16_machine.specs.World.{World}
-use Rattle.w16_machine.specs.Local.{LocalHeap, LocalObject, Acts, Becomes, IsLowestFree, Stays, current_heap, heap_of, name_at, name_of, object_named, rounded_up}
-use Rattle.w16_machine.specs.LocalCalls.{AllocatesIn, AllocatesObject, CompactsIn, DiscardsObject, EntersObject, GivesUp, ModifiesObject, ResizesObject, SizesObject, local_kind, local_options, moveable_or_discardable}
-use Rattle.w16_machine.specs.LocalCalls.LocalCommand.{LocalAlloc, LocalCompact, LocalFree, LocalReAlloc}
-use Rattle.w16_machine.proofs.LocalNames.{names_law}
-use Rattle.w16_local.specs.declared.acts.ByteOp.{ByteOp}
-use Rattle.w16_local.specs.declared.acts.ByteOp.TheVariants.{Alloc, Compact, Discard, Free, Realloc}
-use Rattle.w16_local.specs.Acts.{ActedIn, IsSize}
-use Rattle.w16_local.specs.Kept.{IsFull, IsLowest}
-use Rattle.w16_local.specs.Parts.{Calls, IsIn, IsNamed, alone, with_parts}
-use Rattle.w16_local.specs.Steps.{Stepped, answer_of, outcome}
 use Rattle.w16_local.proofs.Acting as acting
 use Rattle.w16_local.proofs.Entries.{mapped}
 use Rattle.w16_local.proofs.Looks.{heap_is}

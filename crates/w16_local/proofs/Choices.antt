@@ -1,15 +1,6 @@
 -- The local heap that DS names.
-use Rattle.std.proofs.Common.{◌≡◌, ℕ, ◌<◌, ◌≤◌, false, nat_le, cond, IfSome, List, length, All, Option, Some, None, option_map, unwrap_or, refl, sym, ap, ◌∙◌, subst, arith}
-use Rattle.std.specs.Ordering.{nat_cmp}
+use Rattle.w16_local.proofs.Common.{◌≡◌, ℕ, ◌<◌, ◌≤◌, false, nat_le, cond, IfSome, List, length, All, Option, Some, None, option_map, unwrap_or, refl, sym, ap, ◌∙◌, subst, arith, nat_cmp, FinMap, Handles, AreHandles, slot_of_selector, bytes_at, Table, heap_in, LocalHeap, LocalObject, IsLocalTable, current_heap, heap_of, id_named, local_in, local_of, object_named, asked_of, local_handle, name_from, there_local, IsIn, IsNamed, alone}
 use Rattle.std.specs.FinMap as finmap
-use Rattle.std.specs.FinMap.{FinMap}
-use Rattle.w16_model.specs.Handles.{Handles, AreHandles, slot_of_selector}
-use Rattle.w16_model.specs.Heap.{bytes_at}
-use Rattle.w16_model.specs.Table.{Table, heap_in}
-use Rattle.w16_machine.specs.Local.{LocalHeap, LocalObject, IsLocalTable, current_heap, heap_of, id_named, local_in, local_of, object_named}
-use Rattle.w16_machine.specs.LocalCalls.{asked_of, local_handle, name_from}
-use Rattle.w16_machine.proofs.LocalFacts.{there_local}
-use Rattle.w16_local.specs.Parts.{IsIn, IsNamed, alone}
 
 module _ (h : Handles) (ts : FinMap nat_cmp Table) (ds : ℕ) where
   abbrev chosen_of : Option ℕ → Option LocalHeap

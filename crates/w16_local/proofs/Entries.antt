@@ -1,24 +1,7 @@
 -- Which objects, and so which free entries, a step of a heap leaves.
-use Rattle.std.proofs.Common.{◌≡◌, ◌≢◌, ℕ, ◌+◌, ◌-◌, ◌<◌, ◌≤◌, inl, inr, Bool, true, false, cond, not, if◌then◌else◌, IfOk, IsSomeAnd, List, length, get_or, set, replicate, Option, Some, None, option_map, is_some, Result, Ok, Err, nat_lt, ◌&&◌, ◌||◌, ◌==◌, take, refl, sym, ap, ◌∙◌, subst, arith}
+use Rattle.w16_local.proofs.Common.{◌≡◌, ◌≢◌, ℕ, ◌+◌, ◌-◌, ◌<◌, ◌≤◌, inl, inr, Bool, true, false, cond, not, if◌then◌else◌, IfOk, IsSomeAnd, List, length, get_or, set, replicate, Option, Some, None, option_map, is_some, Result, Ok, Err, nat_lt, ◌&&◌, ◌||◌, ◌==◌, take, refl, sym, ap, ◌∙◌, subst, arith, cases_eq, cases_Bool, false≢true, get_or-set_same, get_or-set_other, length-replicate, length-set, Kind, Discardable, Refusal, absent, removed, touched, with_newest, with_object, with_ordered, eligible, is_member, Heap, Object, blocks, object_at, is_discardable, is_fixed, KeepsOthers, after_discard, after_free, after_lock, after_modify, after_unlock, Table, entry_at, heap_in, object_in, same_updated, inserted_here, inserted_other, taken_here, taken_other, object_is, IsSameRange, IsLocalTable, LocalHeapInvariant}
 use Rattle.std.specs.FinMap as finmap
-use Rattle.std.proofs.lemmas.Bool.{cases_eq, cases_Bool, false≢true}
-use Rattle.std.proofs.lemmas.List.{get_or-set_same, get_or-set_other, length-replicate, length-set}
-use Rattle.w16_model.specs.declared.Kind.{Kind}
-use Rattle.w16_model.specs.declared.Kind.TheVariants.{Discardable}
-use Rattle.w16_model.specs.declared.Refusal.{Refusal}
 use Rattle.w16_model.specs.declared.Refusal.TheVariants as refusals
-use Rattle.w16_model.specs.Changes.{absent, removed, touched, with_newest, with_object, with_ordered}
-use Rattle.w16_model.specs.Discards.{eligible, is_member}
-use Rattle.w16_model.specs.Heap.{Heap, Object, blocks, object_at, is_discardable, is_fixed}
-use Rattle.w16_model.specs.Law.{KeepsOthers}
-use Rattle.w16_model.specs.OneObject.{after_discard, after_free, after_lock, after_modify, after_unlock}
-use Rattle.w16_model.specs.Table.{Table, entry_at, heap_in, object_in}
-use Rattle.w16_model.proofs.KeptHandles.{same_updated}
-use Rattle.w16_model.proofs.KeptHeaps.{inserted_here, inserted_other, taken_here, taken_other}
-use Rattle.w16_model.proofs.Tables.{object_is}
-use Rattle.w16_arena.specs.State.{IsSameRange}
-use Rattle.w16_machine.specs.Local.{IsLocalTable}
-use Rattle.w16_local.specs.Kept.{LocalHeapInvariant}
 
 -- Objects.
 

@@ -1,3 +1,4 @@
+pub mod Common
 pub mod Locals
 pub mod Looks
 pub mod Choices

@@ -1,16 +1,6 @@
 -- The local heaps in a list by slot, and their tables.
-use Rattle.std.proofs.Common.{◌≡◌, ℕ, ◌<◌, ◌≤◌, inl, inr, IsSome, List, [], ◌∷◌, ◌++◌, length, get_or, set, Option, Some, None, option_map, is_some, refl, sym, ap, ◌∙◌, subst, arith, zero, suc}
-use Rattle.std.specs.Cmp.{nat_cmp_total}
+use Rattle.w16_local.proofs.Common.{◌≡◌, ℕ, ◌<◌, ◌≤◌, inl, inr, IsSome, List, [], ◌∷◌, ◌++◌, length, get_or, set, Option, Some, None, option_map, is_some, refl, sym, ap, ◌∙◌, subst, arith, zero, suc, nat_cmp_total, nat_cmp, FinMap, get-empty, same_map, nat_cmp-IsAntisymmetric, cases_eq, false≢true, get_or-set_same, get_or-set_other, get_or_append_left, length-append, set-set, get_or-append_seam, Table, get-by_id, inserted_here, inserted_other, taken_here, taken_other, tables_of, AreListed, IsListed}
 use Rattle.std.specs.FinMap as finmap
-use Rattle.std.specs.Ordering.{nat_cmp}
-use Rattle.std.specs.FinMap.{FinMap, get-empty, same_map, nat_cmp-IsAntisymmetric}
-use Rattle.std.proofs.lemmas.Bool.{cases_eq, false≢true}
-use Rattle.std.proofs.lemmas.List.{get_or-set_same, get_or-set_other, get_or_append_left, length-append, set-set}
-use Rattle.std.proofs.Math.Seq.{get_or-append_seam}
-use Rattle.w16_model.specs.Table.{Table}
-use Rattle.w16_model.proofs.Tables.{get-by_id}
-use Rattle.w16_model.proofs.KeptHeaps.{inserted_here, inserted_other, taken_here, taken_other}
-use Rattle.w16_local.specs.Kept.{tables_of, AreListed, IsListed}
 
 -- nothing is taken where there is none
 pub remove_nothing : (m : FinMap nat_cmp Table) (k : ℕ) → finmap.get m k ≡ None → finmap.remove m k ≡ m

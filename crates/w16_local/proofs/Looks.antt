@@ -1,27 +1,7 @@
 -- What a local heap's table tells of its heap: names, near pointers, sizes.
-use Rattle.std.proofs.Common.{◌≡◌, ◌≢◌, ℕ, ◌+◌, ◌*◌, ◌/◌, ◌%◌, ◌<◌, ◌≤◌, ◌⊎◌, inl, inr, ◌==◌, nat_lt, lt-ltb, le-ltb, ne_eqb, eq-eqb, is_ok, Result, Ok, Err, Bool, true, false, not, cond, if◌then◌else◌, IfSome, is_some, List, length, slice_range, Option, Some, None, option_map, unwrap_or, refl, sym, ap, ◌∙◌, subst, arith}
+use Rattle.w16_local.proofs.Common.{◌≡◌, ◌≢◌, ℕ, ◌+◌, ◌*◌, ◌/◌, ◌%◌, ◌<◌, ◌≤◌, ◌⊎◌, inl, inr, ◌==◌, nat_lt, lt-ltb, le-ltb, ne_eqb, eq-eqb, is_ok, Result, Ok, Err, Bool, true, false, not, cond, if◌then◌else◌, IfSome, is_some, List, length, slice_range, Option, Some, None, option_map, unwrap_or, refl, sym, ap, ◌∙◌, subst, arith, cases_lt, Block, Entry, Refusal, locks_at, absent, removed, after_discard, after_free, block_end, Heap, Object, IsHeap, object_at, bytes_at, is_fixed, is_discardable, IsMultiple, Table, block_with, entry_at, heap_in, object_in, Each-at, Each-from_All, laid_each, member_with, AreParts, in_list, is_heap, object_here, place_here, size_here, IsLocalTable, id_at, id_named, name_at, name_of, LMEM_DISCARDABLE, LMEM_DISCARDED, local_flags_of, names_law, IsOver}
 use Rattle.std.specs.FinMap as finmap
-use Rattle.std.proofs.lemmas.Bool.{cases_lt}
-use Rattle.w16_model.specs.declared.Block.{Block}
-use Rattle.w16_model.specs.declared.Entry.{Entry}
-use Rattle.w16_model.specs.declared.Refusal.{Refusal}
 use Rattle.w16_model.specs.declared.Refusal.TheVariants as refusals
-use Rattle.w16_model.specs.Calls.{locks_at}
-use Rattle.w16_model.specs.Changes.{absent, removed}
-use Rattle.w16_model.specs.OneObject.{after_discard, after_free}
-use Rattle.w16_model.specs.Gap.{block_end}
-use Rattle.w16_model.specs.Heap.{Heap, Object, IsHeap, object_at, bytes_at, is_fixed, is_discardable, IsMultiple}
-use Rattle.w16_model.specs.Table.{Table, block_with, entry_at, heap_in, object_in}
-use Rattle.w16_model.proofs.Gaps.{Each-at, Each-from_All}
-use Rattle.w16_model.proofs.Laid.{laid_each}
-use Rattle.w16_model.proofs.Tables.{member_with}
-use Rattle.w16_arena.proofs.Parts.{AreParts}
-use Rattle.w16_arena.proofs.Lookups.{in_list, is_heap, object_here, place_here, size_here}
-use Rattle.w16_machine.specs.Local.{IsLocalTable, id_at, id_named, name_at, name_of}
-use Rattle.w16_machine.specs.declared.local.TheConstants.{LMEM_DISCARDABLE, LMEM_DISCARDED}
-use Rattle.w16_machine.specs.LocalCalls.{local_flags_of}
-use Rattle.w16_machine.proofs.LocalNames.{names_law}
-use Rattle.w16_local.specs.Parts.{IsOver}
 
 -- a block lies in the table's range
 pub block_inside : (t : Table) → IsLocalTable t → (id : ℕ) (x : Block) → block_with t.blocks id ≡ Some x → (t.lo ≤ x.at) × (0 < x.size) × (block_end x ≤ t.hi)

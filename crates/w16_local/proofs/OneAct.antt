@@ -1,36 +1,6 @@
 -- One act on one local heap over bytes.
-use Rattle.std.proofs.Common.{◌≡◌, ℕ, ◌+◌, ◌*◌, ◌<◌, ◌≤◌, ◌⊎◌, ◌==◌, inl, inr, Bool, true, false, MatchBool, if◌then◌else◌, IfOk, IsSome, IsSomeAnd, OnErr, is_err, List, [], ◌∷◌, length, zero, suc, get_or, set, All, Option, Some, None, unwrap_or, is_ok, is_some, Result, Ok, Err, refl, sym, ap, ◌∙◌, subst, arith, eq-eqb, ne_eqb}
+use Rattle.w16_local.proofs.Common.{◌≡◌, ℕ, ◌+◌, ◌*◌, ◌<◌, ◌≤◌, ◌⊎◌, ◌==◌, inl, inr, Bool, true, false, MatchBool, if◌then◌else◌, IfOk, IsSome, IsSomeAnd, OnErr, is_err, List, [], ◌∷◌, length, zero, suc, get_or, set, All, Option, Some, None, unwrap_or, is_ok, is_some, Result, Ok, Err, refl, sym, ap, ◌∙◌, subst, arith, eq-eqb, ne_eqb, cases_eq, cases_lt, false≢true, Block, Kind, RoomOptions, removed, with_newest, Heap, Object, IsHeap, IsMultiple, object_at, is_fixed, after_discard, after_free, KeepsRest, IsLongestStretch, CompactsFewest, IsMostAfter, MakesMost, Allocates, Compacts, eligible_count, IsNew, MakesRoom, Reallocates, compaction_prefix, most_room, moved_bytes, discards_needed, Table, IsSameOutside, IsSound, block_with, entry_at, heap_in, rest_law, others_law, asked, sound_heap, counted, contents, Placed, IsPlaced, IsSameRange, entry_of, heap_kept, entry_is, no_block, no_entry, AreParts, name_at, name_of, ByteOp, Alloc, Compact, Discard, Free, Realloc, Acted, Done, Idle, MayActOver, LocalHeapInvariant, IsOver}
 use Rattle.std.specs.FinMap as finmap
-use Rattle.std.proofs.lemmas.Bool.{cases_eq, cases_lt, false≢true}
-use Rattle.w16_model.specs.declared.Block.{Block}
-use Rattle.w16_model.specs.declared.Kind.{Kind}
-use Rattle.w16_model.specs.declared.RoomOptions.{RoomOptions}
-use Rattle.w16_model.specs.Changes.{removed, with_newest}
-use Rattle.w16_model.specs.Heap.{Heap, Object, IsHeap, IsMultiple, object_at, is_fixed}
-use Rattle.w16_model.specs.OneObject.{after_discard, after_free}
-use Rattle.w16_model.specs.Reallocation.{KeepsRest}
-use Rattle.w16_model.specs.Arrangement.{IsLongestStretch}
-use Rattle.w16_model.specs.Fewest.{CompactsFewest, IsMostAfter, MakesMost}
-use Rattle.w16_model.specs.Request.{Allocates, Compacts, eligible_count, IsNew, MakesRoom, Reallocates, compaction_prefix, most_room, moved_bytes, discards_needed}
-use Rattle.w16_model.specs.Table.{Table, IsSameOutside, IsSound, block_with, entry_at, heap_in}
-use Rattle.w16_model.proofs.KeptRest.{rest_law}
-use Rattle.w16_model.proofs.Others.{others_law}
-use Rattle.w16_model.proofs.Reallocations.{asked}
-use Rattle.w16_model.proofs.Sound.{sound_heap}
-use Rattle.w16_region.specs.Bytes.{counted}
-use Rattle.w16_compact.specs.Gather.{contents}
-use Rattle.w16_arena.specs.declared.new_place.Placed.{Placed}
-use Rattle.w16_arena.specs.Asked.{IsPlaced}
-use Rattle.w16_arena.specs.State.{IsSameRange, entry_of}
-use Rattle.w16_arena.proofs.Keeping.{heap_kept}
-use Rattle.w16_arena.proofs.Lookups.{entry_is, no_block, no_entry}
-use Rattle.w16_arena.proofs.Parts.{AreParts}
-use Rattle.w16_machine.specs.Local.{name_at, name_of}
-use Rattle.w16_local.specs.declared.acts.ByteOp.{ByteOp}
-use Rattle.w16_local.specs.declared.acts.ByteOp.TheVariants.{Alloc, Compact, Discard, Free, Realloc}
-use Rattle.w16_local.specs.Acts.{Acted, Done, Idle, MayActOver}
-use Rattle.w16_local.specs.Kept.{LocalHeapInvariant}
-use Rattle.w16_local.specs.Parts.{IsOver}
 use Rattle.w16_local.proofs.Alike.{same_table}
 use Rattle.w16_local.proofs.Entries.{HasOthers, HasSame, discarded, free_gone, is_local, kept_others, mapped, removed_here, removed_others, same_free, set_free}
 

@@ -1,23 +1,7 @@
 -- One local heap: its free entries, and steps that ask for no room.
-use Rattle.std.proofs.Common.{◌≡◌, ℕ, ◌<◌, ◌≤◌, inl, inr, Bool, true, false, nat_le, if◌then◌else◌, IfErr, OnErr, OnOk, List, length, get_or, set, Option, Some, None, is_some, Result, Ok, Err, refl, sym, ap, ◌∙◌, subst, arith}
-use Rattle.std.specs.List.{position, position_or_len}
-use Rattle.std.proofs.lemmas.Bool.{cases_lt, false≢true, lt-ltb}
-use Rattle.std.proofs.lemmas.List.{length-replicate}
-use Rattle.std.proofs.lemmas.List.Quantifiers.{position-Some}
-use Rattle.std.proofs.lemmas.List.Sums.{fails_before_first}
-use Rattle.w16_model.specs.declared.Entry.{Entry}
-use Rattle.w16_model.specs.declared.Kind.{Kind}
-use Rattle.w16_model.specs.declared.Refusal.{Refusal}
-use Rattle.w16_model.specs.declared.Span.{Span}
-use Rattle.w16_model.specs.Changes.{with_object}
-use Rattle.w16_model.specs.Heap.{Heap, IsMultiple}
-use Rattle.w16_model.specs.OneObject.{Enters}
-use Rattle.w16_model.specs.Table.{Table, entry_at, heap_in}
-use Rattle.w16_arena.specs.State.{ArenaState, Steps, empty_table}
-use Rattle.w16_arena.proofs.Fresh.{sound, no_entry}
-use Rattle.w16_machine.specs.declared.local.TheConstants.{LOCAL_ENTRIES}
-use Rattle.w16_local.specs.Kept.{IsFull, LocalHeapInvariant, IsLowest}
-use Rattle.w16_local.specs.Steps.{Turns, outcome}
+use Rattle.w16_local.proofs.Common.{◌≡◌, ℕ, ◌<◌, ◌≤◌, inl, inr, Bool, true, false, nat_le, if◌then◌else◌, IfErr, OnErr, OnOk, List, length, get_or, set, Option, Some, None, is_some, Result, Ok, Err, refl, sym, ap, ◌∙◌, subst, arith, position, position_or_len, cases_lt, false≢true, length-replicate, position-Some, fails_before_first, Entry, Kind, Refusal, Span, with_object, Heap, IsMultiple, Enters, Table, entry_at, heap_in, ArenaState, Steps, empty_table, sound, LOCAL_ENTRIES, IsFull, LocalHeapInvariant, IsLowest, Turns, outcome}
+use Rattle.std.proofs.lemmas.Bool.{lt-ltb}
+use Rattle.w16_arena.proofs.Fresh.{no_entry}
 use Rattle.w16_local.proofs.Entries.{HasSame, any_inside, any_memory, bit, put_here, put_others, same_free, set_free}
 
 -- A new heap.

@@ -1,25 +1,7 @@
 -- A step of one local heap that asks for no room: in the list of heaps, and as a call's.
-use Rattle.std.proofs.Common.{◌≡◌, inl, inr, lt-ltb, le-ltb, ℕ, ◌-◌, ◌≤◌, Bool, true, false, nat_lt, if◌then◌else◌, OnErr, IsSome, IsSomeAnd, List, length, get_or, set, MatchOption, Option, Some, None, option_map, unwrap_or, Result, Ok, Err, refl, sym, ap, ◌∙◌, subst, arith}
-use Rattle.std.specs.Ordering.{nat_cmp}
+use Rattle.w16_local.proofs.Common.{◌≡◌, inl, inr, lt-ltb, le-ltb, ℕ, ◌-◌, ◌≤◌, Bool, true, false, nat_lt, if◌then◌else◌, OnErr, IsSome, IsSomeAnd, List, length, get_or, set, MatchOption, Option, Some, None, option_map, unwrap_or, Result, Ok, Err, refl, sym, ap, ◌∙◌, subst, arith, nat_cmp, FinMap, Refusal, locks_at, with_object, Handles, Heap, Object, object_at, is_fixed, after_lock, after_unlock, Table, heap_in, inserted_here, cases_lt, World, LocalObject, IsLocalTable, Becomes, Stays, heap_of, object_named, Leaves, OnNamed, lock_refused, locks_left, near_pointer, LocalLock, LocalUnlock, tables_of, AreListed, Calls, IsNamed, alone, with_parts, Stepped, Turns, answer_of, outcome}
 use Rattle.std.specs.FinMap as finmap
-use Rattle.std.specs.FinMap.{FinMap}
-use Rattle.w16_model.specs.declared.Refusal.{Refusal}
 use Rattle.w16_model.specs.declared.Refusal.TheVariants as refusals
-use Rattle.w16_model.specs.Calls.{locks_at}
-use Rattle.w16_model.specs.Changes.{with_object}
-use Rattle.w16_model.specs.Handles.{Handles}
-use Rattle.w16_model.specs.Heap.{Heap, Object, object_at, is_fixed}
-use Rattle.w16_model.specs.OneObject.{after_lock, after_unlock}
-use Rattle.w16_model.specs.Table.{Table, heap_in}
-use Rattle.w16_model.proofs.KeptHeaps.{inserted_here}
-use Rattle.std.proofs.lemmas.Bool.{cases_lt}
-use Rattle.w16_machine.specs.World.{World}
-use Rattle.w16_machine.specs.Local.{LocalObject, IsLocalTable, Becomes, Stays, heap_of, object_named}
-use Rattle.w16_machine.specs.LocalCalls.{Leaves, OnNamed, lock_refused, locks_left, near_pointer}
-use Rattle.w16_machine.specs.LocalCalls.LocalCommand.{LocalLock, LocalUnlock}
-use Rattle.w16_local.specs.Kept.{tables_of, AreListed}
-use Rattle.w16_local.specs.Parts.{Calls, IsNamed, alone, with_parts}
-use Rattle.w16_local.specs.Steps.{Stepped, Turns, answer_of, outcome}
 use Rattle.w16_local.proofs.Choices.{is_named}
 use Rattle.w16_local.proofs.Locals.{default_any, here, in_range, insert_nothing, listed_replaced, tables_replaced}
 

@@ -1,17 +1,7 @@
 -- Heaps that go with the bytes of their segments, listed slot by listed slot.
-use Rattle.std.proofs.Common.{◌≡◌, ◌≢◌, ℕ, ◌+◌, ◌-◌, ◌*◌, ◌<◌, ◌≤◌, inl, inr, Bool, true, false, cond, nat_le, IfSome, IsSomeAnd, List, length, get_or, Option, Some, None, option_map, is_some, refl, sym, ap, ◌∙◌, subst, arith}
-use Rattle.std.specs.Cmp.{nat_cmp_total}
+use Rattle.w16_local.proofs.Common.{◌≡◌, ◌≢◌, ℕ, ◌+◌, ◌-◌, ◌*◌, ◌<◌, ◌≤◌, inl, inr, Bool, true, false, cond, nat_le, IfSome, IsSomeAnd, List, length, get_or, Option, Some, None, option_map, is_some, refl, sym, ap, ◌∙◌, subst, arith, nat_cmp_total, nat_cmp, FinMap, same_map, nat_cmp-IsAntisymmetric, get-retain_keys, cases_Bool, cases_eq, false≢true, Handles, AreHandles, IsSlot, slot_of_selector, Heap, Object, bytes_at, object_at, Table, has_range, left_in, AreListed, IsListed, tables_of, AreSwept}
 use Rattle.std.specs.FinMap as finmap
-use Rattle.std.specs.Ordering.{nat_cmp}
-use Rattle.std.specs.FinMap.{FinMap, same_map, nat_cmp-IsAntisymmetric, get-retain_keys}
-use Rattle.std.proofs.lemmas.Bool.{cases_Bool, cases_eq, false≢true}
-use Rattle.w16_model.specs.Handles.{Handles, AreHandles, IsSlot, slot_of_selector}
-use Rattle.w16_model.specs.Heap.{Heap, Object, bytes_at, object_at}
-use Rattle.w16_model.specs.Table.{Table}
 use Rattle.w16_model.proofs.Naming.{names_law}
-use Rattle.w16_machine.specs.Local.{has_range, left_in}
-use Rattle.w16_local.specs.Kept.{AreListed, IsListed, tables_of}
-use Rattle.w16_local.specs.Swept.{AreSwept}
 use Rattle.w16_local.proofs.Locals.{tables_at}
 
 -- The object of a slot is that of its selector.

@@ -1,15 +1,6 @@
 -- Members of ids that are each there once.
-use Rattle.std.specs.List.{AllByRecursion as Each, list_any}
-use Rattle.std.proofs.Common.{◌≡◌, ℕ, ◌+◌, ◌<◌, ◌≤◌, Bool, true, false, cond, not, ◌&&◌, ◌||◌, ◌==◌, nat_eq, List, [], ◌∷◌, length, refl, sym, ap, ◌∙◌, subst, arith, eqb-true, eq-eqb}
-use Rattle.std.proofs.lemmas.Bool.{false≢true, true≢false, ne_eqb}
-use Rattle.std.proofs.lemmas.Bool.Decides.{Decides-eqb}
-use Rattle.std.proofs.lemmas.Map.Made.{IsDistinct-from_AllPairs}
-use Rattle.std.proofs.lemmas.Map.Steps.{length-le_from_distinct_below}
-use Rattle.w16_model.specs.Discards.{is_member}
-use Rattle.w16_model.specs.Changes.{without}
-use Rattle.w16_model.proofs.Gaps.{EachPair, Each-from_All}
-use Rattle.w16_model.proofs.Orders.{member_without}
-use Rattle.w16_lru.specs.Uses.{Uses, AreUses}
+use Rattle.w16_lru.proofs.Common.{list_any, ◌≡◌, ℕ, ◌+◌, ◌<◌, ◌≤◌, Bool, true, false, cond, not, ◌&&◌, ◌||◌, ◌==◌, nat_eq, List, [], ◌∷◌, length, refl, sym, ap, ◌∙◌, subst, arith, eqb-true, eq-eqb, false≢true, true≢false, ne_eqb, Decides-eqb, IsDistinct-from_AllPairs, length-le_from_distinct_below, is_member, without, EachPair, Each-from_All, member_without, Uses, AreUses}
+use Rattle.std.specs.List.{AllByRecursion as Each}
 
 left_out : (b m : Bool) (x : ℕ) (xs ys : List ℕ) → (b || m) ≡ false → (m ≡ false → ys ≡ xs) → cond (not b) (x ∷ ys) ys ≡ x ∷ xs
 left_out true m x xs ys h f = absurd (true≢false h)

@@ -1,18 +1,6 @@
 -- What the methods answer and leave, from the ring that is kept.
-use Rattle.std.specs.List.{AllByRecursion as Each, swap}
-use Rattle.std.specs.Prelude.{slice_index, Vec}
-use Rattle.std.proofs.Common.{◌≡◌, ◌≢◌, ℕ, suc, ◌+◌, ◌-◌, ◌<◌, ◌≤◌, Bool, true, false, ◌⊎◌, inl, inr, drop, get_or, List, [], ◌∷◌, ◌++◌, length, slice_get, Some, None, length-append, refl, sym, ap, ◌∙◌, subst, arith}
-use Rattle.std.specs.Vec.{with_items}
-use Rattle.std.proofs.lemmas.List.{get_or_read, with_items_is}
-use Rattle.std.proofs.lemmas.List.Edits.{length-swap}
-use Rattle.std.proofs.lemmas.Option.{slice_get_past}
-use Rattle.w16_model.specs.Discards.{is_member}
-use Rattle.w16_model.specs.Changes.{without}
-use Rattle.w16_model.proofs.Gaps.{EachPair-from_AllPairs, Each-from_All}
-use Rattle.w16_lru.specs.declared.End.{End}
-use Rattle.w16_lru.specs.declared.End.TheVariants.{Oldest, Newest}
-use Rattle.w16_lru.specs.Uses.{Uses, AreUses, at_end}
-use Rattle.w16_lru.specs.Representation.{ids_of, Leads, IsRing, uses_of}
+use Rattle.w16_lru.proofs.Common.{swap, slice_index, Vec, ◌≡◌, ◌≢◌, ℕ, suc, ◌+◌, ◌-◌, ◌<◌, ◌≤◌, Bool, true, false, ◌⊎◌, inl, inr, drop, get_or, List, [], ◌∷◌, ◌++◌, length, slice_get, Some, None, length-append, refl, sym, ap, ◌∙◌, subst, arith, with_items, get_or_read, with_items_is, length-swap, slice_get_past, is_member, without, EachPair-from_AllPairs, Each-from_All, End, Oldest, Newest, Uses, AreUses, at_end, ids_of, Leads, IsRing, uses_of}
+use Rattle.std.specs.List.{AllByRecursion as Each}
 use Rattle.w16_lru.proofs.Members.{without-absent, fewer, member_below, few}
 use Rattle.w16_lru.proofs.Ways.{follow-leads, length-follow, follow-next, leads-behind, leads-some, leads-no, leads-none, leads-stuck, each_at, each-drop, slice_get-behind}
 use Rattle.w16_lru.proofs.Rings.{ring-out, ring-oldest, ring-newest}

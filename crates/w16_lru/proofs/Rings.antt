@@ -1,18 +1,6 @@
 -- Rings of ids in which the links of two numbers are exchanged.
-use Rattle.std.specs.List.{AllByRecursion as Each, swap, range_with_len}
-use Rattle.std.specs.Prelude.{slice_index}
-use Rattle.std.proofs.Common.{◌≡◌, ◌≢◌, ℕ, ◌+◌, ◌<◌, ◌⊎◌, Bool, true, false, cond, not, ◌&&◌, ◌||◌, ◌==◌, List, [], ◌∷◌, ◌++◌, AllPairs, refl, sym, ap, ◌∙◌, subst, arith, inl, inr, eq-eqb}
-use Rattle.std.proofs.lemmas.Bool.{true≢false, ne_eqb, cases_eq}
-use Rattle.std.proofs.lemmas.List.Edits.{Swapped, swapped_from_swap, length-swap}
-use Rattle.std.proofs.lemmas.List.Elements.{All-append, All-cons, All-nil, All-filter}
-use Rattle.std.proofs.lemmas.List.FromFn.{length-range_with_len, get_or-range_with_len}
-use Rattle.std.proofs.lemmas.List.Kept.{AllPairs-filter}
-use Rattle.w16_model.specs.Discards.{is_member}
-use Rattle.w16_model.specs.Changes.{without}
-use Rattle.w16_model.proofs.Gaps.{Each-from_All}
-use Rattle.w16_model.proofs.Orders.{member_without, newest_differ, oldest_differ}
-use Rattle.w16_lru.specs.Uses.{AreUses}
-use Rattle.w16_lru.specs.Representation.{Leads, LeadBack, IsRing}
+use Rattle.w16_lru.proofs.Common.{swap, range_with_len, slice_index, ◌≡◌, ◌≢◌, ℕ, ◌+◌, ◌<◌, ◌⊎◌, Bool, true, false, cond, not, ◌&&◌, ◌||◌, ◌==◌, List, [], ◌∷◌, ◌++◌, AllPairs, refl, sym, ap, ◌∙◌, subst, arith, inl, inr, eq-eqb, true≢false, ne_eqb, cases_eq, Swapped, swapped_from_swap, length-swap, All-append, All-cons, All-nil, All-filter, length-range_with_len, get_or-range_with_len, AllPairs-filter, is_member, without, Each-from_All, member_without, newest_differ, oldest_differ, AreUses, Leads, LeadBack, IsRing}
+use Rattle.std.specs.List.{AllByRecursion as Each}
 use Rattle.w16_lru.proofs.Members.{without-absent}
 use Rattle.w16_lru.proofs.Ways.{each_other, leads-same, leads-longer, leads-shorter, longer, shorter}
 

@@ -1,8 +1,5 @@
 -- A walk over the members of an order.
-use Rattle.std.proofs.Common.{ℕ, zero, suc, ◌≡◌, ◌+◌, ◌-◌, ◌<◌, ◌≤◌, List, [], ◌∷◌, length, drop, Option, Some, None, is_some, arith, refl, sym, ap, ◌∙◌}
-use Rattle.std.specs.Prelude.{slice_get}
-use Rattle.std.proofs.lemmas.Bool.{false≢true}
-use Rattle.w16_lru.specs.Uses.{Uses}
+use Rattle.w16_lru.proofs.Common.{ℕ, zero, suc, ◌≡◌, ◌+◌, ◌-◌, ◌<◌, ◌≤◌, List, [], ◌∷◌, length, drop, Option, Some, None, is_some, arith, refl, sym, ap, ◌∙◌, slice_get, false≢true, Uses}
 
 pub inside_got : (ids : List ℕ) (i id : ℕ) → Some id ≡ slice_get ids i → i < length ids
 inside_got [] i id e = absurd (false≢true (sym (ap is_some e)))

@@ -1,11 +1,6 @@
 -- Ways along links.
 use Rattle.std.specs.List.{AllByRecursion as Each}
-use Rattle.std.specs.Prelude.{slice_index}
-use Rattle.std.proofs.Common.{◌≡◌, ◌≢◌, ℕ, zero, suc, ◌+◌, ◌<◌, Bool, true, false, cond, not, ◌||◌, ◌==◌, List, [], ◌∷◌, ◌++◌, length, drop, slice_get, Some, None, refl, sym, ap, ◌∙◌, subst, arith, eqb-true, eq-eqb}
-use Rattle.std.proofs.lemmas.Bool.{false≢true, true≢false, ne_eqb}
-use Rattle.w16_model.specs.Discards.{is_member}
-use Rattle.w16_model.specs.Changes.{without}
-use Rattle.w16_lru.specs.Representation.{follow, Leads}
+use Rattle.w16_lru.proofs.Common.{slice_index, ◌≡◌, ◌≢◌, ℕ, zero, suc, ◌+◌, ◌<◌, Bool, true, false, cond, not, ◌||◌, ◌==◌, List, [], ◌∷◌, ◌++◌, length, drop, slice_get, Some, None, refl, sym, ap, ◌∙◌, subst, arith, eqb-true, eq-eqb, false≢true, true≢false, ne_eqb, is_member, without, follow, Leads}
 
 -- the ids on a way are what comes first on it
 pub follow-leads : (after : List ℕ) (from : ℕ) (ids : List ℕ) (end : ℕ) → Leads after from ids end → follow (length ids) after from ≡ ids

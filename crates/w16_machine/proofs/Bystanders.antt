@@ -1,27 +1,7 @@
 -- What each step spares, and so each step of a run.
-use Rattle.std.proofs.Common.{◌≡◌, ◌≢◌, ℕ, ◌⊎◌, inl, inr, true, List, [], ◌∷◌, Option, Some, None, IsSomeAnd, option_map, refl, sym, ap, ◌∙◌, subst}
+use Rattle.w16_machine.proofs.Common.{◌≡◌, ◌≢◌, ℕ, ◌⊎◌, inl, inr, true, List, [], ◌∷◌, Option, Some, None, IsSomeAnd, option_map, refl, sym, ap, ◌∙◌, subst, cases_Bool, cases_eq, Object, object_at, is_pinned_object, StandsStill, Table, Each-from_All, bytes_in, LoadingCommand, Format, Reply, Word, Done, bystanders_law, pinned_law, World, IsWorld, LocalHeap, heap_of, local_in, current_heap, segment_bytes, LocalCommand, LocalStep, DS, HasSameObjects, IsHeapKept, IsLocalKept, IsObjectKept, IsRewritten, KeepsRest, asks_for_room, but_bytes, may_move_named, IsCommand, Event, Step, Run, OfLoading, OfLocals, IsLocalAbout, IsLocalSpared, AllSpare, StepSparesLaw, RunSparesLaw}
 use Rattle.std.specs.List.{AllByRecursion as Each}
 use Rattle.std.specs.FinMap as finmap
-use Rattle.std.proofs.lemmas.Bool.{cases_Bool, cases_eq}
-use Rattle.w16_model.specs.Heap.{Object, object_at, is_pinned_object}
-use Rattle.w16_model.specs.Law.{StandsStill}
-use Rattle.w16_model.specs.Table.{Table}
-use Rattle.w16_model.proofs.Gaps.{Each-from_All}
-use Rattle.w16_model.proofs.KeptHeaps.{bytes_in}
-use Rattle.w16_loading.specs.Families.{LoadingCommand}
-use Rattle.w16_loading.specs.File.{Format}
-use Rattle.w16_loading.specs.Replies.{Reply}
-use Rattle.w16_loading.specs.Replies.Reply.{Word, Done}
-use Rattle.w16_loading.proofs.Bystanders.{bystanders_law, pinned_law}
-use Rattle.w16_machine.specs.World.{World}
-use Rattle.w16_machine.specs.Law.{IsWorld}
-use Rattle.w16_machine.specs.Local.{LocalHeap, heap_of, local_in, current_heap, segment_bytes}
-use Rattle.w16_machine.specs.LocalCalls.{LocalCommand, LocalStep}
-use Rattle.w16_machine.specs.LocalCalls.LocalCommand.{DS}
-use Rattle.w16_machine.specs.LocalLaw.{HasSameObjects, IsHeapKept, IsLocalKept, IsObjectKept, IsRewritten, KeepsRest, asks_for_room, but_bytes, may_move_named}
-use Rattle.w16_machine.specs.Machine.{IsCommand, Event, Step, Run}
-use Rattle.w16_machine.specs.Machine.Command.{OfLoading, OfLocals}
-use Rattle.w16_machine.specs.Bystanders.{IsLocalAbout, IsLocalSpared, AllSpare, StepSparesLaw, RunSparesLaw}
 use Rattle.w16_machine.proofs.LocalFacts.{IsThere, current_there, local_there, there_local, found}
 use Rattle.w16_machine.proofs.LocalFar.{same_heaps}
 use Rattle.w16_machine.proofs.LocalFrame.{frame_law}

@@ -1,17 +1,5 @@
 -- Each step of a run discards as few as it can.
-use Rattle.std.proofs.Common.{◌≡◌, subst}
-use Rattle.w16_model.specs.Calls.HandleCommand.{GlobalAlloc, GlobalCompact}
-use Rattle.w16_model.proofs.Fewest.{global_alloc_law, global_compact_law}
-use Rattle.w16_model.proofs.ResizedHandles.{resize_fewest_law}
-use Rattle.w16_loading.specs.File.{Format}
-use Rattle.w16_loading.specs.Replies.{Reply}
-use Rattle.w16_loading.specs.Replies.Reply.{Word, Dword}
-use Rattle.w16_loading.specs.Resizes.ResizeCommand.{GlobalReAlloc}
-use Rattle.w16_loading.proofs.AnySteps.{requests_fewest_law}
-use Rattle.w16_machine.specs.World.{World}
-use Rattle.w16_machine.specs.Law.{IsWorld}
-use Rattle.w16_machine.specs.Machine.{Event, Command, Step}
-use Rattle.w16_machine.specs.Fewest.{IsFewest}
+use Rattle.w16_machine.proofs.Common.{◌≡◌, subst, GlobalAlloc, GlobalCompact, global_alloc_law, global_compact_law, resize_fewest_law, Format, Reply, Word, Dword, GlobalReAlloc, requests_fewest_law, World, IsWorld, Event, Command, Step, IsFewest}
 use Rattle.w16_machine.proofs.LocalFewest.{local_alloc_law, local_compact_law, local_realloc_law}
 use Rattle.w16_machine.proofs.Stepped.{call_replies, resize_replies}
 

@@ -1,22 +1,6 @@
 -- Where a local heap may begin, and that it has no object then.
-use Rattle.std.proofs.Common.{◌≡◌, ℕ, zero, suc, ◌+◌, ◌*◌, ◌/◌, ◌<◌, ◌≤◌, Bool, true, false, cond, ◌&&◌, nat_le, nat_lt, min, IsTrue, IfSome, IsSomeAnd, List, [], length, get_or, replicate, Option, Some, None, option_map, is_some, refl, sym, ap, ◌∙◌, subst, arith, leb-true, ltb-true}
-use Rattle.std.specs.Ordering.{nat_cmp}
+use Rattle.w16_machine.proofs.Common.{◌≡◌, ℕ, zero, suc, ◌+◌, ◌*◌, ◌/◌, ◌<◌, ◌≤◌, Bool, true, false, cond, ◌&&◌, nat_le, nat_lt, min, IsTrue, IfSome, IsSomeAnd, List, [], length, get_or, replicate, Option, Some, None, option_map, is_some, refl, sym, ap, ◌∙◌, subst, arith, leb-true, ltb-true, nat_cmp, get-empty, and_parts, le-leb, lt-ltb, length-replicate, Entry, Span, Block, Heap, Object, IsMultiple, object_at, is_fixed, is_code, slot_of_selector, Table, IsSound, IsCountedBy, entry_at, hold_of_entry, is_listed, by_id, heap_in, All-from_Each, AllPairs-from_EachPair, LOCAL_GRAIN, LOCAL_ENTRIES, World, Beginning, IsLocalTable, IsLocalIn, AreNamed, segment_bytes, is_range, range_in, beginning, beginning_in, new_table, selector_or_ds, rounded_up, rounded_down, MayBegin, BeginLaw, NewHeapLaw}
 use Rattle.std.specs.FinMap as finmap
-use Rattle.std.specs.FinMap.{get-empty}
-use Rattle.std.proofs.lemmas.Bool.{and_parts, le-leb, lt-ltb}
-use Rattle.std.proofs.lemmas.List.{length-replicate}
-use Rattle.w16_model.specs.declared.Entry.{Entry}
-use Rattle.w16_model.specs.declared.Span.{Span}
-use Rattle.w16_model.specs.declared.Block.{Block}
-use Rattle.w16_model.specs.Heap.{Heap, Object, IsMultiple, object_at, is_fixed}
-use Rattle.w16_model.specs.Owned.{is_code}
-use Rattle.w16_model.specs.Handles.{slot_of_selector}
-use Rattle.w16_model.specs.Table.{Table, IsSound, IsCountedBy, entry_at, hold_of_entry, is_listed, by_id, heap_in}
-use Rattle.w16_model.proofs.Gaps.{All-from_Each, AllPairs-from_EachPair}
-use Rattle.w16_machine.specs.declared.local.TheConstants.{LOCAL_GRAIN, LOCAL_ENTRIES}
-use Rattle.w16_machine.specs.World.{World}
-use Rattle.w16_machine.specs.Local.{Beginning, IsLocalTable, IsLocalIn, AreNamed, segment_bytes, is_range, range_in, beginning, beginning_in, new_table, selector_or_ds, rounded_up, rounded_down}
-use Rattle.w16_machine.specs.LocalLaw.{MayBegin, BeginLaw, NewHeapLaw}
 
 -- The range.
 

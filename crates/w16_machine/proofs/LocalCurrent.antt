@@ -1,16 +1,6 @@
 -- What a local call makes of the heap that DS names.
-use Rattle.std.proofs.Common.{◌≡◌, ℕ, inl, inr, Option, Some, None, refl, sym, ap, ◌∙◌, subst}
+use Rattle.w16_machine.proofs.Common.{◌≡◌, ℕ, inl, inr, Option, Some, None, refl, sym, ap, ◌∙◌, subst, cases_eq, Heap, Table, heap_in, inserted_other, Reply, Word, Done, World, LocalHeap, segment_bytes, heap_of, local_in, current_heap, new_table, LocalCommand, LocalStep, DS}
 use Rattle.std.specs.FinMap as finmap
-use Rattle.std.proofs.lemmas.Bool.{cases_eq}
-use Rattle.w16_model.specs.Heap.{Heap}
-use Rattle.w16_model.specs.Table.{Table, heap_in}
-use Rattle.w16_model.proofs.KeptHeaps.{inserted_other}
-use Rattle.w16_loading.specs.Replies.{Reply}
-use Rattle.w16_loading.specs.Replies.Reply.{Word, Done}
-use Rattle.w16_machine.specs.World.{World}
-use Rattle.w16_machine.specs.Local.{LocalHeap, segment_bytes, heap_of, local_in, current_heap, new_table}
-use Rattle.w16_machine.specs.LocalCalls.{LocalCommand, LocalStep}
-use Rattle.w16_machine.specs.LocalCalls.LocalCommand.{DS}
 use Rattle.w16_machine.proofs.LocalFacts.{IsThere, current_there, there_local, acted_there, became_there}
 use Rattle.w16_machine.proofs.LocalBegins.{begin_law}
 use Rattle.w16_machine.proofs.LocalOutcomes.{IsRoomed, IsStepped, IsDone, Outcome, outcome}

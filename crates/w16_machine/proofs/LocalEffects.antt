@@ -1,27 +1,8 @@
 -- What local calls do.
-use Rattle.std.proofs.Common.{◌≡◌, ℕ, ◌+◌, ◌-◌, ◌<◌, inl, inr, true, false, cond, not, ◌||◌, ◌&&◌, ◌==◌, nat_lt, MatchBool, MatchOption, IfOk, IsSomeAnd, Bool, List, Option, Some, None, Result, Ok, Err, option_map, unwrap_or, is_some, refl, sym, ap, ◌∙◌, subst, arith, ne_eqb}
+use Rattle.w16_machine.proofs.Common.{◌≡◌, ℕ, ◌+◌, ◌-◌, ◌<◌, inl, inr, true, false, cond, not, ◌||◌, ◌&&◌, ◌==◌, nat_lt, MatchBool, MatchOption, IfOk, IsSomeAnd, Bool, List, Option, Some, None, Result, Ok, Err, option_map, unwrap_or, is_some, refl, sym, ap, ◌∙◌, subst, arith, ne_eqb, false≢true, Refusal, Kind, Heap, Object, IsHeap, object_at, is_fixed, is_discardable, is_in_order, with_object, with_ordered, with_newest, newest, touched, removed, absent, after_lock, after_unlock, after_free, after_discard, after_modify, has_flag, discard_is, get-update_same, inserted_here, taken_here, bytes_in, Reply, Word, Done, LMEM_MOVEABLE, LMEM_MODIFY, World, LocalHeap, LocalObject, Becomes, Acts, Stays, heap_of, object_named, LocalCommand, Answers, LocalStep, Leaves, GivesUp, OnNamed, ModifiesObject, DiscardsObject, SizesObject, moveable_or_discardable, near_pointer, lock_refused, locks_left, LocalReAlloc, LocalDiscard, LocalFree, LocalLock, LocalUnlock, DS, Left, Ends, IsLocalNamed, LockLaw, UnlockLaw, FreeLaw, ModifyLaw, DiscardLaw, RefusedLaw, discard_is_refused, is_refused, named_by}
 use Rattle.std.specs.FinMap as finmap
-use Rattle.std.proofs.lemmas.Bool.{false≢true}
-use Rattle.w16_model.specs.declared.Refusal.{Refusal}
 use Rattle.w16_model.specs.declared.Refusal.TheVariants as refusals
-use Rattle.w16_model.specs.declared.Kind.{Kind}
-use Rattle.w16_model.specs.Heap.{Heap, Object, IsHeap, object_at, is_fixed, is_discardable, is_in_order}
-use Rattle.w16_model.specs.Changes.{with_object, with_ordered, with_newest, newest, touched, removed, absent}
-use Rattle.w16_model.specs.OneObject.{after_lock, after_unlock, after_free, after_discard, after_modify}
-use Rattle.w16_model.specs.Calls.{has_flag}
-use Rattle.w16_model.proofs.Absence.{answer as discard_answer, discard_is}
-use Rattle.w16_model.proofs.Heaps.{get-update_same}
-use Rattle.w16_model.proofs.KeptHeaps.{inserted_here, taken_here, bytes_in}
-use Rattle.w16_loading.specs.Replies.{Reply}
-use Rattle.w16_loading.specs.Replies.Reply.{Word, Done}
-use Rattle.w16_machine.specs.declared.local.TheConstants.{LMEM_MOVEABLE, LMEM_MODIFY}
-use Rattle.w16_machine.specs.World.{World}
-use Rattle.w16_machine.specs.Local.{LocalHeap, LocalObject, Becomes, Acts, Stays, heap_of, object_named}
-use Rattle.w16_machine.specs.LocalCalls.{LocalCommand, Answers, LocalStep, Leaves, GivesUp, OnNamed, ModifiesObject, DiscardsObject, SizesObject, moveable_or_discardable, near_pointer, lock_refused, locks_left}
-use Rattle.w16_machine.specs.LocalCalls.LocalCommand.{LocalReAlloc, LocalDiscard, LocalFree, LocalLock, LocalUnlock, DS}
-use Rattle.w16_machine.specs.LocalFewest.{Left}
-use Rattle.w16_machine.specs.LocalEffects.{Ends, IsLocalNamed, LockLaw, UnlockLaw, FreeLaw, ModifyLaw, DiscardLaw, RefusedLaw, discard_is_refused, is_refused}
-use Rattle.w16_machine.specs.LocalLaw.{named_by}
+use Rattle.w16_model.proofs.Absence.{answer as discard_answer}
 use Rattle.w16_machine.proofs.LocalFacts.{IsThere, current_there, named_there, there_local, heap_here, acted_there, became_there}
 use Rattle.w16_machine.proofs.LocalNamed.{not_fixed}
 

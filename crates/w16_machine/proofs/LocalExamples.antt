@@ -1,17 +1,7 @@
 -- Local heaps worked out by hand: where they may begin, names, flags, and the room of small heaps.
-use Rattle.std.proofs.Common.{◌≡◌, ℕ, true, false, [], ◌∷◌, Some, None, refl}
+use Rattle.w16_machine.proofs.Common.{◌≡◌, ℕ, true, false, [], ◌∷◌, Some, None, refl, Block, Hold, Pinned, Loose, Kind, Fixed, Moveable, Discardable, Snapshot, snapshot, needed, fits_in_place, prefix_for, growth_for, room, Heap, Object, range_in, rounded_up, name_of, local_kind, local_options, local_flags_of, lock_refused, is_absent_asked, moveable_or_discardable}
 use Rattle.std.specs.FinMap as finmap
-use Rattle.w16_model.specs.declared.Block.{Block}
-use Rattle.w16_model.specs.declared.Hold.{Hold}
-use Rattle.w16_model.specs.declared.Hold.TheVariants.{Pinned, Loose}
-use Rattle.w16_model.specs.declared.Kind.{Kind}
-use Rattle.w16_model.specs.declared.Kind.TheVariants.{Fixed, Moveable, Discardable}
 use Rattle.w16_model.specs.declared.Refusal.TheVariants as refusals
-use Rattle.w16_model.specs.Discards.{Snapshot, snapshot, needed, fits_in_place, prefix_for, growth_for}
-use Rattle.w16_model.specs.Gap.{room}
-use Rattle.w16_model.specs.Heap.{Heap, Object}
-use Rattle.w16_machine.specs.Local.{range_in, rounded_up, name_of}
-use Rattle.w16_machine.specs.LocalCalls.{local_kind, local_options, local_flags_of, lock_refused, is_absent_asked, moveable_or_discardable}
 
 -- Where a heap may begin in a segment of 64 bytes.
 

@@ -1,19 +1,6 @@
 -- What is known of the local heap that DS names, and of the worlds that a local call leaves.
-use Rattle.std.proofs.Common.{◌≡◌, ◌≢◌, ℕ, ◌<◌, ◌≤◌, Bool, true, false, cond, nat_le, leb-true, List, length, All, Option, Some, None, IfSome, IsSomeAnd, option_map, refl, sym, ap, ◌∙◌, subst, arith}
+use Rattle.w16_machine.proofs.Common.{◌≡◌, ◌≢◌, ℕ, ◌<◌, ◌≤◌, Bool, true, false, cond, nat_le, leb-true, List, length, All, Option, Some, None, IfSome, IsSomeAnd, option_map, refl, sym, ap, ◌∙◌, subst, arith, put_part, Heap, Object, IsHeap, object_at, bytes_at, after_write, slot_of_selector, Table, le-leb, take_all, length-put_part, part-put_part, sound_law, get-update_same, get-update_other, bytes_in, inserted_here, World, LocalHeap, LocalObject, AreLocalHeaps, IsLocalIn, Becomes, Acts, segment_bytes, heap_of, local_of, local_in, current_heap, object_named, id_named}
 use Rattle.std.specs.FinMap as finmap
-use Rattle.w16_model.specs.Bytes.{put_part}
-use Rattle.w16_model.specs.Heap.{Heap, Object, IsHeap, object_at, bytes_at}
-use Rattle.w16_model.specs.Far.{after_write}
-use Rattle.w16_model.specs.Handles.{slot_of_selector}
-use Rattle.w16_model.specs.Table.{Table}
-use Rattle.std.proofs.lemmas.Bool.{le-leb}
-use Rattle.std.proofs.lemmas.List.{take_all}
-use Rattle.w16_model.proofs.Parts.{length-put_part, part-put_part}
-use Rattle.w16_model.proofs.Sound.{sound_law}
-use Rattle.w16_model.proofs.Heaps.{get-update_same, get-update_other}
-use Rattle.w16_model.proofs.KeptHeaps.{bytes_in, inserted_here}
-use Rattle.w16_machine.specs.World.{World}
-use Rattle.w16_machine.specs.Local.{LocalHeap, LocalObject, AreLocalHeaps, IsLocalIn, Becomes, Acts, segment_bytes, heap_of, local_of, local_in, current_heap, object_named, id_named}
 
 -- A local heap is there: its table, and its segment's bytes, which have its range.
 pub record IsThere (w : World) (at : LocalHeap) : Type 0 where

@@ -1,36 +1,8 @@
 -- A far access leaves each local heap but for bytes of its objects.
-use Rattle.std.proofs.Common.{◌≡◌, ℕ, Bool, true, false, ◌+◌, ◌≤◌, ◌<◌, inl, inr, cond, IsSomeAnd, List, length, slice_range, Option, Some, None, option_map, refl, sym, ap, ◌∙◌, subst, arith}
-use Rattle.std.specs.Cmp.{nat_cmp_total}
+use Rattle.w16_machine.proofs.Common.{◌≡◌, ℕ, Bool, true, false, ◌+◌, ◌≤◌, ◌<◌, inl, inr, cond, IsSomeAnd, List, length, slice_range, Option, Some, None, option_map, refl, sym, ap, ◌∙◌, subst, arith, nat_cmp_total, same_map, nat_cmp-IsAntisymmetric, cases_eq, le-leb, Block, Entry, FarFault, ReadOnly, refuses_write, part, put_part, repeated, block_end, Object, object_at, after_touch, Handles, selector_in, offset_in, FarCommand, FarAnswer, FarStep, far_fault, far_slot, far_bytes, data_write, after_write, Read, Write, Fill, Bytes, Fault, Table, IsTable, heap_in, object_in, block_with, entry_at, Reached, reached, Each-at, Member, get-update_same, get-update_other, bytes_in, laid_each, length-put_part, object_is, member_with, length_range, far_answer_in, World, LocalHeap, AreLocalHeaps, IsLocalIn, segment_bytes, heap_of, after_loading, HasSameObjects, FarLaw, but_bytes, HasSameSizes, size_at}
 use Rattle.std.specs.FinMap as finmap
-use Rattle.std.specs.FinMap.{same_map, nat_cmp-IsAntisymmetric}
-use Rattle.std.proofs.lemmas.Bool.{cases_eq, le-leb}
-use Rattle.w16_model.specs.declared.Block.{Block}
-use Rattle.w16_model.specs.declared.Entry.{Entry}
-use Rattle.w16_model.specs.declared.FarFault.{FarFault}
-use Rattle.w16_model.specs.declared.FarFault.TheVariants.{ReadOnly}
-use Rattle.w16_model.specs.Owned.{refuses_write}
-use Rattle.w16_model.specs.Bytes.{part, put_part, repeated}
-use Rattle.w16_model.specs.Gap.{block_end}
-use Rattle.w16_model.specs.Heap.{Object, object_at}
-use Rattle.w16_model.specs.OneObject.{after_touch}
-use Rattle.w16_model.specs.Handles.{Handles, selector_in, offset_in}
-use Rattle.w16_model.specs.Far.{FarCommand, FarAnswer, FarStep, far_fault, far_slot, far_bytes, far_read, data_write, far_write, after_write}
-use Rattle.w16_model.specs.Far.FarCommand.{Read, Write, Fill}
-use Rattle.w16_model.specs.Far.FarAnswer.{Bytes, Done, Fault}
-use Rattle.w16_model.specs.Table.{Table, IsTable, heap_in, object_in, block_with, entry_at}
-use Rattle.w16_model.proofs.Accesses.{Reached, reached}
-use Rattle.w16_model.proofs.Gaps.{Each-at, Member}
-use Rattle.w16_model.proofs.Heaps.{get-update_same, get-update_other}
-use Rattle.w16_model.proofs.KeptHeaps.{bytes_in}
-use Rattle.w16_model.proofs.Laid.{laid_each}
-use Rattle.w16_model.proofs.Parts.{length-put_part}
-use Rattle.w16_model.proofs.Tables.{object_is, member_with, length_range}
-use Rattle.w16_loading.specs.Replies.{far_answer_in}
-use Rattle.w16_machine.specs.World.{World}
-use Rattle.w16_machine.specs.Local.{LocalHeap, AreLocalHeaps, IsLocalIn, segment_bytes, heap_of}
-use Rattle.w16_machine.specs.Machine.{after_loading}
-use Rattle.w16_machine.specs.LocalLaw.{HasSameObjects, FarLaw, but_bytes}
-use Rattle.w16_machine.specs.LocalStays.{HasSameSizes, size_at}
+use Rattle.w16_model.specs.Far.{far_read, far_write}
+use Rattle.w16_model.specs.Far.FarAnswer.{Done}
 use Rattle.w16_machine.proofs.LocalFacts.{IsThere, local_there, local_here}
 use Rattle.w16_machine.proofs.LocalWorlds.{IsLocalAt, left_over, left_is}
 

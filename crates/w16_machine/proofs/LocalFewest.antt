@@ -1,24 +1,6 @@
 -- Local calls for room discard as few as they can, as each heap's requests do.
-use Rattle.std.proofs.Common.{◌≡◌, ◌≢◌, ℕ, ◌+◌, ◌*◌, ◌<◌, ◌≤◌, ◌⊎◌, inl, inr, Bool, true, false, cond, ◌&&◌, ◌==◌, MatchBool, MatchOption, IsSomeAnd, Option, Some, None, refl, sym, ap, ◌∙◌, subst, arith, ne_eqb}
+use Rattle.w16_machine.proofs.Common.{◌≡◌, ◌≢◌, ℕ, ◌+◌, ◌*◌, ◌<◌, ◌≤◌, ◌⊎◌, inl, inr, Bool, true, false, cond, ◌&&◌, ◌==◌, MatchBool, MatchOption, IsSomeAnd, Option, Some, None, refl, sym, ap, ◌∙◌, subst, arith, ne_eqb, false≢true, Block, block_end, Heap, Object, IsHeap, blocks, object_at, size_of, is_fixed, MakesRoom, most_room, has_flag, AllocatesFewest, CompactsFewest, LacksRoom, LacksPlace, ReallocatesFewest, allocation_law, compaction_law, lacking, Each-at, Each-from_All, IsBlockOf, block_member, fewest_law, LMEM_MOVEABLE, LMEM_MODIFY, World, LocalHeap, AreLocalHeaps, Becomes, Acts, Stays, heap_of, local_in, current_heap, name_of, name_at, rounded_up, EntersObject, AllocatesObject, ResizesObject, AllocatesIn, CompactsIn, ModifiesObject, DiscardsObject, SizesObject, IsRefusedAlloc, IsEmptyFixed, HasNoEntry, is_absent_asked, local_kind, local_options, LocalAlloc, LocalReAlloc, Left, AllocFewest, ReallocFewest, AllocLaw, ReallocLaw, CompactLaw}
 use Rattle.std.specs.FinMap as finmap
-use Rattle.std.proofs.lemmas.Bool.{false≢true}
-use Rattle.w16_model.specs.declared.Block.{Block}
-use Rattle.w16_model.specs.Gap.{block_end}
-use Rattle.w16_model.specs.Heap.{Heap, Object, IsHeap, blocks, object_at, size_of, is_fixed}
-use Rattle.w16_model.specs.Request.{MakesRoom, most_room}
-use Rattle.w16_model.specs.Calls.{has_flag}
-use Rattle.w16_model.specs.Fewest.{AllocatesFewest, CompactsFewest, LacksRoom}
-use Rattle.w16_model.specs.Reallocation.{LacksPlace, ReallocatesFewest}
-use Rattle.w16_model.proofs.Fewest.{allocation_law, compaction_law, lacking}
-use Rattle.w16_model.proofs.Gaps.{Each-at, Each-from_All}
-use Rattle.w16_model.proofs.Heaps.{IsBlockOf, block_member}
-use Rattle.w16_model.proofs.Reallocations.{fewest_law}
-use Rattle.w16_machine.specs.declared.local.TheConstants.{LMEM_MOVEABLE, LMEM_MODIFY}
-use Rattle.w16_machine.specs.World.{World}
-use Rattle.w16_machine.specs.Local.{LocalHeap, AreLocalHeaps, Becomes, Acts, Stays, heap_of, local_in, current_heap, name_of, name_at, rounded_up}
-use Rattle.w16_machine.specs.LocalCalls.{EntersObject, AllocatesObject, ResizesObject, AllocatesIn, CompactsIn, ModifiesObject, DiscardsObject, SizesObject, IsRefusedAlloc, IsEmptyFixed, HasNoEntry, is_absent_asked, local_kind, local_options}
-use Rattle.w16_machine.specs.LocalCalls.LocalCommand.{LocalAlloc, LocalReAlloc}
-use Rattle.w16_machine.specs.LocalFewest.{Left, AllocFewest, ReallocFewest, AllocLaw, ReallocLaw, CompactLaw}
 use Rattle.w16_machine.proofs.LocalFacts.{IsThere, current_there, named_there, there_local, heap_here, acted_there, became_there}
 use Rattle.w16_machine.proofs.LocalNames.{block_placed}
 use Rattle.w16_machine.proofs.LocalOutcomes.{outcome}

@@ -1,17 +1,6 @@
 -- What a local call leaves of the world.
-use Rattle.std.proofs.Common.{◌≡◌, ℕ, inl, inr, Some, IsSomeAnd, refl, sym, ap, ◌∙◌, subst}
+use Rattle.w16_machine.proofs.Common.{◌≡◌, ℕ, inl, inr, Some, IsSomeAnd, refl, sym, ap, ◌∙◌, subst, cases_eq, Heap, Object, object_at, Table, inserted_here, inserted_other, Word, Done, World, LocalHeap, Acts, heap_of, current_heap, new_table, with_local, LocalCommand, DS, is_code, MayBegin, IsRewritten, IsObjectKept, IsHeapKept, KeepsRest, FrameLaw}
 use Rattle.std.specs.FinMap as finmap
-use Rattle.std.proofs.lemmas.Bool.{cases_eq}
-use Rattle.w16_model.specs.Heap.{Heap, Object, object_at}
-use Rattle.w16_model.specs.Table.{Table}
-use Rattle.w16_model.proofs.KeptHeaps.{inserted_here, inserted_other}
-use Rattle.w16_loading.specs.Replies.Reply.{Word, Done}
-use Rattle.w16_machine.specs.World.{World}
-use Rattle.w16_machine.specs.Local.{LocalHeap, Acts, heap_of, current_heap, new_table, with_local}
-use Rattle.w16_machine.specs.LocalCalls.{LocalCommand}
-use Rattle.w16_machine.specs.LocalCalls.LocalCommand.{DS}
-use Rattle.w16_model.specs.Owned.{is_code}
-use Rattle.w16_machine.specs.LocalLaw.{MayBegin, IsRewritten, IsObjectKept, IsHeapKept, KeepsRest, FrameLaw}
 use Rattle.w16_machine.proofs.LocalFacts.{IsThere, current_there, object_of, segment_after, segment_other}
 use Rattle.w16_machine.proofs.LocalBegins.{begin_law}
 use Rattle.w16_machine.proofs.LocalOutcomes.{Outcome, IsRoomed, outcome}

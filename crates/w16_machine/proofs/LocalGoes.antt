@@ -1,20 +1,7 @@
 -- Local heaps go with their segments, and don't come back.
-use Rattle.std.proofs.Common.{◌≡◌, ℕ, ◌≤◌, ◌⊎◌, inl, inr, Bool, true, false, cond, nat_le, List, [], ◌∷◌, length, Option, Some, None, IsSomeAnd, refl, sym, ap, ◌∙◌, subst, leb-true}
+use Rattle.w16_machine.proofs.Common.{◌≡◌, ℕ, ◌≤◌, ◌⊎◌, inl, inr, Bool, true, false, cond, nat_le, List, [], ◌∷◌, length, Option, Some, None, IsSomeAnd, refl, sym, ap, ◌∙◌, subst, leb-true, cases_eq, le-leb, bytes_at, Table, Each-from_All, inserted_here, inserted_other, Word, Done, World, LocalHeap, current_heap, new_table, LocalCommand, DS, Event, Step, Run, OfLoading, OfLocals, IsBegun, BeginsNone, GoesLaw, NeverBackLaw, GoneLaw}
 use Rattle.std.specs.List.{AllByRecursion as Each}
 use Rattle.std.specs.FinMap as finmap
-use Rattle.std.proofs.lemmas.Bool.{cases_eq, le-leb}
-use Rattle.w16_model.specs.Heap.{bytes_at}
-use Rattle.w16_model.specs.Table.{Table}
-use Rattle.w16_model.proofs.Gaps.{Each-from_All}
-use Rattle.w16_model.proofs.KeptHeaps.{inserted_here, inserted_other}
-use Rattle.w16_loading.specs.Replies.Reply.{Word, Done}
-use Rattle.w16_machine.specs.World.{World}
-use Rattle.w16_machine.specs.Local.{LocalHeap, current_heap, new_table}
-use Rattle.w16_machine.specs.LocalCalls.{LocalCommand}
-use Rattle.w16_machine.specs.LocalCalls.LocalCommand.{DS}
-use Rattle.w16_machine.specs.Machine.{Event, Step, Run}
-use Rattle.w16_machine.specs.Machine.Command.{OfLoading, OfLocals}
-use Rattle.w16_machine.specs.LocalLaw.{IsBegun, BeginsNone, GoesLaw, NeverBackLaw, GoneLaw}
 use Rattle.w16_machine.proofs.LocalFacts.{current_there}
 use Rattle.w16_machine.proofs.LocalOutcomes.{Outcome, outcome}
 use Rattle.w16_machine.proofs.LocalWorlds.{left_over, left_is}

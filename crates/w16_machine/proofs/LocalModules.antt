@@ -1,24 +1,7 @@
 -- A local call leaves modules alone, and the bytes of code.
-use Rattle.std.proofs.Common.{◌≡◌, ℕ, inl, inr, true, false, List, length, Option, Some, None, IfSome, IsSomeAnd, refl, sym, ap, ◌∙◌, subst}
+use Rattle.w16_machine.proofs.Common.{◌≡◌, ℕ, inl, inr, true, false, List, length, Option, Some, None, IfSome, IsSomeAnd, refl, sym, ap, ◌∙◌, subst, false≢true, Kind, Object, object_at, Handles, owned_at, Table, IsSameOutside, Format, LoadingWorld, module_at, IsLoadingWorld, IsOfFiles, Reply, KeepsBytes, same_object, KeepsCode, code_kept, as_it_was, same_source, IsOwned, world_stays, World, LocalHeap, AreLocalHeaps, current_heap, LocalCommand, LocalStep, IsRewritten, IsObjectKept, IsHeapKept, KeepsRest, IsWorld}
 use Rattle.std.specs.FinMap as finmap
-use Rattle.std.proofs.lemmas.Bool.{false≢true}
-use Rattle.w16_model.specs.declared.Kind.{Kind}
-use Rattle.w16_model.specs.Heap.{Object, object_at}
-use Rattle.w16_model.specs.Handles.{Handles}
-use Rattle.w16_model.specs.Owned.{owned_at, is_code as owned_code}
-use Rattle.w16_model.specs.Table.{Table, IsSameOutside}
-use Rattle.w16_loading.specs.File.{Format}
-use Rattle.w16_loading.specs.Modules.{LoadingWorld, module_at}
-use Rattle.w16_loading.specs.Law.{IsLoadingWorld, IsOfFiles}
-use Rattle.w16_loading.specs.Replies.{Reply}
-use Rattle.w16_loading.proofs.KeptBytes.{KeepsBytes, same_object}
-use Rattle.w16_loading.proofs.KeptCode.{KeepsCode, code_kept, as_it_was, same_source}
-use Rattle.w16_loading.proofs.KeptWorlds.{IsOwned, world_stays}
-use Rattle.w16_machine.specs.World.{World}
-use Rattle.w16_machine.specs.Local.{LocalHeap, AreLocalHeaps, current_heap}
-use Rattle.w16_machine.specs.LocalCalls.{LocalCommand, LocalStep}
-use Rattle.w16_machine.specs.LocalLaw.{IsRewritten, IsObjectKept, IsHeapKept, KeepsRest}
-use Rattle.w16_machine.specs.Law.{IsWorld}
+use Rattle.w16_model.specs.Owned.{is_code as owned_code}
 use Rattle.w16_machine.proofs.LocalFacts.{current_there}
 use Rattle.w16_machine.proofs.LocalFrame.{frame_law}
 use Rattle.w16_machine.proofs.LocalWorlds.{local_heaps_kept}

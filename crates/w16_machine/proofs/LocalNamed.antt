@@ -1,33 +1,9 @@
 -- Steps of a local heap leave each fixed object its bytes.
-use Rattle.std.proofs.Common.{◌≡◌, ◌≢◌, ℕ, ◌+◌, ◌-◌, ◌≤◌, inl, inr, Bool, true, false, cond, not, ◌&&◌, ◌||◌, ◌==◌, nat_lt, IfOk, IfSome, IsSomeAnd, List, [], length, take, slice_range, Option, Some, None, Result, Ok, Err, option_map, is_some, unwrap_or, refl, sym, ap, ◌∙◌, subst}
+use Rattle.w16_machine.proofs.Common.{◌≡◌, ◌≢◌, ℕ, ◌+◌, ◌-◌, ◌≤◌, inl, inr, Bool, true, false, cond, not, ◌&&◌, ◌||◌, ◌==◌, nat_lt, IfOk, IfSome, IsSomeAnd, List, [], length, take, slice_range, Option, Some, None, Result, Ok, Err, option_map, is_some, unwrap_or, refl, sym, ap, ◌∙◌, subst, false≢true, cases_Bool, cases_eq, and_parts, Block, Entry, Kind, Fixed, Moveable, Discardable, Refusal, RoomOptions, eligible, is_member, Heap, Object, IsHeap, blocks, object_at, is_fixed, is_discardable, with_object, with_ordered, with_newest, removed, absent, touched, after_lock, after_unlock, after_free, after_discard, after_modify, Allocates, MakesRoom, AreNew, IsNew, Settles, Asked, compaction_prefix, discarded, discards_needed, stays_for, KeepsOthers, IsResized, AreResized, Table, IsTable, heap_in, object_in, block_with, entry_at, get-update_same, get-update_other, inserted_here, inserted_other, taken_here, taken_other, rest_law, others_law, asked, object_is, has_flag, LMEM_MOVEABLE, LMEM_DISCARDABLE, AreNamed, rounded_up, LocalCommand, ResizesObject, is_absent_asked, local_kind, local_options, moveable_or_discardable}
 use Rattle.std.specs.FinMap as finmap
-use Rattle.std.proofs.lemmas.Bool.{false≢true, cases_Bool, cases_eq, and_parts}
-use Rattle.w16_model.specs.declared.Block.{Block}
-use Rattle.w16_model.specs.declared.Entry.{Entry}
-use Rattle.w16_model.specs.declared.Kind.{Kind}
-use Rattle.w16_model.specs.declared.Kind.TheVariants.{Fixed, Moveable, Discardable}
-use Rattle.w16_model.specs.declared.Refusal.{Refusal}
 use Rattle.w16_model.specs.declared.Refusal.TheVariants as refusals
-use Rattle.w16_model.specs.declared.RoomOptions.{RoomOptions}
-use Rattle.w16_model.specs.Discards.{eligible, is_member}
-use Rattle.w16_model.specs.Heap.{Heap, Object, IsHeap, blocks, object_at, is_fixed, is_discardable}
-use Rattle.w16_model.specs.Changes.{with_object, with_ordered, with_newest, removed, absent, touched}
-use Rattle.w16_model.specs.OneObject.{after_lock, after_unlock, after_free, after_discard, after_modify}
-use Rattle.w16_model.specs.Request.{Allocates, MakesRoom, AreNew, IsNew, Settles, Asked, compaction_prefix, discarded, discards_needed, stays_for}
-use Rattle.w16_model.specs.Law.{KeepsOthers}
-use Rattle.w16_model.specs.Reallocation.{KeepsRest, IsResized, AreResized}
-use Rattle.w16_model.specs.Table.{Table, IsTable, heap_in, object_in, block_with, entry_at}
-use Rattle.w16_model.proofs.Heaps.{get-update_same, get-update_other}
-use Rattle.w16_model.proofs.KeptHeaps.{inserted_here, inserted_other, taken_here, taken_other}
-use Rattle.w16_model.proofs.KeptRest.{rest_law}
-use Rattle.w16_model.proofs.Others.{others_law}
-use Rattle.w16_model.proofs.Reallocations.{asked}
-use Rattle.w16_model.proofs.Tables.{object_is}
-use Rattle.w16_model.specs.Calls.{has_flag}
-use Rattle.w16_machine.specs.declared.local.TheConstants.{LMEM_MOVEABLE, LMEM_DISCARDABLE}
-use Rattle.w16_machine.specs.Local.{AreNamed, rounded_up}
+use Rattle.w16_model.specs.Reallocation.{KeepsRest}
 use Rattle.w16_machine.proofs.LocalOutcomes.{IsAltered, IsRoomed, IsStepped}
-use Rattle.w16_machine.specs.LocalCalls.{LocalCommand, ResizesObject, is_absent_asked, local_kind, local_options, moveable_or_discardable}
 
 -- a fixed object has bytes
 abbrev pub HasName : Object → Type 0

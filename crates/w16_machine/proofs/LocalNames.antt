@@ -1,19 +1,6 @@
 -- One name, one object; and one object begins at a near pointer.
-use Rattle.std.proofs.Common.{◌≡◌, ℕ, ◌+◌, ◌*◌, ◌<◌, ◌≤◌, inl, inr, Bool, true, false, cond, ◌==◌, List, [], ◌∷◌, length, find, Option, Some, None, option_map, unwrap_or, is_some, IfSome, refl, sym, ap, ◌∙◌, subst, arith, eqb-true, eq-eqb}
-use Rattle.std.specs.Ordering.{nat_cmp}
+use Rattle.w16_machine.proofs.Common.{◌≡◌, ℕ, ◌+◌, ◌*◌, ◌<◌, ◌≤◌, inl, inr, Bool, true, false, cond, ◌==◌, List, [], ◌∷◌, length, find, Option, Some, None, option_map, unwrap_or, is_some, IfSome, refl, sym, ap, ◌∙◌, subst, arith, eqb-true, eq-eqb, nat_cmp, FinMap, entries_sorted, get-entries, false≢true, cases_Bool, cases_eq, Block, Misses, block_end, Heap, Object, IsHeap, blocks, object_at, is_fixed, hold_of_object, Member, Each-at, Each-from_All, IsBlockOf, block_member, member_block, found_member, member_found, keys_rise, bytes_in, two_placed, same_id, LOCAL_GRAIN, name_of, name_at, is_name, id_named, id_at, NamesLaw, NamedLaw}
 use Rattle.std.specs.FinMap as finmap
-use Rattle.std.specs.FinMap.{FinMap, entries_sorted, get-entries}
-use Rattle.std.proofs.lemmas.Bool.{false≢true, cases_Bool, cases_eq}
-use Rattle.w16_model.specs.declared.Block.{Block}
-use Rattle.w16_model.specs.Gap.{Misses, block_end}
-use Rattle.w16_model.specs.Heap.{Heap, Object, IsHeap, blocks, object_at, is_fixed, hold_of_object}
-use Rattle.w16_model.proofs.Gaps.{Member, Each-at, Each-from_All}
-use Rattle.w16_model.proofs.Heaps.{IsBlockOf, block_member, member_block, found_member, member_found, keys_rise}
-use Rattle.w16_model.proofs.KeptHeaps.{bytes_in}
-use Rattle.w16_model.proofs.Places.{two_placed, same_id}
-use Rattle.w16_machine.specs.declared.local.TheConstants.{LOCAL_GRAIN}
-use Rattle.w16_machine.specs.Local.{name_of, name_at, is_name, id_named, id_at}
-use Rattle.w16_machine.specs.LocalLaw.{NamesLaw, NamedLaw}
 
 -- The first of a list that passes a test.
 module _ {X : Type 0} (test : X → Bool) where

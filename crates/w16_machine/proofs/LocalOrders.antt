@@ -1,22 +1,8 @@
 -- What a local call leaves of the order of use.
-use Rattle.std.proofs.Common.{◌≡◌, ℕ, inl, inr, Bool, true, false, cond, nat_lt, IfOk, IsSomeAnd, Option, Some, None, Result, Ok, Err, refl, ap, subst}
-use Rattle.w16_model.specs.declared.Kind.{Kind}
-use Rattle.w16_model.specs.declared.Refusal.{Refusal}
+use Rattle.w16_machine.proofs.Common.{◌≡◌, ℕ, inl, inr, Bool, true, false, cond, nat_lt, IfOk, IsSomeAnd, Option, Some, None, Result, Ok, Err, refl, ap, subst, Kind, Refusal, RoomOptions, Heap, Object, IsHeap, object_at, is_discardable, with_ordered, with_newest, without, removed, absent, after_free, after_discard, Allocates, Asked, IsNew, Settles, compaction_prefix, discarded, discards_needed, stays_for, OnlyLeave, OthersStand, stays, same, compacted, allocated, resized, rest_law, twice_out, heap_of, rounded_up, LocalCommand, ResizesObject, local_kind, local_options, IsNamedBy, OrderLaw}
 use Rattle.w16_model.specs.declared.Refusal.TheVariants as refusals
-use Rattle.w16_model.specs.declared.RoomOptions.{RoomOptions}
-use Rattle.w16_model.specs.Heap.{Heap, Object, IsHeap, object_at, is_discardable}
-use Rattle.w16_model.specs.Changes.{with_ordered, with_newest, without, removed, absent}
-use Rattle.w16_model.specs.OneObject.{after_free, after_discard}
-use Rattle.w16_model.specs.Request.{Allocates, Asked, IsNew, Settles, compaction_prefix, discarded, discards_needed, stays_for}
 use Rattle.w16_model.specs.Reallocation.{KeepsRest}
-use Rattle.w16_model.specs.CallLaws.{OnlyLeave, OthersStand}
-use Rattle.w16_model.proofs.CallOrders.{stays, same, compacted, allocated, resized}
-use Rattle.w16_model.proofs.KeptRest.{rest_law}
-use Rattle.w16_model.proofs.KindChanges.{twice_out}
 use Rattle.w16_model.proofs.Reallocations.{asked as request_of}
-use Rattle.w16_machine.specs.Local.{heap_of, rounded_up}
-use Rattle.w16_machine.specs.LocalCalls.{LocalCommand, ResizesObject, local_kind, local_options}
-use Rattle.w16_machine.specs.LocalLaw.{IsNamedBy, OrderLaw}
 use Rattle.w16_machine.proofs.LocalFacts.{current_there, local_here, heap_here}
 use Rattle.w16_machine.proofs.LocalNames.{names_law}
 use Rattle.w16_machine.proofs.LocalCurrent.{current_becomes}

@@ -1,31 +1,9 @@
 -- What a local call leaves of the objects that it doesn't name.
-use Rattle.std.proofs.Common.{◌≡◌, ◌≢◌, ℕ, ◌+◌, ◌-◌, inl, inr, Bool, true, false, cond, not, ◌&&◌, ◌||◌, ◌==◌, nat_lt, IfOk, IfSome, IsSomeAnd, take, Option, Some, None, Result, Ok, Err, is_some, refl, sym, ap, ◌∙◌, subst}
+use Rattle.w16_machine.proofs.Common.{◌≡◌, ◌≢◌, ℕ, ◌+◌, ◌-◌, inl, inr, Bool, true, false, cond, not, ◌&&◌, ◌||◌, ◌==◌, nat_lt, IfOk, IfSome, IsSomeAnd, take, Option, Some, None, Result, Ok, Err, is_some, refl, sym, ap, ◌∙◌, subst, false≢true, cases_Bool, Kind, Fixed, Moveable, Discardable, Refusal, RoomOptions, eligible, is_member, Heap, Object, IsHeap, blocks, object_at, is_fixed, is_discardable, is_pinned_object, with_object, with_ordered, with_newest, removed, absent, touched, without, after_lock, after_unlock, after_free, after_discard, after_modify, Allocates, MakesRoom, IsNew, Settles, Asked, compaction_prefix, discarded, discards_needed, stays_for, KeepsOthers, KeepsAddresses, StandsStill, MovesLittle, get-update_other, inserted_other, taken_other, touched_rest, rest_order, rest_law, others_law, address_law, moves_law, World, LocalHeap, AreLocalHeaps, heap_of, current_heap, name_at, rounded_up, LocalCommand, ResizesObject, local_kind, local_options, moveable_or_discardable, IsLocalKept, OthersLaw, PinnedLaw, asks_for_room, may_move_named, named_by}
 use Rattle.std.specs.FinMap as finmap
-use Rattle.std.proofs.lemmas.Bool.{false≢true, cases_Bool}
-use Rattle.w16_model.specs.declared.Kind.{Kind}
-use Rattle.w16_model.specs.declared.Kind.TheVariants.{Fixed, Moveable, Discardable}
-use Rattle.w16_model.specs.declared.Refusal.{Refusal}
 use Rattle.w16_model.specs.declared.Refusal.TheVariants as refusals
-use Rattle.w16_model.specs.declared.RoomOptions.{RoomOptions}
-use Rattle.w16_model.specs.Discards.{eligible, is_member}
-use Rattle.w16_model.specs.Heap.{Heap, Object, IsHeap, blocks, object_at, is_fixed, is_discardable, is_pinned_object}
-use Rattle.w16_model.specs.Changes.{with_object, with_ordered, with_newest, removed, absent, touched, without}
-use Rattle.w16_model.specs.OneObject.{after_lock, after_unlock, after_free, after_discard, after_modify}
-use Rattle.w16_model.specs.Request.{Allocates, MakesRoom, IsNew, Settles, Asked, compaction_prefix, discarded, discards_needed, stays_for}
-use Rattle.w16_model.specs.Law.{KeepsOthers, KeepsAddresses, StandsStill}
-use Rattle.w16_model.specs.Reallocation.{KeepsRest, MovesLittle}
-use Rattle.w16_model.proofs.Heaps.{get-update_other}
-use Rattle.w16_model.proofs.KeptHeaps.{inserted_other, taken_other}
-use Rattle.w16_model.proofs.CallOrders.{touched_rest}
-use Rattle.w16_model.proofs.KindChanges.{rest_order}
-use Rattle.w16_model.proofs.KeptRest.{rest_law}
-use Rattle.w16_model.proofs.Others.{others_law}
-use Rattle.w16_model.proofs.Outcomes.{address_law}
-use Rattle.w16_model.proofs.Reallocations.{asked as request_of, moves_law}
-use Rattle.w16_machine.specs.World.{World}
-use Rattle.w16_machine.specs.Local.{LocalHeap, AreLocalHeaps, heap_of, current_heap, name_at, rounded_up}
-use Rattle.w16_machine.specs.LocalCalls.{LocalCommand, ResizesObject, local_kind, local_options, moveable_or_discardable}
-use Rattle.w16_machine.specs.LocalLaw.{IsLocalKept, OthersLaw, PinnedLaw, asks_for_room, may_move_named, named_by}
+use Rattle.w16_model.specs.Reallocation.{KeepsRest}
+use Rattle.w16_model.proofs.Reallocations.{asked as request_of}
 use Rattle.w16_machine.proofs.LocalFacts.{current_there, local_here, heap_here}
 use Rattle.w16_machine.proofs.LocalNames.{names_law}
 use Rattle.w16_machine.proofs.LocalCurrent.{current_becomes}

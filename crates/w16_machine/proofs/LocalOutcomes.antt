@@ -1,18 +1,5 @@
 -- What a local call does, in four ways: nothing; a heap begins; an object of the current heap is changed where it stands; room is made there.
-use Rattle.std.proofs.Common.{◌≡◌, ℕ, ◌⊎◌, inl, inr, Bool, true, false, ◌==◌, ◌||◌, not, MatchBool, MatchOption, Option, Some, None, Result, Ok, Err, refl, sym, ap, ◌∙◌, subst}
-use Rattle.std.proofs.lemmas.Bool.{false≢true}
-use Rattle.w16_model.specs.declared.Refusal.{Refusal}
-use Rattle.w16_model.specs.Heap.{Heap}
-use Rattle.w16_model.specs.Request.{MakesRoom, most_room}
-use Rattle.w16_model.specs.Table.{heap_in}
-use Rattle.w16_model.specs.OneObject.{Enters, after_lock, after_unlock, after_free, after_discard, after_modify}
-use Rattle.w16_model.specs.Calls.{has_flag}
-use Rattle.w16_machine.specs.declared.local.TheConstants.{LMEM_MOVEABLE, LMEM_MODIFY}
-use Rattle.w16_machine.specs.World.{World}
-use Rattle.w16_machine.specs.Local.{LocalHeap, LocalObject, Beginning, Becomes, Acts, Stays, IsLowestFree, heap_of, current_heap, object_named, id_named, beginning, new_table, with_table}
-use Rattle.w16_machine.specs.LocalCalls.{LocalCommand, Answers, Leaves, GivesUp, EntersObject, AllocatesObject, ResizesObject, is_absent_asked, local_kind, AllocatesIn, CompactsIn, LocalInits, OnNamed, ModifiesObject, DiscardsObject, SizesObject, moveable_or_discardable, lock_refused, locks_left, near_pointer}
-use Rattle.w16_machine.specs.LocalCalls.LocalCommand.{LocalInit, LocalAlloc, LocalReAlloc, LocalDiscard, LocalFree, LocalLock, LocalUnlock, LocalSize, LocalFlags, LocalHandle, LocalCompact, DS}
-use Rattle.w16_machine.specs.LocalLaw.{asks_for_room, may_move_named, named_by}
+use Rattle.w16_machine.proofs.Common.{◌≡◌, ℕ, ◌⊎◌, inl, inr, Bool, true, false, ◌==◌, ◌||◌, not, MatchBool, MatchOption, Option, Some, None, Result, Ok, Err, refl, sym, ap, ◌∙◌, subst, false≢true, Refusal, Heap, MakesRoom, most_room, heap_in, Enters, after_lock, after_unlock, after_free, after_discard, after_modify, has_flag, LMEM_MOVEABLE, LMEM_MODIFY, World, LocalHeap, LocalObject, Beginning, Becomes, Acts, Stays, IsLowestFree, heap_of, current_heap, object_named, id_named, beginning, new_table, with_table, LocalCommand, Answers, Leaves, GivesUp, EntersObject, AllocatesObject, ResizesObject, is_absent_asked, local_kind, AllocatesIn, CompactsIn, LocalInits, OnNamed, ModifiesObject, DiscardsObject, SizesObject, moveable_or_discardable, lock_refused, locks_left, near_pointer, LocalInit, LocalAlloc, LocalReAlloc, LocalDiscard, LocalFree, LocalLock, LocalUnlock, LocalSize, LocalFlags, LocalHandle, LocalCompact, DS, asks_for_room, may_move_named, named_by}
 use Rattle.w16_machine.proofs.LocalFacts.{named_there}
 
 -- an object is changed where it stands

@@ -1,17 +1,5 @@
 -- A local allocation that is answered isn't refused.
-use Rattle.std.proofs.Common.{◌≡◌, ℕ, ◌<◌, inl, inr, Bool, true, false, ◌&&◌, ◌==◌, MatchBool, Option, Some, None, refl, sym, ap, ◌∙◌, arith, ne_eqb}
-use Rattle.std.proofs.lemmas.Bool.{false≢true}
-use Rattle.w16_model.specs.Heap.{Heap, IsHeap}
-use Rattle.w16_model.specs.Changes.{with_newest}
-use Rattle.w16_model.specs.Request.{IsNew, discards_needed}
-use Rattle.w16_model.specs.Calls.{has_flag}
-use Rattle.w16_model.proofs.Prefixes.{none_about}
-use Rattle.w16_model.proofs.Reallocations.{asked}
-use Rattle.w16_machine.specs.declared.local.TheConstants.{LMEM_MOVEABLE}
-use Rattle.w16_machine.specs.World.{World}
-use Rattle.w16_machine.specs.Local.{LocalHeap, Becomes, Acts, IsLowestFree, heap_of, rounded_up}
-use Rattle.w16_machine.specs.LocalCalls.{EntersObject, AllocatesObject, is_absent_asked, local_kind, local_options}
-use Rattle.w16_machine.specs.LocalLaw.{OutcomeLaw}
+use Rattle.w16_machine.proofs.Common.{◌≡◌, ℕ, ◌<◌, inl, inr, Bool, true, false, ◌&&◌, ◌==◌, MatchBool, Option, Some, None, refl, sym, ap, ◌∙◌, arith, ne_eqb, false≢true, Heap, IsHeap, with_newest, IsNew, discards_needed, has_flag, none_about, asked, LMEM_MOVEABLE, World, LocalHeap, Becomes, Acts, IsLowestFree, heap_of, rounded_up, EntersObject, AllocatesObject, is_absent_asked, local_kind, local_options, OutcomeLaw}
 
 -- what isn't asked to be without bytes was made with some, for which there was room
 module _ (old new : World) (at : LocalHeap) (flags size id answer : ℕ) where

@@ -1,29 +1,7 @@
 -- Steps that take no bytes of an object: each has as many as before, and each local heap stays.
-use Rattle.std.proofs.Common.{◌≡◌, ℕ, false, inl, inr, MatchOption, List, length, Option, Some, None, option_map, IsSomeAnd, refl, sym, ap, subst}
-use Rattle.std.proofs.lemmas.Bool.{false≢true}
+use Rattle.w16_machine.proofs.Common.{◌≡◌, ℕ, false, inl, inr, MatchOption, List, length, Option, Some, None, option_map, IsSomeAnd, refl, sym, ap, subst, false≢true, repeated, Handles, selector_in, offset_in, HandleCommand, Answer, HandleStep, KeepsContents, FarCommand, Read, Write, Fill, Calls, contents, call_outcome, far_reads_file, reads_files, ModuleCommand, ResourceCommand, ModuleStep, ResourceStep, AddsBuiltIn, built_in, OfHandles, OfResizes, OfFar, OfModules, OfResources, Builtin, LoadModule, LoadLibrary, GetModuleHandle, GetModuleUsage, GetProcAddress, FindResource, LoadResource, LockResource, SizeofResource, Fetches, far_read, far_write, Format, Loads, LoadingWorld, handle_named, BuiltIn, Reply, answer_in, HasSameSizes, SizesLaw, HeapsLaw, call_may_take, modules_may_take, resources_may_take}
 use Rattle.std.specs.FinMap as finmap
-use Rattle.w16_model.specs.Bytes.{repeated}
-use Rattle.w16_model.specs.Handles.{Handles, selector_in, offset_in}
-use Rattle.w16_model.specs.Calls.{HandleCommand, Answer, HandleStep}
-use Rattle.w16_model.specs.CallLaws.{KeepsContents}
-use Rattle.w16_model.specs.Far.{FarCommand}
-use Rattle.w16_model.specs.Far.FarCommand.{Read, Write, Fill}
-use Rattle.w16_model.specs.Outcomes.Call.{Calls}
-use Rattle.w16_model.proofs.CallLaws.{contents}
-use Rattle.w16_model.proofs.CallOutcomes.{call_outcome}
-use Rattle.w16_loading.specs.AnyStore.{far_reads_file, reads_files}
 use Rattle.w16_loading.specs.Families as families
-use Rattle.w16_loading.specs.Families.{ModuleCommand, ResourceCommand, ModuleStep, ResourceStep, AddsBuiltIn, built_in}
-use Rattle.w16_loading.specs.Families.LoadingCommand.{OfHandles, OfResizes, OfFar, OfModules, OfResources}
-use Rattle.w16_loading.specs.Families.ModuleCommand.{Builtin, LoadModule, LoadLibrary, GetModuleHandle, GetModuleUsage, GetProcAddress}
-use Rattle.w16_loading.specs.Families.ResourceCommand.{FindResource, LoadResource, LockResource, SizeofResource}
-use Rattle.w16_loading.specs.Fetch.{Fetches, far_read, far_write}
-use Rattle.w16_loading.specs.File.{Format}
-use Rattle.w16_loading.specs.Load.{Loads}
-use Rattle.w16_loading.specs.Modules.{LoadingWorld, handle_named}
-use Rattle.w16_loading.specs.Modules.Named.{BuiltIn}
-use Rattle.w16_loading.specs.Replies.{Reply, answer_in}
-use Rattle.w16_machine.specs.LocalStays.{HasSameSizes, SizesLaw, HeapsLaw, call_may_take, modules_may_take, resources_may_take}
 use Rattle.w16_machine.proofs.LocalFar.{read_same, write_same, tables_stay}
 use Rattle.w16_machine.proofs.Stepped.{call_replies, once, unread}
 

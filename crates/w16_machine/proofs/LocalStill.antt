@@ -1,21 +1,7 @@
 -- What local calls leave still.
-use Rattle.std.proofs.Common.{◌≡◌, ℕ, inl, inr, Bool, true, false, cond, nat_lt, ◌==◌, MatchBool, MatchOption, IfOk, Option, Some, None, Result, Ok, Err, refl, sym, ap, ◌∙◌, subst}
+use Rattle.w16_machine.proofs.Common.{◌≡◌, ℕ, inl, inr, Bool, true, false, cond, nat_lt, ◌==◌, MatchBool, MatchOption, IfOk, Option, Some, None, Result, Ok, Err, refl, sym, ap, ◌∙◌, subst, false≢true, cases_eq, Refusal, Heap, Object, object_at, removed, after_free, MakesRoom, most_room, discard_absent, taken_here, taken_other, Word, Done, World, LocalHeap, Acts, Stays, heap_of, current_heap, LocalCommand, Answers, CompactsIn, LocalSize, LocalFlags, LocalHandle, LocalCompact, DS, PlacesLaw, QueriesLaw, asks_for_room, only_tells}
 use Rattle.std.specs.FinMap as finmap
-use Rattle.std.proofs.lemmas.Bool.{false≢true, cases_eq}
-use Rattle.w16_model.specs.declared.Refusal.{Refusal}
 use Rattle.w16_model.specs.declared.Refusal.TheVariants as refusals
-use Rattle.w16_model.specs.Heap.{Heap, Object, object_at}
-use Rattle.w16_model.specs.Changes.{removed}
-use Rattle.w16_model.specs.OneObject.{after_free}
-use Rattle.w16_model.specs.Request.{MakesRoom, most_room}
-use Rattle.w16_model.proofs.Absence.{discard_absent}
-use Rattle.w16_model.proofs.KeptHeaps.{taken_here, taken_other}
-use Rattle.w16_loading.specs.Replies.Reply.{Word, Done}
-use Rattle.w16_machine.specs.World.{World}
-use Rattle.w16_machine.specs.Local.{LocalHeap, Acts, Stays, heap_of, current_heap}
-use Rattle.w16_machine.specs.LocalCalls.{LocalCommand, Answers, CompactsIn}
-use Rattle.w16_machine.specs.LocalCalls.LocalCommand.{LocalSize, LocalFlags, LocalHandle, LocalCompact, DS}
-use Rattle.w16_machine.specs.LocalLaw.{PlacesLaw, QueriesLaw, asks_for_room, only_tells}
 use Rattle.w16_machine.proofs.LocalCurrent.{current_becomes}
 use Rattle.w16_machine.proofs.LocalOthers.{altered_is}
 use Rattle.w16_machine.proofs.LocalOutcomes.{IsRoomed, IsStepped}

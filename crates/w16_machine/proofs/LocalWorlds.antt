@@ -1,23 +1,6 @@
 -- Each step of each family keeps what holds of local heaps.
-use Rattle.std.proofs.Common.{◌≡◌, ◌≢◌, ℕ, ◌<◌, ◌≤◌, inl, inr, Bool, true, false, cond, nat_le, IfSome, IsSomeAnd, List, length, All, Option, Some, None, option_map, refl, sym, ap, ◌∙◌, subst, arith, leb-true}
-use Rattle.std.specs.Ordering.{nat_cmp}
+use Rattle.w16_machine.proofs.Common.{◌≡◌, ◌≢◌, ℕ, ◌<◌, ◌≤◌, inl, inr, Bool, true, false, cond, nat_le, IfSome, IsSomeAnd, List, length, All, Option, Some, None, option_map, refl, sym, ap, ◌∙◌, subst, arith, leb-true, nat_cmp, FinMap, get-retain_keys, nat_cmp-IsAntisymmetric, cases_eq, Heap, Object, object_at, bytes_at, after_write, AreHandles, Table, heap_in, other_handles, same_updated, bytes_in, inserted_here, inserted_other, written_heap, put_part, World, Reply, Word, Done, LocalHeap, AreLocalHeaps, IsLocalIn, AreNamed, Becomes, Acts, segment_bytes, heap_of, has_range, left_in, new_table, with_table, with_local, LocalCommand, LocalStep, DS, after_loading}
 use Rattle.std.specs.FinMap as finmap
-use Rattle.std.specs.FinMap.{FinMap, get-retain_keys, nat_cmp-IsAntisymmetric}
-use Rattle.std.proofs.lemmas.Bool.{cases_eq}
-use Rattle.w16_model.specs.Heap.{Heap, Object, object_at, bytes_at}
-use Rattle.w16_model.specs.Far.{after_write}
-use Rattle.w16_model.specs.Handles.{AreHandles}
-use Rattle.w16_model.specs.Table.{Table, heap_in}
-use Rattle.w16_model.proofs.KeptHandles.{other_handles, same_updated}
-use Rattle.w16_model.proofs.KeptHeaps.{bytes_in, inserted_here, inserted_other, written_heap}
-use Rattle.w16_model.specs.Bytes.{put_part}
-use Rattle.w16_machine.specs.World.{World}
-use Rattle.w16_loading.specs.Replies.{Reply}
-use Rattle.w16_loading.specs.Replies.Reply.{Word, Done}
-use Rattle.w16_machine.specs.Local.{LocalHeap, AreLocalHeaps, IsLocalIn, AreNamed, Becomes, Acts, segment_bytes, heap_of, has_range, left_in, new_table, with_table, with_local}
-use Rattle.w16_machine.specs.LocalCalls.{LocalCommand, LocalStep}
-use Rattle.w16_machine.specs.LocalCalls.LocalCommand.{DS}
-use Rattle.w16_machine.specs.Machine.{after_loading}
 use Rattle.w16_machine.proofs.LocalFacts.{IsThere, current_there, local_here, heap_here, object_of, segment_after, segment_other}
 use Rattle.w16_machine.proofs.LocalBegins.{begin_law, new_local}
 use Rattle.w16_machine.proofs.LocalNamed.{named_in, roomed_named, stepped_named}

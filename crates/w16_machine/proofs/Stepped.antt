@@ -1,25 +1,8 @@
 -- Steps that read no file: calls on handles, which leave the rest of the world, and far accesses that fetch nothing.
-use Rattle.std.proofs.Common.{◌≡◌, ℕ, Bool, false, MatchBool, MatchOption, Option, refl, sym, ap, ◌∙◌, subst, arith}
-use Rattle.std.proofs.lemmas.Bool.{false≢true}
-use Rattle.w16_model.specs.Bytes.{repeated}
-use Rattle.w16_model.specs.Calls.{HandleCommand}
+use Rattle.w16_machine.proofs.Common.{◌≡◌, ℕ, Bool, false, MatchBool, MatchOption, Option, refl, sym, ap, ◌∙◌, subst, arith, false≢true, repeated, HandleCommand, FarAnswer, FarCommand, far_slot, Read, Write, Fill, Handles, selector_in, offset_in, FetchFault, Store, far_reads_file, reads_files, ResizesStep, FamilyStep, LoadingCommand, LoadingStep, OfHandles, OfResizes, OfFar, OfModules, OfResources, Accesses, Fetches, needs_fetch, far_read, far_write, gives, reply_of_far, Format, Loads, LoadingWorld, with_handles, Reply, HandleReplies, ResizeReplies, FarReplies, Done, Failed, ResizeCommand, StoreStep, OnHandles}
 use Rattle.w16_model.specs.Far as far
-use Rattle.w16_model.specs.Far.{FarAnswer, FarCommand, far_slot}
-use Rattle.w16_model.specs.Far.FarCommand.{Read, Write, Fill}
-use Rattle.w16_model.specs.Handles.{Handles, selector_in, offset_in}
-use Rattle.w16_loading.specs.declared.FetchFault.{FetchFault}
-use Rattle.w16_loading.specs.declared.FetchFault.TheVariants.{Store}
-use Rattle.w16_loading.specs.AnyStore.{far_reads_file, reads_files}
-use Rattle.w16_loading.specs.Families.{HandleStep, ResizesStep, FarStep, FamilyStep, LoadingCommand, LoadingStep}
-use Rattle.w16_loading.specs.Families.LoadingCommand.{OfHandles, OfResizes, OfFar, OfModules, OfResources}
-use Rattle.w16_loading.specs.Fetch.{Accesses, Fetches, needs_fetch, far_read, far_write, gives, reply_of_far}
-use Rattle.w16_loading.specs.File.{Format}
-use Rattle.w16_loading.specs.Load.{Loads}
-use Rattle.w16_loading.specs.Modules.{LoadingWorld, with_handles}
-use Rattle.w16_loading.specs.Replies.{Reply, HandleReplies, ResizeReplies, FarReplies}
-use Rattle.w16_loading.specs.Replies.Reply.{Bytes, Done, Fault, Failed}
-use Rattle.w16_loading.specs.Resizes.{ResizeCommand}
-use Rattle.w16_machine.specs.Machine.{StoreStep, OnHandles}
+use Rattle.w16_loading.specs.Families.{HandleStep, FarStep}
+use Rattle.w16_loading.specs.Replies.Reply.{Bytes, Fault}
 
 -- a step that reads no file is one over any store
 pub unread : (honest : Type 0) (format : Format) (old new : LoadingWorld) (command : LoadingCommand) (reply : Reply) → reads_files old command ≡ false → StoreStep honest format old command reply new → LoadingStep format old command reply new

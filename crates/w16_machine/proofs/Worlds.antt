@@ -1,30 +1,8 @@
 -- Each step, and so each run, keeps what holds of every world of the machine.
-use Rattle.std.proofs.Common.{◌≡◌, ℕ, inl, inr, ◌⊎◌, Bool, true, false, cond, nat_le, length, IfSome, IsSomeAnd, List, [], ◌∷◌, Option, Some, None, is_some, option_map, unwrap_or, refl, sym, ap, ◌∙◌, subst}
+use Rattle.w16_machine.proofs.Common.{◌≡◌, ℕ, inl, inr, ◌⊎◌, Bool, true, false, cond, nat_le, length, IfSome, IsSomeAnd, List, [], ◌∷◌, Option, Some, None, is_some, option_map, unwrap_or, refl, sym, ap, ◌∙◌, subst, nat_cmp, get-empty, Owned, Object, bytes_at, object_at, is_code, owned_at, Table, empty_law, Each-from_All, AnyStep, LoadingCommand, IsLoadingCommand, Format, IsLoadingWorld, Reply, empty_of_files_law, code_law, owners_law, any_keeps_worlds_law, World, empty_world, IsLocalIn, segment_bytes, Command, IsCommand, Event, Step, Run, after_loading, OfLoading, OfLocals, AreFewest, IsWorld, IsWorldOfFiles, EmptyLaw, WorldLaw, FilesLaw, RunWorldLaw, RunFilesLaw, FewestLaw}
 use Rattle.std.specs.List.{AllByRecursion as Each}
-use Rattle.std.specs.Ordering.{nat_cmp}
 use Rattle.std.specs.FinMap as finmap
-use Rattle.std.specs.FinMap.{get-empty}
-use Rattle.w16_model.specs.declared.Owned.{Owned}
-use Rattle.w16_model.specs.Heap.{Object, bytes_at, object_at}
-use Rattle.w16_model.specs.Owned.{is_code, owned_at}
-use Rattle.w16_model.specs.Table.{Table}
-use Rattle.w16_model.proofs.Empty.{empty_law}
-use Rattle.w16_model.proofs.Gaps.{Each-from_All}
-use Rattle.w16_loading.specs.AnyStore.{AnyStep}
-use Rattle.w16_loading.specs.Families.{LoadingCommand, IsLoadingCommand}
-use Rattle.w16_loading.specs.File.{Format}
-use Rattle.w16_loading.specs.Law.{IsLoadingWorld}
-use Rattle.w16_loading.specs.Replies.{Reply}
-use Rattle.w16_loading.proofs.Begun.{empty_law as empty_loading_law, empty_of_files_law}
-use Rattle.w16_loading.proofs.CodeLaw.{code_law}
-use Rattle.w16_loading.proofs.KeptOwners.{owners_law}
-use Rattle.w16_loading.proofs.WorldLaw.{any_keeps_worlds_law}
-use Rattle.w16_machine.specs.World.{World, empty_world}
-use Rattle.w16_machine.specs.Local.{IsLocalIn, segment_bytes}
-use Rattle.w16_machine.specs.Machine.{Command, IsCommand, Event, Step, Run, after_loading}
-use Rattle.w16_machine.specs.Machine.Command.{OfLoading, OfLocals}
-use Rattle.w16_machine.specs.Fewest.{AreFewest}
-use Rattle.w16_machine.specs.Law.{IsWorld, IsWorldOfFiles, EmptyLaw, WorldLaw, FilesLaw, RunWorldLaw, RunFilesLaw, FewestLaw}
+use Rattle.w16_loading.proofs.Begun.{empty_law as empty_loading_law}
 use Rattle.w16_machine.proofs.Discards.{step_fewest}
 use Rattle.w16_machine.proofs.LocalModules.{local_files_kept, local_world_kept}
 use Rattle.w16_machine.proofs.LocalWorlds.{heaps_after, left_is, left_over}

@@ -1,15 +1,7 @@
 -- A discard leaves a heap.
-use Rattle.std.proofs.Common.{◌≡◌, ◌≢◌, ℕ, ◌≤◌, inl, inr, Bool, true, false, cond, not, ◌&&◌, ◌==◌, nat_lt, IfOk, IfSome, Option, Some, None, Result, Ok, Err, option_map, is_some, refl, sym, ap, ◌∙◌, subst, arith, ltb-false}
+use Rattle.w16_model.proofs.Common.{◌≡◌, ◌≢◌, ℕ, ◌≤◌, inl, inr, Bool, true, false, cond, not, ◌&&◌, ◌==◌, nat_lt, IfOk, IfSome, Option, Some, None, Result, Ok, Err, option_map, is_some, refl, sym, ap, ◌∙◌, subst, arith, ltb-false, cases_eq, Block, Refusal, is_member, Heap, Object, IsHeap, IsCounted, object_at, is_in_order, is_discardable, absent, update, without, after_discard, DiscardHeapLaw}
 use Rattle.std.specs.FinMap as finmap
-use Rattle.std.proofs.lemmas.Bool.{cases_eq}
-use Rattle.w16_model.specs.declared.Block.{Block}
-use Rattle.w16_model.specs.declared.Refusal.{Refusal}
 use Rattle.w16_model.specs.declared.Refusal.TheVariants as refusals
-use Rattle.w16_model.specs.Discards.{is_member}
-use Rattle.w16_model.specs.Heap.{Heap, Object, IsHeap, IsCounted, object_at, is_in_order, is_discardable}
-use Rattle.w16_model.specs.Changes.{absent, update, without}
-use Rattle.w16_model.specs.OneObject.{after_discard}
-use Rattle.w16_model.specs.Reallocation.{DiscardHeapLaw}
 use Rattle.w16_model.proofs.Gaps.{pairs_filter, AllPairs-from_EachPair, EachPair-from_AllPairs}
 use Rattle.w16_model.proofs.Heaps.{IsBlockOf, block_of_absent, get-update_same, get-update_other}
 use Rattle.w16_model.proofs.KeptHeaps.{Stands, same_placed, same_grained, taken_here, taken_other, bytes_in, AreBytes}

@@ -1,10 +1,5 @@
 -- What a far access without a fault reaches.
-use Rattle.std.proofs.Common.{◌≡◌, ℕ, ◌+◌, ◌/◌, ◌≤◌, Bool, true, false, if◌then◌else◌, ◌&&◌, ◌==◌, nat_lt, is_some, List, length, Option, Some, None, unwrap_or, refl, ap, ◌∙◌, ltb-false}
-use Rattle.w16_model.specs.declared.FarFault.{FarFault}
-use Rattle.w16_model.specs.declared.FarFault.TheVariants.{BadSelector, NotPresent, Limit}
-use Rattle.w16_model.specs.Heap.{Object, object_at, bytes_at}
-use Rattle.w16_model.specs.Handles.{Handles, slot_of_selector, selector_of}
-use Rattle.w16_model.specs.Far.{far_fault, far_slot}
+use Rattle.w16_model.proofs.Common.{◌≡◌, ℕ, ◌+◌, ◌/◌, ◌≤◌, Bool, true, false, if◌then◌else◌, ◌&&◌, ◌==◌, nat_lt, is_some, List, length, Option, Some, None, unwrap_or, refl, ap, ◌∙◌, ltb-false, FarFault, BadSelector, NotPresent, Limit, Object, object_at, bytes_at, Handles, slot_of_selector, selector_of, far_fault, far_slot}
 use Rattle.w16_model.proofs.KeptHeaps.{bytes_in}
 
 -- the slot of an access without a fault is its selector's

@@ -1,23 +1,6 @@
 -- What each call leaves of the objects that it isn't about, and of the order of use, by its outcome.
-use Rattle.std.proofs.Common.{◌≡◌, ◌≢◌, ℕ, ◌+◌, ◌-◌, inl, inr, true, false, not, ◌&&◌, ◌||◌, nat_lt, IfSome, IsSomeAnd, take, Option, Some, None, is_some, refl, sym, ap, ◌∙◌, subst}
+use Rattle.w16_model.proofs.Common.{◌≡◌, ◌≢◌, ℕ, ◌+◌, ◌-◌, inl, inr, true, false, not, ◌&&◌, ◌||◌, nat_lt, IfSome, IsSomeAnd, take, Option, Some, None, is_some, refl, sym, ap, ◌∙◌, subst, false≢true, cases_Bool, cases_eq, Kind, Fixed, Moveable, Discardable, GMEM_MOVEABLE, eligible, is_member, Heap, Object, blocks, object_at, is_fixed, is_discardable, is_pinned_object, with_newest, Handles, AreHandles, slot_of_handle, Answer, has_flag, rounded_size, kind_asked, alloc_options, GlobalAlloc, KeepsOthers, StandsStill, KeepsRest, realloc_options, Call, Outcome, Calls, IsSame, IsUnmoved, IsLocked, IsUnlocked, IsFreed, IsNewest, IsOldest, IsEntered, IsAllocated, IsCompacted, IsModified, IsDiscarded, IsResized, handle_in, IsAbout, IsKeptOrDiscarded, BystandersLaw, may_move_own, PinnedStayLaw, may_move_others, StillLaw}
 use Rattle.std.specs.FinMap as finmap
-use Rattle.std.proofs.lemmas.Bool.{false≢true, cases_Bool, cases_eq}
-use Rattle.w16_model.specs.declared.Kind.{Kind}
-use Rattle.w16_model.specs.declared.Kind.TheVariants.{Fixed, Moveable, Discardable}
-use Rattle.w16_model.specs.declared.TheConstants.{GMEM_MOVEABLE}
-use Rattle.w16_model.specs.Discards.{eligible, is_member}
-use Rattle.w16_model.specs.Heap.{Heap, Object, blocks, object_at, is_fixed, is_discardable, is_pinned_object}
-use Rattle.w16_model.specs.Changes.{with_newest}
-use Rattle.w16_model.specs.Handles.{Handles, AreHandles, slot_of_handle}
-use Rattle.w16_model.specs.Calls.{Answer, has_flag, rounded_size, kind_asked, alloc_options}
-use Rattle.w16_model.specs.Calls.HandleCommand.{GlobalAlloc}
-use Rattle.w16_model.specs.Law.{KeepsOthers, StandsStill}
-use Rattle.w16_model.specs.Reallocation.{KeepsRest}
-use Rattle.w16_model.specs.Resizes.{realloc_options}
-use Rattle.w16_model.specs.Outcomes.{Call, Outcome}
-use Rattle.w16_model.specs.Outcomes.Call.{Calls}
-use Rattle.w16_model.specs.Outcomes.Outcome.{IsSame, IsUnmoved, IsLocked, IsUnlocked, IsFreed, IsNewest, IsOldest, IsEntered, IsAllocated, IsCompacted, IsModified, IsDiscarded, IsResized}
-use Rattle.w16_model.specs.CallLaws.{handle_in, IsAbout, IsKeptOrDiscarded, BystandersLaw, may_move_own, PinnedStayLaw, may_move_others, StillLaw}
 use Rattle.w16_model.proofs.Heaps.{get-update_other}
 use Rattle.w16_model.proofs.KeptHeaps.{inserted_other, taken_other, bytes_in}
 use Rattle.w16_model.proofs.Others.{others_law}

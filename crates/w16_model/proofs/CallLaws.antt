@@ -1,24 +1,7 @@
 -- The laws of each call on handles, by its outcome.
-use Rattle.std.proofs.Common.{◌≡◌, ℕ, ◌+◌, ◌-◌, ◌<◌, inl, inr, Bool, true, false, not, IsTrue, IsSomeAnd, List, [], ◌∷◌, length, map, take, filter, sum_by, Option, Some, None, option_map, is_some, unwrap_or, refl, sym, ap, ◌∙◌, subst, arith, eq-eqb, ne_eqb}
+use Rattle.w16_model.proofs.Common.{◌≡◌, ℕ, ◌+◌, ◌-◌, ◌<◌, inl, inr, Bool, true, false, not, IsTrue, IsSomeAnd, List, [], ◌∷◌, length, map, take, filter, sum_by, Option, Some, None, option_map, is_some, unwrap_or, refl, sym, ap, ◌∙◌, subst, arith, eq-eqb, ne_eqb, entries_sorted, false≢true, cases_eq, sum_by-cons, Block, Kind, eligible, is_member, Heap, Object, IsHeap, blocks, object_at, bytes_at, hold_of_object, with_object, moved_bytes, is_elsewhere, Handles, AreHandles, slot_of_handle, handle_of, Answer, rounded_size, kind_asked, Word, Dword, KeepsRest, MovesLittle, realloc_options, Call, Outcome, Resized, counts_moved, IsSame, IsUnmoved, IsLocked, IsUnlocked, IsFreed, IsNewest, IsOldest, IsEntered, IsAllocated, IsCompacted, IsModified, IsDiscarded, IsResized, KeepsContents, may_change, ContentsLaw, SlotsLaw, IsMoved, size_at, IsSumOfMoved, MovedLaw}
 use Rattle.std.specs.FinMap as finmap
 use Rattle.std.specs.List.{AllByRecursion as Each}
-use Rattle.std.specs.FinMap.{entries_sorted}
-use Rattle.std.proofs.lemmas.Bool.{false≢true, cases_eq}
-use Rattle.std.proofs.lemmas.List.Sums.{sum_by-cons}
-use Rattle.w16_model.specs.declared.Block.{Block}
-use Rattle.w16_model.specs.declared.Kind.{Kind}
-use Rattle.w16_model.specs.Discards.{eligible, is_member}
-use Rattle.w16_model.specs.Heap.{Heap, Object, IsHeap, blocks, object_at, bytes_at, hold_of_object}
-use Rattle.w16_model.specs.Changes.{with_object}
-use Rattle.w16_model.specs.Request.{moved_bytes, is_elsewhere}
-use Rattle.w16_model.specs.Handles.{Handles, AreHandles, slot_of_handle, handle_of}
-use Rattle.w16_model.specs.Calls.{Answer, rounded_size, kind_asked}
-use Rattle.w16_model.specs.Calls.Answer.{Word, Dword}
-use Rattle.w16_model.specs.Reallocation.{KeepsRest, MovesLittle}
-use Rattle.w16_model.specs.Resizes.{realloc_options}
-use Rattle.w16_model.specs.Outcomes.{Call, Outcome, Resized, counts_moved}
-use Rattle.w16_model.specs.Outcomes.Outcome.{IsSame, IsUnmoved, IsLocked, IsUnlocked, IsFreed, IsNewest, IsOldest, IsEntered, IsAllocated, IsCompacted, IsModified, IsDiscarded, IsResized}
-use Rattle.w16_model.specs.CallLaws.{KeepsContents, may_change, ContentsLaw, SlotsLaw, IsMoved, size_at, IsSumOfMoved, MovedLaw}
 use Rattle.w16_model.proofs.Gaps.{Member, EachPair, AllPairs-from_EachPair, member_filter, filter_member, pairs_filter}
 use Rattle.w16_model.proofs.Starts.{member_map}
 use Rattle.w16_model.proofs.Discards.{is_member-true, true-is_member}

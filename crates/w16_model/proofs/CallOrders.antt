@@ -1,27 +1,6 @@
 -- What each call does to the order of use.
-use Rattle.std.proofs.Common.{◌≡◌, ℕ, ◌+◌, ◌<◌, inl, inr, Bool, true, false, cond, not, ◌&&◌, ◌==◌, MatchBool, IsTrue, IsSomeAnd, List, [], ◌∷◌, ◌++◌, take, filter, Option, Some, None, Result, Ok, Err, is_some, refl, sym, ap, ◌∙◌, subst, arith, eq-eqb, ne_eqb}
-use Rattle.std.proofs.lemmas.Bool.{false≢true, and_parts}
-use Rattle.std.proofs.lemmas.List.Elements.{filter-append}
-use Rattle.w16_model.specs.declared.Kind.{Kind}
-use Rattle.w16_model.specs.declared.Kind.TheVariants.{Fixed, Moveable, Discardable}
-use Rattle.w16_model.specs.declared.Refusal.{Refusal}
+use Rattle.w16_model.proofs.Common.{◌≡◌, ℕ, ◌+◌, ◌<◌, inl, inr, Bool, true, false, cond, not, ◌&&◌, ◌==◌, MatchBool, IsTrue, IsSomeAnd, List, [], ◌∷◌, ◌++◌, take, filter, Option, Some, None, Result, Ok, Err, is_some, refl, sym, ap, ◌∙◌, subst, arith, eq-eqb, ne_eqb, false≢true, and_parts, filter-append, Kind, Fixed, Moveable, Discardable, Refusal, RoomOptions, eligible, is_member, is_pinned, Heap, Object, IsHeap, blocks, object_at, bytes_at, is_fixed, is_discardable, is_in_order, without, newest, oldest, touched, with_ordered, with_newest, removed, Settles, Allocates, IsNew, discarded, stays_for, discards_needed, Enters, Handles, AreHandles, slot_of_handle, selector_of, far_pointer, Answer, rounded_size, kind_asked, alloc_options, is_absent_asked, Word, Dword, KeepsOthers, KeepsRest, without_all, is_revived, realloc_options, Call, Outcome, IsSame, IsUnmoved, IsLocked, IsUnlocked, IsFreed, IsNewest, IsOldest, IsEntered, IsAllocated, IsCompacted, IsModified, IsDiscarded, IsResized, OnlyLeave, OthersStand, may_order, UnorderedLaw, OthersOrderLaw, NewObjectLaw, handle_in, IsAbout, UseLaw, IsNewestOf, global_lock, handle_or_0, after_lock, refused_order}
 use Rattle.w16_model.specs.declared.Refusal.TheVariants as refusals
-use Rattle.w16_model.specs.declared.RoomOptions.{RoomOptions}
-use Rattle.w16_model.specs.Discards.{eligible, is_member}
-use Rattle.w16_model.specs.Gap.{is_pinned}
-use Rattle.w16_model.specs.Heap.{Heap, Object, IsHeap, blocks, object_at, bytes_at, is_fixed, is_discardable, is_in_order}
-use Rattle.w16_model.specs.Changes.{without, newest, oldest, touched, with_ordered, with_newest, removed}
-use Rattle.w16_model.specs.Request.{Settles, Allocates, IsNew, discarded, stays_for, discards_needed}
-use Rattle.w16_model.specs.OneObject.{Enters}
-use Rattle.w16_model.specs.Handles.{Handles, AreHandles, slot_of_handle, selector_of, far_pointer}
-use Rattle.w16_model.specs.Calls.{Answer, rounded_size, kind_asked, alloc_options, is_absent_asked}
-use Rattle.w16_model.specs.Calls.Answer.{Word, Dword}
-use Rattle.w16_model.specs.Law.{KeepsOthers}
-use Rattle.w16_model.specs.Reallocation.{KeepsRest, without_all, is_revived}
-use Rattle.w16_model.specs.Resizes.{realloc_options}
-use Rattle.w16_model.specs.Outcomes.{Call, Outcome}
-use Rattle.w16_model.specs.Outcomes.Outcome.{IsSame, IsUnmoved, IsLocked, IsUnlocked, IsFreed, IsNewest, IsOldest, IsEntered, IsAllocated, IsCompacted, IsModified, IsDiscarded, IsResized}
-use Rattle.w16_model.specs.CallLaws.{OnlyLeave, OthersStand, may_order, UnorderedLaw, OthersOrderLaw, NewObjectLaw, handle_in, IsAbout}
 use Rattle.w16_model.proofs.Gaps.{Member}
 use Rattle.w16_model.proofs.Discards.{is_member-true}
 use Rattle.w16_model.proofs.KeptHeaps.{inserted_here, taken_here, bytes_in}
@@ -31,9 +10,6 @@ use Rattle.w16_model.proofs.KeptRest.{absents_order, all_stay, at_once, no_more}
 use Rattle.w16_model.proofs.Others.{others_law}
 use Rattle.w16_model.proofs.CallOutcomes.{outcome}
 use Rattle.w16_model.proofs.CallLaws.{rest_of}
-use Rattle.w16_model.specs.CallLaws.{UseLaw, IsNewestOf}
-use Rattle.w16_model.specs.Calls.{global_lock, handle_or_0}
-use Rattle.w16_model.specs.OneObject.{after_lock, refused_order}
 
 -- The order without some.
 

@@ -1,25 +1,7 @@
 -- Each call on handles has one of the outcomes.
-use Rattle.std.proofs.Common.{◌≡◌, ℕ, ◌+◌, ◌-◌, ◌≤◌, ◌⊎◌, inl, inr, Bool, true, false, cond, not, ◌||◌, ◌==◌, if◌then◌else◌, MatchBool, MatchOption, IsSomeAnd, IfSome, nat_lt, IfOk, List, [], ◌∷◌, filter, sum_by, Option, Some, None, Result, Ok, Err, is_some, unwrap_or, refl, sym, ap, ◌∙◌, subst, arith, eq-eqb, ltb-false}
+use Rattle.w16_model.proofs.Common.{◌≡◌, ℕ, ◌+◌, ◌-◌, ◌≤◌, ◌⊎◌, inl, inr, Bool, true, false, cond, not, ◌||◌, ◌==◌, if◌then◌else◌, MatchBool, MatchOption, IsSomeAnd, IfSome, nat_lt, IfOk, List, [], ◌∷◌, filter, sum_by, Option, Some, None, Result, Ok, Err, is_some, unwrap_or, refl, sym, ap, ◌∙◌, subst, arith, eq-eqb, ltb-false, false≢true, Block, Refusal, GMEM_MOVEABLE, GMEM_MODIFY, LARGEST_SIZE, Heap, Object, blocks, object_at, is_fixed, is_discardable, with_object, with_ordered, with_newest, newest, oldest, touched, removed, IsNew, Request, Allocates, MakesRoom, Reallocates, most_room, compaction_prefix, discards_needed, moved_bytes, is_elsewhere, Enters, after_lock, after_unlock, after_free, after_modify, after_discard, refused_order, Handles, AreHandles, slot_of_handle, selector_of, far_pointer, handle_of, owns, HandleCommand, Answer, HandleStep, GlobalAllocs, GlobalCompacts, free_own, global_free, global_lock, global_unlock, handle_or_0, locks_at, alloc_options, kind_asked, rounded_size, is_absent_asked, has_flag, Word, Dword, Walked, GlobalAlloc, GlobalFree, GlobalLock, GlobalUnlock, GlobalSize, GlobalFlags, GlobalHandle, GetSelectorBase, GetSelectorLimit, GlobalCompact, GlobalLRUNewest, GlobalLRUOldest, Moved, Walk, ChangesKind, realloc_options, kind_modified, modified, IsNull, AnswersHandle, AnswersDiscard, Empties, Resizes, ReAllocsOwn, GlobalReAllocs, Call, IsNamed, Orders, Outcome, CallOutcomesLaw, counts_moved, Calls, ReAllocs, IsSame, IsUnmoved, IsLocked, IsUnlocked, IsFreed, IsNewest, IsOldest, IsEntered, IsAllocated, IsCompacted, IsModified, IsDiscarded, IsResized}
 use Rattle.std.specs.FinMap as finmap
-use Rattle.std.proofs.lemmas.Bool.{false≢true}
-use Rattle.w16_model.specs.declared.Block.{Block}
-use Rattle.w16_model.specs.declared.Refusal.{Refusal}
 use Rattle.w16_model.specs.declared.Refusal.TheVariants as refusals
-use Rattle.w16_model.specs.declared.TheConstants.{GMEM_MOVEABLE, GMEM_MODIFY, LARGEST_SIZE}
-use Rattle.w16_model.specs.Heap.{Heap, Object, blocks, object_at, is_fixed, is_discardable}
-use Rattle.w16_model.specs.Changes.{with_object, with_ordered, with_newest, newest, oldest, touched, removed}
-use Rattle.w16_model.specs.Request.{IsNew, Request, Allocates, MakesRoom, Reallocates, most_room, compaction_prefix, discards_needed, moved_bytes, is_elsewhere}
-use Rattle.w16_model.specs.OneObject.{Enters, after_lock, after_unlock, after_free, after_modify, after_discard, refused_order}
-use Rattle.w16_model.specs.Handles.{Handles, AreHandles, slot_of_handle, selector_of, far_pointer, handle_of}
-use Rattle.w16_model.specs.Owned.{owns}
-use Rattle.w16_model.specs.Calls.{HandleCommand, Answer, HandleStep, GlobalAllocs, GlobalCompacts, free_own, global_free, global_lock, global_unlock, handle_or_0, locks_at, alloc_options, kind_asked, rounded_size, is_absent_asked, has_flag}
-use Rattle.w16_model.specs.Calls.Answer.{Word, Dword, Walked}
-use Rattle.w16_model.specs.Calls.HandleCommand.{GlobalAlloc, GlobalFree, GlobalLock, GlobalUnlock, GlobalSize, GlobalFlags, GlobalHandle, GetSelectorBase, GetSelectorLimit, GlobalCompact, GlobalLRUNewest, GlobalLRUOldest, Moved, Walk}
-use Rattle.w16_model.specs.Reallocation.{ChangesKind}
-use Rattle.w16_model.specs.Resizes.{realloc_options, kind_modified, modified, IsNull, AnswersHandle, AnswersDiscard, Empties, Resizes, ReAllocsOwn, GlobalReAllocs}
-use Rattle.w16_model.specs.Outcomes.{Call, IsNamed, Orders, Outcome, CallOutcomesLaw, counts_moved}
-use Rattle.w16_model.specs.Outcomes.Call.{Calls, ReAllocs}
-use Rattle.w16_model.specs.Outcomes.Outcome.{IsSame, IsUnmoved, IsLocked, IsUnlocked, IsFreed, IsNewest, IsOldest, IsEntered, IsAllocated, IsCompacted, IsModified, IsDiscarded, IsResized}
 use Rattle.w16_model.proofs.Gaps.{Member}
 use Rattle.w16_model.proofs.Heaps.{IsBlockOf, member_block}
 use Rattle.w16_model.proofs.Naming.{names_law}

@@ -1,10 +1,7 @@
 -- A walk that is asked from address to address: what it has told, and what is left.
-use Rattle.std.proofs.Common.{◌≡◌, ℕ, zero, suc, ◌+◌, ◌<◌, ◌≤◌, inl, inr, List, [], ◌∷◌, ◌++◌, Option, Some, None, length, length-append, slice_get, refl, sym, ap, ◌∙◌, append-nil, append_assoc, arith, subst}
+use Rattle.w16_model.proofs.Common.{◌≡◌, ℕ, zero, suc, ◌+◌, ◌<◌, ◌≤◌, inl, inr, List, [], ◌∷◌, ◌++◌, Option, Some, None, length, slice_get, refl, sym, ap, ◌∙◌, append-nil, append_assoc, arith, subst, Kind, Item, Heap, IsItem, IsWalk, IsFirstItem}
+use Rattle.std.proofs.Common.{length-append}
 use Rattle.std.specs.List.{AllByRecursion as Each}
-use Rattle.w16_model.specs.declared.Kind.{Kind}
-use Rattle.w16_model.specs.declared.Item.{Item}
-use Rattle.w16_model.specs.Heap.{Heap}
-use Rattle.w16_model.specs.Walk.{IsItem, IsWalk, IsFirstItem}
 use Rattle.w16_model.proofs.Gaps.{EachPair, Member, Each-at, Each-map, Each-from_All, EachPair-from_AllPairs}
 use Rattle.w16_model.proofs.Walks.{member_contained}
 

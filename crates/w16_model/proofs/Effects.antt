@@ -1,28 +1,7 @@
 -- What calls do, and when accesses are answered.
-use Rattle.std.proofs.Common.{◌≡◌, ℕ, ◌+◌, ◌-◌, ◌<◌, ◌≤◌, ◌==◌, ◌||◌, Bool, true, false, cond, not, nat_lt, MatchBool, MatchOption, IfSome, List, length, Option, Some, None, Result, Ok, Err, option_map, unwrap_or, is_some, refl, sym, ap, ◌∙◌, subst, arith, ne_eqb, ltb-true}
+use Rattle.w16_model.proofs.Common.{◌≡◌, ℕ, ◌+◌, ◌-◌, ◌<◌, ◌≤◌, ◌==◌, ◌||◌, Bool, true, false, cond, not, nat_lt, MatchBool, MatchOption, IfSome, List, length, Option, Some, None, Result, Ok, Err, option_map, unwrap_or, is_some, refl, sym, ap, ◌∙◌, subst, arith, ne_eqb, ltb-true, Refusal, FarFault, BadSelector, ReadOnly, NotPresent, Limit, Kind, Moveable, Discardable, GMEM_MODIFY, GMEM_DISCARDABLE, Heap, Object, object_at, bytes_at, is_fixed, is_discardable, part, repeated, with_object, with_ordered, touched, removed, absent, after_lock, after_unlock, after_free, after_discard, after_modify, after_touch, Handles, slot_of_selector, selector_of, selector_in, offset_in, far_pointer, owns, refuses_write, Answer, global_lock, global_unlock, global_free, free_own, locks_at, has_flag, Word, Dword, IsNull, AnswersHandle, AnswersDiscard, Empties, Resizes, ReAllocsOwn, GlobalReAllocs, modified, kind_modified, IsNamed, ChangesKind, FarAnswer, far_fault, far_slot, far_bytes, far_read, data_write, far_write, after_write, Read, Write, Fill, Bytes, Done, Fault, LockLaw, UnlockLaw, FreeLaw, ModifyLaw, DiscardLaw, AnsweredLaw}
 use Rattle.std.specs.FinMap as finmap
-use Rattle.w16_model.specs.declared.Refusal.{Refusal}
 use Rattle.w16_model.specs.declared.Refusal.TheVariants as refusals
-use Rattle.w16_model.specs.declared.FarFault.{FarFault}
-use Rattle.w16_model.specs.declared.FarFault.TheVariants.{BadSelector, ReadOnly, NotPresent, Limit}
-use Rattle.w16_model.specs.declared.Kind.{Kind}
-use Rattle.w16_model.specs.declared.Kind.TheVariants.{Moveable, Discardable}
-use Rattle.w16_model.specs.declared.TheConstants.{GMEM_MODIFY, GMEM_DISCARDABLE}
-use Rattle.w16_model.specs.Heap.{Heap, Object, object_at, bytes_at, is_fixed, is_discardable}
-use Rattle.w16_model.specs.Bytes.{part, repeated}
-use Rattle.w16_model.specs.Changes.{with_object, with_ordered, touched, removed, absent}
-use Rattle.w16_model.specs.OneObject.{after_lock, after_unlock, after_free, after_discard, after_modify, after_touch}
-use Rattle.w16_model.specs.Handles.{Handles, slot_of_selector, selector_of, selector_in, offset_in, far_pointer}
-use Rattle.w16_model.specs.Owned.{owns, refuses_write}
-use Rattle.w16_model.specs.Calls.{Answer, global_lock, global_unlock, global_free, free_own, locks_at, has_flag}
-use Rattle.w16_model.specs.Calls.Answer.{Word, Dword}
-use Rattle.w16_model.specs.Resizes.{IsNull, AnswersHandle, AnswersDiscard, Empties, Resizes, ReAllocsOwn, GlobalReAllocs, modified, kind_modified}
-use Rattle.w16_model.specs.Outcomes.{IsNamed}
-use Rattle.w16_model.specs.Reallocation.{ChangesKind}
-use Rattle.w16_model.specs.Far.{FarAnswer, far_fault, far_slot, far_bytes, far_read, data_write, far_write, after_write}
-use Rattle.w16_model.specs.Far.FarCommand.{Read, Write, Fill}
-use Rattle.w16_model.specs.Far.FarAnswer.{Bytes, Done, Fault}
-use Rattle.w16_model.specs.Effects.{LockLaw, UnlockLaw, FreeLaw, ModifyLaw, DiscardLaw, AnsweredLaw}
 use Rattle.w16_model.proofs.Heaps.{get-update_same}
 use Rattle.w16_model.proofs.KeptHeaps.{inserted_here, taken_here}
 use Rattle.w16_model.proofs.KindChanges.{kind_law}

@@ -1,12 +1,5 @@
 -- The handles in which nothing is allocated.
-use Rattle.std.proofs.Common.{◌≡◌, ℕ, ◌<◌, IfSome, All, Option, Some, None, is_some, refl, sym, ap, ◌∙◌, subst, arith}
-use Rattle.std.specs.Ordering.{nat_cmp}
-use Rattle.std.specs.FinMap.{get-empty}
-use Rattle.w16_model.specs.declared.Block.{Block}
-use Rattle.w16_model.specs.declared.TheConstants.{GRAIN}
-use Rattle.w16_model.specs.Heap.{Object, IsHeap, IsCounted, IsMultiple, empty_heap, blocks, is_in_order}
-use Rattle.w16_model.specs.Handles.{IsSlot, empty_handles}
-use Rattle.w16_model.specs.Law.{EmptyLaw}
+use Rattle.w16_model.proofs.Common.{◌≡◌, ℕ, ◌<◌, IfSome, All, Option, Some, None, is_some, refl, sym, ap, ◌∙◌, subst, arith, nat_cmp, get-empty, Block, GRAIN, Object, IsHeap, IsCounted, IsMultiple, empty_heap, blocks, is_in_order, IsSlot, empty_handles, EmptyLaw}
 use Rattle.w16_model.proofs.Gaps.{Each-from, All-from_Each}
 use Rattle.w16_model.proofs.Heaps.{IsBlockOf, member_block}
 use Rattle.w16_model.proofs.Places.{placed_from}

@@ -1,18 +1,5 @@
 -- What a far access does: to its object's bytes, to all others, and to the order of use.
-use Rattle.std.proofs.Common.{◌≡◌, ◌≢◌, ℕ, ◌+◌, ◌≤◌, Bool, true, false, cond, nat_lt, IsSomeAnd, List, [], length, Option, Some, None, option_map, unwrap_or, refl, sym, ap, ◌∙◌, subst, arith, ltb-true}
-use Rattle.w16_model.specs.declared.FarFault.{FarFault}
-use Rattle.w16_model.specs.declared.FarFault.TheVariants.{BadSelector, ReadOnly, NotPresent, Limit}
-use Rattle.w16_model.specs.Bytes.{part, put_part, repeated}
-use Rattle.w16_model.specs.Discards.{is_member}
-use Rattle.w16_model.specs.Heap.{Heap, Object, object_at, bytes_at, is_in_order}
-use Rattle.w16_model.specs.Changes.{newest, touched}
-use Rattle.w16_model.specs.OneObject.{after_touch}
-use Rattle.w16_model.specs.Handles.{Handles, AreHandles, Gives, slot_of_selector, selector_of, selector_in, offset_in}
-use Rattle.w16_model.specs.Owned.{refuses_write}
-use Rattle.w16_model.specs.Far.{FarAnswer, far_fault, far_slot, far_bytes, far_read, data_write, far_write, after_write}
-use Rattle.w16_model.specs.Far.FarCommand.{Read, Write, Fill}
-use Rattle.w16_model.specs.Far.FarAnswer.{Bytes, Done, Fault}
-use Rattle.w16_model.specs.CallLaws.{IsWritten, Reaches, FarEffect, FarEffectLaw, ReadBackLaw}
+use Rattle.w16_model.proofs.Common.{◌≡◌, ◌≢◌, ℕ, ◌+◌, ◌≤◌, Bool, true, false, cond, nat_lt, IsSomeAnd, List, [], length, Option, Some, None, option_map, unwrap_or, refl, sym, ap, ◌∙◌, subst, arith, ltb-true, FarFault, BadSelector, ReadOnly, NotPresent, Limit, part, put_part, repeated, is_member, Heap, Object, object_at, bytes_at, is_in_order, newest, touched, after_touch, Handles, AreHandles, Gives, slot_of_selector, selector_of, selector_in, offset_in, refuses_write, FarAnswer, far_fault, far_slot, far_bytes, far_read, data_write, far_write, after_write, Read, Write, Fill, Bytes, Done, Fault, IsWritten, Reaches, FarEffect, FarEffectLaw, ReadBackLaw}
 use Rattle.w16_model.proofs.Accesses.{Reached, reached}
 use Rattle.w16_model.proofs.Heaps.{get-update_same, get-update_other}
 use Rattle.w16_model.proofs.KeptHeaps.{bytes_in}

@@ -1,22 +1,5 @@
 -- Requests discard as few as they can, by the laws on what is needed and on what others keep.
-use Rattle.std.proofs.Common.{◌≡◌, ℕ, ◌<◌, ◌⊎◌, inl, inr, Bool, true, false, cond, not, ◌||◌, ◌&&◌, ◌==◌, nat_le, List, take, Option, Some, None, refl, sym, ap, ◌∙◌, subst, arith, leb-false, ne_eqb, MatchBool, unwrap_or}
-use Rattle.std.proofs.lemmas.Bool.{false≢true}
-use Rattle.w16_model.specs.declared.Block.{Block}
-use Rattle.w16_model.specs.declared.Kind.{Kind}
-use Rattle.w16_model.specs.declared.Kind.TheVariants.{Fixed, Moveable, Discardable}
-use Rattle.w16_model.specs.declared.RoomOptions.{RoomOptions}
-use Rattle.w16_model.specs.Gap.{longest_hole}
-use Rattle.w16_model.specs.Arrangement.{IsLongestStretch}
-use Rattle.w16_model.specs.Discards.{eligible, blocks_without, is_member, is_about, needed, room_for, none_discarded_if}
-use Rattle.w16_model.specs.Heap.{Heap, IsHeap, blocks}
-use Rattle.w16_model.specs.Changes.{with_newest}
-use Rattle.w16_model.specs.Request.{Request, IsNew, Allocates, MakesRoom, compaction_prefix, eligible_count, most_room, discards_needed, snapshot_of}
-use Rattle.w16_model.specs.Handles.{Handles, handle_of}
-use Rattle.w16_model.specs.OneObject.{Enters}
-use Rattle.w16_model.specs.Calls.{IsRefusedAlloc, IsEmptyFixed, IsTooLong, HasNoSlot, kind_asked, alloc_options, rounded_size, is_absent_asked, has_flag}
-use Rattle.w16_model.specs.declared.TheConstants.{GMEM_MOVEABLE}
-use Rattle.w16_model.specs.Law.{KeepsOthers}
-use Rattle.w16_model.specs.Fewest.{HasNoStretch, LacksRoom, AllocatesFewest, IsMostAfter, MakesMost, AllocationLaw, CompactionLaw, GlobalAllocLaw, GlobalCompactLaw}
+use Rattle.w16_model.proofs.Common.{◌≡◌, ℕ, ◌<◌, ◌⊎◌, inl, inr, Bool, true, false, cond, not, ◌||◌, ◌&&◌, ◌==◌, nat_le, List, take, Option, Some, None, refl, sym, ap, ◌∙◌, subst, arith, leb-false, ne_eqb, MatchBool, unwrap_or, false≢true, Block, Kind, Fixed, Moveable, Discardable, RoomOptions, longest_hole, IsLongestStretch, eligible, blocks_without, is_member, is_about, needed, room_for, none_discarded_if, Heap, IsHeap, blocks, with_newest, Request, IsNew, Allocates, MakesRoom, compaction_prefix, eligible_count, most_room, discards_needed, snapshot_of, Handles, handle_of, Enters, IsRefusedAlloc, IsEmptyFixed, IsTooLong, HasNoSlot, kind_asked, alloc_options, rounded_size, is_absent_asked, has_flag, GMEM_MOVEABLE, KeepsOthers, HasNoStretch, LacksRoom, AllocatesFewest, IsMostAfter, MakesMost, AllocationLaw, CompactionLaw, GlobalAllocLaw, GlobalCompactLaw}
 use Rattle.w16_model.proofs.Least.{discards_are_least, no_stretch, placed_filter}
 use Rattle.w16_model.proofs.Longest.{room_is_longest}
 use Rattle.w16_model.proofs.Starts.{hole_is_longest}

@@ -1,11 +1,6 @@
 -- Laws of gaps and room.
 use Rattle.std.specs.List.{AllByRecursion as Each}
-use Rattle.std.proofs.Common.{◌≡◌, ℕ, zero, suc, ◌+◌, ◌-◌, ◌<◌, ◌≤◌, ◌⊎◌, inl, inr, max, min, Bool, true, false, cond, ◌&&◌, nat_le, IsTrue, List, [], ◌∷◌, map, filter, sum_by, All, AllPairs, refl, sym, ap, ◌∙◌, subst, arith, le-leb, leb-true}
-use Rattle.std.proofs.lemmas.Bool.{false≢true, cases_lt}
-use Rattle.std.proofs.lemmas.List.Elements.{All-head, All-tail, All-nil, All-cons}
-use Rattle.std.proofs.lemmas.List.Sums.{sum_by-cons}
-use Rattle.w16_model.specs.declared.Block.{Block}
-use Rattle.w16_model.specs.Gap.{Misses, block_end, first_from, starts, largest}
+use Rattle.w16_model.proofs.Common.{◌≡◌, ℕ, zero, suc, ◌+◌, ◌-◌, ◌<◌, ◌≤◌, ◌⊎◌, inl, inr, max, min, Bool, true, false, cond, ◌&&◌, nat_le, IsTrue, List, [], ◌∷◌, map, filter, sum_by, All, AllPairs, refl, sym, ap, ◌∙◌, subst, arith, le-leb, leb-true, false≢true, cases_lt, All-head, All-tail, All-nil, All-cons, sum_by-cons, Block, Misses, block_end, first_from, starts, largest}
 
 -- a fact of each two elements, by recursion
 abbrev pub EachPair : {X : Type 0} → (X → X → Type 0) → List X → Type 0

@@ -1,16 +1,8 @@
 -- The cases of a reallocation, and the free bytes behind an object.
-use Rattle.std.proofs.Common.{◌≡◌, ◌≢◌, ℕ, ◌+◌, ◌-◌, ◌<◌, ◌≤◌, ◌⊎◌, inl, inr, Bool, true, false, cond, not, ◌&&◌, ◌==◌, nat_le, MatchBool, MatchOption, IsTrue, IsSomeAnd, List, [], ◌∷◌, length, take, find, Option, Some, None, option_map, is_some, unwrap_or, refl, sym, ap, ◌∙◌, subst, arith, leb-true, leb-false, le-leb, eq-eqb, eqb-true}
+use Rattle.w16_model.proofs.Common.{◌≡◌, ◌≢◌, ℕ, ◌+◌, ◌-◌, ◌<◌, ◌≤◌, ◌⊎◌, inl, inr, Bool, true, false, cond, not, ◌&&◌, ◌==◌, nat_le, MatchBool, MatchOption, IsTrue, IsSomeAnd, List, [], ◌∷◌, length, take, Option, Some, None, option_map, is_some, unwrap_or, refl, sym, ap, ◌∙◌, subst, arith, leb-true, leb-false, le-leb, eq-eqb, eqb-true, false≢true, cases_eq, Block, RoomOptions, Misses, is_any, block_end, first_from, hole_after, IsClear, fits_in_place, growth_for, Heap, Object, IsHeap, blocks, object_at, size_of, is_pinned_object, with_object, with_newest, Asked, Request, Allocates, IsNew, IsGrown, discards_needed, StaysOrMovesToHole, Reallocates, ReallocatesObject, Grows, snapshot_of, IsFreeBehind, OneOutcomeLaw}
+use Rattle.std.proofs.Common.{find}
 use Rattle.std.specs.List.{AllByRecursion as Each}
 use Rattle.std.specs.FinMap as finmap
-use Rattle.std.proofs.lemmas.Bool.{false≢true, cases_eq}
-use Rattle.w16_model.specs.declared.Block.{Block}
-use Rattle.w16_model.specs.declared.RoomOptions.{RoomOptions}
-use Rattle.w16_model.specs.Gap.{Misses, is_any, block_end, first_from, hole_after, IsClear}
-use Rattle.w16_model.specs.Discards.{fits_in_place, growth_for}
-use Rattle.w16_model.specs.Heap.{Heap, Object, IsHeap, blocks, object_at, size_of, is_pinned_object}
-use Rattle.w16_model.specs.Changes.{with_object, with_newest}
-use Rattle.w16_model.specs.Request.{Asked, Request, Allocates, IsNew, IsGrown, discards_needed, StaysOrMovesToHole, Reallocates, ReallocatesObject, Grows, snapshot_of}
-use Rattle.w16_model.specs.Reallocation.{IsFreeBehind, OneOutcomeLaw}
 use Rattle.w16_model.proofs.Gaps.{Member, Each-at, Each-from, Each-from_All, All-from_Each, first_from-below, first_from-greatest}
 use Rattle.w16_model.proofs.Heaps.{block_member, member_block}
 use Rattle.w16_model.proofs.Places.{same_id}

@@ -1,19 +1,11 @@
 -- The blocks of a heap, by its objects.
 use Rattle.std.specs.List.{AllByRecursion as Each}
-use Rattle.std.proofs.Common.{◌≡◌, ◌≢◌, ℕ, ◌<◌, inl, inr, Bool, true, false, cond, ◌&&◌, ◌==◌, nat_lt, T, List, [], ◌∷◌, length, Option, Some, None, option_map, unwrap_or, refl, sym, ap, ◌∙◌, subst, arith, nat_cmp, Less, Equal, Greater, is_eq, is_lt, ltb-true, eqb-true}
-use Rattle.std.specs.Ordering.{eq_by_cmp}
-use Rattle.std.specs.Cmp.{eq_by_cmp_equiv, nat_cmp_total}
-use Rattle.std.specs.List.{filter_map, cons_option}
+use Rattle.w16_model.proofs.Common.{◌≡◌, ◌≢◌, ℕ, ◌<◌, inl, inr, Bool, true, false, cond, ◌&&◌, ◌==◌, nat_lt, T, List, [], ◌∷◌, length, Option, Some, None, option_map, unwrap_or, refl, sym, ap, ◌∙◌, subst, arith, Less, Equal, Greater, is_eq, is_lt, ltb-true, eqb-true, eq_by_cmp, eq_by_cmp_equiv, nat_cmp_total, filter_map, cons_option, FinMap, entries_sorted, get-entries, get-insert, get-remove, is_sorted, below_all, false≢true, cases_Bool, cases_eq, Block, Heap, Object, blocks, block_of, object_at, hold_of_object, IsPermutation, absent, update}
+use Rattle.std.proofs.Common.{nat_cmp}
 use Rattle.std.specs.FinMap as finmap
-use Rattle.std.specs.FinMap.{FinMap, entries_sorted, get-entries, get-insert, get-remove}
-use Rattle.std.specs.FinMap.Entries.{find, is_sorted, below_all}
-use Rattle.std.proofs.lemmas.Bool.{false≢true, cases_Bool, cases_eq}
-use Rattle.w16_model.specs.declared.Block.{Block}
-use Rattle.w16_model.specs.Heap.{Heap, Object, blocks, block_of, object_at, hold_of_object}
+use Rattle.std.specs.FinMap.Entries.{find}
 use Rattle.w16_model.proofs.Gaps.{EachPair, Member, Each-at, Each-from, EachPair-map}
 use Rattle.w16_model.proofs.Members.{AllDiffer, permutation_from}
-use Rattle.std.proofs.Common.{IsPermutation}
-use Rattle.w16_model.specs.Changes.{absent, update}
 
 pub tied : (q k : ℕ) → eq_by_cmp nat_cmp q k ≡ true → q ≡ k
 tied q k = turn (nat_lt q k) (q == k) (eqb-true q k)

@@ -1,29 +1,7 @@
 -- Handles with one thing changed are handles, and each far access leaves such.
-use Rattle.std.proofs.Common.{◌≡◌, ◌≢◌, ℕ, ◌+◌, ◌-◌, ◌<◌, ◌≤◌, inl, inr, Bool, true, false, cond, not, IfSome, IfOk, List, [], ◌∷◌, length, fold, take, All, Option, Some, None, option_map, is_some, refl, sym, ap, ◌∙◌, subst}
-use Rattle.std.specs.Ordering.{nat_cmp}
+use Rattle.w16_model.proofs.Common.{◌≡◌, ◌≢◌, ℕ, ◌+◌, ◌-◌, ◌<◌, ◌≤◌, inl, inr, Bool, true, false, cond, not, IfSome, IfOk, List, [], ◌∷◌, length, fold, take, All, Option, Some, None, option_map, is_some, refl, sym, ap, ◌∙◌, subst, nat_cmp, FinMap, false≢true, cases_eq, Block, RoomOptions, FarFault, is_pinned, eligible, Heap, Object, IsHeap, blocks, object_at, absent, with_object, with_ordered, removed, touched, update, Kind, Enters, after_lock, after_unlock, after_touch, Request, Settles, discarded, stays_for, Attributes, Handles, AreHandles, IsSlot, IsFreeSlot, selector_in, offset_in, part, put_part, repeated, FarAnswer, far_fault, far_slot, far_bytes, far_read, data_write, far_write, after_write, refuses_write, ReadOnly, Read, Write, Fill, Bytes, Done, Fault, FarLaw}
 use Rattle.std.specs.FinMap as finmap
-use Rattle.std.specs.FinMap.{FinMap}
-use Rattle.std.proofs.lemmas.Bool.{false≢true, cases_eq}
-use Rattle.w16_model.specs.declared.Block.{Block}
-use Rattle.w16_model.specs.declared.RoomOptions.{RoomOptions}
-use Rattle.w16_model.specs.declared.FarFault.{FarFault}
-use Rattle.w16_model.specs.Gap.{is_pinned}
-use Rattle.w16_model.specs.Discards.{eligible}
-use Rattle.w16_model.specs.Heap.{Heap, Object, IsHeap, blocks, object_at}
-use Rattle.w16_model.specs.Changes.{absent, with_object, with_ordered, removed, touched, update}
-use Rattle.w16_model.specs.declared.Kind.{Kind}
-use Rattle.w16_model.specs.OneObject.{Enters, after_lock, after_unlock, after_touch}
-use Rattle.w16_model.specs.Request.{Request, Settles, discarded, stays_for}
-use Rattle.w16_model.specs.declared.Attributes.{Attributes}
-use Rattle.w16_model.specs.Handles.{Handles, AreHandles, IsSlot, IsFreeSlot, selector_in, offset_in}
-use Rattle.w16_model.specs.Bytes.{part, put_part, repeated}
 use Rattle.w16_model.proofs.Parts.{All-repeated}
-use Rattle.w16_model.specs.Far.{FarAnswer, far_fault, far_slot, far_bytes, far_read, data_write, far_write, after_write}
-use Rattle.w16_model.specs.Owned.{refuses_write}
-use Rattle.w16_model.specs.declared.FarFault.TheVariants.{ReadOnly}
-use Rattle.w16_model.specs.Far.FarCommand.{Read, Write, Fill}
-use Rattle.w16_model.specs.Far.FarAnswer.{Bytes, Done, Fault}
-use Rattle.w16_model.specs.Law.{FarLaw}
 use Rattle.w16_model.proofs.CallOutcomes.{LockOf, UnlockOf, lock_is, unlock_is, ok_map}
 use Rattle.w16_model.proofs.Accesses.{Reached, reached}
 use Rattle.w16_model.proofs.Heaps.{get-update_same, get-update_other}

@@ -1,22 +1,7 @@
 -- Changes of a heap that leave it one: each object stays where it stands, or goes.
-use Rattle.std.proofs.Common.{◌≡◌, ◌≢◌, ℕ, ◌+◌, ◌-◌, ◌*◌, ◌<◌, ◌≤◌, inl, inr, Bool, true, false, cond, not, if◌then◌else◌, ◌&&◌, ◌==◌, IfSome, List, [], ◌∷◌, ◌++◌, length, All, AllPairs, Option, Some, None, option_map, is_some, unwrap_or, refl, sym, ap, ◌∙◌, subst, arith, eq-eqb, ne_eqb}
-use Rattle.std.specs.Cmp.{nat_cmp_total}
-use Rattle.std.specs.Ordering.{nat_cmp, eq_by_cmp}
+use Rattle.w16_model.proofs.Common.{◌≡◌, ◌≢◌, ℕ, ◌+◌, ◌-◌, ◌*◌, ◌<◌, ◌≤◌, inl, inr, Bool, true, false, cond, not, if◌then◌else◌, ◌&&◌, ◌==◌, IfSome, List, [], ◌∷◌, ◌++◌, length, All, AllPairs, Option, Some, None, option_map, is_some, unwrap_or, refl, sym, ap, ◌∙◌, subst, arith, eq-eqb, ne_eqb, nat_cmp_total, nat_cmp, eq_by_cmp, FinMap, get-insert, get-remove, false≢true, cases_eq, eqb-false, Block, Kind, Fixed, Moveable, Discardable, Refusal, Misses, block_end, ArePlaced, is_member, Heap, Object, IsHeap, IsCounted, IsMultiple, blocks, object_at, hold_of_object, is_in_order, is_fixed, is_discardable, with_object, with_ordered, without, newest, oldest, touched, removed, after_touch, refused_order, put_part, after_write}
 use Rattle.std.specs.FinMap as finmap
-use Rattle.std.specs.FinMap.{FinMap, get-insert, get-remove}
-use Rattle.std.proofs.lemmas.Bool.{false≢true, cases_eq, eqb-false}
-use Rattle.w16_model.specs.declared.Block.{Block}
-use Rattle.w16_model.specs.declared.Kind.{Kind}
-use Rattle.w16_model.specs.declared.Kind.TheVariants.{Fixed, Moveable, Discardable}
-use Rattle.w16_model.specs.declared.Refusal.{Refusal}
 use Rattle.w16_model.specs.declared.Refusal.TheVariants as refusals
-use Rattle.w16_model.specs.Gap.{Misses, block_end, ArePlaced}
-use Rattle.w16_model.specs.Discards.{is_member}
-use Rattle.w16_model.specs.Heap.{Heap, Object, IsHeap, IsCounted, IsMultiple, blocks, object_at, hold_of_object, is_in_order, is_fixed, is_discardable}
-use Rattle.w16_model.specs.Changes.{with_object, with_ordered, without, newest, oldest, touched, removed}
-use Rattle.w16_model.specs.OneObject.{after_touch, refused_order}
-use Rattle.w16_model.specs.Bytes.{put_part}
-use Rattle.w16_model.specs.Far.{after_write}
 use Rattle.w16_model.proofs.Parts.{length-put_part, All-put_part}
 use Rattle.w16_model.proofs.Gaps.{Each-at, Each-from, Each-from_All, All-from_Each, EachPair-from_AllPairs, AllPairs-from_EachPair, pairs_filter}
 use Rattle.w16_model.proofs.Heaps.{IsBlockOf, block_member, member_block, tied_itself, untied}

@@ -1,16 +1,7 @@
 -- What an answered reallocation leaves of the object, of the others and of the order of use.
-use Rattle.std.proofs.Common.{◌≡◌, ℕ, ◌-◌, ◌<◌, ◌≤◌, inl, inr, Bool, true, false, cond, not, ◌&&◌, ◌||◌, ◌==◌, IsSomeAnd, List, [], ◌∷◌, ◌++◌, length, take, filter, fold, Option, Some, None, option_map, is_some, unwrap_or, refl, sym, ap, ◌∙◌, subst, arith, eq-eqb, ne_eqb, replicate}
-use Rattle.std.proofs.lemmas.Bool.{false≢true, cases_eq}
-use Rattle.std.proofs.lemmas.List.{length-append, length-take-le, take_all, take_at, drop_at}
+use Rattle.w16_model.proofs.Common.{◌≡◌, ℕ, ◌-◌, ◌<◌, ◌≤◌, inl, inr, Bool, true, false, cond, not, ◌&&◌, ◌||◌, ◌==◌, IsSomeAnd, List, [], ◌∷◌, ◌++◌, length, take, filter, fold, Option, Some, None, option_map, is_some, unwrap_or, refl, sym, ap, ◌∙◌, subst, arith, eq-eqb, ne_eqb, replicate, false≢true, cases_eq, length-append, length-take-le, take_all, take_at, drop_at, RoomOptions, repeated, eligible, is_member, growth_for, Heap, Object, IsHeap, blocks, object_at, size_of, is_in_order, is_discardable, absent, without, with_object, with_ordered, with_newest, Asked, AreNew, IsNew, IsGrown, Settles, discarded, stays_for, discards_needed, snapshot_of, KeepsOthers, AreResized, without_all, is_revived, KeepsRest, RestLaw}
 use Rattle.std.proofs.Math.ListN.{drop_of_length-le}
-use Rattle.w16_model.specs.declared.RoomOptions.{RoomOptions}
-use Rattle.w16_model.specs.Bytes.{repeated}
-use Rattle.w16_model.specs.Discards.{eligible, is_member, growth_for}
-use Rattle.w16_model.specs.Heap.{Heap, Object, IsHeap, blocks, object_at, size_of, is_in_order, is_discardable}
-use Rattle.w16_model.specs.Changes.{absent, without, with_object, with_ordered, with_newest}
-use Rattle.w16_model.specs.Request.{Asked, AreNew, IsNew, IsGrown, Settles, discarded, stays_for, discards_needed, snapshot_of}
-use Rattle.w16_model.specs.Law.{KeepsOthers}
-use Rattle.w16_model.specs.Reallocation.{AreResized, IsResized, without_all, is_revived, KeepsRest, RestLaw}
+use Rattle.w16_model.specs.Reallocation.{IsResized}
 use Rattle.w16_model.proofs.Gaps.{Member, member_filter}
 use Rattle.w16_model.proofs.Discards.{true-is_member}
 use Rattle.w16_model.proofs.KeptHeaps.{inserted_here}

@@ -1,17 +1,7 @@
 -- A change of kind: what it leaves, and that it leaves a heap.
-use Rattle.std.proofs.Common.{◌≡◌, ◌≢◌, ℕ, inl, inr, Bool, true, false, cond, not, ◌&&◌, ◌||◌, ◌==◌, IfOk, IfSome, List, [], ◌∷◌, ◌++◌, AllPairs, Option, Some, None, Result, Ok, Err, is_some, refl, sym, ap, ◌∙◌, subst, eq-eqb, ne_eqb}
-use Rattle.std.proofs.lemmas.Bool.{false≢true, cases_eq}
-use Rattle.std.proofs.lemmas.List.Elements.{filter-append}
+use Rattle.w16_model.proofs.Common.{◌≡◌, ◌≢◌, ℕ, inl, inr, Bool, true, false, cond, not, ◌&&◌, ◌||◌, ◌==◌, IfOk, IfSome, List, [], ◌∷◌, ◌++◌, AllPairs, Option, Some, None, Result, Ok, Err, is_some, refl, sym, ap, ◌∙◌, subst, eq-eqb, ne_eqb, false≢true, cases_eq, filter-append, Kind, Fixed, Moveable, Discardable, Refusal, is_member, Heap, Object, IsHeap, IsCounted, object_at, is_in_order, is_fixed, is_discardable, without, newest, with_newest, with_ordered, after_modify, ChangesKind, KindLaw, KindHeapLaw}
 use Rattle.std.specs.FinMap as finmap
-use Rattle.w16_model.specs.declared.Kind.{Kind}
-use Rattle.w16_model.specs.declared.Kind.TheVariants.{Fixed, Moveable, Discardable}
-use Rattle.w16_model.specs.declared.Refusal.{Refusal}
 use Rattle.w16_model.specs.declared.Refusal.TheVariants as refusals
-use Rattle.w16_model.specs.Discards.{is_member}
-use Rattle.w16_model.specs.Heap.{Heap, Object, IsHeap, IsCounted, object_at, is_in_order, is_fixed, is_discardable}
-use Rattle.w16_model.specs.Changes.{without, newest, with_newest, with_ordered}
-use Rattle.w16_model.specs.OneObject.{after_modify}
-use Rattle.w16_model.specs.Reallocation.{ChangesKind, KindLaw, KindHeapLaw}
 use Rattle.w16_model.proofs.Gaps.{Member, pairs_filter, AllPairs-from_EachPair, EachPair-from_AllPairs}
 use Rattle.w16_model.proofs.Discards.{true-is_member}
 use Rattle.w16_model.proofs.Orders.{member_without, member_newest, newest_differ}

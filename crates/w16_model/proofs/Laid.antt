@@ -1,11 +1,6 @@
 -- Blocks that are laid out by address.
 use Rattle.std.specs.List.{AllByRecursion as Each}
-use Rattle.std.proofs.Common.{◌≡◌, ℕ, ◌<◌, ◌≤◌, inl, min, Bool, true, false, cond, if◌then◌else◌, nat_le, nat_lt, List, [], ◌∷◌, map, filter, refl, sym, ◌∙◌, subst, arith, le-leb}
-use Rattle.std.proofs.lemmas.Bool.{cond-true, cond-false, lt-leb}
-use Rattle.w16_model.specs.declared.Span.{Span}
-use Rattle.w16_model.specs.declared.Block.{Block}
-use Rattle.w16_model.specs.Gap.{block_end, is_any, first_from, spans_from, holes, Misses, ArePlaced, IsLaid}
-use Rattle.w16_model.specs.Law.{RisingLaw}
+use Rattle.w16_model.proofs.Common.{◌≡◌, ℕ, ◌<◌, ◌≤◌, inl, min, Bool, true, false, cond, if◌then◌else◌, nat_le, nat_lt, List, [], ◌∷◌, map, filter, refl, sym, ◌∙◌, subst, arith, le-leb, cond-true, cond-false, lt-leb, Span, Block, block_end, is_any, first_from, spans_from, holes, Misses, ArePlaced, IsLaid, RisingLaw}
 use Rattle.w16_model.proofs.Gaps.{Each-map, EachPair, All-from_Each, AllPairs-from_EachPair}
 
 -- all blocks of a laid list begin at or after its low end, and the low end is at most the high one

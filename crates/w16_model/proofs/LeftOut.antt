@@ -1,12 +1,5 @@
 -- Room with an object counted as loose and left out.
-use Rattle.std.proofs.Common.{◌≡◌, ℕ, ◌+◌, ◌-◌, ◌≤◌, Bool, true, false, cond, not, ◌&&◌, ◌||◌, IsTrue, List, [], ◌∷◌, take, filter, Option, refl, sym, ap, ◌∙◌, subst, inl, inr}
-use Rattle.std.proofs.lemmas.Bool.{false≢true, cases_Bool, and_parts, and_from, not-true, not_from_false, or_parts, or_from}
-use Rattle.w16_model.specs.declared.Block.{Block}
-use Rattle.w16_model.specs.declared.Hold.TheVariants.{Loose}
-use Rattle.w16_model.specs.Gap.{is_pinned, is_loose, begins_in, Misses, IsClear, IsGap}
-use Rattle.w16_model.specs.Arrangement.{IsArrangement, IsFreeStretch, IsLongestStretch}
-use Rattle.w16_model.specs.Discards.{eligible, is_member, is_about, blocks_without, room_for, snapshot}
-use Rattle.w16_model.specs.Reallocation.{counted_loose, loosened, is_counted, IsArrangementWithout, IsFreeWithout, IsLongestWithout, LeftOutLaw}
+use Rattle.w16_model.proofs.Common.{◌≡◌, ℕ, ◌+◌, ◌-◌, ◌≤◌, Bool, true, false, cond, not, ◌&&◌, ◌||◌, IsTrue, List, [], ◌∷◌, take, filter, Option, refl, sym, ap, ◌∙◌, subst, inl, inr, false≢true, cases_Bool, and_parts, and_from, not-true, not_from_false, or_parts, or_from, Block, Loose, is_pinned, is_loose, begins_in, Misses, IsClear, IsGap, IsArrangement, IsFreeStretch, IsLongestStretch, eligible, is_member, is_about, blocks_without, room_for, snapshot, counted_loose, loosened, is_counted, IsArrangementWithout, IsFreeWithout, IsLongestWithout, LeftOutLaw}
 use Rattle.w16_model.proofs.Gaps.{Member, EachPair, Each-at, Each-from, Each-from_All, All-from_Each, Each-of_map, EachPair-from_AllPairs, AllPairs-from_EachPair, EachPair-filter, EachPair-map, member_filter, filter_member}
 use Rattle.w16_model.proofs.Starts.{member_map}
 use Rattle.w16_model.proofs.Discards.{is_member-true, eligible_loose, from_take}

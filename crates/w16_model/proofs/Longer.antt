@@ -1,11 +1,6 @@
 -- Room in a longer range.
 use Rattle.std.specs.List.{AllByRecursion as Each}
-use Rattle.std.proofs.Common.{◌≡◌, ℕ, ◌+◌, ◌-◌, ◌≤◌, ◌<◌, min, true, false, cond, ◌&&◌, nat_le, nat_lt, List, [], ◌∷◌, refl, ap, ◌∙◌, subst, arith, zero-add}
-use Rattle.std.proofs.Common.{inl, inr}
-use Rattle.std.proofs.lemmas.Bool.{cases_lt, and_left, and_right, lt-leb}
-use Rattle.w16_model.specs.declared.Block.{Block}
-use Rattle.w16_model.specs.Gap.{is_pinned, is_loose, begins_in, first_from, loose_bytes, room_from, starts}
-use Rattle.w16_model.specs.Law.{LongerLaw}
+use Rattle.w16_model.proofs.Common.{◌≡◌, ℕ, ◌+◌, ◌-◌, ◌≤◌, ◌<◌, min, true, false, cond, ◌&&◌, nat_le, nat_lt, List, [], ◌∷◌, refl, ap, ◌∙◌, subst, arith, zero-add, inl, inr, cases_lt, and_left, and_right, lt-leb, Block, is_pinned, is_loose, begins_in, first_from, loose_bytes, room_from, starts, LongerLaw}
 use Rattle.w16_model.proofs.Gaps.{Each-from}
 use Rattle.w16_model.proofs.Starts.{inside}
 use Rattle.w16_model.proofs.Longest.{sum_filter, loose_bytes-split}

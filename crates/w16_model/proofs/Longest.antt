@@ -1,13 +1,6 @@
 -- Room is the length of the longest free stretch of any arrangement.
 use Rattle.std.specs.List.{AllByRecursion as Each}
-use Rattle.std.proofs.Common.{◌≡◌, ℕ, ◌+◌, ◌-◌, ◌<◌, ◌≤◌, ◌⊎◌, inl, inr, max, min, Bool, true, false, cond, not, ◌&&◌, nat_le, nat_lt, IsTrue, List, [], ◌∷◌, filter, sum_by, refl, sym, ap, subst, arith, leb-true, le-leb, ltb-true, lt-ltb}
-use Rattle.std.proofs.lemmas.Bool.{cases_lt, and_parts, and_from, cond-true, false≢true}
-use Rattle.std.proofs.lemmas.Bool.Decides.{nat_tests}
-use Rattle.std.proofs.lemmas.List.Sums.{sum_by-cons}
-use Rattle.w16_model.specs.declared.Block.{Block}
-use Rattle.w16_model.specs.Gap.{Misses, block_end, is_pinned, is_loose, begins_in, loose_bytes, room_from, room, first_from, starts, ArePlaced, IsClear, IsGap}
-use Rattle.w16_model.specs.Arrangement.{IsArrangement, IsFreeStretch}
-use Rattle.w16_model.specs.Law.{RoomLaw, LargestLaw}
+use Rattle.w16_model.proofs.Common.{◌≡◌, ℕ, ◌+◌, ◌-◌, ◌<◌, ◌≤◌, ◌⊎◌, inl, inr, max, min, Bool, true, false, cond, not, ◌&&◌, nat_le, nat_lt, IsTrue, List, [], ◌∷◌, filter, sum_by, refl, sym, ap, subst, arith, leb-true, le-leb, ltb-true, lt-ltb, cases_lt, and_parts, and_from, cond-true, false≢true, nat_tests, sum_by-cons, Block, Misses, block_end, is_pinned, is_loose, begins_in, loose_bytes, room_from, room, first_from, starts, ArePlaced, IsClear, IsGap, IsArrangement, IsFreeStretch, RoomLaw, LargestLaw}
 use Rattle.w16_model.proofs.Gaps.{EachPair, Each-map, EachPair-map, Each-filter, EachPair-filter, EachPair-member, Member, Each-from, Each-from_All, All-from_Each, EachPair-from_AllPairs, AllPairs-from_EachPair, last_to, last_to-start, first_from-below, largest_reached, pack, pack_around}
 use Rattle.w16_model.proofs.Starts.{inside, sized, two, MayBegin, begins, gap_begins}
 use Rattle.w16_model.proofs.Maximal.{clear_from, missed, gap_around, gap_same}

@@ -1,8 +1,6 @@
 -- Where the maximal clear intervals are.
 use Rattle.std.specs.List.{AllByRecursion as Each}
-use Rattle.std.proofs.Common.{◌≡◌, ℕ, ◌+◌, ◌<◌, ◌≤◌, max, min, Bool, IsTrue, List, refl, sym, subst, arith}
-use Rattle.w16_model.specs.declared.Block.{Block}
-use Rattle.w16_model.specs.Gap.{Misses, block_end, first_from, IsClear, IsGapOf}
+use Rattle.w16_model.proofs.Common.{◌≡◌, ℕ, ◌+◌, ◌<◌, ◌≤◌, max, min, Bool, IsTrue, List, refl, sym, subst, arith, Block, Misses, block_end, first_from, IsClear, IsGapOf}
 use Rattle.w16_model.proofs.Gaps.{Member, Each-at, Each-from, Each-from_All, All-from_Each, first_from-below, first_from-greatest, last_to, last_to-above, last_to-least}
 
 at_or_after : (p q s e at size : ℕ) → 0 < size → Misses at size p q → (at + size ≤ p → at + size ≤ s) → s ≤ at → q ≤ at

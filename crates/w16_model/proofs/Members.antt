@@ -1,14 +1,8 @@
 -- Lists with the same members, and what depends on the members alone.
 use Rattle.std.specs.List.{AllByRecursion as Each}
-use Rattle.std.proofs.Common.{◌≡◌, ◌≢◌, ℕ, ◌-◌, ◌≤◌, ◌⊎◌, inl, inr, Bool, true, false, cond, ◌&&◌, IsTrue, List, [], ◌∷◌, ◌++◌, map, filter, sum_by, refl, sym, ap, ◌∙◌, subst, arith, IsPermutation}
-use Rattle.std.proofs.lemmas.Bool.{false≢true}
-use Rattle.std.proofs.lemmas.List.Sorted.{IsPermutation-refl, IsPermutation-cons, IsPermutation-middle, IsPermutation-trans, IsPermutation-sym, sum_by-IsPermutation, All-permutation}
-use Rattle.std.proofs.Common.{IsTrue}
-use Rattle.w16_model.specs.declared.Block.{Block}
-use Rattle.w16_model.specs.Gap.{is_pinned, is_loose, block_end, begins_in, first_from, loose_bytes, largest, room_from, room, starts}
+use Rattle.w16_model.proofs.Common.{◌≡◌, ◌≢◌, ℕ, ◌-◌, ◌≤◌, ◌⊎◌, inl, inr, Bool, true, false, cond, ◌&&◌, IsTrue, List, [], ◌∷◌, ◌++◌, map, filter, sum_by, refl, sym, ap, ◌∙◌, subst, arith, IsPermutation, false≢true, IsPermutation-refl, IsPermutation-cons, IsPermutation-middle, IsPermutation-trans, IsPermutation-sym, sum_by-IsPermutation, All-permutation, Block, is_pinned, is_loose, block_end, begins_in, first_from, loose_bytes, largest, room_from, room, starts, sum_by-cons}
 use Rattle.w16_model.proofs.Gaps.{EachPair, Member, Each-at, Each-from, Each-map, Each-of_map, Each-filter, Each-from_All, All-from_Each, first_from-below, first_from-greatest}
 use Rattle.w16_model.proofs.Longest.{sum_filter}
-use Rattle.std.proofs.lemmas.List.Sums.{sum_by-cons}
 
 module _ {X : Type 0} where
   -- a list around one of its members

@@ -1,11 +1,5 @@
 -- The look-ups of handles and selectors.
-use Rattle.std.proofs.Common.{◌≡◌, ℕ, ◌/◌, Bool, true, false, cond, ◌&&◌, ◌==◌, IsTrue, IsSomeAnd, Option, Some, None, is_some, refl, sym, ap, ◌∙◌, subst, arith, eq-eqb, eqb-true}
-use Rattle.std.proofs.lemmas.Bool.{false≢true, and_parts}
-use Rattle.w16_model.specs.declared.Kind.{Kind}
-use Rattle.w16_model.specs.declared.Kind.TheVariants.{Fixed, Moveable, Discardable}
-use Rattle.w16_model.specs.Heap.{Object, object_at}
-use Rattle.w16_model.specs.Handles.{Handles, slot_of_handle, slot_of_selector, handle_of, selector_of}
-use Rattle.w16_model.specs.Law.{NamesLaw}
+use Rattle.w16_model.proofs.Common.{◌≡◌, ℕ, ◌/◌, Bool, true, false, cond, ◌&&◌, ◌==◌, IsTrue, IsSomeAnd, Option, Some, None, is_some, refl, sym, ap, ◌∙◌, subst, arith, eq-eqb, eqb-true, false≢true, and_parts, Kind, Fixed, Moveable, Discardable, Object, object_at, Handles, slot_of_handle, slot_of_selector, handle_of, selector_of, NamesLaw}
 
 -- a handle and a selector tell their slot
 slot_in_handle : (kind : Kind) (slot : ℕ) → handle_of kind slot / 8 ≡ slot

@@ -1,9 +1,5 @@
 -- The order of use with an object taken out and put at its end.
-use Rattle.std.proofs.Common.{◌≡◌, ℕ, Bool, true, false, cond, not, ◌&&◌, ◌||◌, ◌==◌, List, [], ◌∷◌, ◌++◌, refl, sym, ap, ◌∙◌, AllPairs, inl, inr, eqb-true, eq-eqb, ne_eqb}
-use Rattle.std.proofs.lemmas.Bool.{false≢true, cases_eq, not-true}
-use Rattle.std.proofs.lemmas.List.Quantifiers.{all_pairs_push}
-use Rattle.w16_model.specs.Discards.{is_member}
-use Rattle.w16_model.specs.Changes.{without}
+use Rattle.w16_model.proofs.Common.{◌≡◌, ℕ, Bool, true, false, cond, not, ◌&&◌, ◌||◌, ◌==◌, List, [], ◌∷◌, ◌++◌, refl, sym, ap, ◌∙◌, AllPairs, inl, inr, eqb-true, eq-eqb, ne_eqb, false≢true, cases_eq, not-true, all_pairs_push, is_member, without}
 use Rattle.w16_model.proofs.Gaps.{Each-from, All-from_Each, EachPair-from_AllPairs, AllPairs-from_EachPair, member_filter, pairs_filter}
 
 member_end : (q id : ℕ) (ids : List ℕ) → is_member q (ids ++ id ∷ []) ≡ (is_member q ids || (id == q))

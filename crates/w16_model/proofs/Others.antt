@@ -1,19 +1,6 @@
 -- What a step leaves of the objects that it isn't about.
-use Rattle.std.proofs.Common.{◌≡◌, ◌≢◌, ℕ, ◌≤◌, inl, inr, Bool, true, false, cond, not, ◌&&◌, ◌||◌, nat_lt, IsTrue, IsSomeAnd, List, [], ◌∷◌, length, take, fold, Option, Some, None, option_map, is_some, unwrap_or, refl, sym, ap, ◌∙◌, subst, arith, eq-eqb, ltb-false}
-use Rattle.std.specs.Cmp.{nat_cmp_total}
+use Rattle.w16_model.proofs.Common.{◌≡◌, ◌≢◌, ℕ, ◌≤◌, inl, inr, Bool, true, false, cond, not, ◌&&◌, ◌||◌, nat_lt, IsTrue, IsSomeAnd, List, [], ◌∷◌, length, take, fold, Option, Some, None, option_map, is_some, unwrap_or, refl, sym, ap, ◌∙◌, subst, arith, eq-eqb, ltb-false, nat_cmp_total, get-insert, false≢true, cases_Bool, cases_eq, and_parts, not-true, Block, Pinned, Loose, Kind, Fixed, Moveable, Discardable, holds_still, Heap, Object, IsHeap, blocks, object_at, hold_of_object, is_fixed, is_discardable, is_pinned_object, is_in_order, eligible, is_member, is_about, is_pinned_id, absent, discarded, KeepsOthers, OthersLaw}
 use Rattle.std.specs.FinMap as finmap
-use Rattle.std.specs.FinMap.{get-insert}
-use Rattle.std.proofs.lemmas.Bool.{false≢true, cases_Bool, cases_eq, and_parts, not-true}
-use Rattle.w16_model.specs.declared.Block.{Block}
-use Rattle.w16_model.specs.declared.Hold.TheVariants.{Pinned, Loose}
-use Rattle.w16_model.specs.declared.Kind.{Kind}
-use Rattle.w16_model.specs.declared.Kind.TheVariants.{Fixed, Moveable, Discardable}
-use Rattle.w16_model.specs.Gap.{holds_still}
-use Rattle.w16_model.specs.Heap.{Heap, Object, IsHeap, blocks, object_at, hold_of_object, is_fixed, is_discardable, is_pinned_object, is_in_order}
-use Rattle.w16_model.specs.Discards.{eligible, is_member, is_about, is_pinned_id}
-use Rattle.w16_model.specs.Changes.{absent}
-use Rattle.w16_model.specs.Request.{discarded}
-use Rattle.w16_model.specs.Law.{KeepsOthers, OthersLaw}
 use Rattle.w16_model.proofs.Gaps.{Member, member_filter}
 use Rattle.w16_model.proofs.Heaps.{IsBlockOf, block_member, untied, get-update_other, get-update_same}
 use Rattle.w16_model.proofs.Discards.{is_member-true, true-is_member, eligible_loose, from_take}

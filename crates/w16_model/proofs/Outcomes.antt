@@ -1,19 +1,6 @@
 -- What a request leaves where it stands, and that it isn't both refused and answered.
-use Rattle.std.proofs.Common.{◌≡◌, ◌≢◌, ℕ, ◌<◌, inl, inr, Bool, true, false, cond, not, ◌&&◌, ◌||◌, ◌==◌, MatchBool, IsTrue, IfSome, IsSomeAnd, List, length, Option, Some, None, is_some, unwrap_or, refl, sym, ap, ◌∙◌, subst, arith, ne_eqb}
+use Rattle.w16_model.proofs.Common.{◌≡◌, ◌≢◌, ℕ, ◌<◌, inl, inr, Bool, true, false, cond, not, ◌&&◌, ◌||◌, ◌==◌, MatchBool, IsTrue, IfSome, IsSomeAnd, List, length, Option, Some, None, is_some, unwrap_or, refl, sym, ap, ◌∙◌, subst, arith, ne_eqb, false≢true, Block, RoomOptions, Pinned, Loose, GMEM_MOVEABLE, is_pinned, holds_still, Heap, Object, IsHeap, blocks, object_at, hold_of_object, is_pinned_object, with_newest, Settles, stays_for, Allocates, IsNew, Request, discards_needed, Enters, Handles, AreHandles, has_flag, alloc_options, kind_asked, rounded_size, AddressLaw, StandsStill, OutcomeLaw}
 use Rattle.std.specs.FinMap as finmap
-use Rattle.std.proofs.lemmas.Bool.{false≢true}
-use Rattle.w16_model.specs.declared.Block.{Block}
-use Rattle.w16_model.specs.declared.RoomOptions.{RoomOptions}
-use Rattle.w16_model.specs.declared.Hold.TheVariants.{Pinned, Loose}
-use Rattle.w16_model.specs.declared.TheConstants.{GMEM_MOVEABLE}
-use Rattle.w16_model.specs.Gap.{is_pinned, holds_still}
-use Rattle.w16_model.specs.Heap.{Heap, Object, IsHeap, blocks, object_at, hold_of_object, is_pinned_object}
-use Rattle.w16_model.specs.Changes.{with_newest}
-use Rattle.w16_model.specs.Request.{Settles, stays_for, Allocates, IsNew, Request, discards_needed}
-use Rattle.w16_model.specs.OneObject.{Enters}
-use Rattle.w16_model.specs.Handles.{Handles, AreHandles}
-use Rattle.w16_model.specs.Calls.{has_flag, alloc_options, kind_asked, rounded_size}
-use Rattle.w16_model.specs.Law.{AddressLaw, StandsStill, OutcomeLaw}
 use Rattle.w16_model.proofs.Gaps.{Each-at, Each-from_All}
 use Rattle.w16_model.proofs.Heaps.{IsBlockOf, block_member}
 use Rattle.w16_model.proofs.Prefixes.{none_about}

@@ -1,14 +1,7 @@
 -- The longest hole as the room where every block is pinned.
 use Rattle.std.specs.List.{AllByRecursion as Each}
-use Rattle.std.proofs.Common.{◌≡◌, ℕ, ◌-◌, min, max, cond, nat_le, map, filter, List, [], ◌∷◌, refl, sym, ap, ◌∙◌, arith}
-use Rattle.std.proofs.Common.{IsPermutation}
-use Rattle.std.proofs.lemmas.List.Sorted.{IsPermutation-map}
-use Rattle.w16_model.specs.declared.Hold.TheVariants.{Pinned}
+use Rattle.w16_model.proofs.Common.{◌≡◌, ℕ, ◌-◌, min, max, cond, nat_le, map, filter, List, [], ◌∷◌, refl, sym, ap, ◌∙◌, arith, IsPermutation, IsPermutation-map, Pinned, Block, block_end, first_from, is_any, is_pinned, loose_bytes, largest, room_from, longest_hole, PinnedLaw, all_pinned}
 use Rattle.w16_model.proofs.Members.{room-permutation}
-use Rattle.w16_model.specs.declared.Block.{Block}
-use Rattle.w16_model.specs.Gap.{block_end, first_from, is_any, is_pinned, loose_bytes, largest, room_from}
-use Rattle.w16_model.specs.Gap.{longest_hole}
-use Rattle.w16_model.specs.Law.{PinnedLaw, all_pinned}
 
 largest_same : (f g : ℕ → ℕ) (ns : List ℕ) → Each (λ n. f n ≡ g n) ns → largest (map f ns) ≡ largest (map g ns)
 largest_same f g [] h = refl

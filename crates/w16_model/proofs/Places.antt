@@ -1,10 +1,7 @@
 -- An object that is with_ordered bytes at a free place: the heap that this makes.
 use Rattle.std.specs.List.{AllByRecursion as Each}
-use Rattle.std.proofs.Common.{◌≡◌, ◌≢◌, ℕ, ◌≤◌, ◌<◌, ◌⊎◌, List, length, Option, Some, unwrap_or, sym, ap, ◌∙◌, inl, inr, ⊎_elim}
+use Rattle.w16_model.proofs.Common.{◌≡◌, ◌≢◌, ℕ, ◌≤◌, ◌<◌, ◌⊎◌, List, length, Option, Some, unwrap_or, sym, ap, ◌∙◌, inl, inr, ⊎_elim, Block, Misses, block_end, ArePlaced, Heap, Object, IsHeap, blocks, object_at, hold_of_object}
 use Rattle.std.specs.FinMap as finmap
-use Rattle.w16_model.specs.declared.Block.{Block}
-use Rattle.w16_model.specs.Gap.{Misses, block_end, ArePlaced}
-use Rattle.w16_model.specs.Heap.{Heap, Object, IsHeap, blocks, object_at, hold_of_object}
 use Rattle.w16_model.proofs.Gaps.{Each-at, Each-from, All-from_Each, AllPairs-from_EachPair, EachPair-member, each_two, EachPair-from_AllPairs}
 use Rattle.w16_model.proofs.Heaps.{IsBlockOf, block_member, member_block, blocks_differ}
 

@@ -1,14 +1,6 @@
 -- What may be discarded, and how many discards a request needs, by the blocks and the order of use.
-use Rattle.std.specs.List.{find, range_with_len}
-use Rattle.std.proofs.Common.{◌≡◌, ◌≢◌, ℕ, zero, suc, ◌+◌, ◌<◌, ◌≤◌, inl, inr, Bool, true, false, cond, not, ◌&&◌, ◌||◌, ◌==◌, nat_le, List, [], ◌∷◌, length, get_or, set, swap, take, filter, Option, Some, None, refl, sym, ap, ◌∙◌, subst, arith, add-one, IsPermutation, ne_eqb}
-use Rattle.std.proofs.lemmas.Bool.{false≢true, le-leb, lt-leb}
-use Rattle.std.proofs.lemmas.List.Sorted.{list_any-IsPermutation, IsPermutation-refl, IsPermutation-cons, IsPermutation-swap, IsPermutation-trans, IsPermutation-keeps}
-use Rattle.w16_model.specs.declared.Block.{Block}
-use Rattle.w16_model.specs.declared.RoomOptions.{RoomOptions}
-use Rattle.w16_model.specs.Gap.{is_pinned, room, longest_hole}
-use Rattle.w16_model.specs.Heap.{Heap, IsHeap, Object, blocks, object_at, is_in_order}
-use Rattle.w16_model.specs.Discards.{eligible, blocks_without, room_for, needed, prefix_for, none_discarded_if, is_member, is_about, is_pinned_id, snapshot}
-use Rattle.w16_model.specs.Request.{discards_needed, snapshot_of}
+use Rattle.w16_model.proofs.Common.{find, range_with_len, ◌≡◌, ◌≢◌, ℕ, zero, suc, ◌+◌, ◌<◌, ◌≤◌, inl, inr, Bool, true, false, cond, not, ◌&&◌, ◌||◌, ◌==◌, nat_le, List, [], ◌∷◌, length, get_or, set, swap, take, filter, Option, Some, None, refl, sym, ap, ◌∙◌, subst, arith, add-one, IsPermutation, ne_eqb, false≢true, lt-leb, list_any-IsPermutation, IsPermutation-refl, IsPermutation-cons, IsPermutation-swap, IsPermutation-trans, IsPermutation-keeps, Block, RoomOptions, is_pinned, room, longest_hole, Heap, IsHeap, Object, blocks, object_at, is_in_order, eligible, blocks_without, room_for, needed, prefix_for, none_discarded_if, is_member, is_about, is_pinned_id, snapshot, discards_needed, snapshot_of}
+use Rattle.std.proofs.lemmas.Bool.{le-leb}
 use Rattle.w16_model.proofs.Gaps.{Member}
 use Rattle.w16_model.proofs.Heaps.{IsBlockOf, member_block}
 use Rattle.w16_model.proofs.Discards.{true-is_member}

@@ -1,12 +1,6 @@
 -- A heap where memory changes outside its range alone.
-use Rattle.std.proofs.Common.{◌≡◌, ℕ, ◌+◌, ◌-◌, ◌<◌, ◌≤◌, List, [], ◌∷◌, take, drop, slice_range, Option, Some, None, option_map, refl, sym, ap, ◌∙◌, arith}
+use Rattle.w16_model.proofs.Common.{◌≡◌, ℕ, ◌+◌, ◌-◌, ◌<◌, ◌≤◌, List, [], ◌∷◌, take, drop, slice_range, Option, Some, None, option_map, refl, sym, ap, ◌∙◌, arith, drop-take, take-take, drop-drop, Block, Entry, block_end, Table, IsTable, heap_in, object_in, by_id, block_with, RangeLaw}
 use Rattle.std.specs.FinMap as finmap
-use Rattle.std.proofs.lemmas.List.{drop-take, take-take, drop-drop}
-use Rattle.w16_model.specs.declared.Block.{Block}
-use Rattle.w16_model.specs.declared.Entry.{Entry}
-use Rattle.w16_model.specs.Gap.{block_end}
-use Rattle.w16_model.specs.Table.{Table, IsTable, heap_in, object_in, by_id, block_with}
-use Rattle.w16_model.specs.Law.{RangeLaw}
 use Rattle.w16_model.proofs.Gaps.{Member, Each-at}
 use Rattle.w16_model.proofs.Laid.{laid_each}
 use Rattle.w16_model.proofs.Tables.{member_with}

@@ -1,21 +1,6 @@
 -- The laws of reallocation, case by case.
-use Rattle.std.proofs.Common.{◌≡◌, ◌≢◌, ℕ, ◌+◌, ◌<◌, ◌≤◌, ◌⊎◌, inl, inr, Bool, true, false, cond, not, ◌&&◌, ◌||◌, nat_le, MatchOption, IsTrue, IsSomeAnd, IfSome, List, ◌++◌, length, take, All, Option, Some, None, option_map, is_some, unwrap_or, refl, sym, ap, ◌∙◌, subst, arith}
-use Rattle.std.specs.Ordering.{nat_cmp}
+use Rattle.w16_model.proofs.Common.{◌≡◌, ◌≢◌, ℕ, ◌+◌, ◌<◌, ◌≤◌, ◌⊎◌, inl, inr, Bool, true, false, cond, not, ◌&&◌, ◌||◌, nat_le, MatchOption, IsTrue, IsSomeAnd, IfSome, List, ◌++◌, length, take, All, Option, Some, None, option_map, is_some, unwrap_or, refl, sym, ap, ◌∙◌, subst, arith, nat_cmp, FinMap, false≢true, length-append, length-take-le, All-take, All-append, Block, RoomOptions, Misses, is_any, is_pinned, block_end, longest_hole, IsClear, fits_in_place, growth_for, none_discarded_if, Heap, Object, IsHeap, IsCounted, IsMultiple, blocks, object_at, size_of, is_fixed, is_pinned_object, with_object, with_ordered, with_newest, Asked, Request, AreNew, IsNew, IsGrown, Settles, Reallocates, ReallocatesObject, discarded, stays_for, discards_needed, snapshot_of, KeepsOthers, StandsStill, AllocatesFewest, LacksRoom, HasNoStretch, IsFreeBehind, is_held, ReallocatesFewest, MovesLittle, HeapLaw, FewestLaw, MovesLaw}
 use Rattle.std.specs.FinMap as finmap
-use Rattle.std.specs.FinMap.{FinMap}
-use Rattle.std.proofs.lemmas.Bool.{false≢true}
-use Rattle.std.proofs.lemmas.List.{length-append, length-take-le}
-use Rattle.std.proofs.lemmas.List.Elements.{All-take, All-append}
-use Rattle.w16_model.specs.declared.Block.{Block}
-use Rattle.w16_model.specs.declared.RoomOptions.{RoomOptions}
-use Rattle.w16_model.specs.Gap.{Misses, is_any, is_pinned, block_end, longest_hole, IsClear}
-use Rattle.w16_model.specs.Discards.{fits_in_place, growth_for, none_discarded_if}
-use Rattle.w16_model.specs.Heap.{Heap, Object, IsHeap, IsCounted, IsMultiple, blocks, object_at, size_of, is_fixed, is_pinned_object}
-use Rattle.w16_model.specs.Changes.{with_object, with_ordered, with_newest}
-use Rattle.w16_model.specs.Request.{Asked, Request, AreNew, IsNew, IsGrown, Settles, Reallocates, ReallocatesObject, discarded, stays_for, discards_needed, snapshot_of}
-use Rattle.w16_model.specs.Law.{KeepsOthers, StandsStill}
-use Rattle.w16_model.specs.Fewest.{AllocatesFewest, LacksRoom, HasNoStretch}
-use Rattle.w16_model.specs.Reallocation.{IsFreeBehind, is_held, ReallocatesFewest, MovesLittle, HeapLaw, FewestLaw, MovesLaw}
 use Rattle.w16_model.proofs.Gaps.{Each-at, Each-from, Each-from_All, All-from_Each}
 use Rattle.w16_model.proofs.Heaps.{IsBlockOf, block_member, member_block}
 use Rattle.w16_model.proofs.KeptHeaps.{inserted_here, inserted_other, bytes_in, AreBytes}

@@ -1,11 +1,6 @@
 -- An object with another in its place, at the same address: the heap that this makes.
-use Rattle.std.proofs.Common.{◌≡◌, ◌≢◌, ℕ, ◌+◌, ◌<◌, ◌≤◌, inl, inr, ⊎_elim, IfSome, List, length, AllPairs, Option, Some, is_some, unwrap_or, ◌&&◌, refl, sym, ap, ◌∙◌, subst}
+use Rattle.w16_model.proofs.Common.{◌≡◌, ◌≢◌, ℕ, ◌+◌, ◌<◌, ◌≤◌, inl, inr, ⊎_elim, IfSome, List, length, AllPairs, Option, Some, is_some, unwrap_or, ◌&&◌, refl, sym, ap, ◌∙◌, subst, cases_eq, Block, Misses, block_end, is_member, Heap, Object, IsHeap, IsCounted, IsMultiple, blocks, object_at, hold_of_object, is_in_order, is_discardable}
 use Rattle.std.specs.FinMap as finmap
-use Rattle.std.proofs.lemmas.Bool.{cases_eq}
-use Rattle.w16_model.specs.declared.Block.{Block}
-use Rattle.w16_model.specs.Gap.{Misses, block_end}
-use Rattle.w16_model.specs.Discards.{is_member}
-use Rattle.w16_model.specs.Heap.{Heap, Object, IsHeap, IsCounted, IsMultiple, blocks, object_at, hold_of_object, is_in_order, is_discardable}
 use Rattle.w16_model.proofs.Gaps.{Member, Each-at, Each-from, Each-from_All, All-from_Each}
 use Rattle.w16_model.proofs.Heaps.{IsBlockOf, block_member, member_block}
 use Rattle.w16_model.proofs.Places.{placed_from, two_placed}

@@ -1,28 +1,6 @@
 -- Each call keeps what holds of handles; GlobalReAlloc leaves the heap where it is NULL, and discards as few as it can.
-use Rattle.std.proofs.Common.{◌≡◌, ◌≢◌, ℕ, ◌<◌, inl, inr, Bool, true, false, ◌||◌, ◌==◌, nat_lt, MatchBool, MatchOption, IfOk, IfSome, IsSomeAnd, take, Option, Some, None, Result, Ok, Err, is_some, option_map, unwrap_or, refl, sym, ap, ◌∙◌, subst, arith, ne_eqb, ltb-true}
-use Rattle.std.proofs.lemmas.Bool.{false≢true, cases_Bool, cases_eq}
-use Rattle.w16_model.specs.declared.Kind.{Kind}
-use Rattle.w16_model.specs.declared.Kind.TheVariants.{Discardable}
-use Rattle.w16_model.specs.declared.Refusal.{Refusal}
+use Rattle.w16_model.proofs.Common.{◌≡◌, ◌≢◌, ℕ, ◌<◌, inl, inr, Bool, true, false, ◌||◌, ◌==◌, nat_lt, MatchBool, MatchOption, IfOk, IfSome, IsSomeAnd, take, Option, Some, None, Result, Ok, Err, is_some, option_map, unwrap_or, refl, sym, ap, ◌∙◌, subst, arith, ne_eqb, ltb-true, false≢true, cases_Bool, cases_eq, Kind, Discardable, Refusal, LARGEST_SIZE, GMEM_MODIFY, RoomOptions, eligible, is_member, Heap, Object, IsHeap, blocks, object_at, size_of, is_fixed, absent, newest, oldest, with_newest, Reallocates, moved_bytes, stays_for, HandleLaw, Call, Outcome, attributes_asked, Calls, ReAllocs, IsSame, IsUnmoved, IsLocked, IsUnlocked, IsFreed, IsNewest, IsOldest, IsEntered, IsAllocated, IsCompacted, IsModified, IsDiscarded, IsResized, after_modify, after_discard, Handles, AreHandles, slot_of_handle, handle_of, HandleCommand, Answer, GlobalCompacts, has_flag, rounded_size, kind_asked, alloc_options, Word, Dword, GlobalCompact, is_owned, ChangesKind, KeepsRest, LacksPlace, ReallocatesFewest, realloc_options, kind_modified, modified, IsNull, AnswersHandle, Empties, Resizes, ReAllocsOwn, ResizeLaw, NullLaw, ResizeFewestLaw}
 use Rattle.w16_model.specs.declared.Refusal.TheVariants as refusals
-use Rattle.w16_model.specs.declared.TheConstants.{LARGEST_SIZE, GMEM_MODIFY}
-use Rattle.w16_model.specs.declared.RoomOptions.{RoomOptions}
-use Rattle.w16_model.specs.Discards.{eligible, is_member}
-use Rattle.w16_model.specs.Heap.{Heap, Object, IsHeap, blocks, object_at, size_of, is_fixed}
-use Rattle.w16_model.specs.Changes.{absent, newest, oldest, with_newest}
-use Rattle.w16_model.specs.Request.{Reallocates, moved_bytes, stays_for}
-use Rattle.w16_model.specs.Law.{HandleLaw}
-use Rattle.w16_model.specs.Outcomes.{Call, Outcome, attributes_asked}
-use Rattle.w16_model.specs.Outcomes.Call.{Calls, ReAllocs}
-use Rattle.w16_model.specs.Outcomes.Outcome.{IsSame, IsUnmoved, IsLocked, IsUnlocked, IsFreed, IsNewest, IsOldest, IsEntered, IsAllocated, IsCompacted, IsModified, IsDiscarded, IsResized}
-use Rattle.w16_model.specs.OneObject.{after_modify, after_discard}
-use Rattle.w16_model.specs.Handles.{Handles, AreHandles, slot_of_handle, handle_of}
-use Rattle.w16_model.specs.Calls.{HandleCommand, Answer, GlobalCompacts, has_flag, rounded_size, kind_asked, alloc_options}
-use Rattle.w16_model.specs.Calls.Answer.{Word, Dword}
-use Rattle.w16_model.specs.Calls.HandleCommand.{GlobalCompact}
-use Rattle.w16_model.specs.Owned.{is_owned}
-use Rattle.w16_model.specs.Reallocation.{ChangesKind, KeepsRest, LacksPlace, ReallocatesFewest}
-use Rattle.w16_model.specs.Resizes.{realloc_options, kind_modified, modified, IsNull, AnswersHandle, Empties, Resizes, ReAllocsOwn, ResizeLaw, NullLaw, ResizeFewestLaw}
 use Rattle.w16_model.proofs.Fewest.{some_handle}
 use Rattle.w16_model.proofs.Naming.{names_law}
 use Rattle.w16_model.proofs.KeptHandles.{moved_handles, other_handles, same_updated, with_new_object, with_absent_object, without_object, settled_handles, locked_kept, unlocked_kept, ordered_kept}

@@ -1,24 +1,12 @@
 -- The heap of a table has the table's blocks.
-use Rattle.std.proofs.Common.{◌≡◌, ℕ, zero, suc, get_or, ◌+◌, ◌≤◌, ◌<◌, true, false, cond, ◌==◌, IsSomeAnd, List, [], ◌∷◌, map, length, slice_range, Option, Some, None, option_map, unwrap_or, refl, sym, ap, ◌∙◌, subst, arith, inl, inr, eqb-true, eq-eqb, ne_eqb, length-take, length-drop}
-use Rattle.std.specs.Ordering.{nat_cmp, eq_by_cmp}
-use Rattle.std.specs.Cmp.{nat_cmp_total}
+use Rattle.w16_model.proofs.Common.{◌≡◌, ℕ, zero, suc, get_or, ◌+◌, ◌≤◌, ◌<◌, true, false, cond, ◌==◌, IsSomeAnd, List, [], ◌∷◌, map, length, slice_range, Option, Some, None, option_map, unwrap_or, refl, sym, ap, ◌∙◌, subst, arith, inl, inr, eqb-true, eq-eqb, ne_eqb, length-take, length-drop, nat_cmp, eq_by_cmp, nat_cmp_total, get-from_entries, false≢true, Block, block_end, Object, object_at, Table, IsTable, heap_in, object_in, block_with, entry_at, hold_of_entry, by_id, Entry, ◌≢◌, blocks, longest_hole}
 use Rattle.std.specs.FinMap as finmap
-use Rattle.std.specs.FinMap.{get-from_entries}
 use Rattle.std.specs.FinMap.Entries.{find as find_key}
-use Rattle.std.proofs.lemmas.Bool.{false≢true}
-use Rattle.w16_model.specs.declared.Block.{Block}
-use Rattle.w16_model.specs.Gap.{block_end}
-use Rattle.w16_model.specs.Heap.{Object, object_at}
-use Rattle.w16_model.specs.Table.{Table, IsTable, heap_in, object_in, block_with, entry_at, hold_of_entry, by_id}
-use Rattle.w16_model.specs.declared.Entry.{Entry}
 use Rattle.w16_model.proofs.Gaps.{EachPair, Member, Each-at, Each-from_All, EachPair-from_AllPairs}
 use Rattle.w16_model.proofs.Heaps.{IsBlockOf, tied_itself, untied}
-use Rattle.std.proofs.Common.{◌≢◌}
 use Rattle.w16_model.proofs.Pinned.{longest_hole-permutation}
 use Rattle.w16_model.proofs.Heaps.{blocks_permutation}
 use Rattle.w16_model.proofs.Gaps.{EachPair-map}
-use Rattle.w16_model.specs.Heap.{blocks}
-use Rattle.w16_model.specs.Gap.{longest_hole}
 use Rattle.w16_model.proofs.Places.{same_id}
 use Rattle.w16_model.proofs.Laid.{laid_each}
 

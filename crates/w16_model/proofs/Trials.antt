@@ -1,9 +1,5 @@
 -- What the plain program finds by trying each number of discards.
-use Rattle.std.specs.List.{find, range_with_len}
-use Rattle.std.proofs.Common.{◌≡◌, ℕ, suc, ◌+◌, ◌-◌, ◌<◌, Bool, false, cond, not, ◌||◌, List, Option, Some, sym, ap, ◌∙◌, subst, arith}
-use Rattle.w16_model.specs.declared.Block.{Block}
-use Rattle.w16_model.specs.Gap.{ArePlaced}
-use Rattle.w16_model.specs.Discards.{is_member, is_about, blocks_without}
+use Rattle.w16_model.proofs.Common.{find, range_with_len, ◌≡◌, ℕ, suc, ◌+◌, ◌-◌, ◌<◌, Bool, false, cond, not, ◌||◌, List, Option, Some, sym, ap, ◌∙◌, subst, arith, Block, ArePlaced, is_member, is_about, blocks_without}
 use Rattle.w16_model.proofs.Least.{placed_filter}
 
 -- the blocks that are left are placed

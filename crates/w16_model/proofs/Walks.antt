@@ -1,10 +1,6 @@
 -- A walk of a heap is the only one.
-use Rattle.std.specs.List.{AllByRecursion as Each, Contains}
-use Rattle.std.proofs.Common.{◌≡◌, ℕ, zero, suc, ◌<◌, inl, inr, List, [], ◌∷◌, refl, sym, ◌∙◌, subst, arith}
-use Rattle.w16_model.specs.declared.Kind.{Kind}
-use Rattle.w16_model.specs.declared.Item.{Item}
-use Rattle.w16_model.specs.Heap.{Heap}
-use Rattle.w16_model.specs.Walk.{IsItem, IsWalk}
+use Rattle.w16_model.proofs.Common.{Contains, ◌≡◌, ℕ, zero, suc, ◌<◌, inl, inr, List, [], ◌∷◌, refl, sym, ◌∙◌, subst, arith, Kind, Item, Heap, IsItem, IsWalk}
+use Rattle.std.specs.List.{AllByRecursion as Each}
 use Rattle.w16_model.proofs.Gaps.{EachPair, Member, Each-at, Each-from_All, EachPair-from_AllPairs}
 
 -- what a list contains is a member of it

@@ -1,12 +1,6 @@
 -- Reading blocks of resources until there is none, as a loop does.
-use Rattle.std.proofs.Common.{◌≡◌, ℕ, zero, suc, ◌-◌, ◌+◌, ◌*◌, ◌≤◌, ◌<◌, true, ltb, eqb, List, Option, Some, None, [], ◌∷◌, ◌++◌, length, take, drop, Ok, Err, refl, sym, ap, ◌∙◌, arith}
-use Rattle.std.proofs.lemmas.Bool.Decides.{nat_tests}
-use Rattle.std.proofs.lemmas.List.{append-nil}
-use Rattle.w16_ne.specs.declared.fault.NeFault.{NeFault}
+use Rattle.w16_ne.proofs.Common.{◌≡◌, ℕ, zero, suc, ◌-◌, ◌+◌, ◌*◌, ◌≤◌, ◌<◌, true, ltb, eqb, List, Option, Some, None, [], ◌∷◌, ◌++◌, length, take, drop, Ok, Err, refl, sym, ap, ◌∙◌, arith, nat_tests, append-nil, NeFault, Block, Reading, length_at, word_of, block_at, blocks_from, blocks_at}
 use Rattle.w16_ne.specs.declared.fault.NeFault.TheVariants as faults
-use Rattle.w16_ne.specs.declared.resource_blocks.Block.{Block}
-use Rattle.w16_ne.specs.Reading.{Reading, length_at, word_of}
-use Rattle.w16_ne.specs.Resources.{block_at, blocks_from, blocks_at}
 use Rattle.w16_ne.proofs.Each.{with_front, regroup}
 use Rattle.w16_ne.proofs.Until.{reads_ok, goes_past}
 

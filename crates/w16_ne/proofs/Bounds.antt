@@ -1,7 +1,5 @@
 -- Tests that end a loop over a table, or refuse it.
-use Rattle.std.proofs.Common.{◌≡◌, ℕ, ◌≤◌, ◌<◌, ◌==◌, ◌||◌, true, false, arith}
-use Rattle.std.specs.Prelude.{nat_lt, nat_le}
-use Rattle.std.proofs.lemmas.Bool.Decides.{nat_tests}
+use Rattle.w16_ne.proofs.Common.{◌≡◌, ℕ, ◌≤◌, ◌<◌, ◌==◌, ◌||◌, true, false, arith, nat_lt, nat_le, nat_tests}
 
 pub ends_by_place : (len at byte : ℕ) → len ≤ at → (nat_le len at || byte == 0) ≡ true
 ends_by_place len at byte h = grind (arith, nat_tests)

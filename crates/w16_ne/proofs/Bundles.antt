@@ -1,12 +1,7 @@
 -- Reading bundles one after the other, as a loop does.
-use Rattle.std.proofs.Common.{◌≡◌, ℕ, zero, suc, ◌-◌, ◌+◌, ◌≤◌, ◌<◌, ◌==◌, ◌||◌, Bool, true, false, List, Option, [], ◌∷◌, ◌++◌, length, Ok, Err, refl, sym, ap, ◌∙◌, append_assoc, arith}
-use Rattle.std.specs.Prelude.{nat_lt, nat_le, slice_index}
-use Rattle.std.proofs.lemmas.List.{append-nil}
-use Rattle.w16_ne.specs.declared.fault.NeFault.{NeFault}
+use Rattle.w16_ne.proofs.Common.{◌≡◌, ℕ, zero, suc, ◌-◌, ◌+◌, ◌≤◌, ◌<◌, ◌==◌, ◌||◌, Bool, true, false, List, Option, [], ◌∷◌, ◌++◌, length, Ok, Err, refl, sym, ap, ◌∙◌, append_assoc, arith, nat_lt, nat_le, slice_index, append-nil, NeFault, Reading, ◌>>=◌, each, bundle_end, bundle_in, bundles_from}
 use Rattle.w16_ne.specs.declared.fault.NeFault.TheVariants as faults
 use Rattle.w16_ne.specs.declared.entry_table.Entry.{Entry}
-use Rattle.w16_ne.specs.Reading.{Reading, ◌>>=◌, each}
-use Rattle.w16_ne.specs.Entries.{bundle_end, bundle_in, bundles_from}
 use Rattle.w16_ne.proofs.Each.{with_front}
 
 bind_length : {T : Type 0} (x : T) (read : Reading (List T)) (n : ℕ) (xs : List T) → ((ys : List T) → read ≡ Ok ys → length ys ≡ n) → (read >>= λ others. Ok (x ∷ others)) ≡ Ok xs → length xs ≡ suc n

@@ -1,14 +1,8 @@
 -- Entries are read exactly where they are.
-use Rattle.std.proofs.Common.{◌≡◌, ℕ, zero, suc, ◌+◌, ◌*◌, ◌≤◌, ◌<◌, ◌⊎◌, inl, inr, Bool, true, false, ◌||◌, cond, List, [], ◌∷◌, ◌++◌, length, length-append, Option, Some, None, Ok, Err, refl, sym, ap, subst, ◌∙◌, arith}
-use Rattle.std.specs.List.{flat_map}
-use Rattle.std.specs.Prelude.{◌==◌, slice_index, nat_lt, nat_le}
-use Rattle.std.proofs.lemmas.Bool.Decides.{nat_tests}
+use Rattle.w16_ne.proofs.Common.{◌≡◌, ℕ, zero, suc, ◌+◌, ◌*◌, ◌≤◌, ◌<◌, ◌⊎◌, inl, inr, Bool, true, false, ◌||◌, cond, List, [], ◌∷◌, ◌++◌, length, length-append, Option, Some, None, Ok, Err, refl, sym, ap, subst, ◌∙◌, arith, flat_map, ◌==◌, slice_index, nat_lt, nat_le, nat_tests, InSegment, Constant, Reading, ◌>>=◌, each, entry_size, bundle_end, is_astray, sound_entry, bundle_in, bundles_from, entries_in, IsInside, AreEntries, AreBundles, IsEntryTable}
 use Rattle.w16_ne.specs.declared.fault.NeFault.TheVariants as faults
 use Rattle.w16_ne.specs.declared.entry_table.Entry.{Entry}
-use Rattle.w16_ne.specs.declared.entry_table.Entry.TheVariants.{InSegment, Constant}
-use Rattle.w16_ne.specs.Reading.{Reading, ◌>>=◌, each}
-use Rattle.w16_ne.specs.Entries.{entry_size, bundle_end, entry_in, is_astray, sound_entry, bundle_in, bundles_from, entries_in}
-use Rattle.w16_ne.specs.EntriesFormat.{IsInside, AreEntries, AreBundles, IsEntryTable}
+use Rattle.w16_ne.specs.Entries.{entry_in}
 use Rattle.w16_ne.proofs.Bounds.{ends_by_place, ends_by_byte, goes_further, is_sound}
 use Rattle.w16_ne.proofs.SegmentsFormat.{bind_ok, passed}
 

@@ -1,11 +1,7 @@
 -- Faults of the store and of the file.
-use Rattle.std.proofs.Common.{◌≡◌, ℕ, ◌+◌, List, length, take, drop, Option, Some, None, Result, Ok, Err, Bool, true, false, cond, refl}
-use Rattle.std.specs.Prelude.{nat_lt}
-use Rattle.w16_store.specs.Files.{bytes_of}
+use Rattle.w16_ne.proofs.Common.{◌≡◌, ℕ, ◌+◌, List, length, take, drop, Option, Some, None, Result, Ok, Err, Bool, true, false, cond, refl, nat_lt, bytes_of, NeFault, Refuses, IsOfFile, bytes_or}
 use Rattle.w16_store.specs.declared.store.StoreFault.TheVariants as stores
-use Rattle.w16_ne.specs.declared.fault.NeFault.{NeFault}
 use Rattle.w16_ne.specs.declared.fault.NeFault.TheVariants as faults
-use Rattle.w16_ne.specs.Reading.{Refuses, IsOfFile, bytes_or}
 
 pub fails_of_file : {Y : Type 0} (file : Option (List ℕ)) (before after : ℕ) (e : NeFault) (read : Result Y NeFault) → IsOfFile e → read ≡ Err e → Refuses file before after e read
 fails_of_file file before after faults.NotMz read plain h = h

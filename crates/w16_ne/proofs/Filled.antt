@@ -1,10 +1,6 @@
 -- Blocks without resources add nothing.
-use Rattle.std.proofs.Common.{◌≡◌, ℕ, ◌+◌, true, List, [], ◌∷◌, length, Option, refl, sym, ap, ◌∙◌, arith, zero-add}
-use Rattle.std.specs.Prelude.{nat_lt}
-use Rattle.std.proofs.lemmas.Bool.Decides.{nat_tests}
-use Rattle.std.proofs.lemmas.List.Sums.{sum_by-cons}
-use Rattle.w16_ne.specs.Reading.{Reading, ◌>>=◌}
-use Rattle.w16_ne.specs.Resources.{Label, Entry, Typed, filled, resource_count, are_placed, are_all_placed}
+use Rattle.w16_ne.proofs.Common.{◌≡◌, ℕ, ◌+◌, true, List, [], ◌∷◌, length, Option, refl, sym, ap, ◌∙◌, arith, zero-add, nat_lt, nat_tests, sum_by-cons, Reading, ◌>>=◌, Label, Typed, filled, resource_count, are_placed, are_all_placed}
+use Rattle.w16_ne.specs.Resources.{Entry}
 
 -- a type without resources is left out, and any other stays
 left_out : (k : Label) (ts : List Typed) → filled ((k, []) ∷ ts) ≡ filled ts

@@ -1,10 +1,6 @@
 -- A header is read exactly where it is.
-use Rattle.std.proofs.Common.{◌≡◌, ℕ, ◌+◌, ◌≤◌, ◌<◌, ◌⊎◌, inl, inr, Bool, true, false, not, ◌&&◌, ◌||◌, ltb, eqb, List, length, take, drop, Some, Ok, refl, sym, subst, ◌∙◌, arith, bit_and}
-use Rattle.std.proofs.lemmas.Bool.Decides.{nat_tests}
+use Rattle.w16_ne.proofs.Common.{◌≡◌, ℕ, ◌+◌, ◌≤◌, ◌<◌, ◌⊎◌, inl, inr, Bool, true, false, not, ◌&&◌, ◌||◌, ltb, eqb, List, length, take, drop, Some, Ok, refl, sym, subst, ◌∙◌, arith, bit_and, nat_tests, word_of, dword_of, place_at, header_at, fields_of, flags_of, segment_count, shift_of, target_of, IsOldHeader, IsHeader, IsAccepted}
 use Rattle.w16_ne.specs.declared.fault.NeFault.TheVariants as faults
-use Rattle.w16_ne.specs.Reading.{word_of, dword_of}
-use Rattle.w16_ne.specs.Header.{place_at, header_at, fields_of, flags_of, segment_count, shift_of, target_of}
-use Rattle.w16_ne.specs.HeaderFormat.{IsOldHeader, IsHeader, IsAccepted}
 use Rattle.w16_ne.proofs.Until.{reads_ok}
 use Rattle.w16_ne.proofs.NamesFormat.{cut_word}
 use Rattle.w16_ne.proofs.SegmentsFormat.{passed}

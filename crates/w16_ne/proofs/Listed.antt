@@ -1,10 +1,6 @@
 -- Reading the names of a table one after the other, as a loop does.
-use Rattle.std.proofs.Common.{◌≡◌, ℕ, suc, ◌-◌, ◌+◌, ◌≤◌, ◌<◌, ◌==◌, ◌||◌, Bool, true, false, List, [], ◌∷◌, ◌++◌, length, take, drop, Ok, Err, refl, sym, ap, ◌∙◌, arith}
-use Rattle.std.specs.Prelude.{nat_lt, nat_le, slice_index}
-use Rattle.std.proofs.lemmas.List.{append-nil}
+use Rattle.w16_ne.proofs.Common.{◌≡◌, ℕ, suc, ◌-◌, ◌+◌, ◌≤◌, ◌<◌, ◌==◌, ◌||◌, Bool, true, false, List, [], ◌∷◌, ◌++◌, length, take, drop, Ok, Err, refl, sym, ap, ◌∙◌, arith, nat_lt, nat_le, slice_index, append-nil, Reading, word_of, Entry, names_in}
 use Rattle.w16_ne.specs.declared.fault.NeFault.TheVariants as faults
-use Rattle.w16_ne.specs.Reading.{Reading, word_of}
-use Rattle.w16_ne.specs.Names.{Entry, names_in}
 use Rattle.w16_ne.proofs.Each.{with_front, regroup}
 
 abbrev pub is_end : List ℕ → ℕ → Bool

@@ -1,21 +1,7 @@
 -- A module is read exactly where it is, and a file has one.
-use Rattle.std.proofs.Common.{◌≡◌, ℕ, ◌+◌, ◌<◌, ◌⊎◌, inl, inr, Bool, true, false, cond, ltb, eqb, List, [], length, take, drop, Option, Some, Ok, Err, refl, sym, ap, subst, ◌∙◌, arith}
-use Rattle.std.proofs.lemmas.Bool.Decides.{nat_tests}
-use Rattle.w16_ne.specs.declared.fault.NeFault.{NeFault}
+use Rattle.w16_ne.proofs.Common.{◌≡◌, ℕ, ◌+◌, ◌<◌, ◌⊎◌, inl, inr, Bool, true, false, cond, ltb, eqb, List, [], length, take, drop, Option, Some, Ok, Err, refl, sym, ap, subst, ◌∙◌, arith, nat_tests, NeFault, Reading, ◌>>=◌, bytes_or, place_at, header_at, fields_of, entry_table, entry_length, segment_count, nonresident_length, nonresident_names, resident_names, segments_at, Entry, names_at, resident_at, table_names, nonresident_at, references_at, entries_in, table_at, resources_at, Tables, tables_of, tables_behind, tables_at, AreNames, AreListed, IsEntryTable, IsPart, IsModule, ModuleFormatLaw, OneModuleLaw}
 use Rattle.w16_ne.specs.declared.fault.NeFault.TheVariants as faults
 use Rattle.w16_ne.specs.declared.entry_table.Entry as entries
-use Rattle.w16_ne.specs.Reading.{Reading, ◌>>=◌, bytes_or}
-use Rattle.w16_ne.specs.Header.{place_at, header_at, fields_of, entry_table, entry_length, segment_count, nonresident_length, nonresident_names, resident_names}
-use Rattle.w16_ne.specs.Segments.{segments_at}
-use Rattle.w16_ne.specs.Names.{Entry, names_at, resident_at, table_names, nonresident_at}
-use Rattle.w16_ne.specs.References.{references_at}
-use Rattle.w16_ne.specs.Entries.{entries_in, table_at}
-use Rattle.w16_ne.specs.Resources.{resources_at}
-use Rattle.w16_ne.specs.Modules.{Tables, tables_of, tables_behind, tables_at}
-use Rattle.w16_ne.specs.NamesFormat.{AreNames, AreListed}
-use Rattle.w16_ne.specs.EntriesFormat.{IsEntryTable}
-use Rattle.w16_ne.specs.ModuleFormat.{IsPart, IsModule}
-use Rattle.w16_ne.specs.Law.{ModuleFormatLaw, OneModuleLaw}
 use Rattle.w16_ne.proofs.Until.{reads_ok}
 use Rattle.w16_ne.proofs.NamesFormat.{names_format}
 use Rattle.w16_ne.proofs.SegmentsFormat.{bind_ok, passed, segments_format}

@@ -1,27 +1,7 @@
 -- Names in order, and how one is found among them.
-use Rattle.std.proofs.Common.{◌≡◌, ℕ, zero, suc, ◌+◌, ◌<◌, ◌≤◌, Bool, true, false, cond, ltb, ◌||◌, List, [], ◌∷◌, ◌++◌, length, map, get_or, Option, Some, None, refl, sym, ap, ◌∙◌, arith}
-use Rattle.std.specs.Prelude.{option_map, unwrap_or, nat_eq}
-use Rattle.std.specs.Cmp.{IsStrictWeakOrder}
-use Rattle.std.specs.Cmp.Lexicographic.{slice_cmp}
-use Rattle.std.specs.Fn.{Called, ComparesAs}
-use Rattle.std.specs.List.{AllByRecursion, find, list_any, range_with_len}
-use Rattle.std.specs.List.Sorted.{IsSortedBy, IsPartitionedBy, IsPartitionPoint}
-use Rattle.std.specs.Ordering.{nat_cmp, is_lt, ordering_then}
-use Rattle.std.specs.declared.cmp.Ordering.{Ordering}
-use Rattle.std.specs.declared.cmp.Ordering.TheVariants.{Less, Equal, Greater}
-use Rattle.std.specs.Char.{to_ascii_uppercase}
-use Rattle.std.specs.Str.{bytes_eq, str_to_ascii_uppercase}
+use Rattle.w16_ne.proofs.Common.{◌≡◌, ℕ, zero, suc, ◌+◌, ◌<◌, ◌≤◌, Bool, true, false, cond, ltb, ◌||◌, List, [], ◌∷◌, ◌++◌, length, map, get_or, Option, Some, None, refl, sym, ap, ◌∙◌, arith, option_map, unwrap_or, nat_eq, IsStrictWeakOrder, slice_cmp, Called, ComparesAs, AllByRecursion, find, list_any, range_with_len, IsSortedBy, IsPartitionedBy, IsPartitionPoint, nat_cmp, is_lt, ordering_then, Ordering, Less, Equal, Greater, to_ascii_uppercase, bytes_eq, str_to_ascii_uppercase, nat_tests, same_from_decides, nat_cmp_total, nat_list_cmp_total, then_total, on_total, tied_itself, ranked, length-map, always_returns_same, ranks_by, sorted_far, bytes_eq-Decides, is_named, is_named-Decides, Entry, upper, IsUpper, text_of, compared, comes_before, IsOrder, ordinal_in}
 use denote.Param.Members.{Mut}
 use denote.Ref.{Bor}
-use Rattle.std.proofs.lemmas.Bool.Decides.{nat_tests, same_from_decides}
-use Rattle.std.proofs.lemmas.Cmp.{nat_cmp_total, nat_list_cmp_total, then_total, on_total, tied_itself, ranked}
-use Rattle.std.proofs.lemmas.List.{length-map}
-use Rattle.std.proofs.lemmas.Fn.{always_returns_same}
-use Rattle.std.proofs.lemmas.List.Sorted.{ranks_by, sorted_far}
-use Rattle.std.proofs.lemmas.Slice.Eq.{bytes_eq-Decides}
-use Rattle.w16_store.specs.Names.{is_named}
-use Rattle.w16_store.proofs.Naming.{is_named-Decides}
-use Rattle.w16_ne.specs.Names.{Entry, upper, IsUpper, text_of, compared, comes_before, IsOrder, ordinal_in}
 
 -- Upper-casing.
 

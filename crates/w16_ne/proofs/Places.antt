@@ -1,21 +1,7 @@
 -- Rows of blocks: how many they are, their places, and the one of a place.
-use Rattle.std.proofs.Common.{◌≡◌, ℕ, zero, suc, ◌-◌, ◌+◌, ◌≤◌, ◌<◌, true, false, cond, ltb, List, [], ◌∷◌, ◌++◌, length, map, take, drop, get_or, Option, Some, None, Ok, Err, All, slice_get, refl, sym, ap, subst, ◌∙◌, arith, length-drop, length-append}
-use Rattle.std.specs.Prelude.{nat_lt}
-use Rattle.std.specs.List.{AllByRecursion}
-use Rattle.std.proofs.lemmas.Bool.Decides.{nat_tests}
-use Rattle.std.proofs.lemmas.List.{length-map, length-take, map-append, take-append-drop, take-append-le, drop-append-le, append-nil, append_cancel_left}
-use Rattle.std.proofs.lemmas.List.Elements.{All-append, All-push}
-use Rattle.std.proofs.lemmas.List.Sums.{sum_by-cons}
-use Rattle.std.proofs.Common.{take_all, add-one}
-use Rattle.std.proofs.Math.Seq.{drop-cons}
-use Rattle.w16_ne.specs.declared.fault.NeFault.{NeFault}
-use Rattle.w16_ne.specs.declared.resource_rows.Row.{Row}
-use Rattle.w16_ne.specs.declared.resource_rows.Group.{Group}
-use Rattle.w16_ne.specs.declared.resource_rows.Rows.{Rows}
-use Rattle.w16_ne.specs.Reading.{Reading, ◌>>=◌}
-use Rattle.w16_ne.specs.Resources.{Label, Entry, Typed, filled, resource_count, is_placed, are_placed, are_all_placed}
-use Rattle.w16_ne.specs.Rows.{HasLabel, label_in, entry_in, grouped, total, kind_at, AreRows, AreAdded, AreEntries}
-use Rattle.w16_ne.specs.Modules.{listed_resources}
+use Rattle.w16_ne.proofs.Common.{◌≡◌, ℕ, zero, suc, ◌-◌, ◌+◌, ◌≤◌, ◌<◌, true, false, cond, ltb, List, [], ◌∷◌, ◌++◌, length, map, take, drop, get_or, Option, Some, None, Ok, Err, All, slice_get, refl, sym, ap, subst, ◌∙◌, arith, length-drop, length-append, nat_lt, AllByRecursion, nat_tests, length-map, length-take, map-append, take-append-drop, take-append-le, drop-append-le, append-nil, append_cancel_left, All-append, All-push, sum_by-cons, take_all, add-one, drop-cons, NeFault, Row, Group, Rows, Reading, ◌>>=◌, Label, Typed, filled, resource_count, is_placed, are_placed, are_all_placed, HasLabel, label_in, entry_in, grouped, total, kind_at, AreRows, AreAdded, listed_resources}
+use Rattle.w16_ne.specs.Resources.{Entry}
+use Rattle.w16_ne.specs.Rows.{AreEntries}
 
 abbrev count_of : Group → ℕ
 count_of g = g.count

@@ -1,13 +1,7 @@
 -- Resources are read exactly where they are.
-use Rattle.std.proofs.Common.{◌≡◌, ◌≢◌, ℕ, zero, suc, ◌+◌, ◌-◌, ◌*◌, ◌^◌, ◌≤◌, ◌<◌, ◌⊎◌, inl, inr, Bool, true, false, cond, ltb, eqb, List, [], ◌∷◌, length, take, drop, Option, Some, None, Ok, Err, refl, sym, ap, subst, ◌∙◌, arith}
-use Rattle.std.proofs.lemmas.Bool.Decides.{nat_tests}
+use Rattle.w16_ne.proofs.Common.{◌≡◌, ◌≢◌, ℕ, zero, suc, ◌+◌, ◌-◌, ◌*◌, ◌^◌, ◌≤◌, ◌<◌, ◌⊎◌, inl, inr, Bool, true, false, cond, ltb, eqb, List, [], ◌∷◌, length, take, drop, Option, Some, None, Ok, Err, refl, sym, ap, subst, ◌∙◌, arith, nat_tests, Block, Reading, ◌>>=◌, bytes_or, reaches, word_of, each, resource_table, resident_names, text_at, Label, Number, Text, Typed, block_at, blocks_from, blocks_at, label_at, resource_at, resources_of, typed_at, all_typed, is_placed, are_placed, are_all_placed, resource_count, filled, typed_in, resources_at, IsLabel, IsResource, AreResources, IsBlock, AreBlocks, IsResourceTable, HasResources}
 use Rattle.w16_ne.specs.declared.fault.NeFault.TheVariants as faults
-use Rattle.w16_ne.specs.declared.resource_blocks.Block.{Block}
-use Rattle.w16_ne.specs.Reading.{Reading, ◌>>=◌, bytes_or, reaches, word_of, each}
-use Rattle.w16_ne.specs.Header.{resource_table, resident_names}
-use Rattle.w16_ne.specs.References.{text_at}
-use Rattle.w16_ne.specs.Resources.{Label, Number, Text, Entry, Typed, block_at, blocks_from, blocks_at, label_at, resource_at, resources_of, typed_at, all_typed, is_placed, are_placed, are_all_placed, resource_count, filled, typed_in, resources_at}
-use Rattle.w16_ne.specs.ResourcesFormat.{IsLabel, IsResource, AreResources, IsBlock, AreBlocks, IsResourceTable, HasResources}
+use Rattle.w16_ne.specs.Resources.{Entry}
 use Rattle.w16_ne.proofs.Until.{reads_ok, goes_past}
 use Rattle.w16_ne.proofs.NamesFormat.{cut_word, ends_here, goes_on_past}
 use Rattle.w16_ne.proofs.SegmentsFormat.{bind_ok, passed, reached, reaches_there, word_here}

@@ -1,8 +1,5 @@
 -- The tables of a module, from its names as they were put together.
-use Rattle.std.proofs.Common.{◌≡◌, List, ◌++◌, length, map, drop, refl, sym, ap, ◌∙◌}
-use Rattle.std.proofs.lemmas.List.{length-map, map-append}
-use Rattle.w16_ne.specs.Names.{Entry, upper, first_text}
-use Rattle.w16_ne.specs.Modules.{Tables, tables_of}
+use Rattle.w16_ne.proofs.Common.{◌≡◌, List, ◌++◌, length, map, drop, refl, sym, ap, ◌∙◌, length-map, map-append, Entry, upper, first_text, Tables, tables_of}
 
 pub same_tables : (t : Tables) (l m before : List Entry) → t.name ≡ first_text l → t.description ≡ first_text m → before ≡ map upper (drop 1 l) → t.names ≡ before ++ map upper (drop 1 m) → t.resident ≡ length before
     → tables_of t.place t.header t.segments l t.references t.entries m t.resources ≡ t

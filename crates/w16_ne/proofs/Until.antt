@@ -1,15 +1,8 @@
 -- Reading names until there is none, as a loop does.
-use Rattle.std.proofs.Common.{◌≡◌, ℕ, zero, suc, ◌-◌, ◌+◌, ◌≤◌, ◌<◌, List, Option, Some, None, [], ◌∷◌, ◌++◌, Result, Ok, Err, refl, sym, ap, ◌∙◌, arith}
-use Rattle.std.proofs.lemmas.List.{append-nil, length-take}
+use Rattle.w16_ne.proofs.Common.{◌≡◌, ℕ, zero, suc, ◌-◌, ◌+◌, ◌≤◌, ◌<◌, List, Option, Some, None, [], ◌∷◌, ◌++◌, Result, Ok, Err, refl, sym, ap, ◌∙◌, arith, append-nil, length-take, NeFault, Found, Reading, ◌>>=◌, Gives, Refuses, Refused, length_at, word_of, Entry, found_in, size, name_at, names_at, names_from, nat_tests, ltb, eqb, Bool, true, false, cond, length, length-drop, take, drop, get_or}
 use Rattle.w16_store.specs.declared.store.StoreFault.TheVariants as stores
-use Rattle.w16_ne.specs.declared.fault.NeFault.{NeFault}
 use Rattle.w16_ne.specs.declared.fault.NeFault.TheVariants as faults
-use Rattle.w16_ne.specs.declared.name_piece.Found.{Found}
-use Rattle.w16_ne.specs.Reading.{Reading, ◌>>=◌, Gives, Refuses, Refused, length_at, word_of}
-use Rattle.w16_ne.specs.Names.{Entry, found_in, size, name_at, names_at, names_from}
 use Rattle.w16_ne.proofs.Each.{with_front, regroup}
-use Rattle.std.proofs.lemmas.Bool.Decides.{nat_tests}
-use Rattle.std.proofs.Common.{ltb, eqb, Bool, true, false, cond, length, length-drop, take, drop, get_or}
 
 -- what failed is told further: a fault of the file as it was, one of the store over a longer time
 pub fails_on : {A B : Type 0} (file : Option (List ℕ)) (old before after : ℕ) (e : NeFault) (read : Result A NeFault) (total : Result B NeFault) → old ≤ before → Refuses file before after e read → (read ≡ Err e → total ≡ Err e) → Refuses file old after e total

@@ -1,3 +1,4 @@
+pub mod Common
 pub mod Bytes
 mod Lends
 mod Pairs

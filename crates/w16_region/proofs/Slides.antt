@@ -1,10 +1,6 @@
 -- A part that is slid down, piece by piece.
-use Rattle.std.proofs.Common.{ℕ, ◌≡◌, ◌+◌, ◌-◌, ◌<◌, ◌≤◌, List, ◌++◌, length, take, drop, arith, sym, ◌∙◌, ap, length-append, append_assoc}
-use Rattle.std.proofs.Math.Seq.{take-add}
-use Rattle.std.proofs.lemmas.List.{length-take-le, take_at, drop-drop, drop-take, take-take, take-append-drop}
+use Rattle.w16_region.proofs.Common.{ℕ, ◌≡◌, ◌+◌, ◌-◌, ◌<◌, ◌≤◌, List, ◌++◌, length, take, drop, arith, sym, ◌∙◌, ap, length-append, append_assoc, take-add, length-take-le, take_at, drop-drop, drop-take, take-take, take-append-drop, part, put_part, length-part, length-put_part, drop-put_part}
 use borrow.Rule.Slice.PartMut.{put_mid}
-use Rattle.w16_model.specs.Bytes.{part, put_part}
-use Rattle.w16_model.proofs.Parts.{length-part, length-put_part, drop-put_part}
 
 -- two pieces, one behind the other
 joined : (bytes : List ℕ) (from a b : ℕ) → part bytes from a ++ part bytes (from + a) b ≡ part bytes from (a + b)

@@ -1,15 +1,5 @@
 -- Sites that lie apart, and the same said of one after another.
-use Rattle.std.proofs.Common.{◌≡◌, ℕ, ◌+◌, ◌<◌, ◌≤◌, List, [], ◌∷◌, ◌++◌, length, Bool, true, false, cond, refl, arith}
-use Rattle.std.specs.Prelude.{All, count_by, ◌||◌}
-use Rattle.std.specs.List.{list_any, AllByRecursion}
-use Rattle.std.proofs.lemmas.List.Elements.{All-head, All-tail, All-nil, All-cons}
-use Rattle.std.proofs.lemmas.List.Sums.{sum_by-cons}
-use Rattle.w16_reloc.specs.declared.record.Part.{Part}
-use Rattle.w16_reloc.specs.declared.record.Part.TheVariants.{LowByte, Selector, Pointer, Offset}
-use Rattle.w16_reloc.specs.declared.record.Record.{Record}
-use Rattle.w16_reloc.specs.declared.record.Record.TheVariants.{Stored, Added, System}
-use Rattle.w16_reloc.specs.Sites.{Site, covers, meets, AreApart, AreSound}
-use Rattle.w16_reloc.specs.Sound.{Names, AreNamed, of_width, width_of, all_sites, value_width, chain_width}
+use Rattle.w16_reloc.proofs.Common.{◌≡◌, ℕ, ◌+◌, ◌<◌, ◌≤◌, List, [], ◌∷◌, ◌++◌, length, Bool, true, false, cond, refl, arith, All, count_by, ◌||◌, list_any, AllByRecursion, All-head, All-tail, All-nil, All-cons, sum_by-cons, Part, LowByte, Selector, Pointer, Offset, Record, Stored, Added, System, Site, covers, meets, AreApart, AreSound, Names, AreNamed, of_width, width_of, all_sites, value_width, chain_width}
 use Rattle.w16_reloc.proofs.SiteLemmas.{none_meets}
 use Rattle.w16_reloc.proofs.WalkLemmas.{site_apart, chain_wide}
 

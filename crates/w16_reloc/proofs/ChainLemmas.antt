@@ -1,12 +1,5 @@
 -- One step of a chain, as the loop goes.
-use Rattle.std.proofs.Common.{◌≡◌, ℕ, suc, ◌+◌, ◌-◌, ◌<◌, ◌≤◌, List, ◌∷◌, length, true, false, Ok, Err, refl, arith}
-use Rattle.std.specs.Prelude.{nat_lt, nat_eq}
-use Rattle.std.specs.List.{list_any}
-use Rattle.w16_ne.specs.Reading.{word_of}
-use Rattle.w16_reloc.specs.declared.fault.RelocFault.{RelocFault}
-use Rattle.w16_reloc.specs.declared.fault.RelocFault.TheVariants.{Overlap}
-use Rattle.w16_reloc.specs.Sites.{Site, meets}
-use Rattle.w16_reloc.specs.Check.{site_at, chain_at}
+use Rattle.w16_reloc.proofs.Common.{◌≡◌, ℕ, suc, ◌+◌, ◌-◌, ◌<◌, ◌≤◌, List, ◌∷◌, length, true, false, Ok, Err, refl, arith, nat_lt, nat_eq, list_any, word_of, RelocFault, Overlap, Site, meets, site_at, chain_at}
 
 pub overlaps : (len : ℕ) (sites : List Site) (at width : ℕ) → at + width ≤ len → list_any (meets (record { at = at; width = width })) sites ≡ true → site_at len sites (record { at = at; width = width }) ≡ Err Overlap
 unfolding site_at

@@ -1,9 +1,5 @@
 -- Sound sites are no more than there are bytes.
-use Rattle.std.proofs.Common.{◌≡◌, ℕ, suc, zero, ◌+◌, ◌<◌, ◌≤◌, List, [], ◌∷◌, length, Bool, true, false, cond, not, refl, arith}
-use Rattle.std.specs.Prelude.{nat_lt, ◌||◌}
-use Rattle.std.specs.List.{list_any}
-use Rattle.w16_reloc.specs.Sites.{Site, covers, meets, AreSound}
-use Rattle.w16_reloc.specs.Sound.{of_width}
+use Rattle.w16_reloc.proofs.Common.{◌≡◌, ℕ, suc, zero, ◌+◌, ◌<◌, ◌≤◌, List, [], ◌∷◌, length, Bool, true, false, cond, not, refl, arith, nat_lt, ◌||◌, list_any, Site, covers, meets, AreSound, of_width}
 use Rattle.w16_reloc.proofs.WalkLemmas.{site_apart}
 
 abbrev count : (ℕ → Bool) → ℕ → ℕ

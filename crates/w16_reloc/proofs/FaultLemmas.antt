@@ -1,18 +1,5 @@
 -- A check that fails has found the first fault.
-use Rattle.std.proofs.Common.{◌≡◌, ◌≢◌, ℕ, suc, zero, ◌+◌, ◌*◌, ◌<◌, ◌≤◌, ◌⊎◌, inl, inr, List, [], ◌∷◌, ◌++◌, length, Bool, true, false, cond, Option, Some, None, Result, Ok, Err, refl, ap, arith, max}
-use Rattle.std.specs.Prelude.{nat_lt, nat_eq, ◌||◌}
-use Rattle.std.specs.List.{list_any}
-use Rattle.w16_ne.specs.Reading.{word_of}
-use Rattle.w16_reloc.specs.declared.fault.RelocFault.{RelocFault}
-use Rattle.w16_reloc.specs.declared.fault.RelocFault.TheVariants.{BadRecord, SiteOutside, Overlap, Store}
-use Rattle.w16_reloc.specs.declared.record.Record.{Record}
-use Rattle.w16_reloc.specs.declared.record.Record.TheVariants.{Stored, Added, System}
-use Rattle.w16_reloc.specs.Sites.{Site, covers, meets, AreSound}
-use Rattle.w16_reloc.specs.Records.{Offer, IsRecord, record_at, is_named}
-use Rattle.w16_reloc.specs.Sound.{AreNamed, AreRecords, of_width, width_of, chain_width, value_width, all_sites}
-use Rattle.w16_reloc.specs.Faults.{LeadsTo, NamesNext, IsAtFault, IsFirstFault}
-use Rattle.w16_reloc.specs.Check.{◌>>=◌, site_at, chain_at, sites_at, formed, check_from}
-use Rattle.w16_reloc.specs.Apply.{joined}
+use Rattle.w16_reloc.proofs.Common.{◌≡◌, ◌≢◌, ℕ, suc, zero, ◌+◌, ◌*◌, ◌<◌, ◌≤◌, ◌⊎◌, inl, inr, List, [], ◌∷◌, ◌++◌, length, Bool, true, false, cond, Option, Some, None, Result, Ok, Err, refl, ap, arith, max, nat_lt, nat_eq, ◌||◌, list_any, word_of, RelocFault, BadRecord, SiteOutside, Overlap, Store, Record, Stored, Added, System, Site, covers, meets, AreSound, Offer, IsRecord, record_at, is_named, AreNamed, AreRecords, of_width, width_of, chain_width, value_width, all_sites, LeadsTo, NamesNext, IsAtFault, IsFirstFault, ◌>>=◌, site_at, chain_at, sites_at, formed, check_from, joined}
 use Rattle.w16_reloc.proofs.SiteLemmas.{meets_covers, meets_inside}
 use Rattle.w16_reloc.proofs.WalkLemmas.{chain_wide}
 use Rattle.w16_reloc.proofs.Count.{no_more_sites}

@@ -1,19 +1,7 @@
 -- The segments of a module lie in its file.
-use Rattle.std.proofs.Common.{◌≡◌, ℕ, suc, zero, ◌+◌, ◌*◌, ◌<◌, ◌≤◌, List, [], ◌∷◌, length, take, drop, Some, Ok, Err, Bool, true, false, cond, refl, ◌∙◌, ap, arith, max}
-use Rattle.std.specs.Prelude.{nat_lt, nat_eq, slice_get, bit_and}
-use Rattle.std.proofs.lemmas.Bool.Decides.{nat_tests}
-use Rattle.w16_ne.specs.declared.fault.NeFault.{NeFault}
+use Rattle.w16_reloc.proofs.Common.{◌≡◌, ℕ, suc, zero, ◌+◌, ◌*◌, ◌<◌, ◌≤◌, List, [], ◌∷◌, length, take, drop, Some, Ok, Err, Bool, true, false, cond, refl, ◌∙◌, ap, arith, max, nat_lt, nat_eq, slice_get, bit_and, nat_tests, NeFault, Segment, Reading, bytes_or, reaches, word_of, each, place_at, header_at, fields_of, shift_of, segment_count, segment_table, records_at, data_at, segment_at, entries_at, segments_at, rounded, resident_at, nonresident_at, references_at, table_at, resources_at, Tables, tables_at, tables_behind, tables_of, LiesIn}
 use Rattle.w16_ne.specs.declared.fault.NeFault.TheVariants as faults
-use Rattle.w16_ne.specs.declared.segment_table.Segment.{Segment}
-use Rattle.w16_ne.specs.Reading.{Reading, ◌>>=◌, bytes_or, reaches, word_of, each}
-use Rattle.w16_ne.specs.Header.{place_at, header_at, fields_of, shift_of, segment_count, segment_table}
-use Rattle.w16_ne.specs.Segments.{records_at, data_at, segment_at, entries_at, segments_at, rounded}
-use Rattle.w16_ne.specs.Names.{resident_at, nonresident_at}
-use Rattle.w16_ne.specs.References.{references_at}
-use Rattle.w16_ne.specs.Entries.{table_at}
-use Rattle.w16_ne.specs.Resources.{resources_at}
-use Rattle.w16_ne.specs.Modules.{Tables, tables_at, tables_behind, tables_of}
-use Rattle.w16_reloc.specs.Segments.{LiesIn}
+use Rattle.w16_ne.specs.Reading.{◌>>=◌}
 
 -- what was read went through each step
 bind_ok : {A B : Type 0} (read : Reading A) (f : A → Reading B) (y : B) → (read >>= f) ≡ Ok y → (x : A) × (read ≡ Ok x) × (f x ≡ Ok y)

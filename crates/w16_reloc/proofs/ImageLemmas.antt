@@ -1,16 +1,5 @@
 -- The values written one after another are the image, offset by offset.
-use Rattle.std.proofs.Common.{◌≡◌, ℕ, ◌+◌, ◌<◌, ◌≤◌, List, [], ◌∷◌, ◌++◌, length, Bool, true, false, refl, sym, ◌∙◌, arith, get_or, drop}
-use Rattle.std.proofs.lemmas.List.{drop_more}
-use Rattle.std.specs.Prelude.{nat_lt, nat_le, ◌&&◌, ◌||◌}
-use Rattle.std.specs.List.{list_any}
-use Rattle.w16_reloc.specs.declared.record.Part.{Part}
-use Rattle.w16_reloc.specs.declared.record.Record.{Record}
-use Rattle.w16_reloc.specs.declared.record.Record.TheVariants.{Stored, Added, System}
-use Rattle.w16_reloc.specs.declared.value.Far.{Far}
-use Rattle.w16_reloc.specs.Sites.{Site, covers, meets, AreSound}
-use Rattle.w16_reloc.specs.Sound.{Names, AreNamed, IsSound, of_width, width_of, all_sites, chain_width, value_width}
-use Rattle.w16_reloc.specs.Images.{Patch, byte, stored_at, added_at, patches_of, patches, image_at, IsImage, value_of, moved, found_at}
-use Rattle.w16_reloc.specs.Apply.{over, over_each, joined, IsReady, IsWritten, IsOpen}
+use Rattle.w16_reloc.proofs.Common.{◌≡◌, ℕ, ◌+◌, ◌<◌, ◌≤◌, List, [], ◌∷◌, ◌++◌, length, Bool, true, false, refl, sym, ◌∙◌, arith, get_or, drop, drop_more, nat_lt, nat_le, ◌&&◌, ◌||◌, list_any, Part, Record, Stored, Added, System, Far, Site, covers, meets, AreSound, Names, AreNamed, IsSound, of_width, width_of, all_sites, chain_width, value_width, Patch, byte, stored_at, added_at, patches_of, patches, image_at, IsImage, value_of, moved, found_at, over, over_each, joined, IsReady, IsWritten, IsOpen}
 use Rattle.w16_reloc.proofs.SiteLemmas.{any_meets}
 use Rattle.w16_reloc.proofs.WalkLemmas.{over_each_same, chain_narrow, value_narrow}
 use Rattle.w16_reloc.proofs.ApartLemmas.{sound_steps}

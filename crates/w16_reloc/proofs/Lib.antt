@@ -1,3 +1,4 @@
+pub mod Common
 pub mod SiteLemmas
 pub mod ChainLemmas
 pub mod WalkLemmas

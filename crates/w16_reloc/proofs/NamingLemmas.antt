@@ -1,21 +1,5 @@
 -- The functions name what a sound segment names, and give its image.
-use Rattle.std.proofs.Common.{◌≡◌, ◌≢◌, ℕ, zero, suc, ◌+◌, ◌-◌, ◌<◌, ◌≤◌, ◌%◌, ◌/◌, List, [], ◌∷◌, ◌++◌, length, Bool, true, false, cond, refl, sym, ◌∙◌, ap, subst, arith, get_or}
-use Rattle.std.specs.Prelude.{nat_lt, nat_le, nat_eq, ◌&&◌, All}
-use Rattle.std.proofs.lemmas.List.{get_or_past}
-use Rattle.std.proofs.lemmas.List.Elements.{All-head, All-tail, All-nil, All-cons}
-use Rattle.std.proofs.lemmas.List.FromFn.{fill_by_all, get_or-map-range_with_len, length-map-range_with_len}
-use Rattle.w16_ne.specs.Reading.{word_of}
-use Rattle.w16_reloc.specs.declared.record.Part.{Part}
-use Rattle.w16_reloc.specs.declared.record.Part.TheVariants.{LowByte, Selector, Pointer, Offset}
-use Rattle.w16_reloc.specs.declared.record.Record.{Record}
-use Rattle.w16_reloc.specs.declared.record.Record.TheVariants.{Stored, Added, System}
-use Rattle.w16_reloc.specs.declared.value.Far.{Far}
-use Rattle.w16_reloc.specs.Sites.{Site, AreSound}
-use Rattle.w16_reloc.specs.Sound.{IsChain, Names, AreNamed, IsSound, of_width, width_of, all_sites, chain_width}
-use Rattle.w16_reloc.specs.Images.{Patch, byte, patches, patches_of, stored_at, added_at, image_at, IsImage, value_of, moved, found_at, word_bytes}
-use Rattle.w16_reloc.specs.Naming.{chain_from, offsets_of, naming, image_of}
-use Rattle.w16_reloc.specs.Apply.{joined}
-use Rattle.w16_reloc.specs.Law.{IsFar}
+use Rattle.w16_reloc.proofs.Common.{◌≡◌, ◌≢◌, ℕ, zero, suc, ◌+◌, ◌-◌, ◌<◌, ◌≤◌, ◌%◌, ◌/◌, List, [], ◌∷◌, ◌++◌, length, Bool, true, false, cond, refl, sym, ◌∙◌, ap, subst, arith, get_or, nat_lt, nat_le, nat_eq, ◌&&◌, All, get_or_past, All-head, All-tail, All-nil, All-cons, fill_by_all, get_or-map-range_with_len, length-map-range_with_len, word_of, Part, LowByte, Selector, Pointer, Offset, Record, Stored, Added, System, Far, Site, AreSound, IsChain, Names, AreNamed, IsSound, of_width, width_of, all_sites, chain_width, Patch, byte, patches, patches_of, stored_at, added_at, image_at, IsImage, value_of, moved, found_at, word_bytes, chain_from, offsets_of, naming, image_of, joined, IsFar}
 use Rattle.w16_reloc.proofs.Count.{no_more_sites}
 use Rattle.w16_reloc.proofs.WalkLemmas.{chain_wide}
 use Rattle.w16_reloc.proofs.ApartLemmas.{sound_steps}

@@ -1,12 +1,5 @@
 -- A sound segment has one image.
-use Rattle.std.proofs.Common.{◌≡◌, ℕ, List, [], ◌∷◌, length, refl, sym, ◌∙◌, get_or}
-use Rattle.std.proofs.lemmas.Grind.{same_number_lists}
-use Rattle.w16_ne.specs.Reading.{word_of}
-use Rattle.w16_reloc.specs.declared.record.Record.{Record}
-use Rattle.w16_reloc.specs.declared.record.Record.TheVariants.{Stored, Added, System}
-use Rattle.w16_reloc.specs.declared.value.Far.{Far}
-use Rattle.w16_reloc.specs.Sound.{IsChain, Names, AreNamed, IsSound}
-use Rattle.w16_reloc.specs.Images.{IsImage}
+use Rattle.w16_reloc.proofs.Common.{◌≡◌, ℕ, List, [], ◌∷◌, length, refl, sym, ◌∙◌, get_or, same_number_lists, word_of, Record, Stored, Added, System, Far, IsChain, Names, AreNamed, IsSound, IsImage}
 
 one_chain : (file : List ℕ) (at : ℕ) (a b : List ℕ) → IsChain file at a → IsChain file at b → a ≡ b
 one_chain file at [] [] first second = refl

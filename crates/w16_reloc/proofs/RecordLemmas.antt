@@ -1,15 +1,5 @@
 -- One record's values, written.
-use Rattle.std.proofs.Common.{◌≡◌, ℕ, ◌+◌, ◌≤◌, List, length, false, refl, ◌∙◌, ap, arith}
-use Rattle.std.specs.List.{list_any}
-use Rattle.w16_reloc.specs.declared.record.Part.{Part}
-use Rattle.w16_reloc.specs.declared.record.Part.TheVariants.{LowByte, Selector, Pointer, Offset}
-use Rattle.w16_reloc.specs.declared.record.Fixup.{Fixup}
-use Rattle.w16_reloc.specs.declared.record.Record.TheVariants.{Stored, Added, System}
-use Rattle.w16_reloc.specs.declared.value.Far.{Far}
-use Rattle.w16_reloc.specs.Sites.{Site, meets}
-use Rattle.w16_reloc.specs.Sound.{of_width, chain_width, value_width}
-use Rattle.w16_reloc.specs.Images.{byte, stored_at, value_of, found_at, moved}
-use Rattle.w16_reloc.specs.Apply.{over, over_each, joined, IsFileOutside, IsWalked, IsReady, IsWritten}
+use Rattle.w16_reloc.proofs.Common.{◌≡◌, ℕ, ◌+◌, ◌≤◌, List, length, false, refl, ◌∙◌, ap, arith, list_any, Part, LowByte, Selector, Pointer, Offset, Fixup, Stored, Added, System, Far, Site, meets, of_width, chain_width, value_width, byte, stored_at, value_of, found_at, moved, over, over_each, joined, IsFileOutside, IsWalked, IsReady, IsWritten}
 use Rattle.w16_reloc.proofs.WalkLemmas.{byte_kept, word_kept, outside_kept, value_narrow, chain_wide, walk_done}
 use Rattle.w16_reloc.proofs.Count.{no_more_sites}
 

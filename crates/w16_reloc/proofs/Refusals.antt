@@ -1,17 +1,7 @@
 -- Faults, told further.
-use Rattle.std.proofs.Common.{◌≡◌, ℕ, suc, ◌-◌, ◌+◌, ◌*◌, ◌≤◌, ◌<◌, List, [], ◌∷◌, ◌++◌, Result, Ok, Err, refl, sym, ap, ◌∙◌, append_assoc, arith}
-use Rattle.std.proofs.lemmas.List.{append-nil}
+use Rattle.w16_reloc.proofs.Common.{◌≡◌, ℕ, suc, ◌-◌, ◌+◌, ◌*◌, ◌≤◌, ◌<◌, List, [], ◌∷◌, ◌++◌, Result, Ok, Err, refl, sym, ap, ◌∙◌, append_assoc, arith, append-nil, RelocFault, Record, Site, OnOk, Segment, Tables, Offer, record_at, ◌>>=◌, IsOfRecords, sites_at, formed, check_from, Held, Refuses, Answers, data_of, records_of, offer_of, checked}
 use Rattle.w16_store.specs.declared.store.StoreFault.TheVariants as stores
-use Rattle.w16_reloc.specs.declared.fault.RelocFault.{RelocFault}
 use Rattle.w16_reloc.specs.declared.fault.RelocFault.TheVariants as faults
-use Rattle.w16_reloc.specs.declared.record.Record.{Record}
-use Rattle.w16_reloc.specs.Sites.{Site}
-use Rattle.std.specs.Prelude.{OnOk}
-use Rattle.w16_ne.specs.declared.segment_table.Segment.{Segment}
-use Rattle.w16_ne.specs.Modules.{Tables}
-use Rattle.w16_reloc.specs.Records.{Offer, record_at}
-use Rattle.w16_reloc.specs.Check.{◌>>=◌, IsOfRecords, sites_at, formed, check_from}
-use Rattle.w16_reloc.specs.Segments.{Held, Refuses, Answers, data_of, records_of, offer_of, checked}
 
 -- a fault of the records as it was, one of the store over a longer time
 pub fails_on : {A B : Type 0} (old before after : ℕ) (e : RelocFault) (said : Result A RelocFault) (total : Result B RelocFault) → old ≤ before → Refuses before after e said → (said ≡ Err e → total ≡ Err e) → Refuses old after e total

@@ -1,9 +1,5 @@
 -- Sites that share bytes, and marks.
-use Rattle.std.proofs.Common.{◌≡◌, ℕ, ◌+◌, ◌<◌, ◌≤◌, List, [], ◌∷◌, length, Bool, true, false, refl, sym, ◌∙◌, arith, max, get_or}
-use Rattle.std.specs.Prelude.{nat_lt, nat_le, ◌&&◌, ◌||◌}
-use Rattle.std.specs.List.{list_any, AllByRecursion}
-use Rattle.w16_reloc.specs.Sites.{Site, covers, meets}
-use Rattle.w16_reloc.specs.Check.{AreMarks}
+use Rattle.w16_reloc.proofs.Common.{◌≡◌, ℕ, ◌+◌, ◌<◌, ◌≤◌, List, [], ◌∷◌, length, Bool, true, false, refl, sym, ◌∙◌, arith, max, get_or, nat_lt, nat_le, ◌&&◌, ◌||◌, list_any, AllByRecursion, Site, covers, meets, AreMarks}
 
 covers_meets : (s : Site) (at width b : ℕ) → covers b s ≡ true → at ≤ b → b < at + width → meets (record { at = at; width = width }) s ≡ true
 covers_meets s at width b h low high = grind arith

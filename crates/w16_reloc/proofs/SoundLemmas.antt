@@ -1,17 +1,5 @@
 -- A check passes exactly where a segment is sound.
-use Rattle.std.proofs.Common.{◌≡◌, ◌≢◌, ℕ, suc, zero, ◌+◌, ◌*◌, ◌<◌, ◌≤◌, List, [], ◌∷◌, ◌++◌, length, Bool, true, false, cond, Option, Some, None, Result, Ok, Err, refl, ap, arith}
-use Rattle.std.specs.Prelude.{nat_lt, nat_eq}
-use Rattle.std.specs.List.{list_any}
-use Rattle.w16_ne.specs.Reading.{word_of}
-use Rattle.w16_reloc.specs.declared.fault.RelocFault.{RelocFault}
-use Rattle.w16_reloc.specs.declared.fault.RelocFault.TheVariants.{BadRecord, SiteOutside, Overlap}
-use Rattle.w16_reloc.specs.declared.record.Record.{Record}
-use Rattle.w16_reloc.specs.declared.record.Record.TheVariants.{Stored, Added, System}
-use Rattle.w16_reloc.specs.Sites.{Site, meets, AreSound}
-use Rattle.w16_reloc.specs.Records.{Offer, record_at, is_named}
-use Rattle.w16_reloc.specs.Sound.{IsChain, Names, AreNamed, of_width, width_of, chain_width, value_width, all_sites, AreRecords, IsSoundSegment}
-use Rattle.w16_reloc.specs.Check.{◌>>=◌, site_at, chain_at, sites_at, formed, check_from}
-use Rattle.w16_reloc.specs.Apply.{joined}
+use Rattle.w16_reloc.proofs.Common.{◌≡◌, ◌≢◌, ℕ, suc, zero, ◌+◌, ◌*◌, ◌<◌, ◌≤◌, List, [], ◌∷◌, ◌++◌, length, Bool, true, false, cond, Option, Some, None, Result, Ok, Err, refl, ap, arith, nat_lt, nat_eq, list_any, word_of, RelocFault, BadRecord, SiteOutside, Overlap, Record, Stored, Added, System, Site, meets, AreSound, Offer, record_at, is_named, IsChain, Names, AreNamed, of_width, width_of, chain_width, value_width, all_sites, AreRecords, IsSoundSegment, ◌>>=◌, site_at, chain_at, sites_at, formed, check_from, joined}
 use Rattle.w16_reloc.proofs.ChainLemmas.{fits}
 use Rattle.w16_reloc.proofs.WalkLemmas.{chain_wide}
 use Rattle.w16_reloc.proofs.Count.{no_more_sites}

@@ -1,15 +1,5 @@
 -- A chain that is written over, site by site.
-use Rattle.std.proofs.Common.{◌≡◌, ℕ, ◌+◌, ◌-◌, ◌<◌, ◌≤◌, List, [], ◌∷◌, length, Bool, true, false, cond, refl, sym, ◌∙◌, ap, arith, get_or, ◌⊎◌, inl, inr}
-use Rattle.std.specs.Prelude.{nat_lt, nat_le, ◌&&◌, ◌||◌}
-use Rattle.std.specs.List.{list_any}
-use Rattle.w16_ne.specs.Reading.{word_of}
-use Rattle.w16_reloc.specs.declared.record.Part.{Part}
-use Rattle.w16_reloc.specs.declared.record.Part.TheVariants.{LowByte, Selector, Pointer, Offset}
-use Rattle.w16_reloc.specs.declared.value.Far.{Far}
-use Rattle.w16_reloc.specs.Sites.{Site, covers, meets, AreSound}
-use Rattle.w16_reloc.specs.Sound.{IsChain, of_width, chain_width, value_width}
-use Rattle.w16_reloc.specs.Images.{Patch, byte, stored_at, value_of}
-use Rattle.w16_reloc.specs.Apply.{over, over_each, IsFileOutside, IsWalked}
+use Rattle.w16_reloc.proofs.Common.{◌≡◌, ℕ, ◌+◌, ◌-◌, ◌<◌, ◌≤◌, List, [], ◌∷◌, length, Bool, true, false, cond, refl, sym, ◌∙◌, ap, arith, get_or, ◌⊎◌, inl, inr, nat_lt, nat_le, ◌&&◌, ◌||◌, list_any, word_of, Part, LowByte, Selector, Pointer, Offset, Far, Site, covers, meets, AreSound, IsChain, of_width, chain_width, value_width, Patch, byte, stored_at, value_of, over, over_each, IsFileOutside, IsWalked}
 use Rattle.w16_reloc.proofs.SiteLemmas.{any_meets}
 
 pub chain_narrow : (part : Part) (far : Far) → length (value_of part far) ≤ chain_width part

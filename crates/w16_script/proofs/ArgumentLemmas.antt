@@ -1,14 +1,6 @@
 -- Lemmas on the arguments of commands.
-use Rattle.std.proofs.Common.{◌≡◌, ℕ, ◌*◌, ◌≤◌, List, [], ◌∷◌, length, refl, sym, subst, ◌∙◌, arith}
-use Rattle.std.specs.Prelude.{Ok, Option, Some, None, IfNone}
-use Rattle.w16_machine.specs.Machine.{Command}
-use Rattle.w16_script.specs.declared.name.Name.{Name}
-use Rattle.w16_script.specs.declared.arguments.Parameter.{Parameter}
+use Rattle.w16_script.proofs.Common.{◌≡◌, ℕ, ◌*◌, ◌≤◌, List, [], ◌∷◌, length, refl, sym, subst, ◌∙◌, arith, Ok, Option, Some, None, IfNone, Command, Name, Parameter, IsNumber, Argument, IsArgument, AreArguments, Makes, parameters_of, command_with, decode_of, decode_of-ok}
 use Rattle.w16_script.specs.declared.arguments.Parameter.TheVariants as p
-use Rattle.w16_script.specs.Numbers.{IsNumber}
-use Rattle.w16_script.specs.Grammar.{Argument, IsArgument, AreArguments, Makes, parameters_of, command_with}
-use Rattle.hex.specs.Hex.{decode_of}
-use Rattle.hex.proofs.HexLemmas.{decode_of-ok}
 
 -- a word of another length has no so many bytes
 pub length-bytes : (word bytes : List ℕ) → decode_of word ≡ Ok bytes → length word ≡ 2 * length bytes

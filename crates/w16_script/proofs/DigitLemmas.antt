@@ -1,15 +1,5 @@
 -- Lemmas on digits that a table reads.
-use Rattle.std.proofs.Common.{◌≡◌, ℕ, zero, suc, ◌+◌, ◌*◌, ◌<◌, ◌≤◌, List, Bool, true, Option, Some, None, Ok, Err, length, take, drop, refl, sym, ap, ◌∙◌, subst, arith, inl, inr}
-use Rattle.std.specs.Prelude.{◌==◌, ◌&&◌, nat_lt, slice_index, MatchOption}
-use Rattle.std.proofs.lemmas.Bool.{cases_lt}
-use Rattle.std.proofs.lemmas.Bool.Decides.{nat_tests}
-use Rattle.std.specs.Char.{digit_value}
-use Rattle.hex.specs.Hex.{decode_of, decode_pairs, hex_digit_value, pair_value}
-use Rattle.hex.specs.declared.error.FromHexError.{FromHexError}
-use Rattle.hex.specs.declared.error.FromHexError.TheVariants.{InvalidHexCharacter}
-use Rattle.hex.proofs.HexLemmas.{decode_of-even}
-use Rattle.hex.proofs.Pairs.{prepend, decode_err, decode_done}
-use Rattle.w16_script.specs.declared.bytes.TheConstants.{VALUES}
+use Rattle.w16_script.proofs.Common.{◌≡◌, ℕ, zero, suc, ◌+◌, ◌*◌, ◌<◌, ◌≤◌, List, Bool, true, Option, Some, None, Ok, Err, length, take, drop, refl, sym, ap, ◌∙◌, subst, arith, inl, inr, ◌==◌, ◌&&◌, nat_lt, slice_index, MatchOption, cases_lt, nat_tests, digit_value, decode_of, decode_pairs, hex_digit_value, pair_value, FromHexError, InvalidHexCharacter, decode_of-even, prepend, decode_err, decode_done, VALUES}
 use Rattle.w16_script.proofs.OneNumberLemmas.{both}
 
 -- what a table has for a digit, and for what is none

@@ -1,20 +1,5 @@
 -- Lemmas on bytes that are fed.
-use Rattle.std.proofs.Common.{◌≡◌, ◌≢◌, ℕ, ◌+◌, ◌<◌, ◌≤◌, Bool, List, [], ◌∷◌, ◌++◌, Option, length, length-append, map, refl, sym, ap, ◌∙◌, append-nil, append_assoc, subst, inl, inr, arith}
-use Rattle.std.specs.Prelude.{count_by, if◌then◌else◌}
-use Rattle.std.specs.List.{flat_map, AllByRecursion}
-use Rattle.std.specs.Io.KnownBytes.{Keeps}
-use Rattle.std.proofs.KnownBytes.{Keeps-refl}
-use Rattle.std.proofs.lemmas.List.{map-append}
-use Rattle.std.proofs.lemmas.List.Sums.{sum_by-append}
-use Rattle.std.proofs.lemmas.Grind.{flat_map-append}
-use Rattle.w16_script.specs.declared.outcome.RunFault.{RunFault}
-use Rattle.w16_script.specs.declared.outcome.RunFault.TheVariants.{Read, Write, Memory, TooLong}
-use Rattle.w16_machine.specs.Machine.{Steps}
-use Rattle.w16_script.specs.State.{State}
-use Rattle.w16_script.specs.Output.{RunsLines, has_reply}
-use Rattle.w16_script.specs.Text.{ended, HasNoLf, IsRaw, without_cr}
-use Rattle.w16_script.specs.Progress.{Progress, with_bytes, IsWithinLimits, IsOver, Overflows}
-use Rattle.w16_script.specs.Feeding.{FailsAt, Feeds, StopsHere, Stops}
+use Rattle.w16_script.proofs.Common.{◌≡◌, ◌≢◌, ℕ, ◌+◌, ◌<◌, ◌≤◌, Bool, List, [], ◌∷◌, ◌++◌, Option, length, length-append, map, refl, sym, ap, ◌∙◌, append-nil, append_assoc, subst, inl, inr, arith, count_by, if◌then◌else◌, flat_map, AllByRecursion, Keeps, Keeps-refl, map-append, sum_by-append, flat_map-append, RunFault, Read, Write, Memory, TooLong, Steps, State, RunsLines, has_reply, ended, HasNoLf, IsRaw, without_cr, Progress, with_bytes, IsWithinLimits, IsOver, Overflows, FailsAt, Feeds, StopsHere, Stops}
 use Rattle.w16_script.proofs.RunLemmas.{RunsLines-none, RunsLines-append, RunsLines-kept}
 
 -- Lists.

@@ -1,3 +1,4 @@
+pub mod Common
 pub mod WordsLemmas
 pub mod NumberLemmas
 pub mod RegisterLemmas

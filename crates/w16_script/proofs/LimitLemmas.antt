@@ -1,8 +1,5 @@
 -- Lemmas on the limits of a script.
-use Rattle.std.proofs.Common.{◌≡◌, ◌≢◌, ℕ, zero, suc, ◌+◌, ◌-◌, ◌<◌, ◌≤◌, List, [], ◌∷◌, ◌++◌, length, length-append, length-take, take, drop, get_or, sym, ap, ◌∙◌, inl, inr, refl, arith, take-append-drop}
-use Rattle.std.proofs.Math.Seq.{drop-cons}
-use Rattle.w16_script.specs.Text.{HasNoLf}
-use Rattle.w16_script.specs.Progress.{Progress, IsWithinLimits, Overflows}
+use Rattle.w16_script.proofs.Common.{◌≡◌, ◌≢◌, ℕ, zero, suc, ◌+◌, ◌-◌, ◌<◌, ◌≤◌, List, [], ◌∷◌, ◌++◌, length, length-append, length-take, take, drop, get_or, sym, ap, ◌∙◌, inl, inr, refl, arith, take-append-drop, drop-cons, HasNoLf, Progress, IsWithinLimits, Overflows}
 
 -- no byte of a line is an LF
 HasNoLf-at : (bytes : List ℕ) (i : ℕ) → HasNoLf bytes → i < length bytes → get_or bytes i 0 ≢ 10

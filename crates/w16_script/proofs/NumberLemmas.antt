@@ -1,12 +1,5 @@
 -- Lemmas on the value of digits.
-use Rattle.std.proofs.Common.{◌≡◌, ℕ, suc, ◌<◌, ◌≤◌, ◌+◌, ◌*◌, ◌^◌, List, ◌∷◌, length, refl, sym, ap, ◌∙◌, arith, mul-le-mul_left, pow-suc, drop, get_or, add-one, true}
-use Rattle.std.specs.List.{list_all}
-use Rattle.std.proofs.Math.Seq.{drop-cons}
-use Rattle.std.proofs.lemmas.Bool.Decides.{nat_tests}
-use Rattle.std.specs.Prelude.{nat_lt}
-use Rattle.std.proofs.Math.Nat.{one-le-pow}
-use Rattle.std.specs.Char.{digit_value}
-use Rattle.w16_script.specs.Numbers.{place_value, is_digit}
+use Rattle.w16_script.proofs.Common.{◌≡◌, ℕ, suc, ◌<◌, ◌≤◌, ◌+◌, ◌*◌, ◌^◌, List, ◌∷◌, length, refl, sym, ap, ◌∙◌, arith, mul-le-mul_left, pow-suc, drop, get_or, add-one, true, list_all, drop-cons, nat_tests, nat_lt, one-le-pow, digit_value, place_value, is_digit}
 
 -- the number that digits make behind the number so far
 abbrev pub value_behind : ℕ → ℕ → List ℕ → ℕ

@@ -1,8 +1,5 @@
 -- A number has only one reading.
-use Rattle.std.proofs.Common.{◌≡◌, ◌≢◌, ℕ, ◌+◌, ◌^◌, ◌<◌, ◌⊎◌, inl, inr, Bool, true, false, List, [], ◌∷◌, ◌++◌, length, get_or, drop, subst, sym, ap, ◌∙◌, refl, arith}
-use Rattle.std.specs.Prelude.{IsTrue, codes, slice_index, ◌&&◌}
-use Rattle.std.specs.List.{list_all}
-use Rattle.w16_script.specs.Numbers.{place_value, is_digit, IsDigits, IsDecimal, IsHexadecimal, IsLiteral, IsSum, IsForm, IsOfRegister, IsNumber}
+use Rattle.w16_script.proofs.Common.{◌≡◌, ◌≢◌, ℕ, ◌+◌, ◌^◌, ◌<◌, ◌⊎◌, inl, inr, Bool, true, false, List, [], ◌∷◌, ◌++◌, length, get_or, drop, subst, sym, ap, ◌∙◌, refl, arith, IsTrue, codes, slice_index, ◌&&◌, list_all, place_value, is_digit, IsDigits, IsDecimal, IsHexadecimal, IsLiteral, IsSum, IsForm, IsOfRegister, IsNumber}
 use Rattle.w16_script.proofs.RegisterLemmas.{clash, BeginsWith-start, BeginsWith-same, BeginsWith-from}
 
 -- both tests hold

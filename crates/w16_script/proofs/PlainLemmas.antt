@@ -1,23 +1,7 @@
 -- A line that says a command has plain bytes alone.
-use Rattle.std.proofs.Common.{◌≡◌, ℕ, ◌≤◌, Bool, true, false, List, [], ◌∷◌, ◌++◌, refl, arith, inl, inr, cond, Option, Some, None, ◌+◌, ◌/◌, ◌%◌, ap, ◌∙◌}
-use Rattle.std.proofs.lemmas.Bool.{cases_lt}
-use Rattle.std.proofs.lemmas.Fmt.{decimal_digit}
-use Rattle.std.specs.Prelude.{◌&&◌, codes, slice_index}
-use Rattle.std.specs.List.{list_all}
-use Rattle.std.proofs.lemmas.Bool.Decides.{nat_tests}
-use Rattle.std.proofs.lemmas.List.Sums.{list_all-from_AllPass}
-use Rattle.hex.specs.Hex.{is_hex_digit}
-use Rattle.hex.proofs.HexLemmas.{decode_of-ok}
-use Rattle.w16_machine.specs.Machine.{Command}
-use Rattle.w16_script.specs.declared.name.Name.{Name}
+use Rattle.w16_script.proofs.Common.{◌≡◌, ℕ, ◌≤◌, Bool, true, false, List, [], ◌∷◌, ◌++◌, refl, arith, inl, inr, cond, Option, Some, None, ◌+◌, ◌/◌, ◌%◌, ap, ◌∙◌, cases_lt, decimal_digit, ◌&&◌, codes, slice_index, list_all, nat_tests, list_all-from_AllPass, is_hex_digit, decode_of-ok, Command, Name, Parameter, IsRegister, is_blank, with_byte, words_of, is_digit, IsLiteral, IsForm, IsNumber, Argument, IsBytes, IsArgument, AreArguments, GoesTo, Spells, Said, Reads, text_of, parameters_of, is_plain}
 use Rattle.w16_script.specs.declared.name.Name.TheVariants as name
-use Rattle.w16_script.specs.declared.arguments.Parameter.{Parameter}
 use Rattle.w16_script.specs.declared.arguments.Parameter.TheVariants as p
-use Rattle.w16_script.specs.Registers.{IsRegister}
-use Rattle.w16_script.specs.Words.{is_blank, with_byte, words_of}
-use Rattle.w16_script.specs.Numbers.{is_digit, IsLiteral, IsForm, IsNumber}
-use Rattle.w16_script.specs.Grammar.{Argument, IsBytes, IsArgument, AreArguments, GoesTo, Spells, Said, Reads, text_of, parameters_of}
-use Rattle.w16_script.specs.Laws.{is_plain}
 use Rattle.w16_script.proofs.RegisterLemmas.{two_digits}
 use Rattle.w16_script.proofs.OneNumberLemmas.{both}
 

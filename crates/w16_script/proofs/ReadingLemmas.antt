@@ -1,17 +1,7 @@
 -- A line has only one reading.
-use Rattle.std.proofs.Common.{◌≡◌, ℕ, List, [], ◌∷◌, Option, Some, None, subst, sym, ap, ◌∙◌, refl, arith, get_or}
-use Rattle.std.specs.Fmt.{decimal}
-use Rattle.std.proofs.lemmas.Fmt.{decimal_injective}
-use Rattle.std.specs.Prelude.{codes, if◌then◌else◌, ◌==◌}
-use Rattle.std.specs.Str.{bytes_eq}
-use Rattle.hex.proofs.HexLemmas.{decode_of-same}
-use Rattle.w16_script.specs.declared.name.Name.{Name}
+use Rattle.w16_script.proofs.Common.{◌≡◌, ℕ, List, [], ◌∷◌, Option, Some, None, subst, sym, ap, ◌∙◌, refl, arith, get_or, decimal, decimal_injective, codes, if◌then◌else◌, ◌==◌, bytes_eq, decode_of-same, Name, Parameter, Command, words_of, Argument, IsArgument, AreArguments, GoesTo, Makes, Spells, Said, Reads, text_of, parameters_of, command_with, is_silent, all_names}
 use Rattle.w16_script.specs.declared.name.Name.TheVariants as name
-use Rattle.w16_script.specs.declared.arguments.Parameter.{Parameter}
 use Rattle.w16_script.specs.declared.arguments.Parameter.TheVariants as p
-use Rattle.w16_machine.specs.Machine.{Command}
-use Rattle.w16_script.specs.Words.{words_of}
-use Rattle.w16_script.specs.Grammar.{Argument, IsArgument, AreArguments, GoesTo, Makes, Spells, Said, Reads, text_of, parameters_of, command_with, is_silent, all_names}
 use Rattle.w16_script.proofs.RegisterLemmas.{clash}
 use Rattle.w16_script.proofs.OneNumberLemmas.{number-same}
 

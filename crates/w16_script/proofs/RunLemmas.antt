@@ -1,14 +1,5 @@
 -- Lemmas on runs and on what they print.
-use Rattle.w16_machine.specs.World.{World}
-use Rattle.std.proofs.Common.{◌≡◌, ℕ, List, [], ◌∷◌, ◌++◌, Option, refl, sym, ap, ◌∙◌, append-nil, append_assoc, subst}
-use Rattle.std.specs.Io.KnownBytes.{Keeps}
-use Rattle.std.proofs.KnownBytes.{Appends-nil, Appends-trans, Appends-kept}
-use Rattle.w16_machine.specs.Machine.{Event, Steps, Run}
-use Rattle.w16_machine.specs.Fewest.{AreFewest}
-use Rattle.w16_script.specs.Registers.{stored_all}
-use Rattle.w16_script.specs.State.{State}
-use Rattle.w16_script.specs.Grammar.{Said, Reads, target_of}
-use Rattle.w16_script.specs.Output.{Prints, PrintsLine, RunsLines}
+use Rattle.w16_script.proofs.Common.{World, ◌≡◌, ℕ, List, [], ◌∷◌, ◌++◌, Option, refl, sym, ap, ◌∙◌, append-nil, append_assoc, subst, Keeps, Appends-nil, Appends-trans, Appends-kept, Event, Steps, Run, AreFewest, stored_all, State, Said, Reads, target_of, Prints, PrintsLine, RunsLines}
 
 -- one run goes on with another
 Run-append : (steps : Steps) (old mid new : World) (events more : List Event) → Run steps old events mid → Run steps mid more new → Run steps old (events ++ more) new

@@ -1,18 +1,5 @@
 -- Lemmas on walks that are printed, item by item.
-use Rattle.std.proofs.Common.{◌≡◌, ℕ, ◌+◌, ◌<◌, List, [], ◌∷◌, ◌++◌, Option, None, Some, length, codes, length-append, refl, sym, ap, ◌∙◌, append-nil, append_assoc, arith, subst}
-use Rattle.std.specs.Int.{w32, to_be_bytes}
-use Rattle.std.specs.List.{flat_map}
-use Rattle.std.specs.Io.KnownBytes.{Appends}
-use Rattle.std.proofs.KnownBytes.{Appends-nil, Appends-trans}
-use Rattle.std.proofs.lemmas.Grind.{flat_map-append}
-use Rattle.hex.specs.Hex.{encode_lower}
-use Rattle.w16_model.specs.declared.Item.{Item}
-use Rattle.w16_machine.specs.World.{World, IsWorldWalk}
-use Rattle.w16_model.specs.Handles.{handle_of}
-use Rattle.w16_model.specs.Walk.{IsFirstItem}
-use Rattle.w16_model.proofs.Cuts.{IsCut, Next, next, cut_none, done_none, cut_more, done_more, all_done}
-use Rattle.w16_script.specs.Written.{AppendsFront}
-use Rattle.w16_script.specs.Printed.{owner_text, item_text, end_text, walk_text}
+use Rattle.w16_script.proofs.Common.{◌≡◌, ℕ, ◌+◌, ◌<◌, List, [], ◌∷◌, ◌++◌, Option, None, Some, length, codes, length-append, refl, sym, ap, ◌∙◌, append-nil, append_assoc, arith, subst, w32, to_be_bytes, flat_map, Appends, Appends-nil, Appends-trans, flat_map-append, encode_lower, Item, World, IsWorldWalk, handle_of, IsFirstItem, IsCut, Next, next, cut_none, done_none, cut_more, done_more, all_done, AppendsFront, owner_text, item_text, end_text, walk_text}
 use Rattle.w16_script.proofs.WriteLemmas.{AppendsFront-between}
 
 -- Fronts of what is printed.

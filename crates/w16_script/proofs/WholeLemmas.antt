@@ -1,20 +1,5 @@
 -- Lemmas on whole runs.
-use Rattle.w16_machine.specs.World.{World}
-use Rattle.std.proofs.Common.{◌≡◌, ℕ, ◌+◌, ◌≤◌, ◌<◌, List, [], ◌∷◌, ◌++◌, Option, length, length-append, map, take, refl, sym, ap, ◌∙◌, append-nil, append_assoc, subst, arith, inl, inr, suc, Bool, true}
-use Rattle.std.specs.Prelude.{◌==◌, count_by}
-use Rattle.std.proofs.lemmas.Bool.Decides.{nat_tests}
-use Rattle.std.specs.Io.KnownBytes.{Consumes, IsAtEnd}
-use Rattle.std.proofs.KnownBytes.{Consumes-trans}
-use Rattle.w16_script.specs.declared.outcome.Ended.{Ended}
-use Rattle.w16_script.specs.declared.outcome.RunFault.{RunFault}
-use Rattle.w16_script.specs.declared.outcome.RunFault.TheVariants.{Read, Write, Memory, TooLong}
-use Rattle.w16_machine.specs.Machine.{Steps}
-use Rattle.w16_script.specs.State.{State, state_with, start}
-use Rattle.w16_script.specs.Output.{RunsLines, has_reply}
-use Rattle.w16_script.specs.Text.{without_cr, last_of}
-use Rattle.w16_script.specs.Progress.{Progress, fresh, IsWithinLimits}
-use Rattle.w16_script.specs.Feeding.{FailsAt, Feeds, Stops}
-use Rattle.w16_script.specs.Whole.{Finishes, Script, StopsWithin, StopsLast, FailsLater, Fails}
+use Rattle.w16_script.proofs.Common.{World, ◌≡◌, ℕ, ◌+◌, ◌≤◌, ◌<◌, List, [], ◌∷◌, ◌++◌, Option, length, length-append, map, take, refl, sym, ap, ◌∙◌, append-nil, append_assoc, subst, arith, inl, inr, suc, Bool, true, ◌==◌, count_by, nat_tests, Consumes, IsAtEnd, Consumes-trans, Ended, RunFault, Read, Write, Memory, TooLong, Steps, State, state_with, start, RunsLines, has_reply, without_cr, last_of, Progress, fresh, IsWithinLimits, FailsAt, Feeds, Stops, Finishes, Script, StopsWithin, StopsLast, FailsLater, Fails}
 use Rattle.w16_script.proofs.RunLemmas.{RunsLines-none, RunsLines-append}
 use Rattle.w16_script.proofs.FeedLemmas.{Feeds-trans, count-append}
 

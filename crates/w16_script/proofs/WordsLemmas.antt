@@ -1,7 +1,5 @@
 -- Lemmas on the words of a line.
-use Rattle.std.specs.Prelude.{if◌then◌else◌}
-use Rattle.std.proofs.Common.{◌≡◌, ℕ, zero, suc, ◌<◌, ◌≤◌, Bool, true, false, List, [], ◌∷◌, length, take, drop, get_or, refl, sym, ap, ◌∙◌, arith}
-use Rattle.w16_script.specs.Words.{words_of, is_blank, with_byte}
+use Rattle.w16_script.proofs.Common.{if◌then◌else◌, ◌≡◌, ℕ, zero, suc, ◌<◌, ◌≤◌, Bool, true, false, List, [], ◌∷◌, length, take, drop, get_or, refl, sym, ap, ◌∙◌, arith, words_of, is_blank, with_byte}
 
 -- a byte before a blank is a word of its own
 with_byte-before_blank : (x y : ℕ) (ys : List ℕ) (ws : List (List ℕ)) → is_blank y ≡ true → with_byte x (y ∷ ys) ws ≡ (x ∷ []) ∷ ws

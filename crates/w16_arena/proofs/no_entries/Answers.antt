@@ -1,5 +1,4 @@
-use Rattle.std.proofs.Common.{rules}
-use Rattle.std.proofs.lemmas.Result.{IfOk-weaker}
+use Rattle.w16_arena.proofs.Common.{rules, IfOk-weaker}
 use Rattle.w16_arena.proofs.no_entries.Goals as goal
 
 pub returns : goal.returns

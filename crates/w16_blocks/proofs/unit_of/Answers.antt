@@ -1,5 +1,4 @@
-use Rattle.std.proofs.Common.{◌≡◌, ◌*◌, ◌-◌, arith}
-use Rattle.w16_holes.proofs.Units.{whole_units}
+use Rattle.w16_blocks.proofs.Common.{◌≡◌, ◌*◌, ◌-◌, arith, whole_units}
 use Rattle.w16_blocks.proofs.unit_of.Goals as goal
 
 pub returns : goal.returns

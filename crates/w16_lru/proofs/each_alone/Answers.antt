@@ -1,5 +1,4 @@
-use Rattle.std.proofs.Common.{◌≡◌, ℕ, zero, suc, ◌+◌, List, [], ◌∷◌, ◌++◌, Vec, sym, ap, ◌∙◌, arith}
-use Rattle.std.specs.List.{range_with_len}
+use Rattle.w16_lru.proofs.Common.{◌≡◌, ℕ, zero, suc, ◌+◌, List, [], ◌∷◌, ◌++◌, Vec, sym, ap, ◌∙◌, arith, range_with_len}
 use Rattle.w16_lru.proofs.each_alone.Goals as goal
 use Rattle.w16_lru.proofs.each_alone.Goals.{else-loop-id-test, then-loop-id-test+in_ok-push+else-id-cap}
 

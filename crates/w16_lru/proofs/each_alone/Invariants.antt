@@ -1,5 +1,4 @@
-use Rattle.std.proofs.Common.{◌≡◌}
-use Rattle.std.specs.List.{range_with_len}
+use Rattle.w16_lru.proofs.Common.{◌≡◌, range_with_len}
 use Rattle.w16_lru.proofs.each_alone.Given as goal
 
 abbrev pub invariant-loop-id : goal.invariant-loop-id

@@ -1,7 +1,4 @@
-use Rattle.std.proofs.Common.{sym, ap, ◌∙◌, subst}
-use Rattle.w16_model.proofs.Sound.{sound_heap}
-use Rattle.w16_model.proofs.Fewest.{allocation_law}
-use Rattle.w16_arena.specs.State.{ArenaState, holes_in}
+use Rattle.w16_arena.proofs.Common.{sym, ap, ◌∙◌, subst, sound_heap, allocation_law, ArenaState, holes_in}
 use Rattle.w16_arena.proofs.Answering.{allocates_now, discards_none, refused_kept}
 use Rattle.w16_arena.proofs.Arena.alloc.Goals as goal
 

@@ -1,5 +1,4 @@
-use Rattle.std.proofs.Common.{◌≡◌, None, sym, arith}
-use Rattle.w16_model.specs.Table.{block_with}
+use Rattle.w16_arena.proofs.Common.{◌≡◌, None, sym, arith, block_with}
 use Rattle.w16_arena.proofs.Shown.{told, block_past}
 use Rattle.w16_arena.proofs.Arena.block.Goals as goal
 

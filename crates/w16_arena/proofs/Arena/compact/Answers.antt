@@ -1,9 +1,4 @@
-use Rattle.w16_arena.specs.State.{ArenaState}
-use Rattle.std.proofs.Common.{refl, sym, arith, ap}
-use Rattle.w16_model.specs.Table.{heap_in}
-use Rattle.w16_model.proofs.Sound.{sound_heap}
-use Rattle.w16_model.proofs.Fewest.{compaction_law}
-use Rattle.w16_compact.proofs.Rests.{rest_same}
+use Rattle.w16_arena.proofs.Common.{ArenaState, refl, sym, arith, ap, heap_in, sound_heap, compaction_law, rest_same}
 use Rattle.w16_arena.proofs.Moved.{moved_few}
 use Rattle.w16_arena.proofs.Unmoved.{unmoved}
 use Rattle.w16_arena.proofs.Answering.{compacts_none, still_same}

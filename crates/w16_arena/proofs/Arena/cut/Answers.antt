@@ -1,9 +1,4 @@
-use Rattle.std.proofs.Common.{◌≡◌, ◌≤◌, [], length, Some, refl, arith}
-use Rattle.w16_model.specs.Heap.{IsMultiple}
-use Rattle.w16_model.specs.Table.{block_with, heap_in}
-use Rattle.w16_arena.specs.Asked.{IsResized}
-use Rattle.w16_arena.specs.declared.new_place.Placed.{Placed}
-use Rattle.w16_arena.specs.State.{KeepsRest, table_of, heap_of}
+use Rattle.w16_arena.proofs.Common.{◌≡◌, ◌≤◌, [], length, Some, refl, arith, IsMultiple, block_with, heap_in, IsResized, Placed, KeepsRest, table_of, heap_of}
 use Rattle.w16_arena.proofs.Shown.{known as known_in, told}
 use Rattle.w16_arena.proofs.Fitting.{id_known, fits_less}
 use Rattle.w16_arena.proofs.InPlace.{kept_resized, rest_resized, is_cut, others_with}

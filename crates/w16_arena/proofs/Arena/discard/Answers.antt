@@ -1,6 +1,4 @@
-use Rattle.w16_model.specs.declared.Entry.{Entry}
-use Rattle.std.proofs.Common.{sym, ◌∙◌, ◌≡◌, IsSomeAnd, Option, subst, arith}
-use Rattle.std.proofs.lemmas.Bool.{lt-ltb, le-ltb}
+use Rattle.w16_arena.proofs.Common.{Entry, sym, ◌∙◌, ◌≡◌, IsSomeAnd, Option, subst, arith, lt-ltb, le-ltb}
 use Rattle.w16_arena.proofs.Refusals.{discard_none, discard_locked, discard_other, discard_ok}
 use Rattle.w16_arena.proofs.Keeping.{keeps_same}
 use Rattle.w16_arena.proofs.Arena.discard.Goals as goal

@@ -1,8 +1,4 @@
-use Rattle.std.proofs.Common.{◌≡◌, ◌+◌, [], ◌∷◌, ◌++◌, length, Some, slice_get, sym, ap, ◌∙◌, subst, arith}
-use Rattle.w16_model.specs.Discards.{eligible}
-use Rattle.w16_model.specs.Table.{Table, IsSound}
-use Rattle.w16_blocks.specs.Layout.{all_but}
-use Rattle.w16_arena.specs.State.{ArenaState, KeepsBytes, table_of, holes_in}
+use Rattle.w16_arena.proofs.Common.{◌≡◌, ◌+◌, [], ◌∷◌, ◌++◌, length, Some, slice_get, sym, ap, ◌∙◌, subst, arith, eligible, Table, IsSound, all_but, ArenaState, KeepsBytes, table_of, holes_in}
 use Rattle.w16_arena.proofs.Keeping.{keeps_same, keeps_more}
 use Rattle.w16_arena.proofs.Oldest.{ArePartly, partly_none, partly_more, ended, full, first_known, listed_fits}
 use Rattle.w16_arena.proofs.Arena.discard_first.Goals as goal

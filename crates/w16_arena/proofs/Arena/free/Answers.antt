@@ -1,5 +1,4 @@
-use Rattle.std.proofs.Common.{sym, ◌∙◌}
-use Rattle.std.proofs.lemmas.Bool.{lt-ltb, le-ltb}
+use Rattle.w16_arena.proofs.Common.{sym, ◌∙◌, lt-ltb, le-ltb}
 use Rattle.w16_arena.proofs.Refusals.{free_none, free_locked, free_ok}
 use Rattle.w16_arena.proofs.Keeping.{keeps_same}
 use Rattle.w16_arena.proofs.Arena.free.Goals as goal

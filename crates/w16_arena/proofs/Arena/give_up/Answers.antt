@@ -1,5 +1,4 @@
-use Rattle.std.proofs.Common.{◌≡◌}
-use Rattle.w16_model.specs.declared.Entry.{Entry}
+use Rattle.w16_arena.proofs.Common.{◌≡◌, Entry}
 use Rattle.w16_arena.proofs.Shown.{entry_such, kept_given, steps_given}
 use Rattle.w16_arena.proofs.Arena.give_up.Goals as goal
 

@@ -1,5 +1,4 @@
-use Rattle.std.proofs.Common.{refl, sym, subst, ◌∙◌}
-use Rattle.w16_arena.specs.State.{ArenaState, holes_in}
+use Rattle.w16_arena.proofs.Common.{refl, sym, subst, ◌∙◌, ArenaState, holes_in}
 use Rattle.w16_arena.proofs.Growing.{refused_now, grows_now}
 use Rattle.w16_arena.proofs.Arena.grow.Goals as goal
 

@@ -1,11 +1,4 @@
-use Rattle.w16_compact.proofs.Rests.{rest_same}
-use Rattle.std.proofs.Common.{ℕ, ap, ◌∙◌, subst, refl, sym, if◌then◌else◌, ◌-◌, IsSomeAnd}
-use Rattle.std.proofs.lemmas.Bool.{false≢true}
-use Rattle.w16_region.specs.Bytes.{counted}
-use Rattle.w16_model.specs.Heap.{object_at}
-use Rattle.w16_model.specs.Request.{IsGrown}
-use Rattle.w16_model.specs.Table.{heap_in}
-use Rattle.w16_arena.specs.Asked.{Stands}
+use Rattle.w16_arena.proofs.Common.{rest_same, ℕ, ap, ◌∙◌, subst, refl, sym, if◌then◌else◌, ◌-◌, IsSomeAnd, false≢true, counted, object_at, IsGrown, heap_in, Stands}
 use Rattle.w16_arena.proofs.Keeping.{heap_kept}
 use Rattle.w16_arena.proofs.Answering.{rest_after}
 use Rattle.w16_arena.proofs.Growing.{entry_below, refused_then, known_then, room_then, grows_then}

@@ -1,17 +1,5 @@
 use Rattle.w16_arena.proofs.Written.{counted_if}
-use Rattle.w16_region.specs.Bytes.{counted}
-use Rattle.std.proofs.Common.{◌≡◌, ◌+◌, ◌≤◌, false, [], length, IfSome, Some, refl, subst, sym, arith, ℕ, ◌-◌, ap, ◌∙◌, if◌then◌else◌}
-use Rattle.w16_model.specs.declared.Block.{Block}
-use Rattle.w16_model.specs.Gap.{block_end, hole_after}
-use Rattle.w16_model.specs.Heap.{IsMultiple}
-use Rattle.w16_model.specs.Request.{Reallocates}
-use Rattle.w16_model.specs.Table.{block_with, heap_in}
-use Rattle.w16_blocks.specs.Layout.{Layout}
-use Rattle.w16_arena.specs.Asked.{IsResized}
-use Rattle.w16_arena.specs.declared.new_place.Placed.{Placed}
-use Rattle.w16_arena.specs.State.{ArenaState, KeepsRest, table_of, heap_of, holes_in}
-use Rattle.w16_arena.specs.Growth.{but_for}
-use Rattle.w16_compact.proofs.Rests.{rest_more, rest_wider}
+use Rattle.w16_arena.proofs.Common.{counted, ◌≡◌, ◌+◌, ◌≤◌, false, [], length, IfSome, Some, refl, subst, sym, arith, ℕ, ◌-◌, ap, ◌∙◌, if◌then◌else◌, Block, block_end, hole_after, IsMultiple, Reallocates, block_with, heap_in, Layout, IsResized, Placed, ArenaState, KeepsRest, table_of, heap_of, holes_in, but_for, rest_more, rest_wider}
 use Rattle.w16_arena.proofs.Shown.{known as known_in, told}
 use Rattle.w16_arena.proofs.Fitting.{id_known, fits_more, spare_small, ends_inside}
 use Rattle.w16_arena.proofs.InPlace.{kept_resized, rest_resized, is_extended, not_extended}

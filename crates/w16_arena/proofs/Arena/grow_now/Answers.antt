@@ -1,14 +1,5 @@
 use Rattle.w16_arena.proofs.Written.{counted_if}
-use Rattle.w16_region.specs.Bytes.{counted}
-use Rattle.std.proofs.Common.{◌≡◌, ◌+◌, ◌≤◌, length, IsSomeAnd, Some, arith, ℕ, ◌-◌, true, ap, ◌∙◌, refl, if◌then◌else◌}
-use Rattle.w16_model.specs.declared.Block.{Block}
-use Rattle.w16_model.specs.Heap.{IsMultiple, object_at}
-use Rattle.w16_model.specs.Request.{IsGrown, StaysOrMovesToHole}
-use Rattle.w16_model.specs.Table.{block_with, heap_in, IsSound}
-use Rattle.w16_compact.proofs.Rests.{rest_wider, rest_same}
-use Rattle.w16_arena.specs.Asked.{Stands, may_grow_in}
-use Rattle.w16_arena.specs.Growth.{but_for}
-use Rattle.w16_arena.specs.State.{KeepsRest, table_of, heap_of, ArenaState}
+use Rattle.w16_arena.proofs.Common.{counted, ◌≡◌, ◌+◌, ◌≤◌, length, IsSomeAnd, Some, arith, ℕ, ◌-◌, true, ap, ◌∙◌, refl, if◌then◌else◌, Block, IsMultiple, object_at, IsGrown, StaysOrMovesToHole, block_with, heap_in, IsSound, rest_wider, rest_same, Stands, may_grow_in, but_for, KeepsRest, table_of, heap_of, ArenaState}
 use Rattle.w16_arena.proofs.Fitting.{id_known}
 use Rattle.w16_arena.proofs.Keeping.{same_in, used_placed}
 use Rattle.w16_arena.proofs.Shown.{known as known_in, told}

@@ -1,5 +1,4 @@
-use Rattle.std.proofs.lemmas.Grind.{common_steps}
-use Rattle.std.proofs.Common.{arith}
+use Rattle.w16_arena.proofs.Common.{common_steps, arith}
 use Rattle.w16_arena.proofs.Arena.is_listed.Goals as goal
 
 pub returns-then-is_discardable-clause-known : goal.returns-then-is_discardable-clause-known

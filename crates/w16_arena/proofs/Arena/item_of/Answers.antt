@@ -1,7 +1,4 @@
-use Rattle.std.proofs.Common.{◌≡◌, IsSomeAnd, sym, ◌∙◌, subst}
-use Rattle.w16_model.specs.declared.Block.{Block}
-use Rattle.w16_model.specs.Table.{entry_at, hold_of_entry}
-use Rattle.w16_model.proofs.Gaps.{Each-at, Each-from_All}
+use Rattle.w16_arena.proofs.Common.{◌≡◌, IsSomeAnd, sym, ◌∙◌, subst, Block, entry_at, hold_of_entry, Each-at, Each-from_All}
 use Rattle.w16_arena.proofs.Walks.{get_member}
 use Rattle.w16_arena.proofs.Arena.item_of.Goals as goal
 

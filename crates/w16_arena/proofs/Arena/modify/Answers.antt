@@ -1,7 +1,4 @@
-use Rattle.std.proofs.lemmas.Grind.{common_steps}
-use Rattle.std.proofs.Common.{is_some, sym, ap, ◌∙◌, arith}
-use Rattle.w16_model.specs.Table.{block_with, entry_at}
-use Rattle.w16_arena.specs.State.{ArenaState, relisted}
+use Rattle.w16_arena.proofs.Common.{common_steps, is_some, sym, ap, ◌∙◌, arith, block_with, entry_at, ArenaState, relisted}
 use Rattle.w16_arena.proofs.Shown.{holes_shown}
 use Rattle.w16_arena.proofs.Refusals.{modify_none, modify_fixed}
 use Rattle.w16_arena.proofs.Modified.{kept_modified, steps_modified}

@@ -1,6 +1,4 @@
-use Rattle.std.proofs.Common.{◌≡◌, ◌<◌, ◌≤◌, ◌⊎◌, ℕ, Some, IfSome, IfNone}
-use Rattle.w16_model.specs.Table.{block_with}
-use Rattle.w16_arena.specs.State.{table_of}
+use Rattle.w16_arena.proofs.Common.{◌≡◌, ◌<◌, ◌≤◌, ◌⊎◌, ℕ, Some, IfSome, IfNone, block_with, table_of}
 use Rattle.w16_arena.proofs.Shown.{told}
 use Rattle.w16_arena.proofs.Next.{next_found, next_lowest, next_none}
 use Rattle.w16_arena.proofs.Arena.next_block.Goals as goal

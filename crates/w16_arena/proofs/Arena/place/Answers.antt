@@ -1,12 +1,6 @@
-use Rattle.w16_arena.specs.NewPlace.{most_in}
+use Rattle.w16_arena.proofs.Common.{most_in, IsSound, ArenaState, KeepsRest, table_of, counted, ◌+◌, ap, arith, ℕ, ◌∙◌, refl, if◌then◌else◌, ◌≤◌, Layout, rest_more, rest_same}
 use Rattle.w16_arena.proofs.Shown.{told}
-use Rattle.w16_model.specs.Table.{IsSound}
-use Rattle.w16_arena.specs.State.{ArenaState, KeepsRest, table_of}
 use Rattle.w16_arena.proofs.Written.{counted_if}
-use Rattle.w16_region.specs.Bytes.{counted}
-use Rattle.std.proofs.Common.{◌+◌, ap, arith, ℕ, ◌∙◌, refl, if◌then◌else◌, ◌≤◌}
-use Rattle.w16_blocks.specs.Layout.{Layout}
-use Rattle.w16_compact.proofs.Rests.{rest_more, rest_same}
 use Rattle.w16_arena.proofs.Granting.{may_insert, kept_placed, rest_placed, stands_placed}
 use Rattle.w16_arena.proofs.Keeping.{moved_kept, same_in, used_placed}
 use Rattle.w16_arena.proofs.Arena.place.Goals as goal

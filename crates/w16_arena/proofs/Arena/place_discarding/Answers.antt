@@ -1,10 +1,4 @@
-use Rattle.w16_compact.proofs.Rests.{rest_same}
-use Rattle.std.proofs.Common.{ℕ, arith, ap, ◌∙◌, subst, if◌then◌else◌, refl}
-use Rattle.w16_region.specs.Bytes.{counted}
-use Rattle.w16_model.specs.Changes.{with_newest}
-use Rattle.w16_model.specs.Request.{IsNew}
-use Rattle.w16_model.specs.Table.{heap_in}
-use Rattle.w16_arena.specs.Asked.{Stands}
+use Rattle.w16_arena.proofs.Common.{rest_same, ℕ, arith, ap, ◌∙◌, subst, if◌then◌else◌, refl, counted, with_newest, IsNew, heap_in, Stands}
 use Rattle.w16_arena.proofs.Keeping.{heap_kept}
 use Rattle.w16_arena.proofs.Answering.{refused_needed, absent_then, room_then, allocates_then, placed_then, discards_then, rest_after}
 use Rattle.w16_arena.proofs.Arena.place_discarding.Goals as goal

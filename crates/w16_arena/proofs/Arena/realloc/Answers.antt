@@ -1,13 +1,5 @@
 use Rattle.w16_arena.proofs.Lookups.{in_list}
-use Rattle.std.proofs.Common.{◌≡◌, ℕ, ◌-◌, ◌≤◌, true, false, is_ok, length, IfOk, IsSome, option_map, unwrap_or, sym, ◌∙◌, subst, if◌then◌else◌}
-use Rattle.std.proofs.lemmas.Bool.{false≢true}
-use Rattle.w16_model.specs.declared.Block.{Block}
-use Rattle.w16_model.specs.Heap.{bytes_at}
-use Rattle.w16_model.specs.Request.{Reallocates}
-use Rattle.w16_model.specs.Table.{Table, heap_in}
-use Rattle.w16_model.proofs.Reallocations.{fewest_law}
-use Rattle.w16_model.proofs.Sound.{sound_heap}
-use Rattle.w16_arena.specs.Asked.{IsResized}
+use Rattle.w16_arena.proofs.Common.{◌≡◌, ℕ, ◌-◌, ◌≤◌, true, false, is_ok, length, IfOk, IsSome, option_map, unwrap_or, sym, ◌∙◌, subst, if◌then◌else◌, false≢true, Block, bytes_at, Reallocates, Table, heap_in, fewest_law, sound_heap, IsResized}
 use Rattle.w16_arena.proofs.Sized.{size_is}
 use Rattle.w16_arena.proofs.Reallocated.{revived, revived_listed, by_result, placed_of, listed_of, still_written, size_written, cut_written, found_known, held_by, no_size, revived_written, unchanged}
 use Rattle.w16_arena.proofs.Arena.realloc.Goals as goal

@@ -1,6 +1,4 @@
-use Rattle.std.proofs.lemmas.Grind.{common_steps}
-use Rattle.std.proofs.Common.{◌≡◌, None, is_some, sym, ap, ◌∙◌, arith}
-use Rattle.w16_model.specs.Table.{entry_at}
+use Rattle.w16_arena.proofs.Common.{common_steps, ◌≡◌, None, is_some, sym, ap, ◌∙◌, arith, entry_at}
 use Rattle.w16_arena.proofs.Shown.{entry_known, known, nothing, kept_without, steps_without, steps_same}
 use Rattle.w16_arena.proofs.Keeping.{keeps_same}
 use Rattle.w16_arena.proofs.Arena.release.Goals as goal

@@ -1,7 +1,4 @@
-use Rattle.std.proofs.Common.{◌≡◌, ◌≤◌, ℕ, List, length, ◌∙◌, subst, arith}
-use Rattle.w16_model.specs.Request.{most_room}
-use Rattle.w16_model.specs.Table.{heap_in}
-use Rattle.w16_arena.specs.State.{ArenaState, table_of}
+use Rattle.w16_arena.proofs.Common.{◌≡◌, ◌≤◌, ℕ, List, length, ◌∙◌, subst, arith, most_room, heap_in, ArenaState, table_of}
 use Rattle.w16_arena.proofs.Answering.{room_most}
 use Rattle.w16_arena.proofs.Arena.room_all.Goals as goal
 

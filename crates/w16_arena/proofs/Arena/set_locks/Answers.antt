@@ -1,5 +1,4 @@
-use Rattle.std.proofs.lemmas.Grind.{common_steps}
-use Rattle.std.proofs.Common.{◌∙◌, arith}
+use Rattle.w16_arena.proofs.Common.{common_steps, ◌∙◌, arith}
 use Rattle.w16_arena.proofs.Shown.{holes_shown, kept_set, steps_set}
 use Rattle.w16_arena.proofs.Arena.set_locks.Goals as goal
 

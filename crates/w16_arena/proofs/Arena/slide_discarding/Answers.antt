@@ -1,9 +1,5 @@
-use Rattle.std.proofs.Common.{ℕ, ◌≤◌, length, ap, ◌∙◌, subst, arith}
-use Rattle.w16_region.specs.Bytes.{counted}
-use Rattle.w16_model.specs.Table.{heap_in}
-use Rattle.w16_arena.specs.Asked.{SlidesTogether}
+use Rattle.w16_arena.proofs.Common.{ℕ, ◌≤◌, length, ap, ◌∙◌, subst, arith, counted, heap_in, SlidesTogether, ArenaState}
 use Rattle.w16_arena.proofs.Keeping.{heap_kept}
-use Rattle.w16_arena.specs.State.{ArenaState}
 use Rattle.w16_arena.proofs.Answering.{compacts_then, slid_then, listed_then, rest_after}
 use Rattle.w16_arena.proofs.Arena.slide_discarding.Goals as goal
 

@@ -1,5 +1,4 @@
-use Rattle.std.proofs.Common.{refl, sym, ◌∙◌}
-use Rattle.w16_lru.specs.declared.End.TheVariants.{Newest}
+use Rattle.w16_arena.proofs.Common.{refl, sym, ◌∙◌, Newest}
 use Rattle.w16_arena.proofs.Shown.{holes_shown, kept_ended, steps_touched}
 use Rattle.w16_arena.proofs.Arena.touch.Goals as goal
 

@@ -1,7 +1,4 @@
-use Rattle.std.proofs.Common.{◌≡◌, slice_get, ap, ◌∙◌, arith}
-use Rattle.w16_model.specs.Table.{heap_in}
-use Rattle.w16_model.specs.Walk.{by_its_id}
-use Rattle.w16_model.proofs.Cuts.{told_none, told_more, told_at, told_past}
+use Rattle.w16_arena.proofs.Common.{◌≡◌, slice_get, ap, ◌∙◌, arith, heap_in, by_its_id, told_none, told_more, told_at, told_past}
 use Rattle.w16_arena.proofs.Arena.walk.Goals as goal
 
 pub loop-init : goal.loop-init

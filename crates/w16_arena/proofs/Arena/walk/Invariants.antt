@@ -1,7 +1,4 @@
-use Rattle.std.proofs.Common.{ℕ, ◌≤◌, List, length}
-use Rattle.w16_model.specs.Table.{heap_in}
-use Rattle.w16_model.specs.Walk.{by_its_id}
-use Rattle.w16_model.proofs.Cuts.{HasTold}
+use Rattle.w16_arena.proofs.Common.{ℕ, ◌≤◌, List, length, heap_in, by_its_id, HasTold}
 use Rattle.w16_arena.proofs.Arena.walk.Given as goal
 
 -- as many parts were told as turns were taken

@@ -1,13 +1,5 @@
 -- The first part is a hole, a block, or none.
-use Rattle.std.proofs.Common.{◌≡◌, ◌-◌, ◌≤◌, ◌<◌, ℕ, IsSomeAnd, List, length, Option, Some, None, slice_get, refl, sym, ap, subst, arith}
-use Rattle.w16_model.specs.declared.Block.{Block}
-use Rattle.w16_model.specs.declared.Entry.{Entry}
-use Rattle.w16_model.specs.declared.Item.{Item}
-use Rattle.w16_model.specs.Table.{Table, entry_at, heap_in}
-use Rattle.w16_model.specs.Walk.{IsFirstItem, by_its_id}
-use Rattle.w16_blocks.specs.Layout.{rank}
-use Rattle.w16_blocks.specs.Parts.{IfHole, IfBlock, IsFirstHole, IsFirstBlock}
-use Rattle.w16_arena.specs.State.{table_of}
+use Rattle.w16_arena.proofs.Common.{◌≡◌, ◌-◌, ◌≤◌, ◌<◌, ℕ, IsSomeAnd, List, length, Option, Some, None, slice_get, refl, sym, ap, subst, arith, Block, Entry, Item, Table, entry_at, heap_in, IsFirstItem, by_its_id, rank, IfHole, IfBlock, IsFirstHole, IsFirstBlock, table_of}
 use Rattle.w16_arena.proofs.Shown.{known, told}
 use Rattle.w16_arena.proofs.Walks.{IsPartAt, item_of, first_hole, first_block, part_inside}
 use Rattle.w16_arena.proofs.Arena.walk_from.Goals as goal

@@ -1,9 +1,4 @@
-use Rattle.std.proofs.Common.{ℕ, suc, List, ◌≡◌, ◌-◌, ◌∙◌, length, drop, ap, sym}
-use Rattle.std.specs.Prelude.{slice_get}
-use Rattle.w16_model.specs.Discards.{eligible}
-use Rattle.w16_lru.proofs.Walks.{all_left}
-use Rattle.w16_compact.proofs.Searched.{below_cap, first_here, passed_here}
-use Rattle.w16_compact.proofs.Skips.{rest_after}
+use Rattle.w16_arena.proofs.Common.{ℕ, suc, List, ◌≡◌, ◌-◌, ◌∙◌, length, drop, ap, sym, slice_get, eligible, all_left, below_cap, first_here, passed_here, rest_after}
 use Rattle.w16_arena.proofs.discards.first_eligible.Goals as goal
 
 pub loop-id-init : goal.loop-id-init

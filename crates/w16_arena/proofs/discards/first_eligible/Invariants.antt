@@ -1,5 +1,4 @@
-use Rattle.std.proofs.Common.{ℕ, ◌≡◌, ◌-◌, length, drop}
-use Rattle.w16_model.specs.Discards.{eligible}
+use Rattle.w16_arena.proofs.Common.{ℕ, ◌≡◌, ◌-◌, length, drop, eligible}
 use Rattle.w16_arena.proofs.discards.first_eligible.Given as goal
 
 -- none of those before may be discarded

@@ -1,11 +1,4 @@
-use Rattle.std.proofs.Common.{◌+◌, ◌==◌, subst, ap, sym, ◌∙◌, arith, if◌then◌else◌}
-use Rattle.w16_model.specs.declared.Block.{Block}
-use Rattle.w16_model.specs.Heap.{IsMultiple}
-use Rattle.w16_blocks.specs.Layout.{Layout, all_but}
-use Rattle.w16_compact.specs.Gather.{moved_between}
-use Rattle.w16_compact.proofs.Rests.{rest_more}
-use Rattle.w16_arena.specs.Growth.{but_for}
-use Rattle.w16_arena.specs.NewPlace.{AreMoved, AreFreeBytes}
+use Rattle.w16_arena.proofs.Common.{◌+◌, ◌==◌, subst, ap, sym, ◌∙◌, arith, if◌then◌else◌, Block, IsMultiple, Layout, all_but, moved_between, rest_more, but_for, AreMoved, AreFreeBytes}
 use Rattle.w16_arena.proofs.Fitting.{id_known, fits_free}
 use Rattle.w16_arena.proofs.Keeping.{moved_kept}
 use Rattle.w16_arena.proofs.Replaced.{but_same, but_for_same, is_placed}

@@ -1,9 +1,5 @@
 use Rattle.w16_arena.proofs.Written.{counted_none}
-use Rattle.w16_compact.proofs.Rests.{rest_same}
-use Rattle.std.proofs.lemmas.Bool.{false≢true}
-use Rattle.std.proofs.Common.{◌≡◌, ◌+◌, inr, IfSome, refl, sym, ◌∙◌, subst, arith, inl}
-use Rattle.w16_model.specs.declared.Block.{Block}
-use Rattle.w16_model.specs.Gap.{block_end, hole_after, is_any, IsClear}
+use Rattle.w16_arena.proofs.Common.{rest_same, false≢true, ◌≡◌, ◌+◌, inr, IfSome, refl, sym, ◌∙◌, subst, arith, inl, Block, block_end, hole_after, is_any, IsClear}
 use Rattle.w16_arena.proofs.ButFor.{free_but, own_below}
 use Rattle.w16_arena.proofs.Rooms.{hole_free}
 use Rattle.w16_arena.proofs.Ways.{way_here, enough_here, enough_hole, none_still, slid_enough, clear_bytes}

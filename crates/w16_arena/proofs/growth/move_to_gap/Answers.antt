@@ -1,9 +1,5 @@
 use Rattle.w16_arena.proofs.Written.{counted_both}
-use Rattle.w16_region.specs.Bytes.{counted}
-use Rattle.std.proofs.Common.{◌+◌, arith, ℕ, sym, ap, ◌∙◌}
-use Rattle.w16_blocks.proofs.Ordered.{sum_fits}
-use Rattle.w16_compact.proofs.LeftOut.{may_beside}
-use Rattle.w16_compact.proofs.Opened.{moved_most}
+use Rattle.w16_arena.proofs.Common.{counted, ◌+◌, arith, ℕ, sym, ap, ◌∙◌, sum_fits, may_beside, moved_most}
 use Rattle.w16_arena.proofs.ButFor.{moved_but_for, free_but, fits_at}
 use Rattle.w16_arena.proofs.OtherGap.{all_moved, all_free, known_mid, bytes_mid, others_moved}
 use Rattle.w16_arena.proofs.Shifted.{way_shifted}

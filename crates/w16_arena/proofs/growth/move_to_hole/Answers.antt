@@ -1,8 +1,4 @@
-use Rattle.std.proofs.Common.{Some, refl, ap, ◌∙◌, arith}
-use Rattle.w16_blocks.specs.Layout.{Layout, all_but}
-use Rattle.w16_compact.proofs.Gathering.{moved_same}
-use Rattle.w16_compact.proofs.LeftOut.{ordered_without}
-use Rattle.w16_arena.specs.Growth.{but_for}
+use Rattle.w16_arena.proofs.Common.{Some, refl, ap, ◌∙◌, arith, Layout, all_but, moved_same, ordered_without, but_for}
 use Rattle.w16_arena.proofs.Arranged.{same_moved}
 use Rattle.w16_arena.proofs.ButFor.{free_but, fits_at}
 use Rattle.w16_arena.proofs.Shifted.{others_replaced, way_shifted}

@@ -1,9 +1,4 @@
-use Rattle.std.proofs.Common.{◌≡◌, ◌+◌, ◌≤◌, Option, Some, IfSome, refl, ap, ◌∙◌, subst, sym}
-use Rattle.w16_model.specs.declared.Block.{Block}
-use Rattle.w16_model.specs.Gap.{block_end, is_any, loose_bytes, IsClear}
-use Rattle.w16_model.specs.Table.{block_with}
-use Rattle.w16_blocks.specs.Layout.{Layout}
-use Rattle.w16_compact.specs.Open.{with_loose, opened, end_in, spare_in}
+use Rattle.w16_arena.proofs.Common.{◌≡◌, ◌+◌, ◌≤◌, Option, Some, IfSome, refl, ap, ◌∙◌, subst, sym, Block, block_end, is_any, loose_bytes, IsClear, block_with, Layout, with_loose, opened, end_in, spare_in}
 use Rattle.w16_arena.proofs.ButFor.{own_below}
 use Rattle.w16_arena.proofs.Opening.{may_open_held, own_within_held, own_way_held}
 use Rattle.w16_arena.proofs.growth.open_own.Given as Given

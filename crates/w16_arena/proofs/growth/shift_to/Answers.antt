@@ -1,7 +1,4 @@
-use Rattle.std.proofs.Common.{◌≡◌, IfSome, subst}
-use Rattle.w16_model.specs.declared.Block.{Block}
-use Rattle.w16_blocks.specs.Layout.{holes_of, replaced}
-use Rattle.w16_blocks.specs.Stay.{AreSameBut}
+use Rattle.w16_arena.proofs.Common.{◌≡◌, IfSome, subst, Block, holes_of, replaced, AreSameBut}
 use Rattle.w16_arena.proofs.Shifted.{contents_kept, outside_kept}
 use Rattle.w16_arena.proofs.growth.shift_to.Given as Given
 use Rattle.w16_arena.proofs.growth.shift_to.Goals as goal

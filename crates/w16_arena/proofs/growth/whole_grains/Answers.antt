@@ -1,8 +1,4 @@
-use Rattle.std.proofs.Common.{ℕ, zero, suc, ◌≡◌, ◌-◌, ◌*◌, ◌/◌, ◌%◌, ◌<◌, ◌≤◌, inl, inr, sym, subst, arith}
-use Rattle.std.proofs.Math.Nat.{div-add-mod, mod-lt, mul-le-mul_left}
-use Rattle.std.proofs.lemmas.Bool.{cases_lt}
-use Rattle.w16_model.specs.Heap.{IsMultiple}
-use Rattle.w16_holes.proofs.Units.{above}
+use Rattle.w16_arena.proofs.Common.{ℕ, zero, suc, ◌≡◌, ◌-◌, ◌*◌, ◌/◌, ◌%◌, ◌<◌, ◌≤◌, inl, inr, sym, subst, arith, div-add-mod, mod-lt, mul-le-mul_left, cases_lt, IsMultiple, above}
 use Rattle.w16_arena.proofs.ButFor.{own_lies, own_grained}
 use Rattle.w16_arena.proofs.growth.whole_grains.Given as Given
 use Rattle.w16_arena.proofs.growth.whole_grains.Goals as goal

@@ -1,6 +1,4 @@
-use Rattle.std.proofs.Common.{◌≡◌, IfSome, refl, subst}
-use Rattle.w16_model.specs.declared.Block.{Block}
-use Rattle.w16_blocks.specs.Layout.{Layout, replaced}
+use Rattle.w16_arena.proofs.Common.{◌≡◌, IfSome, refl, subst, Block, Layout, replaced}
 use Rattle.w16_arena.proofs.Kept.{own_kept, others_kept}
 use Rattle.w16_arena.proofs.in_place.resize.Goals as goal
 

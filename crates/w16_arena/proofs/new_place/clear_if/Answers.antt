@@ -1,7 +1,4 @@
-use Rattle.std.proofs.Common.{arith, rules}
-use Rattle.w16_model.specs.Bytes.{repeated}
-use Rattle.w16_model.proofs.Parts.{length-repeated}
-use Rattle.w16_compact.proofs.Rests.{rest_put}
+use Rattle.w16_arena.proofs.Common.{arith, rules, repeated, length-repeated, rest_put}
 use Rattle.w16_arena.proofs.new_place.clear_if.Goals as goal
 
 pub returns-then-asked-clause-rest : goal.returns-then-asked-clause-rest

@@ -1,7 +1,5 @@
 use Rattle.w16_arena.proofs.Written.{counted_none}
-use Rattle.w16_compact.proofs.Rests.{rest_same}
-use Rattle.std.proofs.Common.{rules, sym, ◌∙◌}
-use Rattle.w16_compact.proofs.Gathering.{moved_same}
+use Rattle.w16_arena.proofs.Common.{rest_same, rules, sym, ◌∙◌, moved_same}
 use Rattle.w16_arena.proofs.Arranged.{same_moved}
 use Rattle.w16_arena.proofs.Rooms.{hole_free, hole_enough, hole_missing, made_enough}
 use Rattle.w16_arena.proofs.new_place.make_room.Goals as goal

@@ -1,5 +1,4 @@
-use Rattle.std.proofs.Common.{◌≡◌, false, Option, Some, None, is_some, refl, sym, ◌∙◌}
-use Rattle.w16_model.specs.declared.Block.{Block}
+use Rattle.w16_arena.proofs.Common.{◌≡◌, false, Option, Some, None, is_some, refl, sym, ◌∙◌, Block}
 use Rattle.w16_arena.proofs.With.{without_absent}
 use Rattle.w16_arena.proofs.Keeping.{keeps_same, keeps_holes}
 use Rattle.w16_arena.proofs.objects.remove_block.Goals as goal

@@ -1,5 +1,4 @@
-use Rattle.std.proofs.Common.{is_some, refl, sym, ap, ◌∙◌}
-use Rattle.w16_model.specs.Table.{block_with}
+use Rattle.w16_arena.proofs.Common.{is_some, refl, sym, ap, ◌∙◌, block_with}
 use Rattle.w16_arena.proofs.Shown.{holes_held}
 use Rattle.w16_arena.proofs.objects.set_hold.Goals as goal
 

@@ -1,5 +1,4 @@
-use Rattle.std.proofs.Common.{◌∙◌}
-use Rattle.w16_compact.proofs.OnePass.{room_whole}
+use Rattle.w16_arena.proofs.Common.{◌∙◌, room_whole}
 use Rattle.w16_arena.proofs.without_discard.room_now.Goals as goal
 
 pub returns-clause-value : goal.returns-clause-value

@@ -1,9 +1,4 @@
-use Rattle.std.proofs.Common.{◌≡◌, ◌+◌, IfSome, Option, arith, sym, ap, ◌∙◌, subst}
-use Rattle.w16_model.specs.declared.Block.{Block}
-use Rattle.w16_model.specs.Gap.{block_end, hole_after}
-use Rattle.w16_holes.specs.Holes.{Range, IsPlace, length_at}
-use Rattle.w16_holes.proofs.Units.{multiple_sum}
-use Rattle.w16_blocks.specs.Layout.{range_of, holes_of}
+use Rattle.w16_blocks.proofs.Common.{◌≡◌, ◌+◌, IfSome, Option, arith, sym, ap, ◌∙◌, subst, Block, block_end, hole_after, Range, IsPlace, length_at, multiple_sum, range_of, holes_of}
 use Rattle.w16_blocks.proofs.Step.{lies, grained_known}
 use Rattle.w16_blocks.proofs.After.{length_after}
 use Rattle.w16_blocks.proofs.Blocks.free_after.Goals as goal

@@ -1,5 +1,4 @@
-use Rattle.std.proofs.Common.{List, subst}
-use Rattle.w16_model.specs.declared.Span.{Span}
+use Rattle.w16_blocks.proofs.Common.{List, subst, Span}
 use Rattle.w16_blocks.proofs.Keeping.{part_taken, free_taken, counts_more, layout_sized, BlocksInvariant-more}
 use Rattle.w16_blocks.proofs.Blocks.grow.Goals as goal
 

@@ -1,8 +1,4 @@
-use Rattle.std.proofs.Common.{nat_lt, ap, sym, ◌∙◌}
-use Rattle.std.specs.List.{list_any}
-use Rattle.w16_model.specs.Gap.{is_pinned}
-use Rattle.w16_blocks.specs.Layout.{Layout}
-use Rattle.w16_blocks.specs.Kept.{blocks_in}
+use Rattle.w16_blocks.proofs.Common.{nat_lt, ap, sym, ◌∙◌, list_any, is_pinned, Layout, blocks_in}
 use Rattle.w16_blocks.proofs.Ordered.{counted_any}
 use Rattle.w16_blocks.proofs.Blocks.has_pinned.Goals as goal
 

@@ -1,6 +1,4 @@
-use Rattle.std.proofs.lemmas.Grind.{common_steps}
-use Rattle.std.proofs.Common.{List, add-one, arith, subst}
-use Rattle.w16_model.specs.declared.Span.{Span}
+use Rattle.w16_blocks.proofs.Common.{common_steps, List, add-one, arith, subst, Span}
 use Rattle.w16_blocks.proofs.Keeping.{free_for, size_below, pins_room, layout_added, BlocksInvariant-add}
 use Rattle.w16_blocks.proofs.Blocks.insert.Goals as goal
 

@@ -1,12 +1,4 @@
-use Rattle.std.proofs.Common.{ℕ, suc, ◌≡◌, ◌+◌, ◌-◌, ◌*◌, List, Some, drop, slice_get, arith, sym, ap, ◌∙◌, subst}
-use Rattle.std.specs.Prelude.{slice_index}
-use Rattle.std.specs.Int.{div_ceil}
-use Rattle.std.proofs.lemmas.List.{get_or_read}
-use Rattle.w16_model.specs.declared.Block.{Block}
-use Rattle.w16_model.specs.Gap.{holes}
-use Rattle.w16_holes.specs.Holes.{Range, IsPlace, length_at}
-use Rattle.w16_blocks.specs.Layout.{Layout, rank}
-use Rattle.w16_blocks.specs.Kept.{no_block, blocks_in}
+use Rattle.w16_blocks.proofs.Common.{ℕ, suc, ◌≡◌, ◌+◌, ◌-◌, ◌*◌, List, Some, drop, slice_get, arith, sym, ap, ◌∙◌, subst, slice_index, div_ceil, get_or_read, Block, holes, Range, IsPlace, length_at, Layout, rank, no_block, blocks_in}
 use Rattle.w16_blocks.proofs.Next.{first_by_unit, pass, first_here, none_past, clear_in, units_below, units_above, unit_place}
 use Rattle.w16_blocks.proofs.Blocks.next_from.Goals as goal
 

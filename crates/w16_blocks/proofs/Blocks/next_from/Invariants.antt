@@ -1,6 +1,4 @@
-use Rattle.std.proofs.Common.{◌≡◌, ◌-◌, length, drop, slice_get}
-use Rattle.w16_blocks.specs.Layout.{rank}
-use Rattle.w16_blocks.specs.Kept.{blocks_in}
+use Rattle.w16_blocks.proofs.Common.{◌≡◌, ◌-◌, length, drop, slice_get, rank, blocks_in}
 use Rattle.w16_blocks.proofs.Blocks.next_from.Given as goal
 
 -- the block that is looked for is the first that the cells from here on tell

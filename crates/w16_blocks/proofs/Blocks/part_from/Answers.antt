@@ -1,10 +1,4 @@
-use Rattle.std.proofs.Common.{suc, ◌≡◌, ◌+◌, ◌-◌, ◌*◌, arith, sym, subst}
-use Rattle.std.specs.Prelude.{slice_index}
-use Rattle.std.proofs.lemmas.List.{get_or_read}
-use Rattle.w16_holes.specs.Holes.{Range, IsPlace}
-use Rattle.w16_blocks.specs.Layout.{Layout}
-use Rattle.w16_blocks.specs.Kept.{no_block, layout_in}
-use Rattle.w16_blocks.specs.Parts.{IsFirstHole, IsFirstBlock, IsBehindAll}
+use Rattle.w16_blocks.proofs.Common.{suc, ◌≡◌, ◌+◌, ◌-◌, ◌*◌, arith, sym, subst, slice_index, get_or_read, Range, IsPlace, Layout, no_block, layout_in, IsFirstHole, IsFirstBlock, IsBehindAll}
 use Rattle.w16_blocks.proofs.Next.{unit_place}
 use Rattle.w16_blocks.proofs.Passed.{hole_at, hole_first, block_first, none_first, passed_first, passed_more}
 use Rattle.w16_blocks.proofs.Blocks.part_from.Goals as goal

@@ -1,10 +1,4 @@
-use Rattle.w16_region.specs.Bytes.{counted}
-use Rattle.std.proofs.lemmas.Grind.{common_steps}
-use Rattle.std.proofs.Common.{List, add-one, ap, arith, subst, ℕ, ◌∙◌}
-use Rattle.w16_model.specs.declared.Span.{Span}
-use Rattle.w16_holes.specs.Holes.{Range}
-use Rattle.w16_blocks.specs.Layout.{Layout, holes_of}
-use Rattle.w16_blocks.specs.Stay.{AreSameBut}
+use Rattle.w16_blocks.proofs.Common.{counted, common_steps, List, add-one, ap, arith, subst, ℕ, ◌∙◌, Span, Range, Layout, holes_of, AreSameBut}
 use Rattle.w16_blocks.proofs.Keeping.{lies_in, place_grained, unit_inside}
 use Rattle.w16_blocks.proofs.Shifting.{part_entered, free_entered, source_in, part_left, used_left, same_free, layout_shifted, BlocksInvariant-shift, come_too, others_same}
 use Rattle.w16_blocks.proofs.Blocks.relocate.Goals as goal

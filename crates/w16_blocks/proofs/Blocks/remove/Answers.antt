@@ -1,7 +1,4 @@
-use Rattle.std.proofs.Common.{List, ap, arith, subst}
-use Rattle.w16_model.specs.declared.Span.{Span}
-use Rattle.w16_holes.specs.Holes.{AreSameOutside}
-use Rattle.w16_blocks.specs.Layout.{Layout}
+use Rattle.w16_blocks.proofs.Common.{List, ap, arith, subst, Span, AreSameOutside, Layout}
 use Rattle.w16_blocks.proofs.Keeping.{lies_in, place_grained, part_kept, used_kept, with_size, pins_below, unit_inside, layout_dropped, BlocksInvariant-drop}
 use Rattle.w16_blocks.proofs.Blocks.remove.Goals as goal
 

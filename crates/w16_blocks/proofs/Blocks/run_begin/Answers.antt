@@ -1,5 +1,4 @@
-use Rattle.std.proofs.Common.{◌≡◌, ◌+◌, ◌≤◌, ◌⊎◌, arith, inl, inr}
-use Rattle.w16_model.specs.Gap.{block_end}
+use Rattle.w16_blocks.proofs.Common.{◌≡◌, ◌+◌, ◌≤◌, ◌⊎◌, arith, inl, inr, block_end}
 use Rattle.w16_blocks.proofs.Rising.{run_before, none_ends, none_ends_low}
 use Rattle.w16_blocks.proofs.Remove.{each_with}
 use Rattle.w16_blocks.proofs.Step.{lies}

@@ -1,5 +1,4 @@
-use Rattle.std.proofs.Common.{◌-◌, ◌≤◌}
-use Rattle.w16_blocks.specs.Runs.{IsRun}
+use Rattle.w16_blocks.proofs.Common.{◌-◌, ◌≤◌, IsRun}
 use Rattle.w16_blocks.proofs.Blocks.run_end.Given as goal
 
 abbrev pub invariant-loop-end : goal.invariant-loop-end

@@ -1,7 +1,4 @@
-use Rattle.std.proofs.Common.{◌≡◌, IfSome, Option, set, arith, sym, subst}
-use Rattle.w16_model.specs.declared.Block.{Block}
-use Rattle.w16_blocks.specs.Layout.{replaced}
-use Rattle.w16_blocks.specs.Kept.{layout_in}
+use Rattle.w16_blocks.proofs.Common.{◌≡◌, IfSome, Option, set, arith, sym, subst, Block, replaced, layout_in}
 use Rattle.w16_blocks.proofs.Keeping.{pins_below, pins_other, layout_held, BlocksInvariant-held}
 use Rattle.w16_blocks.proofs.Blocks.set_hold.Goals as goal
 

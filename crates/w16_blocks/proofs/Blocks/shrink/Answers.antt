@@ -1,7 +1,4 @@
-use Rattle.std.proofs.Common.{List, ap, arith, subst}
-use Rattle.w16_model.specs.declared.Span.{Span}
-use Rattle.w16_holes.specs.Holes.{AreSameOutside}
-use Rattle.w16_blocks.specs.Layout.{Layout}
+use Rattle.w16_blocks.proofs.Common.{List, ap, arith, subst, Span, AreSameOutside, Layout}
 use Rattle.w16_blocks.proofs.Keeping.{lies_in, part_put, used_put, with_size, layout_sized, BlocksInvariant-less}
 use Rattle.w16_blocks.proofs.Blocks.shrink.Goals as goal
 

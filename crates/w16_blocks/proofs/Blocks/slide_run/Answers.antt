@@ -1,14 +1,4 @@
-use Rattle.w16_region.specs.Bytes.{counted}
-use Rattle.std.proofs.Common.{ℕ, List, length, map, ◌≡◌, ◌∙◌, ◌-◌, ap, sym, arith, subst}
-use Rattle.std.specs.Vec.{with_items}
-use Rattle.std.proofs.lemmas.List.{with_items_is}
-use Rattle.w16_model.specs.declared.Block.{Block}
-use Rattle.w16_model.specs.declared.Span.{Span}
-use Rattle.w16_holes.specs.Holes.{Range}
-use Rattle.w16_blocks.specs.Layout.{Layout, holes_of}
-use Rattle.w16_blocks.specs.Kept.{blocks_in, AreTables, BlocksInvariant, layout_in}
-use Rattle.w16_blocks.specs.Runs.{slid_with}
-use Rattle.w16_blocks.specs.Stay.{AreSameBut}
+use Rattle.w16_blocks.proofs.Common.{counted, ℕ, List, length, map, ◌≡◌, ◌∙◌, ◌-◌, ap, sym, arith, subst, with_items, with_items_is, Block, Span, Range, Layout, holes_of, blocks_in, AreTables, BlocksInvariant, layout_in, slid_with, AreSameBut}
 use Rattle.w16_blocks.proofs.RunHoles.{way_down}
 use Rattle.w16_blocks.proofs.RunKept.{part_entered, free_entered, part_left, used_left, same_free, BlocksInvariant-run, come_too, others_same}
 use Rattle.w16_blocks.proofs.Blocks.slide_run.Given as Given

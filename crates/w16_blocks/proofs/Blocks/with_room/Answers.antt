@@ -1,9 +1,4 @@
-use Rattle.std.proofs.Common.{ℕ, ◌≡◌, ◌-◌, ◌+◌, ◌*◌, ◌/◌, ◌<◌, ◌≤◌, List, [], length, replicate, arith, rules, sym, ap, ◌∙◌, subst}
-use Rattle.std.specs.Prelude.{slice_index, sum_by}
-use Rattle.std.proofs.lemmas.List.{length-replicate}
-use Rattle.w16_model.specs.declared.Block.{Block}
-use Rattle.w16_model.specs.Gap.{holes}
-use Rattle.w16_blocks.specs.Kept.{no_block, slot_of, blocks_in, layout_in, pins_in}
+use Rattle.w16_blocks.proofs.Common.{ℕ, ◌≡◌, ◌-◌, ◌+◌, ◌*◌, ◌/◌, ◌<◌, ◌≤◌, List, [], length, replicate, arith, rules, sym, ap, ◌∙◌, subst, slice_index, sum_by, length-replicate, Block, holes, no_block, slot_of, blocks_in, layout_in, pins_in}
 use Rattle.w16_blocks.proofs.Tables.{blocks_in-none, AreTables-none, get_or-replicate_same}
 use Rattle.w16_blocks.proofs.Blocks.with_room.Goals as goal
 

@@ -1,7 +1,5 @@
-use Rattle.std.proofs.Common.{ℕ, zero, suc, ◌≡◌, ◌<◌, List, eqb-true, arith}
-use Rattle.std.specs.Prelude.{slice_index}
-use Rattle.std.specs.Int.Bits.{bit_or}
-use Rattle.std.proofs.lemmas.Nat.{le_or_l, le_or_r}
+use Rattle.w16_blocks.proofs.Common.{ℕ, zero, suc, ◌≡◌, ◌<◌, List, arith, slice_index, bit_or, le_or_l, le_or_r}
+use Rattle.std.proofs.Common.{eqb-true}
 use Rattle.w16_blocks.proofs.below.are_blank.Goals as goal
 
 -- numbers without a bit together have none each

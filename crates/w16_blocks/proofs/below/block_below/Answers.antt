@@ -1,8 +1,4 @@
-use Rattle.std.proofs.Common.{ℕ, ◌≡◌, ◌-◌, ◌∙◌, arith, refl, ap, sym, subst}
-use Rattle.std.specs.Prelude.{slice_index}
-use Rattle.std.specs.Int.{div_ceil}
-use Rattle.w16_blocks.specs.Below.{IsLastBelow}
-use Rattle.w16_blocks.specs.Kept.{blocks_in}
+use Rattle.w16_blocks.proofs.Common.{ℕ, ◌≡◌, ◌-◌, ◌∙◌, arith, refl, ap, sym, subst, slice_index, div_ceil, IsLastBelow, blocks_in}
 use Rattle.w16_blocks.proofs.Downward.{none_below, last_here}
 use Rattle.w16_blocks.proofs.Tagged.{is_slot, slot_in}
 use Rattle.w16_blocks.proofs.below.block_below.Goals as goal

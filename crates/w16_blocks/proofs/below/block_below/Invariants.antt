@@ -1,5 +1,4 @@
-use Rattle.std.proofs.Common.{ℕ, ◌≡◌, ◌≤◌, ◌<◌}
-use Rattle.std.specs.Prelude.{slice_index}
+use Rattle.w16_blocks.proofs.Common.{ℕ, ◌≡◌, ◌≤◌, ◌<◌, slice_index}
 use Rattle.w16_blocks.proofs.below.block_below.Given as goal
 
 -- no block begins in the units that were looked at

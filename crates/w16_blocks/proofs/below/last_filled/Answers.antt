@@ -1,7 +1,4 @@
-use Rattle.std.proofs.Common.{ℕ, ◌≡◌, ◌+◌, ◌-◌, ◌<◌, ◌≤◌, inl, inr, List, length, take, drop, arith, sym, ap, ◌∙◌}
-use Rattle.std.specs.Prelude.{slice_index}
-use Rattle.std.proofs.lemmas.Bool.{cases_lt}
-use Rattle.std.proofs.lemmas.List.{get_or-drop, get_or-take, length-take-le}
+use Rattle.w16_blocks.proofs.Common.{ℕ, ◌≡◌, ◌+◌, ◌-◌, ◌<◌, ◌≤◌, inl, inr, List, length, take, drop, arith, sym, ap, ◌∙◌, slice_index, cases_lt, get_or-drop, get_or-take, length-take-le}
 use Rattle.w16_blocks.proofs.below.last_filled.Goals as goal
 
 -- the last eight cells of a front are blank

@@ -1,5 +1,4 @@
-use Rattle.std.proofs.Common.{ℕ, ◌≡◌, ◌≤◌, ◌<◌}
-use Rattle.std.specs.Prelude.{slice_index}
+use Rattle.w16_blocks.proofs.Common.{ℕ, ◌≡◌, ◌≤◌, ◌<◌, slice_index}
 use Rattle.w16_blocks.proofs.below.last_filled.Given as goal
 
 -- no block begins in the cells that were looked at

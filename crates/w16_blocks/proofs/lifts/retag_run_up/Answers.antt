@@ -1,8 +1,4 @@
-use Rattle.std.proofs.Common.{ℕ, ◌≡◌, ◌+◌, ◌-◌, ◌∙◌, ◌≤◌, List, length, arith, refl, sym, subst}
-use Rattle.std.specs.List.{AllByRecursion}
-use Rattle.w16_model.specs.declared.Block.{Block}
-use Rattle.w16_blocks.specs.Layout.{IsOrdered}
-use Rattle.w16_blocks.specs.Kept.{blocks_in, layout_in, AreTables}
+use Rattle.w16_blocks.proofs.Common.{ℕ, ◌≡◌, ◌+◌, ◌-◌, ◌∙◌, ◌≤◌, List, length, arith, refl, sym, subst, AllByRecursion, Block, IsOrdered, blocks_in, layout_in, AreTables}
 use Rattle.w16_blocks.proofs.Rising.{begins_in, fits_next, list_next, cut_next, none_before}
 use Rattle.w16_blocks.proofs.Sliding.{slid_none}
 use Rattle.w16_blocks.proofs.lifts.retag_run_up.Goals as goal

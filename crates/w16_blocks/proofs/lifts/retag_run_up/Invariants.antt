@@ -1,6 +1,4 @@
-use Rattle.std.proofs.Common.{◌≡◌, ◌+◌, ◌-◌, ◌≤◌, length, map}
-use Rattle.w16_blocks.specs.Kept.{blocks_in, AreTables}
-use Rattle.w16_blocks.specs.Runs.{IsCut, slid_with}
+use Rattle.w16_blocks.proofs.Common.{◌≡◌, ◌+◌, ◌-◌, ◌≤◌, length, map, blocks_in, AreTables, IsCut, slid_with}
 use Rattle.w16_blocks.proofs.lifts.retag_run_up.Given as goal
 
 abbrev pub invariant-loop-at : goal.invariant-loop-at

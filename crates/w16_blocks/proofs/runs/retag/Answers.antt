@@ -1,5 +1,4 @@
-use Rattle.std.proofs.Common.{ℕ, ◌∙◌, ap, length, set, refl, sym, subst, add-one}
-use Rattle.w16_blocks.specs.Kept.{blocks_in, layout_in, AreTables}
+use Rattle.w16_blocks.proofs.Common.{ℕ, ◌∙◌, ap, length, set, refl, sym, subst, add-one, blocks_in, layout_in, AreTables}
 use Rattle.w16_blocks.proofs.Step.{lies, grained_known}
 use Rattle.w16_blocks.proofs.Tables.{cell_at, unit_told, AreTables-move, blocks_in-move}
 use Rattle.w16_blocks.proofs.runs.retag.Goals as goal

@@ -1,13 +1,4 @@
-use Rattle.std.proofs.Common.{ℕ, List, Some, length, map, arith, refl, sym, subst, ◌∙◌, ◌+◌, ◌-◌, ◌<◌, ◌≤◌, ◌^◌, ◌≡◌}
-use Rattle.std.specs.List.{AllByRecursion}
-use Rattle.w16_model.specs.declared.Block.{Block}
-use Rattle.w16_model.specs.declared.Span.{Span}
-use Rattle.w16_model.specs.Heap.{IsMultiple}
-use Rattle.w16_model.specs.Table.{block_with}
-use Rattle.w16_holes.proofs.Units.{multiple_sum}
-use Rattle.w16_blocks.specs.Layout.{Layout, IsOrdered, FitsFor, replaced}
-use Rattle.w16_blocks.specs.Kept.{blocks_in, layout_in, AreTables}
-use Rattle.w16_blocks.specs.Runs.{slid_with}
+use Rattle.w16_blocks.proofs.Common.{ℕ, List, Some, length, map, arith, refl, sym, subst, ◌∙◌, ◌+◌, ◌-◌, ◌<◌, ◌≤◌, ◌^◌, ◌≡◌, AllByRecursion, Block, Span, IsMultiple, block_with, multiple_sum, Layout, IsOrdered, FitsFor, replaced, blocks_in, layout_in, AreTables, slid_with}
 use Rattle.w16_blocks.proofs.Step.{lies, grained_known, multiple_less}
 use Rattle.w16_blocks.proofs.Sliding.{IsReady, IsFilled, slid_none, ready_start, filled_start, some_at, ends_inside, fits_there, ready_then, filled_then, slid_then}
 use Rattle.w16_blocks.proofs.runs.retag_run.Goals as goal

@@ -1,8 +1,4 @@
-use Rattle.std.proofs.Common.{◌≡◌, ◌-◌, ◌≤◌, length, map}
-use Rattle.std.specs.List.{AllByRecursion}
-use Rattle.w16_model.specs.Heap.{IsMultiple}
-use Rattle.w16_blocks.specs.Kept.{blocks_in, AreTables}
-use Rattle.w16_blocks.specs.Runs.{slid_with}
+use Rattle.w16_blocks.proofs.Common.{◌≡◌, ◌-◌, ◌≤◌, length, map, AllByRecursion, IsMultiple, blocks_in, AreTables, slid_with}
 use Rattle.w16_blocks.proofs.Sliding.{IsReady, IsFilled}
 use Rattle.w16_blocks.proofs.runs.retag_run.Given as goal
 

@@ -1,8 +1,4 @@
-use Rattle.std.proofs.Common.{◌≡◌, ◌+◌, ◌-◌, ◌<◌, ℕ, length, max, not, filter, arith, refl, sym, ap, ◌∙◌, subst}
-use Rattle.w16_model.specs.declared.Block.{Block}
-use Rattle.w16_model.specs.declared.Span.{Span}
-use Rattle.w16_model.specs.Gap.{room}
-use Rattle.w16_model.specs.Discards.{is_about}
+use Rattle.w16_compact.proofs.Common.{◌≡◌, ◌+◌, ◌-◌, ◌<◌, ℕ, length, max, not, filter, arith, refl, sym, ap, ◌∙◌, subst, Block, Span, room, is_about}
 use Rattle.w16_compact.proofs.OnePass.{ord_max-max}
 use Rattle.w16_compact.proofs.ByAddress.{all_left, may_begin}
 use Rattle.w16_compact.proofs.Skips.{IsPassed, rest_is, fits_now, reaches_now, turn_skipped, turn_pinned, turn_loose, passed_start, passed_end, ends_now_all, id_here}

@@ -1,7 +1,4 @@
-use Rattle.std.proofs.Common.{ℕ, ◌≡◌, not, drop, filter}
-use Rattle.w16_model.specs.Gap.{room}
-use Rattle.w16_model.specs.Discards.{is_about}
-use Rattle.w16_blocks.specs.Layout.{from_address}
+use Rattle.w16_compact.proofs.Common.{ℕ, ◌≡◌, not, drop, filter, room, is_about, from_address}
 use Rattle.w16_compact.proofs.Skips.{IsPassed}
 use Rattle.w16_compact.proofs.Filled.{IsFilled}
 use Rattle.w16_compact.proofs.gap_rooms.fill.Given as goal

@@ -1,6 +1,4 @@
-use Rattle.std.proofs.Common.{◌≡◌, ◌+◌, ℕ, List, [], Option, Some, None, sum_by, arith, sym, subst}
-use Rattle.w16_model.specs.declared.Block.{Block}
-use Rattle.w16_model.specs.Discards.{blocks_without}
+use Rattle.w16_compact.proofs.Common.{◌≡◌, ◌+◌, ℕ, List, [], Option, Some, None, sum_by, arith, sym, subst, Block, blocks_without}
 use Rattle.w16_compact.proofs.AllLoose.{left_none, left_other, left_known}
 use Rattle.w16_compact.proofs.gap_rooms.own_size.Goals as goal
 

@@ -1,15 +1,4 @@
-use Rattle.std.proofs.lemmas.Grind.{common_steps}
-use Rattle.std.proofs.Common.{◌≡◌, ℕ, ◌+◌, ◌-◌, ◌<◌, ◌≤◌, sum_by, refl, drop, List, [], ◌∷◌, Option, Some, None, false, IsSome, MatchOption, arith, sym, ap, ◌∙◌, subst}
-use Rattle.std.proofs.lemmas.Bool.{false≢true}
-use Rattle.w16_model.specs.declared.Block.{Block}
-use Rattle.w16_model.specs.declared.Span.{Span}
-use Rattle.w16_model.specs.Discards.{is_about}
-use Rattle.w16_model.specs.Gap.{room}
-use Rattle.w16_blocks.specs.Layout.{Layout, IsOrdered}
-use Rattle.w16_blocks.proofs.Ordered.{sum_fits}
-use Rattle.w16_compact.specs.declared.gaps.Gap.{Gap}
-use Rattle.w16_compact.specs.declared.reach.Reached.{Reached}
-use Rattle.w16_compact.specs.Gap.{others, without, HasRoom}
+use Rattle.w16_compact.proofs.Common.{common_steps, ◌≡◌, ℕ, ◌+◌, ◌-◌, ◌<◌, ◌≤◌, sum_by, refl, drop, List, [], ◌∷◌, Option, Some, None, false, IsSome, MatchOption, arith, sym, ap, ◌∙◌, subst, false≢true, Block, Span, is_about, room, Layout, IsOrdered, sum_fits, Gap, Reached, others, without, HasRoom}
 use Rattle.w16_compact.proofs.AllLoose.{walked_all, none_in}
 use Rattle.w16_compact.proofs.ByAddress.{all_left, may_begin}
 use Rattle.w16_compact.proofs.LeftOut.{ordered_without, none_left, next_in, next_out}

@@ -1,6 +1,4 @@
-use Rattle.std.proofs.Common.{ℕ, ◌≡◌, drop}
-use Rattle.w16_blocks.specs.Layout.{IsOrdered, from_address}
-use Rattle.w16_compact.specs.Gap.{others, without}
+use Rattle.w16_compact.proofs.Common.{ℕ, ◌≡◌, drop, IsOrdered, from_address, others, without}
 use Rattle.w16_compact.proofs.Walked.{IsWalked}
 use Rattle.w16_compact.proofs.gaps.gap_for.Given as goal
 

@@ -1,9 +1,4 @@
-use Rattle.std.proofs.Common.{ℕ, ◌≡◌, ◌+◌, List, Option, Some, None, sum_by, arith, sym, ap}
-use Rattle.w16_model.specs.declared.Block.{Block}
-use Rattle.w16_model.specs.Table.{block_with}
-use Rattle.w16_blocks.specs.Layout.{AreNamed, all_but}
-use Rattle.w16_blocks.proofs.Remove.{sum-all_but}
-use Rattle.w16_compact.specs.Gap.{others}
+use Rattle.w16_compact.proofs.Common.{ℕ, ◌≡◌, ◌+◌, List, Option, Some, None, sum_by, arith, sym, ap, Block, block_with, AreNamed, all_but, sum-all_but, others}
 use Rattle.w16_compact.proofs.LeftOut.{absent_left}
 use Rattle.w16_compact.proofs.gaps.left_out.Goals as goal
 

@@ -1,6 +1,4 @@
-use Rattle.std.proofs.Common.{◌<◌, ◌≤◌, ◌⊎◌, inl, inr, arith}
-use Rattle.w16_model.specs.declared.Block.{Block}
-use Rattle.w16_model.proofs.Gaps.{Each-map}
+use Rattle.w16_compact.proofs.Common.{◌<◌, ◌≤◌, ◌⊎◌, inl, inr, arith, Block, Each-map}
 use Rattle.w16_compact.proofs.opening.last_between.Goals as goal
 
 pub returns-else-low-block-clause-value : goal.returns-else-low-block-clause-value

@@ -1,12 +1,4 @@
-use Rattle.std.proofs.Common.{ℕ, ◌≡◌, ◌+◌, ◌<◌, ◌≤◌, ◌⊎◌, ◌∙◌, Some, IfSome, arith, inl, inr, sym, ap, subst}
-use Rattle.w16_model.specs.declared.Block.{Block}
-use Rattle.w16_model.specs.Gap.{IsClear, IsGap, IsHole, IsLaid, is_any, block_end, loose_bytes}
-use Rattle.w16_model.specs.Table.{block_with}
-use Rattle.w16_blocks.specs.Layout.{Layout}
-use Rattle.w16_blocks.proofs.Ordered.{sum_fits}
-use Rattle.w16_blocks.proofs.Remove.{with_id}
-use Rattle.w16_compact.specs.Gather.{gathered, moved_between, AreSlid}
-use Rattle.w16_compact.specs.Open.{raised, opened, end_in, spare_in}
+use Rattle.w16_compact.proofs.Common.{ℕ, ◌≡◌, ◌+◌, ◌<◌, ◌≤◌, ◌⊎◌, ◌∙◌, Some, IfSome, arith, inl, inr, sym, ap, subst, Block, IsClear, IsGap, IsHole, IsLaid, is_any, block_end, loose_bytes, block_with, Layout, sum_fits, with_id, gathered, moved_between, AreSlid, raised, opened, end_in, spare_in}
 use Rattle.w16_compact.proofs.Opened.{may_low, may_high, slid_more, moved_most, moved_opened, with_opened, clear_opened, hole_opened, alone_opened, known_by, of_known, if_known}
 use Rattle.w16_compact.proofs.opening.open_loose.Given as Given
 use Rattle.w16_compact.proofs.opening.open_loose.Goals as goal

@@ -1,17 +1,4 @@
-use Rattle.std.proofs.Common.{ℕ, ◌≡◌, ◌≢◌, Some, inl, inr, ◌-◌, ◌<◌, ◌≤◌, ◌⊎◌, ◌∙◌, arith, refl, sym, ap, subst}
-use Rattle.std.proofs.lemmas.Bool.{cases_lt}
-use Rattle.std.specs.List.{AllByRecursion}
-use Rattle.w16_model.specs.declared.Block.{Block}
-use Rattle.w16_model.specs.Gap.{block_end}
-use Rattle.w16_model.specs.Heap.{IsMultiple}
-use Rattle.w16_model.specs.Table.{block_with}
-use Rattle.w16_holes.proofs.Units.{multiple_sum}
-use Rattle.w16_blocks.specs.Layout.{Layout, IsOrdered}
-use Rattle.w16_blocks.specs.Runs.{IsRun, BeginsAt}
-use Rattle.w16_blocks.proofs.Remove.{each_with}
-use Rattle.w16_blocks.proofs.Step.{lies, multiple_less, grained_known}
-use Rattle.w16_compact.specs.Gather.{moved_between, AreSlid}
-use Rattle.w16_compact.specs.Open.{raised}
+use Rattle.w16_compact.proofs.Common.{ℕ, ◌≡◌, ◌≢◌, Some, inl, inr, ◌-◌, ◌<◌, ◌≤◌, ◌⊎◌, ◌∙◌, arith, refl, sym, ap, subst, cases_lt, AllByRecursion, Block, block_end, IsMultiple, block_with, multiple_sum, Layout, IsOrdered, IsRun, BeginsAt, each_with, lies, multiple_less, grained_known, moved_between, AreSlid, raised}
 use Rattle.w16_compact.proofs.Gathering.{cut_low, cut_high, at_most}
 use Rattle.w16_compact.proofs.Raising.{loose_empty, raised_none, raised_all, moved_start, slid_raised, cut_low_now, cut_end_now, end_below, room_then, bare_then, place_then, list_then, cut_then, moved_then}
 use Rattle.w16_compact.proofs.Rests.{rest_more, rest_same}

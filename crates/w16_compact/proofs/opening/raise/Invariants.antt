@@ -1,12 +1,4 @@
-use Rattle.std.proofs.Common.{◌≡◌, ◌+◌, ◌≤◌}
-use Rattle.w16_model.specs.Gap.{loose_bytes}
-use Rattle.w16_model.specs.Heap.{IsMultiple}
-use Rattle.w16_region.specs.Bytes.{counted}
-use Rattle.w16_blocks.specs.Layout.{IsOrdered, holes_of}
-use Rattle.w16_blocks.specs.Runs.{IsCut}
-use Rattle.w16_compact.specs.Gather.{contents, moved_between}
-use Rattle.w16_compact.specs.Open.{raised}
-use Rattle.w16_compact.specs.Rest.{IsSameRest}
+use Rattle.w16_compact.proofs.Common.{◌≡◌, ◌+◌, ◌≤◌, loose_bytes, IsMultiple, counted, IsOrdered, holes_of, IsCut, contents, moved_between, raised, IsSameRest}
 use Rattle.w16_compact.proofs.opening.raise.Given as goal
 
 abbrev pub invariant-loop-block : goal.invariant-loop-block

@@ -1,5 +1,4 @@
-use Rattle.std.proofs.Common.{◌<◌, arith, subst}
-use Rattle.w16_model.specs.Discards.{room_for, snapshot}
+use Rattle.w16_compact.proofs.Common.{◌<◌, arith, subst, room_for, snapshot}
 use Rattle.w16_compact.proofs.Searched.{least_needed, none_needed}
 use Rattle.w16_compact.proofs.prefix.least_prefix.Goals as goal
 

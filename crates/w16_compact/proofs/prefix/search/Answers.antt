@@ -1,6 +1,4 @@
-use Rattle.std.proofs.Common.{ℕ, suc, List, ◌≡◌, ◌-◌, ◌<◌, inl, inr, length, drop, ap, sym, ◌∙◌, subst, arith, add-one}
-use Rattle.std.proofs.lemmas.Bool.{cases_lt}
-use Rattle.w16_model.specs.Discards.{eligible, room_for, snapshot}
+use Rattle.w16_compact.proofs.Common.{ℕ, suc, List, ◌≡◌, ◌-◌, ◌<◌, inl, inr, length, drop, ap, sym, ◌∙◌, subst, arith, add-one, cases_lt, eligible, room_for, snapshot}
 use Rattle.w16_compact.proofs.Searched.{first_here, passed_here, room_past}
 use Rattle.w16_compact.proofs.Skips.{rest_after}
 use Rattle.w16_compact.proofs.Widened.{known_gap, fits_room, reached_next, once_each}

@@ -1,5 +1,4 @@
-use Rattle.std.proofs.Common.{ℕ, ◌≡◌, ◌-◌, ◌<◌, ◌≤◌, length, drop}
-use Rattle.w16_model.specs.Discards.{eligible, room_for, snapshot}
+use Rattle.w16_compact.proofs.Common.{ℕ, ◌≡◌, ◌-◌, ◌<◌, ◌≤◌, length, drop, eligible, room_for, snapshot}
 use Rattle.w16_compact.proofs.Widened.{IsReached}
 use Rattle.w16_compact.proofs.prefix.search.Given as goal
 

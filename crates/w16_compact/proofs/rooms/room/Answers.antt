@@ -1,7 +1,4 @@
-use Rattle.std.proofs.Common.{◌≡◌, ◌+◌, max, arith, sym, ap, ◌∙◌, subst}
-use Rattle.w16_model.specs.declared.Span.{Span}
-use Rattle.w16_model.specs.Gap.{room}
-use Rattle.w16_compact.specs.Skip.{is_counted, counted_of}
+use Rattle.w16_compact.proofs.Common.{◌≡◌, ◌+◌, max, arith, sym, ap, ◌∙◌, subst, Span, room, is_counted, counted_of}
 use Rattle.w16_compact.proofs.OnePass.{ord_max-max}
 use Rattle.w16_compact.proofs.ByAddress.{all_left, may_begin}
 use Rattle.w16_compact.proofs.Skips.{IsPassed, rest_is, fits_now, reaches_now, turn_skipped, turn_pinned, turn_loose, passed_start, id_here}

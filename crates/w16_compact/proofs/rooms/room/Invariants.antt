@@ -1,7 +1,4 @@
-use Rattle.std.proofs.Common.{ℕ, ◌≡◌, drop}
-use Rattle.w16_model.specs.Gap.{room}
-use Rattle.w16_blocks.specs.Layout.{from_address}
-use Rattle.w16_compact.specs.Skip.{is_counted, counted_of}
+use Rattle.w16_compact.proofs.Common.{ℕ, ◌≡◌, drop, room, from_address, is_counted, counted_of}
 use Rattle.w16_compact.proofs.Skips.{IsPassed}
 use Rattle.w16_compact.proofs.rooms.room.Given as goal
 

@@ -1,9 +1,4 @@
-use Rattle.std.proofs.Common.{◌≡◌, ◌+◌, ◌-◌, inl, inr, refl, sym, ◌∙◌, ap, subst, arith}
-use Rattle.std.specs.List.{AllByRecursion}
-use Rattle.w16_model.specs.declared.Span.{Span}
-use Rattle.w16_model.specs.Gap.{IsClear, IsHole, is_any, loose_bytes}
-use Rattle.w16_blocks.specs.Layout.{Layout}
-use Rattle.w16_compact.specs.Gather.{gathered, moved_between, FitsGap, AreSlid}
+use Rattle.w16_compact.proofs.Common.{◌≡◌, ◌+◌, ◌-◌, inl, inr, refl, sym, ◌∙◌, ap, subst, arith, AllByRecursion, Span, IsClear, IsHole, is_any, loose_bytes, Layout, gathered, moved_between, FitsGap, AreSlid}
 use Rattle.w16_compact.proofs.Cleared.{slid_gathered, clear_gathered, hole_gathered, alone_gathered}
 use Rattle.w16_compact.proofs.Rests.{rest_more, rest_same}
 use Rattle.w16_compact.proofs.Gathering.{AreKept, kept_start, moved_same, some_run, above, cuts, bare_to, grained_at, fits_then, list_then, run_then, kept_then, moved_step, at_most, list_end}

@@ -1,10 +1,4 @@
-use Rattle.std.proofs.Common.{◌≡◌, ◌-◌, ◌≤◌}
-use Rattle.std.specs.List.{AllByRecursion}
-use Rattle.w16_region.specs.Bytes.{counted}
-use Rattle.w16_blocks.specs.Layout.{IsOrdered, holes_of}
-use Rattle.w16_blocks.specs.Runs.{IsRun}
-use Rattle.w16_compact.specs.Gather.{gathered, contents, moved_between, FitsGap}
-use Rattle.w16_compact.specs.Rest.{IsSameRest}
+use Rattle.w16_compact.proofs.Common.{◌≡◌, ◌-◌, ◌≤◌, AllByRecursion, counted, IsOrdered, holes_of, IsRun, gathered, contents, moved_between, FitsGap, IsSameRest}
 use Rattle.w16_compact.proofs.Gathering.{AreKept}
 use Rattle.w16_compact.proofs.slide.gather.Given as goal
 

@@ -1,11 +1,4 @@
-use Rattle.std.proofs.Common.{◌-◌, ap, subst, arith, rules}
-use Rattle.std.specs.List.{AllByRecursion}
-use Rattle.w16_model.specs.Gap.{IsLaid, block_end, holes}
-use Rattle.w16_holes.specs.Holes.{IsUsed}
-use Rattle.w16_blocks.specs.Layout.{Layout, holes_of}
-use Rattle.w16_blocks.specs.Stay.{AreSameBut}
-use Rattle.w16_blocks.proofs.Outside.{used_each, outside_but}
-use Rattle.w16_blocks.proofs.RunHoles.{lies_of}
+use Rattle.w16_compact.proofs.Common.{◌-◌, ap, subst, arith, rules, AllByRecursion, IsLaid, block_end, holes, IsUsed, Layout, holes_of, AreSameBut, used_each, outside_but, lies_of}
 use Rattle.w16_compact.proofs.Settled.{same_layout, contents_run, cleared_down}
 use Rattle.w16_compact.proofs.slide.settle.Goals as goal
 

@@ -1,7 +1,5 @@
-use Rattle.std.proofs.Common.{◌∙◌, inr, length, Some, ap, arith}
-use Rattle.std.proofs.lemmas.List.{length-set}
+use Rattle.w16_global.proofs.Common.{◌∙◌, inr, length, Some, ap, arith, length-set, descriptor_at}
 use Rattle.w16_selectors.specs.Descriptors as selectors
-use Rattle.w16_selectors.specs.Descriptors.{descriptor_at}
 use Rattle.w16_global.proofs.Following.{further, taken, in_table}
 use Rattle.w16_global.proofs.follow.follow.Goals as goal
 

@@ -1,6 +1,4 @@
-use Rattle.std.proofs.Common.{◌≡◌, ℕ, ◌-◌, ◌≤◌, ◌⊎◌, length}
-use Rattle.w16_selectors.specs.Descriptors.{descriptor_at}
-use Rattle.w16_global.specs.Joined.{followed}
+use Rattle.w16_global.proofs.Common.{◌≡◌, ℕ, ◌-◌, ◌≤◌, ◌⊎◌, length, descriptor_at, followed}
 use Rattle.w16_global.proofs.follow.follow.Given as goal
 
 -- the selectors of all objects below have followed

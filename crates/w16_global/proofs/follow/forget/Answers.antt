@@ -1,7 +1,5 @@
-use Rattle.std.proofs.Common.{◌∙◌, length, get_or, Some, ap}
-use Rattle.std.proofs.lemmas.List.{length-set}
+use Rattle.w16_global.proofs.Common.{◌∙◌, length, get_or, Some, ap, length-set, descriptor_at}
 use Rattle.w16_selectors.specs.Descriptors as selectors
-use Rattle.w16_selectors.specs.Descriptors.{descriptor_at}
 use Rattle.w16_global.proofs.Forgotten.{forgets_next}
 use Rattle.w16_global.proofs.follow.forget.Goals as goal
 

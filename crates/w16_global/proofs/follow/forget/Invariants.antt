@@ -1,6 +1,4 @@
-use Rattle.std.proofs.Common.{◌≡◌, ℕ, length, take}
-use Rattle.w16_selectors.specs.Descriptors.{descriptor_at}
-use Rattle.w16_global.specs.Joined.{forgotten}
+use Rattle.w16_global.proofs.Common.{◌≡◌, ℕ, length, take, descriptor_at, forgotten}
 use Rattle.w16_global.proofs.follow.forget.Given as goal
 
 -- the selectors of the first ids have been told

@@ -1,5 +1,4 @@
-use Rattle.std.proofs.lemmas.Grind.{common_steps}
-use Rattle.std.proofs.Common.{arith}
+use Rattle.w16_global.proofs.Common.{common_steps, arith}
 use Rattle.w16_global.proofs.global.kind_for.Goals as goal
 
 pub returns-then-is_some_and : goal.returns-then-is_some_and

@@ -1,5 +1,4 @@
-use Rattle.std.proofs.Common.{ℕ, ap, arith, sym, ◌∙◌, unwrap_or, Option}
-use Rattle.w16_holes.specs.Thread.{no_hole}
+use Rattle.w16_holes.proofs.Common.{ℕ, ap, arith, sym, ◌∙◌, unwrap_or, Option, no_hole}
 use Rattle.w16_holes.proofs.Next.{next_at, next_below, next_none, lowest_first}
 use Rattle.w16_holes.proofs.threaded.next_above.Goals as goal
 

@@ -1,5 +1,4 @@
-use Rattle.std.proofs.lemmas.Grind.{common_steps}
-use Rattle.std.proofs.Common.{arith}
+use Rattle.w16_kernel.proofs.Common.{common_steps, arith}
 use Rattle.w16_kernel.proofs.sizes.check_sizes.Goals as goal
 
 pub returns-then-selectors-eq0-clause-err : goal.returns-then-selectors-eq0-clause-err

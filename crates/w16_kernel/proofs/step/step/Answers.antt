@@ -1,5 +1,4 @@
-use Rattle.std.proofs.Common.{refl, rules}
-use Rattle.w16_local.proofs.Beginning.{on_any}
+use Rattle.w16_kernel.proofs.Common.{refl, rules, on_any}
 use Rattle.w16_kernel.proofs.step.step.Goals as goal
 
 pub returns-in_ok-local_init-in-LocalInit-clause-step : goal.returns-in_ok-local_init-in-LocalInit-clause-step

@@ -1,9 +1,7 @@
 -- A name that is there is the file's.
-use Rattle.std.proofs.Common.{take, ap, ◌∙◌}
+use Rattle.w16_loader.proofs.Common.{take, ap, ◌∙◌, ImportName, imported}
 use Rattle.std.specs.FinMap as finmap
-use Rattle.w16_loading.specs.File.Target.{ImportName}
 use Rattle.w16_loading.specs.Modules as loading
-use Rattle.w16_loading.specs.Modules.{imported}
 use Rattle.w16_loader.proofs.Values.{name_read, name_refused}
 use Rattle.w16_loader.proofs.binding.address_named.Goals as goal
 

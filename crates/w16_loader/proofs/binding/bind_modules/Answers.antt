@@ -1,11 +1,6 @@
 -- One module more is bound.
-use Rattle.std.proofs.Common.{◌<◌, ◌≤◌, [], drop, get_or, length, map, sym, ap, ◌∙◌, subst, arith, IsSomeAnd}
+use Rattle.w16_loader.proofs.Common.{◌<◌, ◌≤◌, [], drop, get_or, length, map, sym, ap, ◌∙◌, subst, arith, IsSomeAnd, drop_more, drop_all, targets_of, without_values, Modules, module_at, AreTargets, IsSaid, all_bound}
 use Rattle.std.specs.FinMap as finmap
-use Rattle.std.proofs.lemmas.List.{drop_more, drop_all}
-use Rattle.w16_loading.specs.File.{targets_of}
-use Rattle.w16_loading.specs.Law.{without_values}
-use Rattle.w16_loading.specs.Modules.{Modules, module_at}
-use Rattle.w16_loader.specs.Binding.{AreTargets, IsSaid, all_bound}
 use Rattle.w16_loader.proofs.Values.{failure_since}
 use Rattle.w16_loader.proofs.Bindings.{any_next, bound_next, none_left, others_next, read_here, said_here, still_alike, targets_in_all}
 use Rattle.w16_loader.proofs.binding.bind_modules.Goals as goal

@@ -1,9 +1,6 @@
 -- What comes of the modules that are left comes of all.
-use Rattle.std.proofs.Common.{◌≡◌, ◌≤◌, ℕ, List, drop, false}
+use Rattle.w16_loader.proofs.Common.{◌≡◌, ◌≤◌, ℕ, List, drop, false, is_member, ModuleFile, Target, AreSaid, AreTargets, all_bound}
 use Rattle.std.specs.FinMap as finmap
-use Rattle.w16_model.specs.Discards.{is_member}
-use Rattle.w16_loading.specs.File.{ModuleFile, Target}
-use Rattle.w16_loader.specs.Binding.{AreSaid, AreTargets, all_bound}
 use Rattle.w16_loader.proofs.Bindings.{AreAlike, targets_in_all}
 use Rattle.w16_loader.proofs.binding.bind_modules.Given as goal
 

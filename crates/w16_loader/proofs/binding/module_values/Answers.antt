@@ -1,10 +1,6 @@
 -- One segment more has its values.
-use Rattle.std.proofs.Common.{◌+◌, ◌++◌, ◌∷◌, [], ◌≤◌, length, map, take, sym, ap, ◌∙◌, subst, arith}
+use Rattle.w16_loader.proofs.Common.{◌+◌, ◌++◌, ◌∷◌, [], ◌≤◌, length, map, take, sym, ap, ◌∙◌, subst, arith, length-map, length_push, take_all, targets_of, far_of, IsSaid, values_for}
 use Rattle.std.specs.FinMap as finmap
-use Rattle.std.proofs.lemmas.List.{length-map, length_push, take_all}
-use Rattle.w16_loading.specs.File.{targets_of}
-use Rattle.w16_format.specs.Data.{far_of}
-use Rattle.w16_loader.specs.Binding.{IsSaid, values_for}
 use Rattle.w16_loader.proofs.Values.{count_said, failure_since, front_more, numbered_there, segment_more}
 use Rattle.w16_loader.proofs.binding.module_values.Goals as goal
 

@@ -1,9 +1,6 @@
 -- The segments so far have their values.
-use Rattle.std.proofs.Common.{◌≡◌, ◌≤◌, List, length, map, take, vec_len, vec_capacity}
+use Rattle.w16_loader.proofs.Common.{◌≡◌, ◌≤◌, List, length, map, take, vec_len, vec_capacity, ModuleFile, Target, targets_of, far_of, IsSaid, values_for}
 use Rattle.std.specs.FinMap as finmap
-use Rattle.w16_loading.specs.File.{ModuleFile, Target, targets_of}
-use Rattle.w16_format.specs.Data.{far_of}
-use Rattle.w16_loader.specs.Binding.{IsSaid, values_for}
 use Rattle.w16_loader.proofs.binding.module_values.Given as goal
 
 abbrev pub invariant-loop-place : goal.invariant-loop-place

@@ -1,8 +1,6 @@
 -- One record more has its value.
-use Rattle.std.proofs.Common.{◌+◌, ◌++◌, ◌∷◌, [], ◌<◌, length, map, take, refl, sym, ap, ◌∙◌, subst, arith}
+use Rattle.w16_loader.proofs.Common.{◌+◌, ◌++◌, ◌∷◌, [], ◌<◌, length, map, take, refl, sym, ap, ◌∙◌, subst, arith, target_of, AreValuesOf, IsStoredAs}
 use Rattle.std.specs.FinMap as finmap
-use Rattle.w16_format.specs.Data.{target_of}
-use Rattle.w16_loader.specs.Binding.{AreValuesOf, IsStoredAs}
 use Rattle.w16_loader.proofs.Values.{value_more, record_more}
 use Rattle.w16_loader.proofs.binding.record_values.Goals as goal
 

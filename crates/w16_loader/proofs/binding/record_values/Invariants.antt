@@ -1,13 +1,8 @@
 -- The records so far have their values.
-use Rattle.std.proofs.Common.{◌≡◌, ◌≤◌, ℕ, List, length, map, take, true, vec_len, vec_capacity}
-use Rattle.std.specs.Prelude.{All}
+use Rattle.w16_loader.proofs.Common.{◌≡◌, ◌≤◌, ℕ, List, length, map, take, true, vec_len, vec_capacity, All, offer_of, Target, target_of, AreValuesOf, IsStoredAs}
 use Rattle.std.specs.FinMap as finmap
 use Rattle.w16_ne.specs.Modules.{Tables}
 use Rattle.w16_reloc.specs.Records.{is_named}
-use Rattle.w16_reloc.specs.Segments.{offer_of}
-use Rattle.w16_loading.specs.File.{Target}
-use Rattle.w16_format.specs.Data.{target_of}
-use Rattle.w16_loader.specs.Binding.{AreValuesOf, IsStoredAs}
 use Rattle.w16_loader.proofs.binding.record_values.Given as goal
 
 abbrev pub invariant-loop-relocation : goal.invariant-loop-relocation

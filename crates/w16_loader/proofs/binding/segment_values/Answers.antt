@@ -1,15 +1,8 @@
 -- A segment that passes its check has the records that its file says.
-use Rattle.std.proofs.Common.{◌≡◌, ◌<◌, ◌≤◌, ◌-◌, length, map, sym, ap, ◌∙◌, subst, arith, true, Some, Ok, slice_get}
-use Rattle.std.specs.Prelude.{All, MatchResult}
+use Rattle.w16_loader.proofs.Common.{◌≡◌, ◌<◌, ◌≤◌, ◌-◌, length, map, sym, ap, ◌∙◌, subst, arith, true, Some, Ok, slice_get, All, MatchResult, length-map, Held, offer_of, targets_of, target_of, segment_in, tables_in, AreValuesOf, IsFailure, IsStoredAs}
 use Rattle.std.specs.FinMap as finmap
-use Rattle.std.proofs.lemmas.List.{length-map}
 use Rattle.w16_reloc.specs.Records.{is_named}
-use Rattle.w16_reloc.specs.Segments.{Held, offer_of}
 use Rattle.w16_loading.specs.File as loading
-use Rattle.w16_loading.specs.File.{targets_of}
-use Rattle.w16_format.specs.Data.{target_of}
-use Rattle.w16_format.specs.Tables.{segment_in, tables_in}
-use Rattle.w16_loader.specs.Binding.{AreValuesOf, IsFailure, IsStoredAs}
 use Rattle.w16_loader.proofs.Values.{all_named, answer_since, found, segment_refused, stored_as, stored_there, targets_are}
 use Rattle.w16_loader.proofs.binding.segment_values.Goals as goal
 

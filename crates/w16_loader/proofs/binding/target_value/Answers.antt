@@ -1,8 +1,6 @@
 -- The value is that of the target that the code has.
-use Rattle.std.proofs.Common.{ap, ◌∙◌}
+use Rattle.w16_loader.proofs.Common.{ap, ◌∙◌, Internal, InternalEntry, Import, address_at}
 use Rattle.std.specs.FinMap as finmap
-use Rattle.w16_loading.specs.File.Target.{Internal, InternalEntry, Import}
-use Rattle.w16_loading.specs.Modules.{address_at}
 use Rattle.w16_loader.proofs.binding.target_value.Goals as goal
 
 pub returns-in-Internal-clause-any : goal.returns-in-Internal-clause-any

@@ -1,9 +1,5 @@
 -- What is reached of the module asked for alone is how its closure begins.
-use Rattle.std.proofs.Common.{Ok, Err, subst}
-use Rattle.w16_loading.specs.Closure.{Closes}
-use Rattle.w16_format.specs.Ne.{ne_format}
-use Rattle.w16_loader.specs.Closing.{around_in, IsFault}
-use Rattle.w16_loader.specs.Following.{closed_in}
+use Rattle.w16_loader.proofs.Common.{Ok, Err, subst, Closes, ne_format, around_in, IsFault, closed_in}
 use Rattle.w16_loader.proofs.Followings.{begins}
 use Rattle.w16_loader.proofs.AnyFollowings.{closes_any}
 use Rattle.w16_loader.proofs.closure.close.Goals as goal

@@ -1,7 +1,5 @@
 -- A use ends, what nobody uses goes, and the handle is looked up.
-use Rattle.w16_loading.specs.Modules.{with_handles}
-use Rattle.w16_loader.specs.Entries.{named_of}
-use Rattle.w16_loader.specs.Registry.{in_world}
+use Rattle.w16_loader.proofs.Common.{with_handles, named_of, in_world}
 use Rattle.w16_loader.proofs.Endings.{ends, still_names}
 use Rattle.w16_loader.proofs.ending.free.Goals as goal
 

@@ -1,7 +1,5 @@
 -- One went, and what goes from there on goes behind it.
-use Rattle.std.proofs.Common.{◌∙◌}
-use Rattle.w16_loading.specs.Modules.{with_handles}
-use Rattle.w16_loader.specs.Registry.{in_world}
+use Rattle.w16_loader.proofs.Common.{◌∙◌, with_handles, in_world}
 use Rattle.w16_loader.proofs.Endings.{goes_first}
 use Rattle.w16_loader.proofs.ending.release_idle.Goals as goal
 

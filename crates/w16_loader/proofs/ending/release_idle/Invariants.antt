@@ -1,9 +1,6 @@
 -- What goes from here on, behind what went, goes from the start; and each time a module less is left.
-use Rattle.std.proofs.Common.{◌≡◌, ℕ, List}
+use Rattle.w16_loader.proofs.Common.{◌≡◌, ℕ, List, LoadingWorld, with_handles, Go, in_world}
 use Rattle.std.specs.FinMap as finmap
-use Rattle.w16_loading.specs.Modules.{LoadingWorld, with_handles}
-use Rattle.w16_loading.specs.Free.{Go}
-use Rattle.w16_loader.specs.Registry.{in_world}
 use Rattle.w16_loader.proofs.ending.release_idle.Given as goal
 
 abbrev pub invariant-loop-handle : goal.invariant-loop-handle

@@ -1,6 +1,5 @@
 -- The module goes, and then its objects.
-use Rattle.std.proofs.Common.{ap, ◌∙◌}
-use Rattle.w16_loading.specs.Modules.{Module}
+use Rattle.w16_loader.proofs.Common.{ap, ◌∙◌, Module}
 use Rattle.w16_loader.proofs.Endings.{module_gone, fewer_modules}
 use Rattle.w16_loader.proofs.ending.release_module.Goals as goal
 

@@ -1,9 +1,5 @@
 -- A module more is gone.
-use Rattle.std.proofs.Common.{◌<◌, ◌≤◌, length, fold, ap, sym, ◌∙◌, arith}
-use Rattle.std.proofs.lemmas.List.{drop_all}
-use Rattle.w16_loading.specs.Modules.{with_handles}
-use Rattle.w16_loading.specs.Free.{without_module}
-use Rattle.w16_loader.specs.Registry.{in_world}
+use Rattle.w16_loader.proofs.Common.{◌<◌, ◌≤◌, length, fold, ap, sym, ◌∙◌, arith, drop_all, with_handles, without_module, in_world}
 use Rattle.w16_loader.proofs.Undoing.{next_module}
 use Rattle.w16_loader.proofs.ending.release_modules.Goals as goal
 

@@ -1,8 +1,5 @@
 -- What the modules that are left leave when they go, all leave from the start.
-use Rattle.std.proofs.Common.{◌≡◌, drop, fold}
-use Rattle.w16_loading.specs.Modules.{LoadingWorld, with_handles}
-use Rattle.w16_loading.specs.Free.{without_module}
-use Rattle.w16_loader.specs.Registry.{in_world}
+use Rattle.w16_loader.proofs.Common.{◌≡◌, drop, fold, LoadingWorld, with_handles, without_module, in_world}
 use Rattle.w16_loader.proofs.ending.release_modules.Given as goal
 
 abbrev pub invariant-loop-handle : goal.invariant-loop-handle

@@ -1,6 +1,5 @@
 -- One of the two handles is the object's, or the slot has none.
-use Rattle.std.proofs.Common.{◌-◌, refl, ap, ◌∙◌}
-use Rattle.w16_model.specs.Handles.{Handles}
+use Rattle.w16_loader.proofs.Common.{◌-◌, refl, ap, ◌∙◌, Handles}
 use Rattle.w16_loader.proofs.Endings.{released, released_twice}
 use Rattle.w16_loader.proofs.ending.release_slot.Goals as goal
 

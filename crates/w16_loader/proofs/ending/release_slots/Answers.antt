@@ -1,8 +1,5 @@
 -- A slot more is done.
-use Rattle.std.proofs.Common.{◌≡◌, ◌<◌, ◌≤◌, length, drop, get_or, refl, ap, ◌∙◌, arith}
-use Rattle.std.proofs.lemmas.List.{drop_all}
-use Rattle.w16_model.specs.Owned.{without_slot}
-use Rattle.w16_global.specs.Joined.{Global}
+use Rattle.w16_loader.proofs.Common.{◌≡◌, ◌<◌, ◌≤◌, length, drop, get_or, refl, ap, ◌∙◌, arith, drop_all, without_slot, Global}
 use Rattle.w16_loader.proofs.Endings.{next_slot, no_slot}
 use Rattle.w16_loader.proofs.ending.release_slots.Goals as goal
 

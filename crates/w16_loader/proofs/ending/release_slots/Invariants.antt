@@ -1,8 +1,5 @@
 -- What goes with the slots that are left goes with all from the start.
-use Rattle.std.proofs.Common.{◌≡◌, drop}
-use Rattle.w16_model.specs.Discards.{is_member}
-use Rattle.w16_loading.specs.Modules.{LoadingWorld, with_handles}
-use Rattle.w16_loading.specs.Release.{without_objects}
+use Rattle.w16_loader.proofs.Common.{◌≡◌, drop, is_member, LoadingWorld, with_handles, without_objects}
 use Rattle.w16_loader.proofs.ending.release_slots.Given as goal
 
 abbrev pub invariant-loop-slot : goal.invariant-loop-slot

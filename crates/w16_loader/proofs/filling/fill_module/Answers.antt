@@ -1,12 +1,5 @@
 -- What holds of the module that the registry has.
-use Rattle.std.proofs.Common.{◌≡◌, ◌≢◌, ◌<◌, All, Err, ◌∙◌, subst}
-use Rattle.w16_loading.specs.declared.FetchFault.TheVariants.{Store}
-use Rattle.w16_loading.specs.AnyStore.{GivesAny}
-use Rattle.w16_loading.specs.Fill.{FillsOne, InTurn, is_of_device}
-use Rattle.w16_loading.specs.Law.{IsItsFiles}
-use Rattle.w16_loading.specs.Modules.{Module}
-use Rattle.w16_loader.specs.Binding.{IsSaid}
-use Rattle.w16_loader.specs.Filling.{HasUnfilled, IsReadAs, IsUnfilled, failure_at, fills_in}
+use Rattle.w16_loader.proofs.Common.{◌≡◌, ◌≢◌, ◌<◌, All, Err, ◌∙◌, subst, Store, GivesAny, FillsOne, InTurn, is_of_device, IsItsFiles, Module, IsSaid, HasUnfilled, IsReadAs, IsUnfilled, failure_at, fills_in}
 use Rattle.w16_loader.proofs.Fillings.{one_module, no_module}
 use Rattle.w16_loader.proofs.filling.fill_module.Goals as goal
 

@@ -1,10 +1,5 @@
 -- A module more: its objects get their bytes, and leave the others without, or one of them ends all.
-use Rattle.std.proofs.Common.{◌≡◌, ℕ, ◌<◌, ◌≤◌, length, get_or, slice_get, Some, Err, refl, ap, ◌∙◌, sym, arith, subst}
-use Rattle.w16_loading.specs.AnyStore.{GivesAny}
-use Rattle.w16_loading.specs.Fill.{FillsOne, is_of_device}
-use Rattle.w16_loading.specs.Law.{IsItsFiles}
-use Rattle.w16_loader.specs.Binding.{IsSaid}
-use Rattle.w16_loader.specs.Filling.{IsReadAs}
+use Rattle.w16_loader.proofs.Common.{◌≡◌, ℕ, ◌<◌, ◌≤◌, length, get_or, slice_get, Some, Err, refl, ap, ◌∙◌, sym, arith, subst, GivesAny, FillsOne, is_of_device, IsItsFiles, IsSaid, IsReadAs}
 use Rattle.w16_loader.proofs.Fillings.{Named, here, its_at, named_at, module_unfilled, module_goes, module_ends, reached_first, reached_last, rest_then}
 use Rattle.w16_loader.proofs.filling.fill_modules.Goals as goal
 

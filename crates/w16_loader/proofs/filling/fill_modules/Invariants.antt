@@ -1,10 +1,5 @@
 -- The modules so far got what they get, and the objects of the others have no bytes still.
-use Rattle.std.proofs.Common.{◌≡◌, ◌≤◌, List}
-use Rattle.w16_loading.specs.AnyStore.{GivesAny}
-use Rattle.w16_loading.specs.File.{ModuleFile}
-use Rattle.w16_loading.specs.Fill.{FillsOne, is_of_device}
-use Rattle.w16_loader.specs.Binding.{AreSaid}
-use Rattle.w16_loader.specs.Filling.{AreItsFiles, AreReadAs, AreUnfilled}
+use Rattle.w16_loader.proofs.Common.{◌≡◌, ◌≤◌, List, GivesAny, ModuleFile, FillsOne, is_of_device, AreSaid, AreItsFiles, AreReadAs, AreUnfilled}
 use Rattle.w16_loader.proofs.Fillings.{Reached}
 use Rattle.w16_loader.proofs.filling.fill_modules.Given as goal
 

@@ -1,8 +1,5 @@
 -- The object of a fixed or of a preload segment is fetched; any other is left.
-use Rattle.std.proofs.Common.{◌≤◌, true, false, length, sym, subst, arith}
-use Rattle.w16_loading.specs.AnyStore.{GivesAny}
-use Rattle.w16_loading.specs.Fill.{FillsOne, is_of_device}
-use Rattle.w16_loader.specs.Fetching.{IsSoundIn}
+use Rattle.w16_loader.proofs.Common.{◌≤◌, true, false, length, sym, subst, arith, GivesAny, FillsOne, is_of_device, IsSoundIn}
 use Rattle.w16_loader.proofs.Unfilled.{keeps, gives_any, unfilled, filled, part_long, many_segments, is_filled_by, is_named, no_slot, other_slot, sound, stored, gives_image}
 use Rattle.w16_loader.proofs.filling.fill_segment.Goals as goal
 

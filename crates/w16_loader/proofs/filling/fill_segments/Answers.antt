@@ -1,8 +1,5 @@
 -- A segment more: its object gets its bytes, and leaves the others without, or it ends all.
-use Rattle.std.proofs.Common.{◌≡◌, ◌+◌, ◌-◌, ◌<◌, ◌≤◌, length, refl, ◌∙◌, sym, arith, subst}
-use Rattle.w16_loading.specs.AnyStore.{GivesAny}
-use Rattle.w16_loading.specs.Fill.{FillsOne, is_of_device}
-use Rattle.w16_loader.specs.Binding.{IsSaid}
+use Rattle.w16_loader.proofs.Common.{◌≡◌, ◌+◌, ◌-◌, ◌<◌, ◌≤◌, length, refl, ◌∙◌, sym, arith, subst, GivesAny, FillsOne, is_of_device, IsSaid}
 use Rattle.w16_loader.proofs.Fillings.{part_at, part_unfilled, part_goes, part_ends, parts_done, at_none, rest_then}
 use Rattle.w16_loader.proofs.filling.fill_segments.Goals as goal
 

@@ -1,11 +1,5 @@
 -- The objects of the segments so far got what they get, and those of the others have no bytes still.
-use Rattle.std.proofs.Common.{◌≡◌, ◌≢◌, ℕ, ◌<◌, ◌≤◌, Some, slice_get}
-use Rattle.w16_loading.specs.AnyStore.{GivesAny}
-use Rattle.w16_loading.specs.File.{ModuleFile, Segment}
-use Rattle.w16_loading.specs.Fill.{FillsOne, is_of_device}
-use Rattle.w16_loading.specs.Law.{IsItsFiles}
-use Rattle.w16_loader.specs.Binding.{IsSaid}
-use Rattle.w16_loader.specs.Filling.{HasUnfilled, IsReadAs, IsUnfilled, fills_in}
+use Rattle.w16_loader.proofs.Common.{◌≡◌, ◌≢◌, ℕ, ◌<◌, ◌≤◌, Some, slice_get, GivesAny, ModuleFile, Segment, FillsOne, is_of_device, IsItsFiles, IsSaid, HasUnfilled, IsReadAs, IsUnfilled, fills_in}
 use Rattle.w16_loader.proofs.Fillings.{Goes, fills_behind}
 use Rattle.w16_loader.proofs.filling.fill_segments.Given as goal
 

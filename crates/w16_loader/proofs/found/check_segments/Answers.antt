@@ -1,6 +1,5 @@
 -- A segment whose check passes leaves the others to decide; one whose check doesn't, decides.
-use Rattle.std.proofs.Common.{◌≡◌, ◌+◌, ◌-◌, ◌<◌, ◌≤◌, length, Some, refl, ap, ◌∙◌, arith}
-use Rattle.std.specs.Prelude.{slice_get}
+use Rattle.w16_loader.proofs.Common.{◌≡◌, ◌+◌, ◌-◌, ◌<◌, ◌≤◌, length, Some, refl, ap, ◌∙◌, arith, slice_get}
 use Rattle.w16_loader.proofs.Files.{there, all_sound, sound_next, is_unsound}
 use Rattle.w16_loader.proofs.found.check_segments.Goals as goal
 

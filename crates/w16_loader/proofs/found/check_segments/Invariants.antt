@@ -1,10 +1,5 @@
 -- The segments that are left are sound where all are.
-use Rattle.std.proofs.Common.{◌≡◌, ℕ, ◌≤◌, List, Some, Ok, drop}
-use Rattle.std.specs.Prelude.{is_ok}
-use Rattle.std.specs.List.{list_all}
-use Rattle.w16_store.specs.Files.{file_of}
-use Rattle.w16_ne.specs.Modules.{tables_at}
-use Rattle.w16_reloc.specs.Segments.{checked}
+use Rattle.w16_loader.proofs.Common.{◌≡◌, ℕ, ◌≤◌, List, Some, Ok, drop, is_ok, list_all, file_of, tables_at, checked}
 use Rattle.w16_loader.proofs.found.check_segments.Given as goal
 
 abbrev pub invariant-loop-place : goal.invariant-loop-place

@@ -1,6 +1,5 @@
 -- A name that nothing there has is looked for among the new modules.
-use Rattle.std.proofs.Common.{◌≡◌, Some, None, option_map, ap, ◌∙◌, rules}
-use Rattle.w16_loader.specs.Closing.{referent_of}
+use Rattle.w16_loader.proofs.Common.{◌≡◌, Some, None, option_map, ap, ◌∙◌, rules, referent_of}
 use Rattle.w16_loader.proofs.Files.{means_new}
 use Rattle.w16_loader.proofs.found.meant.Goals as goal
 

@@ -1,6 +1,5 @@
 -- A module whose name nothing has is new where its relocations are sound and a handle is left.
-use Rattle.std.proofs.Common.{[], ap, sym, ◌∙◌, arith}
-use Rattle.w16_loader.specs.Closing.{meant_in}
+use Rattle.w16_loader.proofs.Common.{[], ap, sym, ◌∙◌, arith, meant_in}
 use Rattle.w16_loader.proofs.Readings.{reads_new, reads_full}
 use Rattle.w16_loader.proofs.found.settle.Goals as goal
 

@@ -1,7 +1,5 @@
 -- The first among the places that are left is the first of all.
-use Rattle.std.proofs.Common.{◌≡◌}
-use Rattle.w16_loader.specs.Registry.{listed}
-use Rattle.w16_loader.specs.Idle.{first_unused}
+use Rattle.w16_loader.proofs.Common.{◌≡◌, listed, first_unused}
 use Rattle.w16_loader.proofs.Listed.{listed_from}
 use Rattle.w16_loader.proofs.idle.first_unused.Given as goal
 

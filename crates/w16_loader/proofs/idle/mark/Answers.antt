@@ -1,5 +1,4 @@
-use Rattle.std.proofs.Common.{arith}
-use Rattle.std.proofs.lemmas.Grind.{common_steps}
+use Rattle.w16_loader.proofs.Common.{arith, common_steps}
 use Rattle.w16_loader.proofs.idle.mark.Goals as goal
 
 pub loop-import-preserved : goal.loop-import-preserved

@@ -1,7 +1,5 @@
 -- What is marked, or is among the imports that are left, is all that was marked or is imported.
-use Rattle.std.proofs.Common.{◌≡◌, ℕ, ◌<◌, ◌||◌, ◌&&◌, ◌==◌, not, false, length, drop}
-use Rattle.std.specs.Prelude.{slice_index_or}
-use Rattle.w16_model.specs.Discards.{is_member}
+use Rattle.w16_loader.proofs.Common.{◌≡◌, ℕ, ◌<◌, ◌||◌, ◌&&◌, ◌==◌, not, false, length, drop, slice_index_or, is_member}
 use Rattle.w16_loader.proofs.idle.mark.Given as goal
 
 abbrev pub invariant-loop-import : goal.invariant-loop-import

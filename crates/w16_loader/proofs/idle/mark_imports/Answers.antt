@@ -1,11 +1,5 @@
 -- A place more is marked.
-use Rattle.std.proofs.Common.{◌<◌, ◌||◌, false, None, length, ◌∙◌, ap, arith}
-use Rattle.std.specs.Prelude.{option_map, slice_index_or}
-use Rattle.std.proofs.lemmas.List.{get_or_default}
-use Rattle.w16_model.specs.Discards.{is_member}
-use Rattle.w16_loader.specs.Entries.{named_of}
-use Rattle.w16_loader.specs.Registry.{listed}
-use Rattle.w16_loader.specs.Idle.{imports_in, is_imported}
+use Rattle.w16_loader.proofs.Common.{◌<◌, ◌||◌, false, None, length, ◌∙◌, ap, arith, option_map, slice_index_or, get_or_default, is_member, named_of, listed, imports_in, is_imported}
 use Rattle.w16_loader.proofs.Idleness.{marked_more}
 use Rattle.w16_loader.proofs.idle.mark_imports.Goals as goal
 

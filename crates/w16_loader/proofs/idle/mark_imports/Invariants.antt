@@ -1,8 +1,5 @@
 -- What is marked, or imported at the places that are left, is all that was marked or is imported.
-use Rattle.std.proofs.Common.{◌≡◌, ℕ, ◌<◌, ◌||◌, false, length}
-use Rattle.std.specs.Prelude.{slice_index_or}
-use Rattle.w16_loader.specs.Registry.{listed}
-use Rattle.w16_loader.specs.Idle.{is_imported}
+use Rattle.w16_loader.proofs.Common.{◌≡◌, ℕ, ◌<◌, ◌||◌, false, length, slice_index_or, listed, is_imported}
 use Rattle.w16_loader.proofs.Listed.{listed_from}
 use Rattle.w16_loader.proofs.idle.mark_imports.Given as goal
 

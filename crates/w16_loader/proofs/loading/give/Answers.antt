@@ -1,14 +1,6 @@
 -- What isn't bound or filled is a load that is undone.
-use Rattle.std.proofs.Common.{◌<◌, map, fold, slice_index_or, sym, subst, arith}
+use Rattle.w16_loader.proofs.Common.{◌<◌, map, fold, slice_index_or, sym, subst, arith, FillsOne, is_of_device, Fulfils, Says, without_module, with_handles, AreSaid, LoadsClosed, answer_in, of_fault, in_world}
 use Rattle.w16_loading.specs.Closure.{Found}
-use Rattle.w16_loading.specs.Fill.{FillsOne, is_of_device}
-use Rattle.w16_loading.specs.Load.{Fulfils}
-use Rattle.w16_loading.specs.Load.Answer.{Says}
-use Rattle.w16_loading.specs.Free.{without_module}
-use Rattle.w16_loading.specs.Modules.{with_handles}
-use Rattle.w16_loader.specs.Binding.{AreSaid}
-use Rattle.w16_loader.specs.Loading.{LoadsClosed, answer_in, of_fault}
-use Rattle.w16_loader.specs.Registry.{in_world}
 use Rattle.w16_loader.proofs.Closed.{are_said, are_its_files, are_read, are_unfilled, counted_failure, filled_load, still_said, store_alone, taken_back, unbound_load, unfilled_load}
 use Rattle.w16_loader.proofs.loading.give.Goals as goal
 

@@ -1,10 +1,6 @@
 -- A new module's load, from the read of its file on.
-use Rattle.std.proofs.Common.{◌≡◌, [], Bool, IfOk, sym, ap, ◌∙◌, subst}
+use Rattle.w16_loader.proofs.Common.{◌≡◌, [], Bool, IfOk, sym, ap, ◌∙◌, subst, Read, ne_format, around_in, reading_in, reading_of, read_in, LoadsCounted, answer_in, in_store}
 use Rattle.w16_loading.specs.Closure as closing
-use Rattle.w16_loading.specs.Closure.Reading.{Read}
-use Rattle.w16_format.specs.Ne.{ne_format}
-use Rattle.w16_loader.specs.Closing.{around_in, reading_in, reading_of, read_in}
-use Rattle.w16_loader.specs.Loading.{LoadsCounted, answer_in, in_store}
 use Rattle.w16_loader.proofs.Loads.{for_one}
 use Rattle.w16_loader.proofs.loading.load.Goals as goal
 

@@ -1,8 +1,6 @@
 -- All but an application is loaded by LoadModule as by LoadLibrary.
-use Rattle.std.proofs.Common.{sym, ap, ◌∙◌}
+use Rattle.w16_loader.proofs.Common.{sym, ap, ◌∙◌, used_again, in_world}
 use Rattle.std.specs.FinMap as finmap
-use Rattle.w16_loading.specs.Load.{used_again}
-use Rattle.w16_loader.specs.Registry.{in_world}
 use Rattle.w16_loader.proofs.UsedAgain.{once}
 use Rattle.w16_loader.proofs.loading.load_again.Goals as goal
 

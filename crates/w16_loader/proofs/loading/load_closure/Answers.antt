@@ -1,15 +1,6 @@
 -- A load that is done, and one that is undone.
-use Rattle.std.proofs.Common.{◌≡◌, ◌<◌, inr, [], IfOk, OnErr, fold, length, slice_index_or, sym, ap, ◌∙◌, subst, arith}
+use Rattle.w16_loader.proofs.Common.{◌≡◌, ◌<◌, inr, [], IfOk, OnErr, fold, length, slice_index_or, sym, ap, ◌∙◌, subst, arith, FillsOne, is_of_device, without_module, Fulfils, Says, StoreFails, LoadingWorld, with_handles, closed_in, LoadsClosed, answer_in, failed_by, IsUnbound, in_world}
 use Rattle.std.specs.FinMap as finmap
-use Rattle.w16_loading.specs.Fill.{FillsOne, is_of_device}
-use Rattle.w16_loading.specs.Free.{without_module}
-use Rattle.w16_loading.specs.Load.{Fulfils}
-use Rattle.w16_loading.specs.Load.Answer.{Says, StoreFails}
-use Rattle.w16_loading.specs.Modules.{LoadingWorld, with_handles}
-use Rattle.w16_loader.specs.Following.{closed_in}
-use Rattle.w16_loader.specs.Loading.{LoadsClosed, answer_in, failed_by}
-use Rattle.w16_loader.specs.Naming.{IsUnbound}
-use Rattle.w16_loader.specs.Registry.{in_world}
 use Rattle.w16_loader.proofs.Closed.{err_by, first_of, some_handles}
 use Rattle.w16_loader.proofs.Loads.{is_closure}
 use Rattle.w16_loader.proofs.NameSteps.{same_global}

@@ -1,11 +1,5 @@
 -- A new module's load, by its closure.
-use Rattle.std.proofs.Common.{◌≡◌, ◌≤◌, Bool, Ok, Err, All, IfOk, sym, refl, ◌∙◌, subst, arith}
-use Rattle.w16_loading.specs.Closure.{Closes, begun}
-use Rattle.w16_loading.specs.Modules.{LoadingWorld}
-use Rattle.w16_format.specs.Ne.{ne_format}
-use Rattle.w16_loader.specs.Closing.{IsFault, around_in, read_in}
-use Rattle.w16_loader.specs.Following.{closed_in}
-use Rattle.w16_loader.specs.Loading.{IsOfFile, LoadsCounted, answer_in, in_store}
+use Rattle.w16_loader.proofs.Common.{◌≡◌, ◌≤◌, Bool, Ok, Err, All, IfOk, sym, refl, ◌∙◌, subst, arith, Closes, begun, LoadingWorld, ne_format, IsFault, around_in, read_in, closed_in, IsOfFile, LoadsCounted, answer_in, in_store}
 use Rattle.w16_loader.proofs.Loads.{all_of_files, closed_load, failed_since, fault_since, is_closure, refused_closure}
 use Rattle.w16_loader.proofs.loading.load_new.Goals as goal
 

@@ -1,6 +1,5 @@
 -- As many as were counted are there, and each is empty.
-use Rattle.std.proofs.Common.{◌≡◌, ℕ, [], map, length}
-use Rattle.std.specs.Prelude.{slice_index_or}
+use Rattle.w16_loader.proofs.Common.{◌≡◌, ℕ, [], map, length, slice_index_or}
 use Rattle.w16_loader.proofs.naming.empty_lists.Given as goal
 
 abbrev pub invariant-loop : goal.invariant-loop

@@ -1,9 +1,5 @@
 -- A reference more is followed.
-use Rattle.std.proofs.Common.{◌≡◌, ◌<◌, ◌≤◌, [], length, map, subst, ◌∙◌, arith}
-use Rattle.std.specs.Prelude.{slice_index_or}
-use Rattle.std.proofs.lemmas.List.{take_all}
-use Rattle.w16_loader.specs.Following.{bound_in}
-use Rattle.w16_loader.specs.Naming.{imports_among}
+use Rattle.w16_loader.proofs.Common.{◌≡◌, ◌<◌, ◌≤◌, [], length, map, subst, ◌∙◌, arith, slice_index_or, take_all, bound_in, imports_among}
 use Rattle.w16_loader.proofs.Imports.{import_more}
 use Rattle.w16_loader.proofs.naming.imports_of.Goals as goal
 

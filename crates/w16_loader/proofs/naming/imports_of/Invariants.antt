@@ -1,8 +1,5 @@
 -- Each module has the imports that its references so far mean.
-use Rattle.std.proofs.Common.{◌≡◌, ℕ, ◌<◌, [], map, take, length}
-use Rattle.std.specs.Prelude.{slice_index_or}
-use Rattle.w16_loader.specs.Following.{bound_in}
-use Rattle.w16_loader.specs.Naming.{imports_among}
+use Rattle.w16_loader.proofs.Common.{◌≡◌, ℕ, ◌<◌, [], map, take, length, slice_index_or, bound_in, imports_among}
 use Rattle.w16_loader.proofs.naming.imports_of.Given as goal
 
 abbrev pub invariant-loop-reference : goal.invariant-loop-reference

@@ -1,16 +1,5 @@
 -- A module more has its name, or those before it lose theirs.
-use Rattle.std.proofs.Common.{◌≡◌, ◌+◌, ◌<◌, if◌then◌else◌, Bool, true, false, [], ◌∷◌, ◌++◌, Some, length, get_or, map, fold, take, slice_get, refl, sym, ap, ◌∙◌, subst, arith, rules}
-use Rattle.std.specs.Int.{from_bool}
-use Rattle.std.specs.List.{enumerate_from}
-use Rattle.std.proofs.lemmas.Iterator.Adapters.{YieldsList-from_vec}
-use Rattle.std.proofs.lemmas.Iterator.Consumers.{YieldsList-from_enumerate, YieldsList-turn, YieldsList-end}
-use Rattle.std.proofs.lemmas.List.{length_push, length-set, length-take-le, get_or-map}
-use Rattle.std.proofs.lemmas.List.FromFn.{length-enumerate_from}
-use Rattle.w16_loading.specs.Modules.{IsFreeModule, with_handles}
-use Rattle.w16_loading.specs.Free.{without_module}
-use Rattle.w16_loader.specs.Closing.{found_in}
-use Rattle.w16_loader.specs.Registry.{in_world}
-use Rattle.w16_loader.specs.Naming.{GetNames, unbound_by}
+use Rattle.w16_loader.proofs.Common.{◌≡◌, ◌+◌, ◌<◌, if◌then◌else◌, Bool, true, false, [], ◌∷◌, ◌++◌, Some, length, get_or, map, fold, take, slice_get, refl, sym, ap, ◌∙◌, subst, arith, rules, from_bool, enumerate_from, YieldsList-from_vec, YieldsList-from_enumerate, YieldsList-turn, YieldsList-end, length_push, length-set, length-take-le, get_or-map, length-enumerate_from, IsFreeModule, with_handles, without_module, found_in, in_world, GetNames, unbound_by}
 use Rattle.w16_loader.proofs.Imports.{pushed_other}
 use Rattle.w16_loader.proofs.NameSteps.{some_world, same_global, at_turn, facing, as_found, next_named, next_free, all_are_named, all_go_back, too_few_slots}
 use Rattle.w16_loader.proofs.naming.name_all.Goals as goal

@@ -1,12 +1,6 @@
 -- The modules so far have names, and the imports of the others are still in the vector.
-use Rattle.std.proofs.Common.{◌≡◌, ℕ, ◌≤◌, List, [], map, take, length}
-use Rattle.std.specs.Prelude.{slice_index_or}
-use Rattle.std.specs.List.{AllZip}
+use Rattle.w16_loader.proofs.Common.{◌≡◌, ℕ, ◌≤◌, List, [], map, take, length, slice_index_or, AllZip, LoadingWorld, with_handles, IsFoundOf, GetNames, unbound_by, in_world}
 use Rattle.w16_loading.specs.Closure as closing
-use Rattle.w16_loading.specs.Modules.{LoadingWorld, with_handles}
-use Rattle.w16_loader.specs.AnyClosing.{IsFoundOf}
-use Rattle.w16_loader.specs.Naming.{GetNames, unbound_by}
-use Rattle.w16_loader.specs.Registry.{in_world}
 use Rattle.w16_loader.proofs.naming.name_all.Given as goal
 
 abbrev pub invariant-loop-place : goal.invariant-loop-place

@@ -1,14 +1,6 @@
 -- The module has its objects, and is put; or they go again.
-use Rattle.std.proofs.Common.{◌≡◌, [], length, map, sym, ap, ◌∙◌, arith, rules}
+use Rattle.w16_loader.proofs.Common.{◌≡◌, [], length, map, sym, ap, ◌∙◌, arith, rules, length-map, is_member, Global, Module, with_handles, Loaded, without_objects, far_of, segment_in, tables_in}
 use Rattle.std.specs.FinMap as finmap
-use Rattle.std.proofs.lemmas.List.{length-map}
-use Rattle.w16_model.specs.Discards.{is_member}
-use Rattle.w16_global.specs.Joined.{Global}
-use Rattle.w16_loading.specs.Modules.{Module, with_handles}
-use Rattle.w16_loading.specs.Modules.Named.{Loaded}
-use Rattle.w16_loading.specs.Release.{without_objects}
-use Rattle.w16_format.specs.Data.{far_of}
-use Rattle.w16_format.specs.Tables.{segment_in, tables_in}
 use Rattle.w16_loader.proofs.NameSteps.{module_named, all_back, same_global}
 use Rattle.w16_loader.proofs.naming.name_module.Goals as goal
 

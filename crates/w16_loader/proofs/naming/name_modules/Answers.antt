@@ -1,9 +1,5 @@
 -- The handles are free and differ, so the modules of the closure get them.
-use Rattle.std.proofs.Common.{◌≡◌, ◌≢◌, ◌≤◌, [], All, AllPairs, length, get_or, map, sym, ap, ◌∙◌, subst, arith}
-use Rattle.w16_loading.specs.Modules.{IsFreeModule, free_modules, with_handles}
-use Rattle.w16_loader.specs.Following.{bound_in}
-use Rattle.w16_loader.specs.Registry.{in_world}
-use Rattle.w16_loader.specs.Naming.{GetNames, imports_among, unbound_by}
+use Rattle.w16_loader.proofs.Common.{◌≡◌, ◌≢◌, ◌≤◌, [], All, AllPairs, length, get_or, map, sym, ap, ◌∙◌, subst, arith, IsFreeModule, free_modules, with_handles, bound_in, in_world, GetNames, imports_among, unbound_by}
 use Rattle.w16_loader.proofs.FreeHandles.{lowest_free, lowest_apart}
 use Rattle.w16_loader.proofs.NameSteps.{as_many}
 use Rattle.w16_loader.proofs.Namings.{unbound_named}

@@ -1,8 +1,5 @@
 -- The module comes back where memory ends, and its slots are those of the objects that go.
-use Rattle.std.proofs.Common.{List, ℕ, ap, ◌∙◌}
-use Rattle.w16_model.specs.Discards.{is_member}
-use Rattle.w16_loading.specs.Modules.{Module, with_handles}
-use Rattle.w16_loading.specs.Release.{without_objects}
+use Rattle.w16_loader.proofs.Common.{List, ℕ, ap, ◌∙◌, is_member, Module, with_handles, without_objects}
 use Rattle.w16_loader.proofs.naming.put_module.Goals as goal
 
 pub returns-in-Err-clause-gone : goal.returns-in-Err-clause-gone

@@ -1,14 +1,5 @@
 -- A segment more has its object, or those before it lose theirs.
-use Rattle.std.proofs.Common.{◌≡◌, ◌+◌, ◌-◌, ◌<◌, ◌≤◌, Some, All, length, map, zip, take, option_map, slice_get, sym, ap, ◌∙◌, subst, arith}
-use Rattle.std.proofs.lemmas.List.{length-map, length-take-le, take_all}
-use Rattle.std.proofs.lemmas.Option.{slice_get-map}
-use Rattle.w16_format.specs.Tables.{segment_in}
-use Rattle.w16_model.specs.Discards.{is_member}
-use Rattle.w16_global.specs.Joined.{Global}
-use Rattle.w16_loading.specs.Modules.{with_handles}
-use Rattle.w16_loading.specs.Release.{without_objects}
-use Rattle.w16_loading.specs.Naming.{free_slots}
-use Rattle.w16_loader.specs.Naming.{Takes}
+use Rattle.w16_loader.proofs.Common.{◌≡◌, ◌+◌, ◌-◌, ◌<◌, ◌≤◌, Some, All, length, map, zip, take, option_map, slice_get, sym, ap, ◌∙◌, subst, arith, length-map, length-take-le, take_all, slice_get-map, segment_in, is_member, Global, with_handles, without_objects, free_slots, Takes}
 use Rattle.w16_loader.proofs.NameSteps.{slot_more, few_more, all_back, too_few, same_global}
 use Rattle.w16_loader.proofs.naming.put_slots.Goals as goal
 

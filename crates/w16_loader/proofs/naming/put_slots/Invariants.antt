@@ -1,8 +1,5 @@
 -- The segments so far have objects.
-use Rattle.std.proofs.Common.{◌≡◌, ◌<◌, All, map, zip, take}
-use Rattle.w16_format.specs.Tables.{segment_in}
-use Rattle.w16_loading.specs.Modules.{LoadingWorld, with_handles}
-use Rattle.w16_loader.specs.Naming.{Takes}
+use Rattle.w16_loader.proofs.Common.{◌≡◌, ◌<◌, All, map, zip, take, segment_in, LoadingWorld, with_handles, Takes}
 use Rattle.w16_loader.proofs.naming.put_slots.Given as goal
 
 abbrev pub invariant-loop-i : goal.invariant-loop-i

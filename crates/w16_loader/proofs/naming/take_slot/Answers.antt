@@ -1,6 +1,5 @@
 -- What a module takes is an object of the segment's kind and size.
-use Rattle.std.proofs.Common.{◌/◌, ap, arith}
-use Rattle.w16_format.specs.Tables.{segment_in}
+use Rattle.w16_loader.proofs.Common.{◌/◌, ap, arith, segment_in}
 use Rattle.w16_loader.proofs.NameSteps.{slot_free, segment_taken}
 use Rattle.w16_loader.proofs.naming.take_slot.Goals as goal
 

@@ -1,13 +1,5 @@
 -- The segment is read, and then its object given its bytes.
-use Rattle.std.proofs.Common.{◌/◌, Some, Result, Ok, Err, ap, ◌∙◌, sym, subst, refl, rules}
-use Rattle.std.proofs.lemmas.Result.{err_from_is_err_and}
-use Rattle.w16_model.specs.Handles.{Handles}
-use Rattle.w16_global.specs.Joined.{Global}
-use Rattle.w16_loading.specs.AnyStore.{AnyFetches}
-use Rattle.w16_loading.specs.Fill.{FillsOne, is_of_device}
-use Rattle.w16_loading.specs.declared.FetchFault.{FetchFault}
-use Rattle.w16_loading.specs.declared.FetchFault.TheVariants.{NoRoom}
-use Rattle.w16_loader.specs.Fetching.{in_parts, image_in}
+use Rattle.w16_loader.proofs.Common.{◌/◌, Some, Result, Ok, Err, ap, ◌∙◌, sym, subst, refl, rules, err_from_is_err_and, Handles, Global, AnyFetches, FillsOne, is_of_device, FetchFault, NoRoom, in_parts, image_in}
 use Rattle.w16_loader.proofs.Fetches.{unread_any, refused_any, device_failed, no_room, has_bytes, fetched}
 use Rattle.w16_loader.proofs.segment_fetch.fetch.Goals as goal
 

@@ -1,6 +1,5 @@
 -- The object is revived, and its bytes are written.
-use Rattle.std.proofs.Common.{refl, ap, rules}
-use Rattle.w16_global.specs.Joined.{Global}
+use Rattle.w16_loader.proofs.Common.{refl, ap, rules, Global}
 use Rattle.w16_loader.proofs.Giving.{revived_bytes, given_bytes}
 use Rattle.w16_loader.proofs.segment_fetch.give.Goals as goal
 

@@ -1,7 +1,5 @@
-use Rattle.std.proofs.Common.{◌≡◌, ◌-◌, ◌≤◌, inl, inr, ℕ, List, [], ◌++◌, length, take, drop, take_all, get_or, refl, sym, ◌∙◌, ap, arith, length-drop}
-use Rattle.std.specs.Prelude.{replicate, min}
-use Rattle.std.proofs.lemmas.Bool.{cases_lt}
-use Rattle.std.proofs.lemmas.List.{append-nil, drop_all, get_or_append_left, get_or-append_right, get_or_past, get_or-replicate, length-replicate, take_at}
+use Rattle.w16_loader.proofs.Common.{◌≡◌, ◌-◌, ◌≤◌, inl, inr, ℕ, List, [], ◌++◌, length, take, drop, get_or, refl, sym, ◌∙◌, ap, arith, replicate, min, cases_lt, append-nil, drop_all, get_or_append_left, get_or-append_right, get_or_past, get_or-replicate, length-replicate, take_at}
+use Rattle.std.proofs.Common.{take_all, length-drop}
 use borrow.Rule.Slice.PartMut.{put_mid}
 use Rattle.w16_loader.proofs.segment_work.place.Goals as goal
 

@@ -1,7 +1,5 @@
 -- Those that are counted, and those among the places that are left, are all.
-use Rattle.std.proofs.Common.{◌≡◌, ◌+◌, ◌≤◌}
-use Rattle.w16_loading.specs.Modules.{importers_among}
-use Rattle.w16_loader.specs.Registry.{listed}
+use Rattle.w16_loader.proofs.Common.{◌≡◌, ◌+◌, ◌≤◌, importers_among, listed}
 use Rattle.w16_loader.proofs.Listed.{listed_from}
 use Rattle.w16_loader.proofs.table.importers.Given as goal
 

@@ -1,7 +1,5 @@
 -- The owner among the places that are left is the owner among all.
-use Rattle.std.proofs.Common.{◌≡◌}
-use Rattle.w16_loading.specs.Owner.{segment_among}
-use Rattle.w16_loader.specs.Registry.{listed}
+use Rattle.w16_loader.proofs.Common.{◌≡◌, segment_among, listed}
 use Rattle.w16_loader.proofs.Listed.{listed_from}
 use Rattle.w16_loader.proofs.table.segment_of.Given as goal
 

@@ -1,7 +1,4 @@
-use Rattle.std.proofs.Common.{◌≡◌, ℕ, List, length, IsSomeAnd, sym, subst, ◌∙◌, ap, is_some, arith, Some}
-use Rattle.w16_region.specs.Bytes.{counted}
-use Rattle.w16_global.specs.Joined.{Global}
-use Rattle.w16_machine.specs.Local.{IsLocalTable}
+use Rattle.w16_local.proofs.Common.{◌≡◌, ℕ, List, length, IsSomeAnd, sym, subst, ◌∙◌, ap, is_some, arith, Some, counted, Global, IsLocalTable}
 use Rattle.w16_local.proofs.Acting.{acted_in, may_lent}
 use Rattle.w16_local.proofs.Locals.{here, in_range, not_none}
 use Rattle.w16_local.proofs.Stepping.{listed_stepped, tables_stepped}

@@ -1,7 +1,4 @@
-use Rattle.std.proofs.Common.{IfNone, IfSome, IsSomeAnd, Option, ap, is_some, subst, sym, ◌∙◌}
-use Rattle.std.proofs.lemmas.Bool.{false≢true}
-use Rattle.w16_model.specs.Table.{Table}
-use Rattle.w16_local.specs.Kept.{IsFull, IsLowest}
+use Rattle.w16_local.proofs.Common.{IfNone, IfSome, IsSomeAnd, Option, ap, is_some, subst, sym, ◌∙◌, false≢true, Table, IsFull, IsLowest}
 use Rattle.w16_local.proofs.LocalHeaps.free_entry.Goals as goal
 
 pub unreachable-requires : goal.unreachable-requires

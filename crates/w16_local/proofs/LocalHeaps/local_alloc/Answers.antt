@@ -1,17 +1,7 @@
-use Rattle.std.proofs.Common.{Ok, Result, arith, subst, sym, ◌≡◌, ◌∙◌, IsSomeAnd, None, Option}
-use Rattle.w16_model.specs.declared.Kind.{Kind}
-use Rattle.w16_model.specs.declared.Refusal.{Refusal}
-use Rattle.w16_model.specs.Changes.{with_object}
-use Rattle.w16_model.specs.Heap.{Heap}
-use Rattle.w16_model.specs.Table.{Table}
-use Rattle.w16_local.specs.Kept.{IsFull, IsLowest}
-use Rattle.w16_local.specs.Steps.{MayStep, Stepped, outcome}
-use Rattle.w16_local.specs.declared.acts.ByteOp.TheVariants.{Alloc}
-use Rattle.w16_local.specs.declared.steps.TableOp.TheVariants.{Enter}
+use Rattle.w16_local.proofs.Common.{Ok, Result, arith, subst, sym, ◌≡◌, ◌∙◌, IsSomeAnd, None, Option, Kind, Refusal, with_object, Heap, Table, IsFull, IsLowest, MayStep, Stepped, outcome, Alloc, Enter, local_alloc_law}
 use Rattle.w16_local.proofs.Acting.{lent_in, may_in}
 use Rattle.w16_local.proofs.Calling.{alloc_as, alloc_calls, alloc_empty, alloc_full, alloc_none, enter_calls, no_object, rounded_size}
 use Rattle.w16_local.proofs.Stepping.{holds_in}
-use Rattle.w16_machine.proofs.LocalFewest.{local_alloc_law}
 use Rattle.w16_local.proofs.LocalHeaps.local_alloc.Goals as goal
 
 pub returns-in_default-clause-step : goal.returns-in_default-clause-step

@@ -1,5 +1,4 @@
-use Rattle.std.proofs.Common.{◌∙◌}
-use Rattle.w16_local.specs.declared.acts.ByteOp.TheVariants.{Free}
+use Rattle.w16_local.proofs.Common.{◌∙◌, Free}
 use Rattle.w16_local.proofs.Acting.{lent_in, may_in}
 use Rattle.w16_local.proofs.Calling.{free_calls, free_none, free_refused, named_there}
 use Rattle.w16_local.proofs.LocalHeaps.local_free.Goals as goal

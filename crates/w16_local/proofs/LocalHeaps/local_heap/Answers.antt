@@ -1,6 +1,5 @@
-use Rattle.std.proofs.Common.{None, Some, ap, ◌∙◌, sym, arith}
+use Rattle.w16_local.proofs.Common.{None, Some, ap, ◌∙◌, sym, arith, option_copied}
 use Rattle.std.specs.FinMap as finmap
-use Rattle.std.specs.Prelude.{option_copied}
 use Rattle.w16_local.proofs.Locals.{is_there, none_past}
 use Rattle.w16_local.proofs.LocalHeaps.local_heap.Goals as goal
 

@@ -1,13 +1,6 @@
-use Rattle.std.proofs.Common.{IsSomeAnd, Option, arith, subst, sym, ◌≡◌, ◌∙◌}
-use Rattle.w16_model.specs.declared.Kind.{Kind}
-use Rattle.w16_model.specs.OneObject.{after_modify}
-use Rattle.w16_model.specs.Table.{Table}
-use Rattle.w16_local.specs.Steps.{MayStep, Stepped, outcome}
-use Rattle.w16_local.specs.declared.acts.ByteOp.TheVariants.{Discard, Realloc}
-use Rattle.w16_local.specs.declared.steps.TableOp.TheVariants.{Modify}
+use Rattle.w16_local.proofs.Common.{IsSomeAnd, Option, arith, subst, sym, ◌≡◌, ◌∙◌, Kind, after_modify, Table, MayStep, Stepped, outcome, Discard, Realloc, Modify, local_realloc_law}
 use Rattle.w16_local.proofs.Acting.{lent_in, may_in}
 use Rattle.w16_local.proofs.Calling.{discard_calls, discard_refused, discard_unasked, modify_calls, named_there, realloc_as, realloc_none, resize_calls, rounded_size}
-use Rattle.w16_machine.proofs.LocalFewest.{local_realloc_law}
 use Rattle.w16_local.proofs.LocalHeaps.local_realloc.Goals as goal
 
 pub returns-in_default-clause-step : goal.returns-in_default-clause-step

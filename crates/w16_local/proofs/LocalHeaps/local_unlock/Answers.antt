@@ -1,7 +1,4 @@
-use Rattle.std.proofs.Common.{IsSomeAnd, Option, subst, sym}
-use Rattle.w16_model.specs.Table.{Table}
-use Rattle.w16_local.specs.Steps.{MayStep}
-use Rattle.w16_local.specs.declared.steps.TableOp.TheVariants.{Unlock}
+use Rattle.w16_local.proofs.Common.{IsSomeAnd, Option, subst, sym, Table, MayStep, Unlock}
 use Rattle.w16_local.proofs.Stepping.{unlock_calls, unlock_none}
 use Rattle.w16_local.proofs.LocalHeaps.local_unlock.Goals as goal
 

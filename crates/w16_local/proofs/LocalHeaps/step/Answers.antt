@@ -1,8 +1,5 @@
-use Rattle.std.proofs.Common.{◌≡◌, OnErr, sym, subst, ◌∙◌, arith}
+use Rattle.w16_local.proofs.Common.{◌≡◌, OnErr, sym, subst, ◌∙◌, arith, Table, IsLocalTable, MayStep, Turns, after_step, outcome}
 use Rattle.std.specs.FinMap as finmap
-use Rattle.w16_model.specs.Table.{Table}
-use Rattle.w16_machine.specs.Local.{IsLocalTable}
-use Rattle.w16_local.specs.Steps.{MayStep, Turns, after_step, outcome}
 use Rattle.w16_local.proofs.Locals.{here, in_range, not_none}
 use Rattle.w16_local.proofs.Stepping.{holds_in, known_in, listed_stepped, same_tables, stepped}
 use Rattle.w16_local.proofs.LocalHeaps.step.Goals as goal

@@ -1,5 +1,4 @@
-use Rattle.std.proofs.Common.{ap, ◌∙◌}
-use Rattle.w16_machine.specs.Local.{left_in}
+use Rattle.w16_local.proofs.Common.{ap, ◌∙◌, left_in}
 use Rattle.w16_local.proofs.LocalHeaps.sweep.Goals as goal
 
 pub returns : goal.returns

@@ -1,5 +1,4 @@
-use Rattle.std.proofs.Common.{List, subst, sym, ℕ}
-use Rattle.w16_local.specs.Kept.{IsListed}
+use Rattle.w16_local.proofs.Common.{List, subst, sym, ℕ, IsListed}
 use Rattle.w16_local.proofs.Locals.{listed_last, listed_more}
 use Rattle.w16_local.proofs.init.list_slot.Goals as goal
 

@@ -1,5 +1,4 @@
-use Rattle.std.proofs.Common.{None, if◌then◌else◌, sym, ap, ◌∙◌}
-use Rattle.w16_machine.specs.declared.local.TheConstants.{LMEM_DISCARDABLE, LMEM_DISCARDED}
+use Rattle.w16_local.proofs.Common.{None, if◌then◌else◌, sym, ap, ◌∙◌, LMEM_DISCARDABLE, LMEM_DISCARDED}
 use Rattle.w16_local.proofs.Looks.{flags_in, flags_told}
 use Rattle.w16_local.proofs.look.flags_of.Goals as goal
 

@@ -1,5 +1,4 @@
-use Rattle.std.proofs.Common.{Bool, None, Some, ap, cond, false, lt-ltb, le-ltb, sym, ◌∙◌}
-use Rattle.w16_model.specs.Heap.{is_discardable}
+use Rattle.w16_local.proofs.Common.{Bool, None, Some, ap, cond, false, lt-ltb, le-ltb, sym, ◌∙◌, is_discardable}
 use Rattle.w16_local.proofs.Looks.{discard_told}
 use Rattle.w16_local.proofs.look.may_discard.Goals as goal
 

@@ -1,5 +1,4 @@
-use Rattle.std.proofs.lemmas.Grind.{common_steps}
-use Rattle.std.proofs.Common.{None, Some, sym, ◌∙◌, arith}
+use Rattle.w16_local.proofs.Common.{common_steps, None, Some, sym, ◌∙◌, arith}
 use Rattle.w16_local.proofs.Looks.{block_small, name_none, name_fixed, name_loose}
 use Rattle.w16_local.proofs.look.name_at.Goals as goal
 

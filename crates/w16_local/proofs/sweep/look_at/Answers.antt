@@ -1,5 +1,4 @@
-use Rattle.std.proofs.Common.{None, ap, arith, false, get_or, subst, true, ◌≡◌, ◌-◌, ◌∙◌}
-use Rattle.std.proofs.lemmas.Grind.{get_or_default_zero}
+use Rattle.w16_local.proofs.Common.{None, ap, arith, false, get_or, subst, true, ◌≡◌, ◌-◌, ◌∙◌, get_or_default_zero}
 use Rattle.w16_local.proofs.Sweeping.{looked, swept_gone, swept_kept}
 use Rattle.w16_local.proofs.sweep.look_at.Goals as goal
 

@@ -1,5 +1,4 @@
-use Rattle.std.proofs.Common.{◌≡◌, Some, subst, sym}
-use Rattle.w16_model.specs.Handles.{slot_of_selector}
+use Rattle.w16_local.proofs.Common.{◌≡◌, Some, subst, sym, slot_of_selector}
 use Rattle.w16_local.proofs.Sweeping.{size_found, size_none, size_past}
 use Rattle.w16_local.proofs.sweep.size_in.Goals as goal
 

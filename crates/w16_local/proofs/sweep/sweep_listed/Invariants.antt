@@ -1,5 +1,4 @@
-use Rattle.w16_local.specs.Kept.{tables_of}
-use Rattle.w16_local.specs.Swept.{AreSwept}
+use Rattle.w16_local.proofs.Common.{tables_of, AreSwept}
 use Rattle.w16_local.proofs.sweep.sweep_listed.Given as goal
 
 -- those behind have been looked at

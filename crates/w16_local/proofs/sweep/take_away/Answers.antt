@@ -1,5 +1,4 @@
-use Rattle.std.proofs.Common.{None, arith}
-use Rattle.std.proofs.lemmas.List.{get_or-set_other, get_or-set_same}
+use Rattle.w16_local.proofs.Common.{None, arith, get_or-set_other, get_or-set_same}
 use Rattle.w16_local.proofs.Locals.{past}
 use Rattle.w16_local.proofs.sweep.take_away.Goals as goal
 

@@ -1,8 +1,4 @@
-use Rattle.std.proofs.lemmas.Grind.{common_steps}
-use Rattle.std.proofs.Common.{◌≡◌, arith}
-use Rattle.std.specs.List.{swap}
-use Rattle.std.specs.Prelude.{slice_index}
-use Rattle.std.specs.Vec.{with_items}
+use Rattle.w16_lru.proofs.Common.{common_steps, ◌≡◌, arith, swap, slice_index, with_items}
 use Rattle.w16_lru.proofs.Outcomes.{same_without, alone_none, large_none, removed_kept, removed_value, exchanged_after, exchanged_before}
 use Rattle.w16_lru.proofs.Order.remove.Given as given
 use Rattle.w16_lru.proofs.Order.remove.Goals as goal

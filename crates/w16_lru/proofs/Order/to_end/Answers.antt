@@ -1,10 +1,4 @@
-use Rattle.std.proofs.lemmas.Grind.{common_steps}
-use Rattle.std.proofs.Common.{◌≡◌, ◌∙◌, ap, sym, arith, subst, false, ℕ, ◌<◌, get_or}
-use Rattle.std.specs.List.{swap}
-use Rattle.std.specs.Prelude.{slice_index}
-use Rattle.std.specs.Vec.{with_items}
-use Rattle.w16_model.specs.Discards.{is_member}
-use Rattle.w16_lru.specs.Uses.{Uses}
+use Rattle.w16_lru.proofs.Common.{common_steps, ◌≡◌, ◌∙◌, ap, sym, arith, subst, false, ℕ, ◌<◌, get_or, swap, slice_index, with_items, is_member, Uses}
 use Rattle.w16_lru.proofs.Members.{taken_out}
 use Rattle.w16_lru.proofs.Outcomes.{IsFront, fits, joined_kept, joined_value, put_back, exchanged_after, exchanged_before}
 use Rattle.w16_lru.proofs.Order.to_end.Given as given

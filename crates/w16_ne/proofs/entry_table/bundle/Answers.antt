@@ -1,8 +1,6 @@
-use Rattle.std.proofs.Common.{ℕ, ◌*◌, ◌+◌, Option}
-use Rattle.std.proofs.lemmas.Result.{err_from_is_err_and}
+use Rattle.w16_ne.proofs.Common.{ℕ, ◌*◌, ◌+◌, Option, err_from_is_err_and, Reading, entry_size, sound_entry}
 use Rattle.w16_ne.specs.declared.entry_table.Entry.{Entry}
-use Rattle.w16_ne.specs.Reading.{Reading}
-use Rattle.w16_ne.specs.Entries.{entry_size, entry_in, sound_entry}
+use Rattle.w16_ne.specs.Entries.{entry_in}
 use Rattle.w16_ne.proofs.Each.{goes_on, stops}
 use Rattle.w16_ne.proofs.Until.{told_on}
 use Rattle.w16_ne.proofs.entry_table.bundle.Goals as goal

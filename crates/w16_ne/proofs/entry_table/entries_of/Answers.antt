@@ -1,6 +1,4 @@
-use Rattle.std.proofs.Common.{◌≡◌, ◌+◌, length, length-append, sym, ◌∙◌, arith}
-use Rattle.std.specs.Prelude.{slice_index}
-use Rattle.std.proofs.lemmas.Result.{err_from_is_err_and}
+use Rattle.w16_ne.proofs.Common.{◌≡◌, ◌+◌, length, length-append, sym, ◌∙◌, arith, slice_index, err_from_is_err_and}
 use Rattle.w16_ne.proofs.Bundles.{here, goes_on, stops, is_refused, is_done, bundle-length}
 use Rattle.w16_ne.proofs.Until.{told_on}
 use Rattle.w16_ne.proofs.entry_table.entries_of.Goals as goal

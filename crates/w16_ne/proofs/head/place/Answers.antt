@@ -1,5 +1,4 @@
-use Rattle.std.proofs.Common.{rules}
-use Rattle.w16_ne.specs.Header.{place_at}
+use Rattle.w16_ne.proofs.Common.{rules, place_at}
 use Rattle.w16_ne.proofs.head.place.Goals as goal
 
 pub returns-in_err-read_or-2-clause-exact : goal.returns-in_err-read_or-2-clause-exact

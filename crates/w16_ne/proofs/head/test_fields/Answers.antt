@@ -1,5 +1,4 @@
-use Rattle.std.proofs.Common.{rules}
-use Rattle.w16_ne.specs.Header.{fields_of}
+use Rattle.w16_ne.proofs.Common.{rules, fields_of}
 use Rattle.w16_ne.proofs.head.test_fields.Goals as goal
 
 pub returns-then-word-ne0-clause-exact : goal.returns-then-word-ne0-clause-exact

@@ -1,8 +1,4 @@
-use Rattle.std.proofs.Common.{◌≡◌, ◌+◌, ◌∙◌, [], ◌∷◌, ◌++◌, refl, arith, subst}
-use Rattle.std.proofs.lemmas.Result.{err_from_is_err_and}
-use Rattle.w16_store.specs.Files.{file_of}
-use Rattle.w16_ne.specs.Names.{Entry, found_in, name_at, names_from, size}
-use Rattle.w16_ne.specs.Listing.{IsListing}
+use Rattle.w16_ne.proofs.Common.{◌≡◌, ◌+◌, ◌∙◌, [], ◌∷◌, ◌++◌, refl, arith, subst, err_from_is_err_and, file_of, Entry, found_in, name_at, names_from, size, IsListing}
 use Rattle.w16_ne.proofs.Pieces.{failure_is}
 use Rattle.w16_ne.proofs.Until.{fails_on, goes_on, stops, is_done, past_the_end, entry_ends, found_long}
 use Rattle.w16_ne.proofs.name_table.add_names.Goals as goal

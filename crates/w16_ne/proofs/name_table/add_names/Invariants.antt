@@ -1,8 +1,4 @@
-use Rattle.std.proofs.Common.{◌≡◌, ◌≤◌, ◌-◌, List, [], Ok}
-use Rattle.w16_store.specs.Files.{file_of}
-use Rattle.w16_ne.specs.Reading.{length_at}
-use Rattle.w16_ne.specs.Names.{Entry, names_from, piece_at}
-use Rattle.w16_ne.specs.Listing.{IsListing}
+use Rattle.w16_ne.proofs.Common.{◌≡◌, ◌≤◌, ◌-◌, List, [], Ok, file_of, length_at, Entry, names_from, piece_at, IsListing}
 use Rattle.w16_ne.proofs.Each.{with_front}
 use Rattle.w16_ne.proofs.name_table.add_names.Given as goal
 

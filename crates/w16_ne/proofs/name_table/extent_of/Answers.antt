@@ -1,8 +1,5 @@
-use Rattle.std.proofs.Common.{◌≡◌, ◌+◌, ◌∙◌, arith}
-use Rattle.std.proofs.lemmas.Result.{err_from_is_err_and}
-use Rattle.w16_store.specs.Files.{file_of}
+use Rattle.w16_ne.proofs.Common.{◌≡◌, ◌+◌, ◌∙◌, arith, err_from_is_err_and, file_of, found_in, name_at, names_from, size}
 use Rattle.w16_ne.specs.declared.fault.NeFault.TheVariants as faults
-use Rattle.w16_ne.specs.Names.{found_in, name_at, names_from, size}
 use Rattle.w16_ne.proofs.Pieces.{failure_is}
 use Rattle.w16_ne.proofs.Until.{fails_on, past_the_end, entry_ends, found_long, err_now, err_later, err_over}
 use Rattle.w16_ne.proofs.name_table.extent_of.Goals as goal

@@ -1,8 +1,4 @@
-use Rattle.std.proofs.Common.{◌≡◌, ◌≤◌, ◌-◌, Ok, Err}
-use Rattle.w16_store.specs.Files.{file_of}
-use Rattle.w16_ne.specs.declared.fault.NeFault.{NeFault}
-use Rattle.w16_ne.specs.Reading.{length_at}
-use Rattle.w16_ne.specs.Names.{names_from, piece_at}
+use Rattle.w16_ne.proofs.Common.{◌≡◌, ◌≤◌, ◌-◌, Ok, Err, file_of, NeFault, length_at, names_from, piece_at}
 use Rattle.w16_ne.proofs.name_table.extent_of.Given as goal
 
 abbrev pub invariant-loop : goal.invariant-loop

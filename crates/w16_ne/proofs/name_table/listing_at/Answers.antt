@@ -1,8 +1,4 @@
-use Rattle.std.proofs.Common.{◌∙◌, [], subst, arith}
-use Rattle.std.proofs.lemmas.Result.{err_from_is_err_and}
-use Rattle.w16_store.specs.Files.{file_of}
-use Rattle.w16_ne.specs.Listing.{IsListing}
-use Rattle.w16_ne.specs.Names.{names_at, names_from}
+use Rattle.w16_ne.proofs.Common.{◌∙◌, [], subst, arith, err_from_is_err_and, file_of, IsListing, names_at, names_from}
 use Rattle.w16_ne.proofs.Until.{fails_on, names_are, none_behind}
 use Rattle.w16_ne.proofs.name_table.listing_at.Goals as goal
 

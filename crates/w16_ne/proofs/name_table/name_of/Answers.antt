@@ -1,8 +1,4 @@
-use Rattle.std.proofs.Common.{◌≡◌, ◌+◌, ◌-◌, option_map, subst, arith}
-use Rattle.std.proofs.lemmas.Result.{err_from_is_err_and}
-use Rattle.w16_store.specs.Files.{file_of}
-use Rattle.w16_ne.specs.Reading.{Tells}
-use Rattle.w16_ne.specs.Names.{name_at, found_in}
+use Rattle.w16_ne.proofs.Common.{◌≡◌, ◌+◌, ◌-◌, option_map, subst, arith, err_from_is_err_and, file_of, Tells, name_at, found_in}
 use Rattle.w16_ne.proofs.Pieces.{given, failure_is, name_in_piece}
 use Rattle.w16_ne.proofs.name_table.name_of.Goals as goal
 

@@ -1,5 +1,4 @@
-use Rattle.std.proofs.Common.{◌≡◌, ◌∙◌, true, false, [], length, eqb, sym, refl}
-use Rattle.w16_ne.specs.Names.{resident_at}
+use Rattle.w16_ne.proofs.Common.{◌≡◌, ◌∙◌, true, false, [], length, eqb, sym, refl, resident_at}
 use Rattle.w16_ne.proofs.name_table.resident.Goals as goal
 
 pub returns-then-is_empty-clause-exact : goal.returns-then-is_empty-clause-exact

@@ -1,9 +1,4 @@
-use Rattle.std.proofs.Common.{◌≡◌, ◌<◌, ◌∙◌, length, All, sym, subst, refl, arith, rules}
-use Rattle.std.specs.Prelude.{nat_eq}
-use Rattle.std.specs.List.{range_with_len}
-use Rattle.std.specs.List.Sorted.{IsPermutation}
-use Rattle.std.proofs.lemmas.List.FromFn.{length-range_with_len, get_or-range_with_len}
-use Rattle.std.proofs.lemmas.List.Sorted.{All-permutation, list_any-IsPermutation}
+use Rattle.w16_ne.proofs.Common.{◌≡◌, ◌<◌, ◌∙◌, length, All, sym, subst, refl, arith, rules, nat_eq, range_with_len, IsPermutation, length-range_with_len, get_or-range_with_len, All-permutation, list_any-IsPermutation}
 use Rattle.w16_ne.proofs.Ordered.{any_range, is_sorted, range_more}
 use Rattle.w16_ne.proofs.names.order_of.Goals as goal
 

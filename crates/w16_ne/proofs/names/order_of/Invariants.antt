@@ -1,5 +1,4 @@
-use Rattle.std.proofs.Common.{◌≡◌}
-use Rattle.std.specs.List.{range_with_len}
+use Rattle.w16_ne.proofs.Common.{◌≡◌, range_with_len}
 use Rattle.w16_ne.proofs.names.order_of.Given as goal
 
 abbrev pub invariant-loop-i : goal.invariant-loop-i

@@ -1,10 +1,4 @@
-use Rattle.std.proofs.Common.{◌≡◌, ◌∙◌, true, false, [], length, get_or, ltb, is_some, sym, ap, arith, rules}
-use Rattle.std.specs.List.Sorted.{IsPartitionPoint}
-use Rattle.std.specs.Str.{bytes_eq}
-use Rattle.std.proofs.lemmas.Bool.Decides.{nat_tests}
-use Rattle.std.proofs.lemmas.List.Sorted.{IsPartitionPoint-from_clause}
-use Rattle.std.proofs.lemmas.Slice.Eq.{bytes_eq-Decides}
-use Rattle.w16_ne.specs.Names.{text_of}
+use Rattle.w16_ne.proofs.Common.{◌≡◌, ◌∙◌, true, false, [], length, get_or, ltb, is_some, sym, ap, arith, rules, IsPartitionPoint, bytes_eq, nat_tests, IsPartitionPoint-from_clause, bytes_eq-Decides, text_of}
 use Rattle.w16_ne.proofs.Ordered.{below, partitioned, found_is, none_is}
 use Rattle.w16_ne.proofs.names.ordinal_of_text.Goals as goal
 

@@ -1,5 +1,4 @@
-use Rattle.std.proofs.Common.{arith}
-use Rattle.std.proofs.lemmas.Grind.{common_steps}
+use Rattle.w16_ne.proofs.Common.{arith, common_steps}
 use Rattle.w16_ne.proofs.names.write_upper.Goals as goal
 
 pub loop-i-preserved : goal.loop-i-preserved

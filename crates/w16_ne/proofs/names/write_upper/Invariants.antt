@@ -1,5 +1,4 @@
-use Rattle.std.proofs.Common.{◌≡◌, take}
-use Rattle.std.specs.Str.{str_to_ascii_uppercase}
+use Rattle.w16_ne.proofs.Common.{◌≡◌, take, str_to_ascii_uppercase}
 use Rattle.w16_ne.proofs.names.write_upper.Given as goal
 
 abbrev pub invariant-loop-i : goal.invariant-loop-i

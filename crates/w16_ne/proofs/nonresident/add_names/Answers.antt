@@ -1,7 +1,4 @@
-use Rattle.std.proofs.Common.{◌≡◌, ◌+◌, ◌∙◌, [], ◌∷◌, ◌++◌, length, refl, sym, subst}
-use Rattle.std.specs.Prelude.{slice_index}
-use Rattle.w16_ne.specs.Names.{Entry}
-use Rattle.w16_ne.specs.Listing.{IsListing}
+use Rattle.w16_ne.proofs.Common.{◌≡◌, ◌+◌, ◌∙◌, [], ◌∷◌, ◌++◌, length, refl, sym, subst, slice_index, Entry, IsListing}
 use Rattle.w16_ne.proofs.Listed.{here, goes_on, is_refused, is_done}
 use Rattle.w16_ne.proofs.Bounds.{is_past, is_inside}
 use Rattle.w16_ne.proofs.nonresident.add_names.Goals as goal

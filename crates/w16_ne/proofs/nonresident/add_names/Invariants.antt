@@ -1,6 +1,4 @@
-use Rattle.std.proofs.Common.{◌≡◌, ◌≤◌, ◌-◌, List, [], length}
-use Rattle.w16_ne.specs.Names.{Entry, names_in, table_names}
-use Rattle.w16_ne.specs.Listing.{IsListing}
+use Rattle.w16_ne.proofs.Common.{◌≡◌, ◌≤◌, ◌-◌, List, [], length, Entry, names_in, table_names, IsListing}
 use Rattle.w16_ne.proofs.Each.{with_front}
 use Rattle.w16_ne.proofs.nonresident.add_names.Given as goal
 

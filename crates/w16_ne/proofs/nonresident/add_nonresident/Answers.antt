@@ -1,5 +1,4 @@
-use Rattle.std.proofs.Common.{rules}
-use Rattle.w16_ne.specs.Names.{nonresident_at}
+use Rattle.w16_ne.proofs.Common.{rules, nonresident_at}
 use Rattle.w16_ne.proofs.nonresident.add_nonresident.Goals as goal
 
 pub returns-in_err-bytes-clause-exact : goal.returns-in_err-bytes-clause-exact

@@ -1,5 +1,4 @@
-use Rattle.std.proofs.Common.{rules}
-use Rattle.w16_ne.specs.Modules.{tables_at}
+use Rattle.w16_ne.proofs.Common.{rules, tables_at}
 use Rattle.w16_ne.proofs.read.read_module.Goals as goal
 
 pub returns-in_err-ne-clause-exact : goal.returns-in_err-ne-clause-exact

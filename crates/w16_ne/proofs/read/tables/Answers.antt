@@ -1,5 +1,4 @@
-use Rattle.std.proofs.Common.{◌∙◌, ap, Ok}
-use Rattle.w16_ne.specs.Modules.{Tables, tables_behind}
+use Rattle.w16_ne.proofs.Common.{◌∙◌, ap, Ok, Tables, tables_behind}
 use Rattle.w16_ne.proofs.Tables.{same_tables}
 use Rattle.w16_ne.proofs.read.tables.Goals as goal
 

@@ -1,6 +1,4 @@
-use Rattle.std.proofs.Common.{◌≡◌, ◌==◌, length, map, drop}
-use Rattle.std.specs.List.{list_any}
-use Rattle.w16_ne.specs.Texts.{text_in}
+use Rattle.w16_ne.proofs.Common.{◌≡◌, ◌==◌, length, map, drop, list_any, text_in}
 use Rattle.w16_ne.proofs.reference_table.has_empty.Given as goal
 
 abbrev pub invariant-loop-offset : goal.invariant-loop-offset

@@ -1,11 +1,4 @@
-use Rattle.std.proofs.Common.{◌≡◌, ℕ, ◌*◌, ◌+◌, List, [], ◌∷◌, ◌++◌, map, Ok, subst, rules}
-use Rattle.std.proofs.lemmas.Result.{err_from_is_err_and}
-use Rattle.std.proofs.lemmas.List.{map_push}
-use Rattle.std.proofs.lemmas.List.Elements.{All-push}
-use Rattle.w16_ne.specs.declared.fault.NeFault.TheVariants.{Truncated}
-use Rattle.w16_ne.specs.Reading.{Reading, Refused, word_of}
-use Rattle.w16_ne.specs.References.{text_at, texts_at}
-use Rattle.w16_ne.specs.Texts.{HasText, text_in}
+use Rattle.w16_ne.proofs.Common.{◌≡◌, ℕ, ◌*◌, ◌+◌, List, [], ◌∷◌, ◌++◌, map, Ok, subst, rules, err_from_is_err_and, map_push, All-push, Truncated, Reading, Refused, word_of, text_at, texts_at, HasText, text_in}
 use Rattle.w16_ne.proofs.Each.{goes_on, stops}
 use Rattle.w16_ne.proofs.Until.{told_on}
 use Rattle.w16_ne.proofs.reference_table.offsets_of.Goals as goal

@@ -1,8 +1,4 @@
-use Rattle.std.proofs.Common.{◌≡◌, ◌-◌, ◌*◌, ◌+◌, ℕ, List, Option, Ok, All, map}
-use Rattle.w16_ne.specs.declared.fault.NeFault.TheVariants.{Truncated}
-use Rattle.w16_ne.specs.Reading.{each, word_of}
-use Rattle.w16_ne.specs.References.{text_at, texts_at}
-use Rattle.w16_ne.specs.Texts.{HasText, text_in, texts_behind}
+use Rattle.w16_ne.proofs.Common.{◌≡◌, ◌-◌, ◌*◌, ◌+◌, ℕ, List, Option, Ok, All, map, Truncated, each, word_of, text_at, texts_at, HasText, text_in, texts_behind}
 use Rattle.w16_ne.proofs.Each.{with_front}
 use Rattle.w16_ne.proofs.reference_table.offsets_of.Given as goal
 

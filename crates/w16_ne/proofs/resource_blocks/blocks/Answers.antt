@@ -1,7 +1,4 @@
-use Rattle.std.proofs.Common.{◌∙◌, sym, arith}
-use Rattle.std.proofs.lemmas.Result.{err_from_is_err_and}
-use Rattle.w16_store.specs.Files.{file_of}
-use Rattle.w16_ne.specs.Resources.{blocks_at, blocks_from}
+use Rattle.w16_ne.proofs.Common.{◌∙◌, sym, arith, err_from_is_err_and, file_of, blocks_at, blocks_from}
 use Rattle.w16_ne.proofs.Until.{fails_on, gives_on}
 use Rattle.w16_ne.proofs.Blocks.{blocks_are, none_behind}
 use Rattle.w16_ne.proofs.resource_blocks.blocks.Goals as goal

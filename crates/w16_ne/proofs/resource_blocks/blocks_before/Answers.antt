@@ -1,9 +1,4 @@
-use Rattle.std.proofs.Common.{◌≡◌, ◌≤◌, ◌∙◌, arith, rules}
-use Rattle.std.proofs.lemmas.Result.{err_from_is_err_and}
-use Rattle.std.proofs.lemmas.List.Elements.{All-push}
-use Rattle.w16_store.specs.Files.{file_of}
-use Rattle.w16_ne.specs.declared.resource_blocks.Block.{Block}
-use Rattle.w16_ne.specs.Resources.{block_at, blocks_from}
+use Rattle.w16_ne.proofs.Common.{◌≡◌, ◌≤◌, ◌∙◌, arith, rules, err_from_is_err_and, All-push, file_of, Block, block_at, blocks_from}
 use Rattle.w16_ne.proofs.Until.{fails_on}
 use Rattle.w16_ne.proofs.Pieces.{failure_is}
 use Rattle.w16_ne.proofs.Blocks.{end_of, goes_on, stops, is_done, past_the_end, block_ends}

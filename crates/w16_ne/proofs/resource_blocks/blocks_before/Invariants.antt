@@ -1,8 +1,4 @@
-use Rattle.std.proofs.Common.{◌≡◌, ◌≤◌, ◌-◌, ◌+◌, ◌*◌, Ok, All}
-use Rattle.w16_store.specs.Files.{file_of}
-use Rattle.w16_ne.specs.Reading.{length_at}
-use Rattle.w16_ne.specs.Names.{IsPiece}
-use Rattle.w16_ne.specs.Resources.{blocks_from}
+use Rattle.w16_ne.proofs.Common.{◌≡◌, ◌≤◌, ◌-◌, ◌+◌, ◌*◌, Ok, All, file_of, length_at, IsPiece, blocks_from}
 use Rattle.w16_ne.proofs.Each.{with_front}
 use Rattle.w16_ne.proofs.resource_blocks.blocks_before.Given as goal
 

@@ -1,8 +1,5 @@
-use Rattle.std.proofs.Common.{◌≡◌, ◌∙◌, arith}
-use Rattle.std.proofs.lemmas.Result.{err_from_is_err_and}
-use Rattle.w16_store.specs.Files.{file_of}
+use Rattle.w16_ne.proofs.Common.{◌≡◌, ◌∙◌, arith, err_from_is_err_and, file_of, block_at, blocks_from}
 use Rattle.w16_ne.specs.declared.fault.NeFault.TheVariants as faults
-use Rattle.w16_ne.specs.Resources.{block_at, blocks_from}
 use Rattle.w16_ne.proofs.Until.{fails_on}
 use Rattle.w16_ne.proofs.Pieces.{failure_is}
 use Rattle.w16_ne.proofs.Blocks.{end_of, past_the_end, block_ends, err_now, err_later, err_over}

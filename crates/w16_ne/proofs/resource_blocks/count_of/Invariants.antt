@@ -1,9 +1,4 @@
-use Rattle.std.proofs.Common.{◌≡◌, ◌≤◌, ◌-◌, Ok, Err}
-use Rattle.w16_store.specs.Files.{file_of}
-use Rattle.w16_ne.specs.declared.fault.NeFault.{NeFault}
-use Rattle.w16_ne.specs.Reading.{length_at}
-use Rattle.w16_ne.specs.Names.{IsPiece}
-use Rattle.w16_ne.specs.Resources.{blocks_from}
+use Rattle.w16_ne.proofs.Common.{◌≡◌, ◌≤◌, ◌-◌, Ok, Err, file_of, NeFault, length_at, IsPiece, blocks_from}
 use Rattle.w16_ne.proofs.resource_blocks.count_of.Given as goal
 
 abbrev pub invariant-loop : goal.invariant-loop

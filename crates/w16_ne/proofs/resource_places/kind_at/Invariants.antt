@@ -1,5 +1,4 @@
-use Rattle.std.proofs.Common.{◌≡◌, drop}
-use Rattle.w16_ne.specs.Rows.{kind_at}
+use Rattle.w16_ne.proofs.Common.{◌≡◌, drop, kind_at}
 use Rattle.w16_ne.proofs.resource_places.kind_at.Given as goal
 
 abbrev pub invariant-loop-group : goal.invariant-loop-group

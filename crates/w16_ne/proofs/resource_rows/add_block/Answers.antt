@@ -1,8 +1,4 @@
-use Rattle.std.proofs.Common.{◌≡◌, ◌<◌, refl, arith}
-use Rattle.w16_store.specs.Files.{file_of}
-use Rattle.w16_ne.specs.declared.resource_rows.Group.{Group}
-use Rattle.w16_ne.specs.Resources.{typed_at}
-use Rattle.w16_ne.specs.Rows.{label_in}
+use Rattle.w16_ne.proofs.Common.{◌≡◌, ◌<◌, refl, arith, file_of, Group, typed_at, label_in}
 use Rattle.w16_ne.proofs.Places.{block_added, nothing_added, rows_whole}
 use Rattle.w16_ne.proofs.resource_rows.add_block.Goals as goal
 

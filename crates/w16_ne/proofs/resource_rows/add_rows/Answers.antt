@@ -1,12 +1,5 @@
-use Rattle.std.proofs.Common.{◌≡◌, ℕ, ◌*◌, ◌+◌, ◌∙◌, [], ◌∷◌, ◌++◌, map, arith, refl, sym, ap, ◌-◌, append_assoc, length-append}
-use Rattle.std.proofs.lemmas.Result.{err_from_is_err_and}
-use Rattle.std.proofs.lemmas.List.{map_push, append-nil}
-use Rattle.std.proofs.lemmas.List.Elements.{All-push}
-use Rattle.w16_store.specs.Files.{file_of}
-use Rattle.w16_ne.specs.declared.resource_rows.Row.{Row}
-use Rattle.w16_ne.specs.Reading.{Reading, each}
-use Rattle.w16_ne.specs.Resources.{Entry, resource_at, resources_of}
-use Rattle.w16_ne.specs.Rows.{HasLabel, entry_in}
+use Rattle.w16_ne.proofs.Common.{◌≡◌, ℕ, ◌*◌, ◌+◌, ◌∙◌, [], ◌∷◌, ◌++◌, map, arith, refl, sym, ap, ◌-◌, append_assoc, length-append, err_from_is_err_and, map_push, append-nil, All-push, file_of, Row, Reading, each, resource_at, resources_of, HasLabel, entry_in}
+use Rattle.w16_ne.specs.Resources.{Entry}
 use Rattle.w16_ne.proofs.Each.{goes_on, stops, is_done, front_none}
 use Rattle.w16_ne.proofs.Until.{fails_on}
 use Rattle.w16_ne.proofs.resource_rows.add_rows.Goals as goal

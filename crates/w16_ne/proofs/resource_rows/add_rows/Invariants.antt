@@ -1,11 +1,4 @@
-use Rattle.std.proofs.Common.{◌≡◌, ◌≤◌, ◌-◌, ◌*◌, ◌+◌, ◌++◌, ℕ, List, All, Ok, length, map}
-use Rattle.w16_store.specs.Files.{file_of}
-use Rattle.w16_ne.specs.declared.resource_rows.Row.{Row}
-use Rattle.w16_ne.specs.Reading.{each}
-use Rattle.w16_ne.specs.Names.{IsPiece}
-use Rattle.w16_ne.specs.Texts.{texts_behind}
-use Rattle.w16_ne.specs.Resources.{resource_at, resources_of}
-use Rattle.w16_ne.specs.Rows.{HasLabel, entry_in}
+use Rattle.w16_ne.proofs.Common.{◌≡◌, ◌≤◌, ◌-◌, ◌*◌, ◌+◌, ◌++◌, ℕ, List, All, Ok, length, map, file_of, Row, each, IsPiece, texts_behind, resource_at, resources_of, HasLabel, entry_in}
 use Rattle.w16_ne.proofs.Each.{with_front}
 use Rattle.w16_ne.proofs.resource_rows.add_rows.Given as goal
 

@@ -1,15 +1,4 @@
-use Rattle.std.proofs.Common.{◌≡◌, ℕ, suc, ◌+◌, ◌<◌, ◌≤◌, ◌∙◌, List, Option, [], ◌∷◌, ◌++◌, Ok, Err, length, drop, get_or, refl, sym, ap, add-one, arith}
-use Rattle.std.proofs.Math.Seq.{drop-cons}
-use Rattle.std.proofs.Math.ListN.{drop_of_length-le}
-use Rattle.std.proofs.lemmas.Result.{err_from_is_err_and}
-use Rattle.std.proofs.lemmas.List.{append-nil}
-use Rattle.std.specs.Prelude.{nat_lt}
-use Rattle.std.proofs.lemmas.List.Elements.{filter-append}
-use Rattle.w16_store.specs.Files.{file_of}
-use Rattle.w16_ne.specs.declared.fault.NeFault.{NeFault}
-use Rattle.w16_ne.specs.declared.resource_blocks.Block.{Block}
-use Rattle.w16_ne.specs.Reading.{Reading}
-use Rattle.w16_ne.specs.Resources.{Typed, typed_at, all_typed, filled}
+use Rattle.w16_ne.proofs.Common.{◌≡◌, ℕ, suc, ◌+◌, ◌<◌, ◌≤◌, ◌∙◌, List, Option, [], ◌∷◌, ◌++◌, Ok, Err, length, drop, get_or, refl, sym, ap, add-one, arith, drop-cons, drop_of_length-le, err_from_is_err_and, append-nil, nat_lt, filter-append, file_of, NeFault, Block, Reading, Typed, typed_at, all_typed, filled}
 use Rattle.w16_ne.proofs.Each.{with_front, regroup}
 use Rattle.w16_ne.proofs.Until.{fails_on}
 use Rattle.w16_ne.proofs.resource_rows.all_rows.Goals as goal

@@ -1,10 +1,4 @@
-use Rattle.std.proofs.Common.{◌≡◌, ◌≤◌, ℕ, Ok, drop, List}
-use Rattle.w16_store.specs.Files.{file_of}
-use Rattle.w16_ne.specs.Reading.{length_at}
-use Rattle.w16_ne.specs.Names.{IsPiece}
-use Rattle.w16_ne.specs.Texts.{texts_behind}
-use Rattle.w16_ne.specs.Resources.{Typed, all_typed, filled}
-use Rattle.w16_ne.specs.Rows.{AreRows, grouped}
+use Rattle.w16_ne.proofs.Common.{◌≡◌, ◌≤◌, ℕ, Ok, drop, List, file_of, length_at, IsPiece, texts_behind, Typed, all_typed, filled, AreRows, grouped}
 use Rattle.w16_ne.proofs.Each.{with_front}
 use Rattle.w16_ne.proofs.resource_rows.all_rows.Given as goal
 

@@ -1,7 +1,4 @@
-use Rattle.std.proofs.Common.{◌^◌, ◌∙◌, map, sym}
-use Rattle.std.proofs.lemmas.Result.{err_from_is_err_and}
-use Rattle.w16_ne.specs.Resources.{are_placed}
-use Rattle.w16_ne.specs.Rows.{entry_in}
+use Rattle.w16_ne.proofs.Common.{◌^◌, ◌∙◌, map, sym, err_from_is_err_and, are_placed, entry_in}
 use Rattle.w16_ne.proofs.Until.{told_on}
 use Rattle.w16_ne.proofs.Places.{row_goes, row_stops}
 use Rattle.w16_ne.proofs.resource_table.test_places.Goals as goal

@@ -1,7 +1,4 @@
-use Rattle.std.proofs.Common.{◌≡◌, ◌^◌, ℕ, List, Option, Ok, map, drop}
-use Rattle.w16_ne.specs.Reading.{length_at}
-use Rattle.w16_ne.specs.Resources.{are_placed}
-use Rattle.w16_ne.specs.Rows.{entry_in}
+use Rattle.w16_ne.proofs.Common.{◌≡◌, ◌^◌, ℕ, List, Option, Ok, map, drop, length_at, are_placed, entry_in}
 use Rattle.w16_ne.proofs.resource_table.test_places.Given as goal
 
 abbrev pub invariant-loop-row : goal.invariant-loop-row

@@ -1,11 +1,4 @@
-use Rattle.std.proofs.Common.{◌≡◌, ◌∙◌, ◌^◌, length, map, true, false, ap, sym, refl, Ok, arith}
-use Rattle.std.specs.Prelude.{nat_lt}
-use Rattle.std.proofs.lemmas.Bool.Decides.{nat_tests}
-use Rattle.std.proofs.lemmas.Result.{err_from_is_err_and}
-use Rattle.w16_store.specs.Files.{file_of}
-use Rattle.w16_ne.specs.Texts.{texts_behind}
-use Rattle.w16_ne.specs.Resources.{typed_in, resource_count, are_placed, are_all_placed}
-use Rattle.w16_ne.specs.Rows.{entry_in, grouped, total}
+use Rattle.w16_ne.proofs.Common.{◌≡◌, ◌∙◌, ◌^◌, length, map, true, false, ap, sym, refl, Ok, arith, nat_lt, nat_tests, err_from_is_err_and, file_of, texts_behind, typed_in, resource_count, are_placed, are_all_placed, entry_in, grouped, total}
 use Rattle.w16_ne.proofs.Filled.{count_filled, placed_filled}
 use Rattle.w16_ne.proofs.Places.{count_grouped, placed_grouped}
 use Rattle.w16_ne.proofs.Pieces.{refused_is}

@@ -1,5 +1,4 @@
-use Rattle.std.proofs.Common.{rules}
-use Rattle.w16_ne.specs.Segments.{data_at}
+use Rattle.w16_ne.proofs.Common.{rules, data_at}
 use Rattle.w16_ne.proofs.segment_table.data.Goals as goal
 
 pub returns-in_err-records-clause-exact : goal.returns-in_err-records-clause-exact

@@ -1,10 +1,4 @@
-use Rattle.std.proofs.Common.{ℕ, ◌*◌, ◌∙◌, Result, arith, rules}
-use Rattle.std.proofs.lemmas.Result.{err_from_is_err_and}
-use Rattle.std.proofs.lemmas.List.Elements.{All-push}
-use Rattle.w16_store.specs.Files.{file_of}
-use Rattle.w16_ne.specs.declared.fault.NeFault.{NeFault}
-use Rattle.w16_ne.specs.declared.segment_table.Segment.{Segment}
-use Rattle.w16_ne.specs.Segments.{IsSized, segment_at, entries_at}
+use Rattle.w16_ne.proofs.Common.{ℕ, ◌*◌, ◌∙◌, Result, arith, rules, err_from_is_err_and, All-push, file_of, NeFault, Segment, IsSized, segment_at, entries_at}
 use Rattle.w16_ne.proofs.Each.{goes_on, stops}
 use Rattle.w16_ne.proofs.Until.{fails_on}
 use Rattle.w16_ne.proofs.segment_table.entries.Goals as goal

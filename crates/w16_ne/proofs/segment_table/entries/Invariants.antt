@@ -1,9 +1,4 @@
-use Rattle.std.proofs.Common.{◌≡◌, ◌≤◌, ◌-◌, ◌*◌, ℕ, Result, All, vec_len}
-use Rattle.w16_store.specs.Files.{file_of}
-use Rattle.w16_ne.specs.declared.fault.NeFault.{NeFault}
-use Rattle.w16_ne.specs.declared.segment_table.Segment.{Segment}
-use Rattle.w16_ne.specs.Reading.{each}
-use Rattle.w16_ne.specs.Segments.{IsSized, segment_at, entries_at}
+use Rattle.w16_ne.proofs.Common.{◌≡◌, ◌≤◌, ◌-◌, ◌*◌, ℕ, Result, All, vec_len, file_of, NeFault, Segment, each, IsSized, segment_at, entries_at}
 use Rattle.w16_ne.proofs.Each.{with_front}
 use Rattle.w16_ne.proofs.segment_table.entries.Given as goal
 

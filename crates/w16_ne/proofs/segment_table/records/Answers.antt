@@ -1,5 +1,4 @@
-use Rattle.std.proofs.Common.{rules}
-use Rattle.w16_ne.specs.Segments.{records_at}
+use Rattle.w16_ne.proofs.Common.{rules, records_at}
 use Rattle.w16_ne.proofs.segment_table.records.Goals as goal
 
 pub returns-clause-exact : goal.returns-clause-exact

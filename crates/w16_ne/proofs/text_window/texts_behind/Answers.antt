@@ -1,7 +1,5 @@
-use Rattle.w16_store.specs.Files.{file_of}
-use Rattle.w16_ne.specs.Reading.{bytes_or}
+use Rattle.w16_ne.proofs.Common.{file_of, bytes_or, texts_behind}
 use Rattle.w16_ne.specs.declared.fault.NeFault.TheVariants as faults
-use Rattle.w16_ne.specs.Texts.{texts_behind}
 use Rattle.w16_ne.proofs.Until.{gives_on}
 use Rattle.w16_ne.proofs.Pieces.{front_is}
 use Rattle.w16_ne.proofs.text_window.texts_behind.Goals as goal

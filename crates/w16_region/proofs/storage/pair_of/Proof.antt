@@ -1,5 +1,4 @@
-use Rattle.std.proofs.Common.{ℕ, ◌+◌, ◌≤◌, ◌⊎◌, List, [], ◌∷◌, length, refl, sym, w64, Bor, MutBor}
-use Rattle.std.proofs.raw_atomic.Walks.{proved}
+use Rattle.w16_region.proofs.Common.{ℕ, ◌+◌, ◌≤◌, ◌⊎◌, List, [], ◌∷◌, length, refl, sym, w64, Bor, MutBor, proved}
 use mir.Syntax.{named}
 use mir.Val.{Val, vint, vstruct, vcons, vnil}
 use base.Fml.{Lft, ftrue, flft}

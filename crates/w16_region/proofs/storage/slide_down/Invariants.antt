@@ -1,5 +1,4 @@
-use Rattle.std.proofs.Common.{◌-◌, ◌≡◌, ◌≤◌}
-use Rattle.w16_model.specs.Bytes.{part, put_part}
+use Rattle.w16_region.proofs.Common.{◌-◌, ◌≡◌, ◌≤◌, part, put_part}
 use Rattle.w16_region.proofs.storage.slide_down.Given as goal
 
 abbrev pub invariant-loop-done : goal.invariant-loop-done

@@ -1,6 +1,4 @@
-use Rattle.std.proofs.Common.{◌≡◌, false, arith}
-use Rattle.std.specs.Prelude.{nat_eq}
-use Rattle.std.proofs.lemmas.Result.{err_from_is_err_and}
+use Rattle.w16_reloc.proofs.Common.{◌≡◌, false, arith, nat_eq, err_from_is_err_and}
 use Rattle.w16_reloc.proofs.ChainLemmas.{chain_is_empty, chain_begins, chain_fails}
 use Rattle.w16_reloc.proofs.chain.take_chain.Goals as goal
 

@@ -1,6 +1,4 @@
-use Rattle.std.proofs.Common.{◌≡◌, ◌∙◌, sym, false, arith}
-use Rattle.std.specs.Prelude.{nat_eq}
-use Rattle.std.proofs.lemmas.Result.{err_from_is_err_and}
+use Rattle.w16_reloc.proofs.Common.{◌≡◌, ◌∙◌, sym, false, arith, nat_eq, err_from_is_err_and}
 use Rattle.w16_reloc.proofs.ChainLemmas.{chain_is_done, chain_goes_on, chain_stops, chain_returns}
 use Rattle.w16_reloc.proofs.chain.take_links.Goals as goal
 

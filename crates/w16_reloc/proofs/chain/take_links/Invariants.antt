@@ -1,6 +1,4 @@
-use Rattle.std.proofs.Common.{◌≡◌, ◌-◌, length, List}
-use Rattle.w16_reloc.specs.Sites.{Site}
-use Rattle.w16_reloc.specs.Check.{AreMarks, chain_at}
+use Rattle.w16_reloc.proofs.Common.{◌≡◌, ◌-◌, length, List, Site, AreMarks, chain_at}
 use Rattle.w16_reloc.proofs.chain.take_links.Given as goal
 
 abbrev pub invariant-loop : goal.invariant-loop

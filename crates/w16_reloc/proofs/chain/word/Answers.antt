@@ -1,5 +1,4 @@
-use Rattle.std.proofs.Common.{arith}
-use Rattle.std.proofs.lemmas.Grind.{common_steps}
+use Rattle.w16_reloc.proofs.Common.{arith, common_steps}
 use Rattle.w16_reloc.proofs.chain.word.Goals as goal
 
 pub returns : goal.returns

@@ -1,9 +1,4 @@
-use Rattle.std.proofs.Common.{◌≡◌, ◌∙◌, [], drop, take, take_all, subst, All, refl, arith}
-use Rattle.std.proofs.lemmas.List.Elements.{All-more}
-use Rattle.w16_reloc.specs.Law.{IsFar}
-use Rattle.std.proofs.Math.ListN.{drop_of_length-le}
-use Rattle.w16_reloc.specs.Images.{byte, patches}
-use Rattle.w16_reloc.specs.Apply.{over_each}
+use Rattle.w16_reloc.proofs.Common.{◌≡◌, ◌∙◌, [], drop, take, take_all, subst, All, refl, arith, All-more, IsFar, drop_of_length-le, byte, patches, over_each}
 use Rattle.w16_reloc.proofs.ApartLemmas.{sound_steps}
 use Rattle.w16_reloc.proofs.ImageLemmas.{open_next, open_done, written_image}
 use Rattle.w16_reloc.proofs.image.apply.Goals as goal

@@ -1,6 +1,4 @@
-use Rattle.std.proofs.Common.{◌≡◌, ℕ, length, drop, take, List, All}
-use Rattle.w16_reloc.specs.Apply.{IsOpen}
-use Rattle.w16_reloc.specs.Law.{IsFar}
+use Rattle.w16_reloc.proofs.Common.{◌≡◌, ℕ, length, drop, take, List, All, IsOpen, IsFar}
 use Rattle.w16_reloc.proofs.image.apply.Given as goal
 
 abbrev pub invariant-loop-i : goal.invariant-loop-i

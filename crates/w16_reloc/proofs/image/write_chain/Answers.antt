@@ -1,6 +1,4 @@
-use Rattle.std.proofs.Common.{◌≡◌, ◌-◌, ◌+◌, ◌<◌, ◌⊎◌, inl, inr, ◌∙◌, length, arith}
-use Rattle.w16_reloc.specs.Sound.{chain_width}
-use Rattle.w16_reloc.specs.Images.{value_of}
+use Rattle.w16_reloc.proofs.Common.{◌≡◌, ◌-◌, ◌+◌, ◌<◌, ◌⊎◌, inl, inr, ◌∙◌, length, arith, chain_width, value_of}
 use Rattle.w16_reloc.proofs.WalkLemmas.{walk_stops, walk_over, walk_on, chain_narrow, chain_wide}
 use Rattle.w16_reloc.proofs.image.write_chain.Goals as goal
 use Rattle.w16_reloc.proofs.image.write_chain.Goals.{then-at-via-then-at, then-at-via-else-at+then-place-width}

@@ -1,8 +1,4 @@
-use Rattle.std.proofs.Common.{◌≡◌, ℕ, ◌-◌, length, List}
-use Rattle.w16_reloc.specs.Sites.{Site}
-use Rattle.w16_reloc.specs.Sound.{chain_width}
-use Rattle.w16_reloc.specs.Images.{value_of}
-use Rattle.w16_reloc.specs.Apply.{IsWalked}
+use Rattle.w16_reloc.proofs.Common.{◌≡◌, ℕ, ◌-◌, length, List, Site, chain_width, value_of, IsWalked}
 use Rattle.w16_reloc.proofs.image.write_chain.Given as goal
 
 abbrev pub invariant-loop : goal.invariant-loop

@@ -1,6 +1,4 @@
-use Rattle.std.proofs.Common.{[], length}
-use Rattle.w16_reloc.specs.Sound.{all_sites}
-use Rattle.w16_reloc.specs.Images.{byte, patches}
+use Rattle.w16_reloc.proofs.Common.{[], length, all_sites, byte, patches}
 use Rattle.w16_reloc.proofs.ApartLemmas.{sound_steps}
 use Rattle.w16_reloc.proofs.ImageLemmas.{image_is, fit_all}
 use Rattle.w16_reloc.proofs.laws.writes_the_image.Goals as goal

@@ -1,8 +1,4 @@
-use Rattle.std.proofs.Common.{◌≡◌, ℕ, ◌+◌, List, [], ◌∷◌, length, take, drop, get_or, Some, None, Ok, Err, Bool, true, false, cond, refl, sym, ◌∙◌, ap, arith}
-use Rattle.std.specs.Prelude.{nat_lt}
-use Rattle.std.proofs.lemmas.List.{get_or-drop}
-use Rattle.std.proofs.lemmas.Bool.Decides.{nat_tests}
-use Rattle.w16_store.specs.Files.{bytes_of}
+use Rattle.w16_reloc.proofs.Common.{◌≡◌, ℕ, ◌+◌, List, [], ◌∷◌, length, take, drop, get_or, Some, None, Ok, Err, Bool, true, false, cond, refl, sym, ◌∙◌, ap, arith, nat_lt, get_or-drop, nat_tests, bytes_of}
 use Rattle.w16_store.specs.declared.store.StoreFault.TheVariants as stores
 use Rattle.w16_reloc.proofs.reading.byte_at.Goals as goal
 

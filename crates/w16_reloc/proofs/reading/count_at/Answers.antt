@@ -1,5 +1,4 @@
-use Rattle.std.proofs.Common.{rules}
-use Rattle.w16_ne.specs.Segments.{records_at}
+use Rattle.w16_reloc.proofs.Common.{rules, records_at}
 use Rattle.w16_reloc.proofs.reading.count_at.Goals as goal
 
 pub returns-then-flags-eq0-clause-exact : goal.returns-then-flags-eq0-clause-exact

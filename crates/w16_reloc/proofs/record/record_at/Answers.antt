@@ -1,5 +1,4 @@
-use Rattle.std.proofs.Common.{rules}
-use Rattle.w16_reloc.specs.Records.{record_at}
+use Rattle.w16_reloc.proofs.Common.{rules, record_at}
 use Rattle.w16_reloc.proofs.record.record_at.Goals as goal
 
 pub returns-in_err-part : goal.returns-in_err-part

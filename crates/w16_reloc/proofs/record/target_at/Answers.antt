@@ -1,5 +1,4 @@
-use Rattle.std.proofs.Common.{rules}
-use Rattle.w16_reloc.specs.Records.{target_at}
+use Rattle.w16_reloc.proofs.Common.{rules, target_at}
 use Rattle.w16_reloc.proofs.record.target_at.Goals as goal
 
 pub returns-else-kind-eq0 : goal.returns-else-kind-eq0

@@ -1,8 +1,4 @@
-use Rattle.std.proofs.Common.{◌∙◌, [], arith}
-use Rattle.std.proofs.lemmas.Result.{err_from_is_err_and}
-use Rattle.w16_reloc.specs.Records.{Offer}
-use Rattle.w16_reloc.specs.Check.{check_from}
-use Rattle.w16_reloc.specs.Segments.{offer_at}
+use Rattle.w16_reloc.proofs.Common.{◌∙◌, [], arith, err_from_is_err_and, Offer, check_from, offer_at}
 use Rattle.w16_reloc.proofs.Refusals.{fails_on, own_fails, goes_on, stops_at_record, stops_at_sites, is_done}
 use Rattle.w16_reloc.proofs.records.check_records.Goals as goal
 

@@ -1,8 +1,4 @@
-use Rattle.std.proofs.Common.{◌≡◌, ◌≤◌, ◌-◌, ℕ, List, [], length, Some, vec_len, vec_capacity}
-use Rattle.w16_store.specs.Files.{file_of}
-use Rattle.w16_reloc.specs.Sites.{Site}
-use Rattle.w16_reloc.specs.Check.{AreMarks, check_from}
-use Rattle.w16_reloc.specs.Segments.{offer_at}
+use Rattle.w16_reloc.proofs.Common.{◌≡◌, ◌≤◌, ◌-◌, ℕ, List, [], length, Some, vec_len, vec_capacity, file_of, Site, AreMarks, check_from, offer_at}
 use Rattle.w16_reloc.proofs.Refusals.{with_front}
 use Rattle.w16_reloc.proofs.records.check_records.Given as goal
 

@@ -1,7 +1,4 @@
-use Rattle.std.proofs.Common.{◌≡◌, ◌-◌, Some, Option, sym, arith}
-use Rattle.std.proofs.lemmas.Result.{err_from_is_err_and}
-use Rattle.w16_ne.specs.declared.segment_table.Segment.{Segment}
-use Rattle.w16_reloc.specs.Segments.{checked}
+use Rattle.w16_reloc.proofs.Common.{◌≡◌, ◌-◌, Some, Option, sym, arith, err_from_is_err_and, Segment, checked}
 use Rattle.w16_reloc.proofs.Refusals.{fails_on, never, ok_same, checked_told}
 use Rattle.w16_reloc.proofs.FileLemmas.{module_lies}
 use Rattle.w16_reloc.proofs.scratch.check.Goals as goal

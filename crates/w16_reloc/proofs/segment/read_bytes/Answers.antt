@@ -1,5 +1,4 @@
-use Rattle.std.proofs.lemmas.Grind.{common_steps}
-use Rattle.std.proofs.Common.{arith}
+use Rattle.w16_reloc.proofs.Common.{common_steps, arith}
 use Rattle.w16_reloc.proofs.segment.read_bytes.Goals as goal
 
 pub returns-then-len-eq0-clause-exact : goal.returns-then-len-eq0-clause-exact

@@ -1,5 +1,4 @@
-use Rattle.std.proofs.Common.{◌+◌, ◌<◌, ◌≤◌, Ok, sym, length, arith}
-use Rattle.std.proofs.lemmas.Result.{err_from_is_err_and}
+use Rattle.w16_reloc.proofs.Common.{◌+◌, ◌<◌, ◌≤◌, Ok, sym, length, arith, err_from_is_err_and}
 use Rattle.w16_reloc.proofs.Refusals.{fails_on, never, on_ok_both, ok_same}
 use Rattle.w16_reloc.proofs.segment.read_segment.Goals as goal
 

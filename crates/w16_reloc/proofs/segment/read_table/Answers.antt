@@ -1,6 +1,4 @@
-use Rattle.std.proofs.Common.{◌≡◌, ◌+◌, ◌*◌, ◌<◌, ◌≤◌, ℕ, List, Ok, Result, sym, length, arith}
-use Rattle.std.proofs.lemmas.Result.{err_from_is_err_and}
-use Rattle.w16_reloc.specs.declared.fault.RelocFault.{RelocFault}
+use Rattle.w16_reloc.proofs.Common.{◌≡◌, ◌+◌, ◌*◌, ◌<◌, ◌≤◌, ℕ, List, Ok, Result, sym, length, arith, err_from_is_err_and, RelocFault}
 use Rattle.w16_reloc.proofs.Refusals.{fails_on}
 use Rattle.w16_reloc.proofs.FileLemmas.{table_inside}
 use Rattle.w16_reloc.proofs.segment.read_table.Goals as goal

@@ -1,5 +1,4 @@
-use Rattle.std.proofs.Common.{rules}
-use Rattle.w16_reloc.specs.Check.{sites_at}
+use Rattle.w16_reloc.proofs.Common.{rules, sites_at}
 use Rattle.w16_reloc.proofs.sites.take_sites.Goals as goal
 
 pub returns-in-Added-clause-step : goal.returns-in-Added-clause-step

@@ -1,6 +1,4 @@
-use Rattle.std.proofs.Common.{◌≡◌, ℕ, suc, zero, ◌+◌, ◌-◌, ◌%◌, ◌/◌, ◌∙◌, ap, ◌<◌, [], ◌∷◌, cond, refl, arith, get_or, rules}
-use Rattle.std.specs.Prelude.{nat_lt, nat_le, ◌&&◌}
-use Rattle.std.proofs.lemmas.Bool.Decides.{nat_tests}
+use Rattle.w16_reloc.proofs.Common.{◌≡◌, ℕ, suc, zero, ◌+◌, ◌-◌, ◌%◌, ◌/◌, ◌∙◌, ap, ◌<◌, [], ◌∷◌, cond, refl, arith, get_or, rules, nat_lt, nat_le, ◌&&◌, nat_tests}
 use Rattle.w16_reloc.proofs.value.write.Goals as goal
 
 four : (a b c d k : ℕ) → k < 4 → get_or (a ∷ b ∷ c ∷ d ∷ []) k 0 ≡ cond (nat_lt k 2) (get_or (a ∷ b ∷ []) k 0) (get_or (c ∷ d ∷ []) (k - 2) 0)

@@ -1,6 +1,5 @@
 use Rattle.w16_script.proofs.ArgumentLemmas.{more, no_first, no_rest}
-use Rattle.std.proofs.lemmas.Grind.{common_steps}
-use Rattle.std.proofs.Common.{arith}
+use Rattle.w16_script.proofs.Common.{common_steps, arith}
 use Rattle.w16_script.proofs.arguments.two.Goals as goal
 
 pub returns-in_err-first-clause-none : goal.returns-in_err-first-clause-none

@@ -1,6 +1,4 @@
-use Rattle.std.proofs.Common.{◌≡◌, ◌+◌, ◌*◌, get_or, arith, ◌∙◌}
-use Rattle.std.proofs.lemmas.List.{length-set}
-use Rattle.hex.proofs.Pairs.{decode_step}
+use Rattle.w16_script.proofs.Common.{◌≡◌, ◌+◌, ◌*◌, get_or, arith, ◌∙◌, length-set, decode_step}
 use Rattle.w16_script.proofs.DigitLemmas.{pair-read, pair-high, pair-low, bad_text, whole_text}
 use Rattle.w16_script.proofs.bytes.decode.Goals as goal
 use Rattle.w16_script.proofs.bytes.decode.Goals.{then-high-eq-NO_DIGIT-via-then-high-eq-NO_DIGIT, then-high-eq-NO_DIGIT-via-else-high-eq-NO_DIGIT+then-low-eq-NO_DIGIT}

@@ -1,6 +1,4 @@
-use Rattle.std.proofs.Common.{◌≡◌, ◌*◌, length, take, drop}
-use Rattle.hex.specs.Hex.{decode_pairs}
-use Rattle.hex.proofs.Pairs.{prepend}
+use Rattle.w16_script.proofs.Common.{◌≡◌, ◌*◌, length, take, drop, decode_pairs, prepend}
 use Rattle.w16_script.proofs.bytes.decode.Given as goal
 
 -- the pairs up to here were decoded

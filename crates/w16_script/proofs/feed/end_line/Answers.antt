@@ -1,9 +1,4 @@
-use Rattle.std.proofs.Common.{◌≡◌, ◌+◌, Bool, ap, ◌∙◌}
-use Rattle.std.specs.Prelude.{if◌then◌else◌}
-use Rattle.std.specs.Io.BufRead.{strip_last}
-use Rattle.w16_script.specs.Text.{without_cr}
-use Rattle.w16_script.specs.Progress.{Progress}
-use Rattle.w16_script.specs.Unfinished.{progress_of}
+use Rattle.w16_script.proofs.Common.{◌≡◌, ◌+◌, Bool, ap, ◌∙◌, if◌then◌else◌, strip_last, without_cr, Progress, progress_of}
 use Rattle.w16_script.proofs.FeedLemmas.{Feeds-ends}
 use Rattle.w16_script.proofs.feed.end_line.Goals as goal
 

@@ -1,10 +1,4 @@
-use Rattle.std.proofs.lemmas.Grind.{common_steps}
-use Rattle.std.proofs.lemmas.Result.{err_from_is_err_and}
-use Rattle.std.proofs.Common.{ℕ, List, ◌++◌, [], length-append, sym, ap, ◌∙◌, append-nil, append_assoc, arith, refl}
-use Rattle.std.proofs.lemmas.Result.{IfErr-weaker}
-use Rattle.w16_script.specs.State.{state_with}
-use Rattle.w16_script.specs.Text.{ended}
-use Rattle.w16_script.specs.Unfinished.{progress_of}
+use Rattle.w16_script.proofs.Common.{common_steps, err_from_is_err_and, ℕ, List, ◌++◌, [], length-append, sym, ap, ◌∙◌, append-nil, append_assoc, arith, refl, IfErr-weaker, state_with, ended, progress_of}
 use Rattle.w16_script.proofs.FeedLemmas.{Feeds-trans, Feeds-held, Stops-overflow, Stops-later}
 use Rattle.w16_script.proofs.feed.feed.Goals as goal
 

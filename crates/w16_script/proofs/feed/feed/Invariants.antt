@@ -1,7 +1,4 @@
-use Rattle.std.proofs.Common.{◌≡◌, ℕ, ◌+◌, ◌≤◌, List, ◌++◌, length}
-use Rattle.w16_script.specs.Progress.{IsWithinLimits, room_of}
-use Rattle.w16_script.specs.Feeding.{Feeds}
-use Rattle.w16_script.specs.Unfinished.{progress_of, state_of}
+use Rattle.w16_script.proofs.Common.{◌≡◌, ℕ, ◌+◌, ◌≤◌, List, ◌++◌, length, IsWithinLimits, room_of, Feeds, progress_of, state_of}
 use Rattle.w16_script.proofs.feed.feed.Given as goal
 
 -- the front of the piece was fed

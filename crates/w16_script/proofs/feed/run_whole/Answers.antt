@@ -1,8 +1,4 @@
-use Rattle.std.proofs.lemmas.Grind.{common_steps}
-use Rattle.std.proofs.Common.{arith, ◌+◌, Bool, ap, ◌∙◌}
-use Rattle.std.specs.Prelude.{if◌then◌else◌}
-use Rattle.w16_script.specs.Progress.{Progress}
-use Rattle.w16_script.specs.Unfinished.{progress_of}
+use Rattle.w16_script.proofs.Common.{common_steps, arith, ◌+◌, Bool, ap, ◌∙◌, if◌then◌else◌, Progress, progress_of}
 use Rattle.w16_script.proofs.FeedLemmas.{Feeds-whole}
 use Rattle.w16_script.proofs.feed.run_whole.Goals as goal
 

@@ -1,11 +1,4 @@
-use Rattle.std.proofs.lemmas.Grind.{common_steps}
-use Rattle.std.proofs.lemmas.Result.{err_from_is_err_and}
-use Rattle.std.proofs.Common.{◌<◌, [], ◌∷◌, ap, arith, length-append, refl, sym, ◌∙◌}
-use Rattle.std.proofs.lemmas.Result.{IfErr-weaker}
-use Rattle.w16_script.specs.State.{state_with}
-use Rattle.w16_script.specs.Progress.{Progress}
-use Rattle.w16_script.specs.Text.{ended}
-use Rattle.w16_script.specs.Unfinished.{progress_of}
+use Rattle.w16_script.proofs.Common.{common_steps, err_from_is_err_and, ◌<◌, [], ◌∷◌, ap, arith, length-append, refl, sym, ◌∙◌, IfErr-weaker, state_with, Progress, ended, progress_of}
 use Rattle.w16_script.proofs.FeedLemmas.{Stops-overflow, Stops-full, Stops-line, Stops-whole}
 use Rattle.w16_script.proofs.feed.take_line.Goals as goal
 

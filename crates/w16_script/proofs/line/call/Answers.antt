@@ -1,6 +1,5 @@
 use Rattle.w16_script.proofs.ArgumentLemmas.{makes, makes_none}
-use Rattle.std.proofs.lemmas.Grind.{common_steps}
-use Rattle.std.proofs.Common.{arith}
+use Rattle.w16_script.proofs.Common.{common_steps, arith}
 use Rattle.w16_script.proofs.line.call.Goals as goal
 
 pub returns-in_ok-pointer-in-Read-clause-found : goal.returns-in_ok-pointer-in-Read-clause-found

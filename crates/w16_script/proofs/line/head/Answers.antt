@@ -1,5 +1,4 @@
-use Rattle.std.proofs.Common.{rules}
-use Rattle.w16_script.specs.Words.{words_of}
+use Rattle.w16_script.proofs.Common.{rules, words_of}
 use Rattle.w16_script.proofs.SpellingLemmas.{no_head}
 use Rattle.w16_script.proofs.line.head.Goals as goal
 

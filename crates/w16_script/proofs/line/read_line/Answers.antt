@@ -1,7 +1,4 @@
-use Rattle.std.proofs.Common.{◌≡◌, ◌∷◌, false, get_or, arith, rules}
-use Rattle.std.specs.Prelude.{◌==◌}
-use Rattle.std.proofs.lemmas.Bool.Decides.{nat_tests}
-use Rattle.w16_script.specs.Words.{words_of}
+use Rattle.w16_script.proofs.Common.{◌≡◌, ◌∷◌, false, get_or, arith, rules, ◌==◌, nat_tests, words_of}
 use Rattle.w16_script.proofs.SpellingLemmas.{Reads-unmade}
 use Rattle.w16_script.proofs.line.read_line.Goals as goal
 

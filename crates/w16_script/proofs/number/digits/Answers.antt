@@ -1,6 +1,4 @@
-use Rattle.std.proofs.lemmas.Grind.{common_steps}
-use Rattle.std.proofs.Common.{arith, sym, ap, ◌∙◌, ◌≡◌, ◌<◌, ◌+◌, ◌*◌, drop, get_or}
-use Rattle.std.specs.Char.{digit_value}
+use Rattle.w16_script.proofs.Common.{common_steps, arith, sym, ap, ◌∙◌, ◌≡◌, ◌<◌, ◌+◌, ◌*◌, drop, get_or, digit_value}
 use Rattle.w16_script.proofs.NumberLemmas.{value_behind, value_behind-step, value_behind-whole, all_digits-step}
 use Rattle.w16_script.proofs.number.digits.Goals as goal
 

@@ -1,6 +1,4 @@
-use Rattle.std.proofs.Common.{◌≡◌, drop}
-use Rattle.std.specs.List.{list_all}
-use Rattle.w16_script.specs.Numbers.{place_value, is_digit}
+use Rattle.w16_script.proofs.Common.{◌≡◌, drop, list_all, place_value, is_digit}
 use Rattle.w16_script.proofs.NumberLemmas.{value_behind}
 use Rattle.w16_script.proofs.number.digits.Given as goal
 

@@ -1,5 +1,4 @@
-use Rattle.std.proofs.Common.{◌≡◌, arith}
-use Rattle.std.proofs.lemmas.Grind.{common_steps}
+use Rattle.w16_script.proofs.Common.{◌≡◌, arith, common_steps}
 use Rattle.w16_script.proofs.ArgumentLemmas.{IfNone-weaker}
 use Rattle.w16_script.proofs.OneNumberLemmas.{no_sum}
 use Rattle.w16_script.proofs.number.form.Goals as goal

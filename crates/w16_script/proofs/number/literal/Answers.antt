@@ -1,5 +1,4 @@
-use Rattle.std.proofs.lemmas.Grind.{common_steps}
-use Rattle.std.proofs.Common.{arith}
+use Rattle.w16_script.proofs.Common.{common_steps, arith}
 use Rattle.w16_script.proofs.number.literal.Goals as goal
 
 pub returns-else-tail-gt-MOST_DIGITS-clause-found : goal.returns-else-tail-gt-MOST_DIGITS-clause-found

@@ -1,11 +1,5 @@
-use Rattle.std.proofs.lemmas.Grind.{common_steps}
-use Rattle.std.proofs.Common.{◌≡◌, codes, ◌++◌, [], ◌∷◌, List, ℕ, sym, subst, arith, append-nil, ap, ◌∙◌}
-use Rattle.std.proofs.KnownBytes.{Appends-nil}
-use Rattle.std.proofs.lemmas.Result.{on_err_weaker}
-use Rattle.hex.specs.Hex.{encode_lower}
+use Rattle.w16_script.proofs.Common.{common_steps, ◌≡◌, codes, ◌++◌, [], ◌∷◌, List, ℕ, sym, subst, arith, append-nil, ap, ◌∙◌, Appends-nil, on_err_weaker, encode_lower, reply_text, AppendsFront}
 use Rattle.w16_loading.specs.Replies as replies
-use Rattle.w16_script.specs.Printed.{reply_text}
-use Rattle.w16_script.specs.Written.{AppendsFront}
 use Rattle.w16_script.proofs.WriteLemmas.{on_err, AppendsFront-between}
 use Rattle.w16_script.proofs.PrintLemmas.{bytes_text}
 use Rattle.w16_script.proofs.print.print_bytes.Goals as goal

@@ -1,5 +1,4 @@
-use Rattle.std.proofs.lemmas.Grind.{common_steps}
-use Rattle.std.proofs.Common.{arith}
+use Rattle.w16_script.proofs.Common.{common_steps, arith}
 use Rattle.w16_script.proofs.registers.split_digit.Goals as goal
 
 pub returns-in-48-to-57-clause-found : goal.returns-in-48-to-57-clause-found

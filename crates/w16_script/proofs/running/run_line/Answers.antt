@@ -1,9 +1,4 @@
-use Rattle.std.proofs.Common.{[], ◌∷◌, refl, rules}
-use Rattle.std.proofs.KnownBytes.{Appends-nil}
-use Rattle.w16_machine.specs.Machine.{Event}
-use Rattle.w16_kernel.specs.Runs.{command_of, reply_of}
-use Rattle.w16_script.specs.Grammar.{Said}
-use Rattle.w16_script.specs.Printed.{error_text}
+use Rattle.w16_script.proofs.Common.{[], ◌∷◌, refl, rules, Appends-nil, Event, command_of, reply_of, Said, error_text}
 use Rattle.w16_script.proofs.RunLemmas.{Prints-one}
 use Rattle.w16_script.proofs.running.run_line.Goals as goal
 

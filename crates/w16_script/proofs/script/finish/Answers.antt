@@ -1,5 +1,4 @@
-use Rattle.std.proofs.Common.{refl, rules}
-use Rattle.w16_script.specs.Unfinished.{progress_of}
+use Rattle.w16_script.proofs.Common.{refl, rules, progress_of}
 use Rattle.w16_script.proofs.WholeLemmas.{Finishes-none, empty-from}
 use Rattle.w16_script.proofs.script.finish.Goals as goal
 

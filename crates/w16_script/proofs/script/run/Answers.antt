@@ -1,6 +1,4 @@
-use Rattle.std.proofs.Common.{arith}
-use Rattle.std.proofs.lemmas.Grind.{common_steps}
-use Rattle.std.proofs.lemmas.Result.{IfErr-weaker}
+use Rattle.w16_script.proofs.Common.{arith, common_steps, IfErr-weaker}
 use Rattle.w16_script.proofs.WholeLemmas.{Fails-later}
 use Rattle.w16_script.proofs.script.run.Goals as goal
 

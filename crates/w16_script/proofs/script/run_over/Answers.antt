@@ -1,10 +1,4 @@
-use Rattle.std.proofs.lemmas.Result.{err_from_is_err_and}
-use Rattle.std.proofs.Common.{[], ◌++◌, take, length-take, arith, subst, sym, ap, rules}
-use Rattle.std.proofs.lemmas.Result.{IfOk-weaker, IfErr-weaker}
-use Rattle.std.proofs.KnownBytes.{Consumes-nil, Consumes-trans}
-use Rattle.w16_script.specs.State.{state_with}
-use Rattle.w16_script.specs.Progress.{fresh, IsWithinLimits}
-use Rattle.w16_script.specs.Unfinished.{progress_of}
+use Rattle.w16_script.proofs.Common.{err_from_is_err_and, [], ◌++◌, take, length-take, arith, subst, sym, ap, rules, IfOk-weaker, IfErr-weaker, Consumes-nil, Consumes-trans, state_with, fresh, IsWithinLimits, progress_of}
 use Rattle.w16_script.proofs.FeedLemmas.{Feeds-held, Feeds-kept, Feeds-trans}
 use Rattle.w16_script.proofs.WholeLemmas.{fresh-fits, Script-from, FailsLater-piece, FailsLater-last, Consumes-none}
 use Rattle.w16_script.proofs.script.run_over.Goals as goal

@@ -1,9 +1,4 @@
-use Rattle.std.proofs.Common.{◌≡◌, ℕ, List, length}
-use Rattle.std.specs.Io.KnownBytes.{Consumes}
-use Rattle.w16_script.specs.State.{start}
-use Rattle.w16_script.specs.Progress.{fresh, IsWithinLimits, room_of}
-use Rattle.w16_script.specs.Feeding.{Feeds}
-use Rattle.w16_script.specs.Unfinished.{progress_of, state_of}
+use Rattle.w16_script.proofs.Common.{◌≡◌, ℕ, List, length, Consumes, start, fresh, IsWithinLimits, room_of, Feeds, progress_of, state_of}
 use Rattle.w16_script.proofs.script.run_over.Given as goal
 
 -- what was read so far was fed

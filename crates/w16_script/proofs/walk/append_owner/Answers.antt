@@ -1,7 +1,4 @@
-use Rattle.std.proofs.Common.{◌≤◌, length, length-append, ap, arith}
-use Rattle.std.specs.Fmt.{decimal}
-use Rattle.std.proofs.lemmas.Fmt.{length-decimal-le}
-use Rattle.std.proofs.lemmas.Result.{on_ok_weaker}
+use Rattle.w16_script.proofs.Common.{◌≤◌, length, length-append, ap, arith, decimal, length-decimal-le, on_ok_weaker}
 use Rattle.w16_script.proofs.walk.append_owner.Goals as goal
 
 pub returns-clause-short : goal.returns-clause-short

@@ -1,6 +1,4 @@
-use Rattle.std.proofs.Common.{List, ◌-◌, ◌^◌}
-use Rattle.w16_model.specs.declared.Item.{Item}
-use Rattle.w16_machine.specs.World.{IsWorldWalk}
+use Rattle.w16_script.proofs.Common.{List, ◌-◌, ◌^◌, Item, IsWorldWalk}
 use Rattle.w16_script.proofs.WalkLemmas.{PrintedBelow}
 use Rattle.w16_script.proofs.walk.print_walk.Given as goal
 

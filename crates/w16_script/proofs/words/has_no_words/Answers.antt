@@ -1,5 +1,4 @@
-use Rattle.std.proofs.Common.{◌≡◌, length, arith}
-use Rattle.std.proofs.lemmas.Bool.Decides.{nat_tests}
+use Rattle.w16_script.proofs.Common.{◌≡◌, length, arith, nat_tests}
 use Rattle.w16_script.proofs.WordsLemmas.{words_of_none}
 use Rattle.w16_script.proofs.words.has_no_words.Goals as goal
 

@@ -1,6 +1,5 @@
 use Rattle.w16_script.proofs.WordsLemmas.{words_of_split}
-use Rattle.std.proofs.lemmas.Grind.{common_steps}
-use Rattle.std.proofs.Common.{arith}
+use Rattle.w16_script.proofs.Common.{common_steps, arith}
 use Rattle.w16_script.proofs.words.split_word.Goals as goal
 
 pub returns-then-is_empty-clause-none : goal.returns-then-is_empty-clause-none

@@ -1,5 +1,4 @@
-use Rattle.std.proofs.Common.{◌≡◌, length}
-use Rattle.w16_script.specs.Words.{words_of}
+use Rattle.w16_script.proofs.Common.{◌≡◌, length, words_of}
 use Rattle.w16_script.proofs.words.without_blanks.Given as goal
 
 abbrev pub invariant-loop-first : goal.invariant-loop-first

@@ -1,5 +1,4 @@
-use Rattle.std.proofs.Common.{◌≡◌, ℕ, ◌<◌, get_or, false}
-use Rattle.w16_script.specs.Words.{is_blank}
+use Rattle.w16_script.proofs.Common.{◌≡◌, ℕ, ◌<◌, get_or, false, is_blank}
 use Rattle.w16_script.proofs.words.word_length.Given as goal
 
 -- no blank stands before this byte

@@ -1,5 +1,4 @@
-use Rattle.std.proofs.Common.{◌≤◌, take, length}
-use Rattle.std.specs.Io.KnownBytes.{Appends}
+use Rattle.w16_script.proofs.Common.{◌≤◌, take, length, Appends}
 use Rattle.w16_script.proofs.write.write_whole.Given as goal
 
 -- the front up to here was appended

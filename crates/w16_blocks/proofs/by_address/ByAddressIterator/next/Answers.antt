@@ -1,6 +1,4 @@
-use Rattle.std.proofs.Common.{◌≡◌, [], ◌∷◌, length, Option, MatchOption, arith, sym, ap, subst}
-use Rattle.w16_model.specs.declared.Block.{Block}
-use Rattle.w16_blocks.specs.Layout.{rank, from_address}
+use Rattle.w16_blocks.proofs.Common.{◌≡◌, [], ◌∷◌, length, Option, MatchOption, arith, sym, ap, subst, Block, rank, from_address}
 use Rattle.w16_blocks.proofs.Walk.{none_left, one_more, ends_small}
 use Rattle.w16_blocks.proofs.by_address.ByAddressIterator.next.Goals as goal
 

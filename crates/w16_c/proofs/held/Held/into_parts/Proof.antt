@@ -1,5 +1,5 @@
 -- `into_parts` moves the pointer, and what the machine owned goes with it.
-use Rattle.std.proofs.Common.{List, [], ◌∷◌, ◌++◌, refl, sym, subst, lit<, Bool, true, false}
+use Rattle.w16_c.proofs.Common.{List, [], ◌∷◌, ◌++◌, refl, sym, subst, lit<, Bool, true, false, token, Fits, handle_tells, says_two, Some-of, none_of, None, Some, D, τ, handle, box_typed, box_in, machine_row, held_owns, and_tt}
 use seplogic.Ra.Ura.{Ura}
 use mir.Raw.{raw as bare}
 use mir.Val.{Val, of_list}
@@ -24,16 +24,9 @@ use denote.Steps.{nothing}
 use denote.Triple.Spec.{triple_of}
 use denote.Triple.Table.{entered}
 use denote.Triple.Walked.{Stays, stay_dropped, walk_of, ends_at, Goes-dropped, walk_Meets}
-use Rattle.core.proofs.alloc.Calls.{token, Fits, handle_tells}
-use Rattle.core.proofs.mem.Facts.{says_two}
-use Rattle.core.proofs.option.Made.{Some-of, none_of}
-use Rattle.core.specs.declared.option.Option.TheVariants.{None, Some}
-use Rattle.std_alloc.proofs.BoxSteps.Form.{D, τ, handle, word as box_word, box_typed}
-use Rattle.std_alloc.proofs.BoxSteps.Steps.{box_in}
+use Rattle.std_alloc.proofs.BoxSteps.Form.{word as box_word}
 use Rattle.std_heap.specs.contracts.Global as Heap
-use Rattle.w16_c.specs.Ownership.{machine_row, held_owns}
 use Rattle.w16_c.proofs.Words.{E, P, H as Held, word, word_typed, ptr_typed, held_out}
-use Rattle.std_alloc.proofs.ResultValues.{and_tt}
 use Rattle.w16_c.specs.contracts.held.Held.into_parts as F
 use Rattle.w16_c.specs.contracts.held.Held.into_parts.Key.{name as #self}
 use Rattle.w16_c.proofs.held.Held.into_parts.Statement as stated

@@ -1,5 +1,5 @@
 -- `none` makes the struct, which owns nothing.
-use Rattle.std.proofs.Common.{[], ◌∷◌, lit<, refl, false}
+use Rattle.w16_c.proofs.Common.{[], ◌∷◌, lit<, refl, false, proved, empty_world}
 use base.Logic.{SProp}
 use base.Fml.{ftrue}
 use mir.Val.{Val}
@@ -12,8 +12,6 @@ use denote.RawPtr.{null_ptr}
 use denote.Steps.{nothing}
 use denote.Triple.Entry.{alive}
 use denote.Triple.Walked.{walk_of, says, ends_at}
-use Rattle.std.proofs.raw_atomic.Walks.{proved}
-use Rattle.w16_machine.specs.World.{empty_world}
 use Rattle.w16_c.proofs.Words.{word, held_in}
 use Rattle.w16_c.specs.contracts.held.Held.none.{ended, clauses}
 use Rattle.w16_c.specs.contracts.held.Held.none.Key.{name as #self}

@@ -1,6 +1,4 @@
-use Rattle.std.proofs.Common.{◌≡◌, ℕ, All, is_some, true, sym, subst, rules}
-use Rattle.w16_selectors.specs.Descriptors.{descriptor_at}
-use Rattle.w16_global.specs.Joined.{forgotten}
+use Rattle.w16_global.proofs.Common.{◌≡◌, ℕ, All, is_some, true, sym, subst, rules, descriptor_at, forgotten}
 use Rattle.w16_global.proofs.Joining.{given_handles}
 use Rattle.w16_global.proofs.Sliding.{allocated_joined, discarded_known, known_told, known_followed, slot_left, given_moved}
 use Rattle.w16_global.proofs.Joined.{handles_shown}

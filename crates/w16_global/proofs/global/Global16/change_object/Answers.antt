@@ -1,7 +1,4 @@
-use Rattle.std.proofs.Common.{◌∙◌, refl, sym, ap, arith}
-use Rattle.w16_model.specs.Handles.{Handles}
-use Rattle.w16_region.specs.Bytes.{counted}
-use Rattle.w16_global.specs.Joined.{Global, handles_of}
+use Rattle.w16_global.proofs.Common.{◌∙◌, refl, sym, ap, arith, Handles, counted, Global, handles_of}
 use Rattle.w16_global.proofs.Joined.{handles_shown}
 use Rattle.w16_global.proofs.Resizing.{zeros_known, answers_owned, answers_modified, answers_bytes, answers_no_room}
 use Rattle.w16_global.proofs.global.Global16.change_object.Goals as goal

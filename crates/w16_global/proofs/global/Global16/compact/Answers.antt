@@ -1,6 +1,4 @@
-use Rattle.std.proofs.Common.{◌≡◌, ℕ, All, is_some, true, sym, subst}
-use Rattle.w16_selectors.specs.Descriptors.{descriptor_at}
-use Rattle.w16_global.specs.Joined.{forgotten}
+use Rattle.w16_global.proofs.Common.{◌≡◌, ℕ, All, is_some, true, sym, subst, descriptor_at, forgotten}
 use Rattle.w16_global.proofs.Sliding.{compacted_joined, compaction_known, compacted_known, known_left}
 use Rattle.w16_global.proofs.Joined.{handles_shown}
 use Rattle.w16_global.proofs.global.Global16.compact.Goals as goal

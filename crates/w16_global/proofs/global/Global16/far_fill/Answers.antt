@@ -1,8 +1,4 @@
-use Rattle.w16_region.specs.Bytes.{lengths}
-use Rattle.std.proofs.lemmas.Grind.{common_steps}
-use Rattle.std.proofs.Common.{true, refl, arith}
-use Rattle.w16_model.specs.Bytes.{repeated}
-use Rattle.w16_model.proofs.Parts.{length-repeated, All-repeated}
+use Rattle.w16_global.proofs.Common.{lengths, common_steps, true, refl, arith, repeated, length-repeated, All-repeated}
 use Rattle.w16_global.proofs.Access.{has_part, written_joined, fill_known}
 use Rattle.w16_global.proofs.Joined.{handles_shown}
 use Rattle.w16_global.proofs.global.Global16.far_fill.Goals as goal

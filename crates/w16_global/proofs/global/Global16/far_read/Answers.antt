@@ -1,6 +1,4 @@
-use Rattle.std.proofs.Common.{false, length, sym, ap, ◌∙◌, subst}
-use Rattle.w16_model.specs.Handles.{Gives}
-use Rattle.w16_model.specs.Far.{far_read}
+use Rattle.w16_global.proofs.Common.{false, length, sym, ap, ◌∙◌, subst, Gives, far_read}
 use Rattle.w16_model.specs.Far as access
 use Rattle.w16_global.proofs.Access.{has_part, part_length, read_known}
 use Rattle.w16_global.proofs.Joined.{handles_shown}

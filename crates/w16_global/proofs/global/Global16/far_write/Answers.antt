@@ -1,5 +1,4 @@
-use Rattle.std.proofs.Common.{true, length, refl}
-use Rattle.w16_region.proofs.Bytes.{All-bytes}
+use Rattle.w16_global.proofs.Common.{true, length, refl, All-bytes}
 use Rattle.w16_global.proofs.Access.{has_part, written_joined, write_known}
 use Rattle.w16_global.proofs.Joined.{handles_shown}
 use Rattle.w16_global.proofs.global.Global16.far_write.Goals as goal

@@ -1,5 +1,4 @@
-use Rattle.std.proofs.Common.{rules}
-use Rattle.w16_model.proofs.Fewest.{global_compact_law}
+use Rattle.w16_global.proofs.Common.{rules, global_compact_law}
 use Rattle.w16_global.proofs.global.Global16.global_compact.Goals as goal
 
 pub returns-clause-fewest : goal.returns-clause-fewest

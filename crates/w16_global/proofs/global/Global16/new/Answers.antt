@@ -1,6 +1,4 @@
-use Rattle.std.proofs.Common.{ap, rules, ◌≡◌, ◌+◌, None, replicate}
-use Rattle.w16_model.specs.declared.TheConstants.{FIRST_SLOT}
-use Rattle.w16_global.specs.Parts.{Holding}
+use Rattle.w16_global.proofs.Common.{ap, rules, ◌≡◌, ◌+◌, None, replicate, FIRST_SLOT, Holding}
 use Rattle.w16_global.proofs.Begin.{begin_joined, begin_handles}
 use Rattle.w16_global.proofs.global.Global16.new.Goals as goal
 

@@ -1,6 +1,4 @@
-use Rattle.std.proofs.Common.{refl, sym, ap, ◌∙◌, subst, arith, rules}
-use Rattle.w16_model.specs.Handles.{Handles, IsFreeSlot}
-use Rattle.w16_model.specs.Heap.{IsHeap}
+use Rattle.w16_global.proofs.Common.{refl, sym, ap, ◌∙◌, subst, arith, rules, Handles, IsFreeSlot, IsHeap}
 use Rattle.w16_global.proofs.Allocation.{absent_answered, bytes_answered, bytes_refused}
 use Rattle.w16_global.proofs.Joined.{handles_shown}
 use Rattle.w16_global.proofs.global.Global16.new_object.Goals as goal

@@ -1,5 +1,4 @@
-use Rattle.std.proofs.Common.{◌≡◌, Ok, Err, Some, ◌∙◌}
-use Rattle.w16_global.specs.Access.{access_fault}
+use Rattle.w16_global.proofs.Common.{◌≡◌, Ok, Err, Some, ◌∙◌, access_fault}
 use Rattle.w16_global.proofs.Reach.{fault_known, slot_known, handed_on}
 use Rattle.w16_global.proofs.Joined.{handles_shown}
 use Rattle.w16_global.proofs.global.Global16.reach.Goals as goal

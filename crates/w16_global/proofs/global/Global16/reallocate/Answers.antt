@@ -1,6 +1,4 @@
-use Rattle.std.proofs.Common.{◌≡◌, ℕ, All, is_some, true, sym, subst, arith}
-use Rattle.w16_selectors.specs.Descriptors.{descriptor_at}
-use Rattle.w16_global.specs.Joined.{forgotten}
+use Rattle.w16_global.proofs.Common.{◌≡◌, ℕ, All, is_some, true, sym, subst, arith, descriptor_at, forgotten}
 use Rattle.w16_global.proofs.Reallocating.{discarded_known, known_told, known_followed, reallocated_joined}
 use Rattle.w16_global.proofs.Joined.{handles_shown}
 use Rattle.w16_global.proofs.global.Global16.reallocate.Goals as goal

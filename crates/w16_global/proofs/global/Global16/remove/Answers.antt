@@ -1,6 +1,4 @@
-use Rattle.std.proofs.Common.{ap, ◌∙◌}
-use Rattle.w16_global.specs.Parts.{Holding}
-use Rattle.w16_global.specs.Joined.{Global}
+use Rattle.w16_global.proofs.Common.{ap, ◌∙◌, Holding, Global}
 use Rattle.w16_global.proofs.Joining.{removed_joined, removed_shown}
 use Rattle.w16_global.proofs.Joined.{handles_shown}
 use Rattle.w16_global.proofs.global.Global16.remove.Goals as goal

@@ -1,7 +1,4 @@
-use Rattle.std.proofs.Common.{subst}
-use Rattle.w16_model.specs.Handles.{AreHandles}
-use Rattle.w16_model.proofs.KeptHandles.{moved_handles}
-use Rattle.w16_global.specs.Joined.{handles_of}
+use Rattle.w16_global.proofs.Common.{subst, AreHandles, moved_handles, handles_of}
 use Rattle.w16_global.proofs.Joined.{handles_shown}
 use Rattle.w16_global.proofs.global.Global16.reveal_handles.Goals as goal
 

@@ -1,8 +1,4 @@
-use Rattle.std.proofs.Common.{ap, sym, ◌∙◌, rules}
-use Rattle.w16_model.specs.Handles.{Handles}
-use Rattle.w16_model.specs.Request.{moved_bytes}
-use Rattle.w16_region.specs.Bytes.{counted}
-use Rattle.w16_global.specs.Joined.{Global}
+use Rattle.w16_global.proofs.Common.{ap, sym, ◌∙◌, rules, Handles, moved_bytes, counted, Global}
 use Rattle.w16_global.proofs.Joined.{handles_shown}
 use Rattle.w16_global.proofs.Owning.{none_written, own_size, revived_written}
 use Rattle.w16_global.proofs.global.Global16.revive.Goals as goal

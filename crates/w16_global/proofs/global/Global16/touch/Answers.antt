@@ -1,5 +1,4 @@
-use Rattle.std.proofs.Common.{ap}
-use Rattle.w16_global.specs.Parts.{Holding}
+use Rattle.w16_global.proofs.Common.{ap, Holding}
 use Rattle.w16_global.proofs.Joining.{touched_joined}
 use Rattle.w16_global.proofs.global.Global16.touch.Goals as goal
 

@@ -1,6 +1,4 @@
-use Rattle.std.proofs.Common.{◌≡◌, slice_get, ap, ◌∙◌, arith}
-use Rattle.w16_model.specs.Handles.{handle_of}
-use Rattle.w16_model.proofs.Cuts.{told_none, told_more, told_at, told_past}
+use Rattle.w16_global.proofs.Common.{◌≡◌, slice_get, ap, ◌∙◌, arith, handle_of, told_none, told_more, told_at, told_past}
 use Rattle.w16_global.proofs.global.Global16.walk.Goals as goal
 
 pub loop-init : goal.loop-init

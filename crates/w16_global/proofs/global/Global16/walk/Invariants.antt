@@ -1,5 +1,4 @@
-use Rattle.w16_model.specs.Handles.{handle_of}
-use Rattle.w16_model.proofs.Cuts.{HasTold}
+use Rattle.w16_global.proofs.Common.{handle_of, HasTold}
 use Rattle.w16_global.proofs.global.Global16.walk.Given as goal
 
 -- as many parts were told as turns were taken

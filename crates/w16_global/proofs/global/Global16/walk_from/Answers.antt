@@ -1,7 +1,4 @@
-use Rattle.std.proofs.Common.{rules, ◌≡◌, sym, subst, option_map, Option, Some, None}
-use Rattle.w16_model.specs.declared.Owner.{Owner}
-use Rattle.w16_model.specs.Walk.{IsFirstItem}
-use Rattle.w16_model.specs.Handles.{Handles, handle_of}
+use Rattle.w16_global.proofs.Common.{rules, ◌≡◌, sym, subst, option_map, Option, Some, None, Owner, IsFirstItem, Handles, handle_of}
 use Rattle.w16_global.proofs.Walked.{renamed, first_renamed}
 use Rattle.w16_global.proofs.Joined.{handles_shown}
 use Rattle.w16_global.proofs.global.Global16.walk_from.Goals as goal

@@ -1,6 +1,4 @@
-use Rattle.std.proofs.Common.{arith}
-use Rattle.w16_model.specs.Handles.{handle_of}
-use Rattle.w16_model.proofs.Cuts.{told_none, told_more, told_all}
+use Rattle.w16_global.proofs.Common.{arith, handle_of, told_none, told_more, told_all}
 use Rattle.w16_global.proofs.global.Global16.walk_len.Goals as goal
 
 pub loop-item-init : goal.loop-item-init

@@ -1,6 +1,4 @@
-use Rattle.std.proofs.Common.{◌≤◌, ◌-◌, ◌^◌}
-use Rattle.w16_model.specs.Handles.{handle_of}
-use Rattle.w16_model.proofs.Cuts.{HasTold}
+use Rattle.w16_global.proofs.Common.{◌≤◌, ◌-◌, ◌^◌, handle_of, HasTold}
 use Rattle.w16_global.proofs.global.Global16.walk_len.Given as goal
 
 -- as many parts were told as were counted, each at an address of its own

@@ -1,6 +1,4 @@
-use Rattle.std.proofs.Common.{arith}
-use Rattle.w16_model.specs.Request.{Compacts}
-use Rattle.w16_model.specs.Table.{heap_in}
+use Rattle.w16_global.proofs.Common.{arith, Compacts, heap_in}
 use Rattle.w16_global.proofs.Parts.{told}
 use Rattle.w16_global.proofs.objects.Objects.compact.Goals as goal
 

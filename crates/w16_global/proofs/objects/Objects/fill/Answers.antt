@@ -1,8 +1,4 @@
-use Rattle.std.proofs.Common.{sym, ◌∙◌, subst, arith}
-use Rattle.w16_model.specs.Bytes.{repeated}
-use Rattle.w16_model.proofs.Parts.{length-repeated, All-repeated}
-use Rattle.w16_region.specs.Bytes.{counted}
-use Rattle.w16_global.specs.Parts.{AreParts, HasPart, holding_of}
+use Rattle.w16_global.proofs.Common.{sym, ◌∙◌, subst, arith, repeated, length-repeated, All-repeated, counted, AreParts, HasPart, holding_of}
 use Rattle.w16_global.proofs.Written.{in_memory, no_part, parts_filled, holding_written}
 use Rattle.w16_global.proofs.objects.Objects.fill.Goals as goal
 

@@ -1,8 +1,4 @@
-use Rattle.std.proofs.Common.{◌/◌, arith, refl, sym, ◌∙◌, subst}
-use Rattle.w16_holes.specs.Holes.{Free}
-use Rattle.w16_holes.specs.Thread.{AreThreaded}
-use Rattle.w16_arena.specs.State.{ArenaState}
-use Rattle.w16_global.specs.Parts.{AreParts, holding_of}
+use Rattle.w16_global.proofs.Common.{◌/◌, arith, refl, sym, ◌∙◌, subst, Free, AreThreaded, ArenaState, AreParts, holding_of}
 use Rattle.w16_global.proofs.Fresh.{fresh_parts, fresh_holding}
 use Rattle.w16_global.proofs.objects.Objects.new.Goals as goal
 

@@ -1,5 +1,4 @@
-use Rattle.std.proofs.Common.{rules, ◌≡◌, ap, ◌∙◌, option_map}
-use Rattle.w16_model.specs.declared.Block.{Block}
+use Rattle.w16_global.proofs.Common.{rules, ◌≡◌, ap, ◌∙◌, option_map, Block}
 use Rattle.w16_global.proofs.Parts.{size_shown}
 use Rattle.w16_global.proofs.objects.Objects.size.Goals as goal
 

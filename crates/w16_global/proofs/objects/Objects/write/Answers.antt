@@ -1,9 +1,4 @@
-use Rattle.std.proofs.Common.{◌≡◌, ◌≤◌, ◌+◌, ℕ, Vec, List, length, sym, subst, ap, ◌∙◌, arith, length-take, length-drop}
-use Rattle.std.specs.Vec.{with_items}
-use Rattle.w16_model.specs.Bytes.{put_part}
-use Rattle.w16_region.specs.Bytes.{counted, with_items-put_part}
-use Rattle.w16_global.specs.Parts.{AreParts, holding_of}
-use Rattle.w16_region.proofs.Bytes.{All-bytes}
+use Rattle.w16_global.proofs.Common.{◌≡◌, ◌≤◌, ◌+◌, ℕ, Vec, List, length, sym, subst, ap, ◌∙◌, arith, length-take, length-drop, with_items, put_part, counted, with_items-put_part, AreParts, holding_of, All-bytes}
 use Rattle.w16_global.proofs.Written.{in_memory, no_part, parts_filled, holding_written}
 use Rattle.w16_global.proofs.objects.Objects.write.Goals as goal
 

@@ -1,5 +1,4 @@
-use Rattle.std.proofs.Common.{ℕ, option_map, ap, arith, sym, subst, ◌∙◌, ◌≡◌, ◌+◌, ◌-◌, ◌*◌}
-use Rattle.w16_holes.specs.Holes.{Free, last_before}
+use Rattle.w16_holes.proofs.Common.{ℕ, option_map, ap, arith, sym, subst, ◌∙◌, ◌≡◌, ◌+◌, ◌-◌, ◌*◌, Free, last_before}
 use Rattle.w16_holes.proofs.Look.{to_is}
 use Rattle.w16_holes.proofs.Last.{last_cell}
 use Rattle.w16_holes.proofs.Told.{IsInside-wide}

@@ -1,7 +1,4 @@
-use Rattle.std.proofs.Common.{ℕ, ◌≡◌, ◌+◌, ◌-◌, ◌<◌, ◌*◌, ◌/◌, ap, arith, sym, ◌∙◌, List, [], set, replicate, subst}
-use Rattle.w16_model.specs.declared.Span.{Span}
-use Rattle.w16_holes.specs.Holes.{Range, add_span}
-use Rattle.w16_holes.specs.Cells.{spans, AreCells}
+use Rattle.w16_holes.proofs.Common.{ℕ, ◌≡◌, ◌+◌, ◌-◌, ◌<◌, ◌*◌, ◌/◌, ap, arith, sym, ◌∙◌, List, [], set, replicate, subst, Span, Range, add_span, spans, AreCells}
 use Rattle.w16_holes.proofs.Told.{spans_one, AreCells-one}
 use Rattle.w16_holes.proofs.side.SideHoles.new.Given as given
 use Rattle.w16_holes.proofs.side.SideHoles.new.Goals as goal

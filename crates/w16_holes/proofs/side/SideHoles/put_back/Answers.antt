@@ -1,15 +1,8 @@
-use Rattle.std.proofs.lemmas.Grind.{common_steps}
-use Rattle.std.proofs.Common.{ℕ, option_map, ◌≡◌, ◌+◌, ◌*◌, ◌-◌, length, arith, sym, ap, ◌∙◌, subst}
-use Rattle.std.specs.Prelude.{slice_index}
-use Rattle.std.proofs.lemmas.List.{length-set}
-use Rattle.w16_model.specs.Heap.{IsMultiple}
-use Rattle.w16_holes.specs.Holes.{Range, Free, last_before}
-use Rattle.w16_holes.specs.Cells.{spans, AreCells}
+use Rattle.w16_holes.proofs.Common.{common_steps, ℕ, option_map, ◌≡◌, ◌+◌, ◌*◌, ◌-◌, length, arith, sym, ap, ◌∙◌, subst, slice_index, length-set, IsMultiple, Range, Free, last_before, spans, AreCells, Inside}
 use Rattle.w16_holes.proofs.Units.{multiple_sum}
 use Rattle.w16_holes.proofs.Last.{last_cell}
 use Rattle.w16_holes.proofs.Told.{put_lt, put_next, put_before, put_spans}
 use Rattle.w16_holes.proofs.Steps.{two_sets, sets_apart, is_put, AreCells-put}
-use Rattle.w16_holes.specs.declared.side.SideHoles.TheInside.{Inside}
 use Rattle.w16_holes.proofs.side.SideHoles.put_back.Goals as goal
 
 abbrev range : {Z : Type 0} → Inside Z → Range

@@ -1,15 +1,8 @@
-use Rattle.std.proofs.lemmas.Grind.{common_steps}
-use Rattle.std.proofs.Common.{ℕ, length, option_map, ◌≡◌, ◌+◌, ◌*◌, ◌-◌, arith, sym, ap, ◌∙◌, subst}
-use Rattle.std.specs.Prelude.{slice_index}
-use Rattle.std.proofs.lemmas.List.{length-set}
-use Rattle.w16_model.specs.Heap.{IsMultiple}
-use Rattle.w16_holes.specs.Holes.{Range, Free, last_before}
-use Rattle.w16_holes.specs.Cells.{spans, AreCells}
+use Rattle.w16_holes.proofs.Common.{common_steps, ℕ, length, option_map, ◌≡◌, ◌+◌, ◌*◌, ◌-◌, arith, sym, ap, ◌∙◌, subst, slice_index, length-set, IsMultiple, Range, Free, last_before, spans, AreCells, Inside}
 use Rattle.w16_holes.proofs.Units.{multiple_sum}
 use Rattle.w16_holes.proofs.Last.{last_cell}
 use Rattle.w16_holes.proofs.Told.{take_none, take_from, take_to, take_inside, take_lt, take_next, take_spans, k_below_q}
 use Rattle.w16_holes.proofs.Steps.{two_sets, sets_apart, is_take, AreCells-take}
-use Rattle.w16_holes.specs.declared.side.SideHoles.TheInside.{Inside}
 use Rattle.w16_holes.proofs.side.SideHoles.take_out.Goals as goal
 
 abbrev range : {Z : Type 0} → Inside Z → Range

@@ -1,5 +1,4 @@
-use Rattle.std.proofs.Common.{ap, arith, ◌∙◌}
-use Rattle.w16_holes.specs.Holes.{Free}
+use Rattle.w16_holes.proofs.Common.{ap, arith, ◌∙◌, Free}
 use Rattle.w16_holes.proofs.Look.{at_is}
 use Rattle.w16_holes.proofs.side.SideHolesHoles.at.Goals as goal
 

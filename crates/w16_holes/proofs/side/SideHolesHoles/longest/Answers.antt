@@ -1,5 +1,4 @@
-use Rattle.std.proofs.Common.{◌∙◌}
-use Rattle.w16_holes.specs.Holes.{Range}
+use Rattle.w16_holes.proofs.Common.{◌∙◌, Range}
 use Rattle.w16_holes.proofs.Look.{longest_is}
 use Rattle.w16_holes.proofs.Steps.{AreHoles-cells}
 use Rattle.w16_holes.proofs.side.SideHolesHoles.longest.Goals as goal

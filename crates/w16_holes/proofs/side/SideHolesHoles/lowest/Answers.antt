@@ -1,5 +1,4 @@
-use Rattle.std.proofs.Common.{ℕ, ◌≡◌, ◌+◌, ◌*◌, ◌-◌, ap, arith, ◌∙◌, Some, None, nat_le, max, option_map}
-use Rattle.std.specs.List.{position}
+use Rattle.w16_holes.proofs.Common.{ℕ, ◌≡◌, ◌+◌, ◌*◌, ◌-◌, ap, arith, ◌∙◌, Some, None, nat_le, max, option_map, position}
 use Rattle.w16_holes.proofs.Look.{lowest_is, lowest_inside}
 use Rattle.w16_holes.proofs.side.SideHolesHoles.lowest.Goals as goal
 

@@ -1,7 +1,4 @@
-use Rattle.std.proofs.Common.{ℕ, List, [], arith, sym, subst}
-use Rattle.w16_model.specs.Table.{IsSameOutside}
-use Rattle.w16_holes.specs.Holes.{Free, add_span}
-use Rattle.w16_holes.specs.Thread.{HasRoom, AreThreaded, room, no_hole}
+use Rattle.w16_holes.proofs.Common.{ℕ, List, [], arith, sym, subst, IsSameOutside, Free, add_span, HasRoom, AreThreaded, room, no_hole}
 use Rattle.w16_holes.proofs.Links.{multiple_of_8, hole_kept, one_threaded}
 use Rattle.w16_holes.proofs.threaded.ThreadedHoles.new.Goals as goal
 

@@ -1,7 +1,4 @@
-use Rattle.std.proofs.Common.{ℕ, List, ◌+◌, ◌-◌, ◌≤◌, length, Option, IfSome, arith, sym, ap, ◌∙◌, subst}
-use Rattle.w16_model.specs.declared.Span.{Span}
-use Rattle.w16_holes.specs.Holes.{Free, IsPart, IsUsed, AreSameOutside}
-use Rattle.w16_holes.specs.Thread.{AreThreaded, put_link}
+use Rattle.w16_holes.proofs.Common.{ℕ, List, ◌+◌, ◌-◌, ◌≤◌, length, Option, IfSome, arith, sym, ap, ◌∙◌, subst, Span, Free, IsPart, IsUsed, AreSameOutside, AreThreaded, put_link}
 use Rattle.w16_holes.proofs.Below.{last_used}
 use Rattle.w16_holes.proofs.Links.{place_behind, put_less, put_top, put_fits, put_room, put_all}
 use Rattle.w16_holes.proofs.threaded.ThreadedHolesHolesRegion.put.Goals as goal

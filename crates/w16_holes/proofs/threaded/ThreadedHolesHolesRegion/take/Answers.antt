@@ -1,7 +1,4 @@
-use Rattle.std.proofs.Common.{ℕ, List, ◌+◌, ◌≤◌, length, Option, arith, sym, ap, ◌∙◌, subst, IfSome}
-use Rattle.w16_model.specs.declared.Span.{Span}
-use Rattle.w16_holes.specs.Holes.{Free, IsPart, IsFree, AreSameOutside, last_before}
-use Rattle.w16_holes.specs.Thread.{AreThreaded, put_link}
+use Rattle.w16_holes.proofs.Common.{ℕ, List, ◌+◌, ◌≤◌, length, Option, arith, sym, ap, ◌∙◌, subst, IfSome, Span, Free, IsPart, IsFree, AreSameOutside, last_before, AreThreaded, put_link}
 use Rattle.w16_holes.proofs.Links.{take_there, take_from, take_fits, take_top, take_room, take_link, take_written}
 use Rattle.w16_holes.proofs.threaded.ThreadedHolesHolesRegion.take.Goals as goal
 

@@ -1,5 +1,4 @@
-use Rattle.w16_local.proofs.Beginning.{on_any}
-use Rattle.w16_kernel.specs.Parts.{world_of}
+use Rattle.w16_kernel.proofs.Common.{on_any, world_of}
 use Rattle.w16_kernel.proofs.Stepping.{told_step, told_fewest, told_world}
 use Rattle.w16_kernel.proofs.kernel.Kernel.call.Goals as goal
 

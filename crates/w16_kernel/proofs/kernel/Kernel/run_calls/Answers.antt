@@ -1,14 +1,4 @@
-use Rattle.std.proofs.lemmas.Grind.{common_steps}
-use Rattle.std.proofs.Common.{take, get_or, IsSomeAnd, List, sym, subst, arith}
-use Rattle.std.proofs.lemmas.List.{take_more}
-use Rattle.std.proofs.lemmas.Option.{slice_get-get_or}
-use Rattle.w16_local.proofs.Beginning.{on_any}
-use Rattle.w16_machine.specs.Fewest.{IsFewest}
-use Rattle.w16_kernel.specs.declared.call.Call.{Call}
-use Rattle.w16_kernel.specs.declared.call.Call.TheVariants.{GlobalAlloc}
-use Rattle.w16_kernel.specs.Parts.{KernelStep}
-use Rattle.w16_kernel.specs.Runs.{command_of, TakesMemory}
-use Rattle.w16_kernel.specs.Stops.{StopsEarly}
+use Rattle.w16_kernel.proofs.Common.{common_steps, take, get_or, IsSomeAnd, List, sym, subst, arith, take_more, slice_get-get_or, on_any, IsFewest, Call, GlobalAlloc, KernelStep, command_of, TakesMemory, StopsEarly}
 use Rattle.w16_kernel.proofs.Running.{Ran, ran_more, ran_stops}
 use Rattle.w16_kernel.proofs.kernel.Kernel.run_calls.Goals as goal
 

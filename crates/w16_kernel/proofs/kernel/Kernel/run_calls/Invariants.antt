@@ -1,5 +1,4 @@
-use Rattle.std.proofs.Common.{◌≡◌, ◌≤◌, take, length, vec_len, vec_capacity}
-use Rattle.w16_kernel.specs.Parts.{KernelStep}
+use Rattle.w16_kernel.proofs.Common.{◌≡◌, ◌≤◌, take, length, vec_len, vec_capacity, KernelStep}
 use Rattle.w16_kernel.proofs.Running.{Ran}
 use Rattle.w16_kernel.proofs.kernel.Kernel.run_calls.Given as goal
 

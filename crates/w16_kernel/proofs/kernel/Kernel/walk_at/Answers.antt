@@ -1,6 +1,4 @@
-use Rattle.w16_model.specs.Handles.{handle_of}
-use Rattle.w16_model.specs.Law.{HasOneWalk}
-use Rattle.w16_model.proofs.Listed.{walk_law}
+use Rattle.w16_kernel.proofs.Common.{handle_of, HasOneWalk, walk_law}
 use Rattle.w16_kernel.proofs.kernel.Kernel.walk_at.Goals as goal
 
 pub returns : goal.returns

@@ -1,6 +1,5 @@
 -- A name that means nothing is looked for in its file.
-use Rattle.std.proofs.Common.{arith}
-use Rattle.std.proofs.lemmas.Grind.{common_steps}
+use Rattle.w16_loader.proofs.Common.{arith, common_steps}
 use Rattle.w16_loader.proofs.closure.Closure.follow.Goals as goal
 
 pub returns-in-Some-clause-any : goal.returns-in-Some-clause-any

@@ -1,13 +1,7 @@
 -- Each module leads on, and behind the last place none is left.
-use Rattle.std.proofs.Common.{◌+◌, ◌≤◌, ◌∙◌, refl, arith}
-use Rattle.w16_loading.specs.declared.TheConstants.{MOST_MODULES}
-use Rattle.w16_loading.specs.Modules.{free_modules}
-use Rattle.w16_format.specs.Ne.{ne_format}
-use Rattle.w16_loader.specs.Closing.{around_in}
-use Rattle.w16_loader.specs.Following.{reached}
+use Rattle.w16_loader.proofs.Common.{◌+◌, ◌≤◌, ◌∙◌, refl, arith, MOST_MODULES, free_modules, ne_format, around_in, reached, reached_of}
 use Rattle.w16_loader.proofs.Steps.{leads_nowhere}
 use Rattle.w16_loader.proofs.Followings.{all_done, leads_through, refused_through, few_free}
-use Rattle.w16_loader.specs.AnyClosing.{reached_of}
 use Rattle.w16_loader.proofs.AnyFollowings.{any_through, any_all, any_nowhere}
 use Rattle.w16_loader.proofs.Few.{few_through, few_same}
 use Rattle.w16_loader.proofs.closure.Closure.follow_all.Goals as goal

@@ -1,9 +1,5 @@
 -- The references of the modules so far are followed.
-use Rattle.std.proofs.Common.{◌≡◌, ◌≤◌}
-use Rattle.w16_format.specs.Ne.{ne_format}
-use Rattle.w16_loader.specs.Closing.{around_in}
-use Rattle.w16_loader.specs.Following.{FindsFew, Leads, reached}
-use Rattle.w16_loader.specs.AnyClosing.{LeadsAny, reached_of}
+use Rattle.w16_loader.proofs.Common.{◌≡◌, ◌≤◌, ne_format, around_in, FindsFew, Leads, reached, LeadsAny, reached_of}
 use Rattle.w16_loader.proofs.closure.Closure.follow_all.Given as goal
 
 abbrev pub invariant-loop-place : goal.invariant-loop-place

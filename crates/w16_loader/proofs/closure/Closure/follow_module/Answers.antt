@@ -1,11 +1,7 @@
 -- Each reference leads on, and the last to the next module.
-use Rattle.std.proofs.Common.{◌≡◌, ◌+◌, ◌-◌, ◌∙◌, refl, ap, sym, length, subst, arith}
-use Rattle.w16_format.specs.Ne.{ne_format}
-use Rattle.w16_loader.specs.Closing.{around_in}
-use Rattle.w16_loader.specs.Following.{Leads, reached}
+use Rattle.w16_loader.proofs.Common.{◌≡◌, ◌+◌, ◌-◌, ◌∙◌, refl, ap, sym, length, subst, arith, ne_format, around_in, Leads, reached, LeadsAny, reached_of}
 use Rattle.w16_loader.proofs.Steps.{leads_nowhere}
 use Rattle.w16_loader.proofs.Followings.{module_done, leads_through, refused_through}
-use Rattle.w16_loader.specs.AnyClosing.{LeadsAny, reached_of}
 use Rattle.w16_loader.proofs.AnyFollowings.{any_through, any_module, any_nowhere}
 use Rattle.w16_loader.proofs.Few.{few_through, few_same}
 use Rattle.w16_loader.proofs.closure.Closure.follow_module.Goals as goal

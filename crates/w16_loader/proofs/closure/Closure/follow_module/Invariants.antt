@@ -1,9 +1,5 @@
 -- The references so far are followed, and the module has as many as it had.
-use Rattle.std.proofs.Common.{◌≡◌, ◌≤◌}
-use Rattle.w16_format.specs.Ne.{ne_format}
-use Rattle.w16_loader.specs.Closing.{around_in}
-use Rattle.w16_loader.specs.Following.{FindsFew, Leads, reached, references_at}
-use Rattle.w16_loader.specs.AnyClosing.{LeadsAny, reached_of}
+use Rattle.w16_loader.proofs.Common.{◌≡◌, ◌≤◌, ne_format, around_in, FindsFew, Leads, reached, references_at, LeadsAny, reached_of}
 use Rattle.w16_loader.proofs.closure.Closure.follow_module.Given as goal
 
 abbrev pub invariant-loop-done : goal.invariant-loop-done

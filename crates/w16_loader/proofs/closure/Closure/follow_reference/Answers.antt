@@ -1,10 +1,5 @@
 -- A reference that is followed is the next of those that are left.
-use Rattle.std.proofs.Common.{ap, ◌∙◌}
-use Rattle.w16_format.specs.Ne.{ne_format}
-use Rattle.w16_loader.specs.Closing.{around_in}
-use Rattle.w16_loader.specs.Following.{left_from, references_at}
-use Rattle.std.specs.Prelude.{map}
-use Rattle.w16_loader.specs.Closing.{found_in}
+use Rattle.w16_loader.proofs.Common.{ap, ◌∙◌, ne_format, around_in, left_from, references_at, map, found_in}
 use Rattle.w16_loader.proofs.Followings.{indexed, same_after, follows, refused}
 use Rattle.w16_loader.proofs.AnyFollowings.{follows_any}
 use Rattle.w16_loader.proofs.Few.{few_after}

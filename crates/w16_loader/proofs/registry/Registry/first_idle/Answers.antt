@@ -1,7 +1,5 @@
 -- The marks are what is imported, so the first module without one is a module that nobody uses.
-use Rattle.std.proofs.Common.{ap, ◌∙◌}
-use Rattle.w16_loader.specs.Registry.{listed}
-use Rattle.w16_loader.specs.Idle.{first_unused}
+use Rattle.w16_loader.proofs.Common.{ap, ◌∙◌, listed, first_unused}
 use Rattle.w16_loader.proofs.Idleness.{all_marked, first_found, none_found}
 use Rattle.w16_loader.proofs.registry.Registry.first_idle.Goals as goal
 

@@ -1,7 +1,5 @@
 -- The free places from the first handle on are the free handles.
-use Rattle.std.proofs.Common.{◌-◌, ap, ◌∙◌, length, take, drop}
-use Rattle.std.specs.Prelude.{count_by, is_none}
-use Rattle.w16_loading.specs.declared.TheConstants.{FIRST_MODULE}
+use Rattle.w16_loader.proofs.Common.{◌-◌, ap, ◌∙◌, length, take, drop, count_by, is_none, FIRST_MODULE}
 use Rattle.w16_loader.proofs.Registered.{rest_behind, free_are}
 use Rattle.w16_loader.proofs.registry.Registry.free_count.Goals as goal
 

@@ -1,6 +1,5 @@
 -- No handle that was passed is free.
-use Rattle.std.proofs.Common.{ℕ, ◌≤◌, ◌<◌}
-use Rattle.w16_loading.specs.Modules.{IsFreeModule}
+use Rattle.w16_loader.proofs.Common.{ℕ, ◌≤◌, ◌<◌, IsFreeModule}
 use Rattle.w16_loader.proofs.registry.Registry.free_from.Given as goal
 
 abbrev pub invariant-loop-handle : goal.invariant-loop-handle

@@ -1,6 +1,5 @@
 -- The handles so far, and those that are free from here on, begin with as many as all that are free.
-use Rattle.std.proofs.Common.{◌≡◌, ◌≤◌, ◌++◌, length, take}
-use Rattle.w16_loader.specs.Naming.{free_handles}
+use Rattle.w16_loader.proofs.Common.{◌≡◌, ◌≤◌, ◌++◌, length, take, free_handles}
 use Rattle.w16_loader.proofs.FreeHandles.{free_from}
 use Rattle.w16_loader.proofs.registry.Registry.free_handles.Given as goal
 

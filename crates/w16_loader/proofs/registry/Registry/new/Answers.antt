@@ -1,6 +1,5 @@
 -- A table of free places is one, and names nothing.
-use Rattle.std.proofs.Common.{◌+◌}
-use Rattle.w16_loading.specs.declared.TheConstants.{FIRST_MODULE, MOST_MODULES}
+use Rattle.w16_loader.proofs.Common.{◌+◌, FIRST_MODULE, MOST_MODULES}
 use Rattle.w16_loader.proofs.Registered.{new_table, none_registered}
 use Rattle.w16_loader.proofs.registry.Registry.new.Goals as goal
 

@@ -1,8 +1,6 @@
 -- The table's entry is the map's.
-use Rattle.std.proofs.Common.{◌<◌, Some, length, set, ap, ◌∙◌, arith}
+use Rattle.w16_loader.proofs.Common.{◌<◌, Some, length, set, ap, ◌∙◌, arith, named_of, registered}
 use Rattle.std.specs.FinMap as finmap
-use Rattle.w16_loader.specs.Entries.{named_of}
-use Rattle.w16_loader.specs.Registry.{registered}
 use Rattle.w16_loader.proofs.Registered.{named_set}
 use Rattle.w16_loader.proofs.registry.Registry.put.Goals as goal
 

@@ -1,8 +1,5 @@
 -- The table's entry is the map's.
-use Rattle.std.proofs.Common.{◌<◌, ◌≤◌, length, None, option_map, ap, ◌∙◌, arith}
-use Rattle.std.proofs.lemmas.List.{get_or_past, get_or_default}
-use Rattle.w16_loading.specs.Modules.{module_in}
-use Rattle.w16_loader.specs.Entries.{named_of}
+use Rattle.w16_loader.proofs.Common.{◌<◌, ◌≤◌, length, None, option_map, ap, ◌∙◌, arith, get_or_past, get_or_default, module_in, named_of}
 use Rattle.w16_loader.proofs.Registered.{named_at, named_inside, taken_table, taken_gone, taken_none}
 use Rattle.w16_loader.proofs.registry.Registry.remove.Goals as goal
 

@@ -1,12 +1,4 @@
-use Rattle.std.proofs.Common.{List, ap, if◌then◌else◌, inl, inr, subst, sym, ◌∙◌, ℕ}
-use Rattle.w16_model.specs.Heap.{Heap}
-use Rattle.w16_model.specs.Request.{moved_bytes}
-use Rattle.w16_model.specs.Table.{Table, heap_in}
-use Rattle.w16_region.specs.Bytes.{counted}
-use Rattle.w16_arena.specs.State.{ArenaState}
-use Rattle.w16_local.specs.Acts.{Acted}
-use Rattle.w16_local.specs.Kept.{LocalHeapInvariant}
-use Rattle.w16_local.specs.declared.acts.ByteOp.TheVariants.{Alloc}
+use Rattle.w16_local.proofs.Common.{List, ap, if◌then◌else◌, inl, inr, subst, sym, ◌∙◌, ℕ, Heap, moved_bytes, Table, heap_in, counted, ArenaState, Acted, LocalHeapInvariant, Alloc}
 use Rattle.w16_local.proofs.Entries.{is_local}
 use Rattle.w16_local.proofs.OneAct.{absent, grained, heap_after, known, may_shown, on_err, over_after, alloc_done, alloc_idle, alloc_kept, writes_ok}
 use Rattle.w16_local.proofs.heap.LocalHeap.alloc.Goals as goal

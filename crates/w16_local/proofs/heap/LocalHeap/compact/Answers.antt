@@ -1,10 +1,4 @@
-use Rattle.std.proofs.Common.{ap, arith, inl, inr, ◌∙◌}
-use Rattle.std.proofs.lemmas.Bool.{cases_lt}
-use Rattle.w16_model.specs.Heap.{Heap}
-use Rattle.w16_model.specs.Request.{moved_bytes}
-use Rattle.w16_model.specs.Table.{Table, heap_in}
-use Rattle.w16_region.specs.Bytes.{counted}
-use Rattle.w16_local.specs.declared.acts.ByteOp.TheVariants.{Compact}
+use Rattle.w16_local.proofs.Common.{ap, arith, inl, inr, ◌∙◌, cases_lt, Heap, moved_bytes, Table, heap_in, counted, Compact}
 use Rattle.w16_local.proofs.OneAct.{compact_acted, compact_bound, compact_kept, may_shown}
 use Rattle.w16_local.proofs.heap.LocalHeap.compact.Goals as goal
 

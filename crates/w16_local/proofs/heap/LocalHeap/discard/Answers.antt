@@ -1,6 +1,4 @@
-use Rattle.std.proofs.Common.{ap, is_ok, sym, ◌∙◌}
-use Rattle.std.proofs.lemmas.Bool.{false≢true}
-use Rattle.w16_local.specs.declared.acts.ByteOp.TheVariants.{Discard}
+use Rattle.w16_local.proofs.Common.{ap, is_ok, sym, ◌∙◌, false≢true, Discard}
 use Rattle.w16_local.proofs.OneAct.{discard_done, discard_kept, may_shown}
 use Rattle.w16_local.proofs.heap.LocalHeap.discard.Goals as goal
 

@@ -1,5 +1,4 @@
-use Rattle.std.proofs.Common.{List, ℕ, sym, subst}
-use Rattle.w16_local.specs.Kept.{LocalHeapInvariant}
+use Rattle.w16_local.proofs.Common.{List, ℕ, sym, subst, LocalHeapInvariant}
 use Rattle.w16_local.proofs.OneHeap.{kept_entered, turns}
 use Rattle.w16_local.proofs.heap.LocalHeap.enter.Goals as goal
 

@@ -1,7 +1,4 @@
-use Rattle.std.proofs.Common.{List, ap, arith, is_ok, subst, sym, ◌∙◌, ℕ}
-use Rattle.std.proofs.lemmas.Bool.{false≢true}
-use Rattle.w16_local.specs.Kept.{LocalHeapInvariant}
-use Rattle.w16_local.specs.declared.acts.ByteOp.TheVariants.{Free}
+use Rattle.w16_local.proofs.Common.{List, ap, arith, is_ok, subst, sym, ◌∙◌, ℕ, false≢true, LocalHeapInvariant, Free}
 use Rattle.w16_local.proofs.OneAct.{entry_lt, free_done, free_kept, may_shown}
 use Rattle.w16_local.proofs.heap.LocalHeap.free.Goals as goal
 

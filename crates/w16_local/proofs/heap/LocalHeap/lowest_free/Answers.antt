@@ -1,6 +1,4 @@
-use Rattle.std.proofs.Common.{◌∙◌, IfNone, ℕ, Option, arith, subst, sym}
-use Rattle.w16_model.specs.Table.{Table}
-use Rattle.w16_local.specs.Kept.{IsFull, IsLowest}
+use Rattle.w16_local.proofs.Common.{◌∙◌, IfNone, ℕ, Option, arith, subst, sym, Table, IsFull, IsLowest}
 use Rattle.w16_local.proofs.OneHeap.{full, lowest}
 use Rattle.w16_local.proofs.heap.LocalHeap.lowest_free.Goals as goal
 

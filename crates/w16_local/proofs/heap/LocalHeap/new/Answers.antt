@@ -1,6 +1,4 @@
-use Rattle.std.proofs.Common.{ap, subst, sym}
-use Rattle.w16_arena.specs.State.{ArenaState}
-use Rattle.w16_local.specs.Kept.{LocalHeapInvariant}
+use Rattle.w16_local.proofs.Common.{ap, subst, sym, ArenaState, LocalHeapInvariant}
 use Rattle.w16_local.proofs.OneHeap.{kept_new}
 use Rattle.w16_local.proofs.heap.LocalHeap.new.Goals as goal
 

@@ -1,12 +1,4 @@
-use Rattle.std.proofs.Common.{List, ap, if◌then◌else◌, inl, inr, length, option_map, subst, sym, unwrap_or, ◌-◌, ◌∙◌, ℕ}
-use Rattle.w16_model.specs.Heap.{Heap, bytes_at}
-use Rattle.w16_model.specs.Request.{moved_bytes}
-use Rattle.w16_model.specs.Table.{Table, heap_in}
-use Rattle.w16_region.specs.Bytes.{counted}
-use Rattle.w16_arena.specs.State.{ArenaState}
-use Rattle.w16_local.specs.Acts.{Acted}
-use Rattle.w16_local.specs.Kept.{LocalHeapInvariant}
-use Rattle.w16_local.specs.declared.acts.ByteOp.TheVariants.{Realloc}
+use Rattle.w16_local.proofs.Common.{List, ap, if◌then◌else◌, inl, inr, length, option_map, subst, sym, unwrap_or, ◌-◌, ◌∙◌, ℕ, Heap, bytes_at, moved_bytes, Table, heap_in, counted, ArenaState, Acted, LocalHeapInvariant, Realloc}
 use Rattle.w16_local.proofs.Entries.{is_local}
 use Rattle.w16_local.proofs.OneAct.{grained, has_entry, heap_after, may_shown, on_err, over_after, realloc_done, realloc_idle, realloc_kept, writes_ok}
 use Rattle.w16_local.proofs.heap.LocalHeap.realloc.Goals as goal

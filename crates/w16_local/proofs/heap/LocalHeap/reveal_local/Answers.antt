@@ -1,5 +1,4 @@
-use Rattle.std.proofs.Common.{subst}
-use Rattle.w16_machine.specs.Local.{IsLocalTable}
+use Rattle.w16_local.proofs.Common.{subst, IsLocalTable}
 use Rattle.w16_local.proofs.heap.LocalHeap.reveal_local.Goals as goal
 
 pub returns : goal.returns

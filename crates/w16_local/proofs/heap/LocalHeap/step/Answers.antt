@@ -1,8 +1,4 @@
-use Rattle.std.proofs.Common.{◌≡◌, Ok, Result, subst, sym}
-use Rattle.w16_model.specs.declared.Refusal.{Refusal}
-use Rattle.w16_model.specs.Heap.{Heap}
-use Rattle.w16_local.specs.declared.steps.TableOp.{TableOp}
-use Rattle.w16_local.specs.Steps.{Turns, after_step}
+use Rattle.w16_local.proofs.Common.{◌≡◌, Ok, Result, subst, sym, Refusal, Heap, TableOp, Turns, after_step}
 use Rattle.w16_local.proofs.OneHeap.{enters_turn}
 use Rattle.w16_local.proofs.heap.LocalHeap.step.Goals as goal
 

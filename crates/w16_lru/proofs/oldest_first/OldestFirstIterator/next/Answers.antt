@@ -1,5 +1,4 @@
-use Rattle.std.proofs.Common.{ℕ, ◌≡◌, ◌-◌, ◌≤◌, length, arith, sym, ap, ◌∙◌}
-use Rattle.std.specs.Prelude.{slice_get}
+use Rattle.w16_lru.proofs.Common.{ℕ, ◌≡◌, ◌-◌, ◌≤◌, length, arith, sym, ap, ◌∙◌, slice_get}
 use Rattle.w16_lru.proofs.Walks.{steps, some_left, next_place}
 use Rattle.w16_lru.proofs.oldest_first.OldestFirstIterator.next.Goals as goal
 

@@ -1,6 +1,4 @@
-use Rattle.std.proofs.Common.{refl}
-use Rattle.std.proofs.lemmas.Bool.{false≢true}
-use Rattle.w16_model.specs.Gap.{Misses, block_end}
+use Rattle.w16_model.proofs.Common.{refl, false≢true, Misses, block_end}
 use Rattle.w16_model.proofs.Folds.{pairs_left, pairs_fail}
 use Rattle.w16_model.proofs.plain.Snapshot.are_apart.Goals as goal
 

@@ -1,5 +1,4 @@
-use Rattle.std.proofs.Common.{◌↔◌, AllPairs, length}
-use Rattle.w16_model.specs.Gap.{Misses, block_end}
+use Rattle.w16_model.proofs.Common.{◌↔◌, AllPairs, length, Misses, block_end}
 use Rattle.w16_model.proofs.plain.Snapshot.are_apart.Given as goal
 
 abbrev pub invariant-loop-first : goal.invariant-loop-first

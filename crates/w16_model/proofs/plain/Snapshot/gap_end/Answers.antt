@@ -1,6 +1,4 @@
-use Rattle.std.proofs.Common.{sym, ◌∙◌}
-use Rattle.std.proofs.lemmas.Bool.{and_left, and_right, lt-leb}
-use Rattle.w16_model.specs.Gap.{is_pinned}
+use Rattle.w16_model.proofs.Common.{sym, ◌∙◌, and_left, and_right, lt-leb, is_pinned}
 use Rattle.w16_model.proofs.Folds.{no_block}
 use Rattle.w16_model.proofs.Folds.{first_from-taken, first_from-passed}
 use Rattle.w16_model.proofs.plain.Snapshot.gap_end.Goals as goal

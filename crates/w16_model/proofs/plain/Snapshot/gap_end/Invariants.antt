@@ -1,5 +1,4 @@
-use Rattle.std.proofs.Common.{◌≡◌, drop}
-use Rattle.w16_model.specs.Gap.{first_from, is_pinned}
+use Rattle.w16_model.proofs.Common.{◌≡◌, drop, first_from, is_pinned}
 use Rattle.w16_model.proofs.plain.Snapshot.gap_end.Given as goal
 
 abbrev pub invariant-loop-block : goal.invariant-loop-block

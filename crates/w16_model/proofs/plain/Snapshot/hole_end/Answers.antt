@@ -1,6 +1,4 @@
-use Rattle.std.proofs.Common.{refl, ◌∙◌}
-use Rattle.std.proofs.lemmas.Bool.{lt-leb}
-use Rattle.w16_model.specs.Gap.{is_any}
+use Rattle.w16_model.proofs.Common.{refl, ◌∙◌, lt-leb, is_any}
 use Rattle.w16_model.proofs.Folds.{no_block}
 use Rattle.w16_model.proofs.Folds.{first_from-taken, first_from-passed}
 use Rattle.w16_model.proofs.plain.Snapshot.hole_end.Goals as goal

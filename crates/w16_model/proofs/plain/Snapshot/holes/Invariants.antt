@@ -1,5 +1,4 @@
-use Rattle.std.proofs.Common.{◌≡◌, ◌++◌, drop}
-use Rattle.w16_model.specs.Gap.{is_any, holes, spans_from}
+use Rattle.w16_model.proofs.Common.{◌≡◌, ◌++◌, drop, is_any, holes, spans_from}
 use Rattle.w16_model.proofs.Folds.{ends_of}
 use Rattle.w16_model.proofs.plain.Snapshot.holes.Given as goal
 

@@ -1,5 +1,4 @@
-use Rattle.std.proofs.lemmas.Grind.{common_steps}
-use Rattle.std.proofs.Common.{rules, arith}
+use Rattle.w16_model.proofs.Common.{common_steps, rules, arith}
 use Rattle.w16_model.proofs.plain.Snapshot.longest_hole.Goals as goal
 
 pub loop-block-init : goal.loop-block-init

@@ -1,5 +1,4 @@
-use Rattle.std.proofs.Common.{◌≡◌, max, map, drop}
-use Rattle.w16_model.specs.Gap.{is_any, longest_hole, hole_after, largest}
+use Rattle.w16_model.proofs.Common.{◌≡◌, max, map, drop, is_any, longest_hole, hole_after, largest}
 use Rattle.w16_model.proofs.Folds.{ends_of}
 use Rattle.w16_model.proofs.plain.Snapshot.longest_hole.Given as goal
 

@@ -1,5 +1,4 @@
-use Rattle.std.proofs.Common.{◌≡◌, ◌+◌, drop}
-use Rattle.w16_model.specs.Gap.{loose_bytes}
+use Rattle.w16_model.proofs.Common.{◌≡◌, ◌+◌, drop, loose_bytes}
 use Rattle.w16_model.proofs.plain.Snapshot.loose_between.Given as goal
 
 abbrev pub invariant-loop-block : goal.invariant-loop-block

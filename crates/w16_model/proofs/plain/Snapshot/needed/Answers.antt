@@ -1,6 +1,4 @@
-use Rattle.std.proofs.Common.{◌+◌, nat_le, arith}
-use Rattle.std.proofs.lemmas.Bool.{lt-leb}
-use Rattle.w16_model.specs.Discards.{room_for, snapshot}
+use Rattle.w16_model.proofs.Common.{◌+◌, nat_le, arith, lt-leb, room_for, snapshot}
 use Rattle.w16_model.proofs.Trials.{find-passed}
 use Rattle.w16_model.proofs.plain.Snapshot.needed.Goals as goal
 

@@ -1,6 +1,4 @@
-use Rattle.std.proofs.Common.{◌≡◌, ◌+◌, ◌-◌, nat_le}
-use Rattle.std.specs.List.{find, range_with_len}
-use Rattle.w16_model.specs.Discards.{room_for, snapshot}
+use Rattle.w16_model.proofs.Common.{◌≡◌, ◌+◌, ◌-◌, nat_le, find, range_with_len, room_for, snapshot}
 use Rattle.w16_model.proofs.plain.Snapshot.needed.Given as goal
 
 abbrev pub invariant-loop-count : goal.invariant-loop-count

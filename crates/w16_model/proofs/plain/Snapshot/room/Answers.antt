@@ -1,5 +1,4 @@
-use Rattle.std.proofs.lemmas.Grind.{common_steps}
-use Rattle.std.proofs.Common.{arith}
+use Rattle.w16_model.proofs.Common.{common_steps, arith}
 use Rattle.w16_model.proofs.plain.Snapshot.room.Goals as goal
 
 pub loop-block-preserved : goal.loop-block-preserved

@@ -1,5 +1,4 @@
-use Rattle.std.proofs.Common.{◌∙◌, arith}
-use Rattle.std.proofs.lemmas.Grind.{common_steps}
+use Rattle.w16_model.proofs.Common.{◌∙◌, arith, common_steps}
 use Rattle.w16_model.proofs.Trials.{placed_without}
 use Rattle.w16_model.proofs.plain.Snapshot.room_for.Goals as goal
 

@@ -1,8 +1,4 @@
-use Rattle.std.proofs.Common.{◌≡◌, ◌+◌, ◌-◌, length, subst, arith}
-use Rattle.std.proofs.lemmas.Result.{err_from_is_err_and}
-use Rattle.w16_store.specs.Files.{file_of}
-use Rattle.w16_ne.specs.declared.fault.NeFault.TheVariants.{Truncated}
-use Rattle.w16_ne.specs.Reading.{Tells, bytes_or}
+use Rattle.w16_ne.proofs.Common.{◌≡◌, ◌+◌, ◌-◌, length, subst, arith, err_from_is_err_and, file_of, Truncated, Tells, bytes_or}
 use Rattle.w16_ne.proofs.Pieces.{given, failure_is, bytes_in_piece}
 use Rattle.w16_ne.proofs.name_piece.Piece.fill.Goals as goal
 

@@ -1,6 +1,4 @@
-use Rattle.std.proofs.Common.{◌∙◌, sym}
-use Rattle.std.proofs.lemmas.Result.{err_from_is_err_and}
-use Rattle.w16_store.specs.Files.{file_of}
+use Rattle.w16_ne.proofs.Common.{◌∙◌, sym, err_from_is_err_and, file_of}
 use Rattle.w16_ne.proofs.Pieces.{front_is, not_read}
 use Rattle.w16_ne.proofs.name_piece.Piece.read.Goals as goal
 

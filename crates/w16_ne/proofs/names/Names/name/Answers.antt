@@ -1,7 +1,4 @@
-use Rattle.std.proofs.Common.{◌≡◌, ◌∙◌, ◌<◌, [], length, get_or, map, sym, ap, subst, arith, Some}
-use Rattle.std.proofs.lemmas.List.{length-map}
-use Rattle.std.proofs.lemmas.Option.{slice_get-get_or}
-use Rattle.w16_ne.specs.Names.{Entry, IsUpper, at_place, text_of}
+use Rattle.w16_ne.proofs.Common.{◌≡◌, ◌∙◌, ◌<◌, [], length, get_or, map, sym, ap, subst, arith, Some, length-map, slice_get-get_or, Entry, IsUpper, at_place, text_of}
 use Rattle.w16_ne.proofs.Texts.{at_index}
 use Rattle.w16_ne.proofs.names.Names.name.Goals as goal
 

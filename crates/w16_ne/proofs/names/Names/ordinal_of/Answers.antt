@@ -1,7 +1,4 @@
-use Rattle.std.proofs.Common.{◌≤◌, ◌∙◌, length, sym, ap, unwrap_or}
-use Rattle.std.specs.Str.{bytes_eq}
-use Rattle.std.proofs.lemmas.List.Elements.{recursion_from_All}
-use Rattle.w16_ne.specs.Names.{Entry, IsUpper}
+use Rattle.w16_ne.proofs.Common.{◌≤◌, ◌∙◌, length, sym, ap, unwrap_or, bytes_eq, recursion_from_All, Entry, IsUpper}
 use Rattle.w16_ne.proofs.Ordered.{told, told_upper, none_longer}
 use Rattle.w16_ne.proofs.names.Names.ordinal_of.Goals as goal
 

@@ -1,10 +1,4 @@
-use Rattle.std.proofs.Common.{◌≡◌, ◌≤◌, ◌∙◌, [], ◌∷◌, ◌++◌, length, map, sym, ap, arith, rules, length-append}
-use Rattle.std.specs.Char.{to_ascii_uppercase}
-use Rattle.std.specs.Str.{str_to_ascii_uppercase}
-use Rattle.std.proofs.lemmas.List.{length-map}
-use Rattle.std.proofs.lemmas.List.Elements.{All-push}
-use Rattle.w16_ne.specs.declared.names.Place.{Place}
-use Rattle.w16_ne.specs.Names.{Entry, IsUpper, at_place}
+use Rattle.w16_ne.proofs.Common.{◌≡◌, ◌≤◌, ◌∙◌, [], ◌∷◌, ◌++◌, length, map, sym, ap, arith, rules, length-append, to_ascii_uppercase, str_to_ascii_uppercase, length-map, All-push, Place, Entry, IsUpper, at_place}
 use Rattle.w16_ne.proofs.Texts.{IsInside, pushed, still_inside, new_inside}
 use Rattle.w16_ne.proofs.Ordered.{upper_twice}
 use Rattle.w16_ne.proofs.names.Names.push.Goals as goal

@@ -1,5 +1,4 @@
-use Rattle.std.proofs.Common.{◌≡◌, ◌∙◌, length, sym, ap, arith}
-use Rattle.w16_ne.specs.Resources.{resource_count}
+use Rattle.w16_ne.proofs.Common.{◌≡◌, ◌∙◌, length, sym, ap, arith, resource_count}
 use Rattle.w16_ne.proofs.Places.{count_grouped}
 use Rattle.w16_ne.proofs.resource_places.ResourceTable.len.Goals as goal
 

@@ -1,10 +1,6 @@
-use Rattle.std.proofs.Common.{◌≡◌, ◌∙◌, ◌<◌, ◌≤◌, suc, length, get_or, Some, sym, ap, arith}
-use Rattle.std.proofs.lemmas.Bool.Decides.{nat_tests}
-use Rattle.std.proofs.lemmas.List.Elements.{recursion_from_All}
-use Rattle.w16_ne.specs.declared.resource_rows.Group.{Group}
+use Rattle.w16_ne.proofs.Common.{◌≡◌, ◌∙◌, ◌<◌, ◌≤◌, suc, length, get_or, Some, sym, ap, arith, nat_tests, recursion_from_All, Group, Label, label_of, entry_of, HasLabel, label_in, entry_in, kind_at}
 use Rattle.w16_ne.specs.Modules.{resource_at}
-use Rattle.w16_ne.specs.Resources.{Label, Entry, label_of, entry_of}
-use Rattle.w16_ne.specs.Rows.{HasLabel, label_in, entry_in, kind_at}
+use Rattle.w16_ne.specs.Resources.{Entry}
 use Rattle.w16_ne.proofs.Places.{found_grouped, none_grouped, kind_there}
 use Rattle.w16_ne.proofs.resource_places.ResourceTable.resource.Goals as goal
 

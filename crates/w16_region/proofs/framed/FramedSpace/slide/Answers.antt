@@ -1,6 +1,4 @@
-use Rattle.w16_region.specs.Bytes.{lengths}
-use Rattle.std.proofs.lemmas.Grind.{common_steps}
-use Rattle.std.proofs.Common.{rules, arith}
+use Rattle.w16_region.proofs.Common.{lengths, common_steps, rules, arith}
 use Rattle.w16_region.proofs.framed.FramedSpace.slide.Goals as goal
 
 pub returns-clause-written : goal.returns-clause-written

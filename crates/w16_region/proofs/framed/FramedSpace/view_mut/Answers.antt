@@ -1,6 +1,4 @@
-use Rattle.std.proofs.Common.{rules, ◌≡◌, ◌<◌, ◌^◌, ℕ, List, length, refl}
-use Rattle.w16_region.specs.Bytes.{counted}
-use Rattle.w16_region.specs.declared.framed.Framed.{Framed}
+use Rattle.w16_region.proofs.Common.{rules, ◌≡◌, ◌<◌, ◌^◌, ℕ, List, length, refl, counted, Framed}
 use Rattle.w16_region.proofs.Frames.{same_made}
 use Rattle.w16_region.proofs.framed.FramedSpace.view_mut.Goals as goal
 

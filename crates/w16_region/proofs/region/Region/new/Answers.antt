@@ -1,5 +1,4 @@
-use Rattle.std.proofs.Common.{rules}
-use Rattle.w16_model.specs.Bytes.{repeated}
+use Rattle.w16_region.proofs.Common.{rules, repeated}
 use Rattle.w16_region.proofs.region.Region.new.Goals as goal
 
 pub returns-clause-bytes : goal.returns-clause-bytes

@@ -1,6 +1,4 @@
-use Rattle.std.proofs.lemmas.Grind.{common_steps}
-use Rattle.std.proofs.Common.{ℕ, List, ap, ◌∙◌, arith, rules}
-use Rattle.w16_region.specs.Bytes.{word_in}
+use Rattle.w16_region.proofs.Common.{common_steps, ℕ, List, ap, ◌∙◌, arith, rules, word_in}
 use Rattle.w16_region.proofs.Words.{items-put_word, word_in-put_word}
 use Rattle.w16_region.proofs.region.Region.set_word.Goals as goal
 

@@ -1,5 +1,4 @@
-use Rattle.std.proofs.Common.{rules}
-use Rattle.w16_region.specs.Bytes.{word_in}
+use Rattle.w16_region.proofs.Common.{rules, word_in}
 use Rattle.w16_region.proofs.region.Region.word_at.Goals as goal
 
 pub returns : goal.returns

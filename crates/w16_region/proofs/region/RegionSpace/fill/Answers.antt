@@ -1,7 +1,4 @@
-use Rattle.w16_region.specs.Bytes.{lengths}
-use Rattle.w16_model.specs.Bytes.{repeated}
-use Rattle.std.proofs.lemmas.Grind.{common_steps}
-use Rattle.std.proofs.Common.{rules, arith}
+use Rattle.w16_region.proofs.Common.{lengths, repeated, common_steps, rules, arith}
 use Rattle.w16_region.proofs.region.RegionSpace.fill.Goals as goal
 
 pub returns-clause-written : goal.returns-clause-written

@@ -1,9 +1,4 @@
-use Rattle.std.proofs.Common.{rules, ◌≡◌, ◌<◌, ◌^◌, ℕ, List, length, refl}
-use Rattle.std.specs.Prelude.{Vec}
-use Rattle.std.specs.Vec.{with_items}
-use Rattle.w16_model.specs.Bytes.{put_part}
-use Rattle.w16_region.specs.Bytes.{counted}
-use Rattle.w16_region.specs.declared.region.Region.{Region}
+use Rattle.w16_region.proofs.Common.{rules, ◌≡◌, ◌<◌, ◌^◌, ℕ, List, length, refl, Vec, with_items, put_part, counted, Region}
 use Rattle.w16_region.proofs.Frames.{same_made}
 use Rattle.w16_region.proofs.region.RegionSpace.pair.Goals as goal
 

@@ -1,5 +1,4 @@
-use Rattle.std.proofs.Common.{List, [], ◌∷◌, length, refl}
-use Rattle.std.proofs.raw_atomic.Walks.{proved}
+use Rattle.w16_region.proofs.Common.{List, [], ◌∷◌, length, refl, proved}
 use base.Fraction.{full_share}
 use mir.Syntax.{Ty, named, erased, mut, ty_ref, ty_int, w8}
 use mir.Val.{Val}

@@ -1,6 +1,6 @@
 -- `lend_pair` calls `lend_whole` and then `pair_of`, and what the first follows and what the second follows are joined.
-use Rattle.std.proofs.Common.{◌≡◌, ℕ, ◌+◌, ◌≤◌, ◌⊎◌, List, [], ◌∷◌, ◌++◌, length, take, drop as drop_list, refl, sym, ap, subst, w64, Bor, MutBor}
-use Rattle.std.proofs.raw_atomic.Walks.{proved}
+use Rattle.w16_region.proofs.Common.{◌≡◌, ℕ, ◌+◌, ◌≤◌, ◌⊎◌, List, [], ◌∷◌, ◌++◌, length, take, refl, sym, ap, subst, w64, Bor, MutBor, proved, with_items, Al}
+use Rattle.std.proofs.Common.{drop as drop_list}
 use mir.Syntax.{named, Args, Fn, a_type, dnil, dcons}
 use mir.MapTy.{inst_fn}
 use denote.Param.{bounded, param}
@@ -35,9 +35,7 @@ use denote.Triple.Clauses.{Ended, lasts}
 use denote.Triple.Spec.{triple_of}
 use denote.Triple.Table.{framed}
 use denote.Triple.Walked.{says, Stays, stay_dropped, walk_of, ends_at, Goes-dropped, Goes-spent_ref}
-use Rattle.std.specs.Vec.{with_items}
 use Rattle.std.specs.contracts.vec.Vec as V
-use Rattle.std.proofs.alloc.Calls.{Al}
 use Rattle.w16_region.specs.contracts.storage.VecU8Storage.lend_pair as f
 use Rattle.w16_region.proofs.storage.VecU8Storage.lend_pair.Statement.{statement}
 use Rattle.w16_region.proofs.storage.VecU8Storage.lend_pair.Code as code

@@ -1,0 +1,59 @@
+-- The names of definitions and of lower crates that the proofs of this crate cite, passed on from one place. Declares nothing.
+pub use Rattle.std.proofs.Common.{Err, IfErr, IsErrAnd, None, Ok, OnOk, Option, Result, Some, Vec, ◌^◌}
+pub use Rattle.std.proofs.Math.Seq.{drop-append-add, take-append-add}
+pub use Rattle.std.proofs.lemmas.List.{drop-append-le, take_more}
+pub use Rattle.std.proofs.lemmas.List.Folds.{list_any-append}
+pub use Rattle.w16_arena.proofs.Common.{All, All-drop, All-from_Each, All-put_part, All-repeated, All-take, Allocates, AreNew, ArenaState, Bool, Compacts, Each-at, Each-from, Each-from_All, Enters, FinMap, HasDiscarded, HasDiscardedFor, HasTold, Heap, IfNone, IfOk, IfSome, IsBlockOf, IsFirstItem, IsGrown, IsHeap, IsItem, IsMultiple, IsNew, IsSomeAnd, IsUsed, KeepsOthers, Layout, List, MakesRoom, MatchBool, MatchOption, Member, Misses, Object, Reallocates, Request, Settles, Steps, Table, [], absent, after_discard, after_free, after_lock, after_modify, after_newest, after_oldest, after_release, after_touch, after_unlock, ap, arith, block_end, block_member, block_with, blocks, by_its_id, bytes_at, cases_Bool, cases_eq, cases_lt, common_steps, compaction_prefix, cond, contents, counted, discarded, discards_needed, drop, drop-drop, drop-take, eligible, empty_table, entry_at, entry_of, eq-eqb, false, false≢true, first_eligible, get-update_other, get-update_same, get_or, get_or-set_other, get_or-set_same, growth_for, heap_in, holes_in, if◌then◌else◌, inl, inr, inserted_here, inserted_other, is_discardable, is_fixed, is_member, is_pinned_object, is_some, laid_placed, le-ltb, leb-false, length, length-put_part, length-repeated, length-replicate, length-set, length_range, lt-leb, lt-ltb, ltb-true, member_with, most_room, moved_bytes, nat_cmp, nat_cmp-IsAntisymmetric, nat_cmp_total, nat_le, nat_lt, ne_eqb, newest, not, object_at, object_in, oldest, option_map, others_law, part, put_part, range_apart, reallocation_prefix, refl, refused_order, removed, replicate, rules, same_map, set, slice_get, slice_range, snapshot_of, stays_for, subst, suc, sym, take, take-take, taken_here, taken_other, told_at, told_more, told_none, told_past, touched, true, true-is_member, two, unwrap_or, used_each, with_newest, with_object, with_ordered, zero, ℕ, ◌&&◌, ◌*◌, ◌++◌, ◌+◌, ◌-◌, ◌/◌, ◌<◌, ◌==◌, ◌||◌, ◌∙◌, ◌∷◌, ◌≡◌, ◌≢◌, ◌≤◌, ◌⊎◌}
+unfoldable pub use Rattle.w16_arena.proofs.Common.{repeated}
+pub use Rattle.w16_arena.proofs.Fresh.{no_entry, sound}
+pub use Rattle.w16_arena.proofs.Keeping.{heap_kept}
+pub use Rattle.w16_arena.proofs.Lookups.{bytes_here, ends_in_memory, entry_is, is_heap, no_block, object_here, place_here, same_heap, size_here}
+pub use Rattle.w16_arena.proofs.Unmoved.{none_moved, unmoved}
+pub use Rattle.w16_blocks.proofs.Common.{AreSameIn-put_part, add_span, le-leb, with_items}
+pub use Rattle.w16_compact.proofs.Common.{All-get_or}
+pub use Rattle.w16_global.specs.Access.{access_fault}
+pub use Rattle.w16_global.specs.Joined.{AreJoined, Global, HasSize, attributes_in, described, descriptor_for, followed, forgotten, handles_of, kind_for, kind_in, zeroed_behind}
+pub use Rattle.w16_global.specs.Lent.{Lends}
+pub use Rattle.w16_global.specs.Parts.{AreParts, HasPart, Holding, holding_of}
+pub use Rattle.w16_holes.proofs.Common.{AreThreaded, Free}
+pub use Rattle.w16_holes.specs.Thread.{threaded_stay}
+pub use Rattle.w16_model.proofs.Absence.{discard_absent}
+pub use Rattle.w16_model.proofs.Accesses.{Reached, reached, slot_of_access}
+pub use Rattle.w16_model.proofs.Common.{AnswersDiscard, AnswersHandle, AreHandles, AreResized, Asked, ChangesKind, Empties, Gives, GlobalAllocs, GlobalCompacts, GlobalReAllocs, Handles, IsFreeSlot, IsNull, IsSlot, KeepsRest, ReAllocsOwn, Resizes, after_write, alloc_options, data_write, empty_handles, empty_heap, far_bytes, far_fault, far_read, far_slot, far_write, get-empty, handle_of, has_flag, hold_of_object, is_owned, kind_asked, kind_modified, length-drop, length-take, length-take-le, locks_at, ltb-false, min, modified, nat_tests, owns, realloc_options, refuses_write, rounded_size, selector_of, slot_of_handle, slot_of_selector, take_at}
+pub use Rattle.w16_model.proofs.Cuts.{told_all}
+pub use Rattle.w16_model.proofs.Empty.{empty_law}
+pub use Rattle.w16_model.proofs.Fewest.{global_alloc_law, global_compact_law}
+pub use Rattle.w16_model.proofs.Growth.{IsCase, one_outcome_law}
+pub use Rattle.w16_model.proofs.KeptHandles.{Kept, lock_ok, moved_handles, other_handles, same_updated, unlock_ok, with_absent_object, with_new_object, without_object}
+pub use Rattle.w16_model.proofs.KeptHeaps.{newest_heap, oldest_heap, ordered, touched_heap, written_heap}
+pub use Rattle.w16_model.proofs.KeptRest.{rest_law}
+pub use Rattle.w16_model.proofs.KindChanges.{kind_law, modify_none}
+pub use Rattle.w16_model.proofs.Places.{two_placed}
+pub use Rattle.w16_model.proofs.Prefixes.{none_about}
+pub use Rattle.w16_model.proofs.Reallocations.{asked, by_case, heap_law, none_discarded}
+pub use Rattle.w16_model.proofs.ResizedHandles.{compacted_handles, discarded_handles, modified_handles, reallocated_handles}
+pub use Rattle.w16_model.proofs.Tables.{get-by_id}
+pub use Rattle.w16_model.specs.Calls.{global_size}
+pub use Rattle.w16_model.specs.Owned.{owned_at, owned_in, revival_options, without_slot}
+pub use Rattle.w16_model.specs.Reallocation.{IsResized}
+pub use Rattle.w16_model.specs.Resizes.{GlobalDiscards}
+pub use Rattle.w16_model.specs.declared.Attributes.{Attributes}
+pub use Rattle.w16_model.specs.declared.Block.{Block}
+pub use Rattle.w16_model.specs.declared.Entry.{Entry}
+pub use Rattle.w16_model.specs.declared.FarFault.{FarFault}
+pub use Rattle.w16_model.specs.declared.FarFault.TheVariants.{BadSelector, Limit, NotPresent, ReadOnly}
+pub use Rattle.w16_model.specs.declared.Item.{Item}
+pub use Rattle.w16_model.specs.declared.Kind.{Kind}
+pub use Rattle.w16_model.specs.declared.Kind.TheVariants.{Discardable}
+pub use Rattle.w16_model.specs.declared.Owned.{Owned}
+pub use Rattle.w16_model.specs.declared.Owner.{Owner}
+pub use Rattle.w16_model.specs.declared.Refusal.{Refusal}
+pub use Rattle.w16_model.specs.declared.RoomOptions.{RoomOptions}
+pub use Rattle.w16_model.specs.declared.Span.{Span}
+pub use Rattle.w16_model.specs.declared.TheConstants.{FIRST_SLOT, GMEM_DDESHARE, GMEM_MODIFY, GMEM_MOVEABLE, GMEM_ZEROINIT, GRAIN, LARGEST_SIZE, MOST_SLOTS}
+pub use Rattle.w16_region.proofs.Bytes.{All-bytes}
+pub use Rattle.w16_region.specs.Bytes.{lengths, with_items-put_part}
+pub use Rattle.w16_selectors.specs.Descriptors.{IsUntaken, descriptor_at, descriptor_of, is_code, kind_at, kind_of, place_of, unset}
+pub use Rattle.w16_selectors.specs.declared.Descriptor.{Descriptor}
+pub use Rattle.w16_selectors.specs.declared.SelKind.{SelKind}
+pub use Rattle.w16_selectors.specs.declared.SelKind.TheVariants.{Code, Data}

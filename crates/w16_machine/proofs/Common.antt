@@ -1,0 +1,72 @@
+-- The names of definitions and of lower crates that the proofs of this crate cite, passed on from one place. Declares nothing.
+pub use Rattle.std.proofs.Common.{Err, None, Ok, Option, Result, Some, find}
+pub use Rattle.std.proofs.lemmas.Bool.{le-leb, lt-ltb}
+pub use Rattle.std.proofs.lemmas.List.{length-replicate}
+pub use Rattle.w16_loading.proofs.AnySteps.{requests_fewest_law}
+pub use Rattle.w16_loading.proofs.Begun.{empty_of_files_law}
+pub use Rattle.w16_loading.proofs.Bystanders.{bystanders_law, pinned_law}
+pub use Rattle.w16_loading.proofs.CodeLaw.{code_law}
+pub use Rattle.w16_loading.proofs.Common.{Accesses, AddsBuiltIn, All, All-from_Each, AllPairs-from_EachPair, Allocates, AllocatesFewest, AreHandles, AreNew, Asked, Bool, BuiltIn, Builtin, Calls, Dword, Each-at, Each-from_All, Failed, FamilyStep, FarAnswer, FarCommand, Fetches, Fill, FinMap, FindResource, Format, GetModuleHandle, GetModuleUsage, GetProcAddress, GlobalReAlloc, HandleCommand, HandleReplies, Handles, Heap, IfOk, IfSome, IsBlockOf, IsHeap, IsLoadingCommand, IsLoadingWorld, IsNew, IsOfFiles, IsSomeAnd, IsTrue, KeepsContents, KeepsOthers, List, LoadLibrary, LoadModule, LoadResource, LoadingCommand, LoadingStep, LoadingWorld, Loads, LockResource, MatchBool, MatchOption, Member, ModuleCommand, ModuleStep, Object, OfFar, OfHandles, OfModules, OfResizes, OfResources, Reached, Reply, ResizeCommand, ResizeReplies, ResourceCommand, ResourceStep, Settles, SizeofResource, StandsStill, Word, Write, [], absent, address_law, after_touch, after_write, allocation_law, and_parts, answer_in, ap, arith, blocks, built_in, bytes_at, bytes_in, call_outcome, cases_Bool, cases_eq, cond, contents, discarded, discards_needed, eligible, entries_sorted, eq-eqb, eqb-true, false, false≢true, far_bytes, far_fault, far_read, far_reads_file, far_slot, far_write, found_member, get-empty, get-entries, get-retain_keys, get-update_other, get-update_same, get_or, gives, handle_named, inl, inr, inserted_here, inserted_other, is_fixed, is_in_order, is_member, is_pinned_object, is_some, keys_rise, length, length-put_part, ltb-true, member_found, module_at, nat_cmp, nat_cmp-IsAntisymmetric, nat_cmp_total, nat_lt, ne_eqb, needs_fetch, not, object_at, offset_in, option_map, other_handles, others_law, owned_at, part, put_part, reached, reads_files, refl, refuses_write, replicate, reply_of_far, same_map, selector_in, slot_of_selector, stays_for, subst, suc, sym, take, taken_here, taken_other, true, unwrap_or, with_newest, with_object, with_ordered, written_heap, zero, ℕ, ◌&&◌, ◌+◌, ◌-◌, ◌/◌, ◌<◌, ◌==◌, ◌||◌, ◌∙◌, ◌∷◌, ◌≡◌, ◌≢◌, ◌≤◌, ◌⊎◌}
+unfoldable pub use Rattle.w16_loading.proofs.Common.{repeated}
+pub use Rattle.w16_loading.proofs.KeptBytes.{KeepsBytes, same_object}
+pub use Rattle.w16_loading.proofs.KeptCode.{KeepsCode, as_it_was, code_kept, same_source}
+pub use Rattle.w16_loading.proofs.KeptOwners.{owners_law}
+pub use Rattle.w16_loading.proofs.KeptWorlds.{IsOwned, world_stays}
+pub use Rattle.w16_loading.proofs.WorldLaw.{any_keeps_worlds_law}
+pub use Rattle.w16_loading.specs.AnyStore.{AnyStep}
+pub use Rattle.w16_loading.specs.Families.{ResizesStep}
+pub use Rattle.w16_loading.specs.Modules.{with_handles}
+pub use Rattle.w16_loading.specs.Replies.{FarReplies, far_answer_in}
+pub use Rattle.w16_loading.specs.Replies.Reply.{Done}
+pub use Rattle.w16_loading.specs.declared.FetchFault.{FetchFault}
+pub use Rattle.w16_loading.specs.declared.FetchFault.TheVariants.{Store}
+pub use Rattle.w16_machine.specs.Bystanders.{AllSpare, IsLocalAbout, IsLocalSpared, RunSparesLaw, StepSparesLaw}
+pub use Rattle.w16_machine.specs.Fewest.{AreFewest, IsFewest}
+pub use Rattle.w16_machine.specs.Law.{EmptyLaw, FewestLaw, FilesLaw, IsWorld, IsWorldOfFiles, RunFilesLaw, RunWorldLaw, WorldLaw}
+pub use Rattle.w16_machine.specs.Local.{Acts, AreLocalHeaps, AreNamed, Becomes, Beginning, IsLocalIn, IsLocalTable, IsLowestFree, LocalHeap, LocalObject, Stays, beginning, beginning_in, current_heap, has_range, heap_of, id_at, id_named, is_name, is_range, left_in, local_in, local_of, name_at, name_of, new_table, object_named, range_in, rounded_down, rounded_up, segment_bytes, selector_or_ds, with_local, with_table}
+pub use Rattle.w16_machine.specs.LocalCalls.{AllocatesIn, AllocatesObject, Answers, CompactsIn, DiscardsObject, EntersObject, GivesUp, HasNoEntry, IsEmptyFixed, IsRefusedAlloc, Leaves, LocalCommand, LocalInits, LocalStep, ModifiesObject, OnNamed, ResizesObject, SizesObject, is_absent_asked, local_flags_of, local_kind, local_options, lock_refused, locks_left, moveable_or_discardable, near_pointer}
+pub use Rattle.w16_machine.specs.LocalCalls.LocalCommand.{DS, LocalAlloc, LocalCompact, LocalDiscard, LocalFlags, LocalFree, LocalHandle, LocalInit, LocalLock, LocalReAlloc, LocalSize, LocalUnlock}
+pub use Rattle.w16_machine.specs.LocalEffects.{DiscardLaw, Ends, FreeLaw, IsLocalNamed, LockLaw, ModifyLaw, RefusedLaw, UnlockLaw, discard_is_refused, is_refused}
+pub use Rattle.w16_machine.specs.LocalFewest.{AllocFewest, AllocLaw, CompactLaw, Left, ReallocFewest, ReallocLaw}
+pub use Rattle.w16_machine.specs.LocalLaw.{BeginLaw, BeginsNone, FarLaw, FrameLaw, GoesLaw, GoneLaw, HasSameObjects, IsBegun, IsHeapKept, IsLocalKept, IsNamedBy, IsObjectKept, IsRewritten, KeepsRest, MayBegin, NamedLaw, NamesLaw, NeverBackLaw, NewHeapLaw, OrderLaw, OthersLaw, OutcomeLaw, PinnedLaw, PlacesLaw, QueriesLaw, asks_for_room, but_bytes, may_move_named, named_by, only_tells}
+pub use Rattle.w16_machine.specs.LocalStays.{HasSameSizes, HeapsLaw, SizesLaw, call_may_take, modules_may_take, resources_may_take, size_at}
+pub use Rattle.w16_machine.specs.Machine.{Command, Event, IsCommand, OnHandles, Run, Step, StoreStep, after_loading}
+pub use Rattle.w16_machine.specs.Machine.Command.{OfLoading, OfLocals}
+pub use Rattle.w16_machine.specs.World.{World, empty_world}
+pub use Rattle.w16_machine.specs.declared.local.TheConstants.{LMEM_DISCARDABLE, LMEM_MODIFY, LMEM_MOVEABLE, LOCAL_ENTRIES, LOCAL_GRAIN}
+pub use Rattle.w16_model.proofs.Absence.{discard_absent, discard_is}
+pub use Rattle.w16_model.proofs.CallOrders.{allocated, compacted, resized, same, stays, touched_rest}
+pub use Rattle.w16_model.proofs.Common.{Answer, AreResized, Bytes, Enters, Fault, GlobalAlloc, GlobalCompact, HandleStep, IsCountedBy, IsMultiple, IsSound, IsTable, LacksPlace, LacksRoom, MakesRoom, Misses, MovesLittle, OnlyLeave, OthersStand, Read, ReallocatesFewest, Table, after_discard, after_free, after_lock, after_modify, after_unlock, block_end, block_with, by_id, compaction_prefix, data_write, entry_at, fits_in_place, growth_for, has_flag, heap_in, hold_of_entry, hold_of_object, is_discardable, is_listed, leb-true, min, most_room, nat_le, needed, newest, object_in, prefix_for, removed, room, size_of, slice_range, snapshot, take_all, touched, without, ◌*◌}
+pub use Rattle.w16_model.proofs.Empty.{empty_law}
+pub use Rattle.w16_model.proofs.Fewest.{compaction_law, global_alloc_law, global_compact_law, lacking}
+pub use Rattle.w16_model.proofs.Heaps.{block_member, member_block}
+pub use Rattle.w16_model.proofs.KeptHandles.{same_updated}
+pub use Rattle.w16_model.proofs.KeptRest.{rest_law}
+pub use Rattle.w16_model.proofs.KindChanges.{rest_order, twice_out}
+pub use Rattle.w16_model.proofs.Laid.{laid_each}
+pub use Rattle.w16_model.proofs.Parts.{part-put_part}
+pub use Rattle.w16_model.proofs.Places.{same_id, two_placed}
+pub use Rattle.w16_model.proofs.Prefixes.{none_about}
+pub use Rattle.w16_model.proofs.Reallocations.{asked, fewest_law, moves_law}
+pub use Rattle.w16_model.proofs.ResizedHandles.{resize_fewest_law}
+pub use Rattle.w16_model.proofs.Sound.{sound_law}
+pub use Rattle.w16_model.proofs.Tables.{length_range, member_with, object_is}
+pub use Rattle.w16_model.specs.Discards.{Snapshot}
+pub use Rattle.w16_model.specs.Far.{FarStep}
+pub use Rattle.w16_model.specs.Fewest.{CompactsFewest}
+pub use Rattle.w16_model.specs.Law.{KeepsAddresses}
+pub use Rattle.w16_model.specs.Owned.{is_code}
+pub use Rattle.w16_model.specs.Reallocation.{IsResized}
+pub use Rattle.w16_model.specs.Table.{IsSameOutside}
+pub use Rattle.w16_model.specs.declared.Block.{Block}
+pub use Rattle.w16_model.specs.declared.Entry.{Entry}
+pub use Rattle.w16_model.specs.declared.FarFault.{FarFault}
+pub use Rattle.w16_model.specs.declared.FarFault.TheVariants.{ReadOnly}
+pub use Rattle.w16_model.specs.declared.Hold.{Hold}
+pub use Rattle.w16_model.specs.declared.Hold.TheVariants.{Loose, Pinned}
+pub use Rattle.w16_model.specs.declared.Kind.{Kind}
+pub use Rattle.w16_model.specs.declared.Kind.TheVariants.{Discardable, Fixed, Moveable}
+pub use Rattle.w16_model.specs.declared.Owned.{Owned}
+pub use Rattle.w16_model.specs.declared.Refusal.{Refusal}
+pub use Rattle.w16_model.specs.declared.RoomOptions.{RoomOptions}
+pub use Rattle.w16_model.specs.declared.Span.{Span}
