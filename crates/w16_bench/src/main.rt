@@ -1,5 +1,6 @@
 //! Times the lowest crates: fills, slides and views of memory; look-ups, far reads, pairs of free and alloc, and a gather over 100,
-//! 1,000 and 8,000 blocks; the reading of module files, hostile ones among them, and the relocation of their segments.
+//! 1,000 and 8,000 blocks; the reading of module files, hostile ones among them, and the relocation of their segments; loads, fetches, and addresses
+//! by name.
 //!
 //! The first argument is the number of turns of each loop; a file is read once for a thousand of them, and a hostile one has at most a tenth as many names. The times go to standard error, so that standard output is the same each time.
 #![tactic(auto)]
@@ -13,6 +14,8 @@ use std::{env, io};
 mod files;
 mod heap;
 mod hostile;
+mod loads;
+mod modules;
 mod sample;
 
 /// The turns without an argument: few enough for a gate.
@@ -41,5 +44,6 @@ fn main(rt: HostRuntime) -> Result<()> {
     hostile::time(&rt, turns / 10)?;
     heap::time(&rt, turns)?;
     files::time(&rt, "modules", [Sample::Names, Sample::TwiceNames], turns)?;
-    files::time(&rt, "relocation", [Sample::Chains, Sample::Singles], turns)
+    files::time(&rt, "relocation", [Sample::Chains, Sample::Singles], turns)?;
+    loads::time(&rt, turns)
 }

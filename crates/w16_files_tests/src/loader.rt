@@ -1,9 +1,15 @@
-//! The registry of modules: calls one after another, as many modules as there may be, and memory that runs out.
+//! The registry of modules: calls one after another, as many modules as there may be, and memory that runs out; and loads, in the modules below.
 mod bench;
-mod closures;
-mod ending;
-mod fetches;
-mod files;
+mod drafts;
+mod lines;
+mod loads;
+mod machine;
+mod refusals;
+mod scenario;
+mod scripts;
+mod seen;
+mod sets;
+mod store;
 mod table;
 
 use bench::{Bench, Call};

@@ -1,5 +1,5 @@
 -- The new modules of a load, bound and filled, are what loading says of its closure.
-use Rattle.w16_loader.proofs.Common.{◌≡◌, ◌≢◌, ℕ, ◌+◌, ◌<◌, ◌≤◌, inl, inr, ◌⊎◌, true, false, List, [], ◌∷◌, ◌++◌, length, map, fold, zip, flat_map, All, AllPairs, slice_index_or, option_map, unwrap_or, Option, Some, None, IfOk, OnErr, IfSome, IsSomeAnd, Result, Ok, Err, MatchResult, refl, sym, ap, ◌∙◌, subst, arith, AllZip, length-map, All-from_recursion, file_of, is_member, AreHandles, is_member-true, true-is_member, cases_Bool, false≢true, Heap, Object, object_at, Owned, owned_at, Member, EachPair, Each-at, Each-from_All, EachPair-from_AllPairs, Far, ModuleFile, IsModuleFile, Segment, SegmentData, targets_of, FillsOne, InTurn, is_of_device, Closure, are_sound, LoadingWorld, Lookup, Module, Modules, Named, module_in, module_at, value_of, with_heap, Loaded, BuiltIn, without_module, Choice, Given, given, given_from, with_modules, with_segment, segments_of, unbound, bound, named, fills, FetchFault, Answer, Fulfils, outcome_of, refusal_of, undone, left, Says, StoreFails, IsItsFiles, without_values, same_values, undone_law, sound_values, named_new, given_slots_apart, given_found, given_handle, given_long, given_segment, put_all, put_here, ne_format, is_format, BindFault, AreSaid, IsBindFailure, IsSaid, all_bound, Files, found_in, said, closed_in, AreItsFiles, AreReadAs, AreUnfilled, IsReadAs, IsUnfilled, fills_with, slots_at, IsOfFile, LoadsClosed, answer_in, failed_by, of_fault, IsUnbound}
+use Rattle.w16_loader.proofs.Common.{◌≡◌, ◌≢◌, ℕ, ◌+◌, ◌<◌, ◌≤◌, inl, inr, ◌⊎◌, true, false, List, [], ◌∷◌, ◌++◌, length, map, fold, zip, flat_map, All, AllPairs, slice_index_or, option_map, unwrap_or, Option, Some, None, IfOk, OnErr, IfSome, IsSomeAnd, Result, Ok, Err, MatchResult, refl, sym, ap, ◌∙◌, subst, arith, AllZip, length-map, All-from_recursion, file_of, is_member, AreHandles, is_member-true, true-is_member, cases_Bool, false≢true, Heap, Object, Owned, Member, EachPair, Each-at, Each-from_All, EachPair-from_AllPairs, Far, ModuleFile, IsModuleFile, Segment, Tables, Target, targets_of, Giving, InTurn, Closure, LoadingWorld, Lookup, Module, Modules, Named, module_in, module_at, value_of, with_heap, Loaded, BuiltIn, without_module, Choice, Given, given, given_from, with_modules, segments_of, unbound, bound, named, fills, FetchFault, Answer, Fulfils, outcome_of, refusal_of, undone, left, Says, StoreFails, IsItsFiles, without_values, same_values, undone_law, sound_values, named_new, given_slots_apart, given_found, given_handle, given_long, given_segment, put_all, put_here, ne_format, is_format, BindFault, AreSaid, AreTargets, IsBindFailure, IsSaid, all_bound, Files, found_in, said, closed_in, AreItsFiles, AreReadAs, AreUnfilled, IsReadAs, IsUnfilled, fills_with, slots_at, IsOfFile, LoadsClosed, answer_in, failed_by, of_fault, IsUnbound}
 use Rattle.std.specs.List.{AllByRecursion as Each}
 use Rattle.std.specs.FinMap as finmap
 use Rattle.w16_loading.specs.Fill as loading
@@ -8,7 +8,7 @@ use Rattle.w16_loading.specs.declared.FetchFault.TheVariants as fetches
 use Rattle.w16_loader.specs.declared.binding.BindFault.TheVariants as binds
 use Rattle.w16_loader.specs.declared.closure.Closure as kept
 use Rattle.w16_loader.proofs.Undoing.{undone_by_release}
-use Rattle.w16_loader.proofs.Fulfilled.{all_bound_are, fills_are, last, targets_in}
+use Rattle.w16_loader.proofs.Fulfilled.{all_bound_are, fills_are, targets_in}
 
 -- Lists that go with the modules of a load.
 
@@ -57,6 +57,20 @@ zip_all P (q ∷ qs) (g ∷ gs) same all = (all (q, g) (inl refl), zip_all P qs 
 read_targets : (look : Lookup) (first : Given → Module) (fs : List Found) → map (λ (read : ModuleFile). map targets_of read.segments) (map (λ (f : Found). f.read) fs) ≡ targets_in look first fs
 read_targets look first [] = refl
 read_targets look first (f ∷ fs) = ap (λ ts. map targets_of f.read.segments ∷ ts) (read_targets look first fs)
+
+each_long : (modules : Modules) (first : Given → Module) → ((g : Given) → (first g).tables ≡ g.found.read.tables) → (place : ℕ) (fs : List Found) (hs : List ℕ) (ss : List (List ℕ)) (targets : List (List (List Target))) → length hs ≡ length fs → length ss ≡ length fs
+    → ((g : Given) → Member g (given_from place fs hs ss) → module_at modules g.handle ≡ Some (first g)) → AreTargets modules hs targets → AllZip (λ (f : Found) (ts : List (List Target)). length ts ≡ length f.read.tables.segments) fs targets
+each_long modules first tables place [] [] ss [] many long there are = tt
+each_long modules first tables place [] [] ss (ts ∷ targets) many long there are = are
+each_long modules first tables place [] (h ∷ hs) ss targets many long there are = absurd (omega arith)
+each_long modules first tables place (f ∷ fs) [] ss targets many long there are = absurd (omega arith)
+each_long modules first tables place (f ∷ fs) (h ∷ hs) [] targets many long there are = absurd (omega arith)
+each_long modules first tables place (f ∷ fs) (h ∷ hs) (s ∷ ss) [] many long there are = are
+each_long modules first tables place (f ∷ fs) (h ∷ hs) (s ∷ ss) (ts ∷ targets) many long there are =
+    let g : Given = record { place = place; found = f; handle = h; slots = s } in (
+      subst (λ (p : Option Module). IfSome p (λ m. length ts ≡ length m.tables.segments)) (there g (inl refl)) are.0 ∙ ap (λ (t : Tables). length t.segments) (tables g),
+      each_long modules first tables (place + 1) fs hs ss targets (omega arith) (omega arith) (λ x m. there x (inr m)) are.1,
+    )
 
 stored_in : (files : Files) (f : Found) (p : Option (List ℕ)) → file_of files f.file ≡ p → said p ≡ Ok f.read → (file : List ℕ) × (file_of files f.file ≡ Some file) × (ne_format file ≡ Ok f.read)
 stored_in files f None e h = absurd (not_ok h)
@@ -181,6 +195,93 @@ module _ (old : LoadingWorld) (meant : Closure) (handles : List ℕ) (mid : Load
         subst (λ k. LoadsClosed old meant (answer_in (of_fault f.place k)) (fold without_module (record mid { modules = modules }) handles)) (sym h.0) (inl (refl, taken_back is))
     unbound_load is before after binds.OutOfMemory h = tt
 
+  -- as many lists of targets as its segments
+  pub targets_long : (targets : List (List (List Target))) → AreTargets mid.modules handles targets → AllZip (λ (f : Found) (ts : List (List Target)). length ts ≡ length f.read.tables.segments) fs targets
+  targets_long targets are = each_long mid.modules first (λ g. refl) 0 fs choice.handles choice.slots targets many long
+      (λ g m. ap (λ ms. module_at ms g.handle) mid_modules ∙ here first g m) (subst (λ hs. AreTargets mid.modules hs targets) (sym u.handles) are)
+
+  -- Once they are bound, to targets that good files have.
+  module _ (is_file : (g : Given) → Member g gs → IsModuleFile g.found.read) (modules : Modules)
+      (b : modules ≡ all_bound (finmap.get mid.modules) mid.modules handles (map (λ (read : ModuleFile). map targets_of read.segments) reads)) where
+    abbrev done : Given → Module
+    done = bound old meant choice
+
+    bound_is : modules ≡ (named old meant choice).modules
+    bound_is =
+        b ∙ (λ i. all_bound (finmap.get (mid_modules i)) (mid_modules i) (sym u.handles i) (read_targets look first fs i))
+        ∙ all_bound_are look first 0 fs choice.handles choice.slots old.modules apart many long
+
+    there : (g : Given) → Member g gs → module_at modules g.handle ≡ Some (done g)
+    there g m = ap (λ ms. module_at ms g.handle) bound_is ∙ here done g m
+
+    values_long : (g : Given) → Member g gs → length (done g).values ≡ length (done g).tables.segments
+    values_long g m = length-map g.found.read.segments (λ s. map (value_of look (first g)) (targets_of s)) ∙ long_as _ g.found.read.tables.segments g.found.read.segments (is_file g m).segments
+
+    by_handle : (P : Module → ModuleFile → Type 0) → ((g : Given) → Member g gs → P (done g) g.found.read) → AllZip (λ h read. IsSomeAnd (module_at modules h) (λ m. P m read)) handles reads
+    by_handle P all = subst (λ hs. AllZip (λ h read. IsSomeAnd (module_at modules h) (λ m. P m read)) hs reads) u.handles (zipped (λ h read. IsSomeAnd (module_at modules h) (λ m. P m read)) 0 fs choice.handles choice.slots many long
+        (λ g m. subst (λ p. IsSomeAnd p (λ x. P x g.found.read)) (sym (there g m)) (all g m)))
+
+    pub are_read : AreReadAs modules handles reads
+    are_read = by_handle IsReadAs (λ g m. record { tables = refl; is_file = is_file g m; slots = given_long 0 fs choice.handles choice.slots u.is_choice.slots.many g m; values = values_long g m })
+
+    unfilled : (x : ℕ × Segment) → Member x (segments_of gs) → IsUnfilled mid.handles x.0 x.1
+    unfilled x m = subst (λ (w : LoadingWorld). IsUnfilled w.handles x.0 x.1) (sym u.after) (
+        let new = named_new old (segments_of gs) (given_slots_apart 0 fs choice.handles choice.slots (EachPair-from_AllPairs (λ (a b : ℕ). a ≢ b) (flat_map (λ s. s) choice.slots) u.is_choice.slots.apart)) x m in
+        record {
+          object = subst (λ p. IsSomeAnd p (λ (o : Object). (o.kind ≡ x.1.kind) × (o.bytes ≡ None))) (sym new.0) (refl, refl);
+          owned = subst (λ p. IsSomeAnd p (λ (w : Owned). w.size ≡ x.1.size)) (sym new.1) refl;
+        })
+
+    objects : (g : Given) → Member g gs → AllZip (IsUnfilled mid.handles) (done g).slots (done g).tables.segments
+    objects g m = zip_all (IsUnfilled mid.handles) g.slots g.found.read.tables.segments (given_long 0 fs choice.handles choice.slots u.is_choice.slots.many g m) (λ x n. unfilled x (given_segment gs g x m n))
+
+    pub are_unfilled : AreUnfilled modules mid.handles handles
+    are_unfilled = subst (AreUnfilled modules mid.handles) u.handles (record {
+      objects = All-from_recursion (λ h. IfSome (module_at modules h) (λ x. AllZip (IsUnfilled mid.handles) x.slots x.tables.segments)) choice.handles
+          (each_handle (λ h. IfSome (module_at modules h) (λ x. AllZip (IsUnfilled mid.handles) x.slots x.tables.segments)) 0 fs choice.handles choice.slots many long
+          (λ g m. subst (λ p. IfSome p (λ x. AllZip (IsUnfilled mid.handles) x.slots x.tables.segments)) (sym (there g m)) (objects g m)));
+      apart = subst (AllPairs (λ a b. a ≢ b)) (sym (slots_are done (λ g. refl) modules 0 fs choice.handles choice.slots many long there)) u.is_choice.slots.apart;
+    })
+
+    fills_same : fills_with modules 0 handles reads ≡ fills old meant choice
+    fills_same = ap (λ hs. fills_with modules 0 hs reads) (sym u.handles) ∙ fills_are done (λ g. refl) (λ g. refl) modules 0 fs choice.handles choice.slots there many long
+
+    -- and what is left once these are released
+    released : AreHandles old.handles → (heap : Heap) → fold without_module (record mid { modules = modules; handles = record mid.handles { heap = heap } }) handles ≡ undone old choice heap
+    released is heap =
+        (λ i. fold without_module (record (u.after i) { modules = bound_is i; handles = record (u.after i).handles { heap = heap } }) (sym u.handles i))
+        ∙ undone_by_release old meant choice done heap is u.is_choice (λ g. refl)
+
+    loaded_is : (heap : Heap) → record mid { modules = modules; handles = record mid.handles { heap = heap } } ≡ with_heap (named old meant choice) heap
+    loaded_is heap = λ i. record (u.after i) { modules = bound_is i; handles = record (u.after i).handles { heap = heap } }
+
+    module _ (gives : Giving) where
+      -- a load that has come so far fulfils the closure
+      fulfils : (failure : Option loading.Failure) (heap : Heap) → InTurn gives mid.handles.heap (fills_with modules 0 handles reads) failure heap
+          → (answer : Answer) (new : LoadingWorld) → answer ≡ outcome_of failure (slice_index_or handles 0 0) → new ≡ left failure (with_heap (named old meant choice) heap) (undone old choice heap)
+          → Fulfils gives old meant answer new
+      fulfils failure heap filled answer new answered after = record {
+        choice = choice;
+        is_choice = u.is_choice;
+        failure = failure;
+        heap = heap;
+        filled = subst (λ xs. InTurn gives (named old meant choice).handles.heap xs failure heap) fills_same
+            (subst (λ (w : LoadingWorld). InTurn gives w.handles.heap (fills_with modules 0 handles reads) failure heap) u.after filled);
+        answered = answered ∙ ap (λ hs. outcome_of failure (slice_index_or hs 0 0)) (sym u.handles);
+        after = after;
+      }
+
+      -- a load of which an object got no bytes
+      pub unfilled_load : AreHandles old.handles → (place : ℕ) (fault : FetchFault) (heap : Heap)
+          → InTurn gives mid.handles.heap (fills_with modules 0 handles reads) (Some (record { place = place; fault = fault })) heap
+          → Fulfils gives old meant (answer_in (of_fault place fault)) (fold without_module (record mid { modules = modules; handles = record mid.handles { heap = heap } }) handles)
+      unfilled_load is place fault heap filled = fulfils (Some (record { place = place; fault = fault })) heap filled (answer_in (of_fault place fault))
+          (fold without_module (record mid { modules = modules; handles = record mid.handles { heap = heap } }) handles) (refusal_is place fault) (released is heap)
+
+      pub filled_load : (heap : Heap) → InTurn gives mid.handles.heap (fills_with modules 0 handles reads) None heap
+          → Fulfils gives old meant (Says (slice_index_or handles 0 0)) (record mid { modules = modules; handles = record mid.handles { heap = heap } })
+      filled_load heap filled = fulfils None heap filled (Says (slice_index_or handles 0 0)) (record mid { modules = modules; handles = record mid.handles { heap = heap } }) refl (loaded_is heap)
+
   -- Over files of which each new module is.
   module _ (files : Files) (of_files : All (IsOfFile files) meant.found) where
     of_file : (g : Given) → Member g gs → IsOfFile files g.found
@@ -193,91 +294,12 @@ module _ (old : LoadingWorld) (meant : Closure) (handles : List ℕ) (mid : Load
     are_said = subst (λ hs. AreSaid files mid.modules hs reads) u.handles (zipped (λ h read. IsSomeAnd (module_at mid.modules h) (λ m. IsSaid files m read)) 0 fs choice.handles choice.slots many long
         (λ g m. subst (λ p. IsSomeAnd p (λ x. IsSaid files x g.found.read)) (sym (ap (λ ms. module_at ms g.handle) mid_modules ∙ here first g m)) (is_said g m)))
 
-    -- and once they are bound
+    pub are_files : (g : Given) → Member g gs → IsModuleFile g.found.read
+    are_files g m = let is = is_said g m in subst (λ r. MatchResult r IsModuleFile (λ answer. (11 ≤ answer) × (answer ≤ 14))) is.accepted (is_format is.file)
+
     module _ (modules : Modules) (b : modules ≡ all_bound (finmap.get mid.modules) mid.modules handles (map (λ (read : ModuleFile). map targets_of read.segments) reads)) where
-      abbrev done : Given → Module
-      done = bound old meant choice
-
-      pub bound_is : modules ≡ (named old meant choice).modules
-      bound_is =
-          b ∙ (λ i. all_bound (finmap.get (mid_modules i)) (mid_modules i) (sym u.handles i) (read_targets look first fs i))
-          ∙ all_bound_are look first 0 fs choice.handles choice.slots old.modules apart many long
-
-      there : (g : Given) → Member g gs → module_at modules g.handle ≡ Some (done g)
-      there g m = ap (λ ms. module_at ms g.handle) bound_is ∙ here done g m
-
-      is_file : (g : Given) → Member g gs → IsModuleFile g.found.read
-      is_file g m = let is = is_said g m in subst (λ r. MatchResult r IsModuleFile (λ answer. (11 ≤ answer) × (answer ≤ 14))) is.accepted (is_format is.file)
-
-      values_long : (g : Given) → Member g gs → length (done g).values ≡ length (done g).tables.segments
-      values_long g m = length-map g.found.read.segments (λ s. map (value_of look (first g)) (targets_of s)) ∙ long_as _ g.found.read.tables.segments g.found.read.segments (is_file g m).segments
-
-      by_handle : (P : Module → ModuleFile → Type 0) → ((g : Given) → Member g gs → P (done g) g.found.read) → AllZip (λ h read. IsSomeAnd (module_at modules h) (λ m. P m read)) handles reads
-      by_handle P all = subst (λ hs. AllZip (λ h read. IsSomeAnd (module_at modules h) (λ m. P m read)) hs reads) u.handles (zipped (λ h read. IsSomeAnd (module_at modules h) (λ m. P m read)) 0 fs choice.handles choice.slots many long
-          (λ g m. subst (λ p. IsSomeAnd p (λ x. P x g.found.read)) (sym (there g m)) (all g m)))
-
       pub still_said : AreSaid files modules handles reads
-      still_said = by_handle (IsSaid files) (λ g m. let is = is_said g m in record { file = is.file; stored = is.stored; accepted = is.accepted; tables = is.tables; sound = is.sound })
-
-      pub are_read : AreReadAs modules handles reads
-      are_read = by_handle IsReadAs (λ g m. record { tables = refl; is_file = is_file g m; slots = given_long 0 fs choice.handles choice.slots u.is_choice.slots.many g m; values = values_long g m })
+      still_said = by_handle are_files modules b (IsSaid files) (λ g m. let is = is_said g m in record { file = is.file; stored = is.stored; accepted = is.accepted; tables = is.tables; sound = is.sound })
 
       pub are_its_files : AreItsFiles modules handles reads
-      are_its_files = by_handle IsItsFiles (λ g m. record { tables = refl; values = sound_values (value_of look (first g)) g.found.read.segments (of_file g m).1 })
-
-      unfilled : (x : ℕ × Segment) → Member x (segments_of gs) → IsUnfilled mid.handles x.0 x.1
-      unfilled x m = subst (λ (w : LoadingWorld). IsUnfilled w.handles x.0 x.1) (sym u.after) (
-          let new = named_new old (segments_of gs) (given_slots_apart 0 fs choice.handles choice.slots (EachPair-from_AllPairs (λ (a b : ℕ). a ≢ b) (flat_map (λ s. s) choice.slots) u.is_choice.slots.apart)) x m in
-          record {
-            object = subst (λ p. IsSomeAnd p (λ (o : Object). (o.kind ≡ x.1.kind) × (o.bytes ≡ None))) (sym new.0) (refl, refl);
-            owned = subst (λ p. IsSomeAnd p (λ (w : Owned). w.size ≡ x.1.size)) (sym new.1) refl;
-          })
-
-      objects : (g : Given) → Member g gs → AllZip (IsUnfilled mid.handles) (done g).slots (done g).tables.segments
-      objects g m = zip_all (IsUnfilled mid.handles) g.slots g.found.read.tables.segments (given_long 0 fs choice.handles choice.slots u.is_choice.slots.many g m) (λ x n. unfilled x (given_segment gs g x m n))
-
-      pub are_unfilled : AreUnfilled modules mid.handles handles
-      are_unfilled = subst (AreUnfilled modules mid.handles) u.handles (record {
-        objects = All-from_recursion (λ h. IfSome (module_at modules h) (λ x. AllZip (IsUnfilled mid.handles) x.slots x.tables.segments)) choice.handles
-            (each_handle (λ h. IfSome (module_at modules h) (λ x. AllZip (IsUnfilled mid.handles) x.slots x.tables.segments)) 0 fs choice.handles choice.slots many long
-            (λ g m. subst (λ p. IfSome p (λ x. AllZip (IsUnfilled mid.handles) x.slots x.tables.segments)) (sym (there g m)) (objects g m)));
-        apart = subst (AllPairs (λ a b. a ≢ b)) (sym (slots_are done (λ g. refl) modules 0 fs choice.handles choice.slots many long there)) u.is_choice.slots.apart;
-      })
-
-      fills_same : fills_with modules 0 handles reads ≡ fills old meant choice
-      fills_same = ap (λ hs. fills_with modules 0 hs reads) (sym u.handles) ∙ fills_are done (λ g. refl) (λ g. refl) modules 0 fs choice.handles choice.slots there many long
-
-      -- and what is left once these are released
-      pub released : AreHandles old.handles → (heap : Heap) → fold without_module (record mid { modules = modules; handles = record mid.handles { heap = heap } }) handles ≡ undone old choice heap
-      released is heap =
-          (λ i. fold without_module (record (u.after i) { modules = bound_is i; handles = record (u.after i).handles { heap = heap } }) (sym u.handles i))
-          ∙ undone_by_release old meant choice done heap is u.is_choice (λ g. refl)
-
-      pub loaded_is : (heap : Heap) → record mid { modules = modules; handles = record mid.handles { heap = heap } } ≡ with_heap (named old meant choice) heap
-      loaded_is heap = λ i. record (u.after i) { modules = bound_is i; handles = record (u.after i).handles { heap = heap } }
-
-      -- a load that has come so far fulfils the closure
-      pub fulfils : (failure : Option loading.Failure) (heap : Heap) → InTurn (FillsOne is_of_device) mid.handles.heap (fills_with modules 0 handles reads) failure heap
-          → (answer : Answer) (new : LoadingWorld) → answer ≡ outcome_of failure (slice_index_or handles 0 0) → new ≡ left failure (with_heap (named old meant choice) heap) (undone old choice heap)
-          → Fulfils (FillsOne is_of_device) old meant answer new
-      fulfils failure heap filled answer new answered after = record {
-        choice = choice;
-        is_choice = u.is_choice;
-        failure = failure;
-        heap = heap;
-        filled = subst (λ xs. InTurn (FillsOne is_of_device) (named old meant choice).handles.heap xs failure heap) fills_same
-            (subst (λ (w : LoadingWorld). InTurn (FillsOne is_of_device) w.handles.heap (fills_with modules 0 handles reads) failure heap) u.after filled);
-        answered = answered ∙ ap (λ hs. outcome_of failure (slice_index_or hs 0 0)) (sym u.handles);
-        after = after;
-      }
-
-      -- a load of which an object got no bytes
-      pub unfilled_load : AreHandles old.handles → (place : ℕ) (fault : FetchFault) (heap : Heap)
-          → InTurn (FillsOne is_of_device) mid.handles.heap (fills_with modules 0 handles reads) (Some (record { place = place; fault = fault })) heap
-          → LoadsClosed old meant (answer_in (of_fault place fault)) (fold without_module (record mid { modules = modules; handles = record mid.handles { heap = heap } }) handles)
-      unfilled_load is place fault heap filled = inr (inr (fulfils (Some (record { place = place; fault = fault })) heap filled (answer_in (of_fault place fault))
-          (fold without_module (record mid { modules = modules; handles = record mid.handles { heap = heap } }) handles) (refusal_is place fault) (released is heap)))
-
-      pub filled_load : (heap : Heap) → InTurn (FillsOne is_of_device) mid.handles.heap (fills_with modules 0 handles reads) None heap
-          → Fulfils (FillsOne is_of_device) old meant (Says (slice_index_or handles 0 0)) (record mid { modules = modules; handles = record mid.handles { heap = heap } })
-      filled_load heap filled = fulfils None heap filled (Says (slice_index_or handles 0 0)) (record mid { modules = modules; handles = record mid.handles { heap = heap } }) refl (loaded_is heap)
+      are_its_files = by_handle are_files modules b IsItsFiles (λ g m. record { tables = refl; values = sound_values (value_of look (first g)) g.found.read.segments (of_file g m).1 })

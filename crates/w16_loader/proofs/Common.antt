@@ -5,7 +5,7 @@ pub use Rattle.std.proofs.Math.Seq.{take-length}
 pub use Rattle.std.proofs.lemmas.Iterator.Adapters.{YieldsList-from_vec}
 pub use Rattle.std.proofs.lemmas.Iterator.Consumers.{YieldsList-end, YieldsList-from_enumerate, YieldsList-turn}
 pub use Rattle.std.proofs.lemmas.List.{drop-append-le, drop_more, get_or-append_right, get_or-map, get_or-replicate, get_or-set_other, get_or-set_same, get_or_append_left, get_or_default, get_or_past, length-append, length-replicate, length-set, length_push, map-append, map_more, map_push, set-get_or, take-append-le, take_all, take_at, take_more, take_more_set}
-pub use Rattle.std.proofs.lemmas.List.Elements.{All-from_recursion, All-replicate}
+pub use Rattle.std.proofs.lemmas.List.Elements.{All-from_recursion, All-push, All-replicate}
 pub use Rattle.std.proofs.lemmas.List.FromFn.{get_or-enumerate_from, length-enumerate_from}
 pub use Rattle.std.proofs.lemmas.Option.{get_or_from_slice_get, slice_get_cases, slice_get_within}
 pub use Rattle.std.specs.Cmp.{nat_cmp_is}
@@ -24,16 +24,16 @@ pub use Rattle.w16_format.proofs.Relocated.{is_relocated, words_same}
 pub use Rattle.w16_format.specs.Data.{target_of}
 pub use Rattle.w16_global.proofs.Common.{Global, IfNone, Lends, OnOk, cases_lt, common_steps, get-by_id, le-ltb, length-repeated, without_slot}
 pub use Rattle.w16_global.specs.Owned.{LacksBytes}
-pub use Rattle.w16_loader.specs.AnyClosing.{AreGood, Begins, ClosesAny, IsFoundOf, IsGood, IsSomeClosure, LeadsAny, any_format, closed_of, reached_of, said_by}
+pub use Rattle.w16_loader.specs.AnyClosing.{AreGood, Begins, ClosesAny, IsAlike, IsFoundOf, IsGood, IsSomeClosure, LeadsAny, any_format, closed_of, reached_of, said_by}
 pub use Rattle.w16_loader.specs.Binding.{AreSaid, AreTargets, AreValuesOf, IsBindFailure, IsFailure, IsForEach, IsSaid, IsStoredAs, all_bound, bound_as, fault_of_name, values_for, with_values}
-pub use Rattle.w16_loader.specs.Closing.{Files, IsFault, IsNewOrMeant, IsRead, IsThere, IsUnsound, around_in, fault_of, fault_of_check, found_in, meant_in, read_in, reading_in, reading_of, referent_of, said}
+pub use Rattle.w16_loader.specs.Closing.{Files, IsFault, IsNewOrMeant, IsRead, IsSmall, IsThere, IsUnsound, around_in, fault_of, fault_of_check, found_in, meant_in, read_in, reading_in, reading_of, referent_of, said}
 pub use Rattle.w16_loader.specs.Entries.{named_of}
 pub use Rattle.w16_loader.specs.Fetching.{GivesBytes, IsFetchable, IsSoundIn, IsSourceOf, IsWritten, fault_in, image_in, in_parts}
 pub use Rattle.w16_loader.specs.Filling.{AreItsFiles, AreReadAs, AreUnfilled, HasUnfilled, IsReadAs, IsUnfilled, Part, failure_at, fills_in, fills_of_part, fills_with, slots_at}
 pub use Rattle.w16_loader.specs.Following.{FindsFew, Leads, LeadsByFile, LeadsByName, LeadsSomewhere, bound_in, closed_in, found_after, left_from, pending_in, reached, references_at, references_from, references_of, referent_after, with_followed}
 pub use Rattle.w16_loader.specs.Idle.{first_unused, imports_in, is_imported, is_unused}
-pub use Rattle.w16_loader.specs.Loading.{IsOfFile, LoadsClosed, LoadsCounted, answer_in, failed_by, in_store, is_application, of_fault, refused_by}
-pub use Rattle.w16_loader.specs.Naming.{GetNames, GetsName, IsClosureOf, IsUnbound, Takes, free_handles, imports_among, unbound_by}
+pub use Rattle.w16_loader.specs.Loading.{IsGivenAny, IsOfFile, LoadsAny, LoadsClosed, LoadsCounted, answer_in, failed_by, in_store, is_application, of_fault, refused_by}
+pub use Rattle.w16_loader.specs.Naming.{AreFit, AreUnbound, GetNames, GetsName, IsClosureOf, IsFit, IsUnbound, Takes, free_handles, imports_among, unbound_by}
 pub use Rattle.w16_loader.specs.Registry.{IsTable, first_named, in_world, listed, registered}
 pub use Rattle.w16_loader.specs.declared.binding.BindFault.{BindFault}
 pub use Rattle.w16_loader.specs.declared.closure.Bound.{Bound}
@@ -50,7 +50,7 @@ pub use Rattle.w16_loading.proofs.Absences.{none_gone, same_values}
 pub use Rattle.w16_loading.proofs.Bound.{world_without}
 pub use Rattle.w16_loading.proofs.Cascade.{gone_with, went}
 pub use Rattle.w16_loading.proofs.CodeLoads.{sound_values}
-pub use Rattle.w16_loading.proofs.Common.{All, All-from_Each, All-repeated, AllPairs-from_EachPair, AllZip, AllZip-left, Allocates, Answer, AnyCloses, AnyFetches, AreHandles, AreNew, AreSlots, Around, Bool, BuiltIn, Choice, Closes, Closure, Each-at, Each-from, Each-from_All, EachPair, EachPair-from_AllPairs, Failure, Far, Filling, Fills, FillsOne, FinMap, Format, Fulfils, Given, GivesAny, Giving, Go, Handles, Heap, IfOk, IfSome, Import, ImportName, InTurn, Internal, InternalEntry, IsChoice, IsFormat, IsFreeModule, IsFreeSlot, IsHeap, IsItsFiles, IsKeptOrDiscarded, IsModuleFile, IsNew, IsObjectOf, IsOwnedSize, IsSegmentData, IsSomeAnd, IsTrue, List, Loaded, LoadingWorld, Loads, LoadsBy, LoadsFile, LoadsNew, Lookup, MatchOption, MatchResult, Meant, Member, Module, ModuleFile, Modules, Named, New, Object, Read, Refused, Request, Resource, Says, Segment, SegmentData, Tables, Target, There, [], address_at, after_use, after_write, all_slots, and_parts, ap, append-nil, append_assoc, are_sound, arith, around, begun, bound, bytes_at, cases_Bool, cases_eq, cond, count_by, discarded, discards_needed, dll, drop, drop_all, eq-eqb, false, false≢true, fills, fills_from, fills_of, filter, flat_map, fold, followed, free_slots, get_or, given, given_from, handle_meant, handle_named, handle_of, heap_without, if◌then◌else◌, imported, importers_among, imports, inl, inr, inserted_here, inserted_other, is_fixed, is_idle, is_in_order, is_member, is_member-true, is_of_device, is_of_read, is_owned, is_some, left, length, length-drop, length-map, length-take-le, list_all, ltb-false, ltb-true, map, member_filter, module_at, module_in, name_of, named, nat_cmp, nat_cmp-IsAntisymmetric, nat_cmp_total, nat_lt, ne_eqb, not, numbered, object_at, option_map, option_or, outcome_of, owned_at, pairs_filter, position, position_or_len, range_with_len, read_of, refl, refusal_of, replicate, revival_options, rounded_size, same_map, segment_among, segment_bytes, segments_in, segments_of, slice_get, slice_get-get_or, slice_index, slice_index_or, slot_of_handle, subst, suc, sum_by-cons, sym, take, taken_here, taken_other, targets_of, true, true-is_member, unbound, undone, unwrap_or, usage_with, used_again, used_less, with_files, with_heap, with_modules, with_newest, with_object, with_segment, without_module, without_objects, without_values, zero, zip, ℕ, ◌%◌, ◌&&◌, ◌++◌, ◌+◌, ◌-◌, ◌/◌, ◌<◌, ◌==◌, ◌||◌, ◌∙◌, ◌∷◌, ◌≡◌, ◌≢◌, ◌≤◌, ◌⊎◌}
+pub use Rattle.w16_loading.proofs.Common.{All, All-from_Each, All-repeated, AllPairs-from_EachPair, AllZip, AllZip-left, Allocates, Answer, AnyCloses, AnyFetches, AnyLoadsBy, AreHandles, AreNew, AreSlots, Around, Bool, BuiltIn, Choice, Closes, Closure, Each-at, Each-from, Each-from_All, EachPair, EachPair-from_AllPairs, Failure, Far, FetchesFewest, Filling, Fills, FillsOne, FinMap, Format, Fulfils, Given, GivesAny, GivesAnyFewest, Giving, Go, Handles, Heap, IfOk, IfSome, Import, ImportName, InTurn, Internal, InternalEntry, IsChoice, IsFormat, IsFreeModule, IsFreeSlot, IsHeap, IsItsFiles, IsKeptOrDiscarded, IsModuleFile, IsNew, IsObjectOf, IsOwnedSize, IsSegmentData, IsSomeAnd, IsTrue, List, Loaded, LoadingWorld, Loads, LoadsBy, LoadsFile, LoadsNew, Lookup, MatchOption, MatchResult, Meant, Member, Module, ModuleFile, Modules, Named, New, Object, Read, Refused, Request, Resource, Says, Segment, SegmentData, Tables, Target, There, [], address_at, after_use, after_write, all_slots, and_parts, ap, append-nil, append_assoc, are_sound, arith, around, begun, bound, bytes_at, cases_Bool, cases_eq, cond, count_by, discarded, discards_needed, dll, drop, drop_all, eq-eqb, false, false≢true, fills, fills_from, fills_of, filter, flat_map, fold, followed, free_slots, get_or, given, given_from, handle_meant, handle_named, handle_of, heap_without, if◌then◌else◌, imported, importers_among, imports, inl, inr, inserted_here, inserted_other, is_fixed, is_idle, is_in_order, is_member, is_member-true, is_of_device, is_of_read, is_owned, is_some, left, length, length-drop, length-map, length-take-le, list_all, ltb-false, ltb-true, map, member_filter, module_at, module_in, name_of, named, nat_cmp, nat_cmp-IsAntisymmetric, nat_cmp_total, nat_lt, ne_eqb, not, numbered, object_at, option_map, option_or, outcome_of, owned_at, pairs_filter, position, position_or_len, range_with_len, read_of, refl, refusal_of, replicate, revival_options, rounded_size, same_map, segment_among, segment_bytes, segments_in, segments_of, slice_get, slice_get-get_or, slice_index, slice_index_or, slot_of_handle, subst, suc, sum_by-cons, sym, take, taken_here, taken_other, targets_of, true, true-is_member, unbound, undone, unwrap_or, usage_with, used_again, used_less, with_files, with_heap, with_modules, with_newest, with_object, with_segment, without_module, without_objects, without_values, zero, zip, ℕ, ◌%◌, ◌&&◌, ◌++◌, ◌+◌, ◌-◌, ◌/◌, ◌<◌, ◌==◌, ◌||◌, ◌∙◌, ◌∷◌, ◌≡◌, ◌≢◌, ◌≤◌, ◌⊎◌}
 unfoldable pub use Rattle.w16_loading.proofs.Common.{file_of, is_named, repeated}
 pub use Rattle.w16_loading.proofs.Filled.{fill_law}
 pub use Rattle.w16_loading.proofs.Fillings.{filled_other}

@@ -29,4 +29,5 @@ pub mod NameSteps
 pub mod Imports
 pub mod Closed
 pub mod Loads
+pub mod AnyLoads
 pub mod UsedAgain

@@ -1,8 +1,6 @@
 -- What a load comes to, by what its file says and by what its closure is.
-use Rattle.w16_loader.proofs.Common.{◌≡◌, ℕ, ◌<◌, ◌≤◌, inl, inr, Bool, true, List, [], ◌∷◌, length, map, All, Option, Some, None, IfOk, Result, Ok, Err, MatchResult, option_map, ◌⊎◌, refl, sym, ap, ◌∙◌, subst, arith, AllZip, option_or, AllocError, All-from_recursion, file_of, Handles, Format, ModuleFile, FillsOne, is_of_device, LoadingWorld, Modules, handle_named, Closes, begun, around, are_sound, There, New, Refused, Meant, Read, Answer, Loads, LoadsBy, LoadsFile, LoadsNew, used_again, Says, StoreFails, read_by, read_cases, ne_format, Found, FileFault, LoadAnswer, Files, IsFault, around_in, found_in, reading_in, said, closed_in, IsFoundOf, IsClosureOf, LoadsCounted, LoadsClosed, IsOfFile, answer_in, in_store, refused_by}
+use Rattle.w16_loader.proofs.Common.{◌≡◌, ℕ, ◌<◌, ◌≤◌, inl, inr, Bool, List, [], ◌∷◌, map, All, Option, Some, None, IfOk, Result, Ok, Err, ◌⊎◌, refl, sym, ap, subst, arith, AllZip, AllocError, All-from_recursion, file_of, Handles, ModuleFile, FillsOne, is_of_device, LoadingWorld, Modules, Closes, begun, Read, Answer, Loads, LoadsFile, Says, StoreFails, read_by, ne_format, Found, FileFault, LoadAnswer, Files, IsFault, around_in, found_in, reading_in, said, closed_in, IsFoundOf, IsClosureOf, LoadsCounted, LoadsClosed, IsOfFile, answer_in, in_store, refused_by}
 use Rattle.std.specs.List.{AllByRecursion as Each}
-use Rattle.std.specs.FinMap as finmap
-use Rattle.w16_ne.specs.Modules as ne
 use Rattle.w16_loading.specs.Closure as closing
 use Rattle.w16_loading.proofs.CodeLoads as CodeLoads
 use Rattle.w16_loader.specs.declared.found.FileFault.TheVariants as faults
@@ -32,21 +30,11 @@ module _ (rest : LoadingWorld) (modules : Modules) (handles : Handles) (files : 
     says_not : (word : ℕ) → Says word ≡ StoreFails → before < after
     says_not word e = cc
 
-    -- a module is there
-    pub again : (is_load_module : Bool) (handle word : ℕ) → reading_in {A = Unit {0}} modules files [] file ≡ Meant (There handle)
-        → used_again is_load_module old handle (finmap.get modules handle) ≡ (Says word, in_store rest next others files before)
-        → LoadsCounted ne_format is_load_module old file (Says word) (in_store rest next others same after)
-    again is_load_module handle word is used = counts is_load_module (Says word) (says_not word) (by_reading is_load_module (Meant (There handle)) (Says word) (in_store rest next others files before) is (inr (sym used)))
-
     -- a new module, whose closure is refused
     pub unclosed : (is_load_module : Bool) (read : ModuleFile) (number : ℕ) → reading_in {A = Unit {0}} modules files [] file ≡ Read read
         → Closes ne_format (around_in modules files) (begun file read) (Err number) → in_store rest next others files before ≡ old
         → LoadsCounted ne_format is_load_module old file (Says number) (in_store rest next others same after)
     unclosed is_load_module read number is closes nothing = counts is_load_module (Says number) (says_not number) (by_reading is_load_module (Read read) (Says number) (in_store rest next others files before) is (inr (Err number, closes, (refl, nothing))))
-
-    pub refused : (is_load_module : Bool) (number : ℕ) → reading_in {A = Unit {0}} modules files [] file ≡ Refused number → in_store rest next others files before ≡ old
-        → LoadsCounted ne_format is_load_module old file (Says number) (in_store rest next others same after)
-    refused is_load_module number is nothing = counts is_load_module (Says number) (says_not number) (by_reading is_load_module (Refused number) (Says number) (in_store rest next others files before) is (inr (refl, nothing)))
 
     pub failed : (is_load_module : Bool) → before < after → in_store rest next others files before ≡ old → LoadsCounted ne_format is_load_module old file StoreFails (in_store rest next others same after)
     failed is_load_module more nothing = counts is_load_module StoreFails (λ _. more) (inl (refl, nothing))
@@ -59,13 +47,6 @@ module _ (rest : LoadingWorld) (modules : Modules) (handles : Handles) (files : 
     closed is_load_module read closure answer is closes failed (inr new) = counts is_load_module answer failed (by_reading is_load_module (Read read) answer (in_store rest next others files before) is (inr (Ok closure, closes, new)))
 
     -- A load that fails before its closure is known, by the fault.
-
-    pub refused_load : (is_load_module : Bool) (fault : FileFault) → in_store rest next others files before ≡ old
-        → IsFault (λ number. reading_in {A = Unit {0}} modules files [] file ≡ Refused number) before after fault
-        → IfOk (refused_by fault) (λ answer. LoadsCounted ne_format is_load_module old file (answer_in answer) (in_store rest next others same after))
-    refused_load is_load_module (faults.Refused number) nothing is = refused is_load_module number is nothing
-    refused_load is_load_module faults.Device nothing more = failed is_load_module more nothing
-    refused_load is_load_module faults.OutOfMemory nothing none = tt
 
     pub refused_closure : (fault : FileFault) (read : ModuleFile) → in_store rest next others files before ≡ old → reading_in {A = Unit {0}} modules files [] file ≡ Read read
         → IsFault (λ number. Closes ne_format (around_in modules files) (begun file read) (Err number)) before after fault
@@ -81,18 +62,6 @@ module _ (rest : LoadingWorld) (modules : Modules) (handles : Handles) (files : 
         → IfOk result (λ answer. (is_load_module : Bool) → LoadsCounted ne_format is_load_module old file (answer_in answer) (in_store rest next others same after))
     closed_load read closure is closes (Ok answer) fails loads = λ is_load_module. closed is_load_module read closure (answer_in answer) is closes fails loads
     closed_load read closure is closes (Err e) fails loads = tt
-
--- Where no module was found yet, no name means a new one.
-none_new : (named : Option ℕ) (place : ℕ) → ◌≡◌ {A = Option closing.Referent} (option_or (option_map There named) None) (Some (New place)) → ⊥
-none_new None place e = cc
-none_new (Some handle) place e = cc
-
-new_meant : (place : ℕ) (referent : closing.Referent) → ◌≡◌ {A = closing.Reading} (Meant referent) (Meant (New place)) → referent ≡ New place
-new_meant place referent e = cc
-
-pub means_there : (modules : Modules) (files : Files) (file : List ℕ) (place : ℕ) → reading_in {A = Unit {0}} modules files [] file ≡ Meant (New place) → ⊥
-means_there modules files file place is = read_cases ne_format (around_in modules files) (λ r. r ≡ Meant (New place) → ⊥) [] file (λ number lt e. cc) (λ bytes number unread e. cc)
-    (λ read referent meant e. none_new (handle_named modules read.tables.name) place (meant ∙ ap Some (new_meant place referent e))) (λ read r e. cc) is
 
 -- The closure that the code made, as loading has it.
 module _ {A : Type 0} (files : Files) (made : Closure A) where

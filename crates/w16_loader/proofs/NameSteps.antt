@@ -1,8 +1,9 @@
 -- Steps of naming as the code takes them.
-use Rattle.w16_loader.proofs.Common.{◌≡◌, ◌≢◌, ℕ, zero, suc, inl, inr, ◌+◌, ◌<◌, ◌≤◌, ◌==◌, if◌then◌else◌, List, [], ◌∷◌, ◌++◌, length, get_or, set, map, fold, zip, take, slice_get, Some, None, false, ◌/◌, All, AllPairs, refl, sym, ap, ◌∙◌, subst, add-one, arith, AllZip, enumerate_from, length-take-le, length-map, take_all, take_more_set, length-enumerate_from, get_or-enumerate_from, slice_get-get_or, Kind, Fixed, Moveable, Discardable, Owned, HasNoSlot, with_object, TakesOwned, is_member, Handles, AreHandles, IsFreeSlot, handle_of, Member, EachPair, Each-at, Each-from_All, All-from_Each, EachPair-from_AllPairs, Global, Segment, Tables, LoadingWorld, Module, Modules, IsFreeModule, with_handles, Loaded, free_slots, segments_in, with_segment, Given, given_from, without_objects, without_module, empty_loading_world, given_handle, put_all, segment_in, tables_in, Found, found_in, in_world, IsFoundOf, Takes, GetsName, GetNames, unbound_by}
+use Rattle.w16_loader.proofs.Common.{◌≡◌, ◌≢◌, ℕ, zero, suc, inl, inr, ◌+◌, ◌<◌, ◌≤◌, ◌==◌, if◌then◌else◌, List, [], ◌∷◌, ◌++◌, length, get_or, set, map, fold, zip, take, slice_get, Some, None, false, ◌/◌, All, AllPairs, refl, sym, ap, ◌∙◌, subst, add-one, arith, AllZip, enumerate_from, length-take-le, length-map, take_all, take_more_set, length-enumerate_from, get_or-enumerate_from, slice_get-get_or, Kind, Fixed, Moveable, Discardable, Owned, HasNoSlot, with_object, TakesOwned, is_member, Handles, AreHandles, IsFreeSlot, handle_of, Member, EachPair, Each-at, Each-from_All, All-from_Each, EachPair-from_AllPairs, Global, Segment, Tables, LoadingWorld, Module, Modules, IsFreeModule, with_handles, Loaded, free_slots, segments_in, with_segment, Given, given_from, without_objects, without_module, empty_loading_world, given_handle, put_all, segment_in, tables_in, Found, found_in, in_world, IsFoundOf, Takes, GetsName, GetNames, unbound_by, All-push, IsSized, IsFit, SEGMENT_UNIT, LARGEST_SEGMENT, LARGEST_OWNED, ◌*◌, ◌%◌}
 use Rattle.std.specs.List.{AllByRecursion as Each}
 use Rattle.std.specs.FinMap as finmap
 use Rattle.w16_loading.specs.Closure as closing
+use Rattle.w16_ne.specs.declared.segment_table.Segment as ne
 use Rattle.w16_loader.proofs.Takings.{takes_more, takes_back, fewer_slots, no_free_slots, zip_long}
 use Rattle.w16_loader.proofs.Namings.{one_more, names_back, slots_left, segments_before}
 use Rattle.w16_loader.proofs.FreeHandles.{all_of_first, apart_of_first}
@@ -51,6 +52,28 @@ few_more slots i s lt few one =
     subst (All (λ q. q < 8192)) (sym (take_more_set slots i s lt))
     (All-from_Each (λ q. q < 8192) (take i slots ++ s ∷ []) (each_more (λ q. q < 8192) (take i slots) s (Each-from_All (λ q. q < 8192) (take i slots) few) one))
 
+first_more : {X : Type 0} (xs : List X) (k : ℕ) (x : X) → slice_get xs k ≡ Some x → take (k + 1) xs ≡ take k xs ++ x ∷ []
+first_more {X} xs k x e = ap (λ n. take n xs) (add-one k) ∙ from xs k e
+  where
+    from : (xs : List X) (k : ℕ) → slice_get xs k ≡ Some x → take (suc k) xs ≡ take k xs ++ x ∷ []
+    from [] k e = cc
+    from (y ∷ xs) zero e = let same : y ≡ x = cc in (λ i. same i ∷ [])
+    from (y ∷ xs) (suc k) e = ap (λ (r : List X). y ∷ r) (from xs k e)
+
+-- segments that were read have sizes that fit
+pub fits : (s : ne.Segment) → IsSized s → IsFit (segment_in s)
+fits s is =
+    let unit : SEGMENT_UNIT ≡ 32 = refl in
+    let largest : LARGEST_SEGMENT ≡ 65536 = refl in
+    let owned : LARGEST_OWNED ≡ 65536 = refl in
+    record { some = omega (arith, is.some, unit); small = omega (arith, is.small, largest, owned); rounded = (s.size / 32, size_whole s.size is.whole) }
+  where
+    size_whole : (n : ℕ) → n % 32 ≡ 0 → n ≡ 32 * (n / 32)
+    size_whole n e = omega (arith, e)
+
+pub fit_more : (gs : List Segment) (i : ℕ) (g : Segment) → slice_get gs i ≡ Some g → All IsFit (take i gs) → IsFit g → All IsFit (take (i + 1) gs)
+fit_more gs i g e all one = subst (All IsFit) (sym (first_more gs i g e)) (All-push IsFit (take i gs) g all one)
+
 -- objects that were taken go again
 pub all_back : (old between new : Handles) (slots : List ℕ) (gs : List Segment) → AreHandles old → length slots ≤ length gs → ((world : LoadingWorld) → Takes (with_handles world old) (zip slots gs) (with_handles world between))
     → ((world : LoadingWorld) → with_handles world new ≡ without_objects (λ q. is_member q slots) (with_handles world between)) → new ≡ old
@@ -67,24 +90,17 @@ too_few old now slots gs lt taken none =
 
 -- One module.
 
-pub module_named : (rest : LoadingWorld) (old between new : Handles) (before after : Modules) (handle : ℕ) (m : Module) → length m.slots ≡ length m.tables.segments
+pub module_named : (rest : LoadingWorld) (old between new : Handles) (before after : Modules) (handle : ℕ) (m : Module) → length m.slots ≡ length m.tables.segments → All IsFit m.tables.segments
     → ((world : LoadingWorld) → Takes (with_handles world old) (zip m.slots m.tables.segments) (with_handles world between)) → new ≡ between → after ≡ finmap.insert before handle (Loaded m)
     → GetsName (in_world (with_handles rest old) before) handle m (in_world (with_handles rest new) after)
-module_named rest old between new before after handle m many taken same put = record {
+module_named rest old between new before after handle m many fit taken same put = record {
   many = many;
+  fit = fit;
   taken = subst (λ (h : Handles). Takes (in_world (with_handles rest old) before) (zip m.slots m.tables.segments) (in_world (with_handles rest h) before)) (sym same) (taken (in_world rest before));
   named = put;
 }
 
 -- Modules one after another.
-
-first_more : {X : Type 0} (xs : List X) (k : ℕ) (x : X) → slice_get xs k ≡ Some x → take (k + 1) xs ≡ take k xs ++ x ∷ []
-first_more {X} xs k x e = ap (λ n. take n xs) (add-one k) ∙ from xs k e
-  where
-    from : (xs : List X) (k : ℕ) → slice_get xs k ≡ Some x → take (suc k) xs ≡ take k xs ++ x ∷ []
-    from [] k e = cc
-    from (y ∷ xs) zero e = let same : y ≡ x = cc in (λ i. same i ∷ [])
-    from (y ∷ xs) (suc k) e = ap (λ (r : List X). y ∷ r) (from xs k e)
 
 module _ {A : Type 0} where
   pub facing : (found : List (Found A)) (meant : List closing.Found) (k : ℕ) (f : Found A) → AllZip IsFoundOf found meant → slice_get found k ≡ Some f → (m : closing.Found) × (slice_get meant k ≡ Some m) × IsFoundOf f m

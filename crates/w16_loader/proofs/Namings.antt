@@ -1,5 +1,5 @@
 -- New modules that get names, one after another.
-use Rattle.w16_loader.proofs.Common.{◌≡◌, ◌≢◌, ℕ, zero, suc, ◌+◌, ◌<◌, ◌≤◌, inl, inr, List, [], ◌∷◌, ◌++◌, length, map, fold, flat_map, zip, take, slice_get, Some, All, AllPairs, refl, sym, ap, ◌∙◌, subst, arith, append-nil, append_assoc, map-append, sum_by-cons, AreHandles, IsFreeSlot, Member, EachPair, All-from_Each, AllPairs-from_EachPair, Segment, LoadingWorld, Module, Modules, IsFreeModule, Loaded, Closure, AreSlots, Choice, IsChoice, Given, given_from, segments_in, segments_of, unbound, with_modules, with_segment, free_slots, without_module, given_index, undone_law, Takes, GetsName, GetNames, IsUnbound, imports_among, unbound_by}
+use Rattle.w16_loader.proofs.Common.{◌≡◌, ◌≢◌, ℕ, zero, suc, ◌+◌, ◌<◌, ◌≤◌, inl, inr, List, [], ◌∷◌, ◌++◌, length, map, fold, flat_map, zip, take, slice_get, Some, All, AllPairs, refl, sym, ap, ◌∙◌, subst, arith, append-nil, append_assoc, map-append, sum_by-cons, AreHandles, IsFreeSlot, Member, EachPair, All-from_Each, AllPairs-from_EachPair, Segment, LoadingWorld, Module, Modules, IsFreeModule, Loaded, Closure, AreSlots, Choice, IsChoice, Given, given_from, segments_in, segments_of, unbound, with_modules, with_segment, free_slots, without_module, given_index, undone_law, Takes, GetsName, GetNames, IsUnbound, imports_among, unbound_by, All-nil, All-push, IsFit}
 use Rattle.std.proofs.Common.{length-append}
 use Rattle.std.specs.List.{AllByRecursion as Each}
 use Rattle.std.specs.FinMap as finmap
@@ -37,7 +37,7 @@ many_more (g ∷ fs) (t ∷ ss) f s many long = (many.0, many_more fs ss f s man
 
 -- no module has one yet
 pub none_named : (old : LoadingWorld) (module_of : Given → Module) → GetNames old module_of [] [] old
-none_named old module_of = record { slots = []; many = tt; taken = refl; named = refl }
+none_named old module_of = record { slots = []; many = tt; fit = All-nil (λ (f : Found). All IsFit f.read.tables.segments); taken = refl; named = refl }
 
 module _ (imports : ℕ → List ℕ) where
   abbrev module_of : Given → Module
@@ -48,6 +48,7 @@ module _ (imports : ℕ → List ℕ) where
   one_more old now next fs hs place f h s same at names one = record {
     slots = names.slots ++ s ∷ [];
     many = many_more fs names.slots f s names.many one.many;
+    fit = All-push (λ (x : Found). All IsFit x.read.tables.segments) fs f names.fit one.fit;
     taken = subst (λ (xs : List (ℕ × Segment)). Takes old xs (record next { modules = old.modules })) (sym segments)
         (takes_then (segments_of gs) (zip s f.read.tables.segments) old (record now { modules = old.modules }) (record next { modules = old.modules }) names.taken
         (takes_beside old.modules (zip s f.read.tables.segments) now (record next { modules = now.modules }) one.taken));
@@ -158,6 +159,7 @@ unbound_named old now closure hs imports same free apart means names = record {
   choice = chosen;
   is_choice = is_choice old (unbound_by imports) closure.found hs now same names free apart;
   handles = refl;
+  fit = names.fit;
   after = all_named old (unbound_by imports) closure.found hs now same names
       ∙ ap (λ (m : Modules). record (fold with_segment old (segments_of gs)) { modules = m }) (modules_same (unbound_by imports) (unbound closure chosen) gs old.modules alike);
 }

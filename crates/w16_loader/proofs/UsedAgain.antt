@@ -1,5 +1,5 @@
 -- One more load of what is there already.
-use Rattle.w16_loader.proofs.Common.{◌≡◌, ℕ, Bool, true, false, cond, Option, Some, None, refl, ap, nat_lt, MOST_USES, LoadingWorld, Module, Named, module_in, Loaded, BuiltIn, Answer, after_use, used_again, Says, is_application}
+use Rattle.w16_loader.proofs.Common.{◌≡◌, ℕ, true, false, cond, Option, Some, None, refl, ap, nat_lt, MOST_USES, LoadingWorld, Named, module_in, Loaded, BuiltIn, Answer, after_use, used_again, Says, is_application}
 
 module _ (old : LoadingWorld) (handle : ℕ) where
   -- an application isn't loaded twice by LoadModule

@@ -20,6 +20,10 @@ IsGood f = IsModuleFile f.read × (are_sound f.read ≡ true)
 abbrev pub AreGood : List closing.Found → Type 0
 AreGood found = All IsGood found
 
+-- one module as another, but for what its file says beside its tables
+abbrev pub IsAlike : closing.Found → closing.Found → Type 0
+IsAlike f g = (g.file ≡ f.file) × (g.read.tables ≡ f.read.tables)
+
 -- a module file that has nothing but a name
 abbrev pub named_file : List ℕ → ModuleFile
 named_file name = record {

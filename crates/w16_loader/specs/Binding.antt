@@ -1,5 +1,5 @@
 -- How the modules of a load get the values of their relocation records, and what their files say.
-use Rattle.std.specs.Prelude.{◌≡◌, ℕ, ◌<◌, true, List, [], ◌∷◌, length, map, Option, Some, None, IfSome, IsSomeAnd, Ok}
+use Rattle.std.specs.Prelude.{◌≡◌, ℕ, ◌<◌, true, List, ◌∷◌, length, map, Some, None, IfSome, IsSomeAnd, Ok}
 use Rattle.std.specs.List.{AllZip}
 use Rattle.std.specs.FinMap as finmap
 use Rattle.w16_store.specs.declared.store.StoreFault.TheVariants as stores

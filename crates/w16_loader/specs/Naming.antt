@@ -1,16 +1,18 @@
 -- How new modules of a load get handles, slots and names.
-use Rattle.std.specs.Prelude.{◌≡◌, ℕ, ◌==◌, if◌then◌else◌, List, [], ◌∷◌, length, map, filter, fold, zip, is_none}
+use Rattle.std.specs.Prelude.{◌≡◌, ℕ, ◌<◌, ◌≤◌, ◌==◌, if◌then◌else◌, List, [], ◌∷◌, length, map, filter, fold, zip, All, is_none}
 use Rattle.std.specs.List.{AllZip, range_with_len}
 use Rattle.std.specs.FinMap as finmap
+use Rattle.w16_model.specs.declared.TheConstants.{GRAIN}
+use Rattle.w16_model.specs.Heap.{IsMultiple}
 use Rattle.w16_model.specs.Handles.{IsFreeSlot}
-use Rattle.w16_loading.specs.declared.TheConstants.{FIRST_MODULE, MOST_MODULES}
+use Rattle.w16_loading.specs.declared.TheConstants.{FIRST_MODULE, MOST_MODULES, LARGEST_OWNED}
 use Rattle.w16_loading.specs.File.{Segment}
 use Rattle.w16_loading.specs.Modules.{LoadingWorld, Module, Modules}
 use Rattle.w16_loading.specs.Modules.Named.{Loaded}
 use Rattle.w16_loading.specs.Closure as closing
 use Rattle.w16_loading.specs.Naming.{Choice, IsChoice, Given, given, given_from, imports_at, unbound, with_modules, with_segment, segments_of}
 use Rattle.w16_loader.specs.declared.closure.Closure.{Closure}
-use Rattle.w16_loader.specs.AnyClosing.{IsFoundOf}
+use Rattle.w16_loader.specs.AnyClosing.{IsAlike, IsFoundOf}
 use Rattle.w16_loader.specs.Following.{bound_in}
 
 module _ {A : Type 0} where
@@ -37,6 +39,16 @@ unbound_by imports g = record {
   imports = imports g.place;
 }
 
+-- a size that an object may have
+pub record IsFit (s : Segment) : Type 0 where
+  pub some : 0 < s.size
+  pub small : s.size ≤ LARGEST_OWNED
+  pub rounded : IsMultiple GRAIN s.size
+
+-- each segment of these modules has one
+abbrev pub AreFit : List closing.Found → Type 0
+AreFit found = All (λ (f : closing.Found). All IsFit f.read.tables.segments) found
+
 -- the world in which all new modules have names and objects without bytes, and none is bound yet
 abbrev pub unbound_world : LoadingWorld → closing.Closure → Choice → LoadingWorld
 unbound_world old closure choice =
@@ -47,7 +59,12 @@ pub record IsUnbound (old : LoadingWorld) (closure : closing.Closure) (numbers :
   pub choice : Choice
   pub is_choice : IsChoice old closure.found choice
   pub handles : choice.handles ≡ numbers
+  pub fit : AreFit closure.found
   pub after : new ≡ unbound_world old closure choice
+
+-- so whatever the files of its modules say beside their tables
+abbrev pub AreUnbound : LoadingWorld → closing.Closure → List ℕ → LoadingWorld → Type 0
+AreUnbound old closure numbers new = (found : List closing.Found) → AllZip IsAlike closure.found found → IsUnbound old (record closure { found = found }) numbers new
 
 -- Segments get objects without bytes, one after another, each in a slot that is free then.
 abbrev pub Takes : LoadingWorld → List (ℕ × Segment) → LoadingWorld → Type 0
@@ -57,6 +74,7 @@ Takes old (x ∷ xs) new = IsFreeSlot old.handles x.0 × Takes (with_segment old
 -- the segments of a module have objects, and a handle names it
 pub record GetsName (old : LoadingWorld) (handle : ℕ) (m : Module) (new : LoadingWorld) : Type 0 where
   pub many : length m.slots ≡ length m.tables.segments
+  pub fit : All IsFit m.tables.segments
   pub taken : Takes old (zip m.slots m.tables.segments) (record new { modules = old.modules })
   pub named : new.modules ≡ finmap.insert old.modules handle (Loaded m)
 
@@ -64,5 +82,6 @@ pub record GetsName (old : LoadingWorld) (handle : ℕ) (m : Module) (new : Load
 pub record GetNames (old : LoadingWorld) (module_of : Given → Module) (found : List closing.Found) (handles : List ℕ) (new : LoadingWorld) : Type 0 where
   pub slots : List (List ℕ)
   pub many : AllZip (λ (f : closing.Found) (s : List ℕ). length s ≡ length f.read.tables.segments) found slots
+  pub fit : AreFit found
   pub taken : Takes old (segments_of (given_from 0 found handles slots)) (record new { modules = old.modules })
   pub named : new.modules ≡ with_modules module_of (given_from 0 found handles slots) old.modules

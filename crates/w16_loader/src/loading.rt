@@ -1,19 +1,21 @@
 //! Loads of modules: `LoadModule` and `LoadLibrary`.
-ghost use Rattle.std.specs.Prelude.{◌≡◌, ◌≤◌, ◌<◌, ℕ, Bool, false, List, [], length, fold, All, IfOk, IfErr, OnErr};
+ghost use Rattle.std.specs.Prelude.{◌≡◌, ◌≤◌, ◌<◌, ℕ, Bool, false, List, [], None, length, fold, All, IfOk, IfErr, OnErr};
 ghost use Rattle.std.specs.FinMap as finmap;
 ghost use Rattle.w16_model.specs.Handles.{AreHandles};
+ghost use Rattle.w16_loading.specs.AnyStore.{AnyLoadsBy};
 ghost use Rattle.w16_loading.specs.Closure as closing;
+ghost use Rattle.w16_loading.specs.Fewest.{GivesAnyFewest};
 ghost use Rattle.w16_loading.specs.Free.{without_module};
 ghost use Rattle.w16_loading.specs.Closure.Reading.{Read};
 ghost use Rattle.w16_loading.specs.Load as loading;
 ghost use Rattle.w16_loading.specs.Load.Answer.{Says, StoreFails};
-ghost use Rattle.w16_loading.specs.Modules.{LoadingWorld, free_modules, module_at, with_handles};
+ghost use Rattle.w16_loading.specs.Modules.{LoadingWorld, free_modules, handle_named, module_at, with_handles};
 ghost use Rattle.w16_format.specs.Ne.{ne_format};
 ghost use Rattle.w16_loader.specs.Closing.{around_in, read_in};
-ghost use Rattle.w16_loader.specs.Naming.{IsClosureOf, IsUnbound};
+ghost use Rattle.w16_loader.specs.Naming.{AreUnbound, IsClosureOf, IsUnbound};
 ghost use Rattle.w16_loader.specs.declared.binding.BindFault.TheVariants.{OutOfMemory};
 ghost use Rattle.w16_loader.specs.Registry.{in_world};
-ghost use Rattle.w16_loader.specs.Loading.{LoadsCounted, LoadsClosed, IsOfFile, IsGiven, answer_in, is_application, in_store, refused_by, of_fault, failed_by};
+ghost use Rattle.w16_loader.specs.Loading.{LoadsAny, LoadsCounted, LoadsClosed, IsOfFile, IsGiven, IsGivenAny, answer_in, is_application, in_store, refused_by, of_fault, failed_by};
 
 use crate::binding::{BindFault, bind_modules};
 use crate::closure::{Closure, close};
@@ -132,6 +134,9 @@ fn give<S: Store, A: Allocator + Copy>(
     ensures given { (rest : LoadingWorld) (old : LoadingWorld) (meant : closing.Closure) → S.is_honest → AreHandles old.handles → All (IsOfFile (S.files store.old)) meant.found
         → IsUnbound old meant handles.now (in_world (with_handles rest global.old.handles) registry.old)
         → IsGiven old meant handles.now result (in_world (with_handles rest global.new.handles) registry.new) }
+    ensures any { (rest : LoadingWorld) (old : LoadingWorld) (meant : closing.Closure) → AreHandles old.handles
+        → AreUnbound old meant handles.now (in_world (with_handles rest global.old.handles) registry.old)
+        → IsGivenAny old meant handles.now result (in_world (with_handles rest global.new.handles) registry.new) }
     ensures failed { (old : LoadingWorld) (meant : closing.Closure) (rest : LoadingWorld) → S.is_honest → All (IsOfFile (S.files store.old)) meant.found
         → IsUnbound old meant handles.now (in_world (with_handles rest global.old.handles) registry.old)
         → IfErr result (λ fault. IfOk (failed_by fault) (λ answer. answer_in answer ≡ StoreFails → S.failures store.old < S.failures store.new)) }
@@ -164,6 +169,8 @@ fn load_closure<S: Store, A: Allocator + Copy>(
     ensures failures { S.failures store.old ≤ S.failures store.new }
     ensures loads { (rest : LoadingWorld) (meant : closing.Closure) → S.is_honest → IsClosureOf closure meant → All (IsOfFile (S.files store.old)) meant.found
         → IfOk result (λ answer. LoadsClosed (in_world (with_handles rest global.old.handles) registry.old) meant (answer_in answer) (in_world (with_handles rest global.new.handles) registry.new)) }
+    ensures any { (rest : LoadingWorld) (meant : closing.Closure) → IsClosureOf closure meant
+        → IfOk result (λ answer. LoadsAny (in_world (with_handles rest global.old.handles) registry.old) meant (answer_in answer) (in_world (with_handles rest global.new.handles) registry.new)) }
     ensures failed { (meant : closing.Closure) → S.is_honest → IsClosureOf closure meant → All (IsOfFile (S.files store.old)) meant.found
         → IfOk result (λ answer. answer_in answer ≡ StoreFails → S.failures store.old < S.failures store.new) }
     ensures err { OnErr result ((registry.new ≡ registry.old) × (global.new ≡ global.old)) }
@@ -199,6 +206,8 @@ fn load_new<S: Store, A: Allocator + Copy>(
     ensures loads { (rest : LoadingWorld) (before : ℕ) → before ≤ S.failures store.old → S.is_honest → closing.reading ne_format (around_in registry.old (S.files store.old)) [] file.now ≡ Read (read_in (S.files store.old) file.now read)
         → IfOk result (λ answer. (is_load_module : Bool) → LoadsCounted ne_format is_load_module (in_store rest registry.old global.old.handles (S.files store.old) before) file.now (answer_in answer)
         (in_store rest registry.new global.new.handles (S.files store.new) (S.failures store.new))) }
+    ensures any { (rest : LoadingWorld) → handle_named registry.old read.name ≡ None → IfOk result (λ answer. (is_load_module : Bool) → AnyLoadsBy GivesAnyFewest is_load_module (in_world (with_handles rest global.old.handles) registry.old) file.now
+        (answer_in answer) (in_world (with_handles rest global.new.handles) registry.new)) }
     ensures err { OnErr result ((registry.new ≡ registry.old) × (global.new ≡ global.old)) }
 {
     let name = registry.copy_of(file)?;
@@ -229,6 +238,8 @@ fn load_new<S: Store, A: Allocator + Copy>(
 /// relocation records are bound once, before any room is asked for. Then the fixed and the preload segments get their bytes, one after another, each
 /// by a request of its own: others slide and are discarded for it, as few as can be. A load that is refused takes back all that it made, but the
 /// discards.
+///
+/// Whatever the store answers, also where it reads otherwise each time, it is a load of modules that some files say.
 pub fn load<S: Store, A: Allocator + Copy>(
     alloc: Global,
     registry: &mut Registry<A>,
@@ -242,6 +253,8 @@ pub fn load<S: Store, A: Allocator + Copy>(
     ensures failures { S.failures store.old ≤ S.failures store.new }
     ensures loads { (rest : LoadingWorld) → S.is_honest → IfOk result (λ answer. LoadsCounted ne_format is_load_module (in_store rest registry.old global.old.handles (S.files store.old) (S.failures store.old)) file.now (answer_in answer)
         (in_store rest registry.new global.new.handles (S.files store.new) (S.failures store.new))) }
+    ensures any { (rest : LoadingWorld) → IfOk result (λ answer. AnyLoadsBy GivesAnyFewest is_load_module (in_world (with_handles rest global.old.handles) registry.old) file.now (answer_in answer)
+        (in_world (with_handles rest global.new.handles) registry.new)) }
     ensures err { OnErr result ((registry.new ≡ registry.old) × (global.new ≡ global.old)) }
 {
     let found = Vec::new(alloc);
@@ -251,7 +264,7 @@ pub fn load<S: Store, A: Allocator + Copy>(
             Ok(LoadAnswer::Says(load_again(registry, handle, is_load_module)))
         }
         // No module was found yet, so no name means one.
-        Ok(Reading::Meant(Referent::New(_))) => refuse(FileFault::Refused(BAD_FILE)),
+        Ok(Reading::Meant(Referent::New(_))) => unreachable!(),
         Ok(Reading::Read(read)) => load_new(alloc, registry, global, store, scratch, file, read),
     }
 }

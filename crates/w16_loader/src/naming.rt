@@ -17,7 +17,7 @@ ghost use Rattle.w16_loader.specs.declared.naming.NameFault.TheVariants.{NoSlot}
 ghost use Rattle.w16_loader.specs.Closing.{referent_of};
 ghost use Rattle.w16_loader.specs.Following.{bound_in};
 ghost use Rattle.w16_loader.specs.AnyClosing.{IsFoundOf};
-ghost use Rattle.w16_loader.specs.Naming.{IsClosureOf, IsUnbound, Takes, GetsName, GetNames, free_handles, imports_among, unbound_by};
+ghost use Rattle.w16_loader.specs.Naming.{IsClosureOf, IsFit, IsUnbound, Takes, GetsName, GetNames, free_handles, imports_among, unbound_by};
 ghost use Rattle.w16_loader.specs.Registry.{in_world};
 
 use crate::closure::{Bound, Closure};
@@ -71,6 +71,7 @@ fn put_slots<A: Allocator + Copy>(
     requires { length slots.old ≡ length module_file.now.segments }
     ensures taken { IsTrue result → (rest : LoadingWorld) → Takes (with_handles rest global.old.handles) (zip slots.new (map segment_in module_file.now.segments)) (with_handles rest global.new.handles) }
     ensures few { IsTrue result → All (λ q. q < 8192) slots.new }
+    ensures fit { IsTrue result → All IsFit (map segment_in module_file.now.segments) }
     ensures same { IsFalse result → global.new ≡ global.old }
     ensures no_slot { IsFalse result → length (free_slots global.old.handles) < length module_file.now.segments }
     ensures written { global.new.written ≡ global.old.written }
@@ -98,6 +99,7 @@ fn take_slots<A: Allocator + Copy>(
     ensures many { IfOk result (λ slots. length slots.items ≡ length module_file.now.segments) }
     ensures taken { IfOk result (λ slots. (rest : LoadingWorld) → Takes (with_handles rest global.old.handles) (zip slots.items (map segment_in module_file.now.segments)) (with_handles rest global.new.handles)) }
     ensures few { IfOk result (λ slots. All (λ q. q < 8192) slots.items) }
+    ensures fit { IfOk result (λ _. All IsFit (map segment_in module_file.now.segments)) }
     ensures same { OnErr result (global.new ≡ global.old) }
     ensures no_slot { IfErr result (λ fault. fault ≡ NoSlot → length (free_slots global.old.handles) < length module_file.now.segments) }
     ensures written { global.new.written ≡ global.old.written }

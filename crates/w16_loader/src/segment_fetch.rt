@@ -8,6 +8,7 @@ ghost use Rattle.w16_reloc.specs.Segments.{Held, checked};
 ghost use Rattle.w16_global.specs.Owned.{LacksBytes};
 ghost use Rattle.w16_loading.specs.declared.FetchFault.TheVariants.{Store as store_fails};
 ghost use Rattle.w16_loading.specs.AnyStore.{AnyFetches};
+ghost use Rattle.w16_loading.specs.Fewest.{FetchesFewest};
 ghost use Rattle.w16_loading.specs.Fetch.{FetchesCounted};
 ghost use Rattle.w16_loading.specs.Fill.{FillsOne, is_of_device, is_of_read};
 ghost use Rattle.w16_loading.specs.Modules.{LoadingWorld};
@@ -112,6 +113,8 @@ pub fn fetch<S: Store, A: Allocator + Copy>(
     ensures named { OnOk result (LacksBytes global.old.handles handle) }
     ensures any { (rest : LoadingWorld) → LacksBytes global.old.handles handle → AnyFetches (in_parts rest global.old.handles rest.files rest.failures) (handle / 8) (fault_in result)
         (in_parts rest global.new.handles rest.files rest.failures) }
+    ensures fewest { (rest : LoadingWorld) → LacksBytes global.old.handles handle → FetchesFewest (in_parts rest global.old.handles rest.files rest.failures) (handle / 8) (fault_in result)
+        (in_parts rest global.new.handles rest.files rest.failures) }
     ensures rest { global.new.handles ≡ record global.old.handles { heap = global.new.handles.heap } }
     ensures filled { (file : List ℕ) → S.is_honest → file_of (S.files store.old) source.now.file.now ≡ Some file
         → (sound : IsSoundIn file source.now.module.now source.now.number source.now.values.now) → LacksBytes global.old.handles handle
@@ -125,6 +128,7 @@ pub fn fetch<S: Store, A: Allocator + Copy>(
         → FetchesCounted ne_format (in_parts rest global.old.handles (S.files store.old) (S.failures store.old)) (handle / 8) (fault_in result)
         (in_parts rest global.new.handles (S.files store.new) (S.failures store.new)) }
 {
+    global.reveal_handles();
     read(source, store, scratch)?;
     let work = SegmentWork {
         data: scratch.bytes(),

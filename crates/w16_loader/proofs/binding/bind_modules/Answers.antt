@@ -1,5 +1,5 @@
 -- One module more is bound.
-use Rattle.w16_loader.proofs.Common.{◌<◌, ◌≤◌, [], drop, get_or, length, map, sym, ap, ◌∙◌, subst, arith, IsSomeAnd, drop_more, drop_all, targets_of, without_values, Modules, module_at, AreTargets, IsSaid, all_bound}
+use Rattle.w16_loader.proofs.Common.{◌<◌, ◌≤◌, [], drop, get_or, length, sym, ap, ◌∙◌, subst, arith, IsSomeAnd, drop_more, drop_all, without_values, Modules, module_at, AreTargets, IsSaid, all_bound}
 use Rattle.std.specs.FinMap as finmap
 use Rattle.w16_loader.proofs.Values.{failure_since}
 use Rattle.w16_loader.proofs.Bindings.{any_next, bound_next, none_left, others_next, read_here, said_here, still_alike, targets_in_all}

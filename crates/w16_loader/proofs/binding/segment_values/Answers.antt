@@ -1,5 +1,5 @@
 -- A segment that passes its check has the records that its file says.
-use Rattle.w16_loader.proofs.Common.{◌≡◌, ◌<◌, ◌≤◌, ◌-◌, length, map, sym, ap, ◌∙◌, subst, arith, true, Some, Ok, slice_get, All, MatchResult, length-map, Held, offer_of, targets_of, target_of, segment_in, tables_in, AreValuesOf, IsFailure, IsStoredAs}
+use Rattle.w16_loader.proofs.Common.{◌≡◌, ◌-◌, length, map, sym, ap, ◌∙◌, subst, arith, true, All, MatchResult, length-map, offer_of, targets_of, target_of, segment_in, AreValuesOf, IsFailure, IsStoredAs}
 use Rattle.std.specs.FinMap as finmap
 use Rattle.w16_reloc.specs.Records.{is_named}
 use Rattle.w16_loading.specs.File as loading

@@ -1,6 +1,7 @@
 -- A new module's load, by its closure.
-use Rattle.w16_loader.proofs.Common.{◌≡◌, ◌≤◌, Bool, Ok, Err, All, IfOk, sym, refl, ◌∙◌, subst, arith, Closes, begun, LoadingWorld, ne_format, IsFault, around_in, read_in, closed_in, IsOfFile, LoadsCounted, answer_in, in_store}
+use Rattle.w16_loader.proofs.Common.{◌≤◌, Bool, [], Ok, Err, All, IfOk, sym, refl, ◌∙◌, subst, arith, AnyLoadsBy, GivesAnyFewest, Closes, begun, with_handles, ne_format, IsFault, around_in, read_in, closed_in, IsSomeClosure, IsOfFile, LoadsCounted, answer_in, in_store, in_world}
 use Rattle.w16_loader.proofs.Loads.{all_of_files, closed_load, failed_since, fault_since, is_closure, refused_closure}
+use Rattle.w16_loader.proofs.AnyLoads.{closed_any, refused_any}
 use Rattle.w16_loader.proofs.loading.load_new.Goals as goal
 
 pub returns-in-Err-clause-loads : goal.returns-in-Err-clause-loads
@@ -35,3 +36,16 @@ returns-in-Ok-clause-loads g c = λ rest before le honest is.
     after (omega (arith, later, c.load_closure.ensures.failures)) read meant is closes c.load_closure.result
     (failed_since c.load_closure.result before mid after later (c.load_closure.ensures.failed meant honest (is_closure files c.in-Ok.closure) all))
     (c.load_closure.ensures.loads (record rest { files = files; failures = before }) meant honest (is_closure files c.in-Ok.closure) all)
+
+-- Over any store.
+
+pub returns-in-Err-clause-any : goal.returns-in-Err-clause-any
+returns-in-Err-clause-any g c = λ rest unnamed.
+    let old = in_world (with_handles rest c.args.global.now.handles) c.args.registry.now in
+    subst (λ r. IfOk r (λ answer. (is_load_module : Bool) → AnyLoadsBy GivesAnyFewest is_load_module old c.args.file.now (answer_in answer) old)) (sym c.refuse.ensures) (refused_any old c.args.file.now c.in-Err.fault c.in-Err.ensures.small)
+
+pub returns-in-Ok-clause-any : goal.returns-in-Ok-clause-any
+returns-in-Ok-clause-any g c = λ rest unnamed.
+    closed_any (in_world (with_handles rest c.args.global.now.handles) c.args.registry.now) c.args.file.now c.in-Ok.closure
+    (subst (λ f. IsSomeClosure c.args.registry.now f c.in-Ok.closure) c.in_ok-name.ensures (c.in-Ok.ensures.any unnamed c.requires))
+    (in_world (with_handles rest c.load_closure.new.global.handles) c.load_closure.new.registry) c.load_closure.result (c.load_closure.ensures.any rest (closed_in [] c.in-Ok.closure) (is_closure [] c.in-Ok.closure))

@@ -9,7 +9,7 @@ returns-in-Ok-put_module-clause-named g c = λ rest. (
   c.in-Ok.slots.items,
   module_named rest c.args.global.now.handles c.take_slots.new.global.handles c.put_module.new.global.handles c.args.registry.now c.put_module.new.registry c.args.handle
       (record { file = c.args.found.file.items; tables = tables_in c.args.found.module; uses = c.args.uses; slots = c.in-Ok.slots.items; values = []; imports = c.args.imports.items })
-      (c.in-Ok.ensures.many ∙ sym (length-map c.args.found.module.segments segment_in)) c.in-Ok.ensures.taken (ap (λ (x : Global). x.handles) c.in-Ok-put_module.ensures.put.1)
+      (c.in-Ok.ensures.many ∙ sym (length-map c.args.found.module.segments segment_in)) c.in-Ok.ensures.fit c.in-Ok.ensures.taken (ap (λ (x : Global). x.handles) c.in-Ok-put_module.ensures.put.1)
       (c.in-Ok-put_module.ensures.put.0 ∙ ap (λ (m : Module). finmap.insert c.args.registry.now c.args.handle (Loaded m)) (c.new-loaded.ensures
       ∙ (λ i. record { file = c.args.found.file.items; tables = tables_in c.args.found.module; uses = c.args.uses; slots = c.in-Ok.slots.items; values = map (λ v. map far_of v.items) (c.new.ensures.items i); imports = c.args.imports.items }))),
 )

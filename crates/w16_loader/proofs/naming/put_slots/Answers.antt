@@ -1,6 +1,6 @@
 -- A segment more has its object, or those before it lose theirs.
-use Rattle.w16_loader.proofs.Common.{◌≡◌, ◌+◌, ◌-◌, ◌<◌, ◌≤◌, Some, All, length, map, zip, take, option_map, slice_get, sym, ap, ◌∙◌, subst, arith, length-map, length-take-le, take_all, slice_get-map, segment_in, is_member, Global, with_handles, without_objects, free_slots, Takes}
-use Rattle.w16_loader.proofs.NameSteps.{slot_more, few_more, all_back, too_few, same_global}
+use Rattle.w16_loader.proofs.Common.{◌≡◌, ◌+◌, ◌-◌, ◌<◌, ◌≤◌, Some, All, length, map, zip, take, option_map, slice_get, sym, ap, ◌∙◌, subst, arith, length-map, length-take-le, take_all, slice_get-map, segment_in, is_member, Global, with_handles, without_objects, free_slots, IsFit, Takes}
+use Rattle.w16_loader.proofs.NameSteps.{slot_more, few_more, fit_more, fits, all_back, too_few, same_global}
 use Rattle.w16_loader.proofs.naming.put_slots.Goals as goal
 
 pub loop-i-preserved : goal.loop-i-preserved
@@ -13,6 +13,7 @@ loop-i-preserved g c =
       taken = λ rest. slot_more c.loop-i.slots (map segment_in c.args.module_file.now.segments) c.loop-i.i c.in-Some.slot (segment_in c.segment.result) (with_handles rest c.args.global.now.handles) (with_handles rest c.loop-i.global.handles)
           (with_handles rest c.take_slot.new.global.handles) lt here (c.loop-i.invariant.taken rest) c.in-Some.ensures.free (c.in-Some.ensures.taken rest);
       few = few_more c.loop-i.slots c.loop-i.i c.in-Some.slot lt c.loop-i.invariant.few c.in-Some.ensures.few;
+      fit = fit_more (map segment_in c.args.module_file.now.segments) c.loop-i.i (segment_in c.segment.result) here c.loop-i.invariant.fit (fits c.segment.result c.segment.ensures.sized);
       written = c.take_slot.ensures.written ∙ c.loop-i.invariant.written;
     }
 
@@ -43,3 +44,9 @@ pub returns-clause-few : goal.returns-clause-few
 returns-clause-few g c = λ t.
     let all : length c.loop-i.slots ≤ c.loop-i.i = omega arith in
     subst (All (λ q. q < 8192)) (take_all c.loop-i.i c.loop-i.slots all) c.loop-i.invariant.few
+
+pub returns-clause-fit : goal.returns-clause-fit
+returns-clause-fit g c = λ t.
+    let many : length (map segment_in c.args.module_file.now.segments) ≡ length c.args.module_file.now.segments = length-map c.args.module_file.now.segments segment_in in
+    let all : length (map segment_in c.args.module_file.now.segments) ≤ c.loop-i.i = omega arith in
+    subst (All IsFit) (take_all c.loop-i.i (map segment_in c.args.module_file.now.segments) all) c.loop-i.invariant.fit

@@ -1,6 +1,6 @@
 -- The segment is read, and then its object given its bytes.
-use Rattle.w16_loader.proofs.Common.{◌/◌, Some, Result, Ok, Err, ap, ◌∙◌, sym, subst, refl, rules, err_from_is_err_and, Handles, Global, AnyFetches, FillsOne, is_of_device, FetchFault, NoRoom, in_parts, image_in}
-use Rattle.w16_loader.proofs.Fetches.{unread_any, refused_any, device_failed, no_room, has_bytes, fetched}
+use Rattle.w16_loader.proofs.Common.{◌/◌, None, Some, Result, Ok, Err, ap, ◌∙◌, sym, subst, refl, rules, err_from_is_err_and, Handles, Global, AnyFetches, FillsOne, is_of_device, FetchFault, NoRoom, in_parts, image_in}
+use Rattle.w16_loader.proofs.Fetches.{unread_any, refused_any, fewest_so, device_failed, no_room, has_bytes, fetched}
 use Rattle.w16_loader.proofs.segment_fetch.fetch.Goals as goal
 
 pub returns-in_err-read-clause-any : goal.returns-in_err-read-clause-any
@@ -15,6 +15,18 @@ returns-else-give-clause-any g c = λ rest lacks.
     let old = in_parts rest c.args.global.now.handles rest.files rest.failures in
     subst (λ (x : Global). AnyFetches old (c.args.handle / 8) (Some NoRoom) (in_parts rest x.handles rest.files rest.failures)) (sym same)
     (refused_any old (c.args.handle / 8) lacks.owned lacks.without_bytes refused)
+
+pub returns-in_err-read-clause-fewest : goal.returns-in_err-read-clause-fewest
+returns-in_err-read-clause-fewest g c = λ rest lacks. fewest_so _ _ (c.args.handle / 8) _ c.reveal_handles.ensures (returns-in_err-read-clause-any g c rest lacks)
+
+pub returns-then-give-clause-fewest : goal.returns-then-give-clause-fewest
+returns-then-give-clause-fewest g c = λ rest lacks.
+    let given = c.if-give.ensures.given refl in
+    fewest_so _ _ (c.args.handle / 8) None c.reveal_handles.ensures
+    (record { bytes = given.bytes; image = given.sized; filled = given.filled; rest = ap (λ (h : Handles). in_parts rest h rest.files rest.failures) given.rest })
+
+pub returns-else-give-clause-fewest : goal.returns-else-give-clause-fewest
+returns-else-give-clause-fewest g c = λ rest lacks. fewest_so _ _ (c.args.handle / 8) (Some NoRoom) c.reveal_handles.ensures (returns-else-give-clause-any g c rest lacks)
 
 pub returns-in_err-read-clause-rest : goal.returns-in_err-read-clause-rest
 returns-in_err-read-clause-rest g c = refl

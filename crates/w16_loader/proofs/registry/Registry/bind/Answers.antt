@@ -1,6 +1,6 @@
 -- The module is taken out, and put back with these values.
 use Rattle.w16_loader.proofs.Common.{map, far_of}
-use Rattle.w16_loader.proofs.Bindings.{bound_again, none_again}
+use Rattle.w16_loader.proofs.Bindings.{bound_again}
 use Rattle.w16_loader.proofs.registry.Registry.bind.Goals as goal
 
 pub returns-in-Some : goal.returns-in-Some
