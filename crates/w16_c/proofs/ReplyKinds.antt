@@ -1,13 +1,13 @@
 -- A step's reply has the kind that its command's has.
-use Rattle.w16_c.proofs.Common.{◌≡◌, ℕ, ◌+◌, Bool, true, false, MatchBool, MatchOption, cond, nat_lt, if◌then◌else◌, List, [], length, Option, Some, None, unwrap_or, Result, Ok, Err, refl, sym, subst, ltb-false, Refusal, FarFault, BadSelector, ReadOnly, NotPresent, Limit, part, repeated, Heap, bytes_at, after_free, after_lock, after_unlock, after_newest, after_oldest, after_touch, Handles, slot_of_handle, slot_of_selector, selector_of, selector_in, offset_in, far_pointer, owns, refuses_write, length-part, HandleCommand, Answer, HandleStep, free_own, global_free, global_lock, global_unlock, handle_or_0, locks_at, GlobalAlloc, GlobalFree, GlobalLock, GlobalUnlock, GlobalSize, GlobalFlags, GlobalHandle, GetSelectorBase, GetSelectorLimit, GlobalCompact, GlobalLRUNewest, GlobalLRUOldest, Moved, Walk, FarAnswer, FarCommand, far_fault, far_slot, after_write, Read, Write, Fill, FetchFault, AnyFetches, Fetching, Accesses, gives, needs_fetch, reply_of_far, LoadingWorld, Format, OfHandles, OfResizes, OfFar, ResizeCommand, ResizeStep, GlobalReAlloc, GlobalDiscard, Reply, HandleReplies, ResizeReplies, Word, Dword, Done, Failed, Walked, LocalCommand, LocalStep, DS, World, Command, OfLoading, OfLocals, KernelStep, AnswersWord, AnswersDword, IsWrite, IsWord, IsDword, IsDoneOrFault, IsBytes}
+use Rattle.w16_c.proofs.Common.{◌≡◌, ℕ, ◌+◌, Bool, true, false, MatchBool, MatchOption, cond, nat_lt, if◌then◌else◌, List, [], length, Option, Some, None, unwrap_or, Result, Ok, Err, refl, sym, subst, ltb-false, Refusal, FarFault, BadSelector, ReadOnly, NotPresent, Limit, part, repeated, Heap, bytes_at, after_free, after_lock, after_unlock, after_newest, after_oldest, after_touch, Handles, slot_of_handle, slot_of_selector, selector_of, selector_in, offset_in, far_pointer, owns, refuses_write, length-part, HandleCommand, Answer, HandleStep, free_own, global_free, global_lock, global_unlock, handle_or_0, locks_at, GlobalAlloc, GlobalFree, GlobalLock, GlobalUnlock, GlobalSize, GlobalFlags, GlobalHandle, GetSelectorBase, GetSelectorLimit, GlobalCompact, GlobalLRUNewest, GlobalLRUOldest, Moved, FarAnswer, far_fault, far_slot, after_write, Read, Write, Fill, FetchFault, AnyFetches, Fetching, Accesses, gives, needs_fetch, reply_of_far, LoadingWorld, OfHandles, OfResizes, OfFar, ResizeCommand, ResizeStep, GlobalReAlloc, GlobalDiscard, Reply, HandleReplies, ResizeReplies, Word, Dword, Done, Failed, Walked, LocalCommand, LocalStep, DS, World, Command, OfLoading, OfLocals, KernelStep, AnswersWord, AnswersDword, IsWrite, IsWord, IsDword, IsDoneOrFault, IsBytes}
 use Rattle.std.specs.FinMap as finmap
+use Rattle.std.proofs.Common.{inl, inr}
+use Rattle.w16_loading.specs.Replies.Reply.{Bytes, Fault}
+use Rattle.w16_c.specs.Makes.{FarCalls, IsRead, Makes}
+use Rattle.w16_c.specs.declared.held.Held.{Held}
 use Rattle.w16_model.specs.declared.Refusal.TheVariants as refusals
 use Rattle.w16_model.specs.Calls as calls
 use Rattle.w16_model.specs.Far as far
-
--- any format will do, since no file is read
-no_format : Format
-no_format file = Err 11
 
 abbrev WordAnswer : Answer → Type 0
 WordAnswer (calls.Answer.Word n) = Unit {0}
@@ -118,14 +118,14 @@ local_word old new (DS selector) Done k h = absurd k
 local_word old new command (Word n) k h = tt
 local_word old new command reply k h = absurd h
 
-pub word_reply : (old : World) (command : Command) (reply : Reply) (new : World) → AnswersWord command → KernelStep old command reply new → IsWord reply
-word_reply old (OfLoading (OfHandles command)) reply new k step = let h = (step no_format).0.any.step in handles_word old.loading.handles command reply h.0 k h.1
-word_reply old (OfLoading (OfResizes command)) reply new k step = let h = (step no_format).0.any.step in resizes_word old.loading.handles command reply h.0 h.1
-word_reply old (OfLocals command) reply new k step = local_word old new command reply k (step no_format)
+pub word_reply : (old : World) (command : Command) (reply : Reply) (new : World) → AnswersWord command → KernelStep (Unit {0}) old command reply new → IsWord reply
+word_reply old (OfLoading (OfHandles command)) reply new k step = let h = step.step.0.any.step in handles_word old.loading.handles command reply h.0 k h.1
+word_reply old (OfLoading (OfResizes command)) reply new k step = let h = step.step.0.any.step in resizes_word old.loading.handles command reply h.0 h.1
+word_reply old (OfLocals command) reply new k step = local_word old new command reply k step.step
 word_reply old command reply new k step = absurd k
 
-pub dword_reply : (old : World) (command : Command) (reply : Reply) (new : World) → AnswersDword command → KernelStep old command reply new → IsDword reply
-dword_reply old (OfLoading (OfHandles command)) reply new k step = let h = (step no_format).0.any.step in handles_dword old.loading.handles command reply h.0 k h.1
+pub dword_reply : (old : World) (command : Command) (reply : Reply) (new : World) → AnswersDword command → KernelStep (Unit {0}) old command reply new → IsDword reply
+dword_reply old (OfLoading (OfHandles command)) reply new k step = let h = step.step.0.any.step in handles_dword old.loading.handles command reply h.0 k h.1
 dword_reply old command reply new k step = absurd k
 
 -- Far accesses.
@@ -187,11 +187,18 @@ local_done old new (DS selector) (Word n) k h = absurd h
 local_done old new (DS selector) reply k h = absurd h
 local_done old new command reply k h = absurd k
 
-pub write_reply : (old : World) (command : Command) (reply : Reply) (new : World) → IsWrite command → KernelStep old command reply new → IsDoneOrFault reply
-write_reply old (OfLoading (OfFar (Write pointer bytes))) reply new k step = accessed IsDoneOrFault AnyFetches _ old.loading _ reply _ (λ w. write_done w.handles (selector_in pointer) (offset_in pointer) bytes) (λ f. tt) (step no_format).0.any.step
-write_reply old (OfLoading (OfFar (Fill pointer count byte))) reply new k step = accessed IsDoneOrFault AnyFetches _ old.loading _ reply _ (λ w. write_done w.handles (selector_in pointer) (offset_in pointer) (repeated count byte)) (λ f. tt) (step no_format).0.any.step
-write_reply old (OfLocals command) reply new k step = local_done old new command reply k (step no_format)
+pub write_reply : (old : World) (command : Command) (reply : Reply) (new : World) → IsWrite command → KernelStep (Unit {0}) old command reply new → IsDoneOrFault reply
+write_reply old (OfLoading (OfFar (Write pointer bytes))) reply new k step = accessed IsDoneOrFault AnyFetches _ old.loading _ reply _ (λ w. write_done w.handles (selector_in pointer) (offset_in pointer) bytes) (λ f. tt) step.step.0.any.step
+write_reply old (OfLoading (OfFar (Fill pointer count byte))) reply new k step = accessed IsDoneOrFault AnyFetches _ old.loading _ reply _ (λ w. write_done w.handles (selector_in pointer) (offset_in pointer) (repeated count byte)) (λ f. tt) step.step.0.any.step
+write_reply old (OfLocals command) reply new k step = local_done old new command reply k step.step
 write_reply old command reply new k step = absurd k
 
-pub read_reply : (old : World) (pointer count : ℕ) (reply : Reply) (new : World) → KernelStep old (OfLoading (OfFar (Read pointer count))) reply new → IsBytes count reply
-read_reply old pointer count reply new step = accessed (IsBytes count) AnyFetches _ old.loading _ reply _ (λ w. read_bytes w.handles (selector_in pointer) (offset_in pointer) count) (λ f. tt) (step no_format).0.any.step
+pub read_reply : (old : World) (pointer count : ℕ) (reply : Reply) (new : World) → KernelStep (Unit {0}) old (OfLoading (OfFar (Read pointer count))) reply new → IsBytes count reply
+read_reply old pointer count reply new step = accessed (IsBytes count) AnyFetches _ old.loading _ reply _ (λ w. read_bytes w.handles (selector_in pointer) (offset_in pointer) count) (λ f. tt) step.step.0.any.step
+
+-- what was copied of a reply is what the access answers
+pub read_calls : (old : Held) (command : Command) (status : ℕ) (reply : Reply) (before after : List ℕ) (new : Held) → IsRead status reply before after → Makes old command reply new → FarCalls old command status (Bytes after) new
+read_calls old command status (Bytes bytes) before after new is makes = inl (inl (is.0, subst (λ b. Makes old command (Bytes b) new) (sym is.1) makes))
+read_calls old command status (Fault fault) before after new is makes = inr (inl (fault, is.0, makes))
+read_calls old command status (Failed fault) before after new is makes = inr (inr (fault, is.0, makes))
+read_calls old command status reply before after new is makes = absurd is

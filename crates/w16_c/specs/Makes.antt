@@ -2,34 +2,36 @@
 use Rattle.std.specs.Prelude.{◌≡◌, ℕ, ◌⊎◌, true, false, List}
 use Rattle.w16_model.specs.declared.FarFault.{FarFault}
 use Rattle.w16_model.specs.declared.FarFault.TheVariants as fault
+use Rattle.w16_loading.specs.declared.FetchFault.{FetchFault}
+use Rattle.w16_loading.specs.declared.FetchFault.TheVariants as fetch
 use Rattle.w16_loading.specs.Replies.{Reply}
-use Rattle.w16_loading.specs.Replies.Reply.{Word, Dword, Bytes, Done, Fault}
-use Rattle.w16_machine.specs.Machine.{Command}
+use Rattle.w16_loading.specs.Replies.Reply.{Word, Dword, Bytes, Done, Fault, Failed}
+use Rattle.w16_machine.specs.Machine.{Command, IsSame}
 use Rattle.w16_machine.specs.Fewest.{IsFewest}
 use Rattle.w16_kernel.specs.Parts.{KernelStep}
 use Rattle.w16_kernel.specs.Runs.{TakesMemory}
 use Rattle.w16_c.specs.declared.held.Held.{Held}
 use Rattle.w16_c.specs.declared.asked.Refusal.{Refusal}
 use Rattle.w16_c.specs.declared.asked.Refusal.TheVariants.{NoMachine, NoMemory}
-use Rattle.w16_c.specs.declared.status.TheConstants.{DONE, NO_MACHINE, NO_MEMORY, BAD_SIZE, FAULT_SELECTOR, FAULT_READ_ONLY, FAULT_NOT_PRESENT, FAULT_LIMIT}
+use Rattle.w16_c.specs.declared.status.TheConstants.{DONE, NO_MACHINE, NO_MEMORY, BAD_SIZE, FAULT_SELECTOR, FAULT_READ_ONLY, FAULT_NOT_PRESENT, FAULT_LIMIT, FAULT_ROOM, FAULT_STORE, FAULT_DAMAGED}
 
 -- The command is a step of the machine that is held, and discards as few objects as it can.
 pub record Makes (old : Held) (command : Command) (reply : Reply) (new : Held) : Type 0 where
   pub was : old.is_held ≡ true
   pub is : new.is_held ≡ true
-  pub step : KernelStep old.world command reply new.world
+  pub step : KernelStep (Unit {0}) old.world command reply new.world
   pub fewest : IsFewest old.world (record { command = command; reply = reply; after = new.world })
 
 -- There was no machine, and there is none.
 abbrev pub IsEmpty : Held → Held → Type 0
 IsEmpty old new = (old.is_held ≡ false) × (new.is_held ≡ false)
 
--- The host had no memory for what the command takes, and the machine that is held stays as it was.
+-- The host had no memory for what the command takes, and the world of the machine that is held is the same.
 pub record LacksMemory (old : Held) (command : Command) (new : Held) : Type 0 where
   pub was : old.is_held ≡ true
   pub is : new.is_held ≡ true
   pub wanted : TakesMemory old.world command
-  pub same : new.world ≡ old.world
+  pub same : IsSame old.world new.world
 
 -- A call that isn't made, and why.
 abbrev pub Refuses : Held → Command → Refusal → Held → Type 0
@@ -62,20 +64,31 @@ fault_status fault.ReadOnly = FAULT_READ_ONLY
 fault_status fault.NotPresent = FAULT_NOT_PRESENT
 fault_status fault.Limit = FAULT_LIMIT
 
--- a far access: a call that may be answered by a fault
+-- and that of a fetch that gives a module's object no bytes
+abbrev pub fetch_status : FetchFault → ℕ
+fetch_status fetch.NoRoom = FAULT_ROOM
+fetch_status fetch.Store = FAULT_STORE
+fetch_status fetch.Damaged = FAULT_DAMAGED
+
+-- a far access: a call that may be answered by a fault, its own or that of a fetch
 abbrev pub FarCalls : Held → Command → ℕ → Reply → Held → Type 0
-FarCalls old command status reply new = Calls old command status reply new ⊎ ((f : FarFault) × (status ≡ fault_status f) × Makes old command (Fault f) new)
+FarCalls old command status reply new =
+    Calls old command status reply new
+    ⊎ ((f : FarFault) × (status ≡ fault_status f) × Makes old command (Fault f) new)
+    ⊎ ((f : FetchFault) × (status ≡ fetch_status f) × Makes old command (Failed f) new)
 
 -- the status of a reply that has no more to tell
 abbrev pub IsStatus : ℕ → Reply → Type 0
 IsStatus status Done = status ≡ DONE
 IsStatus status (Fault f) = status ≡ fault_status f
+IsStatus status (Failed f) = status ≡ fetch_status f
 IsStatus status reply = ⊥
 
 -- and of one that has bytes, which are copied
 abbrev pub IsRead : ℕ → Reply → List ℕ → List ℕ → Type 0
 IsRead status (Bytes bytes) before after = (status ≡ DONE) × (after ≡ bytes)
 IsRead status (Fault f) before after = (status ≡ fault_status f) × (after ≡ before)
+IsRead status (Failed f) before after = (status ≡ fetch_status f) × (after ≡ before)
 IsRead status reply before after = ⊥
 
 -- more bytes than a call may ask for: nothing changes

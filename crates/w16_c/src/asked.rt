@@ -7,7 +7,7 @@ ghost use Rattle.w16_c.specs.Kinds.{AnswersWord, AnswersDword, IsWrite, IsWord, 
 
 use crate::held::Held;
 use crate::life::{put_back, taken};
-use crate::status::{DONE, NO_MACHINE, NO_MEMORY, status_of};
+use crate::status::{DONE, NO_MACHINE, NO_MEMORY, status_of, status_of_fetch};
 use std::alloc::Global;
 use w16_kernel::{Call, MOST_READ, Reply};
 
@@ -16,7 +16,7 @@ use w16_kernel::{Call, MOST_READ, Reply};
 pub enum Refusal {
     /// The holder has no machine.
     NoMachine,
-    /// The host has no memory for a local heap.
+    /// The host has no memory for what the call takes.
     NoMemory,
 }
 
@@ -102,6 +102,7 @@ fn written(reply: Reply<'_>) -> u8
 {
     match reply {
         Reply::Fault(fault) => status_of(fault),
+        Reply::Failed(fault) => status_of_fetch(fault),
         _ => DONE,
     }
 }

@@ -11,7 +11,7 @@ ghost use Rattle.w16_c.specs.Makes.{FarCalls, IsRead, Stays, AsksTooMuch};
 
 use crate::asked::{Refusal, asked, done};
 use crate::held::Held;
-use crate::status::{BAD_SIZE, DONE, NO_MACHINE, NO_MEMORY, status_of};
+use crate::status::{BAD_SIZE, DONE, NO_MACHINE, NO_MEMORY, status_of, status_of_fetch};
 use std::alloc::Global;
 use w16_kernel::{Call, MOST_FILLED, MOST_READ, Reply};
 
@@ -26,6 +26,7 @@ fn copied(reply: Reply<'_>, into: &mut [u8]) -> u8
             DONE
         }
         Reply::Fault(fault) => status_of(fault),
+        Reply::Failed(fault) => status_of_fetch(fault),
         _ => DONE,
     }
 }

@@ -1,7 +1,8 @@
 //! What a call answers.
 ghost use Rattle.std.specs.Prelude.{◌≡◌};
-ghost use Rattle.w16_c.specs.Makes.{fault_status};
+ghost use Rattle.w16_c.specs.Makes.{fault_status, fetch_status};
 
+use w16_loading::FetchFault;
 use w16_model::FarFault;
 
 /// The call was made.
@@ -31,6 +32,15 @@ pub const FAULT_LIMIT: u8 = 7;
 /// No part of the heap begins at the address or above it.
 pub const END: u8 = 8;
 
+/// There is no room for the bytes of a module's object.
+pub const FAULT_ROOM: u8 = 9;
+
+/// The store of module files failed.
+pub const FAULT_STORE: u8 = 10;
+
+/// The file of a module reads otherwise than it did when the module was loaded.
+pub const FAULT_DAMAGED: u8 = 11;
+
 /// A fault of a far access, as a status.
 pub fn status_of(fault: FarFault) -> u8
     ensures { result ≡ fault_status fault }
@@ -40,5 +50,16 @@ pub fn status_of(fault: FarFault) -> u8
         FarFault::ReadOnly => FAULT_READ_ONLY,
         FarFault::NotPresent => FAULT_NOT_PRESENT,
         FarFault::Limit => FAULT_LIMIT,
+    }
+}
+
+/// Why a module's object got no bytes, as a status.
+pub fn status_of_fetch(fault: FetchFault) -> u8
+    ensures { result ≡ fetch_status fault }
+{
+    match fault {
+        FetchFault::NoRoom => FAULT_ROOM,
+        FetchFault::Store => FAULT_STORE,
+        FetchFault::Damaged => FAULT_DAMAGED,
     }
 }

@@ -10,6 +10,8 @@ mod kernel;
 #[cfg(test)]
 mod local;
 #[cfg(test)]
+mod modules;
+#[cfg(test)]
 mod options;
 #[cfg(test)]
 mod refusals;

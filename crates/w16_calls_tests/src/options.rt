@@ -10,6 +10,7 @@ const READ: &[(&[&str], Options<'static>)] = &[
         Options {
             memory: 1_048_576,
             selectors: 1024,
+            dir: ".",
             script: None,
         },
     ),
@@ -18,6 +19,7 @@ const READ: &[(&[&str], Options<'static>)] = &[
         Options {
             memory: 4096,
             selectors: 1024,
+            dir: ".",
             script: None,
         },
     ),
@@ -26,6 +28,7 @@ const READ: &[(&[&str], Options<'static>)] = &[
         Options {
             memory: 4096,
             selectors: 1024,
+            dir: ".",
             script: None,
         },
     ),
@@ -34,6 +37,7 @@ const READ: &[(&[&str], Options<'static>)] = &[
         Options {
             memory: 1_048_576,
             selectors: 16,
+            dir: ".",
             script: None,
         },
     ),
@@ -42,6 +46,7 @@ const READ: &[(&[&str], Options<'static>)] = &[
         Options {
             memory: 32,
             selectors: 8160,
+            dir: ".",
             script: None,
         },
     ),
@@ -50,6 +55,7 @@ const READ: &[(&[&str], Options<'static>)] = &[
         Options {
             memory: 32,
             selectors: 8160,
+            dir: ".",
             script: None,
         },
     ),
@@ -58,6 +64,7 @@ const READ: &[(&[&str], Options<'static>)] = &[
         Options {
             memory: 1_048_576,
             selectors: 1024,
+            dir: ".",
             script: Some("tour.txt"),
         },
     ),
@@ -66,6 +73,7 @@ const READ: &[(&[&str], Options<'static>)] = &[
         Options {
             memory: 1_048_576,
             selectors: 1024,
+            dir: ".",
             script: None,
         },
     ),
@@ -81,6 +89,7 @@ const READ: &[(&[&str], Options<'static>)] = &[
         Options {
             memory: 4096,
             selectors: 16,
+            dir: ".",
             script: Some("tour.txt"),
         },
     ),
@@ -89,7 +98,26 @@ const READ: &[(&[&str], Options<'static>)] = &[
         Options {
             memory: 1_048_576,
             selectors: 1024,
+            dir: ".",
             script: Some("--memory"),
+        },
+    ),
+    (
+        &["w16heap", "--dir", "modules"],
+        Options {
+            memory: 1_048_576,
+            selectors: 1024,
+            dir: "modules",
+            script: None,
+        },
+    ),
+    (
+        &["w16heap", "tour.txt", "--dir=/old/modules"],
+        Options {
+            memory: 1_048_576,
+            selectors: 1024,
+            dir: "/old/modules",
+            script: Some("tour.txt"),
         },
     ),
 ];
@@ -136,6 +164,12 @@ const REFUSED: &[(&[&str], ErrorKind, i32)] = &[
     (
         &["w16heap", "a.txt", "--memory"],
         ErrorKind::InvalidValue,
+        2,
+    ),
+    (&["w16heap", "--dir"], ErrorKind::InvalidValue, 2),
+    (
+        &["w16heap", "--dir", "a", "--dir", "b"],
+        ErrorKind::ArgumentConflict,
         2,
     ),
     (&["w16heap", "--help"], ErrorKind::DisplayHelp, 0),

@@ -17,16 +17,16 @@ enum Machine {
 }
 
 /// Each, and how many growths it takes: a global heap its attributes, two of selectors, its memory, one of holes and eight of an arena;
-/// local heaps two lists; a kernel both.
+/// local heaps two lists; a kernel both, and a table of modules.
 static MACHINES: &[(Machine, u64)] = &[
     (Machine::GlobalHeap, 13),
     (Machine::LocalHeaps, 2),
-    (Machine::Kernel, 15),
+    (Machine::Kernel, 16),
 ];
 
 /// Makes a kernel, and it goes.
 fn make_kernel(fuse: &Fuse<Global>, alloc: Global) -> Result<(), AllocError> {
-    let _kernel = Kernel::new(fuse, 4096, 16, MemStore::new(alloc))?;
+    let _kernel = Kernel::new(fuse, alloc, 4096, 16, MemStore::new(alloc))?;
     Ok(())
 }
 

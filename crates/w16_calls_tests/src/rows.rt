@@ -40,6 +40,7 @@ fn run_new<R: Read, W: Write>(
 ) -> Result<Result<(u32, u32), RunFault>, AllocError> {
     let mut kernel = Kernel::new(
         alloc,
+        alloc,
         memory - memory % GRAIN,
         selectors.min(MOST_SLOTS),
         MemStore::new(alloc),
@@ -183,19 +184,21 @@ static LIFE_REPLIES: &[Reply<'static>] = &[
     Reply::Word(0),
 ];
 
-/// Whether an answer keeps a reply that is a number, nothing or bytes.
+/// Whether an answer keeps a reply that is no walk.
 fn keeps(answer: &Answer, reply: &Reply<'_>) -> bool {
     match (answer, reply) {
         (Answer::Word(word), Reply::Word(wanted)) => word == wanted,
         (Answer::Dword(dword), Reply::Dword(wanted)) => dword == wanted,
         (Answer::Bytes(bytes), Reply::Bytes(wanted)) => bytes.as_slice() == *wanted,
         (Answer::Done, Reply::Done) => true,
+        (Answer::Fault(fault), Reply::Fault(wanted)) => fault == wanted,
+        (Answer::Failed(fault), Reply::Failed(wanted)) => fault == wanted,
         _ => false,
     }
 }
 
 /// Whether answers keep just these replies.
-fn keep_all(answers: &[Answer], replies: &[Reply<'_>]) -> bool {
+pub fn keep_all(answers: &[Answer], replies: &[Reply<'_>]) -> bool {
     answers.len() == replies.len()
         && answers
             .iter()
@@ -205,7 +208,7 @@ fn keep_all(answers: &[Answer], replies: &[Reply<'_>]) -> bool {
 
 /// The answers to the calls of a life on a new machine.
 fn life_answers(alloc: Global) -> Result<Vec<Answer>, AllocError> {
-    let mut kernel = Kernel::new(alloc, 4096, 16, MemStore::new(alloc))?;
+    let mut kernel = Kernel::new(alloc, alloc, 4096, 16, MemStore::new(alloc))?;
     kernel.run_calls(&life())
 }
 

@@ -1,3 +1,7 @@
+pub mod Absent
 pub mod Common
+pub mod FarSteps
+pub mod Modules
+pub mod Refetching
 pub mod Running
 pub mod Stepping

@@ -1,5 +1,5 @@
 -- Runs, one step longer.
-use Rattle.w16_kernel.proofs.Common.{World, ◌≡◌, ℕ, inl, inr, List, [], ◌∷◌, ◌++◌, map, take, IsSomeAnd, refl, sym, ap, ◌∙◌, subst, slice_get, map_push, Reply, Command, Event, Steps, Run, IsFewest, AreFewest, Call, Answer, command_of, answer_of, TakesMemory, StopsEarly}
+use Rattle.w16_kernel.proofs.Common.{World, ◌≡◌, ℕ, inl, inr, List, [], ◌∷◌, ◌++◌, map, take, IsSomeAnd, refl, sym, ap, ◌∙◌, subst, slice_get, map_push, Reply, Command, Event, Steps, Run, IsFewest, AreFewest, Call, Answer, command_of, answer_of, TakesMemory, StopsEarly, IsSame, arith}
 
 -- a run, and a step after it
 pub run_more : (steps : Steps) (old : World) (events : List Event) (now : World) (command : Command) (reply : Reply) (new : World) → Run steps old events now → steps now command reply new
@@ -34,9 +34,10 @@ ran_more steps old calls kept now call answer new ran step few =
     }
 
 -- the next call wants memory, and there is none
-pub ran_stops : (steps : Steps) (old : World) (calls : List Call) (i : ℕ) (kept : List Answer) (now : World) → Ran steps old (take i calls) kept now → IsSomeAnd (slice_get calls i) (λ call. TakesMemory now (command_of call)) → StopsEarly steps old calls now
-ran_stops steps old calls i kept now ran wanted = record { done = i; events = ran.events; run = ran.run; commands = ran.commands; fewest = ran.fewest; wanted = inr wanted }
+pub ran_stops : (steps : Steps) (old : World) (calls : List Call) (i : ℕ) (kept : List Answer) (now new : World) → Ran steps old (take i calls) kept now → IsSomeAnd (slice_get calls i) (λ call. TakesMemory now (command_of call)) → IsSame now new
+    → StopsEarly steps old calls new
+ran_stops steps old calls i kept now new ran wanted same = record { done = i; events = ran.events; last = now; run = ran.run; commands = ran.commands; fewest = ran.fewest; wanted = inr wanted; same = same }
 
 -- nothing was done
 pub none_done : (steps : Steps) (old : World) (calls : List Call) → StopsEarly steps old calls old
-none_done steps old calls = record { done = 0; events = []; run = refl; commands = refl; fewest = tt; wanted = inl refl }
+none_done steps old calls = record { done = 0; events = []; last = old; run = refl; commands = refl; fewest = tt; wanted = inl refl; same = record { counted = omega arith; same = refl } }

@@ -1,88 +1,96 @@
 -- A step over the kernel's parts, and the sweep behind it, are one step of the machine.
-use Rattle.w16_kernel.proofs.Common.{◌≡◌, ℕ, ◌⊎◌, inl, inr, Bool, true, false, ◌&&◌, List, Option, Some, None, Err, IfSome, is_some, refl, sym, ap, ◌∙◌, nat_cmp, FinMap, get-empty, Owned, repeated, FarCommand, far_slot, Read, Write, Fill, Handles, selector_in, offset_in, owned_at, Table, AnyStep, far_reads_file, reads_files, LoadingCommand, LoadingStep, OfHandles, OfResizes, OfFar, OfModules, OfResources, far_read, far_write, is_not_present, Format, Module, Named, IsSegmentOf, IsResourceOf, is_owned, module_in, reads_no_files_law, World, left_in, call_may_take, step_may_take, IsWorld, Command, IsCommand, OnHandles, after_loading, OfLoading, OfLocals, IsFewest, step_fewest, heaps_law, handles_step, world_kept, with_parts, reply_of, KernelStep, Unswept, may_take_bytes, surviving_heaps, world_of}
-use Rattle.std.specs.FinMap as finmap
+use Rattle.w16_kernel.proofs.Common.{◌≡◌, ℕ, ◌≤◌, Dword, Moved, Bool, true, false, refl, sym, subst, arith, false≢true, Handles, Heap, reads_files, LoadingCommand, LoadingStep, ModuleCommand, ModuleStep, OfHandles, OfResizes, OfFar, OfModules, OfResources, Loads, Failed, Store, LoadingWorld, with_handles, reads_no_files_law, code_reads_law, World, left_in, step_may_take, Command, IsCommand, OnHandles, StoreStep, Step, after_loading, OfLoading, OfLocals, IsFewest, step_fewest, heaps_law, handles_step, world_kept, files_law, is_format, ne_format, reply_of, KernelStep, ReadsCode, Unswept, IsWorldOver, may_take_bytes, surviving_heaps}
 use Rattle.w16_loading.specs.Replies as printed
+use Rattle.w16_loading.specs.Replies.Reply.{Bytes}
+use Rattle.w16_model.specs.Far.FarCommand.{Read}
 use Rattle.w16_kernel.specs.declared.call.Reply.{Reply}
 
 -- the world that the sweep leaves
 abbrev pub with_surviving : World → Command → World
 with_surviving w command = record w { heaps = surviving_heaps (may_take_bytes command) w.loading.handles.heap w.heaps }
 
--- a format that accepts no file: what doesn't depend on the format is told by it
-pub no_format : Format
-no_format file = Err 11
+-- A step on handles alone, and one on modules that reads no file, is one over any store.
+module _ (honest : Type 0) (old : LoadingWorld) where
+  pub on_handles : (command : LoadingCommand) (reply : printed.Reply) (next : Handles) → reads_files old command ≡ false → OnHandles old.handles command reply next → StoreStep honest ne_format old command reply (with_handles old next)
+  on_handles command reply next none s =
+      let made : LoadingStep ne_format old command reply (with_handles old next) = handles_step ne_format old next command reply none s in
+      record { any = reads_no_files_law ne_format old (with_handles old next) command reply none made; exact = λ _. made }
 
--- Where no module is loaded, nothing is owned, and no step on handles reads a file.
+  pub on_modules : (command : ModuleCommand) (reply : printed.Reply) (new : LoadingWorld) → reads_files old (OfModules command) ≡ false → (reply ≡ Failed Store → ⊥) → new.failures ≡ old.failures
+      → ModuleStep (Loads ne_format) old command reply (record new { failures = old.failures }) → StoreStep honest ne_format old (OfModules command) reply new
+  on_modules command reply new none unfailed same s =
+      let made : LoadingStep ne_format old (OfModules command) reply new = record { counted = omega (arith, same); failed = λ e. absurd (unfailed e); step = s } in
+      record { any = reads_no_files_law ne_format old new (OfModules command) reply none made; exact = λ _. made }
 
-no_module : (handle : ℕ) (m : Module) → module_in (finmap.get (finmap.empty {X = Named} {R = nat_cmp}) handle) ≡ Some m → ⊥
-no_module handle m e = let never : ◌≡◌ {A = Option Module} None (Some m) = sym (ap module_in (get-empty {X = Named} nat_cmp handle)) ∙ e in cc
+module _ (honest : Type 0) (old : World) (is : IsWorldOver honest old) where
+  -- behind a step that takes no bytes all heaps stay
+  pub stay : (command : LoadingCommand) (reply : printed.Reply) (new : LoadingWorld) → step_may_take old.loading command ≡ false → StoreStep honest ne_format old.loading command reply new → left_in new.handles.heap old.heaps ≡ old.heaps
+  stay command reply new none s = heaps_law ne_format old (after_loading old new) command reply is.0.heaps none (record { any = s.any; exact = λ no. s.exact (λ t. absurd (no t)) }, refl)
 
-and_none : (a b : Bool) → b ≡ false → (a && b) ≡ false
-and_none true b none = none
-and_none false b none = refl
+  survive : (b : Bool) (heap : Heap) → (b ≡ false → left_in heap old.heaps ≡ old.heaps) → surviving_heaps b heap old.heaps ≡ left_in heap old.heaps
+  survive true heap same = refl
+  survive false heap same = sym (same refl)
 
-module _ (handles : Handles) (heaps : FinMap nat_cmp Table) (ds : ℕ) (files : List (List ℕ × List ℕ)) (failures : ℕ) (is : IsWorld (world_of handles heaps ds files failures)) where
-  abbrev old : World
-  old = world_of handles heaps ds files failures
+  swept : (command : LoadingCommand) (reply : printed.Reply) (new : LoadingWorld) → (may_take_bytes (OfLoading command) ≡ false → step_may_take old.loading command ≡ false) → StoreStep honest ne_format old.loading command reply new
+      → Step honest ne_format old (OfLoading command) reply (with_surviving (record old { loading = new }) (OfLoading command))
+  swept command reply new none s =
+      (s, (λ i. record { loading = new; heaps = survive (may_take_bytes (OfLoading command)) new.handles.heap (λ e. stay command reply new (none e) s) i; ds = old.ds }))
 
-  unowned : (slot : ℕ) → is_owned old.loading slot ≡ false
-  unowned slot = turn (owned_at handles slot) (is.loading.owners slot)
+  -- the step from a world in which the tables of local heaps are as they were
+  unchanged : (command : LoadingCommand) (reply : printed.Reply) (mid : World) (new : LoadingWorld) → mid ≡ record old { loading = new } → (may_take_bytes (OfLoading command) ≡ false → step_may_take old.loading command ≡ false)
+      → StoreStep honest ne_format old.loading command reply new → Step honest ne_format old (OfLoading command) reply (with_surviving mid (OfLoading command))
+  unchanged command reply mid new same none s = subst (λ w. Step honest ne_format old (OfLoading command) reply (with_surviving w (OfLoading command))) (sym same) (swept command reply new none s)
+
+  swept_step : (command : Command) (reply : printed.Reply) (mid : World) → Unswept honest old command reply mid → Step honest ne_format old command reply (with_surviving mid command)
+  swept_step (OfLocals command) reply mid s = s
+  swept_step (OfLoading (OfHandles command)) reply mid s =
+      unchanged (OfHandles command) reply mid (with_handles old.loading mid.loading.handles) s.1 (λ e. e) (on_handles honest old.loading (OfHandles command) reply mid.loading.handles refl s.0)
+  swept_step (OfLoading (OfResizes command)) reply mid s =
+      unchanged (OfResizes command) reply mid (with_handles old.loading mid.loading.handles) s.1 (λ e. absurd (false≢true (sym e))) (on_handles honest old.loading (OfResizes command) reply mid.loading.handles refl s.0)
+  swept_step (OfLoading (OfFar command)) reply mid s = s
+  swept_step (OfLoading (OfModules command)) reply mid s = unchanged (OfModules command) reply mid mid.loading s.1 (λ e. e) s.0
+  swept_step (OfLoading (OfResources command)) reply mid s = absurd s
+
+  -- what an answered read of code tells
+  reads_code : (command : Command) (reply : printed.Reply) (new : World) → Step honest ne_format old command reply new → honest → ReadsCode old command reply
+  reads_code command reply new s h = λ pointer count bytes slot handle number m c r named segment coded.
+      let of_command : Step honest ne_format old (OfLoading (OfFar (Read pointer count))) reply new = subst (λ command. Step honest ne_format old command reply new) c s in
+      let far : Step honest ne_format old (OfLoading (OfFar (Read pointer count))) (Bytes bytes) new = subst (λ reply. Step honest ne_format old (OfLoading (OfFar (Read pointer count))) reply new) r of_command in
+      code_reads_law ne_format old.loading (record new.loading { failures = old.loading.failures }) pointer count bytes slot handle number m is.0.loading (is.1 h) (far.0.exact (λ _. h)).step named segment coded
+
+  -- over an honest store
+  honestly : (h : honest) (command : Command) (reply : printed.Reply) (new : World) → Step honest ne_format old command reply new → Step (Unit {0}) ne_format old command reply new
+  honestly h (OfLoading command) reply new s = (record { any = s.0.any; exact = λ _. s.0.exact (λ _. h) }, s.1)
+  honestly h (OfLocals command) reply new s = s
+
+  -- a step leaves a world, of its files where the store is honest
+  kept : (command : Command) (reply : printed.Reply) (new : World) → IsCommand command → Step honest ne_format old command reply new → IsWorldOver honest new
+  kept command reply new known step = (
+    world_kept honest ne_format old new command reply is.0 known step,
+    λ h. (files_law ne_format old new command reply is_format (is.0, is.1 h) known (honestly h command reply new step)).1,
+  )
+
+  -- So does a call that did nothing but that the store failed meanwhile: it is as one that only tells a number.
+  pub recounted : (failures : ℕ) → old.loading.failures ≤ failures → IsWorldOver honest (record old { loading = record old.loading { failures = failures } })
+  recounted failures counted =
+      let told : printed.Reply = Dword old.loading.handles.moved in
+      let new : LoadingWorld = record old.loading { failures = failures } in
+      let made : LoadingStep ne_format old.loading (OfHandles Moved) told new = record { counted = counted; failed = λ e. absurd (unfailed old.loading.handles.moved e); step = (old.loading.handles, (refl, refl), refl) } in
+      kept (OfLoading (OfHandles Moved)) told (record old { loading = new }) tt (swept (OfHandles Moved) told new (λ e. e) (record { any = reads_no_files_law ne_format old.loading new (OfHandles Moved) told refl made; exact = λ _. made }))
     where
-      turn : (p : Option Owned) → IfSome p (λ _. (handle number : ℕ) × (m : Module) × (IsSegmentOf old.loading slot handle number m ⊎ IsResourceOf old.loading slot handle number m)) → is_some p ≡ false
-      turn None h = refl
-      turn (Some o) (handle, number, m, inl s) = absurd (no_module handle m s.loaded)
-      turn (Some o) (handle, number, m, inr r) = absurd (no_module handle m r.loaded)
+      unfailed : (n : ℕ) → ◌≡◌ {A = printed.Reply} (Dword n) (Failed Store) → ⊥
+      unfailed n e = cc
 
-  nothing_met : (command : FarCommand) → far_reads_file old.loading command ≡ false
-  nothing_met (Read pointer count) = and_none (is_not_present (far_read (selector_in pointer) (offset_in pointer) count old.loading).0) _ (unowned (far_slot handles (selector_in pointer)))
-  nothing_met (Write pointer bytes) = and_none (is_not_present (far_write (selector_in pointer) (offset_in pointer) bytes old.loading).0) _ (unowned (far_slot handles (selector_in pointer)))
-  nothing_met (Fill pointer count byte) = and_none (is_not_present (far_write (selector_in pointer) (offset_in pointer) (repeated count byte) old.loading).0) _ (unowned (far_slot handles (selector_in pointer)))
+  -- What the kernel tells of a reply: the step, that it discards as few as it can, and that it leaves a world.
+  module _ (command : Command) (reply : Reply) (mid : World) (step : Unswept honest old command (reply_of reply) mid) where
+    made : Step honest ne_format old command (reply_of reply) (with_surviving mid command)
+    made = swept_step command (reply_of reply) mid step
 
-  nothing_read : (command : LoadingCommand) (reply : printed.Reply) (next : Handles) → OnHandles handles command reply next → reads_files old.loading command ≡ false
-  nothing_read (OfHandles command) reply next s = refl
-  nothing_read (OfResizes command) reply next s = refl
-  nothing_read (OfFar command) reply next s = nothing_met command
-  nothing_read (OfModules command) reply next s = absurd s
-  nothing_read (OfResources command) reply next s = absurd s
+    pub told_step : KernelStep honest old command (reply_of reply) (with_surviving mid command)
+    told_step = record { step = made; code = reads_code command (reply_of reply) (with_surviving mid command) made }
 
-  module _ (next : Handles) (left : FinMap nat_cmp Table) (chosen : ℕ) where
-    abbrev mid : World
-    mid = world_of next left chosen files failures
+    pub told_fewest : IsFewest old (record { command = command; reply = reply_of reply; after = with_surviving mid command })
+    told_fewest = step_fewest honest ne_format old (record { command = command; reply = reply_of reply; after = with_surviving mid command }) is.0 made
 
-    -- heaps go behind a step that may take bytes, and behind any other none has to
-    ended : (format : Format) (command : LoadingCommand) (reply : printed.Reply) → OnHandles handles command reply next → left ≡ heaps → LoadingStep format old.loading command reply mid.loading → AnyStep old.loading command reply mid.loading
-        → surviving_heaps (may_take_bytes (OfLoading command)) next.heap left ≡ left_in next.heap heaps
-    ended format command reply s same step any = turn command (λ none. heaps_law format old (after_loading old mid.loading) command reply is.heaps none (record { any = any; exact = λ _. step }, refl)) s
-      where
-        left_is : left_in next.heap left ≡ left_in next.heap heaps
-        left_is = ap (left_in next.heap) same
-
-        by_calls : (b : Bool) → (b ≡ false → left_in next.heap heaps ≡ heaps) → surviving_heaps b next.heap left ≡ left_in next.heap heaps
-        by_calls true stay = left_is
-        by_calls false stay = same ∙ sym (stay refl)
-
-        turn : (command : LoadingCommand) → (step_may_take old.loading command ≡ false → left_in next.heap heaps ≡ heaps) → OnHandles handles command reply next
-            → surviving_heaps (may_take_bytes (OfLoading command)) next.heap left ≡ left_in next.heap heaps
-        turn (OfHandles command) stay s = by_calls (call_may_take command) stay
-        turn (OfResizes command) stay s = left_is
-        turn (OfFar command) stay s = same ∙ sym (stay (nothing_met command))
-        turn (OfModules command) stay s = absurd s
-        turn (OfResources command) stay s = absurd s
-
-    swept_step : (command : Command) (reply : printed.Reply) → Unswept old command reply mid → KernelStep old command reply (with_surviving mid command)
-    swept_step (OfLocals command) reply step format = step
-    swept_step (OfLoading command) reply step format =
-        let made : LoadingStep format old.loading command reply mid.loading = handles_step format old.loading next command reply (nothing_read command reply next step.0) step.0 in
-        let any : AnyStep old.loading command reply mid.loading = reads_no_files_law format old.loading mid.loading command reply (nothing_read command reply next step.0) made in
-        (record { any = any; exact = λ _. made }, (λ i. record { loading = mid.loading; heaps = ended format command reply step.0 step.2 made any i; ds = step.3 i }))
-
-    -- What the kernel tells of a reply: the step, that it discards as few as it can, and that it leaves a world.
-    module _ (command : Command) (reply : Reply) (step : (rest : World) → Unswept (with_parts rest handles heaps ds) command (reply_of reply) (with_parts rest next left chosen)) where
-      pub told_step : KernelStep old command (reply_of reply) (with_surviving mid command)
-      told_step = swept_step command (reply_of reply) (step old)
-
-      pub told_fewest : IsFewest old (record { command = command; reply = reply_of reply; after = with_surviving mid command })
-      told_fewest = step_fewest (Unit {0}) no_format old (record { command = command; reply = reply_of reply; after = with_surviving mid command }) is (told_step no_format)
-
-      pub told_world : IsCommand command → IsWorld (with_surviving mid command)
-      told_world known = world_kept (Unit {0}) no_format old (with_surviving mid command) command (reply_of reply) is known (told_step no_format)
+    pub told_world : IsCommand command → IsWorldOver honest (with_surviving mid command)
+    told_world known = kept command (reply_of reply) (with_surviving mid command) known made

@@ -1,38 +1,57 @@
 -- A step over the parts of the machine that the kernel has.
-use Rattle.std.specs.Prelude.{◌≡◌, ℕ, Bool, true, false, if◌then◌else◌, List}
+use Rattle.std.specs.Prelude.{◌≡◌, ℕ, Bool, true, false, if◌then◌else◌, List, Some, IsSomeAnd}
 use Rattle.std.specs.Ordering.{nat_cmp}
 use Rattle.std.specs.FinMap as finmap
 use Rattle.std.specs.FinMap.{FinMap}
-use Rattle.w16_model.specs.Handles.{Handles}
+use Rattle.w16_model.specs.Bytes.{part}
+use Rattle.w16_model.specs.Handles.{Handles, offset_in, selector_in, slot_of_selector}
 use Rattle.w16_model.specs.Heap.{Heap}
 use Rattle.w16_model.specs.Table.{Table}
-use Rattle.w16_loading.specs.File.{Format}
+use Rattle.w16_model.specs.Far.FarCommand.{Read}
 use Rattle.w16_loading.specs.Families.LoadingCommand.{OfHandles, OfResizes, OfFar, OfModules, OfResources}
-use Rattle.w16_loading.specs.Modules.{with_handles}
+use Rattle.w16_loading.specs.Fetch.{is_code, segment_bytes}
+use Rattle.w16_loading.specs.Law.{IsLoadingWorld, IsOfFiles}
+use Rattle.w16_loading.specs.Modules.{IsSegmentOf, LoadingWorld, Module, Modules, with_handles}
 use Rattle.w16_loading.specs.Replies.{Reply}
+use Rattle.w16_loading.specs.Replies.Reply.{Bytes}
+use Rattle.w16_format.specs.Ne.{ne_format}
 use Rattle.w16_machine.specs.World.{World}
+use Rattle.w16_machine.specs.Law.{IsWorld}
 use Rattle.w16_machine.specs.Local.{left_in}
 use Rattle.w16_machine.specs.LocalCalls.{LocalStep}
 use Rattle.w16_machine.specs.LocalStays.{call_may_take, modules_may_take, resources_may_take}
-use Rattle.w16_machine.specs.Machine.{Command, OnHandles, Step}
+use Rattle.w16_machine.specs.Machine.{Command, OnHandles, Step, StoreStep}
 use Rattle.w16_machine.specs.Machine.Command.{OfLoading, OfLocals}
 
--- the world that these parts are, in which no module is loaded
-abbrev pub world_of : Handles → FinMap nat_cmp Table → ℕ → List (List ℕ × List ℕ) → ℕ → World
-world_of handles heaps ds files failures = record {
-  loading = record { handles = handles; modules = finmap.empty; loads = finmap.empty; files = files; failures = failures };
-  heaps = heaps;
-  ds = ds;
-}
+-- What loading has of the world that these parts are: no resource is loaded.
+abbrev pub loading_of : Handles → Modules → List (List ℕ × List ℕ) → ℕ → LoadingWorld
+loading_of handles modules files failures = record { handles = handles; modules = modules; loads = finmap.empty; files = files; failures = failures }
 
--- A step before local heaps go whose segments lost their range: one of the other families changes handles alone.
-abbrev pub Unswept : World → Command → Reply → World → Type 0
-Unswept old (OfLoading command) reply new =
-    OnHandles old.loading.handles command reply new.loading.handles × (new.loading ≡ with_handles old.loading new.loading.handles) × (new.heaps ≡ old.heaps) × (new.ds ≡ old.ds)
-Unswept old (OfLocals command) reply new = LocalStep old command reply new
+-- the world that these parts are
+abbrev pub world_of : Handles → Modules → FinMap nat_cmp Table → ℕ → List (List ℕ × List ℕ) → ℕ → World
+world_of handles modules heaps ds files failures = record { loading = loading_of handles modules files failures; heaps = heaps; ds = ds }
 
--- Whether a step may take bytes of a global object, so that a sweep of local heaps is due behind it. A far access takes none: nothing is fetched
--- where no module is loaded.
+-- What holds of each world over a store: it is one; and where the store is honest, all that is loaded is of its file.
+abbrev pub IsLoadingOver : Type 0 → LoadingWorld → Type 0
+IsLoadingOver honest w = IsLoadingWorld w × (honest → IsOfFiles ne_format w)
+
+abbrev pub IsWorldOver : Type 0 → World → Type 0
+IsWorldOver honest w = IsWorld w × (honest → IsOfFiles ne_format w.loading)
+
+-- A step before local heaps go whose segments lost their range. A call on handles changes these alone, and a call on modules leaves the tables
+-- of local heaps as they are. A far access has the heaps go itself, where it fetches.
+abbrev pub Unswept : Type 0 → World → Command → Reply → World → Type 0
+Unswept honest old (OfLoading (OfHandles command)) reply new =
+    OnHandles old.loading.handles (OfHandles command) reply new.loading.handles × (new ≡ record old { loading = with_handles old.loading new.loading.handles })
+Unswept honest old (OfLoading (OfResizes command)) reply new =
+    OnHandles old.loading.handles (OfResizes command) reply new.loading.handles × (new ≡ record old { loading = with_handles old.loading new.loading.handles })
+Unswept honest old (OfLoading (OfFar command)) reply new = Step honest ne_format old (OfLoading (OfFar command)) reply new
+Unswept honest old (OfLoading (OfModules command)) reply new =
+    StoreStep honest ne_format old.loading (OfModules command) reply new.loading × (new ≡ record old { loading = new.loading })
+Unswept honest old (OfLoading (OfResources command)) reply new = ⊥
+Unswept honest old (OfLocals command) reply new = LocalStep old command reply new
+
+-- Whether a step may take bytes of a global object, so that a sweep of local heaps is due behind it.
 abbrev pub may_take_bytes : Command → Bool
 may_take_bytes (OfLoading (OfHandles command)) = call_may_take command
 may_take_bytes (OfLoading (OfResizes command)) = true
@@ -45,7 +64,15 @@ may_take_bytes (OfLocals command) = false
 abbrev pub surviving_heaps : Bool → Heap → FinMap nat_cmp Table → FinMap nat_cmp Table
 surviving_heaps may_take heap tables = if may_take then left_in heap tables else tables
 
--- One step of the machine, with no premise on the store: where no module is loaded, no file is read, and so it is one whatever the format of
--- module files is.
-abbrev pub KernelStep : World → Command → Reply → World → Type 0
-KernelStep old command reply new = (format : Format) → Step (Unit {0}) format old command reply new
+-- What a far read of code answers is a part of its file's bytes, relocated with the values that were bound at load: also where the code was
+-- discarded and is fetched for it.
+abbrev pub ReadsCode : World → Command → Reply → Type 0
+ReadsCode old command reply = (pointer count : ℕ) (bytes : List ℕ) (slot handle number : ℕ) (m : Module)
+    → command ≡ OfLoading (OfFar (Read pointer count)) → reply ≡ Bytes bytes
+    → slot_of_selector old.loading.handles (selector_in pointer) ≡ Some slot → IsSegmentOf old.loading slot handle number m → is_code old.loading slot ≡ true
+    → IsSomeAnd (segment_bytes ne_format old.loading m number) (λ image. bytes ≡ part image (offset_in pointer) count)
+
+-- One step of the machine over a store, of New Executable files. Where the store is honest, code reads as its file's.
+pub record KernelStep (honest : Type 0) (old : World) (command : Command) (reply : Reply) (new : World) : Type 0 where
+  pub step : Step honest ne_format old command reply new
+  pub code : honest → ReadsCode old command reply

@@ -1,9 +1,11 @@
 -- Calls and replies as the machine sees them.
-use Rattle.std.specs.Prelude.{◌≤◌, length, IsSome}
+use Rattle.std.specs.Prelude.{◌≤◌, ℕ, Bool, true, false, List, length, IsSome}
 use Rattle.w16_model.specs.Calls as calls
 use Rattle.w16_model.specs.Far as far
 use Rattle.w16_loading.specs.Replies as printed
-use Rattle.w16_loading.specs.Families.LoadingCommand.{OfHandles, OfResizes, OfFar}
+use Rattle.w16_loading.specs.Families as families
+use Rattle.w16_loading.specs.Families.LoadingCommand.{OfHandles, OfResizes, OfFar, OfModules}
+use Rattle.w16_loading.specs.File as files
 use Rattle.w16_loading.specs.Resizes as resizes
 use Rattle.w16_machine.specs.World.{World}
 use Rattle.w16_machine.specs.Local.{beginning}
@@ -11,12 +13,24 @@ use Rattle.w16_machine.specs.LocalCalls as locals
 use Rattle.w16_machine.specs.Machine.{Command}
 use Rattle.w16_machine.specs.Machine.Command.{OfLoading, OfLocals}
 use Rattle.w16_kernel.specs.declared.call.Call.{Call}
-use Rattle.w16_kernel.specs.declared.call.Call.TheVariants.{GlobalAlloc, GlobalFree, GlobalLock, GlobalUnlock, GlobalSize, GlobalFlags, GlobalHandle, GetSelectorBase, GetSelectorLimit, GlobalCompact, GlobalReAlloc, GlobalDiscard, GlobalLRUNewest, GlobalLRUOldest, Moved, Walk, Read, Write, Fill, LocalInit, LocalAlloc, LocalReAlloc, LocalDiscard, LocalFree, LocalLock, LocalUnlock, LocalSize, LocalFlags, LocalHandle, LocalCompact, DS}
+use Rattle.w16_kernel.specs.declared.call.Call.TheVariants.{GlobalAlloc, GlobalFree, GlobalLock, GlobalUnlock, GlobalSize, GlobalFlags, GlobalHandle, GetSelectorBase, GetSelectorLimit, GlobalCompact, GlobalReAlloc, GlobalDiscard, GlobalLRUNewest, GlobalLRUOldest, Moved, Walk, Read, Write, Fill, LocalInit, LocalAlloc, LocalReAlloc, LocalDiscard, LocalFree, LocalLock, LocalUnlock, LocalSize, LocalFlags, LocalHandle, LocalCompact, DS, Builtin, LoadModule, LoadLibrary, FreeLibrary, FreeModule, GetModuleHandle, GetModuleUsage, GetProcAddress}
+use Rattle.w16_kernel.specs.declared.call.Label.{Label}
+use Rattle.w16_kernel.specs.declared.call.Label.TheVariants as labels
 use Rattle.w16_kernel.specs.declared.call.Reply.{Reply}
 use Rattle.w16_kernel.specs.declared.call.Reply.TheVariants as replies
 use Rattle.w16_kernel.specs.declared.call.Answer.{Answer}
 use Rattle.w16_kernel.specs.declared.call.Answer.TheVariants as answers
 use Rattle.w16_kernel.specs.declared.call.TheConstants.{MOST_READ, MOST_FILLED}
+
+-- what a label is
+abbrev pub label_of : Label → files.Label
+label_of (labels.Number n) = files.Label.Number n
+label_of (labels.Text text) = files.Label.Text text.now
+
+-- a load of a file, by LoadModule or by LoadLibrary
+abbrev pub load_command : Bool → List ℕ → families.ModuleCommand
+load_command true file = families.ModuleCommand.LoadModule file
+load_command false file = families.ModuleCommand.LoadLibrary file
 
 -- the command of a call
 abbrev pub command_of : Call → Command
@@ -51,6 +65,14 @@ command_of (LocalFlags name) = OfLocals (locals.LocalCommand.LocalFlags name)
 command_of (LocalHandle pointer) = OfLocals (locals.LocalCommand.LocalHandle pointer)
 command_of (LocalCompact size) = OfLocals (locals.LocalCommand.LocalCompact size)
 command_of (DS selector) = OfLocals (locals.LocalCommand.DS selector)
+command_of (Builtin name) = OfLoading (OfModules (families.ModuleCommand.Builtin name.now))
+command_of (LoadModule file) = OfLoading (OfModules (families.ModuleCommand.LoadModule file.now))
+command_of (LoadLibrary file) = OfLoading (OfModules (families.ModuleCommand.LoadLibrary file.now))
+command_of (FreeLibrary handle) = OfLoading (OfModules (families.ModuleCommand.FreeLibrary handle))
+command_of (FreeModule handle) = OfLoading (OfModules (families.ModuleCommand.FreeModule handle))
+command_of (GetModuleHandle name) = OfLoading (OfModules (families.ModuleCommand.GetModuleHandle name.now))
+command_of (GetModuleUsage handle) = OfLoading (OfModules (families.ModuleCommand.GetModuleUsage handle))
+command_of (GetProcAddress handle label) = OfLoading (OfModules (families.ModuleCommand.GetProcAddress handle (label_of label)))
 
 -- the machine's reply
 abbrev pub reply_of : Reply → printed.Reply
@@ -59,6 +81,7 @@ reply_of (replies.Dword n) = printed.Reply.Dword n
 reply_of (replies.Bytes bytes) = printed.Reply.Bytes bytes.now
 reply_of replies.Done = printed.Reply.Done
 reply_of (replies.Fault fault) = printed.Reply.Fault fault
+reply_of (replies.Failed fault) = printed.Reply.Failed fault
 reply_of (replies.Walk count) = printed.Reply.Walked count
 
 -- and that of a reply that keeps its bytes
@@ -68,6 +91,7 @@ answer_of (answers.Dword n) = printed.Reply.Dword n
 answer_of (answers.Bytes bytes) = printed.Reply.Bytes bytes.items
 answer_of answers.Done = printed.Reply.Done
 answer_of (answers.Fault fault) = printed.Reply.Fault fault
+answer_of (answers.Failed fault) = printed.Reply.Failed fault
 answer_of (answers.Walk count) = printed.Reply.Walked count
 
 -- a call's numbers are those that a command may have
@@ -81,7 +105,10 @@ abbrev pub IsReply : Reply → Type 0
 IsReply (replies.Bytes bytes) = length bytes.now ≤ MOST_READ
 IsReply reply = Unit {0}
 
--- which commands take memory of the host in a world: one by which a local heap begins
+-- which commands take memory of the host in a world: one by which a local heap begins, one that adds a built-in, and loads of modules
 abbrev pub TakesMemory : World → Command → Type 0
 TakesMemory old (OfLocals (locals.LocalCommand.LocalInit selector start end)) = IsSome (beginning old selector start end)
+TakesMemory old (OfLoading (OfModules (families.ModuleCommand.Builtin name))) = Unit {0}
+TakesMemory old (OfLoading (OfModules (families.ModuleCommand.LoadModule file))) = Unit {0}
+TakesMemory old (OfLoading (OfModules (families.ModuleCommand.LoadLibrary file))) = Unit {0}
 TakesMemory old command = ⊥

@@ -1,16 +1,19 @@
 -- A run that ended early for want of memory.
 use Rattle.w16_machine.specs.World.{World}
 use Rattle.std.specs.Prelude.{◌≡◌, ℕ, ◌⊎◌, List, map, take, slice_get, IsSomeAnd}
-use Rattle.w16_machine.specs.Machine.{Event, Steps, Run}
+use Rattle.w16_machine.specs.Machine.{Event, IsSame, Steps, Run}
 use Rattle.w16_machine.specs.Fewest.{AreFewest}
 use Rattle.w16_kernel.specs.declared.call.Call.{Call}
 use Rattle.w16_kernel.specs.Runs.{command_of, TakesMemory}
 
--- So many calls were done, from old to new, and no other: there was no memory before the first one, or for the next one, which takes some.
+-- So many calls were done, from old to the last world, and no other: there was no memory before the first one, or for the next one, which takes
+-- some, and which left the world the same.
 pub record StopsEarly (steps : Steps) (old : World) (calls : List Call) (new : World) : Type 0 where
   pub done : ℕ
   pub events : List Event
-  pub run : Run steps old events new
+  pub last : World
+  pub run : Run steps old events last
   pub commands : map (λ e. e.command) events ≡ map command_of (take done calls)
   pub fewest : AreFewest old events
-  pub wanted : (done ≡ 0) ⊎ IsSomeAnd (slice_get calls done) (λ call. TakesMemory new (command_of call))
+  pub wanted : (done ≡ 0) ⊎ IsSomeAnd (slice_get calls done) (λ call. TakesMemory last (command_of call))
+  pub same : IsSame last new

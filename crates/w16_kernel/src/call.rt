@@ -2,6 +2,7 @@
 ghost use Rattle.std.specs.Prelude.{◌≡◌, ◌≤◌, length};
 
 use arrayvec::ArrayVec;
+use w16_loading::FetchFault;
 use w16_model::FarFault;
 
 /// The most bytes that a `Read` answers.
@@ -12,6 +13,13 @@ pub const MOST_FILLED: u32 = 65_536;
 
 /// Bytes that a `Read` answered, in place.
 pub type Chunk = ArrayVec<u8, MOST_READ>;
+
+/// What names an entry of a module: a number, or a text.
+#[derive(Debug, Clone, Copy)]
+pub enum Label<'a> {
+    Number(u16),
+    Text(&'a [u8]),
+}
 
 /// One command. Its bytes are lent.
 #[derive(Debug, Clone, Copy)]
@@ -51,6 +59,17 @@ pub enum Call<'a> {
     LocalCompact { size: u16 },
     /// The segment in whose local heap the other Local calls act, by its selector.
     DS { selector: u16 },
+    /// Adds a built-in module of a name. It takes memory.
+    Builtin { name: &'a [u8] },
+    /// Loads a module by the name of its file, but an application that is there. It takes memory.
+    LoadModule { file: &'a [u8] },
+    /// Loads a module by the name of its file. It takes memory.
+    LoadLibrary { file: &'a [u8] },
+    FreeLibrary { handle: u16 },
+    FreeModule { handle: u16 },
+    GetModuleHandle { name: &'a [u8] },
+    GetModuleUsage { handle: u16 },
+    GetProcAddress { handle: u16, label: Label<'a> },
 }
 
 impl Call<'_> {
@@ -58,7 +77,8 @@ impl Call<'_> {
     ghost use Rattle.w16_kernel.specs.Parts.{may_take_bytes};
     ghost use Rattle.w16_kernel.specs.Runs.{command_of};
 
-    /// Whether the call may take bytes of an object of the global heap, and so a local heap with them.
+    /// Whether the call may take bytes of an object of the global heap, and so a local heap with them: false of a far access, which has the
+    /// local heaps go itself where it fetches.
     pub fn may_take_bytes(&self) -> bool
         ensures { result ≡ may_take_bytes (command_of self.now) }
     {
@@ -67,7 +87,11 @@ impl Call<'_> {
             | Call::GlobalFree { .. }
             | Call::GlobalCompact { .. }
             | Call::GlobalReAlloc { .. }
-            | Call::GlobalDiscard { .. } => true,
+            | Call::GlobalDiscard { .. }
+            | Call::LoadModule { .. }
+            | Call::LoadLibrary { .. }
+            | Call::FreeLibrary { .. }
+            | Call::FreeModule { .. } => true,
             _ => false,
         }
     }
@@ -81,6 +105,8 @@ pub enum Reply<'r> {
     Bytes(&'r [u8]),
     Done,
     Fault(FarFault),
+    /// An object of a module didn't get its bytes.
+    Failed(FetchFault),
     /// So many parts of the heap, which `Kernel::walk_at` tells one by one, and `Kernel::walk_from` from address to address.
     Walk(u32),
 }
@@ -93,6 +119,7 @@ pub enum Answer {
     Bytes(Chunk),
     Done,
     Fault(FarFault),
+    Failed(FetchFault),
     Walk(u32),
 }
 
@@ -111,6 +138,7 @@ impl Answer {
             Reply::Bytes(bytes) => Answer::Bytes(chunk_of(bytes)),
             Reply::Done => Answer::Done,
             Reply::Fault(fault) => Answer::Fault(fault),
+            Reply::Failed(fault) => Answer::Failed(fault),
             Reply::Walk(count) => Answer::Walk(count),
         }
     }

@@ -3,81 +3,107 @@ ghost use Rattle.std.specs.Prelude.{◌≡◌, ◌+◌, ◌%◌, ◌^◌, ◌<�
 ghost use Rattle.w16_model.specs.Handles.{handle_of};
 ghost use Rattle.w16_model.specs.Walk.{IsFirstItem};
 ghost use Rattle.w16_machine.specs.World.{IsWorldWalk, empty_world};
-ghost use Rattle.w16_machine.specs.Machine.{Event, Run};
+ghost use Rattle.w16_machine.specs.Machine.{Event, IsSame, Run};
 ghost use Rattle.w16_machine.specs.Fewest.{IsFewest, AreFewest};
 ghost use Rattle.w16_kernel.specs.Parts.{KernelStep};
 ghost use Rattle.w16_kernel.specs.Runs.{command_of, reply_of, answer_of, IsCall, IsReply, TakesMemory};
 ghost use Rattle.w16_kernel.specs.Stops.{StopsEarly};
 
 use crate::call::{Answer, Call, MOST_READ, Reply};
+use crate::library::Library;
 use crate::step::{step, sweep};
 use std::alloc::{AllocError, Allocator, Global};
 use std::marker::Model;
 use w16_global::Global16;
+use w16_loader::Registry;
 use w16_local::LocalHeaps;
 use w16_model::{GRAIN, Item, MOST_SLOTS};
+use w16_reloc::Scratch;
 use w16_store::Store;
 
-/// The machine over a store of module files. Its value is the world that a script sees. No call loads a module yet, so none reads the store.
+/// The machine over a store of module files. Its value is the world that a script sees.
 #[derive(Drop)]
 pub struct Kernel<S: Store + Drop, A: Allocator + Copy = Global> {
     alloc: A,
     global: Global16<A>,
     locals: LocalHeaps<A>,
     ds: u16,
-    store: S,
+    library: Library<S, A>,
 }
 
 impl<S: Store + Drop, A: Allocator + Copy> Model for Kernel<S, A> {
     ghost use Rattle.w16_machine.specs.World.{World};
-    ghost use Rattle.w16_machine.specs.Law.{IsWorld};
     ghost use Rattle.w16_kernel.specs.Codes.{world_code};
-    ghost use Rattle.w16_kernel.specs.Parts.{world_of};
+    ghost use Rattle.w16_kernel.specs.Parts.{IsWorldOver, world_of};
 
     ghost Value = { World };
 
     ghost coded = { world_code };
 
-    ghost view = { λ k. world_of k.global.handles k.locals k.ds (S.files k.store) (S.failures k.store) };
+    ghost view = { λ k. world_of k.global.handles k.library.registry k.locals k.ds (S.files k.library.store) (S.failures k.library.store) };
 
-    ghost invariant = { λ k. IsWorld (world_of k.global.handles k.locals k.ds (S.files k.store) (S.failures k.store)) };
+    ghost invariant = { λ k. IsWorldOver S.is_honest (world_of k.global.handles k.library.registry k.locals k.ds (S.files k.library.store) (S.failures k.library.store)) };
 }
 
 impl<S: Store + Drop, A: Allocator + Copy> Kernel<S, A> {
-    /// A machine over a store, and over `memory` bytes, a multiple of 32, with so many selectors, at most 8,160, in which nothing is allocated.
-    /// It takes its memory here, but for that of local heaps; an error is that there was none, and then the store is dropped.
-    pub fn new(alloc: A, memory: u32, slots: u32, store: S) -> Result<Kernel<S, A>, AllocError>
+    /// A machine over a store, and over `memory` bytes, a multiple of 32, with so many selectors, at most 8,160, in which nothing is allocated
+    /// and nothing loaded. It takes its memory here, but for that of local heaps and of modules: room for one segment of a file from the host,
+    /// as the lists that loads make meanwhile. An error is that there was none, and then the store is dropped.
+    pub fn new(
+        alloc: A,
+        host: Global,
+        memory: u32,
+        slots: u32,
+        store: S,
+    ) -> Result<Kernel<S, A>, AllocError>
         requires grained { memory % GRAIN ≡ 0 }
         requires few { slots ≤ MOST_SLOTS }
         ensures { IfOk result (λ kernel. kernel ≡ empty_world memory slots (S.files store) (S.failures store)) }
     {
+        let scratch = Scratch::new(host)?;
+        let registry = Registry::new(alloc)?;
         let locals = LocalHeaps::new(alloc, slots)?;
         // last, so that no way out has to drop it
         let global = Global16::new(alloc, memory, slots)?;
+        let library = Library {
+            host,
+            registry,
+            store,
+            scratch,
+        };
         Ok(Kernel {
             alloc,
             global,
             locals,
             ds: 0,
-            store,
+            library,
         })
     }
 
     /// One step of the machine. Bytes that are read are put into the room, and the reply borrows them there. A `LocalInit` by which a heap
-    /// begins takes memory: an error is that there was none, and the world is the same. Every other call answers.
+    /// begins takes memory, and so do `Builtin`, `LoadModule` and `LoadLibrary`: an error is that there was none, and the world is the same but
+    /// for the count of the store's failures. Every other call answers.
+    #[inline(always)]
     pub fn call<'r>(
         &mut self,
         call: &Call<'_>,
         room: &'r mut [u8; MOST_READ],
     ) -> Result<Reply<'r>, AllocError>
         requires { IsCall call.now }
-        ensures step { IfOk result (λ reply. KernelStep self.old (command_of call.now) (reply_of reply) self.new) }
+        ensures step { IfOk result (λ reply. KernelStep S.is_honest self.old (command_of call.now) (reply_of reply) self.new) }
         ensures fewest { IfOk result (λ reply. IsFewest self.old (record { command = command_of call.now; reply = reply_of reply; after = self.new })) }
         ensures short { IfOk result (λ reply. IsReply reply) }
         ensures wanted { OnErr result (TakesMemory self.old (command_of call.now)) }
-        ensures refused { OnErr result (self.new ≡ self.old) }
+        ensures refused { OnErr result (IsSame self.old self.new) }
     {
-        let reply = step(&mut self.global, &mut self.locals, &mut self.ds, call, room)?;
+        let reply = step(
+            &mut self.global,
+            &mut self.locals,
+            &mut self.library,
+            &mut self.ds,
+            call,
+            room,
+        )?;
         sweep(&mut self.locals, &self.global, call);
         self.global.reveal_handles();
         Ok(reply)
@@ -106,13 +132,13 @@ impl<S: Store + Drop, A: Allocator + Copy> Kernel<S, A> {
     }
 
     /// Calls one after another, and their answers: a run of the machine, in which each call for room discards as few objects as it can.
-    /// An error is that there was no memory, for the answers or for a `LocalInit`: the calls before it were done, and no other.
+    /// An error is that there was no memory, for the answers or for a call that takes some: the calls before it were done, and no other.
     pub fn run_calls(&mut self, calls: &[Call<'_>]) -> Result<Vec<Answer, A>, AllocError>
         requires { All IsCall calls.now }
-        ensures run { IfOk result (λ answers. (events : List Event) × Run KernelStep self.old events self.new × (map (λ e. e.command) events ≡ map command_of calls.now)
+        ensures run { IfOk result (λ answers. (events : List Event) × Run (KernelStep S.is_honest) self.old events self.new × (map (λ e. e.command) events ≡ map command_of calls.now)
             × (map (λ e. e.reply) events ≡ map answer_of answers.items)
             × AreFewest self.old events) }
-        ensures refused { OnErr result (StopsEarly KernelStep self.old calls.now self.new) }
+        ensures refused { OnErr result (StopsEarly (KernelStep S.is_honest) self.old calls.now self.new) }
     {
         let mut answers = Vec::with_capacity(self.alloc, calls.len())?;
         let mut room = [0; MOST_READ];

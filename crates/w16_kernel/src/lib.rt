@@ -2,12 +2,15 @@
 #![tactic(auto)]
 
 mod call;
+mod far;
 mod kernel;
+mod library;
+mod load;
 mod machine;
 mod sizes;
 mod step;
 
-pub use call::{Answer, Call, Chunk, MOST_FILLED, MOST_READ, Reply};
+pub use call::{Answer, Call, Chunk, Label, MOST_FILLED, MOST_READ, Reply};
 pub use kernel::Kernel;
 pub use machine::Machine;
 pub use sizes::{MOST_MEMORY, SizeFault, check_sizes};

@@ -25,7 +25,7 @@ pub trait Machine {
     ghost steps: { World → Command → printed.Reply → World → Type 0 };
 
     /// One call: a step that it may take, which discards as few objects as it can. Bytes that are read are put into the room. An error
-    /// is that there was no memory for a new local heap, and the world is the same.
+    /// is that there was no memory, for a new local heap, a built-in or a load, and the world is the same.
     fn call<'r>(
         &mut self,
         call: &Call<'_>,
@@ -49,8 +49,9 @@ pub trait Machine {
 impl<S: Store + Drop, A: Allocator + Copy> Machine for Kernel<S, A> {
     ghost world = { λ kernel. kernel };
 
-    ghost steps = { KernelStep };
+    ghost steps = { KernelStep S.is_honest };
 
+    #[inline(always)]
     fn call<'r>(
         &mut self,
         call: &Call<'_>,

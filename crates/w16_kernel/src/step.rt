@@ -1,67 +1,21 @@
 //! One step of the machine over its parts.
-ghost use Rattle.std.specs.Prelude.{◌≡◌, ◌<◌, ◌≤◌, All, List, length, IfOk, OnOk, OnErr};
+ghost use Rattle.std.specs.Prelude.{◌≡◌, List, length, IfOk, OnOk, OnErr};
 ghost use Rattle.w16_model.specs.Handles.{handle_of};
-ghost use Rattle.w16_model.specs.Far.{FarCommand};
-ghost use Rattle.w16_model.specs.Far as far;
 ghost use Rattle.w16_model.specs.Walk.{IsWalk};
-ghost use Rattle.w16_loading.specs.Replies.{FarReplies};
-ghost use Rattle.w16_machine.specs.World.{World};
-ghost use Rattle.w16_machine.specs.Machine.{IsCommand};
-ghost use Rattle.w16_local.specs.Parts.{with_parts};
+ghost use Rattle.w16_machine.specs.Machine.{IsCommand, IsSame};
 ghost use Rattle.w16_kernel.specs.Runs.{command_of, reply_of, IsCall, IsReply, TakesMemory};
-ghost use Rattle.w16_kernel.specs.Parts.{Unswept, may_take_bytes, surviving_heaps};
+ghost use Rattle.w16_kernel.specs.Parts.{IsWorldOver, Unswept, may_take_bytes, surviving_heaps, world_of};
 
 use crate::call::{Call, MOST_READ, Reply};
+use crate::far::{fill, read, write};
+use crate::library::Library;
+use crate::load::{load_reply, proc_address};
 use std::alloc::{AllocError, Allocator};
 use w16_global::Global16;
+use w16_loader::free;
 use w16_local::LocalHeaps;
 use w16_model::Item;
-use w16_model::names::{offset_in, selector_in};
-
-/// The reply to a far read of as many bytes as the room has, into which they are copied.
-fn read<'r, A: Allocator + Copy>(
-    global: &mut Global16<A>,
-    pointer: u32,
-    room: &'r mut [u8],
-) -> Reply<'r>
-    ensures gives { FarReplies global.old.handles (far.FarCommand.Read pointer (length room.old)) (reply_of result) global.new.handles }
-    ensures short { length room.old ≤ MOST_READ → IsReply result }
-{
-    match global.far_read(selector_in(pointer), offset_in(pointer), room) {
-        Ok(()) => Reply::Bytes(room),
-        Err(fault) => Reply::Fault(fault),
-    }
-}
-
-/// The reply to a far write.
-fn write<A: Allocator + Copy>(
-    global: &mut Global16<A>,
-    pointer: u32,
-    bytes: &[u8],
-) -> Reply<'static>
-    ensures bytes { All (λ b. b < 256) bytes.now }
-    ensures gives { FarReplies global.old.handles (far.FarCommand.Write pointer bytes.now) (reply_of result) global.new.handles }
-{
-    match global.far_write(selector_in(pointer), offset_in(pointer), bytes) {
-        Ok(()) => Reply::Done,
-        Err(fault) => Reply::Fault(fault),
-    }
-}
-
-/// The reply to a far write of one byte many times.
-fn fill<A: Allocator + Copy>(
-    global: &mut Global16<A>,
-    pointer: u32,
-    count: u32,
-    byte: u8,
-) -> Reply<'static>
-    ensures { FarReplies global.old.handles (far.FarCommand.Fill pointer count byte) (reply_of result) global.new.handles }
-{
-    match global.far_fill(selector_in(pointer), offset_in(pointer), count, byte) {
-        Ok(()) => Reply::Done,
-        Err(fault) => Reply::Fault(fault),
-    }
-}
+use w16_store::Store;
 
 /// How many parts the heap's walk has.
 fn part_count<A: Allocator + Copy>(global: &Global16<A>) -> u32
@@ -80,21 +34,26 @@ pub fn sweep<A: Allocator + Copy>(locals: &mut LocalHeaps<A>, global: &Global16<
     }
 }
 
-/// One step, in whatever world has these parts: it changes them alone. Local heaps are swept behind it. Bytes that are read are put into
-/// the room. An error is that there was no memory for a new local heap, and nothing was done.
-pub fn step<'r, A: Allocator + Copy>(
+/// One step, before local heaps are swept: far accesses sweep them themselves. Bytes that are read are put into the room. An error is that there
+/// was no memory for a new local heap, a built-in or a load, and the world is the same.
+#[inline(always)]
+pub fn step<'r, S: Store + Drop, A: Allocator + Copy>(
     global: &mut Global16<A>,
     locals: &mut LocalHeaps<A>,
+    library: &mut Library<S, A>,
     ds: &mut u16,
     call: &Call<'_>,
     room: &'r mut [u8; MOST_READ],
 ) -> Result<Reply<'r>, AllocError>
-    requires { IsCall call.now }
-    ensures step { IfOk result (λ reply. (rest : World) → Unswept (with_parts rest global.old.handles locals.old ds.old) (command_of call.now) (reply_of reply) (with_parts rest global.new.handles locals.new ds.new)) }
+    requires world { IsWorldOver S.is_honest (world_of global.old.handles library.old.registry locals.old ds.old (S.files library.old.store) (S.failures library.old.store)) }
+    requires call { IsCall call.now }
+    ensures step { IfOk result (λ reply. Unswept S.is_honest (world_of global.old.handles library.old.registry locals.old ds.old (S.files library.old.store) (S.failures library.old.store)) (command_of call.now) (reply_of reply)
+        (world_of global.new.handles library.new.registry locals.new ds.new (S.files library.new.store) (S.failures library.new.store))) }
     ensures ranged { OnOk result (IsCommand (command_of call.now)) }
     ensures short { IfOk result (λ reply. IsReply reply) }
-    ensures wanted { OnErr result ((rest : World) → TakesMemory (with_parts rest global.old.handles locals.old ds.old) (command_of call.now)) }
-    ensures refused { OnErr result ((global.new ≡ global.old) × (locals.new ≡ locals.old) × (ds.new ≡ ds.old)) }
+    ensures wanted { OnErr result (TakesMemory (world_of global.old.handles library.old.registry locals.old ds.old (S.files library.old.store) (S.failures library.old.store)) (command_of call.now)) }
+    ensures refused { OnErr result (IsSame (world_of global.old.handles library.old.registry locals.old ds.old (S.files library.old.store) (S.failures library.old.store))
+        (world_of global.new.handles library.new.registry locals.new ds.new (S.files library.new.store) (S.failures library.new.store))) }
 {
     match *call {
         Call::GlobalAlloc { flags, size } => Ok(Reply::Word(global.global_alloc(flags, size))),
@@ -121,13 +80,19 @@ pub fn step<'r, A: Allocator + Copy>(
         Call::GlobalLRUOldest { handle } => Ok(Reply::Word(global.global_lru_oldest(handle))),
         Call::Moved => Ok(Reply::Dword(global.moved() as u32)),
         Call::Walk => Ok(Reply::Walk(part_count(global))),
-        Call::Read { pointer, count } => Ok(read(global, pointer, &mut room[..count as usize])),
-        Call::Write { pointer, bytes } => Ok(write(global, pointer, bytes)),
+        Call::Read { pointer, count } => Ok(read(
+            global,
+            locals,
+            library,
+            pointer,
+            &mut room[..count as usize],
+        )),
+        Call::Write { pointer, bytes } => Ok(write(global, locals, library, pointer, bytes)),
         Call::Fill {
             pointer,
             count,
             byte,
-        } => Ok(fill(global, pointer, count, byte)),
+        } => Ok(fill(global, locals, library, pointer, count, byte)),
         Call::LocalInit {
             selector,
             start,
@@ -152,6 +117,22 @@ pub fn step<'r, A: Allocator + Copy>(
         Call::DS { selector } => {
             *ds = selector;
             Ok(Reply::Done)
+        }
+        Call::Builtin { name } => Ok(Reply::Word(library.registry.builtin(name)?)),
+        Call::LoadModule { file } => load_reply(global, library, file, true),
+        Call::LoadLibrary { file } => load_reply(global, library, file, false),
+        Call::FreeLibrary { handle } => {
+            Ok(Reply::Word(free(&mut library.registry, global, handle)))
+        }
+        Call::FreeModule { handle } => {
+            Ok(Reply::Word(free(&mut library.registry, global, handle)))
+        }
+        Call::GetModuleHandle { name } => {
+            Ok(Reply::Word(library.registry.handle_of(name).unwrap_or(0)))
+        }
+        Call::GetModuleUsage { handle } => Ok(Reply::Word(library.registry.usage(handle))),
+        Call::GetProcAddress { handle, label } => {
+            Ok(Reply::Dword(proc_address(&library.registry, handle, label)))
         }
     }
 }

@@ -12,6 +12,8 @@ pub struct Options<'a> {
     pub memory: u32,
     /// How many objects may be there at once.
     pub selectors: u32,
+    /// The path of the folder that module files lie in.
+    pub dir: &'a str,
     /// The script's path; standard input without one.
     pub script: Option<&'a str>,
 }
@@ -22,9 +24,14 @@ const MEMORY: &str = "1048576";
 /// The number of selectors where none is asked for.
 const SELECTORS: &str = "1024";
 
+/// The folder of module files where none is asked for.
+const DIR: &str = ".";
+
 const MEMORY_HELP: &str = "Bytes of the global heap, a multiple of 32 from 32 to 16777216";
 
 const SELECTORS_HELP: &str = "How many objects there may be at once, from 1 to 8160";
+
+const DIR_HELP: &str = "The folder of module files";
 
 const SCRIPT_HELP: &str = "The script; standard input without it, or where it is -";
 
@@ -47,6 +54,15 @@ fn number<'a>(alloc: Global, name: &'a str, value: &'a str, help: &'a str) -> Ar
         .help(help)
 }
 
+/// The option with the folder of module files.
+fn dir<'a>(alloc: Global) -> Arg<'a> {
+    Arg::new(alloc, "dir")
+        .long("dir")
+        .value_name("D")
+        .default_value(DIR)
+        .help(DIR_HELP)
+}
+
 /// The command line that the program takes.
 fn command<'a>(alloc: Global) -> Result<Command<'a>, AllocError> {
     Command::new(alloc, "w16heap")
@@ -55,16 +71,18 @@ fn command<'a>(alloc: Global) -> Result<Command<'a>, AllocError> {
         .after_help(EXAMPLES)
         .arg(number(alloc, "memory", MEMORY, MEMORY_HELP))?
         .arg(number(alloc, "selectors", SELECTORS, SELECTORS_HELP))?
+        .arg(dir(alloc))?
         .arg(Arg::new(alloc, "SCRIPT").help(SCRIPT_HELP))
 }
 
 /// Reads the words of a command line, the program's name first. An error is `clap`'s, also where help or the version is asked for.
 pub fn parse<'a, S: AsStr>(alloc: Global, words: &'a [S]) -> Result<Options<'a>, Error> {
     let matches = command(alloc)?.try_get_matches_from(words)?;
-    // clap gives a default where nothing is asked for, so each number is there.
+    // clap gives a default where nothing is asked for, so each number and the folder are there.
     Ok(Options {
         memory: matches.get_one("memory").unwrap_or_default(),
         selectors: matches.get_one("selectors").unwrap_or_default(),
+        dir: matches.get_str("dir").unwrap_or(DIR),
         script: matches.get_str("SCRIPT").filter(|path| *path != "-"),
     })
 }

@@ -1,5 +1,5 @@
 -- Lemmas on the arguments of commands.
-use Rattle.w16_script.proofs.Common.{◌≡◌, ℕ, ◌*◌, ◌≤◌, List, [], ◌∷◌, length, refl, sym, subst, ◌∙◌, arith, Ok, Option, Some, None, IfNone, Command, Name, Parameter, IsNumber, Argument, IsArgument, AreArguments, Makes, parameters_of, command_with, decode_of, decode_of-ok}
+use Rattle.w16_script.proofs.Common.{◌≡◌, ◌≢◌, ℕ, ◌*◌, ◌^◌, ◌<◌, ◌≤◌, List, [], ◌∷◌, length, get_or, refl, ap, sym, subst, ◌∙◌, arith, Ok, Option, Some, None, IfNone, Command, Name, Parameter, Label, IsLiteral, IsNumber, Argument, IsText, IsLabel, IsArgument, AreArguments, Makes, parameters_of, command_with, decode_of, decode_of-ok}
 use Rattle.w16_script.specs.declared.arguments.Parameter.TheVariants as p
 
 -- a word of another length has no so many bytes
@@ -27,6 +27,25 @@ no_count registers word most none value h = absurd h
 pub no_byte : (registers word : List ℕ) → ((n : ℕ) → IsNumber registers word n → n ≤ 255 → ⊥) → (value : Argument) → IsArgument registers word p.Byte value → ⊥
 no_byte registers word none (Argument.Byte n) h = none n h.0 (omega (arith, h.1))
 no_byte registers word none value h = absurd h
+
+pub no_text : (registers word : List ℕ) → (IsText word → ⊥) → (value : Argument) → IsArgument registers word p.Text value → ⊥
+no_text registers word none (Argument.Text text) h = none h.1
+no_text registers word none value h = absurd h
+
+pub no_label : (registers word : List ℕ) → ((label : Label) → IsLabel word label → ⊥) → (value : Argument) → IsArgument registers word p.Label value → ⊥
+no_label registers word none (Argument.Label label) h = none label h
+no_label registers word none value h = absurd h
+
+-- a label that is a number begins with `#`
+pub hash : (word digits : List ℕ) → word ≡ 35 ∷ digits → get_or word 0 0 ≢ 35 → ⊥
+hash word digits is other = other (ap (λ (l : List ℕ). get_or l 0 0) is)
+
+-- what begins with `#` is no label without a number
+pub no_number_behind : (word digits : List ℕ) → word ≡ 35 ∷ digits → ((n : ℕ) → IsLiteral digits n → n < 2 ^ 16 → ⊥) → (label : Label) → IsLabel word label → ⊥
+no_number_behind word digits is none (Label.Text text) (same, reads, other) = hash word digits is other
+no_number_behind word digits is none (Label.Number n) (others, is_too, reads, small) =
+    let same : others ≡ digits = cc in
+    none n (subst (λ (l : List ℕ). IsLiteral l n) same reads) small
 
 -- the first word is no value
 pub no_value : (registers first : List ℕ) (words behind : List (List ℕ)) (parameter : Parameter) → words ≡ first ∷ behind → ((other : Argument) → IsArgument registers first parameter other → ⊥)

@@ -8,7 +8,7 @@ pub use Rattle.std.proofs.lemmas.Grind.{flat_map-append}
 pub use Rattle.std.proofs.lemmas.List.{length-set, map-append, take_rest}
 pub use Rattle.std.proofs.lemmas.List.Sums.{list_all-from_AllPass, sum_by-append}
 pub use Rattle.std.proofs.lemmas.Result.{IfErr-weaker, IfOk-weaker, err_from_is_err_and, on_err_weaker, on_ok_weaker}
-pub use Rattle.std.specs.Char.{digit_value}
+pub use Rattle.std.specs.Char.{digit_value, is_ascii_graphic}
 pub use Rattle.std.specs.Fmt.{decimal}
 pub use Rattle.std.specs.Int.{to_be_bytes, w32}
 pub use Rattle.std.specs.Io.BufRead.{strip_last}
@@ -24,12 +24,13 @@ pub use Rattle.hex.specs.declared.error.FromHexError.{FromHexError}
 pub use Rattle.hex.specs.declared.error.FromHexError.TheVariants.{InvalidHexCharacter}
 pub use Rattle.w16_kernel.proofs.Common.{AreFewest, Command, Event, Run, Steps, World, command_of, common_steps, handle_of, reply_of, ◌&&◌}
 pub use Rattle.w16_loading.proofs.Common.{IsTrue, MatchOption, count_by, if◌then◌else◌, list_all, nat_lt, slice_index, ◌==◌}
+pub use Rattle.w16_loading.specs.File.{Label}
 pub use Rattle.w16_machine.specs.World.{IsWorldWalk}
 pub use Rattle.w16_model.proofs.Common.{IsFirstItem, cases_lt, nat_tests}
 pub use Rattle.w16_model.proofs.Cuts.{IsCut, Next, all_done, cut_more, cut_none, done_more, done_none, next}
 pub use Rattle.w16_model.specs.declared.Item.{Item}
 pub use Rattle.w16_script.specs.Feeding.{FailsAt, Feeds, Stops, StopsHere}
-pub use Rattle.w16_script.specs.Grammar.{AreArguments, Argument, GoesTo, IsArgument, IsBytes, Makes, Reads, Said, Spells, all_names, command_with, is_silent, parameters_of, target_of, text_of}
+pub use Rattle.w16_script.specs.Grammar.{AreArguments, Argument, GoesTo, IsArgument, IsBytes, IsLabel, IsText, Makes, Reads, Said, Spells, all_names, command_with, is_silent, parameters_of, target_of, text_of}
 pub use Rattle.w16_script.specs.Laws.{is_plain}
 pub use Rattle.w16_script.specs.Numbers.{BeginsWith, IsDecimal, IsDigits, IsForm, IsHexadecimal, IsLiteral, IsNumber, IsOfRegister, IsSum, is_digit, place_value}
 pub use Rattle.w16_script.specs.Output.{Prints, PrintsLine, RunsLines, has_reply}

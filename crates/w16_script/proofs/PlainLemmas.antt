@@ -1,5 +1,5 @@
 -- A line that says a command has plain bytes alone.
-use Rattle.w16_script.proofs.Common.{◌≡◌, ℕ, ◌≤◌, Bool, true, false, List, [], ◌∷◌, ◌++◌, refl, arith, inl, inr, cond, Option, Some, None, ◌+◌, ◌/◌, ◌%◌, ap, ◌∙◌, cases_lt, decimal_digit, ◌&&◌, codes, slice_index, list_all, nat_tests, list_all-from_AllPass, is_hex_digit, decode_of-ok, Command, Name, Parameter, IsRegister, is_blank, with_byte, words_of, is_digit, IsLiteral, IsForm, IsNumber, Argument, IsBytes, IsArgument, AreArguments, GoesTo, Spells, Said, Reads, text_of, parameters_of, is_plain}
+use Rattle.w16_script.proofs.Common.{◌≡◌, ℕ, ◌≤◌, Bool, true, false, List, [], ◌∷◌, ◌++◌, refl, arith, inl, inr, cond, Option, Some, None, ◌+◌, ◌/◌, ◌%◌, ap, ◌∙◌, cases_lt, decimal_digit, ◌&&◌, codes, slice_index, list_all, nat_tests, list_all-from_AllPass, is_ascii_graphic, is_hex_digit, decode_of-ok, Command, Name, Parameter, Label, IsRegister, is_blank, with_byte, words_of, is_digit, IsLiteral, IsForm, IsNumber, Argument, IsBytes, IsText, IsLabel, IsArgument, AreArguments, GoesTo, Spells, Said, Reads, text_of, parameters_of, is_plain}
 use Rattle.w16_script.specs.declared.name.Name.TheVariants as name
 use Rattle.w16_script.specs.declared.arguments.Parameter.TheVariants as p
 use Rattle.w16_script.proofs.RegisterLemmas.{two_digits}
@@ -16,6 +16,9 @@ blank_plain byte e = grind (arith, nat_tests)
 
 digit_plain : (base byte : ℕ) → base ≤ 16 → is_digit base byte ≡ true → is_plain byte ≡ true
 digit_plain base byte h e = grind (arith, nat_tests)
+
+graphic_plain : (byte : ℕ) → is_ascii_graphic byte ≡ true → is_plain byte ≡ true
+graphic_plain byte e = grind (arith, nat_tests)
 
 hex_plain : (byte : ℕ) → is_hex_digit byte ≡ true → is_plain byte ≡ true
 hex_plain byte e = grind (arith, nat_tests)
@@ -40,6 +43,13 @@ digit_plain_at byte low high rest e =
 bytes_plain : (word bytes : List ℕ) → IsBytes word bytes → list_all is_plain word ≡ true
 bytes_plain word bytes h =
     all_weaker is_hex_digit is_plain word hex_plain (list_all-from_AllPass is_hex_digit word (decode_of-ok word bytes h.0).1)
+
+text_plain : (word : List ℕ) → IsText word → list_all is_plain word ≡ true
+text_plain word (some, few, graphic) = all_weaker is_ascii_graphic is_plain word graphic_plain graphic
+
+label_plain : (word : List ℕ) (label : Label) → IsLabel word label → list_all is_plain word ≡ true
+label_plain word (Label.Text text) (same, is, other) = text_plain word is
+label_plain word (Label.Number n) (digits, is, reads, small) = rw is (joined (is_plain 35) (list_all is_plain digits) refl (literal_plain digits n reads))
 
 name_plain : (n : Name) → list_all is_plain (text_of n) ≡ true
 name_plain name.GlobalAlloc = refl
@@ -80,6 +90,8 @@ argument_plain registers word p.Dword (Argument.Dword n) h = number_plain regist
 argument_plain registers word (p.Count most) (Argument.Count n) h = number_plain registers word n h.0
 argument_plain registers word p.Byte (Argument.Byte n) h = number_plain registers word n h.0
 argument_plain registers word p.Bytes (Argument.Bytes bytes) h = bytes_plain word bytes h
+argument_plain registers word p.Text (Argument.Text text) h = text_plain word h.1
+argument_plain registers word p.Label (Argument.Label label) h = label_plain word label h
 argument_plain registers word parameter a h = absurd h
 
 arguments_plain : (registers : List ℕ) (words : List (List ℕ)) (parameters : List Parameter) (a : List Argument) → AreArguments registers words parameters a → are_plain words ≡ true

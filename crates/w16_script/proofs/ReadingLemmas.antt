@@ -1,11 +1,20 @@
 -- A line has only one reading.
-use Rattle.w16_script.proofs.Common.{◌≡◌, ℕ, List, [], ◌∷◌, Option, Some, None, subst, sym, ap, ◌∙◌, refl, arith, get_or, decimal, decimal_injective, codes, if◌then◌else◌, ◌==◌, bytes_eq, decode_of-same, Name, Parameter, Command, words_of, Argument, IsArgument, AreArguments, GoesTo, Makes, Spells, Said, Reads, text_of, parameters_of, command_with, is_silent, all_names}
+use Rattle.w16_script.proofs.Common.{◌≡◌, ℕ, List, [], ◌∷◌, Option, Some, None, subst, sym, ap, ◌∙◌, refl, arith, get_or, decimal, decimal_injective, codes, if◌then◌else◌, ◌==◌, bytes_eq, decode_of-same, Name, Parameter, Command, Label, words_of, IsLiteral, Argument, IsLabel, IsArgument, AreArguments, GoesTo, Makes, Spells, Said, Reads, text_of, parameters_of, command_with, is_silent, all_names}
 use Rattle.w16_script.specs.declared.name.Name.TheVariants as name
 use Rattle.w16_script.specs.declared.arguments.Parameter.TheVariants as p
 use Rattle.w16_script.proofs.RegisterLemmas.{clash}
-use Rattle.w16_script.proofs.OneNumberLemmas.{number-same}
+use Rattle.w16_script.proofs.OneNumberLemmas.{number-same, literal-same}
+use Rattle.w16_script.proofs.ArgumentLemmas.{hash}
 
 -- Arguments.
+
+label-one : (word : List ℕ) (a b : Label) → IsLabel word a → IsLabel word b → a ≡ b
+label-one word (Label.Text s) (Label.Text t) h k = ap Label.Text (h.0 ∙ sym k.0)
+label-one word (Label.Text s) (Label.Number n) h (digits, is, reads, small) = absurd (hash word digits is h.2)
+label-one word (Label.Number n) (Label.Text s) (digits, is, reads, small) k = absurd (hash word digits is k.2)
+label-one word (Label.Number m) (Label.Number n) (digits, is, reads, small) (others, is_too, reads_too, small_too) =
+    let same : others ≡ digits = cc in
+    ap Label.Number (literal-same digits m n reads (subst (λ (l : List ℕ). IsLiteral l n) same reads_too))
 
 argument-one : (registers word : List ℕ) (parameter : Parameter) (a b : Argument) → IsArgument registers word parameter a → IsArgument registers word parameter b → a ≡ b
 argument-one registers word p.Word (Argument.Word m) (Argument.Word n) h k = ap Argument.Word (number-same registers word m n h.0 k.0)
@@ -13,6 +22,8 @@ argument-one registers word p.Dword (Argument.Dword m) (Argument.Dword n) h k = 
 argument-one registers word (p.Count most) (Argument.Count m) (Argument.Count n) h k = ap Argument.Count (number-same registers word m n h.0 k.0)
 argument-one registers word p.Byte (Argument.Byte m) (Argument.Byte n) h k = ap Argument.Byte (number-same registers word m n h.0 k.0)
 argument-one registers word p.Bytes (Argument.Bytes s) (Argument.Bytes t) h k = ap Argument.Bytes (decode_of-same word s t h.0 k.0)
+argument-one registers word p.Text (Argument.Text s) (Argument.Text t) h k = ap Argument.Text (h.0 ∙ sym k.0)
+argument-one registers word p.Label (Argument.Label s) (Argument.Label t) h k = ap Argument.Label (label-one word s t h k)
 argument-one registers word parameter a b h k = absurd (assumption (h, k))
 
 pub arguments-one : (registers : List ℕ) (words : List (List ℕ)) (parameters : List Parameter) (a b : List Argument) → AreArguments registers words parameters a → AreArguments registers words parameters b → a ≡ b

@@ -1,6 +1,7 @@
 -- What a line says.
-use Rattle.std.specs.Prelude.{◌≡◌, ℕ, suc, ◌^◌, ◌<◌, ◌≤◌, Bool, true, false, ◌==◌, List, [], ◌∷◌, length, codes, Ok, Option, Some, None, slice_index}
-use Rattle.std.specs.List.{slice_get}
+use Rattle.std.specs.Prelude.{◌≡◌, ◌≢◌, ℕ, suc, ◌^◌, ◌<◌, ◌≤◌, Bool, true, false, ◌==◌, List, [], ◌∷◌, length, codes, Ok, Option, Some, None, slice_index}
+use Rattle.std.specs.Char.{is_ascii_graphic}
+use Rattle.std.specs.List.{list_all, slice_get}
 use Rattle.hex.specs.Hex.{decode_of}
 use Rattle.w16_script.specs.declared.name.Name.{Name}
 use Rattle.w16_script.specs.declared.name.Name.TheVariants as name
@@ -8,7 +9,9 @@ use Rattle.w16_script.specs.declared.arguments.Parameter.{Parameter}
 use Rattle.w16_script.specs.declared.arguments.Parameter.TheVariants as p
 use Rattle.w16_model.specs.Calls as calls
 use Rattle.w16_model.specs.Far as far
-use Rattle.w16_loading.specs.Families.LoadingCommand.{OfHandles, OfResizes, OfFar}
+use Rattle.w16_loading.specs.Families as families
+use Rattle.w16_loading.specs.Families.LoadingCommand.{OfHandles, OfResizes, OfFar, OfModules}
+use Rattle.w16_loading.specs.File as files
 use Rattle.w16_loading.specs.Resizes as resizes
 use Rattle.w16_machine.specs.LocalCalls as locals
 use Rattle.w16_machine.specs.Machine.{Command}
@@ -17,9 +20,9 @@ use Rattle.w16_kernel.specs.declared.call.TheConstants.{MOST_READ, MOST_FILLED}
 use Rattle.w16_script.specs.declared.bytes.TheConstants.{MOST_BYTES}
 use Rattle.w16_script.specs.Words.{words_of}
 use Rattle.w16_script.specs.Registers.{IsRegister}
-use Rattle.w16_script.specs.Numbers.{IsNumber}
+use Rattle.w16_script.specs.Numbers.{IsLiteral, IsNumber}
 
--- An argument as a value, and the value at a place in a list of them: 0, or no bytes, where there is no such argument.
+-- An argument as a value, and the value at a place in a list of them: 0, or no bytes and no text, where there is no such argument.
 
 pub data Argument : Type 0 where
   Word : (value : ℕ) → Argument
@@ -27,6 +30,8 @@ pub data Argument : Type 0 where
   Count : (value : ℕ) → Argument
   Byte : (value : ℕ) → Argument
   Bytes : (bytes : List ℕ) → Argument
+  Text : (text : List ℕ) → Argument
+  Label : (label : files.Label) → Argument
 
 abbrev pub word_of : Option Argument → ℕ
 word_of (Some (Word n)) = n
@@ -48,6 +53,14 @@ abbrev pub bytes_of : Option Argument → List ℕ
 bytes_of (Some (Bytes bytes)) = bytes
 bytes_of other = []
 
+abbrev pub text_in : Option Argument → List ℕ
+text_in (Some (Text text)) = text
+text_in other = []
+
+abbrev pub label_in : Option Argument → files.Label
+label_in (Some (Label label)) = label
+label_in other = files.Label.Number 0
+
 abbrev pub word : List Argument → ℕ → ℕ
 word arguments place = word_of (slice_get arguments place)
 
@@ -63,11 +76,19 @@ byte arguments place = byte_of (slice_get arguments place)
 abbrev pub bytes : List Argument → ℕ → List ℕ
 bytes arguments place = bytes_of (slice_get arguments place)
 
+abbrev pub text : List Argument → ℕ → List ℕ
+text arguments place = text_in (slice_get arguments place)
+
+abbrev pub label : List Argument → ℕ → files.Label
+label arguments place = label_in (slice_get arguments place)
+
 -- The commands: a line for each.
 
 -- what a parameter's argument is
 abbrev pub ValueOf : Parameter → Type 0
 ValueOf p.Bytes = List ℕ
+ValueOf p.Text = List ℕ
+ValueOf p.Label = files.Label
 ValueOf other = ℕ
 
 abbrev pub value_at : (parameter : Parameter) → List Argument → ℕ → ValueOf parameter
@@ -76,6 +97,8 @@ value_at p.Dword arguments place = dword arguments place
 value_at (p.Count most) arguments place = count arguments place
 value_at p.Byte arguments place = byte arguments place
 value_at p.Bytes arguments place = bytes arguments place
+value_at p.Text arguments place = text arguments place
+value_at p.Label arguments place = label arguments place
 
 -- what makes a command of a family of arguments for these parameters
 abbrev pub Maker : Type 0 → List Parameter → Type 0
@@ -106,6 +129,9 @@ of_resizes command = OfLoading (OfResizes command)
 abbrev of_far : far.FarCommand → Command
 of_far command = OfLoading (OfFar command)
 
+abbrev of_modules : families.ModuleCommand → Command
+of_modules command = OfLoading (OfModules command)
+
 abbrev pub row_of : Name → Row
 row_of name.GlobalAlloc = row of_handles (codes "GlobalAlloc") (p.Word ∷ p.Dword ∷ []) calls.HandleCommand.GlobalAlloc
 row_of name.GlobalFree = row of_handles (codes "GlobalFree") (p.Word ∷ []) calls.HandleCommand.GlobalFree
@@ -126,6 +152,14 @@ row_of name.Walk = row of_handles (codes "Walk") [] calls.HandleCommand.Walk
 row_of name.Read = row of_far (codes "Read") (p.Dword ∷ p.Count MOST_READ ∷ []) far.FarCommand.Read
 row_of name.Write = row of_far (codes "Write") (p.Dword ∷ p.Bytes ∷ []) far.FarCommand.Write
 row_of name.Fill = row of_far (codes "Fill") (p.Dword ∷ p.Count MOST_FILLED ∷ p.Byte ∷ []) far.FarCommand.Fill
+row_of name.Builtin = row of_modules (codes "Builtin") (p.Text ∷ []) families.ModuleCommand.Builtin
+row_of name.LoadModule = row of_modules (codes "LoadModule") (p.Text ∷ []) families.ModuleCommand.LoadModule
+row_of name.LoadLibrary = row of_modules (codes "LoadLibrary") (p.Text ∷ []) families.ModuleCommand.LoadLibrary
+row_of name.FreeLibrary = row of_modules (codes "FreeLibrary") (p.Word ∷ []) families.ModuleCommand.FreeLibrary
+row_of name.FreeModule = row of_modules (codes "FreeModule") (p.Word ∷ []) families.ModuleCommand.FreeModule
+row_of name.GetModuleHandle = row of_modules (codes "GetModuleHandle") (p.Text ∷ []) families.ModuleCommand.GetModuleHandle
+row_of name.GetModuleUsage = row of_modules (codes "GetModuleUsage") (p.Word ∷ []) families.ModuleCommand.GetModuleUsage
+row_of name.GetProcAddress = row of_modules (codes "GetProcAddress") (p.Word ∷ p.Label ∷ []) families.ModuleCommand.GetProcAddress
 row_of name.LocalInit = row OfLocals (codes "LocalInit") (p.Word ∷ p.Word ∷ p.Dword ∷ []) locals.LocalCommand.LocalInit
 row_of name.LocalAlloc = row OfLocals (codes "LocalAlloc") (p.Word ∷ p.Word ∷ []) locals.LocalCommand.LocalAlloc
 row_of name.LocalReAlloc = row OfLocals (codes "LocalReAlloc") (p.Word ∷ p.Word ∷ p.Word ∷ []) locals.LocalCommand.LocalReAlloc
@@ -143,6 +177,7 @@ row_of name.DS = row OfLocals (codes "DS") (p.Word ∷ []) locals.LocalCommand.D
 abbrev pub all_names : List Name
 all_names = name.GlobalAlloc ∷ name.GlobalFree ∷ name.GlobalLock ∷ name.GlobalUnlock ∷ name.GlobalSize ∷ name.GlobalFlags ∷ name.GlobalHandle ∷ name.GetSelectorBase ∷ name.GetSelectorLimit
     ∷ name.GlobalCompact ∷ name.GlobalReAlloc ∷ name.GlobalDiscard ∷ name.GlobalLRUNewest ∷ name.GlobalLRUOldest ∷ name.Moved ∷ name.Walk ∷ name.Read ∷ name.Write ∷ name.Fill
+    ∷ name.Builtin ∷ name.LoadModule ∷ name.LoadLibrary ∷ name.FreeLibrary ∷ name.FreeModule ∷ name.GetModuleHandle ∷ name.GetModuleUsage ∷ name.GetProcAddress
     ∷ name.LocalInit ∷ name.LocalAlloc ∷ name.LocalReAlloc ∷ name.LocalDiscard ∷ name.LocalFree ∷ name.LocalLock ∷ name.LocalUnlock ∷ name.LocalSize ∷ name.LocalFlags ∷ name.LocalHandle ∷ name.LocalCompact ∷ name.DS ∷ []
 
 abbrev pub text_of : Name → List ℕ
@@ -160,6 +195,15 @@ command_with name = (row_of name).command
 abbrev pub IsBytes : List ℕ → List ℕ → Type 0
 IsBytes word bytes = (decode_of word ≡ Ok bytes) × (0 < length bytes) × (length bytes ≤ MOST_BYTES)
 
+-- one to 255 bytes from 21 to 7E in hexadecimal
+abbrev pub IsText : List ℕ → Type 0
+IsText word = (0 < length word) × (length word ≤ 255) × (list_all is_ascii_graphic word ≡ true)
+
+-- a text that doesn't begin with `#`; or behind a `#` a number that stands as it is and is a word
+abbrev pub IsLabel : List ℕ → files.Label → Type 0
+IsLabel word (files.Label.Text text) = (text ≡ word) × IsText word × (slice_index word 0 ≢ 35)
+IsLabel word (files.Label.Number n) = (digits : List ℕ) × (word ≡ 35 ∷ digits) × IsLiteral digits n × (n < 2 ^ 16)
+
 -- a word that a parameter takes, and its value
 abbrev pub IsArgument : List ℕ → List ℕ → Parameter → Argument → Type 0
 IsArgument registers word p.Word (Word n) = IsNumber registers word n × (n < 2 ^ 16)
@@ -167,6 +211,8 @@ IsArgument registers word p.Dword (Dword n) = IsNumber registers word n × (n < 
 IsArgument registers word (p.Count most) (Count n) = IsNumber registers word n × (n ≤ most)
 IsArgument registers word p.Byte (Byte n) = IsNumber registers word n × (n < 2 ^ 8)
 IsArgument registers word p.Bytes (Bytes bytes) = IsBytes word bytes
+IsArgument registers word p.Text (Text text) = (text ≡ word) × IsText word
+IsArgument registers word p.Label (Label label) = IsLabel word label
 IsArgument registers word parameter argument = ⊥
 
 -- the words are what the parameters ask for, one by one

@@ -1,5 +1,6 @@
 //! The arguments of commands.
 ghost use Rattle.std.specs.Prelude.{◌≡◌, ℕ, ◌≤◌, IfSome, IfNone, List, [], ◌∷◌};
+ghost use Rattle.w16_kernel.specs.Runs.{label_of};
 ghost use Rattle.w16_script.specs.Words.{words_of};
 ghost use Rattle.w16_script.specs.Numbers.{IsNumber};
 ghost use Rattle.w16_script.specs.declared.arguments.Parameter as asked;
@@ -9,7 +10,9 @@ ghost use Rattle.w16_script.specs.Grammar.{Argument, IsArgument, AreArguments};
 use crate::bytes::{MOST_BYTES, bytes};
 use crate::number::number;
 use crate::registers::Registers;
+use crate::text::{label, text};
 use crate::words::{has_no_words, split_word};
+use w16_kernel::Label;
 
 /// What a command asks of a word. The grammar speaks of these; the code asks by the types below.
 #[derive(Clone, Copy)]
@@ -20,16 +23,19 @@ pub enum Parameter {
     Count(u32),
     Byte,
     Bytes,
+    Text,
+    /// A text, or behind a `#` a number.
+    Label,
 }
 
-/// What a word stands for, by its parameter: a number of its type.
-pub trait Value: Copy {
+/// What a word stands for, by its parameter: a number of its type, or a text or a label, which lie in the line.
+pub trait Value<'a>: Copy {
     ghost parameter: { asked.Parameter };
 
     ghost argument: { Self → Argument };
 
     /// The value that a word is.
-    fn read(word: &[u8], registers: &Registers) -> Option<Self>
+    fn read(word: &'a [u8], registers: &Registers) -> Option<Self>
         ensures found { IfSome result (λ value. IsArgument registers.now word.now parameter (argument value)) }
         ensures none { IfNone result ((other : Argument) → IsArgument registers.now word.now parameter other → ⊥) };
 }
@@ -44,35 +50,35 @@ fn number_up_to(word: &[u8], most: u32, registers: &Registers) -> Option<u32>
 }
 
 /// A word.
-impl Value for u16 {
+impl<'a> Value<'a> for u16 {
     ghost parameter = { p.Word };
 
     ghost argument = { λ n. Argument.Word n };
 
-    fn read(word: &[u8], registers: &Registers) -> Option<u16> {
+    fn read(word: &'a [u8], registers: &Registers) -> Option<u16> {
         let number = number_up_to(word, 65_535, registers)?;
         Some(number as u16)
     }
 }
 
 /// A double word.
-impl Value for u32 {
+impl<'a> Value<'a> for u32 {
     ghost parameter = { p.Dword };
 
     ghost argument = { λ n. Argument.Dword n };
 
-    fn read(word: &[u8], registers: &Registers) -> Option<u32> {
+    fn read(word: &'a [u8], registers: &Registers) -> Option<u32> {
         number(word, registers)
     }
 }
 
 /// A byte.
-impl Value for u8 {
+impl<'a> Value<'a> for u8 {
     ghost parameter = { p.Byte };
 
     ghost argument = { λ n. Argument.Byte n };
 
-    fn read(word: &[u8], registers: &Registers) -> Option<u8> {
+    fn read(word: &'a [u8], registers: &Registers) -> Option<u8> {
         let number = number_up_to(word, 255, registers)?;
         Some(number as u8)
     }
@@ -85,20 +91,42 @@ pub struct Count<const MOST: u32> {
     ghost few: { number ≤ MOST },
 }
 
-impl<const MOST: u32> Value for Count<MOST> {
+impl<'a, const MOST: u32> Value<'a> for Count<MOST> {
     ghost parameter = { p.Count MOST };
 
     ghost argument = { λ count. Argument.Count count.number };
 
-    fn read(word: &[u8], registers: &Registers) -> Option<Count<MOST>> {
+    fn read(word: &'a [u8], registers: &Registers) -> Option<Count<MOST>> {
         let number = number_up_to(word, MOST, registers)?;
         Some(Count { number })
     }
 }
 
+/// A text.
+impl<'a> Value<'a> for &'a [u8] {
+    ghost parameter = { p.Text };
+
+    ghost argument = { λ text. Argument.Text text.now };
+
+    fn read(word: &'a [u8], registers: &Registers) -> Option<&'a [u8]> {
+        text(word)
+    }
+}
+
+/// A label.
+impl<'a> Value<'a> for Label<'a> {
+    ghost parameter = { p.Label };
+
+    ghost argument = { λ label. Argument.Label (label_of label) };
+
+    fn read(word: &'a [u8], registers: &Registers) -> Option<Label<'a>> {
+        label(word)
+    }
+}
+
 /// The value that the next word is, and what stands behind it.
 #[tactic(auto, using(crate::proofs::ArgumentLemmas::no_value))]
-fn split_value<'a, V: Value>(text: &'a [u8], registers: &Registers) -> Option<(V, &'a [u8])>
+fn split_value<'a, V: Value<'a>>(text: &'a [u8], registers: &Registers) -> Option<(V, &'a [u8])>
     ensures found { IfSome result (λ read. (word : List ℕ) × (words_of text.now ≡ word ∷ words_of read.1.now) × IsArgument registers.now word V.parameter (V.argument read.0)) }
     ensures none { IfNone result ((word : List ℕ) (rest : List (List ℕ)) (other : Argument) → words_of text.now ≡ word ∷ rest → IsArgument registers.now word V.parameter other → ⊥) }
 {
@@ -118,7 +146,7 @@ pub fn nothing(text: &[u8], registers: &Registers) -> Option<()>
 
 /// The one argument that the text is.
 #[tactic(auto, using(crate::proofs::ArgumentLemmas::more, crate::proofs::ArgumentLemmas::no_first, crate::proofs::ArgumentLemmas::no_rest))]
-pub fn one<V: Value>(text: &[u8], registers: &Registers) -> Option<V>
+pub fn one<'a, V: Value<'a>>(text: &'a [u8], registers: &Registers) -> Option<V>
     ensures found { IfSome result (λ value. AreArguments registers.now (words_of text.now) (V.parameter ∷ []) (V.argument value ∷ [])) }
     ensures none { IfNone result ((values : List Argument) → AreArguments registers.now (words_of text.now) (V.parameter ∷ []) values → ⊥) }
 {
@@ -129,7 +157,7 @@ pub fn one<V: Value>(text: &[u8], registers: &Registers) -> Option<V>
 
 /// The two arguments that the text is.
 #[tactic(auto, using(crate::proofs::ArgumentLemmas::more, crate::proofs::ArgumentLemmas::no_first, crate::proofs::ArgumentLemmas::no_rest))]
-pub fn two<V: Value, W: Value>(text: &[u8], registers: &Registers) -> Option<(V, W)>
+pub fn two<'a, V: Value<'a>, W: Value<'a>>(text: &'a [u8], registers: &Registers) -> Option<(V, W)>
     ensures found { IfSome result (λ values. AreArguments registers.now (words_of text.now) (V.parameter ∷ W.parameter ∷ []) (V.argument values.0 ∷ W.argument values.1 ∷ [])) }
     ensures none { IfNone result ((values : List Argument) → AreArguments registers.now (words_of text.now) (V.parameter ∷ W.parameter ∷ []) values → ⊥) }
 {
@@ -140,7 +168,10 @@ pub fn two<V: Value, W: Value>(text: &[u8], registers: &Registers) -> Option<(V,
 
 /// The three arguments that the text is.
 #[tactic(auto, using(crate::proofs::ArgumentLemmas::more, crate::proofs::ArgumentLemmas::no_first, crate::proofs::ArgumentLemmas::no_rest))]
-pub fn three<V: Value, W: Value, X: Value>(text: &[u8], registers: &Registers) -> Option<(V, W, X)>
+pub fn three<'a, V: Value<'a>, W: Value<'a>, X: Value<'a>>(
+    text: &'a [u8],
+    registers: &Registers,
+) -> Option<(V, W, X)>
     ensures found { IfSome result (λ values. AreArguments registers.now (words_of text.now) (V.parameter ∷ W.parameter ∷ X.parameter ∷ []) (V.argument values.0 ∷ W.argument values.1 ∷ X.argument values.2 ∷ [])) }
     ensures none { IfNone result ((values : List Argument) → AreArguments registers.now (words_of text.now) (V.parameter ∷ W.parameter ∷ X.parameter ∷ []) values → ⊥) }
 {
@@ -166,8 +197,8 @@ fn bytes_alone<'a>(
 
 /// The two arguments that the text is, the second of them bytes, in the room that is lent.
 #[tactic(auto, using(crate::proofs::ArgumentLemmas::more, crate::proofs::ArgumentLemmas::no_first, crate::proofs::ArgumentLemmas::no_rest))]
-pub fn with_bytes<'a, V: Value>(
-    text: &[u8],
+pub fn with_bytes<'a, V: Value<'a>>(
+    text: &'a [u8],
     registers: &Registers,
     room: &'a mut [u8; MOST_BYTES],
 ) -> Option<(V, &'a [u8])>

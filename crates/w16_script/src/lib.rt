@@ -14,6 +14,7 @@ mod read;
 mod registers;
 mod running;
 mod script;
+mod text;
 mod walk;
 mod words;
 mod write;

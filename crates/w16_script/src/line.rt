@@ -1,17 +1,18 @@
 //! Lines of a script.
-ghost use Rattle.std.specs.Prelude.{◌≡◌, ◌≤◌, ◌<◌, ◌∷◌, ℕ, List, length, IfSome, IfNone, Option, Some};
+ghost use Rattle.std.specs.Prelude.{◌≡◌, ◌≤◌, ◌<◌, [], ◌∷◌, ℕ, List, length, IfSome, IfNone, Option, Some};
 ghost use Rattle.w16_script.specs.Words.{words_of};
 ghost use Rattle.w16_machine.specs.Machine.{Command};
 ghost use Rattle.w16_kernel.specs.Runs.{command_of, IsCall};
-ghost use Rattle.w16_script.specs.Grammar.{Reads, GoesTo, Makes, text_of};
-ghost use Rattle.w16_script.specs.Lines.{said_of, IsRunnable};
+ghost use Rattle.w16_script.specs.declared.arguments.Parameter.TheVariants as p;
+ghost use Rattle.w16_script.specs.Grammar.{Argument, Reads, GoesTo, Makes, text_of, parameters_of, command_with};
+ghost use Rattle.w16_script.specs.Lines.{said_of, IsFarAccess, IsRunnable};
 
 use crate::arguments::{Count, nothing, one, three, two, with_bytes};
 use crate::bytes::MOST_BYTES;
 use crate::name::{Name, find};
 use crate::registers::{Registers, register};
 use crate::words::split_word;
-use w16_kernel::{Call, MOST_FILLED, MOST_READ};
+use w16_kernel::{Call, Label, MOST_FILLED, MOST_READ};
 
 /// The most bytes that a `Read` may ask for.
 const READ_AT_MOST: u32 = MOST_READ as u32;
@@ -38,87 +39,68 @@ fn split_target<'a>(word: &[u8], text: &'a [u8]) -> Option<(u8, &'a [u8])>
     }
 }
 
-/// The call of this name that the text makes.
+/// The call of this name with one word, if that is what it takes.
+fn with_word<'a>(name: Name, word: u16) -> Option<Call<'a>>
+    ensures found { IfSome result (λ call. (parameters_of name ≡ p.Word ∷ []) × (command_of call ≡ command_with name (Argument.Word word ∷ []))) }
+    ensures call { IfSome result (λ call. IsCall call) }
+    ensures none { IfNone result (parameters_of name ≡ p.Word ∷ [] → ⊥) }
+{
+    match name {
+        Name::GlobalFree => Some(Call::GlobalFree { handle: word }),
+        Name::GlobalLock => Some(Call::GlobalLock { handle: word }),
+        Name::GlobalUnlock => Some(Call::GlobalUnlock { handle: word }),
+        Name::GlobalSize => Some(Call::GlobalSize { handle: word }),
+        Name::GlobalFlags => Some(Call::GlobalFlags { handle: word }),
+        Name::GlobalHandle => Some(Call::GlobalHandle { selector: word }),
+        Name::GetSelectorBase => Some(Call::GetSelectorBase { selector: word }),
+        Name::GetSelectorLimit => Some(Call::GetSelectorLimit { selector: word }),
+        Name::GlobalDiscard => Some(Call::GlobalDiscard { handle: word }),
+        Name::GlobalLRUNewest => Some(Call::GlobalLRUNewest { handle: word }),
+        Name::GlobalLRUOldest => Some(Call::GlobalLRUOldest { handle: word }),
+        Name::FreeLibrary => Some(Call::FreeLibrary { handle: word }),
+        Name::FreeModule => Some(Call::FreeModule { handle: word }),
+        Name::GetModuleUsage => Some(Call::GetModuleUsage { handle: word }),
+        Name::LocalDiscard => Some(Call::LocalDiscard { name: word }),
+        Name::LocalFree => Some(Call::LocalFree { name: word }),
+        Name::LocalLock => Some(Call::LocalLock { name: word }),
+        Name::LocalUnlock => Some(Call::LocalUnlock { name: word }),
+        Name::LocalSize => Some(Call::LocalSize { name: word }),
+        Name::LocalFlags => Some(Call::LocalFlags { name: word }),
+        Name::LocalHandle => Some(Call::LocalHandle { pointer: word }),
+        Name::LocalCompact => Some(Call::LocalCompact { size: word }),
+        Name::DS => Some(Call::DS { selector: word }),
+        _ => None,
+    }
+}
+
+/// The call of this name with a text, if that is what it takes.
+fn with_text(name: Name, text: &[u8]) -> Option<Call<'_>>
+    ensures found { IfSome result (λ call. (parameters_of name ≡ p.Text ∷ []) × (command_of call ≡ command_with name (Argument.Text text.now ∷ []))) }
+    ensures call { IfSome result (λ call. IsCall call) }
+    ensures none { IfNone result (parameters_of name ≡ p.Text ∷ [] → ⊥) }
+{
+    match name {
+        Name::Builtin => Some(Call::Builtin { name: text }),
+        Name::LoadModule => Some(Call::LoadModule { file: text }),
+        Name::LoadLibrary => Some(Call::LoadLibrary { file: text }),
+        Name::GetModuleHandle => Some(Call::GetModuleHandle { name: text }),
+        _ => None,
+    }
+}
+
+/// The far access of this name that the text makes, if it is a far access's name.
 #[tactic(auto, using(crate::proofs::ArgumentLemmas::makes, crate::proofs::ArgumentLemmas::makes_none))]
-fn call<'a>(
+fn far_access<'a>(
     name: Name,
-    text: &[u8],
+    text: &'a [u8],
     registers: &Registers,
     room: &'a mut [u8; MOST_BYTES],
 ) -> Option<Call<'a>>
     ensures found { IfSome result (λ call. Makes registers.now name (words_of text.now) (command_of call)) }
     ensures call { IfSome result (λ call. IsCall call) }
-    ensures none { IfNone result ((command : Command) → Makes registers.now name (words_of text.now) command → ⊥) }
+    ensures none { IsFarAccess (command_with name []) → IfNone result ((command : Command) → Makes registers.now name (words_of text.now) command → ⊥) }
 {
     match name {
-        Name::GlobalAlloc => {
-            let (flags, size) = two::<u16, u32>(text, registers)?;
-            Some(Call::GlobalAlloc { flags, size })
-        }
-        Name::GlobalFree => {
-            let handle = one::<u16>(text, registers)?;
-            Some(Call::GlobalFree { handle })
-        }
-        Name::GlobalLock => {
-            let handle = one::<u16>(text, registers)?;
-            Some(Call::GlobalLock { handle })
-        }
-        Name::GlobalUnlock => {
-            let handle = one::<u16>(text, registers)?;
-            Some(Call::GlobalUnlock { handle })
-        }
-        Name::GlobalSize => {
-            let handle = one::<u16>(text, registers)?;
-            Some(Call::GlobalSize { handle })
-        }
-        Name::GlobalFlags => {
-            let handle = one::<u16>(text, registers)?;
-            Some(Call::GlobalFlags { handle })
-        }
-        Name::GlobalHandle => {
-            let selector = one::<u16>(text, registers)?;
-            Some(Call::GlobalHandle { selector })
-        }
-        Name::GetSelectorBase => {
-            let selector = one::<u16>(text, registers)?;
-            Some(Call::GetSelectorBase { selector })
-        }
-        Name::GetSelectorLimit => {
-            let selector = one::<u16>(text, registers)?;
-            Some(Call::GetSelectorLimit { selector })
-        }
-        Name::GlobalCompact => {
-            let size = one::<u32>(text, registers)?;
-            Some(Call::GlobalCompact { size })
-        }
-        Name::GlobalReAlloc => {
-            let (handle, size, flags) = three::<u16, u32, u16>(text, registers)?;
-            Some(Call::GlobalReAlloc {
-                handle,
-                size,
-                flags,
-            })
-        }
-        Name::GlobalDiscard => {
-            let handle = one::<u16>(text, registers)?;
-            Some(Call::GlobalDiscard { handle })
-        }
-        Name::GlobalLRUNewest => {
-            let handle = one::<u16>(text, registers)?;
-            Some(Call::GlobalLRUNewest { handle })
-        }
-        Name::GlobalLRUOldest => {
-            let handle = one::<u16>(text, registers)?;
-            Some(Call::GlobalLRUOldest { handle })
-        }
-        Name::Moved => {
-            nothing(text, registers)?;
-            Some(Call::Moved)
-        }
-        Name::Walk => {
-            nothing(text, registers)?;
-            Some(Call::Walk)
-        }
         Name::Read => {
             let (pointer, count) = two::<u32, Count<READ_AT_MOST>>(text, registers)?;
             Some(Call::Read {
@@ -138,6 +120,48 @@ fn call<'a>(
                 byte,
             })
         }
+        _ => None,
+    }
+}
+
+/// The call of this name that the text makes.
+#[tactic(auto, using(crate::proofs::ArgumentLemmas::makes, crate::proofs::ArgumentLemmas::makes_none))]
+fn call<'a>(
+    name: Name,
+    text: &'a [u8],
+    registers: &Registers,
+    room: &'a mut [u8; MOST_BYTES],
+) -> Option<Call<'a>>
+    ensures found { IfSome result (λ call. Makes registers.now name (words_of text.now) (command_of call)) }
+    ensures call { IfSome result (λ call. IsCall call) }
+    ensures none { IfNone result ((command : Command) → Makes registers.now name (words_of text.now) command → ⊥) }
+{
+    match name {
+        Name::GlobalAlloc => {
+            let (flags, size) = two::<u16, u32>(text, registers)?;
+            Some(Call::GlobalAlloc { flags, size })
+        }
+        Name::GlobalCompact => {
+            let size = one::<u32>(text, registers)?;
+            Some(Call::GlobalCompact { size })
+        }
+        Name::GlobalReAlloc => {
+            let (handle, size, flags) = three::<u16, u32, u16>(text, registers)?;
+            Some(Call::GlobalReAlloc {
+                handle,
+                size,
+                flags,
+            })
+        }
+        Name::Moved => {
+            nothing(text, registers)?;
+            Some(Call::Moved)
+        }
+        Name::Walk => {
+            nothing(text, registers)?;
+            Some(Call::Walk)
+        }
+        Name::Read | Name::Write | Name::Fill => far_access(name, text, registers, room),
         Name::LocalInit => {
             let (selector, start, end) = three::<u16, u16, u32>(text, registers)?;
             Some(Call::LocalInit {
@@ -154,41 +178,17 @@ fn call<'a>(
             let (name, size, flags) = three::<u16, u16, u16>(text, registers)?;
             Some(Call::LocalReAlloc { name, size, flags })
         }
-        Name::LocalDiscard => {
-            let name = one::<u16>(text, registers)?;
-            Some(Call::LocalDiscard { name })
+        Name::GetProcAddress => {
+            let (handle, label) = two::<u16, Label<'_>>(text, registers)?;
+            Some(Call::GetProcAddress { handle, label })
         }
-        Name::LocalFree => {
-            let name = one::<u16>(text, registers)?;
-            Some(Call::LocalFree { name })
+        Name::Builtin | Name::LoadModule | Name::LoadLibrary | Name::GetModuleHandle => {
+            let argument = one::<&[u8]>(text, registers)?;
+            with_text(name, argument)
         }
-        Name::LocalLock => {
-            let name = one::<u16>(text, registers)?;
-            Some(Call::LocalLock { name })
-        }
-        Name::LocalUnlock => {
-            let name = one::<u16>(text, registers)?;
-            Some(Call::LocalUnlock { name })
-        }
-        Name::LocalSize => {
-            let name = one::<u16>(text, registers)?;
-            Some(Call::LocalSize { name })
-        }
-        Name::LocalFlags => {
-            let name = one::<u16>(text, registers)?;
-            Some(Call::LocalFlags { name })
-        }
-        Name::LocalHandle => {
-            let pointer = one::<u16>(text, registers)?;
-            Some(Call::LocalHandle { pointer })
-        }
-        Name::LocalCompact => {
-            let size = one::<u16>(text, registers)?;
-            Some(Call::LocalCompact { size })
-        }
-        Name::DS => {
-            let selector = one::<u16>(text, registers)?;
-            Some(Call::DS { selector })
+        _ => {
+            let word = one::<u16>(text, registers)?;
+            with_word(name, word)
         }
     }
 }
@@ -210,8 +210,12 @@ fn head<'a>(word: &[u8], text: &'a [u8]) -> Option<(Option<u8>, Name, &'a [u8])>
 
 /// Reads a line, from which its LF and a CR directly before it were taken off, with what the registers have.
 /// It allocates nothing, and always answers: what is neither silent nor a command is `Bad`.
-/// The bytes of a command are put into the room.
-pub fn read_line<'a>(line: &[u8], registers: &Registers, room: &'a mut [u8; MOST_BYTES]) -> Line<'a>
+/// The bytes of a command are put into the room; its text or its label lies in the line.
+pub fn read_line<'a>(
+    line: &'a [u8],
+    registers: &Registers,
+    room: &'a mut [u8; MOST_BYTES],
+) -> Line<'a>
     ensures reads { Reads registers.now line.now (said_of result) }
     ensures runnable { IsRunnable result }
 {

@@ -1,5 +1,5 @@
 //! The names of commands.
-ghost use Rattle.std.specs.Prelude.{◌≡◌, ◌↔◌, IsTrue, IfSome, IfNone};
+ghost use Rattle.std.specs.Prelude.{◌≡◌, ◌≤◌, ◌↔◌, length, IsTrue, IfSome, IfNone};
 ghost use Rattle.w16_script.specs.Grammar.{text_of};
 
 /// A command, without its arguments.
@@ -24,6 +24,14 @@ pub enum Name {
     Read,
     Write,
     Fill,
+    Builtin,
+    LoadModule,
+    LoadLibrary,
+    FreeLibrary,
+    FreeModule,
+    GetModuleHandle,
+    GetModuleUsage,
+    GetProcAddress,
     LocalInit,
     LocalAlloc,
     LocalReAlloc,
@@ -69,6 +77,14 @@ fn spelling(name: Name) -> &'static [u8]
         Name::Read => b"Read",
         Name::Write => b"Write",
         Name::Fill => b"Fill",
+        Name::Builtin => b"Builtin",
+        Name::LoadModule => b"LoadModule",
+        Name::LoadLibrary => b"LoadLibrary",
+        Name::FreeLibrary => b"FreeLibrary",
+        Name::FreeModule => b"FreeModule",
+        Name::GetModuleHandle => b"GetModuleHandle",
+        Name::GetModuleUsage => b"GetModuleUsage",
+        Name::GetProcAddress => b"GetProcAddress",
         Name::LocalInit => b"LocalInit",
         Name::LocalAlloc => b"LocalAlloc",
         Name::LocalReAlloc => b"LocalReAlloc",
@@ -84,7 +100,55 @@ fn spelling(name: Name) -> &'static [u8]
     }
 }
 
-/// The only command that this word may name: its length and a letter tell.
+/// The only command of 11 bytes or more that this word may name: its length and a letter or two tell.
+fn guess_long(word: &[u8]) -> Option<Name>
+    ensures only { IfSome result (λ guess. (name : Name) → word.now ≡ text_of name → name ≡ guess) }
+    ensures none { 11 ≤ length word.now → IfNone result ((name : Name) → word.now ≡ text_of name → ⊥) }
+{
+    match word.len() {
+        11 => match word[10] {
+            b'c' => Some(Name::GlobalAlloc),
+            b's' => Some(Name::GlobalFlags),
+            b'k' => Some(Name::LocalUnlock),
+            b'e' => Some(Name::LocalHandle),
+            b'y' => match word[0] {
+                b'L' => Some(Name::LoadLibrary),
+                _ => Some(Name::FreeLibrary),
+            },
+            _ => None,
+        },
+        12 => match word[11] {
+            b'k' => Some(Name::GlobalUnlock),
+            b'e' => Some(Name::GlobalHandle),
+            b'c' => Some(Name::LocalReAlloc),
+            b'd' => Some(Name::LocalDiscard),
+            b't' => Some(Name::LocalCompact),
+            _ => None,
+        },
+        13 => match word[6] {
+            b'C' => Some(Name::GlobalCompact),
+            b'R' => Some(Name::GlobalReAlloc),
+            b'D' => Some(Name::GlobalDiscard),
+            _ => None,
+        },
+        14 => match word[3] {
+            b'M' => Some(Name::GetModuleUsage),
+            b'P' => Some(Name::GetProcAddress),
+            _ => None,
+        },
+        15 => match word[9] {
+            b'H' => Some(Name::GetModuleHandle),
+            b'o' => Some(Name::GetSelectorBase),
+            b'N' => Some(Name::GlobalLRUNewest),
+            b'O' => Some(Name::GlobalLRUOldest),
+            _ => None,
+        },
+        16 => Some(Name::GetSelectorLimit),
+        _ => None,
+    }
+}
+
+/// The only command that this word may name: its length and a letter or two tell.
 fn guess(word: &[u8]) -> Option<Name>
     ensures only { IfSome result (λ guess. (name : Name) → word.now ≡ text_of name → name ≡ guess) }
     ensures none { IfNone result ((name : Name) → word.now ≡ text_of name → ⊥) }
@@ -102,6 +166,7 @@ fn guess(word: &[u8]) -> Option<Name>
             b'W' => Some(Name::Write),
             _ => None,
         },
+        7 => Some(Name::Builtin),
         9 => match word[5] {
             b'I' => Some(Name::LocalInit),
             b'F' => Some(Name::LocalFree),
@@ -115,36 +180,13 @@ fn guess(word: &[u8]) -> Option<Name>
             b'i' => Some(Name::GlobalSize),
             b'l' => Some(Name::LocalAlloc),
             b'a' => Some(Name::LocalFlags),
+            b'u' => match word[0] {
+                b'L' => Some(Name::LoadModule),
+                _ => Some(Name::FreeModule),
+            },
             _ => None,
         },
-        11 => match word[8] {
-            b'l' => Some(Name::GlobalAlloc),
-            b'a' => Some(Name::GlobalFlags),
-            b'o' => Some(Name::LocalUnlock),
-            b'd' => Some(Name::LocalHandle),
-            _ => None,
-        },
-        12 => match word[11] {
-            b'k' => Some(Name::GlobalUnlock),
-            b'e' => Some(Name::GlobalHandle),
-            b'c' => Some(Name::LocalReAlloc),
-            b'd' => Some(Name::LocalDiscard),
-            b't' => Some(Name::LocalCompact),
-            _ => None,
-        },
-        13 => match word[6] {
-            b'C' => Some(Name::GlobalCompact),
-            b'R' => Some(Name::GlobalReAlloc),
-            b'D' => Some(Name::GlobalDiscard),
-            _ => None,
-        },
-        15 => match word[9] {
-            b'o' => Some(Name::GetSelectorBase),
-            b'N' => Some(Name::GlobalLRUNewest),
-            b'O' => Some(Name::GlobalLRUOldest),
-            _ => None,
-        },
-        16 => Some(Name::GetSelectorLimit),
+        11..=16 => guess_long(word),
         _ => None,
     }
 }

@@ -37,7 +37,7 @@ fn digits(text: &[u8], base: u32) -> Option<u32>
 const MOST_DIGITS: usize = 8;
 
 /// A number that stands as it is, in one of the two forms.
-fn literal(word: &[u8]) -> Option<u32>
+pub fn literal(word: &[u8]) -> Option<u32>
     ensures found { IfSome result (λ n. IsLiteral word.now n) }
     ensures none { IfNone result ((n : ℕ) → IsLiteral word.now n → ⊥) }
 {

@@ -12,6 +12,7 @@ use crate::write::write_whole;
 use arrayvec::ArrayVec;
 use std::io::{self, ErrorKind, Write};
 use w16_kernel::{MOST_READ, Reply};
+use w16_loading::FetchFault;
 use w16_model::FarFault;
 
 /// How many bytes are printed at once: all that a reply of the machine has.
@@ -128,6 +129,17 @@ fn fault_line(fault: FarFault) -> &'static [u8]
     }
 }
 
+/// The line of a fetch's fault.
+fn failure_line(fault: FetchFault) -> &'static [u8]
+    ensures { result.now ≡ reply_text (replies.Reply.Failed fault) }
+{
+    match fault {
+        FetchFault::NoRoom => b"fault room\n",
+        FetchFault::Store => b"fault store\n",
+        FetchFault::Damaged => b"fault damaged\n",
+    }
+}
+
 /// Prints a reply as one line; for a walk that is the line behind its items. It fails where the writer failed or took nothing, after a front of the line.
 /// The room is for its text, so that the writer gets it at once.
 pub fn write_reply<W: Write>(
@@ -144,6 +156,7 @@ pub fn write_reply<W: Write>(
         Reply::Bytes(bytes) => print_bytes(writer, bytes, room),
         Reply::Done => write_whole(writer, b"ok\n"),
         Reply::Fault(fault) => write_whole(writer, fault_line(*fault)),
+        Reply::Failed(fault) => write_whole(writer, failure_line(*fault)),
         Reply::Walk(_) => print_end(writer),
     }
 }

@@ -56,7 +56,8 @@ impl Registers {
         match reply {
             Reply::Word(word) => self.set(register, *word as u32),
             Reply::Dword(dword) => self.set(register, *dword),
-            Reply::Bytes(_) | Reply::Done | Reply::Fault(_) | Reply::Walk(_) => {}
+            Reply::Bytes(_) | Reply::Done | Reply::Fault(_) | Reply::Failed(_) | Reply::Walk(_) =>
+                {}
         }
     }
 }

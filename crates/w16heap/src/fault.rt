@@ -1,12 +1,15 @@
 //! Why the program ends before its script does.
-ghost use Rattle.std.specs.Prelude.{◌≡◌};
-ghost use Rattle.w16heap.specs.Faults.{status_of};
+ghost use Rattle.std.specs.Prelude.{◌≡◌, ◌↔◌};
+ghost use Rattle.std.specs.IoError.{error_kind};
+ghost use Rattle.w16heap.specs.Faults.{status_of, IsOfFiles};
 
+use std::io::ErrorKind;
 use std::process::ExitCode;
 use std::{fmt, io};
 use thiserror::Error;
 use w16_kernel::SizeFault;
 use w16_script::RunFault;
+use w16_store::DirFault;
 
 /// A fault of a run of the program, but for those of its command line.
 #[derive(Debug, Clone, Copy, PartialEq, Eq, Drop, Error)]
@@ -20,7 +23,7 @@ pub enum Fault {
     /// The number of selectors is not from 1 to 8,160.
     #[error("bad selector count")]
     SelectorCount,
-    /// The script can't be opened or read.
+    /// The script can't be opened or read, or the folder of module files can't be listed.
     #[error("read fault")]
     Read,
     /// Standard output takes no more.
@@ -38,8 +41,21 @@ pub enum Fault {
 impl From<io::Error> for Fault {
     fn from(error: io::Error) -> Fault {
         match error.kind() {
-            io::ErrorKind::OutOfMemory => Fault::Memory,
+            ErrorKind::OutOfMemory => Fault::Memory,
             _ => Fault::Argument,
+        }
+    }
+}
+
+impl From<DirFault> for Fault {
+    ghost use Rattle.w16heap.specs.Faults.{of_folder};
+
+    ghost from_gives = { λ fault e. e ≡ of_folder fault };
+
+    fn from(fault: DirFault) -> Fault {
+        match fault {
+            DirFault::Folder => Fault::Read,
+            DirFault::Memory => Fault::Memory,
         }
     }
 }
@@ -73,6 +89,17 @@ impl From<SizeFault> for Fault {
 }
 
 impl Fault {
+    /// Why the script could not be opened.
+    pub fn of_opening(error: io::Error) -> Fault
+        ensures files { IsOfFiles result }
+        ensures memory { (result ≡ Fault.Memory) ↔ (error_kind error ≡ ErrorKind.OutOfMemory) }
+    {
+        match error.kind() {
+            ErrorKind::OutOfMemory => Fault::Memory,
+            _ => Fault::Read,
+        }
+    }
+
     /// The exit status: 2 for what the command line asks for, and for a run's fault the one that it has.
     fn status(self) -> u8
         ensures { result ≡ status_of self }

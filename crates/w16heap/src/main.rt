@@ -1,4 +1,4 @@
-//! `w16heap`: runs a script of calls on a new machine of handles, and prints one reply for each.
+//! `w16heap`: runs a script of calls on a new machine over the module files of a folder, and prints one reply for each.
 #![tactic(auto)]
 
 mod fault;

@@ -6,6 +6,7 @@ use std::alloc::{AllocError, Allocator, Global};
 use std::marker::Model;
 use std::process::Abort;
 use w16_kernel::{Call, Kernel, MOST_FILLED, MOST_READ, Reply};
+use w16_loading::FetchFault;
 use w16_model::{FarFault, Item};
 use w16_store::MemStore;
 
@@ -30,6 +31,7 @@ pub(super) enum Told {
     Four([u8; 4]),
     Done,
     Fault(FarFault),
+    Failed(FetchFault),
     Walk(u32),
     Item(Option<Item>),
     /// There was no memory for it.
@@ -62,7 +64,7 @@ impl<A: Allocator + Copy> Bench<A> {
         memory: u32,
     ) -> Result<Bench<A>, AllocError> {
         assert!(rt; memory % 32 == 0);
-        let kernel = Kernel::new(alloc, memory, 16, MemStore::new(files))?;
+        let kernel = Kernel::new(alloc, files, memory, 16, MemStore::new(files))?;
         Ok(Bench { kernel })
     }
 
@@ -138,6 +140,7 @@ fn as_told(reply: &Reply<'_>) -> Told {
         Reply::Bytes(_) => Told::Other,
         Reply::Done => Told::Done,
         Reply::Fault(fault) => Told::Fault(fault),
+        Reply::Failed(fault) => Told::Failed(fault),
         Reply::Walk(parts) => Told::Walk(parts),
     }
 }

@@ -409,6 +409,17 @@ static OF_REGISTERS: &[Row] = &[
     },
 ];
 
+/// Rows on built-in modules.
+static OF_BUILT_INS: &[Row] = &[Row {
+    name: "a built-in module, bad lines, and one that is too long",
+    memory: 4096,
+    selectors: 16,
+    script: b"Builtin KERNEL\nGetProcAddress 0x21 #5\nGetProcAddress 0x21 GLOBALALLOC\nFrob\nGlobalAlloc 2\nRead 0 1025\nr100 = Moved\n",
+    letters: 4097,
+    output: b"0021\n00210005\n00000000\nerror syntax\nerror syntax\nerror syntax\nerror syntax\n",
+    ended: Err(RunFault::TooLong),
+}];
+
 /// Rows on one object's life.
 static OF_OBJECTS: &[Row] = &[
     Row {
@@ -450,7 +461,7 @@ static OF_OBJECTS: &[Row] = &[
 ];
 
 /// All rows, by what they are on. Only this function names the tables, so that a proof meets their contents once.
-pub fn tables() -> [&'static [Row]; 10] {
+pub fn tables() -> [&'static [Row]; 11] {
     [
         OF_LINES,
         OF_MEMORY,
@@ -462,5 +473,6 @@ pub fn tables() -> [&'static [Row]; 10] {
         OF_LOCAL_HEAPS,
         OF_QUESTIONS,
         OF_REGISTERS,
+        OF_BUILT_INS,
     ]
 }

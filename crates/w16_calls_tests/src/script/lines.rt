@@ -4,8 +4,8 @@ mod tables;
 
 use arrayvec::ArrayVec;
 use std::alloc::Global;
-use tables::{BYTES, NO_TEXT, ROWS};
-use w16_kernel::Call;
+use tables::{BYTES, LETTERS, NO_TEXT, ROWS};
+use w16_kernel::{Call, Label};
 use w16_script::{Line, MOST_BYTES, Registers, read_line};
 
 /// Registers of which some have numbers, and all others 0.
@@ -76,5 +76,50 @@ fn written(digits: usize) -> Option<usize> {
 fn reads_bytes(rt: HostRuntime) {
     for (digits, bytes) in BYTES {
         assert!(rt; written(*digits) == *bytes, "{digits} digits");
+    }
+}
+
+/// Commands whose last argument is a text.
+static WITH_TEXT: &[&[u8]] = &[
+    b"Builtin ",
+    b"LoadModule ",
+    b"LoadLibrary ",
+    b"GetModuleHandle ",
+    b"GetProcAddress 1 ",
+];
+
+/// The length of a call's text.
+fn text_length(call: &Call<'_>) -> Option<usize> {
+    match *call {
+        Call::Builtin { name } | Call::GetModuleHandle { name } => Some(name.len()),
+        Call::LoadModule { file } | Call::LoadLibrary { file } => Some(file.len()),
+        Call::GetProcAddress {
+            label: Label::Text(name),
+            ..
+        } => Some(name.len()),
+        _ => None,
+    }
+}
+
+/// How long the text is that a line of so many letters behind a command has.
+fn length_behind(command: &[u8], letters: usize) -> Option<usize> {
+    let mut line: ArrayVec<u8, 600> = ArrayVec::new();
+    let _ = line.try_extend_from_slice(command);
+    let _ = line.try_extend_from_slice([b'a'; 520].split_at(letters.min(520)).0);
+    match read_line(line.as_slice(), &Registers::new(), &mut [0; MOST_BYTES]) {
+        Line::Command { call, .. } => text_length(&call),
+        _ => None,
+    }
+}
+
+#[test]
+fn reads_texts(rt: HostRuntime) {
+    for command in WITH_TEXT {
+        for (letters, length) in LETTERS {
+            assert!(rt;
+                length_behind(command, *letters) == *length,
+                "{letters} letters"
+            );
+        }
     }
 }

@@ -2,6 +2,7 @@
 
 use crate::script::host::{Host, PLAN, Part, Plan};
 use w16_kernel::Reply;
+use w16_loading::FetchFault;
 use w16_model::FarFault;
 use w16_script::{RunFault, print_error, print_reply};
 
@@ -28,6 +29,16 @@ static REPLIES: &[(Reply<'_>, &[Part<'_>])] = &[
         &[(1, b"fault notpresent\n")],
     ),
     (Reply::Fault(FarFault::Limit), &[(1, b"fault limit\n")]),
+    (
+        Reply::Fault(FarFault::ReadOnly),
+        &[(1, b"fault readonly\n")],
+    ),
+    (Reply::Failed(FetchFault::NoRoom), &[(1, b"fault room\n")]),
+    (Reply::Failed(FetchFault::Store), &[(1, b"fault store\n")]),
+    (
+        Reply::Failed(FetchFault::Damaged),
+        &[(1, b"fault damaged\n")],
+    ),
 ];
 
 /// Whether a reply is printed as these parts.

@@ -2,6 +2,7 @@
 
 use crate::script::lines::filled;
 use w16_kernel::Reply;
+use w16_loading::FetchFault;
 use w16_model::FarFault;
 use w16_script::Registers;
 
@@ -13,6 +14,7 @@ fn stored() -> Registers {
     registers.store(Some(1), &Reply::Bytes(&[]));
     registers.store(Some(1), &Reply::Done);
     registers.store(Some(1), &Reply::Fault(FarFault::Limit));
+    registers.store(Some(1), &Reply::Failed(FetchFault::Store));
     registers.store(None, &Reply::Word(5));
     registers
 }

@@ -42,6 +42,43 @@ LocalFlags 6 -> None LocalFlags { name: 6 }
 LocalHandle 0x10 -> None LocalHandle { pointer: 16 }
 LocalCompact 0xffff -> None LocalCompact { size: 65535 }
 DS 0x107 -> None DS { selector: 263 }
+Builtin KERNEL -> None Builtin { name: [75, 69, 82, 78, 69, 76] }
+Builtin = -> None Builtin { name: [61] }
+Builtin ;x -> None Builtin { name: [59, 120] }
+Builtin #5 -> None Builtin { name: [35, 53] }
+Builtin r1 -> None Builtin { name: [114, 49] }
+Builtin 0x21 -> None Builtin { name: [48, 120, 50, 49] }
+LoadModule TAPP.EXE -> None LoadModule { file: [84, 65, 80, 80, 46, 69, 88, 69] }
+LoadModule r1+1 -> None LoadModule { file: [114, 49, 43, 49] }
+LoadLibrary tlib.dll -> None LoadLibrary { file: [116, 108, 105, 98, 46, 100, 108, 108] }
+LoadLibrary #x -> None LoadLibrary { file: [35, 120] }
+LoadLibrary !~ -> None LoadLibrary { file: [33, 126] }
+LoadLibrary = -> None LoadLibrary { file: [61] }
+GetModuleHandle # -> None GetModuleHandle { name: [35] }
+GetModuleHandle ; -> None GetModuleHandle { name: [59] }
+FreeLibrary 0x21 -> None FreeLibrary { handle: 33 }
+FreeModule 0x21 -> None FreeModule { handle: 33 }
+GetModuleUsage 0x21 -> None GetModuleUsage { handle: 33 }
+GetModuleUsage r99 -> None GetModuleUsage { handle: 65535 }
+GetProcAddress 0x21 GETA -> None GetProcAddress { handle: 33, label: Text([71, 69, 84, 65]) }
+GetProcAddress 0x21 #2 -> None GetProcAddress { handle: 33, label: Number(2) }
+GetProcAddress 0x21 #0 -> None GetProcAddress { handle: 33, label: Number(0) }
+GetProcAddress 0x21 #65535 -> None GetProcAddress { handle: 33, label: Number(65535) }
+GetProcAddress 0x21 #0xffff -> None GetProcAddress { handle: 33, label: Number(65535) }
+GetProcAddress 0x21 #0x10 -> None GetProcAddress { handle: 33, label: Number(16) }
+GetProcAddress 0x21 #0x00000010 -> None GetProcAddress { handle: 33, label: Number(16) }
+GetProcAddress 0x21 #00000000000000000000010 -> None GetProcAddress { handle: 33, label: Number(10) }
+GetProcAddress 0x21 r1 -> None GetProcAddress { handle: 33, label: Text([114, 49]) }
+GetProcAddress 0x21 = -> None GetProcAddress { handle: 33, label: Text([61]) }
+GetProcAddress 0x21 ;x -> None GetProcAddress { handle: 33, label: Text([59, 120]) }
+GetProcAddress 0x21 x#5 -> None GetProcAddress { handle: 33, label: Text([120, 35, 53]) }
+GetProcAddress 0x21 0x10 -> None GetProcAddress { handle: 33, label: Text([48, 120, 49, 48]) }
+GetProcAddress 0x21 5 -> None GetProcAddress { handle: 33, label: Text([53]) }
+GetProcAddress 0x21 -#5 -> None GetProcAddress { handle: 33, label: Text([45, 35, 53]) }
+GetProcAddress r1 r1 -> None GetProcAddress { handle: 262, label: Text([114, 49]) }
+r1 = Builtin = -> Some(1) Builtin { name: [61] }
+r7 = LoadLibrary\tr7 -> Some(7) LoadLibrary { file: [114, 55] }
+r99 = GetProcAddress 1 #1 -> Some(99) GetProcAddress { handle: 1, label: Number(1) }
 GlobalFree 0 -> None GlobalFree { handle: 0 }
 GlobalFree 65535 -> None GlobalFree { handle: 65535 }
 GlobalFree 0000000000000000000000000000262 -> None GlobalFree { handle: 262 }
@@ -64,6 +101,56 @@ r1 = Write 0 4e -> Some(1) Write { pointer: 0, bytes: [78] }
  \tr1\t=\tGlobalLock 1  -> Some(1) GlobalLock { handle: 1 }
 r1 = GlobalLock r1 -> Some(1) GlobalLock { handle: 262 }
 r20 = GlobalLock r20.lo -> Some(20) GlobalLock { handle: 0 }
+Builtin -> bad
+Builtin A B -> bad
+Builtin = = -> bad
+LoadModule -> bad
+LoadModule A ; x -> bad
+LoadLibrary -> bad
+LoadLibrary A 1 -> bad
+GetModuleHandle -> bad
+GetModuleHandle A A -> bad
+FreeLibrary -> bad
+FreeLibrary 1 2 -> bad
+FreeLibrary 0x10000 -> bad
+FreeLibrary A -> bad
+FreeModule -> bad
+FreeModule #1 -> bad
+FreeModule 65536 -> bad
+GetModuleUsage -> bad
+GetModuleUsage r0 -> bad
+GetModuleUsage 1 1 -> bad
+GetProcAddress -> bad
+GetProcAddress 0x21 -> bad
+GetProcAddress GETA -> bad
+GetProcAddress GETA GETA -> bad
+GetProcAddress 0x10000 GETA -> bad
+GetProcAddress 0x21 GETA GETB -> bad
+GetProcAddress #1 #1 -> bad
+GetProcAddress 0x21 # -> bad
+GetProcAddress 0x21 #x -> bad
+GetProcAddress 0x21 #r1 -> bad
+GetProcAddress 0x21 #65536 -> bad
+GetProcAddress 0x21 #0x10000 -> bad
+GetProcAddress 0x21 #4294967296 -> bad
+GetProcAddress 0x21 #0x -> bad
+GetProcAddress 0x21 #0X10 -> bad
+GetProcAddress 0x21 #0x000000010 -> bad
+GetProcAddress 0x21 ##5 -> bad
+GetProcAddress 0x21 #5x -> bad
+GetProcAddress 0x21 #-1 -> bad
+GetProcAddress 0x21 #+1 -> bad
+GetProcAddress 0x21 # 5 -> bad
+builtin A -> bad
+LOADLIBRARY A -> bad
+Loadlibrary A -> bad
+LoadLibraryA A -> bad
+GetProcAddres 0x21 #1 -> bad
+GetModule A -> bad
+r100 = LoadLibrary A -> bad
+r1 = LoadLibrary -> bad
+r1= LoadLibrary A -> bad
+LoadLibrary = A -> bad
 GlobalFree 65536 -> bad
 GlobalFree 0x10000 -> bad
 GlobalFree 4294967296 -> bad
@@ -213,6 +300,12 @@ GlobalAlloc 0 r0 +1 -> bad";
 pub static NO_TEXT: &[(&[u8], &str)] = &[
     (b"GlobalFree 1\xff", "bad"),
     (b";\x00\x0b\xff\r", "silent"),
+    (b"Builtin A\xff", "bad"),
+    (b"LoadLibrary \x80", "bad"),
+    (b"LoadModule A\x7f", "bad"),
+    (b"GetModuleHandle A\x0b", "bad"),
+    (b"GetProcAddress 1 A\xe4", "bad"),
+    (b"GetProcAddress 1 #5\x00", "bad"),
 ];
 
 /// How many digits are written, and how many bytes they are.
@@ -224,4 +317,15 @@ pub static BYTES: &[(usize, Option<usize>)] = &[
     (2048, Some(1024)),
     (2049, None),
     (2050, None),
+];
+
+/// How many letters stand behind a command, and how many a text of them has.
+pub static LETTERS: &[(usize, Option<usize>)] = &[
+    (0, None),
+    (1, Some(1)),
+    (254, Some(254)),
+    (255, Some(255)),
+    (256, None),
+    (257, None),
+    (511, None),
 ];

@@ -1,6 +1,6 @@
 use Rattle.w16_script.proofs.ArgumentLemmas.{makes, makes_none}
 use Rattle.w16_script.proofs.Common.{common_steps, arith}
-use Rattle.w16_script.proofs.line.call.Goals as goal
+use Rattle.w16_script.proofs.line.far_access.Goals as goal
 
 pub returns-in_ok-pointer-in-Read-clause-found : goal.returns-in_ok-pointer-in-Read-clause-found
 returns-in_ok-pointer-in-Read-clause-found c = grind (arith, common_steps, makes, makes_none)
@@ -10,9 +10,3 @@ returns-in_ok-pointer-in-Write-clause-found c = grind (arith, common_steps, make
 
 pub returns-in_ok-pointer-in-Fill-clause-found : goal.returns-in_ok-pointer-in-Fill-clause-found
 returns-in_ok-pointer-in-Fill-clause-found c = grind (arith, common_steps, makes, makes_none)
-
-pub returns-in_ok-selector-in-DS-clause-found : goal.returns-in_ok-selector-in-DS-clause-found
-returns-in_ok-selector-in-DS-clause-found c = grind (arith, common_steps, makes, makes_none)
-
-pub returns-in_ok-handle-in-GlobalLock-clause-found : goal.returns-in_ok-handle-in-GlobalLock-clause-found
-returns-in_ok-handle-in-GlobalLock-clause-found c = grind (arith, common_steps, makes, makes_none)

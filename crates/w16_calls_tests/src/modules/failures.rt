@@ -1,0 +1,230 @@
+//! Devices that fail, and files that change.
+
+use super::files::store_of;
+use super::loads::{FIRST_LOAD, IMPORTS};
+use super::machine::Machine;
+use super::turning::Turning;
+use super::{ALL, first_wrong, split};
+use std::alloc::{AllocError, Global};
+use std::test::Fail;
+use w16_store::{FuseStore, MemStore};
+
+/// A library is loaded, and its code discarded.
+const DISCARDED: &str = "\
+LoadLibrary TLIB.DLL -> 0021
+GetProcAddress 0x21 geta -> 01070000
+GetProcAddress 0x21 #2 -> 010f0004
+Read 0x01070000 16 -> bytes 9a04000f019a04000f01b81400cb9090
+Read 0x010f0004 1 -> bytes cb
+GlobalCompact 0xffffffff -> 00001000";
+
+/// Behind it the device fails once.
+const FAILING: &str = "\
+Read 0x01070000 16 -> fault store
+Walk -> 00000000 00001000 free / end
+Read 0x01070000 16 -> bytes 9a04000f019a04000f01b81400cb9090";
+
+/// A machine over the samples, of which a read fails.
+fn failing(alloc: Global, read: u32) -> Result<Machine<FuseStore<MemStore>>, AllocError> {
+    let store = FuseStore::new(store_of(alloc, ALL)?, read);
+    Machine::new(alloc, alloc, 4096, 16, store)
+}
+
+/// The first wrong line behind the discard where a read fails; none where that is one before the discard.
+fn first_wrong_behind(alloc: Global, read: u32) -> Result<Option<usize>, AllocError> {
+    let mut machine = failing(alloc, read)?;
+    if first_wrong(&mut machine, alloc, DISCARDED)? != 0 {
+        return Ok(None);
+    }
+    Ok(Some(first_wrong(&mut machine, alloc, FAILING)?))
+}
+
+/// The first wrong line where the first read behind the discard fails.
+fn first_wrong_at_last(alloc: Global) -> Result<Option<usize>, AllocError> {
+    for read in 1..1000u32 {
+        let wrong = first_wrong_behind(alloc, read)?;
+        if wrong.is_some() {
+            return Ok(wrong);
+        }
+    }
+    Ok(None)
+}
+
+#[test]
+fn a_fetch_fails_with_its_device(rt: HostRuntime) -> Result<(), Fail> {
+    let wrong = first_wrong_at_last(rt.alloc())?;
+    assert!(rt; wrong == Some(0), "{wrong:?}");
+    Ok(())
+}
+
+/// A register keeps its number where a load fails, and gets the handle of the next.
+const KEPT: &str = "\
+r1 = Builtin KERNEL -> 0021
+r1 = LoadLibrary TLIB.DLL -> fault store
+GetProcAddress r1 #1 -> 00210001
+GetModuleHandle TLIB -> 0000
+Walk -> 00000000 00001000 free / end
+r1 = LoadLibrary TLIB.DLL -> 0022
+GetModuleUsage r1 -> 0001";
+
+#[test]
+fn registers_keep_their_numbers(rt: HostRuntime) -> Result<(), Fail> {
+    let mut machine = failing(rt.alloc(), 1)?;
+    let wrong = first_wrong(&mut machine, rt.alloc(), KEPT)?;
+    assert!(rt; wrong == 0, "line {wrong} of the output");
+    Ok(())
+}
+
+/// The lines, but that one of a number, from 1 on, is answered `fault store`, and is asked for again.
+fn failing_at(alloc: Global, lines: &str, number: usize) -> Result<String, AllocError> {
+    let mut text = String::new(alloc);
+    for (at, line) in lines.split('\n').enumerate() {
+        if at.saturating_add(1) == number {
+            text.push_str(split(line).0)?;
+            text.push_str(" -> fault store\n")?;
+        }
+        text.push_str(line)?;
+        text.push_str("\n")?;
+    }
+    Ok(text)
+}
+
+/// The first wrong line where a read fails and the line that it fails is asked for again; none where no line fails.
+fn first_wrong_again(alloc: Global, lines: &str, read: u32) -> Result<Option<usize>, AllocError> {
+    let number = first_wrong(&mut failing(alloc, read)?, alloc, lines)?;
+    if number == 0 {
+        return Ok(None);
+    }
+    let text = failing_at(alloc, lines, number)?;
+    let asked = text.trim_end();
+    Ok(Some(first_wrong(&mut failing(alloc, read)?, alloc, asked)?))
+}
+
+/// How many reads these lines have, of which each makes one line fail, and it alone; none where one makes more.
+fn reads_of(alloc: Global, lines: &str) -> Result<Option<u32>, AllocError> {
+    for read in 1..1000u32 {
+        match first_wrong_again(alloc, lines, read)? {
+            Some(0) => {}
+            Some(_) => return Ok(None),
+            None => return Ok(Some(read - 1)),
+        }
+    }
+    Ok(None)
+}
+
+#[test]
+fn each_read_fails(rt: HostRuntime) -> Result<(), Fail> {
+    for lines in [FIRST_LOAD, IMPORTS] {
+        let reads = reads_of(rt.alloc(), lines)?;
+        assert!(rt; reads.unwrap_or(0) > 10, "{reads:?} reads");
+    }
+    Ok(())
+}
+
+/// Other files that come after the discard, and what is answered then: a chain that returns, a file that ends in its first segment's records,
+/// another number of records, none of that name, and one whose bytes alone are others.
+static CHANGES: &[(&str, &str)] = &[
+    (
+        "TLIB.DLL C6=01 C7=00",
+        "\
+Read 0x01070000 16 -> fault damaged
+GetSelectorLimit 0x107 -> 00000000
+Walk -> 00000000 00001000 free / end
+Read 0x010f0000 2 -> bytes 0102",
+    ),
+    (
+        "TLIB.DLL len=200",
+        "\
+Read 0x01070000 0 -> fault damaged
+Read 0x010f0000 2 -> fault damaged
+Walk -> 00000000 00001000 free / end",
+    ),
+    (
+        "TLIB.DLL D0=01",
+        "\
+Read 0x01070020 1 -> fault damaged
+Write 0x01070000 00 -> fault readonly
+Walk -> 00000000 00001000 free / end",
+    ),
+    (
+        "TLIB.DLL as=ELSE.DLL",
+        "\
+Read 0x01070000 16 -> fault damaged
+GlobalFlags 0x106 -> 4100
+Walk -> 00000000 00001000 free / end",
+    ),
+    (
+        "TLIB.DLL C0=55 F0=aa",
+        "\
+Read 0x010f0000 2 -> bytes aa02
+Read 0x01070000 16 -> bytes 5504000f019a04000f01b81400cb9090
+GlobalCompact 0xffffffff -> 00001000",
+    ),
+];
+
+/// The first files come back.
+const BACK: &str = "\
+LoadLibrary BACK -> 0002
+Read 0x01070000 16 -> bytes 9a04000f019a04000f01b81400cb9090
+Read 0x010f0000 5 -> bytes 01020304cb";
+
+/// A machine over the samples, and over others when they are asked for.
+fn turning(alloc: Global, others: &str) -> Result<Machine<Turning>, AllocError> {
+    let store = Turning::new(store_of(alloc, ALL)?, store_of(alloc, others)?);
+    Machine::new(alloc, alloc, 4096, 16, store)
+}
+
+/// The first wrong line where other files come: before they do, while they are there, and behind.
+fn first_wrong_where_changed(
+    alloc: Global,
+    others: &str,
+    lines: &str,
+) -> Result<[usize; 4], AllocError> {
+    let mut machine = turning(alloc, others)?;
+    Ok([
+        first_wrong(&mut machine, alloc, DISCARDED)?,
+        first_wrong(&mut machine, alloc, "LoadLibrary TURN -> 0002")?,
+        first_wrong(&mut machine, alloc, lines)?,
+        first_wrong(&mut machine, alloc, BACK)?,
+    ])
+}
+
+#[test]
+fn files_change_behind_a_discard(rt: HostRuntime) -> Result<(), Fail> {
+    for (others, lines) in CHANGES {
+        let wrong = first_wrong_where_changed(rt.alloc(), others, lines)?;
+        assert!(rt; wrong == [0; 4], "{others}: {wrong:?}");
+    }
+    Ok(())
+}
+
+/// A file, how long it is, another one beside it, and a load of it where its end is missing.
+static CUT: &[(&str, usize, &str, &str)] = &[
+    ("TLIB.DLL", 248, "TRES.DLL", "LoadLibrary TLIB.DLL -> 000b"),
+    ("TAPP.EXE", 202, "TLIB.DLL", "LoadModule TAPP.EXE -> 000b"),
+];
+
+/// The first wrong line where so many bytes of a file are there.
+fn first_wrong_cut(
+    alloc: Global,
+    file: &str,
+    len: usize,
+    other: &str,
+    line: &str,
+) -> Result<usize, AllocError> {
+    let files = format!(in alloc; "{file} len={len}, {other}")?;
+    let store = store_of(alloc, &files)?;
+    let mut machine = Machine::new(alloc, alloc, 4096, 16, store)?;
+    first_wrong(&mut machine, alloc, line)
+}
+
+#[test]
+fn no_front_of_a_file_is_loaded(rt: HostRuntime) -> Result<(), Fail> {
+    for (file, whole, other, line) in CUT {
+        for len in 0..*whole {
+            let wrong = first_wrong_cut(rt.alloc(), file, len, other, line)?;
+            assert!(rt; wrong == 0, "{len} bytes of {file}");
+        }
+    }
+    Ok(())
+}

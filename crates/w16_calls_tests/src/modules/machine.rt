@@ -1,0 +1,47 @@
+//! A machine over module files, which plays scripts.
+ghost use Rattle.std.specs.Prelude.{ℕ};
+
+use std::alloc::{AllocError, Allocator, Global};
+use std::marker::Model;
+use w16_kernel::Kernel;
+use w16_model::{GRAIN, MOST_SLOTS};
+use w16_script::{Ended, RunFault, run};
+use w16_store::Store;
+
+/// A machine. To a proof it has no value, and its methods have no clauses, so no test carries what a run says of it.
+#[derive(Drop)]
+pub struct Machine<S: Store + Drop, A: Allocator + Copy = Global> {
+    kernel: Kernel<S, A>,
+}
+
+impl<S: Store + Drop, A: Allocator + Copy> Model for Machine<S, A> {
+    ghost Value = { ℕ };
+
+    ghost view = { λ _. 0 };
+}
+
+impl<S: Store + Drop, A: Allocator + Copy> Machine<S, A> {
+    /// A machine of so many bytes and selectors over a store, which takes its memory from one allocator, and its files' from another.
+    pub fn new(
+        alloc: A,
+        host: Global,
+        memory: u32,
+        selectors: u32,
+        store: S,
+    ) -> Result<Self, AllocError> {
+        let memory = memory - memory % GRAIN;
+        let kernel = Kernel::new(alloc, host, memory, selectors.min(MOST_SLOTS), store)?;
+        Ok(Machine { kernel })
+    }
+
+    /// Plays a script, whose replies are put behind the output, and answers how it ended. Registers begin anew with each.
+    pub fn play(
+        &mut self,
+        host: Global,
+        script: &[u8],
+        output: &mut Vec<u8>,
+    ) -> Result<Ended, RunFault> {
+        let mut reader = script;
+        run(host, &mut reader, output, &mut self.kernel)
+    }
+}

@@ -1,0 +1,138 @@
+//! The same rows, with each growth of a run refused in turn.
+
+use super::files::store_of;
+use super::machine::Machine;
+use super::{Row, first_wrong, output_of, put_reply, script_of, split, tables};
+use std::alloc::{AllocError, Global};
+use std::process::Abort;
+use std::test::Fail;
+use w16_fuse::Fuse;
+use w16_script::RunFault;
+use w16_store::MemStore;
+
+/// More growths than any row has.
+const MANY: u64 = 1000;
+
+/// The calls that may take memory of the host.
+const TAKING: [&str; 4] = ["LocalInit ", "Builtin ", "LoadModule ", "LoadLibrary "];
+
+/// Whether a line's call may take memory.
+fn takes_memory(line: &str) -> bool {
+    let (front, command) = line.split_once(" = ").unwrap_or(("", line));
+    let command = if front.starts_with("r") {
+        command
+    } else {
+        line
+    };
+    for name in TAKING {
+        if command.starts_with(name) {
+            return true;
+        }
+    }
+    false
+}
+
+/// The lines behind those whose whole replies were printed, if such are there.
+fn lines_behind<'a>(
+    alloc: Global,
+    lines: &'a str,
+    printed: &[u8],
+) -> Result<Option<&'a str>, AllocError> {
+    let mut text = Vec::new(alloc);
+    let mut rest = lines;
+    for _ in 0..lines.len() {
+        if text.as_slice() == printed {
+            return Ok(Some(rest));
+        }
+        let (line, behind) = rest.split_once("\n").unwrap_or((rest, ""));
+        put_reply(&mut text, split(line).1)?;
+        rest = behind;
+    }
+    Ok(None)
+}
+
+/// Whether a run that had no memory printed whole replies up to a line that may take some. That line and those behind it are answered as they
+/// should be when they are asked for again; lines with registers aren't, since these begin anew.
+fn is_undone(
+    machine: &mut Machine<MemStore, &Fuse<Global>>,
+    alloc: Global,
+    lines: &str,
+    printed: &[u8],
+) -> Result<bool, AllocError> {
+    let Some(rest) = lines_behind(alloc, lines, printed)? else {
+        return Ok(false);
+    };
+    if !takes_memory(rest) {
+        return Ok(false);
+    }
+    Ok(lines.starts_with("r") || first_wrong(machine, alloc, rest)? == 0)
+}
+
+/// Whether a run of lines ends as it should where a growth of it may be refused: by `Memory` where one was.
+fn ends_right(
+    fuse: &Fuse<Global>,
+    machine: &mut Machine<MemStore, &Fuse<Global>>,
+    alloc: Global,
+    lines: &str,
+) -> Result<bool, AllocError> {
+    let script = script_of(alloc, lines)?;
+    let mut output = Vec::new(alloc);
+    let ended = machine.play(alloc, &script, &mut output);
+    if fuse.is_armed() {
+        let wanted = output_of(alloc, lines)?;
+        return Ok(ended.is_ok() && output.as_slice() == wanted.as_slice());
+    }
+    Ok(ended == Err(RunFault::Memory) && is_undone(machine, alloc, lines, &output)?)
+}
+
+/// Whether a row ends as it should where this growth of its run is refused.
+fn row_ends_right(
+    fuse: &Fuse<Global>,
+    alloc: Global,
+    row: &Row,
+    growth: u64,
+) -> Result<bool, AllocError> {
+    fuse.arm(0);
+    let store = store_of(alloc, row.files)?;
+    let mut machine = Machine::new(fuse, alloc, row.memory, row.selectors, store)?;
+    fuse.arm(growth);
+    ends_right(fuse, &mut machine, alloc, row.lines)
+}
+
+/// How many growths a row has; none where it ends otherwise than it should.
+fn growths(fuse: &Fuse<Global>, alloc: Global, row: &Row) -> Result<Option<u64>, AllocError> {
+    for growth in 1..MANY {
+        if !row_ends_right(fuse, alloc, row, growth)? {
+            return Ok(None);
+        }
+        if fuse.is_armed() {
+            return Ok(Some(growth - 1));
+        }
+    }
+    Ok(None)
+}
+
+/// Whether each row of a table ends as it should, and those whose first line adds a module have growths.
+fn expect_right(
+    rt: &(impl Abort + AllocGlobal),
+    fuse: &Fuse<Global>,
+    rows: &[Row],
+) -> Result<(), AllocError> {
+    for row in rows {
+        let taken = growths(fuse, rt.alloc(), row)?;
+        assert!(rt; taken.is_some(), "{}", row.name);
+        let (first, _) = row.lines.split_once("\n").unwrap_or((row.lines, ""));
+        let adds = split(first).1 == "0021";
+        assert!(rt; !adds || taken != Some(0), "{} has none", row.name);
+    }
+    Ok(())
+}
+
+#[test]
+fn refused_runs_end_after_whole_replies(rt: HostRuntime) -> Result<(), Fail> {
+    let fuse = Fuse::new(rt.alloc());
+    for rows in tables() {
+        expect_right(&rt, &fuse, rows)?;
+    }
+    Ok(())
+}

@@ -1,0 +1,174 @@
+-- Far accesses over a store, with what they fetch.
+use Rattle.w16_kernel.proofs.Common.{◌≡◌, ℕ, inl, inr, Bool, true, false, MatchBool, MatchOption, Option, Some, None, Result, Ok, Err, refl, sym, ap, ◌∙◌, subst, repeated, FarAnswer, FarCommand, FarFault, FetchFault, Read, Write, Fill, Handles, far_slot, selector_in, offset_in, AnyFetches, Fetching, Fetches, FetchesCounted, Accesses, needs_fetch, far_read, far_write, far_reads_file, gives, reply_of_far, FarReplies, Failed, Store, FinMap, Table, nat_cmp, false≢true, OfFar, OfHandles, LoadingWorld, with_handles, World, left_in, Step, OfLoading, ne_format, reply_of, IsWorldOver, StoreFetch, Refetches, Moved, Dword}
+use Rattle.w16_loading.specs.Families.{FarStep}
+use Rattle.w16_loading.specs.Replies as printed
+use Rattle.w16_loading.specs.Replies.Reply.{Bytes, Done, Fault}
+use Rattle.w16_kernel.specs.declared.call.Reply.{Reply}
+use Rattle.w16_kernel.proofs.Stepping.{on_handles, stay}
+
+-- The access that a command makes, and the selector that it names.
+
+abbrev pub access_of : FarCommand → LoadingWorld → FarAnswer × LoadingWorld
+access_of (Read pointer count) world = far_read (selector_in pointer) (offset_in pointer) count world
+access_of (Write pointer bytes) world = far_write (selector_in pointer) (offset_in pointer) bytes world
+access_of (Fill pointer count byte) world = far_write (selector_in pointer) (offset_in pointer) (repeated count byte) world
+
+abbrev pub selector_of_command : FarCommand → ℕ
+selector_of_command (Read pointer count) = selector_in pointer
+selector_of_command (Write pointer bytes) = selector_in pointer
+selector_of_command (Fill pointer count byte) = selector_in pointer
+
+accessed : (fetches : Fetching) (old : LoadingWorld) (command : FarCommand) (reply : printed.Reply) (new : LoadingWorld) → Accesses fetches (access_of command) old (selector_of_command command) reply new → FarStep fetches old command reply new
+accessed fetches old (Read pointer count) reply new a = a
+accessed fetches old (Write pointer bytes) reply new a = a
+accessed fetches old (Fill pointer count byte) reply new a = a
+
+reads_are : (old : LoadingWorld) (command : FarCommand) → far_reads_file old command ≡ needs_fetch (access_of command old).0 old (selector_of_command command)
+reads_are old (Read pointer count) = refl
+reads_are old (Write pointer bytes) = refl
+reads_are old (Fill pointer count byte) = refl
+
+-- what a reply prints, of an access to handles in whatever world has them
+given : (old : LoadingWorld) (next : Handles) (command : FarCommand) (reply : printed.Reply) → FarReplies old.handles command reply next → gives (access_of command old) reply (with_handles old next)
+given old next (Read pointer count) (Bytes bytes) s = (ap reply_of_far s.0, ap (with_handles old) s.1)
+given old next (Read pointer count) Done s = (ap reply_of_far s.0, ap (with_handles old) s.1)
+given old next (Read pointer count) (Fault fault) s = (ap reply_of_far s.0, ap (with_handles old) s.1)
+given old next (Write pointer bytes) (Bytes read) s = (ap reply_of_far s.0, ap (with_handles old) s.1)
+given old next (Write pointer bytes) Done s = (ap reply_of_far s.0, ap (with_handles old) s.1)
+given old next (Write pointer bytes) (Fault fault) s = (ap reply_of_far s.0, ap (with_handles old) s.1)
+given old next (Fill pointer count byte) (Bytes read) s = (ap reply_of_far s.0, ap (with_handles old) s.1)
+given old next (Fill pointer count byte) Done s = (ap reply_of_far s.0, ap (with_handles old) s.1)
+given old next (Fill pointer count byte) (Fault fault) s = (ap reply_of_far s.0, ap (with_handles old) s.1)
+given old next command reply s = absurd s
+
+-- no access replies that a fetch failed
+unfailed : (h next : Handles) (command : FarCommand) (reply : printed.Reply) (fault : FetchFault) → FarReplies h command reply next → reply ≡ Failed fault → ⊥
+unfailed h next command reply fault s e = subst (λ r. FarReplies h command r next) e s
+
+-- An access that fetches the object, or fails to.
+module _ (old : LoadingWorld) (command : FarCommand) (reply : printed.Reply) (needed : needs_fetch (access_of command old).0 old (selector_of_command command) ≡ true) where
+  abbrev slot : ℕ
+  slot = far_slot old.handles (selector_of_command command)
+
+  abbrev Outcome : Fetching → LoadingWorld → Bool → Type 0
+  Outcome fetches new b = MatchBool b ((fault : Option FetchFault) × (next : LoadingWorld) × fetches old slot fault next × MatchOption fault (gives (access_of command next) reply new) (λ f. (reply ≡ Failed f) × (new ≡ next)))
+      (gives (access_of command old) reply new)
+
+  again : (fetches : Fetching) (mid new : LoadingWorld) → fetches old slot None mid → gives (access_of command mid) reply new → FarStep fetches old command reply new
+  again fetches mid new f g = accessed fetches old command reply new (subst (Outcome fetches new) (sym needed) (None, mid, f, g))
+
+  failed : (fetches : Fetching) (fault : FetchFault) (new : LoadingWorld) → fetches old slot (Some fault) new → reply ≡ Failed fault → FarStep fetches old command reply new
+  failed fetches fault new f e = accessed fetches old command reply new (subst (Outcome fetches new) (sym needed) (Some fault, new, f, (e, refl)))
+
+module _ (honest : Type 0) (old : World) (is : IsWorldOver honest old) (command : FarCommand) (reply : printed.Reply) where
+  abbrev Makes : World → Type 0
+  Makes new = Step honest ne_format old (OfLoading (OfFar command)) reply new
+
+  -- what fetches nothing
+  pub made_once : (next : Handles) → needs_fetch (access_of command old.loading).0 old.loading (selector_of_command command) ≡ false → FarReplies old.loading.handles command reply next → Makes (record old { loading = with_handles old.loading next })
+  made_once next none s =
+      let step = on_handles honest old.loading (OfFar command) reply next (reads_are old.loading command ∙ none) s in
+      (step, (λ i. record { loading = with_handles old.loading next; heaps = sym (stay honest old is (OfFar command) reply (with_handles old.loading next) (reads_are old.loading command ∙ none) step) i; ds = old.ds }))
+
+  -- what is made again behind a fetch, and the sweep
+  pub made_again : (mid : LoadingWorld) (next : Handles) → needs_fetch (access_of command old.loading).0 old.loading (selector_of_command command) ≡ true
+      → StoreFetch honest old.loading (far_slot old.loading.handles (selector_of_command command)) None mid → FarReplies mid.handles command reply next
+      → Makes (record { loading = with_handles mid next; heaps = left_in next.heap old.heaps; ds = old.ds })
+  made_again mid next needed f s = (
+    record {
+      any = record {
+        counted = f.counted;
+        files = f.files;
+        step = again old.loading command reply needed AnyFetches (record mid { failures = old.loading.failures }) (with_handles (record mid { failures = old.loading.failures }) next) f.any
+            (given (record mid { failures = old.loading.failures }) next command reply s);
+      };
+      exact = λ asked. let fetched : FetchesCounted ne_format old.loading (far_slot old.loading.handles (selector_of_command command)) None mid = f.exact (asked (reads_are old.loading command ∙ needed)) in record {
+        counted = f.counted;
+        failed = λ e. absurd (unfailed mid.handles next command reply Store s e);
+        step = again old.loading command reply needed (Fetches ne_format) (record mid { failures = old.loading.failures }) (with_handles (record mid { failures = old.loading.failures }) next) fetched.fetched
+            (given (record mid { failures = old.loading.failures }) next command reply s);
+      };
+    },
+    refl,
+  )
+
+  -- what can't be fetched
+  pub not_made : (fault : FetchFault) (new : LoadingWorld) → needs_fetch (access_of command old.loading).0 old.loading (selector_of_command command) ≡ true
+      → StoreFetch honest old.loading (far_slot old.loading.handles (selector_of_command command)) (Some fault) new → reply ≡ Failed fault → new.handles ≡ old.loading.handles
+      → Makes (record { loading = new; heaps = old.heaps; ds = old.ds })
+  not_made fault new needed f e same = (
+    record {
+      any = record { counted = f.counted; files = f.files; step = failed old.loading command reply needed AnyFetches fault (record new { failures = old.loading.failures }) f.any e };
+      exact = λ asked. let fetched : FetchesCounted ne_format old.loading (far_slot old.loading.handles (selector_of_command command)) (Some fault) new = f.exact (asked (reads_are old.loading command ∙ needed)) in record {
+        counted = f.counted;
+        failed = λ r. fetched.failed (store_is fault e r);
+        step = failed old.loading command reply needed (Fetches ne_format) fault (record new { failures = old.loading.failures }) fetched.fetched e;
+      };
+    },
+    (λ i. record { loading = new; heaps = (sym still ∙ ap (λ (h : Handles). left_in h.heap old.heaps) (sym same)) i; ds = old.ds }),
+  )
+    where
+      store_is : (fault : FetchFault) → reply ≡ Failed fault → reply ≡ Failed Store → Some fault ≡ Some Store
+      store_is fault e r = ap Some (same_fault (sym e ∙ r))
+        where
+          same_fault : ◌≡◌ {A = printed.Reply} (Failed fault) (Failed Store) → fault ≡ Store
+          same_fault q = cc
+
+      still : left_in old.loading.handles.heap old.heaps ≡ old.heaps
+      still = stay honest old is (OfHandles Moved) (Dword old.loading.handles.moved) old.loading refl (on_handles honest old.loading (OfHandles Moved) (Dword old.loading.handles.moved) old.loading.handles refl (refl, refl))
+
+-- An access that met a fault, and what became of it then.
+met_fault : (old : LoadingWorld) (next : Handles) (command : FarCommand) (fault : FarFault) → FarReplies old.handles command (Fault fault) next → FarAnswer.Fault fault ≡ (access_of command old).0
+met_fault old next (Read pointer count) fault s = s.0
+met_fault old next (Write pointer bytes) fault s = s.0
+met_fault old next (Fill pointer count byte) fault s = s.0
+
+module _ (honest : Type 0) (old : World) (is : IsWorldOver honest old) (command : FarCommand) (fault : FarFault) (met : FarReplies old.loading.handles command (Fault fault) old.loading.handles) where
+  met_needs : (b : Bool) → needs_fetch (FarAnswer.Fault fault) old.loading (selector_of_command command) ≡ b → needs_fetch (access_of command old.loading).0 old.loading (selector_of_command command) ≡ b
+  met_needs b e = subst (λ answer. needs_fetch answer old.loading (selector_of_command command) ≡ b) (met_fault old.loading old.loading.handles command fault met) e
+
+  -- it isn't made again
+  pub ended : (reply : Reply) (new : LoadingWorld) → Refetches honest old.loading (selector_of_command command) fault (Err reply) new
+      → Step honest ne_format old (OfLoading (OfFar command)) (reply_of reply) (record { loading = new; heaps = old.heaps; ds = old.ds })
+  ended reply new (inl (none, e, same)) =
+      let once : Step honest ne_format old (OfLoading (OfFar command)) (reply_of reply) (record old { loading = old.loading }) =
+      made_once honest old is command (reply_of reply) old.loading.handles (met_needs false none) (subst (λ r. FarReplies old.loading.handles command r old.loading.handles) (sym e) met) in
+      subst (λ (w : LoadingWorld). Step honest ne_format old (OfLoading (OfFar command)) (reply_of reply) (record { loading = w; heaps = old.heaps; ds = old.ds })) (sym same) once
+  ended reply new (inr (needed, same, failed, e, f)) = not_made honest old is command (reply_of reply) failed new (met_needs true needed) f e same
+
+  -- it is
+  pub remade : (mid : LoadingWorld) (reply : printed.Reply) (next : Handles) → Refetches honest old.loading (selector_of_command command) fault (Ok tt) mid → FarReplies mid.handles command reply next
+      → Step honest ne_format old (OfLoading (OfFar command)) reply (record { loading = with_handles mid next; heaps = left_in next.heap old.heaps; ds = old.ds })
+  remade mid reply next f s = made_again honest old is command reply mid next (met_needs true f.0) f.1 s
+
+-- The steps as the code makes them: an access answers at once, or it left the handles as they were, and was ended or made again.
+abbrev is_fault : printed.Reply → Bool
+is_fault (Fault fault) = true
+is_fault reply = false
+
+pub needs_nothing : (old : LoadingWorld) (selector : ℕ) (reply : printed.Reply) (answer : FarAnswer) → reply ≡ reply_of_far answer → is_fault reply ≡ false → needs_fetch answer old selector ≡ false
+needs_nothing old selector reply (FarAnswer.Bytes bytes) e none = refl
+needs_nothing old selector reply FarAnswer.Done e none = refl
+needs_nothing old selector reply (FarAnswer.Fault fault) e none = absurd (false≢true (sym none ∙ ap is_fault e))
+
+module _ (honest : Type 0) (old : World) (command : FarCommand) where
+  pub answered : IsWorldOver honest old → (reply : printed.Reply) (next : Handles) → is_fault reply ≡ false → FarReplies old.loading.handles command reply next
+      → Step honest ne_format old (OfLoading (OfFar command)) reply (record old { loading = with_handles old.loading next })
+  answered is reply next none s = made_once honest old is command reply next (needs_nothing old.loading (selector_of_command command) reply (access_of command old.loading).0 (given old.loading next command reply s).0 none) s
+
+  module _ (next : Handles) (same : next ≡ old.loading.handles) (selector : ℕ) (named : selector ≡ selector_of_command command) (fault : FarFault) (met : FarReplies old.loading.handles command (Fault fault) next) where
+    met_here : FarReplies old.loading.handles command (Fault fault) old.loading.handles
+    met_here = subst (FarReplies old.loading.handles command (Fault fault)) same met
+
+    refetched : (result : Result (Unit {0}) Reply) (new : LoadingWorld) → Refetches honest (with_handles old.loading next) selector fault result new → Refetches honest old.loading (selector_of_command command) fault result new
+    refetched result new f = subst (λ n. Refetches honest old.loading n fault result new) named (subst (λ (h : Handles). Refetches honest (with_handles old.loading h) selector fault result new) same f)
+
+    pub ended_by : IsWorldOver honest old → (reply : Reply) (new : LoadingWorld) → Refetches honest (with_handles old.loading next) selector fault (Err reply) new
+        → Step honest ne_format old (OfLoading (OfFar command)) (reply_of reply) (record { loading = new; heaps = old.heaps; ds = old.ds })
+    ended_by is reply new f = ended honest old is command fault met_here reply new (refetched (Err reply) new f)
+
+    pub remade_by : IsWorldOver honest old → (mid : LoadingWorld) (reply : printed.Reply) (last : Handles) (heaps : FinMap nat_cmp Table) → Refetches honest (with_handles old.loading next) selector fault (Ok tt) mid → FarReplies mid.handles command reply last
+        → heaps ≡ left_in last.heap old.heaps → Step honest ne_format old (OfLoading (OfFar command)) reply (record { loading = with_handles mid last; heaps = heaps; ds = old.ds })
+    remade_by is mid reply last heaps f s left =
+        subst (λ (tables : FinMap nat_cmp Table). Step honest ne_format old (OfLoading (OfFar command)) reply (record { loading = with_handles mid last; heaps = tables; ds = old.ds })) (sym left)
+        (remade honest old is command fault met_here mid reply last (refetched (Ok tt) mid f) s)

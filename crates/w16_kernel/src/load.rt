@@ -1,0 +1,65 @@
+//! Calls on modules that are more than one call of the loader.
+ghost use Rattle.std.specs.Prelude.{◌≡◌, ◌≤◌, IfOk, OnErr};
+ghost use Rattle.w16_loading.specs.Families.{pointer_to, proc_address};
+ghost use Rattle.w16_loading.specs.Families.LoadingCommand.{OfModules};
+ghost use Rattle.w16_loading.specs.Modules.{LoadingWorld};
+ghost use Rattle.w16_format.specs.Ne.{ne_format};
+ghost use Rattle.w16_loader.specs.Registry.{in_world};
+ghost use Rattle.w16_machine.specs.Machine.{StoreStep};
+ghost use Rattle.w16_kernel.specs.Parts.{IsLoadingOver, loading_of};
+ghost use Rattle.w16_kernel.specs.Runs.{label_of, load_command, reply_of, IsReply};
+
+use crate::call::{Label, Reply};
+use crate::library::Library;
+use std::alloc::{AllocError, Allocator};
+use w16_global::Global16;
+use w16_loader::{LoadAnswer, Registry, load};
+use w16_loading::FetchFault;
+use w16_model::names::dword_of;
+use w16_store::Store;
+
+/// The reply to `LoadModule`, or to `LoadLibrary`. An error is that there was no memory, and then the world is the same.
+#[inline(never)]
+pub fn load_reply<S: Store + Drop, A: Allocator + Copy>(
+    global: &mut Global16<A>,
+    library: &mut Library<S, A>,
+    file: &[u8],
+    is_load_module: bool,
+) -> Result<Reply<'static>, AllocError>
+    ensures step { IfOk result (λ reply. StoreStep S.is_honest ne_format (loading_of global.old.handles library.old.registry (S.files library.old.store) (S.failures library.old.store))
+        (OfModules (load_command is_load_module file.now)) (reply_of reply)
+        (loading_of global.new.handles library.new.registry (S.files library.new.store) (S.failures library.new.store))) }
+    ensures short { IfOk result (λ reply. IsReply reply) }
+    ensures refused { OnErr result ((library.new.registry ≡ library.old.registry) × (global.new ≡ global.old)) }
+    ensures files { S.files library.new.store ≡ S.files library.old.store }
+    ensures failures { S.failures library.old.store ≤ S.failures library.new.store }
+{
+    match load(
+        library.host,
+        &mut library.registry,
+        global,
+        &mut library.store,
+        &mut library.scratch,
+        file,
+        is_load_module,
+    ) {
+        Err(fault) => Err(fault),
+        Ok(LoadAnswer::Says(word)) => Ok(Reply::Word(word)),
+        Ok(LoadAnswer::StoreFails) => Ok(Reply::Failed(FetchFault::Store)),
+    }
+}
+
+/// `GetProcAddress`: where an entry of a module is, as a far pointer; 0 where there is none.
+pub fn proc_address<A: Allocator + Copy>(
+    registry: &Registry<A>,
+    handle: u16,
+    label: Label<'_>,
+) -> u32
+    ensures { (rest : LoadingWorld) → result ≡ pointer_to (proc_address (in_world rest registry.now) handle (label_of label.entry)) }
+{
+    let far = match label {
+        Label::Number(ordinal) => registry.proc_address_by_ordinal(handle, ordinal),
+        Label::Text(name) => registry.proc_address_by_name(handle, name),
+    };
+    dword_of(far.selector, far.offset)
+}

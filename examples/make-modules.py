@@ -1,0 +1,88 @@
+#!/usr/bin/env python3
+"""Writes the module files of examples/modules.txt into a folder: TLIB.DLL, a library, and TAPP.EXE, an application that imports from it.
+
+usage: make-modules.py FOLDER
+"""
+import struct
+import sys
+from pathlib import Path
+
+OLD, HEAD = 64, 64  # bytes of the old header, and of the header that stands behind it
+SHIFT = 4  # segments begin at whole units of 16 bytes
+LIBRARY = 0x8000  # of a module
+MOVEABLE, PRELOAD, RECORDS, DISCARDABLE = 0x0010, 0x0040, 0x0100, 0x1000  # of a segment; RECORDS: it has relocation records
+OFFSET, POINTER = 5, 3  # what a record writes: an offset, or a far pointer
+INTERNAL, BY_ORDINAL, BY_NAME, ADDED = 0, 1, 2, 4  # what it leads to, and whether its value is added
+
+
+def words(*numbers):
+    return struct.pack(f"<{len(numbers)}H", *numbers)
+
+
+def text(name):
+    return bytes([len(name)]) + name
+
+
+def names(module, entries=()):
+    """A table of names: the module's, and those of entries with their ordinals."""
+    return text(module) + words(0) + b"".join(text(name) + words(ordinal) for name, ordinal in entries) + b"\0"
+
+
+def record(writes, leads_to, site, first, second):
+    """A relocation record. Its site is the first of a chain: the word at each site is the next one, and FFFF ends it."""
+    return bytes([writes, leads_to]) + words(site, first, second)
+
+
+def module(flags, segments, names, references, imported, entries, moveable, description):
+    """A module file, from its tables. A segment is its flags, its bytes and its records."""
+    names_at = HEAD + 8 * len(segments)
+    references_at = names_at + len(names)
+    imported_at = references_at + 2 * len(references)
+    entries_at = imported_at + len(imported)
+    start = OLD + entries_at + len(entries)
+    table, behind = b"", description
+    for kind, code, records in segments:
+        behind += bytes(-(start + len(behind)) % (1 << SHIFT))
+        table += words((start + len(behind)) >> SHIFT, len(code), kind, len(code))
+        behind += code + (words(len(records)) + b"".join(records) if records else b"")
+    old = b"MZ" + bytes(58) + struct.pack("<L", OLD)
+    head = b"NE" + bytes([5, 10]) + words(entries_at, len(entries), 0, 0, flags) + bytes(14)
+    head += words(len(segments), len(references), len(description))
+    head += words(HEAD, names_at, names_at, references_at, imported_at)
+    head += struct.pack("<L", start if description else 0) + words(moveable, SHIFT, 0)
+    head += bytes([2]) + bytes(7) + words(0x030A)  # for Windows, 3.10
+    return old + head + table + names + words(*references) + imported + entries + behind
+
+
+def library():
+    """Two segments. The first has two far calls of GETB, in one chain, and GETB's offset, added to 0x10."""
+    calls = bytes.fromhex("9a06000000 9affff0000 b81000 cb 9090")
+    records = [record(POINTER, INTERNAL, 1, 2, 4), record(OFFSET, INTERNAL | ADDED, 11, 2, 4)]
+    segments = [
+        (DISCARDABLE | MOVEABLE | PRELOAD | RECORDS, calls, records),
+        (DISCARDABLE | MOVEABLE, bytes.fromhex("01020304 cb 909090"), []),
+    ]
+    # GETA is segment 1, offset 0; GETB is segment 2, offset 4, as an entry of a moveable segment.
+    entries = bytes([1, 1, 1]) + words(0) + bytes([1, 0xFF, 1, 0xCD, 0x3F, 2]) + words(4) + b"\0"
+    return module(LIBRARY, segments, names(b"TLIB", [(b"GETA", 1), (b"GETB", 2)]), [], b"\0", entries, 1, text(b"T") + words(0) + b"\0")
+
+
+def application():
+    """One segment with three far calls: of TLIB's entry 1, of its GETB, and of an entry 9 that it doesn't have."""
+    calls = bytes.fromhex("9affff0000 9affff0000 9affff0000 cb")
+    records = [record(POINTER, BY_ORDINAL, 1, 1, 1), record(POINTER, BY_NAME, 6, 1, 6), record(POINTER, BY_ORDINAL, 11, 1, 9)]
+    segments = [(DISCARDABLE | MOVEABLE | PRELOAD | RECORDS, calls, records)]
+    return module(0, segments, names(b"TAPP"), [1], b"\0" + text(b"TLIB") + text(b"GETB"), b"\0", 0, b"")
+
+
+def main():
+    if len(sys.argv) != 2:
+        sys.exit(__doc__.strip())
+    folder = Path(sys.argv[1])
+    folder.mkdir(parents=True, exist_ok=True)
+    (folder / "TLIB.DLL").write_bytes(library())
+    (folder / "TAPP.EXE").write_bytes(application())
+
+
+if __name__ == "__main__":
+    main()
