@@ -1,5 +1,5 @@
 #!/usr/bin/env python3
-"""Writes the module files of examples/modules.txt into a folder: TLIB.DLL, a library, and TAPP.EXE, an application that imports from it.
+"""Writes the module files of examples/modules.txt into a folder: TLIB.DLL, a library, TAPP.EXE, an application that imports from it, and TRES.DLL, a library of a resource.
 
 usage: make-modules.py FOLDER
 """
@@ -8,9 +8,10 @@ import sys
 from pathlib import Path
 
 OLD, HEAD = 64, 64  # bytes of the old header, and of the header that stands behind it
-SHIFT = 4  # segments begin at whole units of 16 bytes
+SHIFT = 4  # segments and resources begin at whole units of 16 bytes
 LIBRARY = 0x8000  # of a module
-MOVEABLE, PRELOAD, RECORDS, DISCARDABLE = 0x0010, 0x0040, 0x0100, 0x1000  # of a segment; RECORDS: it has relocation records
+MOVEABLE, PURE, PRELOAD, RECORDS, DISCARDABLE = 0x0010, 0x0020, 0x0040, 0x0100, 0x1000  # of a segment or a resource; RECORDS: it has relocation records
+NUMBER = 0x8000  # a type or an id of a resource that is no text
 OFFSET, POINTER = 5, 3  # what a record writes: an offset, or a far pointer
 INTERNAL, BY_ORDINAL, BY_NAME, ADDED = 0, 1, 2, 4  # what it leads to, and whether its value is added
 
@@ -33,25 +34,31 @@ def record(writes, leads_to, site, first, second):
     return bytes([writes, leads_to]) + words(site, first, second)
 
 
-def module(flags, segments, names, references, imported, entries, moveable, description):
-    """A module file, from its tables. A segment is its flags, its bytes and its records."""
-    names_at = HEAD + 8 * len(segments)
+def module(flags, segments, names, references, imported, entries, moveable, description, resources=()):
+    """A module file, from its tables. A segment is its flags, its bytes and its records, a resource its type, its id, its flags and its bytes."""
+    resources_at = HEAD + 8 * len(segments)
+    names_at = resources_at + (4 + 20 * len(resources) if resources else 0)
     references_at = names_at + len(names)
     imported_at = references_at + 2 * len(references)
     entries_at = imported_at + len(imported)
     start = OLD + entries_at + len(entries)
-    table, behind = b"", description
+    table, listed, behind = b"", b"", description
     for kind, code, records in segments:
         behind += bytes(-(start + len(behind)) % (1 << SHIFT))
         table += words((start + len(behind)) >> SHIFT, len(code), kind, len(code))
         behind += code + (words(len(records)) + b"".join(records) if records else b"")
+    for kind, number, flag, content in resources:
+        behind += bytes(-(start + len(behind)) % (1 << SHIFT))
+        listed += words(NUMBER | kind, 1, 0, 0, (start + len(behind)) >> SHIFT, len(content) >> SHIFT, flag, NUMBER | number, 0, 0)
+        behind += content
+    listed = words(SHIFT) + listed + words(0) if resources else b""
     old = b"MZ" + bytes(58) + struct.pack("<L", OLD)
     head = b"NE" + bytes([5, 10]) + words(entries_at, len(entries), 0, 0, flags) + bytes(14)
     head += words(len(segments), len(references), len(description))
-    head += words(HEAD, names_at, names_at, references_at, imported_at)
+    head += words(HEAD, resources_at, names_at, references_at, imported_at)
     head += struct.pack("<L", start if description else 0) + words(moveable, SHIFT, 0)
     head += bytes([2]) + bytes(7) + words(0x030A)  # for Windows, 3.10
-    return old + head + table + names + words(*references) + imported + entries + behind
+    return old + head + table + listed + names + words(*references) + imported + entries + behind
 
 
 def library():
@@ -75,6 +82,12 @@ def application():
     return module(0, segments, names(b"TAPP"), [1], b"\0" + text(b"TLIB") + text(b"GETB"), b"\0", 0, b"")
 
 
+def resources():
+    """No segments, and one resource of 16 bytes."""
+    resource = (10, 1, DISCARDABLE | MOVEABLE | PURE, b"Hello, resource!")
+    return module(LIBRARY, [], names(b"TRES"), [], b"", b"\0", 0, b"", [resource])
+
+
 def main():
     if len(sys.argv) != 2:
         sys.exit(__doc__.strip())
@@ -82,6 +95,7 @@ def main():
     folder.mkdir(parents=True, exist_ok=True)
     (folder / "TLIB.DLL").write_bytes(library())
     (folder / "TAPP.EXE").write_bytes(application())
+    (folder / "TRES.DLL").write_bytes(resources())
 
 
 if __name__ == "__main__":

@@ -10,8 +10,6 @@ mod kernel;
 #[cfg(test)]
 mod local;
 #[cfg(test)]
-mod modules;
-#[cfg(test)]
 mod options;
 #[cfg(test)]
 mod refusals;

@@ -17,11 +17,11 @@ enum Machine {
 }
 
 /// Each, and how many growths it takes: a global heap its attributes, two of selectors, its memory, one of holes and eight of an arena;
-/// local heaps two lists; a kernel both, and a table of modules.
+/// local heaps two lists; a kernel both, a table of modules, and one of loads of resources.
 static MACHINES: &[(Machine, u64)] = &[
     (Machine::GlobalHeap, 13),
     (Machine::LocalHeaps, 2),
-    (Machine::Kernel, 16),
+    (Machine::Kernel, 17),
 ];
 
 /// Makes a kernel, and it goes.

@@ -198,7 +198,7 @@ fn keeps(answer: &Answer, reply: &Reply<'_>) -> bool {
 }
 
 /// Whether answers keep just these replies.
-pub fn keep_all(answers: &[Answer], replies: &[Reply<'_>]) -> bool {
+fn keep_all(answers: &[Answer], replies: &[Reply<'_>]) -> bool {
     answers.len() == replies.len()
         && answers
             .iter()

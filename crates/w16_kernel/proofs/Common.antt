@@ -5,13 +5,14 @@ pub use Rattle.std.proofs.lemmas.List.Elements.{All-from_get_or}
 pub use Rattle.std.proofs.lemmas.List.{length-map, length-take-le}
 pub use Rattle.std.proofs.lemmas.Option.{slice_get_within}
 pub use Rattle.std.specs.List.{slice_get}
-pub use Rattle.std.specs.Prelude.{IfNone, MatchBool, MatchOption, Ok, Result, nat_lt, ◌%◌, ◌+◌, ◌-◌, ◌/◌}
+pub use Rattle.std.specs.Prelude.{IfNone, IsSome, MatchBool, MatchOption, Ok, Result, nat_lt, ◌%◌, ◌+◌, ◌-◌, ◌/◌}
 pub use Rattle.w16_format.proofs.Files.{is_format}
 pub use Rattle.w16_format.specs.Ne.{ne_format}
 pub use Rattle.w16_format.specs.Tables.{segment_in, tables_in}
 pub use Rattle.w16_global.proofs.Common.{Global, common_steps, take_more}
-pub use Rattle.w16_kernel.specs.Fetching.{IsAbsent, IsSourceFor, Refetches, StoreFetch}
-pub use Rattle.w16_kernel.specs.Parts.{IsLoadingOver, IsWorldOver, KernelStep, ReadsCode, Unswept, loading_of, may_take_bytes, surviving_heaps, world_of}
+pub use Rattle.w16_kernel.specs.Fetching.{IsAbsent, IsSourceFor, Refetches}
+pub use Rattle.w16_resource.specs.Parts.{IsLoadingOver, StoreFetch, loading_of, word_in, dword_in}
+pub use Rattle.w16_kernel.specs.Parts.{IsWorldOver, KernelStep, ReadsCode, Unswept, may_take_bytes, surviving_heaps, world_of}
 pub use Rattle.w16_kernel.specs.Runs.{TakesMemory, answer_of, command_of, label_of, load_command, reply_of}
 pub use Rattle.w16_kernel.specs.Stops.{StopsEarly}
 pub use Rattle.w16_kernel.specs.declared.call.Answer.{Answer}
@@ -20,21 +21,20 @@ pub use Rattle.w16_kernel.specs.declared.call.Call.TheVariants.{GlobalAlloc}
 pub use Rattle.w16_loader.proofs.AnyLoads.{as_any}
 pub use Rattle.w16_loader.proofs.Common.{IsFetchable, IsSourceOf, LacksBytes, LoadsCounted, fault_in, in_parts, in_store, in_world}
 pub use Rattle.w16_loader.specs.Registry.{owner_in}
-pub use Rattle.w16_loading.proofs.Absences.{all_retained, none_gone}
 pub use Rattle.w16_loading.proofs.AnySteps.{reads_no_files_law}
 pub use Rattle.w16_loading.proofs.CodeReads.{code_reads_law}
-pub use Rattle.w16_loading.proofs.Common.{IsObjectOf, IsSegmentOf, Load, Module, Modules, Segment, Tables, handle_of, is_not_present, map, module_at, not, segment_among, slice_get-get_or, ◌++◌}
-pub use Rattle.w16_loading.proofs.Owners.{of_segment, owner_law, segment_owned}
+pub use Rattle.w16_loading.proofs.Common.{IsObjectOf, IsSegmentOf, Load, Module, Modules, Segment, Tables, handle_of, is_not_present, map, module_at, not, rounded_size, segment_among, slice_get-get_or, ◌++◌}
+pub use Rattle.w16_loading.proofs.Owners.{loaded_of, of_segment, owner_law, resource_owned, segment_owned}
 pub use Rattle.w16_loading.specs.AnyStore.{AnyFetches, AnyLoads, AnyLoadsBy}
 pub use Rattle.w16_loading.specs.Fewest.{GivesAnyFewest}
+pub use Rattle.w16_loading.specs.Families.{FamilyStep}
 pub use Rattle.w16_loading.specs.Fetch.{FetchesCounted, Fetching}
 pub use Rattle.w16_loading.specs.Load.Answer.{StoreFails}
-pub use Rattle.w16_loading.specs.Free.{EndsUse, Frees, is_left_over, without_orphans}
 pub use Rattle.w16_loading.specs.Owner.{Owner, owner_of}
 pub use Rattle.w16_loading.specs.Release.{without_objects}
 pub use Rattle.w16_local.proofs.Beginning.{on_any}
 pub use Rattle.w16_local.proofs.Common.{with_parts}
-pub use Rattle.w16_machine.proofs.Common.{Accesses, AnyStep, AreFewest, Bool, Command, Discardable, Dword, Event, Failed, FarAnswer, FarCommand, FarFault, FarReplies, FetchFault, Fetches, Fill, FinMap, Fixed, Format, Handles, Heap, IsLoadingWorld, IsOfFiles, Kind, LoadingWorld, Loads, ModuleCommand, ModuleStep, Moveable, Object, Step, Store, StoreStep, Word, bytes_at, cond, data_write, false≢true, far_bytes, far_fault, gives, needs_fetch, object_at, option_map, part, refuses_write, reply_of_far, slot_of_selector, unwrap_or, with_handles, IfSome, IsCommand, IsFewest, IsSomeAnd, IsWorld, List, LoadingCommand, LoadingStep, OfFar, OfHandles, OfLoading, OfLocals, OfModules, OfResizes, OfResources, OnHandles, Read, Reply, Run, Table, World, Write, [], after_loading, ap, arith, call_may_take, false, far_read, far_reads_file, far_slot, far_write, get-empty, get_or, inl, inr, is_some, left_in, length, nat_cmp, offset_in, owned_at, reads_files, refl, selector_in, subst, sym, take, true, ℕ, ◌&&◌, ◌<◌, ◌∙◌, ◌∷◌, ◌≡◌, ◌≤◌, ◌⊎◌}
+pub use Rattle.w16_machine.proofs.Common.{Accesses, AnyStep, AreFewest, Bool, Command, Discardable, Dword, Event, Failed, FarAnswer, FarCommand, FarFault, FarReplies, FetchFault, Fetches, Fill, FinMap, Fixed, Format, Handles, Heap, IsLoadingWorld, IsOfFiles, Kind, LoadingWorld, Loads, Moveable, Object, Step, Store, StoreStep, Word, bytes_at, cond, data_write, false≢true, far_bytes, far_fault, gives, needs_fetch, object_at, option_map, part, refuses_write, reply_of_far, slot_of_selector, unwrap_or, with_handles, IfSome, IsCommand, IsFewest, IsSomeAnd, IsWorld, List, LoadingCommand, LoadingStep, OfFar, OfHandles, OfLoading, OfLocals, OfModules, OfResizes, OfResources, OnHandles, Read, Reply, Run, Table, World, Write, [], after_loading, ap, arith, call_may_take, false, far_read, far_reads_file, far_slot, far_write, get-empty, get_or, inl, inr, is_some, left_in, length, nat_cmp, offset_in, owned_at, reads_files, refl, selector_in, subst, sym, take, true, ℕ, ◌&&◌, ◌<◌, ◌∙◌, ◌∷◌, ◌≡◌, ◌≤◌, ◌⊎◌}
 unfoldable pub use Rattle.w16_machine.proofs.Common.{repeated}
 pub use Rattle.w16_machine.proofs.Discards.{step_fewest}
 pub use Rattle.w16_machine.proofs.LocalStays.{heaps_law}

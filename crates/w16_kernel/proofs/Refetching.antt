@@ -1,8 +1,7 @@
 -- What becomes of an access that met a fault: what the kernel fetches is the object that the access asked for.
-use Rattle.w16_kernel.proofs.Common.{◌≡◌, ℕ, ◌-◌, ◌/◌, ◌<◌, ◌≤◌, true, false, length, List, Option, Some, None, IfNone, IsSomeAnd, is_some, slice_get, refl, sym, ap, ◌∙◌, subst, arith, length-map, slice_get_within, FarAnswer, FetchFault, Handles, Owned, far_slot, needs_fetch, owned_at, LoadingWorld, Module, Modules, IsSegmentOf, IsLoadingWorld, IsObjectOf, Segment, module_at, AnyFetches, FetchesCounted, Owner, owner_of, segment_among, IsFetchable, IsSourceOf, owner_in, tables_in, ne_format, get-empty, nat_cmp, IsLoadingOver, IsSourceFor, IsAbsent, StoreFetch, LacksBytes, loading_of, owner_law, of_segment, segment_owned, global_handle, offset_in, segment_in, Tables}
+use Rattle.w16_kernel.proofs.Common.{◌≡◌, ℕ, ◌-◌, ◌/◌, ◌<◌, ◌≤◌, true, false, length, List, Option, Some, None, IfNone, IsSomeAnd, is_some, slice_get, refl, sym, ap, ◌∙◌, subst, arith, length-map, slice_get_within, FarAnswer, FetchFault, FinMap, Load, IsSome, Bool, false≢true, Handles, Owned, far_slot, needs_fetch, owned_at, LoadingWorld, Module, Modules, IsSegmentOf, IsLoadingWorld, IsObjectOf, Segment, module_at, AnyFetches, FetchesCounted, Owner, owner_of, segment_among, IsFetchable, IsSourceOf, owner_in, tables_in, ne_format, nat_cmp, loaded_of, resource_owned, rounded_size, IsLoadingOver, IsSourceFor, IsAbsent, StoreFetch, LacksBytes, loading_of, owner_law, of_segment, segment_owned, global_handle, offset_in, segment_in, Tables}
 use Rattle.std.specs.FinMap as finmap
 use Rattle.w16_loading.specs.Owner.Owner.{OfSegment, Script}
-use Rattle.w16_loading.specs.Modules.{Load}
 use Rattle.w16_model.specs.declared.FarFault.TheVariants.{NotPresent}
 use Rattle.w16_loader.specs.declared.table.SegmentOf.{SegmentOf}
 use Rattle.w16_loader.specs.declared.segment_fetch.SegmentSource.{SegmentSource}
@@ -31,13 +30,13 @@ source_for world slot handle number n m source segment loaded same of tables = r
     same_module : ◌≡◌ {A = Option Module} (Some n) (Some m) → n ≡ m
     same_module e = cc
 
--- Where no resource is loaded, an object is a module's segment or the script's.
-module _ (handles : Handles) (modules : Modules) (files : List (List ℕ × List ℕ)) (failures slot : ℕ) (is : IsLoadingWorld (loading_of handles modules files failures)) where
+-- An object that is no resource is a module's segment or the script's.
+module _ (handles : Handles) (modules : Modules) (loads : FinMap nat_cmp Load) (files : List (List ℕ × List ℕ)) (failures slot : ℕ) (is : IsLoadingWorld (loading_of handles modules loads files failures)) (none : finmap.get loads slot ≡ None) where
   abbrev world : LoadingWorld
-  world = loading_of handles modules files failures
+  world = loading_of handles modules loads files failures
 
   owner_is : owner_of world slot ≡ segment_among (finmap.entries modules) slot
-  owner_is = ap (λ (p : Option Load). elim p as (λ _. Owner) [ Some load ↦ Owner.OfResource load.handle load.place | None ↦ segment_among (finmap.entries modules) slot ]) (get-empty {X = Load} nat_cmp slot)
+  owner_is = ap (λ (p : Option Load). elim p as (λ _. Owner) [ Some load ↦ Owner.OfResource load.handle load.place | None ↦ segment_among (finmap.entries modules) slot ]) none
 
   pub unowned : owner_in None ≡ segment_among (finmap.entries modules) slot → owned_at handles slot ≡ None
   unowned e = (owner_law world slot Script is).0 (owner_is ∙ sym e)
@@ -60,10 +59,10 @@ in_file world is slot source s = (s.segment.has.0, turn _ (slice_get s.m.tables.
         omega (arith, inside, as_long, some)
 
 -- An access that met an object without bytes.
-module _ (honest : Type 0) (handles : Handles) (modules : Modules) (files : List (List ℕ × List ℕ)) (failures : ℕ) (is : IsLoadingOver honest (loading_of handles modules files failures))
+module _ (honest : Type 0) (handles : Handles) (modules : Modules) (loads : FinMap nat_cmp Load) (files : List (List ℕ × List ℕ)) (failures : ℕ) (is : IsLoadingOver honest (loading_of handles modules loads files failures))
     (selector : ℕ) (absent : IsAbsent handles selector) (few : selector < 65536) where
   abbrev old : LoadingWorld
-  old = loading_of handles modules files failures
+  old = loading_of handles modules loads files failures
 
   here : far_slot handles selector ≡ selector / 8
   here = slot_is handles selector absent few ∙ slot_of handles selector absent few
@@ -75,28 +74,57 @@ module _ (honest : Type 0) (handles : Handles) (modules : Modules) (files : List
   pub not_needed : owned_at handles (selector / 8) ≡ None → needs_fetch (FarAnswer.Fault NotPresent) old selector ≡ false
   not_needed none = needs None none
 
-  -- it is a segment of one
+  -- it is a module's
+  owned_needs : (size : ℕ) (code : Bool) → owned_at handles (selector / 8) ≡ Some (record { size = size; code = code }) → needs_fetch (FarAnswer.Fault NotPresent) old selector ≡ true
+  owned_needs size code owned = needs (Some (record { size = size; code = code })) owned
+
+  named_so : (size : ℕ) (code : Bool) → owned_at handles (selector / 8) ≡ Some (record { size = size; code = code }) → (name : ℕ) → name ≡ offset_in (global_handle handles selector) → LacksBytes handles name × (name / 8 ≡ selector / 8)
+  named_so size code owned name named =
+      let l : LacksBytes handles name × (name / 8 ≡ absent.slot) =
+      lacks handles selector absent few name named (ap (λ q. is_some (owned_at handles q)) (slot_of handles selector absent few) ∙ ap is_some owned) in
+      (l.0, l.1 ∙ slot_of handles selector absent few)
+
+  -- a resource of one
+  module _ (loaded : is_some (finmap.get loads (selector / 8)) ≡ true) where
+    owner : (size : ℕ) × (owned_at handles (selector / 8) ≡ Some (record { size = size; code = false }))
+    owner = turn (finmap.get loads (selector / 8)) refl loaded
+      where
+        turn : (p : Option Load) → finmap.get loads (selector / 8) ≡ p → is_some p ≡ true → (size : ℕ) × (owned_at handles (selector / 8) ≡ Some (record { size = size; code = false }))
+        turn None e h = absurd (false≢true h)
+        turn (Some load) e h =
+            let r = loaded_of old is.0 (selector / 8) load e in
+            let o = resource_owned old is.0 (selector / 8) load.handle load.place r.0 r.1 in
+            (rounded_size o.0.length_in, o.1.owned)
+
+    pub resource_needed : needs_fetch (FarAnswer.Fault NotPresent) old selector ≡ true
+    resource_needed = owned_needs owner.0 false owner.1
+
+    pub resource_fetched : (name : ℕ) → name ≡ offset_in (global_handle handles selector) → (fault : Option FetchFault) (new : LoadingWorld)
+        → (LacksBytes handles name → IsSome (finmap.get loads (name / 8)) → StoreFetch honest old (name / 8) fault new) → StoreFetch honest old (far_slot handles selector) fault new
+    resource_fetched name named fault new fetch =
+        let l : LacksBytes handles name × (name / 8 ≡ selector / 8) = named_so owner.0 false owner.1 name named in
+        subst (λ q. StoreFetch honest old q fault new) (l.1 ∙ sym here) (fetch l.0 (ap (λ q. is_some (finmap.get loads q)) l.1 ∙ loaded))
+
+  -- or a segment
   module _ (source : SegmentSource) (s : IsSourceFor old (selector / 8) source) where
     owned : (g : Segment) × IsObjectOf old (selector / 8) g.kind g.size g.is_code
     owned = segment_owned old is.0 (selector / 8) s.handle source.number s.m s.segment
 
     pub needed : needs_fetch (FarAnswer.Fault NotPresent) old selector ≡ true
-    needed = needs (Some (record { size = owned.0.size; code = owned.0.is_code })) owned.1.owned
+    needed = owned_needs owned.0.size owned.0.is_code owned.1.owned
 
     pub fetched : (name : ℕ) → name ≡ offset_in (global_handle handles selector) → (fault : Option FetchFault) (next : Handles) (left : List (List ℕ × List ℕ)) (count : ℕ) → left ≡ files → failures ≤ count
-        → (LacksBytes handles name → AnyFetches old (name / 8) fault (loading_of next modules files failures))
-        → (honest → LacksBytes handles name → IsFetchable old (name / 8) source.number source.file.now source.module.now source.values.now → FetchesCounted ne_format old (name / 8) fault (loading_of next modules left count))
-        → StoreFetch honest old (far_slot handles selector) fault (loading_of next modules left count)
+        → (LacksBytes handles name → AnyFetches old (name / 8) fault (loading_of next modules loads files failures))
+        → (honest → LacksBytes handles name → IsFetchable old (name / 8) source.number source.file.now source.module.now source.values.now → FetchesCounted ne_format old (name / 8) fault (loading_of next modules loads left count))
+        → StoreFetch honest old (far_slot handles selector) fault (loading_of next modules loads left count)
     fetched name named fault next left count same counted any exact =
-        let l : LacksBytes handles name × (name / 8 ≡ absent.slot) =
-        lacks handles selector absent few name named (ap (λ q. is_some (owned_at handles q)) (slot_of handles selector absent few) ∙ ap is_some owned.1.owned) in
-        let at : name / 8 ≡ far_slot handles selector = l.1 ∙ sym (slot_is handles selector absent few) in
-        let from_file : name / 8 ≡ selector / 8 = l.1 ∙ slot_of handles selector absent few in
+        let l : LacksBytes handles name × (name / 8 ≡ selector / 8) = named_so owned.0.size owned.0.is_code owned.1.owned name named in
+        let at : name / 8 ≡ far_slot handles selector = l.1 ∙ sym here in
         record {
           files = same;
           counted = counted;
-          any = subst (λ q. AnyFetches old q fault (loading_of next modules left failures)) at (subst (λ (fs : List (List ℕ × List ℕ)). AnyFetches old (name / 8) fault (loading_of next modules fs failures)) (sym same) (any l.0));
-          exact = λ h. subst (λ q. FetchesCounted ne_format old q fault (loading_of next modules left count)) at (exact h l.0 (
-              record { sound = is.0; of_files = is.1 h; handle = s.handle; m = s.m; segment = subst (λ q. IsSegmentOf old q s.handle source.number s.m) (sym from_file) s.segment; source = s.source_of; tables = s.tables }
+          any = subst (λ q. AnyFetches old q fault (loading_of next modules loads left failures)) at (subst (λ (fs : List (List ℕ × List ℕ)). AnyFetches old (name / 8) fault (loading_of next modules loads fs failures)) (sym same) (any l.0));
+          exact = λ h. subst (λ q. FetchesCounted ne_format old q fault (loading_of next modules loads left count)) at (exact h l.0 (
+              record { sound = is.0; of_files = is.1 h; handle = s.handle; m = s.m; segment = subst (λ q. IsSegmentOf old q s.handle source.number s.m) (sym l.1) s.segment; source = s.source_of; tables = s.tables }
               ));
         }

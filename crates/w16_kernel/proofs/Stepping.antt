@@ -1,5 +1,5 @@
 -- A step over the kernel's parts, and the sweep behind it, are one step of the machine.
-use Rattle.w16_kernel.proofs.Common.{◌≡◌, ℕ, ◌≤◌, Dword, Moved, Bool, true, false, refl, sym, subst, arith, false≢true, Handles, Heap, reads_files, LoadingCommand, LoadingStep, ModuleCommand, ModuleStep, OfHandles, OfResizes, OfFar, OfModules, OfResources, Loads, Failed, Store, LoadingWorld, with_handles, reads_no_files_law, code_reads_law, World, left_in, step_may_take, Command, IsCommand, OnHandles, StoreStep, Step, after_loading, OfLoading, OfLocals, IsFewest, step_fewest, heaps_law, handles_step, world_kept, files_law, is_format, ne_format, reply_of, KernelStep, ReadsCode, Unswept, IsWorldOver, may_take_bytes, surviving_heaps}
+use Rattle.w16_kernel.proofs.Common.{◌≡◌, ℕ, ◌≤◌, Dword, Moved, Bool, true, false, refl, sym, subst, arith, false≢true, Handles, Heap, reads_files, LoadingCommand, LoadingStep, FamilyStep, Fetches, OfHandles, OfResizes, OfFar, OfModules, OfResources, Loads, Failed, Store, LoadingWorld, with_handles, reads_no_files_law, code_reads_law, World, left_in, step_may_take, Command, IsCommand, OnHandles, StoreStep, Step, after_loading, OfLoading, OfLocals, IsFewest, step_fewest, heaps_law, handles_step, world_kept, files_law, is_format, ne_format, reply_of, KernelStep, ReadsCode, Unswept, IsWorldOver, may_take_bytes, surviving_heaps}
 use Rattle.w16_loading.specs.Replies as printed
 use Rattle.w16_loading.specs.Replies.Reply.{Bytes}
 use Rattle.w16_model.specs.Far.FarCommand.{Read}
@@ -9,18 +9,18 @@ use Rattle.w16_kernel.specs.declared.call.Reply.{Reply}
 abbrev pub with_surviving : World → Command → World
 with_surviving w command = record w { heaps = surviving_heaps (may_take_bytes command) w.loading.handles.heap w.heaps }
 
--- A step on handles alone, and one on modules that reads no file, is one over any store.
+-- A step on handles alone, and any other that reads no file, is one over any store.
 module _ (honest : Type 0) (old : LoadingWorld) where
   pub on_handles : (command : LoadingCommand) (reply : printed.Reply) (next : Handles) → reads_files old command ≡ false → OnHandles old.handles command reply next → StoreStep honest ne_format old command reply (with_handles old next)
   on_handles command reply next none s =
       let made : LoadingStep ne_format old command reply (with_handles old next) = handles_step ne_format old next command reply none s in
       record { any = reads_no_files_law ne_format old (with_handles old next) command reply none made; exact = λ _. made }
 
-  pub on_modules : (command : ModuleCommand) (reply : printed.Reply) (new : LoadingWorld) → reads_files old (OfModules command) ≡ false → (reply ≡ Failed Store → ⊥) → new.failures ≡ old.failures
-      → ModuleStep (Loads ne_format) old command reply (record new { failures = old.failures }) → StoreStep honest ne_format old (OfModules command) reply new
-  on_modules command reply new none unfailed same s =
-      let made : LoadingStep ne_format old (OfModules command) reply new = record { counted = omega (arith, same); failed = λ e. absurd (unfailed e); step = s } in
-      record { any = reads_no_files_law ne_format old new (OfModules command) reply none made; exact = λ _. made }
+  pub on_loading : (command : LoadingCommand) (reply : printed.Reply) (new : LoadingWorld) → reads_files old command ≡ false → (reply ≡ Failed Store → ⊥) → new.failures ≡ old.failures
+      → FamilyStep (Fetches ne_format) (Loads ne_format) old command reply (record new { failures = old.failures }) → StoreStep honest ne_format old command reply new
+  on_loading command reply new none unfailed same s =
+      let made : LoadingStep ne_format old command reply new = record { counted = omega (arith, same); failed = λ e. absurd (unfailed e); step = s } in
+      record { any = reads_no_files_law ne_format old new command reply none made; exact = λ _. made }
 
 module _ (honest : Type 0) (old : World) (is : IsWorldOver honest old) where
   -- behind a step that takes no bytes all heaps stay
@@ -49,7 +49,7 @@ module _ (honest : Type 0) (old : World) (is : IsWorldOver honest old) where
       unchanged (OfResizes command) reply mid (with_handles old.loading mid.loading.handles) s.1 (λ e. absurd (false≢true (sym e))) (on_handles honest old.loading (OfResizes command) reply mid.loading.handles refl s.0)
   swept_step (OfLoading (OfFar command)) reply mid s = s
   swept_step (OfLoading (OfModules command)) reply mid s = unchanged (OfModules command) reply mid mid.loading s.1 (λ e. e) s.0
-  swept_step (OfLoading (OfResources command)) reply mid s = absurd s
+  swept_step (OfLoading (OfResources command)) reply mid s = unchanged (OfResources command) reply mid mid.loading s.1 (λ e. e) s.0
 
   -- what an answered read of code tells
   reads_code : (command : Command) (reply : printed.Reply) (new : World) → Step honest ne_format old command reply new → honest → ReadsCode old command reply

@@ -1,19 +1,18 @@
 -- Fetches that a far access asks for.
-use Rattle.std.specs.Prelude.{◌≡◌, ℕ, ◌≤◌, ◌⊎◌, true, false, Option, Some, None, Result, Ok, Err}
+use Rattle.std.specs.Prelude.{◌≡◌, ℕ, ◌⊎◌, true, false, Some, None, Result, Ok, Err}
 use Rattle.w16_model.specs.declared.FarFault.{FarFault}
 use Rattle.w16_model.specs.Far.{far_slot}
 use Rattle.w16_model.specs.Far as far
 use Rattle.w16_model.specs.Handles.{Handles, slot_of_selector}
 use Rattle.w16_model.specs.Heap.{bytes_at}
 use Rattle.w16_loading.specs.declared.FetchFault.{FetchFault}
-use Rattle.w16_loading.specs.AnyStore.{AnyFetches}
-use Rattle.w16_loading.specs.Fetch.{FetchesCounted, needs_fetch}
+use Rattle.w16_loading.specs.Fetch.{needs_fetch}
 use Rattle.w16_loading.specs.Modules.{IsSegmentOf, LoadingWorld, Module}
 use Rattle.w16_loading.specs.Replies.Reply.{Failed, Fault}
-use Rattle.w16_format.specs.Ne.{ne_format}
 use Rattle.w16_format.specs.Tables.{tables_in}
 use Rattle.w16_loader.specs.declared.segment_fetch.SegmentSource.{SegmentSource}
 use Rattle.w16_loader.specs.Fetching.{IsSourceOf}
+use Rattle.w16_resource.specs.Parts.{StoreFetch}
 use Rattle.w16_kernel.specs.declared.call.Reply as code
 use Rattle.w16_kernel.specs.Runs.{reply_of}
 
@@ -22,13 +21,6 @@ pub record IsAbsent (handles : Handles) (selector : ℕ) : Type 0 where
   pub slot : ℕ
   pub named : slot_of_selector handles selector ≡ Some slot
   pub without_bytes : bytes_at handles.heap slot ≡ None
-
--- A fetch, over a store that is honest where the premise holds.
-pub record StoreFetch (honest : Type 0) (old : LoadingWorld) (slot : ℕ) (fault : Option FetchFault) (new : LoadingWorld) : Type 0 where
-  pub files : new.files ≡ old.files
-  pub counted : old.failures ≤ new.failures
-  pub any : AnyFetches old slot fault (record new { failures = old.failures })
-  pub exact : honest → FetchesCounted ne_format old slot fault new
 
 -- What becomes of an access that met a fault. The object is fetched, and the access is to be made again; or it couldn't be fetched, or none had
 -- to be, and that is the reply.

@@ -1,7 +1,6 @@
 -- A step over the parts of the machine that the kernel has.
 use Rattle.std.specs.Prelude.{◌≡◌, ℕ, Bool, true, false, if◌then◌else◌, List, Some, IsSomeAnd}
 use Rattle.std.specs.Ordering.{nat_cmp}
-use Rattle.std.specs.FinMap as finmap
 use Rattle.std.specs.FinMap.{FinMap}
 use Rattle.w16_model.specs.Bytes.{part}
 use Rattle.w16_model.specs.Handles.{Handles, offset_in, selector_in, slot_of_selector}
@@ -10,11 +9,12 @@ use Rattle.w16_model.specs.Table.{Table}
 use Rattle.w16_model.specs.Far.FarCommand.{Read}
 use Rattle.w16_loading.specs.Families.LoadingCommand.{OfHandles, OfResizes, OfFar, OfModules, OfResources}
 use Rattle.w16_loading.specs.Fetch.{is_code, segment_bytes}
-use Rattle.w16_loading.specs.Law.{IsLoadingWorld, IsOfFiles}
-use Rattle.w16_loading.specs.Modules.{IsSegmentOf, LoadingWorld, Module, Modules, with_handles}
+use Rattle.w16_loading.specs.Law.{IsOfFiles}
+use Rattle.w16_loading.specs.Modules.{IsSegmentOf, Load, Module, Modules, with_handles}
 use Rattle.w16_loading.specs.Replies.{Reply}
 use Rattle.w16_loading.specs.Replies.Reply.{Bytes}
 use Rattle.w16_format.specs.Ne.{ne_format}
+use Rattle.w16_resource.specs.Parts.{loading_of}
 use Rattle.w16_machine.specs.World.{World}
 use Rattle.w16_machine.specs.Law.{IsWorld}
 use Rattle.w16_machine.specs.Local.{left_in}
@@ -23,23 +23,16 @@ use Rattle.w16_machine.specs.LocalStays.{call_may_take, modules_may_take, resour
 use Rattle.w16_machine.specs.Machine.{Command, OnHandles, Step, StoreStep}
 use Rattle.w16_machine.specs.Machine.Command.{OfLoading, OfLocals}
 
--- What loading has of the world that these parts are: no resource is loaded.
-abbrev pub loading_of : Handles → Modules → List (List ℕ × List ℕ) → ℕ → LoadingWorld
-loading_of handles modules files failures = record { handles = handles; modules = modules; loads = finmap.empty; files = files; failures = failures }
-
 -- the world that these parts are
-abbrev pub world_of : Handles → Modules → FinMap nat_cmp Table → ℕ → List (List ℕ × List ℕ) → ℕ → World
-world_of handles modules heaps ds files failures = record { loading = loading_of handles modules files failures; heaps = heaps; ds = ds }
+abbrev pub world_of : Handles → Modules → FinMap nat_cmp Load → FinMap nat_cmp Table → ℕ → List (List ℕ × List ℕ) → ℕ → World
+world_of handles modules loads heaps ds files failures = record { loading = loading_of handles modules loads files failures; heaps = heaps; ds = ds }
 
 -- What holds of each world over a store: it is one; and where the store is honest, all that is loaded is of its file.
-abbrev pub IsLoadingOver : Type 0 → LoadingWorld → Type 0
-IsLoadingOver honest w = IsLoadingWorld w × (honest → IsOfFiles ne_format w)
-
 abbrev pub IsWorldOver : Type 0 → World → Type 0
 IsWorldOver honest w = IsWorld w × (honest → IsOfFiles ne_format w.loading)
 
--- A step before local heaps go whose segments lost their range. A call on handles changes these alone, and a call on modules leaves the tables
--- of local heaps as they are. A far access has the heaps go itself, where it fetches.
+-- A step before local heaps go whose segments lost their range. A call on handles changes these alone, and a call on modules or resources leaves
+-- the tables of local heaps as they are. A far access has the heaps go itself, where it fetches.
 abbrev pub Unswept : Type 0 → World → Command → Reply → World → Type 0
 Unswept honest old (OfLoading (OfHandles command)) reply new =
     OnHandles old.loading.handles (OfHandles command) reply new.loading.handles × (new ≡ record old { loading = with_handles old.loading new.loading.handles })
@@ -48,7 +41,8 @@ Unswept honest old (OfLoading (OfResizes command)) reply new =
 Unswept honest old (OfLoading (OfFar command)) reply new = Step honest ne_format old (OfLoading (OfFar command)) reply new
 Unswept honest old (OfLoading (OfModules command)) reply new =
     StoreStep honest ne_format old.loading (OfModules command) reply new.loading × (new ≡ record old { loading = new.loading })
-Unswept honest old (OfLoading (OfResources command)) reply new = ⊥
+Unswept honest old (OfLoading (OfResources command)) reply new =
+    StoreStep honest ne_format old.loading (OfResources command) reply new.loading × (new ≡ record old { loading = new.loading })
 Unswept honest old (OfLocals command) reply new = LocalStep old command reply new
 
 -- Whether a step may take bytes of a global object, so that a sweep of local heaps is due behind it.

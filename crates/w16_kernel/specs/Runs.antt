@@ -4,7 +4,7 @@ use Rattle.w16_model.specs.Calls as calls
 use Rattle.w16_model.specs.Far as far
 use Rattle.w16_loading.specs.Replies as printed
 use Rattle.w16_loading.specs.Families as families
-use Rattle.w16_loading.specs.Families.LoadingCommand.{OfHandles, OfResizes, OfFar, OfModules}
+use Rattle.w16_loading.specs.Families.LoadingCommand.{OfHandles, OfResizes, OfFar, OfModules, OfResources}
 use Rattle.w16_loading.specs.File as files
 use Rattle.w16_loading.specs.Resizes as resizes
 use Rattle.w16_machine.specs.World.{World}
@@ -13,7 +13,7 @@ use Rattle.w16_machine.specs.LocalCalls as locals
 use Rattle.w16_machine.specs.Machine.{Command}
 use Rattle.w16_machine.specs.Machine.Command.{OfLoading, OfLocals}
 use Rattle.w16_kernel.specs.declared.call.Call.{Call}
-use Rattle.w16_kernel.specs.declared.call.Call.TheVariants.{GlobalAlloc, GlobalFree, GlobalLock, GlobalUnlock, GlobalSize, GlobalFlags, GlobalHandle, GetSelectorBase, GetSelectorLimit, GlobalCompact, GlobalReAlloc, GlobalDiscard, GlobalLRUNewest, GlobalLRUOldest, Moved, Walk, Read, Write, Fill, LocalInit, LocalAlloc, LocalReAlloc, LocalDiscard, LocalFree, LocalLock, LocalUnlock, LocalSize, LocalFlags, LocalHandle, LocalCompact, DS, Builtin, LoadModule, LoadLibrary, FreeLibrary, FreeModule, GetModuleHandle, GetModuleUsage, GetProcAddress}
+use Rattle.w16_kernel.specs.declared.call.Call.TheVariants.{GlobalAlloc, GlobalFree, GlobalLock, GlobalUnlock, GlobalSize, GlobalFlags, GlobalHandle, GetSelectorBase, GetSelectorLimit, GlobalCompact, GlobalReAlloc, GlobalDiscard, GlobalLRUNewest, GlobalLRUOldest, Moved, Walk, Read, Write, Fill, LocalInit, LocalAlloc, LocalReAlloc, LocalDiscard, LocalFree, LocalLock, LocalUnlock, LocalSize, LocalFlags, LocalHandle, LocalCompact, DS, Builtin, LoadModule, LoadLibrary, FreeLibrary, FreeModule, GetModuleHandle, GetModuleUsage, GetProcAddress, FindResource, LoadResource, LockResource, FreeResource, SizeofResource}
 use Rattle.w16_kernel.specs.declared.call.Label.{Label}
 use Rattle.w16_kernel.specs.declared.call.Label.TheVariants as labels
 use Rattle.w16_kernel.specs.declared.call.Reply.{Reply}
@@ -73,6 +73,11 @@ command_of (FreeModule handle) = OfLoading (OfModules (families.ModuleCommand.Fr
 command_of (GetModuleHandle name) = OfLoading (OfModules (families.ModuleCommand.GetModuleHandle name.now))
 command_of (GetModuleUsage handle) = OfLoading (OfModules (families.ModuleCommand.GetModuleUsage handle))
 command_of (GetProcAddress handle label) = OfLoading (OfModules (families.ModuleCommand.GetProcAddress handle (label_of label)))
+command_of (FindResource handle name kind) = OfLoading (OfResources (families.ResourceCommand.FindResource handle (label_of name) (label_of kind)))
+command_of (LoadResource handle place) = OfLoading (OfResources (families.ResourceCommand.LoadResource handle place))
+command_of (LockResource handle) = OfLoading (OfResources (families.ResourceCommand.LockResource handle))
+command_of (FreeResource handle) = OfLoading (OfResources (families.ResourceCommand.FreeResource handle))
+command_of (SizeofResource handle place) = OfLoading (OfResources (families.ResourceCommand.SizeofResource handle place))
 
 -- the machine's reply
 abbrev pub reply_of : Reply → printed.Reply

@@ -14,7 +14,7 @@ pub const MOST_FILLED: u32 = 65_536;
 /// Bytes that a `Read` answered, in place.
 pub type Chunk = ArrayVec<u8, MOST_READ>;
 
-/// What names an entry of a module: a number, or a text.
+/// What names an entry or a resource of a module, or a type of resources: a number, or a text.
 #[derive(Debug, Clone, Copy)]
 pub enum Label<'a> {
     Number(u16),
@@ -24,52 +24,158 @@ pub enum Label<'a> {
 /// One command. Its bytes are lent.
 #[derive(Debug, Clone, Copy)]
 pub enum Call<'a> {
-    GlobalAlloc { flags: u16, size: u32 },
-    GlobalFree { handle: u16 },
-    GlobalLock { handle: u16 },
-    GlobalUnlock { handle: u16 },
-    GlobalSize { handle: u16 },
-    GlobalFlags { handle: u16 },
-    GlobalHandle { selector: u16 },
-    GetSelectorBase { selector: u16 },
-    GetSelectorLimit { selector: u16 },
-    GlobalCompact { size: u32 },
-    GlobalReAlloc { handle: u16, size: u32, flags: u16 },
-    GlobalDiscard { handle: u16 },
-    GlobalLRUNewest { handle: u16 },
-    GlobalLRUOldest { handle: u16 },
+    GlobalAlloc {
+        flags: u16,
+        size: u32,
+    },
+    GlobalFree {
+        handle: u16,
+    },
+    GlobalLock {
+        handle: u16,
+    },
+    GlobalUnlock {
+        handle: u16,
+    },
+    GlobalSize {
+        handle: u16,
+    },
+    GlobalFlags {
+        handle: u16,
+    },
+    GlobalHandle {
+        selector: u16,
+    },
+    GetSelectorBase {
+        selector: u16,
+    },
+    GetSelectorLimit {
+        selector: u16,
+    },
+    GlobalCompact {
+        size: u32,
+    },
+    GlobalReAlloc {
+        handle: u16,
+        size: u32,
+        flags: u16,
+    },
+    GlobalDiscard {
+        handle: u16,
+    },
+    GlobalLRUNewest {
+        handle: u16,
+    },
+    GlobalLRUOldest {
+        handle: u16,
+    },
     Moved,
     Walk,
     /// The pointer has a selector in its high word. At most [`MOST_READ`] bytes are read.
-    Read { pointer: u32, count: u32 },
-    Write { pointer: u32, bytes: &'a [u8] },
+    Read {
+        pointer: u32,
+        count: u32,
+    },
+    Write {
+        pointer: u32,
+        bytes: &'a [u8],
+    },
     /// At most [`MOST_FILLED`] bytes are filled.
-    Fill { pointer: u32, count: u32, byte: u8 },
+    Fill {
+        pointer: u32,
+        count: u32,
+        byte: u8,
+    },
     /// A selector of 0 is DS. It takes memory.
-    LocalInit { selector: u16, start: u16, end: u32 },
-    LocalAlloc { flags: u16, size: u16 },
-    LocalReAlloc { name: u16, size: u16, flags: u16 },
-    LocalDiscard { name: u16 },
-    LocalFree { name: u16 },
-    LocalLock { name: u16 },
-    LocalUnlock { name: u16 },
-    LocalSize { name: u16 },
-    LocalFlags { name: u16 },
-    LocalHandle { pointer: u16 },
-    LocalCompact { size: u16 },
+    LocalInit {
+        selector: u16,
+        start: u16,
+        end: u32,
+    },
+    LocalAlloc {
+        flags: u16,
+        size: u16,
+    },
+    LocalReAlloc {
+        name: u16,
+        size: u16,
+        flags: u16,
+    },
+    LocalDiscard {
+        name: u16,
+    },
+    LocalFree {
+        name: u16,
+    },
+    LocalLock {
+        name: u16,
+    },
+    LocalUnlock {
+        name: u16,
+    },
+    LocalSize {
+        name: u16,
+    },
+    LocalFlags {
+        name: u16,
+    },
+    LocalHandle {
+        pointer: u16,
+    },
+    LocalCompact {
+        size: u16,
+    },
     /// The segment in whose local heap the other Local calls act, by its selector.
-    DS { selector: u16 },
+    DS {
+        selector: u16,
+    },
     /// Adds a built-in module of a name. It takes memory.
-    Builtin { name: &'a [u8] },
+    Builtin {
+        name: &'a [u8],
+    },
     /// Loads a module by the name of its file, but an application that is there. It takes memory.
-    LoadModule { file: &'a [u8] },
+    LoadModule {
+        file: &'a [u8],
+    },
     /// Loads a module by the name of its file. It takes memory.
-    LoadLibrary { file: &'a [u8] },
-    FreeLibrary { handle: u16 },
-    FreeModule { handle: u16 },
-    GetModuleHandle { name: &'a [u8] },
-    GetModuleUsage { handle: u16 },
-    GetProcAddress { handle: u16, label: Label<'a> },
+    LoadLibrary {
+        file: &'a [u8],
+    },
+    FreeLibrary {
+        handle: u16,
+    },
+    FreeModule {
+        handle: u16,
+    },
+    GetModuleHandle {
+        name: &'a [u8],
+    },
+    GetModuleUsage {
+        handle: u16,
+    },
+    GetProcAddress {
+        handle: u16,
+        label: Label<'a>,
+    },
+    FindResource {
+        handle: u16,
+        name: Label<'a>,
+        kind: Label<'a>,
+    },
+    LoadResource {
+        handle: u16,
+        place: u16,
+    },
+    LockResource {
+        handle: u16,
+    },
+    FreeResource {
+        handle: u16,
+    },
+    SizeofResource {
+        handle: u16,
+        place: u16,
+    },
 }
 
 impl Call<'_> {
@@ -91,7 +197,10 @@ impl Call<'_> {
             | Call::LoadModule { .. }
             | Call::LoadLibrary { .. }
             | Call::FreeLibrary { .. }
-            | Call::FreeModule { .. } => true,
+            | Call::FreeModule { .. }
+            | Call::LoadResource { .. }
+            | Call::LockResource { .. }
+            | Call::FreeResource { .. } => true,
             _ => false,
         }
     }

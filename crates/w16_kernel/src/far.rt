@@ -1,17 +1,22 @@
 //! Far accesses, which fetch the objects of modules that they meet without bytes.
-ghost use Rattle.std.specs.Prelude.{◌≡◌, ◌<◌, ◌≤◌, ℕ, All, List, length, IfSome, IfNone, None};
+ghost use Rattle.std.specs.Prelude.{◌≡◌, ◌<◌, ◌≤◌, ◌/◌, ℕ, All, List, length, IfSome, IfNone, None};
+ghost use Rattle.std.specs.FinMap as finmap;
+ghost use Rattle.std.specs.FinMap.{FinMap};
+ghost use Rattle.std.specs.Ordering.{nat_cmp};
 ghost use Rattle.w16_model.specs.Far as far;
 ghost use Rattle.w16_model.specs.Handles.{Handles};
 ghost use Rattle.w16_model.specs.Owned.{owned_at};
 ghost use Rattle.w16_model.specs.declared.FarFault.TheVariants.{NotPresent};
 ghost use Rattle.w16_loading.specs.Families.LoadingCommand.{OfFar};
 ghost use Rattle.w16_loading.specs.Law.{IsLoadingWorld};
+ghost use Rattle.w16_loading.specs.Modules.{Load};
 ghost use Rattle.w16_loading.specs.Replies.{FarReplies};
 ghost use Rattle.w16_format.specs.Ne.{ne_format};
 ghost use Rattle.w16_machine.specs.Machine.{Step};
 ghost use Rattle.w16_machine.specs.Machine.Command.{OfLoading};
 ghost use Rattle.w16_kernel.specs.Fetching.{IsAbsent, IsSourceFor, Refetches};
-ghost use Rattle.w16_kernel.specs.Parts.{IsLoadingOver, IsWorldOver, loading_of, world_of};
+ghost use Rattle.w16_kernel.specs.Parts.{IsWorldOver, world_of};
+ghost use Rattle.w16_resource.specs.Parts.{IsLoadingOver, loading_of};
 ghost use Rattle.w16_kernel.specs.Runs.{IsReply, reply_of};
 
 use crate::call::{MOST_READ, Reply};
@@ -24,32 +29,33 @@ use w16_model::FarFault;
 use w16_model::names::{offset_in, selector_in, slot_of};
 use w16_store::Store;
 
-/// Where the bytes of the object in a slot come from; none where it is no module's segment.
+/// Where the bytes of the object in a slot come from, in which no resource is; none where it is no module's segment.
 fn segment_source<A: Allocator + Copy>(
     registry: &Registry<A>,
     slot: u16,
 ) -> Option<SegmentSource<'_>>
-    ensures found { IfSome result (λ source. (handles : Handles) (files : List (List ℕ × List ℕ)) (failures : ℕ) → IsLoadingWorld (loading_of handles registry.now files failures)
-        → IsSourceFor (loading_of handles registry.now files failures) slot source) }
-    ensures none { IfNone result ((handles : Handles) (files : List (List ℕ × List ℕ)) (failures : ℕ) → IsLoadingWorld (loading_of handles registry.now files failures)
-        → owned_at handles slot ≡ None) }
+    ensures found { IfSome result (λ source. (handles : Handles) (loads : FinMap nat_cmp Load) (files : List (List ℕ × List ℕ)) (failures : ℕ) → IsLoadingWorld (loading_of handles registry.now loads files failures)
+        → finmap.get loads slot ≡ None → IsSourceFor (loading_of handles registry.now loads files failures) slot source) }
+    ensures none { IfNone result ((handles : Handles) (loads : FinMap nat_cmp Load) (files : List (List ℕ × List ℕ)) (failures : ℕ) → IsLoadingWorld (loading_of handles registry.now loads files failures)
+        → finmap.get loads slot ≡ None → owned_at handles slot ≡ None) }
 {
     let place = registry.segment_of(slot)?;
     let loaded = registry.module(place.handle)?;
     Some(loaded.source(place.number))
 }
 
-/// Fetches the object that a selector leads to, which has no bytes, where a module's segment is in it. An error is the reply of the access that
-/// met it: that it isn't present where it is no module's, or why it got no bytes.
-fn fetch_selected<S: Store + Drop, A: Allocator + Copy>(
+/// Fetches the object that a selector leads to, which has no bytes and is no resource, where a module's segment is in it. An error is the reply of
+/// the access that met it: that it isn't present where it is no module's, or why it got no bytes.
+fn fetch_segment<S: Store + Drop, A: Allocator + Copy>(
     global: &mut Global16<A>,
     library: &mut Library<S, A>,
     selector: u16,
 ) -> Result<(), Reply<'static>>
-    requires loading { IsLoadingOver S.is_honest (loading_of global.old.handles library.old.registry (S.files library.old.store) (S.failures library.old.store)) }
+    requires loading { IsLoadingOver S.is_honest (loading_of global.old.handles library.old.registry library.old.resources (S.files library.old.store) (S.failures library.old.store)) }
     requires absent { IsAbsent global.old.handles selector }
-    ensures { Refetches S.is_honest (loading_of global.old.handles library.old.registry (S.files library.old.store) (S.failures library.old.store)) selector NotPresent result
-        (loading_of global.new.handles library.new.registry (S.files library.new.store) (S.failures library.new.store)) }
+    requires segment { finmap.get library.old.resources (selector / 8) ≡ None }
+    ensures { Refetches S.is_honest (loading_of global.old.handles library.old.registry library.old.resources (S.files library.old.store) (S.failures library.old.store)) selector NotPresent result
+        (loading_of global.new.handles library.new.registry library.new.resources (S.files library.new.store) (S.failures library.new.store)) }
 {
     // The low word is the object's handle.
     let handle = offset_in(global.global_handle(selector));
@@ -68,8 +74,37 @@ fn fetch_selected<S: Store + Drop, A: Allocator + Copy>(
     }
 }
 
-/// Fetches the object that a selector leads to, where an access met that it has no bytes, and a module's segment is in it: then the access is to
-/// be made again. Else an error is the access's reply: the fault that it met, or why the object got no bytes.
+/// Fetches the object that a selector leads to, which has no bytes, where a segment or a resource of a module is in it. An error is the reply of the
+/// access that met it: that it isn't present where it is no module's, or why it got no bytes.
+fn fetch_selected<S: Store + Drop, A: Allocator + Copy>(
+    global: &mut Global16<A>,
+    library: &mut Library<S, A>,
+    selector: u16,
+) -> Result<(), Reply<'static>>
+    requires loading { IsLoadingOver S.is_honest (loading_of global.old.handles library.old.registry library.old.resources (S.files library.old.store) (S.failures library.old.store)) }
+    requires absent { IsAbsent global.old.handles selector }
+    ensures { Refetches S.is_honest (loading_of global.old.handles library.old.registry library.old.resources (S.files library.old.store) (S.failures library.old.store)) selector NotPresent result
+        (loading_of global.new.handles library.new.registry library.new.resources (S.files library.new.store) (S.failures library.new.store)) }
+{
+    if !library.resources.owns(slot_of(selector)) {
+        return fetch_segment(global, library, selector);
+    }
+    // The low word is the object's handle.
+    let handle = offset_in(global.global_handle(selector));
+    match library.resources.fetch(
+        &library.registry,
+        global,
+        &mut library.store,
+        &mut library.scratch,
+        handle,
+    ) {
+        Ok(()) => Ok(()),
+        Err(failed) => Err(Reply::Failed(failed)),
+    }
+}
+
+/// Fetches the object that a selector leads to, where an access met that it has no bytes, and a segment or a resource of a module is in it:
+/// then the access is to be made again. Else an error is the access's reply: the fault that it met, or why the object got no bytes.
 #[inline(never)]
 fn fetch_absent<S: Store + Drop, A: Allocator + Copy>(
     global: &mut Global16<A>,
@@ -77,10 +112,10 @@ fn fetch_absent<S: Store + Drop, A: Allocator + Copy>(
     selector: u16,
     fault: FarFault,
 ) -> Result<(), Reply<'static>>
-    requires loading { IsLoadingOver S.is_honest (loading_of global.old.handles library.old.registry (S.files library.old.store) (S.failures library.old.store)) }
+    requires loading { IsLoadingOver S.is_honest (loading_of global.old.handles library.old.registry library.old.resources (S.files library.old.store) (S.failures library.old.store)) }
     requires absent { fault ≡ NotPresent → IsAbsent global.old.handles selector }
-    ensures { Refetches S.is_honest (loading_of global.old.handles library.old.registry (S.files library.old.store) (S.failures library.old.store)) selector fault result
-        (loading_of global.new.handles library.new.registry (S.files library.new.store) (S.failures library.new.store)) }
+    ensures { Refetches S.is_honest (loading_of global.old.handles library.old.registry library.old.resources (S.files library.old.store) (S.failures library.old.store)) selector fault result
+        (loading_of global.new.handles library.new.registry library.new.resources (S.files library.new.store) (S.failures library.new.store)) }
 {
     match fault {
         FarFault::NotPresent => fetch_selected(global, library, selector),
@@ -111,11 +146,11 @@ pub fn read<'r, S: Store + Drop, A: Allocator + Copy>(
     pointer: u32,
     room: &'r mut [u8],
 ) -> Reply<'r>
-    requires { IsLoadingOver S.is_honest (loading_of global.old.handles library.old.registry (S.files library.old.store) (S.failures library.old.store)) }
-    ensures step { (ds : ℕ) → IsWorldOver S.is_honest (world_of global.old.handles library.old.registry locals.old ds (S.files library.old.store) (S.failures library.old.store))
-        → Step S.is_honest ne_format (world_of global.old.handles library.old.registry locals.old ds (S.files library.old.store) (S.failures library.old.store))
+    requires { IsLoadingOver S.is_honest (loading_of global.old.handles library.old.registry library.old.resources (S.files library.old.store) (S.failures library.old.store)) }
+    ensures step { (ds : ℕ) → IsWorldOver S.is_honest (world_of global.old.handles library.old.registry library.old.resources locals.old ds (S.files library.old.store) (S.failures library.old.store))
+        → Step S.is_honest ne_format (world_of global.old.handles library.old.registry library.old.resources locals.old ds (S.files library.old.store) (S.failures library.old.store))
         (OfLoading (OfFar (far.FarCommand.Read pointer (length room.old)))) (reply_of result)
-        (world_of global.new.handles library.new.registry locals.new ds (S.files library.new.store) (S.failures library.new.store)) }
+        (world_of global.new.handles library.new.registry library.new.resources locals.new ds (S.files library.new.store) (S.failures library.new.store)) }
     ensures short { length room.old ≤ MOST_READ → IsReply result }
 {
     if let Err(fault) = global.far_read(selector_in(pointer), offset_in(pointer), room) {
@@ -152,12 +187,12 @@ pub fn write<S: Store + Drop, A: Allocator + Copy>(
     pointer: u32,
     bytes: &[u8],
 ) -> Reply<'static>
-    requires { IsLoadingOver S.is_honest (loading_of global.old.handles library.old.registry (S.files library.old.store) (S.failures library.old.store)) }
+    requires { IsLoadingOver S.is_honest (loading_of global.old.handles library.old.registry library.old.resources (S.files library.old.store) (S.failures library.old.store)) }
     ensures bytes { All (λ b. b < 256) bytes.now }
-    ensures step { (ds : ℕ) → IsWorldOver S.is_honest (world_of global.old.handles library.old.registry locals.old ds (S.files library.old.store) (S.failures library.old.store))
-        → Step S.is_honest ne_format (world_of global.old.handles library.old.registry locals.old ds (S.files library.old.store) (S.failures library.old.store))
+    ensures step { (ds : ℕ) → IsWorldOver S.is_honest (world_of global.old.handles library.old.registry library.old.resources locals.old ds (S.files library.old.store) (S.failures library.old.store))
+        → Step S.is_honest ne_format (world_of global.old.handles library.old.registry library.old.resources locals.old ds (S.files library.old.store) (S.failures library.old.store))
         (OfLoading (OfFar (far.FarCommand.Write pointer bytes.now))) (reply_of result)
-        (world_of global.new.handles library.new.registry locals.new ds (S.files library.new.store) (S.failures library.new.store)) }
+        (world_of global.new.handles library.new.registry library.new.resources locals.new ds (S.files library.new.store) (S.failures library.new.store)) }
     ensures short { IsReply result }
 {
     if let Err(fault) = global.far_write(selector_in(pointer), offset_in(pointer), bytes) {
@@ -196,11 +231,11 @@ pub fn fill<S: Store + Drop, A: Allocator + Copy>(
     count: u32,
     byte: u8,
 ) -> Reply<'static>
-    requires { IsLoadingOver S.is_honest (loading_of global.old.handles library.old.registry (S.files library.old.store) (S.failures library.old.store)) }
-    ensures step { (ds : ℕ) → IsWorldOver S.is_honest (world_of global.old.handles library.old.registry locals.old ds (S.files library.old.store) (S.failures library.old.store))
-        → Step S.is_honest ne_format (world_of global.old.handles library.old.registry locals.old ds (S.files library.old.store) (S.failures library.old.store))
+    requires { IsLoadingOver S.is_honest (loading_of global.old.handles library.old.registry library.old.resources (S.files library.old.store) (S.failures library.old.store)) }
+    ensures step { (ds : ℕ) → IsWorldOver S.is_honest (world_of global.old.handles library.old.registry library.old.resources locals.old ds (S.files library.old.store) (S.failures library.old.store))
+        → Step S.is_honest ne_format (world_of global.old.handles library.old.registry library.old.resources locals.old ds (S.files library.old.store) (S.failures library.old.store))
         (OfLoading (OfFar (far.FarCommand.Fill pointer count byte))) (reply_of result)
-        (world_of global.new.handles library.new.registry locals.new ds (S.files library.new.store) (S.failures library.new.store)) }
+        (world_of global.new.handles library.new.registry library.new.resources locals.new ds (S.files library.new.store) (S.failures library.new.store)) }
     ensures short { IsReply result }
 {
     if let Err(fault) = global.far_fill(selector_in(pointer), offset_in(pointer), count, byte) {

@@ -19,6 +19,7 @@ use w16_loader::Registry;
 use w16_local::LocalHeaps;
 use w16_model::{GRAIN, Item, MOST_SLOTS};
 use w16_reloc::Scratch;
+use w16_resource::Resources;
 use w16_store::Store;
 
 /// The machine over a store of module files. Its value is the world that a script sees.
@@ -40,9 +41,9 @@ impl<S: Store + Drop, A: Allocator + Copy> Model for Kernel<S, A> {
 
     ghost coded = { world_code };
 
-    ghost view = { λ k. world_of k.global.handles k.library.registry k.locals k.ds (S.files k.library.store) (S.failures k.library.store) };
+    ghost view = { λ k. world_of k.global.handles k.library.registry k.library.resources k.locals k.ds (S.files k.library.store) (S.failures k.library.store) };
 
-    ghost invariant = { λ k. IsWorldOver S.is_honest (world_of k.global.handles k.library.registry k.locals k.ds (S.files k.library.store) (S.failures k.library.store)) };
+    ghost invariant = { λ k. IsWorldOver S.is_honest (world_of k.global.handles k.library.registry k.library.resources k.locals k.ds (S.files k.library.store) (S.failures k.library.store)) };
 }
 
 impl<S: Store + Drop, A: Allocator + Copy> Kernel<S, A> {
@@ -62,12 +63,14 @@ impl<S: Store + Drop, A: Allocator + Copy> Kernel<S, A> {
     {
         let scratch = Scratch::new(host)?;
         let registry = Registry::new(alloc)?;
+        let resources = Resources::new(alloc)?;
         let locals = LocalHeaps::new(alloc, slots)?;
         // last, so that no way out has to drop it
         let global = Global16::new(alloc, memory, slots)?;
         let library = Library {
             host,
             registry,
+            resources,
             store,
             scratch,
         };

@@ -7,6 +7,7 @@ mod kernel;
 mod library;
 mod load;
 mod machine;
+mod resource;
 mod sizes;
 mod step;
 

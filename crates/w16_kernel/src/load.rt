@@ -1,19 +1,20 @@
 //! Calls on modules that are more than one call of the loader.
 ghost use Rattle.std.specs.Prelude.{◌≡◌, ◌≤◌, IfOk, OnErr};
 ghost use Rattle.w16_loading.specs.Families.{pointer_to, proc_address};
+ghost use Rattle.w16_loading.specs.Free.{Frees};
 ghost use Rattle.w16_loading.specs.Families.LoadingCommand.{OfModules};
 ghost use Rattle.w16_loading.specs.Modules.{LoadingWorld};
 ghost use Rattle.w16_format.specs.Ne.{ne_format};
 ghost use Rattle.w16_loader.specs.Registry.{in_world};
 ghost use Rattle.w16_machine.specs.Machine.{StoreStep};
-ghost use Rattle.w16_kernel.specs.Parts.{IsLoadingOver, loading_of};
+ghost use Rattle.w16_resource.specs.Parts.{loading_of};
 ghost use Rattle.w16_kernel.specs.Runs.{label_of, load_command, reply_of, IsReply};
 
 use crate::call::{Label, Reply};
 use crate::library::Library;
 use std::alloc::{AllocError, Allocator};
 use w16_global::Global16;
-use w16_loader::{LoadAnswer, Registry, load};
+use w16_loader::{LoadAnswer, Registry, free, load};
 use w16_loading::FetchFault;
 use w16_model::names::dword_of;
 use w16_store::Store;
@@ -26,11 +27,11 @@ pub fn load_reply<S: Store + Drop, A: Allocator + Copy>(
     file: &[u8],
     is_load_module: bool,
 ) -> Result<Reply<'static>, AllocError>
-    ensures step { IfOk result (λ reply. StoreStep S.is_honest ne_format (loading_of global.old.handles library.old.registry (S.files library.old.store) (S.failures library.old.store))
+    ensures step { IfOk result (λ reply. StoreStep S.is_honest ne_format (loading_of global.old.handles library.old.registry library.old.resources (S.files library.old.store) (S.failures library.old.store))
         (OfModules (load_command is_load_module file.now)) (reply_of reply)
-        (loading_of global.new.handles library.new.registry (S.files library.new.store) (S.failures library.new.store))) }
+        (loading_of global.new.handles library.new.registry library.new.resources (S.files library.new.store) (S.failures library.new.store))) }
     ensures short { IfOk result (λ reply. IsReply reply) }
-    ensures refused { OnErr result ((library.new.registry ≡ library.old.registry) × (global.new ≡ global.old)) }
+    ensures refused { OnErr result ((library.new.registry ≡ library.old.registry) × (library.new.resources ≡ library.old.resources) × (global.new ≡ global.old)) }
     ensures files { S.files library.new.store ≡ S.files library.old.store }
     ensures failures { S.failures library.old.store ≤ S.failures library.new.store }
 {
@@ -47,6 +48,22 @@ pub fn load_reply<S: Store + Drop, A: Allocator + Copy>(
         Ok(LoadAnswer::Says(word)) => Ok(Reply::Word(word)),
         Ok(LoadAnswer::StoreFails) => Ok(Reply::Failed(FetchFault::Store)),
     }
+}
+
+/// `FreeLibrary` and `FreeModule`: one use less, and then modules go that have no use and no importer, with the objects of their segments and of
+/// their resources, locked or not. 1 where the handle names something still, else 0.
+pub fn free_module<S: Store + Drop, A: Allocator + Copy>(
+    global: &mut Global16<A>,
+    library: &mut Library<S, A>,
+    handle: u16,
+) -> u16
+    ensures frees { Frees (loading_of global.old.handles library.old.registry library.old.resources (S.files library.old.store) (S.failures library.old.store)) handle result
+        (loading_of global.new.handles library.new.registry library.new.resources (S.files library.old.store) (S.failures library.old.store)) }
+    ensures store { library.new.store ≡ library.old.store }
+{
+    let answer = free(&mut library.registry, global, handle);
+    library.resources.sweep(&library.registry, global);
+    answer
 }
 
 /// `GetProcAddress`: where an entry of a module is, as a far pointer; 0 where there is none.

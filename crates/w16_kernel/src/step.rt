@@ -9,12 +9,13 @@ ghost use Rattle.w16_kernel.specs.Parts.{IsWorldOver, Unswept, may_take_bytes, s
 use crate::call::{Call, MOST_READ, Reply};
 use crate::far::{fill, read, write};
 use crate::library::Library;
-use crate::load::{load_reply, proc_address};
+use crate::load::{free_module, load_reply, proc_address};
+use crate::resource::{find_resource, load_resource, lock_resource};
 use std::alloc::{AllocError, Allocator};
 use w16_global::Global16;
-use w16_loader::free;
 use w16_local::LocalHeaps;
 use w16_model::Item;
+use w16_resource::size_of_resource;
 use w16_store::Store;
 
 /// How many parts the heap's walk has.
@@ -45,15 +46,15 @@ pub fn step<'r, S: Store + Drop, A: Allocator + Copy>(
     call: &Call<'_>,
     room: &'r mut [u8; MOST_READ],
 ) -> Result<Reply<'r>, AllocError>
-    requires world { IsWorldOver S.is_honest (world_of global.old.handles library.old.registry locals.old ds.old (S.files library.old.store) (S.failures library.old.store)) }
+    requires world { IsWorldOver S.is_honest (world_of global.old.handles library.old.registry library.old.resources locals.old ds.old (S.files library.old.store) (S.failures library.old.store)) }
     requires call { IsCall call.now }
-    ensures step { IfOk result (λ reply. Unswept S.is_honest (world_of global.old.handles library.old.registry locals.old ds.old (S.files library.old.store) (S.failures library.old.store)) (command_of call.now) (reply_of reply)
-        (world_of global.new.handles library.new.registry locals.new ds.new (S.files library.new.store) (S.failures library.new.store))) }
+    ensures step { IfOk result (λ reply. Unswept S.is_honest (world_of global.old.handles library.old.registry library.old.resources locals.old ds.old (S.files library.old.store) (S.failures library.old.store)) (command_of call.now) (reply_of reply)
+        (world_of global.new.handles library.new.registry library.new.resources locals.new ds.new (S.files library.new.store) (S.failures library.new.store))) }
     ensures ranged { OnOk result (IsCommand (command_of call.now)) }
     ensures short { IfOk result (λ reply. IsReply reply) }
-    ensures wanted { OnErr result (TakesMemory (world_of global.old.handles library.old.registry locals.old ds.old (S.files library.old.store) (S.failures library.old.store)) (command_of call.now)) }
-    ensures refused { OnErr result (IsSame (world_of global.old.handles library.old.registry locals.old ds.old (S.files library.old.store) (S.failures library.old.store))
-        (world_of global.new.handles library.new.registry locals.new ds.new (S.files library.new.store) (S.failures library.new.store))) }
+    ensures wanted { OnErr result (TakesMemory (world_of global.old.handles library.old.registry library.old.resources locals.old ds.old (S.files library.old.store) (S.failures library.old.store)) (command_of call.now)) }
+    ensures refused { OnErr result (IsSame (world_of global.old.handles library.old.registry library.old.resources locals.old ds.old (S.files library.old.store) (S.failures library.old.store))
+        (world_of global.new.handles library.new.registry library.new.resources locals.new ds.new (S.files library.new.store) (S.failures library.new.store))) }
 {
     match *call {
         Call::GlobalAlloc { flags, size } => Ok(Reply::Word(global.global_alloc(flags, size))),
@@ -121,18 +122,23 @@ pub fn step<'r, S: Store + Drop, A: Allocator + Copy>(
         Call::Builtin { name } => Ok(Reply::Word(library.registry.builtin(name)?)),
         Call::LoadModule { file } => load_reply(global, library, file, true),
         Call::LoadLibrary { file } => load_reply(global, library, file, false),
-        Call::FreeLibrary { handle } => {
-            Ok(Reply::Word(free(&mut library.registry, global, handle)))
-        }
-        Call::FreeModule { handle } => {
-            Ok(Reply::Word(free(&mut library.registry, global, handle)))
-        }
+        Call::FreeLibrary { handle } => { Ok(Reply::Word(free_module(global, library, handle))) }
+        Call::FreeModule { handle } => { Ok(Reply::Word(free_module(global, library, handle))) }
         Call::GetModuleHandle { name } => {
             Ok(Reply::Word(library.registry.handle_of(name).unwrap_or(0)))
         }
         Call::GetModuleUsage { handle } => Ok(Reply::Word(library.registry.usage(handle))),
         Call::GetProcAddress { handle, label } => {
             Ok(Reply::Dword(proc_address(&library.registry, handle, label)))
+        }
+        Call::FindResource { handle, name, kind } => {
+            Ok(Reply::Word(find_resource(&library.registry, handle, name, kind)))
+        }
+        Call::LoadResource { handle, place } => Ok(load_resource(global, library, handle, place)),
+        Call::LockResource { handle } => Ok(lock_resource(global, library, handle)),
+        Call::FreeResource { handle } => Ok(Reply::Word(library.resources.free(global, handle))),
+        Call::SizeofResource { handle, place } => {
+            Ok(Reply::Dword(size_of_resource(&library.registry, handle, place)))
         }
     }
 }

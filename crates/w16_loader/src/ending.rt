@@ -83,7 +83,7 @@ pub(crate) fn release_slots<A: Allocator + Copy>(global: &mut Global16<A>, slots
 }
 
 /// The object of a slot goes, locked or not, if there is one.
-fn release_slot<A: Allocator + Copy>(global: &mut Global16<A>, slot: u16)
+pub fn release_slot<A: Allocator + Copy>(global: &mut Global16<A>, slot: u16)
     requires { slot < 8192 }
     ensures { global.new ≡ record global.old { handles = without_slot global.old.handles slot } }
 {

@@ -19,7 +19,7 @@ mod table;
 
 pub use binding::BindFault;
 pub use closure::{Bound, Closure, Followed, close};
-pub use ending::free;
+pub use ending::{free, release_slot};
 pub use entry::{Entry, Loaded, NOWHERE};
 pub use fault::Failure;
 pub use found::{
@@ -28,5 +28,6 @@ pub use found::{
 pub use loading::{LoadAnswer, load};
 pub use naming::NameFault;
 pub use registry::Registry;
-pub use segment_fetch::{SegmentSource, fetch};
+pub use segment_fetch::{SegmentSource, fault_of, fetch, give};
+pub use segment_work::SegmentWork;
 pub use table::SegmentOf;

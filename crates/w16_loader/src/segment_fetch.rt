@@ -39,7 +39,7 @@ pub struct SegmentSource<'a> {
 }
 
 /// Why a fetch fails whose segment isn't relocated.
-fn fault_of(fault: RelocFault) -> FetchFault
+pub fn fault_of(fault: RelocFault) -> FetchFault
     ensures { result ≡ fault_of fault }
 {
     match fault {
@@ -76,7 +76,11 @@ fn read<S: Store>(
 
 /// Gives an object that a module owns, and that has no bytes, those that a work writes. False, and nothing has changed, where there is no room, and
 /// where the handle names no such object.
-fn give<A: Allocator + Copy>(global: &mut Global16<A>, handle: u16, work: &SegmentWork<'_>) -> bool
+pub fn give<A: Allocator + Copy>(
+    global: &mut Global16<A>,
+    handle: u16,
+    work: &SegmentWork<'_>,
+) -> bool
     requires { length work.now.records.now ≡ length work.now.values.now }
     ensures given { IsTrue result
         → GivesBytes global.old.handles (handle / 8) (IsWritten work.now.data.now work.now.records.now work.now.values.now) global.new.handles }

@@ -31,14 +31,14 @@ fn write_image(bytes: &mut [u8], source: &[u8], records: &[Record], values: &[Fa
     apply(bytes, records, values);
 }
 
-/// Writes a segment's image over the bytes of its object.
+/// Writes a segment's image over the bytes of its object; with no records, as of a resource, its data and zeros behind them.
 #[derive(Clone, Copy)]
-pub(crate) struct SegmentWork<'a> {
+pub struct SegmentWork<'a> {
     /// Its data in the file.
-    pub(crate) data: &'a [u8],
-    pub(crate) records: &'a [Record],
+    pub data: &'a [u8],
+    pub records: &'a [Record],
     /// A value for each record.
-    pub(crate) values: &'a [Far],
+    pub values: &'a [Far],
 }
 
 impl Work<()> for SegmentWork<'_> {

@@ -11,7 +11,7 @@ use Rattle.w16_loading.proofs.Readings.{read_cases, follow_cases, after_keeps}
 use Rattle.w16_loading.proofs.Fewest.{one_fewest}
 use Rattle.w16_loading.proofs.FetchWorlds.{as_any_fetch}
 use Rattle.w16_loading.proofs.ResourceWorlds.{made_world}
-use Rattle.w16_loading.proofs.Stepping.{Parts, nothing_asked, family, loaded}
+use Rattle.w16_loading.proofs.Stepping.{IsLoadable, Parts, nothing_asked, family, loaded}
 
 -- A family's step by some fetches and loads is one by others, where these are those.
 module _ (F G : Fetching) (L M : Loading) (old new : LoadingWorld) (reply : Reply) where
@@ -47,23 +47,23 @@ module _ (F G : Fetching) (L M : Loading) (old new : LoadingWorld) (reply : Repl
   abbrev Made : Fetching → ℕ → ℕ → Resource → Option (ℕ × Load) → Type 0
   Made fetches handle place r p = MatchOption p ((((slot : ℕ) → IsFreeSlot old.handles slot → ⊥) × AnswersNone old reply new) ⊎ LoadsNewResource fetches old handle place r reply new) (λ x. (reply, new) ≡ loaded_again old r x)
 
-  makes : (handle place : ℕ) → ((slot : ℕ) (r : Resource) → IsFreeSlot old.handles slot → resource_at old handle place ≡ Some r → load_of old handle place ≡ None → (fault : Option FetchFault) (next : LoadingWorld)
+  makes : (handle place : ℕ) → ((slot : ℕ) (r : Resource) → IsFreeSlot old.handles slot → IsLoadable old handle place r → load_of old handle place ≡ None → (fault : Option FetchFault) (next : LoadingWorld)
       → F (with_resource old slot handle place r) slot fault next → G (with_resource old slot handle place r) slot fault next) → LoadsResource F old handle place reply new → LoadsResource G old handle place reply new
   makes handle place made step = by_resource (resource_at old handle place) refl step
     where
-      by_load : (r : Resource) → resource_at old handle place ≡ Some r → (p : Option (ℕ × Load)) → load_of old handle place ≡ p → Made F handle place r p → Made G handle place r p
+      by_load : (r : Resource) → IsLoadable old handle place r → (p : Option (ℕ × Load)) → load_of old handle place ≡ p → Made F handle place r p → Made G handle place r p
       by_load r at None e (inl f) = inl f
       by_load r at None e (inr f) = inr (record { slot = f.slot; free = f.free; fault = f.fault; next = f.next; fetched = made f.slot r f.free at e f.fault f.next f.fetched; outcome = f.outcome })
       by_load r at (Some x) e f = f
 
-      by_size : (r : Resource) → resource_at old handle place ≡ Some r → (b : Bool) → MatchBool b (AnswersNone old reply new) (Made F handle place r (load_of old handle place)) → MatchBool b (AnswersNone old reply new) (Made G handle place r (load_of old handle place))
-      by_size r at true f = f
-      by_size r at false f = by_load r at (load_of old handle place) refl f
+      by_size : (r : Resource) → resource_at old handle place ≡ Some r → (b : Bool) → is_too_long r ≡ b → MatchBool b (AnswersNone old reply new) (Made F handle place r (load_of old handle place)) → MatchBool b (AnswersNone old reply new) (Made G handle place r (load_of old handle place))
+      by_size r at true e f = f
+      by_size r at false e f = by_load r (at, e) (load_of old handle place) refl f
 
       by_resource : (p : Option Resource) → resource_at old handle place ≡ p → MatchOption p (AnswersNone old reply new) (λ r. MatchBool (is_too_long r) (AnswersNone old reply new) (Made F handle place r (load_of old handle place)))
           → MatchOption p (AnswersNone old reply new) (λ r. MatchBool (is_too_long r) (AnswersNone old reply new) (Made G handle place r (load_of old handle place)))
       by_resource None e f = f
-      by_resource (Some r) e f = by_size r e (is_too_long r) f
+      by_resource (Some r) e f = by_size r e (is_too_long r) refl f
 
   far : (command : FarCommand) → (far_reads_file old command ≡ true → (slot : ℕ) (fault : Option FetchFault) (next : LoadingWorld) → F old slot fault next → G old slot fault next) → FarStep F old command reply new → FarStep G old command reply new
   far (FarCommand.Read pointer count) fetch step = accesses (far_read (selector_in pointer) (offset_in pointer) count) (selector_in pointer) fetch step
@@ -72,7 +72,7 @@ module _ (F G : Fetching) (L M : Loading) (old new : LoadingWorld) (reply : Repl
 
   -- with what is read only by a step that reads files
   pub turned : (command : LoadingCommand) → (reads_files old command ≡ true → (slot : ℕ) (fault : Option FetchFault) (next : LoadingWorld) → F old slot fault next → G old slot fault next)
-      → (reads_files old command ≡ true → (handle place slot : ℕ) (r : Resource) → IsFreeSlot old.handles slot → resource_at old handle place ≡ Some r → load_of old handle place ≡ None → (fault : Option FetchFault) (next : LoadingWorld)
+      → (reads_files old command ≡ true → (handle place slot : ℕ) (r : Resource) → IsFreeSlot old.handles slot → IsLoadable old handle place r → load_of old handle place ≡ None → (fault : Option FetchFault) (next : LoadingWorld)
       → F (with_resource old slot handle place r) slot fault next → G (with_resource old slot handle place r) slot fault next)
       → (reads_files old command ≡ true → (b : Bool) (file : List ℕ) (answer : Answer) → L b old file answer new → M b old file answer new)
       → FamilyStep F L old command reply new → FamilyStep G M old command reply new
@@ -220,7 +220,7 @@ is_any_step_law format old new command reply is_format is of step = record {
   files = files_stay format old new command reply step;
   step = turned (Fetches format) AnyFetches (Loads format) AnyLoads old (record new { failures = old.failures }) reply command
       (λ t slot fault next f. as_any_fetch format is_format old is of.modules slot fault next f)
-      (λ t handle place slot r free at none fault next f. as_any_fetch format is_format (with_resource old slot handle place r) (made_world old is slot free handle place r at none) of.modules slot fault next f)
+      (λ t handle place slot r free at none fault next f. as_any_fetch format is_format (with_resource old slot handle place r) (made_world old is slot free handle place r at.0 at.1 none) of.modules slot fault next f)
       (λ t b file answer f. as_any format is_format old is b (record new { failures = old.failures }) file answer f) step.step;
 }
 
@@ -242,5 +242,5 @@ fetch_fewest old next is slot fault f = (f, one_fewest is_of_read old.handles.he
 pub requests_fewest_law : RequestsFewestLaw
 requests_fewest_law old new command reply is step = turned AnyFetches FetchesFewest AnyLoads (AnyLoadsBy GivesAnyFewest) old (record new { failures = old.failures }) reply command
     (λ t slot fault next f. fetch_fewest old next is slot fault f)
-    (λ t handle place slot r free at none fault next f. fetch_fewest (with_resource old slot handle place r) next (made_world old is slot free handle place r at none) slot fault f)
+    (λ t handle place slot r free at none fault next f. fetch_fewest (with_resource old slot handle place r) next (made_world old is slot free handle place r at.0 at.1 none) slot fault f)
     (λ t b file answer f. loads_fewest old is b (record new { failures = old.failures }) file answer f) step.step

@@ -1,5 +1,5 @@
 -- The calls on resources keep what holds of every world.
-use Rattle.w16_loading.proofs.Common.{◌≡◌, ◌≢◌, ℕ, ◌+◌, ◌-◌, ◌<◌, ◌≤◌, inl, inr, ◌⊎◌, Bool, true, false, ◌&&◌, ◌==◌, length, Option, Some, None, IfSome, IsSomeAnd, is_some, slice_get, refl, sym, ap, ◌∙◌, subst, arith, eq-eqb, ne_eqb, nat_cmp, FinMap, false≢true, cases_eq, Kind, Object, object_at, IsFreeSlot, HandleCommand, rounded_size, global_lock, Member, inserted_here, inserted_other, taken_here, taken_other, with_absent_object, MOST_USES, Resource, numbered, Attributes, Owned, owned_in, owned_at, LoadingWorld, Load, Module, IsResourceOf, module_at, attributes_for, resource_at, load_of, with_resource, locked, IsLoadingWorld, IsObjectOf, IsLoad, Calls}
+use Rattle.w16_loading.proofs.Common.{◌≡◌, ◌≢◌, ℕ, ◌+◌, ◌-◌, ◌<◌, ◌≤◌, inl, inr, ◌⊎◌, Bool, true, false, ◌&&◌, ◌==◌, length, Option, Some, None, IfSome, IsSomeAnd, is_some, slice_get, refl, sym, ap, ◌∙◌, subst, arith, eq-eqb, ne_eqb, nat_cmp, FinMap, false≢true, cases_eq, Kind, Object, object_at, IsFreeSlot, HandleCommand, rounded_size, global_lock, Member, inserted_here, inserted_other, taken_here, taken_other, with_absent_object, MOST_USES, Resource, numbered, Attributes, Owned, owned_in, owned_at, LoadingWorld, Load, Module, IsResourceOf, module_at, attributes_for, is_too_long, resource_at, load_of, with_resource, locked, IsLoadingWorld, IsObjectOf, IsLoad, Calls}
 use Rattle.std.specs.FinMap as finmap
 use Rattle.w16_loading.proofs.Importers.{there_entry}
 use Rattle.w16_loading.proofs.Given.{member_place}
@@ -67,7 +67,7 @@ module _ (old : LoadingWorld) (is : IsLoadingWorld old) (slot : ℕ) (load : Loa
 
 -- A new object for a resource that isn't loaded.
 
-module _ (old : LoadingWorld) (is : IsLoadingWorld old) (slot : ℕ) (free : IsFreeSlot old.handles slot) (handle place : ℕ) (r : Resource) (at : resource_at old handle place ≡ Some r) (unloaded : load_of old handle place ≡ None) where
+module _ (old : LoadingWorld) (is : IsLoadingWorld old) (slot : ℕ) (free : IsFreeSlot old.handles slot) (handle place : ℕ) (r : Resource) (at : resource_at old handle place ≡ Some r) (short : is_too_long r ≡ false) (unloaded : load_of old handle place ≡ None) where
   abbrev made : LoadingWorld
   made = with_resource old slot handle place r
 
@@ -103,6 +103,7 @@ module _ (old : LoadingWorld) (is : IsLoadingWorld old) (slot : ℕ) (free : IsF
   first_load : (q : ℕ) (l : Load) → IsFirst q l → IsLoad made q l
   first_load q l x = subst (λ k. IsLoad made k l) (sym x.0) (subst (IsLoad made slot) (sym x.1) (record {
     resource = subst (λ p. IsSomeAnd p (λ x. IsObjectOf made slot x.kind (rounded_size x.length_in) false)) (sym at) here;
+    short = subst (λ p. IfSome p (λ x. is_too_long x ≡ false)) (sym at) short;
     used = omega arith;
     full = let most : MOST_USES ≡ 65000 = refl in omega (arith, most);
   }))

@@ -95,6 +95,10 @@ module _ (P : Answer → LoadingWorld → Type 0) (old : LoadingWorld) (good : (
   any_loaded b new file answer more fulfil (inr (inr (inr (closure, any, inl f)))) = same_world answer new f.1.1
   any_loaded b new file answer more fulfil (inr (inr (inr (closure, any, inr f)))) = fulfil closure any f
 
+-- a resource of a place that may be loaded
+abbrev pub IsLoadable : LoadingWorld → ℕ → ℕ → Resource → Type 0
+IsLoadable world handle place r = (resource_at world handle place ≡ Some r) × (is_too_long r ≡ false)
+
 -- What is to hold of the parts of a step from this world: fetches and loads by these definitions, and bytes that are written.
 pub record Parts (fetches : Fetching) (loads : Loading) (Ours : List ℕ → Type 0) (old : LoadingWorld) (P : LoadingWorld → Type 0) : Type 0 where
   pub start : P old
@@ -108,7 +112,7 @@ pub record Parts (fetches : Fetching) (loads : Loading) (Ours : List ℕ → Typ
   pub freed : (handle answer : ℕ) (new : LoadingWorld) → Frees old handle answer new → P new
   -- a load of a resource more or less, the first, and the last
   pub counted : (slot : ℕ) (load : Load) (count : ℕ) → finmap.get old.loads slot ≡ Some load → 0 < count → (load.loads ≤ MOST_USES → count ≤ MOST_USES) → P (with_count old slot load count)
-  pub made : (slot handle place : ℕ) (r : Resource) (fault : Option FetchFault) (next : LoadingWorld) → IsFreeSlot old.handles slot → resource_at old handle place ≡ Some r → load_of old handle place ≡ None
+  pub made : (slot handle place : ℕ) (r : Resource) (fault : Option FetchFault) (next : LoadingWorld) → IsFreeSlot old.handles slot → IsLoadable old handle place r → load_of old handle place ≡ None
       → fetches (with_resource old slot handle place r) slot fault next → P next
   pub locks : (handle : ℕ) (world : LoadingWorld) → P world → P (locked world handle).1
   pub last : (slot : ℕ) (load : Load) → finmap.get old.loads slot ≡ Some load → P (without_load old slot)
@@ -181,7 +185,7 @@ module _ (fetches : Fetching) (loads : Loading) (Ours : List ℕ → Type 0) (ol
       more r x there true t = let lt : x.1.loads < MOST_USES = ltb-true x.1.loads MOST_USES t in parts.counted x.0 x.1 (x.1.loads + 1) there (omega arith) (λ le. omega (arith, lt))
       more r x there false t = parts.start
 
-      fresh : (r : Resource) → resource_at old handle place ≡ Some r → load_of old handle place ≡ None → LoadsNewResource fetches old handle place r reply new → P new
+      fresh : (r : Resource) → IsLoadable old handle place r → load_of old handle place ≡ None → LoadsNewResource fetches old handle place r reply new → P new
       fresh r at none f = outcome_is (resource_outcome f.fault (handle_of r.kind f.slot) f.next old) f.outcome (turn f.fault (parts.made f.slot handle place r f.fault f.next f.free at none f.fetched))
         where
           turn : (fault : Option FetchFault) → P f.next → P (resource_outcome fault (handle_of r.kind f.slot) f.next old).1
@@ -190,21 +194,21 @@ module _ (fetches : Fetching) (loads : Loading) (Ours : List ℕ → Type 0) (ol
           turn (Some faults.NoRoom) next = parts.start
           turn (Some faults.Damaged) next = parts.start
 
-      by_load : (r : Resource) → resource_at old handle place ≡ Some r → (p : Option (ℕ × Load)) → load_of old handle place ≡ p
+      by_load : (r : Resource) → IsLoadable old handle place r → (p : Option (ℕ × Load)) → load_of old handle place ≡ p
           → MatchOption p ((((slot : ℕ) → IsFreeSlot old.handles slot → ⊥) × AnswersNone old reply new) ⊎ LoadsNewResource fetches old handle place r reply new) (λ x. (reply, new) ≡ loaded_again old r x) → P new
       by_load r at None e (inl f) = as_it_was f.1.1
       by_load r at None e (inr f) = fresh r at e f
       by_load r at (Some x) e f = outcome_is (loaded_again old r x) f (more r x (found_load old handle place x e) (nat_lt x.1.loads MOST_USES) refl)
 
-      by_size : (r : Resource) → resource_at old handle place ≡ Some r → (b : Bool) → MatchBool b (AnswersNone old reply new)
+      by_size : (r : Resource) → resource_at old handle place ≡ Some r → (b : Bool) → is_too_long r ≡ b → MatchBool b (AnswersNone old reply new)
           (MatchOption (load_of old handle place) ((((slot : ℕ) → IsFreeSlot old.handles slot → ⊥) × AnswersNone old reply new) ⊎ LoadsNewResource fetches old handle place r reply new) (λ x. (reply, new) ≡ loaded_again old r x)) → P new
-      by_size r at true f = as_it_was f.1
-      by_size r at false f = by_load r at (load_of old handle place) refl f
+      by_size r at true e f = as_it_was f.1
+      by_size r at false e f = by_load r (at, e) (load_of old handle place) refl f
 
       by_resource : (p : Option Resource) → resource_at old handle place ≡ p → MatchOption p (AnswersNone old reply new) (λ r. MatchBool (is_too_long r) (AnswersNone old reply new)
           (MatchOption (load_of old handle place) ((((slot : ℕ) → IsFreeSlot old.handles slot → ⊥) × AnswersNone old reply new) ⊎ LoadsNewResource fetches old handle place r reply new) (λ x. (reply, new) ≡ loaded_again old r x))) → P new
       by_resource None e f = as_it_was f.1
-      by_resource (Some r) e f = by_size r e (is_too_long r) f
+      by_resource (Some r) e f = by_size r e (is_too_long r) refl f
 
   resource_locked : (handle : ℕ) → LocksResource fetches old handle reply new → P new
   resource_locked handle step = by_slot (slot_of_resource old handle) step

@@ -42,7 +42,7 @@ module _ (old : LoadingWorld) (is : IsLoadingWorld old) where
         (λ closure any h. fulfilled closure (closure_is (around old) file closure any) answer new h) f;
     freed = λ handle answer new f. free_world old new is handle answer f;
     counted = λ slot load count there some few. counted_world old is slot load there count some few;
-    made = λ slot handle place r fault next free at none f. fetched_world _ (made_world old is slot free handle place r at none) slot fault next f;
+    made = λ slot handle place r fault next free at none f. fetched_world _ (made_world old is slot free handle place r at.0 at.1 none) slot fault next f;
     locks = λ handle world here. locked_world world here handle;
     last = λ slot load there. last_world old is slot load there;
   }

@@ -1,5 +1,5 @@
 -- A world follows another where its modules and loads of resources are of those that were there, and their objects with them.
-use Rattle.w16_loading.proofs.Common.{◌≡◌, ℕ, ◌+◌, ◌-◌, ◌<◌, ◌≤◌, inl, inr, ◌⊎◌, Bool, true, false, List, [], ◌∷◌, Option, Some, None, IfSome, IsSomeAnd, is_some, slice_get, refl, sym, ap, ◌∙◌, subst, AllZip, false≢true, Kind, Owned, object_at, AreHandles, rounded_size, owned_at, Member, is_named, FIRST_MODULE, MOST_MODULES, MOST_USES, Tables, Segment, Resource, numbered, LoadingWorld, Load, Module, Modules, Named, IsSegmentOf, IsResourceOf, name_of, module_at, usage, IsLoadingWorld, IsModule, IsObjectOf, IsLoad}
+use Rattle.w16_loading.proofs.Common.{◌≡◌, ℕ, ◌+◌, ◌-◌, ◌<◌, ◌≤◌, inl, inr, ◌⊎◌, Bool, true, false, List, [], ◌∷◌, Option, Some, None, IfSome, IsSomeAnd, is_some, slice_get, refl, sym, ap, ◌∙◌, subst, AllZip, false≢true, Kind, Owned, object_at, AreHandles, rounded_size, owned_at, Member, is_named, FIRST_MODULE, MOST_MODULES, MOST_USES, Tables, Segment, Resource, numbered, LoadingWorld, Load, Module, Modules, Named, IsSegmentOf, IsResourceOf, name_of, module_at, usage, IsLoadingWorld, is_too_long, IsModule, IsObjectOf, IsLoad}
 use Rattle.std.specs.FinMap as finmap
 use Rattle.w16_loading.proofs.Owners.{loaded_of, of_resource, segment_object, resource_object}
 use Rattle.w16_loading.proofs.Given.{place_member}
@@ -86,7 +86,11 @@ module _ (NewModule : ℕ → Module → Type 0) (NewLoad : ℕ → Load → Typ
       stays was =
           let before : (m : Module) × IsResourceOf old slot load.handle load.place m = loaded_of old is slot (record load { loads = was.0 }) was.1 in
           let now : (m : Module) × (module_at new.modules load.handle ≡ Some m) × SameModule m before.0 = f.still slot load before.0 e before.1.loaded in
+          let sound : IsLoad old slot (record load { loads = was.0 }) = subst (λ p. IfSome p (IsLoad old slot)) was.1 (is.loads slot) in
           record {
+            short = subst (λ p. IfSome (elim p as (λ _. Option Resource) [ None ↦ None | Some n ↦ numbered n.tables.resources load.place ]) (λ r. is_too_long r ≡ false)) (sym now.1)
+                (subst (λ (t : Tables). IfSome (numbered t.resources load.place) (λ r. is_too_long r ≡ false)) (sym now.2.tables)
+                (subst (λ p. IfSome (elim p as (λ _. Option Resource) [ None ↦ None | Some n ↦ numbered n.tables.resources load.place ]) (λ r. is_too_long r ≡ false)) before.1.loaded sound.short));
             resource = subst (λ p. IsSomeAnd (elim p as (λ _. Option Resource) [ None ↦ None | Some n ↦ numbered n.tables.resources load.place ]) (λ r. IsObjectOf new slot r.kind (rounded_size r.length_in) false)) (sym now.1)
                 (subst (λ (t : Tables). IsSomeAnd (numbered t.resources load.place) (λ r. IsObjectOf new slot r.kind (rounded_size r.length_in) false)) (sym now.2.tables)
                 (turn (numbered before.0.tables.resources load.place) (of_resource old is slot load.handle load.place before.0 before.1)));

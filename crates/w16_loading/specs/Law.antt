@@ -32,7 +32,7 @@ use Rattle.w16_loading.specs.Load.Answer.{Says, StoreFails}
 use Rattle.w16_loading.specs.Replies.{Reply}
 use Rattle.w16_loading.specs.Fetch.{Fetches, read_of, segment_bytes, is_code}
 use Rattle.w16_loading.specs.Free.{Go, Frees, used_less}
-use Rattle.w16_loading.specs.Resource.{resource_at}
+use Rattle.w16_loading.specs.Resource.{is_too_long, resource_at}
 use Rattle.w16_loading.specs.AnyStore.{AnyStep, AnyLoads, reads_files}
 use Rattle.w16_loading.specs.Families.{LoadingCommand, IsLoadingCommand, HandleStep, FarStep, LoadingStep}
 
@@ -51,6 +51,7 @@ pub record IsModule (world : LoadingWorld) (handle : ℕ) (m : Module) : Type 0 
 
 pub record IsLoad (world : LoadingWorld) (slot : ℕ) (load : Load) : Type 0 where
   pub resource : IsSomeAnd (resource_at world load.handle load.place) (λ r. IsObjectOf world slot r.kind (rounded_size r.length_in) false)
+  pub short : IfSome (resource_at world load.handle load.place) (λ r. is_too_long r ≡ false)
   pub used : 0 < load.loads
   pub full : load.loads ≤ MOST_USES
 

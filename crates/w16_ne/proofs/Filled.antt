@@ -6,7 +6,7 @@ use Rattle.w16_ne.specs.Resources.{Entry}
 left_out : (k : Label) (ts : List Typed) → filled ((k, []) ∷ ts) ≡ filled ts
 left_out k ts = refl
 
-stays : (k : Label) (r : Entry) (rs : List Entry) (ts : List Typed) → filled ((k, r ∷ rs) ∷ ts) ≡ (k, r ∷ rs) ∷ filled ts
+pub stays : (k : Label) (r : Entry) (rs : List Entry) (ts : List Typed) → filled ((k, r ∷ rs) ∷ ts) ≡ (k, r ∷ rs) ∷ filled ts
 stays k r rs ts = let some : nat_lt 0 (length (r ∷ rs)) ≡ true = grind (arith, nat_tests) in rw some refl
 
 abbrev many : Typed → ℕ

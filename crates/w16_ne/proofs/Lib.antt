@@ -7,6 +7,7 @@ pub mod Bundles
 pub mod Listed
 pub mod Blocks
 pub mod Places
+pub mod Firsts
 pub mod Pieces
 pub mod Windows
 pub mod Filled

@@ -9,18 +9,18 @@ count_of g = g.count
 abbrev many : Typed → ℕ
 many t = length t.1
 
-total_is : (g : Group) (gs : List Group) → total (g ∷ gs) ≡ g.count + total gs
+pub total_is : (g : Group) (gs : List Group) → total (g ∷ gs) ≡ g.count + total gs
 total_is g gs = sum_by-cons count_of g gs
 
 -- the rows that are left behind a block's
 module _ (g : Group) (gs : List Group) (rows : List Row) (e : total (g ∷ gs) ≡ length rows) where
-  fits : g.count ≤ length rows
+  pub fits : g.count ≤ length rows
   fits = omega (arith, e, total_is g gs)
 
-  left : total gs ≡ length (drop g.count rows)
+  pub left : total gs ≡ length (drop g.count rows)
   left = omega (arith, e, total_is g gs, length-drop g.count rows)
 
-  cut : length (take g.count rows) ≡ g.count
+  pub cut : length (take g.count rows) ≡ g.count
   cut = let fit = fits in omega (arith, fit, length-take g.count rows)
 
 module _ (texts : List ℕ) (shift : ℕ) where

@@ -1,7 +1,9 @@
 -- Resources are read exactly where they are.
-use Rattle.w16_ne.proofs.Common.{◌≡◌, ◌≢◌, ℕ, zero, suc, ◌+◌, ◌-◌, ◌*◌, ◌^◌, ◌≤◌, ◌<◌, ◌⊎◌, inl, inr, Bool, true, false, cond, ltb, eqb, List, [], ◌∷◌, length, take, drop, Option, Some, None, Ok, Err, refl, sym, ap, subst, ◌∙◌, arith, nat_tests, Block, Reading, ◌>>=◌, bytes_or, reaches, word_of, each, resource_table, resident_names, text_at, Label, Number, Text, Typed, block_at, blocks_from, blocks_at, label_at, resource_at, resources_of, typed_at, all_typed, is_placed, are_placed, are_all_placed, resource_count, filled, typed_in, resources_at, IsLabel, IsResource, AreResources, IsBlock, AreBlocks, IsResourceTable, HasResources}
+use Rattle.w16_ne.proofs.Common.{◌≡◌, ◌≢◌, ℕ, zero, suc, ◌+◌, ◌-◌, ◌*◌, ◌^◌, ◌≤◌, ◌<◌, ◌⊎◌, inl, inr, Bool, true, false, cond, ltb, eqb, List, [], ◌∷◌, length, take, drop, Option, Some, None, Ok, Err, slice_get, map, ◌++◌, refl, sym, ap, subst, ◌∙◌, arith, nat_tests, listed_resources, Block, Reading, ◌>>=◌, bytes_or, reaches, word_of, each, resource_table, resident_names, text_at, Label, Number, Text, Typed, block_at, blocks_from, blocks_at, label_at, resource_at, resources_of, typed_at, all_typed, is_placed, are_placed, are_all_placed, resource_count, filled, typed_in, resources_at, IsLabel, IsResource, AreResources, IsBlock, AreBlocks, IsResourceTable, HasResources}
 use Rattle.w16_ne.specs.declared.fault.NeFault.TheVariants as faults
 use Rattle.w16_ne.specs.Resources.{Entry}
+use Rattle.w16_ne.specs.Modules.{resource_at as resource_in}
+use Rattle.w16_ne.proofs.Filled.{stays}
 use Rattle.w16_ne.proofs.Until.{reads_ok, goes_past}
 use Rattle.w16_ne.proofs.NamesFormat.{cut_word, ends_here, goes_on_past}
 use Rattle.w16_ne.proofs.SegmentsFormat.{bind_ok, passed, reached, reaches_there, word_here}
@@ -308,3 +310,39 @@ module _ (file header : List ℕ) (ne : ℕ) (types : List Typed) where
   unfolding resources_at
   resources_read (inl (none, are)) = let same : eqb (resource_table header) (resident_names header) ≡ true = grind (arith, nat_tests, none) in rw (same, are) refl
   resources_read (inr (some, is)) = let apart : eqb (resource_table header) (resident_names header) ≡ false = grind (arith, nat_tests, some) in rw apart (table_read file (ne + resource_table header) types is)
+
+-- a resource that has bytes begins in the file
+module _ (file : List ℕ) (table shift : ℕ) where
+  abbrev pub Begins : Label × Entry → Type 0
+  Begins x = 0 < x.1.len → x.1.place < length file
+
+  whole_unit : (w unit len : ℕ) → len ≡ w * unit → 0 < len → unit ≤ len
+  whole_unit zero unit len e some = absurd (omega arith)
+  whole_unit (suc w) unit len e some = omega arith
+
+  one_begins : (at : ℕ) (r : Entry) → IsResource file table shift at r → 0 < r.len → r.place < length file
+  one_begins at r is some = by is.placed
+    where
+      by : (r.len ≡ 0) ⊎ (r.place + r.len < length file + 2 ^ shift) → r.place < length file
+      by (inl none) = absurd (omega arith)
+      by (inr less) = let unit = whole_unit (word_of file (at + 2)) (2 ^ shift) r.len is.len some in omega arith
+
+  block_begins : (l : Label) (at : ℕ) (rs : List Entry) (ys : List (Label × Entry)) → AreResources file table shift at rs → ((i : ℕ) (x : Label × Entry) → slice_get ys i ≡ Some x → Begins x)
+      → (i : ℕ) (x : Label × Entry) → slice_get (map (λ (r : Entry). (l, r)) rs ++ ys) i ≡ Some x → Begins x
+  block_begins l at [] ys are rest i x h = rest i x h
+  block_begins l at (r ∷ rs) ys are rest zero x h = let same : (l, r) ≡ x = cc in subst Begins same (one_begins at r are.0)
+  block_begins l at (r ∷ rs) ys are rest (suc i) x h = block_begins l (at + 12) rs ys are.1 rest i x h
+
+  blocks_begin : (ts : List Typed) (at : ℕ) → AreBlocks file table shift at ts → (i : ℕ) (x : Label × Entry) → slice_get (listed_resources (filled ts)) i ≡ Some x → Begins x
+  blocks_begin [] at are i x h = cc
+  blocks_begin ((l, []) ∷ ts) at are i x h = blocks_begin ts (at + 8 + 12 * 0) are.1 i x h
+  blocks_begin ((l, r ∷ rs) ∷ ts) at are i x h =
+      let here = ap (λ us. slice_get (listed_resources us) i) (stays l r rs ts) in
+      block_begins l (at + 8) (r ∷ rs) (listed_resources (filled ts)) are.0.are (blocks_begin ts (at + 8 + 12 * length (r ∷ rs)) are.1) i x (sym here ∙ h)
+
+pub resources_begin : (file header : List ℕ) (ne : ℕ) (types : List Typed) → HasResources file ne header types → (place : ℕ) (x : Label × Entry) → resource_in types place ≡ Some x → 0 < x.1.len → x.1.place < length file
+resources_begin file header ne types has zero x h = cc
+resources_begin file header ne types (inl (none, are)) (suc i) x h = let said = ap (λ ts. resource_in ts (suc i)) are in cc
+resources_begin file header ne types (inr (some, is)) (suc i) x h =
+    let table = ne + resource_table header in
+    blocks_begin file table (word_of file table) is.blocks (table + 2) is.are i x (ap (λ ts. resource_in ts (suc i)) (sym is.filled) ∙ h)

@@ -1,8 +1,9 @@
 -- The resource table: a shift word; blocks of a type, each a type word, a count word and a reserved double word, then 12 bytes for each resource:
 -- offset, length, flags, id and two reserved words; a type of 0 ends it (volume 4).
-use Rattle.std.specs.Prelude.{ℕ, zero, suc, ◌+◌, ◌-◌, ◌*◌, ◌^◌, List, [], ◌∷◌, length, Option, Some, None, Ok, Err, ◌==◌, nat_lt, if◌then◌else◌}
+use Rattle.std.specs.Prelude.{ℕ, zero, suc, ◌+◌, ◌-◌, ◌*◌, ◌^◌, Bool, false, List, [], ◌∷◌, length, Option, Some, None, Ok, Err, ◌==◌, nat_lt, if◌then◌else◌}
 use Rattle.w16_ne.specs.declared.fault.NeFault.TheVariants.{Truncated, BadTable, Unsupported}
 use Rattle.std.specs.List.{sum_by, filter}
+use Rattle.w16_store.specs.Names.{is_named}
 use Rattle.w16_ne.specs.declared.resource_places.Resource.{Resource}
 use Rattle.w16_ne.specs.declared.resource_places.ResourceName.{ResourceName}
 use Rattle.w16_ne.specs.declared.resource_places.ResourceName.TheVariants as names
@@ -19,6 +20,12 @@ pub data Label : Type 0 where
 abbrev pub label_of : ResourceName → Label
 label_of (names.Number value) = Number value
 label_of (names.Text text) = Text text.now
+
+-- whether one is another: the same number, or in any case of letters the same text
+abbrev pub is_label : Label → Label → Bool
+is_label (Number m) (Number n) = m == n
+is_label (Text s) (Text t) = is_named s t
+is_label other label = false
 
 -- a resource: its id, the offset and the length of its bytes, and its flags
 pub record Entry : Type 0 where

@@ -1,11 +1,11 @@
 //! A module as its file has it.
-ghost use Rattle.std.specs.Prelude.{◌≡◌, ◌<◌, ◌≤◌, ◌-◌, ◌^◌, Some, length, slice_get, option_map};
+ghost use Rattle.std.specs.Prelude.{◌≡◌, ℕ, ◌<◌, ◌≤◌, ◌+◌, ◌-◌, ◌^◌, ◌&&◌, List, Some, Ok, IfSome, length, position, slice_get, option_map};
 ghost use Rattle.std.specs.Str.{str_to_ascii_uppercase};
 ghost use Rattle.w16_ne.specs.Header.{is_library};
 ghost use Rattle.w16_ne.specs.Names.{ordinal_in};
 ghost use Rattle.w16_ne.specs.Segments.{IsSized};
-ghost use Rattle.w16_ne.specs.Resources.{label_of, entry_of, resource_count};
-ghost use Rattle.w16_ne.specs.Modules.{imported_place, entry_at, resource_at};
+ghost use Rattle.w16_ne.specs.Resources.{label_of, entry_of, is_label, resource_count};
+ghost use Rattle.w16_ne.specs.Modules.{imported_place, entry_at, listed_resources, resource_at, tables_at};
 
 use crate::entry_table::Entry;
 use crate::names::Names;
@@ -183,16 +183,27 @@ impl Module {
         self.references.name(number - 1)
     }
 
-    /// A resource by its place in the table, from 1, with its type; none where there are fewer.
+    /// A resource by its place in the table, from 1, with its type; none where there are fewer. In the file that the module is read from, one that
+    /// has bytes begins before the end.
     pub fn resource(&self, place: usize) -> Option<(ResourceName<'_>, Resource<'_>)>
-        ensures { option_map (λ found. (label_of found.0, entry_of found.1)) result ≡ resource_at self.now.resources place }
+        ensures found { option_map (λ found. (label_of found.0, entry_of found.1)) result ≡ resource_at self.now.resources place }
+        ensures inside { (file : List ℕ) → tables_at (Some file) ≡ Ok self.now → IfSome result (λ found. 0 < found.1.len → found.1.place < length file) }
     {
         self.resources.resource(place)
     }
 
+    /// `FindResource`: the place, from 1, of the first resource of a type and an id, each compared as a number or, in any case of letters, as a text;
+    /// none where there is none. It goes over the types and over the resources of those types that match, once.
+    pub fn place_of(&self, kind: ResourceName<'_>, id: ResourceName<'_>) -> Option<u16>
+        ensures { result ≡ option_map (λ i. i + 1) (position (λ r. is_label r.1.id (label_of id.entry) && is_label r.0 (label_of kind.entry)) (listed_resources self.now.resources)) }
+    {
+        self.resources.place_of(kind, id)
+    }
+
     /// How many resources there are, at most 65,535.
     pub fn resource_count(&self) -> usize
-        ensures { result ≡ resource_count self.now.resources }
+        ensures count { result ≡ resource_count self.now.resources }
+        ensures few { result ≤ 65535 }
     {
         self.resources.len()
     }

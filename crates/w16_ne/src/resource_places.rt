@@ -1,8 +1,8 @@
 //! Resources by their place among those of all types.
-ghost use Rattle.std.specs.Prelude.{◌≡◌, ℕ, ◌<◌, ◌≤◌, ◌^◌, [], option_map};
-ghost use Rattle.w16_ne.specs.Resources.{label_of, entry_of, resource_count};
-ghost use Rattle.w16_ne.specs.Rows.{HasLabel, label_in, entry_in, kind_at};
-ghost use Rattle.w16_ne.specs.Modules.{resource_at};
+ghost use Rattle.std.specs.Prelude.{◌≡◌, ℕ, ◌<◌, ◌≤◌, ◌+◌, ◌^◌, ◌&&◌, [], All, IfSome, length, option_map, position};
+ghost use Rattle.w16_ne.specs.Resources.{label_of, entry_of, is_label, resource_count};
+ghost use Rattle.w16_ne.specs.Rows.{HasLabel, label_in, entry_in, grouped, kind_at, total};
+ghost use Rattle.w16_ne.specs.Modules.{listed_resources, resource_at};
 
 use crate::flags::ResourceFlags;
 use crate::resource_rows::{Group, Row, Rows};
@@ -10,6 +10,7 @@ use crate::segment_table::unit;
 use crate::text_window::text_in;
 use std::alloc::Global;
 use std::marker::Model;
+use w16_store::is_named;
 
 /// A type or an id of resources.
 #[derive(Clone, Copy, Debug)]
@@ -41,7 +42,7 @@ pub struct ResourceTable {
 }
 
 impl Model for ResourceTable {
-    ghost use Rattle.std.specs.Prelude.{◌≤◌, List};
+    ghost use Rattle.std.specs.Prelude.{◌≤◌, List, length};
     ghost use Rattle.w16_ne.specs.Resources.{Typed};
     ghost use Rattle.w16_ne.specs.Rows.{AreRows, grouped};
 
@@ -49,7 +50,7 @@ impl Model for ResourceTable {
 
     ghost view = { λ s. grouped s.texts.items s.shift s.rows.groups.items s.rows.rows.items };
 
-    ghost invariant = { λ s. (s.shift ≤ 15) × AreRows s.texts.items s.rows };
+    ghost invariant = { λ s. (s.shift ≤ 15) × AreRows s.texts.items s.rows × (length s.rows.rows.items ≤ 65535) };
 }
 
 impl ResourceTable {
@@ -67,9 +68,10 @@ impl ResourceTable {
         }
     }
 
-    /// How many there are.
+    /// How many there are, at most 65,535.
     pub fn len(&self) -> usize
-        ensures { result ≡ resource_count self.now }
+        ensures count { result ≡ resource_count self.now }
+        ensures few { result ≤ 65535 }
     {
         self.rows.rows.len()
     }
@@ -84,6 +86,71 @@ impl ResourceTable {
         let kind = label(texts, kind_at(self.rows.groups.as_slice(), i));
         Some((kind, entry(texts, self.shift, row)))
     }
+
+    /// The place, from 1, of the first resource of a type and an id; none where there is none.
+    pub fn place_of(&self, kind: ResourceName<'_>, id: ResourceName<'_>) -> Option<u16>
+        ensures { result ≡ option_map (λ i. i + 1) (position (λ r. is_label r.1.id (label_of id.entry) && is_label r.0 (label_of kind.entry)) (listed_resources self.now)) }
+    {
+        let texts = self.texts.as_slice();
+        let groups = self.rows.groups.as_slice();
+        let i = place_among(texts, groups, self.rows.rows.as_slice(), kind, id)?;
+        Some((i + 1) as u16)
+    }
+}
+
+/// Whether a name is another: the same number, or in any case of letters the same text.
+fn is_label(name: ResourceName<'_>, other: ResourceName<'_>) -> bool
+    ensures { result ≡ is_label (label_of name.entry) (label_of other.entry) }
+{
+    match (name, other) {
+        (ResourceName::Number(a), ResourceName::Number(b)) => a == b,
+        (ResourceName::Text(a), ResourceName::Text(b)) => is_named(a, b),
+        _ => false,
+    }
+}
+
+/// The place, from 0, of the first row of an id in a block, whose type word has to name a type.
+fn place_in(
+    texts: &[u8],
+    group: Group,
+    rows: &[Row],
+    kind: ResourceName<'_>,
+    id: ResourceName<'_>,
+) -> Option<usize>
+    requires kind { HasLabel texts.now group.kind }
+    requires ids { All (λ r. HasLabel texts.now r.id) rows.now }
+    ensures { result ≡ position (λ r. is_label (label_in texts.now r.id) (label_of id.entry) && is_label (label_in texts.now group.kind) (label_of kind.entry)) rows.now }
+{
+    if !is_label(label(texts, group.kind), kind) {
+        return None;
+    }
+    rows.iter()
+        .position(|row| is_label(label(texts, row.id), id))
+}
+
+/// The place, from 0, of the first row of an id in the blocks of a type.
+fn place_among(
+    texts: &[u8],
+    groups: &[Group],
+    rows: &[Row],
+    kind: ResourceName<'_>,
+    id: ResourceName<'_>,
+) -> Option<usize>
+    requires whole { total groups.now ≡ length rows.now }
+    requires kinds { All (λ g. HasLabel texts.now g.kind) groups.now }
+    requires ids { All (λ r. HasLabel texts.now r.id) rows.now }
+    ensures found { (shift : ℕ) → result ≡ position (λ r. is_label r.1.id (label_of id.entry) && is_label r.0 (label_of kind.entry)) (listed_resources (grouped texts.now shift groups.now rows.now)) }
+    ensures inside { IfSome result (λ i. i < length rows.now) }
+{
+    let mut start = 0;
+    for group in groups {
+        let end = start + usize::from(group.count);
+        if let Some(i) = place_in(texts, *group, &rows[start..end], kind, id) {
+            return Some(start + i);
+        }
+        start = end;
+    }
+    None
 }
 
 /// What a type word or an id word names.

@@ -10,7 +10,7 @@ use Rattle.w16_script.specs.declared.arguments.Parameter.TheVariants as p
 use Rattle.w16_model.specs.Calls as calls
 use Rattle.w16_model.specs.Far as far
 use Rattle.w16_loading.specs.Families as families
-use Rattle.w16_loading.specs.Families.LoadingCommand.{OfHandles, OfResizes, OfFar, OfModules}
+use Rattle.w16_loading.specs.Families.LoadingCommand.{OfHandles, OfResizes, OfFar, OfModules, OfResources}
 use Rattle.w16_loading.specs.File as files
 use Rattle.w16_loading.specs.Resizes as resizes
 use Rattle.w16_machine.specs.LocalCalls as locals
@@ -132,6 +132,9 @@ of_far command = OfLoading (OfFar command)
 abbrev of_modules : families.ModuleCommand → Command
 of_modules command = OfLoading (OfModules command)
 
+abbrev of_resources : families.ResourceCommand → Command
+of_resources command = OfLoading (OfResources command)
+
 abbrev pub row_of : Name → Row
 row_of name.GlobalAlloc = row of_handles (codes "GlobalAlloc") (p.Word ∷ p.Dword ∷ []) calls.HandleCommand.GlobalAlloc
 row_of name.GlobalFree = row of_handles (codes "GlobalFree") (p.Word ∷ []) calls.HandleCommand.GlobalFree
@@ -160,6 +163,11 @@ row_of name.FreeModule = row of_modules (codes "FreeModule") (p.Word ∷ []) fam
 row_of name.GetModuleHandle = row of_modules (codes "GetModuleHandle") (p.Text ∷ []) families.ModuleCommand.GetModuleHandle
 row_of name.GetModuleUsage = row of_modules (codes "GetModuleUsage") (p.Word ∷ []) families.ModuleCommand.GetModuleUsage
 row_of name.GetProcAddress = row of_modules (codes "GetProcAddress") (p.Word ∷ p.Label ∷ []) families.ModuleCommand.GetProcAddress
+row_of name.FindResource = row of_resources (codes "FindResource") (p.Word ∷ p.Label ∷ p.Label ∷ []) families.ResourceCommand.FindResource
+row_of name.LoadResource = row of_resources (codes "LoadResource") (p.Word ∷ p.Word ∷ []) families.ResourceCommand.LoadResource
+row_of name.SizeofResource = row of_resources (codes "SizeofResource") (p.Word ∷ p.Word ∷ []) families.ResourceCommand.SizeofResource
+row_of name.LockResource = row of_resources (codes "LockResource") (p.Word ∷ []) families.ResourceCommand.LockResource
+row_of name.FreeResource = row of_resources (codes "FreeResource") (p.Word ∷ []) families.ResourceCommand.FreeResource
 row_of name.LocalInit = row OfLocals (codes "LocalInit") (p.Word ∷ p.Word ∷ p.Dword ∷ []) locals.LocalCommand.LocalInit
 row_of name.LocalAlloc = row OfLocals (codes "LocalAlloc") (p.Word ∷ p.Word ∷ []) locals.LocalCommand.LocalAlloc
 row_of name.LocalReAlloc = row OfLocals (codes "LocalReAlloc") (p.Word ∷ p.Word ∷ p.Word ∷ []) locals.LocalCommand.LocalReAlloc
@@ -178,6 +186,7 @@ abbrev pub all_names : List Name
 all_names = name.GlobalAlloc ∷ name.GlobalFree ∷ name.GlobalLock ∷ name.GlobalUnlock ∷ name.GlobalSize ∷ name.GlobalFlags ∷ name.GlobalHandle ∷ name.GetSelectorBase ∷ name.GetSelectorLimit
     ∷ name.GlobalCompact ∷ name.GlobalReAlloc ∷ name.GlobalDiscard ∷ name.GlobalLRUNewest ∷ name.GlobalLRUOldest ∷ name.Moved ∷ name.Walk ∷ name.Read ∷ name.Write ∷ name.Fill
     ∷ name.Builtin ∷ name.LoadModule ∷ name.LoadLibrary ∷ name.FreeLibrary ∷ name.FreeModule ∷ name.GetModuleHandle ∷ name.GetModuleUsage ∷ name.GetProcAddress
+    ∷ name.FindResource ∷ name.LoadResource ∷ name.SizeofResource ∷ name.LockResource ∷ name.FreeResource
     ∷ name.LocalInit ∷ name.LocalAlloc ∷ name.LocalReAlloc ∷ name.LocalDiscard ∷ name.LocalFree ∷ name.LocalLock ∷ name.LocalUnlock ∷ name.LocalSize ∷ name.LocalFlags ∷ name.LocalHandle ∷ name.LocalCompact ∷ name.DS ∷ []
 
 abbrev pub text_of : Name → List ℕ

@@ -60,6 +60,8 @@ fn with_word<'a>(name: Name, word: u16) -> Option<Call<'a>>
         Name::FreeLibrary => Some(Call::FreeLibrary { handle: word }),
         Name::FreeModule => Some(Call::FreeModule { handle: word }),
         Name::GetModuleUsage => Some(Call::GetModuleUsage { handle: word }),
+        Name::LockResource => Some(Call::LockResource { handle: word }),
+        Name::FreeResource => Some(Call::FreeResource { handle: word }),
         Name::LocalDiscard => Some(Call::LocalDiscard { name: word }),
         Name::LocalFree => Some(Call::LocalFree { name: word }),
         Name::LocalLock => Some(Call::LocalLock { name: word }),
@@ -69,6 +71,29 @@ fn with_word<'a>(name: Name, word: u16) -> Option<Call<'a>>
         Name::LocalHandle => Some(Call::LocalHandle { pointer: word }),
         Name::LocalCompact => Some(Call::LocalCompact { size: word }),
         Name::DS => Some(Call::DS { selector: word }),
+        _ => None,
+    }
+}
+
+/// The call of this name with two words, if that is what it takes.
+fn with_words<'a>(name: Name, first: u16, second: u16) -> Option<Call<'a>>
+    ensures found { IfSome result (λ call. (parameters_of name ≡ p.Word ∷ p.Word ∷ []) × (command_of call ≡ command_with name (Argument.Word first ∷ Argument.Word second ∷ []))) }
+    ensures call { IfSome result (λ call. IsCall call) }
+    ensures none { IfNone result (parameters_of name ≡ p.Word ∷ p.Word ∷ [] → ⊥) }
+{
+    match name {
+        Name::LocalAlloc => Some(Call::LocalAlloc {
+            flags: first,
+            size: second,
+        }),
+        Name::LoadResource => Some(Call::LoadResource {
+            handle: first,
+            place: second,
+        }),
+        Name::SizeofResource => Some(Call::SizeofResource {
+            handle: first,
+            place: second,
+        }),
         _ => None,
     }
 }
@@ -153,14 +178,8 @@ fn call<'a>(
                 flags,
             })
         }
-        Name::Moved => {
-            nothing(text, registers)?;
-            Some(Call::Moved)
-        }
-        Name::Walk => {
-            nothing(text, registers)?;
-            Some(Call::Walk)
-        }
+        Name::Moved => nothing(text, registers).map(|()| Call::Moved),
+        Name::Walk => nothing(text, registers).map(|()| Call::Walk),
         Name::Read | Name::Write | Name::Fill => far_access(name, text, registers, room),
         Name::LocalInit => {
             let (selector, start, end) = three::<u16, u16, u32>(text, registers)?;
@@ -170,9 +189,9 @@ fn call<'a>(
                 end,
             })
         }
-        Name::LocalAlloc => {
-            let (flags, size) = two::<u16, u16>(text, registers)?;
-            Some(Call::LocalAlloc { flags, size })
+        Name::LocalAlloc | Name::LoadResource | Name::SizeofResource => {
+            let (first, second) = two::<u16, u16>(text, registers)?;
+            with_words(name, first, second)
         }
         Name::LocalReAlloc => {
             let (name, size, flags) = three::<u16, u16, u16>(text, registers)?;
@@ -181,6 +200,10 @@ fn call<'a>(
         Name::GetProcAddress => {
             let (handle, label) = two::<u16, Label<'_>>(text, registers)?;
             Some(Call::GetProcAddress { handle, label })
+        }
+        Name::FindResource => {
+            let (handle, name, kind) = three::<u16, Label<'_>, Label<'_>>(text, registers)?;
+            Some(Call::FindResource { handle, name, kind })
         }
         Name::Builtin | Name::LoadModule | Name::LoadLibrary | Name::GetModuleHandle => {
             let argument = one::<&[u8]>(text, registers)?;

@@ -32,6 +32,11 @@ pub enum Name {
     GetModuleHandle,
     GetModuleUsage,
     GetProcAddress,
+    FindResource,
+    LoadResource,
+    SizeofResource,
+    LockResource,
+    FreeResource,
     LocalInit,
     LocalAlloc,
     LocalReAlloc,
@@ -85,6 +90,11 @@ fn spelling(name: Name) -> &'static [u8]
         Name::GetModuleHandle => b"GetModuleHandle",
         Name::GetModuleUsage => b"GetModuleUsage",
         Name::GetProcAddress => b"GetProcAddress",
+        Name::FindResource => b"FindResource",
+        Name::LoadResource => b"LoadResource",
+        Name::SizeofResource => b"SizeofResource",
+        Name::LockResource => b"LockResource",
+        Name::FreeResource => b"FreeResource",
         Name::LocalInit => b"LocalInit",
         Name::LocalAlloc => b"LocalAlloc",
         Name::LocalReAlloc => b"LocalReAlloc",
@@ -97,6 +107,29 @@ fn spelling(name: Name) -> &'static [u8]
         Name::LocalHandle => b"LocalHandle",
         Name::LocalCompact => b"LocalCompact",
         Name::DS => b"DS",
+    }
+}
+
+/// The only command of 12 bytes that this word may name: a letter or two tell.
+fn guess_twelve(word: &[u8]) -> Option<Name>
+    requires { length word.now ≡ 12 }
+    ensures only { IfSome result (λ guess. (name : Name) → word.now ≡ text_of name → name ≡ guess) }
+    ensures none { IfNone result ((name : Name) → word.now ≡ text_of name → ⊥) }
+{
+    match word[11] {
+        b'k' => Some(Name::GlobalUnlock),
+        b'c' => Some(Name::LocalReAlloc),
+        b'd' => Some(Name::LocalDiscard),
+        b't' => Some(Name::LocalCompact),
+        b'e' => match word[2] {
+            b'o' => Some(Name::GlobalHandle),
+            b'n' => Some(Name::FindResource),
+            b'a' => Some(Name::LoadResource),
+            b'c' => Some(Name::LockResource),
+            b'e' => Some(Name::FreeResource),
+            _ => None,
+        },
+        _ => None,
     }
 }
 
@@ -117,14 +150,7 @@ fn guess_long(word: &[u8]) -> Option<Name>
             },
             _ => None,
         },
-        12 => match word[11] {
-            b'k' => Some(Name::GlobalUnlock),
-            b'e' => Some(Name::GlobalHandle),
-            b'c' => Some(Name::LocalReAlloc),
-            b'd' => Some(Name::LocalDiscard),
-            b't' => Some(Name::LocalCompact),
-            _ => None,
-        },
+        12 => guess_twelve(word),
         13 => match word[6] {
             b'C' => Some(Name::GlobalCompact),
             b'R' => Some(Name::GlobalReAlloc),
@@ -134,6 +160,7 @@ fn guess_long(word: &[u8]) -> Option<Name>
         14 => match word[3] {
             b'M' => Some(Name::GetModuleUsage),
             b'P' => Some(Name::GetProcAddress),
+            b'e' => Some(Name::SizeofResource),
             _ => None,
         },
         15 => match word[9] {

@@ -1,5 +1,5 @@
 //! Texts that words share: references to one name, and types and ids whose texts overlap.
-use super::read;
+use super::{changed, read};
 use std::alloc::Global;
 use w16_ne::{Module, NeFault, ResourceName};
 
@@ -84,4 +84,26 @@ fn texts_are_shared(rt: HostRuntime) {
 fn the_last_text_is_cut(rt: HostRuntime) {
     let less = &SHARED[..SHARED.len().saturating_sub(1)];
     assert!(rt; read(rt.alloc(), less).err() == Some(NeFault::BadTable));
+}
+
+/// Whether a module finds `Y` under either type, in any case of letters, and the number 7, and nothing under the type that is empty.
+fn finds_ids(module: &Module) -> bool {
+    let kind = ResourceName::Text(b"x\x01y");
+    let id = ResourceName::Text(b"y");
+    module.place_of(kind, id) == Some(1)
+        && module.place_of(kind, ResourceName::Number(7)) == Some(2)
+        && module.place_of(ResourceName::Number(5), id) == Some(3)
+        && module.place_of(ResourceName::Number(3), id).is_none()
+}
+
+/// The same of the file whose last resource has the id `Y` too.
+fn ids_are_found(alloc: Global) -> Result<bool, NeFault> {
+    let file = changed(alloc, SHARED, 0xcb, 0x42)?;
+    let module = read(alloc, file.as_slice())?;
+    Ok(finds_ids(&module))
+}
+
+#[test]
+fn resources_are_found(rt: HostRuntime) {
+    assert!(rt; ids_are_found(rt.alloc()) == Ok(true));
 }

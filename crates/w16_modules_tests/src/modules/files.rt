@@ -1,7 +1,8 @@
 //! Module files, which are made from text.
 //!
 //! A text of files names each by a sample with its changes, and commas divide them: `TLIB.DLL C6=01 C7=00 as=A.DLL`. A change is a byte at an offset,
-//! both hexadecimal, `len=` and the number of bytes that are left, or `as=` and another name.
+//! both hexadecimal, `as=` and another name, or `len=` and how many bytes it has then, those that weren't there zeros. Behind its last byte come
+//! `put=` and a text, and words of a table of resources, hexadecimal: `block=TYPE.COUNT`, and as often `res=PLACE.LENGTH.FLAGS.ID`, in units.
 use std::alloc::{AllocError, Global};
 use w16_store::MemStore;
 
@@ -105,6 +106,16 @@ fn decimal(digits: &str) -> usize {
     u32::from_str_radix(digits, 10).unwrap_or(u32::MAX) as usize
 }
 
+/// Puts words, which dots divide, behind others, and zeros up to so many.
+fn put_words(bytes: &mut Vec<u8>, text: &str, count: usize) -> Result<(), AllocError> {
+    let mut words = text.split('.');
+    for _ in 0..count {
+        let word = (hexadecimal(words.next().unwrap_or("0")) % 65_536) as u16;
+        bytes.extend_from_slice(&word.to_le_bytes())?;
+    }
+    Ok(())
+}
+
 impl<'a> File<'a> {
     /// Puts another byte at an offset.
     fn put(&mut self, at: &str, byte: &str) {
@@ -114,12 +125,16 @@ impl<'a> File<'a> {
     }
 
     /// Makes a change, which has a key and a value.
-    fn change(&mut self, key: &str, value: &'a str) {
+    fn change(&mut self, key: &str, value: &'a str) -> Result<(), AllocError> {
         match key {
+            "block" => return put_words(&mut self.bytes, value, 4),
+            "res" => return put_words(&mut self.bytes, value, 6),
+            "put" => return self.bytes.extend_from_slice(value.as_bytes()),
+            "len" => return self.bytes.resize(decimal(value), 0),
             "as" => self.name = value,
-            "len" => self.bytes.truncate(decimal(value)),
             _ => self.put(key, value),
         }
+        Ok(())
     }
 }
 
@@ -130,7 +145,7 @@ pub fn file_of(alloc: Global, text: &str) -> Result<File<'_>, AllocError> {
     let mut file = File { name, bytes };
     for word in changes.split_ascii_whitespace() {
         if let Some((key, value)) = word.split_once("=") {
-            file.change(key, value);
+            file.change(key, value)?;
         }
     }
     Ok(file)

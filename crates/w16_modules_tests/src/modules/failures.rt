@@ -3,6 +3,7 @@
 use super::files::store_of;
 use super::loads::{FIRST_LOAD, IMPORTS};
 use super::machine::Machine;
+use super::resources::{RESOURCE, SWEPT};
 use super::turning::Turning;
 use super::{ALL, first_wrong, split};
 use std::alloc::{AllocError, Global};
@@ -114,7 +115,7 @@ fn reads_of(alloc: Global, lines: &str) -> Result<Option<u32>, AllocError> {
 
 #[test]
 fn each_read_fails(rt: HostRuntime) -> Result<(), Fail> {
-    for lines in [FIRST_LOAD, IMPORTS] {
+    for lines in [FIRST_LOAD, IMPORTS, RESOURCE, SWEPT] {
         let reads = reads_of(rt.alloc(), lines)?;
         assert!(rt; reads.unwrap_or(0) > 10, "{reads:?} reads");
     }
@@ -168,6 +169,50 @@ LoadLibrary BACK -> 0002
 Read 0x01070000 16 -> bytes 9a04000f019a04000f01b81400cb9090
 Read 0x010f0000 5 -> bytes 01020304cb";
 
+/// A resource is loaded, and discarded.
+const RESOURCE_DISCARDED: &str = "\
+LoadLibrary TRES.DLL -> 0021
+LoadResource 0x21 1 -> 0106
+GlobalCompact 0xffffffff -> 00001000";
+
+/// Its file ends where it begins, there is none of that name, or another one that ends in it.
+static RESOURCE_CHANGES: &[(&str, &str)] = &[
+    (
+        "TRES.DLL len=176",
+        "\
+LockResource 0x106 -> fault damaged
+Read 0x01070000 0 -> fault damaged
+Write 0x01070000 00 -> fault damaged
+LoadResource 0x21 1 -> 0106
+GlobalFlags 0x106 -> 4100
+Walk -> 00000000 00001000 free / end",
+    ),
+    (
+        "TLIB.DLL",
+        "\
+FreeResource 0x106 -> 0000
+GlobalAlloc 0 4096 -> 0107
+LoadResource 0x21 1 -> fault damaged
+GlobalFree 0x107 -> 0000
+LoadResource 0x21 1 -> fault damaged
+FreeResource 0x106 -> 0001
+GlobalHandle 0x107 -> 00000000",
+    ),
+    (
+        "TRES.DLL len=178 B0=4a",
+        "\
+Read 0x01070000 5 -> bytes 4a65000000
+GlobalCompact 0xffffffff -> 00001000",
+    ),
+];
+
+/// The first files come back, and the resource.
+const RESOURCE_BACK: &str = "\
+LoadLibrary BACK -> 0002
+LoadResource 0x21 1 -> 0106
+LockResource 0x106 -> 01070000
+Read 0x01070000 5 -> bytes 48656c6c6f";
+
 /// A machine over the samples, and over others when they are asked for.
 fn turning(alloc: Global, others: &str) -> Result<Machine<Turning>, AllocError> {
     let store = Turning::new(store_of(alloc, ALL)?, store_of(alloc, others)?);
@@ -178,28 +223,41 @@ fn turning(alloc: Global, others: &str) -> Result<Machine<Turning>, AllocError> 
 fn first_wrong_where_changed(
     alloc: Global,
     others: &str,
+    before: &str,
     lines: &str,
+    back: &str,
 ) -> Result<[usize; 4], AllocError> {
     let mut machine = turning(alloc, others)?;
     Ok([
-        first_wrong(&mut machine, alloc, DISCARDED)?,
+        first_wrong(&mut machine, alloc, before)?,
         first_wrong(&mut machine, alloc, "LoadLibrary TURN -> 0002")?,
         first_wrong(&mut machine, alloc, lines)?,
-        first_wrong(&mut machine, alloc, BACK)?,
+        first_wrong(&mut machine, alloc, back)?,
     ])
 }
 
 #[test]
 fn files_change_behind_a_discard(rt: HostRuntime) -> Result<(), Fail> {
     for (others, lines) in CHANGES {
-        let wrong = first_wrong_where_changed(rt.alloc(), others, lines)?;
+        let wrong = first_wrong_where_changed(rt.alloc(), others, DISCARDED, lines, BACK)?;
         assert!(rt; wrong == [0; 4], "{others}: {wrong:?}");
     }
     Ok(())
 }
 
-/// A file, how long it is, another one beside it, and a load of it where its end is missing.
+#[test]
+fn files_of_resources_change_behind_a_discard(rt: HostRuntime) -> Result<(), Fail> {
+    for (others, lines) in RESOURCE_CHANGES {
+        let (before, back) = (RESOURCE_DISCARDED, RESOURCE_BACK);
+        let wrong = first_wrong_where_changed(rt.alloc(), others, before, lines, back)?;
+        assert!(rt; wrong == [0; 4], "{others}: {wrong:?}");
+    }
+    Ok(())
+}
+
+/// A file, how many bytes of it load at least, another one beside it, and a load of it where one of these is missing.
 static CUT: &[(&str, usize, &str, &str)] = &[
+    ("TRES.DLL", 177, "TLIB.DLL", "LoadLibrary TRES.DLL -> 000b"),
     ("TLIB.DLL", 248, "TRES.DLL", "LoadLibrary TLIB.DLL -> 000b"),
     ("TAPP.EXE", 202, "TLIB.DLL", "LoadModule TAPP.EXE -> 000b"),
 ];

@@ -153,11 +153,11 @@ LoadLibrary #6 -> 0002
 Builtin #5 -> 0022
 Builtin = -> 0023
 Builtin ;x -> 0024
-r1 = Builtin r1 -> 0025
+r1 = Builtin r77 -> 0025
 GetModuleHandle #5 -> 0022
 GetModuleHandle = -> 0023
 GetModuleHandle ;x -> 0024
-GetModuleHandle R1 -> 0025
+GetModuleHandle R77 -> 0025
 GetProcAddress r1 r1 -> 00000000
 GetProcAddress r1 #3 -> 00250003
 GetProcAddress r1 = -> 00000000

@@ -1,15 +1,17 @@
 //! Calls on modules, and accesses to their segments: scripts over module files with the reply that each line must have, from script bytes to reply
 //! bytes.
 //!
-//! `calls.rt`, `loads.rt` and `accesses.rt` have the tables, and `files.rt` makes the files.
+//! `calls.rt`, `loads.rt`, `accesses.rt` and `resources.rt` have the tables, and `files.rt` makes the files.
 mod accesses;
 mod by_calls;
 mod calls;
 mod failures;
 mod files;
+mod full;
 mod loads;
 mod machine;
 mod refusals;
+mod resources;
 mod turning;
 
 use accesses::ACCESSES;
@@ -17,8 +19,10 @@ use calls::CALLS;
 use files::{file_of, store_of};
 use loads::{FIRST_LOAD, LOADS};
 use machine::Machine;
-use std::alloc::{AllocError, Allocator, Global};
+use resources::{RESOURCE, RESOURCES};
+use std::alloc::{AllocError, AllocGlobal, Allocator, Global};
 use std::fs;
+use std::process::Abort;
 use std::test::Fail;
 use w16_store::{DirStore, Store};
 
@@ -37,8 +41,8 @@ pub struct Row {
 }
 
 /// All rows, by what they are on. Only this function names the tables, so that a proof meets their contents once.
-fn tables() -> [&'static [Row]; 3] {
-    [LOADS, CALLS, ACCESSES]
+fn tables() -> [&'static [Row]; 4] {
+    [LOADS, CALLS, ACCESSES, RESOURCES]
 }
 
 /// A line and the text of its reply.
@@ -125,13 +129,19 @@ fn first_wrong_of(alloc: Global, row: &Row) -> Result<usize, AllocError> {
     first_wrong(&mut machine, alloc, row.lines)
 }
 
+/// Plays rows, and compares.
+fn expect_all(rt: &(impl Abort + AllocGlobal), rows: &[Row]) -> Result<(), AllocError> {
+    for row in rows {
+        let wrong = first_wrong_of(rt.alloc(), row)?;
+        assert!(rt; wrong == 0, "{}: line {wrong} of the output", row.name);
+    }
+    Ok(())
+}
+
 #[test]
 fn rows_over_files_are_answered(rt: HostRuntime) -> Result<(), Fail> {
     for rows in tables() {
-        for row in rows {
-            let wrong = first_wrong_of(rt.alloc(), row)?;
-            assert!(rt; wrong == 0, "{}: line {wrong} of the output", row.name);
-        }
+        expect_all(&rt, rows)?;
     }
     Ok(())
 }
@@ -149,18 +159,21 @@ fn make_folder(rt: &HostRuntime, files: &str) -> Result<(), Fail> {
 }
 
 /// The number of the first wrong line over that folder.
-fn first_wrong_in_folder(rt: &HostRuntime) -> Result<usize, Fail> {
+fn first_wrong_in_folder(rt: &HostRuntime, lines: &str) -> Result<usize, Fail> {
     let store = DirStore::from_folder(rt, rt.alloc(), "module_files")?;
     let mut machine = Machine::new(rt.alloc(), rt.alloc(), 4096, 16, store)?;
-    let wrong = first_wrong(&mut machine, rt.alloc(), FIRST_LOAD)?;
+    let wrong = first_wrong(&mut machine, rt.alloc(), lines)?;
     Ok(wrong)
 }
 
 #[test]
 fn a_folder_is_loaded_from(rt: HostRuntime) -> Result<(), Fail> {
     make_folder(&rt, ALL)?;
-    let wrong = first_wrong_in_folder(&rt)?;
+    let wrong = [
+        first_wrong_in_folder(&rt, FIRST_LOAD)?,
+        first_wrong_in_folder(&rt, RESOURCE)?,
+    ];
     fs::remove_dir_all(&rt, "module_files")?;
-    assert!(rt; wrong == 0, "line {wrong} of the output");
+    assert!(rt; wrong == [0; 2], "lines {wrong:?} of the outputs");
     Ok(())
 }

@@ -1,0 +1,95 @@
+//! Calls on resources.
+ghost use Rattle.std.specs.Prelude.{◌≡◌};
+ghost use Rattle.w16_format.specs.Ne.{ne_format};
+ghost use Rattle.w16_format.specs.Tables.{label_in};
+ghost use Rattle.w16_ne.specs.Resources.{label_of as ne_label};
+ghost use Rattle.w16_loader.specs.Registry.{in_world};
+ghost use Rattle.w16_loading.specs.Families.LoadingCommand.{OfResources};
+ghost use Rattle.w16_loading.specs.Families.ResourceCommand.{LoadResource, LockResource};
+ghost use Rattle.w16_loading.specs.Modules.{LoadingWorld};
+ghost use Rattle.w16_loading.specs.Resource as meaning;
+ghost use Rattle.w16_machine.specs.Machine.{StoreStep};
+ghost use Rattle.w16_resource.specs.Parts.{IsLoadingOver, loading_of};
+ghost use Rattle.w16_kernel.specs.Runs.{label_of, reply_of, IsReply};
+
+use crate::call::{Label, Reply};
+use crate::library::Library;
+use std::alloc::Allocator;
+use w16_global::Global16;
+use w16_loader::Registry;
+use w16_ne::ResourceName;
+use w16_store::Store;
+
+/// A label as the tables of files have it.
+fn resource_name(label: Label<'_>) -> ResourceName<'_>
+    ensures { label_in (ne_label result) ≡ label_of label.entry }
+{
+    match label {
+        Label::Number(number) => ResourceName::Number(number),
+        Label::Text(text) => ResourceName::Text(text),
+    }
+}
+
+/// `FindResource`: the place of a resource in its module's table, from 1, by its name and its type; 0 where there is none.
+pub fn find_resource<A: Allocator + Copy>(
+    registry: &Registry<A>,
+    handle: u16,
+    name: Label<'_>,
+    kind: Label<'_>,
+) -> u16
+    ensures { (rest : LoadingWorld) → result ≡ meaning.find_resource (in_world rest registry.now) handle (label_of name.entry) (label_of kind.entry) }
+{
+    w16_resource::find_resource(registry, handle, resource_name(name), resource_name(kind))
+}
+
+/// The reply to `LoadResource`.
+#[inline(never)]
+pub fn load_resource<S: Store + Drop, A: Allocator + Copy>(
+    global: &mut Global16<A>,
+    library: &mut Library<S, A>,
+    handle: u16,
+    place: u16,
+) -> Reply<'static>
+    requires { IsLoadingOver S.is_honest (loading_of global.old.handles library.old.registry library.old.resources (S.files library.old.store) (S.failures library.old.store)) }
+    ensures step { StoreStep S.is_honest ne_format (loading_of global.old.handles library.old.registry library.old.resources (S.files library.old.store) (S.failures library.old.store))
+        (OfResources (LoadResource handle place)) (reply_of result)
+        (loading_of global.new.handles library.new.registry library.new.resources (S.files library.new.store) (S.failures library.new.store)) }
+    ensures short { IsReply result }
+{
+    match library.resources.load(
+        &library.registry,
+        global,
+        &mut library.store,
+        &mut library.scratch,
+        handle,
+        place,
+    ) {
+        Ok(word) => Reply::Word(word),
+        Err(fault) => Reply::Failed(fault),
+    }
+}
+
+/// The reply to `LockResource`.
+#[inline(never)]
+pub fn lock_resource<S: Store + Drop, A: Allocator + Copy>(
+    global: &mut Global16<A>,
+    library: &mut Library<S, A>,
+    handle: u16,
+) -> Reply<'static>
+    requires { IsLoadingOver S.is_honest (loading_of global.old.handles library.old.registry library.old.resources (S.files library.old.store) (S.failures library.old.store)) }
+    ensures step { StoreStep S.is_honest ne_format (loading_of global.old.handles library.old.registry library.old.resources (S.files library.old.store) (S.failures library.old.store))
+        (OfResources (LockResource handle)) (reply_of result)
+        (loading_of global.new.handles library.new.registry library.new.resources (S.files library.new.store) (S.failures library.new.store)) }
+    ensures short { IsReply result }
+{
+    match library.resources.lock(
+        &library.registry,
+        global,
+        &mut library.store,
+        &mut library.scratch,
+        handle,
+    ) {
+        Ok(pointer) => Reply::Dword(pointer),
+        Err(fault) => Reply::Failed(fault),
+    }
+}

@@ -1,0 +1,64 @@
+//! Counts of a resource that are full.
+
+use super::files::store_of;
+use super::machine::Machine;
+use super::{ALL, first_wrong};
+use std::alloc::{AllocError, Global};
+use std::test::Fail;
+
+/// A resource is loaded.
+const LOADED: &str = "LoadLibrary TRES.DLL -> 0021\nLoadResource 0x21 1 -> 0106";
+
+/// A line, how often it is answered so behind that, and what is answered then.
+static FULL: &[(&str, u32, &str)] = &[
+    (
+        "LockResource 0x106 -> 01070000\n",
+        255,
+        "\
+LockResource 0x106 -> 00000000
+GlobalFlags 0x106 -> 01ff
+FreeResource 0x106 -> 0001
+GlobalUnlock 0x106 -> 0001
+LockResource 0x106 -> 01070000",
+    ),
+    (
+        "LoadResource 0x21 1 -> 0106\n",
+        64_999,
+        "\
+LoadResource 0x21 1 -> 0000
+FreeResource 0x106 -> 0000
+LoadResource 0x21 1 -> 0106
+LoadResource 0x21 1 -> 0000
+FreeLibrary 0x21 -> 0000
+FreeResource 0x106 -> 0001",
+    ),
+];
+
+/// A line, so many times.
+fn repeated(alloc: Global, line: &str, count: u32) -> Result<String, AllocError> {
+    let mut text = String::new(alloc);
+    for _ in 0..count {
+        text.push_str(line)?;
+    }
+    Ok(text)
+}
+
+/// The first wrong line of each part: before, of those that are alike, and behind.
+fn first_wrong_full(alloc: Global, same: &str, lines: &str) -> Result<[usize; 3], AllocError> {
+    let mut machine = Machine::new(alloc, alloc, 4096, 16, store_of(alloc, ALL)?)?;
+    Ok([
+        first_wrong(&mut machine, alloc, LOADED)?,
+        first_wrong(&mut machine, alloc, same.trim_end())?,
+        first_wrong(&mut machine, alloc, lines)?,
+    ])
+}
+
+#[test]
+fn locks_and_loads_up_to_the_full_count(rt: HostRuntime) -> Result<(), Fail> {
+    for (line, count, lines) in FULL {
+        let same = repeated(rt.alloc(), line, *count)?;
+        let wrong = first_wrong_full(rt.alloc(), &same, lines)?;
+        assert!(rt; wrong == [0; 3], "{line}: {wrong:?}");
+    }
+    Ok(())
+}

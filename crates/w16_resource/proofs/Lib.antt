@@ -1,0 +1,13 @@
+pub mod Common
+pub mod Fetched
+pub mod Freed
+pub mod Given
+pub mod Listed
+pub mod Loaded
+pub mod Locked
+pub mod Made
+pub mod Named
+pub mod Steps
+pub mod Stored
+pub mod Swept
+pub mod Taken

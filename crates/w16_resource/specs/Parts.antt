@@ -1,0 +1,38 @@
+-- The world of modules over the parts of the machine that keep it, and what a call over a store answers.
+use Rattle.std.specs.Prelude.{◌≡◌, ℕ, ◌≤◌, List, Option, Result, Ok, Err}
+use Rattle.std.specs.Ordering.{nat_cmp}
+use Rattle.std.specs.FinMap.{FinMap}
+use Rattle.w16_model.specs.Handles.{Handles}
+use Rattle.w16_loading.specs.declared.FetchFault.{FetchFault}
+use Rattle.w16_loading.specs.AnyStore.{AnyFetches}
+use Rattle.w16_loading.specs.Fetch.{FetchesCounted}
+use Rattle.w16_loading.specs.Law.{IsLoadingWorld, IsOfFiles}
+use Rattle.w16_loading.specs.Modules.{Load, LoadingWorld, Modules}
+use Rattle.w16_loading.specs.Replies.{Reply}
+use Rattle.w16_loading.specs.Replies.Reply.{Word, Dword, Failed}
+use Rattle.w16_format.specs.Ne.{ne_format}
+
+-- the world that these parts are
+abbrev pub loading_of : Handles → Modules → FinMap nat_cmp Load → List (List ℕ × List ℕ) → ℕ → LoadingWorld
+loading_of handles modules loads files failures = record { handles = handles; modules = modules; loads = loads; files = files; failures = failures }
+
+-- What holds of each world over a store: it is one; and where the store is honest, all that is loaded is of its file.
+abbrev pub IsLoadingOver : Type 0 → LoadingWorld → Type 0
+IsLoadingOver honest world = IsLoadingWorld world × (honest → IsOfFiles ne_format world)
+
+-- A fetch, over a store that is honest where the premise holds.
+pub record StoreFetch (honest : Type 0) (old : LoadingWorld) (slot : ℕ) (fault : Option FetchFault) (new : LoadingWorld) : Type 0 where
+  pub files : new.files ≡ old.files
+  pub counted : old.failures ≤ new.failures
+  pub any : AnyFetches old slot fault (record new { failures = old.failures })
+  pub exact : honest → FetchesCounted ne_format old slot fault new
+
+-- the reply of a call that answers a word, or why an object got no bytes
+abbrev pub word_in : Result ℕ FetchFault → Reply
+word_in (Ok n) = Word n
+word_in (Err fault) = Failed fault
+
+-- and of one that answers a double word
+abbrev pub dword_in : Result ℕ FetchFault → Reply
+dword_in (Ok n) = Dword n
+dword_in (Err fault) = Failed fault

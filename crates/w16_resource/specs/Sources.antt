@@ -1,0 +1,91 @@
+-- Where a resource's bytes come from, and how its object gets them.
+use Rattle.std.specs.Prelude.{◌≡◌, ℕ, ◌<◌, ◌⊎◌, ◌==◌, ◌||◌, nat_lt, Bool, false, List, length, take, drop, All, Option, Some, None, Ok}
+use Rattle.std.specs.Ordering.{nat_cmp}
+use Rattle.std.specs.FinMap as finmap
+use Rattle.std.specs.FinMap.{FinMap}
+use Rattle.w16_model.specs.Calls.{HasNoSlot, rounded_size}
+use Rattle.w16_model.specs.Changes.{with_object}
+use Rattle.w16_model.specs.Handles.{Handles, IsFreeSlot, handle_of}
+use Rattle.w16_model.specs.Owned.{owned_at}
+use Rattle.w16_store.specs.Files.{file_of}
+use Rattle.w16_ne.specs.Modules as ne
+use Rattle.w16_ne.specs.Modules.{tables_at}
+use Rattle.w16_ne.specs.Resources.{Entry, Label}
+use Rattle.w16_loading.specs.declared.FetchFault.{FetchFault}
+use Rattle.w16_loading.specs.declared.FetchFault.TheVariants.{NoRoom, Store}
+use Rattle.w16_loading.specs.declared.TheConstants.{LARGEST_OWNED}
+use Rattle.w16_loading.specs.AnyStore.{AnyFetches}
+use Rattle.w16_loading.specs.File.{Resource}
+use Rattle.w16_loading.specs.Fill.{FillsOne, is_of_device}
+use Rattle.w16_loading.specs.Modules.{Load, LoadingWorld, Module, Modules, module_at, with_handles}
+use Rattle.w16_loading.specs.Replies.{Reply}
+use Rattle.w16_loading.specs.Replies.Reply.{Word, Failed}
+use Rattle.w16_loading.specs.Resource.{attributes_for}
+use Rattle.w16_format.specs.Data.{padded}
+use Rattle.w16_format.specs.Tables.{tables_in}
+
+-- The resource of a place of a module is read from the file of this name, which has this entry for it.
+pub record IsSourceAt (modules : Modules) (handle place : ℕ) (file : List ℕ) (entry : Entry) : Type 0 where
+  pub m : Module
+  pub loaded : module_at modules handle ≡ Some m
+  pub named : m.file ≡ file
+  pub t : ne.Tables
+  pub tables : m.tables ≡ tables_in t
+  pub kind : Label
+  pub there : ne.resource_at t.resources place ≡ Some (kind, entry)
+  pub inside : (bytes : List ℕ) → tables_at (Some bytes) ≡ Ok t → 0 < entry.len → entry.place < length bytes
+
+-- whether a resource of so many bytes can't be loaded
+abbrev pub is_long : ℕ → Bool
+is_long len = (len == 0) || nat_lt LARGEST_OWNED len
+
+-- what a file of bytes gives to the object of a resource
+abbrev pub bytes_in : List ℕ → Entry → List ℕ
+bytes_in file entry = padded (take entry.len (drop entry.place file)) (rounded_size entry.len)
+
+-- A file of bytes has bytes of a resource that may be loaded, and a slot's object is of its size.
+pub record IsSourceOf (file : List ℕ) (handles : Handles) (slot : ℕ) (entry : Entry) : Type 0 where
+  pub are_bytes : All (λ b. b < 256) file
+  pub short : is_long entry.len ≡ false
+  pub inside : entry.place < length file
+  pub sized : owned_at handles slot ≡ Some (record { size = rounded_size entry.len; code = false })
+
+-- A slot's object gets these bytes, or the device failed, and its count of failures rose, or there is no room.
+pub record FetchesFrom (file : List ℕ) (old : Handles) (slot : ℕ) (entry : Entry) (before : ℕ) (fault : Option FetchFault) (after : ℕ) (new : Handles) : Type 0 where
+  pub filled : FillsOne is_of_device old.heap slot (bytes_in file entry) fault new.heap
+  pub failed : fault ≡ Some Store → before < after
+  pub rest : new ≡ record old { heap = new.heap }
+
+-- the handles with a new object for a resource
+abbrev pub with_new : Handles → ℕ → Resource → Handles
+with_new handles slot r = record handles {
+  heap = with_object handles.heap slot (record { kind = r.kind; locks = 0; bytes = None });
+  attributes = finmap.insert handles.attributes slot (attributes_for r);
+}
+
+-- what a first load answers where the object got no bytes
+abbrev pub refusal : FetchFault → Reply
+refusal NoRoom = Word 0
+refusal fault = Failed fault
+
+-- The object is there, with its load; or nothing has changed.
+abbrev pub IsMadeOr : Option FetchFault → Reply → Reply → Handles → Handles → Handles → FinMap nat_cmp Load → FinMap nat_cmp Load → FinMap nat_cmp Load → Type 0
+IsMadeOr None made reply old next new loads more left = (reply ≡ made) × (new ≡ next) × (left ≡ more)
+IsMadeOr (Some fault) made reply old next new loads more left = (reply ≡ refusal fault) × (new ≡ old) × (left ≡ loads)
+
+-- A new object for a resource is fetched, in a free slot.
+pub record MakesOne (honest : Type 0) (files : List (List ℕ × List ℕ)) (name : List ℕ) (entry : Entry) (r : Resource) (handle place : ℕ)
+    (old : Handles) (loads : FinMap nat_cmp Load) (before : ℕ) (reply : Reply) (new : Handles) (left : FinMap nat_cmp Load) (after : ℕ) : Type 0 where
+  pub slot : ℕ
+  pub free : IsFreeSlot old slot
+  pub fault : Option FetchFault
+  pub next : Handles
+  pub any : (rest : LoadingWorld) → AnyFetches (with_handles rest (with_new old slot r)) slot fault (with_handles rest next)
+  pub exact : (file : List ℕ) → honest → file_of files name ≡ Some file → IsSourceOf file (with_new old slot r) slot entry
+      → FetchesFrom file (with_new old slot r) slot entry before fault after next
+  pub outcome : IsMadeOr fault (Word (handle_of r.kind slot)) reply old next new loads (finmap.insert loads slot (record { handle = handle; place = place; loads = 1 })) left
+
+-- A first load: so, or 0 where no slot is free.
+abbrev pub MakesNew : Type 0 → List (List ℕ × List ℕ) → List ℕ → Entry → Resource → ℕ → ℕ → Handles → FinMap nat_cmp Load → ℕ → Reply → Handles → FinMap nat_cmp Load → ℕ → Type 0
+MakesNew honest files name entry r handle place old loads before reply new left after =
+    (HasNoSlot old × (reply ≡ Word 0) × (new ≡ old) × (left ≡ loads)) ⊎ MakesOne honest files name entry r handle place old loads before reply new left after

@@ -1,0 +1,143 @@
+//! Fetches of resources: an object that has no bytes gets those of its module's file.
+ghost use Rattle.std.specs.Prelude.{◌≡◌, ◌≤◌, ◌<◌, ◌/◌, ℕ, List, length, take, drop, true, false, IfErr, IfSome, IfNone, OnOk, OnErr, IsSome, IsSomeAnd, MatchResult, None, Some};
+ghost use Rattle.std.specs.FinMap as finmap;
+ghost use Rattle.w16_store.specs.Files.{file_of};
+ghost use Rattle.w16_ne.specs.Resources.{entry_of};
+ghost use Rattle.w16_global.specs.Owned.{LacksBytes};
+ghost use Rattle.w16_loading.specs.declared.FetchFault.TheVariants.{Store as store_fails};
+ghost use Rattle.w16_loading.specs.AnyStore.{AnyFetches};
+ghost use Rattle.w16_loading.specs.Fewest.{FetchesFewest};
+ghost use Rattle.w16_loading.specs.Fill.{is_of_read};
+ghost use Rattle.w16_loading.specs.Law.{IsLoadingWorld};
+ghost use Rattle.w16_loading.specs.Modules.{LoadingWorld, with_handles};
+ghost use Rattle.w16_loading.specs.Resource.{resource_at};
+ghost use Rattle.w16_loader.specs.Fetching.{fault_in};
+ghost use Rattle.w16_loader.specs.Registry.{in_world};
+ghost use Rattle.w16_resource.specs.Parts.{IsLoadingOver, StoreFetch, loading_of};
+ghost use Rattle.w16_resource.specs.Sources.{FetchesFrom, IsSourceAt, IsSourceOf, is_long};
+
+use crate::finding::{ResourceSource, source_of};
+use crate::resources::Resources;
+use std::alloc::Allocator;
+use w16_global::Global16;
+use w16_loader::{Registry, SegmentWork, fault_of, give};
+use w16_loading::{FetchFault, LARGEST_OWNED};
+use w16_model::names::slot_of;
+use w16_reloc::{Scratch, read_part};
+use w16_store::Store;
+
+/// Whether a resource of so many bytes in its file can't be loaded: it has none, or more than an object that a module owns.
+pub(crate) fn is_too_long(len: u32) -> bool
+    ensures { result ≡ is_long len }
+{
+    len == 0 || len > LARGEST_OWNED
+}
+
+/// Reads the bytes of a resource into the scratch, those that the file has: the last unit may end past its end. `Store` where the device failed;
+/// `Damaged` where the file reads otherwise than it did, or ends before the resource, and for a resource that can't be loaded.
+pub(crate) fn read<S: Store>(
+    source: &ResourceSource<'_>,
+    store: &mut S,
+    scratch: &mut Scratch,
+) -> Result<(), FetchFault>
+    ensures files { S.files store.new ≡ S.files store.old }
+    ensures failures { S.failures store.old ≤ S.failures store.new }
+    ensures faults { IfErr result (λ fault. is_of_read fault ≡ true) }
+    ensures exact { (file : List ℕ) → S.is_honest → file_of (S.files store.old) source.now.file.now ≡ Some file
+        → is_long source.now.resource.len ≡ false → source.now.resource.place < length file
+        → MatchResult result (λ _. scratch.new.bytes ≡ take source.now.resource.len (drop source.now.resource.place file))
+        (λ fault. (fault ≡ store_fails) × (S.failures store.old < S.failures store.new)) }
+{
+    let resource = source.resource;
+    if is_too_long(resource.len) {
+        return Err(FetchFault::Damaged);
+    }
+    if let Err(fault) = read_part(
+        store,
+        source.file,
+        u64::from(resource.place),
+        resource.len as usize,
+        scratch,
+    ) {
+        return Err(fault_of(fault));
+    }
+    if scratch.bytes().is_empty() {
+        return Err(FetchFault::Damaged);
+    }
+    Ok(())
+}
+
+/// Gives an object that a module owns, and that has no bytes, those of a resource, and zeros behind them. They are read before room is asked for.
+pub(crate) fn fetch_from<S: Store, A: Allocator + Copy>(
+    source: &ResourceSource<'_>,
+    global: &mut Global16<A>,
+    store: &mut S,
+    scratch: &mut Scratch,
+    handle: u16,
+) -> Result<(), FetchFault>
+    ensures files { S.files store.new ≡ S.files store.old }
+    ensures failures { S.failures store.old ≤ S.failures store.new }
+    ensures refused { OnErr result (global.new ≡ global.old) }
+    ensures named { OnOk result (LacksBytes global.old.handles handle) }
+    ensures any { (rest : LoadingWorld) → LacksBytes global.old.handles handle → AnyFetches (with_handles rest global.old.handles) (handle / 8) (fault_in result) (with_handles rest global.new.handles) }
+    ensures exact { (file : List ℕ) → S.is_honest → file_of (S.files store.old) source.now.file.now ≡ Some file → LacksBytes global.old.handles handle
+        → IsSourceOf file global.old.handles (handle / 8) (entry_of source.now.resource)
+        → FetchesFrom file global.old.handles (handle / 8) (entry_of source.now.resource) (S.failures store.old) (fault_in result) (S.failures store.new) global.new.handles }
+{
+    read(source, store, scratch)?;
+    let work = SegmentWork {
+        data: scratch.bytes(),
+        records: &[],
+        values: &[],
+    };
+    if give(global, handle, &work) {
+        Ok(())
+    } else {
+        Err(FetchFault::NoRoom)
+    }
+}
+
+impl<A: Allocator + Copy> Resources<A> {
+    /// Gives the object of a resource, which has no bytes, those of its file, and zeros behind them. The file is read before room is asked for.
+    ///
+    /// Others slide and are discarded for it, as few as can be, as for an allocation with no flags; a discardable object becomes the newest in the
+    /// order of use. `Store` where the store's device failed; `Damaged` where the file reads otherwise than it did when the module was loaded;
+    /// `NoRoom` where no gap could hold it. After each of these the heap is as it was; so it is after an error for a handle that names no resource
+    /// without bytes. The scratch holds anything afterwards.
+    pub fn fetch<S: Store>(
+        &self,
+        registry: &Registry<A>,
+        global: &mut Global16<A>,
+        store: &mut S,
+        scratch: &mut Scratch,
+        handle: u16,
+    ) -> Result<(), FetchFault>
+        ensures step { IsLoadingOver S.is_honest (loading_of global.old.handles registry.now self.now (S.files store.old) (S.failures store.old))
+            → LacksBytes global.old.handles handle → IsSome (finmap.get self.now (handle / 8))
+            → StoreFetch S.is_honest (loading_of global.old.handles registry.now self.now (S.files store.old) (S.failures store.old)) (handle / 8) (fault_in result)
+            (loading_of global.new.handles registry.now self.now (S.files store.new) (S.failures store.new)) }
+        ensures fewest { IsLoadingWorld (loading_of global.old.handles registry.now self.now (S.files store.old) (S.failures store.old))
+            → LacksBytes global.old.handles handle → IsSome (finmap.get self.now (handle / 8))
+            → FetchesFewest (loading_of global.old.handles registry.now self.now (S.files store.old) (S.failures store.old)) (handle / 8) (fault_in result)
+            (loading_of global.new.handles registry.now self.now (S.files store.new) (S.failures store.old)) }
+        ensures refused { OnErr result (global.new ≡ global.old) }
+        ensures named { OnOk result (LacksBytes global.old.handles handle) }
+        ensures files { S.files store.new ≡ S.files store.old }
+        ensures failures { S.failures store.old ≤ S.failures store.new }
+    {
+        global.reveal_handles();
+        match self.source_at(registry, slot_of(handle)) {
+            None => Err(FetchFault::Damaged),
+            Some(source) => fetch_from(&source, global, store, scratch, handle),
+        }
+    }
+
+    /// Where the bytes of a slot's resource come from; none where none is loaded there.
+    fn source_at<'a>(&self, registry: &'a Registry<A>, slot: u16) -> Option<ResourceSource<'a>>
+        ensures found { IfSome result (λ source. IsSomeAnd (finmap.get self.now slot) (λ load. IsSourceAt registry.now load.handle load.place source.file.now (entry_of source.resource))) }
+        ensures none { IfNone result (IfSome (finmap.get self.now slot) (λ load. (rest : LoadingWorld) → resource_at (in_world rest registry.now) load.handle load.place ≡ None)) }
+    {
+        let load = self.load_at(slot)?;
+        source_of(registry, load.handle, load.place)
+    }
+}

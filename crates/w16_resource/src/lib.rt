@@ -1,0 +1,13 @@
+//! Resources of modules: which are there, loads of them, locks that fetch them, and their end.
+#![tactic(auto)]
+
+mod fetching;
+mod finding;
+mod freeing;
+mod listing;
+mod loading;
+mod locking;
+mod resources;
+
+pub use finding::{find_resource, size_of_resource};
+pub use resources::Resources;
