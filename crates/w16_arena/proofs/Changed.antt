@@ -25,6 +25,19 @@ pub record ChangesOne (id : ℕ) (block : Option Block) (old new : Layout) : Typ
   pub grain : new.grain ≡ old.grain
   pub blocks : (q : ℕ) → block_with new.blocks q ≡ cond (id == q) block (block_with old.blocks q)
 
+-- the same layout has its own
+pub changes_none : (id : ℕ) (block : Option Block) (layout : Layout) → block_with layout.blocks id ≡ block → ChangesOne id block layout layout
+changes_none id block layout is = record {
+  cap = refl;
+  lo = refl;
+  hi = refl;
+  grain = refl;
+  blocks = λ q. elim (eqb_tells id q) [
+    | inl same ↦ rw same.0 (ap (block_with layout.blocks) (sym same.1) ∙ is)
+    | inr other ↦ rw other.0 refl
+  ];
+}
+
 -- the order of use has the one id where it is to, and the others where it had them
 pub record ReordersOne (id : ℕ) (listed : Bool) (old new : List ℕ) : Type 0 where
   pub here : is_member id new ≡ listed

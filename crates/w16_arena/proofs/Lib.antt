@@ -32,6 +32,7 @@ pub mod Joining
 pub mod Allocated
 pub mod Standing
 pub mod Walks
+pub mod Ahead
 pub mod Granting
 pub mod Together
 pub mod Oldest

@@ -1,8 +1,8 @@
 -- An object's kind is changed: its entry and its place in the order of use, and nothing else.
-use Rattle.w16_arena.proofs.Common.{◌≡◌, ℕ, ◌+◌, ◌<◌, ◌≤◌, ◌&&◌, ◌||◌, Bool, true, false, IfSome, IsSomeAnd, List, length, get_or, set, slice_range, Option, Some, None, Ok, option_map, is_some, refl, sym, ap, ◌∙◌, subst, inl, inr, false≢true, or_parts, eqb_tells, length-set, Block, Entry, Kind, is_member, Heap, is_fixed, is_discardable, with_ordered, after_modify, IsSound, IsCountedBy, block_with, hold_of_entry, object_in, is_listed, Layout, Uses, Newest, ArenaState, Steps, table_of, heap_of, relisted, ArenaInvariant}
+use Rattle.w16_arena.proofs.Common.{◌≡◌, ℕ, ◌+◌, ◌<◌, ◌≤◌, ◌&&◌, ◌||◌, Bool, true, false, IfSome, IsSomeAnd, List, length, get_or, set, slice_range, Option, Some, None, Ok, option_map, is_some, refl, sym, ap, ◌∙◌, subst, false≢true, or_parts, length-set, Block, Entry, Kind, is_member, Heap, is_fixed, is_discardable, with_ordered, after_modify, IsSound, IsCountedBy, block_with, hold_of_entry, object_in, is_listed, Layout, Uses, Newest, ArenaState, Steps, table_of, heap_of, relisted, ArenaInvariant}
 use Rattle.w16_arena.proofs.Parts.{AreParts}
 use Rattle.w16_arena.proofs.Lookups.{in_list, holds_at, object_here, sound_arranged}
-use Rattle.w16_arena.proofs.Changed.{GoTogether, ChangesOne, ReordersOne}
+use Rattle.w16_arena.proofs.Changed.{GoTogether, ChangesOne, ReordersOne, changes_none}
 use Rattle.w16_arena.proofs.Told.{modify_ok}
 use Rattle.w16_arena.proofs.Reordered.{same_reorders, end_reorders, without_reorders}
 use Rattle.w16_arena.proofs.Singles.{put_parts, put_heap}
@@ -35,16 +35,7 @@ module _ {entries : List (Option Entry)} {layout : Layout} {uses : Uses} {gap_ro
       counted = subst (λ p. IfSome p (IsCountedBy block)) there (kept.sound.counted id)
 
   no_change : ChangesOne id block layout layout
-  no_change = record {
-    cap = refl;
-    lo = refl;
-    hi = refl;
-    grain = refl;
-    blocks = λ q. elim (eqb_tells id q) [
-      | inl same ↦ rw same.0 (ap (block_with layout.blocks) (sym same.1))
-      | inr other ↦ rw other.0 refl
-    ];
-  }
+  no_change = changes_none id block layout refl
 
   reorders : ReordersOne id (is_listed (Some entry) block) uses.ids order
   reorders = turn (is_discardable d.kind) (is_discardable kind) (is_some block) (kept.sound.in_order id ∙ ap (λ p. is_listed p block) there)

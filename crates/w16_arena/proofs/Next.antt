@@ -1,6 +1,6 @@
 -- The lowest block at or above an address.
 use Rattle.std.specs.List.{AllByRecursion as Each}
-use Rattle.w16_arena.proofs.Common.{◌≡◌, ℕ, ◌<◌, ◌≤◌, ◌⊎◌, inl, inr, IfSome, IfNone, List, [], ◌∷◌, MatchOption, Option, Some, None, slice_get, refl, sym, subst, arith, cases_lt, lt-ltb, le-ltb, Block, IsLaid, block_end, Table, IsSound, block_with, Member, Each-at, Each-map, EachPair-from_AllPairs, with_member, member_with, rank, laid_each}
+use Rattle.w16_arena.proofs.Common.{◌≡◌, ◌≢◌, ℕ, ◌<◌, ◌≤◌, ◌⊎◌, inl, inr, IfSome, IfNone, List, [], ◌∷◌, MatchOption, Option, Some, None, slice_get, refl, sym, subst, arith, cases_lt, lt-ltb, le-ltb, Block, IsLaid, block_end, Table, IsSound, block_with, Member, Each-at, Each-map, EachPair-from_AllPairs, with_member, member_with, rank, laid_each}
 
 -- what the block of a rank is to an address
 abbrev pub IsNext : ℕ → List Block → Option Block → Type 0
@@ -58,3 +58,12 @@ module _ (t : Table) (sound : IsSound t) (from : ℕ) {found : Option Block} (go
       turn : (b : Option Block) → IsNext from t.blocks b → IfNone b ((q : ℕ) → IfSome (block_with t.blocks q) (λ c. c.at < from))
       turn None is = each_block t.blocks (λ c. c.at < from) is
       turn (Some b) is = tt
+
+-- the block that begins at a place, or none does
+pub beginning_found : (bs : List Block) (place : ℕ) (found : Option Block) → MatchOption found (Each (λ b. b.at ≢ place) bs) (λ b. (b.at ≡ place) × (block_with bs b.id ≡ Some b)) → IfSome found (λ b. (b.at ≡ place) × (block_with bs b.id ≡ Some b))
+beginning_found bs place None is = tt
+beginning_found bs place (Some b) is = is
+
+pub beginning_none : (bs : List Block) (place : ℕ) (found : Option Block) → MatchOption found (Each (λ b. b.at ≢ place) bs) (λ b. (b.at ≡ place) × (block_with bs b.id ≡ Some b)) → IfNone found ((q : ℕ) → IfSome (block_with bs q) (λ c. c.at ≢ place))
+beginning_none bs place None is = each_block bs (λ c. c.at ≢ place) is
+beginning_none bs place (Some b) is = tt

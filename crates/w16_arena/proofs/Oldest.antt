@@ -1,18 +1,16 @@
--- The oldest that a request may discard, and the discards one by one.
-use Rattle.w16_arena.proofs.Common.{◌≡◌, ℕ, zero, suc, ◌+◌, ◌-◌, ◌<◌, ◌≤◌, inl, inr, Bool, true, false, cond, not, ◌&&◌, ◌||◌, nat_lt, IsSomeAnd, subst, List, [], ◌∷◌, ◌++◌, append_assoc, length, replicate, take, drop, Option, Some, None, refl, sym, ap, ◌∙◌, arith, slice_get, eqb, list_any, false≢true, cases_Bool, ltb-false, or_cases, eqb-true, Decides-eqb, length-append, length-take, length-replicate, append-nil, IsDistinct-from_AllPairs, length-le_from_distinct_below, Block, Entry, absent, Heap, blocks, is_fixed, is_discardable, holds_still, Pinned, Loose, member_with, length-filter_both, eligible, is_member, is_about, is_pinned_id, discarded, Table, IsSound, hold_of_entry, block_with, entry_at, heap_in, is_listed, eligible_rest, discarded_next, discarded_none, true-is_member, eligible_loose, Member, member_filter, eligible_by_members, Layout, ArenaState, Steps, IsSameRange, Discards}
+-- The oldest that a request may discard: their list along the order of use, and their discards one by one.
+use Rattle.w16_arena.proofs.Common.{◌≡◌, ℕ, zero, suc, ◌+◌, ◌-◌, ◌<◌, ◌≤◌, inl, inr, Bool, true, false, cond, not, ◌&&◌, ◌||◌, nat_lt, IsSomeAnd, subst, List, [], ◌∷◌, ◌++◌, append_assoc, length, take, Option, Some, None, refl, sym, ap, ◌∙◌, arith, eqb, list_any, false≢true, cases_Bool, ltb-false, or_cases, eqb-true, Decides-eqb, length-append, length-take, append-nil, IsDistinct-from_AllPairs, length-le_from_distinct_below, Block, Entry, absent, Heap, blocks, is_fixed, is_discardable, holds_still, Pinned, Loose, member_with, length-filter_both, eligible, is_member, is_about, is_pinned_id, Table, IsSound, hold_of_entry, block_with, entry_at, heap_in, is_listed, true-is_member, eligible_loose, Member, member_filter, eligible_by_members, Layout, ArenaState, Steps, IsSameRange, Discards, get_or, from_take, take_all, fold, ◌≢◌, first_here, passed_here}
+use Rattle.std.proofs.lemmas.List.{get_or_read, take_more}
+use Rattle.std.proofs.lemmas.List.Sums.{fold-append}
+use Rattle.w16_compact.proofs.Searched.{may_go}
 use Rattle.w16_arena.proofs.Listed.{listed_permutation}
 use Rattle.w16_arena.proofs.Lookups.{in_list, holds_at}
-use Rattle.w16_arena.proofs.Parts.{AreParts}
+use Rattle.w16_arena.proofs.Parts.{AreParts, range_then}
 
--- Lists by their first element.
-
-by_first : (ids : List ℕ) (id : ℕ) → slice_get ids 0 ≡ Some id → ids ≡ id ∷ drop 1 ids
-by_first [] id e = cc
-by_first (q ∷ ids) id e = let same : q ≡ id = cc in ap (λ p. p ∷ ids) same
-
-first_member : (ids : List ℕ) (id : ℕ) → slice_get ids 0 ≡ Some id → Member id ids
-first_member [] id e = cc
-first_member (q ∷ ids) id e = let same : id ≡ q = cc in inl same
+place_member : (ids : List ℕ) (i : ℕ) → i < length ids → Member (get_or ids i 0) ids
+place_member [] i lt = absurd (omega arith)
+place_member (q ∷ ids) zero lt = inl refl
+place_member (q ∷ ids) (suc i) lt = inr (place_member ids i (omega arith))
 
 any_member : (q : ℕ) (ids : List ℕ) → list_any (eqb q) ids ≡ true → Member q ids
 any_member q [] e = absurd (false≢true e)
@@ -34,7 +32,7 @@ eligible_few xs order h =
 -- Of a sound table.
 module _ (t : Table) (sound : IsSound t) where
   -- what may be discarded is the same of its heap in a memory
-  pub eligible_here : (memory : List ℕ) → t.hi ≤ length memory → (h : Option ℕ) → eligible t.blocks t.order h ≡ eligible (blocks (heap_in t memory)) t.order h
+  eligible_here : (memory : List ℕ) → t.hi ≤ length memory → (h : Option ℕ) → eligible t.blocks t.order h ≡ eligible (blocks (heap_in t memory)) t.order h
   eligible_here memory high h =
       let layout : Layout = record { cap = length t.entries; lo = t.lo; hi = t.hi; grain = t.grain; blocks = t.blocks } in
       let parts : AreParts t.entries layout t.order memory = record { sound = sound; ids = refl; high = high } in
@@ -49,12 +47,9 @@ module _ (t : Table) (sound : IsSound t) where
       turn (Some d) e l = (d, e)
 
   -- and so has what may be discarded, and no lock
-  pub first_known : (h : Option ℕ) (id : ℕ) → slice_get (eligible t.blocks t.order h) 0 ≡ Some id → IsSomeAnd (entry_at t id) (λ e. e.locks ≡ 0)
-  first_known h id first = turn (entry_at t id) (block_with t.blocks id) refl refl (sym (sound.in_order id) ∙ true-is_member id t.order (member_filter (λ q. not (is_pinned_id t.blocks q) && not (is_about h q)) t.order id m).0)
+  no_lock : (h : Option ℕ) (id : ℕ) → Member id (eligible t.blocks t.order h) → IsSomeAnd (entry_at t id) (λ e. e.locks ≡ 0)
+  no_lock h id m = turn (entry_at t id) (block_with t.blocks id) refl refl (sym (sound.in_order id) ∙ true-is_member id t.order (member_filter (λ q. not (is_pinned_id t.blocks q) && not (is_about h q)) t.order id m).0)
     where
-      m : Member id (eligible t.blocks t.order h)
-      m = first_member (eligible t.blocks t.order h) id first
-
       and_none : (b : Bool) → (b && false) ≡ false
       and_none true = refl
       and_none false = refl
@@ -78,104 +73,100 @@ module _ (t : Table) (sound : IsSound t) where
           held = subst (λ p. IsSomeAnd p (λ e. x.hold ≡ hold_of_entry e)) e (holds_at t.entries (record { cap = length t.entries; lo = t.lo; hi = t.hi; grain = t.grain; blocks = t.blocks }) t.order sound id x f)
 
   -- there are no more members than entries
-  order_short : length t.order ≤ length t.entries
+  pub order_short : length t.order ≤ length t.entries
   order_short = length-le_from_distinct_below t.order (length t.entries) (IsDistinct-from_AllPairs Decides-eqb t.order sound.no_repeats)
       (λ q e. let known = member_known q (true-is_member q t.order (any_member q t.order e)) in in_list t.entries q known.0 known.1)
 
--- After i of k discards from a table: the others are those of the table now.
-pub record ArePartly (before : ArenaState) (k : ℕ) (h : Option ℕ) (i : ℕ) (now : ArenaState) : Type 0 where
-  pub heaps : (memory : List ℕ) → before.table.hi ≤ length memory → discarded (heap_in before.table memory) k h ≡ discarded (heap_in now.table memory) (k - i) h
-  pub listed : now.discarded ++ take (k - i) (eligible now.table.blocks now.table.order h) ≡ take k (eligible before.table.blocks before.table.order h)
-  pub range : IsSameRange before.table now.table
+-- The list of those that may be discarded.
+module _ (xs : List Block) (ids : List ℕ) (h : Option ℕ) (k : ℕ) where
+  -- so many are listed, and the first of the rest follow
+  pub record AreListed (listed rest : List ℕ) : Type 0 where
+    pub few : length listed ≤ k
+    pub follow : listed ++ take (k - length listed) (eligible xs rest h) ≡ take k (eligible xs ids h)
 
-module _ (before : ArenaState) (k : ℕ) (h : Option ℕ) where
+  pub listed_none : (listed rest : List ℕ) → listed ≡ [] → rest ≡ ids → AreListed listed rest
+  listed_none listed rest none all =
+      subst (λ (qs : List ℕ). AreListed qs rest) (sym none) (subst (AreListed []) (sym all) (record { few = omega arith; follow = let whole : k - 0 ≡ k = omega arith in ap (λ n. take n (eligible xs ids h)) whole }))
+
+  pub listed_full : (listed rest : List ℕ) → AreListed listed rest → length listed ≡ k → listed ≡ take k (eligible xs ids h)
+  listed_full listed rest now full =
+      let no_more : k - length listed ≡ 0 = omega arith in
+      sym (append-nil listed) ∙ ap (λ n. listed ++ take n (eligible xs rest h)) (sym no_more) ∙ now.follow
+
+  pub listed_end : (listed rest : List ℕ) → AreListed listed rest → rest ≡ [] → listed ≡ take k (eligible xs ids h)
+  listed_end listed rest now none =
+      sym (append-nil listed) ∙ ap (λ (qs : List ℕ). listed ++ qs) (sym (take_none (k - length listed))) ∙ ap (λ (qs : List ℕ). listed ++ take (k - length listed) (eligible xs qs h)) (sym none) ∙ now.follow
+
+  -- the next of the rest, which may be discarded or not
+  module _ (listed : List ℕ) (id : ℕ) (later rest : List ℕ) (cut : rest ≡ id ∷ later) (now : AreListed listed rest) where
+    pub listed_past : may_go xs h id ≡ false → AreListed listed later
+    listed_past stays = record { few = now.few; follow = ap (λ (qs : List ℕ). listed ++ take (k - length listed) qs) (sym (passed_here xs h id later rest cut stays)) ∙ now.follow }
+
+    module _ (yes : may_go xs h id ≡ true) (more : length listed ≢ k) where
+      follows : (listed ++ id ∷ []) ++ take (k - (length listed + 1)) (eligible xs later h) ≡ take k (eligible xs ids h)
+      follows =
+          let few = now.few in
+          let longer : suc (k - (length listed + 1)) ≡ k - length listed = omega arith in
+          append_assoc listed (id ∷ []) _ ∙ ap (λ n. listed ++ take n (id ∷ eligible xs later h)) longer
+          ∙ ap (λ (qs : List ℕ). listed ++ take (k - length listed) qs) (sym (first_here xs h id later rest cut yes)) ∙ now.follow
+
+      -- there is room to list it
+      pub listed_fits : length listed < length ids
+      listed_fits =
+          let a = ap (length {A = ℕ}) follows in
+          let b = length-append (listed ++ id ∷ []) (take (k - (length listed + 1)) (eligible xs later h)) in
+          let c = length-append listed (id ∷ []) in
+          let d = length-take k (eligible xs ids h) in
+          let e = eligible_few xs ids h in
+          omega arith
+
+      pub listed_more : (qs : List ℕ) → qs ≡ listed ++ id ∷ [] → AreListed qs later
+      listed_more qs pushed =
+          let few = now.few in let long : length (listed ++ id ∷ []) ≡ length listed + 1 = length-append listed (id ∷ []) in
+          subst (λ (ps : List ℕ). AreListed ps later) (sym pushed) (record { few = omega arith; follow = ap (λ n. (listed ++ id ∷ []) ++ take (k - n) (eligible xs later h)) long ∙ follows })
+
+-- After i of the discards of what is listed.
+pub record ArePartly (before : ArenaState) (k : ℕ) (h : Option ℕ) (i : ℕ) (now : ArenaState) : Type 0 where
+  pub heaps : (memory : List ℕ) → before.table.hi ≤ length memory → heap_in now.table memory ≡ fold absent (heap_in before.table memory) (take i now.discarded)
+  pub entries : now.table.entries ≡ before.table.entries
+  pub range : IsSameRange before.table now.table
+  pub listed : now.discarded ≡ take k (eligible before.table.blocks before.table.order h)
+
+module _ (before : ArenaState) (sound : IsSound before.table) (k : ℕ) (h : Option ℕ) where
   abbrev old : Table
   old = before.table
 
-  pub partly_none : IsSound old → (ids : List ℕ) → ids ≡ [] → ArePartly before k h 0 (record { table = old; discarded = ids })
-  partly_none sound ids none = let whole : k - 0 ≡ k = omega arith in record {
-    heaps = λ memory high. ap (λ n. discarded (heap_in old memory) n h) (sym whole);
-    listed = ap (λ (qs : List ℕ). qs ++ take (k - 0) (eligible old.blocks old.order h)) none ∙ ap (λ n. take n (eligible old.blocks old.order h)) whole;
-    range = record { lo = refl; hi = refl; grain = refl; ids = refl; sound = sound };
-  }
+  pub partly_none : (ids : List ℕ) → ids ≡ take k (eligible old.blocks old.order h) → ArePartly before k h 0 (record { table = old; discarded = ids })
+  partly_none ids listed = record { heaps = λ memory high. refl; entries = refl; range = record { lo = refl; hi = refl; grain = refl; ids = refl; sound = sound }; listed = listed }
 
   module _ (i : ℕ) (now : ArenaState) (partly : ArePartly before k h i now) where
-    abbrev left : List ℕ
-    left = eligible now.table.blocks now.table.order h
-
     -- all were discarded
-    pub ended : left ≡ [] → Discards k h before now
-    ended none = record {
-      heaps = λ memory high.
-          let high_now : now.table.hi ≤ length memory = let same = partly.range.hi in omega arith in
-          sym (partly.heaps memory high ∙ discarded_none (heap_in now.table memory) h (sym (eligible_here now.table partly.range.sound memory high_now h) ∙ none) (k - i));
+    pub full : length now.discarded ≤ i → Discards k h before now
+    full le = record {
+      heaps = λ memory high. partly.heaps memory high ∙ ap (fold absent (heap_in old memory)) (take_all i now.discarded le ∙ partly.listed ∙ ap (take k) (eligible_here old sound memory high h));
       range = partly.range;
-      listed = sym (append-nil now.discarded) ∙ ap (λ (qs : List ℕ). now.discarded ++ qs) (sym (ap (take (k - i)) none ∙ take_none (k - i))) ∙ partly.listed;
+      listed = partly.listed;
     }
 
-    -- as many as were asked for
-    pub full : k ≤ i → Discards k h before now
-    full le = let no_more : k - i ≡ 0 = omega arith in record {
-      heaps = λ memory high. sym (partly.heaps memory high ∙ ap (λ n. discarded (heap_in now.table memory) n h) no_more);
-      range = partly.range;
-      listed = sym (append-nil now.discarded) ∙ ap (λ n. now.discarded ++ take n left) (sym no_more) ∙ partly.listed;
-    }
+    -- one more, which has no lock
+    module _ (lt : i < length now.discarded) (items : List ℕ) (shown : items ≡ now.discarded) (id : ℕ) (read : id ≡ get_or items i id) where
+      here : id ≡ get_or now.discarded i 0
+      here = get_or_read items i id (let long = ap (length {A = ℕ}) shown in omega arith) read 0 ∙ ap (λ (qs : List ℕ). get_or qs i 0) shown
 
-    -- one more
-    module _ (id : ℕ) (first : slice_get left 0 ≡ Some id) (lt : i < k) where
-      abbrev rest : ℕ
-      rest = k - (i + 1)
+      pub next_unlocked : IsSomeAnd (entry_at now.table id) (λ e. e.locks ≡ 0)
+      next_unlocked =
+          let m = subst (Member id) partly.listed (subst (λ q. Member q now.discarded) (sym here) (place_member now.discarded i lt)) in
+          subst (λ (entries : List (Option Entry)). IsSomeAnd (entry_at (record now.table { entries = entries }) id) (λ e. e.locks ≡ 0)) (sym partly.entries)
+          (no_lock old sound h id (from_take k (eligible old.blocks old.order h) id m))
 
-      longer : k - i ≡ suc rest
-      longer = omega arith
-
-      listed_next : (now.discarded ++ id ∷ []) ++ take rest (drop 1 left) ≡ take k (eligible old.blocks old.order h)
-      listed_next =
-          append_assoc now.discarded (id ∷ []) (take rest (drop 1 left))
-          ∙ ap (λ (qs : List ℕ). now.discarded ++ take (suc rest) qs) (sym (by_first left id first))
-          ∙ ap (λ n. now.discarded ++ take n left) (sym longer)
-          ∙ partly.listed
-
-      -- there is room to list it
-      pub listed_fits : IsSound old → length now.discarded < length old.entries
-      listed_fits sound =
-          let a : length ((now.discarded ++ id ∷ []) ++ take rest (drop 1 left)) ≡ length (take k (eligible old.blocks old.order h)) = ap (length {A = ℕ}) listed_next in
-          let b = length-append (now.discarded ++ id ∷ []) (take rest (drop 1 left)) in
-          let c = length-append now.discarded (id ∷ []) in
-          let d = length-take k (eligible old.blocks old.order h) in
-          let e = eligible_few old.blocks old.order h in
-          let f = order_short old sound in
-          omega arith
-
-      pub partly_more : (after : ArenaState) → Steps now after (λ a b. b ≡ absent a id) → (ids : List ℕ) → ids ≡ after.discarded ++ id ∷ [] → ArePartly before k h (i + 1) (record { table = after.table; discarded = ids })
-      partly_more after steps ids pushed = record {
-        heaps = λ memory high.
-            let high_now : now.table.hi ≤ length memory = let same = partly.range.hi in omega arith in
-            let first_here = ap (λ (qs : List ℕ). slice_get qs 0) (sym (eligible_here now.table partly.range.sound memory high_now h)) ∙ first in
-            let more : k - i ≡ rest + 1 = omega arith in
-            partly.heaps memory high ∙ ap (λ n. discarded (heap_in now.table memory) n h) more
-            ∙ discarded_next (heap_in now.table memory) partly.range.sound.no_repeats h id first_here rest
-            ∙ ap (λ (heap : Heap). discarded heap rest h) (sym (steps.heaps memory high_now));
-        listed =
-            let memory : List ℕ = replicate now.table.hi 0 in
-            let long : length memory ≡ now.table.hi = length-replicate now.table.hi 0 in
-            let high_now : now.table.hi ≤ length memory = omega arith in
-            let high_after : after.table.hi ≤ length memory = let same = steps.range.hi in omega arith in
-            let first_here = ap (λ (qs : List ℕ). slice_get qs 0) (sym (eligible_here now.table partly.range.sound memory high_now h)) ∙ first in
-            let others : eligible after.table.blocks after.table.order h ≡ drop 1 left =
-            eligible_here after.table steps.range.sound memory high_after h
-            ∙ ap (λ (heap : Heap). eligible (blocks heap) heap.order h) (steps.heaps memory high_now)
-            ∙ eligible_rest (heap_in now.table memory) partly.range.sound.no_repeats h id first_here
-            ∙ ap (drop 1) (sym (eligible_here now.table partly.range.sound memory high_now h)) in
-            let same : after.discarded ≡ now.discarded = ap (λ (s : ArenaState). s.discarded) steps.rest in
-            ap (λ (qs : List ℕ). ids ++ take rest qs) others
-            ∙ ap (λ (qs : List ℕ). qs ++ take rest (drop 1 left)) (pushed ∙ ap (λ (qs : List ℕ). qs ++ id ∷ []) same)
-            ∙ listed_next;
-        range = record {
-          lo = steps.range.lo ∙ partly.range.lo;
-          hi = steps.range.hi ∙ partly.range.hi;
-          grain = steps.range.grain ∙ partly.range.grain;
-          ids = steps.range.ids ∙ partly.range.ids;
-          sound = steps.range.sound;
-        };
-      }
+      pub partly_more : (after : ArenaState) → Steps now after (λ a b. b ≡ absent a id) → after.table.entries ≡ now.table.entries → ArePartly before k h (i + 1) after
+      partly_more after steps entries =
+          let same : after.discarded ≡ now.discarded = ap (λ (s : ArenaState). s.discarded) steps.rest in record {
+            heaps = λ memory high.
+                let high_now : now.table.hi ≤ length memory = let range = partly.range.hi in omega arith in let start : Heap = heap_in old memory in
+                steps.heaps memory high_now ∙ ap (λ (heap : Heap). absent heap id) (partly.heaps memory high)
+                ∙ sym (ap (fold absent start) (ap (take (i + 1)) same ∙ take_more now.discarded i 0 lt ∙ ap (λ q. take i now.discarded ++ q ∷ []) (sym here)) ∙ fold-append absent start (take i now.discarded) (id ∷ []));
+            entries = entries ∙ partly.entries;
+            range = range_then partly.range steps.range;
+            listed = same ∙ partly.listed;
+          }

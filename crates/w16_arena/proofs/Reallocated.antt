@@ -1,8 +1,8 @@
 use Rattle.w16_arena.proofs.Written.{counted_none}
 -- A reallocation by its cases: an object without bytes, and one with a block.
-use Rattle.w16_arena.proofs.Common.{◌≡◌, ℕ, ◌+◌, ◌-◌, ◌≤◌, Bool, true, false, not, ◌&&◌, ◌||◌, nat_lt, if◌then◌else◌, is_ok, IfSome, IsSomeAnd, IfOk, OnErr, List, length, slice_range, Option, Some, None, Result, Ok, Err, option_map, unwrap_or, sym, ap, ◌∙◌, subst, arith, counted, Block, Entry, RoomOptions, holds_still, Heap, Object, bytes_at, is_fixed, object_at, Allocates, Reallocates, ReallocatesObject, Table, IsSound, IsCountedBy, block_with, entry_at, heap_in, hold_of_entry, object_in, object_is, member_with, Layout, HasDiscarded, HasDiscardedFor, IsPlaced, IsResized, reallocation_prefix, Placed, NoRoom}
+use Rattle.w16_arena.proofs.Common.{ArenaState, ◌≡◌, ℕ, ◌+◌, ◌-◌, ◌≤◌, Bool, true, false, not, ◌&&◌, ◌||◌, nat_lt, if◌then◌else◌, is_ok, IfSome, IsSomeAnd, IfOk, OnErr, List, length, slice_range, Option, Some, None, Result, Ok, Err, option_map, unwrap_or, sym, ap, ◌∙◌, subst, arith, counted, Block, Entry, RoomOptions, holds_still, Heap, Object, bytes_at, is_fixed, object_at, Allocates, Reallocates, ReallocatesObject, Table, IsSound, IsCountedBy, block_with, entry_at, heap_in, hold_of_entry, object_in, object_is, member_with, Layout, HasDiscarded, HasDiscardedFor, IsPlaced, IsResized, reallocation_prefix, Placed, NoRoom}
 use Rattle.w16_arena.proofs.Lookups.{holds_at}
-use Rattle.w16_arena.proofs.Sized.{still_hold}
+use Rattle.w16_arena.proofs.Sized.{size_is, still_hold}
 
 -- An object without bytes has no locks, so it gets bytes as a new one does.
 module _ (t : Table) (sound : IsSound t) (memory : List ℕ) (inside : t.hi ≤ length memory) (id : ℕ) (e : Entry) (there : entry_at t id ≡ Some e) (none : block_with t.blocks id ≡ None) where
@@ -38,19 +38,6 @@ module _ (t : Table) (sound : IsSound t) (memory : List ℕ) (inside : t.hi ≤ 
   pub no_size : unwrap_or (option_map (length {A = ℕ}) (bytes_at h id)) 0 ≡ 0
   no_size = ap (λ (p : Option Object). unwrap_or (option_map (length {A = ℕ}) (elim p as (λ _. Option (List ℕ)) [ Some o ↦ o.bytes | None ↦ None ])) 0) absent_is
 
--- answered, or refused
-pub by_result : (h new : Heap) (id n : ℕ) (options : RoomOptions) (ids : List ℕ) (A : Type 0) (r : Result Placed NoRoom) → IfOk r (λ p. IsResized h id n options p ids new) → OnErr r A → (A → Reallocates h id n options false new) → Reallocates h id n options (is_ok r) new
-by_result h new id n options ids A (Ok p) ok err f = ok.reallocated
-by_result h new id n options ids A (Err e) ok err f = f err
-
-pub placed_of : (h new : Heap) (id n : ℕ) (options : RoomOptions) (ids : List ℕ) (r : Result Placed NoRoom) → IfOk r (λ p. IsResized h id n options p ids new) → IfOk r (λ p. IsPlaced h id n p new)
-placed_of h new id n options ids (Ok p) ok = ok.placed
-placed_of h new id n options ids (Err e) ok = tt
-
-pub listed_of : (h new : Heap) (id n : ℕ) (options : RoomOptions) (ids : List ℕ) (r : Result Placed NoRoom) → IfOk r (λ p. IsResized h id n options p ids new) → IfOk r (λ _. HasDiscardedFor h id n options ids)
-listed_of h new id n options ids (Ok p) ok = ok.listed
-listed_of h new id n options ids (Err e) ok = tt
-
 -- what is written where nothing was moved
 pub still_written : (r : Result Placed NoRoom) (before after k : ℕ) → IfOk r (λ p. p.moved ≡ 0) → IfOk r (λ _. after ≡ counted before k) → IfOk r (λ p. after ≡ counted (counted before p.moved) k)
 still_written (Ok p) before after k none is = is ∙ ap (λ w. counted w k) (sym (counted_none before)) ∙ ap (λ m. counted (counted before m) k) (sym none)
@@ -73,6 +60,32 @@ revived_listed t sound memory inside id e there none n options ids (Err x) d = t
 pub found_known : (t : Table) (id : ℕ) (b : Block) → Some b ≡ block_with t.blocks id → (b.id ≡ id) × (block_with t.blocks b.id ≡ Some b)
 found_known t id b is = let same = (member_with t.blocks id b (sym is)).1 in (same, ap (block_with t.blocks) same ∙ sym is)
 
+pub size_told : (t : Table) → IsSound t → (memory : List ℕ) → t.hi ≤ length memory → (id : ℕ) (b : Block) → Some b ≡ block_with t.blocks id → unwrap_or (option_map (length {A = ℕ}) (bytes_at (heap_in t memory) id)) 0 ≡ b.size
+size_told t sound memory inside id b is =
+    let found = found_known t id b is in
+    subst (λ q. unwrap_or (option_map (length {A = ℕ}) (bytes_at (heap_in t memory) q)) 0 ≡ b.size) found.0 (size_is t sound memory inside b found.1)
+
+-- what a growth tells of an object, answered or refused
+pub record IsTold (h new : Heap) (id n : ℕ) (options : RoomOptions) (ids : List ℕ) (r : Result Placed NoRoom) (Same : Type 0) : Type 0 where
+  pub reallocated : Reallocates h id n options (is_ok r) new
+  pub placed : IfOk r (λ p. IsPlaced h id n p new)
+  pub listed : IfOk r (λ _. HasDiscardedFor h id n options ids)
+  pub refused : OnErr r Same
+
+-- it is told of its block
+pub told_ok : {X : Type 0} (bytes : X → List ℕ) (x y : X) (old new : ArenaState) (id n : ℕ) (b : Block) (options : RoomOptions) → Some b ≡ block_with old.table.blocks id → (r : Result Placed NoRoom)
+    → IfOk r (λ p. IsResized (heap_in old.table (bytes x)) b.id n options p new.discarded (heap_in new.table (bytes y))) → OnErr r (Reallocates (heap_in old.table (bytes x)) b.id n options false (heap_in old.table (bytes x)) × (new ≡ old) × (y ≡ x))
+    → IsTold (heap_in old.table (bytes x)) (heap_in new.table (bytes y)) id n options new.discarded r ((new ≡ old) × (y ≡ x))
+told_ok bytes x y old new id n b options is (Ok p) ok err =
+    let got = subst (λ q. IsResized (heap_in old.table (bytes x)) q n options p new.discarded (heap_in new.table (bytes y))) (found_known old.table id b is).0 ok in
+    record { reallocated = got.reallocated; placed = got.placed; listed = got.listed; refused = tt }
+told_ok bytes x y old new id n b options is (Err e) ok err = record {
+  reallocated = rw (err.1, err.2) (subst (λ q. Reallocates (heap_in old.table (bytes x)) q n options false (heap_in old.table (bytes x))) (found_known old.table id b is).0 err.0);
+  placed = tt;
+  listed = tt;
+  refused = (err.1, err.2);
+}
+
 -- whether it may not move is told by its entry
 pub held_by : (t : Table) → IsSound t → (id : ℕ) (e : Entry) → Some e ≡ entry_at t id → (b : Block) → Some b ≡ block_with t.blocks id → (options : RoomOptions) (v : Bool) → v ≡ ((is_fixed e.kind || nat_lt 0 e.locks) && not options.may_move) → (holds_still b.hold && not options.may_move) ≡ v
 held_by t sound id e there b is options v told =
@@ -83,8 +96,3 @@ held_by t sound id e there b is options v told =
 -- what is written for one that has no bytes
 pub revived_written : (r : Result Placed NoRoom) (before after : ℕ) (zero : Bool) (n s : ℕ) → s ≡ 0 → IfOk r (λ p. after ≡ counted (counted before p.moved) (if zero then n else 0)) → IfOk r (λ p. after ≡ counted (counted before p.moved) (if zero then n - s else 0))
 revived_written r before after zero n s none is = let all : n ≡ n - s = omega arith in subst (λ k. IfOk r (λ p. after ≡ counted (counted before p.moved) (if zero then k else 0))) all is
-
--- what a refused request leaves, without why it is refused
-pub unchanged : (A B C : Type 0) (r : Result Placed NoRoom) → OnErr r (A × B × C) → OnErr r (B × C)
-unchanged A B C (Ok p) f = tt
-unchanged A B C (Err e) f = (f.1, f.2)

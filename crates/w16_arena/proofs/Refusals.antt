@@ -1,6 +1,7 @@
 -- The steps that ask for no room, by what the table has at an id: those that are refused, and those that two steps make.
 use Rattle.w16_arena.proofs.Common.{◌≡◌, ℕ, ◌+◌, ◌-◌, ◌≤◌, ◌==◌, ◌||◌, true, false, nat_lt, IfSome, is_some, List, length, slice_range, Option, Some, None, Ok, Err, option_map, refl, sym, ap, ◌∙◌, subst, arith, Block, Entry, Kind, Heap, Object, object_at, is_fixed, is_discardable, absent, with_object, after_lock, after_unlock, after_free, after_discard, after_modify, after_touch, after_release, refused_order, IsSound, block_with, entry_at, object_in, heap_in, object_is, ArenaState, Steps}
 use Rattle.w16_model.specs.declared.Refusal.TheVariants as refusals
+use Rattle.w16_arena.proofs.Parts.{range_then}
 use Rattle.w16_arena.proofs.Told as told
 
 -- two steps, one after the other
@@ -9,7 +10,7 @@ pub then : {a b c : ArenaState} (P Q R : Heap → Heap → Type 0) → Steps a b
     → Steps a c R
 then {a} {b} {c} P Q R p q f = record {
   heaps = λ memory high. let hi = p.range.hi in f memory high (p.heaps memory high) (q.heaps memory (omega arith));
-  range = record { lo = q.range.lo ∙ p.range.lo; hi = q.range.hi ∙ p.range.hi; grain = q.range.grain ∙ p.range.grain; ids = q.range.ids ∙ p.range.ids; sound = q.range.sound };
+  range = range_then p.range q.range;
   rest = q.rest ∙ ap (λ (s : ArenaState). record s { table = c.table }) p.rest;
 }
 

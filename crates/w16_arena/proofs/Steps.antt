@@ -1,11 +1,11 @@
 -- The steps that ask for no room: what each leaves kept, and the heap after it, in every memory.
-use Rattle.w16_arena.proofs.Common.{◌≡◌, ℕ, zero, suc, ◌+◌, ◌<◌, ◌≤◌, ◌==◌, Bool, true, false, cond, ◌&&◌, IfSome, IfNone, IsSomeAnd, AllPairs, replicate, List, [], ◌∷◌, length, get_or, set, slice_range, Option, Some, None, option_map, is_some, refl, sym, ap, ◌∙◌, subst, inl, inr, arith, cases_eq, eqb_tells, length-replicate, Block, Entry, Hold, Kind, is_member, Heap, Object, object_at, is_discardable, removed, absent, with_object, touched, newest, without, Enters, IsSound, IsCountedBy, block_with, hold_of_entry, object_in, is_listed, get-update_same, get-update_other, taken_here, taken_other, Layout, IsOrdered, replaced, member_with, Uses, ArenaState, Steps, table_of, heap_of, ArenaInvariant}
+use Rattle.w16_arena.proofs.Common.{◌≡◌, ℕ, zero, suc, ◌+◌, ◌<◌, ◌≤◌, ◌==◌, Bool, true, false, cond, ◌&&◌, IfSome, IfNone, IsSomeAnd, AllPairs, replicate, List, [], ◌∷◌, length, get_or, set, slice_range, Option, Some, None, option_map, is_some, refl, sym, ap, ◌∙◌, subst, inl, inr, arith, cases_eq, length-replicate, Block, Entry, Hold, Kind, is_member, Heap, Object, object_at, is_discardable, removed, absent, with_object, touched, newest, without, Enters, IsSound, IsCountedBy, block_with, hold_of_entry, object_in, is_listed, get-update_same, get-update_other, taken_here, taken_other, Layout, IsOrdered, replaced, member_with, Uses, ArenaState, Steps, table_of, heap_of, ArenaInvariant}
 use Rattle.std.specs.FinMap as finmap
 use Rattle.w16_blocks.specs.Layout as layouts
 use Rattle.w16_arena.proofs.Parts.{AreParts}
 use Rattle.w16_arena.proofs.With.{with-replaced, with-without}
 use Rattle.w16_arena.proofs.Lookups.{IsArranged, ordered_arranged, sound_arranged, object_here, place_here, no_block, in_list, same_heap}
-use Rattle.w16_arena.proofs.Changed.{GoTogether, ChangesOne, ReordersOne, changed_parts, object_at_id, object_at_other, place_at_id, place_at_other}
+use Rattle.w16_arena.proofs.Changed.{GoTogether, ChangesOne, ReordersOne, changes_none, changed_parts, object_at_id, object_at_other, place_at_id, place_at_other}
 use Rattle.w16_arena.proofs.Reordered.{without_reorders, same_reorders, without_none}
 use Rattle.w16_arena.proofs.Singles.{removed_parts, removed_heap, put_parts, put_heap}
 
@@ -120,16 +120,7 @@ module _ {entries : List (Option Entry)} {layout : Layout} {uses : Uses} {gap_ro
     alone = record { holds = λ x e. cc; counted = (omega arith, λ _. refl, λ _. refl) }
 
     same_blocks : ChangesOne id None layout layout
-    same_blocks = record {
-      cap = refl;
-      lo = refl;
-      hi = refl;
-      grain = refl;
-      blocks = λ q. elim (eqb_tells id q) [
-        | inl same ↦ rw same.0 (ap (block_with layout.blocks) (sym same.1) ∙ absent_block)
-        | inr other ↦ rw other.0 refl
-      ];
-    }
+    same_blocks = changes_none id None layout absent_block
 
     not_yet : ReordersOne id (is_listed (Some entered) None) uses.ids uses.ids
     not_yet = same_reorders id uses.ids (is_listed (Some entered) None) (kept.sound.in_order id ∙ ap (λ e. is_listed e (block_with layout.blocks id)) free ∙ sym (and_none (is_discardable kind))) kept.sound.no_repeats
@@ -181,16 +172,7 @@ module _ {entries : List (Option Entry)} {layout : Layout} {uses : Uses} {gap_ro
     set_changes = from (block_with layout.blocks id) refl none some
       where
         from : (b : Option Block) → block_with layout.blocks id ≡ b → IfNone b (new ≡ layout) → IfSome b (λ b. new ≡ record layout { blocks = replaced (record b { hold = hold }) layout.blocks }) → ChangesOne id (option_map held b) layout new
-        from None e is _ = subst (ChangesOne id None layout) (sym is) (record {
-          cap = refl;
-          lo = refl;
-          hi = refl;
-          grain = refl;
-          blocks = λ q. elim (eqb_tells id q) [
-            | inl same ↦ rw same.0 (ap (block_with layout.blocks) (sym same.1) ∙ e)
-            | inr other ↦ rw other.0 refl
-          ];
-        })
+        from None e is _ = subst (ChangesOne id None layout) (sym is) (changes_none id None layout e)
         from (Some x) e _ is = subst (ChangesOne id (Some (held x)) layout) (sym (is ∙ ap (λ h. record layout { blocks = replaced (record x { hold = h }) layout.blocks }) hold_is))
             (record { cap = refl; lo = refl; hi = refl; grain = refl; blocks = λ q. with-replaced (held x) layout.blocks q ∙ ap (λ k. cond (k == q) (Some (held x)) (block_with layout.blocks q)) (member_with layout.blocks id x e).1 })
 

@@ -1,6 +1,6 @@
 -- The first part of a heap at or above an address.
 use Rattle.std.specs.List.{AllByRecursion as Each}
-use Rattle.w16_arena.proofs.Common.{◌≡◌, ℕ, zero, suc, ◌+◌, ◌-◌, ◌<◌, ◌≤◌, ◌⊎◌, inl, inr, All, IsTrue, IfSome, IsSomeAnd, List, [], ◌∷◌, length, slice_range, MatchOption, Option, Some, None, option_map, slice_get, refl, sym, ap, ◌∙◌, subst, arith, cases_lt, Block, Entry, Item, Owner, IsLaid, IsHole, IsClear, Misses, block_end, is_any, Object, blocks, Table, IsSound, block_with, entry_at, heap_in, object_in, hold_of_entry, IsItem, IsFirstItem, by_its_id, Member, Each-at, Each-from, Each-from_All, All-from_Each, laid_each, table_block, member_with, length_range, block_member, Layout, rank}
+use Rattle.w16_arena.proofs.Common.{◌≡◌, ℕ, zero, suc, ◌+◌, ◌-◌, ◌<◌, ◌≤◌, ◌⊎◌, inl, inr, All, IsTrue, IfSome, IsSomeAnd, List, [], ◌∷◌, length, slice_range, MatchOption, Option, Some, None, option_map, slice_get, refl, sym, ap, ◌∙◌, subst, arith, cases_lt, Block, Entry, Item, Owner, IsLaid, IsHole, IsClear, Misses, block_end, is_any, Object, blocks, Table, IsSound, block_with, entry_at, heap_in, object_in, hold_of_entry, IsItem, IsFirstItem, by_its_id, Member, Each-at, Each-from, Each-from_All, All-from_Each, laid_each, table_block, member_with, length_range, block_member, Layout, rank, clear_from, gap_same, missed}
 use Rattle.w16_arena.proofs.Next.{IsNext, next_is}
 use Rattle.w16_arena.proofs.Listed.{is_listed, listed_with}
 use Rattle.w16_arena.proofs.Lookups.{object_here, place_here, ends_in_memory, holds_at}
@@ -11,6 +11,14 @@ longer : (from high at size a b : ℕ) → from ≤ a → a < b → (at < from) 
 longer from high at size a b l k (inl s) (inl m) = inl m
 longer from high at size a b l k (inl s) (inr m) = absurd (omega arith)
 longer from high at size a b l k (inr s) m = inr s
+
+-- of two listed blocks the lower one ends before the other
+blocks_apart : (lo hi : ℕ) (bs : List Block) → IsLaid lo hi bs → (x y : Block) → Member x bs → Member y bs → x.at < y.at → block_end x ≤ y.at
+blocks_apart lo hi [] laid x y m n l = absurd m
+blocks_apart lo hi (b ∷ bs) laid x y (inl e) (inl f) l = absurd (omega (arith, l, ap (λ (z : Block). z.at) (e ∙ sym f)))
+blocks_apart lo hi (b ∷ bs) laid x y (inl e) (inr n) l = omega (arith, ap block_end e, (Each-at _ bs (laid_each (block_end b) hi bs laid.2) y n).0)
+blocks_apart lo hi (b ∷ bs) laid x y (inr m) (inl f) l = absurd (omega (arith, l, ap (λ (z : Block). z.at) f, (Each-at _ bs (laid_each (block_end b) hi bs laid.2) x m).0))
+blocks_apart lo hi (b ∷ bs) laid x y (inr m) (inr n) l = blocks_apart (block_end b) hi bs laid.2 x y m n l
 
 -- A listed block lies inside.
 pub get_member : (bs : List Block) (i : ℕ) (x : Block) → slice_get bs i ≡ Some x → Member x bs
@@ -83,7 +91,7 @@ module _ {t : Table} (sound : IsSound t) (memory : List ℕ) (whole : t.hi ≤ l
 
   -- and the parts that have an owner are such blocks
   abbrev IsBlockItem : Item → Type 0
-  IsBlockItem item = (x : Block) × Member x t.blocks × IsSomeAnd (entry_at t x.id) (λ e. item ≡ item_of x e)
+  IsBlockItem item = (x : Block) × Member x t.blocks × IsSomeAnd (entry_at t x.id) (λ e. item ≡ item_of x e) × (item.at ≡ x.at) × (item.size ≡ x.size)
 
   item_block : (at size : ℕ) (owner : Owner) → IsItem by_its_id (heap_in t memory) (record { at = at; size = size; owner = Some owner }) → IsBlockItem (record { at = at; size = size; owner = Some owner })
   item_block at size owner item = from (block_with t.blocks item.0) (entry_at t item.0) refl refl
@@ -102,11 +110,34 @@ module _ {t : Table} (sound : IsSound t) (memory : List ℕ) (whole : t.hi ≤ l
           let name : owner.name ≡ x.id = item.1 ∙ sym m.1 in
           let one : ◌≡◌ {A = Item} (record { at = at; size = size; owner = Some owner }) (item_of x e) =
           λ i. record { at = sym same_at i; size = sym same_size i; owner = Some (record { name = name i; kind = object.1 i; locks = object.2 i }) } in
-          (x, m.0, subst (λ d. IsSomeAnd d (λ e. ◌≡◌ {A = Item} (record { at = at; size = size; owner = Some owner }) (item_of x e))) (sym is ∙ ap (entry_at t) (sym m.1)) one)
+          (x, m.0, subst (λ d. IsSomeAnd d (λ e. ◌≡◌ {A = Item} (record { at = at; size = size; owner = Some owner }) (item_of x e))) (sym is ∙ ap (entry_at t) (sym m.1)) one, sym same_at, sym same_size)
 
-  at_block : (item : Item) (x : Block) (d : Option Entry) → IsSomeAnd d (λ e. item ≡ item_of x e) → item.at ≡ x.at
-  at_block item x None h = absurd h
-  at_block item x (Some e) h = ap (λ (i : Item). i.at) h
+  sized : (x : Block) → Member x t.blocks → 0 < x.size
+  sized x m = (Each-at _ t.blocks (laid_each t.lo t.hi t.blocks sound.table.laid) x m).1
+
+  -- No part begins inside another.
+  pub apart : (item other : Item) → IsItem by_its_id (heap_in t memory) item → IsItem by_its_id (heap_in t memory) other → item.at < other.at → item.at + item.size ≤ other.at
+  apart one two = by_owner one.at one.size one.owner two.at two.size two.owner
+    where
+      hole_misses : (a b : ℕ) → IsHole t.lo t.hi (blocks (heap_in t memory)) a b → (x : Block) → Member x t.blocks → Misses x.at x.size a b
+      hole_misses a b hole x m = missed is_any t.lo t.hi t.blocks sized a b (hole_in_table a b hole).clear x m refl
+
+      by_owner : (a m : ℕ) (o : Option Owner) (c n : ℕ) (p : Option Owner) → IsItem by_its_id (heap_in t memory) (record { at = a; size = m; owner = o })
+          → IsItem by_its_id (heap_in t memory) (record { at = c; size = n; owner = p }) → a < c → a + m ≤ c
+      by_owner a m None c n None one other l = elim (cases_lt c (a + m)) [
+        | inl inside ↦ let one_hole = (gap_same is_any t.lo t.hi t.blocks sized a (a + m) c (c + n) c (hole_in_table a (a + m) one) (hole_in_table c (c + n) other) (omega arith) inside (omega arith) other.some).0 in absurd (omega (arith, one_hole))
+        | inr le ↦ le
+      ]
+      by_owner a m None c n (Some p) one other l =
+          let is = item_block c n p other in
+          elim (hole_misses a (a + m) one is.0 is.1) [ inl f ↦ absurd (omega (arith, f, l, is.3)) | inr f ↦ omega (arith, f, is.3) ]
+      by_owner a m (Some o) c n None one other l =
+          let is = item_block a m o one in
+          elim (hole_misses c (c + n) other is.0 is.1) [ inl f ↦ omega (arith, f, is.3, is.4) | inr f ↦ absurd (omega (arith, f, l, other.some, is.3)) ]
+      by_owner a m (Some o) c n (Some p) one other l =
+          let is = item_block a m o one in
+          let also = item_block c n p other in
+          omega (arith, is.3, is.4, also.3, blocks_apart t.lo t.hi t.blocks sound.table.laid is.0 also.0 is.1 also.1 (omega (arith, l, is.3, also.3)))
 
   -- A hole is the first part where each block is below the address or above it.
   pub first_hole : (from a b : ℕ) → IsHole t.lo t.hi t.blocks a b → from ≤ a → All (λ x. (x.at < from) ⊎ (b ≤ x.at)) t.blocks → IsFirstItem by_its_id (heap_in t memory) from (Some (record { at = a; size = b - a; owner = None }))
@@ -121,19 +152,12 @@ module _ {t : Table} (sound : IsSound t) (memory : List ℕ) (whole : t.hi ≤ l
 
       not_before : (c d : ℕ) → from ≤ c → c < a → IsHole t.lo t.hi t.blocks c d → ⊥
       not_before c d l under other =
-          let both : (c ≡ a) × (b ≡ b) = hole.maximal c b (omega arith) (omega arith) (record {
-            above = other.clear.above;
-            below = hole.clear.below;
-            misses = All-from_Each (λ x. IsTrue (is_any x) → Misses x.at x.size c b) t.blocks (Each-from (λ x. IsTrue (is_any x) → Misses x.at x.size c b) t.blocks
-                (λ x m t_is. longer from b x.at x.size c d l other.some (each x m) (Each-at (λ x. IsTrue (is_any x) → Misses x.at x.size c d) t.blocks (Each-from_All (λ x. IsTrue (is_any x) → Misses x.at x.size c d) t.blocks other.clear.misses) x m t_is)));
-          }) in
+          let both : (c ≡ a) × (b ≡ b) = hole.maximal c b (omega arith) (omega arith) (clear_from is_any t.lo t.hi t.blocks sized c b other.clear.above hole.clear.below
+          (λ x m any. longer from b x.at x.size c d l other.some (each x m) (missed is_any t.lo t.hi t.blocks sized c d other.clear x m any))) in
           omega (arith, both.0, under)
 
       same_end : (d : ℕ) → IsHole t.lo t.hi t.blocks a d → d ≡ b
-      same_end d other = elim (cases_lt b d) [
-        | inl l ↦ let both : (a ≡ a) × (d ≡ b) = hole.maximal a d (omega arith) (omega arith) other.clear in both.1
-        | inr l ↦ let both : (a ≡ a) × (b ≡ d) = other.maximal a b (omega arith) l hole.clear in sym both.1
-      ]
+      same_end d other = (gap_same is_any t.lo t.hi t.blocks sized a d a b a other hole (omega arith) other.some (omega arith) hole.some).1
 
       others : (at size : ℕ) (owner : Option Owner) → IsItem by_its_id (heap_in t memory) (record { at = at; size = size; owner = owner }) → from ≤ at
           → (◌≡◌ {A = Item} (record { at = at; size = size; owner = owner }) (record { at = a; size = b - a; owner = None })) ⊎ (a < at)
@@ -150,8 +174,7 @@ module _ {t : Table} (sound : IsSound t) (memory : List ℕ) (whole : t.hi ≤ l
       ]
       others at size (Some o) item l =
           let is : IsBlockItem (record { at = at; size = size; owner = Some o }) = item_block at size o item in
-          let here : at ≡ is.0.at = at_block (record { at = at; size = size; owner = Some o }) is.0 (entry_at t is.0.id) is.2 in
-          inr (elim (each is.0 is.1) [ inl m ↦ absurd (omega (arith, m, here)) | inr m ↦ omega (arith, m, here, hole.some) ])
+          inr (elim (each is.0 is.1) [ inl m ↦ absurd (omega (arith, m, is.3)) | inr m ↦ omega (arith, m, is.3, hole.some) ])
 
   -- The next block is, where holes are behind it alone; with no next block there is none.
   pub first_block : (from i : ℕ) (found : Option Item) → i ≡ rank from t.blocks
@@ -166,8 +189,7 @@ module _ {t : Table} (sound : IsSound t) (memory : List ℕ) (whole : t.hi ≤ l
       below none each at size None item = elim (cases_lt at from) [ inl l ↦ l | inr l ↦ absurd (none at (at + size) (hole_in_table at (at + size) item) l) ]
       below none each at size (Some o) item =
           let is : IsBlockItem (record { at = at; size = size; owner = Some o }) = item_block at size o item in
-          let here : at ≡ is.0.at = at_block (record { at = at; size = size; owner = Some o }) is.0 (entry_at t is.0.id) is.2 in
-          omega (arith, here, Each-at (λ (c : Block). c.at < from) t.blocks each is.0 is.1)
+          omega (arith, is.3, Each-at (λ (c : Block). c.at < from) t.blocks each is.0 is.1)
 
       others : (b : Block) (e : Entry) → entry_at t b.id ≡ Some e → HolesBehind (Some b) → Each (λ c. (c.at < from) ⊎ ((c ≡ b) ⊎ (b.at < c.at))) t.blocks
           → (at size : ℕ) (owner : Option Owner) → IsItem by_its_id (heap_in t memory) (record { at = at; size = size; owner = owner }) → from ≤ at
@@ -175,15 +197,14 @@ module _ {t : Table} (sound : IsSound t) (memory : List ℕ) (whole : t.hi ≤ l
       others b e entry none each at size None item l = inr (none at (at + size) (hole_in_table at (at + size) item) l)
       others b e entry none each at size (Some o) item l =
           let is : IsBlockItem (record { at = at; size = size; owner = Some o }) = item_block at size o item in
-          let here : at ≡ is.0.at = at_block (record { at = at; size = size; owner = Some o }) is.0 (entry_at t is.0.id) is.2 in
           elim (Each-at (λ (c : Block). (c.at < from) ⊎ ((c ≡ b) ⊎ (b.at < c.at))) t.blocks each is.0 is.1) [
-            | inl m ↦ absurd (omega (arith, m, here))
+            | inl m ↦ absurd (omega (arith, m, is.3))
             | inr m ↦ elim m [
               | inl same ↦
                   let at_b : IsSomeAnd (entry_at t b.id) (λ e. ◌≡◌ {A = Item} (record { at = at; size = size; owner = Some o }) (item_of b e)) =
                   subst (λ (x : Block). IsSomeAnd (entry_at t x.id) (λ e. ◌≡◌ {A = Item} (record { at = at; size = size; owner = Some o }) (item_of x e))) same is.2 in
                   inl (subst (λ (d : Option Entry). IsSomeAnd d (λ e. ◌≡◌ {A = Item} (record { at = at; size = size; owner = Some o }) (item_of b e))) entry at_b)
-              | inr above ↦ inr (omega (arith, above, here))
+              | inr above ↦ inr (omega (arith, above, is.3))
             ]
           ]
 

@@ -1,5 +1,5 @@
 -- An id's block, in a list that was changed.
-use Rattle.w16_arena.proofs.Common.{◌≡◌, ◌≢◌, ℕ, ◌==◌, List, [], ◌∷◌, cond, Option, Some, None, refl, ap, ◌∙◌, inl, inr, AllByRecursion, cases_lt, lt-ltb, le-ltb, eqb_tells, Block, block_with, placed, all_but, replaced}
+use Rattle.w16_arena.proofs.Common.{others_differ, ◌≡◌, ◌≢◌, ℕ, ◌==◌, List, [], ◌∷◌, cond, Option, Some, None, refl, ap, ◌∙◌, inl, inr, AllByRecursion, cases_lt, lt-ltb, le-ltb, eqb_tells, Block, block_with, placed, all_but, replaced}
 use Rattle.std.proofs.lemmas.Bool.{ne_eqb}
 
 pub with-without : (id : ℕ) (bs : List Block) (q : ℕ) → block_with (all_but id bs) q ≡ cond (id == q) None (block_with bs q)
@@ -25,14 +25,6 @@ with-placed b (c ∷ cs) q free = elim (cases_lt c.at b.at) [
     | inl here ↦ let e : b.id ≢ q = λ h. free.0 (cc) in rw (here.0, ne_eqb b.id q e) refl
     | inr there ↦ rw there.0 (with-placed b cs q free.1)
   ])
-]
-
--- none of the others has its id
-pub others_differ : (id : ℕ) (bs : List Block) → AllByRecursion (λ c. c.id ≢ id) (all_but id bs)
-others_differ id [] = tt
-others_differ id (b ∷ bs) = elim (eqb_tells b.id id) [
-  | inl same ↦ rw same.0 (others_differ id bs)
-  | inr other ↦ rw other.0 (other.1, others_differ id bs)
 ]
 
 pub with-replaced : (b : Block) (bs : List Block) (q : ℕ) → block_with (replaced b bs) q ≡ cond (b.id == q) (Some b) (block_with bs q)

@@ -1,5 +1,5 @@
 //! Discards, by least recent use.
-ghost use Rattle.std.specs.Prelude.{◌≡◌, ◌<◌, ◌≤◌, [], length, slice_get, Option, Some, None, MatchOption};
+ghost use Rattle.std.specs.Prelude.{◌≡◌, ◌≤◌, length, take, Option, vec_capacity};
 ghost use Rattle.w16_model.specs.Discards.{eligible};
 ghost use Rattle.w16_arena.specs.Asked.{Discards};
 ghost use Rattle.w16_arena.specs.State.{KeepsBytes, holes_in};
@@ -22,32 +22,34 @@ impl<H: HoleList> Arena<H> {
         ensures bytes { KeepsBytes S.bytes S.lenders S.written self.new.table.lo self.new.table.hi self.new.table.blocks space.old space.new }
         ensures kept { H.are_in (holes_in self.new.table) (S.bytes space.new) }
     {
-        self.discarded.clear();
-        for _ in 0..k {
-            let Some(id) = first_eligible(&self.blocks, &self.order, h) else {
-                return;
-            };
+        list_eligible(&self.blocks, &self.order, k, h, &mut self.discarded);
+        for i in 0..self.discarded.len() {
+            let id = self.discarded[i];
             self.give_up(space, id);
-            self.discarded.push_reserved(id);
         }
     }
 }
 
-/// The oldest that a request about `h` may discard: not locked, and not `h` itself.
-fn first_eligible<H: HoleList>(
+/// Lists the first `k` that a request about `h` may discard, or all where there are fewer: those that aren't locked, and not `h` itself.
+fn list_eligible<H: HoleList>(
     blocks: &Blocks<H>,
     order: &Order<H::Alloc>,
+    k: usize,
     h: Option<u32>,
-) -> Option<u32>
-    requires { order.now.cap ≤ blocks.now.cap }
-    ensures { MatchOption result
-        (eligible blocks.now.blocks order.now.ids h ≡ [])
-        (λ id. slice_get (eligible blocks.now.blocks order.now.ids h) 0 ≡ Some id) }
+    listed: &mut Vec<u32, H::Alloc>,
+)
+    requires ids { order.now.cap ≤ blocks.now.cap }
+    requires room { length order.now.ids ≤ vec_capacity listed.old }
+    ensures listed { listed.new.items ≡ take k (eligible blocks.now.blocks order.now.ids h) }
+    ensures room { vec_capacity listed.new ≡ vec_capacity listed.old }
 {
+    listed.clear();
     for id in order.oldest_first() {
+        if listed.len() == k {
+            return;
+        }
         if is_eligible(blocks, h, id) {
-            return Some(id);
+            listed.push_reserved(id);
         }
     }
-    None
 }

@@ -5,7 +5,7 @@
 //! for in a memory. No call but [`Arena::new`] takes memory of the host.
 #![tactic(auto)]
 
-ghost use Rattle.std.specs.Prelude.{◌≡◌, ◌<◌, ◌≤◌, ◌⊎◌, ℕ, [], length, replicate, slice_get, None, IfOk, IfSome, IfNone};
+ghost use Rattle.std.specs.Prelude.{◌≡◌, ◌≢◌, ◌<◌, ◌≤◌, ◌⊎◌, ℕ, [], length, replicate, slice_get, Some, None, IfOk, IfSome, IfNone};
 ghost use Rattle.w16_model.specs.Heap.{IsMultiple};
 ghost use Rattle.w16_model.specs.Table.{block_with, entry_at, IsSound};
 ghost use Rattle.w16_holes.specs.Holes.{add_span};
@@ -141,6 +141,15 @@ impl<H: HoleList> Arena<H> {
             return None;
         }
         self.blocks.find(id)
+    }
+
+    /// The block that begins at an address, if one does.
+    pub fn block_beginning_at(&self, place: u32) -> Option<Block>
+        ensures found { IfSome result (λ b. (b.at ≡ place) × (block_with self.now.table.blocks b.id ≡ Some b)) }
+        ensures none { IfNone result ((q : ℕ) → IfSome (block_with self.now.table.blocks q) (λ c. c.at ≢ place)) }
+        ensures sound { IsSound self.now.table }
+    {
+        self.blocks.beginning_at(place)
     }
 
     /// The lowest block at or above an address, if there is one.

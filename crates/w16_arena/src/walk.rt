@@ -1,7 +1,7 @@
 //! A walk of the heap, part by part.
 ghost use Rattle.std.specs.Prelude.{◌≡◌, ◌+◌, ◌^◌, ◌<◌, ◌≤◌, ℕ, List, length, IfSome, IsSomeAnd, Some, slice_get};
 ghost use Rattle.w16_model.specs.Table.{entry_at, heap_in, IsSound};
-ghost use Rattle.w16_model.specs.Walk.{IsFirstItem, IsItemAt, by_its_id};
+ghost use Rattle.w16_model.specs.Walk.{IsFirstItem, IsItem, IsItemAt, by_its_id};
 ghost use Rattle.w16_arena.specs.State.{holes_in};
 
 use crate::Arena;
@@ -22,19 +22,22 @@ impl<H: HoleList> Arena<H> {
         let mut from = 0;
         for _ in 0..i {
             let item = self.walk_from(space, from)?;
-            from = item.at + 1;
+            from = item.at + item.size;
         }
         self.walk_from(space, from)
     }
 
     /// The first part of the heap that begins at an address or above it; none behind the last. A whole walk asks from 0 on, and then each
-    /// time from one above where the last part begins. From inside a part the next is sought unit by unit.
+    /// time from where the last part ends. From inside a part the next is sought unit by unit.
     pub fn walk_from<S: Space>(&self, space: &S, from: u32) -> Option<Item>
     where
         H: Holes<S>,
         requires kept { H.are_in (holes_in self.now.table) (S.bytes space.now) }
         ensures found { (memory : List ℕ) → self.now.table.hi ≤ length memory → IsFirstItem by_its_id (heap_in self.now.table memory) from result }
         ensures inside { IfSome result (λ item. (0 < item.size) × (item.at + item.size < 2 ^ 32)) }
+
+        // No part begins inside it.
+        ensures apart { (memory : List ℕ) → self.now.table.hi ≤ length memory → IfSome result (λ item. (other : Item) → IsItem by_its_id (heap_in self.now.table memory) other → item.at < other.at → item.at + item.size ≤ other.at) }
     {
         match self.blocks.part_from(space, from)? {
             Part::Hole(hole) => Some(Item {

@@ -1,5 +1,5 @@
 -- What a step on blocks leaves of the bytes, where it keeps those that no hole has: each block's, and all outside the bounds.
-use Rattle.w16_blocks.proofs.Common.{ℕ, ◌≡◌, ◌+◌, ◌-◌, ◌<◌, ◌≤◌, List, [], ◌∷◌, length, drop, arith, sym, ◌∙◌, inl, inr, length-drop, take_all, AllByRecursion, Block, Span, part, IsLaid, block_end, holes, IsSameOutside, laid_each, AreHoles, IsUsed, AreSameOutside, AreSameBut}
+use Rattle.w16_blocks.proofs.Common.{Range, IsPart, Layout, range_of, ap, ℕ, ◌≡◌, ◌+◌, ◌-◌, ◌<◌, ◌≤◌, List, [], ◌∷◌, length, drop, arith, sym, ◌∙◌, inl, inr, length-drop, take_all, AllByRecursion, Block, Span, part, IsLaid, block_end, holes, IsSameOutside, laid_each, AreHoles, IsUsed, AreSameOutside, AreSameBut}
 use Rattle.w16_blocks.proofs.Free.{Lacks, AreHoles-holes, free_lacks, used_of}
 
 -- each block's bytes are used
@@ -51,3 +51,8 @@ outside_but lo hi place n bs cs old new one two from to same = record {
   below = same.same 0 lo (used_low lo hi bs one) (used_low lo hi cs two) (inl (omega arith));
   above = rest_of old new hi same.long (same.same hi (length old - hi) (used_high lo hi bs one (length old - hi)) (used_high lo hi cs two (length old - hi)) (inr to));
 }
+
+-- a part of a layout's range lies in each memory that has the range
+pub part_inside : {range then : Range} {now l : Layout} {at n a b d : ℕ} → IsPart then at n → then ≡ range → range ≡ range_of now → now ≡ l → l.hi ≤ a → b ≡ a → d ≡ b → at + n ≤ d
+part_inside part same ranged is high long longer =
+    let to = part.to in let one = ap (λ (r : Range). r.hi) (same ∙ ranged) in let two = ap (λ (m : Layout). m.hi) is in omega arith

@@ -1,5 +1,5 @@
 -- What taking a block away keeps of a list.
-use Rattle.w16_blocks.proofs.Common.{ℕ, ◌≡◌, ◌≢◌, ◌+◌, ◌<◌, ◌≤◌, ◌==◌, true, false, List, [], ◌∷◌, Some, None, is_some, sum_by, arith, refl, sym, subst, ap, ◌∙◌, inl, inr, eqb_tells, ne_eqb, false≢true, sum_by-cons, AllByRecursion, Block, IsLaid, block_end, block_with, Each-map, laid_each, IsApart, placed, all_but, replaced, AreNamed}
+use Rattle.w16_blocks.proofs.Common.{IfSome, Option, IsOrdered, Layout, ℕ, ◌≡◌, ◌≢◌, ◌+◌, ◌<◌, ◌≤◌, ◌==◌, true, false, List, [], ◌∷◌, Some, None, is_some, sum_by, arith, refl, sym, subst, ap, ◌∙◌, inl, inr, eqb_tells, ne_eqb, false≢true, sum_by-cons, AllByRecursion, Block, IsLaid, block_end, block_with, Each-map, laid_each, IsApart, placed, all_but, replaced, AreNamed}
 use Rattle.w16_blocks.proofs.Place.{placed_first, placed_after}
 
 pub all_but_same : (id : ℕ) (c : Block) (cs : List Block) → (c.id == id) ≡ true → all_but id (c ∷ cs) ≡ all_but id cs
@@ -137,3 +137,12 @@ replaced-itself lo hi cap x (b ∷ bs) laid named e =
           let behind = (each_with (λ y. (block_end b ≤ y.at) × (0 < y.size) × (block_end y ≤ hi)) x.id x bs e' (laid_each (block_end b) hi bs laid.2)).0 in
           ap (placed x) (all_but_other x.id b bs other.0) ∙ placed_after x b (all_but x.id bs) (omega arith) ∙ ap (λ (cs : List Block). b ∷ cs) (replaced-itself (block_end b) hi cap x bs laid.2 named.2 e')
     ]
+
+-- a block that was found is its id's, and in its place the same block leaves the layout
+module _ (l : Layout) (ordered : IsOrdered l) (id : ℕ) (x : Block) (known : block_with l.blocks id ≡ Some x) where
+  pub itself : block_with l.blocks x.id ≡ Some x
+  itself = ap (block_with l.blocks) (with_id id x l.blocks known) ∙ known
+
+  pub same_there : (y : Block → Block) → y x ≡ x → IfSome (block_with l.blocks id) (λ b. l ≡ record l { blocks = replaced (y b) l.blocks })
+  same_there y same = subst (λ (o : Option Block). IfSome o (λ b. l ≡ record l { blocks = replaced (y b) l.blocks })) (sym known)
+      (ap (λ (bs : List Block). record l { blocks = bs }) (sym (ap (λ (c : Block). replaced c l.blocks) same ∙ replaced-itself l.lo l.hi l.cap x l.blocks ordered.laid ordered.named itself)))

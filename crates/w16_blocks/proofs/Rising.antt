@@ -2,10 +2,10 @@
 use Rattle.w16_blocks.proofs.Common.{ℕ, ◌≡◌, ◌≢◌, ◌+◌, ◌-◌, ◌<◌, ◌≤◌, ◌^◌, ◌⊎◌, List, [], ◌∷◌, map, Some, eqb, arith, refl, sym, ap, ◌∙◌, subst, inl, inr, cases_lt, eqb_tells, AllByRecursion, Block, Span, IsLaid, block_end, IsMultiple, block_with, Each-map, Each-both, laid_each, multiple_sum, IsLastBelow, Layout, IsOrdered, FitsFor, replaced, IsCut, IsRun, IsBare, slid_with}
 use Rattle.std.proofs.lemmas.Bool.{eq-eqb}
 use Rattle.w16_blocks.proofs.Free.{Lacks, lacks_free}
-use Rattle.w16_blocks.proofs.Lifting.{IsPassed, replaced-lifted, fits_lifted, around}
+use Rattle.w16_blocks.proofs.Lifting.{IsPassed, fits_lifted, around}
 use Rattle.w16_blocks.proofs.Remove.{with_same, with_other, each_with}
 use Rattle.w16_blocks.proofs.RunHoles.{All-mapped, All-unmapped}
-use Rattle.w16_blocks.proofs.Sliding.{slid_below, slid_above, slid_inside, moved_to}
+use Rattle.w16_blocks.proofs.Sliding.{IsAround, replaced-slid, slid_below, slid_above, slid_inside, moved_to}
 use Rattle.w16_blocks.proofs.Step.{lies, grained_known, lacks_known, multiple_less}
 
 -- an id's block, where blocks move
@@ -160,7 +160,9 @@ module _ (l : Layout) (ordered : IsOrdered l) (ids : l.cap < 2 ^ 32) (run : Span
   pub list_next : replaced (record x { at = next }) now.blocks ≡ map (slid_with (record { from = x.at; to = run.to }) next) l.blocks
   list_next =
       let b = begins_in in
-      replaced-lifted now.lo now.hi now.cap next x now.blocks ordered_now.laid ordered_now.named is_last.known (omega arith) passed
+      let up : x.at ≤ next = omega arith in
+      replaced-slid now.lo now.hi now.cap next x now.blocks ordered_now.laid ordered_now.named is_last.known
+      (Each-map (IsPassed x next) (IsAround x.at next) (λ c is. (λ less some. omega arith, λ more. elim is [ inl under ↦ absurd (omega arith) | inr over ↦ omega arith ])) now.blocks passed)
       ∙ ap (map (slid_with (record { from = x.at; to = block_end x }) next)) blocks ∙ each_one l.blocks last
 
   pub cut_next : IsCut x.at l.blocks

@@ -1,5 +1,6 @@
 -- What is kept where a run of blocks slides.
-use Rattle.w16_blocks.proofs.Common.{ℕ, ◌≡◌, ◌+◌, ◌-◌, ◌<◌, ◌≤◌, List, length, map, sum_by, arith, refl, sym, ap, ◌∙◌, subst, Block, Span, part, put_part, IsLaid, holes, Range, IsFree, IsUsed, IsPart, AreSameIn, AreSameOutside, taken, joined, Layout, holes_of, blocks_in, layout_in, pins_in, AreTables, BlocksInvariant, IsRun, slid_with, AreSameBut}
+use Rattle.std.specs.Prelude.{Vec}
+use Rattle.w16_blocks.proofs.Common.{with_items, with_items_is, ℕ, ◌≡◌, ◌+◌, ◌-◌, ◌<◌, ◌≤◌, List, length, map, sum_by, arith, refl, sym, ap, ◌∙◌, subst, Block, Span, part, put_part, IsLaid, holes, Range, IsFree, IsUsed, IsPart, AreSameIn, AreSameOutside, taken, joined, Layout, holes_of, blocks_in, layout_in, pins_in, AreTables, BlocksInvariant, IsRun, slid_with, AreSameBut}
 use Rattle.w16_blocks.proofs.Slid.{free_stays, come_along, others_stay}
 use Rattle.w16_blocks.proofs.RunHoles as run_holes
 use Rattle.w16_blocks.proofs.RunHoles.{IsWay, sum-slid}
@@ -74,3 +75,21 @@ module _ {cap lo hi g : ℕ} {slots : List Block} {cells : List ℕ} {free pinne
         pub others_same : AreSameBut to (run.to - run.from) (holes_of l) kept' first last
         others_same = subst (λ (hs : List Span). AreSameBut to (run.to - run.from) hs kept' first last) (k.between ∙ ap holes_of is_l)
             (others_stay run.from to (run.to - run.from) first second third last kept kept' take_same slid put_same (source_in inside) (target_in inside))
+
+-- Tables that are lent as slices and come back written tell what the slices tell.
+module _ {Z : Type 0} (s : Vec Block Z) (b : Vec ℕ Z) (slots slots' : List Block) (cells cells' : List ℕ) (lent : slots ≡ s.items) (cells_lent : cells ≡ b.items) (long : length slots' ≡ length slots) (cells_long : length cells' ≡ length cells) where
+  slots_back : (with_items s slots').items ≡ slots'
+  slots_back = with_items_is s slots' (let a = ap (length {A = Block}) lent in let d = s.ok.0 in omega arith)
+
+  cells_back : (with_items b cells').items ≡ cells'
+  cells_back = with_items_is b cells' (let a = ap (length {A = ℕ}) cells_lent in let d = b.ok.0 in omega arith)
+
+  pub tables_back : {lo hi g : ℕ} → AreTables (length slots) lo hi g slots' cells' → AreTables s.len lo hi g (with_items s slots').items (with_items b cells').items
+  tables_back {lo} {hi} {g} told =
+      let same : length slots ≡ s.len = let a = ap (length {A = Block}) lent in let d = s.ok.0 in omega arith in
+      subst (λ (ss : List Block). AreTables s.len lo hi g ss (with_items b cells').items) (sym slots_back) (subst (λ (cs : List ℕ). AreTables s.len lo hi g slots' cs) (sym cells_back) (subst (λ n. AreTables n lo hi g slots' cells') same told))
+
+  pub blocks_back : (f : Block → Block) → blocks_in slots' cells' ≡ map f (blocks_in slots cells) → blocks_in (with_items s slots').items (with_items b cells').items ≡ map f (blocks_in s.items b.items)
+  blocks_back f told =
+      ap (λ (ss : List Block). blocks_in ss (with_items b cells').items) slots_back ∙ ap (blocks_in slots') cells_back ∙ told
+      ∙ ap (λ (ss : List Block). map f (blocks_in ss cells)) lent ∙ ap (λ (cs : List ℕ). map f (blocks_in s.items cs)) cells_lent

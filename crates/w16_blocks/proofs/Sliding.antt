@@ -64,11 +64,15 @@ module _ (from at next to : ℕ) (start : from ≤ at) (more : at ≤ next) (dow
   slid_both [] = refl
   slid_both (b ∷ bs) = λ i. one_by_one b i ∷ slid_both bs i
 
--- a block in place of itself at a lower place, above those before it
-pub replaced-slid : (lo hi cap to : ℕ) (x : Block) (bs : List Block) → IsLaid lo hi bs → AreNamed cap bs → block_with bs x.id ≡ Some x → to ≤ x.at → AllByRecursion (λ c. (block_end c ≤ to) ⊎ (x.at ≤ c.at)) bs
+-- what begins below a place begins below another, and what begins above it not
+abbrev pub IsAround : ℕ → ℕ → Block → Type 0
+IsAround at to c = (c.at < at → 0 < c.size → c.at < to) × (at < c.at → to ≤ c.at)
+
+-- a block in place of itself at another place, around which the others are as they were: the same list, with that block slid
+pub replaced-slid : (lo hi cap to : ℕ) (x : Block) (bs : List Block) → IsLaid lo hi bs → AreNamed cap bs → block_with bs x.id ≡ Some x → AllByRecursion (IsAround x.at to) bs
     → replaced (record x { at = to }) bs ≡ map (slid_with (record { from = x.at; to = block_end x }) to) bs
-replaced-slid lo hi cap to x [] laid named e down all = absurd (false≢true (ap is_some e))
-replaced-slid lo hi cap to x (b ∷ bs) laid named e down all =
+replaced-slid lo hi cap to x [] laid named e all = absurd (false≢true (ap is_some e))
+replaced-slid lo hi cap to x (b ∷ bs) laid named e all =
     let run : Span = record { from = x.at; to = block_end x } in
     let size = laid.1 in
     elim (eqb_tells b.id x.id) [
@@ -76,17 +80,17 @@ replaced-slid lo hi cap to x (b ∷ bs) laid named e down all =
           let f : Some b ≡ Some x = sym (with_same x.id b bs same.0) ∙ e in let g : b ≡ x = cc in
           let place = ap (λ (c : Block). c.at) g in let long = ap (λ (c : Block). c.size) g in
           let rest : all_but x.id (b ∷ bs) ≡ bs = all_but_same x.id b bs same.0 ∙ all_but_absent x.id bs (rest_differs cap x.id b bs same.1 named) in
-          let behind = laid_each (block_end b) hi bs laid.2 in
+          let behind = Each-both (λ y. (block_end b ≤ y.at) × (0 < y.size) × (block_end y ≤ hi)) (IsAround x.at to) (λ y. (block_end x ≤ y.at) × (to ≤ y.at))
+          (λ y is past. let from = is.0 in (omega arith, past.1 (omega arith))) bs (laid_each (block_end b) hi bs laid.2) all.1 in
           ap (placed (record x { at = to })) rest
-          ∙ placed_first (record x { at = to }) bs (Each-map (λ y. (block_end b ≤ y.at) × (0 < y.size) × (block_end y ≤ hi)) (λ y. to ≤ y.at) (λ y is. let from = is.0 in omega arith) bs behind)
+          ∙ placed_first (record x { at = to }) bs (Each-map (λ y. (block_end x ≤ y.at) × (to ≤ y.at)) (λ y. to ≤ y.at) (λ y is. is.1) bs behind)
           ∙ (λ i. (moved_to x to (to + (x.at - x.at)) (omega arith) ∙ sym (slid_inside run to x (omega arith) (omega arith)) ∙ ap (slid_with run to) (sym g)) i
-          ∷ sym (map-same (slid_with run to) bs (Each-map (λ y. (block_end b ≤ y.at) × (0 < y.size) × (block_end y ≤ hi)) (λ y. slid_with run to y ≡ y) (λ y is. let from = is.0 in slid_above run to y (omega arith)) bs behind)) i)
+          ∷ sym (map-same (slid_with run to) bs (Each-map (λ y. (block_end x ≤ y.at) × (to ≤ y.at)) (λ y. slid_with run to y ≡ y) (λ y is. slid_above run to y is.0) bs behind)) i)
       | inr other ↦
           let e' : block_with bs x.id ≡ Some x = sym (with_other x.id b bs other.0) ∙ e in
           let behind = (each_with (λ y. (block_end b ≤ y.at) × (0 < y.size) × (block_end y ≤ hi)) x.id x bs e' (laid_each (block_end b) hi bs laid.2)).0 in
-          let below : block_end b ≤ to = elim all.0 [ inl under ↦ under | inr over ↦ absurd (omega arith) ] in
-          ap (placed (record x { at = to })) (all_but_other x.id b bs other.0) ∙ placed_after (record x { at = to }) b (all_but x.id bs) (omega arith)
-          ∙ (λ i. sym (slid_below run to b (omega arith)) i ∷ replaced-slid (block_end b) hi cap to x bs laid.2 named.2 e' down all.1 i)
+          ap (placed (record x { at = to })) (all_but_other x.id b bs other.0) ∙ placed_after (record x { at = to }) b (all_but x.id bs) (all.0.0 (omega arith) size)
+          ∙ (λ i. sym (slid_below run to b (omega arith)) i ∷ replaced-slid (block_end b) hi cap to x bs laid.2 named.2 e' all.1 i)
     ]
 
 -- a block that lies below where the next one slides to, or from the place on that is reached, and there in the run or behind it
@@ -165,8 +169,8 @@ module _ (l : Layout) (ordered : IsOrdered l) (ids : l.cap < 2 ^ 32) (run : Span
   -- the blocks that slid so far are one more
   pub slid_then : (old : List Block) → l.blocks ≡ map (slid_with (record { from = run.from; to = at }) to) old → replaced there l.blocks ≡ map (slid_with (record { from = run.from; to = at + x.size }) to) old
   slid_then old is =
-      replaced-slid l.lo l.hi l.cap (to + (at - run.from)) x l.blocks ordered.laid ordered.named known (omega arith)
-      (Each-map (IsReady run to at) (λ c. (block_end c ≤ to + (at - run.from)) ⊎ (x.at ≤ c.at)) (λ c is. elim is [ inl below ↦ inl below | inr above ↦ let le = above.0 in inr (omega arith) ]) l.blocks ready)
+      replaced-slid l.lo l.hi l.cap (to + (at - run.from)) x l.blocks ordered.laid ordered.named known
+      (Each-map (IsReady run to at) (IsAround x.at (to + (at - run.from))) (λ c is. (λ less some. elim is [ inl below ↦ omega arith | inr above ↦ let le = above.0 in absurd (omega arith) ], λ more. omega arith)) l.blocks ready)
       ∙ ap (λ (p : ℕ). map (slid_with (record { from = p; to = p + x.size }) (to + (at - run.from))) l.blocks) here
       ∙ ap (map (slid_with (record { from = at; to = at + x.size }) (to + (at - run.from)))) is
       ∙ slid_both run.from at (at + x.size) to from (omega arith) down old

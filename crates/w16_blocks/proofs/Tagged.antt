@@ -1,5 +1,7 @@
 -- The block that begins at a place, by the place's cell.
-use Rattle.w16_blocks.proofs.Common.{ℕ, zero, suc, ◌≡◌, ◌≢◌, ◌+◌, ◌-◌, ◌*◌, ◌<◌, ◌≤◌, List, [], ◌∷◌, length, get_or, Some, arith, refl, sym, ap, ◌∙◌, subst, slice_index, AllByRecursion, Block, block_with, below, Layout, no_block, slot_of, blocks_in, layout_in, AreTables}
+use Rattle.std.proofs.lemmas.Nat.{mod-mul-add}
+use Rattle.std.specs.Prelude.{◌%◌}
+use Rattle.w16_blocks.proofs.Common.{Each-both, laid_each, block_end, IsOrdered, IsGrained, ℕ, zero, suc, ◌≡◌, ◌≢◌, ◌+◌, ◌-◌, ◌*◌, ◌<◌, ◌≤◌, List, [], ◌∷◌, length, get_or, Some, arith, refl, sym, ap, ◌∙◌, subst, slice_index, AllByRecursion, Block, block_with, below, Layout, no_block, slot_of, blocks_in, layout_in, AreTables}
 use Rattle.w16_blocks.proofs.Cells.{All-told, told_with}
 use Rattle.w16_blocks.proofs.Tables.{same_unit}
 
@@ -36,6 +38,14 @@ module _ {cap lo hi g : ℕ} {slots : List Block} {cells : List ℕ} (t : AreTab
       is_known =
           ap (block_with (blocks_in slots cells)) (ap (λ (c : Block). c.id) is_slot ∙ (t.begun u (begin - 1) tells).same)
           ∙ told_with lo g slots cells u (begin - 1) t.begun tells ∙ ap Some (sym is_slot)
+
+-- none begins outside the bounds, or at no multiple of the grain
+pub none_off : (l : Layout) (place : ℕ) → IsOrdered l → 0 < l.grain → (l.lo ≤ place → place ≤ l.hi → place % l.grain ≡ 0 → ⊥) → AllByRecursion (λ b. b.at ≢ place) l.blocks
+none_off l place ordered some out =
+    Each-both (λ b. (l.lo ≤ b.at) × (0 < b.size) × (block_end b ≤ l.hi)) (IsGrained l.grain) (λ b. b.at ≢ place)
+    (λ b lies grained e. let low = lies.0 in let high = lies.2 in let m = grained.0 in
+    out (omega arith) (omega arith) (ap (λ n. n % l.grain) (let whole : place ≡ m.0 * l.grain + 0 = let times = m.1 in omega arith in whole) ∙ mod-mul-add m.0 l.grain 0 some))
+    l.blocks (laid_each l.lo l.hi l.blocks ordered.laid) ordered.grained
 
 -- a block that lent tables tell is the layout's
 pub known_by : {cap lo hi g : ℕ} {slots slots' : List Block} {cells cells' : List ℕ} {l : Layout} (x : Block) → layout_in cap lo hi g slots cells ≡ l → slots' ≡ slots → cells' ≡ cells → block_with (blocks_in slots' cells') x.id ≡ Some x → block_with l.blocks x.id ≡ Some x

@@ -73,13 +73,29 @@ fn retag_run(slots: &mut [Block], begins: &mut [u32], bounds: Span, grain: u32, 
 }
 
 impl<H: HoleList> Blocks<H> {
-    ghost use Rattle.std.specs.Prelude.{◌≡◌, ◌+◌, ◌-◌, ◌<◌, ◌≤◌, length, map};
+    ghost use Rattle.std.specs.Prelude.{◌≡◌, ◌≢◌, ◌+◌, ◌-◌, ◌<◌, ◌≤◌, Some, length, map, MatchOption};
+    ghost use Rattle.std.specs.List.{AllByRecursion};
+    ghost use Rattle.w16_model.specs.Table.{block_with};
     ghost use Rattle.w16_model.specs.Heap.{IsMultiple};
     ghost use Rattle.w16_model.specs.Bytes.{part};
     ghost use Rattle.w16_region.specs.Bytes.{counted};
     ghost use Rattle.w16_blocks.specs.Layout.{IsOrdered, holes_of};
     ghost use Rattle.w16_blocks.specs.Stay.{AreSameBut};
     ghost use Rattle.w16_blocks.specs.Runs.{IsCut, IsRun, IsBare, EndsAt, slid_with};
+
+    /// The block that begins at a place, in one step. None begins at a place outside the bounds, or at no multiple of the grain.
+    pub fn beginning_at(&self, place: u32) -> Option<Block>
+        ensures value { MatchOption result
+            (AllByRecursion (λ b. b.at ≢ place) self.now.blocks)
+            (λ b. (b.at ≡ place) × (block_with self.now.blocks b.id ≡ Some b)) }
+        ensures ordered { IsOrdered self.now }
+    {
+        let bounds = self.bounds();
+        if place < bounds.from || place > bounds.to || place % self.grain != 0 {
+            return None;
+        }
+        block_at(&self.slots, &self.begins, bounds, self.grain, place)
+    }
 
     /// Where the run of blocks ends that stand one behind another from a place on: at `high` at the latest, which no block reaches over, and
     /// at the place itself where no block begins there.

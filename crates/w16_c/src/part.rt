@@ -58,7 +58,8 @@ fn told(item: Item) -> Part
     }
 }
 
-/// `Walk`, part by part: the first part that begins at an address or above it. `END` behind the last, and then `part` stays as it was.
+/// `Walk`, part by part: the first part that begins at an address or above it. `END` behind the last, and then `part` stays as it was. A
+/// whole walk goes from 0 to each part's end.
 #[unsafe(no_mangle)]
 pub extern "C" fn w16_walk_from(alloc: Global, held: &mut Held, from: u32, part: &mut Part) -> u8
     ensures held { held.old.is_held ≡ true → TellsPart held.old from result part.old part.new }

@@ -1,41 +1,10 @@
-//! The machine's calls, as tables of calls with the answers that were worked out by hand.
+//! What a kernel tells beside its calls.
 
-mod bench;
-mod refusals;
-mod scripts;
-
-use bench::{Bench, Step, Told};
-use scripts::SCRIPTS;
-use std::alloc::{AllocError, Global};
-use std::process::Abort;
+use std::alloc::AllocError;
 use std::test::Fail;
-use w16_kernel::{SizeFault, check_sizes};
-
-/// A new machine of so many bytes with 16 selectors, and what is asked of it with the answers.
-struct Script {
-    name: &'static str,
-    memory: u32,
-    lines: &'static [(Step, Told)],
-}
-
-/// The number of a script's first step, counted from 0, that is answered otherwise.
-fn first_wrong(
-    rt: &impl Abort,
-    alloc: Global,
-    script: &Script,
-) -> Result<Option<usize>, AllocError> {
-    let mut bench = Bench::new(rt, alloc, alloc, script.memory)?;
-    Ok(bench.first_wrong(script.lines))
-}
-
-#[test]
-fn answers_calls(rt: HostRuntime) -> Result<(), Fail> {
-    for script in SCRIPTS {
-        let wrong = first_wrong(&rt, rt.alloc(), script)?;
-        assert!(rt; wrong.is_none(), "{}: {wrong:?}", script.name);
-    }
-    Ok(())
-}
+use w16_kernel::{Kernel, SizeFault, check_sizes};
+use w16_model::Item;
+use w16_store::MemStore;
 
 /// Sizes of memory, numbers of selectors, and what is said of them.
 static SIZES: &[(u32, u32, Result<(), SizeFault>)] = &[
@@ -56,4 +25,21 @@ fn sizes_are_checked(rt: HostRuntime) {
         let said = check_sizes(*memory, *selectors);
         assert!(rt; said == *wanted, "{memory} bytes, {selectors} selectors");
     }
+}
+
+/// A hole of 96 bytes at 0.
+const ALL: Option<Item> = Some(Item {
+    at: 0,
+    size: 96,
+    owner: None,
+});
+
+#[test]
+fn parts_are_told_by_number_and_by_address(rt: HostRuntime) -> Result<(), AllocError> {
+    let kernel = Kernel::new(rt.alloc(), rt.alloc(), 96, 16, MemStore::new(rt.alloc()))?;
+    let by_number = [kernel.walk_at(0), kernel.walk_at(1)];
+    let by_address = [kernel.walk_from(0), kernel.walk_from(1)];
+    assert!(rt; by_number == [ALL, None], "{by_number:?}");
+    assert!(rt; by_address == [ALL, None], "{by_address:?}");
+    Ok(())
 }

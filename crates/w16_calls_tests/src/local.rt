@@ -1,36 +1,36 @@
-//! The calls of local heaps, as tables of calls with the answers that were worked out by hand.
+//! What local heaps tell beside their calls.
 
-mod bench;
-mod scripts;
-
-use bench::{Bench, Call};
-use scripts::SCRIPTS;
 use std::alloc::{AllocError, Global};
-use std::process::Abort;
 use std::test::Fail;
+use w16_global::Global16;
+use w16_local::LocalHeaps;
 
-/// A new global heap of so many bytes with 16 selectors and no local heap, and calls with their answers.
-struct Script {
-    name: &'static str,
-    memory: u32,
-    lines: &'static [(Call, u32)],
+/// Where the heaps end in the objects of these handles: that of the segment of the only heap, its selector, and one of no object.
+fn ends(local: &LocalHeaps, global: &Global16) -> [Option<u32>; 3] {
+    [
+        local.heap_end(global, 0x106),
+        local.heap_end(global, 0x107),
+        local.heap_end(global, 0x10E),
+    ]
 }
 
-/// The number of a script's first call, counted from 0, that is answered otherwise.
-fn first_wrong(
-    rt: &impl Abort,
-    alloc: Global,
-    script: &Script,
-) -> Result<Option<usize>, AllocError> {
-    let mut bench = Bench::new(rt, alloc, script.memory)?;
-    bench.first_wrong(script.lines)
+/// What is told of a heap from 5 to 63 in a new object, behind a drop of its selector, and behind one of its handle.
+fn told(alloc: Global) -> Result<[[Option<u32>; 3]; 3], AllocError> {
+    let mut global = Global16::new(alloc, 4096, 16)?;
+    let mut local = LocalHeaps::new(alloc, 16)?;
+    let _ = global.global_alloc(0x42, 64);
+    let _ = local.local_init(&global, 0, 0x107, 5, 63)?;
+    let begun = ends(&local, &global);
+    local.drop_heap(&global, 0x107);
+    let kept = ends(&local, &global);
+    local.drop_heap(&global, 0x106);
+    Ok([begun, kept, ends(&local, &global)])
 }
 
 #[test]
-fn answers_calls(rt: HostRuntime) -> Result<(), Fail> {
-    for script in SCRIPTS {
-        let wrong = first_wrong(&rt, rt.alloc(), script)?;
-        assert!(rt; wrong.is_none(), "{}: {wrong:?}", script.name);
-    }
+fn a_heap_goes_by_the_handle_of_its_object(rt: HostRuntime) -> Result<(), Fail> {
+    let there = [Some(60), None, None];
+    let told = told(rt.alloc())?;
+    assert!(rt; told == [there, there, [None; 3]], "{told:?}");
     Ok(())
 }

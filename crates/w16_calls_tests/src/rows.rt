@@ -130,6 +130,30 @@ fn joined(alloc: Global, parts: &[(&[u8], u32)]) -> Result<Vec<u8>, AllocError> 
     Ok(text)
 }
 
+/// The same of an object of a local heap, and of a fixed one, which counts none.
+const LOCAL_LOCKS: &[(&[u8], u32)] = &[
+    (
+        b"GlobalAlloc 0x42 128\nLocalInit 0x107 4 128\nDS 0x107\nLocalAlloc 0x102 4\n",
+        1,
+    ),
+    (b"LocalLock 2\n", 256),
+    (
+        b"LocalFlags 2\nLocalFree 2\nLocalDiscard 2\nLocalUnlock 2\n",
+        1,
+    ),
+    (
+        b"LocalAlloc 0 4\nLocalLock 8\nLocalUnlock 8\nLocalFlags 8\n",
+        1,
+    ),
+];
+
+const LOCAL_LOCKS_OUTPUT: &[(&[u8], u32)] = &[
+    (b"0106\n0001\nok\n0002\n", 1),
+    (b"0004\n", 255),
+    (b"0000\n0fff\n0002\n0000\n0001\n", 1),
+    (b"0008\n0008\n0000\n0000\n", 1),
+];
+
 /// Whether a run on a small machine ends by this fault, or with its script where there is none, and this was printed.
 fn ends<R: Read>(
     alloc: Global,
@@ -144,10 +168,39 @@ fn ends<R: Read>(
 
 #[test]
 fn locks_up_to_the_full_count(rt: HostRuntime) -> Result<(), Fail> {
-    let script = joined(rt.alloc(), LOCKS)?;
-    let wanted = joined(rt.alloc(), LOCKS_OUTPUT)?;
-    let prints = ends(rt.alloc(), &mut script.as_slice(), None, &wanted)?;
-    assert!(rt; prints);
+    for (parts, output) in [(LOCKS, LOCKS_OUTPUT), (LOCAL_LOCKS, LOCAL_LOCKS_OUTPUT)] {
+        let script = joined(rt.alloc(), parts)?;
+        let wanted = joined(rt.alloc(), output)?;
+        let prints = ends(rt.alloc(), &mut script.as_slice(), None, &wanted)?;
+        assert!(rt; prints);
+    }
+    Ok(())
+}
+
+/// All entries of a local heap but one, and the last.
+const ENTRIES: &[(&[u8], u32)] = &[
+    (
+        b"GlobalAlloc 0x42 8192\nLocalInit 0x107 4 8192\nDS 0x107\n",
+        1,
+    ),
+    (b"LocalAlloc 2 4\n", 1023),
+    (
+        b"LocalAlloc 2 0\nLocalAlloc 2 0\nLocalAlloc 0 4\nLocalFree 2002\nLocalFree 402\n",
+        1,
+    ),
+    (
+        b"LocalAlloc 2 4\nLocalAlloc 2 4\nLocalAlloc 2 4\nLocalDiscard 402\n",
+        1,
+    ),
+];
+
+#[test]
+fn entries_are_given_from_the_lowest_on(rt: HostRuntime) -> Result<(), Fail> {
+    let script = joined(rt.alloc(), ENTRIES)?;
+    let mut output = Vec::new(rt.alloc());
+    let _ = run_new(rt.alloc(), 8192, 16, &mut script.as_slice(), &mut output)?;
+    let last = b"0ffa\n0ffe\n0000\n0000\n0000\n0000\n0192\n07d2\n0000\n0000\n";
+    assert!(rt; output.ends_with(last));
     Ok(())
 }
 

@@ -62,6 +62,15 @@ loose_most a b from top (x ∷ xs) laid cut =
 
 -- Blocks packed below `end`, and what stands from there on.
 module _ (low end : ℕ) where
+  passed : (b : Block) (bs : List Block) → b.at < low → gathered low end (b ∷ bs) ≡ b ∷ gathered low end bs
+  passed b bs lt = rw (lt-ltb b.at low lt) refl
+
+  from_here : (b : Block) (bs : List Block) → low ≤ b.at → gathered low end (b ∷ bs) ≡ packed end low (b ∷ bs)
+  from_here b bs ge = rw (le-ltb b.at low ge) refl
+
+  first : (b : Block) (bs : List Block) (to : ℕ) → b.at < end → packed end to (b ∷ bs) ≡ record b { at = to } ∷ packed end (to + b.size) bs
+  first b bs to lt = rw (lt-ltb b.at end lt) refl
+
   -- the bytes moved to and from there, where only what stands from `end` on moves again
   module _ (f : Block → Block) (still : (b : Block) → b.at < end → f b ≡ b) where
     still_packed : (from top to : ℕ) (bs : List Block) → IsLaid from top bs → to ≤ from → moved_between bs (map f (packed end to bs)) ≡ moved_between bs (packed end to bs) + moved_between (packed end to bs) (map f (packed end to bs))
@@ -95,15 +104,12 @@ module _ (low end : ℕ) where
       let start = laid.0 in
       elim (cases_lt b.at end) [
         | inl lt ↦
-            ap (λ (cs : List Block). loose_bytes cs end high) (first lt)
+            ap (λ (cs : List Block). loose_bytes cs end high) (first b bs to lt)
             ∙ loose_skip (record b { at = to }) (packed end (to + b.size) bs) end high (inl (omega arith))
             ∙ loose_packed high (block_end b) top (to + b.size) bs laid.2 (omega arith) ∙ sym (loose_skip b bs end high (inl lt))
         | inr ge ↦ ap (λ (cs : List Block). loose_bytes cs end high) (past ge)
       ]
     where
-      first : b.at < end → packed end to (b ∷ bs) ≡ record b { at = to } ∷ packed end (to + b.size) bs
-      first lt = rw (lt-ltb b.at end lt) refl
-
       past : end ≤ b.at → packed end to (b ∷ bs) ≡ b ∷ bs
       past ge = rw (le-ltb b.at end ge) refl
 
@@ -111,16 +117,10 @@ module _ (low end : ℕ) where
   loose_gathered high from top [] laid le = refl
   loose_gathered high from top (b ∷ bs) laid le = elim (cases_lt b.at low) [
     | inl lt ↦
-        ap (λ (cs : List Block). loose_bytes cs end high) (passed lt)
+        ap (λ (cs : List Block). loose_bytes cs end high) (passed b bs lt)
         ∙ loose_skip b (gathered low end bs) end high (inl (omega arith)) ∙ loose_gathered high (block_end b) top bs laid.2 le ∙ sym (loose_skip b bs end high (inl (omega arith)))
-    | inr ge ↦ ap (λ (cs : List Block). loose_bytes cs end high) (from_here ge) ∙ loose_packed high b.at top low (b ∷ bs) (omega arith, laid.1, laid.2) ge
+    | inr ge ↦ ap (λ (cs : List Block). loose_bytes cs end high) (from_here b bs ge) ∙ loose_packed high b.at top low (b ∷ bs) (omega arith, laid.1, laid.2) ge
   ]
-    where
-      passed : b.at < low → gathered low end (b ∷ bs) ≡ b ∷ gathered low end bs
-      passed lt = rw (lt-ltb b.at low lt) refl
-
-      from_here : low ≤ b.at → gathered low end (b ∷ bs) ≡ packed end low (b ∷ bs)
-      from_here ge = rw (le-ltb b.at low ge) refl
 
   -- what holds of each block that ends by `end`, wherever it slides down to, and of the others
   module _ (P : Block → Type 0) (Q : Block → Type 0) (stays : (b : Block) → Q b → P b) (slides : (b : Block) (to : ℕ) → Q b → b.at < end → to ≤ b.at → P (record b { at = to })) where
@@ -164,9 +164,6 @@ module _ (low end : ℕ) where
               ∙ with_packed (block_end b) top (to + b.size) bs laid.2 (omega arith) fits.1 known'
               ∙ ap (λ (a : ℕ). let r : Block = record x { at = a } in Some r) (let e : to + b.size + loose_bytes bs low x.at ≡ to + loose_bytes (b ∷ bs) low x.at = omega (arith, sum) in e)
         ]
-      where
-        first : (b : Block) (bs : List Block) (to : ℕ) → b.at < end → packed end to (b ∷ bs) ≡ record b { at = to } ∷ packed end (to + b.size) bs
-        first b bs to lt = rw (lt-ltb b.at end lt) refl
 
     pub with_gathered : (from top : ℕ) (bs : List Block) → IsLaid from top bs → AllByRecursion (FitsGap low end) bs → block_with bs x.id ≡ Some x → block_with (gathered low end bs) x.id ≡ Some (record x { at = low + loose_bytes bs low x.at })
     with_gathered from top [] laid fits known = absurd (false≢true (ap is_some known))
@@ -174,18 +171,12 @@ module _ (low end : ℕ) where
       | inl lt ↦ elim (eqb_tells b.id x.id) [
         | inl same ↦ let e : Some b ≡ Some x = sym (with_same x.id b bs same.0) ∙ known in let is : b ≡ x = cc in let place = ap (λ (c : Block). c.at) is in absurd (omega arith)
         | inr other ↦
-            ap (λ (cs : List Block). block_with cs x.id) (passed lt) ∙ with_other x.id b (gathered low end bs) other.0
+            ap (λ (cs : List Block). block_with cs x.id) (passed b bs lt) ∙ with_other x.id b (gathered low end bs) other.0
             ∙ with_gathered (block_end b) top bs laid.2 fits.1 (sym (with_other x.id b bs other.0) ∙ known)
             ∙ ap (λ (a : ℕ). let r : Block = record x { at = low + a } in Some r) (sym (loose_skip b bs low x.at (inl lt)))
       ]
-      | inr ge ↦ ap (λ (cs : List Block). block_with cs x.id) (from_here ge) ∙ with_packed b.at top low (b ∷ bs) (omega arith, laid.1, laid.2) ge fits known
+      | inr ge ↦ ap (λ (cs : List Block). block_with cs x.id) (from_here b bs ge) ∙ with_packed b.at top low (b ∷ bs) (omega arith, laid.1, laid.2) ge fits known
     ]
-      where
-        passed : b.at < low → gathered low end (b ∷ bs) ≡ b ∷ gathered low end bs
-        passed lt = rw (lt-ltb b.at low lt) refl
-
-        from_here : low ≤ b.at → gathered low end (b ∷ bs) ≡ packed end low (b ∷ bs)
-        from_here ge = rw (le-ltb b.at low ge) refl
 
 -- an id's block, where blocks move
 with_map : (f : Block → Block) (id : ℕ) (y : Block) (bs : List Block) → ((c : Block) → (f c).id ≡ c.id) → block_with bs id ≡ Some y → block_with (map f bs) id ≡ Some (f y)

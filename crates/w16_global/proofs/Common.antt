@@ -3,8 +3,9 @@ pub use Rattle.std.proofs.Common.{Err, IfErr, IsErrAnd, None, Ok, OnOk, Option, 
 pub use Rattle.std.proofs.Math.Seq.{drop-append-add, take-append-add}
 pub use Rattle.std.proofs.lemmas.List.{drop-append-le, take_more}
 pub use Rattle.std.proofs.lemmas.List.Folds.{list_any-append}
-pub use Rattle.w16_arena.proofs.Common.{All, All-drop, All-from_Each, All-put_part, All-repeated, All-take, Allocates, AreNew, ArenaState, Bool, Compacts, Each-at, Each-from, Each-from_All, Enters, FinMap, HasDiscarded, HasDiscardedFor, HasTold, Heap, IfNone, IfOk, IfSome, IsBlockOf, IsFirstItem, IsGrown, IsHeap, IsItem, IsMultiple, IsNew, IsSomeAnd, IsUsed, KeepsOthers, Layout, List, MakesRoom, MatchBool, MatchOption, Member, Misses, Object, Reallocates, Request, Settles, Steps, Table, [], absent, after_discard, after_free, after_lock, after_modify, after_newest, after_oldest, after_release, after_touch, after_unlock, ap, arith, block_end, block_member, block_with, blocks, by_its_id, bytes_at, cases_Bool, cases_eq, cases_lt, common_steps, compaction_prefix, cond, contents, counted, discarded, discards_needed, drop, drop-drop, drop-take, eligible, empty_table, entry_at, entry_of, eq-eqb, false, false≢true, first_eligible, get-update_other, get-update_same, get_or, get_or-set_other, get_or-set_same, growth_for, heap_in, holes_in, if◌then◌else◌, inl, inr, inserted_here, inserted_other, is_discardable, is_fixed, is_member, is_pinned_object, is_some, laid_placed, le-ltb, leb-false, length, length-put_part, length-repeated, length-replicate, length-set, length_range, lt-leb, lt-ltb, ltb-true, member_with, most_room, moved_bytes, nat_cmp, nat_cmp-IsAntisymmetric, nat_cmp_total, nat_le, nat_lt, ne_eqb, newest, not, object_at, object_in, oldest, option_map, others_law, part, put_part, range_apart, reallocation_prefix, refl, refused_order, removed, replicate, rules, same_map, set, slice_get, slice_range, snapshot_of, stays_for, subst, suc, sym, take, take-take, taken_here, taken_other, told_at, told_more, told_none, told_past, touched, true, true-is_member, two, unwrap_or, used_each, with_newest, with_object, with_ordered, zero, ℕ, ◌&&◌, ◌*◌, ◌++◌, ◌+◌, ◌-◌, ◌/◌, ◌<◌, ◌==◌, ◌||◌, ◌∙◌, ◌∷◌, ◌≡◌, ◌≢◌, ◌≤◌, ◌⊎◌}
+pub use Rattle.w16_arena.proofs.Common.{All, All-drop, All-from_Each, All-put_part, All-repeated, All-take, Allocates, AreNew, ArenaState, Bool, Compacts, Each-at, Each-from, Each-from_All, Enters, FinMap, HasDiscarded, HasDiscardedFor, HasTold, Heap, IfNone, IfOk, IfSome, IsBlockOf, IsFirstItem, IsGrown, IsHeap, IsItem, IsMultiple, IsNew, IsSomeAnd, IsUsed, KeepsOthers, Layout, List, MakesRoom, MatchBool, MatchOption, Member, Misses, Object, Reallocates, Request, Settles, Steps, Table, [], absent, after_discard, after_free, after_lock, after_modify, after_newest, after_oldest, after_release, after_touch, after_unlock, ap, arith, block_end, block_member, block_with, blocks, by_its_id, bytes_at, cases_Bool, cases_eq, cases_lt, common_steps, compaction_prefix, cond, contents, counted, discarded, discards_needed, drop, drop-drop, drop-take, eligible, empty_table, entry_at, entry_of, eq-eqb, false, false≢true, first_eligible, get-update_other, get-update_same, get_or, get_or-set_other, get_or-set_same, growth_for, heap_in, holes_in, if◌then◌else◌, inl, inr, inserted_here, inserted_other, is_discardable, is_fixed, is_member, is_pinned_object, is_some, laid_placed, le-ltb, leb-false, length, length-put_part, length-repeated, length-replicate, length-set, length_range, lt-leb, lt-ltb, ltb-true, member_with, most_room, moved_bytes, nat_cmp, nat_cmp-IsAntisymmetric, nat_cmp_total, nat_le, nat_lt, ne_eqb, newest, not, object_at, object_in, oldest, option_map, others_law, part, put_part, range_apart, reallocation_prefix, refl, refused_order, removed, replicate, rules, same_map, set, slice_get, slice_range, snapshot_of, stays_for, subst, suc, sym, take, take-take, taken_here, taken_other, told_at, told_none, told_past, touched, true, true-is_member, two, unwrap_or, used_each, with_newest, with_object, with_ordered, zero, ℕ, ◌&&◌, ◌*◌, ◌++◌, ◌+◌, ◌-◌, ◌/◌, ◌<◌, ◌==◌, ◌||◌, ◌∙◌, ◌∷◌, ◌≡◌, ◌≢◌, ◌≤◌, ◌⊎◌}
 unfoldable pub use Rattle.w16_arena.proofs.Common.{repeated}
+pub use Rattle.w16_arena.proofs.Ahead.{cut_on, told_to_end}
 pub use Rattle.w16_arena.proofs.Fresh.{no_entry, sound}
 pub use Rattle.w16_arena.proofs.Keeping.{heap_kept}
 pub use Rattle.w16_arena.proofs.Lookups.{bytes_here, ends_in_memory, entry_is, is_heap, no_block, object_here, place_here, same_heap, size_here}

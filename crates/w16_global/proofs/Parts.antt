@@ -1,12 +1,17 @@
 -- The objects' arena and memory, and the heap that they stand for.
 use Rattle.w16_global.proofs.Common.{◌≡◌, ℕ, ◌+◌, ◌^◌, ◌<◌, ◌≤◌, ◌⊎◌, IfSome, IfNone, List, length, Option, Some, None, Result, Ok, Err, OnOk, IfErr, option_map, refl, sym, ap, ◌∙◌, subst, arith, is_some, true, Block, Kind, GRAIN, Heap, Object, IsHeap, object_at, bytes_at, block_with, entry_at, heap_in, Refusal, Enters, after_release, contents, with_object, removed, ArenaState, Steps, entry_of, heap_kept, is_heap, entry_is, size_here, place_here, ends_in_memory, no_block, AreParts, Holding, holding_of}
 use Rattle.std.specs.FinMap as finmap
+use Rattle.std.proofs.lemmas.Option.{IfSome_then}
 use Rattle.w16_arena.proofs.Lookups.{no_entry}
 use Rattle.w16_global.proofs.Written.{beside}
 
 module _ {s : ArenaState} {memory : List ℕ} (parts : AreParts s memory) where
   pub whole : s.table.hi ≤ length memory
   whole = let e = parts.high in omega arith
+
+  -- what ends in the heap ends where a double word can tell
+  pub ends_low : (k n : ℕ) → length memory < 2 ^ 32 → k + n ≤ s.table.hi → (k + n < 2 ^ 32) × (n < 2 ^ 32)
+  ends_low k n small inside = let e = parts.high in (omega arith, omega arith)
 
   module _ {count : ℕ} {h : Holding} (shown : holding_of s memory count ≡ h) where
     -- what the parts have, the value has, and the other way round
@@ -16,17 +21,8 @@ module _ {s : ArenaState} {memory : List ℕ} (parts : AreParts s memory) where
     pub known : (P : Heap → Type 0) → P h.heap → P (heap_in s.table memory)
     known P k = subst (λ (h : Holding). P h.heap) (sym shown) k
 
-    pub known_cap : {n : ℕ} → n < h.cap → n < length s.table.entries
-    known_cap {n} k = subst (λ (h : Holding). n < h.cap) (sym shown) k
-
     pub is_heap_shown : IsHeap h.heap
     is_heap_shown = told IsHeap (is_heap (beside parts) parts.bytes)
-
-    pub low_shown : h.heap.lo ≡ 0
-    low_shown = told (λ heap. heap.lo ≡ 0) parts.low
-
-    pub grain_shown : h.heap.grain ≡ GRAIN
-    grain_shown = told (λ heap. heap.grain ≡ GRAIN) parts.grain
 
     pub entry_shown : (id : ℕ) → entry_at s.table id ≡ option_map entry_of (object_at h.heap id)
     entry_shown id = sym (entry_is (beside parts) id) ∙ ap (λ (h : Holding). option_map entry_of (object_at h.heap id)) shown
@@ -61,11 +57,7 @@ module _ {s : ArenaState} {memory : List ℕ} (parts : AreParts s memory) where
     module _ (from : ℕ) (small : length memory < 2 ^ 32) (found : Option Block) where
       pub next_found : IfSome found (λ b. (from ≤ b.at) × (block_with s.table.blocks b.id ≡ Some b))
           → IfSome found (λ b. (from ≤ b.at) × (finmap.get h.heap.places b.id ≡ Some b.at) × (option_map (length {A = ℕ}) (bytes_at h.heap b.id) ≡ Some b.size))
-      next_found = turn found
-        where
-          turn : (p : Option Block) → IfSome p (λ b. (from ≤ b.at) × (block_with s.table.blocks b.id ≡ Some b)) → IfSome p (λ b. (from ≤ b.at) × (finmap.get h.heap.places b.id ≡ Some b.at) × (option_map (length {A = ℕ}) (bytes_at h.heap b.id) ≡ Some b.size))
-          turn None f = tt
-          turn (Some b) f = (f.0, place_shown b.id ∙ ap (option_map (λ (x : Block). x.at)) f.1, sym (size_shown b.id) ∙ ap (option_map (λ (x : Block). x.size)) f.1)
+      next_found known = IfSome_then found known (λ b f. (f.0, place_shown b.id ∙ ap (option_map (λ (x : Block). x.at)) f.1, sym (size_shown b.id) ∙ ap (option_map (λ (x : Block). x.size)) f.1))
 
       each_place : (P : ℕ → Type 0) → ((q : ℕ) → IfSome (block_with s.table.blocks q) (λ c. P c.at)) → (q : ℕ) → IfSome (finmap.get h.heap.places q) P
       each_place P f q = subst (λ p. IfSome p P) (sym (place_shown q)) (turn (block_with s.table.blocks q) (f q))
@@ -75,11 +67,7 @@ module _ {s : ArenaState} {memory : List ℕ} (parts : AreParts s memory) where
           turn (Some x) k = k
 
       pub next_lowest : IfSome found (λ b. (q : ℕ) → IfSome (block_with s.table.blocks q) (λ c. (c.at < from) ⊎ (b.at ≤ c.at))) → IfSome found (λ b. (q : ℕ) → IfSome (finmap.get h.heap.places q) (λ at. (at < from) ⊎ (b.at ≤ at)))
-      next_lowest = turn found
-        where
-          turn : (p : Option Block) → IfSome p (λ b. (q : ℕ) → IfSome (block_with s.table.blocks q) (λ c. (c.at < from) ⊎ (b.at ≤ c.at))) → IfSome p (λ b. (q : ℕ) → IfSome (finmap.get h.heap.places q) (λ at. (at < from) ⊎ (b.at ≤ at)))
-          turn None f = tt
-          turn (Some b) f = each_place (λ at. (at < from) ⊎ (b.at ≤ at)) f
+      next_lowest known = IfSome_then found known (λ b. each_place (λ at. (at < from) ⊎ (b.at ≤ at)))
 
       pub next_none : IfNone found ((q : ℕ) → IfSome (block_with s.table.blocks q) (λ c. c.at < from)) → IfNone found ((q : ℕ) → IfSome (finmap.get h.heap.places q) (λ at. at < from))
       next_none = turn found
@@ -89,17 +77,7 @@ module _ {s : ArenaState} {memory : List ℕ} (parts : AreParts s memory) where
           turn (Some b) f = tt
 
       pub next_inside : IfSome found (λ b. (from ≤ b.at) × (block_with s.table.blocks b.id ≡ Some b)) → IfSome found (λ b. (0 < b.size) × (b.at + b.size < 2 ^ 32))
-      next_inside = turn found
-        where
-          turn : (p : Option Block) → IfSome p (λ b. (from ≤ b.at) × (block_with s.table.blocks b.id ≡ Some b)) → IfSome p (λ b. (0 < b.size) × (b.at + b.size < 2 ^ 32))
-          turn None f = tt
-          turn (Some b) f = let end = ends_in_memory (beside parts) b.id b f.1 in (end.0, omega (arith, end.1, small))
-
-    -- an absent object that was entered
-    pub entered_shown : {new : ArenaState} (id : ℕ) {kind : Kind} → Steps s new (λ a b. Enters a id kind b) → holding_of new memory count ≡ record h { heap = with_object h.heap id (record { kind = kind; locks = 0; bytes = None }) }
-    entered_shown {new} id {kind} p =
-        holding_stepped p (heap_in new.table memory) refl
-        ∙ (λ i. record h { heap = (p.heaps memory whole).entered i }) ∙ ap (λ (k : Holding). record h { heap = with_object k.heap id (record { kind = kind; locks = 0; bytes = None }) }) shown
+      next_inside known = IfSome_then found known (λ b f. let end = ends_in_memory (beside parts) b.id b f.1 in (end.0, omega (arith, end.1, small)))
 
     -- an object that was taken away, where the bytes of the others stay
     pub released_shown : (new : ArenaState) (after : List ℕ) (id : ℕ) {later : ℕ} → later ≡ count → contents after new.table.blocks ≡ contents memory new.table.blocks → Steps s new (λ a b. b ≡ after_release a id)

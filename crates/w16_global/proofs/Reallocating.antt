@@ -5,7 +5,7 @@ use Rattle.w16_selectors.specs.Descriptors as selectors
 use Rattle.w16_global.proofs.Joined.{described_some, followed_kind, forgotten_kind, kinds_are, slot_there}
 use Rattle.w16_global.proofs.Described.{made_here}
 use Rattle.w16_global.proofs.Forgotten.{each_discarded, still_taken, was_there}
-use Rattle.w16_global.proofs.Sliding.{StandStill, each_known, says_all}
+use Rattle.w16_global.proofs.Sliding.{StandStill, each_known, followed_known, says_all}
 
 -- What an answered reallocation leaves of the others, where so many were to be discarded.
 module _ (old : Heap) (is : IsHeap old) (id n : ℕ) (options : RoomOptions) (new : Heap) where
@@ -108,18 +108,7 @@ module _ {h : Holding} {xs : List (Option Attributes)} {t : selectors.Descriptor
   -- and has its own once selectors have followed
   pub known_followed : (from to : ℕ) (told second : selectors.DescriptorTable) → ((q : ℕ) → descriptor_at told q ≡ forgotten new.discarded t q) → ((q : ℕ) → descriptor_at second q ≡ followed new.heap from to told q)
       → is_some (descriptor_at second slot) ≡ true
-  known_followed from to told second forgot follows = ap is_some (follows slot) ∙ by_place (finmap.get new.heap.places slot)
-    where
-      taken : is_some (descriptor_at told slot) ≡ true
-      taken = known_told told forgot slot made
-
-      either : (b : Bool) → is_some (if b then described new.heap (kind_at told slot) slot else descriptor_at told slot) ≡ true
-      either true = described_some new.heap (kind_at told slot) slot ∙ made
-      either false = taken
-
-      by_place : (p : Option ℕ) → is_some (elim p as (λ _. Option Descriptor) [ None ↦ descriptor_at told slot | Some at ↦ if nat_le from at && nat_lt at to then described new.heap (kind_at told slot) slot else descriptor_at told slot ]) ≡ true
-      by_place None = taken
-      by_place (Some at) = either (nat_le from at && nat_lt at to)
+  known_followed from to told second forgot follows = followed_known new.heap from to told second slot made (known_told told forgot slot made) (follows slot)
 
   pub reallocated_joined : (at from to : ℕ) (told second after : selectors.DescriptorTable) → ((q : ℕ) → q ≢ slot → StandStill h.heap new.heap from to q) → finmap.get new.heap.places slot ≡ Some at
       → ((q : ℕ) → descriptor_at told q ≡ forgotten new.discarded t q) → length told ≡ length t → ((q : ℕ) → descriptor_at second q ≡ followed new.heap from to told q) → length second ≡ length told
@@ -142,9 +131,3 @@ module _ {h : Holding} {xs : List (Option Attributes)} {t : selectors.Descriptor
         selectors_many = ap length is ∙ length-set second slot (Some d) ∙ many ∙ are.selectors_many ∙ sym cap;
         some = subst (λ n. FIRST_SLOT ≤ n) (sym cap) are.some;
       }
-
-  -- the handles that these are
-  pub reallocated_shown : (moved : ℕ) → moved ≡ moved_bytes h.heap new.heap → handles_of new xs moved ≡ record w { heap = new.heap; moved = moved_bytes w.heap new.heap }
-  reallocated_shown moved is =
-      (λ i. record { slots = cap i - FIRST_SLOT; heap = new.heap; attributes = attributes_in xs; moved = is i })
-      ∙ ap (λ (v : Handles). record v { heap = new.heap; moved = moved_bytes v.heap new.heap }) shown

@@ -77,6 +77,19 @@ says_all old new is about k keeps from to t told kinds agree ids ids_is forgot d
 pub each_known : {h : Holding} {xs : List (Option Attributes)} {t : selectors.DescriptorTable} → AreJoined h xs t → (slot : ℕ) → is_some (object_at h.heap slot) ≡ true → is_some (descriptor_at t slot) ≡ true
 each_known {h} {xs} {t} are slot there = ap is_some (are.described slot) ∙ described_some h.heap (kind_in xs slot) slot ∙ there
 
+-- a selector that is known is known still once selectors have followed
+pub followed_known : (heap : Heap) (from to : ℕ) (told second : selectors.DescriptorTable) (slot : ℕ) → is_some (object_at heap slot) ≡ true → is_some (descriptor_at told slot) ≡ true → descriptor_at second slot ≡ followed heap from to told slot
+    → is_some (descriptor_at second slot) ≡ true
+followed_known heap from to told second slot made taken follows = ap is_some follows ∙ by_place (finmap.get heap.places slot)
+  where
+    either : (b : Bool) → is_some (if b then described heap (kind_at told slot) slot else descriptor_at told slot) ≡ true
+    either true = described_some heap (kind_at told slot) slot ∙ made
+    either false = taken
+
+    by_place : (p : Option ℕ) → is_some (elim p as (λ _. Option Descriptor) [ None ↦ descriptor_at told slot | Some at ↦ if nat_le from at && nat_lt at to then described heap (kind_at told slot) slot else descriptor_at told slot ]) ≡ true
+    by_place None = taken
+    by_place (Some at) = either (nat_le from at && nat_lt at to)
+
 -- what an answered request was
 granted : (old : Heap) (h : ℕ) (options : RoomOptions) (prefix : Option ℕ) (becomes : Object → Type 0) (order : Object → List ℕ → List ℕ) (new : Heap) → Request old h (record { options = options; prefix = prefix; becomes = becomes; order = order }) true new
     → (k : ℕ) × (prefix ≡ Some k) × (o : Object) × becomes o × Settles old (stays_for h options) (with_ordered (discarded old k (Some h)) h o (order o)) new
@@ -183,18 +196,7 @@ module _ {h : Holding} {xs : List (Option Attributes)} {t : selectors.Descriptor
     -- and the new one has it still once selectors have followed
     pub known_followed : (holds : SelKind) (from to : ℕ) (told first second : selectors.DescriptorTable) → ((q : ℕ) → descriptor_at told q ≡ forgotten new.discarded t q) → length told ≡ length t → first ≡ set told slot (Some (unset holds))
         → ((q : ℕ) → descriptor_at second q ≡ followed new.heap from to first q) → is_some (descriptor_at second slot) ≡ true
-    known_followed holds from to told first second forgot many_told first_is follows = ap is_some (follows slot) ∙ by_place (finmap.get new.heap.places slot)
-      where
-        taken : is_some (descriptor_at first slot) ≡ true
-        taken = known_told holds told first forgot many_told first_is slot made
-
-        either : (b : Bool) → is_some (if b then described new.heap (kind_at first slot) slot else descriptor_at first slot) ≡ true
-        either true = described_some new.heap (kind_at first slot) slot ∙ made
-        either false = taken
-
-        by_place : (p : Option ℕ) → is_some (elim p as (λ _. Option Descriptor) [ None ↦ descriptor_at first slot | Some at ↦ if nat_le from at && nat_lt at to then described new.heap (kind_at first slot) slot else descriptor_at first slot ]) ≡ true
-        by_place None = taken
-        by_place (Some at) = either (nat_le from at && nat_lt at to)
+    known_followed holds from to told first second forgot many_told first_is follows = followed_known new.heap from to first second slot made (known_told holds told first forgot many_told first_is slot made) (follows slot)
 
 -- and where objects were discarded and have slid, and no other thing changed
 module _ {h : Holding} {xs : List (Option Attributes)} {t : selectors.DescriptorTable} (are : AreJoined h xs t) (new : Holding) (cap : new.cap ≡ h.cap) (n answer : ℕ) (compacted : Compacts h.heap n answer new.heap)
@@ -245,6 +247,3 @@ compacted_known h xs m {w} shown new cap n answer moved compacted is = subst (λ
   compacted = compacted;
   rest = λ i. record { slots = cap i - FIRST_SLOT; heap = new.heap; attributes = attributes_in xs; moved = is i };
 })
-
-pub table_few : {h : Holding} {xs : List (Option Attributes)} {t : selectors.DescriptorTable} → AreJoined h xs t → length t ≤ 8192
-table_few {h} {xs} {t} are = let some = are.some in let few = are.handles.few in omega (arith, are.selectors_many)

@@ -1,5 +1,5 @@
 -- A walk that names objects by their handles, from one that names them by their slots.
-use Rattle.w16_global.proofs.Common.{◌≡◌, ℕ, ◌<◌, ◌≤◌, ◌⊎◌, inl, inr, Option, Some, None, option_map, refl, sym, ap, ◌∙◌, subst, Item, Owner, Heap, handle_of, IsItem, IsFirstItem, by_its_id}
+use Rattle.w16_global.proofs.Common.{◌≡◌, ℕ, ◌+◌, ◌<◌, ◌≤◌, ◌⊎◌, inl, inr, Option, Some, None, option_map, refl, sym, ap, ◌∙◌, subst, Item, Owner, Heap, handle_of, IsItem, IsFirstItem, by_its_id}
 
 -- the item with its owner's handle in place of its id
 abbrev pub renamed : Item → Item
@@ -34,3 +34,7 @@ module _ (heap : Heap) where
         | inl same ↦ inl (sym b.2 ∙ ap renamed same)
         | inr below ↦ inr (subst (λ (j : Item). item.at < j.at) b.2 below)
       ]
+
+  -- the same of what an item tells of each other
+  pub apart_renamed : (at end : ℕ) → ((other : Item) → IsItem by_its_id heap other → at < other.at → end ≤ other.at) → (other : Item) → IsItem handle_of heap other → at < other.at → end ≤ other.at
+  apart_renamed at end apart other is l = let b = back other is in subst (λ (j : Item). end ≤ j.at) b.2 (apart b.0 b.1 (subst (λ (j : Item). at < j.at) (sym b.2) l))

@@ -6,7 +6,7 @@ ghost use Rattle.w16_model.specs.Calls.{GlobalAllocs, GlobalCompacts, locks_at, 
 ghost use Rattle.w16_model.specs.Handles.{AreHandles, Gives, IsFreeSlot};
 ghost use Rattle.w16_model.specs.Calls as calls;
 ghost use Rattle.w16_model.specs.Fewest.{AllocFewest, CompactsFewest};
-ghost use Rattle.w16_model.specs.Walk.{IsFirstItem, IsItemAt, IsItemCount};
+ghost use Rattle.w16_model.specs.Walk.{IsFirstItem, IsItem, IsItemAt, IsItemCount};
 ghost use Rattle.w16_model.specs.Handles as handles;
 ghost use Rattle.w16_model.specs.Owned as owned;
 ghost use Rattle.w16_region.specs.Bytes.{counted};
@@ -228,7 +228,7 @@ impl<A: Allocator + Copy> Global16<A> {
         let mut from = 0;
         for _ in 0..i {
             let item = self.walk_from(from)?;
-            from = item.at + 1;
+            from = item.at + item.size;
         }
         self.walk_from(from)
     }
@@ -247,18 +247,21 @@ impl<A: Allocator + Copy> Global16<A> {
         let mut from = 0;
         let mut count = 0;
         while let Some(item) = self.walk_from(from) {
-            from = item.at + 1;
+            from = item.at + item.size;
             count += 1;
         }
         count
     }
 
     /// The first part of the heap that begins at an address or above it; none behind the last. A walk of the whole heap asks from 0 on, then
-    /// behind the begin of each part.
+    /// from the end of each part.
     pub fn walk_from(&self, from: u32) -> Option<Item>
         ensures found { IsFirstItem handles.handle_of self.now.handles.heap from result }
         ensures inside { IfSome result (λ item. (0 < item.size) × (item.at + item.size < 2 ^ 32)) }
         ensures words { IfSome result (λ item. IfSome item.owner (λ owner. owner.name < 2 ^ 16)) }
+
+        // No part begins inside it.
+        ensures apart { IfSome result (λ item. (other : Item) → IsItem handles.handle_of self.now.handles.heap other → item.at < other.at → item.at + item.size ≤ other.at) }
     {
         let item = self.objects.walk_from(from)?;
         Some(Item {

@@ -6,7 +6,7 @@ ghost use Rattle.w16_model.specs.Changes.{with_object, removed};
 ghost use Rattle.w16_model.specs.Request.{Allocates, Compacts, Reallocates, compaction_prefix, moved_bytes};
 ghost use Rattle.w16_model.specs.OneObject.{after_discard, after_modify, after_lock, after_unlock, after_touch, after_newest, after_oldest};
 ghost use Rattle.w16_model.specs.Far.{after_write};
-ghost use Rattle.w16_model.specs.Walk.{IsFirstItem, by_its_id};
+ghost use Rattle.w16_model.specs.Walk.{IsFirstItem, IsItem, by_its_id};
 ghost use Rattle.w16_model.specs.Bytes.{part, repeated};
 ghost use Rattle.w16_region.specs.Bytes.{counted};
 ghost use Rattle.w16_arena.specs.State.{entry_of};
@@ -87,6 +87,9 @@ impl<A: Allocator + Copy> Objects<A> {
     pub fn walk_from(&self, from: u32) -> Option<Item>
         ensures found { IsFirstItem by_its_id self.now.heap from result }
         ensures inside { IfSome result (λ item. (0 < item.size) × (item.at + item.size < 2 ^ 32)) }
+
+        // No part begins inside it.
+        ensures apart { IfSome result (λ item. (other : Item) → IsItem by_its_id self.now.heap other → item.at < other.at → item.at + item.size ≤ other.at) }
     {
         self.arena.walk_from(&self.memory, from)
     }

@@ -9,11 +9,11 @@ pub use Rattle.std.specs.Prelude.{IfNone, IsSome, MatchBool, MatchOption, Ok, Re
 pub use Rattle.w16_format.proofs.Files.{is_format}
 pub use Rattle.w16_format.specs.Ne.{ne_format}
 pub use Rattle.w16_format.specs.Tables.{segment_in, tables_in}
-pub use Rattle.w16_global.proofs.Common.{Global, common_steps, take_more}
+pub use Rattle.w16_global.proofs.Common.{Global, common_steps, cut_on, take_more}
 pub use Rattle.w16_kernel.specs.Fetching.{IsAbsent, IsSourceFor, Refetches}
 pub use Rattle.w16_resource.specs.Parts.{IsLoadingOver, StoreFetch, loading_of, word_in, dword_in}
 pub use Rattle.w16_kernel.specs.Parts.{IsWorldOver, KernelStep, ReadsCode, Unswept, may_take_bytes, surviving_heaps, world_of}
-pub use Rattle.w16_kernel.specs.Runs.{TakesMemory, answer_of, command_of, label_of, load_command, reply_of}
+pub use Rattle.w16_kernel.specs.Runs.{TakesMemory, answer_of, command_of, label_of, load_command, reply_of, write_of}
 pub use Rattle.w16_kernel.specs.Stops.{StopsEarly}
 pub use Rattle.w16_kernel.specs.declared.call.Answer.{Answer}
 pub use Rattle.w16_kernel.specs.declared.call.Call.{Call}

@@ -1,9 +1,12 @@
 -- Far accesses over a store, with what they fetch.
-use Rattle.w16_kernel.proofs.Common.{◌≡◌, ℕ, inl, inr, Bool, true, false, MatchBool, MatchOption, Option, Some, None, Result, Ok, Err, refl, sym, ap, ◌∙◌, subst, repeated, FarAnswer, FarCommand, FarFault, FetchFault, Read, Write, Fill, Handles, far_slot, selector_in, offset_in, AnyFetches, Fetching, Fetches, FetchesCounted, Accesses, needs_fetch, far_read, far_write, far_reads_file, gives, reply_of_far, FarReplies, Failed, Store, FinMap, Table, nat_cmp, false≢true, OfFar, OfHandles, LoadingWorld, with_handles, World, left_in, Step, OfLoading, ne_format, reply_of, IsWorldOver, StoreFetch, Refetches, Moved, Dword}
+use Rattle.w16_kernel.proofs.Common.{◌≡◌, ℕ, inl, inr, Bool, true, false, MatchBool, MatchOption, Option, Some, None, Result, Ok, Err, refl, sym, ap, ◌∙◌, subst, repeated, FarAnswer, FarCommand, FarFault, FetchFault, Read, Write, Fill, Handles, far_slot, selector_in, offset_in, AnyFetches, Fetching, Fetches, FetchesCounted, Accesses, needs_fetch, far_read, far_write, far_reads_file, gives, reply_of_far, FarReplies, Failed, Store, FinMap, Table, nat_cmp, false≢true, OfFar, OfHandles, LoadingWorld, with_handles, World, left_in, Step, OfLoading, ne_format, reply_of, write_of, IsWorldOver, StoreFetch, Refetches, Moved, Dword}
 use Rattle.w16_loading.specs.Families.{FarStep}
 use Rattle.w16_loading.specs.Replies as printed
 use Rattle.w16_loading.specs.Replies.Reply.{Bytes, Done, Fault}
 use Rattle.w16_kernel.specs.declared.call.Reply.{Reply}
+use Rattle.w16_kernel.specs.declared.call.Reply.TheVariants as code
+use Rattle.w16_kernel.specs.declared.far.Written.{Written}
+use Rattle.w16_kernel.specs.declared.far.Written.TheVariants as writes
 use Rattle.w16_kernel.proofs.Stepping.{on_handles, stay}
 
 -- The access that a command makes, and the selector that it names.
@@ -22,6 +25,10 @@ accessed : (fetches : Fetching) (old : LoadingWorld) (command : FarCommand) (rep
 accessed fetches old (Read pointer count) reply new a = a
 accessed fetches old (Write pointer bytes) reply new a = a
 accessed fetches old (Fill pointer count byte) reply new a = a
+
+pub selector_of_write : (pointer : ℕ) (written : Written) → selector_of_command (write_of pointer written) ≡ selector_in pointer
+selector_of_write pointer (writes.Bytes bytes) = refl
+selector_of_write pointer (writes.Repeated count byte) = refl
 
 reads_are : (old : LoadingWorld) (command : FarCommand) → far_reads_file old command ≡ needs_fetch (access_of command old).0 old (selector_of_command command)
 reads_are old (Read pointer count) = refl
@@ -145,6 +152,10 @@ module _ (honest : Type 0) (old : World) (is : IsWorldOver honest old) (command 
 abbrev is_fault : printed.Reply → Bool
 is_fault (Fault fault) = true
 is_fault reply = false
+
+pub not_fault : (reply : Reply) → ((fault : FarFault) → reply ≡ code.Fault fault → ⊥) → is_fault (reply_of reply) ≡ false
+not_fault (code.Fault fault) none = absurd (none fault refl)
+not_fault reply none = refl
 
 pub needs_nothing : (old : LoadingWorld) (selector : ℕ) (reply : printed.Reply) (answer : FarAnswer) → reply ≡ reply_of_far answer → is_fault reply ≡ false → needs_fetch answer old selector ≡ false
 needs_nothing old selector reply (FarAnswer.Bytes bytes) e none = refl

@@ -20,6 +20,8 @@ use Rattle.w16_kernel.specs.declared.call.Reply.{Reply}
 use Rattle.w16_kernel.specs.declared.call.Reply.TheVariants as replies
 use Rattle.w16_kernel.specs.declared.call.Answer.{Answer}
 use Rattle.w16_kernel.specs.declared.call.Answer.TheVariants as answers
+use Rattle.w16_kernel.specs.declared.far.Written.{Written}
+use Rattle.w16_kernel.specs.declared.far.Written.TheVariants as written
 use Rattle.w16_kernel.specs.declared.call.TheConstants.{MOST_READ, MOST_FILLED}
 
 -- what a label is
@@ -78,6 +80,11 @@ command_of (LoadResource handle place) = OfLoading (OfResources (families.Resour
 command_of (LockResource handle) = OfLoading (OfResources (families.ResourceCommand.LockResource handle))
 command_of (FreeResource handle) = OfLoading (OfResources (families.ResourceCommand.FreeResource handle))
 command_of (SizeofResource handle place) = OfLoading (OfResources (families.ResourceCommand.SizeofResource handle place))
+
+-- the command of a far write
+abbrev pub write_of : ℕ → Written → far.FarCommand
+write_of pointer (written.Bytes bytes) = far.FarCommand.Write pointer bytes.now
+write_of pointer (written.Repeated count byte) = far.FarCommand.Fill pointer count byte
 
 -- the machine's reply
 abbrev pub reply_of : Reply → printed.Reply

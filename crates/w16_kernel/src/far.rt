@@ -1,5 +1,5 @@
 //! Far accesses, which fetch the objects of modules that they meet without bytes.
-ghost use Rattle.std.specs.Prelude.{◌≡◌, ◌<◌, ◌≤◌, ◌/◌, ℕ, All, List, length, IfSome, IfNone, None};
+ghost use Rattle.std.specs.Prelude.{◌≡◌, ◌≤◌, ◌/◌, ℕ, List, length, IfSome, IfNone, None};
 ghost use Rattle.std.specs.FinMap as finmap;
 ghost use Rattle.std.specs.FinMap.{FinMap};
 ghost use Rattle.std.specs.Ordering.{nat_cmp};
@@ -11,13 +11,14 @@ ghost use Rattle.w16_loading.specs.Families.LoadingCommand.{OfFar};
 ghost use Rattle.w16_loading.specs.Law.{IsLoadingWorld};
 ghost use Rattle.w16_loading.specs.Modules.{Load};
 ghost use Rattle.w16_loading.specs.Replies.{FarReplies};
+ghost use Rattle.w16_loading.specs.Replies.Reply.{Fault};
 ghost use Rattle.w16_format.specs.Ne.{ne_format};
 ghost use Rattle.w16_machine.specs.Machine.{Step};
 ghost use Rattle.w16_machine.specs.Machine.Command.{OfLoading};
 ghost use Rattle.w16_kernel.specs.Fetching.{IsAbsent, IsSourceFor, Refetches};
 ghost use Rattle.w16_kernel.specs.Parts.{IsWorldOver, world_of};
 ghost use Rattle.w16_resource.specs.Parts.{IsLoadingOver, loading_of};
-ghost use Rattle.w16_kernel.specs.Runs.{IsReply, reply_of};
+ghost use Rattle.w16_kernel.specs.Runs.{IsReply, reply_of, write_of};
 
 use crate::call::{MOST_READ, Reply};
 use crate::library::Library;
@@ -164,18 +165,37 @@ pub fn read<'r, S: Store + Drop, A: Allocator + Copy>(
     Reply::Bytes(room)
 }
 
+/// Bytes that a far access writes.
+#[derive(Clone, Copy)]
+pub enum Written<'a> {
+    Bytes(&'a [u8]),
+    /// One byte many times.
+    Repeated { count: u32, byte: u8 },
+}
+
 /// The reply to a far write that fetches nothing.
 fn write_once<A: Allocator + Copy>(
     global: &mut Global16<A>,
     pointer: u32,
-    bytes: &[u8],
+    written: Written<'_>,
 ) -> Reply<'static>
-    ensures gives { FarReplies global.old.handles (far.FarCommand.Write pointer bytes.now) (reply_of result) global.new.handles }
+    ensures gives { FarReplies global.old.handles (write_of pointer written.entry) (reply_of result) global.new.handles }
+    ensures kept { (fault : FarFault) → reply_of result ≡ Fault fault → global.new ≡ global.old }
     ensures short { IsReply result }
 {
-    match global.far_write(selector_in(pointer), offset_in(pointer), bytes) {
-        Ok(()) => Reply::Done,
-        Err(fault) => Reply::Fault(fault),
+    let selector = selector_in(pointer);
+    let offset = offset_in(pointer);
+    match written {
+        Written::Bytes(bytes) => match global.far_write(selector, offset, bytes) {
+            Ok(()) => Reply::Done,
+            Err(fault) => Reply::Fault(fault),
+        },
+        Written::Repeated { count, byte } => {
+            match global.far_fill(selector, offset, count, byte) {
+                Ok(()) => Reply::Done,
+                Err(fault) => Reply::Fault(fault),
+            }
+        }
     }
 }
 
@@ -185,66 +205,23 @@ pub fn write<S: Store + Drop, A: Allocator + Copy>(
     locals: &mut LocalHeaps<A>,
     library: &mut Library<S, A>,
     pointer: u32,
-    bytes: &[u8],
-) -> Reply<'static>
-    requires { IsLoadingOver S.is_honest (loading_of global.old.handles library.old.registry library.old.resources (S.files library.old.store) (S.failures library.old.store)) }
-    ensures bytes { All (λ b. b < 256) bytes.now }
-    ensures step { (ds : ℕ) → IsWorldOver S.is_honest (world_of global.old.handles library.old.registry library.old.resources locals.old ds (S.files library.old.store) (S.failures library.old.store))
-        → Step S.is_honest ne_format (world_of global.old.handles library.old.registry library.old.resources locals.old ds (S.files library.old.store) (S.failures library.old.store))
-        (OfLoading (OfFar (far.FarCommand.Write pointer bytes.now))) (reply_of result)
-        (world_of global.new.handles library.new.registry library.new.resources locals.new ds (S.files library.new.store) (S.failures library.new.store)) }
-    ensures short { IsReply result }
-{
-    if let Err(fault) = global.far_write(selector_in(pointer), offset_in(pointer), bytes) {
-        if let Err(reply) = fetch_absent(global, library, selector_in(pointer), fault) {
-            return reply;
-        }
-        let reply = write_once(global, pointer, bytes);
-        locals.sweep(global);
-        return reply;
-    }
-    Reply::Done
-}
-
-/// The reply to a far write of one byte many times that fetches nothing.
-fn fill_once<A: Allocator + Copy>(
-    global: &mut Global16<A>,
-    pointer: u32,
-    count: u32,
-    byte: u8,
-) -> Reply<'static>
-    ensures gives { FarReplies global.old.handles (far.FarCommand.Fill pointer count byte) (reply_of result) global.new.handles }
-    ensures short { IsReply result }
-{
-    match global.far_fill(selector_in(pointer), offset_in(pointer), count, byte) {
-        Ok(()) => Reply::Done,
-        Err(fault) => Reply::Fault(fault),
-    }
-}
-
-/// The reply to a far write of one byte many times.
-pub fn fill<S: Store + Drop, A: Allocator + Copy>(
-    global: &mut Global16<A>,
-    locals: &mut LocalHeaps<A>,
-    library: &mut Library<S, A>,
-    pointer: u32,
-    count: u32,
-    byte: u8,
+    written: Written<'_>,
 ) -> Reply<'static>
     requires { IsLoadingOver S.is_honest (loading_of global.old.handles library.old.registry library.old.resources (S.files library.old.store) (S.failures library.old.store)) }
     ensures step { (ds : ℕ) → IsWorldOver S.is_honest (world_of global.old.handles library.old.registry library.old.resources locals.old ds (S.files library.old.store) (S.failures library.old.store))
         → Step S.is_honest ne_format (world_of global.old.handles library.old.registry library.old.resources locals.old ds (S.files library.old.store) (S.failures library.old.store))
-        (OfLoading (OfFar (far.FarCommand.Fill pointer count byte))) (reply_of result)
+        (OfLoading (OfFar (write_of pointer written.entry))) (reply_of result)
         (world_of global.new.handles library.new.registry library.new.resources locals.new ds (S.files library.new.store) (S.failures library.new.store)) }
     ensures short { IsReply result }
 {
-    if let Err(fault) = global.far_fill(selector_in(pointer), offset_in(pointer), count, byte) {
-        if let Err(reply) = fetch_absent(global, library, selector_in(pointer), fault) {
-            return reply;
-        }
-        let reply = fill_once(global, pointer, count, byte);
-        locals.sweep(global);
+    let met = write_once(global, pointer, written);
+    let Reply::Fault(fault) = met else {
+        return met;
+    };
+    if let Err(reply) = fetch_absent(global, library, selector_in(pointer), fault) {
         return reply;
     }
-    Reply::Done
+    let reply = write_once(global, pointer, written);
+    locals.sweep(global);
+    reply
 }

@@ -1,7 +1,7 @@
 //! The machine's state, and its steps.
 ghost use Rattle.std.specs.Prelude.{◌≡◌, ◌+◌, ◌%◌, ◌^◌, ◌<◌, ◌≤◌, List, map, slice_get, All, IfSome, IfOk, OnErr};
 ghost use Rattle.w16_model.specs.Handles.{handle_of};
-ghost use Rattle.w16_model.specs.Walk.{IsFirstItem};
+ghost use Rattle.w16_model.specs.Walk.{IsFirstItem, IsItem};
 ghost use Rattle.w16_machine.specs.World.{IsWorldWalk, empty_world};
 ghost use Rattle.w16_machine.specs.Machine.{Event, IsSame, Run};
 ghost use Rattle.w16_machine.specs.Fewest.{IsFewest, AreFewest};
@@ -121,11 +121,15 @@ impl<S: Store + Drop, A: Allocator + Copy> Kernel<S, A> {
         self.global.walk(i)
     }
 
-    /// The first part of the heap that begins at an address or above it; none behind the last.
+    /// The first part of the heap that begins at an address or above it; none behind the last. A whole walk asks from 0 on, then from the
+    /// end of each part.
     pub fn walk_from(&self, from: u32) -> Option<Item>
         ensures found { IsFirstItem handle_of self.now.loading.handles.heap from result }
         ensures inside { IfSome result (λ item. (0 < item.size) × (item.at + item.size < 2 ^ 32)) }
         ensures words { IfSome result (λ item. IfSome item.owner (λ owner. owner.name < 2 ^ 16)) }
+
+        // No part begins inside it.
+        ensures apart { IfSome result (λ item. (other : Item) → IsItem handle_of self.now.loading.handles.heap other → item.at < other.at → item.at + item.size ≤ other.at) }
 
         // All parts together are the walk of the world.
         ensures whole { (items : List Item) × IsWorldWalk self.now items }

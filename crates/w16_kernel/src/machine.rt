@@ -1,7 +1,7 @@
 //! What a run asks of a machine.
-ghost use Rattle.std.specs.Prelude.{◌≡◌, ◌+◌, ◌^◌, ◌<◌, List, IfSome, IfOk, OnErr};
+ghost use Rattle.std.specs.Prelude.{◌≡◌, ◌+◌, ◌^◌, ◌<◌, ◌≤◌, List, IfSome, IfOk, OnErr};
 ghost use Rattle.w16_model.specs.Handles.{handle_of};
-ghost use Rattle.w16_model.specs.Walk.{IsFirstItem};
+ghost use Rattle.w16_model.specs.Walk.{IsFirstItem, IsItem};
 ghost use Rattle.w16_loading.specs.Replies as printed;
 ghost use Rattle.w16_machine.specs.World.{IsWorldWalk, World};
 ghost use Rattle.w16_machine.specs.Machine.{Command, IsSame};
@@ -38,12 +38,16 @@ pub trait Machine {
         ensures wanted { OnErr result (TakesMemory (world self.old) (command_of call.now)) }
         ensures refused { OnErr result (IsSame (world self.old) (world self.new)) };
 
-    /// The first part of the heap that begins at an address or above it; none behind the last.
+    /// The first part of the heap that begins at an address or above it; none behind the last. A whole walk asks from 0 on, then from the
+    /// end of each part.
     fn walk_from(&self, from: u32) -> Option<Item>
         ensures found { IsFirstItem handle_of (world self.now).loading.handles.heap from result }
         ensures inside { IfSome result (λ item. (0 < item.size) × (item.at + item.size < 2 ^ 32)) }
         ensures words { IfSome result (λ item. IfSome item.owner (λ owner. owner.name < 2 ^ 16)) }
-        ensures whole { (items : List Item) × IsWorldWalk (world self.now) items };
+        ensures whole { (items : List Item) × IsWorldWalk (world self.now) items }
+
+        // No part begins inside it.
+        ensures apart { IfSome result (λ item. (other : Item) → IsItem handle_of (world self.now).loading.handles.heap other → item.at < other.at → item.at + item.size ≤ other.at) };
 }
 
 impl<S: Store + Drop, A: Allocator + Copy> Machine for Kernel<S, A> {

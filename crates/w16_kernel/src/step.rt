@@ -7,7 +7,7 @@ ghost use Rattle.w16_kernel.specs.Runs.{command_of, reply_of, IsCall, IsReply, T
 ghost use Rattle.w16_kernel.specs.Parts.{IsWorldOver, Unswept, may_take_bytes, surviving_heaps, world_of};
 
 use crate::call::{Call, MOST_READ, Reply};
-use crate::far::{fill, read, write};
+use crate::far::{Written, read, write};
 use crate::library::Library;
 use crate::load::{free_module, load_reply, proc_address};
 use crate::resource::{find_resource, load_resource, lock_resource};
@@ -16,7 +16,7 @@ use w16_global::Global16;
 use w16_local::LocalHeaps;
 use w16_model::Item;
 use w16_resource::size_of_resource;
-use w16_store::Store;
+use w16_store::{Store, reveal_bytes};
 
 /// How many parts the heap's walk has.
 fn part_count<A: Allocator + Copy>(global: &Global16<A>) -> u32
@@ -88,12 +88,19 @@ pub fn step<'r, S: Store + Drop, A: Allocator + Copy>(
             pointer,
             &mut room[..count as usize],
         )),
-        Call::Write { pointer, bytes } => Ok(write(global, locals, library, pointer, bytes)),
+        Call::Write { pointer, bytes } => {
+            reveal_bytes(bytes);
+            let written = Written::Bytes(bytes);
+            Ok(write(global, locals, library, pointer, written))
+        }
         Call::Fill {
             pointer,
             count,
             byte,
-        } => Ok(fill(global, locals, library, pointer, count, byte)),
+        } => {
+            let written = Written::Repeated { count, byte };
+            Ok(write(global, locals, library, pointer, written))
+        }
         Call::LocalInit {
             selector,
             start,

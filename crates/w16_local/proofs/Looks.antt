@@ -34,10 +34,6 @@ none_some e = cc
 pub some_other : {x y : ℕ} → x ≢ y → ◌≡◌ {A = Option ℕ} (Some x) (Some y) → ⊥
 some_other {x} {y} other e = let same : x ≡ y = cc in other same
 
-each : {P Q : Block → Type 0} → ((c : Block) → P c → Q c) → (b : Option Block) → IfSome b P → IfSome b Q
-each f None h = tt
-each f (Some c) h = f c h
-
 module _ {t : Table} {bytes : List ℕ} (over : IsOver t bytes) where
   parts : AreParts t.entries (record { cap = length t.entries; lo = t.lo; hi = t.hi; grain = t.grain; blocks = t.blocks }) t.order bytes
   parts = record { sound = over.is_local.sound; ids = refl; high = over.inside }
@@ -61,20 +57,14 @@ module _ {t : Table} {bytes : List ℕ} (over : IsOver t bytes) where
     pub at_block : (b : Block) → block_with t.blocks b.id ≡ Some b → b.at ≡ pointer → id_at (heap_in t bytes) pointer ≡ Some b.id
     at_block b is at = at_place b.id (place_here parts b.id ∙ ap (option_map (λ (x : Block). x.at)) is ∙ ap Some at)
 
-    not_at : ((q : ℕ) → IfSome (block_with t.blocks q) (λ c. c.at ≢ pointer)) → id_at (heap_in t bytes) pointer ≡ None
-    not_at never = turn (id_at (heap_in t bytes) pointer) refl
+    pub at_none : ((q : ℕ) → IfSome (block_with t.blocks q) (λ c. c.at ≢ pointer)) → id_at (heap_in t bytes) pointer ≡ None
+    at_none never = turn (id_at (heap_in t bytes) pointer) refl
       where
         turn : (p : Option ℕ) → id_at (heap_in t bytes) pointer ≡ p → p ≡ None
         turn None e = refl
         turn (Some id) e =
             let x : (x : Block) × (block_with t.blocks id ≡ Some x) × (x.at ≡ pointer) = placed pointer id ((names_law (heap_in t bytes) pointer id heap_is over.is_local.grain).1.0 e) in
             absurd (subst (λ b. IfSome b (λ (c : Block). c.at ≢ pointer)) x.1 (never id) x.2)
-
-    pub at_none : ((q : ℕ) → IfSome (block_with t.blocks q) (λ c. c.at < pointer)) → id_at (heap_in t bytes) pointer ≡ None
-    at_none below = not_at (λ q. each (λ c lt e. omega (arith, lt, e)) (block_with t.blocks q) (below q))
-
-    pub at_above : (b : Block) → pointer ≤ b.at → b.at ≢ pointer → ((q : ℕ) → IfSome (block_with t.blocks q) (λ c. (c.at < pointer) ⊎ (b.at ≤ c.at))) → id_at (heap_in t bytes) pointer ≡ None
-    at_above b from other lowest = not_at (λ q. each (λ c s e. elim s [ inl lt ↦ omega (arith, lt, e) | inr le ↦ other (omega (arith, from, le, e)) ]) (block_with t.blocks q) (lowest q))
 
   -- Names.
   module _ (id : ℕ) where

@@ -14,17 +14,13 @@ use w16_arena::Arena;
 use w16_holes::SideHoles;
 use w16_machine::local::{LMEM_DISCARDABLE, LMEM_DISCARDED};
 use w16_model::bit_if;
-use w16_region::Window;
 
 /// The object that begins at a near pointer, if one does.
 pub(crate) fn id_at<A: Allocator + Copy>(heap: &Arena<SideHoles<A>>, pointer: u16) -> Option<u32>
     ensures { (bytes : List ℕ) → IsOver heap.now.table bytes → local.id_at (heap_in heap.now.table bytes) pointer ≡ result }
 {
-    let at = pointer as u32;
-    // Holes beside the memory need none of it.
-    let window = Window::new(&mut []);
-    let block = heap.next_block(&window, at)?;
-    if block.at == at { Some(block.id) } else { None }
+    let block = heap.block_beginning_at(pointer as u32)?;
+    Some(block.id)
 }
 
 /// What an object is called: a fixed one by its near pointer, any other by its entry.

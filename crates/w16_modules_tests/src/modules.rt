@@ -1,14 +1,16 @@
 //! Calls on modules, and accesses to their segments: scripts over module files with the reply that each line must have, from script bytes to reply
-//! bytes.
+//! bytes. So are some on handles and on local heaps, which need no files.
 //!
-//! `calls.rt`, `loads.rt`, `accesses.rt` and `resources.rt` have the tables, and `files.rt` makes the files.
+//! `calls.rt`, `loads.rt`, `accesses.rt`, `resources.rt`, `handles.rt` and `local.rt` have the tables, and `files.rt` makes the files.
 mod accesses;
 mod by_calls;
 mod calls;
 mod failures;
 mod files;
 mod full;
+mod handles;
 mod loads;
+mod local;
 mod machine;
 mod refusals;
 mod resources;
@@ -17,7 +19,9 @@ mod turning;
 use accesses::ACCESSES;
 use calls::CALLS;
 use files::{file_of, store_of};
+use handles::HANDLES;
 use loads::{FIRST_LOAD, LOADS};
+use local::LOCAL;
 use machine::Machine;
 use resources::{RESOURCE, RESOURCES};
 use std::alloc::{AllocError, AllocGlobal, Allocator, Global};
@@ -41,8 +45,8 @@ pub struct Row {
 }
 
 /// All rows, by what they are on. Only this function names the tables, so that a proof meets their contents once.
-fn tables() -> [&'static [Row]; 4] {
-    [LOADS, CALLS, ACCESSES, RESOURCES]
+fn tables() -> [&'static [Row]; 6] {
+    [LOADS, CALLS, ACCESSES, RESOURCES, HANDLES, LOCAL]
 }
 
 /// A line and the text of its reply.

@@ -103,3 +103,30 @@ fn keeps_no_number(rt: HostRuntime) -> Result<(), Fail> {
     assert!(rt; right);
     Ok(())
 }
+
+/// The last places of lists that fill a row, a level or less, or have one number more.
+const LAST_PLACES: &[u16] = &[0, 14, 15, 16, 239, 270, 271, 272, 4999];
+
+#[test]
+fn finds_through_all_levels(rt: HostRuntime) -> Result<(), Fail> {
+    let mut right = true;
+    for place in LAST_PLACES {
+        let last = *place as usize;
+        let calls = [
+            Call::Set(last, 7),
+            Call::FirstAtLeast(7, Some(last)),
+            Call::FirstAtLeast(8, None),
+            Call::LastBelow(last, None),
+            Call::Set(last / 2, 9),
+            Call::Max(9),
+            Call::FirstAtLeast(8, Some(last / 2)),
+            Call::Set(last, 1),
+            Call::Set(last / 2, 0),
+            Call::FirstAtLeast(8, None),
+            Call::LastBelow(last, None),
+        ];
+        right &= are_answered(rt.alloc(), place.saturating_add(1), &calls)?;
+    }
+    assert!(rt; right);
+    Ok(())
+}

@@ -1,5 +1,5 @@
 -- Lemmas on the arguments of commands.
-use Rattle.w16_script.proofs.Common.{◌≡◌, ◌≢◌, ℕ, ◌*◌, ◌^◌, ◌<◌, ◌≤◌, List, [], ◌∷◌, length, get_or, refl, ap, sym, subst, ◌∙◌, arith, Ok, Option, Some, None, IfNone, Command, Name, Parameter, Label, IsLiteral, IsNumber, Argument, IsText, IsLabel, IsArgument, AreArguments, Makes, parameters_of, command_with, decode_of, decode_of-ok}
+use Rattle.w16_script.proofs.Common.{◌≡◌, ◌≢◌, ℕ, ◌*◌, ◌^◌, ◌<◌, ◌≤◌, List, [], ◌∷◌, length, get_or, refl, ap, sym, subst, ◌∙◌, arith, Ok, Option, Some, None, IfNone, Command, Name, Parameter, Label, IsLiteral, IsNumber, Argument, IsLabel, IsArgument, AreArguments, Makes, parameters_of, command_with, decode_of, decode_of-ok}
 use Rattle.w16_script.specs.declared.arguments.Parameter.TheVariants as p
 
 -- a word of another length has no so many bytes
@@ -27,14 +27,6 @@ no_count registers word most none value h = absurd h
 pub no_byte : (registers word : List ℕ) → ((n : ℕ) → IsNumber registers word n → n ≤ 255 → ⊥) → (value : Argument) → IsArgument registers word p.Byte value → ⊥
 no_byte registers word none (Argument.Byte n) h = none n h.0 (omega (arith, h.1))
 no_byte registers word none value h = absurd h
-
-pub no_text : (registers word : List ℕ) → (IsText word → ⊥) → (value : Argument) → IsArgument registers word p.Text value → ⊥
-no_text registers word none (Argument.Text text) h = none h.1
-no_text registers word none value h = absurd h
-
-pub no_label : (registers word : List ℕ) → ((label : Label) → IsLabel word label → ⊥) → (value : Argument) → IsArgument registers word p.Label value → ⊥
-no_label registers word none (Argument.Label label) h = none label h
-no_label registers word none value h = absurd h
 
 -- a label that is a number begins with `#`
 pub hash : (word digits : List ℕ) → word ≡ 35 ∷ digits → get_or word 0 0 ≢ 35 → ⊥

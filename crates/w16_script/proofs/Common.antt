@@ -14,19 +14,19 @@ pub use Rattle.std.specs.Int.{to_be_bytes, w32}
 pub use Rattle.std.specs.Io.BufRead.{strip_last}
 pub use Rattle.std.specs.Io.KnownBytes.{Appends, Consumes, IsAtEnd, Keeps}
 pub use Rattle.std.specs.List.{AllByRecursion, flat_map}
-pub use Rattle.std.specs.Prelude.{IfNone}
+pub use Rattle.std.specs.Prelude.{IfNone, bit_or}
 pub use Rattle.std.specs.Str.{bytes_eq}
 pub use Rattle.hex.proofs.HexLemmas.{decode_of-even, decode_of-ok, decode_of-same, length-encode_with}
-pub use Rattle.hex.proofs.Pairs.{decode_done, decode_err, decode_step, prepend}
+pub use Rattle.hex.proofs.Pairs.{decode_done, decode_err, decode_step, encode_done, encode_step, prepend}
 pub use Rattle.hex.specs.Hex.{decode_of, decode_pairs, encode_lower, hex_digit_value, is_hex_digit, lower_digits, pair_value}
 unfoldable pub use Rattle.hex.specs.Hex.{encode_with}
 pub use Rattle.hex.specs.declared.error.FromHexError.{FromHexError}
 pub use Rattle.hex.specs.declared.error.FromHexError.TheVariants.{InvalidHexCharacter}
-pub use Rattle.w16_kernel.proofs.Common.{AreFewest, Command, Event, Run, Steps, World, command_of, common_steps, handle_of, reply_of, ◌&&◌}
+pub use Rattle.w16_kernel.proofs.Common.{AreFewest, Command, Event, Run, Steps, World, command_of, common_steps, cut_on, handle_of, reply_of, ◌&&◌}
 pub use Rattle.w16_loading.proofs.Common.{IsTrue, MatchOption, count_by, if◌then◌else◌, list_all, nat_lt, slice_index, ◌==◌}
 pub use Rattle.w16_loading.specs.File.{Label}
 pub use Rattle.w16_machine.specs.World.{IsWorldWalk}
-pub use Rattle.w16_model.proofs.Common.{IsFirstItem, cases_lt, nat_tests}
+pub use Rattle.w16_model.proofs.Common.{IsFirstItem, IsItem, cases_lt, nat_tests}
 pub use Rattle.w16_model.proofs.Cuts.{IsCut, Next, all_done, cut_more, cut_none, done_more, done_none, next}
 pub use Rattle.w16_model.specs.declared.Item.{Item}
 pub use Rattle.w16_script.specs.Feeding.{FailsAt, Feeds, Stops, StopsHere}

@@ -120,10 +120,6 @@ BeginsWith-same text s t a b p q = elim (BeginsWith-form text s a p) [
 pub BeginsWith-name : (word : List ℕ) (r : ℕ) → IsRegister word r → BeginsWith word r []
 BeginsWith-name word r h = record { name = word; named = h; whole = sym (append-nil word); ends = refl }
 
-pub IsRegister-from : (word rest : List ℕ) (r : ℕ) → BeginsWith word r rest → rest ≡ [] → IsRegister word r
-IsRegister-from word rest r h none =
-    subst (λ (l : List ℕ). IsRegister l r) (sym (h.whole ∙ ap (λ (l : List ℕ). h.name ++ l) none ∙ append-nil h.name)) h.named
-
 pub not_named : (word rest : List ℕ) (a b : ℕ) (test : Bool) → test ≡ (length rest == 0) → test ≡ false → BeginsWith word a rest → IsRegister word b → ⊥
 not_named word rest a b test is some h named =
     let none : rest ≡ [] = (BeginsWith-same word rest [] a b h (BeginsWith-name word b named)).1 in
@@ -141,10 +137,6 @@ form_ends value suffix n (inr (inr (inr (tail, more, is, literal, same)))) = ap 
 
 pub BeginsWith-from : (registers text : List ℕ) (n : ℕ) → (h : IsOfRegister registers text n) → BeginsWith text h.register h.suffix
 BeginsWith-from registers text n h = record { name = h.name; named = h.named; whole = h.whole; ends = form_ends (get_or registers h.register 0) h.suffix n h.form }
-
--- a number of the register that the word begins with
-pub IsOfRegister-from : (registers word rest : List ℕ) (r n : ℕ) → BeginsWith word r rest → IsForm (get_or registers r 0) rest n → IsOfRegister registers word n
-IsOfRegister-from registers word rest r n h form = record { name = h.name; register = r; suffix = rest; named = h.named; whole = h.whole; form = form }
 
 pub no_form : (registers word rest : List ℕ) (r n value : ℕ) → BeginsWith word r rest → value ≡ get_or registers r 0 → (IsForm value rest n → ⊥) → IsOfRegister registers word n → ⊥
 no_form registers word rest r n value h is none number =

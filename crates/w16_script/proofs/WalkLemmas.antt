@@ -1,5 +1,5 @@
 -- Lemmas on walks that are printed, item by item.
-use Rattle.w16_script.proofs.Common.{◌≡◌, ℕ, ◌+◌, ◌<◌, List, [], ◌∷◌, ◌++◌, Option, None, Some, length, codes, length-append, refl, sym, ap, ◌∙◌, append-nil, append_assoc, arith, subst, w32, to_be_bytes, flat_map, Appends, Appends-nil, Appends-trans, flat_map-append, encode_lower, Item, World, IsWorldWalk, handle_of, IsFirstItem, IsCut, Next, next, cut_none, done_none, cut_more, done_more, all_done, AppendsFront, owner_text, item_text, end_text, walk_text}
+use Rattle.w16_script.proofs.Common.{◌≡◌, ℕ, ◌+◌, ◌<◌, ◌≤◌, List, [], ◌∷◌, ◌++◌, Option, None, Some, length, codes, length-append, refl, sym, ap, ◌∙◌, append-nil, append_assoc, arith, subst, w32, to_be_bytes, flat_map, Appends, Appends-nil, Appends-trans, flat_map-append, encode_lower, Item, World, IsWorldWalk, handle_of, IsFirstItem, IsItem, IsCut, Next, next, cut_none, done_none, cut_more, cut_on, done_more, all_done, AppendsFront, owner_text, item_text, end_text, walk_text}
 use Rattle.w16_script.proofs.WriteLemmas.{AppendsFront-between}
 
 -- Fronts of what is printed.
@@ -27,14 +27,17 @@ module _ (world : World) (items : List Item) (walk : IsWorldWalk world items) (f
   abbrev done : List ℕ
   done = flat_map item_text printed.cut.done
 
-  -- one item more
-  pub item_printed : (item : Item) (new : Option (List ℕ)) → IsFirstItem handle_of world.loading.handles.heap from (Some item) → Appends holds new (item_text item) → PrintedBelow held new items (item.at + 1)
-  item_printed item new first appends = record {
-    cut = cut_more handle_of world.loading.handles.heap items walk from printed.cut item first;
-    appends = subst (Appends held new)
-        (ap (λ (l : List ℕ). done ++ l) (sym (append-nil (item_text item))) ∙ sym (flat_map-append item_text printed.cut.done (item ∷ [])) ∙ ap (flat_map item_text) (sym (done_more handle_of world.loading.handles.heap items walk from printed.cut item first)))
-        (Appends-trans held holds new done (item_text item) printed.appends appends);
-  }
+  -- one item more, inside which none begins
+  pub item_printed : (item : Item) (new : Option (List ℕ)) → IsFirstItem handle_of world.loading.handles.heap from (Some item) → 0 < item.size
+      → ((other : Item) → IsItem handle_of world.loading.handles.heap other → item.at < other.at → item.at + item.size ≤ other.at) → Appends holds new (item_text item) → PrintedBelow held new items (item.at + item.size)
+  item_printed item new first some apart appends =
+      let on = cut_on handle_of world.loading.handles.heap item some apart items walk (cut_more handle_of world.loading.handles.heap items walk from printed.cut item first) in
+      record {
+        cut = on.0;
+        appends = subst (Appends held new)
+            (ap (λ (l : List ℕ). done ++ l) (sym (append-nil (item_text item))) ∙ sym (flat_map-append item_text printed.cut.done (item ∷ [])) ∙ ap (flat_map item_text) (sym (on.1 ∙ done_more handle_of world.loading.handles.heap items walk from printed.cut item first)))
+            (Appends-trans held holds new done (item_text item) printed.appends appends);
+      }
 
   -- a front of an item is one of the walk
   pub item_fails : (item : Item) (new : Option (List ℕ)) → IsFirstItem handle_of world.loading.handles.heap from (Some item) → AppendsFront holds new (item_text item) → AppendsFront held new (walk_text items)

@@ -1,6 +1,6 @@
 //! Bytes in hexadecimal.
 ghost use Rattle.std.specs.Prelude.{◌≡◌, ◌*◌, ◌<◌, List, ℕ, IsTrue, IsFalse, IfSome, IfNone, Ok, MatchOption, length, slice_index};
-ghost use Rattle.hex.specs.Hex.{decode_of, hex_digit_value};
+ghost use Rattle.hex.specs.Hex.{decode_of, encode_lower, hex_digit_value, lower_digits};
 ghost use Rattle.w16_script.specs.Grammar.{IsBytes};
 
 /// The most bytes that a command may write.
@@ -43,22 +43,63 @@ pub fn value_of(byte: u8) -> u8
     entry(VALUES, byte)
 }
 
-/// Decodes two digits for each byte, and says whether all were digits. A table serves better than comparisons, which mispredict.
+/// The same without a table, so that many bytes go at once.
+fn digit_of(byte: u8) -> u8
+    ensures { MatchOption (hex_digit_value byte) (result ≡ NO_DIGIT) (λ value. (result ≡ value) × (value < NO_DIGIT)) }
+{
+    let number = byte.wrapping_sub(b'0');
+    let letter = (byte | 0x20).wrapping_sub(b'a');
+    if number < 10 {
+        number
+    } else if letter < 6 {
+        letter + 10
+    } else {
+        NO_DIGIT
+    }
+}
+
+/// Decodes two digits for each byte, and says whether all were digits. It isn't inlined: where it is, it is no longer known that text and bytes
+/// don't overlap, and they go one by one.
+#[inline(never)]
 fn decode(word: &[u8], bytes: &mut [u8]) -> bool
     requires { length word.now ≡ 2 * length bytes.old }
     ensures length { length bytes.new ≡ length bytes.old }
     ensures ok { IsTrue result → decode_of word.now ≡ Ok bytes.new }
     ensures none { IsFalse result → (other : List ℕ) → decode_of word.now ≡ Ok other → ⊥ }
 {
+    let mut are_digits = true;
     'pairs: for at in 0..bytes.len() {
-        let high = value_of(word[2 * at]);
-        let low = value_of(word[2 * at + 1]);
-        if high == NO_DIGIT || low == NO_DIGIT {
-            return false;
-        }
-        bytes[at] = high * 16 + low;
+        let high = digit_of(word[2 * at]);
+        let low = digit_of(word[2 * at + 1]);
+        are_digits = are_digits & (high < NO_DIGIT) & (low < NO_DIGIT);
+        bytes[at] = high.wrapping_mul(16).wrapping_add(low);
     }
-    true
+    are_digits
+}
+
+/// The digit of a number below 16.
+fn digit(value: u8) -> u8
+    requires { value < 16 }
+    ensures { result ≡ slice_index lower_digits value }
+{
+    if value < 10 {
+        b'0' + value
+    } else {
+        b'a' + (value - 10)
+    }
+}
+
+/// Puts the digits of bytes into a text of twice their length. It isn't inlined, as `decode` isn't.
+#[inline(never)]
+pub fn encode(bytes: &[u8], text: &mut [u8])
+    requires { length text.old ≡ 2 * length bytes.now }
+    ensures { text.new ≡ encode_lower bytes.now }
+{
+    'bytes: for at in 0..bytes.len() {
+        let byte = bytes[at];
+        text[2 * at] = digit(byte / 16);
+        text[2 * at + 1] = digit(byte % 16);
+    }
 }
 
 /// One to 1,024 bytes in hexadecimal of either case, in the room that is lent.

@@ -8,6 +8,7 @@ ghost use Rattle.w16_kernel.specs.Runs.{reply_of};
 ghost use Rattle.w16_script.specs.Written.{AppendsFront};
 ghost use Rattle.w16_script.specs.Printed.{end_text, reply_text, error_text};
 
+use crate::bytes::encode;
 use crate::write::write_whole;
 use arrayvec::ArrayVec;
 use std::io::{self, ErrorKind, Write};
@@ -79,7 +80,7 @@ fn bytes_line<'a>(bytes: &[u8], room: &'a mut TextRoom) -> &'a [u8]
 {
     let last = BYTES.len() + 2 * bytes.len();
     room[..BYTES.len()].copy_from_slice(BYTES);
-    let _ = hex::encode_to_slice(bytes, &mut room[BYTES.len()..last]);
+    encode(bytes, &mut room[BYTES.len()..last]);
     room[last] = b'\n';
     &room[..last + 1]
 }

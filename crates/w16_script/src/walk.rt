@@ -80,7 +80,7 @@ pub fn print_walk<W: Write, K: Machine>(writer: &mut W, kernel: &K) -> Result<()
     let mut from = 0;
     'items: while let Some(item) = kernel.walk_from(from) {
         print_item(writer, &item)?;
-        from = item.at + 1;
+        from = item.at + item.size;
     }
     print_end(writer)
 }

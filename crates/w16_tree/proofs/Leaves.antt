@@ -1,48 +1,50 @@
 -- The leaves of a tree are its list.
-use Rattle.std.proofs.Common.{ℕ, zero, suc, ◌≡◌, ◌<◌, ◌≤◌, ◌+◌, ◌-◌, ◌*◌, max, List, [], ◌∷◌, length, take, drop, set, replicate, get_or, nat_le, Option, Some, None, arith, refl, sym, ap, ◌∙◌, subst, inl, inr, le-leb}
+use Rattle.std.proofs.Common.{ℕ, zero, suc, ◌≡◌, ◌≢◌, ◌<◌, ◌≤◌, ◌+◌, ◌-◌, ◌*◌, ◌/◌, ◌%◌, max, List, [], ◌∷◌, length, take, drop, set, replicate, nat_le, Option, Some, None, arith, refl, sym, ap, ◌∙◌, subst, inl, inr, le-leb, lit<}
 use Rattle.std.specs.Prelude.{slice_index}
 use Rattle.std.specs.List.{position, position_or_len, fold}
-use Rattle.std.proofs.lemmas.Bool.{cases_lt, lt-leb, lt-ltb, le-ltb}
-use Rattle.std.proofs.lemmas.List.{get_or_read, get_or-take, get_or-drop, get_or-replicate, get_or_past, length-replicate, length-take, length-drop, get_or-set_other, drop-set-add}
+use Rattle.std.proofs.lemmas.Bool.{cases_lt, cases_eq, lt-leb, lt-ltb, le-ltb}
+use Rattle.std.proofs.lemmas.List.{get_or-take, get_or-drop, get_or-replicate, get_or_past, length-replicate, length-take, length-drop, get_or-set_other, get_or-set_same, set-set, set-get_or, drop-set-add}
 use Rattle.std.proofs.lemmas.List.Sums.{position_or_len_is}
 use Rattle.w16_tree.specs.Last.{last_below}
-use Rattle.w16_tree.specs.Tree.{begin, IsUpheldBut, IsUpheld, IsTree, IsLastLeaf}
-use Rattle.w16_tree.proofs.Tree.{below_node, begin_rising, begin_twice, begin_above}
+use Rattle.w16_tree.specs.Tree.{row, begin, number, IsMost, IsUpheld, IsTree, IsFirstLeaf, IsLastLeaf}
+use Rattle.w16_tree.proofs.Tree.{below_nodes, reached, begin_rising, begin_end}
 
 abbrev pub list_of : ℕ → ℕ → List ℕ → List ℕ
 list_of len leaves nodes = take len (drop leaves nodes)
 
--- what reading node i gives
-pub read_node : (nodes : List ℕ) (leaves i x : ℕ) → length nodes ≡ leaves + leaves → i < leaves + leaves → x ≡ get_or nodes i x → x ≡ slice_index nodes i
-read_node nodes leaves i x long lt e = get_or_read nodes i x (omega arith) e 0
-
 pub read : (len leaves k : ℕ) (nodes : List ℕ) → k < len → slice_index (list_of len leaves nodes) k ≡ slice_index nodes (leaves + k)
 read len leaves k nodes lt = get_or-take len (drop leaves nodes) k 0 lt ∙ get_or-drop leaves nodes k 0
 
-zero_read : (n k : ℕ) → slice_index (replicate n 0) k ≡ 0
+pub zero_read : (n k : ℕ) → slice_index (replicate n 0) k ≡ 0
 zero_read n k = elim (cases_lt k n) [
   | inl lt ↦ get_or-replicate n k 0 0 lt
   | inr le ↦ get_or_past (replicate n 0) k 0 (let zs : List ℕ = replicate n 0 in let e : length zs ≡ n = length-replicate n 0 in omega arith)
 ]
 
-pub IsTree-zeros : (height len leaves n : ℕ) → begin height 1 ≡ leaves → len < leaves → n ≡ leaves + leaves → IsTree height len leaves (replicate n 0)
-IsTree-zeros height len leaves n wide inside e = record {
+-- a place whose number is not 0 is in the list
+pub some_inside : (nodes : List ℕ) (p : ℕ) → 0 < slice_index nodes p → p < length nodes
+some_inside nodes p some = elim (cases_lt p (length nodes)) [ inl lt ↦ lt | inr le ↦ let z = get_or_past nodes p 0 le in absurd (omega arith) ]
+
+-- a row with a number that is not 0 is in the list, which is in whole rows
+pub row_inside : (nodes : List ℕ) (at p : ℕ) → length nodes % 16 ≡ 0 → at % 16 ≡ 0 → at ≤ p → p < at + 16 → 0 < slice_index nodes p → at + 16 ≤ length nodes
+row_inside nodes at p rows even from to some = let lt = some_inside nodes p some in omega arith
+
+pub IsTree-zeros : (height len leaves n : ℕ) → begin height 0 ≡ leaves → len < 15 * leaves + 16 → n % 16 ≡ 0 → leaves + len < n → IsTree height len leaves (replicate n 0)
+IsTree-zeros height len leaves n wide room rows long = let zs : List ℕ = replicate n 0 in let e : length zs ≡ n = length-replicate n 0 in record {
   wide = wide;
-  long = length-replicate n 0 ∙ e;
-  inside = inside;
+  room = room;
+  rows = omega arith;
+  long = omega arith;
   rest = λ k le. zero_read n (leaves + k);
-  upheld = λ j some lt. let a = zero_read n j in let b = zero_read n (2 * j) in let c = zero_read n (2 * j + 1) in omega arith;
+  upheld = λ j lt. let z = zero_read n j in record {
+    bound = λ p from to. let a = zero_read n p in omega arith;
+    met = (row j, omega arith, omega arith, zero_read n (row j) ∙ sym z);
+  };
 }
 
 module _ (height len leaves : ℕ) (nodes : List ℕ) (tree : IsTree height len leaves nodes) where
   pub list_length : length (list_of len leaves nodes) ≡ len
-  list_length = let a = length-take len (drop leaves nodes) in let b = length-drop leaves nodes in let long = tree.long in let inside = tree.inside in omega arith
-
-  -- each leaf is at most the root
-  pub below_root : (k : ℕ) → k < leaves → slice_index nodes (leaves + k) ≤ slice_index nodes 1
-  below_root k lt =
-      let wide = tree.wide in let t = begin_twice height 1 in
-      below_node leaves nodes tree.upheld height 1 (leaves + k) (omega arith) (omega arith) (omega arith) (omega arith)
+  list_length = let a = length-take len (drop leaves nodes) in let b = length-drop leaves nodes in let long = tree.long in omega arith
 
   -- a leaf above 0 is in the list
   pub in_list : (k : ℕ) → 0 < slice_index nodes (leaves + k) → k < len
@@ -51,24 +53,19 @@ module _ (height len leaves : ℕ) (nodes : List ℕ) (tree : IsTree height len 
     | inr le ↦ let z = tree.rest k le in absurd (omega arith)
   ]
 
-  pub first_is : (n k : ℕ) → 0 < n → n ≤ slice_index nodes (leaves + k) → ((j : ℕ) → j < k → slice_index nodes (leaves + j) < n) → Some k ≡ position (nat_le n) (list_of len leaves nodes)
-  first_is n k some reach none =
-      let lt = in_list k (omega arith) in
-      let long = list_length in
-      let e : position_or_len (nat_le n) (list_of len leaves nodes) ≡ k =
+  first_at : (n k : ℕ) → k ≤ len → (k < len → n ≤ slice_index nodes (leaves + k)) → ((j : ℕ) → j < k → slice_index nodes (leaves + j) < n) → position_or_len (nat_le n) (list_of len leaves nodes) ≡ k
+  first_at n k le reach before = let long = list_length in
       position_or_len_is (nat_le n) (list_of len leaves nodes) k 0 (omega arith)
-      (λ j below. rw (read len leaves j nodes (omega arith)) (lt-leb n (slice_index nodes (leaves + j)) (none j below)))
-      (λ _. rw (read len leaves k nodes lt) (le-leb n (slice_index nodes (leaves + k)) reach)) in
-      rw (e, lt-ltb k (length (list_of len leaves nodes)) (omega arith)) refl
+      (λ j below. rw (read len leaves j nodes (omega arith)) (lt-leb n (slice_index nodes (leaves + j)) (before j below)))
+      (λ lt. let less : k < len = omega arith in rw (read len leaves k nodes less) (le-leb n (slice_index nodes (leaves + k)) (reach less)))
 
-  pub none_is : (n : ℕ) → slice_index nodes 1 < n → None ≡ position (nat_le n) (list_of len leaves nodes)
-  none_is n short =
-      let long = list_length in let inside = tree.inside in
-      let e : position_or_len (nat_le n) (list_of len leaves nodes) ≡ length (list_of len leaves nodes) =
-      position_or_len_is (nat_le n) (list_of len leaves nodes) (length (list_of len leaves nodes)) 0 (omega arith)
-      (λ j below. let r = below_root j (omega arith) in rw (read len leaves j nodes (omega arith)) (lt-leb n (slice_index nodes (leaves + j)) (omega arith)))
-      (λ lt. absurd (omega arith)) in
-      rw (e, le-ltb (length (list_of len leaves nodes)) (length (list_of len leaves nodes)) (omega arith)) refl
+  pub first_is : (n : ℕ) (r : Option ℕ) → 0 < n → IsFirstLeaf leaves (number nodes) n r → r ≡ position (nat_le n) (list_of len leaves nodes)
+  first_is n (Some k) some is =
+      let reach = is.0 in let lt = in_list k (omega arith) in let long = list_length in
+      rw (first_at n k (omega arith) (λ _. reach) (λ j below. is.1 (leaves + j) (omega arith) (omega arith)), lt-ltb k (length (list_of len leaves nodes)) (omega arith)) refl
+  first_is n None some is =
+      let long = list_length in let room = tree.room in
+      rw (first_at n (length (list_of len leaves nodes)) (omega arith) (λ lt. absurd (omega arith)) (λ j below. is (leaves + j) (omega arith) (omega arith)), le-ltb (length (list_of len leaves nodes)) (length (list_of len leaves nodes)) (omega arith)) refl
 
   last_some : (i k : ℕ) → i ≤ len → k < i → 0 < slice_index nodes (leaves + k) → ((p : ℕ) → leaves + k < p → p < leaves + i → slice_index nodes p ≡ 0) → Some k ≡ last_below (list_of len leaves nodes) i
   last_some zero k le lt some none = absurd (omega arith)
@@ -88,30 +85,39 @@ module _ (height len leaves : ℕ) (nodes : List ℕ) (tree : IsTree height len 
       let z : slice_index (list_of len leaves nodes) i ≡ 0 = read len leaves i nodes (omega arith) ∙ none (leaves + i) (omega arith) (omega arith) in
       rw z (last_none i (omega arith) (λ p from to. none p from (omega arith)))
 
-  pub last_is : (i : ℕ) (r : Option ℕ) → i ≤ len → IsLastLeaf leaves nodes (leaves + i) r → r ≡ last_below (list_of len leaves nodes) i
+  pub last_is : (i : ℕ) (r : Option ℕ) → i ≤ len → IsLastLeaf leaves (number nodes) (leaves + i) r → r ≡ last_below (list_of len leaves nodes) i
   last_is i (Some k) le is = last_some i k le (let lt = is.0 in omega arith) is.1 is.2
   last_is i None le is = last_none i le is
 
   -- a leaf changed, and the nodes above it: the list has the new number
-  pub IsTree-set : (k y : ℕ) (new : List ℕ) → k < len → IsUpheld leaves new → drop leaves new ≡ drop leaves (set nodes (leaves + k) y) → length new ≡ length nodes → IsTree height len leaves new
-  IsTree-set k y new lt up same long = record {
+  pub IsTree-set : (k y : ℕ) (new : List ℕ) → k < len → IsUpheld leaves (number new) → drop leaves new ≡ drop leaves (set nodes (leaves + k) y) → length new ≡ length nodes → IsTree height len leaves new
+  IsTree-set k y new lt up same long = let rows = tree.rows in let inside = tree.long in record {
     wide = tree.wide;
-    long = long ∙ tree.long;
-    inside = tree.inside;
+    room = tree.room;
+    rows = omega arith;
+    long = omega arith;
     rest = λ j le.
         sym (get_or-drop leaves new j 0) ∙ ap (λ (xs : List ℕ). slice_index xs j) same ∙ get_or-drop leaves (set nodes (leaves + k) y) j 0
         ∙ get_or-set_other nodes (leaves + k) (leaves + j) y 0 (omega arith) ∙ tree.rest j le;
     upheld = up;
   }
 
-  -- the other nodes are upheld but for one
-  pub upheld_but : (k y : ℕ) → k < len → IsUpheldBut leaves (leaves + k) (set nodes (leaves + k) y)
-  upheld_but k y lt j some inner left right =
-      let e = tree.upheld j some inner in
-      let a = get_or-set_other nodes (leaves + k) j y 0 (omega arith) in
-      let b = get_or-set_other nodes (leaves + k) (2 * j) y 0 (omega arith) in
-      let c = get_or-set_other nodes (leaves + k) (2 * j + 1) y 0 (omega arith) in
-      omega arith
+-- to put back the number that was there leaves all as it was
+put_back : (nodes : List ℕ) (i y : ℕ) → nodes ≡ set (set nodes i y) i (slice_index nodes i)
+put_back nodes i y = sym (set-set nodes i y (slice_index nodes i) ∙ set-get_or nodes i 0)
+
+pub IsMost-along : (f g : ℕ → ℕ) (at m : ℕ) → ((p : ℕ) → at ≤ p → p < at + 16 → f p ≡ g p) → IsMost f at m → IsMost g at m
+IsMost-along f g at m same most = record {
+  bound = λ p from to. let b = most.bound p from to in let e = same p from to in omega arith;
+  met = (most.met.0, most.met.1, most.met.2, sym (same most.met.0 most.met.1 most.met.2) ∙ most.met.3);
+}
+
+-- where a leaf changed, the nodes are upheld with the number that was there
+pub upheld_but : (leaves i y : ℕ) (nodes : List ℕ) → IsUpheld leaves (number nodes) → leaves ≤ i
+    → (j : ℕ) → j < leaves → IsMost (number (set (set nodes i y) i (slice_index nodes i))) (row j) (slice_index (set nodes i y) j)
+upheld_but leaves i y nodes up from j less =
+    subst (λ (m : ℕ). IsMost (number (set (set nodes i y) i (slice_index nodes i))) (row j) m) (sym (get_or-set_other nodes i j y 0 (omega arith)))
+    (subst (λ (ns : List ℕ). IsMost (number ns) (row j) (slice_index nodes j)) (put_back nodes i y) (up j less))
 
 take_set : (len k y : ℕ) (xs : List ℕ) → take len (set xs k y) ≡ set (take len xs) k y
 take_set zero k y xs = refl
@@ -136,38 +142,70 @@ fold_each [] a k lt = absurd (omega arith)
 fold_each (x ∷ xs) a zero lt = let r : max a x ≤ fold max (max a x) xs = fold_from xs (max a x) in omega arith
 fold_each (x ∷ xs) a (suc k) lt = fold_each xs (max a x) k (omega arith)
 
--- a node's number is a leaf's
-reached : (leaves : ℕ) (nodes : List ℕ) → IsUpheld leaves nodes → (h i : ℕ) → 0 < i → begin h (i + 1) ≤ leaves + leaves → (p : ℕ) × (begin h i ≤ p) × (p < begin h (i + 1)) × (slice_index nodes p ≡ slice_index nodes i)
-reached leaves nodes up zero i some inside = (i, omega arith, omega arith, refl)
-reached leaves nodes up (suc h) i some inside =
-    let above : 2 * (i + 1) ≤ begin h (2 * (i + 1)) = begin_above h (2 * (i + 1)) in
-    let one = up i some (omega arith) in
-    let e : 2 * (i + 1) ≡ 2 * i + 1 + 1 = omega arith in
-    let low : begin h (2 * i) ≤ begin h (2 * i + 1) = begin_rising h (2 * i) (2 * i + 1) (omega arith) in
-    let mid : begin h (2 * i + 1) ≤ begin h (2 * (i + 1)) = begin_rising h (2 * i + 1) (2 * (i + 1)) (omega arith) in
-    elim (cases_lt (slice_index nodes (2 * i)) (slice_index nodes (2 * i + 1))) [
-      | inl right ↦
-          let r = reached leaves nodes up h (2 * i + 1) (omega arith) (subst (λ (k : ℕ). begin h k ≤ leaves + leaves) e inside) in
-          let from = r.1 in let to : r.0 < begin h (2 * (i + 1)) = subst (λ (k : ℕ). r.0 < begin h k) (sym e) r.2 in let is = r.3 in
-          (r.0, omega arith, to, omega arith)
-      | inr left ↦
-          let r = reached leaves nodes up h (2 * i) (omega arith) (omega arith) in
-          let from = r.1 in let to = r.2 in let is = r.3 in
-          (r.0, from, omega arith, omega arith)
-    ]
-
-pub max_is : (height len leaves : ℕ) (nodes : List ℕ) → IsTree height len leaves nodes → slice_index nodes 1 ≡ fold max 0 (list_of len leaves nodes)
-max_is height len leaves nodes tree =
-    let wide = tree.wide in let t = begin_twice height 1 in let long = list_length height len leaves nodes tree in let inside = tree.inside in
-    let most : fold max 0 (list_of len leaves nodes) ≤ slice_index nodes 1 =
-    fold_most (list_of len leaves nodes) 0 (slice_index nodes 1) (omega arith)
-    (λ k lt. let r = below_root height len leaves nodes tree k (omega arith) in let e = read len leaves k nodes (omega arith) in omega arith) in
-    let r = reached leaves nodes tree.upheld height 1 (omega arith) (omega arith) in
-    let from = r.1 in let to = r.2 in let is = r.3 in
+pub max_is : (height len leaves m : ℕ) (nodes : List ℕ) → IsTree height len leaves nodes → IsMost (number nodes) 0 m → m ≡ fold max 0 (list_of len leaves nodes)
+max_is height len leaves m nodes tree top =
+    let wide = tree.wide in let stop = begin_end height leaves wide in
+    let some : 0 < 16 = lit< tt in
+    let long = list_length height len leaves nodes tree in
+    let most : fold max 0 (list_of len leaves nodes) ≤ m =
+    fold_most (list_of len leaves nodes) 0 m (omega arith)
+    (λ k lt.
+    let r = below_nodes leaves (number nodes) tree.upheld height 0 16 (leaves + k) (omega arith) (omega arith) (omega arith) (let room = tree.room in omega arith) in
+    let b = top.bound r.0 r.1 (let l = r.2 in omega arith) in let le = r.3 in
+    let e = read len leaves k nodes (omega arith) in omega arith) in
+    let q = top.met.0 in let to = top.met.2 in
+    let low = begin_rising height 0 q (omega arith) in
+    let high = begin_rising height (q + 1) 16 (omega arith) in
+    let r = reached leaves (number nodes) tree.upheld height q (omega arith) in
+    let from = r.1 in
     let k = r.0 - leaves in
     let e : leaves + k ≡ r.0 = omega arith in
-    let same : slice_index nodes (leaves + k) ≡ slice_index nodes 1 = ap (λ (p : ℕ). slice_index nodes p) e ∙ is in
+    let same : slice_index nodes (leaves + k) ≡ m = ap (λ (p : ℕ). slice_index nodes p) e ∙ r.3 ∙ top.met.3 in
     elim (cases_lt k len) [
       | inl lt ↦ let f = read len leaves k nodes lt in let each = fold_each (list_of len leaves nodes) 0 k (omega arith) in omega arith
       | inr le ↦ let z = tree.rest k le in omega arith
     ]
+
+-- one more number of a row
+pub most_more : (f : ℕ → ℕ) (at k most new : ℕ) → k < 16 → new ≡ max most (f (at + k)) → ((p : ℕ) → at ≤ p → p < at + k → f p ≤ most) → (p : ℕ) × (at ≤ p) × (p < at + 16) × (f p ≡ most)
+    → ((p : ℕ) → at ≤ p → p < at + (k + 1) → f p ≤ new) × ((p : ℕ) × (at ≤ p) × (p < at + 16) × (f p ≡ new))
+most_more f at k most new lt is bound met = (
+  λ p from to. elim (cases_lt p (at + k)) [ inl less ↦ let b = bound p from less in omega arith | inr le ↦ let e : p ≡ at + k = omega arith in rw e (omega arith) ],
+  elim (cases_lt most (f (at + k))) [ inl less ↦ (at + k, omega arith, omega arith, omega arith) | inr le ↦ let e = met.3 in (met.0, met.1, met.2, omega arith) ],
+)
+
+-- the row of a place, below a node
+pub row_of : (i : ℕ) → 16 ≤ i → row (i / 16 - 1) ≡ i / 16 * 16
+row_of i from = omega arith
+
+module _ (leaves i old : ℕ) (nodes : List ℕ) (up : (j : ℕ) → j < leaves → IsMost (number (set nodes i old)) (row j) (slice_index nodes j)) where
+  pub before_is : 16 ≤ i → i < 16 * leaves + 16 → IsMost (number (set nodes i old)) (i / 16 * 16) (slice_index nodes (i / 16 - 1))
+  before_is from below = subst (λ (at : ℕ). IsMost (number (set nodes i old)) at (slice_index nodes (i / 16 - 1))) (row_of i from) (up (i / 16 - 1) (omega arith))
+
+  -- the rows without the place
+  others : (j : ℕ) → j < leaves → (16 ≤ i → j ≢ i / 16 - 1) → IsMost (number nodes) (row j) (slice_index nodes j)
+  others j less apart =
+      IsMost-along (number (set nodes i old)) (number nodes) (row j) (slice_index nodes j)
+      (λ p from to. get_or-set_other nodes i p old 0 (λ (e : p ≡ i). apart (omega arith) (omega arith))) (up j less)
+
+  pub up_top : i < 16 → IsUpheld leaves (number nodes)
+  up_top small j less = others j less (λ from. absurd (omega arith))
+
+  module _ (from : 16 ≤ i) (now : ℕ) (most : IsMost (number nodes) (i / 16 * 16) now) where
+    at_above : IsMost (number nodes) (row (i / 16 - 1)) now
+    at_above = subst (λ (at : ℕ). IsMost (number nodes) at now) (sym (row_of i from)) most
+
+    pub up_same : now ≡ slice_index nodes (i / 16 - 1) → IsUpheld leaves (number nodes)
+    up_same same j less = elim (cases_eq j (i / 16 - 1)) [
+      | inl here ↦ subst (λ (k : ℕ). IsMost (number nodes) (row k) (slice_index nodes k)) (sym here) (subst (λ (m : ℕ). IsMost (number nodes) (row (i / 16 - 1)) m) same at_above)
+      | inr apart ↦ others j less (λ _. apart)
+    ]
+
+    pub up_next : i / 16 - 1 < length nodes → (j : ℕ) → j < leaves
+        → IsMost (number (set (set nodes (i / 16 - 1) now) (i / 16 - 1) (slice_index nodes (i / 16 - 1)))) (row j) (slice_index (set nodes (i / 16 - 1) now) j)
+    up_next inside j less = subst (λ (ns : List ℕ). IsMost (number ns) (row j) (slice_index (set nodes (i / 16 - 1) now) j)) (put_back nodes (i / 16 - 1) now) (elim (cases_eq j (i / 16 - 1)) [
+      | inl here ↦
+          let e : now ≡ slice_index (set nodes (i / 16 - 1) now) j = sym (get_or-set_same nodes (i / 16 - 1) now 0 inside) ∙ ap (λ (k : ℕ). slice_index (set nodes (i / 16 - 1) now) k) (sym here) in
+          subst (λ (m : ℕ). IsMost (number nodes) (row j) m) e (subst (λ (k : ℕ). IsMost (number nodes) (row k) now) (sym here) at_above)
+      | inr apart ↦ subst (λ (m : ℕ). IsMost (number nodes) (row j) m) (sym (get_or-set_other nodes (i / 16 - 1) j now 0 apart)) (others j less (λ _. apart))
+    ])

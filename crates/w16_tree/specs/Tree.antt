@@ -1,28 +1,43 @@
--- How the numbers are kept: a binary tree in a list. Node 1 is the root, node j's children are nodes 2 * j and 2 * j + 1, and the leaves are the second half.
-use Rattle.std.specs.Prelude.{ℕ, zero, suc, ◌<◌, ◌≤◌, ◌≡◌, ◌≢◌, ◌+◌, ◌*◌, List, Option, Some, None, length, slice_index, max}
+-- How the numbers are kept: a tree of rows in a list. Row 0 is the top, the row below node i begins at place `row i`, and the leaves are the last level.
+use Rattle.std.specs.Prelude.{ℕ, zero, suc, ◌<◌, ◌≤◌, ◌≡◌, ◌+◌, ◌*◌, ◌%◌, List, Option, Some, None, length, slice_index}
+
+-- where the row below a node begins
+abbrev pub row : ℕ → ℕ
+row i = 16 * (i + 1)
 
 -- where what lies h levels below a node begins: it ends where the next node's begins
 abbrev pub begin : ℕ → ℕ → ℕ
 begin zero i = i
-begin (suc h) i = begin h (2 * i)
+begin (suc h) i = begin h (row i)
 
--- each inner node is its children's maximum, but for the parent of one
-abbrev pub IsUpheldBut : ℕ → ℕ → List ℕ → Type 0
-IsUpheldBut leaves i nodes = (j : ℕ) → 0 < j → j < leaves → i ≢ 2 * j → i ≢ 2 * j + 1 → slice_index nodes j ≡ max (slice_index nodes (2 * j)) (slice_index nodes (2 * j + 1))
+-- the numbers by their places
+abbrev pub number : List ℕ → ℕ → ℕ
+number nodes p = slice_index nodes p
 
--- each inner node is its children's maximum
-abbrev pub IsUpheld : ℕ → List ℕ → Type 0
-IsUpheld leaves nodes = (j : ℕ) → 0 < j → j < leaves → slice_index nodes j ≡ max (slice_index nodes (2 * j)) (slice_index nodes (2 * j + 1))
+-- the maximum of a row: a bound that is met
+pub record IsMost (f : ℕ → ℕ) (at m : ℕ) : Type 0 where
+  pub bound : (p : ℕ) → at ≤ p → p < at + 16 → f p ≤ m
+  pub met : (p : ℕ) × (at ≤ p) × (p < at + 16) × (f p ≡ m)
 
--- a tree of a height, whose first leaves are the list and whose other leaves, of which there is one at least, are 0
+-- each inner node is the maximum of the row below it
+abbrev pub IsUpheld : ℕ → (ℕ → ℕ) → Type 0
+IsUpheld leaves f = (j : ℕ) → j < leaves → IsMost f (row j) (f j)
+
+-- a tree of a height in whole rows, whose first leaves are the list and whose other leaves, of which there is one at least, are 0
 pub record IsTree (height len leaves : ℕ) (nodes : List ℕ) : Type 0 where
-  pub wide : begin height 1 ≡ leaves
-  pub long : length nodes ≡ leaves + leaves
-  pub inside : len < leaves
+  pub wide : begin height 0 ≡ leaves
+  pub room : len < 15 * leaves + 16
+  pub rows : length nodes % 16 ≡ 0
+  pub long : leaves + len < length nodes
   pub rest : (k : ℕ) → len ≤ k → slice_index nodes (leaves + k) ≡ 0
-  pub upheld : IsUpheld leaves nodes
+  pub upheld : IsUpheld leaves (number nodes)
 
--- the last leaf above 0 before a node, by its place among the leaves
-abbrev pub IsLastLeaf : ℕ → List ℕ → ℕ → Option ℕ → Type 0
-IsLastLeaf leaves nodes end (Some k) = (leaves + k < end) × (0 < slice_index nodes (leaves + k)) × ((p : ℕ) → leaves + k < p → p < end → slice_index nodes p ≡ 0)
-IsLastLeaf leaves nodes end None = (p : ℕ) → leaves ≤ p → p < end → slice_index nodes p ≡ 0
+-- the last leaf above 0 before a place, by its place among the leaves
+abbrev pub IsLastLeaf : ℕ → (ℕ → ℕ) → ℕ → Option ℕ → Type 0
+IsLastLeaf leaves f end (Some k) = (leaves + k < end) × (0 < f (leaves + k)) × ((p : ℕ) → leaves + k < p → p < end → f p ≡ 0)
+IsLastLeaf leaves f end None = (p : ℕ) → leaves ≤ p → p < end → f p ≡ 0
+
+-- the first leaf of at least a bound, by its place among the leaves
+abbrev pub IsFirstLeaf : ℕ → (ℕ → ℕ) → ℕ → Option ℕ → Type 0
+IsFirstLeaf leaves f n (Some k) = (n ≤ f (leaves + k)) × ((p : ℕ) → leaves ≤ p → p < leaves + k → f p < n)
+IsFirstLeaf leaves f n None = (p : ℕ) → leaves ≤ p → p < row leaves → f p < n

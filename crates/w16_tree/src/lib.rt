@@ -1,20 +1,22 @@
 //! A list of numbers that knows its maximum.
 //!
 //! It has a fixed length. To change a number, to find the first of at least a bound, or the last
-//! before a place that isn't 0, takes as many steps as the list's length has binary digits. No call
-//! but the constructor takes memory.
+//! before a place that isn't 0, takes as many steps as the list's length has hexadecimal digits. No
+//! call but the constructor takes memory.
 //!
-//! - [`Maxima`] is the list. It lies in the leaves of a binary tree, whose inner nodes are their
-//!   children's maxima.
-//! - `paths` has the ways up and down that tree.
+//! - [`Maxima`] is the list. It lies in the leaves of a tree whose nodes have sixteen children, and
+//!   are their maxima.
+//! - `rows` asks one row of sixteen numbers, and `paths` has the ways up and down the tree.
 #![tactic(auto)]
 
 ghost use Rattle.std.specs.Prelude.{◌≡◌, ◌+◌, ◌<◌, ◌≤◌, ◌^◌, List, ℕ, length, take, drop, set, replicate, slice_index, max, nat_le, IfOk};
 ghost use Rattle.std.specs.List.{position, fold};
 
 mod paths;
+mod rows;
 
 use paths::{carry_up, first_leaf, last_leaf_before};
+use rows::row_max;
 use std::alloc::{AllocError, Allocator, Global};
 use std::marker::Model;
 
@@ -35,7 +37,7 @@ impl<A: Allocator> Model for Maxima<A> {
 
     ghost view = { λ s. take s.len (drop s.leaves s.nodes.items) };
 
-    ghost invariant = { λ s. (s.leaves ≤ 2 ^ 34) × IsTree s.height s.len s.leaves s.nodes.items };
+    ghost invariant = { λ s. (s.leaves ≤ 2 ^ 40) × IsTree s.height s.len s.leaves s.nodes.items };
 }
 
 impl<A: Allocator> Maxima<A> {
@@ -47,13 +49,13 @@ impl<A: Allocator> Maxima<A> {
         requires { len < 2 ^ 33 }
         ensures { IfOk result (λ made. made ≡ replicate len 0) }
     {
-        let mut leaves = 1;
+        let mut leaves = 0;
         let mut height = 0;
-        'doubled: while leaves <= len {
-            leaves *= 2;
+        'deeper: while 15 * leaves + 16 <= len {
+            leaves = 16 * (leaves + 1);
             height += 1;
         }
-        let nodes = vec![in alloc; 0u32; 2 * leaves]?;
+        let nodes = vec![in alloc; 0u32; (leaves + len) / 16 * 16 + 16]?;
         Ok(Maxima {
             nodes,
             leaves,
@@ -83,15 +85,16 @@ impl<A: Allocator> Maxima<A> {
         ensures { self.new ≡ set self.old index value }
     {
         let leaf = self.leaves + index;
+        let was = self.nodes[leaf];
         self.nodes[leaf] = value;
-        carry_up(&mut self.nodes, self.leaves, leaf);
+        carry_up(&mut self.nodes, self.leaves, leaf, was);
     }
 
     /// The maximum, 0 where there is no number.
     pub fn max(&self) -> u32
         ensures { result ≡ fold max 0 self.now }
     {
-        self.nodes[1]
+        row_max(&self.nodes, 0)
     }
 
     /// The index of the first number of at least `n`, which isn't 0.
@@ -99,10 +102,7 @@ impl<A: Allocator> Maxima<A> {
         requires { 0 < n }
         ensures { result ≡ position (nat_le n) self.now }
     {
-        if self.nodes[1] < n {
-            return None;
-        }
-        Some(first_leaf(&self.nodes, self.height, self.leaves, n))
+        first_leaf(&self.nodes, self.height, self.leaves, n)
     }
 
     /// The highest index below another whose number isn't 0.

@@ -1,78 +1,86 @@
 //! The ways up and down the tree.
-ghost use Rattle.std.specs.Prelude.{◌≡◌, ◌+◌, ◌-◌, ◌*◌, ◌%◌, ◌^◌, ◌<◌, ◌≤◌, ℕ, Some, length, drop, slice_index, if◌then◌else◌};
-ghost use Rattle.w16_tree.specs.Tree.{begin, IsUpheldBut, IsUpheld, IsLastLeaf};
+ghost use Rattle.std.specs.Prelude.{◌≡◌, ◌+◌, ◌-◌, ◌*◌, ◌/◌, ◌%◌, ◌^◌, ◌<◌, ◌≤◌, ℕ, Some, length, drop, set, slice_index};
+ghost use Rattle.w16_tree.specs.Tree.{row, begin, number, IsMost, IsUpheld, IsFirstLeaf, IsLastLeaf};
+
+use crate::rows::{first_in_row, last_in_row, row_max};
+
+/// The maximum of the row where a number changed, from what it was with the number that was there.
+fn most_after(nodes: &[u32], changed: usize, was: u32, most: u32) -> u32
+    requires inside { changed / 16 * 16 + 16 ≤ length nodes.now }
+    requires before { IsMost (number (set nodes.now changed was)) (changed / 16 * 16) most }
+    ensures { IsMost (number nodes.now) (changed / 16 * 16) result }
+{
+    let is = nodes[changed];
+    if is >= most {
+        return is;
+    }
+    if was < most {
+        return most;
+    }
+    row_max(nodes, changed / 16 * 16)
+}
 
 /// Makes the nodes above a changed one their children's maxima.
-pub(crate) fn carry_up(nodes: &mut [u32], leaves: usize, changed: usize)
-    requires long { length nodes.old ≡ leaves + leaves }
-    requires inside { changed < leaves + leaves }
-    requires upheld { IsUpheldBut leaves changed nodes.old }
-    ensures upheld { IsUpheld leaves nodes.new }
-    ensures leaves { drop leaves nodes.new ≡ drop leaves nodes.old }
+pub(crate) fn carry_up(nodes: &mut [u32], leaves: usize, changed: usize, was: u32)
+    requires rows { length nodes.old % 16 ≡ 0 }
+    requires inside { changed < length nodes.old }
+    requires below { changed < 16 * leaves + 16 }
+    requires upheld { (j : ℕ) → j < leaves → IsMost (number (set nodes.old changed was)) (row j) (slice_index nodes.old j) }
+    ensures upheld { IsUpheld leaves (number nodes.new) }
+    ensures leaves { leaves ≤ changed → drop leaves nodes.new ≡ drop leaves nodes.old }
     ensures length { length nodes.new ≡ length nodes.old }
 {
     let mut i = changed;
-    'up: while i > 1 {
-        i /= 2;
-        let most = nodes[2 * i].max(nodes[2 * i + 1]);
-        if nodes[i] == most {
+    let mut old = was;
+    'up: while i >= 16 {
+        let above = i / 16 - 1;
+        let most = nodes[above];
+        let now = most_after(nodes, i, old, most);
+        if now == most {
             return;
         }
-        nodes[i] = most;
+        nodes[above] = now;
+        old = most;
+        i = above;
     }
 }
 
-/// A node's right child, or its left one. A sum has no branch, which would be mispredicted at every second level.
-fn child(node: usize, right: bool) -> usize
-    requires { node < 2 ^ 35 }
-    ensures { result ≡ (if right then 2 * node + 1 else 2 * node) }
+/// The place among the leaves of the first number of at least `n`.
+pub(crate) fn first_leaf(nodes: &[u32], height: usize, leaves: usize, n: u32) -> Option<usize>
+    requires small { leaves ≤ 2 ^ 40 }
+    requires some { 0 < n }
+    requires rows { length nodes.now % 16 ≡ 0 }
+    requires long { 16 ≤ length nodes.now }
+    requires wide { begin height 0 ≡ leaves }
+    requires upheld { IsUpheld leaves (number nodes.now) }
+    ensures { IsFirstLeaf leaves (number nodes.now) n result }
 {
-    2 * node + right as usize
-}
-
-/// What a right child's left neighbour has, and 0 for a left child. A product has no branch, which would be mispredicted at every second
-/// level.
-fn elder(nodes: &[u32], node: usize) -> u32
-    requires some { 0 < node }
-    requires inside { node ≤ length nodes.now }
-    ensures right { node % 2 ≡ 1 → result ≡ slice_index nodes.now (node - 1) }
-    ensures left { node % 2 ≡ 0 → result ≡ 0 }
-{
-    nodes[node - 1] * (node % 2) as u32
-}
-
-/// The place among the leaves of the first number of at least `n`, where the root tells of one.
-pub(crate) fn first_leaf(nodes: &[u32], height: usize, leaves: usize, n: u32) -> usize
-    requires small { leaves ≤ 2 ^ 34 }
-    requires long { length nodes.now ≡ leaves + leaves }
-    requires wide { begin height 1 ≡ leaves }
-    requires upheld { IsUpheld leaves nodes.now }
-    requires reached { n ≤ slice_index nodes.now 1 }
-    ensures inside { result < leaves }
-    ensures reaches { n ≤ slice_index nodes.now (leaves + result) }
-    ensures first { (k : ℕ) → k < result → slice_index nodes.now (leaves + k) < n }
-{
-    let mut i = 1;
+    let top = first_in_row(nodes, 0, n);
+    if top == 16 {
+        return None;
+    }
+    let mut i = top;
     for _level in 0..height {
-        i = child(i, nodes[2 * i] < n);
+        let at = 16 * (i + 1);
+        i = at + first_in_row(nodes, at, n);
     }
-    i - leaves
+    Some(i - leaves)
 }
 
 /// The place among the leaves of the last number above 0 below a node that is above 0.
 fn last_leaf(nodes: &[u32], height: usize, leaves: usize, node: usize) -> usize
-    requires small { leaves ≤ 2 ^ 34 }
-    requires long { length nodes.now ≡ leaves + leaves }
-    requires upheld { IsUpheld leaves nodes.now }
-    requires some { 0 < node }
+    requires small { leaves ≤ 2 ^ 40 }
+    requires rows { length nodes.now % 16 ≡ 0 }
+    requires upheld { IsUpheld leaves (number nodes.now) }
     requires start { leaves ≤ begin height node }
-    requires inside { begin height (node + 1) ≤ leaves + leaves }
+    requires inside { begin height (node + 1) ≤ row leaves }
     requires reached { 0 < slice_index nodes.now node }
-    ensures { IsLastLeaf leaves nodes.now (begin height (node + 1)) (Some result) }
+    ensures { IsLastLeaf leaves (number nodes.now) (begin height (node + 1)) (Some result) }
 {
     let mut i = node;
     for _level in 0..height {
-        i = child(i, nodes[2 * i + 1] > 0);
+        let at = 16 * (i + 1);
+        i = at + last_in_row(nodes, at, 16) - 1;
     }
     i - leaves
 }
@@ -84,20 +92,27 @@ pub(crate) fn last_leaf_before(
     leaves: usize,
     end: usize,
 ) -> Option<usize>
-    requires small { leaves ≤ 2 ^ 34 }
-    requires long { length nodes.now ≡ leaves + leaves }
-    requires wide { begin height 1 ≡ leaves }
-    requires upheld { IsUpheld leaves nodes.now }
+    requires small { leaves ≤ 2 ^ 40 }
+    requires rows { length nodes.now % 16 ≡ 0 }
+    requires long { end < length nodes.now }
+    requires wide { begin height 0 ≡ leaves }
+    requires upheld { IsUpheld leaves (number nodes.now) }
     requires from { leaves ≤ end }
-    requires to { end < leaves + leaves }
-    ensures { IsLastLeaf leaves nodes.now end result }
+    requires to { end < 16 * leaves + 16 }
+    ensures { IsLastLeaf leaves (number nodes.now) end result }
 {
     let mut i = end;
-    for level in 0..height {
-        if elder(nodes, i) > 0 {
-            return Some(last_leaf(nodes, level, leaves, i - 1));
+    let mut level = 0;
+    'up: loop {
+        let at = i / 16 * 16;
+        let last = last_in_row(nodes, at, i % 16);
+        if last > 0 {
+            return Some(last_leaf(nodes, level, leaves, at + last - 1));
         }
-        i /= 2;
+        if i < 16 {
+            return None;
+        }
+        i = i / 16 - 1;
+        level += 1;
     }
-    None
 }

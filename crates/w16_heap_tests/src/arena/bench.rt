@@ -48,6 +48,8 @@ pub(super) enum Step {
     Entry(u32),
     /// An id's block.
     Block(u32),
+    /// The block that begins at an address.
+    Begins(u32),
     /// The lowest block at an address or behind it.
     NextBlock(u32),
     /// What stands at an address or behind it.
@@ -215,6 +217,7 @@ impl Bench {
         match step {
             Step::Entry(id) => Answer::Entry(self.arena.entry(id)),
             Step::Block(id) => Answer::Block(self.arena.block(id)),
+            Step::Begins(place) => Answer::Block(self.arena.block_beginning_at(place)),
             Step::NextBlock(from) => Answer::Block(self.next_block(from)),
             Step::WalkFrom(from) => Answer::Item(self.walk_from(from)),
             Step::Walk(i) => Answer::Item(self.arena.walk(&self.region, i)),

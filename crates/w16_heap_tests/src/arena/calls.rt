@@ -542,6 +542,12 @@ pub(super) static SCRIPTS: &[Script] = &[
             (Step::Block(1), Answer::Block(None), None),
             (Step::Block(6), Answer::Block(None), None),
             (
+                Step::Begins(0),
+                Answer::Block(Some(pinned!(3, 0, 64))),
+                None,
+            ),
+            (Step::Begins(32), Answer::Block(None), None),
+            (
                 Step::NextBlock(0),
                 Answer::Block(Some(pinned!(3, 0, 64))),
                 None,

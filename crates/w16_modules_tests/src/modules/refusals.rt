@@ -3,7 +3,7 @@
 use super::files::store_of;
 use super::machine::Machine;
 use super::{Row, first_wrong, output_of, put_reply, script_of, split, tables};
-use std::alloc::{AllocError, Global};
+use std::alloc::{AllocError, Allocator, Global};
 use std::process::Abort;
 use std::test::Fail;
 use w16_fuse::Fuse;
@@ -51,38 +51,69 @@ fn lines_behind<'a>(
     Ok(None)
 }
 
-/// Whether a run that had no memory printed whole replies up to a line that may take some. That line and those behind it are answered as they
-/// should be when they are asked for again; lines with registers aren't, since these begin anew.
+/// The walk of a machine, as it is printed.
+fn walk_of<A: Allocator + Copy>(
+    machine: &mut Machine<MemStore, A>,
+    alloc: Global,
+) -> Result<Vec<u8>, AllocError> {
+    let mut output = Vec::new(alloc);
+    let _ = machine.play(alloc, b"Walk\n", &mut output);
+    Ok(output)
+}
+
+/// Whether a machine has the walk that a new one has behind so many lines of a row.
+fn has_walk_behind(
+    machine: &mut Machine<MemStore, &Fuse<Global>>,
+    alloc: Global,
+    row: &Row,
+    front: &str,
+) -> Result<bool, AllocError> {
+    let store = store_of(alloc, row.files)?;
+    let mut other = Machine::new(alloc, alloc, row.memory, row.selectors, store)?;
+    let script = script_of(alloc, front)?;
+    let mut output = Vec::new(alloc);
+    let _ = other.play(alloc, &script, &mut output);
+    let wanted = walk_of(&mut other, alloc)?;
+    let walk = walk_of(machine, alloc)?;
+    Ok(walk.as_slice() == wanted.as_slice())
+}
+
+/// Whether a run that had no memory printed whole replies up to a line that may take some; where that is a `LocalInit`, the walk is as before it. The
+/// line and those behind it are answered as they should be when they are asked for again; lines with registers aren't, since these begin anew.
 fn is_undone(
     machine: &mut Machine<MemStore, &Fuse<Global>>,
     alloc: Global,
-    lines: &str,
+    row: &Row,
     printed: &[u8],
 ) -> Result<bool, AllocError> {
-    let Some(rest) = lines_behind(alloc, lines, printed)? else {
+    let Some(rest) = lines_behind(alloc, row.lines, printed)? else {
         return Ok(false);
     };
+    let front = row.lines.strip_suffix(rest).unwrap_or("");
+    if rest.starts_with("LocalInit") && !has_walk_behind(machine, alloc, row, front)? {
+        return Ok(false);
+    }
     if !takes_memory(rest) {
         return Ok(false);
     }
-    Ok(lines.starts_with("r") || first_wrong(machine, alloc, rest)? == 0)
+    Ok(row.lines.starts_with("r") || first_wrong(machine, alloc, rest)? == 0)
 }
 
-/// Whether a run of lines ends as it should where a growth of it may be refused: by `Memory` where one was.
+/// Whether a run of a row's lines ends as it should where a growth of it may be refused: by `Memory` where one was.
 fn ends_right(
     fuse: &Fuse<Global>,
     machine: &mut Machine<MemStore, &Fuse<Global>>,
     alloc: Global,
-    lines: &str,
+    row: &Row,
 ) -> Result<bool, AllocError> {
-    let script = script_of(alloc, lines)?;
+    let script = script_of(alloc, row.lines)?;
     let mut output = Vec::new(alloc);
     let ended = machine.play(alloc, &script, &mut output);
     if fuse.is_armed() {
-        let wanted = output_of(alloc, lines)?;
+        let wanted = output_of(alloc, row.lines)?;
         return Ok(ended.is_ok() && output.as_slice() == wanted.as_slice());
     }
-    Ok(ended == Err(RunFault::Memory) && is_undone(machine, alloc, lines, &output)?)
+    Ok(ended == Err(RunFault::Memory) && is_undone(machine, alloc, row, &output)?)
 }
 
 /// Whether a row ends as it should where this growth of its run is refused.
@@ -96,7 +127,7 @@ fn row_ends_right(
     let store = store_of(alloc, row.files)?;
     let mut machine = Machine::new(fuse, alloc, row.memory, row.selectors, store)?;
     fuse.arm(growth);
-    ends_right(fuse, &mut machine, alloc, row.lines)
+    ends_right(fuse, &mut machine, alloc, row)
 }
 
 /// How many growths a row has; none where it ends otherwise than it should.
@@ -112,7 +143,18 @@ fn growths(fuse: &Fuse<Global>, alloc: Global, row: &Row) -> Result<Option<u64>,
     Ok(None)
 }
 
-/// Whether each row of a table ends as it should, and those whose first line adds a module have growths.
+/// Whether one of the lines takes memory: it adds a module, or a local heap begins by it.
+fn takes_some(lines: &str) -> bool {
+    for line in lines.split('\n') {
+        let (command, reply) = split(line);
+        if takes_memory(command) && (reply == "0021" || reply == "0001") {
+            return true;
+        }
+    }
+    false
+}
+
+/// Whether each row of a table ends as it should, and those of which a line takes memory have growths.
 fn expect_right(
     rt: &(impl Abort + AllocGlobal),
     fuse: &Fuse<Global>,
@@ -121,9 +163,11 @@ fn expect_right(
     for row in rows {
         let taken = growths(fuse, rt.alloc(), row)?;
         assert!(rt; taken.is_some(), "{}", row.name);
-        let (first, _) = row.lines.split_once("\n").unwrap_or((row.lines, ""));
-        let adds = split(first).1 == "0021";
-        assert!(rt; !adds || taken != Some(0), "{} has none", row.name);
+        assert!(rt;
+            !takes_some(row.lines) || taken != Some(0),
+            "{} has none",
+            row.name
+        );
     }
     Ok(())
 }

@@ -5,51 +5,47 @@ use Rattle.w16_arena.proofs.Keeping.{same_in, used_placed}
 use Rattle.w16_arena.proofs.Shown.{known as known_in, told}
 use Rattle.w16_arena.proofs.Sized.{of_object}
 use Rattle.w16_arena.proofs.Regrown.{kept_grown, rest_grown, stands_grown, hole_grown}
+use Rattle.w16_arena.proofs.Arena.grow_now.Given as Given
 use Rattle.w16_arena.proofs.Arena.grow_now.Goals as goal
 
 pub grow_block-requires-clause-id : goal.grow_block-requires-clause-id
 grow_block-requires-clause-id g c =
     id_known c.self.inside.blocks c.args.block (known_in c.self.invariant c.self.view_is (λ t. block_with t.blocks c.args.block.id ≡ Some c.args.block) c.requires.known) c.bounds.ensures.ordered
 
+-- what is required, of the table inside
+module _ (g : Given.Over) (c : goal.After-clear_if g) where
+  known : block_with c.self.inside.blocks.blocks c.args.block.id ≡ Some c.args.block
+  known = known_in c.self.invariant c.self.view_is (λ t. block_with t.blocks c.args.block.id ≡ Some c.args.block) c.requires.known
+
+  inside : c.self.inside.blocks.hi ≤ length (g.S.Space.bytes c.args.space.now)
+  inside = known_in c.self.invariant c.self.view_is (λ t. t.hi ≤ length (g.S.Space.bytes c.args.space.now)) c.requires.inside
+
+  rounded : IsMultiple c.self.inside.blocks.grain c.args.size
+  rounded = known_in c.self.invariant c.self.view_is (λ t. IsMultiple t.grain c.args.size) c.requires.rounded
+
 pub invariant_of-self-2 : goal.invariant_of-self-2
 invariant_of-self-2 g c =
-    let m = g.S.Space.bytes c.args.space.now in
-    let b : Block = c.args.block in let n = c.args.size in let e = c.in_ok-placed.ensures in let p = c.in_ok-placed.placed in
-    let known = known_in c.self.invariant c.self.view_is (λ t. block_with t.blocks b.id ≡ Some b) c.requires.known in
-    let inside = known_in c.self.invariant c.self.view_is (λ t. t.hi ≤ length m) c.requires.inside in
-    let rounded = known_in c.self.invariant c.self.view_is (λ t. IsMultiple t.grain n) c.requires.rounded in
-    kept_grown c.self.invariant b known c.bounds.ensures.ordered m inside n c.requires.more rounded c.args.options p e.value e.laid e.slid e.free e.object c.reveal_bytes.ensures c.clear_if.ensures.bytes
+    let m = g.S.Space.bytes c.args.space.now in let b : Block = c.args.block in let n = c.args.size in let e = c.in_ok-placed.ensures in let p = c.in_ok-placed.placed in
+    kept_grown c.self.invariant b (known g c) c.bounds.ensures.ordered m (inside g c) n c.requires.more (rounded g c) c.args.options p e.value e.laid e.slid e.free e.object c.reveal_bytes.ensures c.clear_if.ensures.bytes
 
 pub returns-clause-stands : goal.returns-clause-stands
 returns-clause-stands g c =
-    let m = g.S.Space.bytes c.args.space.now in
-    let b : Block = c.args.block in let n = c.args.size in let e = c.in_ok-placed.ensures in let p = c.in_ok-placed.placed in
-    let known = known_in c.self.invariant c.self.view_is (λ t. block_with t.blocks b.id ≡ Some b) c.requires.known in
-    let inside = known_in c.self.invariant c.self.view_is (λ t. t.hi ≤ length m) c.requires.inside in
-    let rounded = known_in c.self.invariant c.self.view_is (λ t. IsMultiple t.grain n) c.requires.rounded in
+    let m = g.S.Space.bytes c.args.space.now in let b : Block = c.args.block in let n = c.args.size in let e = c.in_ok-placed.ensures in let p = c.in_ok-placed.placed in
     told c.self.invariant c.self.view_is (λ t. IsSomeAnd (object_at (heap_in t m) b.id) (λ o. Stands (heap_in t m) b.id n (IsGrown c.args.options.zero n o) (λ _ order. order) c.args.options p (heap_of c.self.inside.entries.items c.grow_block.new.blocks c.self.inside.order.ids (g.S.Space.bytes c.clear_if.new.space))))
-    (of_object (table_of c.self.inside.entries.items c.self.inside.blocks c.self.inside.order.ids) c.self.invariant.sound m inside b known
+    (of_object (table_of c.self.inside.entries.items c.self.inside.blocks c.self.inside.order.ids) c.self.invariant.sound m (inside g c) b (known g c)
     (λ o. Stands (heap_of c.self.inside.entries.items c.self.inside.blocks c.self.inside.order.ids m) b.id n (IsGrown c.args.options.zero n o) (λ _ order. order) c.args.options p (heap_of c.self.inside.entries.items c.grow_block.new.blocks c.self.inside.order.ids (g.S.Space.bytes c.clear_if.new.space)))
-    (stands_grown c.self.invariant b known c.bounds.ensures.ordered m inside n c.requires.more rounded c.args.options p e.value e.laid e.slid e.free e.object c.reveal_bytes.ensures c.clear_if.ensures.bytes (λ off. (e.still off).0) e.moved))
+    (stands_grown c.self.invariant b (known g c) c.bounds.ensures.ordered m (inside g c) n c.requires.more (rounded g c) c.args.options p e.value e.laid e.slid e.free e.object c.reveal_bytes.ensures c.clear_if.ensures.bytes (λ off. (e.still off).0) e.moved))
 
 pub returns-clause-hole : goal.returns-clause-hole
 returns-clause-hole g c =
-    let m = g.S.Space.bytes c.args.space.now in
-    let b : Block = c.args.block in let n = c.args.size in let e = c.in_ok-placed.ensures in let p = c.in_ok-placed.placed in
-    let known = known_in c.self.invariant c.self.view_is (λ t. block_with t.blocks b.id ≡ Some b) c.requires.known in
-    let inside = known_in c.self.invariant c.self.view_is (λ t. t.hi ≤ length m) c.requires.inside in
-    let rounded = known_in c.self.invariant c.self.view_is (λ t. IsMultiple t.grain n) c.requires.rounded in
+    let m = g.S.Space.bytes c.args.space.now in let b : Block = c.args.block in let n = c.args.size in let e = c.in_ok-placed.ensures in let p = c.in_ok-placed.placed in
     λ off. told c.self.invariant c.self.view_is (λ t. StaysOrMovesToHole (heap_in t m) b.id n (heap_of c.self.inside.entries.items c.grow_block.new.blocks c.self.inside.order.ids (g.S.Space.bytes c.clear_if.new.space)))
-    (hole_grown c.self.invariant b known c.bounds.ensures.ordered m inside n c.requires.more rounded c.args.options p e.value e.laid e.slid e.free e.object c.reveal_bytes.ensures c.clear_if.ensures.bytes (λ off. (e.still off).0) (e.still off).1)
+    (hole_grown c.self.invariant b (known g c) c.bounds.ensures.ordered m (inside g c) n c.requires.more (rounded g c) c.args.options p e.value e.laid e.slid e.free e.object c.reveal_bytes.ensures c.clear_if.ensures.bytes (λ off. (e.still off).0) (e.still off).1)
 
 pub returns-clause-rest : goal.returns-clause-rest
 returns-clause-rest g c =
-    let m = g.S.Space.bytes c.args.space.now in
-    let b : Block = c.args.block in let n = c.args.size in let e = c.in_ok-placed.ensures in let p = c.in_ok-placed.placed in
-    let known = known_in c.self.invariant c.self.view_is (λ t. block_with t.blocks b.id ≡ Some b) c.requires.known in
-    let inside = known_in c.self.invariant c.self.view_is (λ t. t.hi ≤ length m) c.requires.inside in
-    let rounded = known_in c.self.invariant c.self.view_is (λ t. IsMultiple t.grain n) c.requires.rounded in
-    told c.self.invariant c.self.view_is (λ t. KeepsRest g.S.Space.bytes g.S.Space.lenders t c.args.space.now (table_of c.self.inside.entries.items c.grow_block.new.blocks c.self.inside.order.ids) c.clear_if.new.space) (rest_grown c.self.invariant b known c.bounds.ensures.ordered m inside n c.requires.more rounded c.args.options p e.value e.laid e.slid e.free e.object c.reveal_bytes.ensures c.clear_if.ensures.bytes e.rest c.clear_if.ensures.rest)
+    let m = g.S.Space.bytes c.args.space.now in let b : Block = c.args.block in let n = c.args.size in let e = c.in_ok-placed.ensures in let p = c.in_ok-placed.placed in
+    told c.self.invariant c.self.view_is (λ t. KeepsRest g.S.Space.bytes g.S.Space.lenders t c.args.space.now (table_of c.self.inside.entries.items c.grow_block.new.blocks c.self.inside.order.ids) c.clear_if.new.space) (rest_grown c.self.invariant b (known g c) c.bounds.ensures.ordered m (inside g c) n c.requires.more (rounded g c) c.args.options p e.value e.laid e.slid e.free e.object c.reveal_bytes.ensures c.clear_if.ensures.bytes e.rest c.clear_if.ensures.rest)
 
 pub returns-clause-kept : goal.returns-clause-kept
 returns-clause-kept g c =

@@ -1,11 +1,12 @@
-use Rattle.w16_arena.proofs.Common.{◌≡◌, slice_get, ap, ◌∙◌, arith, heap_in, by_its_id, told_none, told_more, told_at, told_past}
+use Rattle.w16_arena.proofs.Common.{◌≡◌, slice_get, ap, ◌∙◌, arith, heap_in, by_its_id, told_none, told_at, told_past}
+use Rattle.w16_arena.proofs.Ahead.{told_to_end}
 use Rattle.w16_arena.proofs.Arena.walk.Goals as goal
 
 pub loop-init : goal.loop-init
 loop-init g c = λ memory whole. told_none by_its_id (heap_in c.args.self.now.table memory)
 
 pub loop-preserved : goal.loop-preserved
-loop-preserved g c = λ memory whole. told_more by_its_id (heap_in c.args.self.now.table memory) c.loop.counter c.loop.from (c.loop.invariant memory whole) c.in_ok-item.item (c.in_ok-item.ensures.found memory whole)
+loop-preserved g c = λ memory whole. told_to_end by_its_id (heap_in c.args.self.now.table memory) c.in_ok-item.item c.in_ok-item.ensures.inside.0 (c.in_ok-item.ensures.apart memory whole) c.loop.counter c.loop.from (c.loop.invariant memory whole) (c.in_ok-item.ensures.found memory whole)
 
 pub returns-in_err-item : goal.returns-in_err-item
 returns-in_err-item g c = λ memory whole items walk. c.from_residual.ensures

@@ -1,7 +1,7 @@
 -- The first part is a hole, a block, or none.
-use Rattle.w16_arena.proofs.Common.{◌≡◌, ◌-◌, ◌≤◌, ◌<◌, ℕ, IsSomeAnd, List, length, Option, Some, None, slice_get, refl, sym, ap, subst, arith, Block, Entry, Item, Table, entry_at, heap_in, IsFirstItem, by_its_id, rank, IfHole, IfBlock, IsFirstHole, IsFirstBlock, table_of}
+use Rattle.w16_arena.proofs.Common.{◌≡◌, ◌-◌, ◌≤◌, ◌<◌, ℕ, IsSomeAnd, List, length, Option, Some, None, slice_get, refl, sym, ap, subst, arith, Block, Entry, Item, Table, IsSound, entry_at, heap_in, IsFirstItem, by_its_id, rank, IfHole, IfBlock, IsFirstHole, IsFirstBlock, table_of}
 use Rattle.w16_arena.proofs.Shown.{known, told}
-use Rattle.w16_arena.proofs.Walks.{IsPartAt, item_of, first_hole, first_block, part_inside}
+use Rattle.w16_arena.proofs.Walks.{IsPartAt, apart, item_of, first_hole, first_block, part_inside}
 use Rattle.w16_arena.proofs.Arena.walk_from.Goals as goal
 
 -- what is told of a block, of the item that is some
@@ -51,3 +51,10 @@ pub returns-in-Hole-clause-inside : goal.returns-in-Hole-clause-inside
 returns-in-Hole-clause-inside g c =
     let first = subst (λ p. IfHole p (IsFirstHole c.self.inside.blocks c.args.from)) c.in-Hole.is c.in_ok-hole.ensures.hole in
     let hole = first.hole in let small = c.part_from.ensures.ordered.small in (omega arith, omega arith)
+
+pub returns-in-Block-clause-apart : goal.returns-in-Block-clause-apart
+returns-in-Block-clause-apart g c = λ memory whole other is l. apart (told c.self.invariant c.self.view_is IsSound c.self.invariant.sound) memory whole c.item_of.result other (returns-in-Block-clause-found g c memory whole).0 is l
+
+pub returns-in-Hole-clause-apart : goal.returns-in-Hole-clause-apart
+returns-in-Hole-clause-apart g c = λ memory whole other is l.
+    apart (told c.self.invariant c.self.view_is IsSound c.self.invariant.sound) memory whole (record { at = c.in-Hole.hole.from; size = c.in-Hole.hole.to - c.in-Hole.hole.from; owner = None }) other (returns-in-Hole-clause-found g c memory whole).0 is l

@@ -1,6 +1,7 @@
-use Rattle.w16_blocks.proofs.Common.{counted, common_steps, List, add-one, ap, arith, subst, ℕ, ◌∙◌, Span, Range, Layout, holes_of, AreSameBut}
+use Rattle.w16_blocks.proofs.Common.{counted, common_steps, List, add-one, ap, arith, subst, ℕ, ◌∙◌, Span, holes_of, AreSameBut}
 use Rattle.w16_blocks.proofs.Keeping.{lies_in, place_grained, unit_inside}
 use Rattle.w16_blocks.proofs.Shifting.{part_entered, free_entered, source_in, part_left, used_left, same_free, layout_shifted, BlocksInvariant-shift, come_too, others_same}
+use Rattle.w16_blocks.proofs.Outside.{part_inside}
 use Rattle.w16_blocks.proofs.Blocks.relocate.Goals as goal
 
 pub returns-clause-written : goal.returns-clause-written
@@ -39,15 +40,7 @@ pub put-requires-clause-used : goal.put-requires-clause-used
 put-requires-clause-used g c = used_left c.self.invariant c.self.inside.slots.ok.0 c.self.view_is c.args.block c.requires.known c.requires.fits c.beyond-entered.ensures c.beyond-left.ensures c.take.ensures.range c.take.ensures.holes
 
 pub put-requires-clause-inside : goal.put-requires-clause-inside
-put-requires-clause-inside g c =
-    let part = part_left c.self.invariant c.self.inside.slots.ok.0 c.self.view_is c.args.block c.requires.known c.requires.fits c.beyond-entered.ensures c.beyond-left.ensures c.take.ensures.range c.take.ensures.holes in
-    let to = part.to in
-    let then = ap (λ (r : Range). r.hi) c.take.ensures.range in
-    let first = ap (λ (r : Range). r.hi) c.self.invariant.ranged in
-    let top = ap (λ (l : Layout). l.hi) c.self.view_is in
-    let inside = c.requires.inside in
-    let long = c.take.ensures.bytes.long in
-    let longer = c.slide.ensures.length in omega arith
+put-requires-clause-inside g c = part_inside (put-requires-clause-part g c) c.take.ensures.range c.self.invariant.ranged c.self.view_is c.requires.inside c.take.ensures.bytes.long c.slide.ensures.length
 
 pub index_mut-requires : goal.index_mut-requires
 index_mut-requires g c = let lt = unit_inside c.self.invariant c.self.inside.slots.ok.0 c.self.view_is c.args.block.id c.requires.known c.unit_of-from_unit.result c.unit_of-from_unit.ensures in let length_is = c.self.inside.begins.ok.0 in omega arith

@@ -66,7 +66,7 @@ pub returns-in-Write-clause-step : goal.returns-in-Write-clause-step
 returns-in-Write-clause-step g c = rw c.in-Write.is (c.write.ensures.step c.args.ds.now c.requires.world)
 
 pub returns-in-Fill-clause-step : goal.returns-in-Fill-clause-step
-returns-in-Fill-clause-step g c = rw c.in-Fill.is (c.fill.ensures.step c.args.ds.now c.requires.world)
+returns-in-Fill-clause-step g c = rw c.in-Fill.is (c.write-in-Fill.ensures.step c.args.ds.now c.requires.world)
 
 pub returns-in-GetModuleUsage-clause-step : goal.returns-in-GetModuleUsage-clause-step
 returns-in-GetModuleUsage-clause-step g c = search rules

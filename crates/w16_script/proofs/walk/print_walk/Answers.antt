@@ -13,7 +13,7 @@ returns-in_err-print_item-clause-err g c =
 
 pub items-preserved : goal.items-preserved
 items-preserved g c = record {
-  printed = λ items walk. item_printed (g.K.Machine.world c.args.kernel.now) items walk c.items.from _ _ (c.items.invariant.printed items walk) c.in-Some.item _ c.in-Some.ensures.found c.in_ok-print_item.ensures.ok;
+  printed = λ items walk. item_printed (g.K.Machine.world c.args.kernel.now) items walk c.items.from _ _ (c.items.invariant.printed items walk) c.in-Some.item _ c.in-Some.ensures.found c.in-Some.ensures.inside.0 c.in-Some.ensures.apart c.in_ok-print_item.ensures.ok;
 }
 
 pub returns-clause-ok : goal.returns-clause-ok

@@ -1,11 +1,11 @@
-use Rattle.w16_global.proofs.Common.{◌≡◌, slice_get, ap, ◌∙◌, arith, handle_of, told_none, told_more, told_at, told_past}
+use Rattle.w16_global.proofs.Common.{◌≡◌, slice_get, ap, ◌∙◌, arith, handle_of, told_none, told_to_end, told_at, told_past}
 use Rattle.w16_global.proofs.global.Global16.walk.Goals as goal
 
 pub loop-init : goal.loop-init
 loop-init g c = told_none handle_of c.args.self.now.handles.heap
 
 pub loop-preserved : goal.loop-preserved
-loop-preserved g c = told_more handle_of c.args.self.now.handles.heap c.loop.counter c.loop.from c.loop.invariant c.in_ok-item.item c.in_ok-item.ensures.found
+loop-preserved g c = told_to_end handle_of c.args.self.now.handles.heap c.in_ok-item.item c.in_ok-item.ensures.inside.0 c.in_ok-item.ensures.apart c.loop.counter c.loop.from c.loop.invariant c.in_ok-item.ensures.found
 
 pub returns-in_err-item : goal.returns-in_err-item
 returns-in_err-item g c = λ items walk. c.from_residual.ensures

@@ -1,5 +1,5 @@
-use Rattle.w16_global.proofs.Common.{rules, ◌≡◌, sym, subst, option_map, Option, Some, None, Owner, IsFirstItem, Handles, handle_of}
-use Rattle.w16_global.proofs.Walked.{renamed, first_renamed}
+use Rattle.w16_global.proofs.Common.{rules, ◌≡◌, ◌+◌, ◌<◌, ◌≤◌, sym, subst, option_map, Option, Some, None, Item, Owner, IsFirstItem, IsItem, Handles, handle_of}
+use Rattle.w16_global.proofs.Walked.{renamed, first_renamed, apart_renamed}
 use Rattle.w16_global.proofs.Joined.{handles_shown}
 use Rattle.w16_global.proofs.global.Global16.walk_from.Goals as goal
 
@@ -16,3 +16,9 @@ returns-clause-found g c =
     subst (λ (owner : Option Owner). IsFirstItem handle_of c.args.self.now.handles.heap c.args.from (Some (record item { owner = owner }))) named
     (subst (λ (w : Handles). IsFirstItem handle_of w.heap c.args.from (Some (renamed item))) (handles_shown c.self.view_is)
     (first_renamed c.self.inside.objects.heap c.args.from (Some item) c.in_ok-item.ensures.found))
+
+pub returns-clause-apart : goal.returns-clause-apart
+returns-clause-apart g c =
+    let item = c.in_ok-item.item in
+    subst (λ (w : Handles). (other : Item) → IsItem handle_of w.heap other → item.at < other.at → item.at + item.size ≤ other.at) (handles_shown c.self.view_is)
+    (apart_renamed c.self.inside.objects.heap item.at (item.at + item.size) c.in_ok-item.ensures.apart)

@@ -1,23 +1,15 @@
-use Rattle.std.proofs.Common.{rules, ◌+◌, ◌≤◌, arith}
-use Rattle.w16_global.proofs.Parts.{no_block_known}
+use Rattle.std.proofs.Common.{rules}
+use Rattle.w16_global.proofs.Parts.{ends_low, no_block_known}
 use Rattle.w16_global.proofs.objects.Objects.alloc.Goals as goal
 
 pub alloc-requires-clause-absent : goal.alloc-requires-clause-absent
 alloc-requires-clause-absent g c = no_block_known c.self.invariant c.self.view_is c.args.id c.requires.free
 
 pub returns-clause-inside : goal.returns-clause-inside
-returns-clause-inside g c =
-    let inside : c.in_ok-placed.placed.at + c.args.size ≤ c.self.inside.arena.table.hi = search rules in
-    let high = c.self.invariant.high in
-    let small = c.self.inside.memory.small in
-    omega arith
+returns-clause-inside g c = (ends_low c.self.invariant c.in_ok-placed.placed.at c.args.size c.self.inside.memory.small (search rules)).0
 
 pub returns-clause-few : goal.returns-clause-few
-returns-clause-few g c =
-    let few : c.self.inside.arena.table.lo + c.in_ok-placed.placed.moved ≤ c.self.inside.arena.table.hi = search rules in
-    let high = c.self.invariant.high in
-    let small = c.self.inside.memory.small in
-    omega arith
+returns-clause-few g c = (ends_low c.self.invariant c.self.inside.arena.table.lo c.in_ok-placed.placed.moved c.self.inside.memory.small (search rules)).1
 
 pub returns-clause-moved : goal.returns-clause-moved
 returns-clause-moved g c = search rules

@@ -1,7 +1,8 @@
-use Rattle.w16_arena.proofs.Common.{ℕ, ◌≡◌, ◌-◌, length, drop, eligible}
-use Rattle.w16_arena.proofs.discards.first_eligible.Given as goal
+use Rattle.w16_arena.proofs.Common.{ℕ, ◌≡◌, ◌-◌, length, drop}
+use Rattle.std.proofs.Common.{vec_capacity}
+use Rattle.w16_arena.proofs.Oldest.{AreListed}
+use Rattle.w16_arena.proofs.discards.list_eligible.Given as goal
 
--- none of those before may be discarded
 abbrev pub invariant-loop-id : goal.invariant-loop-id
 invariant-loop-id g l =
     let ids = l.id-iterator.order.now.ids in let rest = drop (length ids - l.id-iterator.left) ids in
@@ -9,5 +10,6 @@ invariant-loop-id g l =
       may : (goal.iterator-loop-id g).can_next l.id-iterator;
       ends : (goal.iterator-loop-id g).is_finite l.id-iterator;
       from : (i : ℕ) × (drop i l.order.ids ≡ rest);
-      same : eligible l.blocks.blocks l.order.ids l.h ≡ eligible l.blocks.blocks rest l.h;
+      room : vec_capacity l.listed ≡ vec_capacity l.fn.listed;
+      listed : AreListed l.blocks.blocks l.order.ids l.h l.k l.listed.items rest;
     }
